@@ -1,0 +1,5 @@
+pub mod Grid
+pub mod Move
+pub mod Walk
+pub mod Points
+pub mod Reply

@@ -1,0 +1,55 @@
+-- Walks, their costs, and least walks.
+use Rattle.std.specs.Prelude.{◌≡◌, ℕ, Bool, true, false, ◌&&◌, IsTrue, refl, List, [], ◌∷◌}
+use Rattle.root2_cost.specs.declared.Cost.{Cost}
+use Rattle.root2_cost.specs.Order.{IsAtMost}
+use Rattle.root2_cost.specs.Sums.{add_costs, no_cost, octile_cost}
+use Rattle.grid_moves.specs.declared.Cell.{Cell}
+use Rattle.grid_moves.specs.Grid.{GridData, is_free}
+use Rattle.grid_moves.specs.Move.{is_legal, move_cost}
+
+-- a non-empty list of free cells in which each two neighbours are a legal move
+abbrev pub is_walk : GridData → List Cell → Bool
+is_walk g [] = false
+is_walk g (c ∷ []) = is_free g c
+is_walk g (c ∷ d ∷ cells) = is_legal g c d && is_walk g (d ∷ cells)
+
+-- the number of straight moves, and the number of diagonal moves
+abbrev pub cost_of : List Cell → Cost
+cost_of [] = no_cost
+cost_of (c ∷ []) = no_cost
+cost_of (c ∷ d ∷ cells) = add_costs (move_cost c d) (cost_of (d ∷ cells))
+
+-- where c followed by these cells ends
+abbrev pub last_of : Cell → List Cell → Cell
+last_of c [] = c
+last_of c (d ∷ cells) = last_of d cells
+
+-- s followed by these cells is a walk to t
+pub record IsWalk (g : GridData) (s t : Cell) (cells : List Cell) : Type 0 where
+  pub legal : IsTrue (is_walk g (s ∷ cells))
+  pub ends : last_of s cells ≡ t
+
+-- no walk leads from s to t
+abbrev pub NoWalk : GridData → Cell → Cell → Type 0
+NoWalk g s t = (cells : List Cell) → ¬ IsWalk g s t cells
+
+-- a walk from s to t that no walk from s to t undercuts
+pub record IsLeastWalk (g : GridData) (s t : Cell) (cells : List Cell) : Type 0 where
+  pub walk : IsWalk g s t cells
+  pub least : (others : List Cell) → IsWalk g s t others → IsAtMost (cost_of (s ∷ cells)) (cost_of (s ∷ others))
+
+-- a worked row: `.@./...`, from the upper left to the upper right
+abbrev notch : GridData
+notch = record { width = 3; height = 2; free = true ∷ false ∷ true ∷ true ∷ true ∷ true ∷ [] }
+
+abbrev round_the_notch : List Cell
+round_the_notch = record { x = 0; y = 0 } ∷ record { x = 0; y = 1 } ∷ record { x = 1; y = 1 } ∷ record { x = 2; y = 1 } ∷ record { x = 2; y = 0 } ∷ []
+
+pub round_is_legal : is_walk notch round_the_notch ≡ true
+round_is_legal = refl
+
+pub round_costs_four : cost_of round_the_notch ≡ record { a = 4; b = 0 }
+round_costs_four = refl
+
+pub through_is_not_legal : is_walk notch (record { x = 0; y = 0 } ∷ record { x = 1; y = 1 } ∷ []) ≡ false
+through_is_not_legal = refl

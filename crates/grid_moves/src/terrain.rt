@@ -1,0 +1,68 @@
+//! What a search asks of a grid, and the legal moves on it.
+
+ghost use Rattle.std.specs.Prelude.{◌≡◌, ◌+◌, ◌*◌, ◌<◌, ◌≤◌, IfSome};
+ghost use Rattle.grid_moves.specs.Grid.{GridData, IsGrid, is_free, cell_number};
+ghost use Rattle.grid_moves.specs.Move.{is_legal, legal_ahead};
+
+use crate::moves::{column_ahead, row_ahead};
+use crate::{Cell, Dir};
+
+/// A grid as a search sees it: sides of 1 to 4096 cells, and which cells are free.
+pub trait Terrain {
+    ghost grid: { Self → GridData };
+
+    /// The number of columns.
+    fn width(&self) -> u16
+        ensures is { result ≡ (grid self.now).width }
+        ensures whole { IsGrid (grid self.now) };
+
+    /// The number of rows.
+    fn height(&self) -> u16
+        ensures is { result ≡ (grid self.now).height }
+        ensures whole { IsGrid (grid self.now) };
+
+    /// Whether the cell is free; none outside is.
+    fn free(&self, c: Cell) -> bool
+        ensures { result ≡ is_free (grid self.now) c };
+}
+
+/// The number of a cell on a map of this width: row by row from the upper left, from 0.
+pub fn number_of(width: u16, c: Cell) -> u32
+    requires column { c.x < width }
+    requires row { c.y < 4096 }
+    ensures { result ≡ cell_number width c }
+{
+    u32::from(c.y) * u32::from(width) + u32::from(c.x)
+}
+
+// Whether the move is legal.
+fn is_legal_move<T: Terrain>(t: &T, from: Cell, to: Cell) -> bool
+    ensures { result ≡ is_legal (T.grid t.now) from to }
+{
+    from != to
+        && from.x.abs_diff(to.x) <= 1
+        && from.y.abs_diff(to.y) <= 1
+        && t.free(from)
+        && t.free(to)
+        && (from.x == to.x
+            || from.y == to.y
+            || (t.free(Cell { x: from.x, y: to.y }) && t.free(Cell { x: to.x, y: from.y })))
+}
+
+/// The cell that the move leads to, exactly where the move is legal.
+pub fn step<T: Terrain>(t: &T, c: Cell, d: Dir) -> Option<Cell>
+    ensures legal { result ≡ legal_ahead (T.grid t.now) c d }
+    ensures inside { IfSome result (λ v. cell_number (T.grid t.now).width v < (T.grid t.now).height * (T.grid t.now).width) }
+{
+    if c.x >= t.width() || c.y >= t.height() {
+        return None;
+    }
+    let x = column_ahead(d, c.x)?;
+    let y = row_ahead(d, c.y)?;
+    let to = Cell { x, y };
+    if is_legal_move(t, c, to) {
+        Some(to)
+    } else {
+        None
+    }
+}
