@@ -1,0 +1,6 @@
+pub mod Squares
+pub mod Gaps
+pub mod Less
+pub mod AtMost
+pub mod Sums
+pub mod Octile
