@@ -5,7 +5,7 @@
 //! where both numbers are. All is decided on whole numbers by squares.
 #![tactic(auto)]
 
-ghost use Rattle.std.specs.Prelude.{◌≡◌, ◌+◌, ◌<◌, ◌^◌};
+ghost use Rattle.std.specs.Prelude.{◌≡◌, ◌+◌, ◌<◌, ◌^◌, ◌↔◌};
 ghost use Rattle.std.specs.Ordering.{MatchOrdering};
 ghost use Rattle.std.specs.Int.RustNames.{unsigned_abs};
 ghost use Rattle.root2_cost.specs.Order.{is_positive, is_less, IsLess};
@@ -13,6 +13,8 @@ ghost use Rattle.root2_cost.specs.Signed.{cost_difference, IsAboveZero, IsBelowZ
 ghost use Rattle.root2_cost.specs.Sums.{add_costs, octile_cost};
 
 use std::cmp::Ordering;
+
+pub mod laws;
 
 /// A cost: `a` straight moves and `b` diagonal moves, with the value a + b√2.
 #[derive(Clone, Copy, Debug, PartialEq, Eq)]
@@ -72,7 +74,8 @@ impl Cost {
 /// The order of the values of two costs: `Equal` exactly where the pairs are equal.
 #[tactic(auto, using(crate::proofs::Less::less_otherwise))]
 pub fn cmp(x: Cost, y: Cost) -> Ordering
-    ensures { MatchOrdering result (IsLess x y) (x ≡ y) (IsLess y x) }
+    ensures order { MatchOrdering result (IsLess x y) (x ≡ y) (IsLess y x) }
+    ensures equal { (result ≡ Ordering.Equal) ↔ (x ≡ y) }
 {
     if x == y {
         return Ordering::Equal;
@@ -108,7 +111,8 @@ impl Signed {
     pub fn sign(self) -> Ordering
         requires a { unsigned_abs self.a < 2 ^ 40 }
         requires b { unsigned_abs self.b < 2 ^ 40 }
-        ensures { MatchOrdering result (IsBelowZero self) (IsZero self) (IsAboveZero self) }
+        ensures order { MatchOrdering result (IsBelowZero self) (IsZero self) (IsAboveZero self) }
+        ensures equal { (result ≡ Ordering.Equal) ↔ IsZero self }
     {
         if self == (Signed { a: 0, b: 0 }) {
             return Ordering::Equal;
