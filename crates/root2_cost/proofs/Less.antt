@@ -1,6 +1,6 @@
 -- Laws of the strict order of costs.
 use Rattle.std.proofs.Common.{◌≡◌, ℕ, suc, ◌+◌, ◌*◌, ◌≤◌, ◌⊎◌, inl, inr, arith, refl, ap, ◌∙◌, Bool, true, false}
-use Rattle.std.specs.Prelude.{ℤ, pos, negsuc, ◌-ℤ◌}
+use Rattle.std.specs.Prelude.{ℤ, pos, negsuc, ◌-ℤ◌, nat_eq, ◌&&◌}
 use Rattle.std.proofs.lemmas.Int.{ints}
 use Rattle.std.proofs.lemmas.Bool.Decides.{nat_tests}
 use Rattle.root2_cost.specs.declared.Cost.{Cost}
@@ -85,4 +85,15 @@ same_from_neither p q g h = elim (IsLess-total p q) [
   | inl less ↦ absurd (cc)
   | inr (inl less) ↦ absurd (cc)
   | inr (inr same) ↦ same
+]
+
+-- of two costs that differ and of which the first isn't the lesser, the second is
+pub less_otherwise : (p q : Cost) → (nat_eq p.a q.a && nat_eq p.b q.b) ≡ false → is_less p q ≡ false → IsLess q p
+less_otherwise p q g h = elim (IsLess-total p q) [
+  | inl less ↦ absurd (cc)
+  | inr (inl less) ↦ less
+  | inr (inr same) ↦ absurd (
+      let e : p.a ≡ q.a = ap (λ (c : Cost). c.a) same in
+      let f : p.b ≡ q.b = ap (λ (c : Cost). c.b) same in
+      grind (arith, nat_tests))
 ]

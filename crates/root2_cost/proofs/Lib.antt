@@ -3,4 +3,5 @@ pub mod Gaps
 pub mod Less
 pub mod AtMost
 pub mod Sums
-pub mod Octile
+pub mod Distance
+pub mod Signs

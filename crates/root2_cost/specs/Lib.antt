@@ -1,2 +1,4 @@
+pub mod Laws
 pub mod Order
+pub mod Signed
 pub mod Sums

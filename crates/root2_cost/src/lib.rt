@@ -5,12 +5,16 @@
 //! where both numbers are. All is decided on whole numbers by squares.
 #![tactic(auto)]
 
-ghost use Rattle.std.specs.Prelude.{◌≡◌, ◌+◌, ◌<◌, ◌^◌};
+ghost use Rattle.std.specs.Prelude.{◌≡◌, ◌+◌, ◌<◌, ◌^◌, ◌↔◌};
 ghost use Rattle.std.specs.Ordering.{MatchOrdering};
-ghost use Rattle.root2_cost.specs.Order.{is_less, IsLess};
+ghost use Rattle.std.specs.Int.RustNames.{unsigned_abs};
+ghost use Rattle.root2_cost.specs.Order.{is_positive, is_less, IsLess};
+ghost use Rattle.root2_cost.specs.Signed.{cost_difference, IsAboveZero, IsBelowZero, IsZero};
 ghost use Rattle.root2_cost.specs.Sums.{add_costs, octile_cost};
 
 use std::cmp::Ordering;
+
+pub mod laws;
 
 /// A cost: `a` straight moves and `b` diagonal moves, with the value a + b√2.
 #[derive(Clone, Copy, Debug, PartialEq, Eq)]
@@ -41,6 +45,99 @@ impl Cost {
             }
             let y = (other.b - self.b) as u64;
             x * x / 2 < y * y
+        }
+    }
+
+    /// The cost of both together.
+    pub fn add(self, other: Cost) -> Cost
+        requires straight { self.a + other.a < 2 ^ 32 }
+        requires diagonal { self.b + other.b < 2 ^ 32 }
+        ensures { result ≡ add_costs self other }
+    {
+        Cost {
+            a: self.a + other.a,
+            b: self.b + other.b,
+        }
+    }
+
+    /// What this cost has more than the other, part by part.
+    pub fn minus(self, other: Cost) -> Signed
+        ensures { result ≡ cost_difference self other }
+    {
+        Signed {
+            a: self.a as i64 - other.a as i64,
+            b: self.b as i64 - other.b as i64,
+        }
+    }
+}
+
+/// The order of the values of two costs: `Equal` exactly where the pairs are equal.
+#[tactic(auto, using(crate::proofs::Less::less_otherwise))]
+pub fn cmp(x: Cost, y: Cost) -> Ordering
+    ensures order { MatchOrdering result (IsLess x y) (x ≡ y) (IsLess y x) }
+    ensures equal { (result ≡ Ordering.Equal) ↔ (x ≡ y) }
+{
+    if x == y {
+        return Ordering::Equal;
+    }
+    if x.is_below(y) {
+        Ordering::Less
+    } else {
+        Ordering::Greater
+    }
+}
+
+/// The octile distance: what `dx` columns and `dy` rows cost where nothing is in the way.
+pub fn octile(dx: u32, dy: u32) -> Cost
+    ensures { result ≡ octile_cost dx dy }
+{
+    if dx < dy {
+        Cost { a: dy - dx, b: dx }
+    } else {
+        Cost { a: dx - dy, b: dy }
+    }
+}
+
+/// A difference of two costs: the value a + b√2 with parts of either sign.
+#[derive(Clone, Copy, Debug, PartialEq, Eq)]
+pub struct Signed {
+    pub a: i64,
+    pub b: i64,
+}
+
+impl Signed {
+    /// Compares the value with 0: `Equal` exactly where both parts are 0.
+    #[tactic(auto, using(crate::proofs::Signs::opposite_positive))]
+    pub fn sign(self) -> Ordering
+        requires a { unsigned_abs self.a < 2 ^ 40 }
+        requires b { unsigned_abs self.b < 2 ^ 40 }
+        ensures order { MatchOrdering result (IsBelowZero self) (IsZero self) (IsAboveZero self) }
+        ensures equal { (result ≡ Ordering.Equal) ↔ IsZero self }
+    {
+        if self == (Signed { a: 0, b: 0 }) {
+            return Ordering::Equal;
+        }
+        if self.is_positive() {
+            Ordering::Greater
+        } else {
+            Ordering::Less
+        }
+    }
+
+    /// Whether the value is above 0, by the squares of both parts where their signs differ.
+    pub(crate) fn is_positive(self) -> bool
+        requires a { unsigned_abs self.a < 2 ^ 62 }
+        requires b { unsigned_abs self.b < 2 ^ 62 }
+        ensures { result ≡ is_positive self.a self.b }
+    {
+        let x = self.a.unsigned_abs() as u128;
+        let y = self.b.unsigned_abs() as u128;
+        if self.a < 0 {
+            0 < self.b && x * x < 2 * (y * y)
+        } else if self.b < 0 {
+            2 * (y * y) < x * x
+        } else {
+            0 < x + y
         }
     }
 }
