@@ -5,3 +5,4 @@ pub mod AtMost
 pub mod Sums
 pub mod Distance
 pub mod Signs
+pub mod Most

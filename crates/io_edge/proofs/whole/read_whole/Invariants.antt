@@ -1,0 +1,14 @@
+use Rattle.std.proofs.Common.{◌≡◌, ◌+◌, ◌-◌, ◌≤◌, length}
+use Rattle.io_edge.specs.Causes.{NoneFell}
+use Rattle.io_edge.proofs.Reading.{HasRead}
+use Rattle.io_edge.proofs.whole.read_whole.Given as goal
+
+abbrev pub invariant-loop-filled : goal.invariant-loop-filled
+invariant-loop-filled g l =
+    (l.most ≡ l.limit + 1) × (l.filled ≤ l.most) × (l.filled ≤ length l.bytes.items) × (length l.bytes.items ≤ l.most)
+    × HasRead (g.F.Files.holds l.fn.files l.name) l.filled l.bytes.items
+    × (g.F.Files.holds l.files ≡ g.F.Files.holds l.fn.files)
+    × NoneFell (g.F.Files.faults l.fn.files) (g.F.Files.faults l.files)
+
+abbrev pub decreases-loop-filled : goal.decreases-loop-filled
+decreases-loop-filled g l = l.most - l.filled

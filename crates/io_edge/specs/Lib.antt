@@ -1,0 +1,4 @@
+pub mod Causes
+pub mod Told
+pub mod Whole
+pub mod Stop

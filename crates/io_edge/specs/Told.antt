@@ -1,0 +1,21 @@
+-- What files are known to hold, and what a read tells of it.
+use Rattle.std.specs.Prelude.{◌≡◌, ℕ, ◌≤◌, List, length, take, drop, ⊤, MatchResult}
+use Rattle.std.specs.declared.result.Result.{Result}
+
+-- what stands under a name: not told, no file, or a file of these bytes
+pub data Held : Type 0 where
+  untold : Held
+  absent : Held
+  holding : List ℕ → Held
+
+-- the first n bytes of buf are those from `place` on, and there are none only at or past the end
+pub record IsPart (bytes : List ℕ) (place n : ℕ) (buf : List ℕ) : Type 0 where
+  pub same : take n buf ≡ take n (drop place bytes)
+  pub within : n ≤ length (drop place bytes)
+  pub ended : n ≡ 0 → length bytes ≤ place
+
+-- `Ok(n)` gave n of the bytes held from `place` on, and an absent file fails
+abbrev pub ReadsAt : {E : Type 0} → Held → ℕ → Result ℕ E → List ℕ → Type 0
+ReadsAt untold place result buf = ⊤
+ReadsAt absent place result buf = MatchResult result (λ _. ⊥) (λ _. ⊤)
+ReadsAt (holding bytes) place result buf = MatchResult result (λ n. IsPart bytes place n buf) (λ _. ⊤)

@@ -1,0 +1,120 @@
+//! The real objects: files, a reader and a writer of the system.
+//!
+//! This is the trusted edge. It tells nothing of bytes, only how many moved, and counts the faults.
+
+ghost use Rattle.std.specs.Prelude.{◌≡◌, ◌≤◌, None, length, IfOk};
+ghost use Rattle.std.specs.Io.{WritesAtMost};
+ghost use Rattle.io_edge.specs.Told.{untold};
+
+use crate::outside::{Failed, Files, Sink, Source};
+use std::io::{Read, Seek, SeekFrom, Write};
+use std::{fs, io, rt};
+
+/// The files of the system. One count of faults serves for every name.
+#[derive(Drop)]
+pub struct RealFiles<'a, R> {
+    rt: &'a R,
+    faults: u64,
+}
+
+impl<'a, R> RealFiles<'a, R> {
+    /// The files that the runtime opens, with no fault yet.
+    pub fn new(rt: &'a R) -> RealFiles<'a, R> {
+        RealFiles { rt, faults: 0 }
+    }
+}
+
+// Opens the file, moves to the place and reads once.
+fn read_once<R: rt::Files>(rt: &R, name: &str, place: u64, buf: &mut [u8]) -> io::Result<usize>
+    ensures { IfOk result (λ n. n ≤ length buf.old) }
+{
+    let mut file = fs::open(rt, name)?;
+    file.seek(SeekFrom::Start(place))?;
+    file.read(buf)
+}
+
+impl<'a, R: rt::Files> Files for RealFiles<'a, R> {
+    ghost holds = { λ _ _. untold };
+
+    ghost faults = { λ files _. files.faults };
+
+    fn read_at(&mut self, name: &str, place: u64, buf: &mut [u8]) -> Result<usize, Failed> {
+        match read_once(self.rt, name, place, buf) {
+            Ok(count) => Ok(count),
+            Err(_) => {
+                self.faults = self.faults.saturating_add(1);
+                Err(Failed)
+            }
+        }
+    }
+}
+
+/// Any reader of std, as standard input.
+#[derive(Drop)]
+pub struct RealIn<R> {
+    reader: R,
+    faults: u64,
+}
+
+impl<R: Read + Drop> RealIn<R> {
+    /// What the reader gives, with no fault yet.
+    pub fn new(reader: R) -> RealIn<R> {
+        RealIn { reader, faults: 0 }
+    }
+}
+
+impl<R: Read + Drop> Source for RealIn<R> {
+    ghost left = { λ _. None };
+
+    ghost faults = { λ source. source.faults };
+
+    fn read(&mut self, buf: &mut [u8]) -> Result<usize, Failed> {
+        match self.reader.read(buf) {
+            Ok(count) => Ok(count),
+            Err(_) => {
+                self.faults = self.faults.saturating_add(1);
+                Err(Failed)
+            }
+        }
+    }
+}
+
+/// Any writer of std, as standard output, flushed after each write.
+#[derive(Drop)]
+pub struct RealOut<W> {
+    writer: W,
+    faults: u64,
+}
+
+impl<W: Write + Drop> RealOut<W> {
+    /// What the writer takes, with no fault yet.
+    pub fn new(writer: W) -> RealOut<W> {
+        RealOut { writer, faults: 0 }
+    }
+}
+
+// Writes once, and flushes what was taken.
+fn write_once<W: Write>(writer: &mut W, piece: &[u8]) -> io::Result<usize>
+    ensures { WritesAtMost result piece.now }
+{
+    let count = writer.write(piece)?;
+    writer.flush()?;
+    Ok(count)
+}
+
+impl<W: Write + Drop> Sink for RealOut<W> {
+    ghost written = { λ _. None };
+
+    ghost faults = { λ sink. sink.faults };
+
+    // A write that takes nothing is a fault too: it would never come to an end.
+    fn write(&mut self, piece: &[u8]) -> Result<usize, Failed> {
+        match write_once(&mut self.writer, piece) {
+            Ok(count) if count > 0 => Ok(count),
+            _ => {
+                self.faults = self.faults.saturating_add(1);
+                Err(Failed)
+            }
+        }
+    }
+}
