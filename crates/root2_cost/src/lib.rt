@@ -141,14 +141,3 @@ impl Signed {
         }
     }
 }
-
-/// What `dx` columns and `dy` rows cost where nothing is in the way.
-pub fn octile(dx: u32, dy: u32) -> Cost
-    ensures { result ≡ octile_cost dx dy }
-{
-    let diagonal = dx.min(dy);
-    Cost {
-        a: dx.max(dy) - diagonal,
-        b: diagonal,
-    }
-}
