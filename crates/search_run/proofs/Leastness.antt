@@ -9,7 +9,7 @@ use Rattle.root2_cost.proofs.Most.{Most, Most-then, Most-same, Most-add_left, Mo
 use Rattle.root2_cost.proofs.Sums.{add_costs-assoc, add_costs-no_cost_left, add_costs-no_cost_right}
 use Rattle.search_run.specs.Run.{Rule, Taken, Offer, offer, least_offer, is_taken, has_goal, sum_at, goes_before, IsNext, IsRun, NoneWaits}
 use Rattle.search_run.specs.Chain.{Chain, stays, goes_on, IsConsistent}
-use Rattle.search_run.proofs.Offers.{lesser-early, lesser-late, lesser-one, offer-made, offer-over}
+use Rattle.search_run.proofs.Offers.{lesser-early, lesser-late, lesser-one, IsOffered, offer-made, offer-over}
 
 -- u is one of the taken states
 pub data IsIn {S : Type 0} (u : Taken S) : List (Taken S) → Type 0 where
@@ -60,7 +60,31 @@ one_cost : {S : Type 0} (q : Option (Offer S)) (a b : Offer S) → q ≡ Some a 
 unfolding offer_cost
 one_cost {S} q a b d e = ap (λ (p : Option (Offer S)). offer_cost p) (sym d ∙ e)
 
+-- an offer that one of the taken states makes
+pub record ComesFrom {S : Type 0} (r : Rule S) (run : List (Taken S)) (s : S) (o : Offer S) : Type 0 where
+  pub by : Taken S
+  pub member : IsIn by run
+  pub offered : IsOffered r by s o
+
+-- the least offer is one of them
+pub least_offer-from : {S : Type 0} (r : Rule S) (run : List (Taken S)) (s : S) (o : Offer S) → least_offer r run s ≡ Some o → ComesFrom r run s o
+least_offer-from r [] s o h = absurd (cc)
+least_offer-from r (x ∷ earlier) s o h = elim (lesser-one (least_offer r earlier s) (offer r x s) o h) [
+  | inl e ↦ let f = least_offer-from r earlier s o e in record { by = f.by; member = there x earlier f.member; offered = f.offered }
+  | inr e ↦ record { by = x; member = here earlier; offered = offer-made r x s o e }
+]
+
 module _ {S : Type 0} (r : Rule S) (fit : IsConsistent r) where
+  -- what was taken is among the taken states
+  pub is_taken-member : (run : List (Taken S)) (u : Taken S) → IsIn u run → is_taken r run u.state ≡ true
+  is_taken-member [] u m = elim m [ ]
+  is_taken-member (x ∷ earlier) u (here e) = rw (fit.itself x.state) refl
+  is_taken-member (x ∷ earlier) u (there z e m) = or_true (r.is_same x.state u.state) (is_taken r earlier u.state) (is_taken-member earlier u m)
+    where
+      or_true : (a b : Bool) → b ≡ true → (a || b) ≡ true
+      or_true true b e = refl
+      or_true false b e = e
+
   -- a state that is among the taken ones was taken
   pub taken_state : (run : List (Taken S)) (s : S) → is_taken r run s ≡ true → (u : Taken S) × IsIn u run × (u.state ≡ s)
   taken_state [] s h = absurd (cc)

@@ -42,13 +42,22 @@ pub record IsOffered {S : Type 0} (r : Rule S) (u : Taken S) (s : S) (o : Offer 
   pub linked : r.link u.state s ≡ Some step
   pub open_ended : r.is_goal u.state ≡ false
   pub total : o.cost ≡ add_costs u.cost step
+  pub source : o.from ≡ u.state
+
+offer_is : {S : Type 0} → Offer S → Option (Offer S) → Offer S
+offer_is o None = o
+offer_is o (Some p) = p
+
+some_offer : {S : Type 0} (a b : Offer S) → Some a ≡ Some b → a ≡ b
+unfolding offer_is
+some_offer {S} a b e = ap (λ (q : Option (Offer S)). offer_is a q) e
 
 pub offer-made : {S : Type 0} (r : Rule S) (u : Taken S) (s : S) (o : Offer S) → offer r u s ≡ Some o → IsOffered r u s o
 offer-made {S} r u s o h = by_goal (r.is_goal u.state) refl h
   where
     by_link : (l : Option Cost) → r.link u.state s ≡ l → r.is_goal u.state ≡ false → offer_by u l ≡ Some o → IsOffered r u s o
     by_link None e g h = absurd (cc)
-    by_link (Some c) e g h = record { step = c; linked = e; open_ended = g; total = ap (λ (q : Option (Offer S)). elim q as (λ _. Cost) [ Some k ↦ k.cost | None ↦ u.cost ]) (sym h) }
+    by_link (Some c) e g h = record { step = c; linked = e; open_ended = g; total = ap (λ (p : Offer S). p.cost) (sym (some_offer (record { cost = add_costs u.cost c; from = u.state }) o h)); source = ap (λ (p : Offer S). p.from) (sym (some_offer (record { cost = add_costs u.cost c; from = u.state }) o h)) }
 
     by_goal : (b : Bool) → r.is_goal u.state ≡ b → (if b then None else offer_by u (r.link u.state s)) ≡ Some o → IsOffered r u s o
     by_goal true g h = absurd (cc)

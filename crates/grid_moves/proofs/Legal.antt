@@ -1,0 +1,55 @@
+-- What the test of a legal move says.
+use Rattle.std.proofs.Common.{◌≡◌, ℕ, ◌+◌, ◌<◌, ◌≤◌, arith, Bool, true, false, not, refl, ap, sym, ◌∙◌, ◌&&◌}
+use Rattle.std.specs.Prelude.{nat_eq, nat_le, nat_lt}
+use Rattle.std.proofs.lemmas.Bool.Decides.{nat_tests}
+use Rattle.grid_moves.specs.declared.Cell.{Cell}
+use Rattle.grid_moves.specs.Grid.{GridData, is_free, is_inside}
+use Rattle.grid_moves.specs.Move.{is_legal, is_same, are_near, are_neighbours, corner_of}
+
+pub record IsLegal (g : GridData) (u v : Cell) : Type 0 where
+  pub source : is_free g u ≡ true
+  pub target : is_free g v ≡ true
+  pub beside : is_free g (corner_of u v) ≡ true
+  pub across : is_free g (corner_of v u) ≡ true
+  pub x_low : u.x ≤ v.x + 1
+  pub x_high : v.x ≤ u.x + 1
+  pub y_low : u.y ≤ v.y + 1
+  pub y_high : v.y ≤ u.y + 1
+  pub differ : (u.x ≡ v.x) → (u.y ≡ v.y) → ⊥
+
+pub legal_is : (g : GridData) (u v : Cell) → is_legal g u v ≡ true → IsLegal g u v
+legal_is g u v h = record {
+  source = grind arith;
+  target = grind arith;
+  beside = grind arith;
+  across = grind arith;
+  x_low = grind (arith, nat_tests);
+  x_high = grind (arith, nat_tests);
+  y_low = grind (arith, nat_tests);
+  y_high = grind (arith, nat_tests);
+  differ = λ e f. grind (arith, nat_tests);
+}
+
+pub is_legal-from : (g : GridData) (u v : Cell) → IsLegal g u v → is_legal g u v ≡ true
+is_legal-from g u v l =
+    let near : are_neighbours u v ≡ true = near_from l.x_low l.x_high l.y_low l.y_high l.differ in
+    rw (near, l.source, l.target, l.beside, l.across) refl
+  where
+    near_from : u.x ≤ v.x + 1 → v.x ≤ u.x + 1 → u.y ≤ v.y + 1 → v.y ≤ u.y + 1 → ((u.x ≡ v.x) → (u.y ≡ v.y) → ⊥) → are_neighbours u v ≡ true
+    near_from a b c d n = grind (arith, nat_tests)
+
+-- a free cell lies inside
+pub free_inside : (g : GridData) (c : Cell) → is_free g c ≡ true → (c.x < g.width) × (c.y < g.height)
+free_inside g c h = (grind (arith, nat_tests), grind (arith, nat_tests))
+
+-- two cells with the same column and row are one
+pub same_cell : (c d : Cell) → c.x ≡ d.x → c.y ≡ d.y → c ≡ d
+same_cell c d e f =
+    let g : c ≡ record { x = d.x; y = c.y } = ap (λ (n : ℕ). let u : Cell = record { x = n; y = c.y } in u) e in
+    g ∙ ap (λ (n : ℕ). let u : Cell = record { x = d.x; y = n } in u) f
+
+pub is_same-cell : (c d : Cell) → is_same c d ≡ true → c ≡ d
+is_same-cell c d h = same_cell c d (grind (arith, nat_tests)) (grind (arith, nat_tests))
+
+pub is_same-itself : (c : Cell) → is_same c c ≡ true
+is_same-itself c = grind (arith, nat_tests)
