@@ -1,4 +1,10 @@
 //! Points, and the walks that they stand for.
+//!
+//! A walk is handed on and printed as points: consecutive points lie on one of the eight lines, and
+//! unfolding fills each segment cell by cell.
 #![tactic(auto)]
 
+mod points;
+
+pub use points::{Cells, Points};
 pub use std::alloc::AllocError as NoMemory;
