@@ -9,12 +9,15 @@ ghost use Rattle.std.specs.Prelude.{◌≡◌, ◌+◌, ◌<◌, ◌^◌, ◌↔
 ghost use Rattle.std.specs.Ordering.{MatchOrdering};
 ghost use Rattle.std.specs.Int.RustNames.{unsigned_abs};
 ghost use Rattle.root2_cost.specs.Order.{is_positive, is_less, IsLess};
-ghost use Rattle.root2_cost.specs.Signed.{cost_difference, IsAboveZero, IsBelowZero, IsZero};
+ghost use Rattle.root2_cost.specs.Signed.{cost_difference, opposite, lowered, is_within, IsAboveZero, IsBelowZero, IsZero};
 ghost use Rattle.root2_cost.specs.Sums.{add_costs, octile_cost};
 
 use std::cmp::Ordering;
 
 pub mod laws;
+mod lengths;
+
+pub use lengths::{Decimal, Verdict, judge};
 
 /// A cost: `a` straight moves and `b` diagonal moves, with the value a + b√2.
 #[derive(Clone, Copy, Debug, PartialEq, Eq)]
@@ -138,6 +141,43 @@ impl Signed {
             2 * (y * y) < x * x
         } else {
             0 < x + y
+        }
+    }
+
+    /// Whether the value differs from 0 by at most `most`.
+    pub(crate) fn is_within(self, most: u64) -> bool
+        requires a { unsigned_abs self.a < 2 ^ 61 }
+        requires b { unsigned_abs self.b < 2 ^ 61 }
+        requires most { most < 2 ^ 61 }
+        ensures { result ≡ is_within most self }
+    {
+        !self.lowered(most).is_positive() && !self.opposite().lowered(most).is_positive()
+    }
+
+    /// The value less `amount`.
+    fn lowered(self, amount: u64) -> Signed
+        requires a { unsigned_abs self.a < 2 ^ 61 }
+        requires amount { amount < 2 ^ 61 }
+        ensures value { result ≡ lowered self amount }
+        ensures bound { unsigned_abs result.a < 2 ^ 62 }
+    {
+        Signed {
+            a: self.a - amount as i64,
+            b: self.b,
+        }
+    }
+
+    /// The value with the other sign.
+    fn opposite(self) -> Signed
+        requires a { unsigned_abs self.a < 2 ^ 61 }
+        requires b { unsigned_abs self.b < 2 ^ 61 }
+        ensures value { result ≡ opposite self }
+        ensures a { unsigned_abs result.a < 2 ^ 61 }
+        ensures b { unsigned_abs result.b < 2 ^ 61 }
+    {
+        Signed {
+            a: -self.a,
+            b: -self.b,
         }
     }
 }
