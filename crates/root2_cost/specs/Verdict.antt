@@ -1,5 +1,5 @@
 -- The verdict on a length that a text tells in decimals, against an exact cost.
-use Rattle.std.specs.Prelude.{◌≡◌, ◌-◌, ◌*◌, ◌^◌, ◌&&◌, nat_le, if◌then◌else◌, refl, pos, ◌-ℤ◌, neg_ℤ}
+use Rattle.std.specs.Prelude.{Bool, ◌≡◌, ◌-◌, ◌*◌, ◌^◌, ◌&&◌, nat_le, if◌then◌else◌, refl, pos, ◌-ℤ◌, neg_ℤ}
 use Rattle.root2_cost.specs.declared.Cost.{Cost}
 use Rattle.root2_cost.specs.declared.Signed.{Signed}
 use Rattle.root2_cost.specs.declared.lengths.Decimal.{Decimal}
@@ -14,11 +14,14 @@ excess_of length cost = record {
   b = neg_ℤ (pos (10 ^ length.places * cost.b));
 }
 
--- the excess is at most 1; or else at most 10^(d - 2), where there are two decimals; or neither
+-- there are two decimals, and the difference is at most a hundredth
+abbrev pub is_near : Decimal → Cost → Bool
+is_near length cost = nat_le 2 length.places && is_within (10 ^ (length.places - 2)) (excess_of length cost)
+
+-- agree where the difference is at most one unit of the last decimal, else near or off
 abbrev pub verdict_of : Decimal → Cost → Verdict
 verdict_of length cost =
-    if is_within 1 (excess_of length cost) then Agree
-    else (if nat_le 2 length.places && is_within (10 ^ (length.places - 2)) (excess_of length cost) then Near else Off)
+    if is_within 1 (excess_of length cost) then Agree else (if is_near length cost then Near else Off)
 
 -- 2 + √2 is 3.41421..
 pub five_decimals : verdict_of (record { digits = 341421; places = 5 }) (record { a = 2; b = 1 }) ≡ Agree
