@@ -9,7 +9,9 @@ use crate::{Cost, Signed};
 /// The number `digits` / 10^`places`.
 #[derive(Clone, Copy, Debug, PartialEq, Eq)]
 pub struct Decimal {
+    /// All kept digits, read as one number.
     pub digits: u64,
+    /// How many of them stand after the point.
     pub places: u8,
 }
 
@@ -24,7 +26,8 @@ pub enum Verdict {
     Off,
 }
 
-/// The verdict on a length against a cost, by whole numbers below 2^125 alone.
+/// The verdict on a length of at most ten decimals against a cost of at most 2^24 moves of each
+/// kind, by whole numbers below 2^128 alone.
 pub fn judge(length: Decimal, cost: Cost) -> Verdict
     requires digits { length.digits < 10 ^ 18 }
     requires places { length.places ≤ 10 }

@@ -22,7 +22,9 @@ pub use lengths::{Decimal, Verdict, judge};
 /// A cost: `a` straight moves and `b` diagonal moves, with the value a + b√2.
 #[derive(Clone, Copy, Debug, PartialEq, Eq)]
 pub struct Cost {
+    /// Straight moves.
     pub a: u32,
+    /// Diagonal moves.
     pub b: u32,
 }
 
@@ -104,12 +106,15 @@ pub fn octile(dx: u32, dy: u32) -> Cost
 /// A difference of two costs: the value a + b√2 with parts of either sign.
 #[derive(Clone, Copy, Debug, PartialEq, Eq)]
 pub struct Signed {
+    /// Straight moves, less than 0 where the second cost has more.
     pub a: i64,
+    /// Diagonal moves, likewise.
     pub b: i64,
 }
 
 impl Signed {
-    /// Compares the value with 0: `Equal` exactly where both parts are 0.
+    /// Compares the value, whose parts are below 2^40 in amount, with 0: `Equal` exactly where both
+    /// parts are 0.
     #[tactic(auto, using(crate::proofs::Signs::opposite_positive))]
     pub fn sign(self) -> Ordering
         requires a { unsigned_abs self.a < 2 ^ 40 }
