@@ -5,6 +5,7 @@ use crate::{
     SureFiles, SureSink, SureSource, read_whole, write_whole,
 };
 use std::alloc::{AllocError, Global};
+use std::fs;
 use std::test::Fail;
 
 fn file(alloc: Global, bytes: &[u8]) -> Result<Vec<(String, Vec<u8>)>, AllocError> {
@@ -110,6 +111,16 @@ fn a_source_is_read_to_its_end(rt: HostRuntime) -> Result<(), Fail> {
         [Some(3), Some(1), Some(0), Some(0)],
         "real"
     );
+    Ok(())
+}
+
+#[test]
+fn a_real_file_is_read_to_its_end(rt: HostRuntime) -> Result<(), Fail> {
+    let name = "io_edge_test.txt";
+    fs::write(&rt, name, "walk")?;
+    let read = read_whole(rt.alloc(), &mut RealFiles::new(&rt), name, 4)?;
+    assert_eq!(rt; read.as_slice(), b"walk".as_slice());
+    fs::remove_file(&rt, name)?;
     Ok(())
 }
 
