@@ -1,5 +1,6 @@
 -- What objects in memory hold, and how they answer.
-use Rattle.std.specs.Prelude.{ℕ, Bool, true, List, [], ◌∷◌, Option, None, Some, min, if◌then◌else◌, ◌||◌, length, ◌-◌, ◌==◌, unwrap_or, drop, take, ◌++◌}
+use Rattle.std.specs.Prelude.{ℕ, ◌-◌, ◌==◌, min, Bool, ◌||◌, if◌then◌else◌, List, [], ◌∷◌, length}
+use Rattle.std.specs.Prelude.{Option, None, Some, unwrap_or}
 use Rattle.std.specs.List.{list_any}
 use Rattle.std.specs.Option.{option_map, option_map_or}
 use Rattle.std.specs.Str.{bytes_eq}
@@ -16,6 +17,10 @@ pub record Pace : Type 0 where
   pub made : ℕ
   -- how many calls failed
   pub faults : ℕ
+
+-- the pace before the first call
+abbrev pub first_pace : ℕ → List ℕ → Pace
+first_pace piece failing = record { piece = piece; failing = failing; made = 0; faults = 0 }
 
 -- whether the next call is to fail
 abbrev pub fails_next : Pace → Bool
@@ -55,7 +60,8 @@ held_surely files name = holding (unwrap_or (file_under files name) [])
 -- how many bytes the next read from `place` on gives, or none where it fails
 abbrev pub amount_read : NamedBytes → List ℕ → ℕ → ℕ → Option ℕ
 amount_read store name place room =
-    if fails_next store.pace then None else option_map (λ bytes. amount store.pace room (length bytes - place)) (file_under store.files name)
+    let given : List ℕ → ℕ = λ bytes. amount store.pace room (length bytes - place) in
+    if fails_next store.pace then None else option_map given (file_under store.files name)
 
 -- bytes that come in, and how calls on them are answered
 pub record Incoming : Type 0 where
@@ -64,7 +70,8 @@ pub record Incoming : Type 0 where
 
 -- how many bytes the next read takes, or none where it fails
 abbrev pub amount_taken : Incoming → ℕ → Option ℕ
-amount_taken source room = if fails_next source.pace then None else Some (amount source.pace room (length source.left))
+amount_taken source room =
+    if fails_next source.pace then None else Some (amount source.pace room (length source.left))
 
 -- bytes that went out, the room for all of them, and how calls on them are answered
 pub record Outgoing : Type 0 where
@@ -75,4 +82,5 @@ pub record Outgoing : Type 0 where
 -- how many bytes of a piece the next write appends, or none where it fails or finds no room
 abbrev pub amount_put : Outgoing → ℕ → Option ℕ
 amount_put sink size =
-    if fails_next sink.pace || sink.room == length sink.written then None else Some (amount sink.pace size (sink.room - length sink.written))
+    let free = sink.room - length sink.written in
+    if fails_next sink.pace || free == 0 then None else Some (amount sink.pace size free)

@@ -2,7 +2,7 @@
 
 ghost use Rattle.std.specs.Prelude.{◌≡◌, ◌<◌, length, min};
 ghost use Rattle.io_edge.specs.Causes.{raised};
-ghost use Rattle.io_edge.specs.Memory.{Pace, fails_next, amount};
+ghost use Rattle.io_edge.specs.Memory.{first_pace, fails_next, amount};
 ghost use Rattle.io_edge.specs.Calls.{pace_of};
 
 use crate::outside::Failed;
@@ -19,7 +19,7 @@ pub struct Calls {
 impl Calls {
     /// No call yet: each is to move at most `piece` bytes, and those numbered in `failing` fail.
     pub fn new(piece: usize, failing: Vec<u64>) -> Calls
-        ensures { pace_of result ≡ record { piece = piece; failing = failing.items; made = 0; faults = 0 } }
+        ensures { pace_of result ≡ first_pace piece failing.items }
     {
         Calls {
             piece,

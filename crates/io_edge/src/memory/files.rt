@@ -4,7 +4,7 @@ ghost use Rattle.std.specs.Prelude.{◌≡◌, ◌^◌, ◌<◌, ◌≤◌, leng
 ghost use Rattle.std.specs.Result.{result_ok};
 ghost use Rattle.io_edge.specs.Causes.{HasCause, NoneFell};
 ghost use Rattle.io_edge.specs.Told.{ReadsAt};
-ghost use Rattle.io_edge.specs.Memory.{held_under, amount_read, after_call};
+ghost use Rattle.io_edge.specs.Memory.{held_under, amount_read, after_call, first_pace};
 ghost use Rattle.io_edge.specs.Named.{named_bytes};
 
 use super::calls::Calls;
@@ -40,7 +40,7 @@ impl MemFiles {
     pub fn new(files: Vec<(String, Vec<u8>)>, piece: usize, failing: Vec<u64>) -> MemFiles
         requires { 0 < piece }
         ensures files { result.files ≡ named_bytes files.items }
-        ensures pace { result.pace ≡ record { piece = piece; failing = failing.items; made = 0; faults = 0 } }
+        ensures pace { result.pace ≡ first_pace piece failing.items }
     {
         MemFiles {
             files,

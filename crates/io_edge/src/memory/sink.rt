@@ -4,7 +4,7 @@ ghost use Rattle.std.specs.Prelude.{◌≡◌, ◌<◌, ◌≤◌, [], Some, len
 ghost use Rattle.std.specs.Result.{result_ok};
 ghost use Rattle.std.specs.Io.KnownBytes.{WriteAppends};
 ghost use Rattle.io_edge.specs.Causes.{HasCause};
-ghost use Rattle.io_edge.specs.Memory.{amount_put, after_call};
+ghost use Rattle.io_edge.specs.Memory.{amount_put, after_call, first_pace};
 
 use super::calls::Calls;
 use crate::NoMemory;
@@ -29,7 +29,8 @@ impl Model for MemSink {
 
     ghost view = { λ sink. record { written = sink.bytes.items; room = sink.room; pace = pace_of sink.calls } };
 
-    ghost invariant = { λ sink. (0 < sink.calls.piece) × (length sink.bytes.items ≤ sink.room) × (sink.room ≤ vec_capacity sink.bytes) };
+    ghost invariant = { λ sink. (0 < sink.calls.piece) × (length sink.bytes.items ≤ sink.room)
+        × (sink.room ≤ vec_capacity sink.bytes) };
 }
 
 impl MemSink {
@@ -44,7 +45,7 @@ impl MemSink {
         requires { 0 < piece }
         ensures written { IfOk result (λ sink. sink.written ≡ []) }
         ensures room { IfOk result (λ sink. sink.room ≡ room) }
-        ensures pace { IfOk result (λ sink. sink.pace ≡ record { piece = piece; failing = failing.items; made = 0; faults = 0 }) }
+        ensures pace { IfOk result (λ sink. sink.pace ≡ first_pace piece failing.items) }
     {
         let bytes = Vec::with_capacity(alloc, room)?;
         Ok(MemSink {

@@ -4,7 +4,7 @@ ghost use Rattle.std.specs.Prelude.{◌≡◌, ◌<◌, ◌≤◌, Some, length,
 ghost use Rattle.std.specs.Result.{result_ok};
 ghost use Rattle.std.specs.Io.KnownBytes.{ReadConsumes};
 ghost use Rattle.io_edge.specs.Causes.{HasCause};
-ghost use Rattle.io_edge.specs.Memory.{amount_taken, after_call};
+ghost use Rattle.io_edge.specs.Memory.{amount_taken, after_call, first_pace};
 
 use super::calls::Calls;
 use super::parts::copy_front;
@@ -37,7 +37,7 @@ impl MemSource {
     pub fn new(bytes: Vec<u8>, piece: usize, failing: Vec<u64>) -> MemSource
         requires { 0 < piece }
         ensures left { result.left ≡ bytes.items }
-        ensures pace { result.pace ≡ record { piece = piece; failing = failing.items; made = 0; faults = 0 } }
+        ensures pace { result.pace ≡ first_pace piece failing.items }
     {
         MemSource {
             bytes,
