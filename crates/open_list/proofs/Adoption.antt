@@ -107,25 +107,26 @@ module _ {N : Type 0} (before : N → N → Bool) (es : List (Entry N)) where
         let at_loser = at_most_once loser in
         let at_winner = at_most_once winner in
         let here = one_at_same loser in
-        let there = one_at_same winner in
-        (loser_later,
-        all.in_order,
-        children_kept loser lost lost_children (omega arith) (omega (arith, first_only)) (omega arith) all.loser_above,
-        AreChildren-changed before (with_child_and_next loser (first_id seconds)) winner moved loser won won_children (omega arith)
-        (AreChildren-moved before hung winner loser won won_children (omega (arith, at_most_once first))
-        (AreChildren-changed before (with_next_and_prev first winner) loser es winner won won_children (omega arith) all.winner_above)))
+        let there = one_at_same winner in (
+          loser_later,
+          all.in_order,
+          children_kept loser lost lost_children (omega arith) (omega (arith, first_only)) (omega arith) all.loser_above,
+          AreChildren-changed before (with_child_and_next loser (first_id seconds)) winner moved loser won won_children (omega arith)
+              (AreChildren-moved before hung winner loser won won_children (omega (arith, at_most_once first))
+              (AreChildren-changed before (with_next_and_prev first winner) loser es winner won won_children (omega arith) all.winner_above)),
+        )
 
     open_later : map is_open later ≡ map is_open es
     open_later =
         map-changed (with_child_and_next loser (first_id seconds)) is_open winner moved (λ e at. refl)
         ∙ map-changed (with_prev loser) is_open first hung (λ e at.
-            let at_first = sym (get-changed_other (with_next_and_prev first winner) loser first es first_ne_loser) ∙ at in
-            let here = first_counts won_children (omega (arith, slice_get_within es first e at_first, all.small)) in
-            open_with_link e loser (omega (arith, loser_in, all.small))
-            ∙ sym (open_from_count es first e at_first (omega (arith, all.once first))))
+        let at_first = sym (get-changed_other (with_next_and_prev first winner) loser first es first_ne_loser) ∙ at in
+        let here = first_counts won_children (omega (arith, slice_get_within es first e at_first, all.small)) in
+        open_with_link e loser (omega (arith, loser_in, all.small))
+        ∙ sym (open_from_count es first e at_first (omega (arith, all.once first))))
         ∙ map-changed (with_next_and_prev first winner) is_open loser es (λ e at.
-            open_with_link e winner (omega (arith, winner_in, all.small))
-            ∙ sym (open_from_count es loser e at (omega (arith, all.once loser, one_at_same loser))))
+        open_with_link e winner (omega (arith, winner_in, all.small))
+        ∙ sym (open_from_count es loser e at (omega (arith, all.once loser, one_at_same loser))))
 
     nodes_later : map (λ e. e.node) later ≡ map (λ e. e.node) es
     nodes_later =
@@ -186,9 +187,20 @@ module _ {N : Type 0} (before : N → N → Bool) (es : List (Entry N)) where
   -- the heaps of `winner` and `loser` begin two lists, and stand apart
   apart : {lost_list won_list : Heaps N} {winner loser : ℕ} (w : StartsWith before es won_list winner) (l : StartsWith before es lost_list loser) (firsts seconds : Heaps N) → AreRoots before es firsts → AreRoots before es seconds → before l.node w.node ≡ false → ((i : ℕ) → one_at winner i + one_at loser i + count_at w.children i + count_at l.children i + count_at firsts i + count_at seconds i ≡ open_count (map is_open es) i) → 2 + node_count w.children + node_count l.children + node_count firsts + node_count seconds ≤ length es → length es < 2 ^ 28 → AreApart winner loser w.node l.node w.children l.children firsts seconds
   apart w l firsts seconds first_roots second_roots in_order once fits small = record {
-    won_next = first_id w.rest; won_prev = w.prev; lost_next = first_id l.rest; lost_prev = l.prev;
-    winner_at = w.at; loser_at = l.at; winner_above = w.above; loser_above = l.above;
-    first_roots = first_roots; second_roots = second_roots; in_order = in_order; once = once; fits = fits; small = small;
+    won_next = first_id w.rest;
+    won_prev = w.prev;
+    lost_next = first_id l.rest;
+    lost_prev = l.prev;
+    winner_at = w.at;
+    loser_at = l.at;
+    winner_above = w.above;
+    loser_above = l.above;
+    first_roots = first_roots;
+    second_roots = second_roots;
+    in_order = in_order;
+    once = once;
+    fits = fits;
+    small = small;
   }
 
   module _ (one other : ℕ) (have : HaveOpen before es other one) (one_in : one < length es) (other_in : other < length es) where

@@ -1,6 +1,6 @@
 -- What a list has after one element is changed.
-use Rattle.std.proofs.Common.{◌≡◌, ◌≢◌, ℕ, ◌≤◌, zero, suc, List, [], ◌∷◌, length, map, get_or, set, Option, Some, None, slice_get, refl, sym, ap, ◌∙◌, arith}
-use Rattle.std.proofs.lemmas.Option.{same_Some}
+use Rattle.std.proofs.Common.{◌≡◌, ◌≢◌, ℕ, ◌≤◌, zero, suc, List, [], ◌∷◌, ◌++◌, length, map, get_or, set, Option, Some, None, slice_get, refl, sym, ap, ◌∙◌, arith}
+use Rattle.std.proofs.lemmas.Option.{same_Some, none-some}
 use Rattle.open_list.specs.Entry.{changed}
 
 module _ {X : Type 0} (f : X → X) where
@@ -42,3 +42,24 @@ module _ {X : Type 0} (f : X → X) where
   map-changed_to g h i [] same = refl
   map-changed_to g h zero (x ∷ es) same = ap (λ y. y ∷ map g es) (same x)
   map-changed_to g h (suc i) (x ∷ es) same = ap (λ l. g x ∷ l) (map-changed_to g h i es same)
+
+module _ {X : Type 0} where
+  pub set-is_changed : (es : List X) (i : ℕ) (x : X) → set es i x ≡ changed (λ _. x) i es
+  set-is_changed [] i x = refl
+  set-is_changed (e ∷ es) zero x = refl
+  set-is_changed (e ∷ es) (suc i) x = ap (λ l. e ∷ l) (set-is_changed es i x)
+
+  pub get-append_left : (es others : List X) (i : ℕ) (e : X) → slice_get es i ≡ Some e → slice_get (es ++ others) i ≡ Some e
+  get-append_left [] others i e h = absurd (none-some e h)
+  get-append_left (x ∷ es) others zero e h = h
+  get-append_left (x ∷ es) others (suc i) e h = get-append_left es others i e h
+
+  pub get_pushed : (es : List X) (e : X) → slice_get (es ++ e ∷ []) (length es) ≡ Some e
+  get_pushed [] e = refl
+  get_pushed (x ∷ es) e = get_pushed es e
+
+  pub get_pushed_other : (es : List X) (e : X) (i : ℕ) → i ≢ length es → slice_get (es ++ e ∷ []) i ≡ slice_get es i
+  get_pushed_other [] e zero ne = absurd (ne refl)
+  get_pushed_other [] e (suc i) ne = refl
+  get_pushed_other (x ∷ es) e zero ne = refl
+  get_pushed_other (x ∷ es) e (suc i) ne = get_pushed_other es e i (λ h. ne (ap suc h))

@@ -1,14 +1,19 @@
 -- How often a number stands in a list of heaps.
 use Rattle.std.proofs.Common.{◌≡◌, ◌≢◌, ℕ, ◌+◌, ◌<◌, ◌≤◌, Bool, true, false, List, length, Option, Some, None, slice_get, nat_eq, cond, refl, sym, ap, ◌∙◌, subst, arith}
 use Rattle.std.proofs.lemmas.Bool.{eq-eqb, ne_eqb, cases_eq, cases_Bool}
-use Rattle.std.proofs.Common.{not, map, option_map, ⊎_elim}
+use Rattle.std.proofs.Common.{zero, suc, [], ◌∷◌, not, map, option_map, ⊎_elim, ◌⊎◌, inl, inr}
 use Rattle.std.proofs.lemmas.List.{length-map}
-use Rattle.std.proofs.lemmas.Option.{slice_get_past, slice_get-map}
+use Rattle.std.proofs.lemmas.Option.{slice_get_past, slice_get_within, slice_get-map, none-some}
 use Rattle.open_list.specs.declared.entry.Entry.{Entry}
 use Rattle.open_list.specs.Entry.{is_open, with_prev}
 use Rattle.std.specs.Option.{option_map_or}
 use Rattle.open_list.specs.declared.entry.TheConstants.{NONE, CLOSED}
 use Rattle.open_list.specs.Heaps.{Heaps, no_heap, heap, first_id, count_at, one_at, open_count}
+
+get_none_past : {X : Type 0} (xs : List X) (i : ℕ) → slice_get xs i ≡ None → length xs ≤ i
+get_none_past [] i missing = omega arith
+get_none_past (x ∷ xs) zero missing = absurd (none-some x (sym missing))
+get_none_past (x ∷ xs) (suc i) missing = omega (arith, get_none_past xs i missing)
 
 pub one_at_same : (i : ℕ) → one_at i i ≡ 1
 unfolding one_at
@@ -50,6 +55,10 @@ module _ {N : Type 0} where
   first_counts no_heap below = absurd (omega (arith, below))
   first_counts (heap id n children rest) below = omega (arith, one_at_same id)
 
+  pub first_or_none : (hs : Heaps N) → (first_id hs ≡ NONE) ⊎ (1 ≤ count_at hs (first_id hs))
+  first_or_none no_heap = inl refl
+  first_or_none (heap id n children rest) = inr (omega (arith, one_at_same id))
+
   -- the first number of a list stands nowhere else
   pub first_apart : (hs : Heaps N) (others : ℕ) → count_at hs (first_id hs) + others ≤ 1 → (first_id hs ≡ NONE → others ≡ 0) → others ≡ 0
   first_apart no_heap others most at_none = at_none refl
@@ -63,3 +72,13 @@ module _ {N : Type 0} where
 
     pub none_past : (i : ℕ) → length es ≤ i → open_count (map is_open es) i ≡ 0
     none_past i past = open_count_past (map is_open es) i (omega (arith, length-map es is_open))
+
+    pub entry_at : (i : ℕ) → 1 ≤ open_count (map is_open es) i → (e : Entry N) × (slice_get es i ≡ Some e)
+    entry_at i counted = go (slice_get es i) refl
+      where
+        go : (o : Option (Entry N)) → slice_get es i ≡ o → (e : Entry N) × (slice_get es i ≡ Some e)
+        go None missing = absurd (omega (arith, counted, none_past i (get_none_past es i missing)))
+        go (Some e) found = (e, found)
+
+    pub open_within : (i : ℕ) → 1 ≤ open_count (map is_open es) i → i < length es
+    open_within i counted = slice_get_within es i _ (entry_at i counted).1

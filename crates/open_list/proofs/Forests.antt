@@ -81,25 +81,28 @@ module _ {N : Type 0} (before : N → N → Bool) where
       let start = starts_with es have.firsts todo have.first_is (λ none. omega (arith, have.small)) have.first_roots in
       let next_is = next_of_start start in
       let total : (i : ℕ) → one_at todo i + count_at start.children i + count_at start.rest i + count_at have.seconds i ≡ open_count (map is_open es) i =
-          λ i. omega (arith, have.once i, ap (λ hs. count_at hs i) start.is) in
+      λ i. omega (arith, have.once i, ap (λ hs. count_at hs i) start.is) in
       let here = total todo in
       let most = open_count-le (map is_open es) todo in
       let one = one_at_same todo in
       let at : slice_get later todo ≡ Some (record { node = start.node; child = first_id start.children; next = first_id have.seconds; prev = start.prev }) =
-          rw have.second_is (get-changed (with_next done) todo es _ start.at) in
+      rw have.second_is (get-changed (with_next done) todo es _ start.at) in
       let lists : HaveOpen before later (first_id start.rest) todo = record {
-            firsts = start.rest;
-            seconds = heap todo start.node start.children have.seconds;
-            first_is = refl;
-            second_is = refl;
-            first_roots = AreRoots-changed before (with_next done) todo es start.rest (omega arith) start.roots;
-            second_roots = (start.prev, at,
-              AreChildren-changed before (with_next done) todo es todo start.node start.children (omega arith) start.above,
-              AreRoots-changed before (with_next done) todo es have.seconds (omega arith) have.second_roots);
-            once = λ i. rw (map-changed (with_next done) is_open todo es (λ e at. refl)) (omega (arith, total i));
-            fits = omega (arith, have.fits, ap node_count start.is, length-changed (with_next done) todo es);
-            small = rw (length-changed (with_next done) todo es) have.small;
-          } in
+        firsts = start.rest;
+        seconds = heap todo start.node start.children have.seconds;
+        first_is = refl;
+        second_is = refl;
+        first_roots = AreRoots-changed before (with_next done) todo es start.rest (omega arith) start.roots;
+        second_roots = (
+          start.prev,
+          at,
+          AreChildren-changed before (with_next done) todo es todo start.node start.children (omega arith) start.above,
+          AreRoots-changed before (with_next done) todo es have.seconds (omega arith) have.second_roots,
+        );
+        once = λ i. rw (map-changed (with_next done) is_open todo es (λ e at. refl)) (omega (arith, total i));
+        fits = omega (arith, have.fits, ap node_count start.is, length-changed (with_next done) todo es);
+        small = rw (length-changed (with_next done) todo es) have.small;
+      } in
       record {
         lists = subst (λ (k : ℕ). HaveOpen before later k todo) (sym next_is) lists;
         shorter = omega (arith, list_len-firsts later _ _ lists, list_len-firsts es _ _ have, ap heap_count start.is, ap (list_len later) next_is);

@@ -15,6 +15,10 @@ module _ {N : Type 0} where
   abbrev pub is_open : Entry N → Bool
   is_open e = not (nat_eq e.prev CLOSED)
 
+  -- the nodes without their links
+  abbrev pub nodes_of : List (Entry N) → List N
+  nodes_of es = map (λ e. e.node) es
+
   -- the link to the first child
   abbrev pub child_of : List (Entry N) → ℕ → ℕ
   child_of es i = option_map_or (λ e. e.child) (slice_get es i) NONE
@@ -73,5 +77,5 @@ module _ {N : Type 0} where
 
   -- the nodes are the same, and the same ones are open
   pub record KeepsNodes (old new : List (Entry N)) : Type 0 where
-    pub nodes : map (λ e. e.node) new ≡ map (λ e. e.node) old
+    pub nodes : nodes_of new ≡ nodes_of old
     pub open_at : map is_open new ≡ map is_open old

@@ -88,3 +88,14 @@ module _ {N : Type 0} where
     pub shorter : list_len old todo ≡ list_len new rest + 1
     pub longer : list_len new todo ≡ list_len old done + 1
     pub kept : KeepsNodes old new
+
+  -- the heap of `id` stands by itself, and that of `root` has the other open nodes
+  pub record AreBeside (before : N → N → Bool) (es : List (Entry N)) (root id : ℕ) : Type 0 where
+    pub lists : HaveOpen before es id root
+    pub alone : list_len es root ≤ 1
+    pub last : next_of es id ≡ NONE
+
+  -- the heap of `id` is taken from below `root`
+  pub record IsDetached (before : N → N → Bool) (old new : List (Entry N)) (root id : ℕ) : Type 0 where
+    pub beside : AreBeside before new root id
+    pub kept : KeepsNodes old new

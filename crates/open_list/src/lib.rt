@@ -2,7 +2,8 @@
 #![tactic(auto)]
 
 mod entry;
-mod heaps;
+mod heap;
+mod links;
 mod order;
 mod pool;
 

@@ -1,5 +1,5 @@
 use Rattle.open_list.proofs.Forests.{shifted}
-use Rattle.open_list.proofs.heaps.shift.Goals as goal
+use Rattle.open_list.proofs.links.shift.Goals as goal
 
 pub returns : goal.returns
 returns g c =

@@ -1,6 +1,6 @@
 use Rattle.std.proofs.Common.{arith}
 use Rattle.open_list.proofs.Forests.{first_within}
-use Rattle.open_list.proofs.heaps.pair_up.Goals as goal
+use Rattle.open_list.proofs.heap.pair_up.Goals as goal
 
 pub shift-todo-requires-clause-within : goal.shift-todo-requires-clause-within
 shift-todo-requires-clause-within g c =

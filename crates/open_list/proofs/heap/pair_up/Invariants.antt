@@ -1,7 +1,7 @@
 use Rattle.std.proofs.Common.{◌≤◌}
 use Rattle.open_list.specs.Entry.{list_len, KeepsNodes}
 use Rattle.open_list.specs.Heaps.{HaveOpen}
-use Rattle.open_list.proofs.heaps.pair_up.Given as goal
+use Rattle.open_list.proofs.heap.pair_up.Given as goal
 
 abbrev pub invariant-loop-todo : goal.invariant-loop-todo
 invariant-loop-todo g l = record {

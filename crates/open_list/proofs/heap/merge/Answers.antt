@@ -1,6 +1,6 @@
 use Rattle.std.proofs.Common.{refl, arith}
 use Rattle.open_list.proofs.Forests.{first_within, swapped, list_len-none}
-use Rattle.open_list.proofs.heaps.merge.Goals as goal
+use Rattle.open_list.proofs.heap.merge.Goals as goal
 
 pub next_of-todo-requires : goal.next_of-todo-requires
 next_of-todo-requires g c =
