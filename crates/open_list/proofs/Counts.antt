@@ -46,6 +46,14 @@ open_count-le open_at i =
     elim (slice_get open_at i) as (λ o. option_map_or (λ b. cond b 1 0) o 0 ≤ 1)
     [ None ↦ omega arith | Some true ↦ omega arith | Some false ↦ omega arith ]
 
+pub flag_from_count : (open_at : List Bool) (i : ℕ) → 1 ≤ open_count open_at i → slice_get open_at i ≡ Some true
+flag_from_count open_at i counted = go (slice_get open_at i) refl
+  where
+    go : (o : Option Bool) → slice_get open_at i ≡ o → slice_get open_at i ≡ Some true
+    go None missing = absurd (omega (arith, open_count_past open_at i (get_none_past open_at i missing)))
+    go (Some false) closed = absurd (omega (arith, open_count_closed open_at i closed))
+    go (Some true) opened = opened
+
 module _ {N : Type 0} where
   -- a link back to a node leaves an entry open
   pub open_with_link : (e : Entry N) (prev : ℕ) → prev < CLOSED → is_open (with_prev prev e) ≡ true

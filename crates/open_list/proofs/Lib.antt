@@ -7,3 +7,4 @@ pub mod Roots
 pub mod Detached
 pub mod Turns
 pub mod Adoption
+pub mod Firsts

@@ -42,10 +42,13 @@ module _ {N : Type 0} (before : N → N → Bool) where
           seconds = have.seconds;
           first_is = refl;
           second_is = have.second_is;
-          first_roots = (start.prev, get-changed (with_node node) id es _ start.at,
+          first_roots = (
+            start.prev,
+            get-changed (with_node node) id es _ start.at,
             AreChildren-lowered before order lowered id start.node node start.children (lower _ start.at)
-              (AreChildren-changed before (with_node node) id es id start.node start.children (omega arith) start.above),
-            AreRoots-changed before (with_node node) id es start.rest (omega arith) start.roots);
+                (AreChildren-changed before (with_node node) id es id start.node start.children (omega arith) start.above),
+            AreRoots-changed before (with_node node) id es start.rest (omega arith) start.roots,
+          );
           second_roots = AreRoots-changed before (with_node node) id es have.seconds (omega arith) have.second_roots;
           once = λ i. rw (map-changed (with_node node) is_open id es (λ e at. refl)) (omega (arith, total i));
           fits = omega (arith, have.fits, ap node_count start.is, length-changed (with_node node) id es);
@@ -113,14 +116,14 @@ module _ {N : Type 0} (before : N → N → Bool) where
     children_only i =
         ⊎_elim
         (λ (here : root ≡ i).
-            let flag : slice_get (map is_open closed) root ≡ Some false =
-                slice_get-map is_open closed root ∙ ap (option_map is_open) (get-changed (with_prev CLOSED) root es _ tree.at) in
-            subst (λ (k : ℕ). count_at tree.children k ≡ open_count (map is_open closed) k) here
-            (none_twice ∙ sym (open_count_closed (map is_open closed) root flag)))
+        let flag : slice_get (map is_open closed) root ≡ Some false =
+        slice_get-map is_open closed root ∙ ap (option_map is_open) (get-changed (with_prev CLOSED) root es _ tree.at) in
+        subst (λ (k : ℕ). count_at tree.children k ≡ open_count (map is_open closed) k) here
+        (none_twice ∙ sym (open_count_closed (map is_open closed) root flag)))
         (λ (other : root ≢ i).
-            let flag : slice_get (map is_open closed) i ≡ slice_get (map is_open es) i =
-                slice_get-map is_open closed i ∙ ap (option_map is_open) (get-changed_other (with_prev CLOSED) root i es (λ same. other (sym same))) ∙ sym (slice_get-map is_open es i) in
-            omega (arith, tree.once i, one_at_other root i other, open_count-same (map is_open es) (map is_open closed) i flag))
+        let flag : slice_get (map is_open closed) i ≡ slice_get (map is_open es) i =
+        slice_get-map is_open closed i ∙ ap (option_map is_open) (get-changed_other (with_prev CLOSED) root i es (λ same. other (sym same))) ∙ sym (slice_get-map is_open es i) in
+        omega (arith, tree.once i, one_at_other root i other, open_count-same (map is_open es) (map is_open closed) i flag))
         (cases_eq root i)
 
     pub root_closed : HaveOpen before closed (child_of es root) NONE
@@ -133,7 +136,7 @@ module _ {N : Type 0} (before : N → N → Bool) where
           first_is = refl;
           second_is = refl;
           first_roots = AreRoots_from_children before closed root tree.node tree.children
-            (AreChildren-changed before (with_prev CLOSED) root es root tree.node tree.children none_twice tree.above);
+              (AreChildren-changed before (with_prev CLOSED) root es root tree.node tree.children none_twice tree.above);
           second_roots = tt;
           once = λ i. omega (arith, children_only i);
           fits = omega (arith, tree.fits, len);
@@ -158,18 +161,18 @@ module _ {N : Type 0} (before : N → N → Bool) where
     counted : (i : ℕ) → one_at (length es) i + count_at have.seconds i ≡ open_count (map is_open pushed) i
     counted i =
         let old : count_at have.seconds i ≡ open_count (map is_open es) i =
-            omega (arith, have.once i, ap (λ hs. count_at hs i) (none_heap before es have.firsts have.small have.first_is have.first_roots)) in
+        omega (arith, have.once i, ap (λ hs. count_at hs i) (none_heap before es have.firsts have.small have.first_is have.first_roots)) in
         ⊎_elim
         (λ (here : length es ≡ i).
-            let flag : slice_get (map is_open pushed) i ≡ Some true =
-                subst (λ (k : ℕ). slice_get (map is_open pushed) k ≡ Some true) here
-                (slice_get-map is_open pushed (length es) ∙ ap (option_map is_open) (get_pushed es fresh)) in
-            let one : one_at (length es) i ≡ 1 = subst (λ (k : ℕ). one_at (length es) k ≡ 1) here (one_at_same (length es)) in
-            omega (arith, old, none_past es i (omega arith), open_count_open (map is_open pushed) i flag))
+        let flag : slice_get (map is_open pushed) i ≡ Some true =
+        subst (λ (k : ℕ). slice_get (map is_open pushed) k ≡ Some true) here
+        (slice_get-map is_open pushed (length es) ∙ ap (option_map is_open) (get_pushed es fresh)) in
+        let one : one_at (length es) i ≡ 1 = subst (λ (k : ℕ). one_at (length es) k ≡ 1) here (one_at_same (length es)) in
+        omega (arith, old, none_past es i (omega arith), open_count_open (map is_open pushed) i flag))
         (λ (other : length es ≢ i).
-            let flag : slice_get (map is_open pushed) i ≡ slice_get (map is_open es) i =
-                slice_get-map is_open pushed i ∙ ap (option_map is_open) (get_pushed_other es fresh i (λ same. other (sym same))) ∙ sym (slice_get-map is_open es i) in
-            omega (arith, old, one_at_other (length es) i other, open_count-same (map is_open es) (map is_open pushed) i flag))
+        let flag : slice_get (map is_open pushed) i ≡ slice_get (map is_open es) i =
+        slice_get-map is_open pushed i ∙ ap (option_map is_open) (get_pushed_other es fresh i (λ same. other (sym same))) ∙ sym (slice_get-map is_open es i) in
+        omega (arith, old, one_at_other (length es) i other, open_count-same (map is_open es) (map is_open pushed) i flag))
         (cases_eq (length es) i)
 
     lists_pushed : HaveOpen before pushed (length es) root
@@ -185,13 +188,16 @@ module _ {N : Type 0} (before : N → N → Bool) where
       small = omega (arith, length-append es (fresh ∷ []));
     }
 
-    pub beside_pushed : AreBeside before pushed root (length es)
+    beside_pushed : AreBeside before pushed root (length es)
     unfolding lists_pushed
     beside_pushed = record {
       lists = lists_pushed;
       alone = omega (arith, all.alone, list_len-seconds before pushed (length es) root lists_pushed, list_len-seconds before es NONE root have);
       last = ap (λ o. option_map_or (λ (e : Entry N). e.next) o NONE) (get_pushed es fresh);
     }
+
+    pub beside_added : (id : ℕ) → length es ≡ id → AreBeside before pushed root id
+    beside_added id id_is = subst (λ (k : ℕ). AreBeside before pushed root k) id_is beside_pushed
 
 module _ {N : Type 0} where
   -- what is known of the node at a number is known of the entry there

@@ -1,5 +1,5 @@
 -- How a pool lays out its nodes. No public clause cites this module.
-use Rattle.std.specs.Prelude.{◌≡◌, ℕ, zero, suc, List, [], ◌∷◌, length, map, Bool, not, nat_eq, if◌then◌else◌, Option, Some, None, slice_get}
+use Rattle.std.specs.Prelude.{◌≡◌, ℕ, zero, suc, ◌-◌, ◌^◌, min, List, [], ◌∷◌, length, map, Bool, not, nat_eq, if◌then◌else◌, Option, Some, None, slice_get}
 use Rattle.std.specs.Option.{option_map_or}
 use Rattle.open_list.specs.declared.entry.Entry.{Entry}
 use Rattle.open_list.specs.declared.entry.TheConstants.{NONE, CLOSED}
@@ -9,6 +9,10 @@ abbrev pub changed : {X : Type 0} → (X → X) → ℕ → List X → List X
 changed f i [] = []
 changed f zero (x ∷ xs) = f x ∷ xs
 changed f (suc i) (x ∷ xs) = x ∷ changed f i xs
+
+-- how many more entries fit with no allocation, as far as the limit on their number goes
+abbrev pub spare_of : ℕ → ℕ → ℕ
+spare_of len capacity = min capacity (2 ^ 28 - 1) - len
 
 module _ {N : Type 0} where
   -- the entry of a node that is not closed

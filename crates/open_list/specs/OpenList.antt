@@ -12,6 +12,10 @@ module _ {N : Type 0} where
   abbrev pub IsOpen : OpenList N → ℕ → Type 0
   IsOpen pool id = slice_get pool.open_at id ≡ Some true
 
+  -- no node is open
+  abbrev pub HasNoneOpen : OpenList N → Type 0
+  HasNoneOpen pool = (id : ℕ) → ¬ IsOpen pool id
+
   -- the number is that of an open node that no open node is before
   pub record IsFirst (before : N → N → Bool) (pool : OpenList N) (id : ℕ) : Type 0 where
     pub is_open : IsOpen pool id
