@@ -1,14 +1,13 @@
 -- Lists of heaps stay as they are, where an entry is changed that is not theirs.
-use Rattle.std.proofs.Common.{◌≡◌, ◌≢◌, ℕ, ◌+◌, ◌<◌, ◌≤◌, Bool, true, false, List, length, Some, slice_get, refl, sym, ap, ◌∙◌, arith}
+use Rattle.std.proofs.Common.{◌≡◌, ◌≢◌, ℕ, ◌<◌, ◌≤◌, Bool, false, List, Some, slice_get, sym, ap, ◌∙◌, arith}
 use Rattle.std.proofs.Common.{◌++◌, ⊎_elim}
 use Rattle.std.proofs.lemmas.Bool.{cases_eq, cases_lt}
 use Rattle.std.proofs.lemmas.Option.{same_Some}
 use Rattle.std.proofs.Common.{subst}
 use Rattle.open_list.specs.Order.{IsStrictWeakOrder}
 use Rattle.open_list.specs.declared.entry.Entry.{Entry}
-use Rattle.open_list.specs.declared.entry.TheConstants.{NONE}
 use Rattle.open_list.specs.Entry.{changed, with_prev}
-use Rattle.open_list.specs.Heaps.{Heaps, no_heap, heap, first_id, count_at, one_at, AreChildren, AreRoots}
+use Rattle.open_list.specs.Heaps.{Heaps, no_heap, heap, first_id, count_at, AreChildren, AreRoots}
 use Rattle.open_list.proofs.Changes.{get-changed, get-changed_other, get-append_left}
 use Rattle.open_list.proofs.Counts.{one_at_same, one_at_other, apart_from_one_at}
 

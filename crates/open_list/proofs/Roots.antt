@@ -1,15 +1,11 @@
 -- The heap that has every open node.
-use Rattle.std.proofs.Common.{◌≡◌, ◌≢◌, ⊎_elim, ℕ, suc, ◌+◌, ◌<◌, ◌≤◌, ◌^◌, Bool, true, false, not, List, length, map, Some, slice_get, nat_eq, refl, sym, ap, subst, ◌∙◌, arith}
-use Rattle.std.specs.Option.{option_map_or}
+use Rattle.std.proofs.Common.{◌≡◌, ◌≢◌, ℕ, suc, ◌+◌, ◌<◌, ◌≤◌, ◌^◌, Bool, List, length, map, Some, slice_get, refl, ap, ◌∙◌, arith}
 use Rattle.std.proofs.lemmas.Option.{slice_get_within}
 use Rattle.open_list.specs.declared.entry.Entry.{Entry}
-use Rattle.open_list.specs.declared.entry.TheConstants.{NONE, CLOSED}
-use Rattle.open_list.specs.Entry.{changed, detached, relinked, next_of, prev_of, is_open, list_len, KeepsNodes, with_prev, with_next}
-use Rattle.open_list.specs.Heaps.{Heaps, no_heap, heap, first_id, count_at, node_count, heap_count, one_at, open_count, AreChildren, AreRoots, HaveOpen, IsHeap, IsDetached}
-use Rattle.open_list.proofs.Changes.{get-changed, get-changed_other, length-changed, map-changed}
-use Rattle.open_list.proofs.Counts.{one_at_same, one_at_other, apart_from_one_at, open_count-le, none_past, open_from_count, open_with_link, entry_at, open_within}
-use Rattle.open_list.proofs.Forests.{StartsWith, starts_with, list_len-firsts, list_len-seconds}
-use Rattle.open_list.proofs.Cuts.{cut, later, IsCut, child_link}
+use Rattle.open_list.specs.declared.entry.TheConstants.{NONE}
+use Rattle.open_list.specs.Entry.{is_open}
+use Rattle.open_list.specs.Heaps.{Heaps, no_heap, heap, first_id, count_at, node_count, heap_count, one_at, open_count, AreChildren, AreRoots, IsHeap}
+use Rattle.open_list.proofs.Forests.{starts_with, list_len-seconds}
 
 module _ {N : Type 0} (before : N → N → Bool) where
   -- the heap of `root` has each open node once

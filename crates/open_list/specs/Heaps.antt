@@ -1,8 +1,8 @@
 -- The heaps that the links of a pool stand for. No public clause cites this module.
-use Rattle.std.specs.Prelude.{◌≡◌, ℕ, ◌+◌, ◌≤◌, ◌<◌, ◌^◌, suc, List, length, map, Bool, true, false, nat_eq, if◌then◌else◌, Option, Some, None, slice_get}
+use Rattle.std.specs.Prelude.{◌≡◌, ℕ, ◌+◌, ◌≤◌, ◌<◌, ◌^◌, suc, List, length, map, Bool, false, nat_eq, if◌then◌else◌, Some, slice_get}
 use Rattle.std.specs.Option.{option_map_or}
 use Rattle.open_list.specs.declared.entry.Entry.{Entry}
-use Rattle.open_list.specs.declared.entry.TheConstants.{NONE, CLOSED}
+use Rattle.open_list.specs.declared.entry.TheConstants.{NONE}
 use Rattle.open_list.specs.Entry.{is_open, next_of, list_len, KeepsNodes}
 
 -- a list of heaps: the first one's number, node and list of children, and the rest of the list

@@ -1,4 +1,3 @@
-use Rattle.std.proofs.Common.{arith}
 use Rattle.open_list.proofs.Counts.{open_count_open}
 use Rattle.open_list.proofs.Firsts.{flag_within}
 use Rattle.open_list.proofs.pool.Pool.lower.Goals as goal
