@@ -1,8 +1,8 @@
 -- Rows that break nothing, and their bytes in order.
-use Rattle.std.proofs.Common.{◌≡◌, ℕ, zero, suc, ◌+◌, ◌*◌, ◌<◌, ◌≤◌, Bool, true, not, eqb, List, [], ◌∷◌, ◌++◌, length, get_or, take, drop, Option, Some, None, refl, sym, ap, subst, ◌∙◌, inl, inr, arith}
+use Rattle.std.proofs.Common.{◌≡◌, ℕ, zero, suc, ◌+◌, ◌*◌, ◌<◌, ◌≤◌, Bool, true, false, not, eqb, List, [], ◌∷◌, ◌++◌, length, get_or, take, drop, Option, Some, None, refl, sym, ap, subst, ◌∙◌, inl, inr, arith}
 use Rattle.std.specs.Prelude.{slice_get, position}
-use Rattle.std.specs.List.{list_all, AllByRecursion, concat}
-use Rattle.std.proofs.lemmas.Bool.{cases_Bool, and_from, eq-eqb, eqb-true, le-ltb, not-false, not_from_true}
+use Rattle.std.specs.List.{list_all, list_any, AllByRecursion, concat}
+use Rattle.std.proofs.lemmas.Bool.{cases_Bool, and_from, eq-eqb, eqb-true, le-ltb, not-false, not_from_true, or_parts}
 use Rattle.std.proofs.lemmas.List.{length-append, get_or_default, append-nil, append_assoc}
 use Rattle.std.proofs.lemmas.List.Folds.{list_all-append}
 use Rattle.std.proofs.lemmas.Option.{same_Some}
@@ -36,12 +36,26 @@ row_right number width (Some row) none =
       | inr other ↦ absurd (cc (rw other at none))
     ]
 
+-- where no byte passes, no place does
+nowhere : (p : ℕ → Bool) (bytes : List ℕ) → ((k : ℕ) → k < length bytes → p (get_or bytes k 0) ≡ false) → position p bytes ≡ None
+nowhere p bytes none =
+    let end = position_or_len_is p bytes (length bytes) 0 (omega arith) none (λ below. absurd (omega arith)) in
+    let long : length bytes ≤ length bytes = omega arith in
+    rw (end, le-ltb (length bytes) (length bytes) long) refl
+
+none_passes : (p : ℕ → Bool) (bytes : List ℕ) → list_any p bytes ≡ false → (k : ℕ) → k < length bytes → p (get_or bytes k 0) ≡ false
+none_passes p [] none k below = absurd (omega arith)
+none_passes p (byte ∷ bytes) none zero below = (or_parts (p byte) (list_any p bytes) none).0
+none_passes p (byte ∷ bytes) none (suc k) below = none_passes p bytes (or_parts (p byte) (list_any p bytes) none).1 k (omega arith)
+
+pub position_nowhere : (p : ℕ → Bool) (bytes : List ℕ) → list_any p bytes ≡ false → position p bytes ≡ None
+position_nowhere p bytes none = nowhere p bytes (none_passes p bytes none)
+
 -- a row breaks nothing
 pub row_fine : (number width : ℕ) (row : List ℕ) → IsRow width row → row_fault number width (Some row) ≡ None
 row_fine number width row is =
-    let end = position_or_len_is (λ byte. not (is_terrain byte)) row (length row) 0 (omega arith) (λ k below. not_from_true (is_terrain (get_or row k 0)) (AllPass-from_list_all is_terrain row is.terrain k 0 below)) (λ below. absurd (omega arith)) in
-    let long : length row ≤ length row = omega arith in
-    rw (eq-eqb (length row) width is.long, end, le-ltb (length row) (length row) long) refl
+    let none = nowhere (λ byte. not (is_terrain byte)) row (λ k below. not_from_true (is_terrain (get_or row k 0)) (AllPass-from_list_all is_terrain row is.terrain k 0 below)) in
+    rw (eq-eqb (length row) width is.long, none) refl
 
 -- a line after the rows that breaks nothing is empty
 pub after_right : (number : ℕ) (line : List ℕ) → after_fault number (Some line) ≡ None → line ≡ []
