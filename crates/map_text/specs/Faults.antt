@@ -22,12 +22,12 @@ abbrev pub has_words : List (List ℕ) → Option (List ℕ) → Bool
 has_words words None = false
 has_words words (Some line) = pointwise bytes_eq (fields_of line) words
 
--- the number on a line whose fields are the word and a number
+-- the number that two fields, the word and a number, name
 abbrev pub side_in : List ℕ → List (List ℕ) → Option ℕ
 side_in word (name ∷ number ∷ []) = if bytes_eq name word then number_of number else None
 side_in word _ = None
 
--- the same of a line that may be absent
+-- the number that a line names so, where the line is there
 abbrev pub side_on : List ℕ → Option (List ℕ) → Option ℕ
 side_on word line = option_and_then (λ there. side_in word (fields_of there)) line
 
@@ -55,10 +55,11 @@ abbrev pub after_fault : ℕ → Option (List ℕ) → Option MapFault
 after_fault number None = None
 after_fault number (Some line) = if is_nothing line then None else Some (After number)
 
--- the sides that the second and the third line name, 0 where they name none
+-- the height that the second line names, 0 where it names none
 abbrev pub height_of : List (List ℕ) → ℕ
 height_of lines = unwrap_or (side_on (codes "height") (slice_get lines 1)) 0
 
+-- the width that the third line names, 0 where it names none
 abbrev pub width_of : List (List ℕ) → ℕ
 width_of lines = unwrap_or (side_on (codes "width") (slice_get lines 2)) 0
 
@@ -86,7 +87,8 @@ abbrev pub reading : Option MapFault → Map → Result Map MapFault
 reading None map = Ok map
 reading (Some fault) map = Err fault
 
--- what a text is read as: its map, or the fault of its first broken line. The place after the last line is judged too, as a line may be absent.
+-- what a text is read as: its map, or the fault of its first broken line; the place after the last line is judged too,
+-- as a line may be absent
 unfoldable pub map_of : List ℕ → Result Map MapFault
 map_of text = let lines = lines_of text in reading (first_fault lines 0 (length lines + 1)) (map_on lines)
 

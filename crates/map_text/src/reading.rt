@@ -1,6 +1,7 @@
 //! Reading a map from its text.
 
-ghost use Rattle.std.specs.Prelude.{◌≡◌, ◌≢◌, ◌≤◌, ◌^◌, length, map, not, position, Some, None, Ok, Err, IfOk, IfErr, MatchResult};
+ghost use Rattle.std.specs.Prelude.{◌≡◌, ◌≢◌, ◌≤◌, ◌^◌, length, map, not, position};
+ghost use Rattle.std.specs.Prelude.{Some, Ok, Err, IfOk, IfErr, MatchResult};
 ghost use Rattle.std.specs.List.{list_any};
 ghost use Rattle.text_line.specs.Lines.{lines_of};
 ghost use Rattle.map_text.specs.declared.fault.MapFault.{MapFault};
@@ -8,8 +9,9 @@ ghost use Rattle.map_text.specs.declared.fault.MapFault.TheVariants.{NoMemory};
 ghost use Rattle.map_text.specs.Map.{Map, is_terrain as terrain};
 ghost use Rattle.map_text.specs.Spelling.{Spells};
 ghost use Rattle.map_text.specs.Faults as spec;
-ghost use Rattle.map_text.specs.Faults.{Tells, plain, map_of, bytes_of, side_on, row_fault, side_fault, BreaksFirst};
-ghost use Rattle.map_text.specs.Progress.{StandsAfterHeader};
+ghost use Rattle.map_text.specs.Faults.{bytes_of, side_on, side_fault, row_fault};
+ghost use Rattle.map_text.specs.Faults.{map_of, BreaksFirst, Tells, plain};
+ghost use Rattle.map_text.specs.Progress.{Judges, StandsAfterHeader};
 
 use crate::bytes::Bytes;
 use crate::fault::MapFault;
@@ -40,6 +42,7 @@ pub fn read_map(alloc: Global, text: &[u8]) -> Result<MapText, MapFault>
     read(alloc, text)
 }
 
+/// The same, whose clause is the one function of the text.
 fn read(alloc: Global, text: &[u8]) -> Result<MapText, MapFault>
     requires { length text.now ≤ 2 ^ 26 }
     ensures { Tells result (map_of text.now) }
@@ -65,7 +68,9 @@ fn read(alloc: Global, text: &[u8]) -> Result<MapText, MapFault>
 /// The height and the width that the four header lines name.
 fn header(lines: &mut Lines<'_>) -> Result<(u16, u16), MapFault>
     requires { lines.old.number ≡ 1 }
-    ensures { MatchResult result (StandsAfterHeader lines.old.lines lines.new) (BreaksFirst lines.old.lines) }
+    ensures { MatchResult result
+        (StandsAfterHeader lines.old.lines lines.new)
+        (BreaksFirst lines.old.lines) }
 {
     if !has_words(lines.next(), &[b"type", b"octile"]) {
         return Err(MapFault::Header { line: 1 });
@@ -97,7 +102,8 @@ fn has_words(line: Option<Line<'_>>, words: &[&[u8]]) -> bool
 
 /// The side that the line with this number names: its fields are the word and the side.
 fn side(line: Option<Line<'_>>, word: &[u8], number: u32) -> Result<u16, MapFault>
-    ensures { MatchResult result (λ side. (side_fault number (side_on word.now (bytes_of line.entry)) ≡ None) × (side_on word.now (bytes_of line.entry) ≡ Some side)) (λ fault. side_fault number (side_on word.now (bytes_of line.entry)) ≡ Some fault) }
+    ensures { let named = side_on word.now (bytes_of line.entry) in
+        Judges result (side_fault number named) (λ side. named ≡ Some side) }
 {
     match number_after(line, word) {
         None => Err(MapFault::Header { line: number }),
@@ -123,7 +129,8 @@ fn number_after(line: Option<Line<'_>>, word: &[u8]) -> Option<u32>
 
 /// The row that the line with this number is.
 fn row_of<'a>(line: Option<Line<'a>>, width: u16, number: u32) -> Result<&'a [u8], MapFault>
-    ensures { MatchResult result (λ row. (row_fault number width (bytes_of line.entry) ≡ None) × (bytes_of line.entry ≡ Some row.now)) (λ fault. row_fault number width (bytes_of line.entry) ≡ Some fault) }
+    ensures { let bytes = bytes_of line.entry in
+        Judges result (row_fault number width bytes) (λ row. bytes ≡ Some row.now) }
 {
     let Some(Line { bytes, .. }) = line else {
         return Err(MapFault::Missing { line: number });

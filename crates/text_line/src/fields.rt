@@ -47,7 +47,9 @@ impl<'a> Iterator for Fields<'a> {
 
 /// The first field of a line, if it has one, and the line after it.
 fn first_field(line: &[u8]) -> Option<(&[u8], &[u8])>
-    ensures { MatchOption result (fields_of line.now ≡ []) (λ cut. fields_of line.now ≡ cut.0.now ∷ fields_of cut.1.now) }
+    ensures { MatchOption result
+        (fields_of line.now ≡ [])
+        (λ cut. fields_of line.now ≡ cut.0.now ∷ fields_of cut.1.now) }
 {
     let start = place_of_field(line)?;
     let field = &line[start..];
