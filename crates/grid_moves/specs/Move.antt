@@ -1,5 +1,5 @@
 -- Legal moves: eight directions, and no corner is cut (Harabor and Grastien, SoCS 2012).
-use Rattle.std.specs.Prelude.{◌≡◌, ℕ, zero, suc, ◌+◌, Option, Some, None, Bool, true, false, nat_le, nat_eq, not, ◌&&◌, ◌||◌, refl, [], ◌∷◌, if◌then◌else◌, option_and_then}
+use Rattle.std.specs.Prelude.{◌≡◌, ℕ, zero, suc, ◌+◌, Option, Some, None, Bool, true, false, nat_le, nat_eq, not, ◌&&◌, ◌||◌, refl, List, [], ◌∷◌, if◌then◌else◌, option_and_then}
 use Rattle.root2_cost.specs.declared.Cost.{Cost}
 use Rattle.grid_moves.specs.declared.Cell.{Cell}
 use Rattle.grid_moves.specs.declared.Dir.{Dir}
@@ -30,6 +30,10 @@ is_legal g u v = are_neighbours u v && is_free g u && is_free g v && is_free g (
 -- a straight move costs 1, a diagonal one √2
 abbrev pub move_cost : Cell → Cell → Cost
 move_cost u v = if nat_eq u.x v.x || nat_eq u.y v.y then record { a = 1; b = 0 } else record { a = 0; b = 1 }
+
+-- the directions in increasing order, clockwise from north
+abbrev pub all_dirs : List Dir
+all_dirs = N ∷ NE ∷ E ∷ SE ∷ S ∷ SW ∷ W ∷ NW ∷ []
 
 -- one less, if there is one
 abbrev pub before : ℕ → Option ℕ

@@ -35,3 +35,15 @@ pub enum Dir {
     W,
     NW,
 }
+
+/// All eight directions in increasing order.
+pub const ALL_DIRS: [Dir; 8] = [
+    Dir::N,
+    Dir::NE,
+    Dir::E,
+    Dir::SE,
+    Dir::S,
+    Dir::SW,
+    Dir::W,
+    Dir::NW,
+];

@@ -1,2 +1,6 @@
 pub mod Walks
 pub mod Right
+pub mod Lists
+pub mod Tables
+pub mod Mirrors
+pub mod Offering

@@ -1,2 +1,6 @@
 pub mod Rule
 pub mod Found
+pub mod Node
+pub mod Table
+pub mod Mirror
+pub mod Ranks
