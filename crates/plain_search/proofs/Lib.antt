@@ -4,3 +4,4 @@ pub mod Lists
 pub mod Tables
 pub mod Mirrors
 pub mod Offering
+pub mod Relaxing

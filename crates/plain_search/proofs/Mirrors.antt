@@ -39,7 +39,7 @@ pub record Changed (w : ℕ) (v : Cell) (id : ℕ) (n : Node) (k l : Table) : Ty
 some_node : (m n : Node) → Some m ≡ Some n → m ≡ n
 some_node m n e = ap (λ (o : Option Node). elim o as (λ _. Node) [ Some v ↦ v | None ↦ m ]) e
 
-same_or_not : (b : Bool) → (b ≡ true) ⊎ (b ≡ false)
+pub same_or_not : (b : Bool) → (b ≡ true) ⊎ (b ≡ false)
 same_or_not true = inl refl
 same_or_not false = inr refl
 

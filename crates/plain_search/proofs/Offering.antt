@@ -1,5 +1,5 @@
 -- An offer keeps the run: with a new node, a lesser cost, or no change.
-use Rattle.std.proofs.Common.{◌≡◌, ◌≢◌, ℕ, ◌+◌, ◌*◌, ◌<◌, ◌≤◌, ◌⊎◌, inl, inr, length, List, [], ◌∷◌, ◌++◌, refl, ap, sym, ◌∙◌, subst, Bool, true, false, not, ◌&&◌, arith, get_or-set_other, get_or-set_same}
+use Rattle.std.proofs.Common.{◌≡◌, ◌≢◌, ℕ, ◌+◌, ◌*◌, ◌<◌, ◌≤◌, ◌⊎◌, inl, inr, length, List, [], ◌∷◌, ◌++◌, refl, ap, sym, ◌∙◌, subst, Bool, true, false, not, ◌&&◌, ◌||◌, arith, get_or-set_other, get_or-set_same}
 use Rattle.std.specs.Prelude.{Option, Some, None, slice_get, slice_set, slice_index_or, if◌then◌else◌, option_map, option_and_then}
 use Rattle.std.specs.Option.{option_map_or}
 use Rattle.std.proofs.lemmas.Option.{get_or_from_slice_get, slice_get_within}
@@ -61,7 +61,7 @@ module _ (g : GridData) (t : Cell) (run : List (Taken Cell)) (best : Cell → Op
   taken_node [] c y h = absurd (cc)
   taken_node (x ∷ rest) c y h = by_test (λ z. taken_node rest c z h.1) (is_same x.state c) refl y
     where
-      by_test : (is_taken (plain_rule g t) rest c ≡ true → (id : ℕ) × (n : Node) × (slice_get k.nodes id ≡ Some n) × (n.cell ≡ c)) → (b : Bool) → is_same x.state c ≡ b → (if b then true else is_taken (plain_rule g t) rest c) ≡ true → (id : ℕ) × (n : Node) × (slice_get k.nodes id ≡ Some n) × (n.cell ≡ c)
+      by_test : (is_taken (plain_rule g t) rest c ≡ true → (id : ℕ) × (n : Node) × (slice_get k.nodes id ≡ Some n) × (n.cell ≡ c)) → (b : Bool) → is_same x.state c ≡ b → (b || is_taken (plain_rule g t) rest c) ≡ true → (id : ℕ) × (n : Node) × (slice_get k.nodes id ≡ Some n) × (n.cell ≡ c)
       by_test again true e y = (h.0.id, h.0.node, h.0.node_is, h.0.cell ∙ is_same-cell x.state c e)
       by_test again false e y = again y
 
@@ -72,10 +72,10 @@ module _ (g : GridData) (t : Cell) (run : List (Taken Cell)) (best : Cell → Op
   lookup_taken c y = let h = taken_node run c y m.have in (h.0, h.1, h.2, h.3, found_of h.0 h.1 c h.2 h.3)
 
   module _ (v : Cell) (cost : Cost) (parent : ℕ) (p : Node) (free : is_free g v ≡ true) (parent_is : slice_get k.nodes parent ≡ Some p) (parent_taken : is_taken (plain_rule g t) run p.cell ≡ true) (short : cost.a + cost.b ≤ length run) (index_len : length k.index ≡ g.height * g.width) where
-    new : Node
+    abbrev pub new : Node
     new = node_for g.width t v cost parent
 
-    now : Offer Cell
+    abbrev pub now : Offer Cell
     now = record { cost = cost; from = p.cell }
 
     in_index : cell_number g.width v < length k.index
