@@ -11,7 +11,10 @@ pub data Gap : ℕ → ℕ → ℕ → ℕ → Type 0 where
 
 -- how two numbers differ
 pub differ : (m n : ℕ) → ((k : ℕ) × (n ≡ m + k)) ⊎ ((k : ℕ) × (m ≡ n + k) × (0 < k))
-differ m n = elim (order m n) [ inl h ↦ inl (n - m, omega arith) | inr h ↦ inr (m - n, omega arith, omega arith) ]
+differ m n = elim (order m n) [
+  | inl most ↦ inl (n - m, omega arith)
+  | inr more ↦ inr (m - n, omega arith, omega arith)
+]
   where
     order : (m n : ℕ) → (m ≤ n) ⊎ (n < m)
     order m n = grind arith

@@ -11,11 +11,12 @@ use Rattle.root2_cost.proofs.Squares.{irrational}
 -- two costs with the same parts are one
 pub same_cost : (p q : Cost) → p.a ≡ q.a → p.b ≡ q.b → p ≡ q
 same_cost p q e f =
-    let g : p ≡ record { a = q.a; b = p.b } = ap (λ (n : ℕ). let c : Cost = record { a = n; b = p.b } in c) e in
-    g ∙ ap (λ (n : ℕ). let c : Cost = record { a = q.a; b = n } in c) f
+    ap (λ (n : ℕ). let c : Cost = record { a = n; b = p.b } in c) e
+    ∙ ap (λ (n : ℕ). let c : Cost = record { a = q.a; b = n } in c) f
 
 -- where c - a is x and d - b is y
-pub positive_gap : (x y : ℤ) (a b c d : ℕ) → pos c -ℤ pos a ≡ x → pos d -ℤ pos b ≡ y → is_positive x y ≡ true → Gap a b c d
+pub positive_gap : (x y : ℤ) (a b c d : ℕ) → pos c -ℤ pos a ≡ x → pos d -ℤ pos b ≡ y
+    → is_positive x y ≡ true → Gap a b c d
 positive_gap (pos x) (pos y) a b c d e f h =
     both x y (omega (arith, ints)) (omega (arith, ints)) (grind (arith, nat_tests))
 positive_gap (pos x) (negsuc y) a b c d e f h =
@@ -25,7 +26,8 @@ positive_gap (negsuc x) (pos y) a b c d e f h =
 positive_gap (negsuc x) (negsuc y) a b c d e f h = absurd (cc)
 
 -- what is not positive is negative or nothing
-pub not_positive_gap : (x y : ℤ) (a b c d : ℕ) → pos c -ℤ pos a ≡ x → pos d -ℤ pos b ≡ y → is_positive x y ≡ false → Gap c d a b ⊎ ((a ≡ c) × (b ≡ d))
+pub not_positive_gap : (x y : ℤ) (a b c d : ℕ) → pos c -ℤ pos a ≡ x → pos d -ℤ pos b ≡ y
+    → is_positive x y ≡ false → Gap c d a b ⊎ ((a ≡ c) × (b ≡ d))
 not_positive_gap (pos x) (pos y) a b c d e f h =
     let none : x + y ≡ 0 = grind (arith, nat_tests) in inr (omega (arith, ints), omega (arith, ints))
 not_positive_gap (pos x) (negsuc y) a b c d e f h = elim (compared x (suc y)) [
@@ -88,7 +90,8 @@ same_from_neither p q g h = elim (IsLess-total p q) [
 ]
 
 -- of two costs that differ and of which the first isn't the lesser, the second is
-pub less_otherwise : (p q : Cost) → (nat_eq p.a q.a && nat_eq p.b q.b) ≡ false → is_less p q ≡ false → IsLess q p
+pub less_otherwise : (p q : Cost) → (nat_eq p.a q.a && nat_eq p.b q.b) ≡ false → is_less p q ≡ false
+    → IsLess q p
 less_otherwise p q g h = elim (IsLess-total p q) [
   | inl less ↦ absurd (cc)
   | inr (inl less) ↦ less

@@ -8,7 +8,8 @@ use Rattle.root2_cost.proofs.Gaps.{compared}
 use Rattle.root2_cost.proofs.Squares.{irrational}
 
 -- x + y√2 is not 0, so where it is not positive its opposite is
-pub opposite_positive : (x y : ℤ) → (int_eq x (pos 0) && int_eq y (pos 0)) ≡ false → is_positive x y ≡ false → is_positive (neg_ℤ x) (neg_ℤ y) ≡ true
+pub opposite_positive : (x y : ℤ) → (int_eq x (pos 0) && int_eq y (pos 0)) ≡ false → is_positive x y ≡ false
+    → is_positive (neg_ℤ x) (neg_ℤ y) ≡ true
 opposite_positive (pos zero) (pos zero) g h = absurd (cc)
 opposite_positive (pos zero) (pos (suc y)) g h = absurd (grind (arith, nat_tests))
 opposite_positive (pos (suc x)) (pos y) g h = absurd (grind (arith, nat_tests))

@@ -30,12 +30,18 @@ products_above u v r s h k =
     root_at_most (2 * (v * s)) (u * r) (omega arith)
 
 -- from u ≤ v√2 and r < s√2: u + r < (v + s)√2
-pub sums_below : (u v r s : ℕ) → u * u ≤ 2 * (v * v) → r * r < 2 * (s * s) → (u + r) * (u + r) < 2 * ((v + s) * (v + s))
-sums_below u v r s h k = let cross : u * r ≤ 2 * (v * s) = products_below u v r s h (omega arith) in omega arith
+pub sums_below : (u v r s : ℕ) → u * u ≤ 2 * (v * v) → r * r < 2 * (s * s)
+    → (u + r) * (u + r) < 2 * ((v + s) * (v + s))
+sums_below u v r s h k =
+    let cross : u * r ≤ 2 * (v * s) = products_below u v r s h (omega arith) in
+    omega arith
 
 -- from u ≥ v√2 and r > s√2: u + r > (v + s)√2
-pub sums_above : (u v r s : ℕ) → 2 * (v * v) ≤ u * u → 2 * (s * s) < r * r → 2 * ((v + s) * (v + s)) < (u + r) * (u + r)
-sums_above u v r s h k = let cross : 2 * (v * s) ≤ u * r = products_above u v r s h (omega arith) in omega arith
+pub sums_above : (u v r s : ℕ) → 2 * (v * v) ≤ u * u → 2 * (s * s) < r * r
+    → 2 * ((v + s) * (v + s)) < (u + r) * (u + r)
+sums_above u v r s h k =
+    let cross : 2 * (v * s) ≤ u * r = products_above u v r s h (omega arith) in
+    omega arith
 
 -- a number is twice its half, or one more
 halves : (x : ℕ) → (x ≡ 2 * (x / 2)) ⊎ (x ≡ 2 * (x / 2) + 1)

@@ -24,6 +24,7 @@ SumsKeepOrder = (r p q : Cost) → IsLess p q ↔ IsLess (add_costs p r) (add_co
 abbrev pub SquaresDecide : Type 0
 SquaresDecide = (m n : ℕ) → IsLess (record { a = m; b = 0 }) (record { a = 0; b = n }) ↔ (m * m < 2 * (n * n))
 
--- what lies j and k columns on, i and l rows on, is no farther than both distances together
+-- where j and k columns reach over m, and i and l rows over n, their distances reach over that of m and n
 abbrev pub DistancesAdd : Type 0
-DistancesAdd = (m n j i k l : ℕ) → m ≤ j + k → n ≤ i + l → IsAtMost (octile_cost m n) (add_costs (octile_cost j i) (octile_cost k l))
+DistancesAdd = (m n j i k l : ℕ) → m ≤ j + k → n ≤ i + l
+    → IsAtMost (octile_cost m n) (add_costs (octile_cost j i) (octile_cost k l))

@@ -2,3 +2,4 @@ pub mod Laws
 pub mod Order
 pub mod Signed
 pub mod Sums
+pub mod Verdict

@@ -9,17 +9,22 @@ ghost use Rattle.std.specs.Prelude.{◌≡◌, ◌+◌, ◌<◌, ◌^◌, ◌↔
 ghost use Rattle.std.specs.Ordering.{MatchOrdering};
 ghost use Rattle.std.specs.Int.RustNames.{unsigned_abs};
 ghost use Rattle.root2_cost.specs.Order.{is_positive, is_less, IsLess};
-ghost use Rattle.root2_cost.specs.Signed.{cost_difference, IsAboveZero, IsBelowZero, IsZero};
+ghost use Rattle.root2_cost.specs.Signed.{cost_difference, opposite, lowered, is_within, IsAboveZero, IsBelowZero, IsZero};
 ghost use Rattle.root2_cost.specs.Sums.{add_costs, octile_cost};
 
 use std::cmp::Ordering;
 
 pub mod laws;
+mod lengths;
+
+pub use lengths::{Decimal, Verdict, judge};
 
 /// A cost: `a` straight moves and `b` diagonal moves, with the value a + b√2.
 #[derive(Clone, Copy, Debug, PartialEq, Eq)]
 pub struct Cost {
+    /// Straight moves.
     pub a: u32,
+    /// Diagonal moves.
     pub b: u32,
 }
 
@@ -101,12 +106,15 @@ pub fn octile(dx: u32, dy: u32) -> Cost
 /// A difference of two costs: the value a + b√2 with parts of either sign.
 #[derive(Clone, Copy, Debug, PartialEq, Eq)]
 pub struct Signed {
+    /// Straight moves, less than 0 where the second cost has more.
     pub a: i64,
+    /// Diagonal moves, likewise.
     pub b: i64,
 }
 
 impl Signed {
-    /// Compares the value with 0: `Equal` exactly where both parts are 0.
+    /// Compares the value, whose parts are below 2^40 in amount, with 0: `Equal` exactly where both
+    /// parts are 0.
     #[tactic(auto, using(crate::proofs::Signs::opposite_positive))]
     pub fn sign(self) -> Ordering
         requires a { unsigned_abs self.a < 2 ^ 40 }
@@ -139,5 +147,78 @@ impl Signed {
         } else {
             0 < x + y
         }
+    }
+
+    /// Whether the value differs from 0 by at most `most`.
+    pub(crate) fn is_within(self, most: u64) -> bool
+        requires a { unsigned_abs self.a < 2 ^ 61 }
+        requires b { unsigned_abs self.b < 2 ^ 61 }
+        requires most { most < 2 ^ 61 }
+        ensures { result ≡ is_within most self }
+    {
+        !self.lowered(most).is_positive() && !self.opposite().lowered(most).is_positive()
+    }
+
+    /// The value less `amount`.
+    fn lowered(self, amount: u64) -> Signed
+        requires a { unsigned_abs self.a < 2 ^ 61 }
+        requires amount { amount < 2 ^ 61 }
+        ensures value { result ≡ lowered self amount }
+        ensures bound { unsigned_abs result.a < 2 ^ 62 }
+    {
+        Signed {
+            a: self.a - amount as i64,
+            b: self.b,
+        }
+    }
+
+    /// The value with the other sign.
+    fn opposite(self) -> Signed
+        requires a { unsigned_abs self.a < 2 ^ 61 }
+        requires b { unsigned_abs self.b < 2 ^ 61 }
+        ensures value { result ≡ opposite self }
+        ensures a { unsigned_abs result.a < 2 ^ 61 }
+        ensures b { unsigned_abs result.b < 2 ^ 61 }
+    {
+        Signed {
+            a: -self.a,
+            b: -self.b,
+        }
+    }
+}
+
+#[cfg(test)]
+mod tests {
+    use super::*;
+
+    fn cost(a: u32, b: u32) -> Cost {
+        Cost { a, b }
+    }
+
+    // 1414 / 1000 is just below √2, and 99 / 70 just above.
+    #[test]
+    fn costs_compare_by_value(rt: HostRuntime) {
+        for (x, y, order) in [
+            (cost(1414, 0), cost(0, 1000), Ordering::Less),
+            (cost(99, 0), cost(0, 70), Ordering::Greater),
+            (cost(4, 1), cost(1, 3), Ordering::Greater),
+            (cost(3, 2), cost(3, 2), Ordering::Equal),
+        ] {
+            assert_eq!(rt; cmp(x, y), order, "{x:?} and {y:?}");
+        }
+    }
+
+    #[test]
+    fn a_difference_has_a_sign(rt: HostRuntime) {
+        assert_eq!(rt; cost(7, 0).minus(cost(0, 5)).sign(), Ordering::Less);
+        assert_eq!(rt; cost(0, 5).minus(cost(7, 0)).sign(), Ordering::Greater);
+        assert_eq!(rt; cost(3, 2).minus(cost(3, 2)).sign(), Ordering::Equal);
+    }
+
+    #[test]
+    fn distances_go_diagonally_first(rt: HostRuntime) {
+        assert_eq!(rt; octile(5, 2), cost(3, 2));
+        assert_eq!(rt; octile(2, 5), cost(3, 2));
+        assert_eq!(rt; octile(4, 4).add(octile(0, 3)), cost(3, 4));
     }
 }
