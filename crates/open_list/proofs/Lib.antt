@@ -1,0 +1,10 @@
+pub mod Changes
+pub mod Counts
+pub mod Frames
+pub mod Forests
+pub mod Cuts
+pub mod Roots
+pub mod Detached
+pub mod Turns
+pub mod Adoption
+pub mod Firsts

@@ -1,0 +1,4 @@
+pub mod Order
+pub mod OpenList
+pub mod Entry
+pub mod Heaps
