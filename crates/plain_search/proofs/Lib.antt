@@ -5,3 +5,5 @@ pub mod Tables
 pub mod Mirrors
 pub mod Offering
 pub mod Relaxing
+pub mod Bounds
+pub mod Taking

@@ -1,12 +1,12 @@
 -- How a table keeps the run of a search. No public clause cites this module.
-use Rattle.std.specs.Prelude.{◌≡◌, ℕ, ◌+◌, ◌≤◌, Bool, true, false, not, List, [], ◌∷◌, length, Option, Some, None, option_and_then, option_map, if◌then◌else◌, slice_get, slice_index_or, fold, ⊤}
+use Rattle.std.specs.Prelude.{◌≡◌, ℕ, ◌+◌, ◌*◌, ◌≤◌, Bool, true, false, not, List, [], ◌∷◌, length, Option, Some, None, option_and_then, option_map, if◌then◌else◌, slice_get, slice_index_or, fold, ⊤}
 use Rattle.root2_cost.specs.declared.Cost.{Cost}
 use Rattle.root2_cost.specs.Sums.{add_costs}
 use Rattle.grid_moves.specs.declared.Cell.{Cell}
 use Rattle.grid_moves.specs.declared.Dir.{Dir}
 use Rattle.grid_moves.specs.Grid.{GridData, cell_number, is_free}
 use Rattle.grid_moves.specs.Move.{is_same, legal_ahead, move_cost}
-use Rattle.search_run.specs.Run.{Rule, Taken, Offer, lesser, is_taken}
+use Rattle.search_run.specs.Run.{Rule, Taken, Offer, lesser, least_offer, is_taken, has_goal, IsRun}
 use Rattle.plain_search.specs.Rule.{plain_rule}
 use Rattle.plain_search.specs.Table.{Table, lookup, node_for}
 use Rattle.plain_search.specs.declared.node.Node.{Node}
@@ -65,3 +65,15 @@ with_ahead u (Some v) best = with_offer best v (record { cost = add_costs u.cost
 abbrev pub with_all_ahead : GridData → Taken Cell → (Cell → Option (Offer Cell)) → List Dir → Cell → Option (Offer Cell)
 with_all_ahead g u best [] = best
 with_all_ahead g u best (d ∷ dirs) = with_all_ahead g u (with_ahead u (legal_ahead g u.state d) best) dirs
+
+-- the search has taken x last, and has not made its offers yet; its node has this number
+pub record IsSearching (g : GridData) (s t : Cell) (x : Taken Cell) (earlier : List (Taken Cell)) (at : ℕ) (k : Table) : Type 0 where
+  pub run : IsRun (plain_rule g t) s (x ∷ earlier)
+  pub no_goal : has_goal (plain_rule g t) earlier ≡ false
+  pub mirrors : Mirrors g t (x ∷ earlier) (least_offer (plain_rule g t) earlier) k
+  pub node : Node
+  pub node_is : slice_get k.nodes at ≡ Some node
+  pub cell : node.cell ≡ x.state
+  pub cost : node.cost ≡ x.cost
+  pub short : x.cost.a + x.cost.b ≤ length earlier
+  pub index : length k.index ≡ g.height * g.width
