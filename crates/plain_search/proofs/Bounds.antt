@@ -98,14 +98,13 @@ module _ (g : GridData) (t : Cell) (s : Cell) (free : is_free g s ≡ true) wher
   unfolding number
   apart x [] f n fs = tt
   apart x (u ∷ some) f n fs =
-      let parts = or_false (is_same u.state x) (is_taken (plain_rule g t) some x) n in
-      (
+      let parts = or_false (is_same u.state x) (is_taken (plain_rule g t) some x) n in (
         differ (cell_number g.width x) (cell_number g.width u.state) (λ e.
-          let one : x ≡ u.state = one_cell g.width x u.state (free_inside g x f).0 (free_inside g u.state (fs u (here some))).0 e in
-          let yes : is_same u.state x ≡ true = ap (λ (c : Cell). is_same u.state c) one ∙ is_same-itself u.state in
-          let no = parts.0 in
-          cc),
-        apart x some f parts.1 (λ w m. fs w (there u some m))
+            let one : x ≡ u.state = one_cell g.width x u.state (free_inside g x f).0 (free_inside g u.state (fs u (here some))).0 e in
+            let yes : is_same u.state x ≡ true = ap (λ (c : Cell). is_same u.state c) one ∙ is_same-itself u.state in
+            let no = parts.0 in
+            cc),
+        apart x some f parts.1 (λ w m. fs w (there u some m)),
       )
 
   distinct_run : (run : List (Taken Cell)) → IsRun (plain_rule g t) s run → IsDistinct eqb (map number run)
@@ -121,10 +120,10 @@ module _ (g : GridData) (t : Cell) (s : Cell) (free : is_free g s ≡ true) wher
   few_taken run is =
       subst (λ n. n ≤ g.height * g.width) (length-map number run)
       (length-le_from_distinct_below (map number run) (g.height * g.width) (distinct_run run is) (λ q h.
-        let i = any_is (map number run) q h in
-        let u = get-map number run i.0 q i.1 in
-        let p = free_inside g u.0.state (run_free run is u.0 (member run i.0 u.0 u.1)) in
-        subst (λ v. v < g.height * g.width) u.2 (number_below g.width g.height u.0.state p.0 p.1)))
+      let i = any_is (map number run) q h in
+      let u = get-map number run i.0 q i.1 in
+      let p = free_inside g u.0.state (run_free run is u.0 (member run i.0 u.0 u.1)) in
+      subst (λ v. v < g.height * g.width) u.2 (number_below g.width g.height u.0.state p.0 p.1)))
     where
       member : (xs : List (Taken Cell)) (i : ℕ) (u : Taken Cell) → slice_get xs i ≡ Some u → IsIn u xs
       member [] i u h = absurd (cc)

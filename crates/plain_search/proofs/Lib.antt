@@ -7,3 +7,5 @@ pub mod Offering
 pub mod Relaxing
 pub mod Bounds
 pub mod Taking
+pub mod Searching
+pub mod Tracing

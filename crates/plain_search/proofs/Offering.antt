@@ -108,10 +108,9 @@ module _ (g : GridData) (t : Cell) (run : List (Taken Cell)) (best : Cell → Op
     -- the node of a waiting cell keeps its least offer
     least_kept : (id : ℕ) (n : Node) → slice_get k.nodes id ≡ Some n → n.cell ≡ v → is_taken (plain_rule g t) run v ≡ false → (from : Cell) × (best v ≡ Some (record { cost = n.cost; from = from }))
     least_kept id n h e z =
-        let o = m.in_order id n h in
-        (
+        let o = m.in_order id n h in (
           o.parent.cell,
-          sym (m.waits v free z) ∙ ap (λ (c : Cell). kept k g.width c) (sym e) ∙ kept-node k g.width id n h o.placed ∙ ap (λ (q : Option Node). option_map (λ (x : Node). let r : Offer Cell = record { cost = n.cost; from = x.cell } in r) q) o.parent_is
+          sym (m.waits v free z) ∙ ap (λ (c : Cell). kept k g.width c) (sym e) ∙ kept-node k g.width id n h o.placed ∙ ap (λ (q : Option Node). option_map (λ (x : Node). let r : Offer Cell = record { cost = n.cost; from = x.cell } in r) q) o.parent_is,
         )
 
     changed_by_adding : lookup k g.width v ≡ None → Changed g.width v (length k.nodes) new k (added g.width new k)

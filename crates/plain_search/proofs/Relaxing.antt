@@ -59,10 +59,10 @@ module _ (g : GridData) (t : Cell) (run : List (Taken Cell)) (id : ℕ) (u : Nod
       by_test false = omega arith
 
   -- what holds of the table while the state makes its offers
-  record Relaxing (best : Cell → Option (Offer Cell)) (k : Table) : Type 0 where
-    mirrors : Mirrors g t run best k
-    slot : slice_get k.nodes id ≡ Some u
-    index : length k.index ≡ g.height * g.width
+  pub record Relaxing (best : Cell → Option (Offer Cell)) (k : Table) : Type 0 where
+    pub mirrors : Mirrors g t run best k
+    pub slot : slice_get k.nodes id ≡ Some u
+    pub index : length k.index ≡ g.height * g.width
 
   over : (best : Cell → Option (Offer Cell)) (k : Table) (d : Dir) (o : Option Cell) → legal_ahead g u.cell d ≡ o → Relaxing best k → Relaxing (with_ahead by_u o best) (offered_over o g.width t id u k)
   over best k d None e r = r
@@ -75,7 +75,7 @@ module _ (g : GridData) (t : Cell) (run : List (Taken Cell)) (id : ℕ) (u : Nod
         index = index-over g.width t (Some v) id u k ∙ r.index;
       }
 
-  all_over : (dirs : List Dir) (best : Cell → Option (Offer Cell)) (k : Table) → Relaxing best k → Relaxing (with_all_ahead g by_u best dirs) (offered_ahead g t id u k dirs)
+  pub all_over : (dirs : List Dir) (best : Cell → Option (Offer Cell)) (k : Table) → Relaxing best k → Relaxing (with_all_ahead g by_u best dirs) (offered_ahead g t id u k dirs)
   all_over [] best k r = r
   all_over (d ∷ dirs) best k r =
       all_over dirs (with_ahead by_u (legal_ahead g u.cell d) best) (offered_over (legal_ahead g u.cell d) g.width t id u k)

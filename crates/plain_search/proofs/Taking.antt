@@ -103,9 +103,9 @@ module _ (g : GridData) (t : Cell) (run : List (Taken Cell)) (k : Table) (m : Mi
           waits = untaken;
           offered = sym (m.waits n.cell order.free untaken) ∙ kept-node k g.width id n n_is order.placed ∙ rw order.parent_is refl;
           first = λ s o w h.
-            let f = waiting_node s o w h in
-            let r : goes_before (plain_rule g t) f.node.cell f.node.cost n.cell n.cost ≡ false = sym (rank_is f.id id f.node n f.node_is n_is) ∙ first f.id f.node f.is_open f.node_is in
-            subst (λ (c : Cost). goes_before (plain_rule g t) s c n.cell n.cost ≡ false) f.cost (subst (λ (c : Cell). goes_before (plain_rule g t) c f.node.cost n.cell n.cost ≡ false) f.cell r);
+              let f = waiting_node s o w h in
+              let r : goes_before (plain_rule g t) f.node.cell f.node.cost n.cell n.cost ≡ false = sym (rank_is f.id id f.node n f.node_is n_is) ∙ first f.id f.node f.is_open f.node_is in
+              subst (λ (c : Cost). goes_before (plain_rule g t) s c n.cell n.cost ≡ false) f.cost (subst (λ (c : Cell). goes_before (plain_rule g t) c f.node.cost n.cell n.cost ≡ false) f.cell r);
         }
 
     -- the table with that node closed

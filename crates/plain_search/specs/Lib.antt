@@ -3,4 +3,5 @@ pub mod Found
 pub mod Node
 pub mod Table
 pub mod Mirror
+pub mod Trace
 pub mod Ranks

@@ -3,12 +3,13 @@ use Rattle.std.specs.Prelude.{◌≡◌, ℕ, Bool, true, false, ◌&&◌, List,
 use Rattle.std.specs.Option.{option_map_or}
 use Rattle.root2_cost.specs.declared.Cost.{Cost}
 use Rattle.root2_cost.specs.Order.{is_less}
-use Rattle.root2_cost.specs.Sums.{add_costs}
+use Rattle.root2_cost.specs.Sums.{add_costs, no_cost}
 use Rattle.grid_moves.specs.declared.Cell.{Cell}
 use Rattle.grid_moves.specs.declared.Dir.{Dir}
 use Rattle.grid_moves.specs.Grid.{GridData, cell_number}
 use Rattle.grid_moves.specs.Move.{is_same, legal_ahead, move_cost, all_dirs}
 use Rattle.grid_moves.specs.Points.{estimate}
+use Rattle.plain_search.specs.Node.{ranks_before}
 use Rattle.plain_search.specs.Rule.{state_number}
 use Rattle.plain_search.specs.declared.node.Node.{Node}
 
@@ -92,3 +93,26 @@ relaxed_by g goal id (Some u) k = offered_ahead g goal id u k all_dirs
 
 abbrev pub relaxed : GridData → Cell → ℕ → Table → Table
 relaxed g goal id k = relaxed_by g goal id (slice_get k.nodes id) k
+
+-- the table of one closed node, over an index
+abbrev pub begun : ℕ → Cell → Cell → List ℕ → Table
+begun width goal start index = record {
+  nodes = node_for width goal start no_cost 0 ∷ [];
+  open_at = false ∷ [];
+  index = slice_set index (cell_number width start) 0;
+}
+
+-- the table with the node of that number closed
+abbrev pub closed_at : ℕ → Table → Table
+closed_at id k = record { nodes = k.nodes; open_at = slice_set k.open_at id false; index = k.index }
+
+-- the node of that number is open, and no open node ranks before it
+pub record IsFirstNode (k : Table) (id : ℕ) : Type 0 where
+  pub node : Node
+  pub node_is : slice_get k.nodes id ≡ Some node
+  pub is_open : slice_get k.open_at id ≡ Some true
+  pub first : (other : ℕ) (x : Node) → slice_get k.open_at other ≡ Some true → slice_get k.nodes other ≡ Some x → ranks_before x node ≡ false
+
+-- no node is open
+abbrev pub NoneOpen : Table → Type 0
+NoneOpen k = (id : ℕ) → slice_get k.open_at id ≡ Some true → ⊥

@@ -2,6 +2,11 @@
 #![tactic(auto)]
 
 mod node;
+mod search;
 mod space;
+mod taken;
+mod trace;
 
+pub use search::Plain;
 pub use std::alloc::AllocError as NoMemory;
+pub use taken::Taken;

@@ -1,6 +1,6 @@
 //! The memory of a search: its nodes, and for each cell where to find its node.
 
-ghost use Rattle.std.specs.Prelude.{◌≡◌, ℕ, ◌+◌, ◌*◌, ◌<◌, ◌≤◌, ◌^◌, [], length, true, false, Some, None, OnOk, OnErr, IfOk, MatchOption, slice_get, slice_set};
+ghost use Rattle.std.specs.Prelude.{◌≡◌, ℕ, ◌+◌, ◌*◌, ◌<◌, ◌≤◌, ◌^◌, [], ◌∷◌, length, true, false, Some, None, OnOk, OnErr, IfOk, IfNone, IfSome, MatchOption, slice_get, slice_set};
 ghost use Rattle.grid_moves.specs.Grid.{cell_number};
 ghost use Rattle.grid_moves.specs.Move.{is_same, legal_ahead, move_cost as cost_of_move};
 ghost use Rattle.root2_cost.specs.Order.{is_less};
@@ -8,7 +8,7 @@ ghost use Rattle.root2_cost.specs.Sums.{add_costs};
 ghost use Rattle.open_list.specs.OpenList.{IsFirst};
 ghost use Rattle.plain_search.specs.Node.{ranks_before};
 ghost use Rattle.plain_search.specs.Rule.{state_number};
-ghost use Rattle.plain_search.specs.Table.{Table, lookup, added, improved, offered, offered_over, offered_ahead, relaxed, node_for, AreMade};
+ghost use Rattle.plain_search.specs.Table.{Table, lookup, added, improved, offered, offered_over, offered_ahead, relaxed, node_for, AreMade, begun, closed_at, IsFirstNode, NoneOpen};
 
 use crate::NoMemory;
 use crate::node::Node;
@@ -58,7 +58,72 @@ fn node_at(width: u16, goal: Cell, cell: Cell, cost: Cost, parent: u32) -> Node
     }
 }
 
+// Empties the pool, and gives it one node, which is closed.
+fn begin_pool<L: Ledger>(
+    pool: &mut Pool<Node>,
+    node: Node,
+    steps: &mut Steps<L>,
+) -> Result<(), NoMemory>
+    ensures nodes { OnOk result (pool.new.nodes ≡ node ∷ []) }
+    ensures open_at { OnOk result (pool.new.open_at ≡ false ∷ []) }
+{
+    pool.clear();
+    pool.reserve(1)?;
+    pool.add(node, steps);
+    pool.pop(steps);
+    Ok(())
+}
+
 impl Workspace {
+    /// The memory for searches on a map of this many cells.
+    pub(crate) fn of_cells(alloc: Global, cells: usize) -> Result<Workspace, NoMemory>
+        ensures { IfOk result (λ w. length w.table.index ≡ cells) }
+    {
+        Ok(Workspace {
+            pool: Pool::new(alloc),
+            index: vec![in alloc; 0u32; cells]?,
+        })
+    }
+
+    // Forgets all nodes, and takes the start's, which has the number 0.
+    pub(crate) fn begin<L: Ledger>(
+        &mut self,
+        width: u16,
+        start: Cell,
+        goal: Cell,
+        steps: &mut Steps<L>,
+    ) -> Result<(), NoMemory>
+        requires column { start.x < width }
+        requires row { start.y < 4096 }
+        requires narrow { width ≤ 4096 }
+        requires inside { cell_number width start < length self.old.table.index }
+        ensures begun { OnOk result (self.new.table ≡ begun width goal start self.old.table.index) }
+        ensures index { length self.new.table.index ≡ length self.old.table.index }
+    {
+        let node = node_at(width, goal, start, Cost { a: 0, b: 0 }, 0);
+        begin_pool(&mut self.pool, node, steps)?;
+        self.index[number_of(width, start) as usize] = 0;
+        Ok(())
+    }
+
+    /// The node of this number.
+    pub(crate) fn node(&self, id: u32) -> Node
+        requires { id < length self.now.table.nodes }
+        ensures { slice_get self.now.table.nodes id ≡ Some result }
+    {
+        *self.pool.node(id)
+    }
+
+    /// Closes the open node that ranks first, and gives its number.
+    pub(crate) fn take_next<L: Ledger>(&mut self, steps: &mut Steps<L>) -> Option<u32>
+        ensures none { IfNone result (NoneOpen self.old.table) }
+        ensures first { IfSome result (λ id. IsFirstNode self.old.table id) }
+        ensures closed { IfSome result (λ id. self.new.table ≡ closed_at id self.old.table) }
+        ensures unchanged { IfNone result (self.new.table ≡ self.old.table) }
+    {
+        self.pool.pop(steps)
+    }
+
     // The number of the cell's node, if it has one.
     fn find(&self, width: u16, c: Cell) -> Option<u32>
         requires column { c.x < width }
