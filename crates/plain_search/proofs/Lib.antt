@@ -9,3 +9,5 @@ pub mod Bounds
 pub mod Taking
 pub mod Searching
 pub mod Tracing
+pub mod Backing
+pub mod Concluding

@@ -1,5 +1,5 @@
 -- The nodes of a search and the index of their cells. No public clause cites this module.
-use Rattle.std.specs.Prelude.{◌≡◌, ℕ, Bool, true, false, ◌&&◌, List, [], ◌∷◌, ◌++◌, length, Option, Some, None, if◌then◌else◌, slice_get, slice_set, slice_index_or, fold}
+use Rattle.std.specs.Prelude.{◌≡◌, ℕ, ◌*◌, Bool, true, false, ◌&&◌, List, [], ◌∷◌, ◌++◌, length, Option, Some, None, if◌then◌else◌, slice_get, slice_set, slice_index_or, fold}
 use Rattle.std.specs.Option.{option_map_or}
 use Rattle.root2_cost.specs.declared.Cost.{Cost}
 use Rattle.root2_cost.specs.Order.{is_less}
@@ -116,3 +116,7 @@ pub record IsFirstNode (k : Table) (id : ℕ) : Type 0 where
 -- no node is open
 abbrev pub NoneOpen : Table → Type 0
 NoneOpen k = (id : ℕ) → slice_get k.open_at id ≡ Some true → ⊥
+
+-- the index has an entry for each cell of the grid
+abbrev pub HasRoom : GridData → Space → Type 0
+HasRoom g space = length space.table.index ≡ g.height * g.width

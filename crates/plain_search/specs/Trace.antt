@@ -1,5 +1,5 @@
 -- The cells along the parents. No public clause cites this module.
-use Rattle.std.specs.Prelude.{◌≡◌, ℕ, ◌+◌, ◌<◌, false, List, [], ◌∷◌, ◌++◌, Some, slice_get}
+use Rattle.std.specs.Prelude.{◌≡◌, ℕ, ◌+◌, ◌<◌, false, List, [], ◌∷◌, ◌++◌, Some, slice_get, reverse}
 use Rattle.grid_moves.specs.declared.Cell.{Cell}
 use Rattle.grid_moves.specs.Move.{is_same}
 use Rattle.path_points.specs.Corners.{corners, turns_after}
@@ -30,3 +30,9 @@ pub record AreCornersSoFar (k : Table) (start : Cell) (first : Node) (points : L
   pub rest : List Cell
   pub rest_is_back : IsBack k start n rest
   pub is_corners : points ++ turns_after before rest ≡ corners cells
+
+-- the points are the corners of the cells from the start to the node
+pub record IsPointsTo (k : Table) (start : Cell) (n : Node) (points : List Cell) : Type 0 where
+  pub cells : List Cell
+  pub is_back : IsBack k start n (reverse cells)
+  pub is_corners : points ≡ corners cells

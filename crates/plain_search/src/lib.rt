@@ -7,6 +7,7 @@ mod space;
 mod taken;
 mod trace;
 
-pub use search::Plain;
+pub use search::{Plain, least, least_in};
+pub use space::Workspace;
 pub use std::alloc::AllocError as NoMemory;
 pub use taken::Taken;

@@ -8,7 +8,7 @@ ghost use Rattle.root2_cost.specs.Sums.{add_costs};
 ghost use Rattle.open_list.specs.OpenList.{IsFirst};
 ghost use Rattle.plain_search.specs.Node.{ranks_before};
 ghost use Rattle.plain_search.specs.Rule.{state_number};
-ghost use Rattle.plain_search.specs.Table.{Table, lookup, added, improved, offered, offered_over, offered_ahead, relaxed, node_for, AreMade, begun, closed_at, IsFirstNode, NoneOpen};
+ghost use Rattle.plain_search.specs.Table.{Table, lookup, added, improved, offered, offered_over, offered_ahead, relaxed, node_for, AreMade, begun, closed_at, IsFirstNode, NoneOpen, HasRoom};
 
 use crate::NoMemory;
 use crate::node::Node;
@@ -25,7 +25,7 @@ use steps::Steps;
 /// The index is a sparse set: what it has for a cell counts only where it is the number of a node of
 /// that cell. So it is never cleared: a pool without nodes has forgotten all.
 #[derive(Drop)]
-pub(crate) struct Workspace {
+pub struct Workspace {
     pool: Pool<Node>,
     index: Vec<u32>,
 }
@@ -75,10 +75,11 @@ fn begin_pool<L: Ledger>(
 }
 
 impl Workspace {
-    /// The memory for searches on a map of this many cells.
-    pub(crate) fn of_cells(alloc: Global, cells: usize) -> Result<Workspace, NoMemory>
-        ensures { IfOk result (λ w. length w.table.index ≡ cells) }
+    /// The memory for searches on a grid of this size: an entry for each of its cells is filled.
+    pub fn of_grid<T: Terrain>(alloc: Global, t: &T) -> Result<Workspace, NoMemory>
+        ensures { IfOk result (HasRoom (T.grid t.now)) }
     {
+        let cells = t.height() as usize * t.width() as usize;
         Ok(Workspace {
             pool: Pool::new(alloc),
             index: vec![in alloc; 0u32; cells]?,
@@ -120,6 +121,8 @@ impl Workspace {
         ensures first { IfSome result (λ id. IsFirstNode self.old.table id) }
         ensures closed { IfSome result (λ id. self.new.table ≡ closed_at id self.old.table) }
         ensures unchanged { IfNone result (self.new.table ≡ self.old.table) }
+        ensures index { self.new.table.index ≡ self.old.table.index }
+        ensures nodes { self.new.table.nodes ≡ self.old.table.nodes }
     {
         self.pool.pop(steps)
     }
@@ -235,7 +238,8 @@ impl Workspace {
         requires b { node.cost.b < 2 ^ 30 }
         requires spare { length dirs.now ≤ self.old.spare }
         requires made { AreMade (T.grid t.now).width goal self.old.table }
-        ensures { self.new.table ≡ offered_ahead (T.grid t.now) goal id node self.old.table dirs.now }
+        ensures table { self.new.table ≡ offered_ahead (T.grid t.now) goal id node self.old.table dirs.now }
+        ensures index { length self.new.table.index ≡ length self.old.table.index }
     {
         for d in dirs {
             self.offer_ahead(t, goal, id, node, *d, steps);
@@ -257,6 +261,7 @@ impl Workspace {
         requires short { (n : _) → slice_get self.old.table.nodes id ≡ Some n → (n.cost.a < 2 ^ 30) × (n.cost.b < 2 ^ 30) }
         requires made { AreMade (T.grid t.now).width goal self.old.table }
         ensures relaxed { OnOk result (self.new.table ≡ relaxed (T.grid t.now) goal id self.old.table) }
+        ensures index { length self.new.table.index ≡ length self.old.table.index }
         ensures refused { OnErr result (self.new.table ≡ self.old.table) }
     {
         self.pool.reserve(8)?;

@@ -3,7 +3,7 @@
 ghost use Rattle.std.specs.Prelude.{◌≡◌, ◌<◌, ◌≤◌, ◌+◌, ◌*◌, ◌^◌, length, IfOk, reverse, false, slice_get, Some, OnOk, if◌then◌else◌, [], ◌∷◌, ◌++◌};
 ghost use Rattle.grid_moves.specs.Move.{is_same};
 ghost use Rattle.path_points.specs.Corners as spec;
-ghost use Rattle.plain_search.specs.Trace.{HasBack, AreCorners};
+ghost use Rattle.plain_search.specs.Trace.{HasBack, AreCorners, IsPointsTo};
 
 use crate::NoMemory;
 use crate::node::Node;
@@ -66,5 +66,20 @@ fn corners_back(
         node = next;
     }
     points.push(node.cell)?;
+    Ok(points)
+}
+
+/// The points of the way from the start to the goal, whose node is given.
+pub(crate) fn points_to(
+    alloc: Global,
+    space: &Workspace,
+    start: Cell,
+    goal: Node,
+) -> Result<Points, NoMemory>
+    requires { HasBack space.now.table start goal }
+    ensures { IfOk result (λ p. IsPointsTo space.now.table start goal p) }
+{
+    let mut points = corners_back(alloc, space, start, goal)?;
+    points.reverse();
     Ok(points)
 }
