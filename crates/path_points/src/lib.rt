@@ -5,6 +5,9 @@
 #![tactic(auto)]
 
 mod points;
+mod segments;
+mod unfolding;
 
 pub use points::{Cells, Points};
 pub use std::alloc::AllocError as NoMemory;
+pub use unfolding::unfold;
