@@ -7,6 +7,8 @@
 mod checking;
 mod points;
 mod segments;
+#[cfg(test)]
+mod tests;
 mod unfolding;
 
 pub use checking::{BadAt, check_walk};
