@@ -1,5 +1,5 @@
 -- The points by which the plain engine prints a walk unfold to the walk, and read the same from the other end.
-use Rattle.std.proofs.Common.{◌≡◌, ℕ, zero, suc, ◌+◌, ◌-◌, ◌*◌, ◌<◌, ◌≤◌, ◌⊎◌, inl, inr, arith, Bool, true, false, ◌&&◌, refl, ap, sym, ◌∙◌, List, [], ◌∷◌, ◌++◌, reverse, add_comm}
+use Rattle.std.proofs.Common.{◌≡◌, ℕ, zero, suc, ◌+◌, ◌-◌, ◌*◌, ◌<◌, ◌≤◌, ◌⊎◌, inl, inr, arith, Bool, true, false, refl, ap, sym, ◌∙◌, List, [], ◌∷◌, ◌++◌, reverse, add_comm}
 use Rattle.std.specs.Prelude.{nat_eq, nat_lt, if◌then◌else◌, Option, Some, None, option_map, max}
 use Rattle.std.proofs.lemmas.Bool.Decides.{nat_tests}
 use Rattle.std.proofs.lemmas.List.{append_cancel_right}
@@ -10,6 +10,7 @@ use Rattle.grid_moves.specs.Move.{is_legal}
 use Rattle.grid_moves.specs.Walk.{is_walk}
 use Rattle.grid_moves.specs.Points.{apart, steps_between, are_lined, toward, step_toward, segment, unfolded_from, unfolding_of}
 use Rattle.grid_moves.proofs.Legal.{IsLegal, legal_is, same_cell}
+use Rattle.path_points.proofs.Filling.{and_both}
 use Rattle.path_points.specs.Corners.{goes_straight, turns_after, corners}
 
 -- from a over b to c at an even pace towards q
@@ -133,10 +134,6 @@ record Unfolds (u v : Cell) (cells : List Cell) : Type 0 where
   is : turns_after u (v ∷ cells) ≡ point ∷ points
   reaches : Reaches u v point further
   unfolds : unfolded_from u (point ∷ points) ≡ Some (v ∷ cells)
-
-and_both : (a b : Bool) → (a && b) ≡ true → (a ≡ true) × (b ≡ true)
-and_both true b e = (refl, e)
-and_both false b e = absurd (cc)
 
 turns_unfold : (g : GridData) (u v : Cell) (cells : List Cell) → is_walk g (u ∷ v ∷ cells) ≡ true → Unfolds u v cells
 turns_unfold g u v [] h =
