@@ -12,6 +12,10 @@ use std::sync::ledger::Ledger;
 use steps::Steps;
 
 /// Nodes that are open or closed, each under a number that stays, and the open ones in their order.
+///
+/// There are fewer than 2^28 nodes. An entry takes 12 bytes beside its node. Contracts see a pool as
+/// the list of its nodes, the list that says of each whether it is open, and the number of nodes
+/// that can still be added with no allocation.
 #[derive(Drop)]
 pub struct Pool<N: Ranked + Copy> {
     entries: Vec<Entry<N>>,
@@ -53,6 +57,7 @@ impl<N: Ranked + Copy> Pool<N> {
     pub fn len(&self) -> u32
         ensures value { result ≡ length self.now.nodes }
         ensures small { result < 2 ^ 28 }
+        ensures flags { length self.now.open_at ≡ length self.now.nodes }
     {
         self.entries.len() as u32
     }
