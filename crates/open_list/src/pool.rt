@@ -114,7 +114,8 @@ impl<N: Ranked + Copy> Pool<N> {
     pub fn pop<L: Ledger>(&mut self, steps: &mut Steps<L>) -> Option<u32>
         ensures none { IsNone result ↔ HasNoneOpen self.old }
         ensures first { IfSome result (λ id. IsFirst N.before self.old id) }
-        ensures closed { IfSome result (λ id. self.new ≡ record self.old { open_at = slice_set self.old.open_at id false }) }
+        ensures closed { IfSome result (λ id.
+            self.new ≡ record self.old { open_at = slice_set self.old.open_at id false }) }
         ensures unchanged { IfNone result (self.new ≡ self.old) }
         ensures counted { steps.old ≤ steps.new }
     {
