@@ -1,0 +1,10 @@
+pub mod Words
+pub mod Search
+pub mod Header
+pub mod First
+pub mod Sides
+pub mod Rows
+pub mod Clean
+pub mod Spelled
+pub mod Laws
+pub mod Body

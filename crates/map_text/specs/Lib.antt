@@ -1,0 +1,5 @@
+pub mod Map
+pub mod Spelling
+pub mod Faults
+pub mod Progress
+pub mod Worked

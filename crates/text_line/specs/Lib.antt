@@ -1,0 +1,5 @@
+pub mod Lines
+pub mod Fields
+pub mod Numbers
+pub mod Left
+pub mod Worked

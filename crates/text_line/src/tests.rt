@@ -1,0 +1,21 @@
+use super::*;
+use std::test::*;
+
+#[test]
+fn bytes_and_numbers_are_appended(rt: HostRuntime) -> Result<(), Fail> {
+    let mut out = Vec::new(rt.alloc());
+    put(&mut out, b"row ")?;
+    put_number(&mut out, 10)?;
+    assert_eq!(rt; out.as_slice(), b"row 10".as_slice());
+    Ok(())
+}
+
+#[test]
+fn lines_carry_their_number(rt: HostRuntime) {
+    let mut lines = Lines::of(b"map\r\n\n...");
+    for (number, bytes) in [(1, b"map".as_slice()), (2, b""), (3, b"...")] {
+        let line = lines.next();
+        assert!(rt; matches!(line, Some(line) if line.number == number && line.bytes == bytes));
+    }
+    assert!(rt; lines.next().is_none());
+}
