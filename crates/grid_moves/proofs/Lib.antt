@@ -1,3 +1,4 @@
 pub mod Legal
 pub mod Consistent
 pub mod Places
+pub mod Ahead

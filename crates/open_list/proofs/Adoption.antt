@@ -14,29 +14,38 @@ use Rattle.open_list.proofs.Forests.{StartsWith, starts_with, next_of_start, lis
 use Rattle.open_list.proofs.Frames.{AreChildren-changed, AreRoots-changed, AreChildren-moved}
 
 -- of two nodes not both are before the other
-not_after : {N : Type 0} (before : N → N → Bool) → IsStrictWeakOrder before → (a b : N) → before a b ≡ true → before b a ≡ false
+not_after : {N : Type 0} (before : N → N → Bool) → IsStrictWeakOrder before → (a b : N)
+    → before a b ≡ true → before b a ≡ false
 not_after before order a b first =
-    false_from_ne_true (before b a) (λ also. both_ways (before a a) (order.not_before_itself a) (order.before_is_transitive a b a first also))
+    false_from_ne_true (before b a) (λ also.
+    both_ways (before a a) (order.not_before_itself a) (order.before_is_transitive a b a first also))
 
 module _ {N : Type 0} (before : N → N → Bool) (es : List (Entry N)) where
   -- the heaps of `winner` and `loser` stand by themselves, beside two lists of heaps
-  pub record AreApart (winner loser : ℕ) (won lost : N) (won_children lost_children firsts seconds : Heaps N) : Type 0 where
+  pub record AreApart (winner loser : ℕ) (won lost : N)
+      (won_children lost_children firsts seconds : Heaps N) : Type 0 where
     pub won_next : ℕ
     pub won_prev : ℕ
     pub lost_next : ℕ
     pub lost_prev : ℕ
-    pub winner_at : slice_get es winner ≡ Some (record { node = won; child = first_id won_children; next = won_next; prev = won_prev })
-    pub loser_at : slice_get es loser ≡ Some (record { node = lost; child = first_id lost_children; next = lost_next; prev = lost_prev })
+    pub winner_at : slice_get es winner ≡ Some
+        (record { node = won; child = first_id won_children; next = won_next; prev = won_prev })
+    pub loser_at : slice_get es loser ≡ Some
+        (record { node = lost; child = first_id lost_children; next = lost_next; prev = lost_prev })
     pub winner_above : AreChildren before es winner won won_children
     pub loser_above : AreChildren before es loser lost lost_children
     pub first_roots : AreRoots before es firsts
     pub second_roots : AreRoots before es seconds
     pub in_order : before lost won ≡ false
-    pub once : (i : ℕ) → one_at winner i + one_at loser i + count_at won_children i + count_at lost_children i + count_at firsts i + count_at seconds i ≡ open_count (map is_open es) i
-    pub fits : 2 + node_count won_children + node_count lost_children + node_count firsts + node_count seconds ≤ length es
+    pub once : (i : ℕ)
+        → one_at winner i + one_at loser i + count_at won_children i + count_at lost_children i
+        + count_at firsts i + count_at seconds i ≡ open_count (map is_open es) i
+    pub fits : 2 + node_count won_children + node_count lost_children + node_count firsts
+        + node_count seconds ≤ length es
     pub small : length es < 2 ^ 28
 
-  module _ {winner loser : ℕ} {won lost : N} {won_children lost_children firsts seconds : Heaps N} (all : AreApart winner loser won lost won_children lost_children firsts seconds) where
+  module _ {winner loser : ℕ} {won lost : N} {won_children lost_children firsts seconds : Heaps N}
+      (all : AreApart winner loser won lost won_children lost_children firsts seconds) where
     abbrev first : ℕ
     first = first_id won_children
 
@@ -50,17 +59,24 @@ module _ {N : Type 0} (before : N → N → Bool) (es : List (Entry N)) where
     later = changed (with_child_and_next loser (first_id seconds)) winner moved
 
     -- no number stands twice
-    at_most_once : (i : ℕ) → one_at winner i + one_at loser i + count_at won_children i + count_at lost_children i + count_at firsts i + count_at seconds i ≤ 1
+    at_most_once : (i : ℕ)
+        → one_at winner i + one_at loser i + count_at won_children i + count_at lost_children i
+        + count_at firsts i + count_at seconds i ≤ 1
     at_most_once i = omega (arith, all.once i, open_count-le (map is_open es) i)
 
     winner_ne_loser : winner ≢ loser
     winner_ne_loser = apart_from_one_at winner loser (omega (arith, at_most_once loser, one_at_same loser))
 
     -- the first child stands nowhere else
-    first_only : one_at winner first + one_at loser first + count_at lost_children first + count_at firsts first + count_at seconds first ≡ 0
+    first_only : one_at winner first + one_at loser first + count_at lost_children first
+        + count_at firsts first + count_at seconds first ≡ 0
     first_only =
         let most = at_most_once first in
-        first_apart won_children _ (omega arith) (λ none. let total = all.once first in let past = none_past es first (omega (arith, all.small)) in omega arith)
+        first_apart won_children _ (omega arith)
+        (λ none.
+        let total = all.once first in
+        let past = none_past es first (omega (arith, all.small)) in
+        omega arith)
 
     winner_in : winner < length es
     winner_in = slice_get_within es winner _ all.winner_at
@@ -69,13 +85,18 @@ module _ {N : Type 0} (before : N → N → Bool) (es : List (Entry N)) where
     loser_in = slice_get_within es loser _ all.loser_at
 
     -- lists in which none of the three entries stands are as before
-    children_kept : (prev : ℕ) (parent : N) (hs : Heaps N) → count_at hs loser ≡ 0 → count_at hs first ≡ 0 → count_at hs winner ≡ 0 → AreChildren before es prev parent hs → AreChildren before later prev parent hs
+    children_kept : (prev : ℕ) (parent : N) (hs : Heaps N) → count_at hs loser ≡ 0 → count_at hs first ≡ 0
+        → count_at hs winner ≡ 0 → AreChildren before es prev parent hs
+        → AreChildren before later prev parent hs
     children_kept prev parent hs no_loser no_first no_winner held =
-        AreChildren-changed before (with_child_and_next loser (first_id seconds)) winner moved prev parent hs no_winner
+        AreChildren-changed before (with_child_and_next loser
+        (first_id seconds)) winner moved prev parent hs no_winner
         (AreChildren-changed before (with_prev loser) first hung prev parent hs no_first
-        (AreChildren-changed before (with_next_and_prev first winner) loser es prev parent hs no_loser held))
+        (AreChildren-changed before
+        (with_next_and_prev first winner) loser es prev parent hs no_loser held))
 
-    roots_kept : (hs : Heaps N) → count_at hs loser ≡ 0 → count_at hs first ≡ 0 → count_at hs winner ≡ 0 → AreRoots before es hs → AreRoots before later hs
+    roots_kept : (hs : Heaps N) → count_at hs loser ≡ 0 → count_at hs first ≡ 0 → count_at hs winner ≡ 0
+        → AreRoots before es hs → AreRoots before later hs
     roots_kept hs no_loser no_first no_winner held =
         AreRoots-changed before (with_child_and_next loser (first_id seconds)) winner moved hs no_winner
         (AreRoots-changed before (with_prev loser) first hung hs no_first
@@ -88,16 +109,19 @@ module _ {N : Type 0} (before : N → N → Bool) (es : List (Entry N)) where
     first_ne_loser same = apart_from_one_at loser first (omega (arith, first_only)) (sym same)
 
     -- the winner's entry
-    winner_later : slice_get later winner ≡ Some (record { node = won; child = loser; next = first_id seconds; prev = all.won_prev })
+    winner_later : slice_get later winner
+        ≡ Some (record { node = won; child = loser; next = first_id seconds; prev = all.won_prev })
     winner_later =
         get-changed (with_child_and_next loser (first_id seconds)) winner moved _
         (get-changed_other (with_prev loser) first winner hung (λ same. first_ne_winner (sym same))
         ∙ get-changed_other (with_next_and_prev first winner) loser winner es winner_ne_loser
         ∙ all.winner_at)
 
-    loser_later : slice_get later loser ≡ Some (record { node = lost; child = first_id lost_children; next = first; prev = winner })
+    loser_later : slice_get later loser ≡ Some
+        (record { node = lost; child = first_id lost_children; next = first; prev = winner })
     loser_later =
-        get-changed_other (with_child_and_next loser (first_id seconds)) winner loser moved (λ same. winner_ne_loser (sym same))
+        get-changed_other (with_child_and_next loser (first_id seconds)) winner loser moved
+        (λ same. winner_ne_loser (sym same))
         ∙ get-changed_other (with_prev loser) first loser hung (λ same. first_ne_loser (sym same))
         ∙ get-changed (with_next_and_prev first winner) loser es _ all.loser_at
 
@@ -110,18 +134,25 @@ module _ {N : Type 0} (before : N → N → Bool) (es : List (Entry N)) where
         let there = one_at_same winner in (
           loser_later,
           all.in_order,
-          children_kept loser lost lost_children (omega arith) (omega (arith, first_only)) (omega arith) all.loser_above,
-          AreChildren-changed before (with_child_and_next loser (first_id seconds)) winner moved loser won won_children (omega arith)
-              (AreChildren-moved before hung winner loser won won_children (omega (arith, at_most_once first))
-              (AreChildren-changed before (with_next_and_prev first winner) loser es winner won won_children (omega arith) all.winner_above)),
+          children_kept loser lost lost_children (omega arith) (omega (arith, first_only))
+              (omega arith) all.loser_above,
+          AreChildren-changed before (with_child_and_next loser
+              (first_id seconds)) winner moved loser won won_children (omega arith)
+              (AreChildren-moved before hung winner loser won won_children
+              (omega (arith, at_most_once first))
+              (AreChildren-changed before
+              (with_next_and_prev first winner) loser es winner won won_children
+              (omega arith) all.winner_above)),
         )
 
     open_later : map is_open later ≡ map is_open es
     open_later =
         map-changed (with_child_and_next loser (first_id seconds)) is_open winner moved (λ e at. refl)
         ∙ map-changed (with_prev loser) is_open first hung (λ e at.
-        let at_first = sym (get-changed_other (with_next_and_prev first winner) loser first es first_ne_loser) ∙ at in
-        let here = first_counts won_children (omega (arith, slice_get_within es first e at_first, all.small)) in
+        let at_first = sym (get-changed_other
+        (with_next_and_prev first winner) loser first es first_ne_loser) ∙ at in
+        let here = first_counts won_children
+        (omega (arith, slice_get_within es first e at_first, all.small)) in
         open_with_link e loser (omega (arith, loser_in, all.small))
         ∙ sym (open_from_count es first e at_first (omega (arith, all.once first))))
         ∙ map-changed (with_next_and_prev first winner) is_open loser es (λ e at.
@@ -139,7 +170,8 @@ module _ {N : Type 0} (before : N → N → Bool) (es : List (Entry N)) where
 
     result_is : result ≡ later
     result_is =
-        ap (λ (at : ℕ). changed (with_child_and_next loser (first_id seconds)) winner (changed (with_prev loser) at (changed (with_next_and_prev at winner) loser es)))
+        ap (λ (at : ℕ). changed (with_child_and_next loser (first_id seconds)) winner
+        (changed (with_prev loser) at (changed (with_next_and_prev at winner) loser es)))
         (ap (λ o. option_map_or (λ (e : Entry N). e.child) o NONE) all.winner_at)
 
     length_later : length later ≡ length es
@@ -160,8 +192,14 @@ module _ {N : Type 0} (before : N → N → Bool) (es : List (Entry N)) where
           seconds = heap winner won (heap loser lost lost_children won_children) seconds;
           first_is = refl;
           second_is = refl;
-          first_roots = roots_kept firsts (omega arith) (omega (arith, first_only)) (omega arith) all.first_roots;
-          second_roots = (all.won_prev, winner_later, children_later, roots_kept seconds (omega arith) (omega (arith, first_only)) (omega arith) all.second_roots);
+          first_roots = roots_kept firsts (omega arith) (omega (arith, first_only))
+              (omega arith) all.first_roots;
+          second_roots = (
+            all.won_prev,
+            winner_later,
+            children_later,
+            roots_kept seconds (omega arith) (omega (arith, first_only)) (omega arith) all.second_roots,
+          );
           once = λ i. rw open_later (omega (arith, all.once i));
           fits = omega (arith, length_later, all.fits);
           small = rw length_later all.small;
@@ -185,7 +223,14 @@ module _ {N : Type 0} (before : N → N → Bool) (es : List (Entry N)) where
     kept_joined = rw result_is (record { nodes = nodes_later; open_at = open_later })
 
   -- the heaps of `winner` and `loser` begin two lists, and stand apart
-  apart : {lost_list won_list : Heaps N} {winner loser : ℕ} (w : StartsWith before es won_list winner) (l : StartsWith before es lost_list loser) (firsts seconds : Heaps N) → AreRoots before es firsts → AreRoots before es seconds → before l.node w.node ≡ false → ((i : ℕ) → one_at winner i + one_at loser i + count_at w.children i + count_at l.children i + count_at firsts i + count_at seconds i ≡ open_count (map is_open es) i) → 2 + node_count w.children + node_count l.children + node_count firsts + node_count seconds ≤ length es → length es < 2 ^ 28 → AreApart winner loser w.node l.node w.children l.children firsts seconds
+  apart : {lost_list won_list : Heaps N} {winner loser : ℕ} (w : StartsWith before es won_list winner)
+      (l : StartsWith before es lost_list loser) (firsts seconds : Heaps N) → AreRoots before es firsts
+      → AreRoots before es seconds → before l.node w.node ≡ false
+      → ((i : ℕ) → one_at winner i + one_at loser i + count_at w.children i + count_at l.children i
+      + count_at firsts i + count_at seconds i ≡ open_count (map is_open es) i)
+      → 2 + node_count w.children + node_count l.children + node_count firsts + node_count seconds
+      ≤ length es → length es < 2 ^ 28
+      → AreApart winner loser w.node l.node w.children l.children firsts seconds
   apart w l firsts seconds first_roots second_roots in_order once fits small = record {
     won_next = first_id w.rest;
     won_prev = w.prev;
@@ -203,44 +248,72 @@ module _ {N : Type 0} (before : N → N → Bool) (es : List (Entry N)) where
     small = small;
   }
 
-  module _ (one other : ℕ) (have : HaveOpen before es other one) (one_in : one < length es) (other_in : other < length es) where
+  module _ (one other : ℕ) (have : HaveOpen before es other one) (one_in : one < length es)
+      (other_in : other < length es) where
     starts_one : StartsWith before es have.seconds one
-    starts_one = starts_with before es have.seconds one have.second_is (λ none. omega (arith, have.small)) have.second_roots
+    starts_one = starts_with before es have.seconds one have.second_is
+        (λ none. omega (arith, have.small)) have.second_roots
 
     starts_other : StartsWith before es have.firsts other
-    starts_other = starts_with before es have.firsts other have.first_is (λ none. omega (arith, have.small)) have.first_roots
+    starts_other = starts_with before es have.firsts other have.first_is
+        (λ none. omega (arith, have.small)) have.first_roots
 
     -- either may win, and stands then before the rest of the list from `one`
-    joined : {winner loser : ℕ} {won lost : N} {won_children lost_children : Heaps N} → AreApart winner loser won lost won_children lost_children starts_other.rest starts_one.rest → IsJoined before es (adopted es winner loser (next_of es one)) one other winner
+    joined : {winner loser : ℕ} {won lost : N} {won_children lost_children : Heaps N}
+        → AreApart winner loser won lost won_children lost_children starts_other.rest starts_one.rest
+        → IsJoined before es (adopted es winner loser (next_of es one)) one other winner
     joined {winner} {loser} all =
         let next_one = next_of_start before starts_one in
         let next_other = next_of_start before starts_other in
         rw next_one
         (record {
           lists = rw next_other (lists_joined all);
-          shorter = rw next_other (omega (arith, first_len all, list_len-firsts before es other one have, ap heap_count starts_other.is));
-          as_long = omega (arith, second_len all, list_len-seconds before es other one have, ap heap_count starts_one.is);
+          shorter = rw next_other (omega (
+            arith,
+            first_len all,
+            list_len-firsts before es other one have,
+            ap heap_count starts_other.is,
+          ));
+          as_long = omega (
+            arith,
+            second_len all,
+            list_len-seconds before es other one have,
+            ap heap_count starts_one.is,
+          );
           within = within_joined all;
           kept = kept_joined all;
         })
 
-    total : (i : ℕ) → one_at one i + count_at starts_one.children i + count_at starts_one.rest i + (one_at other i + count_at starts_other.children i + count_at starts_other.rest i) ≡ open_count (map is_open es) i
+    total : (i : ℕ) → one_at one i + count_at starts_one.children i + count_at starts_one.rest i +
+        (one_at other i + count_at starts_other.children i + count_at starts_other.rest i)
+        ≡ open_count (map is_open es) i
     total i =
-        omega (arith, have.once i, ap (λ hs. count_at hs i) starts_one.is, ap (λ hs. count_at hs i) starts_other.is)
+        omega (
+          arith,
+          have.once i,
+          ap (λ hs. count_at hs i) starts_one.is,
+          ap (λ hs. count_at hs i) starts_other.is,
+        )
 
-    enough : 2 + node_count starts_one.children + node_count starts_one.rest + node_count starts_other.children + node_count starts_other.rest ≤ length es
+    enough : 2 + node_count starts_one.children + node_count starts_one.rest
+        + node_count starts_other.children + node_count starts_other.rest ≤ length es
     enough = omega (arith, have.fits, ap node_count starts_one.is, ap node_count starts_other.is)
 
     -- the answer of the test, by the two nodes
     abbrev pub Tells : Bool → Type 0
-    Tells test = (x y : Entry N) → slice_get es other ≡ Some x → slice_get es one ≡ Some y → test ≡ before x.node y.node
+    Tells test = (x y : Entry N) → slice_get es other ≡ Some x → slice_get es one ≡ Some y
+        → test ≡ before x.node y.node
 
-    pub one_wins : (test : Bool) → Tells test → test ≡ false → IsJoined before es (adopted es one other (next_of es one)) one other one
+    pub one_wins : (test : Bool) → Tells test → test ≡ false
+        → IsJoined before es (adopted es one other (next_of es one)) one other one
     one_wins test tells failed =
         joined (apart starts_one starts_other starts_other.rest starts_one.rest starts_other.roots starts_one.roots
-        (sym (tells _ _ starts_other.at starts_one.at) ∙ failed) (λ i. omega (arith, total i)) (omega (arith, enough)) have.small)
+        (sym (tells _ _ starts_other.at starts_one.at) ∙ failed) (λ i. omega (arith, total i))
+        (omega (arith, enough)) have.small)
 
-    pub other_wins : IsStrictWeakOrder before → (test : Bool) → Tells test → test ≡ true → IsJoined before es (adopted es other one (next_of es one)) one other other
+    pub other_wins : IsStrictWeakOrder before → (test : Bool) → Tells test → test ≡ true
+        → IsJoined before es (adopted es other one (next_of es one)) one other other
     other_wins order test tells passed =
         joined (apart starts_other starts_one starts_other.rest starts_one.rest starts_other.roots starts_one.roots
-        (not_after before order _ _ (sym (tells _ _ starts_other.at starts_one.at) ∙ passed)) (λ i. omega (arith, total i)) (omega (arith, enough)) have.small)
+        (not_after before order _ _ (sym (tells _ _ starts_other.at starts_one.at) ∙ passed))
+        (λ i. omega (arith, total i)) (omega (arith, enough)) have.small)

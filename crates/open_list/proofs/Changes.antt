@@ -19,7 +19,8 @@ module _ {X : Type 0} (f : X → X) where
   length-changed zero (e ∷ es) = refl
   length-changed (suc i) (e ∷ es) = ap suc (length-changed i es)
 
-  pub get-changed : (i : ℕ) (es : List X) (e : X) → slice_get es i ≡ Some e → slice_get (changed f i es) i ≡ Some (f e)
+  pub get-changed : (i : ℕ) (es : List X) (e : X) → slice_get es i ≡ Some e
+      → slice_get (changed f i es) i ≡ Some (f e)
   get-changed i [] e h = cc h
   get-changed zero (x ∷ es) e h = ap (λ y. Some (f y)) (same_Some x e h)
   get-changed (suc i) (x ∷ es) e h = get-changed i es e h
@@ -32,13 +33,15 @@ module _ {X : Type 0} (f : X → X) where
   get-changed_other (suc i) (suc j) (x ∷ es) ne = get-changed_other i j es (λ h. ne (ap suc h))
 
   -- what g reads of an element stays, where the change keeps it
-  pub map-changed : {Y : Type 0} (g : X → Y) (i : ℕ) (es : List X) → ((e : X) → slice_get es i ≡ Some e → g (f e) ≡ g e) → map g (changed f i es) ≡ map g es
+  pub map-changed : {Y : Type 0} (g : X → Y) (i : ℕ) (es : List X)
+      → ((e : X) → slice_get es i ≡ Some e → g (f e) ≡ g e) → map g (changed f i es) ≡ map g es
   map-changed g i [] keeps = refl
   map-changed g zero (x ∷ es) keeps = ap (λ y. y ∷ map g es) (keeps x refl)
   map-changed g (suc i) (x ∷ es) keeps = ap (λ l. g x ∷ l) (map-changed g i es keeps)
 
   -- and changes as the element does
-  pub map-changed_to : {Y : Type 0} (g : X → Y) (h : Y → Y) (i : ℕ) (es : List X) → ((e : X) → g (f e) ≡ h (g e)) → map g (changed f i es) ≡ changed h i (map g es)
+  pub map-changed_to : {Y : Type 0} (g : X → Y) (h : Y → Y) (i : ℕ) (es : List X)
+      → ((e : X) → g (f e) ≡ h (g e)) → map g (changed f i es) ≡ changed h i (map g es)
   map-changed_to g h i [] same = refl
   map-changed_to g h zero (x ∷ es) same = ap (λ y. y ∷ map g es) (same x)
   map-changed_to g h (suc i) (x ∷ es) same = ap (λ l. g x ∷ l) (map-changed_to g h i es same)
@@ -49,7 +52,8 @@ module _ {X : Type 0} where
   set-is_changed (e ∷ es) zero x = refl
   set-is_changed (e ∷ es) (suc i) x = ap (λ l. e ∷ l) (set-is_changed es i x)
 
-  pub get-append_left : (es others : List X) (i : ℕ) (e : X) → slice_get es i ≡ Some e → slice_get (es ++ others) i ≡ Some e
+  pub get-append_left : (es others : List X) (i : ℕ) (e : X) → slice_get es i ≡ Some e
+      → slice_get (es ++ others) i ≡ Some e
   get-append_left [] others i e h = absurd (none-some e h)
   get-append_left (x ∷ es) others zero e h = h
   get-append_left (x ∷ es) others (suc i) e h = get-append_left es others i e h
@@ -58,7 +62,8 @@ module _ {X : Type 0} where
   get_pushed [] e = refl
   get_pushed (x ∷ es) e = get_pushed es e
 
-  pub get_pushed_other : (es : List X) (e : X) (i : ℕ) → i ≢ length es → slice_get (es ++ e ∷ []) i ≡ slice_get es i
+  pub get_pushed_other : (es : List X) (e : X) (i : ℕ) → i ≢ length es
+      → slice_get (es ++ e ∷ []) i ≡ slice_get es i
   get_pushed_other [] e zero ne = absurd (ne refl)
   get_pushed_other [] e (suc i) ne = refl
   get_pushed_other (x ∷ es) e zero ne = refl

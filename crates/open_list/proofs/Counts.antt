@@ -28,11 +28,13 @@ apart_from_one_at i j none same =
     let here : one_at i j ≡ 1 = subst (λ (k : ℕ). one_at i k ≡ 1) same (one_at_same i) in
     omega arith
 
-pub open_count_open : (open_at : List Bool) (i : ℕ) → slice_get open_at i ≡ Some true → open_count open_at i ≡ 1
+pub open_count_open : (open_at : List Bool) (i : ℕ) → slice_get open_at i ≡ Some true
+    → open_count open_at i ≡ 1
 unfolding open_count
 open_count_open open_at i h = rw h refl
 
-pub open_count_closed : (open_at : List Bool) (i : ℕ) → slice_get open_at i ≡ Some false → open_count open_at i ≡ 0
+pub open_count_closed : (open_at : List Bool) (i : ℕ) → slice_get open_at i ≡ Some false
+    → open_count open_at i ≡ 0
 unfolding open_count
 open_count_closed open_at i h = rw h refl
 
@@ -46,7 +48,8 @@ open_count-le open_at i =
     elim (slice_get open_at i) as (λ o. option_map_or (λ b. cond b 1 0) o 0 ≤ 1)
     [ None ↦ omega arith | Some true ↦ omega arith | Some false ↦ omega arith ]
 
-pub flag_from_count : (open_at : List Bool) (i : ℕ) → 1 ≤ open_count open_at i → slice_get open_at i ≡ Some true
+pub flag_from_count : (open_at : List Bool) (i : ℕ) → 1 ≤ open_count open_at i
+    → slice_get open_at i ≡ Some true
 flag_from_count open_at i counted = go (slice_get open_at i) refl
   where
     go : (o : Option Bool) → slice_get open_at i ≡ o → slice_get open_at i ≡ Some true
@@ -68,15 +71,19 @@ module _ {N : Type 0} where
   first_or_none (heap id n children rest) = inr (omega (arith, one_at_same id))
 
   -- the first number of a list stands nowhere else
-  pub first_apart : (hs : Heaps N) (others : ℕ) → count_at hs (first_id hs) + others ≤ 1 → (first_id hs ≡ NONE → others ≡ 0) → others ≡ 0
+  pub first_apart : (hs : Heaps N) (others : ℕ) → count_at hs (first_id hs) + others ≤ 1
+      → (first_id hs ≡ NONE → others ≡ 0) → others ≡ 0
   first_apart no_heap others most at_none = at_none refl
   first_apart (heap id n children rest) others most at_none = omega (arith, one_at_same id)
 
   module _ (es : List (Entry N)) where
-    pub open_from_count : (i : ℕ) (e : Entry N) → slice_get es i ≡ Some e → 1 ≤ open_count (map is_open es) i → is_open e ≡ true
+    pub open_from_count : (i : ℕ) (e : Entry N) → slice_get es i ≡ Some e
+        → 1 ≤ open_count (map is_open es) i → is_open e ≡ true
     open_from_count i e at most =
-        let flag : slice_get (map is_open es) i ≡ Some (is_open e) = slice_get-map is_open es i ∙ ap (option_map is_open) at in
-        ⊎_elim (λ yes. yes) (λ no. absurd (omega (arith, open_count_closed (map is_open es) i (flag ∙ ap Some no)))) (cases_Bool (is_open e))
+        let flag : slice_get (map is_open es) i ≡ Some (is_open e) = slice_get-map is_open es i
+        ∙ ap (option_map is_open) at in
+        ⊎_elim (λ yes. yes) (λ no. absurd (omega
+        (arith, open_count_closed (map is_open es) i (flag ∙ ap Some no)))) (cases_Bool (is_open e))
 
     pub none_past : (i : ℕ) → length es ≤ i → open_count (map is_open es) i ≡ 0
     none_past i past = open_count_past (map is_open es) i (omega (arith, length-map es is_open))

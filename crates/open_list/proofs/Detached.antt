@@ -15,15 +15,23 @@ use Rattle.open_list.proofs.Cuts as cuts
 
 is_open-relinked : {N : Type 0} (old new : ℕ) (e : Entry N) → is_open (relinked old new e) ≡ is_open e
 is_open-relinked old new e =
-    cond_both (nat_eq e.child old) (record e { child = new }) (record e { next = new }) (λ x. is_open x ≡ is_open e) (λ _. refl) (λ _. refl)
+    cond_both (nat_eq e.child old) (record e { child = new }) (record e { next = new })
+    (λ x. is_open x ≡ is_open e) (λ _. refl) (λ _. refl)
 
 node-relinked : {N : Type 0} (old new : ℕ) (e : Entry N) → (relinked old new e).node ≡ e.node
 node-relinked old new e =
-    cond_both (nat_eq e.child old) (record e { child = new }) (record e { next = new }) (λ x. x.node ≡ e.node) (λ _. refl) (λ _. refl)
+    cond_both (nat_eq e.child old) (record e { child = new }) (record e { next = new })
+    (λ x. x.node ≡ e.node) (λ _. refl) (λ _. refl)
 
-module _ {N : Type 0} (before : N → N → Bool) (es : List (Entry N)) (root id : ℕ) (all : IsHeap before es root) (open_id : open_count (map is_open es) id ≡ 1) (below : id ≢ root) where
+module _ {N : Type 0} (before : N → N → Bool) (es : List (Entry N)) (root id : ℕ)
+    (all : IsHeap before es root) (open_id : open_count (map is_open es) id ≡ 1) (below : id ≢ root) where
   some : root ≢ NONE
-  some none = omega (arith, open_id, none_open before es (subst (λ (k : ℕ). IsHeap before es k) none all) id)
+  some none = omega (
+    arith,
+    open_id,
+    none_open before es
+        (subst (λ (k : ℕ). IsHeap before es k) none all) id,
+  )
 
   tree : HoldsAll before es root
   tree = holds_all before es root all some
@@ -45,7 +53,9 @@ module _ {N : Type 0} (before : N → N → Bool) (es : List (Entry N)) (root id
   inside = omega (arith, tree.once id, one_at_other root id (λ same. below (sym same)))
 
   taken : cuts.IsCut before es id e.node e.child e.next e.prev at_id root tree.node tree.children
-  taken = cuts.cut before es id e.node e.child e.next e.prev at_id root tree.node tree.children tree.above once none_below inside
+  taken =
+      cuts.cut before es id e.node e.child e.next e.prev at_id root tree.node tree.children tree.above
+      once none_below inside
 
   abbrev after : List (Entry N)
   after = cuts.later before es id e.node e.child e.next e.prev at_id
@@ -53,7 +63,9 @@ module _ {N : Type 0} (before : N → N → Bool) (es : List (Entry N)) (root id
   -- the link back leads to the root or to another open node
   prev_counted : 1 ≤ one_at root e.prev + count_at tree.children e.prev
   prev_counted =
-      ⊎_elim (λ same. let here : one_at root e.prev ≡ 1 = subst (λ (k : ℕ). one_at root k ≡ 1) (sym same) (one_at_same root) in omega arith) (λ more. omega arith) taken.prev_in
+      ⊎_elim (λ same. let here : one_at root e.prev ≡ 1 =
+      subst (λ (k : ℕ). one_at root k ≡ 1) (sym same) (one_at_same root) in omega arith)
+      (λ more. omega arith) taken.prev_in
 
   prev_within : e.prev < length es
   prev_within = open_within es e.prev (omega (arith, tree.once e.prev, prev_counted))
@@ -69,8 +81,11 @@ module _ {N : Type 0} (before : N → N → Bool) (es : List (Entry N)) (root id
 
   detached_is : detached es id ≡ after
   detached_is =
-      ap (λ (prev : ℕ). changed (with_next NONE) id (changed (with_prev prev) (next_of es id) (changed (relinked id (next_of es id)) prev es))) prev_is
-      ∙ ap (λ (next : ℕ). changed (with_next NONE) id (changed (with_prev e.prev) next (changed (relinked id next) e.prev es))) next_is
+      ap (λ (prev : ℕ). changed (with_next NONE) id
+      (changed (with_prev prev) (next_of es id)
+      (changed (relinked id (next_of es id)) prev es))) prev_is
+      ∙ ap (λ (next : ℕ). changed (with_next NONE) id
+      (changed (with_prev e.prev) next (changed (relinked id next) e.prev es))) next_is
 
   abbrev unlinked : List (Entry N)
   unlinked = changed (relinked id e.next) e.prev es
@@ -80,7 +95,8 @@ module _ {N : Type 0} (before : N → N → Bool) (es : List (Entry N)) (root id
 
   length_after : length after ≡ length es
   length_after =
-      length-changed (with_next NONE) id linked ∙ length-changed (with_prev e.prev) e.next unlinked ∙ length-changed (relinked id e.next) e.prev es
+      length-changed (with_next NONE) id linked ∙ length-changed (with_prev e.prev) e.next unlinked
+      ∙ length-changed (relinked id e.next) e.prev es
 
   open_unlinked : map is_open unlinked ≡ map is_open es
   open_unlinked = map-changed (relinked id e.next) is_open e.prev es (λ x at. is_open-relinked id e.next x)
@@ -88,7 +104,8 @@ module _ {N : Type 0} (before : N → N → Bool) (es : List (Entry N)) (root id
   open_after : map is_open after ≡ map is_open es
   open_after =
       map-changed (with_next NONE) is_open id linked (λ x at. refl)
-      ∙ map-changed (with_prev e.prev) is_open e.next unlinked (λ x at. open_with_link x e.prev (omega (arith, prev_within, tree.small)) ∙ sym (next_open x at))
+      ∙ map-changed (with_prev e.prev) is_open e.next unlinked
+      (λ x at. open_with_link x e.prev (omega (arith, prev_within, tree.small)) ∙ sym (next_open x at))
       ∙ open_unlinked
     where
       next_open : (x : Entry N) → slice_get unlinked e.next ≡ Some x → is_open x ≡ true
@@ -96,7 +113,8 @@ module _ {N : Type 0} (before : N → N → Bool) (es : List (Entry N)) (root id
           let len = length-changed (relinked id e.next) e.prev es in
           ⊎_elim
           (λ last. absurd (omega (arith, slice_get_within unlinked e.next x at, tree.small)))
-          (λ (more : 1 ≤ count_at tree.children e.next). open_from_count unlinked e.next x at (rw open_unlinked (omega (arith, tree.once e.next))))
+          (λ (more : 1 ≤ count_at tree.children e.next).
+          open_from_count unlinked e.next x at (rw open_unlinked (omega (arith, tree.once e.next))))
           taken.next_in
 
   nodes_after : map (λ x. x.node) after ≡ map (λ x. x.node) es
@@ -119,7 +137,8 @@ module _ {N : Type 0} (before : N → N → Bool) (es : List (Entry N)) (root id
     first_roots = (e.prev, taken.at_id, taken.above, tt);
     second_roots = (
       tree.prev,
-      cuts.child_link before es id e.node e.child e.next e.prev at_id root tree.node tree.children taken tree.node NONE tree.prev (λ same. below (sym same)) root_ne_next tree.at,
+      cuts.child_link before es id e.node e.child e.next e.prev at_id root tree.node tree.children
+          taken tree.node NONE tree.prev (λ same. below (sym same)) root_ne_next tree.at,
       taken.held,
       tt,
     );

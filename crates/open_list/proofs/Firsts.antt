@@ -33,10 +33,18 @@ module _ {N : Type 0} (before : N → N → Bool) where
 
   module _ (es : List (Entry N)) where
     pub flag_within : (id : ℕ) → slice_get (map is_open es) id ≡ Some true → id < length es
-    flag_within id opened = omega (arith, slice_get_within (map is_open es) id true opened, length-map es is_open)
+    flag_within id opened = omega (
+      arith,
+      slice_get_within (map is_open es) id true opened,
+      length-map es is_open,
+    )
 
     pub no_flag : IsHeap before es NONE → (id : ℕ) → slice_get (map is_open es) id ≡ Some true → ⊥
-    no_flag all id opened = omega (arith, none_open before es all id, open_count_open (map is_open es) id opened)
+    no_flag all id opened = omega (
+      arith,
+      none_open before es all id,
+      open_count_open (map is_open es) id opened,
+    )
 
     module _ (root : ℕ) (all : IsHeap before es root) (some : root ≢ NONE) where
       tree : HoldsAll before es root
@@ -49,26 +57,38 @@ module _ {N : Type 0} (before : N → N → Bool) where
       root_open = flag_from_count (map is_open es) root (omega (arith, tree.once root, one_at_same root))
 
       -- no open node is before that of the root
-      none_before : IsStrictWeakOrder before → (i : ℕ) (e : Entry N) → slice_get (map is_open es) i ≡ Some true → slice_get es i ≡ Some e → before e.node tree.node ≡ false
+      none_before : IsStrictWeakOrder before → (i : ℕ) (e : Entry N)
+          → slice_get (map is_open es) i ≡ Some true → slice_get es i ≡ Some e
+          → before e.node tree.node ≡ false
       none_before order i e opened found =
           ⊎_elim
           (λ (here : root ≡ i).
-          ap (λ (x : Entry N). before x.node tree.node) (same_Some e _ (sym found ∙ ap (slice_get es) (sym here) ∙ tree.at))
+          ap (λ (x : Entry N). before x.node tree.node)
+          (same_Some e _ (sym found ∙ ap (slice_get es) (sym here) ∙ tree.at))
           ∙ order.not_before_itself tree.node)
           (λ (other : root ≢ i).
           none_before_parent before order es root tree.node tree.children tree.above i e
-          (omega (arith, tree.once i, one_at_other root i other, open_count_open (map is_open es) i opened)) found)
+          (omega (
+            arith,
+            tree.once i,
+            one_at_other root i other,
+            open_count_open (map is_open es) i opened,
+          )) found)
           (cases_eq root i)
 
-      pub root_first : IsStrictWeakOrder before → (pool : OpenList N) → pool.nodes ≡ nodes_of es → pool.open_at ≡ map is_open es → IsFirst before pool root
+      pub root_first : IsStrictWeakOrder before → (pool : OpenList N) → pool.nodes ≡ nodes_of es
+          → pool.open_at ≡ map is_open es → IsFirst before pool root
       root_first order pool nodes flags = record {
         is_open = ap (λ fs. slice_get fs root) flags ∙ root_open;
         node = tree.node;
-        its_node = ap (λ ns. slice_get ns root) nodes ∙ slice_get-map (λ (e : Entry N). e.node) es root ∙ ap (option_map (λ (e : Entry N). e.node)) tree.at;
+        its_node = ap (λ ns. slice_get ns root) nodes ∙ slice_get-map (λ (e : Entry N). e.node) es root
+            ∙ ap (option_map (λ (e : Entry N). e.node)) tree.at;
         none_before = λ other n opened found.
             let flag = sym (ap (λ fs. slice_get fs other) flags) ∙ opened in
             let entry = entry_at es other (omega (arith, open_count_open (map is_open es) other flag)) in
             let same : n ≡ entry.0.node =
-            same_Some n _ (sym found ∙ ap (λ ns. slice_get ns other) nodes ∙ slice_get-map (λ (e : Entry N). e.node) es other ∙ ap (option_map (λ (e : Entry N). e.node)) entry.1) in
+            same_Some n _ (sym found ∙ ap (λ ns. slice_get ns other) nodes
+            ∙ slice_get-map (λ (e : Entry N). e.node) es other
+            ∙ ap (option_map (λ (e : Entry N). e.node)) entry.1) in
             ap (λ m. before m tree.node) same ∙ none_before order other entry.0 flag entry.1;
       }

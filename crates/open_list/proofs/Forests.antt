@@ -15,11 +15,13 @@ module _ {N : Type 0} (before : N → N → Bool) where
   heap_count-le no_heap = omega arith
   heap_count-le (heap id n children rest) = omega (arith, heap_count-le rest)
 
-  list_len_to-roots : (most : ℕ) (es : List (Entry N)) (hs : Heaps N) → heap_count hs ≤ most → length es ≤ NONE → AreRoots before es hs → list_len_to most es (first_id hs) ≡ heap_count hs
+  list_len_to-roots : (most : ℕ) (es : List (Entry N)) (hs : Heaps N) → heap_count hs ≤ most
+      → length es ≤ NONE → AreRoots before es hs → list_len_to most es (first_id hs) ≡ heap_count hs
   list_len_to-roots zero es no_heap enough small held = refl
   list_len_to-roots zero es (heap id n children rest) enough small held = absurd (omega (arith, enough))
   list_len_to-roots (suc most) es no_heap enough small held =
-      ap (λ o. option_map_or (λ (e : Entry N). suc (list_len_to most es e.next)) o 0) (slice_get_past es NONE small)
+      ap (λ o. option_map_or (λ (e : Entry N). suc (list_len_to most es e.next)) o 0)
+      (slice_get_past es NONE small)
   list_len_to-roots (suc most) es (heap id n children rest) enough small held =
       ap (λ o. option_map_or (λ (e : Entry N). suc (list_len_to most es e.next)) o 0) held.1
       ∙ ap suc (list_len_to-roots most es rest (omega (arith, enough)) small held.3)
@@ -44,11 +46,15 @@ module _ {N : Type 0} (before : N → N → Bool) where
   module _ (es : List (Entry N)) (a b : ℕ) (have : HaveOpen before es a b) where
     pub list_len-firsts : list_len es a ≡ heap_count have.firsts
     list_len-firsts =
-        rw (← have.first_is) (list_len_to-roots (length es) es have.firsts (omega (arith, heap_count-le have.firsts, have.fits)) (omega (arith, have.small)) have.first_roots)
+        rw (← have.first_is) (list_len_to-roots (length es) es have.firsts
+        (omega (arith, heap_count-le have.firsts, have.fits))
+        (omega (arith, have.small)) have.first_roots)
 
     pub list_len-seconds : list_len es b ≡ heap_count have.seconds
     list_len-seconds =
-        rw (← have.second_is) (list_len_to-roots (length es) es have.seconds (omega (arith, heap_count-le have.seconds, have.fits)) (omega (arith, have.small)) have.second_roots)
+        rw (← have.second_is) (list_len_to-roots (length es) es have.seconds
+        (omega (arith, heap_count-le have.seconds, have.fits))
+        (omega (arith, have.small)) have.second_roots)
 
   -- the list begins with the heap of this number
   pub record StartsWith (es : List (Entry N)) (hs : Heaps N) (id : ℕ) : Type 0 where
@@ -57,17 +63,33 @@ module _ {N : Type 0} (before : N → N → Bool) where
     pub rest : Heaps N
     pub prev : ℕ
     pub is : hs ≡ heap id node children rest
-    pub at : slice_get es id ≡ Some (record { node = node; child = first_id children; next = first_id rest; prev = prev })
+    pub at : slice_get es id ≡ Some (record {
+      node = node;
+      child = first_id children;
+      next = first_id rest;
+      prev = prev;
+    })
     pub above : AreChildren before es id node children
     pub roots : AreRoots before es rest
 
-  pub starts_with : (es : List (Entry N)) (hs : Heaps N) (id : ℕ) → first_id hs ≡ id → id ≢ NONE → AreRoots before es hs → StartsWith es hs id
+  pub starts_with : (es : List (Entry N)) (hs : Heaps N) (id : ℕ) → first_id hs ≡ id → id ≢ NONE
+      → AreRoots before es hs → StartsWith es hs id
   starts_with es no_heap id is some held = absurd (some (sym is))
   starts_with es (heap other node children rest) id is some held =
       subst (λ (k : ℕ). StartsWith es (heap other node children rest) k) is
-      (record { node = node; children = children; rest = rest; prev = held.0; is = refl; at = held.1; above = held.2; roots = held.3 })
+      (record {
+        node = node;
+        children = children;
+        rest = rest;
+        prev = held.0;
+        is = refl;
+        at = held.1;
+        above = held.2;
+        roots = held.3;
+      })
 
-  pub next_of_start : {es : List (Entry N)} {hs : Heaps N} {id : ℕ} (start : StartsWith es hs id) → next_of es id ≡ first_id start.rest
+  pub next_of_start : {es : List (Entry N)} {hs : Heaps N} {id : ℕ} (start : StartsWith es hs id)
+      → next_of es id ≡ first_id start.rest
   next_of_start start = ap (λ o. option_map_or (λ (e : Entry N). e.next) o NONE) start.at
 
   -- the link leads to an entry
@@ -75,17 +97,27 @@ module _ {N : Type 0} (before : N → N → Bool) where
   first_within es a b have some =
       slice_get_within es a _ (starts_with es have.firsts a have.first_is some have.first_roots).at
 
-  pub shifted : (es : List (Entry N)) (todo done : ℕ) → HaveOpen before es todo done → todo < length es → IsShifted before es (changed (with_next done) todo es) todo done (next_of es todo)
+  pub shifted : (es : List (Entry N)) (todo done : ℕ) → HaveOpen before es todo done → todo < length es
+      → IsShifted before es (changed (with_next done) todo es) todo done (next_of es todo)
   shifted es todo done have within =
       let later = changed (with_next done) todo es in
-      let start = starts_with es have.firsts todo have.first_is (λ none. omega (arith, have.small)) have.first_roots in
+      let start = starts_with es have.firsts todo have.first_is
+      (λ none. omega (arith, have.small)) have.first_roots in
       let next_is = next_of_start start in
-      let total : (i : ℕ) → one_at todo i + count_at start.children i + count_at start.rest i + count_at have.seconds i ≡ open_count (map is_open es) i =
+      let total : (i : ℕ)
+      → one_at todo i + count_at start.children i + count_at start.rest i + count_at have.seconds i
+      ≡ open_count (map is_open es) i =
       λ i. omega (arith, have.once i, ap (λ hs. count_at hs i) start.is) in
       let here = total todo in
       let most = open_count-le (map is_open es) todo in
       let one = one_at_same todo in
-      let at : slice_get later todo ≡ Some (record { node = start.node; child = first_id start.children; next = first_id have.seconds; prev = start.prev }) =
+      let at : slice_get later todo ≡ Some
+      (record {
+        node = start.node;
+        child = first_id start.children;
+        next = first_id have.seconds;
+        prev = start.prev;
+      }) =
       rw have.second_is (get-changed (with_next done) todo es _ start.at) in
       let lists : HaveOpen before later (first_id start.rest) todo = record {
         firsts = start.rest;
@@ -96,16 +128,27 @@ module _ {N : Type 0} (before : N → N → Bool) where
         second_roots = (
           start.prev,
           at,
-          AreChildren-changed before (with_next done) todo es todo start.node start.children (omega arith) start.above,
+          AreChildren-changed before (with_next done) todo es todo start.node start.children
+              (omega arith) start.above,
           AreRoots-changed before (with_next done) todo es have.seconds (omega arith) have.second_roots,
         );
-        once = λ i. rw (map-changed (with_next done) is_open todo es (λ e at. refl)) (omega (arith, total i));
+        once = λ i. rw (map-changed (with_next done) is_open todo es (λ e at. refl))
+            (omega (arith, total i));
         fits = omega (arith, have.fits, ap node_count start.is, length-changed (with_next done) todo es);
         small = rw (length-changed (with_next done) todo es) have.small;
       } in
       record {
         lists = subst (λ (k : ℕ). HaveOpen before later k todo) (sym next_is) lists;
-        shorter = omega (arith, list_len-firsts later _ _ lists, list_len-firsts es _ _ have, ap heap_count start.is, ap (list_len later) next_is);
+        shorter = omega (
+          arith,
+          list_len-firsts later _ _ lists,
+          list_len-firsts es _ _ have,
+          ap heap_count start.is,
+          ap (list_len later) next_is,
+        );
         longer = omega (arith, list_len-seconds later _ _ lists, list_len-seconds es _ _ have);
-        kept = record { nodes = map-changed (with_next done) (λ e. e.node) todo es (λ e at. refl); open_at = map-changed (with_next done) is_open todo es (λ e at. refl) };
+        kept = record {
+          nodes = map-changed (with_next done) (λ e. e.node) todo es (λ e at. refl);
+          open_at = map-changed (with_next done) is_open todo es (λ e at. refl);
+        };
       }

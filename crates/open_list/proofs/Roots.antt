@@ -13,23 +13,31 @@ module _ {N : Type 0} (before : N → N → Bool) where
     pub node : N
     pub children : Heaps N
     pub prev : ℕ
-    pub at : slice_get es root ≡ Some (record { node = node; child = first_id children; next = NONE; prev = prev })
+    pub at : slice_get es root ≡ Some (record {
+      node = node;
+      child = first_id children;
+      next = NONE;
+      prev = prev;
+    })
     pub above : AreChildren before es root node children
     pub once : (i : ℕ) → one_at root i + count_at children i ≡ open_count (map is_open es) i
     pub fits : suc (node_count children) ≤ length es
     pub small : length es < 2 ^ 28
 
   -- no heap begins at NONE
-  pub none_heap : (es : List (Entry N)) (hs : Heaps N) → length es < 2 ^ 28 → first_id hs ≡ NONE → AreRoots before es hs → hs ≡ no_heap
+  pub none_heap : (es : List (Entry N)) (hs : Heaps N) → length es < 2 ^ 28 → first_id hs ≡ NONE
+      → AreRoots before es hs → hs ≡ no_heap
   none_heap es no_heap small is held = refl
-  none_heap es (heap id n children rest) small is held = absurd (omega (arith, slice_get_within es id _ held.1))
+  none_heap es (heap id n children rest) small is held =
+      absurd (omega (arith, slice_get_within es id _ held.1))
 
   nothing_left : (hs : Heaps N) → heap_count hs ≤ 0 → hs ≡ no_heap
   nothing_left no_heap none = refl
   nothing_left (heap id n children rest) none = absurd (omega (arith, none))
 
   -- where no node is open, there is no root
-  pub none_open : (es : List (Entry N)) → IsHeap before es NONE → (i : ℕ) → open_count (map is_open es) i ≡ 0
+  pub none_open : (es : List (Entry N)) → IsHeap before es NONE → (i : ℕ)
+      → open_count (map is_open es) i ≡ 0
   none_open es all i =
       let have = all.all_open in
       let firsts = none_heap es have.firsts have.small have.first_is have.first_roots in
@@ -42,14 +50,31 @@ module _ {N : Type 0} (before : N → N → Bool) where
       let firsts = none_heap es have.firsts have.small have.first_is have.first_roots in
       let start = starts_with before es have.seconds root have.second_is some have.second_roots in
       let last : start.rest ≡ no_heap =
-      nothing_left start.rest (omega (arith, all.alone, list_len-seconds before es NONE root have, ap heap_count start.is)) in
+      nothing_left start.rest (omega (
+        arith,
+        all.alone,
+        list_len-seconds before es NONE root have,
+        ap heap_count start.is,
+      )) in
       record {
         node = start.node;
         children = start.children;
         prev = start.prev;
-        at = start.at ∙ ap (λ (hs : Heaps N). Some (let e : Entry N = record { node = start.node; child = first_id start.children; next = first_id hs; prev = start.prev } in e)) last;
+        at = start.at ∙ ap (λ (hs : Heaps N).
+            Some (let e : Entry N = record {
+              node = start.node;
+              child = first_id start.children;
+              next = first_id hs;
+              prev = start.prev;
+            } in e)) last;
         above = start.above;
-        once = λ i. omega (arith, have.once i, ap (λ hs. count_at hs i) firsts, ap (λ hs. count_at hs i) start.is, ap (λ hs. count_at hs i) last);
+        once = λ i. omega (
+          arith,
+          have.once i,
+          ap (λ hs. count_at hs i) firsts,
+          ap (λ hs. count_at hs i) start.is,
+          ap (λ hs. count_at hs i) last,
+        );
         fits = omega (arith, have.fits, ap node_count start.is);
         small = have.small;
       }

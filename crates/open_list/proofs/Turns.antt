@@ -16,20 +16,25 @@ use Rattle.open_list.proofs.Forests.{StartsWith, starts_with, next_of_start, swa
 use Rattle.open_list.proofs.Roots.{HoldsAll, holds_all, none_heap}
 
 -- the counts go by the flags alone
-open_count-same : (old new : List Bool) (i : ℕ) → slice_get new i ≡ slice_get old i → open_count new i ≡ open_count old i
+open_count-same : (old new : List Bool) (i : ℕ) → slice_get new i ≡ slice_get old i
+    → open_count new i ≡ open_count old i
 unfolding open_count
 open_count-same old new i same = ap (λ o. option_map_or (λ b. cond b 1 0) o 0) same
 
 module _ {N : Type 0} (before : N → N → Bool) where
   -- the first of a list gets a node that is not after its own
-  module _ (order : IsStrictWeakOrder before) (es : List (Entry N)) (id other : ℕ) (have : HaveOpen before es id other) (some : id ≢ NONE) (node : N) (lower : (e : Entry N) → slice_get es id ≡ Some e → before e.node node ≡ false) where
+  module _ (order : IsStrictWeakOrder before) (es : List (Entry N)) (id other : ℕ)
+      (have : HaveOpen before es id other) (some : id ≢ NONE) (node : N)
+      (lower : (e : Entry N) → slice_get es id ≡ Some e → before e.node node ≡ false) where
     abbrev lowered : List (Entry N)
     lowered = changed (with_node node) id es
 
     start : StartsWith before es have.firsts id
     start = starts_with before es have.firsts id have.first_is some have.first_roots
 
-    total : (i : ℕ) → one_at id i + count_at start.children i + count_at start.rest i + count_at have.seconds i ≡ open_count (map is_open es) i
+    total : (i : ℕ)
+        → one_at id i + count_at start.children i + count_at start.rest i + count_at have.seconds i
+        ≡ open_count (map is_open es) i
     total i = omega (arith, have.once i, ap (λ hs. count_at hs i) start.is)
 
     pub lists_lowered : HaveOpen before lowered id other
@@ -46,31 +51,39 @@ module _ {N : Type 0} (before : N → N → Bool) where
             start.prev,
             get-changed (with_node node) id es _ start.at,
             AreChildren-lowered before order lowered id start.node node start.children (lower _ start.at)
-                (AreChildren-changed before (with_node node) id es id start.node start.children (omega arith) start.above),
+                (AreChildren-changed before (with_node node) id es id start.node start.children
+                (omega arith) start.above),
             AreRoots-changed before (with_node node) id es start.rest (omega arith) start.roots,
           );
-          second_roots = AreRoots-changed before (with_node node) id es have.seconds (omega arith) have.second_roots;
-          once = λ i. rw (map-changed (with_node node) is_open id es (λ e at. refl)) (omega (arith, total i));
+          second_roots = AreRoots-changed before (with_node node) id es have.seconds
+              (omega arith) have.second_roots;
+          once = λ i. rw (map-changed (with_node node) is_open id es (λ e at. refl))
+              (omega (arith, total i));
           fits = omega (arith, have.fits, ap node_count start.is, length-changed (with_node node) id es);
           small = rw (length-changed (with_node node) id es) have.small;
         }
 
     pub other_len : list_len lowered other ≡ list_len es other
     unfolding lists_lowered
-    other_len = list_len-seconds before lowered id other lists_lowered ∙ sym (list_len-seconds before es id other have)
+    other_len = list_len-seconds before lowered id other lists_lowered
+        ∙ sym (list_len-seconds before es id other have)
 
     pub own_len : list_len lowered id ≡ list_len es id
     unfolding lists_lowered
     own_len =
-        list_len-firsts before lowered id other lists_lowered ∙ sym (list_len-firsts before es id other have ∙ ap heap_count start.is)
+        list_len-firsts before lowered id other lists_lowered
+        ∙ sym (list_len-firsts before es id other have ∙ ap heap_count start.is)
 
     pub own_next : next_of lowered id ≡ next_of es id
     own_next =
-        ap (λ o. option_map_or (λ (e : Entry N). e.next) o NONE) (get-changed (with_node node) id es _ start.at)
+        ap (λ o. option_map_or (λ (e : Entry N). e.next) o NONE)
+        (get-changed (with_node node) id es _ start.at)
         ∙ sym (next_of_start before start)
 
   -- the node of the root is lowered
-  pub root_lowered : IsStrictWeakOrder before → (es : List (Entry N)) (root : ℕ) → IsHeap before es root → root ≢ NONE → (node : N) → ((e : Entry N) → slice_get es root ≡ Some e → before e.node node ≡ false) → IsHeap before (changed (with_node node) root es) root
+  pub root_lowered : IsStrictWeakOrder before → (es : List (Entry N)) (root : ℕ) → IsHeap before es root
+      → root ≢ NONE → (node : N) → ((e : Entry N) → slice_get es root ≡ Some e
+      → before e.node node ≡ false) → IsHeap before (changed (with_node node) root es) root
   root_lowered order es root all some node lower =
       let lists = swapped before es NONE root all.all_open in
       record {
@@ -79,7 +92,10 @@ module _ {N : Type 0} (before : N → N → Bool) where
       }
 
   -- the node of the heap beside the root is lowered
-  pub beside_lowered : IsStrictWeakOrder before → (es : List (Entry N)) (root id : ℕ) → AreBeside before es root id → id ≢ NONE → (node : N) → ((e : Entry N) → slice_get es id ≡ Some e → before e.node node ≡ false) → AreBeside before (changed (with_node node) id es) root id
+  pub beside_lowered : IsStrictWeakOrder before → (es : List (Entry N)) (root id : ℕ)
+      → AreBeside before es root id → id ≢ NONE → (node : N)
+      → ((e : Entry N) → slice_get es id ≡ Some e → before e.node node ≡ false)
+      → AreBeside before (changed (with_node node) id es) root id
   beside_lowered order es root id beside some node lower = record {
     lists = lists_lowered order es id root beside.lists some node lower;
     alone = omega (arith, beside.alone, other_len order es id root beside.lists some node lower);
@@ -87,14 +103,21 @@ module _ {N : Type 0} (before : N → N → Bool) where
   }
 
   -- where there is no root, the heap beside it has each open node
-  pub beside_none : (es : List (Entry N)) (id : ℕ) → AreBeside before es NONE id → id ≢ NONE → IsHeap before es id
+  pub beside_none : (es : List (Entry N)) (id : ℕ) → AreBeside before es NONE id → id ≢ NONE
+      → IsHeap before es id
   beside_none es id beside some =
       let have = beside.lists in
       let start = starts_with before es have.firsts id have.first_is some have.first_roots in
-      let last : start.rest ≡ no_heap = none_heap before es start.rest have.small (sym (next_of_start before start) ∙ beside.last) start.roots in
+      let last : start.rest ≡ no_heap = none_heap before es start.rest have.small
+      (sym (next_of_start before start) ∙ beside.last) start.roots in
       record {
         all_open = swapped before es id NONE have;
-        alone = omega (arith, list_len-firsts before es id NONE have, ap heap_count start.is, ap heap_count last);
+        alone = omega (
+          arith,
+          list_len-firsts before es id NONE have,
+          ap heap_count start.is,
+          ap heap_count last,
+        );
       }
 
   -- the root is closed: its children have the other open nodes
@@ -107,7 +130,8 @@ module _ {N : Type 0} (before : N → N → Bool) where
 
     pub flags_closed : map is_open closed ≡ set (map is_open es) root false
     flags_closed =
-        map-changed_to (with_prev CLOSED) is_open (λ _. false) root es (λ e. refl) ∙ sym (set-is_changed (map is_open es) root false)
+        map-changed_to (with_prev CLOSED) is_open (λ _. false) root es (λ e. refl)
+        ∙ sym (set-is_changed (map is_open es) root false)
 
     none_twice : count_at tree.children root ≡ 0
     none_twice = omega (arith, tree.once root, one_at_same root, open_count-le (map is_open es) root)
@@ -117,18 +141,27 @@ module _ {N : Type 0} (before : N → N → Bool) where
         ⊎_elim
         (λ (here : root ≡ i).
         let flag : slice_get (map is_open closed) root ≡ Some false =
-        slice_get-map is_open closed root ∙ ap (option_map is_open) (get-changed (with_prev CLOSED) root es _ tree.at) in
+        slice_get-map is_open closed root ∙ ap (option_map is_open)
+        (get-changed (with_prev CLOSED) root es _ tree.at) in
         subst (λ (k : ℕ). count_at tree.children k ≡ open_count (map is_open closed) k) here
         (none_twice ∙ sym (open_count_closed (map is_open closed) root flag)))
         (λ (other : root ≢ i).
         let flag : slice_get (map is_open closed) i ≡ slice_get (map is_open es) i =
-        slice_get-map is_open closed i ∙ ap (option_map is_open) (get-changed_other (with_prev CLOSED) root i es (λ same. other (sym same))) ∙ sym (slice_get-map is_open es i) in
-        omega (arith, tree.once i, one_at_other root i other, open_count-same (map is_open es) (map is_open closed) i flag))
+        slice_get-map is_open closed i ∙ ap (option_map is_open)
+        (get-changed_other (with_prev CLOSED) root i es (λ same. other (sym same)))
+        ∙ sym (slice_get-map is_open es i) in
+        omega (
+          arith,
+          tree.once i,
+          one_at_other root i other,
+          open_count-same (map is_open es) (map is_open closed) i flag,
+        ))
         (cases_eq root i)
 
     pub root_closed : HaveOpen before closed (child_of es root) NONE
     root_closed =
-        let child_is : child_of es root ≡ first_id tree.children = ap (λ o. option_map_or (λ (e : Entry N). e.child) o NONE) tree.at in
+        let child_is : child_of es root ≡ first_id tree.children =
+        ap (λ o. option_map_or (λ (e : Entry N). e.child) o NONE) tree.at in
         let len : length closed ≡ length es = length-changed (with_prev CLOSED) root es in
         let lists : HaveOpen before closed (first_id tree.children) NONE = record {
           firsts = tree.children;
@@ -136,7 +169,8 @@ module _ {N : Type 0} (before : N → N → Bool) where
           first_is = refl;
           second_is = refl;
           first_roots = AreRoots_from_children before closed root tree.node tree.children
-              (AreChildren-changed before (with_prev CLOSED) root es root tree.node tree.children none_twice tree.above);
+              (AreChildren-changed before
+              (with_prev CLOSED) root es root tree.node tree.children none_twice tree.above);
           second_roots = tt;
           once = λ i. omega (arith, children_only i);
           fits = omega (arith, tree.fits, len);
@@ -145,7 +179,8 @@ module _ {N : Type 0} (before : N → N → Bool) where
         subst (λ (k : ℕ). HaveOpen before closed k NONE) (sym child_is) lists
 
   -- a node is put at the end, as a heap by itself
-  module _ (es : List (Entry N)) (root : ℕ) (node : N) (all : IsHeap before es root) (room : length es + 1 < 2 ^ 28) where
+  module _ (es : List (Entry N)) (root : ℕ) (node : N) (all : IsHeap before es root)
+      (room : length es + 1 < 2 ^ 28) where
     abbrev fresh : Entry N
     fresh = record { node = node; child = NONE; next = NONE; prev = NONE }
 
@@ -161,18 +196,30 @@ module _ {N : Type 0} (before : N → N → Bool) where
     counted : (i : ℕ) → one_at (length es) i + count_at have.seconds i ≡ open_count (map is_open pushed) i
     counted i =
         let old : count_at have.seconds i ≡ open_count (map is_open es) i =
-        omega (arith, have.once i, ap (λ hs. count_at hs i) (none_heap before es have.firsts have.small have.first_is have.first_roots)) in
+        omega (
+          arith,
+          have.once i,
+          ap (λ hs. count_at hs i)
+              (none_heap before es have.firsts have.small have.first_is have.first_roots),
+        ) in
         ⊎_elim
         (λ (here : length es ≡ i).
         let flag : slice_get (map is_open pushed) i ≡ Some true =
         subst (λ (k : ℕ). slice_get (map is_open pushed) k ≡ Some true) here
         (slice_get-map is_open pushed (length es) ∙ ap (option_map is_open) (get_pushed es fresh)) in
-        let one : one_at (length es) i ≡ 1 = subst (λ (k : ℕ). one_at (length es) k ≡ 1) here (one_at_same (length es)) in
+        let one : one_at (length es) i ≡ 1 =
+        subst (λ (k : ℕ). one_at (length es) k ≡ 1) here (one_at_same (length es)) in
         omega (arith, old, none_past es i (omega arith), open_count_open (map is_open pushed) i flag))
         (λ (other : length es ≢ i).
         let flag : slice_get (map is_open pushed) i ≡ slice_get (map is_open es) i =
-        slice_get-map is_open pushed i ∙ ap (option_map is_open) (get_pushed_other es fresh i (λ same. other (sym same))) ∙ sym (slice_get-map is_open es i) in
-        omega (arith, old, one_at_other (length es) i other, open_count-same (map is_open es) (map is_open pushed) i flag))
+        slice_get-map is_open pushed i ∙ ap (option_map is_open)
+        (get_pushed_other es fresh i (λ same. other (sym same))) ∙ sym (slice_get-map is_open es i) in
+        omega (
+          arith,
+          old,
+          one_at_other (length es) i other,
+          open_count-same (map is_open es) (map is_open pushed) i flag,
+        ))
         (cases_eq (length es) i)
 
     lists_pushed : HaveOpen before pushed (length es) root
@@ -192,7 +239,12 @@ module _ {N : Type 0} (before : N → N → Bool) where
     unfolding lists_pushed
     beside_pushed = record {
       lists = lists_pushed;
-      alone = omega (arith, all.alone, list_len-seconds before pushed (length es) root lists_pushed, list_len-seconds before es NONE root have);
+      alone = omega (
+        arith,
+        all.alone,
+        list_len-seconds before pushed (length es) root lists_pushed,
+        list_len-seconds before es NONE root have,
+      );
       last = ap (λ o. option_map_or (λ (e : Entry N). e.next) o NONE) (get_pushed es fresh);
     }
 
@@ -201,16 +253,23 @@ module _ {N : Type 0} (before : N → N → Bool) where
 
 module _ {N : Type 0} where
   -- what is known of the node at a number is known of the entry there
-  pub entry_lower : (before : N → N → Bool) (es : List (Entry N)) (nodes : List N) (id : ℕ) (node : N) → nodes_of es ≡ nodes → ((n : N) → slice_get nodes id ≡ Some n → before n node ≡ false) → (e : Entry N) → slice_get es id ≡ Some e → before e.node node ≡ false
+  pub entry_lower : (before : N → N → Bool) (es : List (Entry N)) (nodes : List N) (id : ℕ) (node : N)
+      → nodes_of es ≡ nodes → ((n : N) → slice_get nodes id ≡ Some n → before n node ≡ false)
+      → (e : Entry N) → slice_get es id ≡ Some e → before e.node node ≡ false
   entry_lower before es nodes id node same lower e found =
-      lower e.node (ap (λ ns. slice_get ns id) (sym same) ∙ slice_get-map (λ (x : Entry N). x.node) es id ∙ ap (option_map (λ (x : Entry N). x.node)) found)
+      lower e.node (ap (λ ns. slice_get ns id) (sym same) ∙ slice_get-map (λ (x : Entry N). x.node) es id
+      ∙ ap (option_map (λ (x : Entry N). x.node)) found)
 
-  pub nodes_lowered : (es : List (Entry N)) (id : ℕ) (node : N) → nodes_of (changed (with_node node) id es) ≡ set (nodes_of es) id node
+  pub nodes_lowered : (es : List (Entry N)) (id : ℕ) (node : N)
+      → nodes_of (changed (with_node node) id es) ≡ set (nodes_of es) id node
   nodes_lowered es id node =
-      map-changed_to (with_node node) (λ (e : Entry N). e.node) (λ _. node) id es (λ e. refl) ∙ sym (set-is_changed (nodes_of es) id node)
+      map-changed_to (with_node node) (λ (e : Entry N). e.node) (λ _. node) id es (λ e. refl)
+      ∙ sym (set-is_changed (nodes_of es) id node)
 
-  pub flags_lowered : (es : List (Entry N)) (id : ℕ) (node : N) → map is_open (changed (with_node node) id es) ≡ map is_open es
+  pub flags_lowered : (es : List (Entry N)) (id : ℕ) (node : N)
+      → map is_open (changed (with_node node) id es) ≡ map is_open es
   flags_lowered es id node = map-changed (with_node node) is_open id es (λ e at. refl)
 
-  pub nodes_closed : (es : List (Entry N)) (root : ℕ) → nodes_of (changed (with_prev CLOSED) root es) ≡ nodes_of es
+  pub nodes_closed : (es : List (Entry N)) (root : ℕ)
+      → nodes_of (changed (with_prev CLOSED) root es) ≡ nodes_of es
   nodes_closed es root = map-changed (with_prev CLOSED) (λ (e : Entry N). e.node) root es (λ e at. refl)

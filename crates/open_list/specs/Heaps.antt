@@ -45,7 +45,12 @@ module _ {N : Type 0} where
     abbrev pub AreChildren : ℕ → N → Heaps N → Type 0
     AreChildren prev parent no_heap = Unit {0}
     AreChildren prev parent (heap id n children rest) =
-        (slice_get es id ≡ Some (record { node = n; child = first_id children; next = first_id rest; prev = prev }))
+        (slice_get es id ≡ Some (record {
+          node = n;
+          child = first_id children;
+          next = first_id rest;
+          prev = prev;
+        }))
         × (before n parent ≡ false) × AreChildren id n children × AreChildren id parent rest
 
     -- the entries have these heaps as a list of their own, in which links back have no meaning
@@ -53,7 +58,12 @@ module _ {N : Type 0} where
     AreRoots no_heap = Unit {0}
     AreRoots (heap id n children rest) =
         (prev : ℕ)
-        × (slice_get es id ≡ Some (record { node = n; child = first_id children; next = first_id rest; prev = prev }))
+        × (slice_get es id ≡ Some (record {
+          node = n;
+          child = first_id children;
+          next = first_id rest;
+          prev = prev;
+        }))
         × AreChildren id n children × AreRoots rest
 
     -- the two lists of heaps, from these links on, have each open node once
@@ -83,7 +93,8 @@ module _ {N : Type 0} where
     pub kept : KeepsNodes old new
 
   -- the first heap of the list from `todo` is put before the list from `done`
-  pub record IsShifted (before : N → N → Bool) (old new : List (Entry N)) (todo done rest : ℕ) : Type 0 where
+  pub record IsShifted (before : N → N → Bool) (old new : List (Entry N))
+      (todo done rest : ℕ) : Type 0 where
     pub lists : HaveOpen before new rest todo
     pub shorter : list_len old todo ≡ list_len new rest + 1
     pub longer : list_len new todo ≡ list_len old done + 1

@@ -28,7 +28,8 @@ fn adopt<N>(entries: &mut [Entry<N>], parent: u32, child: u32, next: u32)
 fn is_before<N: Ranked>(entries: &[Entry<N>], a: u32, b: u32) -> bool
     requires a_in { a < length entries.now }
     requires b_in { b < length entries.now }
-    ensures { (x : _) (y : _) → slice_get entries.now a ≡ Some x → slice_get entries.now b ≡ Some y → result ≡ N.before x.node y.node }
+    ensures { (x : _) (y : _) → slice_get entries.now a ≡ Some x → slice_get entries.now b ≡ Some y
+        → result ≡ N.before x.node y.node }
 {
     entries[a as usize].node.before(&entries[b as usize].node)
 }

@@ -12,6 +12,10 @@ use std::sync::ledger::Ledger;
 use steps::Steps;
 
 /// Nodes that are open or closed, each under a number that stays, and the open ones in their order.
+///
+/// There are fewer than 2^28 nodes. An entry takes 12 bytes beside its node. Contracts see a pool as
+/// the list of its nodes, the list that says of each whether it is open, and the number of nodes
+/// that can still be added with no allocation.
 #[derive(Drop)]
 pub struct Pool<N: Ranked + Copy> {
     entries: Vec<Entry<N>>,
@@ -53,6 +57,7 @@ impl<N: Ranked + Copy> Pool<N> {
     pub fn len(&self) -> u32
         ensures value { result ≡ length self.now.nodes }
         ensures small { result < 2 ^ 28 }
+        ensures flags { length self.now.open_at ≡ length self.now.nodes }
     {
         self.entries.len() as u32
     }
@@ -109,7 +114,8 @@ impl<N: Ranked + Copy> Pool<N> {
     pub fn pop<L: Ledger>(&mut self, steps: &mut Steps<L>) -> Option<u32>
         ensures none { IsNone result ↔ HasNoneOpen self.old }
         ensures first { IfSome result (λ id. IsFirst N.before self.old id) }
-        ensures closed { IfSome result (λ id. self.new ≡ record self.old { open_at = slice_set self.old.open_at id false }) }
+        ensures closed { IfSome result (λ id.
+            self.new ≡ record self.old { open_at = slice_set self.old.open_at id false }) }
         ensures unchanged { IfNone result (self.new ≡ self.old) }
         ensures counted { steps.old ≤ steps.new }
     {

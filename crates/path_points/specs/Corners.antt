@@ -1,5 +1,5 @@
 -- The points by which the plain engine prints a walk: its ends and its turns.
-use Rattle.std.specs.Prelude.{◌≡◌, ℕ, ◌+◌, ◌*◌, Bool, nat_eq, ◌&&◌, refl, List, [], ◌∷◌, if◌then◌else◌}
+use Rattle.std.specs.Prelude.{◌≡◌, ◌+◌, ◌*◌, Bool, nat_eq, ◌&&◌, refl, List, [], ◌∷◌, if◌then◌else◌}
 use Rattle.grid_moves.specs.declared.Cell.{Cell}
 
 -- the way from u over v to w goes straight on: v is the middle between them

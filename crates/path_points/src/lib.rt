@@ -4,7 +4,14 @@
 //! unfolding fills each segment cell by cell.
 #![tactic(auto)]
 
+mod checking;
 mod points;
+mod segments;
+#[cfg(test)]
+mod tests;
+mod unfolding;
 
+pub use checking::{BadAt, check_walk};
 pub use points::{Cells, Points};
 pub use std::alloc::AllocError as NoMemory;
+pub use unfolding::unfold;

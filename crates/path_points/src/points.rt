@@ -1,8 +1,10 @@
 //! Lists of cells.
 
 ghost use Rattle.std.specs.Prelude.{◌≡◌, [], ◌∷◌, ◌++◌, reverse, OnOk, OnErr};
+ghost use Rattle.grid_moves.specs.Points.{is_lined};
 
 use crate::NoMemory;
+use crate::segments::are_lined;
 use grid_moves::Cell;
 use std::alloc::Global;
 use std::marker::Model;
@@ -50,6 +52,24 @@ impl Points {
         ensures { result.now ≡ self.now }
     {
         self.cells.as_slice()
+    }
+
+    /// Whether there is a first point, and each next one differs from the one before it and lies on
+    /// one of the eight lines from it.
+    pub fn lined(&self) -> bool
+        ensures { result ≡ is_lined self.now }
+    {
+        let Some((first, others)) = self.cells.as_slice().split_first() else {
+            return false;
+        };
+        let mut last = *first;
+        for next in others {
+            if !are_lined(last, *next) {
+                return false;
+            }
+            last = *next;
+        }
+        true
     }
 
     /// Puts the points into the other order.

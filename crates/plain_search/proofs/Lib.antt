@@ -1,2 +1,13 @@
 pub mod Walks
 pub mod Right
+pub mod Lists
+pub mod Tables
+pub mod Mirrors
+pub mod Offering
+pub mod Relaxing
+pub mod Bounds
+pub mod Taking
+pub mod Searching
+pub mod Tracing
+pub mod Backing
+pub mod Concluding

@@ -72,9 +72,9 @@ module _ (g : GridData) (t : Cell) where
         least = record {
           walk = record { legal = w.goes.legal; ends = w.goes.ends ∙ e };
           least = λ others o.
-            let chain = walk_chain g t s others o.legal in
-            let at_t : is_same (last_of s others) t ≡ true = subst (λ (c : Cell). is_same (last_of s others) c ≡ true) o.ends (is_same-itself (last_of s others)) in
-            (Most-then (Most-same w.goes.priced) (run_is_least (plain_rule g t) (plain_consistent g t) s (last_of s others) x earlier (cost_of (s ∷ others)) is at_goal chain at_t)).is;
+              let chain = walk_chain g t s others o.legal in
+              let at_t : is_same (last_of s others) t ≡ true = subst (λ (c : Cell). is_same (last_of s others) c ≡ true) o.ends (is_same-itself (last_of s others)) in
+              (Most-then (Most-same w.goes.priced) (run_is_least (plain_rule g t) (plain_consistent g t) s (last_of s others) x earlier (cost_of (s ∷ others)) is at_goal chain at_t)).is;
         };
         priced = w.goes.priced;
       }

@@ -3,6 +3,8 @@ use Rattle.std.specs.Prelude.{◌≡◌, ℕ, false, List, ◌∷◌, map, rever
 use Rattle.root2_cost.specs.declared.Cost.{Cost}
 use Rattle.grid_moves.specs.declared.Cell.{Cell}
 use Rattle.grid_moves.specs.Grid.{GridData}
+use Rattle.grid_moves.specs.Reply.{StandsForLeast}
+use Rattle.grid_moves.specs.Walk.{NoWalk}
 use Rattle.path_points.specs.Corners.{corners}
 use Rattle.search_run.specs.Run.{Taken, IsRun, NoneWaits, has_goal, way_to}
 use Rattle.plain_search.specs.Rule.{plain_rule, state_number}
@@ -17,7 +19,7 @@ pub record IsFound (g : GridData) (s t : Cell) (points : List Cell) (cost : Cost
   pub last : Taken Cell
   pub run : IsRun (plain_rule g t) s (last ∷ earlier)
   pub at_goal : last.state ≡ t
-  pub priced : last.cost ≡ cost
+  pub priced : cost ≡ last.cost
   pub joined : points ≡ corners (way_to (plain_rule g t) (last ∷ earlier) t)
   pub numbered : taken ≡ numbers_of g.width (last ∷ earlier)
 

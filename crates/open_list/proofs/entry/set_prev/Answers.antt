@@ -4,7 +4,9 @@ use Rattle.open_list.proofs.Changes.{set-changed, changed_past}
 use Rattle.open_list.proofs.entry.set_prev.Goals as goal
 
 pub returns-then-at-entries : goal.returns-then-at-entries
-returns-then-at-entries g c = set-changed (with_prev c.args.prev) c.args.entries.now c.args.at c.index-entries-at.result
+returns-then-at-entries g c = set-changed
+    (with_prev c.args.prev) c.args.entries.now c.args.at c.index-entries-at.result
 
 pub returns-else-at-entries : goal.returns-else-at-entries
-returns-else-at-entries g c = sym (changed_past (with_prev c.args.prev) c.args.at c.args.entries.now (omega arith))
+returns-else-at-entries g c = sym (changed_past (with_prev c.args.prev) c.args.at c.args.entries.now
+    (omega arith))

@@ -7,7 +7,8 @@ use Rattle.open_list.proofs.heap.insert.Goals as goal
 pub returns-then-root-eq-NONE-clause-heap : goal.returns-then-root-eq-NONE-clause-heap
 returns-then-root-eq-NONE-clause-heap g c =
     let before = g.N.Ranked.before in
-    beside_none before _ _ (subst (λ (k : ℕ). AreBeside before c.args.entries.now k c.args.id) c.if-root-eq-NONE.true c.requires.beside)
+    beside_none before _ _ (subst (λ (k : ℕ).
+    AreBeside before c.args.entries.now k c.args.id) c.if-root-eq-NONE.true c.requires.beside)
     (λ none. omega (arith, c.requires.beside.lists.small))
 
 pub join-requires-clause-one_in : goal.join-requires-clause-one_in

@@ -13,10 +13,12 @@ returns-then-id-root-clause-heap g c =
     (rw c.if-id-root.true at (entry_lower before es _ c.args.id c.args.node refl c.requires.lower)))
 
 pub returns-then-id-root-clause-nodes : goal.returns-then-id-root-clause-nodes
-returns-then-id-root-clause-nodes g c = rw c.set_node.ensures (nodes_lowered c.args.entries.now c.args.id c.args.node)
+returns-then-id-root-clause-nodes g c =
+    rw c.set_node.ensures (nodes_lowered c.args.entries.now c.args.id c.args.node)
 
 pub returns-then-id-root-clause-open_at : goal.returns-then-id-root-clause-open_at
-returns-then-id-root-clause-open_at g c = rw c.set_node.ensures (flags_lowered c.args.entries.now c.args.id c.args.node)
+returns-then-id-root-clause-open_at g c =
+    rw c.set_node.ensures (flags_lowered c.args.entries.now c.args.id c.args.node)
 
 pub insert-requires-clause-beside : goal.insert-requires-clause-beside
 insert-requires-clause-beside g c =

@@ -6,7 +6,8 @@ use Rattle.open_list.proofs.heap.take_root.Goals as goal
 pub pair_up-pairs-requires : goal.pair_up-pairs-requires
 pair_up-pairs-requires g c =
     let some : c.args.root ≢ NONE = λ none. omega (arith, c.requires.heap.all_open.small) in
-    rw (c.set_prev.ensures, c.child_of-children.ensures) (root_closed g.N.Ranked.before _ _ c.requires.heap some)
+    rw (c.set_prev.ensures, c.child_of-children.ensures)
+    (root_closed g.N.Ranked.before _ _ c.requires.heap some)
 
 pub returns-clause-nodes : goal.returns-clause-nodes
 returns-clause-nodes g c =

@@ -8,5 +8,11 @@ relink-requires g c =
 
 pub returns : goal.returns
 returns g c =
-    rw (c.set_next.ensures, c.set_prev.ensures, c.relink.ensures, c.next_of-next.ensures, c.prev_of-prev.ensures)
+    rw (
+      c.set_next.ensures,
+      c.set_prev.ensures,
+      c.relink.ensures,
+      c.next_of-next.ensures,
+      c.prev_of-prev.ensures,
+    )
     (is_detached g.N.Ranked.before _ _ _ c.requires.heap c.requires.is_open c.requires.below)

@@ -9,8 +9,10 @@ returns-clause-joined g c =
     elim c.if-is_before.branch [
       | then-is_before w ↦
           rw (c.adopt.ensures, w.winner-is, c.next_of-next.ensures)
-          (other_wins before es _ _ c.requires.lists c.requires.one_in c.requires.other_in g.met.N.Ranked.order _ c.is_before.ensures w.if-is_before.true)
+          (other_wins before es _ _ c.requires.lists c.requires.one_in c.requires.other_in
+          g.met.N.Ranked.order _ c.is_before.ensures w.if-is_before.true)
       | else-is_before w ↦
           rw (c.adopt.ensures, w.winner-is, c.next_of-next.ensures)
-          (one_wins before es _ _ c.requires.lists c.requires.one_in c.requires.other_in _ c.is_before.ensures w.if-is_before.false)
+          (one_wins before es _ _ c.requires.lists c.requires.one_in c.requires.other_in
+          _ c.is_before.ensures w.if-is_before.false)
     ]

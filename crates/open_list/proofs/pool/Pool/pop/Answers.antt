@@ -8,7 +8,9 @@ pub returns-then-first-clause-none : goal.returns-then-first-clause-none
 returns-then-first-clause-none g c =
     let before = g.N.Ranked.before in
     let es = c.self.inside.entries.items in (
-      (λ _ id opened. no_flag before es (subst (λ (k : ℕ). IsHeap before es k) c.if-first.true c.self.invariant) id (rw (← c.self.view_is) at opened)),
+      (λ _ id opened. no_flag before es (subst
+          (λ (k : ℕ). IsHeap before es k) c.if-first.true c.self.invariant) id
+          (rw (← c.self.view_is) at opened)),
       (λ _. refl),
     )
 

@@ -1,0 +1,5 @@
+pub mod Corners
+pub mod Filling
+pub mod Running
+pub mod Joined
+pub mod Checks

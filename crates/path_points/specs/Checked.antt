@@ -1,0 +1,72 @@
+-- Points that stand for a walk of few steps, and the first bad point where they don't.
+use Rattle.std.specs.Prelude.{◌≡◌, ℕ, zero, suc, ◌+◌, ◌^◌, ◌<◌, ◌≤◌, Bool, true, false, nat_le, ◌&&◌, IsTrue, refl, List, [], ◌∷◌, length, take, slice_get, Some}
+use Rattle.root2_cost.specs.declared.Cost.{Cost}
+use Rattle.grid_moves.specs.declared.Cell.{Cell}
+use Rattle.grid_moves.specs.Grid.{GridData, is_free}
+use Rattle.grid_moves.specs.Walk.{is_walk, cost_of}
+use Rattle.grid_moves.specs.Points.{steps_between, are_lined, segment, unfolding_of}
+
+-- the most steps of a walk that is checked: as many as the largest map has cells
+abbrev pub most_steps : ℕ
+most_steps = 2 ^ 24
+
+-- the steps of all segments through the points
+abbrev pub steps_through : List Cell → ℕ
+steps_through [] = 0
+steps_through (u ∷ []) = 0
+steps_through (u ∷ v ∷ points) = steps_between u v + steps_through (v ∷ points)
+
+-- a legal run of at least one step: v lies on one of the eight lines from u, and each move of the segment is legal
+abbrev pub is_legal_run : GridData → Cell → Cell → Bool
+is_legal_run g u v = are_lined u v && is_walk g (u ∷ segment (steps_between u v) u v)
+
+-- there is a first point, and it is free
+abbrev pub starts_free : GridData → List Cell → Bool
+starts_free g [] = false
+starts_free g (p ∷ points) = is_free g p
+
+-- the point after point i is no legal run from it, or brings the steps above 2^24
+pub record BreaksAfter (g : GridData) (points : List Cell) (i : ℕ) : Type 0 where
+  pub from : Cell
+  pub to : Cell
+  pub is_from : slice_get points i ≡ Some from
+  pub is_to : slice_get points (suc i) ≡ Some to
+  pub broken : (is_legal_run g from to && nat_le (steps_through (take (suc (suc i)) points)) most_steps) ≡ false
+
+-- point i is bad, where points are counted from 0
+abbrev pub IsBadAt : GridData → List Cell → ℕ → Type 0
+IsBadAt g points zero = starts_free g points ≡ false
+IsBadAt g points (suc i) = BreaksAfter g points i
+
+-- n is the first number at which P holds
+pub record IsFirst (P : ℕ → Type 0) (n : ℕ) : Type 0 where
+  pub here : P n
+  pub none_before : (k : ℕ) → k < n → ¬ P k
+
+-- point i is the first bad one
+abbrev pub IsFirstBad : GridData → List Cell → ℕ → Type 0
+IsFirstBad g points i = IsFirst (IsBadAt g points) i
+
+-- the points unfold to a walk of at most 2^24 steps, one fewer than cells, and the cost is that walk's
+pub record IsShortWalk (g : GridData) (points : List Cell) (cost : Cost) : Type 0 where
+  pub cells : List Cell
+  pub unfolds : unfolding_of points ≡ Some cells
+  pub walk : IsTrue (is_walk g cells)
+  pub short : length cells ≤ most_steps + 1
+  pub priced : cost_of cells ≡ cost
+
+-- the map `.../.@./...`
+abbrev pillar : GridData
+pillar = record { width = 3; height = 3; free = true ∷ true ∷ true ∷ true ∷ false ∷ true ∷ true ∷ true ∷ true ∷ [] }
+
+-- along its upper row leads a legal run
+pub along_the_row : is_legal_run pillar (record { x = 0; y = 0 }) (record { x = 2; y = 0 }) ≡ true
+along_the_row = refl
+
+-- through the pillar leads none
+pub through_the_pillar : is_legal_run pillar (record { x = 0; y = 0 }) (record { x = 2; y = 2 }) ≡ false
+through_the_pillar = refl
+
+-- nor from a cell to itself
+pub no_step : is_legal_run pillar (record { x = 0; y = 0 }) (record { x = 0; y = 0 }) ≡ false
+no_step = refl

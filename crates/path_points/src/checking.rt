@@ -1,0 +1,89 @@
+//! Checks of walks that are given by points.
+
+ghost use Rattle.std.specs.Prelude.{◌≡◌, ℕ, ◌+◌, ◌^◌, ◌<◌, ◌≤◌, nat_le, ◌&&◌, true, ◌∷◌, length, if◌then◌else◌, OnSome, IfSome, IfOk, IfErr};
+ghost use Rattle.root2_cost.specs.declared.Cost as costs;
+ghost use Rattle.grid_moves.specs.Grid.{is_free};
+ghost use Rattle.grid_moves.specs.Move.{are_neighbours, is_legal};
+ghost use Rattle.grid_moves.specs.Points as spec;
+ghost use Rattle.grid_moves.specs.Walk.{cost_of};
+ghost use Rattle.path_points.specs.Checked.{is_legal_run, IsFirstBad, IsShortWalk};
+
+use crate::Points;
+use crate::segments::{are_lined, step_toward, steps_between};
+use grid_moves::{Cell, Terrain, move_cost};
+use root2_cost::Cost;
+
+// The most steps of a walk that is checked.
+const MOST_STEPS: u32 = 1 << 24;
+
+/// The first point, counted from 0, at which points stop to stand for a walk.
+#[derive(Clone, Copy, Debug, PartialEq, Eq)]
+pub struct BadAt(pub u32);
+
+// Whether a move from a free cell to a neighbour is legal.
+fn is_open<T: Terrain>(t: &T, from: Cell, to: Cell) -> bool
+    requires near { are_neighbours from to ≡ true }
+    requires free { is_free (T.grid t.now) from ≡ true }
+    ensures { result ≡ is_legal (T.grid t.now) from to }
+{
+    t.free(to)
+        && (from.x == to.x
+            || from.y == to.y
+            || (t.free(Cell { x: from.x, y: to.y }) && t.free(Cell { x: to.x, y: from.y })))
+}
+
+// The cost of the legal run between the cells, where there is one of at most so many steps.
+fn run_cost<T: Terrain>(t: &T, from: Cell, to: Cell, most: u32) -> Option<Cost>
+    requires { is_free (T.grid t.now) from ≡ true }
+    ensures cost { result ≡ (if is_legal_run (T.grid t.now) from to && nat_le (spec.steps_between from to) most then Some (cost_of (from ∷ spec.segment (spec.steps_between from to) from to)) else None) }
+    ensures steps { IfSome result (λ cost. cost.a + cost.b ≡ spec.steps_between from to) }
+    ensures free { OnSome result (is_free (T.grid t.now) to ≡ true) }
+{
+    let steps = steps_between(from, to);
+    if !are_lined(from, to) || most < u32::from(steps) {
+        return None;
+    }
+    let mut at = from;
+    let mut cost = Cost { a: 0, b: 0 };
+    for _ in 0..steps {
+        let next = step_toward(at, to);
+        if !is_open(t, at, next) {
+            return None;
+        }
+        cost = cost.add(move_cost(at, next));
+        at = next;
+    }
+    Some(cost)
+}
+
+/// The cost of the walk that the points stand for, or the first bad point.
+///
+/// The points have to unfold to a walk of at most 2^24 steps. Point 0 is bad where there is none or
+/// it is not free, a later one where no legal run of at least one step leads to it from the point
+/// before, or where it brings the steps above 2^24. No memory is taken, and nothing is read past
+/// the first bad point.
+pub fn check_walk<T: Terrain>(t: &T, p: &Points) -> Result<Cost, BadAt>
+    requires { length p.now < 2 ^ 30 }
+    ensures walk { IfOk result (λ cost. IsShortWalk (T.grid t.now) p.now cost) }
+    ensures ok { (cost : costs.Cost) → IsShortWalk (T.grid t.now) p.now cost → result ≡ Ok cost }
+    ensures bad { IfErr result (λ bad. IsFirstBad (T.grid t.now) p.now bad.0) }
+    ensures err { (i : ℕ) → IsFirstBad (T.grid t.now) p.now i → result ≡ Err (record { 0 = i }) }
+{
+    let Some((first, others)) = p.as_slice().split_first() else {
+        return Err(BadAt(0));
+    };
+    if !t.free(*first) {
+        return Err(BadAt(0));
+    }
+    let mut last = *first;
+    let mut cost = Cost { a: 0, b: 0 };
+    for (i, next) in others.iter().enumerate() {
+        let left = MOST_STEPS - (cost.a + cost.b);
+        let Some(run) = run_cost(t, last, *next, left) else {
+            return Err(BadAt(i as u32 + 1));
+        };
+        cost = cost.add(run);
+        last = *next;
+    }
+    Ok(cost)
+}
