@@ -2,3 +2,6 @@ pub mod Causes
 pub mod Told
 pub mod Whole
 pub mod Stop
+pub mod Memory
+pub mod Named
+pub mod Calls

@@ -13,10 +13,18 @@
 //! [`read_whole`] and [`write_whole`] work over any of them.
 #![tactic(auto)]
 
+mod memory;
 mod outside;
 mod real;
+mod sure;
+#[cfg(test)]
+mod tests;
 mod whole;
 
+/// Want of memory.
+pub use memory::{MemFiles, MemSink, MemSource};
 pub use outside::{Failed, Files, Sink, Source};
 pub use real::{RealFiles, RealIn, RealOut};
+pub use std::alloc::AllocError as NoMemory;
+pub use sure::{SureFiles, SureSink, SureSource};
 pub use whole::{ReadStop, WriteFault, read_whole, write_whole};

@@ -1,6 +1,6 @@
 //! The real objects: files, a reader and a writer of the system.
 //!
-//! This is the trusted edge. It tells nothing of bytes, only how many moved, and counts the faults.
+//! This is the trusted edge. It tells nothing of bytes: contracts see the count of its faults alone.
 
 ghost use Rattle.std.specs.Prelude.{◌≡◌, ◌≤◌, None, length, IfOk};
 ghost use Rattle.std.specs.Io.{WritesAtMost};
@@ -8,6 +8,7 @@ ghost use Rattle.io_edge.specs.Told.{untold};
 
 use crate::outside::{Failed, Files, Sink, Source};
 use std::io::{Read, Seek, SeekFrom, Write};
+use std::marker::Model;
 use std::{fs, io, rt};
 
 /// The files of the system. One count of faults serves for every name.
@@ -17,9 +18,19 @@ pub struct RealFiles<'a, R> {
     faults: u64,
 }
 
+impl<'a, R> Model for RealFiles<'a, R> {
+    ghost use Rattle.std.specs.Prelude.{ℕ};
+
+    ghost Value = { ℕ };
+
+    ghost view = { λ files. files.faults };
+}
+
 impl<'a, R> RealFiles<'a, R> {
     /// The files that the runtime opens, with no fault yet.
-    pub fn new(rt: &'a R) -> RealFiles<'a, R> {
+    pub fn new(rt: &'a R) -> RealFiles<'a, R>
+        ensures { result ≡ 0 }
+    {
         RealFiles { rt, faults: 0 }
     }
 }
@@ -36,7 +47,7 @@ fn read_once<R: rt::Files>(rt: &R, name: &str, place: u64, buf: &mut [u8]) -> io
 impl<'a, R: rt::Files> Files for RealFiles<'a, R> {
     ghost holds = { λ _ _. untold };
 
-    ghost faults = { λ files _. files.faults };
+    ghost faults = { λ faults _. faults };
 
     fn read_at(&mut self, name: &str, place: u64, buf: &mut [u8]) -> Result<usize, Failed> {
         match read_once(self.rt, name, place, buf) {
@@ -56,9 +67,19 @@ pub struct RealIn<R> {
     faults: u64,
 }
 
+impl<R> Model for RealIn<R> {
+    ghost use Rattle.std.specs.Prelude.{ℕ};
+
+    ghost Value = { ℕ };
+
+    ghost view = { λ source. source.faults };
+}
+
 impl<R: Read + Drop> RealIn<R> {
     /// What the reader gives, with no fault yet.
-    pub fn new(reader: R) -> RealIn<R> {
+    pub fn new(reader: R) -> RealIn<R>
+        ensures { result ≡ 0 }
+    {
         RealIn { reader, faults: 0 }
     }
 }
@@ -66,7 +87,7 @@ impl<R: Read + Drop> RealIn<R> {
 impl<R: Read + Drop> Source for RealIn<R> {
     ghost left = { λ _. None };
 
-    ghost faults = { λ source. source.faults };
+    ghost faults = { λ faults. faults };
 
     fn read(&mut self, buf: &mut [u8]) -> Result<usize, Failed> {
         match self.reader.read(buf) {
@@ -86,9 +107,19 @@ pub struct RealOut<W> {
     faults: u64,
 }
 
+impl<W> Model for RealOut<W> {
+    ghost use Rattle.std.specs.Prelude.{ℕ};
+
+    ghost Value = { ℕ };
+
+    ghost view = { λ sink. sink.faults };
+}
+
 impl<W: Write + Drop> RealOut<W> {
     /// What the writer takes, with no fault yet.
-    pub fn new(writer: W) -> RealOut<W> {
+    pub fn new(writer: W) -> RealOut<W>
+        ensures { result ≡ 0 }
+    {
         RealOut { writer, faults: 0 }
     }
 }
@@ -105,7 +136,7 @@ fn write_once<W: Write>(writer: &mut W, piece: &[u8]) -> io::Result<usize>
 impl<W: Write + Drop> Sink for RealOut<W> {
     ghost written = { λ _. None };
 
-    ghost faults = { λ sink. sink.faults };
+    ghost faults = { λ faults. faults };
 
     // A write that takes nothing is a fault too: it would never come to an end.
     fn write(&mut self, piece: &[u8]) -> Result<usize, Failed> {

@@ -1,6 +1,7 @@
 //! Reading a whole file, and writing all of some bytes.
 
-ghost use Rattle.std.specs.Prelude.{◌≡◌, ℕ, ◌+◌, ◌-◌, ◌^◌, ◌<◌, ◌≤◌, length, take, drop, IfOk, OnOk, OnErr, IfErr};
+ghost use Rattle.std.specs.Prelude.{◌≡◌, ℕ, ◌+◌, ◌-◌, ◌^◌, ◌<◌, ◌≤◌, length, take, drop};
+ghost use Rattle.std.specs.Prelude.{IfOk, OnOk, IfErr, OnErr};
 ghost use Rattle.std.specs.Io.KnownBytes.{Appends};
 ghost use Rattle.io_edge.specs.Causes.{Rose, NoneFell};
 ghost use Rattle.io_edge.specs.Told.{ReadsAt};
@@ -38,9 +39,13 @@ const LARGE: usize = 1_048_576;
 
 /// Reads all the bytes that `name` holds, if there are at most `limit`.
 ///
-/// The bytes are read straight into the buffer that is answered. Its room grows to twice what was
-/// read, so that each read asks for at least as much as all before it, and is at most `limit + 1`
-/// bytes: the byte more tells that a file is too long.
+/// The bytes are read straight into the buffer that is answered. Its room is 64 KiB at first, and
+/// where that is full it grows by as much as was read, by 1 MiB at least, so that all its growth
+/// costs about one pass over the bytes. It is never more than `limit + 1` bytes: the byte more tells
+/// that a file is too long.
+///
+/// Where no read failed, the answer is the whole file if it has at most `limit` bytes and `TooLong`
+/// if it has more, or `NoMemory`. An absent file is never answered by `Ok` or `TooLong`.
 pub fn read_whole<F: Files>(
     alloc: Global,
     files: &mut F,
@@ -51,7 +56,8 @@ pub fn read_whole<F: Files>(
     ensures whole { IfOk result (λ bytes. IsWhole (F.holds files.old name.now) limit bytes.items) }
     ensures fault { result ≡ Err ReadStop.Fault → Rose (F.faults files.old name.now) (F.faults files.new name.now) }
     ensures long { result ≡ Err ReadStop.TooLong → IsLonger (F.holds files.old name.now) limit }
-    ensures complete { ¬ Rose (F.faults files.old name.now) (F.faults files.new name.now) → IfErr result (IsOtherStop (F.holds files.old name.now) limit) }
+    ensures complete { ¬ Rose (F.faults files.old name.now) (F.faults files.new name.now)
+        → IfErr result (IsOtherStop (F.holds files.old name.now) limit) }
     ensures unchanged { F.holds files.new ≡ F.holds files.old }
     ensures later { NoneFell (F.faults files.old) (F.faults files.new) }
 {

@@ -4,11 +4,15 @@ use Rattle.io_edge.proofs.Reading.{HasRead}
 use Rattle.io_edge.proofs.whole.read_whole.Given as goal
 
 abbrev pub invariant-loop-filled : goal.invariant-loop-filled
-invariant-loop-filled g l =
-    (l.most ≡ l.limit + 1) × (l.filled ≤ l.most) × (l.filled ≤ length l.bytes.items) × (length l.bytes.items ≤ l.most)
-    × HasRead (g.F.Files.holds l.fn.files l.name) l.filled l.bytes.items
-    × (g.F.Files.holds l.files ≡ g.F.Files.holds l.fn.files)
-    × NoneFell (g.F.Files.faults l.fn.files) (g.F.Files.faults l.files)
+invariant-loop-filled g l = record {
+  one_more : l.most ≡ l.limit + 1;
+  below : l.filled ≤ l.most;
+  inside : l.filled ≤ length l.bytes.items;
+  within : length l.bytes.items ≤ l.most;
+  read : HasRead (g.F.Files.holds l.fn.files l.name) l.filled l.bytes.items;
+  unchanged : g.F.Files.holds l.files ≡ g.F.Files.holds l.fn.files;
+  later : NoneFell (g.F.Files.faults l.fn.files) (g.F.Files.faults l.files);
+}
 
 abbrev pub decreases-loop-filled : goal.decreases-loop-filled
 decreases-loop-filled g l = l.most - l.filled

@@ -3,10 +3,11 @@ use Rattle.std.specs.Io.KnownBytes.{Appends}
 use Rattle.io_edge.proofs.whole.write_whole.Given as goal
 
 abbrev pub invariant-loop-count : goal.invariant-loop-count
-invariant-loop-count g l =
-    (l.count ≤ length l.bytes)
-    × Appends (g.S.Sink.written l.fn.sink) (g.S.Sink.written l.sink) (take l.count l.bytes)
-    × (g.S.Sink.faults l.fn.sink ≤ g.S.Sink.faults l.sink)
+invariant-loop-count g l = record {
+  below : l.count ≤ length l.bytes;
+  front : Appends (g.S.Sink.written l.fn.sink) (g.S.Sink.written l.sink) (take l.count l.bytes);
+  later : g.S.Sink.faults l.fn.sink ≤ g.S.Sink.faults l.sink;
+}
 
 abbrev pub decreases-loop-count : goal.decreases-loop-count
 decreases-loop-count g l = length l.bytes - l.count
