@@ -1,0 +1,27 @@
+-- What a session's reply stands for.
+use Rattle.std.specs.Prelude.{◌≡◌, ℕ, true, ⊤, List}
+use Rattle.grid_moves.specs.declared.Cell.{Cell}
+use Rattle.grid_moves.specs.Grid.{GridData, is_inside}
+use Rattle.grid_moves.specs.Reply.{Answer, outside, blocked, none, walk}
+use Rattle.plain_search.specs.Found.{IsFound, IsExhausted}
+use Rattle.edit_replay.specs.declared.reply.Reply.{Reply}
+use Rattle.edit_replay.specs.declared.reply.Reply.TheVariants.{Walk, None, Outside, Blocked}
+
+-- the answer without the states that the search took
+abbrev pub answer_of : Reply → Answer
+answer_of (Walk points cost taken) = walk points cost
+answer_of (None taken) = none
+answer_of Outside = outside
+answer_of Blocked = blocked
+
+-- points, cost and taken states are those of the plain engine's run
+abbrev pub IsRunReply : GridData → Cell → Cell → Reply → Type 0
+IsRunReply g s t (Walk points cost taken) = IsFound g s t points cost taken
+IsRunReply g s t (None taken) = IsExhausted g s t taken
+IsRunReply g s t Outside = ⊤
+IsRunReply g s t Blocked = ⊤
+
+-- the cell is the one of this column and row, which lies inside
+pub record IsEnd (g : GridData) (x y : ℕ) (c : Cell) : Type 0 where
+  pub cell : c ≡ record { x = x; y = y }
+  pub inside : is_inside g c ≡ true

@@ -1,0 +1,13 @@
+//! A session of queries and edits on one map.
+//!
+//! A session keeps the current grid and the memory of its searches, so that a query costs in
+//! proportion to what it touches and not to the map.
+#![tactic(auto)]
+
+mod reply;
+mod session;
+
+pub use plain_search::Taken;
+pub use reply::Reply;
+pub use session::{Engine, Session};
+pub use std::alloc::AllocError as NoMemory;
