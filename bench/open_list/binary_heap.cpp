@@ -98,7 +98,7 @@ static void offer(Pool& pool, const Node& from, uint32_t turn, uint64_t& state) 
     if (len < NODES) pool.add(node);
 }
 
-static uint64_t one_round(Pool& pool, uint64_t& state) {
+static uint64_t one_round(Pool& pool, uint32_t offers, uint64_t& state) {
     pool.clear();
     pool.add(Node{});
     uint64_t total = 0;
@@ -107,15 +107,16 @@ static uint64_t one_round(Pool& pool, uint64_t& state) {
         if (!pool.pop(id)) break;
         Node node = pool.nodes[id];
         total = total * 31 + id;
-        for (uint32_t k = 0; k < 8; k++) offer(pool, node, 8 * turn + k, state);
+        for (uint32_t k = 0; k < offers; k++) offer(pool, node, 8 * turn + k, state);
     }
     return total;
 }
 
 int main(int argc, char** argv) {
     uint32_t count = argc > 1 ? uint32_t(atoi(argv[1])) : 1;
+    uint32_t offers = argc > 2 ? uint32_t(atoi(argv[2])) : 8;
     Pool pool;
     uint64_t state = 1, total = 0;
-    for (uint32_t k = 0; k < count; k++) total += one_round(pool, state);
+    for (uint32_t k = 0; k < count; k++) total += one_round(pool, offers, state);
     printf("%llu\n", (unsigned long long)total);
 }

@@ -1,9 +1,11 @@
 //! A measure of the open list: a million nodes enter, are lowered and leave, as in a search.
 //!
-//! Each turn takes the first open node, and then offers eight times: a node from the pool that is
+//! Each turn takes the first open node, and then offers up to eight times: a node from the pool that is
 //! still open and comes after the offer is lowered to it, and else a new node is added. The numbers
 //! are those of a fixed generator, and `bench/open_list/binary_heap.cpp` does the same turns with
 //! an indexed binary heap. What is printed is a sum over all answers, equal in both programs.
+//!
+//! Words: how many rounds (1), and how many offers a turn makes (8).
 #![tactic(auto)]
 
 ghost use Rattle.std.specs.Prelude.{◌≡◌, ◌^◌, ◌+◌, ◌<◌, ◌≤◌, Bool, length, OnOk};
@@ -84,9 +86,12 @@ fn offer<L: Ledger>(
 
 fn round<L: Ledger>(
     pool: &mut Pool<Node>,
+    offers: u32,
     state: &mut u64,
     steps: &mut Steps<L>,
-) -> Result<u64, NoMemory> {
+) -> Result<u64, NoMemory>
+    requires few { offers ≤ 8 }
+{
     pool.clear();
     let start = Node {
         sum: 0,
@@ -106,14 +111,15 @@ fn round<L: Ledger>(
         };
         let node = *pool.node(id);
         total = total.wrapping_mul(31).wrapping_add(u64::from(id));
-        for k in 0..8 {
+        for k in 0..offers {
             offer(pool, &node, 8 * turn + k, state, steps)?;
         }
     }
     Ok(total)
 }
 
-fn rounds<L: Ledger>(alloc: Global, count: u32, blank: Blank) -> Result<u64, NoMemory>
+fn rounds<L: Ledger>(alloc: Global, count: u32, offers: u32, blank: Blank) -> Result<u64, NoMemory>
+    requires few { offers ≤ 8 }
     requires name { blank.name ≡ L.name }
     requires parts { blank.parts ≡ L.parts }
     requires some { 0 < L.parts }
@@ -123,17 +129,23 @@ fn rounds<L: Ledger>(alloc: Global, count: u32, blank: Blank) -> Result<u64, NoM
     let mut state = 1u64;
     let mut total = 0u64;
     for _ in 0..count {
-        total = total.wrapping_add(round(&mut pool, &mut state, &mut steps)?);
+        total = total.wrapping_add(round(&mut pool, offers, &mut state, &mut steps)?);
     }
     Ok(total)
 }
 
+fn number_or(word: Option<String>, other: u32) -> u32 {
+    match word {
+        Some(word) => word.as_str().parse().unwrap_or(other),
+        None => other,
+    }
+}
+
 fn main(rt: HostRuntime) -> io::Result<()> {
-    let count = match env::args(&rt)?.nth(1) {
-        Some(word) => word.as_str().parse::<u32>().unwrap_or(1),
-        None => 1,
-    };
-    match rounds::<Brand>(rt.alloc(), count, Blank::new(1)) {
+    let mut words = env::args(&rt)?.skip(1);
+    let count = number_or(words.next(), 1);
+    let offers = number_or(words.next(), 8).min(8);
+    match rounds::<Brand>(rt.alloc(), count, offers, Blank::new(1)) {
         Ok(total) => println!(rt; "{total}"),
         Err(_) => println!(rt; "no memory"),
     }
