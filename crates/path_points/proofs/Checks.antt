@@ -11,30 +11,38 @@ use Rattle.grid_moves.specs.Grid.{GridData, is_free}
 use Rattle.grid_moves.specs.Points.{steps_between, are_lined, unfolded_from}
 use Rattle.grid_moves.specs.Walk.{is_walk, cost_of}
 use Rattle.path_points.specs.declared.checking.BadAt.{BadAt}
-use Rattle.path_points.specs.Checked.{most_steps, steps_through, is_legal_run, starts_free, BreaksAfter, IsBadAt, IsFirst, IsFirstBad, IsShortWalk}
+use Rattle.path_points.specs.Checked.{most_steps, run, steps_through, cost_within, is_legal_run, is_good_run, starts_free, BreaksAfter, IsBadAt, IsFirst, IsFirstBad, IsShortWalk}
 use Rattle.path_points.proofs.Filling.{and_both, segment-length}
-use Rattle.path_points.proofs.Joined.{walk_free, run, run_joined, run_parts, run_free, run_cost_joined, run_counts}
+use Rattle.path_points.proofs.Joined.{walk_free, run_joined, run_parts, run_free, run_cost_joined, run_counts}
 use Rattle.path_points.proofs.Running.{le_true}
 
 abbrev pub steps_of : Cost → ℕ
 steps_of cost = cost.a + cost.b
 
--- the run to v is legal, and takes the steps from s to at most 2^24
-abbrev pub is_good : GridData → ℕ → Cell → Cell → Bool
-is_good g s u v = is_legal_run g u v && nat_le (s + steps_between u v) most_steps
+-- the cost with that of the run from u to v
+abbrev pub paid : Cost → Cell → Cell → Cost
+paid cost u v = add_costs cost (cost_of (u ∷ run u v))
 
 -- the answer that point i is bad
 abbrev pub bad_at : ℕ → Result Cost BadAt
 bad_at i = Err (record { 0 = i })
 
+-- the answer that the points cost this much
+abbrev pub costs : Cost → Result Cost BadAt
+costs cost = Ok cost
+
 -- the answer where u is point i and the walk to it costs this much
 abbrev pub checked_from : GridData → ℕ → Cell → List Cell → Cost → Result Cost BadAt
 checked_from g i u [] cost = Ok cost
 checked_from g i u (v ∷ points) cost =
-    if is_good g (steps_of cost) u v then checked_from g (i + 1) v points (add_costs cost (cost_of (u ∷ run u v))) else bad_at (i + 1)
+    if is_good_run g (steps_of cost) u v
+    then checked_from g (i + 1) v points (paid cost u v)
+    else bad_at (i + 1)
 
 -- the steps so far and those of the run
-steps_on : (cost : Cost) (u v : Cell) → steps_of (add_costs cost (cost_of (u ∷ run u v))) ≡ steps_of cost + steps_between u v
+steps_on :
+    (cost : Cost) (u v : Cell)
+    → steps_of (paid cost u v) ≡ steps_of cost + steps_between u v
 steps_on cost u v = let counts = run_counts u v in omega arith
 
 -- what a good point says
@@ -44,47 +52,72 @@ record Good (g : GridData) (s : ℕ) (u v : Cell) : Type 0 where
   few : s + steps_between u v ≤ most_steps
   free : is_free g v ≡ true
 
-good_is : (g : GridData) (s : ℕ) (u v : Cell) → is_good g s u v ≡ true → Good g s u v
+good_is : (g : GridData) (s : ℕ) (u v : Cell) → is_good_run g s u v ≡ true → Good g s u v
 good_is g s u v h =
     let good = and_both (is_legal_run g u v) (nat_le (s + steps_between u v) most_steps) h in
     let legal = and_both (are_lined u v) (is_walk g (u ∷ run u v)) good.0 in
-    record { lined = legal.0; walk = legal.1; few = le_is (s + steps_between u v) most_steps good.1; free = run_free g u v legal.1 }
+    record {
+      lined = legal.0;
+      walk = legal.1;
+      few = le_is (s + steps_between u v) most_steps good.1;
+      free = run_free g u v legal.1;
+    }
   where
     le_is : (m n : ℕ) → nat_le m n ≡ true → m ≤ n
     le_is m n h = grind (arith, nat_tests)
 
-pub good_few : (g : GridData) (cost : Cost) (u v : Cell) → is_good g (steps_of cost) u v ≡ true → steps_of (add_costs cost (cost_of (u ∷ run u v))) ≤ most_steps
-good_few g cost u v h = let on = steps_on cost u v in let few = (good_is g (steps_of cost) u v h).few in omega arith
+pub good_few :
+    (g : GridData) (cost : Cost) (u v : Cell) → is_good_run g (steps_of cost) u v ≡ true
+    → steps_of (paid cost u v) ≤ most_steps
+good_few g cost u v h =
+    let on = steps_on cost u v in let few = (good_is g (steps_of cost) u v h).few in omega arith
 
-good_from : (g : GridData) (s : ℕ) (u v : Cell) → are_lined u v ≡ true → is_walk g (u ∷ run u v) ≡ true → s + steps_between u v ≤ most_steps → is_good g s u v ≡ true
+good_from :
+    (g : GridData) (s : ℕ) (u v : Cell) → are_lined u v ≡ true → is_walk g (u ∷ run u v) ≡ true
+    → s + steps_between u v ≤ most_steps → is_good_run g s u v ≡ true
 good_from g s u v l w f = rw (l, w, le_true (s + steps_between u v) most_steps f) refl
 
-if_ok : {A B : Type 0} (b : Bool) (r : Result A B) (e : B) (x : A) → (if b then r else Err e) ≡ Ok x → (b ≡ true) × (r ≡ Ok x)
+if_ok :
+    {A B : Type 0} (b : Bool) (r : Result A B) (e : B) (x : A) → (if b then r else Err e) ≡ Ok x
+    → (b ≡ true) × (r ≡ Ok x)
 if_ok true r e x h = (refl, h)
 if_ok false r e x h = absurd (cc)
 
-if_err : {A B : Type 0} (b : Bool) (r : Result A B) (e f : B) → (if b then r else Err e) ≡ Err f → ((b ≡ true) × (r ≡ Err f)) ⊎ ((b ≡ false) × (e ≡ f))
+if_err :
+    {A B : Type 0} (b : Bool) (r : Result A B) (e f : B) → (if b then r else Err e) ≡ Err f
+    → ((b ≡ true) × (r ≡ Err f)) ⊎ ((b ≡ false) × (e ≡ f))
 if_err true r e f h = inl (refl, h)
 if_err false r e f h = inr (refl, cc)
 
-if_some : {A B : Type 0} (b : Bool) (f : A → B) (o : Option A) (y : B) → (if b then option_map f o else None) ≡ Some y → (x : A) × (b ≡ true) × (o ≡ Some x) × (f x ≡ y)
+if_some :
+    {A B : Type 0} (b : Bool) (f : A → B) (o : Option A) (y : B)
+    → (if b then option_map f o else None) ≡ Some y → (x : A) × (b ≡ true) × (o ≡ Some x) × (f x ≡ y)
 if_some false f o y h = absurd (cc)
 if_some true f None y h = absurd (cc)
 if_some true f (Some x) y h = (x, refl, refl, cc)
 
 -- the next point is bad, or the check goes on from it; at the end the cost stands
-pub checked_off : (g : GridData) (i : ℕ) (u : Cell) (points : List Cell) (cost : Cost) (d : Cell) → i < length points → is_good g (steps_of cost) u (get_or points i d) ≡ false → checked_from g i u (drop i points) cost ≡ bad_at (i + 1)
-checked_off g i u points cost d h e = at_drop_more (λ points. checked_from g i u points cost) points i d h ∙ rw e refl
+pub checked_off :
+    (g : GridData) (i : ℕ) (u : Cell) (points : List Cell) (cost : Cost) (d : Cell) → i < length points
+    → is_good_run g (steps_of cost) u (get_or points i d) ≡ false
+    → checked_from g i u (drop i points) cost ≡ bad_at (i + 1)
+checked_off g i u points cost d h e =
+    at_drop_more (λ points. checked_from g i u points cost) points i d h
+    ∙ rw e refl
 
-pub checked_on : (g : GridData) (i : ℕ) (u : Cell) (points : List Cell) (cost : Cost) (d : Cell) → i < length points → is_good g (steps_of cost) u (get_or points i d) ≡ true → checked_from g i u (drop i points) cost ≡ checked_from g (i + 1) (get_or points i d) (drop (i + 1) points) (add_costs cost (cost_of (u ∷ run u (get_or points i d))))
-checked_on g i u points cost d h e = at_drop_more (λ points. checked_from g i u points cost) points i d h ∙ rw e refl
+pub checked_on :
+    (g : GridData) (i : ℕ) (u : Cell) (points : List Cell) (cost : Cost) (d : Cell) → i < length points
+    → is_good_run g (steps_of cost) u (get_or points i d) ≡ true
+    → checked_from g i u (drop i points) cost ≡ checked_from g (i + 1) (get_or points i d)
+    (drop (i + 1) points) (paid cost u (get_or points i d))
+checked_on g i u points cost d h e =
+    at_drop_more (λ points. checked_from g i u points cost) points i d h
+    ∙ rw e refl
 
-pub checked_end : (g : GridData) (i : ℕ) (u : Cell) (points : List Cell) (cost : Cost) → length points ≤ i → checked_from g i u (drop i points) cost ≡ Ok cost
+pub checked_end :
+    (g : GridData) (i : ℕ) (u : Cell) (points : List Cell) (cost : Cost) → length points ≤ i
+    → checked_from g i u (drop i points) cost ≡ Ok cost
 checked_end g i u points cost h = at_drop_all (λ points. checked_from g i u points cost) points i h
-
--- the cost of a run within what is left of the steps
-abbrev pub cost_within : GridData → Cell → Cell → ℕ → Option Cost
-cost_within g u v most = if is_legal_run g u v && nat_le (steps_between u v) most then Some (cost_of (u ∷ run u v)) else None
 
 le_left : (s k m : ℕ) → s ≤ m → nat_le k (m - s) ≡ nat_le (s + k) m
 le_left s k m h = by_test (nat_le k (m - s)) refl
@@ -93,21 +126,32 @@ le_left s k m h = by_test (nat_le k (m - s)) refl
     by_test true e = grind (arith, nat_tests)
     by_test false e = grind (arith, nat_tests)
 
-within_is : (g : GridData) (s : ℕ) (u v : Cell) (left : ℕ) → s ≤ most_steps → left ≡ most_steps - s → cost_within g u v left ≡ (if is_good g s u v then Some (cost_of (u ∷ run u v)) else None)
+within_is :
+    (g : GridData) (s : ℕ) (u v : Cell) (left : ℕ) → s ≤ most_steps → left ≡ most_steps - s
+    → cost_within g u v left ≡ (if is_good_run g s u v then Some (cost_of (u ∷ run u v)) else None)
 within_is g s u v left h e =
-    ap (λ n. cost_within g u v n) e ∙ ap (λ b. if is_legal_run g u v && b then Some (cost_of (u ∷ run u v)) else None) (le_left s (steps_between u v) most_steps h)
+    ap (λ n. cost_within g u v n) e
+    ∙ ap (λ b. if is_legal_run g u v && b then Some (cost_of (u ∷ run u v)) else None)
+    (le_left s (steps_between u v) most_steps h)
 
-pub within_none : (g : GridData) (s : ℕ) (u v : Cell) (left : ℕ) → s ≤ most_steps → left ≡ most_steps - s → cost_within g u v left ≡ None → is_good g s u v ≡ false
-within_none g s u v left h e n = by_test (is_good g s u v) (sym (within_is g s u v left h e) ∙ n)
+pub within_none :
+    (g : GridData) (s : ℕ) (u v : Cell) (left : ℕ) → s ≤ most_steps → left ≡ most_steps - s
+    → cost_within g u v left ≡ None → is_good_run g s u v ≡ false
+within_none g s u v left h e n = by_test (is_good_run g s u v) (sym (within_is g s u v left h e) ∙ n)
   where
     by_test : (b : Bool) → (if b then Some (cost_of (u ∷ run u v)) else None) ≡ None → b ≡ false
     by_test true k = absurd (cc)
     by_test false k = refl
 
-pub within_some : (g : GridData) (s : ℕ) (u v : Cell) (left : ℕ) (cost : Cost) → s ≤ most_steps → left ≡ most_steps - s → cost_within g u v left ≡ Some cost → (is_good g s u v ≡ true) × (cost ≡ cost_of (u ∷ run u v))
-within_some g s u v left cost h e n = by_test (is_good g s u v) (sym (within_is g s u v left h e) ∙ n)
+pub within_some :
+    (g : GridData) (s : ℕ) (u v : Cell) (left : ℕ) (cost : Cost) → s ≤ most_steps
+    → left ≡ most_steps - s → cost_within g u v left ≡ Some cost
+    → (is_good_run g s u v ≡ true) × (cost ≡ cost_of (u ∷ run u v))
+within_some g s u v left cost h e n = by_test (is_good_run g s u v) (sym (within_is g s u v left h e) ∙ n)
   where
-    by_test : (b : Bool) → (if b then Some (cost_of (u ∷ run u v)) else None) ≡ Some cost → (b ≡ true) × (cost ≡ cost_of (u ∷ run u v))
+    by_test :
+        (b : Bool) → (if b then Some (cost_of (u ∷ run u v)) else None) ≡ Some cost
+        → (b ≡ true) × (cost ≡ cost_of (u ∷ run u v))
     by_test true k = (refl, cc)
     by_test false k = absurd (cc)
 
@@ -120,23 +164,41 @@ record GoesOn (g : GridData) (u : Cell) (points : List Cell) (cost total : Cost)
   priced : add_costs cost (cost_of (u ∷ cells)) ≡ total
 
 -- the cost of a walk that goes on from a run
-priced_on : (cost : Cost) (u v : Cell) (cells : List Cell) → add_costs cost (cost_of (u ∷ (run u v ++ cells))) ≡ add_costs (add_costs cost (cost_of (u ∷ run u v))) (cost_of (v ∷ cells))
+priced_on :
+    (cost : Cost) (u v : Cell) (cells : List Cell)
+    → add_costs cost (cost_of (u ∷ (run u v ++ cells))) ≡ add_costs (paid cost u v) (cost_of (v ∷ cells))
 priced_on cost u v cells =
-    ap (λ (c : Cost). add_costs cost c) (run_cost_joined u v cells) ∙ sym (add_costs-assoc cost (cost_of (u ∷ run u v)) (cost_of (v ∷ cells)))
+    ap (λ (c : Cost). add_costs cost c) (run_cost_joined u v cells)
+    ∙ sym (add_costs-assoc cost (cost_of (u ∷ run u v)) (cost_of (v ∷ cells)))
 
 run_and_more : (u v : Cell) (cells : List Cell) → length (run u v ++ cells) ≡ steps_between u v + length cells
-run_and_more u v cells = length-append (run u v) cells ∙ ap (λ n. n + length cells) (segment-length (steps_between u v) u v)
+run_and_more u v cells =
+    length-append (run u v) cells
+    ∙ ap (λ n. n + length cells) (segment-length (steps_between u v) u v)
 
-unfolded_on : (u v : Cell) (points cells : List Cell) → are_lined u v ≡ true → unfolded_from v points ≡ Some cells → unfolded_from u (v ∷ points) ≡ Some (run u v ++ cells)
+unfolded_on :
+    (u v : Cell) (points cells : List Cell) → are_lined u v ≡ true → unfolded_from v points ≡ Some cells
+    → unfolded_from u (v ∷ points) ≡ Some (run u v ++ cells)
 unfolded_on u v points cells l e = rw (l, e) refl
 
-ok_goes : (g : GridData) (i : ℕ) (u : Cell) (points : List Cell) (cost total : Cost) → is_free g u ≡ true → steps_of cost ≤ most_steps → checked_from g i u points cost ≡ Ok total → GoesOn g u points cost total
-ok_goes g i u [] cost total f s h = record { cells = []; unfolds = refl; legal = f; short = omega arith; priced = add_costs-no_cost_right cost ∙ cc }
+ok_goes :
+    (g : GridData) (i : ℕ) (u : Cell) (points : List Cell) (cost total : Cost) → is_free g u ≡ true
+    → steps_of cost ≤ most_steps → checked_from g i u points cost ≡ Ok total
+    → GoesOn g u points cost total
+ok_goes g i u [] cost total f s h =
+    record {
+      cells = [];
+      unfolds = refl;
+      legal = f;
+      short = omega arith;
+      priced = add_costs-no_cost_right cost ∙ cc;
+    }
 ok_goes g i u (v ∷ points) cost total f s h =
-    let step = if_ok (is_good g (steps_of cost) u v) (checked_from g (i + 1) v points (add_costs cost (cost_of (u ∷ run u v)))) (record { 0 = i + 1 }) total h in
+    let step = if_ok (is_good_run g (steps_of cost) u v) (checked_from g (i + 1) v points (paid cost u v)) _ total h in
     let good = good_is g (steps_of cost) u v step.0 in
     let on = steps_on cost u v in
-    let t = ok_goes g (i + 1) v points (add_costs cost (cost_of (u ∷ run u v))) total good.free (omega (arith, good.few)) step.1 in
+    let t =
+    ok_goes g (i + 1) v points (paid cost u v) total good.free (omega (arith, good.few)) step.1 in
     let more = run_and_more u v t.cells in
     record {
       cells = run u v ++ t.cells;
@@ -146,23 +208,34 @@ ok_goes g i u (v ∷ points) cost total f s h =
       priced = priced_on cost u v t.cells ∙ t.priced;
     }
 
-goes_ok : (g : GridData) (i : ℕ) (u : Cell) (points : List Cell) (cost total : Cost) → GoesOn g u points cost total → checked_from g i u points cost ≡ Ok total
+goes_ok :
+    (g : GridData) (i : ℕ) (u : Cell) (points : List Cell) (cost total : Cost)
+    → GoesOn g u points cost total → checked_from g i u points cost ≡ Ok total
 goes_ok g i u [] cost total t =
     let none : t.cells ≡ [] = let e = t.unfolds in cc in
-    ap (λ (c : Cost). let r : Result Cost BadAt = Ok c in r) (sym (add_costs-no_cost_right cost) ∙ ap (λ (l : List Cell). add_costs cost (cost_of (u ∷ l))) (sym none) ∙ t.priced)
+    let same : cost ≡ total =
+    sym (add_costs-no_cost_right cost)
+    ∙ ap (λ (l : List Cell). add_costs cost (cost_of (u ∷ l))) (sym none)
+    ∙ t.priced in
+    ap costs same
 goes_ok g i u (v ∷ points) cost total t =
-    let parts = if_some (are_lined u v) (λ (cells : List Cell). run u v ++ cells) (unfolded_from v points) t.cells t.unfolds in
+    let parts = if_some (are_lined u v) (λ (l : List Cell). run u v ++ l) (unfolded_from v points) t.cells t.unfolds in
     let is = sym parts.3 in
     let walk = run_parts g u v parts.0 (ap (λ (l : List Cell). is_walk g (u ∷ l)) parts.3 ∙ t.legal) in
     let on = steps_on cost u v in
-    let more : length t.cells ≡ steps_between u v + length parts.0 = ap (λ (l : List Cell). length l) is ∙ run_and_more u v parts.0 in
+    let more : length t.cells ≡ steps_between u v + length parts.0 =
+    ap (λ (l : List Cell). length l) is
+    ∙ run_and_more u v parts.0 in
     let good = good_from g (steps_of cost) u v parts.1 walk.0 (omega (arith, t.short)) in
-    rw good (goes_ok g (i + 1) v points (add_costs cost (cost_of (u ∷ run u v))) total (record {
+    rw good (goes_ok g (i + 1) v points (paid cost u v) total (record {
       cells = parts.0;
       unfolds = parts.2;
       legal = walk.1;
       short = omega (arith, t.short);
-      priced = sym (priced_on cost u v parts.0) ∙ ap (λ (l : List Cell). add_costs cost (cost_of (u ∷ l))) parts.3 ∙ t.priced;
+      priced =
+          sym (priced_on cost u v parts.0)
+          ∙ ap (λ (l : List Cell). add_costs cost (cost_of (u ∷ l))) parts.3
+          ∙ t.priced;
     }))
 
 -- the point after point i is bad, where s steps came before
@@ -171,80 +244,108 @@ record BreaksFrom (g : GridData) (s : ℕ) (points : List Cell) (i : ℕ) : Type
   to : Cell
   is_from : slice_get points i ≡ Some from
   is_to : slice_get points (suc i) ≡ Some to
-  broken : (is_legal_run g from to && nat_le (s + steps_through (take (suc (suc i)) points)) most_steps) ≡ false
+  broken : is_good_run g (s + steps_through (take (suc i) points)) from to ≡ false
 
-breaks_first : (g : GridData) (s : ℕ) (u v : Cell) (points : List Cell) → is_good g s u v ≡ false → BreaksFrom g s (u ∷ v ∷ points) 0
-breaks_first g s u v points h = record { from = u; to = v; is_from = refl; is_to = refl; broken = rw (add-zero (steps_between u v)) h }
+breaks_first :
+    (g : GridData) (s : ℕ) (u v : Cell) (points : List Cell) → is_good_run g s u v ≡ false
+    → BreaksFrom g s (u ∷ v ∷ points) 0
+breaks_first g s u v points h =
+    record { from = u; to = v; is_from = refl; is_to = refl; broken = rw (add-zero s) h }
 
-first_breaks : (g : GridData) (s : ℕ) (u v : Cell) (points : List Cell) → BreaksFrom g s (u ∷ v ∷ points) 0 → is_good g s u v ≡ false
+first_breaks :
+    (g : GridData) (s : ℕ) (u v : Cell) (points : List Cell) → BreaksFrom g s (u ∷ v ∷ points) 0
+    → is_good_run g s u v ≡ false
 first_breaks g s u v points b =
     let from : b.from ≡ u = let e = b.is_from in cc in
     let to : b.to ≡ v = let e = b.is_to in cc in
-    let broken : (is_legal_run g b.from b.to && nat_le (s + steps_between u v) most_steps) ≡ false = rw (add-zero (steps_between u v)) at b.broken in
-    let whole : (is_legal_run g u b.to && nat_le (s + steps_between u v) most_steps) ≡ false = rw from at broken in
-    rw to at whole
+    let here : is_good_run g s b.from b.to ≡ false = rw (add-zero s) at b.broken in
+    ap (λ (c : Cell). is_good_run g s u c) (sym to) ∙ ap (λ (c : Cell). is_good_run g s c b.to) (sym from) ∙ here
 
 -- the steps before count along
-breaks_later : (g : GridData) (s t : ℕ) (u v : Cell) (points : List Cell) (i : ℕ) → t ≡ s + steps_between u v → BreaksFrom g t (v ∷ points) i → BreaksFrom g s (u ∷ v ∷ points) (suc i)
+breaks_later :
+    (g : GridData) (s t : ℕ) (u v : Cell) (points : List Cell) (i : ℕ) → t ≡ s + steps_between u v
+    → BreaksFrom g t (v ∷ points) i → BreaksFrom g s (u ∷ v ∷ points) (suc i)
 breaks_later g s t u v points i e b =
-    let rest = steps_through (v ∷ take (suc i) points) in
+    let rest = steps_through (v ∷ take i points) in
     let same : s + (steps_between u v + rest) ≡ t + rest = omega arith in
     record {
       from = b.from;
       to = b.to;
       is_from = b.is_from;
       is_to = b.is_to;
-      broken = ap (λ n. is_legal_run g b.from b.to && nat_le n most_steps) same ∙ b.broken;
+      broken = ap (λ n. is_good_run g n b.from b.to) same ∙ b.broken;
     }
 
-later_breaks : (g : GridData) (s t : ℕ) (u v : Cell) (points : List Cell) (i : ℕ) → t ≡ s + steps_between u v → BreaksFrom g s (u ∷ v ∷ points) (suc i) → BreaksFrom g t (v ∷ points) i
+later_breaks :
+    (g : GridData) (s t : ℕ) (u v : Cell) (points : List Cell) (i : ℕ) → t ≡ s + steps_between u v
+    → BreaksFrom g s (u ∷ v ∷ points) (suc i) → BreaksFrom g t (v ∷ points) i
 later_breaks g s t u v points i e b =
-    let rest = steps_through (v ∷ take (suc i) points) in
+    let rest = steps_through (v ∷ take i points) in
     let same : t + rest ≡ s + (steps_between u v + rest) = omega arith in
     record {
       from = b.from;
       to = b.to;
       is_from = b.is_from;
       is_to = b.is_to;
-      broken = ap (λ n. is_legal_run g b.from b.to && nat_le n most_steps) same ∙ b.broken;
+      broken = ap (λ n. is_good_run g n b.from b.to) same ∙ b.broken;
     }
 
 -- where the first of the later points is bad, after a good one
-first_later : (g : GridData) (s t : ℕ) (u v : Cell) (points : List Cell) (n : ℕ) → t ≡ s + steps_between u v → is_good g s u v ≡ true → IsFirst (BreaksFrom g t (v ∷ points)) n → IsFirst (BreaksFrom g s (u ∷ v ∷ points)) (suc n)
-first_later g s t u v points n e good first = record { here = breaks_later g s t u v points n e first.here; none_before = before }
+first_later :
+    (g : GridData) (s t : ℕ) (u v : Cell) (points : List Cell) (n : ℕ) → t ≡ s + steps_between u v
+    → is_good_run g s u v ≡ true → IsFirst (BreaksFrom g t (v ∷ points)) n
+    → IsFirst (BreaksFrom g s (u ∷ v ∷ points)) (suc n)
+first_later g s t u v points n e good first =
+    record { here = breaks_later g s t u v points n e first.here; none_before = before }
   where
     before : (k : ℕ) → k < suc n → ¬ BreaksFrom g s (u ∷ v ∷ points) k
     before zero h b = let bad = first_breaks g s u v points b in absurd (cc)
     before (suc k) h b = first.none_before k (omega arith) (later_breaks g s t u v points k e b)
 
-later_first : (g : GridData) (s t : ℕ) (u v : Cell) (points : List Cell) (n : ℕ) → t ≡ s + steps_between u v → IsFirst (BreaksFrom g s (u ∷ v ∷ points)) (suc n) → IsFirst (BreaksFrom g t (v ∷ points)) n
+later_first :
+    (g : GridData) (s t : ℕ) (u v : Cell) (points : List Cell) (n : ℕ) → t ≡ s + steps_between u v
+    → IsFirst (BreaksFrom g s (u ∷ v ∷ points)) (suc n) → IsFirst (BreaksFrom g t (v ∷ points)) n
 later_first g s t u v points n e first = record {
   here = later_breaks g s t u v points n e first.here;
   none_before = λ k h b. first.none_before (suc k) (omega arith) (breaks_later g s t u v points k e b);
 }
 
 -- an error names the first bad point
-err_first : (g : GridData) (i : ℕ) (u : Cell) (points : List Cell) (cost : Cost) (bad : BadAt) → checked_from g i u points cost ≡ Err bad → (n : ℕ) × (bad.0 ≡ i + suc n) × IsFirst (BreaksFrom g (steps_of cost) (u ∷ points)) n
+err_first :
+    (g : GridData) (i : ℕ) (u : Cell) (points : List Cell) (cost : Cost) (bad : BadAt)
+    → checked_from g i u points cost ≡ Err bad
+    → (n : ℕ) × (bad.0 ≡ i + suc n) × IsFirst (BreaksFrom g (steps_of cost) (u ∷ points)) n
 err_first g i u [] cost bad h = absurd (cc)
-err_first g i u (v ∷ points) cost bad h =
-    elim (if_err (is_good g (steps_of cost) u v) (checked_from g (i + 1) v points (add_costs cost (cost_of (u ∷ run u v)))) (record { 0 = i + 1 }) bad h) [
-      | inl later ↦
-          let rest = err_first g (i + 1) v points (add_costs cost (cost_of (u ∷ run u v))) bad later.1 in
-          (suc rest.0, (let e = rest.1 in omega arith), first_later g (steps_of cost) (steps_of (add_costs cost (cost_of (u ∷ run u v)))) u v points rest.0 (steps_on cost u v) later.0 rest.2)
-      | inr now ↦ (0, (let e = ap (λ (b : BadAt). b.0) now.1 in omega arith), record { here = breaks_first g (steps_of cost) u v points now.0; none_before = λ k h. absurd (omega arith) })
-    ]
+err_first g i u (v ∷ points) cost bad h = elim (if_err (is_good_run g (steps_of cost) u v) on (record { 0 = i + 1 }) bad h) [
+  | inl later ↦
+      let rest = err_first g (i + 1) v points (paid cost u v) bad later.1 in
+      let place : bad.0 ≡ i + suc (suc rest.0) = (let e = rest.1 in omega arith) in
+      (suc rest.0, place, first_later g (steps_of cost) (steps_of (paid cost u v)) u v points rest.0 (steps_on cost u v) later.0 rest.2)
+  | inr now ↦
+      let place : bad.0 ≡ i + 1 = ap (λ (b : BadAt). b.0) (sym now.1) in
+      (0, place, record { here = breaks_first g (steps_of cost) u v points now.0; none_before = λ k h. absurd (omega arith) })
+]
+  where
+    on : Result Cost BadAt
+    on = checked_from g (i + 1) v points (paid cost u v)
 
 -- the first bad point is named by an error
-first_err : (g : GridData) (i : ℕ) (u : Cell) (points : List Cell) (cost : Cost) (n : ℕ) → IsFirst (BreaksFrom g (steps_of cost) (u ∷ points)) n → checked_from g i u points cost ≡ bad_at (i + suc n)
+first_err :
+    (g : GridData) (i : ℕ) (u : Cell) (points : List Cell) (cost : Cost) (n : ℕ)
+    → IsFirst (BreaksFrom g (steps_of cost) (u ∷ points)) n
+    → checked_from g i u points cost ≡ bad_at (i + suc n)
 first_err g i u [] cost n first = let e = first.here.is_to in absurd (cc)
 first_err g i u (v ∷ points) cost zero first = rw (first_breaks g (steps_of cost) u v points first.here) refl
 first_err g i u (v ∷ points) cost (suc n) first =
-    let good : is_good g (steps_of cost) u v ≡ true = by_test (is_good g (steps_of cost) u v) refl in
-    let rest = first_err g (i + 1) v points (add_costs cost (cost_of (u ∷ run u v))) n (later_first g (steps_of cost) (steps_of (add_costs cost (cost_of (u ∷ run u v)))) u v points n (steps_on cost u v) first) in
+    let good : is_good_run g (steps_of cost) u v ≡ true = by_test (is_good_run g (steps_of cost) u v) refl in
+    let rest =
+    first_err g (i + 1) v points (paid cost u v) n
+    (later_first g (steps_of cost) (steps_of (paid cost u v)) u v points n (steps_on cost u v) first)
+    in
     let same : i + 1 + suc n ≡ i + suc (suc n) = omega arith in
     rw good (rest ∙ ap bad_at same)
   where
-    by_test : (b : Bool) → is_good g (steps_of cost) u v ≡ b → is_good g (steps_of cost) u v ≡ true
+    by_test : (b : Bool) → is_good_run g (steps_of cost) u v ≡ b → is_good_run g (steps_of cost) u v ≡ true
     by_test true e = e
     by_test false e = absurd (first.none_before 0 (omega arith) (breaks_first g (steps_of cost) u v points e))
 
@@ -255,14 +356,17 @@ pub record IsVerdict (g : GridData) (points : List Cell) (answer : Result Cost B
   pub bad : IfErr answer (λ bad. IsFirstBad g points bad.0)
   pub err : (i : ℕ) → IsFirstBad g points i → answer ≡ bad_at i
 
-short_free : (g : GridData) (points : List Cell) (cost : Cost) → IsShortWalk g points cost → starts_free g points ≡ true
+short_free :
+    (g : GridData) (points : List Cell) (cost : Cost) → IsShortWalk g points cost
+    → starts_free g points ≡ true
 short_free g [] cost w = let e = w.unfolds in absurd (cc)
 short_free g (u ∷ points) cost w =
     let t = if_some true (λ (cells : List Cell). u ∷ cells) (unfolded_from u points) w.cells w.unfolds in
     walk_free g u t.0 (ap (λ (l : List Cell). is_walk g l) t.3 ∙ w.walk)
 
 -- without a free first point, that point is bad
-pub verdict_at_start : (g : GridData) (points : List Cell) → starts_free g points ≡ false → IsVerdict g points (bad_at 0)
+pub verdict_at_start :
+    (g : GridData) (points : List Cell) → starts_free g points ≡ false → IsVerdict g points (bad_at 0)
 verdict_at_start g points h = record {
   walk = tt;
   ok = λ cost w. let free = short_free g points cost w in absurd (cc);
@@ -293,18 +397,33 @@ module _ (g : GridData) (u : Cell) (points : List Cell) (free : is_free g u ≡ 
         unfolds = t.2;
         legal = ap (λ (l : List Cell). is_walk g l) t.3 ∙ w.walk;
         short = omega (arith, w.short);
-        priced = add_costs-no_cost_left (cost_of (u ∷ t.0)) ∙ ap (λ (l : List Cell). cost_of l) t.3 ∙ w.priced;
+        priced =
+            add_costs-no_cost_left (cost_of (u ∷ t.0))
+            ∙ ap (λ (l : List Cell). cost_of l) t.3
+            ∙ w.priced;
       }
 
   bad_from : (n : ℕ) → BreaksFrom g 0 (u ∷ points) n → BreaksAfter g (u ∷ points) n
   bad_from n b =
-      let steps = zero-add (steps_through (take (suc (suc n)) (u ∷ points))) in
-      record { from = b.from; to = b.to; is_from = b.is_from; is_to = b.is_to; broken = ap (λ n. is_legal_run g b.from b.to && nat_le n most_steps) (sym steps) ∙ b.broken }
+      let steps = zero-add (steps_through (take (suc n) (u ∷ points))) in
+      record {
+        from = b.from;
+        to = b.to;
+        is_from = b.is_from;
+        is_to = b.is_to;
+        broken = ap (λ n. is_good_run g n b.from b.to) (sym steps) ∙ b.broken;
+      }
 
   from_bad : (n : ℕ) → BreaksAfter g (u ∷ points) n → BreaksFrom g 0 (u ∷ points) n
   from_bad n b =
-      let steps = zero-add (steps_through (take (suc (suc n)) (u ∷ points))) in
-      record { from = b.from; to = b.to; is_from = b.is_from; is_to = b.is_to; broken = ap (λ n. is_legal_run g b.from b.to && nat_le n most_steps) steps ∙ b.broken }
+      let steps = zero-add (steps_through (take (suc n) (u ∷ points))) in
+      record {
+        from = b.from;
+        to = b.to;
+        is_from = b.is_from;
+        is_to = b.is_to;
+        broken = ap (λ n. is_good_run g n b.from b.to) steps ∙ b.broken;
+      }
 
   first_bad : (n : ℕ) → IsFirst (BreaksFrom g 0 (u ∷ points)) n → IsFirstBad g (u ∷ points) (suc n)
   first_bad n first = record { here = bad_from n first.here; none_before = before }
@@ -313,14 +432,23 @@ module _ (g : GridData) (u : Cell) (points : List Cell) (free : is_free g u ≡ 
       before zero h b = absurd (cc)
       before (suc k) h b = first.none_before k (omega arith) (from_bad k b)
 
-  bad_first : (answer : Result Cost BadAt) → checked_from g 0 u points no_cost ≡ answer → (i : ℕ) → IsFirstBad g (u ∷ points) i → answer ≡ bad_at i
+  bad_first :
+      (answer : Result Cost BadAt) → checked_from g 0 u points no_cost ≡ answer → (i : ℕ)
+      → IsFirstBad g (u ∷ points) i → answer ≡ bad_at i
   bad_first answer e zero first = let bad = first.here in absurd (cc)
   bad_first answer e (suc n) first =
       let same : 0 + suc n ≡ suc n = zero-add (suc n) in
-      sym e ∙ first_err g 0 u points no_cost n (record { here = from_bad n first.here; none_before = λ k h b. first.none_before (suc k) (omega arith) (bad_from k b) }) ∙ ap bad_at same
+      sym e
+      ∙ first_err g 0 u points no_cost n (record {
+        here = from_bad n first.here;
+        none_before = λ k h b. first.none_before (suc k) (omega arith) (bad_from k b);
+      })
+      ∙ ap bad_at same
 
   -- from a free first point the check on the list decides
-  pub verdict_from : (answer : Result Cost BadAt) → checked_from g 0 u points no_cost ≡ answer → IsVerdict g (u ∷ points) answer
+  pub verdict_from :
+      (answer : Result Cost BadAt) → checked_from g 0 u points no_cost ≡ answer
+      → IsVerdict g (u ∷ points) answer
   verdict_from (Ok total) e = record {
     walk = goes_short total (ok_goes g 0 u points no_cost total free (omega arith) e);
     ok = λ cost w. sym e ∙ goes_ok g 0 u points no_cost cost (short_goes cost w);
@@ -332,9 +460,15 @@ module _ (g : GridData) (u : Cell) (points : List Cell) (free : is_free g u ≡ 
       record {
         walk = tt;
         ok = λ cost w. sym e ∙ goes_ok g 0 u points no_cost cost (short_goes cost w);
-        bad = subst (λ i. IsFirstBad g (u ∷ points) i) (sym (first.1 ∙ zero-add (suc first.0))) (first_bad first.0 first.2);
+        bad =
+            subst (λ i. IsFirstBad g (u ∷ points) i) (sym (first.1 ∙ zero-add (suc first.0)))
+            (first_bad first.0 first.2);
         err = bad_first (Err bad) e;
       }
 
-pub verdict_of : (g : GridData) (points : List Cell) (u : Cell) (others : List Cell) (answer : Result Cost BadAt) → points ≡ u ∷ others → is_free g u ≡ true → checked_from g 0 u others no_cost ≡ answer → IsVerdict g points answer
-verdict_of g points u others answer is free e = subst (λ (p : List Cell). IsVerdict g p answer) (sym is) (verdict_from g u others free answer e)
+pub verdict_of :
+    (g : GridData) (points : List Cell) (u : Cell) (others : List Cell) (answer : Result Cost BadAt)
+    → points ≡ u ∷ others → is_free g u ≡ true → checked_from g 0 u others no_cost ≡ answer
+    → IsVerdict g points answer
+verdict_of g points u others answer is free e =
+    subst (λ (p : List Cell). IsVerdict g p answer) (sym is) (verdict_from g u others free answer e)

@@ -1,4 +1,4 @@
--- The points by which the plain engine prints a walk unfold to the walk, and read the same from the other end.
+-- The points by which the plain engine prints a walk unfold to it, and read the same from the other end.
 use Rattle.std.proofs.Common.{◌≡◌, ℕ, zero, suc, ◌+◌, ◌-◌, ◌*◌, ◌<◌, ◌≤◌, ◌⊎◌, inl, inr, arith, Bool, true, false, refl, ap, sym, ◌∙◌, List, [], ◌∷◌, ◌++◌, reverse, add_comm}
 use Rattle.std.specs.Prelude.{nat_eq, nat_lt, if◌then◌else◌, Option, Some, None, option_map, max}
 use Rattle.std.proofs.lemmas.Bool.Decides.{nat_tests}
@@ -18,10 +18,14 @@ toward_back : (a b c q : ℕ) → toward b q ≡ c → a + c ≡ 2 * b → towar
 toward_back a b c q t e = grind (arith, nat_tests)
 
 -- towards q, b lies still or moves on, and a with it
-apart_back : (a b c q : ℕ) → toward b q ≡ c → a + c ≡ 2 * b → ((apart b q ≡ 0) × (apart a q ≡ 0)) ⊎ ((0 < apart b q) × (apart a q ≡ suc (apart b q)))
+apart_back :
+    (a b c q : ℕ) → toward b q ≡ c → a + c ≡ 2 * b
+    → ((apart b q ≡ 0) × (apart a q ≡ 0)) ⊎ ((0 < apart b q) × (apart a q ≡ suc (apart b q)))
 apart_back a b c q t e = by_low (nat_lt b q) refl
   where
-    by_high : nat_lt b q ≡ false → (k : Bool) → nat_lt q b ≡ k → ((apart b q ≡ 0) × (apart a q ≡ 0)) ⊎ ((0 < apart b q) × (apart a q ≡ suc (apart b q)))
+    by_high :
+        nat_lt b q ≡ false → (k : Bool) → nat_lt q b ≡ k
+        → ((apart b q ≡ 0) × (apart a q ≡ 0)) ⊎ ((0 < apart b q) × (apart a q ≡ suc (apart b q)))
     by_high l true h =
         let below : q < b = grind (arith, nat_tests) in
         let is : b - 1 ≡ c = rw (l, h) at t in
@@ -31,7 +35,9 @@ apart_back a b c q t e = by_low (nat_lt b q) refl
         let is : b ≡ c = rw (l, h) at t in
         inl (omega arith, omega arith)
 
-    by_low : (k : Bool) → nat_lt b q ≡ k → ((apart b q ≡ 0) × (apart a q ≡ 0)) ⊎ ((0 < apart b q) × (apart a q ≡ suc (apart b q)))
+    by_low :
+        (k : Bool) → nat_lt b q ≡ k
+        → ((apart b q ≡ 0) × (apart a q ≡ 0)) ⊎ ((0 < apart b q) × (apart a q ≡ suc (apart b q)))
     by_low true l =
         let below : b < q = grind (arith, nat_tests) in
         let is : b + 1 ≡ c = rw l at t in
@@ -45,19 +51,28 @@ record Reaches (u w q : Cell) (k : ℕ) : Type 0 where
   first : step_toward u q ≡ w
 
 -- what are_lined says, on the two distances
-lined_apart : (u q : Cell) (k : ℕ) → steps_between u q ≡ suc k → (apart u.x q.x ≡ 0) ⊎ ((apart u.y q.y ≡ 0) ⊎ (apart u.x q.x ≡ apart u.y q.y)) → are_lined u q ≡ true
+lined_apart :
+    (u q : Cell) (k : ℕ) → steps_between u q ≡ suc k
+    → (apart u.x q.x ≡ 0) ⊎ ((apart u.y q.y ≡ 0) ⊎ (apart u.x q.x ≡ apart u.y q.y))
+    → are_lined u q ≡ true
 lined_apart u q k s (inl e) = let same : u.x ≡ q.x = omega arith in grind (arith, nat_tests)
 lined_apart u q k s (inr (inl e)) = let same : u.y ≡ q.y = omega arith in grind (arith, nat_tests)
 lined_apart u q k s (inr (inr e)) = grind (arith, nat_tests)
 
-apart_lined : (u q : Cell) → are_lined u q ≡ true → (apart u.x q.x ≡ 0) ⊎ ((apart u.y q.y ≡ 0) ⊎ (apart u.x q.x ≡ apart u.y q.y))
+apart_lined :
+    (u q : Cell) → are_lined u q ≡ true
+    → (apart u.x q.x ≡ 0) ⊎ ((apart u.y q.y ≡ 0) ⊎ (apart u.x q.x ≡ apart u.y q.y))
 apart_lined u q h = by_column (nat_eq u.x q.x) refl
   where
-    by_row : nat_eq u.x q.x ≡ false → (k : Bool) → nat_eq u.y q.y ≡ k → (apart u.x q.x ≡ 0) ⊎ ((apart u.y q.y ≡ 0) ⊎ (apart u.x q.x ≡ apart u.y q.y))
+    by_row :
+        nat_eq u.x q.x ≡ false → (k : Bool) → nat_eq u.y q.y ≡ k
+        → (apart u.x q.x ≡ 0) ⊎ ((apart u.y q.y ≡ 0) ⊎ (apart u.x q.x ≡ apart u.y q.y))
     by_row e true f = let same : u.y ≡ q.y = grind (arith, nat_tests) in inr (inl (omega arith))
     by_row e false f = inr (inr (grind (arith, nat_tests)))
 
-    by_column : (k : Bool) → nat_eq u.x q.x ≡ k → (apart u.x q.x ≡ 0) ⊎ ((apart u.y q.y ≡ 0) ⊎ (apart u.x q.x ≡ apart u.y q.y))
+    by_column :
+        (k : Bool) → nat_eq u.x q.x ≡ k
+        → (apart u.x q.x ≡ 0) ⊎ ((apart u.y q.y ≡ 0) ⊎ (apart u.x q.x ≡ apart u.y q.y))
     by_column true e = let same : u.x ≡ q.x = grind (arith, nat_tests) in inl (omega arith)
     by_column false e = by_row e (nat_eq u.y q.y) refl
 
@@ -72,20 +87,30 @@ reaches_back u v w q k h r =
     let rows : u.y + w.y ≡ 2 * v.y = grind (arith, nat_tests) in
     let across : toward v.x q.x ≡ w.x = ap (λ (c : Cell). c.x) r.first in
     let along : toward v.y q.y ≡ w.y = ap (λ (c : Cell). c.y) r.first in
-    let steps : steps_between u q ≡ suc (suc k) = longer (apart_back u.x v.x w.x q.x across columns) (apart_back u.y v.y w.y q.y along rows) r.steps in
+    let steps : steps_between u q ≡ suc (suc k) =
+    longer (apart_back u.x v.x w.x q.x across columns) (apart_back u.y v.y w.y q.y along rows) r.steps in
     record {
-      lined = lined_apart u q (suc k) steps (lined_on (apart_lined v q r.lined) (apart_back u.x v.x w.x q.x across columns) (apart_back u.y v.y w.y q.y along rows) r.steps);
+      lined =
+          lined_apart u q (suc k) steps
+          (lined_on (apart_lined v q r.lined) (apart_back u.x v.x w.x q.x across columns) (apart_back u.y v.y w.y q.y along rows) r.steps);
       steps = steps;
-      first = same_cell (step_toward u q) v (toward_back u.x v.x w.x q.x across columns) (toward_back u.y v.y w.y q.y along rows);
+      first =
+          same_cell (step_toward u q) v (toward_back u.x v.x w.x q.x across columns)
+          (toward_back u.y v.y w.y q.y along rows);
     }
   where
-    longer : {x y z t m : ℕ} → ((x ≡ 0) × (y ≡ 0)) ⊎ ((0 < x) × (y ≡ suc x)) → ((z ≡ 0) × (t ≡ 0)) ⊎ ((0 < z) × (t ≡ suc z)) → max x z ≡ suc m → max y t ≡ suc (suc m)
+    longer :
+        {x y z t m : ℕ} → ((x ≡ 0) × (y ≡ 0)) ⊎ ((0 < x) × (y ≡ suc x))
+        → ((z ≡ 0) × (t ≡ 0)) ⊎ ((0 < z) × (t ≡ suc z)) → max x z ≡ suc m → max y t ≡ suc (suc m)
     longer (inl a) (inl b) s = omega arith
     longer (inl a) (inr b) s = omega arith
     longer (inr a) (inl b) s = omega arith
     longer (inr a) (inr b) s = omega arith
 
-    lined_on : {x y z t m : ℕ} → (x ≡ 0) ⊎ ((z ≡ 0) ⊎ (x ≡ z)) → ((x ≡ 0) × (y ≡ 0)) ⊎ ((0 < x) × (y ≡ suc x)) → ((z ≡ 0) × (t ≡ 0)) ⊎ ((0 < z) × (t ≡ suc z)) → max x z ≡ suc m → (y ≡ 0) ⊎ ((t ≡ 0) ⊎ (y ≡ t))
+    lined_on :
+        {x y z t m : ℕ} → (x ≡ 0) ⊎ ((z ≡ 0) ⊎ (x ≡ z)) → ((x ≡ 0) × (y ≡ 0)) ⊎ ((0 < x) × (y ≡ suc x))
+        → ((z ≡ 0) × (t ≡ 0)) ⊎ ((0 < z) × (t ≡ suc z)) → max x z ≡ suc m
+        → (y ≡ 0) ⊎ ((t ≡ 0) ⊎ (y ≡ t))
     lined_on l (inl a) b s = inl a.1
     lined_on l (inr a) (inl b) s = inr (inl b.1)
     lined_on (inl l) (inr a) (inr b) s = absurd (omega arith)
@@ -100,13 +125,19 @@ reaches_next g u v h =
     record {
       lined = lined_apart u v 0 steps (lined_near l.x_low l.x_high l.y_low l.y_high);
       steps = steps;
-      first = same_cell (step_toward u v) v (near_step u.x v.x l.x_low l.x_high) (near_step u.y v.y l.y_low l.y_high);
+      first =
+          same_cell (step_toward u v) v (near_step u.x v.x l.x_low l.x_high)
+          (near_step u.y v.y l.y_low l.y_high);
     }
   where
-    one : u.x ≤ v.x + 1 → v.x ≤ u.x + 1 → u.y ≤ v.y + 1 → v.y ≤ u.y + 1 → ((u.x ≡ v.x) → (u.y ≡ v.y) → ⊥) → steps_between u v ≡ 1
+    one :
+        u.x ≤ v.x + 1 → v.x ≤ u.x + 1 → u.y ≤ v.y + 1 → v.y ≤ u.y + 1 → ((u.x ≡ v.x) → (u.y ≡ v.y) → ⊥)
+        → steps_between u v ≡ 1
     one a b c d n = grind arith
 
-    lined_near : u.x ≤ v.x + 1 → v.x ≤ u.x + 1 → u.y ≤ v.y + 1 → v.y ≤ u.y + 1 → (apart u.x v.x ≡ 0) ⊎ ((apart u.y v.y ≡ 0) ⊎ (apart u.x v.x ≡ apart u.y v.y))
+    lined_near :
+        u.x ≤ v.x + 1 → v.x ≤ u.x + 1 → u.y ≤ v.y + 1 → v.y ≤ u.y + 1
+        → (apart u.x v.x ≡ 0) ⊎ ((apart u.y v.y ≡ 0) ⊎ (apart u.x v.x ≡ apart u.y v.y))
     lined_near a b c d = zero_or_one (apart u.x v.x) (apart u.y v.y) (omega arith) (omega arith)
       where
         zero_or_one : (m n : ℕ) → m ≤ 1 → n ≤ 1 → (m ≡ 0) ⊎ ((n ≡ 0) ⊎ (m ≡ n))
@@ -115,16 +146,27 @@ reaches_next g u v h =
         zero_or_one (suc m) (suc n) h k = inr (inr (omega arith))
 
 -- the cells from u through a point that is reached in k + 1 steps
-unfolded_through : (u w q : Cell) (k : ℕ) (points : List Cell) → Reaches u w q k → unfolded_from u (q ∷ points) ≡ option_map (λ cells. segment (suc k) u q ++ cells) (unfolded_from q points)
+unfolded_through :
+    (u w q : Cell) (k : ℕ) (points : List Cell) → Reaches u w q k
+    → unfolded_from u (q ∷ points) ≡ option_map (λ cells. segment (suc k) u q ++ cells)
+    (unfolded_from q points)
 unfolded_through u w q k points r = rw (r.lined, r.steps) refl
 
 -- where the first of those steps leads to w
-unfolded_over : (u w q : Cell) (k : ℕ) (points : List Cell) → Reaches u w q k → unfolded_from u (q ∷ points) ≡ option_map (λ cells. w ∷ (segment k w q ++ cells)) (unfolded_from q points)
-unfolded_over u w q k points r = unfolded_through u w q k points r ∙ ap (λ (c : Cell). option_map (λ cells. c ∷ (segment k c q ++ cells)) (unfolded_from q points)) r.first
+unfolded_over :
+    (u w q : Cell) (k : ℕ) (points : List Cell) → Reaches u w q k
+    → unfolded_from u (q ∷ points) ≡ option_map (λ cells. w ∷ (segment k w q ++ cells))
+    (unfolded_from q points)
+unfolded_over u w q k points r =
+    unfolded_through u w q k points r
+    ∙ ap (λ (c : Cell). option_map (λ cells. c ∷ (segment k c q ++ cells)) (unfolded_from q points)) r.first
 
-map_after : (w : Cell) (f : List Cell → List Cell) (o : Option (List Cell)) (cells : List Cell) → option_map f o ≡ Some cells → option_map (λ later. w ∷ f later) o ≡ Some (w ∷ cells)
+map_after :
+    (w : Cell) (f : List Cell → List Cell) (o : Option (List Cell)) (cells : List Cell)
+    → option_map f o ≡ Some cells → option_map (λ later. w ∷ f later) o ≡ Some (w ∷ cells)
 map_after w f None cells e = absurd (cc)
-map_after w f (Some later) cells e = ap (λ (o : Option (List Cell)). option_map (λ (c : List Cell). w ∷ c) o) e
+map_after w f (Some later) cells e =
+    ap (λ (o : Option (List Cell)). option_map (λ (c : List Cell). w ∷ c) o) e
 
 -- after u, the turns of the cells from v on unfold to those cells, and the first point lies behind v
 record Unfolds (u v : Cell) (cells : List Cell) : Type 0 where
@@ -135,10 +177,19 @@ record Unfolds (u v : Cell) (cells : List Cell) : Type 0 where
   reaches : Reaches u v point further
   unfolds : unfolded_from u (point ∷ points) ≡ Some (v ∷ cells)
 
-turns_unfold : (g : GridData) (u v : Cell) (cells : List Cell) → is_walk g (u ∷ v ∷ cells) ≡ true → Unfolds u v cells
+turns_unfold :
+    (g : GridData) (u v : Cell) (cells : List Cell) → is_walk g (u ∷ v ∷ cells) ≡ true
+    → Unfolds u v cells
 turns_unfold g u v [] h =
     let r = reaches_next g u v (and_both (is_legal g u v) (is_free g v) h).0 in
-    record { point = v; points = []; further = 0; is = refl; reaches = r; unfolds = unfolded_over u v v 0 [] r }
+    record {
+      point = v;
+      points = [];
+      further = 0;
+      is = refl;
+      reaches = r;
+      unfolds = unfolded_over u v v 0 [] r;
+    }
 turns_unfold g u v (w ∷ cells) h = by_test (goes_straight u v w) refl (turns_unfold g v w cells legal.1)
   where
     legal : (is_legal g u v ≡ true) × (is_walk g (v ∷ w ∷ cells) ≡ true)
@@ -154,7 +205,10 @@ turns_unfold g u v (w ∷ cells) h = by_test (goes_straight u v w) refl (turns_u
           further = suc t.further;
           is = rw s t.is;
           reaches = r;
-          unfolds = unfolded_over u v t.point (suc t.further) t.points r ∙ map_after v (λ later. segment (suc t.further) v t.point ++ later) (unfolded_from t.point t.points) (w ∷ cells) again;
+          unfolds =
+              unfolded_over u v t.point (suc t.further) t.points r
+              ∙ map_after v (λ later. segment (suc t.further) v t.point ++ later)
+              (unfolded_from t.point t.points) (w ∷ cells) again;
         }
     by_test false s t =
         let r = reaches_next g u v legal.0 in
@@ -164,16 +218,21 @@ turns_unfold g u v (w ∷ cells) h = by_test (goes_straight u v w) refl (turns_u
           further = 0;
           is = rw s (ap (λ (p : List Cell). v ∷ p) t.is);
           reaches = r;
-          unfolds = unfolded_over u v v 0 (t.point ∷ t.points) r ∙ ap (λ (o : Option (List Cell)). option_map (λ cells. v ∷ cells) o) t.unfolds;
+          unfolds =
+              unfolded_over u v v 0 (t.point ∷ t.points) r
+              ∙ ap (λ (o : Option (List Cell)). option_map (λ cells. v ∷ cells) o) t.unfolds;
         }
 
 -- the corners of a walk unfold to the walk
-pub corners_unfold : (g : GridData) (cells : List Cell) → is_walk g cells ≡ true → unfolding_of (corners cells) ≡ Some cells
+pub corners_unfold :
+    (g : GridData) (cells : List Cell) → is_walk g cells ≡ true
+    → unfolding_of (corners cells) ≡ Some cells
 corners_unfold g [] h = absurd (cc)
 corners_unfold g (u ∷ []) h = refl
 corners_unfold g (u ∷ v ∷ cells) h =
     let t = turns_unfold g u v cells h in
-    ap (λ (p : List Cell). option_map (λ cells. u ∷ cells) (unfolded_from u p)) t.is ∙ ap (λ (o : Option (List Cell)). option_map (λ cells. u ∷ cells) o) t.unfolds
+    ap (λ (p : List Cell). option_map (λ cells. u ∷ cells) (unfolded_from u p)) t.is
+    ∙ ap (λ (o : Option (List Cell)). option_map (λ cells. u ∷ cells) o) t.unfolds
 
 -- the corners of cells that end in w and v, and what becomes of them where u follows
 record Grown (p : List Cell → List Cell) (w v : Cell) : Type 0 where
@@ -189,25 +248,46 @@ turns_grown p [] w v = by_test (goes_straight p w v) refl
     by_test false s = record { kept = w ∷ []; ends = rw s refl; grows = λ u. rw s refl }
 turns_grown p (y ∷ []) w v = by_test (goes_straight p y w) refl (turns_grown y [] w v)
   where
-    by_test : (b : Bool) → goes_straight p y w ≡ b → Grown (λ last. turns_after y ([] ++ last)) w v → Grown (λ last. turns_after p ((y ∷ []) ++ last)) w v
+    by_test :
+        (b : Bool) → goes_straight p y w ≡ b → Grown (λ last. turns_after y ([] ++ last)) w v
+        → Grown (λ last. turns_after p ((y ∷ []) ++ last)) w v
     by_test true s t = record { kept = t.kept; ends = rw s t.ends; grows = λ u. rw s (t.grows u) }
-    by_test false s t = record { kept = y ∷ t.kept; ends = rw s (ap (λ (l : List Cell). y ∷ l) t.ends); grows = λ u. rw s (ap (λ (l : List Cell). y ∷ l) (t.grows u)) }
+    by_test false s t =
+        record {
+          kept = y ∷ t.kept;
+          ends = rw s (ap (λ (l : List Cell). y ∷ l) t.ends);
+          grows = λ u. rw s (ap (λ (l : List Cell). y ∷ l) (t.grows u));
+        }
 turns_grown p (y ∷ z ∷ cells) w v = by_test (goes_straight p y z) refl (turns_grown y (z ∷ cells) w v)
   where
-    by_test : (b : Bool) → goes_straight p y z ≡ b → Grown (λ last. turns_after y ((z ∷ cells) ++ last)) w v → Grown (λ last. turns_after p ((y ∷ z ∷ cells) ++ last)) w v
+    by_test :
+        (b : Bool) → goes_straight p y z ≡ b → Grown (λ last. turns_after y ((z ∷ cells) ++ last)) w v
+        → Grown (λ last. turns_after p ((y ∷ z ∷ cells) ++ last)) w v
     by_test true s t = record { kept = t.kept; ends = rw s t.ends; grows = λ u. rw s (t.grows u) }
-    by_test false s t = record { kept = y ∷ t.kept; ends = rw s (ap (λ (l : List Cell). y ∷ l) t.ends); grows = λ u. rw s (ap (λ (l : List Cell). y ∷ l) (t.grows u)) }
+    by_test false s t =
+        record {
+          kept = y ∷ t.kept;
+          ends = rw s (ap (λ (l : List Cell). y ∷ l) t.ends);
+          grows = λ u. rw s (ap (λ (l : List Cell). y ∷ l) (t.grows u));
+        }
 
 corners_grown : (cells : List Cell) (w v : Cell) → Grown (λ last. corners (cells ++ last)) w v
 corners_grown [] w v = record { kept = w ∷ []; ends = refl; grows = λ u. refl }
 corners_grown (p ∷ cells) w v =
     let t = turns_grown p cells w v in
-    record { kept = p ∷ t.kept; ends = ap (λ (l : List Cell). p ∷ l) t.ends; grows = λ u. ap (λ (l : List Cell). p ∷ l) (t.grows u) }
+    record {
+      kept = p ∷ t.kept;
+      ends = ap (λ (l : List Cell). p ∷ l) t.ends;
+      grows = λ u. ap (λ (l : List Cell). p ∷ l) (t.grows u);
+    }
 
 straight_back : (u v w : Cell) → goes_straight w v u ≡ goes_straight u v w
 straight_back u v w = rw (add_comm w.x u.x, add_comm w.y u.y) refl
 
-one_more-reverse : (u v w : Cell) (cells : List Cell) → corners (reverse (v ∷ w ∷ cells)) ≡ reverse (corners (v ∷ w ∷ cells)) → corners (reverse (u ∷ v ∷ w ∷ cells)) ≡ reverse (corners (u ∷ v ∷ w ∷ cells))
+one_more-reverse :
+    (u v w : Cell) (cells : List Cell)
+    → corners (reverse (v ∷ w ∷ cells)) ≡ reverse (corners (v ∷ w ∷ cells))
+    → corners (reverse (u ∷ v ∷ w ∷ cells)) ≡ reverse (corners (u ∷ v ∷ w ∷ cells))
 one_more-reverse u v w cells before = by_test (goes_straight u v w) refl
   where
     turns : List Cell
@@ -218,17 +298,23 @@ one_more-reverse u v w cells before = by_test (goes_straight u v w) refl
 
     kept : grown.kept ≡ reverse turns
     kept =
-        let end : corners (reverse cells ++ (w ∷ v ∷ [])) ≡ reverse turns ++ (v ∷ []) = sym (ap (λ (l : List Cell). corners l) (reverse_onto cells w (v ∷ []))) ∙ before ∙ reverse_onto turns v [] in
+        let end : corners (reverse cells ++ (w ∷ v ∷ [])) ≡ reverse turns ++ (v ∷ []) =
+        sym (ap (λ (l : List Cell). corners l) (reverse_onto cells w (v ∷ [])))
+        ∙ before
+        ∙ reverse_onto turns v [] in
         append_cancel_right grown.kept (reverse turns) (v ∷ []) (sym grown.ends ∙ end)
 
-    backwards : corners (reverse (u ∷ v ∷ w ∷ cells)) ≡ reverse turns ++ (if goes_straight u v w then u ∷ [] else v ∷ u ∷ [])
+    backwards : corners (reverse (u ∷ v ∷ w ∷ cells)) ≡ reverse turns ++
+        (if goes_straight u v w then u ∷ [] else v ∷ u ∷ [])
     backwards =
         ap (λ (l : List Cell). corners l) (reverse_onto cells w (v ∷ u ∷ []))
         ∙ grown.grows u
         ∙ ap (λ (l : List Cell). l ++ (if goes_straight w v u then u ∷ [] else v ∷ u ∷ [])) kept
         ∙ ap (λ (b : Bool). reverse turns ++ (if b then u ∷ [] else v ∷ u ∷ [])) (straight_back u v w)
 
-    by_test : (b : Bool) → goes_straight u v w ≡ b → corners (reverse (u ∷ v ∷ w ∷ cells)) ≡ reverse (corners (u ∷ v ∷ w ∷ cells))
+    by_test :
+        (b : Bool) → goes_straight u v w ≡ b
+        → corners (reverse (u ∷ v ∷ w ∷ cells)) ≡ reverse (corners (u ∷ v ∷ w ∷ cells))
     by_test true s = rw s (rw s at backwards ∙ sym (reverse_onto turns u []))
     by_test false s = rw s (rw s at backwards ∙ sym (reverse_onto turns v (u ∷ [])))
 

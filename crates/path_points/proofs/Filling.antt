@@ -37,33 +37,50 @@ pub step_near : (u v : Cell) → 0 < steps_between u v → are_neighbours u (ste
 step_near u v h =
     let columns : apart (toward u.x v.x) v.x ≡ apart u.x v.x - 1 = toward_nearer u.x v.x in
     let rows : apart (toward u.y v.y) v.y ≡ apart u.y v.y - 1 = toward_nearer u.y v.y in
-    near_from (toward u.x v.x) (toward u.y v.y) (toward_low u.x v.x) (toward_high u.x v.x) (toward_low u.y v.y) (toward_high u.y v.y) (λ a b. omega arith)
+    near_from (toward u.x v.x) (toward u.y v.y) (toward_low u.x v.x) (toward_high u.x v.x)
+    (toward_low u.y v.y) (toward_high u.y v.y) (λ a b. omega arith)
   where
-    near_from : (x y : ℕ) → u.x ≤ x + 1 → x ≤ u.x + 1 → u.y ≤ y + 1 → y ≤ u.y + 1 → ((u.x ≡ x) → (u.y ≡ y) → ⊥) → are_neighbours u (record { x = x; y = y }) ≡ true
+    near_from :
+        (x y : ℕ) → u.x ≤ x + 1 → x ≤ u.x + 1 → u.y ≤ y + 1 → y ≤ u.y + 1 → ((u.x ≡ x) → (u.y ≡ y) → ⊥)
+        → are_neighbours u (record { x = x; y = y }) ≡ true
     near_from x y a b c d n = grind (arith, nat_tests)
 
 -- the next cell of a segment
-pub segment_next : (n i : ℕ) (u next v : Cell) → i < n → next ≡ step_toward u v → segment (n - i) u v ≡ next ∷ segment (n - (i + 1)) next v
+pub segment_next :
+    (n i : ℕ) (u next v : Cell) → i < n → next ≡ step_toward u v
+    → segment (n - i) u v ≡ next ∷ segment (n - (i + 1)) next v
 segment_next n i u next v h e =
     let steps : n - i ≡ suc (n - (i + 1)) = omega arith in
     rw steps (ap (λ (c : Cell). c ∷ segment (n - (i + 1)) c v) (sym e))
 
 -- cells with the next one appended
-pub segment_pushed : (cells more : List Cell) (n i : ℕ) (u next v : Cell) → i < n → next ≡ step_toward u v → more ≡ cells ++ (next ∷ []) → more ++ segment (n - (i + 1)) next v ≡ cells ++ segment (n - i) u v
+pub segment_pushed :
+    (cells more : List Cell) (n i : ℕ) (u next v : Cell) → i < n → next ≡ step_toward u v
+    → more ≡ cells ++ (next ∷ []) → more ++ segment (n - (i + 1)) next v ≡ cells ++ segment (n - i) u v
 segment_pushed cells more n i u next v h e f =
     ap (λ (l : List Cell). l ++ segment (n - (i + 1)) next v) f
     ∙ append_assoc cells (next ∷ []) (segment (n - (i + 1)) next v)
     ∙ ap (λ (l : List Cell). cells ++ l) (sym (segment_next n i u next v h e))
 
-map_map : (a b : List Cell) (o : Option (List Cell)) → option_map (λ later. a ++ later) (option_map (λ later. b ++ later) o) ≡ option_map (λ later. (a ++ b) ++ later) o
+map_map :
+    (a b : List Cell) (o : Option (List Cell))
+    → option_map (λ later. a ++ later) (option_map (λ later. b ++ later) o) ≡ option_map
+    (λ later. (a ++ b) ++ later) o
 map_map a b None = refl
-map_map a b (Some later) = ap (λ (l : List Cell). let o : Option (List Cell) = Some l in o) (sym (append_assoc a b later))
+map_map a b (Some later) =
+    ap (λ (l : List Cell). let o : Option (List Cell) = Some l in o) (sym (append_assoc a b later))
 
 -- the next segment of an unfolding
-pub unfolded_pushed : (cells : List Cell) (u v : Cell) (points : List Cell) → are_lined u v ≡ true → option_map (λ later. cells ++ later) (unfolded_from u (v ∷ points)) ≡ option_map (λ later. (cells ++ segment (steps_between u v) u v) ++ later) (unfolded_from v points)
+pub unfolded_pushed :
+    (cells : List Cell) (u v : Cell) (points : List Cell) → are_lined u v ≡ true
+    → option_map (λ later. cells ++ later) (unfolded_from u (v ∷ points)) ≡ option_map
+    (λ later. (cells ++ segment (steps_between u v) u v) ++ later) (unfolded_from v points)
 unfolded_pushed cells u v points h =
-    let e : unfolded_from u (v ∷ points) ≡ option_map (λ later. segment (steps_between u v) u v ++ later) (unfolded_from v points) = rw h refl in
-    ap (λ (o : Option (List Cell)). option_map (λ later. cells ++ later) o) e ∙ map_map cells (segment (steps_between u v) u v) (unfolded_from v points)
+    let e : unfolded_from u (v ∷ points) ≡ option_map (λ later. segment (steps_between u v) u v ++ later)
+    (unfolded_from v points) =
+    rw h refl in
+    ap (λ (o : Option (List Cell)). option_map (λ later. cells ++ later) o) e
+    ∙ map_map cells (segment (steps_between u v) u v) (unfolded_from v points)
 
 pub segment-length : (k : ℕ) (u v : Cell) → length (segment k u v) ≡ k
 segment-length zero u v = refl

@@ -13,50 +13,75 @@ use Rattle.grid_moves.specs.Walk.{is_walk, cost_of}
 use Rattle.path_points.proofs.Filling.{segment_next, step_nearer}
 
 -- after a legal move the rest decides
-pub run_on : (g : GridData) (n i : ℕ) (u next v : Cell) → i < n → next ≡ step_toward u v → is_legal g u next ≡ true → is_walk g (next ∷ segment (n - (i + 1)) next v) ≡ is_walk g (u ∷ segment (n - i) u v)
+pub run_on :
+    (g : GridData) (n i : ℕ) (u next v : Cell) → i < n → next ≡ step_toward u v
+    → is_legal g u next ≡ true
+    → is_walk g (next ∷ segment (n - (i + 1)) next v) ≡ is_walk g (u ∷ segment (n - i) u v)
 run_on g n i u next v h e l = rw (segment_next n i u next v h e, l) refl
 
 -- a move that is not legal decides
-pub run_off : (g : GridData) (n i : ℕ) (u next v : Cell) → i < n → next ≡ step_toward u v → is_legal g u next ≡ false → is_walk g (u ∷ segment (n - i) u v) ≡ false
+pub run_off :
+    (g : GridData) (n i : ℕ) (u next v : Cell) → i < n → next ≡ step_toward u v
+    → is_legal g u next ≡ false → is_walk g (u ∷ segment (n - i) u v) ≡ false
 run_off g n i u next v h e l = rw (segment_next n i u next v h e, l) refl
 
 -- one step fewer is left
-pub run_left : (n i : ℕ) (u next v : Cell) → next ≡ step_toward u v → steps_between u v ≡ n - i → steps_between next v ≡ n - (i + 1)
+pub run_left :
+    (n i : ℕ) (u next v : Cell) → next ≡ step_toward u v → steps_between u v ≡ n - i
+    → steps_between next v ≡ n - (i + 1)
 run_left n i u next v e h =
-    let nearer : steps_between next v ≡ steps_between u v - 1 = ap (λ (c : Cell). steps_between c v) e ∙ step_nearer u v in
+    let nearer : steps_between next v ≡ steps_between u v - 1 =
+    ap (λ (c : Cell). steps_between c v) e
+    ∙ step_nearer u v in
     nearer ∙ ap (λ k. k - 1) h ∙ (let fewer : n - i - 1 ≡ n - (i + 1) = omega arith in fewer)
 
 -- a move is paid for
-pub run_paid : (cost paid : Cost) (n i : ℕ) (u next v : Cell) → i < n → next ≡ step_toward u v → paid ≡ add_costs cost (move_cost u next) → add_costs paid (cost_of (next ∷ segment (n - (i + 1)) next v)) ≡ add_costs cost (cost_of (u ∷ segment (n - i) u v))
+pub run_paid :
+    (cost paid : Cost) (n i : ℕ) (u next v : Cell) → i < n → next ≡ step_toward u v
+    → paid ≡ add_costs cost (move_cost u next)
+    → add_costs paid (cost_of (next ∷ segment (n - (i + 1)) next v)) ≡ add_costs cost
+    (cost_of (u ∷ segment (n - i) u v))
 run_paid cost paid n i u next v h e p =
-    rw (segment_next n i u next v h e) (ap (λ (c : Cost). add_costs c (cost_of (next ∷ segment (n - (i + 1)) next v))) p ∙ add_costs-assoc cost (move_cost u next) (cost_of (next ∷ segment (n - (i + 1)) next v)))
+    rw (segment_next n i u next v h e)
+    (ap (λ (c : Cost). add_costs c (cost_of (next ∷ segment (n - (i + 1)) next v))) p ∙ add_costs-assoc cost (move_cost u next) (cost_of (next ∷ segment (n - (i + 1)) next v)))
 
 -- a move is one step
 pub move_counts : (u v : Cell) → (move_cost u v).a + (move_cost u v).b ≡ 1
 move_counts u v = by_test (nat_eq u.x v.x || nat_eq u.y v.y)
   where
-    by_test : (b : Bool) → (let c : Cost = if b then record { a = 1; b = 0 } else record { a = 0; b = 1 } in c.a + c.b) ≡ 1
+    by_test :
+        (b : Bool)
+        → (let c : Cost = if b then record { a = 1; b = 0 } else record { a = 0; b = 1 } in c.a + c.b) ≡ 1
     by_test true = refl
     by_test false = refl
 
-pub run_counted : (cost paid : Cost) (i : ℕ) (u next : Cell) → paid ≡ add_costs cost (move_cost u next) → cost.a + cost.b ≡ i → paid.a + paid.b ≡ i + 1
+pub run_counted :
+    (cost paid : Cost) (i : ℕ) (u next : Cell) → paid ≡ add_costs cost (move_cost u next)
+    → cost.a + cost.b ≡ i → paid.a + paid.b ≡ i + 1
 run_counted cost paid i u next p h =
-    let sum : paid.a + paid.b ≡ (cost.a + (move_cost u next).a) + (cost.b + (move_cost u next).b) = ap (λ (c : Cost). c.a + c.b) p in
+    let sum : paid.a + paid.b ≡ (cost.a + (move_cost u next).a) + (cost.b + (move_cost u next).b) =
+    ap (λ (c : Cost). c.a + c.b) p in
     let one = move_counts u next in
     omega arith
 
 -- at the end nothing is left
-pub run_ended : (g : GridData) (n i : ℕ) (u v : Cell) → n ≤ i → is_walk g (u ∷ segment (n - i) u v) ≡ is_free g u
+pub run_ended :
+    (g : GridData) (n i : ℕ) (u v : Cell) → n ≤ i → is_walk g (u ∷ segment (n - i) u v) ≡ is_free g u
 run_ended g n i u v h = let none : n - i ≡ 0 = omega arith in rw none refl
 
-pub run_paid_off : (cost : Cost) (n i : ℕ) (u v : Cell) → n ≤ i → add_costs cost (cost_of (u ∷ segment (n - i) u v)) ≡ cost
+pub run_paid_off :
+    (cost : Cost) (n i : ℕ) (u v : Cell) → n ≤ i
+    → add_costs cost (cost_of (u ∷ segment (n - i) u v)) ≡ cost
 run_paid_off cost n i u v h = let none : n - i ≡ 0 = omega arith in rw none (add_costs-no_cost_right cost)
 
-pub none_where : {A : Type 0} (a b c : Bool) (x : A) → b ≡ false → None ≡ (if (a && b) && c then Some x else None)
+pub none_where :
+    {A : Type 0} (a b c : Bool) (x : A) → b ≡ false → None ≡ (if (a && b) && c then Some x else None)
 none_where false b c x e = refl
 none_where true b c x e = rw e refl
 
-pub some_where : {A : Type 0} (a b c : Bool) (x y : A) → a ≡ true → b ≡ true → c ≡ true → y ≡ x → Some y ≡ (if (a && b) && c then Some x else None)
+pub some_where :
+    {A : Type 0} (a b c : Bool) (x y : A) → a ≡ true → b ≡ true → c ≡ true → y ≡ x
+    → Some y ≡ (if (a && b) && c then Some x else None)
 some_where a b c x y e f h s = rw (e, f, h, s) refl
 
 pub le_true : (m n : ℕ) → m ≤ n → nat_le m n ≡ true

@@ -1,5 +1,5 @@
 -- Points that stand for a walk of few steps, and the first bad point where they don't.
-use Rattle.std.specs.Prelude.{◌≡◌, ℕ, zero, suc, ◌+◌, ◌^◌, ◌<◌, ◌≤◌, Bool, true, false, nat_le, ◌&&◌, IsTrue, refl, List, [], ◌∷◌, length, take, slice_get, Some}
+use Rattle.std.specs.Prelude.{◌≡◌, ℕ, zero, suc, ◌+◌, ◌^◌, ◌<◌, ◌≤◌, Bool, true, false, nat_le, ◌&&◌, IsTrue, refl, List, [], ◌∷◌, length, take, slice_get, Option, Some, None, if◌then◌else◌}
 use Rattle.root2_cost.specs.declared.Cost.{Cost}
 use Rattle.grid_moves.specs.declared.Cell.{Cell}
 use Rattle.grid_moves.specs.Grid.{GridData, is_free}
@@ -16,22 +16,35 @@ steps_through [] = 0
 steps_through (u ∷ []) = 0
 steps_through (u ∷ v ∷ points) = steps_between u v + steps_through (v ∷ points)
 
--- a legal run of at least one step: v lies on one of the eight lines from u, and each move of the segment is legal
+-- the cells of the run from u to v, after u
+abbrev pub run : Cell → Cell → List Cell
+run u v = segment (steps_between u v) u v
+
+-- a legal run of at least one step: v lies on one of the eight lines from u, and each move is legal
 abbrev pub is_legal_run : GridData → Cell → Cell → Bool
-is_legal_run g u v = are_lined u v && is_walk g (u ∷ segment (steps_between u v) u v)
+is_legal_run g u v = are_lined u v && is_walk g (u ∷ run u v)
+
+-- it is legal, and takes the steps so far to at most 2^24
+abbrev pub is_good_run : GridData → ℕ → Cell → Cell → Bool
+is_good_run g steps u v = is_legal_run g u v && nat_le (steps + steps_between u v) most_steps
+
+-- the cost of the legal run from u to v, where there is one of at most so many steps
+abbrev pub cost_within : GridData → Cell → Cell → ℕ → Option Cost
+cost_within g u v most =
+    if is_legal_run g u v && nat_le (steps_between u v) most then Some (cost_of (u ∷ run u v)) else None
 
 -- there is a first point, and it is free
 abbrev pub starts_free : GridData → List Cell → Bool
 starts_free g [] = false
 starts_free g (p ∷ points) = is_free g p
 
--- the point after point i is no legal run from it, or brings the steps above 2^24
+-- to the point after point i leads no legal run from it, or one that brings the steps above 2^24
 pub record BreaksAfter (g : GridData) (points : List Cell) (i : ℕ) : Type 0 where
   pub from : Cell
   pub to : Cell
   pub is_from : slice_get points i ≡ Some from
   pub is_to : slice_get points (suc i) ≡ Some to
-  pub broken : (is_legal_run g from to && nat_le (steps_through (take (suc (suc i)) points)) most_steps) ≡ false
+  pub broken : is_good_run g (steps_through (take (suc i) points)) from to ≡ false
 
 -- point i is bad, where points are counted from 0
 abbrev pub IsBadAt : GridData → List Cell → ℕ → Type 0
@@ -57,7 +70,11 @@ pub record IsShortWalk (g : GridData) (points : List Cell) (cost : Cost) : Type 
 
 -- the map `.../.@./...`
 abbrev pillar : GridData
-pillar = record { width = 3; height = 3; free = true ∷ true ∷ true ∷ true ∷ false ∷ true ∷ true ∷ true ∷ true ∷ [] }
+pillar = record {
+  width = 3;
+  height = 3;
+  free = true ∷ true ∷ true ∷ true ∷ false ∷ true ∷ true ∷ true ∷ true ∷ [];
+}
 
 -- along its upper row leads a legal run
 pub along_the_row : is_legal_run pillar (record { x = 0; y = 0 }) (record { x = 2; y = 0 }) ≡ true

@@ -1,12 +1,11 @@
 //! Checks of walks that are given by points.
 
-ghost use Rattle.std.specs.Prelude.{◌≡◌, ℕ, ◌+◌, ◌^◌, ◌<◌, ◌≤◌, nat_le, ◌&&◌, true, ◌∷◌, length, if◌then◌else◌, OnSome, IfSome, IfOk, IfErr};
-ghost use Rattle.root2_cost.specs.declared.Cost as costs;
+ghost use Rattle.std.specs.Prelude.{◌≡◌, ℕ, ◌+◌, ◌^◌, ◌<◌, ◌≤◌, true, length, OnSome, IfSome, IfOk, IfErr};
+ghost use Rattle.root2_cost.specs.declared.Cost.{Cost};
 ghost use Rattle.grid_moves.specs.Grid.{is_free};
 ghost use Rattle.grid_moves.specs.Move.{are_neighbours, is_legal};
 ghost use Rattle.grid_moves.specs.Points as spec;
-ghost use Rattle.grid_moves.specs.Walk.{cost_of};
-ghost use Rattle.path_points.specs.Checked.{is_legal_run, IsFirstBad, IsShortWalk};
+ghost use Rattle.path_points.specs.Checked.{cost_within, IsFirstBad, IsShortWalk};
 
 use crate::Points;
 use crate::segments::{are_lined, step_toward, steps_between};
@@ -35,7 +34,7 @@ fn is_open<T: Terrain>(t: &T, from: Cell, to: Cell) -> bool
 // The cost of the legal run between the cells, where there is one of at most so many steps.
 fn run_cost<T: Terrain>(t: &T, from: Cell, to: Cell, most: u32) -> Option<Cost>
     requires { is_free (T.grid t.now) from ≡ true }
-    ensures cost { result ≡ (if is_legal_run (T.grid t.now) from to && nat_le (spec.steps_between from to) most then Some (cost_of (from ∷ spec.segment (spec.steps_between from to) from to)) else None) }
+    ensures cost { result ≡ cost_within (T.grid t.now) from to most }
     ensures steps { IfSome result (λ cost. cost.a + cost.b ≡ spec.steps_between from to) }
     ensures free { OnSome result (is_free (T.grid t.now) to ≡ true) }
 {
@@ -65,7 +64,7 @@ fn run_cost<T: Terrain>(t: &T, from: Cell, to: Cell, most: u32) -> Option<Cost>
 pub fn check_walk<T: Terrain>(t: &T, p: &Points) -> Result<Cost, BadAt>
     requires { length p.now < 2 ^ 30 }
     ensures walk { IfOk result (λ cost. IsShortWalk (T.grid t.now) p.now cost) }
-    ensures ok { (cost : costs.Cost) → IsShortWalk (T.grid t.now) p.now cost → result ≡ Ok cost }
+    ensures ok { (cost : Cost) → IsShortWalk (T.grid t.now) p.now cost → result ≡ Ok cost }
     ensures bad { IfErr result (λ bad. IsFirstBad (T.grid t.now) p.now bad.0) }
     ensures err { (i : ℕ) → IsFirstBad (T.grid t.now) p.now i → result ≡ Err (record { 0 = i }) }
 {

@@ -11,7 +11,9 @@ pub returns-then-not-free : goal.returns-then-not-free
 returns-then-not-free g c =
     let grid = g.T.Terrain.grid c.args.t.now in
     let split = sym c.as_slice.ensures ∙ c.in-Some.ensures.cases.0 in
-    let v = verdict_at_start grid c.args.p.now (ap (λ points. starts_free grid points) split ∙ sym c.free.ensures ∙ c.if-not-free.true) in
+    let v =
+    verdict_at_start grid c.args.p.now
+    (ap (λ points. starts_free grid points) split ∙ sym c.free.ensures ∙ c.if-not-free.true) in
     record { walk = v.walk; ok = v.ok; bad = v.bad; err = v.err }
 
 pub returns-in_default-run_cost : goal.returns-in_default-run_cost
@@ -23,9 +25,15 @@ returns-in_default-run_cost g c =
     let origin : Cell = record { x = 0; y = 0 } in
     let next : Cell = slice_index_or others i origin in
     let split = sym c.as_slice.ensures ∙ c.in-Some.ensures.cases.0 in
-    let bad = within_none grid (steps_of c.loop-i.cost) last next _ c.loop-i.invariant.few refl (sym c.run_cost.ensures.cost ∙ c.in_default-run_cost.is) in
-    let answer = c.loop-i.invariant.decides ∙ checked_off grid i last others c.loop-i.cost origin c.loop-i-test.true bad in
-    let v = verdict_of grid c.args.p.now c.in-Some.first.now others (bad_at (i + 1)) split (sym c.free.ensures ∙ c.if-not-free.false) answer in
+    let bad =
+    within_none grid (steps_of c.loop-i.cost) last next _ c.loop-i.invariant.few refl
+    (sym c.run_cost.ensures.cost ∙ c.in_default-run_cost.is) in
+    let answer =
+    c.loop-i.invariant.decides
+    ∙ checked_off grid i last others c.loop-i.cost origin c.loop-i-test.true bad in
+    let v =
+    verdict_of grid c.args.p.now c.in-Some.first.now others (bad_at (i + 1)) split
+    (sym c.free.ensures ∙ c.if-not-free.false) answer in
     record { walk = v.walk; ok = v.ok; bad = v.bad; err = v.err }
 
 pub loop-i-preserved : goal.loop-i-preserved
@@ -37,12 +45,17 @@ loop-i-preserved g c =
     let cost = c.loop-i.cost in
     let origin : Cell = record { x = 0; y = 0 } in
     let next : Cell = slice_index_or others i origin in
-    let good = within_some grid (steps_of cost) last next _ c.in-Some-run_cost.run' c.loop-i.invariant.few refl (sym c.run_cost.ensures.cost ∙ c.in-Some-run_cost.is) in
+    let good =
+    within_some grid (steps_of cost) last next _ c.in-Some-run_cost.run' c.loop-i.invariant.few refl
+    (sym c.run_cost.ensures.cost ∙ c.in-Some-run_cost.is) in
     let paid = ap (λ (run : Cost). add_costs cost run) (sym good.1) ∙ sym c.add-cost.ensures in
     record {
       free = c.in-Some-run_cost.ensures.free;
       few = subst (λ (sum : Cost). steps_of sum ≤ most_steps) paid (good_few grid cost last next good.0);
-      decides = c.loop-i.invariant.decides ∙ checked_on grid i last others cost origin c.loop-i-test.true good.0 ∙ ap (λ (sum : Cost). checked_from grid (i + 1) next (drop (i + 1) others) sum) paid;
+      decides =
+          c.loop-i.invariant.decides
+          ∙ checked_on grid i last others cost origin c.loop-i-test.true good.0
+          ∙ ap (λ (sum : Cost). checked_from grid (i + 1) next (drop (i + 1) others) sum) paid;
     }
 
 pub returns : goal.returns
@@ -50,6 +63,10 @@ returns g c =
     let grid = g.T.Terrain.grid c.args.t.now in
     let others = c.in-Some.others.now in
     let split = sym c.as_slice.ensures ∙ c.in-Some.ensures.cases.0 in
-    let answer = c.loop-i.invariant.decides ∙ checked_end grid c.loop-i.i c.loop-i.last others c.loop-i.cost (omega arith) in
-    let v = verdict_of grid c.args.p.now c.in-Some.first.now others (Ok c.loop-i.cost) split (sym c.free.ensures ∙ c.if-not-free.false) answer in
+    let answer =
+    c.loop-i.invariant.decides
+    ∙ checked_end grid c.loop-i.i c.loop-i.last others c.loop-i.cost (omega arith) in
+    let v =
+    verdict_of grid c.args.p.now c.in-Some.first.now others (Ok c.loop-i.cost) split
+    (sym c.free.ensures ∙ c.if-not-free.false) answer in
     record { walk = v.walk; ok = v.ok; bad = v.bad; err = v.err }

@@ -10,5 +10,6 @@ abbrev pub invariant-loop-i : goal.invariant-loop-i
 invariant-loop-i g l = record {
   free : is_free (g.T.Terrain.grid l.t) l.last ≡ true;
   few : steps_of l.cost ≤ most_steps;
-  decides : checked_from (g.T.Terrain.grid l.t) 0 l.initial.last l.others no_cost ≡ checked_from (g.T.Terrain.grid l.t) l.i l.last (drop l.i l.others) l.cost;
+  decides : checked_from (g.T.Terrain.grid l.t) 0 l.initial.last l.others no_cost ≡ checked_from
+      (g.T.Terrain.grid l.t) l.i l.last (drop l.i l.others) l.cost;
 }

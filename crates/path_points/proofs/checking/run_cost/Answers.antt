@@ -13,9 +13,12 @@ returns-then-not-is_open-clause-cost g c =
     let u = c.args.from in
     let v = c.args.to in
     let n = c.steps_between-steps.result in
-    let off = run_off grid n c.loop.counter c.loop.at c.step_toward-next.result v (omega arith) c.step_toward-next.ensures (sym c.is_open.ensures ∙ c.if-not-is_open.true) in
+    let off =
+    run_off grid n c.loop.counter c.loop.at c.step_toward-next.result v (omega arith)
+    c.step_toward-next.ensures (sym c.is_open.ensures ∙ c.if-not-is_open.true) in
     let none = sym c.loop.invariant.legal ∙ off in
-    none_where (are_lined u v) _ (nat_le (steps_between u v) c.args.most) _ (ap (λ n. is_walk grid (u ∷ segment n u v)) (sym c.steps_between-steps.ensures) ∙ none)
+    none_where (are_lined u v) _ (nat_le (steps_between u v) c.args.most) _
+    (ap (λ n. is_walk grid (u ∷ segment n u v)) (sym c.steps_between-steps.ensures) ∙ none)
 
 pub loop-preserved : goal.loop-preserved
 loop-preserved g c =
@@ -33,7 +36,9 @@ loop-preserved g c =
       left = run_left n i u next v e c.loop.invariant.left;
       counted = run_counted c.loop.cost c.add-cost.result i u next paid c.loop.invariant.counted;
       legal = run_on grid n i u next v (omega arith) e legal ∙ c.loop.invariant.legal;
-      priced = run_paid c.loop.cost c.add-cost.result n i u next v (omega arith) e paid ∙ c.loop.invariant.priced;
+      priced =
+          run_paid c.loop.cost c.add-cost.result n i u next v (omega arith) e paid
+          ∙ c.loop.invariant.priced;
     }
 
 pub returns-clause-cost : goal.returns-clause-cost
@@ -43,7 +48,16 @@ returns-clause-cost g c =
     let v = c.args.to in
     let n = c.steps_between-steps.result in
     let lined = sym c.are_lined.ensures ∙ c.if-not-are_lined.false in
-    let few : steps_between u v ≤ c.args.most = omega (arith, c.steps_between-steps.ensures, c.from.ensures) in
-    let walk = ap (λ n. is_walk grid (u ∷ segment n u v)) (sym c.steps_between-steps.ensures) ∙ sym c.loop.invariant.legal ∙ run_ended grid n c.loop.counter c.loop.at v (omega arith) ∙ c.loop.invariant.free in
-    let paid = sym (run_paid_off c.loop.cost n c.loop.counter c.loop.at v (omega arith)) ∙ c.loop.invariant.priced ∙ ap (λ n. cost_of (u ∷ segment n u v)) c.steps_between-steps.ensures in
-    some_where (are_lined u v) _ (nat_le (steps_between u v) c.args.most) _ c.loop.cost lined walk (le_true _ _ few) paid
+    let few : steps_between u v ≤ c.args.most =
+    omega (arith, c.steps_between-steps.ensures, c.from.ensures) in
+    let walk =
+    ap (λ n. is_walk grid (u ∷ segment n u v)) (sym c.steps_between-steps.ensures)
+    ∙ sym c.loop.invariant.legal
+    ∙ run_ended grid n c.loop.counter c.loop.at v (omega arith)
+    ∙ c.loop.invariant.free in
+    let paid =
+    sym (run_paid_off c.loop.cost n c.loop.counter c.loop.at v (omega arith))
+    ∙ c.loop.invariant.priced
+    ∙ ap (λ n. cost_of (u ∷ segment n u v)) c.steps_between-steps.ensures in
+    some_where (are_lined u v) _ (nat_le (steps_between u v) c.args.most) _ c.loop.cost lined walk
+    (le_true _ _ few) paid

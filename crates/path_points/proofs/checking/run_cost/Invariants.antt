@@ -11,6 +11,8 @@ invariant-loop g l = record {
   free : is_free (g.T.Terrain.grid l.t) l.at ≡ true;
   left : steps_between l.at l.to ≡ l.steps - l.counter;
   counted : l.cost.a + l.cost.b ≡ l.counter;
-  legal : is_walk (g.T.Terrain.grid l.t) (l.at ∷ segment (l.steps - l.counter) l.at l.to) ≡ is_walk (g.T.Terrain.grid l.t) (l.initial.at ∷ segment l.steps l.initial.at l.to);
-  priced : add_costs l.cost (cost_of (l.at ∷ segment (l.steps - l.counter) l.at l.to)) ≡ cost_of (l.initial.at ∷ segment l.steps l.initial.at l.to);
+  legal : is_walk (g.T.Terrain.grid l.t) (l.at ∷ segment (l.steps - l.counter) l.at l.to) ≡ is_walk
+      (g.T.Terrain.grid l.t) (l.initial.at ∷ segment l.steps l.initial.at l.to);
+  priced : add_costs l.cost (cost_of (l.at ∷ segment (l.steps - l.counter) l.at l.to)) ≡ cost_of
+      (l.initial.at ∷ segment l.steps l.initial.at l.to);
 }

@@ -6,5 +6,6 @@ use Rattle.path_points.proofs.unfolding.unfold.Given as goal
 abbrev pub invariant-loop-next : goal.invariant-loop-next
 invariant-loop-next l = record {
   lined : is_lined (l.last ∷ drop l.next-index l.others) ≡ true;
-  completes : unfolding_of l.p ≡ option_map (λ later. l.cells ++ later) (unfolded_from l.last (drop l.next-index l.others));
+  completes : unfolding_of l.p ≡ option_map (λ later. l.cells ++ later)
+      (unfolded_from l.last (drop l.next-index l.others));
 }
