@@ -1,0 +1,6 @@
+pub mod Request
+pub mod Settings
+pub mod Form
+pub mod Rule
+pub mod Left
+pub mod Worked
