@@ -1,0 +1,5 @@
+pub mod Request
+pub mod Settings
+pub mod Form
+pub mod Rule
+pub mod Left

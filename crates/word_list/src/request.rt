@@ -1,0 +1,37 @@
+//! What the words ask for.
+
+use thiserror::Error;
+
+/// A request, with the names of files as they stand among the words.
+#[derive(Clone, Copy, Debug)]
+pub enum Request<'a> {
+    /// How the program is called.
+    Help,
+    /// The program's name and version.
+    Version,
+    /// A least walk on the map between two cells, each by its column and its row from 0.
+    Query {
+        map: &'a str,
+        sx: u32,
+        sy: u32,
+        gx: u32,
+        gy: u32,
+        show: Show,
+    },
+}
+
+/// What the answer to a query shows of a walk.
+#[derive(Clone, Copy, Debug, Default, PartialEq, Eq)]
+pub enum Show {
+    /// The ends of the walk's straight pieces.
+    #[default]
+    Points,
+    /// Each cell of the walk.
+    Cells,
+}
+
+/// The number of the word, from 1, with which no request begins; one more than there are words where
+/// words are missing at the end.
+#[derive(Clone, Copy, Debug, PartialEq, Eq, Error)]
+#[error("word {0}")]
+pub struct BadWord(pub u32);
