@@ -1,0 +1,4 @@
+pub mod Unfolding
+pub mod Reading
+pub mod Writing
+pub mod Working
