@@ -4,6 +4,8 @@
 mod lines;
 mod query;
 mod stop;
+#[cfg(test)]
+mod tests;
 mod texts;
 mod top;
 
