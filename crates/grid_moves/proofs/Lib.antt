@@ -2,3 +2,4 @@ pub mod Legal
 pub mod Consistent
 pub mod Places
 pub mod Ahead
+pub mod Edited

@@ -1,6 +1,6 @@
 //! A grid in memory.
 
-ghost use Rattle.std.specs.Prelude.{◌≡◌, ◌≢◌, ◌*◌, ◌≤◌, IfOk, map, length};
+ghost use Rattle.std.specs.Prelude.{◌≡◌, ◌≢◌, ◌*◌, ◌≤◌, IfOk, IsTrue, map, length};
 ghost use Rattle.grid_moves.specs.Grid as spec;
 
 use crate::{Cell, NoMemory, Terrain};
@@ -40,7 +40,7 @@ impl Model for Grid {
 }
 
 impl Grid {
-    ghost use Rattle.grid_moves.specs.Grid.{AreCells, grid_of};
+    ghost use Rattle.grid_moves.specs.Grid.{AreCells, grid_of, grid_with, is_free, is_inside};
 
     /// The grid of a map: `.`, `G` and `S` are free, all other bytes blocked.
     ///
@@ -55,6 +55,19 @@ impl Grid {
             height,
             cells,
         })
+    }
+
+    /// Makes a cell of the map free, or blocked; all other cells stay.
+    pub fn set(&mut self, c: Cell, free: bool)
+        requires { IsTrue (is_inside self.old c) }
+        ensures edited { self.new ≡ grid_with self.old c free }
+        ensures cell { is_free self.new c ≡ free }
+        ensures others { (d : _) → d ≢ c → is_free self.new d ≡ is_free self.old d }
+        ensures width { self.new.width ≡ self.old.width }
+        ensures height { self.new.height ≡ self.old.height }
+    {
+        let place = c.y as usize * self.width as usize + c.x as usize;
+        self.cells[place] = free;
     }
 }
 

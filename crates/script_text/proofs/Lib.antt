@@ -1,0 +1,4 @@
+pub mod Commands
+pub mod First
+pub mod Laws
+pub mod Passing

@@ -1,0 +1,116 @@
+//! Reading commands from a text.
+
+ghost use Rattle.std.specs.Prelude.{◌≡◌, ◌≢◌, ◌≤◌, ◌^◌, ◌∷◌, List, length};
+ghost use Rattle.std.specs.Prelude.{Ok, Err, IfOk, IfErr};
+ghost use Rattle.text_line.specs.Lines.{pieces_of};
+ghost use Rattle.script_text.specs.declared.command.Command.{Command};
+ghost use Rattle.script_text.specs.declared.fault.ScriptFault.{ScriptFault};
+ghost use Rattle.script_text.specs.declared.fault.ScriptFault.TheVariants.{NoMemory};
+ghost use Rattle.script_text.specs.Spelling.{Spells};
+ghost use Rattle.script_text.specs.Lines as spec;
+ghost use Rattle.script_text.specs.Lines.{command_in, fault_on, Judges};
+ghost use Rattle.script_text.specs.Faults.{script_of, BreaksFirst, Tells};
+
+use crate::command::Command;
+use crate::fault::ScriptFault;
+use std::alloc::Global;
+use text_line::{Fields, Line, Pieces, number, without_cr};
+
+/// The most bytes that a line has before its line feed or the end, with its carriage return.
+const MAX_LINE: usize = 128;
+
+/// The commands that a text of at most 2^26 bytes spells, in order, or the fault of its first broken
+/// line.
+///
+/// On one line T2 goes before T1. The text is passed over once, and memory is taken for the commands
+/// alone.
+pub fn read_script(alloc: Global, text: &[u8]) -> Result<Vec<Command>, ScriptFault>
+    requires { length text.now ≤ 2 ^ 26 }
+    // What is read is spelled so.
+    ensures found { IfOk result (λ commands. Spells text.now commands.items) }
+    // What is spelled so is read, unless memory runs out.
+    ensures only { (spelled : List Command) → Spells text.now spelled → Tells result (Ok spelled) }
+    // A fault is that of the first line that breaks the grammar.
+    ensures first { IfErr result (λ fault. fault ≢ NoMemory → BreaksFirst (pieces_of text.now) fault) }
+    // Where a line breaks it first, its fault is answered, unless memory runs out.
+    ensures broken { (fault : ScriptFault) → BreaksFirst (pieces_of text.now) fault → Tells result (Err fault) }
+    // All of this as one function of the text.
+    ensures exact { Tells result (script_of text.now) }
+{
+    read(alloc, text)
+}
+
+/// The same, whose clause is the one function of the text.
+fn read(alloc: Global, text: &[u8]) -> Result<Vec<Command>, ScriptFault>
+    requires { length text.now ≤ 2 ^ 26 }
+    ensures { Tells result (script_of text.now) }
+{
+    let mut commands = Vec::new(alloc);
+    for piece in Pieces::of(text) {
+        if let Some(command) = command_on(piece)? {
+            commands.push(command)?;
+        }
+    }
+    Ok(commands)
+}
+
+/// The command of a line, or none where it is blank.
+fn command_on(piece: Line<'_>) -> Result<Option<Command>, ScriptFault>
+    ensures { let bytes = piece.entry.bytes.now in
+        Judges result (fault_on piece.entry.number bytes) (λ command. command ≡ spec.command_on bytes) }
+{
+    if piece.bytes.len() > MAX_LINE {
+        return Err(ScriptFault::Long { line: piece.number });
+    }
+    let mut fields = Fields::of(without_cr(piece.bytes));
+    let Some(word) = fields.next() else {
+        return Ok(None);
+    };
+    match command_of(word, fields) {
+        Some(command) => Ok(Some(command)),
+        None => Err(ScriptFault::Line { line: piece.number }),
+    }
+}
+
+/// The command of a word and the fields after it, if they are one.
+fn command_of(word: &[u8], fields: Fields<'_>) -> Option<Command>
+    ensures { result ≡ command_in (word.now ∷ fields.entry) }
+{
+    match word {
+        b"block" => {
+            let (x, y) = two_numbers(fields)?;
+            Some(Command::Block { x, y })
+        }
+        b"free" => {
+            let (x, y) = two_numbers(fields)?;
+            Some(Command::Free { x, y })
+        }
+        b"query" => {
+            let (sx, sy, gx, gy) = four_numbers(fields)?;
+            Some(Command::Query { sx, sy, gx, gy })
+        }
+        _ => None,
+    }
+}
+
+/// The numbers of two fields, if there are two and each is a number.
+fn two_numbers(mut fields: Fields<'_>) -> Option<(u32, u32)>
+    ensures { result ≡ spec.two_numbers fields.entry }
+{
+    let x = number(fields.next()?)?;
+    let y = number(fields.next()?)?;
+    if fields.next().is_some() {
+        return None;
+    }
+    Some((x, y))
+}
+
+/// The numbers of four fields, if there are four and each is a number.
+fn four_numbers(mut fields: Fields<'_>) -> Option<(u32, u32, u32, u32)>
+    ensures { result ≡ spec.four_numbers fields.entry }
+{
+    let sx = number(fields.next()?)?;
+    let sy = number(fields.next()?)?;
+    let (gx, gy) = two_numbers(fields)?;
+    Some((sx, sy, gx, gy))
+}

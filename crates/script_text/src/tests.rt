@@ -1,0 +1,64 @@
+use super::*;
+use std::alloc::{AllocError, Global};
+use std::test::*;
+
+/// A text of so many spaces and an ending.
+fn blank(alloc: Global, spaces: usize, ending: &[u8]) -> Result<Vec<u8>, AllocError> {
+    let mut text = vec![in alloc; b' '; spaces]?;
+    text.extend_from_slice(ending)?;
+    Ok(text)
+}
+
+// The commands are those of a script that blocks and frees one cell between queries.
+#[test]
+fn commands_are_read_in_order(rt: HostRuntime) -> Result<(), Fail> {
+    let text =
+        b"query 0 1 2 1\nblock 1 1\nquery 0 1 2 1\nfree 1 1\n\tfree  01 1\r\n\nquery 0 1 2 1\nblock 3 0";
+    assert!(rt; text.len() < 200);
+    let commands = read_script(rt.alloc(), text)?;
+    let query = Command::Query {
+        sx: 0,
+        sy: 1,
+        gx: 2,
+        gy: 1,
+    };
+    let free = Command::Free { x: 1, y: 1 };
+    let block = Command::Block { x: 1, y: 1 };
+    let outside = Command::Block { x: 3, y: 0 };
+    let wanted = [query, block, query, free, free, query, outside];
+    assert_eq!(rt; commands.as_slice(), wanted.as_slice());
+    Ok(())
+}
+
+#[test]
+fn the_first_broken_line_is_named(rt: HostRuntime) {
+    for (text, line) in [
+        (b"block 1 1\n\nbolck 1 1\nfree\n".as_slice(), 3),
+        (b"free 1 0000000001\n", 1),
+        (b"free 1 1\nquery 0 1 2\n", 2),
+        (b"block 1 1 1\n", 1),
+    ] {
+        assert!(rt; text.len() < 100);
+        let read = read_script(rt.alloc(), text);
+        assert!(rt; matches!(read, Err(ScriptFault::Line { line: named }) if named == line));
+    }
+}
+
+#[test]
+fn a_line_has_at_most_128_bytes(rt: HostRuntime) -> Result<(), Fail> {
+    for (spaces, ending, right) in [
+        (0, b"".as_slice(), true),
+        (128, b"", true),
+        (129, b"", false),
+        (127, b"\r\n", true),
+        (128, b"\r\n", false),
+    ] {
+        let text = blank(rt.alloc(), spaces, ending)?;
+        assert!(rt; text.len() < 200);
+        match read_script(rt.alloc(), &text) {
+            Ok(commands) => assert!(rt; right && commands.is_empty()),
+            Err(fault) => assert!(rt; !right && fault == ScriptFault::Long { line: 1 }),
+        }
+    }
+    Ok(())
+}
