@@ -3,3 +3,4 @@ pub mod Move
 pub mod Walk
 pub mod Points
 pub mod Reply
+pub mod Laws

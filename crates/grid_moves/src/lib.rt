@@ -7,6 +7,7 @@
 #![tactic(auto)]
 
 mod grid;
+pub mod laws;
 mod moves;
 mod terrain;
 
