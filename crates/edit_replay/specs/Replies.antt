@@ -1,9 +1,11 @@
 -- What a session's reply stands for.
-use Rattle.std.specs.Prelude.{◌≡◌, ℕ, true, ⊤, List}
+use Rattle.std.specs.Prelude.{◌≡◌, ℕ, Bool, true, false, not, ⊤, List}
 use Rattle.grid_moves.specs.declared.Cell.{Cell}
-use Rattle.grid_moves.specs.Grid.{GridData, is_inside}
+use Rattle.grid_moves.specs.Grid.{GridData, is_inside, is_free, grid_with}
 use Rattle.grid_moves.specs.Reply.{Answer, outside, blocked, none, walk}
 use Rattle.plain_search.specs.Found.{IsFound, IsExhausted}
+use Rattle.edit_replay.specs.declared.reply.EditReply.{EditReply}
+use Rattle.edit_replay.specs.declared.reply.EditReply.TheVariants as edited
 use Rattle.edit_replay.specs.declared.reply.Reply.{Reply}
 use Rattle.edit_replay.specs.declared.reply.Reply.TheVariants.{Walk, None, Outside, Blocked}
 
@@ -25,3 +27,9 @@ IsRunReply g s t Blocked = ⊤
 pub record IsEnd (g : GridData) (x y : ℕ) (c : Cell) : Type 0 where
   pub cell : c ≡ record { x = x; y = y }
   pub inside : is_inside g c ≡ true
+
+-- the edit of a cell is answered so, and leaves this grid
+abbrev pub EditsSo : GridData → Cell → Bool → GridData → EditReply → Type 0
+EditsSo g c free after edited.Outside = (is_inside g c ≡ false) × (after ≡ g)
+EditsSo g c free after edited.Same = (is_inside g c ≡ true) × (is_free g c ≡ free) × (after ≡ g)
+EditsSo g c free after edited.Done = (is_inside g c ≡ true) × (is_free g c ≡ not free) × (after ≡ grid_with g c free)

@@ -8,6 +8,6 @@ mod reply;
 mod session;
 
 pub use plain_search::Taken;
-pub use reply::Reply;
+pub use reply::{EditReply, Reply};
 pub use session::{Engine, Session};
 pub use std::alloc::AllocError as NoMemory;

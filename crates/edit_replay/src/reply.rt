@@ -22,3 +22,14 @@ pub enum Reply {
     /// Both ends lie inside, and one of them is blocked.
     Blocked,
 }
+
+/// The reply to an edit.
+#[derive(Clone, Copy, Debug, PartialEq, Eq)]
+pub enum EditReply {
+    /// The cell was changed.
+    Done,
+    /// The cell was already as asked.
+    Same,
+    /// The cell lies outside the map.
+    Outside,
+}

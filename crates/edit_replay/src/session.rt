@@ -3,9 +3,9 @@
 ghost use Rattle.std.specs.Prelude.{◌≡◌, ◌<◌, IfOk, IfSome, MatchOption, true, false};
 ghost use Rattle.grid_moves.specs.Grid.{GridData, grid_of, is_inside};
 ghost use Rattle.grid_moves.specs.Reply.{IsRight};
-ghost use Rattle.edit_replay.specs.Replies.{answer_of, IsRunReply, IsEnd};
+ghost use Rattle.edit_replay.specs.Replies.{answer_of, IsRunReply, IsEnd, EditsSo};
 
-use crate::{NoMemory, Reply};
+use crate::{EditReply, NoMemory, Reply};
 use grid_moves::{Cell, Grid, Terrain};
 use map_text::MapText;
 use plain_search::{Plain, Workspace, least_in};
@@ -63,6 +63,23 @@ impl Session {
                 Ok(Session { grid, space })
             }
         }
+    }
+
+    /// Sets a cell free or blocked.
+    ///
+    /// `Outside` comes exactly where the cell lies outside, `Same` exactly where it is already as
+    /// asked; both change nothing. `Done` changes that cell alone. No memory is taken.
+    pub fn edit(&mut self, x: u32, y: u32, free: bool) -> EditReply
+        ensures { EditsSo self.old (record { x = x; y = y }) free self.new result }
+    {
+        let Some(c) = cell_at(&self.grid, x, y) else {
+            return EditReply::Outside;
+        };
+        if self.grid.free(c) == free {
+            return EditReply::Same;
+        }
+        self.grid.set(c, free);
+        EditReply::Done
     }
 
     /// Answers a query from one cell to another. It has no condition: the ends may lie outside.
