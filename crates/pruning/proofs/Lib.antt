@@ -1,0 +1,5 @@
+pub mod Places
+pub mod Table
+pub mod Moves
+pub mod Kept
+pub mod Fans

@@ -1,0 +1,4 @@
+pub mod Turns
+pub mod Allowed
+pub mod Marked
+pub mod Listed
