@@ -3,3 +3,9 @@ pub mod Table
 pub mod Moves
 pub mod Kept
 pub mod Fans
+pub mod Turnings
+pub mod Smallest
+pub mod Law
+pub mod Replacing
+pub mod Bridging
+pub mod Crossing

@@ -1,6 +1,7 @@
 //! Pruning of symmetric walks, and the law that it loses no least walk.
 #![tactic(auto)]
 
+pub mod laws;
 mod rule;
 mod turns;
 
