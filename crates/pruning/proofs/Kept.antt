@@ -15,7 +15,7 @@ use Rattle.pruning.specs.Marked.{is_forced_on}
 use Rattle.pruning.proofs.Table.{each_dir, at_dir, turn_parity, quarter_parity, turn_back}
 use Rattle.pruning.proofs.Moves.{can_move-straight, can_move-diagonal, turned}
 
-not_true : (b : Bool) → not b ≡ true → b ≡ false
+pub not_true : (b : Bool) → not b ≡ true → b ≡ false
 not_true true h = absurd (cc)
 not_true false h = refl
 
@@ -48,10 +48,10 @@ module _ (g : GridData) (c : Cell) where
   kept-eighth Left d = rw (at_none (λ d. turns_to Right d (turn Left d)) refl d, at_dir (λ d. turns_to Left d (turn Left d)) refl d) refl
 
   module _ (f : is_free g c ≡ true) where
-    open_aside : (s : Side) (d : Dir) → is_diagonal d ≡ false → can_move g c (quarter s d) ≡ is_open g c (quarter s d)
+    pub open_aside : (s : Side) (d : Dir) → is_diagonal d ≡ false → can_move g c (quarter s d) ≡ is_open g c (quarter s d)
     open_aside s d h = can_move-straight g c (quarter s d) f (quarter_parity s d ∙ h)
 
-    open_between : (s : Side) (d : Dir) → is_diagonal d ≡ false → can_move g c (turn s d) ≡ (is_open g c d && is_open g c (quarter s d) && is_open g c (turn s d))
+    pub open_between : (s : Side) (d : Dir) → is_diagonal d ≡ false → can_move g c (turn s d) ≡ (is_open g c d && is_open g c (quarter s d) && is_open g c (turn s d))
     open_between Right d h = can_move-diagonal g c (turn Right d) f (turn_parity Right d ∙ ap not h) ∙ rw (turn_back Right d) refl
     open_between Left d h = can_move-diagonal g c (turn Left d) f (turn_parity Left d ∙ ap not h) ∙ rw (turn_back Left d) (turned (is_open g c (quarter Left d)) (is_open g c d) (is_open g c (turn Left d)))
 

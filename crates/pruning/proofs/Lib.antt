@@ -9,3 +9,4 @@ pub mod Law
 pub mod Replacing
 pub mod Bridging
 pub mod Crossing
+pub mod Explaining

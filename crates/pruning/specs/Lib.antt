@@ -3,4 +3,9 @@ pub mod Allowed
 pub mod Marked
 pub mod Listed
 pub mod Canonical
+pub mod Least
+pub mod Stop
+pub mod Chain
+pub mod Source
+pub mod Facts
 pub mod Laws

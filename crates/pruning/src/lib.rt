@@ -3,10 +3,12 @@
 
 pub mod laws;
 mod rule;
+mod source;
 mod turns;
 
 use grid_moves::Dir;
 pub use rule::{allowed, forced};
+pub use source::JumpSource;
 pub use turns::{Side, is_diagonal, turn};
 
 /// How a search came to a cell.

@@ -1,0 +1,18 @@
+-- What a source of jumps is asked and tells.
+use Rattle.std.specs.Prelude.{◌≡◌, ℕ, ◌≤◌, ⊤, Option, Some, None}
+use Rattle.grid_moves.specs.declared.Cell.{Cell}
+use Rattle.grid_moves.specs.declared.Dir.{Dir}
+use Rattle.grid_moves.specs.Grid.{GridData}
+use Rattle.grid_moves.specs.Move.{legal_ahead}
+use Rattle.pruning.specs.declared.Arrival.{Arrival}
+use Rattle.pruning.specs.declared.Arrival.TheVariants.{Start, By}
+
+-- at most the number that is told: the first for a call of `stop`, the second for one of `allowed`
+abbrev pub AreAtMost : Option (ℕ × ℕ) → (ℕ × ℕ → ℕ) → ℕ → Type 0
+AreAtMost None which made = ⊤
+AreAtMost (Some told) which made = made ≤ which told
+
+-- a cell can be reached by this arrival: from the cell before it by a legal move
+abbrev pub CanArrive : GridData → Cell → Arrival → Type 0
+CanArrive g at Start = ⊤
+CanArrive g at (By d) = (u : Cell) × (legal_ahead g u d ≡ Some at)
