@@ -10,3 +10,6 @@ pub mod Replacing
 pub mod Bridging
 pub mod Crossing
 pub mod Explaining
+pub mod Runs
+pub mod Stopping
+pub mod Chaining

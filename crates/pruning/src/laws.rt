@@ -4,7 +4,7 @@
 //! no least walk, and finds walks alone.
 
 ghost use Rattle.pruning.specs.Facts.{TurnsAreMarked};
-ghost use Rattle.pruning.specs.Laws.{CanonicalWalksSuffice};
+ghost use Rattle.pruning.specs.Laws.{CanonicalWalksSuffice, ChainsSuffice};
 
 /// For every walk there is a canonical walk with the same ends, of no greater cost.
 pub fn canonical_walks_suffice()
@@ -15,4 +15,10 @@ pub fn canonical_walks_suffice()
 /// components, the cell is marked for the arrival.
 pub fn turns_are_marked()
     ensures { TurnsAreMarked }
+{}
+
+/// For every canonical walk there is a chain of first stops from its start to its end, of no greater
+/// cost: each turn of the walk stands at a first stop or is reached through one.
+pub fn chains_suffice()
+    ensures { ChainsSuffice }
 {}
