@@ -13,3 +13,5 @@ pub mod Explaining
 pub mod Runs
 pub mod Stopping
 pub mod Chaining
+pub mod Running
+pub mod Unfolding

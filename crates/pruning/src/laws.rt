@@ -4,7 +4,7 @@
 //! no least walk, and finds walks alone.
 
 ghost use Rattle.pruning.specs.Facts.{TurnsAreMarked};
-ghost use Rattle.pruning.specs.Laws.{CanonicalWalksSuffice, ChainsSuffice};
+ghost use Rattle.pruning.specs.Laws.{CanonicalWalksSuffice, ChainsSuffice, ChainsAreWalks};
 
 /// For every walk there is a canonical walk with the same ends, of no greater cost.
 pub fn canonical_walks_suffice()
@@ -21,4 +21,9 @@ pub fn turns_are_marked()
 /// cost: each turn of the walk stands at a first stop or is reached through one.
 pub fn chains_suffice()
     ensures { ChainsSuffice }
+{}
+
+/// The cells of a chain that begins on a free cell are points of a walk of the chain's cost.
+pub fn chains_are_walks()
+    ensures { ChainsAreWalks }
 {}
