@@ -19,3 +19,6 @@ pub enum Arrival {
     /// By a move in this direction.
     By(Dir),
 }
+
+#[cfg(test)]
+mod tests;

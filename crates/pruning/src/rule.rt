@@ -85,7 +85,7 @@ fn at_start<T: Terrain>(t: &T, at: Cell) -> ArrayVec<Dir, 8>
     requires { IsTrue (is_free (T.grid t.now) at) }
     ensures { result.items ≡ spec.allowed_dirs (T.grid t.now) at Start }
 {
-    let (_, _) = (t.width(), t.height());
+    let _within = t.width();
     let n = is_open(t, at, Dir::N);
     let e = is_open(t, at, Dir::E);
     let s = is_open(t, at, Dir::S);
@@ -108,7 +108,7 @@ fn after_diagonal<T: Terrain>(t: &T, at: Cell, d: Dir) -> ArrayVec<Dir, 8>
     requires diagonal { IsTrue (turns.is_diagonal d) }
     ensures { result.items ≡ spec.allowed_dirs (T.grid t.now) at (By d) }
 {
-    let (_, _) = (t.width(), t.height());
+    let _within = t.width();
     let (one, other) = (turn(Side::Left, d), turn(Side::Right, d));
     let left = is_open(t, at, one);
     let right = is_open(t, at, other);
@@ -130,7 +130,7 @@ fn beside<T: Terrain>(t: &T, at: Cell, d: Dir, side: Side, on: bool) -> (bool, b
     ensures quarter { result.0 ≡ spec.is_allowed (T.grid t.now) at (By d) (turns.quarter side d) }
     ensures eighth { result.1 ≡ spec.is_allowed (T.grid t.now) at (By d) (turns.turn side d) }
 {
-    let (_, _) = (t.width(), t.height());
+    let _within = t.width();
     let eighth = turn(side, d);
     let quarter = turn(side, eighth);
     if is_open(t, at, turn(side, quarter)) {
@@ -146,7 +146,7 @@ fn after_straight<T: Terrain>(t: &T, at: Cell, d: Dir) -> ArrayVec<Dir, 8>
     requires straight { turns.is_diagonal d ≡ false }
     ensures { result.items ≡ spec.allowed_dirs (T.grid t.now) at (By d) }
 {
-    let (_, _) = (t.width(), t.height());
+    let _within = t.width();
     let on = is_open(t, at, d);
     let (left, up) = beside(t, at, d, Side::Left, on);
     let (right, down) = beside(t, at, d, Side::Right, on);
@@ -204,7 +204,7 @@ fn is_forced_on<T: Terrain>(t: &T, at: Cell, d: Dir, side: Side) -> bool
     requires straight { turns.is_diagonal d ≡ false }
     ensures { result ≡ marks.is_forced_on (T.grid t.now) at d side }
 {
-    let (_, _) = (t.width(), t.height());
+    let _within = t.width();
     let quarter = turn(side, turn(side, d));
     if is_open(t, at, turn(side, quarter)) {
         return false;
