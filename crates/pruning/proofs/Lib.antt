@@ -15,3 +15,5 @@ pub mod Stopping
 pub mod Chaining
 pub mod Running
 pub mod Unfolding
+pub mod Estimating
+pub mod Alone

@@ -2,8 +2,11 @@
 use Rattle.std.specs.Prelude.{◌≡◌, true, IsTrue, List, ◌∷◌, map}
 use Rattle.root2_cost.specs.declared.Cost.{Cost}
 use Rattle.root2_cost.specs.Order.{IsAtMost}
+use Rattle.root2_cost.specs.Sums.{add_costs, no_cost}
 use Rattle.grid_moves.specs.declared.Cell.{Cell}
 use Rattle.grid_moves.specs.Grid.{GridData, is_free}
+use Rattle.grid_moves.specs.Move.{is_legal, move_cost}
+use Rattle.grid_moves.specs.Points.{estimate}
 use Rattle.grid_moves.specs.Walk.{IsWalk, cost_of}
 use Rattle.grid_moves.specs.Reply.{StandsForWalk}
 use Rattle.pruning.specs.Canonical.{IsCanonicalWalk}
@@ -35,3 +38,10 @@ ChainsSuffice = (g : GridData) (s t : Cell) (cells : List Cell) → IsCanonicalW
 abbrev pub ChainsAreWalks : Type 0
 ChainsAreWalks = (g : GridData) (goal s : Cell) (states : List State) (cost : Cost) → IsTrue (is_free g s) → IsChain g goal (start_state s) states cost
     → StandsForWalk g s (last_state (start_state s) states).cell (s ∷ map (λ u. u.cell) states) cost
+
+-- the octile estimate falls by at most a move's cost per move, is nothing at the goal, and so never exceeds
+-- the cost of a walk
+pub record EstimateIsConsistent : Type 0 where
+  pub falls : (g : GridData) (u v t : Cell) → IsTrue (is_legal g u v) → IsAtMost (estimate u t) (add_costs (move_cost u v) (estimate v t))
+  pub nothing : (t : Cell) → estimate t t ≡ no_cost
+  pub never_exceeds : (g : GridData) (s t : Cell) (cells : List Cell) → IsWalk g s t cells → IsAtMost (estimate s t) (cost_of (s ∷ cells))

@@ -4,7 +4,7 @@
 //! no least walk, and finds walks alone.
 
 ghost use Rattle.pruning.specs.Facts.{TurnsAreMarked};
-ghost use Rattle.pruning.specs.Laws.{CanonicalWalksSuffice, ChainsSuffice, ChainsAreWalks};
+ghost use Rattle.pruning.specs.Laws.{CanonicalWalksSuffice, ChainsSuffice, ChainsAreWalks, EstimateIsConsistent};
 
 /// For every walk there is a canonical walk with the same ends, of no greater cost.
 pub fn canonical_walks_suffice()
@@ -26,4 +26,9 @@ pub fn chains_suffice()
 /// The cells of a chain that begins on a free cell are points of a walk of the chain's cost.
 pub fn chains_are_walks()
     ensures { ChainsAreWalks }
+{}
+
+/// The octile estimate never exceeds the cost of a walk, and falls by at most a move's cost per move.
+pub fn estimate_is_consistent()
+    ensures { EstimateIsConsistent }
 {}
