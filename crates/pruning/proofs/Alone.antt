@@ -12,10 +12,7 @@ use Rattle.pruning.specs.declared.Arrival.TheVariants.{Start, By}
 use Rattle.pruning.specs.Allowed.{allowed_dirs}
 use Rattle.pruning.specs.Marked.{run_end}
 use Rattle.pruning.specs.Stop.{StopsAfter, IsFirstStop}
-use Rattle.pruning.specs.Source.{CanArrive}
-
-abbrev pub alone : GridData
-alone = record { width = 1; height = 1; free = true ∷ [] }
+use Rattle.pruning.specs.Source.{CanArrive, alone}
 
 abbrev pub origin : Cell
 origin = record { x = 0; y = 0 }
