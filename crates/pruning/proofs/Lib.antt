@@ -16,4 +16,3 @@ pub mod Chaining
 pub mod Running
 pub mod Unfolding
 pub mod Estimating
-pub mod Alone

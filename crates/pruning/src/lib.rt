@@ -1,4 +1,9 @@
-//! Pruning of symmetric walks, and the law that it loses no least walk.
+//! Pruning: in which directions a search goes on, where a jump stops, and the laws that no least
+//! walk is lost so.
+//!
+//! The rule is that of Harabor and Grastien's Jump Point Search (AAAI 2011), in the form in which
+//! corners are not cut (SoCS 2012). `allowed` and `forced` are the rule on a grid; `JumpSource` is what
+//! a search asks of whatever finds the stops; `laws` has what makes such a search right.
 #![tactic(auto)]
 
 pub mod laws;

@@ -39,7 +39,9 @@ struct Alone;
 
 impl JumpSource for Alone {
     ghost StandsFor = { λ _ g. g ≡ alone };
+
     ghost most = { λ _. Some (1, 1) };
+
     ghost fewest = { λ _. 1 };
 
     fn width(&self) -> u16 {
