@@ -1,6 +1,6 @@
 -- Cells are places, and their legal moves are legal moves of places.
-use Rattle.std.proofs.Common.{◌≡◌, ℕ, zero, suc, ◌+◌, arith, Bool, true, false, not, refl, ap, sym, ◌∙◌, subst, ◌&&◌}
-use Rattle.std.specs.Prelude.{⊤, ℤ, pos, negsuc, ◌+ℤ◌, Option, Some, None, option_and_then, is_some, if◌then◌else◌, nat_eq, ◌||◌}
+use Rattle.std.proofs.Common.{◌≡◌, ℕ, zero, suc, ◌+◌, arith, Bool, true, false, refl, ap, sym, ◌∙◌, subst, ◌&&◌}
+use Rattle.std.specs.Prelude.{⊤, ℤ, pos, negsuc, ◌+ℤ◌, Option, Some, None, option_and_then, nat_eq, ◌||◌}
 use Rattle.std.proofs.lemmas.Int.{ints}
 use Rattle.std.proofs.lemmas.Bool.Decides.{nat_tests}
 use Rattle.root2_cost.specs.declared.Cost.{Cost}
@@ -8,11 +8,10 @@ use Rattle.grid_moves.specs.declared.Cell.{Cell}
 use Rattle.grid_moves.specs.declared.Dir.{Dir}
 use Rattle.grid_moves.specs.declared.Dir.TheVariants.{N, NE, E, SE, S, SW, W, NW}
 use Rattle.grid_moves.specs.Grid.{GridData, is_free}
-use Rattle.grid_moves.specs.Move.{is_legal, ahead, legal_ahead, column_ahead, row_ahead, move_cost}
+use Rattle.grid_moves.specs.Move.{ahead, column_ahead, row_ahead, move_cost}
 use Rattle.grid_moves.proofs.Legal.{same_cell}
-use Rattle.pruning.specs.declared.turns.Side.{Side}
 use Rattle.pruning.specs.declared.turns.Side.TheVariants.{Right, Left}
-use Rattle.pruning.specs.Turns.{turn, is_diagonal}
+use Rattle.pruning.specs.Turns.{turn}
 use Rattle.pruning.specs.Allowed.{is_open, is_free_cell, can_move}
 use Rattle.pruning.proofs.Places.{Place, move, columns, rows}
 use Rattle.pruning.proofs.Table.{same_place, by_parity, each_of}

@@ -1,6 +1,6 @@
 -- Each canonical walk goes along a chain of first stops, where each allowed turn is explained.
-use Rattle.std.proofs.Common.{◌≡◌, ℕ, zero, suc, ◌+◌, ◌<◌, ◌≤◌, ◌⊎◌, inl, inr, arith, Bool, true, false, not, refl, ap, sym, ◌∙◌, subst, List, [], ◌∷◌, length}
-use Rattle.std.specs.Prelude.{Option, Some, None, if◌then◌else◌}
+use Rattle.std.proofs.Common.{◌≡◌, ℕ, zero, suc, ◌+◌, ◌<◌, ◌≤◌, ◌⊎◌, inl, inr, arith, true, false, not, refl, ap, sym, ◌∙◌, subst, List, [], ◌∷◌, length}
+use Rattle.std.specs.Prelude.{Some}
 use Rattle.root2_cost.specs.declared.Cost.{Cost}
 use Rattle.root2_cost.specs.Sums.{add_costs, no_cost}
 use Rattle.root2_cost.proofs.AtMost.{same_at_most}
@@ -9,23 +9,22 @@ use Rattle.root2_cost.proofs.Sums.{add_costs-assoc, add_costs-no_cost_left}
 use Rattle.grid_moves.specs.declared.Cell.{Cell}
 use Rattle.grid_moves.specs.declared.Dir.{Dir}
 use Rattle.grid_moves.specs.Grid.{GridData}
-use Rattle.grid_moves.specs.Move.{ahead, legal_ahead, move_cost}
+use Rattle.grid_moves.specs.Move.{ahead, legal_ahead}
 use Rattle.grid_moves.specs.Walk.{cost_of, last_of}
 use Rattle.pruning.specs.declared.Arrival.{Arrival}
 use Rattle.pruning.specs.declared.Arrival.TheVariants.{Start, By}
 use Rattle.pruning.specs.declared.turns.Side.{Side}
 use Rattle.pruning.specs.Turns.{turn, is_diagonal}
-use Rattle.pruning.specs.Marked.{run_end, is_forced, HoldsOnRun, IsMarked, forces, looks_out}
+use Rattle.pruning.specs.Marked.{run_end, is_forced, forces, looks_out}
 use Rattle.pruning.specs.Least.{NoneBelow, IsLeast}
 use Rattle.pruning.specs.Stop.{IsStop, at_goal, marked, sees_goal, StopsAfter}
-use Rattle.pruning.specs.Canonical.{IsAllowedMove, FollowsRule, IsCanonicalWalk}
+use Rattle.pruning.specs.Canonical.{IsAllowedMove, FollowsRule}
 use Rattle.pruning.specs.Facts.{IsExplained, same, component, turns, TurnsAreMarked}
-use Rattle.pruning.specs.Chain.{State, start_state, run_cost, IsJump, IsChain, stays, jumps, last_state}
-use Rattle.pruning.specs.Laws.{HasChain, ChainsSuffice}
+use Rattle.pruning.specs.Chain.{State, run_cost, IsChain, stays, jumps, last_state}
+use Rattle.pruning.specs.Laws.{ChainsSuffice}
 use Rattle.pruning.proofs.Table.{turn_parity, by_parity}
 use Rattle.pruning.proofs.Turnings.{dir_cost}
 use Rattle.pruning.proofs.Bridging.{cost_there}
-use Rattle.pruning.proofs.Crossing.{Leads}
 use Rattle.pruning.proofs.Runs.{one_of, legal_leads, run_end-next}
 use Rattle.pruning.proofs.Stopping.{IsStop-or_not, allowed_leads}
 

@@ -1,30 +1,26 @@
 -- Walks of cells as directions from a place, and back; the first law.
-use Rattle.std.proofs.Common.{◌≡◌, ℕ, Bool, true, false, not, refl, ap, sym, ◌∙◌, subst, List, [], ◌∷◌, ◌&&◌, arith}
+use Rattle.std.proofs.Common.{◌≡◌, Bool, true, false, refl, ap, sym, ◌∙◌, subst, List, [], ◌∷◌, ◌&&◌, arith}
 use Rattle.std.specs.Prelude.{Option, Some, None, option_and_then, is_some, if◌then◌else◌}
-use Rattle.root2_cost.specs.declared.Cost.{Cost}
-use Rattle.root2_cost.specs.Order.{IsAtMost}
-use Rattle.root2_cost.specs.Sums.{add_costs}
 use Rattle.grid_moves.specs.declared.Cell.{Cell}
 use Rattle.grid_moves.specs.declared.Dir.{Dir}
 use Rattle.grid_moves.specs.Grid.{GridData, is_free}
-use Rattle.grid_moves.specs.Move.{is_legal, ahead, legal_ahead, move_cost}
-use Rattle.grid_moves.specs.Walk.{is_walk, cost_of, last_of, IsWalk}
-use Rattle.grid_moves.proofs.Legal.{IsLegal, legal_is, same_cell}
+use Rattle.grid_moves.specs.Move.{is_legal, ahead}
+use Rattle.grid_moves.specs.Walk.{is_walk, cost_of, last_of}
+use Rattle.grid_moves.proofs.Legal.{legal_is}
 use Rattle.grid_moves.proofs.Ahead.{ahead_of}
 use Rattle.pruning.specs.declared.Arrival.{Arrival}
 use Rattle.pruning.specs.declared.Arrival.TheVariants.{Start, By}
 use Rattle.pruning.specs.declared.turns.Side.{Side}
-use Rattle.pruning.specs.declared.turns.Side.TheVariants.{Right, Left}
-use Rattle.pruning.specs.Turns.{turn, quarter, behind, is_diagonal, is_dir}
-use Rattle.pruning.specs.Allowed.{is_open, can_move, is_blocked_behind, is_kept, is_kept_diagonal, is_allowed}
-use Rattle.pruning.specs.Canonical.{IsAllowedMove, FollowsRule, IsCanonicalWalk}
-use Rattle.pruning.specs.Laws.{HasCanonicalWalk, CanonicalWalksSuffice}
+use Rattle.pruning.specs.Turns.{turn, quarter, behind, is_diagonal}
+use Rattle.pruning.specs.Allowed.{is_open, can_move, is_kept, is_kept_diagonal}
+use Rattle.pruning.specs.Canonical.{FollowsRule}
+use Rattle.pruning.specs.Laws.{CanonicalWalksSuffice}
 use Rattle.pruning.proofs.Places.{Place, move}
 use Rattle.pruning.proofs.Table.{at_dir, at_both, straight_back, by_parity}
 use Rattle.pruning.proofs.Kept.{kept-on, kept-quarter, kept-eighth}
-use Rattle.pruning.proofs.Turnings.{Walks, end_of, AllowedAfter, IsCanonical, price, dir_cost}
+use Rattle.pruning.proofs.Turnings.{Walks, end_of, AllowedAfter, IsCanonical, price}
 use Rattle.pruning.proofs.Replacing.{Legal, IsAllowed, straight_on, component, beside, past, turns_are_replaced}
-use Rattle.pruning.proofs.Law.{HasCanonical, canonical_walk}
+use Rattle.pruning.proofs.Law.{canonical_walk}
 use Rattle.pruning.proofs.Bridging.{place_of, free_place, ahead_there, open_there, can_move_there, legal_there, cost_there, one_cell}
 
 -- a legal move leads to the cell ahead

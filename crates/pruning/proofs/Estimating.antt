@@ -1,7 +1,5 @@
 -- The octile estimate never exceeds the cost of a walk.
-use Rattle.std.proofs.Common.{◌≡◌, Bool, true, false, refl, ap, sym, ◌∙◌, subst, List, [], ◌∷◌, ◌&&◌, arith}
-use Rattle.root2_cost.specs.declared.Cost.{Cost}
-use Rattle.root2_cost.specs.Sums.{add_costs}
+use Rattle.std.proofs.Common.{◌≡◌, true, ap, ◌∙◌, List, [], ◌∷◌, arith}
 use Rattle.root2_cost.proofs.Most.{Most, Most-then, Most-same, Most-add_left}
 use Rattle.grid_moves.specs.declared.Cell.{Cell}
 use Rattle.grid_moves.specs.Grid.{GridData}

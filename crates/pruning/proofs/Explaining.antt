@@ -1,6 +1,5 @@
 -- Each allowed turn is explained: by the arrival, by its components or by a mark.
-use Rattle.std.proofs.Common.{◌≡◌, Bool, true, false, not, refl, ap, sym, ◌∙◌, ◌&&◌, ◌||◌, arith}
-use Rattle.std.specs.Prelude.{if◌then◌else◌}
+use Rattle.std.proofs.Common.{◌≡◌, Bool, true, false, not, refl, sym, ◌∙◌, ◌&&◌, ◌||◌, arith}
 use Rattle.grid_moves.specs.declared.Cell.{Cell}
 use Rattle.grid_moves.specs.declared.Dir.{Dir}
 use Rattle.grid_moves.specs.Grid.{GridData, is_free}
@@ -9,13 +8,13 @@ use Rattle.pruning.specs.declared.Arrival.TheVariants.{By}
 use Rattle.pruning.specs.declared.turns.Side.{Side}
 use Rattle.pruning.specs.declared.turns.Side.TheVariants.{Right, Left}
 use Rattle.pruning.specs.Turns.{turn, quarter, behind, is_diagonal, is_dir}
-use Rattle.pruning.specs.Allowed.{is_open, can_move, is_blocked_behind, turns_to, is_kept, is_kept_diagonal, is_kept_straight, is_allowed}
-use Rattle.pruning.specs.Marked.{is_forced_on, is_forced, IsMarked, forces, looks_out}
+use Rattle.pruning.specs.Allowed.{is_open, can_move, is_blocked_behind, turns_to, is_kept, is_kept_diagonal, is_kept_straight}
+use Rattle.pruning.specs.Marked.{is_forced_on, is_forced, IsMarked, forces}
 use Rattle.pruning.specs.Facts.{IsExplained, same, component, turns, TurnsAreMarked}
 use Rattle.pruning.proofs.Places.{opposite}
-use Rattle.pruning.proofs.Table.{at_dir, at_both, each_dir, Turned, turned, ahead, eighth, side, back, about, by_parity}
+use Rattle.pruning.proofs.Table.{at_dir, at_both, Turned, turned, ahead, eighth, side, back, about, by_parity}
 use Rattle.pruning.proofs.Kept.{not_true, kept-quarter, kept-eighth, open_aside, open_between}
-use Rattle.pruning.proofs.Crossing.{Leads, leads_from}
+use Rattle.pruning.proofs.Crossing.{leads_from}
 
 two_true : (a b : Bool) → (a && b) ≡ true → (a ≡ true) × (b ≡ true)
 two_true a b h = (grind arith, grind arith)

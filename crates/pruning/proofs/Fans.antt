@@ -1,5 +1,5 @@
 -- The allowed directions after a move, listed in increasing order.
-use Rattle.std.proofs.Common.{◌≡◌, refl, ap, sym, ◌∙◌, Bool, true, false, not, ◌&&◌, List, [], ◌∷◌}
+use Rattle.std.proofs.Common.{◌≡◌, refl, ap, sym, ◌∙◌, Bool, true, false, not, ◌&&◌, [], ◌∷◌}
 use Rattle.grid_moves.specs.declared.Cell.{Cell}
 use Rattle.grid_moves.specs.declared.Dir.{Dir}
 use Rattle.grid_moves.specs.declared.Dir.TheVariants.{N, NE, E, SE, S, SW, W, NW}

@@ -1,6 +1,6 @@
 -- What pruning keeps, by the turn from the arrival.
-use Rattle.std.proofs.Common.{◌≡◌, ◌⊎◌, inl, inr, arith, refl, ap, sym, ◌∙◌, Bool, true, false, not, ◌&&◌, ◌||◌}
-use Rattle.std.specs.Prelude.{if◌then◌else◌, List, [], ◌∷◌, filter}
+use Rattle.std.proofs.Common.{◌≡◌, refl, ap, sym, ◌∙◌, Bool, true, false, not, ◌&&◌}
+use Rattle.std.specs.Prelude.{[], ◌∷◌}
 use Rattle.grid_moves.specs.declared.Cell.{Cell}
 use Rattle.grid_moves.specs.declared.Dir.{Dir}
 use Rattle.grid_moves.specs.declared.Dir.TheVariants.{N, NE, E, SE, S, SW, W, NW}
@@ -10,7 +10,7 @@ use Rattle.pruning.specs.declared.turns.Side.{Side}
 use Rattle.pruning.specs.declared.turns.Side.TheVariants.{Right, Left}
 use Rattle.pruning.specs.Turns.{turn, quarter, behind, is_diagonal, is_dir}
 use Rattle.pruning.specs.Listed.{listed_dirs}
-use Rattle.pruning.specs.Allowed.{is_open, can_move, is_blocked_behind, turns_to, is_kept, is_kept_straight, is_allowed, allowed_dirs}
+use Rattle.pruning.specs.Allowed.{is_open, can_move, is_blocked_behind, turns_to, is_kept_straight, is_allowed, allowed_dirs}
 use Rattle.pruning.specs.Marked.{is_forced_on}
 use Rattle.pruning.proofs.Table.{each_dir, at_dir, turn_parity, quarter_parity, turn_back}
 use Rattle.pruning.proofs.Moves.{can_move-straight, can_move-diagonal, turned}

@@ -1,12 +1,12 @@
 -- When a move from a free cell is legal: by the cells ahead and beside.
-use Rattle.std.proofs.Common.{◌≡◌, ℕ, zero, suc, ◌+◌, ◌≤◌, arith, refl, ap, sym, ◌∙◌, Bool, true, false, ◌&&◌}
-use Rattle.std.specs.Prelude.{nat_eq, nat_le, is_some, if◌then◌else◌, Some, None}
+use Rattle.std.proofs.Common.{◌≡◌, ℕ, zero, suc, ◌+◌, ◌≤◌, arith, refl, sym, ◌∙◌, Bool, true, false, ◌&&◌}
+use Rattle.std.specs.Prelude.{is_some, if◌then◌else◌, Some, None}
 use Rattle.std.proofs.lemmas.Bool.Decides.{nat_tests}
 use Rattle.grid_moves.specs.declared.Cell.{Cell}
 use Rattle.grid_moves.specs.declared.Dir.{Dir}
 use Rattle.grid_moves.specs.declared.Dir.TheVariants.{N, NE, E, SE, S, SW, W, NW}
 use Rattle.grid_moves.specs.Grid.{GridData, is_free}
-use Rattle.grid_moves.specs.Move.{is_legal, is_same, are_near, are_neighbours, corner_of}
+use Rattle.grid_moves.specs.Move.{is_legal, are_neighbours}
 use Rattle.pruning.specs.declared.turns.Side.TheVariants.{Right, Left}
 use Rattle.pruning.specs.Turns.{turn, is_diagonal}
 use Rattle.pruning.specs.Allowed.{is_open, can_move}

@@ -1,12 +1,11 @@
 -- Where no corner is cut, each turn that pruning forbids has a replacement.
-use Rattle.std.proofs.Common.{◌≡◌, ◌<◌, ◌⊎◌, inl, inr, List, [], ◌∷◌, length, arith, Bool, true, false, not, refl, ap, sym, ◌∙◌, subst}
-use Rattle.root2_cost.proofs.Most.{Most}
+use Rattle.std.proofs.Common.{◌≡◌, ◌⊎◌, inl, inr, [], ◌∷◌, arith, Bool, true, false, not, refl, ap, sym, ◌∙◌, subst}
 use Rattle.grid_moves.specs.declared.Dir.{Dir}
 use Rattle.pruning.specs.declared.turns.Side.{Side}
 use Rattle.pruning.specs.Turns.{turn, quarter, behind, is_diagonal}
 use Rattle.pruning.proofs.Places.{Place, move, opposite}
-use Rattle.pruning.proofs.Table.{straight_back, straight_side, diagonal_back, diagonal_side, reversal, moved_both, Turned, turned, ahead, eighth, side, back, about, turn_parity, quarter_parity, opposite_parity, other, turn_back, each_of, by_parity, by_test}
-use Rattle.pruning.proofs.Turnings.{Walks, end_of, price, Smaller, shorter, straighter, earlier, IsBetter, Replaces, TurnsAreReplaced}
+use Rattle.pruning.proofs.Table.{straight_back, straight_side, diagonal_back, diagonal_side, reversal, moved_both, Turned, turned, ahead, eighth, side, back, about, turn_parity, quarter_parity, opposite_parity, turn_back, each_of, by_parity, by_test}
+use Rattle.pruning.proofs.Turnings.{shorter, straighter, earlier, Replaces, TurnsAreReplaced}
 
 -- the move in d from p is legal: its ends are free, and where it is diagonal the places beside it
 pub record Legal (free : Place → Bool) (p : Place) (d : Dir) : Type 0 where

@@ -1,14 +1,12 @@
 -- The cells of a legal run: they lie on a line, and make a walk of its cost.
-use Rattle.std.proofs.Common.{◌≡◌, ℕ, zero, suc, ◌+◌, ◌-◌, ◌<◌, ◌≤◌, arith, Bool, true, false, refl, ap, sym, ◌∙◌, subst, List, [], ◌∷◌, ◌++◌, ◌&&◌, ◌||◌}
-use Rattle.std.specs.Prelude.{⊤, Option, Some, None, option_and_then, if◌then◌else◌, nat_lt, nat_eq, max}
+use Rattle.std.proofs.Common.{◌≡◌, ℕ, zero, suc, ◌+◌, ◌≤◌, arith, true, false, refl, ap, sym, ◌∙◌, subst, List, [], ◌∷◌, ◌||◌}
+use Rattle.std.specs.Prelude.{⊤, Option, Some, None, option_and_then, nat_lt, nat_eq, max}
 use Rattle.std.proofs.lemmas.Bool.Decides.{nat_tests}
-use Rattle.root2_cost.specs.declared.Cost.{Cost}
-use Rattle.root2_cost.specs.Sums.{add_costs, no_cost}
 use Rattle.grid_moves.specs.declared.Cell.{Cell}
 use Rattle.grid_moves.specs.declared.Dir.{Dir}
 use Rattle.grid_moves.specs.declared.Dir.TheVariants.{N, NE, E, SE, S, SW, W, NW}
 use Rattle.grid_moves.specs.Grid.{GridData, is_free}
-use Rattle.grid_moves.specs.Move.{ahead, legal_ahead, is_legal, move_cost}
+use Rattle.grid_moves.specs.Move.{ahead, legal_ahead}
 use Rattle.grid_moves.specs.Walk.{is_walk, cost_of, last_of}
 use Rattle.grid_moves.specs.Points.{apart, steps_between, are_lined, toward, step_toward, segment}
 use Rattle.grid_moves.proofs.Legal.{legal_is, same_cell}

@@ -1,12 +1,12 @@
 -- Legal runs: they end, so that what holds on them can be tested.
-use Rattle.std.proofs.Common.{◌≡◌, ℕ, zero, suc, ◌+◌, ◌-◌, ◌<◌, ◌≤◌, ◌⊎◌, inl, inr, arith, Bool, true, false, refl, ap, sym, ◌∙◌, subst}
+use Rattle.std.proofs.Common.{◌≡◌, ℕ, zero, suc, ◌-◌, ◌<◌, ◌≤◌, ◌⊎◌, inl, inr, arith, Bool, true, false, refl, ap, subst}
 use Rattle.std.specs.Prelude.{⊤, Option, Some, None, option_and_then, if◌then◌else◌}
 use Rattle.grid_moves.specs.declared.Cell.{Cell}
 use Rattle.grid_moves.specs.declared.Dir.{Dir}
 use Rattle.grid_moves.specs.declared.Dir.TheVariants.{N, NE, E, SE, S, SW, W, NW}
-use Rattle.grid_moves.specs.Grid.{GridData, is_free}
+use Rattle.grid_moves.specs.Grid.{GridData}
 use Rattle.grid_moves.specs.Move.{is_legal, ahead, legal_ahead}
-use Rattle.grid_moves.proofs.Legal.{IsLegal, legal_is, free_inside}
+use Rattle.grid_moves.proofs.Legal.{legal_is, free_inside}
 use Rattle.pruning.specs.Marked.{run_end, HoldsOnRun}
 use Rattle.pruning.proofs.Crossing.{Leads}
 

@@ -1,5 +1,5 @@
 -- Induction by the number of moves, the number of diagonal ones, and the sum of their places.
-use Rattle.std.proofs.Common.{◌≡◌, ℕ, zero, suc, ◌+◌, ◌<◌, ◌≤◌, List, [], ◌∷◌, length, arith}
+use Rattle.std.proofs.Common.{ℕ, zero, suc, ◌<◌, List, length, arith}
 use Rattle.grid_moves.specs.declared.Dir.{Dir}
 use Rattle.pruning.proofs.Turnings.{price, places, Smaller, shorter, straighter, earlier}
 

@@ -1,34 +1,21 @@
 -- Whether a cell is a stop can be told.
-use Rattle.std.proofs.Common.{◌≡◌, ℕ, zero, suc, ◌+◌, ◌<◌, ◌≤◌, ◌⊎◌, inl, inr, arith, Bool, true, false, not, refl, ap, sym, ◌∙◌, subst, List, [], ◌∷◌, length, ◌&&◌, ◌||◌}
-use Rattle.std.specs.Prelude.{Option, Some, None, option_and_then, if◌then◌else◌}
-use Rattle.root2_cost.specs.declared.Cost.{Cost}
-use Rattle.root2_cost.specs.Sums.{add_costs, no_cost}
-use Rattle.root2_cost.proofs.AtMost.{same_at_most}
-use Rattle.root2_cost.proofs.Less.{same_cost}
+use Rattle.std.proofs.Common.{◌≡◌, ◌⊎◌, inl, inr, arith, Bool, true, false, refl, sym, ◌∙◌, subst, ◌||◌}
 use Rattle.grid_moves.specs.declared.Cell.{Cell}
 use Rattle.grid_moves.specs.declared.Dir.{Dir}
 use Rattle.grid_moves.specs.Grid.{GridData}
-use Rattle.grid_moves.specs.Move.{ahead, legal_ahead, is_same, move_cost}
-use Rattle.grid_moves.specs.Walk.{cost_of, last_of}
+use Rattle.grid_moves.specs.Move.{is_same}
 use Rattle.grid_moves.proofs.Legal.{is_same-cell, is_same-itself}
 use Rattle.pruning.specs.declared.Arrival.{Arrival}
-use Rattle.pruning.specs.declared.Arrival.TheVariants.{Start, By}
 use Rattle.pruning.specs.declared.turns.Side.{Side}
 use Rattle.pruning.specs.declared.turns.Side.TheVariants.{Right, Left}
 use Rattle.pruning.specs.Turns.{turn, is_diagonal}
-use Rattle.pruning.specs.Allowed.{can_move, is_kept, is_allowed}
-use Rattle.pruning.specs.Marked.{run_end, is_forced, HoldsOnRun, IsMarked, forces, looks_out}
-use Rattle.pruning.specs.Least.{NoneBelow, IsLeast}
-use Rattle.pruning.specs.Stop.{IsStop, at_goal, marked, sees_goal, StopsAfter}
-use Rattle.pruning.specs.Canonical.{IsAllowedMove, FollowsRule, IsCanonicalWalk}
-use Rattle.pruning.specs.Facts.{IsExplained, same, component, turns, TurnsAreMarked}
-use Rattle.pruning.specs.Chain.{State, start_state, run_cost, IsJump, IsChain, stays, jumps, last_state}
-use Rattle.pruning.specs.Laws.{HasChain, ChainsSuffice}
-use Rattle.pruning.proofs.Table.{turn_parity, by_parity, by_test, each_of, other}
-use Rattle.pruning.proofs.Turnings.{dir_cost}
-use Rattle.pruning.proofs.Bridging.{cost_there}
+use Rattle.pruning.specs.Allowed.{can_move}
+use Rattle.pruning.specs.Marked.{is_forced, HoldsOnRun, forces, looks_out}
+use Rattle.pruning.specs.Stop.{IsStop, at_goal, marked, sees_goal}
+use Rattle.pruning.specs.Canonical.{IsAllowedMove}
+use Rattle.pruning.proofs.Table.{by_parity, by_test, each_of}
 use Rattle.pruning.proofs.Crossing.{Leads, leads_from}
-use Rattle.pruning.proofs.Runs.{one_of, legal_leads, leads_legal, run_end-next, HoldsOnRun-or_not}
+use Rattle.pruning.proofs.Runs.{one_of, HoldsOnRun-or_not}
 
 -- a stop can be told
 module _ (g : GridData) (goal : Cell) (d : Dir) (v : Cell) where

@@ -1,5 +1,5 @@
 -- Walks as directions from a place, over any legality of moves.
-use Rattle.std.proofs.Common.{◌≡◌, ℕ, ◌+◌, ◌*◌, ◌<◌, ◌⊎◌, arith, refl, ap, sym, ◌∙◌, List, [], ◌∷◌, ◌++◌, length, subst, length-append}
+use Rattle.std.proofs.Common.{◌≡◌, ℕ, ◌+◌, ◌*◌, ◌<◌, ◌⊎◌, arith, refl, ap, sym, ◌∙◌, List, [], ◌∷◌, ◌++◌, length, length-append}
 use Rattle.std.specs.Prelude.{⊤, if◌then◌else◌}
 use Rattle.root2_cost.specs.declared.Cost.{Cost}
 use Rattle.root2_cost.specs.Sums.{add_costs, no_cost}

@@ -1,9 +1,9 @@
 -- Pruning: the directions in which a search goes on from a cell, by how it came there.
 -- Harabor and Grastien, AAAI 2011; under no corner cutting, SoCS 2012.
-use Rattle.std.specs.Prelude.{◌≡◌, Bool, true, false, not, ◌&&◌, ◌||◌, refl, List, [], ◌∷◌, filter, is_some, Option, Some, None, option_and_then, if◌then◌else◌}
+use Rattle.std.specs.Prelude.{◌≡◌, Bool, true, false, not, ◌&&◌, ◌||◌, refl, List, [], ◌∷◌, filter, is_some, Option, Some, None, if◌then◌else◌}
 use Rattle.grid_moves.specs.declared.Cell.{Cell}
 use Rattle.grid_moves.specs.declared.Dir.{Dir}
-use Rattle.grid_moves.specs.declared.Dir.TheVariants.{N, NE, E, SE, S, SW, W, NW}
+use Rattle.grid_moves.specs.declared.Dir.TheVariants.{E, S}
 use Rattle.grid_moves.specs.Grid.{GridData, is_free}
 use Rattle.grid_moves.specs.Move.{ahead, legal_ahead, all_dirs}
 use Rattle.pruning.specs.declared.Arrival.{Arrival}

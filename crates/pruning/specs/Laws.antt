@@ -1,5 +1,5 @@
 -- What holds of all grids: pruning loses no least walk.
-use Rattle.std.specs.Prelude.{◌≡◌, true, IsTrue, List, ◌∷◌, map}
+use Rattle.std.specs.Prelude.{◌≡◌, IsTrue, List, ◌∷◌, map}
 use Rattle.root2_cost.specs.declared.Cost.{Cost}
 use Rattle.root2_cost.specs.Order.{IsAtMost}
 use Rattle.root2_cost.specs.Sums.{add_costs, no_cost}

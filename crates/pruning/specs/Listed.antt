@@ -1,5 +1,5 @@
 -- Directions picked by marks.
-use Rattle.std.specs.Prelude.{Bool, true, false, List, [], ◌∷◌, if◌then◌else◌}
+use Rattle.std.specs.Prelude.{Bool, List, [], ◌∷◌, if◌then◌else◌}
 use Rattle.grid_moves.specs.declared.Dir.{Dir}
 
 -- the directions beside which true stands, in order

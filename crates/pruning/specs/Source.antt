@@ -1,7 +1,6 @@
 -- What a source of jumps is asked and tells.
 use Rattle.std.specs.Prelude.{◌≡◌, ℕ, ◌≤◌, ⊤, Option, Some, None, true, refl, [], ◌∷◌}
 use Rattle.grid_moves.specs.declared.Cell.{Cell}
-use Rattle.grid_moves.specs.declared.Dir.{Dir}
 use Rattle.grid_moves.specs.Grid.{GridData}
 use Rattle.grid_moves.specs.Move.{legal_ahead}
 use Rattle.pruning.specs.declared.Arrival.{Arrival}

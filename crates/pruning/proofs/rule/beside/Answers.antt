@@ -1,4 +1,4 @@
-use Rattle.std.proofs.Common.{◌∙◌, ap, refl}
+use Rattle.std.proofs.Common.{◌∙◌, ap}
 use Rattle.pruning.proofs.Kept.{seen_free, seen_blocked, quarter_is, quarter_shut, eighth_shut, quarter_past, eighth_past}
 use Rattle.pruning.specs.Allowed.{is_open}
 use Rattle.pruning.proofs.rule.beside.Goals as goal
