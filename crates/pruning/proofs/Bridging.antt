@@ -73,7 +73,8 @@ ahead_there d u v h = by_parts (column_ahead d u.x) (row_ahead d u.y) (pos u.x +
     cell_in None = v
     cell_in (Some c) = c
 
-    by_parts : (a b : Option ℕ) (i j : ℤ) → IsAt a i → IsAt b j → cell_at a b ≡ Some v → record { x = i; y = j } ≡ place_of v
+    by_parts : (a b : Option ℕ) (i j : ℤ) → IsAt a i → IsAt b j → cell_at a b ≡ Some v
+        → record { x = i; y = j } ≡ place_of v
     by_parts None b i j p q h = absurd (cc)
     by_parts (Some x) None i j p q h = absurd (cc)
     by_parts (Some x) (Some y) i j p q h =
@@ -84,13 +85,15 @@ ahead_there d u v h = by_parts (column_ahead d u.x) (row_ahead d u.y) (pos u.x +
 pub open_there : (g : GridData) (u : Cell) (d : Dir) → is_open g u d ≡ free_place g (move d (place_of u))
 open_there g u d = by_parts (column_ahead d u.x) (row_ahead d u.y) (pos u.x +ℤ columns d) (pos u.y +ℤ rows d) (column_at d u.x) (row_at d u.y)
   where
-    by_parts : (a b : Option ℕ) (i j : ℤ) → IsAt a i → IsAt b j → is_free_cell g (cell_at a b) ≡ free_at g i j
+    by_parts : (a b : Option ℕ) (i j : ℤ) → IsAt a i → IsAt b j
+        → is_free_cell g (cell_at a b) ≡ free_at g i j
     by_parts None b i j p q = rw p refl
     by_parts (Some x) None i j p q = rw (p, q) refl
     by_parts (Some x) (Some y) i j p q = rw (p, q) refl
 
 -- legal moves of cells and of places
-pub can_move_there : (g : GridData) (u : Cell) (d : Dir) → is_free g u ≡ true → Legal (free_place g) (place_of u) d → can_move g u d ≡ true
+pub can_move_there : (g : GridData) (u : Cell) (d : Dir) → is_free g u ≡ true
+    → Legal (free_place g) (place_of u) d → can_move g u d ≡ true
 can_move_there g u d f l = by_parity d
     (λ h.
     let a : is_open g u (turn Left d) ≡ true = open_there g u (turn Left d) ∙ l.sides h Left in
@@ -102,7 +105,8 @@ can_move_there g u d f l = by_parity d
 three_true : (a b c : Bool) → (a && b && c) ≡ true → (a ≡ true) × (b ≡ true) × (c ≡ true)
 three_true a b c h = (grind arith, grind arith, grind arith)
 
-pub legal_there : (g : GridData) (u : Cell) (d : Dir) → is_free g u ≡ true → can_move g u d ≡ true → Legal (free_place g) (place_of u) d
+pub legal_there : (g : GridData) (u : Cell) (d : Dir) → is_free g u ≡ true → can_move g u d ≡ true
+    → Legal (free_place g) (place_of u) d
 legal_there g u d f m = by_parity d
     (λ h.
     let t = three_true (is_open g u (turn Left d)) (is_open g u (turn Right d)) (is_open g u d) (sym (can_move-diagonal g u d f h) ∙ m) in
@@ -118,20 +122,24 @@ abbrev IsPriced : Cell → Option Cell → Cost → Type 0
 IsPriced u None c = ⊤
 IsPriced u (Some v) c = move_cost u v ≡ c
 
-in_column : (x y t : ℕ) → move_cost (record { x = x; y = y }) (record { x = x; y = t }) ≡ record { a = 1; b = 0 }
+in_column : (x y t : ℕ)
+    → move_cost (record { x = x; y = y }) (record { x = x; y = t }) ≡ record { a = 1; b = 0 }
 in_column x y t = let e : nat_eq x x ≡ true = grind (arith, nat_tests) in rw e refl
 
-in_row : (x z y : ℕ) → move_cost (record { x = x; y = y }) (record { x = z; y = y }) ≡ record { a = 1; b = 0 }
+in_row : (x z y : ℕ)
+    → move_cost (record { x = x; y = y }) (record { x = z; y = y }) ≡ record { a = 1; b = 0 }
 in_row x z y = let e : (nat_eq x z || nat_eq y y) ≡ true = grind (arith, nat_tests) in rw e refl
 
-across : (x y z t : ℕ) → (x ≡ z → ⊥) → (y ≡ t → ⊥) → move_cost (record { x = x; y = y }) (record { x = z; y = t }) ≡ record { a = 0; b = 1 }
+across : (x y z t : ℕ) → (x ≡ z → ⊥) → (y ≡ t → ⊥)
+    → move_cost (record { x = x; y = y }) (record { x = z; y = t }) ≡ record { a = 0; b = 1 }
 across x y z t h k = let e : (nat_eq x z || nat_eq y t) ≡ false = grind (arith, nat_tests) in rw e refl
 
 -- a move costs by its direction
 pub cost_there : (d : Dir) (u v : Cell) → ahead d u ≡ Some v → move_cost u v ≡ dir_cost d
 cost_there d u v h = subst (λ (o : Option Cell). IsPriced u o (dir_cost d)) h (by_dir u.x u.y d)
   where
-    by_dir : (x y : ℕ) (d : Dir) → IsPriced (record { x = x; y = y }) (ahead d (record { x = x; y = y })) (dir_cost d)
+    by_dir : (x y : ℕ) (d : Dir)
+        → IsPriced (record { x = x; y = y }) (ahead d (record { x = x; y = y })) (dir_cost d)
     by_dir x zero N = tt
     by_dir x (suc y) N = in_column x (suc y) y
     by_dir x zero NE = tt

@@ -33,7 +33,8 @@ pub run_cost-next : (d : Dir) (k : ℕ) → run_cost d (suc k) ≡ add_costs (di
 run_cost-next d k = by_parity d (λ h. rw h (same_cost _ _ (omega arith) (omega arith))) (λ h. rw h (same_cost _ _ (omega arith) (omega arith)))
 
 -- one move, then m, then the rest
-leg_priced : (d : Dir) (m : ℕ) (rest : Cost) → add_costs (run_cost d (1 + m)) rest ≡ add_costs (dir_cost d) (add_costs (run_cost d m) rest)
+leg_priced : (d : Dir) (m : ℕ) (rest : Cost)
+    → add_costs (run_cost d (1 + m)) rest ≡ add_costs (dir_cost d) (add_costs (run_cost d m) rest)
 leg_priced d m rest =
     ap (λ k. add_costs (run_cost d k) rest) (next m) ∙ ap (λ (c : Cost). add_costs c rest) (run_cost-next d m) ∙ add_costs-assoc (dir_cost d) (run_cost d m) rest
   where
@@ -55,25 +56,29 @@ module _ (explained : TurnsAreMarked) (g : GridData) (t : Cell) where
   further d v w e r = record { moves = suc r.moves; cell = r.cell; reached = rw e r.reached; holds = r.holds }
 
   -- a walk that goes on straight turns at a forced neighbour, or ends at the goal
-  straight_sees : (d : Dir) → is_diagonal d ≡ false → (v : Cell) (cells : List Cell) → FollowsRule g (By d) v cells → last_of v cells ≡ t → SeesSome d v
+  straight_sees : (d : Dir) → is_diagonal d ≡ false → (v : Cell) (cells : List Cell)
+      → FollowsRule g (By d) v cells → last_of v cells ≡ t → SeesSome d v
   straight_sees d h v [] f e = record { moves = 0; cell = v; reached = refl; holds = inl e }
   straight_sees d h v (w ∷ cells) (c, m, f) e = by_turn c m (explained g v d c m.allowed) f (λ k. straight_sees d h w cells k e)
     where
-      by_turn : (c : Dir) → IsAllowedMove g (By d) v w c → IsExplained g v d c → FollowsRule g (By c) w cells → (FollowsRule g (By d) w cells → SeesSome d w) → SeesSome d v
+      by_turn : (c : Dir) → IsAllowedMove g (By d) v w c → IsExplained g v d c
+          → FollowsRule g (By c) w cells → (FollowsRule g (By d) w cells → SeesSome d w) → SeesSome d v
       by_turn _ m same f next = further d v w (legal_leads g v w d (allowed_leads g (By d) v w d m)) (next f)
       by_turn _ m (component k s) f next = absurd (cc)
       by_turn c m (turns (forces _ k) _) f next = record { moves = 0; cell = v; reached = refl; holds = inr k }
       by_turn c m (turns (looks_out k s r) _) f next = absurd (cc)
 
   -- what is seen from w in a component, a move from v, makes v a stop
-  seen_stop : (d : Dir) (s : Side) (v w : Cell) → is_diagonal d ≡ true → legal_ahead g v (turn s d) ≡ Some w → SeesSome (turn s d) w → IsStop g t d v
+  seen_stop : (d : Dir) (s : Side) (v w : Cell) → is_diagonal d ≡ true
+      → legal_ahead g v (turn s d) ≡ Some w → SeesSome (turn s d) w → IsStop g t d v
   seen_stop d s v w h e r = elim r.holds [
     | inl k ↦ sees_goal h s (record { moves = suc r.moves; some = omega arith; cell = r.cell; reached = rw e r.reached; holds = k })
     | inr k ↦ marked (looks_out h s (record { moves = suc r.moves; some = omega arith; cell = r.cell; reached = rw e r.reached; holds = k }))
   ]
 
   -- a walk that came by d stops where it stands, or goes on in d
-  goes_on : (d : Dir) (v w : Cell) (cells : List Cell) → (c : Dir) → IsAllowedMove g (By d) v w c → IsExplained g v d c → FollowsRule g (By c) w cells → last_of w cells ≡ t
+  goes_on : (d : Dir) (v w : Cell) (cells : List Cell) → (c : Dir) → IsAllowedMove g (By d) v w c
+      → IsExplained g v d c → FollowsRule g (By c) w cells → last_of w cells ≡ t
       → IsStop g t d v ⊎ ((legal_ahead g v d ≡ Some w) × (ahead d v ≡ Some w) × FollowsRule g (By d) w cells)
   goes_on d v w cells _ m same f e = inr (legal_leads g v w d (allowed_leads g (By d) v w d m), m.leads, f)
   goes_on d v w cells _ m (component h s) f e =
@@ -94,7 +99,8 @@ module _ (explained : TurnsAreMarked) (g : GridData) (t : Cell) where
     pub fewer : length left ≤ length cells
 
   -- no stop after k moves either
-  none_yet : (x v : Cell) (d : Dir) (k : ℕ) → run_end g d k x ≡ Some v → (IsStop g t d v → ⊥) → NoneBelow (StopsAfter g t x d) 1 k → NoneBelow (StopsAfter g t x d) 1 (suc k)
+  none_yet : (x v : Cell) (d : Dir) (k : ℕ) → run_end g d k x ≡ Some v → (IsStop g t d v → ⊥)
+      → NoneBelow (StopsAfter g t x d) 1 k → NoneBelow (StopsAfter g t x d) 1 (suc k)
   none_yet x v d k r n b j l h s = elim (below j k (omega arith)) [
     | inl less ↦ b j l less s
     | inr at ↦ n (subst (λ (c : Cell). IsStop g t d c) (one_of s.cell v (sym s.reached ∙ ap (λ i. run_end g d i x) at ∙ r)) s.stops)
@@ -103,7 +109,8 @@ module _ (explained : TurnsAreMarked) (g : GridData) (t : Cell) where
       below : (j k : ℕ) → j ≤ k → (j < k) ⊎ (j ≡ k)
       below j k h = grind arith
 
-  stops_here : (x : Cell) (d : Dir) (k : ℕ) (v : Cell) (cells : List Cell) → 1 ≤ k → run_end g d k x ≡ Some v → NoneBelow (StopsAfter g t x d) 1 k → FollowsRule g (By d) v cells
+  stops_here : (x : Cell) (d : Dir) (k : ℕ) (v : Cell) (cells : List Cell) → 1 ≤ k
+      → run_end g d k x ≡ Some v → NoneBelow (StopsAfter g t x d) 1 k → FollowsRule g (By d) v cells
       → last_of v cells ≡ t → IsStop g t d v → IsNext x d k v cells
   stops_here x d k v cells i r b f e s =
       let plus : k + 0 ≡ k = omega arith in
@@ -119,7 +126,8 @@ module _ (explained : TurnsAreMarked) (g : GridData) (t : Cell) where
         fewer = omega arith;
       }
 
-  stops_later : (x : Cell) (d : Dir) (k : ℕ) (v w : Cell) (cells : List Cell) → ahead d v ≡ Some w → IsNext x d (suc k) w cells → IsNext x d k v (w ∷ cells)
+  stops_later : (x : Cell) (d : Dir) (k : ℕ) (v w : Cell) (cells : List Cell) → ahead d v ≡ Some w
+      → IsNext x d (suc k) w cells → IsNext x d k v (w ∷ cells)
   stops_later x d k v w cells a n =
       let plus : k + suc n.more ≡ suc k + n.more = omega arith in
       record {
@@ -134,7 +142,8 @@ module _ (explained : TurnsAreMarked) (g : GridData) (t : Cell) where
         fewer = (let less = n.fewer in omega arith);
       }
 
-  next_stop : (x : Cell) (d : Dir) (k : ℕ) (v : Cell) (cells : List Cell) → 1 ≤ k → run_end g d k x ≡ Some v → NoneBelow (StopsAfter g t x d) 1 k → FollowsRule g (By d) v cells
+  next_stop : (x : Cell) (d : Dir) (k : ℕ) (v : Cell) (cells : List Cell) → 1 ≤ k
+      → run_end g d k x ≡ Some v → NoneBelow (StopsAfter g t x d) 1 k → FollowsRule g (By d) v cells
       → last_of v cells ≡ t → IsNext x d k v cells
   next_stop x d k v [] i r b f e = stops_here x d k v [] i r b f e (at_goal e)
   next_stop x d k v (w ∷ cells) i r b (c, m, f) e = elim (IsStop-or_not g t d v) [
@@ -154,7 +163,8 @@ module _ (explained : TurnsAreMarked) (g : GridData) (t : Cell) where
     pub priced : cost ≡ cost_of (x ∷ cells)
 
   -- a jump and the chain after it
-  chain_joined : (by : Arrival) (x v : Cell) (d : Dir) (cells : List Cell) → IsAllowedMove g by x v d → (n : IsNext x d 1 v cells) → HasChainAlong (By d) n.cell n.left → HasChainAlong by x (v ∷ cells)
+  chain_joined : (by : Arrival) (x v : Cell) (d : Dir) (cells : List Cell) → IsAllowedMove g by x v d
+      → (n : IsNext x d 1 v cells) → HasChainAlong (By d) n.cell n.left → HasChainAlong by x (v ∷ cells)
   chain_joined by x v d cells m n rest = record {
     states = record { cell = n.cell; arrival = By d } ∷ rest.states;
     cost = add_costs (run_cost d (1 + n.more)) rest.cost;
@@ -163,7 +173,8 @@ module _ (explained : TurnsAreMarked) (g : GridData) (t : Cell) where
     priced = rw (cost_there d x v m.leads, n.priced, rest.priced) (leg_priced d n.more (cost_of (n.cell ∷ n.left)));
   }
 
-  chain_along : (n : ℕ) (by : Arrival) (x : Cell) (cells : List Cell) → length cells < n → FollowsRule g by x cells → last_of x cells ≡ t → HasChainAlong by x cells
+  chain_along : (n : ℕ) (by : Arrival) (x : Cell) (cells : List Cell) → length cells < n
+      → FollowsRule g by x cells → last_of x cells ≡ t → HasChainAlong by x cells
   chain_along zero by x cells l f e = absurd (omega arith)
   chain_along (suc n) by x [] l f e = record { states = []; cost = no_cost; chain = stays _; ends = e; priced = refl }
   chain_along (suc n) by x (v ∷ cells) l (d, m, f) e =

@@ -33,11 +33,14 @@ pub record Leads (g : GridData) (u v : Cell) (d : Dir) : Type 0 where
 pub leads_from : (g : GridData) (u : Cell) (d : Dir) → can_move g u d ≡ true → (v : Cell) × Leads g u v d
 leads_from g u d h = by_cell (ahead d u) refl h
   where
-    by_test : (v : Cell) (b : Bool) → ahead d u ≡ Some v → is_legal g u v ≡ b → is_some (if b then Some v else None) ≡ true → (v : Cell) × Leads g u v d
+    by_test : (v : Cell) (b : Bool) → ahead d u ≡ Some v → is_legal g u v ≡ b
+        → is_some (if b then Some v else None) ≡ true → (v : Cell) × Leads g u v d
     by_test v true e l k = (v, record { ahead_is = e; legal = l; can = h })
     by_test v false e l k = absurd (cc)
 
-    by_cell : (o : Option Cell) → ahead d u ≡ o → is_some (option_and_then (λ v. if is_legal g u v then Some v else None) o) ≡ true → (v : Cell) × Leads g u v d
+    by_cell : (o : Option Cell) → ahead d u ≡ o
+        → is_some (option_and_then (λ v. if is_legal g u v then Some v else None) o) ≡ true
+        → (v : Cell) × Leads g u v d
     by_cell None e k = absurd (cc)
     by_cell (Some v) e k = by_test v (is_legal g u v) e refl k
 
@@ -78,20 +81,23 @@ pub record IsWalked (g : GridData) (by : Arrival) (u : Cell) (dirs : List Dir) :
   pub pruned : FollowsRule g by u cells
 
 -- the cell behind on a side is where a quarter from the cell before leads
-behind_there : (g : GridData) (u v : Cell) (s : Side) (d : Dir) → ahead d u ≡ Some v → is_diagonal d ≡ false → is_open g v (behind s d) ≡ free_place g (move (quarter s d) (place_of u))
+behind_there : (g : GridData) (u v : Cell) (s : Side) (d : Dir) → ahead d u ≡ Some v
+    → is_diagonal d ≡ false → is_open g v (behind s d) ≡ free_place g (move (quarter s d) (place_of u))
 behind_there g u v s d h k =
     open_there g v (behind s d) ∙ ap (λ (q : Place). free_place g (move (behind s d) q)) (sym (ahead_there d u v h))
     ∙ ap (λ (q : Place). free_place g q) (straight_back s d (place_of u) k)
 
 -- the rule of places is that of cells
-kept : (g : GridData) (u v : Cell) (d e : Dir) → ahead d u ≡ Some v → IsAllowed (free_place g) (place_of u) d e → is_kept g v (By d) e ≡ true
+kept : (g : GridData) (u v : Cell) (d e : Dir) → ahead d u ≡ Some v
+    → IsAllowed (free_place g) (place_of u) d e → is_kept g v (By d) e ≡ true
 kept g u v d _ h (straight_on _) = by_parity d (λ k. rw k (at_dir (λ d. is_kept_diagonal d d) refl d)) (λ k. rw k (kept-on g v d))
 kept g u v d _ h (component s _ k) = rw k (at_both (λ s d. is_kept_diagonal d (turn s d)) refl s d)
 kept g u v d _ h (beside s _ k b) = rw (k, kept-quarter g v s d, behind_there g u v s d h k, b) refl
 kept g u v d _ h (past s _ k b) = rw (k, kept-eighth g v s d, behind_there g u v s d h k, b) refl
 
 -- a first move and a walk
-joined : (g : GridData) (by : Arrival) (u v : Cell) (d : Dir) (ds : List Dir) → Leads g u v d → is_kept g u by d ≡ true → IsWalked g (By d) v ds → IsWalked g by u (d ∷ ds)
+joined : (g : GridData) (by : Arrival) (u v : Cell) (d : Dir) (ds : List Dir) → Leads g u v d
+    → is_kept g u by d ≡ true → IsWalked g (By d) v ds → IsWalked g by u (d ∷ ds)
 joined g by u v d ds l k rest = record {
   cells = v ∷ rest.cells;
   walks = rw (l.legal, rest.walks) refl;
@@ -101,7 +107,8 @@ joined g by u v d ds l k rest = record {
 }
 
 -- directions from v, to which d led from u
-walked_after : (g : GridData) (u v : Cell) (d : Dir) (ds : List Dir) → ahead d u ≡ Some v → is_free g v ≡ true → Walks (Legal (free_place g)) (place_of v) ds
+walked_after : (g : GridData) (u v : Cell) (d : Dir) (ds : List Dir) → ahead d u ≡ Some v
+    → is_free g v ≡ true → Walks (Legal (free_place g)) (place_of v) ds
     → AllowedAfter (IsAllowed (free_place g)) (place_of u) d ds → IsWalked g (By d) v ds
 walked_after g u v d [] h f w a = record { cells = []; walks = f; ends = refl; priced = refl; pruned = tt }
 walked_after g u v d (e ∷ es) h f w a =
@@ -113,7 +120,9 @@ walked_after g u v d (e ∷ es) h f w a =
     joined g (By d) v l.0 e es l.1 (kept g u v d e h a.0) rest
 
 -- directions from the start
-walked : (g : GridData) (s : Cell) (ds : List Dir) → is_free g s ≡ true → Walks (Legal (free_place g)) (place_of s) ds → IsCanonical (IsAllowed (free_place g)) (place_of s) ds → IsWalked g Start s ds
+walked : (g : GridData) (s : Cell) (ds : List Dir) → is_free g s ≡ true
+    → Walks (Legal (free_place g)) (place_of s) ds
+    → IsCanonical (IsAllowed (free_place g)) (place_of s) ds → IsWalked g Start s ds
 walked g s [] f w c = record { cells = []; walks = f; ends = refl; priced = refl; pruned = tt }
 walked g s (d ∷ ds) f w c =
     let l = leads_from g s d (can_move_there g s d f w.0) in
@@ -122,7 +131,8 @@ walked g s (d ∷ ds) f w c =
     joined g Start s l.0 d ds l.1 refl rest
 
 -- a walk begins on a free cell
-pub start_free : (g : GridData) (s : Cell) (cells : List Cell) → is_walk g (s ∷ cells) ≡ true → is_free g s ≡ true
+pub start_free : (g : GridData) (s : Cell) (cells : List Cell) → is_walk g (s ∷ cells) ≡ true
+    → is_free g s ≡ true
 start_free g s [] w = w
 start_free g s (v ∷ cells) w = (legal_is g s v (grind arith)).source
 

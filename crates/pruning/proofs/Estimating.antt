@@ -9,7 +9,8 @@ use Rattle.grid_moves.specs.Points.{estimate}
 use Rattle.grid_moves.proofs.Consistent.{estimate_falls, estimate_nothing}
 use Rattle.pruning.specs.Laws.{EstimateIsConsistent}
 
-below : (g : GridData) (t u : Cell) (cells : List Cell) → is_walk g (u ∷ cells) ≡ true → last_of u cells ≡ t → Most (estimate u t) (cost_of (u ∷ cells))
+below : (g : GridData) (t u : Cell) (cells : List Cell) → is_walk g (u ∷ cells) ≡ true
+    → last_of u cells ≡ t → Most (estimate u t) (cost_of (u ∷ cells))
 below g t u [] w e = Most-same (ap (λ (c : Cell). estimate c t) e ∙ estimate_nothing t)
 below g t u (v ∷ cells) w e =
     let l : is_legal g u v ≡ true = grind arith in

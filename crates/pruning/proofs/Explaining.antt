@@ -31,21 +31,26 @@ module _ (g : GridData) (x : Cell) where
   forced_by Right d h = rw h refl
   forced_by Left d h = let either : (is_forced_on g x d Right || true) ≡ true = grind arith in rw h either
 
-  marked_by : (s : Side) (d : Dir) → is_diagonal d ≡ false → is_blocked_behind g x d s ≡ true → can_move g x (quarter s d) ≡ true → IsMarked g x d
+  marked_by : (s : Side) (d : Dir) → is_diagonal d ≡ false → is_blocked_behind g x d s ≡ true
+      → can_move g x (quarter s d) ≡ true → IsMarked g x d
   marked_by s d h b m = forces h (forced_by s d (rw (b, m) refl))
 
   -- what pruning keeps after a diagonal, and after a straight move
-  kept_diagonal : (d e : Dir) → is_diagonal d ≡ true → is_kept g x (By d) e ≡ true → is_kept_diagonal d e ≡ true
+  kept_diagonal : (d e : Dir) → is_diagonal d ≡ true → is_kept g x (By d) e ≡ true
+      → is_kept_diagonal d e ≡ true
   kept_diagonal d e h k = rw h at k
 
-  kept_straight : (d e : Dir) → is_diagonal d ≡ false → is_kept g x (By d) e ≡ true → is_kept_straight g x d e ≡ true
+  kept_straight : (d e : Dir) → is_diagonal d ≡ false → is_kept g x (By d) e ≡ true
+      → is_kept_straight g x d e ≡ true
   kept_straight d e h k = rw h at k
 
   -- no turn half-way back or back
-  never_kept : (d e : Dir) → turns_to Right d e ≡ false → turns_to Left d e ≡ false → is_dir e d ≡ false → is_kept_straight g x d e ≡ true → ⊥
+  never_kept : (d e : Dir) → turns_to Right d e ≡ false → turns_to Left d e ≡ false → is_dir e d ≡ false
+      → is_kept_straight g x d e ≡ true → ⊥
   never_kept d e p q r k = let none : is_kept_straight g x d e ≡ false = rw (p, q, r) refl in absurd (cc)
 
-  by_turn : (d e : Dir) → Turned d e → is_kept g x (By d) e ≡ true → can_move g x e ≡ true → IsExplained g x d e
+  by_turn : (d e : Dir) → Turned d e → is_kept g x (By d) e ≡ true → can_move g x e ≡ true
+      → IsExplained g x d e
   by_turn d _ ahead k m = same
   by_turn d _ (eighth s) k m = by_parity d (λ h. component h s) (λ h.
       let b : is_blocked_behind g x d s ≡ true = sym (kept-eighth g x s d) ∙ kept_straight d (turn s d) h k in

@@ -14,7 +14,8 @@ module _ (Legal : Place → Dir → Type 0) (Allowed : Place → Dir → Dir →
     pub ends : end_of p instead ≡ end_of p ds
     pub better : IsBetter instead ds
 
-  put_in : (p : Place) (d e : Dir) (ds : List Dir) → Walks Legal (move e (move d p)) ds → Replaces Legal p d e → HasBetter p (d ∷ e ∷ ds)
+  put_in : (p : Place) (d e : Dir) (ds : List Dir) → Walks Legal (move e (move d p)) ds
+      → Replaces Legal p d e → HasBetter p (d ∷ e ∷ ds)
   put_in p d e ds w r = record {
     instead = r.instead ++ ds;
     walks = Walks-append Legal p r.instead ds r.walks (subst (λ (q : Place). Walks Legal q ds) (sym r.ends) w);
@@ -42,7 +43,9 @@ module _ (Legal : Place → Dir → Type 0) (Allowed : Place → Dir → Dir →
   pub canonical_walk : (ds : List Dir) (p : Place) → Walks Legal p ds → HasCanonical p ds
   canonical_walk = Smaller-induction (λ ds. (p : Place) → Walks Legal p ds → HasCanonical p ds) (λ ds next p w. by_case ds next p w (improve ds p w))
     where
-      by_case : (ds : List Dir) → ((es : List Dir) → Smaller es ds → (p : Place) → Walks Legal p es → HasCanonical p es) → (p : Place) → Walks Legal p ds
+      by_case : (ds : List Dir)
+          → ((es : List Dir) → Smaller es ds → (p : Place) → Walks Legal p es → HasCanonical p es)
+          → (p : Place) → Walks Legal p ds
           → IsCanonical Allowed p ds ⊎ HasBetter p ds → HasCanonical p ds
       by_case ds next p w (inl c) = record { instead = ds; walks = w; ends = refl; cost = Most-same refl; canonical = c }
       by_case ds next p w (inr b) =

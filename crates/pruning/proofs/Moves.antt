@@ -15,7 +15,8 @@ abbrev pub cell : ℕ → ℕ → Cell
 cell x y = record { x = x; y = y }
 
 -- a move to a free neighbour is decided by the corners
-legal_test : (g : GridData) (x y z t : ℕ) → is_free g (cell x y) ≡ true → are_neighbours (cell x y) (cell z t) ≡ true
+legal_test : (g : GridData) (x y z t : ℕ) → is_free g (cell x y) ≡ true
+    → are_neighbours (cell x y) (cell z t) ≡ true
     → is_legal g (cell x y) (cell z t) ≡ (is_free g (cell z t) && is_free g (cell x t) && is_free g (cell z y))
 legal_test g x y z t f n = rw (n, f) refl
 
@@ -23,25 +24,32 @@ some_if : (b : Bool) (c : Cell) → is_some (if b then Some c else None) ≡ b
 some_if true c = refl
 some_if false c = refl
 
-neighbours : (x y z t : ℕ) → x ≤ z + 1 → z ≤ x + 1 → y ≤ t + 1 → t ≤ y + 1 → ((x ≡ z) → (y ≡ t) → ⊥) → are_neighbours (cell x y) (cell z t) ≡ true
+neighbours : (x y z t : ℕ) → x ≤ z + 1 → z ≤ x + 1 → y ≤ t + 1 → t ≤ y + 1 → ((x ≡ z) → (y ≡ t) → ⊥)
+    → are_neighbours (cell x y) (cell z t) ≡ true
 neighbours x y z t a b c d n = grind (arith, nat_tests)
 
 -- a straight move
-aside : (g : GridData) (x y z : ℕ) → is_free g (cell x y) ≡ true → x ≤ z + 1 → z ≤ x + 1 → (x ≡ z → ⊥) → is_legal g (cell x y) (cell z y) ≡ is_free g (cell z y)
+aside : (g : GridData) (x y z : ℕ) → is_free g (cell x y) ≡ true → x ≤ z + 1 → z ≤ x + 1 → (x ≡ z → ⊥)
+    → is_legal g (cell x y) (cell z y) ≡ is_free g (cell z y)
 aside g x y z f a b n = let near = neighbours x y z y a b (omega arith) (omega arith) (λ e _. n e) in grind arith
 
-along : (g : GridData) (x y t : ℕ) → is_free g (cell x y) ≡ true → y ≤ t + 1 → t ≤ y + 1 → (y ≡ t → ⊥) → is_legal g (cell x y) (cell x t) ≡ is_free g (cell x t)
+along : (g : GridData) (x y t : ℕ) → is_free g (cell x y) ≡ true → y ≤ t + 1 → t ≤ y + 1 → (y ≡ t → ⊥)
+    → is_legal g (cell x y) (cell x t) ≡ is_free g (cell x t)
 along g x y t f a b n = let near = neighbours x y x t (omega arith) (omega arith) a b (λ _ e. n e) in grind arith
 
 -- a diagonal move
-across : (g : GridData) (x y z t : ℕ) → is_free g (cell x y) ≡ true → x ≤ z + 1 → z ≤ x + 1 → y ≤ t + 1 → t ≤ y + 1 → (x ≡ z → ⊥) → is_legal g (cell x y) (cell z t) ≡ (is_free g (cell x t) && is_free g (cell z y) && is_free g (cell z t))
+across : (g : GridData) (x y z t : ℕ) → is_free g (cell x y) ≡ true → x ≤ z + 1 → z ≤ x + 1 → y ≤ t + 1
+    → t ≤ y + 1 → (x ≡ z → ⊥)
+    → is_legal g (cell x y) (cell z t) ≡ (is_free g (cell x t) && is_free g (cell z y) && is_free g (cell z t))
 across g x y z t f a b c d n = let near = neighbours x y z t a b c d (λ e _. n e) in grind arith
 
 -- what lies ahead decides a straight move
-pub can_move-straight : (g : GridData) (c : Cell) (d : Dir) → is_free g c ≡ true → is_diagonal d ≡ false → can_move g c d ≡ is_open g c d
+pub can_move-straight : (g : GridData) (c : Cell) (d : Dir) → is_free g c ≡ true → is_diagonal d ≡ false
+    → can_move g c d ≡ is_open g c d
 can_move-straight g c d f h = by_dir c.x c.y d f h
   where
-    by_dir : (x y : ℕ) (d : Dir) → is_free g (cell x y) ≡ true → is_diagonal d ≡ false → can_move g (cell x y) d ≡ is_open g (cell x y) d
+    by_dir : (x y : ℕ) (d : Dir) → is_free g (cell x y) ≡ true → is_diagonal d ≡ false
+        → can_move g (cell x y) d ≡ is_open g (cell x y) d
     by_dir x zero N f h = refl
     by_dir x (suc t) N f h = some_if _ _ ∙ along g x (suc t) t f (omega arith) (omega arith) (λ e. omega arith)
     by_dir x y E f h = some_if _ _ ∙ aside g x y (x + 1) f (omega arith) (omega arith) (λ e. omega arith)

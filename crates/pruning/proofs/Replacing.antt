@@ -17,15 +17,18 @@ pub record Legal (free : Place → Bool) (p : Place) (d : Dir) : Type 0 where
 pub data IsAllowed (free : Place → Bool) (p : Place) : Dir → Dir → Type 0 where
   straight_on : (d : Dir) → IsAllowed free p d d
   component : (s : Side) (d : Dir) → is_diagonal d ≡ true → IsAllowed free p d (turn s d)
-  beside : (s : Side) (d : Dir) → is_diagonal d ≡ false → free (move (quarter s d) p) ≡ false → IsAllowed free p d (quarter s d)
-  past : (s : Side) (d : Dir) → is_diagonal d ≡ false → free (move (quarter s d) p) ≡ false → IsAllowed free p d (turn s d)
+  beside : (s : Side) (d : Dir) → is_diagonal d ≡ false → free (move (quarter s d) p) ≡ false
+      → IsAllowed free p d (quarter s d)
+  past : (s : Side) (d : Dir) → is_diagonal d ≡ false → free (move (quarter s d) p) ≡ false
+      → IsAllowed free p d (turn s d)
 
 module _ (free : Place → Bool) where
   is_free : {p q : Place} → p ≡ q → free p ≡ true → free q ≡ true
   is_free {p} {q} e h = subst (λ (r : Place). free r ≡ true) e h
 
   -- the diagonal between two free straight neighbours is legal where it ends on a free place
-  corner : (p : Place) (s : Side) (d : Dir) → free p ≡ true → free (move d p) ≡ true → free (move (quarter s d) p) ≡ true → free (move (turn s d) p) ≡ true → Legal free p (turn s d)
+  corner : (p : Place) (s : Side) (d : Dir) → free p ≡ true → free (move d p) ≡ true
+      → free (move (quarter s d) p) ≡ true → free (move (turn s d) p) ≡ true → Legal free p (turn s d)
   corner p s d a b c e = record {
     source = a;
     target = e;
@@ -33,12 +36,14 @@ module _ (free : Place → Bool) where
   }
 
   -- a straight move between free places is legal
-  along : (p : Place) (d : Dir) → is_diagonal d ≡ false → free p ≡ true → free (move d p) ≡ true → Legal free p d
+  along : (p : Place) (d : Dir) → is_diagonal d ≡ false → free p ≡ true → free (move d p) ≡ true
+      → Legal free p d
   along p d h a b = record { source = a; target = b; sides = λ e. absurd (cc) }
 
   module _ (p : Place) (d : Dir) (l : Legal free p d) where
     -- a straight move and then an eighth: the diagonal goes first
-    swapped : (s : Side) → is_diagonal d ≡ false → free (move (quarter s d) p) ≡ true → Legal free (move d p) (turn s d) → Replaces (Legal free) p d (turn s d)
+    swapped : (s : Side) → is_diagonal d ≡ false → free (move (quarter s d) p) ≡ true
+        → Legal free (move d p) (turn s d) → Replaces (Legal free) p d (turn s d)
     swapped s h c m =
         let g : is_diagonal (turn s d) ≡ true = turn_parity s d ∙ ap not h in
         let t : free (move (turn s d) p) ≡ true = is_free (straight_side s d p h) (m.sides g s) in
@@ -51,7 +56,8 @@ module _ (free : Place → Bool) where
         }
 
     -- a straight move and then a quarter: the diagonal between
-    cut : (s : Side) → is_diagonal d ≡ false → free (move (quarter s d) p) ≡ true → Legal free (move d p) (quarter s d) → Replaces (Legal free) p d (quarter s d)
+    cut : (s : Side) → is_diagonal d ≡ false → free (move (quarter s d) p) ≡ true
+        → Legal free (move d p) (quarter s d) → Replaces (Legal free) p d (quarter s d)
     cut s h c m =
         let g : is_diagonal (turn s d) ≡ true = turn_parity s d ∙ ap not h in
         let k : is_diagonal (quarter s d) ≡ false = quarter_parity s d ∙ h in
@@ -64,7 +70,8 @@ module _ (free : Place → Bool) where
         }
 
     -- a diagonal move and then a quarter: the component twice
-    halved : (s : Side) → is_diagonal d ≡ true → Legal free (move d p) (quarter s d) → Replaces (Legal free) p d (quarter s d)
+    halved : (s : Side) → is_diagonal d ≡ true → Legal free (move d p) (quarter s d)
+        → Replaces (Legal free) p d (quarter s d)
     halved s h m =
         let g : is_diagonal (turn s d) ≡ false = turn_parity s d ∙ ap not h in
         let k : is_diagonal (quarter s d) ≡ true = quarter_parity s d ∙ h in
@@ -77,7 +84,8 @@ module _ (free : Place → Bool) where
         }
 
     -- a straight move and then a diagonal back: the straight move aside
-    side_only : (s : Side) → is_diagonal d ≡ false → Legal free (move d p) (behind s d) → Replaces (Legal free) p d (behind s d)
+    side_only : (s : Side) → is_diagonal d ≡ false → Legal free (move d p) (behind s d)
+        → Replaces (Legal free) p d (behind s d)
     side_only s h m =
         let k : is_diagonal (quarter s d) ≡ false = quarter_parity s d ∙ h in
         let j : is_diagonal (behind s d) ≡ true = turn_parity s (quarter s d) ∙ ap not k in
@@ -90,7 +98,8 @@ module _ (free : Place → Bool) where
         }
 
     -- a diagonal move and then a straight one back: the other component
-    component_only : (s : Side) → is_diagonal d ≡ true → Legal free (move d p) (behind s d) → Replaces (Legal free) p d (behind s d)
+    component_only : (s : Side) → is_diagonal d ≡ true → Legal free (move d p) (behind s d)
+        → Replaces (Legal free) p d (behind s d)
     component_only s h m =
         let g : is_diagonal (turn s d) ≡ false = turn_parity s d ∙ ap not h in
         let k : is_diagonal (quarter s d) ≡ true = quarter_parity s d ∙ h in
@@ -116,7 +125,8 @@ module _ (free : Place → Bool) where
       };
     }
 
-    by_turn : (e : Dir) → Turned d e → Legal free (move d p) e → IsAllowed free p d e ⊎ Replaces (Legal free) p d e
+    by_turn : (e : Dir) → Turned d e → Legal free (move d p) e
+        → IsAllowed free p d e ⊎ Replaces (Legal free) p d e
     by_turn _ ahead m = inl (straight_on d)
     by_turn _ (eighth s) m = by_parity d (λ g. inl (component s d g)) (λ h. by_test (free (move (quarter s d) p)) (λ c. inr (swapped s h c m)) (λ c. inl (past s d h c)))
     by_turn _ (side s) m = by_parity d (λ g. inr (halved s g m)) (λ h. by_test (free (move (quarter s d) p)) (λ c. inr (cut s h c m)) (λ c. inl (beside s d h c)))

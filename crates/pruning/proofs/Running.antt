@@ -116,7 +116,8 @@ pub steps_moved : (d : Dir) (k : ℕ) (u v : Cell) → AreMoved d k u v → step
 steps_moved d k u v m = rw (apart_moved (column_trend d) k u.x v.x m.0, apart_moved (row_trend d) k u.y v.y m.1) (longer d k)
 
 -- one of the three kinds of lines
-on_line : (d : Dir) (k : ℕ) (u v : Cell) → AreMoved d k u v → (nat_eq u.x v.x || nat_eq u.y v.y || nat_eq (span (column_trend d) k) (span (row_trend d) k)) ≡ true
+on_line : (d : Dir) (k : ℕ) (u v : Cell) → AreMoved d k u v
+    → (nat_eq u.x v.x || nat_eq u.y v.y || nat_eq (span (column_trend d) k) (span (row_trend d) k)) ≡ true
 on_line N k u v m = let p = m.0 in grind (arith, nat_tests)
 on_line NE k u v m = grind (arith, nat_tests)
 on_line E k u v m = let p = m.1 in grind (arith, nat_tests)
@@ -152,7 +153,8 @@ run_of_none g d x u f e = subst (λ (v : Cell). IsRun g d 0 x v) e (record {
   moved = (not_moved (column_trend d) x.x, not_moved (row_trend d) x.y);
 })
 
-run_with_one : (g : GridData) (d : Dir) (k : ℕ) (x y u : Cell) → Leads g x y d → IsRun g d k y u → IsRun g d (suc k) x u
+run_with_one : (g : GridData) (d : Dir) (k : ℕ) (x y u : Cell) → Leads g x y d → IsRun g d k y u
+    → IsRun g d (suc k) x u
 run_with_one g d k x y u l r =
     let m = ahead_moved d x y l.ahead_is in
     let next : step_toward x u ≡ y = same_cell (step_toward x u) y (toward_moved (column_trend d) k x.x y.x u.x m.0 r.moved.0) (toward_moved (row_trend d) k x.y y.y u.y m.1 r.moved.1) in
@@ -166,11 +168,14 @@ run_with_one g d k x y u l r =
       moved = (moved_on (column_trend d) k x.x y.x u.x m.0 r.moved.0, moved_on (row_trend d) k x.y y.y u.y m.1 r.moved.1);
     }
 
-pub run_walked : (g : GridData) (d : Dir) (k : ℕ) (x u : Cell) → is_free g x ≡ true → run_end g d k x ≡ Some u → IsRun g d k x u
+pub run_walked : (g : GridData) (d : Dir) (k : ℕ) (x u : Cell) → is_free g x ≡ true
+    → run_end g d k x ≡ Some u → IsRun g d k x u
 run_walked g d zero x u f h = run_of_none g d x u f (one_of x u h)
 run_walked g d (suc k) x u f h = by_cell (legal_ahead g x d) refl h (λ y l h. run_with_one g d k x y u l (run_walked g d k y u (legal_is g x y l.legal).target h))
   where
-    by_cell : (o : Option Cell) → legal_ahead g x d ≡ o → option_and_then (λ y. run_end g d k y) o ≡ Some u → ((y : Cell) → Leads g x y d → run_end g d k y ≡ Some u → IsRun g d (suc k) x u)
+    by_cell : (o : Option Cell) → legal_ahead g x d ≡ o
+        → option_and_then (λ y. run_end g d k y) o ≡ Some u
+        → ((y : Cell) → Leads g x y d → run_end g d k y ≡ Some u → IsRun g d (suc k) x u)
         → IsRun g d (suc k) x u
     by_cell None e h next = absurd (cc)
     by_cell (Some y) e h next = next y (leads_legal g x y d e) h

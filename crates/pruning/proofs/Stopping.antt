@@ -23,18 +23,21 @@ module _ (g : GridData) (goal : Cell) (d : Dir) (v : Cell) where
   abbrev is_seen : Side → Cell → Bool
   is_seen s u = is_forced g u (turn s d) || is_same u goal
 
-  seen_stops : is_diagonal d ≡ true → (s : Side) → HoldsOnRun g (turn s d) v (λ u. is_seen s u ≡ true) → IsStop g goal d v
+  seen_stops : is_diagonal d ≡ true → (s : Side) → HoldsOnRun g (turn s d) v (λ u. is_seen s u ≡ true)
+      → IsStop g goal d v
   seen_stops h s r = by_test (is_forced g r.cell (turn s d))
       (λ f. marked (looks_out h s (record { moves = r.moves; some = r.some; cell = r.cell; reached = r.reached; holds = f })))
       (λ f. sees_goal h s (record { moves = r.moves; some = r.some; cell = r.cell; reached = r.reached; holds = is_same-cell r.cell goal (let held = r.holds in grind arith) }))
 
-  straight_stop : is_diagonal d ≡ false → is_same v goal ≡ false → is_forced g v d ≡ false → IsStop g goal d v → ⊥
+  straight_stop : is_diagonal d ≡ false → is_same v goal ≡ false → is_forced g v d ≡ false
+      → IsStop g goal d v → ⊥
   straight_stop h n f (at_goal e) = let k : is_same v goal ≡ true = rw e (is_same-itself goal) in absurd (cc)
   straight_stop h n f (marked (forces _ k)) = absurd (cc)
   straight_stop h n f (marked (looks_out k s r)) = absurd (cc)
   straight_stop h n f (sees_goal k s r) = absurd (cc)
 
-  diagonal_stop : is_diagonal d ≡ true → is_same v goal ≡ false → ((s : Side) → HoldsOnRun g (turn s d) v (λ u. is_seen s u ≡ true) → ⊥) → IsStop g goal d v → ⊥
+  diagonal_stop : is_diagonal d ≡ true → is_same v goal ≡ false
+      → ((s : Side) → HoldsOnRun g (turn s d) v (λ u. is_seen s u ≡ true) → ⊥) → IsStop g goal d v → ⊥
   diagonal_stop h n f (at_goal e) = let k : is_same v goal ≡ true = rw e (is_same-itself goal) in absurd (cc)
   diagonal_stop h n f (marked (forces k _)) = absurd (cc)
   diagonal_stop h n f (marked (looks_out k s r)) = f s (record { moves = r.moves; some = r.some; cell = r.cell; reached = r.reached; holds = rw r.holds refl })
@@ -52,7 +55,8 @@ module _ (g : GridData) (goal : Cell) (d : Dir) (v : Cell) where
       (λ h. by_test (is_forced g v d) (λ f. inl (marked (forces h f))) (λ f. inr (straight_stop h n f))))
 
 -- what an allowed move leads to
-pub allowed_leads : (g : GridData) (by : Arrival) (u v : Cell) (d : Dir) → IsAllowedMove g by u v d → Leads g u v d
+pub allowed_leads : (g : GridData) (by : Arrival) (u v : Cell) (d : Dir) → IsAllowedMove g by u v d
+    → Leads g u v d
 allowed_leads g by u v d m =
     let can : can_move g u d ≡ true = (let a = m.allowed in grind arith) in
     let l = leads_from g u d can in

@@ -31,7 +31,8 @@ pub at_side : (test : Side → Bool) → each_side test ≡ true → (s : Side) 
 at_side test h Right = grind arith
 at_side test h Left = grind arith
 
-pub at_both : (test : Side → Dir → Bool) → each_side (λ s. each_dir (test s)) ≡ true → (s : Side) (d : Dir) → test s d ≡ true
+pub at_both : (test : Side → Dir → Bool) → each_side (λ s. each_dir (test s)) ≡ true
+    → (s : Side) (d : Dir) → test s d ≡ true
 at_both test h s d = at_dir (test s) (at_side (λ s. each_dir (test s)) h s) d
 
 -- d and e together are f
@@ -62,21 +63,25 @@ pub moved_both : (d e : Dir) (p : Place) → move e (move d p) ≡ move d (move 
 moved_both d e p = same_place _ _ (omega (arith, ints)) (omega (arith, ints))
 
 -- after a straight move, a move back to a side is one to that side, and one to a side is one between
-pub straight_back : (s : Side) (d : Dir) (p : Place) → is_diagonal d ≡ false → move (behind s d) (move d p) ≡ move (quarter s d) p
+pub straight_back : (s : Side) (d : Dir) (p : Place) → is_diagonal d ≡ false
+    → move (behind s d) (move d p) ≡ move (quarter s d) p
 straight_back s d p h = moved d _ _ p (one_true (is_diagonal d) _ (at_both (λ s d. is_diagonal d || adds d (behind s d) (quarter s d)) refl s d) h)
 
-pub straight_side : (s : Side) (d : Dir) (p : Place) → is_diagonal d ≡ false → move (quarter s d) (move d p) ≡ move (turn s d) p
+pub straight_side : (s : Side) (d : Dir) (p : Place) → is_diagonal d ≡ false
+    → move (quarter s d) (move d p) ≡ move (turn s d) p
 straight_side s d p h = moved d _ _ p (one_true (is_diagonal d) _ (at_both (λ s d. is_diagonal d || adds d (quarter s d) (turn s d)) refl s d) h)
 
 -- after a diagonal move, a straight move back to a side is the one component
-pub diagonal_back : (s : Side) (d : Dir) (p : Place) → is_diagonal d ≡ true → move (behind s d) (move d p) ≡ move (turn s d) p
+pub diagonal_back : (s : Side) (d : Dir) (p : Place) → is_diagonal d ≡ true
+    → move (behind s d) (move d p) ≡ move (turn s d) p
 diagonal_back s d p h = moved d _ _ p (one_true (not (is_diagonal d)) _ (at_both (λ s d. not (is_diagonal d) || adds d (behind s d) (turn s d)) refl s d) (ap not h))
 
 -- after a diagonal move, a quarter to a side is twice the component
 abbrev pub doubles : Dir → Dir → Dir → Bool
 doubles d e f = int_eq (columns d +ℤ columns e) (columns f +ℤ columns f) && int_eq (rows d +ℤ rows e) (rows f +ℤ rows f)
 
-pub diagonal_side : (s : Side) (d : Dir) (p : Place) → is_diagonal d ≡ true → move (quarter s d) (move d p) ≡ move (turn s d) (move (turn s d) p)
+pub diagonal_side : (s : Side) (d : Dir) (p : Place) → is_diagonal d ≡ true
+    → move (quarter s d) (move d p) ≡ move (turn s d) (move (turn s d) p)
 diagonal_side s d p h =
     let f : Dir = turn s d in
     let both = both_true (int_eq (columns d +ℤ columns (quarter s d)) (columns (turn s d) +ℤ columns (turn s d))) (int_eq (rows d +ℤ rows (quarter s d)) (rows (turn s d) +ℤ rows (turn s d))) (one_true (not (is_diagonal d)) _ (at_both (λ s d. not (is_diagonal d) || doubles d (quarter s d) (turn s d)) refl s d) (ap not h)) in

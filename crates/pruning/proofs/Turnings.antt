@@ -44,7 +44,8 @@ places (d ∷ ds) = (price ds).b + places ds
 pub data Smaller : List Dir → List Dir → Type 0 where
   shorter : {es ds : List Dir} → length es < length ds → Smaller es ds
   straighter : {es ds : List Dir} → length es ≡ length ds → (price es).b < (price ds).b → Smaller es ds
-  earlier : {es ds : List Dir} → length es ≡ length ds → (price es).b ≡ (price ds).b → places es < places ds → Smaller es ds
+  earlier : {es ds : List Dir} → length es ≡ length ds → (price es).b ≡ (price ds).b
+      → places es < places ds → Smaller es ds
 
 -- of no greater cost, and smaller
 pub record IsBetter (es ds : List Dir) : Type 0 where
@@ -77,7 +78,8 @@ pub end_of-append : (p : Place) (es ds : List Dir) → end_of p (es ++ ds) ≡ e
 end_of-append p [] ds = refl
 end_of-append p (e ∷ es) ds = end_of-append (move e p) es ds
 
-pub Walks-append : (Legal : Place → Dir → Type 0) (p : Place) (es ds : List Dir) → Walks Legal p es → Walks Legal (end_of p es) ds → Walks Legal p (es ++ ds)
+pub Walks-append : (Legal : Place → Dir → Type 0) (p : Place) (es ds : List Dir) → Walks Legal p es
+    → Walks Legal (end_of p es) ds → Walks Legal p (es ++ ds)
 Walks-append Legal p [] ds w v = v
 Walks-append Legal p (e ∷ es) ds w v = (w.0, Walks-append Legal (move e p) es ds w.1 v)
 

@@ -14,18 +14,21 @@ use Rattle.pruning.specs.Chain.{State, start_state, run_cost, IsJump, IsChain, s
 use Rattle.pruning.specs.Laws.{ChainsAreWalks}
 use Rattle.pruning.proofs.Running.{IsRun, run_walked, steps_moved, lined_moved}
 
-last-joined : (x : Cell) (cells more : List Cell) → last_of x (cells ++ more) ≡ last_of (last_of x cells) more
+last-joined : (x : Cell) (cells more : List Cell)
+    → last_of x (cells ++ more) ≡ last_of (last_of x cells) more
 last-joined x [] more = refl
 last-joined x (c ∷ cells) more = last-joined c cells more
 
-walks-joined : (g : GridData) (x : Cell) (cells more : List Cell) → is_walk g (x ∷ cells) ≡ true → is_walk g (last_of x cells ∷ more) ≡ true → is_walk g (x ∷ (cells ++ more)) ≡ true
+walks-joined : (g : GridData) (x : Cell) (cells more : List Cell) → is_walk g (x ∷ cells) ≡ true
+    → is_walk g (last_of x cells ∷ more) ≡ true → is_walk g (x ∷ (cells ++ more)) ≡ true
 walks-joined g x [] more w v = v
 walks-joined g x (c ∷ cells) more w v =
     let l : is_legal g x c ≡ true = grind arith in
     let r : is_walk g (c ∷ cells) ≡ true = grind arith in
     rw (l, walks-joined g c cells more r v) refl
 
-cost-joined : (x : Cell) (cells more : List Cell) → cost_of (x ∷ (cells ++ more)) ≡ add_costs (cost_of (x ∷ cells)) (cost_of (last_of x cells ∷ more))
+cost-joined : (x : Cell) (cells more : List Cell)
+    → cost_of (x ∷ (cells ++ more)) ≡ add_costs (cost_of (x ∷ cells)) (cost_of (last_of x cells ∷ more))
 cost-joined x [] more = sym (add_costs-no_cost_left (cost_of (x ∷ more)))
 cost-joined x (c ∷ cells) more = ap (λ (k : Cost). add_costs (move_cost x c) k) (cost-joined c cells more) ∙ sym (add_costs-assoc (move_cost x c) (cost_of (c ∷ cells)) (cost_of (last_of c cells ∷ more)))
 
@@ -37,11 +40,13 @@ record IsUnfolded (g : GridData) (s : State) (states : List State) (cost : Cost)
   pub ends : last_of s.cell cells ≡ (last_state s states).cell
   pub priced : cost_of (s.cell ∷ cells) ≡ cost
 
-unfolded_more : (x u : Cell) (points cells : List Cell) (k : ℕ) (run : List Cell) → are_lined x u ≡ true → steps_between x u ≡ k → segment k x u ≡ run → unfolded_from u points ≡ Some cells
+unfolded_more : (x u : Cell) (points cells : List Cell) (k : ℕ) (run : List Cell) → are_lined x u ≡ true
+    → steps_between x u ≡ k → segment k x u ≡ run → unfolded_from u points ≡ Some cells
     → unfolded_from x (u ∷ points) ≡ Some (run ++ cells)
 unfolded_more x u points cells k run l s f h = rw (l, s, f, h) refl
 
-jumped : (g : GridData) (goal : Cell) (s u : State) (states : List State) (d : Dir) (k : ℕ) (rest : Cost) → IsJump g goal s u d k → IsRun g d k s.cell u.cell → IsUnfolded g u states rest
+jumped : (g : GridData) (goal : Cell) (s u : State) (states : List State) (d : Dir) (k : ℕ) (rest : Cost)
+    → IsJump g goal s u d k → IsRun g d k s.cell u.cell → IsUnfolded g u states rest
     → IsUnfolded g s (u ∷ states) (add_costs (run_cost d k) rest)
 jumped g goal s u states d k rest j r c = record {
   cells = r.cells ++ c.cells;
@@ -54,7 +59,8 @@ jumped g goal s u states d k rest j r c = record {
       ∙ ap (λ (p : Cost). add_costs (run_cost d k) p) c.priced;
 }
 
-chain_unfolded : (g : GridData) (goal : Cell) (s : State) (states : List State) (cost : Cost) → is_free g s.cell ≡ true → IsChain g goal s states cost → IsUnfolded g s states cost
+chain_unfolded : (g : GridData) (goal : Cell) (s : State) (states : List State) (cost : Cost)
+    → is_free g s.cell ≡ true → IsChain g goal s states cost → IsUnfolded g s states cost
 chain_unfolded g goal s _ _ f (stays _) = record { cells = []; unfolds = refl; walks = f; ends = refl; priced = refl }
 chain_unfolded g goal s _ _ f (jumps _ u states d k rest j c) =
     let r = run_walked g d k s.cell u.cell f j.reached in

@@ -35,7 +35,10 @@ turns_to s d e = is_dir e (turn s d) || is_dir e (quarter s d)
 
 -- after a straight d: a turn to a side is kept where the cell behind on that side is blocked; else d alone
 abbrev pub is_kept_straight : GridData → Cell → Dir → Dir → Bool
-is_kept_straight g x d e = if turns_to Right d e then is_blocked_behind g x d Right else if turns_to Left d e then is_blocked_behind g x d Left else is_dir e d
+is_kept_straight g x d e =
+    if turns_to Right d e then is_blocked_behind g x d Right
+    else if turns_to Left d e then is_blocked_behind g x d Left
+    else is_dir e d
 
 -- after a diagonal d: d and its two components are kept
 abbrev pub is_kept_diagonal : Dir → Dir → Bool

@@ -36,7 +36,8 @@ pub record IsJump (g : GridData) (goal : Cell) (s u : State) (d : Dir) (k : ℕ)
 -- each state is a jump from the one before, the first from s, and the cost is the sum of their moves
 pub data IsChain (g : GridData) (goal : Cell) : State → List State → Cost → Type 0 where
   stays : (s : State) → IsChain g goal s [] no_cost
-  jumps : (s u : State) (states : List State) (d : Dir) (k : ℕ) (rest : Cost) → IsJump g goal s u d k → IsChain g goal u states rest
+  jumps : (s u : State) (states : List State) (d : Dir) (k : ℕ) (rest : Cost) → IsJump g goal s u d k
+      → IsChain g goal u states rest
       → IsChain g goal s (u ∷ states) (add_costs (run_cost d k) rest)
 
 -- where s followed by these states ends

@@ -18,4 +18,5 @@ pub data IsExplained (g : GridData) (x : Cell) (d : Dir) : Dir → Type 0 where
 -- where an allowed direction is neither the arrival's own nor, after a diagonal, one of its components, the
 -- cell is marked for the arrival
 abbrev pub TurnsAreMarked : Type 0
-TurnsAreMarked = (g : GridData) (x : Cell) (d e : Dir) → IsTrue (is_allowed g x (By d) e) → IsExplained g x d e
+TurnsAreMarked = (g : GridData) (x : Cell) (d e : Dir) → IsTrue (is_allowed g x (By d) e)
+    → IsExplained g x d e

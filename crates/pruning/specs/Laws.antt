@@ -20,7 +20,8 @@ pub record HasCanonicalWalk (g : GridData) (s t : Cell) (cells : List Cell) : Ty
 
 -- for every walk there is a canonical walk of no greater cost
 abbrev pub CanonicalWalksSuffice : Type 0
-CanonicalWalksSuffice = (g : GridData) (s t : Cell) (cells : List Cell) → IsWalk g s t cells → HasCanonicalWalk g s t cells
+CanonicalWalksSuffice = (g : GridData) (s t : Cell) (cells : List Cell) → IsWalk g s t cells
+    → HasCanonicalWalk g s t cells
 
 -- a chain of first stops, for goal t, from s to t's cell, that costs no more than s followed by these cells
 pub record HasChain (g : GridData) (s t : Cell) (cells : List Cell) : Type 0 where
@@ -32,16 +33,20 @@ pub record HasChain (g : GridData) (s t : Cell) (cells : List Cell) : Type 0 whe
 
 -- for every canonical walk there is a chain of no greater cost
 abbrev pub ChainsSuffice : Type 0
-ChainsSuffice = (g : GridData) (s t : Cell) (cells : List Cell) → IsCanonicalWalk g s t cells → HasChain g s t cells
+ChainsSuffice = (g : GridData) (s t : Cell) (cells : List Cell) → IsCanonicalWalk g s t cells
+    → HasChain g s t cells
 
 -- the cells of a chain from s are points of a walk of its cost
 abbrev pub ChainsAreWalks : Type 0
-ChainsAreWalks = (g : GridData) (goal s : Cell) (states : List State) (cost : Cost) → IsTrue (is_free g s) → IsChain g goal (start_state s) states cost
+ChainsAreWalks = (g : GridData) (goal s : Cell) (states : List State) (cost : Cost)
+    → IsTrue (is_free g s) → IsChain g goal (start_state s) states cost
     → StandsForWalk g s (last_state (start_state s) states).cell (s ∷ map (λ u. u.cell) states) cost
 
 -- the octile estimate falls by at most a move's cost per move, is nothing at the goal, and so never exceeds
 -- the cost of a walk
 pub record EstimateIsConsistent : Type 0 where
-  pub falls : (g : GridData) (u v t : Cell) → IsTrue (is_legal g u v) → IsAtMost (estimate u t) (add_costs (move_cost u v) (estimate v t))
+  pub falls : (g : GridData) (u v t : Cell) → IsTrue (is_legal g u v)
+      → IsAtMost (estimate u t) (add_costs (move_cost u v) (estimate v t))
   pub nothing : (t : Cell) → estimate t t ≡ no_cost
-  pub never_exceeds : (g : GridData) (s t : Cell) (cells : List Cell) → IsWalk g s t cells → IsAtMost (estimate s t) (cost_of (s ∷ cells))
+  pub never_exceeds : (g : GridData) (s t : Cell) (cells : List Cell) → IsWalk g s t cells
+      → IsAtMost (estimate s t) (cost_of (s ∷ cells))

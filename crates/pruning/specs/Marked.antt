@@ -36,7 +36,8 @@ pub record HoldsOnRun (g : GridData) (d : Dir) (x : Cell) (P : Cell → Type 0) 
 -- component has a cell that is marked for that component
 pub data IsMarked (g : GridData) (x : Cell) (d : Dir) : Type 0 where
   forces : is_diagonal d ≡ false → is_forced g x d ≡ true → IsMarked g x d
-  looks_out : is_diagonal d ≡ true → (s : Side) → HoldsOnRun g (turn s d) x (λ v. is_forced g v (turn s d) ≡ true) → IsMarked g x d
+  looks_out : is_diagonal d ≡ true → (s : Side)
+      → HoldsOnRun g (turn s d) x (λ v. is_forced g v (turn s d) ≡ true) → IsMarked g x d
 
 -- the map `...../.@...`
 abbrev notch : GridData

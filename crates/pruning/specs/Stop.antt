@@ -13,7 +13,8 @@ use Rattle.pruning.specs.Least.{FindsLeast}
 pub data IsStop (g : GridData) (goal : Cell) (d : Dir) (v : Cell) : Type 0 where
   at_goal : v ≡ goal → IsStop g goal d v
   marked : IsMarked g v d → IsStop g goal d v
-  sees_goal : is_diagonal d ≡ true → (s : Side) → HoldsOnRun g (turn s d) v (λ u. u ≡ goal) → IsStop g goal d v
+  sees_goal : is_diagonal d ≡ true → (s : Side) → HoldsOnRun g (turn s d) v (λ u. u ≡ goal)
+      → IsStop g goal d v
 
 -- the legal run from x in d has k moves, and a jump stops after these
 pub record StopsAfter (g : GridData) (goal x : Cell) (d : Dir) (k : ℕ) : Type 0 where
