@@ -1,0 +1,11 @@
+pub mod Turns
+pub mod Allowed
+pub mod Marked
+pub mod Listed
+pub mod Canonical
+pub mod Least
+pub mod Stop
+pub mod Chain
+pub mod Source
+pub mod Facts
+pub mod Laws

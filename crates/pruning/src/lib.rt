@@ -1,0 +1,29 @@
+//! Pruning: in which directions a search goes on, where a jump stops, and the laws that no least
+//! walk is lost so.
+//!
+//! The rule is that of Harabor and Grastien's Jump Point Search (AAAI 2011), in the form in which
+//! corners are not cut (SoCS 2012). `allowed` and `forced` are the rule on a grid; `JumpSource` is what
+//! a search asks of whatever finds the stops; `laws` has what makes such a search right.
+#![tactic(auto)]
+
+pub mod laws;
+mod rule;
+mod source;
+mod turns;
+
+use grid_moves::Dir;
+pub use rule::{allowed, forced};
+pub use source::JumpSource;
+pub use turns::{Side, is_diagonal, turn};
+
+/// How a search came to a cell.
+#[derive(Clone, Copy, Debug, PartialEq, Eq)]
+pub enum Arrival {
+    /// It starts there.
+    Start,
+    /// By a move in this direction.
+    By(Dir),
+}
+
+#[cfg(test)]
+mod tests;
