@@ -66,7 +66,7 @@ fields_from_none place line none =
     ∙ ap (fields_from (place + length line)) (drop_all (length line) line (omega arith))
 
 -- a field that begins at the line's front ends at the first blank after it
-fields_from_cut : (place : ℕ) (line : List ℕ) (end : ℕ) → is_filled (get_or line 0 0) ≡ true → position is_blank_byte line ≡ Some end → fields_from place line ≡ record { place = place; bytes = take end line } ∷ fields_from (place + end) (drop end line)
+fields_from_cut : (place : ℕ) (line : List ℕ) (end : ℕ) → is_filled (get_or line 0 0) ≡ true → position is_blank_byte line ≡ Some end → fields_from place line ≡ record { start = place; end = place + end; bytes = take end line } ∷ fields_from (place + end) (drop end line)
 fields_from_cut place [] end filled at = absurd cc
 fields_from_cut place (b ∷ bytes) zero filled at =
     let found = position-Some is_blank_byte (b ∷ bytes) zero 0 at in
@@ -79,24 +79,26 @@ fields_from_cut place (b ∷ bytes) (suc end) filled at =
     let long : length (take end bytes) ≡ end = length-take-le end bytes (omega arith) in
     let place_is : place + suc (length (take end bytes)) + 1 ≡ place + suc end + 0 + 1 = omega arith in
     let after : fields_from (place + suc end) (drop end bytes) ≡ fields_from (place + suc end + 0 + 1) (drop (suc end) bytes) = rw (drop-cons bytes end 0 inside, blank) refl in
-    let here : Placed = record { place = place; bytes = b ∷ take end bytes } in
+    let here : Placed = record { start = place; end = place + suc end; bytes = b ∷ take end bytes } in
+    let end_is : place + suc (length (take end bytes)) ≡ place + suc end = omega arith in
     parts
+    ∙ ap (λ (n : ℕ). let first : Placed = record { start = place; end = n; bytes = b ∷ take end bytes } in first ∷ fields_from (place + suc (length (take end bytes)) + 1) (drop (suc end) bytes)) end_is
     ∙ ap (λ (n : ℕ). here ∷ fields_from n (drop (suc end) bytes)) place_is
     ∙ ap (λ (fields : List Placed). here ∷ fields) (sym after)
 
 -- or at the line's end
-fields_from_one : (place : ℕ) (line : List ℕ) → 0 < length line → position is_blank_byte line ≡ None → fields_from place line ≡ record { place = place; bytes = line } ∷ []
+fields_from_one : (place : ℕ) (line : List ℕ) → 0 < length line → position is_blank_byte line ≡ None → fields_from place line ≡ record { start = place; end = place + length line; bytes = line } ∷ []
 fields_from_one place [] some none = absurd (omega arith)
 fields_from_one place (b ∷ bytes) some none = ap (λ (all : List (List ℕ)). filter (λ field. is_something field.bytes) (placed_from place all)) (parts_of_one (b ∷ bytes) (position-None is_blank_byte (b ∷ bytes) none))
 
 -- the first field of a line that has one, and what follows it
-pub fields_from_first : (place : ℕ) (line : List ℕ) (start end : ℕ) → position is_filled line ≡ Some start → position is_blank_byte (drop start line) ≡ Some end → fields_from place line ≡ record { place = place + start; bytes = take end (drop start line) } ∷ fields_from (place + start + end) (drop end (drop start line))
+pub fields_from_first : (place : ℕ) (line : List ℕ) (start end : ℕ) → position is_filled line ≡ Some start → position is_blank_byte (drop start line) ≡ Some end → fields_from place line ≡ record { start = place + start; end = place + start + end; bytes = take end (drop start line) } ∷ fields_from (place + start + end) (drop end (drop start line))
 fields_from_first place line start end from at =
     let found = position-Some is_filled line start 0 from in
     let filled : is_filled (get_or (drop start line) 0 0) ≡ true = rw (get_or-drop start line 0 0, add-zero) found.1 in
     fields_from_skipped place line start (omega (arith, found.0)) found.2 ∙ fields_from_cut (place + start) (drop start line) end filled at
 
-pub fields_from_last : (place : ℕ) (line : List ℕ) (start : ℕ) → position is_filled line ≡ Some start → position is_blank_byte (drop start line) ≡ None → fields_from place line ≡ record { place = place + start; bytes = drop start line } ∷ []
+pub fields_from_last : (place : ℕ) (line : List ℕ) (start : ℕ) → position is_filled line ≡ Some start → position is_blank_byte (drop start line) ≡ None → fields_from place line ≡ record { start = place + start; end = place + start + length (drop start line); bytes = drop start line } ∷ []
 fields_from_last place line start from none =
     let found = position-Some is_filled line start 0 from in
     fields_from_skipped place line start (omega (arith, found.0)) found.2 ∙ fields_from_one (place + start) (drop start line) (omega (arith, found.0, length-drop start line)) none

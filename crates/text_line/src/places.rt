@@ -3,7 +3,7 @@
 ghost use Rattle.std.specs.Prelude.{◌≡◌, ◌∷◌, ◌+◌, ◌≤◌, ◌^◌, [], MatchOption, length, map};
 ghost use Rattle.text_line.specs.Lines.{lines_of};
 ghost use Rattle.text_line.specs.Fields.{fields_of};
-ghost use Rattle.text_line.specs.Places.{fields_from, lines_at};
+ghost use Rattle.text_line.specs.Places.{fields_from, lines_at, placed};
 
 use crate::fields::{place_of_blank, place_of_field};
 use crate::lines::{Line, Pieces, without_cr};
@@ -140,12 +140,10 @@ fn first_placed(line: &[u8], place: u32) -> Option<(PlacedField<'_>, &[u8])>
     requires { place + length line.now ≤ 2 ^ 31 }
     ensures first { MatchOption result
         (fields_from place line.now ≡ [])
-        (λ cut. fields_from place line.now
-        ≡ record { place = cut.0.start; bytes = cut.0.bytes.now } ∷ fields_from cut.0.end cut.1.now) }
+        (λ cut. fields_from place line.now ≡ placed cut.0 ∷ fields_from cut.0.end cut.1.now) }
     ensures end { MatchOption result
         (Unit {0})
-        (λ cut. (cut.0.end ≡ cut.0.start + length cut.0.bytes.now)
-        × (cut.0.end + length cut.1.now ≤ place + length line.now)) }
+        (λ cut. cut.0.end + length cut.1.now ≤ place + length line.now) }
 {
     let skipped = place_of_field(line)?;
     let field = &line[skipped..];
