@@ -1,8 +1,9 @@
 -- How each line of a text breaks the grammar of scenarios, and the reading of a text up to the first line that does.
 use Rattle.std.specs.Prelude.{◌≡◌, ℕ, zero, suc, ◌<◌, Bool, true, false, nat_lt, ◌||◌, ◌&&◌, if◌then◌else◌, List, [], ◌∷◌, length, map, drop, slice_get, codes, unwrap_or, Option, Some, None, Result, Ok, Err, Vec}
 use Rattle.std.specs.Option.{option_map, option_or, is_some}
-use Rattle.std.specs.List.{concat}
+use Rattle.std.specs.List.{flat_map}
 use Rattle.std.specs.Str.{bytes_eq}
+use Rattle.std.specs.declared.alloc.Global.{Global}
 use Rattle.text_line.specs.Fields.{fields_of, is_nothing}
 use Rattle.text_line.specs.Numbers.{number_of}
 use Rattle.text_line.specs.Places.{Placed, LineAt, fields_from, lines_at}
@@ -98,7 +99,7 @@ reading (Some fault) entries = Err fault
 
 -- what the lines after the first are read as
 abbrev pub entries_of : List LineAt → Result (List Entry) ScenFault
-entries_of lines = reading (first_of (map line_fault lines)) (concat (map entries_on lines))
+entries_of lines = reading (first_of (map line_fault lines)) (flat_map entries_on lines)
 
 -- what all lines are read as
 abbrev pub lines_read : List LineAt → Result (List Entry) ScenFault
@@ -125,7 +126,7 @@ pub record BreaksFirst (lines : List LineAt) (fault : ScenFault) : Type 0 where
   pub before : (k : ℕ) → k < place → fault_at lines k ≡ None
 
 -- an answer tells a reading; for want of memory it tells nothing
-abbrev pub Tells : Result (Vec Entry) ScenFault → Result (List Entry) ScenFault → Type 0
+abbrev pub Tells : Result (Vec Entry Global) ScenFault → Result (List Entry) ScenFault → Type 0
 Tells (Ok entries) read = read ≡ Ok entries.items
 Tells (Err NoMemory) read = Unit {0}
 Tells (Err fault) read = read ≡ Err fault

@@ -3,7 +3,8 @@
 ghost use Rattle.std.specs.Prelude.{◌≡◌};
 ghost use Rattle.scen_text.specs.declared.fault.ScenFault.TheVariants.{NoMemory};
 
-use std::alloc::AllocError;
+use crate::entry::Entry;
+use std::alloc::AllocFailed;
 use thiserror::Error;
 
 /// How the first broken line breaks the grammar. Lines count from 1.
@@ -26,10 +27,10 @@ pub enum ScenFault {
     NoMemory,
 }
 
-impl From<AllocError> for ScenFault {
+impl From<AllocFailed<Entry>> for ScenFault {
     ghost from_gives = { λ _ fault. fault ≡ NoMemory };
 
-    fn from(_refused: AllocError) -> ScenFault {
+    fn from(_refused: AllocFailed<Entry>) -> ScenFault {
         ScenFault::NoMemory
     }
 }

@@ -45,7 +45,14 @@ fn place_of_point(word: &[u8]) -> Option<usize>
 fn is_number(word: &[u8], most: usize) -> bool
     ensures { result ≡ number_word most word.now }
 {
-    !word.is_empty() && word.len() <= most && word.iter().all(|byte| byte.is_ascii_digit())
+    1 <= word.len() && word.len() <= most && are_digits(word)
+}
+
+/// Whether each byte is a decimal digit.
+fn are_digits(word: &[u8]) -> bool
+    ensures { result ≡ list_all is_ascii_digit word.now }
+{
+    word.iter().all(|byte| byte.is_ascii_digit())
 }
 
 /// The number with these digits before the point and these behind it, of which ten are kept.

@@ -1,6 +1,6 @@
 //! Reading a scenario from its text.
 
-ghost use Rattle.std.specs.Prelude.{◌≡◌, ◌≢◌, ◌≤◌, ◌^◌, length, List};
+ghost use Rattle.std.specs.Prelude.{◌≡◌, ◌≢◌, ◌≤◌, ◌+◌, ◌^◌, length, List};
 ghost use Rattle.std.specs.Prelude.{Some, Ok, Err, IfOk, IfErr};
 ghost use Rattle.text_line.specs.Places.{lines_at, line_at};
 ghost use Rattle.text_line.specs.Numbers.{number_of};
@@ -70,7 +70,9 @@ fn is_version(line: Option<PlacedLine<'_>>) -> bool
     let Some(version) = fields.next() else {
         return false;
     };
-    word == b"version" && (version == b"1" || version == b"1.0") && fields.next().is_none()
+    word == b"version".as_slice()
+        && (version == b"1".as_slice() || version == b"1.0".as_slice())
+        && fields.next().is_none()
 }
 
 /// The entry on a line after the first, none on a blank one.
