@@ -1,15 +1,15 @@
 -- What the lines of a text are read as, one after another.
-use Rattle.std.proofs.Common.{◌≡◌, ◌≢◌, ℕ, ◌+◌, ◌<◌, ◌≤◌, true, false, List, [], ◌∷◌, ◌++◌, length, drop, Option, Some, None, Result, Ok, Err, refl, sym, ap, ◌∙◌, arith}
+use Rattle.std.proofs.Common.{◌≡◌, ◌≢◌, ℕ, true, false, List, [], ◌∷◌, ◌++◌, length, drop, Option, Some, None, Result, Ok, Err, refl, sym, ap, ◌∙◌}
 use Rattle.std.specs.Prelude.{slice_get, map}
 use Rattle.std.specs.List.{flat_map}
 use Rattle.std.proofs.lemmas.Bool.{le-ltb}
 use Rattle.std.proofs.lemmas.List.{append_assoc}
 use Rattle.text_line.specs.declared.places.PlacedLine.{PlacedLine}
-use Rattle.text_line.specs.Places.{Placed, LineAt, fields_from, lines_at, line_at, GivesLine}
+use Rattle.text_line.specs.Places.{Placed, LineAt, fields_from, lines_at, GivesLine}
 use Rattle.scen_text.specs.declared.fault.ScenFault.{ScenFault}
 use Rattle.scen_text.specs.declared.fault.ScenFault.TheVariants.{Version, Fields, Number, Length, NoMemory}
 use Rattle.scen_text.specs.declared.entry.Entry.{Entry}
-use Rattle.scen_text.specs.Words.{Words, words_of}
+use Rattle.scen_text.specs.Words.{Words}
 use Rattle.scen_text.specs.Spelling.{HasWords}
 use Rattle.scen_text.specs.Faults.{has_version, words_fault, fields_fault, line_fault, entry_in, entries_in, entries_on, first_of, reading, entries_of, lines_read, scen_of, Tells}
 use Rattle.scen_text.specs.Progress.{line_given, behind}
@@ -19,9 +19,10 @@ use Rattle.scen_text.proofs.Split.{words_are, nine_fields}
 pub line_words : (line : LineAt) (bucket : Placed) (left : List Placed) (words : Words) → fields_from line.place line.bytes ≡ bucket ∷ left → HasWords (bucket ∷ left) words → (line_fault line ≡ words_fault line.number words) × (entries_on line ≡ entry_in line.number words ∷ [])
 line_words line bucket left words are has =
     let nine = le-ltb (length (bucket ∷ left)) 9 (nine_fields (bucket ∷ left) words has) in
-    let same = words_are (bucket ∷ left) words has in
-    (ap (fields_fault line.number) are ∙ rw nine (ap (words_fault line.number) same),
-     ap (entries_in line.number) are ∙ ap (λ (all : Words). entry_in line.number all ∷ []) same)
+    let same = words_are (bucket ∷ left) words has in (
+      ap (fields_fault line.number) are ∙ rw nine (ap (words_fault line.number) same),
+      ap (entries_in line.number) are ∙ ap (λ (all : Words). entry_in line.number all ∷ []) same,
+    )
 
 first_given : (old new : List LineAt) (line : Option PlacedLine) → GivesLine old line new → (slice_get old 0 ≡ line_given line) × (drop 1 old ≡ new)
 first_given old new None gives = (ap (λ (lines : List LineAt). slice_get lines 0) gives.0, ap (drop 1) gives.0 ∙ sym gives.0 ∙ sym gives.1)

@@ -1,8 +1,7 @@
 -- The words of an entry and its fields.
-use Rattle.std.proofs.Common.{◌≡◌, ℕ, zero, suc, ◌+◌, ◌-◌, ◌<◌, ◌≤◌, List, [], ◌∷◌, ◌++◌, length, get_or, take, drop, refl, sym, ap, subst, ◌∙◌, arith}
-use Rattle.std.proofs.lemmas.List.{length-append, get_or-append-add, take-append-drop, length-drop, length-take-le, append_assoc}
+use Rattle.std.proofs.Common.{◌≡◌, ℕ, suc, ◌+◌, ◌-◌, ◌≤◌, List, [], ◌∷◌, ◌++◌, length, get_or, take, drop, refl, sym, ap, subst, ◌∙◌, arith}
+use Rattle.std.proofs.lemmas.List.{length-append, get_or-append-add, take-append-drop, length-drop, length-take-le}
 use Rattle.text_line.specs.Places.{Placed}
-use Rattle.scen_text.specs.declared.entry.ByteRange.{ByteRange}
 use Rattle.scen_text.specs.Words.{Words, nothing, from_end, words_of}
 use Rattle.scen_text.specs.Spelling.{Spans, HasWords}
 use Rattle.scen_text.specs.Progress.{widened, HasWordsBefore}
@@ -96,9 +95,10 @@ snoc_of x (y ∷ ys) =
 words_from : (bucket : Placed) (name back : List Placed) → 1 ≤ length name → length back ≡ 7 → (words : Words) × HasWords (bucket ∷ (name ++ back)) words
 words_from bucket [] back some is = absurd (omega arith)
 words_from bucket (n ∷ name) (a ∷ b ∷ c ∷ d ∷ e ∷ f ∷ g ∷ []) some is =
-    let snoc = snoc_of n name in
-    (record { bucket = bucket; name = record { start = n.start; end = snoc.1.end }; w = a; h = b; sx = c; sy = d; gx = e; gy = f; listed = g },
-     record { name = n ∷ name; are = refl; spans = record { first = n; later = name; begins = refl; start = refl; earlier = snoc.0; last = snoc.1; ends = snoc.2; end = refl } })
+    let snoc = snoc_of n name in (
+      record { bucket = bucket; name = record { start = n.start; end = snoc.1.end }; w = a; h = b; sx = c; sy = d; gx = e; gy = f; listed = g },
+      record { name = n ∷ name; are = refl; spans = record { first = n; later = name; begins = refl; start = refl; earlier = snoc.0; last = snoc.1; ends = snoc.2; end = refl } },
+    )
 words_from bucket (n ∷ name) back some is = absurd (omega arith)
 
 -- nine fields or more have words

@@ -1,13 +1,12 @@
 -- How each line of a text breaks the grammar of scenarios, and the reading of a text up to the first line that does.
-use Rattle.std.specs.Prelude.{◌≡◌, ℕ, zero, suc, ◌<◌, Bool, true, false, nat_lt, ◌||◌, ◌&&◌, if◌then◌else◌, List, [], ◌∷◌, length, map, drop, slice_get, codes, unwrap_or, Option, Some, None, Result, Ok, Err, Vec}
-use Rattle.std.specs.Option.{option_map, option_or, is_some}
+use Rattle.std.specs.Prelude.{◌≡◌, ℕ, zero, suc, ◌<◌, Bool, false, nat_lt, ◌||◌, ◌&&◌, if◌then◌else◌, List, [], ◌∷◌, length, map, drop, slice_get, codes, unwrap_or, Option, Some, None, Result, Ok, Err, Vec}
+use Rattle.std.specs.Option.{option_or, is_some}
 use Rattle.std.specs.List.{flat_map}
 use Rattle.std.specs.Str.{bytes_eq}
 use Rattle.std.specs.declared.alloc.Global.{Global}
-use Rattle.text_line.specs.Fields.{fields_of, is_nothing}
+use Rattle.text_line.specs.Fields.{fields_of}
 use Rattle.text_line.specs.Numbers.{number_of}
 use Rattle.text_line.specs.Places.{Placed, LineAt, fields_from, lines_at}
-use Rattle.root2_cost.specs.declared.lengths.Decimal.{Decimal}
 use Rattle.scen_text.specs.declared.fault.ScenFault.{ScenFault}
 use Rattle.scen_text.specs.declared.fault.ScenFault.TheVariants.{Version, Fields, Number, Length, NoMemory}
 use Rattle.scen_text.specs.declared.entry.Entry.{Entry}

@@ -1,5 +1,5 @@
 -- How far a reading has come.
-use Rattle.std.specs.Prelude.{◌≡◌, ℕ, List, [], ◌∷◌, ◌++◌, Option, Some, None, Result, Ok, Err}
+use Rattle.std.specs.Prelude.{◌≡◌, List, [], ◌∷◌, ◌++◌, Option, Some, None, Result, Ok, Err}
 use Rattle.text_line.specs.Places.{Placed, LineAt, placed, line_at}
 use Rattle.text_line.specs.declared.places.PlacedLine.{PlacedLine}
 use Rattle.scen_text.specs.declared.fault.ScenFault.{ScenFault}

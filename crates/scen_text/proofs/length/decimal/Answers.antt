@@ -1,4 +1,4 @@
-use Rattle.std.proofs.Common.{◌≡◌, ◌≤◌, ◌+◌, ℕ, List, min, take, length, refl, sym, ap, ◌∙◌, true, ◌&&◌, ltb, leb, arith}
+use Rattle.std.proofs.Common.{◌≡◌, ◌≤◌, ℕ, List, min, take, length, refl, sym, ap, ◌∙◌, true, ◌&&◌, leb, arith}
 use Rattle.std.specs.List.{list_all}
 use Rattle.std.specs.Char.{is_ascii_digit}
 use Rattle.text_line.specs.Numbers.{is_number}
@@ -6,7 +6,6 @@ use Rattle.std.specs.Str.Parse.{digits_value_after}
 use Rattle.std.proofs.lemmas.Bool.{and_parts, leb-true}
 use Rattle.std.proofs.lemmas.List.{take_min, length-take}
 use Rattle.text_line.proofs.Digits.{value_of-lt}
-use Rattle.root2_cost.specs.declared.lengths.Decimal.{Decimal}
 use Rattle.scen_text.proofs.Values.{after_append, digits_part, both-lt}
 use Rattle.scen_text.proofs.length.decimal.Goals as goal
 

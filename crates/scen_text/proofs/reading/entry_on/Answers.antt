@@ -1,4 +1,4 @@
-use Rattle.std.proofs.Common.{[], ◌∷◌, List, sym, ap, ◌∙◌}
+use Rattle.std.proofs.Common.{[], ◌∷◌, sym, ap, ◌∙◌}
 use Rattle.std.proofs.lemmas.Result.{err_from_is_err_and}
 use Rattle.text_line.specs.Places.{line_at, placed}
 use Rattle.scen_text.specs.declared.entry.Entry.{Entry}
