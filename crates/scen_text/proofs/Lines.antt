@@ -1,9 +1,7 @@
 -- What the lines of a text are read as, one after another.
-use Rattle.std.proofs.Common.{◌≡◌, ◌≢◌, ℕ, true, false, List, [], ◌∷◌, ◌++◌, length, drop, Option, Some, None, Result, Ok, Err, refl, sym, ap, ◌∙◌}
-use Rattle.std.specs.Prelude.{slice_get, map}
-use Rattle.std.specs.List.{flat_map}
+use Rattle.std.proofs.Common.{◌≡◌, ◌≢◌, ℕ, true, false, List, [], ◌∷◌, length, drop, Option, Some, None, Result, Ok, Err, refl, sym, ap, ◌∙◌}
+use Rattle.std.specs.Prelude.{slice_get}
 use Rattle.std.proofs.lemmas.Bool.{le-ltb}
-use Rattle.std.proofs.lemmas.List.{append_assoc}
 use Rattle.text_line.specs.declared.places.PlacedLine.{PlacedLine}
 use Rattle.text_line.specs.Places.{Placed, LineAt, fields_from, lines_at, GivesLine}
 use Rattle.scen_text.specs.declared.fault.ScenFault.{ScenFault}
@@ -11,7 +9,7 @@ use Rattle.scen_text.specs.declared.fault.ScenFault.TheVariants.{Version, Fields
 use Rattle.scen_text.specs.declared.entry.Entry.{Entry}
 use Rattle.scen_text.specs.Words.{Words}
 use Rattle.scen_text.specs.Spelling.{HasWords}
-use Rattle.scen_text.specs.Faults.{has_version, words_fault, fields_fault, line_fault, entry_in, entries_in, entries_on, first_of, reading, entries_of, lines_read, scen_of, Tells}
+use Rattle.scen_text.specs.Faults.{has_version, words_fault, fields_fault, line_fault, entry_in, entries_in, entries_on, entries_of, lines_read, scen_of, Tells}
 use Rattle.scen_text.specs.Progress.{line_given, behind}
 use Rattle.scen_text.proofs.Split.{words_are, nine_fields}
 
@@ -47,35 +45,6 @@ module _ (text : List ℕ) (old new : List LineAt) (line : Option PlacedLine) (a
 pub behind_nothing : (read : Result (List Entry) ScenFault) → read ≡ behind [] read
 behind_nothing (Ok entries) = refl
 behind_nothing (Err fault) = refl
-
-behind_behind : (before found : List Entry) (read : Result (List Entry) ScenFault) → behind before (behind found read) ≡ behind (before ++ found) read
-behind_behind before found (Ok entries) = ap (λ (all : List Entry). let read : Result (List Entry) ScenFault = Ok all in read) (sym (append_assoc before found entries))
-behind_behind before found (Err fault) = refl
-
-reading_behind : (fault : Option ScenFault) (found later : List Entry) → reading fault (found ++ later) ≡ behind found (reading fault later)
-reading_behind None found later = refl
-reading_behind (Some fault) found later = refl
-
--- below, some entries are read, and some lines are left
-module _ (read : Result (List Entry) ScenFault) (before : List Entry) (line : LineAt) (old new : List LineAt) (so_far : read ≡ behind before (entries_of old)) (are : old ≡ line ∷ new) where
-  -- a line that breaks nothing is passed
-  pub line_passed : (found : List Entry) → line_fault line ≡ None → entries_on line ≡ found → read ≡ behind (before ++ found) (entries_of new)
-  line_passed found right is =
-      let here : entries_of (line ∷ new) ≡ behind found (entries_of new) = rw (right, is) (reading_behind (first_of (map line_fault new)) found (flat_map entries_on new)) in
-      so_far ∙ ap (behind before) (ap entries_of are ∙ here) ∙ behind_behind before found (entries_of new)
-
-  -- another is the first broken one
-  pub line_broken : (fault : ScenFault) → line_fault line ≡ Some fault → read ≡ Err fault
-  line_broken fault wrong =
-      let here : entries_of (line ∷ new) ≡ Err fault = rw wrong refl in
-      so_far ∙ ap (behind before) (ap entries_of are ∙ here)
-
-pub err_tells : (fault : ScenFault) (read : Result (List Entry) ScenFault) → read ≡ Err fault → Tells (Err fault) read
-err_tells (Version line) read is = is
-err_tells (Fields line) read is = is
-err_tells (Number line) read is = is
-err_tells (Length line) read is = is
-err_tells NoMemory read is = tt
 
 pub tells_err : (fault : ScenFault) (read : Result (List Entry) ScenFault) → Tells (Err fault) read → fault ≢ NoMemory → read ≡ Err fault
 tells_err (Version line) read tells other = tells

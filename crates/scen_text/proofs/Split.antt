@@ -1,5 +1,5 @@
 -- The words of an entry and its fields.
-use Rattle.std.proofs.Common.{◌≡◌, ℕ, suc, ◌+◌, ◌-◌, ◌≤◌, List, [], ◌∷◌, ◌++◌, length, get_or, take, drop, refl, sym, ap, subst, ◌∙◌, arith}
+use Rattle.std.proofs.Common.{◌≡◌, ℕ, suc, ◌+◌, ◌-◌, ◌≤◌, List, [], ◌∷◌, ◌++◌, length, get_or, take, drop, refl, sym, ap, ◌∙◌, arith}
 use Rattle.std.proofs.lemmas.List.{length-append, get_or-append-add, take-append-drop, length-drop, length-take-le}
 use Rattle.text_line.specs.Places.{Placed}
 use Rattle.scen_text.specs.Words.{Words, nothing, from_end, words_of}
@@ -30,10 +30,6 @@ words_more all left words field has = record {
     end = refl;
   };
 }
-
--- no field left
-pub words_all : (all : List Placed) (words : Words) → HasWordsBefore all words [] → HasWords all words
-words_all all words has = record { name = has.name; are = has.are; spans = has.spans }
 
 -- a field counted from the end
 from_end_at : (bucket : Placed) (front back : List Placed) (i places : ℕ) → i + places ≡ length back → from_end places (bucket ∷ (front ++ back)) ≡ get_or (bucket ∷ (front ++ back)) (suc (length front + i)) nothing
@@ -101,12 +97,14 @@ words_from bucket (n ∷ name) (a ∷ b ∷ c ∷ d ∷ e ∷ f ∷ g ∷ []) so
     )
 words_from bucket (n ∷ name) back some is = absurd (omega arith)
 
+parts_have_words : (bucket : Placed) (front back fields : List Placed) → front ++ back ≡ fields → 1 ≤ length front → length back ≡ 7 → HasWords (bucket ∷ fields) (words_of (bucket ∷ fields))
+parts_have_words bucket front back fields are some is =
+    let found = words_from bucket front back some is in
+    let there : HasWords (bucket ∷ fields) found.0 = rw (sym are) found.1 in
+    rw (words_are (bucket ∷ fields) found.0 there) there
+
 -- nine fields or more have words
 pub words_there : (bucket : Placed) (fields : List Placed) → 8 ≤ length fields → HasWords (bucket ∷ fields) (words_of (bucket ∷ fields))
 words_there bucket fields long =
-    let front = take (length fields - 7) fields in
-    let back = drop (length fields - 7) fields in
-    let found = words_from bucket front back (omega (arith, length-take-le (length fields - 7) fields (omega arith))) (omega (arith, length-drop (length fields - 7) fields)) in
-    let are : bucket ∷ (front ++ back) ≡ bucket ∷ fields = ap (λ (rest : List Placed). bucket ∷ rest) (take-append-drop (length fields - 7) fields) in
-    let there = subst (λ (all : List Placed). HasWords all found.0) are found.1 in
-    subst (HasWords (bucket ∷ fields)) (sym (words_are (bucket ∷ fields) found.0 there)) there
+    let name = length fields - 7 in
+    parts_have_words bucket (take name fields) (drop name fields) fields (take-append-drop name fields) (omega (arith, length-take-le name fields (omega arith))) (omega (arith, length-drop name fields))
