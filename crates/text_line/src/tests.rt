@@ -24,7 +24,9 @@ fn lines_carry_their_number(rt: HostRuntime) {
 #[test]
 fn fields_carry_their_places(rt: HostRuntime) {
     let mut lines = LinesAt::of(b"map\r\n ab c");
-    assert!(rt; matches!(lines.next(), Some(line) if line.place == 0 && line.bytes == b"map"));
+    assert!(rt;
+        matches!(lines.next(), Some(line) if line.place == 0 && line.bytes == b"map".as_slice())
+    );
     for line in lines {
         assert_eq!(rt; (line.number, line.place), (2, 5));
         let mut fields = FieldsAt::of(line);
