@@ -1,3 +1,4 @@
 pub mod Cut
 pub mod Parts
 pub mod Digits
+pub mod Placing

@@ -18,7 +18,7 @@ position-None p xs none k lt =
     ]
 
 -- whether a byte belongs to a field
-abbrev is_filled : ℕ → Bool
+abbrev pub is_filled : ℕ → Bool
 is_filled byte = not (is_blank_byte byte)
 
 -- blanks at the front are read over
@@ -34,14 +34,14 @@ pub fields_of_none : (line : List ℕ) → position is_filled line ≡ None → 
 fields_of_none line none = fields_of_skipped line (length line) (position-None is_filled line none) ∙ ap fields_of (drop_all (length line) line (omega arith))
 
 -- the parts of a line up to the first blank, and after it
-parts_of_cut : (line : List ℕ) (end : ℕ) → end < length line → ((k : ℕ) → k < end → is_blank_byte (get_or line k 0) ≡ false) → is_blank_byte (get_or line end 0) ≡ true → slice_split is_blank_byte line ≡ take end line ∷ slice_split is_blank_byte (drop (suc end) line)
+pub parts_of_cut : (line : List ℕ) (end : ℕ) → end < length line → ((k : ℕ) → k < end → is_blank_byte (get_or line k 0) ≡ false) → is_blank_byte (get_or line end 0) ≡ true → slice_split is_blank_byte line ≡ take end line ∷ slice_split is_blank_byte (drop (suc end) line)
 parts_of_cut [] end inside filled at = absurd (omega arith)
 parts_of_cut (b ∷ bytes) zero inside filled at = rw at refl
 parts_of_cut (b ∷ bytes) (suc end) inside filled at =
     let later = parts_of_cut bytes end (omega arith) (λ k lt. filled (suc k) (omega arith)) at in
     rw (filled 0 (omega arith), later) refl
 
-parts_of_one : (line : List ℕ) → ((k : ℕ) → k < length line → is_blank_byte (get_or line k 0) ≡ false) → slice_split is_blank_byte line ≡ line ∷ []
+pub parts_of_one : (line : List ℕ) → ((k : ℕ) → k < length line → is_blank_byte (get_or line k 0) ≡ false) → slice_split is_blank_byte line ≡ line ∷ []
 parts_of_one [] filled = refl
 parts_of_one (b ∷ bytes) filled =
     let later = parts_of_one bytes (λ k lt. filled (suc k) (omega arith)) in

@@ -2,4 +2,5 @@ pub mod Lines
 pub mod Fields
 pub mod Numbers
 pub mod Left
+pub mod Places
 pub mod Worked

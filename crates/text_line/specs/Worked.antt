@@ -3,6 +3,7 @@ use Rattle.std.specs.Prelude.{◌≡◌, true, false, [], ◌∷◌, Some, None,
 use Rattle.text_line.specs.Lines.{pieces_of, lines_of}
 use Rattle.text_line.specs.Fields.{fields_of, is_blank}
 use Rattle.text_line.specs.Numbers.{number_of}
+use Rattle.text_line.specs.Places.{fields_from, lines_at}
 
 -- the last line needs no line feed, and an empty line is a line
 pub last_line : lines_of (codes "a\n\nb") ≡ codes "a" ∷ [] ∷ codes "b" ∷ []
@@ -49,3 +50,10 @@ no_digit = refl
 pub signed : number_of (codes "+1") ≡ None
 unfolding number_of
 signed = refl
+
+-- a line feed and a carriage return count as bytes of the text
+pub second_line_at : lines_at (codes "a\r\n\nb") ≡ record { number = 1; place = 0; bytes = codes "a" } ∷ record { number = 2; place = 3; bytes = [] } ∷ record { number = 3; place = 4; bytes = codes "b" } ∷ []
+second_line_at = refl
+
+pub second_field_at : fields_from 7 (codes " ab\t c") ≡ record { start = 8; end = 10; bytes = codes "ab" } ∷ record { start = 12; end = 13; bytes = codes "c" } ∷ []
+second_field_at = refl

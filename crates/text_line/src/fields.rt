@@ -60,14 +60,14 @@ fn first_field(line: &[u8]) -> Option<(&[u8], &[u8])>
 }
 
 /// Where the first field of a line begins, if it has one.
-fn place_of_field(line: &[u8]) -> Option<usize>
+pub(crate) fn place_of_field(line: &[u8]) -> Option<usize>
     ensures { result ≡ position (λ byte. not (blank_byte byte)) line.now }
 {
     line.iter().position(|byte| !is_blank_byte(*byte))
 }
 
 /// Where the first space or tab of a line stands, if it has one.
-fn place_of_blank(line: &[u8]) -> Option<usize>
+pub(crate) fn place_of_blank(line: &[u8]) -> Option<usize>
     ensures { result ≡ position blank_byte line.now }
 {
     line.iter().position(|byte| is_blank_byte(*byte))

@@ -9,11 +9,13 @@
 mod fields;
 mod lines;
 mod numbers;
+mod places;
 mod writing;
 
 pub use fields::Fields;
 pub use lines::{Line, Lines, Pieces, without_cr};
 pub use numbers::number;
+pub use places::{FieldsAt, LinesAt, PlacedField, PlacedLine};
 pub use std::alloc::AllocError as NoMemory;
 pub use writing::{put, put_number};
 

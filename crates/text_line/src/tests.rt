@@ -19,3 +19,24 @@ fn lines_carry_their_number(rt: HostRuntime) {
     }
     assert!(rt; lines.next().is_none());
 }
+
+// The places are counted by hand.
+#[test]
+fn fields_carry_their_places(rt: HostRuntime) {
+    let mut lines = LinesAt::of(b"map\r\n ab c");
+    assert!(rt;
+        matches!(lines.next(), Some(line) if line.place == 0 && line.bytes == b"map".as_slice())
+    );
+    for line in lines {
+        assert_eq!(rt; (line.number, line.place), (2, 5));
+        let mut fields = FieldsAt::of(line);
+        for (start, end, bytes) in [(6, 8, b"ab".as_slice()), (9, 10, b"c")] {
+            let field = fields.next();
+            assert!(rt;
+                matches!(field, Some(field)
+                if field.start == start && field.end == end && field.bytes == bytes)
+            );
+        }
+        assert!(rt; fields.next().is_none());
+    }
+}

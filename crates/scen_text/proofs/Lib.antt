@@ -1,0 +1,4 @@
+pub mod Values
+pub mod Split
+pub mod Lines
+pub mod Laws

@@ -1,0 +1,6 @@
+pub mod Lengths
+pub mod Words
+pub mod Spelling
+pub mod Faults
+pub mod Progress
+pub mod Worked
