@@ -10,13 +10,14 @@ use Rattle.std.proofs.lemmas.List.Folds.{list_all-append}
 use Rattle.std.proofs.lemmas.List.Sums.{sum_by-append}
 use Rattle.std.proofs.lemmas.List.Elements.{filter_map-append}
 use Rattle.std.proofs.lemmas.Bool.Decides.{nat_tests}
+use Rattle.word_list.specs.declared.request.Pick.{Pick}
 use Rattle.word_list.specs.declared.request.Show.{Show}
 use Rattle.word_list.specs.declared.settings.Setting.{Setting}
 use Rattle.word_list.specs.declared.settings.Setting.TheVariants as setting
 use Rattle.word_list.specs.declared.settings.Choice.{Choice}
 use Rattle.word_list.specs.declared.settings.Choice.TheVariants as choice
 use Rattle.word_list.specs.declared.settings.Settings.{Settings}
-use Rattle.word_list.specs.Settings.{setting_of, is_same, is_made_by, are_settings, first_some, show_of, chosen}
+use Rattle.word_list.specs.Settings.{setting_of, is_same, is_made_by, are_settings, first_some, pick_of, show_of, chosen}
 use Rattle.word_list.specs.Left.{settings_with}
 
 -- a test that is met by each element that meets another
@@ -61,6 +62,9 @@ count_more words word choice = let sums = sum_by-append (λ word. if is_made_by 
 
 -- a choice is the same as itself alone
 same_is : (one other : Choice) → is_same one other ≡ true → one ≡ other
+same_is choice.Engine choice.Engine same = refl
+same_is choice.Engine choice.Show same = cc
+same_is choice.Show choice.Engine same = cc
 same_is choice.Show choice.Show same = refl
 
 -- the first answer among some elements and one more
@@ -74,6 +78,30 @@ first_some-more answer xs x = rw filter_map-append (first (filter_map answer xs)
     alone : {B : Type 0} (o : Option B) → slice_get (cons_option o []) 0 ≡ o
     alone None = refl
     alone (Some b) = refl
+
+-- settings that are silent are what no words choose
+pub none_chosen : {pick : Option Pick} {show : Option Show} → pick ≡ None → show ≡ None
+    → record { pick = pick; show = show } ≡ chosen []
+none_chosen no_pick no_show = rw (no_pick, no_show) refl
+
+-- what a word answers on each choice
+abbrev picked : List ℕ → Option Pick
+picked word = pick_of (setting_of word)
+
+abbrev shown : List ℕ → Option Show
+shown word = show_of (setting_of word)
+
+-- what some words and one more choose
+chosen_more : (words : List (List ℕ)) (word : List ℕ) → chosen (words ++ word ∷ []) ≡ record {
+  pick = option_or (first_some picked words) (picked word);
+  show = option_or (first_some shown words) (shown word);
+}
+chosen_more words word = rw (first_some-more picked words word, first_some-more shown words word) refl
+
+-- a word that is silent on a choice leaves the first answer
+or_none : {B : Type 0} (answer : Option B) → option_or answer None ≡ answer
+or_none None = refl
+or_none (Some b) = refl
 
 -- there is a first answer exactly where the elements with one are counted
 module _ {A B : Type 0} (answer : A → Option B) (p : A → Bool) (agrees : (x : A) → is_some (answer x) ≡ p x) where
@@ -158,18 +186,28 @@ module _ (allowed : List Choice) (words : List (List ℕ)) (word : List ℕ) (ri
   with_one_more =
       elim (setting_of word) as (λ s. setting_of word ≡ s → AreMore (settings_with allowed (chosen words) s)) [
         | None ↦ λ is. not_allowed (rw is (any_none allowed))
+        | Some (setting.Engine pick) ↦ λ is.
+            decided picked choice.Engine (λ word. picks (setting_of word)) (λ other. rw is refl)
+            (record { pick = Some pick; show = first_some shown words })
+            (λ none. sym (chosen_more words word ∙ rw (none, is, or_none) refl))
         | Some (setting.Show show) ↦ λ is.
-            let shown : List ℕ → Option Show = λ word. show_of (setting_of word) in
-            decided shown choice.Show (λ word. shows (setting_of word)) (λ other. rw is refl) (record { show = Some show })
-            (λ none. let first : first_some shown (words ++ word ∷ []) ≡ Some show = first_some-more shown words word ∙ rw (none, is) refl in rw first refl)
+            decided shown choice.Show (λ word. shows (setting_of word)) (λ other. rw is refl)
+            (record { pick = first_some picked words; show = Some show })
+            (λ none. sym (chosen_more words word ∙ rw (none, is, or_none) refl))
       ] refl
     where
       any_none : (list : List Choice) → list_any (is_made_by None) list ≡ false
       any_none [] = refl
       any_none (other ∷ list) = any_none list
 
+      picks : (s : Option Setting) → is_some (pick_of s) ≡ is_made_by s choice.Engine
+      picks None = refl
+      picks (Some (setting.Engine pick)) = refl
+      picks (Some (setting.Show show)) = refl
+
       shows : (s : Option Setting) → is_some (show_of s) ≡ is_made_by s choice.Show
       shows None = refl
+      shows (Some (setting.Engine pick)) = refl
       shows (Some (setting.Show show)) = refl
 
 -- the word at a place among words, after those before it

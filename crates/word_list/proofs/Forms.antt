@@ -13,7 +13,7 @@ use Rattle.word_list.specs.Request.{Asked}
 use Rattle.word_list.specs.Settings.{are_settings, chosen}
 use Rattle.word_list.specs.Form.{Form, Name, Word, Number, Last, command_of, form_of, any_request, asked_by}
 use Rattle.word_list.specs.Rule.{Begins, IsBadWord}
-use Rattle.word_list.specs.Left.{Left, Takes, TakesAs, Lacks, LacksAs, AreSettings, HasWrongSetting, Tells}
+use Rattle.word_list.specs.Left.{Left, Takes, TakesAs, Lacks, LacksAs, HasWrongSetting, Tells}
 use Rattle.word_list.proofs.Choices.{none_yet, front}
 
 -- every form has a list
@@ -71,36 +71,48 @@ module _ {A : Type 0} (reading : List ℕ → Option A) (form : Form) (asks : as
   told_lacking left bad lacks (Err b) is = record { told = record { count = 1; counted = omega (arith, lacks.next, ap (λ (b : BadWord). b.0) is); bad = unread left.words lacks.nothing } }
 
 -- a command's name, with which every request begins
-pub command_taken : (old new : Left) (command named : Command) → TakesAs command_of old command new → command ≡ named → (answer : Result Request BadWord) → Tells (form_of named) new answer → Tells any_request old answer
+pub command_taken : {old new : Left} {command named : Command} {answer : Result Request BadWord}
+    → TakesAs command_of old command new → command ≡ named
+    → Tells (form_of named) new answer → Tells any_request old answer
 unfolding any_request
-command_taken old new command named takes is = told_before any_request (form_of named) takes.word (λ words. rw (takes.is_read, is) refl) old new takes.taken
+command_taken {old} {new} {command} {named} {answer} takes is =
+    told_before any_request (form_of named) takes.word (λ words. rw (takes.is_read, is) refl) old new takes.taken answer
 
-pub command_lacking : (left : Left) (bad : BadWord) → LacksAs command_of left bad.0 → (answer : Result Request BadWord) → IsErrAnd answer (λ b. b ≡ bad) → Tells any_request left answer
+pub command_lacking : {left : Left} {bad : BadWord} {answer : Result Request BadWord}
+    → LacksAs command_of left bad.0 → IsErrAnd answer (λ b. b ≡ bad) → Tells any_request left answer
 unfolding any_request
-command_lacking = told_lacking command_of any_request refl (λ word words none. rw none refl)
+command_lacking {left} {bad} {answer} lacks =
+    told_lacking command_of any_request refl (λ word words none. rw none refl) left bad lacks answer
 
 -- any word
-pub word_taken : (next : List ℕ → Form) (old new : Left) (word : List ℕ) → Takes old word new → (answer : Result Request BadWord) → Tells (next word) new answer → Tells (Word next) old answer
-word_taken next old new word takes = told_before (Word next) (next word) word (λ words. refl) old new takes
+pub word_taken : {next : List ℕ → Form} {old new : Left} {word : List ℕ} {answer : Result Request BadWord}
+    → Takes old word new → Tells (next word) new answer → Tells (Word next) old answer
+word_taken {next} {old} {new} {word} {answer} takes =
+    told_before (Word next) (next word) word (λ words. refl) old new takes answer
 
-pub word_lacking : (next : List ℕ → Form) (left : Left) (bad : BadWord) → Lacks left bad.0 → (answer : Result Request BadWord) → IsErrAnd answer (λ b. b ≡ bad) → Tells (Word next) left answer
-word_lacking next left bad lacks = told_lacking Some (Word next) refl (λ word words none. cc) left bad (record { nothing = rw lacks.nothing refl; next = lacks.next })
+pub word_lacking : {next : List ℕ → Form} {left : Left} {bad : BadWord} {answer : Result Request BadWord}
+    → Lacks left bad.0 → IsErrAnd answer (λ b. b ≡ bad) → Tells (Word next) left answer
+word_lacking {next} {left} {bad} {answer} lacks =
+    told_lacking Some (Word next) refl (λ word words none. cc) left bad
+    (record { nothing = rw lacks.nothing refl; next = lacks.next }) answer
 
 -- a number
-pub number_taken : (next : ℕ → Form) (old new : Left) (n : ℕ) → TakesAs number_of old n new → (answer : Result Request BadWord) → Tells (next n) new answer → Tells (Number next) old answer
-number_taken next old new n takes = told_before (Number next) (next n) takes.word (λ words. rw takes.is_read refl) old new takes.taken
+pub number_taken : {next : ℕ → Form} {old new : Left} {n : ℕ} {answer : Result Request BadWord}
+    → TakesAs number_of old n new → Tells (next n) new answer → Tells (Number next) old answer
+number_taken {next} {old} {new} {n} {answer} takes =
+    told_before (Number next) (next n) takes.word (λ words. rw takes.is_read refl) old new takes.taken answer
 
-pub number_lacking : (next : ℕ → Form) (left : Left) (bad : BadWord) → LacksAs number_of left bad.0 → (answer : Result Request BadWord) → IsErrAnd answer (λ b. b ≡ bad) → Tells (Number next) left answer
-number_lacking next = told_lacking number_of (Number next) refl (λ word words none. rw none refl)
+pub number_lacking : {next : ℕ → Form} {left : Left} {bad : BadWord} {answer : Result Request BadWord}
+    → LacksAs number_of left bad.0 → IsErrAnd answer (λ b. b ≡ bad) → Tells (Number next) left answer
+number_lacking {next} {left} {bad} {answer} lacks =
+    told_lacking number_of (Number next) refl (λ word words none. rw none refl) left bad lacks answer
 
 -- settings
 module _ (allowed : List Choice) (asks : Settings → Asked) (left : Left) where
-  pub settings_told : (settings : Settings) → AreSettings allowed left settings → asked_by (Last allowed asks) left.words ≡ Some (asks settings)
-  settings_told settings are = rw (are.right, are.choice) refl
-
-  pub settings_wrong : (bad : BadWord) → HasWrongSetting allowed left bad.0 → (answer : Result Request BadWord) → IsErrAnd answer (λ b. b ≡ bad) → Tells (Last allowed asks) left answer
-  settings_wrong bad wrong (Ok request) is = absurd is
-  settings_wrong bad wrong (Err b) is =
+  settings_refused : (bad : BadWord) → HasWrongSetting allowed left bad.0 → (answer : Result Request BadWord)
+      → IsErrAnd answer (λ b. b ≡ bad) → Tells (Last allowed asks) left answer
+  settings_refused bad wrong (Ok request) is = absurd is
+  settings_refused bad wrong (Err b) is =
       let named = take (wrong.place + 1) left.words in
       let joined : named ++ drop (wrong.place + 1) left.words ≡ left.words = take-append-drop (wrong.place + 1) left.words in
       record {
@@ -130,3 +142,8 @@ module _ (allowed : List Choice) (asks : Settings → Asked) (left : Left) where
           ap (take k) (sym (take-append-drop wrong.place left.words)) ∙ take-append-le k right (drop wrong.place left.words) (omega (arith, wrong.inside, length-take wrong.place left.words)) in
           let are = front allowed (take k left.words) (drop k right) (ap (are_settings allowed) (ap (λ (xs : List (List ℕ)). xs ++ drop k right) cut ∙ take-append-drop k right) ∙ wrong.right) in
           ([], asks (chosen (take k left.words)), rw (append-nil, are) refl)
+
+pub settings_wrong : {allowed : List Choice} {asks : Settings → Asked}
+    {left : Left} {bad : BadWord} {answer : Result Request BadWord}
+    → HasWrongSetting allowed left bad.0 → IsErrAnd answer (λ b. b ≡ bad) → Tells (Last allowed asks) left answer
+settings_wrong {allowed} {asks} {left} {bad} {answer} wrong = settings_refused allowed asks left bad wrong answer

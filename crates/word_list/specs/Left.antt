@@ -42,8 +42,12 @@ pub record LacksAs {A : Type 0} (reading : List ℕ → Option A) (left : Left) 
 -- the settings with one more, where its choice is allowed and open
 abbrev pub settings_with : List Choice → Settings → Option Setting → Option Settings
 settings_with allowed settings None = None
+settings_with allowed settings (Some (setting.Engine pick)) =
+    if list_any (is_same choice.Engine) allowed && is_none settings.pick
+    then Some (record { pick = Some pick; show = settings.show }) else None
 settings_with allowed settings (Some (setting.Show show)) =
-    if list_any (is_same choice.Show) allowed && is_none settings.show then Some (record { show = Some show }) else None
+    if list_any (is_same choice.Show) allowed && is_none settings.show
+    then Some (record { pick = settings.pick; show = Some show }) else None
 
 -- the words left are settings, and these are chosen
 pub record AreSettings (allowed : List Choice) (left : Left) (settings : Settings) : Type 0 where

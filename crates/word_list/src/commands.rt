@@ -9,6 +9,8 @@ pub enum Command {
     Help,
     Version,
     Query,
+    Solve,
+    Scen,
 }
 
 /// The command of this name, if there is one.
@@ -19,6 +21,8 @@ pub fn command_named(name: &str) -> Option<Command>
         "--help" => Some(Command::Help),
         "--version" => Some(Command::Version),
         "query" => Some(Command::Query),
+        "solve" => Some(Command::Solve),
+        "scen" => Some(Command::Scen),
         _ => None,
     }
 }

@@ -6,7 +6,9 @@
 //! ```text
 //! --help
 //! --version
-//! query MAP SX SY GX GY [show=points|show=cells]
+//! query MAP SX SY GX GY [engine=plain] [show=points|show=cells]
+//! solve MAP SCRIPT [engine=plain]
+//! scen MAP SCEN [engine=plain]
 //! ```
 //!
 //! Names of files are any words, and numbers are 1 to 9 decimal digits. A list that is no request is
@@ -21,7 +23,7 @@ mod settings;
 mod words_left;
 
 pub use reading::read_words;
-pub use request::{BadWord, Request, Show};
+pub use request::{BadWord, Pick, Request, Show};
 
 #[cfg(test)]
 mod tests;

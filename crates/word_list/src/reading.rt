@@ -38,6 +38,8 @@ fn read(mut left: WordsLeft<'_>) -> Result<Request<'_>, BadWord>
         Command::Help => alone(left, Request::Help),
         Command::Version => alone(left, Request::Version),
         Command::Query => query(left),
+        Command::Solve => solve(left),
+        Command::Scen => scen(left),
     }
 }
 
@@ -59,13 +61,42 @@ fn query(mut left: WordsLeft<'_>) -> Result<Request<'_>, BadWord>
     let sy = left.number()?;
     let gx = left.number()?;
     let gy = left.number()?;
-    let settings = left.settings(&[Choice::Show])?;
+    let settings = left.settings(&[Choice::Engine, Choice::Show])?;
     Ok(Request::Query {
         map,
         sx,
         sy,
         gx,
         gy,
+        pick: settings.pick.unwrap_or_default(),
         show: settings.show.unwrap_or_default(),
+    })
+}
+
+/// The script to be solved that the words left name: MAP SCRIPT and its settings.
+fn solve(mut left: WordsLeft<'_>) -> Result<Request<'_>, BadWord>
+    ensures { Tells (form_of command.Solve) left.entry result }
+{
+    let map = left.word()?;
+    let script = left.word()?;
+    let settings = left.settings(&[Choice::Engine])?;
+    Ok(Request::Solve {
+        map,
+        script,
+        pick: settings.pick.unwrap_or_default(),
+    })
+}
+
+/// The scenario to be compared that the words left name: MAP SCEN and its settings.
+fn scen(mut left: WordsLeft<'_>) -> Result<Request<'_>, BadWord>
+    ensures { Tells (form_of command.Scen) left.entry result }
+{
+    let map = left.word()?;
+    let scen = left.word()?;
+    let settings = left.settings(&[Choice::Engine])?;
+    Ok(Request::Scen {
+        map,
+        scen,
+        pick: settings.pick.unwrap_or_default(),
     })
 }

@@ -16,8 +16,29 @@ pub enum Request<'a> {
         sy: u32,
         gx: u32,
         gy: u32,
+        pick: Pick,
         show: Show,
     },
+    /// What each command of the script does on the map.
+    Solve {
+        map: &'a str,
+        script: &'a str,
+        pick: Pick,
+    },
+    /// How the listed lengths of the scenario agree with the least ones on the map.
+    Scen {
+        map: &'a str,
+        scen: &'a str,
+        pick: Pick,
+    },
+}
+
+/// Which engine searches.
+#[derive(Clone, Copy, Debug, Default, PartialEq, Eq)]
+pub enum Pick {
+    /// The one that looks at every neighbour of a cell.
+    #[default]
+    Plain,
 }
 
 /// What the answer to a query shows of a walk.

@@ -2,6 +2,14 @@ use super::*;
 use std::alloc::{AllocError, Global};
 use std::test::*;
 
+fn words_of(alloc: Global, line: &str) -> Result<Vec<String>, AllocError> {
+    let mut words = Vec::new(alloc);
+    for word in line.split(' ') {
+        words.push(String::from_str(alloc, word)?)?;
+    }
+    Ok(words)
+}
+
 fn list_of(alloc: Global, texts: &[&str]) -> Result<Vec<String>, AllocError> {
     let mut words = Vec::new(alloc);
     for text in texts {
@@ -13,40 +21,42 @@ fn list_of(alloc: Global, texts: &[&str]) -> Result<Vec<String>, AllocError> {
 // Counted by hand, from the table of commands.
 #[test]
 fn the_first_word_of_no_request_is_named(rt: HostRuntime) -> Result<(), Fail> {
-    let lists: [(&[&str], u32); 9] = [
-        (&[], 1),
-        (&["make"], 1),
-        (&["--help", "x"], 2),
-        (&["query"], 2),
-        (&["query", "m", "0", "0", "2"], 6),
-        (&["query", "m", "0", "0", "2", "x", "y"], 6),
-        (&["query", "m", "0", "0", "0000000002", "2"], 5),
-        (
-            &[
-                "query",
-                "m",
-                "0",
-                "0",
-                "2",
-                "2",
-                "show=cells",
-                "show=points",
-            ],
-            8,
-        ),
-        (
-            &["query", "m", "0", "0", "2", "2", "engine=jps", "engine=jps"],
-            7,
-        ),
+    let lists: [(&str, u32); 24] = [
+        ("make", 1),
+        ("engine=plain", 1),
+        ("--help x", 2),
+        ("--version engine=plain", 2),
+        ("query", 2),
+        ("query m 0 0 2", 6),
+        ("query m 0 0 2 x y", 6),
+        ("query m 0 0 0000000002 2", 5),
+        ("query m 0 0 2 2 2", 7),
+        ("query m 0 0 2 2 show=cells show=points", 8),
+        ("query m 0 0 2 2 engine=jps engine=jps", 7),
+        ("query m 0 0 2 2 engine=plain engine=plain", 8),
+        ("query m 0 0 2 2 engine=plain show=cells engine=plain", 9),
+        ("query m engine=plain 0 0 2 2", 3),
+        ("solve", 2),
+        ("solve m", 3),
+        ("solve m s show=cells", 4),
+        ("solve m s engine=jps", 4),
+        ("solve m s engine=", 4),
+        ("solve m s engine=plain engine=plain", 5),
+        ("scen m", 3),
+        ("scen m s x", 4),
+        ("scen m s show=points engine=plain", 4),
+        ("scen m s engine=plain show=points", 5),
     ];
-    for (texts, number) in lists {
-        let words = list_of(rt.alloc(), texts)?;
+    for (line, number) in lists {
+        let words = words_of(rt.alloc(), line)?;
         assert!(rt; words.len() < 10);
         assert!(rt;
             matches!(read_words(&words), Err(BadWord(named)) if named == number),
-            "word {number}"
+            "{line}"
         );
     }
+    let none = Vec::new(rt.alloc());
+    assert!(rt; matches!(read_words(&none), Err(BadWord(1))));
     Ok(())
 }
 
@@ -54,7 +64,16 @@ fn the_first_word_of_no_request_is_named(rt: HostRuntime) -> Result<(), Fail> {
 fn a_query_is_read(rt: HostRuntime) -> Result<(), Fail> {
     let words = list_of(
         rt.alloc(),
-        &["query", "", "007", "1", "2", "000000003", "show=cells"],
+        &[
+            "query",
+            "",
+            "007",
+            "1",
+            "2",
+            "000000003",
+            "show=cells",
+            "engine=plain",
+        ],
     )?;
     assert!(rt; words.len() < 10);
     match read_words(&words) {
@@ -65,11 +84,13 @@ fn a_query_is_read(rt: HostRuntime) -> Result<(), Fail> {
                 sy,
                 gx,
                 gy,
+                pick,
                 show,
             },
         ) => {
             assert_eq!(rt; map, "");
             assert_eq!(rt; (sx, sy, gx, gy), (7, 1, 2, 3));
+            assert!(rt; pick == Pick::Plain);
             assert!(rt; show == Show::Cells);
         }
         _ => assert!(rt; false, "no query"),
@@ -78,7 +99,7 @@ fn a_query_is_read(rt: HostRuntime) -> Result<(), Fail> {
 }
 
 #[test]
-fn points_are_shown_by_default(rt: HostRuntime) -> Result<(), Fail> {
+fn plain_shows_points_by_default(rt: HostRuntime) -> Result<(), Fail> {
     let words = list_of(rt.alloc(), &["query", "show=cells", "0", "0", "2", "2"])?;
     assert!(rt; words.len() < 10);
     assert!(rt;
@@ -86,11 +107,47 @@ fn points_are_shown_by_default(rt: HostRuntime) -> Result<(), Fail> {
             read_words(&words),
             Ok(Request::Query {
                 map: "show=cells",
+                pick: Pick::Plain,
                 show: Show::Points,
                 ..
             })
         )
     );
+    Ok(())
+}
+
+#[test]
+fn a_map_stands_before_its_script_or_scenario(rt: HostRuntime) -> Result<(), Fail> {
+    for line in ["solve m s", "solve m s engine=plain"] {
+        let words = words_of(rt.alloc(), line)?;
+        assert!(rt; words.len() < 10);
+        assert!(rt;
+            matches!(
+                read_words(&words),
+                Ok(Request::Solve {
+                    map: "m",
+                    script: "s",
+                    pick: Pick::Plain,
+                })
+            ),
+            "{line}"
+        );
+    }
+    for line in ["scen m s", "scen m s engine=plain"] {
+        let words = words_of(rt.alloc(), line)?;
+        assert!(rt; words.len() < 10);
+        assert!(rt;
+            matches!(
+                read_words(&words),
+                Ok(Request::Scen {
+                    map: "m",
+                    scen: "s",
+                    pick: Pick::Plain,
+                })
+            ),
+            "{line}"
+        );
+    }
     Ok(())
 }
 

@@ -1,11 +1,9 @@
 use Rattle.std.proofs.Common.{◌≡◌, sym, ap, subst, ◌∙◌, arith}
-use Rattle.std.specs.Prelude.{Option, Some, None, string_bytes}
+use Rattle.std.specs.Prelude.{Some, None, string_bytes}
 use Rattle.std.proofs.lemmas.List.{length-map}
-use Rattle.word_list.specs.declared.request.Show.{Show}
-use Rattle.word_list.specs.declared.settings.Settings.{Settings}
 use Rattle.word_list.specs.Settings.{setting_of}
 use Rattle.word_list.specs.Left.{Left, HasWrongSetting, settings_with}
-use Rattle.word_list.proofs.Choices.{none_yet, with_next}
+use Rattle.word_list.proofs.Choices.{none_yet, none_chosen, with_next}
 use Rattle.word_list.proofs.words_left.WordsLeft.settings.Goals as goal
 
 pub loop-word-init : goal.loop-word-init
@@ -13,7 +11,7 @@ loop-word-init c =
     let number = ap (λ (left : Left). left.number) c.self.view_is in
     record {
       right = none_yet c.args.allowed.now;
-      choice = ap (λ (show : Option Show). let s : Settings = record { show = show } in s) c.default-settings.ensures;
+      choice = none_chosen c.default-settings.ensures.0 c.default-settings.ensures.1;
       next = omega (arith, number);
     }
 
