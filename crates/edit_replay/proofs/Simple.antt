@@ -1,6 +1,7 @@
 -- A least walk comes to no cell twice, so it has fewer steps than the map has cells.
 use Rattle.std.proofs.Common.{◌≡◌, ℕ, zero, suc, ◌+◌, ◌*◌, ◌^◌, ◌<◌, ◌≤◌, arith, length, List, [], ◌∷◌, Bool, true, false, ◌&&◌, ◌||◌, map, eqb, refl, ap, sym, ◌∙◌, subst, mul-le-mul}
-use Rattle.std.specs.Prelude.{nat_eq, if◌then◌else◌, ⊤}
+use Rattle.std.specs.Prelude.{nat_eq, if◌then◌else◌, IfOk, Ok, Err}
+use Rattle.std.specs.declared.result.Result.{Result}
 use Rattle.std.specs.List.{IsDistinct, AllByRecursion, list_any}
 use Rattle.std.proofs.lemmas.Map.Steps.{length-le_from_distinct_below}
 use Rattle.std.proofs.lemmas.Bool.Decides.{nat_tests}
@@ -15,7 +16,8 @@ use Rattle.grid_moves.specs.Reply.{Answer, outside, blocked, none, walk, IsRight
 use Rattle.grid_moves.specs.Walk.{IsLeastWalk, IsWalk, cost_of, is_walk, last_of}
 use Rattle.grid_moves.proofs.Legal.{free_inside, legal_is}
 use Rattle.grid_moves.proofs.Places.{number_below, one_cell}
-use Rattle.edit_replay.specs.Replies.{IsShort}
+use Rattle.edit_replay.specs.Replies.{IsShort, answer_of}
+use Rattle.edit_replay.specs.declared.reply.Reply.{Reply}
 
 and_both : (a b : Bool) → (a && b) ≡ true → (a ≡ true) × (b ≡ true)
 and_both true b e = (refl, e)
@@ -73,8 +75,8 @@ all_apart g s t v [] free w none_from = (first_apart g s t v [] free w none_from
 all_apart g s t v (d ∷ cells) free w none_from = (
   first_apart g s t v (d ∷ cells) free w none_from,
   all_apart g s t d cells free
-  (record { legal = (and_both (is_legal g v d) (is_walk g (d ∷ cells)) w.legal).1; ends = w.ends })
-  (λ others o most. none_from others o (IsAtMost-trans (cost_of (s ∷ others)) (cost_of (d ∷ cells)) (cost_of (v ∷ d ∷ cells)) most (IsAtMost-more_left (move_cost v d) (cost_of (d ∷ cells))))),
+      (record { legal = (and_both (is_legal g v d) (is_walk g (d ∷ cells)) w.legal).1; ends = w.ends })
+      (λ others o most. none_from others o (IsAtMost-trans (cost_of (s ∷ others)) (cost_of (d ∷ cells)) (cost_of (v ∷ d ∷ cells)) most (IsAtMost-more_left (move_cost v d) (cost_of (d ∷ cells))))),
 )
 
 -- what is left of a least walk after its first move is least
@@ -123,7 +125,7 @@ length-map f (x ∷ xs) = ap (λ n. suc n) (length-map f xs)
 pub least_steps : (g : GridData) (s t : Cell) (cells : List Cell) → IsLeastWalk g s t cells → length cells < g.height * g.width
 least_steps g s t cells l =
     let most : length (map (cell_number g.width) (s ∷ cells)) ≤ g.height * g.width
-        = length-le_from_distinct_below (map (cell_number g.width) (s ∷ cells)) (g.height * g.width) (least_distinct g s t cells l) (numbers_below g s cells l.walk.legal) in
+    = length-le_from_distinct_below (map (cell_number g.width) (s ∷ cells)) (g.height * g.width) (least_distinct g s t cells l) (numbers_below g s cells l.walk.legal) in
     let same : length (map (cell_number g.width) (s ∷ cells)) ≡ suc (length cells) = length-map (cell_number g.width) (s ∷ cells) in
     omega arith
 
@@ -137,10 +139,10 @@ few_cells g grid =
 pub least_is_short : (g : GridData) (s t : Cell) (points : List Cell) (cost : Cost) → IsGrid g → StandsForLeast g s t points cost → cost.a + cost.b < 2 ^ 24
 least_is_short g s t points cost grid stands =
     subst (λ (c : Cost). c.a + c.b < 2 ^ 24) stands.priced (
-      let steps : (cost_of (s ∷ stands.cells)).a + (cost_of (s ∷ stands.cells)).b ≡ length stands.cells = steps-cost_of s stands.cells in
-      let fewer : length stands.cells < g.height * g.width = least_steps g s t stands.cells stands.least in
-      let few : g.height * g.width ≤ 2 ^ 24 = few_cells g grid in
-      omega arith)
+    let steps : (cost_of (s ∷ stands.cells)).a + (cost_of (s ∷ stands.cells)).b ≡ length stands.cells = steps-cost_of s stands.cells in
+    let fewer : length stands.cells < g.height * g.width = least_steps g s t stands.cells stands.least in
+    let few : g.height * g.width ≤ 2 ^ 24 = few_cells g grid in
+    omega arith)
 
 -- and so has the walk of a right answer
 pub right_is_short : (g : GridData) (s t : Cell) (answer : Answer) → IsGrid g → IsRight g s t answer → IsShort answer
@@ -148,3 +150,7 @@ right_is_short g s t outside grid right = tt
 right_is_short g s t blocked grid right = tt
 right_is_short g s t none grid right = tt
 right_is_short g s t (walk points cost) grid right = least_is_short g s t points cost grid right.1
+
+pub reply_is_short : {E : Type 0} (g : GridData) (s t : Cell) (result : Result Reply E) → IsGrid g → IfOk result (λ reply. IsRight g s t (answer_of reply)) → IfOk result (λ reply. IsShort (answer_of reply))
+reply_is_short g s t (Ok reply) grid right = right_is_short g s t (answer_of reply) grid right
+reply_is_short g s t (Err fault) grid right = tt

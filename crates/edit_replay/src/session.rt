@@ -1,7 +1,7 @@
 //! The session.
 
 ghost use Rattle.std.specs.Prelude.{◌≡◌, ◌<◌, IfOk, IfSome, MatchOption, true, false};
-ghost use Rattle.grid_moves.specs.Grid.{GridData, grid_of, is_inside};
+ghost use Rattle.grid_moves.specs.Grid.{GridData, IsGrid, grid_of, is_inside};
 ghost use Rattle.grid_moves.specs.Reply.{IsRight};
 ghost use Rattle.edit_replay.specs.Edited.{edit_at, edit_reply};
 ghost use Rattle.edit_replay.specs.Replies.{answer_of, AddsEdit, EditsSo, IsEnd, IsRunReply, IsShort};
@@ -42,7 +42,8 @@ impl Model for Session {
 
 // The cell of a queried column and row, where it lies inside.
 fn cell_at<T: Terrain>(t: &T, x: u32, y: u32) -> Option<Cell>
-    ensures { MatchOption result (is_inside (T.grid t.now) (record { x = x; y = y }) ≡ false) (IsEnd (T.grid t.now) x y) }
+    ensures cell { MatchOption result (is_inside (T.grid t.now) (record { x = x; y = y }) ≡ false) (IsEnd (T.grid t.now) x y) }
+    ensures whole { IsGrid (T.grid t.now) }
 {
     if x < u32::from(t.width()) && y < u32::from(t.height()) {
         Some(Cell {
