@@ -1,12 +1,15 @@
 -- Edited grids: no edit at all, and one edit more.
-use Rattle.std.proofs.Common.{◌≡◌, ◌≢◌, ℕ, zero, suc, ◌+◌, ◌<◌, ◌≤◌, arith, length, List, [], ◌∷◌, ◌++◌, Bool, true, false, ◌&&◌, cond, map, reverse, get_or, refl, ap, sym, ◌∙◌, subst}
+use Rattle.std.proofs.Common.{◌≡◌, ◌≢◌, ℕ, zero, suc, ◌+◌, ◌<◌, ◌≤◌, arith, length, List, [], ◌∷◌, ◌++◌, Bool, true, false, ◌&&◌, cond, map, reverse, get_or, refl, ap, sym, ◌∙◌, subst, zero-add}
 use Rattle.std.specs.Prelude.{Option, Some, None, nat_eq, not, if◌then◌else◌, slice_set}
 use Rattle.std.specs.List.{find, enumerate_from}
 use Rattle.std.specs.Option.{option_map_or}
 use Rattle.std.proofs.lemmas.List.{reverse-append, set-get_or}
 use Rattle.std.proofs.lemmas.Bool.Decides.{nat_tests}
 use Rattle.grid_moves.specs.declared.Cell.{Cell}
-use Rattle.grid_moves.specs.Grid.{GridData, cell_number, grid_with, is_free, is_inside}
+use Rattle.grid_moves.specs.Grid.{GridData, IsGrid, cell_number, grid_with, is_free, is_inside}
+use Rattle.grid_moves.specs.Move.{is_same}
+use Rattle.grid_moves.proofs.Legal.{is_same-cell, is_same-itself}
+use Rattle.grid_moves.proofs.Places.{number_below, one_cell}
 use Rattle.edit_replay.specs.declared.reply.EditReply.{EditReply}
 use Rattle.edit_replay.specs.declared.reply.EditReply.TheVariants.{Done, Same, Outside}
 use Rattle.edit_replay.specs.Edited.{Edit, asked, edited, names}
@@ -119,3 +122,57 @@ pub adds_done : (g after : GridData) (e : Edit) → is_inside g e.cell ≡ true 
 adds_done g after e inside changed m before is =
     let has : is_inside m e.cell ≡ true = sym (is_inside-edited m before e.cell) ∙ ap (λ (k : GridData). is_inside k e.cell) (sym is) ∙ inside in
     changed ∙ ap (λ (k : GridData). grid_with k e.cell e.free) is ∙ sym (edited-more m before e has)
+
+-- the flag at a place is made of the flag there and the place
+flag_at : (f : ℕ → Bool → Bool) (k : ℕ) (free : List Bool) (i : ℕ) → i < length free → get_or (flags f k free) i false ≡ f (k + i) (get_or free i false)
+flag_at f k [] i h = absurd (omega arith)
+flag_at f k (b ∷ free) zero h = let e : k ≡ k + 0 = omega arith in ap (λ (n : ℕ). f n b) e
+flag_at f k (b ∷ free) (suc i) h =
+    let e : (k + 1) + i ≡ k + suc i = omega arith in
+    flag_at f (k + 1) free i (omega arith) ∙ ap (λ (n : ℕ). f n (get_or free i false)) e
+
+find-agree : (p q : Edit → Bool) → ((e : Edit) → p e ≡ q e) → (es : List Edit) → find p es ≡ find q es
+find-agree p q agree [] = refl
+find-agree p q agree (e ∷ es) =
+    ap (λ (b : Bool). cond b (Some e) (find p es)) (agree e)
+    ∙ ap (λ (o : Option Edit). cond (q e) (Some e) o) (find-agree p q agree es)
+
+-- an edit names a cell of the map exactly where its cell is that one
+names-is_same : (g : GridData) (c : Cell) → is_inside g c ≡ true → (e : Edit) → names g e (cell_number g.width c) ≡ is_same e.cell c
+names-is_same g c inside e = by_test (is_same e.cell c) refl
+  where
+    none : is_same e.cell c ≡ false → (b : Bool) → names g e (cell_number g.width c) ≡ b → b ≡ false
+    none other false n = refl
+    none other true n =
+        let column : e.cell.x < g.width = grind (arith, nat_tests) in
+        let its_column : c.x < g.width = grind (arith, nat_tests) in
+        let number : cell_number g.width e.cell ≡ cell_number g.width c = grind (arith, nat_tests) in
+        let one : e.cell ≡ c = one_cell g.width e.cell c column its_column number in
+        let same : is_same e.cell c ≡ true = ap (λ (d : Cell). is_same d c) one ∙ is_same-itself c in
+        absurd (cc)
+
+    by_test : (b : Bool) → is_same e.cell c ≡ b → names g e (cell_number g.width c) ≡ b
+    by_test true same =
+        ap (λ (d : Cell). is_inside g d && nat_eq (cell_number g.width d) (cell_number g.width c)) (is_same-cell e.cell c same)
+        ∙ rw (inside, itself (cell_number g.width c)) refl
+    by_test false other = none other (names g e (cell_number g.width c)) refl
+
+-- the last edit whose cell this is decides on it, and where there is none, the cell is as it was
+pub is_free-edited : (g : GridData) (edits : List Edit) (c : Cell) → IsGrid g → is_inside g c ≡ true → is_free (edited g edits) c ≡ option_map_or (λ edit. edit.free) (find (λ edit. is_same edit.cell c) (reverse edits)) (is_free g c)
+unfolding edited
+is_free-edited g edits c grid inside =
+    let number : ℕ = cell_number g.width c in
+    let was : Bool = get_or g.free number false in
+    let now : is_free (edited g edits) c ≡ get_or (flags (asked g edits) 0 g.free) number false = rw inside refl in
+    let before : is_free g c ≡ was = rw inside refl in
+    let by_number : find (λ edit. names g edit number) (reverse edits) ≡ find (λ edit. is_same edit.cell c) (reverse edits)
+        = find-agree (λ edit. names g edit number) (λ edit. is_same edit.cell c) (names-is_same g c inside) (reverse edits) in
+    now ∙ flag_at (asked g edits) 0 g.free number below ∙ ap (λ (n : ℕ). asked g edits n was) (zero-add number)
+    ∙ ap (λ (o : Option Edit). option_map_or (λ edit. edit.free) o was) by_number
+    ∙ ap (λ (b : Bool). option_map_or (λ edit. edit.free) (find (λ edit. is_same edit.cell c) (reverse edits)) b) (sym before)
+  where
+    below : cell_number g.width c < length g.free
+    below =
+        let column : c.x < g.width = grind (arith, nat_tests) in
+        let row : c.y < g.height = grind (arith, nat_tests) in
+        rw grid.whole (number_below g.width g.height c column row)
