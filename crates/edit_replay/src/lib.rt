@@ -6,6 +6,8 @@
 
 mod reply;
 mod session;
+#[cfg(test)]
+mod tests;
 
 pub use plain_search::Taken;
 pub use reply::{EditReply, Reply};
