@@ -2,3 +2,4 @@ pub mod Values
 pub mod Split
 pub mod Lines
 pub mod Laws
+pub mod Kept

@@ -1,5 +1,5 @@
 -- Lengths in decimals.
-use Rattle.std.specs.Prelude.{ℕ, Bool, ◌+◌, ◌==◌, ◌&&◌, if◌then◌else◌, List, [], ◌++◌, length, take, drop, position, Option, Some, None}
+use Rattle.std.specs.Prelude.{ℕ, Bool, ◌+◌, ◌^◌, ◌<◌, ◌≤◌, ◌==◌, ◌&&◌, if◌then◌else◌, List, [], ◌++◌, length, take, drop, position, Option, Some, None}
 use Rattle.text_line.specs.Numbers.{is_number, value_of}
 use Rattle.root2_cost.specs.declared.lengths.Decimal.{Decimal}
 
@@ -22,3 +22,8 @@ length_parted word (Some point) =
 -- the length that a word spells, where it spells one
 unfoldable pub length_of : List ℕ → Option Decimal
 length_of word = length_parted word (position is_point word)
+
+-- a length has at most 18 digits, of which at most ten stand behind the point
+pub record IsKept (length : Decimal) : Type 0 where
+  pub digits : length.digits < 10 ^ 18
+  pub places : length.places ≤ 10

@@ -1,12 +1,13 @@
 //! Reading a scenario from its text.
 
-ghost use Rattle.std.specs.Prelude.{◌≡◌, ◌≢◌, ◌≤◌, ◌+◌, ◌^◌, length, List};
+ghost use Rattle.std.specs.Prelude.{◌≡◌, ◌≢◌, ◌≤◌, ◌+◌, ◌^◌, ℕ, length, List, slice_get};
 ghost use Rattle.std.specs.Prelude.{Some, Ok, Err, IfOk, IfErr};
 ghost use Rattle.text_line.specs.Places.{lines_at, line_at};
 ghost use Rattle.text_line.specs.Numbers.{number_of};
 ghost use Rattle.scen_text.specs.declared.fault.ScenFault.{ScenFault};
 ghost use Rattle.scen_text.specs.declared.fault.ScenFault.TheVariants.{NoMemory};
 ghost use Rattle.scen_text.specs.declared.entry.Entry.{Entry};
+ghost use Rattle.scen_text.specs.Lengths.{IsKept};
 ghost use Rattle.scen_text.specs.Spelling.{Spells};
 ghost use Rattle.scen_text.specs.Faults.{number_fault, has_version, words_fault, entry_in, scen_of, BreaksFirst, Tells};
 ghost use Rattle.scen_text.specs.Progress.{Judges, ReadsLine, plain_words, line_given};
@@ -26,6 +27,9 @@ pub fn read_scen(alloc: Global, text: &[u8]) -> Result<Vec<Entry>, ScenFault>
     requires { length text.now ≤ 2 ^ 26 }
     // What is read is spelled so.
     ensures found { IfOk result (λ read. Spells text.now read.items) }
+    // Each length has at most 18 digits, at most ten of them behind the point.
+    ensures kept { IfOk result (λ read. (k : ℕ) (entry : Entry) → slice_get read.items k ≡ Some entry
+        → IsKept entry.length) }
     // What is spelled so is read, unless memory runs out.
     ensures only { (spelled : List Entry) → Spells text.now spelled → Tells result (Ok spelled) }
     // A fault is that of the first line that breaks the grammar.

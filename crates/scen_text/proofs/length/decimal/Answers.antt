@@ -1,19 +1,9 @@
-use Rattle.std.proofs.Common.{◌≡◌, ◌≤◌, ℕ, List, min, take, length, refl, sym, ap, ◌∙◌, true, ◌&&◌, leb, arith}
-use Rattle.std.specs.List.{list_all}
-use Rattle.std.specs.Char.{is_ascii_digit}
-use Rattle.text_line.specs.Numbers.{is_number}
+use Rattle.std.proofs.Common.{◌≡◌, ◌≤◌, ℕ, min, take, length, refl, sym, ap, ◌∙◌, arith}
 use Rattle.std.specs.Str.Parse.{digits_value_after}
-use Rattle.std.proofs.lemmas.Bool.{and_parts, leb-true}
 use Rattle.std.proofs.lemmas.List.{take_min, length-take}
 use Rattle.text_line.proofs.Digits.{value_of-lt}
-use Rattle.scen_text.proofs.Values.{after_append, digits_part, both-lt}
+use Rattle.scen_text.proofs.Values.{after_append, digits_part, short_number, both-lt}
 use Rattle.scen_text.proofs.length.decimal.Goals as goal
-
-short_number : (most : ℕ) (word : List ℕ) → is_number most word ≡ true → (length word ≤ most) × (list_all is_ascii_digit word ≡ true)
-short_number most word is =
-    let parts = and_parts (leb 1 (length word) && leb (length word) most) (list_all is_ascii_digit word) is in
-    let sizes = and_parts (leb 1 (length word)) (leb (length word) most) parts.0 in
-    (leb-true (length word) most sizes.1, parts.1)
 
 min_flip : (m n : ℕ) → min m n ≡ min n m
 min_flip m n = omega arith
