@@ -1,4 +1,8 @@
 pub mod Unfolding
-pub mod Reading
 pub mod Writing
-pub mod Working
+pub mod Readings
+pub mod Tallies
+pub mod Pieces
+pub mod Replying
+pub mod Judgements
+pub mod Works

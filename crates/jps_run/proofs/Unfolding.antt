@@ -1,11 +1,14 @@
 -- Points that unfold lie on lines.
-use Rattle.std.proofs.Common.{◌≡◌, refl, ap, sym, ◌∙◌, Bool, true, false, ◌&&◌, List, [], ◌∷◌, ◌++◌}
+use Rattle.std.proofs.Common.{◌≡◌, refl, ap, sym, ◌∙◌, subst, ℕ, Bool, true, false, ◌&&◌, List, [], ◌∷◌, ◌++◌}
 use Rattle.std.specs.Prelude.{Option, Some, None, option_map, if◌then◌else◌}
 use Rattle.grid_moves.specs.declared.Cell.{Cell}
 use Rattle.grid_moves.specs.Grid.{GridData}
 use Rattle.grid_moves.specs.Points.{are_lined, is_lined, segment, steps_between, unfolded_from, unfolding_of}
 use Rattle.grid_moves.specs.Reply.{Answer, outside, blocked, none, walk, IsRight}
-use Rattle.jps_run.specs.Lines.{Unfolds}
+use Rattle.edit_replay.specs.declared.reply.Reply.{Reply}
+use Rattle.edit_replay.specs.Replies.{answer_of}
+use Rattle.word_list.specs.declared.request.Show.{Show}
+use Rattle.jps_run.specs.Lines.{Unfolds, IsLineOf, AppendsLine, IsRightLine}
 
 module _ where
   lined_from : (p : Cell) (points : List Cell) (cells : List Cell) → unfolded_from p points ≡ Some cells → is_lined (p ∷ points) ≡ true
@@ -34,3 +37,15 @@ module _ where
   right_unfolds g s t blocked r = tt
   right_unfolds g s t none r = tt
   right_unfolds g s t (walk points cost) r = lined points (s ∷ r.1.cells) r.1.unfolds
+
+-- the points of a right reply unfold
+pub replied_unfolds : (g : GridData) (s t : Cell) (reply : Reply) → IsRight g s t (answer_of reply) → Unfolds (answer_of reply)
+replied_unfolds g s t reply r = right_unfolds g s t (answer_of reply) r
+
+-- a line that was appended to nothing stands alone
+pub right_line : (g h : GridData) (s t : Cell) (show : Show) (answer : Answer) (line : List ℕ) {before : List ℕ} → h ≡ g → IsRight h s t answer → before ≡ [] → AppendsLine show answer before line → IsRightLine g s t show line
+right_line g h s t show answer line e r n a = record {
+  answer = answer;
+  right = subst (λ (k : GridData). IsRight k s t answer) e r;
+  shown = subst (λ (l : List ℕ). IsLineOf show answer l) (sym (a.appended ∙ ap (λ (b : List ℕ). b ++ a.line) n)) a.shown;
+}

@@ -1,5 +1,14 @@
 pub mod Lines
+pub mod FaultLines
 pub mod Texts
+pub mod Held
+pub mod Matched
+pub mod Answers
+pub mod Rows
+pub mod Tally
 pub mod Outcome
 pub mod Ending
 pub mod Stops
+pub mod Sending
+pub mod Answering
+pub mod Judging

@@ -1,12 +1,12 @@
--- The lines that are printed.
+-- The lines that answer a query or an edit.
 use Rattle.std.specs.Prelude.{◌≡◌, ℕ, List, [], ◌∷◌, ◌++◌, codes, decimal, Some, true, ⊤}
 use Rattle.root2_cost.specs.declared.Cost.{Cost}
 use Rattle.grid_moves.specs.declared.Cell.{Cell}
 use Rattle.grid_moves.specs.Grid.{GridData}
 use Rattle.grid_moves.specs.Points.{unfolding_of, is_lined}
 use Rattle.grid_moves.specs.Reply.{Answer, outside, blocked, none, walk, IsRight}
-use Rattle.map_text.specs.declared.fault.MapFault.{MapFault}
-use Rattle.map_text.specs.declared.fault.MapFault.TheVariants.{Header, Side, Short, Missing, Byte, After, NoMemory}
+use Rattle.edit_replay.specs.declared.reply.EditReply.{EditReply}
+use Rattle.edit_replay.specs.declared.reply.EditReply.TheVariants as edit
 use Rattle.word_list.specs.declared.request.Show.{Show}
 use Rattle.word_list.specs.declared.request.Show.TheVariants.{Points, Cells}
 
@@ -50,20 +50,8 @@ pub record IsRightLine (g : GridData) (s t : Cell) (show : Show) (line : List �
   pub right : IsRight g s t answer
   pub shown : IsLineOf show answer line
 
--- the line of a refused list of words
-abbrev pub word_line : ℕ → List ℕ
-word_line number = codes "jps: word " ++ decimal number ++ codes "\n"
-
--- a fault of a map, by its name and its line
-abbrev pub map_fault_line : List ℕ → ℕ → List ℕ
-map_fault_line name number = codes "jps: map " ++ name ++ codes " line " ++ decimal number ++ codes "\n"
-
--- the line of a map that is refused; want of memory is no fault of a map
-abbrev pub map_line : MapFault → List ℕ
-map_line (Header number) = map_fault_line (codes "M1") number
-map_line (Side number) = map_fault_line (codes "M2") number
-map_line (Short number) = map_fault_line (codes "M3") number
-map_line (Missing number) = map_fault_line (codes "M4") number
-map_line (Byte number column) = codes "jps: map M5 line " ++ decimal number ++ codes " column " ++ decimal column ++ codes "\n"
-map_line (After number) = map_fault_line (codes "M6") number
-map_line NoMemory = codes "jps: memory\n"
+-- the line of the reply to an edit
+abbrev pub edit_line : EditReply → List ℕ
+edit_line edit.Done = codes "ok\n"
+edit_line edit.Same = codes "same\n"
+edit_line edit.Outside = codes "outside\n"

@@ -1,16 +1,22 @@
 -- What a request comes to, where nothing outside fails and memory is there.
-use Rattle.std.specs.Prelude.{◌≡◌, ℕ, ◌^◌, List, [], codes, Ok, Err, Some}
-use Rattle.grid_moves.specs.Grid.{grid_of}
+use Rattle.std.specs.Prelude.{◌≡◌, ℕ, ◌⊎◌, List, [], Option, Some, None}
+use Rattle.std.specs.List.{concat}
+use Rattle.grid_moves.specs.Grid.{GridData, grid_of}
 use Rattle.io_edge.specs.Told.{Held}
-use Rattle.io_edge.specs.Whole.{IsWhole, IsLonger}
-use Rattle.map_text.specs.declared.fault.MapFault.{MapFault}
 use Rattle.map_text.specs.Map.{Map}
-use Rattle.map_text.specs.Faults.{map_of}
-use Rattle.word_list.specs.declared.request.Show.{Show}
+use Rattle.script_text.specs.declared.command.Command.{Command}
+use Rattle.scen_text.specs.declared.entry.Entry.{Entry}
 use Rattle.word_list.specs.Form.{asked_by, any_request}
-use Rattle.word_list.specs.Request.{Asked, Help, Version, Query}
+use Rattle.word_list.specs.Request.{Asked, Help, Version, Query, Solve, Scen}
 use Rattle.word_list.specs.Rule.{IsBadWord}
-use Rattle.jps_run.specs.Lines.{IsRightLine, word_line, map_line}
+use Rattle.word_list.specs.declared.request.Pick.{Pick}
+use Rattle.word_list.specs.declared.request.Show.{Show}
+use Rattle.jps_run.specs.declared.row.Row.{Row}
+use Rattle.jps_run.specs.Lines.{IsRightLine}
+use Rattle.jps_run.specs.FaultLines.{word_line}
+use Rattle.jps_run.specs.Held.{HoldsMap, IsMapRefused, HoldsScript, IsScriptRefused, HoldsScen, IsScenRefused}
+use Rattle.jps_run.specs.Answers.{AreAnswers, AreFirstAnswers}
+use Rattle.jps_run.specs.Rows.{AreRows, AreFirstRows, scen_lines, scen_status}
 use Rattle.jps_run.specs.Texts.{help_text, version_text}
 
 -- the status, what `out` gets, and the line that `err` gets
@@ -20,51 +26,84 @@ pub record Outcome : Type 0 where
   pub line : List ℕ
 
 -- a request that is answered
-abbrev pub answered : List ℕ → Outcome
-answered out = record { status = 0; out = out; line = [] }
+abbrev pub answered : ℕ → List ℕ → Outcome
+answered status out = record { status = status; out = out; line = [] }
 
 -- words or a text that are refused
 abbrev pub refused : ℕ → List ℕ → Outcome
 refused status line = record { status = status; out = []; line = line }
 
--- the longest map file, in bytes
-abbrev pub longest_map : ℕ
-longest_map = 2 ^ 26
-
 -- the words spell what is asked
 abbrev pub Ask : List (List ℕ) → Asked → Type 0
 Ask words asked = asked_by any_request words ≡ Some asked
 
--- what asks for a file names it
-abbrev pub NamesFile : Asked → List ℕ → Type 0
-NamesFile Help name = ⊥
-NamesFile Version name = ⊥
-NamesFile (Query map sx sy gx gy show) name = name ≡ map
+-- the map's file, where a request names one
+abbrev pub map_named : Asked → Option (List ℕ)
+map_named Help = None
+map_named Version = None
+map_named (Query map sx sy gx gy pick show) = Some map
+map_named (Solve map script pick) = Some map
+map_named (Scen map scen pick) = Some map
+
+-- the file beside the map's, where a request names one
+abbrev pub second_named : Asked → Option (List ℕ)
+second_named Help = None
+second_named Version = None
+second_named (Query map sx sy gx gy pick show) = None
+second_named (Solve map script pick) = Some script
+second_named (Scen map scen pick) = Some scen
 
 -- the words name the file
 pub record NameFile (words : List (List ℕ)) (name : List ℕ) : Type 0 where
   pub asked : Asked
   pub ask : Ask words asked
-  pub names : NamesFile asked name
+  pub names : (map_named asked ≡ Some name) ⊎ (second_named asked ≡ Some name)
 
--- what a held map file comes to where it is no map within the limit
-pub data IsMapRefused (held : Held) : List ℕ → Type 0 where
-  long : IsLonger held longest_map → IsMapRefused held (codes "jps: map long\n")
-  fault : (text : List ℕ) (f : MapFault) → IsWhole held longest_map text → map_of text ≡ Err f → IsMapRefused held (map_line f)
+-- the grid of a map
+abbrev pub map_grid : Map → GridData
+map_grid m = grid_of m.width m.height m.cells
 
--- the held file spells this map, within the limit
-pub record HoldsMap (held : Held) (m : Map) : Type 0 where
-  pub text : List ℕ
-  pub whole : IsWhole held longest_map text
-  pub spelled : map_of text ≡ Ok m
+-- what a request comes to on its map, with the files that are held
+pub data IsOutcomeOn (holds : List ℕ → Held) (m : Map) : Asked → Outcome → Type 0 where
+  replied : (map : List ℕ) (sx sy gx gy : ℕ) (pick : Pick) (show : Show) (line : List ℕ)
+      → IsRightLine (map_grid m) (record { x = sx; y = sy }) (record { x = gx; y = gy }) show line
+      → IsOutcomeOn holds m (Query map sx sy gx gy pick show) (answered 0 line)
+  no_script : (map script : List ℕ) (pick : Pick) (line : List ℕ) → IsScriptRefused (holds script) line
+      → IsOutcomeOn holds m (Solve map script pick) (refused 3 line)
+  solved : (map script : List ℕ) (pick : Pick) (commands : List Command) (lines : List (List ℕ)) → HoldsScript (holds script) commands
+      → AreAnswers (map_grid m) commands lines → IsOutcomeOn holds m (Solve map script pick) (answered 0 (concat lines))
+  no_scen : (map scen : List ℕ) (pick : Pick) (line : List ℕ) → IsScenRefused (holds scen) line
+      → IsOutcomeOn holds m (Scen map scen pick) (refused 3 line)
+  judged : (map scen : List ℕ) (pick : Pick) (entries : List Entry) (rows : List Row) → HoldsScen (holds scen) entries
+      → AreRows (map_grid m) entries rows → IsOutcomeOn holds m (Scen map scen pick) (answered (scen_status rows) (concat (scen_lines rows)))
 
--- what words and held files come to
+-- the request's map is this one
+pub record HasMap (words : List (List ℕ)) (holds : List ℕ → Held) (asked : Asked) (m : Map) : Type 0 where
+  pub ask : Ask words asked
+  pub name : List ℕ
+  pub named : map_named asked ≡ Some name
+  pub held : HoldsMap (holds name) m
+
+-- what words and held files come to: the first of these that applies
 pub data IsOutcome (words : List (List ℕ)) (holds : List ℕ → Held) : Outcome → Type 0 where
   bad_word : (number : ℕ) → IsBadWord any_request words number → IsOutcome words holds (refused 2 (word_line number))
-  help : Ask words Help → IsOutcome words holds (answered help_text)
-  version : Ask words Version → IsOutcome words holds (answered version_text)
-  no_map : (map : List ℕ) (sx sy gx gy : ℕ) (show : Show) (line : List ℕ) → Ask words (Query map sx sy gx gy show)
-      → IsMapRefused (holds map) line → IsOutcome words holds (refused 3 line)
-  replied : (map : List ℕ) (sx sy gx gy : ℕ) (show : Show) (m : Map) (line : List ℕ) → Ask words (Query map sx sy gx gy show)
-      → HoldsMap (holds map) m → IsRightLine (grid_of m.width m.height m.cells) (record { x = sx; y = sy }) (record { x = gx; y = gy }) show line
-      → IsOutcome words holds (answered line)
+  help : Ask words Help → IsOutcome words holds (answered 0 help_text)
+  version : Ask words Version → IsOutcome words holds (answered 0 version_text)
+  no_map : (asked : Asked) (name line : List ℕ) → Ask words asked → map_named asked ≡ Some name → IsMapRefused (holds name) line
+      → IsOutcome words holds (refused 3 line)
+  on_map : (asked : Asked) (m : Map) (outcome : Outcome) → HasMap words holds asked m → IsOutcomeOn holds m asked outcome
+      → IsOutcome words holds outcome
+
+-- the first lines of a request's right output on its map
+pub data AreFirstOn (holds : List ℕ → Held) (m : Map) : Asked → List (List ℕ) → Type 0 where
+  answers : (map script : List ℕ) (pick : Pick) (commands : List Command) (lines : List (List ℕ)) → HoldsScript (holds script) commands
+      → AreFirstAnswers (map_grid m) commands lines → AreFirstOn holds m (Solve map script pick) lines
+  rows : (map scen : List ℕ) (pick : Pick) (entries : List Entry) (lines : List (List ℕ)) → HoldsScen (holds scen) entries
+      → AreFirstRows (map_grid m) entries lines → AreFirstOn holds m (Scen map scen pick) lines
+
+-- the first lines of the right output of words and held files
+pub record AreFirst (words : List (List ℕ)) (holds : List ℕ → Held) (lines : List (List ℕ)) : Type 0 where
+  pub asked : Asked
+  pub map : Map
+  pub has_map : HasMap words holds asked map
+  pub first : AreFirstOn holds map asked lines

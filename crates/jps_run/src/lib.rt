@@ -1,8 +1,14 @@
 //! The top call of the program: words, files and streams in, a status out.
 #![tactic(auto)]
 
+mod faults;
+mod files;
 mod lines;
 mod query;
+mod row;
+mod scenario;
+mod script;
+mod sending;
 mod stop;
 #[cfg(test)]
 mod tests;

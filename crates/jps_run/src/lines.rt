@@ -1,16 +1,13 @@
-//! The lines that are printed.
+//! The lines that answer a query or an edit.
 
-ghost use Rattle.std.specs.Prelude.{◌≡◌, ◌≢◌, ◌++◌, true, take, IfOk, OnOk, codes, decimal};
-ghost use Rattle.map_text.specs.declared.fault.MapFault.TheVariants.{NoMemory as no_memory};
-ghost use Rattle.grid_moves.specs.Grid.{GridData};
+ghost use Rattle.std.specs.Prelude.{◌≡◌, ◌++◌, ◌∷◌, take, OnOk, codes, decimal};
 ghost use Rattle.edit_replay.specs.Replies.{answer_of};
 ghost use Rattle.jps_run.specs.Lines as spec;
 ghost use Rattle.jps_run.specs.Lines.{AppendsLine, Unfolds};
 
 use crate::NoMemory;
-use edit_replay::Reply;
+use edit_replay::{EditReply, Reply};
 use grid_moves::Cell;
-use map_text::MapFault;
 use path_points::unfold;
 use root2_cost::Cost;
 use std::alloc::Global;
@@ -70,63 +67,13 @@ pub(crate) fn put_reply(
     }
 }
 
-/// The line of a refused list of words.
-pub(crate) fn word_line(alloc: Global, number: u32) -> Result<Vec<u8>, NoMemory>
-    ensures { IfOk result (λ line. line.items ≡ spec.word_line number) }
+/// Appends the line of the reply to an edit.
+pub(crate) fn put_edit_reply(out: &mut Vec<u8>, reply: EditReply) -> Result<(), NoMemory>
+    ensures { OnOk result (out.new.items ≡ out.old.items ++ spec.edit_line reply) }
 {
-    let mut line = Vec::new(alloc);
-    put(&mut line, b"jps: word ")?;
-    put_number(&mut line, u64::from(number))?;
-    put(&mut line, b"\n")?;
-    Ok(line)
-}
-
-/// The line of a map file that is too long.
-pub(crate) fn long_line(alloc: Global) -> Result<Vec<u8>, NoMemory>
-    ensures { IfOk result (λ line. line.items ≡ codes "jps: map long\n") }
-{
-    let mut line = Vec::new(alloc);
-    put(&mut line, b"jps: map long\n")?;
-    Ok(line)
-}
-
-// The line of a map's fault, by its name and its line.
-fn map_fault_line(alloc: Global, name: &[u8], number: u32) -> Result<Vec<u8>, NoMemory>
-    ensures { IfOk result (λ line. line.items ≡ spec.map_fault_line name.now number) }
-{
-    let mut line = Vec::new(alloc);
-    put(&mut line, b"jps: map ")?;
-    put(&mut line, name)?;
-    put(&mut line, b" line ")?;
-    put_number(&mut line, u64::from(number))?;
-    put(&mut line, b"\n")?;
-    Ok(line)
-}
-
-// The line of a byte that is no terrain.
-fn map_byte_line(alloc: Global, number: u32, column: u32) -> Result<Vec<u8>, NoMemory>
-    ensures { IfOk result (λ line. line.items ≡ codes "jps: map M5 line " ++ decimal number ++ codes " column " ++ decimal column ++ codes "\n") }
-{
-    let mut line = Vec::new(alloc);
-    put(&mut line, b"jps: map M5 line ")?;
-    put_number(&mut line, u64::from(number))?;
-    put(&mut line, b" column ")?;
-    put_number(&mut line, u64::from(column))?;
-    put(&mut line, b"\n")?;
-    Ok(line)
-}
-
-/// The line of a refused map.
-pub(crate) fn map_line(alloc: Global, fault: MapFault) -> Result<Vec<u8>, NoMemory>
-    ensures { IfOk result (λ line. (fault ≢ no_memory) × (line.items ≡ spec.map_line fault)) }
-{
-    match fault {
-        MapFault::Header { line } => map_fault_line(alloc, b"M1", line),
-        MapFault::Side { line } => map_fault_line(alloc, b"M2", line),
-        MapFault::Short { line } => map_fault_line(alloc, b"M3", line),
-        MapFault::Missing { line } => map_fault_line(alloc, b"M4", line),
-        MapFault::Byte { line, column } => map_byte_line(alloc, line, column),
-        MapFault::After { line } => map_fault_line(alloc, b"M6", line),
-        MapFault::NoMemory => Err(NoMemory),
+    match reply {
+        EditReply::Done => put(out, b"ok\n"),
+        EditReply::Same => put(out, b"same\n"),
+        EditReply::Outside => put(out, b"outside\n"),
     }
 }

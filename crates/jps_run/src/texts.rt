@@ -8,9 +8,16 @@ pub(crate) fn help_text() -> &'static [u8]
     ensures { result.now ≡ spec.help_text }
 {
     b"usage: jps COMMAND ...
-  jps query MAP SX SY GX GY [show=points|show=cells]   a least walk from (SX,SY) to (GX,GY)
-  jps --help                                           this text
-  jps --version                                        the version
+  jps query MAP SX SY GX GY [engine=plain] [show=points|show=cells]
+      a least walk from (SX,SY) to (GX,GY) on the map
+  jps solve MAP SCRIPT [engine=plain]
+      one line for each command of the script: edits of the map, and queries
+  jps scen MAP SCEN [engine=plain]
+      one row for each entry of the scenario, its length judged by the least cost, and their sum
+  jps --help
+      this text
+  jps --version
+      the version
 "
 }
 

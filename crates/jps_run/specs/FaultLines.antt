@@ -1,0 +1,48 @@
+-- The lines of refused words and texts.
+use Rattle.std.specs.Prelude.{ℕ, List, ◌++◌, codes, decimal}
+use Rattle.map_text.specs.declared.fault.MapFault.{MapFault}
+use Rattle.map_text.specs.declared.fault.MapFault.TheVariants as map
+use Rattle.scen_text.specs.declared.fault.ScenFault.{ScenFault}
+use Rattle.scen_text.specs.declared.fault.ScenFault.TheVariants as scen
+use Rattle.script_text.specs.declared.fault.ScriptFault.{ScriptFault}
+use Rattle.script_text.specs.declared.fault.ScriptFault.TheVariants as script
+
+-- the line of a refused list of words
+abbrev pub word_line : ℕ → List ℕ
+word_line number = codes "jps: word " ++ decimal number ++ codes "\n"
+
+-- the line of a text of this kind that is too long
+abbrev pub long_line : List ℕ → List ℕ
+long_line kind = codes "jps: " ++ kind ++ codes " long\n"
+
+-- a fault by its name, in this line of a text of this kind
+abbrev pub fault_line : List ℕ → List ℕ → ℕ → List ℕ
+fault_line kind name number = codes "jps: " ++ kind ++ codes " " ++ name ++ codes " line " ++ decimal number ++ codes "\n"
+
+-- what stands in place of a fault's line for want of memory, which is no fault of a text
+abbrev no_fault : List ℕ
+no_fault = codes "jps: memory\n"
+
+-- the line of a map that is refused
+abbrev pub map_line : MapFault → List ℕ
+map_line (map.Header number) = fault_line (codes "map") (codes "M1") number
+map_line (map.Side number) = fault_line (codes "map") (codes "M2") number
+map_line (map.Short number) = fault_line (codes "map") (codes "M3") number
+map_line (map.Missing number) = fault_line (codes "map") (codes "M4") number
+map_line (map.Byte number column) = codes "jps: map M5 line " ++ decimal number ++ codes " column " ++ decimal column ++ codes "\n"
+map_line (map.After number) = fault_line (codes "map") (codes "M6") number
+map_line map.NoMemory = no_fault
+
+-- the line of a scenario that is refused
+abbrev pub scen_line : ScenFault → List ℕ
+scen_line (scen.Version number) = fault_line (codes "scen") (codes "C1") number
+scen_line (scen.Fields number) = fault_line (codes "scen") (codes "C2") number
+scen_line (scen.Number number) = fault_line (codes "scen") (codes "C3") number
+scen_line (scen.Length number) = fault_line (codes "scen") (codes "C4") number
+scen_line scen.NoMemory = no_fault
+
+-- the line of a script that is refused
+abbrev pub script_line : ScriptFault → List ℕ
+script_line (script.Line number) = fault_line (codes "script") (codes "T1") number
+script_line (script.Long number) = fault_line (codes "script") (codes "T2") number
+script_line script.NoMemory = no_fault

@@ -1,0 +1,108 @@
+//! The lines of refused words and texts.
+
+ghost use Rattle.std.specs.Prelude.{◌≡◌, ◌≢◌, ◌++◌, IfOk, codes, decimal};
+ghost use Rattle.map_text.specs.declared.fault.MapFault.TheVariants.{NoMemory as no_map_memory};
+ghost use Rattle.scen_text.specs.declared.fault.ScenFault.TheVariants.{NoMemory as no_scen_memory};
+ghost use Rattle.script_text.specs.declared.fault.ScriptFault.TheVariants.{NoMemory as no_script_memory};
+ghost use Rattle.jps_run.specs.FaultLines as spec;
+
+use crate::NoMemory;
+use map_text::MapFault;
+use scen_text::ScenFault;
+use script_text::ScriptFault;
+use std::alloc::Global;
+use text_line::{put, put_number};
+
+/// The line of a refused list of words.
+pub(crate) fn word_line(alloc: Global, number: u32) -> Result<Vec<u8>, NoMemory>
+    ensures { IfOk result (λ line. line.items ≡ spec.word_line number) }
+{
+    let mut line = Vec::new(alloc);
+    put(&mut line, b"jps: word ")?;
+    put_number(&mut line, u64::from(number))?;
+    put(&mut line, b"\n")?;
+    Ok(line)
+}
+
+/// The line of a text of this kind that is too long.
+pub(crate) fn long_line(alloc: Global, kind: &[u8]) -> Result<Vec<u8>, NoMemory>
+    ensures { IfOk result (λ line. line.items ≡ spec.long_line kind.now) }
+{
+    let mut line = Vec::new(alloc);
+    put(&mut line, b"jps: ")?;
+    put(&mut line, kind)?;
+    put(&mut line, b" long\n")?;
+    Ok(line)
+}
+
+// The line of a fault by its name, in this line of a text of this kind.
+fn fault_line(
+    alloc: Global,
+    kind: &[u8],
+    name: &[u8],
+    number: u32,
+) -> Result<Vec<u8>, NoMemory>
+    ensures { IfOk result (λ line. line.items ≡ spec.fault_line kind.now name.now number) }
+{
+    let mut line = Vec::new(alloc);
+    put(&mut line, b"jps: ")?;
+    put(&mut line, kind)?;
+    put(&mut line, b" ")?;
+    put(&mut line, name)?;
+    put(&mut line, b" line ")?;
+    put_number(&mut line, u64::from(number))?;
+    put(&mut line, b"\n")?;
+    Ok(line)
+}
+
+// The line of a map's byte that is no terrain.
+fn map_byte_line(alloc: Global, number: u32, column: u32) -> Result<Vec<u8>, NoMemory>
+    ensures { IfOk result (λ line. line.items ≡ codes "jps: map M5 line " ++ decimal number ++ codes " column " ++ decimal column ++ codes "\n") }
+{
+    let mut line = Vec::new(alloc);
+    put(&mut line, b"jps: map M5 line ")?;
+    put_number(&mut line, u64::from(number))?;
+    put(&mut line, b" column ")?;
+    put_number(&mut line, u64::from(column))?;
+    put(&mut line, b"\n")?;
+    Ok(line)
+}
+
+/// The line of a refused map.
+pub(crate) fn map_line(alloc: Global, fault: MapFault) -> Result<Vec<u8>, NoMemory>
+    ensures { IfOk result (λ line. (fault ≢ no_map_memory) × (line.items ≡ spec.map_line fault)) }
+{
+    match fault {
+        MapFault::Header { line } => fault_line(alloc, b"map", b"M1", line),
+        MapFault::Side { line } => fault_line(alloc, b"map", b"M2", line),
+        MapFault::Short { line } => fault_line(alloc, b"map", b"M3", line),
+        MapFault::Missing { line } => fault_line(alloc, b"map", b"M4", line),
+        MapFault::Byte { line, column } => map_byte_line(alloc, line, column),
+        MapFault::After { line } => fault_line(alloc, b"map", b"M6", line),
+        MapFault::NoMemory => Err(NoMemory),
+    }
+}
+
+/// The line of a refused scenario.
+pub(crate) fn scen_line(alloc: Global, fault: ScenFault) -> Result<Vec<u8>, NoMemory>
+    ensures { IfOk result (λ line. (fault ≢ no_scen_memory) × (line.items ≡ spec.scen_line fault)) }
+{
+    match fault {
+        ScenFault::Version { line } => fault_line(alloc, b"scen", b"C1", line),
+        ScenFault::Fields { line } => fault_line(alloc, b"scen", b"C2", line),
+        ScenFault::Number { line } => fault_line(alloc, b"scen", b"C3", line),
+        ScenFault::Length { line } => fault_line(alloc, b"scen", b"C4", line),
+        ScenFault::NoMemory => Err(NoMemory),
+    }
+}
+
+/// The line of a refused script.
+pub(crate) fn script_line(alloc: Global, fault: ScriptFault) -> Result<Vec<u8>, NoMemory>
+    ensures { IfOk result (λ line. (fault ≢ no_script_memory) × (line.items ≡ spec.script_line fault)) }
+{
+    match fault {
+        ScriptFault::Line { line } => fault_line(alloc, b"script", b"T1", line),
+        ScriptFault::Long { line } => fault_line(alloc, b"script", b"T2", line),
+        ScriptFault::NoMemory => Err(NoMemory),
+    }
+}

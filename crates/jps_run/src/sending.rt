@@ -1,0 +1,34 @@
+//! Output in pieces.
+
+ghost use Rattle.std.specs.Prelude.{◌≡◌, ◌≤◌};
+ghost use Rattle.jps_run.specs.Sending.{SendsSo};
+ghost use Rattle.jps_run.specs.Stops.{WritesSo};
+
+use crate::stop::Stop;
+use io_edge::{Sink, write_whole};
+
+/// Lines wait until they are at least this many bytes, but for the last ones.
+const PIECE: usize = 1 << 16;
+
+/// Writes the bytes.
+pub(crate) fn write_out<O: Sink>(out: &mut O, bytes: &[u8]) -> Result<(), Stop>
+    ensures wrote { WritesSo (O.written out.old) (O.written out.new) (O.faults out.old) (O.faults out.new) bytes.now result }
+    ensures later { O.faults out.old ≤ O.faults out.new }
+{
+    match write_whole(out, bytes) {
+        Ok(()) => Ok(()),
+        Err(_) => Err(Stop::Write),
+    }
+}
+
+/// Writes the lines that wait, once they are many.
+pub(crate) fn send_full<O: Sink>(out: &mut O, waiting: &mut Vec<u8>) -> Result<(), Stop>
+    ensures sent { SendsSo (O.written out.old) (O.written out.new) (O.faults out.old) (O.faults out.new) waiting.old.items waiting.new.items result }
+    ensures later { O.faults out.old ≤ O.faults out.new }
+{
+    if PIECE <= waiting.len() {
+        write_out(out, waiting.as_slice())?;
+        waiting.clear();
+    }
+    Ok(())
+}
