@@ -42,7 +42,8 @@ impl Model for Session {
 
 // The cell of a queried column and row, where it lies inside.
 fn cell_at<T: Terrain>(t: &T, x: u32, y: u32) -> Option<Cell>
-    ensures cell { MatchOption result (is_inside (T.grid t.now) (record { x = x; y = y }) ≡ false) (IsEnd (T.grid t.now) x y) }
+    ensures cell { MatchOption result (is_inside (T.grid t.now) (record { x = x; y = y }) ≡ false)
+        (IsEnd (T.grid t.now) x y) }
     ensures whole { IsGrid (T.grid t.now) }
 {
     if x < u32::from(t.width()) && y < u32::from(t.height()) {
@@ -107,8 +108,10 @@ impl Session {
         gy: u32,
         steps: &mut Steps<L>,
     ) -> Result<Reply, NoMemory>
-        ensures right { IfOk result (λ reply. IsRight self.old (record { x = sx; y = sy }) (record { x = gx; y = gy }) (answer_of reply)) }
-        ensures run { IfOk result (IsRunReply self.old (record { x = sx; y = sy }) (record { x = gx; y = gy })) }
+        ensures right { IfOk result (λ reply.
+            IsRight self.old (record { x = sx; y = sy }) (record { x = gx; y = gy }) (answer_of reply)) }
+        ensures run { IfOk result
+            (IsRunReply self.old (record { x = sx; y = sy }) (record { x = gx; y = gy })) }
         ensures short { IfOk result (λ reply. IsShort (answer_of reply)) }
         ensures grid { self.new ≡ self.old }
         ensures uncounted { steps.new ≡ steps.old }
