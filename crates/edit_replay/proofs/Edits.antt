@@ -2,7 +2,7 @@
 use Rattle.std.proofs.Common.{◌≡◌, ◌≢◌, ℕ, zero, suc, ◌+◌, ◌<◌, ◌≤◌, arith, length, List, [], ◌∷◌, ◌++◌}
 use Rattle.std.proofs.Common.{Bool, true, false, ◌&&◌, cond, map, reverse, get_or, refl, ap, sym, ◌∙◌}
 use Rattle.std.proofs.Common.{subst, zero-add}
-use Rattle.std.specs.Prelude.{Option, Some, None, nat_eq, not, if◌then◌else◌, slice_set}
+use Rattle.std.specs.Prelude.{Option, Some, nat_eq, if◌then◌else◌, slice_set}
 use Rattle.std.specs.List.{find, enumerate_from}
 use Rattle.std.specs.Option.{option_map_or}
 use Rattle.std.proofs.lemmas.List.{reverse-append, set-get_or}
@@ -12,10 +12,8 @@ use Rattle.grid_moves.specs.Grid.{GridData, IsGrid, cell_number, grid_with, is_f
 use Rattle.grid_moves.specs.Move.{is_same}
 use Rattle.grid_moves.proofs.Legal.{is_same-cell, is_same-itself}
 use Rattle.grid_moves.proofs.Places.{number_below, one_cell}
-use Rattle.edit_replay.specs.declared.reply.EditReply.{EditReply}
-use Rattle.edit_replay.specs.declared.reply.EditReply.TheVariants.{Done, Same, Outside}
 use Rattle.edit_replay.specs.Edited.{Edit, asked, edited, names}
-use Rattle.edit_replay.specs.Replies.{AddsEdit, EditsSo}
+use Rattle.edit_replay.specs.Replies.{AddsEdit}
 
 -- what is made of each flag and its place, where the first one stands at k
 abbrev flags : (ℕ → Bool → Bool) → ℕ → List Bool → List Bool

@@ -1,6 +1,6 @@
 -- A least walk comes to no cell twice, so it has fewer steps than the map has cells.
-use Rattle.std.proofs.Common.{◌≡◌, ℕ, zero, suc, ◌+◌, ◌*◌, ◌^◌, ◌<◌, ◌≤◌, arith, length, List, [], ◌∷◌}
-use Rattle.std.proofs.Common.{Bool, true, false, ◌&&◌, ◌||◌, map, eqb, refl, ap, sym, ◌∙◌, subst}
+use Rattle.std.proofs.Common.{◌≡◌, ℕ, suc, ◌+◌, ◌*◌, ◌^◌, ◌<◌, ◌≤◌, arith, length, List, [], ◌∷◌}
+use Rattle.std.proofs.Common.{Bool, true, false, ◌&&◌, ◌||◌, map, eqb, refl, ap, sym, subst}
 use Rattle.std.proofs.Common.{mul-le-mul}
 use Rattle.std.specs.Prelude.{nat_eq, if◌then◌else◌, IfOk, Ok, Err}
 use Rattle.std.specs.declared.result.Result.{Result}
@@ -15,7 +15,7 @@ use Rattle.grid_moves.specs.declared.Cell.{Cell}
 use Rattle.grid_moves.specs.Grid.{GridData, IsGrid, cell_number, is_free}
 use Rattle.grid_moves.specs.Move.{is_legal, move_cost}
 use Rattle.grid_moves.specs.Reply.{Answer, outside, blocked, none, walk, IsRight, StandsForLeast}
-use Rattle.grid_moves.specs.Walk.{IsLeastWalk, IsWalk, cost_of, is_walk, last_of}
+use Rattle.grid_moves.specs.Walk.{IsLeastWalk, IsWalk, cost_of, is_walk}
 use Rattle.grid_moves.proofs.Legal.{free_inside, legal_is}
 use Rattle.grid_moves.proofs.Places.{number_below, one_cell}
 use Rattle.edit_replay.specs.Replies.{IsShort, answer_of}

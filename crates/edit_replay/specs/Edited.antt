@@ -1,6 +1,6 @@
 -- The grid that edits leave, and the reply to an edit. The last edit that names a cell decides on it.
 use Rattle.std.specs.Prelude.{◌≡◌, ℕ, Bool, true, false, not, nat_eq, ◌&&◌, if◌then◌else◌, refl, List, []}
-use Rattle.std.specs.Prelude.{◌∷◌, ◌++◌, map, reverse}
+use Rattle.std.specs.Prelude.{◌∷◌, map, reverse}
 use Rattle.std.specs.List.{find, enumerate_from}
 use Rattle.std.specs.Option.{option_map_or}
 use Rattle.grid_moves.specs.declared.Cell.{Cell}
