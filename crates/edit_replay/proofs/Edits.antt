@@ -135,10 +135,12 @@ first_inside : (g m : GridData) (before : List Edit) (c : Cell) → g ≡ edited
 first_inside g m before c is =
     sym (is_inside-edited m before c) ∙ ap (λ (k : GridData). is_inside k c) (sym is)
 
+-- what `edit` answers to, and leaves, adds its edit to those before it: where the cell lies outside
 pub adds_outside : (g : GridData) (e : Edit) → is_inside g e.cell ≡ false → AddsEdit g e g
 adds_outside g e outside m before is =
     is ∙ sym (edited-outside m before e (first_inside g m before e.cell is ∙ outside))
 
+-- where the cell is already as asked
 pub adds_same : (g : GridData) (e : Edit) → is_inside g e.cell ≡ true → is_free g e.cell ≡ e.free
     → AddsEdit g e g
 adds_same g e inside as_asked m before is =
@@ -146,6 +148,7 @@ adds_same g e inside as_asked m before is =
     = ap (λ (k : GridData). is_free k e.cell) (sym is) ∙ as_asked in
     is ∙ sym (edited-same m before e (first_inside g m before e.cell is ∙ inside) stays)
 
+-- and where the cell was changed
 pub adds_done : (g after : GridData) (e : Edit) → is_inside g e.cell ≡ true
     → after ≡ grid_with g e.cell e.free → AddsEdit g e after
 adds_done g after e inside changed m before is =

@@ -76,7 +76,7 @@ impl Session {
     /// asked; both change nothing. `Done` changes that cell alone. So the session stands for the
     /// map after all edits in turn, where the last edit of a cell decides. No memory is taken.
     ///
-    /// The plain engine keeps nothing that an edit has to mend, so it counts no steps.
+    /// The plain engine keeps nothing that an edit has to mend, and counts no steps.
     pub fn edit<L: Ledger>(&mut self, x: u32, y: u32, free: bool, steps: &mut Steps<L>) -> EditReply
         ensures reply { result ≡ edit_reply self.old (edit_at x y free) }
         ensures edited { AddsEdit self.old (edit_at x y free) self.new }
@@ -98,7 +98,7 @@ impl Session {
     /// A walk has fewer than 2^24 steps, since it comes to no cell twice. Where memory is wanting,
     /// the session stands for the same grid as before, and may be asked and edited again.
     ///
-    /// The plain engine counts no steps: its bound is that of the states that it takes.
+    /// The plain engine counts no steps.
     pub fn query<L: Ledger>(
         &mut self,
         alloc: Global,
