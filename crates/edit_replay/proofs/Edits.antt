@@ -1,6 +1,8 @@
 -- Edited grids: no edit at all, and one edit more.
-use Rattle.std.proofs.Common.{◌≡◌, ◌≢◌, ℕ, zero, suc, ◌+◌, ◌<◌, ◌≤◌, arith, length, List, [], ◌∷◌, ◌++◌, Bool, true, false, ◌&&◌, cond, map, reverse, get_or, refl, ap, sym, ◌∙◌, subst, zero-add}
-use Rattle.std.specs.Prelude.{Option, Some, None, nat_eq, not, if◌then◌else◌, slice_set}
+use Rattle.std.proofs.Common.{◌≡◌, ◌≢◌, ℕ, zero, suc, ◌+◌, ◌<◌, ◌≤◌, arith, length, List, [], ◌∷◌, ◌++◌}
+use Rattle.std.proofs.Common.{Bool, true, false, ◌&&◌, cond, map, reverse, get_or, refl, ap, sym, ◌∙◌}
+use Rattle.std.proofs.Common.{subst, zero-add}
+use Rattle.std.specs.Prelude.{Option, Some, nat_eq, if◌then◌else◌, slice_set}
 use Rattle.std.specs.List.{find, enumerate_from}
 use Rattle.std.specs.Option.{option_map_or}
 use Rattle.std.proofs.lemmas.List.{reverse-append, set-get_or}
@@ -10,44 +12,52 @@ use Rattle.grid_moves.specs.Grid.{GridData, IsGrid, cell_number, grid_with, is_f
 use Rattle.grid_moves.specs.Move.{is_same}
 use Rattle.grid_moves.proofs.Legal.{is_same-cell, is_same-itself}
 use Rattle.grid_moves.proofs.Places.{number_below, one_cell}
-use Rattle.edit_replay.specs.declared.reply.EditReply.{EditReply}
-use Rattle.edit_replay.specs.declared.reply.EditReply.TheVariants.{Done, Same, Outside}
 use Rattle.edit_replay.specs.Edited.{Edit, asked, edited, names}
-use Rattle.edit_replay.specs.Replies.{AddsEdit, EditsSo}
+use Rattle.edit_replay.specs.Replies.{AddsEdit}
 
 -- what is made of each flag and its place, where the first one stands at k
 abbrev flags : (ℕ → Bool → Bool) → ℕ → List Bool → List Bool
 flags f k free = map (λ cell. f cell.0 cell.1) (enumerate_from k free)
 
-flags-same : (f : ℕ → Bool → Bool) → ((n : ℕ) (b : Bool) → f n b ≡ b) → (k : ℕ) (free : List Bool) → flags f k free ≡ free
+flags-same : (f : ℕ → Bool → Bool) → ((n : ℕ) (b : Bool) → f n b ≡ b) → (k : ℕ) (free : List Bool)
+    → flags f k free ≡ free
 flags-same f same k [] = refl
 flags-same f same k (b ∷ free) =
-    ap (λ (c : Bool). c ∷ flags f (k + 1) free) (same k b) ∙ ap (λ (cs : List Bool). b ∷ cs) (flags-same f same (k + 1) free)
+    ap (λ (c : Bool). c ∷ flags f (k + 1) free) (same k b)
+    ∙ ap (λ (cs : List Bool). b ∷ cs) (flags-same f same (k + 1) free)
 
-flags-agree : (f h : ℕ → Bool → Bool) (k : ℕ) (free : List Bool) → ((n : ℕ) (b : Bool) → k ≤ n → f n b ≡ h n b) → flags f k free ≡ flags h k free
+flags-agree : (f h : ℕ → Bool → Bool) (k : ℕ) (free : List Bool)
+    → ((n : ℕ) (b : Bool) → k ≤ n → f n b ≡ h n b) → flags f k free ≡ flags h k free
 flags-agree f h k [] agree = refl
 flags-agree f h k (b ∷ free) agree =
     ap (λ (c : Bool). c ∷ flags f (k + 1) free) (agree k b (omega arith))
     ∙ ap (λ (cs : List Bool). h k b ∷ cs) (flags-agree f h (k + 1) free (λ n c l. agree n c (omega arith)))
 
 -- flags that are made differently at one place alone
-flags-set : (f h : ℕ → Bool → Bool) (m : ℕ) (v : Bool) → ((n : ℕ) (b : Bool) → n ≢ m → f n b ≡ h n b) → ((b : Bool) → f m b ≡ v) → (k i : ℕ) (free : List Bool) → m ≡ k + i → flags f k free ≡ slice_set (flags h k free) i v
+flags-set : (f h : ℕ → Bool → Bool) (m : ℕ) (v : Bool) → ((n : ℕ) (b : Bool) → n ≢ m → f n b ≡ h n b)
+    → ((b : Bool) → f m b ≡ v) → (k i : ℕ) (free : List Bool) → m ≡ k + i
+    → flags f k free ≡ slice_set (flags h k free) i v
 flags-set f h m v others there k i [] e = refl
 flags-set f h m v others there k zero (b ∷ free) e =
     let at : m ≡ k = omega arith in
     ap (λ (c : Bool). c ∷ flags f (k + 1) free) (subst (λ (n : ℕ). f n b ≡ v) at (there b))
-    ∙ ap (λ (cs : List Bool). v ∷ cs) (flags-agree f h (k + 1) free (λ n c l. others n c (λ same. omega arith)))
+    ∙ ap (λ (cs : List Bool). v ∷ cs)
+    (flags-agree f h (k + 1) free (λ n c l. others n c (λ same. omega arith)))
 flags-set f h m v others there k (suc i) (b ∷ free) e =
     ap (λ (c : Bool). c ∷ flags f (k + 1) free) (others k b (λ same. omega arith))
     ∙ ap (λ (cs : List Bool). h k b ∷ cs) (flags-set f h m v others there (k + 1) i free (omega arith))
 
 -- a later edit wins
-asked-more : (g : GridData) (before : List Edit) (e : Edit) (n : ℕ) (b : Bool) → asked g (before ++ e ∷ []) n b ≡ if names g e n then e.free else asked g before n b
+asked-more : (g : GridData) (before : List Edit) (e : Edit) (n : ℕ) (b : Bool)
+    → asked g (before ++ e ∷ []) n b ≡ if names g e n then e.free else asked g before n b
 asked-more g before e n b =
-    ap (λ (es : List Edit). option_map_or (λ edit. edit.free) (find (λ edit. names g edit n) es) b) (reverse-append before (e ∷ []))
+    ap (λ (es : List Edit). option_map_or (λ edit. edit.free) (find (λ edit. names g edit n) es) b)
+    (reverse-append before (e ∷ []))
     ∙ by_test (names g e n) (find (λ edit. names g edit n) (reverse before))
   where
-    by_test : (test : Bool) (o : Option Edit) → option_map_or (λ edit. edit.free) (cond test (Some e) o) b ≡ if test then e.free else option_map_or (λ edit. edit.free) o b
+    by_test : (test : Bool) (o : Option Edit)
+        → option_map_or (λ edit. edit.free) (cond test (Some e) o) b
+        ≡ if test then e.free else option_map_or (λ edit. edit.free) o b
     by_test true o = refl
     by_test false o = refl
 
@@ -66,65 +76,88 @@ unfolding edited with_flags
 edited-nothing g = ap (λ (free : List Bool). with_flags g free) (flags-same (λ n b. b) (λ n b. refl) 0 g.free)
 
 -- edits keep the sides
-pub is_inside-edited : (g : GridData) (edits : List Edit) (c : Cell) → is_inside (edited g edits) c ≡ is_inside g c
+pub is_inside-edited : (g : GridData) (edits : List Edit) (c : Cell)
+    → is_inside (edited g edits) c ≡ is_inside g c
 unfolding edited
 is_inside-edited g edits c = refl
 
 -- one more edit of a cell of the map
-pub edited-more : (g : GridData) (before : List Edit) (e : Edit) → is_inside g e.cell ≡ true → edited g (before ++ e ∷ []) ≡ grid_with (edited g before) e.cell e.free
+pub edited-more : (g : GridData) (before : List Edit) (e : Edit) → is_inside g e.cell ≡ true
+    → edited g (before ++ e ∷ []) ≡ grid_with (edited g before) e.cell e.free
 unfolding edited with_flags
 edited-more g before e inside =
     ap (λ (free : List Bool). with_flags g free)
-    (flags-set (asked g (before ++ e ∷ [])) (asked g before) (cell_number g.width e.cell) e.free others there 0 (cell_number g.width e.cell) g.free (omega arith))
+    (flags-set (asked g (before ++ e ∷ [])) (asked g before) (cell_number g.width e.cell) e.free others there
+    0 (cell_number g.width e.cell) g.free (omega arith))
   where
-    others : (n : ℕ) (b : Bool) → n ≢ cell_number g.width e.cell → asked g (before ++ e ∷ []) n b ≡ asked g before n b
+    others : (n : ℕ) (b : Bool) → n ≢ cell_number g.width e.cell
+        → asked g (before ++ e ∷ []) n b ≡ asked g before n b
     others n b other =
-        let apart : nat_eq (cell_number g.width e.cell) n ≡ false = unequal (cell_number g.width e.cell) n (λ same. other (sym same)) in
+        let apart : nat_eq (cell_number g.width e.cell) n ≡ false
+        = unequal (cell_number g.width e.cell) n (λ same. other (sym same)) in
         asked-more g before e n b ∙ rw (inside, apart) refl
 
     there : (b : Bool) → asked g (before ++ e ∷ []) (cell_number g.width e.cell) b ≡ e.free
     there b =
-        let same : nat_eq (cell_number g.width e.cell) (cell_number g.width e.cell) ≡ true = itself (cell_number g.width e.cell) in
+        let same : nat_eq (cell_number g.width e.cell) (cell_number g.width e.cell) ≡ true
+        = itself (cell_number g.width e.cell) in
         asked-more g before e (cell_number g.width e.cell) b ∙ rw (inside, same) refl
 
 -- one more edit of a cell outside changes nothing
-pub edited-outside : (g : GridData) (before : List Edit) (e : Edit) → is_inside g e.cell ≡ false → edited g (before ++ e ∷ []) ≡ edited g before
+pub edited-outside : (g : GridData) (before : List Edit) (e : Edit) → is_inside g e.cell ≡ false
+    → edited g (before ++ e ∷ []) ≡ edited g before
 unfolding edited with_flags
 edited-outside g before e outside =
     ap (λ (free : List Bool). with_flags g free)
-    (flags-agree (asked g (before ++ e ∷ [])) (asked g before) 0 g.free (λ n b l. asked-more g before e n b ∙ rw outside refl))
+    (flags-agree (asked g (before ++ e ∷ [])) (asked g before) 0 g.free
+    (λ n b l. asked-more g before e n b ∙ rw outside refl))
 
 -- a cell that is already as asked
-pub grid_with-same : (g : GridData) (c : Cell) (free : Bool) → is_inside g c ≡ true → is_free g c ≡ free → grid_with g c free ≡ g
+pub grid_with-same : (g : GridData) (c : Cell) (free : Bool) → is_inside g c ≡ true → is_free g c ≡ free
+    → grid_with g c free ≡ g
 unfolding with_flags
 grid_with-same g c free inside as_asked =
     let flag : get_or g.free (cell_number g.width c) false ≡ free = rw inside at as_asked in
     ap (λ (flags : List Bool). with_flags g flags)
-    (ap (λ (b : Bool). slice_set g.free (cell_number g.width c) b) (sym flag) ∙ set-get_or g.free (cell_number g.width c) false)
+    (ap (λ (b : Bool). slice_set g.free (cell_number g.width c) b) (sym flag)
+    ∙ set-get_or g.free (cell_number g.width c) false)
 
 -- one more edit of a cell that is already as it asks changes nothing
-pub edited-same : (g : GridData) (before : List Edit) (e : Edit) → is_inside g e.cell ≡ true → is_free (edited g before) e.cell ≡ e.free → edited g (before ++ e ∷ []) ≡ edited g before
+pub edited-same : (g : GridData) (before : List Edit) (e : Edit) → is_inside g e.cell ≡ true
+    → is_free (edited g before) e.cell ≡ e.free → edited g (before ++ e ∷ []) ≡ edited g before
 edited-same g before e inside as_asked =
     edited-more g before e inside
     ∙ grid_with-same (edited g before) e.cell e.free (is_inside-edited g before e.cell ∙ inside) as_asked
 
+-- a cell lies on the map where it lies on the edited grid
+first_inside : (g m : GridData) (before : List Edit) (c : Cell) → g ≡ edited m before
+    → is_inside m c ≡ is_inside g c
+first_inside g m before c is =
+    sym (is_inside-edited m before c) ∙ ap (λ (k : GridData). is_inside k c) (sym is)
+
+-- what `edit` answers to, and leaves, adds its edit to those before it: where the cell lies outside
 pub adds_outside : (g : GridData) (e : Edit) → is_inside g e.cell ≡ false → AddsEdit g e g
 adds_outside g e outside m before is =
-    let out : is_inside m e.cell ≡ false = sym (is_inside-edited m before e.cell) ∙ ap (λ (k : GridData). is_inside k e.cell) (sym is) ∙ outside in
-    is ∙ sym (edited-outside m before e out)
+    is ∙ sym (edited-outside m before e (first_inside g m before e.cell is ∙ outside))
 
-pub adds_same : (g : GridData) (e : Edit) → is_inside g e.cell ≡ true → is_free g e.cell ≡ e.free → AddsEdit g e g
+-- where the cell is already as asked
+pub adds_same : (g : GridData) (e : Edit) → is_inside g e.cell ≡ true → is_free g e.cell ≡ e.free
+    → AddsEdit g e g
 adds_same g e inside as_asked m before is =
-    let has : is_inside m e.cell ≡ true = sym (is_inside-edited m before e.cell) ∙ ap (λ (k : GridData). is_inside k e.cell) (sym is) ∙ inside in
-    is ∙ sym (edited-same m before e has (ap (λ (k : GridData). is_free k e.cell) (sym is) ∙ as_asked))
+    let stays : is_free (edited m before) e.cell ≡ e.free
+    = ap (λ (k : GridData). is_free k e.cell) (sym is) ∙ as_asked in
+    is ∙ sym (edited-same m before e (first_inside g m before e.cell is ∙ inside) stays)
 
-pub adds_done : (g after : GridData) (e : Edit) → is_inside g e.cell ≡ true → after ≡ grid_with g e.cell e.free → AddsEdit g e after
+-- and where the cell was changed
+pub adds_done : (g after : GridData) (e : Edit) → is_inside g e.cell ≡ true
+    → after ≡ grid_with g e.cell e.free → AddsEdit g e after
 adds_done g after e inside changed m before is =
-    let has : is_inside m e.cell ≡ true = sym (is_inside-edited m before e.cell) ∙ ap (λ (k : GridData). is_inside k e.cell) (sym is) ∙ inside in
-    changed ∙ ap (λ (k : GridData). grid_with k e.cell e.free) is ∙ sym (edited-more m before e has)
+    changed ∙ ap (λ (k : GridData). grid_with k e.cell e.free) is
+    ∙ sym (edited-more m before e (first_inside g m before e.cell is ∙ inside))
 
 -- the flag at a place is made of the flag there and the place
-flag_at : (f : ℕ → Bool → Bool) (k : ℕ) (free : List Bool) (i : ℕ) → i < length free → get_or (flags f k free) i false ≡ f (k + i) (get_or free i false)
+flag_at : (f : ℕ → Bool → Bool) (k : ℕ) (free : List Bool) (i : ℕ) → i < length free
+    → get_or (flags f k free) i false ≡ f (k + i) (get_or free i false)
 flag_at f k [] i h = absurd (omega arith)
 flag_at f k (b ∷ free) zero h = let e : k ≡ k + 0 = omega arith in ap (λ (n : ℕ). f n b) e
 flag_at f k (b ∷ free) (suc i) h =
@@ -138,7 +171,8 @@ find-agree p q agree (e ∷ es) =
     ∙ ap (λ (o : Option Edit). cond (q e) (Some e) o) (find-agree p q agree es)
 
 -- an edit names a cell of the map exactly where its cell is that one
-names-is_same : (g : GridData) (c : Cell) → is_inside g c ≡ true → (e : Edit) → names g e (cell_number g.width c) ≡ is_same e.cell c
+names-is_same : (g : GridData) (c : Cell) → is_inside g c ≡ true → (e : Edit)
+    → names g e (cell_number g.width c) ≡ is_same e.cell c
 names-is_same g c inside e = by_test (is_same e.cell c) refl
   where
     none : is_same e.cell c ≡ false → (b : Bool) → names g e (cell_number g.width c) ≡ b → b ≡ false
@@ -153,23 +187,31 @@ names-is_same g c inside e = by_test (is_same e.cell c) refl
 
     by_test : (b : Bool) → is_same e.cell c ≡ b → names g e (cell_number g.width c) ≡ b
     by_test true same =
-        ap (λ (d : Cell). is_inside g d && nat_eq (cell_number g.width d) (cell_number g.width c)) (is_same-cell e.cell c same)
+        ap (λ (d : Cell). is_inside g d && nat_eq (cell_number g.width d) (cell_number g.width c))
+        (is_same-cell e.cell c same)
         ∙ rw (inside, itself (cell_number g.width c)) refl
     by_test false other = none other (names g e (cell_number g.width c)) refl
 
 -- the last edit whose cell this is decides on it, and where there is none, the cell is as it was
-pub is_free-edited : (g : GridData) (edits : List Edit) (c : Cell) → IsGrid g → is_inside g c ≡ true → is_free (edited g edits) c ≡ option_map_or (λ edit. edit.free) (find (λ edit. is_same edit.cell c) (reverse edits)) (is_free g c)
+pub is_free-edited : (g : GridData) (edits : List Edit) (c : Cell) → IsGrid g → is_inside g c ≡ true
+    → is_free (edited g edits) c
+    ≡ option_map_or (λ edit. edit.free) (find (λ edit. is_same edit.cell c) (reverse edits)) (is_free g c)
 unfolding edited
 is_free-edited g edits c grid inside =
     let number : ℕ = cell_number g.width c in
     let was : Bool = get_or g.free number false in
-    let now : is_free (edited g edits) c ≡ get_or (flags (asked g edits) 0 g.free) number false = rw inside refl in
+    let now : is_free (edited g edits) c
+    ≡ get_or (flags (asked g edits) 0 g.free) number false = rw inside refl in
     let before : is_free g c ≡ was = rw inside refl in
-    let by_number : find (λ edit. names g edit number) (reverse edits) ≡ find (λ edit. is_same edit.cell c) (reverse edits)
-        = find-agree (λ edit. names g edit number) (λ edit. is_same edit.cell c) (names-is_same g c inside) (reverse edits) in
-    now ∙ flag_at (asked g edits) 0 g.free number below ∙ ap (λ (n : ℕ). asked g edits n was) (zero-add number)
+    let by_number : find (λ edit. names g edit number) (reverse edits)
+    ≡ find (λ edit. is_same edit.cell c) (reverse edits)
+    = find-agree (λ edit. names g edit number) (λ edit. is_same edit.cell c)
+    (names-is_same g c inside) (reverse edits) in
+    now ∙ flag_at (asked g edits) 0 g.free number below
+    ∙ ap (λ (n : ℕ). asked g edits n was) (zero-add number)
     ∙ ap (λ (o : Option Edit). option_map_or (λ edit. edit.free) o was) by_number
-    ∙ ap (λ (b : Bool). option_map_or (λ edit. edit.free) (find (λ edit. is_same edit.cell c) (reverse edits)) b) (sym before)
+    ∙ ap (λ (b : Bool). option_map_or (λ edit. edit.free)
+    (find (λ edit. is_same edit.cell c) (reverse edits)) b) (sym before)
   where
     below : cell_number g.width c < length g.free
     below =

@@ -1,5 +1,7 @@
 -- A least walk comes to no cell twice, so it has fewer steps than the map has cells.
-use Rattle.std.proofs.Common.{◌≡◌, ℕ, zero, suc, ◌+◌, ◌*◌, ◌^◌, ◌<◌, ◌≤◌, arith, length, List, [], ◌∷◌, Bool, true, false, ◌&&◌, ◌||◌, map, eqb, refl, ap, sym, ◌∙◌, subst, mul-le-mul}
+use Rattle.std.proofs.Common.{◌≡◌, ℕ, suc, ◌+◌, ◌*◌, ◌^◌, ◌<◌, ◌≤◌, arith, length, List, [], ◌∷◌}
+use Rattle.std.proofs.Common.{Bool, true, false, ◌&&◌, ◌||◌, map, eqb, refl, ap, sym, subst}
+use Rattle.std.proofs.Common.{mul-le-mul}
 use Rattle.std.specs.Prelude.{nat_eq, if◌then◌else◌, IfOk, Ok, Err}
 use Rattle.std.specs.declared.result.Result.{Result}
 use Rattle.std.specs.List.{IsDistinct, AllByRecursion, list_any}
@@ -13,7 +15,7 @@ use Rattle.grid_moves.specs.declared.Cell.{Cell}
 use Rattle.grid_moves.specs.Grid.{GridData, IsGrid, cell_number, is_free}
 use Rattle.grid_moves.specs.Move.{is_legal, move_cost}
 use Rattle.grid_moves.specs.Reply.{Answer, outside, blocked, none, walk, IsRight, StandsForLeast}
-use Rattle.grid_moves.specs.Walk.{IsLeastWalk, IsWalk, cost_of, is_walk, last_of}
+use Rattle.grid_moves.specs.Walk.{IsLeastWalk, IsWalk, cost_of, is_walk}
 use Rattle.grid_moves.proofs.Legal.{free_inside, legal_is}
 use Rattle.grid_moves.proofs.Places.{number_below, one_cell}
 use Rattle.edit_replay.specs.Replies.{IsShort, answer_of}
@@ -27,14 +29,18 @@ and_both false b e = absurd (cc)
 one_step : (u v : Cell) → (move_cost u v).a + (move_cost u v).b ≡ 1
 one_step u v = by_test (nat_eq u.x v.x || nat_eq u.y v.y)
   where
-    by_test : (straight : Bool) → (let c : Cost = if straight then record { a = 1; b = 0 } else record { a = 0; b = 1 } in c.a + c.b) ≡ 1
+    by_test : (straight : Bool)
+        → (let c : Cost = if straight then record { a = 1; b = 0 } else record { a = 0; b = 1 } in
+        c.a + c.b) ≡ 1
     by_test true = refl
     by_test false = refl
 
 -- a walk's steps are the cells after its first one
-pub steps-cost_of : (s : Cell) (cells : List Cell) → (cost_of (s ∷ cells)).a + (cost_of (s ∷ cells)).b ≡ length cells
+pub steps-cost_of : (s : Cell) (cells : List Cell)
+    → (cost_of (s ∷ cells)).a + (cost_of (s ∷ cells)).b ≡ length cells
 steps-cost_of s [] = refl
-steps-cost_of s (v ∷ cells) = sum (move_cost s v) (cost_of (v ∷ cells)) (length cells) (one_step s v) (steps-cost_of v cells)
+steps-cost_of s (v ∷ cells) =
+    sum (move_cost s v) (cost_of (v ∷ cells)) (length cells) (one_step s v) (steps-cost_of v cells)
   where
     sum : (p q : Cost) (n : ℕ) → p.a + p.b ≡ 1 → q.a + q.b ≡ n → (p.a + q.a) + (p.b + q.b) ≡ suc n
     sum p q n e f = omega arith
@@ -45,7 +51,8 @@ more_left s v cells =
     let one : (move_cost s v).a + (move_cost s v).b ≡ 1 = one_step s v in
     IsLess-more_left (move_cost s v) (cost_of (v ∷ cells)) (omega arith)
 
-first_free : (g : GridData) (s : Cell) (cells : List Cell) → is_walk g (s ∷ cells) ≡ true → is_free g s ≡ true
+first_free : (g : GridData) (s : Cell) (cells : List Cell) → is_walk g (s ∷ cells) ≡ true
+    → is_free g s ≡ true
 first_free g s [] w = w
 first_free g s (v ∷ cells) w = (legal_is g s v (and_both (is_legal g s v) (is_walk g (v ∷ cells)) w).0).source
 
@@ -58,29 +65,38 @@ differ m n h = by_test (eqb m n) refl
 
 -- the way from s to t is not left by a walk from s to t at no more cost
 NoneFrom : GridData → Cell → Cell → Cell → List Cell → Type 0
-NoneFrom g s t v cells = (others : List Cell) → IsWalk g s t others → IsAtMost (cost_of (s ∷ others)) (cost_of (v ∷ cells)) → ⊥
+NoneFrom g s t v cells =
+    (others : List Cell) → IsWalk g s t others → IsAtMost (cost_of (s ∷ others)) (cost_of (v ∷ cells)) → ⊥
 
 -- a walk that s cannot cut short does not begin at s
-first_apart : (g : GridData) (s t v : Cell) (cells : List Cell) → is_free g s ≡ true → IsWalk g v t cells → NoneFrom g s t v cells → eqb (cell_number g.width s) (cell_number g.width v) ≡ false
+first_apart : (g : GridData) (s t v : Cell) (cells : List Cell) → is_free g s ≡ true → IsWalk g v t cells
+    → NoneFrom g s t v cells → eqb (cell_number g.width s) (cell_number g.width v) ≡ false
 unfolding NoneFrom
 first_apart g s t v cells free w none_from = differ (cell_number g.width s) (cell_number g.width v) (λ e.
-    let one : s ≡ v = one_cell g.width s v (free_inside g s free).0 (free_inside g v (first_free g v cells w.legal)).0 e in
+    let its_free : is_free g v ≡ true = first_free g v cells w.legal in
+    let one : s ≡ v = one_cell g.width s v (free_inside g s free).0 (free_inside g v its_free).0 e in
     none_from cells (subst (λ (c : Cell). IsWalk g c t cells) (sym one) w)
-    (subst (λ (c : Cell). IsAtMost (cost_of (c ∷ cells)) (cost_of (v ∷ cells))) (sym one) (IsAtMost-refl (cost_of (v ∷ cells)))))
+    (subst (λ (c : Cell). IsAtMost (cost_of (c ∷ cells)) (cost_of (v ∷ cells))) (sym one)
+    (IsAtMost-refl (cost_of (v ∷ cells)))))
 
 -- nor does it come to s
-all_apart : (g : GridData) (s t v : Cell) (cells : List Cell) → is_free g s ≡ true → IsWalk g v t cells → NoneFrom g s t v cells → AllByRecursion (λ n. eqb (cell_number g.width s) n ≡ false) (map (cell_number g.width) (v ∷ cells))
+all_apart : (g : GridData) (s t v : Cell) (cells : List Cell) → is_free g s ≡ true → IsWalk g v t cells
+    → NoneFrom g s t v cells
+    → AllByRecursion (λ n. eqb (cell_number g.width s) n ≡ false) (map (cell_number g.width) (v ∷ cells))
 unfolding NoneFrom
 all_apart g s t v [] free w none_from = (first_apart g s t v [] free w none_from, tt)
 all_apart g s t v (d ∷ cells) free w none_from = (
   first_apart g s t v (d ∷ cells) free w none_from,
   all_apart g s t d cells free
       (record { legal = (and_both (is_legal g v d) (is_walk g (d ∷ cells)) w.legal).1; ends = w.ends })
-      (λ others o most. none_from others o (IsAtMost-trans (cost_of (s ∷ others)) (cost_of (d ∷ cells)) (cost_of (v ∷ d ∷ cells)) most (IsAtMost-more_left (move_cost v d) (cost_of (d ∷ cells))))),
+      (λ others o most. none_from others o
+      (IsAtMost-trans (cost_of (s ∷ others)) (cost_of (d ∷ cells)) (cost_of (v ∷ d ∷ cells)) most
+      (IsAtMost-more_left (move_cost v d) (cost_of (d ∷ cells))))),
 )
 
 -- what is left of a least walk after its first move is least
-pub least_rest : (g : GridData) (s t v : Cell) (cells : List Cell) → IsLeastWalk g s t (v ∷ cells) → IsLeastWalk g v t cells
+pub least_rest : (g : GridData) (s t v : Cell) (cells : List Cell) → IsLeastWalk g s t (v ∷ cells)
+    → IsLeastWalk g v t cells
 least_rest g s t v cells l =
     let parts = and_both (is_legal g s v) (is_walk g (v ∷ cells)) l.walk.legal in
     record {
@@ -90,43 +106,54 @@ least_rest g s t v cells l =
     }
 
 -- a least walk comes to no cell twice
-pub least_distinct : (g : GridData) (s t : Cell) (cells : List Cell) → IsLeastWalk g s t cells → IsDistinct eqb (map (cell_number g.width) (s ∷ cells))
+pub least_distinct : (g : GridData) (s t : Cell) (cells : List Cell) → IsLeastWalk g s t cells
+    → IsDistinct eqb (map (cell_number g.width) (s ∷ cells))
 unfolding IsDistinct NoneFrom
 least_distinct g s t [] l = (tt, tt)
 least_distinct g s t (v ∷ cells) l =
     let rest = least_rest g s t v cells l in (
       all_apart g s t v cells (first_free g s (v ∷ cells) l.walk.legal) rest.walk (λ others o most.
           IsAtMost-not_more (cost_of (s ∷ v ∷ cells)) (cost_of (s ∷ others)) (l.least others o)
-          (at_most_then_less (cost_of (s ∷ others)) (cost_of (v ∷ cells)) (cost_of (s ∷ v ∷ cells)) most (more_left s v cells))),
+          (at_most_then_less (cost_of (s ∷ others)) (cost_of (v ∷ cells)) (cost_of (s ∷ v ∷ cells)) most
+          (more_left s v cells))),
       least_distinct g v t cells rest,
     )
 
 -- a number of a walk's cell is that of its first cell, or of one of the rest
-in_rest : (g : GridData) (s : Cell) (cells : List Cell) → is_walk g (s ∷ cells) ≡ true → (q : ℕ) → (list_any (eqb q) (map (cell_number g.width) cells) ≡ true → q < g.height * g.width) → list_any (eqb q) (map (cell_number g.width) (s ∷ cells)) ≡ true → q < g.height * g.width
+in_rest : (g : GridData) (s : Cell) (cells : List Cell) → is_walk g (s ∷ cells) ≡ true → (q : ℕ)
+    → (list_any (eqb q) (map (cell_number g.width) cells) ≡ true → q < g.height * g.width)
+    → list_any (eqb q) (map (cell_number g.width) (s ∷ cells)) ≡ true → q < g.height * g.width
 in_rest g s cells w q rest h = by_test (eqb q (cell_number g.width s)) refl h
   where
     first : cell_number g.width s < g.height * g.width
     first = let p = free_inside g s (first_free g s cells w) in number_below g.width g.height s p.0 p.1
 
-    by_test : (b : Bool) → eqb q (cell_number g.width s) ≡ b → (b || list_any (eqb q) (map (cell_number g.width) cells)) ≡ true → q < g.height * g.width
+    by_test : (b : Bool) → eqb q (cell_number g.width s) ≡ b
+        → (b || list_any (eqb q) (map (cell_number g.width) cells)) ≡ true → q < g.height * g.width
     by_test true e h = let same : q ≡ cell_number g.width s = grind (arith, nat_tests) in rw same first
     by_test false e h = rest h
 
 -- the cells of a walk have numbers below the number of all cells
-numbers_below : (g : GridData) (s : Cell) (cells : List Cell) → is_walk g (s ∷ cells) ≡ true → (q : ℕ) → list_any (eqb q) (map (cell_number g.width) (s ∷ cells)) ≡ true → q < g.height * g.width
+numbers_below : (g : GridData) (s : Cell) (cells : List Cell) → is_walk g (s ∷ cells) ≡ true → (q : ℕ)
+    → list_any (eqb q) (map (cell_number g.width) (s ∷ cells)) ≡ true → q < g.height * g.width
 numbers_below g s [] w q h = in_rest g s [] w q (λ e. absurd (cc)) h
-numbers_below g s (v ∷ cells) w q h = in_rest g s (v ∷ cells) w q (numbers_below g v cells (and_both (is_legal g s v) (is_walk g (v ∷ cells)) w).1 q) h
+numbers_below g s (v ∷ cells) w q h =
+    let parts = and_both (is_legal g s v) (is_walk g (v ∷ cells)) w in
+    in_rest g s (v ∷ cells) w q (numbers_below g v cells parts.1 q) h
 
 length-map : {X : Type 0} (f : X → ℕ) (xs : List X) → length (map f xs) ≡ length xs
 length-map f [] = refl
 length-map f (x ∷ xs) = ap (λ n. suc n) (length-map f xs)
 
 -- a least walk has fewer steps than the map has cells
-pub least_steps : (g : GridData) (s t : Cell) (cells : List Cell) → IsLeastWalk g s t cells → length cells < g.height * g.width
+pub least_steps : (g : GridData) (s t : Cell) (cells : List Cell) → IsLeastWalk g s t cells
+    → length cells < g.height * g.width
 least_steps g s t cells l =
     let most : length (map (cell_number g.width) (s ∷ cells)) ≤ g.height * g.width
-    = length-le_from_distinct_below (map (cell_number g.width) (s ∷ cells)) (g.height * g.width) (least_distinct g s t cells l) (numbers_below g s cells l.walk.legal) in
-    let same : length (map (cell_number g.width) (s ∷ cells)) ≡ suc (length cells) = length-map (cell_number g.width) (s ∷ cells) in
+    = length-le_from_distinct_below (map (cell_number g.width) (s ∷ cells)) (g.height * g.width)
+    (least_distinct g s t cells l) (numbers_below g s cells l.walk.legal) in
+    let same : length (map (cell_number g.width) (s ∷ cells)) ≡ suc (length cells)
+    = length-map (cell_number g.width) (s ∷ cells) in
     omega arith
 
 -- a map has at most 2^24 cells
@@ -136,21 +163,26 @@ few_cells g grid =
     omega arith
 
 -- so what stands for a least walk has fewer than 2^24 steps, whichever search found it
-pub least_is_short : (g : GridData) (s t : Cell) (points : List Cell) (cost : Cost) → IsGrid g → StandsForLeast g s t points cost → cost.a + cost.b < 2 ^ 24
+pub least_is_short : (g : GridData) (s t : Cell) (points : List Cell) (cost : Cost) → IsGrid g
+    → StandsForLeast g s t points cost → cost.a + cost.b < 2 ^ 24
 least_is_short g s t points cost grid stands =
     subst (λ (c : Cost). c.a + c.b < 2 ^ 24) stands.priced (
-    let steps : (cost_of (s ∷ stands.cells)).a + (cost_of (s ∷ stands.cells)).b ≡ length stands.cells = steps-cost_of s stands.cells in
+    let steps : (cost_of (s ∷ stands.cells)).a + (cost_of (s ∷ stands.cells)).b ≡ length stands.cells
+    = steps-cost_of s stands.cells in
     let fewer : length stands.cells < g.height * g.width = least_steps g s t stands.cells stands.least in
     let few : g.height * g.width ≤ 2 ^ 24 = few_cells g grid in
     omega arith)
 
 -- and so has the walk of a right answer
-pub right_is_short : (g : GridData) (s t : Cell) (answer : Answer) → IsGrid g → IsRight g s t answer → IsShort answer
+pub right_is_short : (g : GridData) (s t : Cell) (answer : Answer) → IsGrid g → IsRight g s t answer
+    → IsShort answer
 right_is_short g s t outside grid right = tt
 right_is_short g s t blocked grid right = tt
 right_is_short g s t none grid right = tt
 right_is_short g s t (walk points cost) grid right = least_is_short g s t points cost grid right.1
 
-pub reply_is_short : {E : Type 0} (g : GridData) (s t : Cell) (result : Result Reply E) → IsGrid g → IfOk result (λ reply. IsRight g s t (answer_of reply)) → IfOk result (λ reply. IsShort (answer_of reply))
+pub reply_is_short : {E : Type 0} (g : GridData) (s t : Cell) (result : Result Reply E) → IsGrid g
+    → IfOk result (λ reply. IsRight g s t (answer_of reply))
+    → IfOk result (λ reply. IsShort (answer_of reply))
 reply_is_short g s t (Ok reply) grid right = right_is_short g s t (answer_of reply) grid right
 reply_is_short g s t (Err fault) grid right = tt

@@ -1,5 +1,6 @@
 -- The grid that edits leave, and the reply to an edit. The last edit that names a cell decides on it.
-use Rattle.std.specs.Prelude.{◌≡◌, ℕ, Bool, true, false, not, nat_eq, ◌&&◌, if◌then◌else◌, refl, List, [], ◌∷◌, ◌++◌, map, reverse}
+use Rattle.std.specs.Prelude.{◌≡◌, ℕ, Bool, true, false, not, nat_eq, ◌&&◌, if◌then◌else◌, refl, List, []}
+use Rattle.std.specs.Prelude.{◌∷◌, map, reverse}
 use Rattle.std.specs.List.{find, enumerate_from}
 use Rattle.std.specs.Option.{option_map_or}
 use Rattle.grid_moves.specs.declared.Cell.{Cell}
@@ -22,7 +23,8 @@ names g edit number = is_inside g edit.cell && nat_eq (cell_number g.width edit.
 
 -- what the last edit that names the cell of this number asks, or how the cell is where none does
 abbrev pub asked : GridData → List Edit → ℕ → Bool → Bool
-asked g edits number free = option_map_or (λ edit. edit.free) (find (λ edit. names g edit number) (reverse edits)) free
+asked g edits number free =
+    option_map_or (λ edit. edit.free) (find (λ edit. names g edit number) (reverse edits)) free
 
 -- the grid after edits: the sides stay, and each cell is as the last edit that names it asks
 unfoldable pub edited : GridData → List Edit → GridData
@@ -51,7 +53,8 @@ abbrev free_middle : Edit
 free_middle = edit_at 1 1 true
 
 -- blocked, the middle parts the columns
-pub blocked_middle : (edited two_pillars (block_middle ∷ [])).free ≡ true ∷ false ∷ true ∷ true ∷ false ∷ true ∷ true ∷ false ∷ true ∷ []
+pub blocked_middle : (edited two_pillars (block_middle ∷ [])).free
+    ≡ true ∷ false ∷ true ∷ true ∷ false ∷ true ∷ true ∷ false ∷ true ∷ []
 unfolding edited
 blocked_middle = refl
 
@@ -60,7 +63,8 @@ pub blocked_then_freed : (edited two_pillars (block_middle ∷ free_middle ∷ [
 unfolding edited
 blocked_then_freed = refl
 
-pub freed_then_blocked : (edited two_pillars (free_middle ∷ block_middle ∷ [])).free ≡ (edited two_pillars (block_middle ∷ [])).free
+pub freed_then_blocked : (edited two_pillars (free_middle ∷ block_middle ∷ [])).free
+    ≡ (edited two_pillars (block_middle ∷ [])).free
 unfolding edited
 freed_then_blocked = refl
 
@@ -81,6 +85,8 @@ pub third_reply : edit_reply (edited two_pillars (block_middle ∷ free_middle �
 unfolding edited
 third_reply = refl
 
-pub fourth_reply : edit_reply (edited two_pillars (block_middle ∷ free_middle ∷ free_middle ∷ [])) (edit_at 3 0 false) ≡ Outside
+pub fourth_reply : edit_reply (edited two_pillars (block_middle ∷ free_middle ∷ free_middle ∷ []))
+    (edit_at 3 0 false)
+    ≡ Outside
 unfolding edited
 fourth_reply = refl

@@ -40,8 +40,10 @@ pub record IsEnd (g : GridData) (x y : ℕ) (c : Cell) : Type 0 where
 abbrev pub EditsSo : GridData → Cell → Bool → GridData → EditReply → Type 0
 EditsSo g c free after replied.Outside = (is_inside g c ≡ false) × (after ≡ g)
 EditsSo g c free after replied.Same = (is_inside g c ≡ true) × (is_free g c ≡ free) × (after ≡ g)
-EditsSo g c free after replied.Done = (is_inside g c ≡ true) × (is_free g c ≡ not free) × (after ≡ grid_with g c free)
+EditsSo g c free after replied.Done =
+    (is_inside g c ≡ true) × (is_free g c ≡ not free) × (after ≡ grid_with g c free)
 
 -- where a map after some edits is the one grid, the map after these and one more is the other
 abbrev pub AddsEdit : GridData → Edit → GridData → Type 0
-AddsEdit g edit after = (m : GridData) (before : List Edit) → g ≡ edited m before → after ≡ edited m (before ++ edit ∷ [])
+AddsEdit g edit after =
+    (m : GridData) (before : List Edit) → g ≡ edited m before → after ≡ edited m (before ++ edit ∷ [])

@@ -42,7 +42,8 @@ impl Model for Session {
 
 // The cell of a queried column and row, where it lies inside.
 fn cell_at<T: Terrain>(t: &T, x: u32, y: u32) -> Option<Cell>
-    ensures cell { MatchOption result (is_inside (T.grid t.now) (record { x = x; y = y }) ≡ false) (IsEnd (T.grid t.now) x y) }
+    ensures cell { MatchOption result (is_inside (T.grid t.now) (record { x = x; y = y }) ≡ false)
+        (IsEnd (T.grid t.now) x y) }
     ensures whole { IsGrid (T.grid t.now) }
 {
     if x < u32::from(t.width()) && y < u32::from(t.height()) {
@@ -75,7 +76,7 @@ impl Session {
     /// asked; both change nothing. `Done` changes that cell alone. So the session stands for the
     /// map after all edits in turn, where the last edit of a cell decides. No memory is taken.
     ///
-    /// The plain engine keeps nothing that an edit has to mend, so it counts no steps.
+    /// The plain engine keeps nothing that an edit has to mend, and counts no steps.
     pub fn edit<L: Ledger>(&mut self, x: u32, y: u32, free: bool, steps: &mut Steps<L>) -> EditReply
         ensures reply { result ≡ edit_reply self.old (edit_at x y free) }
         ensures edited { AddsEdit self.old (edit_at x y free) self.new }
@@ -97,7 +98,7 @@ impl Session {
     /// A walk has fewer than 2^24 steps, since it comes to no cell twice. Where memory is wanting,
     /// the session stands for the same grid as before, and may be asked and edited again.
     ///
-    /// The plain engine counts no steps: its bound is that of the states that it takes.
+    /// The plain engine counts no steps.
     pub fn query<L: Ledger>(
         &mut self,
         alloc: Global,
@@ -107,8 +108,10 @@ impl Session {
         gy: u32,
         steps: &mut Steps<L>,
     ) -> Result<Reply, NoMemory>
-        ensures right { IfOk result (λ reply. IsRight self.old (record { x = sx; y = sy }) (record { x = gx; y = gy }) (answer_of reply)) }
-        ensures run { IfOk result (IsRunReply self.old (record { x = sx; y = sy }) (record { x = gx; y = gy })) }
+        ensures right { IfOk result (λ reply.
+            IsRight self.old (record { x = sx; y = sy }) (record { x = gx; y = gy }) (answer_of reply)) }
+        ensures run { IfOk result
+            (IsRunReply self.old (record { x = sx; y = sy }) (record { x = gx; y = gy })) }
         ensures short { IfOk result (λ reply. IsShort (answer_of reply)) }
         ensures grid { self.new ≡ self.old }
         ensures uncounted { steps.new ≡ steps.old }

@@ -9,6 +9,7 @@ returns-clause-short g c =
     let from : Cell = record { x = c.args.sx; y = c.args.sy } in
     let to : Cell = record { x = c.args.gx; y = c.args.gy } in
     elim c.match-branch-2.branch [
-      | in-Found w ↦ reply_is_short c.args.self.now from to c.match-branch-2.result (search rules) (search rules)
+      | in-Found w ↦ reply_is_short c.args.self.now from to c.match-branch-2.result
+          (search rules) (search rules)
       | in-None w ↦ search rules
     ]
