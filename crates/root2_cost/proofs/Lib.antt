@@ -6,3 +6,4 @@ pub mod Sums
 pub mod Distance
 pub mod Signs
 pub mod Most
+pub mod Ranking

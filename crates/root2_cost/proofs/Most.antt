@@ -1,10 +1,10 @@
 -- "At most" as a record, so that chains of it need no costs written out.
-use Rattle.std.proofs.Common.{◌≡◌, ◌∙◌, sym}
+use Rattle.std.proofs.Common.{◌≡◌}
 use Rattle.root2_cost.specs.declared.Cost.{Cost}
 use Rattle.root2_cost.specs.Order.{IsAtMost}
 use Rattle.root2_cost.specs.Sums.{add_costs, no_cost}
-use Rattle.root2_cost.proofs.AtMost.{IsAtMost-refl, IsAtMost-trans, same_at_most}
-use Rattle.root2_cost.proofs.Sums.{add_costs-assoc, add_costs-no_cost_left, IsAtMost-add_left, IsAtMost-add_right, IsAtMost-cancel_right, IsAtMost-more_right}
+use Rattle.root2_cost.proofs.AtMost.{IsAtMost-trans, same_at_most}
+use Rattle.root2_cost.proofs.Sums.{add_costs-no_cost_left, IsAtMost-add_left, IsAtMost-add_right, IsAtMost-cancel_right, IsAtMost-more_right}
 
 -- p is at most q
 pub record Most (p q : Cost) : Type 0 where

@@ -1,8 +1,9 @@
 -- What holds of all costs.
-use Rattle.std.specs.Prelude.{◌≡◌, ℕ, ◌+◌, ◌*◌, ◌<◌, ◌≤◌, ◌⊎◌, ◌↔◌}
+use Rattle.std.specs.Prelude.{◌≡◌, ℕ, ◌+◌, ◌*◌, ◌^◌, ◌<◌, ◌≤◌, ◌⊎◌, ◌↔◌}
 use Rattle.root2_cost.specs.declared.Cost.{Cost}
 use Rattle.root2_cost.specs.Order.{IsLess, IsAtMost}
 use Rattle.root2_cost.specs.Sums.{add_costs, octile_cost}
+use Rattle.root2_cost.specs.Rank.{rank_of}
 
 -- of two costs one is the lesser, or they are the same pair
 abbrev pub OrderIsTotal : Type 0
@@ -28,3 +29,16 @@ SquaresDecide = (m n : ℕ) → IsLess (record { a = m; b = 0 }) (record { a = 0
 abbrev pub DistancesAdd : Type 0
 DistancesAdd = (m n j i k l : ℕ) → m ≤ j + k → n ≤ i + l
     → IsAtMost (octile_cost m n) (add_costs (octile_cost j i) (octile_cost k l))
+
+-- there are fewer than 2^31 moves of each kind
+pub record HasShortParts (c : Cost) : Type 0 where
+  pub straight : c.a < 2 ^ 31
+  pub diagonal : c.b < 2 ^ 31
+
+-- of two such costs the lesser is the one of the lesser rank
+abbrev pub RanksTellOrder : Type 0
+RanksTellOrder = (p q : Cost) → HasShortParts p → HasShortParts q → IsLess p q ↔ (rank_of p < rank_of q)
+
+-- two such costs of one rank are the same pair
+abbrev pub RanksTellPairs : Type 0
+RanksTellPairs = (p q : Cost) → HasShortParts p → HasShortParts q → rank_of p ≡ rank_of q → p ≡ q

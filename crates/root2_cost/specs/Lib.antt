@@ -1,5 +1,6 @@
 pub mod Laws
 pub mod Order
+pub mod Rank
 pub mod Signed
 pub mod Sums
 pub mod Verdict

@@ -3,7 +3,7 @@
 //! Together they say that the order is that of the values a + b√2: it is the only total order of
 //! pairs that sums keep and that compares straight with diagonal moves by their squares.
 
-ghost use Rattle.root2_cost.specs.Laws.{OrderIsTotal, OrderIsTransitive, ValuesTellPairs, SumsKeepOrder, SquaresDecide, DistancesAdd};
+ghost use Rattle.root2_cost.specs.Laws.{OrderIsTotal, OrderIsTransitive, ValuesTellPairs, SumsKeepOrder, SquaresDecide, DistancesAdd, RanksTellOrder, RanksTellPairs};
 
 /// Of two costs one is the lesser, or they are the same pair.
 pub fn order_is_total()
@@ -33,4 +33,14 @@ pub fn squares_decide()
 /// The octile distance obeys the triangle inequality.
 pub fn distances_add()
     ensures { DistancesAdd }
+{}
+
+/// Of two costs of fewer than 2^31 moves of each kind the lesser is the one of the lesser rank.
+pub fn ranks_tell_order()
+    ensures { RanksTellOrder }
+{}
+
+/// Two such costs of one rank are the same pair.
+pub fn ranks_tell_pairs()
+    ensures { RanksTellPairs }
 {}

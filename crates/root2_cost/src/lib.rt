@@ -16,6 +16,7 @@ use std::cmp::Ordering;
 
 pub mod laws;
 mod lengths;
+mod ranks;
 
 pub use lengths::{Decimal, Verdict, judge};
 

@@ -1,0 +1,59 @@
+//! One whole number for a cost, by which costs of fewer than 2^31 moves of each kind are ordered.
+//!
+//! With q = 3166815962 and p = 4478554083 the fraction p / q is a convergent of √2, and p² = 2q² + 1.
+//! The rank of a + b√2 is aq + bp. Let two costs differ by x straight and y diagonal moves, with
+//! |y| < q. Where the signs of x and y agree, xq + yp has the sign of x + y√2. For x > 0 and
+//! y = −v < 0, the first is positive exactly where x²q² > v²p² = 2v²q² + v², and as 0 < v² < q² that
+//! is exactly where x² > 2v², thus where the second is. The other signs are alike.
+//!
+//! Continued fractions of √2 and Pell's equation: Hardy and Wright, An Introduction to the Theory of
+//! Numbers, chapters X and XIV.
+
+ghost use Rattle.std.specs.Prelude.{◌≡◌, ◌<◌, ◌^◌};
+ghost use Rattle.root2_cost.specs.Rank.{rank_of};
+
+use crate::Cost;
+
+/// What one straight move counts.
+const STRAIGHT_RANK: u64 = 3_166_815_962;
+
+/// What one diagonal move counts.
+const DIAGONAL_RANK: u64 = 4_478_554_083;
+
+impl Cost {
+    /// The rank of a cost of fewer than 2^31 moves of each kind: of two such costs the lesser has
+    /// the lesser rank, and equal ranks are equal costs (`laws::ranks_tell_order`).
+    pub fn rank(self) -> u64
+        requires straight { self.a < 2 ^ 31 }
+        requires diagonal { self.b < 2 ^ 31 }
+        ensures { result ≡ rank_of self }
+    {
+        self.a as u64 * STRAIGHT_RANK + self.b as u64 * DIAGONAL_RANK
+    }
+}
+
+#[cfg(test)]
+mod tests {
+    use super::*;
+
+    // 1414 / 1000 is just below √2 and 99 / 70 just above; 1855077841² is 2 · 1311738121² − 1.
+    #[test]
+    fn ranks_order_costs_that_are_close(rt: HostRuntime) {
+        for (less, more) in [
+            (Cost { a: 1414, b: 0 }, Cost { a: 0, b: 1000 }),
+            (Cost { a: 0, b: 70 }, Cost { a: 99, b: 0 }),
+            (
+                Cost {
+                    a: 1_855_077_841,
+                    b: 0,
+                },
+                Cost {
+                    a: 0,
+                    b: 1_311_738_121,
+                },
+            ),
+        ] {
+            assert!(rt; less.rank() < more.rank(), "{less:?} and {more:?}");
+        }
+    }
+}
