@@ -30,10 +30,10 @@ take-both (b ∷ x) y n = ap (λ m. take m (b ∷ (x ++ y))) (let e : length (b 
 
 pub appends-part : (a b c : Option (List ℕ)) (x y : List ℕ) → Appends a b x → AppendsSome b c y → AppendsSome a c (x ++ y)
 appends-part a b c x y f s = (
-    length x + s.0,
-    (let e : length (x ++ y) ≡ length x + length y = length-append x y in let h : s.0 ≤ length y = s.1 in omega arith),
-    subst (λ (l : List ℕ). Appends a c l) (sym (take-both x y s.0)) (appends-both a b c x (take s.0 y) f s.2),
-  )
+  length x + s.0,
+  (let e : length (x ++ y) ≡ length x + length y = length-append x y in let h : s.0 ≤ length y = s.1 in omega arith),
+  subst (λ (l : List ℕ). Appends a c l) (sym (take-both x y s.0)) (appends-both a b c x (take s.0 y) f s.2),
+)
 
 -- a count that rose rose from any earlier value
 pub rose-since : (first before now : ℕ) → first ≤ before → Rose before now → Rose first now

@@ -1,5 +1,5 @@
 -- Why the work on a request stops. No public clause cites this module.
-use Rattle.std.specs.Prelude.{◌≡◌, ℕ, List, [], ⊤, ◌⊎◌, Result, Ok, Err}
+use Rattle.std.specs.Prelude.{◌≡◌, ℕ, ◌≤◌, List, [], ⊤, ◌⊎◌, Result, Ok, Err}
 use Rattle.std.specs.List.{concat}
 use Rattle.std.specs.declared.option.Option.{Option}
 use Rattle.std.specs.Io.KnownBytes.{Appends}
@@ -53,9 +53,9 @@ pub record HasOutcome (words : List (List ℕ)) (holds : List ℕ → Held) (sta
   pub wrote : Appends before now outcome.out
   pub same_line : line ≡ outcome.line
 
--- the work came to the outcome with this status, or it stops
+-- the work came to the outcome with this status, which is 0 or 1, or it stops
 abbrev pub HasWorked : List (List ℕ) → (List ℕ → Held) → (List ℕ → ℕ) → (List ℕ → ℕ) → Option (List ℕ) → Option (List ℕ) → ℕ → ℕ → Result ℕ Stop → Type 0
-HasWorked words holds files files_now before now faults faults_now (Ok status) = HasOutcome words holds status before now []
+HasWorked words holds files files_now before now faults faults_now (Ok status) = (status ≤ 1) × HasOutcome words holds status before now []
 HasWorked words holds files files_now before now faults faults_now (Err (Words line)) = IsOutcome words holds (refused 2 line.items) × Appends before now []
 HasWorked words holds files files_now before now faults faults_now (Err (Text line)) = IsOutcome words holds (refused 3 line.items) × Appends before now []
 HasWorked words holds files files_now before now faults faults_now (Err Read) = FileRose words files files_now × Appends before now []

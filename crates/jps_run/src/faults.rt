@@ -36,12 +36,7 @@ pub(crate) fn long_line(alloc: Global, kind: &[u8]) -> Result<Vec<u8>, NoMemory>
 }
 
 // The line of a fault by its name, in this line of a text of this kind.
-fn fault_line(
-    alloc: Global,
-    kind: &[u8],
-    name: &[u8],
-    number: u32,
-) -> Result<Vec<u8>, NoMemory>
+fn fault_line(alloc: Global, kind: &[u8], name: &[u8], number: u32) -> Result<Vec<u8>, NoMemory>
     ensures { IfOk result (λ line. line.items ≡ spec.fault_line kind.now name.now number) }
 {
     let mut line = Vec::new(alloc);

@@ -79,7 +79,15 @@ fn judge<F: Files, O: Sink, L: Ledger>(
     let map = read_map_file(alloc, files, map)?;
     let entries = read_scen_file(alloc, files, scen)?;
     let mut session = Session::new(alloc, &map, engine_of(pick))?;
-    write_rows(alloc, map.width, map.height, &mut session, entries.as_slice(), out, steps)
+    write_rows(
+        alloc,
+        map.width,
+        map.height,
+        &mut session,
+        entries.as_slice(),
+        out,
+        steps,
+    )
 }
 
 // Does what the words ask for, and gives the status.
@@ -115,7 +123,16 @@ fn work<F: Files, O: Sink, L: Ledger>(
             gy,
             pick,
             show,
-        } => query(alloc, files, out, map, Ends { sx, sy, gx, gy }, pick, show, steps),
+        } => query(
+            alloc,
+            files,
+            out,
+            map,
+            Ends { sx, sy, gx, gy },
+            pick,
+            show,
+            steps,
+        ),
         Request::Solve { map, script, pick } => solve(alloc, files, out, map, script, pick, steps),
         Request::Scen { map, scen, pick } => judge(alloc, files, out, map, scen, pick, steps),
     }

@@ -64,10 +64,9 @@ pub returns : goal.returns
 returns g c =
     let j = c.loop-entry.invariant in
     let are = rows-all c.args.session.now c.args.entries.now (g.O.Sink.written c.args.out.now) (g.O.Sink.faults c.args.out.now) c.loop-entry.entry-index (g.O.Sink.written c.loop-entry.out) (g.O.Sink.faults c.loop-entry.out) c.loop-entry.lines.items c.loop-entry.tally c.loop-entry.session j c.loop-entry-test.false in
-    let sent = sum-waits c.args.session.now c.args.entries.now (g.O.Sink.written c.args.out.now) (g.O.Sink.faults c.args.out.now) c.loop-entry.entry-index (g.O.Sink.written c.loop-entry.out) (g.O.Sink.faults c.loop-entry.out) c.loop-entry.lines.items c.put.new.out.items c.loop-entry.tally c.loop-entry.session j c.in_ok-put.ensures in
-    (
-    scen_lines j.rows,
-    record { rows = j.rows; are = are; all = refl; same_status = c.status.ensures j.rows j.counted },
-    sent-whole (g.O.Sink.written c.args.out.now) (g.O.Sink.faults c.args.out.now) (g.O.Sink.written c.loop-entry.out) (g.O.Sink.written c.write_out.new.out) (g.O.Sink.faults c.loop-entry.out) c.put.new.out.items (scen_lines j.rows) sent
-    (subst (λ (bytes : List ℕ). Appends (g.O.Sink.written c.loop-entry.out) (g.O.Sink.written c.write_out.new.out) bytes) c.as_slice.ensures.value c.in_ok-write_out.ensures.wrote),
+    let sent = sum-waits c.args.session.now c.args.entries.now (g.O.Sink.written c.args.out.now) (g.O.Sink.faults c.args.out.now) c.loop-entry.entry-index (g.O.Sink.written c.loop-entry.out) (g.O.Sink.faults c.loop-entry.out) c.loop-entry.lines.items c.put.new.out.items c.loop-entry.tally c.loop-entry.session j c.in_ok-put.ensures in (
+      scen_lines j.rows,
+      record { rows = j.rows; are = are; all = refl; same_status = c.status.ensures j.rows j.counted },
+      sent-whole (g.O.Sink.written c.args.out.now) (g.O.Sink.faults c.args.out.now) (g.O.Sink.written c.loop-entry.out) (g.O.Sink.written c.write_out.new.out) (g.O.Sink.faults c.loop-entry.out) c.put.new.out.items (scen_lines j.rows) sent
+          (subst (λ (bytes : List ℕ). Appends (g.O.Sink.written c.loop-entry.out) (g.O.Sink.written c.write_out.new.out) bytes) c.as_slice.ensures.value c.in_ok-write_out.ensures.wrote),
     )
