@@ -23,6 +23,7 @@ use Rattle.plain_search.specs.declared.node.Node.{Node}
 use Rattle.plain_search.proofs.Right.{HasLeast, way_is_least}
 use Rattle.plain_search.proofs.Searching.{at_start, started, relaxing, going_on, ending}
 use Rattle.plain_search.proofs.Bounds.{few_nodes, few_taken}
+use Rattle.plain_search.proofs.Keys.{short_sums}
 use Rattle.plain_search.proofs.Backing.{back_of, back_is_one}
 
 -- one state more is one number more
@@ -41,6 +42,10 @@ in_order k start n points a = record {
   is_corners = ap reverse a.is_corners ∙ sym (corners-reverse a.cells);
 }
 
+-- sides of at most 4096 have at most 2^24 cells
+pub cells_fit : (g : GridData) → IsGrid g → g.height * g.width ≤ 16777216
+cells_fit g i = let a = i.sides.narrow in let b = i.sides.low in mul-le-mul b a
+
 module _ (g : GridData) (s t : Cell) where
   -- at the start
   pub has_begun : (free : is_free g s ≡ true) (index : List ℕ) → length index ≡ g.height * g.width → cell_number g.width s < length index → HasTaken g s t 0 (begun g.width t s index) (state_number g.width s ∷ [])
@@ -51,19 +56,33 @@ module _ (g : GridData) (s t : Cell) where
   no_goal_yet x earlier n e = rw e n
 
   -- the offers of the last state, and then the next
-  pub next_taken : (at : ℕ) (k : Table) (taken : List ℕ) → (h : HasTaken g s t at k taken) → is_same h.last.state t ≡ false → (id : ℕ) (node : Node) → IsFirstNode (relaxed g t at k) id → slice_get (relaxed g t at k).nodes id ≡ Some node → HasTaken g s t id (closed_at id (relaxed g t at k)) (taken ++ node.state ∷ [])
-  next_taken at k taken h n id node f read =
+  pub next_taken : IsGrid g → is_free g s ≡ true → is_free g t ≡ true
+      → (at : ℕ) (k : Table) (taken : List ℕ) → (h : HasTaken g s t at k taken) → is_same h.last.state t ≡ false
+      → (id : ℕ) (node : Node) → IsFirstNode (relaxed g t at k) id → slice_get (relaxed g t at k).nodes id ≡ Some node
+      → HasTaken g s t id (closed_at id (relaxed g t at k)) (taken ++ state_number g.width node.cell ∷ [])
+  next_taken whole from to at k taken h n id node f read =
       let r = relaxing g s t h.last h.earlier at k h.searching n in
-      let on = going_on g s t h.last h.earlier (relaxed g t at k) id h.searching.run (no_goal_yet h.last h.earlier h.searching.no_goal n) r.0 r.1 f in
-      let order = on.1.mirrors.in_order id on.1.node on.1.node_is in
+      let run = few_taken g t s from (h.last ∷ h.earlier) h.searching.run in
+      let cells = cells_fit g whole in
+      let short = short_sums g t (h.last ∷ h.earlier) whole to (omega arith) in
+      let on = going_on g s t h.last h.earlier (relaxed g t at k) id h.searching.run (no_goal_yet h.last h.earlier h.searching.no_goal n) r.0 r.1 f short in
       let one : node ≡ on.1.node = ap (λ (o : Option Node). elim o as (λ _. Node) [ Some v ↦ v | None ↦ node ]) (sym read ∙ on.1.node_is) in
-      let state : node.state ≡ state_number g.width on.0.state = ap (λ (x : Node). x.state) (one ∙ order.made) ∙ ap (λ (c : Cell). state_number g.width c) on.1.cell in
+      let cell : node.cell ≡ on.0.state = ap (λ (x : Node). x.cell) one ∙ on.1.cell in
       record {
         last = on.0;
         earlier = h.last ∷ h.earlier;
         searching = on.1;
-        numbered = ap (λ (ns : List ℕ). ns ++ node.state ∷ []) h.numbered ∙ ap (λ (n : ℕ). numbers_of g.width (h.last ∷ h.earlier) ++ n ∷ []) state ∙ sym (numbers-next g.width on.0 (h.last ∷ h.earlier));
+        numbered =
+            ap (λ (ns : List ℕ). ns ++ state_number g.width node.cell ∷ []) h.numbered
+            ∙ ap (λ (c : Cell). numbers_of g.width (h.last ∷ h.earlier) ++ state_number g.width c ∷ []) cell
+            ∙ sym (numbers-next g.width on.0 (h.last ∷ h.earlier));
       }
+
+  -- the next state is free
+  pub next_free : (at : ℕ) (k : Table) (taken : List ℕ) → (h : HasTaken g s t at k taken) → is_same h.last.state t ≡ false
+      → (id : ℕ) (node : Node) → slice_get (relaxed g t at k).nodes id ≡ Some node → is_free g node.cell ≡ true
+  next_free at k taken h n id node read =
+      ((relaxing g s t h.last h.earlier at k h.searching n).0.in_order id node read).free
 
   -- the offers of the last state, and then none waits
   pub exhausted : (at : ℕ) (k : Table) (taken : List ℕ) → (h : HasTaken g s t at k taken) → is_same h.last.state t ≡ false → NoneOpen (relaxed g t at k) → IsExhausted g s t taken
@@ -124,7 +143,8 @@ pub record IsReady (g : GridData) (t : Cell) (at : ℕ) (k : Table) : Type 0 whe
   pub few : length k.nodes ≤ g.height * g.width
   pub known : at < length k.nodes
   pub short : (n : Node) → slice_get k.nodes at ≡ Some n → n.cost.a + n.cost.b ≤ g.height * g.width
-  pub made : AreMade g.width t k
+  pub free : (n : Node) → slice_get k.nodes at ≡ Some n → is_free g n.cell ≡ true
+  pub made : AreMade t k
 
 pub ready : (g : GridData) (s t : Cell) (at : ℕ) (k : Table) (taken : List ℕ) → HasTaken g s t at k taken → is_free g s ≡ true → IsReady g t at k
 ready g s t at k taken h free =
@@ -133,9 +153,6 @@ ready g s t at k taken h free =
       few = few_nodes g t (h.last ∷ h.earlier) (least_offer (plain_rule g t) h.earlier) k m;
       known = slice_get_within k.nodes at h.searching.node h.searching.node_is;
       short = λ n e. (let l = (m.in_order at n e).short in let f = few_taken g t s free (h.last ∷ h.earlier) h.searching.run in omega arith);
+      free = λ n e. (m.in_order at n e).free;
       made = λ id n e. (m.in_order id n e).made;
     }
-
--- sides of at most 4096 have at most 2^24 cells
-pub cells_fit : (g : GridData) → IsGrid g → g.height * g.width ≤ 16777216
-cells_fit g i = let a = i.sides.narrow in let b = i.sides.low in mul-le-mul b a

@@ -141,7 +141,7 @@ module _ (g : GridData) (t : Cell) (run : List (Taken Cell)) (best : Cell → Op
       (has_node_stays x (among x.state (rw (is_same-itself x.state) refl)) h.0, have_stays rest (λ s y. among s (in_tail x rest s y)) h.1)
 
   -- the table keeps the run still, with the node's offer for its cell
-  pub mirrors_changed : (after : Cell → Option (Offer Cell)) (p : Node) → n ≡ node_for g.width t n.cell n.cost n.parent → n.cost.a + n.cost.b ≤ length run → slice_get k.nodes n.parent ≡ Some p → is_taken (plain_rule g t) run p.cell ≡ true
+  pub mirrors_changed : (after : Cell → Option (Offer Cell)) (p : Node) → n ≡ node_for t n.cell n.cost n.parent → n.cost.a + n.cost.b ≤ length run → slice_get k.nodes n.parent ≡ Some p → is_taken (plain_rule g t) run p.cell ≡ true
       → after v ≡ Some (record { cost = n.cost; from = p.cell }) → ((c : Cell) → is_same v c ≡ false → after c ≡ best c) → Mirrors g t run after l
   mirrors_changed after p made short parent taken at_v at_others = record {
     in_order = in_order;

@@ -73,7 +73,7 @@ module _ (g : GridData) (t : Cell) (run : List (Taken Cell)) (best : Cell → Op
 
   module _ (v : Cell) (cost : Cost) (parent : ℕ) (p : Node) (free : is_free g v ≡ true) (parent_is : slice_get k.nodes parent ≡ Some p) (parent_taken : is_taken (plain_rule g t) run p.cell ≡ true) (short : cost.a + cost.b ≤ length run) (index_len : length k.index ≡ g.height * g.width) where
     abbrev pub new : Node
-    new = node_for g.width t v cost parent
+    new = node_for t v cost parent
 
     abbrev pub now : Offer Cell
     now = record { cost = cost; from = p.cell }

@@ -71,7 +71,7 @@ module _ (g : GridData) (t : Cell) (run : List (Taken Cell)) (id : ℕ) (u : Nod
       let shut : slice_get k.open_at id ≡ Some false = r.mirrors.opened id u r.slot ∙ rw taken refl in
       record {
         mirrors = offered_keeps g t run best k r.mirrors v (add_costs u.cost (move_cost u.cell v)) id u free r.slot taken (one_move v) r.index;
-        slot = closed_slot k g.width (node_for g.width t v (add_costs u.cost (move_cost u.cell v)) id) id u r.slot shut;
+        slot = closed_slot k g.width (node_for t v (add_costs u.cost (move_cost u.cell v)) id) id u r.slot shut;
         index = index-over g.width t (Some v) id u k ∙ r.index;
       }
 

@@ -14,6 +14,7 @@ use Rattle.plain_search.specs.Found.{numbers_of, IsExhausted}
 use Rattle.plain_search.specs.Table.{Table, lookup, holds_cell, node_for, begun, relaxed, closed_at, IsFirstNode, NoneOpen, offered_ahead}
 use Rattle.plain_search.specs.Mirror.{kept, kept_by, IsInOrder, HasNode, HaveNodes, Mirrors, IsSearching, with_all_ahead}
 use Rattle.plain_search.specs.declared.node.Node.{Node}
+use Rattle.plain_search.proofs.Keys.{HasShortSums}
 use Rattle.plain_search.proofs.Mirrors.{same_or_not}
 use Rattle.plain_search.proofs.Offering.{same_best}
 use Rattle.plain_search.proofs.Relaxing.{Relaxing, all_over, offers_after}
@@ -29,7 +30,7 @@ module _ (g : GridData) (s t : Cell) where
     first_table = begun g.width t s index
 
     abbrev first_node : Node
-    first_node = node_for g.width t s no_cost 0
+    first_node = node_for t s no_cost 0
 
     start_taken : is_taken (plain_rule g t) (at_start ∷ []) s ≡ true
     start_taken = rw (is_same-itself s) refl
@@ -109,11 +110,12 @@ module _ (g : GridData) (s t : Cell) where
 
   -- the next state is taken
   pub going_on : (x : Taken Cell) (earlier : List (Taken Cell)) (k : Table) (id : ℕ) → IsRun (plain_rule g t) s (x ∷ earlier) → has_goal (plain_rule g t) (x ∷ earlier) ≡ false
-      → Mirrors g t (x ∷ earlier) (least_offer (plain_rule g t) (x ∷ earlier)) k → length k.index ≡ g.height * g.width → IsFirstNode k id → (y : Taken Cell) × IsSearching g s t y (x ∷ earlier) id (closed_at id k)
-  going_on x earlier k id is none m size f = (
+      → Mirrors g t (x ∷ earlier) (least_offer (plain_rule g t) (x ∷ earlier)) k → length k.index ≡ g.height * g.width → IsFirstNode k id → HasShortSums g t (x ∷ earlier)
+      → (y : Taken Cell) × IsSearching g s t y (x ∷ earlier) id (closed_at id k)
+  going_on x earlier k id is none m size f few = (
     next g t (x ∷ earlier) k m id f.node f.node_is f.is_open f.first,
     record {
-      run = (is, none, is_next g t (x ∷ earlier) k m id f.node f.node_is f.is_open f.first);
+      run = (is, none, is_next g t (x ∷ earlier) k m id f.node f.node_is f.is_open f.first few);
       no_goal = none;
       mirrors = mirrors_on g t (x ∷ earlier) k m id f.node f.node_is f.is_open f.first;
       node = f.node;

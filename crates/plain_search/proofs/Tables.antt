@@ -1,8 +1,11 @@
 -- Nodes that are offered keep a table's shape.
-use Rattle.std.proofs.Common.{◌≡◌, ℕ, zero, suc, ◌⊎◌, inl, inr, length, List, [], ◌∷◌, ◌++◌, refl, ap, sym, ◌∙◌, subst, Bool, true, false, arith, take}
-use Rattle.std.specs.Prelude.{Option, Some, None, slice_get, slice_set, slice_index_or, if◌then◌else◌, fold}
+use Rattle.std.proofs.Common.{◌≡◌, ℕ, zero, suc, ◌⊎◌, inl, inr, length, List, [], ◌∷◌, ◌++◌, refl, ap, sym, ◌∙◌, subst, Bool, true, false, arith, take, ◌<◌, ◌&&◌, ◌||◌}
+use Rattle.std.specs.Prelude.{Option, Some, None, slice_get, slice_set, slice_index_or, if◌then◌else◌, fold, nat_eq, nat_lt}
+use Rattle.std.proofs.lemmas.Bool.Decides.{nat_tests}
 use Rattle.root2_cost.specs.declared.Cost.{Cost}
 use Rattle.root2_cost.specs.Order.{is_less}
+use Rattle.root2_cost.specs.Rank.{rank_of}
+use Rattle.root2_cost.specs.Laws.{HasShortParts}
 use Rattle.root2_cost.specs.Sums.{add_costs}
 use Rattle.grid_moves.specs.declared.Cell.{Cell}
 use Rattle.grid_moves.specs.declared.Dir.{Dir}
@@ -11,8 +14,8 @@ use Rattle.grid_moves.specs.Move.{legal_ahead, move_cost}
 use Rattle.grid_moves.specs.Points.{estimate}
 use Rattle.grid_moves.proofs.Legal.{is_same-cell}
 use Rattle.root2_cost.proofs.Sums.{IsLess-add_right}
+use Rattle.root2_cost.proofs.Ranking.{less_ranks}
 use Rattle.plain_search.specs.Node.{ranks_before}
-use Rattle.plain_search.specs.Ranks.{ranks_order}
 use Rattle.plain_search.specs.Table.{Table, lookup, holds_cell, added, improved, is_improved, replaced, offered, offered_at, offered_over, offered_ahead, node_for, AreMade}
 use Rattle.plain_search.specs.declared.node.Node.{Node}
 use Rattle.plain_search.proofs.Lists.{got-added, got-set}
@@ -40,43 +43,53 @@ found-cell k width c id n l h =
     by_test at false e l = absurd (cc)
 
 -- at a lesser cost the node of a cell ranks before
-pub lower_ranks : (width : ℕ) (goal c : Cell) (old : Node) (cost : Cost) (parent : ℕ) → old ≡ node_for width goal old.cell old.cost old.parent → old.cell ≡ c → is_less cost old.cost ≡ true → ranks_before old (node_for width goal c cost parent) ≡ false
-lower_ranks width goal c old cost parent made same less = by_test (ranks_before old new) refl
+pub lower_ranks : (goal c : Cell) (old : Node) (cost : Cost) (parent : ℕ) → old ≡ node_for goal c old.cost old.parent
+    → HasShortParts (add_costs cost (estimate c goal)) → is_less cost old.cost ≡ true
+    → ranks_before old (node_for goal c cost parent) ≡ false
+lower_ranks goal c old cost parent made short less =
+    greater old.key (rank_of (add_costs cost (estimate c goal))) _ (subst (λ k. rank_of (add_costs cost (estimate c goal)) < k) (sym key) rises)
   where
-    new : Node
-    new = node_for width goal c cost parent
+    key : old.key ≡ rank_of (add_costs old.cost (estimate c goal))
+    key = ap (λ (n : Node). n.key) made
 
-    sums : old.sum ≡ add_costs old.cost (estimate c goal)
-    sums = ap (λ (n : Node). n.sum) made ∙ ap (λ (d : Cell). add_costs old.cost (estimate d goal)) same
+    rises : rank_of (add_costs cost (estimate c goal)) < rank_of (add_costs old.cost (estimate c goal))
+    rises =
+        less_ranks (add_costs cost (estimate c goal)) (add_costs old.cost (estimate c goal)) short
+        (IsLess-add_right (estimate c goal) cost old.cost less)
 
-    ranks : ranks_before new old ≡ true
-    ranks = let l : is_less new.sum old.sum ≡ true = rw sums (IsLess-add_right (estimate c goal) cost old.cost less) in rw l refl
+    greater : (m n : ℕ) (tie : Bool) → n < m → (nat_lt m n || (nat_eq m n && tie)) ≡ false
+    greater m n tie h = grind (arith, nat_tests)
 
-    by_test : (b : Bool) → ranks_before old new ≡ b → ranks_before old new ≡ false
-    by_test true e = absurd (let t : ranks_before old old ≡ true = ranks_order.before_is_transitive old new old e ranks in let f : ranks_before old old ≡ false = ranks_order.not_before_itself old in cc)
-    by_test false e = e
+-- where a cost improves on a node it is less
+pub improved_less : (k : Table) (id : ℕ) (cost : Cost) (old : Node) → is_improved k id cost ≡ true
+    → slice_get k.nodes id ≡ Some old → is_less cost old.cost ≡ true
+improved_less k id cost old h e = by_open (slice_index_or k.open_at id false) (rw e at h)
+  where
+    by_open : (b : Bool) → (b && is_less cost old.cost) ≡ true → is_less cost old.cost ≡ true
+    by_open true l = l
+    by_open false l = absurd (cc)
 
 module _ (width : ℕ) (goal : Cell) where
-  made-added : (k : Table) (n : Node) → AreMade width goal k → n ≡ node_for width goal n.cell n.cost n.parent → AreMade width goal (added width n k)
-  made-added k n m e = λ id x h. elim (got-added k.nodes n id x h) [ inl g ↦ m id x g | inr g ↦ subst (λ (y : Node). y ≡ node_for width goal y.cell y.cost y.parent) (sym g.1) e ]
+  made-added : (k : Table) (n : Node) → AreMade goal k → n ≡ node_for goal n.cell n.cost n.parent → AreMade goal (added width n k)
+  made-added k n m e = λ id x h. elim (got-added k.nodes n id x h) [ inl g ↦ m id x g | inr g ↦ subst (λ (y : Node). y ≡ node_for goal y.cell y.cost y.parent) (sym g.1) e ]
 
-  made-improved : (k : Table) (id : ℕ) (n : Node) → AreMade width goal k → n ≡ node_for width goal n.cell n.cost n.parent → AreMade width goal (improved id n k)
+  made-improved : (k : Table) (id : ℕ) (n : Node) → AreMade goal k → n ≡ node_for goal n.cell n.cost n.parent → AreMade goal (improved id n k)
   made-improved k id n m e = by_test (is_improved k id n.cost)
     where
-      by_test : (b : Bool) → AreMade width goal (if b then replaced id n k else k)
-      by_test true = λ i x h. elim (got-set k.nodes i id x n h) [ inl g ↦ m i x g.1 | inr g ↦ subst (λ (y : Node). y ≡ node_for width goal y.cell y.cost y.parent) (sym g.1) e ]
+      by_test : (b : Bool) → AreMade goal (if b then replaced id n k else k)
+      by_test true = λ i x h. elim (got-set k.nodes i id x n h) [ inl g ↦ m i x g.1 | inr g ↦ subst (λ (y : Node). y ≡ node_for goal y.cell y.cost y.parent) (sym g.1) e ]
       by_test false = m
 
-  pub made-offered : (k : Table) (n : Node) → AreMade width goal k → n ≡ node_for width goal n.cell n.cost n.parent → AreMade width goal (offered width n k)
+  pub made-offered : (k : Table) (n : Node) → AreMade goal k → n ≡ node_for goal n.cell n.cost n.parent → AreMade goal (offered width n k)
   made-offered k n m e = by_node (lookup k width n.cell)
     where
-      by_node : (o : Option ℕ) → AreMade width goal (offered_at o width n k)
+      by_node : (o : Option ℕ) → AreMade goal (offered_at o width n k)
       by_node None = made-added k n m e
       by_node (Some id) = made-improved k id n m e
 
-  pub made-over : (o : Option Cell) (id : ℕ) (u : Node) (k : Table) → AreMade width goal k → AreMade width goal (offered_over o width goal id u k)
+  pub made-over : (o : Option Cell) (id : ℕ) (u : Node) (k : Table) → AreMade goal k → AreMade goal (offered_over o width goal id u k)
   made-over None id u k m = m
-  made-over (Some v) id u k m = made-offered k (node_for width goal v (add_costs u.cost (move_cost u.cell v)) id) m refl
+  made-over (Some v) id u k m = made-offered k (node_for goal v (add_costs u.cost (move_cost u.cell v)) id) m refl
 
   -- the index keeps its length
   index-offered : (k : Table) (n : Node) → length (offered width n k).index ≡ length k.index
@@ -92,4 +105,12 @@ module _ (width : ℕ) (goal : Cell) where
 
   pub index-over : (o : Option Cell) (id : ℕ) (u : Node) (k : Table) → length (offered_over o width goal id u k).index ≡ length k.index
   index-over None id u k = refl
-  index-over (Some v) id u k = index-offered k (node_for width goal v (add_costs u.cost (move_cost u.cell v)) id)
+  index-over (Some v) id u k = index-offered k (node_for goal v (add_costs u.cost (move_cost u.cell v)) id)
+
+module _ (g : GridData) (goal : Cell) (id : ℕ) (u : Node) where
+  -- the table after what u offers in one direction
+  abbrev over : Dir → Table → Table
+  over d k = offered_over (legal_ahead g u.cell d) g.width goal id u k
+
+  over_next : (d : Dir) (o : Option Cell) (k l m : Table) → o ≡ legal_ahead g u.cell d → l ≡ offered_over o g.width goal id u k → k ≡ m → l ≡ over d m
+  over_next d o k l m e f h = f ∙ ap (λ (q : Option Cell). offered_over q g.width goal id u k) e ∙ ap (over d) h

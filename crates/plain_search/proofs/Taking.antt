@@ -17,6 +17,7 @@ use Rattle.plain_search.specs.Table.{Table, lookup, node_for}
 use Rattle.plain_search.specs.Mirror.{kept, kept_by, IsInOrder, HasNode, HaveNodes, Mirrors, IsSearching}
 use Rattle.plain_search.specs.declared.node.Node.{Node}
 use Rattle.plain_search.proofs.Walks.{link_legal}
+use Rattle.plain_search.proofs.Keys.{HasShortSums, ranks_as_states}
 use Rattle.plain_search.proofs.Lists.{get-set_same, get-set_other}
 use Rattle.plain_search.proofs.Mirrors.{kept-node, same_or_not}
 use Rattle.plain_search.proofs.Offering.{lookup-found}
@@ -74,11 +75,12 @@ module _ (g : GridData) (t : Cell) (run : List (Taken Cell)) (k : Table) (m : Mi
       by_offer (Some o) h = absurd (let w = waiting_node s o n h in none w.id w.is_open)
 
   -- the order of nodes is that of the states
-  rank_is : (i j : ℕ) (x y : Node) → slice_get k.nodes i ≡ Some x → slice_get k.nodes j ≡ Some y → ranks_before x y ≡ goes_before (plain_rule g t) x.cell x.cost y.cell y.cost
-  rank_is i j x y h l =
-      let a = (m.in_order i x h).made in
-      let b = (m.in_order j y l).made in
-      ap (λ (n : Node). ranks_before n y) a ∙ ap (λ (n : Node). ranks_before (node_for g.width t x.cell x.cost x.parent) n) b
+  rank_is : HasShortSums g t run → (i j : ℕ) (x y : Node) → slice_get k.nodes i ≡ Some x → slice_get k.nodes j ≡ Some y
+      → ranks_before x y ≡ goes_before (plain_rule g t) x.cell x.cost y.cell y.cost
+  rank_is short i j x y h l =
+      let a = m.in_order i x h in
+      let b = m.in_order j y l in
+      ranks_as_states g t run x y short a.made a.free a.short b.made b.free b.short
 
   module _ (id : ℕ) (n : Node) (n_is : slice_get k.nodes id ≡ Some n) (is_open : slice_get k.open_at id ≡ Some true) (first : (other : ℕ) (x : Node) → slice_get k.open_at other ≡ Some true → slice_get k.nodes other ≡ Some x → ranks_before x n ≡ false) where
     abbrev pub next : Taken Cell
@@ -96,15 +98,15 @@ module _ (g : GridData) (t : Cell) (run : List (Taken Cell)) (k : Table) (m : Mi
         by_test true e = absurd (let o : slice_get k.open_at id ≡ Some false = m.opened id n n_is ∙ rw e refl in let s : true ≡ false = ap (λ (q : Option Bool). flag q) (sym is_open ∙ o) in cc)
 
     -- the node's state is next
-    pub is_next : IsNext (plain_rule g t) run next
-    is_next =
+    pub is_next : HasShortSums g t run → IsNext (plain_rule g t) run next
+    is_next short =
         let order = m.in_order id n n_is in
         record {
           waits = untaken;
           offered = sym (m.waits n.cell order.free untaken) ∙ kept-node k g.width id n n_is order.placed ∙ rw order.parent_is refl;
           first = λ s o w h.
               let f = waiting_node s o w h in
-              let r : goes_before (plain_rule g t) f.node.cell f.node.cost n.cell n.cost ≡ false = sym (rank_is f.id id f.node n f.node_is n_is) ∙ first f.id f.node f.is_open f.node_is in
+              let r : goes_before (plain_rule g t) f.node.cell f.node.cost n.cell n.cost ≡ false = sym (rank_is short f.id id f.node n f.node_is n_is) ∙ first f.id f.node f.is_open f.node_is in
               subst (λ (c : Cost). goes_before (plain_rule g t) s c n.cell n.cost ≡ false) f.cost (subst (λ (c : Cell). goes_before (plain_rule g t) c f.node.cost n.cell n.cost ≡ false) f.cell r);
         }
 

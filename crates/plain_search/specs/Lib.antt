@@ -1,6 +1,7 @@
 pub mod Rule
 pub mod Found
 pub mod Answer
+pub mod Beside
 pub mod Node
 pub mod Ranks
 pub mod Table

@@ -24,7 +24,7 @@ kept k width c = option_and_then (λ id. option_and_then (kept_by k.nodes) (slic
 pub record IsInOrder (g : GridData) (t : Cell) (run : List (Taken Cell)) (k : Table) (id : ℕ) (n : Node) : Type 0 where
   pub free : is_free g n.cell ≡ true
   pub placed : slice_index_or k.index (cell_number g.width n.cell) 0 ≡ id
-  pub made : n ≡ node_for g.width t n.cell n.cost n.parent
+  pub made : n ≡ node_for t n.cell n.cost n.parent
   pub short : n.cost.a + n.cost.b ≤ length run
   pub parent : Node
   pub parent_is : slice_get k.nodes n.parent ≡ Some parent

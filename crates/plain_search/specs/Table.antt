@@ -3,6 +3,7 @@ use Rattle.std.specs.Prelude.{◌≡◌, ℕ, ◌*◌, Bool, true, false, ◌&&�
 use Rattle.std.specs.Option.{option_map_or}
 use Rattle.root2_cost.specs.declared.Cost.{Cost}
 use Rattle.root2_cost.specs.Order.{is_less}
+use Rattle.root2_cost.specs.Rank.{rank_of}
 use Rattle.root2_cost.specs.Sums.{add_costs, no_cost}
 use Rattle.grid_moves.specs.declared.Cell.{Cell}
 use Rattle.grid_moves.specs.declared.Dir.{Dir}
@@ -10,7 +11,6 @@ use Rattle.grid_moves.specs.Grid.{GridData, cell_number}
 use Rattle.grid_moves.specs.Move.{is_same, legal_ahead, move_cost, all_dirs}
 use Rattle.grid_moves.specs.Points.{estimate}
 use Rattle.plain_search.specs.Node.{ranks_before}
-use Rattle.plain_search.specs.Rule.{state_number}
 use Rattle.plain_search.specs.declared.node.Node.{Node}
 
 -- the nodes by their numbers, whether each is open, and for each cell number the number of a node
@@ -64,23 +64,22 @@ abbrev pub offered : ℕ → Node → Table → Table
 offered width n k = offered_at (lookup k width n.cell) width n k
 
 -- the node for a cell, at this cost, offered by the node of that number
-abbrev pub node_for : ℕ → Cell → Cell → Cost → ℕ → Node
-node_for width goal c cost parent = record {
-  sum = add_costs cost (estimate c goal);
+abbrev pub node_for : Cell → Cell → Cost → ℕ → Node
+node_for goal c cost parent = record {
+  key = rank_of (add_costs cost (estimate c goal));
   cost = cost;
-  cell = c;
-  state = state_number width c;
   parent = parent;
+  cell = c;
 }
 
--- each node has the sum and the state number of its cell and cost
-abbrev pub AreMade : ℕ → Cell → Table → Type 0
-AreMade width goal k = (id : ℕ) (n : Node) → slice_get k.nodes id ≡ Some n → n ≡ node_for width goal n.cell n.cost n.parent
+-- each node has the key of its cell and cost
+abbrev pub AreMade : Cell → Table → Type 0
+AreMade goal k = (id : ℕ) (n : Node) → slice_get k.nodes id ≡ Some n → n ≡ node_for goal n.cell n.cost n.parent
 
 -- what a node offers to the cell ahead, where the move to it is legal
 abbrev pub offered_over : Option Cell → ℕ → Cell → ℕ → Node → Table → Table
 offered_over None width goal id u k = k
-offered_over (Some v) width goal id u k = offered width (node_for width goal v (add_costs u.cost (move_cost u.cell v)) id) k
+offered_over (Some v) width goal id u k = offered width (node_for goal v (add_costs u.cost (move_cost u.cell v)) id) k
 
 -- what a node offers in these directions, in their order
 abbrev pub offered_ahead : GridData → Cell → ℕ → Node → Table → List Dir → Table
@@ -97,7 +96,7 @@ relaxed g goal id k = relaxed_by g goal id (slice_get k.nodes id) k
 -- the table of one closed node, over an index
 abbrev pub begun : ℕ → Cell → Cell → List ℕ → Table
 begun width goal start index = record {
-  nodes = node_for width goal start no_cost 0 ∷ [];
+  nodes = node_for goal start no_cost 0 ∷ [];
   open_at = false ∷ [];
   index = slice_set index (cell_number width start) 0;
 }

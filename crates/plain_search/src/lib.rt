@@ -1,6 +1,7 @@
 //! Least walks by plain A*, without pruning.
 #![tactic(auto)]
 
+mod around;
 mod node;
 mod search;
 mod space;

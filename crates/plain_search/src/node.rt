@@ -1,4 +1,8 @@
 //! Nodes of the search, and their order.
+//!
+//! The key is one whole number that orders the sums of cost and estimate by their values. Among
+//! equal sums the state of the lesser number goes first; on one map that is the state of the lesser
+//! row, and in one row that of the lesser column.
 
 ghost use Rattle.std.specs.Prelude.{◌≡◌};
 ghost use Rattle.plain_search.specs.Node.{ranks_before};
@@ -11,27 +15,27 @@ use root2_cost::Cost;
 /// A cell that the search knows, with the least cost offered so far.
 #[derive(Clone, Copy, Debug)]
 pub(crate) struct Node {
-    /// The cost and the estimate of what is left.
-    pub(crate) sum: Cost,
+    /// The rank of the cost and the estimate of what is left.
+    pub(crate) key: u64,
     /// The least cost offered so far.
     pub(crate) cost: Cost,
-    /// The cell.
-    pub(crate) cell: Cell,
-    /// The printed number of the state at the cell, by which equal sums are ordered.
-    pub(crate) state: u32,
     /// The number of the node that offers the cost; the start has its own.
     pub(crate) parent: u32,
+    /// The cell.
+    pub(crate) cell: Cell,
 }
 
 impl Ranked for Node {
     ghost before = { λ m n. ranks_before m n };
 
     fn before(&self, other: &Node) -> bool {
-        if self.sum.a == other.sum.a && self.sum.b == other.sum.b {
-            self.state < other.state
-        } else {
-            self.sum.is_below(other.sum)
+        if self.key != other.key {
+            return self.key < other.key;
         }
+        if self.cell.y != other.cell.y {
+            return self.cell.y < other.cell.y;
+        }
+        self.cell.x < other.cell.x
     }
 
     ghost order = { ranks_order };

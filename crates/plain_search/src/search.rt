@@ -5,13 +5,14 @@ ghost use Rattle.grid_moves.specs.Grid.{IsGrid, is_free};
 ghost use Rattle.grid_moves.specs.Move.{is_same};
 ghost use Rattle.plain_search.specs.Answer.{IsPlainRun, IsLeast};
 ghost use Rattle.plain_search.specs.Progress.{HasTaken, GoesOn};
+ghost use Rattle.plain_search.specs.Rule.{state_number};
 ghost use Rattle.plain_search.specs.Table.{HasRoom};
 
 use crate::node::Node;
 use crate::space::Workspace;
 use crate::trace::points_to;
 use crate::{NoMemory, Taken};
-use grid_moves::{Cell, Terrain};
+use grid_moves::{Cell, Terrain, number_of};
 use path_points::Points;
 use root2_cost::Cost;
 use std::alloc::Global;
@@ -41,6 +42,14 @@ struct Ends {
     to: Cell,
 }
 
+// The printed number of the state at a cell.
+fn state_at<T: Terrain>(t: &T, c: Cell) -> u32
+    requires { is_free (T.grid t.now) c ≡ true }
+    ensures { result ≡ state_number (T.grid t.now).width c }
+{
+    number_of(t.width(), c) * 9 + 8
+}
+
 // Takes the start.
 fn begin<T: Terrain, L: Ledger>(
     t: &T,
@@ -57,7 +66,7 @@ fn begin<T: Terrain, L: Ledger>(
     ensures whole { IsGrid (T.grid t.now) }
 {
     space.begin(t.width(), ends.from, ends.to, steps)?;
-    taken.push(space.node(0).state)
+    taken.push(state_at(t, ends.from))
 }
 
 // Makes the offers of the last taken state, and takes the next, if a state waits.
@@ -70,6 +79,7 @@ fn advance<T: Terrain, L: Ledger>(
     steps: &mut Steps<L>,
 ) -> Result<Option<u32>, NoMemory>
     requires free { is_free (T.grid t.now) ends.from ≡ true }
+    requires to { is_free (T.grid t.now) ends.to ≡ true }
     requires whole { IsGrid (T.grid t.now) }
     requires taken { HasTaken (T.grid t.now) ends.from ends.to at space.old.table taken.old }
     requires open_ended { (n : _) → slice_get space.old.table.nodes at ≡ Some n → is_same n.cell ends.to ≡ false }
@@ -81,7 +91,7 @@ fn advance<T: Terrain, L: Ledger>(
     match space.take_next(steps) {
         None => Ok(None),
         Some(next) => {
-            taken.push(space.node(next).state)?;
+            taken.push(state_at(t, space.node(next).cell))?;
             Ok(Some(next))
         }
     }
@@ -118,6 +128,7 @@ fn run<T: Terrain, L: Ledger>(
     steps: &mut Steps<L>,
 ) -> Result<Plain, NoMemory>
     requires from { is_free (T.grid t.now) ends.from ≡ true }
+    requires to { is_free (T.grid t.now) ends.to ≡ true }
     requires room { HasRoom (T.grid t.now) space.old }
     ensures run { IfOk result (IsPlainRun (T.grid t.now) ends.from ends.to) }
     ensures room { HasRoom (T.grid t.now) space.new }
@@ -146,6 +157,7 @@ fn run_counted<T: Terrain, L: Ledger>(
     requires parts { blank.parts ≡ L.parts }
     requires some { 0 < L.parts }
     requires from { is_free (T.grid t.now) ends.from ≡ true }
+    requires to { is_free (T.grid t.now) ends.to ≡ true }
     requires room { HasRoom (T.grid t.now) space.old }
     ensures run { IfOk result (IsPlainRun (T.grid t.now) ends.from ends.to) }
     ensures least { IfOk result (IsLeast (T.grid t.now) ends.from ends.to) }

@@ -1,18 +1,17 @@
 //! The memory of a search: its nodes, and for each cell where to find its node.
 
 ghost use Rattle.std.specs.Prelude.{◌≡◌, ℕ, ◌+◌, ◌*◌, ◌<◌, ◌≤◌, ◌^◌, [], ◌∷◌, length, true, false, Some, None, OnOk, OnErr, IfOk, IfNone, IfSome, MatchOption, slice_get, slice_set};
-ghost use Rattle.grid_moves.specs.Grid.{cell_number};
-ghost use Rattle.grid_moves.specs.Move.{is_same, legal_ahead, move_cost as cost_of_move};
-ghost use Rattle.root2_cost.specs.Order.{is_less};
+ghost use Rattle.grid_moves.specs.Grid.{IsGrid, cell_number, is_free};
+ghost use Rattle.grid_moves.specs.Move.{all_dirs};
+ghost use Rattle.grid_moves.specs.Points.{estimate};
+ghost use Rattle.root2_cost.specs.Laws.{HasShortParts};
 ghost use Rattle.root2_cost.specs.Sums.{add_costs};
-ghost use Rattle.open_list.specs.OpenList.{IsFirst};
-ghost use Rattle.plain_search.specs.Node.{ranks_before};
-ghost use Rattle.plain_search.specs.Rule.{state_number};
-ghost use Rattle.plain_search.specs.Table.{Table, lookup, added, improved, offered, offered_over, offered_ahead, relaxed, node_for, AreMade, begun, closed_at, IsFirstNode, NoneOpen, HasRoom};
+ghost use Rattle.plain_search.specs.Table.{Table, lookup, added, is_improved, improved, offered, offered_over, offered_ahead, relaxed, node_for, AreMade, begun, closed_at, IsFirstNode, NoneOpen, HasRoom};
 
 use crate::NoMemory;
+use crate::around::Around;
 use crate::node::Node;
-use grid_moves::{ALL_DIRS, Cell, Dir, Terrain, estimate, move_cost, number_of, step};
+use grid_moves::{Cell, Terrain, estimate, move_cost, number_of};
 use open_list::Pool;
 use root2_cost::Cost;
 use std::alloc::Global;
@@ -41,20 +40,18 @@ impl Model for Workspace {
 }
 
 // The node for a cell, at this cost, offered by the node of that number.
-fn node_at(width: u16, goal: Cell, cell: Cell, cost: Cost, parent: u32) -> Node
-    requires column { cell.x < width }
-    requires row { cell.y < 4096 }
-    requires narrow { width ≤ 4096 }
-    requires a { cost.a < 2 ^ 31 }
-    requires b { cost.b < 2 ^ 31 }
-    ensures { result ≡ node_for width goal cell cost parent }
+fn node_at(goal: Cell, cell: Cell, cost: Cost, parent: u32) -> Node
+    requires a { cost.a ≤ 2 ^ 30 }
+    requires b { cost.b ≤ 2 ^ 30 }
+    ensures made { result ≡ node_for goal cell cost parent }
+    ensures short { HasShortParts (add_costs cost (estimate cell goal)) }
 {
+    let sum = cost.add(estimate(cell, goal));
     Node {
-        sum: cost.add(estimate(cell, goal)),
+        key: sum.rank(),
         cost,
-        cell,
-        state: number_of(width, cell) * 9 + 8,
         parent,
+        cell,
     }
 }
 
@@ -101,7 +98,7 @@ impl Workspace {
         ensures begun { OnOk result (self.new.table ≡ begun width goal start self.old.table.index) }
         ensures index { length self.new.table.index ≡ length self.old.table.index }
     {
-        let node = node_at(width, goal, start, Cost { a: 0, b: 0 }, 0);
+        let node = node_at(goal, start, Cost { a: 0, b: 0 }, 0);
         begin_pool(&mut self.pool, node, steps)?;
         self.index[number_of(width, start) as usize] = 0;
         Ok(())
@@ -157,14 +154,35 @@ impl Workspace {
         self.index[number_of(width, node.cell) as usize] = id;
     }
 
-    // Puts a node in the place of an open one that costs more.
-    fn improve<L: Ledger>(&mut self, id: u32, node: Node, steps: &mut Steps<L>)
+    // Whether the node of that number is open and costs more than this.
+    fn is_improved(&self, id: u32, cost: Cost) -> bool
+        requires { id < length self.now.table.nodes }
+        ensures value { result ≡ is_improved self.now.table id cost }
+        ensures is_open { result ≡ true → slice_get self.now.table.open_at id ≡ Some true }
+    {
+        self.pool.is_open(id) && cost.is_below(self.pool.node(id).cost)
+    }
+
+    // Offers a cost for a cell that has the node of that number: a new node takes its place where it
+    // is open and costs more.
+    fn improve<L: Ledger>(
+        &mut self,
+        goal: Cell,
+        id: u32,
+        cell: Cell,
+        cost: Cost,
+        parent: u32,
+        steps: &mut Steps<L>,
+    )
         requires known { id < length self.old.table.nodes }
-        requires lower { (old : _) → slice_get self.old.table.nodes id ≡ Some old → is_less node.cost old.cost ≡ true → ranks_before old node ≡ false }
-        ensures table { self.new.table ≡ improved id node self.old.table }
+        requires made { (old : _) → slice_get self.old.table.nodes id ≡ Some old → old ≡ node_for goal cell old.cost old.parent }
+        requires a { cost.a ≤ 2 ^ 30 }
+        requires b { cost.b ≤ 2 ^ 30 }
+        ensures table { self.new.table ≡ improved id (node_for goal cell cost parent) self.old.table }
         ensures spare { self.new.spare ≡ self.old.spare }
     {
-        if self.pool.is_open(id) && node.cost.is_below(self.pool.node(id).cost) {
+        if self.is_improved(id, cost) {
+            let node = node_at(goal, cell, cost, parent);
             self.pool.lower(id, node, steps);
         }
     }
@@ -184,66 +202,75 @@ impl Workspace {
         requires row { cell.y < 4096 }
         requires narrow { width ≤ 4096 }
         requires inside { cell_number width cell < length self.old.table.index }
-        requires a { cost.a < 2 ^ 31 }
-        requires b { cost.b < 2 ^ 31 }
+        requires a { cost.a ≤ 2 ^ 30 }
+        requires b { cost.b ≤ 2 ^ 30 }
         requires spare { 1 ≤ self.old.spare }
-        requires made { AreMade width goal self.old.table }
-        ensures table { self.new.table ≡ offered width (node_for width goal cell cost parent) self.old.table }
+        requires made { AreMade goal self.old.table }
+        ensures table { self.new.table ≡ offered width (node_for goal cell cost parent) self.old.table }
         ensures spare { self.old.spare ≤ self.new.spare + 1 }
     {
-        let node = node_at(width, goal, cell, cost, parent);
         match self.find(width, cell) {
-            None => self.add(width, node, steps),
-            Some(id) => self.improve(id, node, steps),
+            None => self.add(width, node_at(goal, cell, cost, parent), steps),
+            Some(id) => self.improve(goal, id, cell, cost, parent, steps),
         }
     }
 
-    // Offers the way over the move in one direction, where that is legal.
-    fn offer_ahead<T: Terrain, L: Ledger>(
+    // Offers the way over a legal move, where there is one.
+    #[inline(always)]
+    fn offer_over<T: Terrain, L: Ledger>(
         &mut self,
         t: &T,
         goal: Cell,
         id: u32,
         node: Node,
-        d: Dir,
+        to: Option<Cell>,
         steps: &mut Steps<L>,
     )
+        requires free { IfSome to (λ v. is_free (T.grid t.now) v ≡ true) }
         requires index { length self.old.table.index ≡ (T.grid t.now).height * (T.grid t.now).width }
         requires a { node.cost.a < 2 ^ 30 }
         requires b { node.cost.b < 2 ^ 30 }
         requires spare { 1 ≤ self.old.spare }
-        requires made { AreMade (T.grid t.now).width goal self.old.table }
-        ensures table { self.new.table ≡ offered_over (legal_ahead (T.grid t.now) node.cell d) (T.grid t.now).width goal id node self.old.table }
+        requires made { AreMade goal self.old.table }
+        ensures table { self.new.table ≡ offered_over to (T.grid t.now).width goal id node self.old.table }
+        ensures index { length self.new.table.index ≡ length self.old.table.index }
         ensures spare { self.old.spare ≤ self.new.spare + 1 }
+        ensures made { AreMade goal self.new.table }
     {
-        let width = t.width();
-        if let Some(to) = step(t, node.cell, d) {
+        if let Some(to) = to {
             let cost = node.cost.add(move_cost(node.cell, to));
-            self.offer(width, goal, to, cost, id, steps);
+            self.offer(t.width(), goal, to, cost, id, steps);
         }
     }
 
-    // Offers the ways over the legal moves in these directions, in their order.
+    // Offers the ways over the legal moves from a node, in increasing order of direction.
     fn offer_all<T: Terrain, L: Ledger>(
         &mut self,
         t: &T,
         goal: Cell,
         id: u32,
         node: Node,
-        dirs: &[Dir],
         steps: &mut Steps<L>,
     )
+        requires whole { IsGrid (T.grid t.now) }
+        requires free { is_free (T.grid t.now) node.cell ≡ true }
         requires index { length self.old.table.index ≡ (T.grid t.now).height * (T.grid t.now).width }
         requires a { node.cost.a < 2 ^ 30 }
         requires b { node.cost.b < 2 ^ 30 }
-        requires spare { length dirs.now ≤ self.old.spare }
-        requires made { AreMade (T.grid t.now).width goal self.old.table }
-        ensures table { self.new.table ≡ offered_ahead (T.grid t.now) goal id node self.old.table dirs.now }
+        requires spare { 8 ≤ self.old.spare }
+        requires made { AreMade goal self.old.table }
+        ensures table { self.new.table ≡ offered_ahead (T.grid t.now) goal id node self.old.table all_dirs }
         ensures index { length self.new.table.index ≡ length self.old.table.index }
     {
-        for d in dirs {
-            self.offer_ahead(t, goal, id, node, *d, steps);
-        }
+        let around = Around::of(t, node.cell);
+        self.offer_over(t, goal, id, node, around.n, steps);
+        self.offer_over(t, goal, id, node, around.ne, steps);
+        self.offer_over(t, goal, id, node, around.e, steps);
+        self.offer_over(t, goal, id, node, around.se, steps);
+        self.offer_over(t, goal, id, node, around.s, steps);
+        self.offer_over(t, goal, id, node, around.sw, steps);
+        self.offer_over(t, goal, id, node, around.w, steps);
+        self.offer_over(t, goal, id, node, around.nw, steps);
     }
 
     /// Offers the ways over all legal moves from the node of that number, in increasing order of
@@ -255,18 +282,20 @@ impl Workspace {
         id: u32,
         steps: &mut Steps<L>,
     ) -> Result<(), NoMemory>
+        requires whole { IsGrid (T.grid t.now) }
         requires known { id < length self.old.table.nodes }
         requires few { length self.old.table.nodes < 2 ^ 27 }
         requires index { length self.old.table.index ≡ (T.grid t.now).height * (T.grid t.now).width }
         requires short { (n : _) → slice_get self.old.table.nodes id ≡ Some n → (n.cost.a < 2 ^ 30) × (n.cost.b < 2 ^ 30) }
-        requires made { AreMade (T.grid t.now).width goal self.old.table }
+        requires free { (n : _) → slice_get self.old.table.nodes id ≡ Some n → is_free (T.grid t.now) n.cell ≡ true }
+        requires made { AreMade goal self.old.table }
         ensures relaxed { OnOk result (self.new.table ≡ relaxed (T.grid t.now) goal id self.old.table) }
         ensures index { length self.new.table.index ≡ length self.old.table.index }
         ensures refused { OnErr result (self.new.table ≡ self.old.table) }
     {
         self.pool.reserve(8)?;
         let node = *self.pool.node(id);
-        self.offer_all(t, goal, id, node, &ALL_DIRS, steps);
+        self.offer_all(t, goal, id, node, steps);
         Ok(())
     }
 }

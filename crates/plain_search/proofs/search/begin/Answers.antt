@@ -1,5 +1,5 @@
 use Rattle.std.proofs.Common.{◌≡◌, ◌∙◌, ◌<◌, ◌*◌, sym, ap, subst, arith, List, ℕ, [], ◌∷◌, ◌++◌, length}
-use Rattle.std.specs.Prelude.{Option, Some, None, slice_get, OnOk, Ok, Err}
+use Rattle.std.specs.Prelude.{OnOk, Ok, Err}
 use Rattle.std.specs.declared.result.Result.{Result}
 use Rattle.grid_moves.specs.declared.Cell.{Cell}
 use Rattle.grid_moves.specs.Grid.{GridData, is_free, cell_number}
@@ -7,8 +7,7 @@ use Rattle.grid_moves.proofs.Legal.{free_inside}
 use Rattle.grid_moves.proofs.Places.{number_below}
 use Rattle.plain_search.specs.Rule.{state_number}
 use Rattle.plain_search.specs.Progress.{HasTaken}
-use Rattle.plain_search.specs.Table.{Table, begun, node_for}
-use Rattle.plain_search.specs.declared.node.Node.{Node}
+use Rattle.plain_search.specs.Table.{Table, begun}
 use Rattle.plain_search.proofs.Concluding.{has_begun}
 use Rattle.plain_search.proofs.search.begin.Goals as goal
 
@@ -26,8 +25,7 @@ returns-clause-taken g c =
     let size : length index ≡ grid.height * grid.width = c.requires.room in
     let inside : cell_number grid.width s < length index = rw size (let i = free_inside grid s free in number_below grid.width grid.height s i.0 i.1) in
     let table : c.begin.new.self.table ≡ begun grid.width t s index = c.in_ok-begin.ensures.begun ∙ ap (λ (w : ℕ). begun w t s index) c.width.ensures.is in
-    let node : node_for grid.width t s (record { a = 0; b = 0 }) 0 ≡ c.node.result = ap (λ (o : Option Node). elim o as (λ _. Node) [ Some v ↦ v | None ↦ c.node.result ]) (sym (ap (λ (k : Table). slice_get k.nodes 0) table) ∙ c.node.ensures) in
     let has = has_begun grid s t free index size inside in
     on_ok c.push.result c.push.ensures.pushed (λ p.
-    let numbers : c.push.new.self ≡ state_number grid.width s ∷ [] = p ∙ ap (λ (ns : List ℕ). ns ++ c.node.result.state ∷ []) c.requires.none ∙ ap (λ (n : Node). n.state ∷ []) (sym node) in
+    let numbers : c.push.new.self ≡ state_number grid.width s ∷ [] = p ∙ ap (λ (ns : List ℕ). ns ++ c.state_at.result ∷ []) c.requires.none ∙ ap (λ (n : ℕ). n ∷ []) c.state_at.ensures in
     subst (λ (k : Table). HasTaken grid s t 0 k c.push.new.self) (sym table) (subst (λ (ns : List ℕ). HasTaken grid s t 0 (begun grid.width t s index) ns) (sym numbers) has))

@@ -1,13 +1,35 @@
-use Rattle.std.proofs.Common.{◌≡◌, ◌∙◌, ap, sym, arith, refl}
-use Rattle.std.proofs.lemmas.Grind.{common_steps}
-use Rattle.plain_search.proofs.Tables.{made-over, index-over}
+use Rattle.grid_moves.specs.declared.Dir.TheVariants.{N, NE, E, SE, S, SW, W, NW}
+use Rattle.plain_search.proofs.Besides.{ahead_free}
 use Rattle.plain_search.proofs.space.Workspace.offer_all.Goals as goal
 
-pub loop-d-preserved : goal.loop-d-preserved
-loop-d-preserved g c =
-    let was = c.loop-d.invariant in (
-      (let table = was.0 in let step = c.offer_ahead.ensures.table in grind (arith, common_steps)),
-      (let spare = was.1 in omega (arith, c.offer_ahead.ensures.spare)),
-      rw c.offer_ahead.ensures.table (made-over (g.T.Terrain.grid c.args.t.now).width c.args.goal _ c.args.id c.args.node c.loop-d.self.table was.2),
-      rw c.offer_ahead.ensures.table (index-over (g.T.Terrain.grid c.args.t.now).width c.args.goal _ c.args.id c.args.node c.loop-d.self.table ∙ was.3),
-    )
+pub offer_over-requires-clause-free : goal.offer_over-requires-clause-free
+offer_over-requires-clause-free g c =
+    ahead_free (g.T.Terrain.grid c.args.t.now) c.args.node.cell N c.of-around.result.n c.of-around.ensures.n
+
+pub offer_over-requires-2-clause-free : goal.offer_over-requires-2-clause-free
+offer_over-requires-2-clause-free g c =
+    ahead_free (g.T.Terrain.grid c.args.t.now) c.args.node.cell NE c.of-around.result.ne c.of-around.ensures.ne
+
+pub offer_over-requires-4-clause-free : goal.offer_over-requires-4-clause-free
+offer_over-requires-4-clause-free g c =
+    ahead_free (g.T.Terrain.grid c.args.t.now) c.args.node.cell SE c.of-around.result.se c.of-around.ensures.se
+
+pub offer_over-requires-5-clause-free : goal.offer_over-requires-5-clause-free
+offer_over-requires-5-clause-free g c =
+    ahead_free (g.T.Terrain.grid c.args.t.now) c.args.node.cell S c.of-around.result.s c.of-around.ensures.s
+
+pub offer_over-requires-6-clause-free : goal.offer_over-requires-6-clause-free
+offer_over-requires-6-clause-free g c =
+    ahead_free (g.T.Terrain.grid c.args.t.now) c.args.node.cell SW c.of-around.result.sw c.of-around.ensures.sw
+
+pub offer_over-requires-7-clause-free : goal.offer_over-requires-7-clause-free
+offer_over-requires-7-clause-free g c =
+    ahead_free (g.T.Terrain.grid c.args.t.now) c.args.node.cell W c.of-around.result.w c.of-around.ensures.w
+
+pub offer_over-requires-8-clause-free : goal.offer_over-requires-8-clause-free
+offer_over-requires-8-clause-free g c =
+    ahead_free (g.T.Terrain.grid c.args.t.now) c.args.node.cell NW c.of-around.result.nw c.of-around.ensures.nw
+
+pub offer_over-requires-3-clause-free : goal.offer_over-requires-3-clause-free
+offer_over-requires-3-clause-free g c =
+    ahead_free (g.T.Terrain.grid c.args.t.now) c.args.node.cell E c.of-around.result.e c.of-around.ensures.e
