@@ -1,6 +1,6 @@
 -- The free cells beside a free cell are those that legal moves lead to.
 use Rattle.std.proofs.Common.{◌≡◌, ℕ, zero, suc, ◌+◌, ◌<◌, ◌≤◌, ◌⊎◌, inl, inr, arith, refl, ap, sym, ◌∙◌, subst, Bool, true, false, ◌&&◌}
-use Rattle.std.specs.Prelude.{Option, Some, None, option_and_then, if◌then◌else◌, IfSome}
+use Rattle.std.specs.Prelude.{Option, Some, None, option_and_then, if◌then◌else◌}
 use Rattle.std.proofs.lemmas.Bool.Decides.{nat_tests}
 use Rattle.grid_moves.specs.declared.Cell.{Cell}
 use Rattle.grid_moves.specs.declared.Dir.{Dir}
@@ -9,7 +9,7 @@ use Rattle.grid_moves.specs.Grid.{GridData, IsGrid, is_free}
 use Rattle.grid_moves.specs.Move.{is_legal, ahead, legal_ahead, column_ahead, row_ahead, before}
 use Rattle.grid_moves.proofs.Ahead.{legal_ahead-is}
 use Rattle.grid_moves.proofs.Legal.{IsLegal, legal_is, is_legal-from, free_inside}
-use Rattle.plain_search.specs.Beside.{where_free, where_met}
+use Rattle.plain_search.specs.Beside.{if_open}
 
 -- of a column or row m, what lies ahead in some direction is n, or nothing, and no map has n
 pub data Side (m : ℕ) (o : Option ℕ) (n : ℕ) : Type 0 where
@@ -60,7 +60,7 @@ module _ (g : GridData) (whole : IsGrid g) (c : Cell) (free : is_free g c ≡ tr
   same_answer : (v : Cell) (d : Dir) (clear : Bool) → Lies v d → ((c.x ≡ v.x) → (c.y ≡ v.y) → ⊥)
       → (clear ≡ true → (is_free g v ≡ true) × (is_free g (record { x = c.x; y = v.y }) ≡ true) × (is_free g (record { x = v.x; y = c.y }) ≡ true))
       → (is_legal g c v ≡ true → clear ≡ true)
-      → (if clear then Some v else None) ≡ legal_ahead g c d
+      → if_open clear v ≡ legal_ahead g c d
   same_answer v d true (there e i j k l) differ box legal =
       let b = box refl in
       let is : is_legal g c v ≡ true = is_legal-from g c v (record {
@@ -85,7 +85,7 @@ module _ (g : GridData) (whole : IsGrid g) (c : Cell) (free : is_free g c ≡ tr
 
   -- a straight move is legal where its end is free
   pub straight : (v : Cell) (d : Dir) → Side c.x (column_ahead d c.x) v.x → Side c.y (row_ahead d c.y) v.y
-      → ((c.x ≡ v.x) → (c.y ≡ v.y) → ⊥) → (c.x ≡ v.x) ⊎ (c.y ≡ v.y) → where_free g v ≡ legal_ahead g c d
+      → ((c.x ≡ v.x) → (c.y ≡ v.y) → ⊥) → (c.x ≡ v.x) ⊎ (c.y ≡ v.y) → if_open (is_free g v) v ≡ legal_ahead g c d
   straight v d x y differ axis =
       same_answer v d (is_free g v) (lies v d x y) differ (λ f. (f, beside f axis, across f axis)) (λ l. (legal_is g c v l).target)
     where
@@ -97,24 +97,13 @@ module _ (g : GridData) (whole : IsGrid g) (c : Cell) (free : is_free g c ≡ tr
       across f (inl e) = ap (λ (n : ℕ). is_free g (record { x = n; y = c.y })) (sym e) ∙ free
       across f (inr e) = ap (λ (n : ℕ). is_free g (record { x = v.x; y = n })) e ∙ f
 
-  -- where both cells beside are free, their corner is looked at
-  met : (u v : Cell) → where_met g (where_free g u) (where_free g v)
-      ≡ (if is_free g u && is_free g v && is_free g (record { x = u.x; y = v.y }) then Some (record { x = u.x; y = v.y }) else None)
-  met u v = by_tests (is_free g u) (is_free g v)
-    where
-      by_tests : (a b : Bool) → option_and_then (λ (p : Cell). option_and_then (λ (q : Cell). where_free g (record { x = p.x; y = q.y })) (if b then Some v else None)) (if a then Some u else None)
-          ≡ (if a && b && is_free g (record { x = u.x; y = v.y }) then Some (record { x = u.x; y = v.y }) else None)
-      by_tests true true = refl
-      by_tests true false = refl
-      by_tests false b = refl
-
   -- a diagonal move is legal where its end and both cells beside it are free
   pub diagonal : (x y : ℕ) (d : Dir) → Side c.x (column_ahead d c.x) x → Side c.y (row_ahead d c.y) y
       → ((c.x ≡ x) → (c.y ≡ y) → ⊥)
-      → where_met g (where_free g (record { x = x; y = c.y })) (where_free g (record { x = c.x; y = y })) ≡ legal_ahead g c d
+      → if_open (is_free g (record { x = x; y = c.y }) && is_free g (record { x = c.x; y = y }) && is_free g (record { x = x; y = y })) (record { x = x; y = y })
+      ≡ legal_ahead g c d
   diagonal x y d p q differ =
-      met (record { x = x; y = c.y }) (record { x = c.x; y = y })
-      ∙ same_answer (record { x = x; y = y }) d clear (lies (record { x = x; y = y }) d p q) differ
+      same_answer (record { x = x; y = y }) d clear (lies (record { x = x; y = y }) d p q) differ
       (λ h. let b = box (is_free g (record { x = x; y = c.y })) (is_free g (record { x = c.x; y = y })) (is_free g (record { x = x; y = y })) h in (b.2, b.1, b.0))
       (λ l. let i = legal_is g c (record { x = x; y = y }) l in rw (i.across, i.beside, i.target) refl)
     where
@@ -128,7 +117,7 @@ module _ (g : GridData) (whole : IsGrid g) (c : Cell) (free : is_free g c ≡ tr
       box false b e h = absurd (cc)
 
 -- what lies ahead over a legal move is free
-pub ahead_free : (g : GridData) (c : Cell) (d : Dir) (o : Option Cell) → o ≡ legal_ahead g c d
-    → IfSome o (λ v. is_free g v ≡ true)
-ahead_free g c d None e = tt
-ahead_free g c d (Some v) e = (legal_is g c v (legal_ahead-is g c v d (sym e))).target
+pub ahead_free : (g : GridData) (c v : Cell) (d : Dir) (b : Bool) → if_open b v ≡ legal_ahead g c d → b ≡ true
+    → is_free g v ≡ true
+ahead_free g c v d true e h = (legal_is g c v (legal_ahead-is g c v d (sym e))).target
+ahead_free g c v d false e h = absurd (cc)
