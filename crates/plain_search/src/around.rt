@@ -3,10 +3,10 @@
 //! A diagonal move needs both straight cells beside it free, and these are the ends of straight
 //! moves. So a diagonal cell is read only where both are free, and no cell is read twice.
 
-ghost use Rattle.std.specs.Prelude.{◌≡◌, ◌+◌, ◌<◌, ◌&&◌, true};
+ghost use Rattle.std.specs.Prelude.{◌≡◌, ◌&&◌, true};
 ghost use Rattle.grid_moves.specs.Grid.{IsGrid, is_free};
 ghost use Rattle.grid_moves.specs.Move.{legal_ahead};
-ghost use Rattle.plain_search.specs.Beside.{if_open};
+ghost use Rattle.plain_search.specs.Beside.{IsBefore, if_open};
 
 use grid_moves::{Cell, Dir, Terrain};
 
@@ -34,8 +34,7 @@ pub(crate) struct Around {
 // The column or row before this one; before 0 it is 65535, which no map has.
 #[inline(always)]
 fn before(n: u16) -> u16
-    ensures some { 0 < n → n ≡ result + 1 }
-    ensures none { n ≡ 0 → result ≡ 65535 }
+    ensures { IsBefore n result }
 {
     n.wrapping_sub(1)
 }
@@ -62,14 +61,22 @@ impl Around {
     pub(crate) fn of<T: Terrain>(t: &T, c: Cell) -> Around
         requires free { is_free (T.grid t.now) c ≡ true }
         requires whole { IsGrid (T.grid t.now) }
-        ensures n { if_open result.n (record { x = c.x; y = result.up }) ≡ legal_ahead (T.grid t.now) c Dir.N }
-        ensures ne { if_open result.ne (record { x = result.right; y = result.up }) ≡ legal_ahead (T.grid t.now) c Dir.NE }
-        ensures e { if_open result.e (record { x = result.right; y = c.y }) ≡ legal_ahead (T.grid t.now) c Dir.E }
-        ensures se { if_open result.se (record { x = result.right; y = result.down }) ≡ legal_ahead (T.grid t.now) c Dir.SE }
-        ensures s { if_open result.s (record { x = c.x; y = result.down }) ≡ legal_ahead (T.grid t.now) c Dir.S }
-        ensures sw { if_open result.sw (record { x = result.left; y = result.down }) ≡ legal_ahead (T.grid t.now) c Dir.SW }
-        ensures w { if_open result.w (record { x = result.left; y = c.y }) ≡ legal_ahead (T.grid t.now) c Dir.W }
-        ensures nw { if_open result.nw (record { x = result.left; y = result.up }) ≡ legal_ahead (T.grid t.now) c Dir.NW }
+        ensures n { if_open result.n (record { x = c.x; y = result.up })
+            ≡ legal_ahead (T.grid t.now) c Dir.N }
+        ensures ne { if_open result.ne (record { x = result.right; y = result.up })
+            ≡ legal_ahead (T.grid t.now) c Dir.NE }
+        ensures e { if_open result.e (record { x = result.right; y = c.y })
+            ≡ legal_ahead (T.grid t.now) c Dir.E }
+        ensures se { if_open result.se (record { x = result.right; y = result.down })
+            ≡ legal_ahead (T.grid t.now) c Dir.SE }
+        ensures s { if_open result.s (record { x = c.x; y = result.down })
+            ≡ legal_ahead (T.grid t.now) c Dir.S }
+        ensures sw { if_open result.sw (record { x = result.left; y = result.down })
+            ≡ legal_ahead (T.grid t.now) c Dir.SW }
+        ensures w { if_open result.w (record { x = result.left; y = c.y })
+            ≡ legal_ahead (T.grid t.now) c Dir.W }
+        ensures nw { if_open result.nw (record { x = result.left; y = result.up })
+            ≡ legal_ahead (T.grid t.now) c Dir.NW }
     {
         let (left, right) = (before(c.x), c.x + 1);
         let (up, down) = (before(c.y), c.y + 1);

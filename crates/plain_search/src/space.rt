@@ -188,8 +188,10 @@ impl Workspace {
         steps: &mut Steps<L>,
     )
         requires is_open { slice_get self.old.table.open_at id ≡ Some true }
-        requires made { (old : _) → slice_get self.old.table.nodes id ≡ Some old → old ≡ node_for goal cell old.cost old.parent }
-        requires less { (old : _) → slice_get self.old.table.nodes id ≡ Some old → is_less cost old.cost ≡ true }
+        requires made { (old : _) → slice_get self.old.table.nodes id ≡ Some old
+            → old ≡ node_for goal cell old.cost old.parent }
+        requires less { (old : _) → slice_get self.old.table.nodes id ≡ Some old
+            → is_less cost old.cost ≡ true }
         requires a { cost.a ≤ 2 ^ 30 }
         requires b { cost.b ≤ 2 ^ 30 }
         ensures table { self.new.table ≡ replaced id (node_for goal cell cost parent) self.old.table }
@@ -251,7 +253,8 @@ impl Workspace {
         requires b { node.cost.b < 2 ^ 30 }
         requires spare { 1 ≤ self.old.spare }
         requires made { AreMade goal self.old.table }
-        ensures table { self.new.table ≡ offered_over (if_open is_open (record { x = x; y = y })) (T.grid t.now).width goal id node self.old.table }
+        ensures table { self.new.table
+            ≡ offered_over (if_open is_open (record { x = x; y = y })) (T.grid t.now).width goal id node self.old.table }
         ensures index { length self.new.table.index ≡ length self.old.table.index }
         ensures spare { self.old.spare ≤ self.new.spare + 1 }
         ensures made { AreMade goal self.new.table }
@@ -310,7 +313,8 @@ impl Workspace {
         requires few { length self.old.table.nodes < 2 ^ 27 }
         requires index { length self.old.table.index ≡ (T.grid t.now).height * (T.grid t.now).width }
         requires short { (n : _) → slice_get self.old.table.nodes id ≡ Some n → (n.cost.a < 2 ^ 30) × (n.cost.b < 2 ^ 30) }
-        requires free { (n : _) → slice_get self.old.table.nodes id ≡ Some n → is_free (T.grid t.now) n.cell ≡ true }
+        requires free { (n : _) → slice_get self.old.table.nodes id ≡ Some n
+            → is_free (T.grid t.now) n.cell ≡ true }
         requires made { AreMade goal self.old.table }
         ensures relaxed { OnOk result (self.new.table ≡ relaxed (T.grid t.now) goal id self.old.table) }
         ensures index { length self.new.table.index ≡ length self.old.table.index }
