@@ -1,15 +1,15 @@
 -- The parents of the nodes lead back along the run's way.
-use Rattle.std.proofs.Common.{◌≡◌, ◌≢◌, ℕ, ◌+◌, ◌<◌, ◌≤◌, ◌⊎◌, inl, inr, List, [], ◌∷◌, ◌++◌, refl, ap, sym, ◌∙◌, subst, Bool, true, false, ◌||◌, arith, reverse}
+use Rattle.std.proofs.Common.{◌≡◌, ℕ, ◌+◌, ◌<◌, inl, inr, List, [], ◌∷◌, ◌++◌, refl, ap, sym, ◌∙◌, subst, Bool, true, false, ◌||◌, arith, reverse}
 use Rattle.std.proofs.lemmas.List.{reverse-append}
-use Rattle.std.specs.Prelude.{Option, Some, None, slice_get, slice_index_or, if◌then◌else◌, option_map, nat_eq}
+use Rattle.std.specs.Prelude.{Option, Some, None, slice_get, slice_index_or, if◌then◌else◌, nat_eq}
 use Rattle.root2_cost.specs.declared.Cost.{Cost}
-use Rattle.root2_cost.specs.Sums.{add_costs, no_cost}
+use Rattle.root2_cost.specs.Sums.{add_costs}
 use Rattle.grid_moves.specs.declared.Cell.{Cell}
 use Rattle.grid_moves.specs.Grid.{GridData, cell_number}
 use Rattle.grid_moves.specs.Move.{is_same, move_cost}
 use Rattle.grid_moves.proofs.Legal.{is_same-cell, is_same-itself}
-use Rattle.search_run.specs.Run.{Rule, Taken, Offer, IsRun, is_taken, way_to, least_offer}
-use Rattle.search_run.proofs.Leastness.{IsIn, here, there, or_false, least_offer-from, is_taken-member}
+use Rattle.search_run.specs.Run.{Taken, Offer, IsRun, is_taken, way_to}
+use Rattle.search_run.proofs.Leastness.{IsIn, here, there, least_offer-from, is_taken-member}
 use Rattle.plain_search.specs.Rule.{plain_rule}
 use Rattle.plain_search.specs.Table.{Table}
 use Rattle.plain_search.specs.Mirror.{kept_by, HasNode, HaveNodes, Mirrors}

@@ -1,15 +1,14 @@
 -- The free cells beside a free cell are those that legal moves lead to.
-use Rattle.std.proofs.Common.{◌≡◌, ℕ, zero, suc, ◌+◌, ◌<◌, ◌≤◌, ◌⊎◌, inl, inr, arith, refl, ap, sym, ◌∙◌, subst, Bool, true, false, ◌&&◌}
-use Rattle.std.specs.Prelude.{Option, Some, None, option_and_then, if◌then◌else◌, IfSome}
-use Rattle.std.proofs.lemmas.Bool.Decides.{nat_tests}
+use Rattle.std.proofs.Common.{◌≡◌, ℕ, zero, suc, ◌+◌, ◌≤◌, ◌⊎◌, inl, inr, arith, refl, ap, sym, ◌∙◌}
+use Rattle.std.proofs.Common.{Bool, true, false, ◌&&◌}
+use Rattle.std.specs.Prelude.{Option, Some, None, if◌then◌else◌}
 use Rattle.grid_moves.specs.declared.Cell.{Cell}
 use Rattle.grid_moves.specs.declared.Dir.{Dir}
-use Rattle.grid_moves.specs.declared.Dir.TheVariants.{N, NE, E, SE, S, SW, W, NW}
 use Rattle.grid_moves.specs.Grid.{GridData, IsGrid, is_free}
 use Rattle.grid_moves.specs.Move.{is_legal, ahead, legal_ahead, column_ahead, row_ahead, before}
 use Rattle.grid_moves.proofs.Ahead.{legal_ahead-is}
-use Rattle.grid_moves.proofs.Legal.{IsLegal, legal_is, is_legal-from, free_inside}
-use Rattle.plain_search.specs.Beside.{where_free, where_met}
+use Rattle.grid_moves.proofs.Legal.{legal_is, is_legal-from, free_inside}
+use Rattle.plain_search.specs.Beside.{IsBefore, if_open}
 
 -- of a column or row m, what lies ahead in some direction is n, or nothing, and no map has n
 pub data Side (m : ℕ) (o : Option ℕ) (n : ℕ) : Type 0 where
@@ -22,17 +21,17 @@ stay m = on refl (omega arith) (omega arith)
 pub further : (m : ℕ) → Side m (Some (m + 1)) (m + 1)
 further m = on refl (omega arith) (omega arith)
 
-pub back : (m n : ℕ) → (0 < m → m ≡ n + 1) → (m ≡ 0 → n ≡ 65535) → Side m (before m) n
-back zero n some none = off refl (let e : n ≡ 65535 = none refl in omega arith)
-back (suc m) n some none =
-    let e : suc m ≡ n + 1 = some (omega arith) in
+pub back : (m n : ℕ) → IsBefore m n → Side m (before m) n
+back zero n is = off refl (let e : n ≡ 65535 = is.none refl in omega arith)
+back (suc m) n is =
+    let e : suc m ≡ n + 1 = is.some (omega arith) in
     let s : m ≡ n = omega arith in
     on (ap (λ (k : ℕ). Some k) s) (omega arith) (omega arith)
 
 -- which is not the same
-pub back_differs : (m n : ℕ) → (0 < m → m ≡ n + 1) → (m ≡ 0 → n ≡ 65535) → m ≡ n → ⊥
-back_differs zero n some none e = let f : n ≡ 65535 = none refl in omega arith
-back_differs (suc m) n some none e = let f : suc m ≡ n + 1 = some (omega arith) in omega arith
+pub back_differs : (m n : ℕ) → IsBefore m n → m ≡ n → ⊥
+back_differs zero n is e = let f : n ≡ 65535 = is.none refl in omega arith
+back_differs (suc m) n is e = let f : suc m ≡ n + 1 = is.some (omega arith) in omega arith
 
 module _ (g : GridData) (whole : IsGrid g) (c : Cell) (free : is_free g c ≡ true) where
   -- the cell v lies ahead, and near, or nothing does, and v is off the map
@@ -56,18 +55,23 @@ module _ (g : GridData) (whole : IsGrid g) (c : Cell) (free : is_free g c ≡ tr
   lies v d (on e i j) (off f l) = nowhere (rw (e, f) refl) (off_map v (inr l))
   lies v d (off e l) s = nowhere (rw e refl) (off_map v (inl l))
 
+  -- v and the two cells beside the way to it are free
+  record IsClear (v : Cell) : Type 0 where
+    target : is_free g v ≡ true
+    beside : is_free g (record { x = c.x; y = v.y }) ≡ true
+    across : is_free g (record { x = v.x; y = c.y }) ≡ true
+
   -- an answer that stands where v and the cells of the box are free
   same_answer : (v : Cell) (d : Dir) (clear : Bool) → Lies v d → ((c.x ≡ v.x) → (c.y ≡ v.y) → ⊥)
-      → (clear ≡ true → (is_free g v ≡ true) × (is_free g (record { x = c.x; y = v.y }) ≡ true) × (is_free g (record { x = v.x; y = c.y }) ≡ true))
-      → (is_legal g c v ≡ true → clear ≡ true)
-      → (if clear then Some v else None) ≡ legal_ahead g c d
+      → (clear ≡ true → IsClear v) → (is_legal g c v ≡ true → clear ≡ true)
+      → if_open clear v ≡ legal_ahead g c d
   same_answer v d true (there e i j k l) differ box legal =
       let b = box refl in
       let is : is_legal g c v ≡ true = is_legal-from g c v (record {
         source = free;
-        target = b.0;
-        beside = b.1;
-        across = b.2;
+        target = b.target;
+        beside = b.beside;
+        across = b.across;
         x_low = i;
         x_high = j;
         y_low = k;
@@ -80,14 +84,17 @@ module _ (g : GridData) (whole : IsGrid g) (c : Cell) (free : is_free g c ≡ tr
       by_test : (b : Bool) → is_legal g c v ≡ b → None ≡ (if b then Some v else None)
       by_test true h = absurd (let o : false ≡ true = legal h in cc)
       by_test false h = refl
-  same_answer v d true (nowhere e f) differ box legal = absurd (let t = (box refl).0 in cc)
+  same_answer v d true (nowhere e f) differ box legal = absurd (let t = (box refl).target in cc)
   same_answer v d false (nowhere e f) differ box legal = rw e refl
 
   -- a straight move is legal where its end is free
   pub straight : (v : Cell) (d : Dir) → Side c.x (column_ahead d c.x) v.x → Side c.y (row_ahead d c.y) v.y
-      → ((c.x ≡ v.x) → (c.y ≡ v.y) → ⊥) → (c.x ≡ v.x) ⊎ (c.y ≡ v.y) → where_free g v ≡ legal_ahead g c d
+      → ((c.x ≡ v.x) → (c.y ≡ v.y) → ⊥) → (c.x ≡ v.x) ⊎ (c.y ≡ v.y)
+      → if_open (is_free g v) v ≡ legal_ahead g c d
   straight v d x y differ axis =
-      same_answer v d (is_free g v) (lies v d x y) differ (λ f. (f, beside f axis, across f axis)) (λ l. (legal_is g c v l).target)
+      same_answer v d (is_free g v) (lies v d x y) differ
+      (λ f. record { target = f; beside = beside f axis; across = across f axis })
+      (λ l. (legal_is g c v l).target)
     where
       beside : is_free g v ≡ true → (c.x ≡ v.x) ⊎ (c.y ≡ v.y) → is_free g (record { x = c.x; y = v.y }) ≡ true
       beside f (inl e) = ap (λ (n : ℕ). is_free g (record { x = n; y = v.y })) e ∙ f
@@ -97,38 +104,35 @@ module _ (g : GridData) (whole : IsGrid g) (c : Cell) (free : is_free g c ≡ tr
       across f (inl e) = ap (λ (n : ℕ). is_free g (record { x = n; y = c.y })) (sym e) ∙ free
       across f (inr e) = ap (λ (n : ℕ). is_free g (record { x = v.x; y = n })) e ∙ f
 
-  -- where both cells beside are free, their corner is looked at
-  met : (u v : Cell) → where_met g (where_free g u) (where_free g v)
-      ≡ (if is_free g u && is_free g v && is_free g (record { x = u.x; y = v.y }) then Some (record { x = u.x; y = v.y }) else None)
-  met u v = by_tests (is_free g u) (is_free g v)
-    where
-      by_tests : (a b : Bool) → option_and_then (λ (p : Cell). option_and_then (λ (q : Cell). where_free g (record { x = p.x; y = q.y })) (if b then Some v else None)) (if a then Some u else None)
-          ≡ (if a && b && is_free g (record { x = u.x; y = v.y }) then Some (record { x = u.x; y = v.y }) else None)
-      by_tests true true = refl
-      by_tests true false = refl
-      by_tests false b = refl
+  -- the cell of column x and row y, and those beside the way to it
+  module _ (x y : ℕ) where
+    abbrev pub end : Cell
+    end = record { x = x; y = y }
 
-  -- a diagonal move is legal where its end and both cells beside it are free
-  pub diagonal : (x y : ℕ) (d : Dir) → Side c.x (column_ahead d c.x) x → Side c.y (row_ahead d c.y) y
-      → ((c.x ≡ x) → (c.y ≡ y) → ⊥)
-      → where_met g (where_free g (record { x = x; y = c.y })) (where_free g (record { x = c.x; y = y })) ≡ legal_ahead g c d
-  diagonal x y d p q differ =
-      met (record { x = x; y = c.y }) (record { x = c.x; y = y })
-      ∙ same_answer (record { x = x; y = y }) d clear (lies (record { x = x; y = y }) d p q) differ
-      (λ h. let b = box (is_free g (record { x = x; y = c.y })) (is_free g (record { x = c.x; y = y })) (is_free g (record { x = x; y = y })) h in (b.2, b.1, b.0))
-      (λ l. let i = legal_is g c (record { x = x; y = y }) l in rw (i.across, i.beside, i.target) refl)
-    where
-      clear : Bool
-      clear = is_free g (record { x = x; y = c.y }) && is_free g (record { x = c.x; y = y }) && is_free g (record { x = x; y = y })
+    abbrev pub in_column : Cell
+    in_column = record { x = x; y = c.y }
 
-      box : (a b e : Bool) → (a && b && e) ≡ true → (a ≡ true) × (b ≡ true) × (e ≡ true)
-      box true true true h = (refl, refl, refl)
-      box true true false h = absurd (cc)
-      box true false e h = absurd (cc)
-      box false b e h = absurd (cc)
+    abbrev pub in_row : Cell
+    in_row = record { x = c.x; y = y }
+
+    -- a diagonal move is legal where its end and both cells beside it are free
+    pub diagonal : (d : Dir) → Side c.x (column_ahead d c.x) x → Side c.y (row_ahead d c.y) y
+        → ((c.x ≡ x) → (c.y ≡ y) → ⊥)
+        → if_open (is_free g in_column && is_free g in_row && is_free g end) end ≡ legal_ahead g c d
+    diagonal d p q differ =
+        same_answer end d (is_free g in_column && is_free g in_row && is_free g end) (lies end d p q) differ
+        (box (is_free g in_column) (is_free g in_row) (is_free g end) refl refl refl)
+        (λ l. let i = legal_is g c end l in rw (i.across, i.beside, i.target) refl)
+      where
+        box : (a b e : Bool) → is_free g in_column ≡ a → is_free g in_row ≡ b → is_free g end ≡ e
+            → (a && b && e) ≡ true → IsClear end
+        box true true true p q r h = record { target = r; beside = q; across = p }
+        box true true false p q r h = absurd (cc)
+        box true false e p q r h = absurd (cc)
+        box false b e p q r h = absurd (cc)
 
 -- what lies ahead over a legal move is free
-pub ahead_free : (g : GridData) (c : Cell) (d : Dir) (o : Option Cell) → o ≡ legal_ahead g c d
-    → IfSome o (λ v. is_free g v ≡ true)
-ahead_free g c d None e = tt
-ahead_free g c d (Some v) e = (legal_is g c v (legal_ahead-is g c v d (sym e))).target
+pub ahead_free : (g : GridData) (c v : Cell) (d : Dir) (b : Bool) → if_open b v ≡ legal_ahead g c d → b ≡ true
+    → is_free g v ≡ true
+ahead_free g c v d true e h = (legal_is g c v (legal_ahead-is g c v d (sym e))).target
+ahead_free g c v d false e h = absurd (cc)

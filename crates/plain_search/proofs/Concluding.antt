@@ -1,5 +1,5 @@
 -- From the search's state to its answer.
-use Rattle.std.proofs.Common.{◌≡◌, ℕ, suc, ◌+◌, ◌*◌, ◌<◌, ◌≤◌, ◌⊎◌, inl, inr, length, List, [], ◌∷◌, ◌++◌, refl, ap, sym, ◌∙◌, subst, Bool, true, false, ◌||◌, arith, map, reverse, mul-le-mul}
+use Rattle.std.proofs.Common.{◌≡◌, ℕ, suc, ◌+◌, ◌*◌, ◌<◌, ◌≤◌, length, List, [], ◌∷◌, ◌++◌, refl, ap, sym, ◌∙◌, subst, true, false, arith, map, reverse, mul-le-mul}
 use Rattle.std.proofs.lemmas.List.{reverse-append, length-reverse}
 use Rattle.std.specs.Prelude.{Option, Some, None, slice_get}
 use Rattle.root2_cost.specs.declared.Cost.{Cost}
@@ -8,19 +8,18 @@ use Rattle.grid_moves.specs.Grid.{GridData, IsGrid, is_free, cell_number}
 use Rattle.grid_moves.specs.Move.{is_same}
 use Rattle.grid_moves.specs.Reply.{StandsForLeast}
 use Rattle.grid_moves.specs.Points.{unfolding_of}
-use Rattle.grid_moves.proofs.Legal.{is_same-cell, is_same-itself}
+use Rattle.grid_moves.proofs.Legal.{is_same-itself}
 use Rattle.path_points.specs.Corners.{corners}
 use Rattle.path_points.proofs.Corners.{corners_unfold, corners-reverse}
-use Rattle.search_run.specs.Run.{Taken, IsRun, is_taken, has_goal, way_to, least_offer}
+use Rattle.search_run.specs.Run.{Taken, is_taken, has_goal, way_to, least_offer}
 use Rattle.plain_search.specs.Rule.{plain_rule, state_number}
 use Rattle.plain_search.specs.Found.{numbers_of, IsFound, IsExhausted}
 use Rattle.std.proofs.lemmas.Option.{slice_get_within}
-use Rattle.plain_search.specs.Table.{AreMade, Table, begun, relaxed, closed_at, IsFirstNode, NoneOpen, node_for}
-use Rattle.plain_search.specs.Mirror.{IsSearching}
+use Rattle.plain_search.specs.Table.{AreMade, Table, begun, relaxed, closed_at, IsFirstNode, NoneOpen}
 use Rattle.plain_search.specs.Progress.{HasTaken}
-use Rattle.plain_search.specs.Trace.{IsBack, HasBack, AreCorners, IsPointsTo}
+use Rattle.plain_search.specs.Trace.{IsBack, AreCorners, IsPointsTo}
 use Rattle.plain_search.specs.declared.node.Node.{Node}
-use Rattle.plain_search.proofs.Right.{HasLeast, way_is_least}
+use Rattle.plain_search.proofs.Right.{way_is_least}
 use Rattle.plain_search.proofs.Searching.{at_start, started, relaxing, going_on, ending}
 use Rattle.plain_search.proofs.Bounds.{few_nodes, few_taken}
 use Rattle.plain_search.proofs.Keys.{short_sums}
@@ -57,15 +56,17 @@ module _ (g : GridData) (s t : Cell) where
 
   -- the offers of the last state, and then the next
   pub next_taken : IsGrid g → is_free g s ≡ true → is_free g t ≡ true
-      → (at : ℕ) (k : Table) (taken : List ℕ) → (h : HasTaken g s t at k taken) → is_same h.last.state t ≡ false
-      → (id : ℕ) (node : Node) → IsFirstNode (relaxed g t at k) id → slice_get (relaxed g t at k).nodes id ≡ Some node
+      → (at : ℕ) (k : Table) (taken : List ℕ) (h : HasTaken g s t at k taken) → is_same h.last.state t ≡ false
+      → (id : ℕ) (node : Node) → IsFirstNode (relaxed g t at k) id
+      → slice_get (relaxed g t at k).nodes id ≡ Some node
       → HasTaken g s t id (closed_at id (relaxed g t at k)) (taken ++ state_number g.width node.cell ∷ [])
   next_taken whole from to at k taken h n id node f read =
       let r = relaxing g s t h.last h.earlier at k h.searching n in
       let run = few_taken g t s from (h.last ∷ h.earlier) h.searching.run in
       let cells = cells_fit g whole in
       let short = short_sums g t (h.last ∷ h.earlier) whole to (omega arith) in
-      let on = going_on g s t h.last h.earlier (relaxed g t at k) id h.searching.run (no_goal_yet h.last h.earlier h.searching.no_goal n) r.0 r.1 f short in
+      let none = no_goal_yet h.last h.earlier h.searching.no_goal n in
+      let on = going_on g s t h.last h.earlier (relaxed g t at k) id h.searching.run none r.0 r.1 f short in
       let one : node ≡ on.1.node = ap (λ (o : Option Node). elim o as (λ _. Node) [ Some v ↦ v | None ↦ node ]) (sym read ∙ on.1.node_is) in
       let cell : node.cell ≡ on.0.state = ap (λ (x : Node). x.cell) one ∙ on.1.cell in
       record {
@@ -79,8 +80,9 @@ module _ (g : GridData) (s t : Cell) where
       }
 
   -- the next state is free
-  pub next_free : (at : ℕ) (k : Table) (taken : List ℕ) → (h : HasTaken g s t at k taken) → is_same h.last.state t ≡ false
-      → (id : ℕ) (node : Node) → slice_get (relaxed g t at k).nodes id ≡ Some node → is_free g node.cell ≡ true
+  pub next_free : (at : ℕ) (k : Table) (taken : List ℕ) (h : HasTaken g s t at k taken)
+      → is_same h.last.state t ≡ false → (id : ℕ) (node : Node)
+      → slice_get (relaxed g t at k).nodes id ≡ Some node → is_free g node.cell ≡ true
   next_free at k taken h n id node read =
       ((relaxing g s t h.last h.earlier at k h.searching n).0.in_order id node read).free
 

@@ -1,5 +1,6 @@
 -- The order of nodes by their keys is that of their states by sums and numbers.
-use Rattle.std.proofs.Common.{◌≡◌, ℕ, ◌+◌, ◌*◌, ◌<◌, ◌≤◌, ◌^◌, ◌⊎◌, inl, inr, length, List, refl, ap, sym, ◌∙◌, Bool, true, false, ◌&&◌, ◌||◌, arith, lit<}
+use Rattle.std.proofs.Common.{◌≡◌, ℕ, ◌+◌, ◌*◌, ◌<◌, ◌≤◌, ◌⊎◌, inl, inr, length, List, refl, ap, sym, ◌∙◌}
+use Rattle.std.proofs.Common.{Bool, true, false, ◌&&◌, ◌||◌, arith}
 use Rattle.std.specs.Prelude.{nat_eq, nat_lt}
 use Rattle.std.proofs.Math.Nat.{mul-le-mul}
 use Rattle.std.proofs.lemmas.Bool.Decides.{nat_tests}
@@ -23,7 +24,8 @@ use Rattle.plain_search.specs.declared.node.Node.{Node}
 -- a sum of a cost of so few moves and an estimate has few moves of each kind
 abbrev pub HasShortSums : GridData → Cell → List (Taken Cell) → Type 0
 HasShortSums g t run =
-    (c : Cell) (d : Cost) → is_free g c ≡ true → d.a + d.b ≤ length run → HasShortParts (add_costs d (estimate c t))
+    (c : Cell) (d : Cost) → is_free g c ≡ true → d.a + d.b ≤ length run
+    → HasShortParts (add_costs d (estimate c t))
 
 pub short_sums : (g : GridData) (t : Cell) (run : List (Taken Cell)) → IsGrid g → is_free g t ≡ true
     → length run ≤ 16777216 → HasShortSums g t run
@@ -71,12 +73,15 @@ keys_order p q tie s t = elim (IsLess-total p q) [
   | inl less ↦ rw (less, lesser (rank_of p) (rank_of q) (less_ranks p q s less)) refl
   | inr (inl more) ↦ (
       let greater = less_ranks q p t more in
-      rw (less_not_more p q more, not_lesser (rank_of p) (rank_of q) greater, not_equal (rank_of p) (rank_of q) greater)
-      (sym (parts_differ (nat_eq p.a q.a) (nat_eq p.b q.b) refl refl more)))
-  | inr (inr same) ↦ rw (← same) (rw (not_less_itself p, itself (rank_of p), equal (rank_of p), equal p.a, equal p.b) refl)
+      rw (less_not_more p q more)
+      (rw (not_lesser (rank_of p) (rank_of q) greater, not_equal (rank_of p) (rank_of q) greater)
+      (sym (parts_differ (nat_eq p.a q.a) (nat_eq p.b q.b) refl refl more))))
+  | inr (inr same) ↦
+      rw (← same) (rw (not_less_itself p, itself (rank_of p), equal (rank_of p), equal p.a, equal p.b) refl)
 ]
   where
-    parts_differ : (a b : Bool) → nat_eq p.a q.a ≡ a → nat_eq p.b q.b ≡ b → IsLess q p → (a && b && tie) ≡ false
+    parts_differ : (a b : Bool) → nat_eq p.a q.a ≡ a → nat_eq p.b q.b ≡ b → IsLess q p
+        → (a && b && tie) ≡ false
     parts_differ false b e f more = refl
     parts_differ true false e f more = refl
     parts_differ true true e f more = absurd (
@@ -93,7 +98,9 @@ numbers_order w c d h k = by_rows w c.x c.y d.x d.y (three c.y d.y) h k
 
     -- a number in an earlier row is lesser
     earlier : (w x y z t : ℕ) → x < w → y < t → (y * w + x) * 9 + 8 < (t * w + z) * 9 + 8
-    earlier w x y z t h l = let m : (y + 1) * w ≤ t * w = mul-le-mul (omega arith) (omega arith) in omega arith
+    earlier w x y z t h l =
+        let m : (y + 1) * w ≤ t * w = mul-le-mul (omega arith) (omega arith) in
+        omega arith
 
     in_one_row : (m x z : ℕ) → nat_lt x z ≡ nat_lt ((m + x) * 9 + 8) ((m + z) * 9 + 8)
     in_one_row m x z = grind (arith, nat_tests)
@@ -103,7 +110,8 @@ numbers_order w c d h k = by_rows w c.x c.y d.x d.y (three c.y d.y) h k
     by_rows w x y z t (inl l) h k =
         rw (lesser y t l, lesser ((y * w + x) * 9 + 8) ((t * w + z) * 9 + 8) (earlier w x y z t h l)) refl
     by_rows w x y z t (inr (inl l)) h k =
-        rw (not_lesser y t l, not_equal y t l, not_lesser ((y * w + x) * 9 + 8) ((t * w + z) * 9 + 8) (earlier w z t x y k l)) refl
+        rw (not_lesser y t l, not_equal y t l)
+        (rw (not_lesser ((y * w + x) * 9 + 8) ((t * w + z) * 9 + 8) (earlier w z t x y k l)) refl)
     by_rows w x y z t (inr (inr e)) h k = rw (← e) (rw (itself y, equal y) (in_one_row (y * w) x z))
 
 -- the order of two nodes that are made, lie on the map and have short sums is that of their states

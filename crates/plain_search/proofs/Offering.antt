@@ -1,7 +1,6 @@
 -- An offer keeps the run: with a new node, a lesser cost, or no change.
-use Rattle.std.proofs.Common.{◌≡◌, ◌≢◌, ℕ, ◌+◌, ◌*◌, ◌<◌, ◌≤◌, ◌⊎◌, inl, inr, length, List, [], ◌∷◌, ◌++◌, refl, ap, sym, ◌∙◌, subst, Bool, true, false, not, ◌&&◌, ◌||◌, arith, get_or-set_other, get_or-set_same}
-use Rattle.std.specs.Prelude.{Option, Some, None, slice_get, slice_set, slice_index_or, if◌then◌else◌, option_map, option_and_then}
-use Rattle.std.specs.Option.{option_map_or}
+use Rattle.std.proofs.Common.{◌≡◌, ◌≢◌, ℕ, ◌+◌, ◌*◌, ◌<◌, ◌≤◌, inl, inr, length, List, [], ◌∷◌, ◌++◌, refl, ap, sym, ◌∙◌, subst, Bool, true, false, ◌||◌, arith, get_or-set_other, get_or-set_same}
+use Rattle.std.specs.Prelude.{Option, Some, None, slice_get, slice_index_or, if◌then◌else◌, option_map}
 use Rattle.std.proofs.lemmas.Option.{get_or_from_slice_get, slice_get_within}
 use Rattle.std.proofs.lemmas.Grind.{common_steps}
 use Rattle.root2_cost.specs.declared.Cost.{Cost}
@@ -10,11 +9,11 @@ use Rattle.grid_moves.specs.declared.Cell.{Cell}
 use Rattle.grid_moves.specs.Grid.{GridData, cell_number, is_free}
 use Rattle.grid_moves.specs.Move.{is_same}
 use Rattle.grid_moves.proofs.Legal.{is_same-cell, is_same-itself, free_inside}
-use Rattle.grid_moves.proofs.Places.{one_cell, number_below}
+use Rattle.grid_moves.proofs.Places.{number_below}
 use Rattle.search_run.specs.Run.{Taken, Offer, is_taken, lesser}
 use Rattle.plain_search.specs.Rule.{plain_rule}
 use Rattle.plain_search.specs.Table.{Table, lookup, holds_cell, node_for, added, replaced, improved, is_improved, offered, offered_at}
-use Rattle.plain_search.specs.Mirror.{kept, kept_by, IsInOrder, HasNode, HaveNodes, Mirrors, with_offer}
+use Rattle.plain_search.specs.Mirror.{kept, HaveNodes, Mirrors, with_offer}
 use Rattle.plain_search.specs.declared.node.Node.{Node}
 use Rattle.plain_search.proofs.Lists.{get-last, get-added, got-added, get-set_same, get-set_other}
 use Rattle.plain_search.proofs.Mirrors.{Changed, lookup-node, kept-node, mirrors_changed, same_or_not}

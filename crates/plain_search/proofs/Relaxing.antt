@@ -1,6 +1,6 @@
 -- A taken state's offers in all directions make the least offers those after it.
-use Rattle.std.proofs.Common.{◌≡◌, ◌≢◌, ℕ, suc, ◌+◌, ◌*◌, ◌≤◌, ◌⊎◌, inl, inr, length, List, [], ◌∷◌, ◌++◌, refl, ap, sym, ◌∙◌, subst, Bool, true, false, not, ◌&&◌, ◌||◌, arith}
-use Rattle.std.specs.Prelude.{Option, Some, None, slice_get, slice_set, slice_index_or, if◌then◌else◌, fold, nat_eq}
+use Rattle.std.proofs.Common.{◌≡◌, ◌≢◌, ℕ, ◌+◌, ◌*◌, ◌≤◌, ◌⊎◌, inl, inr, length, List, [], ◌∷◌, refl, ap, sym, ◌∙◌, subst, Bool, true, false, ◌&&◌, ◌||◌, arith}
+use Rattle.std.specs.Prelude.{Option, Some, None, slice_get, slice_index_or, if◌then◌else◌, nat_eq}
 use Rattle.std.proofs.lemmas.Option.{get_or_from_slice_get}
 use Rattle.root2_cost.specs.declared.Cost.{Cost}
 use Rattle.root2_cost.specs.Order.{is_less}
@@ -12,10 +12,10 @@ use Rattle.grid_moves.specs.Grid.{GridData, is_free}
 use Rattle.grid_moves.specs.Move.{is_same, is_legal, legal_ahead, move_cost, all_dirs}
 use Rattle.grid_moves.proofs.Legal.{is_same-cell, is_same-itself, legal_is}
 use Rattle.grid_moves.proofs.Ahead.{legal_ahead-of, legal_ahead-is}
-use Rattle.search_run.specs.Run.{Rule, Taken, Offer, is_taken, lesser, least_offer, offer, offer_by}
-use Rattle.plain_search.specs.Rule.{plain_rule, move_link}
-use Rattle.plain_search.specs.Table.{Table, lookup, node_for, replaced, improved, is_improved, offered, offered_at, offered_over, offered_ahead}
-use Rattle.plain_search.specs.Mirror.{Mirrors, with_offer, with_ahead, with_all_ahead}
+use Rattle.search_run.specs.Run.{Taken, Offer, is_taken, lesser, least_offer}
+use Rattle.plain_search.specs.Rule.{plain_rule}
+use Rattle.plain_search.specs.Table.{Table, lookup, node_for, replaced, is_improved, offered, offered_at, offered_over, offered_ahead}
+use Rattle.plain_search.specs.Mirror.{Mirrors, with_ahead, with_all_ahead}
 use Rattle.plain_search.specs.declared.node.Node.{Node}
 use Rattle.plain_search.proofs.Lists.{get-added, get-set_other}
 use Rattle.plain_search.proofs.Mirrors.{same_or_not}

@@ -1,20 +1,17 @@
 -- The plain run answers right: its way is a least walk, and it ends without the goal only where no walk leads there.
-use Rattle.std.proofs.Common.{◌≡◌, ℕ, refl, ap, sym, ◌∙◌, subst, Bool, true, false, ◌||◌, List, [], ◌∷◌, ◌++◌}
-use Rattle.std.specs.Prelude.{IsTrue, Some, None}
+use Rattle.std.proofs.Common.{◌≡◌, ℕ, refl, ap, sym, ◌∙◌, subst, Bool, true, false, List, [], ◌∷◌, ◌++◌}
 use Rattle.root2_cost.specs.declared.Cost.{Cost}
-use Rattle.root2_cost.specs.Order.{IsAtMost}
-use Rattle.root2_cost.specs.Sums.{add_costs, no_cost}
-use Rattle.root2_cost.proofs.Most.{Most, Most-then, Most-same}
+use Rattle.root2_cost.specs.Sums.{add_costs}
+use Rattle.root2_cost.proofs.Most.{Most-then, Most-same}
 use Rattle.grid_moves.specs.declared.Cell.{Cell}
 use Rattle.grid_moves.specs.Grid.{GridData, is_free}
-use Rattle.grid_moves.specs.Move.{is_legal, is_same, move_cost}
-use Rattle.grid_moves.specs.Walk.{is_walk, cost_of, last_of, IsWalk, IsLeastWalk, NoWalk}
+use Rattle.grid_moves.specs.Move.{is_same, move_cost}
+use Rattle.grid_moves.specs.Walk.{cost_of, last_of, IsLeastWalk, NoWalk}
 use Rattle.grid_moves.proofs.Legal.{is_same-itself}
-use Rattle.search_run.specs.Run.{Rule, Taken, IsRun, NoneWaits, has_goal, way_to, is_taken}
-use Rattle.search_run.specs.Chain.{IsConsistent}
-use Rattle.search_run.proofs.Leastness.{IsIn, here, there, or_false, least_offer-from, is_taken-member, run_is_least, run_finds_all}
+use Rattle.search_run.specs.Run.{Taken, IsRun, way_to, is_taken}
+use Rattle.search_run.proofs.Leastness.{IsIn, here, there, least_offer-from, is_taken-member, run_is_least, run_finds_all}
 use Rattle.plain_search.specs.Rule.{plain_rule}
-use Rattle.plain_search.specs.Found.{IsFound, IsExhausted}
+use Rattle.plain_search.specs.Found.{IsExhausted}
 use Rattle.plain_search.proofs.Walks.{Goes, goes_nowhere, one_more, link_legal, plain_consistent, walk_chain}
 
 -- the way to a taken cell is a walk of the cost at which it was taken

@@ -1,24 +1,23 @@
 -- The search from one taken state to the next.
-use Rattle.std.proofs.Common.{◌≡◌, ◌≢◌, ℕ, zero, suc, ◌+◌, ◌*◌, ◌<◌, ◌≤◌, ◌⊎◌, inl, inr, length, List, [], ◌∷◌, ◌++◌, refl, ap, sym, ◌∙◌, subst, Bool, true, false, not, ◌||◌, arith, map, reverse, get_or-set_same}
-use Rattle.std.specs.Prelude.{Option, Some, None, slice_get, slice_set, slice_index_or, if◌then◌else◌, option_map, fold}
+use Rattle.std.proofs.Common.{◌≡◌, ℕ, zero, suc, ◌+◌, ◌*◌, ◌<◌, ◌≤◌, inl, inr, length, List, [], ◌∷◌, refl, ap, sym, ◌∙◌, subst, true, false, arith, get_or-set_same}
+use Rattle.std.specs.Prelude.{Option, Some, None, slice_get, slice_set, slice_index_or}
 use Rattle.root2_cost.specs.declared.Cost.{Cost}
-use Rattle.root2_cost.specs.Sums.{add_costs, no_cost}
+use Rattle.root2_cost.specs.Sums.{no_cost}
 use Rattle.grid_moves.specs.declared.Cell.{Cell}
 use Rattle.grid_moves.specs.Grid.{GridData, cell_number, is_free}
 use Rattle.grid_moves.specs.Move.{is_same, all_dirs}
-use Rattle.grid_moves.proofs.Legal.{is_same-cell, is_same-itself}
-use Rattle.grid_moves.proofs.Places.{one_cell}
-use Rattle.search_run.specs.Run.{Rule, Taken, Offer, is_taken, has_goal, least_offer, IsRun, NoneWaits}
-use Rattle.plain_search.specs.Rule.{plain_rule, state_number}
+use Rattle.grid_moves.proofs.Legal.{is_same-itself}
+use Rattle.search_run.specs.Run.{Taken, is_taken, has_goal, least_offer, IsRun}
+use Rattle.plain_search.specs.Rule.{plain_rule}
 use Rattle.plain_search.specs.Found.{numbers_of, IsExhausted}
-use Rattle.plain_search.specs.Table.{Table, lookup, holds_cell, node_for, begun, relaxed, closed_at, IsFirstNode, NoneOpen, offered_ahead}
-use Rattle.plain_search.specs.Mirror.{kept, kept_by, IsInOrder, HasNode, HaveNodes, Mirrors, IsSearching, with_all_ahead}
+use Rattle.plain_search.specs.Table.{Table, holds_cell, node_for, begun, relaxed, closed_at, IsFirstNode, NoneOpen, offered_ahead}
+use Rattle.plain_search.specs.Mirror.{kept, IsInOrder, Mirrors, IsSearching, with_all_ahead}
 use Rattle.plain_search.specs.declared.node.Node.{Node}
 use Rattle.plain_search.proofs.Keys.{HasShortSums}
 use Rattle.plain_search.proofs.Mirrors.{same_or_not}
 use Rattle.plain_search.proofs.Offering.{same_best}
-use Rattle.plain_search.proofs.Relaxing.{Relaxing, all_over, offers_after}
-use Rattle.plain_search.proofs.Taking.{next, closed, is_next, mirrors_on, none_open}
+use Rattle.plain_search.proofs.Relaxing.{all_over, offers_after}
+use Rattle.plain_search.proofs.Taking.{next, is_next, mirrors_on, none_open}
 
 module _ (g : GridData) (s t : Cell) where
   -- the start is taken first

@@ -1,20 +1,19 @@
 -- The next node that is popped is the run's next state, and where none is left no state waits.
-use Rattle.std.proofs.Common.{◌≡◌, ◌≢◌, ℕ, zero, suc, ◌+◌, ◌*◌, ◌<◌, ◌≤◌, ◌⊎◌, inl, inr, length, List, [], ◌∷◌, ◌++◌, refl, ap, sym, ◌∙◌, subst, Bool, true, false, not, ◌&&◌, ◌||◌, arith}
-use Rattle.std.specs.Prelude.{Option, Some, None, slice_get, slice_set, slice_index_or, if◌then◌else◌, option_map}
+use Rattle.std.proofs.Common.{◌≡◌, ◌≢◌, ℕ, ◌+◌, ◌≤◌, ◌⊎◌, inl, inr, List, [], ◌∷◌, refl, ap, sym, ◌∙◌, subst, Bool, true, false, not, arith}
+use Rattle.std.specs.Prelude.{Option, Some, None, slice_get, slice_set, slice_index_or}
 use Rattle.std.proofs.lemmas.Grind.{common_steps}
 use Rattle.root2_cost.specs.declared.Cost.{Cost}
-use Rattle.root2_cost.specs.Sums.{add_costs, no_cost}
+use Rattle.root2_cost.specs.Sums.{no_cost}
 use Rattle.grid_moves.specs.declared.Cell.{Cell}
 use Rattle.grid_moves.specs.Grid.{GridData, cell_number, is_free}
 use Rattle.grid_moves.specs.Move.{is_same}
 use Rattle.grid_moves.proofs.Legal.{is_same-cell, is_same-itself, legal_is}
-use Rattle.search_run.specs.Run.{Rule, Taken, Offer, is_taken, has_goal, least_offer, IsRun, IsNext, NoneWaits, goes_before, sum_at}
+use Rattle.search_run.specs.Run.{Taken, Offer, is_taken, least_offer, IsNext, NoneWaits, goes_before}
 use Rattle.search_run.proofs.Leastness.{least_offer-from, or_false}
-use Rattle.open_list.specs.OpenList.{OpenList, IsOpen, IsFirst, HasNoneOpen}
-use Rattle.plain_search.specs.Rule.{plain_rule, state_number}
+use Rattle.plain_search.specs.Rule.{plain_rule}
 use Rattle.plain_search.specs.Node.{ranks_before}
-use Rattle.plain_search.specs.Table.{Table, lookup, node_for}
-use Rattle.plain_search.specs.Mirror.{kept, kept_by, IsInOrder, HasNode, HaveNodes, Mirrors, IsSearching}
+use Rattle.plain_search.specs.Table.{Table, lookup}
+use Rattle.plain_search.specs.Mirror.{kept, kept_by, IsInOrder, HaveNodes, Mirrors}
 use Rattle.plain_search.specs.declared.node.Node.{Node}
 use Rattle.plain_search.proofs.Walks.{link_legal}
 use Rattle.plain_search.proofs.Keys.{HasShortSums, ranks_as_states}
@@ -75,7 +74,8 @@ module _ (g : GridData) (t : Cell) (run : List (Taken Cell)) (k : Table) (m : Mi
       by_offer (Some o) h = absurd (let w = waiting_node s o n h in none w.id w.is_open)
 
   -- the order of nodes is that of the states
-  rank_is : HasShortSums g t run → (i j : ℕ) (x y : Node) → slice_get k.nodes i ≡ Some x → slice_get k.nodes j ≡ Some y
+  rank_is : HasShortSums g t run → (i j : ℕ) (x y : Node)
+      → slice_get k.nodes i ≡ Some x → slice_get k.nodes j ≡ Some y
       → ranks_before x y ≡ goes_before (plain_rule g t) x.cell x.cost y.cell y.cost
   rank_is short i j x y h l =
       let a = m.in_order i x h in

@@ -1,16 +1,15 @@
 -- Walks as lists of cells: one more move, and walks as chains of links.
 use Rattle.std.proofs.Common.{◌≡◌, refl, ap, sym, ◌∙◌, subst, Bool, true, false, ◌&&◌, List, [], ◌∷◌, ◌++◌}
-use Rattle.std.specs.Prelude.{IsTrue, Some, None, Option, if◌then◌else◌}
+use Rattle.std.specs.Prelude.{Some, None, Option, if◌then◌else◌}
 use Rattle.root2_cost.specs.declared.Cost.{Cost}
 use Rattle.root2_cost.specs.Sums.{add_costs, no_cost}
 use Rattle.root2_cost.proofs.Sums.{add_costs-assoc, add_costs-no_cost_left, add_costs-no_cost_right}
 use Rattle.grid_moves.specs.declared.Cell.{Cell}
 use Rattle.grid_moves.specs.Grid.{GridData, is_free}
-use Rattle.grid_moves.specs.Move.{is_legal, is_same, move_cost}
+use Rattle.grid_moves.specs.Move.{is_legal, move_cost}
 use Rattle.grid_moves.specs.Walk.{is_walk, cost_of, last_of}
 use Rattle.grid_moves.proofs.Legal.{legal_is, is_same-cell, is_same-itself}
 use Rattle.grid_moves.proofs.Consistent.{estimate_falls, estimate_nothing}
-use Rattle.search_run.specs.Run.{Rule}
 use Rattle.search_run.specs.Chain.{Chain, stays, goes_on, IsConsistent}
 use Rattle.plain_search.specs.Rule.{plain_rule, move_link}
 

@@ -1,5 +1,4 @@
 -- The answer of a plain search.
-use Rattle.std.specs.Prelude.{ℕ, List}
 use Rattle.grid_moves.specs.declared.Cell.{Cell}
 use Rattle.grid_moves.specs.Grid.{GridData}
 use Rattle.grid_moves.specs.Reply.{StandsForLeast}

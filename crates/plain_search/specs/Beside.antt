@@ -1,13 +1,12 @@
--- Cells beside a cell, where they are free. No public clause cites this module.
-use Rattle.std.specs.Prelude.{Option, Some, None, if◌then◌else◌, option_and_then}
+-- The columns and rows beside a cell's, and where a move leads. No public clause cites this module.
+use Rattle.std.specs.Prelude.{◌≡◌, ℕ, ◌+◌, ◌<◌, Bool, Option, Some, None, if◌then◌else◌}
 use Rattle.grid_moves.specs.declared.Cell.{Cell}
-use Rattle.grid_moves.specs.Grid.{GridData, is_free}
 
--- the cell, where it is free
-abbrev pub where_free : GridData → Cell → Option Cell
-where_free g c = if is_free g c then Some c else None
+-- m is the number before n, or 65535, which is no column and no row of a map, where n is 0
+pub record IsBefore (n m : ℕ) : Type 0 where
+  pub some : 0 < n → n ≡ m + 1
+  pub none : n ≡ 0 → m ≡ 65535
 
--- the cell in the column of one cell and in the row of another, where both are there and it is free
-abbrev pub where_met : GridData → Option Cell → Option Cell → Option Cell
-where_met g column row =
-    option_and_then (λ u. option_and_then (λ v. where_free g (record { x = u.x; y = v.y })) row) column
+-- the cell, if the move to it is open
+abbrev pub if_open : Bool → Cell → Option Cell
+if_open b c = if b then Some c else None

@@ -3,8 +3,6 @@ use Rattle.std.specs.Prelude.{◌≡◌, ℕ, false, List, ◌∷◌, map, rever
 use Rattle.root2_cost.specs.declared.Cost.{Cost}
 use Rattle.grid_moves.specs.declared.Cell.{Cell}
 use Rattle.grid_moves.specs.Grid.{GridData}
-use Rattle.grid_moves.specs.Reply.{StandsForLeast}
-use Rattle.grid_moves.specs.Walk.{NoWalk}
 use Rattle.path_points.specs.Corners.{corners}
 use Rattle.search_run.specs.Run.{Taken, IsRun, NoneWaits, has_goal, way_to}
 use Rattle.plain_search.specs.Rule.{plain_rule, state_number}

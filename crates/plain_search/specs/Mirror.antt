@@ -1,12 +1,11 @@
 -- How a table keeps the run of a search. No public clause cites this module.
-use Rattle.std.specs.Prelude.{◌≡◌, ℕ, ◌+◌, ◌*◌, ◌≤◌, Bool, true, false, not, List, [], ◌∷◌, length, Option, Some, None, option_and_then, option_map, if◌then◌else◌, slice_get, slice_index_or, fold, ⊤}
-use Rattle.root2_cost.specs.declared.Cost.{Cost}
+use Rattle.std.specs.Prelude.{◌≡◌, ℕ, ◌+◌, ◌*◌, ◌≤◌, true, false, not, List, [], ◌∷◌, length, Option, Some, None, option_and_then, option_map, if◌then◌else◌, slice_get, slice_index_or, ⊤}
 use Rattle.root2_cost.specs.Sums.{add_costs}
 use Rattle.grid_moves.specs.declared.Cell.{Cell}
 use Rattle.grid_moves.specs.declared.Dir.{Dir}
 use Rattle.grid_moves.specs.Grid.{GridData, cell_number, is_free}
 use Rattle.grid_moves.specs.Move.{is_same, legal_ahead, move_cost}
-use Rattle.search_run.specs.Run.{Rule, Taken, Offer, lesser, least_offer, is_taken, has_goal, IsRun}
+use Rattle.search_run.specs.Run.{Taken, Offer, lesser, least_offer, is_taken, has_goal, IsRun}
 use Rattle.plain_search.specs.Rule.{plain_rule}
 use Rattle.plain_search.specs.Table.{Table, lookup, node_for}
 use Rattle.plain_search.specs.declared.node.Node.{Node}

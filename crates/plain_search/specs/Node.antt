@@ -6,4 +6,5 @@ use Rattle.plain_search.specs.declared.node.Node.{Node}
 abbrev pub ranks_before : Node → Node → Bool
 ranks_before m n =
     nat_lt m.key n.key
-    || (nat_eq m.key n.key && (nat_lt m.cell.y n.cell.y || (nat_eq m.cell.y n.cell.y && nat_lt m.cell.x n.cell.x)))
+    || (nat_eq m.key n.key
+    && (nat_lt m.cell.y n.cell.y || (nat_eq m.cell.y n.cell.y && nat_lt m.cell.x n.cell.x)))

@@ -1,12 +1,11 @@
 -- Where a search stands between two states. No public clause cites this module.
-use Rattle.std.specs.Prelude.{◌≡◌, ℕ, ◌*◌, List, ◌∷◌, ◌++◌, [], Option, Some, None, slice_get, length}
+use Rattle.std.specs.Prelude.{◌≡◌, ℕ, List, ◌∷◌, Option, Some, None}
 use Rattle.grid_moves.specs.declared.Cell.{Cell}
 use Rattle.grid_moves.specs.Grid.{GridData}
 use Rattle.search_run.specs.Run.{Taken}
 use Rattle.plain_search.specs.Found.{numbers_of, IsExhausted}
 use Rattle.plain_search.specs.Table.{Table}
 use Rattle.plain_search.specs.Mirror.{IsSearching}
-use Rattle.plain_search.specs.declared.node.Node.{Node}
 
 -- the search has taken these states, the last one with the node of this number, and goes on
 pub record HasTaken (g : GridData) (s t : Cell) (at : ℕ) (k : Table) (taken : List ℕ) : Type 0 where

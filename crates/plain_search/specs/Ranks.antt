@@ -1,5 +1,5 @@
 -- The order of nodes is a strict weak one.
-use Rattle.std.proofs.Common.{◌≡◌, arith}
+use Rattle.std.proofs.Common.{arith}
 use Rattle.std.proofs.lemmas.Bool.Decides.{nat_tests}
 use Rattle.open_list.specs.Order.{IsStrictWeakOrder}
 use Rattle.plain_search.specs.Node.{ranks_before}

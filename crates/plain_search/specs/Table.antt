@@ -74,12 +74,14 @@ node_for goal c cost parent = record {
 
 -- each node has the key of its cell and cost
 abbrev pub AreMade : Cell → Table → Type 0
-AreMade goal k = (id : ℕ) (n : Node) → slice_get k.nodes id ≡ Some n → n ≡ node_for goal n.cell n.cost n.parent
+AreMade goal k =
+    (id : ℕ) (n : Node) → slice_get k.nodes id ≡ Some n → n ≡ node_for goal n.cell n.cost n.parent
 
 -- what a node offers to the cell ahead, where the move to it is legal
 abbrev pub offered_over : Option Cell → ℕ → Cell → ℕ → Node → Table → Table
 offered_over None width goal id u k = k
-offered_over (Some v) width goal id u k = offered width (node_for goal v (add_costs u.cost (move_cost u.cell v)) id) k
+offered_over (Some v) width goal id u k =
+    offered width (node_for goal v (add_costs u.cost (move_cost u.cell v)) id) k
 
 -- what a node offers in these directions, in their order
 abbrev pub offered_ahead : GridData → Cell → ℕ → Node → Table → List Dir → Table

@@ -1,5 +1,5 @@
 -- The cells along the parents. No public clause cites this module.
-use Rattle.std.specs.Prelude.{◌≡◌, ℕ, ◌+◌, ◌<◌, false, List, [], ◌∷◌, ◌++◌, Some, slice_get, reverse}
+use Rattle.std.specs.Prelude.{◌≡◌, ◌+◌, ◌<◌, false, List, [], ◌∷◌, ◌++◌, Some, slice_get, reverse}
 use Rattle.grid_moves.specs.declared.Cell.{Cell}
 use Rattle.grid_moves.specs.Move.{is_same}
 use Rattle.path_points.specs.Corners.{corners, turns_after}

@@ -4,9 +4,11 @@ ghost use Rattle.std.specs.Prelude.{◌≡◌, ℕ, ◌+◌, ◌*◌, ◌<◌, �
 ghost use Rattle.grid_moves.specs.Grid.{IsGrid, cell_number, is_free};
 ghost use Rattle.grid_moves.specs.Move.{all_dirs};
 ghost use Rattle.grid_moves.specs.Points.{estimate};
+ghost use Rattle.root2_cost.specs.Order.{is_less};
 ghost use Rattle.root2_cost.specs.Laws.{HasShortParts};
 ghost use Rattle.root2_cost.specs.Sums.{add_costs};
-ghost use Rattle.plain_search.specs.Table.{Table, lookup, added, is_improved, improved, offered, offered_over, offered_ahead, relaxed, node_for, AreMade, begun, closed_at, IsFirstNode, NoneOpen, HasRoom};
+ghost use Rattle.plain_search.specs.Beside.{if_open};
+ghost use Rattle.plain_search.specs.Table.{Table, lookup, added, is_improved, replaced, offered, offered_over, offered_ahead, relaxed, node_for, AreMade, begun, closed_at, IsFirstNode, NoneOpen, HasRoom};
 
 use crate::NoMemory;
 use crate::around::Around;
@@ -140,18 +142,29 @@ impl Workspace {
         }
     }
 
-    // Adds a node for a cell that has none.
-    fn add<L: Ledger>(&mut self, width: u16, node: Node, steps: &mut Steps<L>)
-        requires column { node.cell.x < width }
-        requires row { node.cell.y < 4096 }
+    // Adds a node for a cell that has none, at this cost, offered by the node of that number.
+    #[inline(never)]
+    fn add<L: Ledger>(
+        &mut self,
+        width: u16,
+        goal: Cell,
+        cell: Cell,
+        cost: Cost,
+        parent: u32,
+        steps: &mut Steps<L>,
+    )
+        requires column { cell.x < width }
+        requires row { cell.y < 4096 }
         requires narrow { width ≤ 4096 }
-        requires inside { cell_number width node.cell < length self.old.table.index }
+        requires inside { cell_number width cell < length self.old.table.index }
+        requires a { cost.a ≤ 2 ^ 30 }
+        requires b { cost.b ≤ 2 ^ 30 }
         requires spare { 1 ≤ self.old.spare }
-        ensures table { self.new.table ≡ added width node self.old.table }
+        ensures table { self.new.table ≡ added width (node_for goal cell cost parent) self.old.table }
         ensures spare { self.new.spare + 1 ≡ self.old.spare }
     {
-        let id = self.pool.add(node, steps);
-        self.index[number_of(width, node.cell) as usize] = id;
+        let id = self.pool.add(node_at(goal, cell, cost, parent), steps);
+        self.index[number_of(width, cell) as usize] = id;
     }
 
     // Whether the node of that number is open and costs more than this.
@@ -163,8 +176,8 @@ impl Workspace {
         self.pool.is_open(id) && cost.is_below(self.pool.node(id).cost)
     }
 
-    // Offers a cost for a cell that has the node of that number: a new node takes its place where it
-    // is open and costs more.
+    // Puts a new node for the cell in the place of its node, which is open and costs more.
+    #[inline(never)]
     fn improve<L: Ledger>(
         &mut self,
         goal: Cell,
@@ -174,21 +187,23 @@ impl Workspace {
         parent: u32,
         steps: &mut Steps<L>,
     )
-        requires known { id < length self.old.table.nodes }
-        requires made { (old : _) → slice_get self.old.table.nodes id ≡ Some old → old ≡ node_for goal cell old.cost old.parent }
+        requires is_open { slice_get self.old.table.open_at id ≡ Some true }
+        requires made { (old : _) → slice_get self.old.table.nodes id ≡ Some old
+            → old ≡ node_for goal cell old.cost old.parent }
+        requires less { (old : _) → slice_get self.old.table.nodes id ≡ Some old
+            → is_less cost old.cost ≡ true }
         requires a { cost.a ≤ 2 ^ 30 }
         requires b { cost.b ≤ 2 ^ 30 }
-        ensures table { self.new.table ≡ improved id (node_for goal cell cost parent) self.old.table }
+        ensures table { self.new.table ≡ replaced id (node_for goal cell cost parent) self.old.table }
         ensures spare { self.new.spare ≡ self.old.spare }
     {
-        if self.is_improved(id, cost) {
-            let node = node_at(goal, cell, cost, parent);
-            self.pool.lower(id, node, steps);
-        }
+        let node = node_at(goal, cell, cost, parent);
+        self.pool.lower(id, node, steps);
     }
 
     // Offers a cost for a cell: its node is added where it has none, and takes the place of the old
     // one where that one is open and costs more.
+    #[inline(always)]
     fn offer<L: Ledger>(
         &mut self,
         width: u16,
@@ -210,12 +225,16 @@ impl Workspace {
         ensures spare { self.old.spare ≤ self.new.spare + 1 }
     {
         match self.find(width, cell) {
-            None => self.add(width, node_at(goal, cell, cost, parent), steps),
-            Some(id) => self.improve(goal, id, cell, cost, parent, steps),
+            None => self.add(width, goal, cell, cost, parent, steps),
+            Some(id) => {
+                if self.is_improved(id, cost) {
+                    self.improve(goal, id, cell, cost, parent, steps);
+                }
+            }
         }
     }
 
-    // Offers the way over a legal move, where there is one.
+    // Offers the way over the move from a node to the cell of this column and row, if that is open.
     #[inline(always)]
     fn offer_over<T: Terrain, L: Ledger>(
         &mut self,
@@ -223,21 +242,25 @@ impl Workspace {
         goal: Cell,
         id: u32,
         node: Node,
-        to: Option<Cell>,
+        is_open: bool,
+        x: u16,
+        y: u16,
         steps: &mut Steps<L>,
     )
-        requires free { IfSome to (λ v. is_free (T.grid t.now) v ≡ true) }
+        requires free { is_open ≡ true → is_free (T.grid t.now) (record { x = x; y = y }) ≡ true }
         requires index { length self.old.table.index ≡ (T.grid t.now).height * (T.grid t.now).width }
         requires a { node.cost.a < 2 ^ 30 }
         requires b { node.cost.b < 2 ^ 30 }
         requires spare { 1 ≤ self.old.spare }
         requires made { AreMade goal self.old.table }
-        ensures table { self.new.table ≡ offered_over to (T.grid t.now).width goal id node self.old.table }
+        ensures table { self.new.table
+            ≡ offered_over (if_open is_open (record { x = x; y = y })) (T.grid t.now).width goal id node self.old.table }
         ensures index { length self.new.table.index ≡ length self.old.table.index }
         ensures spare { self.old.spare ≤ self.new.spare + 1 }
         ensures made { AreMade goal self.new.table }
     {
-        if let Some(to) = to {
+        if is_open {
+            let to = Cell { x, y };
             let cost = node.cost.add(move_cost(node.cell, to));
             self.offer(t.width(), goal, to, cost, id, steps);
         }
@@ -262,15 +285,18 @@ impl Workspace {
         ensures table { self.new.table ≡ offered_ahead (T.grid t.now) goal id node self.old.table all_dirs }
         ensures index { length self.new.table.index ≡ length self.old.table.index }
     {
+        let Cell { x, y } = node.cell;
         let around = Around::of(t, node.cell);
-        self.offer_over(t, goal, id, node, around.n, steps);
-        self.offer_over(t, goal, id, node, around.ne, steps);
-        self.offer_over(t, goal, id, node, around.e, steps);
-        self.offer_over(t, goal, id, node, around.se, steps);
-        self.offer_over(t, goal, id, node, around.s, steps);
-        self.offer_over(t, goal, id, node, around.sw, steps);
-        self.offer_over(t, goal, id, node, around.w, steps);
-        self.offer_over(t, goal, id, node, around.nw, steps);
+        let (left, right) = (around.left, around.right);
+        let (up, down) = (around.up, around.down);
+        self.offer_over(t, goal, id, node, around.n, x, up, steps);
+        self.offer_over(t, goal, id, node, around.ne, right, up, steps);
+        self.offer_over(t, goal, id, node, around.e, right, y, steps);
+        self.offer_over(t, goal, id, node, around.se, right, down, steps);
+        self.offer_over(t, goal, id, node, around.s, x, down, steps);
+        self.offer_over(t, goal, id, node, around.sw, left, down, steps);
+        self.offer_over(t, goal, id, node, around.w, left, y, steps);
+        self.offer_over(t, goal, id, node, around.nw, left, up, steps);
     }
 
     /// Offers the ways over all legal moves from the node of that number, in increasing order of
@@ -287,7 +313,8 @@ impl Workspace {
         requires few { length self.old.table.nodes < 2 ^ 27 }
         requires index { length self.old.table.index ≡ (T.grid t.now).height * (T.grid t.now).width }
         requires short { (n : _) → slice_get self.old.table.nodes id ≡ Some n → (n.cost.a < 2 ^ 30) × (n.cost.b < 2 ^ 30) }
-        requires free { (n : _) → slice_get self.old.table.nodes id ≡ Some n → is_free (T.grid t.now) n.cell ≡ true }
+        requires free { (n : _) → slice_get self.old.table.nodes id ≡ Some n
+            → is_free (T.grid t.now) n.cell ≡ true }
         requires made { AreMade goal self.old.table }
         ensures relaxed { OnOk result (self.new.table ≡ relaxed (T.grid t.now) goal id self.old.table) }
         ensures index { length self.new.table.index ≡ length self.old.table.index }

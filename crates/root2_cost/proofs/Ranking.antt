@@ -17,7 +17,8 @@ square_of_product x q = omega arith
 straight_more : (q p x y : ℕ) → p * p ≡ 2 * (q * q) + 1 → 2 * (y * y) < x * x → y < q → y * p < x * q
 straight_more q p x y pell h small =
     root_below (y * p) (x * q) (
-    let e : (y * p) * (y * p) ≡ (y * y) * (2 * (q * q) + 1) = square_of_product y p ∙ ap (λ n. (y * y) * n) pell in
+    let e : (y * p) * (y * p) ≡ (y * y) * (2 * (q * q) + 1) =
+    square_of_product y p ∙ ap (λ n. (y * y) * n) pell in
     let most : (2 * (y * y) + 1) * (q * q) ≤ (x * x) * (q * q) = mul-le-mul (omega arith) (omega arith) in
     let less : y * y < q * q = square_less y q small in
     let f : (x * q) * (x * q) ≡ (x * x) * (q * q) = square_of_product x q in
@@ -30,7 +31,8 @@ straight_more q p x y pell h small =
 diagonal_more : (q p x y : ℕ) → p * p ≡ 2 * (q * q) + 1 → x * x < 2 * (y * y) → 0 < q → x * q < y * p
 diagonal_more q p x y pell h some =
     root_below (x * q) (y * p) (
-    let e : (y * p) * (y * p) ≡ (y * y) * (2 * (q * q) + 1) = square_of_product y p ∙ ap (λ n. (y * y) * n) pell in
+    let e : (y * p) * (y * p) ≡ (y * y) * (2 * (q * q) + 1) =
+    square_of_product y p ∙ ap (λ n. (y * y) * n) pell in
     let most : (x * x + 1) * (q * q) ≤ (2 * (y * y)) * (q * q) = mul-le-mul (omega arith) (omega arith) in
     let positive : 0 < q * q = square_positive q some in
     let f : (x * q) * (x * q) ≡ (x * x) * (q * q) = square_of_product x q in
@@ -64,7 +66,8 @@ gap_ranks q p pell some {a} {b} {c} {d} small (second x y e f h) =
 
 -- the lesser of two costs has the lesser rank
 pub less_ranks : (p q : Cost) → HasShortParts p → IsLess p q → rank_of p < rank_of q
-less_ranks p q s h = gap_ranks straight_rank diagonal_rank squares_meet (lit< tt) (below s.diagonal) (less_gap p q h)
+less_ranks p q s h =
+    gap_ranks straight_rank diagonal_rank squares_meet (lit< tt) (below s.diagonal) (less_gap p q h)
   where
     below : (p.b < 2 ^ 31) → p.b < straight_rank
     below l = omega arith

@@ -1,9 +1,8 @@
-use Rattle.std.proofs.Common.{◌≡◌, ◌∙◌, sym, ap, subst, arith, ◌*◌, ◌≤◌, ◌+◌, length, false, List, [], ◌∷◌, ◌++◌, ℕ}
+use Rattle.std.proofs.Common.{◌≡◌, ◌∙◌, sym, ap, subst, arith, false, List, [], ◌∷◌, ◌++◌, ℕ}
 use Rattle.std.specs.Prelude.{slice_get, Some}
 use Rattle.grid_moves.specs.declared.Cell.{Cell}
-use Rattle.grid_moves.specs.Grid.{GridData, is_free}
+use Rattle.grid_moves.specs.Grid.{GridData}
 use Rattle.grid_moves.specs.Move.{is_same}
-use Rattle.plain_search.specs.Found.{IsExhausted}
 use Rattle.plain_search.specs.Rule.{state_number}
 use Rattle.plain_search.specs.Progress.{HasTaken}
 use Rattle.plain_search.specs.Table.{Table, relaxed, NoneOpen, IsFirstNode, closed_at}
@@ -42,7 +41,8 @@ state_at-requires g c =
     let grid = g.T.Terrain.grid c.args.t.now in
     let k = c.args.space.now.table in
     let read : slice_get (relaxed grid c.args.ends.to c.args.at k).nodes c.in-Some.next ≡ Some c.node.result =
-    ap (λ (l : Table). slice_get l.nodes c.in-Some.next) (sym c.in_ok-relax.ensures.relaxed) ∙ ap (λ (ns : List Node). slice_get ns c.in-Some.next) (sym c.take_next.ensures.nodes) ∙ c.node.ensures in
+    ap (λ (l : Table). slice_get l.nodes c.in-Some.next) (sym c.in_ok-relax.ensures.relaxed)
+    ∙ ap (λ (ns : List Node). slice_get ns c.in-Some.next) (sym c.take_next.ensures.nodes) ∙ c.node.ensures in
     next_free grid c.args.ends.from c.args.ends.to c.args.at k c.args.taken.now c.requires.taken
     (open_end grid c.args.ends.from c.args.ends.to c.args.at k c.args.taken.now c.requires.taken c.requires.open_ended)
     c.in-Some.next c.node.result read
@@ -66,6 +66,7 @@ returns-in_ok-push-in-Some-clause-goes_on g c =
     (open_end grid c.args.ends.from c.args.ends.to c.args.at k c.args.taken.now c.requires.taken c.requires.open_ended)
     c.in-Some.next c.node.result first read in
     let table : closed_at c.in-Some.next (relaxed grid c.args.ends.to c.args.at k) ≡ c.take_next.new.self.table = ap (closed_at c.in-Some.next) (sym relaxed_is) ∙ sym c.in-Some.ensures.closed in
-    let pushed : c.push.new.self ≡ c.args.taken.now ++ state_number grid.width c.node.result.cell ∷ [] = c.in_ok-push-in-Some.ensures.pushed ∙ ap (λ (i : ℕ). c.args.taken.now ++ i ∷ []) c.state_at.ensures in
+    let pushed : c.push.new.self ≡ c.args.taken.now ++ state_number grid.width c.node.result.cell ∷ [] =
+    c.in_ok-push-in-Some.ensures.pushed ∙ ap (λ (i : ℕ). c.args.taken.now ++ i ∷ []) c.state_at.ensures in
     subst (λ (l : Table). HasTaken grid c.args.ends.from c.args.ends.to c.in-Some.next l c.push.new.self) table
     (subst (λ (ns : List ℕ). HasTaken grid c.args.ends.from c.args.ends.to c.in-Some.next (closed_at c.in-Some.next (relaxed grid c.args.ends.to c.args.at k)) ns) (sym pushed) n)

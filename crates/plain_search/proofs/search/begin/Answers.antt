@@ -1,8 +1,7 @@
-use Rattle.std.proofs.Common.{◌≡◌, ◌∙◌, ◌<◌, ◌*◌, sym, ap, subst, arith, List, ℕ, [], ◌∷◌, ◌++◌, length}
+use Rattle.std.proofs.Common.{◌≡◌, ◌∙◌, ◌<◌, ◌*◌, sym, ap, subst, List, ℕ, [], ◌∷◌, ◌++◌, length}
 use Rattle.std.specs.Prelude.{OnOk, Ok, Err}
 use Rattle.std.specs.declared.result.Result.{Result}
-use Rattle.grid_moves.specs.declared.Cell.{Cell}
-use Rattle.grid_moves.specs.Grid.{GridData, is_free, cell_number}
+use Rattle.grid_moves.specs.Grid.{cell_number}
 use Rattle.grid_moves.proofs.Legal.{free_inside}
 use Rattle.grid_moves.proofs.Places.{number_below}
 use Rattle.plain_search.specs.Rule.{state_number}
@@ -27,5 +26,6 @@ returns-clause-taken g c =
     let table : c.begin.new.self.table ≡ begun grid.width t s index = c.in_ok-begin.ensures.begun ∙ ap (λ (w : ℕ). begun w t s index) c.width.ensures.is in
     let has = has_begun grid s t free index size inside in
     on_ok c.push.result c.push.ensures.pushed (λ p.
-    let numbers : c.push.new.self ≡ state_number grid.width s ∷ [] = p ∙ ap (λ (ns : List ℕ). ns ++ c.state_at.result ∷ []) c.requires.none ∙ ap (λ (n : ℕ). n ∷ []) c.state_at.ensures in
+    let numbers : c.push.new.self ≡ state_number grid.width s ∷ [] =
+    p ∙ ap (λ (ns : List ℕ). ns ++ c.state_at.result ∷ []) c.requires.none ∙ ap (λ (n : ℕ). n ∷ []) c.state_at.ensures in
     subst (λ (k : Table). HasTaken grid s t 0 k c.push.new.self) (sym table) (subst (λ (ns : List ℕ). HasTaken grid s t 0 (begun grid.width t s index) ns) (sym numbers) has))

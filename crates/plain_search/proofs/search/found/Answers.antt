@@ -1,6 +1,4 @@
-use Rattle.std.proofs.Common.{◌≡◌, ◌∙◌, sym, ap, subst, reverse}
-use Rattle.root2_cost.specs.declared.Cost.{Cost}
-use Rattle.grid_moves.specs.declared.Cell.{Cell}
+use Rattle.std.proofs.Common.{◌≡◌, ◌∙◌, sym, subst}
 use Rattle.plain_search.specs.Found.{IsFound}
 use Rattle.plain_search.specs.Trace.{HasBack, IsPointsTo}
 use Rattle.plain_search.specs.declared.node.Node.{Node}

@@ -1,4 +1,4 @@
-use Rattle.std.proofs.Common.{◌≡◌, ◌∙◌, ◌≤◌, ◌+◌, ℕ, length, sym, ap, subst, arith}
+use Rattle.std.proofs.Common.{◌≡◌, ◌+◌, ℕ, length, subst, arith}
 use Rattle.std.specs.Prelude.{Option, IfSome}
 use Rattle.plain_search.specs.Progress.{GoesOn}
 use Rattle.plain_search.proofs.Concluding.{taken_fits}

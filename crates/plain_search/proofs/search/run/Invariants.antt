@@ -1,4 +1,4 @@
-use Rattle.std.proofs.Common.{◌≡◌, ◌*◌, ◌-◌, length}
+use Rattle.std.proofs.Common.{◌*◌, ◌-◌, length}
 use Rattle.plain_search.specs.Progress.{HasTaken}
 use Rattle.plain_search.proofs.search.run.Given as goal
 

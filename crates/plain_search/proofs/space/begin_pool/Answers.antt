@@ -1,6 +1,6 @@
-use Rattle.std.proofs.Common.{◌≡◌, ℕ, zero, suc, refl, ap, sym, ◌∙◌, subst, Bool, true, false, List, [], ◌∷◌, ◌++◌}
-use Rattle.std.specs.Prelude.{Option, Some, None, IsNone, IfNone, IfSome, slice_get, slice_set, ◌↔◌}
-use Rattle.open_list.specs.OpenList.{OpenList, IsOpen, IsFirst, HasNoneOpen}
+use Rattle.std.proofs.Common.{◌≡◌, ℕ, zero, suc, refl, ap, ◌∙◌, true, false, [], ◌∷◌}
+use Rattle.std.specs.Prelude.{Option, Some, None, IsNone, IfSome, slice_get, slice_set}
+use Rattle.open_list.specs.OpenList.{OpenList, IsFirst, HasNoneOpen}
 use Rattle.plain_search.specs.declared.node.Node.{Node}
 use Rattle.plain_search.specs.Node.{ranks_before}
 use Rattle.plain_search.proofs.space.begin_pool.Goals as goal

@@ -1,8 +1,7 @@
-use Rattle.std.proofs.Common.{◌≡◌, ◌∙◌, sym, ap, arith, subst, false, List}
-use Rattle.std.proofs.lemmas.Bool.Decides.{nat_tests}
+use Rattle.std.proofs.Common.{◌≡◌, sym, arith, subst, false, List}
 use Rattle.grid_moves.specs.declared.Cell.{Cell}
 use Rattle.grid_moves.specs.Move.{is_same}
-use Rattle.grid_moves.proofs.Legal.{is_same-cell, same_cell}
+use Rattle.grid_moves.proofs.Legal.{is_same-cell}
 use Rattle.plain_search.specs.Trace.{AreCorners, AreCornersSoFar}
 use Rattle.plain_search.proofs.Tracing.{next_point, last_point}
 use Rattle.plain_search.proofs.trace.corners_back.Goals as goal

@@ -1,4 +1,4 @@
-use Rattle.std.proofs.Common.{◌≡◌, ◌∙◌, sym, ap, subst, arith, List, reverse}
+use Rattle.std.proofs.Common.{sym, subst, List}
 use Rattle.grid_moves.specs.declared.Cell.{Cell}
 use Rattle.plain_search.specs.Trace.{IsPointsTo}
 use Rattle.plain_search.proofs.Concluding.{in_order}

@@ -1,69 +1,88 @@
-use Rattle.std.proofs.Common.{◌≡◌, ◌∙◌, ◌+◌, ℕ, ap, inl, inr, arith, refl}
-use Rattle.std.specs.Prelude.{Option}
+use Rattle.std.proofs.Common.{◌≡◌, ◌∙◌, ◌+◌, ℕ, ap, inl, inr, refl, Bool, ◌&&◌}
 use Rattle.grid_moves.specs.declared.Cell.{Cell}
 use Rattle.grid_moves.specs.declared.Dir.TheVariants.{N, NE, SW, W, NW}
-use Rattle.grid_moves.specs.Grid.{GridData}
-use Rattle.plain_search.specs.Beside.{where_free, where_met}
+use Rattle.grid_moves.specs.Grid.{GridData, is_free}
+use Rattle.plain_search.specs.Beside.{if_open}
 use Rattle.plain_search.proofs.Besides.{straight, diagonal, stay, further, back, back_differs}
 use Rattle.plain_search.proofs.around.Around.of.Goals as goal
 
--- a corner of two cells that were read
-met_of : (g : GridData) (result column row : Option Cell) (u v : Cell) {answer : Option Cell}
-    → result ≡ where_met g column row → column ≡ where_free g u → row ≡ where_free g v
-    → where_met g (where_free g u) (where_free g v) ≡ answer → result ≡ answer
-met_of g result column row u v r e f a =
-    r ∙ ap (λ (o : Option Cell). where_met g o row) e ∙ ap (λ (o : Option Cell). where_met g (where_free g u) o) f ∙ a
+-- a straight move as it was read
+read : (g : GridData) (v : Cell) (b : Bool) {answer : _} → b ≡ is_free g v → if_open (is_free g v) v ≡ answer
+    → if_open b v ≡ answer
+read g v b e a = ap (λ (r : Bool). if_open r v) e ∙ a
+
+-- a diagonal move as it was read, after the straight ones beside it
+read_corner : (g : GridData) (u v w : Cell) (a b r : Bool) {answer : _} → a ≡ is_free g u → b ≡ is_free g v
+    → r ≡ (a && b && is_free g w) → if_open (is_free g u && is_free g v && is_free g w) w ≡ answer
+    → if_open r w ≡ answer
+read_corner g u v w a b r e f h s =
+    ap (λ (q : Bool). if_open q w) h ∙ ap (λ (q : Bool). if_open (q && b && is_free g w) w) e
+    ∙ ap (λ (q : Bool). if_open (is_free g u && q && is_free g w) w) f ∙ s
 
 pub returns-clause-n : goal.returns-clause-n
 returns-clause-n g c =
     let grid = g.T.Terrain.grid c.args.t.now in
-    let up = c.before-2.result in
-    let is = c.before-2.ensures in
-    c.free_cell-n.ensures
-    ∙ straight grid c.requires.whole c.args.c c.requires.free (record { x = c.args.c.x; y = up }) N
-    (stay c.args.c.x) (back c.args.c.y up is.some is.none) (λ e f. back_differs c.args.c.y up is.some is.none f) (inl refl)
+    let at = c.args.c in
+    let up = c.before-up in
+    let to : Cell = record { x = at.x; y = up.result } in
+    let differ : at.x ≡ to.x → at.y ≡ to.y → ⊥ = λ e f. back_differs at.y up.result up.ensures f in
+    let row = back at.y up.result up.ensures in
+    let legal = straight grid c.requires.whole at c.requires.free to N (stay at.x) row differ (inl refl) in
+    read grid to c.is_free_at-n.result c.is_free_at-n.ensures legal
 
 pub returns-clause-w : goal.returns-clause-w
 returns-clause-w g c =
     let grid = g.T.Terrain.grid c.args.t.now in
-    let left = c.before-3.result in
-    let is = c.before-3.ensures in
-    c.free_cell-w.ensures
-    ∙ straight grid c.requires.whole c.args.c c.requires.free (record { x = left; y = c.args.c.y }) W
-    (back c.args.c.x left is.some is.none) (stay c.args.c.y) (λ e f. back_differs c.args.c.x left is.some is.none e) (inr refl)
+    let at = c.args.c in
+    let left = c.before-left in
+    let to : Cell = record { x = left.result; y = at.y } in
+    let differ : at.x ≡ to.x → at.y ≡ to.y → ⊥ = λ e f. back_differs at.x left.result left.ensures e in
+    let column = back at.x left.result left.ensures in
+    let legal = straight grid c.requires.whole at c.requires.free to W column (stay at.y) differ (inr refl) in
+    read grid to c.is_free_at-w.result c.is_free_at-w.ensures legal
 
 pub returns-clause-ne : goal.returns-clause-ne
 returns-clause-ne g c =
     let grid = g.T.Terrain.grid c.args.t.now in
-    let up = c.before-2.result in
-    let is = c.before-2.ensures in
-    met_of grid c.corner.result c.free_cell-e.result c.free_cell-n.result
-    (record { x = c.args.c.x + 1; y = c.args.c.y }) (record { x = c.args.c.x; y = up })
-    c.corner.ensures c.free_cell-e.ensures c.free_cell-n.ensures
-    (diagonal grid c.requires.whole c.args.c c.requires.free (c.args.c.x + 1) up NE
-    (further c.args.c.x) (back c.args.c.y up is.some is.none) (λ e f. back_differs c.args.c.y up is.some is.none f))
+    let at = c.args.c in
+    let up = c.before-up in
+    let x : ℕ = at.x + 1 in
+    let y : ℕ = up.result in
+    let column = further at.x in
+    let row = back at.y up.result up.ensures in
+    let differ : at.x ≡ x → at.y ≡ y → ⊥ = λ e f. back_differs at.y up.result up.ensures f in
+    let legal = diagonal grid c.requires.whole at c.requires.free x y NE column row differ in
+    read_corner grid (record { x = x; y = at.y }) (record { x = at.x; y = y }) (record { x = x; y = y })
+    c.is_free_at-e.result c.is_free_at-n.result c.is_open_corner.result
+    c.is_free_at-e.ensures c.is_free_at-n.ensures c.is_open_corner.ensures legal
 
 pub returns-clause-sw : goal.returns-clause-sw
 returns-clause-sw g c =
     let grid = g.T.Terrain.grid c.args.t.now in
-    let left = c.before-3.result in
-    let is = c.before-3.ensures in
-    met_of grid c.corner-3.result c.free_cell-w.result c.free_cell-s.result
-    (record { x = left; y = c.args.c.y }) (record { x = c.args.c.x; y = c.args.c.y + 1 })
-    c.corner-3.ensures c.free_cell-w.ensures c.free_cell-s.ensures
-    (diagonal grid c.requires.whole c.args.c c.requires.free left (c.args.c.y + 1) SW
-    (back c.args.c.x left is.some is.none) (further c.args.c.y) (λ e f. back_differs c.args.c.x left is.some is.none e))
+    let at = c.args.c in
+    let left = c.before-left in
+    let x : ℕ = left.result in
+    let y : ℕ = at.y + 1 in
+    let column = back at.x left.result left.ensures in
+    let row = further at.y in
+    let differ : at.x ≡ x → at.y ≡ y → ⊥ = λ e f. back_differs at.x left.result left.ensures e in
+    let legal = diagonal grid c.requires.whole at c.requires.free x y SW column row differ in
+    read_corner grid (record { x = x; y = at.y }) (record { x = at.x; y = y }) (record { x = x; y = y })
+    c.is_free_at-w.result c.is_free_at-s.result c.is_open_corner-3.result
+    c.is_free_at-w.ensures c.is_free_at-s.ensures c.is_open_corner-3.ensures legal
 
 pub returns-clause-nw : goal.returns-clause-nw
 returns-clause-nw g c =
     let grid = g.T.Terrain.grid c.args.t.now in
-    let left = c.before-3.result in
-    let up = c.before-2.result in
-    let is = c.before-3.ensures in
-    let row = c.before-2.ensures in
-    met_of grid c.corner-4.result c.free_cell-w.result c.free_cell-n.result
-    (record { x = left; y = c.args.c.y }) (record { x = c.args.c.x; y = up })
-    c.corner-4.ensures c.free_cell-w.ensures c.free_cell-n.ensures
-    (diagonal grid c.requires.whole c.args.c c.requires.free left up NW
-    (back c.args.c.x left is.some is.none) (back c.args.c.y up row.some row.none)
-    (λ e f. back_differs c.args.c.x left is.some is.none e))
+    let at = c.args.c in
+    let left = c.before-left in
+    let up = c.before-up in
+    let x : ℕ = left.result in
+    let y : ℕ = up.result in
+    let column = back at.x left.result left.ensures in
+    let row = back at.y up.result up.ensures in
+    let differ : at.x ≡ x → at.y ≡ y → ⊥ = λ e f. back_differs at.x left.result left.ensures e in
+    let legal = diagonal grid c.requires.whole at c.requires.free x y NW column row differ in
+    read_corner grid (record { x = x; y = at.y }) (record { x = at.x; y = y }) (record { x = x; y = y })
+    c.is_free_at-w.result c.is_free_at-n.result c.is_open_corner-4.result
+    c.is_free_at-w.ensures c.is_free_at-n.ensures c.is_open_corner-4.ensures legal
