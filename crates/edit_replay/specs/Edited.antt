@@ -68,7 +68,7 @@ pub freed_then_blocked : (edited two_pillars (free_middle ∷ block_middle ∷ [
 unfolding edited
 freed_then_blocked = refl
 
--- an edit outside names no cell, though column 3 of row 0 would be column 0 of row 1
+-- an edit outside names no cell, though column 3 of the top row would count as column 0 of the next
 pub blocked_outside : (edited two_pillars (edit_at 3 0 false ∷ [])).free ≡ two_pillars.free
 unfolding edited
 blocked_outside = refl

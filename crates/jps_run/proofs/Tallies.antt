@@ -35,42 +35,54 @@ module _ (p : Row → Bool) (r : Row) (rows : List Row) where
       omega arith
 
 -- with no row that is off and none without a verdict, each is agree or near
-pub all_right : (rows : List Row) → count_by is_off rows ≡ 0 → count_by is_other rows ≡ 0 → list_all is_right rows ≡ true
+pub all_right : (rows : List Row) → count_by is_off rows ≡ 0 → count_by is_other rows ≡ 0
+    → list_all is_right rows ≡ true
 all_right [] f o = refl
 all_right (row.Scale ∷ rows) f o = counts is_other row.Scale rows refl o
 all_right (row.Outside ∷ rows) f o = counts is_other row.Outside rows refl o
 all_right (row.Blocked ∷ rows) f o = counts is_other row.Blocked rows refl o
 all_right (row.None ∷ rows) f o = counts is_other row.None rows refl o
 all_right (row.Judged Agree cost ∷ rows) f o =
-    all_right rows (sym (counts-not is_off (row.Judged Agree cost) rows refl) ∙ f) (sym (counts-not is_other (row.Judged Agree cost) rows refl) ∙ o)
+    all_right rows (sym (counts-not is_off (row.Judged Agree cost) rows refl) ∙ f)
+    (sym (counts-not is_other (row.Judged Agree cost) rows refl) ∙ o)
 all_right (row.Judged Near cost ∷ rows) f o =
-    all_right rows (sym (counts-not is_off (row.Judged Near cost) rows refl) ∙ f) (sym (counts-not is_other (row.Judged Near cost) rows refl) ∙ o)
+    all_right rows (sym (counts-not is_off (row.Judged Near cost) rows refl) ∙ f)
+    (sym (counts-not is_other (row.Judged Near cost) rows refl) ∙ o)
 all_right (row.Judged Off cost ∷ rows) f o = counts is_off (row.Judged Off cost) rows refl f
 
 -- and with one of them some row is neither
-pub some_wrong : (rows : List Row) → list_all is_right rows ≡ true → (count_by is_off rows ≡ 0) × (count_by is_other rows ≡ 0)
+pub some_wrong : (rows : List Row) → list_all is_right rows ≡ true
+    → (count_by is_off rows ≡ 0) × (count_by is_other rows ≡ 0)
 some_wrong [] h = (refl, refl)
 some_wrong (row.Scale ∷ rows) h = absurd (cc)
 some_wrong (row.Outside ∷ rows) h = absurd (cc)
 some_wrong (row.Blocked ∷ rows) h = absurd (cc)
 some_wrong (row.None ∷ rows) h = absurd (cc)
 some_wrong (row.Judged Agree cost ∷ rows) h =
-    let none = some_wrong rows h in
-    (counts-not is_off (row.Judged Agree cost) rows refl ∙ none.0, counts-not is_other (row.Judged Agree cost) rows refl ∙ none.1)
+    let none = some_wrong rows h in (
+      counts-not is_off (row.Judged Agree cost) rows refl
+          ∙ none.0,
+      counts-not is_other (row.Judged Agree cost) rows refl ∙ none.1,
+    )
 some_wrong (row.Judged Near cost ∷ rows) h =
-    let none = some_wrong rows h in
-    (counts-not is_off (row.Judged Near cost) rows refl ∙ none.0, counts-not is_other (row.Judged Near cost) rows refl ∙ none.1)
+    let none = some_wrong rows h in (
+      counts-not is_off (row.Judged Near cost) rows refl
+          ∙ none.0,
+      counts-not is_other (row.Judged Near cost) rows refl ∙ none.1,
+    )
 some_wrong (row.Judged Off cost ∷ rows) h = absurd (cc)
 
 -- so the status follows from the counts
-pub status_right : (t : Tally) (rows : List Row) → t ≡ tally_of rows → t.off ≡ 0 → t.other ≡ 0 → 0 ≡ scen_status rows
+pub status_right : (t : Tally) (rows : List Row) → t ≡ tally_of rows → t.off ≡ 0 → t.other ≡ 0
+    → 0 ≡ scen_status rows
 status_right t rows e f o =
     let no_off : count_by is_off rows ≡ 0 = ap (λ (u : Tally). u.off) (sym e) ∙ f in
     let no_other : count_by is_other rows ≡ 0 = ap (λ (u : Tally). u.other) (sym e) ∙ o in
     let right : list_all is_right rows ≡ true = all_right rows no_off no_other in
     ap (λ (b : Bool). if b then 0 else 1) (sym right)
 
-pub status_wrong : (t : Tally) (rows : List Row) → t ≡ tally_of rows → (t.off ≡ 0 → t.other ≡ 0 → ⊥) → 1 ≡ scen_status rows
+pub status_wrong : (t : Tally) (rows : List Row) → t ≡ tally_of rows → (t.off ≡ 0 → t.other ≡ 0 → ⊥)
+    → 1 ≡ scen_status rows
 status_wrong t rows e h = by_test (list_all is_right rows) refl
   where
     by_test : (b : Bool) → list_all is_right rows ≡ b → 1 ≡ scen_status rows

@@ -16,10 +16,12 @@ pub record PutsAnswer (g : GridData) (command : Command) (before now : List ℕ)
 
 -- the grid is that of one command more
 abbrev pub GoesOn : GridData → Command → GridData → Type 0
-GoesOn old command new = (m : GridData) (earlier : List Edit) → old ≡ edited m earlier → new ≡ edited m (earlier ++ edits_in (command ∷ []))
+GoesOn old command new = (m : GridData) (earlier : List Edit) → old ≡ edited m earlier
+    → new ≡ edited m (earlier ++ edits_in (command ∷ []))
 
 -- so many commands have their lines, and the grid is as their edits leave it
-pub record IsAnswering (g : GridData) (commands : List Command) (worked : ℕ) (before now : Option (List ℕ)) (faults faults_now : ℕ) (waiting : List ℕ) (session : GridData) : Type 0 where
+pub record IsAnswering (g : GridData) (commands : List Command) (worked : ℕ) (before now : Option (List ℕ))
+    (faults faults_now : ℕ) (waiting : List ℕ) (session : GridData) : Type 0 where
   pub lines : List (List ℕ)
   pub answers : AreMatched (AnswersAt g commands) (take worked commands) lines
   pub sent : AreSent before now faults faults_now waiting lines

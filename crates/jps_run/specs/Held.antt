@@ -21,9 +21,11 @@ pub record HoldsText {V F : Type 0} (reading : List ℕ → Result V F) (held : 
   pub spelled : reading text ≡ Ok value
 
 -- the held file is longer than that, or is read as a fault, and the line says so
-pub data IsRefused {V F : Type 0} (reading : List ℕ → Result V F) (kind : List ℕ) (line_of : F → List ℕ) (held : Held) (line : List ℕ) : Type 0 where
+pub data IsRefused {V F : Type 0} (reading : List ℕ → Result V F) (kind : List ℕ) (line_of : F → List ℕ)
+    (held : Held) (line : List ℕ) : Type 0 where
   too_long : IsLonger held longest_text → line ≡ long_line kind → IsRefused reading kind line_of held line
-  faulty : (text : List ℕ) (fault : F) → IsWhole held longest_text text → reading text ≡ Err fault → line ≡ line_of fault → IsRefused reading kind line_of held line
+  faulty : (text : List ℕ) (fault : F) → IsWhole held longest_text text → reading text ≡ Err fault
+      → line ≡ line_of fault → IsRefused reading kind line_of held line
 
 -- the held file spells this map
 abbrev pub HoldsMap : Held → Map → Type 0

@@ -70,12 +70,16 @@ pub data IsOutcomeOn (holds : List ℕ → Held) (m : Map) : Asked → Outcome �
       → IsOutcomeOn holds m (Query map sx sy gx gy pick show) (answered 0 line)
   no_script : (map script : List ℕ) (pick : Pick) (line : List ℕ) → IsScriptRefused (holds script) line
       → IsOutcomeOn holds m (Solve map script pick) (refused 3 line)
-  solved : (map script : List ℕ) (pick : Pick) (commands : List Command) (lines : List (List ℕ)) → HoldsScript (holds script) commands
-      → AreAnswers (map_grid m) commands lines → IsOutcomeOn holds m (Solve map script pick) (answered 0 (concat lines))
+  solved : (map script : List ℕ) (pick : Pick) (commands : List Command) (lines : List (List ℕ))
+      → HoldsScript (holds script) commands
+      → AreAnswers (map_grid m) commands lines → IsOutcomeOn holds m (Solve map script pick)
+      (answered 0 (concat lines))
   no_scen : (map scen : List ℕ) (pick : Pick) (line : List ℕ) → IsScenRefused (holds scen) line
       → IsOutcomeOn holds m (Scen map scen pick) (refused 3 line)
-  judged : (map scen : List ℕ) (pick : Pick) (entries : List Entry) (rows : List Row) → HoldsScen (holds scen) entries
-      → AreRows (map_grid m) entries rows → IsOutcomeOn holds m (Scen map scen pick) (answered (scen_status rows) (concat (scen_lines rows)))
+  judged : (map scen : List ℕ) (pick : Pick) (entries : List Entry) (rows : List Row)
+      → HoldsScen (holds scen) entries
+      → AreRows (map_grid m) entries rows → IsOutcomeOn holds m (Scen map scen pick)
+      (answered (scen_status rows) (concat (scen_lines rows)))
 
 -- the request's map is this one
 pub record HasMap (words : List (List ℕ)) (holds : List ℕ → Held) (asked : Asked) (m : Map) : Type 0 where
@@ -86,19 +90,24 @@ pub record HasMap (words : List (List ℕ)) (holds : List ℕ → Held) (asked :
 
 -- what words and held files come to: the first of these that applies
 pub data IsOutcome (words : List (List ℕ)) (holds : List ℕ → Held) : Outcome → Type 0 where
-  bad_word : (number : ℕ) → IsBadWord any_request words number → IsOutcome words holds (refused 2 (word_line number))
+  bad_word : (number : ℕ) → IsBadWord any_request words number
+      → IsOutcome words holds (refused 2 (word_line number))
   help : Ask words Help → IsOutcome words holds (answered 0 help_text)
   version : Ask words Version → IsOutcome words holds (answered 0 version_text)
-  no_map : (asked : Asked) (name line : List ℕ) → Ask words asked → map_named asked ≡ Some name → IsMapRefused (holds name) line
+  no_map : (asked : Asked) (name line : List ℕ) → Ask words asked → map_named asked ≡ Some name
+      → IsMapRefused (holds name) line
       → IsOutcome words holds (refused 3 line)
-  on_map : (asked : Asked) (m : Map) (outcome : Outcome) → HasMap words holds asked m → IsOutcomeOn holds m asked outcome
+  on_map : (asked : Asked) (m : Map) (outcome : Outcome) → HasMap words holds asked m
+      → IsOutcomeOn holds m asked outcome
       → IsOutcome words holds outcome
 
 -- the first lines of a request's right output on its map
 pub data AreFirstOn (holds : List ℕ → Held) (m : Map) : Asked → List (List ℕ) → Type 0 where
-  answers : (map script : List ℕ) (pick : Pick) (commands : List Command) (lines : List (List ℕ)) → HoldsScript (holds script) commands
+  answers : (map script : List ℕ) (pick : Pick) (commands : List Command) (lines : List (List ℕ))
+      → HoldsScript (holds script) commands
       → AreFirstAnswers (map_grid m) commands lines → AreFirstOn holds m (Solve map script pick) lines
-  rows : (map scen : List ℕ) (pick : Pick) (entries : List Entry) (lines : List (List ℕ)) → HoldsScen (holds scen) entries
+  rows : (map scen : List ℕ) (pick : Pick) (entries : List Entry) (lines : List (List ℕ))
+      → HoldsScen (holds scen) entries
       → AreFirstRows (map_grid m) entries lines → AreFirstOn holds m (Scen map scen pick) lines
 
 -- the first lines of the right output of words and held files

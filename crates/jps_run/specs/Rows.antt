@@ -47,7 +47,8 @@ row_text row.Scale = codes "scale"
 row_text row.Outside = codes "outside"
 row_text row.Blocked = codes "blocked"
 row_text row.None = codes "none"
-row_text (row.Judged verdict cost) = verdict_text verdict ++ codes " " ++ decimal cost.a ++ codes " " ++ decimal cost.b
+row_text (row.Judged verdict cost) = verdict_text verdict ++ codes " " ++ decimal cost.a ++ codes " " ++
+    decimal cost.b
 
 -- the line of the row with this number
 abbrev pub row_line : ℕ → Row → List ℕ
@@ -96,5 +97,6 @@ scen_lines rows = row_lines 1 rows ++ sum_line rows ∷ []
 
 -- the first lines of it: the rows of the first entries, or all rows and the sum
 pub data AreFirstRows (g : GridData) (entries : List Entry) (lines : List (List ℕ)) : Type 0 where
-  some : (worked : ℕ) (rows : List Row) → AreRows g (take worked entries) rows → lines ≡ row_lines 1 rows → AreFirstRows g entries lines
+  some : (worked : ℕ) (rows : List Row) → AreRows g (take worked entries) rows → lines ≡ row_lines 1 rows
+      → AreFirstRows g entries lines
   all : (rows : List Row) → AreRows g entries rows → lines ≡ scen_lines rows → AreFirstRows g entries lines

@@ -17,7 +17,7 @@ pub(crate) struct Around {
     pub(crate) left: u16,
     /// The column after.
     pub(crate) right: u16,
-    /// The row before, or 65535 before row 0.
+    /// The row before, or 65535 before the first.
     pub(crate) up: u16,
     /// The row after.
     pub(crate) down: u16,

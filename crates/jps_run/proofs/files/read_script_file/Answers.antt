@@ -6,6 +6,8 @@ use Rattle.jps_run.proofs.files.read_script_file.Goals as goal
 
 pub returns-clause-read : goal.returns-clause-read
 returns-clause-read g c =
-    refused_script (g.F.Files.holds c.args.files.now c.args.name.now) c.in_ok-text.text.items _ c.in-Err.fault c.in_ok-text.ensures.read c.in_ok-script_line-in-Err.ensures.0
-    (subst (λ (text : List ℕ). Tells (Err c.in-Err.fault) (script_of text)) c.as_slice.ensures.value c.in-Err.ensures.exact)
+    refused_script (g.F.Files.holds c.args.files.now c.args.name.now) c.in_ok-text.text.items _ c.in-Err.fault
+    c.in_ok-text.ensures.read c.in_ok-script_line-in-Err.ensures.0
+    (subst (λ (text : List ℕ). Tells (Err c.in-Err.fault) (script_of text)) c.as_slice.ensures.value
+    c.in-Err.ensures.exact)
     c.in_ok-script_line-in-Err.ensures.1

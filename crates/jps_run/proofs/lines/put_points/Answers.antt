@@ -11,4 +11,5 @@ loop-c-preserved c =
     let so_far : List ℕ = points_text (take c.loop-c.c-index c.args.cells.now) in
     c.in_ok-put_point.ensures ∙ ap (λ (text : List ℕ). text ++ point_text now) c.loop-c.invariant
     ∙ append_assoc c.args.out.now.items so_far (point_text now)
-    ∙ ap (λ (text : List ℕ). c.args.out.now.items ++ text) (sym (points_text-next c.args.cells.now c.loop-c.c-index first c.loop-c-test.true))
+    ∙ ap (λ (text : List ℕ). c.args.out.now.items ++ text)
+    (sym (points_text-next c.args.cells.now c.loop-c.c-index first c.loop-c-test.true))

@@ -5,10 +5,13 @@ use Rattle.jps_run.proofs.query.query_line.Goals as goal
 
 pub put_reply-requires : goal.put_reply-requires
 put_reply-requires g c =
-    replied_unfolds c.in_ok-session.session (record { x = c.args.ends.sx; y = c.args.ends.sy }) (record { x = c.args.ends.gx; y = c.args.ends.gy }) c.in_ok-reply.reply c.in_ok-reply.ensures.right
+    replied_unfolds c.in_ok-session.session (record { x = c.args.ends.sx; y = c.args.ends.sy })
+    (record { x = c.args.ends.gx; y = c.args.ends.gy }) c.in_ok-reply.reply c.in_ok-reply.ensures.right
 
 pub returns : goal.returns
 returns g c =
-    right_line (grid_of c.args.map.now.width c.args.map.now.height c.args.map.now.cells) c.in_ok-session.session
-    (record { x = c.args.ends.sx; y = c.args.ends.sy }) (record { x = c.args.ends.gx; y = c.args.ends.gy }) c.args.show (answer_of c.in_ok-reply.reply) c.put_reply.new.out.items
+    right_line (grid_of c.args.map.now.width c.args.map.now.height c.args.map.now.cells)
+    c.in_ok-session.session
+    (record { x = c.args.ends.sx; y = c.args.ends.sy }) (record { x = c.args.ends.gx; y = c.args.ends.gy })
+    c.args.show (answer_of c.in_ok-reply.reply) c.put_reply.new.out.items
     c.in_ok-session.ensures c.in_ok-reply.ensures.right c.new-line.ensures.items c.in_ok-put_reply.ensures
