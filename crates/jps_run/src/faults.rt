@@ -52,7 +52,8 @@ fn fault_line(alloc: Global, kind: &[u8], name: &[u8], number: u32) -> Result<Ve
 
 // The line of a map's byte that is no terrain.
 fn map_byte_line(alloc: Global, number: u32, column: u32) -> Result<Vec<u8>, NoMemory>
-    ensures { IfOk result (λ line. line.items ≡ codes "jps: map M5 line " ++ decimal number ++ codes " column " ++ decimal column ++ codes "\n") }
+    ensures { IfOk result (λ line. line.items ≡ codes "jps: map M5 line " ++ decimal number ++ codes
+        " column " ++ decimal column ++ codes "\n") }
 {
     let mut line = Vec::new(alloc);
     put(&mut line, b"jps: map M5 line ")?;

@@ -26,7 +26,9 @@ fn read_text<F: Files>(
     name: &str,
     kind: &[u8],
 ) -> Result<Vec<u8>, Stop>
-    ensures read { ReadsSo (λ text. IsWhole (F.holds files.old name.now) longest_text text.items) (IsTooLong kind.now (F.holds files.old name.now)) (F.faults files.old name.now) (F.faults files.new name.now) result }
+    ensures read { ReadsSo (λ text. IsWhole (F.holds files.old name.now) longest_text text.items)
+        (IsTooLong kind.now (F.holds files.old name.now)) (F.faults files.old name.now)
+        (F.faults files.new name.now) result }
     ensures unchanged { F.holds files.new ≡ F.holds files.old }
     ensures later { NoneFell (F.faults files.old) (F.faults files.new) }
 {
@@ -44,7 +46,9 @@ pub(crate) fn read_map_file<F: Files>(
     files: &mut F,
     name: &str,
 ) -> Result<MapText, Stop>
-    ensures read { ReadsSo (λ m. HoldsMap (F.holds files.old name.now) (plain m)) (IsMapRefused (F.holds files.old name.now)) (F.faults files.old name.now) (F.faults files.new name.now) result }
+    ensures read { ReadsSo (λ m. HoldsMap (F.holds files.old name.now) (plain m))
+        (IsMapRefused (F.holds files.old name.now)) (F.faults files.old name.now)
+        (F.faults files.new name.now) result }
     ensures unchanged { F.holds files.new ≡ F.holds files.old }
     ensures later { NoneFell (F.faults files.old) (F.faults files.new) }
 {
@@ -61,7 +65,9 @@ pub(crate) fn read_script_file<F: Files>(
     files: &mut F,
     name: &str,
 ) -> Result<Vec<Command>, Stop>
-    ensures read { ReadsSo (λ commands. HoldsScript (F.holds files.old name.now) commands.items) (IsScriptRefused (F.holds files.old name.now)) (F.faults files.old name.now) (F.faults files.new name.now) result }
+    ensures read { ReadsSo (λ commands. HoldsScript (F.holds files.old name.now) commands.items)
+        (IsScriptRefused (F.holds files.old name.now)) (F.faults files.old name.now)
+        (F.faults files.new name.now) result }
     ensures unchanged { F.holds files.new ≡ F.holds files.old }
     ensures later { NoneFell (F.faults files.old) (F.faults files.new) }
 {
@@ -78,7 +84,9 @@ pub(crate) fn read_scen_file<F: Files>(
     files: &mut F,
     name: &str,
 ) -> Result<Vec<Entry>, Stop>
-    ensures read { ReadsSo (λ entries. HoldsScen (F.holds files.old name.now) entries.items) (IsScenRefused (F.holds files.old name.now)) (F.faults files.old name.now) (F.faults files.new name.now) result }
+    ensures read { ReadsSo (λ entries. HoldsScen (F.holds files.old name.now) entries.items)
+        (IsScenRefused (F.holds files.old name.now)) (F.faults files.old name.now)
+        (F.faults files.new name.now) result }
     ensures kept { IfOk result (λ entries. AreKept entries.items) }
     ensures unchanged { F.holds files.new ≡ F.holds files.old }
     ensures later { NoneFell (F.faults files.old) (F.faults files.new) }

@@ -38,7 +38,8 @@ pub(crate) fn query_line<L: Ledger>(
     show: Show,
     steps: &mut Steps<L>,
 ) -> Result<Vec<u8>, NoMemory>
-    ensures { IfOk result (λ line. IsRightLine (grid_of map.now.width map.now.height map.now.cells) (record { x = ends.sx; y = ends.sy }) (record { x = ends.gx; y = ends.gy }) show line.items) }
+    ensures { IfOk result (λ line. IsRightLine (grid_of map.now.width map.now.height map.now.cells)
+        (record { x = ends.sx; y = ends.sy }) (record { x = ends.gx; y = ends.gy }) show line.items) }
 {
     let mut session = Session::new(alloc, map, engine_of(pick))?;
     let reply = session.query(alloc, ends.sx, ends.sy, ends.gx, ends.gy, steps)?;

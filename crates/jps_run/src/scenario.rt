@@ -58,7 +58,8 @@ pub(crate) fn write_rows<O: Sink, L: Ledger>(
     requires wide { width ≡ session.old.width }
     requires high { height ≡ session.old.height }
     requires kept { AreKept entries.now }
-    ensures { WritesLines (AreAllRows session.old entries.now) (AreFirstRows session.old entries.now) (O.written out.old) (O.written out.new) (O.faults out.old) (O.faults out.new) result }
+    ensures { WritesLines (AreAllRows session.old entries.now) (AreFirstRows session.old entries.now)
+        (O.written out.old) (O.written out.new) (O.faults out.old) (O.faults out.new) result }
 {
     let mut lines = Vec::new(alloc);
     let mut tally = Tally::new();

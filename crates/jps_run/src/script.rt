@@ -47,7 +47,9 @@ pub(crate) fn write_answers<O: Sink, L: Ledger>(
     out: &mut O,
     steps: &mut Steps<L>,
 ) -> Result<(), Stop>
-    ensures { WritesLines (λ _ lines. AreAnswers session.old commands.now lines) (AreFirstAnswers session.old commands.now) (O.written out.old) (O.written out.new) (O.faults out.old) (O.faults out.new) result }
+    ensures { WritesLines (λ _ lines. AreAnswers session.old commands.now lines)
+        (AreFirstAnswers session.old commands.now) (O.written out.old) (O.written out.new) (O.faults out.old)
+        (O.faults out.new) result }
 {
     let mut lines = Vec::new(alloc);
     for command in commands {

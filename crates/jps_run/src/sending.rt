@@ -12,7 +12,8 @@ const PIECE: usize = 1 << 16;
 
 /// Writes the bytes.
 pub(crate) fn write_out<O: Sink>(out: &mut O, bytes: &[u8]) -> Result<(), Stop>
-    ensures wrote { WritesSo (O.written out.old) (O.written out.new) (O.faults out.old) (O.faults out.new) bytes.now result }
+    ensures wrote { WritesSo (O.written out.old) (O.written out.new) (O.faults out.old) (O.faults out.new)
+        bytes.now result }
     ensures later { O.faults out.old ≤ O.faults out.new }
 {
     match write_whole(out, bytes) {
@@ -23,7 +24,8 @@ pub(crate) fn write_out<O: Sink>(out: &mut O, bytes: &[u8]) -> Result<(), Stop>
 
 /// Writes the lines that wait, once they are many.
 pub(crate) fn send_full<O: Sink>(out: &mut O, waiting: &mut Vec<u8>) -> Result<(), Stop>
-    ensures sent { SendsSo (O.written out.old) (O.written out.new) (O.faults out.old) (O.faults out.new) waiting.old.items waiting.new.items result }
+    ensures sent { SendsSo (O.written out.old) (O.written out.new) (O.faults out.old) (O.faults out.new)
+        waiting.old.items waiting.new.items result }
     ensures later { O.faults out.old ≤ O.faults out.new }
 {
     if PIECE <= waiting.len() {

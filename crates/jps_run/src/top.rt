@@ -34,7 +34,10 @@ fn query<F: Files, O: Sink, L: Ledger>(
     show: Show,
     steps: &mut Steps<L>,
 ) -> Result<u8, Stop>
-    ensures worked { (words : List (List ℕ)) → Ask words (asked.Query map.now ends.sx ends.sy ends.gx ends.gy pick show) → HasWorked words (F.holds files.old) (F.faults files.old) (F.faults files.new) (O.written out.old) (O.written out.new) (O.faults out.old) (O.faults out.new) result }
+    ensures worked { (words : List (List ℕ)) → Ask words
+        (asked.Query map.now ends.sx ends.sy ends.gx ends.gy pick show)
+        → HasWorked words (F.holds files.old) (F.faults files.old) (F.faults files.new) (O.written out.old)
+        (O.written out.new) (O.faults out.old) (O.faults out.new) result }
     ensures unchanged { F.holds files.new ≡ F.holds files.old }
 {
     let map = read_map_file(alloc, files, map)?;
@@ -53,7 +56,9 @@ fn solve<F: Files, O: Sink, L: Ledger>(
     pick: Pick,
     steps: &mut Steps<L>,
 ) -> Result<u8, Stop>
-    ensures worked { (words : List (List ℕ)) → Ask words (asked.Solve map.now script.now pick) → HasWorked words (F.holds files.old) (F.faults files.old) (F.faults files.new) (O.written out.old) (O.written out.new) (O.faults out.old) (O.faults out.new) result }
+    ensures worked { (words : List (List ℕ)) → Ask words (asked.Solve map.now script.now pick)
+        → HasWorked words (F.holds files.old) (F.faults files.old) (F.faults files.new) (O.written out.old)
+        (O.written out.new) (O.faults out.old) (O.faults out.new) result }
     ensures unchanged { F.holds files.new ≡ F.holds files.old }
 {
     let map = read_map_file(alloc, files, map)?;
@@ -73,7 +78,9 @@ fn judge<F: Files, O: Sink, L: Ledger>(
     pick: Pick,
     steps: &mut Steps<L>,
 ) -> Result<u8, Stop>
-    ensures worked { (words : List (List ℕ)) → Ask words (asked.Scen map.now scen.now pick) → HasWorked words (F.holds files.old) (F.faults files.old) (F.faults files.new) (O.written out.old) (O.written out.new) (O.faults out.old) (O.faults out.new) result }
+    ensures worked { (words : List (List ℕ)) → Ask words (asked.Scen map.now scen.now pick)
+        → HasWorked words (F.holds files.old) (F.faults files.old) (F.faults files.new) (O.written out.old)
+        (O.written out.new) (O.faults out.old) (O.faults out.new) result }
     ensures unchanged { F.holds files.new ≡ F.holds files.old }
 {
     let map = read_map_file(alloc, files, map)?;
@@ -99,7 +106,9 @@ fn work<F: Files, O: Sink, L: Ledger>(
     steps: &mut Steps<L>,
 ) -> Result<u8, Stop>
     requires { length words.now < 2 ^ 31 }
-    ensures worked { HasWorked (map string_bytes words.now) (F.holds files.old) (F.faults files.old) (F.faults files.new) (O.written out.old) (O.written out.new) (O.faults out.old) (O.faults out.new) result }
+    ensures worked { HasWorked (map string_bytes words.now) (F.holds files.old) (F.faults files.old)
+        (F.faults files.new) (O.written out.old) (O.written out.new) (O.faults out.old) (O.faults out.new)
+        result }
     ensures unchanged { F.holds files.new ≡ F.holds files.old }
 {
     let request = match read_words(words) {
@@ -168,16 +177,23 @@ pub fn run<F: Files, I: Source, O: Sink, E: Sink, L: Ledger>(
     ensures statuses { result ≤ 6 }
     // The headline: the status, the output and the line are those of the outcome; a line that
     // answers a query is that of a right reply, on the grid as the edits before it leave it.
-    ensures outcome { result ≤ 3 → Comes (map string_bytes words.now) (F.holds files.old) result (O.written out.old) (O.written out.new) (E.written err.old) (E.written err.new) (E.faults err.old) (E.faults err.new) }
+    ensures outcome { result ≤ 3 → Comes (map string_bytes words.now) (F.holds files.old) result
+        (O.written out.old) (O.written out.new) (E.written err.old) (E.written err.new) (E.faults err.old)
+        (E.faults err.new) }
     // A read fault has its cause: the count of a file that the words name rose. Nothing was written.
-    ensures read { result ≡ 4 → FileRose (map string_bytes words.now) (F.faults files.old) (F.faults files.new) × Appends (O.written out.old) (O.written out.new) [] }
+    ensures read { result ≡ 4 → FileRose (map string_bytes words.now) (F.faults files.old)
+        (F.faults files.new) × Appends (O.written out.old) (O.written out.new) [] }
     // A write fault has its cause, and a first part of a right output was written.
-    ensures write { result ≡ 5 → Rose (O.faults out.old) (O.faults out.new) × HasPart (map string_bytes words.now) (F.holds files.old) (O.written out.old) (O.written out.new) }
+    ensures write { result ≡ 5 → Rose (O.faults out.old) (O.faults out.new) × HasPart
+        (map string_bytes words.now) (F.holds files.old) (O.written out.old) (O.written out.new) }
     // On want of memory whole lines were written, the first ones of a right output, or nothing.
-    ensures memory { result ≡ 6 → HasLines (map string_bytes words.now) (F.holds files.old) (O.written out.old) (O.written out.new) }
-    ensures line { 4 ≤ result → Gets (E.written err.old) (E.written err.new) (E.faults err.old) (E.faults err.new) (ending_line result) }
+    ensures memory { result ≡ 6 → HasLines (map string_bytes words.now) (F.holds files.old)
+        (O.written out.old) (O.written out.new) }
+    ensures line { 4 ≤ result → Gets (E.written err.old) (E.written err.new) (E.faults err.old)
+        (E.faults err.new) (ending_line result) }
     // Where no count rose, the status is an outcome's or that of want of memory.
-    ensures complete { ¬ FileRose (map string_bytes words.now) (F.faults files.old) (F.faults files.new) → ¬ Rose (O.faults out.old) (O.faults out.new) → (result ≤ 3) ⊎ (result ≡ 6) }
+    ensures complete { ¬ FileRose (map string_bytes words.now) (F.faults files.old) (F.faults files.new)
+        → ¬ Rose (O.faults out.old) (O.faults out.new) → (result ≤ 3) ⊎ (result ≡ 6) }
     ensures unchanged { F.holds files.new ≡ F.holds files.old }
 {
     match work(alloc, words, files, out, steps) {

@@ -27,31 +27,39 @@ pub goes_nowhere : (g : GridData) (s : Cell) → is_free g s ≡ true → Goes g
 goes_nowhere g s f = record { legal = f; ends = refl; priced = refl }
 
 -- one more move
-pub one_more : (g : GridData) (s p v : Cell) (cells : List Cell) (cost : Cost) → Goes g s p cells cost → is_legal g p v ≡ true → Goes g s v (cells ++ (v ∷ [])) (add_costs cost (move_cost p v))
+pub one_more : (g : GridData) (s p v : Cell) (cells : List Cell) (cost : Cost) → Goes g s p cells cost
+    → is_legal g p v ≡ true → Goes g s v (cells ++ (v ∷ [])) (add_costs cost (move_cost p v))
 one_more g s p v [] cost w l =
     let here : is_legal g s v ≡ true = subst (λ (c : Cell). is_legal g c v ≡ true) (sym w.ends) l in
     record {
       legal = rw here (legal_is g p v l).target;
       ends = refl;
-      priced = add_costs-no_cost_right (move_cost s v) ∙ ap (λ (c : Cell). move_cost c v) w.ends ∙ sym (add_costs-no_cost_left (move_cost p v)) ∙ ap (λ (c : Cost). add_costs c (move_cost p v)) w.priced;
+      priced = add_costs-no_cost_right (move_cost s v) ∙ ap (λ (c : Cell). move_cost c v) w.ends
+          ∙ sym (add_costs-no_cost_left (move_cost p v))
+          ∙ ap (λ (c : Cost). add_costs c (move_cost p v)) w.priced;
     }
 one_more g s p v (d ∷ cells) cost w l =
     let parts = and_both (is_legal g s d) (is_walk g (d ∷ cells)) w.legal in
-    let rest = one_more g d p v cells (cost_of (d ∷ cells)) (record { legal = parts.1; ends = w.ends; priced = refl }) l in
+    let rest = one_more g d p v cells (cost_of (d ∷ cells))
+    (record { legal = parts.1; ends = w.ends; priced = refl }) l in
     record {
       legal = rw (parts.0, rest.legal) refl;
       ends = rest.ends;
-      priced = ap (λ (c : Cost). add_costs (move_cost s d) c) rest.priced ∙ sym (add_costs-assoc (move_cost s d) (cost_of (d ∷ cells)) (move_cost p v)) ∙ ap (λ (c : Cost). add_costs c (move_cost p v)) w.priced;
+      priced = ap (λ (c : Cost). add_costs (move_cost s d) c) rest.priced
+          ∙ sym (add_costs-assoc (move_cost s d) (cost_of (d ∷ cells)) (move_cost p v))
+          ∙ ap (λ (c : Cost). add_costs c (move_cost p v)) w.priced;
     }
 
 abbrev cost_in : Option Cost → Cost
 cost_in None = no_cost
 cost_in (Some k) = k
 
-pub link_legal : (g : GridData) (u v : Cell) (c : Cost) → move_link g u v ≡ Some c → (is_legal g u v ≡ true) × (c ≡ move_cost u v)
+pub link_legal : (g : GridData) (u v : Cell) (c : Cost) → move_link g u v ≡ Some c
+    → (is_legal g u v ≡ true) × (c ≡ move_cost u v)
 link_legal g u v c e = by_test (is_legal g u v) refl e
   where
-    by_test : (b : Bool) → is_legal g u v ≡ b → (if b then Some (move_cost u v) else None) ≡ Some c → (is_legal g u v ≡ true) × (c ≡ move_cost u v)
+    by_test : (b : Bool) → is_legal g u v ≡ b → (if b then Some (move_cost u v) else None) ≡ Some c
+        → (is_legal g u v ≡ true) × (c ≡ move_cost u v)
     by_test true l e = (l, ap (λ (o : Option Cost). cost_in o) (sym e))
     by_test false l e = absurd (cc)
 
@@ -68,8 +76,10 @@ plain_consistent g t = record {
 }
 
 -- a walk is a chain of its cost
-pub walk_chain : (g : GridData) (t s : Cell) (cells : List Cell) → is_walk g (s ∷ cells) ≡ true → Chain (plain_rule g t) s (last_of s cells) (cost_of (s ∷ cells))
+pub walk_chain : (g : GridData) (t s : Cell) (cells : List Cell) → is_walk g (s ∷ cells) ≡ true
+    → Chain (plain_rule g t) s (last_of s cells) (cost_of (s ∷ cells))
 walk_chain g t s [] w = stays s
 walk_chain g t s (v ∷ cells) w =
     let parts = and_both (is_legal g s v) (is_walk g (v ∷ cells)) w in
-    goes_on s v (last_of v cells) (move_cost s v) (cost_of (v ∷ cells)) (legal_link g s v parts.0) (walk_chain g t v cells parts.1)
+    goes_on s v (last_of v cells) (move_cost s v) (cost_of (v ∷ cells)) (legal_link g s v parts.0)
+    (walk_chain g t v cells parts.1)

@@ -32,7 +32,8 @@ holds_cell (Some n) c = is_same n.cell c
 -- the number of a cell's node: what the index has for the cell, where that is the number of a node of the cell
 abbrev pub lookup : Table → ℕ → Cell → Option ℕ
 lookup k width c =
-    let id = slice_index_or k.index (cell_number width c) 0 in (if holds_cell (slice_get k.nodes id) c then Some id else None)
+    let id = slice_index_or k.index (cell_number width c) 0 in
+    (if holds_cell (slice_get k.nodes id) c then Some id else None)
 
 -- with a new node, which is open
 abbrev pub added : ℕ → Node → Table → Table
@@ -85,7 +86,8 @@ offered_over (Some v) width goal id u k =
 
 -- what a node offers in these directions, in their order
 abbrev pub offered_ahead : GridData → Cell → ℕ → Node → Table → List Dir → Table
-offered_ahead g goal id u k dirs = fold (λ k d. offered_over (legal_ahead g u.cell d) g.width goal id u k) k dirs
+offered_ahead g goal id u k dirs = fold (λ k d. offered_over (legal_ahead g u.cell d) g.width goal id u k) k
+    dirs
 
 -- the node of that number offers in all directions
 abbrev pub relaxed_by : GridData → Cell → ℕ → Option Node → Table → Table
@@ -112,7 +114,8 @@ pub record IsFirstNode (k : Table) (id : ℕ) : Type 0 where
   pub node : Node
   pub node_is : slice_get k.nodes id ≡ Some node
   pub is_open : slice_get k.open_at id ≡ Some true
-  pub first : (other : ℕ) (x : Node) → slice_get k.open_at other ≡ Some true → slice_get k.nodes other ≡ Some x → ranks_before x node ≡ false
+  pub first : (other : ℕ) (x : Node) → slice_get k.open_at other ≡ Some true
+      → slice_get k.nodes other ≡ Some x → ranks_before x node ≡ false
 
 -- no node is open
 abbrev pub NoneOpen : Table → Type 0

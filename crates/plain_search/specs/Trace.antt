@@ -24,7 +24,8 @@ pub record AreCorners (k : Table) (start : Cell) (n : Node) (points : List Cell)
   pub is_corners : points ≡ corners cells
 
 -- the points so far, with the turns after `before` on the way back from the node, are those corners
-pub record AreCornersSoFar (k : Table) (start : Cell) (first : Node) (points : List Cell) (before : Cell) (n : Node) : Type 0 where
+pub record AreCornersSoFar (k : Table) (start : Cell) (first : Node) (points : List Cell) (before : Cell)
+    (n : Node) : Type 0 where
   pub cells : List Cell
   pub is_back : IsBack k start first cells
   pub rest : List Cell

@@ -7,7 +7,10 @@ use Rattle.plain_search.proofs.search.run.Goals as goal
 pub taking-smaller : goal.taking-smaller
 taking-smaller g c =
     let grid = g.T.Terrain.grid c.args.t.now in
-    let taken = subst (λ (o : Option ℕ). GoesOn grid c.args.ends.from c.args.ends.to c.advance.new.space.table c.advance.new.taken o) c.in-Some.is c.in_ok-next.ensures.goes_on in
-    let fits = taken_fits grid c.args.ends.from c.args.ends.to c.in-Some.next c.advance.new.space.table c.advance.new.taken c.requires.from taken in
-    let more = subst (λ (o : Option ℕ). IfSome o (λ id. length c.advance.new.taken ≡ length c.taking.taken + 1)) c.in-Some.is c.in_ok-next.ensures.one_more in
+    let taken = subst (λ (o : Option ℕ). GoesOn grid c.args.ends.from c.args.ends.to c.advance.new.space.table
+    c.advance.new.taken o) c.in-Some.is c.in_ok-next.ensures.goes_on in
+    let fits = taken_fits grid c.args.ends.from c.args.ends.to c.in-Some.next c.advance.new.space.table
+    c.advance.new.taken c.requires.from taken in
+    let more = subst (λ (o : Option ℕ). IfSome o (λ id. length c.advance.new.taken ≡ length c.taking.taken +
+    1)) c.in-Some.is c.in_ok-next.ensures.one_more in
     omega arith

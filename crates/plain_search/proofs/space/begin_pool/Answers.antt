@@ -9,13 +9,18 @@ at_zero : (id : ℕ) → slice_get (true ∷ []) id ≡ Some true → slice_set 
 at_zero zero h = refl
 at_zero (suc id) h = absurd (cc)
 
-one_closed : (old new : OpenList Node) (result : Option ℕ) → old.open_at ≡ true ∷ [] → (IsNone result → HasNoneOpen old) → IfSome result (λ id. IsFirst ranks_before old id) → IfSome result (λ id. new ≡ record old { open_at = slice_set old.open_at id false }) → new.open_at ≡ false ∷ []
+one_closed : (old new : OpenList Node) (result : Option ℕ) → old.open_at ≡ true ∷ []
+    → (IsNone result → HasNoneOpen old) → IfSome result (λ id. IsFirst ranks_before old id)
+    → IfSome result (λ id. new ≡ record old { open_at = slice_set old.open_at id false })
+    → new.open_at ≡ false ∷ []
 one_closed old new None o none first closed = absurd (none refl 0 (rw o refl))
 one_closed old new (Some id) o none first closed =
     ap (λ (p : OpenList Node). p.open_at) closed ∙ rw o (at_zero id (rw o at first.is_open))
 
 pub returns-clause-open_at : goal.returns-clause-open_at
 returns-clause-open_at g c =
-    let rest : c.reserve.new.self.open_at ≡ [] = ap (λ (p : OpenList Node). p.open_at) c.reserve.ensures.rest_kept ∙ c.clear.ensures.open_at in
+    let rest : c.reserve.new.self.open_at ≡ [] = ap (λ (p : OpenList Node). p.open_at)
+    c.reserve.ensures.rest_kept ∙ c.clear.ensures.open_at in
     let opened : c.add.new.self.open_at ≡ true ∷ [] = rw c.add.ensures.open_at (rw rest refl) in
-    one_closed c.add.new.self c.pop.new.self c.pop.result opened c.pop.ensures.none.0 c.pop.ensures.first c.pop.ensures.closed
+    one_closed c.add.new.self c.pop.new.self c.pop.result opened c.pop.ensures.none.0 c.pop.ensures.first
+    c.pop.ensures.closed
