@@ -16,7 +16,8 @@ before-next : (m n : ℕ) → m ≡ n + 1 → before m ≡ Some n
 before-next zero n e = absurd (omega arith)
 before-next (suc m) n e = let s : m ≡ n = omega arith in rw s refl
 
-there : (d : Dir) (u v : Cell) → column_ahead d u.x ≡ Some v.x → row_ahead d u.y ≡ Some v.y → ahead d u ≡ Some v
+there : (d : Dir) (u v : Cell) → column_ahead d u.x ≡ Some v.x → row_ahead d u.y ≡ Some v.y
+    → ahead d u ≡ Some v
 there d u v e f = rw (e, f) (ap (λ (c : Cell). Some c) (same_cell (record { x = v.x; y = v.y }) v refl refl))
 
 -- where the move is legal some direction leads there
@@ -42,21 +43,26 @@ ahead_of g u v h = elim (three u.x v.x l.x_low l.x_high) [
     l : IsLegal g u v
     l = legal_is g u v h
 
-pub legal_ahead-of : (g : GridData) (u v : Cell) → is_legal g u v ≡ true → (d : Dir) × (legal_ahead g u d ≡ Some v)
+pub legal_ahead-of : (g : GridData) (u v : Cell) → is_legal g u v ≡ true
+    → (d : Dir) × (legal_ahead g u d ≡ Some v)
 legal_ahead-of g u v h = let a = ahead_of g u v h in (a.0, rw (a.1, h) refl)
 
 -- what lies ahead over a legal move is reached by one
-pub legal_ahead-is : (g : GridData) (u v : Cell) (d : Dir) → legal_ahead g u d ≡ Some v → is_legal g u v ≡ true
+pub legal_ahead-is : (g : GridData) (u v : Cell) (d : Dir) → legal_ahead g u d ≡ Some v
+    → is_legal g u v ≡ true
 legal_ahead-is g u v d h = by_cell (ahead d u) h
   where
     cell_in : Option Cell → Cell
     cell_in None = v
     cell_in (Some c) = c
 
-    by_test : (c : Cell) (b : Bool) → is_legal g u c ≡ b → (if b then Some c else None) ≡ Some v → is_legal g u v ≡ true
-    by_test c true e s = let same : c ≡ v = ap (λ (o : Option Cell). cell_in o) s in ap (λ (w : Cell). is_legal g u w) (sym same) ∙ e
+    by_test : (c : Cell) (b : Bool) → is_legal g u c ≡ b → (if b then Some c else None) ≡ Some v
+        → is_legal g u v ≡ true
+    by_test c true e s = let same : c ≡ v =
+        ap (λ (o : Option Cell). cell_in o) s in ap (λ (w : Cell). is_legal g u w) (sym same) ∙ e
     by_test c false e s = absurd (cc)
 
-    by_cell : (o : Option Cell) → option_and_then (λ c. if is_legal g u c then Some c else None) o ≡ Some v → is_legal g u v ≡ true
+    by_cell : (o : Option Cell) → option_and_then (λ c. if is_legal g u c then Some c else None) o ≡ Some v
+        → is_legal g u v ≡ true
     by_cell None s = absurd (cc)
     by_cell (Some c) s = by_test c (is_legal g u c) refl s

@@ -6,7 +6,8 @@ use Rattle.grid_moves.specs.Grid.{GridData, IsGrid, is_free, is_inside, cell_num
 use Rattle.grid_moves.proofs.Places.{one_cell, number_below}
 
 -- the edited cell is free as asked
-pub is_free-with_same : (g : GridData) (c : Cell) (free : Bool) → IsGrid g → is_inside g c ≡ true → is_free (grid_with g c free) c ≡ free
+pub is_free-with_same : (g : GridData) (c : Cell) (free : Bool) → IsGrid g → is_inside g c ≡ true
+    → is_free (grid_with g c free) c ≡ free
 is_free-with_same g c free grid inside =
     let below : cell_number g.width c < length g.free = place in
     rw (inside, get_or-set_same g.free (cell_number g.width c) free false below) refl
@@ -18,7 +19,8 @@ is_free-with_same g c free grid inside =
         rw grid.whole (number_below g.width g.height c column row)
 
 -- any other cell stays as it was
-pub is_free-with_other : (g : GridData) (c d : Cell) (free : Bool) → is_inside g c ≡ true → d ≢ c → is_free (grid_with g c free) d ≡ is_free g d
+pub is_free-with_other : (g : GridData) (c d : Cell) (free : Bool) → is_inside g c ≡ true → d ≢ c
+    → is_free (grid_with g c free) d ≡ is_free g d
 is_free-with_other g c d free inside other = by_test (is_inside g d) refl
   where
     by_test : (test : Bool) → is_inside g d ≡ test → is_free (grid_with g c free) d ≡ is_free g d
@@ -26,9 +28,12 @@ is_free-with_other g c d free inside other = by_test (is_inside g d) refl
     by_test true e =
         let column : c.x < g.width = grind (arith, nat_tests) in
         let its_column : d.x < g.width = grind (arith, nat_tests) in
-        let apart : cell_number g.width d ≢ cell_number g.width c = λ same. other (one_cell g.width d c its_column column same) in
-        ap (λ (b : Bool). is_inside g d && b) (get_or-set_other g.free (cell_number g.width c) (cell_number g.width d) free false apart)
+        let apart : cell_number g.width d ≢ cell_number g.width c =
+        λ same. other (one_cell g.width d c its_column column same) in
+        ap (λ (b : Bool). is_inside g d && b)
+        (get_or-set_other g.free (cell_number g.width c) (cell_number g.width d) free false apart)
 
 -- an edited grid is a grid of the same sides
 pub is_grid-with : (g : GridData) (c : Cell) (free : Bool) → IsGrid g → IsGrid (grid_with g c free)
-is_grid-with g c free grid = record { sides = grid.sides; whole = length-set g.free (cell_number g.width c) free ∙ grid.whole }
+is_grid-with g c free grid =
+    record { sides = grid.sides; whole = length-set g.free (cell_number g.width c) free ∙ grid.whole }

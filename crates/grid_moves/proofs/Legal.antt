@@ -35,7 +35,8 @@ is_legal-from g u v l =
     let near : are_neighbours u v ≡ true = near_from l.x_low l.x_high l.y_low l.y_high l.differ in
     rw (near, l.source, l.target, l.beside, l.across) refl
   where
-    near_from : u.x ≤ v.x + 1 → v.x ≤ u.x + 1 → u.y ≤ v.y + 1 → v.y ≤ u.y + 1 → ((u.x ≡ v.x) → (u.y ≡ v.y) → ⊥) → are_neighbours u v ≡ true
+    near_from : u.x ≤ v.x + 1 → v.x ≤ u.x + 1 → u.y ≤ v.y + 1 → v.y ≤ u.y + 1
+        → ((u.x ≡ v.x) → (u.y ≡ v.y) → ⊥) → are_neighbours u v ≡ true
     near_from a b c d n = grind (arith, nat_tests)
 
 -- a free cell lies inside
@@ -45,7 +46,8 @@ free_inside g c h = (grind (arith, nat_tests), grind (arith, nat_tests))
 -- two cells with the same column and row are one
 pub same_cell : (c d : Cell) → c.x ≡ d.x → c.y ≡ d.y → c ≡ d
 same_cell c d e f =
-    let g : c ≡ record { x = d.x; y = c.y } = ap (λ (n : ℕ). let u : Cell = record { x = n; y = c.y } in u) e in
+    let g : c ≡ record { x = d.x; y = c.y } =
+    ap (λ (n : ℕ). let u : Cell = record { x = n; y = c.y } in u) e in
     g ∙ ap (λ (n : ℕ). let u : Cell = record { x = d.x; y = n } in u) f
 
 pub is_same-cell : (c d : Cell) → is_same c d ≡ true → c ≡ d

@@ -6,7 +6,8 @@ use Rattle.grid_moves.proofs.Legal.{same_cell}
 
 -- two places in rows of w are one place
 pub one_place : (w x y z t : ℕ) → x < w → z < w → y * w + x ≡ t * w + z → (y ≡ t) × (x ≡ z)
-one_place w x y z t h k e = let l : y ≡ t = rows w x y z t h k e in (l, (let m : y * w ≡ t * w = ap (λ n. n * w) l in omega arith))
+one_place w x y z t h k e =
+    let l : y ≡ t = rows w x y z t h k e in (l, (let m : y * w ≡ t * w = ap (λ n. n * w) l in omega arith))
   where
     rows : (w x y z t : ℕ) → x < w → z < w → y * w + x ≡ t * w + z → y ≡ t
     rows w x y z t h k e = grind arith

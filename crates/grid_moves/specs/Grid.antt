@@ -43,7 +43,8 @@ grid_of width height bytes = record { width = width; height = height; free = map
 
 -- the grid after an edit: one cell, on the map, is free or blocked as asked, and the others stay
 abbrev pub grid_with : GridData → Cell → Bool → GridData
-grid_with g c free = record { width = g.width; height = g.height; free = slice_set g.free (cell_number g.width c) free }
+grid_with g c free =
+    record { width = g.width; height = g.height; free = slice_set g.free (cell_number g.width c) free }
 
 -- there is a byte for each cell of a map of these sides
 pub record AreCells (width height : ℕ) (bytes : List ℕ) : Type 0 where
@@ -55,5 +56,6 @@ pub tree_and_ground : (grid_of 2 1 (84 ∷ 46 ∷ [])).free ≡ false ∷ true �
 tree_and_ground = refl
 
 -- felling the tree frees its cell alone
-pub tree_felled : (grid_with (grid_of 3 1 (84 ∷ 46 ∷ 84 ∷ [])) (record { x = 2; y = 0 }) true).free ≡ false ∷ true ∷ true ∷ []
+pub tree_felled : (grid_with (grid_of 3 1 (84 ∷ 46 ∷ 84 ∷ [])) (record { x = 2; y = 0 }) true).free ≡ false ∷
+    true ∷ true ∷ []
 tree_felled = refl

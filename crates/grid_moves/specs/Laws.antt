@@ -10,8 +10,10 @@ use Rattle.grid_moves.specs.Points.{estimate}
 
 -- over a legal move the estimate falls by at most the move's cost
 abbrev pub EstimateFalls : Type 0
-EstimateFalls = (g : GridData) (u v goal : Cell) → is_legal g u v ≡ true → IsAtMost (estimate u goal) (add_costs (move_cost u v) (estimate v goal))
+EstimateFalls = (g : GridData) (u v goal : Cell) → is_legal g u v ≡ true
+    → IsAtMost (estimate u goal) (add_costs (move_cost u v) (estimate v goal))
 
 -- the estimate never exceeds the cost of a walk
 abbrev pub EstimateNeverExceeds : Type 0
-EstimateNeverExceeds = (g : GridData) (s goal : Cell) (cells : List Cell) → IsWalk g s goal cells → IsAtMost (estimate s goal) (cost_of (s ∷ cells))
+EstimateNeverExceeds = (g : GridData) (s goal : Cell) (cells : List Cell) → IsWalk g s goal cells
+    → IsAtMost (estimate s goal) (cost_of (s ∷ cells))

@@ -25,7 +25,8 @@ corner_of u v = record { x = u.x; y = v.y }
 -- the move is legal: from a cell to a neighbour, where every cell of the box that they span is free.
 -- For a straight move the box is its two ends, for a diagonal one the two cells beside it belong to it.
 abbrev pub is_legal : GridData → Cell → Cell → Bool
-is_legal g u v = are_neighbours u v && is_free g u && is_free g v && is_free g (corner_of u v) && is_free g (corner_of v u)
+is_legal g u v =
+    are_neighbours u v && is_free g u && is_free g v && is_free g (corner_of u v) && is_free g (corner_of v u)
 
 -- a straight move costs 1, a diagonal one √2
 abbrev pub move_cost : Cell → Cell → Cost
@@ -64,7 +65,8 @@ row_ahead NW y = before y
 
 -- the cell that lies ahead, if there is one
 abbrev pub ahead : Dir → Cell → Option Cell
-ahead d c = option_and_then (λ x. option_and_then (λ y. Some (record { x = x; y = y })) (row_ahead d c.y)) (column_ahead d c.x)
+ahead d c = option_and_then (λ x. option_and_then (λ y. Some (record { x = x; y = y })) (row_ahead d c.y))
+    (column_ahead d c.x)
 
 -- the cell ahead, where the move to it is legal
 abbrev pub legal_ahead : GridData → Cell → Dir → Option Cell
@@ -72,7 +74,12 @@ legal_ahead g c d = option_and_then (λ v. if is_legal g c v then Some v else No
 
 -- the map `.../.@./...`
 abbrev pillar : GridData
-pillar = record { width = 3; height = 3; free = true ∷ true ∷ true ∷ true ∷ false ∷ true ∷ true ∷ true ∷ true ∷ [] }
+pillar = record {
+  width = 3;
+  height = 3;
+  free = true ∷ true ∷ true ∷ true ∷ false ∷ true ∷ true ∷ true
+      ∷ true ∷ [];
+}
 
 -- a straight move along the pillar is legal
 pub along_the_pillar : is_legal pillar (record { x = 0; y = 0 }) (record { x = 1; y = 0 }) ≡ true
@@ -83,9 +90,11 @@ pub round_the_pillar : is_legal pillar (record { x = 1; y = 0 }) (record { x = 2
 round_the_pillar = refl
 
 -- on `.@/@.` the free cells touch at a corner alone
-pub corner_touch : is_legal (record { width = 2; height = 2; free = true ∷ false ∷ false ∷ true ∷ [] }) (record { x = 0; y = 0 }) (record { x = 1; y = 1 }) ≡ false
+pub corner_touch : is_legal (record { width = 2; height = 2; free = true ∷ false ∷ false ∷ true ∷ [] })
+    (record { x = 0; y = 0 }) (record { x = 1; y = 1 }) ≡ false
 corner_touch = refl
 
 -- on the open map `../..` the same move is legal
-pub open_diagonal : legal_ahead (record { width = 2; height = 2; free = true ∷ true ∷ true ∷ true ∷ [] }) (record { x = 0; y = 0 }) SE ≡ Some (record { x = 1; y = 1 })
+pub open_diagonal : legal_ahead (record { width = 2; height = 2; free = true ∷ true ∷ true ∷ true ∷ [] })
+    (record { x = 0; y = 0 }) SE ≡ Some (record { x = 1; y = 1 })
 open_diagonal = refl

@@ -18,7 +18,8 @@ steps_between u v = max (apart u.x v.x) (apart u.y v.y)
 
 -- two different cells on one of the eight lines: on a column, a row or a diagonal
 abbrev pub are_lined : Cell → Cell → Bool
-are_lined u v = nat_lt 0 (steps_between u v) && (nat_eq u.x v.x || nat_eq u.y v.y || nat_eq (apart u.x v.x) (apart u.y v.y))
+are_lined u v = nat_lt 0 (steps_between u v) &&
+    (nat_eq u.x v.x || nat_eq u.y v.y || nat_eq (apart u.x v.x) (apart u.y v.y))
 
 -- one nearer to the goal
 abbrev pub toward : ℕ → ℕ → ℕ
@@ -37,7 +38,8 @@ segment (suc k) u v = let next : Cell = step_toward u v in next ∷ segment k ne
 abbrev pub unfolded_from : Cell → List Cell → Option (List Cell)
 unfolded_from u [] = Some []
 unfolded_from u (v ∷ points) =
-    if are_lined u v then option_map (λ cells. segment (steps_between u v) u v ++ cells) (unfolded_from v points) else None
+    if are_lined u v then option_map (λ cells. segment (steps_between u v) u v ++ cells)
+    (unfolded_from v points) else None
 
 -- the first point, and then the cells of each segment
 abbrev pub unfolding_of : List Cell → Option (List Cell)
@@ -51,7 +53,9 @@ is_lined (p ∷ []) = true
 is_lined (p ∷ q ∷ points) = are_lined p q && is_lined (q ∷ points)
 
 -- two steps on a diagonal and two along a row
-pub diagonal_then_row : unfolding_of (record { x = 0; y = 3 } ∷ record { x = 2; y = 1 } ∷ record { x = 4; y = 1 } ∷ []) ≡ Some (record { x = 0; y = 3 } ∷ record { x = 1; y = 2 } ∷ record { x = 2; y = 1 } ∷ record { x = 3; y = 1 } ∷ record { x = 4; y = 1 } ∷ [])
+pub diagonal_then_row : unfolding_of (record { x = 0; y = 3 } ∷ record { x = 2; y = 1 } ∷ record
+    { x = 4; y = 1 } ∷ []) ≡ Some (record { x = 0; y = 3 } ∷ record { x = 1; y = 2 } ∷ record { x = 2; y = 1 }
+    ∷ record { x = 3; y = 1 } ∷ record { x = 4; y = 1 } ∷ [])
 diagonal_then_row = refl
 
 -- a knight's move lies on none of the eight lines

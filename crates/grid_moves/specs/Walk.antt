@@ -36,14 +36,16 @@ NoWalk g s t = (cells : List Cell) → ¬ IsWalk g s t cells
 -- a walk from s to t that no walk from s to t undercuts
 pub record IsLeastWalk (g : GridData) (s t : Cell) (cells : List Cell) : Type 0 where
   pub walk : IsWalk g s t cells
-  pub least : (others : List Cell) → IsWalk g s t others → IsAtMost (cost_of (s ∷ cells)) (cost_of (s ∷ others))
+  pub least : (others : List Cell) → IsWalk g s t others
+      → IsAtMost (cost_of (s ∷ cells)) (cost_of (s ∷ others))
 
 -- a worked row: `.@./...`, from the upper left to the upper right
 abbrev notch : GridData
 notch = record { width = 3; height = 2; free = true ∷ false ∷ true ∷ true ∷ true ∷ true ∷ [] }
 
 abbrev round_the_notch : List Cell
-round_the_notch = record { x = 0; y = 0 } ∷ record { x = 0; y = 1 } ∷ record { x = 1; y = 1 } ∷ record { x = 2; y = 1 } ∷ record { x = 2; y = 0 } ∷ []
+round_the_notch = record { x = 0; y = 0 } ∷ record { x = 0; y = 1 } ∷ record { x = 1; y = 1 } ∷ record
+    { x = 2; y = 1 } ∷ record { x = 2; y = 0 } ∷ []
 
 pub round_is_legal : is_walk notch round_the_notch ≡ true
 round_is_legal = refl

@@ -37,7 +37,8 @@ row_lines-more : (number : ℕ) (rows : List Row) (r : Row)
 row_lines-more number [] r = ap (λ n. row_line n r ∷ []) (let e : number ≡ number + 0 = omega arith in e)
 row_lines-more number (q ∷ rows) r =
     ap (λ (l : List (List ℕ)). row_line number q ∷ l)
-    (row_lines-more (number + 1) rows r ∙ ap (λ n. row_lines (number + 1) rows ++ row_line n r ∷ [])
+    (row_lines-more (number + 1) rows r
+    ∙ ap (λ n. row_lines (number + 1) rows ++ row_line n r ∷ [])
     (let e : number + 1 + length rows ≡ number + suc (length rows) = omega arith in e))
 
 -- the first of the lines are those of the first rows
@@ -48,8 +49,8 @@ first_lines number [] (line ∷ lines) others e = absurd (cc)
 first_lines number (r ∷ rows) (line ∷ lines) others e =
     let head : line ≡ row_line number r = cc in
     let rest : row_lines (number + 1) rows ≡ lines ++ others = cc in
-    ap (λ (l : List ℕ). l ∷ lines) head ∙ ap (λ (l : List (List ℕ)). row_line number r ∷ l)
-    (first_lines (number + 1) rows lines others rest)
+    ap (λ (l : List ℕ). l ∷ lines) head
+    ∙ ap (λ (l : List (List ℕ)). row_line number r ∷ l) (first_lines (number + 1) rows lines others rest)
 
 row_lines-length : (number : ℕ) (rows : List Row) → length (row_lines number rows) ≡ length rows
 row_lines-length number [] = refl
@@ -93,8 +94,8 @@ module _ (g : GridData) (entries : List Entry) (before : Option (List ℕ)) (fau
       → ((rows : List Row) → tally ≡ tally_of rows → tally_now ≡ tally_of (rows ++ r ∷ []))
       → waiting_now ≡ waiting ++ row_line tally_now.rows r
       → IsJudging g entries (i + 1) before now faults faults_now waiting_now tally_now session_now
-  judged-more i now faults_now waiting waiting_now tally tally_now session session_now d r j h is same counts
-      w = record {
+  judged-more i now faults_now waiting waiting_now tally tally_now session session_now d r j h is same counts w =
+      record {
         rows = j.rows ++ r ∷ [];
         are = subst (λ (part : List Entry). AreRows g part (j.rows ++ r ∷ [])) (sym (take-more entries i d h))
             (matched-more (Stands g) (take i entries) j.rows (get_or entries i d) r j.are
@@ -110,10 +111,10 @@ module _ (g : GridData) (entries : List Entry) (before : Option (List ℕ)) (fau
     where
       number : tally_now.rows ≡ 1 + length j.rows
       number =
-          let e : tally_now.rows ≡ length (j.rows ++ r ∷ []) = ap (λ (t : Tally). t.rows)
-          (counts j.rows j.counted) in
-          let l : length (j.rows ++ r ∷ []) ≡ length j.rows + length (r ∷ []) = length-append j.rows (r ∷ [])
-          in
+          let e : tally_now.rows ≡ length (j.rows ++ r ∷ []) =
+          ap (λ (t : Tally). t.rows) (counts j.rows j.counted) in
+          let l : length (j.rows ++ r ∷ []) ≡ length j.rows + length (r ∷ []) =
+          length-append j.rows (r ∷ []) in
           omega arith
 
   -- what waited was sent, or waits on
@@ -125,8 +126,8 @@ module _ (g : GridData) (entries : List Entry) (before : Option (List ℕ)) (fau
   judged-on i mid now faults_mid faults_now waiting waiting_now tally session j l w = record {
     rows = j.rows;
     are = j.are;
-    sent = sent-on before faults mid now faults_mid faults_now waiting waiting_now (row_lines 1 j.rows) j.sent
-        l w;
+    sent = sent-on before faults mid now faults_mid faults_now waiting waiting_now
+        (row_lines 1 j.rows) j.sent l w;
     counted = j.counted;
     grid = j.grid;
   }
@@ -145,8 +146,8 @@ module _ (g : GridData) (entries : List Entry) (before : Option (List ℕ)) (fau
     where
       fewer : length j.sent.written ≤ length j.rows
       fewer =
-          let whole : length (row_lines 1 j.rows) ≡ length j.sent.written + length j.sent.others = ap length
-          j.sent.all ∙ length-append j.sent.written j.sent.others in
+          let whole : length (row_lines 1 j.rows) ≡ length j.sent.written + length j.sent.others =
+          ap length j.sent.all ∙ length-append j.sent.written j.sent.others in
           let lines : length (row_lines 1 j.rows) ≡ length j.rows = row_lines-length 1 j.rows in
           omega arith
 
@@ -167,8 +168,8 @@ module _ (g : GridData) (entries : List Entry) (before : Option (List ℕ)) (fau
       (session : GridData)
       → (j : IsJudging g entries i before now faults faults_now waiting tally session) → length entries ≤ i
       → AreRows g entries j.rows
-  rows-all i now faults_now waiting tally session j h = subst (λ (part : List Entry). AreRows g part j.rows)
-      (take_all i entries h) j.are
+  rows-all i now faults_now waiting tally session j h =
+      subst (λ (part : List Entry). AreRows g part j.rows) (take_all i entries h) j.are
 
   -- the sum waits behind the rows
   pub sum-waits : (i : ℕ) (now : Option (List ℕ)) (faults_now : ℕ) (waiting waiting_now : List ℕ)

@@ -35,8 +35,8 @@ pub appends-part : (a b c : Option (List ℕ)) (x y : List ℕ) → Appends a b 
     → AppendsSome a c (x ++ y)
 appends-part a b c x y f s = (
   length x + s.0,
-  (let e : length (x ++ y) ≡ length x + length y = length-append x y in let h : s.0 ≤ length y = s.1 in omega
-      arith),
+  (let e : length (x ++ y) ≡ length x + length y = length-append x y in let h : s.0 ≤ length y = s.1 in
+      omega arith),
   subst (λ (l : List ℕ). Appends a c l) (sym (take-both x y s.0)) (appends-both a b c x (take s.0 y) f s.2),
 )
 
@@ -47,14 +47,8 @@ rose-since first before now l r = omega arith
 module _ (before : Option (List ℕ)) (faults : ℕ) where
   -- no line yet
   pub sent-none : (waiting : List ℕ) → waiting ≡ [] → AreSent before before faults faults waiting []
-  sent-none waiting e = record {
-    written = [];
-    others = [];
-    all = refl;
-    wrote = nothing before;
-    wait = e;
-    later = omega arith;
-  }
+  sent-none waiting e =
+      record { written = []; others = []; all = refl; wrote = nothing before; wait = e; later = omega arith }
 
   -- one line more waits
   pub sent-line : (now : Option (List ℕ)) (faults_now : ℕ) (waiting waiting_now line : List ℕ)
@@ -65,8 +59,9 @@ module _ (before : Option (List ℕ)) (faults : ℕ) where
     others = s.others ++ line ∷ [];
     all = ap (λ (l : List (List ℕ)). l ++ line ∷ []) s.all ∙ append_assoc s.written s.others (line ∷ []);
     wrote = s.wrote;
-    wait = e ∙ ap (λ (l : List ℕ). l ++ line) s.wait ∙ ap (λ (l : List ℕ). concat s.others ++ l)
-        (sym (append-nil line)) ∙ sym (concat-append s.others (line ∷ []));
+    wait = e ∙ ap (λ (l : List ℕ). l ++ line) s.wait
+        ∙ ap (λ (l : List ℕ). concat s.others ++ l) (sym (append-nil line))
+        ∙ sym (concat-append s.others (line ∷ []));
     later = s.later;
   }
 
@@ -84,8 +79,8 @@ module _ (before : Option (List ℕ)) (faults : ℕ) where
       → AreSent before mid faults faults_mid waiting lines
       → AppendsSome mid now waiting → AppendsSome before now (concat lines)
   sent-part mid now faults_mid waiting lines s w =
-      subst (λ (l : List ℕ). AppendsSome before now l) (sym
-      (ap concat s.all ∙ concat-append s.written s.others))
+      subst (λ (l : List ℕ). AppendsSome before now l)
+      (sym (ap concat s.all ∙ concat-append s.written s.others))
       (appends-part before mid now (concat s.written) (concat s.others) s.wrote
       (subst (λ (l : List ℕ). AppendsSome mid now l) s.wait w))
 
@@ -132,8 +127,8 @@ module _ (before : Option (List ℕ)) (faults : ℕ) where
         → WritesLines AreAll AreSome before now faults faults_now (Err stop)
         → WritesLines AreAll AreSome before now faults faults_now result
     passed-on now faults_now (Ok x) stop e m w = absurd m
-    passed-on now faults_now (Err s) stop e m w = subst
-        (λ (t : Stop). WritesLines AreAll AreSome before now faults faults_now (Err t)) (sym m) w
+    passed-on now faults_now (Err s) stop e m w =
+        subst (λ (t : Stop). WritesLines AreAll AreSome before now faults faults_now (Err t)) (sym m) w
 
     -- sending failed, and its error is passed on
     pub sending-stops : (mid now : Option (List ℕ)) (faults_mid faults_now : ℕ) (waiting waiting_now : List ℕ)
@@ -142,8 +137,8 @@ module _ (before : Option (List ℕ)) (faults : ℕ) where
         → IsErrAnd result (λ s. s ≡ stop)
         → SendsSo mid now faults_mid faults_now waiting waiting_now (Err stop)
         → WritesLines AreAll AreSome before now faults faults_now result
-    sending-stops mid now faults_mid faults_now waiting waiting_now result lines stop s some e m w = passed-on
-        now faults_now result stop e m (by_stop stop w)
+    sending-stops mid now faults_mid faults_now waiting waiting_now result lines stop s some e m w =
+        passed-on now faults_now result stop e m (by_stop stop w)
       where
         by_stop : (stop : Stop) → SendsSo mid now faults_mid faults_now waiting waiting_now (Err stop)
             → WritesLines AreAll AreSome before now faults faults_now (Err stop)
@@ -165,10 +160,11 @@ module _ (before : Option (List ℕ)) (faults : ℕ) where
     writing-stops mid now faults_mid faults_now waiting lines (Words line) s some v = absurd v
     writing-stops mid now faults_mid faults_now waiting lines (Text line) s some v = absurd v
     writing-stops mid now faults_mid faults_now waiting lines Read s some v = absurd v
-    writing-stops mid now faults_mid faults_now waiting lines Write s some v = (
-      rose-since faults faults_mid faults_now s.later v.0,
-      (lines, some, sent-part mid now faults_mid waiting lines s v.1),
-    )
+    writing-stops mid now faults_mid faults_now waiting lines Write s some v
+        = (
+          rose-since faults faults_mid faults_now s.later v.0,
+          (lines, some, sent-part mid now faults_mid waiting lines s v.1),
+        )
     writing-stops mid now faults_mid faults_now waiting lines Memory s some v = absurd v
 
     -- the last write failed, and its error is passed on
@@ -179,8 +175,8 @@ module _ (before : Option (List ℕ)) (faults : ℕ) where
         → WritesSo mid now faults_mid faults_now waiting (Err stop)
         → WritesLines AreAll AreSome before now faults faults_now result
     writing-passed-on mid now faults_mid faults_now waiting result lines stop s some e m w =
-        passed-on now faults_now result stop e m (writing-stops mid now faults_mid faults_now waiting lines
-        stop s some w)
+        passed-on now faults_now result stop e m
+        (writing-stops mid now faults_mid faults_now waiting lines stop s some w)
 
   -- the last write, of all that waits
   pub writing-ends : (AreAll AreSome : List (List ℕ) → Type 0) (mid now : Option (List ℕ))

@@ -21,8 +21,8 @@ use Rattle.script_text.specs.declared.fault.ScriptFault.TheVariants as script
 use Rattle.jps_run.specs.FaultLines.{map_line, scen_line, script_line}
 use Rattle.jps_run.specs.Held.{longest_text, faulty, IsMapRefused, IsScenRefused, IsScriptRefused}
 
-tells_map : (f : MapFault) (r : Result Map MapFault) → f ≢ map.NoMemory → map_faults.Tells (Err f) r
-    → r ≡ Err f
+tells_map : (f : MapFault) (r : Result Map MapFault) → f ≢ map.NoMemory
+    → map_faults.Tells (Err f) r → r ≡ Err f
 tells_map (map.Header line) r n t = t
 tells_map (map.Side line) r n t = t
 tells_map (map.Short line) r n t = t

@@ -24,8 +24,8 @@ at_or_last : {X : Type 0} (xs : List X) (x y : X) (k : ℕ) → slice_get (xs ++
 at_or_last [] x y zero h = inr (refl, cc)
 at_or_last [] x y (suc k) h = absurd (cc)
 at_or_last (z ∷ xs) x y zero h = inl h
-at_or_last (z ∷ xs) x y (suc k) h = elim (at_or_last xs x y k h)
-    [ inl e ↦ inl e | inr e ↦ inr (ap (λ n. suc n) e.0, e.1) ]
+at_or_last (z ∷ xs) x y (suc k) h =
+    elim (at_or_last xs x y k h) [ inl e ↦ inl e | inr e ↦ inr (ap (λ n. suc n) e.0, e.1) ]
 
 -- an element of the first part of a list
 in_first : {X : Type 0} (xs ys : List X) (y : X) (k : ℕ) → slice_get xs k ≡ Some y
@@ -56,10 +56,10 @@ module _ {X Y : Type 0} (Stands : ℕ → X → Y → Type 0) where
       by_place : (k : ℕ) (u : X) (v : Y) → (slice_get xs k ≡ Some u) ⊎ ((k ≡ length xs) × (x ≡ u))
           → (slice_get ys k ≡ Some v) ⊎ ((k ≡ length ys) × (y ≡ v)) → Stands k u v
       by_place k u v (inl f) (inl s) = m.each k u v f s
-      by_place k u v (inl f) (inr s) = let w : k < length xs = slice_get_within xs k u f in let c : length ys
-          ≡ length xs = m.count in let e : k ≡ length ys = s.0 in absurd (omega arith)
-      by_place k u v (inr f) (inl s) = let w : k < length ys = slice_get_within ys k v s in let c : length ys
-          ≡ length xs = m.count in let e : k ≡ length xs = f.0 in absurd (omega arith)
+      by_place k u v (inl f) (inr s) = let w : k < length xs = slice_get_within xs k u f in let c : length ys ≡ length xs =
+          m.count in let e : k ≡ length ys = s.0 in absurd (omega arith)
+      by_place k u v (inr f) (inl s) = let w : k < length ys = slice_get_within ys k v s in let c : length ys ≡ length xs =
+          m.count in let e : k ≡ length xs = f.0 in absurd (omega arith)
       by_place k u v (inr f) (inr s) = subst (λ (n : ℕ). Stands n u v) (sym f.0)
           (subst (λ (p : X). Stands (length xs) p v) f.1 (subst (λ (p : Y). Stands (length xs) x p) s.1 h))
 
@@ -67,8 +67,9 @@ module _ {X Y : Type 0} (Stands : ℕ → X → Y → Type 0) where
   pub matched-first : (xs : List X) (ys zs : List Y) → AreMatched Stands xs (ys ++ zs)
       → AreMatched Stands (take (length ys) xs) ys
   matched-first xs ys zs m = record {
-    count = sym (length-take-le (length ys) xs (let e : length (ys ++ zs) ≡ length ys + length zs =
-        length-append ys zs in let c : length (ys ++ zs) ≡ length xs = m.count in omega arith));
+    count = sym (length-take-le (length ys) xs
+        (let e : length (ys ++ zs) ≡ length ys + length zs = length-append ys zs in let c : length (ys ++ zs)
+        ≡ length xs = m.count in omega arith));
     each = λ k x y f s. m.each k x y (in_take (length ys) xs x k f) (in_first ys zs y k s);
   }
 
@@ -76,8 +77,8 @@ module _ {X Y : Type 0} (Stands : ℕ → X → Y → Type 0) where
       → AreMatched Stands (take n xs) (take n ys)
   matched-take n xs ys h m =
       subst (λ (k : ℕ). AreMatched Stands (take k xs) (take n ys)) (length-take-le n ys h)
-      (matched-first xs (take n ys) (drop n ys) (subst (λ (l : List Y). AreMatched Stands xs l)
-      (sym (take-append-drop n ys)) m))
+      (matched-first xs (take n ys) (drop n ys)
+      (subst (λ (l : List Y). AreMatched Stands xs l) (sym (take-append-drop n ys)) m))
 
 -- one more element
 pub take-more : {X : Type 0} (xs : List X) (i : ℕ) (d : X) → i < length xs
@@ -99,8 +100,8 @@ module _ (g : GridData) (commands : List Command) (before : Option (List ℕ)) (
       → session_now ≡ edited g (edits_in (take (i + 1) commands))
   grid-more i session session_now d h e on =
       on g (edits_in (take i commands)) e
-      ∙ ap (λ (edits : List Edit). edited g edits) (sym
-      (filter_map-append edit_in (take i commands) (get_or commands i d ∷ []))
+      ∙ ap (λ (edits : List Edit). edited g edits)
+      (sym (filter_map-append edit_in (take i commands) (get_or commands i d ∷ []))
       ∙ ap edits_in (sym (take-more commands i d h)))
 
   -- before the first command
@@ -161,8 +162,8 @@ module _ (g : GridData) (commands : List Command) (before : Option (List ℕ)) (
     where
       few : length a.sent.written ≤ i
       few =
-          let whole : length a.lines ≡ length a.sent.written + length a.sent.others = ap length a.sent.all
-          ∙ length-append a.sent.written a.sent.others in
+          let whole : length a.lines ≡ length a.sent.written + length a.sent.others =
+          ap length a.sent.all ∙ length-append a.sent.written a.sent.others in
           let count : length a.lines ≡ length (take i commands) = a.answers.count in
           let most : length (take i commands) ≡ min i (length commands) = length-take i commands in
           omega arith
@@ -176,6 +177,6 @@ module _ (g : GridData) (commands : List Command) (before : Option (List ℕ)) (
   pub answers-all : (i : ℕ) (now : Option (List ℕ)) (faults_now : ℕ) (waiting : List ℕ) (session : GridData)
       → (a : IsAnswering g commands i before now faults faults_now waiting session) → length commands ≤ i
       → AreMatched (AnswersAt g commands) commands a.lines
-  answers-all i now faults_now waiting session a h = subst
-      (λ (some : List Command). AreMatched (AnswersAt g commands) some a.lines) (take_all i commands h)
-      a.answers
+  answers-all i now faults_now waiting session a h
+      = subst (λ (some : List Command). AreMatched (AnswersAt g commands) some a.lines)
+      (take_all i commands h) a.answers

@@ -24,9 +24,9 @@ module _ where
       by_rest again (Some cs) e h = again cs e
 
       by_test : ((cs : List Cell) → unfolded_from q points ≡ Some cs → is_lined (q ∷ points) ≡ true)
-          → (b : Bool) → are_lined p q ≡ b → (if b then option_map
-          (λ cs. segment (steps_between p q) p q ++ cs) (unfolded_from q points) else None) ≡ Some cells
-          → (are_lined p q && is_lined (q ∷ points)) ≡ true
+          → (b : Bool) → are_lined p q ≡ b
+          → (if b then option_map (λ cs. segment (steps_between p q) p q ++ cs) (unfolded_from q points) else
+          None) ≡ Some cells → (are_lined p q && is_lined (q ∷ points)) ≡ true
       by_test again true e h = rw e (by_rest again (unfolded_from q points) refl h)
       by_test again false e h = absurd (cc)
 

@@ -35,8 +35,9 @@ module _ (words : List (List ℕ)) (holds : List ℕ → Held) (files files_now 
       → HasWorked words holds files files_now before now faults faults_now (Err stop)
       → HasWorked words holds files files_now before now faults faults_now result
   worked-on now faults_now (Ok status) stop e m w = absurd m
-  worked-on now faults_now (Err s) stop e m w = subst (λ (t : Stop). HasWorked words holds files files_now
-      before now faults faults_now (Err t)) (sym m) w
+  worked-on now faults_now (Err s) stop e m w
+      = subst (λ (t : Stop). HasWorked words holds files files_now before now faults faults_now
+      (Err t)) (sym m) w
 
   -- the words are refused
   pub refused-words : (number : ℕ) (line : List ℕ) → IsBadWord any_request words number
@@ -51,17 +52,8 @@ module _ (words : List (List ℕ)) (holds : List ℕ → Held) (files files_now 
   pub text-written : (now : Option (List ℕ)) (status : ℕ) (out : List ℕ)
       → IsOutcome words holds (answered status out) → status ≤ 1 → Appends before now out
       → (status ≤ 1) × HasOutcome words holds status before now []
-  text-written now status out is l w = (
-    l,
-    record {
-      outcome = answered status out;
-      is = is;
-      same_status =
-          refl;
-      wrote = w;
-      same_line = refl;
-    },
-  )
+  text-written now status out is l w =
+      (l, record { outcome = answered status out; is = is; same_status = refl; wrote = w; same_line = refl })
 
   -- its write failed
   pub text-stops : (now : Option (List ℕ)) (faults_now status : ℕ) (out : List ℕ) (stop : Stop)
@@ -81,15 +73,11 @@ module _ (words : List (List ℕ)) (holds : List ℕ → Held) (files files_now 
       → HasWorked words holds files files_now before before faults faults (Err stop)
   map-stops Spells asked name (Words line) a n r = absurd r
   map-stops Spells asked name (Text line) a n r = (no_map asked name line.items a n r, nothing before)
-  map-stops Spells asked name Read a n r = (
-    record {
-      name = name;
-      named = record
-          { asked = asked; ask = a; names = inl n };
-      rose = r;
-    },
-    nothing before,
-  )
+  map-stops Spells asked name Read a n r
+      = (
+        record { name = name; named = record { asked = asked; ask = a; names = inl n }; rose = r },
+        nothing before,
+      )
   map-stops Spells asked name Write a n r = absurd r
   map-stops Spells asked name Memory a n r = inl (nothing before)
 
@@ -145,7 +133,8 @@ answers-first words holds m map script pick commands h s lines a = record {
   asked = Solve map script pick;
   map = m;
   has_map = h;
-  first = answers map script pick commands lines s a;
+  first = answers map script pick
+      commands lines s a;
 }
 
 pub solved-outcome : (words : List (List ℕ)) (holds : List ℕ → Held) (m : Map) (map script : List ℕ)
@@ -160,8 +149,8 @@ pub rows-first : (words : List (List ℕ)) (holds : List ℕ → Held) (m : Map)
     (entries : List Entry)
     → HasMap words holds (Scen map scen pick) m → HoldsScen (holds scen) entries → (lines : List (List ℕ))
     → AreFirstRows (map_grid m) entries lines → AreFirst words holds lines
-rows-first words holds m map scen pick entries h s lines a = record
-    { asked = Scen map scen pick; map = m; has_map = h; first = rows map scen pick entries lines s a }
+rows-first words holds m map scen pick entries h s lines a =
+    record { asked = Scen map scen pick; map = m; has_map = h; first = rows map scen pick entries lines s a }
 
 -- a scenario was judged, or its work stopped
 pub judging-ends : (words : List (List ℕ)) (holds : List ℕ → Held) (files files_now : List ℕ → ℕ)
@@ -171,13 +160,13 @@ pub judging-ends : (words : List (List ℕ)) (holds : List ℕ → Held) (files 
     → WritesLines (AreAllRows (map_grid m) entries) (AreFirstRows (map_grid m) entries) before now faults
     faults_now result
     → HasWorked words holds files files_now before now faults faults_now result
-judging-ends words holds files files_now before now faults faults_now m map scen pick entries (Err stop) h s w
-    =
+judging-ends words holds files files_now before now faults faults_now m map scen pick entries
+    (Err stop) h s w =
     lines-stop words holds files files_now before faults (AreAllRows (map_grid m) entries)
     (AreFirstRows (map_grid m) entries) now faults_now stop
     (rows-first words holds m map scen pick entries h s) w
-judging-ends words holds files files_now before now faults faults_now m map scen pick entries (Ok status) h s
-    w =
+judging-ends words holds files files_now before now faults faults_now m map scen pick entries
+    (Ok status) h s w =
     text-written words holds files files_now before faults now status (concat w.0)
     (subst (λ (n : ℕ). IsOutcome words holds (answered n (concat w.0))) (sym w.1.same_status)
     (subst (λ (lines : List (List ℕ)). IsOutcome words holds (answered (scen_status w.1.rows) (concat lines)))

@@ -3,8 +3,8 @@ use Rattle.std.proofs.Common.{◌≡◌, refl, ap, sym, ◌∙◌, List, [], ◌
 use Rattle.grid_moves.specs.declared.Cell.{Cell}
 use Rattle.jps_run.specs.Lines.{point_text, points_text}
 
-points_text-added : (cells : List Cell) (c : Cell) → points_text (cells ++ c ∷ []) ≡ points_text cells ++
-    point_text c
+points_text-added : (cells : List Cell) (c : Cell)
+    → points_text (cells ++ c ∷ []) ≡ points_text cells ++ point_text c
 points_text-added [] c = append_nil (point_text c)
   where
     append_nil : (xs : List ℕ) → xs ++ [] ≡ xs

@@ -23,8 +23,8 @@ edits_in commands = filter_map edit_in commands
 abbrev pub IsAnswerLine : GridData → Command → List ℕ → Type 0
 IsAnswerLine g (Block x y) line = line ≡ edit_line (edit_reply g (edit_at x y false))
 IsAnswerLine g (Free x y) line = line ≡ edit_line (edit_reply g (edit_at x y true))
-IsAnswerLine g (Query sx sy gx gy) line = IsRightLine g (record { x = sx; y = sy })
-    (record { x = gx; y = gy }) Points line
+IsAnswerLine g (Query sx sy gx gy) line =
+    IsRightLine g (record { x = sx; y = sy }) (record { x = gx; y = gy }) Points line
 
 -- the line answers the command at place k of these, on the map's grid as the edits before it leave it
 abbrev pub AnswersAt : GridData → List Command → ℕ → Command → List ℕ → Type 0

@@ -20,13 +20,13 @@ memory_line = codes "jps: memory\n"
 
 -- the line of a status that is no outcome's
 abbrev pub ending_line : ℕ → List ℕ
-ending_line status = if nat_eq status 4 then read_line else if nat_eq status 5 then write_line else
-    memory_line
+ending_line status =
+    if nat_eq status 4 then read_line else if nat_eq status 5 then write_line else memory_line
 
 -- the stream got the line, or where its own count rose a first part of it
 abbrev pub Gets : Option (List ℕ) → Option (List ℕ) → ℕ → ℕ → List ℕ → Type 0
-Gets before now faults faults_now line = Appends before now line ⊎
-    (Rose faults faults_now × AppendsSome before now line)
+Gets before now faults faults_now line =
+    Appends before now line ⊎ (Rose faults faults_now × AppendsSome before now line)
 
 -- the outcome came about: its status is answered, `out` got its text, and `err` its line
 pub record Comes (words : List (List ℕ)) (holds : List ℕ → Held) (status : ℕ)

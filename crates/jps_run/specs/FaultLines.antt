@@ -17,8 +17,8 @@ long_line kind = codes "jps: " ++ kind ++ codes " long\n"
 
 -- a fault by its name, in this line of a text of this kind
 abbrev pub fault_line : List ℕ → List ℕ → ℕ → List ℕ
-fault_line kind name number = codes "jps: " ++ kind ++ codes " " ++ name ++ codes " line " ++ decimal number
-    ++ codes "\n"
+fault_line kind name number =
+    codes "jps: " ++ kind ++ codes " " ++ name ++ codes " line " ++ decimal number ++ codes "\n"
 
 -- what stands in place of a fault's line for want of memory, which is no fault of a text
 abbrev no_fault : List ℕ
@@ -30,8 +30,8 @@ map_line (map.Header number) = fault_line (codes "map") (codes "M1") number
 map_line (map.Side number) = fault_line (codes "map") (codes "M2") number
 map_line (map.Short number) = fault_line (codes "map") (codes "M3") number
 map_line (map.Missing number) = fault_line (codes "map") (codes "M4") number
-map_line (map.Byte number column) = codes "jps: map M5 line " ++ decimal number ++ codes " column " ++ decimal
-    column ++ codes "\n"
+map_line (map.Byte number column) =
+    codes "jps: map M5 line " ++ decimal number ++ codes " column " ++ decimal column ++ codes "\n"
 map_line (map.After number) = fault_line (codes "map") (codes "M6") number
 map_line map.NoMemory = no_fault
 

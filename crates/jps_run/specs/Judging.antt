@@ -15,12 +15,12 @@ pub record AreKept (entries : List Entry) : Type 0 where
   pub each : (k : ℕ) (entry : Entry) → slice_get entries k ≡ Some entry → IsKept entry.length
 
 -- the lines are all rows and the sum, and the status is that of the rows
-pub record AreAllRows (g : GridData) (entries : List Entry) (status : ℕ) (lines : List (List ℕ)) : Type 0
-  where
-    pub rows : List Row
-    pub are : AreRows g entries rows
-    pub all : lines ≡ scen_lines rows
-    pub same_status : status ≡ scen_status rows
+pub record AreAllRows (g : GridData) (entries : List Entry) (status : ℕ) (lines : List (List ℕ))
+    : Type 0 where
+  pub rows : List Row
+  pub are : AreRows g entries rows
+  pub all : lines ≡ scen_lines rows
+  pub same_status : status ≡ scen_status rows
 
 -- so many entries have their rows, and these are counted
 pub record IsJudging (g : GridData) (entries : List Entry) (worked : ℕ) (before now : Option (List ℕ))

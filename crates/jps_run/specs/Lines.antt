@@ -21,8 +21,8 @@ points_text (c ∷ cells) = point_text c ++ points_text cells
 
 -- `walk a b` and these cells
 abbrev pub walk_line : Cost → List Cell → List ℕ
-walk_line cost cells = codes "walk " ++ decimal cost.a ++ codes " " ++ decimal cost.b ++ points_text cells ++
-    codes "\n"
+walk_line cost cells =
+    codes "walk " ++ decimal cost.a ++ codes " " ++ decimal cost.b ++ points_text cells ++ codes "\n"
 
 -- the line shows the answer: of a walk its points, or each cell of their unfolding
 abbrev pub IsLineOf : Show → Answer → List ℕ → Type 0
@@ -30,8 +30,8 @@ IsLineOf show outside line = line ≡ codes "outside\n"
 IsLineOf show blocked line = line ≡ codes "blocked\n"
 IsLineOf show none line = line ≡ codes "none\n"
 IsLineOf Points (walk points cost) line = line ≡ walk_line cost points
-IsLineOf Cells (walk points cost) line = (cells : List Cell) × (unfolding_of points ≡ Some cells) ×
-    (line ≡ walk_line cost cells)
+IsLineOf Cells (walk points cost) line =
+    (cells : List Cell) × (unfolding_of points ≡ Some cells) × (line ≡ walk_line cost cells)
 
 -- a line that shows the answer was appended
 pub record AppendsLine (show : Show) (answer : Answer) (before now : List ℕ) : Type 0 where

@@ -72,14 +72,14 @@ pub data IsOutcomeOn (holds : List ℕ → Held) (m : Map) : Asked → Outcome �
       → IsOutcomeOn holds m (Solve map script pick) (refused 3 line)
   solved : (map script : List ℕ) (pick : Pick) (commands : List Command) (lines : List (List ℕ))
       → HoldsScript (holds script) commands
-      → AreAnswers (map_grid m) commands lines → IsOutcomeOn holds m (Solve map script pick)
-      (answered 0 (concat lines))
+      → AreAnswers (map_grid m) commands lines
+      → IsOutcomeOn holds m (Solve map script pick) (answered 0 (concat lines))
   no_scen : (map scen : List ℕ) (pick : Pick) (line : List ℕ) → IsScenRefused (holds scen) line
       → IsOutcomeOn holds m (Scen map scen pick) (refused 3 line)
   judged : (map scen : List ℕ) (pick : Pick) (entries : List Entry) (rows : List Row)
       → HoldsScen (holds scen) entries
-      → AreRows (map_grid m) entries rows → IsOutcomeOn holds m (Scen map scen pick)
-      (answered (scen_status rows) (concat (scen_lines rows)))
+      → AreRows (map_grid m) entries rows
+      → IsOutcomeOn holds m (Scen map scen pick) (answered (scen_status rows) (concat (scen_lines rows)))
 
 -- the request's map is this one
 pub record HasMap (words : List (List ℕ)) (holds : List ℕ → Held) (asked : Asked) (m : Map) : Type 0 where

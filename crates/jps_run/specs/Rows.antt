@@ -47,8 +47,8 @@ row_text row.Scale = codes "scale"
 row_text row.Outside = codes "outside"
 row_text row.Blocked = codes "blocked"
 row_text row.None = codes "none"
-row_text (row.Judged verdict cost) = verdict_text verdict ++ codes " " ++ decimal cost.a ++ codes " " ++
-    decimal cost.b
+row_text (row.Judged verdict cost) =
+    verdict_text verdict ++ codes " " ++ decimal cost.a ++ codes " " ++ decimal cost.b
 
 -- the line of the row with this number
 abbrev pub row_line : ℕ → Row → List ℕ

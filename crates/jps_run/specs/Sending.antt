@@ -19,13 +19,13 @@ pub record AreSent (before now : Option (List ℕ)) (faults faults_now : ℕ) (w
   pub later : faults ≤ faults_now
 
 -- the bytes that waited were all written, or none was; where the write failed, its count rose and a first part was written
-abbrev pub SendsSo : Option (List ℕ) → Option (List ℕ) → ℕ → ℕ → List ℕ → List ℕ → Result (Unit {0}) Stop
-    → Type 0
+abbrev pub SendsSo : Option (List ℕ) → Option (List ℕ) → ℕ → ℕ → List ℕ → List ℕ
+    → Result (Unit {0}) Stop → Type 0
 SendsSo before now faults faults_now waiting waiting_now (Ok done) =
     (Appends before now waiting × (waiting_now ≡ [])) ⊎ (Appends before now [] × (waiting_now ≡ waiting))
 SendsSo before now faults faults_now waiting waiting_now (Err (Words line)) = ⊥
 SendsSo before now faults faults_now waiting waiting_now (Err (Text line)) = ⊥
 SendsSo before now faults faults_now waiting waiting_now (Err Read) = ⊥
-SendsSo before now faults faults_now waiting waiting_now (Err Write) = Rose faults faults_now × AppendsSome
-    before now waiting
+SendsSo before now faults faults_now waiting waiting_now (Err Write) =
+    Rose faults faults_now × AppendsSome before now waiting
 SendsSo before now faults faults_now waiting waiting_now (Err Memory) = ⊥

@@ -32,23 +32,23 @@ WritesSo before now faults faults_now bytes (Ok done) = Appends before now bytes
 WritesSo before now faults faults_now bytes (Err (Words line)) = ⊥
 WritesSo before now faults faults_now bytes (Err (Text line)) = ⊥
 WritesSo before now faults faults_now bytes (Err Read) = ⊥
-WritesSo before now faults faults_now bytes (Err Write) = Rose faults faults_now × AppendsSome before now
-    bytes
+WritesSo before now faults faults_now bytes (Err Write) =
+    Rose faults faults_now × AppendsSome before now bytes
 WritesSo before now faults faults_now bytes (Err Memory) = ⊥
 
 -- lines were written, all of them; or the first ones, where memory was refused, or where a write failed, whose count
 -- then rose, a first part of the first ones
 abbrev pub WritesLines : {X : Type 0} → (X → List (List ℕ) → Type 0) → (List (List ℕ) → Type 0)
     → Option (List ℕ) → Option (List ℕ) → ℕ → ℕ → Result X Stop → Type 0
-WritesLines AreAll AreSome before now faults faults_now (Ok x) = (lines : List (List ℕ)) × AreAll x lines ×
-    Appends before now (concat lines)
+WritesLines AreAll AreSome before now faults faults_now (Ok x) =
+    (lines : List (List ℕ)) × AreAll x lines × Appends before now (concat lines)
 WritesLines AreAll AreSome before now faults faults_now (Err (Words line)) = ⊥
 WritesLines AreAll AreSome before now faults faults_now (Err (Text line)) = ⊥
 WritesLines AreAll AreSome before now faults faults_now (Err Read) = ⊥
-WritesLines AreAll AreSome before now faults faults_now (Err Write) = Rose faults faults_now ×
-    ((lines : List (List ℕ)) × AreSome lines × AppendsSome before now (concat lines))
-WritesLines AreAll AreSome before now faults faults_now (Err Memory) = (lines : List (List ℕ)) × AreSome lines
-    × Appends before now (concat lines)
+WritesLines AreAll AreSome before now faults faults_now (Err Write) =
+    Rose faults faults_now × ((lines : List (List ℕ)) × AreSome lines × AppendsSome before now (concat lines))
+WritesLines AreAll AreSome before now faults faults_now (Err Memory) =
+    (lines : List (List ℕ)) × AreSome lines × Appends before now (concat lines)
 
 -- the outcome came about: its status is answered, and `out` got its text
 pub record HasOutcome (words : List (List ℕ)) (holds : List ℕ → Held) (status : ℕ)
@@ -62,15 +62,15 @@ pub record HasOutcome (words : List (List ℕ)) (holds : List ℕ → Held) (sta
 -- the work came to the outcome with this status, which is 0 or 1, or it stops
 abbrev pub HasWorked : List (List ℕ) → (List ℕ → Held) → (List ℕ → ℕ) → (List ℕ → ℕ) → Option (List ℕ)
     → Option (List ℕ) → ℕ → ℕ → Result ℕ Stop → Type 0
-HasWorked words holds files files_now before now faults faults_now (Ok status) = (status ≤ 1) × HasOutcome
-    words holds status before now []
-HasWorked words holds files files_now before now faults faults_now (Err (Words line)) = IsOutcome words holds
-    (refused 2 line.items) × Appends before now []
-HasWorked words holds files files_now before now faults faults_now (Err (Text line)) = IsOutcome words holds
-    (refused 3 line.items) × Appends before now []
-HasWorked words holds files files_now before now faults faults_now (Err Read) = FileRose words files files_now
-    × Appends before now []
-HasWorked words holds files files_now before now faults faults_now (Err Write) = Rose faults faults_now ×
-    HasPart words holds before now
-HasWorked words holds files files_now before now faults faults_now (Err Memory) = HasLines words holds before
-    now
+HasWorked words holds files files_now before now faults faults_now (Ok status) =
+    (status ≤ 1) × HasOutcome words holds status before now []
+HasWorked words holds files files_now before now faults faults_now (Err (Words line)) =
+    IsOutcome words holds (refused 2 line.items) × Appends before now []
+HasWorked words holds files files_now before now faults faults_now (Err (Text line)) =
+    IsOutcome words holds (refused 3 line.items) × Appends before now []
+HasWorked words holds files files_now before now faults faults_now (Err Read) =
+    FileRose words files files_now × Appends before now []
+HasWorked words holds files files_now before now faults faults_now (Err Write) =
+    Rose faults faults_now × HasPart words holds before now
+HasWorked words holds files files_now before now faults faults_now (Err Memory) =
+    HasLines words holds before now

@@ -21,7 +21,9 @@ abbrev pub place_of : ℕ → ℕ
 place_of row = suc (suc (suc (suc row)))
 
 module _ (lines : List (List ℕ)) (row : ℕ) where
-  module _ (height width : ℕ) (old new : Left) (line : Option Line) (same_height : height ≡ height_of lines) (same_width : width ≡ width_of lines) (inside : row < height) (stands : Stands lines (place_of row) old) (gives : GivesNext old line new) where
+  module _ (height width : ℕ) (old new : Left) (line : Option Line) (same_height : height ≡ height_of lines)
+      (same_width : width ≡ width_of lines) (inside : row < height) (stands : Stands lines (place_of row) old)
+      (gives : GivesNext old line new) where
     judges : fault_at lines (place_of row) ≡ row_fault (row + 5) width (slice_get lines (place_of row))
     judges =
         let lt : row < height_of lines = omega arith in
@@ -31,41 +33,57 @@ module _ (lines : List (List ℕ)) (row : ℕ) where
     pub row_passed : row_fault (row + 5) width (bytes_of line) ≡ None → Stands lines (place_of (row + 1)) new
     row_passed right =
         let next : place_of (row + 1) ≡ suc (place_of row) = omega arith in
-        subst (λ (place : ℕ). Stands lines place new) (sym next) (judged_right lines (place_of row) (row_fault (row + 5) width) judges old new line stands gives (λ none. cc) right)
+        subst (λ (place : ℕ). Stands lines place new) (sym next)
+        (judged_right lines (place_of row) (row_fault (row + 5) width) judges old new line stands gives
+        (λ none. cc) right)
 
     -- and its bytes are the next cells
-    pub row_added : (bytes : List ℕ) → bytes_of line ≡ Some bytes → concat (take (row + 1) (drop 4 lines)) ≡ concat (take row (drop 4 lines)) ++ bytes
+    pub row_added : (bytes : List ℕ) → bytes_of line ≡ Some bytes
+        → concat (take (row + 1) (drop 4 lines)) ≡ concat (take row (drop 4 lines)) ++ bytes
     row_added bytes are =
         let place : 4 + row ≡ place_of row = omega arith in
-        let at : slice_get (drop 4 lines) row ≡ Some bytes = slice_get-drop 4 row lines ∙ ap (slice_get lines) place ∙ sym (line_taken lines (place_of row) old new line stands gives) ∙ are in
+        let at : slice_get (drop 4 lines) row ≡ Some bytes = slice_get-drop 4 row lines
+        ∙ ap (slice_get lines) place
+        ∙ sym (line_taken lines (place_of row) old new line stands gives) ∙ are in
         let there = slice_get_within (drop 4 lines) row bytes at in
-        ap concat (take_more (drop 4 lines) row [] there ∙ ap (λ (last : List ℕ). take row (drop 4 lines) ++ last ∷ []) (get_or_from_slice_get (drop 4 lines) row bytes [] at)) ∙ concat_push (take row (drop 4 lines)) bytes
+        ap concat (take_more (drop 4 lines) row [] there
+        ∙ ap (λ (last : List ℕ). take row (drop 4 lines) ++ last ∷ [])
+        (get_or_from_slice_get (drop 4 lines) row bytes [] at))
+        ∙ concat_push (take row (drop 4 lines)) bytes
 
-    pub row_wrong : (fault : MapFault) → row_fault (row + 5) width (bytes_of line) ≡ Some fault → BreaksFirst lines fault
-    row_wrong fault wrong = judged_wrong lines (place_of row) (row_fault (row + 5) width) judges old new line fault stands gives wrong
+    pub row_wrong : (fault : MapFault) → row_fault (row + 5) width (bytes_of line) ≡ Some fault
+        → BreaksFirst lines fault
+    row_wrong fault wrong = judged_wrong lines (place_of row) (row_fault (row + 5) width) judges old new line
+        fault stands gives wrong
 
   module _ (after : height_of lines ≤ row) where
     judges_after : fault_at lines (place_of row) ≡ after_fault (row + 5) (slice_get lines (place_of row))
     judges_after = rw (le-ltb row (height_of lines) after) refl
 
-    module _ (old new : Left) (line : Line) (stands : Stands lines (place_of row) old) (gives : GivesNext old (Some line) new) where
+    module _ (old new : Left) (line : Line) (stands : Stands lines (place_of row) old)
+        (gives : GivesNext old (Some line) new) where
       -- an empty line is passed
       pub empty_passed : is_nothing line.bytes.now ≡ true → Stands lines (place_of (row + 1)) new
       empty_passed empty =
           let next : place_of (row + 1) ≡ suc (place_of row) = omega arith in
-          subst (λ (place : ℕ). Stands lines place new) (sym next) (stands_more lines (place_of row) old new line stands gives (judges_after ∙ ap (after_fault (row + 5)) (sym (line_taken lines (place_of row) old new (Some line) stands gives)) ∙ rw empty refl))
+          subst (λ (place : ℕ). Stands lines place new) (sym next)
+          (stands_more lines (place_of row) old new line stands gives
+          (judges_after ∙ ap (after_fault (row + 5))
+          (sym (line_taken lines (place_of row) old new (Some line) stands gives)) ∙ rw empty refl))
 
       -- another breaks the grammar
       pub other_wrong : is_nothing line.bytes.now ≡ false → BreaksFirst lines (After line.number)
       other_wrong other =
           let number : row + 5 ≡ line.number = omega (arith, gives.1, stands.number) in
-          judged_wrong lines (place_of row) (after_fault (row + 5)) judges_after old new (Some line) (After line.number) stands gives (rw (other, number) refl)
+          judged_wrong lines (place_of row) (after_fault (row + 5)) judges_after old new (Some line)
+          (After line.number) stands gives (rw (other, number) refl)
 
     -- at the end nothing is broken
     pub all_clean : (old new : Left) → Stands lines (place_of row) old → GivesNext old None new → Clean lines
     all_clean old new stands gives k below =
         let none : drop (place_of row) lines ≡ [] = sym stands.rest ∙ gives.0 in
-        let short : length lines ≤ place_of row = omega (arith, length-drop (place_of row) lines, ap length none) in
+        let short : length lines ≤ place_of row =
+        omega (arith, length-drop (place_of row) lines, ap length none) in
         elim (cases_lt k (place_of row)) [
           | inl before ↦ stands.clean k before
           | inr past ↦

@@ -11,23 +11,35 @@ use Rattle.map_text.proofs.Search.{line_taken, judged_right, judged_wrong}
 
 -- before the first line nothing is broken
 pub stands_first : (left : Left) → left.number ≡ 1 → Stands left.lines 0 left
-stands_first left number = record { clean = λ k below. absurd (omega arith); rest = refl; number = omega arith }
+stands_first left number =
+    record { clean = λ k below. absurd (omega arith); rest = refl; number = omega arith }
 
-module _ (lines : List (List ℕ)) (place : ℕ) (old new : Left) (line : Option Line) (stands : Stands lines place old) (gives : GivesNext old line new) where
-  module _ (number : ℕ) (words : List (List ℕ)) (judges : fault_at lines place ≡ words_fault number (has_words words (slice_get lines place))) where
+module _ (lines : List (List ℕ)) (place : ℕ) (old new : Left) (line : Option Line)
+    (stands : Stands lines place old) (gives : GivesNext old line new) where
+  module _ (number : ℕ) (words : List (List ℕ))
+      (judges : fault_at lines place ≡ words_fault number (has_words words (slice_get lines place))) where
     pub words_right : true ≡ has_words words (bytes_of line) → Stands lines (suc place) new
-    words_right right = judged_right lines place (λ there. words_fault number (has_words words there)) judges old new line stands gives (λ none. cc) (ap (words_fault number) (sym right))
+    words_right right = judged_right lines place (λ there. words_fault number (has_words words there)) judges
+        old new line stands gives (λ none. cc) (ap (words_fault number) (sym right))
 
     pub words_wrong : false ≡ has_words words (bytes_of line) → BreaksFirst lines (Header number)
-    words_wrong wrong = judged_wrong lines place (λ there. words_fault number (has_words words there)) judges old new line (Header number) stands gives (ap (words_fault number) (sym wrong))
+    words_wrong wrong = judged_wrong lines place (λ there. words_fault number (has_words words there)) judges
+        old new line (Header number) stands gives (ap (words_fault number) (sym wrong))
 
-  module _ (number : ℕ) (word : List ℕ) (judges : fault_at lines place ≡ side_fault number (side_on word (slice_get lines place))) where
+  module _ (number : ℕ) (word : List ℕ)
+      (judges : fault_at lines place ≡ side_fault number (side_on word (slice_get lines place))) where
     pub side_right : side_fault number (side_on word (bytes_of line)) ≡ None → Stands lines (suc place) new
-    side_right right = judged_right lines place (λ there. side_fault number (side_on word there)) judges old new line stands gives (λ none. cc) right
+    side_right right = judged_right lines place (λ there. side_fault number (side_on word there)) judges old
+        new line stands gives (λ none. cc) right
 
-    pub side_wrong : (fault : MapFault) → side_fault number (side_on word (bytes_of line)) ≡ Some fault → BreaksFirst lines fault
-    side_wrong fault wrong = judged_wrong lines place (λ there. side_fault number (side_on word there)) judges old new line fault stands gives wrong
+    pub side_wrong : (fault : MapFault) → side_fault number (side_on word (bytes_of line)) ≡ Some fault
+        → BreaksFirst lines fault
+    side_wrong fault wrong = judged_wrong lines place (λ there. side_fault number (side_on word there)) judges
+        old new line fault stands gives wrong
 
   -- what the line names
-  pub side_named : (word : List ℕ) (side : ℕ) → side_on word (bytes_of line) ≡ Some side → side ≡ unwrap_or (side_on word (slice_get lines place)) 0
-  side_named word side named = sym (ap (λ (there : Option (List ℕ)). unwrap_or (side_on word there) 0) (sym (line_taken lines place old new line stands gives)) ∙ ap (λ (found : Option ℕ). unwrap_or found 0) named)
+  pub side_named : (word : List ℕ) (side : ℕ) → side_on word (bytes_of line) ≡ Some side
+      → side ≡ unwrap_or (side_on word (slice_get lines place)) 0
+  side_named word side named = sym (ap (λ (there : Option (List ℕ)). unwrap_or (side_on word there) 0)
+      (sym (line_taken lines place old new line stands gives))
+      ∙ ap (λ (found : Option ℕ). unwrap_or found 0) named)

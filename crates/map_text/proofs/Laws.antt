@@ -13,25 +13,31 @@ use Rattle.map_text.proofs.Clean.{Clean, clean_spells, broken_inside}
 use Rattle.map_text.proofs.Spelled.{spelled_clean, spelled_map}
 
 -- a text that breaks the grammar is read as its first fault
-pub map_of_broken : (text : List ℕ) (fault : MapFault) → BreaksFirst (lines_of text) fault → map_of text ≡ Err fault
+pub map_of_broken : (text : List ℕ) (fault : MapFault) → BreaksFirst (lines_of text) fault
+    → map_of text ≡ Err fault
 unfolding map_of
 map_of_broken text fault first =
     let lines = lines_of text in
     let inside = broken_inside lines first.place fault first.before first.breaks in
-    ap (λ (found : Option MapFault). reading found (map_on lines)) (first_fault_found lines 0 (length lines + 1) first.place fault first.before first.breaks (omega arith) (omega arith))
+    ap (λ (found : Option MapFault). reading found (map_on lines))
+    (first_fault_found lines 0 (length lines + 1) first.place fault first.before first.breaks
+    (omega arith) (omega arith))
 
 -- one that breaks it nowhere is read as the map on its lines
 pub map_of_clean : (text : List ℕ) → Clean (lines_of text) → map_of text ≡ Ok (map_on (lines_of text))
 unfolding map_of
 map_of_clean text clean =
     let lines = lines_of text in
-    ap (λ (found : Option MapFault). reading found (map_on lines)) (first_fault_none lines 0 (length lines + 1) (λ k below. clean k (omega arith)))
+    ap (λ (found : Option MapFault). reading found (map_on lines))
+    (first_fault_none lines 0 (length lines + 1) (λ k below. clean k (omega arith)))
 
-reading_ok : (found : Option MapFault) (on map : Map) → reading found on ≡ Ok map → (found ≡ None) × (on ≡ map)
+reading_ok : (found : Option MapFault) (on map : Map) → reading found on ≡ Ok map
+    → (found ≡ None) × (on ≡ map)
 reading_ok None on map read = (refl, cc)
 reading_ok (Some fault) on map read = absurd cc
 
-reading_err : (found : Option MapFault) (on : Map) (fault : MapFault) → reading found on ≡ Err fault → found ≡ Some fault
+reading_err : (found : Option MapFault) (on : Map) (fault : MapFault) → reading found on ≡ Err fault
+    → found ≡ Some fault
 reading_err None on fault read = absurd cc
 reading_err (Some other) on fault read = cc
 
@@ -45,19 +51,25 @@ map_of_ok text map read =
     subst (Spells text) parts.1 (clean_spells text lines refl (λ k below. clean k (omega arith)))
 
 -- what is read as a fault breaks the grammar first so
-pub map_of_err : (text : List ℕ) (fault : MapFault) → map_of text ≡ Err fault → BreaksFirst (lines_of text) fault
+pub map_of_err : (text : List ℕ) (fault : MapFault) → map_of text ≡ Err fault
+    → BreaksFirst (lines_of text) fault
 unfolding map_of
 map_of_err text fault read =
     let lines = lines_of text in
-    first_fault_breaks lines 0 (length lines + 1) fault (λ k below. absurd (omega arith)) (reading_err (first_fault lines 0 (length lines + 1)) (map_on lines) fault read)
+    first_fault_breaks lines 0 (length lines + 1) fault (λ k below. absurd (omega arith))
+    (reading_err (first_fault lines 0 (length lines + 1)) (map_on lines) fault read)
 
 -- what spells a map is read as it
 pub map_of_spelled : (text : List ℕ) (map : Map) → Spells text map → map_of text ≡ Ok map
 map_of_spelled text map s =
-    let clean : Clean (lines_of text) = λ k below. ap (λ (lines : List (List ℕ)). fault_at lines k) s.lines ∙ spelled_clean text map s k in
-    map_of_clean text clean ∙ ap (λ (lines : List (List ℕ)). let read : Result Map MapFault = Ok (map_on lines) in read) s.lines ∙ ap (λ (on : Map). let read : Result Map MapFault = Ok on in read) (spelled_map text map s)
+    let clean : Clean (lines_of text) =
+    λ k below. ap (λ (lines : List (List ℕ)). fault_at lines k) s.lines ∙ spelled_clean text map s k in
+    map_of_clean text clean ∙ ap (λ (lines : List (List ℕ)). let read : Result Map MapFault = Ok
+    (map_on lines) in read) s.lines
+    ∙ ap (λ (on : Map). let read : Result Map MapFault = Ok on in read) (spelled_map text map s)
 
-tells_err : (fault : MapFault) (read : Result Map MapFault) → Tells (Err fault) read → fault ≢ NoMemory → read ≡ Err fault
+tells_err : (fault : MapFault) (read : Result Map MapFault) → Tells (Err fault) read → fault ≢ NoMemory
+    → read ≡ Err fault
 tells_err (Header line) read tells other = tells
 tells_err (Side line) read tells other = tells
 tells_err (Short line) read tells other = tells
@@ -76,15 +88,20 @@ err_tells (After line) read is = is
 err_tells NoMemory read is = tt
 
 -- a text that breaks the grammar is answered by its first fault
-pub broken_tells : (text : List ℕ) (lines : List (List ℕ)) (fault : MapFault) → lines ≡ lines_of text → BreaksFirst lines fault → Tells (Err fault) (map_of text)
+pub broken_tells : (text : List ℕ) (lines : List (List ℕ)) (fault : MapFault) → lines ≡ lines_of text
+    → BreaksFirst lines fault → Tells (Err fault) (map_of text)
 broken_tells text lines fault are first =
-    err_tells fault (map_of text) (map_of_broken text fault (subst (λ (all : List (List ℕ)). BreaksFirst all fault) are first))
+    err_tells fault (map_of text) (map_of_broken text fault
+    (subst (λ (all : List (List ℕ)). BreaksFirst all fault) are first))
 
 -- the same of an answer
-pub tells_spelled : (text : List ℕ) (answer : Result MapText MapFault) → Tells answer (map_of text) → IfOk answer (λ map. Spells text (plain map))
+pub tells_spelled : (text : List ℕ) (answer : Result MapText MapFault) → Tells answer (map_of text)
+    → IfOk answer (λ map. Spells text (plain map))
 tells_spelled text (Ok map) tells = map_of_ok text (plain map) tells
 tells_spelled text (Err fault) tells = tt
 
-pub tells_broken : (text : List ℕ) (answer : Result MapText MapFault) → Tells answer (map_of text) → IfErr answer (λ fault. fault ≢ NoMemory → BreaksFirst (lines_of text) fault)
+pub tells_broken : (text : List ℕ) (answer : Result MapText MapFault) → Tells answer (map_of text)
+    → IfErr answer (λ fault. fault ≢ NoMemory → BreaksFirst (lines_of text) fault)
 tells_broken text (Ok map) tells = tt
-tells_broken text (Err fault) tells = λ other. map_of_err text fault (tells_err fault (map_of text) tells other)
+tells_broken text (Err fault) tells =
+    λ other. map_of_err text fault (tells_err fault (map_of text) tells other)

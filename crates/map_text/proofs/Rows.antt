@@ -24,29 +24,36 @@ no_stranger None number none = refl
 no_stranger (Some place) number none = absurd cc
 
 -- a row that breaks nothing is there and is a row
-pub row_right : (number width : ℕ) (line : Option (List ℕ)) → row_fault number width line ≡ None → (row : List ℕ) × (line ≡ Some row) × IsRow width row
+pub row_right : (number width : ℕ) (line : Option (List ℕ)) → row_fault number width line ≡ None
+    → (row : List ℕ) × (line ≡ Some row) × IsRow width row
 row_right number width None none = absurd cc
 row_right number width (Some row) none =
     elim (cases_Bool (eqb (length row) width)) [
       | inl same ↦
           let strange = no_stranger (position (λ byte. not (is_terrain byte)) row) number (rw same at none) in
           let each = position-None (λ byte. not (is_terrain byte)) row strange in
-          let all : list_all is_terrain row ≡ true = list_all-from_AllPass is_terrain row (λ k d below. rw (get_or_default row k d 0 below) (not-false (is_terrain (get_or row k 0)) (each k below))) in
+          let all : list_all is_terrain row ≡ true = list_all-from_AllPass is_terrain row
+          (λ k d below. rw (get_or_default row k d 0 below)
+          (not-false (is_terrain (get_or row k 0)) (each k below))) in
           (row, refl, record { long = eqb-true (length row) width same; terrain = all })
       | inr other ↦ absurd (cc (rw other at none))
     ]
 
 -- where no byte passes, no place does
-nowhere : (p : ℕ → Bool) (bytes : List ℕ) → ((k : ℕ) → k < length bytes → p (get_or bytes k 0) ≡ false) → position p bytes ≡ None
+nowhere : (p : ℕ → Bool) (bytes : List ℕ) → ((k : ℕ) → k < length bytes → p (get_or bytes k 0) ≡ false)
+    → position p bytes ≡ None
 nowhere p bytes none =
-    let end = position_or_len_is p bytes (length bytes) 0 (omega arith) none (λ below. absurd (omega arith)) in
+    let end =
+    position_or_len_is p bytes (length bytes) 0 (omega arith) none (λ below. absurd (omega arith)) in
     let long : length bytes ≤ length bytes = omega arith in
     rw (end, le-ltb (length bytes) (length bytes) long) refl
 
-none_passes : (p : ℕ → Bool) (bytes : List ℕ) → list_any p bytes ≡ false → (k : ℕ) → k < length bytes → p (get_or bytes k 0) ≡ false
+none_passes : (p : ℕ → Bool) (bytes : List ℕ) → list_any p bytes ≡ false → (k : ℕ) → k < length bytes
+    → p (get_or bytes k 0) ≡ false
 none_passes p [] none k below = absurd (omega arith)
 none_passes p (byte ∷ bytes) none zero below = (or_parts (p byte) (list_any p bytes) none).0
-none_passes p (byte ∷ bytes) none (suc k) below = none_passes p bytes (or_parts (p byte) (list_any p bytes) none).1 k (omega arith)
+none_passes p (byte ∷ bytes) none (suc k) below =
+    none_passes p bytes (or_parts (p byte) (list_any p bytes) none).1 k (omega arith)
 
 pub position_nowhere : (p : ℕ → Bool) (bytes : List ℕ) → list_any p bytes ≡ false → position p bytes ≡ None
 position_nowhere p bytes none = nowhere p bytes (none_passes p bytes none)
@@ -54,7 +61,9 @@ position_nowhere p bytes none = nowhere p bytes (none_passes p bytes none)
 -- a row breaks nothing
 pub row_fine : (number width : ℕ) (row : List ℕ) → IsRow width row → row_fault number width (Some row) ≡ None
 row_fine number width row is =
-    let none = nowhere (λ byte. not (is_terrain byte)) row (λ k below. not_from_true (is_terrain (get_or row k 0)) (AllPass-from_list_all is_terrain row is.terrain k 0 below)) in
+    let none = nowhere (λ byte. not (is_terrain byte)) row
+    (λ k below. not_from_true (is_terrain (get_or row k 0))
+    (AllPass-from_list_all is_terrain row is.terrain k 0 below)) in
     rw (eq-eqb (length row) width is.long, none) refl
 
 -- a line after the rows that breaks nothing is empty
@@ -63,31 +72,41 @@ after_right number [] none = refl
 after_right number (byte ∷ line) none = absurd cc
 
 -- what holds of the line at each place
-pub each_right : (P : List ℕ → Type 0) (lines : List (List ℕ)) → ((k : ℕ) (line : List ℕ) → slice_get lines k ≡ Some line → P line) → AllByRecursion P lines
+pub each_right : (P : List ℕ → Type 0) (lines : List (List ℕ))
+    → ((k : ℕ) (line : List ℕ) → slice_get lines k ≡ Some line → P line) → AllByRecursion P lines
 each_right P [] right = tt
-each_right P (line ∷ lines) right = (right 0 line refl, each_right P lines (λ k there at. right (suc k) there at))
+each_right P (line ∷ lines) right =
+    (right 0 line refl, each_right P lines (λ k there at. right (suc k) there at))
 
-pub right_at : (P : List ℕ → Type 0) (lines : List (List ℕ)) (k : ℕ) (line : List ℕ) → AllByRecursion P lines → slice_get lines k ≡ Some line → P line
+pub right_at : (P : List ℕ → Type 0) (lines : List (List ℕ)) (k : ℕ) (line : List ℕ) → AllByRecursion P lines
+    → slice_get lines k ≡ Some line → P line
 right_at P [] k line all at = absurd cc
 right_at P (first ∷ lines) zero line all at = subst P (same_Some first line at) all.0
 right_at P (first ∷ lines) (suc k) line all at = right_at P lines k line all.1 at
 
 -- the bytes of rows are terrain, and so many
-pub terrain_of_rows : (width : ℕ) (rows : List (List ℕ)) → AllByRecursion (IsRow width) rows → list_all is_terrain (concat rows) ≡ true
+pub terrain_of_rows : (width : ℕ) (rows : List (List ℕ)) → AllByRecursion (IsRow width) rows
+    → list_all is_terrain (concat rows) ≡ true
 terrain_of_rows width [] all = refl
-terrain_of_rows width (row ∷ rows) all = list_all-append is_terrain row (concat rows) ∙ and_from (list_all is_terrain row) (list_all is_terrain (concat rows)) all.0.terrain (terrain_of_rows width rows all.1)
+terrain_of_rows width (row ∷ rows) all = list_all-append is_terrain row (concat rows)
+    ∙ and_from (list_all is_terrain row) (list_all is_terrain (concat rows)) all.0.terrain
+    (terrain_of_rows width rows all.1)
 
-pub length_of_rows : (width : ℕ) (rows : List (List ℕ)) → AllByRecursion (IsRow width) rows → length (concat rows) ≡ length rows * width
+pub length_of_rows : (width : ℕ) (rows : List (List ℕ)) → AllByRecursion (IsRow width) rows
+    → length (concat rows) ≡ length rows * width
 length_of_rows width [] all = omega arith
-length_of_rows width (row ∷ rows) all = grind (arith, length-append row (concat rows), length_of_rows width rows all.1, all.0.long)
+length_of_rows width (row ∷ rows) all =
+    grind (arith, length-append row (concat rows), length_of_rows width rows all.1, all.0.long)
 
 -- one row more
 pub concat_push : (rows : List (List ℕ)) (row : List ℕ) → concat (rows ++ row ∷ []) ≡ concat rows ++ row
 concat_push [] row = append-nil row
-concat_push (first ∷ rows) row = ap (λ (bytes : List ℕ). first ++ bytes) (concat_push rows row) ∙ sym (append_assoc first (concat rows) row)
+concat_push (first ∷ rows) row = ap (λ (bytes : List ℕ). first ++ bytes) (concat_push rows row)
+    ∙ sym (append_assoc first (concat rows) row)
 
 -- the line at a place of a part of the lines
-pub slice_get-take : (n k : ℕ) (lines : List (List ℕ)) (line : List ℕ) → slice_get (take n lines) k ≡ Some line → (k < n) × (slice_get lines k ≡ Some line)
+pub slice_get-take : (n k : ℕ) (lines : List (List ℕ)) (line : List ℕ)
+    → slice_get (take n lines) k ≡ Some line → (k < n) × (slice_get lines k ≡ Some line)
 slice_get-take zero k lines line at = absurd cc
 slice_get-take (suc n) k [] line at = absurd cc
 slice_get-take (suc n) zero (first ∷ lines) line at = (omega arith, at)

@@ -14,15 +14,19 @@ slice_get_first lines zero = refl
 slice_get_first [] (suc place) = refl
 slice_get_first (line ∷ lines) (suc place) = slice_get_first lines place
 
-first_taken : (old new : Left) (line : Option Line) → GivesNext old line new → bytes_of line ≡ slice_get old.lines 0
+first_taken : (old new : Left) (line : Option Line) → GivesNext old line new
+    → bytes_of line ≡ slice_get old.lines 0
 first_taken old new None gives = rw gives.0 refl
 first_taken old new (Some line) gives = rw gives.0 refl
 
 -- the line that a call of `next` gives is that of the place
-pub line_taken : (lines : List (List ℕ)) (place : ℕ) (old new : Left) (line : Option Line) → Stands lines place old → GivesNext old line new → bytes_of line ≡ slice_get lines place
-line_taken lines place old new line stands gives = first_taken old new line gives ∙ ap (λ (left : List (List ℕ)). slice_get left 0) stands.rest ∙ sym (slice_get_first lines place)
+pub line_taken : (lines : List (List ℕ)) (place : ℕ) (old new : Left) (line : Option Line)
+    → Stands lines place old → GivesNext old line new → bytes_of line ≡ slice_get lines place
+line_taken lines place old new line stands gives = first_taken old new line gives
+    ∙ ap (λ (left : List (List ℕ)). slice_get left 0) stands.rest ∙ sym (slice_get_first lines place)
 
-pub clean_more : (lines : List (List ℕ)) (place : ℕ) → CleanBefore lines place → fault_at lines place ≡ None → CleanBefore lines (suc place)
+pub clean_more : (lines : List (List ℕ)) (place : ℕ) → CleanBefore lines place → fault_at lines place ≡ None
+    → CleanBefore lines (suc place)
 clean_more lines place before here k below =
     elim (cases_eq k place) [
       | inl same ↦ ap (fault_at lines) same ∙ here
@@ -30,7 +34,8 @@ clean_more lines place before here k below =
     ]
 
 -- a line that breaks nothing is passed
-pub stands_more : (lines : List (List ℕ)) (place : ℕ) (old new : Left) (line : Line) → Stands lines place old → GivesNext old (Some line) new → fault_at lines place ≡ None → Stands lines (suc place) new
+pub stands_more : (lines : List (List ℕ)) (place : ℕ) (old new : Left) (line : Line) → Stands lines place old
+    → GivesNext old (Some line) new → fault_at lines place ≡ None → Stands lines (suc place) new
 stands_more lines place old new line stands gives here =
     let next : place + 1 ≡ suc place = omega arith in
     let after : drop 1 (drop place lines) ≡ drop (suc place) lines = rw (drop-drop, next) refl in
@@ -41,15 +46,19 @@ stands_more lines place old new line stands gives here =
     }
 
 -- Below, the line of the place is judged so.
-module _ (lines : List (List ℕ)) (place : ℕ) (judge : Option (List ℕ) → Option MapFault) (judges : fault_at lines place ≡ judge (slice_get lines place)) where
+module _ (lines : List (List ℕ)) (place : ℕ) (judge : Option (List ℕ) → Option MapFault)
+    (judges : fault_at lines place ≡ judge (slice_get lines place)) where
   -- a line that the judge finds right, who finds an absent line wrong, is passed
-  pub judged_right : (old new : Left) (line : Option Line) → Stands lines place old → GivesNext old line new → (judge None ≡ None → ⊥) → judge (bytes_of line) ≡ None → Stands lines (suc place) new
+  pub judged_right : (old new : Left) (line : Option Line) → Stands lines place old → GivesNext old line new
+      → (judge None ≡ None → ⊥) → judge (bytes_of line) ≡ None → Stands lines (suc place) new
   judged_right old new None stands gives absent right = absurd (absent right)
   judged_right old new (Some line) stands gives absent right =
-      stands_more lines place old new line stands gives (judges ∙ ap judge (sym (line_taken lines place old new (Some line) stands gives)) ∙ right)
+      stands_more lines place old new line stands gives
+      (judges ∙ ap judge (sym (line_taken lines place old new (Some line) stands gives)) ∙ right)
 
   -- one that the judge finds wrong is the first that breaks the grammar
-  pub judged_wrong : (old new : Left) (line : Option Line) (fault : MapFault) → Stands lines place old → GivesNext old line new → judge (bytes_of line) ≡ Some fault → BreaksFirst lines fault
+  pub judged_wrong : (old new : Left) (line : Option Line) (fault : MapFault) → Stands lines place old
+      → GivesNext old line new → judge (bytes_of line) ≡ Some fault → BreaksFirst lines fault
   judged_wrong old new line fault stands gives wrong = record {
     place = place;
     breaks = judges ∙ ap judge (sym (line_taken lines place old new line stands gives)) ∙ wrong;

@@ -11,10 +11,12 @@ use Rattle.map_text.specs.Faults.{words_fault, side_in, side_fault}
 
 -- a line with these words has these fields
 pub same_words : (fields words : List (List ℕ)) → pointwise bytes_eq fields words ≡ true → fields ≡ words
-same_words fields words same = (slice_eq-Decides bytes_eq-Decides fields words (pointwise bytes_eq fields words) refl).0 same
+same_words fields words same =
+    (slice_eq-Decides bytes_eq-Decides fields words (pointwise bytes_eq fields words) refl).0 same
 
 pub words_same : (words : List (List ℕ)) → pointwise bytes_eq words words ≡ true
-words_same words = (slice_eq-Decides bytes_eq-Decides words words (pointwise bytes_eq words words) refl).1 refl
+words_same words =
+    (slice_eq-Decides bytes_eq-Decides words words (pointwise bytes_eq words words) refl).1 refl
 
 -- a header line that breaks nothing has its words
 pub words_right : (number : ℕ) (right : Bool) → words_fault number right ≡ None → right ≡ true
@@ -29,15 +31,19 @@ pub record NamesGoodSide (word : List ℕ) (fields : List (List ℕ)) (side : �
   pub least : 1 ≤ side
   pub most : side ≤ 4096
 
-good_side : (number : ℕ) (side : Option ℕ) → side_fault number side ≡ None → (n : ℕ) × (side ≡ Some n) × (1 ≤ n) × (n ≤ 4096)
+good_side : (number : ℕ) (side : Option ℕ) → side_fault number side ≡ None
+    → (n : ℕ) × (side ≡ Some n) × (1 ≤ n) × (n ≤ 4096)
 good_side number None none = absurd cc
 good_side number (Some n) none =
     elim (cases_Bool (leb 1 n && leb n 4096)) [
-      | inl fits ↦ let parts = and_parts (leb 1 n) (leb n 4096) fits in (n, refl, leb-true 1 n parts.0, leb-true n 4096 parts.1)
+      | inl fits ↦ let parts =
+          and_parts (leb 1 n) (leb n 4096) fits in (n, refl, leb-true 1 n parts.0, leb-true n 4096 parts.1)
       | inr broken ↦ absurd (cc (ap (λ (b : Bool). cond b None (Some (Side number))) broken))
     ]
 
-pub side_right : (number : ℕ) (word : List ℕ) (fields : List (List ℕ)) → side_fault number (side_in word fields) ≡ None → NamesGoodSide word fields (unwrap_or (side_in word fields) 0)
+pub side_right : (number : ℕ) (word : List ℕ) (fields : List (List ℕ))
+    → side_fault number (side_in word fields) ≡ None
+    → NamesGoodSide word fields (unwrap_or (side_in word fields) 0)
 side_right number word [] none = absurd cc
 side_right number word (name ∷ []) none = absurd cc
 side_right number word (name ∷ digits ∷ []) none =
@@ -45,14 +51,23 @@ side_right number word (name ∷ digits ∷ []) none =
       | inl same ↦
           let good = good_side number (number_of digits) (rw same at none) in
           let word_is : name ≡ word = (bytes_eq-Decides name word).0 same in
-          rw (same, good.1) (record { digits = digits; are = ap (λ (first : List ℕ). first ∷ digits ∷ []) word_is; value = good.1; least = good.2; most = good.3 })
+          rw (same, good.1) (record {
+            digits = digits;
+            are = ap (λ (first : List ℕ). first ∷ digits ∷ [])
+                word_is;
+            value = good.1;
+            least = good.2;
+            most = good.3;
+          })
       | inr other ↦ absurd (cc (rw other at none))
     ]
 side_right number word (name ∷ digits ∷ more ∷ fields) none = absurd cc
 
 -- and the other way round
-pub side_named : (word digits : List ℕ) (side : ℕ) → number_of digits ≡ Some side → side_in word (word ∷ digits ∷ []) ≡ Some side
+pub side_named : (word digits : List ℕ) (side : ℕ) → number_of digits ≡ Some side
+    → side_in word (word ∷ digits ∷ []) ≡ Some side
 side_named word digits side value = rw ((bytes_eq-Decides word word).1 refl) value
 
 pub side_fault_none : (number side : ℕ) → 1 ≤ side → side ≤ 4096 → side_fault number (Some side) ≡ None
-side_fault_none number side least most = rw (and_from (leb 1 side) (leb side 4096) (le-leb 1 side least) (le-leb side 4096 most)) refl
+side_fault_none number side least most =
+    rw (and_from (leb 1 side) (leb side 4096) (le-leb 1 side least) (le-leb side 4096 most)) refl

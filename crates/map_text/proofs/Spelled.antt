@@ -13,43 +13,53 @@ use Rattle.map_text.specs.Faults.{fault_at, row_fault, side_in, after_fault, hei
 use Rattle.map_text.proofs.Sides.{side_named, side_fault_none}
 use Rattle.map_text.proofs.Rows.{IsRow, row_fine, right_at}
 
-are_rows : (width : ℕ) (rows : List (List ℕ)) → AllByRecursion (λ row. length row ≡ width) rows → list_all is_terrain (concat rows) ≡ true → AllByRecursion (IsRow width) rows
+are_rows : (width : ℕ) (rows : List (List ℕ)) → AllByRecursion (λ row. length row ≡ width) rows
+    → list_all is_terrain (concat rows) ≡ true → AllByRecursion (IsRow width) rows
 are_rows width [] widths terrain = tt
 are_rows width (row ∷ rows) widths terrain =
-    let parts = and_parts (list_all is_terrain row) (list_all is_terrain (concat rows)) (sym (list_all-append is_terrain row (concat rows)) ∙ terrain) in
+    let parts = and_parts (list_all is_terrain row) (list_all is_terrain (concat rows))
+    (sym (list_all-append is_terrain row (concat rows)) ∙ terrain) in
     (record { long = widths.0; terrain = parts.0 }, are_rows width rows widths.1 parts.1)
 
-after_fine : (number k : ℕ) (others : List (List ℕ)) → AllByRecursion (λ line. line ≡ []) others → after_fault number (slice_get others k) ≡ None
+after_fine : (number k : ℕ) (others : List (List ℕ)) → AllByRecursion (λ line. line ≡ []) others
+    → after_fault number (slice_get others k) ≡ None
 after_fine number k [] nothing = refl
 after_fine number zero (line ∷ others) nothing = rw nothing.0 refl
 after_fine number (suc k) (line ∷ others) nothing = after_fine number k others nothing.1
 
-slice_get-append_left : (k : ℕ) (rows others : List (List ℕ)) → k < length rows → slice_get (rows ++ others) k ≡ slice_get rows k
+slice_get-append_left : (k : ℕ) (rows others : List (List ℕ)) → k < length rows
+    → slice_get (rows ++ others) k ≡ slice_get rows k
 slice_get-append_left k [] others inside = absurd (omega arith)
 slice_get-append_left zero (row ∷ rows) others inside = refl
 slice_get-append_left (suc k) (row ∷ rows) others inside = slice_get-append_left k rows others (omega arith)
 
-slice_get-append_right : (k n : ℕ) (rows others : List (List ℕ)) → n ≡ length rows + k → slice_get (rows ++ others) n ≡ slice_get others k
+slice_get-append_right : (k n : ℕ) (rows others : List (List ℕ)) → n ≡ length rows + k
+    → slice_get (rows ++ others) n ≡ slice_get others k
 slice_get-append_right k n [] others place = ap (slice_get others) (omega arith)
 slice_get-append_right k zero (row ∷ rows) others place = absurd (omega arith)
-slice_get-append_right k (suc n) (row ∷ rows) others place = slice_get-append_right k n rows others (omega arith)
+slice_get-append_right k (suc n) (row ∷ rows) others place =
+    slice_get-append_right k n rows others (omega arith)
 
 -- maps with the same sides and cells are one
-pub same_map : (map : Map) (width height : ℕ) (cells : List ℕ) → width ≡ map.width → height ≡ map.height → cells ≡ map.cells → record { width = width; height = height; cells = cells } ≡ map
+pub same_map : (map : Map) (width height : ℕ) (cells : List ℕ) → width ≡ map.width → height ≡ map.height
+    → cells ≡ map.cells → record { width = width; height = height; cells = cells } ≡ map
 same_map map width height cells w h c =
     ap (λ (n : ℕ). let m : Map = record { width = n; height = height; cells = cells } in m) w
     ∙ ap (λ (n : ℕ). let m : Map = record { width = map.width; height = n; cells = cells } in m) h
-    ∙ ap (λ (bytes : List ℕ). let m : Map = record { width = map.width; height = map.height; cells = bytes } in m) c
+    ∙ ap (λ (bytes : List ℕ). let m : Map = record
+    { width = map.width; height = map.height; cells = bytes } in m) c
 
 module _ (text : List ℕ) (map : Map) (s : Spells text map) where
   abbrev spelled_lines : List (List ℕ)
   spelled_lines = s.first ∷ s.second ∷ s.third ∷ s.fourth ∷ (s.rows ++ s.others)
 
   height_named : side_in (codes "height") (fields_of s.second) ≡ Some map.height
-  height_named = ap (side_in (codes "height")) s.height.1 ∙ side_named (codes "height") s.height.0 map.height s.height.2
+  height_named =
+      ap (side_in (codes "height")) s.height.1 ∙ side_named (codes "height") s.height.0 map.height s.height.2
 
   width_named : side_in (codes "width") (fields_of s.third) ≡ Some map.width
-  width_named = ap (side_in (codes "width")) s.width.1 ∙ side_named (codes "width") s.width.0 map.width s.width.2
+  width_named =
+      ap (side_in (codes "width")) s.width.1 ∙ side_named (codes "width") s.width.0 map.width s.width.2
 
   height_is : height_of spelled_lines ≡ map.height
   height_is = ap (λ (side : Option ℕ). unwrap_or side 0) height_named
@@ -58,18 +68,24 @@ module _ (text : List ℕ) (map : Map) (s : Spells text map) where
   width_is = ap (λ (side : Option ℕ). unwrap_or side 0) width_named
 
   rows_are : AllByRecursion (IsRow (width_of spelled_lines)) s.rows
-  rows_are = rw width_is (are_rows map.width s.rows s.widths (ap (list_all is_terrain) s.cells ∙ s.is_map.terrain))
+  rows_are =
+      rw width_is (are_rows map.width s.rows s.widths (ap (list_all is_terrain) s.cells ∙ s.is_map.terrain))
 
-  row_clean : (row : ℕ) → row < height_of spelled_lines → row_fault (row + 5) (width_of spelled_lines) (slice_get (s.rows ++ s.others) row) ≡ None
+  row_clean : (row : ℕ) → row < height_of spelled_lines
+      → row_fault (row + 5) (width_of spelled_lines) (slice_get (s.rows ++ s.others) row) ≡ None
   row_clean row inside =
       let there : row < length s.rows = omega (arith, height_is, s.count) in
       let at = slice_get-get_or s.rows row [] there in
-      rw (slice_get-append_left row s.rows s.others there, at) (row_fine (row + 5) (width_of spelled_lines) (get_or s.rows row []) (right_at (IsRow (width_of spelled_lines)) s.rows row (get_or s.rows row []) rows_are at))
+      rw (slice_get-append_left row s.rows s.others there, at)
+      (row_fine (row + 5) (width_of spelled_lines) (get_or s.rows row [])
+      (right_at (IsRow (width_of spelled_lines)) s.rows row (get_or s.rows row []) rows_are at))
 
-  after_clean : (row : ℕ) → height_of spelled_lines ≤ row → after_fault (row + 5) (slice_get (s.rows ++ s.others) row) ≡ None
+  after_clean : (row : ℕ) → height_of spelled_lines ≤ row
+      → after_fault (row + 5) (slice_get (s.rows ++ s.others) row) ≡ None
   after_clean row after =
       let place : row ≡ length s.rows + (row - length s.rows) = omega (arith, height_is, s.count) in
-      rw (slice_get-append_right (row - length s.rows) row s.rows s.others place) (after_fine (row + 5) (row - length s.rows) s.others s.nothing)
+      rw (slice_get-append_right (row - length s.rows) row s.rows s.others place)
+      (after_fine (row + 5) (row - length s.rows) s.others s.nothing)
 
   pub spelled_clean : (k : ℕ) → fault_at spelled_lines k ≡ None
   spelled_clean zero = rw s.kind refl
@@ -84,5 +100,8 @@ module _ (text : List ℕ) (map : Map) (s : Spells text map) where
 
   pub spelled_map : map_on spelled_lines ≡ map
   spelled_map =
-      let rows : take (height_of spelled_lines) (s.rows ++ s.others) ≡ s.rows = take_at s.rows s.others (height_of spelled_lines) (s.count ∙ sym height_is) in
-      same_map map (width_of spelled_lines) (height_of spelled_lines) (concat (take (height_of spelled_lines) (s.rows ++ s.others))) width_is height_is (ap concat rows ∙ s.cells)
+      let rows : take (height_of spelled_lines) (s.rows ++ s.others) ≡ s.rows =
+      take_at s.rows s.others (height_of spelled_lines) (s.count ∙ sym height_is) in
+      same_map map (width_of spelled_lines) (height_of spelled_lines)
+      (concat (take (height_of spelled_lines) (s.rows ++ s.others))) width_is height_is
+      (ap concat rows ∙ s.cells)

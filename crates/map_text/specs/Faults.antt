@@ -48,7 +48,8 @@ byte_fault number (Some place) = Some (Byte number (place + 1))
 -- M4: a row is absent; M3: it has another length than the map's width
 abbrev pub row_fault : ℕ → ℕ → Option (List ℕ) → Option MapFault
 row_fault number width None = Some (Missing number)
-row_fault number width (Some row) = if length row == width then byte_fault number (position (λ byte. not (is_terrain byte)) row) else Some (Short number)
+row_fault number width (Some row) = if length row == width then byte_fault number
+    (position (λ byte. not (is_terrain byte)) row) else Some (Short number)
 
 -- M6: a line after the rows is not empty
 abbrev pub after_fault : ℕ → Option (List ℕ) → Option MapFault
@@ -70,7 +71,8 @@ fault_at lines (suc zero) = side_fault 2 (side_on (codes "height") (slice_get li
 fault_at lines (suc (suc zero)) = side_fault 3 (side_on (codes "width") (slice_get lines 2))
 fault_at lines (suc (suc (suc zero))) = words_fault 4 (has_words (codes "map" ∷ []) (slice_get lines 3))
 fault_at lines (suc (suc (suc (suc row)))) =
-    if nat_lt row (height_of lines) then row_fault (row + 5) (width_of lines) (slice_get lines (suc (suc (suc (suc row)))))
+    if nat_lt row (height_of lines) then row_fault (row + 5) (width_of lines)
+    (slice_get lines (suc (suc (suc (suc row)))))
     else after_fault (row + 5) (slice_get lines (suc (suc (suc (suc row)))))
 
 -- the fault of the first of so many places, from one on, that has a fault
@@ -80,7 +82,12 @@ first_fault lines place (suc count) = option_or (fault_at lines place) (first_fa
 
 -- the map on lines that break nothing
 abbrev pub map_on : List (List ℕ) → Map
-map_on lines = record { width = width_of lines; height = height_of lines; cells = concat (take (height_of lines) (drop 4 lines)) }
+map_on lines = record {
+  width = width_of lines;
+  height = height_of lines;
+  cells = concat
+      (take (height_of lines) (drop 4 lines));
+}
 
 -- a fault where there is one, else the map
 abbrev pub reading : Option MapFault → Map → Result Map MapFault

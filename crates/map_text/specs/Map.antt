@@ -10,7 +10,8 @@ pub record Map : Type 0 where
 
 -- the bytes of terrain: `.`, `G`, `S`, `@`, `O`, `T` and `W`
 abbrev pub is_terrain : ℕ → Bool
-is_terrain byte = byte == 46 || byte == 71 || byte == 83 || byte == 64 || byte == 79 || byte == 84 || byte == 87
+is_terrain byte =
+    byte == 46 || byte == 71 || byte == 83 || byte == 64 || byte == 79 || byte == 84 || byte == 87
 
 -- sides of 1 to 4096 and a byte of terrain for each cell
 pub record IsMap (width height : ℕ) (cells : List ℕ) : Type 0 where

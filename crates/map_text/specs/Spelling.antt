@@ -8,7 +8,8 @@ use Rattle.map_text.specs.Map.{Map, IsMap}
 
 -- the fields of a line are the word and a number of this value
 abbrev pub NamesSide : List ℕ → ℕ → List ℕ → Type 0
-NamesSide word side line = (number : List ℕ) × (fields_of line ≡ word ∷ number ∷ []) × (number_of number ≡ Some side)
+NamesSide word side line =
+    (number : List ℕ) × (fields_of line ≡ word ∷ number ∷ []) × (number_of number ≡ Some side)
 
 -- four header lines, a line for each row of cells from the top, and empty lines only after these
 pub record Spells (text : List ℕ) (map : Map) : Type 0 where

@@ -10,7 +10,8 @@ unfolding map_of number_of
 tabs_and_returns = refl
 
 -- the last line needs no line feed
-pub no_last_feed : map_of (codes "type octile\nheight 2\nwidth 3\nmap\n...\n.@.") ≡ Ok (record { width = 3; height = 2; cells = codes "....@." })
+pub no_last_feed : map_of (codes "type octile\nheight 2\nwidth 3\nmap\n...\n.@.") ≡ Ok
+    (record { width = 3; height = 2; cells = codes "....@." })
 unfolding map_of number_of
 no_last_feed = refl
 

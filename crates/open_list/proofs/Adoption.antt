@@ -307,13 +307,15 @@ module _ {N : Type 0} (before : N → N → Bool) (es : List (Entry N)) where
     pub one_wins : (test : Bool) → Tells test → test ≡ false
         → IsJoined before es (adopted es one other (next_of es one)) one other one
     one_wins test tells failed =
-        joined (apart starts_one starts_other starts_other.rest starts_one.rest starts_other.roots starts_one.roots
+        joined (apart starts_one starts_other starts_other.rest starts_one.rest starts_other.roots
+        starts_one.roots
         (sym (tells _ _ starts_other.at starts_one.at) ∙ failed) (λ i. omega (arith, total i))
         (omega (arith, enough)) have.small)
 
     pub other_wins : IsStrictWeakOrder before → (test : Bool) → Tells test → test ≡ true
         → IsJoined before es (adopted es other one (next_of es one)) one other other
     other_wins order test tells passed =
-        joined (apart starts_other starts_one starts_other.rest starts_one.rest starts_other.roots starts_one.roots
+        joined (apart starts_other starts_one starts_other.rest starts_one.rest starts_other.roots
+        starts_one.roots
         (not_after before order _ _ (sym (tells _ _ starts_other.at starts_one.at) ∙ passed))
         (λ i. omega (arith, total i)) (omega (arith, enough)) have.small)

@@ -194,7 +194,8 @@ ok_goes g i u [] cost total f s h =
       priced = add_costs-no_cost_right cost ∙ cc;
     }
 ok_goes g i u (v ∷ points) cost total f s h =
-    let step = if_ok (is_good_run g (steps_of cost) u v) (checked_from g (i + 1) v points (paid cost u v)) _ total h in
+    let step = if_ok (is_good_run g (steps_of cost) u v)
+    (checked_from g (i + 1) v points (paid cost u v)) _ total h in
     let good = good_is g (steps_of cost) u v step.0 in
     let on = steps_on cost u v in
     let t =
@@ -219,7 +220,8 @@ goes_ok g i u [] cost total t =
     ∙ t.priced in
     ap costs same
 goes_ok g i u (v ∷ points) cost total t =
-    let parts = if_some (are_lined u v) (λ (l : List Cell). run u v ++ l) (unfolded_from v points) t.cells t.unfolds in
+    let parts = if_some (are_lined u v) (λ (l : List Cell). run u v ++ l) (unfolded_from v points)
+    t.cells t.unfolds in
     let is = sym parts.3 in
     let walk = run_parts g u v parts.0 (ap (λ (l : List Cell). is_walk g (u ∷ l)) parts.3 ∙ t.legal) in
     let on = steps_on cost u v in
@@ -259,7 +261,8 @@ first_breaks g s u v points b =
     let from : b.from ≡ u = let e = b.is_from in cc in
     let to : b.to ≡ v = let e = b.is_to in cc in
     let here : is_good_run g s b.from b.to ≡ false = rw (add-zero s) at b.broken in
-    ap (λ (c : Cell). is_good_run g s u c) (sym to) ∙ ap (λ (c : Cell). is_good_run g s c b.to) (sym from) ∙ here
+    ap (λ (c : Cell). is_good_run g s u c) (sym to)
+    ∙ ap (λ (c : Cell). is_good_run g s c b.to) (sym from) ∙ here
 
 -- the steps before count along
 breaks_later :
@@ -316,15 +319,27 @@ err_first :
     → checked_from g i u points cost ≡ Err bad
     → (n : ℕ) × (bad.0 ≡ i + suc n) × IsFirst (BreaksFrom g (steps_of cost) (u ∷ points)) n
 err_first g i u [] cost bad h = absurd (cc)
-err_first g i u (v ∷ points) cost bad h = elim (if_err (is_good_run g (steps_of cost) u v) on (record { 0 = i + 1 }) bad h) [
-  | inl later ↦
-      let rest = err_first g (i + 1) v points (paid cost u v) bad later.1 in
-      let place : bad.0 ≡ i + suc (suc rest.0) = (let e = rest.1 in omega arith) in
-      (suc rest.0, place, first_later g (steps_of cost) (steps_of (paid cost u v)) u v points rest.0 (steps_on cost u v) later.0 rest.2)
-  | inr now ↦
-      let place : bad.0 ≡ i + 1 = ap (λ (b : BadAt). b.0) (sym now.1) in
-      (0, place, record { here = breaks_first g (steps_of cost) u v points now.0; none_before = λ k h. absurd (omega arith) })
-]
+err_first g i u (v ∷ points) cost bad h =
+    elim (if_err (is_good_run g (steps_of cost) u v) on (record { 0 = i + 1 }) bad h) [
+      | inl later ↦
+          let rest = err_first g (i + 1) v points (paid cost u v) bad later.1 in
+          let place : bad.0 ≡ i + suc (suc rest.0) = (let e = rest.1 in omega arith) in (
+            suc rest.0,
+            place,
+            first_later g (steps_of cost) (steps_of (paid cost u v)) u v points rest.0
+                (steps_on cost u v) later.0 rest.2,
+          )
+      | inr now ↦
+          let place : bad.0 ≡ i + 1 = ap (λ (b : BadAt). b.0) (sym now.1) in (
+            0,
+            place,
+            record {
+              here = breaks_first g (steps_of cost) u v points now.0;
+              none_before = λ k h. absurd
+                  (omega arith);
+            },
+          )
+    ]
   where
     on : Result Cost BadAt
     on = checked_from g (i + 1) v points (paid cost u v)

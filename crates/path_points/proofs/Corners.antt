@@ -92,7 +92,8 @@ reaches_back u v w q k h r =
     record {
       lined =
           lined_apart u q (suc k) steps
-          (lined_on (apart_lined v q r.lined) (apart_back u.x v.x w.x q.x across columns) (apart_back u.y v.y w.y q.y along rows) r.steps);
+          (lined_on (apart_lined v q r.lined) (apart_back u.x v.x w.x q.x across columns)
+          (apart_back u.y v.y w.y q.y along rows) r.steps);
       steps = steps;
       first =
           same_cell (step_toward u q) v (toward_back u.x v.x w.x q.x across columns)

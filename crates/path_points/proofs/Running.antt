@@ -43,7 +43,8 @@ pub run_paid :
     (cost_of (u ∷ segment (n - i) u v))
 run_paid cost paid n i u next v h e p =
     rw (segment_next n i u next v h e)
-    (ap (λ (c : Cost). add_costs c (cost_of (next ∷ segment (n - (i + 1)) next v))) p ∙ add_costs-assoc cost (move_cost u next) (cost_of (next ∷ segment (n - (i + 1)) next v)))
+    (ap (λ (c : Cost). add_costs c (cost_of (next ∷ segment (n - (i + 1)) next v))) p
+    ∙ add_costs-assoc cost (move_cost u next) (cost_of (next ∷ segment (n - (i + 1)) next v)))
 
 -- a move is one step
 pub move_counts : (u v : Cell) → (move_cost u v).a + (move_cost u v).b ≡ 1

@@ -35,8 +35,7 @@ offer_parts : (a b : Offer Cell) → Some a ≡ Some b → (a.cost ≡ b.cost) �
 offer_parts a b e = (
   ap (λ (o : Option (Offer Cell)). elim o as (λ _. Cost)
       [ Some v ↦ v.cost | None ↦ a.cost ]) e,
-  ap (λ (o : Option (Offer Cell)). elim o as (λ _. Cell)
-      [ Some v ↦ v.from | None ↦ a.from ]) e,
+  ap (λ (o : Option (Offer Cell)). elim o as (λ _. Cell) [ Some v ↦ v.from | None ↦ a.from ]) e,
 )
 
 module _ (g : GridData) (s t : Cell) (full : List (Taken Cell)) (best : Cell → Option (Offer Cell))
@@ -45,8 +44,9 @@ module _ (g : GridData) (s t : Cell) (full : List (Taken Cell)) (best : Cell →
   one_node : (i j : ℕ) (x y : Node) → slice_get k.nodes i ≡ Some x → slice_get k.nodes j ≡ Some y
       → x.cell ≡ y.cell → x ≡ y
   one_node i j x y h l e =
-      let ids : i ≡ j = sym (m.in_order i x h).placed ∙ ap
-      (λ (c : Cell). slice_index_or k.index (cell_number g.width c) 0) e ∙ (m.in_order j y l).placed in
+      let ids : i ≡ j = sym (m.in_order i x h).placed
+      ∙ ap (λ (c : Cell). slice_index_or k.index (cell_number g.width c) 0) e
+      ∙ (m.in_order j y l).placed in
       ap (λ (o : Option Node). elim o as (λ _. Node) [ Some v ↦ v | None ↦ x ])
       (sym h ∙ ap (λ (q : ℕ). slice_get k.nodes q) ids ∙ l)
 
@@ -67,10 +67,10 @@ module _ (g : GridData) (s t : Cell) (full : List (Taken Cell)) (best : Cell →
   keeps u id n h e c =
       let same : n ≡ h.node = one_node id h.id n h.node e h.node_is (c ∙ sym h.cell) in
       let o = m.in_order id n e in
-      let made : kept_by k.nodes n ≡ Some (record { cost = n.cost; from = o.parent.cell }) = rw o.parent_is
-      refl in
-      let kept : kept_by k.nodes n ≡ Some (record { cost = u.cost; from = u.parent }) = ap
-      (λ (x : Node). kept_by k.nodes x) same ∙ h.keeps in
+      let made : kept_by k.nodes n ≡ Some (record { cost = n.cost; from = o.parent.cell }) =
+      rw o.parent_is refl in
+      let kept : kept_by k.nodes n ≡ Some (record { cost = u.cost; from = u.parent }) =
+      ap (λ (x : Node). kept_by k.nodes x) same ∙ h.keeps in
       let parts = offer_parts (record { cost = n.cost; from = o.parent.cell })
       (record { cost = u.cost; from = u.parent }) (sym made ∙ kept) in
       record { cost = parts.0; parent = o.parent; parent_is = o.parent_is; from = parts.1 }
@@ -99,21 +99,21 @@ module _ (g : GridData) (s t : Cell) (full : List (Taken Cell)) (best : Cell →
       by_test : (b : Bool) → is_same x.state c ≡ b → (b || false) ≡ true
           → IsBack k s n (reverse (way_to (plain_rule g t) (x ∷ []) c))
       by_test true q z =
-          let there_s : n.cell ≡ s = l ∙ sym (is_same-cell x.state c q)
-          ∙ ap (λ (u : Taken Cell). u.state) is in
+          let there_s : n.cell ≡ s =
+          l ∙ sym (is_same-cell x.state c q) ∙ ap (λ (u : Taken Cell). u.state) is in
           rw q (subst (λ (d : Cell). IsBack k s n (d ∷ [])) l (at_start there_s))
       by_test false q z = absurd (cc)
-  back_of (x ∷ y ∷ earlier) is h id n c z e l = by_test
-      (λ i p d w f q. back_of (y ∷ earlier) is.0 h.1 i p d w f q) (is_same x.state c) refl z
+  back_of (x ∷ y ∷ earlier) is h id n c z e l =
+      by_test (λ i p d w f q. back_of (y ∷ earlier) is.0 h.1 i p d w f q) (is_same x.state c) refl z
     where
       Back : Type 0
       Back = (i : ℕ) (p : Node) (d : Cell) → is_taken (plain_rule g t) (y ∷ earlier) d ≡ true
-          → slice_get k.nodes i ≡ Some p → p.cell ≡ d → IsBack k s p
-          (reverse (way_to (plain_rule g t) (y ∷ earlier) d))
+          → slice_get k.nodes i ≡ Some p → p.cell ≡ d
+          → IsBack k s p (reverse (way_to (plain_rule g t) (y ∷ earlier) d))
 
       by_test : ((i : ℕ) (p : Node) (d : Cell) → is_taken (plain_rule g t) (y ∷ earlier) d ≡ true
-          → slice_get k.nodes i ≡ Some p → p.cell ≡ d → IsBack k s p
-          (reverse (way_to (plain_rule g t) (y ∷ earlier) d)))
+          → slice_get k.nodes i ≡ Some p → p.cell ≡ d
+          → IsBack k s p (reverse (way_to (plain_rule g t) (y ∷ earlier) d)))
           → (b : Bool) → is_same x.state c ≡ b → (b || is_taken (plain_rule g t) (y ∷ earlier) c) ≡ true
           → IsBack k s n (reverse (way_to (plain_rule g t) (x ∷ y ∷ earlier) c))
       by_test before true q w =
@@ -124,13 +124,13 @@ module _ (g : GridData) (s t : Cell) (full : List (Taken Cell)) (best : Cell →
           let at_p : kx.parent.cell ≡ from.by.state = kx.from ∙ from.offered.source in
           let kw = keeps from.by n.parent kx.parent (have_of (y ∷ earlier) from.by from.member h.1)
           kx.parent_is at_p in
-          let taken_p : is_taken (plain_rule g t) (y ∷ earlier) x.parent ≡ true = ap
-          (λ (d : Cell). is_taken (plain_rule g t) (y ∷ earlier) d) from.offered.source
+          let taken_p : is_taken (plain_rule g t) (y ∷ earlier) x.parent ≡ true
+          = ap (λ (d : Cell). is_taken (plain_rule g t) (y ∷ earlier) d) from.offered.source
           ∙ is_taken-member (plain_rule g t) (plain_consistent g t) (y ∷ earlier) from.by from.member in
           let rest = before n.parent kx.parent x.parent taken_p kx.parent_is kx.from in
           let cost_is : n.cost ≡ add_costs from.by.cost from.offered.step = kx.cost ∙ from.offered.total in
-          let less : kx.parent.cost.a + kx.parent.cost.b < n.cost.a + n.cost.b = subst
-          (λ (d : Cost). kx.parent.cost.a + kx.parent.cost.b < d.a + d.b) (sym cost_is)
+          let less : kx.parent.cost.a + kx.parent.cost.b < n.cost.a + n.cost.b
+          = subst (λ (d : Cost). kx.parent.cost.a + kx.parent.cost.b < d.a + d.b) (sym cost_is)
           (subst (λ (d : Cost). d.a + d.b < (add_costs from.by.cost from.offered.step).a +
           (add_costs from.by.cost from.offered.step).b) (sym kw.cost)
           (one_more from.by.cost from.offered.step from.by.state x.state
@@ -142,17 +142,17 @@ module _ (g : GridData) (s t : Cell) (full : List (Taken Cell)) (best : Cell →
             | inr i ↦ i
           ] in
           let whole : IsBack k s n (n.cell ∷ reverse (way_to (plain_rule g t) (y ∷ earlier) x.parent)) = goes
-          n kx.parent (reverse (way_to (plain_rule g t) (y ∷ earlier) x.parent)) not_start kx.parent_is
-          less rest in
+          n kx.parent (reverse (way_to (plain_rule g t) (y ∷ earlier) x.parent)) not_start
+          kx.parent_is less rest in
           rw q (subst (λ (cs : List Cell). IsBack k s n cs)
           (sym (reverse-last (way_to (plain_rule g t) (y ∷ earlier) x.parent) c))
-          (subst (λ (d : Cell). IsBack k s n (d ∷ reverse
-          (way_to (plain_rule g t) (y ∷ earlier) x.parent))) l whole))
+          (subst (λ (d : Cell). IsBack k s n
+          (d ∷ reverse (way_to (plain_rule g t) (y ∷ earlier) x.parent))) l whole))
       by_test before false q w = rw q (before id n c w e l)
 
 -- the way back is one
-pub back_is_one : (k : Table) (s : Cell) (n : Node) (a b : List Cell) → IsBack k s n a → IsBack k s n b
-    → a ≡ b
+pub back_is_one : (k : Table) (s : Cell) (n : Node) (a b : List Cell) → IsBack k s n a
+    → IsBack k s n b → a ≡ b
 back_is_one k s n a b (stops z e) (stops w f) = refl
 back_is_one k s n a b (stops z e) (goes w p rest f h c l) = absurd
     (let y : is_same n.cell s ≡ true = ap (λ (d : Cell). is_same n.cell d) (sym e)
@@ -161,7 +161,7 @@ back_is_one k s n a b (goes w p rest f h c l) (stops z e) = absurd
     (let y : is_same n.cell s ≡ true = ap (λ (d : Cell). is_same n.cell d) (sym e)
     ∙ is_same-itself n.cell in cc)
 back_is_one k s n a b (goes w p rest f h c l) (goes v q other i j d m) =
-    let same : q ≡ p = ap (λ (o : Option Node). elim o as (λ _. Node) [ Some x ↦ x | None ↦ q ]) (sym j ∙ h)
-    in
-    ap (λ (cs : List Cell). n.cell ∷ cs) (back_is_one k s p rest other l
-    (subst (λ (x : Node). IsBack k s x other) same m))
+    let same : q ≡ p =
+    ap (λ (o : Option Node). elim o as (λ _. Node) [ Some x ↦ x | None ↦ q ]) (sym j ∙ h) in
+    ap (λ (cs : List Cell). n.cell ∷ cs)
+    (back_is_one k s p rest other l (subst (λ (x : Node). IsBack k s x other) same m))

@@ -39,11 +39,8 @@ distinct_from (x ∷ xs) h = (
     all_differ : (ys : List ℕ) → ((j : ℕ) → slice_get ys j ≡ Some x → ⊥)
         → AllByRecursion (λ y. eqb x y ≡ false) ys
     all_differ [] n = tt
-    all_differ (y ∷ ys) n = (
-      differ x y (λ e. n 0 (ap (λ (v : ℕ). Some v) (sym e))),
-      all_differ ys
-          (λ j e. n (suc j) e),
-    )
+    all_differ (y ∷ ys) n =
+        (differ x y (λ e. n 0 (ap (λ (v : ℕ). Some v) (sym e))), all_differ ys (λ j e. n (suc j) e))
 
 any_is : (xs : List ℕ) (q : ℕ) → list_any (eqb q) xs ≡ true → (i : ℕ) × (slice_get xs i ≡ Some q)
 any_is [] q h = absurd (cc)
@@ -105,8 +102,8 @@ module _ (g : GridData) (t : Cell) (s : Cell) (free : is_free g s ≡ true) wher
   run_free (x ∷ y ∷ earlier) is u (here z) =
       let from = least_offer-from (plain_rule g t) (y ∷ earlier) x.state
       (record { cost = x.cost; from = x.parent }) is.2.offered in
-      (legal_is g from.by.state x.state (link_legal g from.by.state x.state from.offered.step
-      from.offered.linked).0).target
+      (legal_is g from.by.state x.state
+      (link_legal g from.by.state x.state from.offered.step from.offered.linked).0).target
   run_free (x ∷ y ∷ earlier) is u (there z e m) = run_free (y ∷ earlier) is.0 u m
 
   number : Taken Cell → ℕ
@@ -122,8 +119,8 @@ module _ (g : GridData) (t : Cell) (s : Cell) (free : is_free g s ≡ true) wher
         differ (cell_number g.width x) (cell_number g.width u.state) (λ e.
             let one : x ≡ u.state = one_cell g.width x u.state (free_inside g x f).0
             (free_inside g u.state (fs u (here some))).0 e in
-            let yes : is_same u.state x ≡ true = ap (λ (c : Cell). is_same u.state c) one
-            ∙ is_same-itself u.state in
+            let yes : is_same u.state x ≡ true =
+            ap (λ (c : Cell). is_same u.state c) one ∙ is_same-itself u.state in
             let no = parts.0 in
             cc),
         apart x some f parts.1 (λ w m. fs w (there u some m)),
@@ -153,6 +150,6 @@ module _ (g : GridData) (t : Cell) (s : Cell) (free : is_free g s ≡ true) wher
       member : (xs : List (Taken Cell)) (i : ℕ) (u : Taken Cell) → slice_get xs i ≡ Some u → IsIn u xs
       member [] i u h = absurd (cc)
       member (x ∷ xs) zero u h = subst (λ (w : Taken Cell). IsIn w (x ∷ xs))
-          (ap (λ (o : Option (Taken Cell)). elim o as (λ _. Taken Cell) [ Some v ↦ v | None ↦ u ]) h)
-          (here xs)
+          (ap (λ (o : Option (Taken Cell)). elim o as (λ _. Taken Cell)
+          [ Some v ↦ v | None ↦ u ]) h) (here xs)
       member (x ∷ xs) (suc i) u h = there x xs (member xs i u h)

@@ -51,13 +51,12 @@ cells_fit g i = let a = i.sides.narrow in let b = i.sides.low in mul-le-mul b a
 module _ (g : GridData) (s t : Cell) where
   -- at the start
   pub has_begun : (free : is_free g s ≡ true) (index : List ℕ) → length index ≡ g.height * g.width
-      → cell_number g.width s < length index → HasTaken g s t 0 (begun g.width t s index)
-      (state_number g.width s ∷ [])
+      → cell_number g.width s < length index
+      → HasTaken g s t 0 (begun g.width t s index) (state_number g.width s ∷ [])
   has_begun free index size inside = record {
     last = at_start g s t;
     earlier = [];
-    searching = started g s t
-        free index inside size;
+    searching = started g s t free index inside size;
     numbered = refl;
   }
 
@@ -111,15 +110,15 @@ module _ (g : GridData) (s t : Cell) where
   -- the node of the last state
   pub last_node : (at : ℕ) (k : Table) (taken : List ℕ) (h : HasTaken g s t at k taken) (n : Node)
       → slice_get k.nodes at ≡ Some n → n ≡ h.searching.node
-  last_node at k taken h n e = ap (λ (o : Option Node). elim o as (λ _. Node) [ Some v ↦ v | None ↦ n ])
-      (sym e ∙ h.searching.node_is)
+  last_node at k taken h n e =
+      ap (λ (o : Option Node). elim o as (λ _. Node) [ Some v ↦ v | None ↦ n ]) (sym e ∙ h.searching.node_is)
 
   -- the way back from it
   pub has_back : (at : ℕ) (k : Table) (taken : List ℕ) (h : HasTaken g s t at k taken)
       → IsBack k s h.searching.node (reverse (way_to (plain_rule g t) (h.last ∷ h.earlier) h.last.state))
   has_back at k taken h =
-      let yes : is_taken (plain_rule g t) (h.last ∷ h.earlier) h.last.state ≡ true = rw
-      (is_same-itself h.last.state) refl in
+      let yes : is_taken (plain_rule g t) (h.last ∷ h.earlier) h.last.state ≡ true =
+      rw (is_same-itself h.last.state) refl in
       back_of g s t (h.last ∷ h.earlier) (least_offer (plain_rule g t) h.earlier) k h.searching.mirrors
       (h.last ∷ h.earlier) h.searching.run h.searching.mirrors.have at h.searching.node h.last.state yes
       h.searching.node_is h.searching.cell
@@ -129,21 +128,21 @@ module _ (g : GridData) (s t : Cell) where
       → h.last.state ≡ t → IsPointsTo k s h.searching.node points
       → IsFound g s t points h.searching.node.cost taken
   is_found at k taken points h e p =
-      let way : reverse p.cells ≡ reverse (way_to (plain_rule g t) (h.last ∷ h.earlier) h.last.state) =
-      back_is_one k s h.searching.node (reverse p.cells)
+      let way : reverse p.cells ≡ reverse (way_to (plain_rule g t) (h.last ∷ h.earlier) h.last.state)
+      = back_is_one k s h.searching.node (reverse p.cells)
       (reverse (way_to (plain_rule g t) (h.last ∷ h.earlier) h.last.state)) p.is_back
       (has_back at k taken h) in
-      let same : p.cells ≡ way_to (plain_rule g t) (h.last ∷ h.earlier) h.last.state = sym
-      (reverse-twice p.cells) ∙ ap reverse way ∙ reverse-twice
-      (way_to (plain_rule g t) (h.last ∷ h.earlier) h.last.state) in
+      let same : p.cells ≡ way_to (plain_rule g t) (h.last ∷ h.earlier) h.last.state
+      = sym (reverse-twice p.cells) ∙ ap reverse way
+      ∙ reverse-twice (way_to (plain_rule g t) (h.last ∷ h.earlier) h.last.state) in
       record {
         earlier = h.earlier;
         last = h.last;
         run = h.searching.run;
         at_goal = e;
         priced = h.searching.cost;
-        joined = p.is_corners ∙ ap corners (same ∙ ap (λ (c : Cell). way_to (plain_rule g t)
-            (h.last ∷ h.earlier) c) e);
+        joined = p.is_corners ∙ ap corners
+            (same ∙ ap (λ (c : Cell). way_to (plain_rule g t) (h.last ∷ h.earlier) c) e);
         numbered = h.numbered;
       }
 
@@ -163,11 +162,12 @@ module _ (g : GridData) (s t : Cell) where
   -- there are at most as many states taken as cells
   pub taken_fits : (at : ℕ) (k : Table) (taken : List ℕ) → is_free g s ≡ true → HasTaken g s t at k taken
       → length taken ≤ g.height * g.width
-  taken_fits at k taken free h = rw h.numbered (subst (λ n. n ≤ g.height * g.width)
-      (sym (length-numbers (h.last ∷ h.earlier))) (few_taken g t s free (h.last ∷ h.earlier) h.searching.run))
+  taken_fits at k taken free h = rw h.numbered
+      (subst (λ n. n ≤ g.height * g.width) (sym (length-numbers (h.last ∷ h.earlier)))
+      (few_taken g t s free (h.last ∷ h.earlier) h.searching.run))
     where
-      length-map : (run : List (Taken Cell)) → length (map (λ u. state_number g.width u.state) run) ≡ length
-          run
+      length-map : (run : List (Taken Cell))
+          → length (map (λ u. state_number g.width u.state) run) ≡ length run
       length-map [] = refl
       length-map (x ∷ run) = ap (λ n. suc n) (length-map run)
 

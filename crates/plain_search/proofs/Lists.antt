@@ -21,8 +21,8 @@ module _ {X : Type 0} where
   got-added [] y zero x h = inr (refl, some x y (sym h))
   got-added [] y (suc i) x h = absurd (cc)
   got-added (z ∷ xs) y zero x h = inl h
-  got-added (z ∷ xs) y (suc i) x h = elim (got-added xs y i x h)
-      [ inl e ↦ inl e | inr e ↦ inr (ap (λ n. suc n) e.0, e.1) ]
+  got-added (z ∷ xs) y (suc i) x h =
+      elim (got-added xs y i x h) [ inl e ↦ inl e | inr e ↦ inr (ap (λ n. suc n) e.0, e.1) ]
 
   pub get-set_same : (xs : List X) (i : ℕ) (x y : X) → slice_get xs i ≡ Some x
       → slice_get (slice_set xs i y) i ≡ Some y

@@ -49,12 +49,12 @@ module _ (g : GridData) (t : Cell) (run : List (Taken Cell)) (best : Cell → Op
     (v : Cell) (id : ℕ) (n : Node) (m : Mirrors g t run best k) (ch : Changed g.width v id n k l)
     (free : is_free g v ≡ true) (untaken : is_taken (plain_rule g t) run v ≡ false) where
   -- the slot is no taken cell's
-  not_here : (j : ℕ) (p : Node) → slice_get k.nodes j ≡ Some p → is_taken (plain_rule g t) run p.cell ≡ true
-      → j ≢ id
+  not_here : (j : ℕ) (p : Node) → slice_get k.nodes j ≡ Some p
+      → is_taken (plain_rule g t) run p.cell ≡ true → j ≢ id
   not_here j p h y e =
       let same : p.cell ≡ v = ch.was p (sym (ap (λ (i : ℕ). slice_get k.nodes i) e) ∙ h) in
-      let z : is_taken (plain_rule g t) run p.cell ≡ false = ap
-      (λ (c : Cell). is_taken (plain_rule g t) run c) same ∙ untaken in
+      let z : is_taken (plain_rule g t) run p.cell ≡ false =
+      ap (λ (c : Cell). is_taken (plain_rule g t) run c) same ∙ untaken in
       cc
 
   -- numbers of other cells differ
@@ -94,8 +94,8 @@ module _ (g : GridData) (t : Cell) (run : List (Taken Cell)) (best : Cell → Op
   -- a taken state's node stays
   has_node_stays : (u : Taken Cell) → is_taken (plain_rule g t) run u.state ≡ true → HasNode k u → HasNode l u
   has_node_stays u y h =
-      let taken : is_taken (plain_rule g t) run h.node.cell ≡ true = ap
-      (λ (c : Cell). is_taken (plain_rule g t) run c) h.cell ∙ y in
+      let taken : is_taken (plain_rule g t) run h.node.cell ≡ true =
+      ap (λ (c : Cell). is_taken (plain_rule g t) run c) h.cell ∙ y in
       let o = m.in_order h.id h.node h.node_is in
       record {
         id = h.id;
@@ -131,8 +131,8 @@ module _ (g : GridData) (t : Cell) (run : List (Taken Cell)) (best : Cell → Op
       by_held : (j : ℕ) (x : Node) → slice_index_or k.index (cell_number g.width c) 0 ≡ j
           → slice_get k.nodes j ≡ Some x → slice_get l.nodes j ≡ Some x → (b : Bool) → is_same x.cell c ≡ b
           → kept l g.width c ≡ kept k g.width c
-      by_held j x e hk hl false q = none_in l j (Some x) (index_l j e) hl q
-          ∙ sym (none_in k j (Some x) e hk q)
+      by_held j x e hk hl false q =
+          none_in l j (Some x) (index_l j e) hl q ∙ sym (none_in k j (Some x) e hk q)
       by_held j x e hk hl true q =
           let o = m.in_order j x hk in
           held_in l j x (index_l j e) hl q ∙ kept_by_stays x o.parent o.parent_is o.parent_taken
@@ -158,8 +158,9 @@ module _ (g : GridData) (t : Cell) (run : List (Taken Cell)) (best : Cell → Op
       → is_taken (plain_rule g t) (x ∷ rest) s ≡ true
   in_tail x rest s h = elim (same_or_not (is_same x.state s)) [ inl e ↦ rw e refl | inr e ↦ rw e h ]
 
-  have_stays : (some : List (Taken Cell)) → ((s : Cell) → is_taken (plain_rule g t) some s ≡ true
-      → is_taken (plain_rule g t) run s ≡ true) → HaveNodes k some → HaveNodes l some
+  have_stays : (some : List (Taken Cell))
+      → ((s : Cell) → is_taken (plain_rule g t) some s ≡ true → is_taken (plain_rule g t) run s ≡ true)
+      → HaveNodes k some → HaveNodes l some
   have_stays [] among h = h
   have_stays (x ∷ rest) among h = (
     has_node_stays x (among x.state (rw (is_same-itself x.state) refl)) h.0,
@@ -213,8 +214,8 @@ module _ (g : GridData) (t : Cell) (run : List (Taken Cell)) (best : Cell → Op
           → slice_get l.open_at j ≡ Some (not (is_taken (plain_rule g t) run x.cell))
       opened_at j x h (inl e) =
           let same : x ≡ n = some_node x n (sym h ∙ ap (λ (i : ℕ). slice_get l.nodes i) e ∙ ch.here) in
-          let z : is_taken (plain_rule g t) run x.cell ≡ false = ap
-          (λ (y : Node). is_taken (plain_rule g t) run y.cell) same
+          let z : is_taken (plain_rule g t) run x.cell ≡ false
+          = ap (λ (y : Node). is_taken (plain_rule g t) run y.cell) same
           ∙ ap (λ (c : Cell). is_taken (plain_rule g t) run c) ch.cell ∙ untaken in
           rw z (ap (λ (i : ℕ). slice_get l.open_at i) e ∙ ch.open_here)
       opened_at j x h (inr ne) = ch.open_others j ne ∙ m.opened j x (sym (ch.others j ne) ∙ h)

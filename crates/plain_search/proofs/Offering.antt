@@ -54,8 +54,8 @@ lookup-found k w c id h = by_node (slice_get k.nodes at) refl h
 module _ (g : GridData) (t : Cell) (run : List (Taken Cell)) (best : Cell → Option (Offer Cell)) (k : Table)
     (m : Mirrors g t run best k) where
   -- of the offers only those for cells that wait count
-  pub same_best : (after : Cell → Option (Offer Cell)) →
-      ((c : Cell) → is_free g c ≡ true → is_taken (plain_rule g t) run c ≡ false → best c ≡ after c)
+  pub same_best : (after : Cell → Option (Offer Cell))
+      → ((c : Cell) → is_free g c ≡ true → is_taken (plain_rule g t) run c ≡ false → best c ≡ after c)
       → Mirrors g t run after k
   same_best after same = record {
     in_order = m.in_order;
@@ -80,8 +80,8 @@ module _ (g : GridData) (t : Cell) (run : List (Taken Cell)) (best : Cell → Op
 
   pub found_of : (id : ℕ) (n : Node) (c : Cell) → slice_get k.nodes id ≡ Some n → n.cell ≡ c
       → lookup k g.width c ≡ Some id
-  found_of id n c h e = ap (λ (d : Cell). lookup k g.width d) (sym e)
-      ∙ lookup-node k g.width id n h (m.in_order id n h).placed
+  found_of id n c h e =
+      ap (λ (d : Cell). lookup k g.width d) (sym e) ∙ lookup-node k g.width id n h (m.in_order id n h).placed
 
   pub lookup_taken : (c : Cell) → is_taken (plain_rule g t) run c ≡ true
       → (id : ℕ) × (n : Node) × (slice_get k.nodes id ≡ Some n) × (n.cell ≡ c) ×
@@ -89,8 +89,9 @@ module _ (g : GridData) (t : Cell) (run : List (Taken Cell)) (best : Cell → Op
   lookup_taken c y = let h = taken_node run c y m.have in (h.0, h.1, h.2, h.3, found_of h.0 h.1 c h.2 h.3)
 
   module _ (v : Cell) (cost : Cost) (parent : ℕ) (p : Node) (free : is_free g v ≡ true)
-      (parent_is : slice_get k.nodes parent ≡ Some p) (parent_taken : is_taken (plain_rule g t) run p.cell ≡
-      true) (short : cost.a + cost.b ≤ length run) (index_len : length k.index ≡ g.height * g.width) where
+      (parent_is : slice_get k.nodes parent ≡ Some p)
+      (parent_taken : is_taken (plain_rule g t) run p.cell ≡ true) (short : cost.a + cost.b ≤ length run)
+      (index_len : length k.index ≡ g.height * g.width) where
     abbrev pub new : Node
     new = node_for t v cost parent
 
@@ -109,43 +110,44 @@ module _ (g : GridData) (t : Cell) (run : List (Taken Cell)) (best : Cell → Op
     closed_stays : (id : ℕ) (n : Node) → slice_get k.nodes id ≡ Some n → n.cell ≡ v
         → is_taken (plain_rule g t) run v ≡ true → improved id new k ≡ k
     closed_stays id n h e y =
-        let taken : is_taken (plain_rule g t) run n.cell ≡ true = ap
-        (λ (c : Cell). is_taken (plain_rule g t) run c) e ∙ y in
+        let taken : is_taken (plain_rule g t) run n.cell ≡ true =
+        ap (λ (c : Cell). is_taken (plain_rule g t) run c) e ∙ y in
         let shut : slice_get k.open_at id ≡ Some false = m.opened id n h ∙ rw taken refl in
-        let test : slice_index_or k.open_at id false ≡ false = get_or_from_slice_get k.open_at id false false
-        shut in
+        let test : slice_index_or k.open_at id false ≡ false =
+        get_or_from_slice_get k.open_at id false false shut in
         rw test refl
 
     taken_same : is_taken (plain_rule g t) run v ≡ true → (c : Cell) → is_free g c ≡ true
         → is_taken (plain_rule g t) run c ≡ false → best c ≡ with_offer best v now c
     taken_same y c f z = elim (same_or_not (is_same v c)) [
-      | inl s ↦ absurd (let e : is_taken (plain_rule g t) run v ≡ false = ap
-          (λ (d : Cell). is_taken (plain_rule g t) run d) (is_same-cell v c s) ∙ z in cc)
+      | inl s ↦ absurd (let e : is_taken (plain_rule g t) run v ≡ false
+          = ap (λ (d : Cell). is_taken (plain_rule g t) run d) (is_same-cell v c s) ∙ z in cc)
       | inr s ↦ sym (at_others c s)
     ]
 
     is_open : (id : ℕ) (n : Node) → slice_get k.nodes id ≡ Some n → n.cell ≡ v
         → is_taken (plain_rule g t) run v ≡ false → slice_get k.open_at id ≡ Some true
     is_open id n h e z =
-        let untaken : is_taken (plain_rule g t) run n.cell ≡ false = ap
-        (λ (c : Cell). is_taken (plain_rule g t) run c) e ∙ z in
+        let untaken : is_taken (plain_rule g t) run n.cell ≡ false =
+        ap (λ (c : Cell). is_taken (plain_rule g t) run c) e ∙ z in
         m.opened id n h ∙ rw untaken refl
 
     -- the node of a waiting cell keeps its least offer
     least_kept : (id : ℕ) (n : Node) → slice_get k.nodes id ≡ Some n → n.cell ≡ v
-        → is_taken (plain_rule g t) run v ≡ false → (from : Cell) ×
-        (best v ≡ Some (record { cost = n.cost; from = from }))
+        → is_taken (plain_rule g t) run v ≡ false
+        → (from : Cell) × (best v ≡ Some (record { cost = n.cost; from = from }))
     least_kept id n h e z =
         let o = m.in_order id n h in (
           o.parent.cell,
           sym (m.waits v free z) ∙ ap (λ (c : Cell). kept k g.width c) (sym e)
-              ∙ kept-node k g.width id n h o.placed ∙ ap
-              (λ (q : Option Node). option_map (λ (x : Node). let r : Offer Cell = record
-              { cost = n.cost; from = x.cell } in r) q) o.parent_is,
+              ∙ kept-node k g.width id n h o.placed
+              ∙ ap (λ (q : Option Node). option_map
+              (λ (x : Node). let r : Offer Cell = record { cost = n.cost; from = x.cell } in r)
+              q) o.parent_is,
         )
 
-    changed_by_adding : lookup k g.width v ≡ None → Changed g.width v (length k.nodes) new k
-        (added g.width new k)
+    changed_by_adding : lookup k g.width v ≡ None
+        → Changed g.width v (length k.nodes) new k (added g.width new k)
     changed_by_adding none = record {
       here = get-last k.nodes new;
       others = λ j ne. others j ne (slice_get k.nodes j) refl;
@@ -155,8 +157,8 @@ module _ (g : GridData) (t : Cell) (run : List (Taken Cell)) (best : Cell → Op
       found = get_or-set_same k.index (cell_number g.width v) (length k.nodes) 0 in_index;
       index = λ c ne. get_or-set_other k.index (cell_number g.width v) (cell_number g.width c)
           (length k.nodes) 0 ne;
-      open_here = ap (λ (i : ℕ). slice_get (k.open_at ++ true ∷ []) i) (sym m.no_more)
-          ∙ get-last k.open_at true;
+      open_here =
+          ap (λ (i : ℕ). slice_get (k.open_at ++ true ∷ []) i) (sym m.no_more) ∙ get-last k.open_at true;
       open_others = λ j ne. open_others j ne (slice_get k.open_at j) refl;
       no_more = let e = m.no_more in grind (arith, common_steps);
     }
@@ -164,8 +166,8 @@ module _ (g : GridData) (t : Cell) (run : List (Taken Cell)) (best : Cell → Op
         none_past : {X : Type 0} (xs : List X) (y : X) (j : ℕ) → j ≢ length xs → slice_get xs j ≡ None
             → (o : Option X) → slice_get (xs ++ y ∷ []) j ≡ o → o ≡ None
         none_past xs y j ne h None s = refl
-        none_past xs y j ne h (Some x) s = absurd (elim (got-added xs y j x s)
-            [ inl i ↦ (cc) | inr i ↦ ne i.0 ])
+        none_past xs y j ne h (Some x) s =
+            absurd (elim (got-added xs y j x s) [ inl i ↦ (cc) | inr i ↦ ne i.0 ])
 
         others : (j : ℕ) → j ≢ length k.nodes → (o : Option Node) → slice_get k.nodes j ≡ o
             → slice_get (k.nodes ++ new ∷ []) j ≡ slice_get k.nodes j
@@ -184,8 +186,8 @@ module _ (g : GridData) (t : Cell) (run : List (Taken Cell)) (best : Cell → Op
       here = get-set_same k.nodes id n new h;
       others = λ j ne. get-set_other k.nodes j id new ne;
       was = λ old s. ap (λ (x : Node). x.cell) (one_of old s) ∙ e;
-      only = λ j x s c. sym (m.in_order j x s).placed ∙ ap
-          (λ (d : Cell). slice_index_or k.index (cell_number g.width d) 0) (c ∙ sym e)
+      only = λ j x s c. sym (m.in_order j x s).placed
+          ∙ ap (λ (d : Cell). slice_index_or k.index (cell_number g.width d) 0) (c ∙ sym e)
           ∙ (m.in_order id n h).placed;
       cell = refl;
       found = ap (λ (d : Cell). slice_index_or k.index (cell_number g.width d) 0) (sym e)
@@ -200,8 +202,8 @@ module _ (g : GridData) (t : Cell) (run : List (Taken Cell)) (best : Cell → Op
         one_of old s = ap (λ (o : Option Node). elim o as (λ _. Node) [ Some x ↦ x | None ↦ old ]) (sym s ∙ h)
 
     by_improving : (id : ℕ) (n : Node) → slice_get k.nodes id ≡ Some n → n.cell ≡ v
-        → is_taken (plain_rule g t) run v ≡ false → Mirrors g t run (with_offer best v now)
-        (improved id new k)
+        → is_taken (plain_rule g t) run v ≡ false
+        → Mirrors g t run (with_offer best v now) (improved id new k)
     by_improving id n h e z = by_cost (is_less cost n.cost) refl
       where
         opens : slice_index_or k.open_at id false ≡ true
@@ -213,8 +215,8 @@ module _ (g : GridData) (t : Cell) (run : List (Taken Cell)) (best : Cell → Op
         keeps : (from : Cell) × (best v ≡ Some (record { cost = n.cost; from = from }))
         keeps = least_kept id n h e z
 
-        by_cost : (b : Bool) → is_less cost n.cost ≡ b → Mirrors g t run (with_offer best v now)
-            (improved id new k)
+        by_cost : (b : Bool) → is_less cost n.cost ≡ b
+            → Mirrors g t run (with_offer best v now) (improved id new k)
         by_cost true c =
             let is : improved id new k ≡ replaced id new k = rw (test_is true c) refl in
             let ch = changed_by_replacing id n h e z in
@@ -226,8 +228,8 @@ module _ (g : GridData) (t : Cell) (run : List (Taken Cell)) (best : Cell → Op
             let is : improved id new k ≡ k = rw (test_is false c) refl in
             subst (λ (l : Table). Mirrors g t run (with_offer best v now) l) (sym is)
             (same_best (with_offer best v now) (λ d f y. elim (same_or_not (is_same v d)) [
-              | inl s ↦ (let one : v ≡ d = is_same-cell v d s in subst
-                  (λ (q : Cell). best q ≡ with_offer best v now q) one
+              | inl s ↦ (let one : v ≡ d = is_same-cell v d s in
+                  subst (λ (q : Cell). best q ≡ with_offer best v now q) one
                   (keeps.1 ∙ sym (at_v (Some (record { cost = n.cost; from = keeps.0 })) keeps.1
                   ∙ rw c refl)))
               | inr s ↦ sym (at_others d s)
@@ -244,8 +246,8 @@ module _ (g : GridData) (t : Cell) (run : List (Taken Cell)) (best : Cell → Op
             mirrors_changed g t run best k (added g.width new k) v (length k.nodes) new m
             (changed_by_adding e) free z (with_offer best v now) p refl short parent_is parent_taken
             (at_v None nothing) at_others
-        by_lookup z (Some id) e = let f = lookup-found k g.width v id e in by_improving id f.node f.node_is
-            f.cell z
+        by_lookup z (Some id) e =
+            let f = lookup-found k g.width v id e in by_improving id f.node f.node_is f.cell z
 
         by_taken : (b : Bool) → is_taken (plain_rule g t) run v ≡ b
             → Mirrors g t run (with_offer best v now) (offered g.width new k)

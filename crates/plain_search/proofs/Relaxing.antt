@@ -36,8 +36,8 @@ closed_slot k w n j q h shut = by_node (lookup k w n.cell)
 
     not_here : (id : ℕ) → is_improved k id n.cost ≡ true → j ≢ id
     not_here id t e =
-        let open_here : slice_index_or k.open_at j false ≡ true = ap
-        (λ (i : ℕ). slice_index_or k.open_at i false) e
+        let open_here : slice_index_or k.open_at j false ≡ true
+        = ap (λ (i : ℕ). slice_index_or k.open_at i false) e
         ∙ first_of (slice_index_or k.open_at id false) _ t in
         let shut_here = closed in
         cc
@@ -72,8 +72,8 @@ module _ (g : GridData) (t : Cell) (run : List (Taken Cell)) (id : ℕ) (u : Nod
     pub index : length k.index ≡ g.height * g.width
 
   over : (best : Cell → Option (Offer Cell)) (k : Table) (d : Dir) (o : Option Cell)
-      → legal_ahead g u.cell d ≡ o → Relaxing best k → Relaxing (with_ahead by_u o best)
-      (offered_over o g.width t id u k)
+      → legal_ahead g u.cell d ≡ o → Relaxing best k
+      → Relaxing (with_ahead by_u o best) (offered_over o g.width t id u k)
   over best k d None e r = r
   over best k d (Some v) e r =
       let free : is_free g v ≡ true = (legal_is g u.cell v (legal_ahead-is g u.cell v d e)).target in
@@ -81,8 +81,8 @@ module _ (g : GridData) (t : Cell) (run : List (Taken Cell)) (id : ℕ) (u : Nod
       record {
         mirrors = offered_keeps g t run best k r.mirrors v (add_costs u.cost (move_cost u.cell v)) id u free
             r.slot taken (one_move v) r.index;
-        slot = closed_slot k g.width (node_for t v (add_costs u.cost (move_cost u.cell v)) id) id u r.slot
-            shut;
+        slot =
+            closed_slot k g.width (node_for t v (add_costs u.cost (move_cost u.cell v)) id) id u r.slot shut;
         index = index-over g.width t (Some v) id u k ∙ r.index;
       }
 
@@ -119,20 +119,21 @@ module _ (g : GridData) (y : Taken Cell) (c : Cell) where
   itself false = refl
 
   again : (b : Option (Offer Cell)) → lesser (lesser b made) made ≡ lesser b made
-  again None = itself (is_less (add_costs y.cost (move_cost y.state c))
-      (add_costs y.cost (move_cost y.state c)))
+  again None =
+      itself (is_less (add_costs y.cost (move_cost y.state c)) (add_costs y.cost (move_cost y.state c)))
   again (Some o) = by_test (is_less (add_costs y.cost (move_cost y.state c)) o.cost) refl
     where
       by_test : (v : Bool) → is_less (add_costs y.cost (move_cost y.state c)) o.cost ≡ v
           → lesser (if v then made else Some o) made ≡ (if v then made else Some o)
-      by_test true e = itself (is_less (add_costs y.cost (move_cost y.state c))
-          (add_costs y.cost (move_cost y.state c)))
+      by_test true e =
+          itself (is_less (add_costs y.cost (move_cost y.state c)) (add_costs y.cost (move_cost y.state c)))
       by_test false e = rw e refl
 
   -- over one direction
   one_over : (best : Cell → Option (Offer Cell)) (d : Dir)
-      → ((legal_ahead g y.state d ≡ Some c) × (with_ahead y (legal_ahead g y.state d) best c ≡ lesser (best c)
-      made)) ⊎ (with_ahead y (legal_ahead g y.state d) best c ≡ best c)
+      → ((legal_ahead g y.state d ≡ Some c) ×
+      (with_ahead y (legal_ahead g y.state d) best c ≡ lesser (best c) made)) ⊎
+      (with_ahead y (legal_ahead g y.state d) best c ≡ best c)
   one_over best d = by_cell (legal_ahead g y.state d) refl
     where
       by_cell : (o : Option Cell) → legal_ahead g y.state d ≡ o
@@ -142,8 +143,8 @@ module _ (g : GridData) (y : Taken Cell) (c : Cell) where
       by_cell (Some v) e = elim (same_or_not (is_same v c)) [
         | inl s ↦ (let one : v ≡ c = is_same-cell v c s in inl (
           e ∙ ap (λ (w : Cell). Some w) one,
-          subst (λ (w : Cell). with_ahead y (Some w) best c ≡ lesser
-              (best c) made) (sym one) (rw (is_same-itself c) refl),
+          subst (λ (w : Cell). with_ahead y (Some w) best c ≡ lesser (best c) made) (sym one)
+              (rw (is_same-itself c) refl),
         ))
         | inr s ↦ inr (rw s refl)
       ]
@@ -152,8 +153,8 @@ module _ (g : GridData) (y : Taken Cell) (c : Cell) where
   stays_made : (dirs : List Dir) (best : Cell → Option (Offer Cell)) (b : Option (Offer Cell))
       → best c ≡ lesser b made → with_all_ahead g y best dirs c ≡ lesser b made
   stays_made [] best b e = e
-  stays_made (d ∷ dirs) best b e = stays_made dirs (with_ahead y (legal_ahead g y.state d) best) b
-      (elim (one_over best d) [
+  stays_made (d ∷ dirs) best b e =
+      stays_made dirs (with_ahead y (legal_ahead g y.state d) best) b (elim (one_over best d) [
         | inl h ↦ h.1 ∙ ap (λ (o : Option (Offer Cell)). lesser o made) e ∙ again b
         | inr h ↦ h ∙ e
       ])
@@ -175,8 +176,8 @@ module _ (g : GridData) (y : Taken Cell) (c : Cell) where
   none_made : (dirs : List Dir) (best : Cell → Option (Offer Cell)) → is_legal g y.state c ≡ false
       → with_all_ahead g y best dirs c ≡ best c
   none_made [] best n = refl
-  none_made (d ∷ dirs) best n = none_made dirs (with_ahead y (legal_ahead g y.state d) best) n
-      ∙ elim (one_over best d) [
+  none_made (d ∷ dirs) best n =
+      none_made dirs (with_ahead y (legal_ahead g y.state d) best) n ∙ elim (one_over best d) [
         | inl h ↦ absurd (let l : is_legal g y.state c ≡ true = legal_ahead-is g y.state c d h.0 in cc)
         | inr h ↦ h
       ]
@@ -187,12 +188,14 @@ lesser-none (Some o) = refl
 
 -- all its offers make the least offers those after it
 pub offers_after : (g : GridData) (t : Cell) (y : Taken Cell) (earlier : List (Taken Cell))
-    → is_same y.state t ≡ false → (c : Cell) → with_all_ahead g y (least_offer (plain_rule g t) earlier)
-    all_dirs c ≡ least_offer (plain_rule g t) (y ∷ earlier) c
+    → is_same y.state t ≡ false → (c : Cell)
+    → with_all_ahead g y (least_offer (plain_rule g t) earlier) all_dirs c ≡ least_offer (plain_rule g t)
+    (y ∷ earlier) c
 offers_after g t y earlier open_ended c = by_legal (is_legal g y.state c) refl
   where
-    by_legal : (b : Bool) → is_legal g y.state c ≡ b → with_all_ahead g y
-        (least_offer (plain_rule g t) earlier) all_dirs c ≡ least_offer (plain_rule g t) (y ∷ earlier) c
+    by_legal : (b : Bool) → is_legal g y.state c ≡ b
+        → with_all_ahead g y (least_offer (plain_rule g t) earlier) all_dirs c ≡ least_offer (plain_rule g t)
+        (y ∷ earlier) c
     by_legal true l =
         let d = legal_ahead-of g y.state c l in
         is_made g y c all_dirs (least_offer (plain_rule g t) earlier) d.0 (among_all d.0) d.1

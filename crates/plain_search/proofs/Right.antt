@@ -15,11 +15,11 @@ use Rattle.plain_search.specs.Found.{IsExhausted}
 use Rattle.plain_search.proofs.Walks.{Goes, goes_nowhere, one_more, link_legal, plain_consistent, walk_chain}
 
 -- the way to a taken cell is a walk of the cost at which it was taken
-pub record HasWay (g : GridData) (t s : Cell) (run : List (Taken Cell)) (v : Cell) (cost : Cost) : Type 0
-  where
-    pub cells : List Cell
-    pub is_way : way_to (plain_rule g t) run v ≡ s ∷ cells
-    pub goes : Goes g s v cells cost
+pub record HasWay (g : GridData) (t s : Cell) (run : List (Taken Cell)) (v : Cell) (cost : Cost)
+    : Type 0 where
+  pub cells : List Cell
+  pub is_way : way_to (plain_rule g t) run v ≡ s ∷ cells
+  pub goes : Goes g s v cells cost
 
 module _ (g : GridData) (t : Cell) where
   -- the way of an earlier state stays the same
@@ -31,8 +31,8 @@ module _ (g : GridData) (t : Cell) where
       by_test : (b : Bool) → is_same x.state v ≡ b → is_same x.state v ≡ false
       by_test true e =
           let one : x.state ≡ v = (plain_consistent g t).one x.state v e in
-          absurd (let both : is_taken (plain_rule g t) earlier v ≡ false = subst
-          (λ (c : Cell). is_taken (plain_rule g t) earlier c ≡ false) one n in cc)
+          absurd (let both : is_taken (plain_rule g t) earlier v ≡ false
+          = subst (λ (c : Cell). is_taken (plain_rule g t) earlier c ≡ false) one n in cc)
       by_test false e = e
 
   pub way : (s : Cell) (run : List (Taken Cell)) → is_free g s ≡ true → IsRun (plain_rule g t) s run
@@ -46,13 +46,12 @@ module _ (g : GridData) (t : Cell) where
       (record { cost = x.cost; from = x.parent }) is.2.offered in
       let before = way s (y ∷ earlier) f is.0 from.by from.member in
       let moved = link_legal g from.by.state x.state from.offered.step from.offered.linked in
-      let goes : Goes g s x.state (before.cells ++ (x.state ∷ []))
-      (add_costs from.by.cost (move_cost from.by.state x.state)) = one_more g s from.by.state x.state
-      before.cells from.by.cost before.goes moved.0 in
-      let cost : add_costs from.by.cost (move_cost from.by.state x.state) ≡ x.cost = ap
-      (λ (c : Cost). add_costs from.by.cost c) (sym moved.1) ∙ sym from.offered.total in
-      let at_parent : way_to (plain_rule g t) (y ∷ earlier) x.parent ≡ s ∷ before.cells = ap
-      (λ (c : Cell). way_to (plain_rule g t) (y ∷ earlier) c) from.offered.source ∙ before.is_way in
+      let goes : Goes g s x.state (before.cells ++ (x.state ∷ [])) (add_costs from.by.cost (move_cost from.by.state x.state)) =
+      one_more g s from.by.state x.state before.cells from.by.cost before.goes moved.0 in
+      let cost : add_costs from.by.cost (move_cost from.by.state x.state) ≡ x.cost =
+      ap (λ (c : Cost). add_costs from.by.cost c) (sym moved.1) ∙ sym from.offered.total in
+      let at_parent : way_to (plain_rule g t) (y ∷ earlier) x.parent ≡ s ∷ before.cells =
+      ap (λ (c : Cell). way_to (plain_rule g t) (y ∷ earlier) c) from.offered.source ∙ before.is_way in
       record {
         cells = before.cells ++ (x.state ∷ []);
         is_way = rw (is_same-itself x.state) (ap (λ (w : List Cell). w ++ (x.state ∷ [])) at_parent);
@@ -75,8 +74,8 @@ module _ (g : GridData) (t : Cell) where
       → IsRun (plain_rule g t) s (x ∷ earlier) → x.state ≡ t → HasLeast s (x ∷ earlier) x.cost
   way_is_least s x earlier f is e =
       let w = way s (x ∷ earlier) f is x (here earlier) in
-      let at_goal : is_same x.state t ≡ true = subst (λ (c : Cell). is_same x.state c ≡ true) e
-      (is_same-itself x.state) in
+      let at_goal : is_same x.state t ≡ true =
+      subst (λ (c : Cell). is_same x.state c ≡ true) e (is_same-itself x.state) in
       record {
         cells = w.cells;
         is_way = subst (λ (c : Cell). way_to (plain_rule g t) (x ∷ earlier) c ≡ s ∷ w.cells) e w.is_way;
@@ -84,11 +83,12 @@ module _ (g : GridData) (t : Cell) where
           walk = record { legal = w.goes.legal; ends = w.goes.ends ∙ e };
           least = λ others o.
               let chain = walk_chain g t s others o.legal in
-              let at_t : is_same (last_of s others) t ≡ true = subst
-              (λ (c : Cell). is_same (last_of s others) c ≡ true) o.ends
+              let at_t : is_same (last_of s others) t ≡ true
+              = subst (λ (c : Cell). is_same (last_of s others) c ≡ true) o.ends
               (is_same-itself (last_of s others)) in
-              (Most-then (Most-same w.goes.priced) (run_is_least (plain_rule g t) (plain_consistent g t) s
-              (last_of s others) x earlier (cost_of (s ∷ others)) is at_goal chain at_t)).is;
+              (Most-then (Most-same w.goes.priced)
+              (run_is_least (plain_rule g t) (plain_consistent g t) s (last_of s others) x earlier
+              (cost_of (s ∷ others)) is at_goal chain at_t)).is;
         };
         priced = w.goes.priced;
       }

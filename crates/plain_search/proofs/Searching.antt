@@ -35,11 +35,8 @@ module _ (g : GridData) (s t : Cell) where
     start_taken = rw (is_same-itself s) refl
 
     is_first : (id : ℕ) (n : Node) → slice_get (first_node ∷ []) id ≡ Some n → (id ≡ 0) × (n ≡ first_node)
-    is_first zero n h = (
-      refl,
-      ap (λ (o : Option Node). elim o as (λ _. Node) [ Some x ↦ x | None ↦ n ])
-          (sym h),
-    )
+    is_first zero n h =
+        (refl, ap (λ (o : Option Node). elim o as (λ _. Node) [ Some x ↦ x | None ↦ n ]) (sym h))
     is_first (suc id) n h = absurd (cc)
 
     placed : slice_index_or (slice_set index (cell_number g.width s) 0) (cell_number g.width s) 0 ≡ 0
@@ -57,8 +54,8 @@ module _ (g : GridData) (s t : Cell) where
     }
 
     none_kept : (c : Cell) → is_same s c ≡ false → kept first_table g.width c ≡ None
-    none_kept c n = by_slot (slice_index_or (slice_set index (cell_number g.width s) 0)
-        (cell_number g.width c) 0) refl
+    none_kept c n =
+        by_slot (slice_index_or (slice_set index (cell_number g.width s) 0) (cell_number g.width c) 0) refl
       where
         not_held : (j : ℕ) → holds_cell (slice_get (first_node ∷ []) j) c ≡ false
         not_held zero = n
@@ -73,8 +70,8 @@ module _ (g : GridData) (s t : Cell) where
       run = refl;
       no_goal = refl;
       mirrors = record {
-        in_order = λ id n h. let f = is_first id n h in subst
-            (λ (i : ℕ). IsInOrder g t (at_start ∷ []) first_table i n) (sym f.0)
+        in_order = λ id n h. let f = is_first id n h in
+            subst (λ (i : ℕ). IsInOrder g t (at_start ∷ []) first_table i n) (sym f.0)
             (subst (λ (x : Node). IsInOrder g t (at_start ∷ []) first_table 0 x) (sym f.1) first_in_order);
         opened = λ id n h. let f = is_first id n h in let y : is_taken (plain_rule g t) (at_start ∷ []) n.cell
             ≡ true = ap (λ (x : Node). is_taken (plain_rule g t) (at_start ∷ []) x.cell) f.1
@@ -108,23 +105,23 @@ module _ (g : GridData) (s t : Cell) where
       → Mirrors g t (x ∷ earlier) (least_offer (plain_rule g t) (x ∷ earlier)) (relaxed g t at k) ×
       (length (relaxed g t at k).index ≡ g.height * g.width)
   relaxing x earlier at k i open_ended =
-      let taken : is_taken (plain_rule g t) (x ∷ earlier) i.node.cell ≡ true = ap
-      (λ (c : Cell). is_taken (plain_rule g t) (x ∷ earlier) c) i.cell
+      let taken : is_taken (plain_rule g t) (x ∷ earlier) i.node.cell ≡ true
+      = ap (λ (c : Cell). is_taken (plain_rule g t) (x ∷ earlier) c) i.cell
       ∙ rw (is_same-itself x.state) refl in
-      let short : i.node.cost.a + i.node.cost.b + 1 ≤ length (x ∷ earlier) =
-      (let a : i.node.cost.a ≡ x.cost.a = ap (λ (c : Cost). c.a) i.cost in let b : i.node.cost.b ≡
+      let short : i.node.cost.a + i.node.cost.b + 1 ≤ length (x ∷ earlier)
+      = (let a : i.node.cost.a ≡ x.cost.a = ap (λ (c : Cost). c.a) i.cost in let b : i.node.cost.b ≡
       x.cost.b = ap (λ (c : Cost). c.b) i.cost in let l = i.short in omega arith) in
       let r = all_over g t (x ∷ earlier) at i.node x.parent taken short all_dirs
-      (least_offer (plain_rule g t) earlier) k (record
-      { mirrors = i.mirrors; slot = i.node_is; index = i.index }) in
-      let by_x : record { state = i.node.cell; cost = i.node.cost; parent = x.parent } ≡ x = same_taken
-      i.node.cell i.node.cost x i.cell i.cost in
+      (least_offer (plain_rule g t) earlier) k
+      (record { mirrors = i.mirrors; slot = i.node_is; index = i.index }) in
+      let by_x : record { state = i.node.cell; cost = i.node.cost; parent = x.parent } ≡ x =
+      same_taken i.node.cell i.node.cost x i.cell i.cost in
       let is : relaxed g t at k ≡ offered_ahead g t at i.node k all_dirs = rw i.node_is refl in
       let m = subst (λ (y : Taken Cell). Mirrors g t (x ∷ earlier)
       (with_all_ahead g y (least_offer (plain_rule g t) earlier) all_dirs)
       (offered_ahead g t at i.node k all_dirs)) by_x r.mirrors in (
-        subst (λ (l : Table). Mirrors g t (x ∷ earlier) (least_offer (plain_rule g t) (x ∷ earlier)) l)
-            (sym is)
+        subst (λ (l : Table). Mirrors g t (x ∷ earlier)
+            (least_offer (plain_rule g t) (x ∷ earlier)) l) (sym is)
             (same_best g t (x ∷ earlier) (with_all_ahead g x (least_offer (plain_rule g t) earlier) all_dirs)
             (offered_ahead g t at i.node k all_dirs) m (least_offer (plain_rule g t) (x ∷ earlier))
             (λ c f z. offers_after g t x earlier open_ended c)),
@@ -135,8 +132,8 @@ module _ (g : GridData) (s t : Cell) where
           → record { state = c; cost = b; parent = y.parent } ≡ y
       same_taken c b y e f = ap (λ (d : Cell). let w : Taken Cell = record
           { state = d; cost = b; parent = y.parent } in w) e
-          ∙ ap (λ (d : Cost). let w : Taken Cell = record { state = y.state; cost = d; parent = y.parent } in
-          w) f
+          ∙ ap (λ (d : Cost). let w : Taken Cell = record
+          { state = y.state; cost = d; parent = y.parent } in w) f
 
   -- the next state is taken
   pub going_on : (x : Taken Cell) (earlier : List (Taken Cell)) (k : Table) (id : ℕ)

@@ -29,32 +29,27 @@ module _ (k : Table) (start : Cell) where
 
   pub further : (n : Node) (cells : List Cell) → IsBack k start n cells → is_same n.cell start ≡ false
       → Further n cells
-  further n cells (stops z e) h = absurd (let y : is_same n.cell start ≡ true = ap
-      (λ (c : Cell). is_same n.cell c) (sym e) ∙ is_same-itself n.cell in cc)
-  further n cells (goes z p rest f s c b) h = record {
-    parent = p;
-    parent_is = s;
-    cheaper = c;
-    rest = rest;
-    rest_is_back = b;
-    cells_are = refl;
-  }
+  further n cells (stops z e) h = absurd
+      (let y : is_same n.cell start ≡ true = ap (λ (c : Cell). is_same n.cell c) (sym e)
+      ∙ is_same-itself n.cell in cc)
+  further n cells (goes z p rest f s c b) h =
+      record { parent = p; parent_is = s; cheaper = c; rest = rest; rest_is_back = b; cells_are = refl }
 
   one_node : (p q : Node) → Some p ≡ Some q → p ≡ q
   one_node p q e = ap (λ (o : Option Node). elim o as (λ _. Node) [ Some v ↦ v | None ↦ p ]) e
 
   -- the rest of the way back is that of the parent that was read
   pub rest_of : (n q : Node) (cells : List Cell) → IsBack k start n cells → is_same n.cell start ≡ false
-      → slice_get k.nodes n.parent ≡ Some q → (rest : List Cell) × IsBack k start q rest ×
-      (cells ≡ n.cell ∷ rest) × (q.cost.a + q.cost.b < n.cost.a + n.cost.b)
+      → slice_get k.nodes n.parent ≡ Some q
+      → (rest : List Cell) × IsBack k start q rest × (cells ≡ n.cell ∷ rest) ×
+      (q.cost.a + q.cost.b < n.cost.a + n.cost.b)
   rest_of n q cells b h e =
       let f = further n cells b h in
       let same : f.parent ≡ q = one_node f.parent q (sym f.parent_is ∙ e) in (
         f.rest,
         subst (λ (p : Node). IsBack k start p f.rest) same f.rest_is_back,
         f.cells_are,
-        subst
-            (λ (p : Node). p.cost.a + p.cost.b < n.cost.a + n.cost.b) same f.cheaper,
+        subst (λ (p : Node). p.cost.a + p.cost.b < n.cost.a + n.cost.b) same f.cheaper,
       )
 
   -- the goal alone
@@ -62,8 +57,8 @@ module _ (k : Table) (start : Cell) where
   alone n h e = record {
     cells = h.cells;
     is_back = h.is_back;
-    is_corners = ap
-        (λ (cs : List Cell). corners cs) (sym (back_ends n h.cells h.is_back e));
+    is_corners
+        = ap (λ (cs : List Cell). corners cs) (sym (back_ends n h.cells h.is_back e));
   }
 
   -- the goal, and then the turns
@@ -76,8 +71,8 @@ module _ (k : Table) (start : Cell) where
         is_back = h.is_back;
         rest = r.0;
         rest_is_back = r.1;
-        is_corners = ap
-            (λ (cs : List Cell). corners cs) (sym r.2);
+        is_corners
+            = ap (λ (cs : List Cell). corners cs) (sym r.2);
       }
 
   -- the way back begins at the node
@@ -96,8 +91,8 @@ module _ (k : Table) (start : Cell) where
       let r = rest_of n q a.rest a.rest_is_back f e in
       let b = begins q r.0 r.1 in
       let split : a.rest ≡ n.cell ∷ q.cell ∷ b.0 = r.2 ∙ ap (λ (cs : List Cell). n.cell ∷ cs) b.1 in
-      let was : points ++ turns_after before (n.cell ∷ q.cell ∷ b.0) ≡ corners a.cells = ap
-      (λ (cs : List Cell). points ++ turns_after before cs) (sym split) ∙ a.is_corners in
+      let was : points ++ turns_after before (n.cell ∷ q.cell ∷ b.0) ≡ corners a.cells =
+      ap (λ (cs : List Cell). points ++ turns_after before cs) (sym split) ∙ a.is_corners in
       record {
         cells = a.cells;
         is_back = a.is_back;
@@ -110,8 +105,8 @@ module _ (k : Table) (start : Cell) where
           → points ++ turns_after before (n.cell ∷ q.cell ∷ rest) ≡ total
           → (if v then points else points ++ n.cell ∷ []) ++ turns_after n.cell (q.cell ∷ rest) ≡ total
       by_turn rest total true e w = (rw e at w)
-      by_turn rest total false e w = append_assoc points (n.cell ∷ []) (turns_after n.cell (q.cell ∷ rest))
-          ∙ (rw e at w)
+      by_turn rest total false e w =
+          append_assoc points (n.cell ∷ []) (turns_after n.cell (q.cell ∷ rest)) ∙ (rw e at w)
 
   -- the start is the last point
   pub last_point : (first : Node) (points : List Cell) (before : Cell) (n : Node)
@@ -122,6 +117,6 @@ module _ (k : Table) (start : Cell) where
       record {
         cells = a.cells;
         is_back = a.is_back;
-        is_corners = ap
-            (λ (cs : List Cell). points ++ turns_after before cs) (sym ends) ∙ a.is_corners;
+        is_corners
+            = ap (λ (cs : List Cell). points ++ turns_after before cs) (sym ends) ∙ a.is_corners;
       }

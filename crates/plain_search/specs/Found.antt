@@ -12,15 +12,15 @@ abbrev pub numbers_of : ℕ → List (Taken Cell) → List ℕ
 numbers_of width run = reverse (map (λ u. state_number width u.state) run)
 
 -- the run from s takes t last, at this cost; the points are the corners of the way along the parents
-pub record IsFound (g : GridData) (s t : Cell) (points : List Cell) (cost : Cost) (taken : List ℕ) : Type 0
-  where
-    pub earlier : List (Taken Cell)
-    pub last : Taken Cell
-    pub run : IsRun (plain_rule g t) s (last ∷ earlier)
-    pub at_goal : last.state ≡ t
-    pub priced : cost ≡ last.cost
-    pub joined : points ≡ corners (way_to (plain_rule g t) (last ∷ earlier) t)
-    pub numbered : taken ≡ numbers_of g.width (last ∷ earlier)
+pub record IsFound (g : GridData) (s t : Cell) (points : List Cell) (cost : Cost) (taken : List ℕ)
+    : Type 0 where
+  pub earlier : List (Taken Cell)
+  pub last : Taken Cell
+  pub run : IsRun (plain_rule g t) s (last ∷ earlier)
+  pub at_goal : last.state ≡ t
+  pub priced : cost ≡ last.cost
+  pub joined : points ≡ corners (way_to (plain_rule g t) (last ∷ earlier) t)
+  pub numbered : taken ≡ numbers_of g.width (last ∷ earlier)
 
 -- the run from s ends where no state waits, with t not taken
 pub record IsExhausted (g : GridData) (s t : Cell) (taken : List ℕ) : Type 0 where

@@ -16,13 +16,13 @@ kept_by nodes n = option_map (λ p. record { cost = n.cost; from = p.cell }) (sl
 
 -- the offer that is kept for a cell
 abbrev pub kept : Table → ℕ → Cell → Option (Offer Cell)
-kept k width c = option_and_then (λ id. option_and_then (kept_by k.nodes) (slice_get k.nodes id))
-    (lookup k width c)
+kept k width c =
+    option_and_then (λ id. option_and_then (kept_by k.nodes) (slice_get k.nodes id)) (lookup k width c)
 
 -- the node is in order: its cell is free and has this number in the index, its parts are those of its
 -- cost, and its parent was taken
-pub record IsInOrder (g : GridData) (t : Cell) (run : List (Taken Cell)) (k : Table) (id : ℕ) (n : Node) :
-    Type 0 where
+pub record IsInOrder (g : GridData) (t : Cell) (run : List (Taken Cell)) (k : Table) (id : ℕ) (n : Node)
+    : Type 0 where
   pub free : is_free g n.cell ≡ true
   pub placed : slice_index_or k.index (cell_number g.width n.cell) 0 ≡ id
   pub made : n ≡ node_for t n.cell n.cost n.parent
@@ -63,11 +63,8 @@ with_offer best v o c = if is_same v c then lesser (best c) (Some o) else best c
 -- with what a taken state offers to the cell ahead, where the move to it is legal
 abbrev pub with_ahead : Taken Cell → Option Cell → (Cell → Option (Offer Cell)) → Cell → Option (Offer Cell)
 with_ahead u None best = best
-with_ahead u (Some v) best = with_offer best v (record {
-  cost = add_costs u.cost (move_cost u.state v);
-  from =
-      u.state;
-})
+with_ahead u (Some v) best =
+    with_offer best v (record { cost = add_costs u.cost (move_cost u.state v); from = u.state })
 
 -- with what a taken state offers in these directions, in their order
 abbrev pub with_all_ahead : GridData → Taken Cell → (Cell → Option (Offer Cell)) → List Dir → Cell

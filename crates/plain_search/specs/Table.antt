@@ -86,8 +86,8 @@ offered_over (Some v) width goal id u k =
 
 -- what a node offers in these directions, in their order
 abbrev pub offered_ahead : GridData → Cell → ℕ → Node → Table → List Dir → Table
-offered_ahead g goal id u k dirs = fold (λ k d. offered_over (legal_ahead g u.cell d) g.width goal id u k) k
-    dirs
+offered_ahead g goal id u k dirs =
+    fold (λ k d. offered_over (legal_ahead g u.cell d) g.width goal id u k) k dirs
 
 -- the node of that number offers in all directions
 abbrev pub relaxed_by : GridData → Cell → ℕ → Option Node → Table → Table

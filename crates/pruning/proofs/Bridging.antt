@@ -67,7 +67,8 @@ cell_at a b = option_and_then (λ x. option_and_then (λ y. Some (record { x = x
 
 -- the cell ahead stands where the move leads
 pub ahead_there : (d : Dir) (u v : Cell) → ahead d u ≡ Some v → move d (place_of u) ≡ place_of v
-ahead_there d u v h = by_parts (column_ahead d u.x) (row_ahead d u.y) (pos u.x +ℤ columns d) (pos u.y +ℤ rows d) (column_at d u.x) (row_at d u.y) h
+ahead_there d u v h = by_parts (column_ahead d u.x) (row_ahead d u.y) (pos u.x +ℤ columns d)
+    (pos u.y +ℤ rows d) (column_at d u.x) (row_at d u.y) h
   where
     cell_in : Option Cell → Cell
     cell_in None = v
@@ -79,11 +80,13 @@ ahead_there d u v h = by_parts (column_ahead d u.x) (row_ahead d u.y) (pos u.x +
     by_parts (Some x) None i j p q h = absurd (cc)
     by_parts (Some x) (Some y) i j p q h =
         let same : record { x = x; y = y } ≡ v = ap cell_in h in
-        same_place (record { x = i; y = j }) (place_of v) (p ∙ ap (λ (c : Cell). pos c.x) same) (q ∙ ap (λ (c : Cell). pos c.y) same)
+        same_place (record { x = i; y = j }) (place_of v) (p ∙ ap (λ (c : Cell). pos c.x) same)
+        (q ∙ ap (λ (c : Cell). pos c.y) same)
 
 -- a cell is open exactly where the place ahead is free
 pub open_there : (g : GridData) (u : Cell) (d : Dir) → is_open g u d ≡ free_place g (move d (place_of u))
-open_there g u d = by_parts (column_ahead d u.x) (row_ahead d u.y) (pos u.x +ℤ columns d) (pos u.y +ℤ rows d) (column_at d u.x) (row_at d u.y)
+open_there g u d = by_parts (column_ahead d u.x) (row_ahead d u.y) (pos u.x +ℤ columns d) (pos u.y +ℤ rows d)
+    (column_at d u.x) (row_at d u.y)
   where
     by_parts : (a b : Option ℕ) (i j : ℤ) → IsAt a i → IsAt b j
         → is_free_cell g (cell_at a b) ≡ free_at g i j
@@ -109,13 +112,20 @@ pub legal_there : (g : GridData) (u : Cell) (d : Dir) → is_free g u ≡ true �
     → Legal (free_place g) (place_of u) d
 legal_there g u d f m = by_parity d
     (λ h.
-    let t = three_true (is_open g u (turn Left d)) (is_open g u (turn Right d)) (is_open g u d) (sym (can_move-diagonal g u d f h) ∙ m) in
+    let t = three_true (is_open g u (turn Left d)) (is_open g u (turn Right d)) (is_open g u d)
+    (sym (can_move-diagonal g u d f h) ∙ m) in
     record {
       source = f;
       target = sym (open_there g u d) ∙ t.2;
-      sides = λ _. each_of (λ s. free_place g (move (turn s d) (place_of u)) ≡ true) Left (sym (open_there g u (turn Left d)) ∙ t.0) (sym (open_there g u (turn Right d)) ∙ t.1);
+      sides = λ _. each_of (λ s. free_place g (move (turn s d) (place_of u)) ≡ true) Left
+          (sym (open_there g u (turn Left d)) ∙ t.0) (sym (open_there g u (turn Right d)) ∙ t.1);
     })
-    (λ h. record { source = f; target = sym (open_there g u d) ∙ sym (can_move-straight g u d f h) ∙ m; sides = λ k. absurd (cc) })
+    (λ h. record {
+      source = f;
+      target = sym (open_there g u d) ∙ sym (can_move-straight g u d f h)
+          ∙ m;
+      sides = λ k. absurd (cc);
+    })
 
 -- the cost of a move to the cell ahead, if there is one
 abbrev IsPriced : Cell → Option Cell → Cost → Type 0

@@ -30,13 +30,15 @@ use Rattle.pruning.proofs.Stopping.{IsStop-or_not, allowed_leads}
 
 -- one move and then k
 pub run_cost-next : (d : Dir) (k : ℕ) → run_cost d (suc k) ≡ add_costs (dir_cost d) (run_cost d k)
-run_cost-next d k = by_parity d (λ h. rw h (same_cost _ _ (omega arith) (omega arith))) (λ h. rw h (same_cost _ _ (omega arith) (omega arith)))
+run_cost-next d k = by_parity d (λ h. rw h (same_cost _ _ (omega arith) (omega arith)))
+    (λ h. rw h (same_cost _ _ (omega arith) (omega arith)))
 
 -- one move, then m, then the rest
 leg_priced : (d : Dir) (m : ℕ) (rest : Cost)
     → add_costs (run_cost d (1 + m)) rest ≡ add_costs (dir_cost d) (add_costs (run_cost d m) rest)
 leg_priced d m rest =
-    ap (λ k. add_costs (run_cost d k) rest) (next m) ∙ ap (λ (c : Cost). add_costs c rest) (run_cost-next d m) ∙ add_costs-assoc (dir_cost d) (run_cost d m) rest
+    ap (λ k. add_costs (run_cost d k) rest) (next m) ∙ ap (λ (c : Cost). add_costs c rest) (run_cost-next d m)
+    ∙ add_costs-assoc (dir_cost d) (run_cost d m) rest
   where
     next : (m : ℕ) → 1 + m ≡ suc m
     next m = omega arith
@@ -59,21 +61,31 @@ module _ (explained : TurnsAreMarked) (g : GridData) (t : Cell) where
   straight_sees : (d : Dir) → is_diagonal d ≡ false → (v : Cell) (cells : List Cell)
       → FollowsRule g (By d) v cells → last_of v cells ≡ t → SeesSome d v
   straight_sees d h v [] f e = record { moves = 0; cell = v; reached = refl; holds = inl e }
-  straight_sees d h v (w ∷ cells) (c, m, f) e = by_turn c m (explained g v d c m.allowed) f (λ k. straight_sees d h w cells k e)
+  straight_sees d h v (w ∷ cells) (c, m, f) e =
+      by_turn c m (explained g v d c m.allowed) f (λ k. straight_sees d h w cells k e)
     where
       by_turn : (c : Dir) → IsAllowedMove g (By d) v w c → IsExplained g v d c
           → FollowsRule g (By c) w cells → (FollowsRule g (By d) w cells → SeesSome d w) → SeesSome d v
       by_turn _ m same f next = further d v w (legal_leads g v w d (allowed_leads g (By d) v w d m)) (next f)
       by_turn _ m (component k s) f next = absurd (cc)
-      by_turn c m (turns (forces _ k) _) f next = record { moves = 0; cell = v; reached = refl; holds = inr k }
+      by_turn c m (turns (forces _ k) _) f next =
+          record { moves = 0; cell = v; reached = refl; holds = inr k }
       by_turn c m (turns (looks_out k s r) _) f next = absurd (cc)
 
   -- what is seen from w in a component, a move from v, makes v a stop
   seen_stop : (d : Dir) (s : Side) (v w : Cell) → is_diagonal d ≡ true
       → legal_ahead g v (turn s d) ≡ Some w → SeesSome (turn s d) w → IsStop g t d v
   seen_stop d s v w h e r = elim r.holds [
-    | inl k ↦ sees_goal h s (record { moves = suc r.moves; some = omega arith; cell = r.cell; reached = rw e r.reached; holds = k })
-    | inr k ↦ marked (looks_out h s (record { moves = suc r.moves; some = omega arith; cell = r.cell; reached = rw e r.reached; holds = k }))
+    | inl k ↦ sees_goal h s (record {
+      moves = suc r.moves;
+      some = omega arith;
+      cell = r.cell;
+      reached = rw e
+          r.reached;
+      holds = k;
+    })
+    | inr k ↦ marked (looks_out h s (record
+        { moves = suc r.moves; some = omega arith; cell = r.cell; reached = rw e r.reached; holds = k }))
   ]
 
   -- a walk that came by d stops where it stands, or goes on in d
@@ -103,7 +115,8 @@ module _ (explained : TurnsAreMarked) (g : GridData) (t : Cell) where
       → NoneBelow (StopsAfter g t x d) 1 k → NoneBelow (StopsAfter g t x d) 1 (suc k)
   none_yet x v d k r n b j l h s = elim (below j k (omega arith)) [
     | inl less ↦ b j l less s
-    | inr at ↦ n (subst (λ (c : Cell). IsStop g t d c) (one_of s.cell v (sym s.reached ∙ ap (λ i. run_end g d i x) at ∙ r)) s.stops)
+    | inr at ↦ n (subst (λ (c : Cell). IsStop g t d c)
+        (one_of s.cell v (sym s.reached ∙ ap (λ i. run_end g d i x) at ∙ r)) s.stops)
   ]
     where
       below : (j k : ℕ) → j ≤ k → (j < k) ⊎ (j ≡ k)
@@ -118,7 +131,8 @@ module _ (explained : TurnsAreMarked) (g : GridData) (t : Cell) where
         more = 0;
         cell = v;
         left = cells;
-        first = rw plus (record { in_range = i; holds = record { cell = v; reached = r; stops = s }; least = b });
+        first =
+            rw plus (record { in_range = i; holds = record { cell = v; reached = r; stops = s }; least = b });
         reached = rw plus r;
         rule = f;
         ends = e;
@@ -138,7 +152,8 @@ module _ (explained : TurnsAreMarked) (g : GridData) (t : Cell) where
         reached = rw plus n.reached;
         rule = n.rule;
         ends = n.ends;
-        priced = rw (cost_there d v w a, n.priced, run_cost-next d n.more) (sym (add_costs-assoc (dir_cost d) (run_cost d n.more) (cost_of (n.cell ∷ n.left))));
+        priced = rw (cost_there d v w a, n.priced, run_cost-next d n.more)
+            (sym (add_costs-assoc (dir_cost d) (run_cost d n.more) (cost_of (n.cell ∷ n.left))));
         fewer = (let less = n.fewer in omega arith);
       }
 
@@ -150,7 +165,9 @@ module _ (explained : TurnsAreMarked) (g : GridData) (t : Cell) where
     | inl s ↦ stops_here x d k v (w ∷ cells) i r b (c, m, f) e s
     | inr n ↦ elim (goes_on d v w cells c m (explained g v d c m.allowed) f e) [
       | inl s ↦ absurd (n s)
-      | inr on ↦ stops_later x d k v w cells on.1 (next_stop x d (suc k) w cells (omega arith) (run_end-next g d k x v w r on.0) (none_yet x v d k r n b) on.2 e)
+      | inr on ↦ stops_later x d k v w cells on.1
+          (next_stop x d (suc k) w cells (omega arith) (run_end-next g d k x v w r on.0)
+          (none_yet x v d k r n b) on.2 e)
     ]
   ]
 
@@ -168,22 +185,34 @@ module _ (explained : TurnsAreMarked) (g : GridData) (t : Cell) where
   chain_joined by x v d cells m n rest = record {
     states = record { cell = n.cell; arrival = By d } ∷ rest.states;
     cost = add_costs (run_cost d (1 + n.more)) rest.cost;
-    chain = jumps _ _ _ d (1 + n.more) _ (record { allowed = m.allowed; first = n.first; reached = n.reached; arrives = refl }) rest.chain;
+    chain = jumps _ _ _ d (1 + n.more) _
+        (record { allowed = m.allowed; first = n.first; reached = n.reached; arrives = refl }) rest.chain;
     ends = rest.ends;
-    priced = rw (cost_there d x v m.leads, n.priced, rest.priced) (leg_priced d n.more (cost_of (n.cell ∷ n.left)));
+    priced = rw (cost_there d x v m.leads, n.priced, rest.priced)
+        (leg_priced d n.more (cost_of (n.cell ∷ n.left)));
   }
 
   chain_along : (n : ℕ) (by : Arrival) (x : Cell) (cells : List Cell) → length cells < n
       → FollowsRule g by x cells → last_of x cells ≡ t → HasChainAlong by x cells
   chain_along zero by x cells l f e = absurd (omega arith)
-  chain_along (suc n) by x [] l f e = record { states = []; cost = no_cost; chain = stays _; ends = e; priced = refl }
+  chain_along (suc n) by x [] l f e =
+      record { states = []; cost = no_cost; chain = stays _; ends = e; priced = refl }
   chain_along (suc n) by x (v ∷ cells) l (d, m, f) e =
       let step = legal_leads g x v d (allowed_leads g by x v d m) in
-      let next = next_stop x d 1 v cells (omega arith) (rw step refl) (λ k low high s. absurd (omega arith)) f e in
-      chain_joined by x v d cells m next (chain_along n (By d) next.cell next.left (let few = next.fewer in omega arith) next.rule next.ends)
+      let next =
+      next_stop x d 1 v cells (omega arith) (rw step refl) (λ k low high s. absurd (omega arith)) f e in
+      chain_joined by x v d cells m next
+      (chain_along n (By d) next.cell next.left (let few = next.fewer in omega arith) next.rule next.ends)
 
 -- the second law, from the second fact
 pub chains_from : TurnsAreMarked → ChainsSuffice
 chains_from explained g s t cells w =
     let c = chain_along explained g t (suc (length cells)) Start s cells (omega arith) w.pruned w.walk.ends in
-    record { states = c.states; cost = c.cost; chain = c.chain; ends = c.ends; no_more = same_at_most c.cost (cost_of (s ∷ cells)) c.priced }
+    record {
+      states = c.states;
+      cost = c.cost;
+      chain = c.chain;
+      ends = c.ends;
+      no_more = same_at_most c.cost
+          (cost_of (s ∷ cells)) c.priced;
+    }

@@ -46,7 +46,8 @@ leads_from g u d h = by_cell (ahead d u) refl h
 
 -- the direction of a legal move
 pub leads_of : (g : GridData) (u v : Cell) → is_legal g u v ≡ true → (d : Dir) × Leads g u v d
-leads_of g u v h = let a = ahead_of g u v h in (a.0, record { ahead_is = a.1; legal = h; can = rw (a.1, h) refl })
+leads_of g u v h =
+    let a = ahead_of g u v h in (a.0, record { ahead_is = a.1; legal = h; can = rw (a.1, h) refl })
 
 -- a walk of cells as directions
 pub record IsGone (g : GridData) (u : Cell) (cells : List Cell) : Type 0 where
@@ -64,7 +65,10 @@ gone g u (v ∷ cells) w =
     let rest = gone g v cells both.1 in
     record {
       dirs = l.0 ∷ rest.dirs;
-      walks = (legal_there g u l.0 (legal_is g u v both.0).source l.1.can, subst (λ (q : Place). Walks (Legal (free_place g)) q rest.dirs) (sym there) rest.walks);
+      walks = (
+        legal_there g u l.0 (legal_is g u v both.0).source l.1.can,
+        subst (λ (q : Place). Walks (Legal (free_place g)) q rest.dirs) (sym there) rest.walks,
+      );
       ends = ap (λ (q : Place). end_of q rest.dirs) there ∙ rest.ends;
       priced = rw (cost_there l.0 u v l.1.ahead_is, rest.priced) refl;
     }
@@ -84,13 +88,15 @@ pub record IsWalked (g : GridData) (by : Arrival) (u : Cell) (dirs : List Dir) :
 behind_there : (g : GridData) (u v : Cell) (s : Side) (d : Dir) → ahead d u ≡ Some v
     → is_diagonal d ≡ false → is_open g v (behind s d) ≡ free_place g (move (quarter s d) (place_of u))
 behind_there g u v s d h k =
-    open_there g v (behind s d) ∙ ap (λ (q : Place). free_place g (move (behind s d) q)) (sym (ahead_there d u v h))
+    open_there g v (behind s d) ∙ ap (λ (q : Place). free_place g (move (behind s d) q))
+    (sym (ahead_there d u v h))
     ∙ ap (λ (q : Place). free_place g q) (straight_back s d (place_of u) k)
 
 -- the rule of places is that of cells
 kept : (g : GridData) (u v : Cell) (d e : Dir) → ahead d u ≡ Some v
     → IsAllowed (free_place g) (place_of u) d e → is_kept g v (By d) e ≡ true
-kept g u v d _ h (straight_on _) = by_parity d (λ k. rw k (at_dir (λ d. is_kept_diagonal d d) refl d)) (λ k. rw k (kept-on g v d))
+kept g u v d _ h (straight_on _) =
+    by_parity d (λ k. rw k (at_dir (λ d. is_kept_diagonal d d) refl d)) (λ k. rw k (kept-on g v d))
 kept g u v d _ h (component s _ k) = rw k (at_both (λ s d. is_kept_diagonal d (turn s d)) refl s d)
 kept g u v d _ h (beside s _ k b) = rw (k, kept-quarter g v s d, behind_there g u v s d h k, b) refl
 kept g u v d _ h (past s _ k b) = rw (k, kept-eighth g v s d, behind_there g u v s d h k, b) refl
@@ -127,7 +133,8 @@ walked g s [] f w c = record { cells = []; walks = f; ends = refl; priced = refl
 walked g s (d ∷ ds) f w c =
     let l = leads_from g s d (can_move_there g s d f w.0) in
     let there = ahead_there d s l.0 l.1.ahead_is in
-    let rest = walked_after g s l.0 d ds l.1.ahead_is (legal_is g s l.0 l.1.legal).target (subst (λ (q : Place). Walks (Legal (free_place g)) q ds) there w.1) c in
+    let rest = walked_after g s l.0 d ds l.1.ahead_is (legal_is g s l.0 l.1.legal).target
+    (subst (λ (q : Place). Walks (Legal (free_place g)) q ds) there w.1) c in
     joined g Start s l.0 d ds l.1 refl rest
 
 -- a walk begins on a free cell
@@ -139,12 +146,17 @@ start_free g s (v ∷ cells) w = (legal_is g s v (grind arith)).source
 pub canonical_walks_suffice : CanonicalWalksSuffice
 canonical_walks_suffice g s t cells w =
     let way = gone g s cells w.legal in
-    let better = canonical_walk (Legal (free_place g)) (IsAllowed (free_place g)) (turns_are_replaced (free_place g)) way.dirs (place_of s) way.walks in
+    let better = canonical_walk (Legal (free_place g)) (IsAllowed (free_place g))
+    (turns_are_replaced (free_place g)) way.dirs (place_of s) way.walks in
     let back = walked g s better.instead (start_free g s cells w.legal) better.walks better.canonical in
     record {
       others = back.cells;
       canonical = record {
-        walk = record { legal = back.walks; ends = one_cell (last_of s back.cells) (last_of s cells) (back.ends ∙ better.ends ∙ way.ends) ∙ w.ends };
+        walk = record {
+          legal = back.walks;
+          ends = one_cell (last_of s back.cells) (last_of s cells)
+              (back.ends ∙ better.ends ∙ way.ends) ∙ w.ends;
+        };
         pruned = back.pruned;
       };
       no_more = rw (back.priced, way.priced) better.cost.is;

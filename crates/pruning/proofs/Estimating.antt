@@ -15,7 +15,8 @@ below g t u [] w e = Most-same (ap (λ (c : Cell). estimate c t) e ∙ estimate_
 below g t u (v ∷ cells) w e =
     let l : is_legal g u v ≡ true = grind arith in
     let r : is_walk g (v ∷ cells) ≡ true = grind arith in
-    Most-then (record { is = estimate_falls g u v t l }) (Most-add_left (move_cost u v) (estimate v t) (cost_of (v ∷ cells)) (below g t v cells r e))
+    Most-then (record { is = estimate_falls g u v t l })
+    (Most-add_left (move_cost u v) (estimate v t) (cost_of (v ∷ cells)) (below g t v cells r e))
 
 pub estimate_is_consistent : EstimateIsConsistent
 estimate_is_consistent = record {

@@ -56,20 +56,25 @@ module _ (g : GridData) (x : Cell) where
       let b : is_blocked_behind g x d s ≡ true = sym (kept-eighth g x s d) ∙ kept_straight d (turn s d) h k in
       let l = leads_from g x (turn s d) m in
       let f : is_free g x ≡ true = (legal_is g x l.0 l.1.legal).source in
-      let t = three_true (is_open g x d) (is_open g x (quarter s d)) (is_open g x (turn s d)) (sym (open_between g x f s d h) ∙ m) in
+      let t = three_true (is_open g x d) (is_open g x (quarter s d)) (is_open g x (turn s d))
+      (sym (open_between g x f s d h) ∙ m) in
       turns (marked_by s d h b (open_aside g x f s d h ∙ t.1)) (turn s d))
   by_turn d _ (side s) k m = by_parity d
-      (λ h. not_both _ (kept_diagonal d (quarter s d) h k) (at_both (λ s d. not (is_kept_diagonal d (quarter s d))) refl s d))
-      (λ h. turns (marked_by s d h (sym (kept-quarter g x s d) ∙ kept_straight d (quarter s d) h k) m) (quarter s d))
+      (λ h. not_both _ (kept_diagonal d (quarter s d) h k)
+      (at_both (λ s d. not (is_kept_diagonal d (quarter s d))) refl s d))
+      (λ h. turns (marked_by s d h (sym (kept-quarter g x s d) ∙ kept_straight d (quarter s d) h k) m)
+      (quarter s d))
   by_turn d _ (back s) k m = by_parity d
-      (λ h. not_both _ (kept_diagonal d (behind s d) h k) (at_both (λ s d. not (is_kept_diagonal d (behind s d))) refl s d))
+      (λ h. not_both _ (kept_diagonal d (behind s d) h k)
+      (at_both (λ s d. not (is_kept_diagonal d (behind s d))) refl s d))
       (λ h. absurd (never_kept d (behind s d)
       (not_true _ (at_both (λ s d. not (turns_to Right d (behind s d))) refl s d))
       (not_true _ (at_both (λ s d. not (turns_to Left d (behind s d))) refl s d))
       (not_true _ (at_both (λ s d. not (is_dir (behind s d) d)) refl s d))
       (kept_straight d (behind s d) h k)))
   by_turn d _ about k m = by_parity d
-      (λ h. not_both _ (kept_diagonal d (opposite d) h k) (at_dir (λ d. not (is_kept_diagonal d (opposite d))) refl d))
+      (λ h. not_both _ (kept_diagonal d (opposite d) h k)
+      (at_dir (λ d. not (is_kept_diagonal d (opposite d))) refl d))
       (λ h. absurd (never_kept d (opposite d)
       (not_true _ (at_dir (λ d. not (turns_to Right d (opposite d))) refl d))
       (not_true _ (at_dir (λ d. not (turns_to Left d (opposite d))) refl d))
@@ -77,4 +82,5 @@ module _ (g : GridData) (x : Cell) where
       (kept_straight d (opposite d) h k)))
 
 pub turns_are_marked : TurnsAreMarked
-turns_are_marked g x d e h = let both = two_true (is_kept g x (By d) e) (can_move g x e) h in by_turn g x d e (turned d e) both.0 both.1
+turns_are_marked g x d e h = let both =
+    two_true (is_kept g x (By d) e) (can_move g x e) h in by_turn g x d e (turned d e) both.0 both.1

@@ -48,31 +48,40 @@ module _ (g : GridData) (c : Cell) where
       → left ≡ is_allowed g c (By d) (quarter Left d)
       → up ≡ is_allowed g c (By d) (turn Left d) → right ≡ is_allowed g c (By d) (quarter Right d)
       → down ≡ is_allowed g c (By d) (turn Right d) → AreMarks d on left up right down
-  marks_from f d h on left up right down p q r s t = record { on_is = p ∙ sym (allowed-on g c f d h); left_is = q; up_is = r; right_is = s; down_is = t }
+  marks_from f d h on left up right down p q r s t =
+      record { on_is = p ∙ sym (allowed-on g c f d h); left_is = q; up_is = r; right_is = s; down_is = t }
 
   module _ (on left up right down : Bool) where
     pub dirs_N : (d : Dir) → d ≡ N → AreMarks d on left up right down
-        → listed_dirs ((d, on) ∷ (NE, down) ∷ (E, right) ∷ (W, left) ∷ (NW, up) ∷ []) ≡ allowed_dirs g c (By d)
+        → listed_dirs ((d, on) ∷ (NE, down) ∷ (E, right) ∷ (W, left) ∷ (NW, up) ∷ []) ≡
+        allowed_dirs g c (By d)
     dirs_N d e m =
-        let p1 = rw e at m.on_is in let p2 = rw e at m.left_is in let p3 = rw e at m.up_is in let p4 = rw e at m.right_is in let p5 = rw e at m.down_is in
+        let p1 = rw e at m.on_is in let p2 = rw e at m.left_is in let p3 =
+        rw e at m.up_is in let p4 = rw e at m.right_is in let p5 = rw e at m.down_is in
         rw (e, p1, p2, p3, p4, p5) refl
 
     pub dirs_E : (d : Dir) → d ≡ E → AreMarks d on left up right down
-        → listed_dirs ((N, left) ∷ (NE, up) ∷ (d, on) ∷ (SE, down) ∷ (S, right) ∷ []) ≡ allowed_dirs g c (By d)
+        → listed_dirs ((N, left) ∷ (NE, up) ∷ (d, on) ∷ (SE, down) ∷ (S, right) ∷ []) ≡
+        allowed_dirs g c (By d)
     dirs_E d e m =
-        let p1 = rw e at m.on_is in let p2 = rw e at m.left_is in let p3 = rw e at m.up_is in let p4 = rw e at m.right_is in let p5 = rw e at m.down_is in
+        let p1 = rw e at m.on_is in let p2 = rw e at m.left_is in let p3 =
+        rw e at m.up_is in let p4 = rw e at m.right_is in let p5 = rw e at m.down_is in
         rw (e, p1, p2, p3, p4, p5) refl
 
     pub dirs_S : (d : Dir) → d ≡ S → AreMarks d on left up right down
-        → listed_dirs ((E, left) ∷ (SE, up) ∷ (d, on) ∷ (SW, down) ∷ (W, right) ∷ []) ≡ allowed_dirs g c (By d)
+        → listed_dirs ((E, left) ∷ (SE, up) ∷ (d, on) ∷ (SW, down) ∷ (W, right) ∷ []) ≡
+        allowed_dirs g c (By d)
     dirs_S d e m =
-        let p1 = rw e at m.on_is in let p2 = rw e at m.left_is in let p3 = rw e at m.up_is in let p4 = rw e at m.right_is in let p5 = rw e at m.down_is in
+        let p1 = rw e at m.on_is in let p2 = rw e at m.left_is in let p3 =
+        rw e at m.up_is in let p4 = rw e at m.right_is in let p5 = rw e at m.down_is in
         rw (e, p1, p2, p3, p4, p5) refl
 
     pub dirs_W : (d : Dir) → d ≡ W → AreMarks d on left up right down
-        → listed_dirs ((N, right) ∷ (S, left) ∷ (SW, up) ∷ (d, on) ∷ (NW, down) ∷ []) ≡ allowed_dirs g c (By d)
+        → listed_dirs ((N, right) ∷ (S, left) ∷ (SW, up) ∷ (d, on) ∷ (NW, down) ∷ []) ≡
+        allowed_dirs g c (By d)
     dirs_W d e m =
-        let p1 = rw e at m.on_is in let p2 = rw e at m.left_is in let p3 = rw e at m.up_is in let p4 = rw e at m.right_is in let p5 = rw e at m.down_is in
+        let p1 = rw e at m.on_is in let p2 = rw e at m.left_is in let p3 =
+        rw e at m.up_is in let p4 = rw e at m.right_is in let p5 = rw e at m.down_is in
         rw (e, p1, p2, p3, p4, p5) refl
 
   -- after a diagonal move the three marks are the legal moves
@@ -84,19 +93,23 @@ module _ (g : GridData) (c : Cell) where
   module _ (left on right : Bool) where
     pub dirs_NE : (d : Dir) → d ≡ NE → AreLegal d left on right
         → listed_dirs ((N, left) ∷ (d, on) ∷ (E, right) ∷ []) ≡ allowed_dirs g c (By d)
-    dirs_NE d e m = let p1 = rw e at m.left_is in let p2 = rw e at m.on_is in let p3 = rw e at m.right_is in rw (e, p1, p2, p3) refl
+    dirs_NE d e m = let p1 = rw e at m.left_is in let p2 =
+        rw e at m.on_is in let p3 = rw e at m.right_is in rw (e, p1, p2, p3) refl
 
     pub dirs_SE : (d : Dir) → d ≡ SE → AreLegal d left on right
         → listed_dirs ((E, left) ∷ (d, on) ∷ (S, right) ∷ []) ≡ allowed_dirs g c (By d)
-    dirs_SE d e m = let p1 = rw e at m.left_is in let p2 = rw e at m.on_is in let p3 = rw e at m.right_is in rw (e, p1, p2, p3) refl
+    dirs_SE d e m = let p1 = rw e at m.left_is in let p2 =
+        rw e at m.on_is in let p3 = rw e at m.right_is in rw (e, p1, p2, p3) refl
 
     pub dirs_SW : (d : Dir) → d ≡ SW → AreLegal d left on right
         → listed_dirs ((S, left) ∷ (d, on) ∷ (W, right) ∷ []) ≡ allowed_dirs g c (By d)
-    dirs_SW d e m = let p1 = rw e at m.left_is in let p2 = rw e at m.on_is in let p3 = rw e at m.right_is in rw (e, p1, p2, p3) refl
+    dirs_SW d e m = let p1 = rw e at m.left_is in let p2 =
+        rw e at m.on_is in let p3 = rw e at m.right_is in rw (e, p1, p2, p3) refl
 
     pub dirs_NW : (d : Dir) → d ≡ NW → AreLegal d left on right
         → listed_dirs ((N, right) ∷ (W, left) ∷ (d, on) ∷ []) ≡ allowed_dirs g c (By d)
-    dirs_NW d e m = let p1 = rw e at m.left_is in let p2 = rw e at m.on_is in let p3 = rw e at m.right_is in rw (e, p1, p2, p3) refl
+    dirs_NW d e m = let p1 = rw e at m.left_is in let p2 =
+        rw e at m.on_is in let p3 = rw e at m.right_is in rw (e, p1, p2, p3) refl
 
   -- the marks from what is open
   pub legal_from : is_free g c ≡ true → (d : Dir) → is_diagonal d ≡ true → (left on right : Bool)

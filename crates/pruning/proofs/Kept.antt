@@ -31,23 +31,34 @@ module _ (g : GridData) (c : Cell) where
   -- what a look behind tells
   pub seen_free : (s : Side) (d e u b : Dir) (o : Bool) → e ≡ turn s d → u ≡ turn s e → b ≡ turn s u
       → o ≡ is_open g c b → o ≡ true → is_blocked_behind g c d s ≡ false
-  seen_free s d e u b o p q r i h = let seen : is_open g c (behind s d) ≡ true = rw (← p, ← q, ← r) (sym i ∙ h) in rw seen refl
+  seen_free s d e u b o p q r i h =
+      let seen : is_open g c (behind s d) ≡ true = rw (← p, ← q, ← r) (sym i ∙ h) in rw seen refl
 
   pub seen_blocked : (s : Side) (d e u b : Dir) (o : Bool) → e ≡ turn s d → u ≡ turn s e → b ≡ turn s u
       → o ≡ is_open g c b → o ≡ false → is_blocked_behind g c d s ≡ true
-  seen_blocked s d e u b o p q r i h = let seen : is_open g c (behind s d) ≡ false = rw (← p, ← q, ← r) (sym i ∙ h) in rw seen refl
+  seen_blocked s d e u b o p q r i h =
+      let seen : is_open g c (behind s d) ≡ false = rw (← p, ← q, ← r) (sym i ∙ h) in rw seen refl
 
   -- after a straight move: straight on, and to a side by a quarter or an eighth
   pub kept-on : (d : Dir) → is_kept_straight g c d d ≡ true
-  kept-on d = rw (at_none (λ d. turns_to Right d d) refl d, at_none (λ d. turns_to Left d d) refl d) (at_dir (λ d. is_dir d d) refl d)
+  kept-on d = rw (at_none (λ d. turns_to Right d d) refl d, at_none (λ d. turns_to Left d d) refl d)
+      (at_dir (λ d. is_dir d d) refl d)
 
   pub kept-quarter : (s : Side) (d : Dir) → is_kept_straight g c d (quarter s d) ≡ is_blocked_behind g c d s
   kept-quarter Right d = rw (at_dir (λ d. turns_to Right d (quarter Right d)) refl d) refl
-  kept-quarter Left d = rw (at_none (λ d. turns_to Right d (quarter Left d)) refl d, at_dir (λ d. turns_to Left d (quarter Left d)) refl d) refl
+  kept-quarter Left d = rw (
+    at_none (λ d. turns_to Right d (quarter Left d)) refl d,
+    at_dir
+        (λ d. turns_to Left d (quarter Left d)) refl d,
+  ) refl
 
   pub kept-eighth : (s : Side) (d : Dir) → is_kept_straight g c d (turn s d) ≡ is_blocked_behind g c d s
   kept-eighth Right d = rw (at_dir (λ d. turns_to Right d (turn Right d)) refl d) refl
-  kept-eighth Left d = rw (at_none (λ d. turns_to Right d (turn Left d)) refl d, at_dir (λ d. turns_to Left d (turn Left d)) refl d) refl
+  kept-eighth Left d = rw (
+    at_none (λ d. turns_to Right d (turn Left d)) refl d,
+    at_dir
+        (λ d. turns_to Left d (turn Left d)) refl d,
+  ) refl
 
   module _ (f : is_free g c ≡ true) where
     pub open_aside : (s : Side) (d : Dir) → is_diagonal d ≡ false
@@ -56,8 +67,11 @@ module _ (g : GridData) (c : Cell) where
 
     pub open_between : (s : Side) (d : Dir) → is_diagonal d ≡ false
         → can_move g c (turn s d) ≡ (is_open g c d && is_open g c (quarter s d) && is_open g c (turn s d))
-    open_between Right d h = can_move-diagonal g c (turn Right d) f (turn_parity Right d ∙ ap not h) ∙ rw (turn_back Right d) refl
-    open_between Left d h = can_move-diagonal g c (turn Left d) f (turn_parity Left d ∙ ap not h) ∙ rw (turn_back Left d) (turned (is_open g c (quarter Left d)) (is_open g c d) (is_open g c (turn Left d)))
+    open_between Right d h =
+        can_move-diagonal g c (turn Right d) f (turn_parity Right d ∙ ap not h) ∙ rw (turn_back Right d) refl
+    open_between Left d h = can_move-diagonal g c (turn Left d) f (turn_parity Left d ∙ ap not h)
+        ∙ rw (turn_back Left d) (turned (is_open g c (quarter Left d)) (is_open g c d)
+        (is_open g c (turn Left d)))
 
     -- what a straight arrival allows, by what is open
     pub allowed-on : (d : Dir) → is_diagonal d ≡ false → is_allowed g c (By d) d ≡ is_open g c d
@@ -68,7 +82,9 @@ module _ (g : GridData) (c : Cell) where
     allowed-quarter s d h = rw (h, kept-quarter s d, open_aside s d h) refl
 
     pub allowed-eighth : (s : Side) (d : Dir) → is_diagonal d ≡ false
-        → is_allowed g c (By d) (turn s d) ≡ (is_blocked_behind g c d s && (is_open g c d && is_open g c (quarter s d) && is_open g c (turn s d)))
+        → is_allowed g c (By d) (turn s d) ≡
+        (is_blocked_behind g c d s &&
+        (is_open g c d && is_open g c (quarter s d) && is_open g c (turn s d)))
     allowed-eighth s d h = rw (h, kept-eighth s d, open_between s d h) refl
 
     pub forced-quarter : (s : Side) (d : Dir) → is_diagonal d ≡ false
@@ -90,7 +106,8 @@ module _ (g : GridData) (c : Cell) where
     quarter_past s d h b = sym (allowed-quarter s d h ∙ rw b refl)
 
     pub eighth_past : (s : Side) (d : Dir) → is_diagonal d ≡ false → is_blocked_behind g c d s ≡ true
-        → (is_open g c d && is_open g c (quarter s d) && is_open g c (turn s d)) ≡ is_allowed g c (By d) (turn s d)
+        → (is_open g c d && is_open g c (quarter s d) && is_open g c (turn s d)) ≡ is_allowed g c
+        (By d) (turn s d)
     eighth_past s d h b = sym (allowed-eighth s d h ∙ rw b refl)
 
     pub forced_past : (s : Side) (d : Dir) → is_diagonal d ≡ false → is_blocked_behind g c d s ≡ true
@@ -102,7 +119,8 @@ module _ (g : GridData) (c : Cell) where
         → ne ≡ (n && e && is_open g c NE) → e ≡ is_open g c E → se ≡ (e && s && is_open g c SE)
         → s ≡ is_open g c S → sw ≡ (s && w && is_open g c SW) → w ≡ is_open g c W
         → nw ≡ (w && n && is_open g c NW)
-        → listed_dirs ((N, n) ∷ (NE, ne) ∷ (E, e) ∷ (SE, se) ∷ (S, s) ∷ (SW, sw) ∷ (W, w) ∷ (NW, nw) ∷ []) ≡ allowed_dirs g c Start
+        → listed_dirs ((N, n) ∷ (NE, ne) ∷ (E, e) ∷ (SE, se) ∷ (S, s) ∷ (SW, sw) ∷ (W, w) ∷ (NW, nw) ∷ []) ≡
+        allowed_dirs g c Start
     dirs_at_start n ne e se s sw w nw p1 p2 p3 p4 p5 p6 p7 p8 =
         let q1 : n ≡ can_move g c N = p1 ∙ sym (can_move-straight g c N f refl) in
         let q2 : ne ≡ can_move g c NE = p2 ∙ rw (p1, p3) (sym (can_move-diagonal g c NE f refl)) in

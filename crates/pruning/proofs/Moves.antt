@@ -17,7 +17,8 @@ cell x y = record { x = x; y = y }
 -- a move to a free neighbour is decided by the corners
 legal_test : (g : GridData) (x y z t : ℕ) → is_free g (cell x y) ≡ true
     → are_neighbours (cell x y) (cell z t) ≡ true
-    → is_legal g (cell x y) (cell z t) ≡ (is_free g (cell z t) && is_free g (cell x t) && is_free g (cell z y))
+    → is_legal g (cell x y) (cell z t) ≡
+    (is_free g (cell z t) && is_free g (cell x t) && is_free g (cell z y))
 legal_test g x y z t f n = rw (n, f) refl
 
 some_if : (b : Bool) (c : Cell) → is_some (if b then Some c else None) ≡ b
@@ -31,16 +32,19 @@ neighbours x y z t a b c d n = grind (arith, nat_tests)
 -- a straight move
 aside : (g : GridData) (x y z : ℕ) → is_free g (cell x y) ≡ true → x ≤ z + 1 → z ≤ x + 1 → (x ≡ z → ⊥)
     → is_legal g (cell x y) (cell z y) ≡ is_free g (cell z y)
-aside g x y z f a b n = let near = neighbours x y z y a b (omega arith) (omega arith) (λ e _. n e) in grind arith
+aside g x y z f a b n =
+    let near = neighbours x y z y a b (omega arith) (omega arith) (λ e _. n e) in grind arith
 
 along : (g : GridData) (x y t : ℕ) → is_free g (cell x y) ≡ true → y ≤ t + 1 → t ≤ y + 1 → (y ≡ t → ⊥)
     → is_legal g (cell x y) (cell x t) ≡ is_free g (cell x t)
-along g x y t f a b n = let near = neighbours x y x t (omega arith) (omega arith) a b (λ _ e. n e) in grind arith
+along g x y t f a b n =
+    let near = neighbours x y x t (omega arith) (omega arith) a b (λ _ e. n e) in grind arith
 
 -- a diagonal move
 across : (g : GridData) (x y z t : ℕ) → is_free g (cell x y) ≡ true → x ≤ z + 1 → z ≤ x + 1 → y ≤ t + 1
     → t ≤ y + 1 → (x ≡ z → ⊥)
-    → is_legal g (cell x y) (cell z t) ≡ (is_free g (cell x t) && is_free g (cell z y) && is_free g (cell z t))
+    → is_legal g (cell x y) (cell z t) ≡
+    (is_free g (cell x t) && is_free g (cell z y) && is_free g (cell z t))
 across g x y z t f a b c d n = let near = neighbours x y z t a b c d (λ e _. n e) in grind arith
 
 -- what lies ahead decides a straight move
@@ -51,11 +55,13 @@ can_move-straight g c d f h = by_dir c.x c.y d f h
     by_dir : (x y : ℕ) (d : Dir) → is_free g (cell x y) ≡ true → is_diagonal d ≡ false
         → can_move g (cell x y) d ≡ is_open g (cell x y) d
     by_dir x zero N f h = refl
-    by_dir x (suc t) N f h = some_if _ _ ∙ along g x (suc t) t f (omega arith) (omega arith) (λ e. omega arith)
+    by_dir x (suc t) N f h =
+        some_if _ _ ∙ along g x (suc t) t f (omega arith) (omega arith) (λ e. omega arith)
     by_dir x y E f h = some_if _ _ ∙ aside g x y (x + 1) f (omega arith) (omega arith) (λ e. omega arith)
     by_dir x y S f h = some_if _ _ ∙ along g x y (y + 1) f (omega arith) (omega arith) (λ e. omega arith)
     by_dir zero y W f h = refl
-    by_dir (suc z) y W f h = some_if _ _ ∙ aside g (suc z) y z f (omega arith) (omega arith) (λ e. omega arith)
+    by_dir (suc z) y W f h =
+        some_if _ _ ∙ aside g (suc z) y z f (omega arith) (omega arith) (λ e. omega arith)
     by_dir x y NE f h = absurd (cc)
     by_dir x y SE f h = absurd (cc)
     by_dir x y SW f h = absurd (cc)
@@ -73,15 +79,25 @@ pub can_move-diagonal : (g : GridData) (c : Cell) (d : Dir) → is_free g c ≡ 
 can_move-diagonal g c d f h = by_dir c.x c.y d f h
   where
     by_dir : (x y : ℕ) (d : Dir) → is_free g (cell x y) ≡ true → is_diagonal d ≡ true
-        → can_move g (cell x y) d ≡ (is_open g (cell x y) (turn Left d) && is_open g (cell x y) (turn Right d) && is_open g (cell x y) d)
+        → can_move g (cell x y) d ≡ (is_open g (cell x y) (turn Left d) && is_open g (cell x y) (turn Right d)
+        && is_open g (cell x y) d)
     by_dir x zero NE f h = refl
-    by_dir x (suc t) NE f h = some_if _ _ ∙ across g x (suc t) (x + 1) t f (omega arith) (omega arith) (omega arith) (omega arith) (λ e. omega arith)
-    by_dir x y SE f h = some_if _ _ ∙ across g x y (x + 1) (y + 1) f (omega arith) (omega arith) (omega arith) (omega arith) (λ e. omega arith) ∙ turned (is_free g (cell x (y + 1))) (is_free g (cell (x + 1) y)) (is_free g (cell (x + 1) (y + 1)))
+    by_dir x (suc t) NE f h = some_if _ _
+        ∙ across g x (suc t) (x + 1) t f (omega arith) (omega arith) (omega arith) (omega arith)
+        (λ e. omega arith)
+    by_dir x y SE f h = some_if _ _ ∙ across g x y (x + 1) (y + 1) f (omega arith) (omega arith) (omega arith)
+        (omega arith) (λ e. omega arith)
+        ∙ turned (is_free g (cell x (y + 1))) (is_free g (cell (x + 1) y)) (is_free g (cell (x + 1) (y + 1)))
     by_dir zero y SW f h = sym (none (is_free g (cell zero (y + 1))))
-    by_dir (suc z) y SW f h = some_if _ _ ∙ across g (suc z) y z (y + 1) f (omega arith) (omega arith) (omega arith) (omega arith) (λ e. omega arith)
+    by_dir (suc z) y SW f h = some_if _ _
+        ∙ across g (suc z) y z (y + 1) f (omega arith) (omega arith) (omega arith) (omega arith)
+        (λ e. omega arith)
     by_dir zero y NW f h = refl
     by_dir (suc z) zero NW f h = sym (none (is_free g (cell z zero)))
-    by_dir (suc z) (suc t) NW f h = some_if _ _ ∙ across g (suc z) (suc t) z t f (omega arith) (omega arith) (omega arith) (omega arith) (λ e. omega arith) ∙ turned (is_free g (cell (suc z) t)) (is_free g (cell z (suc t))) (is_free g (cell z t))
+    by_dir (suc z) (suc t) NW f h = some_if _ _
+        ∙ across g (suc z) (suc t) z t f (omega arith) (omega arith) (omega arith) (omega arith)
+        (λ e. omega arith) ∙ turned (is_free g (cell (suc z) t)) (is_free g (cell z (suc t)))
+        (is_free g (cell z t))
     by_dir x y N f h = absurd (cc)
     by_dir x y E f h = absurd (cc)
     by_dir x y S f h = absurd (cc)

@@ -50,9 +50,16 @@ module _ (free : Place → Bool) where
         let u : move (turn s d) (move d p) ≡ move d (move (turn s d) p) = moved_both d (turn s d) p in
         record {
           instead = turn s d ∷ d ∷ [];
-          walks = (corner p s d l.source l.target c t, (along (move (turn s d) p) d h t (is_free u m.target), tt));
+          walks = (
+            corner p s d l.source l.target c t,
+            (along (move (turn s d) p) d h t (is_free u m.target), tt),
+          );
           ends = sym u;
-          better = record { cost = rw (g, h) (record { is = refl }); smaller = earlier refl (rw (g, h) refl) (rw (g, h) (omega arith)) };
+          better = record {
+            cost = rw (g, h) (record { is = refl });
+            smaller = earlier refl (rw (g, h) refl)
+                (rw (g, h) (omega arith));
+          };
         }
 
     -- a straight move and then a quarter: the diagonal between
@@ -78,9 +85,16 @@ module _ (free : Place → Bool) where
         let u : move (quarter s d) (move d p) ≡ move (turn s d) (move (turn s d) p) = diagonal_side s d p h in
         record {
           instead = turn s d ∷ turn s d ∷ [];
-          walks = (along p (turn s d) g l.source (l.sides h s), (along (move (turn s d) p) (turn s d) g (l.sides h s) (is_free u m.target), tt));
+          walks = (
+            along p (turn s d) g l.source (l.sides h s),
+            (along (move (turn s d) p) (turn s d) g (l.sides h s) (is_free u m.target), tt),
+          );
           ends = sym u;
-          better = record { cost = rw (g, k, h) (record { is = refl }); smaller = straighter refl (rw (g, k, h) (omega arith)) };
+          better = record {
+            cost = rw (g, k, h) (record { is = refl });
+            smaller = straighter refl
+                (rw (g, k, h) (omega arith));
+          };
         }
 
     -- a straight move and then a diagonal back: the straight move aside
@@ -119,8 +133,10 @@ module _ (free : Place → Bool) where
       ends = sym (reversal d p);
       better = record {
         cost = by_parity d
-            (λ h. let k : is_diagonal (opposite d) ≡ true = opposite_parity d ∙ h in rw (k, h) (record { is = refl }))
-            (λ h. let k : is_diagonal (opposite d) ≡ false = opposite_parity d ∙ h in rw (k, h) (record { is = refl }));
+            (λ h. let k : is_diagonal (opposite d) ≡ true = opposite_parity d
+            ∙ h in rw (k, h) (record { is = refl }))
+            (λ h. let k : is_diagonal (opposite d) ≡ false = opposite_parity d
+            ∙ h in rw (k, h) (record { is = refl }));
         smaller = shorter (omega arith);
       };
     }
@@ -128,8 +144,10 @@ module _ (free : Place → Bool) where
     by_turn : (e : Dir) → Turned d e → Legal free (move d p) e
         → IsAllowed free p d e ⊎ Replaces (Legal free) p d e
     by_turn _ ahead m = inl (straight_on d)
-    by_turn _ (eighth s) m = by_parity d (λ g. inl (component s d g)) (λ h. by_test (free (move (quarter s d) p)) (λ c. inr (swapped s h c m)) (λ c. inl (past s d h c)))
-    by_turn _ (side s) m = by_parity d (λ g. inr (halved s g m)) (λ h. by_test (free (move (quarter s d) p)) (λ c. inr (cut s h c m)) (λ c. inl (beside s d h c)))
+    by_turn _ (eighth s) m = by_parity d (λ g. inl (component s d g))
+        (λ h. by_test (free (move (quarter s d) p)) (λ c. inr (swapped s h c m)) (λ c. inl (past s d h c)))
+    by_turn _ (side s) m = by_parity d (λ g. inr (halved s g m))
+        (λ h. by_test (free (move (quarter s d) p)) (λ c. inr (cut s h c m)) (λ c. inl (beside s d h c)))
     by_turn _ (back s) m = by_parity d (λ g. inr (component_only s g m)) (λ h. inr (side_only s h m))
     by_turn _ about m = inr undone
 

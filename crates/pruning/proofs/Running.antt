@@ -62,8 +62,10 @@ moved_on falling k a z b p q = omega arith
 -- the first move goes towards the end
 toward_moved : (t : Trend) (k a z b : ℕ) → IsMoved t 1 a z → IsMoved t k z b → toward a b ≡ z
 toward_moved rising k a z b p q = let l : nat_lt a b ≡ true = grind (arith, nat_tests) in rw l (sym p)
-toward_moved level k a z b p q = let l : nat_lt a b ≡ false = grind (arith, nat_tests) in let m : nat_lt b a ≡ false = grind (arith, nat_tests) in rw (l, m) (sym p)
-toward_moved falling k a z b p q = let l : nat_lt a b ≡ false = grind (arith, nat_tests) in let m : nat_lt b a ≡ true = grind (arith, nat_tests) in rw (l, m) (omega arith)
+toward_moved level k a z b p q = let l : nat_lt a b ≡ false =
+    grind (arith, nat_tests) in let m : nat_lt b a ≡ false = grind (arith, nat_tests) in rw (l, m) (sym p)
+toward_moved falling k a z b p q = let l : nat_lt a b ≡ false = grind (arith, nat_tests) in let m : nat_lt b a ≡ true =
+    grind (arith, nat_tests) in rw (l, m) (omega arith)
 
 abbrev pub AreMoved : Dir → ℕ → Cell → Cell → Type 0
 AreMoved d k u v = IsMoved (column_trend d) k u.x v.x × IsMoved (row_trend d) k u.y v.y
@@ -113,7 +115,8 @@ longer W k = omega arith
 longer NW k = omega arith
 
 pub steps_moved : (d : Dir) (k : ℕ) (u v : Cell) → AreMoved d k u v → steps_between u v ≡ k
-steps_moved d k u v m = rw (apart_moved (column_trend d) k u.x v.x m.0, apart_moved (row_trend d) k u.y v.y m.1) (longer d k)
+steps_moved d k u v m =
+    rw (apart_moved (column_trend d) k u.x v.x m.0, apart_moved (row_trend d) k u.y v.y m.1) (longer d k)
 
 -- one of the three kinds of lines
 on_line : (d : Dir) (k : ℕ) (u v : Cell) → AreMoved d k u v
@@ -130,7 +133,13 @@ on_line NW k u v m = grind (arith, nat_tests)
 pub lined_moved : (d : Dir) (k : ℕ) (u v : Cell) → 1 ≤ k → AreMoved d k u v → are_lined u v ≡ true
 lined_moved d k u v h m =
     let some : nat_lt 0 k ≡ true = grind (arith, nat_tests) in
-    rw (steps_moved d k u v m, apart_moved (column_trend d) k u.x v.x m.0, apart_moved (row_trend d) k u.y v.y m.1, some) (on_line d k u v m)
+    rw (
+      steps_moved d k u v m,
+      apart_moved (column_trend d) k u.x v.x m.0,
+      apart_moved (row_trend d) k u.y v.y
+          m.1,
+      some,
+    ) (on_line d k u v m)
 
 -- a legal run as a walk
 pub record IsRun (g : GridData) (d : Dir) (k : ℕ) (x u : Cell) : Type 0 where
@@ -157,7 +166,9 @@ run_with_one : (g : GridData) (d : Dir) (k : ℕ) (x y u : Cell) → Leads g x y
     → IsRun g d (suc k) x u
 run_with_one g d k x y u l r =
     let m = ahead_moved d x y l.ahead_is in
-    let next : step_toward x u ≡ y = same_cell (step_toward x u) y (toward_moved (column_trend d) k x.x y.x u.x m.0 r.moved.0) (toward_moved (row_trend d) k x.y y.y u.y m.1 r.moved.1) in
+    let next : step_toward x u ≡ y = same_cell (step_toward x u) y
+    (toward_moved (column_trend d) k x.x y.x u.x m.0 r.moved.0)
+    (toward_moved (row_trend d) k x.y y.y u.y m.1 r.moved.1) in
     record {
       cells = y ∷ r.cells;
       walks = rw (l.legal, r.walks) refl;
@@ -165,13 +176,18 @@ run_with_one g d k x y u l r =
       free = r.free;
       priced = rw (cost_there d x y l.ahead_is, r.priced) (sym (run_cost-next d k));
       filled = ap (λ (c : Cell). c ∷ segment k c u) next ∙ ap (λ (cs : List Cell). y ∷ cs) r.filled;
-      moved = (moved_on (column_trend d) k x.x y.x u.x m.0 r.moved.0, moved_on (row_trend d) k x.y y.y u.y m.1 r.moved.1);
+      moved = (
+        moved_on (column_trend d) k x.x y.x u.x m.0 r.moved.0,
+        moved_on (row_trend d) k x.y y.y u.y
+            m.1 r.moved.1,
+      );
     }
 
 pub run_walked : (g : GridData) (d : Dir) (k : ℕ) (x u : Cell) → is_free g x ≡ true
     → run_end g d k x ≡ Some u → IsRun g d k x u
 run_walked g d zero x u f h = run_of_none g d x u f (one_of x u h)
-run_walked g d (suc k) x u f h = by_cell (legal_ahead g x d) refl h (λ y l h. run_with_one g d k x y u l (run_walked g d k y u (legal_is g x y l.legal).target h))
+run_walked g d (suc k) x u f h = by_cell (legal_ahead g x d) refl h
+    (λ y l h. run_with_one g d k x y u l (run_walked g d k y u (legal_is g x y l.legal).target h))
   where
     by_cell : (o : Option Cell) → legal_ahead g x d ≡ o
         → option_and_then (λ y. run_end g d k y) o ≡ Some u

@@ -27,7 +27,8 @@ leads_legal g u v d h = by_cell (ahead d u) refl h
   where
     by_test : (w : Cell) (b : Bool) → ahead d u ≡ Some w → is_legal g u w ≡ b
         → (if b then Some w else None) ≡ Some v → Leads g u v d
-    by_test w true e l k = subst (λ (c : Cell). Leads g u c d) (one_of w v k) (record { ahead_is = e; legal = l; can = rw (e, l) refl })
+    by_test w true e l k = subst (λ (c : Cell). Leads g u c d) (one_of w v k)
+        (record { ahead_is = e; legal = l; can = rw (e, l) refl })
     by_test w false e l k = absurd (cc)
 
     by_cell : (o : Option Cell) → ahead d u ≡ o
@@ -104,14 +105,23 @@ module _ (g : GridData) (d : Dir) (test : Cell → Bool) where
       let same : v ≡ c = one_of v c (rw e at r) in
       let passed : test v ≡ true = rw same t in
       absurd (cc)
-  nor_there x v e f n (suc (suc k)) h c r t = n (record { moves = suc k; some = omega arith; cell = c; reached = rw e at r; holds = t })
+  nor_there x v e f n (suc (suc k)) h c r t =
+      n (record { moves = suc k; some = omega arith; cell = c; reached = rw e at r; holds = t })
 
   one_further : (x v : Cell) → legal_ahead g x d ≡ Some v → IsTested v → IsTested x
-  one_further x v e r = record { moves = suc r.moves; some = omega arith; cell = r.cell; reached = rw e r.reached; holds = r.holds }
+  one_further x v e r = record {
+    moves = suc r.moves;
+    some = omega arith;
+    cell = r.cell;
+    reached = rw e
+        r.reached;
+    holds = r.holds;
+  }
 
   by_first : (x v : Cell) → legal_ahead g x d ≡ Some v → (b : Bool) → test v ≡ b
       → IsTested v ⊎ (IsTested v → ⊥) → IsTested x ⊎ (IsTested x → ⊥)
-  by_first x v e true t rest = inl (record { moves = 1; some = omega arith; cell = v; reached = rw e refl; holds = t })
+  by_first x v e true t rest =
+      inl (record { moves = 1; some = omega arith; cell = v; reached = rw e refl; holds = t })
   by_first x v e false t (inl r) = inl (one_further x v e r)
   by_first x v e false t (inr n) = inr (λ r. nor_there x v e t n r.moves r.some r.cell r.reached r.holds)
 
@@ -123,7 +133,8 @@ module _ (g : GridData) (d : Dir) (test : Cell → Bool) where
           → ((v : Cell) → room g d v < n → IsTested v ⊎ (IsTested v → ⊥))
           → IsTested x ⊎ (IsTested x → ⊥)
       by_cell None e next = inr (λ r. nowhere x e r.moves r.some r.cell r.reached)
-      by_cell (Some v) e next = by_first x v e (test v) refl (next v (let l = less_room g d x v (leads_legal g x v d e) in omega arith))
+      by_cell (Some v) e next = by_first x v e (test v) refl
+          (next v (let l = less_room g d x v (leads_legal g x v d e) in omega arith))
 
   -- a test holds on the run, or nowhere on it
   pub HoldsOnRun-or_not : (x : Cell) → IsTested x ⊎ (IsTested x → ⊥)

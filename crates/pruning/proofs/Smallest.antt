@@ -3,7 +3,8 @@ use Rattle.std.proofs.Common.{ℕ, zero, suc, ◌<◌, List, length, arith}
 use Rattle.grid_moves.specs.declared.Dir.{Dir}
 use Rattle.pruning.proofs.Turnings.{price, places, Smaller, shorter, straighter, earlier}
 
-module _ (P : List Dir → Type 0) (step : (ds : List Dir) → ((es : List Dir) → Smaller es ds → P es) → P ds) where
+module _ (P : List Dir → Type 0) (step : (ds : List Dir) → ((es : List Dir) → Smaller es ds → P es)
+    → P ds) where
   by_places : (n m : ℕ) → ((es : List Dir) → length es < n → P es)
       → ((es : List Dir) → length es < suc n → (price es).b < m → P es)
       → (k : ℕ) (ds : List Dir) → length ds < suc n → (price ds).b < suc m → places ds < k → P ds
@@ -19,7 +20,8 @@ module _ (P : List Dir → Type 0) (step : (ds : List Dir) → ((es : List Dir) 
   by_diagonals : (n : ℕ) → ((es : List Dir) → length es < n → P es) → (m : ℕ) (ds : List Dir)
       → length ds < suc n → (price ds).b < m → P ds
   by_diagonals n short zero ds h i = absurd (omega arith)
-  by_diagonals n short (suc m) ds h i = by_places n m short (by_diagonals n short m) (suc (places ds)) ds h i (omega arith)
+  by_diagonals n short (suc m) ds h i =
+      by_places n m short (by_diagonals n short m) (suc (places ds)) ds h i (omega arith)
 
   by_length : (n : ℕ) (ds : List Dir) → length ds < n → P ds
   by_length zero ds h = absurd (omega arith)

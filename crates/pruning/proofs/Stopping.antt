@@ -26,8 +26,16 @@ module _ (g : GridData) (goal : Cell) (d : Dir) (v : Cell) where
   seen_stops : is_diagonal d ≡ true → (s : Side) → HoldsOnRun g (turn s d) v (λ u. is_seen s u ≡ true)
       → IsStop g goal d v
   seen_stops h s r = by_test (is_forced g r.cell (turn s d))
-      (λ f. marked (looks_out h s (record { moves = r.moves; some = r.some; cell = r.cell; reached = r.reached; holds = f })))
-      (λ f. sees_goal h s (record { moves = r.moves; some = r.some; cell = r.cell; reached = r.reached; holds = is_same-cell r.cell goal (let held = r.holds in grind arith) }))
+      (λ f. marked (looks_out h s (record
+      { moves = r.moves; some = r.some; cell = r.cell; reached = r.reached; holds = f })))
+      (λ f. sees_goal h s (record {
+        moves = r.moves;
+        some = r.some;
+        cell = r.cell;
+        reached = r.reached;
+        holds
+            = is_same-cell r.cell goal (let held = r.holds in grind arith);
+      }))
 
   straight_stop : is_diagonal d ≡ false → is_same v goal ≡ false → is_forced g v d ≡ false
       → IsStop g goal d v → ⊥
@@ -40,8 +48,17 @@ module _ (g : GridData) (goal : Cell) (d : Dir) (v : Cell) where
       → ((s : Side) → HoldsOnRun g (turn s d) v (λ u. is_seen s u ≡ true) → ⊥) → IsStop g goal d v → ⊥
   diagonal_stop h n f (at_goal e) = let k : is_same v goal ≡ true = rw e (is_same-itself goal) in absurd (cc)
   diagonal_stop h n f (marked (forces k _)) = absurd (cc)
-  diagonal_stop h n f (marked (looks_out k s r)) = f s (record { moves = r.moves; some = r.some; cell = r.cell; reached = r.reached; holds = rw r.holds refl })
-  diagonal_stop h n f (sees_goal k s r) = f s (record { moves = r.moves; some = r.some; cell = r.cell; reached = r.reached; holds = let e : is_same r.cell goal ≡ true = rw r.holds (is_same-itself goal) in grind arith })
+  diagonal_stop h n f (marked (looks_out k s r)) = f s
+      (record { moves = r.moves; some = r.some; cell = r.cell; reached = r.reached; holds = rw r.holds refl })
+  diagonal_stop h n f (sees_goal k s r) = f s
+      (record {
+        moves = r.moves;
+        some = r.some;
+        cell = r.cell;
+        reached = r.reached;
+        holds = let e : is_same
+            r.cell goal ≡ true = rw r.holds (is_same-itself goal) in grind arith;
+      })
 
   pub IsStop-or_not : IsStop g goal d v ⊎ (IsStop g goal d v → ⊥)
   IsStop-or_not = by_test (is_same v goal) (λ e. inl (at_goal (is_same-cell v goal e))) (λ n. by_parity d
@@ -49,7 +66,8 @@ module _ (g : GridData) (goal : Cell) (d : Dir) (v : Cell) where
         | inl r ↦ inl (seen_stops h Right r)
         | inr a ↦ elim (HoldsOnRun-or_not g (turn Left d) (is_seen Left) v) [
           | inl r ↦ inl (seen_stops h Left r)
-          | inr b ↦ inr (diagonal_stop h n (each_of (λ s. HoldsOnRun g (turn s d) v (λ u. is_seen s u ≡ true) → ⊥) Right a b))
+          | inr b ↦ inr (diagonal_stop h n
+              (each_of (λ s. HoldsOnRun g (turn s d) v (λ u. is_seen s u ≡ true) → ⊥) Right a b))
         ]
       ])
       (λ h. by_test (is_forced g v d) (λ f. inl (marked (forces h f))) (λ f. inr (straight_stop h n f))))

@@ -49,12 +49,14 @@ one_true a b h e = grind arith
 
 pub same_place : (p q : Place) → p.x ≡ q.x → p.y ≡ q.y → p ≡ q
 same_place p q e f =
-    let g : p ≡ record { x = q.x; y = p.y } = ap (λ (n : ℤ). let u : Place = record { x = n; y = p.y } in u) e in
+    let g : p ≡ record { x = q.x; y = p.y } =
+    ap (λ (n : ℤ). let u : Place = record { x = n; y = p.y } in u) e in
     g ∙ ap (λ (n : ℤ). let u : Place = record { x = q.x; y = n } in u) f
 
 pub moved : (d e f : Dir) (p : Place) → adds d e f ≡ true → move e (move d p) ≡ move f p
 moved d e f p h =
-    let both = both_true (int_eq (columns d +ℤ columns e) (columns f)) (int_eq (rows d +ℤ rows e) (rows f)) h in
+    let both =
+    both_true (int_eq (columns d +ℤ columns e) (columns f)) (int_eq (rows d +ℤ rows e) (rows f)) h in
     let cs : columns d +ℤ columns e ≡ columns f = (Decides-int_eq _ _).0 both.0 in
     let rs : rows d +ℤ rows e ≡ rows f = (Decides-int_eq _ _).0 both.1 in
     same_place _ _ (omega (arith, ints)) (omega (arith, ints))
@@ -65,33 +67,46 @@ moved_both d e p = same_place _ _ (omega (arith, ints)) (omega (arith, ints))
 -- after a straight move, a move back to a side is one to that side, and one to a side is one between
 pub straight_back : (s : Side) (d : Dir) (p : Place) → is_diagonal d ≡ false
     → move (behind s d) (move d p) ≡ move (quarter s d) p
-straight_back s d p h = moved d _ _ p (one_true (is_diagonal d) _ (at_both (λ s d. is_diagonal d || adds d (behind s d) (quarter s d)) refl s d) h)
+straight_back s d p h = moved d _ _ p (one_true (is_diagonal d) _
+    (at_both (λ s d. is_diagonal d || adds d (behind s d) (quarter s d)) refl s d) h)
 
 pub straight_side : (s : Side) (d : Dir) (p : Place) → is_diagonal d ≡ false
     → move (quarter s d) (move d p) ≡ move (turn s d) p
-straight_side s d p h = moved d _ _ p (one_true (is_diagonal d) _ (at_both (λ s d. is_diagonal d || adds d (quarter s d) (turn s d)) refl s d) h)
+straight_side s d p h = moved d _ _ p (one_true (is_diagonal d) _
+    (at_both (λ s d. is_diagonal d || adds d (quarter s d) (turn s d)) refl s d) h)
 
 -- after a diagonal move, a straight move back to a side is the one component
 pub diagonal_back : (s : Side) (d : Dir) (p : Place) → is_diagonal d ≡ true
     → move (behind s d) (move d p) ≡ move (turn s d) p
-diagonal_back s d p h = moved d _ _ p (one_true (not (is_diagonal d)) _ (at_both (λ s d. not (is_diagonal d) || adds d (behind s d) (turn s d)) refl s d) (ap not h))
+diagonal_back s d p h = moved d _ _ p (one_true (not (is_diagonal d)) _
+    (at_both (λ s d. not (is_diagonal d) || adds d (behind s d) (turn s d)) refl s d) (ap not h))
 
 -- after a diagonal move, a quarter to a side is twice the component
 abbrev pub doubles : Dir → Dir → Dir → Bool
-doubles d e f = int_eq (columns d +ℤ columns e) (columns f +ℤ columns f) && int_eq (rows d +ℤ rows e) (rows f +ℤ rows f)
+doubles d e f =
+    int_eq (columns d +ℤ columns e) (columns f +ℤ columns f) && int_eq (rows d +ℤ rows e) (rows f +ℤ rows f)
 
 pub diagonal_side : (s : Side) (d : Dir) (p : Place) → is_diagonal d ≡ true
     → move (quarter s d) (move d p) ≡ move (turn s d) (move (turn s d) p)
 diagonal_side s d p h =
     let f : Dir = turn s d in
-    let both = both_true (int_eq (columns d +ℤ columns (quarter s d)) (columns (turn s d) +ℤ columns (turn s d))) (int_eq (rows d +ℤ rows (quarter s d)) (rows (turn s d) +ℤ rows (turn s d))) (one_true (not (is_diagonal d)) _ (at_both (λ s d. not (is_diagonal d) || doubles d (quarter s d) (turn s d)) refl s d) (ap not h)) in
-    let cs : columns d +ℤ columns (quarter s d) ≡ columns (turn s d) +ℤ columns (turn s d) = (Decides-int_eq _ _).0 both.0 in
-    let rs : rows d +ℤ rows (quarter s d) ≡ rows (turn s d) +ℤ rows (turn s d) = (Decides-int_eq _ _).0 both.1 in
+    let both = both_true (int_eq (columns d +ℤ columns (quarter s d))
+    (columns (turn s d) +ℤ columns (turn s d)))
+    (int_eq (rows d +ℤ rows (quarter s d)) (rows (turn s d) +ℤ rows (turn s d)))
+    (one_true (not (is_diagonal d)) _
+    (at_both (λ s d. not (is_diagonal d) || doubles d (quarter s d) (turn s d)) refl s d) (ap not h)) in
+    let cs : columns d +ℤ columns (quarter s d) ≡ columns (turn s d) +ℤ columns (turn s d) =
+    (Decides-int_eq _ _).0 both.0 in
+    let rs : rows d +ℤ rows (quarter s d) ≡ rows (turn s d) +ℤ rows (turn s d) =
+    (Decides-int_eq _ _).0 both.1 in
     same_place _ _ (omega (arith, ints)) (omega (arith, ints))
 
 pub reversal : (d : Dir) (p : Place) → move (opposite d) (move d p) ≡ p
 reversal d p =
-    let both = both_true (int_eq (columns d +ℤ columns (opposite d)) (pos 0)) (int_eq (rows d +ℤ rows (opposite d)) (pos 0)) (at_dir (λ d. int_eq (columns d +ℤ columns (opposite d)) (pos 0) && int_eq (rows d +ℤ rows (opposite d)) (pos 0)) refl d) in
+    let both = both_true (int_eq (columns d +ℤ columns (opposite d)) (pos 0))
+    (int_eq (rows d +ℤ rows (opposite d)) (pos 0))
+    (at_dir (λ d. int_eq (columns d +ℤ columns (opposite d)) (pos 0) && int_eq
+    (rows d +ℤ rows (opposite d)) (pos 0)) refl d) in
     let cs : columns d +ℤ columns (opposite d) ≡ pos 0 = (Decides-int_eq _ _).0 both.0 in
     let rs : rows d +ℤ rows (opposite d) ≡ pos 0 = (Decides-int_eq _ _).0 both.1 in
     same_place _ _ (omega (arith, ints)) (omega (arith, ints))
@@ -135,7 +150,9 @@ same_dir e f h =
     sym (dir_at-number e) ∙ ap dir_at n ∙ dir_at-number f
 
 abbrev is_some_turn : Dir → Dir → Bool
-is_some_turn d e = is_dir e d || is_dir e (turn Right d) || is_dir e (turn Left d) || is_dir e (quarter Right d) || is_dir e (quarter Left d) || is_dir e (turn Right (quarter Right d)) || is_dir e (turn Left (quarter Left d)) || is_dir e (opposite d)
+is_some_turn d e = is_dir e d || is_dir e (turn Right d) || is_dir e (turn Left d) || is_dir e
+    (quarter Right d) || is_dir e (quarter Left d) || is_dir e (turn Right (quarter Right d)) || is_dir e
+    (turn Left (quarter Left d)) || is_dir e (opposite d)
 
 each_pair : each_dir (λ d. each_dir (is_some_turn d)) ≡ true
 each_pair = refl
@@ -186,13 +203,16 @@ same_bool-is false false h = refl
 
 -- diagonal and straight directions alternate
 pub turn_parity : (s : Side) (d : Dir) → is_diagonal (turn s d) ≡ not (is_diagonal d)
-turn_parity s d = same_bool-is _ _ (at_both (λ s d. same_bool (is_diagonal (turn s d)) (not (is_diagonal d))) refl s d)
+turn_parity s d =
+    same_bool-is _ _ (at_both (λ s d. same_bool (is_diagonal (turn s d)) (not (is_diagonal d))) refl s d)
 
 pub quarter_parity : (s : Side) (d : Dir) → is_diagonal (quarter s d) ≡ is_diagonal d
-quarter_parity s d = same_bool-is _ _ (at_both (λ s d. same_bool (is_diagonal (quarter s d)) (is_diagonal d)) refl s d)
+quarter_parity s d =
+    same_bool-is _ _ (at_both (λ s d. same_bool (is_diagonal (quarter s d)) (is_diagonal d)) refl s d)
 
 pub opposite_parity : (d : Dir) → is_diagonal (opposite d) ≡ is_diagonal d
-opposite_parity d = same_bool-is _ _ (at_dir (λ d. same_bool (is_diagonal (opposite d)) (is_diagonal d)) refl d)
+opposite_parity d =
+    same_bool-is _ _ (at_dir (λ d. same_bool (is_diagonal (opposite d)) (is_diagonal d)) refl d)
 
 -- the other side
 abbrev pub other : Side → Side

@@ -61,11 +61,13 @@ pub record Replaces (Legal : Place → Dir → Type 0) (p : Place) (d e : Dir) :
 
 -- the first local fact: each turn that is not allowed has a replacement
 abbrev pub TurnsAreReplaced : (Place → Dir → Type 0) → (Place → Dir → Dir → Type 0) → Type 0
-TurnsAreReplaced Legal Allowed = (p : Place) (d e : Dir) → Legal p d → Legal (move d p) e → Allowed p d e ⊎ Replaces Legal p d e
+TurnsAreReplaced Legal Allowed =
+    (p : Place) (d e : Dir) → Legal p d → Legal (move d p) e → Allowed p d e ⊎ Replaces Legal p d e
 
 price-append : (es ds : List Dir) → price (es ++ ds) ≡ add_costs (price es) (price ds)
 price-append [] ds = sym (add_costs-no_cost_left (price ds))
-price-append (e ∷ es) ds = ap (λ (c : Cost). add_costs (dir_cost e) c) (price-append es ds) ∙ sym (add_costs-assoc (dir_cost e) (price es) (price ds))
+price-append (e ∷ es) ds = ap (λ (c : Cost). add_costs (dir_cost e) c) (price-append es ds)
+    ∙ sym (add_costs-assoc (dir_cost e) (price es) (price ds))
 
 diagonals-append : (es ds : List Dir) → (price (es ++ ds)).b ≡ (price es).b + (price ds).b
 diagonals-append es ds = ap (λ (c : Cost). c.b) (price-append es ds)
@@ -84,12 +86,16 @@ Walks-append Legal p [] ds w v = v
 Walks-append Legal p (e ∷ es) ds w v = (w.0, Walks-append Legal (move e p) es ds w.1 v)
 
 Smaller-append : (es ds rest : List Dir) → Smaller es ds → Smaller (es ++ rest) (ds ++ rest)
-Smaller-append es ds rest (shorter l) = shorter (rw (length-append es rest, length-append ds rest) (omega arith))
-Smaller-append es ds rest (straighter l g) = straighter (rw (length-append es rest, length-append ds rest) (omega arith)) (rw (diagonals-append es rest, diagonals-append ds rest) (omega arith))
+Smaller-append es ds rest (shorter l) =
+    shorter (rw (length-append es rest, length-append ds rest) (omega arith))
+Smaller-append es ds rest (straighter l g) = straighter
+    (rw (length-append es rest, length-append ds rest) (omega arith))
+    (rw (diagonals-append es rest, diagonals-append ds rest) (omega arith))
 Smaller-append es ds rest (earlier l g q) = earlier
     (rw (length-append es rest, length-append ds rest) (omega arith))
     (rw (diagonals-append es rest, diagonals-append ds rest) (omega arith))
-    (let same : length es * (price rest).b ≡ length ds * (price rest).b = ap (λ n. n * (price rest).b) l in rw (places-append es rest, places-append ds rest) (omega arith))
+    (let same : length es * (price rest).b ≡ length ds * (price rest).b = ap (λ n. n * (price rest).b) l in
+    rw (places-append es rest, places-append ds rest) (omega arith))
 
 Smaller-cons : (d : Dir) (es ds : List Dir) → Smaller es ds → Smaller (d ∷ es) (d ∷ ds)
 Smaller-cons d es ds (shorter l) = shorter (omega arith)
@@ -99,10 +105,16 @@ Smaller-cons d es ds (earlier l g q) = earlier (omega arith) (omega arith) (omeg
 -- more moves after both
 pub IsBetter-append : (es ds rest : List Dir) → IsBetter es ds → IsBetter (es ++ rest) (ds ++ rest)
 IsBetter-append es ds rest b = record {
-  cost = Most-then (Most-same (price-append es rest)) (Most-then (Most-add_right (price rest) (price es) (price ds) b.cost) (Most-same (sym (price-append ds rest))));
+  cost = Most-then (Most-same (price-append es rest))
+      (Most-then (Most-add_right (price rest) (price es) (price ds) b.cost)
+      (Most-same (sym (price-append ds rest))));
   smaller = Smaller-append es ds rest b.smaller;
 }
 
 -- a move before both
 pub IsBetter-cons : (d : Dir) (es ds : List Dir) → IsBetter es ds → IsBetter (d ∷ es) (d ∷ ds)
-IsBetter-cons d es ds b = record { cost = Most-add_left (dir_cost d) (price es) (price ds) b.cost; smaller = Smaller-cons d es ds b.smaller }
+IsBetter-cons d es ds b = record {
+  cost = Most-add_left (dir_cost d) (price es) (price ds) b.cost;
+  smaller
+      = Smaller-cons d es ds b.smaller;
+}

@@ -30,7 +30,8 @@ walks-joined g x (c ∷ cells) more w v =
 cost-joined : (x : Cell) (cells more : List Cell)
     → cost_of (x ∷ (cells ++ more)) ≡ add_costs (cost_of (x ∷ cells)) (cost_of (last_of x cells ∷ more))
 cost-joined x [] more = sym (add_costs-no_cost_left (cost_of (x ∷ more)))
-cost-joined x (c ∷ cells) more = ap (λ (k : Cost). add_costs (move_cost x c) k) (cost-joined c cells more) ∙ sym (add_costs-assoc (move_cost x c) (cost_of (c ∷ cells)) (cost_of (last_of c cells ∷ more)))
+cost-joined x (c ∷ cells) more = ap (λ (k : Cost). add_costs (move_cost x c) k) (cost-joined c cells more)
+    ∙ sym (add_costs-assoc (move_cost x c) (cost_of (c ∷ cells)) (cost_of (last_of c cells ∷ more)))
 
 -- a chain as a walk
 record IsUnfolded (g : GridData) (s : State) (states : List State) (cost : Cost) : Type 0 where
@@ -50,8 +51,11 @@ jumped : (g : GridData) (goal : Cell) (s u : State) (states : List State) (d : D
     → IsUnfolded g s (u ∷ states) (add_costs (run_cost d k) rest)
 jumped g goal s u states d k rest j r c = record {
   cells = r.cells ++ c.cells;
-  unfolds = unfolded_more s.cell u.cell (map (λ u. u.cell) states) c.cells k r.cells (lined_moved d k s.cell u.cell j.first.in_range r.moved) (steps_moved d k s.cell u.cell r.moved) r.filled c.unfolds;
-  walks = walks-joined g s.cell r.cells c.cells r.walks (subst (λ (v : Cell). is_walk g (v ∷ c.cells) ≡ true) (sym r.ends) c.walks);
+  unfolds = unfolded_more s.cell u.cell (map (λ u. u.cell) states) c.cells k r.cells
+      (lined_moved d k s.cell u.cell j.first.in_range r.moved) (steps_moved d k s.cell u.cell r.moved)
+      r.filled c.unfolds;
+  walks = walks-joined g s.cell r.cells c.cells r.walks
+      (subst (λ (v : Cell). is_walk g (v ∷ c.cells) ≡ true) (sym r.ends) c.walks);
   ends = last-joined s.cell r.cells c.cells ∙ ap (λ (v : Cell). last_of v c.cells) r.ends ∙ c.ends;
   priced = cost-joined s.cell r.cells c.cells
       ∙ ap (λ (v : Cell). add_costs (cost_of (s.cell ∷ r.cells)) (cost_of (v ∷ c.cells))) r.ends
@@ -61,7 +65,8 @@ jumped g goal s u states d k rest j r c = record {
 
 chain_unfolded : (g : GridData) (goal : Cell) (s : State) (states : List State) (cost : Cost)
     → is_free g s.cell ≡ true → IsChain g goal s states cost → IsUnfolded g s states cost
-chain_unfolded g goal s _ _ f (stays _) = record { cells = []; unfolds = refl; walks = f; ends = refl; priced = refl }
+chain_unfolded g goal s _ _ f (stays _) =
+    record { cells = []; unfolds = refl; walks = f; ends = refl; priced = refl }
 chain_unfolded g goal s _ _ f (jumps _ u states d k rest j c) =
     let r = run_walked g d k s.cell u.cell f j.reached in
     jumped g goal s u states d k rest j r (chain_unfolded g goal u states rest r.free c)
@@ -69,4 +74,9 @@ chain_unfolded g goal s _ _ f (jumps _ u states d k rest j c) =
 pub chains_are_walks : ChainsAreWalks
 chains_are_walks g goal s states cost f c =
     let w = chain_unfolded g goal (start_state s) states cost f c in
-    record { cells = w.cells; unfolds = rw w.unfolds refl; walk = record { legal = w.walks; ends = w.ends }; priced = w.priced }
+    record {
+      cells = w.cells;
+      unfolds = rw w.unfolds refl;
+      walk = record { legal = w.walks; ends = w.ends };
+      priced = w.priced;
+    }

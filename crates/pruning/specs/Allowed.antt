@@ -59,7 +59,12 @@ allowed_dirs g x by = filter (is_allowed g x by) all_dirs
 
 -- the map `.../.@./...`
 abbrev pillar : GridData
-pillar = record { width = 3; height = 3; free = true ∷ true ∷ true ∷ true ∷ false ∷ true ∷ true ∷ true ∷ true ∷ [] }
+pillar = record {
+  width = 3;
+  height = 3;
+  free = true ∷ true ∷ true ∷ true ∷ false ∷ true ∷ true ∷ true
+      ∷ true ∷ [];
+}
 
 -- beyond the pillar's upper right, after E, the way leads down
 pub round_the_pillar : allowed_dirs pillar (record { x = 2; y = 0 }) (By E) ≡ S ∷ []

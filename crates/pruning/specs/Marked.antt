@@ -41,7 +41,12 @@ pub data IsMarked (g : GridData) (x : Cell) (d : Dir) : Type 0 where
 
 -- the map `...../.@...`
 abbrev notch : GridData
-notch = record { width = 5; height = 2; free = true ∷ true ∷ true ∷ true ∷ true ∷ true ∷ false ∷ true ∷ true ∷ true ∷ [] }
+notch = record {
+  width = 5;
+  height = 2;
+  free = true ∷ true ∷ true ∷ true ∷ true ∷ true ∷ false ∷ true ∷ true
+      ∷ true ∷ [];
+}
 
 -- above the wall nothing is forced, as corners are not cut
 pub above_the_wall : is_forced notch (record { x = 1; y = 0 }) E ≡ false

@@ -70,12 +70,14 @@ spelled_kept (line ∷ lines) entries spelled =
       | inr first ↦
           let is = first.3 in
           let here = length_kept is.words.listed.bytes first.0.length is.listed in
-          subst AllKept (sym first.2) (one_more_kept first.0 first.1 here (spelled_kept lines first.1 first.4))
+          subst AllKept (sym first.2) (one_more_kept first.0 first.1 here
+          (spelled_kept lines first.1 first.4))
     ]
 
 -- and so has each entry that an answer tells, where the entries are spelled
 pub answer_kept : (text : List ℕ) (answer : Result (Vec Entry Global) ScenFault)
     → IfOk answer (λ read. Spells text read.items)
-    → IfOk answer (λ read. (k : ℕ) (entry : Entry) → slice_get read.items k ≡ Some entry → IsKept entry.length)
+    → IfOk answer (λ read. (k : ℕ) (entry : Entry) → slice_get read.items k ≡ Some entry
+    → IsKept entry.length)
 answer_kept text (Ok read) spells = spelled_kept spells.others read.items spells.spelled
 answer_kept text (Err fault) none = tt

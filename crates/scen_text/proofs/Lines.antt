@@ -14,7 +14,9 @@ use Rattle.scen_text.specs.Progress.{line_given, behind}
 use Rattle.scen_text.proofs.Split.{words_are, nine_fields}
 
 -- a line with the words of an entry
-pub line_words : (line : LineAt) (bucket : Placed) (left : List Placed) (words : Words) → fields_from line.place line.bytes ≡ bucket ∷ left → HasWords (bucket ∷ left) words → (line_fault line ≡ words_fault line.number words) × (entries_on line ≡ entry_in line.number words ∷ [])
+pub line_words : (line : LineAt) (bucket : Placed) (left : List Placed) (words : Words)
+    → fields_from line.place line.bytes ≡ bucket ∷ left → HasWords (bucket ∷ left) words
+    → (line_fault line ≡ words_fault line.number words) × (entries_on line ≡ entry_in line.number words ∷ [])
 line_words line bucket left words are has =
     let nine = le-ltb (length (bucket ∷ left)) 9 (nine_fields (bucket ∷ left) words has) in
     let same = words_are (bucket ∷ left) words has in (
@@ -22,12 +24,16 @@ line_words line bucket left words are has =
       ap (entries_in line.number) are ∙ ap (λ (all : Words). entry_in line.number all ∷ []) same,
     )
 
-first_given : (old new : List LineAt) (line : Option PlacedLine) → GivesLine old line new → (slice_get old 0 ≡ line_given line) × (drop 1 old ≡ new)
-first_given old new None gives = (ap (λ (lines : List LineAt). slice_get lines 0) gives.0, ap (drop 1) gives.0 ∙ sym gives.0 ∙ sym gives.1)
-first_given old new (Some line) gives = (ap (λ (lines : List LineAt). slice_get lines 0) gives.0, ap (drop 1) gives.0)
+first_given : (old new : List LineAt) (line : Option PlacedLine) → GivesLine old line new
+    → (slice_get old 0 ≡ line_given line) × (drop 1 old ≡ new)
+first_given old new None gives =
+    (ap (λ (lines : List LineAt). slice_get lines 0) gives.0, ap (drop 1) gives.0 ∙ sym gives.0 ∙ sym gives.1)
+first_given old new (Some line) gives =
+    (ap (λ (lines : List LineAt). slice_get lines 0) gives.0, ap (drop 1) gives.0)
 
 -- below, the first line is taken from all
-module _ (text : List ℕ) (old new : List LineAt) (line : Option PlacedLine) (all : old ≡ lines_at text) (gives : GivesLine old line new) where
+module _ (text : List ℕ) (old new : List LineAt) (line : Option PlacedLine) (all : old ≡ lines_at text)
+    (gives : GivesLine old line new) where
   -- it names the version, and the others are left
   pub version_right : true ≡ has_version (line_given line) → scen_of text ≡ entries_of new
   unfolding scen_of
@@ -46,7 +52,8 @@ pub behind_nothing : (read : Result (List Entry) ScenFault) → read ≡ behind 
 behind_nothing (Ok entries) = refl
 behind_nothing (Err fault) = refl
 
-pub tells_err : (fault : ScenFault) (read : Result (List Entry) ScenFault) → Tells (Err fault) read → fault ≢ NoMemory → read ≡ Err fault
+pub tells_err : (fault : ScenFault) (read : Result (List Entry) ScenFault) → Tells (Err fault) read
+    → fault ≢ NoMemory → read ≡ Err fault
 tells_err (Version line) read tells other = tells
 tells_err (Fields line) read tells other = tells
 tells_err (Number line) read tells other = tells

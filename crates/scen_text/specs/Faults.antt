@@ -15,7 +15,8 @@ use Rattle.scen_text.specs.Words.{Words, words_of}
 
 -- whether these fields name version 1
 abbrev pub names_version : List (List ℕ) → Bool
-names_version (word ∷ version ∷ []) = bytes_eq word (codes "version") && (bytes_eq version (codes "1") || bytes_eq version (codes "1.0"))
+names_version (word ∷ version ∷ []) =
+    bytes_eq word (codes "version") && (bytes_eq version (codes "1") || bytes_eq version (codes "1.0"))
 names_version _ = false
 
 -- whether a line is there and names version 1
@@ -57,7 +58,8 @@ words_fault line words = first_of (
 abbrev pub fields_fault : ℕ → List Placed → Option ScenFault
 fields_fault line [] = None
 fields_fault line (bucket ∷ fields) =
-    if nat_lt (length (bucket ∷ fields)) 9 then Some (Fields line) else words_fault line (words_of (bucket ∷ fields))
+    if nat_lt (length (bucket ∷ fields)) 9 then Some (Fields line) else words_fault line
+    (words_of (bucket ∷ fields))
 
 -- how a line after the first breaks the grammar, where it does
 abbrev pub line_fault : LineAt → Option ScenFault

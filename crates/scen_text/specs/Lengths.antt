@@ -9,7 +9,8 @@ is_point byte = byte == 46
 
 -- the number with these digits before the point and these behind it, of which ten are kept
 abbrev pub decimal_of : List ℕ → List ℕ → Decimal
-decimal_of whole decimals = record { digits = value_of (whole ++ take 10 decimals); places = length (take 10 decimals) }
+decimal_of whole decimals =
+    record { digits = value_of (whole ++ take 10 decimals); places = length (take 10 decimals) }
 
 -- the length that a word spells whose first point stands at this place, where it has one: 1 to 8 digits, and behind a
 -- point 1 to 20

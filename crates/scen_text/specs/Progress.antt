@@ -40,7 +40,8 @@ widened words field = record {
 -- the fields are those of the words, and others left
 pub record HasWordsBefore (fields : List Placed) (words : Words) (left : List Placed) : Type 0 where
   pub name : List Placed
-  pub are : fields ≡ words.bucket ∷ (name ++ words.w ∷ words.h ∷ words.sx ∷ words.sy ∷ words.gx ∷ words.gy ∷ words.listed ∷ left)
+  pub are : fields ≡ words.bucket ∷ (name ++ words.w ∷ words.h ∷ words.sx ∷ words.sy ∷ words.gx ∷ words.gy ∷
+      words.listed ∷ left)
   pub spans : Spans name words.name
 
 -- an answer for a line or a word: what it is, where it breaks nothing, or its fault

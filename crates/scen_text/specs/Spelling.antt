@@ -22,7 +22,8 @@ pub record Spans (fields : List Placed) (range : ByteRange) : Type 0 where
 -- a bucket, the fields of a name, and seven fields
 pub record HasWords (fields : List Placed) (words : Words) : Type 0 where
   pub name : List Placed
-  pub are : fields ≡ words.bucket ∷ (name ++ words.w ∷ words.h ∷ words.sx ∷ words.sy ∷ words.gx ∷ words.gy ∷ words.listed ∷ [])
+  pub are : fields ≡ words.bucket ∷ (name ++ words.w ∷ words.h ∷ words.sx ∷ words.sy ∷ words.gx ∷ words.gy ∷
+      words.listed ∷ [])
   pub spans : Spans name words.name
 
 -- a line spells an entry: six of its words are numbers and so is the bucket, and the last is a length
@@ -49,11 +50,13 @@ abbrev pub SpellEntries : List LineAt → List Entry → Type 0
 SpellEntries [] entries = entries ≡ []
 SpellEntries (line ∷ lines) entries =
     (IsBlank line × SpellEntries lines entries)
-    ⊎ ((entry : Entry) × (later : List Entry) × (entries ≡ entry ∷ later) × IsEntry line entry × SpellEntries lines later)
+    ⊎ ((entry : Entry) × (later : List Entry) × (entries ≡ entry ∷ later) × IsEntry line entry ×
+    SpellEntries lines later)
 
 -- the word and the version
 abbrev pub IsVersion : List ℕ → Type 0
-IsVersion line = (fields_of line ≡ codes "version" ∷ codes "1" ∷ []) ⊎ (fields_of line ≡ codes "version" ∷ codes "1.0" ∷ [])
+IsVersion line = (fields_of line ≡ codes "version" ∷ codes "1" ∷ []) ⊎
+    (fields_of line ≡ codes "version" ∷ codes "1.0" ∷ [])
 
 -- a version line, and lines that spell the entries
 pub record Spells (text : List ℕ) (entries : List Entry) : Type 0 where

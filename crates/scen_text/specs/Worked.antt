@@ -18,7 +18,8 @@ pub ten_are_kept : length_of (codes "1.00000000019") ≡ Some (record { digits =
 unfolding length_of
 ten_are_kept = refl
 
-pub twenty_decimals : length_of (codes "00000001.00000000000000000009") ≡ Some (record { digits = 10000000000; places = 10 })
+pub twenty_decimals : length_of (codes "00000001.00000000000000000009") ≡ Some
+    (record { digits = 10000000000; places = 10 })
 unfolding length_of
 twenty_decimals = refl
 
@@ -31,7 +32,20 @@ unfolding length_of
 two_points = refl
 
 -- tabs, carriage returns, a name with spaces and a last line without line feed
-pub tabs_and_returns : scen_of (codes "version 1.0\r\n \r\n0\tmy maps/a  b.map\t4\t2\t0\t0\t3\t1\t8") ≡ Ok (record { line = 3; bucket = 0; name = record { start = 18; end = 34 }; w = 4; h = 2; sx = 0; sy = 0; gx = 3; gy = 1; length = record { digits = 8; places = 0 } } ∷ [])
+pub tabs_and_returns : scen_of (codes "version 1.0\r\n \r\n0\tmy maps/a  b.map\t4\t2\t0\t0\t3\t1\t8") ≡ Ok
+    (record {
+      line = 3;
+      bucket = 0;
+      name = record { start = 18; end = 34 };
+      w = 4;
+      h = 2;
+      sx = 0;
+      sy = 0;
+      gx
+          = 3;
+      gy = 1;
+      length = record { digits = 8; places = 0 };
+    } ∷ [])
 unfolding scen_of number_of length_of
 tabs_and_returns = refl
 

@@ -14,7 +14,8 @@ use Rattle.script_text.specs.declared.fault.ScriptFault.TheVariants.{Line}
 use Rattle.script_text.specs.Spelling.{SpellsCommand}
 use Rattle.script_text.specs.Lines.{two_numbers, four_numbers, command_in, command_on, fault_on}
 
-two_of : (digits : List (List ℕ)) (x y : ℕ) → map number_of digits ≡ Some x ∷ Some y ∷ [] → two_numbers digits ≡ Some (x, y)
+two_of : (digits : List (List ℕ)) (x y : ℕ) → map number_of digits ≡ Some x ∷ Some y ∷ []
+    → two_numbers digits ≡ Some (x, y)
 two_of [] x y values = absurd cc
 two_of (a ∷ []) x y values = absurd cc
 two_of (a ∷ b ∷ []) x y values =
@@ -23,7 +24,8 @@ two_of (a ∷ b ∷ []) x y values =
     rw (first, second) refl
 two_of (a ∷ b ∷ c ∷ digits) x y values = absurd cc
 
-four_of : (digits : List (List ℕ)) (x y z t : ℕ) → map number_of digits ≡ Some x ∷ Some y ∷ Some z ∷ Some t ∷ [] → four_numbers digits ≡ Some (x, y, z, t)
+four_of : (digits : List (List ℕ)) (x y z t : ℕ)
+    → map number_of digits ≡ Some x ∷ Some y ∷ Some z ∷ Some t ∷ [] → four_numbers digits ≡ Some (x, y, z, t)
 four_of [] x y z t values = absurd cc
 four_of (a ∷ []) x y z t values = absurd cc
 four_of (a ∷ b ∷ digits) x y z t values =
@@ -32,23 +34,28 @@ four_of (a ∷ b ∷ digits) x y z t values =
     let others : map number_of digits ≡ Some z ∷ Some t ∷ [] = cc in
     rw (first, second, two_of digits z t others) refl
 
-two_named : (digits : List (List ℕ)) (p : ℕ × ℕ) → two_numbers digits ≡ Some p → map number_of digits ≡ Some p.0 ∷ Some p.1 ∷ []
+two_named : (digits : List (List ℕ)) (p : ℕ × ℕ) → two_numbers digits ≡ Some p
+    → map number_of digits ≡ Some p.0 ∷ Some p.1 ∷ []
 two_named [] p is = absurd cc
 two_named (a ∷ []) p is = absurd cc
 two_named (a ∷ b ∷ []) p is = by_values (number_of a) (number_of b) is
   where
-    by_values : (m n : Option ℕ) → option_and_then (λ x. option_map (λ y. (x, y)) n) m ≡ Some p → m ∷ n ∷ [] ≡ Some p.0 ∷ Some p.1 ∷ []
+    by_values : (m n : Option ℕ) → option_and_then (λ x. option_map (λ y. (x, y)) n) m ≡ Some p
+        → m ∷ n ∷ [] ≡ Some p.0 ∷ Some p.1 ∷ []
     by_values None n same = absurd cc
     by_values (Some x) None same = absurd cc
     by_values (Some x) (Some y) same = let pair : (x, y) ≡ p = cc in rw (← pair) refl
 two_named (a ∷ b ∷ c ∷ digits) p is = absurd cc
 
-four_named : (digits : List (List ℕ)) (p : ℕ × ℕ × ℕ × ℕ) → four_numbers digits ≡ Some p → map number_of digits ≡ Some p.0 ∷ Some p.1 ∷ Some p.2 ∷ Some p.3 ∷ []
+four_named : (digits : List (List ℕ)) (p : ℕ × ℕ × ℕ × ℕ) → four_numbers digits ≡ Some p
+    → map number_of digits ≡ Some p.0 ∷ Some p.1 ∷ Some p.2 ∷ Some p.3 ∷ []
 four_named [] p is = absurd cc
 four_named (a ∷ []) p is = absurd cc
 four_named (a ∷ b ∷ digits) p is = by_values (number_of a) (number_of b) (two_numbers digits) refl is
   where
-    by_values : (m n : Option ℕ) (others : Option (ℕ × ℕ)) → two_numbers digits ≡ others → option_and_then (λ x. option_and_then (λ y. option_map (λ q. (x, y, q.0, q.1)) others) n) m ≡ Some p → m ∷ n ∷ map number_of digits ≡ Some p.0 ∷ Some p.1 ∷ Some p.2 ∷ Some p.3 ∷ []
+    by_values : (m n : Option ℕ) (others : Option (ℕ × ℕ)) → two_numbers digits ≡ others
+        → option_and_then (λ x. option_and_then (λ y. option_map (λ q. (x, y, q.0, q.1)) others) n) m ≡ Some p
+        → m ∷ n ∷ map number_of digits ≡ Some p.0 ∷ Some p.1 ∷ Some p.2 ∷ Some p.3 ∷ []
     by_values None n others are same = absurd cc
     by_values (Some x) None others are same = absurd cc
     by_values (Some x) (Some y) None are same = absurd cc
@@ -56,32 +63,55 @@ four_named (a ∷ b ∷ digits) p is = by_values (number_of a) (number_of b) (tw
         let four : (x, y, q.0, q.1) ≡ p = cc in
         rw (← four, two_named digits q are) refl
 
-made : {X : Type 0} → (f : X → Command) (numbers : Option X) (command : Command) → option_map f numbers ≡ Some command → (x : X) × (numbers ≡ Some x) × (f x ≡ command)
+made : {X : Type 0} → (f : X → Command) (numbers : Option X) (command : Command)
+    → option_map f numbers ≡ Some command → (x : X) × (numbers ≡ Some x) × (f x ≡ command)
 made f None command is = absurd cc
 made f (Some x) command is = (x, refl, cc)
 
 -- what spells a command is read as it
-pub spelled_command : (line : List ℕ) (command : Command) → SpellsCommand line command → command_in (fields_of line) ≡ Some command
+pub spelled_command : (line : List ℕ) (command : Command) → SpellsCommand line command
+    → command_in (fields_of line) ≡ Some command
 spelled_command line (Block x y) s = rw (s.fields, two_of s.digits x y s.values) refl
 spelled_command line (Free x y) s = rw (s.fields, two_of s.digits x y s.values) refl
 spelled_command line (Query sx sy gx gy) s = rw (s.fields, four_of s.digits sx sy gx gy s.values) refl
 
 -- what is read as a command spells it
-read_command : (line : List ℕ) (fields : List (List ℕ)) (command : Command) → fields_of line ≡ fields → command_in fields ≡ Some command → SpellsCommand line command
+read_command : (line : List ℕ) (fields : List (List ℕ)) (command : Command) → fields_of line ≡ fields
+    → command_in fields ≡ Some command → SpellsCommand line command
 read_command line [] command are is = absurd cc
 read_command line (word ∷ digits) command are is =
     elim (cases_Bool (bytes_eq word (codes "block"))) [
       | inl block ↦
           let p = made (λ (p : ℕ × ℕ). Block p.0 p.1) (two_numbers digits) command (rw block at is) in
-          subst (SpellsCommand line) p.2 (record { digits = digits; fields = named (codes "block") block; values = two_named digits p.0 p.1 })
+          subst (SpellsCommand line) p.2
+          (record {
+            digits = digits;
+            fields = named (codes "block") block;
+            values = two_named
+                digits p.0 p.1;
+          })
       | inr not_block ↦ elim (cases_Bool (bytes_eq word (codes "free"))) [
         | inl free ↦
-            let p = made (λ (p : ℕ × ℕ). Free p.0 p.1) (two_numbers digits) command (rw (not_block, free) at is) in
-            subst (SpellsCommand line) p.2 (record { digits = digits; fields = named (codes "free") free; values = two_named digits p.0 p.1 })
+            let p = made (λ (p : ℕ × ℕ). Free p.0 p.1) (two_numbers digits) command
+            (rw (not_block, free) at is) in
+            subst (SpellsCommand line) p.2
+            (record {
+              digits = digits;
+              fields = named (codes "free") free;
+              values = two_named
+                  digits p.0 p.1;
+            })
         | inr not_free ↦ elim (cases_Bool (bytes_eq word (codes "query"))) [
           | inl query ↦
-              let p = made (λ (p : ℕ × ℕ × ℕ × ℕ). Query p.0 p.1 p.2 p.3) (four_numbers digits) command (rw (not_block, not_free, query) at is) in
-              subst (SpellsCommand line) p.2 (record { digits = digits; fields = named (codes "query") query; values = four_named digits p.0 p.1 })
+              let p = made (λ (p : ℕ × ℕ × ℕ × ℕ). Query p.0 p.1 p.2 p.3) (four_numbers digits) command
+              (rw (not_block, not_free, query) at is) in
+              subst (SpellsCommand line) p.2
+              (record {
+                digits = digits;
+                fields = named (codes "query") query;
+                values = four_named
+                    digits p.0 p.1;
+              })
           | inr not_query ↦ absurd (cc (rw (not_block, not_free, not_query) at is))
         ]
       ]
@@ -90,7 +120,8 @@ read_command line (word ∷ digits) command are is =
     named : (name : List ℕ) → bytes_eq word name ≡ true → fields_of line ≡ name ∷ digits
     named name same = are ∙ ap (λ (first : List ℕ). first ∷ digits) ((bytes_eq-Decides word name).0 same)
 
-pub command_spelled : (line : List ℕ) (command : Command) → command_in (fields_of line) ≡ Some command → SpellsCommand line command
+pub command_spelled : (line : List ℕ) (command : Command) → command_in (fields_of line) ≡ Some command
+    → SpellsCommand line command
 command_spelled line command is = read_command line (fields_of line) command refl is
 
 -- a blank line is no command
@@ -102,7 +133,9 @@ pub blank_on : (piece : List ℕ) → is_blank (without_cr piece) ≡ true → c
 blank_on piece blank = blank_fields (fields_of (without_cr piece)) blank
 
 -- a line that breaks nothing is short, and is blank or a command
-pub fine_line : (number : ℕ) (piece : List ℕ) → fault_on number piece ≡ None → (length piece ≤ 128) × ((is_blank (without_cr piece) ≡ true) ⊎ ((is_blank (without_cr piece) ≡ false) × (command : Command) × (command_on piece ≡ Some command)))
+pub fine_line : (number : ℕ) (piece : List ℕ) → fault_on number piece ≡ None
+    → (length piece ≤ 128) × ((is_blank (without_cr piece) ≡ true) ⊎
+    ((is_blank (without_cr piece) ≡ false) × (command : Command) × (command_on piece ≡ Some command)))
 fine_line number piece fine =
     elim (cases_Bool (ltb 128 (length piece))) [
       | inl long ↦ absurd (cc (rw long at fine))
@@ -110,18 +143,22 @@ fine_line number piece fine =
         ltb-false 128 (length piece) short,
         elim (cases_Bool (is_blank (without_cr piece))) [
           | inl blank ↦ inl blank
-          | inr filled ↦ let found = there (command_on piece) (rw (short, filled) at fine) in inr (filled, found.0, found.1)
+          | inr filled ↦ let found =
+              there (command_on piece) (rw (short, filled) at fine) in inr (filled, found.0, found.1)
         ],
       )
     ]
   where
-    there : (found : Option Command) → cond (is_some found) None (Some (Line number)) ≡ None → (command : Command) × (found ≡ Some command)
+    there : (found : Option Command) → cond (is_some found) None (Some (Line number)) ≡ None
+        → (command : Command) × (found ≡ Some command)
     there None none = absurd cc
     there (Some command) none = (command, refl)
 
 -- and the other way round
-pub blank_fine : (number : ℕ) (piece : List ℕ) → length piece ≤ 128 → is_blank (without_cr piece) ≡ true → fault_on number piece ≡ None
+pub blank_fine : (number : ℕ) (piece : List ℕ) → length piece ≤ 128 → is_blank (without_cr piece) ≡ true
+    → fault_on number piece ≡ None
 blank_fine number piece short blank = rw (le-ltb 128 (length piece) short, blank) refl
 
-pub command_fine : (number : ℕ) (piece : List ℕ) (command : Command) → length piece ≤ 128 → is_blank (without_cr piece) ≡ false → command_on piece ≡ Some command → fault_on number piece ≡ None
+pub command_fine : (number : ℕ) (piece : List ℕ) (command : Command) → length piece ≤ 128
+    → is_blank (without_cr piece) ≡ false → command_on piece ≡ Some command → fault_on number piece ≡ None
 command_fine number piece command short filled is = rw (le-ltb 128 (length piece) short, filled, is) refl

@@ -11,6 +11,7 @@ abbrev pub script_after : List Command → Left → Result (List Command) Script
 script_after commands left = reading (first_fault left.number left.lines) (commands ++ commands_on left.lines)
 
 -- at the beginning, that is what the text is read as
-pub script_begun : (text : List ℕ) → script_of text ≡ script_after [] (record { lines = pieces_of text; number = 1 })
+pub script_begun : (text : List ℕ) → script_of text ≡ script_after []
+    (record { lines = pieces_of text; number = 1 })
 unfolding script_of
 script_begun text = refl

@@ -17,7 +17,9 @@ two_numbers _ = None
 
 -- the numbers of four fields, if there are four and each is a number
 abbrev pub four_numbers : List (List ℕ) → Option (ℕ × ℕ × ℕ × ℕ)
-four_numbers (x ∷ y ∷ others) = option_and_then (λ m. option_and_then (λ n. option_map (λ p. (m, n, p.0, p.1)) (two_numbers others)) (number_of y)) (number_of x)
+four_numbers (x ∷ y ∷ others) = option_and_then
+    (λ m. option_and_then (λ n. option_map (λ p. (m, n, p.0, p.1)) (two_numbers others)) (number_of y))
+    (number_of x)
 four_numbers _ = None
 
 -- the command that the fields of a line are, if they are one

@@ -6,7 +6,8 @@ use Rattle.script_text.specs.Faults.{script_of}
 use Rattle.text_line.specs.Numbers.{number_of}
 
 -- blank lines, tabs, carriage returns and leading zeros are read over, and the last line needs no line feed
-pub three_commands : script_of (codes "query 0 1 2 1\r\n\n\tblock  1 01 \n \nfree 1 1") ≡ Ok (Query 0 1 2 1 ∷ Block 1 1 ∷ Free 1 1 ∷ [])
+pub three_commands : script_of (codes "query 0 1 2 1\r\n\n\tblock  1 01 \n \nfree 1 1") ≡ Ok
+    (Query 0 1 2 1 ∷ Block 1 1 ∷ Free 1 1 ∷ [])
 unfolding script_of number_of
 three_commands = refl
 

@@ -40,11 +40,13 @@ IsKnown r run s bound = WasTaken run s bound ⊎ WaitsAt r run s bound
 
 -- the sum of each taken state is at most that of each state that waits
 abbrev pub SumsRise : {S : Type 0} → Rule S → List (Taken S) → Type 0
-SumsRise {S} r run = (u : Taken S) (s : S) (o : Offer S) → IsIn u run → Waits r run s o → Most (sum_at r u.state u.cost) (sum_at r s o.cost)
+SumsRise {S} r run = (u : Taken S) (s : S) (o : Offer S) → IsIn u run → Waits r run s o
+    → Most (sum_at r u.state u.cost) (sum_at r s o.cost)
 
 -- over each link from a taken state that is no goal, a state is known at the cost of that way
 abbrev pub IsRelaxed : {S : Type 0} → Rule S → List (Taken S) → Type 0
-IsRelaxed {S} r run = (u : Taken S) (v : S) (c : Cost) → IsIn u run → r.is_goal u.state ≡ false → r.link u.state v ≡ Some c → IsKnown r run v (add_costs u.cost c)
+IsRelaxed {S} r run = (u : Taken S) (v : S) (c : Cost) → IsIn u run → r.is_goal u.state ≡ false
+    → r.link u.state v ≡ Some c → IsKnown r run v (add_costs u.cost c)
 
 pub or_false : (a b : Bool) → (a || b) ≡ false → (a ≡ false) × (b ≡ false)
 or_false true b e = absurd (cc)
@@ -67,10 +69,12 @@ pub record ComesFrom {S : Type 0} (r : Rule S) (run : List (Taken S)) (s : S) (o
   pub offered : IsOffered r by s o
 
 -- the least offer is one of them
-pub least_offer-from : {S : Type 0} (r : Rule S) (run : List (Taken S)) (s : S) (o : Offer S) → least_offer r run s ≡ Some o → ComesFrom r run s o
+pub least_offer-from : {S : Type 0} (r : Rule S) (run : List (Taken S)) (s : S) (o : Offer S)
+    → least_offer r run s ≡ Some o → ComesFrom r run s o
 least_offer-from r [] s o h = absurd (cc)
 least_offer-from r (x ∷ earlier) s o h = elim (lesser-one (least_offer r earlier s) (offer r x s) o h) [
-  | inl e ↦ let f = least_offer-from r earlier s o e in record { by = f.by; member = there x earlier f.member; offered = f.offered }
+  | inl e ↦ let f = least_offer-from r earlier s o e in record
+      { by = f.by; member = there x earlier f.member; offered = f.offered }
   | inr e ↦ record { by = x; member = here earlier; offered = offer-made r x s o e }
 ]
 
@@ -79,31 +83,38 @@ module _ {S : Type 0} (r : Rule S) (fit : IsConsistent r) where
   pub is_taken-member : (run : List (Taken S)) (u : Taken S) → IsIn u run → is_taken r run u.state ≡ true
   is_taken-member [] u m = elim m [ ]
   is_taken-member (x ∷ earlier) u (here e) = rw (fit.itself x.state) refl
-  is_taken-member (x ∷ earlier) u (there z e m) = or_true (r.is_same x.state u.state) (is_taken r earlier u.state) (is_taken-member earlier u m)
+  is_taken-member (x ∷ earlier) u (there z e m) =
+      or_true (r.is_same x.state u.state) (is_taken r earlier u.state) (is_taken-member earlier u m)
     where
       or_true : (a b : Bool) → b ≡ true → (a || b) ≡ true
       or_true true b e = refl
       or_true false b e = e
 
   -- a state that is among the taken ones was taken
-  pub taken_state : (run : List (Taken S)) (s : S) → is_taken r run s ≡ true → (u : Taken S) × IsIn u run × (u.state ≡ s)
+  pub taken_state : (run : List (Taken S)) (s : S) → is_taken r run s ≡ true
+      → (u : Taken S) × IsIn u run × (u.state ≡ s)
   taken_state [] s h = absurd (cc)
   taken_state (x ∷ earlier) s h = by_test (λ k. taken_state earlier s k) (r.is_same x.state s) refl h
     where
-      by_test : (is_taken r earlier s ≡ true → (u : Taken S) × IsIn u earlier × (u.state ≡ s)) → (b : Bool) → r.is_same x.state s ≡ b → (b || is_taken r earlier s) ≡ true → (u : Taken S) × IsIn u (x ∷ earlier) × (u.state ≡ s)
+      by_test : (is_taken r earlier s ≡ true → (u : Taken S) × IsIn u earlier × (u.state ≡ s)) → (b : Bool)
+          → r.is_same x.state s ≡ b → (b || is_taken r earlier s) ≡ true
+          → (u : Taken S) × IsIn u (x ∷ earlier) × (u.state ≡ s)
       by_test again true e h = (x, here earlier, fit.one x.state s e)
       by_test again false e h = let t = again h in (t.0, there x earlier t.1, t.2)
 
   -- where no goal was taken
-  pub no_goal : (run : List (Taken S)) (u : Taken S) → has_goal r run ≡ false → IsIn u run → r.is_goal u.state ≡ false
+  pub no_goal : (run : List (Taken S)) (u : Taken S) → has_goal r run ≡ false → IsIn u run
+      → r.is_goal u.state ≡ false
   no_goal [] u g m = elim m [ ]
   no_goal (x ∷ earlier) u g (here e) = (or_false (r.is_goal x.state) (has_goal r earlier) g).0
-  no_goal (x ∷ earlier) u g (there z e m) = no_goal earlier u (or_false (r.is_goal x.state) (has_goal r earlier) g).1 m
+  no_goal (x ∷ earlier) u g (there z e m) =
+      no_goal earlier u (or_false (r.is_goal x.state) (has_goal r earlier) g).1 m
 
   -- a link never lowers the sum
   link_rises : (u v : S) (b c : Cost) → r.link u v ≡ Some c → Most (sum_at r u b) (sum_at r v (add_costs b c))
   link_rises u v b c l =
-      Most-then (Most-add_left b (r.estimate u) (add_costs c (r.estimate v)) (record { is = fit.falls u v c l }))
+      Most-then (Most-add_left b (r.estimate u) (add_costs c (r.estimate v))
+      (record { is = fit.falls u v c l }))
       (Most-same (sym (add_costs-assoc b c (r.estimate v))))
 
   module _ (earlier : List (Taken S)) (x : Taken S) where
@@ -117,22 +128,30 @@ module _ {S : Type 0} (r : Rule S) (fit : IsConsistent r) where
     next_taken : SumsRise r earlier → IsNext r earlier x → IsTakenNext
     next_taken rise n = record {
       first = λ s o w. record { is = (or_false _ _ (n.first s o w.untaken w.offered)).0 };
-      at_least_offer = λ o w. one_cost (least_offer r earlier x.state) o (record { cost = x.cost; from = x.parent }) w.offered n.offered;
-      rises = λ u m. rise u x.state (record { cost = x.cost; from = x.parent }) m (record { untaken = n.waits; offered = n.offered });
+      at_least_offer = λ o w. one_cost (least_offer r earlier x.state) o
+          (record { cost = x.cost; from = x.parent }) w.offered n.offered;
+      rises = λ u m. rise u x.state (record { cost = x.cost; from = x.parent }) m
+          (record { untaken = n.waits; offered = n.offered });
     }
 
     -- what waits after x was taken waited before, or x offers it
-    waited : (s : S) (o : Offer S) → Waits r (x ∷ earlier) s o → Waits r earlier s o ⊎ ((c : Cost) × (r.link x.state s ≡ Some c) × (o.cost ≡ add_costs x.cost c))
+    waited : (s : S) (o : Offer S) → Waits r (x ∷ earlier) s o
+        → Waits r earlier s o ⊎ ((c : Cost) × (r.link x.state s ≡ Some c) × (o.cost ≡ add_costs x.cost c))
     waited s o w = elim (lesser-one (least_offer r earlier s) (offer r x s) o w.offered) [
-      | inl e ↦ inl (record { untaken = (or_false (r.is_same x.state s) (is_taken r earlier s) w.untaken).1; offered = e })
+      | inl e ↦ inl (record {
+        untaken = (or_false (r.is_same x.state s) (is_taken r earlier s) w.untaken).1;
+        offered = e;
+      })
       | inr e ↦ inr (let m = offer-made r x s o e in (m.step, m.linked, m.total))
     ]
 
     -- x's sum is at most that of each state that waits after it
-    x_below : IsTakenNext → (s : S) (o : Offer S) → Waits r (x ∷ earlier) s o → Most (sum_at r x.state x.cost) (sum_at r s o.cost)
+    x_below : IsTakenNext → (s : S) (o : Offer S) → Waits r (x ∷ earlier) s o
+        → Most (sum_at r x.state x.cost) (sum_at r s o.cost)
     x_below n s o w = elim (waited s o w) [
       | inl before ↦ n.first s o before
-      | inr new ↦ subst (λ (t : Cost). Most (sum_at r x.state x.cost) (sum_at r s t)) (sym new.2) (link_rises x.state s x.cost new.0 new.1)
+      | inr new ↦ subst (λ (t : Cost). Most (sum_at r x.state x.cost) (sum_at r s t)) (sym new.2)
+          (link_rises x.state s x.cost new.0 new.1)
     ]
 
     rise_on : IsTakenNext → SumsRise r (x ∷ earlier)
@@ -140,34 +159,59 @@ module _ {S : Type 0} (r : Rule S) (fit : IsConsistent r) where
     rise_on n u s o (there z e m) w = Most-then (n.rises u m) (x_below n s o w)
 
     -- what is known stays known, at no more, when x is taken
-    stays_known : IsTakenNext → (v : S) (bound : Cost) → IsKnown r earlier v bound → IsKnown r (x ∷ earlier) v bound
-    stays_known n v bound (inl t) = inl (record { by = t.by; member = there x earlier t.member; is = t.is; most = t.most })
+    stays_known : IsTakenNext → (v : S) (bound : Cost) → IsKnown r earlier v bound
+        → IsKnown r (x ∷ earlier) v bound
+    stays_known n v bound (inl t) =
+        inl (record { by = t.by; member = there x earlier t.member; is = t.is; most = t.most })
     stays_known n v bound (inr k) = by_test (r.is_same x.state v) refl
       where
         by_test : (b : Bool) → r.is_same x.state v ≡ b → IsKnown r (x ∷ earlier) v bound
         by_test true e =
             let one : x.state ≡ v = fit.one x.state v e in
-            let now : Waits r earlier x.state k.offer = subst (λ (s : S). Waits r earlier s k.offer) (sym one) k.waits in
-            inl (record { by = x; member = here earlier; is = one; most = Most-then (Most-same (sym (n.at_least_offer k.offer now))) k.most })
+            let now : Waits r earlier x.state k.offer =
+            subst (λ (s : S). Waits r earlier s k.offer) (sym one) k.waits in
+            inl (record {
+              by = x;
+              member = here earlier;
+              is = one;
+              most = Most-then
+                  (Most-same (sym (n.at_least_offer k.offer now))) k.most;
+            })
         by_test false e =
             let l = lesser-early k.offer (offer r x v) in
-            inr (record { offer = l.0; waits = record { untaken = rw (e, k.waits.untaken) refl; offered = rw k.waits.offered l.1 }; most = Most-then (record { is = l.2 }) k.most })
+            inr (record {
+              offer = l.0;
+              waits = record
+                  { untaken = rw (e, k.waits.untaken) refl; offered = rw k.waits.offered l.1 };
+              most = Most-then
+                  (record { is = l.2 }) k.most;
+            })
 
     -- over a link from x itself
-    known_from : IsTakenNext → (v : S) (c : Cost) → r.is_goal x.state ≡ false → r.link x.state v ≡ Some c → IsKnown r (x ∷ earlier) v (add_costs x.cost c)
+    known_from : IsTakenNext → (v : S) (c : Cost) → r.is_goal x.state ≡ false → r.link x.state v ≡ Some c
+        → IsKnown r (x ∷ earlier) v (add_costs x.cost c)
     known_from n v c g l = by_test (is_taken r (x ∷ earlier) v) refl
       where
         taken_at : (u : Taken S) → IsIn u (x ∷ earlier) → u.state ≡ v → Most u.cost (add_costs x.cost c)
         taken_at u (here e) i = Most-more x.cost c
         taken_at u (there z e m) i =
-            let sums : Most (sum_at r u.state u.cost) (sum_at r v (add_costs x.cost c)) = Most-then (n.rises u m) (link_rises x.state v x.cost c l) in
-            Most-cancel_right (r.estimate v) u.cost (add_costs x.cost c) (subst (λ (s : S). Most (sum_at r s u.cost) (sum_at r v (add_costs x.cost c))) i sums)
+            let sums : Most (sum_at r u.state u.cost) (sum_at r v (add_costs x.cost c)) =
+            Most-then (n.rises u m) (link_rises x.state v x.cost c l) in
+            Most-cancel_right (r.estimate v) u.cost (add_costs x.cost c)
+            (subst (λ (s : S). Most (sum_at r s u.cost) (sum_at r v (add_costs x.cost c))) i sums)
 
         by_test : (b : Bool) → is_taken r (x ∷ earlier) v ≡ b → IsKnown r (x ∷ earlier) v (add_costs x.cost c)
-        by_test true e = let t = taken_state (x ∷ earlier) v e in inl (record { by = t.0; member = t.1; is = t.2; most = taken_at t.0 t.1 t.2 })
+        by_test true e = let t = taken_state (x ∷ earlier) v e in inl
+            (record { by = t.0; member = t.1; is = t.2; most = taken_at t.0 t.1 t.2 })
         by_test false e =
-            let k = lesser-late (least_offer r earlier v) (record { cost = add_costs x.cost c; from = x.state }) in
-            inr (record { offer = k.0; waits = record { untaken = e; offered = rw (offer-over r x v c g l) k.1 }; most = record { is = k.2 } })
+            let k = lesser-late (least_offer r earlier v)
+            (record { cost = add_costs x.cost c; from = x.state }) in
+            inr (record {
+              offer = k.0;
+              waits = record
+                  { untaken = e; offered = rw (offer-over r x v c g l) k.1 };
+              most = record { is = k.2 };
+            })
 
     relaxed_on : IsTakenNext → IsRelaxed r earlier → IsRelaxed r (x ∷ earlier)
     relaxed_on n rel u v c (here e) g l = known_from n v c g l
@@ -187,26 +231,36 @@ module _ {S : Type 0} (r : Rule S) (fit : IsConsistent r) where
   pub sums_rise : (start : S) (run : List (Taken S)) → IsRun r start run → SumsRise r run
   sums_rise start [] is = absurd is
   sums_rise start (x ∷ []) is = rise_on [] x (at_start x)
-  sums_rise start (x ∷ y ∷ earlier) is = let rise = sums_rise start (y ∷ earlier) is.0 in rise_on (y ∷ earlier) x (next_taken (y ∷ earlier) x rise is.2)
+  sums_rise start (x ∷ y ∷ earlier) is = let rise =
+      sums_rise start (y ∷ earlier) is.0 in rise_on (y ∷ earlier) x (next_taken (y ∷ earlier) x rise is.2)
 
   pub relaxed : (start : S) (run : List (Taken S)) → IsRun r start run → IsRelaxed r run
   relaxed start [] is = absurd is
   relaxed start (x ∷ []) is = relaxed_on [] x (at_start x) (λ u v c m g l. elim m [ ])
   relaxed start (x ∷ y ∷ earlier) is =
-      relaxed_on (y ∷ earlier) x (next_taken (y ∷ earlier) x (sums_rise start (y ∷ earlier) is.0) is.2) (relaxed start (y ∷ earlier) is.0)
+      relaxed_on (y ∷ earlier) x (next_taken (y ∷ earlier) x (sums_rise start (y ∷ earlier) is.0) is.2)
+      (relaxed start (y ∷ earlier) is.0)
 
   -- the start was taken at no cost
   pub start_known : (start : S) (run : List (Taken S)) → IsRun r start run → IsKnown r run start no_cost
   start_known start [] is = absurd is
-  start_known start (x ∷ []) is = inl (record { by = x; member = here []; is = ap (λ (u : Taken S). u.state) is; most = Most-same (ap (λ (u : Taken S). u.cost) is) })
+  start_known start (x ∷ []) is = inl (record {
+    by = x;
+    member = here [];
+    is = ap (λ (u : Taken S). u.state) is;
+    most = Most-same
+        (ap (λ (u : Taken S). u.cost) is);
+  })
   start_known start (x ∷ y ∷ earlier) is =
-      stays_known (y ∷ earlier) x (next_taken (y ∷ earlier) x (sums_rise start (y ∷ earlier) is.0) is.2) start no_cost (start_known start (y ∷ earlier) is.0)
+      stays_known (y ∷ earlier) x (next_taken (y ∷ earlier) x (sums_rise start (y ∷ earlier) is.0) is.2) start
+      no_cost (start_known start (y ∷ earlier) is.0)
 
   -- the estimate is at most the cost of each chain to a goal
   pub estimate_below : (s t : S) (d : Cost) → Chain r s t d → r.is_goal t ≡ true → Most (r.estimate s) d
   estimate_below s t d (stays z) g = Most-same (fit.nothing s g)
   estimate_below s t d (goes_on z v w b c l rest) g =
-      Most-then (record { is = fit.falls s v b l }) (Most-add_left b (r.estimate v) c (estimate_below v t c rest g))
+      Most-then (record { is = fit.falls s v b l })
+      (Most-add_left b (r.estimate v) c (estimate_below v t c rest g))
 
   -- a state that waits with a sum of no more than this
   record WaitsBelow (run : List (Taken S)) (bound : Cost) : Type 0 where
@@ -216,36 +270,48 @@ module _ {S : Type 0} (r : Rule S) (fit : IsConsistent r) where
     most : Most (sum_at r state offer.cost) bound
 
   -- from a known state no chain to a goal undercuts all that waits
-  none_below : (run : List (Taken S)) → IsRelaxed r run → has_goal r run ≡ false → (v t : S) (bound d : Cost) → IsKnown r run v bound → Chain r v t d → r.is_goal t ≡ true → WaitsBelow run (add_costs bound d)
+  none_below : (run : List (Taken S)) → IsRelaxed r run → has_goal r run ≡ false → (v t : S) (bound d : Cost)
+      → IsKnown r run v bound → Chain r v t d → r.is_goal t ≡ true → WaitsBelow run (add_costs bound d)
   none_below run rel none v t bound d (inr k) chain g = record {
     state = v;
     offer = k.offer;
     waits = k.waits;
-    most = Most-then (Most-add_right (r.estimate v) k.offer.cost bound k.most) (Most-add_left bound (r.estimate v) d (estimate_below v t d chain g));
+    most = Most-then (Most-add_right (r.estimate v) k.offer.cost bound k.most)
+        (Most-add_left bound (r.estimate v) d (estimate_below v t d chain g));
   }
   none_below run rel none v t bound d (inl k) (stays z) g =
-      absurd (let n : r.is_goal k.by.state ≡ false = no_goal run k.by none k.member in let i : r.is_goal k.by.state ≡ true = ap r.is_goal k.is ∙ g in cc)
+      absurd (let n : r.is_goal k.by.state ≡ false = no_goal run k.by none k.member in let i : r.is_goal
+      k.by.state ≡ true = ap r.is_goal k.is ∙ g in cc)
   none_below run rel none v t bound d (inl k) (goes_on z w u b c l rest) g =
       let link : r.link k.by.state w ≡ Some b = ap (λ (s : S). r.link s w) k.is ∙ l in
-      let next = none_below run rel none w t (add_costs k.by.cost b) c (rel k.by w b k.member (no_goal run k.by none k.member) link) rest g in
+      let next = none_below run rel none w t (add_costs k.by.cost b) c
+      (rel k.by w b k.member (no_goal run k.by none k.member) link) rest g in
       record {
         state = next.state;
         offer = next.offer;
         waits = next.waits;
-        most = Most-then next.most (Most-then (Most-same (add_costs-assoc k.by.cost b c)) (Most-add_right (add_costs b c) k.by.cost bound k.most));
+        most = Most-then next.most (Most-then (Most-same (add_costs-assoc k.by.cost b c))
+            (Most-add_right (add_costs b c) k.by.cost bound k.most));
       }
 
   -- a goal is taken at a cost that undercuts no chain
-  pub run_is_least : (start t : S) (x : Taken S) (earlier : List (Taken S)) (d : Cost) → IsRun r start (x ∷ earlier) → r.is_goal x.state ≡ true → Chain r start t d → r.is_goal t ≡ true → Most x.cost d
-  run_is_least start t x [] d is gx chain gt = Most-then (Most-same (ap (λ (u : Taken S). u.cost) is)) (Most-nothing d)
+  pub run_is_least : (start t : S) (x : Taken S) (earlier : List (Taken S)) (d : Cost)
+      → IsRun r start (x ∷ earlier) → r.is_goal x.state ≡ true → Chain r start t d → r.is_goal t ≡ true
+      → Most x.cost d
+  run_is_least start t x [] d is gx chain gt =
+      Most-then (Most-same (ap (λ (u : Taken S). u.cost) is)) (Most-nothing d)
   run_is_least start t x (y ∷ earlier) d is gx chain gt =
-      let w = none_below (y ∷ earlier) (relaxed start (y ∷ earlier) is.0) is.1 start t no_cost d (start_known start (y ∷ earlier) is.0) chain gt in
+      let w = none_below (y ∷ earlier) (relaxed start (y ∷ earlier) is.0) is.1 start t no_cost d
+      (start_known start (y ∷ earlier) is.0) chain gt in
       let next = next_taken (y ∷ earlier) x (sums_rise start (y ∷ earlier) is.0) is.2 in
-      let sum : sum_at r x.state x.cost ≡ x.cost = ap (λ (c : Cost). add_costs x.cost c) (fit.nothing x.state gx) ∙ add_costs-no_cost_right x.cost in
-      Most-then (Most-same (sym sum)) (Most-then (next.first w.state w.offer w.waits) (Most-then w.most (Most-same (add_costs-no_cost_left d))))
+      let sum : sum_at r x.state x.cost ≡ x.cost =
+      ap (λ (c : Cost). add_costs x.cost c) (fit.nothing x.state gx) ∙ add_costs-no_cost_right x.cost in
+      Most-then (Most-same (sym sum)) (Most-then (next.first w.state w.offer w.waits)
+      (Most-then w.most (Most-same (add_costs-no_cost_left d))))
 
   -- where nothing waits and no goal was taken, no chain leads to one
-  pub run_finds_all : (start t : S) (run : List (Taken S)) (d : Cost) → IsRun r start run → NoneWaits r run → has_goal r run ≡ false → Chain r start t d → r.is_goal t ≡ true → ⊥
+  pub run_finds_all : (start t : S) (run : List (Taken S)) (d : Cost) → IsRun r start run → NoneWaits r run
+      → has_goal r run ≡ false → Chain r start t d → r.is_goal t ≡ true → ⊥
   run_finds_all start t run d is none g chain gt =
       let w = none_below run (relaxed start run is) g start t no_cost d (start_known start run is) chain gt in
       let e : Some w.offer ≡ None = sym w.waits.offered ∙ none w.state w.waits.untaken in

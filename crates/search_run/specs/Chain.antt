@@ -12,7 +12,8 @@ pub data Chain {S : Type 0} (r : Rule S) : S → S → Cost → Type 0 where
 
 -- the estimate never falls by more than a link costs, and is nothing at a goal; one state is one state
 pub record IsConsistent {S : Type 0} (r : Rule S) : Type 0 where
-  pub falls : (u v : S) (c : Cost) → r.link u v ≡ Some c → IsAtMost (r.estimate u) (add_costs c (r.estimate v))
+  pub falls : (u v : S) (c : Cost) → r.link u v ≡ Some c
+      → IsAtMost (r.estimate u) (add_costs c (r.estimate v))
   pub nothing : (s : S) → r.is_goal s ≡ true → r.estimate s ≡ no_cost
   pub one : (u v : S) → r.is_same u v ≡ true → u ≡ v
   pub itself : (s : S) → r.is_same s s ≡ true

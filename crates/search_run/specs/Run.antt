@@ -67,19 +67,22 @@ sum_at r s c = add_costs c (r.estimate s)
 abbrev pub goes_before : {S : Type 0} → Rule S → S → Cost → S → Cost → Bool
 goes_before r s c t d =
     is_less (sum_at r s c) (sum_at r t d)
-    || (nat_eq (sum_at r s c).a (sum_at r t d).a && nat_eq (sum_at r s c).b (sum_at r t d).b && nat_lt (r.number s) (r.number t))
+    || (nat_eq (sum_at r s c).a (sum_at r t d).a && nat_eq (sum_at r s c).b (sum_at r t d).b && nat_lt
+    (r.number s) (r.number t))
 
 -- x is taken next: it waits, at its least offer, and no state that waits goes before it
 pub record IsNext {S : Type 0} (r : Rule S) (earlier : List (Taken S)) (x : Taken S) : Type 0 where
   pub waits : is_taken r earlier x.state ≡ false
   pub offered : least_offer r earlier x.state ≡ Some (record { cost = x.cost; from = x.parent })
-  pub first : (s : S) (o : Offer S) → is_taken r earlier s ≡ false → least_offer r earlier s ≡ Some o → goes_before r s o.cost x.state x.cost ≡ false
+  pub first : (s : S) (o : Offer S) → is_taken r earlier s ≡ false → least_offer r earlier s ≡ Some o
+      → goes_before r s o.cost x.state x.cost ≡ false
 
 -- the states taken so far, latest first: the start at no cost, and then, until a goal is taken, the next
 abbrev pub IsRun : {S : Type 0} → Rule S → S → List (Taken S) → Type 0
 IsRun r start [] = ⊥
 IsRun r start (x ∷ []) = x ≡ record { state = start; cost = no_cost; parent = start }
-IsRun r start (x ∷ y ∷ earlier) = IsRun r start (y ∷ earlier) × (has_goal r (y ∷ earlier) ≡ false) × IsNext r (y ∷ earlier) x
+IsRun r start (x ∷ y ∷ earlier) =
+    IsRun r start (y ∷ earlier) × (has_goal r (y ∷ earlier) ≡ false) × IsNext r (y ∷ earlier) x
 
 -- no state waits
 abbrev pub NoneWaits : {S : Type 0} → Rule S → List (Taken S) → Type 0
@@ -88,4 +91,5 @@ NoneWaits {S} r run = (s : S) → is_taken r run s ≡ false → least_offer r r
 -- the states from the start along the parents to s
 abbrev pub way_to : {S : Type 0} → Rule S → List (Taken S) → S → List S
 way_to r [] s = []
-way_to r (x ∷ earlier) s = if r.is_same x.state s then way_to r earlier x.parent ++ (s ∷ []) else way_to r earlier s
+way_to r (x ∷ earlier) s =
+    if r.is_same x.state s then way_to r earlier x.parent ++ (s ∷ []) else way_to r earlier s

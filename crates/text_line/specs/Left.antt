@@ -10,4 +10,5 @@ pub record Left : Type 0 where
 -- a call of `next` gave the first line left, with its number, and left the others; none exactly at the end
 abbrev pub GivesNext : Left → Option Line → Left → Type 0
 GivesNext old None new = (old.lines ≡ []) × (new ≡ old)
-GivesNext old (Some line) new = (old.lines ≡ line.bytes.now ∷ new.lines) × (line.number ≡ old.number) × (new.number ≡ old.number + 1)
+GivesNext old (Some line) new =
+    (old.lines ≡ line.bytes.now ∷ new.lines) × (line.number ≡ old.number) × (new.number ≡ old.number + 1)

@@ -10,7 +10,8 @@ is_line_feed byte = byte == 10
 -- where it is not empty
 abbrev pub pieces_of : List ℕ → List (List ℕ)
 pieces_of [] = []
-pieces_of (byte ∷ bytes) = if is_line_feed byte then [] ∷ pieces_of bytes else onto_first byte (pieces_of bytes)
+pieces_of (byte ∷ bytes) =
+    if is_line_feed byte then [] ∷ pieces_of bytes else onto_first byte (pieces_of bytes)
 
 -- a piece without the one carriage return at its end, if it has one
 abbrev pub without_cr : List ℕ → List ℕ

@@ -21,17 +21,20 @@ pub record LineAt : Type 0 where
 -- pieces from a place on, each one byte behind the end of the piece before it
 abbrev pub placed_from : ℕ → List (List ℕ) → List Placed
 placed_from place [] = []
-placed_from place (piece ∷ pieces) = record { start = place; end = place + length piece; bytes = piece } ∷ placed_from (place + length piece + 1) pieces
+placed_from place (piece ∷ pieces) = record { start = place; end = place + length piece; bytes = piece } ∷
+    placed_from (place + length piece + 1) pieces
 
 -- the fields of a line that begins at this place
 abbrev pub fields_from : ℕ → List ℕ → List Placed
-fields_from place line = filter (λ field. is_something field.bytes) (placed_from place (slice_split is_blank_byte line))
+fields_from place line =
+    filter (λ field. is_something field.bytes) (placed_from place (slice_split is_blank_byte line))
 
 -- the lines of pieces from a number and a place on, each piece one byte behind the end of the one before it
 abbrev pub lines_from : ℕ → ℕ → List (List ℕ) → List LineAt
 lines_from number place [] = []
 lines_from number place (piece ∷ pieces) =
-    record { number = number; place = place; bytes = without_cr piece } ∷ lines_from (number + 1) (place + length piece + 1) pieces
+    record { number = number; place = place; bytes = without_cr piece } ∷ lines_from (number + 1)
+    (place + length piece + 1) pieces
 
 -- the lines of a text with their numbers and places
 abbrev pub lines_at : List ℕ → List LineAt

@@ -52,8 +52,10 @@ unfolding number_of
 signed = refl
 
 -- a line feed and a carriage return count as bytes of the text
-pub second_line_at : lines_at (codes "a\r\n\nb") ≡ record { number = 1; place = 0; bytes = codes "a" } ∷ record { number = 2; place = 3; bytes = [] } ∷ record { number = 3; place = 4; bytes = codes "b" } ∷ []
+pub second_line_at : lines_at (codes "a\r\n\nb") ≡ record { number = 1; place = 0; bytes = codes "a" } ∷
+    record { number = 2; place = 3; bytes = [] } ∷ record { number = 3; place = 4; bytes = codes "b" } ∷ []
 second_line_at = refl
 
-pub second_field_at : fields_from 7 (codes " ab\t c") ≡ record { start = 8; end = 10; bytes = codes "ab" } ∷ record { start = 12; end = 13; bytes = codes "c" } ∷ []
+pub second_field_at : fields_from 7 (codes " ab\t c") ≡ record { start = 8; end = 10; bytes = codes "ab" } ∷
+    record { start = 12; end = 13; bytes = codes "c" } ∷ []
 second_field_at = refl

@@ -57,7 +57,8 @@ form_of command.Scen = Word (λ map. Word (λ scen.
 abbrev pub asked_by : Form → List (List ℕ) → Option Asked
 asked_by (Last allowed asked) words = if are_settings allowed words then Some (asked (chosen words)) else None
 asked_by form [] = None
-asked_by (Name next) (word ∷ words) = option_and_then (λ command. asked_by (next command) words) (command_of word)
+asked_by (Name next) (word ∷ words) =
+    option_and_then (λ command. asked_by (next command) words) (command_of word)
 asked_by (Word next) (word ∷ words) = asked_by (next word) words
 asked_by (Number next) (word ∷ words) = option_and_then (λ n. asked_by (next n) words) (number_of word)
 

@@ -29,7 +29,8 @@ pub record Lacks (left : Left) (number : ℕ) : Type 0 where
   pub next : number ≡ left.number
 
 -- the first word left was taken, and is read as the value
-pub record TakesAs {A : Type 0} (reading : List ℕ → Option A) (old : Left) (value : A) (new : Left) : Type 0 where
+pub record TakesAs {A : Type 0} (reading : List ℕ → Option A) (old : Left) (value : A) (new : Left)
+    : Type 0 where
   pub word : List ℕ
   pub taken : Takes old word new
   pub is_read : reading word ≡ Some value
@@ -71,4 +72,5 @@ pub record NamesBad (form : Form) (left : Left) (number : ℕ) : Type 0 where
 
 -- the answer for the words left, which are to have the form, is what they ask for, or the number of the bad word
 pub record Tells (form : Form) (left : Left) (answer : Result Request BadWord) : Type 0 where
-  pub told : MatchResult answer (λ request. asked_by form left.words ≡ Some (asked request)) (λ bad. NamesBad form left bad.0)
+  pub told : MatchResult answer (λ request. asked_by form left.words ≡ Some (asked request))
+      (λ bad. NamesBad form left bad.0)

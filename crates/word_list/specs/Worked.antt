@@ -8,7 +8,8 @@ use Rattle.word_list.specs.Form.{any_request, asked_by}
 
 -- what the words after `query m 0 0 2 2` make of it
 abbrev query_with : List (List ℕ) → Option Asked
-query_with words = asked_by any_request (codes "query" ∷ codes "m" ∷ codes "0" ∷ codes "0" ∷ codes "2" ∷ codes "2" ∷ words)
+query_with words =
+    asked_by any_request (codes "query" ∷ codes "m" ∷ codes "0" ∷ codes "0" ∷ codes "2" ∷ codes "2" ∷ words)
 
 pub points_by_default : query_with [] ≡ Some (Query (codes "m") 0 0 2 2 Plain Points)
 unfolding any_request number_of
@@ -48,12 +49,14 @@ unfolding any_request number_of
 one_word_more = refl
 
 -- a word in a file's place is its name, whatever it begins with; leading zeros are digits
-pub any_name : asked_by any_request (codes "query" ∷ codes "--help" ∷ codes "000000001" ∷ codes "1" ∷ codes "1" ∷ codes "1" ∷ []) ≡ Some (Query (codes "--help") 1 1 1 1 Plain Points)
+pub any_name : asked_by any_request (codes "query" ∷ codes "--help" ∷ codes "000000001" ∷ codes "1" ∷ codes
+    "1" ∷ codes "1" ∷ []) ≡ Some (Query (codes "--help") 1 1 1 1 Plain Points)
 unfolding any_request number_of
 any_name = refl
 
 -- ten digits are no number
-pub ten_digits : asked_by any_request (codes "query" ∷ codes "m" ∷ codes "0000000001" ∷ codes "1" ∷ codes "1" ∷ codes "1" ∷ []) ≡ None
+pub ten_digits : asked_by any_request (codes "query" ∷ codes "m" ∷ codes "0000000001" ∷ codes "1" ∷ codes "1"
+    ∷ codes "1" ∷ []) ≡ None
 unfolding any_request number_of
 ten_digits = refl
 

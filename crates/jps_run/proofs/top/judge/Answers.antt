@@ -22,8 +22,8 @@ returns-in_err-map-clause-worked g c = λ words a.
     c.from_residual.result c.in_err-map.field-0.0 c.from_residual.ensures.0 c.from_residual.ensures.1
     (map-stops words (g.F.Files.holds c.args.files.now) (g.F.Files.faults c.args.files.now)
     (g.F.Files.faults c.read_map_file.new.files) (g.O.Sink.written c.args.out.now)
-    (g.O.Sink.faults c.args.out.now) (λ (m : MapText). HoldsMap
-    (g.F.Files.holds c.args.files.now c.args.map.now) (plain m))
+    (g.O.Sink.faults c.args.out.now)
+    (λ (m : MapText). HoldsMap (g.F.Files.holds c.args.files.now c.args.map.now) (plain m))
     (Scen c.args.map.now c.args.scen.now c.args.pick) c.args.map.now c.in_err-map.field-0.0 a refl
     c.in_err-map.ensures.read)
 
@@ -36,8 +36,8 @@ returns-in_err-entries-clause-worked g c = λ words a.
     c.from_residual-in_err-entries.ensures.0 c.from_residual-in_err-entries.ensures.1
     (second-stops words (g.F.Files.holds c.args.files.now) (g.F.Files.faults c.args.files.now)
     (g.F.Files.faults c.read_scen_file.new.files) (g.O.Sink.written c.args.out.now)
-    (g.O.Sink.faults c.args.out.now) (λ (v : Vec Entry). HoldsScen
-    (g.F.Files.holds c.read_map_file.new.files c.args.scen.now) v.items)
+    (g.O.Sink.faults c.args.out.now)
+    (λ (v : Vec Entry). HoldsScen (g.F.Files.holds c.read_map_file.new.files c.args.scen.now) v.items)
     (IsScenRefused (g.F.Files.holds c.read_map_file.new.files c.args.scen.now))
     (Scen c.args.map.now c.args.scen.now c.args.pick) (plain c.in_ok-map.map) c.args.scen.now
     (g.F.Files.faults c.read_map_file.new.files c.args.scen.now) c.in_err-entries.field-0.0

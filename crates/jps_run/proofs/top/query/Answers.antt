@@ -17,8 +17,8 @@ returns-in_err-map-clause-worked g c = λ words a.
     c.from_residual.result c.in_err-map.field-0.0 c.from_residual.ensures.0 c.from_residual.ensures.1
     (map-stops words (g.F.Files.holds c.args.files.now) (g.F.Files.faults c.args.files.now)
     (g.F.Files.faults c.read_map_file.new.files) (g.O.Sink.written c.args.out.now)
-    (g.O.Sink.faults c.args.out.now) (λ (m : MapText). HoldsMap
-    (g.F.Files.holds c.args.files.now c.args.map.now) (plain m))
+    (g.O.Sink.faults c.args.out.now)
+    (λ (m : MapText). HoldsMap (g.F.Files.holds c.args.files.now c.args.map.now) (plain m))
     (Query c.args.map.now c.args.ends.sx c.args.ends.sy c.args.ends.gx c.args.ends.gy c.args.pick
     c.args.show) c.args.map.now c.in_err-map.field-0.0 a refl c.in_err-map.ensures.read)
 

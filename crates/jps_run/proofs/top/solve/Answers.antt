@@ -23,8 +23,8 @@ returns-in_err-map-clause-worked g c = λ words a.
     c.from_residual.result c.in_err-map.field-0.0 c.from_residual.ensures.0 c.from_residual.ensures.1
     (map-stops words (g.F.Files.holds c.args.files.now) (g.F.Files.faults c.args.files.now)
     (g.F.Files.faults c.read_map_file.new.files) (g.O.Sink.written c.args.out.now)
-    (g.O.Sink.faults c.args.out.now) (λ (m : MapText). HoldsMap
-    (g.F.Files.holds c.args.files.now c.args.map.now) (plain m))
+    (g.O.Sink.faults c.args.out.now)
+    (λ (m : MapText). HoldsMap (g.F.Files.holds c.args.files.now c.args.map.now) (plain m))
     (Solve c.args.map.now c.args.script.now c.args.pick) c.args.map.now c.in_err-map.field-0.0 a refl
     c.in_err-map.ensures.read)
 
@@ -37,9 +37,9 @@ returns-in_err-commands-clause-worked g c = λ words a.
     c.from_residual-in_err-commands.ensures.0 c.from_residual-in_err-commands.ensures.1
     (second-stops words (g.F.Files.holds c.args.files.now) (g.F.Files.faults c.args.files.now)
     (g.F.Files.faults c.read_script_file.new.files) (g.O.Sink.written c.args.out.now)
-    (g.O.Sink.faults c.args.out.now) (λ (v : Vec Command). HoldsScript
-    (g.F.Files.holds c.read_map_file.new.files c.args.script.now) v.items)
-    (IsScriptRefused (g.F.Files.holds c.read_map_file.new.files c.args.script.now))
+    (g.O.Sink.faults c.args.out.now)
+    (λ (v : Vec Command). HoldsScript (g.F.Files.holds c.read_map_file.new.files c.args.script.now)
+    v.items) (IsScriptRefused (g.F.Files.holds c.read_map_file.new.files c.args.script.now))
     (Solve c.args.map.now c.args.script.now c.args.pick) (plain c.in_ok-map.map) c.args.script.now
     (g.F.Files.faults c.read_map_file.new.files c.args.script.now) c.in_err-commands.field-0.0
     (record { ask = a; name = c.args.map.now; named = refl; held = c.in_ok-map.ensures.read }) refl

@@ -13,4 +13,5 @@ invariant-loop-row l = record {
 
 -- the lines behind break nothing
 abbrev pub invariant-loop-line : goal.invariant-loop-line
-invariant-loop-line l = Stands (lines_of l.text) (suc (suc (suc (suc (l.height + length l.yielded))))) l.line-iterator
+invariant-loop-line l =
+    Stands (lines_of l.text) (suc (suc (suc (suc (l.height + length l.yielded))))) l.line-iterator

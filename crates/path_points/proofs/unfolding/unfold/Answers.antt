@@ -18,7 +18,8 @@ loop-next-preserved c =
     and_both (are_lined last next) (is_lined (next ∷ drop (i + 1) others))
     (sym on ∙ c.loop-next.invariant.lined) in
     let further =
-    at_drop_more (λ points. option_map (λ later. c.loop-next.cells ++ later) (unfolded_from last points)) others i (record {
+    at_drop_more (λ points. option_map (λ later. c.loop-next.cells ++ later) (unfolded_from last points))
+    others i (record {
       x = 0;
       y = 0;
     }) inside in
@@ -32,6 +33,7 @@ loop-next-preserved c =
       completes =
           completes
           ∙ ap
-          (λ (cells : List Cell). option_map (λ later. cells ++ later) (unfolded_from next (drop (i + 1) others)))
+          (λ (cells : List Cell). option_map (λ later. cells ++ later)
+          (unfolded_from next (drop (i + 1) others)))
           pushed;
     }

@@ -13,8 +13,8 @@ use Rattle.plain_search.proofs.search.advance.Goals as goal
 -- the last state is no goal
 open_end : (g : GridData) (s t : Cell) (at : ℕ) (k : Table) (taken : List ℕ) (h : HasTaken g s t at k taken)
     → ((n : Node) → slice_get k.nodes at ≡ Some n → is_same n.cell t ≡ false) → is_same h.last.state t ≡ false
-open_end g s t at k taken h f = ap (λ (c : Cell). is_same c t) (sym h.searching.cell)
-    ∙ f h.searching.node h.searching.node_is
+open_end g s t at k taken h f =
+    ap (λ (c : Cell). is_same c t) (sym h.searching.cell) ∙ f h.searching.node h.searching.node_is
 
 pub relax-requires-clause-few : goal.relax-requires-clause-few
 relax-requires-clause-few g c =
@@ -69,8 +69,8 @@ returns-in_ok-push-in-Some-clause-goes_on g c =
     let k = c.args.space.now.table in
     let relaxed_is : c.relax.new.self.table ≡ relaxed grid c.args.ends.to c.args.at k =
     c.in_ok-relax.ensures.relaxed in
-    let first : IsFirstNode (relaxed grid c.args.ends.to c.args.at k) c.in-Some.next = subst
-    (λ (l : Table). IsFirstNode l c.in-Some.next) relaxed_is c.in-Some.ensures.first in
+    let first : IsFirstNode (relaxed grid c.args.ends.to c.args.at k) c.in-Some.next =
+    subst (λ (l : Table). IsFirstNode l c.in-Some.next) relaxed_is c.in-Some.ensures.first in
     let read : slice_get (relaxed grid c.args.ends.to c.args.at k).nodes c.in-Some.next ≡ Some c.node.result =
     ap (λ (l : Table). slice_get l.nodes c.in-Some.next) (sym relaxed_is)
     ∙ ap (λ (ns : List Node). slice_get ns c.in-Some.next) (sym c.take_next.ensures.nodes)
@@ -80,12 +80,11 @@ returns-in_ok-push-in-Some-clause-goes_on g c =
     (open_end grid c.args.ends.from c.args.ends.to c.args.at k c.args.taken.now c.requires.taken
     c.requires.open_ended)
     c.in-Some.next c.node.result first read in
-    let table : closed_at c.in-Some.next (relaxed grid c.args.ends.to c.args.at k) ≡
-    c.take_next.new.self.table = ap (closed_at c.in-Some.next) (sym relaxed_is)
-    ∙ sym c.in-Some.ensures.closed in
+    let table : closed_at c.in-Some.next (relaxed grid c.args.ends.to c.args.at k) ≡ c.take_next.new.self.table =
+    ap (closed_at c.in-Some.next) (sym relaxed_is) ∙ sym c.in-Some.ensures.closed in
     let pushed : c.push.new.self ≡ c.args.taken.now ++ state_number grid.width c.node.result.cell ∷ [] =
     c.in_ok-push-in-Some.ensures.pushed ∙ ap (λ (i : ℕ). c.args.taken.now ++ i ∷ []) c.state_at.ensures in
-    subst (λ (l : Table). HasTaken grid c.args.ends.from c.args.ends.to c.in-Some.next l c.push.new.self)
-    table
+    subst (λ (l : Table). HasTaken grid c.args.ends.from c.args.ends.to c.in-Some.next l
+    c.push.new.self) table
     (subst (λ (ns : List ℕ). HasTaken grid c.args.ends.from c.args.ends.to c.in-Some.next
     (closed_at c.in-Some.next (relaxed grid c.args.ends.to c.args.at k)) ns) (sym pushed) n)

@@ -22,10 +22,10 @@ returns-clause-taken g c =
     let index = c.args.space.now.table.index in
     let free = c.requires.from in
     let size : length index ≡ grid.height * grid.width = c.requires.room in
-    let inside : cell_number grid.width s < length index = rw size
-    (let i = free_inside grid s free in number_below grid.width grid.height s i.0 i.1) in
-    let table : c.begin.new.self.table ≡ begun grid.width t s index = c.in_ok-begin.ensures.begun
-    ∙ ap (λ (w : ℕ). begun w t s index) c.width.ensures.is in
+    let inside : cell_number grid.width s < length index =
+    rw size (let i = free_inside grid s free in number_below grid.width grid.height s i.0 i.1) in
+    let table : c.begin.new.self.table ≡ begun grid.width t s index =
+    c.in_ok-begin.ensures.begun ∙ ap (λ (w : ℕ). begun w t s index) c.width.ensures.is in
     let has = has_begun grid s t free index size inside in
     on_ok c.push.result c.push.ensures.pushed (λ p.
     let numbers : c.push.new.self ≡ state_number grid.width s ∷ [] =

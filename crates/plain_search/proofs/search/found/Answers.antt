@@ -25,11 +25,12 @@ returns g c =
     let h = c.requires.taken in
     let same : c.node-goal.result ≡ h.searching.node = last_node grid c.args.ends.from c.args.ends.to
     c.args.at k c.args.taken h c.node-goal.result c.node-goal.ensures in
-    let at_goal : h.last.state ≡ c.args.ends.to = sym h.searching.cell
-    ∙ c.requires.goal h.searching.node h.searching.node_is in
-    let points : IsPointsTo k c.args.ends.from h.searching.node c.in_ok-points.points = subst
-    (λ (n : Node). IsPointsTo k c.args.ends.from n c.in_ok-points.points) same c.in_ok-points.ensures in
+    let at_goal : h.last.state ≡ c.args.ends.to =
+    sym h.searching.cell ∙ c.requires.goal h.searching.node h.searching.node_is in
+    let points : IsPointsTo k c.args.ends.from h.searching.node c.in_ok-points.points
+    = subst (λ (n : Node). IsPointsTo k c.args.ends.from n c.in_ok-points.points) same
+    c.in_ok-points.ensures in
     subst (λ (n : Node). IsFound grid c.args.ends.from c.args.ends.to c.in_ok-points.points n.cost
     c.args.taken) (sym same)
-    (is_found grid c.args.ends.from c.args.ends.to c.args.at k c.args.taken c.in_ok-points.points h at_goal
-    points)
+    (is_found grid c.args.ends.from c.args.ends.to c.args.at k c.args.taken c.in_ok-points.points h
+    at_goal points)

@@ -11,6 +11,7 @@ taking-smaller g c =
     c.advance.new.taken o) c.in-Some.is c.in_ok-next.ensures.goes_on in
     let fits = taken_fits grid c.args.ends.from c.args.ends.to c.in-Some.next c.advance.new.space.table
     c.advance.new.taken c.requires.from taken in
-    let more = subst (λ (o : Option ℕ). IfSome o (λ id. length c.advance.new.taken ≡ length c.taking.taken +
-    1)) c.in-Some.is c.in_ok-next.ensures.one_more in
+    let more = subst (λ (o : Option ℕ). IfSome o
+    (λ id. length c.advance.new.taken ≡ length c.taking.taken + 1)) c.in-Some.is
+    c.in_ok-next.ensures.one_more in
     omega arith

@@ -19,8 +19,8 @@ one_closed old new (Some id) o none first closed =
 
 pub returns-clause-open_at : goal.returns-clause-open_at
 returns-clause-open_at g c =
-    let rest : c.reserve.new.self.open_at ≡ [] = ap (λ (p : OpenList Node). p.open_at)
-    c.reserve.ensures.rest_kept ∙ c.clear.ensures.open_at in
+    let rest : c.reserve.new.self.open_at ≡ [] =
+    ap (λ (p : OpenList Node). p.open_at) c.reserve.ensures.rest_kept ∙ c.clear.ensures.open_at in
     let opened : c.add.new.self.open_at ≡ true ∷ [] = rw c.add.ensures.open_at (rw rest refl) in
     one_closed c.add.new.self c.pop.new.self c.pop.result opened c.pop.ensures.none.0 c.pop.ensures.first
     c.pop.ensures.closed

@@ -7,13 +7,15 @@ pub returns-then-is_open-clause-quarter : goal.returns-then-is_open-clause-quart
 returns-then-is_open-clause-quarter g c =
     let grid = g.T.Terrain.grid c.args.t.now in
     quarter_shut grid c.args.at c.requires.free c.args.side c.args.d c.requires.straight
-    (seen_free grid c.args.at c.args.side c.args.d _ _ _ _ c.turn-eighth.ensures c.turn-quarter.ensures c.turn.ensures c.is_open.ensures c.if-is_open.true)
+    (seen_free grid c.args.at c.args.side c.args.d _ _ _ _ c.turn-eighth.ensures c.turn-quarter.ensures
+    c.turn.ensures c.is_open.ensures c.if-is_open.true)
 
 pub returns-then-is_open-clause-eighth : goal.returns-then-is_open-clause-eighth
 returns-then-is_open-clause-eighth g c =
     let grid = g.T.Terrain.grid c.args.t.now in
     eighth_shut grid c.args.at c.requires.free c.args.side c.args.d c.requires.straight
-    (seen_free grid c.args.at c.args.side c.args.d _ _ _ _ c.turn-eighth.ensures c.turn-quarter.ensures c.turn.ensures c.is_open.ensures c.if-is_open.true)
+    (seen_free grid c.args.at c.args.side c.args.d _ _ _ _ c.turn-eighth.ensures c.turn-quarter.ensures
+    c.turn.ensures c.is_open.ensures c.if-is_open.true)
 
 pub returns-clause-quarter : goal.returns-clause-quarter
 returns-clause-quarter g c =
@@ -21,7 +23,8 @@ returns-clause-quarter g c =
     let q = quarter_is c.args.side c.args.d _ _ c.turn-eighth.ensures c.turn-quarter.ensures in
     c.is_open-aside.ensures ∙ ap (λ e. is_open grid c.args.at e) q
     ∙ quarter_past grid c.args.at c.requires.free c.args.side c.args.d c.requires.straight
-    (seen_blocked grid c.args.at c.args.side c.args.d _ _ _ _ c.turn-eighth.ensures c.turn-quarter.ensures c.turn.ensures c.is_open.ensures c.if-is_open.false)
+    (seen_blocked grid c.args.at c.args.side c.args.d _ _ _ _ c.turn-eighth.ensures c.turn-quarter.ensures
+    c.turn.ensures c.is_open.ensures c.if-is_open.false)
 
 pub returns-clause-eighth : goal.returns-clause-eighth
 returns-clause-eighth g c =
@@ -30,4 +33,5 @@ returns-clause-eighth g c =
     let aside = c.is_open-aside.ensures ∙ ap (λ e. is_open grid c.args.at e) q in
     c.goes_between.ensures ∙ rw (c.requires.ahead, aside, c.turn-eighth.ensures)
     (eighth_past grid c.args.at c.requires.free c.args.side c.args.d c.requires.straight
-    (seen_blocked grid c.args.at c.args.side c.args.d _ _ _ _ c.turn-eighth.ensures c.turn-quarter.ensures c.turn.ensures c.is_open.ensures c.if-is_open.false))
+    (seen_blocked grid c.args.at c.args.side c.args.d _ _ _ _ c.turn-eighth.ensures c.turn-quarter.ensures
+    c.turn.ensures c.is_open.ensures c.if-is_open.false))

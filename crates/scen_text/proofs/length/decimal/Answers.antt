@@ -18,11 +18,17 @@ value_after-requires-2-clause-fits c =
     let whole = short_number 8 c.args.whole.now c.requires.whole in
     let kept = take c.min.result c.args.decimals.now in
     let few : length kept ≤ 10 = omega (arith, length-take c.min.result c.args.decimals.now, c.min.ensures) in
-    let bound = both-lt c.args.whole.now kept whole.1 whole.0 (digits_part c.args.decimals.now c.min.result c.requires.decimals) few in
+    let bound = both-lt c.args.whole.now kept whole.1 whole.0
+    (digits_part c.args.decimals.now c.min.result c.requires.decimals) few in
     rw c.value_after.ensures (omega (arith, bound))
 
 pub returns : goal.returns
 returns c =
-    let kept : take c.min.result c.args.decimals.now ≡ take 10 c.args.decimals.now = ap (λ (n : ℕ). take n c.args.decimals.now) (c.min.ensures ∙ min_flip (length c.args.decimals.now) 10) ∙ take_min 10 c.args.decimals.now in
-    let digits = c.value_after-2.ensures ∙ ap (λ (n : ℕ). digits_value_after 10 n (take c.min.result c.args.decimals.now)) c.value_after.ensures ∙ sym (after_append 0 c.args.whole.now (take c.min.result c.args.decimals.now)) in
+    let kept : take c.min.result c.args.decimals.now ≡ take 10 c.args.decimals.now
+    = ap (λ (n : ℕ). take n c.args.decimals.now)
+    (c.min.ensures ∙ min_flip (length c.args.decimals.now) 10) ∙ take_min 10 c.args.decimals.now in
+    let digits = c.value_after-2.ensures
+    ∙ ap (λ (n : ℕ). digits_value_after 10 n (take c.min.result c.args.decimals.now))
+    c.value_after.ensures ∙ sym (after_append 0 c.args.whole.now
+    (take c.min.result c.args.decimals.now)) in
     rw (digits, kept) refl

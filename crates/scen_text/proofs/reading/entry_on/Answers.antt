@@ -9,12 +9,17 @@ use Rattle.scen_text.proofs.reading.entry_on.Goals as goal
 pub returns-in_err-entry-in-Some-of : goal.returns-in_err-entry-in-Some-of
 returns-in_err-entry-in-Some-of c =
     let are = sym c.of-fields.ensures.fields ∙ c.in-Some.ensures.steps in
-    let is = line_words (line_at c.args.line) (placed c.in-Some.bucket) c.next.new.self (plain_words c.in-Some-of.words) are c.in-Some-of.ensures in
+    let is = line_words (line_at c.args.line) (placed c.in-Some.bucket) c.next.new.self
+    (plain_words c.in-Some-of.words) are c.in-Some-of.ensures in
     let p = err_from_is_err_and c.from_residual.result c.from_residual.ensures.1 in
     rw (p.1, p.2) (is.0 ∙ c.in_err-entry-in-Some-of.ensures)
 
 pub returns-in_ok-entry-in-Some-of : goal.returns-in_ok-entry-in-Some-of
 returns-in_ok-entry-in-Some-of c =
     let are = sym c.of-fields.ensures.fields ∙ c.in-Some.ensures.steps in
-    let is = line_words (line_at c.args.line) (placed c.in-Some.bucket) c.next.new.self (plain_words c.in-Some-of.words) are c.in-Some-of.ensures in
-    (is.0 ∙ c.in_ok-entry-in-Some-of.ensures.0, is.1 ∙ ap (λ (entry : Entry). entry ∷ []) (sym c.in_ok-entry-in-Some-of.ensures.1))
+    let is = line_words (line_at c.args.line) (placed c.in-Some.bucket) c.next.new.self
+    (plain_words c.in-Some-of.words) are c.in-Some-of.ensures in (
+      is.0 ∙ c.in_ok-entry-in-Some-of.ensures.0,
+      is.1
+          ∙ ap (λ (entry : Entry). entry ∷ []) (sym c.in_ok-entry-in-Some-of.ensures.1),
+    )

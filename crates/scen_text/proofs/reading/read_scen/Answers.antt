@@ -8,13 +8,16 @@ pub returns-clause-found : goal.returns-clause-found
 returns-clause-found c = tells_spelled c.args.text.now c.read.result c.read.ensures
 
 pub returns-clause-kept : goal.returns-clause-kept
-returns-clause-kept c = answer_kept c.args.text.now c.read.result (tells_spelled c.args.text.now c.read.result c.read.ensures)
+returns-clause-kept c =
+    answer_kept c.args.text.now c.read.result (tells_spelled c.args.text.now c.read.result c.read.ensures)
 
 pub returns-clause-only : goal.returns-clause-only
-returns-clause-only c = λ spelled s. subst (Tells c.read.result) (scen_of_spelled c.args.text.now spelled s) c.read.ensures
+returns-clause-only c =
+    λ spelled s. subst (Tells c.read.result) (scen_of_spelled c.args.text.now spelled s) c.read.ensures
 
 pub returns-clause-first : goal.returns-clause-first
 returns-clause-first c = tells_broken c.args.text.now c.read.result c.read.ensures
 
 pub returns-clause-broken : goal.returns-clause-broken
-returns-clause-broken c = λ fault first. subst (Tells c.read.result) (scen_of_broken c.args.text.now fault first) c.read.ensures
+returns-clause-broken c =
+    λ fault first. subst (Tells c.read.result) (scen_of_broken c.args.text.now fault first) c.read.ensures

@@ -4,15 +4,18 @@ use Rattle.text_line.proofs.numbers.value.Goals as goal
 
 pub overflow_mul-value : goal.overflow_mul-value
 overflow_mul-value c =
-    let more = value_of_more c.args.digits.now c.loop-digit.digit-index c.requires.digits c.loop-digit-test.true in
+    let more =
+    value_of_more c.args.digits.now c.loop-digit.digit-index c.requires.digits c.loop-digit-test.true in
     omega (arith, more, value_of_part c.args.digits.now (c.loop-digit.digit-index + 1))
 
 pub overflow_add-value : goal.overflow_add-value
 overflow_add-value c =
-    let more = value_of_more c.args.digits.now c.loop-digit.digit-index c.requires.digits c.loop-digit-test.true in
+    let more =
+    value_of_more c.args.digits.now c.loop-digit.digit-index c.requires.digits c.loop-digit-test.true in
     omega (arith, more, value_of_part c.args.digits.now (c.loop-digit.digit-index + 1))
 
 pub loop-digit-preserved : goal.loop-digit-preserved
 loop-digit-preserved c =
-    let more = value_of_more c.args.digits.now c.loop-digit.digit-index c.requires.digits c.loop-digit-test.true in
+    let more =
+    value_of_more c.args.digits.now c.loop-digit.digit-index c.requires.digits c.loop-digit-test.true in
     omega (arith, more)

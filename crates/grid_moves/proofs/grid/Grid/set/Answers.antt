@@ -5,6 +5,12 @@ use Rattle.grid_moves.proofs.grid.Grid.set.Goals as goal
 
 pub returns-clause-others : goal.returns-clause-others
 returns-clause-others c = λ d other.
-    let old : GridData = record { width = c.self.inside.width; height = c.self.inside.height; free = c.self.inside.cells.items } in
-    let inside : is_inside old c.args.c ≡ true = subst (λ (g : GridData). is_inside g c.args.c ≡ true) (sym c.self.view_is) c.requires in
+    let old : GridData = record {
+      width = c.self.inside.width;
+      height = c.self.inside.height;
+      free
+          = c.self.inside.cells.items;
+    } in
+    let inside : is_inside old c.args.c ≡ true =
+    subst (λ (g : GridData). is_inside g c.args.c ≡ true) (sym c.self.view_is) c.requires in
     rw (← c.self.view_is) (is_free-with_other old c.args.c d c.args.free inside other)

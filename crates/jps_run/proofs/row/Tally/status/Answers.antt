@@ -3,8 +3,8 @@ use Rattle.jps_run.proofs.row.Tally.status.Goals as goal
 use Rattle.jps_run.proofs.row.Tally.status.Goals.{else-self-eq0-via-then-self-eq0+else-self-eq0-2, else-self-eq0-via-else-self-eq0}
 
 pub returns-then-self-eq0-2 : goal.returns-then-self-eq0-2
-returns-then-self-eq0-2 c = λ rows e. status_right c.args.self.now rows e c.if-self-eq0.true
-    c.if-self-eq0-2.true
+returns-then-self-eq0-2 c =
+    λ rows e. status_right c.args.self.now rows e c.if-self-eq0.true c.if-self-eq0-2.true
 
 pub returns-else-self-eq0 : goal.returns-else-self-eq0
 returns-else-self-eq0 c = λ rows e. status_wrong c.args.self.now rows e (elim c.else-self-eq0.branch [

@@ -7,6 +7,25 @@ returns c =
     let name = placed c.in_ok-name.name in
     record {
       name = name ∷ [];
-      are = rw (c.in_ok-name.ensures.steps, c.in_ok-next.ensures.steps, c.in_ok-next-2.ensures.steps, c.in_ok-next-3.ensures.steps, c.in_ok-next-4.ensures.steps, c.in_ok-next-5.ensures.steps, c.in_ok-next-6.ensures.steps, c.in_ok-next-7.ensures.steps) refl;
-      spans = record { first = name; later = []; begins = refl; start = refl; earlier = []; last = name; ends = refl; end = refl };
+      are = rw (
+        c.in_ok-name.ensures.steps,
+        c.in_ok-next.ensures.steps,
+        c.in_ok-next-2.ensures.steps,
+        c.in_ok-next-3.ensures.steps,
+        c.in_ok-next-4.ensures.steps,
+        c.in_ok-next-5.ensures.steps,
+        c.in_ok-next-6.ensures.steps,
+        c.in_ok-next-7.ensures.steps,
+      ) refl;
+      spans = record {
+        first = name;
+        later = [];
+        begins = refl;
+        start = refl;
+        earlier = [];
+        last = name;
+        ends
+            = refl;
+        end = refl;
+      };
     }

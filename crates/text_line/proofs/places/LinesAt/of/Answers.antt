@@ -6,7 +6,8 @@ use Rattle.text_line.proofs.Placing.{room_of_pieces, bytes_of_lines}
 use Rattle.text_line.proofs.places.LinesAt.of.Goals as goal
 
 pub invariant_of-result : goal.invariant_of-result
-invariant_of-result c = omega (arith, room_of_pieces c.args.text.now, ap (λ (left : Left). room_of left.lines) c.of.ensures)
+invariant_of-result c =
+    omega (arith, room_of_pieces c.args.text.now, ap (λ (left : Left). room_of left.lines) c.of.ensures)
 
 pub returns-clause-bytes : goal.returns-clause-bytes
 returns-clause-bytes c =

@@ -18,19 +18,26 @@ loop-word-init c =
 pub returns-in_default : goal.returns-in_default
 returns-in_default c =
     let number = ap (λ (left : Left). left.number) c.self.view_is in
-    let is_wrong : settings_with c.args.allowed.now c.loop-word.settings (setting_of c.as_str.result.now) ≡ None = sym c.with.ensures ∙ c.in_default.is in
-    subst (λ (left : Left). HasWrongSetting c.args.allowed.now left c.loop-word.number) c.self.view_is (record {
+    let is_wrong : settings_with c.args.allowed.now c.loop-word.settings (setting_of c.as_str.result.now) ≡ None =
+    sym c.with.ensures ∙ c.in_default.is in
+    subst (λ (left : Left). HasWrongSetting c.args.allowed.now left c.loop-word.number)
+    c.self.view_is (record {
       place = c.loop-word.word-index;
       next = omega (arith, c.loop-word.invariant.next, number);
       inside = omega (arith, length-map c.self.inside.words.now string_bytes);
       right = c.loop-word.invariant.right;
-      wrong = rw is_wrong at (with_next c.args.allowed.now c.self.inside.words.now c.loop-word.word-index c.word-item.result c.as_str.result.now c.loop-word.settings
-          c.loop-word-test.true c.word-item.is c.as_str.ensures.value c.loop-word.invariant.right c.loop-word.invariant.choice);
+      wrong = rw is_wrong at (with_next c.args.allowed.now c.self.inside.words.now c.loop-word.word-index
+          c.word-item.result c.as_str.result.now c.loop-word.settings
+          c.loop-word-test.true c.word-item.is c.as_str.ensures.value c.loop-word.invariant.right
+          c.loop-word.invariant.choice);
     })
 
 pub loop-word-preserved : goal.loop-word-preserved
 loop-word-preserved c =
-    let is_right : settings_with c.args.allowed.now c.loop-word.settings (setting_of c.as_str.result.now) ≡ Some c.in-Some.more = sym c.with.ensures ∙ c.in-Some.is in
-    let both = rw is_right at (with_next c.args.allowed.now c.self.inside.words.now c.loop-word.word-index c.word-item.result c.as_str.result.now c.loop-word.settings
-    c.loop-word-test.true c.word-item.is c.as_str.ensures.value c.loop-word.invariant.right c.loop-word.invariant.choice) in
+    let is_right : settings_with c.args.allowed.now c.loop-word.settings (setting_of c.as_str.result.now) ≡ Some c.in-Some.more =
+    sym c.with.ensures ∙ c.in-Some.is in
+    let both = rw is_right at (with_next c.args.allowed.now c.self.inside.words.now c.loop-word.word-index
+    c.word-item.result c.as_str.result.now c.loop-word.settings
+    c.loop-word-test.true c.word-item.is c.as_str.ensures.value c.loop-word.invariant.right
+    c.loop-word.invariant.choice) in
     record { right = both.0; choice = both.1; next = omega (arith, c.loop-word.invariant.next) }
