@@ -52,7 +52,8 @@ fn is_legal_move<T: Terrain>(t: &T, from: Cell, to: Cell) -> bool
 /// The cell that the move leads to, exactly where the move is legal.
 pub fn step<T: Terrain>(t: &T, c: Cell, d: Dir) -> Option<Cell>
     ensures legal { result ≡ legal_ahead (T.grid t.now) c d }
-    ensures inside { IfSome result (λ v. cell_number (T.grid t.now).width v < (T.grid t.now).height * (T.grid t.now).width) }
+    ensures inside { IfSome result (λ v.
+        cell_number (T.grid t.now).width v < (T.grid t.now).height * (T.grid t.now).width) }
 {
     if c.x >= t.width() || c.y >= t.height() {
         return None;

@@ -54,7 +54,8 @@ pub fn read_whole<F: Files>(
 ) -> Result<Vec<u8>, ReadStop>
     requires { limit ≤ 2 ^ 30 }
     ensures whole { IfOk result (λ bytes. IsWhole (F.holds files.old name.now) limit bytes.items) }
-    ensures fault { result ≡ Err ReadStop.Fault → Rose (F.faults files.old name.now) (F.faults files.new name.now) }
+    ensures fault { result ≡ Err ReadStop.Fault
+        → Rose (F.faults files.old name.now) (F.faults files.new name.now) }
     ensures long { result ≡ Err ReadStop.TooLong → IsLonger (F.holds files.old name.now) limit }
     ensures complete { ¬ Rose (F.faults files.old name.now) (F.faults files.new name.now)
         → IfErr result (IsOtherStop (F.holds files.old name.now) limit) }

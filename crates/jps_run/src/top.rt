@@ -149,7 +149,8 @@ fn work<F: Files, O: Sink, L: Ledger>(
 
 // Writes the line of an ending to `err`.
 fn tell<E: Sink>(err: &mut E, line: &[u8])
-    ensures told { Gets (E.written err.old) (E.written err.new) (E.faults err.old) (E.faults err.new) line.now }
+    ensures told { Gets (E.written err.old) (E.written err.new) (E.faults err.old) (E.faults err.new)
+        line.now }
     ensures later { E.faults err.old ≤ E.faults err.new }
 {
     let _ = write_whole(err, line);

@@ -82,7 +82,8 @@ fn advance<T: Terrain, L: Ledger>(
     requires to { is_free (T.grid t.now) ends.to ≡ true }
     requires whole { IsGrid (T.grid t.now) }
     requires taken { HasTaken (T.grid t.now) ends.from ends.to at space.old.table taken.old }
-    requires open_ended { (n : _) → slice_get space.old.table.nodes at ≡ Some n → is_same n.cell ends.to ≡ false }
+    requires open_ended { (n : _) → slice_get space.old.table.nodes at ≡ Some n
+        → is_same n.cell ends.to ≡ false }
     ensures goes_on { IfOk result (GoesOn (T.grid t.now) ends.from ends.to space.new.table taken.new) }
     ensures one_more { IfOk result (λ next. IfSome next (λ id. length taken.new ≡ length taken.old + 1)) }
     ensures room { HasRoom (T.grid t.now) space.new }

@@ -36,7 +36,10 @@ impl Model for Workspace {
 
     ghost Value = { Space };
 
-    ghost view = { λ w. record { table = record { nodes = w.pool.nodes; open_at = w.pool.open_at; index = w.index.items }; spare = w.pool.spare } };
+    ghost view = { λ w. record {
+      table = record { nodes = w.pool.nodes; open_at = w.pool.open_at; index = w.index.items };
+      spare = w.pool.spare;
+    } };
 
     ghost invariant = { λ w. Unit {0} };
 }
@@ -254,7 +257,8 @@ impl Workspace {
         requires spare { 1 ≤ self.old.spare }
         requires made { AreMade goal self.old.table }
         ensures table { self.new.table
-            ≡ offered_over (if_open is_open (record { x = x; y = y })) (T.grid t.now).width goal id node self.old.table }
+            ≡ offered_over (if_open is_open (record { x = x; y = y })) (T.grid t.now).width goal id node
+            self.old.table }
         ensures index { length self.new.table.index ≡ length self.old.table.index }
         ensures spare { self.old.spare ≤ self.new.spare + 1 }
         ensures made { AreMade goal self.new.table }
@@ -312,7 +316,8 @@ impl Workspace {
         requires known { id < length self.old.table.nodes }
         requires few { length self.old.table.nodes < 2 ^ 27 }
         requires index { length self.old.table.index ≡ (T.grid t.now).height * (T.grid t.now).width }
-        requires short { (n : _) → slice_get self.old.table.nodes id ≡ Some n → (n.cost.a < 2 ^ 30) × (n.cost.b < 2 ^ 30) }
+        requires short { (n : _) → slice_get self.old.table.nodes id ≡ Some n
+            → (n.cost.a < 2 ^ 30) × (n.cost.b < 2 ^ 30) }
         requires free { (n : _) → slice_get self.old.table.nodes id ≡ Some n
             → is_free (T.grid t.now) n.cell ≡ true }
         requires made { AreMade goal self.old.table }

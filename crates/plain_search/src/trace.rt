@@ -33,7 +33,8 @@ fn parent_of(space: &Workspace, start: Cell, node: Node) -> Node
 
 // Appends a cell where the way turns.
 fn push_turn(points: &mut Points, before: Cell, at: Cell, next: Cell) -> Result<(), NoMemory>
-    ensures { OnOk result (points.new ≡ (if spec.goes_straight before at next then points.old else points.old ++ at ∷ [])) }
+    ensures { OnOk result (points.new ≡
+        (if spec.goes_straight before at next then points.old else points.old ++ at ∷ [])) }
 {
     if goes_straight(before, at, next) {
         Ok(())

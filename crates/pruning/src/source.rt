@@ -41,7 +41,8 @@ pub trait JumpSource {
     /// number, from 1, or `None` where the legal run ends first. The field says jump point.
     fn stop<L: Ledger>(&self, at: Cell, d: Dir, goal: Cell, steps: &mut Steps<L>) -> Option<u16>
         requires { (g : GridData) × StandsFor self.now g × IsTrue (is_free g at) × IsTrue (is_free g goal) }
-        ensures first { (g : GridData) → StandsFor self.now g → IsTrue (is_free g at) → IsTrue (is_free g goal)
+        ensures first { (g : GridData) → StandsFor self.now g → IsTrue (is_free g at)
+            → IsTrue (is_free g goal)
             → IsFirstStop g goal at d result }
         ensures most { AreAtMost (most self.now) (λ told. told.0) (steps.new - steps.old) }
         ensures fewest { steps.old + fewest self.now ≤ steps.new };

@@ -33,7 +33,8 @@ pub fn read_script(alloc: Global, text: &[u8]) -> Result<Vec<Command>, ScriptFau
     // A fault is that of the first line that breaks the grammar.
     ensures first { IfErr result (λ fault. fault ≢ NoMemory → BreaksFirst (pieces_of text.now) fault) }
     // Where a line breaks it first, its fault is answered, unless memory runs out.
-    ensures broken { (fault : ScriptFault) → BreaksFirst (pieces_of text.now) fault → Tells result (Err fault) }
+    ensures broken { (fault : ScriptFault) → BreaksFirst (pieces_of text.now) fault
+        → Tells result (Err fault) }
     // All of this as one function of the text.
     ensures exact { Tells result (script_of text.now) }
 {
