@@ -70,6 +70,20 @@ impl Session {
         }
     }
 
+    /// The map's width, in cells.
+    pub fn width(&self) -> u16
+        ensures { result ≡ self.now.width }
+    {
+        self.grid.width()
+    }
+
+    /// The map's height, in cells.
+    pub fn height(&self) -> u16
+        ensures { result ≡ self.now.height }
+    {
+        self.grid.height()
+    }
+
     /// Sets a cell free or blocked.
     ///
     /// `Outside` comes exactly where the cell lies outside, `Same` exactly where it is already as

@@ -94,7 +94,8 @@ module _ (g : GridData) (entries : List Entry) (before : Option (List ℕ)) (fau
       → ((rows : List Row) → tally ≡ tally_of rows → tally_now ≡ tally_of (rows ++ r ∷ []))
       → waiting_now ≡ waiting ++ row_line tally_now.rows r
       → IsJudging g entries (i + 1) before now faults faults_now waiting_now tally_now session_now
-  judged-more i now faults_now waiting waiting_now tally tally_now session session_now d r j h is same counts w =
+  judged-more i now faults_now waiting waiting_now tally tally_now session session_now d r j h is
+      same counts w =
       record {
         rows = j.rows ++ r ∷ [];
         are = subst (λ (part : List Entry). AreRows g part (j.rows ++ r ∷ [])) (sym (take-more entries i d h))

@@ -56,9 +56,11 @@ module _ {X Y : Type 0} (Stands : ℕ → X → Y → Type 0) where
       by_place : (k : ℕ) (u : X) (v : Y) → (slice_get xs k ≡ Some u) ⊎ ((k ≡ length xs) × (x ≡ u))
           → (slice_get ys k ≡ Some v) ⊎ ((k ≡ length ys) × (y ≡ v)) → Stands k u v
       by_place k u v (inl f) (inl s) = m.each k u v f s
-      by_place k u v (inl f) (inr s) = let w : k < length xs = slice_get_within xs k u f in let c : length ys ≡ length xs =
+      by_place k u v (inl f) (inr s) =
+          let w : k < length xs = slice_get_within xs k u f in let c : length ys ≡ length xs =
           m.count in let e : k ≡ length ys = s.0 in absurd (omega arith)
-      by_place k u v (inr f) (inl s) = let w : k < length ys = slice_get_within ys k v s in let c : length ys ≡ length xs =
+      by_place k u v (inr f) (inl s) =
+          let w : k < length ys = slice_get_within ys k v s in let c : length ys ≡ length xs =
           m.count in let e : k ≡ length xs = f.0 in absurd (omega arith)
       by_place k u v (inr f) (inr s) = subst (λ (n : ℕ). Stands n u v) (sym f.0)
           (subst (λ (p : X). Stands (length xs) p v) f.1 (subst (λ (p : Y). Stands (length xs) x p) s.1 h))

@@ -52,12 +52,12 @@ pub replied_unfolds : (g : GridData) (s t : Cell) (reply : Reply) → IsRight g 
 replied_unfolds g s t reply r = right_unfolds g s t (answer_of reply) r
 
 -- a line that was appended to nothing stands alone
-pub right_line : (g h : GridData) (s t : Cell) (show : Show) (answer : Answer) (line : List ℕ)
-    {before : List ℕ} → h ≡ g → IsRight h s t answer → before ≡ [] → AppendsLine show answer before line
-    → IsRightLine g s t show line
-right_line g h s t show answer line e r n a = record {
+pub right_line : (g : GridData) (s t : Cell) (show : Show) (answer : Answer) (line : List ℕ) {before : List ℕ}
+    → IsRight g s t answer → before ≡ [] → AppendsLine show answer before line → IsRightLine g s t show line
+right_line g s t show answer line r n a = record {
   answer = answer;
-  right = subst (λ (k : GridData). IsRight k s t answer) e r;
-  shown = subst (λ (l : List ℕ). IsLineOf show answer l)
+  right = r;
+  shown =
+      subst (λ (l : List ℕ). IsLineOf show answer l)
       (sym (a.appended ∙ ap (λ (b : List ℕ). b ++ a.line) n)) a.shown;
 }

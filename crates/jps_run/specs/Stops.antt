@@ -7,8 +7,10 @@ use Rattle.io_edge.specs.Told.{Held}
 use Rattle.io_edge.specs.Causes.{Rose}
 use Rattle.io_edge.specs.Whole.{IsWhole, IsLonger, AppendsSome}
 use Rattle.jps_run.specs.FaultLines.{long_line}
-use Rattle.jps_run.specs.Held.{longest_text}
-use Rattle.jps_run.specs.Outcome.{Outcome, IsOutcome, refused}
+use Rattle.grid_moves.specs.Grid.{GridData}
+use Rattle.map_text.specs.Map.{Map}
+use Rattle.jps_run.specs.Held.{longest_text, HoldsMap}
+use Rattle.jps_run.specs.Outcome.{Outcome, IsOutcome, map_grid, refused}
 use Rattle.jps_run.specs.Ending.{HasPart, HasLines, FileRose}
 use Rattle.jps_run.specs.declared.stop.Stop.{Stop}
 use Rattle.jps_run.specs.declared.stop.Stop.TheVariants.{Words, Text, Read, Write, Memory}
@@ -21,6 +23,12 @@ ReadsSo Spells Refuses faults faults_now (Err (Text line)) = Refuses line.items
 ReadsSo Spells Refuses faults faults_now (Err Read) = Rose faults faults_now
 ReadsSo Spells Refuses faults faults_now (Err Write) = ⊥
 ReadsSo Spells Refuses faults faults_now (Err Memory) = ⊤
+
+-- the grid is that of a map that the held file spells
+pub record StandsForHeld (held : Held) (g : GridData) : Type 0 where
+  pub map : Map
+  pub spelled : HoldsMap held map
+  pub grid : g ≡ map_grid map
 
 -- the text of a file is longer than the limit, and the line says so
 abbrev pub IsTooLong : List ℕ → Held → List ℕ → Type 0

@@ -18,22 +18,18 @@ use std::alloc::Global;
 use std::sync::ledger::Ledger;
 use steps::Steps;
 
-// The row of an entry, on the session's grid, which has these sides.
+// The row of an entry, on the session's grid.
 fn row_of<L: Ledger>(
     alloc: Global,
-    width: u16,
-    height: u16,
     session: &mut Session,
     entry: Entry,
     steps: &mut Steps<L>,
 ) -> Result<Row, NoMemory>
-    requires wide { width ≡ session.old.width }
-    requires high { height ≡ session.old.height }
-    requires kept { IsKept entry.length }
+    requires { IsKept entry.length }
     ensures row { IfOk result (IsRow session.old entry) }
     ensures grid { session.new ≡ session.old }
 {
-    if entry.w != u32::from(width) || entry.h != u32::from(height) {
+    if entry.w != u32::from(session.width()) || entry.h != u32::from(session.height()) {
         return Ok(Row::Scale);
     }
     match session.query(alloc, entry.sx, entry.sy, entry.gx, entry.gy, steps)? {
@@ -44,27 +40,23 @@ fn row_of<L: Ledger>(
     }
 }
 
-/// Judges the entries in order on the session's grid, which has these sides, and writes their rows
-/// and the sum; the status comes out.
+/// Judges the entries in order on the session's grid, and writes their rows and the sum; the status
+/// comes out.
 pub(crate) fn write_rows<O: Sink, L: Ledger>(
     alloc: Global,
-    width: u16,
-    height: u16,
     session: &mut Session,
     entries: &[Entry],
     out: &mut O,
     steps: &mut Steps<L>,
 ) -> Result<u8, Stop>
-    requires wide { width ≡ session.old.width }
-    requires high { height ≡ session.old.height }
-    requires kept { AreKept entries.now }
+    requires { AreKept entries.now }
     ensures { WritesLines (AreAllRows session.old entries.now) (AreFirstRows session.old entries.now)
         (O.written out.old) (O.written out.new) (O.faults out.old) (O.faults out.new) result }
 {
     let mut lines = Vec::new(alloc);
     let mut tally = Tally::new();
     for entry in entries {
-        let row = row_of(alloc, width, height, session, *entry, steps)?;
+        let row = row_of(alloc, session, *entry, steps)?;
         tally.count(row);
         put_row(&mut lines, tally.rows, row)?;
         send_full(out, &mut lines)?;

@@ -9,14 +9,13 @@ ghost use Rattle.jps_run.specs.Ending.{Comes, HasPart, HasLines, FileRose, Gets,
 ghost use Rattle.jps_run.specs.Stops.{HasWorked};
 
 use crate::faults::word_line;
-use crate::files::{read_map_file, read_scen_file, read_script_file};
-use crate::query::{Ends, engine_of, query_line};
+use crate::files::{read_scen_file, read_script_file};
+use crate::query::{Ends, open_session, query_line};
 use crate::scenario::write_rows;
 use crate::script::write_answers;
 use crate::sending::write_out;
 use crate::stop::Stop;
 use crate::texts::{help_text, version_text};
-use edit_replay::Session;
 use io_edge::{Files, Sink, Source, write_whole};
 use std::alloc::Global;
 use std::sync::ledger::Ledger;
@@ -40,8 +39,8 @@ fn query<F: Files, O: Sink, L: Ledger>(
         (O.written out.new) (O.faults out.old) (O.faults out.new) result }
     ensures unchanged { F.holds files.new ≡ F.holds files.old }
 {
-    let map = read_map_file(alloc, files, map)?;
-    let line = query_line(alloc, &map, ends, pick, show, steps)?;
+    let mut session = open_session(alloc, files, map, pick)?;
+    let line = query_line(alloc, &mut session, ends, show, steps)?;
     write_out(out, line.as_slice())?;
     Ok(0)
 }
@@ -61,9 +60,8 @@ fn solve<F: Files, O: Sink, L: Ledger>(
         (O.written out.new) (O.faults out.old) (O.faults out.new) result }
     ensures unchanged { F.holds files.new ≡ F.holds files.old }
 {
-    let map = read_map_file(alloc, files, map)?;
+    let mut session = open_session(alloc, files, map, pick)?;
     let commands = read_script_file(alloc, files, script)?;
-    let mut session = Session::new(alloc, &map, engine_of(pick))?;
     write_answers(alloc, &mut session, commands.as_slice(), out, steps)?;
     Ok(0)
 }
@@ -83,18 +81,9 @@ fn judge<F: Files, O: Sink, L: Ledger>(
         (O.written out.new) (O.faults out.old) (O.faults out.new) result }
     ensures unchanged { F.holds files.new ≡ F.holds files.old }
 {
-    let map = read_map_file(alloc, files, map)?;
+    let mut session = open_session(alloc, files, map, pick)?;
     let entries = read_scen_file(alloc, files, scen)?;
-    let mut session = Session::new(alloc, &map, engine_of(pick))?;
-    write_rows(
-        alloc,
-        map.width,
-        map.height,
-        &mut session,
-        entries.as_slice(),
-        out,
-        steps,
-    )
+    write_rows(alloc, &mut session, entries.as_slice(), out, steps)
 }
 
 // Does what the words ask for, and gives the status.

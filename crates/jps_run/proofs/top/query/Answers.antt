@@ -1,61 +1,64 @@
-use Rattle.std.proofs.Common.{◌≡◌, refl, subst, List, ℕ, ◌≤◌, arith}
-use Rattle.std.specs.Prelude.{Err}
-use Rattle.std.specs.Io.KnownBytes.{Appends}
-use Rattle.map_text.specs.Faults.{plain}
-use Rattle.map_text.specs.declared.map.MapText.{MapText}
+use Rattle.std.proofs.Common.{◌≡◌, refl, ◌≤◌, arith}
 use Rattle.word_list.specs.Request.{Query}
-use Rattle.jps_run.specs.Held.{HoldsMap}
-use Rattle.jps_run.specs.Stops.{WritesSo}
-use Rattle.jps_run.proofs.Works.{worked-on, map-stops, text-stops, text-written, replied-outcome}
+use Rattle.jps_run.specs.Stops.{StandsForHeld}
+use Rattle.jps_run.proofs.Works.{map-stops, text-stops, text-written, replied-outcome}
 use Rattle.jps_run.proofs.top.query.Goals as goal
 
-pub returns-in_err-map-clause-worked : goal.returns-in_err-map-clause-worked
-returns-in_err-map-clause-worked g c = λ words a.
-    worked-on words (g.F.Files.holds c.args.files.now) (g.F.Files.faults c.args.files.now)
-    (g.F.Files.faults c.read_map_file.new.files) (g.O.Sink.written c.args.out.now)
-    (g.O.Sink.faults c.args.out.now) (g.O.Sink.written c.args.out.now) (g.O.Sink.faults c.args.out.now)
-    c.from_residual.result c.in_err-map.field-0.0 c.from_residual.ensures.0 c.from_residual.ensures.1
-    (map-stops words (g.F.Files.holds c.args.files.now) (g.F.Files.faults c.args.files.now)
-    (g.F.Files.faults c.read_map_file.new.files) (g.O.Sink.written c.args.out.now)
-    (g.O.Sink.faults c.args.out.now)
-    (λ (m : MapText). HoldsMap (g.F.Files.holds c.args.files.now c.args.map.now) (plain m))
+pub returns-in_err-session-clause-worked : goal.returns-in_err-session-clause-worked
+returns-in_err-session-clause-worked g c = λ words a.
+    let holds = g.F.Files.holds c.args.files.now in
+    let files = g.F.Files.faults c.args.files.now in
+    let files_now = g.F.Files.faults c.open_session.new.files in
+    let before = g.O.Sink.written c.args.out.now in
+    let faults = g.O.Sink.faults c.args.out.now in
+    map-stops words holds files files_now before faults (StandsForHeld (holds c.args.map.now))
     (Query c.args.map.now c.args.ends.sx c.args.ends.sy c.args.ends.gx c.args.ends.gy c.args.pick
-    c.args.show) c.args.map.now c.in_err-map.field-0.0 a refl c.in_err-map.ensures.read)
+    c.args.show) c.args.map.now
+    c.from_residual.result c.in_err-session.field-0.0 a refl c.in_err-session.ensures.read
+    c.from_residual.ensures.1
 
 pub returns-in_err-write_out-clause-worked : goal.returns-in_err-write_out-clause-worked
 returns-in_err-write_out-clause-worked g c = λ words a.
-    worked-on words (g.F.Files.holds c.args.files.now) (g.F.Files.faults c.args.files.now)
-    (g.F.Files.faults c.read_map_file.new.files) (g.O.Sink.written c.args.out.now)
-    (g.O.Sink.faults c.args.out.now) (g.O.Sink.written c.write_out.new.out)
-    (g.O.Sink.faults c.write_out.new.out) c.from_residual-in_err-write_out.result
-    c.in_err-write_out.field-0.0 c.from_residual-in_err-write_out.ensures.0
-    c.from_residual-in_err-write_out.ensures.1
-    (text-stops words (g.F.Files.holds c.args.files.now) (g.F.Files.faults c.args.files.now)
-    (g.F.Files.faults c.read_map_file.new.files) (g.O.Sink.written c.args.out.now)
-    (g.O.Sink.faults c.args.out.now) (g.O.Sink.written c.write_out.new.out)
-    (g.O.Sink.faults c.write_out.new.out) 0 c.in_ok-line.line.items c.in_err-write_out.field-0.0
-    (replied-outcome words (g.F.Files.holds c.args.files.now) (plain c.in_ok-map.map) c.args.map.now
-    c.args.ends.sx c.args.ends.sy c.args.ends.gx c.args.ends.gy c.args.pick c.args.show
-    c.in_ok-line.line.items
-    (record { ask = a; name = c.args.map.now; named = refl; held = c.in_ok-map.ensures.read })
-    c.in_ok-line.ensures)
-    (omega arith)
-    (subst (λ (bytes : List ℕ). WritesSo (g.O.Sink.written c.args.out.now)
-    (g.O.Sink.written c.write_out.new.out) (g.O.Sink.faults c.args.out.now)
-    (g.O.Sink.faults c.write_out.new.out) bytes (Err c.in_err-write_out.field-0.0))
-    c.as_slice.ensures.value c.in_err-write_out.ensures.wrote))
+    let holds = g.F.Files.holds c.args.files.now in
+    let files = g.F.Files.faults c.args.files.now in
+    let files_now = g.F.Files.faults c.open_session.new.files in
+    let before = g.O.Sink.written c.args.out.now in
+    let faults = g.O.Sink.faults c.args.out.now in
+    let is = replied-outcome words holds c.in_ok-session.ensures.read.map c.args.map.now c.args.ends.sx
+    c.args.ends.sy c.args.ends.gx c.args.ends.gy c.args.pick
+    c.args.show c.in_ok-line.line.items c.in_ok-session.session
+    (record {
+      ask = a;
+      name = c.args.map.now;
+      named = refl;
+      held
+          = c.in_ok-session.ensures.read.spelled;
+    }) c.in_ok-session.ensures.read.grid
+    c.in_ok-line.ensures in
+    text-stops words holds files files_now before faults (g.O.Sink.written c.write_out.new.out)
+    (g.O.Sink.faults c.write_out.new.out) 0
+    c.in_ok-line.line.items c.as_slice.result.now c.from_residual-in_err-write_out.result
+    c.in_err-write_out.field-0.0 is (omega arith)
+    c.as_slice.ensures.value c.in_err-write_out.ensures.wrote c.from_residual-in_err-write_out.ensures.1
 
 pub returns-clause-worked : goal.returns-clause-worked
 returns-clause-worked g c = λ words a.
-    text-written words (g.F.Files.holds c.args.files.now) (g.F.Files.faults c.args.files.now)
-    (g.F.Files.faults c.read_map_file.new.files) (g.O.Sink.written c.args.out.now)
-    (g.O.Sink.faults c.args.out.now) (g.O.Sink.written c.write_out.new.out) 0 c.in_ok-line.line.items
-    (replied-outcome words (g.F.Files.holds c.args.files.now) (plain c.in_ok-map.map) c.args.map.now
-    c.args.ends.sx c.args.ends.sy c.args.ends.gx c.args.ends.gy c.args.pick c.args.show
-    c.in_ok-line.line.items
-    (record { ask = a; name = c.args.map.now; named = refl; held = c.in_ok-map.ensures.read })
-    c.in_ok-line.ensures)
-    (omega arith)
-    (subst (λ (bytes : List ℕ). Appends (g.O.Sink.written c.args.out.now)
-    (g.O.Sink.written c.write_out.new.out) bytes) c.as_slice.ensures.value
-    c.in_ok-write_out.ensures.wrote)
+    let holds = g.F.Files.holds c.args.files.now in
+    let files = g.F.Files.faults c.args.files.now in
+    let files_now = g.F.Files.faults c.open_session.new.files in
+    let before = g.O.Sink.written c.args.out.now in
+    let faults = g.O.Sink.faults c.args.out.now in
+    let is = replied-outcome words holds c.in_ok-session.ensures.read.map c.args.map.now c.args.ends.sx
+    c.args.ends.sy c.args.ends.gx c.args.ends.gy c.args.pick
+    c.args.show c.in_ok-line.line.items c.in_ok-session.session
+    (record {
+      ask = a;
+      name = c.args.map.now;
+      named = refl;
+      held
+          = c.in_ok-session.ensures.read.spelled;
+    }) c.in_ok-session.ensures.read.grid
+    c.in_ok-line.ensures in
+    text-written words holds files files_now before faults (g.O.Sink.written c.write_out.new.out) 0
+    c.in_ok-line.line.items c.as_slice.result.now is
+    (omega arith) c.as_slice.ensures.value c.in_ok-write_out.ensures.wrote
