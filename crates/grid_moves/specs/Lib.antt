@@ -1,4 +1,7 @@
 pub mod Grid
+pub mod Examples
+pub mod Layers
+pub mod Least
 pub mod Move
 pub mod Walk
 pub mod Points
