@@ -6,7 +6,7 @@ use Rattle.grid_moves.specs.Grid.{GridData}
 use Rattle.pruning.specs.declared.turns.Side.{Side}
 use Rattle.pruning.specs.Turns.{turn, is_diagonal}
 use Rattle.pruning.specs.Marked.{run_end, HoldsOnRun, IsMarked}
-use Rattle.pruning.specs.Least.{FindsLeast}
+use Rattle.grid_moves.specs.Least.{FindsLeast}
 
 -- a jump in d stops at this cell: it is the goal, or marked for d, or d is diagonal and the goal lies on
 -- the legal run from the cell in a component
