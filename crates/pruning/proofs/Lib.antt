@@ -4,3 +4,7 @@ pub mod Moves
 pub mod Bridging
 pub mod Kept
 pub mod Replacing
+pub mod Joining
+pub mod Smallest
+pub mod Law
+pub mod Explaining

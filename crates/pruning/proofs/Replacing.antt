@@ -165,7 +165,7 @@ or_false false b h = h
 shut : (a b : Bool) → a ≡ true → (a && b) ≡ false → b ≡ false
 shut a b h k = rw h at k
 
-by_corner : {P : Type 0} (r : Corner) → (r ≡ Never → P) → (r ≡ One → P) → P
+pub by_corner : {P : Type 0} (r : Corner) → (r ≡ Never → P) → (r ≡ One → P) → P
 by_corner Never f k = f refl
 by_corner One f k = k refl
 
@@ -184,7 +184,7 @@ module _ (r : Corner) (b : Dir → Bool) (d : Dir) (s : Side) where
       shut (is_diagonal d) _ k (rw e at h))
 
 -- both cells beside a legal diagonal move are open where no corner is cut
-sides_open : (g : GridData) (u v : Cell) (d : Dir) → Leads g u v d → is_diagonal d ≡ true → g.corner ≡ Never
+pub sides_open : (g : GridData) (u v : Cell) (d : Dir) → Leads g u v d → is_diagonal d ≡ true → g.corner ≡ Never
     → (s : Side) → is_open g u (turn s d) ≡ true
 sides_open g u v d l h e s = side s
   where
