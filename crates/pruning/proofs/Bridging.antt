@@ -11,9 +11,11 @@ use Rattle.grid_moves.specs.Grid.{GridData, is_free}
 use Rattle.grid_moves.specs.Move.{ahead, column_ahead, row_ahead, is_legal, is_passable, legal_ahead, move_cost}
 use Rattle.grid_moves.proofs.Ahead.{ahead_of}
 use Rattle.grid_moves.proofs.Legal.{legal_is, same_cell}
+use Rattle.pruning.specs.declared.Arrival.{Arrival}
 use Rattle.pruning.specs.declared.turns.Side.TheVariants.{Right, Left}
 use Rattle.pruning.specs.Turns.{turn, is_diagonal}
-use Rattle.pruning.specs.Allowed.{is_open, is_free_cell, can_move}
+use Rattle.pruning.specs.Allowed.{is_open, is_free_cell, is_blocked, can_move, is_kept}
+use Rattle.pruning.specs.Canonical.{IsAllowedMove}
 use Rattle.pruning.proofs.Places.{Place, move, columns, rows}
 use Rattle.pruning.proofs.Table.{same_place, by_parity}
 use Rattle.pruning.proofs.Moves.{can_move-straight, can_move-diagonal}
@@ -226,3 +228,11 @@ cost_there d u v h = subst (λ (o : Option Cell). IsPriced u o (dir_cost d)) h (
     by_dir zero y NW = tt
     by_dir (suc x) zero NW = tt
     by_dir (suc x) (suc y) NW = across (suc x) (suc y) x y (λ e. omega arith) (λ e. omega arith)
+
+-- what an allowed move leads to
+pub allowed_leads : (g : GridData) (by : Arrival) (u v : Cell) (d : Dir) → IsAllowedMove g by u v d
+    → Leads g u v d
+allowed_leads g by u v d m =
+    let can = two_true (is_kept g.corner (is_blocked g u) by d) (can_move g u d) m.allowed in
+    let l = leads_from g u d can.1 in
+    subst (λ (c : Cell). Leads g u c d) (one_of l.0 v (sym l.1.ahead_is ∙ m.leads)) l.1

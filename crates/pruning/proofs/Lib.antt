@@ -8,3 +8,9 @@ pub mod Joining
 pub mod Smallest
 pub mod Law
 pub mod Explaining
+pub mod Runs
+pub mod Firsts
+pub mod Stopping
+pub mod Chaining
+pub mod Running
+pub mod Unfolding

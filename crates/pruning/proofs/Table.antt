@@ -140,7 +140,7 @@ dir_at-number SW = refl
 dir_at-number W = refl
 dir_at-number NW = refl
 
-either_true : (a b : Bool) → (a || b) ≡ true → (a ≡ true) ⊎ (b ≡ true)
+pub either_true : (a b : Bool) → (a || b) ≡ true → (a ≡ true) ⊎ (b ≡ true)
 either_true true b h = inl refl
 either_true false b h = inr h
 

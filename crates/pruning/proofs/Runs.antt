@@ -1,0 +1,104 @@
+-- Legal runs: they end within the map.
+use Rattle.std.proofs.Common.{◌≡◌, ℕ, zero, suc, ◌+◌, ◌-◌, ◌<◌, ◌≤◌, arith, refl, ap, subst}
+use Rattle.std.specs.Prelude.{⊤, Option, Some, None, option_and_then}
+use Rattle.grid_moves.specs.declared.Cell.{Cell}
+use Rattle.grid_moves.specs.declared.Dir.{Dir}
+use Rattle.grid_moves.specs.declared.Dir.TheVariants.{N, NE, E, SE, S, SW, W, NW}
+use Rattle.grid_moves.specs.Grid.{GridData}
+use Rattle.grid_moves.specs.Move.{ahead, legal_ahead}
+use Rattle.grid_moves.proofs.Legal.{legal_is, free_inside}
+use Rattle.pruning.specs.Marked.{run_end}
+use Rattle.pruning.proofs.Bridging.{Leads, legal_leads, one_of}
+
+-- one move more at the end of a run
+pub run_end-next : (g : GridData) (d : Dir) (k : ℕ) (x v w : Cell) → run_end g d k x ≡ Some v
+    → legal_ahead g v d ≡ Some w → run_end g d (suc k) x ≡ Some w
+run_end-next g d zero x v w h l = rw (one_of x v h, l) refl
+run_end-next g d (suc k) x v w h l = by_cell (legal_ahead g x d) (λ y e. run_end-next g d k y v w e l) h
+  where
+    by_cell : (o : Option Cell)
+        → ((y : Cell) → run_end g d k y ≡ Some v → run_end g d (suc k) y ≡ Some w)
+        → option_and_then (λ y. run_end g d k y) o ≡ Some v
+        → option_and_then (λ y. run_end g d (suc k) y) o ≡ Some w
+    by_cell None next h = absurd (cc)
+    by_cell (Some y) next h = next y h
+
+-- what is left of the map in a direction
+abbrev room : GridData → Dir → Cell → ℕ
+room g N c = c.y
+room g NE c = c.y
+room g E c = g.width - c.x
+room g SE c = g.width - c.x
+room g S c = g.height - c.y
+room g SW c = c.x
+room g W c = c.x
+room g NW c = c.x
+
+abbrev IsNearer : GridData → Dir → Cell → Option Cell → Type 0
+IsNearer g d u None = ⊤
+IsNearer g d u (Some v) = v.x < g.width → v.y < g.height → room g d v < room g d u
+
+nearer : (g : GridData) (x y : ℕ) (d : Dir)
+    → IsNearer g d (record { x = x; y = y }) (ahead d (record { x = x; y = y }))
+nearer g x zero N = tt
+nearer g x (suc y) N = λ h k. omega arith
+nearer g x zero NE = tt
+nearer g x (suc y) NE = λ h k. omega arith
+nearer g x y E = λ h k. omega arith
+nearer g x y SE = λ h k. omega arith
+nearer g x y S = λ h k. omega arith
+nearer g zero y SW = tt
+nearer g (suc x) y SW = λ h k. omega arith
+nearer g zero y W = tt
+nearer g (suc x) y W = λ h k. omega arith
+nearer g zero y NW = tt
+nearer g (suc x) zero NW = tt
+nearer g (suc x) (suc y) NW = λ h k. omega arith
+
+-- a legal move leaves less room
+less_room : (g : GridData) (d : Dir) (u v : Cell) → Leads g u v d → room g d v < room g d u
+less_room g d u v l =
+    let inside = free_inside g v (legal_is g u v l.legal).target in
+    (subst (λ (o : Option Cell). IsNearer g d u o) l.ahead_is (nearer g u.x u.y d)) inside.0 inside.1
+
+-- so does a run, by its moves
+run_room : (g : GridData) (d : Dir) (k : ℕ) (x c : Cell) → run_end g d k x ≡ Some c
+    → room g d c + k ≤ room g d x
+run_room g d zero x c r =
+    let same : room g d x ≡ room g d c = ap (λ (v : Cell). room g d v) (one_of x c r) in omega arith
+run_room g d (suc k) x c r = by_cell (legal_ahead g x d) refl (λ v. run_room g d k v c) r
+  where
+    by_cell : (o : Option Cell) → legal_ahead g x d ≡ o
+        → ((v : Cell) → run_end g d k v ≡ Some c → room g d c + k ≤ room g d v)
+        → option_and_then (λ v. run_end g d k v) o ≡ Some c → room g d c + suc k ≤ room g d x
+    by_cell None e next h = absurd (cc)
+    by_cell (Some v) e next h =
+        let rest = next v h in
+        let less = less_room g d x v (legal_leads g x v d e) in
+        omega arith
+
+room_within : (g : GridData) (d : Dir) (c : Cell) → c.x < g.width → c.y < g.height
+    → room g d c ≤ g.width + g.height
+room_within g N c h k = omega arith
+room_within g NE c h k = omega arith
+room_within g E c h k = omega arith
+room_within g SE c h k = omega arith
+room_within g S c h k = omega arith
+room_within g SW c h k = omega arith
+room_within g W c h k = omega arith
+room_within g NW c h k = omega arith
+
+-- no run is longer than the sides together
+pub run_short : (g : GridData) (d : Dir) (k : ℕ) (x c : Cell) → run_end g d k x ≡ Some c
+    → k ≤ g.width + g.height
+run_short g d zero x c r = omega arith
+run_short g d (suc k) x c r = by_cell (legal_ahead g x d) refl r
+  where
+    by_cell : (o : Option Cell) → legal_ahead g x d ≡ o
+        → option_and_then (λ v. run_end g d k v) o ≡ Some c → suc k ≤ g.width + g.height
+    by_cell None e h = absurd (cc)
+    by_cell (Some v) e h =
+        let inside = free_inside g x (legal_is g x v (legal_leads g x v d e).legal).source in
+        let fits = room_within g d x inside.0 inside.1 in
+        let used = run_room g d (suc k) x c r in
+        omega arith
