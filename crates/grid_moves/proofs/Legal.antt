@@ -3,6 +3,8 @@ use Rattle.std.proofs.Common.{◌≡◌, ℕ, ◌+◌, ◌<◌, ◌≤◌, arith
 use Rattle.std.specs.Prelude.{nat_eq, nat_le, nat_lt}
 use Rattle.std.proofs.lemmas.Bool.Decides.{nat_tests}
 use Rattle.grid_moves.specs.declared.Cell.{Cell}
+use Rattle.grid_moves.specs.declared.Corner.{Corner}
+use Rattle.grid_moves.specs.declared.Corner.TheVariants.{Never, One}
 use Rattle.grid_moves.specs.Grid.{GridData, is_free, is_inside}
 use Rattle.grid_moves.specs.Move.{is_legal, is_same, are_near, are_neighbours, corner_of, is_passable}
 
@@ -19,6 +21,11 @@ pub record IsLegal (g : GridData) (u v : Cell) : Type 0 where
 pub and_both : (a b : Bool) → (a && b) ≡ true → (a ≡ true) × (b ≡ true)
 and_both true b e = (refl, e)
 and_both false b e = absurd (cc)
+
+-- between two free cells every rule lets a move pass
+pub passable-both : (rule : Corner) → is_passable rule true true ≡ true
+passable-both Never = refl
+passable-both One = refl
 
 -- what the test of neighbours says
 pub record AreNeighbours (u v : Cell) : Type 0 where

@@ -7,3 +7,4 @@ pub mod Walk
 pub mod Points
 pub mod Reply
 pub mod Laws
+pub mod Around

@@ -46,6 +46,32 @@ move_cost u v = if nat_eq u.x v.x || nat_eq u.y v.y then record { a = 1; b = 0 }
 abbrev pub all_dirs : List Dir
 all_dirs = N ∷ NE ∷ E ∷ SE ∷ S ∷ SW ∷ W ∷ NW ∷ []
 
+-- the place in this order, from 0
+abbrev pub dir_number : Dir → ℕ
+dir_number N = 0
+dir_number NE = 1
+dir_number E = 2
+dir_number SE = 3
+dir_number S = 4
+dir_number SW = 5
+dir_number W = 6
+dir_number NW = 7
+
+-- the directions are one
+abbrev pub is_dir : Dir → Dir → Bool
+is_dir d e = nat_eq (dir_number d) (dir_number e)
+
+-- the direction back
+abbrev pub opposite : Dir → Dir
+opposite N = S
+opposite NE = SW
+opposite E = W
+opposite SE = NW
+opposite S = N
+opposite SW = NE
+opposite W = E
+opposite NW = SE
+
 -- one less, if there is one
 abbrev pub before : ℕ → Option ℕ
 before zero = None
@@ -77,6 +103,19 @@ row_ahead NW y = before y
 abbrev pub ahead : Dir → Cell → Option Cell
 ahead d c = option_and_then (λ x. option_and_then (λ y. Some (record { x = x; y = y })) (row_ahead d c.y))
     (column_ahead d c.x)
+
+-- the cell behind, from which a move in this direction comes, if there is one
+abbrev pub behind : Dir → Cell → Option Cell
+behind d c = ahead (opposite d) c
+
+-- the cell is free, if there is one
+abbrev pub is_free_cell : GridData → Option Cell → Bool
+is_free_cell g None = false
+is_free_cell g (Some v) = is_free g v
+
+-- the cell ahead is free; what lies outside the map is blocked
+abbrev pub is_open : GridData → Cell → Dir → Bool
+is_open g c d = is_free_cell g (ahead d c)
 
 -- the cell ahead, where the move to it is legal
 abbrev pub legal_ahead : GridData → Cell → Dir → Option Cell

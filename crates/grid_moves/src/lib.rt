@@ -7,15 +7,17 @@
 //! walk, unfolding of points, right reply. They know lists of cells, moves and sums only.
 #![tactic(auto)]
 
+mod around;
 mod grid;
 pub mod laws;
 mod moves;
 mod terrain;
 
+pub use around::Around;
 pub use grid::{Grid, ground_of};
-pub use moves::{estimate, move_cost};
+pub use moves::{cell_ahead, cell_behind, dir_number, estimate, move_cost, opposite};
 pub use std::alloc::AllocError as NoMemory;
-pub use terrain::{Terrain, number_of, step};
+pub use terrain::{Terrain, is_legal, is_open, is_passable, number_of, step};
 
 /// A cell: its column `x`, counted to the right, and its row `y`, counted downwards, both from 0.
 #[derive(Clone, Copy, Debug, PartialEq, Eq)]

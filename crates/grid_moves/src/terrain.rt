@@ -4,7 +4,7 @@ ghost use Rattle.std.specs.Prelude.{◌≡◌, ◌+◌, ◌*◌, ◌<◌, ◌≤
 ghost use Rattle.grid_moves.specs.Grid.{GridData, IsGrid, is_free, cell_number};
 ghost use Rattle.grid_moves.specs.Move as spec;
 
-use crate::moves::{column_ahead, row_ahead};
+use crate::moves::cell_ahead;
 use crate::{Cell, Corner, Dir};
 
 /// A grid as a search sees it: sides of 1 to 4096 cells, a corner rule, and which cells are free.
@@ -50,8 +50,20 @@ pub fn is_passable(rule: Corner, one: bool, other: bool) -> bool
     }
 }
 
-// Whether the move is legal.
-fn is_legal_move<T: Terrain>(t: &T, from: Cell, to: Cell) -> bool
+/// Whether the cell ahead is free; what lies outside the map is blocked.
+pub fn is_open<T: Terrain>(t: &T, c: Cell, d: Dir) -> bool
+    requires column { c.x < 65535 }
+    requires row { c.y < 65535 }
+    ensures { result ≡ spec.is_open (T.grid t.now) c d }
+{
+    match cell_ahead(d, c) {
+        Some(v) => t.free(v),
+        None => false,
+    }
+}
+
+/// Whether the move is legal.
+pub fn is_legal<T: Terrain>(t: &T, from: Cell, to: Cell) -> bool
     ensures { result ≡ spec.is_legal (T.grid t.now) from to }
 {
     let beside = Cell { x: from.x, y: to.y };
@@ -73,12 +85,6 @@ pub fn step<T: Terrain>(t: &T, c: Cell, d: Dir) -> Option<Cell>
     if c.x >= t.width() || c.y >= t.height() {
         return None;
     }
-    let x = column_ahead(d, c.x)?;
-    let y = row_ahead(d, c.y)?;
-    let to = Cell { x, y };
-    if is_legal_move(t, c, to) {
-        Some(to)
-    } else {
-        None
-    }
+    let to = cell_ahead(d, c)?;
+    if is_legal(t, c, to) { Some(to) } else { None }
 }

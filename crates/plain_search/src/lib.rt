@@ -1,7 +1,6 @@
 //! Least walks by plain A*, without pruning.
 #![tactic(auto)]
 
-mod around;
 mod node;
 mod search;
 mod space;
