@@ -8,13 +8,13 @@ use Rattle.grid_moves.specs.declared.Cell.{Cell}
 use Rattle.grid_moves.specs.declared.Dir.{Dir}
 use Rattle.grid_moves.specs.declared.Dir.TheVariants.{N, NE, E, SE, S, SW, W, NW}
 use Rattle.grid_moves.specs.Grid.{GridData, is_free}
-use Rattle.grid_moves.specs.Move.{ahead, column_ahead, row_ahead, is_legal, is_passable, legal_ahead, move_cost}
+use Rattle.grid_moves.specs.Move.{ahead, column_ahead, row_ahead, is_legal, is_passable, legal_ahead, move_cost, is_open, is_free_cell}
 use Rattle.grid_moves.proofs.Ahead.{ahead_of}
-use Rattle.grid_moves.proofs.Legal.{legal_is, same_cell}
+use Rattle.grid_moves.proofs.Legal.{and_both, legal_is, same_cell}
 use Rattle.pruning.specs.declared.Arrival.{Arrival}
 use Rattle.pruning.specs.declared.turns.Side.TheVariants.{Right, Left}
 use Rattle.pruning.specs.Turns.{turn, is_diagonal}
-use Rattle.pruning.specs.Allowed.{is_open, is_free_cell, is_blocked, can_move, is_kept}
+use Rattle.pruning.specs.Allowed.{is_blocked, can_move, is_kept}
 use Rattle.pruning.specs.Canonical.{IsAllowedMove}
 use Rattle.pruning.proofs.Places.{Place, move, columns, rows}
 use Rattle.pruning.proofs.Table.{same_place, by_parity}
@@ -157,11 +157,8 @@ abbrev pub Passes : GridData → Cell → Dir → Type 0
 Passes g u d = is_diagonal d ≡ true
     → is_passable g.corner (is_open g u (turn Left d)) (is_open g u (turn Right d)) ≡ true
 
-two_true : (a b : Bool) → (a && b) ≡ true → (a ≡ true) × (b ≡ true)
-two_true a b h = (grind arith, grind arith)
-
 pub leads_passes : (g : GridData) (u v : Cell) (d : Dir) → Leads g u v d → Passes g u d
-leads_passes g u v d l h = (two_true (is_open g u d) _
+leads_passes g u v d l h = (and_both (is_open g u d) _
     (sym (can_move-diagonal g u d (legal_is g u v l.legal).source h) ∙ leads_can g u v d l)).1
 
 -- a move between free cells that passes is legal
@@ -233,6 +230,6 @@ cost_there d u v h = subst (λ (o : Option Cell). IsPriced u o (dir_cost d)) h (
 pub allowed_leads : (g : GridData) (by : Arrival) (u v : Cell) (d : Dir) → IsAllowedMove g by u v d
     → Leads g u v d
 allowed_leads g by u v d m =
-    let can = two_true (is_kept g.corner (is_blocked g u) by d) (can_move g u d) m.allowed in
+    let can = and_both (is_kept g.corner (is_blocked g u) by d) (can_move g u d) m.allowed in
     let l = leads_from g u d can.1 in
     subst (λ (c : Cell). Leads g u c d) (one_of l.0 v (sym l.1.ahead_is ∙ m.leads)) l.1

@@ -5,12 +5,13 @@ use Rattle.grid_moves.specs.declared.Corner.{Corner}
 use Rattle.grid_moves.specs.declared.Corner.TheVariants.{Never, One}
 use Rattle.grid_moves.specs.declared.Dir.{Dir}
 use Rattle.grid_moves.specs.Grid.{GridData, is_free}
-use Rattle.grid_moves.proofs.Legal.{legal_is}
+use Rattle.grid_moves.proofs.Legal.{and_both, legal_is}
+use Rattle.grid_moves.specs.Move.{is_open}
 use Rattle.pruning.specs.declared.Arrival.TheVariants.{By}
 use Rattle.pruning.specs.declared.turns.Side.{Side}
 use Rattle.pruning.specs.declared.turns.Side.TheVariants.{Right, Left}
-use Rattle.pruning.specs.Turns.{turn, quarter, behind, is_diagonal}
-use Rattle.pruning.specs.Allowed.{is_open, is_blocked, can_move, keeps_eighth, keeps_quarter, is_kept}
+use Rattle.pruning.specs.Turns.{turn, quarter, rear, is_diagonal}
+use Rattle.pruning.specs.Allowed.{is_blocked, can_move, keeps_eighth, keeps_quarter, is_kept}
 use Rattle.pruning.specs.Marked.{is_forced_on, is_forced, IsMarked, forces}
 use Rattle.pruning.specs.Facts.{IsExplained, same, component, turns, TurnsAreMarked}
 use Rattle.pruning.proofs.Table.{Turned, turned, ahead, eighth, side, back, about, turn_parity, quarter_parity, by_parity}
@@ -18,9 +19,6 @@ use Rattle.pruning.proofs.Moves.{can_move-straight}
 use Rattle.pruning.proofs.Bridging.{leads_from}
 use Rattle.pruning.proofs.Kept.{kept-eighth, kept-quarter, kept-back, kept-about}
 use Rattle.pruning.proofs.Replacing.{by_corner, sides_open}
-
-two_true : (a b : Bool) → (a && b) ≡ true → (a ≡ true) × (b ≡ true)
-two_true a b h = (grind arith, grind arith)
 
 or_true : (a b : Bool) → a ≡ false → (a || b) ≡ true → b ≡ true
 or_true a b h k = rw h at k
@@ -30,15 +28,15 @@ module _ (r : Corner) (b can : Dir → Bool) (d : Dir) (s : Side) where
   forced-quarter : keeps_quarter r b d s ≡ true → can (quarter s d) ≡ true
       → is_forced_on r b can d s ≡ true
   forced-quarter k m = by_corner r
-      (λ e. let both = two_true (not (is_diagonal d)) (b (behind s d)) (rw e at k) in
+      (λ e. let both = and_both (not (is_diagonal d)) (b (rear s d)) (rw e at k) in
       rw (e, both.0, both.1, m) refl)
-      (λ e. let both = two_true (is_diagonal d) (b (behind s d)) (rw e at k) in rw (e, both.0, both.1, m) refl)
+      (λ e. let both = and_both (is_diagonal d) (b (rear s d)) (rw e at k) in rw (e, both.0, both.1, m) refl)
 
   -- so is an eighth after a straight move, where with it the quarter is legal if no corner is cut
   forced-eighth : is_diagonal d ≡ false → keeps_eighth r b d s ≡ true → can (turn s d) ≡ true
       → (r ≡ Never → can (quarter s d) ≡ true) → is_forced_on r b can d s ≡ true
   forced-eighth h k m n = by_corner r
-      (λ e. rw (e, h, or_true (is_diagonal d) (b (behind s d)) h (rw e at k), n e) refl)
+      (λ e. rw (e, h, or_true (is_diagonal d) (b (rear s d)) h (rw e at k), n e) refl)
       (λ e. rw (e, h, or_true (is_diagonal d) (b (quarter s d)) h (rw e at k), m) refl)
 
 module _ (g : GridData) (x : Cell) (d : Dir) where
@@ -69,5 +67,5 @@ module _ (g : GridData) (x : Cell) (d : Dir) where
 
 pub turns_are_marked : TurnsAreMarked
 turns_are_marked g x d e h =
-    let both = two_true (is_kept g.corner (is_blocked g x) (By d) e) (can_move g x e) h in
+    let both = and_both (is_kept g.corner (is_blocked g x) (By d) e) (can_move g x e) h in
     by_turn g x d e (turned d e) both.0 both.1

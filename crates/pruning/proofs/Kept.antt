@@ -2,12 +2,12 @@
 use Rattle.std.proofs.Common.{◌≡◌, refl, Bool, true, false, not, ◌&&◌, ◌||◌, arith}
 use Rattle.grid_moves.specs.declared.Corner.{Corner}
 use Rattle.grid_moves.specs.declared.Dir.{Dir}
+use Rattle.grid_moves.specs.Move.{is_dir, opposite}
 use Rattle.pruning.specs.declared.Arrival.TheVariants.{By}
 use Rattle.pruning.specs.declared.turns.Side.{Side}
 use Rattle.pruning.specs.declared.turns.Side.TheVariants.{Right, Left}
-use Rattle.pruning.specs.Turns.{turn, quarter, behind, is_dir}
+use Rattle.pruning.specs.Turns.{turn, quarter, rear}
 use Rattle.pruning.specs.Allowed.{keeps_eighth, keeps_quarter, is_kept}
-use Rattle.pruning.proofs.Places.{opposite}
 use Rattle.pruning.proofs.Table.{each_dir, each_side, at_dir, at_both}
 
 not_true : (b : Bool) → not b ≡ true → b ≡ false
@@ -68,12 +68,12 @@ module _ (r : Corner) (blocked : Dir → Bool) where
       → is_kept r blocked (By d) e ≡ false
   not_kept d e h i j k l = rw (h, i, j, k, l) refl
 
-  pub kept-back : (s : Side) (d : Dir) → is_kept r blocked (By d) (behind s d) ≡ false
-  kept-back s d = not_kept d (behind s d) (never (λ s d. is_dir (behind s d) d) refl)
-      (never (λ s d. is_dir (behind s d) (turn Right d)) refl)
-      (never (λ s d. is_dir (behind s d) (quarter Right d)) refl)
-      (never (λ s d. is_dir (behind s d) (turn Left d)) refl)
-      (never (λ s d. is_dir (behind s d) (quarter Left d)) refl)
+  pub kept-back : (s : Side) (d : Dir) → is_kept r blocked (By d) (rear s d) ≡ false
+  kept-back s d = not_kept d (rear s d) (never (λ s d. is_dir (rear s d) d) refl)
+      (never (λ s d. is_dir (rear s d) (turn Right d)) refl)
+      (never (λ s d. is_dir (rear s d) (quarter Right d)) refl)
+      (never (λ s d. is_dir (rear s d) (turn Left d)) refl)
+      (never (λ s d. is_dir (rear s d) (quarter Left d)) refl)
     where
       never : (test : Side → Dir → Bool)
           → each_side (λ s. each_dir (λ d. not (test s d))) ≡ true → test s d ≡ false

@@ -9,6 +9,7 @@ use Rattle.grid_moves.specs.declared.Dir.{Dir}
 use Rattle.grid_moves.specs.Grid.{GridData}
 use Rattle.grid_moves.specs.Move.{is_legal, move_cost}
 use Rattle.grid_moves.specs.Walk.{is_walk, cost_of, last_of}
+use Rattle.grid_moves.proofs.Legal.{and_both}
 use Rattle.pruning.specs.declared.Arrival.TheVariants.{Start, By}
 use Rattle.pruning.specs.Allowed.{is_allowed}
 use Rattle.pruning.specs.Canonical.{FollowsRule, IsCanonicalWalk}
@@ -49,9 +50,6 @@ module _ (replaced : TurnsAreReplaced) (g : GridData) where
     smaller = IsSmaller-cons u v b.instead cells b.smaller;
   }
 
-  two_true : (a b : Bool) → (a && b) ≡ true → (a ≡ true) × (b ≡ true)
-  two_true a b h = (grind arith, grind arith)
-
   -- a walk that begins with an allowed turn, or with one that is replaced
   by_turn : (u v w : Cell) (d e : Dir) (cells : List Cell) → Leads g u v d → Leads g v w e
       → is_walk g (w ∷ cells) ≡ true → FollowsRule g (By e) w cells
@@ -67,11 +65,11 @@ module _ (replaced : TurnsAreReplaced) (g : GridData) where
       → FollowsRule g Start u cells ⊎ HasBetter g u (last_of u cells) cells
   improve [] u h = inl tt
   improve (v ∷ []) u h =
-      let l = leads_of g u v (two_true (is_legal g u v) _ h).0 in
+      let l = leads_of g u v (and_both (is_legal g u v) _ h).0 in
       inl (l.0, record { leads = l.1.ahead_is; allowed = leads_can g u v l.0 l.1 }, tt)
   improve (v ∷ w ∷ cells) u h =
-      let first = two_true (is_legal g u v) (is_walk g (v ∷ w ∷ cells)) h in
-      let rest = two_true (is_legal g v w) (is_walk g (w ∷ cells)) first.1 in
+      let first = and_both (is_legal g u v) (is_walk g (v ∷ w ∷ cells)) h in
+      let rest = and_both (is_legal g v w) (is_walk g (w ∷ cells)) first.1 in
       let l = leads_of g u v first.0 in
       elim (improve (w ∷ cells) v first.1) [
         | inl f ↦ by_turn u v w l.0 f.0 cells l.1 (record { ahead_is = f.1.leads; legal = rest.0 }) rest.1 f.2

@@ -8,10 +8,10 @@ use Rattle.grid_moves.specs.declared.Corner.TheVariants.{Never, One}
 use Rattle.grid_moves.specs.declared.Dir.{Dir}
 use Rattle.grid_moves.specs.declared.Dir.TheVariants.{N, NE, E, SE, S, SW, W, NW}
 use Rattle.grid_moves.specs.Grid.{GridData, is_free}
-use Rattle.grid_moves.specs.Move.{is_legal, are_neighbours, is_passable}
+use Rattle.grid_moves.specs.Move.{is_legal, are_neighbours, is_passable, is_open}
 use Rattle.pruning.specs.declared.turns.Side.TheVariants.{Right, Left}
 use Rattle.pruning.specs.Turns.{turn, is_diagonal}
-use Rattle.pruning.specs.Allowed.{is_open, can_move}
+use Rattle.pruning.specs.Allowed.{can_move}
 
 abbrev pub cell : ℕ → ℕ → Cell
 cell x y = record { x = x; y = y }

@@ -34,6 +34,3 @@ rows NW = negsuc 0
 
 abbrev pub move : Dir → Place → Place
 move d p = record { x = p.x +ℤ columns d; y = p.y +ℤ rows d }
-
-abbrev pub opposite : Dir → Dir
-opposite d = quarter Right (quarter Right d)

@@ -8,15 +8,15 @@ use Rattle.grid_moves.specs.declared.Corner.{Corner}
 use Rattle.grid_moves.specs.declared.Corner.TheVariants.{Never, One}
 use Rattle.grid_moves.specs.declared.Dir.{Dir}
 use Rattle.grid_moves.specs.Grid.{GridData, is_free}
-use Rattle.grid_moves.specs.Move.{is_passable, move_cost}
+use Rattle.grid_moves.specs.Move.{is_passable, move_cost, opposite, is_open}
 use Rattle.grid_moves.proofs.Legal.{legal_is}
 use Rattle.pruning.specs.declared.Arrival.TheVariants.{By}
 use Rattle.pruning.specs.declared.turns.Side.{Side}
 use Rattle.pruning.specs.declared.turns.Side.TheVariants.{Right, Left}
-use Rattle.pruning.specs.Turns.{turn, quarter, behind, is_diagonal}
-use Rattle.pruning.specs.Allowed.{is_open, is_blocked, keeps_eighth, keeps_quarter, is_kept, is_allowed}
+use Rattle.pruning.specs.Turns.{turn, quarter, rear, is_diagonal}
+use Rattle.pruning.specs.Allowed.{is_blocked, keeps_eighth, keeps_quarter, is_kept, is_allowed}
 use Rattle.pruning.specs.Facts.{HasBetter, shorter, straighter, earlier, TurnsAreReplaced}
-use Rattle.pruning.proofs.Places.{Place, move, opposite}
+use Rattle.pruning.proofs.Places.{Place, move}
 use Rattle.pruning.proofs.Table.{straight_back, straight_side, diagonal_back, diagonal_side, reversal, moved_both, Turned, turned, ahead, eighth, side, back, about, turn_parity, quarter_parity, turn_back, by_parity}
 use Rattle.pruning.proofs.Bridging.{place_of, free_place, open_there, one_cell, cell_there, dir_cost, cost_there, Leads, legal_leads, leads_can, leads_there, leads_passes, leads_over, Passes}
 use Rattle.pruning.proofs.Kept.{kept-on, kept-eighth, kept-quarter}
@@ -174,12 +174,12 @@ module _ (r : Corner) (b : Dir → Bool) (d : Dir) (s : Side) where
   component_kept h = by_corner r (λ e. rw (e, h) refl) (λ e. rw (e, h) refl)
 
   eighth_walls : keeps_eighth r b d s ≡ false
-      → (r ≡ Never → b (behind s d) ≡ false) × (r ≡ One → b (quarter s d) ≡ false)
+      → (r ≡ Never → b (rear s d) ≡ false) × (r ≡ One → b (quarter s d) ≡ false)
   eighth_walls h = (λ e. or_false (is_diagonal d) _ (rw e at h), λ e. or_false (is_diagonal d) _ (rw e at h))
 
   quarter_walls : keeps_quarter r b d s ≡ false
-      → (is_diagonal d ≡ false → r ≡ Never → b (behind s d) ≡ false)
-      × (is_diagonal d ≡ true → r ≡ One → b (behind s d) ≡ false)
+      → (is_diagonal d ≡ false → r ≡ Never → b (rear s d) ≡ false)
+      × (is_diagonal d ≡ true → r ≡ One → b (rear s d) ≡ false)
   quarter_walls h = (λ k e. shut (not (is_diagonal d)) _ (rw k refl) (rw e at h), λ k e.
       shut (is_diagonal d) _ k (rw e at h))
 
@@ -222,7 +222,7 @@ module _ (g : GridData) (u v w : Cell) (d : Dir) (l : Leads g u v d) where
       (λ e. sym (open_from g u v w d (turn s d) l m (quarter s d) (turn s d) aside)
       ∙ sides_open g v w (turn s d) m j e s)
       (λ e. seen (turn s d) m (quarter s d) (turn s d) aside (walls.1 e)))
-      (λ e. seen (turn s d) m (behind s d) (quarter s d) (straight_back s d (place_of u) h) (walls.0 e)))
+      (λ e. seen (turn s d) m (rear s d) (quarter s d) (straight_back s d (place_of u) h) (walls.0 e)))
   by_turn _ (side s) m k =
       let not_kept : keeps_quarter g.corner (is_blocked g v) d s ≡ false =
       sym (kept-quarter g.corner (is_blocked g v) s d) ∙ k in
@@ -230,21 +230,21 @@ module _ (g : GridData) (u v w : Cell) (d : Dir) (l : Leads g u v d) where
       by_parity d
       (λ h. halved g u v w d (quarter s d) l m s h (quarter_parity s d ∙ h) (diagonal_side s d (place_of u) h)
       (by_corner g.corner (λ e. sides_open g u v d l h e s)
-      (λ e. seen (quarter s d) m (behind s d) (turn s d) (diagonal_back s d (place_of u) h) (walls.1 h e))))
+      (λ e. seen (quarter s d) m (rear s d) (turn s d) (diagonal_back s d (place_of u) h) (walls.1 h e))))
       (λ h. cut g u v w d (quarter s d) l m s h (quarter_parity s d ∙ h) (straight_side s d (place_of u) h)
-      (λ e. seen (quarter s d) m (behind s d) (quarter s d) (straight_back s d (place_of u) h)
+      (λ e. seen (quarter s d) m (rear s d) (quarter s d) (straight_back s d (place_of u) h)
       (walls.0 h e)))
   by_turn _ (back s) m k = by_parity d
       (λ h.
       let f : is_diagonal (turn s d) ≡ false = turn_parity s d ∙ ap not h in
-      let j : is_diagonal (behind s d) ≡ false = turn_parity s (quarter s d) ∙ ap not
+      let j : is_diagonal (rear s d) ≡ false = turn_parity s (quarter s d) ∙ ap not
       (quarter_parity s d ∙ h) in
-      side_only g u v w d (behind s d) l m (turn s d) f (diagonal_back s d (place_of u) h)
+      side_only g u v w d (rear s d) l m (turn s d) f (diagonal_back s d (place_of u) h)
       (rw (f, h, j) refl))
       (λ h.
       let f : is_diagonal (quarter s d) ≡ false = quarter_parity s d ∙ h in
-      let j : is_diagonal (behind s d) ≡ true = turn_parity s (quarter s d) ∙ ap not f in
-      side_only g u v w d (behind s d) l m (quarter s d) f (straight_back s d (place_of u) h)
+      let j : is_diagonal (rear s d) ≡ true = turn_parity s (quarter s d) ∙ ap not f in
+      side_only g u v w d (rear s d) l m (quarter s d) f (straight_back s d (place_of u) h)
       (rw (f, h, j) refl))
   by_turn _ about m k = undone g u v w d (opposite d) l m
       (one_cell w u (sym (there g u v w d (opposite d) l m) ∙ reversal d (place_of u)))

@@ -6,7 +6,7 @@ use Rattle.grid_moves.specs.declared.Dir.{Dir}
 use Rattle.grid_moves.specs.Grid.{GridData}
 use Rattle.grid_moves.specs.Least.{FindsLeast}
 use Rattle.grid_moves.specs.Move.{is_same}
-use Rattle.grid_moves.proofs.Legal.{is_same-cell, is_same-itself}
+use Rattle.grid_moves.proofs.Legal.{and_both, is_same-cell, is_same-itself}
 use Rattle.pruning.specs.declared.turns.Side.{Side}
 use Rattle.pruning.specs.declared.turns.Side.TheVariants.{Right, Left}
 use Rattle.pruning.specs.Turns.{turn, is_diagonal}
@@ -16,9 +16,6 @@ use Rattle.pruning.specs.First.{holds_on_run, is_marked, is_stop, first_stop}
 use Rattle.pruning.specs.Laws.{MarksAreTold, StopsAreTold, FirstStopIsFirst, OneFirstStop}
 use Rattle.pruning.proofs.Table.{either_true}
 use Rattle.pruning.proofs.Firsts.{FindsLeast-once, FindsLeast-same, HoldsAfter, first_on_run-finds, on_run-sound, on_run-complete}
-
-two_true : (a b : Bool) → (a && b) ≡ true → (a ≡ true) × (b ≡ true)
-two_true a b h = (grind arith, grind arith)
 
 or_true : (a b : Bool) → b ≡ true → (a || b) ≡ true
 or_true a b h = grind arith
@@ -36,7 +33,7 @@ module _ (g : GridData) (d : Dir) (v : Cell) (test : Side → Cell → Bool) whe
 
   sees-sound : sees ≡ true → Sees
   sees-sound h =
-      let both = two_true (is_diagonal d) _ h in
+      let both = and_both (is_diagonal d) _ h in
       elim (either_true (holds_on_run g (turn Right d) (test Right) v) _ both.1) [
         | inl r ↦ record
             { diagonal = both.0; side = Right; run = on_run-sound g (turn Right d) (test Right) v r }

@@ -1,29 +1,21 @@
 -- Pruning: the directions in which a search goes on from a cell, by how it came there.
 -- Harabor and Grastien: AAAI 2011 where corners may be cut, SoCS 2012 where none is.
-use Rattle.std.specs.Prelude.{◌≡◌, Bool, true, false, not, ◌&&◌, ◌||◌, refl, List, [], ◌∷◌, filter, is_some, Option, Some, None}
+use Rattle.std.specs.Prelude.{◌≡◌, Bool, true, false, not, ◌&&◌, ◌||◌, refl, List, [], ◌∷◌, filter, is_some}
 use Rattle.grid_moves.specs.declared.Cell.{Cell}
 use Rattle.grid_moves.specs.declared.Corner.{Corner}
 use Rattle.grid_moves.specs.declared.Corner.TheVariants.{Never, One}
 use Rattle.grid_moves.specs.declared.Dir.{Dir}
 use Rattle.grid_moves.specs.declared.Dir.TheVariants.{E, SE, S, SW}
-use Rattle.grid_moves.specs.Grid.{GridData, is_free}
-use Rattle.grid_moves.specs.Move.{ahead, legal_ahead, all_dirs}
+use Rattle.grid_moves.specs.Grid.{GridData}
+use Rattle.grid_moves.specs.Move.{is_dir, is_open, legal_ahead, all_dirs}
 use Rattle.grid_moves.specs.Examples.{pillar}
 use Rattle.pruning.specs.declared.Arrival.{Arrival}
 use Rattle.pruning.specs.declared.Arrival.TheVariants.{Start, By}
 use Rattle.pruning.specs.declared.turns.Side.{Side}
 use Rattle.pruning.specs.declared.turns.Side.TheVariants.{Right, Left}
-use Rattle.pruning.specs.Turns.{turn, quarter, behind, is_diagonal, is_dir}
+use Rattle.pruning.specs.Turns.{turn, quarter, rear, is_diagonal}
 
--- the cell is free, if there is one
-abbrev pub is_free_cell : GridData → Option Cell → Bool
-is_free_cell g None = false
-is_free_cell g (Some v) = is_free g v
-
--- the cell ahead is free; what lies outside the map is blocked
-abbrev pub is_open : GridData → Cell → Dir → Bool
-is_open g x d = is_free_cell g (ahead d x)
-
+-- the cell ahead is blocked; what lies outside the map is
 abbrev pub is_blocked : GridData → Cell → Dir → Bool
 is_blocked g x d = not (is_open g x d)
 
@@ -37,14 +29,14 @@ can_move g x d = is_some (legal_ahead g x d)
 -- a turn by an eighth to that side: after a diagonal it is a component, and kept; after a straight move it is
 -- kept where the cell behind on that side is blocked, or, where a corner may be cut, the cell at that side
 abbrev pub keeps_eighth : Corner → (Dir → Bool) → Dir → Side → Bool
-keeps_eighth Never blocked d s = is_diagonal d || blocked (behind s d)
+keeps_eighth Never blocked d s = is_diagonal d || blocked (rear s d)
 keeps_eighth One blocked d s = is_diagonal d || blocked (quarter s d)
 
 -- a turn by a quarter to that side: where no corner is cut it is kept after a straight move, where one may be
 -- it is kept after a diagonal, and both where the cell behind on that side is blocked
 abbrev pub keeps_quarter : Corner → (Dir → Bool) → Dir → Side → Bool
-keeps_quarter Never blocked d s = not (is_diagonal d) && blocked (behind s d)
-keeps_quarter One blocked d s = is_diagonal d && blocked (behind s d)
+keeps_quarter Never blocked d s = not (is_diagonal d) && blocked (rear s d)
+keeps_quarter One blocked d s = is_diagonal d && blocked (rear s d)
 
 -- e is a turn to that side that is kept
 abbrev pub is_kept_aside : Corner → (Dir → Bool) → Dir → Dir → Side → Bool

@@ -11,7 +11,7 @@ use Rattle.grid_moves.specs.Move.{legal_ahead}
 use Rattle.grid_moves.specs.Examples.{pillar, notch}
 use Rattle.pruning.specs.declared.turns.Side.{Side}
 use Rattle.pruning.specs.declared.turns.Side.TheVariants.{Right, Left}
-use Rattle.pruning.specs.Turns.{turn, quarter, behind, is_diagonal}
+use Rattle.pruning.specs.Turns.{turn, quarter, rear, is_diagonal}
 use Rattle.pruning.specs.Allowed.{is_blocked, can_move}
 
 -- After a move in d a neighbour on this side is forced, told which cells around are blocked and which moves
@@ -19,8 +19,8 @@ use Rattle.pruning.specs.Allowed.{is_blocked, can_move}
 -- Where one may be: after a straight move, the cell half ahead, past a blocked one at that side; after a
 -- diagonal, the cell at that side, past a blocked one behind.
 abbrev pub is_forced_on : Corner → (Dir → Bool) → (Dir → Bool) → Dir → Side → Bool
-is_forced_on Never blocked can d s = not (is_diagonal d) && blocked (behind s d) && can (quarter s d)
-is_forced_on One blocked can d s = if is_diagonal d then blocked (behind s d) && can (quarter s d) else
+is_forced_on Never blocked can d s = not (is_diagonal d) && blocked (rear s d) && can (quarter s d)
+is_forced_on One blocked can d s = if is_diagonal d then blocked (rear s d) && can (quarter s d) else
     blocked (quarter s d) && can (turn s d)
 
 -- after a move in d some neighbour is forced

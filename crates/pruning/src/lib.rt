@@ -14,7 +14,7 @@ mod turns;
 use grid_moves::Dir;
 pub use rule::{allowed, forced};
 pub use source::JumpSource;
-pub use turns::{Side, behind, is_diagonal, quarter, turn};
+pub use turns::{Side, is_diagonal, quarter, rear, turn};
 
 /// How a search came to a cell.
 #[derive(Clone, Copy, Debug, PartialEq, Eq)]

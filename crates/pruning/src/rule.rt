@@ -23,34 +23,15 @@ ghost use Rattle.pruning.specs.Marked as marks;
 ghost use Rattle.pruning.specs.First as first;
 
 use crate::Arrival;
-use crate::turns::{Side, behind, is_diagonal, quarter, turn};
+use crate::turns::{Side, is_diagonal, quarter, rear, turn};
 use arrayvec::ArrayVec;
-use grid_moves::{ALL_DIRS, Cell, Corner, Dir, Terrain, step};
-
-// The cell ahead, if there is one.
-fn cell_ahead(c: Cell, d: Dir) -> Option<Cell>
-    requires column { c.x < 4096 }
-    requires row { c.y < 4096 }
-    ensures { result ≡ moves.ahead d c }
-{
-    let x = match d {
-        Dir::N | Dir::S => c.x,
-        Dir::NE | Dir::E | Dir::SE => c.x + 1,
-        Dir::SW | Dir::W | Dir::NW => c.x.checked_sub(1)?,
-    };
-    let y = match d {
-        Dir::E | Dir::W => c.y,
-        Dir::SE | Dir::S | Dir::SW => c.y + 1,
-        Dir::N | Dir::NE | Dir::NW => c.y.checked_sub(1)?,
-    };
-    Some(Cell { x, y })
-}
+use grid_moves::{ALL_DIRS, Cell, Corner, Dir, Terrain, dir_number, is_open, step};
 
 // Whether the directions are one.
 fn is_dir(d: Dir, e: Dir) -> bool
-    ensures { result ≡ turns.is_dir d e }
+    ensures { result ≡ moves.is_dir d e }
 {
-    d as u8 == e as u8
+    dir_number(d) == dir_number(e)
 }
 
 // Whether the cell beside this one is blocked; what lies outside the map is.
@@ -59,10 +40,7 @@ fn is_blocked<T: Terrain>(t: &T, at: Cell, d: Dir) -> bool
     requires whole { IsGrid (T.grid t.now) }
     ensures { result ≡ spec.is_blocked (T.grid t.now) at d }
 {
-    match cell_ahead(at, d) {
-        Some(v) => !t.free(v),
-        None => true,
-    }
+    !is_open(t, at, d)
 }
 
 // Whether the move is legal.
@@ -79,7 +57,7 @@ fn keeps_eighth<T: Terrain>(t: &T, at: Cell, d: Dir, side: Side) -> bool
     ensures { result ≡ spec.keeps_eighth (T.grid t.now).corner (spec.is_blocked (T.grid t.now) at) d side }
 {
     match t.corner() {
-        Corner::Never => is_diagonal(d) || is_blocked(t, at, behind(side, d)),
+        Corner::Never => is_diagonal(d) || is_blocked(t, at, rear(side, d)),
         Corner::One => is_diagonal(d) || is_blocked(t, at, quarter(side, d)),
     }
 }
@@ -91,8 +69,8 @@ fn keeps_quarter<T: Terrain>(t: &T, at: Cell, d: Dir, side: Side) -> bool
     ensures { result ≡ spec.keeps_quarter (T.grid t.now).corner (spec.is_blocked (T.grid t.now) at) d side }
 {
     match t.corner() {
-        Corner::Never => !is_diagonal(d) && is_blocked(t, at, behind(side, d)),
-        Corner::One => is_diagonal(d) && is_blocked(t, at, behind(side, d)),
+        Corner::Never => !is_diagonal(d) && is_blocked(t, at, rear(side, d)),
+        Corner::One => is_diagonal(d) && is_blocked(t, at, rear(side, d)),
     }
 }
 
@@ -164,11 +142,11 @@ fn is_forced_on<T: Terrain>(t: &T, at: Cell, d: Dir, side: Side) -> bool
     match t.corner() {
         Corner::Never => {
             !is_diagonal(d)
-                && is_blocked(t, at, behind(side, d))
+                && is_blocked(t, at, rear(side, d))
                 && can_move(t, at, quarter(side, d))
         }
         Corner::One if is_diagonal(d) => {
-            is_blocked(t, at, behind(side, d)) && can_move(t, at, quarter(side, d))
+            is_blocked(t, at, rear(side, d)) && can_move(t, at, quarter(side, d))
         }
         Corner::One => is_blocked(t, at, quarter(side, d)) && can_move(t, at, turn(side, d)),
     }

@@ -50,8 +50,8 @@ pub fn quarter(side: Side, d: Dir) -> Dir
 
 /// The direction half-way back, on that side. Of a straight direction it is the diagonal between its
 /// reverse and the side.
-pub fn behind(side: Side, d: Dir) -> Dir
-    ensures { result ≡ spec.behind side d }
+pub fn rear(side: Side, d: Dir) -> Dir
+    ensures { result ≡ spec.rear side d }
 {
     turn(side, quarter(side, d))
 }
