@@ -120,3 +120,23 @@ module _ (g : GridData) (d : Dir) (test : Cell → Bool) where
       by_answer None f = absurd (f (suc r.moves) r.moves r.some (omega arith)
           (record { cell = r.cell; reached = r.reached; holds = r.holds }))
       by_answer (Some m) f = refl
+
+  -- from cell to cell: where no move is legal none is found
+  pub first_on_run-none : (x : Cell) → legal_ahead g x d ≡ None → first_on_run g d test x ≡ None
+  first_on_run-none x e = FindsLeast-once (HoldsAfter x) 1 (first_on_run g d test x) None
+      (first_on_run-finds x) (λ n k i j h. nowhere x e k i h)
+
+  -- else the next cell, or one move more than from there
+  pub first_on_run-next : (x v : Cell) → legal_ahead g x d ≡ Some v
+      → first_on_run g d test x ≡ (if test v then Some 1 else option_map (λ k. suc k) (first_on_run g d test v))
+  first_on_run-next x v e = FindsLeast-once (HoldsAfter x) 1 (first_on_run g d test x) _ (first_on_run-finds x)
+      (at_last x _ (λ n. by_first n x v e (test v) refl (first_on_run g d test v)
+      (at_first n v (first_on_run g d test v) (first_on_run-finds v))))
+    where
+      at_first : (n : ℕ) (v : Cell) (a : Option ℕ) → FindsLeast (HoldsAfter v) 1 a → IsFound n v a
+      at_first n v None f = λ k i j h. f (suc k) k i (omega arith) h
+      at_first n v (Some m) f = f
+
+      at_last : (x : Cell) (a : Option ℕ) → ((n : ℕ) → IsFound (suc n) x a) → FindsLeast (HoldsAfter x) 1 a
+      at_last x None f = λ n k i j h. f k k i (omega arith) h
+      at_last x (Some m) f = f 0

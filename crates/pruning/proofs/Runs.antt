@@ -1,6 +1,7 @@
 -- Legal runs: they end within the map.
-use Rattle.std.proofs.Common.{◌≡◌, ℕ, zero, suc, ◌+◌, ◌-◌, ◌<◌, ◌≤◌, arith, refl, ap, subst}
-use Rattle.std.specs.Prelude.{⊤, Option, Some, None, option_and_then}
+use Rattle.std.proofs.Common.{◌≡◌, ℕ, zero, suc, ◌+◌, ◌-◌, ◌<◌, ◌≤◌, arith, refl, ap, subst, ◌∙◌, true, false}
+use Rattle.std.specs.Prelude.{⊤, Option, Some, None, option_and_then, option_map, unwrap_or, is_some, nat_le}
+use Rattle.std.proofs.lemmas.Bool.Decides.{nat_tests}
 use Rattle.grid_moves.specs.declared.Cell.{Cell}
 use Rattle.grid_moves.specs.declared.Dir.{Dir}
 use Rattle.grid_moves.specs.declared.Dir.TheVariants.{N, NE, E, SE, S, SW, W, NW}
@@ -8,6 +9,9 @@ use Rattle.grid_moves.specs.Grid.{GridData}
 use Rattle.grid_moves.specs.Move.{ahead, legal_ahead}
 use Rattle.grid_moves.proofs.Legal.{legal_is, free_inside}
 use Rattle.pruning.specs.Marked.{run_end}
+use Rattle.pruning.specs.First.{moves_within, run_length}
+use Rattle.pruning.specs.Laws.{RunLengthIsTold}
+use Rattle.pruning.proofs.Table.{by_test}
 use Rattle.pruning.proofs.Bridging.{Leads, legal_leads, one_of}
 
 -- one move more at the end of a run
@@ -102,3 +106,46 @@ run_short g d (suc k) x c r = by_cell (legal_ahead g x d) refl r
         let fits = room_within g d x inside.0 inside.1 in
         let used = run_room g d (suc k) x c r in
         omega arith
+
+-- how long a run is
+suc_le : (k m : ℕ) → nat_le k m ≡ nat_le (suc k) (suc m)
+suc_le k m = grind (arith, nat_tests)
+
+zero_le : (m : ℕ) → true ≡ nat_le 0 m
+zero_le m = grind (arith, nat_tests)
+
+not_le : (k : ℕ) → false ≡ nat_le (suc k) 0
+not_le k = grind (arith, nat_tests)
+
+counted : (g : GridData) (d : Dir) (n k : ℕ) (x : Cell) → k ≤ n
+    → is_some (run_end g d k x) ≡ nat_le k (moves_within n g d x)
+counted g d n zero x h = zero_le (moves_within n g d x)
+counted g d zero (suc k) x h = absurd (omega arith)
+counted g d (suc n) (suc k) x h =
+    by_cell (legal_ahead g x d) (λ v. counted g d n k v (omega arith))
+  where
+    by_cell : (o : Option Cell)
+        → ((v : Cell) → is_some (run_end g d k v) ≡ nat_le k (moves_within n g d v))
+        → is_some (option_and_then (λ v. run_end g d k v) o)
+        ≡ nat_le (suc k) (unwrap_or (option_map (λ v. suc (moves_within n g d v)) o) 0)
+    by_cell None next = not_le k
+    by_cell (Some v) next = next v ∙ suc_le k (moves_within n g d v)
+
+moves_within-few : (g : GridData) (d : Dir) (n : ℕ) (x : Cell) → moves_within n g d x ≤ n
+moves_within-few g d zero x = omega arith
+moves_within-few g d (suc n) x = by_cell (legal_ahead g x d) (λ v. moves_within-few g d n v)
+  where
+    by_cell : (o : Option Cell) → ((v : Cell) → moves_within n g d v ≤ n)
+        → unwrap_or (option_map (λ v. suc (moves_within n g d v)) o) 0 ≤ suc n
+    by_cell None next = omega arith
+    by_cell (Some v) next = let few = next v in omega arith
+
+pub run_length_is_told : RunLengthIsTold
+run_length_is_told g x d k = by_test (nat_le k (g.width + g.height))
+    (λ h. counted g d (g.width + g.height) k x (grind (arith, nat_tests)))
+    (λ h. by_end (run_end g d k x) refl (grind (arith, nat_tests)))
+  where
+    by_end : (o : Option Cell) → run_end g d k x ≡ o → g.width + g.height < k
+        → is_some o ≡ nat_le k (run_length g x d)
+    by_end None e h = let few = moves_within-few g d (g.width + g.height) x in grind (arith, nat_tests)
+    by_end (Some c) e h = absurd (let short = run_short g d k x c e in omega arith)

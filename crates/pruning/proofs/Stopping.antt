@@ -11,9 +11,9 @@ use Rattle.pruning.specs.declared.turns.Side.{Side}
 use Rattle.pruning.specs.declared.turns.Side.TheVariants.{Right, Left}
 use Rattle.pruning.specs.Turns.{turn, is_diagonal}
 use Rattle.pruning.specs.Marked.{is_forced, HoldsOnRun, IsMarked, forces, looks_out}
-use Rattle.pruning.specs.Stop.{IsStop, at_goal, marked, sees_goal, StopsAfter}
-use Rattle.pruning.specs.First.{holds_on_run, is_marked, is_stop, first_stop}
-use Rattle.pruning.specs.Laws.{MarksAreTold, StopsAreTold, FirstStopIsFirst, OneFirstStop}
+use Rattle.pruning.specs.Stop.{IsStop, at_goal, marked, sees_goal, StopsAfter, MarkedAfter}
+use Rattle.pruning.specs.First.{holds_on_run, is_marked, is_stop, first_stop, first_mark}
+use Rattle.pruning.specs.Laws.{MarksAreTold, StopsAreTold, FirstStopIsFirst, OneFirstStop, FirstMarkIsFirst, OneFirstMark}
 use Rattle.pruning.proofs.Table.{either_true}
 use Rattle.pruning.proofs.Firsts.{FindsLeast-once, FindsLeast-same, HoldsAfter, first_on_run-finds, on_run-sound, on_run-complete}
 
@@ -117,3 +117,22 @@ pub only_one_first_stop : OneFirstStop
 only_one_first_stop g goal x d answer h =
     FindsLeast-once (StopsAfter g goal x d) 1 answer (first_stop g goal x d) h
     (first_stop_is_first g goal x d)
+
+pub first_mark_is_first : FirstMarkIsFirst
+first_mark_is_first g x d =
+    FindsLeast-same (HoldsAfter g d (λ v. is_marked g v d) x) (MarkedAfter g x d) 1
+    (λ k h. record {
+      cell = h.cell;
+      reached = h.reached;
+      marks = (marks_are_told g h.cell d).sound h.holds;
+    })
+    (λ k h. record {
+      cell = h.cell;
+      reached = h.reached;
+      holds = (marks_are_told g h.cell d).complete h.marks;
+    })
+    (first_mark g x d) (first_on_run-finds g d (λ v. is_marked g v d) x)
+
+pub only_one_first_mark : OneFirstMark
+only_one_first_mark g x d answer h =
+    FindsLeast-once (MarkedAfter g x d) 1 answer (first_mark g x d) h (first_mark_is_first g x d)

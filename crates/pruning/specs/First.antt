@@ -1,5 +1,5 @@
 -- Marks, stops and first stops as functions that compute.
-use Rattle.std.specs.Prelude.{◌≡◌, ℕ, zero, suc, ◌+◌, Bool, true, false, ◌&&◌, ◌||◌, refl, [], ◌∷◌, Option, Some, None, option_and_then, option_map, is_some, if◌then◌else◌, codes}
+use Rattle.std.specs.Prelude.{◌≡◌, ℕ, zero, suc, ◌+◌, Bool, true, false, ◌&&◌, ◌||◌, refl, [], ◌∷◌, Option, Some, None, option_and_then, option_map, unwrap_or, is_some, if◌then◌else◌, codes}
 use Rattle.grid_moves.specs.declared.Cell.{Cell}
 use Rattle.grid_moves.specs.declared.Corner.TheVariants.{Never, One}
 use Rattle.grid_moves.specs.declared.Dir.{Dir}
@@ -50,6 +50,16 @@ first_stop g goal x d = first_on_run g d (is_stop g goal d) x
 abbrev pub first_mark : GridData → Cell → Dir → Option ℕ
 first_mark g x d = first_on_run g d (λ v. is_marked g v d) x
 
+-- the number of moves of the legal run from x in d, counted up to n
+abbrev pub moves_within : ℕ → GridData → Dir → Cell → ℕ
+moves_within zero g d x = 0
+moves_within (suc n) g d x =
+    unwrap_or (option_map (λ v. suc (moves_within n g d v)) (legal_ahead g x d)) 0
+
+-- the number of moves of the legal run from x in d
+abbrev pub run_length : GridData → Cell → Dir → ℕ
+run_length g x d = moves_within (g.width + g.height) g d x
+
 -- round a pillar, to the lower right: two moves to a stop where no corner is cut, else one, and one more
 pub along_the_pillar : first_stop (pillar Never) (record { x = 2; y = 2 }) (record { x = 0; y = 0 }) E ≡ Some 2
 along_the_pillar = refl
@@ -75,6 +85,9 @@ mark_after_one = refl
 
 pub no_mark_after_it : first_mark (notch One) (record { x = 1; y = 0 }) E ≡ None
 no_mark_after_it = refl
+
+pub three_moves_after_it : run_length (notch One) (record { x = 1; y = 0 }) E ≡ 3
+three_moves_after_it = refl
 
 pub no_way_down : first_mark (notch One) (record { x = 0; y = 0 }) SE ≡ None
 no_way_down = refl

@@ -1,5 +1,5 @@
 -- What holds of all grids: pruning loses no least walk, and first stops are computed.
-use Rattle.std.specs.Prelude.{◌≡◌, IsTrue, Bool, ℕ, List, ◌∷◌, map, Option}
+use Rattle.std.specs.Prelude.{◌≡◌, IsTrue, Bool, ℕ, List, ◌∷◌, map, Option, is_some, nat_le}
 use Rattle.root2_cost.specs.declared.Cost.{Cost}
 use Rattle.root2_cost.specs.Order.{IsAtMost}
 use Rattle.grid_moves.specs.declared.Cell.{Cell}
@@ -7,9 +7,9 @@ use Rattle.grid_moves.specs.declared.Dir.{Dir}
 use Rattle.grid_moves.specs.Grid.{GridData, is_free}
 use Rattle.grid_moves.specs.Walk.{IsWalk, cost_of}
 use Rattle.grid_moves.specs.Reply.{StandsForWalk}
-use Rattle.pruning.specs.Marked.{IsMarked}
-use Rattle.pruning.specs.Stop.{IsStop, IsFirstStop}
-use Rattle.pruning.specs.First.{is_marked, is_stop, first_stop}
+use Rattle.pruning.specs.Marked.{run_end, IsMarked}
+use Rattle.pruning.specs.Stop.{IsStop, IsFirstStop, IsFirstMark}
+use Rattle.pruning.specs.First.{is_marked, is_stop, first_stop, first_mark, run_length}
 use Rattle.pruning.specs.Canonical.{IsCanonicalWalk}
 use Rattle.pruning.specs.Chain.{State, start_state, IsChain, last_state}
 
@@ -63,3 +63,16 @@ FirstStopIsFirst = (g : GridData) (goal x : Cell) (d : Dir) → IsFirstStop g go
 abbrev pub OneFirstStop : Type 0
 OneFirstStop = (g : GridData) (goal x : Cell) (d : Dir) (answer : Option ℕ) → IsFirstStop g goal x d answer
     → answer ≡ first_stop g goal x d
+
+-- likewise of first marks
+abbrev pub FirstMarkIsFirst : Type 0
+FirstMarkIsFirst = (g : GridData) (x : Cell) (d : Dir) → IsFirstMark g x d (first_mark g x d)
+
+abbrev pub OneFirstMark : Type 0
+OneFirstMark = (g : GridData) (x : Cell) (d : Dir) (answer : Option ℕ) → IsFirstMark g x d answer
+    → answer ≡ first_mark g x d
+
+-- so many moves are legal, one after the other, as the length of the run says
+abbrev pub RunLengthIsTold : Type 0
+RunLengthIsTold = (g : GridData) (x : Cell) (d : Dir) (k : ℕ)
+    → is_some (run_end g d k x) ≡ nat_le k (run_length g x d)

@@ -25,3 +25,13 @@ pub record StopsAfter (g : GridData) (goal x : Cell) (d : Dir) (k : ℕ) : Type 
 -- the answer is the number of moves from x in d to the first stop, or none where there is no stop
 abbrev pub IsFirstStop : GridData → Cell → Cell → Dir → Option ℕ → Type 0
 IsFirstStop g goal x d moves = FindsLeast (StopsAfter g goal x d) 1 moves
+
+-- the legal run from x in d has k moves, and leads to a cell that is marked for d
+pub record MarkedAfter (g : GridData) (x : Cell) (d : Dir) (k : ℕ) : Type 0 where
+  pub cell : Cell
+  pub reached : run_end g d k x ≡ Some cell
+  pub marks : IsMarked g cell d
+
+-- the answer is the number of moves from x in d to the first cell that is marked for d, or none
+abbrev pub IsFirstMark : GridData → Cell → Dir → Option ℕ → Type 0
+IsFirstMark g x d moves = FindsLeast (MarkedAfter g x d) 1 moves

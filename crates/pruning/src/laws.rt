@@ -7,6 +7,7 @@
 ghost use Rattle.pruning.specs.Facts.{TurnsAreReplaced, TurnsAreMarked};
 ghost use Rattle.pruning.specs.Laws.{CanonicalWalksSuffice, ChainsSuffice, ChainsAreWalks};
 ghost use Rattle.pruning.specs.Laws.{MarksAreTold, StopsAreTold, FirstStopIsFirst, OneFirstStop};
+ghost use Rattle.pruning.specs.Laws.{FirstMarkIsFirst, OneFirstMark, RunLengthIsTold};
 
 /// Two legal moves of which the second is not allowed after the first can be replaced: by moves of no
 /// greater cost that are fewer, or have fewer diagonal ones, or have these earlier.
@@ -54,4 +55,20 @@ pub fn first_stop_is_first()
 /// And no other answer is.
 pub fn only_one_first_stop()
     ensures { OneFirstStop }
+{}
+
+/// What `first_mark` computes is the number of moves to the first marked cell, or none where there is
+/// none.
+pub fn first_mark_is_first()
+    ensures { FirstMarkIsFirst }
+{}
+
+/// And no other answer is.
+pub fn only_one_first_mark()
+    ensures { OneFirstMark }
+{}
+
+/// As many moves are legal, one after the other, as `run_length` computes.
+pub fn run_length_is_told()
+    ensures { RunLengthIsTold }
 {}
