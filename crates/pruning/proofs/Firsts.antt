@@ -1,10 +1,10 @@
 -- The first cell of a run at which a test holds.
-use Rattle.std.proofs.Common.{◌≡◌, ℕ, zero, suc, ◌+◌, ◌<◌, ◌≤◌, ◌⊎◌, inl, inr, arith, Bool, true, false, refl, ap, sym, ◌∙◌}
+use Rattle.std.proofs.Common.{◌≡◌, ℕ, zero, suc, ◌+◌, ◌<◌, ◌≤◌, ◌⊎◌, inl, inr, arith, Bool, true, false, refl, ap}
 use Rattle.std.specs.Prelude.{Option, Some, None, MatchOption, option_and_then, option_map, is_some, if◌then◌else◌}
 use Rattle.grid_moves.specs.declared.Cell.{Cell}
 use Rattle.grid_moves.specs.declared.Dir.{Dir}
 use Rattle.grid_moves.specs.Grid.{GridData}
-use Rattle.grid_moves.specs.Least.{NoneBelow, IsLeast, FindsLeast}
+use Rattle.grid_moves.specs.Least.{IsLeast, FindsLeast}
 use Rattle.grid_moves.specs.Move.{legal_ahead}
 use Rattle.pruning.specs.Marked.{run_end, HoldsOnRun}
 use Rattle.pruning.specs.First.{first_within, first_on_run, holds_on_run}

@@ -14,7 +14,7 @@ use Rattle.pruning.specs.declared.Arrival.TheVariants.{By}
 use Rattle.pruning.specs.declared.turns.Side.{Side}
 use Rattle.pruning.specs.declared.turns.Side.TheVariants.{Right, Left}
 use Rattle.pruning.specs.Turns.{turn, quarter, rear, is_diagonal}
-use Rattle.pruning.specs.Allowed.{is_blocked, keeps_eighth, keeps_quarter, is_kept, is_allowed}
+use Rattle.pruning.specs.Allowed.{is_blocked, keeps_eighth, keeps_quarter, is_kept}
 use Rattle.pruning.specs.Facts.{HasBetter, shorter, straighter, earlier, TurnsAreReplaced}
 use Rattle.pruning.proofs.Places.{Place, move}
 use Rattle.pruning.proofs.Table.{straight_back, straight_side, diagonal_back, diagonal_side, reversal, moved_both, Turned, turned, ahead, eighth, side, back, about, turn_parity, quarter_parity, turn_back, by_parity}
@@ -180,8 +180,11 @@ module _ (r : Corner) (b : Dir → Bool) (d : Dir) (s : Side) where
   quarter_walls : keeps_quarter r b d s ≡ false
       → (is_diagonal d ≡ false → r ≡ Never → b (rear s d) ≡ false)
       × (is_diagonal d ≡ true → r ≡ One → b (rear s d) ≡ false)
-  quarter_walls h = (λ k e. shut (not (is_diagonal d)) _ (rw k refl) (rw e at h), λ k e.
-      shut (is_diagonal d) _ k (rw e at h))
+  quarter_walls h = (
+    λ k e. shut (not (is_diagonal d)) _ (rw k refl) (rw e at h),
+    λ k e.
+        shut (is_diagonal d) _ k (rw e at h),
+  )
 
 -- both cells beside a legal diagonal move are open where no corner is cut
 pub sides_open : (g : GridData) (u v : Cell) (d : Dir) → Leads g u v d → is_diagonal d ≡ true → g.corner ≡ Never
