@@ -13,3 +13,4 @@ pub mod Searching
 pub mod Tracing
 pub mod Backing
 pub mod Concluding
+pub mod Answering

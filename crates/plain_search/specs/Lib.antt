@@ -8,3 +8,4 @@ pub mod Table
 pub mod Mirror
 pub mod Progress
 pub mod Trace
+pub mod Existence

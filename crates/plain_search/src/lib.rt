@@ -2,6 +2,7 @@
 #![tactic(auto)]
 
 mod around;
+pub mod laws;
 mod node;
 mod search;
 mod space;
