@@ -2,7 +2,6 @@ pub mod Walks
 pub mod Right
 pub mod Lists
 pub mod Keys
-pub mod Besides
 pub mod Tables
 pub mod Mirrors
 pub mod Offering

@@ -1,7 +1,6 @@
 pub mod Rule
 pub mod Found
 pub mod Answer
-pub mod Beside
 pub mod Node
 pub mod Ranks
 pub mod Table
