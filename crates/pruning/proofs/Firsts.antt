@@ -128,8 +128,10 @@ module _ (g : GridData) (d : Dir) (test : Cell → Bool) where
 
   -- else the next cell, or one move more than from there
   pub first_on_run-next : (x v : Cell) → legal_ahead g x d ≡ Some v
-      → first_on_run g d test x ≡ (if test v then Some 1 else option_map (λ k. suc k) (first_on_run g d test v))
-  first_on_run-next x v e = FindsLeast-once (HoldsAfter x) 1 (first_on_run g d test x) _ (first_on_run-finds x)
+      → first_on_run g d test x
+      ≡ (if test v then Some 1 else option_map (λ k. suc k) (first_on_run g d test v))
+  first_on_run-next x v e = FindsLeast-once (HoldsAfter x) 1 (first_on_run g d test x) _
+      (first_on_run-finds x)
       (at_last x _ (λ n. by_first n x v e (test v) refl (first_on_run g d test v)
       (at_first n v (first_on_run g d test v) (first_on_run-finds v))))
     where

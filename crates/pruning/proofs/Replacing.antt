@@ -119,7 +119,8 @@ module _ (g : GridData) (u v w : Cell) (d e : Dir) (l : Leads g u v d) (m : Lead
     walk = record { legal = rw (n.legal, q.legal, target) refl; ends = refl };
     no_more = rw (cost_there f u c n.ahead_is, cost_there h c w q.ahead_is, first, second) less;
     smaller = elim fewer [
-      | inl b ↦ straighter refl (rw (cost_there f u c n.ahead_is, cost_there h c w q.ahead_is, first, second) b)
+      | inl b ↦ straighter refl
+          (rw (cost_there f u c n.ahead_is, cost_there h c w q.ahead_is, first, second) b)
       | inr b ↦ earlier refl
           (rw (cost_there f u c n.ahead_is, cost_there h c w q.ahead_is, first, second) (b.0))
           (rw (cost_there f u c n.ahead_is, cost_there h c w q.ahead_is, first, second)
@@ -187,8 +188,8 @@ module _ (r : Corner) (b : Dir → Bool) (d : Dir) (s : Side) where
   )
 
 -- both cells beside a legal diagonal move are open where no corner is cut
-pub sides_open : (g : GridData) (u v : Cell) (d : Dir) → Leads g u v d → is_diagonal d ≡ true → g.corner ≡ Never
-    → (s : Side) → is_open g u (turn s d) ≡ true
+pub sides_open : (g : GridData) (u v : Cell) (d : Dir) → Leads g u v d → is_diagonal d ≡ true
+    → g.corner ≡ Never → (s : Side) → is_open g u (turn s d) ≡ true
 sides_open g u v d l h e s = side s
   where
     both : (a b : Bool) → is_passable g.corner a b ≡ true → (a ≡ true) × (b ≡ true)

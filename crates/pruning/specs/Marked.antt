@@ -43,8 +43,8 @@ pub record HoldsOnRun (g : GridData) (d : Dir) (x : Cell) (P : Cell → Type 0) 
   pub reached : run_end g d moves x ≡ Some cell
   pub holds : P cell
 
--- x is marked for d: a neighbour is forced there, or d is diagonal and the legal run in a component has a cell
--- that is marked for that component
+-- x is marked for d: a neighbour is forced there, or d is diagonal and the legal run in a component has a
+-- cell that is marked for that component
 pub data IsMarked (g : GridData) (x : Cell) (d : Dir) : Type 0 where
   forces : is_forced g x d ≡ true → IsMarked g x d
   looks_out : is_diagonal d ≡ true → (s : Side)
