@@ -1,9 +1,7 @@
 //! The lines that answer a query or an edit.
 
 ghost use Rattle.std.specs.Prelude.{◌≡◌, ◌++◌, ◌∷◌, take, OnOk, codes, decimal};
-ghost use Rattle.edit_replay.specs.Replies.{answer_of};
 ghost use Rattle.jps_run.specs.Lines as spec;
-ghost use Rattle.jps_run.specs.Lines.{AppendsLine, Unfolds};
 
 use crate::NoMemory;
 use edit_replay::{EditReply, Reply};
@@ -53,8 +51,8 @@ pub(crate) fn put_reply(
     reply: &Reply,
     show: Show,
 ) -> Result<(), NoMemory>
-    requires { Unfolds (answer_of reply.now) }
-    ensures { OnOk result (AppendsLine show (answer_of reply.now) out.old.items out.new.items) }
+    requires { spec.Unfolds reply.now }
+    ensures { OnOk result (out.new.items ≡ out.old.items ++ spec.reply_line show reply.now) }
 {
     match reply {
         Reply::Outside => put(out, b"outside\n"),
