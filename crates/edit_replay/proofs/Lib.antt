@@ -1,2 +1,3 @@
-pub mod Edits
 pub mod Simple
+pub mod Edits
+pub mod Answering
