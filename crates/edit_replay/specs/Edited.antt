@@ -27,16 +27,16 @@ names g edit number = is_inside g edit.cell && nat_eq (cell_number g.width edit.
 
 -- whether the last edit that names the cell of this number asks this ground; where none does, how the cell is
 abbrev pub asked : Ground → GridData → List Edit → ℕ → Bool → Bool
-asked ground g edits number free = option_map_or (λ edit. is_ground ground edit.to)
+asked kind g edits number free = option_map_or (λ edit. is_ground kind edit.to)
     (find (λ edit. names g edit number) (reverse edits)) free
 
 -- the grid of one ground after edits: sides and corner rule stay, and the last edit that names a cell decides
 unfoldable pub edited_layer : Ground → GridData → List Edit → GridData
-edited_layer ground g edits = record {
+edited_layer kind g edits = record {
   width = g.width;
   height = g.height;
   corner = g.corner;
-  free = map (λ cell. asked ground g edits cell.0 cell.1) (enumerate_from 0 g.free);
+  free = map (λ cell. asked kind g edits cell.0 cell.1) (enumerate_from 0 g.free);
 }
 
 -- the layers after edits

@@ -1,13 +1,13 @@
 -- The two layers of a map stay apart.
-use Rattle.std.proofs.Common.{◌≡◌, ◌≢◌, ℕ, zero, suc, ◌+◌, Bool, true, false, ◌&&◌, refl, ap, sym, ◌∙◌}
-use Rattle.std.proofs.Common.{List, [], ◌∷◌, map, get_or, length, cond}
+use Rattle.std.proofs.Common.{◌≡◌, ◌≢◌, ℕ, zero, suc, Bool, true, false, ◌&&◌, refl, ap, ◌∙◌}
+use Rattle.std.proofs.Common.{List, [], ◌∷◌, map, get_or}
 use Rattle.std.specs.Prelude.{if◌then◌else◌}
 use Rattle.std.proofs.lemmas.List.{length-map}
 use Rattle.grid_moves.specs.declared.Cell.{Cell}
 use Rattle.grid_moves.specs.declared.Corner.{Corner}
 use Rattle.grid_moves.specs.declared.Ground.{Ground}
 use Rattle.grid_moves.specs.declared.Ground.TheVariants.{Blocked, Land, Water}
-use Rattle.grid_moves.specs.Grid.{AreCells, GridData, IsGrid, cell_number, ground_of, is_free, is_ground}
+use Rattle.grid_moves.specs.Grid.{AreCells, IsGrid, cell_number, ground_of, is_free, is_ground}
 use Rattle.grid_moves.specs.Grid.{grid_with, is_inside, layer_of}
 use Rattle.grid_moves.specs.Move.{is_same}
 use Rattle.grid_moves.specs.Layers.{AreLayers, Layers, ground_at, is_on_map, layers_of, layers_with}
