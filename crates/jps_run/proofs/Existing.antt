@@ -2,7 +2,8 @@
 use Rattle.std.proofs.Common.{◌≡◌, List, ℕ}
 use Rattle.grid_moves.specs.declared.Cell.{Cell}
 use Rattle.edit_replay.specs.declared.reply.Reply.{Reply}
-use Rattle.jps_run.specs.Session.{SessionData, IsReply}
+use Rattle.edit_replay.specs.Session.{SessionData}
+use Rattle.jps_run.specs.Session.{IsReply}
 
 pub reply_exists : (d : SessionData) (s t : Cell) → (reply : Reply) × IsReply d s t reply
 reply_exists d s t = ?

@@ -6,7 +6,7 @@ use Rattle.std.proofs.lemmas.List.{append-nil}
 use Rattle.scen_text.specs.declared.entry.Entry.{Entry}
 use Rattle.jps_run.specs.Judging.{HasJudged, IsJudged}
 use Rattle.jps_run.specs.Rows.{has_sides, row_of, IsRow, scale, replied, row_line, row_lines, scen_lines, scen_status, sum_line}
-use Rattle.jps_run.specs.Session.{SessionData}
+use Rattle.edit_replay.specs.Session.{SessionData}
 use Rattle.jps_run.specs.Tally.{tally_of, sum_text}
 use Rattle.jps_run.specs.Working.{Adds, Completes, IsNext}
 use Rattle.jps_run.specs.declared.row.Row.{Row}

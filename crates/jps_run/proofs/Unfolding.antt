@@ -6,7 +6,8 @@ use Rattle.grid_moves.specs.Points.{are_lined, is_lined, segment, steps_between,
 use Rattle.edit_replay.specs.declared.reply.Reply.{Reply}
 use Rattle.edit_replay.specs.declared.reply.Reply.TheVariants as reply
 use Rattle.jps_run.specs.Lines.{Unfolds}
-use Rattle.jps_run.specs.Session.{SessionData, IsReply}
+use Rattle.edit_replay.specs.Session.{SessionData}
+use Rattle.jps_run.specs.Session.{IsReply}
 lined_from : (p : Cell) (points : List Cell) (cells : List Cell) → unfolded_from p points ≡ Some cells
     → is_lined (p ∷ points) ≡ true
 lined_from p [] cells h = refl

@@ -1,9 +1,9 @@
 -- The work on a request comes to its outcome, or stops.
-use Rattle.std.proofs.Common.{◌≡◌, refl, sym, ap, ◌∙◌, subst, List, [], ◌∷◌, ℕ, ◌≤◌, inl, inr, arith, Bool, true, false, if◌then◌else◌, ◌||◌}
+use Rattle.std.proofs.Common.{◌≡◌, refl, sym, ap, ◌∙◌, subst, List, [], ◌∷◌, ℕ, ◌≤◌, inl, inr, arith, ◌++◌}
 use Rattle.std.specs.Prelude.{Result, IsErrAnd}
 use Rattle.io_edge.specs.Told.{Held}
 use Rattle.io_edge.specs.Causes.{NoneFell}
-use Rattle.word_list.specs.Request.{Asked}
+use Rattle.word_list.specs.Request.{Call}
 use Rattle.jps_run.specs.Ending.{Whole, HasWorked, worked_stops}
 use Rattle.jps_run.specs.Files.{File, IsAccepted, AreAccepted, ComesTo, IsRefused, read_stops}
 use Rattle.jps_run.specs.Outcome.{files_of, IsAnswered, IsOutput}
@@ -33,19 +33,19 @@ second-file holds first file rest text a = record {
 pub none-fell : (faults : List ℕ → ℕ) → NoneFell faults faults
 none-fell faults = record { later = λ name. omega arith }
 
-module _ (asked : Asked) (before : Seen) where
+module _ (call : Call) (before : Seen) where
   -- a file could not be had: files held as much when it was read, and no count had fallen
-  pub reading-stops : (file : File) (comes : ComesTo before.holds (files_of asked) file)
+  pub reading-stops : (file : File) (comes : ComesTo before.holds (files_of call.request) file)
       (holds holds_now : List ℕ → Held) (faults faults_now : List ℕ → ℕ) (result : Result ℕ Stop) (stop : Stop)
       → holds ≡ before.holds → NoneFell before.faults faults
       → StopsSo (read_stops (IsRefused comes.texts file.kind (holds file.name)) (faults file.name)
       (faults_now file.name)) stop
       → IsErrAnd result (λ s. s ≡ stop)
-      → HasWorked asked before (record { holds = holds_now; faults = faults_now; out = before.out }) result
+      → HasWorked call before (record { holds = holds_now; faults = faults_now; out = before.out }) result
   reading-stops file comes holds holds_now faults faults_now result stop same later known m =
       passed _ (read_stops (IsRefused comes.texts file.kind (holds file.name)) (faults file.name)
       (faults_now file.name))
-      (worked_stops asked before (record { holds = holds_now; faults = faults_now; out = before.out })) result
+      (worked_stops call before (record { holds = holds_now; faults = faults_now; out = before.out })) result
       stop m known (record {
         refused = λ line r. (
           record {
@@ -71,10 +71,10 @@ module _ (asked : Asked) (before : Seen) where
   -- a whole output went out, or a part of it
   pub sent-worked : (now : Seen) (Sent : List (List ℕ) → ℕ → Type 0) (result : Result ℕ Stop)
       → ((lines : List (List ℕ)) (status : ℕ) → Sent lines status
-      → (status ≤ 1) × IsOutput asked before.holds lines status)
-      → SendsWhole Sent before.out now.out result → HasWorked asked before now result
+      → (status ≤ 1) × IsOutput call before.holds lines status)
+      → SendsWhole Sent before.out now.out result → HasWorked call before now result
   sent-worked now Sent result is sent =
-      ends-on (IsAll Sent before.out now.out) _ _ (worked_stops asked before now) result
+      ends-on (IsAll Sent before.out now.out) _ _ (worked_stops call before now) result
       (λ status a. (
         (is a.lines status a.whole).0,
         record { lines = a.lines; whole = (is a.lines status a.whole).1; wrote = a.wrote },
@@ -102,16 +102,16 @@ module _ (asked : Asked) (before : Seen) where
 
   -- a text was printed
   pub printed : (now : Seen) (text bytes : List ℕ) (result : Result ℕ Stop)
-      → AreAccepted before.holds [] (files_of asked) [] → IsAnswered asked [] (text ∷ []) 0 → bytes ≡ text
-      → SendsWhole (IsPrinted bytes) before.out now.out result → HasWorked asked before now result
+      → AreAccepted before.holds [] (files_of call.request) [] → IsAnswered call [] (text ∷ []) 0 → bytes ≡ text
+      → SendsWhole (IsPrinted bytes) before.out now.out result → HasWorked call before now result
   printed now text bytes result a is e s = sent-worked now (IsPrinted bytes) result
       (λ lines status w. (
         (let good : status ≡ 0 = w.1 in omega arith),
         record {
           texts = [];
           accepted = a;
-          answered = subst (λ n. IsAnswered asked [] lines n) (sym w.1)
-              (subst (λ (all : List (List ℕ)). IsAnswered asked [] all 0)
+          answered = subst (λ n. IsAnswered call [] lines n) (sym w.1)
+              (subst (λ (all : List (List ℕ)). IsAnswered call [] all 0)
               (sym (w.0 ∙ ap (λ (t : List ℕ). t ∷ []) e)) is);
         },
       )) s

@@ -1,11 +1,13 @@
 -- How far the answers to commands have come. No public clause cites this module.
 use Rattle.std.specs.Prelude.{◌≡◌, ℕ, List, [], ◌++◌}
 use Rattle.std.specs.List.{fold}
-use Rattle.edit_replay.specs.Edited.{Edit}
+use Rattle.grid_moves.specs.Layers.{Layers}
+use Rattle.edit_replay.specs.Edited.{Edit, edited}
+use Rattle.edit_replay.specs.Session.{SessionData}
 use Rattle.script_text.specs.declared.command.Command.{Command}
 use Rattle.word_list.specs.declared.request.Show.{Show}
 use Rattle.jps_run.specs.Answers.{IsAnswerLine, AreAnswers, edits_with}
-use Rattle.jps_run.specs.Session.{SessionData, session_after}
+use Rattle.jps_run.specs.Session.{session_after}
 use Rattle.jps_run.specs.declared.answers.Answers.{Answers}
 
 -- a line that answers the command was appended
@@ -16,8 +18,9 @@ pub record PutsAnswer (d : SessionData) (show : Show) (command : Command) (befor
 
 -- the session goes on with the edits of the command
 pub record GoesOn (old : SessionData) (command : Command) (new : SessionData) : Type 0 where
-  pub after : (d : SessionData) (edits : List Edit) → old ≡ session_after d edits
-      → new ≡ session_after d (edits_with edits command)
+  pub engine : new.engine ≡ old.engine
+  pub layers : (m : Layers) (edits : List Edit) → old.layers ≡ edited m edits
+      → new.layers ≡ edited m (edits_with edits command)
 
 -- the commands have these lines, and their edits were made
 pub record HasAnswered (first now : Answers) (commands : List Command) (lines : List (List ℕ)) : Type 0 where

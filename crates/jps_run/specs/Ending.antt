@@ -2,9 +2,12 @@
 use Rattle.std.specs.Prelude.{◌≡◌, ℕ, ◌≤◌, List, [], ◌⊎◌, codes, nat_eq, if◌then◌else◌, Result}
 use Rattle.std.specs.List.{concat}
 use Rattle.io_edge.specs.Causes.{Rose}
-use Rattle.word_list.specs.Request.{Asked}
+use Rattle.word_list.specs.Calls.{is_call}
+use Rattle.word_list.specs.Request.{Call}
+use Rattle.word_list.specs.Rule.{StopsAt}
+use Rattle.jps_run.specs.FaultLines.{word_line}
 use Rattle.jps_run.specs.Files.{HasRefused, FileRose}
-use Rattle.jps_run.specs.Outcome.{Ask, Outcome, IsOutcome, IsOutput, files_of}
+use Rattle.jps_run.specs.Outcome.{Spell, Outcome, IsOutcome, IsOutput, files_of}
 use Rattle.jps_run.specs.Seen.{Seen, Stream}
 use Rattle.jps_run.specs.Sending.{Wrote, WroteSome, IsAll, IsPart, AreLines}
 use Rattle.jps_run.specs.Stops.{Stops, Ends}
@@ -42,39 +45,45 @@ pub record Comes (words : List (List ℕ)) (before now : Seen) (err err_now : St
 abbrev pub WroteNothing : Seen → Seen → Type 0
 WroteNothing before now = Wrote before.out now.out []
 
--- a right output of what is asked
-abbrev pub Whole : Asked → Seen → List (List ℕ) → ℕ → Type 0
-Whole asked before lines status = IsOutput asked before.holds lines status
+-- a right output of a call
+abbrev pub Whole : Call → Seen → List (List ℕ) → ℕ → Type 0
+Whole call before lines status = IsOutput call before.holds lines status
 
 -- the count of a file rose that the words name and that there was reason to read
 pub record NamedRose (words : List (List ℕ)) (before now : Seen) : Type 0 where
-  pub asked : Asked
-  pub ask : Ask words asked
-  pub rose : FileRose (files_of asked) before now
+  pub call : Call
+  pub spelled : Spell words call
+  pub rose : FileRose (files_of call.request) before now
 
 -- a first part of a right output was written
 pub record HasPart (words : List (List ℕ)) (before now : Seen) : Type 0 where
-  pub asked : Asked
-  pub ask : Ask words asked
-  pub part : IsPart (Whole asked before) before.out now.out
+  pub call : Call
+  pub spelled : Spell words call
+  pub part : IsPart (Whole call before) before.out now.out
 
 -- nothing was written, or the first lines of a right output, each whole
 pub data HasLines (words : List (List ℕ)) (before now : Seen) : Type 0 where
   none : WroteNothing before now → HasLines words before now
-  some : (asked : Asked) → Ask words asked → AreLines (Whole asked before) before.out now.out
+  some : (call : Call) → Spell words call → AreLines (Whole call before) before.out now.out
       → HasLines words before now
 
--- what is known where the work on what is asked stops
-abbrev pub worked_stops : Asked → Seen → Seen → Stops
-worked_stops asked before now = record {
-  Refused = λ line. HasRefused before.holds (files_of asked) line × WroteNothing before now;
-  Read = FileRose (files_of asked) before now × WroteNothing before now;
-  Write = Rose before.out.faults now.out.faults × IsPart (Whole asked before) before.out now.out;
-  Memory = WroteNothing before now ⊎ AreLines (Whole asked before) before.out now.out;
+-- what is known where the work on a call stops
+abbrev pub worked_stops : Call → Seen → Seen → Stops
+worked_stops call before now = record {
+  Refused = λ line. HasRefused before.holds (files_of call.request) line × WroteNothing before now;
+  Read = FileRose (files_of call.request) before now × WroteNothing before now;
+  Write = Rose before.out.faults now.out.faults × IsPart (Whole call before) before.out now.out;
+  Memory = WroteNothing before now ⊎ AreLines (Whole call before) before.out now.out;
 }
 
--- the work on what is asked came to a right output, or it stops
-abbrev pub HasWorked : Asked → Seen → Seen → Result ℕ Stop → Type 0
-HasWorked asked before now result = Ends
-    (λ status. (status ≤ 1) × IsAll (Whole asked before) before.out now.out status)
-    (worked_stops asked before now) result
+-- the work on a call came to a right output, or it stops
+abbrev pub HasWorked : Call → Seen → Seen → Result ℕ Stop → Type 0
+HasWorked call before now result = Ends
+    (λ status. (status ≤ 1) × IsAll (Whole call before) before.out now.out status)
+    (worked_stops call before now) result
+
+-- the stream got the line of the word with which no call begins, behind these words or among them
+pub record Names (words : List (List ℕ)) (before now : Stream) : Type 0 where
+  pub number : ℕ
+  pub stops : StopsAt is_call words number
+  pub told : Gets before now (word_line number)

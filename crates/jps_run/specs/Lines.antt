@@ -1,5 +1,5 @@
 -- The lines that answer a query or an edit.
-use Rattle.std.specs.Prelude.{ℕ, List, [], ◌∷◌, ◌++◌, codes, decimal, unwrap_or, true, ◌≡◌, ⊤}
+use Rattle.std.specs.Prelude.{ℕ, ◌/◌, ◌%◌, nat_eq, if◌then◌else◌, List, [], ◌∷◌, ◌++◌, codes, decimal, unwrap_or, true, ◌≡◌, ⊤}
 use Rattle.root2_cost.specs.declared.Cost.{Cost}
 use Rattle.grid_moves.specs.declared.Cell.{Cell}
 use Rattle.grid_moves.specs.Points.{unfolding_of, is_lined}
@@ -8,7 +8,7 @@ use Rattle.edit_replay.specs.declared.reply.Reply.TheVariants as reply
 use Rattle.edit_replay.specs.declared.reply.EditReply.{EditReply}
 use Rattle.edit_replay.specs.declared.reply.EditReply.TheVariants as edit
 use Rattle.word_list.specs.declared.request.Show.{Show}
-use Rattle.word_list.specs.declared.request.Show.TheVariants.{Points, Cells}
+use Rattle.word_list.specs.declared.request.Show.TheVariants.{Points, Cells, Trace}
 
 -- ` x,y`
 abbrev pub point_text : Cell → List ℕ
@@ -19,22 +19,49 @@ abbrev pub points_text : List Cell → List ℕ
 points_text [] = []
 points_text (c ∷ cells) = point_text c ++ points_text cells
 
--- the cells that stand for a walk: its points, or each cell of their unfolding; the points of a right reply unfold
+-- the cells that are shown of a walk: its points, or each cell of their unfolding; the points of a right reply unfold
 abbrev pub shown_cells : Show → List Cell → List Cell
 shown_cells Points points = points
+shown_cells Trace points = points
 shown_cells Cells points = unwrap_or (unfolding_of points) []
 
 -- `walk a b` and these cells
-abbrev pub walk_line : Cost → List Cell → List ℕ
-walk_line cost cells =
-    codes "walk " ++ decimal cost.a ++ codes " " ++ decimal cost.b ++ points_text cells ++ codes "\n"
+abbrev pub walk_text : Cost → List Cell → List ℕ
+walk_text cost cells = codes "walk " ++ decimal cost.a ++ codes " " ++ decimal cost.b ++ points_text cells
 
--- the line of the reply to a query
-abbrev pub reply_line : Show → Reply → List ℕ
-reply_line show reply.Outside = codes "outside\n"
-reply_line show reply.Blocked = codes "blocked\n"
-reply_line show (reply.None taken) = codes "none\n"
-reply_line show (reply.Walk points cost taken) = walk_line cost (shown_cells show points)
+-- the name of the direction in which a state was reached, by its number from 0; the start has none, nor has a state of
+-- the plain engine
+abbrev pub arrival_text : ℕ → List ℕ
+arrival_text arrival =
+    if nat_eq arrival 0 then codes "N" else if nat_eq arrival 1 then codes "NE"
+    else if nat_eq arrival 2 then codes "E" else if nat_eq arrival 3 then codes "SE"
+    else if nat_eq arrival 4 then codes "S" else if nat_eq arrival 5 then codes "SW"
+    else if nat_eq arrival 6 then codes "W" else if nat_eq arrival 7 then codes "NW" else codes "-"
+
+-- ` x,y:D` of a state by its number, which is nine times its cell's number and its arrival
+abbrev pub state_text : ℕ → ℕ → List ℕ
+state_text width state =
+    point_text (record { x = (state / 9) % width; y = (state / 9) / width }) ++ codes ":"
+    ++ arrival_text (state % 9)
+
+-- each of the states
+abbrev pub states_text : ℕ → List ℕ → List ℕ
+states_text width [] = []
+states_text width (state ∷ states) = state_text width state ++ states_text width states
+
+-- ` taken` and the states that the search took, where they are shown
+abbrev pub taken_text : ℕ → Show → List ℕ → List ℕ
+taken_text width Points taken = []
+taken_text width Cells taken = []
+taken_text width Trace taken = codes " taken" ++ states_text width taken
+
+-- the line of the reply to a query, on a map of this width
+abbrev pub reply_line : ℕ → Show → Reply → List ℕ
+reply_line width show reply.Outside = codes "outside\n"
+reply_line width show reply.Blocked = codes "blocked\n"
+reply_line width show (reply.None taken) = codes "none" ++ taken_text width show taken ++ codes "\n"
+reply_line width show (reply.Walk points cost taken) =
+    walk_text cost (shown_cells show points) ++ taken_text width show taken ++ codes "\n"
 
 -- the points of a walk unfold
 abbrev pub Unfolds : Reply → Type 0

@@ -8,12 +8,10 @@ use Rattle.script_text.specs.declared.command.Command.TheVariants as command
 use Rattle.script_text.specs.Faults.{script_of}
 use Rattle.scen_text.specs.declared.entry.Entry.{Entry}
 use Rattle.scen_text.specs.Faults.{scen_of}
-use Rattle.word_list.specs.Form.{asked_by, any_request}
-use Rattle.word_list.specs.Request.{Asked, Help, Version, Query, Solve, Scen}
+use Rattle.word_list.specs.Calls.{call_of, is_call}
+use Rattle.word_list.specs.Request.{Asked, Call, Help, Version, Query, Solve, Scen}
 use Rattle.word_list.specs.Rule.{IsBadWord}
-use Rattle.word_list.specs.declared.request.Pick.{Pick}
-use Rattle.word_list.specs.declared.request.Show.{Show}
-use Rattle.word_list.specs.declared.request.Show.TheVariants.{Points}
+use Rattle.word_list.specs.declared.request.Settings.{Settings}
 use Rattle.jps_run.specs.Answers.{AreAnswers}
 use Rattle.jps_run.specs.FaultLines.{word_line}
 use Rattle.jps_run.specs.Files.{File, AreAccepted, HasRefused}
@@ -24,43 +22,46 @@ use Rattle.jps_run.specs.declared.kind.Kind.{Kind}
 use Rattle.jps_run.specs.declared.kind.Kind.TheVariants as kind
 use Rattle.jps_run.specs.declared.row.Row.{Row}
 
--- the words spell what is asked
-abbrev pub Ask : List (List ℕ) → Asked → Type 0
-Ask words asked = asked_by any_request words ≡ Some asked
+-- the words spell the call
+abbrev pub Spell : List (List ℕ) → Call → Type 0
+Spell words call = call_of words ≡ Some call
+
+-- a call by what is asked for and how
+abbrev pub call_with : Asked → Settings → Call
+call_with asked set = record { request = asked; settings = set }
 
 -- the files of a request, in the order in which they are read
 abbrev pub files_of : Asked → List File
 files_of Help = []
 files_of Version = []
-files_of (Query map sx sy gx gy pick show) = record { kind = kind.Map; name = map } ∷ []
-files_of (Solve map script pick) =
+files_of (Query map sx sy gx gy) = record { kind = kind.Map; name = map } ∷ []
+files_of (Solve map script) =
     record { kind = kind.Map; name = map } ∷ record { kind = kind.Script; name = script } ∷ []
-files_of (Scen map scen pick) =
+files_of (Scen map scen) =
     record { kind = kind.Map; name = map } ∷ record { kind = kind.Scen; name = scen } ∷ []
 
--- the status and the lines of what is asked, on the texts of its files; a query is a script of one command
-pub data IsAnswered : Asked → List (List ℕ) → List (List ℕ) → ℕ → Type 0 where
-  help : IsAnswered Help [] (help_text ∷ []) 0
-  version : IsAnswered Version [] (version_text ∷ []) 0
-  replied : (map text : List ℕ) (sx sy gx gy : ℕ) (pick : Pick) (show : Show) (m : Map)
-      (lines : List (List ℕ))
-      → map_of text ≡ Ok m → AreAnswers (session_on pick m) show (command.Query sx sy gx gy ∷ []) lines
-      → IsAnswered (Query map sx sy gx gy pick show) (text ∷ []) lines 0
-  solved : (map script text second : List ℕ) (pick : Pick) (m : Map) (commands : List Command)
+-- the lines and the status of a call, on the texts of its files; a query is a script of one command
+pub data IsAnswered : Call → List (List ℕ) → List (List ℕ) → ℕ → Type 0 where
+  help : (set : Settings) → IsAnswered (call_with Help set) [] (help_text ∷ []) 0
+  version : (set : Settings) → IsAnswered (call_with Version set) [] (version_text ∷ []) 0
+  replied : (map text : List ℕ) (sx sy gx gy : ℕ) (set : Settings) (m : Map) (lines : List (List ℕ))
+      → map_of text ≡ Ok m
+      → AreAnswers (session_on set m) set.show (command.Query sx sy gx gy ∷ []) lines
+      → IsAnswered (call_with (Query map sx sy gx gy) set) (text ∷ []) lines 0
+  solved : (map script text second : List ℕ) (set : Settings) (m : Map) (commands : List Command)
       (lines : List (List ℕ))
       → map_of text ≡ Ok m → script_of second ≡ Ok commands
-      → AreAnswers (session_on pick m) Points commands lines
-      → IsAnswered (Solve map script pick) (text ∷ second ∷ []) lines 0
-  judged : (map scen text second : List ℕ) (pick : Pick) (m : Map) (entries : List Entry) (rows : List Row)
-      → map_of text ≡ Ok m → scen_of second ≡ Ok entries → AreRows (session_on pick m) entries rows
-      → IsAnswered (Scen map scen pick) (text ∷ second ∷ []) (scen_lines rows) (scen_status rows)
+      → AreAnswers (session_on set m) set.show commands lines
+      → IsAnswered (call_with (Solve map script) set) (text ∷ second ∷ []) lines 0
+  judged : (map scen text second : List ℕ) (set : Settings) (m : Map) (entries : List Entry) (rows : List Row)
+      → map_of text ≡ Ok m → scen_of second ≡ Ok entries → AreRows (session_on set m) entries rows
+      → IsAnswered (call_with (Scen map scen) set) (text ∷ second ∷ []) (scen_lines rows) (scen_status rows)
 
--- the lines and the status are a right output of what is asked, with the files that are held
-pub record IsOutput (asked : Asked) (holds : List ℕ → Held) (lines : List (List ℕ)) (status : ℕ)
-    : Type 0 where
+-- the lines and the status are a right output of a call, with the files that are held
+pub record IsOutput (call : Call) (holds : List ℕ → Held) (lines : List (List ℕ)) (status : ℕ) : Type 0 where
   pub texts : List (List ℕ)
-  pub accepted : AreAccepted holds [] (files_of asked) texts
-  pub answered : IsAnswered asked texts lines status
+  pub accepted : AreAccepted holds [] (files_of call.request) texts
+  pub answered : IsAnswered call texts lines status
 
 -- the status, the lines that `out` gets, and the line that `err` gets
 pub record Outcome : Type 0 where
@@ -70,10 +71,11 @@ pub record Outcome : Type 0 where
 
 -- what words and held files come to: the first of these that applies
 pub data IsOutcome (words : List (List ℕ)) (holds : List ℕ → Held) : Outcome → Type 0 where
-  bad_word : (number : ℕ) → IsBadWord any_request words number
+  bad_word : (number : ℕ) → IsBadWord is_call words number
       → IsOutcome words holds (record { status = 2; out = []; line = word_line number })
-  bad_text : (asked : Asked) (line : List ℕ) → Ask words asked → HasRefused holds (files_of asked) line
+  bad_text : (call : Call) (line : List ℕ) → Spell words call
+      → HasRefused holds (files_of call.request) line
       → IsOutcome words holds (record { status = 3; out = []; line = line })
-  done : (asked : Asked) (lines : List (List ℕ)) (status : ℕ) → Ask words asked
-      → IsOutput asked holds lines status
+  done : (call : Call) (lines : List (List ℕ)) (status : ℕ) → Spell words call
+      → IsOutput call holds lines status
       → IsOutcome words holds (record { status = status; out = lines; line = [] })

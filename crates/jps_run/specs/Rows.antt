@@ -9,7 +9,8 @@ use Rattle.root2_cost.specs.Verdict.{verdict_of}
 use Rattle.edit_replay.specs.declared.reply.Reply.{Reply}
 use Rattle.edit_replay.specs.declared.reply.Reply.TheVariants as reply
 use Rattle.scen_text.specs.declared.entry.Entry.{Entry}
-use Rattle.jps_run.specs.Session.{SessionData, IsReply, width_of, height_of}
+use Rattle.edit_replay.specs.Session.{SessionData}
+use Rattle.jps_run.specs.Session.{IsReply, width_of, height_of}
 use Rattle.jps_run.specs.Turns.{AreInTurn}
 use Rattle.jps_run.specs.declared.row.Row.{Row}
 use Rattle.jps_run.specs.declared.row.Row.TheVariants as row

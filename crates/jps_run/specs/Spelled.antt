@@ -9,17 +9,18 @@ use Rattle.script_text.specs.declared.command.Command.{Command}
 use Rattle.scen_text.specs.Faults.{scen_of}
 use Rattle.scen_text.specs.Lengths.{IsKept}
 use Rattle.scen_text.specs.declared.entry.Entry.{Entry}
-use Rattle.word_list.specs.declared.request.Pick.{Pick}
-use Rattle.jps_run.specs.Session.{SessionData, session_on}
+use Rattle.edit_replay.specs.Session.{SessionData}
+use Rattle.word_list.specs.declared.request.Settings.{Settings}
+use Rattle.jps_run.specs.Session.{session_on}
 
 abbrev pub SpellsMap : List ℕ → MapText → Type 0
 SpellsMap text m = map_of text ≡ Ok (plain m)
 
--- the text spells a map, and the session is the picked engine's on it
-pub record SpellsSession (pick : Pick) (text : List ℕ) (d : SessionData) : Type 0 where
+-- the text spells a map, and the session is that on it, as the settings ask
+pub record SpellsSession (set : Settings) (text : List ℕ) (d : SessionData) : Type 0 where
   pub map : Map
   pub spelled : map_of text ≡ Ok map
-  pub begun : d ≡ session_on pick map
+  pub begun : d ≡ session_on set map
 
 -- each entry has a length that can be judged
 abbrev pub AreKept : List Entry → Type 0

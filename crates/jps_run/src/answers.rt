@@ -10,6 +10,7 @@ use crate::job::{Job, work_items};
 use crate::lines::{put_edit_reply, put_reply};
 use crate::stop::Stop;
 use edit_replay::Session;
+use grid_moves::Ground;
 use io_edge::Sink;
 use script_text::Command;
 use std::alloc::Global;
@@ -65,11 +66,11 @@ fn put_answer<L: Ledger>(
     ensures edited { OnOk result (GoesOn session.old command session.new) }
 {
     match command {
-        Command::Block { x, y } => put_edit_reply(lines, session.edit(x, y, false, steps)),
-        Command::Free { x, y } => put_edit_reply(lines, session.edit(x, y, true, steps)),
+        Command::Block { x, y } => put_edit_reply(lines, session.edit(x, y, Ground::Blocked, steps)),
+        Command::Free { x, y } => put_edit_reply(lines, session.edit(x, y, Ground::Land, steps)),
         Command::Query { sx, sy, gx, gy } => {
             let reply = session.query(alloc, sx, sy, gx, gy, steps)?;
-            put_reply(alloc, lines, &reply, show)
+            put_reply(alloc, lines, &reply, session.width(), show)
         }
     }
 }

@@ -6,6 +6,7 @@ ghost use Rattle.io_edge.specs.Whole.{IsWhole, IsLonger};
 ghost use Rattle.jps_run.specs.FaultLines.{long_line as line_of_long};
 ghost use Rattle.jps_run.specs.Files.{Reads, ReadsText, read_stops};
 ghost use Rattle.jps_run.specs.Kinds.{kind_word, limit_of};
+ghost use Rattle.jps_run.specs.Session as spec;
 ghost use Rattle.jps_run.specs.Spelled.{SpellsSession};
 ghost use Rattle.jps_run.specs.Stops.{Ends};
 ghost use Rattle.jps_run.specs.declared.kind.Kind.TheVariants as kinds;
@@ -14,12 +15,13 @@ use crate::faults::{long_line, map_line, scen_line, script_line};
 use crate::kind::Kind;
 use crate::stop::Stop;
 use edit_replay::{Engine, Session};
+use grid_moves::Corner;
 use io_edge::{Files, ReadStop, read_whole};
 use map_text::{MapText, read_map};
 use scen_text::{Entry, read_scen};
 use script_text::{Command, read_script};
 use std::alloc::Global;
-use word_list::Pick;
+use word_list::{Pick, Settings};
 
 /// What a text is read as.
 pub(crate) trait Text: Drop + Sized {
@@ -137,26 +139,35 @@ pub(crate) fn read_file<F: Files, T: Text>(
     T::of_text(alloc, text.as_slice())
 }
 
-// The engine that the words pick.
-fn engine_of(pick: Pick) -> Engine {
+// The engine that is picked.
+fn engine_of(pick: Pick) -> Engine
+    ensures { result ≡ spec.engine_of pick }
+{
     match pick {
         Pick::Plain => Engine::Plain,
     }
 }
 
-/// A session on the map that a file holds. The bytes of the map are given back.
+// The corner rule, by whether a diagonal move may pass one blocked cell.
+fn corner_of(one: bool) -> Corner
+    ensures { result ≡ spec.corner_of one }
+{
+    if one { Corner::One } else { Corner::Never }
+}
+
+/// A session on the map that a file holds, as the settings ask. The bytes of the map are given back.
 pub(crate) fn open_session<F: Files>(
     alloc: Global,
     files: &mut F,
     name: &str,
-    pick: Pick,
+    settings: Settings,
 ) -> Result<Session, Stop>
-    ensures read { Reads (SpellsSession pick) kinds.Map (F.holds files.old name.now) (F.faults files.old name.now)
+    ensures read { Reads (SpellsSession settings) kinds.Map (F.holds files.old name.now) (F.faults files.old name.now)
         (F.faults files.new name.now) result }
     ensures unchanged { F.holds files.new ≡ F.holds files.old }
     ensures later { NoneFell (F.faults files.old) (F.faults files.new) }
 {
     let map: MapText = read_file(alloc, files, name)?;
-    let session = Session::new(alloc, &map, engine_of(pick))?;
+    let session = Session::new(alloc, &map, engine_of(settings.pick), corner_of(settings.one))?;
     Ok(session)
 }

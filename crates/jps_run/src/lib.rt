@@ -18,4 +18,4 @@ mod texts;
 mod top;
 
 pub use std::alloc::AllocError as NoMemory;
-pub use top::run;
+pub use top::{refuse, run};

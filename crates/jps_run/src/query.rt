@@ -3,6 +3,7 @@
 ghost use Rattle.std.specs.Prelude.{◌≡◌};
 ghost use Rattle.word_list.specs.Request as asked;
 ghost use Rattle.jps_run.specs.Ending.{HasWorked};
+ghost use Rattle.jps_run.specs.Outcome.{call_with};
 ghost use Rattle.jps_run.specs.Seen.{seen};
 
 use crate::answers::write_answers;
@@ -13,7 +14,7 @@ use script_text::Command;
 use std::alloc::Global;
 use std::sync::ledger::Ledger;
 use steps::Steps;
-use word_list::{Pick, Show};
+use word_list::Settings;
 
 /// The ends of a query, each by its column and its row.
 #[derive(Clone, Copy, Debug)]
@@ -31,21 +32,20 @@ pub(crate) fn query<F: Files, O: Sink, L: Ledger>(
     out: &mut O,
     map: &str,
     ends: Ends,
-    pick: Pick,
-    show: Show,
+    settings: Settings,
     steps: &mut Steps<L>,
 ) -> Result<u8, Stop>
-    ensures worked { HasWorked (asked.Query map.now ends.sx ends.sy ends.gx ends.gy pick show)
+    ensures worked { HasWorked (call_with (asked.Query map.now ends.sx ends.sy ends.gx ends.gy) settings)
         (seen (F.holds files.old) (F.faults files.old) (O.written out.old) (O.faults out.old))
         (seen (F.holds files.new) (F.faults files.new) (O.written out.new) (O.faults out.new)) result }
     ensures unchanged { F.holds files.new ≡ F.holds files.old }
 {
-    let session = open_session(alloc, files, map, pick)?;
+    let session = open_session(alloc, files, map, settings)?;
     let commands = [Command::Query {
         sx: ends.sx,
         sy: ends.sy,
         gx: ends.gx,
         gy: ends.gy,
     }];
-    write_answers(alloc, session, show, &commands, out, steps)
+    write_answers(alloc, session, settings.show, &commands, out, steps)
 }

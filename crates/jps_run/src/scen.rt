@@ -3,6 +3,7 @@
 ghost use Rattle.std.specs.Prelude.{◌≡◌};
 ghost use Rattle.word_list.specs.Request as asked;
 ghost use Rattle.jps_run.specs.Ending.{HasWorked};
+ghost use Rattle.jps_run.specs.Outcome.{call_with};
 ghost use Rattle.jps_run.specs.Seen.{seen};
 
 use crate::files::{open_session, read_file};
@@ -13,7 +14,7 @@ use scen_text::Entry;
 use std::alloc::Global;
 use std::sync::ledger::Ledger;
 use steps::Steps;
-use word_list::Pick;
+use word_list::Settings;
 
 /// Judges a scenario.
 pub(crate) fn scen<F: Files, O: Sink, L: Ledger>(
@@ -22,15 +23,15 @@ pub(crate) fn scen<F: Files, O: Sink, L: Ledger>(
     out: &mut O,
     map: &str,
     name: &str,
-    pick: Pick,
+    settings: Settings,
     steps: &mut Steps<L>,
 ) -> Result<u8, Stop>
-    ensures worked { HasWorked (asked.Scen map.now name.now pick)
+    ensures worked { HasWorked (call_with (asked.Scen map.now name.now) settings)
         (seen (F.holds files.old) (F.faults files.old) (O.written out.old) (O.faults out.old))
         (seen (F.holds files.new) (F.faults files.new) (O.written out.new) (O.faults out.new)) result }
     ensures unchanged { F.holds files.new ≡ F.holds files.old }
 {
-    let session = open_session(alloc, files, map, pick)?;
+    let session = open_session(alloc, files, map, settings)?;
     let entries: Vec<Entry> = read_file(alloc, files, name)?;
     write_rows(alloc, session, entries.as_slice(), out, steps)
 }

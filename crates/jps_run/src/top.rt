@@ -1,9 +1,9 @@
 //! The top call.
 
-ghost use Rattle.std.specs.Prelude.{◌≡◌, ◌<◌, ◌≤◌, ◌^◌, ◌⊎◌, [], ◌∷◌, length, map, string_bytes};
+ghost use Rattle.std.specs.Prelude.{◌≡◌, ℕ, ◌≤◌, ◌⊎◌, map, string_bytes};
 ghost use Rattle.io_edge.specs.Causes.{Rose};
-ghost use Rattle.word_list.specs.Request.{asked as asked_for};
-ghost use Rattle.jps_run.specs.Ending.{Comes, Gets, HasLines, HasPart, HasWorked, NamedRose, WroteNothing, ending_line};
+ghost use Rattle.word_list.specs.Request.{called};
+ghost use Rattle.jps_run.specs.Ending.{Comes, Gets, HasLines, HasPart, HasWorked, NamedRose, Names, WroteNothing, ending_line};
 ghost use Rattle.jps_run.specs.FaultLines.{word_line as line_of_word};
 ghost use Rattle.jps_run.specs.Seen.{seen, stream};
 ghost use Rattle.jps_run.specs.Sending.{IsPrinted, SendsWhole};
@@ -19,7 +19,7 @@ use io_edge::{Files, Sink, Source, write_whole};
 use std::alloc::Global;
 use std::sync::ledger::Ledger;
 use steps::Steps;
-use word_list::{Request, read_words};
+use word_list::{Request, Settings, first_bad, read_words};
 
 // Writes a text whole.
 fn print<O: Sink>(out: &mut O, text: &[u8]) -> Result<u8, Stop>
@@ -34,11 +34,12 @@ fn print<O: Sink>(out: &mut O, text: &[u8]) -> Result<u8, Stop>
 fn work<F: Files, O: Sink, L: Ledger>(
     alloc: Global,
     request: Request<'_>,
+    settings: Settings,
     files: &mut F,
     out: &mut O,
     steps: &mut Steps<L>,
 ) -> Result<u8, Stop>
-    ensures worked { HasWorked (asked_for request.entry)
+    ensures worked { HasWorked (called request.entry settings)
         (seen (F.holds files.old) (F.faults files.old) (O.written out.old) (O.faults out.old))
         (seen (F.holds files.new) (F.faults files.new) (O.written out.new) (O.faults out.new)) result }
     ensures unchanged { F.holds files.new ≡ F.holds files.old }
@@ -52,22 +53,17 @@ fn work<F: Files, O: Sink, L: Ledger>(
             sy,
             gx,
             gy,
-            pick,
-            show,
         } => query(
             alloc,
             files,
             out,
             map,
             Ends { sx, sy, gx, gy },
-            pick,
-            show,
+            settings,
             steps,
         ),
-        Request::Solve { map, script, pick } => solve(alloc, files, out, map, script, pick, steps),
-        Request::Scen { map, scen: name, pick } => {
-            scen(alloc, files, out, map, name, pick, steps)
-        }
+        Request::Solve { map, script } => solve(alloc, files, out, map, script, settings, steps),
+        Request::Scen { map, scen: name } => scen(alloc, files, out, map, name, settings, steps),
     }
 }
 
@@ -118,7 +114,6 @@ pub fn run<F: Files, I: Source, O: Sink, E: Sink, L: Ledger>(
     err: &mut E,
     steps: &mut Steps<L>,
 ) -> u8
-    requires few { length words.now < 2 ^ 31 }
     ensures statuses { result ≤ 6 }
     // The headline: the status, the output and the line are those of the outcome; a line that
     // answers a query is that of a right reply, which is that of the run of the picked engine, on
@@ -155,11 +150,11 @@ pub fn run<F: Files, I: Source, O: Sink, E: Sink, L: Ledger>(
     // Nothing is taken from the input.
     ensures input_stays { I.left input.new ≡ I.left input.old }
 {
-    let request = match read_words(words) {
-        Ok(request) => request,
+    let (request, settings) = match read_words(words) {
+        Ok(call) => call,
         Err(bad) => return refuse_word(alloc, bad.0, err),
     };
-    match work(alloc, request, files, out, steps) {
+    match work(alloc, request, settings, files, out, steps) {
         Ok(status) => {
             tell(err, b"");
             status
@@ -181,4 +176,19 @@ pub fn run<F: Files, I: Source, O: Sink, E: Sink, L: Ledger>(
             6
         }
     }
+}
+
+/// Refuses a list of words of which some are no text, and answers the status.
+///
+/// `before` are the words before the first one that is no text. Statuses: 2, or 6 where memory was
+/// refused.
+pub fn refuse<E: Sink>(alloc: Global, before: &[String], err: &mut E) -> u8
+    ensures statuses { (result ≡ 2) ⊎ (result ≡ 6) }
+    // The line names the first word with which no call begins; the word that is no text is none's.
+    ensures word { result ≡ 2 → Names (map string_bytes before.now)
+        (stream (E.written err.old) (E.faults err.old)) (stream (E.written err.new) (E.faults err.new)) }
+    ensures memory { result ≡ 6 → Gets (stream (E.written err.old) (E.faults err.old))
+        (stream (E.written err.new) (E.faults err.new)) (ending_line 6) }
+{
+    refuse_word(alloc, first_bad(before), err)
 }

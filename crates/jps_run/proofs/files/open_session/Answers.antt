@@ -1,6 +1,6 @@
 use Rattle.map_text.specs.Faults.{plain}
 use Rattle.jps_run.specs.Files.{IsRead}
-use Rattle.jps_run.specs.Session.{SessionData}
+use Rattle.edit_replay.specs.Session.{SessionData}
 use Rattle.jps_run.specs.Spelled.{SpellsSession}
 use Rattle.jps_run.specs.declared.kind.Kind.TheVariants as kinds
 use Rattle.jps_run.proofs.Stopping.{passed, follow-same}
@@ -8,7 +8,7 @@ use Rattle.jps_run.proofs.files.open_session.Goals as goal
 
 pub returns-in_err-map-clause-read : goal.returns-in_err-map-clause-read
 returns-in_err-map-clause-read g c = λ earlier.
-    passed (IsRead {X = SessionData} (SpellsSession c.args.pick) earlier kinds.Map
+    passed (IsRead {X = SessionData} (SpellsSession c.args.settings) earlier kinds.Map
     (g.F.Files.holds c.args.files.now c.args.name.now)) _ _ c.from_residual.result c.in_err-map.field-0.0
     c.from_residual.ensures.1 (c.in_err-map.ensures.read earlier) (follow-same _)
 

@@ -3,10 +3,10 @@ use Rattle.io_edge.specs.Told.{Held}
 use Rattle.scen_text.specs.declared.entry.Entry.{Entry}
 use Rattle.word_list.specs.Request.{Scen}
 use Rattle.jps_run.specs.Files.{IsAccepted}
-use Rattle.jps_run.specs.Outcome.{IsAnswered, judged}
+use Rattle.jps_run.specs.Outcome.{IsAnswered, call_with, judged}
 use Rattle.jps_run.specs.Rows.{AreRows, scen_lines, scen_status}
 use Rattle.jps_run.specs.Seen.{seen}
-use Rattle.jps_run.specs.Session.{SessionData}
+use Rattle.edit_replay.specs.Session.{SessionData}
 use Rattle.jps_run.specs.Spelled.{AreKept}
 use Rattle.jps_run.specs.declared.kind.Kind.TheVariants as kind
 use Rattle.jps_run.proofs.Works.{first-file, second-file, none-fell, reading-stops, sent-worked}
@@ -17,7 +17,7 @@ pub returns-in_err-session-clause-worked : goal.returns-in_err-session-clause-wo
 returns-in_err-session-clause-worked g c =
     let holds = g.F.Files.holds c.args.files.now in
     let faults = g.F.Files.faults c.args.files.now in
-    reading-stops (Scen c.args.map.now c.args.name.now c.args.pick)
+    reading-stops (call_with (Scen c.args.map.now c.args.name.now) c.args.settings)
     (seen holds faults (g.O.Sink.written c.args.out.now) (g.O.Sink.faults c.args.out.now))
     (record { kind = kind.Map; name = c.args.map.now }) (first-file holds _ _) holds _ faults
     (g.F.Files.faults c.open_session.new.files) c.from_residual.result c.in_err-session.field-0.0 refl
@@ -27,7 +27,7 @@ pub returns-in_err-entries-clause-worked : goal.returns-in_err-entries-clause-wo
 returns-in_err-entries-clause-worked g c =
     let holds = g.F.Files.holds c.args.files.now in
     let r = c.in_ok-session.ensures.read [] in
-    reading-stops (Scen c.args.map.now c.args.name.now c.args.pick)
+    reading-stops (call_with (Scen c.args.map.now c.args.name.now) c.args.settings)
     (seen holds (g.F.Files.faults c.args.files.now) (g.O.Sink.written c.args.out.now)
     (g.O.Sink.faults c.args.out.now)) (record { kind = kind.Scen; name = c.args.name.now })
     (second-file holds (record { kind = kind.Map; name = c.args.map.now }) _ [] r.text r.accepted)
@@ -42,10 +42,10 @@ write_rows-requires g c =
 
 pub returns-clause-worked : goal.returns-clause-worked
 returns-clause-worked g c =
-    let asked = Scen c.args.map.now c.args.name.now c.args.pick in
+    let call = call_with (Scen c.args.map.now c.args.name.now) c.args.settings in
     let r = c.in_ok-session.ensures.read [] in
     let s = c.in_ok-entries.ensures.read (r.text ∷ []) in
-    sent-worked asked
+    sent-worked call
     (seen (g.F.Files.holds c.args.files.now) (g.F.Files.faults c.args.files.now)
     (g.O.Sink.written c.args.out.now) (g.O.Sink.faults c.args.out.now))
     (seen (g.F.Files.holds c.read_file.new.files) (g.F.Files.faults c.read_file.new.files)
@@ -59,10 +59,10 @@ returns-clause-worked g c =
           (subst (λ (k : List ℕ → Held). IsAccepted (r.text ∷ []) kind.Scen (k c.args.name.now) s.text)
               c.in_ok-session.ensures.unchanged s.accepted, tt),
         );
-        answered = subst (λ n. IsAnswered asked (r.text ∷ s.text ∷ []) lines n) (sym w.same_status)
-            (subst (λ (all : List (List ℕ)). IsAnswered asked (r.text ∷ s.text ∷ []) all (scen_status w.rows))
+        answered = subst (λ n. IsAnswered call (r.text ∷ s.text ∷ []) lines n) (sym w.same_status)
+            (subst (λ (all : List (List ℕ)). IsAnswered call (r.text ∷ s.text ∷ []) all (scen_status w.rows))
             (sym w.all)
-            (judged c.args.map.now c.args.name.now r.text s.text c.args.pick r.spelled.map
+            (judged c.args.map.now c.args.name.now r.text s.text c.args.settings r.spelled.map
             c.in_ok-entries.entries.items w.rows r.spelled.spelled s.spelled.0
             (subst (λ (d : SessionData). AreRows d c.in_ok-entries.entries.items w.rows) r.spelled.begun
             (subst (λ (all : List Entry). AreRows c.in_ok-session.session all w.rows) c.as_slice.ensures.value

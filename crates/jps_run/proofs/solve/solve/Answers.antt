@@ -2,12 +2,11 @@ use Rattle.std.proofs.Common.{◌≡◌, refl, sym, ◌∙◌, subst, List, [], 
 use Rattle.io_edge.specs.Told.{Held}
 use Rattle.script_text.specs.declared.command.Command.{Command}
 use Rattle.word_list.specs.Request.{Solve}
-use Rattle.word_list.specs.declared.request.Show.TheVariants.{Points}
 use Rattle.jps_run.specs.Answers.{AreAnswers}
 use Rattle.jps_run.specs.Files.{IsAccepted}
-use Rattle.jps_run.specs.Outcome.{IsAnswered, solved}
+use Rattle.jps_run.specs.Outcome.{IsAnswered, call_with, solved}
 use Rattle.jps_run.specs.Seen.{seen}
-use Rattle.jps_run.specs.Session.{SessionData}
+use Rattle.edit_replay.specs.Session.{SessionData}
 use Rattle.jps_run.specs.declared.kind.Kind.TheVariants as kind
 use Rattle.jps_run.proofs.Works.{first-file, second-file, none-fell, reading-stops, sent-worked}
 use Rattle.jps_run.proofs.solve.solve.Goals as goal
@@ -16,7 +15,7 @@ pub returns-in_err-session-clause-worked : goal.returns-in_err-session-clause-wo
 returns-in_err-session-clause-worked g c =
     let holds = g.F.Files.holds c.args.files.now in
     let faults = g.F.Files.faults c.args.files.now in
-    reading-stops (Solve c.args.map.now c.args.script.now c.args.pick)
+    reading-stops (call_with (Solve c.args.map.now c.args.script.now) c.args.settings)
     (seen holds faults (g.O.Sink.written c.args.out.now) (g.O.Sink.faults c.args.out.now))
     (record { kind = kind.Map; name = c.args.map.now }) (first-file holds _ _) holds _ faults
     (g.F.Files.faults c.open_session.new.files) c.from_residual.result c.in_err-session.field-0.0 refl
@@ -26,7 +25,7 @@ pub returns-in_err-commands-clause-worked : goal.returns-in_err-commands-clause-
 returns-in_err-commands-clause-worked g c =
     let holds = g.F.Files.holds c.args.files.now in
     let r = c.in_ok-session.ensures.read [] in
-    reading-stops (Solve c.args.map.now c.args.script.now c.args.pick)
+    reading-stops (call_with (Solve c.args.map.now c.args.script.now) c.args.settings)
     (seen holds (g.F.Files.faults c.args.files.now) (g.O.Sink.written c.args.out.now)
     (g.O.Sink.faults c.args.out.now)) (record { kind = kind.Script; name = c.args.script.now })
     (second-file holds (record { kind = kind.Map; name = c.args.map.now }) _ [] r.text r.accepted)
@@ -37,10 +36,10 @@ returns-in_err-commands-clause-worked g c =
 
 pub returns-clause-worked : goal.returns-clause-worked
 returns-clause-worked g c =
-    let asked = Solve c.args.map.now c.args.script.now c.args.pick in
+    let call = call_with (Solve c.args.map.now c.args.script.now) c.args.settings in
     let r = c.in_ok-session.ensures.read [] in
     let s = c.in_ok-commands.ensures.read (r.text ∷ []) in
-    sent-worked asked
+    sent-worked call
     (seen (g.F.Files.holds c.args.files.now) (g.F.Files.faults c.args.files.now)
     (g.O.Sink.written c.args.out.now) (g.O.Sink.faults c.args.out.now))
     (seen (g.F.Files.holds c.read_file.new.files) (g.F.Files.faults c.read_file.new.files)
@@ -54,12 +53,12 @@ returns-clause-worked g c =
           (subst (λ (k : List ℕ → Held). IsAccepted (r.text ∷ []) kind.Script (k c.args.script.now) s.text)
               c.in_ok-session.ensures.unchanged s.accepted, tt),
         );
-        answered = subst (λ n. IsAnswered asked (r.text ∷ s.text ∷ []) lines n) (sym w.good)
-            (solved c.args.map.now c.args.script.now r.text s.text c.args.pick r.spelled.map
+        answered = subst (λ n. IsAnswered call (r.text ∷ s.text ∷ []) lines n) (sym w.good)
+            (solved c.args.map.now c.args.script.now r.text s.text c.args.settings r.spelled.map
             c.in_ok-commands.commands.items lines r.spelled.spelled s.spelled
-            (subst (λ (d : SessionData). AreAnswers d Points c.in_ok-commands.commands.items lines)
+            (subst (λ (d : SessionData). AreAnswers d c.args.settings.show c.in_ok-commands.commands.items lines)
             r.spelled.begun
-            (subst (λ (all : List Command). AreAnswers c.in_ok-session.session Points all lines)
+            (subst (λ (all : List Command). AreAnswers c.in_ok-session.session c.args.settings.show all lines)
             c.as_slice.ensures.value w.answers)));
       },
     )) c.write_answers.ensures
