@@ -10,3 +10,4 @@ pub mod Judgements
 pub mod Works
 pub mod Readings
 pub mod Writing
+pub mod Ended

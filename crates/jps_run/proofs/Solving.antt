@@ -4,13 +4,13 @@ use Rattle.std.specs.Prelude.{Result, Ok, Err, OnOk}
 use Rattle.std.specs.List.{fold, concat}
 use Rattle.std.proofs.lemmas.List.{append-nil}
 use Rattle.grid_moves.specs.Layers.{Layers}
-use Rattle.grid_moves.specs.declared.Ground.TheVariants.{Blocked, Land}
+use Rattle.grid_moves.specs.declared.Ground.TheVariants.{Blocked, Land, Water}
 use Rattle.edit_replay.specs.Edited.{Edit, edit_at, edited}
 use Rattle.edit_replay.specs.Session.{SessionData}
 use Rattle.edit_replay.specs.declared.session.Engine.{Engine}
 use Rattle.edit_replay.proofs.Edits.{edited-nothing}
 use Rattle.script_text.specs.declared.command.Command.{Command}
-use Rattle.script_text.specs.declared.command.Command.TheVariants.{Block, Free, Query}
+use Rattle.script_text.specs.declared.command.Command.TheVariants.{Block, Free, Flood, Query}
 use Rattle.word_list.specs.declared.request.Show.{Show}
 use Rattle.jps_run.specs.Answers.{IsAnswerLine, AnswersAfter, AreAnswers, edits_of, edits_with}
 use Rattle.jps_run.specs.Answering.{PutsAnswer, GoesOn, HasAnswered, IsSolved}
@@ -75,6 +75,8 @@ line_exists : (d : SessionData) (show : Show) (edits : List Edit) (command : Com
     → (line : List ℕ) × AnswersAfter d show edits command line
 line_exists d show edits (Block x y) = (edit_line (reply_to_edit (session_after d edits) (edit_at x y Blocked)), refl)
 line_exists d show edits (Free x y) = (edit_line (reply_to_edit (session_after d edits) (edit_at x y Land)), refl)
+line_exists d show edits (Flood x y) =
+    (edit_line (reply_to_edit (session_after d edits) (edit_at x y Water)), refl)
 line_exists d show edits (Query sx sy gx gy) =
     let r = reply_exists (session_after d edits) (record { x = sx; y = sy }) (record { x = gx; y = gy }) in
     (reply_line (width_of (session_after d edits)) show r.0, record { reply = r.0; is_reply = r.1; shown = refl })

@@ -1,12 +1,12 @@
 -- The lines that answer commands.
 use Rattle.std.specs.Prelude.{◌≡◌, ℕ, List, [], ◌∷◌, ◌++◌}
 use Rattle.grid_moves.specs.declared.Cell.{Cell}
-use Rattle.grid_moves.specs.declared.Ground.TheVariants.{Blocked, Land}
+use Rattle.grid_moves.specs.declared.Ground.TheVariants.{Blocked, Land, Water}
 use Rattle.edit_replay.specs.Edited.{Edit, edit_at}
 use Rattle.edit_replay.specs.Session.{SessionData}
 use Rattle.edit_replay.specs.declared.reply.Reply.{Reply}
 use Rattle.script_text.specs.declared.command.Command.{Command}
-use Rattle.script_text.specs.declared.command.Command.TheVariants.{Block, Free, Query}
+use Rattle.script_text.specs.declared.command.Command.TheVariants.{Block, Free, Flood, Query}
 use Rattle.word_list.specs.declared.request.Show.{Show}
 use Rattle.jps_run.specs.Lines.{reply_line, edit_line}
 use Rattle.jps_run.specs.Session.{IsReply, session_after, reply_to_edit, width_of}
@@ -16,6 +16,7 @@ use Rattle.jps_run.specs.Turns.{AreInTurn}
 abbrev pub edits_of : Command → List Edit
 edits_of (Block x y) = edit_at x y Blocked ∷ []
 edits_of (Free x y) = edit_at x y Land ∷ []
+edits_of (Flood x y) = edit_at x y Water ∷ []
 edits_of (Query sx sy gx gy) = []
 
 -- the line is that of a right reply to the query, which is that of the engine's run
@@ -28,6 +29,7 @@ pub record IsReplyLine (d : SessionData) (show : Show) (s t : Cell) (line : List
 abbrev pub IsAnswerLine : SessionData → Show → Command → List ℕ → Type 0
 IsAnswerLine d show (Block x y) line = line ≡ edit_line (reply_to_edit d (edit_at x y Blocked))
 IsAnswerLine d show (Free x y) line = line ≡ edit_line (reply_to_edit d (edit_at x y Land))
+IsAnswerLine d show (Flood x y) line = line ≡ edit_line (reply_to_edit d (edit_at x y Water))
 IsAnswerLine d show (Query sx sy gx gy) line =
     IsReplyLine d show (record { x = sx; y = sy }) (record { x = gx; y = gy }) line
 

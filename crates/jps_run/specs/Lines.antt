@@ -14,10 +14,10 @@ use Rattle.word_list.specs.declared.request.Show.TheVariants.{Points, Cells, Tra
 abbrev pub point_text : Cell → List ℕ
 point_text c = codes " " ++ decimal c.x ++ codes "," ++ decimal c.y
 
--- each of the cells
-abbrev pub points_text : List Cell → List ℕ
-points_text [] = []
-points_text (c ∷ cells) = point_text c ++ points_text cells
+-- the texts of all elements, one after the other
+abbrev pub texts_of : {X : Type 0} → (X → List ℕ) → List X → List ℕ
+texts_of text [] = []
+texts_of text (x ∷ xs) = text x ++ texts_of text xs
 
 -- the cells that are shown of a walk: its points, or each cell of their unfolding; the points of a right reply unfold
 abbrev pub shown_cells : Show → List Cell → List Cell
@@ -27,7 +27,7 @@ shown_cells Cells points = unwrap_or (unfolding_of points) []
 
 -- `walk a b` and these cells
 abbrev pub walk_text : Cost → List Cell → List ℕ
-walk_text cost cells = codes "walk " ++ decimal cost.a ++ codes " " ++ decimal cost.b ++ points_text cells
+walk_text cost cells = codes "walk " ++ decimal cost.a ++ codes " " ++ decimal cost.b ++ texts_of point_text cells
 
 -- the name of the direction in which a state was reached, by its number from 0; the start has none, nor has a state of
 -- the plain engine
@@ -44,16 +44,11 @@ state_text width state =
     point_text (record { x = (state / 9) % width; y = (state / 9) / width }) ++ codes ":"
     ++ arrival_text (state % 9)
 
--- each of the states
-abbrev pub states_text : ℕ → List ℕ → List ℕ
-states_text width [] = []
-states_text width (state ∷ states) = state_text width state ++ states_text width states
-
 -- ` taken` and the states that the search took, where they are shown
 abbrev pub taken_text : ℕ → Show → List ℕ → List ℕ
 taken_text width Points taken = []
 taken_text width Cells taken = []
-taken_text width Trace taken = codes " taken" ++ states_text width taken
+taken_text width Trace taken = codes " taken" ++ texts_of (state_text width) taken
 
 -- the line of the reply to a query, on a map of this width
 abbrev pub reply_line : ℕ → Show → Reply → List ℕ

@@ -68,6 +68,7 @@ fn put_answer<L: Ledger>(
     match command {
         Command::Block { x, y } => put_edit_reply(lines, session.edit(x, y, Ground::Blocked, steps)),
         Command::Free { x, y } => put_edit_reply(lines, session.edit(x, y, Ground::Land, steps)),
+        Command::Flood { x, y } => put_edit_reply(lines, session.edit(x, y, Ground::Water, steps)),
         Command::Query { sx, sy, gx, gy } => {
             let reply = session.query(alloc, sx, sy, gx, gy, steps)?;
             put_reply(alloc, lines, &reply, session.width(), show)

@@ -24,7 +24,7 @@ fn put_point(out: &mut Vec<u8>, c: Cell) -> Result<(), NoMemory>
 
 // Appends each cell after a blank.
 fn put_points(out: &mut Vec<u8>, cells: &[Cell]) -> Result<(), NoMemory>
-    ensures { OnOk result (out.new.items ≡ out.old.items ++ spec.points_text cells.now) }
+    ensures { OnOk result (out.new.items ≡ out.old.items ++ spec.texts_of spec.point_text cells.now) }
 {
     for c in cells {
         put_point(out, *c)?;

@@ -3,6 +3,7 @@ use Rattle.jps_run.specs.Files.{IsRead}
 use Rattle.edit_replay.specs.Session.{SessionData}
 use Rattle.jps_run.specs.Spelled.{SpellsSession}
 use Rattle.jps_run.specs.declared.kind.Kind.TheVariants as kinds
+use Rattle.jps_run.proofs.Readings.{session-made}
 use Rattle.jps_run.proofs.Stopping.{passed, follow-same}
 use Rattle.jps_run.proofs.files.open_session.Goals as goal
 
@@ -20,6 +21,7 @@ returns-clause-read g c = λ earlier.
       spelled = record {
         map = plain c.in_ok-map.map;
         spelled = r.spelled;
-        begun = c.in_ok-session.ensures;
+        begun = session-made c.in_ok-session.session c.args.settings (plain c.in_ok-map.map) c.engine_of.result
+            c.corner_of.result c.in_ok-session.ensures c.engine_of.ensures c.corner_of.ensures;
       };
     }
