@@ -1,3 +1,4 @@
 pub mod Simple
 pub mod Edits
 pub mod Answering
+pub mod Replying
