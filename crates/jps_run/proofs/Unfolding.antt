@@ -8,6 +8,7 @@ use Rattle.edit_replay.specs.declared.reply.Reply.TheVariants as reply
 use Rattle.jps_run.specs.Lines.{Unfolds}
 use Rattle.edit_replay.specs.Session.{SessionData}
 use Rattle.jps_run.specs.Session.{IsReply}
+
 lined_from : (p : Cell) (points : List Cell) (cells : List Cell) → unfolded_from p points ≡ Some cells
     → is_lined (p ∷ points) ≡ true
 lined_from p [] cells h = refl

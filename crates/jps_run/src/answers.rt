@@ -66,7 +66,10 @@ fn put_answer<L: Ledger>(
     ensures edited { OnOk result (GoesOn session.old command session.new) }
 {
     match command {
-        Command::Block { x, y } => put_edit_reply(lines, session.edit(x, y, Ground::Blocked, steps)),
+        Command::Block { x, y } => put_edit_reply(
+            lines,
+            session.edit(x, y, Ground::Blocked, steps),
+        ),
         Command::Free { x, y } => put_edit_reply(lines, session.edit(x, y, Ground::Land, steps)),
         Command::Flood { x, y } => put_edit_reply(lines, session.edit(x, y, Ground::Water, steps)),
         Command::Query { sx, sy, gx, gy } => {

@@ -168,6 +168,11 @@ pub(crate) fn open_session<F: Files>(
     ensures later { NoneFell (F.faults files.old) (F.faults files.new) }
 {
     let map: MapText = read_file(alloc, files, name)?;
-    let session = Session::new(alloc, &map, engine_of(settings.pick), corner_of(settings.one))?;
+    let session = Session::new(
+        alloc,
+        &map,
+        engine_of(settings.pick),
+        corner_of(settings.one),
+    )?;
     Ok(session)
 }

@@ -14,8 +14,10 @@ mod scenario;
 mod sending;
 mod solve;
 mod stop;
+#[cfg(test)]
+mod tests;
 mod texts;
 mod top;
 
 pub use std::alloc::AllocError as NoMemory;
-pub use top::{refuse, run};
+pub use top::{refuse, run, starve};

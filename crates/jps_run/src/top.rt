@@ -76,6 +76,16 @@ fn tell<E: Sink>(err: &mut E, line: &[u8])
     let _ = write_whole(err, line);
 }
 
+/// Ends for want of memory, and answers the status, which is 6.
+pub fn starve<E: Sink>(err: &mut E) -> u8
+    ensures status { result ≡ 6 }
+    ensures memory { Gets (stream (E.written err.old) (E.faults err.old))
+        (stream (E.written err.new) (E.faults err.new)) (ending_line 6) }
+{
+    tell(err, b"jps: memory\n");
+    6
+}
+
 // Refuses the word of this number: status 2, or 6 where its line found no memory.
 fn refuse_word<E: Sink>(alloc: Global, number: u32, err: &mut E) -> u8
     ensures statuses { (result ≡ 2) ⊎ (result ≡ 6) }
@@ -89,10 +99,7 @@ fn refuse_word<E: Sink>(alloc: Global, number: u32, err: &mut E) -> u8
             tell(err, line.as_slice());
             2
         }
-        Err(_) => {
-            tell(err, b"jps: memory\n");
-            6
-        }
+        Err(_) => starve(err),
     }
 }
 
@@ -171,10 +178,7 @@ pub fn run<F: Files, I: Source, O: Sink, E: Sink, L: Ledger>(
             tell(err, b"jps: write\n");
             5
         }
-        Err(Stop::Memory) => {
-            tell(err, b"jps: memory\n");
-            6
-        }
+        Err(Stop::Memory) => starve(err),
     }
 }
 

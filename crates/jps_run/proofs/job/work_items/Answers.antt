@@ -56,7 +56,7 @@ returns-in_err-send g c =
     (stream (g.O.Sink.written c.send.new.out) (g.O.Sink.faults c.send.new.out)) c.loop-place.lines.items
     c.close.new.lines.items c.as_slice.result.now c.in_ok-status.status c.from_residual-in_err-send.result c.in_err-send.field-0.0
     c.loop-place.invariant c.loop-place-test.false c.in_ok-status.ensures c.as_slice.ensures.value
-    c.in_err-send.ensures.sent    c.from_residual-in_err-send.ensures.1
+    c.in_err-send.ensures.sent c.from_residual-in_err-send.ensures.1
 
 pub returns : goal.returns
 returns g c =

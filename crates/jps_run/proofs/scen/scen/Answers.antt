@@ -56,8 +56,11 @@ returns-clause-worked g c =
         texts = r.text ∷ s.text ∷ [];
         accepted = (
           r.accepted,
-          (subst (λ (k : List ℕ → Held). IsAccepted (r.text ∷ []) kind.Scen (k c.args.name.now) s.text)
-              c.in_ok-session.ensures.unchanged s.accepted, tt),
+          (
+            subst (λ (k : List ℕ → Held). IsAccepted (r.text ∷ []) kind.Scen (k c.args.name.now) s.text)
+                c.in_ok-session.ensures.unchanged s.accepted,
+            tt,
+          ),
         );
         answered = subst (λ n. IsAnswered call (r.text ∷ s.text ∷ []) lines n) (sym w.same_status)
             (subst (λ (all : List (List ℕ)). IsAnswered call (r.text ∷ s.text ∷ []) all (scen_status w.rows))

@@ -50,8 +50,11 @@ returns-clause-worked g c =
         texts = r.text ∷ s.text ∷ [];
         accepted = (
           r.accepted,
-          (subst (λ (k : List ℕ → Held). IsAccepted (r.text ∷ []) kind.Script (k c.args.script.now) s.text)
-              c.in_ok-session.ensures.unchanged s.accepted, tt),
+          (
+            subst (λ (k : List ℕ → Held). IsAccepted (r.text ∷ []) kind.Script (k c.args.script.now) s.text)
+                c.in_ok-session.ensures.unchanged s.accepted,
+            tt,
+          ),
         );
         answered = subst (λ n. IsAnswered call (r.text ∷ s.text ∷ []) lines n) (sym w.good)
             (solved c.args.map.now c.args.script.now r.text s.text c.args.settings r.spelled.map
