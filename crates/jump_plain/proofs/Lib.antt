@@ -1,3 +1,4 @@
 pub mod Besides
 pub mod Forcing
 pub mod Reaching
+pub mod Scanning

@@ -34,6 +34,11 @@ abbrev pub left_at : Corner → GridData → Cell → Dir → Reach
 left_at Never g x d = reach_of g x d
 left_at One g x d = reach_at g x d
 
+-- the mark that the move from u to the next cell shows is the next cell's where no corner is cut, and else u's
+abbrev pub mark_of : Corner → Reach
+mark_of Never = record { moves = 1; marked = true }
+mark_of One = record { moves = 0; marked = true }
+
 -- the number of moves in a straight d that lead from u to v, or 0 where none do
 abbrev pub moves_to : Dir → Cell → Cell → ℕ
 moves_to N u v = if nat_eq u.x v.x then u.y - v.y else 0

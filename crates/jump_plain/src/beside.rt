@@ -2,7 +2,7 @@
 
 ghost use Rattle.std.specs.Prelude.{◌≡◌, ◌<◌, false, true};
 ghost use Rattle.grid_moves.specs.Grid.{IsGrid, is_free};
-ghost use Rattle.grid_moves.specs.Move.{ahead, is_open};
+ghost use Rattle.grid_moves.specs.Move.{ahead, is_open, legal_ahead};
 ghost use Rattle.pruning.specs.Turns.{is_diagonal};
 ghost use Rattle.jump_plain.specs.Beside as spec;
 
@@ -46,6 +46,18 @@ pub fn is_free_beyond<T: Terrain>(t: &T, c: Cell, d: Dir) -> bool
     ensures { result ≡ is_open (T.grid t.now) c d }
 {
     t.free(beyond(c, d))
+}
+
+/// The cell ahead, exactly where the straight move to it is legal.
+#[inline(always)]
+pub fn straight_ahead<T: Terrain>(t: &T, c: Cell, d: Dir) -> Option<Cell>
+    requires straight { is_diagonal d ≡ false }
+    requires free { is_free (T.grid t.now) c ≡ true }
+    requires whole { IsGrid (T.grid t.now) }
+    ensures { result ≡ legal_ahead (T.grid t.now) c d }
+{
+    let v = beyond(c, d);
+    if t.free(v) { Some(v) } else { None }
 }
 
 impl Sides {
