@@ -58,8 +58,9 @@ module _ (g : GridData) (u : Cell) (d : Dir) (h : is_diagonal d ≡ false) where
         no_mark u (is_forced-here g u v d l (sym e) h ∙ o) ∙ reach-next g u v d k
 
 -- the sides that are carried along are those of the cells
-pub sides_opened : (p q u v : Sides) (b : Bool) → u ≡ p → v ≡ q → opens u v ≡ b → opens p q ≡ b
-sides_opened p q u v b e f h = rw (← e, ← f) h
+pub sides_opened : (p q u v : Sides) (read b : Bool) → u ≡ p → v ≡ q → read ≡ opens u v → read ≡ b
+    → opens p q ≡ b
+sides_opened p q u v read b e f h k = rw (← e, ← f) (sym h ∙ k)
 
 -- where no straight move is legal the cell ahead is not open
 pub shut_ahead : (g : GridData) (u : Cell) (d : Dir) → is_free g u ≡ true → is_diagonal d ≡ false
@@ -87,3 +88,13 @@ module _ (moves : ℕ) (all rest : Reach) (so_far : all ≡ further moves rest) 
     where
       regroup : (m n : ℕ) → m + (1 + n) ≡ m + 1 + n
       regroup m n = omega arith
+
+-- a scan that begins at the first cell of the run has one move more in all
+pub after_first : (g : GridData) (x v : Cell) (d : Dir) (rest : Reach) → legal_ahead g x d ≡ Some v
+    → rest ≡ left_at One g v d → record { moves = rest.moves + 1; marked = rest.marked } ≡ reach_of g x d
+after_first g x v d rest e h =
+    ap (λ (n : ℕ). let r : Reach = record { moves = n; marked = rest.marked } in r) (turned rest.moves)
+    ∙ ap (λ (r : Reach). further 1 r) h ∙ sym (reach-next g x v d e)
+  where
+    turned : (n : ℕ) → n + 1 ≡ 1 + n
+    turned n = omega arith

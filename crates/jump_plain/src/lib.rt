@@ -8,4 +8,5 @@
 #![tactic(auto)]
 
 mod beside;
+mod jump;
 mod scan;

@@ -75,3 +75,43 @@ fn scan_on<T: Terrain>(t: &T, rule: Corner, from: Cell, d: Dir) -> Reach
         marked: false,
     }
 }
+
+/// Scans along the legal run from a free cell in a straight direction: to the first cell with a forced
+/// neighbour, or else to the run's end. The cell itself is not looked at.
+#[inline(always)]
+pub fn scan<T: Terrain>(t: &T, at: Cell, d: Dir) -> Reach
+    requires straight { is_diagonal d ≡ false }
+    requires free { is_free (T.grid t.now) at ≡ true }
+    requires whole { IsGrid (T.grid t.now) }
+    ensures { result ≡ spec.reach_of (T.grid t.now) at d }
+{
+    let rule = t.corner();
+    match rule {
+        Corner::Never => scan_on(t, Corner::Never, at, d),
+        Corner::One => scan_past(t, at, d),
+    }
+}
+
+// The same where a corner may be cut: from the first cell of the run on, which may have a mark.
+#[inline(always)]
+fn scan_past<T: Terrain>(t: &T, at: Cell, d: Dir) -> Reach
+    requires rule { (T.grid t.now).corner ≡ Corner.One }
+    requires straight { is_diagonal d ≡ false }
+    requires free { is_free (T.grid t.now) at ≡ true }
+    requires whole { IsGrid (T.grid t.now) }
+    ensures { result ≡ spec.reach_of (T.grid t.now) at d }
+{
+    match straight_ahead(t, at, d) {
+        Some(first) => {
+            let rest = scan_on(t, Corner::One, first, d);
+            Reach {
+                moves: rest.moves + 1,
+                marked: rest.marked,
+            }
+        }
+        None => Reach {
+            moves: 0,
+            marked: false,
+        },
+    }
+}

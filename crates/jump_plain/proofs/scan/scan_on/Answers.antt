@@ -32,8 +32,8 @@ returns-then-opens g c =
     let grid : GridData = g.T.Terrain.grid c.args.t.now in
     let legal = sym c.in-Some.ensures in
     let shown = sides_opened (sides_of grid c.run.cell c.args.d)
-    (sides_of grid c.in-Some.next c.args.d) c.run.sides c.of-sides_then.result true c.run.invariant.sides
-    c.of-sides_then.ensures (sym c.opens.ensures ∙ c.if-opens.true) in
+    (sides_of grid c.in-Some.next c.args.d) c.run.sides c.of-sides_then.result c.opens.result true
+    c.run.invariant.sides c.of-sides_then.ensures c.opens.ensures c.if-opens.true in
     reached_mark c.run.moves (left_at c.args.rule grid c.args.from c.args.d)
     (left_at c.args.rule grid c.run.cell c.args.d) c.run.invariant.left c.args.rule c.mark_of-mark.result
     c.mark_of-mark.ensures
@@ -62,8 +62,8 @@ run-preserved g c =
     let legal = sym c.in-Some.ensures in
     let leads = legal_leads grid c.run.cell c.in-Some.next c.args.d legal in
     let shut = sides_opened (sides_of grid c.run.cell c.args.d)
-    (sides_of grid c.in-Some.next c.args.d) c.run.sides c.of-sides_then.result false c.run.invariant.sides
-    c.of-sides_then.ensures (sym c.opens.ensures ∙ c.if-opens.false) in
+    (sides_of grid c.in-Some.next c.args.d) c.run.sides c.of-sides_then.result c.opens.result false
+    c.run.invariant.sides c.of-sides_then.ensures c.opens.ensures c.if-opens.false in
     record {
       free = (legal_is grid c.run.cell c.in-Some.next leads.legal).target;
       sides = c.of-sides_then.ensures;
