@@ -3,6 +3,7 @@ use Rattle.std.proofs.Common.{◌≡◌, ◌<◌, arith, Bool, true, false, ◌&
 use Rattle.std.specs.Prelude.{Option, Some, None, is_some, nat_lt, if◌then◌else◌}
 use Rattle.std.proofs.lemmas.Bool.Decides.{nat_tests}
 use Rattle.grid_moves.specs.declared.Cell.{Cell}
+use Rattle.grid_moves.specs.declared.Corner.{Corner}
 use Rattle.grid_moves.specs.declared.Dir.{Dir}
 use Rattle.grid_moves.specs.Grid.{GridData, IsGrid, is_free}
 use Rattle.grid_moves.specs.Move.{ahead, is_open, is_free_cell, is_passable, legal_ahead}
@@ -61,3 +62,12 @@ module _ (g : GridData) (whole : IsGrid g) where
   pub beyond_straight : (c v : Cell) (d : Dir) → is_free g c ≡ true → is_diagonal d ≡ false
       → known v ≡ ahead d c → can_move g c d ≡ is_free g v
   beyond_straight c v d f h e = can_move-straight g c d f h ∙ sym (beyond_open c v d e)
+
+  -- a diagonal one is legal where it passes, too; the components are named by other names
+  pub beyond_diagonal : (c v : Cell) (d e f : Dir) → is_free g c ≡ true → is_diagonal d ≡ true
+      → known v ≡ ahead d c → e ≡ turn Right d → f ≡ turn Left d → (rule : Corner) → rule ≡ g.corner
+      → (right left passes legal : Bool) → right ≡ is_open g c e → left ≡ is_open g c f
+      → passes ≡ is_passable rule left right → legal ≡ (is_free g v && passes) → can_move g c d ≡ legal
+  beyond_diagonal c v d e f k h ahead_is m n rule r right left passes legal i j p l =
+      can_move-diagonal g c d k h
+      ∙ rw (← m, ← n, ← beyond_open c v d ahead_is, ← i, ← j, ← r, ← p, ← l) refl

@@ -11,6 +11,7 @@ use Rattle.pruning.specs.Turns.{turn, is_diagonal}
 use Rattle.pruning.specs.Marked.{is_forced}
 use Rattle.pruning.specs.First.{first_within, holds_on_run, is_stop, first_stop}
 use Rattle.pruning.proofs.Table.{turn_parity}
+use Rattle.pruning.proofs.Firsts.{first_on_run-next, first_on_run-none}
 use Rattle.jump_plain.proofs.Straight.{is_stop-straight}
 
 -- whether anything is found does not hang on the place
@@ -77,3 +78,29 @@ is_stop-diagonal g goal d v h = rw (
     regroup : (a b c d e f : Bool)
         → ((a || (b || (e || f))) || (c || d)) ≡ (((a || b) || (c || e)) || (d || f))
     regroup a b c d e f = grind arith
+
+-- a stop that many moves later
+abbrev pub later : ℕ → Option ℕ → Option ℕ
+later m answer = option_map (λ k. m + k) answer
+
+-- what a jump has found, after so many moves
+module _ (g : GridData) (goal u : Cell) (d : Dir) (m : ℕ) (all : Option ℕ)
+    (so_far : all ≡ later m (first_stop g goal u d)) where
+  pub stops_nowhere : legal_ahead g u d ≡ None → None ≡ all
+  stops_nowhere e =
+      sym (so_far ∙ ap (λ (o : Option ℕ). later m o) (first_on_run-none g d (is_stop g goal d) u e))
+
+  module _ (v : Cell) (legal : legal_ahead g u d ≡ Some v) where
+    found : all ≡ later m (if is_stop g goal d v then Some 1 else option_map (λ k. suc k) (first_stop g goal v d))
+    found = so_far
+        ∙ ap (λ (o : Option ℕ). later m o) (first_on_run-next g d (is_stop g goal d) u v legal)
+
+    pub stops_here : is_stop g goal d v ≡ true → Some (m + 1) ≡ all
+    stops_here h = sym (found ∙ rw h refl)
+
+    pub stops_later : is_stop g goal d v ≡ false → all ≡ later (m + 1) (first_stop g goal v d)
+    stops_later h = found ∙ rw h (regroup (first_stop g goal v d))
+      where
+        regroup : (o : Option ℕ) → later m (option_map (λ k. suc k) o) ≡ later (m + 1) o
+        regroup None = refl
+        regroup (Some k) = let same : m + suc k ≡ m + 1 + k = omega arith in ap (λ (n : ℕ). Some n) same

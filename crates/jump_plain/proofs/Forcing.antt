@@ -1,13 +1,13 @@
 -- Where a neighbour is forced, told by the cells beside two cells of a run.
 use Rattle.std.proofs.Common.{◌≡◌, arith, Bool, true, false, not, ◌&&◌, ◌||◌, refl, ap, sym, ◌∙◌}
-use Rattle.std.specs.Prelude.{None}
+use Rattle.std.specs.Prelude.{Some}
 use Rattle.grid_moves.specs.declared.Cell.{Cell}
 use Rattle.grid_moves.specs.declared.Corner.{Corner}
 use Rattle.grid_moves.specs.declared.Corner.TheVariants.{Never, One}
 use Rattle.grid_moves.specs.declared.Dir.{Dir}
 use Rattle.grid_moves.specs.Grid.{GridData, is_free}
 use Rattle.grid_moves.specs.Move.{legal_ahead, is_open, is_passable}
-use Rattle.grid_moves.proofs.Legal.{legal_is}
+use Rattle.grid_moves.proofs.Legal.{and_both, legal_is}
 use Rattle.pruning.specs.declared.turns.Side.{Side}
 use Rattle.pruning.specs.declared.turns.Side.TheVariants.{Right, Left}
 use Rattle.pruning.specs.Turns.{turn, quarter, rear, is_diagonal}
@@ -16,7 +16,7 @@ use Rattle.pruning.specs.Marked.{is_forced, is_forced_on}
 use Rattle.pruning.proofs.Places.{Place, move}
 use Rattle.pruning.proofs.Table.{straight_back, straight_side, diagonal_back, turn_parity, quarter_parity, turn_back}
 use Rattle.pruning.proofs.Moves.{can_move-straight, can_move-diagonal}
-use Rattle.pruning.proofs.Bridging.{place_of, free_place, open_there, Leads, leads_there}
+use Rattle.pruning.proofs.Bridging.{place_of, free_place, open_there, Leads, leads_there, legal_leads}
 use Rattle.pruning.proofs.Replacing.{by_corner}
 use Rattle.jump_plain.specs.Beside.{sides_of, opens}
 
@@ -112,6 +112,17 @@ module _ (g : GridData) (u v : Cell) (d : Dir) (l : Leads g u v d) where
   pub is_forced-past : is_diagonal d ≡ true → is_open g u (turn Right d) ≡ true
       → is_open g u (turn Left d) ≡ true → is_forced g v d ≡ false
   is_forced-past h o p = rw (free_behind Right h o, free_behind Left h p) refl
+
+-- the same in the words of code, in which the components are named by other names
+pub clear_past : (g : GridData) (u v : Cell) (d : Dir) → legal_ahead g u d ≡ Some v
+    → is_diagonal d ≡ true → (e f : Dir) → e ≡ turn Right d → f ≡ turn Left d → (right left clear : Bool)
+    → right ≡ is_open g u e → left ≡ is_open g u f → clear ≡ (right && left)
+    → clear ≡ true → is_forced g v d ≡ false
+clear_past g u v d legal h e f m n right left clear i j k c =
+    let open_both = and_both right left (sym k ∙ c) in
+    is_forced-past g u v d (legal_leads g u v d legal) h
+    (ap (λ (a : Dir). is_open g u a) (sym m) ∙ sym i ∙ open_both.0)
+    (ap (λ (a : Dir). is_open g u a) (sym n) ∙ sym j ∙ open_both.1)
 
 -- where one may be cut nothing is forced at the end of a run
 module _ (g : GridData) (u : Cell) (d : Dir) (free : is_free g u ≡ true) (r : g.corner ≡ One) where

@@ -1,8 +1,9 @@
 //! Straight and diagonal jumps.
 
-ghost use Rattle.std.specs.Prelude.{◌≡◌, false, true, IfSome, option_map};
+ghost use Rattle.std.specs.Prelude.{◌≡◌, ◌&&◌, ◌||◌, false, true, IfSome, is_some, option_map};
 ghost use Rattle.grid_moves.specs.Grid.{IsGrid, is_free};
-ghost use Rattle.grid_moves.specs.Move.{legal_ahead};
+ghost use Rattle.grid_moves.specs.Move.{is_same, legal_ahead};
+ghost use Rattle.pruning.specs.Turns as turns;
 ghost use Rattle.pruning.specs.Turns.{is_diagonal};
 ghost use Rattle.pruning.specs.Marked.{is_forced};
 ghost use Rattle.pruning.specs.First as first;
@@ -63,6 +64,22 @@ struct Next {
     clear: bool,
 }
 
+// Whether a diagonal move is legal: it passes, and the cell that it leads to is free.
+#[inline(always)]
+fn leads_on<T: Terrain>(t: &T, passes: bool, to: Cell) -> bool
+    ensures { result ≡ (is_free (T.grid t.now) to && passes) }
+{
+    passes && t.free(to)
+}
+
+// Whether both hold.
+#[inline(always)]
+fn both(one: bool, other: bool) -> bool
+    ensures { result ≡ (one && other) }
+{
+    one && other
+}
+
 // The next cell of a diagonal run, exactly where the move to it is legal.
 #[inline(always)]
 fn diagonal_ahead<T: Terrain>(t: &T, at: Cell, d: Dir) -> Option<Next>
@@ -75,14 +92,34 @@ fn diagonal_ahead<T: Terrain>(t: &T, at: Cell, d: Dir) -> Option<Next>
     let right = is_free_beyond(t, at, turn(Side::Right, d));
     let left = is_free_beyond(t, at, turn(Side::Left, d));
     let cell = beyond(at, d);
-    if is_passable(t.corner(), left, right) && t.free(cell) {
-        Some(Next {
-            cell,
-            clear: right && left,
-        })
+    let clear = both(right, left);
+    if leads_on(t, is_passable(t.corner(), left, right), cell) {
+        Some(Next { cell, clear })
     } else {
         None
     }
+}
+
+// Whether a neighbour is forced at the next cell.
+#[inline(always)]
+fn is_forced_at<T: Terrain>(t: &T, next: Next, d: Dir) -> bool
+    requires free { is_free (T.grid t.now) next.cell ≡ true }
+    requires whole { IsGrid (T.grid t.now) }
+    requires clear { next.clear ≡ true → is_forced (T.grid t.now) next.cell d ≡ false }
+    ensures { result ≡ is_forced (T.grid t.now) next.cell d }
+{
+    !next.clear && forced(t, next.cell, d)
+}
+
+// Whether a straight jump in this direction finds a stop.
+#[inline(always)]
+fn finds_stop<T: Terrain>(t: &T, at: Cell, d: Dir, goal: Cell) -> bool
+    requires straight { is_diagonal d ≡ false }
+    requires free { is_free (T.grid t.now) at ≡ true }
+    requires whole { IsGrid (T.grid t.now) }
+    ensures { result ≡ is_some (first.first_stop (T.grid t.now) goal at d) }
+{
+    straight_stop(t, at, d, goal).is_some()
 }
 
 // Whether a diagonal jump stops at a cell: it is the goal, or a neighbour is forced there, or a straight jump
@@ -93,12 +130,14 @@ fn stops_at<T: Terrain>(t: &T, next: Next, d: Dir, goal: Cell) -> bool
     requires free { is_free (T.grid t.now) next.cell ≡ true }
     requires whole { IsGrid (T.grid t.now) }
     requires clear { next.clear ≡ true → is_forced (T.grid t.now) next.cell d ≡ false }
-    ensures { result ≡ first.is_stop (T.grid t.now) goal d next.cell }
+    ensures { result ≡ (is_same next.cell goal || is_forced (T.grid t.now) next.cell d
+        || is_some (first.first_stop (T.grid t.now) goal next.cell (turns.turn Side.Right d))
+        || is_some (first.first_stop (T.grid t.now) goal next.cell (turns.turn Side.Left d))) }
 {
     next.cell == goal
-        || (!next.clear && forced(t, next.cell, d))
-        || straight_stop(t, next.cell, turn(Side::Right, d), goal).is_some()
-        || straight_stop(t, next.cell, turn(Side::Left, d), goal).is_some()
+        || is_forced_at(t, next, d)
+        || finds_stop(t, next.cell, turn(Side::Right, d), goal)
+        || finds_stop(t, next.cell, turn(Side::Left, d), goal)
 }
 
 // After how many moves a diagonal jump stops.
