@@ -10,7 +10,9 @@ use Rattle.grid_moves.specs.Move.{ahead, is_same, legal_ahead}
 use Rattle.pruning.specs.Turns.{is_diagonal}
 use Rattle.pruning.specs.Marked.{is_forced}
 use Rattle.pruning.specs.First.{first_within, moves_within, is_stop, first_stop}
+use Rattle.pruning.specs.Stop.{IsFirstStop}
 use Rattle.pruning.proofs.Bridging.{legal_leads}
+use Rattle.pruning.proofs.Stopping.{first_stop_is_first}
 use Rattle.jump_plain.specs.declared.scan.Reach.{Reach}
 use Rattle.jump_plain.specs.Reach.{reach_to, reach_of, moves_to, stop_of}
 
@@ -134,3 +136,9 @@ straight_within g goal d h (suc n) x =
 pub straight_stop : (g : GridData) (goal x : Cell) (d : Dir) → is_diagonal d ≡ false
     → first_stop g goal x d ≡ stop_of (reach_of g x d) (moves_to d x goal)
 straight_stop g goal x d h = straight_within g goal d h (g.width + g.height) x
+
+-- what is computed on a grid is the first stop on it
+pub first_meets : (g h : GridData) (goal x : Cell) (d : Dir) (answer : Option ℕ) → g ≡ h
+    → answer ≡ first_stop g goal x d → IsFirstStop h goal x d answer
+first_meets g h goal x d answer e f = subst (λ (o : Option ℕ). IsFirstStop h goal x d o)
+    (sym (f ∙ ap (λ (k : GridData). first_stop k goal x d) e)) (first_stop_is_first h goal x d)

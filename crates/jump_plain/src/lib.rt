@@ -10,3 +10,6 @@
 mod beside;
 mod jump;
 mod scan;
+mod source;
+
+pub use source::PlainJumps;
