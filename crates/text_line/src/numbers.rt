@@ -17,7 +17,7 @@ pub fn number(word: &[u8]) -> Option<u32>
 }
 
 /// Whether each byte is a decimal digit.
-fn are_digits(word: &[u8]) -> bool
+pub(crate) fn are_digits(word: &[u8]) -> bool
     ensures { result ≡ list_all is_ascii_digit word.now }
 {
     word.iter().all(|byte| byte.is_ascii_digit())
