@@ -38,15 +38,6 @@ pub engine_twice : query_with (codes "engine=plain" ∷ codes "engine=plain" ∷
 unfolding number_of
 engine_twice = refl
 
-pub shown_twice : query_with (codes "show=points" ∷ codes "rule=one" ∷ codes "show=cells" ∷ []) ≡ None
-unfolding number_of
-shown_twice = refl
-
--- a setting is spelled exactly
-pub misspelled : query_with (codes "show=Points" ∷ []) ≡ None
-unfolding number_of
-misspelled = refl
-
 -- a word in a file's place is its name, whatever it begins with; leading zeros are digits
 pub any_name : call_of (codes "query" ∷ codes "--help" ∷ codes "000000001" ∷ codes "1" ∷ codes "1" ∷ codes "1"
     ∷ []) ≡ Some (record { request = Query (codes "--help") 1 1 1 1; settings = default_settings })
@@ -79,9 +70,6 @@ shown_rows = refl
 
 pub no_scenario : call_of (codes "scen" ∷ codes "m" ∷ []) ≡ None
 no_scenario = refl
-
-pub no_words : call_of [] ≡ None
-no_words = refl
 
 pub help_alone : call_of (codes "--help" ∷ []) ≡ Some (record {
   request = Help;

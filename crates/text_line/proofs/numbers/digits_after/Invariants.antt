@@ -1,6 +1,6 @@
 use Rattle.std.proofs.Common.{◌≡◌, take}
 use Rattle.std.specs.Str.Parse.{digits_value_after}
-use Rattle.scen_text.proofs.length.value_after.Given as goal
+use Rattle.text_line.proofs.numbers.digits_after.Given as goal
 
 -- the value so far is that of the digits behind
 abbrev pub invariant-loop-digit : goal.invariant-loop-digit

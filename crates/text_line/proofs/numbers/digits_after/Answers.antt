@@ -1,6 +1,6 @@
 use Rattle.std.proofs.Common.{◌+◌, arith}
-use Rattle.scen_text.proofs.Values.{after_more, after_part}
-use Rattle.scen_text.proofs.length.value_after.Goals as goal
+use Rattle.text_line.proofs.Digits.{after_more, after_part}
+use Rattle.text_line.proofs.numbers.digits_after.Goals as goal
 
 pub overflow_mul-value : goal.overflow_mul-value
 overflow_mul-value c =
