@@ -1,9 +1,10 @@
 -- The words after a command's name: where they stop, and how many they are at most.
 use Rattle.std.proofs.Common.{◌≡◌, ℕ, zero, suc, ◌+◌, ◌<◌, true, false, List, [], ◌∷◌, length, drop, refl, ◌∙◌, subst, arith}
 use Rattle.std.specs.Prelude.{codes}
+use Rattle.text_line.specs.LongNumbers.{long_number_of}
 use Rattle.text_line.specs.Numbers.{number_of}
 use Rattle.word_list.specs.declared.rows.Kind.{Kind}
-use Rattle.word_list.specs.declared.rows.Kind.TheVariants.{File, Number}
+use Rattle.word_list.specs.declared.rows.Kind.TheVariants.{File, Number, Seed, Side, Percent}
 use Rattle.word_list.specs.declared.settings.Choice.{Choice}
 use Rattle.word_list.specs.Settings.{are_settings}
 use Rattle.word_list.specs.Rows.{is_of}
@@ -15,10 +16,13 @@ use Rattle.word_list.proofs.Rules.{ends_at_once, ends_later}
 module _ (allows : List Choice) where
   -- every form has a list
   pub completed : (takes : List Kind) → Begins (fits takes allows) []
-  unfolding number_of
+  unfolding number_of long_number_of
   completed [] = ([], refl)
   completed (File ∷ takes) = let rest = completed takes in ([] ∷ rest.0, rest.1)
   completed (Number ∷ takes) = let rest = completed takes in (codes "0" ∷ rest.0, rest.1)
+  completed (Seed ∷ takes) = let rest = completed takes in (codes "0" ∷ rest.0, rest.1)
+  completed (Side ∷ takes) = let rest = completed takes in (codes "1" ∷ rest.0, rest.1)
+  completed (Percent ∷ takes) = let rest = completed takes in (codes "0" ∷ rest.0, rest.1)
 
   -- a first word that is of its kind
   goes_on : (kind : Kind) (takes : List Kind) (word : List ℕ) → is_of kind word ≡ true

@@ -1,7 +1,7 @@
 //! Reading a call from the words.
 
 ghost use Rattle.std.specs.Prelude.{◌≡◌, ℕ, ◌≤◌, ◌∷◌, map, string_bytes, length, Some, IfOk, IfErr, IsOkAnd, IsErrAnd, OnOk, MatchResult};
-ghost use Rattle.word_list.specs.Request.{Call, called};
+ghost use Rattle.word_list.specs.Request.{Call, HasSides, called};
 ghost use Rattle.word_list.specs.Calls.{call_of, is_call};
 ghost use Rattle.word_list.specs.Rule.{IsBadWord, StopsAt};
 ghost use Rattle.word_list.specs.Steps.{AreOf};
@@ -18,6 +18,8 @@ pub fn read_words(words: &[String]) -> Result<(Request<'_>, Settings), BadWord>
     // What is spelled so is read.
     ensures only { (call : Call) → call_of (map string_bytes words.now) ≡ Some call
         → IsOkAnd result (λ read. called read.0 read.1 ≡ call) }
+    // The sides of a map that is to be made are sides of a map.
+    ensures sides { IfOk result (λ read. HasSides read.0) }
     // A refusal names the bad word.
     ensures refused { IfErr result (λ bad. IsBadWord is_call (map string_bytes words.now) bad.0) }
     // A list with a bad word is refused by its number.
@@ -41,6 +43,7 @@ pub fn first_bad(words: &[String]) -> u32
 /// The call that the words spell, or the number of the bad word.
 fn read(words: &[String]) -> Result<(Request<'_>, Settings), BadWord>
     ensures few { OnOk result (length words.now ≤ 12) }
+    ensures sides { IfOk result (λ read. HasSides read.0) }
     ensures told { MatchResult result
         (λ read. call_of (map string_bytes words.now) ≡ Some (called read.0 read.1))
         (λ bad. IsBadWord is_call (map string_bytes words.now) bad.0) }
@@ -54,6 +57,7 @@ fn read(words: &[String]) -> Result<(Request<'_>, Settings), BadWord>
 /// The same of a command's name and the words after it.
 fn read_after<'a>(name: &str, words: &'a [String]) -> Result<(Request<'a>, Settings), BadWord>
     ensures few { OnOk result (length words.now ≤ 11) }
+    ensures sides { IfOk result (λ read. HasSides read.0) }
     ensures told { MatchResult result
         (λ read. call_of (name.now ∷ map string_bytes words.now) ≡ Some (called read.0 read.1))
         (λ bad. IsBadWord is_call (name.now ∷ map string_bytes words.now) bad.0) }

@@ -24,4 +24,4 @@ pub returns-clause-told : goal.returns-clause-told
 returns-clause-told c =
     calls c.args.name.now _ (row_data c.in-Some.row) (sym c.in-Some.ensures.row) c.fitting-taken.result
     c.fitting-taken.ensures.count c.if-taken-row.false _ (rw (take_rest, drop-map) refl) c.settled-more.result
-    c.settled-more.ensures.count (rw length-map c.if-more-rest.false) _ _ c.request.ensures c.chosen.ensures
+    c.settled-more.ensures.count (rw length-map c.if-more-rest.false) _ _ c.request.ensures.asked c.chosen.ensures
