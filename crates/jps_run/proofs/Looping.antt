@@ -1,16 +1,16 @@
 -- The work on items, one after the other.
-use Rattle.std.proofs.Common.{◌≡◌, refl, sym, ap, ◌∙◌, subst, List, [], ◌∷◌, ◌++◌, ℕ, suc, ◌+◌, ◌<◌, ◌≤◌, ◌⊎◌, length, take, drop, get_or, arith, append_assoc}
+use Rattle.std.proofs.Common.{◌≡◌, sym, ap, ◌∙◌, subst, List, [], ◌∷◌, ◌++◌, ℕ, suc, ◌+◌, ◌<◌, ◌≤◌, ◌⊎◌, length, take, drop, get_or, arith}
 use Rattle.std.specs.Prelude.{Result, IsErrAnd}
 use Rattle.std.proofs.Math.Seq.{take-suc}
 use Rattle.std.proofs.lemmas.List.{take_all, take-append-drop, append-nil, length-take-le}
 use Rattle.jps_run.specs.Seen.{Stream}
-use Rattle.jps_run.specs.Sending.{Wrote, WroteSome, IsAll, SendsWhole, AreSent, IsPart, AreLines, write_stops}
-use Rattle.jps_run.specs.Stops.{Stops, StopsSo}
+use Rattle.jps_run.specs.Sending.{Wrote, WroteSome, IsAll, SendsWhole, AreSent, AreLines, write_stops}
+use Rattle.jps_run.specs.Stops.{StopsSo}
 use Rattle.jps_run.specs.Working.{Adds, Completes, IsNext, IsWorking}
 use Rattle.jps_run.specs.declared.stop.Stop.{Stop}
 use Rattle.jps_run.specs.declared.stop.Stop.TheVariants as stop
 use Rattle.jps_run.proofs.Pieces.{sent-more, sent-whole, sent-on, part-sent, lines-sent}
-use Rattle.jps_run.proofs.Stopping.{Follow, passed, no_stops}
+use Rattle.jps_run.proofs.Stopping.{passed, no_stops}
 
 -- one more element
 pub take-more : {X : Type 0} (xs : List X) (i : ℕ) (x : X) → i < length xs → x ≡ get_or xs i x

@@ -1,5 +1,5 @@
 -- The files of a request: which texts they hold, and the first one that is refused.
-use Rattle.std.specs.Prelude.{◌≡◌, ℕ, List, [], ◌∷◌, ◌++◌, ⊤, Option, Some, None, Result}
+use Rattle.std.specs.Prelude.{◌≡◌, ℕ, List, [], ◌∷◌, ◌++◌, ⊤, Some, None, Result}
 use Rattle.io_edge.specs.Told.{Held}
 use Rattle.io_edge.specs.Causes.{Rose}
 use Rattle.io_edge.specs.Whole.{IsWhole, IsLonger}
