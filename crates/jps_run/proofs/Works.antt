@@ -4,8 +4,9 @@ use Rattle.std.specs.Prelude.{Result, IsErrAnd}
 use Rattle.io_edge.specs.Told.{Held}
 use Rattle.io_edge.specs.Causes.{NoneFell}
 use Rattle.word_list.specs.Request.{Call}
-use Rattle.jps_run.specs.Ending.{HasWorked, worked_stops}
-use Rattle.jps_run.specs.Files.{File, IsAccepted, AreAccepted, ComesTo, IsRefused, read_stops}
+use Rattle.jps_run.specs.Worked.{HasWorked, worked_stops}
+use Rattle.jps_run.specs.Files.{File, IsAccepted, AreAccepted, ComesTo, IsRefused}
+use Rattle.jps_run.specs.Reading.{read_stops}
 use Rattle.jps_run.specs.Outcome.{files_of, IsAnswered, IsOutput}
 use Rattle.jps_run.specs.Seen.{Seen}
 use Rattle.jps_run.specs.Sending.{IsAll, IsPrinted, SendsWhole}

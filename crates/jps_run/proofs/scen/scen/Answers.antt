@@ -7,7 +7,7 @@ use Rattle.jps_run.specs.Outcome.{IsAnswered, call_with, judged}
 use Rattle.jps_run.specs.Rows.{AreRows, scen_status}
 use Rattle.jps_run.specs.Seen.{seen}
 use Rattle.edit_replay.specs.Session.{SessionData}
-use Rattle.jps_run.specs.Spelled.{AreKept}
+use Rattle.jps_run.specs.Reading.{AreKept}
 use Rattle.jps_run.specs.declared.kind.Kind.TheVariants as kind
 use Rattle.jps_run.proofs.Works.{first-file, second-file, none-fell, reading-stops, sent-worked}
 use Rattle.jps_run.proofs.Tallies.{small_status}
