@@ -32,12 +32,12 @@ module _ {A V F : Type 0} {Spells : V → Type 0} {Breaks : F → Type 0} {read 
       → Tells memory view answer (Err fault)
   tells_broken answer tells fault breaks = rw (← reads.broken fault breaks) tells
 
-reading_ok : {V F : Type 0} (found : Option F) (on value : V) → reading found on ≡ Ok value
+pub reading_ok : {V F : Type 0} (found : Option F) (on value : V) → reading found on ≡ Ok value
     → (found ≡ None) × (on ≡ value)
 reading_ok None on value read = (refl, cc)
 reading_ok (Some fault) on value read = absurd cc
 
-reading_err : {V F : Type 0} (found : Option F) (on : V) (fault : F) → reading found on ≡ Err fault
+pub reading_err : {V F : Type 0} (found : Option F) (on : V) (fault : F) → reading found on ≡ Err fault
     → found ≡ Some fault
 reading_err None on fault read = absurd cc
 reading_err (Some other) on fault read = cc
