@@ -12,7 +12,7 @@ use Rattle.grid_moves.specs.Points.{steps_between, are_lined, unfolded_from}
 use Rattle.grid_moves.specs.Least.{IsLeast}
 use Rattle.grid_moves.specs.Walk.{is_walk, cost_of}
 use Rattle.path_points.specs.declared.checking.BadAt.{BadAt}
-use Rattle.path_points.specs.Checked.{most_steps, run, cost_within, is_legal_run, is_good_run, starts_free, breaks_after, is_bad_at, IsFirstBad, IsShortWalk}
+use Rattle.path_points.specs.Checked.{most_steps, run, good_cost, is_legal_run, is_good_run, starts_free, breaks_after, is_bad_at, IsFirstBad, IsShortWalk}
 use Rattle.path_points.proofs.Filling.{and_both, segment-length}
 use Rattle.path_points.proofs.Joined.{walk_free, run_joined, run_parts, run_free, run_cost_joined, run_counts}
 use Rattle.path_points.proofs.Running.{le_true}
@@ -120,35 +120,18 @@ pub checked_end :
     → checked_from g i u (drop i points) cost ≡ Ok cost
 checked_end g i u points cost h = at_drop_all (λ points. checked_from g i u points cost) points i h
 
-le_left : (s k m : ℕ) → s ≤ m → nat_le k (m - s) ≡ nat_le (s + k) m
-le_left s k m h = by_test (nat_le k (m - s)) refl
-  where
-    by_test : (b : Bool) → nat_le k (m - s) ≡ b → nat_le k (m - s) ≡ nat_le (s + k) m
-    by_test true e = grind (arith, nat_tests)
-    by_test false e = grind (arith, nat_tests)
-
-within_is :
-    (g : GridData) (s : ℕ) (u v : Cell) (left : ℕ) → s ≤ most_steps → left ≡ most_steps - s
-    → cost_within g u v left ≡ (if is_good_run g s u v then Some (cost_of (u ∷ run u v)) else None)
-within_is g s u v left h e =
-    ap (λ n. cost_within g u v n) e
-    ∙ ap (λ b. if is_legal_run g u v && b then Some (cost_of (u ∷ run u v)) else None)
-    (le_left s (steps_between u v) most_steps h)
-
-pub within_none :
-    (g : GridData) (s : ℕ) (u v : Cell) (left : ℕ) → s ≤ most_steps → left ≡ most_steps - s
-    → cost_within g u v left ≡ None → is_good_run g s u v ≡ false
-within_none g s u v left h e n = by_test (is_good_run g s u v) (sym (within_is g s u v left h e) ∙ n)
+-- the cost of the run tells whether it is good
+pub good_none : (g : GridData) (s : ℕ) (u v : Cell) → good_cost g s u v ≡ None → is_good_run g s u v ≡ false
+good_none g s u v = by_test (is_good_run g s u v)
   where
     by_test : (b : Bool) → (if b then Some (cost_of (u ∷ run u v)) else None) ≡ None → b ≡ false
     by_test true k = absurd (cc)
     by_test false k = refl
 
-pub within_some :
-    (g : GridData) (s : ℕ) (u v : Cell) (left : ℕ) (cost : Cost) → s ≤ most_steps
-    → left ≡ most_steps - s → cost_within g u v left ≡ Some cost
+pub good_some :
+    (g : GridData) (s : ℕ) (u v : Cell) (cost : Cost) → good_cost g s u v ≡ Some cost
     → (is_good_run g s u v ≡ true) × (cost ≡ cost_of (u ∷ run u v))
-within_some g s u v left cost h e n = by_test (is_good_run g s u v) (sym (within_is g s u v left h e) ∙ n)
+good_some g s u v cost = by_test (is_good_run g s u v)
   where
     by_test :
         (b : Bool) → (if b then Some (cost_of (u ∷ run u v)) else None) ≡ Some cost

@@ -25,10 +25,9 @@ is_legal_run g u v = are_lined u v && is_walk g (u ∷ run u v)
 abbrev pub is_good_run : GridData → ℕ → Cell → Cell → Bool
 is_good_run g steps u v = is_legal_run g u v && nat_le (steps + steps_between u v) most_steps
 
--- the cost of the legal run from u to v, where there is one of at most so many steps
-abbrev pub cost_within : GridData → Cell → Cell → ℕ → Option Cost
-cost_within g u v most =
-    if is_legal_run g u v && nat_le (steps_between u v) most then Some (cost_of (u ∷ run u v)) else None
+-- the cost of the good run from u to v, where there is one
+abbrev pub good_cost : GridData → ℕ → Cell → Cell → Option Cost
+good_cost g steps u v = if is_good_run g steps u v then Some (cost_of (u ∷ run u v)) else None
 
 -- there is a first point, and it is free
 abbrev pub starts_free : GridData → List Cell → Bool
