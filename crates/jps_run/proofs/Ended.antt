@@ -1,12 +1,12 @@
 -- How a call of `run` ends.
-use Rattle.std.proofs.Common.{◌≡◌, refl, sym, subst, List, [], ℕ, ◌≤◌, ◌⊎◌, inl, inr, arith}
+use Rattle.std.proofs.Common.{◌≡◌, true, refl, sym, subst, List, [], ℕ, ◌≤◌, ◌⊎◌, inl, inr, arith}
 use Rattle.word_list.specs.Calls.{is_call}
 use Rattle.word_list.specs.Request.{Call}
 use Rattle.word_list.specs.Rule.{IsBadWord}
 use Rattle.jps_run.specs.Ending.{Comes, Gets, HasLines, Whole, WroteNothing, none, some}
 use Rattle.jps_run.specs.FaultLines.{word_line}
 use Rattle.jps_run.specs.Files.{HasRefused}
-use Rattle.jps_run.specs.Outcome.{Spell, bad_word, bad_text, done, files_of}
+use Rattle.jps_run.specs.Outcome.{Spell, bad_word, bad_text, comes_as_lines, done, files_of}
 use Rattle.jps_run.specs.Seen.{Seen, Stream}
 use Rattle.jps_run.specs.Sending.{IsAll, AreLines}
 use Rattle.jps_run.proofs.Pieces.{nothing}
@@ -51,6 +51,8 @@ module _ (words : List (List ℕ)) (before : Seen) (err err_now : Stream) where
 
   -- memory was refused
   pub memory-comes : (now : Seen) (call : Call) → Spell words call
-      → WroteNothing before now ⊎ AreLines (Whole call before) before.out now.out → HasLines words before now
+      → WroteNothing before now
+      ⊎ ((comes_as_lines call.request ≡ true) × AreLines (Whole call before) before.out now.out)
+      → HasLines words before now
   memory-comes now call spelled (inl n) = none n
-  memory-comes now call spelled (inr l) = some call spelled l
+  memory-comes now call spelled (inr l) = some call spelled l.0 l.1

@@ -1,15 +1,18 @@
 -- The work on a request comes to its outcome, or stops.
-use Rattle.std.proofs.Common.{◌≡◌, refl, sym, ap, ◌∙◌, subst, List, [], ◌∷◌, ℕ, ◌≤◌, inl, inr, arith}
+use Rattle.std.proofs.Common.{◌≡◌, true, refl, sym, ◌∙◌, subst, List, [], ◌∷◌, ℕ, ◌≤◌, inl, inr, arith}
 use Rattle.std.specs.Prelude.{Result, IsErrAnd}
 use Rattle.io_edge.specs.Told.{Held}
+use Rattle.std.specs.List.{concat}
+use Rattle.std.proofs.lemmas.List.{append-nil}
 use Rattle.io_edge.specs.Causes.{NoneFell}
+use Rattle.io_edge.specs.Whole.{AppendsSome}
 use Rattle.word_list.specs.Request.{Call}
 use Rattle.jps_run.specs.Worked.{HasWorked, worked_stops}
 use Rattle.jps_run.specs.Files.{File, IsAccepted, AreAccepted, ComesTo, IsRefused}
 use Rattle.jps_run.specs.Reading.{read_stops}
-use Rattle.jps_run.specs.Outcome.{files_of, IsAnswered, IsOutput}
+use Rattle.jps_run.specs.Outcome.{comes_as_lines, files_of, IsAnswered, IsOutput}
 use Rattle.jps_run.specs.Seen.{Seen}
-use Rattle.jps_run.specs.Sending.{IsAll, IsPrinted, SendsWhole}
+use Rattle.jps_run.specs.Sending.{IsAll, SendsText, SendsWhole, Wrote}
 use Rattle.jps_run.specs.Stops.{StopsSo}
 use Rattle.jps_run.specs.declared.stop.Stop.{Stop}
 use Rattle.jps_run.proofs.Pieces.{nothing, rose-since}
@@ -73,8 +76,9 @@ module _ (call : Call) (before : Seen) where
   pub sent-worked : (now : Seen) (Sent : List (List ℕ) → ℕ → Type 0) (result : Result ℕ Stop)
       → ((lines : List (List ℕ)) (status : ℕ) → Sent lines status
       → (status ≤ 1) × IsOutput call before.holds lines status)
-      → SendsWhole Sent before.out now.out result → HasWorked call before now result
-  sent-worked now Sent result is sent =
+      → comes_as_lines call.request ≡ true → SendsWhole Sent before.out now.out result
+      → HasWorked call before now result
+  sent-worked now Sent result is as_lines sent =
       ends-on (IsAll Sent before.out now.out) _ _ (worked_stops call before now) result
       (λ status a. (
         (is a.lines status a.whole).0,
@@ -92,27 +96,45 @@ module _ (call : Call) (before : Seen) where
             wrote = k.1.wrote;
           },
         );
-        memory = λ k. inr (record {
-          lines = k.lines;
-          status = k.status;
-          whole = (is k.lines k.status k.whole).1;
-          count = k.count;
-          wrote = k.wrote;
-        });
+        memory = λ k. inr (
+          as_lines,
+          record {
+            lines = k.lines;
+            status = k.status;
+            whole = (is k.lines k.status k.whole).1;
+            count = k.count;
+            wrote = k.wrote;
+          },
+        );
       }) sent
 
-  -- a text was printed
+  -- a text was printed whole, or a part of it
   pub printed : (now : Seen) (text bytes : List ℕ) (result : Result ℕ Stop)
       → AreAccepted before.holds [] (files_of call.request) [] → IsAnswered call [] (text ∷ []) 0 → bytes ≡ text
-      → SendsWhole (IsPrinted bytes) before.out now.out result → HasWorked call before now result
-  printed now text bytes result a is e s = sent-worked now (IsPrinted bytes) result
-      (λ lines status w. (
-        (let good : status ≡ 0 = w.1 in omega arith),
+      → SendsText bytes before.out now.out result → HasWorked call before now result
+  printed now text bytes result a is e s =
+      let whole : IsOutput call before.holds (text ∷ []) 0 = record { texts = []; accepted = a; answered = is } in
+      let joined : bytes ≡ concat (text ∷ []) = e ∙ sym (append-nil text) in
+      ends-on (λ status. (status ≡ 0) × Wrote before.out now.out bytes) _ _ (worked_stops call before now) result
+      (λ status w. (
+        (let good : status ≡ 0 = w.0 in omega arith),
         record {
-          texts = [];
-          accepted = a;
-          answered = subst (λ n. IsAnswered call [] lines n) (sym w.1)
-              (subst (λ (all : List (List ℕ)). IsAnswered call [] all 0)
-              (sym (w.0 ∙ ap (λ (t : List ℕ). t ∷ []) e)) is);
+          lines = text ∷ [];
+          whole = subst (λ n. IsOutput call before.holds (text ∷ []) n) (sym w.0) whole;
+          wrote = subst (λ (b : List ℕ). Wrote before.out now.out b) joined w.1;
         },
-      )) s
+      ))
+      (record {
+        refused = λ line k. absurd k;
+        read = λ k. absurd k;
+        write = λ k. (
+          k.0,
+          record {
+            lines = text ∷ [];
+            status = 0;
+            whole = whole;
+            wrote = subst (λ (b : List ℕ). AppendsSome before.out.written now.out.written b) joined k.1;
+          },
+        );
+        memory = λ k. inl k;
+      }) s

@@ -1,5 +1,5 @@
 -- How a call of `run` ends.
-use Rattle.std.specs.Prelude.{◌≡◌, ℕ, ◌≤◌, List, [], ◌⊎◌, codes, nat_eq, if◌then◌else◌, Result}
+use Rattle.std.specs.Prelude.{◌≡◌, true, ℕ, ◌≤◌, List, [], ◌⊎◌, codes, nat_eq, if◌then◌else◌, Result}
 use Rattle.std.specs.List.{concat}
 use Rattle.io_edge.specs.Causes.{Rose}
 use Rattle.word_list.specs.Calls.{is_call}
@@ -7,7 +7,7 @@ use Rattle.word_list.specs.Request.{Call}
 use Rattle.word_list.specs.Rule.{StopsAt}
 use Rattle.jps_run.specs.FaultLines.{word_line}
 use Rattle.jps_run.specs.Files.{HasRefused, FileRose}
-use Rattle.jps_run.specs.Outcome.{Spell, Outcome, IsOutcome, IsOutput, files_of}
+use Rattle.jps_run.specs.Outcome.{Spell, Outcome, IsOutcome, IsOutput, comes_as_lines, files_of}
 use Rattle.jps_run.specs.Seen.{Seen, Stream}
 use Rattle.jps_run.specs.Sending.{Wrote, WroteSome, IsAll, IsPart, AreLines}
 use Rattle.jps_run.specs.Stops.{Stops, Ends}
@@ -61,10 +61,11 @@ pub record HasPart (words : List (List ℕ)) (before now : Seen) : Type 0 where
   pub spelled : Spell words call
   pub part : IsPart (Whole call before) before.out now.out
 
--- nothing was written, or the first lines of a right output, each whole
+-- nothing was written, or of an output that comes as lines the first ones, each whole
 pub data HasLines (words : List (List ℕ)) (before now : Seen) : Type 0 where
   none : WroteNothing before now → HasLines words before now
-  some : (call : Call) → Spell words call → AreLines (Whole call before) before.out now.out
+  some : (call : Call) → Spell words call → comes_as_lines call.request ≡ true
+      → AreLines (Whole call before) before.out now.out
       → HasLines words before now
 
 -- the stream got the line of the word with which no call begins, behind these words or among them

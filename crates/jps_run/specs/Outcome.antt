@@ -1,15 +1,17 @@
 -- What a request comes to, where nothing outside fails and memory is there.
-use Rattle.std.specs.Prelude.{◌≡◌, ℕ, List, [], ◌∷◌, Some, Ok}
+use Rattle.std.specs.Prelude.{◌≡◌, ℕ, Bool, true, false, List, [], ◌∷◌, Some, Ok}
 use Rattle.io_edge.specs.Told.{Held}
 use Rattle.map_text.specs.Map.{Map}
 use Rattle.map_text.specs.Faults.{map_of}
+use Rattle.map_text.specs.Writing.{canonical_text}
+use Rattle.map_maker.specs.Making.{made_map}
 use Rattle.script_text.specs.declared.command.Command.{Command}
 use Rattle.script_text.specs.declared.command.Command.TheVariants as command
 use Rattle.script_text.specs.Faults.{script_of}
 use Rattle.scen_text.specs.declared.entry.Entry.{Entry}
 use Rattle.scen_text.specs.Faults.{scen_of}
 use Rattle.word_list.specs.Calls.{call_of, is_call}
-use Rattle.word_list.specs.Request.{Asked, Call, Help, Version, Query, Solve, Scen}
+use Rattle.word_list.specs.Request.{Asked, Call, Help, Version, Query, Solve, Scen, Make, Drill}
 use Rattle.word_list.specs.Rule.{IsBadWord}
 use Rattle.word_list.specs.declared.request.Settings.{Settings}
 use Rattle.jps_run.specs.Answers.{AreAnswers}
@@ -36,8 +38,20 @@ files_of Version = []
 files_of (Query map sx sy gx gy) = record { kind = kind.Map; name = map } ∷ []
 files_of (Solve map script) =
     record { kind = kind.Map; name = map } ∷ record { kind = kind.Script; name = script } ∷ []
+files_of (Make seed w h percent) = []
+files_of (Drill seed) = []
 files_of (Scen map scen) =
     record { kind = kind.Map; name = map } ∷ record { kind = kind.Scen; name = scen } ∷ []
+
+-- whether what is asked for comes as lines, which may go out one by one; else it is one text, made whole first
+abbrev pub comes_as_lines : Asked → Bool
+comes_as_lines Help = false
+comes_as_lines Version = false
+comes_as_lines (Query map sx sy gx gy) = true
+comes_as_lines (Solve map script) = true
+comes_as_lines (Scen map scen) = true
+comes_as_lines (Make seed w h percent) = false
+comes_as_lines (Drill seed) = true
 
 -- the lines and the status of a call, on the texts of its files; a query is a script of one command
 pub data IsAnswered : Call → List (List ℕ) → List (List ℕ) → ℕ → Type 0 where
@@ -55,6 +69,9 @@ pub data IsAnswered : Call → List (List ℕ) → List (List ℕ) → ℕ → T
   judged : (map scen text second : List ℕ) (set : Settings) (m : Map) (entries : List Entry) (rows : List Row)
       → map_of text ≡ Ok m → scen_of second ≡ Ok entries → AreRows (session_on set m) entries rows
       → IsAnswered (call_with (Scen map scen) set) (text ∷ second ∷ []) (scen_lines rows) (scen_status rows)
+  made : (seed w h percent : ℕ) (set : Settings)
+      → IsAnswered (call_with (Make seed w h percent) set) []
+      (canonical_text (made_map seed w h percent) ∷ []) 0
 
 -- the lines and the status are a right output of a call, with the files that are held
 pub record IsOutput (call : Call) (holds : List ℕ → Held) (lines : List (List ℕ)) (status : ℕ) : Type 0 where

@@ -69,6 +69,11 @@ SendsWhole Whole before now result = Ends (IsAll Whole before now) (record {
   Memory = AreLines Whole before now;
 }) result
 
--- a text is printed whole, with status 0
-abbrev pub IsPrinted : List ℕ → List (List ℕ) → ℕ → Type 0
-IsPrinted text lines status = (lines ≡ text ∷ []) × (status ≡ 0)
+-- a text was written whole, with status 0; or, where a write failed, a first part of it; nothing for want of memory
+abbrev pub SendsText : List ℕ → Stream → Stream → Result ℕ Stop → Type 0
+SendsText text before now result = Ends (λ status. (status ≡ 0) × Wrote before now text) (record {
+  Refused = λ line. ⊥;
+  Read = ⊥;
+  Write = WroteSome before now text;
+  Memory = Wrote before now [];
+}) result

@@ -7,6 +7,7 @@ mod files;
 mod job;
 mod kind;
 mod lines;
+mod make;
 mod query;
 mod row;
 mod scen;

@@ -2,7 +2,7 @@
 
 ghost use Rattle.std.specs.Prelude.{◌≤◌};
 ghost use Rattle.jps_run.specs.Seen.{stream};
-ghost use Rattle.jps_run.specs.Sending.{Sends, SendsFull};
+ghost use Rattle.jps_run.specs.Sending.{Sends, SendsFull, SendsText};
 
 use crate::stop::Stop;
 use io_edge::{Sink, write_whole};
@@ -33,4 +33,13 @@ pub(crate) fn send_full<O: Sink>(out: &mut O, waiting: &mut Vec<u8>) -> Result<(
         waiting.clear();
     }
     Ok(())
+}
+
+/// Writes a text whole, and gives the status 0.
+pub(crate) fn send_text<O: Sink>(out: &mut O, text: &[u8]) -> Result<u8, Stop>
+    ensures { SendsText text.now (stream (O.written out.old) (O.faults out.old))
+        (stream (O.written out.new) (O.faults out.new)) result }
+{
+    send(out, text)?;
+    Ok(0)
 }

@@ -2,17 +2,17 @@
 
 ghost use Rattle.std.specs.Prelude.{◌≡◌, ℕ, ◌≤◌, ◌⊎◌, map, string_bytes};
 ghost use Rattle.io_edge.specs.Causes.{Rose};
-ghost use Rattle.word_list.specs.Request.{called};
+ghost use Rattle.word_list.specs.Request.{HasSides, called};
 ghost use Rattle.jps_run.specs.Ending.{Comes, Gets, HasLines, HasPart, NamedRose, Names, WroteNothing, ending_line};
 ghost use Rattle.jps_run.specs.Worked.{HasWorked};
 ghost use Rattle.jps_run.specs.FaultLines.{word_line as line_of_word};
 ghost use Rattle.jps_run.specs.Seen.{seen, stream};
-ghost use Rattle.jps_run.specs.Sending.{IsPrinted, SendsWhole};
 
 use crate::faults::word_line;
+use crate::make::make;
 use crate::query::{Ends, query};
 use crate::scen::scen;
-use crate::sending::send;
+use crate::sending::send_text;
 use crate::solve::solve;
 use crate::stop::Stop;
 use crate::texts::{help_text, version_text};
@@ -21,15 +21,6 @@ use std::alloc::Global;
 use std::sync::ledger::Ledger;
 use steps::Steps;
 use word_list::{Request, Settings, first_bad, read_words};
-
-// Writes a text whole.
-fn print<O: Sink>(out: &mut O, text: &[u8]) -> Result<u8, Stop>
-    ensures { SendsWhole (IsPrinted text.now) (stream (O.written out.old) (O.faults out.old))
-        (stream (O.written out.new) (O.faults out.new)) result }
-{
-    send(out, text)?;
-    Ok(0)
-}
 
 // Does what is asked for, and gives the status.
 fn work<F: Files, O: Sink, L: Ledger>(
@@ -40,14 +31,15 @@ fn work<F: Files, O: Sink, L: Ledger>(
     out: &mut O,
     steps: &mut Steps<L>,
 ) -> Result<u8, Stop>
+    requires sides { HasSides request }
     ensures worked { HasWorked (called request.entry settings)
         (seen (F.holds files.old) (F.faults files.old) (O.written out.old) (O.faults out.old))
         (seen (F.holds files.new) (F.faults files.new) (O.written out.new) (O.faults out.new)) result }
     ensures unchanged { F.holds files.new ≡ F.holds files.old }
 {
     match request {
-        Request::Help => print(out, help_text()),
-        Request::Version => print(out, version_text()),
+        Request::Help => send_text(out, help_text()),
+        Request::Version => send_text(out, version_text()),
         Request::Query {
             map,
             sx,
@@ -65,6 +57,13 @@ fn work<F: Files, O: Sink, L: Ledger>(
         ),
         Request::Solve { map, script } => solve(alloc, files, out, map, script, settings, steps),
         Request::Scen { map, scen: name } => scen(alloc, files, out, map, name, settings, steps),
+        Request::Make {
+            seed,
+            w,
+            h,
+            percent,
+        } => make(alloc, out, seed, w, h, percent),
+        Request::Drill { .. } => Err(Stop::Memory),
     }
 }
 

@@ -41,4 +41,4 @@ returns-clause-worked g c =
             r.spelled.spelled
             (subst (λ (d : SessionData). AreAnswers d c.args.settings.show commands lines) r.spelled.begun w.answers));
       },
-    )) c.write_answers.ensures
+    )) refl c.write_answers.ensures

@@ -71,4 +71,4 @@ returns-clause-worked g c =
             (subst (λ (all : List Entry). AreRows c.in_ok-session.session all w.rows) c.as_slice.ensures.value
             w.are))));
       },
-    )) c.write_rows.ensures
+    )) refl c.write_rows.ensures

@@ -64,4 +64,4 @@ returns-clause-worked g c =
             (subst (λ (all : List Command). AreAnswers c.in_ok-session.session c.args.settings.show all lines)
             c.as_slice.ensures.value w.answers)));
       },
-    )) c.write_answers.ensures
+    )) refl c.write_answers.ensures
