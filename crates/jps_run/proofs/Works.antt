@@ -2,7 +2,6 @@
 use Rattle.std.proofs.Common.{◌≡◌, true, refl, sym, ◌∙◌, subst, List, [], ◌∷◌, ℕ, ◌≤◌, inl, inr, arith}
 use Rattle.std.specs.Prelude.{Result, IsErrAnd}
 use Rattle.io_edge.specs.Told.{Held}
-use Rattle.std.specs.List.{concat}
 use Rattle.std.proofs.lemmas.List.{append-nil}
 use Rattle.io_edge.specs.Causes.{NoneFell}
 use Rattle.io_edge.specs.Whole.{AppendsSome}
@@ -11,12 +10,12 @@ use Rattle.jps_run.specs.Worked.{HasWorked, worked_stops}
 use Rattle.jps_run.specs.Files.{File, IsAccepted, AreAccepted, ComesTo, IsRefused}
 use Rattle.jps_run.specs.Reading.{read_stops}
 use Rattle.jps_run.specs.Outcome.{comes_as_lines, files_of, IsAnswered, IsOutput}
-use Rattle.jps_run.specs.Seen.{Seen}
-use Rattle.jps_run.specs.Sending.{IsAll, SendsText, SendsWhole, Wrote}
+use Rattle.jps_run.specs.Seen.{Seen, Stream}
+use Rattle.jps_run.specs.Sending.{IsAll, SendsOne, SendsText, SendsWhole, Wrote, WroteSome, write_stops}
 use Rattle.jps_run.specs.Stops.{StopsSo}
 use Rattle.jps_run.specs.declared.stop.Stop.{Stop}
 use Rattle.jps_run.proofs.Pieces.{nothing, rose-since}
-use Rattle.jps_run.proofs.Stopping.{passed, ends-on}
+use Rattle.jps_run.proofs.Stopping.{passed, ends-on, only_write}
 
 -- the first file of a request
 abbrev pub first-file : (holds : List ℕ → Held) (file : File) (rest : List File) → ComesTo holds (file ∷ rest) file
@@ -108,33 +107,44 @@ module _ (call : Call) (before : Seen) where
         );
       }) sent
 
-  -- a text was printed whole, or a part of it
-  pub printed : (now : Seen) (text bytes : List ℕ) (result : Result ℕ Stop)
-      → AreAccepted before.holds [] (files_of call.request) [] → IsAnswered call [] (text ∷ []) 0 → bytes ≡ text
-      → SendsText bytes before.out now.out result → HasWorked call before now result
-  printed now text bytes result a is e s =
-      let whole : IsOutput call before.holds (text ∷ []) 0 = record { texts = []; accepted = a; answered = is } in
-      let joined : bytes ≡ concat (text ∷ []) = e ∙ sym (append-nil text) in
-      ends-on (λ status. (status ≡ 0) × Wrote before.out now.out bytes) _ _ (worked_stops call before now) result
+  -- a right text was printed whole, or a part of one
+  pub printed : (now : Seen) (Right : List ℕ → Type 0) (result : Result ℕ Stop)
+      → AreAccepted before.holds [] (files_of call.request) []
+      → ((text : List ℕ) → Right text → IsAnswered call [] (text ∷ []) 0)
+      → SendsOne Right before.out now.out result → HasWorked call before now result
+  printed now Right result accepted is s =
+      ends-on (λ status. (status ≡ 0) × ((text : List ℕ) × Right text × Wrote before.out now.out text)) _ _
+      (worked_stops call before now) result
       (λ status w. (
         (let good : status ≡ 0 = w.0 in omega arith),
         record {
-          lines = text ∷ [];
-          whole = subst (λ n. IsOutput call before.holds (text ∷ []) n) (sym w.0) whole;
-          wrote = subst (λ (b : List ℕ). Wrote before.out now.out b) joined w.1;
+          lines = w.1.0 ∷ [];
+          whole = subst (λ n. IsOutput call before.holds (w.1.0 ∷ []) n) (sym w.0) (output w.1.0 w.1.1);
+          wrote = subst (λ (b : List ℕ). Wrote before.out now.out b) (sym (append-nil w.1.0)) w.1.2;
         },
       ))
       (record {
         refused = λ line k. absurd k;
         read = λ k. absurd k;
         write = λ k. (
-          k.0,
+          k.2.0,
           record {
-            lines = text ∷ [];
+            lines = k.0 ∷ [];
             status = 0;
-            whole = whole;
-            wrote = subst (λ (b : List ℕ). AppendsSome before.out.written now.out.written b) joined k.1;
+            whole = output k.0 k.1;
+            wrote = subst (λ (b : List ℕ). AppendsSome before.out.written now.out.written b)
+                (sym (append-nil k.0)) k.2.1;
           },
         );
         memory = λ k. inl k;
       }) s
+    where
+      output : (text : List ℕ) → Right text → IsOutput call before.holds (text ∷ []) 0
+      output text right = record { texts = []; accepted = accepted; answered = is text right }
+
+-- a right text was sent
+pub sent-one : (Right : List ℕ → Type 0) (text : List ℕ) (before now : Stream) (result : Result ℕ Stop)
+    → Right text → SendsText text before now result → SendsOne Right before now result
+sent-one Right text before now result right s =
+    ends-on (λ status. (status ≡ 0) × Wrote before now text) _ (write_stops (WroteSome before now text)) _ result
+    (λ status w. (w.0, (text, right, w.1))) (only_write (λ k. (text, right, k))) s

@@ -18,3 +18,5 @@ pub mod Worked
 pub mod Working
 pub mod Answering
 pub mod Judging
+pub mod Drill
+pub mod Drilling

@@ -15,6 +15,8 @@ use Rattle.word_list.specs.Request.{Asked, Call, Help, Version, Query, Solve, Sc
 use Rattle.word_list.specs.Rule.{IsBadWord}
 use Rattle.word_list.specs.declared.request.Settings.{Settings}
 use Rattle.jps_run.specs.Answers.{AreAnswers}
+use Rattle.jps_run.specs.Drill.{AreDrilled, drill_line}
+use Rattle.jps_run.specs.declared.drill.Finding.{Finding}
 use Rattle.jps_run.specs.FaultLines.{word_line}
 use Rattle.jps_run.specs.Files.{File, AreAccepted, HasRefused}
 use Rattle.jps_run.specs.Rows.{AreRows, scen_lines, scen_status}
@@ -51,7 +53,7 @@ comes_as_lines (Query map sx sy gx gy) = true
 comes_as_lines (Solve map script) = true
 comes_as_lines (Scen map scen) = true
 comes_as_lines (Make seed w h percent) = false
-comes_as_lines (Drill seed) = true
+comes_as_lines (Drill seed) = false
 
 -- the lines and the status of a call, on the texts of its files; a query is a script of one command
 pub data IsAnswered : Call → List (List ℕ) → List (List ℕ) → ℕ → Type 0 where
@@ -72,6 +74,8 @@ pub data IsAnswered : Call → List (List ℕ) → List (List ℕ) → ℕ → T
   made : (seed w h percent : ℕ) (set : Settings)
       → IsAnswered (call_with (Make seed w h percent) set) []
       (canonical_text (made_map seed w h percent) ∷ []) 0
+  drilled : (seed : ℕ) (set : Settings) (found : List Finding) → AreDrilled set seed found
+      → IsAnswered (call_with (Drill seed) set) [] (drill_line found ∷ []) 0
 
 -- the lines and the status are a right output of a call, with the files that are held
 pub record IsOutput (call : Call) (holds : List ℕ → Held) (lines : List (List ℕ)) (status : ℕ) : Type 0 where

@@ -69,11 +69,17 @@ SendsWhole Whole before now result = Ends (IsAll Whole before now) (record {
   Memory = AreLines Whole before now;
 }) result
 
--- a text was written whole, with status 0; or, where a write failed, a first part of it; nothing for want of memory
+-- a right text was written whole, with status 0; or, where a write failed, a first part of one; nothing for want of memory
+abbrev pub SendsOne : (List ℕ → Type 0) → Stream → Stream → Result ℕ Stop → Type 0
+SendsOne Right before now result = Ends
+    (λ status. (status ≡ 0) × ((text : List ℕ) × Right text × Wrote before now text)) (record {
+      Refused = λ line. ⊥;
+      Read = ⊥;
+      Write = (text : List ℕ) × Right text × WroteSome before now text;
+      Memory = Wrote before now [];
+    }) result
+
+-- this text was written whole, or a first part of it
 abbrev pub SendsText : List ℕ → Stream → Stream → Result ℕ Stop → Type 0
-SendsText text before now result = Ends (λ status. (status ≡ 0) × Wrote before now text) (record {
-  Refused = λ line. ⊥;
-  Read = ⊥;
-  Write = WroteSome before now text;
-  Memory = Wrote before now [];
-}) result
+SendsText text before now result = Ends (λ status. (status ≡ 0) × Wrote before now text)
+    (write_stops (WroteSome before now text)) result

@@ -139,8 +139,8 @@ pub(crate) fn read_file<F: Files, T: Text>(
     T::of_text(alloc, text.as_slice())
 }
 
-// The engine that is picked.
-fn engine_of(pick: Pick) -> Engine
+/// The engine that is picked.
+pub(crate) fn engine_of(pick: Pick) -> Engine
     ensures { result ≡ spec.engine_of pick }
 {
     match pick {
@@ -148,8 +148,8 @@ fn engine_of(pick: Pick) -> Engine
     }
 }
 
-// The corner rule, by whether a diagonal move may pass one blocked cell.
-fn corner_of(one: bool) -> Corner
+/// The corner rule, by whether a diagonal move may pass one blocked cell.
+pub(crate) fn corner_of(one: bool) -> Corner
     ensures { result ≡ spec.corner_of one }
 {
     if one { Corner::One } else { Corner::Never }

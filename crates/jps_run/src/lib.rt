@@ -2,6 +2,7 @@
 #![tactic(auto)]
 
 mod answers;
+mod drill;
 mod faults;
 mod files;
 mod job;

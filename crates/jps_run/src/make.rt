@@ -1,10 +1,10 @@
 //! The command `make`: the map of a seed.
 
-ghost use Rattle.std.specs.Prelude.{◌≤◌};
+ghost use Rattle.std.specs.Prelude.{◌≡◌, ◌≤◌};
 ghost use Rattle.map_text.specs.Writing.{canonical_text};
 ghost use Rattle.map_maker.specs.Making.{made_map};
 ghost use Rattle.jps_run.specs.Seen.{stream};
-ghost use Rattle.jps_run.specs.Sending.{SendsText};
+ghost use Rattle.jps_run.specs.Sending.{SendsOne};
 
 use crate::sending::send_text;
 use crate::stop::Stop;
@@ -24,7 +24,7 @@ pub(crate) fn make<O: Sink>(
 ) -> Result<u8, Stop>
     requires width { (1 ≤ w) × (w ≤ 4096) }
     requires height { (1 ≤ h) × (h ≤ 4096) }
-    ensures { SendsText (canonical_text (made_map seed w h percent))
+    ensures { SendsOne (λ text. text ≡ canonical_text (made_map seed w h percent))
         (stream (O.written out.old) (O.faults out.old)) (stream (O.written out.new) (O.faults out.new)) result }
 {
     let map = map_maker::make(alloc, seed, w, h, percent)?;

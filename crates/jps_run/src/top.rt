@@ -8,6 +8,7 @@ ghost use Rattle.jps_run.specs.Worked.{HasWorked};
 ghost use Rattle.jps_run.specs.FaultLines.{word_line as line_of_word};
 ghost use Rattle.jps_run.specs.Seen.{seen, stream};
 
+use crate::drill::drill;
 use crate::faults::word_line;
 use crate::make::make;
 use crate::query::{Ends, query};
@@ -63,7 +64,7 @@ fn work<F: Files, O: Sink, L: Ledger>(
             h,
             percent,
         } => make(alloc, out, seed, w, h, percent),
-        Request::Drill { .. } => Err(Stop::Memory),
+        Request::Drill { seed } => drill(alloc, out, seed, settings, steps),
     }
 }
 

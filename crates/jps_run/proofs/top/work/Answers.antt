@@ -1,13 +1,14 @@
-use Rattle.std.proofs.Common.{refl, sym, subst, List, ℕ}
+use Rattle.std.proofs.Common.{◌≡◌, sym, ap, ◌∙◌, subst, List, [], ◌∷◌, ℕ}
 use Rattle.map_text.specs.Writing.{canonical_text}
 use Rattle.map_maker.specs.Making.{made_map}
-use Rattle.word_list.specs.Request.{Help, Version, Make, called}
+use Rattle.word_list.specs.Request.{Help, Version, Make, Drill, called}
 use Rattle.word_list.specs.declared.request.Request.{Request}
+use Rattle.jps_run.specs.Drill.{IsDrillText}
 use Rattle.jps_run.specs.Worked.{HasWorked}
-use Rattle.jps_run.specs.Outcome.{call_with, help, version, made}
-use Rattle.jps_run.specs.Seen.{seen}
+use Rattle.jps_run.specs.Outcome.{IsAnswered, call_with, help, version, made, drilled}
+use Rattle.jps_run.specs.Seen.{seen, stream}
 use Rattle.jps_run.specs.Texts.{help_text, version_text}
-use Rattle.jps_run.proofs.Works.{printed}
+use Rattle.jps_run.proofs.Works.{printed, sent-one}
 use Rattle.jps_run.proofs.top.work.Goals as goal
 
 pub returns-in-Help-clause-worked : goal.returns-in-Help-clause-worked
@@ -16,21 +17,26 @@ returns-in-Help-clause-worked g c =
     let faults = g.F.Files.faults c.args.files.now in
     let before = seen holds faults (g.O.Sink.written c.args.out.now) (g.O.Sink.faults c.args.out.now) in
     let now = seen holds faults (g.O.Sink.written c.send_text.new.out) (g.O.Sink.faults c.send_text.new.out) in
+    let call = call_with Help c.args.settings in
     subst (λ (r : Request). HasWorked (called r c.args.settings) before now c.send_text.result) (sym c.in-Help.is)
-    (printed (call_with Help c.args.settings) before now help_text c.help_text.result.now c.send_text.result tt (help c.args.settings) c.help_text.ensures
-    c.send_text.ensures)
+    (printed call before now (λ text. text ≡ help_text) c.send_text.result tt
+    (λ text e. subst (λ (t : List ℕ). IsAnswered call [] (t ∷ []) 0) (sym e) (help c.args.settings))
+    (sent-one (λ text. text ≡ help_text) c.help_text.result.now before.out now.out c.send_text.result
+    c.help_text.ensures c.send_text.ensures))
 
 pub returns-in-Version-clause-worked : goal.returns-in-Version-clause-worked
 returns-in-Version-clause-worked g c =
     let holds = g.F.Files.holds c.args.files.now in
     let faults = g.F.Files.faults c.args.files.now in
-    let out = c.send_text-in-Version.new.out in
+    let sent = c.send_text-in-Version in
     let before = seen holds faults (g.O.Sink.written c.args.out.now) (g.O.Sink.faults c.args.out.now) in
-    let now = seen holds faults (g.O.Sink.written out) (g.O.Sink.faults out) in
-    subst (λ (r : Request). HasWorked (called r c.args.settings) before now c.send_text-in-Version.result) (sym c.in-Version.is)
-    (printed (call_with Version c.args.settings) before now version_text c.version_text.result.now c.send_text-in-Version.result tt
-    (version c.args.settings)
-    c.version_text.ensures c.send_text-in-Version.ensures)
+    let now = seen holds faults (g.O.Sink.written sent.new.out) (g.O.Sink.faults sent.new.out) in
+    let call = call_with Version c.args.settings in
+    subst (λ (r : Request). HasWorked (called r c.args.settings) before now sent.result) (sym c.in-Version.is)
+    (printed call before now (λ text. text ≡ version_text) sent.result tt
+    (λ text e. subst (λ (t : List ℕ). IsAnswered call [] (t ∷ []) 0) (sym e) (version c.args.settings))
+    (sent-one (λ text. text ≡ version_text) c.version_text.result.now before.out now.out sent.result
+    c.version_text.ensures sent.ensures))
 
 pub returns-in-Make-clause-worked : goal.returns-in-Make-clause-worked
 returns-in-Make-clause-worked g c =
@@ -39,7 +45,21 @@ returns-in-Make-clause-worked g c =
     let before = seen holds faults (g.O.Sink.written c.args.out.now) (g.O.Sink.faults c.args.out.now) in
     let now = seen holds faults (g.O.Sink.written c.make.new.out) (g.O.Sink.faults c.make.new.out) in
     let m = c.in-Make in
-    let text : List ℕ = canonical_text (made_map m.seed m.w m.h m.percent) in
+    let call = call_with (Make m.seed m.w m.h m.percent) c.args.settings in
     subst (λ (r : Request). HasWorked (called r c.args.settings) before now c.make.result) (sym m.is)
-    (printed (call_with (Make m.seed m.w m.h m.percent) c.args.settings) before now text text c.make.result tt
-    (made m.seed m.w m.h m.percent c.args.settings) refl c.make.ensures)
+    (printed call before now (λ text. text ≡ canonical_text (made_map m.seed m.w m.h m.percent)) c.make.result tt
+    (λ text e. subst (λ (t : List ℕ). IsAnswered call [] (t ∷ []) 0) (sym e)
+    (made m.seed m.w m.h m.percent c.args.settings)) c.make.ensures)
+
+pub returns-in-Drill-clause-worked : goal.returns-in-Drill-clause-worked
+returns-in-Drill-clause-worked g c =
+    let holds = g.F.Files.holds c.args.files.now in
+    let faults = g.F.Files.faults c.args.files.now in
+    let before = seen holds faults (g.O.Sink.written c.args.out.now) (g.O.Sink.faults c.args.out.now) in
+    let now = seen holds faults (g.O.Sink.written c.drill.new.out) (g.O.Sink.faults c.drill.new.out) in
+    let m = c.in-Drill in
+    let call = call_with (Drill m.seed) c.args.settings in
+    subst (λ (r : Request). HasWorked (called r c.args.settings) before now c.drill.result) (sym m.is)
+    (printed call before now (IsDrillText c.args.settings m.seed) c.drill.result tt
+    (λ text r. subst (λ (t : List ℕ). IsAnswered call [] (t ∷ []) 0) (sym r.is)
+    (drilled m.seed c.args.settings r.found r.are)) c.drill.ensures)

@@ -1,0 +1,58 @@
+-- How far a drill has come. No public clause cites this module.
+use Rattle.std.specs.Prelude.{◌≡◌, ℕ, ◌+◌, ◌<◌, ◌≤◌, ◌^◌, List, [], ◌++◌, take, length, codes, decimal, count_by}
+use Rattle.std.specs.List.{All, fold, sum_by}
+use Rattle.edit_replay.specs.Session.{SessionData}
+use Rattle.script_text.specs.declared.command.Command.{Command}
+use Rattle.jps_run.specs.Answers.{edits_with}
+use Rattle.jps_run.specs.Drill.{AreFindings, IsShortFinding, is_walk, is_none, is_blocked, is_done, is_same, straight_in, diagonal_in}
+use Rattle.jps_run.specs.Session.{session_after}
+use Rattle.jps_run.specs.declared.drill.Finding.{Finding}
+use Rattle.jps_run.specs.declared.drill.Sums.{Sums}
+
+-- the counts of findings and the sums of their costs
+abbrev pub sums_of : List Finding → Sums
+sums_of found = record {
+  walks = count_by is_walk found;
+  none = count_by is_none found;
+  blocked = count_by is_blocked found;
+  done = count_by is_done found;
+  same = count_by is_same found;
+  straight = sum_by straight_in found;
+  diagonal = sum_by diagonal_in found;
+}
+
+-- one finding more fits into the sums
+pub record HasRoom (sums : Sums) : Type 0 where
+  pub walks : sums.walks < 2 ^ 63
+  pub none : sums.none < 2 ^ 63
+  pub blocked : sums.blocked < 2 ^ 63
+  pub done : sums.done < 2 ^ 63
+  pub same : sums.same < 2 ^ 63
+  pub straight : sums.straight < 2 ^ 63
+  pub diagonal : sums.diagonal < 2 ^ 63
+
+-- the line, by the sums
+abbrev pub sums_text : Sums → List ℕ
+sums_text sums =
+    codes "drill walks " ++ decimal sums.walks
+    ++ codes " none " ++ decimal sums.none
+    ++ codes " blocked " ++ decimal sums.blocked
+    ++ codes " ok " ++ decimal sums.done
+    ++ codes " same " ++ decimal sums.same
+    ++ codes " cost " ++ decimal sums.straight
+    ++ codes " " ++ decimal sums.diagonal
+    ++ codes "\n"
+
+-- the commands came to findings with these sums
+pub record HasSummed (d : SessionData) (commands : List Command) (sums : Sums) : Type 0 where
+  pub found : List Finding
+  pub are : AreFindings d commands found
+  pub summed : sums ≡ sums_of found
+
+-- so many commands were worked: they came to findings with these sums, and their edits were made
+pub record IsDrilling (first now : SessionData) (commands : List Command) (count : ℕ) (sums : Sums) : Type 0 where
+  pub found : List Finding
+  pub are : AreFindings first (take count commands) found
+  pub summed : sums ≡ sums_of found
+  pub short : All IsShortFinding found
+  pub session : now ≡ session_after first (fold edits_with [] (take count commands))

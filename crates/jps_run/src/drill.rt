@@ -1,0 +1,224 @@
+//! The command `drill`: what the commands of a seed come to on the map of the seed, in one line of
+//! sums that is the same whatever the engine.
+
+ghost use Rattle.std.specs.Prelude.{◌≡◌, ◌≤◌, ◌^◌, ◌++◌, ◌∷◌, [], List, OnOk, IfOk, length};
+ghost use Rattle.edit_replay.specs.Replies.{IsShort, answer_of};
+ghost use Rattle.jps_run.specs.Answering.{GoesOn};
+ghost use Rattle.jps_run.specs.Drill as spec;
+ghost use Rattle.jps_run.specs.Drill.{IsDrillText, IsFinding, IsShortFinding};
+ghost use Rattle.jps_run.specs.Drilling.{HasRoom, HasSummed, sums_of, sums_text};
+ghost use Rattle.jps_run.specs.Seen.{stream};
+ghost use Rattle.jps_run.specs.Sending.{SendsOne};
+
+use crate::NoMemory;
+use crate::files::{corner_of, engine_of};
+use crate::sending::send_text;
+use crate::stop::Stop;
+use edit_replay::{EditReply, Reply, Session};
+use grid_moves::Ground;
+use io_edge::Sink;
+use map_maker::drill_script;
+use root2_cost::Cost;
+use script_text::Command;
+use std::alloc::Global;
+use std::sync::ledger::Ledger;
+use steps::Steps;
+use text_line::{put, put_number};
+use word_list::Settings;
+
+/// The side of a drill's map, in cells.
+const SIDE: u16 = 256;
+
+/// How many percent of its cells are blocked.
+const PERCENT: u8 = 25;
+
+/// What a command comes to.
+#[derive(Clone, Copy, Debug)]
+pub(crate) enum Finding {
+    /// A walk of this cost.
+    Walk(Cost),
+    /// No walk exists.
+    None,
+    /// An end of a query is blocked.
+    Blocked,
+    /// A cell lies outside the map.
+    Outside,
+    /// An edit changed its cell.
+    Done,
+    /// An edit's cell was already as asked.
+    Same,
+}
+
+/// How many findings there are of each kind, and the sums of the walks' moves.
+#[derive(Clone, Copy, Debug)]
+pub(crate) struct Sums {
+    pub walks: u64,
+    pub none: u64,
+    pub blocked: u64,
+    pub done: u64,
+    pub same: u64,
+    pub straight: u64,
+    pub diagonal: u64,
+}
+
+impl Sums {
+    // The sums before the first finding.
+    fn new() -> Sums
+        ensures { result ≡ sums_of [] }
+    {
+        Sums {
+            walks: 0,
+            none: 0,
+            blocked: 0,
+            done: 0,
+            same: 0,
+            straight: 0,
+            diagonal: 0,
+        }
+    }
+
+    // Counts one finding more.
+    fn count(&mut self, found: Finding)
+        requires room { HasRoom self.old }
+        requires short { IsShortFinding found }
+        ensures { (all : List Finding) → self.old ≡ sums_of all → self.new ≡ sums_of (all ++ found ∷ []) }
+    {
+        match found {
+            Finding::Walk(cost) => {
+                self.walks += 1;
+                self.straight += u64::from(cost.a);
+                self.diagonal += u64::from(cost.b);
+            }
+            Finding::None => self.none += 1,
+            Finding::Blocked => self.blocked += 1,
+            Finding::Outside => {}
+            Finding::Done => self.done += 1,
+            Finding::Same => self.same += 1,
+        }
+    }
+
+    // Appends the line.
+    fn put(&self, out: &mut Vec<u8>) -> Result<(), NoMemory>
+        ensures { OnOk result (out.new.items ≡ out.old.items ++ sums_text self.now) }
+    {
+        put(out, b"drill walks ")?;
+        put_number(out, self.walks)?;
+        put(out, b" none ")?;
+        put_number(out, self.none)?;
+        put(out, b" blocked ")?;
+        put_number(out, self.blocked)?;
+        put(out, b" ok ")?;
+        put_number(out, self.done)?;
+        put(out, b" same ")?;
+        put_number(out, self.same)?;
+        put(out, b" cost ")?;
+        put_number(out, self.straight)?;
+        put(out, b" ")?;
+        put_number(out, self.diagonal)?;
+        put(out, b"\n")
+    }
+}
+
+// What the reply to a query comes to.
+fn finding_of(reply: &Reply) -> Finding
+    requires { IsShort (answer_of reply.now) }
+    ensures is { result ≡ spec.finding_of reply.now }
+    ensures short { IsShortFinding result }
+{
+    match reply {
+        Reply::Walk { cost, .. } => Finding::Walk(*cost),
+        Reply::None { .. } => Finding::None,
+        Reply::Outside => Finding::Outside,
+        Reply::Blocked => Finding::Blocked,
+    }
+}
+
+// What the reply to an edit comes to.
+fn finding_of_edit(reply: EditReply) -> Finding
+    ensures is { result ≡ spec.finding_of_edit reply }
+    ensures short { IsShortFinding result }
+{
+    match reply {
+        EditReply::Done => Finding::Done,
+        EditReply::Same => Finding::Same,
+        EditReply::Outside => Finding::Outside,
+    }
+}
+
+// What a command comes to.
+fn find<L: Ledger>(
+    alloc: Global,
+    session: &mut Session,
+    command: Command,
+    steps: &mut Steps<L>,
+) -> Result<Finding, NoMemory>
+    ensures found { IfOk result (IsFinding session.old command) }
+    ensures short { IfOk result (λ found. IsShortFinding found) }
+    ensures edited { OnOk result (GoesOn session.old command session.new) }
+{
+    match command {
+        Command::Block { x, y } => Ok(finding_of_edit(session.edit(x, y, Ground::Blocked, steps))),
+        Command::Free { x, y } => Ok(finding_of_edit(session.edit(x, y, Ground::Land, steps))),
+        Command::Flood { x, y } => Ok(finding_of_edit(session.edit(x, y, Ground::Water, steps))),
+        Command::Query { sx, sy, gx, gy } => {
+            let reply = session.query(alloc, sx, sy, gx, gy, steps)?;
+            Ok(finding_of(&reply))
+        }
+    }
+}
+
+// The sums of what the commands come to, in order.
+fn sum_up<L: Ledger>(
+    alloc: Global,
+    session: &mut Session,
+    commands: &[Command],
+    steps: &mut Steps<L>,
+) -> Result<Sums, NoMemory>
+    requires few { length commands.now ≤ 2 ^ 32 }
+    ensures { IfOk result (HasSummed session.old commands.now) }
+{
+    let mut sums = Sums::new();
+    for command in commands {
+        let found = find(alloc, session, *command, steps)?;
+        sums.count(found);
+    }
+    Ok(sums)
+}
+
+// The line of a drill.
+fn drill_text<L: Ledger>(
+    alloc: Global,
+    seed: u64,
+    settings: Settings,
+    steps: &mut Steps<L>,
+) -> Result<Vec<u8>, NoMemory>
+    ensures { IfOk result (λ text. IsDrillText settings seed text.items) }
+{
+    let map = map_maker::make(alloc, seed, SIDE, SIDE, PERCENT)?;
+    let mut session = Session::new(
+        alloc,
+        &map,
+        engine_of(settings.pick),
+        corner_of(settings.one),
+    )?;
+    let commands = drill_script(alloc, seed)?;
+    let sums = sum_up(alloc, &mut session, commands.as_slice(), steps)?;
+    let mut text = Vec::new(alloc);
+    sums.put(&mut text)?;
+    Ok(text)
+}
+
+/// Prints the sums of what the commands of a seed come to.
+pub(crate) fn drill<O: Sink, L: Ledger>(
+    alloc: Global,
+    out: &mut O,
+    seed: u64,
+    settings: Settings,
+    steps: &mut Steps<L>,
+) -> Result<u8, Stop>
+    ensures { SendsOne (IsDrillText settings seed) (stream (O.written out.old) (O.faults out.old))
+        (stream (O.written out.new) (O.faults out.new)) result }
+{
+    let text = drill_text(alloc, seed, settings, steps)?;
+    send_text(out, text.as_slice())
+}
