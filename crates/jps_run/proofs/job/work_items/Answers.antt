@@ -1,4 +1,3 @@
-use Rattle.std.proofs.Common.{◌+◌}
 use Rattle.jps_run.specs.Seen.{stream}
 use Rattle.jps_run.proofs.Looping.{working-more, next-item, working-on, memory-stops, write-stops, closed, closing-stops, closing-ends}
 use Rattle.jps_run.proofs.job.work_items.Goals as goal
