@@ -5,8 +5,8 @@ ghost use Rattle.std.specs.Prelude.{◌≡◌, ◌<◌};
 
 mod words;
 
-use io_edge::{RealFiles, RealIn, RealOut, write_whole};
-use jps_run::{refuse, run};
+use io_edge::{RealFiles, RealIn, RealOut};
+use jps_run::{refuse, run, starve};
 use std::marker::Brand;
 use std::process::ExitCode;
 use std::sync::ledger::{Blank, Ledger};
@@ -46,16 +46,10 @@ fn answer(rt: &HostRuntime, words: Words) -> u8 {
     }
 }
 
-// Says that memory was refused before all words were read.
-fn want_memory(rt: &HostRuntime) -> u8 {
-    let _ = write_whole(&mut RealOut::new(rt.stderr()), b"jps: memory\n");
-    6
-}
-
 fn main(rt: HostRuntime) -> ExitCode {
     let status = match words_of(&rt, rt.alloc()) {
         Ok(words) => answer(&rt, words),
-        Err(_none) => want_memory(&rt),
+        Err(_none) => starve(&mut RealOut::new(rt.stderr())),
     };
     ExitCode::from(status)
 }

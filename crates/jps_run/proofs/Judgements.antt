@@ -43,8 +43,8 @@ pub few : (number : ℕ) (job : Judge) → IsNext HasJudged job number → numbe
 few number job n f = subst (λ k. k < 2 ^ 64) (numbered number job n) f
 
 -- one entry more has its row
-pub judged-more : {T E : Type 0} (result : Result T E) (number : ℕ) (job now : Judge) (entry : Entry) (r : Row)
-    (before after : List ℕ) → IsNext HasJudged job number → IsRow job.session entry r
+pub judged-more : {T E : Type 0} (result : Result T E) (number : ℕ) (job now : Judge) (entry : Entry)
+    (r : Row) (before after : List ℕ) → IsNext HasJudged job number → IsRow job.session entry r
     → now.session ≡ job.session
     → ((rows : List Row) → job.tally ≡ tally_of rows → now.tally ≡ tally_of (rows ++ r ∷ []))
     → OnOk result (after ≡ before ++ row_line number r)
@@ -95,7 +95,8 @@ row_exists d s entry = by_sides (has_sides d entry) refl
     by_sides : (b : Bool) → has_sides d entry ≡ b → (r : Row) × IsRow d entry r
     by_sides false e = (row.Scale, scale e refl)
     by_sides true e =
-        let p = reply_exists d (record { x = entry.sx; y = entry.sy }) (record { x = entry.gx; y = entry.gy }) in
+        let p = reply_exists d (record { x = entry.sx; y = entry.sy })
+        (record { x = entry.gx; y = entry.gy }) in
         (row_of entry.length p.0, replied p.0 e p.1 refl)
 
 -- so the first rows can be completed

@@ -3,6 +3,7 @@ pub mod Pieces
 pub mod Stopping
 pub mod Turns
 pub mod Looping
+pub mod Drilling
 pub mod Unfolding
 pub mod Existing
 pub mod Solving

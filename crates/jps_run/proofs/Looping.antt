@@ -78,8 +78,8 @@ module _ {Job Item : Type 0} (Worked : Job → Job → List Item → List (List 
       → (result : Result ℕ Stop) → IsErrAnd result (λ s. s ≡ stop.Memory)
       → SendsWhole (Whole first items) before now result
   memory-stops can job {items} {count} {before} {now} {waiting} w result m =
-      passed (IsAll (Whole first items) before now) (no_stops (AreLines (Whole first items) before now)) _ result
-      stop.Memory m
+      passed (IsAll (Whole first items) before now) (no_stops (AreLines (Whole first items) before now)) _
+      result stop.Memory m
       (lines-sent before (Whole first items) now waiting w.lines w.sent
       (completed can items count job w.lines w.worked)) (only_memory (λ k. k))
 
@@ -90,7 +90,8 @@ module _ {Job Item : Type 0} (Worked : Job → Job → List Item → List (List 
       → StopsSo (write_stops (WroteSome mid now waiting)) stop → IsErrAnd result (λ s. s ≡ stop)
       → SendsWhole (Whole first items) before now result
   write-stops can job {items} {count} {before} {mid} {waiting} w now result stop k m =
-      passed (IsAll (Whole first items) before now) (write_stops (WroteSome mid now waiting)) _ result stop m k
+      passed (IsAll (Whole first items) before now) (write_stops (WroteSome mid now waiting)) _ result stop m
+      k
       (only_write (part-sent before (Whole first items) mid now waiting w.lines w.sent
       (completed can items count job w.lines w.worked)))
 

@@ -135,8 +135,8 @@ module _ (before : Stream) where
     )
 
     -- memory was refused while these lines can be completed
-    pub lines-sent : (now : Stream) (waiting : List ℕ) (lines : List (List ℕ)) → AreSent before now waiting lines
-        → Completes Whole lines → AreLines Whole before now
+    pub lines-sent : (now : Stream) (waiting : List ℕ) (lines : List (List ℕ))
+        → AreSent before now waiting lines → Completes Whole lines → AreLines Whole before now
     lines-sent now waiting lines s c = record {
       lines = lines ++ c.more;
       status = c.status;

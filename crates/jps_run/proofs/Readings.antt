@@ -24,7 +24,8 @@ pub file-read : {X : Type 0} (Spells : List ℕ → X → Type 0) (kind : Kind) 
     → Reads Spells kind held faults faults_now result
 file-read Spells kind held text faults faults_now (Ok value) w r = λ earlier.
     let a = r earlier in record { text = text; accepted = (w, a.0); spelled = a.1 }
-file-read Spells kind held text faults faults_now (Err (stop.Text line)) w r = λ earlier. faulty text w (r earlier)
+file-read Spells kind held text faults faults_now (Err (stop.Text line)) w r = λ earlier.
+    faulty text w (r earlier)
 file-read Spells kind held text faults faults_now (Err stop.Read) w r = λ earlier. absurd (r earlier)
 file-read Spells kind held text faults faults_now (Err stop.Write) w r = λ earlier. absurd (r earlier)
 file-read Spells kind held text faults faults_now (Err stop.Memory) w r = λ earlier. tt

@@ -37,7 +37,7 @@ same_session : (d : SessionData) (engine : Engine) (layers : Layers) → d.engin
 same_session d engine layers e l = rw (← e, ← l) refl
 
 -- the session goes on from edits to these and the command's
-after-more : (d old new : SessionData) (edits : List Edit) (command : Command) → GoesOn old command new
+pub after-more : (d old new : SessionData) (edits : List Edit) (command : Command) → GoesOn old command new
     → old ≡ session_after d edits → new ≡ session_after d (edits_with edits command)
 after-more d old new edits command on e =
     same_session new d.engine (edited d.layers (edits_with edits command))
@@ -60,8 +60,8 @@ answered-more (Ok done) job now command before after same p on = λ first comman
       stand = record {
         answers = turns-more (AnswersAfter first.session first.show) edits_with [] commands lines command
             p.line h.answers
-            (subst (λ (show : Show). IsAnswerLine (session_after first.session edits) show command p.line) h.show
-            (subst (λ (d : SessionData). IsAnswerLine d job.show command p.line) h.session p.answers));
+            (subst (λ (show : Show). IsAnswerLine (session_after first.session edits) show command p.line)
+            h.show (subst (λ (d : SessionData). IsAnswerLine d job.show command p.line) h.session p.answers));
         session = after-more first.session job.session now.session edits command on h.session
             ∙ ap (λ (all : List Edit). session_after first.session all)
             (sym (fold-more (AnswersAfter first.session first.show) edits_with [] commands command));
@@ -73,13 +73,16 @@ answered-more (Ok done) job now command before after same p on = λ first comman
 -- every command has an answer
 line_exists : (d : SessionData) (show : Show) (edits : List Edit) (command : Command)
     → (line : List ℕ) × AnswersAfter d show edits command line
-line_exists d show edits (Block x y) = (edit_line (reply_to_edit (session_after d edits) (edit_at x y Blocked)), refl)
-line_exists d show edits (Free x y) = (edit_line (reply_to_edit (session_after d edits) (edit_at x y Land)), refl)
+line_exists d show edits (Block x y) =
+    (edit_line (reply_to_edit (session_after d edits) (edit_at x y Blocked)), refl)
+line_exists d show edits (Free x y) =
+    (edit_line (reply_to_edit (session_after d edits) (edit_at x y Land)), refl)
 line_exists d show edits (Flood x y) =
     (edit_line (reply_to_edit (session_after d edits) (edit_at x y Water)), refl)
 line_exists d show edits (Query sx sy gx gy) =
     let r = reply_exists (session_after d edits) (record { x = sx; y = sy }) (record { x = gx; y = gy }) in
-    (reply_line (width_of (session_after d edits)) show r.0, record { reply = r.0; is_reply = r.1; shown = refl })
+    let line : List ℕ = reply_line (width_of (session_after d edits)) show r.0 in
+    (line, record { reply = r.0; is_reply = r.1; shown = refl })
 
 -- so the first answers can be completed
 pub answers-complete : (first now : Answers) (some others : List Command) (lines : List (List ℕ))
@@ -89,7 +92,7 @@ answers-complete first now some others lines h =
     (line_exists first.session first.show) [] some others lines h.answers in
     record { more = all.0; status = 0; whole = record { answers = all.1; good = refl } }
 
-nothing_edited : (d : SessionData) → d ≡ session_after d []
+pub nothing_edited : (d : SessionData) → d ≡ session_after d []
 nothing_edited d = same_session d d.engine (edited d.layers []) refl (sym (edited-nothing d.layers))
 
 -- nothing is answered yet

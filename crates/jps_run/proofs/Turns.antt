@@ -24,7 +24,8 @@ module _ {S X Y : Type 0} (Stands : S → X → Y → Type 0) (next : S → X �
       let rest = turns-all has (next s u) xs others ys t.1 in (rest.0, (t.0, rest.1))
 
   -- there are as many findings as items
-  pub turns-count : (s : S) (xs : List X) (ys : List Y) → AreInTurn Stands next s xs ys → length ys ≡ length xs
+  pub turns-count : (s : S) (xs : List X) (ys : List Y) → AreInTurn Stands next s xs ys
+      → length ys ≡ length xs
   turns-count s [] [] t = refl
   turns-count s [] (v ∷ ys) t = absurd t
   turns-count s (u ∷ xs) [] t = absurd t

@@ -1,5 +1,5 @@
 -- The work on a request comes to its outcome, or stops.
-use Rattle.std.proofs.Common.{◌≡◌, true, refl, sym, ◌∙◌, subst, List, [], ◌∷◌, ℕ, ◌≤◌, inl, inr, arith}
+use Rattle.std.proofs.Common.{◌≡◌, true, refl, sym, subst, List, [], ◌∷◌, ℕ, ◌≤◌, inl, inr, arith}
 use Rattle.std.specs.Prelude.{Result, IsErrAnd}
 use Rattle.io_edge.specs.Told.{Held}
 use Rattle.std.proofs.lemmas.List.{append-nil}
@@ -18,7 +18,8 @@ use Rattle.jps_run.proofs.Pieces.{nothing, rose-since}
 use Rattle.jps_run.proofs.Stopping.{passed, ends-on, only_write}
 
 -- the first file of a request
-abbrev pub first-file : (holds : List ℕ → Held) (file : File) (rest : List File) → ComesTo holds (file ∷ rest) file
+abbrev pub first-file : (holds : List ℕ → Held) (file : File) (rest : List File)
+    → ComesTo holds (file ∷ rest) file
 first-file holds file rest = record { before = []; behind = rest; all = refl; texts = []; accepted = tt }
 
 -- the second one, where the first is accepted
@@ -32,6 +33,16 @@ second-file holds first file rest text a = record {
   accepted = (a, tt);
 }
 
+-- both files of a request are accepted; files held as much when the second was read
+pub both-accepted : (holds held : List ℕ → Held) (first second : File) (text other : List ℕ)
+    → IsAccepted [] first.kind (holds first.name) text → held ≡ holds
+    → IsAccepted (text ∷ []) second.kind (held second.name) other
+    → AreAccepted holds [] (first ∷ second ∷ []) (text ∷ other ∷ [])
+both-accepted holds held first second text other a same b = (
+  a,
+  (subst (λ (k : List ℕ → Held). IsAccepted (text ∷ []) second.kind (k second.name) other) same b, tt),
+)
+
 -- no count fell where nothing was called
 pub none-fell : (faults : List ℕ → ℕ) → NoneFell faults faults
 none-fell faults = record { later = λ name. omega arith }
@@ -39,7 +50,8 @@ none-fell faults = record { later = λ name. omega arith }
 module _ (call : Call) (before : Seen) where
   -- a file could not be had: files held as much when it was read, and no count had fallen
   pub reading-stops : (file : File) (comes : ComesTo before.holds (files_of call.request) file)
-      (holds holds_now : List ℕ → Held) (faults faults_now : List ℕ → ℕ) (result : Result ℕ Stop) (stop : Stop)
+      (holds holds_now : List ℕ → Held) (faults faults_now : List ℕ → ℕ) (result : Result ℕ Stop)
+      (stop : Stop)
       → holds ≡ before.holds → NoneFell before.faults faults
       → StopsSo (read_stops (IsRefused comes.texts file.kind (holds file.name)) (faults file.name)
       (faults_now file.name)) stop
@@ -54,7 +66,8 @@ module _ (call : Call) (before : Seen) where
           record {
             file = file;
             comes = comes;
-            refused = subst (λ (k : List ℕ → Held). IsRefused comes.texts file.kind (k file.name) line) same r;
+            refused = subst (λ (k : List ℕ → Held). IsRefused comes.texts file.kind (k file.name) line) same
+                r;
           },
           nothing before.out.written,
         );

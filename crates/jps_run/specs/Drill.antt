@@ -1,7 +1,6 @@
 -- What the commands of a drill come to, and the line that sums it up.
-use Rattle.std.specs.Prelude.{◌≡◌, ℕ, ◌+◌, ◌<◌, ◌^◌, Bool, true, false, ⊤, List, [], ◌∷◌, ◌++◌, codes, decimal, count_by}
+use Rattle.std.specs.Prelude.{◌≡◌, ℕ, ◌+◌, ◌<◌, ◌^◌, Bool, true, false, ⊤, List, [], ◌++◌, codes, decimal, count_by}
 use Rattle.std.specs.List.{sum_by}
-use Rattle.root2_cost.specs.declared.Cost.{Cost}
 use Rattle.grid_moves.specs.declared.Cell.{Cell}
 use Rattle.edit_replay.specs.Edited.{Edit, edit_at}
 use Rattle.edit_replay.specs.Session.{SessionData}
@@ -90,17 +89,29 @@ abbrev pub IsShortFinding : Finding → Type 0
 IsShortFinding (finding.Walk cost) = cost.a + cost.b < 2 ^ 24
 IsShortFinding _ = ⊤
 
--- the line: how many findings of each kind there are, and the sum of the walks' costs
+-- a text and a number
+abbrev pub counted : List ℕ → ℕ → List ℕ
+counted text n = text ++ decimal n
+
+-- the parts of the line: how many queries came to each kind of finding
+abbrev pub queries_text : ℕ → ℕ → ℕ → List ℕ
+queries_text walks none blocked =
+    counted (codes "drill walks ") walks ++ counted (codes " none ") none ++ counted (codes " blocked ") blocked
+
+-- how many edits did
+abbrev pub edits_text : ℕ → ℕ → List ℕ
+edits_text done same = counted (codes " ok ") done ++ counted (codes " same ") same
+
+-- and the sum of the walks' costs
+abbrev pub costs_text : ℕ → ℕ → List ℕ
+costs_text straight diagonal = counted (codes " cost ") straight ++ counted (codes " ") diagonal ++ codes "\n"
+
+-- the line
 abbrev pub drill_line : List Finding → List ℕ
 drill_line found =
-    codes "drill walks " ++ decimal (count_by is_walk found)
-    ++ codes " none " ++ decimal (count_by is_none found)
-    ++ codes " blocked " ++ decimal (count_by is_blocked found)
-    ++ codes " ok " ++ decimal (count_by is_done found)
-    ++ codes " same " ++ decimal (count_by is_same found)
-    ++ codes " cost " ++ decimal (sum_by straight_in found)
-    ++ codes " " ++ decimal (sum_by diagonal_in found)
-    ++ codes "\n"
+    queries_text (count_by is_walk found) (count_by is_none found) (count_by is_blocked found)
+    ++ edits_text (count_by is_done found) (count_by is_same found)
+    ++ costs_text (sum_by straight_in found) (sum_by diagonal_in found)
 
 -- the commands of the seed come to these, on the map of the seed: 256 by 256, a quarter of it blocked
 abbrev pub AreDrilled : Settings → ℕ → List Finding → Type 0

@@ -1,10 +1,10 @@
 -- How far a drill has come. No public clause cites this module.
-use Rattle.std.specs.Prelude.{◌≡◌, ℕ, ◌+◌, ◌<◌, ◌≤◌, ◌^◌, List, [], ◌++◌, take, length, codes, decimal, count_by}
+use Rattle.std.specs.Prelude.{◌≡◌, ℕ, ◌<◌, ◌^◌, List, [], ◌++◌, take, count_by}
 use Rattle.std.specs.List.{All, fold, sum_by}
 use Rattle.edit_replay.specs.Session.{SessionData}
 use Rattle.script_text.specs.declared.command.Command.{Command}
 use Rattle.jps_run.specs.Answers.{edits_with}
-use Rattle.jps_run.specs.Drill.{AreFindings, IsShortFinding, is_walk, is_none, is_blocked, is_done, is_same, straight_in, diagonal_in}
+use Rattle.jps_run.specs.Drill.{AreFindings, IsShortFinding, queries_text, edits_text, costs_text, is_walk, is_none, is_blocked, is_done, is_same, straight_in, diagonal_in}
 use Rattle.jps_run.specs.Session.{session_after}
 use Rattle.jps_run.specs.declared.drill.Finding.{Finding}
 use Rattle.jps_run.specs.declared.drill.Sums.{Sums}
@@ -34,14 +34,8 @@ pub record HasRoom (sums : Sums) : Type 0 where
 -- the line, by the sums
 abbrev pub sums_text : Sums → List ℕ
 sums_text sums =
-    codes "drill walks " ++ decimal sums.walks
-    ++ codes " none " ++ decimal sums.none
-    ++ codes " blocked " ++ decimal sums.blocked
-    ++ codes " ok " ++ decimal sums.done
-    ++ codes " same " ++ decimal sums.same
-    ++ codes " cost " ++ decimal sums.straight
-    ++ codes " " ++ decimal sums.diagonal
-    ++ codes "\n"
+    queries_text sums.walks sums.none sums.blocked ++ edits_text sums.done sums.same
+    ++ costs_text sums.straight sums.diagonal
 
 -- the commands came to findings with these sums
 pub record HasSummed (d : SessionData) (commands : List Command) (sums : Sums) : Type 0 where

@@ -1,17 +1,14 @@
 -- How a call of `run` ends.
-use Rattle.std.specs.Prelude.{◌≡◌, true, ℕ, ◌≤◌, List, [], ◌⊎◌, codes, nat_eq, if◌then◌else◌, Result}
+use Rattle.std.specs.Prelude.{◌≡◌, true, ℕ, List, [], ◌⊎◌, codes, nat_eq, if◌then◌else◌}
 use Rattle.std.specs.List.{concat}
-use Rattle.io_edge.specs.Causes.{Rose}
 use Rattle.word_list.specs.Calls.{is_call}
 use Rattle.word_list.specs.Request.{Call}
 use Rattle.word_list.specs.Rule.{StopsAt}
 use Rattle.jps_run.specs.FaultLines.{word_line}
-use Rattle.jps_run.specs.Files.{HasRefused, FileRose}
+use Rattle.jps_run.specs.Files.{FileRose}
 use Rattle.jps_run.specs.Outcome.{Spell, Outcome, IsOutcome, IsOutput, comes_as_lines, files_of}
 use Rattle.jps_run.specs.Seen.{Seen, Stream}
-use Rattle.jps_run.specs.Sending.{Wrote, WroteSome, IsAll, IsPart, AreLines}
-use Rattle.jps_run.specs.Stops.{Stops, Ends}
-use Rattle.jps_run.specs.declared.stop.Stop.{Stop}
+use Rattle.jps_run.specs.Sending.{Wrote, WroteSome, IsPart, AreLines}
 
 -- what `err` gets in place of an outcome's line: where a read failed, where a write failed, for want of memory
 abbrev pub read_line : List ℕ

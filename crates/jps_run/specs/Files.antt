@@ -1,14 +1,12 @@
 -- The files of a request: which texts they hold, and the first one that is refused.
-use Rattle.std.specs.Prelude.{◌≡◌, ℕ, List, [], ◌∷◌, ◌++◌, ⊤, Some, None, Result}
+use Rattle.std.specs.Prelude.{◌≡◌, ℕ, List, [], ◌∷◌, ◌++◌, ⊤, Some, None}
 use Rattle.io_edge.specs.Told.{Held}
 use Rattle.io_edge.specs.Causes.{Rose}
 use Rattle.io_edge.specs.Whole.{IsWhole, IsLonger}
 use Rattle.jps_run.specs.FaultLines.{long_line}
 use Rattle.jps_run.specs.Kinds.{kind_word, limit_of, refusal_of}
 use Rattle.jps_run.specs.Seen.{Seen}
-use Rattle.jps_run.specs.Stops.{Stops, Ends}
 use Rattle.jps_run.specs.declared.kind.Kind.{Kind}
-use Rattle.jps_run.specs.declared.stop.Stop.{Stop}
 
 -- a file that a request names, and the kind of text that it is to hold
 pub record File : Type 0 where

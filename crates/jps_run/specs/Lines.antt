@@ -1,5 +1,5 @@
 -- The lines that answer a query or an edit.
-use Rattle.std.specs.Prelude.{ℕ, ◌/◌, ◌%◌, nat_eq, if◌then◌else◌, List, [], ◌∷◌, ◌++◌, codes, decimal, unwrap_or, true, ◌≡◌, ⊤}
+use Rattle.std.specs.Prelude.{ℕ, ◌/◌, ◌%◌, nat_eq, if◌then◌else◌, List, [], ◌∷◌, ◌++◌, codes, decimal, unwrap_or, true, ◌≡◌, refl, ⊤}
 use Rattle.root2_cost.specs.declared.Cost.{Cost}
 use Rattle.grid_moves.specs.declared.Cell.{Cell}
 use Rattle.grid_moves.specs.Points.{unfolding_of, is_lined}
@@ -27,7 +27,8 @@ shown_cells Cells points = unwrap_or (unfolding_of points) []
 
 -- `walk a b` and these cells
 abbrev pub walk_text : Cost → List Cell → List ℕ
-walk_text cost cells = codes "walk " ++ decimal cost.a ++ codes " " ++ decimal cost.b ++ texts_of point_text cells
+walk_text cost cells =
+    codes "walk " ++ decimal cost.a ++ codes " " ++ decimal cost.b ++ texts_of point_text cells
 
 -- the name of the direction in which a state was reached, by its number from 0; the start has none, nor has a state of
 -- the plain engine
@@ -70,3 +71,25 @@ abbrev pub edit_line : EditReply → List ℕ
 edit_line edit.Done = codes "ok\n"
 edit_line edit.Same = codes "same\n"
 edit_line edit.Outside = codes "outside\n"
+
+-- worked rows, on a map of width 3: the states of the numbers 20 and 44
+pub stop_by_east : state_text 3 20 ≡ point_text (record { x = 2; y = 0 }) ++ codes ":" ++ codes "E"
+stop_by_east = refl
+
+pub start_of_all : state_text 3 44 ≡ point_text (record { x = 1; y = 1 }) ++ codes ":" ++ codes "-"
+start_of_all = refl
+
+-- what is shown of a walk from one cell to the next but one
+abbrev along : List Cell
+along = record { x = 0; y = 0 } ∷ record { x = 2; y = 0 } ∷ []
+
+pub points_along : shown_cells Trace along ≡ along
+points_along = refl
+
+pub cells_along : shown_cells Cells along
+    ≡ record { x = 0; y = 0 } ∷ record { x = 1; y = 0 } ∷ record { x = 2; y = 0 } ∷ []
+cells_along = refl
+
+-- ends in two layers, where nothing is searched
+pub none_taken : reply_line 3 Trace (reply.None []) ≡ codes "none taken\n"
+none_taken = refl

@@ -12,7 +12,7 @@ use Rattle.scen_text.specs.declared.entry.Entry.{Entry}
 use Rattle.edit_replay.specs.Session.{SessionData}
 use Rattle.word_list.specs.declared.request.Settings.{Settings}
 use Rattle.jps_run.specs.Session.{session_on}
-use Rattle.std.specs.Prelude.{◌∷◌, None, ⊤, Result}
+use Rattle.std.specs.Prelude.{None, ⊤, Result}
 use Rattle.io_edge.specs.Causes.{Rose}
 use Rattle.io_edge.specs.Told.{Held}
 use Rattle.jps_run.specs.Files.{IsAccepted, IsRefused}
@@ -22,8 +22,8 @@ use Rattle.jps_run.specs.declared.kind.Kind.{Kind}
 use Rattle.jps_run.specs.declared.stop.Stop.{Stop}
 
 -- a text was read as this value: the held bytes spell it, and are accepted behind the texts before it
-pub record IsRead {X : Type 0} (Spells : List ℕ → X → Type 0) (earlier : List (List ℕ)) (kind : Kind) (held : Held)
-    (value : X) : Type 0 where
+pub record IsRead {X : Type 0} (Spells : List ℕ → X → Type 0) (earlier : List (List ℕ)) (kind : Kind)
+    (held : Held) (value : X) : Type 0 where
   pub text : List ℕ
   pub accepted : IsAccepted earlier kind held text
   pub spelled : Spells text value
@@ -43,7 +43,12 @@ Reads Spells kind held faults faults_now result = (earlier : List (List ℕ)) �
 abbrev pub ReadsText : {X : Type 0} → (List ℕ → X → Type 0) → Kind → List ℕ → Result X Stop → Type 0
 ReadsText Spells kind text result = (earlier : List (List ℕ)) → Ends
     (λ value. (refusal_of kind earlier text ≡ None) × Spells text value)
-    (record { Refused = λ line. refusal_of kind earlier text ≡ Some line; Read = ⊥; Write = ⊥; Memory = ⊤ }) result
+    (record {
+      Refused = λ line. refusal_of kind earlier text ≡ Some line;
+      Read = ⊥;
+      Write = ⊥;
+      Memory = ⊤;
+    }) result
 
 -- the text spells this map
 abbrev pub SpellsMap : List ℕ → MapText → Type 0

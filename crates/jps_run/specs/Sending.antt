@@ -1,5 +1,5 @@
 -- Lines that go out in pieces.
-use Rattle.std.specs.Prelude.{◌≡◌, ℕ, ◌≤◌, ◌⊎◌, List, [], ◌∷◌, ◌++◌, take, Result}
+use Rattle.std.specs.Prelude.{◌≡◌, ℕ, ◌≤◌, ◌⊎◌, List, [], ◌++◌, take, Result}
 use Rattle.std.specs.List.{concat}
 use Rattle.std.specs.Io.KnownBytes.{Appends}
 use Rattle.io_edge.specs.Causes.{Rose}
@@ -22,12 +22,14 @@ write_stops Write = record { Refused = λ line. ⊥; Read = ⊥; Write = Write; 
 
 -- the bytes were written, or a first part of them
 abbrev pub Sends : Stream → Stream → List ℕ → Result (Unit {0}) Stop → Type 0
-Sends before now bytes result = Ends (λ done. Wrote before now bytes) (write_stops (WroteSome before now bytes)) result
+Sends before now bytes result =
+    Ends (λ done. Wrote before now bytes) (write_stops (WroteSome before now bytes)) result
 
 -- what waited was written whole, or waits on
 abbrev pub SendsFull : Stream → Stream → List ℕ → List ℕ → Result (Unit {0}) Stop → Type 0
 SendsFull before now waiting waiting_now result = Ends
-    (λ done. (Wrote before now waiting × (waiting_now ≡ [])) ⊎ (Wrote before now [] × (waiting_now ≡ waiting)))
+    (λ done. (Wrote before now waiting × (waiting_now ≡ []))
+    ⊎ (Wrote before now [] × (waiting_now ≡ waiting)))
     (write_stops (WroteSome before now waiting)) result
 
 -- of these lines the first ones were written, and the others wait

@@ -17,8 +17,8 @@ pub record Completes (Whole : List (List ℕ) → ℕ → Type 0) (lines : List 
   pub whole : Whole (lines ++ more) status
 
 -- so many items were worked; of their lines the first ones were written, and the others wait
-pub record IsWorking {Item : Type 0} (Worked : List Item → List (List ℕ) → Type 0) (items : List Item) (count : ℕ)
-    (before now : Stream) (waiting : List ℕ) : Type 0 where
+pub record IsWorking {Item : Type 0} (Worked : List Item → List (List ℕ) → Type 0) (items : List Item)
+    (count : ℕ) (before now : Stream) (waiting : List ℕ) : Type 0 where
   pub lines : List (List ℕ)
   pub worked : Worked (take count items) lines
   pub sent : AreSent before now waiting lines

@@ -89,7 +89,8 @@ pub(crate) fn write_answers<O: Sink, L: Ledger>(
     steps: &mut Steps<L>,
 ) -> Result<u8, Stop>
     ensures { SendsWhole (IsSolved (record { session = session; show = show }) commands.now)
-        (stream (O.written out.old) (O.faults out.old)) (stream (O.written out.new) (O.faults out.new)) result }
+        (stream (O.written out.old) (O.faults out.old))
+        (stream (O.written out.new) (O.faults out.new)) result }
 {
     let mut job = Answers { session, show };
     work_items(alloc, &mut job, commands, out, steps)

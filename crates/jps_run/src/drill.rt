@@ -97,26 +97,51 @@ impl Sums {
         }
     }
 
+    // Appends the counts of queries.
+    fn put_queries(&self, out: &mut Vec<u8>) -> Result<(), NoMemory>
+        ensures { OnOk result (out.new.items ≡ out.old.items
+            ++ spec.queries_text self.now.walks self.now.none self.now.blocked) }
+    {
+        put_counted(out, b"drill walks ", self.walks)?;
+        put_counted(out, b" none ", self.none)?;
+        put_counted(out, b" blocked ", self.blocked)
+    }
+
+    // Appends the counts of edits.
+    fn put_edits(&self, out: &mut Vec<u8>) -> Result<(), NoMemory>
+        ensures { OnOk result (out.new.items ≡ out.old.items
+            ++ spec.edits_text self.now.done self.now.same) }
+    {
+        put_counted(out, b" ok ", self.done)?;
+        put_counted(out, b" same ", self.same)
+    }
+
+    // Appends the sums of costs.
+    fn put_costs(&self, out: &mut Vec<u8>) -> Result<(), NoMemory>
+        ensures { OnOk result (out.new.items ≡ out.old.items
+            ++ spec.costs_text self.now.straight self.now.diagonal) }
+    {
+        put_counted(out, b" cost ", self.straight)?;
+        put_counted(out, b" ", self.diagonal)?;
+        put(out, b"\n")
+    }
+
     // Appends the line.
     fn put(&self, out: &mut Vec<u8>) -> Result<(), NoMemory>
         ensures { OnOk result (out.new.items ≡ out.old.items ++ sums_text self.now) }
     {
-        put(out, b"drill walks ")?;
-        put_number(out, self.walks)?;
-        put(out, b" none ")?;
-        put_number(out, self.none)?;
-        put(out, b" blocked ")?;
-        put_number(out, self.blocked)?;
-        put(out, b" ok ")?;
-        put_number(out, self.done)?;
-        put(out, b" same ")?;
-        put_number(out, self.same)?;
-        put(out, b" cost ")?;
-        put_number(out, self.straight)?;
-        put(out, b" ")?;
-        put_number(out, self.diagonal)?;
-        put(out, b"\n")
+        self.put_queries(out)?;
+        self.put_edits(out)?;
+        self.put_costs(out)
     }
+}
+
+// Appends a text and a number.
+fn put_counted(out: &mut Vec<u8>, text: &[u8], n: u64) -> Result<(), NoMemory>
+    ensures { OnOk result (out.new.items ≡ out.old.items ++ spec.counted text.now n) }
+{
+    put(out, text)?;
+    put_number(out, n)
 }
 
 // What the reply to a query comes to.

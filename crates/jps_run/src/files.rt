@@ -162,8 +162,8 @@ pub(crate) fn open_session<F: Files>(
     name: &str,
     settings: Settings,
 ) -> Result<Session, Stop>
-    ensures read { Reads (SpellsSession settings) kinds.Map (F.holds files.old name.now) (F.faults files.old name.now)
-        (F.faults files.new name.now) result }
+    ensures read { Reads (SpellsSession settings) kinds.Map (F.holds files.old name.now)
+        (F.faults files.old name.now) (F.faults files.new name.now) result }
     ensures unchanged { F.holds files.new ≡ F.holds files.old }
     ensures later { NoneFell (F.faults files.old) (F.faults files.new) }
 {

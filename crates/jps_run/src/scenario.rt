@@ -109,7 +109,8 @@ pub(crate) fn write_rows<O: Sink, L: Ledger>(
 ) -> Result<u8, Stop>
     requires { AreKept entries.now }
     ensures { SendsWhole (IsJudged (record { session = session; tally = tally_of [] }) entries.now)
-        (stream (O.written out.old) (O.faults out.old)) (stream (O.written out.new) (O.faults out.new)) result }
+        (stream (O.written out.old) (O.faults out.old))
+        (stream (O.written out.new) (O.faults out.new)) result }
 {
     let mut job = Judge {
         session,

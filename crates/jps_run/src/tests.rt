@@ -327,3 +327,50 @@ fn words_that_are_no_text_are_named(rt: HostRuntime) -> Result<(), Fail> {
     assert_eq!(rt; err.bytes().len(), 0);
     Ok(())
 }
+
+// Rows of a map of 3 by 2 with nothing and with all of it blocked; a failing write of a made map;
+// and the sums of a drill, as an independent program prints them.
+#[test]
+fn maps_and_drills_come_from_numbers(rt: HostRuntime) -> Result<(), Fail> {
+    let table: [(&[&str], u64, u8, &[u8], &[u8]); 4] = [
+        (
+            &["make", "7", "3", "2", "0"],
+            0,
+            0,
+            b"type octile\nheight 2\nwidth 3\nmap\n...\n...\n",
+            b"",
+        ),
+        (
+            &["make", "7", "3", "2", "100"],
+            0,
+            0,
+            b"type octile\nheight 2\nwidth 3\nmap\n@@@\n@@@\n",
+            b"",
+        ),
+        (
+            &["make", "7", "3", "2", "0"],
+            3,
+            5,
+            b"ty",
+            b"jps: write\n",
+        ),
+        (
+            &["drill", "1"],
+            0,
+            0,
+            b"drill walks 54 none 1 blocked 45 ok 27 same 23 cost 5848 2278\n",
+            b"",
+        ),
+    ];
+    for (words, failing_write, status, output, line) in table {
+        let made = Request {
+            words,
+            map: b"",
+            second: b"",
+            failing_read: 0,
+            failing_write,
+        };
+        check(rt.alloc(), &rt, made, status, output, line)?;
+    }
+    Ok(())
+}

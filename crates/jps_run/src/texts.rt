@@ -15,6 +15,10 @@ pub(crate) fn help_text() -> &'static [u8]
       one line for each command of the script: edits of the map, and queries
   jps scen MAP SCEN [engine=plain] [rule=none|rule=one]
       one row for each entry of the scenario, its length judged by the least cost, and their sum
+  jps make SEED W H P
+      a map of W by H cells, P percent of them blocked, made from the number SEED
+  jps drill SEED [engine=plain] [rule=none|rule=one]
+      150 edits and queries on the map of SEED, summed up in one line that is the same by each engine
   jps --help
       this text
   jps --version
@@ -28,7 +32,7 @@ With rule=one a diagonal move may pass one blocked cell beside it, with rule=non
 statuses: 0 done; 1 done, and a row of `scen` is neither agree nor near; 2 the words are refused;
 3 a file is refused; 4 a read failed; 5 a write of the output failed; 6 memory was refused
 faults, one line on standard error:
-  jps: word N            no call has word N there; words are counted from 1
+  jps: word N            word N is missing, or no call has it there; words are counted from 1
   jps: FILE CODE line N  line N of the map, script or scen breaks its form
   jps: FILE long         the file is longer than 67108864 bytes
   jps: read, jps: write, jps: memory

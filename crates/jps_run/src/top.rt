@@ -129,7 +129,8 @@ pub fn run<F: Files, I: Source, O: Sink, E: Sink, L: Ledger>(
     ensures outcome { result ≤ 3 → Comes (map string_bytes words.now)
         (seen (F.holds files.old) (F.faults files.old) (O.written out.old) (O.faults out.old))
         (seen (F.holds files.new) (F.faults files.new) (O.written out.new) (O.faults out.new))
-        (stream (E.written err.old) (E.faults err.old)) (stream (E.written err.new) (E.faults err.new)) result }
+        (stream (E.written err.old) (E.faults err.old))
+        (stream (E.written err.new) (E.faults err.new)) result }
     // A read fault has its cause: the count of a file rose that the words name and that there was
     // reason to read, as the files before it were accepted. Nothing was written.
     ensures read { result ≡ 4 → NamedRose (map string_bytes words.now)

@@ -13,8 +13,11 @@ fn words_of(alloc: Global, line: &str) -> Result<Vec<String>, AllocError> {
 // Counted by hand, from the table of commands.
 #[test]
 fn the_first_word_of_no_call_is_named(rt: HostRuntime) -> Result<(), Fail> {
-    let lists: [(&str, u32); 14] = [
-        ("make", 1),
+    let lists: [(&str, u32); 17] = [
+        ("mkae", 1),
+        ("make", 2),
+        ("make 7 0 2 0", 3),
+        ("drill 1 show=cells", 3),
         ("--help x", 2),
         ("query", 2),
         ("query m 0 0 2", 6),

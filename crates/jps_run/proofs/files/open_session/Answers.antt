@@ -21,7 +21,7 @@ returns-clause-read g c = λ earlier.
       spelled = record {
         map = plain c.in_ok-map.map;
         spelled = r.spelled;
-        begun = session-made c.in_ok-session.session c.args.settings (plain c.in_ok-map.map) c.engine_of.result
-            c.corner_of.result c.in_ok-session.ensures c.engine_of.ensures c.corner_of.ensures;
+        begun = session-made c.in_ok-session.session c.args.settings (plain c.in_ok-map.map)
+            c.engine_of.result c.corner_of.result c.in_ok-session.ensures c.engine_of.ensures c.corner_of.ensures;
       };
     }

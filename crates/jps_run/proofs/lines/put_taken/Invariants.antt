@@ -5,4 +5,5 @@ use Rattle.jps_run.proofs.lines.put_taken.Given as goal
 
 abbrev pub invariant-loop-state : goal.invariant-loop-state
 invariant-loop-state l =
-    l.out.items ≡ l.fn.out.items ++ codes " taken" ++ texts_of (state_text l.width) (take l.state-index l.taken)
+    l.out.items ≡ l.fn.out.items ++ codes " taken"
+    ++ texts_of (state_text l.width) (take l.state-index l.taken)

@@ -39,6 +39,7 @@ returns-clause-worked g c =
         answered = subst (λ n. IsAnswered call (r.text ∷ []) lines n) (sym w.good)
             (replied c.args.map.now r.text e.sx e.sy e.gx e.gy c.args.settings r.spelled.map lines
             r.spelled.spelled
-            (subst (λ (d : SessionData). AreAnswers d c.args.settings.show commands lines) r.spelled.begun w.answers));
+            (subst (λ (d : SessionData). AreAnswers d c.args.settings.show commands lines) r.spelled.begun
+            w.answers));
       },
     )) refl c.write_answers.ensures

@@ -1,15 +1,13 @@
 use Rattle.std.proofs.Common.{◌≤◌, refl, sym, subst, List, [], ◌∷◌, ℕ}
-use Rattle.io_edge.specs.Told.{Held}
 use Rattle.scen_text.specs.declared.entry.Entry.{Entry}
 use Rattle.word_list.specs.Request.{Scen}
-use Rattle.jps_run.specs.Files.{IsAccepted}
 use Rattle.jps_run.specs.Outcome.{IsAnswered, call_with, judged}
 use Rattle.jps_run.specs.Rows.{AreRows, scen_status}
 use Rattle.jps_run.specs.Seen.{seen}
 use Rattle.edit_replay.specs.Session.{SessionData}
 use Rattle.jps_run.specs.Reading.{AreKept}
 use Rattle.jps_run.specs.declared.kind.Kind.TheVariants as kind
-use Rattle.jps_run.proofs.Works.{first-file, second-file, none-fell, reading-stops, sent-worked}
+use Rattle.jps_run.proofs.Works.{both-accepted, first-file, second-file, none-fell, reading-stops, sent-worked}
 use Rattle.jps_run.proofs.Tallies.{small_status}
 use Rattle.jps_run.proofs.scen.scen.Goals as goal
 
@@ -54,14 +52,10 @@ returns-clause-worked g c =
       subst (λ n. n ≤ 1) (sym w.same_status) (small_status w.rows),
       record {
         texts = r.text ∷ s.text ∷ [];
-        accepted = (
-          r.accepted,
-          (
-            subst (λ (k : List ℕ → Held). IsAccepted (r.text ∷ []) kind.Scen (k c.args.name.now) s.text)
-                c.in_ok-session.ensures.unchanged s.accepted,
-            tt,
-          ),
-        );
+        accepted = both-accepted (g.F.Files.holds c.args.files.now) (g.F.Files.holds c.open_session.new.files)
+            (record { kind = kind.Map; name = c.args.map.now })
+            (record { kind = kind.Scen; name = c.args.name.now }) r.text s.text r.accepted
+            c.in_ok-session.ensures.unchanged s.accepted;
         answered = subst (λ n. IsAnswered call (r.text ∷ s.text ∷ []) lines n) (sym w.same_status)
             (subst (λ (all : List (List ℕ)). IsAnswered call (r.text ∷ s.text ∷ []) all (scen_status w.rows))
             (sym w.all)

@@ -1,14 +1,12 @@
-use Rattle.std.proofs.Common.{◌≡◌, refl, sym, subst, List, [], ◌∷◌, ℕ, arith}
-use Rattle.io_edge.specs.Told.{Held}
+use Rattle.std.proofs.Common.{◌≡◌, refl, sym, subst, List, [], ◌∷◌, arith}
 use Rattle.script_text.specs.declared.command.Command.{Command}
 use Rattle.word_list.specs.Request.{Solve}
 use Rattle.jps_run.specs.Answers.{AreAnswers}
-use Rattle.jps_run.specs.Files.{IsAccepted}
 use Rattle.jps_run.specs.Outcome.{IsAnswered, call_with, solved}
 use Rattle.jps_run.specs.Seen.{seen}
 use Rattle.edit_replay.specs.Session.{SessionData}
 use Rattle.jps_run.specs.declared.kind.Kind.TheVariants as kind
-use Rattle.jps_run.proofs.Works.{first-file, second-file, none-fell, reading-stops, sent-worked}
+use Rattle.jps_run.proofs.Works.{both-accepted, first-file, second-file, none-fell, reading-stops, sent-worked}
 use Rattle.jps_run.proofs.solve.solve.Goals as goal
 
 pub returns-in_err-session-clause-worked : goal.returns-in_err-session-clause-worked
@@ -48,19 +46,15 @@ returns-clause-worked g c =
       (let good : status ≡ 0 = w.good in omega arith),
       record {
         texts = r.text ∷ s.text ∷ [];
-        accepted = (
-          r.accepted,
-          (
-            subst (λ (k : List ℕ → Held). IsAccepted (r.text ∷ []) kind.Script (k c.args.script.now) s.text)
-                c.in_ok-session.ensures.unchanged s.accepted,
-            tt,
-          ),
-        );
+        accepted = both-accepted (g.F.Files.holds c.args.files.now) (g.F.Files.holds c.open_session.new.files)
+            (record { kind = kind.Map; name = c.args.map.now })
+            (record { kind = kind.Script; name = c.args.script.now }) r.text s.text r.accepted
+            c.in_ok-session.ensures.unchanged s.accepted;
         answered = subst (λ n. IsAnswered call (r.text ∷ s.text ∷ []) lines n) (sym w.good)
             (solved c.args.map.now c.args.script.now r.text s.text c.args.settings r.spelled.map
             c.in_ok-commands.commands.items lines r.spelled.spelled s.spelled
-            (subst (λ (d : SessionData). AreAnswers d c.args.settings.show c.in_ok-commands.commands.items lines)
-            r.spelled.begun
+            (subst (λ (d : SessionData).
+            AreAnswers d c.args.settings.show c.in_ok-commands.commands.items lines) r.spelled.begun
             (subst (λ (all : List Command). AreAnswers c.in_ok-session.session c.args.settings.show all lines)
             c.as_slice.ensures.value w.answers)));
       },

@@ -1,4 +1,4 @@
-use Rattle.std.proofs.Common.{◌≡◌, sym, ap, ◌∙◌, subst, List, [], ◌∷◌, ℕ}
+use Rattle.std.proofs.Common.{◌≡◌, sym, subst, List, [], ◌∷◌, ℕ}
 use Rattle.map_text.specs.Writing.{canonical_text}
 use Rattle.map_maker.specs.Making.{made_map}
 use Rattle.word_list.specs.Request.{Help, Version, Make, Drill, called}
@@ -6,7 +6,7 @@ use Rattle.word_list.specs.declared.request.Request.{Request}
 use Rattle.jps_run.specs.Drill.{IsDrillText}
 use Rattle.jps_run.specs.Worked.{HasWorked}
 use Rattle.jps_run.specs.Outcome.{IsAnswered, call_with, help, version, made, drilled}
-use Rattle.jps_run.specs.Seen.{seen, stream}
+use Rattle.jps_run.specs.Seen.{seen}
 use Rattle.jps_run.specs.Texts.{help_text, version_text}
 use Rattle.jps_run.proofs.Works.{printed, sent-one}
 use Rattle.jps_run.proofs.top.work.Goals as goal

@@ -8,5 +8,5 @@ pub returns : goal.returns
 returns g c =
     judged-more c.put_row.result c.args.number c.args.self.now
     (record { session = c.row_of.new.session; tally = c.count.new.self }) c.args.item c.in_ok-row.row
-    c.args.lines.now.items c.put_row.new.out.items c.requires.next c.in_ok-row.ensures.row c.row_of.ensures.grid
-    c.count.ensures c.put_row.ensures
+    c.args.lines.now.items c.put_row.new.out.items c.requires.next c.in_ok-row.ensures.row
+    c.row_of.ensures.grid c.count.ensures c.put_row.ensures
