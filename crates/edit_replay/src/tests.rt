@@ -1,9 +1,9 @@
-//! Sessions on the map `.@./.../.@.`, by values counted by hand.
+//! Scripts on small maps, by values counted by hand.
 
 ghost use Rattle.std.specs.Prelude.{◌≡◌, ◌<◌};
 
-use crate::{EditReply, Engine, NoMemory, Reply, Session};
-use grid_moves::Cell;
+use crate::{EditReply, Engine, NoMemory, Reply, Session, Taken};
+use grid_moves::{Corner, Ground};
 use map_text::{MapText, read_map};
 use std::alloc::Global;
 use std::marker::Brand;
@@ -12,32 +12,43 @@ use std::sync::ledger::{Blank, Ledger};
 use std::test::*;
 use steps::Steps;
 
-const TWO_PILLARS: &[u8] = b"type octile\nheight 3\nwidth 3\nmap\n.@.\n...\n.@.\n";
+// Four numbers: the columns and rows of two ends, or what is told of a reply.
+type Four = (u32, u32, u32, u32);
 
-const WEST: Cell = Cell { x: 0, y: 1 };
-
-const EAST: Cell = Cell { x: 2, y: 1 };
-
-// The reply is the walk along the middle row, of which three states were taken.
-fn is_middle_row(reply: &Reply) -> bool {
-    let Reply::Walk {
-        points,
-        cost,
-        taken,
-    } = reply
-    else {
-        return false;
-    };
-    points.as_slice() == [WEST, EAST].as_slice()
-        && (cost.a, cost.b) == (2, 0)
-        && taken.as_slice() == [35, 44, 53].as_slice()
+// A line of a script with its reply: of a query the ends, and what is told of its reply; of an edit
+// the cell and its ground.
+#[derive(Clone, Copy)]
+enum Line {
+    Query(Four, Four),
+    Edit(u32, u32, Ground, EditReply),
 }
 
-// Each command of a script is answered on the grid that the commands before it left.
-fn answer_script<L: Ledger>(
+// How many states were taken.
+fn count(taken: &Taken) -> u32 {
+    u32::try_from(taken.as_slice().len()).unwrap_or(u32::MAX)
+}
+
+// What kind of reply it is, the straight and diagonal moves, and the number of taken states.
+fn told_of(reply: &Reply) -> Four {
+    match reply {
+        Reply::Outside => (0, 0, 0, 0),
+        Reply::Blocked => (1, 0, 0, 0),
+        Reply::None { taken } => (2, 0, 0, count(taken)),
+        Reply::Walk {
+            points: _,
+            cost,
+            taken,
+        } => (3, cost.a, cost.b, count(taken)),
+    }
+}
+
+// Each line is answered on the grids that the lines before it left.
+fn answer_all<L: Ledger>(
     alloc: Global,
     rt: &impl Abort,
     map: &MapText,
+    corner: Corner,
+    lines: &[Line],
     blank: Blank,
 ) -> Result<(), NoMemory>
     requires name { blank.name ≡ L.name }
@@ -45,64 +56,79 @@ fn answer_script<L: Ledger>(
     requires some { 0 < L.parts }
 {
     let mut steps = Steps::<L>::new(blank);
-    let mut session = Session::new(alloc, map, Engine::Plain)?;
-    let first = session.query(alloc, 0, 1, 2, 1, &mut steps)?;
-    assert!(rt; is_middle_row(&first));
-    let blocked = session.edit(1, 1, false, &mut steps);
-    assert_eq!(rt; blocked, EditReply::Done);
-    let parted = session.query(alloc, 0, 1, 2, 1, &mut steps)?;
-    assert!(rt; matches!(parted, Reply::None { .. }));
-    let freed = session.edit(1, 1, true, &mut steps);
-    assert_eq!(rt; freed, EditReply::Done);
-    let freed_again = session.edit(1, 1, true, &mut steps);
-    assert_eq!(rt; freed_again, EditReply::Same);
-    let last = session.query(alloc, 0, 1, 2, 1, &mut steps)?;
-    assert!(rt; is_middle_row(&last));
-    let outside = session.edit(3, 0, false, &mut steps);
-    assert_eq!(rt; outside, EditReply::Outside);
-    Ok(())
-}
-
-#[test]
-fn a_script_is_answered_in_turn(rt: HostRuntime) -> Result<(), Fail> {
-    assert!(rt; TWO_PILLARS.len() < 100);
-    let map = read_map(rt.alloc(), TWO_PILLARS)?;
-    answer_script::<Brand>(rt.alloc(), &rt, &map, Blank::new(1))?;
-    Ok(())
-}
-
-// The middle is blocked and freed in turn, and a query follows each edit.
-fn answer_many<L: Ledger>(
-    alloc: Global,
-    rt: &impl Abort,
-    map: &MapText,
-    blank: Blank,
-) -> Result<(), NoMemory>
-    requires name { blank.name ≡ L.name }
-    requires parts { blank.parts ≡ L.parts }
-    requires some { 0 < L.parts }
-{
-    let mut steps = Steps::<L>::new(blank);
-    let mut session = Session::new(alloc, map, Engine::Plain)?;
-    for round in 0u32..20 {
-        let open = round % 2 == 1;
-        let edited = session.edit(1, 1, open, &mut steps);
-        assert_eq!(rt; edited, EditReply::Done, "round {round}");
-        let reply = session.query(alloc, 0, 1, 2, 1, &mut steps)?;
-        assert_eq!(rt; is_middle_row(&reply), open, "round {round}");
-        assert_eq!(rt; matches!(reply, Reply::None { .. }), !open, "round {round}");
-        let pillar = session.query(alloc, 1, 0, 2, 1, &mut steps)?;
-        assert!(rt; matches!(pillar, Reply::Blocked), "round {round}");
-        let outside = session.query(alloc, 0, 1, 3, 1, &mut steps)?;
-        assert!(rt; matches!(outside, Reply::Outside), "round {round}");
+    let mut session = Session::new(alloc, map, Engine::Plain, corner)?;
+    for (i, line) in lines.iter().enumerate() {
+        match *line {
+            Line::Query(ends, told) => {
+                let (sx, sy, gx, gy) = ends;
+                let reply = session.query(alloc, sx, sy, gx, gy, &mut steps)?;
+                assert_eq!(rt; told_of(&reply), told, "line {i}");
+            }
+            Line::Edit(x, y, to, told) => {
+                let reply = session.edit(x, y, to, &mut steps);
+                assert_eq!(rt; reply, told, "line {i}");
+            }
+        }
     }
     Ok(())
 }
 
-#[test]
-fn many_queries_share_one_memory(rt: HostRuntime) -> Result<(), Fail> {
-    assert!(rt; TWO_PILLARS.len() < 100);
-    let map = read_map(rt.alloc(), TWO_PILLARS)?;
-    answer_many::<Brand>(rt.alloc(), &rt, &map, Blank::new(1))?;
+// The script's lines on the map of this text.
+fn check_script(
+    alloc: Global,
+    rt: &impl Abort,
+    text: &[u8],
+    corner: Corner,
+    lines: &[Line],
+) -> Result<(), Fail> {
+    assert!(rt; text.len() < 100);
+    let map = read_map(alloc, text)?;
+    answer_all::<Brand>(alloc, rt, &map, corner, lines, Blank::new(1))?;
     Ok(())
+}
+
+// On the map `.@./.../.@.` the middle is blocked and freed.
+#[test]
+fn a_script_is_answered_in_turn(rt: HostRuntime) -> Result<(), Fail> {
+    let text = b"type octile\nheight 3\nwidth 3\nmap\n.@.\n...\n.@.\n";
+    let across = Line::Query((0, 1, 2, 1), (3, 2, 0, 3));
+    let lines = [
+        across,
+        Line::Edit(1, 1, Ground::Blocked, EditReply::Done),
+        Line::Query((0, 1, 2, 1), (2, 0, 0, 3)),
+        Line::Edit(1, 1, Ground::Land, EditReply::Done),
+        Line::Edit(1, 1, Ground::Land, EditReply::Same),
+        across,
+        Line::Edit(3, 0, Ground::Blocked, EditReply::Outside),
+    ];
+    check_script(rt.alloc(), &rt, text, Corner::Never, &lines)
+}
+
+// On the map `.WW/.WW` queries run among water cells or among land cells, and edits move the shore.
+#[test]
+fn water_is_a_layer_of_its_own(rt: HostRuntime) -> Result<(), Fail> {
+    let text = b"type octile\nheight 2\nwidth 3\nmap\n.WW\n.WW\n";
+    let lines = [
+        Line::Query((1, 0, 2, 1), (3, 0, 1, 2)),
+        Line::Query((0, 0, 1, 0), (2, 0, 0, 0)),
+        Line::Edit(0, 0, Ground::Water, EditReply::Done),
+        Line::Query((0, 0, 1, 0), (3, 1, 0, 2)),
+        Line::Edit(0, 0, Ground::Water, EditReply::Same),
+        Line::Query((0, 0, 0, 1), (2, 0, 0, 0)),
+        Line::Edit(1, 0, Ground::Land, EditReply::Done),
+        Line::Query((0, 0, 2, 0), (2, 0, 0, 1)),
+        Line::Edit(2, 0, Ground::Blocked, EditReply::Done),
+        Line::Query((2, 0, 0, 0), (1, 0, 0, 0)),
+    ];
+    check_script(rt.alloc(), &rt, text, Corner::Never, &lines)
+}
+
+// On the map `.../.@./...` the corner is passed under one rule alone.
+#[test]
+fn a_corner_is_passed(rt: HostRuntime) -> Result<(), Fail> {
+    let text = b"type octile\nheight 3\nwidth 3\nmap\n...\n.@.\n...\n";
+    let round = [Line::Query((0, 0, 2, 2), (3, 4, 0, 8))];
+    check_script(rt.alloc(), &rt, text, Corner::Never, &round)?;
+    let past = [Line::Query((0, 0, 2, 2), (3, 2, 1, 6))];
+    check_script(rt.alloc(), &rt, text, Corner::One, &past)
 }

@@ -3,3 +3,5 @@ pub mod Consistent
 pub mod Places
 pub mod Ahead
 pub mod Edited
+pub mod Besides
+pub mod Layering

@@ -3,13 +3,12 @@
 ghost use Rattle.std.specs.Prelude.{◌≡◌, ℕ, ◌+◌, ◌^◌, ◌<◌, ◌≤◌, true, length, OnSome, IfSome, IfOk, IfErr};
 ghost use Rattle.root2_cost.specs.declared.Cost.{Cost};
 ghost use Rattle.grid_moves.specs.Grid.{is_free};
-ghost use Rattle.grid_moves.specs.Move.{are_neighbours, is_legal};
 ghost use Rattle.grid_moves.specs.Points as spec;
-ghost use Rattle.path_points.specs.Checked.{cost_within, IsFirstBad, IsShortWalk};
+ghost use Rattle.path_points.specs.Checked.{good_cost, IsFirstBad, IsShortWalk};
 
 use crate::Points;
 use crate::segments::{are_lined, step_toward, steps_between};
-use grid_moves::{Cell, Terrain, move_cost};
+use grid_moves::{Cell, Terrain, is_legal, move_cost};
 use root2_cost::Cost;
 
 // The most steps of a walk that is checked.
@@ -19,34 +18,24 @@ const MOST_STEPS: u32 = 1 << 24;
 #[derive(Clone, Copy, Debug, PartialEq, Eq)]
 pub struct BadAt(pub u32);
 
-// Whether a move from a free cell to a neighbour is legal.
-fn is_open<T: Terrain>(t: &T, from: Cell, to: Cell) -> bool
-    requires near { are_neighbours from to ≡ true }
+// The cost of the legal run between the cells, where there is one that takes the steps so far to at
+// most 2^24.
+fn run_cost<T: Terrain>(t: &T, from: Cell, to: Cell, before: u32) -> Option<Cost>
     requires free { is_free (T.grid t.now) from ≡ true }
-    ensures { result ≡ is_legal (T.grid t.now) from to }
-{
-    t.free(to)
-        && (from.x == to.x
-            || from.y == to.y
-            || (t.free(Cell { x: from.x, y: to.y }) && t.free(Cell { x: to.x, y: from.y })))
-}
-
-// The cost of the legal run between the cells, where there is one of at most so many steps.
-fn run_cost<T: Terrain>(t: &T, from: Cell, to: Cell, most: u32) -> Option<Cost>
-    requires { is_free (T.grid t.now) from ≡ true }
-    ensures cost { result ≡ cost_within (T.grid t.now) from to most }
+    requires few { before ≤ 2 ^ 24 }
+    ensures cost { result ≡ good_cost (T.grid t.now) before from to }
     ensures steps { IfSome result (λ cost. cost.a + cost.b ≡ spec.steps_between from to) }
     ensures free { OnSome result (is_free (T.grid t.now) to ≡ true) }
 {
     let steps = steps_between(from, to);
-    if !are_lined(from, to) || most < u32::from(steps) {
+    if !are_lined(from, to) || before + u32::from(steps) > MOST_STEPS {
         return None;
     }
     let mut at = from;
     let mut cost = Cost { a: 0, b: 0 };
     for _ in 0..steps {
         let next = step_toward(at, to);
-        if !is_open(t, at, next) {
+        if !is_legal(t, at, next) {
             return None;
         }
         cost = cost.add(move_cost(at, next));
@@ -77,8 +66,7 @@ pub fn check_walk<T: Terrain>(t: &T, p: &Points) -> Result<Cost, BadAt>
     let mut last = *first;
     let mut cost = Cost { a: 0, b: 0 };
     for (i, next) in others.iter().enumerate() {
-        let left = MOST_STEPS - (cost.a + cost.b);
-        let Some(run) = run_cost(t, last, *next, left) else {
+        let Some(run) = run_cost(t, last, *next, cost.a + cost.b) else {
             return Err(BadAt(i as u32 + 1));
         };
         cost = cost.add(run);

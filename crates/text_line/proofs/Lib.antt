@@ -3,3 +3,4 @@ pub mod Parts
 pub mod Digits
 pub mod Placing
 pub mod LongDigits
+pub mod Reading

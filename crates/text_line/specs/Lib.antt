@@ -5,3 +5,4 @@ pub mod LongNumbers
 pub mod Left
 pub mod Places
 pub mod Worked
+pub mod Reading

@@ -16,7 +16,7 @@ mod writing;
 pub use fields::Fields;
 pub use lines::{Line, Lines, Pieces, without_cr};
 pub use long_numbers::long_number;
-pub use numbers::number;
+pub use numbers::{digits_after, is_number, number};
 pub use places::{FieldsAt, LinesAt, PlacedField, PlacedLine};
 pub use std::alloc::AllocError as NoMemory;
 pub use writing::{put, put_number};

@@ -1,17 +1,19 @@
 //! The settings that may follow a command's other words.
 
-ghost use Rattle.std.specs.Prelude.{◌≡◌};
+ghost use Rattle.std.specs.Prelude.{◌≡◌, ◌≤◌, [], take, slice_get, map, string_bytes, Some};
 ghost use Rattle.std.specs.List.{list_any};
-ghost use Rattle.word_list.specs.Settings.{setting_of, is_same};
-ghost use Rattle.word_list.specs.Left.{settings_with};
+ghost use Rattle.word_list.specs.Settings.{setting_of, choice_of, is_clash, are_clashing, may_follow, settings_with, settings_of};
+ghost use Rattle.word_list.specs.Steps.{AreSettled, one_follows};
 
-use crate::request::{Pick, Show};
+use crate::request::{Pick, Settings, Show};
 
 /// A setting.
 #[derive(Clone, Copy, Debug)]
 pub enum Setting {
     Engine(Pick),
     Show(Show),
+    /// Whether a diagonal move may pass one blocked cell beside it.
+    Rule(bool),
 }
 
 /// What a setting chooses.
@@ -21,54 +23,126 @@ pub enum Choice {
     Engine,
     /// What an answer shows.
     Show,
+    /// Whether walks may pass corners.
+    Rule,
 }
 
-/// What the settings of a list of words chose, and nothing where they are silent.
-#[derive(Clone, Copy, Debug, Default)]
-pub struct Settings {
-    pub pick: Option<Pick>,
-    pub show: Option<Show>,
-}
-
-impl Settings {
-    /// The settings with one word more; none where the word is no setting, its choice isn't allowed,
-    /// or that is made already.
-    pub fn with(self, word: &str, allowed: &[Choice]) -> Option<Settings>
-        ensures { result ≡ settings_with allowed.now self (setting_of word.now) }
+impl Setting {
+    /// The setting that the word spells, if it spells one.
+    fn spelled(word: &str) -> Option<Setting>
+        ensures { result ≡ setting_of word.now }
     {
-        match spelled_setting(word)? {
-            Setting::Engine(pick) if allows(allowed, Choice::Engine) && self.pick.is_none() => {
-                Some(Settings {
-                    pick: Some(pick),
-                    ..self
-                })
-            }
-            Setting::Show(show) if allows(allowed, Choice::Show) && self.show.is_none() => {
-                Some(Settings {
-                    show: Some(show),
-                    ..self
-                })
-            }
+        match word {
+            "engine=plain" => Some(Setting::Engine(Pick::Plain)),
+            "show=points" => Some(Setting::Show(Show::Points)),
+            "show=cells" => Some(Setting::Show(Show::Cells)),
+            "show=trace" => Some(Setting::Show(Show::Trace)),
+            "rule=none" => Some(Setting::Rule(false)),
+            "rule=one" => Some(Setting::Rule(true)),
             _ => None,
         }
     }
-}
 
-/// Whether the choice is among those that are allowed.
-fn allows(allowed: &[Choice], choice: Choice) -> bool
-    ensures { result ≡ list_any (is_same choice) allowed.now }
-{
-    allowed.contains(&choice)
-}
-
-/// The setting that the word spells, if it spells one.
-fn spelled_setting(word: &str) -> Option<Setting>
-    ensures { result ≡ setting_of word.now }
-{
-    match word {
-        "engine=plain" => Some(Setting::Engine(Pick::Plain)),
-        "show=points" => Some(Setting::Show(Show::Points)),
-        "show=cells" => Some(Setting::Show(Show::Cells)),
-        _ => None,
+    /// What the setting chooses.
+    fn choice(self) -> Choice
+        ensures { result ≡ choice_of self }
+    {
+        match self {
+            Setting::Engine(_) => Choice::Engine,
+            Setting::Show(_) => Choice::Show,
+            Setting::Rule(_) => Choice::Rule,
+        }
     }
+
+    /// Whether it can't stand together with another.
+    fn clashes(self, other: Setting) -> bool
+        ensures { result ≡ is_clash self other }
+    {
+        self.choice() == other.choice()
+    }
+}
+
+/// What the words choose.
+pub fn chosen(words: &[String]) -> Settings
+    ensures { result ≡ settings_of (map string_bytes words.now) }
+{
+    let mut settings = Settings::default();
+    for word in words {
+        settings = with_word(settings, word.as_str());
+    }
+    settings
+}
+
+/// The settings with one more word.
+fn with_word(settings: Settings, word: &str) -> Settings
+    ensures { result ≡ settings_with settings (setting_of word.now) }
+{
+    match Setting::spelled(word) {
+        Some(Setting::Engine(pick)) => Settings { pick, ..settings },
+        Some(Setting::Show(show)) => Settings { show, ..settings },
+        Some(Setting::Rule(one)) => Settings { one, ..settings },
+        None => settings,
+    }
+}
+
+/// How many of the words, from the first on, are settings that are allowed and clash with none of
+/// the words before them.
+pub fn settled(allows: &[Choice], words: &[String]) -> usize
+    ensures count { AreSettled allows.now [] (map string_bytes words.now) result }
+    ensures few { result ≤ 3 }
+{
+    count_settled(allows, words)
+}
+
+/// The same, without how many there may be at most.
+fn count_settled(allows: &[Choice], words: &[String]) -> usize
+    ensures { AreSettled allows.now [] (map string_bytes words.now) result }
+{
+    for place in 0..words.len() {
+        if !follows_at(allows, words, place) {
+            return place;
+        }
+    }
+    words.len()
+}
+
+/// Whether there is a word at the place, from 0, and it may follow the words before it.
+fn follows_at(allows: &[Choice], words: &[String], place: usize) -> bool
+    ensures { result ≡ one_follows allows.now (take place (map string_bytes words.now))
+        (slice_get (map string_bytes words.now) place) }
+{
+    match words.get(place) {
+        Some(word) => follows(allows, &words[..place], word.as_str()),
+        None => false,
+    }
+}
+
+/// Whether the word is a setting that is allowed and clashes with none of the words before it.
+fn follows(allows: &[Choice], before: &[String], word: &str) -> bool
+    ensures { result ≡ may_follow allows.now (map string_bytes before.now) word.now }
+{
+    match Setting::spelled(word) {
+        Some(setting) => allows.contains(&setting.choice()) && !clashes_with(setting, before),
+        None => false,
+    }
+}
+
+/// Whether one of the words is a setting that can't stand together with this one.
+fn clashes_with(setting: Setting, before: &[String]) -> bool
+    ensures { result ≡ list_any (λ word. are_clashing (setting_of word) (Some setting))
+        (map string_bytes before.now) }
+{
+    for word in before {
+        if clashes_at(word.as_str(), setting) {
+            return true;
+        }
+    }
+    false
+}
+
+/// Whether the word is a setting that can't stand together with this one.
+fn clashes_at(word: &str, setting: Setting) -> bool
+    ensures { result ≡ are_clashing (setting_of word.now) (Some setting) }
+{
+    Setting::spelled(word).is_some_and(|other| other.clashes(setting))
 }

@@ -1,0 +1,181 @@
+-- Lists of settings: where they stop, and how many they are at most.
+use Rattle.std.proofs.Common.{◌≡◌, ℕ, zero, suc, ◌+◌, ◌<◌, ◌≤◌, Bool, true, false, not, ◌||◌, List, [], ◌∷◌, ◌++◌, refl, sym, ap, ◌∙◌, length, take, get_or, map, append_assoc, append-nil, string_bytes, arith}
+use Rattle.std.specs.Prelude.{String, Option, Some, None, if◌then◌else◌}
+use Rattle.std.specs.Global.{Global}
+use Rattle.std.specs.List.{list_any}
+use Rattle.std.proofs.lemmas.Bool.{and_parts}
+use Rattle.std.proofs.lemmas.List.{length-map, get_or-map, take_more}
+use Rattle.std.proofs.lemmas.List.Sums.{fold-append}
+use Rattle.std.proofs.lemmas.List.Folds.{list_any-append, list_any_at, list_any_more}
+use Rattle.word_list.specs.declared.settings.Setting.{Setting}
+use Rattle.word_list.specs.declared.settings.Setting.TheVariants as setting
+use Rattle.word_list.specs.declared.settings.Choice.{Choice}
+use Rattle.word_list.specs.declared.settings.Choice.TheVariants as choice
+use Rattle.word_list.specs.Settings.{setting_of, choice_of, is_same, are_clashing, is_allowed, may_follow, all_follow, settings_with, default_settings, settings_of}
+use Rattle.word_list.specs.Rule.{EndsAfter}
+use Rattle.word_list.specs.Steps.{AreSettled}
+use Rattle.word_list.proofs.Rules.{ends_at_once, ends_later}
+
+-- the bytes of a word at its place
+pub bytes_at : (words : List (String Global)) (place : ℕ) (word : String Global) (bytes : List ℕ)
+    → place < length words → word ≡ get_or words place word → bytes ≡ string_bytes word
+    → (place < length (map string_bytes words)) × (get_or (map string_bytes words) place bytes ≡ bytes)
+bytes_at words place word bytes inside at spelled = (
+  omega (arith, length-map words string_bytes),
+  get_or-map string_bytes words place word bytes inside ∙ ap string_bytes (sym at) ∙ sym spelled,
+)
+
+-- a test of the element at a place, after those before it failed
+module _ {A : Type 0} (test : A → Bool) (xs : List A) (place : ℕ) (x : A) (inside : place < length xs)
+    (at : get_or xs place x ≡ x) where
+  pub any_here : test x ≡ true → list_any test xs ≡ true
+  any_here met = list_any_at test xs place x inside (ap test at ∙ met)
+
+  pub none_yet : test x ≡ false → list_any test (take place xs) ≡ false
+      → list_any test (take (place + 1) xs) ≡ false
+  none_yet unmet none = list_any_more test xs place x inside ∙ rw (none, at, unmet) refl
+
+-- a list of settings ends after so many words, and is one where these are all
+pub record Settles (allows : List Choice) (before words : List (List ℕ)) (count : ℕ) : Type 0 where
+  pub ends : EndsAfter (all_follow allows before) words count
+  pub wrong : count < length words → all_follow allows before words ≡ false
+  pub right : length words ≤ count → all_follow allows before words ≡ true
+
+module _ (allows : List Choice) where
+  later : {before : List (List ℕ)} {word : List ℕ} {words : List (List ℕ)} {count : ℕ}
+      → AreSettled allows before (word ∷ words) (suc count)
+      → AreSettled allows (before ++ word ∷ []) words count
+  later {before} {word} {words} {count} are = record {
+    within = omega (arith, are.within);
+    first = λ k below. rw (append_assoc before (word ∷ []) (take k words)) (are.first (suc k) (omega arith));
+    next = rw (append_assoc before (word ∷ []) (take count words)) are.next;
+  }
+
+  pub settles : (before words : List (List ℕ)) (count : ℕ) → AreSettled allows before words count
+      → Settles allows before words count
+  settles before [] zero are = record {
+    ends = ends_at_once (all_follow allows before) [] ([], refl) (λ inside. absurd (omega arith));
+    wrong = λ below. absurd (omega arith);
+    right = λ above. refl;
+  }
+  settles before [] (suc count) are = absurd (omega (arith, are.within))
+  settles before (word ∷ words) zero are =
+      let wrong : may_follow allows before word ≡ false = rw append-nil at are.next in
+      record {
+        ends = ends_at_once (all_follow allows before) (word ∷ words) ([], refl)
+            (λ inside found. let no = rw wrong at found.1 in cc (no));
+        wrong = λ below. rw wrong refl;
+        right = λ above. absurd (omega arith);
+      }
+  settles before (word ∷ words) (suc count) are =
+      let first : may_follow allows before word ≡ true = rw append-nil at (are.first 0 (omega arith)) in
+      let goes_on : (more : List (List ℕ)) → all_follow allows before (word ∷ more)
+      ≡ all_follow allows (before ++ word ∷ []) more = λ more. rw first refl in
+      let rest = settles (before ++ word ∷ []) words count (later are) in
+      record {
+        ends = ends_later (all_follow allows before) (all_follow allows (before ++ word ∷ [])) word words count
+            goes_on rest.ends;
+        wrong = λ below. goes_on words ∙ rest.wrong (omega arith);
+        right = λ above. goes_on words ∙ rest.right (omega arith);
+      }
+
+-- whether a word makes a choice
+abbrev is_made : Choice → Option Setting → Bool
+is_made choice None = false
+is_made choice (Some s) = is_same (choice_of s) choice
+
+-- 1 where some of the words makes the choice
+abbrev made : Choice → List (List ℕ) → ℕ
+made choice words = if list_any (λ word. is_made choice (setting_of word)) words then 1 else 0
+
+-- how many choices the words make
+abbrev all_made : List (List ℕ) → ℕ
+all_made words = made choice.Engine words + made choice.Show words + made choice.Rule words
+
+few_made : (words : List (List ℕ)) → all_made words ≤ 3
+few_made words = omega (
+  arith,
+  one (list_any (λ word. is_made choice.Engine (setting_of word)) words),
+  one (list_any (λ word. is_made choice.Show (setting_of word)) words),
+  one (list_any (λ word. is_made choice.Rule (setting_of word)) words),
+)
+  where
+    one : (b : Bool) → (if b then 1 else 0) ≤ 1
+    one true = omega arith
+    one false = omega arith
+
+-- a word that may follow makes a choice that is not made yet
+module _ (allows : List Choice) (before : List (List ℕ)) (word : List ℕ) where
+  unmade : (s : Setting) → list_any (λ other. are_clashing (setting_of other) (Some s)) before ≡ false
+      → list_any (λ other. is_made (choice_of s) (setting_of other)) before ≡ false
+  unmade s none = same before ∙ none
+    where
+      agrees : (o : Option Setting) → is_made (choice_of s) o ≡ are_clashing o (Some s)
+      agrees None = refl
+      agrees (Some t) = refl
+
+      same : (words : List (List ℕ)) → list_any (λ other. is_made (choice_of s) (setting_of other)) words
+          ≡ list_any (λ other. are_clashing (setting_of other) (Some s)) words
+      same [] = refl
+      same (other ∷ words) = rw (agrees (setting_of other), same words) refl
+
+  -- what is made stays so
+  kept : (choice : Choice) → made choice before ≤ made choice (before ++ word ∷ [])
+  kept choice = rw (list_any-append (λ other. is_made choice (setting_of other)) before (word ∷ []))
+      (more (list_any (λ other. is_made choice (setting_of other)) before) _)
+    where
+      more : (b c : Bool) → (if b then 1 else 0) ≤ (if b || c then 1 else 0)
+      more true c = omega arith
+      more false c = omega arith
+
+  grown : (s : Setting) → setting_of word ≡ Some s
+      → list_any (λ other. are_clashing (setting_of other) (setting_of word)) before ≡ false
+      → made (choice_of s) before + 1 ≤ made (choice_of s) (before ++ word ∷ [])
+  grown s is none =
+      let not_yet = unmade s (rw is at none) in
+      rw (
+        list_any-append (λ other. is_made (choice_of s) (setting_of other)) before (word ∷ []),
+        not_yet,
+        is,
+        itself (choice_of s),
+      ) (omega arith)
+    where
+      itself : (choice : Choice) → is_same choice choice ≡ true
+      itself choice.Engine = refl
+      itself choice.Show = refl
+      itself choice.Rule = refl
+
+  one_more : may_follow allows before word ≡ true → all_made before + 1 ≤ all_made (before ++ word ∷ [])
+  one_more follows =
+      let parts = and_parts (is_allowed allows (setting_of word)) _ follows in
+      let none = is_not (list_any (λ other. are_clashing (setting_of other) (setting_of word)) before) parts.1 in
+      let engine = kept choice.Engine in
+      let show = kept choice.Show in
+      let rule = kept choice.Rule in
+      elim (setting_of word) as (λ s. setting_of word ≡ s → all_made before + 1 ≤ all_made (before ++ word ∷ [])) [
+        | None ↦ λ is. let no = rw is at parts.0 in cc (no)
+        | Some (setting.Engine pick) ↦ λ is. omega (arith, grown (setting.Engine pick) is none, show, rule)
+        | Some (setting.Show what) ↦ λ is. omega (arith, grown (setting.Show what) is none, engine, rule)
+        | Some (setting.Rule one) ↦ λ is. omega (arith, grown (setting.Rule one) is none, engine, show)
+      ] refl
+    where
+      is_not : (b : Bool) → not b ≡ true → b ≡ false
+      is_not true is = cc
+      is_not false is = refl
+
+pub few_settled : (allows : List Choice) (before words : List (List ℕ)) (count : ℕ)
+    → AreSettled allows before words count → all_made before + count ≤ 3
+few_settled allows before words zero are = omega (arith, few_made before)
+few_settled allows before [] (suc count) are = absurd (omega (arith, are.within))
+few_settled allows before (word ∷ words) (suc count) are =
+    let first : may_follow allows before word ≡ true = rw append-nil at (are.first 0 (omega arith)) in
+    let rest = few_settled allows (before ++ word ∷ []) words count (later allows are) in
+    omega (arith, rest, one_more allows before word first)
+
+-- what words choose, by one more of them
+pub chosen_more : (words : List (List ℕ)) (place : ℕ) (word : List ℕ) → place < length words
+    → get_or words place word ≡ word
+    → settings_of (take (place + 1) words) ≡ settings_with (settings_of (take place words)) (setting_of word)
+chosen_more words place word inside at =
+    ap settings_of (take_more words place word inside ∙ ap (λ (w : List ℕ). take place words ++ w ∷ []) at)
+    ∙ fold-append (λ set word. settings_with set (setting_of word)) default_settings (take place words) (word ∷ [])
