@@ -30,7 +30,7 @@ fn a_map_is_made_row_by_row(rt: HostRuntime) -> Result<(), Fail> {
 
 #[test]
 fn a_made_map_is_read_back(rt: HostRuntime) -> Result<(), Fail> {
-    for (seed, w, h) in [(1, 1, 1), (2, 64, 1), (3, 1, 64), (u64::MAX, 17, 9)] {
+    for (seed, w, h) in [(1, 1, 1), (2, 4096, 1), (3, 1, 64), (u64::MAX, 17, 9)] {
         let made = make(rt.alloc(), seed, w, h, 25)?;
         let mut text = Vec::new(rt.alloc());
         write_map(&made, &mut text)?;

@@ -221,7 +221,8 @@ length-text_of (suc height) width cells long =
 small_product : (height width : ℕ) → height ≤ 4096 → width ≤ 4096 → height * width ≤ 4096 * 4096
 small_product height width low narrow = mul-le-mul low narrow
 
-pub length-canonical : (map : Map) → IsMap map.width map.height map.cells → length (canonical_text map) ≤ 2 ^ 26
+pub length-canonical : (map : Map) → IsMap map.width map.height map.cells
+    → length (canonical_text map) ≤ 2 ^ 26
 unfolding canonical_text
 length-canonical map is =
     let high = are_digits map.height is.low in

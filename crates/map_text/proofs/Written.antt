@@ -43,10 +43,11 @@ module _ (old : List ℕ) (height width : ℕ) (cells : List ℕ) where
         → AreWritten old height width cells (drop width left) (done + 1) ((new ++ take width left) ++ 10 ∷ [])
     row_written more =
         let some : height - done ≡ suc (height - (done + 1)) = omega arith in
+        let after = text_of (rows_of (height - (done + 1)) width (drop width left)) in
         record {
           long = length-drop width left ∙ one_less (height - (done + 1)) width (length left)
               (written.long ∙ ap (λ (n : ℕ). n * width) some);
-          text = row_then new (take width left) (text_of (rows_of (height - (done + 1)) width (drop width left)))
+          text = row_then new (take width left) after
               ∙ ap (λ (n : ℕ). new ++ text_of (rows_of n width left)) (sym some) ∙ written.text;
           kept = begins_more old (new ++ take width left) (10 ∷ [])
               (begins_more old new (take width left) written.kept);

@@ -15,8 +15,8 @@ rows_of (suc height) width cells = take width cells ∷ rows_of height width (dr
 
 -- the lines of the header, whose words are parted by one space
 abbrev pub header_of : ℕ → ℕ → List (List ℕ)
-header_of height width =
-    codes "type octile" ∷ (codes "height " ++ decimal height) ∷ (codes "width " ++ decimal width) ∷ codes "map" ∷ []
+header_of height width = codes "type octile" ∷ (codes "height " ++ decimal height) ∷
+    (codes "width " ++ decimal width) ∷ codes "map" ∷ []
 
 -- the header and a line for each row; nothing stands after these
 unfoldable pub canonical_text : Map → List ℕ

@@ -1,9 +1,22 @@
-use Rattle.std.proofs.Common.{◌∙◌}
-use Rattle.map_maker.proofs.Drawn.{cells_are_map}
+use Rattle.std.proofs.Common.{ℕ, List, ap, ◌∙◌}
+use Rattle.map_text.specs.Map.{Map}
+use Rattle.map_maker.proofs.Drawn.{cells_made}
 use Rattle.map_maker.proofs.making.make.Goals as goal
 
+map_of_cells : ℕ → ℕ → List ℕ → Map
+map_of_cells w h cells = record { width = w; height = h; cells = cells }
+
 pub invariant_of-result : goal.invariant_of-result
-invariant_of-result c = record {
-  whole = cells_are_map c.args.w c.args.h c.args.percent c.seed_from_u64-generator.result c.of.result
-      c.requires.width c.requires.height (c.of.ensures ∙ c.in_ok-cells.ensures);
-}
+invariant_of-result c =
+    let made = cells_made c.args.seed c.args.w c.args.h c.args.percent c.kinds_of-kinds.result c.of.result
+    c.seed_from_u64-generator.result c.requires.width c.requires.height c.kinds_of-kinds.ensures
+    c.seed_from_u64-generator.ensures (c.of.ensures ∙ c.in_ok-cells.ensures) in
+    record { whole = made.is_map }
+
+pub returns : goal.returns
+unfolding map_of_cells
+returns c =
+    let made = cells_made c.args.seed c.args.w c.args.h c.args.percent c.kinds_of-kinds.result c.of.result
+    c.seed_from_u64-generator.result c.requires.width c.requires.height c.kinds_of-kinds.ensures
+    c.seed_from_u64-generator.ensures (c.of.ensures ∙ c.in_ok-cells.ensures) in
+    ap (map_of_cells c.args.w c.args.h) made.made
