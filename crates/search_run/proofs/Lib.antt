@@ -1,2 +1,4 @@
 pub mod Offers
 pub mod Leastness
+pub mod Parents
+pub mod Sameness
