@@ -13,7 +13,7 @@ use Rattle.grid_moves.specs.Grid.{GridData}
 use Rattle.grid_moves.specs.Move.{is_legal, move_cost}
 use Rattle.grid_moves.specs.Walk.{is_walk, cost_of, last_of, IsWalk}
 use Rattle.grid_moves.specs.Points.{apart, estimate}
-use Rattle.grid_moves.proofs.Legal.{IsLegal, legal_is}
+use Rattle.grid_moves.proofs.Legal.{IsLegal, and_both, legal_is}
 
 apart_near : (m n t : ℕ) → m ≤ n + 1 → n ≤ m + 1 → apart m t ≤ apart n t + 1
 apart_near m n t h k = omega arith
@@ -54,17 +54,13 @@ estimate_nothing t =
     let y : apart t.y t.y ≡ 0 = omega arith in
     rw (x, y) refl
 
-both : (a b : Bool) → (a && b) ≡ true → (a ≡ true) × (b ≡ true)
-both true b e = (refl, e)
-both false b e = absurd (cc)
-
 -- along a walk the estimate falls by at most its cost
 along : (g : GridData) (t s : Cell) (cells : List Cell) → is_walk g (s ∷ cells) ≡ true → last_of s cells ≡ t
     → IsAtMost (estimate s t) (cost_of (s ∷ cells))
 along g t s [] w e = subst (λ (c : Cell). IsAtMost (estimate s c) no_cost) e
     (same_at_most (estimate s s) no_cost (estimate_nothing s))
 along g t s (v ∷ cells) w e =
-    let parts = both (is_legal g s v) (is_walk g (v ∷ cells)) w in
+    let parts = and_both (is_legal g s v) (is_walk g (v ∷ cells)) w in
     IsAtMost-trans (estimate s t) (add_costs (move_cost s v) (estimate v t)) (cost_of (s ∷ v ∷ cells))
     (estimate_falls g s v t parts.0)
     (IsAtMost-add_left (move_cost s v) (estimate v t) (cost_of (v ∷ cells)) (along g t v cells parts.1 e))

@@ -3,26 +3,40 @@ use Rattle.std.proofs.Common.{◌≡◌, ℕ, ◌+◌, ◌<◌, ◌≤◌, arith
 use Rattle.std.specs.Prelude.{nat_eq, nat_le, nat_lt}
 use Rattle.std.proofs.lemmas.Bool.Decides.{nat_tests}
 use Rattle.grid_moves.specs.declared.Cell.{Cell}
+use Rattle.grid_moves.specs.declared.Corner.{Corner}
+use Rattle.grid_moves.specs.declared.Corner.TheVariants.{Never, One}
 use Rattle.grid_moves.specs.Grid.{GridData, is_free, is_inside}
-use Rattle.grid_moves.specs.Move.{is_legal, is_same, are_near, are_neighbours, corner_of}
+use Rattle.grid_moves.specs.Move.{is_legal, is_same, are_near, are_neighbours, corner_of, is_passable}
 
 pub record IsLegal (g : GridData) (u v : Cell) : Type 0 where
   pub source : is_free g u ≡ true
   pub target : is_free g v ≡ true
-  pub beside : is_free g (corner_of u v) ≡ true
-  pub across : is_free g (corner_of v u) ≡ true
+  pub passes : is_passable g.corner (is_free g (corner_of u v)) (is_free g (corner_of v u)) ≡ true
   pub x_low : u.x ≤ v.x + 1
   pub x_high : v.x ≤ u.x + 1
   pub y_low : u.y ≤ v.y + 1
   pub y_high : v.y ≤ u.y + 1
   pub differ : (u.x ≡ v.x) → (u.y ≡ v.y) → ⊥
 
-pub legal_is : (g : GridData) (u v : Cell) → is_legal g u v ≡ true → IsLegal g u v
-legal_is g u v h = record {
-  source = grind arith;
-  target = grind arith;
-  beside = grind arith;
-  across = grind arith;
+pub and_both : (a b : Bool) → (a && b) ≡ true → (a ≡ true) × (b ≡ true)
+and_both true b e = (refl, e)
+and_both false b e = absurd (cc)
+
+-- between two free cells every rule lets a move pass
+pub passable-both : (rule : Corner) → is_passable rule true true ≡ true
+passable-both Never = refl
+passable-both One = refl
+
+-- what the test of neighbours says
+pub record AreNeighbours (u v : Cell) : Type 0 where
+  pub x_low : u.x ≤ v.x + 1
+  pub x_high : v.x ≤ u.x + 1
+  pub y_low : u.y ≤ v.y + 1
+  pub y_high : v.y ≤ u.y + 1
+  pub differ : (u.x ≡ v.x) → (u.y ≡ v.y) → ⊥
+
+pub neighbours_are : (u v : Cell) → are_neighbours u v ≡ true → AreNeighbours u v
+neighbours_are u v h = record {
   x_low = grind (arith, nat_tests);
   x_high = grind (arith, nat_tests);
   y_low = grind (arith, nat_tests);
@@ -30,10 +44,28 @@ legal_is g u v h = record {
   differ = λ e f. grind (arith, nat_tests);
 }
 
+pub legal_is : (g : GridData) (u v : Cell) → is_legal g u v ≡ true → IsLegal g u v
+legal_is g u v h =
+    let passes : Bool = is_passable g.corner (is_free g (corner_of u v)) (is_free g (corner_of v u)) in
+    let three = and_both (are_neighbours u v && is_free g u && is_free g v) passes h in
+    let two = and_both (are_neighbours u v && is_free g u) (is_free g v) three.0 in
+    let one = and_both (are_neighbours u v) (is_free g u) two.0 in
+    let near : AreNeighbours u v = neighbours_are u v one.0 in
+    record {
+      source = one.1;
+      target = two.1;
+      passes = three.1;
+      x_low = near.x_low;
+      x_high = near.x_high;
+      y_low = near.y_low;
+      y_high = near.y_high;
+      differ = near.differ;
+    }
+
 pub is_legal-from : (g : GridData) (u v : Cell) → IsLegal g u v → is_legal g u v ≡ true
 is_legal-from g u v l =
     let near : are_neighbours u v ≡ true = near_from l.x_low l.x_high l.y_low l.y_high l.differ in
-    rw (near, l.source, l.target, l.beside, l.across) refl
+    rw (near, l.source, l.target, l.passes) refl
   where
     near_from : u.x ≤ v.x + 1 → v.x ≤ u.x + 1 → u.y ≤ v.y + 1 → v.y ≤ u.y + 1
         → ((u.x ≡ v.x) → (u.y ≡ v.y) → ⊥) → are_neighbours u v ≡ true

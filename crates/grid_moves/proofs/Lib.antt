@@ -3,3 +3,4 @@ pub mod Consistent
 pub mod Places
 pub mod Ahead
 pub mod Edited
+pub mod Besides

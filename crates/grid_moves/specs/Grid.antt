@@ -1,12 +1,17 @@
 -- Maps and grids: which cells are free.
--- Bytes after Sturtevant's benchmark format (movingai.com); which of them are free is this project's profile.
-use Rattle.std.specs.Prelude.{◌≡◌, ℕ, ◌+◌, ◌*◌, ◌≤◌, Bool, true, false, nat_lt, nat_eq, ◌&&◌, ◌||◌, refl, List, [], ◌∷◌, length, slice_index_or, slice_set, map}
+-- Bytes after Sturtevant's benchmark format (movingai.com); what each of them stands for is this project's profile.
+use Rattle.std.specs.Prelude.{◌≡◌, ℕ, ◌+◌, ◌*◌, ◌≤◌, Bool, true, false, nat_lt, nat_eq, ◌&&◌, ◌||◌, if◌then◌else◌, refl, List, [], ◌∷◌, length, slice_index_or, slice_set, map, codes}
 use Rattle.grid_moves.specs.declared.Cell.{Cell}
+use Rattle.grid_moves.specs.declared.Corner.{Corner}
+use Rattle.grid_moves.specs.declared.Corner.TheVariants.{Never, One}
+use Rattle.grid_moves.specs.declared.Ground.{Ground}
+use Rattle.grid_moves.specs.declared.Ground.TheVariants.{Blocked, Land, Water}
 
--- a grid's plain data: its sides, and for each cell, by its number, whether it is free
+-- a grid's plain data: its sides, its corner rule, and for each cell, by its number, whether it is free
 pub record GridData : Type 0 where
   pub width : ℕ
   pub height : ℕ
+  pub corner : Corner
   pub free : List Bool
 
 -- the sides are 1 to 4096
@@ -33,29 +38,55 @@ is_inside g c = nat_lt c.x g.width && nat_lt c.y g.height
 abbrev pub is_free : GridData → Cell → Bool
 is_free g c = is_inside g c && slice_index_or g.free (cell_number g.width c) false
 
--- `.`, `G` and `S` are free
-abbrev pub is_free_byte : ℕ → Bool
-is_free_byte byte = nat_eq byte 46 || nat_eq byte 71 || nat_eq byte 83
+-- `.`, `G` and `S` are land, `W` is water, and all else is blocked
+abbrev pub ground_of : ℕ → Ground
+ground_of byte =
+    if nat_eq byte 46 || nat_eq byte 71 || nat_eq byte 83 then Land
+    else if nat_eq byte 87 then Water
+    else Blocked
 
--- the grid of a map with these sides, whose cells are these bytes
-abbrev pub grid_of : ℕ → ℕ → List ℕ → GridData
-grid_of width height bytes = record { width = width; height = height; free = map is_free_byte bytes }
+-- the grounds are one
+abbrev pub is_ground : Ground → Ground → Bool
+is_ground Blocked Blocked = true
+is_ground Land Land = true
+is_ground Water Water = true
+is_ground _ _ = false
+
+-- the grid of a map with these sides and bytes in which the cells of one ground are free
+abbrev pub layer_of : Ground → Corner → ℕ → ℕ → List ℕ → GridData
+layer_of ground corner width height bytes = record {
+  width = width;
+  height = height;
+  corner = corner;
+  free = map (λ byte. is_ground ground (ground_of byte)) bytes;
+}
+
+-- the land grid of a map
+abbrev pub grid_of : ℕ → ℕ → List ℕ → Corner → GridData
+grid_of width height bytes corner = layer_of Land corner width height bytes
 
 -- the grid after an edit: one cell, on the map, is free or blocked as asked, and the others stay
 abbrev pub grid_with : GridData → Cell → Bool → GridData
-grid_with g c free =
-    record { width = g.width; height = g.height; free = slice_set g.free (cell_number g.width c) free }
+grid_with g c free = record {
+  width = g.width;
+  height = g.height;
+  corner = g.corner;
+  free = slice_set g.free (cell_number g.width c) free;
+}
 
 -- there is a byte for each cell of a map of these sides
 pub record AreCells (width height : ℕ) (bytes : List ℕ) : Type 0 where
   pub sides : AreSides width height
   pub whole : length bytes ≡ height * width
 
--- on `T.`, the tree is blocked and the ground is free
-pub tree_and_ground : (grid_of 2 1 (84 ∷ 46 ∷ [])).free ≡ false ∷ true ∷ []
-tree_and_ground = refl
+-- on `TW.`, the land grid has the ground alone, and the water grid the water
+pub land_alone : (layer_of Land Never 3 1 (codes "TW.")).free ≡ false ∷ false ∷ true ∷ []
+land_alone = refl
 
--- felling the tree frees its cell alone
-pub tree_felled : (grid_with (grid_of 3 1 (84 ∷ 46 ∷ 84 ∷ [])) (record { x = 2; y = 0 }) true).free ≡ false ∷
-    true ∷ true ∷ []
+pub water_alone : (layer_of Water Never 3 1 (codes "TW.")).free ≡ false ∷ true ∷ false ∷ []
+water_alone = refl
+
+-- felling the last tree of `T.T` frees its cell alone
+pub tree_felled : (grid_with (grid_of 3 1 (codes "T.T") Never) (record { x = 2; y = 0 }) true).free
+    ≡ false ∷ true ∷ true ∷ []
 tree_felled = refl

@@ -1,6 +1,10 @@
 pub mod Grid
+pub mod Examples
+pub mod Layers
+pub mod Least
 pub mod Move
 pub mod Walk
 pub mod Points
 pub mod Reply
 pub mod Laws
+pub mod Around

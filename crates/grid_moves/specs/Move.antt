@@ -1,10 +1,14 @@
--- Legal moves: eight directions, and no corner is cut (Harabor and Grastien, SoCS 2012).
-use Rattle.std.specs.Prelude.{◌≡◌, ℕ, zero, suc, ◌+◌, Option, Some, None, Bool, true, false, nat_le, nat_eq, not, ◌&&◌, ◌||◌, refl, List, [], ◌∷◌, if◌then◌else◌, option_and_then}
+-- Legal moves: eight directions, and a corner rule.
+-- No corner is cut: Harabor and Grastien, SoCS 2012. One blocked cell may be passed: their AAAI 2011.
+use Rattle.std.specs.Prelude.{◌≡◌, ℕ, zero, suc, ◌+◌, Option, Some, None, Bool, true, false, nat_le, nat_eq, not, ◌&&◌, ◌||◌, refl, List, [], ◌∷◌, if◌then◌else◌, option_and_then, codes}
 use Rattle.root2_cost.specs.declared.Cost.{Cost}
 use Rattle.grid_moves.specs.declared.Cell.{Cell}
 use Rattle.grid_moves.specs.declared.Dir.{Dir}
 use Rattle.grid_moves.specs.declared.Dir.TheVariants.{N, NE, E, SE, S, SW, W, NW}
-use Rattle.grid_moves.specs.Grid.{GridData, is_free}
+use Rattle.grid_moves.specs.declared.Corner.{Corner}
+use Rattle.grid_moves.specs.declared.Corner.TheVariants.{Never, One}
+use Rattle.grid_moves.specs.Grid.{GridData, grid_of, is_free}
+use Rattle.grid_moves.specs.Examples.{pillar}
 
 -- the numbers differ by at most one
 abbrev pub are_near : ℕ → ℕ → Bool
@@ -22,11 +26,17 @@ are_neighbours u v = not (is_same u v) && are_near u.x v.x && are_near u.y v.y
 abbrev pub corner_of : Cell → Cell → Cell
 corner_of u v = record { x = u.x; y = v.y }
 
--- the move is legal: from a cell to a neighbour, where every cell of the box that they span is free.
--- For a straight move the box is its two ends, for a diagonal one the two cells beside it belong to it.
+-- of the two cells beside a diagonal move, told whether each is free: both have to be free where no corner
+-- may be cut, and at least one where one blocked cell may be passed
+abbrev pub is_passable : Corner → Bool → Bool → Bool
+is_passable Never one other = one && other
+is_passable One one other = one || other
+
+-- the move is legal: from a free cell to a free neighbour, and the corner rule lets it pass between the other
+-- two cells of the box that they span. For a straight move these are its two ends.
 abbrev pub is_legal : GridData → Cell → Cell → Bool
-is_legal g u v =
-    are_neighbours u v && is_free g u && is_free g v && is_free g (corner_of u v) && is_free g (corner_of v u)
+is_legal g u v = are_neighbours u v && is_free g u && is_free g v
+    && is_passable g.corner (is_free g (corner_of u v)) (is_free g (corner_of v u))
 
 -- a straight move costs 1, a diagonal one √2
 abbrev pub move_cost : Cell → Cell → Cost
@@ -35,6 +45,32 @@ move_cost u v = if nat_eq u.x v.x || nat_eq u.y v.y then record { a = 1; b = 0 }
 -- the directions in increasing order, clockwise from north
 abbrev pub all_dirs : List Dir
 all_dirs = N ∷ NE ∷ E ∷ SE ∷ S ∷ SW ∷ W ∷ NW ∷ []
+
+-- the place in this order, from 0
+abbrev pub dir_number : Dir → ℕ
+dir_number N = 0
+dir_number NE = 1
+dir_number E = 2
+dir_number SE = 3
+dir_number S = 4
+dir_number SW = 5
+dir_number W = 6
+dir_number NW = 7
+
+-- the directions are one
+abbrev pub is_dir : Dir → Dir → Bool
+is_dir d e = nat_eq (dir_number d) (dir_number e)
+
+-- the direction back
+abbrev pub opposite : Dir → Dir
+opposite N = S
+opposite NE = SW
+opposite E = W
+opposite SE = NW
+opposite S = N
+opposite SW = NE
+opposite W = E
+opposite NW = SE
 
 -- one less, if there is one
 abbrev pub before : ℕ → Option ℕ
@@ -68,33 +104,47 @@ abbrev pub ahead : Dir → Cell → Option Cell
 ahead d c = option_and_then (λ x. option_and_then (λ y. Some (record { x = x; y = y })) (row_ahead d c.y))
     (column_ahead d c.x)
 
+-- the cell behind, from which a move in this direction comes, if there is one
+abbrev pub behind : Dir → Cell → Option Cell
+behind d c = ahead (opposite d) c
+
+-- the cell is free, if there is one
+abbrev pub is_free_cell : GridData → Option Cell → Bool
+is_free_cell g None = false
+is_free_cell g (Some v) = is_free g v
+
+-- the cell ahead is free; what lies outside the map is blocked
+abbrev pub is_open : GridData → Cell → Dir → Bool
+is_open g c d = is_free_cell g (ahead d c)
+
 -- the cell ahead, where the move to it is legal
 abbrev pub legal_ahead : GridData → Cell → Dir → Option Cell
 legal_ahead g c d = option_and_then (λ v. if is_legal g c v then Some v else None) (ahead d c)
 
--- the map `.../.@./...`
-abbrev pillar : GridData
-pillar = record {
-  width = 3;
-  height = 3;
-  free = true ∷ true ∷ true ∷ true ∷ false ∷ true ∷ true ∷ true
-      ∷ true ∷ [];
-}
-
--- a straight move along the pillar is legal
-pub along_the_pillar : is_legal pillar (record { x = 0; y = 0 }) (record { x = 1; y = 0 }) ≡ true
+-- a straight move along the pillar is legal under both rules
+pub along_the_pillar : is_legal (pillar Never) (record { x = 0; y = 0 }) (record { x = 1; y = 0 }) ≡ true
 along_the_pillar = refl
 
--- a diagonal move round it would cut its corner
-pub round_the_pillar : is_legal pillar (record { x = 1; y = 0 }) (record { x = 2; y = 1 }) ≡ false
-round_the_pillar = refl
+pub along_the_pillar-one : is_legal (pillar One) (record { x = 0; y = 0 }) (record { x = 1; y = 0 }) ≡ true
+along_the_pillar-one = refl
 
--- on `.@/@.` the free cells touch at a corner alone
-pub corner_touch : is_legal (record { width = 2; height = 2; free = true ∷ false ∷ false ∷ true ∷ [] })
-    (record { x = 0; y = 0 }) (record { x = 1; y = 1 }) ≡ false
+-- a diagonal move past its corner is legal where one blocked cell may be passed
+pub past_the_pillar : is_legal (pillar Never) (record { x = 1; y = 0 }) (record { x = 2; y = 1 }) ≡ false
+past_the_pillar = refl
+
+pub past_the_pillar-one : is_legal (pillar One) (record { x = 1; y = 0 }) (record { x = 2; y = 1 }) ≡ true
+past_the_pillar-one = refl
+
+-- on `.@/@.` the move leads between two blocked cells, which no rule lets pass
+pub corner_touch : is_legal (grid_of 2 2 (codes ".@@.") Never) (record { x = 0; y = 0 })
+    (record { x = 1; y = 1 }) ≡ false
 corner_touch = refl
 
+pub corner_touch-one : is_legal (grid_of 2 2 (codes ".@@.") One) (record { x = 0; y = 0 })
+    (record { x = 1; y = 1 }) ≡ false
+corner_touch-one = refl
+
 -- on the open map `../..` the same move is legal
-pub open_diagonal : legal_ahead (record { width = 2; height = 2; free = true ∷ true ∷ true ∷ true ∷ [] })
-    (record { x = 0; y = 0 }) SE ≡ Some (record { x = 1; y = 1 })
+pub open_diagonal : legal_ahead (grid_of 2 2 (codes "....") Never) (record { x = 0; y = 0 }) SE
+    ≡ Some (record { x = 1; y = 1 })
 open_diagonal = refl

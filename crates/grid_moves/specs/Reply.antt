@@ -1,8 +1,9 @@
 -- Right replies to a query.
-use Rattle.std.specs.Prelude.{◌≡◌, ◌&&◌, true, false, IsTrue, List, ◌∷◌, Some}
+use Rattle.std.specs.Prelude.{◌≡◌, ◌&&◌, Bool, true, false, ◌⊎◌, List, ◌∷◌, Some}
 use Rattle.root2_cost.specs.declared.Cost.{Cost}
 use Rattle.grid_moves.specs.declared.Cell.{Cell}
-use Rattle.grid_moves.specs.Grid.{GridData, is_free, is_inside}
+use Rattle.grid_moves.specs.Grid.{GridData}
+use Rattle.grid_moves.specs.Layers.{Layers, in_one_layer, is_free_ground, is_on_map, query_grid}
 use Rattle.grid_moves.specs.Walk.{IsWalk, IsLeastWalk, NoWalk, cost_of}
 use Rattle.grid_moves.specs.Points.{unfolding_of}
 
@@ -20,6 +21,10 @@ pub record StandsForLeast (g : GridData) (s t : Cell) (points : List Cell) (cost
   pub least : IsLeastWalk g s t cells
   pub priced : cost_of (s ∷ cells) ≡ cost
 
+-- both ends of a query are land or water
+abbrev pub are_free_ends : Layers → Cell → Cell → Bool
+are_free_ends ls s t = is_free_ground ls s && is_free_ground ls t
+
 -- what a query is answered
 pub data Answer : Type 0 where
   outside : Answer
@@ -28,9 +33,12 @@ pub data Answer : Type 0 where
   walk : List Cell → Cost → Answer
 
 -- the answer to a query from s to t is right: outside where an end lies outside, else blocked where an
--- end is blocked, else none where no walk exists, else points and cost of a least walk
-abbrev pub IsRight : GridData → Cell → Cell → Answer → Type 0
-IsRight g s t outside = (is_inside g s && is_inside g t) ≡ false
-IsRight g s t blocked = ((is_inside g s && is_inside g t) ≡ true) × ((is_free g s && is_free g t) ≡ false)
-IsRight g s t none = ((is_free g s && is_free g t) ≡ true) × NoWalk g s t
-IsRight g s t (walk points cost) = ((is_free g s && is_free g t) ≡ true) × StandsForLeast g s t points cost
+-- end is neither land nor water, else none where the ends lie in different layers or no walk exists on the
+-- grid of the query, else points and cost of a least walk on that grid
+abbrev pub IsRight : Layers → Cell → Cell → Answer → Type 0
+IsRight ls s t outside = (is_on_map ls s && is_on_map ls t) ≡ false
+IsRight ls s t blocked = ((is_on_map ls s && is_on_map ls t) ≡ true) × (are_free_ends ls s t ≡ false)
+IsRight ls s t none = (are_free_ends ls s t ≡ true)
+    × ((in_one_layer ls s t ≡ false) ⊎ NoWalk (query_grid ls s) s t)
+IsRight ls s t (walk points cost) =
+    (in_one_layer ls s t ≡ true) × StandsForLeast (query_grid ls s) s t points cost

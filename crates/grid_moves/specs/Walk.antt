@@ -4,8 +4,10 @@ use Rattle.root2_cost.specs.declared.Cost.{Cost}
 use Rattle.root2_cost.specs.Order.{IsAtMost}
 use Rattle.root2_cost.specs.Sums.{add_costs, no_cost, octile_cost}
 use Rattle.grid_moves.specs.declared.Cell.{Cell}
+use Rattle.grid_moves.specs.declared.Corner.TheVariants.{Never, One}
 use Rattle.grid_moves.specs.Grid.{GridData, is_free}
 use Rattle.grid_moves.specs.Move.{is_legal, move_cost}
+use Rattle.grid_moves.specs.Examples.{pillar}
 
 -- a non-empty list of free cells in which each two neighbours are a legal move
 abbrev pub is_walk : GridData → List Cell → Bool
@@ -39,19 +41,27 @@ pub record IsLeastWalk (g : GridData) (s t : Cell) (cells : List Cell) : Type 0 
   pub least : (others : List Cell) → IsWalk g s t others
       → IsAtMost (cost_of (s ∷ cells)) (cost_of (s ∷ others))
 
--- a worked row: `.@./...`, from the upper left to the upper right
-abbrev notch : GridData
-notch = record { width = 3; height = 2; free = true ∷ false ∷ true ∷ true ∷ true ∷ true ∷ [] }
+-- a worked row: round the pillar of `.../.@./...`, from the upper left to the lower right
+abbrev round_the_pillar : List Cell
+round_the_pillar = record { x = 0; y = 0 } ∷ record { x = 1; y = 0 } ∷ record { x = 2; y = 0 } ∷ record
+    { x = 2; y = 1 } ∷ record { x = 2; y = 2 } ∷ []
 
-abbrev round_the_notch : List Cell
-round_the_notch = record { x = 0; y = 0 } ∷ record { x = 0; y = 1 } ∷ record { x = 1; y = 1 } ∷ record
-    { x = 2; y = 1 } ∷ record { x = 2; y = 0 } ∷ []
-
-pub round_is_legal : is_walk notch round_the_notch ≡ true
+pub round_is_legal : is_walk (pillar Never) round_the_pillar ≡ true
 round_is_legal = refl
 
-pub round_costs_four : cost_of round_the_notch ≡ record { a = 4; b = 0 }
+pub round_costs_four : cost_of round_the_pillar ≡ record { a = 4; b = 0 }
 round_costs_four = refl
 
-pub through_is_not_legal : is_walk notch (record { x = 0; y = 0 } ∷ record { x = 1; y = 1 } ∷ []) ≡ false
-through_is_not_legal = refl
+-- past its corner it is one move shorter, where one blocked cell may be passed
+abbrev past_the_pillar : List Cell
+past_the_pillar = record { x = 0; y = 0 } ∷ record { x = 1; y = 0 } ∷ record { x = 2; y = 1 } ∷ record
+    { x = 2; y = 2 } ∷ []
+
+pub past_is_not_legal : is_walk (pillar Never) past_the_pillar ≡ false
+past_is_not_legal = refl
+
+pub past_is_legal-one : is_walk (pillar One) past_the_pillar ≡ true
+past_is_legal-one = refl
+
+pub past_costs_two_and_a_diagonal : cost_of past_the_pillar ≡ record { a = 2; b = 1 }
+past_costs_two_and_a_diagonal = refl

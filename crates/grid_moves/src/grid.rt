@@ -1,24 +1,36 @@
 //! A grid in memory.
 
-ghost use Rattle.std.specs.Prelude.{◌≡◌, ◌≢◌, ◌*◌, ◌≤◌, IfOk, IsTrue, map, length};
+ghost use Rattle.std.specs.Prelude.{◌≡◌, ◌≢◌, ◌*◌, ◌≤◌, IfOk, IsTrue, false, map, length};
 ghost use Rattle.grid_moves.specs.Grid as spec;
 
-use crate::{Cell, NoMemory, Terrain};
+use crate::{Cell, Corner, Ground, NoMemory, Terrain};
 use std::alloc::Global;
 use std::marker::Model;
 
-// Whether the byte stands for a free cell.
-fn is_free_byte(byte: u8) -> bool
-    ensures { result ≡ spec.is_free_byte byte }
+/// What a byte of a map stands for: `.`, `G` and `S` are land, `W` is water, all other bytes blocked.
+pub fn ground_of(byte: u8) -> Ground
+    ensures { result ≡ spec.ground_of byte }
 {
-    byte == b'.' || byte == b'G' || byte == b'S'
+    match byte {
+        b'.' | b'G' | b'S' => Ground::Land,
+        b'W' => Ground::Water,
+        _ => Ground::Blocked,
+    }
 }
 
-// For each byte, whether it stands for a free cell.
-fn free_cells(alloc: Global, cells: &[u8]) -> Result<Vec<bool>, NoMemory>
-    ensures { IfOk result (λ free. free.items ≡ map spec.is_free_byte cells.now) }
+// Whether the byte stands for this ground.
+fn is_of(ground: Ground, byte: u8) -> bool
+    ensures { result ≡ spec.is_ground ground (spec.ground_of byte) }
 {
-    cells.iter().map(|byte| is_free_byte(*byte)).collect(alloc)
+    ground == ground_of(byte)
+}
+
+// For each byte, whether it stands for this ground.
+fn cells_of(alloc: Global, ground: Ground, cells: &[u8]) -> Result<Vec<bool>, NoMemory>
+    ensures { IfOk result (λ free. free.items
+        ≡ map (λ byte. spec.is_ground ground (spec.ground_of byte)) cells.now) }
+{
+    cells.iter().map(|byte| is_of(ground, *byte)).collect(alloc)
 }
 
 /// A grid that keeps one flag for each cell, row by row.
@@ -26,6 +38,7 @@ fn free_cells(alloc: Global, cells: &[u8]) -> Result<Vec<bool>, NoMemory>
 pub struct Grid {
     width: u16,
     height: u16,
+    corner: Corner,
     cells: Vec<bool>,
 }
 
@@ -34,25 +47,60 @@ impl Model for Grid {
 
     ghost Value = { GridData };
 
-    ghost view = { λ g. record { width = g.width; height = g.height; free = g.cells.items } };
+    ghost view = { λ g. record {
+      width = g.width;
+      height = g.height;
+      corner = g.corner;
+      free = g.cells.items;
+    } };
 
-    ghost invariant = { λ g. IsGrid (record { width = g.width; height = g.height; free = g.cells.items }) };
+    ghost invariant = { λ g. IsGrid (record {
+      width = g.width;
+      height = g.height;
+      corner = g.corner;
+      free = g.cells.items;
+    }) };
 }
 
 impl Grid {
-    ghost use Rattle.grid_moves.specs.Grid.{AreCells, grid_of, grid_with, is_free, is_inside};
+    ghost use Rattle.grid_moves.specs.Grid.{AreCells, grid_of, grid_with, is_free, is_ground, is_inside, layer_of};
 
-    /// The grid of a map: `.`, `G` and `S` are free, all other bytes blocked.
+    /// The land grid of a map: `.`, `G` and `S` are free, all other bytes blocked.
     ///
-    /// `cells` has one byte for each cell, row by row.
-    pub fn of_cells(alloc: Global, width: u16, height: u16, cells: &[u8]) -> Result<Grid, NoMemory>
+    /// `cells` has one byte for each cell, row by row. The corner rule never changes.
+    pub fn of_cells(
+        alloc: Global,
+        width: u16,
+        height: u16,
+        cells: &[u8],
+        corner: Corner,
+    ) -> Result<Grid, NoMemory>
         requires { AreCells width height cells.now }
-        ensures { IfOk result (λ g. g ≡ grid_of width height cells.now) }
+        ensures { IfOk result (λ g. g ≡ grid_of width height cells.now corner) }
     {
-        let cells = free_cells(alloc, cells)?;
+        Grid::of_layer(alloc, width, height, cells, corner, Ground::Land)
+    }
+
+    /// The grid of a map in which the cells of one ground, land or water, are free.
+    ///
+    /// `cells` has one byte for each cell, row by row. The corner rule never changes.
+    pub fn of_layer(
+        alloc: Global,
+        width: u16,
+        height: u16,
+        cells: &[u8],
+        corner: Corner,
+        ground: Ground,
+    ) -> Result<Grid, NoMemory>
+        requires cells { AreCells width height cells.now }
+        requires layer { is_ground ground Ground.Blocked ≡ false }
+        ensures { IfOk result (λ g. g ≡ layer_of ground corner width height cells.now) }
+    {
+        let cells = cells_of(alloc, ground, cells)?;
         Ok(Grid {
             width,
             height,
+            corner,
             cells,
         })
     }
@@ -65,6 +113,7 @@ impl Grid {
         ensures others { (d : _) → d ≢ c → is_free self.new d ≡ is_free self.old d }
         ensures width { self.new.width ≡ self.old.width }
         ensures height { self.new.height ≡ self.old.height }
+        ensures corner { self.new.corner ≡ self.old.corner }
     {
         let place = c.y as usize * self.width as usize + c.x as usize;
         self.cells[place] = free;
@@ -80,6 +129,10 @@ impl Terrain for Grid {
 
     fn height(&self) -> u16 {
         self.height
+    }
+
+    fn corner(&self) -> Corner {
+        self.corner
     }
 
     fn free(&self, c: Cell) -> bool {

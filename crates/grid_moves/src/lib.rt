@@ -1,26 +1,49 @@
 //! Cells, directions, grids and legal moves.
 //!
-//! Eight directions, and no corner is cut: a diagonal move needs both cells beside it free, as in
-//! Harabor and Grastien's work from SoCS 2012 on. The definitions that every answer of `jps` rests
-//! on stand in this crate's specs: map and grid, legal move, walk and its cost, least walk,
-//! unfolding of points, right reply. They know lists of cells, moves and sums only.
+//! Eight directions, and a corner rule for the diagonal ones: they need both cells beside them
+//! free, as in Harabor and Grastien's work from SoCS 2012 on, or one of the two, as in their paper of
+//! AAAI 2011. A map has two grids, its land and its water. The definitions that every answer of
+//! `jps` rests on stand in this crate's specs: map and grids, legal move, walk and its cost, least
+//! walk, unfolding of points, right reply. They know lists of cells, moves and sums only.
 #![tactic(auto)]
 
+mod around;
 mod grid;
 pub mod laws;
 mod moves;
 mod terrain;
 
-pub use grid::Grid;
-pub use moves::{estimate, move_cost};
+pub use around::Around;
+pub use grid::{Grid, ground_of};
+pub use moves::{cell_ahead, cell_behind, dir_number, estimate, move_cost, opposite};
 pub use std::alloc::AllocError as NoMemory;
-pub use terrain::{Terrain, number_of, step};
+pub use terrain::{Terrain, is_open, is_passable, number_of, step};
 
 /// A cell: its column `x`, counted to the right, and its row `y`, counted downwards, both from 0.
 #[derive(Clone, Copy, Debug, PartialEq, Eq)]
 pub struct Cell {
     pub x: u16,
     pub y: u16,
+}
+
+/// What a diagonal move asks of the two cells beside it.
+#[derive(Clone, Copy, Debug, PartialEq, Eq)]
+pub enum Corner {
+    /// Both are free: no corner is cut. This is the rule `none`.
+    Never,
+    /// At least one is free: one blocked cell may be passed. This is the rule `one`.
+    One,
+}
+
+/// What a cell of a map is.
+#[derive(Clone, Copy, Debug, PartialEq, Eq)]
+pub enum Ground {
+    /// Nothing moves here.
+    Blocked,
+    /// Free in the land grid.
+    Land,
+    /// Free in the water grid.
+    Water,
 }
 
 /// The eight directions, clockwise from north; north is one row up.

@@ -1,4 +1,4 @@
-//! Costs of moves, and what lies ahead of a cell.
+//! Directions, what lies ahead of a cell and behind it, and costs of moves.
 
 ghost use Rattle.std.specs.Prelude.{◌≡◌, ◌<◌, ◌≤◌};
 ghost use Rattle.grid_moves.specs.Move as spec;
@@ -28,8 +28,40 @@ pub fn estimate(from: Cell, to: Cell) -> Cost
     )
 }
 
+/// The number of a direction in their order, clockwise from north, from 0.
+pub fn dir_number(d: Dir) -> u8
+    ensures { result ≡ spec.dir_number d }
+{
+    match d {
+        Dir::N => 0,
+        Dir::NE => 1,
+        Dir::E => 2,
+        Dir::SE => 3,
+        Dir::S => 4,
+        Dir::SW => 5,
+        Dir::W => 6,
+        Dir::NW => 7,
+    }
+}
+
+/// The direction back.
+pub fn opposite(d: Dir) -> Dir
+    ensures { result ≡ spec.opposite d }
+{
+    match d {
+        Dir::N => Dir::S,
+        Dir::NE => Dir::SW,
+        Dir::E => Dir::W,
+        Dir::SE => Dir::NW,
+        Dir::S => Dir::N,
+        Dir::SW => Dir::NE,
+        Dir::W => Dir::E,
+        Dir::NW => Dir::SE,
+    }
+}
+
 // The column that lies ahead, if there is one.
-pub(crate) fn column_ahead(d: Dir, x: u16) -> Option<u16>
+fn column_ahead(d: Dir, x: u16) -> Option<u16>
     requires { x < 65535 }
     ensures { result ≡ spec.column_ahead d x }
 {
@@ -41,7 +73,7 @@ pub(crate) fn column_ahead(d: Dir, x: u16) -> Option<u16>
 }
 
 // The row that lies ahead, if there is one.
-pub(crate) fn row_ahead(d: Dir, y: u16) -> Option<u16>
+fn row_ahead(d: Dir, y: u16) -> Option<u16>
     requires { y < 65535 }
     ensures { result ≡ spec.row_ahead d y }
 {
@@ -50,4 +82,25 @@ pub(crate) fn row_ahead(d: Dir, y: u16) -> Option<u16>
         Dir::SE | Dir::S | Dir::SW => Some(y + 1),
         Dir::N | Dir::NE | Dir::NW => y.checked_sub(1),
     }
+}
+
+/// The cell that lies ahead, if there is one. It may lie outside the map, to the right or below.
+pub fn cell_ahead(d: Dir, c: Cell) -> Option<Cell>
+    requires column { c.x < 65535 }
+    requires row { c.y < 65535 }
+    ensures { result ≡ spec.ahead d c }
+{
+    let x = column_ahead(d, c.x)?;
+    let y = row_ahead(d, c.y)?;
+    Some(Cell { x, y })
+}
+
+/// The cell that lies behind, from which a move in this direction comes, if there is one. It may lie
+/// outside the map, to the right or below.
+pub fn cell_behind(d: Dir, c: Cell) -> Option<Cell>
+    requires column { c.x < 65535 }
+    requires row { c.y < 65535 }
+    ensures { result ≡ spec.behind d c }
+{
+    cell_ahead(opposite(d), c)
 }

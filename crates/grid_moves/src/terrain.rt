@@ -2,12 +2,12 @@
 
 ghost use Rattle.std.specs.Prelude.{◌≡◌, ◌+◌, ◌*◌, ◌<◌, ◌≤◌, IfSome};
 ghost use Rattle.grid_moves.specs.Grid.{GridData, IsGrid, is_free, cell_number};
-ghost use Rattle.grid_moves.specs.Move.{is_legal, legal_ahead};
+ghost use Rattle.grid_moves.specs.Move as spec;
 
-use crate::moves::{column_ahead, row_ahead};
-use crate::{Cell, Dir};
+use crate::moves::cell_ahead;
+use crate::{Cell, Corner, Dir};
 
-/// A grid as a search sees it: sides of 1 to 4096 cells, and which cells are free.
+/// A grid as a search sees it: sides of 1 to 4096 cells, a corner rule, and which cells are free.
 pub trait Terrain {
     ghost grid: { Self → GridData };
 
@@ -20,6 +20,10 @@ pub trait Terrain {
     fn height(&self) -> u16
         ensures is { result ≡ (grid self.now).height }
         ensures whole { IsGrid (grid self.now) };
+
+    /// The corner rule.
+    fn corner(&self) -> Corner
+        ensures { result ≡ (grid self.now).corner };
 
     /// Whether the cell is free; none outside is.
     fn free(&self, c: Cell) -> bool
@@ -35,32 +39,53 @@ pub fn number_of(width: u16, c: Cell) -> u32
     u32::from(c.y) * u32::from(width) + u32::from(c.x)
 }
 
+/// Whether the corner rule lets a diagonal move pass between two cells, told whether each is free.
+#[inline(always)]
+pub fn is_passable(rule: Corner, one: bool, other: bool) -> bool
+    ensures { result ≡ spec.is_passable rule one other }
+{
+    match rule {
+        Corner::Never => one && other,
+        Corner::One => one || other,
+    }
+}
+
+/// Whether the cell ahead is free; what lies outside the map is blocked.
+pub fn is_open<T: Terrain>(t: &T, c: Cell, d: Dir) -> bool
+    requires column { c.x < 65535 }
+    requires row { c.y < 65535 }
+    ensures { result ≡ spec.is_open (T.grid t.now) c d }
+{
+    match cell_ahead(d, c) {
+        Some(v) => t.free(v),
+        None => false,
+    }
+}
+
 // Whether the move is legal.
 fn is_legal_move<T: Terrain>(t: &T, from: Cell, to: Cell) -> bool
-    ensures { result ≡ is_legal (T.grid t.now) from to }
+    ensures { result ≡ spec.is_legal (T.grid t.now) from to }
 {
+    let beside = Cell { x: from.x, y: to.y };
+    let across = Cell { x: to.x, y: from.y };
     from != to
         && from.x.abs_diff(to.x) <= 1
         && from.y.abs_diff(to.y) <= 1
         && t.free(from)
         && t.free(to)
-        && (from.x == to.x
-            || from.y == to.y
-            || (t.free(Cell { x: from.x, y: to.y }) && t.free(Cell { x: to.x, y: from.y })))
+        && is_passable(t.corner(), t.free(beside), t.free(across))
 }
 
 /// The cell that the move leads to, exactly where the move is legal.
 pub fn step<T: Terrain>(t: &T, c: Cell, d: Dir) -> Option<Cell>
-    ensures legal { result ≡ legal_ahead (T.grid t.now) c d }
+    ensures legal { result ≡ spec.legal_ahead (T.grid t.now) c d }
     ensures inside { IfSome result (λ v.
         cell_number (T.grid t.now).width v < (T.grid t.now).height * (T.grid t.now).width) }
 {
     if c.x >= t.width() || c.y >= t.height() {
         return None;
     }
-    let x = column_ahead(d, c.x)?;
-    let y = row_ahead(d, c.y)?;
-    let to = Cell { x, y };
+    let to = cell_ahead(d, c)?;
     if is_legal_move(t, c, to) {
         Some(to)
     } else {

@@ -8,6 +8,7 @@ returns-clause-others c = λ d other.
     let old : GridData = record {
       width = c.self.inside.width;
       height = c.self.inside.height;
+      corner = c.self.inside.corner;
       free
           = c.self.inside.cells.items;
     } in

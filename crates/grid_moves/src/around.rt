@@ -1,34 +1,34 @@
-//! The cells around a cell, each read once.
+//! The legal moves from a cell, with each cell around it read at most once.
 //!
-//! A diagonal move needs both straight cells beside it free, and these are the ends of straight
-//! moves. So a diagonal cell is read only where both are free, and no cell is read twice.
+//! The cells beside a diagonal move are the ends of straight moves. So these are read first, and a
+//! diagonal cell is read only where the corner rule lets a move pass between them.
 
 ghost use Rattle.std.specs.Prelude.{◌≡◌, ◌&&◌, true};
 ghost use Rattle.grid_moves.specs.Grid.{IsGrid, is_free};
-ghost use Rattle.grid_moves.specs.Move.{legal_ahead};
-ghost use Rattle.plain_search.specs.Beside.{IsBefore, if_open};
+ghost use Rattle.grid_moves.specs.Move.{is_passable, legal_ahead};
+ghost use Rattle.grid_moves.specs.Around.{IsBefore, if_open};
 
-use grid_moves::{Cell, Dir, Terrain};
+use crate::{Cell, Corner, Dir, Terrain};
 
 /// Which moves from a cell are legal, by direction, and the columns and rows that they lead to.
 #[derive(Clone, Copy)]
-pub(crate) struct Around {
+pub struct Around {
     /// The column before, or 65535 before column 0.
-    pub(crate) left: u16,
+    pub left: u16,
     /// The column after.
-    pub(crate) right: u16,
+    pub right: u16,
     /// The row before, or 65535 before the first.
-    pub(crate) up: u16,
+    pub up: u16,
     /// The row after.
-    pub(crate) down: u16,
-    pub(crate) n: bool,
-    pub(crate) ne: bool,
-    pub(crate) e: bool,
-    pub(crate) se: bool,
-    pub(crate) s: bool,
-    pub(crate) sw: bool,
-    pub(crate) w: bool,
-    pub(crate) nw: bool,
+    pub down: u16,
+    pub n: bool,
+    pub ne: bool,
+    pub e: bool,
+    pub se: bool,
+    pub s: bool,
+    pub sw: bool,
+    pub w: bool,
+    pub nw: bool,
 }
 
 // The column or row before this one; before 0 it is 65535, which no map has.
@@ -47,18 +47,51 @@ fn is_free_at<T: Terrain>(t: &T, x: u16, y: u16) -> bool
     t.free(Cell { x, y })
 }
 
-// Whether both cells beside a diagonal move are free, as was read, and its end is too.
+// Which diagonal moves pass between the straight cells beside them.
+#[derive(Clone, Copy)]
+struct Passages {
+    ne: bool,
+    se: bool,
+    sw: bool,
+    nw: bool,
+}
+
+// The passages, told which straight cells are free.
 #[inline(always)]
-fn is_open_corner<T: Terrain>(t: &T, column: bool, row: bool, x: u16, y: u16) -> bool
-    ensures { result ≡ (column && row && is_free (T.grid t.now) (record { x = x; y = y })) }
+fn passages_between(rule: Corner, n: bool, e: bool, s: bool, w: bool) -> Passages
+    ensures ne { result.ne ≡ is_passable rule n e }
+    ensures se { result.se ≡ is_passable rule s e }
+    ensures sw { result.sw ≡ is_passable rule s w }
+    ensures nw { result.nw ≡ is_passable rule n w }
 {
-    column && row && is_free_at(t, x, y)
+    match rule {
+        Corner::Never => Passages {
+            ne: n && e,
+            se: s && e,
+            sw: s && w,
+            nw: n && w,
+        },
+        Corner::One => Passages {
+            ne: n || e,
+            se: s || e,
+            sw: s || w,
+            nw: n || w,
+        },
+    }
+}
+
+// Whether a diagonal move is legal: it passes, and the cell of this column and row is free.
+#[inline(always)]
+fn is_open_beyond<T: Terrain>(t: &T, passes: bool, x: u16, y: u16) -> bool
+    ensures { result ≡ (is_free (T.grid t.now) (record { x = x; y = y }) && passes) }
+{
+    passes && is_free_at(t, x, y)
 }
 
 impl Around {
     /// Reads the cells around a free cell.
     #[inline(always)]
-    pub(crate) fn of<T: Terrain>(t: &T, c: Cell) -> Around
+    pub fn of<T: Terrain>(t: &T, c: Cell) -> Around
         requires free { is_free (T.grid t.now) c ≡ true }
         requires whole { IsGrid (T.grid t.now) }
         ensures n { if_open result.n (record { x = c.x; y = result.up })
@@ -84,19 +117,20 @@ impl Around {
         let e = is_free_at(t, right, c.y);
         let s = is_free_at(t, c.x, down);
         let w = is_free_at(t, left, c.y);
+        let open = passages_between(t.corner(), n, e, s, w);
         Around {
             left,
             right,
             up,
             down,
             n,
-            ne: is_open_corner(t, e, n, right, up),
+            ne: is_open_beyond(t, open.ne, right, up),
             e,
-            se: is_open_corner(t, e, s, right, down),
+            se: is_open_beyond(t, open.se, right, down),
             s,
-            sw: is_open_corner(t, w, s, left, down),
+            sw: is_open_beyond(t, open.sw, left, down),
             w,
-            nw: is_open_corner(t, w, n, left, up),
+            nw: is_open_beyond(t, open.nw, left, up),
         }
     }
 }

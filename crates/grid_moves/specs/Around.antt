@@ -1,4 +1,4 @@
--- The columns and rows beside a cell's, and where a move leads. No public clause cites this module.
+-- The columns and rows beside a cell's, and where a move leads.
 use Rattle.std.specs.Prelude.{◌≡◌, ℕ, ◌+◌, ◌<◌, Bool, Option, Some, None, if◌then◌else◌}
 use Rattle.grid_moves.specs.declared.Cell.{Cell}
 

@@ -4,11 +4,12 @@ use Rattle.std.proofs.Common.{Bool, true, false, ◌&&◌}
 use Rattle.std.specs.Prelude.{Option, Some, None, if◌then◌else◌}
 use Rattle.grid_moves.specs.declared.Cell.{Cell}
 use Rattle.grid_moves.specs.declared.Dir.{Dir}
+use Rattle.grid_moves.specs.declared.Corner.{Corner}
 use Rattle.grid_moves.specs.Grid.{GridData, IsGrid, is_free}
-use Rattle.grid_moves.specs.Move.{is_legal, ahead, legal_ahead, column_ahead, row_ahead, before}
+use Rattle.grid_moves.specs.Move.{is_legal, is_passable, ahead, legal_ahead, column_ahead, row_ahead, before}
 use Rattle.grid_moves.proofs.Ahead.{legal_ahead-is}
-use Rattle.grid_moves.proofs.Legal.{legal_is, is_legal-from, free_inside}
-use Rattle.plain_search.specs.Beside.{IsBefore, if_open}
+use Rattle.grid_moves.proofs.Legal.{and_both, legal_is, is_legal-from, free_inside, passable-both}
+use Rattle.grid_moves.specs.Around.{IsBefore, if_open}
 
 -- of a column or row m, what lies ahead in some direction is n, or nothing, and no map has n
 pub data Side (m : ℕ) (o : Option ℕ) (n : ℕ) : Type 0 where
@@ -55,23 +56,21 @@ module _ (g : GridData) (whole : IsGrid g) (c : Cell) (free : is_free g c ≡ tr
   lies v d (on e i j) (off f l) = nowhere (rw (e, f) refl) (off_map v (inr l))
   lies v d (off e l) s = nowhere (rw e refl) (off_map v (inl l))
 
-  -- v and the two cells beside the way to it are free
-  record IsClear (v : Cell) : Type 0 where
-    target : is_free g v ≡ true
-    beside : is_free g (record { x = c.x; y = v.y }) ≡ true
-    across : is_free g (record { x = v.x; y = c.y }) ≡ true
+  -- of a move to v: whether the corner rule lets it pass between the other two cells of the box
+  passes_to : Cell → Bool
+  passes_to v = is_passable g.corner (is_free g (record { x = c.x; y = v.y }))
+      (is_free g (record { x = v.x; y = c.y }))
 
-  -- an answer that stands where v and the cells of the box are free
+  -- where v is free and the move to it passes, it is legal
   same_answer : (v : Cell) (d : Dir) (clear : Bool) → Lies v d → ((c.x ≡ v.x) → (c.y ≡ v.y) → ⊥)
-      → (clear ≡ true → IsClear v) → (is_legal g c v ≡ true → clear ≡ true)
-      → if_open clear v ≡ legal_ahead g c d
-  same_answer v d true (there e i j k l) differ box legal =
-      let b = box refl in
+      → (is_free g v && passes_to v) ≡ clear → if_open clear v ≡ legal_ahead g c d
+  unfolding passes_to
+  same_answer v d true (there e i j k l) differ read =
+      let both = and_both (is_free g v) (passes_to v) read in
       let is : is_legal g c v ≡ true = is_legal-from g c v (record {
         source = free;
-        target = b.target;
-        beside = b.beside;
-        across = b.across;
+        target = both.0;
+        passes = both.1;
         x_low = i;
         x_high = j;
         y_low = k;
@@ -79,22 +78,24 @@ module _ (g : GridData) (whole : IsGrid g) (c : Cell) (free : is_free g c ≡ tr
         differ = differ;
       }) in
       rw (e, is) refl
-  same_answer v d false (there e i j k l) differ box legal = rw e (by_test (is_legal g c v) refl)
+  same_answer v d false (there e i j k l) differ read = rw e (by_test (is_legal g c v) refl)
     where
       by_test : (b : Bool) → is_legal g c v ≡ b → None ≡ (if b then Some v else None)
-      by_test true h = absurd (let o : false ≡ true = legal h in cc)
+      by_test true h = absurd (let l = legal_is g c v h in
+          let o : (is_free g v && passes_to v) ≡ true = rw (l.target, l.passes) refl in cc)
       by_test false h = refl
-  same_answer v d true (nowhere e f) differ box legal = absurd (let t = (box refl).target in cc)
-  same_answer v d false (nowhere e f) differ box legal = rw e refl
+  same_answer v d true (nowhere e f) differ read =
+      absurd (let t = (and_both (is_free g v) (passes_to v) read).0 in cc)
+  same_answer v d false (nowhere e f) differ read = rw e refl
 
   -- a straight move is legal where its end is free
   pub straight : (v : Cell) (d : Dir) → Side c.x (column_ahead d c.x) v.x → Side c.y (row_ahead d c.y) v.y
-      → ((c.x ≡ v.x) → (c.y ≡ v.y) → ⊥) → (c.x ≡ v.x) ⊎ (c.y ≡ v.y)
-      → if_open (is_free g v) v ≡ legal_ahead g c d
-  straight v d x y differ axis =
-      same_answer v d (is_free g v) (lies v d x y) differ
-      (λ f. record { target = f; beside = beside f axis; across = across f axis })
-      (λ l. (legal_is g c v l).target)
+      → ((c.x ≡ v.x) → (c.y ≡ v.y) → ⊥) → (c.x ≡ v.x) ⊎ (c.y ≡ v.y) → (read : Bool) → read ≡ is_free g v
+      → if_open read v ≡ legal_ahead g c d
+  unfolding passes_to
+  straight v d x y differ axis true f =
+      same_answer v d true (lies v d x y) differ
+      (rw (sym f, beside (sym f) axis, across (sym f) axis) (passable-both g.corner))
     where
       beside : is_free g v ≡ true → (c.x ≡ v.x) ⊎ (c.y ≡ v.y) → is_free g (record { x = c.x; y = v.y }) ≡ true
       beside f (inl e) = ap (λ (n : ℕ). is_free g (record { x = n; y = v.y })) e ∙ f
@@ -103,33 +104,19 @@ module _ (g : GridData) (whole : IsGrid g) (c : Cell) (free : is_free g c ≡ tr
       across : is_free g v ≡ true → (c.x ≡ v.x) ⊎ (c.y ≡ v.y) → is_free g (record { x = v.x; y = c.y }) ≡ true
       across f (inl e) = ap (λ (n : ℕ). is_free g (record { x = n; y = c.y })) (sym e) ∙ free
       across f (inr e) = ap (λ (n : ℕ). is_free g (record { x = v.x; y = n })) e ∙ f
+  straight v d x y differ axis false f =
+      same_answer v d false (lies v d x y) differ (rw (sym f) refl)
 
-  -- the cell of column x and row y, and those beside the way to it
-  module _ (x y : ℕ) where
-    abbrev pub end : Cell
-    end = record { x = x; y = y }
-
-    abbrev pub in_column : Cell
-    in_column = record { x = x; y = c.y }
-
-    abbrev pub in_row : Cell
-    in_row = record { x = c.x; y = y }
-
-    -- a diagonal move is legal where its end and both cells beside it are free
-    pub diagonal : (d : Dir) → Side c.x (column_ahead d c.x) x → Side c.y (row_ahead d c.y) y
-        → ((c.x ≡ x) → (c.y ≡ y) → ⊥)
-        → if_open (is_free g in_column && is_free g in_row && is_free g end) end ≡ legal_ahead g c d
-    diagonal d p q differ =
-        same_answer end d (is_free g in_column && is_free g in_row && is_free g end) (lies end d p q) differ
-        (box (is_free g in_column) (is_free g in_row) (is_free g end) refl refl refl)
-        (λ l. let i = legal_is g c end l in rw (i.across, i.beside, i.target) refl)
-      where
-        box : (a b e : Bool) → is_free g in_column ≡ a → is_free g in_row ≡ b → is_free g end ≡ e
-            → (a && b && e) ≡ true → IsClear end
-        box true true true p q r h = record { target = r; beside = q; across = p }
-        box true true false p q r h = absurd (cc)
-        box true false e p q r h = absurd (cc)
-        box false b e p q r h = absurd (cc)
+  -- a diagonal move is legal where its end is free and it passes between the cells beside it
+  pub diagonal : (x y : ℕ) (d : Dir) → Side c.x (column_ahead d c.x) x → Side c.y (row_ahead d c.y) y
+      → ((c.x ≡ x) → (c.y ≡ y) → ⊥) → (rule : Corner) → rule ≡ g.corner → (row column passes read : Bool)
+      → row ≡ is_free g (record { x = c.x; y = y }) → column ≡ is_free g (record { x = x; y = c.y })
+      → passes ≡ is_passable rule row column → read ≡ (is_free g (record { x = x; y = y }) && passes)
+      → if_open read (record { x = x; y = y }) ≡ legal_ahead g c d
+  unfolding passes_to
+  diagonal x y d p q differ rule is row column passes read e f h r =
+      same_answer (record { x = x; y = y }) d read (lies (record { x = x; y = y }) d p q) differ
+      (rw (← is, ← e, ← f, ← h, ← r) refl)
 
 -- what lies ahead over a legal move is free
 pub ahead_free : (g : GridData) (c v : Cell) (d : Dir) (b : Bool) → if_open b v ≡ legal_ahead g c d → b ≡ true
