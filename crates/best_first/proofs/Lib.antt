@@ -1,0 +1,5 @@
+pub mod Lists
+pub mod States
+pub mod Lookup
+pub mod Mirrors
+pub mod Offering

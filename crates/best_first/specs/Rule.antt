@@ -1,0 +1,35 @@
+-- The rules of searches on a map: they differ in their links alone.
+use Rattle.std.specs.Prelude.{◌≡◌, ℕ, ◌+◌, ◌<◌, ◌≤◌, ◌^◌, false, List, Option, Some}
+use Rattle.root2_cost.specs.declared.Cost.{Cost}
+use Rattle.grid_moves.specs.declared.Cell.{Cell}
+use Rattle.grid_moves.specs.Move.{is_same}
+use Rattle.grid_moves.specs.Points.{estimate}
+use Rattle.search_run.specs.Run.{Rule, Taken, IsIn, IsRun}
+use Rattle.best_first.specs.declared.state.State.{State}
+use Rattle.best_first.specs.State.{is_same_state, state_number}
+
+-- what it costs to go on from the first state to the second, where the search may
+abbrev pub Links : Type 0
+Links = State → State → Option Cost
+
+-- the rule of a search for a goal, on a map of this width, over these links
+abbrev pub search_rule : ℕ → Cell → Links → Rule State
+search_rule width goal link = record {
+  is_same = is_same_state;
+  number = state_number width;
+  estimate = λ s. estimate s.cell goal;
+  is_goal = λ s. is_same s.cell goal;
+  link = link;
+}
+
+-- links on a map of these sides: each leads to another cell of the map, and costs the octile distance
+pub record AreLinks (width height : ℕ) (link : Links) : Type 0 where
+  pub lands : (u v : State) (c : Cost) → link u v ≡ Some c → (v.cell.x < width) × (v.cell.y < height)
+  pub moves : (u v : State) (c : Cost) → link u v ≡ Some c → is_same u.cell v.cell ≡ false
+  pub priced : (u v : State) (c : Cost) → link u v ≡ Some c → c ≡ estimate u.cell v.cell
+
+-- no state is taken at a cost of more than 2^28 moves
+abbrev pub HasFewMoves : Rule State → State → Type 0
+HasFewMoves r start =
+    (run : List (Taken State)) (u : Taken State) → IsRun r start run → IsIn u run
+    → u.cost.a + u.cost.b ≤ 2 ^ 28
