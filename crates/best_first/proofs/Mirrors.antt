@@ -1,5 +1,5 @@
 -- A table that keeps a run goes on keeping it when a node is offered.
-use Rattle.std.proofs.Common.{◌≡◌, ◌≢◌, ℕ, ◌⊎◌, inl, inr, length, List, [], ◌∷◌, refl, ap, sym, ◌∙◌, subst, Bool, true, false, not, arith}
+use Rattle.std.proofs.Common.{◌≡◌, ◌≢◌, ℕ, ◌<◌, ◌⊎◌, inl, inr, length, List, [], ◌∷◌, refl, ap, sym, ◌∙◌, subst, Bool, true, false, not, arith}
 use Rattle.std.specs.Prelude.{Option, Some, None, slice_get}
 use Rattle.root2_cost.specs.declared.Cost.{Cost}
 use Rattle.grid_moves.specs.declared.Cell.{Cell}
@@ -8,7 +8,7 @@ use Rattle.search_run.proofs.Leastness.{or_true}
 use Rattle.best_first.specs.declared.node.Node.{Node}
 use Rattle.best_first.specs.declared.state.State.{State}
 use Rattle.best_first.specs.declared.state.Layout.{Layout}
-use Rattle.best_first.specs.State.{is_same_state}
+use Rattle.best_first.specs.State.{is_same_state, state_told}
 use Rattle.best_first.specs.Rule.{Links, search_rule}
 use Rattle.best_first.specs.Node.{state_of}
 use Rattle.best_first.specs.Table.{Table, lookup}
@@ -42,7 +42,8 @@ module _ (layout : Layout) (width : ℕ) (goal : Cell) (link : Links) where
 
   module _ (run : List (Taken State)) (best : Offers) (k l : Table) (v : State) (id : ℕ) (n : Node)
       (m : Mirrors layout width goal link run best k) (ch : Changed layout v id n k l)
-      (untaken : is_taken (search_rule width goal link) run v ≡ false) where
+      (untaken : is_taken (search_rule width goal link) run v ≡ false)
+      (column : (state_told n.place).cell.x < width) where
     -- the slot is no taken state's
     not_here : (j : ℕ) (p : Node) → slice_get k.nodes j ≡ Some p
         → is_taken (search_rule width goal link) run (state_of layout p) ≡ true → j ≢ id
@@ -82,6 +83,7 @@ module _ (layout : Layout) (width : ℕ) (goal : Cell) (link : Links) where
 
       here_in_order : IsInOrder layout width goal link run after l id n
       here_in_order = record {
+        column = column;
         opened =
             let z : is_taken (search_rule width goal link) run (state_of layout n) ≡ false =
             ap (λ (s : State). is_taken (search_rule width goal link) run s) ch.state ∙ untaken in
@@ -105,6 +107,7 @@ module _ (layout : Layout) (width : ℕ) (goal : Cell) (link : Links) where
           let was : slice_get k.nodes j ≡ Some x = sym (ch.others j ne) ∙ h in
           let old = m.in_order j x was in
           record {
+            column = old.column;
             opened = ch.open_others j ne ∙ old.opened;
             offer = old.offer;
             keeps = keeps_stays x old.offer old.keeps old.source;

@@ -19,7 +19,7 @@ use Rattle.best_first.specs.declared.node.Offer.{Offer as Way}
 use Rattle.best_first.specs.declared.state.State.{State}
 use Rattle.best_first.specs.declared.state.Layout.{Layout}
 use Rattle.best_first.specs.declared.state.Layout.TheVariants.{ByCell, ByArrival}
-use Rattle.best_first.specs.State.{is_same_state, state_in, place_of}
+use Rattle.best_first.specs.State.{is_same_state, state_in, state_told, place_of}
 use Rattle.best_first.specs.Rule.{Links, search_rule}
 use Rattle.best_first.specs.Node.{state_of}
 use Rattle.best_first.specs.Table.{Table, lookup, node_for, added, replaced, is_bettered, offered, offered_at}
@@ -64,6 +64,7 @@ module _ (layout : Layout) (width : ℕ) (goal : Cell) (link : Links) (run : Lis
       → Mirrors layout width goal link run after k
   same_best after same = record {
     in_order = λ id n h. let o = m.in_order id n h in record {
+      column = o.column;
       opened = o.opened;
       offer = o.offer;
       keeps = o.keeps;
@@ -76,7 +77,8 @@ module _ (layout : Layout) (width : ℕ) (goal : Cell) (link : Links) (run : Lis
     no_more = m.no_more;
   }
 
-  module _ (way : Way) (cost : Cost) (p : Node) (column : way.to.cell.x < 4096)
+  module _ (way : Way) (cost : Cost) (p : Node) (narrow : width ≤ 4096)
+      (column : way.to.cell.x < width)
       (ranked : way.rank ≡ rank_of cost)
       (short : HasShortParts (sum_at (search_rule width goal link) (state_in layout way.to) cost))
       (parent_is : slice_get k.nodes way.parent ≡ Some p)
@@ -91,7 +93,10 @@ module _ (layout : Layout) (width : ℕ) (goal : Cell) (link : Links) (run : Lis
     now = record { cost = cost; from = state_of layout p }
 
     pub new_state : state_of layout new ≡ to
-    new_state = ap (λ (s : State). state_in layout s) (told-place way.to column)
+    new_state = ap (λ (s : State). state_in layout s) (told-place way.to (omega arith))
+
+    new_column : (state_told new.place).cell.x < width
+    new_column = subst (λ (s : State). s.cell.x < width) (sym (told-place way.to (omega arith))) column
 
     in_cell : (l : Layout) → (state_in l way.to).cell ≡ way.to.cell
     in_cell ByCell = refl
@@ -214,7 +219,7 @@ module _ (layout : Layout) (width : ℕ) (goal : Cell) (link : Links) (run : Lis
         absurd (cc) in
         let less : is_less cost old.offer.cost ≡ true = sym (test_is id n h e) ∙ t in
         mirrors_changed layout width goal link run best k (replaced id new k) to id new m
-        (changed_by_replacing id n h e z) z (with_offer best to now) now
+        (changed_by_replacing id n h e z) z new_column (with_offer best to now) now
         (new_keeps (replaced id new k) (get-set_other k.nodes way.parent id new apart ∙ parent_is)) parent_taken
         (at_v (Some old.offer) (best_at id n h e z) ∙ rw less refl) at_others
 
@@ -254,7 +259,7 @@ module _ (layout : Layout) (width : ℕ) (goal : Cell) (link : Links) (run : Lis
         by_lookup None e =
             let z = m.known to e in
             mirrors_changed layout width goal link run best k (added new k) to (length k.nodes) new m
-            (changed_by_adding e) z.0 (with_offer best to now) now
+            (changed_by_adding e) z.0 new_column (with_offer best to now) now
             (new_keeps (added new k) (get-added k.nodes new way.parent p parent_is)) parent_taken
             (at_v None z.1) at_others
         by_lookup (Some id) e =

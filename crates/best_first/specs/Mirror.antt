@@ -9,7 +9,7 @@ use Rattle.search_run.specs.Run.{Taken, Offer, IsIn, lesser, least_offer, is_tak
 use Rattle.best_first.specs.declared.node.Node.{Node}
 use Rattle.best_first.specs.declared.state.State.{State}
 use Rattle.best_first.specs.declared.state.Layout.{Layout}
-use Rattle.best_first.specs.State.{is_same_state, start_at}
+use Rattle.best_first.specs.State.{is_same_state, start_at, state_told}
 use Rattle.best_first.specs.Rule.{Links, search_rule}
 use Rattle.best_first.specs.Node.{state_of}
 use Rattle.best_first.specs.Table.{Table, lookup}
@@ -36,6 +36,7 @@ module _ (layout : Layout) (width : ℕ) (goal : Cell) (link : Links) where
   -- one by which the state was taken
   pub record IsInOrder (run : List (Taken State)) (best : Offers) (k : Table) (id : ℕ) (n : Node)
       : Type 0 where
+    pub column : (state_told n.place).cell.x < width
     pub opened : slice_get k.open_at id ≡ Some (not (is_taken (search_rule width goal link) run (state_of layout n)))
     pub offer : Offer State
     pub keeps : Keeps k.nodes n offer
@@ -54,12 +55,15 @@ module _ (layout : Layout) (width : ℕ) (goal : Cell) (link : Links) where
         → (is_taken (search_rule width goal link) run s ≡ false) × (best s ≡ None)
     pub no_more : length k.open_at ≡ length k.nodes
 
-  -- the search has taken x last, and has not made its offers yet; its node has this number
-  pub record IsSearching (start : Cell) (x : Taken State) (earlier : List (Taken State)) (at : ℕ) (k : Table)
-      : Type 0 where
+  -- the search has taken x last, whose node has this number, and keeps these offers; the start's node is 0
+  pub record IsSearching (start : Cell) (x : Taken State) (earlier : List (Taken State)) (at : ℕ)
+      (best : Offers) (k : Table) : Type 0 where
     pub run : IsRun (search_rule width goal link) (start_at start) (x ∷ earlier)
     pub no_goal : has_goal (search_rule width goal link) earlier ≡ false
-    pub mirrors : Mirrors (x ∷ earlier) (least_offer (search_rule width goal link) earlier) k
+    pub mirrors : Mirrors (x ∷ earlier) best k
     pub node : Node
     pub node_is : slice_get k.nodes at ≡ Some node
     pub state : state_of layout node ≡ x.state
+    pub origin : Node
+    pub origin_is : slice_get k.nodes 0 ≡ Some origin
+    pub origin_state : state_of layout origin ≡ start_at start

@@ -6,7 +6,7 @@ use Rattle.grid_moves.specs.Move.{is_same}
 use Rattle.grid_moves.specs.Points.{estimate}
 use Rattle.search_run.specs.Run.{Rule, Taken, IsIn, IsRun}
 use Rattle.best_first.specs.declared.state.State.{State}
-use Rattle.best_first.specs.State.{is_same_state, state_number}
+use Rattle.best_first.specs.State.{is_same_state, state_number, start_at}
 
 -- what it costs to go on from the first state to the second, where the search may
 abbrev pub Links : Type 0
@@ -33,3 +33,16 @@ abbrev pub HasFewMoves : Rule State → State → Type 0
 HasFewMoves r start =
     (run : List (Taken State)) (u : Taken State) → IsRun r start run → IsIn u run
     → u.cost.a + u.cost.b ≤ 2 ^ 28
+
+-- the cell lies on a map of these sides
+abbrev pub LiesOn : ℕ → ℕ → Cell → Type 0
+LiesOn width height c = (c.x < width) × (c.y < height)
+
+-- what a search for a goal needs: sides of at most 4096, ends on the map, links as above, and few moves
+pub record IsSearch (width height : ℕ) (start goal : Cell) (link : Links) : Type 0 where
+  pub narrow : width ≤ 4096
+  pub low : height ≤ 4096
+  pub start_on : LiesOn width height start
+  pub goal_on : LiesOn width height goal
+  pub links : AreLinks width height link
+  pub few : HasFewMoves (search_rule width goal link) (start_at start)
