@@ -6,3 +6,5 @@ pub mod Mirrors
 pub mod Offering
 pub mod Taking
 pub mod Ways
+pub mod Tables
+pub mod Searching

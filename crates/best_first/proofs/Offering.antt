@@ -29,6 +29,11 @@ use Rattle.best_first.proofs.States.{is_same_state-state, is_same_state-itself, 
 use Rattle.best_first.proofs.Lookup.{lookup-found, none_found}
 use Rattle.best_first.proofs.Mirrors.{Changed, mirrors_changed, some_node}
 
+-- a state is seen at its cell
+pub in_cell : (layout : Layout) (s : State) → (state_in layout s).cell ≡ s.cell
+in_cell ByCell s = refl
+in_cell ByArrival s = refl
+
 -- the rank of a sum is the sum of the ranks
 pub rank-add_costs : (p q : Cost) → rank_of (add_costs p q) ≡ rank_of p + rank_of q
 rank-add_costs p q = omega arith
@@ -98,13 +103,9 @@ module _ (layout : Layout) (width : ℕ) (goal : Cell) (link : Links) (run : Lis
     new_column : (state_told new.place).cell.x < width
     new_column = subst (λ (s : State). s.cell.x < width) (sym (told-place way.to (omega arith))) column
 
-    in_cell : (l : Layout) → (state_in l way.to).cell ≡ way.to.cell
-    in_cell ByCell = refl
-    in_cell ByArrival = refl
-
-    new_key : new.key ≡ rank_of (sum_at (search_rule width goal link) to cost)
+    pub new_key : new.key ≡ rank_of (sum_at (search_rule width goal link) to cost)
     new_key = ap (λ (r : ℕ). r + rank_of (estimate way.to.cell goal)) ranked
-        ∙ ap (λ (c : Cell). rank_of cost + rank_of (estimate c goal)) (sym (in_cell layout))
+        ∙ ap (λ (c : Cell). rank_of cost + rank_of (estimate c goal)) (sym (in_cell layout way.to))
         ∙ sym (rank-add_costs cost (estimate to.cell goal))
 
     at_others : (s : State) → is_same_state to s ≡ false → with_offer best to now s ≡ best s

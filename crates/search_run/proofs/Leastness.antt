@@ -107,7 +107,7 @@ module _ {S : Type 0} (r : Rule S) (fit : IsConsistent r) where
       no_goal earlier u (or_false (r.is_goal x.state) (has_goal r earlier) g).1 m
 
   -- a link never lowers the sum
-  link_rises : (u v : S) (b c : Cost) → r.link u v ≡ Some c → Most (sum_at r u b) (sum_at r v (add_costs b c))
+  pub link_rises : (u v : S) (b c : Cost) → r.link u v ≡ Some c → Most (sum_at r u b) (sum_at r v (add_costs b c))
   link_rises u v b c l =
       Most-then (Most-add_left b (r.estimate u) (add_costs c (r.estimate v))
       (record { is = fit.falls u v c l }))
