@@ -8,3 +8,4 @@ pub mod Taking
 pub mod Ways
 pub mod Tables
 pub mod Searching
+pub mod Bounds

@@ -44,11 +44,7 @@ most_ranks p q m s t = by_order (rank_of p) (rank_of q) (λ h. IsAtMost-not_more
         two : (a b : ℕ) → (a ≤ b) ⊎ (b < a)
         two a b = grind arith
 
-module _ (layout : Layout) (width height : ℕ) (start goal : Cell) (link : Links)
-    (fit : IsSearch width height start goal link) where
-  fair : IsConsistent (search_rule width goal link)
-  fair = consistent width height goal link fit.links
-
+module _ (width height : ℕ) (start goal : Cell) (link : Links) (fit : IsSearch width height start goal link) where
   -- each taken state lies on the map
   pub run_on : (run : List (Taken State)) → IsRun (search_rule width goal link) (start_at start) run
       → (u : Taken State) → IsIn u run → LiesOn width height u.state.cell
@@ -67,6 +63,11 @@ module _ (layout : Layout) (width height : ℕ) (start goal : Cell) (link : Link
       short_sum width height u.state.cell goal u.cost fit.narrow fit.low (run_on run is u m) fit.goal_on
       (let f = fit.few run u is m in omega arith)
 
+  fair : IsConsistent (search_rule width goal link)
+  fair = consistent width height goal link fit.links
+
+module _ (layout : Layout) (width height : ℕ) (start goal : Cell) (link : Links)
+    (fit : IsSearch width height start goal link) where
   module _ (x : Taken State) (earlier : List (Taken State)) (at : ℕ) (best : Offers) (k : Table)
       (i : IsSearching layout width goal link start x earlier at best k) where
     -- the key of a taken state's node
@@ -87,13 +88,13 @@ module _ (layout : Layout) (width height : ℕ) (start goal : Cell) (link : Link
     pub taken_below : (id : ℕ) (n : Node) → slice_get k.nodes id ≡ Some n
         → is_taken (search_rule width goal link) (x ∷ earlier) (state_of layout n) ≡ true → n.key ≤ i.node.key
     taken_below id n h y =
-        let u = taken_state (search_rule width goal link) fair (x ∷ earlier) (state_of layout n) y in
+        let u = taken_state (search_rule width goal link) (fair width height start goal link fit) (x ∷ earlier) (state_of layout n) y in
         subst (λ (a : ℕ). a ≤ i.node.key) (sym (taken_key id n h u.0 u.1 u.2))
         (subst (λ (b : ℕ). rank_of (sum_at (search_rule width goal link) u.0.state u.0.cost) ≤ b) (sym last_key)
         (most_ranks (sum_at (search_rule width goal link) u.0.state u.0.cost)
         (sum_at (search_rule width goal link) x.state x.cost)
-        (below_last (search_rule width goal link) fair (start_at start) x earlier u.0 i.run u.1)
-        (taken_short (x ∷ earlier) i.run u.0 u.1) (taken_short (x ∷ earlier) i.run x (here earlier))))
+        (below_last (search_rule width goal link) (fair width height start goal link fit) (start_at start) x earlier u.0 i.run u.1)
+        (taken_short width height start goal link fit (x ∷ earlier) i.run u.0 u.1) (taken_short width height start goal link fit (x ∷ earlier) i.run x (here earlier))))
 
     -- so no closed node has a greater key
     pub closed_below : ClosedBelow i.node.key k
@@ -130,7 +131,7 @@ module _ (layout : Layout) (width height : ℕ) (start goal : Cell) (link : Link
           let f = fit.few (x ∷ earlier) x i.run (here earlier) in
           let b : c.a + c.b ≤ 4096 = rw (fit.links.priced x.state (state_in layout o.to) c l)
           (short_link width height x.state.cell (state_in layout o.to).cell fit.narrow fit.low
-          (run_on (x ∷ earlier) i.run x (here earlier)) lands) in
+          (run_on width height start goal link fit (x ∷ earlier) i.run x (here earlier)) lands) in
           omega arith
 
       short : HasShortParts (sum_at (search_rule width goal link) (state_in layout o.to) (add_costs x.cost c))
@@ -152,8 +153,8 @@ module _ (layout : Layout) (width height : ℕ) (start goal : Cell) (link : Link
           (subst (λ (b : ℕ). rank_of (sum_at (search_rule width goal link) x.state x.cost) ≤ b) (sym key)
           (most_ranks (sum_at (search_rule width goal link) x.state x.cost)
           (sum_at (search_rule width goal link) (state_in layout o.to) (add_costs x.cost c))
-          (link_rises (search_rule width goal link) fair x.state (state_in layout o.to) x.cost c l)
-          (taken_short (x ∷ earlier) i.run x (here earlier)) short))
+          (link_rises (search_rule width goal link) (fair width height start goal link fit) x.state (state_in layout o.to) x.cost c l)
+          (taken_short width height start goal link fit (x ∷ earlier) i.run x (here earlier)) short))
 
       below_new : (id : ℕ) (n : Node) → slice_get k.nodes id ≡ Some n
           → is_taken (search_rule width goal link) (x ∷ earlier) (state_of layout n) ≡ true
