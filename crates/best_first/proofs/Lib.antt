@@ -9,3 +9,5 @@ pub mod Ways
 pub mod Tables
 pub mod Searching
 pub mod Bounds
+pub mod Backing
+pub mod Progress

@@ -19,7 +19,8 @@ rank_left goal n = n.key - rank_of (estimate (node_cell n) goal)
 -- from the node of this number back along the parents to the start, which has the number 0, these are the
 -- cells; the way between costs this, and ranks of costs fall
 pub data IsBack (goal : Cell) (nodes : List Node) : ℕ → List Cell → Cost → Type 0 where
-  stops : (n : Node) → slice_get nodes 0 ≡ Some n → IsBack goal nodes 0 (node_cell n ∷ []) no_cost
+  stops : (id : ℕ) (n : Node) → id ≡ 0 → slice_get nodes id ≡ Some n
+      → IsBack goal nodes id (node_cell n ∷ []) no_cost
   goes : (id : ℕ) (n p : Node) (cells : List Cell) (c : Cost) → id ≢ 0 → slice_get nodes id ≡ Some n
       → slice_get nodes n.parent ≡ Some p → rank_left goal p < rank_left goal n
       → IsBack goal nodes n.parent cells c
