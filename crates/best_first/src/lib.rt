@@ -9,6 +9,7 @@
 //! looked for, as the estimate is consistent; the index is exact and never cleared as a whole.
 #![tactic(auto)]
 
+mod index;
 mod node;
 mod place;
 mod state;
