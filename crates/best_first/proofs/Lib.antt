@@ -12,3 +12,5 @@ pub mod Bounds
 pub mod Backing
 pub mod Progress
 pub mod Records
+pub mod Numbers
+pub mod Exact
