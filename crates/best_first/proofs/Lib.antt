@@ -14,3 +14,4 @@ pub mod Progress
 pub mod Records
 pub mod Numbers
 pub mod Exact
+pub mod Forgetting

@@ -93,3 +93,9 @@ pub record IsPut (layout : Layout) (heads later_heads : List ℕ) (records later
   pub heads_are : AreHeads layout later_heads later_records
   pub as_many : length later_heads ≡ length heads
   pub heads_stay : (c : ℕ) → (c ≡ cell → ⊥) → slice_get later_heads c ≡ slice_get heads c
+
+-- the parts of a space are in order: the index is exact, over at most 2^24 cells
+pub record AreParts (layout : Layout) (width : ℕ) (nodes : List Node) (heads : List ℕ)
+    (records : List (List ℕ)) : Type 0 where
+  pub exact : IsExact layout width nodes heads records
+  pub few_cells : length heads ≤ 16777216

@@ -12,11 +12,13 @@
 mod index;
 mod node;
 mod place;
+mod space;
 mod state;
 mod taken;
 
 pub use node::{Node, Offer};
 pub use place::Place;
+pub use space::Space;
 pub use state::{Layout, State};
 pub use std::alloc::AllocError as NoMemory;
 pub use taken::Taken;

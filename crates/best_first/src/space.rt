@@ -1,0 +1,92 @@
+//! The memory of a search: its nodes, and an index from states to nodes.
+
+ghost use Rattle.std.specs.Prelude.{◌≡◌, ℕ, suc, ◌+◌, ◌-◌, ◌*◌, ◌<◌, ◌≤◌, ◌^◌, [], ◌∷◌, ◌++◌, length, true, false, Some, None, OnOk, OnErr, IfOk, IfNone, IfSome, vec_len, vec_capacity, slice_get, slice_set};
+ghost use Rattle.best_first.specs.Index.{entry_for, AreBlank, AreCovered, IsExact, AreParts};
+ghost use Rattle.best_first.specs.Node.{state_of, ranks_before};
+ghost use Rattle.best_first.specs.Space.{SpaceData, IsPlaced, KeepsShape, HasRoomFor, room_in};
+ghost use Rattle.best_first.specs.State.{state_in, place_of, start_at};
+ghost use Rattle.best_first.specs.Table.{Table, lookup, node_for, added, replaced, is_bettered, offered, begun, closed_at, IsFirstNode, NoneOpen, ClosedBelow};
+ghost use Rattle.grid_moves.specs.Grid.{cell_number};
+ghost use Rattle.grid_moves.specs.Points.{estimate};
+ghost use Rattle.root2_cost.specs.Rank.{rank_of};
+
+use crate::index::Index;
+use crate::{Layout, NoMemory, Node, Offer, Place, State};
+use grid_moves::{Cell, estimate, number_of};
+use open_list::Pool;
+use std::alloc::Global;
+use std::marker::Model;
+use std::sync::ledger::Ledger;
+use steps::Steps;
+
+/// The nodes of a search, and an index from states to their nodes.
+///
+/// It is made once for a map of so many cells, and used for one search after the other. Contracts
+/// see the nodes of the last search, the width of its map, and how many offers still fit.
+#[derive(Drop)]
+pub struct Space {
+    pool: Pool<Node>,
+    index: Index,
+    // The width of the map of the last search, by which the index has its nodes.
+    width: u16,
+}
+
+impl Model for Space {
+    ghost use Rattle.best_first.specs.Space.{SpaceData};
+
+    ghost Value = { SpaceData };
+
+    ghost use Rattle.std.specs.Prelude.{length, vec_len, vec_capacity};
+    ghost use Rattle.best_first.specs.Space.{room_in};
+    ghost use Rattle.best_first.specs.Index.{AreParts};
+
+    ghost view = { λ s. record {
+      layout = s.index.layout;
+      places = length s.index.heads.items;
+      width = s.width;
+      table = record { nodes = s.pool.nodes; open_at = s.pool.open_at };
+      spare = room_in s.index.layout s.pool.spare (vec_len s.index.records) (vec_capacity s.index.records);
+    } };
+
+    ghost invariant = { λ s.
+        AreParts s.index.layout s.width s.pool.nodes s.index.heads.items s.index.records.items };
+}
+
+// The rank of the estimate.
+#[inline(always)]
+pub(crate) fn estimate_rank(from: Cell, to: Cell) -> u64
+    ensures value { result ≡ rank_of (estimate from to) }
+    ensures small { result < 2 ^ 60 }
+{
+    estimate(from, to).rank()
+}
+
+// The node of an offer.
+#[inline(always)]
+fn node_for(goal: Cell, offer: Offer) -> Node
+    requires column { offer.to.cell.x < 4096 }
+    requires fits { offer.rank < 2 ^ 63 }
+    ensures { result ≡ node_for goal offer }
+{
+    Node {
+        key: offer.rank + estimate_rank(offer.to.cell, goal),
+        parent: offer.parent,
+        place: Place::of(offer.to),
+    }
+}
+
+// Sets the heads of all cells that have a node back to 0.
+fn clear_heads(pool: &Pool<Node>, index: &mut Index, width: u16)
+    requires covered { AreCovered index.old.layout width pool.now.nodes 0 index.old.heads.items }
+    requires inside { (id : ℕ) (n : _) → slice_get pool.now.nodes id ≡ Some n
+        → IsPlaced width (length index.old.heads.items) (state_of index.old.layout n).cell }
+    ensures blank { AreBlank index.new.heads.items }
+    ensures as_many { length index.new.heads.items ≡ length index.old.heads.items }
+    ensures layout { index.new.layout ≡ index.old.layout }
+    ensures records { index.new.records ≡ index.old.records }
+{
+    for id in 0..pool.len() {
+        let cell = number_of(width, pool.node(id).place.cell()) as usize;
+        index.heads[cell] = 0;
+    }
+}
