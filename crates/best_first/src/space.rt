@@ -90,3 +90,51 @@ fn clear_heads(pool: &Pool<Node>, index: &mut Index, width: u16)
         index.heads[cell] = 0;
     }
 }
+
+// Forgets all nodes. The memory stays.
+fn forget(pool: &mut Pool<Node>, index: &mut Index, width: u16)
+    requires exact { IsExact index.old.layout width pool.old.nodes index.old.heads.items
+        index.old.records.items }
+    ensures nodes { pool.new.nodes ≡ [] }
+    ensures open_at { pool.new.open_at ≡ [] }
+    ensures blank { AreBlank index.new.heads.items }
+    ensures records { index.new.records.items ≡ [] }
+    ensures as_many { length index.new.heads.items ≡ length index.old.heads.items }
+    ensures layout { index.new.layout ≡ index.old.layout }
+{
+    clear_heads(pool, index, width);
+    index.records.clear();
+    pool.clear();
+}
+
+// Makes room for so many nodes and records more.
+fn make_room(pool: &mut Pool<Node>, index: &mut Index, n: u32) -> Result<(), NoMemory>
+    requires few { length pool.old.nodes + n < 2 ^ 28 }
+    ensures room { OnOk result (n ≤ pool.new.spare) }
+    ensures records_room { OnOk result (HasRoomFor index.old.layout n (vec_len index.new.records)
+        (vec_capacity index.new.records)) }
+    ensures not_less { pool.old.spare ≤ pool.new.spare }
+    ensures rest_kept { pool.new ≡ record pool.old { spare = pool.new.spare } }
+    ensures layout { index.new.layout ≡ index.old.layout }
+    ensures heads { index.new.heads ≡ index.old.heads }
+    ensures records { index.new.records.items ≡ index.old.records.items }
+    ensures len { vec_len index.new.records ≡ vec_len index.old.records }
+{
+    pool.reserve(n)?;
+    match index.layout {
+        Layout::ByCell => Ok(()),
+        Layout::ByArrival => index.records.reserve(n as usize),
+    }
+}
+
+// Adds a node, and closes it, as it is the only one.
+fn add_first<L: Ledger>(pool: &mut Pool<Node>, node: Node, steps: &mut Steps<L>)
+    requires nodes { pool.old.nodes ≡ [] }
+    requires open_at { pool.old.open_at ≡ [] }
+    requires room { 1 ≤ pool.old.spare }
+    ensures nodes { pool.new.nodes ≡ node ∷ [] }
+    ensures open_at { pool.new.open_at ≡ false ∷ [] }
+{
+    pool.add(node, steps);
+    pool.pop(steps);
+}
