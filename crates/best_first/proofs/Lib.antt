@@ -6,7 +6,6 @@ pub mod Mirrors
 pub mod Offering
 pub mod Taking
 pub mod Ways
-pub mod Tables
 pub mod Searching
 pub mod Bounds
 pub mod Backing
@@ -15,3 +14,5 @@ pub mod Records
 pub mod Numbers
 pub mod Exact
 pub mod Forgetting
+pub mod Tables
+pub mod Parts

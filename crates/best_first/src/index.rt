@@ -112,6 +112,7 @@ impl Index {
         ensures layout { IfOk result (λ i. i.layout ≡ layout) }
         ensures blank { IfOk result (λ i. AreBlank i.heads.items) }
         ensures as_many { IfOk result (λ i. length i.heads.items ≡ cells) }
+        ensures records { IfOk result (λ i. i.records.items ≡ []) }
     {
         Ok(Index {
             layout,

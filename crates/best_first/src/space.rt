@@ -138,3 +138,149 @@ fn add_first<L: Ledger>(pool: &mut Pool<Node>, node: Node, steps: &mut Steps<L>)
     pool.add(node, steps);
     pool.pop(steps);
 }
+
+impl Space {
+    /// The memory for searches on maps of so many cells: a head for each of them is filled.
+    pub fn new(alloc: Global, layout: Layout, cells: usize) -> Result<Space, NoMemory>
+        requires { cells ≤ 16777216 }
+        ensures layout { IfOk result (λ s. s.layout ≡ layout) }
+        ensures places { IfOk result (λ s. s.places ≡ cells) }
+    {
+        Ok(Space {
+            pool: Pool::new(alloc),
+            index: Index::new(alloc, layout, cells)?,
+            width: 1,
+        })
+    }
+
+    /// Begins a search on a map of this width, which has at most as many cells as this space: forgets
+    /// the nodes of the last one, and takes the start, whose node has the number 0.
+    pub fn begin<L: Ledger>(
+        &mut self,
+        width: u16,
+        start: Cell,
+        goal: Cell,
+        steps: &mut Steps<L>,
+    ) -> Result<(), NoMemory>
+        requires narrow { width ≤ 4096 }
+        requires placed { IsPlaced width self.old.places start }
+        ensures begun { OnOk result (self.new.table ≡ begun goal start) }
+        ensures width { OnOk result (self.new.width ≡ width) }
+        ensures layout { self.new.layout ≡ self.old.layout }
+        ensures places { self.new.places ≡ self.old.places }
+    {
+        forget(&mut self.pool, &mut self.index, self.width);
+        self.width = width;
+        make_room(&mut self.pool, &mut self.index, 1)?;
+        let to = State {
+            cell: start,
+            arrival: None,
+        };
+        let offer = Offer {
+            rank: 0,
+            parent: 0,
+            to,
+        };
+        add_first(&mut self.pool, node_for(goal, offer), steps);
+        self.index.put(number_of(width, start) as usize, to, 1);
+        Ok(())
+    }
+
+    /// The node of this number.
+    #[inline(always)]
+    pub fn node(&self, id: u32) -> Node
+        requires { id < length self.now.table.nodes }
+        ensures { slice_get self.now.table.nodes id ≡ Some result }
+    {
+        *self.pool.node(id)
+    }
+
+    /// Makes room for eight offers, so that they need no memory.
+    pub fn reserve(&mut self) -> Result<(), NoMemory>
+        ensures room { OnOk result (8 ≤ self.new.spare) }
+        ensures shape { KeepsShape self.old self.new }
+        ensures table { self.new.table ≡ self.old.table }
+    {
+        make_room(&mut self.pool, &mut self.index, 8)
+    }
+
+    // 0 where a state has no node, or the number of its node and one.
+    #[inline(always)]
+    fn find(&self, state: State) -> u32
+        requires narrow { self.now.width ≤ 4096 }
+        requires placed { IsPlaced self.now.width self.now.places state.cell }
+        ensures { result ≡ entry_for (lookup self.now.layout self.now.table.nodes
+            (state_in self.now.layout state)) }
+    {
+        self.index
+            .entry(number_of(self.width, state.cell) as usize, state)
+    }
+
+    // Adds a node for a state that has none.
+    #[inline(never)]
+    fn add<L: Ledger>(&mut self, state: State, node: Node, steps: &mut Steps<L>)
+        requires narrow { self.old.width ≤ 4096 }
+        requires placed { IsPlaced self.old.width self.old.places state.cell }
+        requires made { node.place ≡ place_of state }
+        requires new { lookup self.old.layout self.old.table.nodes (state_in self.old.layout state) ≡ None }
+        requires room { 1 ≤ self.old.spare }
+        ensures table { self.new.table ≡ added node self.old.table }
+        ensures shape { KeepsShape self.old self.new }
+        ensures spare { self.old.spare ≤ self.new.spare + 1 }
+    {
+        let id = self.pool.add(node, steps);
+        self.index
+            .put(number_of(self.width, state.cell) as usize, state, id + 1);
+    }
+
+    // Puts a node of a lesser key in the place of an open one of the same state.
+    #[inline(never)]
+    fn lower<L: Ledger>(&mut self, id: u32, node: Node, steps: &mut Steps<L>)
+        requires is_open { slice_get self.old.table.open_at id ≡ Some true }
+        requires less { is_bettered self.old.table.nodes id node.key ≡ true }
+        requires same { (old : _) → slice_get self.old.table.nodes id ≡ Some old
+            → state_of self.old.layout old ≡ state_of self.old.layout node }
+        ensures table { self.new.table ≡ replaced id node self.old.table }
+        ensures shape { KeepsShape self.old self.new }
+        ensures spare { self.new.spare ≡ self.old.spare }
+    {
+        self.pool.lower(id, node, steps);
+    }
+
+    /// Offers a way on from a taken state: its node is added where the state has none, and takes the
+    /// place of the state's node where that one has a greater key.
+    ///
+    /// No closed node may have a greater key than the offer. As the estimate is consistent, none has
+    /// where the offer is one of the state that was taken last.
+    #[inline(always)]
+    pub fn offer<L: Ledger>(&mut self, goal: Cell, offer: Offer, steps: &mut Steps<L>)
+        requires narrow { self.old.width ≤ 4096 }
+        requires placed { IsPlaced self.old.width self.old.places offer.to.cell }
+        requires fits { offer.rank < 2 ^ 63 }
+        requires closed { ClosedBelow (node_for goal offer).key self.old.table }
+        requires room { 1 ≤ self.old.spare }
+        ensures table { self.new.table ≡ offered self.old.layout goal offer self.old.table }
+        ensures shape { KeepsShape self.old self.new }
+        ensures spare { self.old.spare ≤ self.new.spare + 1 }
+    {
+        let node = node_for(goal, offer);
+        let entry = self.find(offer.to);
+        if entry == 0 {
+            self.add(offer.to, node, steps);
+        } else if node.key < self.pool.node(entry - 1).key {
+            self.lower(entry - 1, node, steps);
+        }
+    }
+
+    /// Takes the open node that ranks first, and gives its number, or `None` where none is open.
+    pub fn take_next<L: Ledger>(&mut self, steps: &mut Steps<L>) -> Option<u32>
+        ensures none { IfNone result (NoneOpen self.old.table) }
+        ensures first { IfSome result (λ id. IsFirstNode self.old.table id) }
+        ensures closed { IfSome result (λ id. self.new.table ≡ closed_at id self.old.table) }
+        ensures unchanged { IfNone result (self.new.table ≡ self.old.table) }
+        ensures nodes { self.new.table.nodes ≡ self.old.table.nodes }
+        ensures shape { KeepsShape self.old self.new }
+    {
+        self.pool.pop(steps)
+    }
+}
