@@ -16,3 +16,4 @@ pub mod Exact
 pub mod Forgetting
 pub mod Tables
 pub mod Parts
+pub mod Tracing
