@@ -95,7 +95,7 @@ module _ (goal : Cell) (nodes : List Node) where
       rest = f.rest;
       left = f.left;
       rest_is_back = f.rest_is_back;
-      joined = append_assoc ∙ ap (λ (cs : List Cell). points ++ cs) (sym f.cells_are) ∙ w.joined;
+      joined = append_assoc points (node_cell n ∷ []) f.rest ∙ ap (λ (cs : List Cell). points ++ cs) (sym f.cells_are) ∙ w.joined;
       priced = moved f.left cost (estimate (node_cell f.parent) (node_cell n))
           ∙ ap (λ (c : Cost). add_costs c cost) (sym f.cost_is) ∙ w.priced;
     }
@@ -124,3 +124,22 @@ module _ (goal : Cell) (nodes : List Node) where
     pub ranks_fall : (id : ℕ) (n : Node) (cells : List Cell) (cost : Cost) → slice_get nodes id ≡ Some n
         → (f : Further id n cells cost) → rank_at goal nodes n.parent < rank_at goal nodes id
     ranks_fall id n cells cost h f = rw (f.parent_is, h) f.less
+
+    -- one cell more, as it is read
+    pub step_back : (points later : List Cell) (cost after : Cost) (id : ℕ) (n p : Node) (cell before : Cell)
+        → IsOnTheWay goal nodes first points cost id → id ≢ 0 → slice_get nodes id ≡ Some n
+        → slice_get nodes n.parent ≡ Some p → cell ≡ node_cell n → before ≡ node_cell p
+        → later ≡ points ++ cell ∷ [] → after ≡ add_costs cost (estimate before cell)
+        → IsOnTheWay goal nodes first later after n.parent
+    step_back points later cost after id n p cell before w ne h g c b l a =
+        let f = further id n w.rest w.left w.rest_is_back ne h in
+        let same : f.parent ≡ p = some_node f.parent p (sym f.parent_is ∙ g) in
+        let points_are : points ++ node_cell n ∷ [] ≡ later =
+        ap (λ (d : Cell). points ++ d ∷ []) (sym c) ∙ sym l in
+        let cost_is : add_costs cost (estimate (node_cell f.parent) (node_cell n)) ≡ after
+        = ap (λ (q : Node). add_costs cost (estimate (node_cell q) (node_cell n))) same
+        ∙ ap (λ (d : Cell). add_costs cost (estimate d (node_cell n))) (sym b)
+        ∙ ap (λ (d : Cell). add_costs cost (estimate before d)) (sym c) ∙ sym a in
+        subst (λ (ps : List Cell). IsOnTheWay goal nodes first ps after n.parent) points_are
+        (subst (λ (d : Cost). IsOnTheWay goal nodes first (points ++ node_cell n ∷ []) d n.parent) cost_is
+        (one_back points cost id n w f))
