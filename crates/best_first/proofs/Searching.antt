@@ -123,8 +123,9 @@ module _ (layout : Layout) (width height : ℕ) (start goal : Cell) (link : Link
         yes : (b : Bool) → (is_same_state x.state x.state || b) ≡ true
         yes b = rw (is_same_state-itself x.state) refl
 
-    module _ (o : Way) (c : Cost) (l : link x.state (state_in layout o.to) ≡ Some c)
-        (ranked : o.rank ≡ rank_of (add_costs x.cost c)) (parent : o.parent ≡ at) where
+    module _ (o : Way) (c : Cost) (l : link.step x.state (state_in layout o.to) ≡ Some c)
+        (ranked : o.rank ≡ rank_of (add_costs x.cost c)) (parent : o.parent ≡ at)
+        (led : link.led x.state o.to ≡ true) where
       lands : LiesOn width height (state_in layout o.to).cell
       lands = fit.links.lands x.state (state_in layout o.to) c l
 
@@ -187,6 +188,11 @@ module _ (layout : Layout) (width height : ℕ) (start goal : Cell) (link : Link
               or_true true e = refl
               or_true false e = e
 
+      told : link.led (state_of layout i.node) (state_told (place_of o.to)) ≡ true
+      told = ap (λ (s : State). link.led s (state_told (place_of o.to))) i.state
+          ∙ ap (λ (s : State). link.led x.state s)
+          (told-place o.to (let a = way_on.0 in let b = fit.narrow in omega arith)) ∙ led
+
       -- one more offer
       pub one_more : IsSearching layout width goal link start x earlier at
           (with_onward x best (record { to = state_in layout o.to; cost = c })) (offered layout goal o k)
@@ -198,7 +204,7 @@ module _ (layout : Layout) (width height : ℕ) (start goal : Cell) (link : Link
             (Some (record { cost = add_costs x.cost c; from = s })) else best v) (offered layout goal o k)) i.state
             (offered_keeps layout width goal link (x ∷ earlier) best k i.mirrors o (add_costs x.cost c) i.node
             fit.narrow way_on.0 ranked short parent_is last_taken (λ id n h e y. below_new id n h
-            (ap (λ (s : State). is_taken (search_rule width goal link) (x ∷ earlier) s) e ∙ y)));
+            (ap (λ (s : State). is_taken (search_rule width goal link) (x ∷ earlier) s) e ∙ y)) told);
         node = i.node;
         node_is = offered_slot layout goal o k at i.node i.node_is key_rises;
         state = i.state;
@@ -291,6 +297,7 @@ module _ (layout : Layout) (width height : ℕ) (start goal : Cell) (link : Link
       parent_is = refl;
       from = first_state;
     };
+    led = ap (λ (s : State). link.led (start_at start) s) told_start ∙ fit.links.starts start;
     source = start_taken;
     best_is = λ z. absurd (let y : is_taken (search_rule width goal link) (at_start ∷ [])
         (state_of layout first_node) ≡ true =

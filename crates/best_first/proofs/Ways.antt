@@ -24,9 +24,9 @@ lesser-none (Some o) = refl
 module _ (width : ℕ) (goal : Cell) (link : Links) (y : Taken State) where
   -- each of the ways is a link of the taken state
   abbrev pub AreOfLinks : List Onward → Type 0
-  AreOfLinks ways = (w : Onward) → IsAmong w ways → link y.state w.to ≡ Some w.cost
+  AreOfLinks ways = (w : Onward) → IsAmong w ways → link.step y.state w.to ≡ Some w.cost
 
-  module _ (s : State) (c : Cost) (linked : link y.state s ≡ Some c) where
+  module _ (s : State) (c : Cost) (linked : link.step y.state s ≡ Some c) where
     abbrev made : Option (Offer State)
     made = Some (record { cost = add_costs y.cost c; from = y.state })
 
@@ -45,12 +45,12 @@ module _ (width : ℕ) (goal : Cell) (link : Links) (y : Taken State) where
         by_test false e = rw e refl
 
     -- over one of its links
-    one_over : (best : Offers) (w : Onward) → link y.state w.to ≡ Some w.cost
+    one_over : (best : Offers) (w : Onward) → link.step y.state w.to ≡ Some w.cost
         → ((w ≡ record { to = s; cost = c }) × (with_onward y best w s ≡ lesser (best s) made))
         ⊎ (with_onward y best w s ≡ best s)
     one_over best w l = elim (same_or_not (is_same_state w.to s)) [
       | inl t ↦ (let one : w.to ≡ s = is_same_state-state w.to s t in
-          let cost : w.cost ≡ c = some_cost w.cost c (sym l ∙ ap (λ (u : State). link y.state u) one ∙ linked) in
+          let cost : w.cost ≡ c = some_cost w.cost c (sym l ∙ ap (λ (u : State). link.step y.state u) one ∙ linked) in
           inl (
             same_way w (record { to = s; cost = c }) one cost,
             rw t (ap (λ (d : Cost). let o : Offer State = record { cost = add_costs y.cost d; from = y.state } in
@@ -101,7 +101,7 @@ module _ (width : ℕ) (goal : Cell) (link : Links) (y : Taken State) where
     ]
 
   -- where no link leads nothing is offered
-  none_made : (s : State) → link y.state s ≡ None → (ways : List Onward) (best : Offers) → AreOfLinks ways
+  none_made : (s : State) → link.step y.state s ≡ None → (ways : List Onward) (best : Offers) → AreOfLinks ways
       → with_all y best ways s ≡ best s
   none_made s n [] best l = refl
   none_made s n (w ∷ ways) best l =
@@ -109,14 +109,14 @@ module _ (width : ℕ) (goal : Cell) (link : Links) (y : Taken State) where
       ∙ elim (same_or_not (is_same_state w.to s)) [
         | inl t ↦ absurd (let one : w.to ≡ s = is_same_state-state w.to s t in
             let e : Some w.cost ≡ None =
-            sym (l w (first ways)) ∙ ap (λ (u : State). link y.state u) one ∙ n in cc)
+            sym (l w (first ways)) ∙ ap (λ (u : State). link.step y.state u) one ∙ n in cc)
         | inr f ↦ rw f refl
       ]
 
   -- a link is among the ways, or offering over it changes nothing
   abbrev pub AreEnough : List (Taken State) → List Onward → Type 0
   AreEnough earlier ways =
-      (v : State) (c : Cost) → link y.state v ≡ Some c → IsAmong (record { to = v; cost = c }) ways
+      (v : State) (c : Cost) → link.step y.state v ≡ Some c → IsAmong (record { to = v; cost = c }) ways
       ⊎ (least_offer (search_rule width goal link) (y ∷ earlier) v
       ≡ least_offer (search_rule width goal link) earlier v)
 
@@ -125,12 +125,12 @@ module _ (width : ℕ) (goal : Cell) (link : Links) (y : Taken State) where
       → AreOfLinks ways → AreEnough earlier ways → (s : State)
       → with_all y (least_offer (search_rule width goal link) earlier) ways s
       ≡ least_offer (search_rule width goal link) (y ∷ earlier) s
-  offers_after earlier ways open_ended l enough s = by_link (link y.state s) refl
+  offers_after earlier ways open_ended l enough s = by_link (link.step y.state s) refl
     where
       best : Offers
       best = least_offer (search_rule width goal link) earlier
 
-      by_link : (o : Option Cost) → link y.state s ≡ o
+      by_link : (o : Option Cost) → link.step y.state s ≡ o
           → with_all y (least_offer (search_rule width goal link) earlier) ways s
           ≡ least_offer (search_rule width goal link) (y ∷ earlier) s
       by_link None e =
