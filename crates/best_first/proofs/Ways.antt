@@ -6,7 +6,7 @@ use Rattle.root2_cost.specs.Order.{is_less}
 use Rattle.root2_cost.specs.Sums.{add_costs}
 use Rattle.grid_moves.specs.declared.Cell.{Cell}
 use Rattle.grid_moves.specs.Move.{is_same}
-use Rattle.search_run.specs.Run.{Taken, Offer, lesser, least_offer}
+use Rattle.search_run.specs.Run.{Taken, Offer, is_taken, lesser, least_offer}
 use Rattle.best_first.specs.declared.state.State.{State}
 use Rattle.best_first.specs.State.{is_same_state}
 use Rattle.best_first.specs.Rule.{Links, search_rule}
@@ -113,19 +113,21 @@ module _ (width : ℕ) (goal : Cell) (link : Links) (y : Taken State) where
         | inr f ↦ rw f refl
       ]
 
-  -- a link is among the ways, or offering over it changes nothing
+  -- a link to a state that was not taken is among the ways, or offering over it changes nothing
   abbrev pub AreEnough : List (Taken State) → List Onward → Type 0
   AreEnough earlier ways =
-      (v : State) (c : Cost) → link.step y.state v ≡ Some c → IsAmong (record { to = v; cost = c }) ways
+      (v : State) (c : Cost) → is_taken (search_rule width goal link) (y ∷ earlier) v ≡ false
+      → link.step y.state v ≡ Some c → IsAmong (record { to = v; cost = c }) ways
       ⊎ (least_offer (search_rule width goal link) (y ∷ earlier) v
       ≡ least_offer (search_rule width goal link) earlier v)
 
   -- then its offers make the least offers those after it
   pub offers_after : (earlier : List (Taken State)) (ways : List Onward) → is_same y.state.cell goal ≡ false
       → AreOfLinks ways → AreEnough earlier ways → (s : State)
+      → is_taken (search_rule width goal link) (y ∷ earlier) s ≡ false
       → with_all y (least_offer (search_rule width goal link) earlier) ways s
       ≡ least_offer (search_rule width goal link) (y ∷ earlier) s
-  offers_after earlier ways open_ended l enough s = by_link (link.step y.state s) refl
+  offers_after earlier ways open_ended l enough s untaken = by_link (link.step y.state s) refl
     where
       best : Offers
       best = least_offer (search_rule width goal link) earlier
@@ -140,7 +142,7 @@ module _ (width : ℕ) (goal : Cell) (link : Links) (y : Taken State) where
           let after : lesser (least_offer (search_rule width goal link) earlier s)
           (Some (record { cost = add_costs y.cost c; from = y.state }))
           ≡ least_offer (search_rule width goal link) (y ∷ earlier) s = rw (open_ended, e) refl in
-          elim (enough s c e) [
+          elim (enough s c untaken e) [
             | inl i ↦ is_made s c e ways (least_offer (search_rule width goal link) earlier) l i ∙ after
             | inr same ↦ elim (either s c e ways (least_offer (search_rule width goal link) earlier) l) [
               | inl g ↦ g ∙ after

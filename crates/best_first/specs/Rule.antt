@@ -44,11 +44,15 @@ HasFewMoves r start =
 abbrev pub LiesOn : ℕ → ℕ → Cell → Type 0
 LiesOn width height c = (c.x < width) × (c.y < height)
 
--- what a search for a goal needs: sides of at most 4096, ends on the map, links as above, and few moves
-pub record IsSearch (width height : ℕ) (start goal : Cell) (link : Links) : Type 0 where
+-- a search for a goal is posed on a map: sides of at most 4096, ends on the map, links as above
+pub record IsPosed (width height : ℕ) (start goal : Cell) (link : Links) : Type 0 where
   pub narrow : width ≤ 4096
   pub low : height ≤ 4096
   pub start_on : LiesOn width height start
   pub goal_on : LiesOn width height goal
   pub links : AreLinks width height link
+
+-- and takes few moves
+pub record IsSearch (width height : ℕ) (start goal : Cell) (link : Links) : Type 0 where
+  pub posed : IsPosed width height start goal link
   pub few : HasFewMoves (search_rule width goal link) (start_at start)
