@@ -1,15 +1,3 @@
 pub mod Walks
 pub mod Right
-pub mod Lists
-pub mod Keys
-pub mod Tables
-pub mod Mirrors
-pub mod Offering
-pub mod Relaxing
-pub mod Bounds
-pub mod Taking
-pub mod Searching
-pub mod Tracing
-pub mod Backing
-pub mod Concluding
-pub mod Answering
+pub mod Leaving

@@ -1,0 +1,7 @@
+-- What a contract sees of a `Workspace`: its number of places.
+use Rattle.std.specs.Prelude.{◌≡◌, ℕ, ◌*◌}
+use Rattle.grid_moves.specs.Grid.{GridData}
+
+-- there is a place for each cell of the grid
+abbrev pub HasRoom : GridData → ℕ → Type 0
+HasRoom g places = places ≡ g.height * g.width
