@@ -1,3 +1,5 @@
 pub mod Walks
 pub mod Right
 pub mod Leaving
+pub mod Shapes
+pub mod Expanding

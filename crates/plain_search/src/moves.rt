@@ -13,7 +13,7 @@
 //! After a straight move, a side is left out only where the cell behind it is seen to be free.
 
 ghost use Rattle.std.specs.Prelude.{◌≡◌, ◌&&◌, ◌||◌, not};
-ghost use Rattle.plain_search.specs.Offers.{sides_of};
+ghost use Rattle.plain_search.specs.Offers.{sides_of, less_offered};
 
 use grid_moves::{Around, Dir};
 
@@ -80,16 +80,7 @@ fn is_kept_diagonal(legal: bool, by_column: bool, by_row: bool, column: bool, ro
 /// The legal moves less those that the parent, on these sides, has offered.
 #[inline(always)]
 pub(crate) fn less_offered(a: Around, p: Sides) -> Around
-    ensures { result ≡ record a {
-      n = a.n && (p.below || not (p.above || p.left && a.nw || p.right && a.ne));
-      ne = a.ne && (p.left || p.below || not (p.right || p.above));
-      e = a.e && (p.left || not (p.right || p.above && a.ne || p.below && a.se));
-      se = a.se && (p.left || p.above || not (p.right || p.below));
-      s = a.s && (p.above || not (p.below || p.left && a.sw || p.right && a.se));
-      sw = a.sw && (p.right || p.above || not (p.left || p.below));
-      w = a.w && (p.right || not (p.left || p.above && a.nw || p.below && a.sw));
-      nw = a.nw && (p.right || p.below || not (p.left || p.above));
-    } }
+    ensures { result ≡ less_offered a p }
 {
     let (l, r) = (p.left, p.right);
     Around {
