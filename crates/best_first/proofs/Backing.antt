@@ -87,7 +87,7 @@ module _ (layout : Layout) (width height : ℕ) (start goal : Cell) (link : Link
   cell_is n s e = sym (in_cell layout (state_told n.place)) ∙ ap (λ (u : State). u.cell) e
 
   -- what is left of a key is the rank of the cost
-  left_is : (id : ℕ) (n : Node) → slice_get k.nodes id ≡ Some n → (u : Taken State) → IsIn u (last ∷ before)
+  pub left_is : (id : ℕ) (n : Node) → slice_get k.nodes id ≡ Some n → (u : Taken State) → IsIn u (last ∷ before)
       → state_of layout n ≡ u.state → rank_left goal n ≡ rank_of u.cost
   left_is id n h u m e =
       let key : n.key ≡ rank_of u.cost + rank_of (estimate u.state.cell goal)

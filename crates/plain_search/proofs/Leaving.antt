@@ -10,7 +10,7 @@ use Rattle.grid_moves.proofs.Legal.{IsLegal, legal_is, is_legal-from, same_cell,
 use Rattle.plain_search.specs.declared.moves.Sides.{Sides}
 use Rattle.plain_search.specs.Offers.{sides_of}
 
-some_number : (m n : ℕ) → Some m ≡ Some n → m ≡ n
+pub some_number : (m n : ℕ) → Some m ≡ Some n → m ≡ n
 some_number m n e = ap (λ (o : Option ℕ). elim o as (λ _. ℕ) [ Some v ↦ v | None ↦ m ]) e
 
 -- the column and the row of what lies ahead
@@ -34,7 +34,7 @@ ahead_parts d c v e = by_column (column_ahead d c.x) refl (row_ahead d c.y) refl
         let one : record { x = x; y = y } ≡ v = ap (λ (o : Option Cell). cell_in o) e in
         (f ∙ ap (λ (w : Cell). Some w.x) one, h ∙ ap (λ (w : Cell). Some w.y) one)
 
-before_is : (m n : ℕ) → before m ≡ Some n → m ≡ n + 1
+pub before_is : (m n : ℕ) → before m ≡ Some n → m ≡ n + 1
 before_is zero n e = absurd (cc)
 before_is (suc m) n e = let f : m ≡ n = some_number m n e in omega arith
 

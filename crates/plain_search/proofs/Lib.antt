@@ -3,3 +3,4 @@ pub mod Right
 pub mod Leaving
 pub mod Shapes
 pub mod Expanding
+pub mod Dropping
