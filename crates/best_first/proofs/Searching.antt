@@ -195,6 +195,10 @@ module _ (layout : Layout) (width height : ℕ) (start goal : Cell) (link : Link
           ∙ ap (λ (s : State). link.led x.state s)
           (told-place o.to (let a = way_on.0 in let b = fit.posed.narrow in omega arith)) ∙ led
 
+      -- which leaves the node of the taken state
+      pub node_stays : slice_get (offered layout goal o k).nodes at ≡ Some i.node
+      node_stays = offered_slot layout goal o k at i.node i.node_is key_rises
+
       -- one more offer
       pub one_more : IsSearching layout width goal link start x earlier at
           (with_onward x best (record { to = state_in layout o.to; cost = c })) (offered layout goal o k)

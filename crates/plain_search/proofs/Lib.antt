@@ -4,3 +4,5 @@ pub mod Leaving
 pub mod Shapes
 pub mod Expanding
 pub mod Dropping
+pub mod Posed
+pub mod Offering
