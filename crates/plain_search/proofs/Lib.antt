@@ -6,3 +6,4 @@ pub mod Expanding
 pub mod Dropping
 pub mod Posed
 pub mod Offering
+pub mod Concluding

@@ -374,7 +374,7 @@ module _ (g : GridData) (s t : Cell) (whole : IsGrid g) (from : is_free g s ≡ 
           (estimate_triangle x.parent.cell x.state.cell v.cell))
 
   -- a link is among the ways, or was left out
-  enough : (x : Taken State) (earlier : List (Taken State))
+  pub enough : (x : Taken State) (earlier : List (Taken State))
       → IsRun (plain_rule g t) (start_at s) (x ∷ earlier) → (a : Around) → IsAround g x.state.cell a
       → (e : Option Dir) → is_led x.parent.cell x.state.cell e ≡ true → (v : State) (c : Cost)
       → is_taken (plain_rule g t) (x ∷ earlier) v ≡ false → (plain_links g).step x.state v ≡ Some c

@@ -3,3 +3,11 @@
 
 mod moves;
 mod offers;
+mod search;
+mod turns;
+mod workspace;
+
+pub use best_first::Taken;
+pub use search::{Plain, least, least_in};
+pub use std::alloc::AllocError as NoMemory;
+pub use workspace::Workspace;

@@ -1,0 +1,135 @@
+-- From what a search has taken to its answer.
+use Rattle.std.proofs.Common.{◌≡◌, ℕ, ◌+◌, ◌*◌, ◌≤◌, ◌⊎◌, length, List, [], ◌∷◌, ◌++◌, refl, ap, sym, ◌∙◌, subst, true, false, map}
+use Rattle.std.specs.Prelude.{Option, Some, None, slice_get}
+use Rattle.root2_cost.specs.declared.Cost.{Cost}
+use Rattle.grid_moves.specs.declared.Cell.{Cell}
+use Rattle.grid_moves.specs.declared.Dir.{Dir}
+use Rattle.grid_moves.specs.declared.around.Around.{Around}
+use Rattle.grid_moves.specs.Grid.{GridData, IsGrid, is_free}
+use Rattle.grid_moves.specs.Move.{is_same, all_dirs}
+use Rattle.path_points.specs.Corners.{corners}
+use Rattle.search_run.specs.Run.{Taken, is_taken, least_offer, way_to}
+use Rattle.best_first.specs.declared.node.Node.{Node}
+use Rattle.best_first.specs.declared.state.State.{State}
+use Rattle.best_first.specs.declared.state.Layout.TheVariants.{ByCell}
+use Rattle.best_first.specs.Mirror.{Offers, IsSearching}
+use Rattle.best_first.specs.Progress as search
+use Rattle.best_first.specs.Space.{SpaceData}
+use Rattle.best_first.specs.State.{start_at, state_number, state_told}
+use Rattle.best_first.specs.Table.{Table, IsFirstNode, NoneOpen, begun, closed_at}
+use Rattle.best_first.specs.Trace.{node_cell, rank_left, HasBack, IsWayTo}
+use Rattle.best_first.specs.Ways.{IsAmong, with_all}
+use Rattle.best_first.proofs.Mirrors.{some_node}
+use Rattle.best_first.proofs.Progress.{has_begun, next_taken, exhausted, taken_fits, has_back, way_is, last_led}
+use Rattle.best_first.proofs.Ways.{offers_after}
+use Rattle.plain_search.specs.Found.{IsFound, IsExhausted, cells_to}
+use Rattle.plain_search.specs.Offers.{IsAround, less_offered, sides_of, ways_over, all_offered, MayExpand, HasExpanded}
+use Rattle.plain_search.specs.Progress.{HasTaken}
+use Rattle.plain_search.specs.Room.{IsReady}
+use Rattle.plain_search.specs.Rule.{plain_rule, plain_links, is_led}
+use Rattle.plain_search.proofs.Offering.{may_expand, all_over, are_links, enough}
+use Rattle.plain_search.proofs.Posed.{fit}
+
+module _ (g : GridData) (s t : Cell) (whole : IsGrid g) (from : is_free g s ≡ true) (to : is_free g t ≡ true) where
+  -- at the start
+  pub begins : (k : Table) (taken : List ℕ) → k ≡ begun t s → taken ≡ state_number g.width (start_at s) ∷ []
+      → HasTaken g s t 0 k taken
+  begins k taken e f = rw (e, f)
+      (has_begun ByCell g.width g.height s t (plain_links g) (fit g s t whole from to))
+
+  module _ (at : ℕ) (k : Table) (taken : List ℕ) (h : HasTaken g s t at k taken) where
+    -- what the offers of the last state ask for
+    pub may_go_on : (space : SpaceData) → space.table ≡ k → IsReady g space → (n : Node)
+        → slice_get k.nodes at ≡ Some n → MayExpand g t at n space
+    may_go_on space e ready n read =
+        subst (λ (m : Node). MayExpand g t at m space) (some_node h.searching.node n (sym h.searching.node_is ∙ read))
+        (may_expand g s t whole from to h.last h.earlier at (least_offer (plain_rule g t) h.earlier) k h.searching
+        space e ready.width ready.places)
+
+    -- there are at most nine states taken for each cell
+    pub fits : length taken ≤ g.height * g.width * 9
+    fits = taken_fits ByCell g.width g.height s t (plain_links g) (fit g s t whole from to) at k taken h
+
+    cell : h.last.state.cell ≡ node_cell h.searching.node
+    cell = ap (λ (u : State). u.cell) (sym h.searching.state)
+
+    -- after the offers
+    module _ (later : Table) (open_ended : (n : Node) → slice_get k.nodes at ≡ Some n
+        → is_same (node_cell n) t ≡ false) (expanded : (n : Node) → slice_get k.nodes at ≡ Some n
+        → HasExpanded g t at n k later) where
+      e : HasExpanded g t at h.searching.node k later
+      e = expanded h.searching.node h.searching.node_is
+
+      ended : is_same h.last.state.cell t ≡ false
+      ended = ap (λ (u : Cell). is_same u t) cell ∙ open_ended h.searching.node h.searching.node_is
+
+      pub has_offered : search.HasOffered ByCell g.width t (plain_links g) s at later taken
+      has_offered =
+          let j = (all_over g s t whole from to h.last h.earlier at e.around
+          (sides_of (state_told h.searching.node.place).arrival) all_dirs (least_offer (plain_rule g t) h.earlier) k
+          h.searching h.searching.node refl e.is_around).0 in
+          let around : IsAround g h.last.state.cell e.around =
+          subst (λ (u : Cell). IsAround g u e.around) (sym cell) e.is_around in
+          let led : is_led h.last.parent.cell h.last.state.cell (state_told h.searching.node.place).arrival ≡ true
+          = ap (λ (u : Cell). is_led h.last.parent.cell u (state_told h.searching.node.place).arrival) cell
+          ∙ last_led ByCell g.width t (plain_links g) s h.last h.earlier at
+          (least_offer (plain_rule g t) h.earlier) k h.searching in
+          record {
+            last = h.last;
+            earlier = h.earlier;
+            best = with_all h.last (least_offer (plain_rule g t) h.earlier)
+                (ways_over (less_offered e.around (sides_of (state_told h.searching.node.place).arrival))
+                (node_cell h.searching.node) all_dirs);
+            searching = subst (λ (l : Table). IsSearching ByCell g.width t (plain_links g) s h.last h.earlier at
+                (with_all h.last (least_offer (plain_rule g t) h.earlier)
+                (ways_over (less_offered e.around (sides_of (state_told h.searching.node.place).arrival))
+                (node_cell h.searching.node) all_dirs)) l) (sym e.table) j;
+            open_ended = ended;
+            all_made = offers_after g.width t (plain_links g) h.last h.earlier
+                (ways_over (less_offered e.around (sides_of (state_told h.searching.node.place).arrival))
+                (node_cell h.searching.node) all_dirs) ended
+                (λ w m. are_links g s t whole from to h.last h.earlier at e.around
+                (sides_of (state_told h.searching.node.place).arrival) (least_offer (plain_rule g t) h.earlier) k
+                h.searching e.is_around all_dirs w m)
+                (λ v c untaken l. subst (λ (u : Cell). IsAmong (record { to = v; cost = c })
+                (ways_over (less_offered e.around (sides_of (state_told h.searching.node.place).arrival)) u all_dirs)
+                ⊎ (least_offer (plain_rule g t) (h.last ∷ h.earlier) v ≡ least_offer (plain_rule g t) h.earlier v)) cell
+                (enough g s t whole from to h.last h.earlier h.searching.run e.around around
+                (state_told h.searching.node.place).arrival led v c untaken l));
+            numbered = h.numbered;
+          }
+
+      -- the next state
+      pub goes_on : (id : ℕ) (node : Node) → IsFirstNode later id → slice_get later.nodes id ≡ Some node
+          → HasTaken g s t id (closed_at id later)
+          (taken ++ state_number g.width (start_at (node_cell node)) ∷ [])
+      goes_on id node f read = next_taken ByCell g.width g.height s t (plain_links g) (fit g s t whole from to) at
+          later taken has_offered id node f read
+
+      -- or none
+      pub is_exhausted : NoneOpen later → IsExhausted g s t taken
+      is_exhausted none = exhausted ByCell g.width g.height s t (plain_links g) (fit g s t whole from to) at later
+          taken has_offered none
+
+    -- the way back from the last state
+    pub leads_back : HasBack t k.nodes at
+    leads_back = has_back ByCell g.width g.height s t (plain_links g) (fit g s t whole from to) at k taken h
+
+    -- the goal is the last state
+    pub is_found : (points way : List Cell) (cost : Cost)
+        → ((n : Node) → slice_get k.nodes at ≡ Some n → node_cell n ≡ t) → IsWayTo t k.nodes at way cost
+        → points ≡ corners way → IsFound g s t points cost taken
+    is_found points way cost goal w p =
+        let is = way_is ByCell g.width g.height s t (plain_links g) (fit g s t whole from to) at k taken h way cost w in
+        let at_goal : h.last.state ≡ start_at t = sym h.searching.state
+        ∙ ap (λ (u : Cell). start_at u) (goal h.searching.node h.searching.node_is) in
+        record {
+          earlier = h.earlier;
+          last = h.last;
+          run = h.searching.run;
+          at_goal = at_goal;
+          priced = is.1;
+          joined = p ∙ ap corners (is.0 ∙ ap (λ (u : State).
+              map (λ (v : State). v.cell) (way_to (plain_rule g t) (h.last ∷ h.earlier) u)) at_goal);
+          numbered = h.numbered;
+        }

@@ -1,0 +1,223 @@
+//! The search: A* with one state for each cell and every legal move.
+//!
+//! A state is taken by the least sum of its cost and the octile distance to the goal; among equal sums
+//! the one of the lesser cell number goes first. The search ends where the goal is taken. Moves that the
+//! parent has offered at no greater cost are left out (module `moves`), which changes nothing in the run.
+//!
+//! A* after Hart, Nilsson and Raphael (1968); the order of ties is this project's. The machine under it is
+//! `best_first`.
+
+ghost use Rattle.std.specs.Prelude.{◌≡◌, ◌+◌, ◌*◌, ◌<◌, ◌++◌, ◌∷◌, [], true, false, length, IfOk, OnOk, OnErr, IfSome, slice_get, Some};
+ghost use Rattle.grid_moves.specs.Grid.{IsGrid, is_free};
+ghost use Rattle.grid_moves.specs.Move.{is_same};
+ghost use Rattle.plain_search.specs.Answer.{IsPlainRun, IsLeast};
+ghost use Rattle.best_first.specs.State.{state_number, start_at};
+ghost use Rattle.best_first.specs.Trace.{node_cell};
+ghost use Rattle.plain_search.specs.Progress.{HasTaken, GoesOn};
+ghost use Rattle.plain_search.specs.Room.{HasRoom, IsReady};
+
+use crate::offers::offer_all;
+use crate::turns::turns;
+use crate::{NoMemory, Taken, Workspace};
+use best_first::{Layout, Space, State};
+use grid_moves::{Cell, Terrain};
+use path_points::Points;
+use root2_cost::Cost;
+use std::alloc::Global;
+use std::marker::Brand;
+use std::sync::ledger::{Blank, Ledger};
+use steps::Steps;
+
+/// What a plain search found.
+#[derive(Drop)]
+pub enum Plain {
+    /// A least walk: its points, its cost, and the states that the search took.
+    Found {
+        points: Points,
+        cost: Cost,
+        taken: Taken,
+    },
+    /// No walk exists; the states that the search took.
+    None {
+        taken: Taken,
+    },
+}
+
+// The ends of a query.
+#[derive(Clone, Copy)]
+struct Ends {
+    from: Cell,
+    to: Cell,
+}
+
+// The printed number of the state at a cell.
+fn state_at<T: Terrain>(t: &T, c: Cell) -> u32
+    requires { is_free (T.grid t.now) c ≡ true }
+    ensures { result ≡ state_number (T.grid t.now).width (start_at c) }
+{
+    State::start(c).number(t.width())
+}
+
+// Takes the start.
+fn begin<T: Terrain, L: Ledger>(
+    t: &T,
+    ends: Ends,
+    space: &mut Space,
+    taken: &mut Taken,
+    steps: &mut Steps<L>,
+) -> Result<(), NoMemory>
+    requires from { is_free (T.grid t.now) ends.from ≡ true }
+    requires to { is_free (T.grid t.now) ends.to ≡ true }
+    requires layout { space.old.layout ≡ Layout.ByCell }
+    requires room { HasRoom (T.grid t.now) space.old.places }
+    requires none { taken.old ≡ [] }
+    ensures taken { OnOk result (HasTaken (T.grid t.now) ends.from ends.to 0 space.new.table taken.new) }
+    ensures ready { OnOk result (IsReady (T.grid t.now) space.new) }
+    ensures layout { space.new.layout ≡ space.old.layout }
+    ensures places { space.new.places ≡ space.old.places }
+    ensures whole { IsGrid (T.grid t.now) }
+{
+    space.begin(t.width(), ends.from, ends.to, steps)?;
+    taken.push(state_at(t, ends.from))
+}
+
+// Makes the offers of the last taken state, and takes the next, if a state waits.
+fn advance<T: Terrain, L: Ledger>(
+    t: &T,
+    ends: Ends,
+    space: &mut Space,
+    at: u32,
+    taken: &mut Taken,
+    steps: &mut Steps<L>,
+) -> Result<Option<u32>, NoMemory>
+    requires free { is_free (T.grid t.now) ends.from ≡ true }
+    requires to { is_free (T.grid t.now) ends.to ≡ true }
+    requires whole { IsGrid (T.grid t.now) }
+    requires ready { IsReady (T.grid t.now) space.old }
+    requires taken { HasTaken (T.grid t.now) ends.from ends.to at space.old.table taken.old }
+    requires open_ended { (n : _) → slice_get space.old.table.nodes at ≡ Some n
+        → is_same (node_cell n) ends.to ≡ false }
+    ensures goes_on { IfOk result (GoesOn (T.grid t.now) ends.from ends.to space.new.table taken.new) }
+    ensures one_more { IfOk result (λ next. IfSome next (λ id. length taken.new ≡ length taken.old + 1)) }
+    ensures ready { IsReady (T.grid t.now) space.new }
+{
+    space.reserve()?;
+    offer_all(t, ends.to, at, space, steps);
+    match space.take_next(steps) {
+        None => Ok(None),
+        Some(next) => {
+            taken.push(state_at(t, space.node(next).place.cell()))?;
+            Ok(Some(next))
+        }
+    }
+}
+
+// The answer where the goal was taken last.
+fn found<T: Terrain>(
+    alloc: Global,
+    t: &T,
+    ends: Ends,
+    space: &Space,
+    at: u32,
+    taken: Taken,
+) -> Result<Plain, NoMemory>
+    requires whole { IsGrid (T.grid t.now) }
+    requires from { is_free (T.grid t.now) ends.from ≡ true }
+    requires to { is_free (T.grid t.now) ends.to ≡ true }
+    requires taken { HasTaken (T.grid t.now) ends.from ends.to at space.now.table taken }
+    requires goal { (n : _) → slice_get space.now.table.nodes at ≡ Some n → node_cell n ≡ ends.to }
+    ensures { IfOk result (IsPlainRun (T.grid t.now) ends.from ends.to) }
+{
+    let way = space.way_to(alloc, ends.to, at)?;
+    let points = turns(alloc, way.points.as_slice())?;
+    Ok(Plain::Found {
+        points,
+        cost: way.cost,
+        taken,
+    })
+}
+
+// The search's run.
+fn run<T: Terrain, L: Ledger>(
+    alloc: Global,
+    t: &T,
+    ends: Ends,
+    space: &mut Space,
+    steps: &mut Steps<L>,
+) -> Result<Plain, NoMemory>
+    requires from { is_free (T.grid t.now) ends.from ≡ true }
+    requires to { is_free (T.grid t.now) ends.to ≡ true }
+    requires layout { space.old.layout ≡ Layout.ByCell }
+    requires room { HasRoom (T.grid t.now) space.old.places }
+    ensures run { IfOk result (IsPlainRun (T.grid t.now) ends.from ends.to) }
+    ensures layout { space.new.layout ≡ space.old.layout }
+    ensures places { space.new.places ≡ space.old.places }
+{
+    let mut taken = Taken::new(alloc);
+    begin(t, ends, space, &mut taken, steps)?;
+    let mut at: u32 = 0;
+    'taking: while space.node(at).place.cell() != ends.to {
+        match advance(t, ends, space, at, &mut taken, steps)? {
+            Some(next) => at = next,
+            None => return Ok(Plain::None { taken }),
+        }
+    }
+    found(alloc, t, ends, space, at, taken)
+}
+
+// A search whose steps of the open list are counted by a counter of its own.
+fn run_counted<T: Terrain, L: Ledger>(
+    alloc: Global,
+    t: &T,
+    ends: Ends,
+    space: &mut Space,
+    blank: Blank,
+) -> Result<Plain, NoMemory>
+    requires name { blank.name ≡ L.name }
+    requires parts { blank.parts ≡ L.parts }
+    requires some { 0 < L.parts }
+    requires from { is_free (T.grid t.now) ends.from ≡ true }
+    requires to { is_free (T.grid t.now) ends.to ≡ true }
+    requires layout { space.old.layout ≡ Layout.ByCell }
+    requires room { HasRoom (T.grid t.now) space.old.places }
+    ensures run { IfOk result (IsPlainRun (T.grid t.now) ends.from ends.to) }
+    ensures least { IfOk result (IsLeast (T.grid t.now) ends.from ends.to) }
+    ensures layout { space.new.layout ≡ space.old.layout }
+    ensures places { space.new.places ≡ space.old.places }
+{
+    let mut steps = Steps::<L>::new(blank);
+    run(alloc, t, ends, space, &mut steps)
+}
+
+/// The plain engine's run from one free cell to another, over memory that is lent: its answer is a
+/// least walk, or that none exists.
+///
+/// `space` has to be made for a map with as many cells; it is used again as often as wanted.
+pub fn least_in<T: Terrain>(
+    alloc: Global,
+    t: &T,
+    from: Cell,
+    to: Cell,
+    space: &mut Workspace,
+) -> Result<Plain, NoMemory>
+    requires from { is_free (T.grid t.now) from ≡ true }
+    requires to { is_free (T.grid t.now) to ≡ true }
+    requires room { HasRoom (T.grid t.now) space.old }
+    ensures run { IfOk result (IsPlainRun (T.grid t.now) from to) }
+    ensures least { IfOk result (IsLeast (T.grid t.now) from to) }
+    ensures room { HasRoom (T.grid t.now) space.new }
+{
+    run_counted::<T, Brand>(alloc, t, Ends { from, to }, &mut space.space, Blank::new(1))
+}
+
+/// The plain engine's run from one free cell to another: its answer is a least walk, or that none
+/// exists.
+pub fn least<T: Terrain>(alloc: Global, t: &T, from: Cell, to: Cell) -> Result<Plain, NoMemory>
+    requires from { is_free (T.grid t.now) from ≡ true }
+    requires to { is_free (T.grid t.now) to ≡ true }
+    ensures run { IfOk result (IsPlainRun (T.grid t.now) from to) }
+    ensures least { IfOk result (IsLeast (T.grid t.now) from to) }
+{
+    let mut space = Workspace::of_grid(alloc, t)?;
+    least_in(alloc, t, from, to, &mut space)
+}
