@@ -8,7 +8,7 @@ use Rattle.grid_moves.specs.declared.around.Around.{Around}
 use Rattle.grid_moves.specs.Grid.{GridData, IsGrid, is_free}
 use Rattle.grid_moves.specs.Move.{is_same, all_dirs}
 use Rattle.path_points.specs.Corners.{corners}
-use Rattle.search_run.specs.Run.{Taken, is_taken, least_offer, way_to}
+use Rattle.search_run.specs.Run.{Taken, here, is_taken, least_offer, way_to}
 use Rattle.best_first.specs.declared.node.Node.{Node}
 use Rattle.best_first.specs.declared.state.State.{State}
 use Rattle.best_first.specs.declared.state.Layout.TheVariants.{ByCell}
@@ -28,7 +28,7 @@ use Rattle.plain_search.specs.Progress.{HasTaken}
 use Rattle.plain_search.specs.Room.{IsReady}
 use Rattle.plain_search.specs.Rule.{plain_rule, plain_links, is_led}
 use Rattle.plain_search.proofs.Offering.{may_expand, all_over, are_links, enough}
-use Rattle.plain_search.proofs.Posed.{fit}
+use Rattle.plain_search.proofs.Posed.{fit, run_free}
 
 module _ (g : GridData) (s t : Cell) (whole : IsGrid g) (from : is_free g s ≡ true) (to : is_free g t ≡ true) where
   -- at the start
@@ -105,6 +105,17 @@ module _ (g : GridData) (s t : Cell) (whole : IsGrid g) (from : is_free g s ≡ 
           (taken ++ state_number g.width (start_at (node_cell node)) ∷ [])
       goes_on id node f read = next_taken ByCell g.width g.height s t (plain_links g) (fit g s t whole from to) at
           later taken has_offered id node f read
+
+      -- whose cell is free
+      pub next_free : (id : ℕ) (node : Node) → IsFirstNode later id → slice_get later.nodes id ≡ Some node
+          → is_free g (node_cell node) ≡ true
+      next_free id node f read =
+          let on = goes_on id node f read in
+          let one : on.searching.node ≡ node = some_node on.searching.node node
+          (sym on.searching.node_is ∙ read) in
+          ap (λ (m : Node). is_free g (node_cell m)) (sym one)
+          ∙ ap (λ (u : State). is_free g u.cell) on.searching.state
+          ∙ (run_free g s t whole from to (on.last ∷ on.earlier) on.searching.run on.last (here on.earlier)).0
 
       -- or none
       pub is_exhausted : NoneOpen later → IsExhausted g s t taken

@@ -7,3 +7,4 @@ pub mod Dropping
 pub mod Posed
 pub mod Offering
 pub mod Concluding
+pub mod Answering

@@ -4,3 +4,4 @@ pub mod Answer
 pub mod Room
 pub mod Offers
 pub mod Progress
+pub mod Existence

@@ -1,6 +1,7 @@
 //! Least walks by plain A*, without pruning.
 #![tactic(auto)]
 
+pub mod laws;
 mod moves;
 mod offers;
 mod search;
