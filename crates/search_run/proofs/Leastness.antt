@@ -1,20 +1,16 @@
 -- A run takes the goal at a cost that no chain of links undercuts, and ends without it only where no
 -- chain leads there.
-use Rattle.std.proofs.Common.{◌≡◌, ℕ, ◌⊎◌, inl, inr, refl, ap, sym, ◌∙◌, subst, Bool, true, false, ◌||◌, List, [], ◌∷◌}
+use Rattle.std.proofs.Common.{◌≡◌, ◌⊎◌, inl, inr, refl, ap, sym, ◌∙◌, subst, Bool, true, false, ◌||◌, List, [], ◌∷◌}
 use Rattle.std.specs.Prelude.{Option, Some, None}
 use Rattle.root2_cost.specs.declared.Cost.{Cost}
-use Rattle.root2_cost.specs.Order.{IsAtMost}
+use Rattle.root2_cost.specs.Order.{IsAtMost, IsLess}
+use Rattle.root2_cost.proofs.AtMost.{IsAtMost-not_more}
 use Rattle.root2_cost.specs.Sums.{add_costs, no_cost}
 use Rattle.root2_cost.proofs.Most.{Most, Most-then, Most-same, Most-add_left, Most-add_right, Most-cancel_right, Most-more, Most-nothing}
 use Rattle.root2_cost.proofs.Sums.{add_costs-assoc, add_costs-no_cost_left, add_costs-no_cost_right}
-use Rattle.search_run.specs.Run.{Rule, Taken, Offer, offer, least_offer, is_taken, has_goal, sum_at, goes_before, IsNext, IsRun, NoneWaits}
+use Rattle.search_run.specs.Run.{IsIn, here, there, Rule, Taken, Offer, offer, least_offer, is_taken, has_goal, sum_at, IsNext, IsRun, NoneWaits}
 use Rattle.search_run.specs.Chain.{Chain, stays, goes_on, IsConsistent}
 use Rattle.search_run.proofs.Offers.{lesser-early, lesser-late, lesser-one, IsOffered, offer-made, offer-over}
-
--- u is one of the taken states
-pub data IsIn {S : Type 0} (u : Taken S) : List (Taken S) → Type 0 where
-  here : (earlier : List (Taken S)) → IsIn u (u ∷ earlier)
-  there : (x : Taken S) (earlier : List (Taken S)) → IsIn u earlier → IsIn u (x ∷ earlier)
 
 -- s waits, with this least offer
 pub record Waits {S : Type 0} (r : Rule S) (run : List (Taken S)) (s : S) (o : Offer S) : Type 0 where
@@ -53,6 +49,10 @@ or_false true b e = absurd (cc)
 or_false false true e = absurd (cc)
 or_false false false e = (refl, refl)
 
+pub or_true : (a b : Bool) → b ≡ true → (a || b) ≡ true
+or_true true b e = refl
+or_true false b e = e
+
 offer_cost : {S : Type 0} → Option (Offer S) → Cost
 offer_cost None = no_cost
 offer_cost (Some o) = o.cost
@@ -85,10 +85,6 @@ module _ {S : Type 0} (r : Rule S) (fit : IsConsistent r) where
   is_taken-member (x ∷ earlier) u (here e) = rw (fit.itself x.state) refl
   is_taken-member (x ∷ earlier) u (there z e m) =
       or_true (r.is_same x.state u.state) (is_taken r earlier u.state) (is_taken-member earlier u m)
-    where
-      or_true : (a b : Bool) → b ≡ true → (a || b) ≡ true
-      or_true true b e = refl
-      or_true false b e = e
 
   -- a state that is among the taken ones was taken
   pub taken_state : (run : List (Taken S)) (s : S) → is_taken r run s ≡ true
@@ -111,7 +107,7 @@ module _ {S : Type 0} (r : Rule S) (fit : IsConsistent r) where
       no_goal earlier u (or_false (r.is_goal x.state) (has_goal r earlier) g).1 m
 
   -- a link never lowers the sum
-  link_rises : (u v : S) (b c : Cost) → r.link u v ≡ Some c → Most (sum_at r u b) (sum_at r v (add_costs b c))
+  pub link_rises : (u v : S) (b c : Cost) → r.link u v ≡ Some c → Most (sum_at r u b) (sum_at r v (add_costs b c))
   link_rises u v b c l =
       Most-then (Most-add_left b (r.estimate u) (add_costs c (r.estimate v))
       (record { is = fit.falls u v c l }))
@@ -255,64 +251,160 @@ module _ {S : Type 0} (r : Rule S) (fit : IsConsistent r) where
       stays_known (y ∷ earlier) x (next_taken (y ∷ earlier) x (sums_rise start (y ∷ earlier) is.0) is.2) start
       no_cost (start_known start (y ∷ earlier) is.0)
 
-  -- the estimate is at most the cost of each chain to a goal
-  pub estimate_below : (s t : S) (d : Cost) → Chain r s t d → r.is_goal t ≡ true → Most (r.estimate s) d
-  estimate_below s t d (stays z) g = Most-same (fit.nothing s g)
-  estimate_below s t d (goes_on z v w b c l rest) g =
+  -- over a chain the estimate never falls by more than the chain costs
+  pub estimate_along : (s t : S) (d : Cost) → Chain r s t d → Most (r.estimate s) (add_costs d (r.estimate t))
+  estimate_along s t d (stays z) = Most-same (sym (add_costs-no_cost_left (r.estimate s)))
+  estimate_along s t d (goes_on z v w b c l rest) =
       Most-then (record { is = fit.falls s v b l })
-      (Most-add_left b (r.estimate v) c (estimate_below v t c rest g))
+      (Most-then (Most-add_left b (r.estimate v) (add_costs c (r.estimate t)) (estimate_along v t c rest))
+      (Most-same (sym (add_costs-assoc b c (r.estimate t)))))
 
   -- a state that waits with a sum of no more than this
-  record WaitsBelow (run : List (Taken S)) (bound : Cost) : Type 0 where
-    state : S
-    offer : Offer S
-    waits : Waits r run state offer
-    most : Most (sum_at r state offer.cost) bound
+  pub record WaitsBelow (run : List (Taken S)) (bound : Cost) : Type 0 where
+    pub state : S
+    pub offer : Offer S
+    pub waits : Waits r run state offer
+    pub most : Most (sum_at r state offer.cost) bound
 
-  -- from a known state no chain to a goal undercuts all that waits
+  -- from a known state no chain to a state that was not taken undercuts all that waits
   none_below : (run : List (Taken S)) → IsRelaxed r run → has_goal r run ≡ false → (v t : S) (bound d : Cost)
-      → IsKnown r run v bound → Chain r v t d → r.is_goal t ≡ true → WaitsBelow run (add_costs bound d)
-  none_below run rel none v t bound d (inr k) chain g = record {
+      → IsKnown r run v bound → Chain r v t d → is_taken r run t ≡ false
+      → WaitsBelow run (sum_at r t (add_costs bound d))
+  none_below run rel none v t bound d (inr k) chain n = record {
     state = v;
     offer = k.offer;
     waits = k.waits;
     most = Most-then (Most-add_right (r.estimate v) k.offer.cost bound k.most)
-        (Most-add_left bound (r.estimate v) d (estimate_below v t d chain g));
+        (Most-then (Most-add_left bound (r.estimate v) (add_costs d (r.estimate t)) (estimate_along v t d chain))
+        (Most-same (sym (add_costs-assoc bound d (r.estimate t)))));
   }
-  none_below run rel none v t bound d (inl k) (stays z) g =
-      absurd (let n : r.is_goal k.by.state ≡ false = no_goal run k.by none k.member in let i : r.is_goal
-      k.by.state ≡ true = ap r.is_goal k.is ∙ g in cc)
-  none_below run rel none v t bound d (inl k) (goes_on z w u b c l rest) g =
+  none_below run rel none v t bound d (inl k) (stays z) n =
+      absurd (let y : is_taken r run v ≡ true = ap (λ (s : S). is_taken r run s) (sym k.is)
+      ∙ is_taken-member run k.by k.member in cc)
+  none_below run rel none v t bound d (inl k) (goes_on z w u b c l rest) n =
       let link : r.link k.by.state w ≡ Some b = ap (λ (s : S). r.link s w) k.is ∙ l in
       let next = none_below run rel none w t (add_costs k.by.cost b) c
-      (rel k.by w b k.member (no_goal run k.by none k.member) link) rest g in
+      (rel k.by w b k.member (no_goal run k.by none k.member) link) rest n in
       record {
         state = next.state;
         offer = next.offer;
         waits = next.waits;
-        most = Most-then next.most (Most-then (Most-same (add_costs-assoc k.by.cost b c))
-            (Most-add_right (add_costs b c) k.by.cost bound k.most));
+        most = Most-then next.most (Most-add_right (r.estimate t) (add_costs (add_costs k.by.cost b) c)
+            (add_costs bound (add_costs b c)) (Most-then (Most-same (add_costs-assoc k.by.cost b c))
+            (Most-add_right (add_costs b c) k.by.cost bound k.most)));
       }
 
-  -- a goal is taken at a cost that undercuts no chain
+  -- where a chain leads from the start to a state that was not taken, some state waits with no greater sum
+  pub waits_below : (start t : S) (run : List (Taken S)) (d : Cost) → IsRun r start run → has_goal r run ≡ false
+      → is_taken r run t ≡ false → Chain r start t d → WaitsBelow run (sum_at r t d)
+  waits_below start t run d is none n chain =
+      let w = none_below run (relaxed start run is) none start t no_cost d (start_known start run is) chain n in
+      record {
+        state = w.state;
+        offer = w.offer;
+        waits = w.waits;
+        most = Most-then w.most (Most-same (ap (λ (c : Cost). sum_at r t c) (add_costs-no_cost_left d)));
+      }
+
+  -- where no goal was taken a goal was not
+  pub goal_untaken : (run : List (Taken S)) (t : S) → has_goal r run ≡ false → r.is_goal t ≡ true
+      → is_taken r run t ≡ false
+  goal_untaken run t none g = by_test (is_taken r run t) refl
+    where
+      by_test : (b : Bool) → is_taken r run t ≡ b → is_taken r run t ≡ false
+      by_test false e = e
+      by_test true e =
+          let u = taken_state run t e in
+          absurd (let no : r.is_goal u.0.state ≡ false = no_goal run u.0 none u.1 in let yes : r.is_goal u.0.state
+          ≡ true = ap r.is_goal u.2 ∙ g in cc)
+
+  -- the next state's sum is at most that of every chain to a state that was not taken
+  next_below : (start t : S) (x : Taken S) (earlier : List (Taken S)) (d : Cost) → IsRun r start earlier
+      → has_goal r earlier ≡ false → IsNext r earlier x → is_taken r earlier t ≡ false → Chain r start t d
+      → Most (sum_at r x.state x.cost) (sum_at r t d)
+  next_below start t x earlier d is none next n chain =
+      let w = waits_below start t earlier d is none n chain in
+      let first = (next_taken earlier x (sums_rise start earlier is) next).first in
+      Most-then (first w.state w.offer w.waits) w.most
+
+  -- a taken state has its least cost
+  pub taken_is_least : (start : S) (run : List (Taken S)) (u : Taken S) (d : Cost) → IsRun r start run
+      → IsIn u run → Chain r start u.state d → Most u.cost d
+  taken_is_least start [] u d is m chain = absurd is
+  taken_is_least start (x ∷ []) u d is (there z e m) chain = elim m [ ]
+  taken_is_least start (x ∷ []) u d is (here e) chain =
+      Most-then (Most-same (ap (λ (w : Taken S). w.cost) is)) (Most-nothing d)
+  taken_is_least start (x ∷ y ∷ earlier) u d is (there z e m) chain =
+      taken_is_least start (y ∷ earlier) u d is.0 m chain
+  taken_is_least start (x ∷ y ∷ earlier) u d is (here e) chain =
+      Most-cancel_right (r.estimate x.state) x.cost d
+      (next_below start x.state x (y ∷ earlier) d is.0 is.1 is.2 is.2.waits chain)
+
+  -- a goal is taken at a cost that undercuts no chain to any goal
   pub run_is_least : (start t : S) (x : Taken S) (earlier : List (Taken S)) (d : Cost)
       → IsRun r start (x ∷ earlier) → r.is_goal x.state ≡ true → Chain r start t d → r.is_goal t ≡ true
       → Most x.cost d
   run_is_least start t x [] d is gx chain gt =
       Most-then (Most-same (ap (λ (u : Taken S). u.cost) is)) (Most-nothing d)
   run_is_least start t x (y ∷ earlier) d is gx chain gt =
-      let w = none_below (y ∷ earlier) (relaxed start (y ∷ earlier) is.0) is.1 start t no_cost d
-      (start_known start (y ∷ earlier) is.0) chain gt in
-      let next = next_taken (y ∷ earlier) x (sums_rise start (y ∷ earlier) is.0) is.2 in
-      let sum : sum_at r x.state x.cost ≡ x.cost =
-      ap (λ (c : Cost). add_costs x.cost c) (fit.nothing x.state gx) ∙ add_costs-no_cost_right x.cost in
-      Most-then (Most-same (sym sum)) (Most-then (next.first w.state w.offer w.waits)
-      (Most-then w.most (Most-same (add_costs-no_cost_left d))))
+      let below = next_below start t x (y ∷ earlier) d is.0 is.1 is.2
+      (goal_untaken (y ∷ earlier) t is.1 gt) chain in
+      Most-then (Most-same (sym (at_goal x.state x.cost gx)))
+      (Most-then below (Most-same (at_goal t d gt)))
+    where
+      at_goal : (s : S) (c : Cost) → r.is_goal s ≡ true → sum_at r s c ≡ c
+      at_goal s c g = ap (λ (e : Cost). add_costs c e) (fit.nothing s g) ∙ add_costs-no_cost_right c
 
-  -- where nothing waits and no goal was taken, no chain leads to one
+  -- a state whose sum by some chain is below that of the last taken one was taken
+  pub lower_taken : (start t : S) (x : Taken S) (earlier : List (Taken S)) (d : Cost)
+      → IsRun r start (x ∷ earlier) → Chain r start t d
+      → IsLess (sum_at r t d) (sum_at r x.state x.cost) → is_taken r (x ∷ earlier) t ≡ true
+  lower_taken start t x [] d is chain less =
+      absurd (IsAtMost-not_more (sum_at r x.state x.cost) (sum_at r t d) at_most less)
+    where
+      at_most : IsAtMost (sum_at r x.state x.cost) (sum_at r t d)
+      at_most = rw is (Most-then (Most-same (add_costs-no_cost_left (r.estimate start)))
+          (estimate_along start t d chain)).is
+  lower_taken start t x (y ∷ earlier) d is chain less = by_test (is_taken r (y ∷ earlier) t) refl
+    where
+      by_test : (b : Bool) → is_taken r (y ∷ earlier) t ≡ b → is_taken r (x ∷ y ∷ earlier) t ≡ true
+      by_test true e = or_true (r.is_same x.state t) (is_taken r (y ∷ earlier) t) e
+      by_test false e = absurd (IsAtMost-not_more (sum_at r x.state x.cost) (sum_at r t d)
+          (next_below start t x (y ∷ earlier) d is.0 is.1 is.2 e chain).is less)
+
+  -- where nothing waits and no goal was taken, every state to which a chain leads was taken
+  pub all_taken : (start t : S) (run : List (Taken S)) (d : Cost) → IsRun r start run → NoneWaits r run
+      → has_goal r run ≡ false → Chain r start t d → is_taken r run t ≡ true
+  all_taken start t run d is none g chain = by_test (is_taken r run t) refl
+    where
+      by_test : (b : Bool) → is_taken r run t ≡ b → is_taken r run t ≡ true
+      by_test true e = e
+      by_test false e =
+          let w = waits_below start t run d is g e chain in
+          absurd (let s : Some w.offer ≡ None = sym w.waits.offered ∙ none w.state w.waits.untaken in cc)
+
+  -- and so no chain leads to a goal
   pub run_finds_all : (start t : S) (run : List (Taken S)) (d : Cost) → IsRun r start run → NoneWaits r run
       → has_goal r run ≡ false → Chain r start t d → r.is_goal t ≡ true → ⊥
   run_finds_all start t run d is none g chain gt =
-      let w = none_below run (relaxed start run is) g start t no_cost d (start_known start run is) chain gt in
-      let e : Some w.offer ≡ None = sym w.waits.offered ∙ none w.state w.waits.untaken in
+      let yes = all_taken start t run d is none g chain in
+      let no = goal_untaken run t g gt in
       cc
+
+  -- the sum of the last taken state is the greatest
+  pub below_last : (start : S) (x : Taken S) (earlier : List (Taken S)) (u : Taken S)
+      → IsRun r start (x ∷ earlier) → IsIn u (x ∷ earlier)
+      → Most (sum_at r u.state u.cost) (sum_at r x.state x.cost)
+  below_last start x earlier u is (here e) = Most-same refl
+  below_last start x [] u is (there z e m) = elim m [ ]
+  below_last start x (y ∷ earlier) u is (there z e m) =
+      (next_taken (y ∷ earlier) x (sums_rise start (y ∷ earlier) is.0) is.2).rises u m
+
+  -- taken states never have a greater sum than later ones, and a link never lowers it: so no offer of the last
+  -- taken state betters a taken one
+  pub taken_not_bettered : (start : S) (x : Taken S) (earlier : List (Taken S)) (u : Taken S) (c : Cost)
+      → IsRun r start (x ∷ earlier) → IsIn u (x ∷ earlier) → r.link x.state u.state ≡ Some c
+      → Most u.cost (add_costs x.cost c)
+  taken_not_bettered start x earlier u c is m l =
+      Most-cancel_right (r.estimate u.state) u.cost (add_costs x.cost c)
+      (Most-then (below_last start x earlier u is m) (link_rises x.state u.state x.cost c l))

@@ -1,12 +1,11 @@
 -- What is known of a state: the cost at which it was taken, or else its least offer.
-use Rattle.std.proofs.Common.{◌≡◌, ℕ, ◌⊎◌, inl, inr, refl, ap, sym, ◌∙◌, subst, Bool, true, false, ◌||◌, List, [], ◌∷◌}
+use Rattle.std.proofs.Common.{◌≡◌, ◌⊎◌, inl, inr, refl, ap, sym, Bool, true, false}
 use Rattle.std.specs.Prelude.{Option, Some, None, if◌then◌else◌}
 use Rattle.root2_cost.specs.declared.Cost.{Cost}
 use Rattle.root2_cost.specs.Order.{is_less, IsAtMost}
-use Rattle.root2_cost.specs.Sums.{add_costs, no_cost}
-use Rattle.root2_cost.proofs.AtMost.{IsAtMost-refl, IsAtMost-trans, less_at_most}
-use Rattle.search_run.specs.Run.{Rule, Taken, Offer, offer, offer_by, lesser, least_offer, is_taken, has_goal, sum_at, goes_before, IsNext, IsRun}
-use Rattle.search_run.specs.Chain.{IsConsistent}
+use Rattle.root2_cost.specs.Sums.{add_costs}
+use Rattle.root2_cost.proofs.AtMost.{IsAtMost-refl, less_at_most}
+use Rattle.search_run.specs.Run.{Rule, Taken, Offer, offer, offer_by, lesser}
 
 -- the lesser of two offers is at most the early one
 pub lesser-early : {S : Type 0} (e : Offer S) (late : Option (Offer S))

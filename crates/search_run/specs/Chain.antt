@@ -1,5 +1,5 @@
 -- Ways through the links of a rule, and what makes an estimate fit for a search.
-use Rattle.std.specs.Prelude.{◌≡◌, true, false, Some}
+use Rattle.std.specs.Prelude.{◌≡◌, true, Some}
 use Rattle.root2_cost.specs.declared.Cost.{Cost}
 use Rattle.root2_cost.specs.Order.{IsAtMost}
 use Rattle.root2_cost.specs.Sums.{add_costs, no_cost}

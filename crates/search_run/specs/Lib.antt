@@ -1,3 +1,4 @@
 pub mod Run
 pub mod Chain
 pub mod Ended
+pub mod Laws

@@ -1,6 +1,6 @@
 -- The run of a best-first search, as a list of taken states and no more: no open list, no index.
 -- A* after Hart, Nilsson and Raphael (1968); the order of ties is this project's.
-use Rattle.std.specs.Prelude.{◌≡◌, ℕ, Bool, true, false, nat_lt, nat_eq, ◌&&◌, ◌||◌, refl, List, [], ◌∷◌, ◌++◌, Option, Some, None, if◌then◌else◌, ◌⊎◌}
+use Rattle.std.specs.Prelude.{◌≡◌, ℕ, Bool, true, false, nat_lt, nat_eq, ◌&&◌, ◌||◌, List, [], ◌∷◌, ◌++◌, Option, Some, None, if◌then◌else◌, ◌⊎◌}
 use Rattle.root2_cost.specs.declared.Cost.{Cost}
 use Rattle.root2_cost.specs.Order.{is_less}
 use Rattle.root2_cost.specs.Sums.{add_costs, no_cost}
@@ -93,3 +93,8 @@ abbrev pub way_to : {S : Type 0} → Rule S → List (Taken S) → S → List S
 way_to r [] s = []
 way_to r (x ∷ earlier) s =
     if r.is_same x.state s then way_to r earlier x.parent ++ (s ∷ []) else way_to r earlier s
+
+-- u is one of the taken states
+pub data IsIn {S : Type 0} (u : Taken S) : List (Taken S) → Type 0 where
+  here : (earlier : List (Taken S)) → IsIn u (u ∷ earlier)
+  there : (x : Taken S) (earlier : List (Taken S)) → IsIn u earlier → IsIn u (x ∷ earlier)

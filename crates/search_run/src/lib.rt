@@ -2,5 +2,7 @@
 //! costs and from which parents.
 //!
 //! The searches of `jps` give exactly such runs. This crate has no code that searches: its specs
-//! have the definition, its proofs the law that a run ends at a goal by a way that none undercuts.
+//! have the definition, and module `laws` what holds of all runs.
 #![tactic(auto)]
+
+pub mod laws;

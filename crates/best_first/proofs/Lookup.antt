@@ -1,0 +1,95 @@
+-- Where a state's node is found.
+use Rattle.std.proofs.Common.{◌≡◌, ℕ, zero, suc, refl, ap, sym, ◌∙◌, subst, Bool, true, false, List, [], ◌∷◌}
+use Rattle.std.specs.Prelude.{Option, Some, None, option_map, if◌then◌else◌, slice_get}
+use Rattle.best_first.specs.declared.node.Node.{Node}
+use Rattle.best_first.specs.declared.state.State.{State}
+use Rattle.best_first.specs.declared.state.Layout.{Layout}
+use Rattle.best_first.specs.State.{is_same_state}
+use Rattle.best_first.specs.Node.{state_of}
+use Rattle.best_first.specs.Table.{lookup}
+use Rattle.best_first.proofs.States.{is_same_state-state, is_same_state-itself}
+
+-- the node that was found
+pub record Found (layout : Layout) (nodes : List Node) (s : State) (id : ℕ) : Type 0 where
+  pub node : Node
+  pub node_is : slice_get nodes id ≡ Some node
+  pub state : state_of layout node ≡ s
+
+some_number : (m n : ℕ) → Some m ≡ Some n → m ≡ n
+some_number m n e = ap (λ (o : Option ℕ). elim o as (λ _. ℕ) [ Some v ↦ v | None ↦ m ]) e
+
+some_node : (m n : Node) → Some m ≡ Some n → m ≡ n
+some_node m n e = ap (λ (o : Option Node). elim o as (λ _. Node) [ Some v ↦ v | None ↦ m ]) e
+
+module _ (layout : Layout) where
+  pub lookup-found : (nodes : List Node) (s : State) (id : ℕ) → lookup layout nodes s ≡ Some id
+      → Found layout nodes s id
+  lookup-found [] s id h = absurd (cc)
+  lookup-found (n ∷ nodes) s id h =
+      by_test (λ i e. lookup-found nodes s i e) (is_same_state (state_of layout n) s) refl h
+    where
+      later : ((i : ℕ) → lookup layout nodes s ≡ Some i → Found layout nodes s i) → (o : Option ℕ)
+          → lookup layout nodes s ≡ o → option_map (λ i. suc i) o ≡ Some id → Found layout (n ∷ nodes) s id
+      later again None e h = absurd (cc)
+      later again (Some i) e h =
+          let f = again i e in
+          let same : suc i ≡ id = some_number (suc i) id h in
+          subst (λ (j : ℕ). Found layout (n ∷ nodes) s j) same
+          (record { node = f.node; node_is = f.node_is; state = f.state })
+
+      by_test : ((i : ℕ) → lookup layout nodes s ≡ Some i → Found layout nodes s i) → (b : Bool)
+          → is_same_state (state_of layout n) s ≡ b
+          → (if b then Some 0 else option_map (λ i. suc i) (lookup layout nodes s)) ≡ Some id
+          → Found layout (n ∷ nodes) s id
+      by_test again true e h =
+          let same : 0 ≡ id = some_number 0 id h in
+          subst (λ (j : ℕ). Found layout (n ∷ nodes) s j) same
+          (record { node = n; node_is = refl; state = is_same_state-state (state_of layout n) s e })
+      by_test again false e h = later again (lookup layout nodes s) refl h
+
+  -- where nothing is found no node is of the state
+  pub none_found : (nodes : List Node) (s : State) → lookup layout nodes s ≡ None → (id : ℕ) (n : Node)
+      → slice_get nodes id ≡ Some n → state_of layout n ≡ s → ⊥
+  none_found [] s h id n g e = (cc)
+  none_found (x ∷ nodes) s h id n g e =
+      by_test (λ l i y. none_found nodes s l i n y e) (is_same_state (state_of layout x) s) refl h id g
+    where
+      by_test : (lookup layout nodes s ≡ None → (i : ℕ) → slice_get nodes i ≡ Some n → ⊥) → (b : Bool)
+          → is_same_state (state_of layout x) s ≡ b
+          → (if b then Some 0 else option_map (λ i. suc i) (lookup layout nodes s)) ≡ None
+          → (i : ℕ) → slice_get (x ∷ nodes) i ≡ Some n → ⊥
+      by_test again true t h i g = absurd (cc)
+      by_test again false t h zero g =
+          let same : x ≡ n = some_node x n g in
+          let yes : is_same_state (state_of layout x) s ≡ true =
+          ap (λ (y : Node). is_same_state (state_of layout y) s) same
+          ∙ ap (λ (u : State). is_same_state u s) e ∙ is_same_state-itself s in
+          absurd (cc)
+      by_test again false t h (suc i) g = by_lookup (lookup layout nodes s) refl h
+        where
+          by_lookup : (o : Option ℕ) → lookup layout nodes s ≡ o → option_map (λ i. suc i) o ≡ None → ⊥
+          by_lookup None l h = again l i g
+          by_lookup (Some j) l h = absurd (cc)
+
+  -- and the other way round
+  pub lookup-none : (nodes : List Node) (s : State)
+      → ((id : ℕ) (n : Node) → slice_get nodes id ≡ Some n → state_of layout n ≡ s → ⊥)
+      → lookup layout nodes s ≡ None
+  lookup-none nodes s h = by_lookup (lookup layout nodes s) refl
+    where
+      by_lookup : (o : Option ℕ) → lookup layout nodes s ≡ o → o ≡ None
+      by_lookup None l = refl
+      by_lookup (Some id) l = absurd (let f = lookup-found nodes s id l in h id f.node f.node_is f.state)
+
+  -- where a state has one node it is found
+  pub lookup-is : (nodes : List Node) (s : State) (id : ℕ) (n : Node) → slice_get nodes id ≡ Some n
+      → state_of layout n ≡ s
+      → ((j : ℕ) (x : Node) → slice_get nodes j ≡ Some x → state_of layout x ≡ s → j ≡ id)
+      → lookup layout nodes s ≡ Some id
+  lookup-is nodes s id n g e only = by_lookup (lookup layout nodes s) refl
+    where
+      by_lookup : (o : Option ℕ) → lookup layout nodes s ≡ o → o ≡ Some id
+      by_lookup None l = absurd (none_found nodes s l id n g e)
+      by_lookup (Some j) l =
+          let f = lookup-found nodes s j l in
+          ap (λ (i : ℕ). Some i) (only j f.node f.node_is f.state)

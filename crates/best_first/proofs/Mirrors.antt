@@ -1,0 +1,164 @@
+-- A table that keeps a run goes on keeping it when a node is offered.
+use Rattle.std.proofs.Common.{◌≡◌, ◌≢◌, ℕ, ◌<◌, ◌⊎◌, inl, inr, length, List, [], ◌∷◌, refl, ap, sym, ◌∙◌, subst, Bool, true, false, not, arith}
+use Rattle.std.specs.Prelude.{Option, Some, None, slice_get}
+use Rattle.root2_cost.specs.declared.Cost.{Cost}
+use Rattle.grid_moves.specs.declared.Cell.{Cell}
+use Rattle.search_run.specs.Run.{Taken, Offer, IsIn, here, there, is_taken}
+use Rattle.search_run.proofs.Leastness.{or_true}
+use Rattle.best_first.specs.declared.node.Node.{Node}
+use Rattle.best_first.specs.declared.state.State.{State}
+use Rattle.best_first.specs.declared.state.Layout.{Layout}
+use Rattle.best_first.specs.State.{is_same_state, state_told}
+use Rattle.best_first.specs.Rule.{Links, search_rule}
+use Rattle.best_first.specs.Node.{state_of}
+use Rattle.best_first.specs.Table.{Table, lookup}
+use Rattle.best_first.specs.Mirror.{Offers, Keeps, IsInOrder, Mirrors}
+use Rattle.best_first.proofs.States.{is_same_state-state, is_same_state-itself, same_or_not}
+use Rattle.best_first.proofs.Lookup.{none_found, lookup-none}
+
+pub some_node : (m n : Node) → Some m ≡ Some n → m ≡ n
+some_node m n e = ap (λ (o : Option Node). elim o as (λ _. Node) [ Some v ↦ v | None ↦ m ]) e
+
+-- a table in which one slot was changed: the node there is v's now
+pub record Changed (layout : Layout) (v : State) (id : ℕ) (n : Node) (k l : Table) : Type 0 where
+  pub here : slice_get l.nodes id ≡ Some n
+  pub others : (j : ℕ) → j ≢ id → slice_get l.nodes j ≡ slice_get k.nodes j
+  pub was : (old : Node) → slice_get k.nodes id ≡ Some old → state_of layout old ≡ v
+  pub only : (j : ℕ) (x : Node) → slice_get k.nodes j ≡ Some x → state_of layout x ≡ v → j ≡ id
+  pub state : state_of layout n ≡ v
+  pub open_here : slice_get l.open_at id ≡ Some true
+  pub open_others : (j : ℕ) → j ≢ id → slice_get l.open_at j ≡ slice_get k.open_at j
+  pub no_more : length l.open_at ≡ length l.nodes
+
+module _ (layout : Layout) (width : ℕ) (goal : Cell) (link : Links) where
+  -- what was taken is among the taken states
+  pub in_taken : (run : List (Taken State)) (u : Taken State) → IsIn u run
+      → is_taken (search_rule width goal link) run u.state ≡ true
+  in_taken [] u m = elim m [ ]
+  in_taken (x ∷ earlier) u (here e) = rw (is_same_state-itself x.state) refl
+  in_taken (x ∷ earlier) u (there z e m) =
+      or_true (is_same_state x.state u.state) (is_taken (search_rule width goal link) earlier u.state)
+      (in_taken earlier u m)
+
+  module _ (run : List (Taken State)) (best : Offers) (k l : Table) (v : State) (id : ℕ) (n : Node)
+      (m : Mirrors layout width goal link run best k) (ch : Changed layout v id n k l)
+      (untaken : is_taken (search_rule width goal link) run v ≡ false)
+      (column : (state_told n.place).cell.x < width) where
+    -- the slot is no taken state's
+    not_here : (j : ℕ) (p : Node) → slice_get k.nodes j ≡ Some p
+        → is_taken (search_rule width goal link) run (state_of layout p) ≡ true → j ≢ id
+    not_here j p h y e =
+        let same : state_of layout p ≡ v = ch.was p (sym (ap (λ (i : ℕ). slice_get k.nodes i) e) ∙ h) in
+        let z : is_taken (search_rule width goal link) run (state_of layout p) ≡ false =
+        ap (λ (s : State). is_taken (search_rule width goal link) run s) same ∙ untaken in
+        cc
+
+    -- what a node keeps stays, as its parent's slot was not changed
+    keeps_stays : (x : Node) (o : Offer State) → Keeps layout width goal link k.nodes x o
+        → is_taken (search_rule width goal link) run o.from ≡ true → Keeps layout width goal link l.nodes x o
+    keeps_stays x o h y =
+        let taken : is_taken (search_rule width goal link) run (state_of layout h.parent) ≡ true =
+        ap (λ (s : State). is_taken (search_rule width goal link) run s) h.from ∙ y in
+        record {
+          key = h.key;
+          short = h.short;
+          parent = h.parent;
+          parent_is = ch.others x.parent (not_here x.parent h.parent h.parent_is taken) ∙ h.parent_is;
+          from = h.from;
+        }
+
+    -- another state's node stands in another slot
+    elsewhere : (s : State) → is_same_state v s ≡ false → (x : Node) → state_of layout x ≡ s
+        → state_of layout x ≡ v → ⊥
+    elsewhere s f x e h =
+        let yes : is_same_state v s ≡ true =
+        ap (λ (t : State). is_same_state t s) (sym h ∙ e) ∙ is_same_state-itself s in
+        cc
+
+    module _ (after : Offers) (o : Offer State) (keeps : Keeps layout width goal link l.nodes n o)
+        (source : is_taken (search_rule width goal link) run o.from ≡ true)
+        (led : link.led o.from (state_told n.place) ≡ true) (at_v : after v ≡ Some o)
+        (at_others : (s : State) → is_same_state v s ≡ false → after s ≡ best s) where
+      at_id : (j : ℕ) → (j ≡ id) ⊎ (j ≢ id)
+      at_id j = grind arith
+
+      here_in_order : IsInOrder layout width goal link run after l id n
+      here_in_order = record {
+        column = column;
+        opened =
+            let z : is_taken (search_rule width goal link) run (state_of layout n) ≡ false =
+            ap (λ (s : State). is_taken (search_rule width goal link) run s) ch.state ∙ untaken in
+            rw z ch.open_here;
+        offer = o;
+        keeps = keeps;
+        led = led;
+        source = source;
+        best_is = λ z. ap (λ (s : State). after s) ch.state ∙ at_v;
+        taken_by = λ u i e. absurd (let y = in_taken run u i in
+            let z : is_taken (search_rule width goal link) run u.state ≡ false =
+            ap (λ (s : State). is_taken (search_rule width goal link) run s) (e ∙ ch.state) ∙ untaken in cc);
+      }
+
+      in_order_at : (j : ℕ) (x : Node) → slice_get l.nodes j ≡ Some x → (j ≡ id) ⊎ (j ≢ id)
+          → IsInOrder layout width goal link run after l j x
+      in_order_at j x h (inl e) =
+          let same : x ≡ n = some_node x n (sym h ∙ ap (λ (i : ℕ). slice_get l.nodes i) e ∙ ch.here) in
+          subst (λ (i : ℕ). IsInOrder layout width goal link run after l i x) (sym e)
+          (subst (λ (y : Node). IsInOrder layout width goal link run after l id y) (sym same) here_in_order)
+      in_order_at j x h (inr ne) =
+          let was : slice_get k.nodes j ≡ Some x = sym (ch.others j ne) ∙ h in
+          let old = m.in_order j x was in
+          record {
+            column = old.column;
+            opened = ch.open_others j ne ∙ old.opened;
+            offer = old.offer;
+            keeps = keeps_stays x old.offer old.keeps old.source;
+            led = old.led;
+            source = old.source;
+            best_is = λ z. elim (same_or_not (is_same_state v (state_of layout x))) [
+              | inl s ↦ absurd (ne (ch.only j x was (sym (is_same_state-state v (state_of layout x) s))))
+              | inr s ↦ at_others (state_of layout x) s ∙ old.best_is z
+            ];
+            taken_by = old.taken_by;
+          }
+
+      only_at : (i j : ℕ) (x y : Node) → slice_get l.nodes i ≡ Some x → slice_get l.nodes j ≡ Some y
+          → state_of layout x ≡ state_of layout y → (i ≡ id) ⊎ (i ≢ id) → (j ≡ id) ⊎ (j ≢ id) → i ≡ j
+      only_at i j x y h g e (inl a) (inl b) = a ∙ sym b
+      only_at i j x y h g e (inl a) (inr b) =
+          let same : x ≡ n = some_node x n (sym h ∙ ap (λ (q : ℕ). slice_get l.nodes q) a ∙ ch.here) in
+          let at : state_of layout y ≡ v = sym e ∙ ap (λ (q : Node). state_of layout q) same ∙ ch.state in
+          absurd (b (ch.only j y (sym (ch.others j b) ∙ g) at))
+      only_at i j x y h g e (inr a) (inl b) =
+          let same : y ≡ n = some_node y n (sym g ∙ ap (λ (q : ℕ). slice_get l.nodes q) b ∙ ch.here) in
+          let at : state_of layout x ≡ v = e ∙ ap (λ (q : Node). state_of layout q) same ∙ ch.state in
+          absurd (a (ch.only i x (sym (ch.others i a) ∙ h) at))
+      only_at i j x y h g e (inr a) (inr b) =
+          m.only i j x y (sym (ch.others i a) ∙ h) (sym (ch.others j b) ∙ g) e
+
+      known_on : (s : State) → lookup layout l.nodes s ≡ None
+          → (is_taken (search_rule width goal link) run s ≡ false) × (after s ≡ None)
+      known_on s h = by_test (is_same_state v s) refl
+        where
+          no_node : is_same_state v s ≡ false → (j : ℕ) (x : Node) → slice_get k.nodes j ≡ Some x
+              → state_of layout x ≡ s → (j ≡ id) ⊎ (j ≢ id) → ⊥
+          no_node f j x g e (inl a) =
+              elsewhere s f x e (ch.was x (sym (ap (λ (q : ℕ). slice_get k.nodes q) a) ∙ g))
+          no_node f j x g e (inr a) = none_found layout l.nodes s h j x (ch.others j a ∙ g) e
+
+          by_test : (b : Bool) → is_same_state v s ≡ b
+              → (is_taken (search_rule width goal link) run s ≡ false) × (after s ≡ None)
+          by_test true t = absurd (none_found layout l.nodes s h id n ch.here
+              (ch.state ∙ is_same_state-state v s t))
+          by_test false t =
+              let before = m.known s (lookup-none layout k.nodes s (λ j x g e. no_node t j x g e (at_id j))) in
+              (before.0, at_others s t ∙ before.1)
+
+      -- the table keeps the run still, with the node's offer for its state
+      pub mirrors_changed : Mirrors layout width goal link run after l
+      mirrors_changed = record {
+        in_order = λ j x h. in_order_at j x h (at_id j);
+        only = λ i j x y h g e. only_at i j x y h g e (at_id i) (at_id j);
+        known = known_on;
+        no_more = ch.no_more;
+      }

@@ -1,0 +1,123 @@
+-- What a search has taken, from its beginning to its end.
+use Rattle.std.proofs.Common.{◌≡◌, ℕ, suc, ◌+◌, ◌*◌, ◌<◌, ◌≤◌, ◌^◌, length, List, [], ◌∷◌, ◌++◌, refl, ap, sym, ◌∙◌, subst, true, false, arith, map, reverse}
+use Rattle.std.proofs.lemmas.List.{reverse-append, length-reverse}
+use Rattle.std.specs.Prelude.{Option, Some, None, slice_get}
+use Rattle.root2_cost.specs.declared.Cost.{Cost}
+use Rattle.grid_moves.specs.declared.Cell.{Cell}
+use Rattle.search_run.specs.Run.{Taken, IsIn, here, least_offer, way_to}
+use Rattle.best_first.specs.declared.node.Node.{Node}
+use Rattle.best_first.specs.declared.state.State.{State}
+use Rattle.best_first.specs.declared.state.Layout.{Layout}
+use Rattle.best_first.specs.State.{state_number, start_at, state_told}
+use Rattle.best_first.specs.Mirror.{Offers, IsSearching}
+use Rattle.best_first.specs.Rule.{Links, search_rule, IsSearch}
+use Rattle.best_first.specs.Node.{state_of}
+use Rattle.best_first.specs.Table.{Table, begun, closed_at, IsFirstNode, NoneOpen}
+use Rattle.best_first.specs.Progress.{HasTaken, HasOffered, IsExhausted, numbers_of}
+use Rattle.best_first.specs.Trace.{IsBack, HasBack, IsWayTo}
+use Rattle.best_first.proofs.Mirrors.{some_node}
+use Rattle.best_first.proofs.Searching.{at_start, started, going_on, ending}
+use Rattle.best_first.proofs.Bounds.{few_taken}
+use Rattle.best_first.proofs.Backing.{back_of, back_is_one}
+
+-- one state more is one number more
+numbers-next : (width : ℕ) (x : Taken State) (run : List (Taken State))
+    → numbers_of width (x ∷ run) ≡ numbers_of width run ++ state_number width x.state ∷ []
+numbers-next width x run =
+    reverse-append (state_number width x.state ∷ []) (map (λ u. state_number width u.state) run)
+
+pub reverse-twice : {X : Type 0} (xs : List X) → reverse (reverse xs) ≡ xs
+reverse-twice [] = refl
+reverse-twice (x ∷ xs) = ap reverse (reverse-append (x ∷ []) xs) ∙ reverse-append (reverse xs) (x ∷ [])
+    ∙ ap (λ (ys : List _). x ∷ ys) (reverse-twice xs)
+
+module _ (layout : Layout) (width height : ℕ) (start goal : Cell) (link : Links)
+    (fit : IsSearch width height start goal link) where
+  -- at the start
+  pub has_begun : HasTaken layout width goal link start 0 (begun goal start)
+      (state_number width (start_at start) ∷ [])
+  has_begun = record {
+    last = at_start layout width height start goal link fit;
+    earlier = [];
+    searching = started layout width height start goal link fit;
+    numbered = refl;
+  }
+
+  -- after its offers, the next state
+  pub next_taken : (at : ℕ) (k : Table) (taken : List ℕ) → HasOffered layout width goal link start at k taken
+      → (id : ℕ) (node : Node) → IsFirstNode k id → slice_get k.nodes id ≡ Some node
+      → HasTaken layout width goal link start id (closed_at id k)
+      (taken ++ state_number width (state_of layout node) ∷ [])
+  next_taken at k taken h id node f read =
+      let on = going_on layout width height start goal link fit h.last h.earlier at h.best k h.searching
+      h.open_ended h.all_made id f in
+      let one : node ≡ on.1.node = some_node node on.1.node (sym read ∙ on.1.node_is) in
+      let state : state_of layout node ≡ on.0.state =
+      ap (λ (x : Node). state_of layout x) one ∙ on.1.state in
+      record {
+        last = on.0;
+        earlier = h.last ∷ h.earlier;
+        searching = on.1;
+        numbered =
+            ap (λ (ns : List ℕ). ns ++ state_number width (state_of layout node) ∷ []) h.numbered
+            ∙ ap (λ (s : State). numbers_of width (h.last ∷ h.earlier) ++ state_number width s ∷ []) state
+            ∙ sym (numbers-next width on.0 (h.last ∷ h.earlier));
+      }
+
+  -- or none waits
+  pub exhausted : (at : ℕ) (k : Table) (taken : List ℕ) → HasOffered layout width goal link start at k taken
+      → NoneOpen k → IsExhausted width goal link start taken
+  exhausted at k taken h none =
+      subst (λ (ns : List ℕ). IsExhausted width goal link start ns) (sym h.numbered)
+      (ending layout width height start goal link fit h.last h.earlier at h.best k h.searching h.open_ended
+      h.all_made none)
+
+  -- there are at most nine states taken for each cell
+  pub taken_fits : (at : ℕ) (k : Table) (taken : List ℕ) → HasTaken layout width goal link start at k taken
+      → length taken ≤ height * width * 9
+  taken_fits at k taken h = rw h.numbered
+      (subst (λ n. n ≤ height * width * 9) (sym (length-numbers (h.last ∷ h.earlier)))
+      (few_taken width height start goal link fit.posed (h.last ∷ h.earlier) h.searching.run))
+    where
+      length-map : (run : List (Taken State)) → length (map (λ u. state_number width u.state) run) ≡ length run
+      length-map [] = refl
+      length-map (x ∷ run) = ap (λ n. suc n) (length-map run)
+
+      length-numbers : (run : List (Taken State)) → length (numbers_of width run) ≡ length run
+      length-numbers run = length-reverse (map (λ u. state_number width u.state) run) ∙ length-map run
+
+  module _ (at : ℕ) (k : Table) (taken : List ℕ) (h : HasTaken layout width goal link start at k taken) where
+    abbrev cells : List Cell
+    cells = map (λ (u : State). u.cell) (way_to (search_rule width goal link) (h.last ∷ h.earlier) h.last.state)
+
+    last_back : IsBack goal k.nodes at (reverse cells) h.last.cost
+    last_back = back_of layout width height start goal link fit h.last h.earlier at
+        (least_offer (search_rule width goal link) h.earlier) k h.searching (h.last ∷ h.earlier) h.searching.run
+        (λ u m. m) h.last (here h.earlier) at h.searching.node h.searching.node_is h.searching.state
+
+    -- some way leads back from the last state's node
+    pub has_back : HasBack goal k.nodes at
+    has_back = record {
+      cells = reverse cells;
+      cost = h.last.cost;
+      is_back = last_back;
+      few = fit.few (h.last ∷ h.earlier) h.last h.searching.run (here h.earlier);
+    }
+
+    -- and the way that was found is the run's
+    pub way_is : (points : List Cell) (cost : Cost) → IsWayTo goal k.nodes at points cost
+        → (points ≡ map (λ (u : State). u.cell)
+        (way_to (search_rule width goal link) (h.last ∷ h.earlier) h.last.state)) × (cost ≡ h.last.cost)
+    way_is points cost w =
+        let one = back_is_one goal k.nodes at (reverse points) (reverse cells) cost h.last.cost w last_back in
+        (sym (reverse-twice points) ∙ ap reverse one.0 ∙ reverse-twice cells, one.1)
+
+-- what stands in the place of the last state's node was led there from the state's parent
+pub last_led : (layout : Layout) (width : ℕ) (goal : Cell) (link : Links) (start : Cell) (x : Taken State)
+    (earlier : List (Taken State)) (at : ℕ) (best : Offers) (k : Table)
+    (i : IsSearching layout width goal link start x earlier at best k)
+    → link.led x.parent (state_told i.node.place) ≡ true
+last_led layout width goal link start x earlier at best k i =
+    let o = i.mirrors.in_order at i.node i.node_is in
+    let from = (o.taken_by x (here earlier) (sym i.state)).1 in
+    ap (λ (s : State). link.led s (state_told i.node.place)) from ∙ o.led

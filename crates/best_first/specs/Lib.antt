@@ -1,0 +1,11 @@
+pub mod State
+pub mod Rule
+pub mod Node
+pub mod Ranks
+pub mod Table
+pub mod Mirror
+pub mod Ways
+pub mod Progress
+pub mod Trace
+pub mod Index
+pub mod Space

@@ -1,0 +1,55 @@
+-- States of a search: a cell and how it was come to.
+use Rattle.std.specs.Prelude.{◌≡◌, ℕ, ◌+◌, ◌*◌, ◌/◌, ◌%◌, Bool, true, false, nat_eq, ◌&&◌, refl, Option, Some, None, slice_get}
+use Rattle.grid_moves.specs.declared.Cell.{Cell}
+use Rattle.grid_moves.specs.declared.Dir.{Dir}
+use Rattle.grid_moves.specs.declared.Dir.TheVariants.{S}
+use Rattle.grid_moves.specs.Grid.{cell_number}
+use Rattle.grid_moves.specs.Move.{is_same, all_dirs, dir_number}
+use Rattle.best_first.specs.declared.state.State.{State}
+use Rattle.best_first.specs.declared.state.Layout.{Layout}
+use Rattle.best_first.specs.declared.state.Layout.TheVariants.{ByCell, ByArrival}
+use Rattle.best_first.specs.declared.place.Place.{Place}
+
+-- the direction's number, or 8 for the start
+abbrev pub arrival_number : Option Dir → ℕ
+arrival_number (Some d) = dir_number d
+arrival_number None = 8
+
+-- the printed number: nine times the cell's, and the arrival's
+abbrev pub state_number : ℕ → State → ℕ
+state_number width s = cell_number width s.cell * 9 + arrival_number s.arrival
+
+-- the states are one state
+abbrev pub is_same_state : State → State → Bool
+is_same_state s t = is_same s.cell t.cell && nat_eq (arrival_number s.arrival) (arrival_number t.arrival)
+
+-- the start of a search: it was not come to
+abbrev pub start_at : Cell → State
+start_at c = record { cell = c; arrival = None }
+
+-- the state in which a search sees what a node was made for: without its arrival where a cell has one state
+abbrev pub state_in : Layout → State → State
+state_in ByCell s = start_at s.cell
+state_in ByArrival s = s
+
+-- row, column and arrival in one number, ordered as the numbers of states are
+unfoldable pub place_of : State → Place
+place_of s = record { bits = s.cell.y * 65536 + (s.cell.x * 16 + arrival_number s.arrival) }
+
+-- what such a number tells
+unfoldable pub state_told : Place → State
+state_told p = record {
+  cell = record { x = p.bits / 16 % 4096; y = p.bits / 65536 };
+  arrival = slice_get all_dirs (p.bits % 16);
+}
+
+-- column 5 of row 2, come to from the north
+pub told_again :
+    state_told (place_of (record { cell = record { x = 5; y = 2 }; arrival = Some S }))
+    ≡ record { cell = record { x = 5; y = 2 }; arrival = Some S }
+unfolding place_of state_told
+told_again = refl
+
+-- the same cell as a start, on a map of 7 columns: 9 · 19 + 8
+pub start_number : state_number 7 (start_at (record { x = 5; y = 2 })) ≡ 179
+start_number = refl

@@ -1,0 +1,67 @@
+//! Nodes of the search, their order, and offers.
+//!
+//! The key is one whole number that orders the sums of cost and estimate by their values. Among
+//! equal sums the state of the lesser number goes first, which is that of the lesser place.
+
+ghost use Rattle.std.specs.Prelude.{◌≡◌, ◌≤◌, ◌<◌, ◌^◌};
+ghost use Rattle.best_first.specs.Trace.{node_cell, rank_left};
+ghost use Rattle.grid_moves.specs.Points.{estimate};
+ghost use Rattle.root2_cost.specs.Rank.{rank_of};
+ghost use Rattle.best_first.specs.Node.{ranks_before};
+ghost use Rattle.best_first.specs.Ranks.{ranks_order};
+
+use crate::{Place, State};
+use grid_moves::{Cell, estimate};
+use open_list::Ranked;
+
+/// A state that the search knows, with the least cost offered so far.
+#[derive(Clone, Copy, Debug)]
+pub struct Node {
+    /// The rank of the sum of cost and estimate.
+    pub key: u64,
+    /// The number of the node that offers the cost; the start has its own.
+    pub parent: u32,
+    /// The state.
+    pub place: Place,
+}
+
+/// A way on from a taken state.
+#[derive(Clone, Copy, Debug)]
+pub struct Offer {
+    /// The rank of what the way costs from the start on.
+    pub rank: u64,
+    /// The number of the taken state's node.
+    pub parent: u32,
+    /// Where it leads.
+    pub to: State,
+}
+
+impl Node {
+    /// The rank of the node's cost: its key less the rank of the estimate.
+    #[inline(always)]
+    pub fn cost_rank(self, goal: Cell) -> u64
+        requires { rank_of (estimate (node_cell self) goal) ≤ self.key }
+        ensures { result ≡ rank_left goal self }
+    {
+        self.key - estimate_rank(self.place.cell(), goal)
+    }
+}
+
+impl Ranked for Node {
+    ghost before = { λ m n. ranks_before m n };
+
+    fn before(&self, other: &Node) -> bool {
+        self.key < other.key || self.key == other.key && self.place.bits < other.place.bits
+    }
+
+    ghost order = { ranks_order };
+}
+
+/// The rank of the estimate.
+#[inline(always)]
+pub(crate) fn estimate_rank(from: Cell, to: Cell) -> u64
+    ensures value { result ≡ rank_of (estimate from to) }
+    ensures small { result < 2 ^ 60 }
+{
+    estimate(from, to).rank()
+}
