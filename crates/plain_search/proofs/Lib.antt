@@ -12,3 +12,4 @@ pub mod Searching
 pub mod Tracing
 pub mod Backing
 pub mod Concluding
+pub mod Answering

@@ -7,3 +7,4 @@ pub mod Table
 pub mod Mirror
 pub mod Progress
 pub mod Trace
+pub mod Existence

@@ -1,6 +1,7 @@
 //! Least walks by plain A*, without pruning.
 #![tactic(auto)]
 
+pub mod laws;
 mod node;
 mod search;
 mod space;

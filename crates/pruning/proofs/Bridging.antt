@@ -1,5 +1,5 @@
 -- Cells are places, and a legal move leads to the place ahead.
-use Rattle.std.proofs.Common.{◌≡◌, ℕ, zero, suc, ◌+◌, arith, Bool, true, false, refl, ap, sym, ◌∙◌, subst, ◌&&◌, ◌||◌}
+use Rattle.std.proofs.Common.{◌≡◌, ℕ, zero, suc, ◌+◌, arith, Bool, true, false, refl, ap, sym, ◌∙◌, subst, ◌||◌}
 use Rattle.std.specs.Prelude.{⊤, ℤ, pos, negsuc, ◌+ℤ◌, Option, Some, None, option_and_then, is_some, if◌then◌else◌, nat_eq}
 use Rattle.std.proofs.lemmas.Int.{ints}
 use Rattle.std.proofs.lemmas.Bool.Decides.{nat_tests}

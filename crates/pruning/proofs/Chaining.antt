@@ -24,7 +24,7 @@ use Rattle.pruning.specs.Facts.{IsExplained, same, component, turns, TurnsAreMar
 use Rattle.pruning.specs.Chain.{State, run_cost, IsChain, stays, jumps, last_state}
 use Rattle.pruning.specs.Laws.{ChainsSuffice}
 use Rattle.pruning.proofs.Table.{turn_parity, by_parity, by_test}
-use Rattle.pruning.proofs.Bridging.{dir_cost, cost_there, one_of, Leads, leads_legal, allowed_leads}
+use Rattle.pruning.proofs.Bridging.{dir_cost, cost_there, one_of, leads_legal, allowed_leads}
 use Rattle.pruning.proofs.Runs.{run_end-next}
 use Rattle.pruning.proofs.Stopping.{stops_are_told}
 

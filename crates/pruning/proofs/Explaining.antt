@@ -1,23 +1,22 @@
 -- The second local fact: each allowed turn is explained, by the arrival, by its components or by a mark.
-use Rattle.std.proofs.Common.{◌≡◌, Bool, true, false, not, sym, ◌∙◌, ap, refl, ◌&&◌, ◌||◌, arith}
+use Rattle.std.proofs.Common.{◌≡◌, Bool, true, false, not, sym, ◌∙◌, ap, refl, ◌||◌, arith}
 use Rattle.grid_moves.specs.declared.Cell.{Cell}
 use Rattle.grid_moves.specs.declared.Corner.{Corner}
-use Rattle.grid_moves.specs.declared.Corner.TheVariants.{Never, One}
+use Rattle.grid_moves.specs.declared.Corner.TheVariants.{Never}
 use Rattle.grid_moves.specs.declared.Dir.{Dir}
-use Rattle.grid_moves.specs.Grid.{GridData, is_free}
+use Rattle.grid_moves.specs.Grid.{GridData}
 use Rattle.grid_moves.proofs.Legal.{and_both, legal_is}
-use Rattle.grid_moves.specs.Move.{is_open}
 use Rattle.pruning.specs.declared.Arrival.TheVariants.{By}
 use Rattle.pruning.specs.declared.turns.Side.{Side}
 use Rattle.pruning.specs.declared.turns.Side.TheVariants.{Right, Left}
 use Rattle.pruning.specs.Turns.{turn, quarter, rear, is_diagonal}
 use Rattle.pruning.specs.Allowed.{is_blocked, can_move, keeps_eighth, keeps_quarter, is_kept}
-use Rattle.pruning.specs.Marked.{is_forced_on, is_forced, IsMarked, forces}
+use Rattle.pruning.specs.Marked.{is_forced_on, IsMarked, forces}
 use Rattle.pruning.specs.Facts.{IsExplained, same, component, turns, TurnsAreMarked}
 use Rattle.pruning.proofs.Table.{Turned, turned, ahead, eighth, side, back, about, turn_parity, quarter_parity, by_parity}
 use Rattle.pruning.proofs.Moves.{can_move-straight}
 use Rattle.pruning.proofs.Bridging.{leads_from}
-use Rattle.pruning.proofs.Kept.{kept-eighth, kept-quarter, kept-back, kept-about}
+use Rattle.pruning.proofs.Kept.{not_true, kept-eighth, kept-quarter, kept-back, kept-about}
 use Rattle.pruning.proofs.Replacing.{by_corner, sides_open}
 
 or_true : (a b : Bool) → a ≡ false → (a || b) ≡ true → b ≡ true
@@ -29,7 +28,7 @@ module _ (r : Corner) (b can : Dir → Bool) (d : Dir) (s : Side) where
       → is_forced_on r b can d s ≡ true
   forced-quarter k m = by_corner r
       (λ e. let both = and_both (not (is_diagonal d)) (b (rear s d)) (rw e at k) in
-      rw (e, both.0, both.1, m) refl)
+      rw (e, not_true (is_diagonal d) both.0, both.1, m) refl)
       (λ e. let both = and_both (is_diagonal d) (b (rear s d)) (rw e at k) in rw (e, both.0, both.1, m) refl)
 
   -- so is an eighth after a straight move, where with it the quarter is legal if no corner is cut

@@ -1,10 +1,10 @@
 -- The first cell of a run at which a test holds.
-use Rattle.std.proofs.Common.{◌≡◌, ℕ, zero, suc, ◌+◌, ◌<◌, ◌≤◌, ◌⊎◌, inl, inr, arith, Bool, true, false, refl, ap, sym, ◌∙◌}
+use Rattle.std.proofs.Common.{◌≡◌, ℕ, zero, suc, ◌+◌, ◌<◌, ◌≤◌, ◌⊎◌, inl, inr, arith, Bool, true, false, refl, ap}
 use Rattle.std.specs.Prelude.{Option, Some, None, MatchOption, option_and_then, option_map, is_some, if◌then◌else◌}
 use Rattle.grid_moves.specs.declared.Cell.{Cell}
 use Rattle.grid_moves.specs.declared.Dir.{Dir}
 use Rattle.grid_moves.specs.Grid.{GridData}
-use Rattle.grid_moves.specs.Least.{NoneBelow, IsLeast, FindsLeast}
+use Rattle.grid_moves.specs.Least.{IsLeast, FindsLeast}
 use Rattle.grid_moves.specs.Move.{legal_ahead}
 use Rattle.pruning.specs.Marked.{run_end, HoldsOnRun}
 use Rattle.pruning.specs.First.{first_within, first_on_run, holds_on_run}
@@ -128,8 +128,10 @@ module _ (g : GridData) (d : Dir) (test : Cell → Bool) where
 
   -- else the next cell, or one move more than from there
   pub first_on_run-next : (x v : Cell) → legal_ahead g x d ≡ Some v
-      → first_on_run g d test x ≡ (if test v then Some 1 else option_map (λ k. suc k) (first_on_run g d test v))
-  first_on_run-next x v e = FindsLeast-once (HoldsAfter x) 1 (first_on_run g d test x) _ (first_on_run-finds x)
+      → first_on_run g d test x
+      ≡ (if test v then Some 1 else option_map (λ k. suc k) (first_on_run g d test v))
+  first_on_run-next x v e = FindsLeast-once (HoldsAfter x) 1 (first_on_run g d test x) _
+      (first_on_run-finds x)
       (at_last x _ (λ n. by_first n x v e (test v) refl (first_on_run g d test v)
       (at_first n v (first_on_run g d test v) (first_on_run-finds v))))
     where

@@ -1,5 +1,5 @@
 -- What pruning keeps, by the turn from the arrival.
-use Rattle.std.proofs.Common.{◌≡◌, refl, Bool, true, false, not, ◌&&◌, ◌||◌, arith}
+use Rattle.std.proofs.Common.{◌≡◌, refl, Bool, true, false, not, ◌||◌, arith}
 use Rattle.grid_moves.specs.declared.Corner.{Corner}
 use Rattle.grid_moves.specs.declared.Dir.{Dir}
 use Rattle.grid_moves.specs.Move.{is_dir, opposite}
@@ -10,7 +10,7 @@ use Rattle.pruning.specs.Turns.{turn, quarter, rear}
 use Rattle.pruning.specs.Allowed.{keeps_eighth, keeps_quarter, is_kept}
 use Rattle.pruning.proofs.Table.{each_dir, each_side, at_dir, at_both}
 
-not_true : (b : Bool) → not b ≡ true → b ≡ false
+pub not_true : (b : Bool) → not b ≡ true → b ≡ false
 not_true true h = absurd (cc)
 not_true false h = refl
 

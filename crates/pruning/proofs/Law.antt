@@ -1,9 +1,9 @@
 -- Every walk has a canonical walk of no greater cost, where each turn that is not allowed has a replacement.
-use Rattle.std.proofs.Common.{◌≡◌, ◌⊎◌, inl, inr, arith, refl, ap, sym, ◌∙◌, List, [], ◌∷◌, ◌++◌, subst, Bool, true, false, ◌&&◌}
+use Rattle.std.proofs.Common.{◌≡◌, ◌⊎◌, inl, inr, refl, ap, sym, ◌∙◌, List, [], ◌∷◌, ◌++◌, subst, true}
 use Rattle.std.specs.Prelude.{⊤}
 use Rattle.root2_cost.specs.Sums.{add_costs}
 use Rattle.root2_cost.proofs.AtMost.{IsAtMost-trans, same_at_most}
-use Rattle.root2_cost.proofs.Most.{Most, Most-then, Most-same, Most-add_left, Most-add_right}
+use Rattle.root2_cost.proofs.Most.{Most-then, Most-same, Most-add_left, Most-add_right}
 use Rattle.grid_moves.specs.declared.Cell.{Cell}
 use Rattle.grid_moves.specs.declared.Dir.{Dir}
 use Rattle.grid_moves.specs.Grid.{GridData}
@@ -55,8 +55,11 @@ module _ (replaced : TurnsAreReplaced) (g : GridData) where
       → is_walk g (w ∷ cells) ≡ true → FollowsRule g (By e) w cells
       → FollowsRule g Start u (v ∷ w ∷ cells) ⊎ HasBetter g u (last_of w cells) (v ∷ w ∷ cells)
   by_turn u v w d e cells l m h f = by_test (is_allowed g v (By d) e)
-      (λ a. inl (d, record { leads = l.ahead_is; allowed = leads_can g u v d l },
-      (e, record { leads = m.ahead_is; allowed = a }, f)))
+      (λ a. inl (
+        d,
+        record { leads = l.ahead_is; allowed = leads_can g u v d l },
+        (e, record { leads = m.ahead_is; allowed = a }, f),
+      ))
       (λ n. inr (put_in u v w cells h
       (replaced g u v w d e (leads_legal g u v d l) (leads_legal g v w e m) n)))
 

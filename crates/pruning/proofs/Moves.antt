@@ -1,6 +1,6 @@
 -- When a move from a free cell is legal: by the cells ahead and beside.
-use Rattle.std.proofs.Common.{◌≡◌, ℕ, zero, suc, ◌+◌, ◌≤◌, arith, refl, sym, ◌∙◌, ap, Bool, true, false, ◌&&◌}
-use Rattle.std.specs.Prelude.{is_some, if◌then◌else◌, Some, None, ◌||◌}
+use Rattle.std.proofs.Common.{◌≡◌, ℕ, zero, suc, ◌+◌, ◌≤◌, arith, refl, ◌∙◌, ap, Bool, true, false, ◌&&◌}
+use Rattle.std.specs.Prelude.{is_some, if◌then◌else◌, Some, None}
 use Rattle.std.proofs.lemmas.Bool.Decides.{nat_tests}
 use Rattle.grid_moves.specs.declared.Cell.{Cell}
 use Rattle.grid_moves.specs.declared.Corner.{Corner}

@@ -2,8 +2,6 @@
 use Rattle.std.specs.Prelude.{ℤ, pos, negsuc, ◌+ℤ◌}
 use Rattle.grid_moves.specs.declared.Dir.{Dir}
 use Rattle.grid_moves.specs.declared.Dir.TheVariants.{N, NE, E, SE, S, SW, W, NW}
-use Rattle.pruning.specs.declared.turns.Side.TheVariants.{Right}
-use Rattle.pruning.specs.Turns.{quarter}
 
 -- a column and a row, which may be negative
 pub record Place : Type 0 where

@@ -14,7 +14,7 @@ use Rattle.pruning.specs.declared.Arrival.TheVariants.{By}
 use Rattle.pruning.specs.declared.turns.Side.{Side}
 use Rattle.pruning.specs.declared.turns.Side.TheVariants.{Right, Left}
 use Rattle.pruning.specs.Turns.{turn, quarter, rear, is_diagonal}
-use Rattle.pruning.specs.Allowed.{is_blocked, keeps_eighth, keeps_quarter, is_kept, is_allowed}
+use Rattle.pruning.specs.Allowed.{is_blocked, keeps_eighth, keeps_quarter, is_kept}
 use Rattle.pruning.specs.Facts.{HasBetter, shorter, straighter, earlier, TurnsAreReplaced}
 use Rattle.pruning.proofs.Places.{Place, move}
 use Rattle.pruning.proofs.Table.{straight_back, straight_side, diagonal_back, diagonal_side, reversal, moved_both, Turned, turned, ahead, eighth, side, back, about, turn_parity, quarter_parity, turn_back, by_parity}
@@ -119,7 +119,8 @@ module _ (g : GridData) (u v w : Cell) (d e : Dir) (l : Leads g u v d) (m : Lead
     walk = record { legal = rw (n.legal, q.legal, target) refl; ends = refl };
     no_more = rw (cost_there f u c n.ahead_is, cost_there h c w q.ahead_is, first, second) less;
     smaller = elim fewer [
-      | inl b ↦ straighter refl (rw (cost_there f u c n.ahead_is, cost_there h c w q.ahead_is, first, second) b)
+      | inl b ↦ straighter refl
+          (rw (cost_there f u c n.ahead_is, cost_there h c w q.ahead_is, first, second) b)
       | inr b ↦ earlier refl
           (rw (cost_there f u c n.ahead_is, cost_there h c w q.ahead_is, first, second) (b.0))
           (rw (cost_there f u c n.ahead_is, cost_there h c w q.ahead_is, first, second)
@@ -180,12 +181,15 @@ module _ (r : Corner) (b : Dir → Bool) (d : Dir) (s : Side) where
   quarter_walls : keeps_quarter r b d s ≡ false
       → (is_diagonal d ≡ false → r ≡ Never → b (rear s d) ≡ false)
       × (is_diagonal d ≡ true → r ≡ One → b (rear s d) ≡ false)
-  quarter_walls h = (λ k e. shut (not (is_diagonal d)) _ (rw k refl) (rw e at h), λ k e.
-      shut (is_diagonal d) _ k (rw e at h))
+  quarter_walls h = (
+    λ k e. shut (not (is_diagonal d)) _ (rw k refl) (rw e at h),
+    λ k e.
+        shut (is_diagonal d) _ k (rw e at h),
+  )
 
 -- both cells beside a legal diagonal move are open where no corner is cut
-pub sides_open : (g : GridData) (u v : Cell) (d : Dir) → Leads g u v d → is_diagonal d ≡ true → g.corner ≡ Never
-    → (s : Side) → is_open g u (turn s d) ≡ true
+pub sides_open : (g : GridData) (u v : Cell) (d : Dir) → Leads g u v d → is_diagonal d ≡ true
+    → g.corner ≡ Never → (s : Side) → is_open g u (turn s d) ≡ true
 sides_open g u v d l h e s = side s
   where
     both : (a b : Bool) → is_passable g.corner a b ≡ true → (a ≡ true) × (b ≡ true)

@@ -62,8 +62,10 @@ toward_moved : (t : Trend) (k a z b : ℕ) → IsMoved t 1 a z → IsMoved t k z
 toward_moved rising k a z b p q = let l : nat_lt a b ≡ true = grind (arith, nat_tests) in rw l (sym p)
 toward_moved level k a z b p q = let l : nat_lt a b ≡ false =
     grind (arith, nat_tests) in let m : nat_lt b a ≡ false = grind (arith, nat_tests) in rw (l, m) (sym p)
-toward_moved falling k a z b p q = let l : nat_lt a b ≡ false = grind (arith, nat_tests) in let m : nat_lt b a ≡ true =
-    grind (arith, nat_tests) in rw (l, m) (omega arith)
+toward_moved falling k a z b p q =
+    let l : nat_lt a b ≡ false = grind (arith, nat_tests) in
+    let m : nat_lt b a ≡ true = grind (arith, nat_tests) in
+    rw (l, m) (omega arith)
 
 abbrev pub AreMoved : Dir → ℕ → Cell → Cell → Type 0
 AreMoved d k u v = IsMoved (column_trend d) k u.x v.x × IsMoved (row_trend d) k u.y v.y

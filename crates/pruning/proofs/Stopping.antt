@@ -1,10 +1,8 @@
 -- Marks, stops and first stops are what their tests compute.
-use Rattle.std.proofs.Common.{◌≡◌, ℕ, ◌⊎◌, inl, inr, Bool, true, false, refl, sym, ◌∙◌, subst, ◌&&◌, ◌||◌, arith}
-use Rattle.std.specs.Prelude.{Option}
+use Rattle.std.proofs.Common.{◌≡◌, inl, inr, Bool, true, refl, ◌&&◌, ◌||◌, arith}
 use Rattle.grid_moves.specs.declared.Cell.{Cell}
 use Rattle.grid_moves.specs.declared.Dir.{Dir}
 use Rattle.grid_moves.specs.Grid.{GridData}
-use Rattle.grid_moves.specs.Least.{FindsLeast}
 use Rattle.grid_moves.specs.Move.{is_same}
 use Rattle.grid_moves.proofs.Legal.{and_both, is_same-cell, is_same-itself}
 use Rattle.pruning.specs.declared.turns.Side.{Side}

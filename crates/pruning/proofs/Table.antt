@@ -207,10 +207,6 @@ pub quarter_parity : (s : Side) (d : Dir) → is_diagonal (quarter s d) ≡ is_d
 quarter_parity s d =
     same_bool-is _ _ (at_both (λ s d. same_bool (is_diagonal (quarter s d)) (is_diagonal d)) refl s d)
 
-pub opposite_parity : (d : Dir) → is_diagonal (opposite d) ≡ is_diagonal d
-opposite_parity d =
-    same_bool-is _ _ (at_dir (λ d. same_bool (is_diagonal (opposite d)) (is_diagonal d)) refl d)
-
 -- the other side
 abbrev pub other : Side → Side
 other Right = Left
@@ -219,13 +215,6 @@ other Left = Right
 -- to one side and then to the other
 pub turn_back : (s : Side) (d : Dir) → turn (other s) (turn s d) ≡ d
 turn_back s d = same_dir _ _ (at_both (λ s d. is_dir (turn (other s) (turn s d)) d) refl s d)
-
--- what holds on one side and on the other holds on each
-pub each_of : (P : Side → Type 0) (s : Side) → P s → P (other s) → (t : Side) → P t
-each_of P Right a b Right = a
-each_of P Right a b Left = b
-each_of P Left a b Left = a
-each_of P Left a b Right = b
 
 pub by_parity : {P : Type 0} (d : Dir) → (is_diagonal d ≡ true → P) → (is_diagonal d ≡ false → P) → P
 by_parity {P} d f g = go (is_diagonal d) refl

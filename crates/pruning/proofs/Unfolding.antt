@@ -1,12 +1,11 @@
 -- The cells of a chain are points of a walk of its cost.
-use Rattle.std.proofs.Common.{◌≡◌, ℕ, arith, true, refl, ap, sym, ◌∙◌, subst, List, [], ◌∷◌, ◌++◌}
+use Rattle.std.proofs.Common.{◌≡◌, ℕ, true, refl, ap, sym, ◌∙◌, subst, List, [], ◌∷◌, ◌++◌}
 use Rattle.std.specs.Prelude.{Some, map}
 use Rattle.root2_cost.specs.declared.Cost.{Cost}
 use Rattle.root2_cost.specs.Sums.{add_costs}
 use Rattle.grid_moves.specs.declared.Cell.{Cell}
 use Rattle.grid_moves.specs.declared.Dir.{Dir}
 use Rattle.grid_moves.specs.Grid.{GridData, is_free}
-use Rattle.grid_moves.specs.Move.{is_legal}
 use Rattle.grid_moves.specs.Walk.{is_walk, cost_of, last_of}
 use Rattle.grid_moves.specs.Points.{steps_between, are_lined, segment, unfolded_from}
 use Rattle.pruning.specs.Chain.{State, start_state, run_cost, IsJump, IsChain, stays, jumps, last_state}

@@ -1,6 +1,6 @@
 -- Pruning: the directions in which a search goes on from a cell, by how it came there.
 -- Harabor and Grastien: AAAI 2011 where corners may be cut, SoCS 2012 where none is.
-use Rattle.std.specs.Prelude.{◌≡◌, Bool, true, false, not, ◌&&◌, ◌||◌, refl, List, [], ◌∷◌, filter, is_some}
+use Rattle.std.specs.Prelude.{◌≡◌, Bool, true, not, ◌&&◌, ◌||◌, refl, List, [], ◌∷◌, filter, is_some}
 use Rattle.grid_moves.specs.declared.Cell.{Cell}
 use Rattle.grid_moves.specs.declared.Corner.{Corner}
 use Rattle.grid_moves.specs.declared.Corner.TheVariants.{Never, One}

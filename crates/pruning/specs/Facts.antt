@@ -1,4 +1,4 @@
--- The two local facts that the laws of pruning rest on: they look at two moves and at the cells around one cell.
+-- The two local facts that the laws of pruning rest on: each looks at the cells around one move alone.
 use Rattle.std.specs.Prelude.{◌≡◌, ◌<◌, ◌+◌, ℕ, true, false, IsTrue, List, [], ◌∷◌, length, Some}
 use Rattle.root2_cost.specs.Order.{IsAtMost}
 use Rattle.grid_moves.specs.declared.Cell.{Cell}
@@ -31,8 +31,8 @@ pub record HasBetter (g : GridData) (u t : Cell) (cells : List Cell) : Type 0 wh
   pub no_more : IsAtMost (cost_of (u ∷ instead)) (cost_of (u ∷ cells))
   pub smaller : IsSmaller (u ∷ instead) (u ∷ cells)
 
--- each turn that is not allowed has a replacement: two legal moves, from u to v in d and from v to w in e, where
--- e is not allowed after d
+-- each turn that is not allowed has a replacement: two legal moves, from u to v in d and from v to w in e,
+-- where e is not allowed after d
 abbrev pub TurnsAreReplaced : Type 0
 TurnsAreReplaced = (g : GridData) (u v w : Cell) (d e : Dir) → legal_ahead g u d ≡ Some v
     → legal_ahead g v e ≡ Some w

@@ -1,5 +1,5 @@
 -- Marks, stops and first stops as functions that compute.
-use Rattle.std.specs.Prelude.{◌≡◌, ℕ, zero, suc, ◌+◌, Bool, true, false, ◌&&◌, ◌||◌, refl, [], ◌∷◌, Option, Some, None, option_and_then, option_map, unwrap_or, is_some, if◌then◌else◌, codes}
+use Rattle.std.specs.Prelude.{◌≡◌, ℕ, zero, suc, ◌+◌, Bool, ◌&&◌, ◌||◌, refl, Option, Some, None, option_and_then, option_map, unwrap_or, is_some, if◌then◌else◌, codes}
 use Rattle.grid_moves.specs.declared.Cell.{Cell}
 use Rattle.grid_moves.specs.declared.Corner.TheVariants.{Never, One}
 use Rattle.grid_moves.specs.declared.Dir.{Dir}
@@ -17,8 +17,8 @@ first_within zero g d test x = None
 first_within (suc n) g d test x = option_and_then
     (λ v. if test v then Some 1 else option_map (λ k. suc k) (first_within n g d test v)) (legal_ahead g x d)
 
--- the number of moves, from 1, to the first cell of the legal run from x in d at which the test holds; no run is
--- longer than the sides together
+-- the number of moves, from 1, to the first cell of the legal run from x in d at which the test holds; no run
+-- is longer than the sides together
 abbrev pub first_on_run : GridData → Dir → (Cell → Bool) → Cell → Option ℕ
 first_on_run g d test x = first_within (g.width + g.height) g d test x
 
@@ -60,49 +60,61 @@ moves_within (suc n) g d x =
 abbrev pub run_length : GridData → Cell → Dir → ℕ
 run_length g x d = moves_within (g.width + g.height) g d x
 
+abbrev cell : ℕ → ℕ → Cell
+cell x y = record { x = x; y = y }
+
 -- round a pillar, to the lower right: two moves to a stop where no corner is cut, else one, and one more
-pub along_the_pillar : first_stop (pillar Never) (record { x = 2; y = 2 }) (record { x = 0; y = 0 }) E ≡ Some 2
+pub along_the_pillar : first_stop (pillar Never) (cell 2 2) (cell 0 0) E ≡ Some 2
 along_the_pillar = refl
 
-pub down_to_the_goal : first_stop (pillar Never) (record { x = 2; y = 2 }) (record { x = 2; y = 0 }) S ≡ Some 2
+pub down_to_the_goal : first_stop (pillar Never) (cell 2 2) (cell 2 0) S ≡ Some 2
 down_to_the_goal = refl
 
-pub to_its_corner : first_stop (pillar One) (record { x = 2; y = 2 }) (record { x = 0; y = 0 }) E ≡ Some 1
+pub to_its_corner : first_stop (pillar One) (cell 2 2) (cell 0 0) E ≡ Some 1
 to_its_corner = refl
 
-pub over_its_corner : first_stop (pillar One) (record { x = 2; y = 2 }) (record { x = 1; y = 0 }) SE ≡ Some 1
+pub over_its_corner : first_stop (pillar One) (cell 2 2) (cell 1 0) SE ≡ Some 1
 over_its_corner = refl
 
 -- on `...../.@...`, to the first mark
-pub mark_after_two : first_mark (notch Never) (record { x = 0; y = 0 }) E ≡ Some 2
+pub mark_after_two : first_mark (notch Never) (cell 0 0) E ≡ Some 2
 mark_after_two = refl
 
-pub mark_after_four : first_mark (notch Never) (record { x = 4; y = 0 }) W ≡ Some 4
+pub mark_after_four : first_mark (notch Never) (cell 4 0) W ≡ Some 4
 mark_after_four = refl
 
-pub mark_after_one : first_mark (notch One) (record { x = 0; y = 0 }) E ≡ Some 1
+pub mark_after_one : first_mark (notch One) (cell 0 0) E ≡ Some 1
 mark_after_one = refl
 
-pub no_mark_after_it : first_mark (notch One) (record { x = 1; y = 0 }) E ≡ None
+pub no_mark_after_it : first_mark (notch One) (cell 1 0) E ≡ None
 no_mark_after_it = refl
 
-pub three_moves_after_it : run_length (notch One) (record { x = 1; y = 0 }) E ≡ 3
+pub three_moves_after_it : run_length (notch One) (cell 1 0) E ≡ 3
 three_moves_after_it = refl
 
-pub no_way_down : first_mark (notch One) (record { x = 0; y = 0 }) SE ≡ None
+pub no_way_down : first_mark (notch One) (cell 0 0) SE ≡ None
 no_way_down = refl
 
+-- on `......./....@..` the goal stands before the mark
+abbrev wall_below : GridData
+wall_below = grid_of 7 2 (codes "...........@..") Never
+
+pub goal_before_the_mark : first_stop wall_below (cell 3 0) (cell 0 0) E ≡ Some 3
+goal_before_the_mark = refl
+
+pub mark_beyond_the_goal : first_mark wall_below (cell 0 0) E ≡ Some 5
+mark_beyond_the_goal = refl
+
 -- on `..../..@.` the goal's row is met at (1,1), but the run to the right of it is closed
-pub goal_behind_a_wall : first_stop (grid_of 4 2 (codes "......@.") Never) (record { x = 3; y = 1 })
-    (record { x = 0; y = 0 }) SE ≡ None
+pub goal_behind_a_wall : first_stop (grid_of 4 2 (codes "......@.") Never) (cell 3 1) (cell 0 0) SE ≡ None
 goal_behind_a_wall = refl
 
 -- on `..@./..../..../....` the marked cell (1,1) stops before the goal (3,3) on the same diagonal
 abbrev gap_above : GridData
 gap_above = grid_of 4 4 (codes "..@.............") Never
 
-pub mark_before_the_goal : first_stop gap_above (record { x = 3; y = 3 }) (record { x = 0; y = 0 }) SE ≡ Some 1
+pub mark_before_the_goal : first_stop gap_above (cell 3 3) (cell 0 0) SE ≡ Some 1
 mark_before_the_goal = refl
 
-pub goal_after_the_mark : first_stop gap_above (record { x = 3; y = 3 }) (record { x = 1; y = 1 }) SE ≡ Some 2
+pub goal_after_the_mark : first_stop gap_above (cell 3 3) (cell 1 1) SE ≡ Some 2
 goal_after_the_mark = refl

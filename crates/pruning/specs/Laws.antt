@@ -53,7 +53,8 @@ abbrev pub MarksAreTold : Type 0
 MarksAreTold = (g : GridData) (x : Cell) (d : Dir) → Tells (is_marked g x d) (IsMarked g x d)
 
 abbrev pub StopsAreTold : Type 0
-StopsAreTold = (g : GridData) (goal : Cell) (d : Dir) (v : Cell) → Tells (is_stop g goal d v) (IsStop g goal d v)
+StopsAreTold = (g : GridData) (goal : Cell) (d : Dir) (v : Cell)
+    → Tells (is_stop g goal d v) (IsStop g goal d v)
 
 -- the first stop that is computed is one
 abbrev pub FirstStopIsFirst : Type 0

@@ -1,6 +1,6 @@
 -- Forced neighbours, and the cells that are marked for having or seeing one.
 -- Harabor and Grastien: AAAI 2011 where corners may be cut, SoCS 2012 where none is.
-use Rattle.std.specs.Prelude.{◌≡◌, ℕ, zero, suc, ◌≤◌, Bool, true, false, not, ◌&&◌, ◌||◌, refl, [], ◌∷◌, Option, Some, option_and_then, if◌then◌else◌}
+use Rattle.std.specs.Prelude.{◌≡◌, ℕ, zero, suc, ◌≤◌, Bool, true, false, ◌&&◌, ◌||◌, refl, Option, Some, option_and_then, if◌then◌else◌}
 use Rattle.grid_moves.specs.declared.Cell.{Cell}
 use Rattle.grid_moves.specs.declared.Corner.{Corner}
 use Rattle.grid_moves.specs.declared.Corner.TheVariants.{Never, One}
@@ -19,9 +19,10 @@ use Rattle.pruning.specs.Allowed.{is_blocked, can_move}
 -- Where one may be: after a straight move, the cell half ahead, past a blocked one at that side; after a
 -- diagonal, the cell at that side, past a blocked one behind.
 abbrev pub is_forced_on : Corner → (Dir → Bool) → (Dir → Bool) → Dir → Side → Bool
-is_forced_on Never blocked can d s = not (is_diagonal d) && blocked (rear s d) && can (quarter s d)
-is_forced_on One blocked can d s = if is_diagonal d then blocked (rear s d) && can (quarter s d) else
-    blocked (quarter s d) && can (turn s d)
+is_forced_on Never blocked can d s =
+    if is_diagonal d then false else blocked (rear s d) && can (quarter s d)
+is_forced_on One blocked can d s =
+    if is_diagonal d then blocked (rear s d) && can (quarter s d) else blocked (quarter s d) && can (turn s d)
 
 -- after a move in d some neighbour is forced
 abbrev pub is_forced : GridData → Cell → Dir → Bool
@@ -42,8 +43,8 @@ pub record HoldsOnRun (g : GridData) (d : Dir) (x : Cell) (P : Cell → Type 0) 
   pub reached : run_end g d moves x ≡ Some cell
   pub holds : P cell
 
--- x is marked for d: a neighbour is forced there, or d is diagonal and the legal run in a component has a cell
--- that is marked for that component
+-- x is marked for d: a neighbour is forced there, or d is diagonal and the legal run in a component has a
+-- cell that is marked for that component
 pub data IsMarked (g : GridData) (x : Cell) (d : Dir) : Type 0 where
   forces : is_forced g x d ≡ true → IsMarked g x d
   looks_out : is_diagonal d ≡ true → (s : Side)

@@ -14,7 +14,7 @@
 //! after a diagonal move nothing is forced. Where one blocked cell may be passed (AAAI 2011) it stands at
 //! the side of `x`, and after a diagonal move behind it; `n` is forced.
 
-ghost use Rattle.std.specs.Prelude.{◌≡◌, ◌<◌, ◌≤◌, IsTrue, false, List, filter, length};
+ghost use Rattle.std.specs.Prelude.{◌≡◌, ◌≤◌, ◌&&◌, IsTrue, false, List, filter, length};
 ghost use Rattle.grid_moves.specs.Grid.{IsGrid, is_free};
 ghost use Rattle.grid_moves.specs.Move as moves;
 ghost use Rattle.pruning.specs.Turns as turns;
@@ -132,6 +132,15 @@ pub fn allowed<T: Terrain>(t: &T, at: Cell, by: Arrival) -> ArrayVec<Dir, 8>
     allowed_of(t, at, by, &ALL_DIRS)
 }
 
+// Whether there is a wall in one direction, and the move in another is legal.
+fn goes_past_wall<T: Terrain>(t: &T, at: Cell, wall: Dir, to: Dir) -> bool
+    requires free { IsTrue (is_free (T.grid t.now) at) }
+    requires whole { IsGrid (T.grid t.now) }
+    ensures { result ≡ (spec.is_blocked (T.grid t.now) at wall && spec.can_move (T.grid t.now) at to) }
+{
+    is_blocked(t, at, wall) && can_move(t, at, to)
+}
+
 // Whether a neighbour on this side is forced.
 fn is_forced_on<T: Terrain>(t: &T, at: Cell, d: Dir, side: Side) -> bool
     requires free { IsTrue (is_free (T.grid t.now) at) }
@@ -140,15 +149,10 @@ fn is_forced_on<T: Terrain>(t: &T, at: Cell, d: Dir, side: Side) -> bool
         (spec.can_move (T.grid t.now) at) d side }
 {
     match t.corner() {
-        Corner::Never => {
-            !is_diagonal(d)
-                && is_blocked(t, at, rear(side, d))
-                && can_move(t, at, quarter(side, d))
-        }
-        Corner::One if is_diagonal(d) => {
-            is_blocked(t, at, rear(side, d)) && can_move(t, at, quarter(side, d))
-        }
-        Corner::One => is_blocked(t, at, quarter(side, d)) && can_move(t, at, turn(side, d)),
+        Corner::Never if is_diagonal(d) => false,
+        Corner::Never => goes_past_wall(t, at, rear(side, d), quarter(side, d)),
+        Corner::One if is_diagonal(d) => goes_past_wall(t, at, rear(side, d), quarter(side, d)),
+        Corner::One => goes_past_wall(t, at, quarter(side, d), turn(side, d)),
     }
 }
 
