@@ -1,5 +1,5 @@
 -- What lies beyond a cell: whether it is free, and whether the move there is legal.
-use Rattle.std.proofs.Common.{◌≡◌, ◌<◌, arith, Bool, true, false, ◌&&◌, refl, ap, sym, ◌∙◌}
+use Rattle.std.proofs.Common.{◌≡◌, arith, Bool, true, false, ◌&&◌, refl, ap, sym, ◌∙◌}
 use Rattle.std.specs.Prelude.{Option, Some, None, is_some, nat_lt, if◌then◌else◌}
 use Rattle.std.proofs.lemmas.Bool.Decides.{nat_tests}
 use Rattle.grid_moves.specs.declared.Cell.{Cell}

@@ -1,11 +1,10 @@
 -- A diagonal jump stops at the goal, where a neighbour is forced, and where a straight jump in a component stops.
-use Rattle.std.proofs.Common.{◌≡◌, ℕ, zero, suc, ◌+◌, arith, Bool, true, false, not, ◌&&◌, ◌||◌, refl, ap, sym, ◌∙◌}
+use Rattle.std.proofs.Common.{◌≡◌, ℕ, zero, suc, ◌+◌, arith, Bool, true, false, not, ◌||◌, refl, ap, sym, ◌∙◌}
 use Rattle.std.specs.Prelude.{Option, Some, None, is_some, option_and_then, option_map, if◌then◌else◌}
 use Rattle.grid_moves.specs.declared.Cell.{Cell}
 use Rattle.grid_moves.specs.declared.Dir.{Dir}
 use Rattle.grid_moves.specs.Grid.{GridData}
 use Rattle.grid_moves.specs.Move.{is_same, legal_ahead}
-use Rattle.pruning.specs.declared.turns.Side.{Side}
 use Rattle.pruning.specs.declared.turns.Side.TheVariants.{Right, Left}
 use Rattle.pruning.specs.Turns.{turn, is_diagonal}
 use Rattle.pruning.specs.Marked.{is_forced}
@@ -65,7 +64,7 @@ straight_finds : (g : GridData) (goal x : Cell) (d : Dir) → is_diagonal d ≡ 
 straight_finds g goal x d h = either_within g d (is_stop g goal d) (λ u. is_same u goal)
     (λ u. is_forced g u d) (λ v. is_stop-straight g goal d v h) (g.width + g.height) x
 
-pub is_stop-diagonal : (g : GridData) (goal : Cell) (d : Dir) (v : Cell) → is_diagonal d ≡ true
+is_stop-diagonal : (g : GridData) (goal : Cell) (d : Dir) (v : Cell) → is_diagonal d ≡ true
     → is_stop g goal d v ≡ (is_same v goal || is_forced g v d
     || is_some (first_stop g goal v (turn Right d)) || is_some (first_stop g goal v (turn Left d)))
 is_stop-diagonal g goal d v h = rw (
@@ -78,6 +77,12 @@ is_stop-diagonal g goal d v h = rw (
     regroup : (a b c d e f : Bool)
         → ((a || (b || (e || f))) || (c || d)) ≡ (((a || b) || (c || e)) || (d || f))
     regroup a b c d e f = grind arith
+
+-- the same as code reads it
+pub is_stop-read : (g : GridData) (goal : Cell) (d : Dir) (v : Cell) → is_diagonal d ≡ true → (read b : Bool)
+    → read ≡ (is_same v goal || is_forced g v d || is_some (first_stop g goal v (turn Right d))
+    || is_some (first_stop g goal v (turn Left d))) → read ≡ b → is_stop g goal d v ≡ b
+is_stop-read g goal d v h read b e f = is_stop-diagonal g goal d v h ∙ sym e ∙ f
 
 -- a stop that many moves later
 abbrev pub later : ℕ → Option ℕ → Option ℕ

@@ -1,23 +1,17 @@
 -- How far scans reach, from cell to cell.
-use Rattle.std.proofs.Common.{◌≡◌, ℕ, zero, suc, ◌+◌, ◌<◌, ◌≤◌, arith, Bool, true, false, not, ◌&&◌, ◌||◌, refl, ap, sym, ◌∙◌, subst}
+use Rattle.std.proofs.Common.{◌≡◌, ℕ, zero, suc, ◌+◌, ◌≤◌, arith, Bool, true, false, refl, ap, sym, ◌∙◌}
 use Rattle.std.specs.Prelude.{Option, Some, None, is_some, option_and_then, option_map, nat_le, if◌then◌else◌}
 use Rattle.std.proofs.lemmas.Bool.Decides.{nat_tests}
 use Rattle.grid_moves.specs.declared.Cell.{Cell}
-use Rattle.grid_moves.specs.declared.Corner.{Corner}
-use Rattle.grid_moves.specs.declared.Corner.TheVariants.{Never, One}
 use Rattle.grid_moves.specs.declared.Dir.{Dir}
-use Rattle.grid_moves.specs.Grid.{GridData, is_free}
-use Rattle.grid_moves.specs.Move.{legal_ahead, is_open, is_passable}
-use Rattle.pruning.specs.declared.turns.Side.{Side}
-use Rattle.pruning.specs.declared.turns.Side.TheVariants.{Right, Left}
-use Rattle.pruning.specs.Turns.{turn, quarter, rear, is_diagonal}
-use Rattle.pruning.specs.Allowed.{is_blocked, can_move}
-use Rattle.pruning.specs.Marked.{is_forced, is_forced_on, run_end}
+use Rattle.grid_moves.specs.Grid.{GridData}
+use Rattle.grid_moves.specs.Move.{legal_ahead}
+use Rattle.pruning.specs.Marked.{is_forced, run_end}
 use Rattle.pruning.specs.First.{first_within, first_on_run, run_length}
 use Rattle.pruning.proofs.Runs.{run_short, run_length_is_told}
 use Rattle.pruning.proofs.Firsts.{first_on_run-next, first_on_run-none}
 use Rattle.jump_plain.specs.declared.scan.Reach.{Reach}
-use Rattle.jump_plain.specs.Reach.{reach_to, reach_of, reach_at, further, left_at}
+use Rattle.jump_plain.specs.Reach.{reach_to, reach_of, reach_at, further}
 
 -- two lengths that the same runs have are one
 same_length : (m n : ℕ) → ((k : ℕ) → nat_le k m ≡ nat_le k n) → m ≡ n

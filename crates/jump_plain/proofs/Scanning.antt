@@ -1,6 +1,6 @@
 -- A scan from cell to cell: what it has still to find.
-use Rattle.std.proofs.Common.{◌≡◌, ℕ, zero, suc, ◌+◌, ◌≤◌, arith, Bool, true, false, refl, ap, sym, ◌∙◌}
-use Rattle.std.specs.Prelude.{Option, Some, None, is_some, if◌then◌else◌}
+use Rattle.std.proofs.Common.{◌≡◌, ℕ, ◌+◌, ◌≤◌, arith, Bool, true, false, refl, ap, sym, ◌∙◌}
+use Rattle.std.specs.Prelude.{Option, Some, None, is_some}
 use Rattle.grid_moves.specs.declared.Cell.{Cell}
 use Rattle.grid_moves.specs.declared.Corner.{Corner}
 use Rattle.grid_moves.specs.declared.Corner.TheVariants.{Never, One}
@@ -14,13 +14,13 @@ use Rattle.pruning.proofs.Moves.{can_move-straight}
 use Rattle.jump_plain.specs.declared.beside.Sides.{Sides}
 use Rattle.jump_plain.specs.declared.scan.Reach.{Reach}
 use Rattle.jump_plain.specs.Beside.{sides_of, opens}
-use Rattle.jump_plain.specs.Reach.{reach_of, reach_at, further, left_at, mark_of}
+use Rattle.jump_plain.specs.Reach.{reach_of, reach_at, further, left_at, mark_ahead}
 use Rattle.jump_plain.proofs.Forcing.{is_forced-there, is_forced-here, is_forced-nowhere}
 use Rattle.jump_plain.proofs.Reaching.{reach-next, reach-none}
 
-pub mark_of-near : (r : Corner) (mark : Reach) → mark ≡ mark_of r → mark.moves ≤ 1
-mark_of-near Never mark e = let same : mark.moves ≡ 1 = ap (λ (m : Reach). m.moves) e in omega arith
-mark_of-near One mark e = let same : mark.moves ≡ 0 = ap (λ (m : Reach). m.moves) e in omega arith
+pub mark_ahead-near : (r : Corner) → mark_ahead r ≤ 1
+mark_ahead-near Never = omega arith
+mark_ahead-near One = omega arith
 
 abbrev marked_here : Reach
 marked_here = record { moves = 0; marked = true }
@@ -44,7 +44,7 @@ module _ (g : GridData) (u : Cell) (d : Dir) (h : is_diagonal d ≡ false) where
   module _ (v : Cell) (l : Leads g u v d) (k : legal_ahead g u d ≡ Some v) where
     -- a mark shows
     pub left_at-opens : (r : Corner) → r ≡ g.corner → opens (sides_of g u d) (sides_of g v d) ≡ true
-        → left_at r g u d ≡ mark_of r
+        → left_at r g u d ≡ record { moves = mark_ahead r; marked = true }
     left_at-opens Never e o = reach-next g u v d k
         ∙ ap (λ (r : Reach). further 1 r) (at_mark v (is_forced-there g u v d l (sym e) h ∙ o))
     left_at-opens One e o = at_mark u (is_forced-here g u v d l (sym e) h ∙ o)
@@ -77,9 +77,10 @@ module _ (moves : ℕ) (all rest : Reach) (so_far : all ≡ further moves rest) 
       nothing : (n : ℕ) → n + 0 ≡ n
       nothing n = omega arith
 
-  pub reached_mark : (r : Corner) (mark : Reach) → mark ≡ mark_of r → rest ≡ mark_of r
-      → record { moves = moves + mark.moves; marked = mark.marked } ≡ all
-  reached_mark r mark f e = sym (so_far ∙ ap (λ (m : Reach). further moves m) (e ∙ sym f))
+  pub reached_mark : (r : Corner) (ahead : ℕ) → ahead ≡ mark_ahead r
+      → rest ≡ record { moves = mark_ahead r; marked = true } → record { moves = moves + ahead; marked = true } ≡ all
+  reached_mark r ahead f e = sym (so_far ∙ ap (λ (m : Reach). further moves m) e
+      ∙ ap (λ (n : ℕ). let r : Reach = record { moves = moves + n; marked = true } in r) (sym f))
 
   pub reached_next : (next : Reach) → rest ≡ further 1 next → all ≡ further (moves + 1) next
   reached_next next e = so_far ∙ ap (λ (m : Reach). further moves m) e

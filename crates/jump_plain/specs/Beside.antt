@@ -1,5 +1,5 @@
 -- The cells beside a cell, by column and row, with no case for the border of the map.
-use Rattle.std.specs.Prelude.{◌≡◌, Bool, not, ◌&&◌, ◌||◌, Option, Some, None, nat_lt, if◌then◌else◌}
+use Rattle.std.specs.Prelude.{Bool, not, ◌&&◌, ◌||◌, Option, Some, None, nat_lt, if◌then◌else◌}
 use Rattle.grid_moves.specs.declared.Cell.{Cell}
 use Rattle.grid_moves.specs.declared.Dir.{Dir}
 use Rattle.grid_moves.specs.Grid.{GridData}

@@ -1,5 +1,5 @@
 -- How far a scan along a straight run reaches, and the first stop that follows from it.
-use Rattle.std.specs.Prelude.{◌≡◌, ℕ, zero, suc, ◌+◌, ◌-◌, Bool, true, false, ◌&&◌, nat_lt, nat_le, nat_eq, Option, Some, None, if◌then◌else◌, refl}
+use Rattle.std.specs.Prelude.{◌≡◌, ℕ, ◌+◌, ◌-◌, true, false, ◌&&◌, nat_lt, nat_le, nat_eq, Option, Some, None, if◌then◌else◌, refl}
 use Rattle.grid_moves.specs.declared.Cell.{Cell}
 use Rattle.grid_moves.specs.declared.Corner.{Corner}
 use Rattle.grid_moves.specs.declared.Corner.TheVariants.{Never, One}
@@ -34,10 +34,10 @@ abbrev pub left_at : Corner → GridData → Cell → Dir → Reach
 left_at Never g x d = reach_of g x d
 left_at One g x d = reach_at g x d
 
--- the mark that the move from u to the next cell shows is the next cell's where no corner is cut, and else u's
-abbrev pub mark_of : Corner → Reach
-mark_of Never = record { moves = 1; marked = true }
-mark_of One = record { moves = 0; marked = true }
+-- the mark that the move from u to the next cell shows stands at the next cell where no corner is cut, else at u
+abbrev pub mark_ahead : Corner → ℕ
+mark_ahead Never = 1
+mark_ahead One = 0
 
 -- the number of moves in a straight d that lead from u to v, or 0 where none do
 abbrev pub moves_to : Dir → Cell → Cell → ℕ

@@ -79,6 +79,6 @@ impl Sides {
     pub fn opens(self, next: Sides) -> bool
         ensures { result ≡ spec.opens self next }
     {
-        (!self.right && next.right) || (!self.left && next.left)
+        (!self.right & next.right) | (!self.left & next.left)
     }
 }

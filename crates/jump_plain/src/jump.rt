@@ -161,7 +161,8 @@ fn diagonal_stop<T: Terrain>(t: &T, at: Cell, d: Dir, goal: Cell) -> Option<u16>
 }
 
 /// After how many moves a jump from a free cell stops: at the least number, from 1, or `None` where the
-/// legal run ends first. Each direction has a loop of its own.
+/// legal run ends first. Each direction has loops of its own, in which its steps are constants.
+#[inline(never)]
 pub fn first_stop<T: Terrain>(t: &T, at: Cell, d: Dir, goal: Cell) -> Option<u16>
     requires free { is_free (T.grid t.now) at ≡ true }
     requires whole { IsGrid (T.grid t.now) }

@@ -13,3 +13,6 @@ mod scan;
 mod source;
 
 pub use source::PlainJumps;
+
+#[cfg(test)]
+mod tests;

@@ -28,20 +28,14 @@ pub struct Reach {
     pub marked: bool,
 }
 
-// The mark that shows on a move, told by the rule.
+// How many moves past a cell the mark stands that the move on from it shows.
 #[inline(always)]
-fn mark_of(rule: Corner) -> Reach
-    ensures { result ≡ spec.mark_of rule }
+fn mark_ahead(rule: Corner) -> u16
+    ensures { result ≡ spec.mark_ahead rule }
 {
     match rule {
-        Corner::Never => Reach {
-            moves: 1,
-            marked: true,
-        },
-        Corner::One => Reach {
-            moves: 0,
-            marked: true,
-        },
+        Corner::Never => 1,
+        Corner::One => 0,
     }
 }
 
@@ -60,10 +54,9 @@ fn scan_on<T: Terrain>(t: &T, rule: Corner, from: Cell, d: Dir) -> Reach
     'run: while let Some(next) = straight_ahead(t, cell, d) {
         let sides_then = Sides::of(t, next, d);
         if sides.opens(sides_then) {
-            let mark = mark_of(rule);
             return Reach {
-                moves: moves + mark.moves,
-                marked: mark.marked,
+                moves: moves + mark_ahead(rule),
+                marked: true,
             };
         }
         cell = next;

@@ -30,23 +30,12 @@ impl<'a, T: Terrain> JumpSource for PlainJumps<'a, T> {
         self.terrain.height()
     }
 
-    fn stop<L: Ledger>(
-        &self,
-        at: Cell,
-        d: Dir,
-        goal: Cell,
-        _steps: &mut Steps<L>,
-    ) -> Option<u16> {
+    fn stop<L: Ledger>(&self, at: Cell, d: Dir, goal: Cell, _steps: &mut Steps<L>) -> Option<u16> {
         let _whole = self.terrain.width();
         first_stop(self.terrain, at, d, goal)
     }
 
-    fn allowed<L: Ledger>(
-        &self,
-        at: Cell,
-        by: Arrival,
-        _steps: &mut Steps<L>,
-    ) -> ArrayVec<Dir, 8> {
+    fn allowed<L: Ledger>(&self, at: Cell, by: Arrival, _steps: &mut Steps<L>) -> ArrayVec<Dir, 8> {
         let _whole = self.terrain.width();
         allowed(self.terrain, at, by)
     }

@@ -1,7 +1,5 @@
-use Rattle.std.proofs.Common.{◌≡◌, ◌∙◌, Bool, true, false, ◌&&◌, sym}
-use Rattle.grid_moves.specs.Grid.{GridData, is_free}
-use Rattle.grid_moves.specs.Move.{is_passable}
-use Rattle.pruning.specs.Allowed.{can_move}
+use Rattle.std.proofs.Common.{◌∙◌, sym}
+use Rattle.grid_moves.specs.Grid.{GridData}
 use Rattle.jump_plain.proofs.Besides.{beyond_diagonal, beyond_legal, beyond_stuck}
 use Rattle.jump_plain.proofs.Forcing.{clear_past}
 use Rattle.jump_plain.proofs.jump.diagonal_ahead.Goals as goal

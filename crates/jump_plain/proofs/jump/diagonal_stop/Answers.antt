@@ -1,12 +1,10 @@
-use Rattle.std.proofs.Common.{◌≡◌, ◌+◌, ◌<◌, ◌≤◌, ◌∙◌, true, false, suc, arith, sym, ap}
-use Rattle.std.specs.Prelude.{Some, None}
-use Rattle.grid_moves.specs.Grid.{GridData, is_free}
-use Rattle.grid_moves.specs.Move.{legal_ahead}
+use Rattle.std.proofs.Common.{true, false, arith, sym}
+use Rattle.grid_moves.specs.Grid.{GridData}
 use Rattle.grid_moves.proofs.Legal.{legal_is}
-use Rattle.pruning.specs.First.{first_stop, run_length}
-use Rattle.pruning.proofs.Bridging.{Leads, legal_leads}
+use Rattle.pruning.specs.First.{first_stop}
+use Rattle.pruning.proofs.Bridging.{legal_leads}
 use Rattle.jump_plain.proofs.Reaching.{run_length-next, run_length-few}
-use Rattle.jump_plain.proofs.Diagonal.{is_stop-diagonal, stops_nowhere, stops_here, stops_later}
+use Rattle.jump_plain.proofs.Diagonal.{is_stop-read, stops_nowhere, stops_here, stops_later}
 use Rattle.jump_plain.proofs.jump.diagonal_stop.Goals as goal
 
 pub overflow_add-moves : goal.overflow_add-moves
@@ -31,8 +29,8 @@ returns-then-stops_at g c =
     stops_here grid c.args.goal c.run.cell c.args.d c.run.moves
     (first_stop grid c.args.goal c.args.at c.args.d) c.run.invariant.stop c.in-Some.next.cell
     (sym c.in-Some.ensures.legal)
-    (is_stop-diagonal grid c.args.goal c.args.d c.in-Some.next.cell c.requires.diagonal
-    ∙ sym c.stops_at.ensures ∙ c.if-stops_at.true)
+    (is_stop-read grid c.args.goal c.args.d c.in-Some.next.cell c.requires.diagonal c.stops_at.result
+    true c.stops_at.ensures c.if-stops_at.true)
 
 pub run-smaller : goal.run-smaller
 run-smaller g c =
@@ -49,8 +47,8 @@ run-preserved g c =
           (legal_leads grid c.run.cell c.in-Some.next.cell c.args.d legal).legal).target;
       stop = stops_later grid c.args.goal c.run.cell c.args.d c.run.moves
           (first_stop grid c.args.goal c.args.at c.args.d) c.run.invariant.stop c.in-Some.next.cell legal
-          (is_stop-diagonal grid c.args.goal c.args.d c.in-Some.next.cell c.requires.diagonal
-          ∙ sym c.stops_at.ensures ∙ c.if-stops_at.false);
+          (is_stop-read grid c.args.goal c.args.d c.in-Some.next.cell c.requires.diagonal
+          c.stops_at.result false c.stops_at.ensures c.if-stops_at.false);
       run = let next = run_length-next grid c.run.cell c.in-Some.next.cell c.args.d legal in
           let run = c.run.invariant.run in
           omega arith;

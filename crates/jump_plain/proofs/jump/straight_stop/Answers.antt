@@ -1,5 +1,4 @@
-use Rattle.std.proofs.Common.{◌≡◌, ◌∙◌, sym}
-use Rattle.jump_plain.specs.Reach.{stop_of}
+use Rattle.std.proofs.Common.{◌∙◌, sym}
 use Rattle.jump_plain.proofs.Straight.{straight_stop}
 use Rattle.jump_plain.proofs.jump.straight_stop.Goals as goal
 

@@ -1,14 +1,11 @@
-use Rattle.std.proofs.Common.{◌≡◌, ◌+◌, ◌<◌, ◌≤◌, ◌∙◌, true, false, suc, arith, sym, ap}
-use Rattle.std.specs.Prelude.{Some, None}
-use Rattle.grid_moves.specs.Grid.{GridData, is_free}
-use Rattle.grid_moves.specs.Move.{legal_ahead, is_open}
+use Rattle.std.proofs.Common.{true, false, arith, sym}
+use Rattle.grid_moves.specs.Grid.{GridData}
 use Rattle.grid_moves.proofs.Legal.{legal_is}
-use Rattle.pruning.specs.First.{run_length}
-use Rattle.pruning.proofs.Bridging.{Leads, legal_leads}
-use Rattle.jump_plain.specs.Beside.{opens, sides_of}
+use Rattle.pruning.proofs.Bridging.{legal_leads}
+use Rattle.jump_plain.specs.Beside.{sides_of}
 use Rattle.jump_plain.specs.Reach.{left_at}
 use Rattle.jump_plain.proofs.Reaching.{run_length-next, run_length-few}
-use Rattle.jump_plain.proofs.Scanning.{left_at-none, left_at-opens, left_at-next, reached_end, reached_mark, reached_next, mark_of-near, sides_opened, shut_ahead}
+use Rattle.jump_plain.proofs.Scanning.{left_at-none, left_at-opens, left_at-next, reached_end, reached_mark, reached_next, mark_ahead-near, sides_opened, shut_ahead}
 use Rattle.jump_plain.proofs.scan.scan_on.Goals as goal
 
 pub of-sides_then-requires-clause-free : goal.of-sides_then-requires-clause-free
@@ -20,7 +17,8 @@ of-sides_then-requires-clause-free g c =
 pub overflow_add-result : goal.overflow_add-result
 overflow_add-result g c =
     let grid : GridData = g.T.Terrain.grid c.args.t.now in
-    let near = mark_of-near c.args.rule c.mark_of-mark.result c.mark_of-mark.ensures in
+    let near = mark_ahead-near c.args.rule in
+    let ahead = c.mark_ahead.ensures in
     let few = run_length-few grid c.args.from c.args.d in
     let wide = c.requires.whole.sides.narrow in
     let high = c.requires.whole.sides.low in
@@ -35,8 +33,8 @@ returns-then-opens g c =
     (sides_of grid c.in-Some.next c.args.d) c.run.sides c.of-sides_then.result c.opens.result true
     c.run.invariant.sides c.of-sides_then.ensures c.opens.ensures c.if-opens.true in
     reached_mark c.run.moves (left_at c.args.rule grid c.args.from c.args.d)
-    (left_at c.args.rule grid c.run.cell c.args.d) c.run.invariant.left c.args.rule c.mark_of-mark.result
-    c.mark_of-mark.ensures
+    (left_at c.args.rule grid c.run.cell c.args.d) c.run.invariant.left c.args.rule c.mark_ahead.result
+    c.mark_ahead.ensures
     (left_at-opens grid c.run.cell c.args.d c.requires.straight c.in-Some.next
     (legal_leads grid c.run.cell c.in-Some.next c.args.d legal) legal c.args.rule c.requires.rule shown)
 

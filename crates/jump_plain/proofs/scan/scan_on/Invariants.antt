@@ -1,4 +1,4 @@
-use Rattle.std.proofs.Common.{◌≡◌, ◌+◌, ◌≤◌, true}
+use Rattle.std.proofs.Common.{◌≡◌, ◌+◌, true}
 use Rattle.grid_moves.specs.Grid.{is_free}
 use Rattle.pruning.specs.First.{run_length}
 use Rattle.jump_plain.specs.Beside.{sides_of}

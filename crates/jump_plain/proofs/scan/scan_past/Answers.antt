@@ -1,8 +1,7 @@
-use Rattle.std.proofs.Common.{◌≡◌, ◌+◌, ◌≤◌, ◌∙◌, arith, sym, ap}
-use Rattle.grid_moves.specs.Grid.{GridData, is_free}
+use Rattle.std.proofs.Common.{arith, sym, ap}
+use Rattle.grid_moves.specs.Grid.{GridData}
 use Rattle.jump_plain.specs.declared.scan.Reach.{Reach}
-use Rattle.jump_plain.specs.Reach.{further, reach_of, reach_at}
-use Rattle.jump_plain.proofs.Reaching.{reach-next, reach-none, reach-few}
+use Rattle.jump_plain.proofs.Reaching.{reach-none, reach-few}
 use Rattle.jump_plain.proofs.Scanning.{after_first}
 use Rattle.jump_plain.proofs.scan.scan_past.Goals as goal
 
