@@ -14,6 +14,7 @@ ghost use Rattle.std.specs.Prelude.{◌≡◌, ◌+◌, ◌≤◌, false, true};
 ghost use Rattle.grid_moves.specs.Grid.{IsGrid, is_free};
 ghost use Rattle.pruning.specs.Turns.{is_diagonal};
 ghost use Rattle.pruning.specs.First.{run_length};
+ghost use Rattle.jump_plain.specs.Beside as besides;
 ghost use Rattle.jump_plain.specs.Reach as spec;
 
 use crate::beside::{Sides, straight_ahead};
@@ -39,33 +40,22 @@ fn mark_ahead(rule: Corner) -> u16
     }
 }
 
-// What is left to find from a cell of a run on. Where a corner may be cut, the cell itself may have a mark.
+// The sides with which a scan begins. Where a corner may be cut, the first move would show a mark of the
+// cell where the scan stands, which is not looked for: so both count as free.
 #[inline(always)]
-fn scan_on<T: Terrain>(t: &T, rule: Corner, from: Cell, d: Dir) -> Reach
-    requires rule { rule ≡ (T.grid t.now).corner }
+fn first_sides<T: Terrain>(t: &T, rule: Corner, at: Cell, d: Dir, on_map: Sides) -> Sides
     requires straight { is_diagonal d ≡ false }
-    requires free { is_free (T.grid t.now) from ≡ true }
+    requires free { is_free (T.grid t.now) at ≡ true }
     requires whole { IsGrid (T.grid t.now) }
-    ensures { result ≡ spec.left_at rule (T.grid t.now) from d }
+    requires on_map { on_map ≡ besides.sides_on_map (T.grid t.now) at d }
+    ensures { result ≡ spec.first_sides rule (T.grid t.now) at d }
 {
-    let mut cell = from;
-    let mut sides = Sides::of(t, cell, d);
-    let mut moves = 0;
-    'run: while let Some(next) = straight_ahead(t, cell, d) {
-        let sides_then = Sides::of(t, next, d);
-        if sides.opens(sides_then) {
-            return Reach {
-                moves: moves + mark_ahead(rule),
-                marked: true,
-            };
-        }
-        cell = next;
-        sides = sides_then;
-        moves += 1;
-    }
-    Reach {
-        moves,
-        marked: false,
+    match rule {
+        Corner::Never => Sides::of(t, at, d, on_map),
+        Corner::One => Sides {
+            right: true,
+            left: true,
+        },
     }
 }
 
@@ -79,32 +69,24 @@ pub fn scan<T: Terrain>(t: &T, at: Cell, d: Dir) -> Reach
     ensures { result ≡ spec.reach_of (T.grid t.now) at d }
 {
     let rule = t.corner();
-    match rule {
-        Corner::Never => scan_on(t, Corner::Never, at, d),
-        Corner::One => scan_past(t, at, d),
-    }
-}
-
-// The same where a corner may be cut: from the first cell of the run on, which may have a mark.
-#[inline(always)]
-fn scan_past<T: Terrain>(t: &T, at: Cell, d: Dir) -> Reach
-    requires rule { (T.grid t.now).corner ≡ Corner.One }
-    requires straight { is_diagonal d ≡ false }
-    requires free { is_free (T.grid t.now) at ≡ true }
-    requires whole { IsGrid (T.grid t.now) }
-    ensures { result ≡ spec.reach_of (T.grid t.now) at d }
-{
-    match straight_ahead(t, at, d) {
-        Some(first) => {
-            let rest = scan_on(t, Corner::One, first, d);
-            Reach {
-                moves: rest.moves + 1,
-                marked: rest.marked,
-            }
+    let on_map = Sides::on_map(t, at, d);
+    let mut sides = first_sides(t, rule, at, d, on_map);
+    let mut cell = at;
+    let mut moves = 0;
+    'run: while let Some(next) = straight_ahead(t, cell, d) {
+        let sides_then = Sides::of(t, next, d, on_map);
+        if sides.opens(sides_then) {
+            return Reach {
+                moves: moves + mark_ahead(rule),
+                marked: true,
+            };
         }
-        None => Reach {
-            moves: 0,
-            marked: false,
-        },
+        cell = next;
+        sides = sides_then;
+        moves += 1;
+    }
+    Reach {
+        moves,
+        marked: false,
     }
 }
