@@ -140,8 +140,4 @@ impl Terrain for Grid {
             && c.y < self.height
             && self.cells[c.y as usize * self.width as usize + c.x as usize]
     }
-
-    fn free_inside(&self, c: Cell) -> bool {
-        self.cells[c.y as usize * self.width as usize + c.x as usize]
-    }
 }

@@ -1,7 +1,7 @@
 //! What a search asks of a grid, and the legal moves on it.
 
-ghost use Rattle.std.specs.Prelude.{◌≡◌, true, ◌+◌, ◌*◌, ◌<◌, ◌≤◌, IfSome};
-ghost use Rattle.grid_moves.specs.Grid.{GridData, IsGrid, is_free, is_inside, cell_number};
+ghost use Rattle.std.specs.Prelude.{◌≡◌, ◌+◌, ◌*◌, ◌<◌, ◌≤◌, IfSome};
+ghost use Rattle.grid_moves.specs.Grid.{GridData, IsGrid, is_free, cell_number};
 ghost use Rattle.grid_moves.specs.Move as spec;
 
 use crate::moves::cell_ahead;
@@ -28,14 +28,6 @@ pub trait Terrain {
     /// Whether the cell is free; none outside is.
     fn free(&self, c: Cell) -> bool
         ensures { result ≡ is_free (grid self.now) c };
-
-    /// The same for a cell that is known to lie on the map, which a grid need not test again.
-    fn free_inside(&self, c: Cell) -> bool
-        requires { is_inside (grid self.now) c ≡ true }
-        ensures { result ≡ is_free (grid self.now) c }
-    {
-        self.free(c)
-    }
 }
 
 /// The number of a cell on a map of this width: row by row from the upper left, from 0.

@@ -1,8 +1,7 @@
 -- The cells beside a cell, by column and row, with no case for the border of the map.
-use Rattle.std.specs.Prelude.{◌≡◌, ◌+◌, Bool, false, not, ◌&&◌, ◌||◌, Option, Some, None, nat_lt, if◌then◌else◌}
+use Rattle.std.specs.Prelude.{Bool, not, ◌&&◌, ◌||◌, Option, Some, None, nat_lt, if◌then◌else◌}
 use Rattle.grid_moves.specs.declared.Cell.{Cell}
 use Rattle.grid_moves.specs.declared.Dir.{Dir}
-use Rattle.grid_moves.specs.declared.Dir.TheVariants.{N, NE, E, SE, S, SW, W, NW}
 use Rattle.grid_moves.specs.Grid.{GridData}
 use Rattle.grid_moves.specs.Move.{is_open}
 use Rattle.pruning.specs.declared.turns.Side.TheVariants.{Right, Left}
@@ -12,21 +11,6 @@ use Rattle.jump_plain.specs.declared.beside.Sides.{Sides}
 -- a column or row of 65535 stands for the one before the first: no map has it
 abbrev pub known : Cell → Option Cell
 known v = if nat_lt v.x 65535 && nat_lt v.y 65535 then Some v else None
-
--- the next cell in a straight direction lies on the map
-abbrev pub has_next : GridData → Cell → Dir → Bool
-has_next g c N = nat_lt 0 c.y
-has_next g c NE = false
-has_next g c E = nat_lt (c.x + 1) g.width
-has_next g c SE = false
-has_next g c S = nat_lt (c.y + 1) g.height
-has_next g c SW = false
-has_next g c W = nat_lt 0 c.x
-has_next g c NW = false
-
--- which of the two cells at right angles to d lie on the map
-abbrev pub sides_on_map : GridData → Cell → Dir → Sides
-sides_on_map g c d = record { right = has_next g c (quarter Right d); left = has_next g c (quarter Left d) }
 
 -- which of the two cells at right angles to d are free
 abbrev pub sides_of : GridData → Cell → Dir → Sides

@@ -160,44 +160,6 @@ fn diagonal_stop<T: Terrain>(t: &T, at: Cell, d: Dir, goal: Cell) -> Option<u16>
     None
 }
 
-// The four diagonal jumps. Each has loops of its own, in which its steps are constants.
-
-#[inline(never)]
-fn northeast_stop<T: Terrain>(t: &T, at: Cell, goal: Cell) -> Option<u16>
-    requires free { is_free (T.grid t.now) at ≡ true }
-    requires whole { IsGrid (T.grid t.now) }
-    ensures { result ≡ first.first_stop (T.grid t.now) goal at Dir.NE }
-{
-    diagonal_stop(t, at, Dir::NE, goal)
-}
-
-#[inline(never)]
-fn southeast_stop<T: Terrain>(t: &T, at: Cell, goal: Cell) -> Option<u16>
-    requires free { is_free (T.grid t.now) at ≡ true }
-    requires whole { IsGrid (T.grid t.now) }
-    ensures { result ≡ first.first_stop (T.grid t.now) goal at Dir.SE }
-{
-    diagonal_stop(t, at, Dir::SE, goal)
-}
-
-#[inline(never)]
-fn southwest_stop<T: Terrain>(t: &T, at: Cell, goal: Cell) -> Option<u16>
-    requires free { is_free (T.grid t.now) at ≡ true }
-    requires whole { IsGrid (T.grid t.now) }
-    ensures { result ≡ first.first_stop (T.grid t.now) goal at Dir.SW }
-{
-    diagonal_stop(t, at, Dir::SW, goal)
-}
-
-#[inline(never)]
-fn northwest_stop<T: Terrain>(t: &T, at: Cell, goal: Cell) -> Option<u16>
-    requires free { is_free (T.grid t.now) at ≡ true }
-    requires whole { IsGrid (T.grid t.now) }
-    ensures { result ≡ first.first_stop (T.grid t.now) goal at Dir.NW }
-{
-    diagonal_stop(t, at, Dir::NW, goal)
-}
-
 /// After how many moves a jump from a free cell stops: at the least number, from 1, or `None` where the
 /// legal run ends first. Each direction has loops of its own, in which its steps are constants.
 #[inline(never)]
@@ -208,12 +170,12 @@ pub fn first_stop<T: Terrain>(t: &T, at: Cell, d: Dir, goal: Cell) -> Option<u16
 {
     match d {
         Dir::N => straight_stop(t, at, Dir::N, goal),
-        Dir::NE => northeast_stop(t, at, goal),
+        Dir::NE => diagonal_stop(t, at, Dir::NE, goal),
         Dir::E => straight_stop(t, at, Dir::E, goal),
-        Dir::SE => southeast_stop(t, at, goal),
+        Dir::SE => diagonal_stop(t, at, Dir::SE, goal),
         Dir::S => straight_stop(t, at, Dir::S, goal),
-        Dir::SW => southwest_stop(t, at, goal),
+        Dir::SW => diagonal_stop(t, at, Dir::SW, goal),
         Dir::W => straight_stop(t, at, Dir::W, goal),
-        Dir::NW => northwest_stop(t, at, goal),
+        Dir::NW => diagonal_stop(t, at, Dir::NW, goal),
     }
 }

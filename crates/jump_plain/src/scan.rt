@@ -14,7 +14,6 @@ ghost use Rattle.std.specs.Prelude.{◌≡◌, ◌+◌, ◌≤◌, false, true};
 ghost use Rattle.grid_moves.specs.Grid.{IsGrid, is_free};
 ghost use Rattle.pruning.specs.Turns.{is_diagonal};
 ghost use Rattle.pruning.specs.First.{run_length};
-ghost use Rattle.jump_plain.specs.Beside as besides;
 ghost use Rattle.jump_plain.specs.Reach as spec;
 
 use crate::beside::{Sides, straight_ahead};
@@ -43,15 +42,13 @@ fn mark_ahead(rule: Corner) -> u16
 // The sides with which a scan begins. Where a corner may be cut, the first move would show a mark of the
 // cell where the scan stands, which is not looked for: so both count as free.
 #[inline(always)]
-fn first_sides<T: Terrain>(t: &T, rule: Corner, at: Cell, d: Dir, on_map: Sides) -> Sides
-    requires straight { is_diagonal d ≡ false }
+fn first_sides<T: Terrain>(t: &T, rule: Corner, at: Cell, d: Dir) -> Sides
     requires free { is_free (T.grid t.now) at ≡ true }
     requires whole { IsGrid (T.grid t.now) }
-    requires on_map { on_map ≡ besides.sides_on_map (T.grid t.now) at d }
     ensures { result ≡ spec.first_sides rule (T.grid t.now) at d }
 {
     match rule {
-        Corner::Never => Sides::of(t, at, d, on_map),
+        Corner::Never => Sides::of(t, at, d),
         Corner::One => Sides {
             right: true,
             left: true,
@@ -69,12 +66,11 @@ pub fn scan<T: Terrain>(t: &T, at: Cell, d: Dir) -> Reach
     ensures { result ≡ spec.reach_of (T.grid t.now) at d }
 {
     let rule = t.corner();
-    let on_map = Sides::on_map(t, at, d);
-    let mut sides = first_sides(t, rule, at, d, on_map);
+    let mut sides = first_sides(t, rule, at, d);
     let mut cell = at;
     let mut moves = 0;
     'run: while let Some(next) = straight_ahead(t, cell, d) {
-        let sides_then = Sides::of(t, next, d, on_map);
+        let sides_then = Sides::of(t, next, d);
         if sides.opens(sides_then) {
             return Reach {
                 moves: moves + mark_ahead(rule),

@@ -1,12 +1,8 @@
-use Rattle.std.proofs.Common.{◌≡◌, ◌+◌, ◌<◌, ◌≤◌, ◌∙◌, true, false, suc, arith, sym, ap}
-use Rattle.std.specs.Prelude.{Some, None}
-use Rattle.grid_moves.specs.Grid.{GridData, is_free}
-use Rattle.grid_moves.specs.Move.{legal_ahead}
+use Rattle.std.proofs.Common.{arith, sym}
+use Rattle.grid_moves.specs.Grid.{GridData}
 use Rattle.grid_moves.proofs.Legal.{legal_is}
-use Rattle.pruning.specs.First.{run_length}
-use Rattle.pruning.proofs.Bridging.{Leads, legal_leads}
+use Rattle.pruning.proofs.Bridging.{legal_leads}
 use Rattle.jump_plain.specs.Reach.{reach_of}
-use Rattle.jump_plain.proofs.Besides.{sides_along}
 use Rattle.jump_plain.proofs.Reaching.{run_length-next, run_length-few}
 use Rattle.jump_plain.proofs.Scanning.{mark_ahead-near, reach_begun, reached_end, reached_mark, reached_next}
 use Rattle.jump_plain.proofs.scan.scan.Goals as goal
@@ -16,7 +12,6 @@ run-init g c =
     let grid : GridData = g.T.Terrain.grid c.args.t.now in
     record {
       free = c.requires.free;
-      on_map = c.on_map-on_map.ensures;
       left = reach_begun grid c.args.at c.args.d c.requires.straight c.corner-rule.result c.corner-rule.ensures
           c.requires.free c.first_sides-sides.result c.first_sides-sides.ensures;
       run = omega arith;
@@ -27,12 +22,6 @@ of-sides_then-requires-clause-free g c =
     let grid : GridData = g.T.Terrain.grid c.args.t.now in
     (legal_is grid c.run.cell c.in-Some.next
     (legal_leads grid c.run.cell c.in-Some.next c.args.d (sym c.in-Some.ensures)).legal).target
-
-pub of-sides_then-requires-clause-on_map : goal.of-sides_then-requires-clause-on_map
-of-sides_then-requires-clause-on_map g c =
-    let grid : GridData = g.T.Terrain.grid c.args.t.now in
-    c.run.invariant.on_map ∙ sides_along grid c.run.cell c.in-Some.next c.args.d c.requires.straight
-    (legal_leads grid c.run.cell c.in-Some.next c.args.d (sym c.in-Some.ensures))
 
 pub overflow_add-result : goal.overflow_add-result
 overflow_add-result g c =
@@ -77,8 +66,6 @@ run-preserved g c =
     let free = (legal_is grid c.run.cell c.in-Some.next leads.legal).target in
     record {
       free = free;
-      on_map = c.run.invariant.on_map
-          ∙ sides_along grid c.run.cell c.in-Some.next c.args.d c.requires.straight leads;
       left = reached_next grid c.run.cell c.args.d c.requires.straight c.corner-rule.result c.run.sides
           c.run.moves (reach_of grid c.args.at c.args.d) c.run.invariant.left c.in-Some.next legal
           c.of-sides_then.result c.of-sides_then.ensures c.opens.result c.opens.ensures

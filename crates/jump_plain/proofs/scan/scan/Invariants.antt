@@ -1,7 +1,6 @@
 use Rattle.std.proofs.Common.{◌≡◌, ◌+◌, true}
 use Rattle.grid_moves.specs.Grid.{is_free}
 use Rattle.pruning.specs.First.{run_length}
-use Rattle.jump_plain.specs.Beside.{sides_on_map}
 use Rattle.jump_plain.specs.Reach.{reach_of, further}
 use Rattle.jump_plain.proofs.Scanning.{left_with}
 use Rattle.jump_plain.proofs.scan.scan.Given as goal
@@ -12,7 +11,6 @@ invariant-run g l =
     let grid = g.T.Terrain.grid l.t in
     record {
       free : is_free grid l.cell ≡ true;
-      on_map : l.on_map ≡ sides_on_map grid l.cell l.d;
       left : reach_of grid l.fn.at l.d ≡ further l.moves (left_with l.rule l.sides grid l.cell l.d);
       run : l.moves + run_length grid l.cell l.d ≡ run_length grid l.fn.at l.d;
     }
