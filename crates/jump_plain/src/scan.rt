@@ -12,12 +12,14 @@
 
 ghost use Rattle.std.specs.Prelude.{◌≡◌, ◌+◌, ◌≤◌, false, true};
 ghost use Rattle.grid_moves.specs.Grid.{IsGrid, is_free};
+ghost use Rattle.grid_moves.specs.Grid as grids;
 ghost use Rattle.pruning.specs.Turns.{is_diagonal};
 ghost use Rattle.pruning.specs.First.{run_length};
 ghost use Rattle.jump_plain.specs.Reach as spec;
 
-use crate::beside::{Sides, straight_ahead};
+use crate::beside::{Sides, beyond, straight_ahead};
 use grid_moves::{Cell, Corner, Dir, Terrain};
+use pruning::{Side, quarter};
 
 /// How far a scan along a straight run reaches.
 #[derive(Clone, Copy)]
@@ -56,10 +58,9 @@ fn first_sides<T: Terrain>(t: &T, rule: Corner, at: Cell, d: Dir) -> Sides
     }
 }
 
-/// Scans along the legal run from a free cell in a straight direction: to the first cell with a forced
-/// neighbour, or else to the run's end. The cell itself is not looked at.
+// Scans along the legal run from a free cell in a straight direction.
 #[inline(always)]
-pub fn scan<T: Terrain>(t: &T, at: Cell, d: Dir) -> Reach
+fn scan_run<T: Terrain>(t: &T, at: Cell, d: Dir) -> Reach
     requires straight { is_diagonal d ≡ false }
     requires free { is_free (T.grid t.now) at ≡ true }
     requires whole { IsGrid (T.grid t.now) }
@@ -84,5 +85,44 @@ pub fn scan<T: Terrain>(t: &T, at: Cell, d: Dir) -> Reach
     Reach {
         moves,
         marked: false,
+    }
+}
+
+// The same, for the rare runs along the border of the map.
+#[inline(never)]
+fn scan_border<T: Terrain>(t: &T, at: Cell, d: Dir) -> Reach
+    requires straight { is_diagonal d ≡ false }
+    requires free { is_free (T.grid t.now) at ≡ true }
+    requires whole { IsGrid (T.grid t.now) }
+    ensures { result ≡ spec.reach_of (T.grid t.now) at d }
+{
+    scan_run(t, at, d)
+}
+
+// Whether the cell lies on the map.
+#[inline(always)]
+fn is_inside<T: Terrain>(t: &T, c: Cell) -> bool
+    ensures { result ≡ grids.is_inside (T.grid t.now) c }
+{
+    c.x < t.width() && c.y < t.height()
+}
+
+/// Scans along the legal run from a free cell in a straight direction: to the first cell with a forced
+/// neighbour, or else to the run's end. The cell itself is not looked at.
+///
+/// Where both lines beside the run lie on the map, the compiler knows it in all of the loop.
+#[inline(always)]
+pub fn scan<T: Terrain>(t: &T, at: Cell, d: Dir) -> Reach
+    requires straight { is_diagonal d ≡ false }
+    requires free { is_free (T.grid t.now) at ≡ true }
+    requires whole { IsGrid (T.grid t.now) }
+    ensures { result ≡ spec.reach_of (T.grid t.now) at d }
+{
+    let right = beyond(at, quarter(Side::Right, d));
+    let left = beyond(at, quarter(Side::Left, d));
+    if is_inside(t, at) && is_inside(t, right) && is_inside(t, left) {
+        scan_run(t, at, d)
+    } else {
+        scan_border(t, at, d)
     }
 }

@@ -3,7 +3,7 @@ use Rattle.grid_moves.specs.Grid.{is_free}
 use Rattle.pruning.specs.First.{run_length}
 use Rattle.jump_plain.specs.Reach.{reach_of, further}
 use Rattle.jump_plain.proofs.Scanning.{left_with}
-use Rattle.jump_plain.proofs.scan.scan.Given as goal
+use Rattle.jump_plain.proofs.scan.scan_run.Given as goal
 
 -- the cell is so many moves on, and what is left to find from there is what is left in all, less these
 abbrev pub invariant-run : goal.invariant-run

@@ -5,7 +5,7 @@ use Rattle.pruning.proofs.Bridging.{legal_leads}
 use Rattle.jump_plain.specs.Reach.{reach_of}
 use Rattle.jump_plain.proofs.Reaching.{run_length-next, run_length-few}
 use Rattle.jump_plain.proofs.Scanning.{mark_ahead-near, reach_begun, reached_end, reached_mark, reached_next}
-use Rattle.jump_plain.proofs.scan.scan.Goals as goal
+use Rattle.jump_plain.proofs.scan.scan_run.Goals as goal
 
 pub run-init : goal.run-init
 run-init g c =
