@@ -1,6 +1,6 @@
 -- A scan from cell to cell: what it has still to find.
 use Rattle.std.proofs.Common.{◌≡◌, ℕ, ◌+◌, ◌≤◌, arith, Bool, true, false, refl, ap, sym, ◌∙◌}
-use Rattle.std.specs.Prelude.{Option, Some, None, is_some}
+use Rattle.std.specs.Prelude.{Option, Some, None, is_some, if◌then◌else◌}
 use Rattle.grid_moves.specs.declared.Cell.{Cell}
 use Rattle.grid_moves.specs.declared.Corner.{Corner}
 use Rattle.grid_moves.specs.declared.Corner.TheVariants.{Never, One}
@@ -9,12 +9,12 @@ use Rattle.grid_moves.specs.Grid.{GridData, is_free}
 use Rattle.grid_moves.specs.Move.{legal_ahead, is_open}
 use Rattle.pruning.specs.Turns.{is_diagonal}
 use Rattle.pruning.specs.Marked.{is_forced}
-use Rattle.pruning.proofs.Bridging.{Leads}
+use Rattle.pruning.proofs.Bridging.{Leads, legal_leads}
 use Rattle.pruning.proofs.Moves.{can_move-straight}
 use Rattle.jump_plain.specs.declared.beside.Sides.{Sides}
 use Rattle.jump_plain.specs.declared.scan.Reach.{Reach}
 use Rattle.jump_plain.specs.Beside.{sides_of, opens}
-use Rattle.jump_plain.specs.Reach.{reach_of, reach_at, further, left_at, mark_ahead}
+use Rattle.jump_plain.specs.Reach.{reach_of, reach_at, further, left_at, mark_ahead, first_sides}
 use Rattle.jump_plain.proofs.Forcing.{is_forced-there, is_forced-here, is_forced-nowhere}
 use Rattle.jump_plain.proofs.Reaching.{reach-next, reach-none}
 
@@ -57,45 +57,97 @@ module _ (g : GridData) (u : Cell) (d : Dir) (h : is_diagonal d ≡ false) where
     left_at-next One e o =
         no_mark u (is_forced-here g u v d l (sym e) h ∙ o) ∙ reach-next g u v d k
 
--- the sides that are carried along are those of the cells
-pub sides_opened : (p q u v : Sides) (read b : Bool) → u ≡ p → v ≡ q → read ≡ opens u v → read ≡ b
-    → opens p q ≡ b
-sides_opened p q u v read b e f h k = rw (← e, ← f) (sym h ∙ k)
-
 -- where no straight move is legal the cell ahead is not open
 pub shut_ahead : (g : GridData) (u : Cell) (d : Dir) → is_free g u ≡ true → is_diagonal d ≡ false
     → legal_ahead g u d ≡ None → is_open g u d ≡ false
 shut_ahead g u d f h e = sym (can_move-straight g u d f h) ∙ ap (λ (o : Option Cell). is_some o) e
 
+-- what a scan at u with these sides has still to find
+abbrev left_over : Corner → Sides → GridData → Dir → Option Cell → Reach
+left_over r sides g d None = record { moves = 0; marked = false }
+left_over r sides g d (Some v) =
+    if opens sides (sides_of g v d) then record { moves = mark_ahead r; marked = true }
+    else further 1 (left_at r g v d)
+
+abbrev pub left_with : Corner → Sides → GridData → Cell → Dir → Reach
+left_with r sides g u d = left_over r sides g d (legal_ahead g u d)
+
+module _ (g : GridData) (u : Cell) (d : Dir) (h : is_diagonal d ≡ false) where
+  -- with its own sides: what is left there
+  left_at-with : (r : Corner) → r ≡ g.corner → is_free g u ≡ true
+      → left_at r g u d ≡ left_with r (sides_of g u d) g u d
+  left_at-with r e f = by_cell (legal_ahead g u d) refl
+    where
+      by_test : (v : Cell) (b : Bool) → legal_ahead g u d ≡ Some v
+          → opens (sides_of g u d) (sides_of g v d) ≡ b
+          → left_at r g u d
+          ≡ (if b then record { moves = mark_ahead r; marked = true } else further 1 (left_at r g v d))
+      by_test v true k o = left_at-opens g u d h v (legal_leads g u v d k) k r e o
+      by_test v false k o = left_at-next g u d h v (legal_leads g u v d k) k r e o
+
+      by_cell : (o : Option Cell) → legal_ahead g u d ≡ o
+          → left_at r g u d ≡ left_over r (sides_of g u d) g d o
+      by_cell None k = left_at-none g u d h r e f (shut_ahead g u d f h k) k
+      by_cell (Some v) k = by_test v (opens (sides_of g u d) (sides_of g v d)) k refl
+
+  -- with those of a beginning: the reach
+  reach_of-with : (r : Corner) → r ≡ g.corner → is_free g u ≡ true
+      → reach_of g u d ≡ left_with r (first_sides r g u d) g u d
+  reach_of-with Never e f = left_at-with Never e f
+  reach_of-with One e f = by_cell (legal_ahead g u d) refl
+    where
+      by_cell : (o : Option Cell) → legal_ahead g u d ≡ o
+          → reach_of g u d ≡ left_over One (first_sides One g u d) g d o
+      by_cell None k = reach-none g u d k
+      by_cell (Some v) k = reach-next g u v d k
+
+-- what a scan begins with
+pub reach_begun : (g : GridData) (x : Cell) (d : Dir) → is_diagonal d ≡ false → (r : Corner) → r ≡ g.corner
+    → is_free g x ≡ true → (sides : Sides) → sides ≡ first_sides r g x d
+    → reach_of g x d ≡ further 0 (left_with r sides g x d)
+reach_begun g x d h r e f sides is = reach_of-with g x d h r e f
+    ∙ ap (λ (s : Sides). left_with r s g x d) (sym is) ∙ no_further (left_with r sides g x d)
+  where
+    plus : (n : ℕ) → n ≡ 0 + n
+    plus n = omega arith
+
+    no_further : (m : Reach) → m ≡ further 0 m
+    no_further m = ap (λ (n : ℕ). let r : Reach = record { moves = n; marked = m.marked } in r) (plus m.moves)
+
 -- what a scan has found, after so many moves
-module _ (moves : ℕ) (all rest : Reach) (so_far : all ≡ further moves rest) where
-  pub reached_end : rest ≡ record { moves = 0; marked = false }
-      → record { moves = moves; marked = false } ≡ all
-  reached_end e = sym (so_far ∙ rw e (ap (λ (n : ℕ). let r : Reach = record { moves = n; marked = false } in r)
+module _ (g : GridData) (u : Cell) (d : Dir) (h : is_diagonal d ≡ false) (r : Corner) (sides : Sides) (moves : ℕ)
+    (all : Reach) (so_far : all ≡ further moves (left_with r sides g u d)) where
+  pub reached_end : legal_ahead g u d ≡ None → record { moves = moves; marked = false } ≡ all
+  reached_end e = sym (so_far ∙ rw e (ap (λ (n : ℕ). let m : Reach = record { moves = n; marked = false } in m)
       (nothing moves)))
     where
       nothing : (n : ℕ) → n + 0 ≡ n
       nothing n = omega arith
 
-  pub reached_mark : (r : Corner) (ahead : ℕ) → ahead ≡ mark_ahead r
-      → rest ≡ record { moves = mark_ahead r; marked = true } → record { moves = moves + ahead; marked = true } ≡ all
-  reached_mark r ahead f e = sym (so_far ∙ ap (λ (m : Reach). further moves m) e
-      ∙ ap (λ (n : ℕ). let r : Reach = record { moves = moves + n; marked = true } in r) (sym f))
+  module _ (v : Cell) (legal : legal_ahead g u d ≡ Some v) (sides_then : Sides)
+      (is : sides_then ≡ sides_of g v d) (read : Bool) (told : read ≡ opens sides sides_then) where
+    after_test : (b : Bool) → read ≡ b → all ≡ further moves (if b
+        then record { moves = mark_ahead r; marked = true } else further 1 (left_at r g v d))
+    after_test b e = so_far ∙ ap (λ (o : Option Cell). further moves (left_over r sides g d o)) legal
+        ∙ ap (λ (t : Bool). further moves
+        (if t then record { moves = mark_ahead r; marked = true } else further 1 (left_at r g v d)))
+        (ap (λ (s : Sides). opens sides s) (sym is) ∙ sym told ∙ e)
 
-  pub reached_next : (next : Reach) → rest ≡ further 1 next → all ≡ further (moves + 1) next
-  reached_next next e = so_far ∙ ap (λ (m : Reach). further moves m) e
-      ∙ ap (λ (n : ℕ). let r : Reach = record { moves = n; marked = next.marked } in r)
-      (regroup moves next.moves)
-    where
-      regroup : (m n : ℕ) → m + (1 + n) ≡ m + 1 + n
-      regroup m n = omega arith
+    pub reached_mark : (ahead : ℕ) → ahead ≡ mark_ahead r → read ≡ true
+        → record { moves = moves + ahead; marked = true } ≡ all
+    reached_mark ahead f e = sym (after_test true e
+        ∙ ap (λ (n : ℕ). let m : Reach = record { moves = moves + n; marked = true } in m) (sym f))
 
--- a scan that begins at the first cell of the run has one move more in all
-pub after_first : (g : GridData) (x v : Cell) (d : Dir) (rest : Reach) → legal_ahead g x d ≡ Some v
-    → rest ≡ left_at One g v d → record { moves = rest.moves + 1; marked = rest.marked } ≡ reach_of g x d
-after_first g x v d rest e h =
-    ap (λ (n : ℕ). let r : Reach = record { moves = n; marked = rest.marked } in r) (turned rest.moves)
-    ∙ ap (λ (r : Reach). further 1 r) h ∙ sym (reach-next g x v d e)
-  where
-    turned : (n : ℕ) → n + 1 ≡ 1 + n
-    turned n = omega arith
+    pub reached_next : r ≡ g.corner → is_free g v ≡ true → read ≡ false
+        → all ≡ further (moves + 1) (left_with r sides_then g v d)
+    reached_next c f e = after_test false e
+        ∙ ap (λ (m : Reach). further moves (further 1 m)) (left_at-with g v d h r c f)
+        ∙ ap (λ (n : ℕ). let m : Reach = record { moves = n; marked = left.marked } in m)
+        (regroup moves left.moves)
+        ∙ ap (λ (s : Sides). further (moves + 1) (left_with r s g v d)) (sym is)
+      where
+        left : Reach
+        left = left_with r (sides_of g v d) g v d
+
+        regroup : (m n : ℕ) → m + (1 + n) ≡ m + 1 + n
+        regroup m n = omega arith

@@ -9,7 +9,9 @@ use Rattle.grid_moves.specs.Grid.{GridData}
 use Rattle.grid_moves.specs.Examples.{notch}
 use Rattle.pruning.specs.Marked.{is_forced}
 use Rattle.pruning.specs.First.{first_on_run, run_length}
+use Rattle.jump_plain.specs.declared.beside.Sides.{Sides}
 use Rattle.jump_plain.specs.declared.scan.Reach.{Reach}
+use Rattle.jump_plain.specs.Beside.{sides_of}
 
 -- to the first mark, if there is one, else to the end of a run of so many moves
 abbrev pub reach_to : Option ℕ → ℕ → Reach
@@ -38,6 +40,12 @@ left_at One g x d = reach_at g x d
 abbrev pub mark_ahead : Corner → ℕ
 mark_ahead Never = 1
 mark_ahead One = 0
+
+-- the sides with which a scan begins: where a corner may be cut, as if both were free, so that the first move
+-- shows no mark
+abbrev pub first_sides : Corner → GridData → Cell → Dir → Sides
+first_sides Never g x d = sides_of g x d
+first_sides One g x d = record { right = true; left = true }
 
 -- the number of moves in a straight d that lead from u to v, or 0 where none do
 abbrev pub moves_to : Dir → Cell → Cell → ℕ

@@ -12,12 +12,14 @@
 
 ghost use Rattle.std.specs.Prelude.{◌≡◌, ◌+◌, ◌≤◌, false, true};
 ghost use Rattle.grid_moves.specs.Grid.{IsGrid, is_free};
+ghost use Rattle.grid_moves.specs.Grid as grids;
 ghost use Rattle.pruning.specs.Turns.{is_diagonal};
 ghost use Rattle.pruning.specs.First.{run_length};
 ghost use Rattle.jump_plain.specs.Reach as spec;
 
-use crate::beside::{Sides, straight_ahead};
+use crate::beside::{Sides, beyond, straight_ahead};
 use grid_moves::{Cell, Corner, Dir, Terrain};
+use pruning::{Side, quarter};
 
 /// How far a scan along a straight run reaches.
 #[derive(Clone, Copy)]
@@ -39,17 +41,34 @@ fn mark_ahead(rule: Corner) -> u16
     }
 }
 
-// What is left to find from a cell of a run on. Where a corner may be cut, the cell itself may have a mark.
+// The sides with which a scan begins. Where a corner may be cut, the first move would show a mark of the
+// cell where the scan stands, which is not looked for: so both count as free.
 #[inline(always)]
-fn scan_on<T: Terrain>(t: &T, rule: Corner, from: Cell, d: Dir) -> Reach
-    requires rule { rule ≡ (T.grid t.now).corner }
-    requires straight { is_diagonal d ≡ false }
-    requires free { is_free (T.grid t.now) from ≡ true }
+fn first_sides<T: Terrain>(t: &T, rule: Corner, at: Cell, d: Dir) -> Sides
+    requires free { is_free (T.grid t.now) at ≡ true }
     requires whole { IsGrid (T.grid t.now) }
-    ensures { result ≡ spec.left_at rule (T.grid t.now) from d }
+    ensures { result ≡ spec.first_sides rule (T.grid t.now) at d }
 {
-    let mut cell = from;
-    let mut sides = Sides::of(t, cell, d);
+    match rule {
+        Corner::Never => Sides::of(t, at, d),
+        Corner::One => Sides {
+            right: true,
+            left: true,
+        },
+    }
+}
+
+// Scans along the legal run from a free cell in a straight direction.
+#[inline(always)]
+fn scan_run<T: Terrain>(t: &T, at: Cell, d: Dir) -> Reach
+    requires straight { is_diagonal d ≡ false }
+    requires free { is_free (T.grid t.now) at ≡ true }
+    requires whole { IsGrid (T.grid t.now) }
+    ensures { result ≡ spec.reach_of (T.grid t.now) at d }
+{
+    let rule = t.corner();
+    let mut sides = first_sides(t, rule, at, d);
+    let mut cell = at;
     let mut moves = 0;
     'run: while let Some(next) = straight_ahead(t, cell, d) {
         let sides_then = Sides::of(t, next, d);
@@ -69,8 +88,29 @@ fn scan_on<T: Terrain>(t: &T, rule: Corner, from: Cell, d: Dir) -> Reach
     }
 }
 
+// The same, for the rare runs along the border of the map.
+#[inline(never)]
+fn scan_border<T: Terrain>(t: &T, at: Cell, d: Dir) -> Reach
+    requires straight { is_diagonal d ≡ false }
+    requires free { is_free (T.grid t.now) at ≡ true }
+    requires whole { IsGrid (T.grid t.now) }
+    ensures { result ≡ spec.reach_of (T.grid t.now) at d }
+{
+    scan_run(t, at, d)
+}
+
+// Whether the cell lies on the map.
+#[inline(always)]
+fn is_inside<T: Terrain>(t: &T, c: Cell) -> bool
+    ensures { result ≡ grids.is_inside (T.grid t.now) c }
+{
+    c.x < t.width() && c.y < t.height()
+}
+
 /// Scans along the legal run from a free cell in a straight direction: to the first cell with a forced
 /// neighbour, or else to the run's end. The cell itself is not looked at.
+///
+/// Where both lines beside the run lie on the map, the compiler knows it in all of the loop.
 #[inline(always)]
 pub fn scan<T: Terrain>(t: &T, at: Cell, d: Dir) -> Reach
     requires straight { is_diagonal d ≡ false }
@@ -78,33 +118,11 @@ pub fn scan<T: Terrain>(t: &T, at: Cell, d: Dir) -> Reach
     requires whole { IsGrid (T.grid t.now) }
     ensures { result ≡ spec.reach_of (T.grid t.now) at d }
 {
-    let rule = t.corner();
-    match rule {
-        Corner::Never => scan_on(t, Corner::Never, at, d),
-        Corner::One => scan_past(t, at, d),
-    }
-}
-
-// The same where a corner may be cut: from the first cell of the run on, which may have a mark.
-#[inline(always)]
-fn scan_past<T: Terrain>(t: &T, at: Cell, d: Dir) -> Reach
-    requires rule { (T.grid t.now).corner ≡ Corner.One }
-    requires straight { is_diagonal d ≡ false }
-    requires free { is_free (T.grid t.now) at ≡ true }
-    requires whole { IsGrid (T.grid t.now) }
-    ensures { result ≡ spec.reach_of (T.grid t.now) at d }
-{
-    match straight_ahead(t, at, d) {
-        Some(first) => {
-            let rest = scan_on(t, Corner::One, first, d);
-            Reach {
-                moves: rest.moves + 1,
-                marked: rest.marked,
-            }
-        }
-        None => Reach {
-            moves: 0,
-            marked: false,
-        },
+    let right = beyond(at, quarter(Side::Right, d));
+    let left = beyond(at, quarter(Side::Left, d));
+    if is_inside(t, at) && is_inside(t, right) && is_inside(t, left) {
+        scan_run(t, at, d)
+    } else {
+        scan_border(t, at, d)
     }
 }
