@@ -12,3 +12,6 @@ pub use best_first::Taken;
 pub use search::{Plain, least, least_in};
 pub use std::alloc::AllocError as NoMemory;
 pub use workspace::Workspace;
+
+#[cfg(test)]
+mod tests;
