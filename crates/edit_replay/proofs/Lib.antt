@@ -1,2 +1,4 @@
-pub mod Edits
 pub mod Simple
+pub mod Edits
+pub mod Answering
+pub mod Replying

@@ -14,6 +14,7 @@ use Rattle.root2_cost.proofs.Sums.{IsAtMost-cancel_left, IsAtMost-more_left, IsL
 use Rattle.grid_moves.specs.declared.Cell.{Cell}
 use Rattle.grid_moves.specs.Grid.{GridData, IsGrid, cell_number, is_free}
 use Rattle.grid_moves.specs.Move.{is_legal, move_cost}
+use Rattle.grid_moves.specs.Layers.{AreLayers, Layers, query_grid}
 use Rattle.grid_moves.specs.Reply.{Answer, outside, blocked, none, walk, IsRight, StandsForLeast}
 use Rattle.grid_moves.specs.Walk.{IsLeastWalk, IsWalk, cost_of, is_walk}
 use Rattle.grid_moves.proofs.Legal.{free_inside, legal_is}
@@ -173,16 +174,25 @@ least_is_short g s t points cost grid stands =
     let few : g.height * g.width ≤ 2 ^ 24 = few_cells g grid in
     omega arith)
 
--- and so has the walk of a right answer
-pub right_is_short : (g : GridData) (s t : Cell) (answer : Answer) → IsGrid g → IsRight g s t answer
-    → IsShort answer
-right_is_short g s t outside grid right = tt
-right_is_short g s t blocked grid right = tt
-right_is_short g s t none grid right = tt
-right_is_short g s t (walk points cost) grid right = least_is_short g s t points cost grid right.1
+-- the grid of a query is a grid
+is_grid-query : (ls : Layers) (s : Cell) → AreLayers ls → IsGrid (query_grid ls s)
+is_grid-query ls s are = by_test (is_free ls.water s)
+  where
+    by_test : (b : Bool) → IsGrid (if b then ls.water else ls.land)
+    by_test true = are.water
+    by_test false = are.land
 
-pub reply_is_short : {E : Type 0} (g : GridData) (s t : Cell) (result : Result Reply E) → IsGrid g
-    → IfOk result (λ reply. IsRight g s t (answer_of reply))
+-- and so has the walk of a right answer
+pub right_is_short : (ls : Layers) (s t : Cell) (answer : Answer) → AreLayers ls → IsRight ls s t answer
+    → IsShort answer
+right_is_short ls s t outside are right = tt
+right_is_short ls s t blocked are right = tt
+right_is_short ls s t none are right = tt
+right_is_short ls s t (walk points cost) are right =
+    least_is_short (query_grid ls s) s t points cost (is_grid-query ls s are) right.1
+
+pub reply_is_short : {E : Type 0} (ls : Layers) (s t : Cell) (result : Result Reply E) → AreLayers ls
+    → IfOk result (λ reply. IsRight ls s t (answer_of reply))
     → IfOk result (λ reply. IsShort (answer_of reply))
-reply_is_short g s t (Ok reply) grid right = right_is_short g s t (answer_of reply) grid right
-reply_is_short g s t (Err fault) grid right = tt
+reply_is_short ls s t (Ok reply) are right = right_is_short ls s t (answer_of reply) are right
+reply_is_short ls s t (Err fault) are right = tt

@@ -1,2 +1,4 @@
 pub mod Edited
+pub mod Session
 pub mod Replies
+pub mod Existence

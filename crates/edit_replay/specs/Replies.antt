@@ -1,10 +1,17 @@
--- What a session's reply stands for.
-use Rattle.std.specs.Prelude.{◌≡◌, ℕ, ◌+◌, ◌^◌, ◌<◌, Bool, true, false, not, ⊤, List, [], ◌∷◌, ◌++◌}
+-- What a session stands for, and what its replies do.
+use Rattle.std.specs.Prelude.{◌≡◌, ℕ, ◌+◌, ◌^◌, ◌<◌, Bool, true, false, ◌&&◌, ◌⊎◌, ⊤, MatchBool, List, [], ◌∷◌, ◌++◌}
+use Rattle.root2_cost.specs.declared.Cost.{Cost}
 use Rattle.grid_moves.specs.declared.Cell.{Cell}
-use Rattle.grid_moves.specs.Grid.{GridData, is_inside, is_free, grid_with}
-use Rattle.grid_moves.specs.Reply.{Answer, outside, blocked, none, walk}
+use Rattle.grid_moves.specs.declared.Ground.{Ground}
+use Rattle.grid_moves.specs.Grid.{GridData, is_free, is_ground, is_inside}
+use Rattle.grid_moves.specs.Layers.{Layers, ground_at, is_on_map, layers_with, query_grid}
+use Rattle.grid_moves.specs.Reply.{Answer, outside, blocked, none, walk, StandsForLeast}
+use Rattle.grid_moves.specs.Walk.{NoWalk}
 use Rattle.plain_search.specs.Found.{IsFound, IsExhausted}
 use Rattle.edit_replay.specs.Edited.{Edit, edited}
+use Rattle.edit_replay.specs.Session.{SessionData}
+use Rattle.edit_replay.specs.declared.session.Engine.{Engine}
+use Rattle.edit_replay.specs.declared.session.Engine.TheVariants.{Plain}
 use Rattle.edit_replay.specs.declared.reply.EditReply.{EditReply}
 use Rattle.edit_replay.specs.declared.reply.EditReply.TheVariants as replied
 use Rattle.edit_replay.specs.declared.reply.Reply.{Reply}
@@ -24,26 +31,49 @@ IsShort blocked = ⊤
 IsShort none = ⊤
 IsShort (walk points cost) = cost.a + cost.b < 2 ^ 24
 
--- points, cost and taken states are those of the plain engine's run
-abbrev pub IsRunReply : GridData → Cell → Cell → Reply → Type 0
-IsRunReply g s t (Walk points cost taken) = IsFound g s t points cost taken
-IsRunReply g s t (None taken) = IsExhausted g s t taken
-IsRunReply g s t Outside = ⊤
-IsRunReply g s t Blocked = ⊤
+-- an engine's run on one grid found this walk
+abbrev pub Finds : Engine → GridData → Cell → Cell → List Cell → Cost → List ℕ → Type 0
+Finds Plain g s t points cost taken = IsFound g s t points cost taken
+
+-- an engine's run on one grid ended without a walk
+abbrev pub Exhausts : Engine → GridData → Cell → Cell → List ℕ → Type 0
+Exhausts Plain g s t taken = IsExhausted g s t taken
+
+-- points, cost and taken states are those of the engine's run on this grid; where an end is not free on it
+-- nothing is searched, and no state is taken
+abbrev pub IsRunOn : Engine → GridData → Cell → Cell → Reply → Type 0
+IsRunOn engine g s t (Walk points cost taken) = Finds engine g s t points cost taken
+IsRunOn engine g s t (None taken) =
+    MatchBool (is_free g s && is_free g t) (Exhausts engine g s t taken) (taken ≡ [])
+IsRunOn engine g s t Outside = ⊤
+IsRunOn engine g s t Blocked = ⊤
+
+-- the reply is that of the run of the session's engine on the grid of the query
+abbrev pub IsRunReply : SessionData → Cell → Cell → Reply → Type 0
+IsRunReply d s t reply = IsRunOn d.engine (query_grid d.layers s) s t reply
+
+-- points and cost are those of a least walk on this grid, or an end is not free on it or no walk exists
+abbrev pub IsRightOn : GridData → Cell → Cell → Reply → Type 0
+IsRightOn g s t (Walk points cost taken) =
+    ((is_free g s && is_free g t) ≡ true) × StandsForLeast g s t points cost
+IsRightOn g s t (None taken) = ((is_free g s && is_free g t) ≡ false) ⊎ NoWalk g s t
+IsRightOn g s t Outside = ⊥
+IsRightOn g s t Blocked = ⊥
 
 -- the cell is the one of this column and row, which lies inside
 pub record IsEnd (g : GridData) (x y : ℕ) (c : Cell) : Type 0 where
   pub cell : c ≡ record { x = x; y = y }
   pub inside : is_inside g c ≡ true
 
--- the edit of a cell is answered so, and leaves this grid
-abbrev pub EditsSo : GridData → Cell → Bool → GridData → EditReply → Type 0
-EditsSo g c free after replied.Outside = (is_inside g c ≡ false) × (after ≡ g)
-EditsSo g c free after replied.Same = (is_inside g c ≡ true) × (is_free g c ≡ free) × (after ≡ g)
-EditsSo g c free after replied.Done =
-    (is_inside g c ≡ true) × (is_free g c ≡ not free) × (after ≡ grid_with g c free)
+-- the edit of a cell is answered so, and leaves these layers
+abbrev pub EditsSo : Layers → Cell → Ground → Layers → EditReply → Type 0
+EditsSo ls c to after replied.Outside = (is_on_map ls c ≡ false) × (after ≡ ls)
+EditsSo ls c to after replied.Same =
+    (is_on_map ls c ≡ true) × (is_ground (ground_at ls c) to ≡ true) × (after ≡ ls)
+EditsSo ls c to after replied.Done =
+    (is_on_map ls c ≡ true) × (is_ground (ground_at ls c) to ≡ false) × (after ≡ layers_with ls c to)
 
--- where a map after some edits is the one grid, the map after these and one more is the other
-abbrev pub AddsEdit : GridData → Edit → GridData → Type 0
-AddsEdit g edit after =
-    (m : GridData) (before : List Edit) → g ≡ edited m before → after ≡ edited m (before ++ edit ∷ [])
+-- where a map after some edits has the one layers, the map after these and one more has the other
+abbrev pub AddsEdit : Layers → Edit → Layers → Type 0
+AddsEdit ls edit after =
+    (m : Layers) (before : List Edit) → ls ≡ edited m before → after ≡ edited m (before ++ edit ∷ [])

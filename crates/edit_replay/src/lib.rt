@@ -4,6 +4,7 @@
 //! proportion to what it touches and not to the map.
 #![tactic(auto)]
 
+pub mod laws;
 mod reply;
 mod session;
 #[cfg(test)]

@@ -1,9 +1,9 @@
-//! Sessions on the map `.@./.../.@.`, by values counted by hand.
+//! Sessions on small maps, by values counted by hand.
 
 ghost use Rattle.std.specs.Prelude.{◌≡◌, ◌<◌};
 
 use crate::{EditReply, Engine, NoMemory, Reply, Session};
-use grid_moves::Cell;
+use grid_moves::{Cell, Corner, Ground};
 use map_text::{MapText, read_map};
 use std::alloc::Global;
 use std::marker::Brand;
@@ -12,14 +12,21 @@ use std::sync::ledger::{Blank, Ledger};
 use std::test::*;
 use steps::Steps;
 
+// The map `.@./.../.@.`.
 const TWO_PILLARS: &[u8] = b"type octile\nheight 3\nwidth 3\nmap\n.@.\n...\n.@.\n";
 
-const WEST: Cell = Cell { x: 0, y: 1 };
+// The map `.../.@./...`.
+const PILLAR: &[u8] = b"type octile\nheight 3\nwidth 3\nmap\n...\n.@.\n...\n";
 
-const EAST: Cell = Cell { x: 2, y: 1 };
+// The map `.WW/.WW`.
+const SHORE: &[u8] = b"type octile\nheight 2\nwidth 3\nmap\n.WW\n.WW\n";
 
-// The reply is the walk along the middle row, of which three states were taken.
-fn is_middle_row(reply: &Reply) -> bool {
+fn cell(x: u16, y: u16) -> Cell {
+    Cell { x, y }
+}
+
+// The reply is a walk with these points, straight and diagonal moves, and taken states.
+fn is_walk(reply: &Reply, by: &[Cell], straight: u32, diagonal: u32, states: &[u32]) -> bool {
     let Reply::Walk {
         points,
         cost,
@@ -28,9 +35,15 @@ fn is_middle_row(reply: &Reply) -> bool {
     else {
         return false;
     };
-    points.as_slice() == [WEST, EAST].as_slice()
-        && (cost.a, cost.b) == (2, 0)
-        && taken.as_slice() == [35, 44, 53].as_slice()
+    points.as_slice() == by
+        && cost.a == straight
+        && cost.b == diagonal
+        && taken.as_slice() == states
+}
+
+// The reply is the walk along the middle row of the map `.@./.../.@.`.
+fn is_middle_row(reply: &Reply) -> bool {
+    is_walk(reply, &[cell(0, 1), cell(2, 1)], 2, 0, &[35, 44, 53])
 }
 
 // Each command of a script is answered on the grid that the commands before it left.
@@ -45,20 +58,20 @@ fn answer_script<L: Ledger>(
     requires some { 0 < L.parts }
 {
     let mut steps = Steps::<L>::new(blank);
-    let mut session = Session::new(alloc, map, Engine::Plain)?;
+    let mut session = Session::new(alloc, map, Engine::Plain, Corner::Never)?;
     let first = session.query(alloc, 0, 1, 2, 1, &mut steps)?;
     assert!(rt; is_middle_row(&first));
-    let blocked = session.edit(1, 1, false, &mut steps);
+    let blocked = session.edit(1, 1, Ground::Blocked, &mut steps);
     assert_eq!(rt; blocked, EditReply::Done);
     let parted = session.query(alloc, 0, 1, 2, 1, &mut steps)?;
     assert!(rt; matches!(parted, Reply::None { .. }));
-    let freed = session.edit(1, 1, true, &mut steps);
+    let freed = session.edit(1, 1, Ground::Land, &mut steps);
     assert_eq!(rt; freed, EditReply::Done);
-    let freed_again = session.edit(1, 1, true, &mut steps);
+    let freed_again = session.edit(1, 1, Ground::Land, &mut steps);
     assert_eq!(rt; freed_again, EditReply::Same);
     let last = session.query(alloc, 0, 1, 2, 1, &mut steps)?;
     assert!(rt; is_middle_row(&last));
-    let outside = session.edit(3, 0, false, &mut steps);
+    let outside = session.edit(3, 0, Ground::Blocked, &mut steps);
     assert_eq!(rt; outside, EditReply::Outside);
     Ok(())
 }
@@ -71,8 +84,8 @@ fn a_script_is_answered_in_turn(rt: HostRuntime) -> Result<(), Fail> {
     Ok(())
 }
 
-// The middle is blocked and freed in turn, and a query follows each edit.
-fn answer_many<L: Ledger>(
+// On the map `.WW/.WW` queries run among water cells or among land cells, and edits move the shore.
+fn answer_by_the_water<L: Ledger>(
     alloc: Global,
     rt: &impl Abort,
     map: &MapText,
@@ -83,26 +96,61 @@ fn answer_many<L: Ledger>(
     requires some { 0 < L.parts }
 {
     let mut steps = Steps::<L>::new(blank);
-    let mut session = Session::new(alloc, map, Engine::Plain)?;
-    for round in 0u32..20 {
-        let open = round % 2 == 1;
-        let edited = session.edit(1, 1, open, &mut steps);
-        assert_eq!(rt; edited, EditReply::Done, "round {round}");
-        let reply = session.query(alloc, 0, 1, 2, 1, &mut steps)?;
-        assert_eq!(rt; is_middle_row(&reply), open, "round {round}");
-        assert_eq!(rt; matches!(reply, Reply::None { .. }), !open, "round {round}");
-        let pillar = session.query(alloc, 1, 0, 2, 1, &mut steps)?;
-        assert!(rt; matches!(pillar, Reply::Blocked), "round {round}");
-        let outside = session.query(alloc, 0, 1, 3, 1, &mut steps)?;
-        assert!(rt; matches!(outside, Reply::Outside), "round {round}");
-    }
+    let mut session = Session::new(alloc, map, Engine::Plain, Corner::Never)?;
+    let swum = session.query(alloc, 1, 0, 2, 1, &mut steps)?;
+    assert!(rt; is_walk(&swum, &[cell(1, 0), cell(2, 1)], 0, 1, &[17, 53]));
+    let apart = session.query(alloc, 0, 0, 1, 0, &mut steps)?;
+    assert!(rt; matches!(apart, Reply::None { taken } if taken.as_slice().is_empty()));
+    let flooded = session.edit(0, 0, Ground::Water, &mut steps);
+    assert_eq!(rt; flooded, EditReply::Done);
+    let joined = session.query(alloc, 0, 0, 1, 0, &mut steps)?;
+    assert!(rt; is_walk(&joined, &[cell(0, 0), cell(1, 0)], 1, 0, &[8, 17]));
+    let flooded_again = session.edit(0, 0, Ground::Water, &mut steps);
+    assert_eq!(rt; flooded_again, EditReply::Same);
+    let parted = session.query(alloc, 0, 0, 0, 1, &mut steps)?;
+    assert!(rt; matches!(parted, Reply::None { taken } if taken.as_slice().is_empty()));
+    let freed = session.edit(1, 0, Ground::Land, &mut steps);
+    assert_eq!(rt; freed, EditReply::Done);
+    let alone = session.query(alloc, 0, 0, 2, 0, &mut steps)?;
+    assert!(rt; matches!(alone, Reply::None { taken } if taken.as_slice() == [8].as_slice()));
+    let blocked = session.edit(2, 0, Ground::Blocked, &mut steps);
+    assert_eq!(rt; blocked, EditReply::Done);
+    let dry = session.query(alloc, 2, 0, 0, 0, &mut steps)?;
+    assert!(rt; matches!(dry, Reply::Blocked));
     Ok(())
 }
 
 #[test]
-fn many_queries_share_one_memory(rt: HostRuntime) -> Result<(), Fail> {
-    assert!(rt; TWO_PILLARS.len() < 100);
-    let map = read_map(rt.alloc(), TWO_PILLARS)?;
-    answer_many::<Brand>(rt.alloc(), &rt, &map, Blank::new(1))?;
+fn water_is_a_layer_of_its_own(rt: HostRuntime) -> Result<(), Fail> {
+    assert!(rt; SHORE.len() < 100);
+    let map = read_map(rt.alloc(), SHORE)?;
+    answer_by_the_water::<Brand>(rt.alloc(), &rt, &map, Blank::new(1))?;
+    Ok(())
+}
+
+// Past the corner of the pillar of `.../.@./...`, where one blocked cell may be passed.
+fn answer_past_a_corner<L: Ledger>(
+    alloc: Global,
+    rt: &impl Abort,
+    map: &MapText,
+    blank: Blank,
+) -> Result<(), NoMemory>
+    requires name { blank.name ≡ L.name }
+    requires parts { blank.parts ≡ L.parts }
+    requires some { 0 < L.parts }
+{
+    let mut steps = Steps::<L>::new(blank);
+    let mut session = Session::new(alloc, map, Engine::Plain, Corner::One)?;
+    let reply = session.query(alloc, 0, 0, 2, 2, &mut steps)?;
+    let points = [cell(0, 0), cell(1, 0), cell(2, 1), cell(2, 2)];
+    assert!(rt; is_walk(&reply, &points, 2, 1, &[8, 17, 35, 53, 71, 80]));
+    Ok(())
+}
+
+#[test]
+fn a_corner_is_passed(rt: HostRuntime) -> Result<(), Fail> {
+    assert!(rt; PILLAR.len() < 100);
+    let map = read_map(rt.alloc(), PILLAR)?;
+    answer_past_a_corner::<Brand>(rt.alloc(), &rt, &map, Blank::new(1))?;
     Ok(())
 }

@@ -1,10 +1,9 @@
 -- The octile estimate falls by at most a move's cost per move.
-use Rattle.std.proofs.Common.{◌≡◌, ℕ, ◌+◌, ◌-◌, ◌≤◌, arith, Bool, true, false, refl, ap, ◌∙◌, ◌||◌, ◌&&◌, subst, sym, List, [], ◌∷◌}
+use Rattle.std.proofs.Common.{◌≡◌, ℕ, ◌+◌, ◌≤◌, arith, Bool, true, false, refl, ◌||◌, subst, List, [], ◌∷◌}
 use Rattle.std.specs.Prelude.{nat_eq, if◌then◌else◌}
 use Rattle.std.proofs.lemmas.Bool.Decides.{nat_tests}
-use Rattle.root2_cost.specs.declared.Cost.{Cost}
 use Rattle.root2_cost.specs.Order.{IsAtMost}
-use Rattle.root2_cost.specs.Sums.{add_costs, no_cost, octile_cost}
+use Rattle.root2_cost.specs.Sums.{add_costs, no_cost}
 use Rattle.root2_cost.proofs.AtMost.{IsAtMost-trans, same_at_most}
 use Rattle.root2_cost.proofs.Sums.{IsAtMost-add_left}
 use Rattle.root2_cost.proofs.Distance.{octile_columns, octile_rows, octile_diagonals}

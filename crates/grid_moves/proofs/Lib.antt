@@ -4,3 +4,4 @@ pub mod Places
 pub mod Ahead
 pub mod Edited
 pub mod Besides
+pub mod Layering

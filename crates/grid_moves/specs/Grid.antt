@@ -3,7 +3,7 @@
 use Rattle.std.specs.Prelude.{◌≡◌, ℕ, ◌+◌, ◌*◌, ◌≤◌, Bool, true, false, nat_lt, nat_eq, ◌&&◌, ◌||◌, if◌then◌else◌, refl, List, [], ◌∷◌, length, slice_index_or, slice_set, map, codes}
 use Rattle.grid_moves.specs.declared.Cell.{Cell}
 use Rattle.grid_moves.specs.declared.Corner.{Corner}
-use Rattle.grid_moves.specs.declared.Corner.TheVariants.{Never, One}
+use Rattle.grid_moves.specs.declared.Corner.TheVariants.{Never}
 use Rattle.grid_moves.specs.declared.Ground.{Ground}
 use Rattle.grid_moves.specs.declared.Ground.TheVariants.{Blocked, Land, Water}
 
@@ -54,11 +54,11 @@ is_ground _ _ = false
 
 -- the grid of a map with these sides and bytes in which the cells of one ground are free
 abbrev pub layer_of : Ground → Corner → ℕ → ℕ → List ℕ → GridData
-layer_of ground corner width height bytes = record {
+layer_of kind corner width height bytes = record {
   width = width;
   height = height;
   corner = corner;
-  free = map (λ byte. is_ground ground (ground_of byte)) bytes;
+  free = map (λ byte. is_ground kind (ground_of byte)) bytes;
 }
 
 -- the land grid of a map

@@ -5,7 +5,7 @@ use Rattle.grid_moves.specs.declared.Corner.{Corner}
 use Rattle.grid_moves.specs.declared.Corner.TheVariants.{Never}
 use Rattle.grid_moves.specs.declared.Ground.{Ground}
 use Rattle.grid_moves.specs.declared.Ground.TheVariants.{Blocked, Land, Water}
-use Rattle.grid_moves.specs.Grid.{GridData, IsGrid, is_free, is_inside, layer_of}
+use Rattle.grid_moves.specs.Grid.{GridData, IsGrid, grid_with, is_free, is_ground, is_inside, layer_of}
 
 -- the two grids of a map
 pub record Layers : Type 0 where
@@ -18,6 +18,15 @@ layers_of corner width height bytes = record {
   land = layer_of Land corner width height bytes;
   water = layer_of Water corner width height bytes;
 }
+
+-- two grids of one map: they have its sides and one corner rule, and no cell is both land and water
+pub record AreLayers (ls : Layers) : Type 0 where
+  pub land : IsGrid ls.land
+  pub water : IsGrid ls.water
+  pub width : ls.water.width ≡ ls.land.width
+  pub height : ls.water.height ≡ ls.land.height
+  pub corner : ls.water.corner ≡ ls.land.corner
+  pub apart : (c : Cell) → (is_free ls.land c && is_free ls.water c) ≡ false
 
 -- the ground of a cell; outside the map it is blocked
 abbrev pub ground_at : Layers → Cell → Ground
@@ -38,6 +47,13 @@ query_grid ls s = if is_free ls.water s then ls.water else ls.land
 -- both cells are free on the grid of a query that starts in the first one
 abbrev pub in_one_layer : Layers → Cell → Cell → Bool
 in_one_layer ls s t = is_free (query_grid ls s) s && is_free (query_grid ls s) t
+
+-- the layers after an edit: one cell, on the map, is blocked, land or water as asked, and the others stay
+abbrev pub layers_with : Layers → Cell → Ground → Layers
+layers_with ls c to = record {
+  land = grid_with ls.land c (is_ground Land to);
+  water = grid_with ls.water c (is_ground Water to);
+}
 
 -- a worked row: the map `.WW/.WW`
 abbrev pub shore : Layers
@@ -63,3 +79,11 @@ into_the_water = refl
 
 pub out_of_the_water : in_one_layer shore (record { x = 1; y = 0 }) (record { x = 0; y = 0 }) ≡ false
 out_of_the_water = refl
+
+-- flooded, the upper left cell leaves the land for the water
+pub flooded : ground_at (layers_with shore (record { x = 0; y = 0 }) Water) (record { x = 0; y = 0 }) ≡ Water
+flooded = refl
+
+pub off_the_land : is_free (layers_with shore (record { x = 0; y = 0 }) Water).land (record { x = 0; y = 0 })
+    ≡ false
+off_the_land = refl

@@ -19,18 +19,18 @@ pub fn ground_of(byte: u8) -> Ground
 }
 
 // Whether the byte stands for this ground.
-fn is_of(ground: Ground, byte: u8) -> bool
-    ensures { result ≡ spec.is_ground ground (spec.ground_of byte) }
+fn is_of(kind: Ground, byte: u8) -> bool
+    ensures { result ≡ spec.is_ground kind (spec.ground_of byte) }
 {
-    ground == ground_of(byte)
+    kind == ground_of(byte)
 }
 
 // For each byte, whether it stands for this ground.
-fn cells_of(alloc: Global, ground: Ground, cells: &[u8]) -> Result<Vec<bool>, NoMemory>
+fn cells_of(alloc: Global, kind: Ground, cells: &[u8]) -> Result<Vec<bool>, NoMemory>
     ensures { IfOk result (λ free. free.items
-        ≡ map (λ byte. spec.is_ground ground (spec.ground_of byte)) cells.now) }
+        ≡ map (λ byte. spec.is_ground kind (spec.ground_of byte)) cells.now) }
 {
-    cells.iter().map(|byte| is_of(ground, *byte)).collect(alloc)
+    cells.iter().map(|byte| is_of(kind, *byte)).collect(alloc)
 }
 
 /// A grid that keeps one flag for each cell, row by row.
@@ -90,13 +90,13 @@ impl Grid {
         height: u16,
         cells: &[u8],
         corner: Corner,
-        ground: Ground,
+        kind: Ground,
     ) -> Result<Grid, NoMemory>
         requires cells { AreCells width height cells.now }
-        requires layer { is_ground ground Ground.Blocked ≡ false }
-        ensures { IfOk result (λ g. g ≡ layer_of ground corner width height cells.now) }
+        requires layer { is_ground kind Ground.Blocked ≡ false }
+        ensures { IfOk result (λ g. g ≡ layer_of kind corner width height cells.now) }
     {
-        let cells = cells_of(alloc, ground, cells)?;
+        let cells = cells_of(alloc, kind, cells)?;
         Ok(Grid {
             width,
             height,

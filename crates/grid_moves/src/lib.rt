@@ -17,7 +17,7 @@ pub use around::Around;
 pub use grid::{Grid, ground_of};
 pub use moves::{cell_ahead, cell_behind, dir_number, estimate, move_cost, opposite};
 pub use std::alloc::AllocError as NoMemory;
-pub use terrain::{Terrain, is_open, is_passable, number_of, step};
+pub use terrain::{Terrain, is_legal, is_open, is_passable, number_of, step};
 
 /// A cell: its column `x`, counted to the right, and its row `y`, counted downwards, both from 0.
 #[derive(Clone, Copy, Debug, PartialEq, Eq)]

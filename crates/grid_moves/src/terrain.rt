@@ -62,8 +62,8 @@ pub fn is_open<T: Terrain>(t: &T, c: Cell, d: Dir) -> bool
     }
 }
 
-// Whether the move is legal.
-fn is_legal_move<T: Terrain>(t: &T, from: Cell, to: Cell) -> bool
+/// Whether the move is legal.
+pub fn is_legal<T: Terrain>(t: &T, from: Cell, to: Cell) -> bool
     ensures { result ≡ spec.is_legal (T.grid t.now) from to }
 {
     let beside = Cell { x: from.x, y: to.y };
@@ -86,9 +86,5 @@ pub fn step<T: Terrain>(t: &T, c: Cell, d: Dir) -> Option<Cell>
         return None;
     }
     let to = cell_ahead(d, c)?;
-    if is_legal_move(t, c, to) {
-        Some(to)
-    } else {
-        None
-    }
+    if is_legal(t, c, to) { Some(to) } else { None }
 }

@@ -3,22 +3,15 @@
 
 ghost use Rattle.std.specs.Prelude.{◌≡◌, ◌<◌, ◌^◌, length};
 
+mod words;
+
 use io_edge::{RealFiles, RealIn, RealOut};
 use jps_run::run;
-use std::env;
 use std::marker::Brand;
 use std::process::ExitCode;
 use std::sync::ledger::{Blank, Ledger};
 use steps::Steps;
-
-// The program's words, without its own name; none where they are no text.
-fn words_of(rt: &HostRuntime) -> Option<Vec<String>> {
-    let mut words = Vec::new(rt.alloc());
-    for word in env::args(rt).ok()?.skip(1) {
-        words.push(word).ok()?;
-    }
-    Some(words)
-}
+use words::{Words, words_of};
 
 // Runs the words over the system's files and streams, and counts on a new counter.
 fn start<L: Ledger>(rt: &HostRuntime, words: &[String], blank: Blank) -> u8
@@ -43,11 +36,24 @@ fn start<L: Ledger>(rt: &HostRuntime, words: &[String], blank: Blank) -> u8
     )
 }
 
-fn main(rt: HostRuntime) -> ExitCode {
-    match words_of(&rt) {
-        Some(words) if words.len() < 1 << 31 => {
-            ExitCode::from(start::<Brand>(&rt, words.as_slice(), Blank::new(1)))
+// The status that the program ends with.
+fn answer(rt: &HostRuntime, words: Words) -> u8 {
+    match words {
+        Words::Text(words) => {
+            if words.len() < 1 << 31 {
+                start::<Brand>(rt, words.as_slice(), Blank::new(1))
+            } else {
+                2
+            }
         }
-        _ => ExitCode::from(2),
+        Words::NoText(_before) => 2,
     }
+}
+
+fn main(rt: HostRuntime) -> ExitCode {
+    let status = match words_of(&rt, rt.alloc()) {
+        Ok(words) => answer(&rt, words),
+        Err(_none) => 6,
+    };
+    ExitCode::from(status)
 }

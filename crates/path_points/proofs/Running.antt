@@ -1,5 +1,5 @@
 -- Runs cell by cell: what is left of a run decides whether it is legal, and what it costs.
-use Rattle.std.proofs.Common.{◌≡◌, ℕ, ◌+◌, ◌-◌, ◌<◌, ◌≤◌, arith, Bool, true, false, ◌&&◌, ◌||◌, refl, ap, ◌∙◌, ◌∷◌}
+use Rattle.std.proofs.Common.{◌≡◌, ℕ, ◌+◌, ◌-◌, ◌<◌, ◌≤◌, arith, Bool, true, false, ◌&&◌, ◌||◌, ◌⊎◌, inl, inr, refl, ap, ◌∙◌, ◌∷◌}
 use Rattle.std.specs.Prelude.{nat_eq, nat_le, Some, None, if◌then◌else◌}
 use Rattle.std.proofs.lemmas.Bool.Decides.{nat_tests}
 use Rattle.root2_cost.specs.declared.Cost.{Cost}
@@ -74,6 +74,17 @@ pub run_paid_off :
     (cost : Cost) (n i : ℕ) (u v : Cell) → n ≤ i
     → add_costs cost (cost_of (u ∷ segment (n - i) u v)) ≡ cost
 run_paid_off cost n i u v h = let none : n - i ≡ 0 = omega arith in rw none (add_costs-no_cost_right cost)
+
+pub less_nothing : (n : ℕ) → n - 0 ≡ n
+less_nothing n = omega arith
+
+pub none_unless :
+    {A : Type 0} (lined walk : Bool) (n most : ℕ) (x : A) → (lined ≡ false) ⊎ (most < n)
+    → None ≡ (if (lined && walk) && nat_le n most then Some x else None)
+none_unless lined walk n most x (inl e) = rw e refl
+none_unless false walk n most x (inr l) = refl
+none_unless true false n most x (inr l) = refl
+none_unless true true n most x (inr l) = let e : nat_le n most ≡ false = grind (arith, nat_tests) in rw e refl
 
 pub none_where :
     {A : Type 0} (a b c : Bool) (x : A) → b ≡ false → None ≡ (if (a && b) && c then Some x else None)

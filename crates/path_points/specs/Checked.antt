@@ -2,6 +2,8 @@
 use Rattle.std.specs.Prelude.{◌≡◌, ℕ, zero, suc, ◌+◌, ◌^◌, ◌<◌, ◌≤◌, Bool, true, false, nat_le, ◌&&◌, IsTrue, refl, List, [], ◌∷◌, length, take, slice_get, Option, Some, None, if◌then◌else◌}
 use Rattle.root2_cost.specs.declared.Cost.{Cost}
 use Rattle.grid_moves.specs.declared.Cell.{Cell}
+use Rattle.grid_moves.specs.declared.Corner.TheVariants.{Never, One}
+use Rattle.grid_moves.specs.Examples.{pillar}
 use Rattle.grid_moves.specs.Grid.{GridData, is_free}
 use Rattle.grid_moves.specs.Walk.{is_walk, cost_of}
 use Rattle.grid_moves.specs.Points.{steps_between, are_lined, segment, unfolding_of}
@@ -68,22 +70,21 @@ pub record IsShortWalk (g : GridData) (points : List Cell) (cost : Cost) : Type 
   pub short : length cells ≤ most_steps + 1
   pub priced : cost_of cells ≡ cost
 
--- the map `.../.@./...`
-abbrev pillar : GridData
-pillar = record {
-  width = 3;
-  height = 3;
-  free = true ∷ true ∷ true ∷ true ∷ false ∷ true ∷ true ∷ true ∷ true ∷ [];
-}
-
--- along its upper row leads a legal run
-pub along_the_row : is_legal_run pillar (record { x = 0; y = 0 }) (record { x = 2; y = 0 }) ≡ true
+-- on the map `.../.@./...`, along the upper row leads a legal run
+pub along_the_row : is_legal_run (pillar Never) (record { x = 0; y = 0 }) (record { x = 2; y = 0 }) ≡ true
 along_the_row = refl
 
 -- through the pillar leads none
-pub through_the_pillar : is_legal_run pillar (record { x = 0; y = 0 }) (record { x = 2; y = 2 }) ≡ false
+pub through_the_pillar : is_legal_run (pillar Never) (record { x = 0; y = 0 }) (record { x = 2; y = 2 }) ≡ false
 through_the_pillar = refl
 
--- nor from a cell to itself
-pub no_step : is_legal_run pillar (record { x = 0; y = 0 }) (record { x = 0; y = 0 }) ≡ false
+-- past its corner leads one where one blocked cell may be passed
+pub past_the_pillar : is_legal_run (pillar Never) (record { x = 1; y = 0 }) (record { x = 2; y = 1 }) ≡ false
+past_the_pillar = refl
+
+pub past_the_pillar-one : is_legal_run (pillar One) (record { x = 1; y = 0 }) (record { x = 2; y = 1 }) ≡ true
+past_the_pillar-one = refl
+
+-- no run leads from a cell to itself
+pub no_step : is_legal_run (pillar Never) (record { x = 0; y = 0 }) (record { x = 0; y = 0 }) ≡ false
 no_step = refl

@@ -3,13 +3,12 @@
 ghost use Rattle.std.specs.Prelude.{◌≡◌, ℕ, ◌+◌, ◌^◌, ◌<◌, ◌≤◌, true, length, OnSome, IfSome, IfOk, IfErr};
 ghost use Rattle.root2_cost.specs.declared.Cost.{Cost};
 ghost use Rattle.grid_moves.specs.Grid.{is_free};
-ghost use Rattle.grid_moves.specs.Move.{are_neighbours, is_legal};
 ghost use Rattle.grid_moves.specs.Points as spec;
 ghost use Rattle.path_points.specs.Checked.{cost_within, IsFirstBad, IsShortWalk};
 
 use crate::Points;
 use crate::segments::{are_lined, step_toward, steps_between};
-use grid_moves::{Cell, Terrain, move_cost};
+use grid_moves::{Cell, Terrain, is_legal, move_cost};
 use root2_cost::Cost;
 
 // The most steps of a walk that is checked.
@@ -18,18 +17,6 @@ const MOST_STEPS: u32 = 1 << 24;
 /// The first point, counted from 0, at which points stop to stand for a walk.
 #[derive(Clone, Copy, Debug, PartialEq, Eq)]
 pub struct BadAt(pub u32);
-
-// Whether a move from a free cell to a neighbour is legal.
-fn is_open<T: Terrain>(t: &T, from: Cell, to: Cell) -> bool
-    requires near { are_neighbours from to ≡ true }
-    requires free { is_free (T.grid t.now) from ≡ true }
-    ensures { result ≡ is_legal (T.grid t.now) from to }
-{
-    t.free(to)
-        && (from.x == to.x
-            || from.y == to.y
-            || (t.free(Cell { x: from.x, y: to.y }) && t.free(Cell { x: to.x, y: from.y })))
-}
 
 // The cost of the legal run between the cells, where there is one of at most so many steps.
 fn run_cost<T: Terrain>(t: &T, from: Cell, to: Cell, most: u32) -> Option<Cost>
@@ -46,7 +33,7 @@ fn run_cost<T: Terrain>(t: &T, from: Cell, to: Cell, most: u32) -> Option<Cost>
     let mut cost = Cost { a: 0, b: 0 };
     for _ in 0..steps {
         let next = step_toward(at, to);
-        if !is_open(t, at, next) {
+        if !is_legal(t, at, next) {
             return None;
         }
         cost = cost.add(move_cost(at, next));

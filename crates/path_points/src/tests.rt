@@ -3,7 +3,7 @@
 ghost use Rattle.std.specs.Prelude.{◌≡◌, IfOk};
 
 use crate::{BadAt, Cells, NoMemory, Points, check_walk, unfold};
-use grid_moves::{Cell, Grid};
+use grid_moves::{Cell, Corner, Grid};
 use root2_cost::Cost;
 use std::alloc::Global;
 use std::test::Fail;
@@ -36,10 +36,10 @@ fn segments_are_filled_cell_by_cell(rt: HostRuntime) -> Result<(), Fail> {
 }
 
 // On the map `.../.@./...`: round the pillar, through it, with no point, from the pillar, by a
-// knight's move, with a point twice, past a corner.
+// knight's move, with a point twice, past a corner; and past the corner where that is allowed.
 #[test]
 fn the_first_bad_point_is_named(rt: HostRuntime) -> Result<(), Fail> {
-    let grid = Grid::of_cells(rt.alloc(), 3, 3, b"....@....")?;
+    let grid = Grid::of_cells(rt.alloc(), 3, 3, b"....@....", Corner::Never)?;
     for (cells, answer) in [
         (
             [cell(0, 0), cell(2, 0), cell(2, 2)].as_slice(),
@@ -65,5 +65,11 @@ fn the_first_bad_point_is_named(rt: HostRuntime) -> Result<(), Fail> {
         let points = points_of(rt.alloc(), cells)?;
         assert_eq!(rt; check_walk(&grid, &points), answer, "{cells:?}");
     }
+    let grid = Grid::of_cells(rt.alloc(), 3, 3, b"....@....", Corner::One)?;
+    let past_the_corner = points_of(rt.alloc(), &[cell(1, 0), cell(2, 1)])?;
+    assert_eq!(rt;
+        check_walk(&grid, &past_the_corner),
+        Ok(Cost { a: 0, b: 1 })
+    );
     Ok(())
 }

@@ -2,7 +2,6 @@ pub mod Walks
 pub mod Right
 pub mod Lists
 pub mod Keys
-pub mod Besides
 pub mod Tables
 pub mod Mirrors
 pub mod Offering
@@ -13,3 +12,4 @@ pub mod Searching
 pub mod Tracing
 pub mod Backing
 pub mod Concluding
+pub mod Answering

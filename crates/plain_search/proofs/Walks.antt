@@ -8,14 +8,10 @@ use Rattle.grid_moves.specs.declared.Cell.{Cell}
 use Rattle.grid_moves.specs.Grid.{GridData, is_free}
 use Rattle.grid_moves.specs.Move.{is_legal, move_cost}
 use Rattle.grid_moves.specs.Walk.{is_walk, cost_of, last_of}
-use Rattle.grid_moves.proofs.Legal.{legal_is, is_same-cell, is_same-itself}
+use Rattle.grid_moves.proofs.Legal.{and_both, legal_is, is_same-cell, is_same-itself}
 use Rattle.grid_moves.proofs.Consistent.{estimate_falls, estimate_nothing}
 use Rattle.search_run.specs.Chain.{Chain, stays, goes_on, IsConsistent}
 use Rattle.plain_search.specs.Rule.{plain_rule, move_link}
-
-pub and_both : (a b : Bool) → (a && b) ≡ true → (a ≡ true) × (b ≡ true)
-and_both true b e = (refl, e)
-and_both false b e = absurd (cc)
 
 -- s followed by these cells is a walk to v, at this cost
 pub record Goes (g : GridData) (s v : Cell) (cells : List Cell) (cost : Cost) : Type 0 where

@@ -1,10 +1,10 @@
 pub mod Rule
 pub mod Found
 pub mod Answer
-pub mod Beside
 pub mod Node
 pub mod Ranks
 pub mod Table
 pub mod Mirror
 pub mod Progress
 pub mod Trace
+pub mod Existence

@@ -1,7 +1,7 @@
 //! Least walks by plain A*, without pruning.
 #![tactic(auto)]
 
-mod around;
+pub mod laws;
 mod node;
 mod search;
 mod space;

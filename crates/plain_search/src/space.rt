@@ -7,13 +7,12 @@ ghost use Rattle.grid_moves.specs.Points.{estimate};
 ghost use Rattle.root2_cost.specs.Order.{is_less};
 ghost use Rattle.root2_cost.specs.Laws.{HasShortParts};
 ghost use Rattle.root2_cost.specs.Sums.{add_costs};
-ghost use Rattle.plain_search.specs.Beside.{if_open};
+ghost use Rattle.grid_moves.specs.Around.{if_open};
 ghost use Rattle.plain_search.specs.Table.{Table, lookup, added, is_improved, replaced, offered, offered_over, offered_ahead, relaxed, node_for, AreMade, begun, closed_at, IsFirstNode, NoneOpen, HasRoom};
 
 use crate::NoMemory;
-use crate::around::Around;
 use crate::node::Node;
-use grid_moves::{Cell, Terrain, estimate, move_cost, number_of};
+use grid_moves::{Around, Cell, Terrain, estimate, move_cost, number_of};
 use open_list::Pool;
 use root2_cost::Cost;
 use std::alloc::Global;

@@ -1,6 +1,6 @@
--- Cells are places, and their legal moves are legal moves of places.
-use Rattle.std.proofs.Common.{◌≡◌, ℕ, zero, suc, ◌+◌, arith, Bool, true, false, refl, ap, sym, ◌∙◌, subst, ◌&&◌}
-use Rattle.std.specs.Prelude.{⊤, ℤ, pos, negsuc, ◌+ℤ◌, Option, Some, None, option_and_then, nat_eq, ◌||◌}
+-- Cells are places, and a legal move leads to the place ahead.
+use Rattle.std.proofs.Common.{◌≡◌, ℕ, zero, suc, ◌+◌, arith, Bool, true, false, refl, ap, sym, ◌∙◌, subst, ◌||◌}
+use Rattle.std.specs.Prelude.{⊤, ℤ, pos, negsuc, ◌+ℤ◌, Option, Some, None, option_and_then, is_some, if◌then◌else◌, nat_eq}
 use Rattle.std.proofs.lemmas.Int.{ints}
 use Rattle.std.proofs.lemmas.Bool.Decides.{nat_tests}
 use Rattle.root2_cost.specs.declared.Cost.{Cost}
@@ -8,16 +8,17 @@ use Rattle.grid_moves.specs.declared.Cell.{Cell}
 use Rattle.grid_moves.specs.declared.Dir.{Dir}
 use Rattle.grid_moves.specs.declared.Dir.TheVariants.{N, NE, E, SE, S, SW, W, NW}
 use Rattle.grid_moves.specs.Grid.{GridData, is_free}
-use Rattle.grid_moves.specs.Move.{ahead, column_ahead, row_ahead, move_cost}
-use Rattle.grid_moves.proofs.Legal.{same_cell}
+use Rattle.grid_moves.specs.Move.{ahead, column_ahead, row_ahead, is_legal, is_passable, legal_ahead, move_cost, is_open, is_free_cell}
+use Rattle.grid_moves.proofs.Ahead.{ahead_of}
+use Rattle.grid_moves.proofs.Legal.{and_both, legal_is, same_cell}
+use Rattle.pruning.specs.declared.Arrival.{Arrival}
 use Rattle.pruning.specs.declared.turns.Side.TheVariants.{Right, Left}
-use Rattle.pruning.specs.Turns.{turn}
-use Rattle.pruning.specs.Allowed.{is_open, is_free_cell, can_move}
+use Rattle.pruning.specs.Turns.{turn, is_diagonal}
+use Rattle.pruning.specs.Allowed.{is_blocked, can_move, is_kept}
+use Rattle.pruning.specs.Canonical.{IsAllowedMove}
 use Rattle.pruning.proofs.Places.{Place, move, columns, rows}
-use Rattle.pruning.proofs.Table.{same_place, by_parity, each_of}
+use Rattle.pruning.proofs.Table.{same_place, by_parity}
 use Rattle.pruning.proofs.Moves.{can_move-straight, can_move-diagonal}
-use Rattle.pruning.proofs.Turnings.{dir_cost}
-use Rattle.pruning.proofs.Replacing.{Legal}
 
 abbrev pub place_of : Cell → Place
 place_of c = record { x = pos c.x; y = pos c.y }
@@ -94,38 +95,98 @@ open_there g u d = by_parts (column_ahead d u.x) (row_ahead d u.y) (pos u.x +ℤ
     by_parts (Some x) None i j p q = rw (p, q) refl
     by_parts (Some x) (Some y) i j p q = rw (p, q) refl
 
--- legal moves of cells and of places
-pub can_move_there : (g : GridData) (u : Cell) (d : Dir) → is_free g u ≡ true
-    → Legal (free_place g) (place_of u) d → can_move g u d ≡ true
-can_move_there g u d f l = by_parity d
-    (λ h.
-    let a : is_open g u (turn Left d) ≡ true = open_there g u (turn Left d) ∙ l.sides h Left in
-    let b : is_open g u (turn Right d) ≡ true = open_there g u (turn Right d) ∙ l.sides h Right in
-    let c : is_open g u d ≡ true = open_there g u d ∙ l.target in
-    can_move-diagonal g u d f h ∙ rw (a, b, c) refl)
-    (λ h. can_move-straight g u d f h ∙ open_there g u d ∙ l.target)
+-- cells that stand at one place are one
+pub one_cell : (u v : Cell) → place_of u ≡ place_of v → u ≡ v
+one_cell u v h = same_cell u v (ap (λ (p : Place). number_in p.x) h) (ap (λ (p : Place). number_in p.y) h)
+  where
+    number_in : ℤ → ℕ
+    number_in (pos n) = n
+    number_in (negsuc n) = 0
 
-three_true : (a b c : Bool) → (a && b && c) ≡ true → (a ≡ true) × (b ≡ true) × (c ≡ true)
-three_true a b c h = (grind arith, grind arith, grind arith)
+-- a legal move leads to the cell ahead
+pub record Leads (g : GridData) (u v : Cell) (d : Dir) : Type 0 where
+  pub ahead_is : ahead d u ≡ Some v
+  pub legal : is_legal g u v ≡ true
 
-pub legal_there : (g : GridData) (u : Cell) (d : Dir) → is_free g u ≡ true → can_move g u d ≡ true
-    → Legal (free_place g) (place_of u) d
-legal_there g u d f m = by_parity d
-    (λ h.
-    let t = three_true (is_open g u (turn Left d)) (is_open g u (turn Right d)) (is_open g u d)
-    (sym (can_move-diagonal g u d f h) ∙ m) in
-    record {
-      source = f;
-      target = sym (open_there g u d) ∙ t.2;
-      sides = λ _. each_of (λ s. free_place g (move (turn s d) (place_of u)) ≡ true) Left
-          (sym (open_there g u (turn Left d)) ∙ t.0) (sym (open_there g u (turn Right d)) ∙ t.1);
-    })
-    (λ h. record {
-      source = f;
-      target = sym (open_there g u d) ∙ sym (can_move-straight g u d f h)
-          ∙ m;
-      sides = λ k. absurd (cc);
-    })
+pub one_of : (u v : Cell) → Some u ≡ Some v → u ≡ v
+one_of u v h = ap (λ (o : Option Cell). cell_in o) h
+  where
+    cell_in : Option Cell → Cell
+    cell_in None = u
+    cell_in (Some c) = c
+
+-- the same in other spellings
+pub leads_can : (g : GridData) (u v : Cell) (d : Dir) → Leads g u v d → can_move g u d ≡ true
+leads_can g u v d l = rw (l.ahead_is, l.legal) refl
+
+pub leads_legal : (g : GridData) (u v : Cell) (d : Dir) → Leads g u v d → legal_ahead g u d ≡ Some v
+leads_legal g u v d l = rw (l.ahead_is, l.legal) refl
+
+pub legal_leads : (g : GridData) (u v : Cell) (d : Dir) → legal_ahead g u d ≡ Some v → Leads g u v d
+legal_leads g u v d h = by_cell (ahead d u) refl h
+  where
+    by_test : (w : Cell) (b : Bool) → ahead d u ≡ Some w → is_legal g u w ≡ b
+        → (if b then Some w else None) ≡ Some v → Leads g u v d
+    by_test w true e l k =
+        subst (λ (c : Cell). Leads g u c d) (one_of w v k) (record { ahead_is = e; legal = l })
+    by_test w false e l k = absurd (cc)
+
+    by_cell : (o : Option Cell) → ahead d u ≡ o
+        → option_and_then (λ w. if is_legal g u w then Some w else None) o ≡ Some v → Leads g u v d
+    by_cell None e k = absurd (cc)
+    by_cell (Some w) e k = by_test w (is_legal g u w) e refl k
+
+-- what a direction in which a move is legal leads to
+pub leads_from : (g : GridData) (u : Cell) (d : Dir) → can_move g u d ≡ true → (v : Cell) × Leads g u v d
+leads_from g u d h = by_cell (legal_ahead g u d) refl h
+  where
+    by_cell : (o : Option Cell) → legal_ahead g u d ≡ o → is_some o ≡ true → (v : Cell) × Leads g u v d
+    by_cell None e k = absurd (cc)
+    by_cell (Some v) e k = (v, legal_leads g u v d e)
+
+-- the direction of a legal move
+pub leads_of : (g : GridData) (u v : Cell) → is_legal g u v ≡ true → (d : Dir) × Leads g u v d
+leads_of g u v h = let a = ahead_of g u v h in (a.0, record { ahead_is = a.1; legal = h })
+
+-- where a legal move leads to
+pub leads_there : (g : GridData) (u v : Cell) (d : Dir) → Leads g u v d → move d (place_of u) ≡ place_of v
+leads_there g u v d l = ahead_there d u v l.ahead_is
+
+-- the corner rule lets a move pass between the cells beside it
+abbrev pub Passes : GridData → Cell → Dir → Type 0
+Passes g u d = is_diagonal d ≡ true
+    → is_passable g.corner (is_open g u (turn Left d)) (is_open g u (turn Right d)) ≡ true
+
+pub leads_passes : (g : GridData) (u v : Cell) (d : Dir) → Leads g u v d → Passes g u d
+leads_passes g u v d l h = (and_both (is_open g u d) _
+    (sym (can_move-diagonal g u d (legal_is g u v l.legal).source h) ∙ leads_can g u v d l)).1
+
+-- a move between free cells that passes is legal
+pub leads_over : (g : GridData) (u v : Cell) (d : Dir) → is_free g u ≡ true → is_free g v ≡ true
+    → move d (place_of u) ≡ place_of v → Passes g u d → Leads g u v d
+leads_over g u v d f k e p =
+    let ahead_free : is_open g u d ≡ true = open_there g u d ∙ ap (λ (q : Place). free_place g q) e ∙ k in
+    let can : can_move g u d ≡ true = by_parity d
+    (λ h. can_move-diagonal g u d f h ∙ rw (ahead_free, p h) refl)
+    (λ h. can_move-straight g u d f h ∙ ahead_free) in
+    let l = leads_from g u d can in
+    subst (λ (c : Cell). Leads g u c d) (one_cell l.0 v (sym (leads_there g u l.0 d l.1) ∙ e)) l.1
+
+-- a free place is a free cell
+pub cell_there : (g : GridData) (p : Place) → free_place g p ≡ true
+    → (c : Cell) × (p ≡ place_of c) × (is_free g c ≡ true)
+cell_there g p h = by_parts p.x p.y refl refl h
+  where
+    by_parts : (i j : ℤ) → p.x ≡ i → p.y ≡ j → free_at g i j ≡ true
+        → (c : Cell) × (p ≡ place_of c) × (is_free g c ≡ true)
+    by_parts (pos x) (pos y) e f k =
+        (record { x = x; y = y }, same_place p (place_of (record { x = x; y = y })) e f, k)
+    by_parts (pos x) (negsuc y) e f k = absurd (cc)
+    by_parts (negsuc x) j e f k = absurd (cc)
+
+-- what a move in this direction costs
+abbrev pub dir_cost : Dir → Cost
+dir_cost d = if is_diagonal d then record { a = 0; b = 1 } else record { a = 1; b = 0 }
 
 -- the cost of a move to the cell ahead, if there is one
 abbrev IsPriced : Cell → Option Cell → Cost → Type 0
@@ -165,10 +226,10 @@ cost_there d u v h = subst (λ (o : Option Cell). IsPriced u o (dir_cost d)) h (
     by_dir (suc x) zero NW = tt
     by_dir (suc x) (suc y) NW = across (suc x) (suc y) x y (λ e. omega arith) (λ e. omega arith)
 
--- cells that stand at one place are one
-pub one_cell : (u v : Cell) → place_of u ≡ place_of v → u ≡ v
-one_cell u v h = same_cell u v (ap (λ (p : Place). number_in p.x) h) (ap (λ (p : Place). number_in p.y) h)
-  where
-    number_in : ℤ → ℕ
-    number_in (pos n) = n
-    number_in (negsuc n) = 0
+-- what an allowed move leads to
+pub allowed_leads : (g : GridData) (by : Arrival) (u v : Cell) (d : Dir) → IsAllowedMove g by u v d
+    → Leads g u v d
+allowed_leads g by u v d m =
+    let can = and_both (is_kept g.corner (is_blocked g u) by d) (can_move g u d) m.allowed in
+    let l = leads_from g u d can.1 in
+    subst (λ (c : Cell). Leads g u c d) (one_of l.0 v (sym l.1.ahead_is ∙ m.leads)) l.1

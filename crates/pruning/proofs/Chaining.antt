@@ -16,17 +16,17 @@ use Rattle.pruning.specs.declared.Arrival.TheVariants.{Start, By}
 use Rattle.pruning.specs.declared.turns.Side.{Side}
 use Rattle.pruning.specs.Turns.{turn, is_diagonal}
 use Rattle.pruning.specs.Marked.{run_end, is_forced, forces, looks_out}
-use Rattle.pruning.specs.Least.{NoneBelow, IsLeast}
+use Rattle.grid_moves.specs.Least.{NoneBelow, IsLeast}
+use Rattle.pruning.specs.First.{is_stop}
 use Rattle.pruning.specs.Stop.{IsStop, at_goal, marked, sees_goal, StopsAfter}
 use Rattle.pruning.specs.Canonical.{IsAllowedMove, FollowsRule}
 use Rattle.pruning.specs.Facts.{IsExplained, same, component, turns, TurnsAreMarked}
 use Rattle.pruning.specs.Chain.{State, run_cost, IsChain, stays, jumps, last_state}
 use Rattle.pruning.specs.Laws.{ChainsSuffice}
-use Rattle.pruning.proofs.Table.{turn_parity, by_parity}
-use Rattle.pruning.proofs.Turnings.{dir_cost}
-use Rattle.pruning.proofs.Bridging.{cost_there}
-use Rattle.pruning.proofs.Runs.{one_of, legal_leads, run_end-next}
-use Rattle.pruning.proofs.Stopping.{IsStop-or_not, allowed_leads}
+use Rattle.pruning.proofs.Table.{turn_parity, by_parity, by_test}
+use Rattle.pruning.proofs.Bridging.{dir_cost, cost_there, one_of, leads_legal, allowed_leads}
+use Rattle.pruning.proofs.Runs.{run_end-next}
+use Rattle.pruning.proofs.Stopping.{stops_are_told}
 
 -- one move and then k
 pub run_cost-next : (d : Dir) (k : ℕ) → run_cost d (suc k) ≡ add_costs (dir_cost d) (run_cost d k)
@@ -66,9 +66,9 @@ module _ (explained : TurnsAreMarked) (g : GridData) (t : Cell) where
     where
       by_turn : (c : Dir) → IsAllowedMove g (By d) v w c → IsExplained g v d c
           → FollowsRule g (By c) w cells → (FollowsRule g (By d) w cells → SeesSome d w) → SeesSome d v
-      by_turn _ m same f next = further d v w (legal_leads g v w d (allowed_leads g (By d) v w d m)) (next f)
+      by_turn _ m same f next = further d v w (leads_legal g v w d (allowed_leads g (By d) v w d m)) (next f)
       by_turn _ m (component k s) f next = absurd (cc)
-      by_turn c m (turns (forces _ k) _) f next =
+      by_turn c m (turns (forces k) _) f next =
           record { moves = 0; cell = v; reached = refl; holds = inr k }
       by_turn c m (turns (looks_out k s r) _) f next = absurd (cc)
 
@@ -92,9 +92,9 @@ module _ (explained : TurnsAreMarked) (g : GridData) (t : Cell) where
   goes_on : (d : Dir) (v w : Cell) (cells : List Cell) → (c : Dir) → IsAllowedMove g (By d) v w c
       → IsExplained g v d c → FollowsRule g (By c) w cells → last_of w cells ≡ t
       → IsStop g t d v ⊎ ((legal_ahead g v d ≡ Some w) × (ahead d v ≡ Some w) × FollowsRule g (By d) w cells)
-  goes_on d v w cells _ m same f e = inr (legal_leads g v w d (allowed_leads g (By d) v w d m), m.leads, f)
+  goes_on d v w cells _ m same f e = inr (leads_legal g v w d (allowed_leads g (By d) v w d m), m.leads, f)
   goes_on d v w cells _ m (component h s) f e =
-      let l = legal_leads g v w (turn s d) (allowed_leads g (By d) v w (turn s d) m) in
+      let l = leads_legal g v w (turn s d) (allowed_leads g (By d) v w (turn s d) m) in
       inl (seen_stop d s v w h l (straight_sees (turn s d) (turn_parity s d ∙ ap not h) w cells f e))
   goes_on d v w cells c m (turns k _) f e = inl (marked k)
 
@@ -157,19 +157,21 @@ module _ (explained : TurnsAreMarked) (g : GridData) (t : Cell) where
         fewer = (let less = n.fewer in omega arith);
       }
 
+  no_stop : (v : Cell) (d : Dir) → is_stop g t d v ≡ false → IsStop g t d v → ⊥
+  no_stop v d n s = let stops = (stops_are_told g t d v).complete s in absurd (cc)
+
   next_stop : (x : Cell) (d : Dir) (k : ℕ) (v : Cell) (cells : List Cell) → 1 ≤ k
       → run_end g d k x ≡ Some v → NoneBelow (StopsAfter g t x d) 1 k → FollowsRule g (By d) v cells
       → last_of v cells ≡ t → IsNext x d k v cells
   next_stop x d k v [] i r b f e = stops_here x d k v [] i r b f e (at_goal e)
-  next_stop x d k v (w ∷ cells) i r b (c, m, f) e = elim (IsStop-or_not g t d v) [
-    | inl s ↦ stops_here x d k v (w ∷ cells) i r b (c, m, f) e s
-    | inr n ↦ elim (goes_on d v w cells c m (explained g v d c m.allowed) f e) [
-      | inl s ↦ absurd (n s)
-      | inr on ↦ stops_later x d k v w cells on.1
-          (next_stop x d (suc k) w cells (omega arith) (run_end-next g d k x v w r on.0)
-          (none_yet x v d k r n b) on.2 e)
-    ]
-  ]
+  next_stop x d k v (w ∷ cells) i r b (c, m, f) e = by_test (is_stop g t d v)
+      (λ s. stops_here x d k v (w ∷ cells) i r b (c, m, f) e ((stops_are_told g t d v).sound s))
+      (λ n. elim (goes_on d v w cells c m (explained g v d c m.allowed) f e) [
+        | inl s ↦ stops_here x d k v (w ∷ cells) i r b (c, m, f) e s
+        | inr on ↦ stops_later x d k v w cells on.1
+            (next_stop x d (suc k) w cells (omega arith) (run_end-next g d k x v w r on.0)
+            (none_yet x v d k r (no_stop v d n) b) on.2 e)
+      ])
 
   -- a chain along the walk, of the walk's cost
   record HasChainAlong (by : Arrival) (x : Cell) (cells : List Cell) : Type 0 where
@@ -198,7 +200,7 @@ module _ (explained : TurnsAreMarked) (g : GridData) (t : Cell) where
   chain_along (suc n) by x [] l f e =
       record { states = []; cost = no_cost; chain = stays _; ends = e; priced = refl }
   chain_along (suc n) by x (v ∷ cells) l (d, m, f) e =
-      let step = legal_leads g x v d (allowed_leads g by x v d m) in
+      let step = leads_legal g x v d (allowed_leads g by x v d m) in
       let next =
       next_stop x d 1 v cells (omega arith) (rw step refl) (λ k low high s. absurd (omega arith)) f e in
       chain_joined by x v d cells m next

@@ -2,8 +2,6 @@
 use Rattle.std.specs.Prelude.{ℤ, pos, negsuc, ◌+ℤ◌}
 use Rattle.grid_moves.specs.declared.Dir.{Dir}
 use Rattle.grid_moves.specs.declared.Dir.TheVariants.{N, NE, E, SE, S, SW, W, NW}
-use Rattle.pruning.specs.declared.turns.Side.TheVariants.{Right}
-use Rattle.pruning.specs.Turns.{quarter}
 
 -- a column and a row, which may be negative
 pub record Place : Type 0 where
@@ -34,6 +32,3 @@ rows NW = negsuc 0
 
 abbrev pub move : Dir → Place → Place
 move d p = record { x = p.x +ℤ columns d; y = p.y +ℤ rows d }
-
-abbrev pub opposite : Dir → Dir
-opposite d = quarter Right (quarter Right d)

@@ -1,155 +1,265 @@
--- Where no corner is cut, each turn that pruning forbids has a replacement.
-use Rattle.std.proofs.Common.{◌≡◌, ◌⊎◌, inl, inr, [], ◌∷◌, arith, Bool, true, false, not, refl, ap, sym, ◌∙◌, subst}
+-- The first local fact: each turn that is not allowed has a replacement.
+use Rattle.std.proofs.Common.{◌≡◌, refl, ap, sym, ◌∙◌, ◌<◌, [], ◌∷◌, arith, Bool, true, false, not, ◌&&◌, ◌||◌, ◌⊎◌, inl, inr}
+use Rattle.root2_cost.specs.declared.Cost.{Cost}
+use Rattle.root2_cost.specs.Order.{IsAtMost}
+use Rattle.root2_cost.specs.Sums.{add_costs, no_cost}
+use Rattle.grid_moves.specs.declared.Cell.{Cell}
+use Rattle.grid_moves.specs.declared.Corner.{Corner}
+use Rattle.grid_moves.specs.declared.Corner.TheVariants.{Never, One}
 use Rattle.grid_moves.specs.declared.Dir.{Dir}
+use Rattle.grid_moves.specs.Grid.{GridData, is_free}
+use Rattle.grid_moves.specs.Move.{is_passable, move_cost, opposite, is_open}
+use Rattle.grid_moves.proofs.Legal.{legal_is}
+use Rattle.pruning.specs.declared.Arrival.TheVariants.{By}
 use Rattle.pruning.specs.declared.turns.Side.{Side}
-use Rattle.pruning.specs.Turns.{turn, quarter, behind, is_diagonal}
-use Rattle.pruning.proofs.Places.{Place, move, opposite}
-use Rattle.pruning.proofs.Table.{straight_back, straight_side, diagonal_back, diagonal_side, reversal, moved_both, Turned, turned, ahead, eighth, side, back, about, turn_parity, quarter_parity, opposite_parity, turn_back, each_of, by_parity, by_test}
-use Rattle.pruning.proofs.Turnings.{shorter, straighter, earlier, Replaces, TurnsAreReplaced}
+use Rattle.pruning.specs.declared.turns.Side.TheVariants.{Right, Left}
+use Rattle.pruning.specs.Turns.{turn, quarter, rear, is_diagonal}
+use Rattle.pruning.specs.Allowed.{is_blocked, keeps_eighth, keeps_quarter, is_kept}
+use Rattle.pruning.specs.Facts.{HasBetter, shorter, straighter, earlier, TurnsAreReplaced}
+use Rattle.pruning.proofs.Places.{Place, move}
+use Rattle.pruning.proofs.Table.{straight_back, straight_side, diagonal_back, diagonal_side, reversal, moved_both, Turned, turned, ahead, eighth, side, back, about, turn_parity, quarter_parity, turn_back, by_parity}
+use Rattle.pruning.proofs.Bridging.{place_of, free_place, open_there, one_cell, cell_there, dir_cost, cost_there, Leads, legal_leads, leads_can, leads_there, leads_passes, leads_over, Passes}
+use Rattle.pruning.proofs.Kept.{kept-on, kept-eighth, kept-quarter}
 
--- the move in d from p is legal: its ends are free, and where it is diagonal the places beside it
-pub record Legal (free : Place → Bool) (p : Place) (d : Dir) : Type 0 where
-  pub source : free p ≡ true
-  pub target : free (move d p) ≡ true
-  pub sides : is_diagonal d ≡ true → (s : Side) → free (move (turn s d) p) ≡ true
+passable : (r : Corner) (a b : Bool) → b ≡ true → (r ≡ Never → a ≡ true) → is_passable r a b ≡ true
+passable Never a b h k = rw (k refl, h) refl
+passable One a b h k = grind arith
 
--- e is allowed after d, which led on from p
-pub data IsAllowed (free : Place → Bool) (p : Place) : Dir → Dir → Type 0 where
-  straight_on : (d : Dir) → IsAllowed free p d d
-  component : (s : Side) (d : Dir) → is_diagonal d ≡ true → IsAllowed free p d (turn s d)
-  beside : (s : Side) (d : Dir) → is_diagonal d ≡ false → free (move (quarter s d) p) ≡ false
-      → IsAllowed free p d (quarter s d)
-  past : (s : Side) (d : Dir) → is_diagonal d ≡ false → free (move (quarter s d) p) ≡ false
-      → IsAllowed free p d (turn s d)
+passable-left : (r : Corner) (a b : Bool) → a ≡ true → (r ≡ Never → b ≡ true) → is_passable r a b ≡ true
+passable-left Never a b h k = rw (h, k refl) refl
+passable-left One a b h k = rw h refl
 
-module _ (free : Place → Bool) where
-  is_free : {p q : Place} → p ≡ q → free p ≡ true → free q ≡ true
-  is_free {p} {q} e h = subst (λ (r : Place). free r ≡ true) e h
+-- the cost of two moves
+abbrev pair_cost : Dir → Dir → Cost
+pair_cost f h = add_costs (dir_cost f) (add_costs (dir_cost h) no_cost)
 
-  -- the diagonal between two free straight neighbours is legal where it ends on a free place
-  corner : (p : Place) (s : Side) (d : Dir) → free p ≡ true → free (move d p) ≡ true
-      → free (move (quarter s d) p) ≡ true → free (move (turn s d) p) ≡ true → Legal free p (turn s d)
-  corner p s d a b c e = record {
-    source = a;
-    target = e;
-    sides = λ _. each_of (λ t. free (move (turn t (turn s d)) p) ≡ true) s c (rw turn_back b);
+module _ (g : GridData) (u v w : Cell) (d e : Dir) (l : Leads g u v d) (m : Leads g v w e) where
+  source : is_free g u ≡ true
+  source = (legal_is g u v l.legal).source
+
+  between : is_free g v ≡ true
+  between = (legal_is g u v l.legal).target
+
+  target : is_free g w ≡ true
+  target = (legal_is g v w m.legal).target
+
+  -- where the turn leads, and what is open round its cells
+  there : move e (move d (place_of u)) ≡ place_of w
+  there = ap (λ (p : Place). move e p) (leads_there g u v d l) ∙ leads_there g v w e m
+
+  open_ahead : is_open g u d ≡ true
+  open_ahead = open_there g u d ∙ ap (λ (p : Place). free_place g p) (leads_there g u v d l) ∙ between
+
+  open_from : (f h : Dir) → move f (move d (place_of u)) ≡ move h (place_of u)
+      → is_open g v f ≡ is_open g u h
+  open_from f h s = open_there g v f
+      ∙ ap (λ (p : Place). free_place g p) (ap (λ (p : Place). move f p) (sym (leads_there g u v d l)) ∙ s)
+      ∙ sym (open_there g u h)
+
+  -- a reversal: nothing
+  undone : w ≡ u → HasBetter g u w (v ∷ w ∷ [])
+  undone s = record {
+    instead = [];
+    walk = record { legal = source; ends = sym s };
+    no_more = rw (cost_there d u v l.ahead_is, cost_there e v w m.ahead_is)
+        (by_parity d (λ h. by_parity e (λ k. rw (h, k) refl) (λ k. rw (h, k) refl))
+        (λ h. by_parity e (λ k. rw (h, k) refl) (λ k. rw (h, k) refl)));
+    smaller = shorter (omega arith);
   }
 
-  -- a straight move between free places is legal
-  along : (p : Place) (d : Dir) → is_diagonal d ≡ false → free p ≡ true → free (move d p) ≡ true
-      → Legal free p d
-  along p d h a b = record { source = a; target = b; sides = λ e. absurd (cc) }
+  -- one move
+  straight_to : (f : Dir) → Leads g u w f
+      → IsAtMost (add_costs (dir_cost f) no_cost) (pair_cost d e)
+      → HasBetter g u w (v ∷ w ∷ [])
+  straight_to f n c = record {
+    instead = w ∷ [];
+    walk = record { legal = rw (n.legal, target) refl; ends = refl };
+    no_more = rw (cost_there f u w n.ahead_is, cost_there d u v l.ahead_is, cost_there e v w m.ahead_is) c;
+    smaller = shorter (omega arith);
+  }
 
-  module _ (p : Place) (d : Dir) (l : Legal free p d) where
-    -- a straight move and then an eighth: the diagonal goes first
-    swapped : (s : Side) → is_diagonal d ≡ false → free (move (quarter s d) p) ≡ true
-        → Legal free (move d p) (turn s d) → Replaces (Legal free) p d (turn s d)
-    swapped s h c m =
-        let g : is_diagonal (turn s d) ≡ true = turn_parity s d ∙ ap not h in
-        let t : free (move (turn s d) p) ≡ true = is_free (straight_side s d p h) (m.sides g s) in
-        let u : move (turn s d) (move d p) ≡ move d (move (turn s d) p) = moved_both d (turn s d) p in
-        record {
-          instead = turn s d ∷ d ∷ [];
-          walks = (
-            corner p s d l.source l.target c t,
-            (along (move (turn s d) p) d h t (is_free u m.target), tt),
-          );
-          ends = sym u;
-          better = record {
-            cost = rw (g, h) (record { is = refl });
-            smaller = earlier refl (rw (g, h) refl)
-                (rw (g, h) (omega arith));
-          };
-        }
+  -- a straight move between free cells
+  along : (f : Dir) (x y : Cell) → is_diagonal f ≡ false → is_free g x ≡ true → is_free g y ≡ true
+      → move f (place_of x) ≡ place_of y → Leads g x y f
+  along f x y h a b s = leads_over g x y f a b s (λ k. absurd (cc))
 
-    -- a straight move and then a quarter: the diagonal between
-    cut : (s : Side) → is_diagonal d ≡ false → free (move (quarter s d) p) ≡ true
-        → Legal free (move d p) (quarter s d) → Replaces (Legal free) p d (quarter s d)
-    cut s h c m =
-        let g : is_diagonal (turn s d) ≡ true = turn_parity s d ∙ ap not h in
-        let k : is_diagonal (quarter s d) ≡ false = quarter_parity s d ∙ h in
-        let u : move (quarter s d) (move d p) ≡ move (turn s d) p = straight_side s d p h in
-        record {
-          instead = turn s d ∷ [];
-          walks = (corner p s d l.source l.target c (is_free u m.target), tt);
-          ends = sym u;
-          better = record { cost = rw (g, k, h) (record { is = refl }); smaller = shorter (omega arith) };
-        }
+  -- the diagonal beside d passes, where the cell ahead is open, and where no corner is cut the one aside
+  passes_beside : (s : Side) → (g.corner ≡ Never → is_open g u (quarter s d) ≡ true) → Passes g u (turn s d)
+  passes_beside Left a k = passable g.corner _ _ (rw (turn_back Left d) open_ahead) a
+  passes_beside Right a k = passable-left g.corner _ _ (rw (turn_back Right d) open_ahead) a
 
-    -- a diagonal move and then a quarter: the component twice
-    halved : (s : Side) → is_diagonal d ≡ true → Legal free (move d p) (quarter s d)
-        → Replaces (Legal free) p d (quarter s d)
-    halved s h m =
-        let g : is_diagonal (turn s d) ≡ false = turn_parity s d ∙ ap not h in
-        let k : is_diagonal (quarter s d) ≡ true = quarter_parity s d ∙ h in
-        let u : move (quarter s d) (move d p) ≡ move (turn s d) (move (turn s d) p) = diagonal_side s d p h in
-        record {
-          instead = turn s d ∷ turn s d ∷ [];
-          walks = (
-            along p (turn s d) g l.source (l.sides h s),
-            (along (move (turn s d) p) (turn s d) g (l.sides h s) (is_free u m.target), tt),
-          );
-          ends = sym u;
-          better = record {
-            cost = rw (g, k, h) (record { is = refl });
-            smaller = straighter refl
-                (rw (g, k, h) (omega arith));
-          };
-        }
+  -- a diagonal move back to a side: the straight move aside; a component's reverse: the other component
+  side_only : (f : Dir) → is_diagonal f ≡ false → move e (move d (place_of u)) ≡ move f (place_of u)
+      → IsAtMost (add_costs (dir_cost f) no_cost) (pair_cost d e)
+      → HasBetter g u w (v ∷ w ∷ [])
+  side_only f h s c = straight_to f (along f u w h source target (sym s ∙ there)) c
 
-    -- a straight move and then a diagonal back: the straight move aside
-    side_only : (s : Side) → is_diagonal d ≡ false → Legal free (move d p) (behind s d)
-        → Replaces (Legal free) p d (behind s d)
-    side_only s h m =
-        let k : is_diagonal (quarter s d) ≡ false = quarter_parity s d ∙ h in
-        let j : is_diagonal (behind s d) ≡ true = turn_parity s (quarter s d) ∙ ap not k in
-        let u : move (behind s d) (move d p) ≡ move (quarter s d) p = straight_back s d p h in
-        record {
-          instead = quarter s d ∷ [];
-          walks = (along p (quarter s d) k l.source (is_free u m.target), tt);
-          ends = sym u;
-          better = record { cost = rw (j, k, h) (record { is = refl }); smaller = shorter (omega arith) };
-        }
+  -- what is free at a place that is open
+  opened : (f : Dir) → is_open g u f ≡ true → (c : Cell) × (move f (place_of u) ≡ place_of c)
+      × (is_free g c ≡ true)
+  opened f a = cell_there g (move f (place_of u)) (sym (open_there g u f) ∙ a)
 
-    -- a diagonal move and then a straight one back: the other component
-    component_only : (s : Side) → is_diagonal d ≡ true → Legal free (move d p) (behind s d)
-        → Replaces (Legal free) p d (behind s d)
-    component_only s h m =
-        let g : is_diagonal (turn s d) ≡ false = turn_parity s d ∙ ap not h in
-        let k : is_diagonal (quarter s d) ≡ true = quarter_parity s d ∙ h in
-        let j : is_diagonal (behind s d) ≡ false = turn_parity s (quarter s d) ∙ ap not k in
-        record {
-          instead = turn s d ∷ [];
-          walks = (along p (turn s d) g l.source (l.sides h s), tt);
-          ends = sym (diagonal_back s d p h);
-          better = record { cost = rw (g, j, h) (record { is = refl }); smaller = shorter (omega arith) };
-        }
+  -- a straight move and then a quarter: the diagonal between
+  cut : (s : Side) → is_diagonal d ≡ false → is_diagonal e ≡ false
+      → move e (move d (place_of u)) ≡ move (turn s d) (place_of u)
+      → (g.corner ≡ Never → is_open g u (quarter s d) ≡ true) → HasBetter g u w (v ∷ w ∷ [])
+  cut s h j p a =
+      let k : is_diagonal (turn s d) ≡ true = turn_parity s d ∙ ap not h in
+      straight_to (turn s d) (leads_over g u w (turn s d) source target (sym p ∙ there) (passes_beside s a))
+      (rw (k, h, j) refl)
 
-    -- a reversal: nothing
-    undone : Replaces (Legal free) p d (opposite d)
-    undone = record {
-      instead = [];
-      walks = tt;
-      ends = sym (reversal d p);
-      better = record {
-        cost = by_parity d
-            (λ h. let k : is_diagonal (opposite d) ≡ true = opposite_parity d
-            ∙ h in rw (k, h) (record { is = refl }))
-            (λ h. let k : is_diagonal (opposite d) ≡ false = opposite_parity d
-            ∙ h in rw (k, h) (record { is = refl }));
-        smaller = shorter (omega arith);
-      };
-    }
+  -- two moves
+  over : (f h : Dir) (c : Cell) → Leads g u c f → Leads g c w h
+      → IsAtMost (pair_cost f h) (pair_cost d e)
+      → ((pair_cost f h).b < (pair_cost d e).b)
+      ⊎ (((pair_cost f h).b ≡ (pair_cost d e).b) × ((dir_cost h).b < (dir_cost e).b))
+      → HasBetter g u w (v ∷ w ∷ [])
+  over f h c n q less fewer = record {
+    instead = c ∷ w ∷ [];
+    walk = record { legal = rw (n.legal, q.legal, target) refl; ends = refl };
+    no_more = rw (cost_there f u c n.ahead_is, cost_there h c w q.ahead_is, first, second) less;
+    smaller = elim fewer [
+      | inl b ↦ straighter refl
+          (rw (cost_there f u c n.ahead_is, cost_there h c w q.ahead_is, first, second) b)
+      | inr b ↦ earlier refl
+          (rw (cost_there f u c n.ahead_is, cost_there h c w q.ahead_is, first, second) (b.0))
+          (rw (cost_there f u c n.ahead_is, cost_there h c w q.ahead_is, first, second)
+          (let same = b.0 in let last = b.1 in omega arith))
+    ];
+  }
+    where
+      first : move_cost u v ≡ dir_cost d
+      first = cost_there d u v l.ahead_is
 
-    by_turn : (e : Dir) → Turned d e → Legal free (move d p) e
-        → IsAllowed free p d e ⊎ Replaces (Legal free) p d e
-    by_turn _ ahead m = inl (straight_on d)
-    by_turn _ (eighth s) m = by_parity d (λ g. inl (component s d g))
-        (λ h. by_test (free (move (quarter s d) p)) (λ c. inr (swapped s h c m)) (λ c. inl (past s d h c)))
-    by_turn _ (side s) m = by_parity d (λ g. inr (halved s g m))
-        (λ h. by_test (free (move (quarter s d) p)) (λ c. inr (cut s h c m)) (λ c. inl (beside s d h c)))
-    by_turn _ (back s) m = by_parity d (λ g. inr (component_only s g m)) (λ h. inr (side_only s h m))
-    by_turn _ about m = inr undone
+      second : move_cost v w ≡ dir_cost e
+      second = cost_there e v w m.ahead_is
 
-  pub turns_are_replaced : TurnsAreReplaced (Legal free) (IsAllowed free)
-  turns_are_replaced p d e l m = by_turn p d l e (turned d e) m
+  -- a straight move and then an eighth: the diagonal goes first
+  swapped : (s : Side) → is_diagonal d ≡ false → is_diagonal e ≡ true
+      → move e (move d (place_of u)) ≡ move d (move (turn s d) (place_of u))
+      → is_open g u (turn s d) ≡ true
+      → (g.corner ≡ Never → is_open g u (quarter s d) ≡ true) → HasBetter g u w (v ∷ w ∷ [])
+  swapped s h j p o a =
+      let k : is_diagonal (turn s d) ≡ true = turn_parity s d ∙ ap not h in
+      let c = opened (turn s d) o in
+      let n = leads_over g u c.0 (turn s d) source c.2 c.1 (passes_beside s a) in
+      let q = along d c.0 w h c.2 target (ap (λ (r : Place). move d r) (sym c.1) ∙ sym p ∙ there) in
+      over (turn s d) d c.0 n q (rw (k, h, j) refl) (inr (rw (k, h, j) refl, rw (h, j) (omega arith)))
+
+  -- a diagonal move and then a quarter: the component twice
+  halved : (s : Side) → is_diagonal d ≡ true → is_diagonal e ≡ true
+      → move e (move d (place_of u)) ≡ move (turn s d) (move (turn s d) (place_of u))
+      → is_open g u (turn s d) ≡ true → HasBetter g u w (v ∷ w ∷ [])
+  halved s h j p o =
+      let k : is_diagonal (turn s d) ≡ false = turn_parity s d ∙ ap not h in
+      let c = opened (turn s d) o in
+      let n = along (turn s d) u c.0 k source c.2 c.1 in
+      let q = along (turn s d) c.0 w k c.2 target (ap (λ (r : Place). move (turn s d) r) (sym c.1) ∙ sym p
+      ∙ there) in
+      over (turn s d) (turn s d) c.0 n q (rw (k, h, j) refl) (inl (rw (k, h, j) (omega arith)))
+
+-- what walls would keep
+or_false : (a b : Bool) → (a || b) ≡ false → b ≡ false
+or_false true b h = absurd (cc)
+or_false false b h = h
+
+shut : (a b : Bool) → a ≡ true → (a && b) ≡ false → b ≡ false
+shut a b h k = rw h at k
+
+pub by_corner : {P : Type 0} (r : Corner) → (r ≡ Never → P) → (r ≡ One → P) → P
+by_corner Never f k = f refl
+by_corner One f k = k refl
+
+module _ (r : Corner) (b : Dir → Bool) (d : Dir) (s : Side) where
+  component_kept : is_diagonal d ≡ true → keeps_eighth r b d s ≡ true
+  component_kept h = by_corner r (λ e. rw (e, h) refl) (λ e. rw (e, h) refl)
+
+  eighth_walls : keeps_eighth r b d s ≡ false
+      → (r ≡ Never → b (rear s d) ≡ false) × (r ≡ One → b (quarter s d) ≡ false)
+  eighth_walls h = (λ e. or_false (is_diagonal d) _ (rw e at h), λ e. or_false (is_diagonal d) _ (rw e at h))
+
+  quarter_walls : keeps_quarter r b d s ≡ false
+      → (is_diagonal d ≡ false → r ≡ Never → b (rear s d) ≡ false)
+      × (is_diagonal d ≡ true → r ≡ One → b (rear s d) ≡ false)
+  quarter_walls h = (
+    λ k e. shut (not (is_diagonal d)) _ (rw k refl) (rw e at h),
+    λ k e.
+        shut (is_diagonal d) _ k (rw e at h),
+  )
+
+-- both cells beside a legal diagonal move are open where no corner is cut
+pub sides_open : (g : GridData) (u v : Cell) (d : Dir) → Leads g u v d → is_diagonal d ≡ true
+    → g.corner ≡ Never → (s : Side) → is_open g u (turn s d) ≡ true
+sides_open g u v d l h e s = side s
+  where
+    both : (a b : Bool) → is_passable g.corner a b ≡ true → (a ≡ true) × (b ≡ true)
+    both a b h = let and : (a && b) ≡ true = rw e at h in (grind arith, grind arith)
+
+    side : (s : Side) → is_open g u (turn s d) ≡ true
+    side Left = (both (is_open g u (turn Left d)) (is_open g u (turn Right d)) (leads_passes g u v d l h)).0
+    side Right = (both (is_open g u (turn Left d)) (is_open g u (turn Right d)) (leads_passes g u v d l h)).1
+
+module _ (g : GridData) (u v w : Cell) (d : Dir) (l : Leads g u v d) where
+  -- a cell beside v that is not blocked, as seen from u
+  seen : (e : Dir) → Leads g v w e → (f h : Dir) → move f (move d (place_of u)) ≡ move h (place_of u)
+      → is_blocked g v f ≡ false → is_open g u h ≡ true
+  seen e m f h p b = sym (open_from g u v w d e l m f h p) ∙ not_blocked (is_open g v f) b
+    where
+      not_blocked : (a : Bool) → not a ≡ false → a ≡ true
+      not_blocked true h = refl
+      not_blocked false h = absurd (cc)
+
+  by_turn : (e : Dir) → Turned d e → Leads g v w e → is_kept g.corner (is_blocked g v) (By d) e ≡ false
+      → HasBetter g u w (v ∷ w ∷ [])
+  by_turn _ ahead m k = absurd (let kept = kept-on g.corner (is_blocked g v) d in cc)
+  by_turn _ (eighth s) m k =
+      let not_kept : keeps_eighth g.corner (is_blocked g v) d s ≡ false =
+      sym (kept-eighth g.corner (is_blocked g v) s d) ∙ k in
+      let walls = eighth_walls g.corner (is_blocked g v) d s not_kept in
+      by_parity d
+      (λ h. absurd (let kept = component_kept g.corner (is_blocked g v) d s h in cc))
+      (λ h.
+      let j : is_diagonal (turn s d) ≡ true = turn_parity s d ∙ ap not h in
+      let aside = straight_side s d (place_of u) h in
+      swapped g u v w d (turn s d) l m s h j (moved_both d (turn s d) (place_of u))
+      (by_corner g.corner
+      (λ e. sym (open_from g u v w d (turn s d) l m (quarter s d) (turn s d) aside)
+      ∙ sides_open g v w (turn s d) m j e s)
+      (λ e. seen (turn s d) m (quarter s d) (turn s d) aside (walls.1 e)))
+      (λ e. seen (turn s d) m (rear s d) (quarter s d) (straight_back s d (place_of u) h) (walls.0 e)))
+  by_turn _ (side s) m k =
+      let not_kept : keeps_quarter g.corner (is_blocked g v) d s ≡ false =
+      sym (kept-quarter g.corner (is_blocked g v) s d) ∙ k in
+      let walls = quarter_walls g.corner (is_blocked g v) d s not_kept in
+      by_parity d
+      (λ h. halved g u v w d (quarter s d) l m s h (quarter_parity s d ∙ h) (diagonal_side s d (place_of u) h)
+      (by_corner g.corner (λ e. sides_open g u v d l h e s)
+      (λ e. seen (quarter s d) m (rear s d) (turn s d) (diagonal_back s d (place_of u) h) (walls.1 h e))))
+      (λ h. cut g u v w d (quarter s d) l m s h (quarter_parity s d ∙ h) (straight_side s d (place_of u) h)
+      (λ e. seen (quarter s d) m (rear s d) (quarter s d) (straight_back s d (place_of u) h)
+      (walls.0 h e)))
+  by_turn _ (back s) m k = by_parity d
+      (λ h.
+      let f : is_diagonal (turn s d) ≡ false = turn_parity s d ∙ ap not h in
+      let j : is_diagonal (rear s d) ≡ false = turn_parity s (quarter s d) ∙ ap not
+      (quarter_parity s d ∙ h) in
+      side_only g u v w d (rear s d) l m (turn s d) f (diagonal_back s d (place_of u) h)
+      (rw (f, h, j) refl))
+      (λ h.
+      let f : is_diagonal (quarter s d) ≡ false = quarter_parity s d ∙ h in
+      let j : is_diagonal (rear s d) ≡ true = turn_parity s (quarter s d) ∙ ap not f in
+      side_only g u v w d (rear s d) l m (quarter s d) f (straight_back s d (place_of u) h)
+      (rw (f, h, j) refl))
+  by_turn _ about m k = undone g u v w d (opposite d) l m
+      (one_cell w u (sym (there g u v w d (opposite d) l m) ∙ reversal d (place_of u)))
+
+pub turns_are_replaced : TurnsAreReplaced
+turns_are_replaced g u v w d e p q n =
+    let l = legal_leads g u v d p in
+    let m = legal_leads g v w e q in
+    by_turn g u v w d l e (turned d e) m
+    (and_false (is_kept g.corner (is_blocked g v) (By d) e) _ (leads_can g v w e m) n)
+  where
+    and_false : (a b : Bool) → b ≡ true → (a && b) ≡ false → a ≡ false
+    and_false true b h k = absurd (cc)
+    and_false false b h k = refl

@@ -12,9 +12,7 @@ use Rattle.grid_moves.specs.Points.{apart, steps_between, are_lined, toward, ste
 use Rattle.grid_moves.proofs.Legal.{legal_is, same_cell}
 use Rattle.pruning.specs.Marked.{run_end}
 use Rattle.pruning.specs.Chain.{run_cost}
-use Rattle.pruning.proofs.Bridging.{cost_there}
-use Rattle.pruning.proofs.Crossing.{Leads}
-use Rattle.pruning.proofs.Runs.{one_of, leads_legal}
+use Rattle.pruning.proofs.Bridging.{cost_there, Leads, legal_leads, one_of}
 use Rattle.pruning.proofs.Chaining.{run_cost-next, run_cost-nothing}
 
 -- how a column or a row changes along a run
@@ -64,8 +62,10 @@ toward_moved : (t : Trend) (k a z b : ℕ) → IsMoved t 1 a z → IsMoved t k z
 toward_moved rising k a z b p q = let l : nat_lt a b ≡ true = grind (arith, nat_tests) in rw l (sym p)
 toward_moved level k a z b p q = let l : nat_lt a b ≡ false =
     grind (arith, nat_tests) in let m : nat_lt b a ≡ false = grind (arith, nat_tests) in rw (l, m) (sym p)
-toward_moved falling k a z b p q = let l : nat_lt a b ≡ false = grind (arith, nat_tests) in let m : nat_lt b a ≡ true =
-    grind (arith, nat_tests) in rw (l, m) (omega arith)
+toward_moved falling k a z b p q =
+    let l : nat_lt a b ≡ false = grind (arith, nat_tests) in
+    let m : nat_lt b a ≡ true = grind (arith, nat_tests) in
+    rw (l, m) (omega arith)
 
 abbrev pub AreMoved : Dir → ℕ → Cell → Cell → Type 0
 AreMoved d k u v = IsMoved (column_trend d) k u.x v.x × IsMoved (row_trend d) k u.y v.y
@@ -194,4 +194,4 @@ run_walked g d (suc k) x u f h = by_cell (legal_ahead g x d) refl h
         → ((y : Cell) → Leads g x y d → run_end g d k y ≡ Some u → IsRun g d (suc k) x u)
         → IsRun g d (suc k) x u
     by_cell None e h next = absurd (cc)
-    by_cell (Some y) e h next = next y (leads_legal g x y d e) h
+    by_cell (Some y) e h next = next y (legal_leads g x y d e) h

@@ -1,40 +1,18 @@
--- Legal runs: they end, so that what holds on them can be tested.
-use Rattle.std.proofs.Common.{◌≡◌, ℕ, zero, suc, ◌-◌, ◌<◌, ◌≤◌, ◌⊎◌, inl, inr, arith, Bool, true, false, refl, ap, subst}
-use Rattle.std.specs.Prelude.{⊤, Option, Some, None, option_and_then, if◌then◌else◌}
+-- Legal runs: they end within the map.
+use Rattle.std.proofs.Common.{◌≡◌, ℕ, zero, suc, ◌+◌, ◌-◌, ◌<◌, ◌≤◌, arith, refl, ap, subst, ◌∙◌, true, false}
+use Rattle.std.specs.Prelude.{⊤, Option, Some, None, option_and_then, option_map, unwrap_or, is_some, nat_le}
+use Rattle.std.proofs.lemmas.Bool.Decides.{nat_tests}
 use Rattle.grid_moves.specs.declared.Cell.{Cell}
 use Rattle.grid_moves.specs.declared.Dir.{Dir}
 use Rattle.grid_moves.specs.declared.Dir.TheVariants.{N, NE, E, SE, S, SW, W, NW}
 use Rattle.grid_moves.specs.Grid.{GridData}
-use Rattle.grid_moves.specs.Move.{is_legal, ahead, legal_ahead}
+use Rattle.grid_moves.specs.Move.{ahead, legal_ahead}
 use Rattle.grid_moves.proofs.Legal.{legal_is, free_inside}
-use Rattle.pruning.specs.Marked.{run_end, HoldsOnRun}
-use Rattle.pruning.proofs.Crossing.{Leads}
-
-pub cell_in : Cell → Option Cell → Cell
-cell_in u None = u
-cell_in u (Some v) = v
-
-pub one_of : (u v : Cell) → Some u ≡ Some v → u ≡ v
-unfolding cell_in
-one_of u v h = ap (λ (o : Option Cell). cell_in u o) h
-
--- a legal move ahead, in both spellings
-pub legal_leads : (g : GridData) (u v : Cell) (d : Dir) → Leads g u v d → legal_ahead g u d ≡ Some v
-legal_leads g u v d l = rw (l.ahead_is, l.legal) refl
-
-pub leads_legal : (g : GridData) (u v : Cell) (d : Dir) → legal_ahead g u d ≡ Some v → Leads g u v d
-leads_legal g u v d h = by_cell (ahead d u) refl h
-  where
-    by_test : (w : Cell) (b : Bool) → ahead d u ≡ Some w → is_legal g u w ≡ b
-        → (if b then Some w else None) ≡ Some v → Leads g u v d
-    by_test w true e l k = subst (λ (c : Cell). Leads g u c d) (one_of w v k)
-        (record { ahead_is = e; legal = l; can = rw (e, l) refl })
-    by_test w false e l k = absurd (cc)
-
-    by_cell : (o : Option Cell) → ahead d u ≡ o
-        → option_and_then (λ w. if is_legal g u w then Some w else None) o ≡ Some v → Leads g u v d
-    by_cell None e k = absurd (cc)
-    by_cell (Some w) e k = by_test w (is_legal g u w) e refl k
+use Rattle.pruning.specs.Marked.{run_end}
+use Rattle.pruning.specs.First.{moves_within, run_length}
+use Rattle.pruning.specs.Laws.{RunLengthIsTold}
+use Rattle.pruning.proofs.Table.{by_test}
+use Rattle.pruning.proofs.Bridging.{Leads, legal_leads, one_of}
 
 -- one move more at the end of a run
 pub run_end-next : (g : GridData) (d : Dir) (k : ℕ) (x v w : Cell) → run_end g d k x ≡ Some v
@@ -87,55 +65,87 @@ less_room g d u v l =
     let inside = free_inside g v (legal_is g u v l.legal).target in
     (subst (λ (o : Option Cell). IsNearer g d u o) l.ahead_is (nearer g u.x u.y d)) inside.0 inside.1
 
-module _ (g : GridData) (d : Dir) (test : Cell → Bool) where
-  abbrev pub IsTested : Cell → Type 0
-  IsTested x = HoldsOnRun g d x (λ v. test v ≡ true)
+-- so does a run, by its moves
+run_room : (g : GridData) (d : Dir) (k : ℕ) (x c : Cell) → run_end g d k x ≡ Some c
+    → room g d c + k ≤ room g d x
+run_room g d zero x c r =
+    let same : room g d x ≡ room g d c = ap (λ (v : Cell). room g d v) (one_of x c r) in omega arith
+run_room g d (suc k) x c r = by_cell (legal_ahead g x d) refl (λ v. run_room g d k v c) r
+  where
+    by_cell : (o : Option Cell) → legal_ahead g x d ≡ o
+        → ((v : Cell) → run_end g d k v ≡ Some c → room g d c + k ≤ room g d v)
+        → option_and_then (λ v. run_end g d k v) o ≡ Some c → room g d c + suc k ≤ room g d x
+    by_cell None e next h = absurd (cc)
+    by_cell (Some v) e next h =
+        let rest = next v h in
+        let less = less_room g d x v (legal_leads g x v d e) in
+        omega arith
 
-  -- a run that does not begin
-  nowhere : (x : Cell) → legal_ahead g x d ≡ None → (m : ℕ) → 1 ≤ m → (c : Cell)
-      → run_end g d m x ≡ Some c → ⊥
-  nowhere x e zero h c r = absurd (omega arith)
-  nowhere x e (suc k) h c r = let none = rw e at r in absurd (cc)
+room_within : (g : GridData) (d : Dir) (c : Cell) → c.x < g.width → c.y < g.height
+    → room g d c ≤ g.width + g.height
+room_within g N c h k = omega arith
+room_within g NE c h k = omega arith
+room_within g E c h k = omega arith
+room_within g SE c h k = omega arith
+room_within g S c h k = omega arith
+room_within g SW c h k = omega arith
+room_within g W c h k = omega arith
+room_within g NW c h k = omega arith
 
-  -- a run whose first cell fails the test
-  nor_there : (x v : Cell) → legal_ahead g x d ≡ Some v → test v ≡ false → (IsTested v → ⊥) → (m : ℕ)
-      → 1 ≤ m → (c : Cell) → run_end g d m x ≡ Some c → test c ≡ true → ⊥
-  nor_there x v e f n zero h c r t = absurd (omega arith)
-  nor_there x v e f n (suc zero) h c r t =
-      let same : v ≡ c = one_of v c (rw e at r) in
-      let passed : test v ≡ true = rw same t in
-      absurd (cc)
-  nor_there x v e f n (suc (suc k)) h c r t =
-      n (record { moves = suc k; some = omega arith; cell = c; reached = rw e at r; holds = t })
+-- no run is longer than the sides together
+pub run_short : (g : GridData) (d : Dir) (k : ℕ) (x c : Cell) → run_end g d k x ≡ Some c
+    → k ≤ g.width + g.height
+run_short g d zero x c r = omega arith
+run_short g d (suc k) x c r = by_cell (legal_ahead g x d) refl r
+  where
+    by_cell : (o : Option Cell) → legal_ahead g x d ≡ o
+        → option_and_then (λ v. run_end g d k v) o ≡ Some c → suc k ≤ g.width + g.height
+    by_cell None e h = absurd (cc)
+    by_cell (Some v) e h =
+        let inside = free_inside g x (legal_is g x v (legal_leads g x v d e).legal).source in
+        let fits = room_within g d x inside.0 inside.1 in
+        let used = run_room g d (suc k) x c r in
+        omega arith
 
-  one_further : (x v : Cell) → legal_ahead g x d ≡ Some v → IsTested v → IsTested x
-  one_further x v e r = record {
-    moves = suc r.moves;
-    some = omega arith;
-    cell = r.cell;
-    reached = rw e
-        r.reached;
-    holds = r.holds;
-  }
+-- how long a run is
+suc_le : (k m : ℕ) → nat_le k m ≡ nat_le (suc k) (suc m)
+suc_le k m = grind (arith, nat_tests)
 
-  by_first : (x v : Cell) → legal_ahead g x d ≡ Some v → (b : Bool) → test v ≡ b
-      → IsTested v ⊎ (IsTested v → ⊥) → IsTested x ⊎ (IsTested x → ⊥)
-  by_first x v e true t rest =
-      inl (record { moves = 1; some = omega arith; cell = v; reached = rw e refl; holds = t })
-  by_first x v e false t (inl r) = inl (one_further x v e r)
-  by_first x v e false t (inr n) = inr (λ r. nor_there x v e t n r.moves r.some r.cell r.reached r.holds)
+zero_le : (m : ℕ) → true ≡ nat_le 0 m
+zero_le m = grind (arith, nat_tests)
 
-  within : (n : ℕ) (x : Cell) → room g d x < n → IsTested x ⊎ (IsTested x → ⊥)
-  within zero x h = absurd (omega arith)
-  within (suc n) x h = by_cell (legal_ahead g x d) refl (λ v k. within n v k)
-    where
-      by_cell : (o : Option Cell) → legal_ahead g x d ≡ o
-          → ((v : Cell) → room g d v < n → IsTested v ⊎ (IsTested v → ⊥))
-          → IsTested x ⊎ (IsTested x → ⊥)
-      by_cell None e next = inr (λ r. nowhere x e r.moves r.some r.cell r.reached)
-      by_cell (Some v) e next = by_first x v e (test v) refl
-          (next v (let l = less_room g d x v (leads_legal g x v d e) in omega arith))
+not_le : (k : ℕ) → false ≡ nat_le (suc k) 0
+not_le k = grind (arith, nat_tests)
 
-  -- a test holds on the run, or nowhere on it
-  pub HoldsOnRun-or_not : (x : Cell) → IsTested x ⊎ (IsTested x → ⊥)
-  HoldsOnRun-or_not x = within (suc (room g d x)) x (omega arith)
+counted : (g : GridData) (d : Dir) (n k : ℕ) (x : Cell) → k ≤ n
+    → is_some (run_end g d k x) ≡ nat_le k (moves_within n g d x)
+counted g d n zero x h = zero_le (moves_within n g d x)
+counted g d zero (suc k) x h = absurd (omega arith)
+counted g d (suc n) (suc k) x h =
+    by_cell (legal_ahead g x d) (λ v. counted g d n k v (omega arith))
+  where
+    by_cell : (o : Option Cell)
+        → ((v : Cell) → is_some (run_end g d k v) ≡ nat_le k (moves_within n g d v))
+        → is_some (option_and_then (λ v. run_end g d k v) o)
+        ≡ nat_le (suc k) (unwrap_or (option_map (λ v. suc (moves_within n g d v)) o) 0)
+    by_cell None next = not_le k
+    by_cell (Some v) next = next v ∙ suc_le k (moves_within n g d v)
+
+moves_within-few : (g : GridData) (d : Dir) (n : ℕ) (x : Cell) → moves_within n g d x ≤ n
+moves_within-few g d zero x = omega arith
+moves_within-few g d (suc n) x = by_cell (legal_ahead g x d) (λ v. moves_within-few g d n v)
+  where
+    by_cell : (o : Option Cell) → ((v : Cell) → moves_within n g d v ≤ n)
+        → unwrap_or (option_map (λ v. suc (moves_within n g d v)) o) 0 ≤ suc n
+    by_cell None next = omega arith
+    by_cell (Some v) next = let few = next v in omega arith
+
+pub run_length_is_told : RunLengthIsTold
+run_length_is_told g x d k = by_test (nat_le k (g.width + g.height))
+    (λ h. counted g d (g.width + g.height) k x (grind (arith, nat_tests)))
+    (λ h. by_end (run_end g d k x) refl (grind (arith, nat_tests)))
+  where
+    by_end : (o : Option Cell) → run_end g d k x ≡ o → g.width + g.height < k
+        → is_some o ≡ nat_le k (run_length g x d)
+    by_end None e h = let few = moves_within-few g d (g.width + g.height) x in grind (arith, nat_tests)
+    by_end (Some c) e h = absurd (let short = run_short g d k x c e in omega arith)

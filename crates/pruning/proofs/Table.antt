@@ -6,10 +6,12 @@ use Rattle.std.proofs.lemmas.Int.{ints}
 use Rattle.std.proofs.lemmas.Bool.Decides.{Decides-int_eq, nat_tests}
 use Rattle.grid_moves.specs.declared.Dir.{Dir}
 use Rattle.grid_moves.specs.declared.Dir.TheVariants.{N, NE, E, SE, S, SW, W, NW}
-use Rattle.pruning.specs.Turns.{turn, quarter, behind, is_diagonal, dir_number, is_dir}
+use Rattle.grid_moves.specs.Move.{dir_number, is_dir, opposite}
+use Rattle.grid_moves.proofs.Legal.{and_both}
+use Rattle.pruning.specs.Turns.{turn, quarter, rear, is_diagonal}
 use Rattle.pruning.specs.declared.turns.Side.{Side}
 use Rattle.pruning.specs.declared.turns.Side.TheVariants.{Right, Left}
-use Rattle.pruning.proofs.Places.{Place, move, columns, rows, opposite}
+use Rattle.pruning.proofs.Places.{Place, move, columns, rows}
 
 abbrev pub each_dir : (Dir → Bool) → Bool
 each_dir test = test N && test NE && test E && test SE && test S && test SW && test W && test NW
@@ -39,11 +41,6 @@ at_both test h s d = at_dir (test s) (at_side (λ s. each_dir (test s)) h s) d
 abbrev pub adds : Dir → Dir → Dir → Bool
 adds d e f = int_eq (columns d +ℤ columns e) (columns f) && int_eq (rows d +ℤ rows e) (rows f)
 
-both_true : (a b : Bool) → (a && b) ≡ true → (a ≡ true) × (b ≡ true)
-both_true true true h = (refl, refl)
-both_true true false h = absurd (cc)
-both_true false b h = absurd (cc)
-
 pub one_true : (a b : Bool) → (a || b) ≡ true → a ≡ false → b ≡ true
 one_true a b h e = grind arith
 
@@ -56,7 +53,7 @@ same_place p q e f =
 pub moved : (d e f : Dir) (p : Place) → adds d e f ≡ true → move e (move d p) ≡ move f p
 moved d e f p h =
     let both =
-    both_true (int_eq (columns d +ℤ columns e) (columns f)) (int_eq (rows d +ℤ rows e) (rows f)) h in
+    and_both (int_eq (columns d +ℤ columns e) (columns f)) (int_eq (rows d +ℤ rows e) (rows f)) h in
     let cs : columns d +ℤ columns e ≡ columns f = (Decides-int_eq _ _).0 both.0 in
     let rs : rows d +ℤ rows e ≡ rows f = (Decides-int_eq _ _).0 both.1 in
     same_place _ _ (omega (arith, ints)) (omega (arith, ints))
@@ -66,9 +63,9 @@ moved_both d e p = same_place _ _ (omega (arith, ints)) (omega (arith, ints))
 
 -- after a straight move, a move back to a side is one to that side, and one to a side is one between
 pub straight_back : (s : Side) (d : Dir) (p : Place) → is_diagonal d ≡ false
-    → move (behind s d) (move d p) ≡ move (quarter s d) p
+    → move (rear s d) (move d p) ≡ move (quarter s d) p
 straight_back s d p h = moved d _ _ p (one_true (is_diagonal d) _
-    (at_both (λ s d. is_diagonal d || adds d (behind s d) (quarter s d)) refl s d) h)
+    (at_both (λ s d. is_diagonal d || adds d (rear s d) (quarter s d)) refl s d) h)
 
 pub straight_side : (s : Side) (d : Dir) (p : Place) → is_diagonal d ≡ false
     → move (quarter s d) (move d p) ≡ move (turn s d) p
@@ -77,9 +74,9 @@ straight_side s d p h = moved d _ _ p (one_true (is_diagonal d) _
 
 -- after a diagonal move, a straight move back to a side is the one component
 pub diagonal_back : (s : Side) (d : Dir) (p : Place) → is_diagonal d ≡ true
-    → move (behind s d) (move d p) ≡ move (turn s d) p
+    → move (rear s d) (move d p) ≡ move (turn s d) p
 diagonal_back s d p h = moved d _ _ p (one_true (not (is_diagonal d)) _
-    (at_both (λ s d. not (is_diagonal d) || adds d (behind s d) (turn s d)) refl s d) (ap not h))
+    (at_both (λ s d. not (is_diagonal d) || adds d (rear s d) (turn s d)) refl s d) (ap not h))
 
 -- after a diagonal move, a quarter to a side is twice the component
 abbrev pub doubles : Dir → Dir → Dir → Bool
@@ -90,7 +87,7 @@ pub diagonal_side : (s : Side) (d : Dir) (p : Place) → is_diagonal d ≡ true
     → move (quarter s d) (move d p) ≡ move (turn s d) (move (turn s d) p)
 diagonal_side s d p h =
     let f : Dir = turn s d in
-    let both = both_true (int_eq (columns d +ℤ columns (quarter s d))
+    let both = and_both (int_eq (columns d +ℤ columns (quarter s d))
     (columns (turn s d) +ℤ columns (turn s d)))
     (int_eq (rows d +ℤ rows (quarter s d)) (rows (turn s d) +ℤ rows (turn s d)))
     (one_true (not (is_diagonal d)) _
@@ -103,7 +100,7 @@ diagonal_side s d p h =
 
 pub reversal : (d : Dir) (p : Place) → move (opposite d) (move d p) ≡ p
 reversal d p =
-    let both = both_true (int_eq (columns d +ℤ columns (opposite d)) (pos 0))
+    let both = and_both (int_eq (columns d +ℤ columns (opposite d)) (pos 0))
     (int_eq (rows d +ℤ rows (opposite d)) (pos 0))
     (at_dir (λ d. int_eq (columns d +ℤ columns (opposite d)) (pos 0) && int_eq
     (rows d +ℤ rows (opposite d)) (pos 0)) refl d) in
@@ -116,7 +113,7 @@ pub data Turned (d : Dir) : Dir → Type 0 where
   ahead : Turned d d
   eighth : (s : Side) → Turned d (turn s d)
   side : (s : Side) → Turned d (quarter s d)
-  back : (s : Side) → Turned d (behind s d)
+  back : (s : Side) → Turned d (rear s d)
   about : Turned d (opposite d)
 
 dir_at : ℕ → Dir
@@ -140,7 +137,7 @@ dir_at-number SW = refl
 dir_at-number W = refl
 dir_at-number NW = refl
 
-either_true : (a b : Bool) → (a || b) ≡ true → (a ≡ true) ⊎ (b ≡ true)
+pub either_true : (a b : Bool) → (a || b) ≡ true → (a ≡ true) ⊎ (b ≡ true)
 either_true true b h = inl refl
 either_true false b h = inr h
 
@@ -210,10 +207,6 @@ pub quarter_parity : (s : Side) (d : Dir) → is_diagonal (quarter s d) ≡ is_d
 quarter_parity s d =
     same_bool-is _ _ (at_both (λ s d. same_bool (is_diagonal (quarter s d)) (is_diagonal d)) refl s d)
 
-pub opposite_parity : (d : Dir) → is_diagonal (opposite d) ≡ is_diagonal d
-opposite_parity d =
-    same_bool-is _ _ (at_dir (λ d. same_bool (is_diagonal (opposite d)) (is_diagonal d)) refl d)
-
 -- the other side
 abbrev pub other : Side → Side
 other Right = Left
@@ -222,13 +215,6 @@ other Left = Right
 -- to one side and then to the other
 pub turn_back : (s : Side) (d : Dir) → turn (other s) (turn s d) ≡ d
 turn_back s d = same_dir _ _ (at_both (λ s d. is_dir (turn (other s) (turn s d)) d) refl s d)
-
--- what holds on one side and on the other holds on each
-pub each_of : (P : Side → Type 0) (s : Side) → P s → P (other s) → (t : Side) → P t
-each_of P Right a b Right = a
-each_of P Right a b Left = b
-each_of P Left a b Left = a
-each_of P Left a b Right = b
 
 pub by_parity : {P : Type 0} (d : Dir) → (is_diagonal d ≡ true → P) → (is_diagonal d ≡ false → P) → P
 by_parity {P} d f g = go (is_diagonal d) refl

@@ -1,37 +1,17 @@
 -- The cells of a chain are points of a walk of its cost.
-use Rattle.std.proofs.Common.{◌≡◌, ℕ, arith, true, refl, ap, sym, ◌∙◌, subst, List, [], ◌∷◌, ◌++◌}
+use Rattle.std.proofs.Common.{◌≡◌, ℕ, true, refl, ap, sym, ◌∙◌, subst, List, [], ◌∷◌, ◌++◌}
 use Rattle.std.specs.Prelude.{Some, map}
 use Rattle.root2_cost.specs.declared.Cost.{Cost}
 use Rattle.root2_cost.specs.Sums.{add_costs}
-use Rattle.root2_cost.proofs.Sums.{add_costs-assoc, add_costs-no_cost_left}
 use Rattle.grid_moves.specs.declared.Cell.{Cell}
 use Rattle.grid_moves.specs.declared.Dir.{Dir}
 use Rattle.grid_moves.specs.Grid.{GridData, is_free}
-use Rattle.grid_moves.specs.Move.{is_legal, move_cost}
 use Rattle.grid_moves.specs.Walk.{is_walk, cost_of, last_of}
 use Rattle.grid_moves.specs.Points.{steps_between, are_lined, segment, unfolded_from}
 use Rattle.pruning.specs.Chain.{State, start_state, run_cost, IsJump, IsChain, stays, jumps, last_state}
 use Rattle.pruning.specs.Laws.{ChainsAreWalks}
+use Rattle.pruning.proofs.Joining.{last-joined, walks-joined, cost-joined}
 use Rattle.pruning.proofs.Running.{IsRun, run_walked, steps_moved, lined_moved}
-
-last-joined : (x : Cell) (cells more : List Cell)
-    → last_of x (cells ++ more) ≡ last_of (last_of x cells) more
-last-joined x [] more = refl
-last-joined x (c ∷ cells) more = last-joined c cells more
-
-walks-joined : (g : GridData) (x : Cell) (cells more : List Cell) → is_walk g (x ∷ cells) ≡ true
-    → is_walk g (last_of x cells ∷ more) ≡ true → is_walk g (x ∷ (cells ++ more)) ≡ true
-walks-joined g x [] more w v = v
-walks-joined g x (c ∷ cells) more w v =
-    let l : is_legal g x c ≡ true = grind arith in
-    let r : is_walk g (c ∷ cells) ≡ true = grind arith in
-    rw (l, walks-joined g c cells more r v) refl
-
-cost-joined : (x : Cell) (cells more : List Cell)
-    → cost_of (x ∷ (cells ++ more)) ≡ add_costs (cost_of (x ∷ cells)) (cost_of (last_of x cells ∷ more))
-cost-joined x [] more = sym (add_costs-no_cost_left (cost_of (x ∷ more)))
-cost-joined x (c ∷ cells) more = ap (λ (k : Cost). add_costs (move_cost x c) k) (cost-joined c cells more)
-    ∙ sym (add_costs-assoc (move_cost x c) (cost_of (c ∷ cells)) (cost_of (last_of c cells ∷ more)))
 
 -- a chain as a walk
 record IsUnfolded (g : GridData) (s : State) (states : List State) (cost : Cost) : Type 0 where

@@ -1,79 +1,84 @@
 -- Pruning: the directions in which a search goes on from a cell, by how it came there.
--- Harabor and Grastien, AAAI 2011; under no corner cutting, SoCS 2012.
-use Rattle.std.specs.Prelude.{◌≡◌, Bool, true, false, not, ◌&&◌, ◌||◌, refl, List, [], ◌∷◌, filter, is_some, Option, Some, None, if◌then◌else◌}
+-- Harabor and Grastien: AAAI 2011 where corners may be cut, SoCS 2012 where none is.
+use Rattle.std.specs.Prelude.{◌≡◌, Bool, true, not, ◌&&◌, ◌||◌, refl, List, [], ◌∷◌, filter, is_some}
 use Rattle.grid_moves.specs.declared.Cell.{Cell}
+use Rattle.grid_moves.specs.declared.Corner.{Corner}
+use Rattle.grid_moves.specs.declared.Corner.TheVariants.{Never, One}
 use Rattle.grid_moves.specs.declared.Dir.{Dir}
-use Rattle.grid_moves.specs.declared.Dir.TheVariants.{E, S}
-use Rattle.grid_moves.specs.Grid.{GridData, is_free}
-use Rattle.grid_moves.specs.Move.{ahead, legal_ahead, all_dirs}
+use Rattle.grid_moves.specs.declared.Dir.TheVariants.{E, SE, S, SW}
+use Rattle.grid_moves.specs.Grid.{GridData}
+use Rattle.grid_moves.specs.Move.{is_dir, is_open, legal_ahead, all_dirs}
+use Rattle.grid_moves.specs.Examples.{pillar}
 use Rattle.pruning.specs.declared.Arrival.{Arrival}
 use Rattle.pruning.specs.declared.Arrival.TheVariants.{Start, By}
 use Rattle.pruning.specs.declared.turns.Side.{Side}
 use Rattle.pruning.specs.declared.turns.Side.TheVariants.{Right, Left}
-use Rattle.pruning.specs.Turns.{turn, quarter, behind, is_diagonal, is_dir}
+use Rattle.pruning.specs.Turns.{turn, quarter, rear, is_diagonal}
 
--- the cell is free, if there is one
-abbrev pub is_free_cell : GridData → Option Cell → Bool
-is_free_cell g None = false
-is_free_cell g (Some v) = is_free g v
-
--- the cell ahead is free; what lies outside the map is blocked
-abbrev pub is_open : GridData → Cell → Dir → Bool
-is_open g x d = is_free_cell g (ahead d x)
+-- the cell ahead is blocked; what lies outside the map is
+abbrev pub is_blocked : GridData → Cell → Dir → Bool
+is_blocked g x d = not (is_open g x d)
 
 -- the move in d from x is legal
 abbrev pub can_move : GridData → Cell → Dir → Bool
 can_move g x d = is_some (legal_ahead g x d)
 
--- after a straight d: the cell before x is not free on this side, so that no walk past it could have turned
-abbrev pub is_blocked_behind : GridData → Cell → Dir → Side → Bool
-is_blocked_behind g x d s = not (is_open g x (behind s d))
+-- After a move in d pruning keeps d itself, and a turn to a side where a wall stands there, since else some
+-- walk that turns earlier is as short. Which cells around are blocked is told by the direction to them.
 
--- e turns to that side, by an eighth or a quarter
-abbrev pub turns_to : Side → Dir → Dir → Bool
-turns_to s d e = is_dir e (turn s d) || is_dir e (quarter s d)
+-- a turn by an eighth to that side: after a diagonal it is a component, and kept; after a straight move it is
+-- kept where the cell behind on that side is blocked, or, where a corner may be cut, the cell at that side
+abbrev pub keeps_eighth : Corner → (Dir → Bool) → Dir → Side → Bool
+keeps_eighth Never blocked d s = is_diagonal d || blocked (rear s d)
+keeps_eighth One blocked d s = is_diagonal d || blocked (quarter s d)
 
--- after a straight d: a turn to a side is kept where the cell behind on that side is blocked; else d alone
-abbrev pub is_kept_straight : GridData → Cell → Dir → Dir → Bool
-is_kept_straight g x d e =
-    if turns_to Right d e then is_blocked_behind g x d Right
-    else if turns_to Left d e then is_blocked_behind g x d Left
-    else is_dir e d
+-- a turn by a quarter to that side: where no corner is cut it is kept after a straight move, where one may be
+-- it is kept after a diagonal, and both where the cell behind on that side is blocked
+abbrev pub keeps_quarter : Corner → (Dir → Bool) → Dir → Side → Bool
+keeps_quarter Never blocked d s = not (is_diagonal d) && blocked (rear s d)
+keeps_quarter One blocked d s = is_diagonal d && blocked (rear s d)
 
--- after a diagonal d: d and its two components are kept
-abbrev pub is_kept_diagonal : Dir → Dir → Bool
-is_kept_diagonal d e = is_dir e d || is_dir e (turn Right d) || is_dir e (turn Left d)
+-- e is a turn to that side that is kept
+abbrev pub is_kept_aside : Corner → (Dir → Bool) → Dir → Dir → Side → Bool
+is_kept_aside corner blocked d e s =
+    (is_dir e (turn s d) && keeps_eighth corner blocked d s)
+    || (is_dir e (quarter s d) && keeps_quarter corner blocked d s)
 
 -- the directions that pruning keeps: all at the start
-abbrev pub is_kept : GridData → Cell → Arrival → Dir → Bool
-is_kept g x Start e = true
-is_kept g x (By d) e = if is_diagonal d then is_kept_diagonal d e else is_kept_straight g x d e
+abbrev pub is_kept : Corner → (Dir → Bool) → Arrival → Dir → Bool
+is_kept corner blocked Start e = true
+is_kept corner blocked (By d) e =
+    is_dir e d || is_kept_aside corner blocked d e Right || is_kept_aside corner blocked d e Left
 
 -- an allowed direction is one that pruning keeps and in which the move is legal
 abbrev pub is_allowed : GridData → Cell → Arrival → Dir → Bool
-is_allowed g x by e = is_kept g x by e && can_move g x e
+is_allowed g x by e = is_kept g.corner (is_blocked g x) by e && can_move g x e
 
 -- the allowed directions in increasing order
 abbrev pub allowed_dirs : GridData → Cell → Arrival → List Dir
 allowed_dirs g x by = filter (is_allowed g x by) all_dirs
 
--- the map `.../.@./...`
-abbrev pillar : GridData
-pillar = record {
-  width = 3;
-  height = 3;
-  free = true ∷ true ∷ true ∷ true ∷ false ∷ true ∷ true ∷ true
-      ∷ true ∷ [];
-}
+-- in a corner of the map two moves are legal at the start, under both rules
+pub from_the_corner : allowed_dirs (pillar Never) (record { x = 0; y = 0 }) Start ≡ E ∷ S ∷ []
+from_the_corner = refl
 
--- beyond the pillar's upper right, after E, the way leads down
-pub round_the_pillar : allowed_dirs pillar (record { x = 2; y = 0 }) (By E) ≡ S ∷ []
-round_the_pillar = refl
+pub from_the_corner_too : allowed_dirs (pillar One) (record { x = 0; y = 0 }) Start ≡ E ∷ S ∷ []
+from_the_corner_too = refl
 
--- beside it nothing is turned to
-pub past_the_pillar : allowed_dirs pillar (record { x = 1; y = 0 }) (By E) ≡ E ∷ []
+-- above the pillar nothing is turned to where no corner is cut, and else the way past it
+pub above_the_pillar : allowed_dirs (pillar Never) (record { x = 1; y = 0 }) (By E) ≡ E ∷ []
+above_the_pillar = refl
+
+pub cutting_its_corner : allowed_dirs (pillar One) (record { x = 1; y = 0 }) (By E) ≡ E ∷ SE ∷ []
+cutting_its_corner = refl
+
+-- a column further the way leads down where no corner is cut, and else nowhere
+pub past_the_pillar : allowed_dirs (pillar Never) (record { x = 2; y = 0 }) (By E) ≡ S ∷ []
 past_the_pillar = refl
 
--- in a corner of the map two moves are legal at the start
-pub from_the_corner : allowed_dirs pillar (record { x = 0; y = 0 }) Start ≡ E ∷ S ∷ []
-from_the_corner = refl
+pub nothing_past_it : allowed_dirs (pillar One) (record { x = 2; y = 0 }) (By E) ≡ []
+nothing_past_it = refl
+
+-- after a diagonal move past the pillar: the component, and a quarter round its other corner
+pub round_the_pillar : allowed_dirs (pillar One) (record { x = 2; y = 1 }) (By SE) ≡ S ∷ SW ∷ []
+round_the_pillar = refl

@@ -10,7 +10,7 @@ use Rattle.pruning.specs.declared.Arrival.TheVariants.{Start, By}
 use Rattle.pruning.specs.Turns.{is_diagonal}
 use Rattle.pruning.specs.Allowed.{is_allowed}
 use Rattle.pruning.specs.Marked.{run_end}
-use Rattle.pruning.specs.Least.{IsLeast}
+use Rattle.grid_moves.specs.Least.{IsLeast}
 use Rattle.pruning.specs.Stop.{StopsAfter}
 
 -- a cell, and how the search came to it

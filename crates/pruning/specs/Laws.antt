@@ -1,14 +1,15 @@
--- What holds of all grids: pruning loses no least walk.
-use Rattle.std.specs.Prelude.{◌≡◌, IsTrue, List, ◌∷◌, map}
+-- What holds of all grids: pruning loses no least walk, and first stops are computed.
+use Rattle.std.specs.Prelude.{◌≡◌, IsTrue, Bool, ℕ, List, ◌∷◌, map, Option, is_some, nat_le}
 use Rattle.root2_cost.specs.declared.Cost.{Cost}
 use Rattle.root2_cost.specs.Order.{IsAtMost}
-use Rattle.root2_cost.specs.Sums.{add_costs, no_cost}
 use Rattle.grid_moves.specs.declared.Cell.{Cell}
+use Rattle.grid_moves.specs.declared.Dir.{Dir}
 use Rattle.grid_moves.specs.Grid.{GridData, is_free}
-use Rattle.grid_moves.specs.Move.{is_legal, move_cost}
-use Rattle.grid_moves.specs.Points.{estimate}
 use Rattle.grid_moves.specs.Walk.{IsWalk, cost_of}
 use Rattle.grid_moves.specs.Reply.{StandsForWalk}
+use Rattle.pruning.specs.Marked.{run_end, IsMarked}
+use Rattle.pruning.specs.Stop.{IsStop, IsFirstStop, IsFirstMark}
+use Rattle.pruning.specs.First.{is_marked, is_stop, first_stop, first_mark, run_length}
 use Rattle.pruning.specs.Canonical.{IsCanonicalWalk}
 use Rattle.pruning.specs.Chain.{State, start_state, IsChain, last_state}
 
@@ -42,11 +43,37 @@ ChainsAreWalks = (g : GridData) (goal s : Cell) (states : List State) (cost : Co
     → IsTrue (is_free g s) → IsChain g goal (start_state s) states cost
     → StandsForWalk g s (last_state (start_state s) states).cell (s ∷ map (λ u. u.cell) states) cost
 
--- the octile estimate falls by at most a move's cost per move, is nothing at the goal, and so never exceeds
--- the cost of a walk
-pub record EstimateIsConsistent : Type 0 where
-  pub falls : (g : GridData) (u v t : Cell) → IsTrue (is_legal g u v)
-      → IsAtMost (estimate u t) (add_costs (move_cost u v) (estimate v t))
-  pub nothing : (t : Cell) → estimate t t ≡ no_cost
-  pub never_exceeds : (g : GridData) (s t : Cell) (cells : List Cell) → IsWalk g s t cells
-      → IsAtMost (estimate s t) (cost_of (s ∷ cells))
+-- a test tells a fact: it holds exactly where the fact does
+pub record Tells (test : Bool) (fact : Type 0) : Type 0 where
+  pub sound : IsTrue test → fact
+  pub complete : fact → IsTrue test
+
+-- marks and stops are told by tests
+abbrev pub MarksAreTold : Type 0
+MarksAreTold = (g : GridData) (x : Cell) (d : Dir) → Tells (is_marked g x d) (IsMarked g x d)
+
+abbrev pub StopsAreTold : Type 0
+StopsAreTold = (g : GridData) (goal : Cell) (d : Dir) (v : Cell)
+    → Tells (is_stop g goal d v) (IsStop g goal d v)
+
+-- the first stop that is computed is one
+abbrev pub FirstStopIsFirst : Type 0
+FirstStopIsFirst = (g : GridData) (goal x : Cell) (d : Dir) → IsFirstStop g goal x d (first_stop g goal x d)
+
+-- and there is no other
+abbrev pub OneFirstStop : Type 0
+OneFirstStop = (g : GridData) (goal x : Cell) (d : Dir) (answer : Option ℕ) → IsFirstStop g goal x d answer
+    → answer ≡ first_stop g goal x d
+
+-- likewise of first marks
+abbrev pub FirstMarkIsFirst : Type 0
+FirstMarkIsFirst = (g : GridData) (x : Cell) (d : Dir) → IsFirstMark g x d (first_mark g x d)
+
+abbrev pub OneFirstMark : Type 0
+OneFirstMark = (g : GridData) (x : Cell) (d : Dir) (answer : Option ℕ) → IsFirstMark g x d answer
+    → answer ≡ first_mark g x d
+
+-- so many moves are legal, one after the other, as the length of the run says
+abbrev pub RunLengthIsTold : Type 0
+RunLengthIsTold = (g : GridData) (x : Cell) (d : Dir) (k : ℕ)
+    → is_some (run_end g d k x) ≡ nat_le k (run_length g x d)

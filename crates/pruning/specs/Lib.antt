@@ -1,10 +1,9 @@
 pub mod Turns
 pub mod Allowed
 pub mod Marked
-pub mod Listed
 pub mod Canonical
-pub mod Least
 pub mod Stop
+pub mod First
 pub mod Chain
 pub mod Source
 pub mod Facts

@@ -1,23 +1,34 @@
--- Forced neighbours, and the cells that are marked for having one.
--- Harabor and Grastien, AAAI 2011; under no corner cutting, SoCS 2012.
-use Rattle.std.specs.Prelude.{◌≡◌, ℕ, zero, suc, ◌≤◌, Bool, true, false, ◌&&◌, ◌||◌, refl, [], ◌∷◌, Option, Some, option_and_then}
+-- Forced neighbours, and the cells that are marked for having or seeing one.
+-- Harabor and Grastien: AAAI 2011 where corners may be cut, SoCS 2012 where none is.
+use Rattle.std.specs.Prelude.{◌≡◌, ℕ, zero, suc, ◌≤◌, Bool, true, false, ◌&&◌, ◌||◌, refl, Option, Some, option_and_then, if◌then◌else◌}
 use Rattle.grid_moves.specs.declared.Cell.{Cell}
+use Rattle.grid_moves.specs.declared.Corner.{Corner}
+use Rattle.grid_moves.specs.declared.Corner.TheVariants.{Never, One}
 use Rattle.grid_moves.specs.declared.Dir.{Dir}
-use Rattle.grid_moves.specs.declared.Dir.TheVariants.{E}
+use Rattle.grid_moves.specs.declared.Dir.TheVariants.{E, SE}
 use Rattle.grid_moves.specs.Grid.{GridData}
 use Rattle.grid_moves.specs.Move.{legal_ahead}
+use Rattle.grid_moves.specs.Examples.{pillar, notch}
 use Rattle.pruning.specs.declared.turns.Side.{Side}
 use Rattle.pruning.specs.declared.turns.Side.TheVariants.{Right, Left}
-use Rattle.pruning.specs.Turns.{turn, quarter, is_diagonal}
-use Rattle.pruning.specs.Allowed.{can_move, is_blocked_behind}
+use Rattle.pruning.specs.Turns.{turn, quarter, rear, is_diagonal}
+use Rattle.pruning.specs.Allowed.{is_blocked, can_move}
 
--- after a straight d: the neighbour on this side is forced
-abbrev pub is_forced_on : GridData → Cell → Dir → Side → Bool
-is_forced_on g x d s = is_blocked_behind g x d s && can_move g x (quarter s d)
+-- After a move in d a neighbour on this side is forced, told which cells around are blocked and which moves
+-- are legal. Where no corner is cut: after a straight move, the cell at that side, past a blocked one behind.
+-- Where one may be: after a straight move, the cell half ahead, past a blocked one at that side; after a
+-- diagonal, the cell at that side, past a blocked one behind.
+abbrev pub is_forced_on : Corner → (Dir → Bool) → (Dir → Bool) → Dir → Side → Bool
+is_forced_on Never blocked can d s =
+    if is_diagonal d then false else blocked (rear s d) && can (quarter s d)
+is_forced_on One blocked can d s =
+    if is_diagonal d then blocked (rear s d) && can (quarter s d) else blocked (quarter s d) && can (turn s d)
 
--- after a straight d: some neighbour is forced
+-- after a move in d some neighbour is forced
 abbrev pub is_forced : GridData → Cell → Dir → Bool
-is_forced g x d = is_forced_on g x d Right || is_forced_on g x d Left
+is_forced g x d =
+    is_forced_on g.corner (is_blocked g x) (can_move g x) d Right
+    || is_forced_on g.corner (is_blocked g x) (can_move g x) d Left
 
 -- the cell after k legal moves in d, if there are so many
 abbrev pub run_end : GridData → Dir → ℕ → Cell → Option Cell
@@ -32,26 +43,30 @@ pub record HoldsOnRun (g : GridData) (d : Dir) (x : Cell) (P : Cell → Type 0) 
   pub reached : run_end g d moves x ≡ Some cell
   pub holds : P cell
 
--- x is marked for d: for a straight d, a neighbour is forced; for a diagonal d, the legal run in a
--- component has a cell that is marked for that component
+-- x is marked for d: a neighbour is forced there, or d is diagonal and the legal run in a component has a
+-- cell that is marked for that component
 pub data IsMarked (g : GridData) (x : Cell) (d : Dir) : Type 0 where
-  forces : is_diagonal d ≡ false → is_forced g x d ≡ true → IsMarked g x d
+  forces : is_forced g x d ≡ true → IsMarked g x d
   looks_out : is_diagonal d ≡ true → (s : Side)
       → HoldsOnRun g (turn s d) x (λ v. is_forced g v (turn s d) ≡ true) → IsMarked g x d
 
--- the map `...../.@...`
-abbrev notch : GridData
-notch = record {
-  width = 5;
-  height = 2;
-  free = true ∷ true ∷ true ∷ true ∷ true ∷ true ∷ false ∷ true ∷ true
-      ∷ true ∷ [];
-}
-
--- above the wall nothing is forced, as corners are not cut
-pub above_the_wall : is_forced notch (record { x = 1; y = 0 }) E ≡ false
+-- where no corner is cut, above the wall nothing is forced, and a column on the way down is
+pub above_the_wall : is_forced (notch Never) (record { x = 1; y = 0 }) E ≡ false
 above_the_wall = refl
 
--- a column on the way down is forced
-pub behind_the_wall : is_forced notch (record { x = 2; y = 0 }) E ≡ true
+pub behind_the_wall : is_forced (notch Never) (record { x = 2; y = 0 }) E ≡ true
 behind_the_wall = refl
+
+-- where one may be cut, above the wall the way past it is forced, and a column on nothing is
+pub past_the_wall : is_forced (notch One) (record { x = 1; y = 0 }) E ≡ true
+past_the_wall = refl
+
+pub beyond_the_wall : is_forced (notch One) (record { x = 2; y = 0 }) E ≡ false
+beyond_the_wall = refl
+
+-- after a diagonal a neighbour is forced only where a corner may be cut
+pub round_a_corner : is_forced (pillar One) (record { x = 2; y = 1 }) SE ≡ true
+round_a_corner = refl
+
+pub round_no_corner : is_forced (pillar Never) (record { x = 2; y = 1 }) SE ≡ false
+round_no_corner = refl

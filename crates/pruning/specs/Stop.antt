@@ -6,7 +6,7 @@ use Rattle.grid_moves.specs.Grid.{GridData}
 use Rattle.pruning.specs.declared.turns.Side.{Side}
 use Rattle.pruning.specs.Turns.{turn, is_diagonal}
 use Rattle.pruning.specs.Marked.{run_end, HoldsOnRun, IsMarked}
-use Rattle.pruning.specs.Least.{FindsLeast}
+use Rattle.grid_moves.specs.Least.{FindsLeast}
 
 -- a jump in d stops at this cell: it is the goal, or marked for d, or d is diagonal and the goal lies on
 -- the legal run from the cell in a component
@@ -25,3 +25,13 @@ pub record StopsAfter (g : GridData) (goal x : Cell) (d : Dir) (k : ℕ) : Type 
 -- the answer is the number of moves from x in d to the first stop, or none where there is no stop
 abbrev pub IsFirstStop : GridData → Cell → Cell → Dir → Option ℕ → Type 0
 IsFirstStop g goal x d moves = FindsLeast (StopsAfter g goal x d) 1 moves
+
+-- the legal run from x in d has k moves, and leads to a cell that is marked for d
+pub record MarkedAfter (g : GridData) (x : Cell) (d : Dir) (k : ℕ) : Type 0 where
+  pub cell : Cell
+  pub reached : run_end g d k x ≡ Some cell
+  pub marks : IsMarked g cell d
+
+-- the answer is the number of moves from x in d to the first cell that is marked for d, or none
+abbrev pub IsFirstMark : GridData → Cell → Dir → Option ℕ → Type 0
+IsFirstMark g x d moves = FindsLeast (MarkedAfter g x d) 1 moves

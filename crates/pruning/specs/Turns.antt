@@ -1,5 +1,5 @@
 -- Turns from one direction to another, by an eighth of a circle to a side.
-use Rattle.std.specs.Prelude.{ℕ, Bool, true, false, nat_eq}
+use Rattle.std.specs.Prelude.{Bool, true, false}
 use Rattle.grid_moves.specs.declared.Dir.{Dir}
 use Rattle.grid_moves.specs.declared.Dir.TheVariants.{N, NE, E, SE, S, SW, W, NW}
 use Rattle.pruning.specs.declared.turns.Side.{Side}
@@ -29,8 +29,8 @@ abbrev pub quarter : Side → Dir → Dir
 quarter s d = turn s (turn s d)
 
 -- half-way back, on that side: of a straight d, its reverse and the quarter together
-abbrev pub behind : Side → Dir → Dir
-behind s d = turn s (quarter s d)
+abbrev pub rear : Side → Dir → Dir
+rear s d = turn s (quarter s d)
 
 -- NE, SE, SW and NW are the diagonal directions; the two eighths beside one are its components
 abbrev pub is_diagonal : Dir → Bool
@@ -42,18 +42,3 @@ is_diagonal S = false
 is_diagonal SW = true
 is_diagonal W = false
 is_diagonal NW = true
-
--- the place in the order of the directions
-abbrev pub dir_number : Dir → ℕ
-dir_number N = 0
-dir_number NE = 1
-dir_number E = 2
-dir_number SE = 3
-dir_number S = 4
-dir_number SW = 5
-dir_number W = 6
-dir_number NW = 7
-
--- the directions are one
-abbrev pub is_dir : Dir → Dir → Bool
-is_dir d e = nat_eq (dir_number d) (dir_number e)

@@ -1,20 +1,29 @@
 //! Laws of pruning: each is the contract of a call that does nothing.
 //!
 //! Together they say that a search which goes on in allowed directions alone, from stop to stop, misses
-//! no least walk, and finds walks alone.
+//! no least walk, and finds walks alone. That the octile estimate suits such a search is a law of
+//! `grid_moves::laws`. All hold under both corner rules; only the first two look at the rule.
 
-ghost use Rattle.pruning.specs.Facts.{TurnsAreMarked};
-ghost use Rattle.pruning.specs.Laws.{CanonicalWalksSuffice, ChainsSuffice, ChainsAreWalks, EstimateIsConsistent};
+ghost use Rattle.pruning.specs.Facts.{TurnsAreReplaced, TurnsAreMarked};
+ghost use Rattle.pruning.specs.Laws.{CanonicalWalksSuffice, ChainsSuffice, ChainsAreWalks};
+ghost use Rattle.pruning.specs.Laws.{MarksAreTold, StopsAreTold, FirstStopIsFirst, OneFirstStop};
+ghost use Rattle.pruning.specs.Laws.{FirstMarkIsFirst, OneFirstMark, RunLengthIsTold};
 
-/// For every walk there is a canonical walk with the same ends, of no greater cost.
-pub fn canonical_walks_suffice()
-    ensures { CanonicalWalksSuffice }
+/// Two legal moves of which the second is not allowed after the first can be replaced: by moves of no
+/// greater cost that are fewer, or have fewer diagonal ones, or have these earlier.
+pub fn turns_are_replaced()
+    ensures { TurnsAreReplaced }
 {}
 
 /// Where an allowed direction is neither the arrival's own nor, after a diagonal, one of its
 /// components, the cell is marked for the arrival.
 pub fn turns_are_marked()
     ensures { TurnsAreMarked }
+{}
+
+/// For every walk there is a canonical walk with the same ends, of no greater cost.
+pub fn canonical_walks_suffice()
+    ensures { CanonicalWalksSuffice }
 {}
 
 /// For every canonical walk there is a chain of first stops from its start to its end, of no greater
@@ -28,7 +37,38 @@ pub fn chains_are_walks()
     ensures { ChainsAreWalks }
 {}
 
-/// The octile estimate never exceeds the cost of a walk, and falls by at most a move's cost per move.
-pub fn estimate_is_consistent()
-    ensures { EstimateIsConsistent }
+/// The test `is_marked` holds exactly at the marked cells.
+pub fn marks_are_told()
+    ensures { MarksAreTold }
+{}
+
+/// The test `is_stop` holds exactly at the cells at which a jump stops.
+pub fn stops_are_told()
+    ensures { StopsAreTold }
+{}
+
+/// What `first_stop` computes is the number of moves to the first stop, or none where there is none.
+pub fn first_stop_is_first()
+    ensures { FirstStopIsFirst }
+{}
+
+/// And no other answer is.
+pub fn only_one_first_stop()
+    ensures { OneFirstStop }
+{}
+
+/// What `first_mark` computes is the number of moves to the first marked cell, or none where there is
+/// none.
+pub fn first_mark_is_first()
+    ensures { FirstMarkIsFirst }
+{}
+
+/// And no other answer is.
+pub fn only_one_first_mark()
+    ensures { OneFirstMark }
+{}
+
+/// As many moves are legal, one after the other, as `run_length` computes.
+pub fn run_length_is_told()
+    ensures { RunLengthIsTold }
 {}

@@ -1,8 +1,8 @@
 //! Pruning: in which directions a search goes on, where a jump stops, and the laws that no least
 //! walk is lost so.
 //!
-//! The rule is that of Harabor and Grastien's Jump Point Search (AAAI 2011), in the form in which
-//! corners are not cut (SoCS 2012). `allowed` and `forced` are the rule on a grid; `JumpSource` is what
+//! The rule is that of Harabor and Grastien's Jump Point Search (AAAI 2011), and, on a grid where no
+//! corner is cut, its form of SoCS 2012. `allowed` and `forced` are the rule on a grid; `JumpSource` is what
 //! a search asks of whatever finds the stops; `laws` has what makes such a search right.
 #![tactic(auto)]
 
@@ -14,7 +14,7 @@ mod turns;
 use grid_moves::Dir;
 pub use rule::{allowed, forced};
 pub use source::JumpSource;
-pub use turns::{Side, is_diagonal, turn};
+pub use turns::{Side, is_diagonal, quarter, rear, turn};
 
 /// How a search came to a cell.
 #[derive(Clone, Copy, Debug, PartialEq, Eq)]

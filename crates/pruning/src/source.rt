@@ -1,10 +1,10 @@
 //! Sources of jumps: what a search over jump points asks of a grid, however the answers are found.
 
-ghost use Rattle.std.specs.Prelude.{◌≡◌, ℕ, ◌+◌, ◌-◌, ◌≤◌, Option, IsTrue};
+ghost use Rattle.std.specs.Prelude.{◌≡◌, ℕ, ◌+◌, ◌≤◌, Option, IsTrue};
 ghost use Rattle.grid_moves.specs.Grid.{GridData, IsGrid, is_free};
 ghost use Rattle.pruning.specs.Allowed.{allowed_dirs};
 ghost use Rattle.pruning.specs.Stop.{IsFirstStop};
-ghost use Rattle.pruning.specs.Source.{AreAtMost, CanArrive};
+ghost use Rattle.pruning.specs.Source.{MostSteps, IsWithin, CanArrive};
 
 use crate::Arrival;
 use arrayvec::ArrayVec;
@@ -22,7 +22,7 @@ pub trait JumpSource {
     ghost StandsFor: { Self → GridData → Type 0 };
 
     /// How many steps one call of `stop` makes at most, and one of `allowed`, if that is told.
-    ghost most: { Self → Option (ℕ × ℕ) };
+    ghost most: { Self → Option MostSteps };
 
     /// How many steps each of these calls makes at least.
     ghost fewest: { Self → ℕ };
@@ -44,7 +44,7 @@ pub trait JumpSource {
         ensures first { (g : GridData) → StandsFor self.now g → IsTrue (is_free g at)
             → IsTrue (is_free g goal)
             → IsFirstStop g goal at d result }
-        ensures most { AreAtMost (most self.now) (λ told. told.0) (steps.new - steps.old) }
+        ensures most { IsWithin (most self.now) (λ told. told.stop) steps.old steps.new }
         ensures fewest { steps.old + fewest self.now ≤ steps.new };
 
     /// The allowed directions at `at`, in increasing order.
@@ -52,6 +52,6 @@ pub trait JumpSource {
         requires { (g : GridData) × StandsFor self.now g × IsTrue (is_free g at) × CanArrive g at by }
         ensures rule { (g : GridData) → StandsFor self.now g → IsTrue (is_free g at) → CanArrive g at by
             → result.items ≡ allowed_dirs g at by }
-        ensures most { AreAtMost (most self.now) (λ told. told.1) (steps.new - steps.old) }
+        ensures most { IsWithin (most self.now) (λ told. told.allowed) steps.old steps.new }
         ensures fewest { steps.old + fewest self.now ≤ steps.new };
 }

@@ -1,36 +1,34 @@
 //! The rule on maps on squared paper, and a source of jumps that stands for one grid.
 
-ghost use Rattle.std.specs.Prelude.{◌≡◌, ◌<◌, IsTrue, Some};
-ghost use Rattle.grid_moves.specs.Grid.{GridData, is_free};
-ghost use Rattle.pruning.specs.Source.{alone};
+ghost use Rattle.std.specs.Prelude.{◌≡◌, ◌<◌, IsTrue, Some, codes};
+ghost use Rattle.grid_moves.specs.declared.Corner.TheVariants.{Never};
+ghost use Rattle.grid_moves.specs.Grid.{GridData, grid_of, is_free};
 
 use crate::{Arrival, JumpSource, allowed, forced};
 use arrayvec::ArrayVec;
-use grid_moves::{Cell, Dir, Grid};
+use grid_moves::{Cell, Corner, Dir, Grid, Terrain};
 use std::marker::Brand;
 use std::sync::ledger::{Blank, Ledger};
 use std::test::Fail;
 use steps::Steps;
 
-// On the map `.../.@./...`: from a corner, past the pillar, beyond it, and after a diagonal move.
+// On the map `.../.@./...`, where no corner is cut: along the pillar, and past it.
 #[test]
 fn round_a_pillar(rt: HostRuntime) -> Result<(), Fail> {
-    let grid = Grid::of_cells(rt.alloc(), 3, 3, b"....@....")?;
-    let past = allowed(&grid, Cell { x: 2, y: 0 }, Arrival::By(Dir::E));
-    assert_eq!(rt; past.as_slice(), [Dir::S].as_slice());
+    let grid = Grid::of_cells(rt.alloc(), 3, 3, b"....@....", Corner::Never)?;
     let along = allowed(&grid, Cell { x: 1, y: 0 }, Arrival::By(Dir::E));
     assert_eq!(rt; along.as_slice(), [Dir::E].as_slice());
-    let start = allowed(&grid, Cell { x: 0, y: 0 }, Arrival::Start);
-    assert_eq!(rt; start.as_slice(), [Dir::E, Dir::S].as_slice());
+    let past = allowed(&grid, Cell { x: 2, y: 0 }, Arrival::By(Dir::E));
+    assert_eq!(rt; past.as_slice(), [Dir::S].as_slice());
     Ok(())
 }
 
-// On the map `...../.@...`: above the wall nothing is forced, a column on the way down is.
+// On the map `...../.@...`, where a corner may be cut: above the wall the way past it is forced.
 #[test]
 fn beyond_a_wall(rt: HostRuntime) -> Result<(), Fail> {
-    let grid = Grid::of_cells(rt.alloc(), 5, 2, b"......@...")?;
-    assert!(rt; !forced(&grid, Cell { x: 1, y: 0 }, Dir::E));
-    assert!(rt; forced(&grid, Cell { x: 2, y: 0 }, Dir::E));
+    let grid = Grid::of_cells(rt.alloc(), 5, 2, b"......@...", Corner::One)?;
+    assert!(rt; forced(&grid, Cell { x: 1, y: 0 }, Dir::E));
+    assert!(rt; !forced(&grid, Cell { x: 2, y: 0 }, Dir::E));
     Ok(())
 }
 
@@ -38,9 +36,9 @@ fn beyond_a_wall(rt: HostRuntime) -> Result<(), Fail> {
 struct Alone;
 
 impl JumpSource for Alone {
-    ghost StandsFor = { λ _ g. g ≡ alone };
+    ghost StandsFor = { λ _ g. g ≡ grid_of 1 1 (codes ".") Never };
 
-    ghost most = { λ _. Some (1, 1) };
+    ghost most = { λ _. Some (record { stop = 1; allowed = 1 }) };
 
     ghost fewest = { λ _. 1 };
 

@@ -41,6 +41,21 @@ pub fn turn(side: Side, d: Dir) -> Dir
     }
 }
 
+/// The direction at right angles, to that side.
+pub fn quarter(side: Side, d: Dir) -> Dir
+    ensures { result ≡ spec.quarter side d }
+{
+    turn(side, turn(side, d))
+}
+
+/// The direction half-way back, on that side. Of a straight direction it is the diagonal between its
+/// reverse and the side.
+pub fn rear(side: Side, d: Dir) -> Dir
+    ensures { result ≡ spec.rear side d }
+{
+    turn(side, quarter(side, d))
+}
+
 /// Whether the direction is a diagonal one.
 pub fn is_diagonal(d: Dir) -> bool
     ensures { result ≡ spec.is_diagonal d }

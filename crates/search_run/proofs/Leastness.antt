@@ -58,7 +58,7 @@ offer_cost None = no_cost
 offer_cost (Some o) = o.cost
 
 -- two readings of one offer
-one_cost : {S : Type 0} (q : Option (Offer S)) (a b : Offer S) → q ≡ Some a → q ≡ Some b → a.cost ≡ b.cost
+pub one_cost : {S : Type 0} (q : Option (Offer S)) (a b : Offer S) → q ≡ Some a → q ≡ Some b → a.cost ≡ b.cost
 unfolding offer_cost
 one_cost {S} q a b d e = ap (λ (p : Option (Offer S)). offer_cost p) (sym d ∙ e)
 

@@ -1,3 +1,4 @@
 pub mod Run
 pub mod Chain
 pub mod Laws
+pub mod Ended

@@ -6,8 +6,8 @@ use Rattle.grid_moves.proofs.Legal.{free_inside, legal_is}
 use Rattle.grid_moves.proofs.Places.{number_below}
 use Rattle.grid_moves.proofs.terrain.step.Goals as goal
 
-pub returns-then-is_legal_move-clause-inside : goal.returns-then-is_legal_move-clause-inside
-returns-then-is_legal_move-clause-inside g c =
+pub returns-then-is_legal-clause-inside : goal.returns-then-is_legal-clause-inside
+returns-then-is_legal-clause-inside g c =
     let grid : GridData = g.T.Terrain.grid c.args.t.now in
     let to : Cell = c.in_ok-to.to in
     let legal : is_legal grid c.args.c to ≡ true = search rules in

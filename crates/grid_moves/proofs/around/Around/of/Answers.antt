@@ -1,4 +1,4 @@
-use Rattle.std.proofs.Common.{◌≡◌, ◌+◌, inl, inr, refl}
+use Rattle.std.proofs.Common.{◌+◌, inl, inr, refl}
 use Rattle.grid_moves.specs.declared.Cell.{Cell}
 use Rattle.grid_moves.specs.declared.Dir.TheVariants.{N, NE, SW, W, NW}
 use Rattle.grid_moves.proofs.Besides.{straight, diagonal, stay, further, back, back_differs}

@@ -1,5 +1,5 @@
 use Rattle.grid_moves.specs.declared.Dir.TheVariants.{N, NE, E, SE, S, SW, W, NW}
-use Rattle.plain_search.proofs.Besides.{ahead_free}
+use Rattle.grid_moves.proofs.Besides.{ahead_free}
 use Rattle.plain_search.proofs.space.Workspace.offer_all.Goals as goal
 
 pub offer_over-requires-clause-free : goal.offer_over-requires-clause-free

@@ -1,0 +1,64 @@
+-- Walks one after the other: what is less of the first is less of both.
+use Rattle.std.proofs.Common.{◌≡◌, ◌+◌, ◌*◌, arith, true, refl, ap, sym, ◌∙◌, List, [], ◌∷◌, ◌++◌, length, length-append}
+use Rattle.root2_cost.specs.declared.Cost.{Cost}
+use Rattle.root2_cost.specs.Sums.{add_costs}
+use Rattle.root2_cost.proofs.Sums.{add_costs-assoc, add_costs-no_cost_left}
+use Rattle.grid_moves.specs.declared.Cell.{Cell}
+use Rattle.grid_moves.specs.Grid.{GridData}
+use Rattle.grid_moves.specs.Move.{is_legal, move_cost}
+use Rattle.grid_moves.specs.Walk.{is_walk, cost_of, last_of}
+use Rattle.pruning.specs.Facts.{diagonal_places, IsSmaller, shorter, straighter, earlier}
+
+pub last-joined : (x : Cell) (cells more : List Cell)
+    → last_of x (cells ++ more) ≡ last_of (last_of x cells) more
+last-joined x [] more = refl
+last-joined x (c ∷ cells) more = last-joined c cells more
+
+pub walks-joined : (g : GridData) (x : Cell) (cells more : List Cell) → is_walk g (x ∷ cells) ≡ true
+    → is_walk g (last_of x cells ∷ more) ≡ true → is_walk g (x ∷ (cells ++ more)) ≡ true
+walks-joined g x [] more w v = v
+walks-joined g x (c ∷ cells) more w v =
+    let l : is_legal g x c ≡ true = grind arith in
+    let r : is_walk g (c ∷ cells) ≡ true = grind arith in
+    rw (l, walks-joined g c cells more r v) refl
+
+pub cost-joined : (x : Cell) (cells more : List Cell)
+    → cost_of (x ∷ (cells ++ more)) ≡ add_costs (cost_of (x ∷ cells)) (cost_of (last_of x cells ∷ more))
+cost-joined x [] more = sym (add_costs-no_cost_left (cost_of (x ∷ more)))
+cost-joined x (c ∷ cells) more = ap (λ (k : Cost). add_costs (move_cost x c) k) (cost-joined c cells more)
+    ∙ sym (add_costs-assoc (move_cost x c) (cost_of (c ∷ cells)) (cost_of (last_of c cells ∷ more)))
+
+diagonals-joined : (x : Cell) (cells more : List Cell)
+    → (cost_of (x ∷ (cells ++ more))).b ≡ (cost_of (x ∷ cells)).b + (cost_of (last_of x cells ∷ more)).b
+diagonals-joined x cells more = ap (λ (c : Cost). c.b) (cost-joined x cells more)
+
+-- the places of the diagonal moves of the second walk are those after the first
+places-joined : (x : Cell) (cells more : List Cell)
+    → diagonal_places (x ∷ (cells ++ more)) ≡ diagonal_places (x ∷ cells)
+    + length cells * (cost_of (last_of x cells ∷ more)).b + diagonal_places (last_of x cells ∷ more)
+places-joined x [] more = omega arith
+places-joined x (c ∷ cells) more =
+    let a = places-joined c cells more in let b = diagonals-joined x (c ∷ cells) more in omega arith
+
+-- with the same walk after both
+pub IsSmaller-joined : (x : Cell) (es ds more : List Cell) → last_of x es ≡ last_of x ds
+    → IsSmaller (x ∷ es) (x ∷ ds) → IsSmaller (x ∷ (es ++ more)) (x ∷ (ds ++ more))
+IsSmaller-joined x es ds more e (shorter l) =
+    shorter (rw (length-append es more, length-append ds more) (omega arith))
+IsSmaller-joined x es ds more e (straighter l b) = straighter
+    (rw (length-append es more, length-append ds more) (omega arith))
+    (rw (diagonals-joined x es more, diagonals-joined x ds more, e) (omega arith))
+IsSmaller-joined x es ds more e (earlier l b p) = earlier
+    (rw (length-append es more, length-append ds more) (omega arith))
+    (rw (diagonals-joined x es more, diagonals-joined x ds more, e) (omega arith))
+    (let n : length es ≡ length ds = omega arith in
+    let same : length es * (cost_of (last_of x ds ∷ more)).b ≡ length ds * (cost_of (last_of x ds ∷ more)).b =
+    ap (λ n. n * (cost_of (last_of x ds ∷ more)).b) n in
+    rw (places-joined x es more, places-joined x ds more, e) (omega arith))
+
+-- with the same move before both
+pub IsSmaller-cons : (x c : Cell) (es ds : List Cell) → IsSmaller (c ∷ es) (c ∷ ds)
+    → IsSmaller (x ∷ c ∷ es) (x ∷ c ∷ ds)
+IsSmaller-cons x c es ds (shorter l) = shorter (omega arith)
+IsSmaller-cons x c es ds (straighter l b) = straighter (omega arith) (omega arith)
+IsSmaller-cons x c es ds (earlier l b p) = earlier (omega arith) (omega arith) (omega arith)
