@@ -1,0 +1,4 @@
+pub mod Jumps
+pub mod Run
+pub mod Answer
+pub mod Existence
