@@ -1,2 +1,4 @@
 pub mod Links
 pub mod Passing
+pub mod Ways
+pub mod Right
