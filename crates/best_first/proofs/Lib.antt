@@ -11,3 +11,4 @@ pub mod Searching
 pub mod Bounds
 pub mod Backing
 pub mod Progress
+pub mod Ending
