@@ -2,3 +2,4 @@ pub mod Links
 pub mod Passing
 pub mod Ways
 pub mod Right
+pub mod Answering

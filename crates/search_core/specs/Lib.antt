@@ -2,3 +2,4 @@ pub mod Jumps
 pub mod Run
 pub mod Answer
 pub mod Existence
+pub mod Laws

@@ -8,6 +8,7 @@
 #![tactic(auto)]
 
 mod found;
+pub mod laws;
 
 pub use best_first::{NoMemory, Taken};
 pub use found::Found;
