@@ -13,15 +13,9 @@ use Rattle.best_first.specs.declared.state.State.{State}
 use Rattle.best_first.specs.declared.state.Layout.{Layout}
 use Rattle.best_first.specs.State.{arrival_number, state_number, is_same_state, start_at}
 use Rattle.best_first.specs.Rule.{Links, search_rule, LiesOn, IsSearch}
+use Rattle.best_first.proofs.Numbers.{at_most}
 use Rattle.best_first.proofs.Searching.{run_on}
 use Rattle.best_first.proofs.States.{arrival_small, one_arrival, same_state, is_same_state-itself}
-
-differ : (m n : ℕ) → (m ≡ n → ⊥) → eqb m n ≡ false
-differ m n h = by_test (eqb m n) refl
-  where
-    by_test : (b : Bool) → eqb m n ≡ b → eqb m n ≡ false
-    by_test true e = absurd (h (grind (arith, nat_tests)))
-    by_test false e = e
 
 -- numbers of states on the map tell them apart
 pub one_state : (width height : ℕ) (s t : State) → LiesOn width height s.cell → LiesOn width height t.cell
@@ -42,65 +36,59 @@ state_below width height s a =
     let small = arrival_small s.arrival in
     omega arith
 
-any_is : (xs : List ℕ) (q : ℕ) → list_any (eqb q) xs ≡ true → (i : ℕ) × (slice_get xs i ≡ Some q)
-any_is [] q h = absurd (cc)
-any_is (x ∷ xs) q h = by_test (any_is xs q) (eqb q x) refl h
-  where
-    by_test : (list_any (eqb q) xs ≡ true → (i : ℕ) × (slice_get xs i ≡ Some q)) → (b : Bool) → eqb q x ≡ b
-        → (b || list_any (eqb q) xs) ≡ true → (i : ℕ) × (slice_get (x ∷ xs) i ≡ Some q)
-    by_test again true e h = (0, ap (λ (v : ℕ). Some v) (let s : x ≡ q = grind (arith, nat_tests) in s))
-    by_test again false e h = let r = again h in (suc r.0, r.1)
-
-length-map : {X : Type 0} (f : X → ℕ) (xs : List X) → length (map f xs) ≡ length xs
-length-map f [] = refl
-length-map f (x ∷ xs) = ap (λ n. suc n) (length-map f xs)
-
 module _ (width height : ℕ) (start goal : Cell) (link : Links) (fit : IsSearch width height start goal link) where
-  number : Taken State → ℕ
-  number u = state_number width u.state
+  member : (xs : List (Taken State)) (i : ℕ) (u : Taken State) → slice_get xs i ≡ Some u → IsIn u xs
+  member [] i u h = absurd (cc)
+  member (x ∷ xs) zero u h = subst (λ (w : Taken State). IsIn w (x ∷ xs))
+      (ap (λ (o : Option (Taken State)). elim o as (λ _. Taken State) [ Some v ↦ v | None ↦ u ]) h) (here xs)
+  member (x ∷ xs) (suc i) u h = there x xs (member xs i u h)
 
-  apart : (x : State) (some : List (Taken State)) → LiesOn width height x.cell
-      → is_taken (search_rule width goal link) some x ≡ false
-      → ((u : Taken State) → IsIn u some → LiesOn width height u.state.cell)
-      → AllByRecursion (λ n. eqb (state_number width x) n ≡ false) (map number some)
-  unfolding number
-  apart x [] f n fs = tt
-  apart x (u ∷ some) f n fs =
-      let parts = or_false (is_same_state u.state x) (is_taken (search_rule width goal link) some x) n in (
-        differ (state_number width x) (state_number width u.state) (λ e.
-            let one : x ≡ u.state = one_state width height x u.state f (fs u (here some)) e in
-            let yes : is_same_state u.state x ≡ true =
-            ap (λ (s : State). is_same_state u.state s) one ∙ is_same_state-itself u.state in
-            let no = parts.0 in
-            cc),
-        apart x some f parts.1 (λ w m. fs w (there u some m)),
-      )
+  -- no state is taken twice
+  later_other : (x : Taken State) (some : List (Taken State))
+      → is_taken (search_rule width goal link) some x.state ≡ false → (u : Taken State) → IsIn u some
+      → u.state ≡ x.state → ⊥
+  later_other x [] n u m e = elim m [ ]
+  later_other x (y ∷ some) n u (here z) e =
+      let no = (or_false (is_same_state y.state x.state)
+      (is_taken (search_rule width goal link) some x.state) n).0 in
+      let yes : is_same_state y.state x.state ≡ true =
+      ap (λ (s : State). is_same_state y.state s) (sym e) ∙ is_same_state-itself y.state in
+      absurd (cc)
+  later_other x (y ∷ some) n u (there z w m) e = later_other x some (or_false (is_same_state y.state x.state)
+      (is_taken (search_rule width goal link) some x.state) n).1 u m e
 
-  distinct_run : (run : List (Taken State)) → IsRun (search_rule width goal link) (start_at start) run
-      → IsDistinct eqb (map number run)
-  unfolding IsDistinct number
-  distinct_run [] is = tt
-  distinct_run (x ∷ []) is = (tt, tt)
-  distinct_run (x ∷ y ∷ earlier) is = (
-    apart x.state (y ∷ earlier) (run_on width height start goal link fit (x ∷ y ∷ earlier) is x
-        (here (y ∷ earlier))) is.2.waits (run_on width height start goal link fit (y ∷ earlier) is.0),
-    distinct_run (y ∷ earlier) is.0,
-  )
-
-  member : (number_at : Taken State → ℕ) (xs : List (Taken State)) (i q : ℕ)
-      → slice_get (map number_at xs) i ≡ Some q → (u : Taken State) × IsIn u xs × (number_at u ≡ q)
-  member number_at [] i q h = absurd (cc)
-  member number_at (x ∷ xs) zero q h =
-      (x, here xs, ap (λ (o : Option ℕ). elim o as (λ _. ℕ) [ Some v ↦ v | None ↦ 0 ]) h)
-  member number_at (x ∷ xs) (suc i) q h = let r = member number_at xs i q h in (r.0, there x xs r.1, r.2)
+  apart_run : (run : List (Taken State)) → IsRun (search_rule width goal link) (start_at start) run
+      → (i j : ℕ) (a b : Taken State) → slice_get run i ≡ Some a → slice_get run j ≡ Some b
+      → a.state ≡ b.state → i ≡ j
+  apart_run [] is i j a b h g e = absurd is
+  apart_run (x ∷ []) is zero zero a b h g e = refl
+  apart_run (x ∷ []) is zero (suc j) a b h g e = absurd (cc)
+  apart_run (x ∷ []) is (suc i) j a b h g e = absurd (cc)
+  apart_run (x ∷ y ∷ earlier) is zero zero a b h g e = refl
+  apart_run (x ∷ y ∷ earlier) is zero (suc j) a b h g e =
+      let one : x ≡ a = some_taken x a h in
+      absurd (later_other x (y ∷ earlier) is.2.waits b (member (y ∷ earlier) j b g)
+      (sym e ∙ ap (λ (u : Taken State). u.state) (sym one)))
+    where
+      some_taken : (u v : Taken State) → Some u ≡ Some v → u ≡ v
+      some_taken u v q = ap (λ (o : Option (Taken State)). elim o as (λ _. Taken State)
+          [ Some w ↦ w | None ↦ u ]) q
+  apart_run (x ∷ y ∷ earlier) is (suc i) zero a b h g e =
+      let one : x ≡ b = some_taken x b g in
+      absurd (later_other x (y ∷ earlier) is.2.waits a (member (y ∷ earlier) i a h)
+      (e ∙ ap (λ (u : Taken State). u.state) (sym one)))
+    where
+      some_taken : (u v : Taken State) → Some u ≡ Some v → u ≡ v
+      some_taken u v q = ap (λ (o : Option (Taken State)). elim o as (λ _. Taken State)
+          [ Some w ↦ w | None ↦ u ]) q
+  apart_run (x ∷ y ∷ earlier) is (suc i) (suc j) a b h g e =
+      ap (λ (k : ℕ). suc k) (apart_run (y ∷ earlier) is.0 i j a b h g e)
 
   pub few_taken : (run : List (Taken State)) → IsRun (search_rule width goal link) (start_at start) run
       → length run ≤ height * width * 9
-  unfolding number
-  few_taken run is =
-      subst (λ n. n ≤ height * width * 9) (length-map number run)
-      (length-le_from_distinct_below (map number run) (height * width * 9) (distinct_run run is) (λ q h.
-      let i = any_is (map number run) q h in
-      let u = member number run i.0 q i.1 in
-      subst (λ v. v < height * width * 9) u.2
-      (state_below width height u.0.state (run_on width height start goal link fit run is u.0 u.1))))
+  few_taken run is = at_most (λ (u : Taken State). state_number width u.state) run (height * width * 9)
+      (λ i j a b h g e. apart_run run is i j a b h g (one_state width height a.state b.state
+      (run_on width height start goal link fit run is a (member run i a h))
+      (run_on width height start goal link fit run is b (member run j b g)) e))
+      (λ i u h. state_below width height u.state
+      (run_on width height start goal link fit run is u (member run i u h)))

@@ -6,9 +6,14 @@ pub mod Mirrors
 pub mod Offering
 pub mod Taking
 pub mod Ways
-pub mod Tables
 pub mod Searching
 pub mod Bounds
 pub mod Backing
 pub mod Progress
+pub mod Records
+pub mod Numbers
+pub mod Exact
+pub mod Forgetting
+pub mod Tables
+pub mod Parts
 pub mod Ending

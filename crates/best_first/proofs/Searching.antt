@@ -98,19 +98,24 @@ module _ (layout : Layout) (width height : ℕ) (start goal : Cell) (link : Link
 
     -- so no closed node has a greater key
     pub closed_below : ClosedBelow i.node.key k
-    closed_below id n h shut = taken_below id n h
-        (by_test (is_taken (search_rule width goal link) (x ∷ earlier) (state_of layout n)) refl)
+    closed_below = record { flags = i.mirrors.no_more; below = below }
       where
         flag : Option Bool → Bool
         flag None = true
         flag (Some b) = b
 
-        by_test : (b : Bool) → is_taken (search_rule width goal link) (x ∷ earlier) (state_of layout n) ≡ b
+        by_test : (id : ℕ) (n : Node) → slice_get k.nodes id ≡ Some n → slice_get k.open_at id ≡ Some false
+            → (b : Bool) → is_taken (search_rule width goal link) (x ∷ earlier) (state_of layout n) ≡ b
             → is_taken (search_rule width goal link) (x ∷ earlier) (state_of layout n) ≡ true
-        by_test true e = e
-        by_test false e = absurd (let o : slice_get k.open_at id ≡ Some true =
+        by_test id n h shut true e = e
+        by_test id n h shut false e = absurd (let o : slice_get k.open_at id ≡ Some true =
             (i.mirrors.in_order id n h).opened ∙ rw e refl in
             let s : true ≡ false = ap (λ (q : Option Bool). flag q) (sym o ∙ shut) in cc)
+
+        below : (id : ℕ) (n : Node) → slice_get k.nodes id ≡ Some n → slice_get k.open_at id ≡ Some false
+            → n.key ≤ i.node.key
+        below id n h shut = taken_below id n h (by_test id n h shut
+            (is_taken (search_rule width goal link) (x ∷ earlier) (state_of layout n)) refl)
 
     last_taken : is_taken (search_rule width goal link) (x ∷ earlier) (state_of layout i.node) ≡ true
     last_taken = rw i.state (yes (is_taken (search_rule width goal link) earlier x.state))

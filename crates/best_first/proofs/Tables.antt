@@ -1,16 +1,19 @@
 -- What an offer leaves as it was.
-use Rattle.std.proofs.Common.{◌≡◌, ◌≢◌, ℕ, ◌<◌, ◌≤◌, inl, inr, length, List, [], ◌∷◌, ◌++◌, refl, ap, sym, ◌∙◌, subst, Bool, true, false, arith}
-use Rattle.std.specs.Prelude.{Option, Some, None, slice_get, slice_set, if◌then◌else◌, nat_lt}
+use Rattle.std.proofs.Common.{◌≡◌, ◌≢◌, ℕ, suc, ◌-◌, ◌<◌, ◌≤◌, inl, inr, length, List, [], ◌∷◌, ◌++◌, refl, ap, sym, ◌∙◌, subst, Bool, true, false, arith}
+use Rattle.std.specs.Prelude.{Option, Some, None, slice_get, slice_set, slice_index_or, if◌then◌else◌, nat_lt}
 use Rattle.std.proofs.lemmas.Bool.Decides.{nat_tests}
+use Rattle.std.proofs.lemmas.Grind.{common_steps}
 use Rattle.std.proofs.lemmas.Option.{slice_get_within}
 use Rattle.grid_moves.specs.declared.Cell.{Cell}
 use Rattle.best_first.specs.declared.node.Node.{Node}
 use Rattle.best_first.specs.declared.node.Offer.{Offer}
 use Rattle.best_first.specs.declared.state.Layout.{Layout}
 use Rattle.best_first.specs.State.{state_in}
+use Rattle.best_first.specs.Index.{entry_for}
 use Rattle.best_first.specs.Table.{Table, lookup, node_for, added, replaced, is_bettered, offered, offered_at, ClosedBelow}
 use Rattle.best_first.proofs.Lists.{get-added, got-added, get-set_other, got-set}
 use Rattle.best_first.proofs.Mirrors.{some_node}
+use Rattle.best_first.proofs.Records.{read, length-set}
 
 -- the node that is bettered
 pub record IsBettered (nodes : List Node) (id key : ℕ) : Type 0 where
@@ -58,27 +61,37 @@ module _ (layout : Layout) (goal : Cell) (o : Offer) (k : Table) where
       by_lookup (Some id) = by_test id (is_bettered k.nodes id new.key) refl
 
   -- closed nodes stay, and with them the bound on their keys
-  pub closed_stays : (bound : ℕ) → length k.open_at ≡ length k.nodes → ClosedBelow bound k → bound ≤ new.key
+  pub closed_stays : (bound : ℕ) → ClosedBelow bound k → bound ≤ new.key
       → ClosedBelow bound (offered layout goal o k)
-  closed_stays bound whole c l = by_lookup (lookup layout k.nodes (state_in layout o.to))
+  closed_stays bound c l = by_lookup (lookup layout k.nodes (state_in layout o.to))
     where
       on_added : ClosedBelow bound (added new k)
-      on_added id n h shut = elim (got-added k.nodes new id n h) [
-        | inl was ↦ elim (got-added k.open_at true id false shut)
-            [ inl f ↦ c id n was f | inr f ↦ absurd (let e = f.1 in cc) ]
-        | inr last ↦ elim (got-added k.open_at true id false shut) [
-          | inl f ↦ absurd (let b = slice_get_within k.open_at id false f in let e = last.0 in omega arith)
-          | inr f ↦ absurd (let e = f.1 in cc)
-        ]
-      ]
+      on_added = record { flags = (let e = c.flags in grind (arith, common_steps)); below = below }
+        where
+          below : (id : ℕ) (n : Node) → slice_get (k.nodes ++ new ∷ []) id ≡ Some n
+              → slice_get (k.open_at ++ true ∷ []) id ≡ Some false → n.key ≤ bound
+          below id n h shut = elim (got-added k.nodes new id n h) [
+            | inl was ↦ elim (got-added k.open_at true id false shut)
+                [ inl f ↦ c.below id n was f | inr f ↦ absurd (let e = f.1 in cc) ]
+            | inr last ↦ elim (got-added k.open_at true id false shut) [
+              | inl f ↦ absurd (let b = slice_get_within k.open_at id false f in let e = last.0 in
+                  let w = c.flags in omega arith)
+              | inr f ↦ absurd (let e = f.1 in cc)
+            ]
+          ]
 
       on_replaced : (id : ℕ) → is_bettered k.nodes id new.key ≡ true → ClosedBelow bound (replaced id new k)
-      on_replaced id t j n h shut = elim (got-set k.nodes j id n new h) [
-        | inl was ↦ c j n was.1 shut
-        | inr here ↦ absurd (let b = bettered_node k.nodes id new.key t in
-            let m = c id b.node b.node_is (sym (ap (λ (i : ℕ). slice_get k.open_at i) here.0) ∙ shut) in
-            let g = b.greater in omega arith)
-      ]
+      on_replaced id t = record { flags = c.flags ∙ sym (length-set k.nodes id new); below = below }
+        where
+          below : (j : ℕ) (n : Node) → slice_get (slice_set k.nodes id new) j ≡ Some n
+              → slice_get k.open_at j ≡ Some false → n.key ≤ bound
+          below j n h shut = elim (got-set k.nodes j id n new h) [
+            | inl was ↦ c.below j n was.1 shut
+            | inr here ↦ absurd (let b = bettered_node k.nodes id new.key t in
+                let m = c.below id b.node b.node_is
+                (sym (ap (λ (i : ℕ). slice_get k.open_at i) here.0) ∙ shut) in
+                let g = b.greater in omega arith)
+          ]
 
       by_test : (id : ℕ) (b : Bool) → is_bettered k.nodes id new.key ≡ b
           → ClosedBelow bound (if b then replaced id new k else k)
@@ -88,3 +101,37 @@ module _ (layout : Layout) (goal : Cell) (o : Offer) (k : Table) where
       by_lookup : (i : Option ℕ) → ClosedBelow bound (offered_at i new k)
       by_lookup None = on_added
       by_lookup (Some id) = by_test id (is_bettered k.nodes id new.key) refl
+
+-- a greater bound holds too
+pub closed_more : (low high : ℕ) (k : Table) → ClosedBelow low k → low ≤ high → ClosedBelow high k
+closed_more low high k c l = record {
+  flags = c.flags;
+  below = λ id n h shut. chained n.key low high (c.below id n h shut) l;
+}
+  where
+    chained : (m n q : ℕ) → m ≤ n → n ≤ q → m ≤ q
+    chained m n q a b = omega arith
+
+-- a node of a greater key is open
+pub open_of : (key : ℕ) (k : Table) → ClosedBelow key k → (id : ℕ) (n : Node) → slice_get k.nodes id ≡ Some n
+    → key < n.key → slice_get k.open_at id ≡ Some true
+open_of key k c id n h l = by_flag (slice_index_or k.open_at id false) (read k.open_at id false within)
+  where
+    within : id < length k.open_at
+    within = let b = slice_get_within k.nodes id n h in let e = c.flags in omega arith
+
+    by_flag : (b : Bool) → slice_get k.open_at id ≡ Some b → slice_get k.open_at id ≡ Some true
+    by_flag true g = g
+    by_flag false g = absurd (let m = c.below id n h g in omega arith)
+
+-- an entry but 0 tells what was looked up
+pub entry_some : (o : Option ℕ) (e : ℕ) → e ≡ entry_for o → (e ≡ 0 → ⊥) → o ≡ Some (e - 1)
+entry_some None e h n = absurd (n h)
+entry_some (Some id) e h n = ap (λ (i : ℕ). Some i) (before e id h)
+  where
+    before : (e id : ℕ) → e ≡ suc id → id ≡ e - 1
+    before e id h = omega arith
+
+pub entry_none : (o : Option ℕ) (e : ℕ) → e ≡ entry_for o → e ≡ 0 → o ≡ None
+entry_none None e h n = refl
+entry_none (Some id) e h n = absurd (omega arith)

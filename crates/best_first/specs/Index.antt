@@ -8,6 +8,7 @@ use Rattle.best_first.specs.declared.state.Layout.{Layout}
 use Rattle.best_first.specs.declared.state.Layout.TheVariants.{ByCell, ByArrival}
 use Rattle.best_first.specs.State.{arrival_number}
 use Rattle.best_first.specs.Node.{state_of}
+use Rattle.best_first.specs.Space.{IsPlaced}
 
 -- an entry for what may be found: 0, or the number and one
 abbrev pub entry_for : Option ℕ → ℕ
@@ -25,10 +26,15 @@ abbrev pub entry_in : Layout → List ℕ → List (List ℕ) → ℕ → ℕ �
 entry_in ByCell heads records cell arrival = if nat_eq arrival 8 then slice_index_or heads cell 0 else 0
 entry_in ByArrival heads records cell arrival = entry_of_record (slice_index_or heads cell 0) records arrival
 
--- each head but 0 leads to a record of nine entries, and no two to one
+-- there is a record of this number, of nine entries
+pub record HasRecord (records : List (List ℕ)) (r : ℕ) : Type 0 where
+  pub entries : List ℕ
+  pub record_is : slice_get records r ≡ Some entries
+  pub nine : length entries ≡ 9
+
+-- each head but 0 leads to a record, and no two to one
 pub record AreRecords (heads : List ℕ) (records : List (List ℕ)) : Type 0 where
-  pub nine : (cell r : ℕ) → slice_get heads cell ≡ Some (suc r)
-      → (entries : List ℕ) × (slice_get records r ≡ Some entries) × (length entries ≡ 9)
+  pub have : (cell r : ℕ) → slice_get heads cell ≡ Some (suc r) → HasRecord records r
   pub apart : (cell other r : ℕ) → slice_get heads cell ≡ Some (suc r) → slice_get heads other ≡ Some (suc r)
       → cell ≡ other
 
@@ -53,9 +59,10 @@ AreCovered layout width nodes first heads =
 pub record IsExact (layout : Layout) (width : ℕ) (nodes : List Node) (heads : List ℕ)
     (records : List (List ℕ)) : Type 0 where
   pub heads_are : AreHeads layout heads records
+  pub few : length records ≤ length nodes
   pub covered : AreCovered layout width nodes 0 heads
-  pub inside : (id : ℕ) (n : Node) → slice_get nodes id ≡ Some n → ((state_of layout n).cell.x < width)
-      × (cell_number width (state_of layout n).cell < length heads)
+  pub inside : (id : ℕ) (n : Node) → slice_get nodes id ≡ Some n
+      → IsPlaced width (length heads) (state_of layout n).cell
   pub found : (id : ℕ) (n : Node) → slice_get nodes id ≡ Some n
       → entry_in layout heads records (cell_number width (state_of layout n).cell)
       (arrival_number (state_of layout n).arrival) ≡ suc id
@@ -66,6 +73,17 @@ pub record IsExact (layout : Layout) (width : ℕ) (nodes : List Node) (heads : 
 abbrev pub AreBlank : List ℕ → Type 0
 AreBlank heads = (cell r : ℕ) → slice_get heads cell ≡ Some (suc r) → ⊥
 
+-- a cell has a record, which it had or which is new, and no entry was changed
+pub record IsOpened (heads later_heads : List ℕ) (records later_records : List (List ℕ)) (cell : ℕ)
+    : Type 0 where
+  pub r : ℕ
+  pub head : slice_get later_heads cell ≡ Some (suc r)
+  pub records_are : AreRecords later_heads later_records
+  pub entries : (c a : ℕ) → entry_in ByArrival later_heads later_records c a
+      ≡ entry_in ByArrival heads records c a
+  pub as_many : length later_heads ≡ length heads
+  pub heads_stay : (c : ℕ) → (c ≡ cell → ⊥) → slice_get later_heads c ≡ slice_get heads c
+
 -- one entry was changed
 pub record IsPut (layout : Layout) (heads later_heads : List ℕ) (records later_records : List (List ℕ))
     (cell arrival entry : ℕ) : Type 0 where
@@ -75,3 +93,9 @@ pub record IsPut (layout : Layout) (heads later_heads : List ℕ) (records later
   pub heads_are : AreHeads layout later_heads later_records
   pub as_many : length later_heads ≡ length heads
   pub heads_stay : (c : ℕ) → (c ≡ cell → ⊥) → slice_get later_heads c ≡ slice_get heads c
+
+-- the parts of a space are in order: the index is exact, over at most 2^24 cells
+pub record AreParts (layout : Layout) (width : ℕ) (nodes : List Node) (heads : List ℕ)
+    (records : List (List ℕ)) : Type 0 where
+  pub exact : IsExact layout width nodes heads records
+  pub few_cells : length heads ≤ 16777216

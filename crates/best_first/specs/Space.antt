@@ -1,5 +1,5 @@
 -- What a contract sees of a `Space`.
-use Rattle.std.specs.Prelude.{ℕ, ◌-◌, ◌<◌, ◌*◌, ◌+◌, min, List}
+use Rattle.std.specs.Prelude.{◌≡◌, ℕ, ◌-◌, ◌<◌, ◌≤◌, ◌*◌, ◌+◌, min, List}
 use Rattle.grid_moves.specs.declared.Cell.{Cell}
 use Rattle.grid_moves.specs.Grid.{cell_number}
 use Rattle.best_first.specs.declared.state.Layout.{Layout}
@@ -15,12 +15,24 @@ pub record SpaceData : Type 0 where
   pub table : Table
   pub spare : ℕ
 
--- the room for records counts where a cell has one
-abbrev pub room_in : Layout → ℕ → ℕ → ℕ
-room_in ByCell nodes records = nodes
-room_in ByArrival nodes records = min nodes records
+-- there is room for so many records more, where cells have them
+abbrev pub HasRoomFor : Layout → ℕ → ℕ → ℕ → Type 0
+HasRoomFor ByCell n len capacity = Unit {0}
+HasRoomFor ByArrival n len capacity = len + n ≤ capacity
 
--- the cell lies on a map of this width with so many cells
+-- how many offers fit: as many nodes, and where a cell has a record as many records
+abbrev pub room_in : Layout → ℕ → ℕ → ℕ → ℕ
+room_in ByCell nodes len capacity = nodes
+room_in ByArrival nodes len capacity = min nodes (capacity - len)
+
+-- of what contracts see, all but the nodes and the room stays
+pub record KeepsShape (old new : SpaceData) : Type 0 where
+  pub layout : new.layout ≡ old.layout
+  pub places : new.places ≡ old.places
+  pub width : new.width ≡ old.width
+
+-- the cell lies on a map of this width with so many cells, in one of 4096 rows
 pub record IsPlaced (width places : ℕ) (c : Cell) : Type 0 where
   pub column : c.x < width
+  pub row : c.y < 4096
   pub within : cell_number width c < places

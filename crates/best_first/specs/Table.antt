@@ -1,5 +1,5 @@
 -- The nodes of a search, and how each step changes them, as plain functions.
-use Rattle.std.specs.Prelude.{◌≡◌, ℕ, suc, ◌+◌, ◌≤◌, Bool, true, false, nat_lt, List, [], ◌∷◌, ◌++◌, Option, Some, None, option_map, if◌then◌else◌, slice_get, slice_set}
+use Rattle.std.specs.Prelude.{◌≡◌, ℕ, suc, ◌+◌, ◌≤◌, Bool, true, false, nat_lt, List, [], ◌∷◌, ◌++◌, length, Option, Some, None, option_map, if◌then◌else◌, slice_get, slice_set}
 use Rattle.std.specs.Option.{option_map_or}
 use Rattle.root2_cost.specs.Rank.{rank_of}
 use Rattle.grid_moves.specs.declared.Cell.{Cell}
@@ -75,6 +75,7 @@ abbrev pub NoneOpen : Table → Type 0
 NoneOpen k = (id : ℕ) → slice_get k.open_at id ≡ Some true → ⊥
 
 -- no closed node has a greater key than this
-abbrev pub ClosedBelow : ℕ → Table → Type 0
-ClosedBelow key k =
-    (id : ℕ) (n : Node) → slice_get k.nodes id ≡ Some n → slice_get k.open_at id ≡ Some false → n.key ≤ key
+pub record ClosedBelow (key : ℕ) (k : Table) : Type 0 where
+  pub flags : length k.open_at ≡ length k.nodes
+  pub below : (id : ℕ) (n : Node) → slice_get k.nodes id ≡ Some n → slice_get k.open_at id ≡ Some false
+      → n.key ≤ key

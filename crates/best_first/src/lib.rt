@@ -9,13 +9,16 @@
 //! looked for, as the estimate is consistent; the index is exact and never cleared as a whole.
 #![tactic(auto)]
 
+mod index;
 mod node;
 mod place;
+mod space;
 mod state;
 mod taken;
 
 pub use node::{Node, Offer};
 pub use place::Place;
+pub use space::Space;
 pub use state::{Layout, State};
 pub use std::alloc::AllocError as NoMemory;
 pub use taken::Taken;

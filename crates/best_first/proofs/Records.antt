@@ -1,0 +1,301 @@
+-- Heads and records: what is read of them, and what changes when a record is taken and when an entry is set.
+use Rattle.std.proofs.Common.{◌≡◌, ◌≢◌, ℕ, zero, suc, ◌+◌, ◌<◌, ◌≤◌, ◌⊎◌, inl, inr, length, List, [], ◌∷◌, ◌++◌, refl, ap, sym, ◌∙◌, subst, Bool, true, false, arith}
+use Rattle.std.specs.Prelude.{Option, Some, None, slice_get, slice_set, slice_index_or, nat_eq, if◌then◌else◌}
+use Rattle.std.specs.Option.{option_map_or}
+use Rattle.std.proofs.lemmas.Option.{get_or_from_slice_get, slice_get_within}
+use Rattle.std.proofs.lemmas.Bool.Decides.{nat_tests}
+use Rattle.best_first.specs.declared.state.Layout.{Layout}
+use Rattle.best_first.specs.declared.state.Layout.TheVariants.{ByCell, ByArrival}
+use Rattle.best_first.specs.Index.{entry_of_record, entry_in, HasRecord, AreRecords, AreHeads, IsOpened, IsPut, AreBlank}
+use Rattle.best_first.proofs.Lists.{get-last, get-added, got-added, get-set_same, get-set_other, got-set}
+
+-- a list read at a place, by a default or not
+pub read : {X : Type 0} (xs : List X) (i : ℕ) (x : X) → i < length xs
+    → slice_get xs i ≡ Some (slice_index_or xs i x)
+read [] i x h = absurd (omega arith)
+read (y ∷ xs) zero x h = refl
+read (y ∷ xs) (suc i) x h = read xs i x (omega arith)
+
+pub read_past : {X : Type 0} (xs : List X) (i : ℕ) (x : X) → slice_get xs i ≡ None → slice_index_or xs i x ≡ x
+read_past [] i x h = refl
+read_past (y ∷ xs) zero x h = absurd (cc)
+read_past (y ∷ xs) (suc i) x h = read_past xs i x h
+
+pub length-set : {X : Type 0} (xs : List X) (i : ℕ) (x : X) → length (slice_set xs i x) ≡ length xs
+length-set [] i x = refl
+length-set (y ∷ xs) zero x = refl
+length-set (y ∷ xs) (suc i) x = ap (λ n. suc n) (length-set xs i x)
+
+pub read_set_same : (xs : List ℕ) (i x : ℕ) → i < length xs → slice_index_or (slice_set xs i x) i 0 ≡ x
+read_set_same [] i x h = absurd (omega arith)
+read_set_same (y ∷ xs) zero x h = refl
+read_set_same (y ∷ xs) (suc i) x h = read_set_same xs i x (omega arith)
+
+pub read_set_other : (xs : List ℕ) (i j x : ℕ) → (j ≡ i → ⊥) → slice_index_or (slice_set xs i x) j 0 ≡ slice_index_or xs j 0
+read_set_other [] i j x n = refl
+read_set_other (y ∷ xs) zero zero x n = absurd (n refl)
+read_set_other (y ∷ xs) zero (suc j) x n = refl
+read_set_other (y ∷ xs) (suc i) zero x n = refl
+read_set_other (y ∷ xs) (suc i) (suc j) x n = read_set_other xs i j x (λ e. n (ap (λ k. suc k) e))
+
+abbrev pub zeros : List ℕ
+zeros = 0 ∷ 0 ∷ 0 ∷ 0 ∷ 0 ∷ 0 ∷ 0 ∷ 0 ∷ 0 ∷ []
+
+read_zeros : (a : ℕ) → slice_index_or zeros a 0 ≡ 0
+read_zeros zero = refl
+read_zeros (suc zero) = refl
+read_zeros (suc (suc zero)) = refl
+read_zeros (suc (suc (suc zero))) = refl
+read_zeros (suc (suc (suc (suc zero)))) = refl
+read_zeros (suc (suc (suc (suc (suc zero))))) = refl
+read_zeros (suc (suc (suc (suc (suc (suc zero)))))) = refl
+read_zeros (suc (suc (suc (suc (suc (suc (suc zero))))))) = refl
+read_zeros (suc (suc (suc (suc (suc (suc (suc (suc zero)))))))) = refl
+read_zeros (suc (suc (suc (suc (suc (suc (suc (suc (suc a))))))))) = refl
+
+-- what is read of a record
+pub entry-read : (records : List (List ℕ)) (r a : ℕ) (entries : List ℕ) → slice_get records r ≡ Some entries
+    → entry_of_record (suc r) records a ≡ slice_index_or entries a 0
+entry-read records r a entries e = rw e refl
+
+some_number : (m n : ℕ) → Some m ≡ Some n → m ≡ n
+some_number m n e = ap (λ (o : Option ℕ). elim o as (λ _. ℕ) [ Some v ↦ v | None ↦ m ]) e
+
+-- a cell's head, as it is read
+module _ (heads : List ℕ) (cell : ℕ) where
+  pub head-is : (h : ℕ) → slice_get heads cell ≡ Some h → slice_index_or heads cell 0 ≡ h
+  head-is h e = get_or_from_slice_get heads cell h 0 e
+
+module _ (heads : List ℕ) (records : List (List ℕ)) (cell : ℕ) (a : AreRecords heads records)
+    (none : slice_get heads cell ≡ Some 0) where
+  abbrev later : List ℕ
+  later = slice_set heads cell (suc (length records))
+
+  abbrev more : List (List ℕ)
+  more = records ++ zeros ∷ []
+
+  head_here : slice_get later cell ≡ Some (suc (length records))
+  head_here = get-set_same heads cell 0 (suc (length records)) none
+
+  -- a new record takes nothing away
+  pub taken_records : AreRecords later more
+  taken_records = record {
+    have = λ c r h. elim (got-set heads c cell (suc r) (suc (length records)) h) [
+      | inl was ↦ (let old = a.have c r was.1 in record {
+        entries = old.entries;
+        record_is = get-added records zeros r old.entries old.record_is;
+        nine = old.nine;
+      })
+      | inr new ↦ (let r_is : r ≡ length records = omega (arith, new.1) in record {
+        entries = zeros;
+        record_is = ap (λ (i : ℕ). slice_get more i) r_is ∙ get-last records zeros;
+        nine = refl;
+      })
+    ];
+    apart = λ c d r h g. by_slots c d r (got-set heads c cell (suc r) (suc (length records)) h)
+        (got-set heads d cell (suc r) (suc (length records)) g);
+  }
+    where
+      within : (c r : ℕ) → slice_get heads c ≡ Some (suc r) → r ≡ length records → ⊥
+      within c r h e =
+          let old = a.have c r h in
+          let b = slice_get_within records r old.entries old.record_is in
+          omega arith
+
+      by_slots : (c d r : ℕ)
+          → (((c ≡ cell → ⊥) × (slice_get heads c ≡ Some (suc r))) ⊎ ((c ≡ cell) × (suc r ≡ suc (length records))))
+          → (((d ≡ cell → ⊥) × (slice_get heads d ≡ Some (suc r))) ⊎ ((d ≡ cell) × (suc r ≡ suc (length records))))
+          → c ≡ d
+      by_slots c d r (inl x) (inl y) = a.apart c d r x.1 y.1
+      by_slots c d r (inl x) (inr y) = absurd (within c r x.1 (omega (arith, y.1)))
+      by_slots c d r (inr x) (inl y) = absurd (within d r y.1 (omega (arith, x.1)))
+      by_slots c d r (inr x) (inr y) = x.0 ∙ sym y.0
+
+  -- and no entry changes
+  pub taken_entries : (c b : ℕ) → entry_in ByArrival later more c b ≡ entry_in ByArrival heads records c b
+  taken_entries c b = elim (at_cell c) [
+    | inl e ↦ (ap (λ (i : ℕ). entry_in ByArrival later more i b) e
+        ∙ ap (λ (h : ℕ). entry_of_record h more b) (head-is later cell (suc (length records)) head_here)
+        ∙ entry-read more (length records) b zeros (get-last records zeros) ∙ read_zeros b
+        ∙ sym (ap (λ (i : ℕ). entry_in ByArrival heads records i b) e
+        ∙ ap (λ (h : ℕ). entry_of_record h records b) (head-is heads cell 0 none)))
+    | inr n ↦ (ap (λ (h : ℕ). entry_of_record h more b) (read_set_other heads cell c (suc (length records)) n)
+        ∙ by_head (slice_index_or heads c 0) refl)
+  ]
+    where
+      at_cell : (i : ℕ) → (i ≡ cell) ⊎ (i ≡ cell → ⊥)
+      at_cell i = grind arith
+
+      get_head : (h : ℕ) → slice_index_or heads c 0 ≡ suc h → slice_get heads c ≡ Some (suc h)
+      get_head h e = by_get (slice_get heads c) refl
+        where
+          by_get : (o : Option ℕ) → slice_get heads c ≡ o → o ≡ Some (suc h)
+          by_get None g = absurd (let z = read_past heads c 0 g in omega arith)
+          by_get (Some v) g = ap (λ (n : ℕ). Some n) (sym (head-is heads c v g) ∙ e)
+
+      by_head : (h : ℕ) → slice_index_or heads c 0 ≡ h → entry_of_record h more b ≡ entry_of_record h records b
+      by_head zero e = refl
+      by_head (suc r) e =
+          let old = a.have c r (get_head r e) in
+          entry-read more r b old.entries (get-added records zeros r old.entries old.record_is)
+          ∙ sym (entry-read records r b old.entries old.record_is)
+
+  -- so the cell has a record
+  pub opened : IsOpened heads later records more cell
+  opened = record {
+    r = length records;
+    head = head_here;
+    records_are = taken_records;
+    entries = taken_entries;
+    as_many = length-set heads cell (suc (length records));
+    heads_stay = λ c n. get-set_other heads c cell (suc (length records)) n;
+  }
+
+-- where a head leads to a record, one of its entries is set
+module _ (heads : List ℕ) (records : List (List ℕ)) (cell r : ℕ) (a : AreRecords heads records)
+    (head : slice_get heads cell ≡ Some (suc r)) (entries : List ℕ) (is : slice_get records r ≡ Some entries)
+    (b entry : ℕ) (small : b < 9) where
+  abbrev changed : List (List ℕ)
+  changed = slice_set records r (slice_set entries b entry)
+
+  nine_here : length entries ≡ 9
+  nine_here =
+      let h = a.have cell r head in
+      ap (λ (o : Option (List ℕ)). option_map_or (λ es. length es) o 0) (sym is ∙ h.record_is) ∙ h.nine
+
+  set_records : AreRecords heads changed
+  set_records = record {
+    have = λ c q h. by_slot c q (a.have c q h) (at q);
+    apart = a.apart;
+  }
+    where
+      at : (q : ℕ) → (q ≡ r) ⊎ (q ≡ r → ⊥)
+      at q = grind arith
+
+      by_slot : (c q : ℕ) → HasRecord records q → (q ≡ r) ⊎ (q ≡ r → ⊥) → HasRecord changed q
+      by_slot c q old (inl e) = record {
+        entries = slice_set entries b entry;
+        record_is = ap (λ (i : ℕ). slice_get changed i) e
+            ∙ get-set_same records r entries (slice_set entries b entry) is;
+        nine = length-set entries b entry ∙ nine_here;
+      }
+      by_slot c q old (inr n) = record {
+        entries = old.entries;
+        record_is = get-set_other records q r (slice_set entries b entry) n ∙ old.record_is;
+        nine = old.nine;
+      }
+
+  pub set_entry : IsPut ByArrival heads heads records changed cell b entry
+  set_entry = record {
+    here = ap (λ (h : ℕ). entry_of_record h changed b) (head-is heads cell (suc r) head)
+        ∙ entry-read changed r b (slice_set entries b entry)
+        (get-set_same records r entries (slice_set entries b entry) is)
+        ∙ read_set_same entries b entry (omega (arith, nine_here));
+    others = λ c d n. by_head c d n (slice_index_or heads c 0) refl;
+    heads_are = set_records;
+    as_many = refl;
+    heads_stay = λ c n. refl;
+  }
+    where
+      get_head : (c h : ℕ) → slice_index_or heads c 0 ≡ suc h → slice_get heads c ≡ Some (suc h)
+      get_head c h e = by_get (slice_get heads c) refl
+        where
+          by_get : (o : Option ℕ) → slice_get heads c ≡ o → o ≡ Some (suc h)
+          by_get None g = absurd (let z = read_past heads c 0 g in omega arith)
+          by_get (Some v) g = ap (λ (n : ℕ). Some n) (sym (head-is heads c v g) ∙ e)
+
+      two : (i j : ℕ) → (i ≡ j) ⊎ (i ≡ j → ⊥)
+      two i j = grind arith
+
+      by_record : (c d q : ℕ) → ((c ≡ cell) × (d ≡ b) → ⊥) → slice_get heads c ≡ Some (suc q)
+          → (q ≡ r) ⊎ (q ≡ r → ⊥) → (d ≡ b) ⊎ (d ≡ b → ⊥)
+          → entry_of_record (suc q) changed d ≡ entry_of_record (suc q) records d
+      by_record c d q n h (inl e) (inl f) =
+          absurd (n (a.apart c cell r (h ∙ ap (λ (i : ℕ). Some (suc i)) e) head, f))
+      by_record c d q n h (inl e) (inr f) =
+          ap (λ (i : ℕ). entry_of_record (suc i) changed d) e
+          ∙ entry-read changed r d (slice_set entries b entry)
+          (get-set_same records r entries (slice_set entries b entry) is)
+          ∙ read_set_other entries b d entry f
+          ∙ sym (ap (λ (i : ℕ). entry_of_record (suc i) records d) e ∙ entry-read records r d entries is)
+      by_record c d q n h (inr g) f =
+          let old = a.have c q h in
+          entry-read changed q d old.entries
+          (get-set_other records q r (slice_set entries b entry) g ∙ old.record_is)
+          ∙ sym (entry-read records q d old.entries old.record_is)
+
+      by_head : (c d : ℕ) → ((c ≡ cell) × (d ≡ b) → ⊥) → (h : ℕ) → slice_index_or heads c 0 ≡ h
+          → entry_of_record h changed d ≡ entry_of_record h records d
+      by_head c d n zero e = refl
+      by_head c d n (suc q) e = by_record c d q n (get_head c q e) (two q r) (two d b)
+
+-- a record that a head leads to is read
+pub entry_of : (h : ℕ) (records : List (List ℕ)) (a r : ℕ) → h ≡ suc r → HasRecord records r
+    → slice_index_or (slice_index_or records r []) a 0 ≡ entry_of_record h records a
+entry_of h records a r e old =
+    ap (λ (es : List ℕ). slice_index_or es a 0) (get_or_from_slice_get records r old.entries [] old.record_is)
+    ∙ sym (ap (λ (i : ℕ). entry_of_record i records a) e ∙ entry-read records r a old.entries old.record_is)
+
+pub record_within : (records : List (List ℕ)) (r : ℕ) → HasRecord records r → r < length records
+record_within records r h = slice_get_within records r h.entries h.record_is
+
+-- a cell that has a record keeps it
+pub opened_before : (heads : List ℕ) (records : List (List ℕ)) (cell h : ℕ) → AreRecords heads records
+    → slice_index_or heads cell 0 ≡ h → (h ≡ 0 → ⊥) → IsOpened heads heads records records cell
+opened_before heads records cell zero a e n = absurd (n refl)
+opened_before heads records cell (suc r) a e n = record {
+  r = r;
+  head = get_head (slice_get heads cell) refl;
+  records_are = a;
+  entries = λ c b. refl;
+  as_many = refl;
+  heads_stay = λ c m. refl;
+}
+  where
+    get_head : (o : Option ℕ) → slice_get heads cell ≡ o → o ≡ Some (suc r)
+    get_head None g = absurd (let z = read_past heads cell 0 g in omega arith)
+    get_head (Some v) g = ap (λ (m : ℕ). Some m) (sym (head-is heads cell v g) ∙ e)
+
+-- an entry set after a record was opened
+pub put_opened : (heads later : List ℕ) (records more changed : List (List ℕ)) (cell b entry : ℕ)
+    → (o : IsOpened heads later records more cell) → b < 9
+    → ((entries : List ℕ) → slice_get more o.r ≡ Some entries
+    → changed ≡ slice_set more o.r (slice_set entries b entry))
+    → IsPut ByArrival heads later records changed cell b entry
+put_opened heads later records more changed cell b entry o small set =
+    let old = o.records_are.have cell o.r o.head in
+    let p = set_entry later more cell o.r o.records_are o.head old.entries old.record_is b entry small in
+    subst (λ (c : List (List ℕ)). IsPut ByArrival heads later records c cell b entry)
+    (sym (set old.entries old.record_is))
+    (record {
+      here = p.here;
+      others = λ c a n. p.others c a n ∙ o.entries c a;
+      heads_are = p.heads_are;
+      as_many = o.as_many;
+      heads_stay = o.heads_stay;
+    })
+
+-- the only entry of a cell is set
+pub put_head : (heads : List ℕ) (records : List (List ℕ)) (cell entry : ℕ) → cell < length heads
+    → IsPut ByCell heads (slice_set heads cell entry) records records cell 8 entry
+put_head heads records cell entry within = record {
+  here = read_set_same heads cell entry within;
+  others = λ c a n. by_arrival c a n (two a 8);
+  heads_are = tt;
+  as_many = length-set heads cell entry;
+  heads_stay = λ c n. get-set_other heads c cell entry n;
+}
+  where
+    two : (i j : ℕ) → (i ≡ j) ⊎ (i ≡ j → ⊥)
+    two i j = grind arith
+
+    not_eight : (a : ℕ) → (a ≡ 8 → ⊥) → nat_eq a 8 ≡ false
+    not_eight a n = grind (arith, nat_tests)
+
+    eight : (a : ℕ) → a ≡ 8 → nat_eq a 8 ≡ true
+    eight a e = grind (arith, nat_tests)
+
+    by_arrival : (c a : ℕ) → ((c ≡ cell) × (a ≡ 8) → ⊥) → (a ≡ 8) ⊎ (a ≡ 8 → ⊥)
+        → entry_in ByCell (slice_set heads cell entry) records c a ≡ entry_in ByCell heads records c a
+    by_arrival c a n (inr m) = rw (not_eight a m) refl
+    by_arrival c a n (inl e) = rw (eight a e) (read_set_other heads cell c entry (λ d. n (d, e)))

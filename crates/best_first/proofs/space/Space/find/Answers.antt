@@ -1,0 +1,20 @@
+use Rattle.std.proofs.Common.{◌≡◌, ◌∙◌, sym, ap, subst, length, ℕ}
+use Rattle.best_first.specs.Index.{entry_for, entry_in}
+use Rattle.best_first.specs.Space.{SpaceData, IsPlaced}
+use Rattle.best_first.specs.State.{state_in, arrival_number}
+use Rattle.best_first.specs.Table.{lookup}
+use Rattle.best_first.proofs.Parts.{parts_found}
+use Rattle.best_first.proofs.space.Space.find.Goals as goal
+
+pub returns : goal.returns
+returns c =
+    let i = c.self.inside in
+    let placed : IsPlaced i.width (length i.index.heads.items) c.args.state.cell =
+    subst (λ (s : SpaceData). IsPlaced s.width s.places c.args.state.cell) (sym c.self.view_is) c.requires.placed in
+    c.entry.ensures
+    ∙ ap (λ (n : ℕ). entry_in i.index.layout i.index.heads.items i.index.records.items n
+    (arrival_number (state_in i.index.layout c.args.state).arrival)) c.number_of.ensures
+    ∙ parts_found i.index.layout i.width i.pool.nodes i.index.heads.items i.index.records.items c.args.state
+    c.self.invariant placed
+    ∙ ap (λ (s : SpaceData). entry_for (lookup s.layout s.table.nodes (state_in s.layout c.args.state)))
+    c.self.view_is

@@ -1,0 +1,286 @@
+//! The memory of a search: its nodes, and an index from states to nodes.
+
+ghost use Rattle.std.specs.Prelude.{◌≡◌, ℕ, suc, ◌+◌, ◌-◌, ◌*◌, ◌<◌, ◌≤◌, ◌^◌, [], ◌∷◌, ◌++◌, length, true, false, Some, None, OnOk, OnErr, IfOk, IfNone, IfSome, vec_len, vec_capacity, slice_get, slice_set};
+ghost use Rattle.best_first.specs.Index.{entry_for, AreBlank, AreCovered, IsExact, AreParts};
+ghost use Rattle.best_first.specs.Node.{state_of, ranks_before};
+ghost use Rattle.best_first.specs.Space.{SpaceData, IsPlaced, KeepsShape, HasRoomFor, room_in};
+ghost use Rattle.best_first.specs.State.{state_in, place_of, start_at};
+ghost use Rattle.best_first.specs.Table.{Table, lookup, node_for, added, replaced, is_bettered, offered, begun, closed_at, IsFirstNode, NoneOpen, ClosedBelow};
+ghost use Rattle.grid_moves.specs.Grid.{cell_number};
+ghost use Rattle.grid_moves.specs.Points.{estimate};
+ghost use Rattle.root2_cost.specs.Rank.{rank_of};
+
+use crate::index::Index;
+use crate::{Layout, NoMemory, Node, Offer, Place, State};
+use grid_moves::{Cell, estimate, number_of};
+use open_list::Pool;
+use std::alloc::Global;
+use std::marker::Model;
+use std::sync::ledger::Ledger;
+use steps::Steps;
+
+/// The nodes of a search, and an index from states to their nodes.
+///
+/// It is made once for a map of so many cells, and used for one search after the other. Contracts
+/// see the nodes of the last search, the width of its map, and how many offers still fit.
+#[derive(Drop)]
+pub struct Space {
+    pool: Pool<Node>,
+    index: Index,
+    // The width of the map of the last search, by which the index has its nodes.
+    width: u16,
+}
+
+impl Model for Space {
+    ghost use Rattle.best_first.specs.Space.{SpaceData};
+
+    ghost Value = { SpaceData };
+
+    ghost use Rattle.std.specs.Prelude.{length, vec_len, vec_capacity};
+    ghost use Rattle.best_first.specs.Space.{room_in};
+    ghost use Rattle.best_first.specs.Index.{AreParts};
+
+    ghost view = { λ s. record {
+      layout = s.index.layout;
+      places = length s.index.heads.items;
+      width = s.width;
+      table = record { nodes = s.pool.nodes; open_at = s.pool.open_at };
+      spare = room_in s.index.layout s.pool.spare (vec_len s.index.records) (vec_capacity s.index.records);
+    } };
+
+    ghost invariant = { λ s.
+        AreParts s.index.layout s.width s.pool.nodes s.index.heads.items s.index.records.items };
+}
+
+// The rank of the estimate.
+#[inline(always)]
+pub(crate) fn estimate_rank(from: Cell, to: Cell) -> u64
+    ensures value { result ≡ rank_of (estimate from to) }
+    ensures small { result < 2 ^ 60 }
+{
+    estimate(from, to).rank()
+}
+
+// The node of an offer.
+#[inline(always)]
+fn node_for(goal: Cell, offer: Offer) -> Node
+    requires column { offer.to.cell.x < 4096 }
+    requires fits { offer.rank < 2 ^ 63 }
+    ensures { result ≡ node_for goal offer }
+{
+    Node {
+        key: offer.rank + estimate_rank(offer.to.cell, goal),
+        parent: offer.parent,
+        place: Place::of(offer.to),
+    }
+}
+
+// Sets the heads of all cells that have a node back to 0.
+fn clear_heads(pool: &Pool<Node>, index: &mut Index, width: u16)
+    requires covered { AreCovered index.old.layout width pool.now.nodes 0 index.old.heads.items }
+    requires inside { (id : ℕ) (n : _) → slice_get pool.now.nodes id ≡ Some n
+        → IsPlaced width (length index.old.heads.items) (state_of index.old.layout n).cell }
+    ensures blank { AreBlank index.new.heads.items }
+    ensures as_many { length index.new.heads.items ≡ length index.old.heads.items }
+    ensures layout { index.new.layout ≡ index.old.layout }
+    ensures records { index.new.records ≡ index.old.records }
+{
+    for id in 0..pool.len() {
+        let cell = number_of(width, pool.node(id).place.cell()) as usize;
+        index.heads[cell] = 0;
+    }
+}
+
+// Forgets all nodes. The memory stays.
+fn forget(pool: &mut Pool<Node>, index: &mut Index, width: u16)
+    requires exact { IsExact index.old.layout width pool.old.nodes index.old.heads.items
+        index.old.records.items }
+    ensures nodes { pool.new.nodes ≡ [] }
+    ensures open_at { pool.new.open_at ≡ [] }
+    ensures blank { AreBlank index.new.heads.items }
+    ensures records { index.new.records.items ≡ [] }
+    ensures as_many { length index.new.heads.items ≡ length index.old.heads.items }
+    ensures layout { index.new.layout ≡ index.old.layout }
+{
+    clear_heads(pool, index, width);
+    index.records.clear();
+    pool.clear();
+}
+
+// Makes room for so many nodes and records more.
+fn make_room(pool: &mut Pool<Node>, index: &mut Index, n: u32) -> Result<(), NoMemory>
+    requires few { length pool.old.nodes + n < 2 ^ 28 }
+    ensures room { OnOk result (n ≤ pool.new.spare) }
+    ensures records_room { OnOk result (HasRoomFor index.old.layout n (vec_len index.new.records)
+        (vec_capacity index.new.records)) }
+    ensures not_less { pool.old.spare ≤ pool.new.spare }
+    ensures rest_kept { pool.new ≡ record pool.old { spare = pool.new.spare } }
+    ensures layout { index.new.layout ≡ index.old.layout }
+    ensures heads { index.new.heads ≡ index.old.heads }
+    ensures records { index.new.records.items ≡ index.old.records.items }
+    ensures len { vec_len index.new.records ≡ vec_len index.old.records }
+{
+    pool.reserve(n)?;
+    match index.layout {
+        Layout::ByCell => Ok(()),
+        Layout::ByArrival => index.records.reserve(n as usize),
+    }
+}
+
+// Adds a node, and closes it, as it is the only one.
+fn add_first<L: Ledger>(pool: &mut Pool<Node>, node: Node, steps: &mut Steps<L>)
+    requires nodes { pool.old.nodes ≡ [] }
+    requires open_at { pool.old.open_at ≡ [] }
+    requires room { 1 ≤ pool.old.spare }
+    ensures nodes { pool.new.nodes ≡ node ∷ [] }
+    ensures open_at { pool.new.open_at ≡ false ∷ [] }
+{
+    pool.add(node, steps);
+    pool.pop(steps);
+}
+
+impl Space {
+    /// The memory for searches on maps of so many cells: a head for each of them is filled.
+    pub fn new(alloc: Global, layout: Layout, cells: usize) -> Result<Space, NoMemory>
+        requires { cells ≤ 16777216 }
+        ensures layout { IfOk result (λ s. s.layout ≡ layout) }
+        ensures places { IfOk result (λ s. s.places ≡ cells) }
+    {
+        Ok(Space {
+            pool: Pool::new(alloc),
+            index: Index::new(alloc, layout, cells)?,
+            width: 1,
+        })
+    }
+
+    /// Begins a search on a map of this width, which has at most as many cells as this space: forgets
+    /// the nodes of the last one, and takes the start, whose node has the number 0.
+    pub fn begin<L: Ledger>(
+        &mut self,
+        width: u16,
+        start: Cell,
+        goal: Cell,
+        steps: &mut Steps<L>,
+    ) -> Result<(), NoMemory>
+        requires narrow { width ≤ 4096 }
+        requires placed { IsPlaced width self.old.places start }
+        ensures begun { OnOk result (self.new.table ≡ begun goal start) }
+        ensures width { OnOk result (self.new.width ≡ width) }
+        ensures layout { self.new.layout ≡ self.old.layout }
+        ensures places { self.new.places ≡ self.old.places }
+    {
+        forget(&mut self.pool, &mut self.index, self.width);
+        self.width = width;
+        make_room(&mut self.pool, &mut self.index, 1)?;
+        let to = State {
+            cell: start,
+            arrival: None,
+        };
+        let offer = Offer {
+            rank: 0,
+            parent: 0,
+            to,
+        };
+        add_first(&mut self.pool, node_for(goal, offer), steps);
+        self.index.put(number_of(width, start) as usize, to, 1);
+        Ok(())
+    }
+
+    /// The node of this number.
+    #[inline(always)]
+    pub fn node(&self, id: u32) -> Node
+        requires { id < length self.now.table.nodes }
+        ensures { slice_get self.now.table.nodes id ≡ Some result }
+    {
+        *self.pool.node(id)
+    }
+
+    /// Makes room for eight offers, so that they need no memory.
+    pub fn reserve(&mut self) -> Result<(), NoMemory>
+        ensures room { OnOk result (8 ≤ self.new.spare) }
+        ensures shape { KeepsShape self.old self.new }
+        ensures table { self.new.table ≡ self.old.table }
+    {
+        make_room(&mut self.pool, &mut self.index, 8)
+    }
+
+    // 0 where a state has no node, or the number of its node and one.
+    #[inline(always)]
+    fn find(&self, state: State) -> u32
+        requires narrow { self.now.width ≤ 4096 }
+        requires placed { IsPlaced self.now.width self.now.places state.cell }
+        ensures { result ≡ entry_for (lookup self.now.layout self.now.table.nodes
+            (state_in self.now.layout state)) }
+    {
+        self.index
+            .entry(number_of(self.width, state.cell) as usize, state)
+    }
+
+    // Adds a node for a state that has none.
+    #[inline(never)]
+    fn add<L: Ledger>(&mut self, state: State, node: Node, steps: &mut Steps<L>)
+        requires narrow { self.old.width ≤ 4096 }
+        requires placed { IsPlaced self.old.width self.old.places state.cell }
+        requires made { node.place ≡ place_of state }
+        requires new { lookup self.old.layout self.old.table.nodes (state_in self.old.layout state) ≡ None }
+        requires room { 1 ≤ self.old.spare }
+        ensures table { self.new.table ≡ added node self.old.table }
+        ensures shape { KeepsShape self.old self.new }
+        ensures spare { self.old.spare ≤ self.new.spare + 1 }
+    {
+        let id = self.pool.add(node, steps);
+        self.index
+            .put(number_of(self.width, state.cell) as usize, state, id + 1);
+    }
+
+    // Puts a node of a lesser key in the place of an open one of the same state.
+    #[inline(never)]
+    fn lower<L: Ledger>(&mut self, id: u32, node: Node, steps: &mut Steps<L>)
+        requires is_open { slice_get self.old.table.open_at id ≡ Some true }
+        requires less { is_bettered self.old.table.nodes id node.key ≡ true }
+        requires same { (old : _) → slice_get self.old.table.nodes id ≡ Some old
+            → state_of self.old.layout old ≡ state_of self.old.layout node }
+        ensures table { self.new.table ≡ replaced id node self.old.table }
+        ensures shape { KeepsShape self.old self.new }
+        ensures spare { self.new.spare ≡ self.old.spare }
+    {
+        self.pool.lower(id, node, steps);
+    }
+
+    /// Offers a way on from a taken state: its node is added where the state has none, and takes the
+    /// place of the state's node where that one has a greater key.
+    ///
+    /// No closed node may have a greater key than the offer. As the estimate is consistent, none has
+    /// where the offer is one of the state that was taken last.
+    #[inline(always)]
+    pub fn offer<L: Ledger>(&mut self, goal: Cell, offer: Offer, steps: &mut Steps<L>)
+        requires narrow { self.old.width ≤ 4096 }
+        requires placed { IsPlaced self.old.width self.old.places offer.to.cell }
+        requires fits { offer.rank < 2 ^ 63 }
+        requires closed { ClosedBelow (node_for goal offer).key self.old.table }
+        requires room { 1 ≤ self.old.spare }
+        ensures table { self.new.table ≡ offered self.old.layout goal offer self.old.table }
+        ensures shape { KeepsShape self.old self.new }
+        ensures spare { self.old.spare ≤ self.new.spare + 1 }
+    {
+        let node = node_for(goal, offer);
+        let entry = self.find(offer.to);
+        if entry == 0 {
+            self.add(offer.to, node, steps);
+        } else if node.key < self.pool.node(entry - 1).key {
+            self.lower(entry - 1, node, steps);
+        }
+    }
+
+    /// Takes the open node that ranks first, and gives its number, or `None` where none is open.
+    pub fn take_next<L: Ledger>(&mut self, steps: &mut Steps<L>) -> Option<u32>
+        ensures none { IfNone result (NoneOpen self.old.table) }
+        ensures first { IfSome result (λ id. IsFirstNode self.old.table id) }
+        ensures closed { IfSome result (λ id. self.new.table ≡ closed_at id self.old.table) }
+        ensures unchanged { IfNone result (self.new.table ≡ self.old.table) }
+        ensures nodes { self.new.table.nodes ≡ self.old.table.nodes }
+        ensures shape { KeepsShape self.old self.new }
+    {
+        self.pool.pop(steps)
+    }
+}
