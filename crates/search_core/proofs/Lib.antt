@@ -3,3 +3,4 @@ pub mod Passing
 pub mod Ways
 pub mod Right
 pub mod Answering
+pub mod Offers

@@ -54,7 +54,7 @@ pub record IsLink (g : GridData) (goal : Cell) (u v : State) (c : Cost) : Type 0
   pub reached : run_end g dir moves u.cell ≡ Some v.cell
   pub priced : c ≡ run_cost dir moves
 
-first_is : (g : GridData) (goal x : Cell) (d : Dir) (k : ℕ) → first_stop g goal x d ≡ Some k
+pub first_is : (g : GridData) (goal x : Cell) (d : Dir) (k : ℕ) → first_stop g goal x d ≡ Some k
     → IsLeast (StopsAfter g goal x d) 1 k
 first_is g goal x d k e = by_answer (first_stop g goal x d) e (first_stop_is_first g goal x d)
   where

@@ -8,6 +8,7 @@
 #![tactic(auto)]
 
 mod found;
+mod jumping;
 pub mod laws;
 
 pub use best_first::{NoMemory, Taken};
