@@ -4,3 +4,5 @@ pub mod Ways
 pub mod Right
 pub mod Answering
 pub mod Offers
+pub mod Serving
+pub mod Counting

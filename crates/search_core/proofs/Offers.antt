@@ -26,7 +26,7 @@ use Rattle.best_first.specs.declared.node.Offer.{Offer as Way}
 use Rattle.best_first.specs.declared.state.State.{State}
 use Rattle.best_first.specs.declared.state.Layout.TheVariants.{ByArrival}
 use Rattle.best_first.specs.Mirror.{Offers, IsSearching}
-use Rattle.best_first.specs.Progress.{HasTaken, HasOffered}
+use Rattle.best_first.specs.Progress.{HasOffered, numbers_of}
 use Rattle.best_first.specs.Rule.{IsSearch}
 use Rattle.best_first.specs.Space.{SpaceData, IsPlaced}
 use Rattle.best_first.specs.State.{start_at}
@@ -40,6 +40,7 @@ use Rattle.search_core.specs.Jumps.{come_to, jump_link, jump_rule}
 use Rattle.search_core.specs.Jumping.{HasPlaces, IsSpaceOf, offer_after, column_after, row_after, jumped_in, jumped, IsAt, IsOffering}
 use Rattle.search_core.specs.declared.jumping.Last.{Last}
 use Rattle.search_core.proofs.Links.{first_is, link_is, jump_links, jumps_are_links, allowed_free}
+use Rattle.search_core.proofs.Passing.{run_moves}
 use Rattle.search_core.proofs.Passing as passing
 
 -- where the moves of a run lead to
@@ -108,7 +109,7 @@ module _ (g : GridData) (s t : Cell) where
   }
 
   module _ (last : Last) where
-    abbrev AreAllowed : List Dir → Type 0
+    abbrev pub AreAllowed : List Dir → Type 0
     AreAllowed dirs = AllByRecursion (λ d. is_allowed g last.state.cell (come_to last.state.arrival) d ≡ true) dirs
 
     -- where a jump leads to
@@ -147,14 +148,14 @@ module _ (g : GridData) (s t : Cell) where
         ∙ jump_links g t last.state (record { cell = end.cell; arrival = Some d }) d n refl a e end.reached
 
     -- the ways on over these directions
-    abbrev way_after : Dir → ℕ → Onward
+    abbrev pub way_after : Dir → ℕ → Onward
     way_after d n = record { to = (offer_after last d n).to; cost = run_cost d n }
 
-    abbrev with_jump : Dir → Option ℕ → List Onward → List Onward
+    abbrev pub with_jump : Dir → Option ℕ → List Onward → List Onward
     with_jump d None ways = ways
     with_jump d (Some n) ways = way_after d n ∷ ways
 
-    abbrev ways_in : List Dir → List Onward
+    abbrev pub ways_in : List Dir → List Onward
     ways_in [] = []
     ways_in (d ∷ dirs) = with_jump d (first_stop g t last.state.cell d) (ways_in dirs)
 
@@ -268,3 +269,69 @@ module _ (g : GridData) (s t : Cell) where
           one_dir best k i d (ways_in dirs) a.0
           (λ b j. IsAt g s t last latest earlier b (jumped g t last dirs j))
           (λ b j i. all_dirs_offered dirs a.1 b j i)
+
+      -- after all allowed directions the state has made its offers
+      pub all_offered : (k : Table) (taken : List ℕ)
+          → IsAt g s t last latest earlier (with_all latest (least_offer (jump_rule g t) earlier)
+          (ways_in (allowed_dirs g last.state.cell (come_to last.state.arrival)))) k
+          → is_same last.state.cell t ≡ false → taken ≡ numbers_of g.width (latest ∷ earlier)
+          → HasOffered ByArrival g.width t (jump_link g t) s last.at k taken
+      all_offered k taken i open_ended numbered =
+          let ways = ways_in (allowed_dirs g last.state.cell (come_to last.state.arrival)) in
+          let allowed = all_filter (is_allowed g last.state.cell (come_to last.state.arrival)) all_dirs in
+          let not_goal : is_same latest.state.cell t ≡ false =
+          ap (λ (u : State). is_same u.cell t) i.state ∙ open_ended in
+          record {
+            last = latest;
+            earlier = earlier;
+            best = with_all latest (least_offer (jump_rule g t) earlier) ways;
+            searching = i.searching;
+            open_ended = not_goal;
+            all_made = λ v n. offers_after g.width t (jump_link g t) latest earlier ways not_goal
+                (λ w j. ap (λ (u : State). jump_link g t u w.to) i.state
+                ∙ each_linked (allowed_dirs g last.state.cell (come_to last.state.arrival)) allowed w j)
+                (λ u c e. inl (linked_among u c (ap (λ (x : State). jump_link g t x u) (sym i.state) ∙ e))) v;
+            numbered = numbered;
+          }
+
+  rank_small : (p q : Cost) → p.a + p.b ≤ 2 ^ 27 → q.a + q.b ≤ 8192 → rank_of p + rank_of q < 2 ^ 63
+  rank_small p q h k = omega arith
+
+  -- what the offer over a jump needs of the space
+  pub record IsReady (last : Last) (d : Dir) (n : ℕ) (space : SpaceData) : Type 0 where
+    pub column : last.state.cell.x + n < 65536
+    pub row : last.state.cell.y + n < 65536
+    pub rank : last.rank + rank_of (run_cost d n) < 2 ^ 63
+    pub narrow : space.width ≤ 4096
+    pub placed : IsPlaced space.width space.places (offer_after last d n).to.cell
+    pub closed : ClosedBelow (node_for t (offer_after last d n)).key space.table
+
+  pub is_ready : is_free g s ≡ true → is_free g t ≡ true → (last : Last) (space : SpaceData)
+      → IsOffering g s t last space → (d : Dir)
+      → is_allowed g last.state.cell (come_to last.state.arrival) d ≡ true → (n : ℕ)
+      → first_stop g t last.state.cell d ≡ Some n → IsReady last d n space
+  is_ready from to last space o d a n e =
+      let whole = o.of.whole in
+      let end = jump_end last d n a e in
+      let narrow = whole.sides.narrow in
+      let low = whole.sides.low in
+      let inside = end.from in
+      let short = end.short in
+      let few = passing.costs_fit g t whole s (o.latest ∷ o.earlier) o.latest o.is_at.searching.run
+      (here o.earlier) in
+      let moves : (run_cost d n).a + (run_cost d n).b ≤ 8192 = rw (run_moves d n) (omega arith) in
+      let width = o.of.width in
+      let placed : IsPlaced g.width space.places (record { x = end.cell.x; y = end.cell.y }) =
+      let below = number_below g.width g.height end.cell end.on.0 end.on.1 in
+      let places = o.of.places.enough in
+      let on = end.on in
+      record { column = on.0; row = omega arith; within = omega arith } in
+      record {
+        column = omega arith;
+        row = omega arith;
+        rank = rw o.is_at.ranked (rank_small o.latest.cost (run_cost d n) few moves);
+        narrow = omega arith;
+        placed = subst (λ (u : State). IsPlaced space.width space.places u.cell) (sym end.after)
+            (subst (λ (w : ℕ). IsPlaced w space.places end.cell) (sym width) placed);
+        closed = closed last whole from to o.latest o.earlier o.best space.table o.is_at d n a e;
+      }

@@ -76,7 +76,7 @@ distinct_cons : (x : ℕ) (xs : List ℕ) → AllByRecursion (λ y. eqb x y ≡ 
 unfolding IsDistinct
 distinct_cons x xs a b = (a, b)
 
-run_moves : (d : Dir) (k : ℕ) → (run_cost d k).a + (run_cost d k).b ≡ k
+pub run_moves : (d : Dir) (k : ℕ) → (run_cost d k).a + (run_cost d k).b ≡ k
 run_moves N k = omega arith
 run_moves NE k = omega arith
 run_moves E k = omega arith

@@ -125,3 +125,58 @@ pub(crate) fn last_at(space: &Space, goal: Cell, at: u32) -> Last
         },
     }
 }
+
+// Offers the jump in an allowed direction, if it has a stop.
+fn offer_jump<J: JumpSource, L: Ledger, M: Ledger>(
+    j: &J,
+    ends: Ends,
+    last: Last,
+    d: Dir,
+    space: &mut Space,
+    steps: &mut Steps<L>,
+    own: &mut Steps<M>,
+)
+    requires some { OnSome (J.StandsFor j.now) ends.from ends.to }
+    requires offering { OnEach (J.StandsFor j.now) ends.from ends.to
+        (λ g. spec.IsOffering g ends.from ends.to last space.old) }
+    requires allowed { OnEach (J.StandsFor j.now) ends.from ends.to
+        (λ g. is_allowed g last.state.cell (jumps.come_to last.state.arrival) d ≡ true) }
+    requires room { 1 ≤ space.old.spare }
+    ensures jumped { OnEach (J.StandsFor j.now) ends.from ends.to
+        (λ g. space.new.table ≡ spec.jumped_in g ends.to last d space.old.table) }
+    ensures shape { KeepsShape space.old space.new }
+    ensures spare { space.old.spare ≤ space.new.spare + 1 }
+    ensures most { IsWithin (J.most j.now) (λ told. told.stop) steps.old steps.new }
+    ensures fewest { steps.old ≤ steps.new }
+{
+    if let Some(k) = j.stop(last.state.cell, d, ends.to, steps) {
+        space.offer(ends.to, offer_after(last, d, k), own);
+    }
+}
+
+// Offers the jumps in these directions.
+pub(crate) fn offer_jumps<J: JumpSource, L: Ledger, M: Ledger>(
+    j: &J,
+    ends: Ends,
+    last: Last,
+    dirs: &[Dir],
+    space: &mut Space,
+    steps: &mut Steps<L>,
+    own: &mut Steps<M>,
+)
+    requires some { OnSome (J.StandsFor j.now) ends.from ends.to }
+    requires offering { OnEach (J.StandsFor j.now) ends.from ends.to
+        (λ g. spec.IsOffering g ends.from ends.to last space.old) }
+    requires allowed { OnEach (J.StandsFor j.now) ends.from ends.to (λ g. AllByRecursion
+        (λ d. is_allowed g last.state.cell (jumps.come_to last.state.arrival) d ≡ true) dirs.now) }
+    requires room { length dirs.now ≤ space.old.spare }
+    ensures jumped { OnEach (J.StandsFor j.now) ends.from ends.to
+        (λ g. space.new.table ≡ spec.jumped g ends.to last dirs.now space.old.table) }
+    ensures shape { KeepsShape space.old space.new }
+    ensures most { IsWithin (J.most j.now) (λ told. length dirs.now * told.stop) steps.old steps.new }
+    ensures fewest { steps.old ≤ steps.new }
+{
+    for d in dirs {
+        offer_jump(j, ends, last, *d, space, steps, own);
+    }
+}
