@@ -12,7 +12,7 @@ use Rattle.search_run.proofs.Leastness.{or_false}
 use Rattle.best_first.specs.declared.state.State.{State}
 use Rattle.best_first.specs.declared.state.Layout.{Layout}
 use Rattle.best_first.specs.State.{arrival_number, state_number, is_same_state, start_at}
-use Rattle.best_first.specs.Rule.{Links, search_rule, LiesOn, IsSearch}
+use Rattle.best_first.specs.Rule.{Links, search_rule, LiesOn, IsPosed}
 use Rattle.best_first.proofs.Numbers.{at_most}
 use Rattle.best_first.proofs.Searching.{run_on}
 use Rattle.best_first.proofs.States.{arrival_small, one_arrival, same_state, is_same_state-itself}
@@ -36,7 +36,7 @@ state_below width height s a =
     let small = arrival_small s.arrival in
     omega arith
 
-module _ (width height : ℕ) (start goal : Cell) (link : Links) (fit : IsSearch width height start goal link) where
+module _ (width height : ℕ) (start goal : Cell) (link : Links) (posed : IsPosed width height start goal link) where
   member : (xs : List (Taken State)) (i : ℕ) (u : Taken State) → slice_get xs i ≡ Some u → IsIn u xs
   member [] i u h = absurd (cc)
   member (x ∷ xs) zero u h = subst (λ (w : Taken State). IsIn w (x ∷ xs))
@@ -88,7 +88,7 @@ module _ (width height : ℕ) (start goal : Cell) (link : Links) (fit : IsSearch
       → length run ≤ height * width * 9
   few_taken run is = at_most (λ (u : Taken State). state_number width u.state) run (height * width * 9)
       (λ i j a b h g e. apart_run run is i j a b h g (one_state width height a.state b.state
-      (run_on width height start goal link fit run is a (member run i a h))
-      (run_on width height start goal link fit run is b (member run j b g)) e))
+      (run_on width height start goal link posed run is a (member run i a h))
+      (run_on width height start goal link posed run is b (member run j b g)) e))
       (λ i u h. state_below width height u.state
-      (run_on width height start goal link fit run is u (member run i u h)))
+      (run_on width height start goal link posed run is u (member run i u h)))

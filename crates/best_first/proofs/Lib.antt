@@ -17,3 +17,4 @@ pub mod Forgetting
 pub mod Tables
 pub mod Parts
 pub mod Ending
+pub mod Tracing

@@ -76,7 +76,8 @@ module _ (layout : Layout) (width : ℕ) (goal : Cell) (link : Links) where
         cc
 
     module _ (after : Offers) (o : Offer State) (keeps : Keeps layout width goal link l.nodes n o)
-        (source : is_taken (search_rule width goal link) run o.from ≡ true) (at_v : after v ≡ Some o)
+        (source : is_taken (search_rule width goal link) run o.from ≡ true)
+        (led : link.led o.from (state_told n.place) ≡ true) (at_v : after v ≡ Some o)
         (at_others : (s : State) → is_same_state v s ≡ false → after s ≡ best s) where
       at_id : (j : ℕ) → (j ≡ id) ⊎ (j ≢ id)
       at_id j = grind arith
@@ -90,6 +91,7 @@ module _ (layout : Layout) (width : ℕ) (goal : Cell) (link : Links) where
             rw z ch.open_here;
         offer = o;
         keeps = keeps;
+        led = led;
         source = source;
         best_is = λ z. ap (λ (s : State). after s) ch.state ∙ at_v;
         taken_by = λ u i e. absurd (let y = in_taken run u i in
@@ -111,6 +113,7 @@ module _ (layout : Layout) (width : ℕ) (goal : Cell) (link : Links) where
             opened = ch.open_others j ne ∙ old.opened;
             offer = old.offer;
             keeps = keeps_stays x old.offer old.keeps old.source;
+            led = old.led;
             source = old.source;
             best_is = λ z. elim (same_or_not (is_same_state v (state_of layout x))) [
               | inl s ↦ absurd (ne (ch.only j x was (sym (is_same_state-state v (state_of layout x) s))))

@@ -73,6 +73,7 @@ module _ (layout : Layout) (width : ℕ) (goal : Cell) (link : Links) (run : Lis
       opened = o.opened;
       offer = o.offer;
       keeps = o.keeps;
+      led = o.led;
       source = o.source;
       best_is = λ z. sym (same (state_of layout n) z) ∙ o.best_is z;
       taken_by = o.taken_by;
@@ -206,10 +207,10 @@ module _ (layout : Layout) (width : ℕ) (goal : Cell) (link : Links) (run : Lis
     greater a b h l = grind (arith, nat_tests)
 
     -- the node that the state has has a greater key
-    by_lesser_key : (id : ℕ) (n : Node) → slice_get k.nodes id ≡ Some n → state_of layout n ≡ to
+    by_lesser_key : link.led (state_of layout p) (state_told new.place) ≡ true → (id : ℕ) (n : Node) → slice_get k.nodes id ≡ Some n → state_of layout n ≡ to
         → is_taken (search_rule width goal link) run to ≡ false → nat_lt new.key n.key ≡ true
         → Mirrors layout width goal link run (with_offer best to now) (replaced id new k)
-    by_lesser_key id n h e z t =
+    by_lesser_key told id n h e z t =
         let old = m.in_order id n h in
         let apart : way.parent ≢ id = λ i. let
         y : is_taken (search_rule width goal link) run (state_of layout p) ≡ false =
@@ -221,14 +222,15 @@ module _ (layout : Layout) (width : ℕ) (goal : Cell) (link : Links) (run : Lis
         let less : is_less cost old.offer.cost ≡ true = sym (test_is id n h e) ∙ t in
         mirrors_changed layout width goal link run best k (replaced id new k) to id new m
         (changed_by_replacing id n h e z) z new_column (with_offer best to now) now
-        (new_keeps (replaced id new k) (get-set_other k.nodes way.parent id new apart ∙ parent_is)) parent_taken
+        (new_keeps (replaced id new k) (get-set_other k.nodes way.parent id new apart ∙ parent_is)) parent_taken told
         (at_v (Some old.offer) (best_at id n h e z) ∙ rw less refl) at_others
 
     -- an offer keeps the run, where it betters no taken state
     pub offered_keeps : ((id : ℕ) (n : Node) → slice_get k.nodes id ≡ Some n → state_of layout n ≡ to
         → is_taken (search_rule width goal link) run to ≡ true → n.key ≤ new.key)
+        → link.led (state_of layout p) (state_told new.place) ≡ true
         → Mirrors layout width goal link run (with_offer best to now) (offered layout goal way k)
-    offered_keeps least = by_lookup (lookup layout k.nodes to) refl
+    offered_keeps least told = by_lookup (lookup layout k.nodes to) refl
       where
         kept : (id : ℕ) (n : Node) → slice_get k.nodes id ≡ Some n → state_of layout n ≡ to
             → nat_lt new.key n.key ≡ false → Mirrors layout width goal link run (with_offer best to now) k
@@ -246,7 +248,7 @@ module _ (layout : Layout) (width : ℕ) (goal : Cell) (link : Links) (run : Lis
             → nat_lt new.key n.key ≡ true → (b : Bool) → is_taken (search_rule width goal link) run to ≡ b
             → Mirrors layout width goal link run (with_offer best to now) (replaced id new k)
         by_taken id n h e t true y = absurd (greater new.key n.key t (least id n h e y))
-        by_taken id n h e t false z = by_lesser_key id n h e z t
+        by_taken id n h e t false z = by_lesser_key told id n h e z t
 
         by_key : (id : ℕ) (n : Node) → slice_get k.nodes id ≡ Some n → state_of layout n ≡ to → (b : Bool)
             → nat_lt new.key n.key ≡ b
@@ -261,7 +263,7 @@ module _ (layout : Layout) (width : ℕ) (goal : Cell) (link : Links) (run : Lis
             let z = m.known to e in
             mirrors_changed layout width goal link run best k (added new k) to (length k.nodes) new m
             (changed_by_adding e) z.0 new_column (with_offer best to now) now
-            (new_keeps (added new k) (get-added k.nodes new way.parent p parent_is)) parent_taken
+            (new_keeps (added new k) (get-added k.nodes new way.parent p parent_is)) parent_taken told
             (at_v None z.1) at_others
         by_lookup (Some id) e =
             let f = lookup-found layout k.nodes to id e in

@@ -8,7 +8,8 @@ use Rattle.search_run.specs.Run.{Taken, IsIn, here, least_offer, way_to}
 use Rattle.best_first.specs.declared.node.Node.{Node}
 use Rattle.best_first.specs.declared.state.State.{State}
 use Rattle.best_first.specs.declared.state.Layout.{Layout}
-use Rattle.best_first.specs.State.{state_number, start_at}
+use Rattle.best_first.specs.State.{state_number, start_at, state_told}
+use Rattle.best_first.specs.Mirror.{Offers, IsSearching}
 use Rattle.best_first.specs.Rule.{Links, search_rule, IsSearch}
 use Rattle.best_first.specs.Node.{state_of}
 use Rattle.best_first.specs.Table.{Table, begun, closed_at, IsFirstNode, NoneOpen}
@@ -65,9 +66,9 @@ module _ (layout : Layout) (width height : ℕ) (start goal : Cell) (link : Link
 
   -- or none waits
   pub exhausted : (at : ℕ) (k : Table) (taken : List ℕ) → HasOffered layout width goal link start at k taken
-      → NoneOpen k → IsExhausted layout width goal link start taken
+      → NoneOpen k → IsExhausted width goal link start taken
   exhausted at k taken h none =
-      subst (λ (ns : List ℕ). IsExhausted layout width goal link start ns) (sym h.numbered)
+      subst (λ (ns : List ℕ). IsExhausted width goal link start ns) (sym h.numbered)
       (ending layout width height start goal link fit h.last h.earlier at h.best k h.searching h.open_ended
       h.all_made none)
 
@@ -76,7 +77,7 @@ module _ (layout : Layout) (width height : ℕ) (start goal : Cell) (link : Link
       → length taken ≤ height * width * 9
   taken_fits at k taken h = rw h.numbered
       (subst (λ n. n ≤ height * width * 9) (sym (length-numbers (h.last ∷ h.earlier)))
-      (few_taken width height start goal link fit (h.last ∷ h.earlier) h.searching.run))
+      (few_taken width height start goal link fit.posed (h.last ∷ h.earlier) h.searching.run))
     where
       length-map : (run : List (Taken State)) → length (map (λ u. state_number width u.state) run) ≡ length run
       length-map [] = refl
@@ -110,3 +111,13 @@ module _ (layout : Layout) (width height : ℕ) (start goal : Cell) (link : Link
     way_is points cost w =
         let one = back_is_one goal k.nodes at (reverse points) (reverse cells) cost h.last.cost w last_back in
         (sym (reverse-twice points) ∙ ap reverse one.0 ∙ reverse-twice cells, one.1)
+
+-- what stands in the place of the last state's node was led there from the state's parent
+pub last_led : (layout : Layout) (width : ℕ) (goal : Cell) (link : Links) (start : Cell) (x : Taken State)
+    (earlier : List (Taken State)) (at : ℕ) (best : Offers) (k : Table)
+    (i : IsSearching layout width goal link start x earlier at best k)
+    → link.led x.parent (state_told i.node.place) ≡ true
+last_led layout width goal link start x earlier at best k i =
+    let o = i.mirrors.in_order at i.node i.node_is in
+    let from = (o.taken_by x (here earlier) (sym i.state)).1 in
+    ap (λ (s : State). link.led s (state_told i.node.place)) from ∙ o.led

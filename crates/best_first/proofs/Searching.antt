@@ -21,7 +21,7 @@ use Rattle.best_first.specs.declared.state.State.{State}
 use Rattle.best_first.specs.declared.state.Layout.{Layout}
 use Rattle.best_first.specs.declared.state.Layout.TheVariants.{ByCell, ByArrival}
 use Rattle.best_first.specs.State.{is_same_state, start_at, state_in, state_told, place_of}
-use Rattle.best_first.specs.Rule.{Links, search_rule, LiesOn, IsSearch}
+use Rattle.best_first.specs.Rule.{Links, search_rule, LiesOn, IsPosed, IsSearch}
 use Rattle.best_first.specs.Node.{state_of}
 use Rattle.best_first.specs.Table.{Table, lookup, node_for, begun, offered, closed_at, IsFirstNode, NoneOpen, ClosedBelow}
 use Rattle.best_first.specs.Mirror.{Offers, Keeps, IsInOrder, Mirrors, IsSearching}
@@ -44,27 +44,29 @@ most_ranks p q m s t = by_order (rank_of p) (rank_of q) (λ h. IsAtMost-not_more
         two : (a b : ℕ) → (a ≤ b) ⊎ (b < a)
         two a b = grind arith
 
-module _ (width height : ℕ) (start goal : Cell) (link : Links) (fit : IsSearch width height start goal link) where
+module _ (width height : ℕ) (start goal : Cell) (link : Links) (posed : IsPosed width height start goal link) where
   -- each taken state lies on the map
   pub run_on : (run : List (Taken State)) → IsRun (search_rule width goal link) (start_at start) run
       → (u : Taken State) → IsIn u run → LiesOn width height u.state.cell
   run_on [] is u m = absurd is
-  run_on (x ∷ []) is u (here z) = rw is fit.start_on
+  run_on (x ∷ []) is u (here z) = rw is posed.start_on
   run_on (x ∷ []) is u (there z e m) = elim m [ ]
   run_on (x ∷ y ∷ earlier) is u (here z) =
       let from = least_offer-from (search_rule width goal link) (y ∷ earlier) x.state
       (record { cost = x.cost; from = x.parent }) is.2.offered in
-      fit.links.lands from.by.state x.state from.offered.step from.offered.linked
+      posed.links.lands from.by.state x.state from.offered.step from.offered.linked
   run_on (x ∷ y ∷ earlier) is u (there z e m) = run_on (y ∷ earlier) is.0 u m
 
+  pub fair : IsConsistent (search_rule width goal link)
+  fair = consistent width height goal link posed.links
+
+module _ (width height : ℕ) (start goal : Cell) (link : Links) (fit : IsSearch width height start goal link) where
+  -- sums of taken states are short
   pub taken_short : (run : List (Taken State)) → IsRun (search_rule width goal link) (start_at start) run
       → (u : Taken State) → IsIn u run → HasShortParts (sum_at (search_rule width goal link) u.state u.cost)
   taken_short run is u m =
-      short_sum width height u.state.cell goal u.cost fit.narrow fit.low (run_on run is u m) fit.goal_on
+      short_sum width height u.state.cell goal u.cost fit.posed.narrow fit.posed.low (run_on width height start goal link fit.posed run is u m) fit.posed.goal_on
       (let f = fit.few run u is m in omega arith)
-
-  fair : IsConsistent (search_rule width goal link)
-  fair = consistent width height goal link fit.links
 
 module _ (layout : Layout) (width height : ℕ) (start goal : Cell) (link : Links)
     (fit : IsSearch width height start goal link) where
@@ -88,12 +90,12 @@ module _ (layout : Layout) (width height : ℕ) (start goal : Cell) (link : Link
     pub taken_below : (id : ℕ) (n : Node) → slice_get k.nodes id ≡ Some n
         → is_taken (search_rule width goal link) (x ∷ earlier) (state_of layout n) ≡ true → n.key ≤ i.node.key
     taken_below id n h y =
-        let u = taken_state (search_rule width goal link) (fair width height start goal link fit) (x ∷ earlier) (state_of layout n) y in
+        let u = taken_state (search_rule width goal link) (fair width height start goal link fit.posed) (x ∷ earlier) (state_of layout n) y in
         subst (λ (a : ℕ). a ≤ i.node.key) (sym (taken_key id n h u.0 u.1 u.2))
         (subst (λ (b : ℕ). rank_of (sum_at (search_rule width goal link) u.0.state u.0.cost) ≤ b) (sym last_key)
         (most_ranks (sum_at (search_rule width goal link) u.0.state u.0.cost)
         (sum_at (search_rule width goal link) x.state x.cost)
-        (below_last (search_rule width goal link) (fair width height start goal link fit) (start_at start) x earlier u.0 i.run u.1)
+        (below_last (search_rule width goal link) (fair width height start goal link fit.posed) (start_at start) x earlier u.0 i.run u.1)
         (taken_short width height start goal link fit (x ∷ earlier) i.run u.0 u.1) (taken_short width height start goal link fit (x ∷ earlier) i.run x (here earlier))))
 
     -- so no closed node has a greater key
@@ -123,10 +125,11 @@ module _ (layout : Layout) (width height : ℕ) (start goal : Cell) (link : Link
         yes : (b : Bool) → (is_same_state x.state x.state || b) ≡ true
         yes b = rw (is_same_state-itself x.state) refl
 
-    module _ (o : Way) (c : Cost) (l : link x.state (state_in layout o.to) ≡ Some c)
-        (ranked : o.rank ≡ rank_of (add_costs x.cost c)) (parent : o.parent ≡ at) where
+    module _ (o : Way) (c : Cost) (l : link.step x.state (state_in layout o.to) ≡ Some c)
+        (ranked : o.rank ≡ rank_of (add_costs x.cost c)) (parent : o.parent ≡ at)
+        (led : link.led x.state o.to ≡ true) where
       lands : LiesOn width height (state_in layout o.to).cell
-      lands = fit.links.lands x.state (state_in layout o.to) c l
+      lands = fit.posed.links.lands x.state (state_in layout o.to) c l
 
       pub way_on : LiesOn width height o.to.cell
       way_on = subst (λ (d : Cell). LiesOn width height d) (in_cell layout o.to) lands
@@ -134,21 +137,21 @@ module _ (layout : Layout) (width height : ℕ) (start goal : Cell) (link : Link
       cost_few : (add_costs x.cost c).a + (add_costs x.cost c).b ≤ 2 ^ 29
       cost_few =
           let f = fit.few (x ∷ earlier) x i.run (here earlier) in
-          let b : c.a + c.b ≤ 4096 = rw (fit.links.priced x.state (state_in layout o.to) c l)
-          (short_link width height x.state.cell (state_in layout o.to).cell fit.narrow fit.low
-          (run_on width height start goal link fit (x ∷ earlier) i.run x (here earlier)) lands) in
+          let b : c.a + c.b ≤ 4096 = rw (fit.posed.links.priced x.state (state_in layout o.to) c l)
+          (short_link width height x.state.cell (state_in layout o.to).cell fit.posed.narrow fit.posed.low
+          (run_on width height start goal link fit.posed (x ∷ earlier) i.run x (here earlier)) lands) in
           omega arith
 
       short : HasShortParts (sum_at (search_rule width goal link) (state_in layout o.to) (add_costs x.cost c))
-      short = short_sum width height (state_in layout o.to).cell goal (add_costs x.cost c) fit.narrow fit.low lands
-          fit.goal_on cost_few
+      short = short_sum width height (state_in layout o.to).cell goal (add_costs x.cost c) fit.posed.narrow fit.posed.low lands
+          fit.posed.goal_on cost_few
 
       parent_is : slice_get k.nodes o.parent ≡ Some i.node
       parent_is = rw parent i.node_is
 
       key : (node_for goal o).key
           ≡ rank_of (sum_at (search_rule width goal link) (state_in layout o.to) (add_costs x.cost c))
-      key = new_key layout width goal link (x ∷ earlier) best k i.mirrors o (add_costs x.cost c) i.node fit.narrow
+      key = new_key layout width goal link (x ∷ earlier) best k i.mirrors o (add_costs x.cost c) i.node fit.posed.narrow
           way_on.0 ranked short parent_is last_taken
 
       -- an offer's key is at least that of the taken state
@@ -158,7 +161,7 @@ module _ (layout : Layout) (width height : ℕ) (start goal : Cell) (link : Link
           (subst (λ (b : ℕ). rank_of (sum_at (search_rule width goal link) x.state x.cost) ≤ b) (sym key)
           (most_ranks (sum_at (search_rule width goal link) x.state x.cost)
           (sum_at (search_rule width goal link) (state_in layout o.to) (add_costs x.cost c))
-          (link_rises (search_rule width goal link) (fair width height start goal link fit) x.state (state_in layout o.to) x.cost c l)
+          (link_rises (search_rule width goal link) (fair width height start goal link fit.posed) x.state (state_in layout o.to) x.cost c l)
           (taken_short width height start goal link fit (x ∷ earlier) i.run x (here earlier)) short))
 
       below_new : (id : ℕ) (n : Node) → slice_get k.nodes id ≡ Some n
@@ -187,6 +190,11 @@ module _ (layout : Layout) (width height : ℕ) (start goal : Cell) (link : Link
               or_true true e = refl
               or_true false e = e
 
+      told : link.led (state_of layout i.node) (state_told (place_of o.to)) ≡ true
+      told = ap (λ (s : State). link.led s (state_told (place_of o.to))) i.state
+          ∙ ap (λ (s : State). link.led x.state s)
+          (told-place o.to (let a = way_on.0 in let b = fit.posed.narrow in omega arith)) ∙ led
+
       -- one more offer
       pub one_more : IsSearching layout width goal link start x earlier at
           (with_onward x best (record { to = state_in layout o.to; cost = c })) (offered layout goal o k)
@@ -197,8 +205,8 @@ module _ (layout : Layout) (width height : ℕ) (start goal : Cell) (link : Link
             if is_same_state (state_in layout o.to) v then lesser (best v)
             (Some (record { cost = add_costs x.cost c; from = s })) else best v) (offered layout goal o k)) i.state
             (offered_keeps layout width goal link (x ∷ earlier) best k i.mirrors o (add_costs x.cost c) i.node
-            fit.narrow way_on.0 ranked short parent_is last_taken (λ id n h e y. below_new id n h
-            (ap (λ (s : State). is_taken (search_rule width goal link) (x ∷ earlier) s) e ∙ y)));
+            fit.posed.narrow way_on.0 ranked short parent_is last_taken (λ id n h e y. below_new id n h
+            (ap (λ (s : State). is_taken (search_rule width goal link) (x ∷ earlier) s) e ∙ y)) told);
         node = i.node;
         node_is = offered_slot layout goal o k at i.node i.node_is key_rises;
         state = i.state;
@@ -239,7 +247,7 @@ module _ (layout : Layout) (width height : ℕ) (start goal : Cell) (link : Link
       )
 
       -- no state is left
-      pub ending : NoneOpen k → IsExhausted layout width goal link start (numbers_of width (x ∷ earlier))
+      pub ending : NoneOpen k → IsExhausted width goal link start (numbers_of width (x ∷ earlier))
       ending shut = record {
         run = x ∷ earlier;
         is_run = i.run;
@@ -260,7 +268,7 @@ module _ (layout : Layout) (width height : ℕ) (start goal : Cell) (link : Link
   seen_start ByArrival = refl
 
   told_start : state_told first_node.place ≡ start_at start
-  told_start = told-place (start_at start) (let a = fit.start_on.0 in let b = fit.narrow in omega arith)
+  told_start = told-place (start_at start) (let a = fit.posed.start_on.0 in let b = fit.posed.narrow in omega arith)
 
   first_state : state_of layout first_node ≡ start_at start
   first_state = ap (λ (s : State). state_in layout s) told_start ∙ seen_start layout
@@ -278,19 +286,20 @@ module _ (layout : Layout) (width height : ℕ) (start goal : Cell) (link : Link
   start_order : IsInOrder layout width goal link (at_start ∷ []) (least_offer (search_rule width goal link) [])
       (begun goal start) 0 first_node
   start_order = record {
-    column = subst (λ (s : State). s.cell.x < width) (sym told_start) fit.start_on.0;
+    column = subst (λ (s : State). s.cell.x < width) (sym told_start) fit.posed.start_on.0;
     opened = rw first_state (rw start_taken refl);
     offer = record { cost = no_cost; from = start_at start };
     keeps = record {
       key = start_key
           ∙ ap (λ (s : State). rank_of (sum_at (search_rule width goal link) s no_cost)) (sym first_state);
       short = subst (λ (s : State). HasShortParts (sum_at (search_rule width goal link) s no_cost))
-          (sym first_state) (short_sum width height start goal no_cost fit.narrow fit.low fit.start_on fit.goal_on
+          (sym first_state) (short_sum width height start goal no_cost fit.posed.narrow fit.posed.low fit.posed.start_on fit.posed.goal_on
           (omega arith));
       parent = first_node;
       parent_is = refl;
       from = first_state;
     };
+    led = ap (λ (s : State). link.led (start_at start) s) told_start ∙ fit.posed.links.starts start;
     source = start_taken;
     best_is = λ z. absurd (let y : is_taken (search_rule width goal link) (at_start ∷ [])
         (state_of layout first_node) ≡ true =

@@ -177,6 +177,7 @@ module _ (layout : Layout) (width : ℕ) (goal : Cell) (link : Links) (run : Lis
           opened = by_slot (at_id i);
           offer = o.offer;
           keeps = o.keeps;
+          led = o.led;
           source = or_true (is_same_state (state_of layout n) o.offer.from)
               (is_taken (search_rule width goal link) run o.offer.from) o.source;
           best_is = λ z. o.best_is (or_false (is_same_state (state_of layout n) (state_of layout x))

@@ -6,7 +6,7 @@ use Rattle.root2_cost.specs.Order.{is_less}
 use Rattle.root2_cost.specs.Sums.{add_costs}
 use Rattle.grid_moves.specs.declared.Cell.{Cell}
 use Rattle.grid_moves.specs.Move.{is_same}
-use Rattle.search_run.specs.Run.{Taken, Offer, lesser, least_offer}
+use Rattle.search_run.specs.Run.{Taken, Offer, is_taken, lesser, least_offer}
 use Rattle.best_first.specs.declared.state.State.{State}
 use Rattle.best_first.specs.State.{is_same_state}
 use Rattle.best_first.specs.Rule.{Links, search_rule}
@@ -24,9 +24,9 @@ lesser-none (Some o) = refl
 module _ (width : ℕ) (goal : Cell) (link : Links) (y : Taken State) where
   -- each of the ways is a link of the taken state
   abbrev pub AreOfLinks : List Onward → Type 0
-  AreOfLinks ways = (w : Onward) → IsAmong w ways → link y.state w.to ≡ Some w.cost
+  AreOfLinks ways = (w : Onward) → IsAmong w ways → link.step y.state w.to ≡ Some w.cost
 
-  module _ (s : State) (c : Cost) (linked : link y.state s ≡ Some c) where
+  module _ (s : State) (c : Cost) (linked : link.step y.state s ≡ Some c) where
     abbrev made : Option (Offer State)
     made = Some (record { cost = add_costs y.cost c; from = y.state })
 
@@ -45,12 +45,12 @@ module _ (width : ℕ) (goal : Cell) (link : Links) (y : Taken State) where
         by_test false e = rw e refl
 
     -- over one of its links
-    one_over : (best : Offers) (w : Onward) → link y.state w.to ≡ Some w.cost
+    one_over : (best : Offers) (w : Onward) → link.step y.state w.to ≡ Some w.cost
         → ((w ≡ record { to = s; cost = c }) × (with_onward y best w s ≡ lesser (best s) made))
         ⊎ (with_onward y best w s ≡ best s)
     one_over best w l = elim (same_or_not (is_same_state w.to s)) [
       | inl t ↦ (let one : w.to ≡ s = is_same_state-state w.to s t in
-          let cost : w.cost ≡ c = some_cost w.cost c (sym l ∙ ap (λ (u : State). link y.state u) one ∙ linked) in
+          let cost : w.cost ≡ c = some_cost w.cost c (sym l ∙ ap (λ (u : State). link.step y.state u) one ∙ linked) in
           inl (
             same_way w (record { to = s; cost = c }) one cost,
             rw t (ap (λ (d : Cost). let o : Offer State = record { cost = add_costs y.cost d; from = y.state } in
@@ -101,7 +101,7 @@ module _ (width : ℕ) (goal : Cell) (link : Links) (y : Taken State) where
     ]
 
   -- where no link leads nothing is offered
-  none_made : (s : State) → link y.state s ≡ None → (ways : List Onward) (best : Offers) → AreOfLinks ways
+  none_made : (s : State) → link.step y.state s ≡ None → (ways : List Onward) (best : Offers) → AreOfLinks ways
       → with_all y best ways s ≡ best s
   none_made s n [] best l = refl
   none_made s n (w ∷ ways) best l =
@@ -109,28 +109,30 @@ module _ (width : ℕ) (goal : Cell) (link : Links) (y : Taken State) where
       ∙ elim (same_or_not (is_same_state w.to s)) [
         | inl t ↦ absurd (let one : w.to ≡ s = is_same_state-state w.to s t in
             let e : Some w.cost ≡ None =
-            sym (l w (first ways)) ∙ ap (λ (u : State). link y.state u) one ∙ n in cc)
+            sym (l w (first ways)) ∙ ap (λ (u : State). link.step y.state u) one ∙ n in cc)
         | inr f ↦ rw f refl
       ]
 
-  -- a link is among the ways, or offering over it changes nothing
+  -- a link to a state that was not taken is among the ways, or offering over it changes nothing
   abbrev pub AreEnough : List (Taken State) → List Onward → Type 0
   AreEnough earlier ways =
-      (v : State) (c : Cost) → link y.state v ≡ Some c → IsAmong (record { to = v; cost = c }) ways
+      (v : State) (c : Cost) → is_taken (search_rule width goal link) (y ∷ earlier) v ≡ false
+      → link.step y.state v ≡ Some c → IsAmong (record { to = v; cost = c }) ways
       ⊎ (least_offer (search_rule width goal link) (y ∷ earlier) v
       ≡ least_offer (search_rule width goal link) earlier v)
 
   -- then its offers make the least offers those after it
   pub offers_after : (earlier : List (Taken State)) (ways : List Onward) → is_same y.state.cell goal ≡ false
       → AreOfLinks ways → AreEnough earlier ways → (s : State)
+      → is_taken (search_rule width goal link) (y ∷ earlier) s ≡ false
       → with_all y (least_offer (search_rule width goal link) earlier) ways s
       ≡ least_offer (search_rule width goal link) (y ∷ earlier) s
-  offers_after earlier ways open_ended l enough s = by_link (link y.state s) refl
+  offers_after earlier ways open_ended l enough s untaken = by_link (link.step y.state s) refl
     where
       best : Offers
       best = least_offer (search_rule width goal link) earlier
 
-      by_link : (o : Option Cost) → link y.state s ≡ o
+      by_link : (o : Option Cost) → link.step y.state s ≡ o
           → with_all y (least_offer (search_rule width goal link) earlier) ways s
           ≡ least_offer (search_rule width goal link) (y ∷ earlier) s
       by_link None e =
@@ -140,7 +142,7 @@ module _ (width : ℕ) (goal : Cell) (link : Links) (y : Taken State) where
           let after : lesser (least_offer (search_rule width goal link) earlier s)
           (Some (record { cost = add_costs y.cost c; from = y.state }))
           ≡ least_offer (search_rule width goal link) (y ∷ earlier) s = rw (open_ended, e) refl in
-          elim (enough s c e) [
+          elim (enough s c untaken e) [
             | inl i ↦ is_made s c e ways (least_offer (search_rule width goal link) earlier) l i ∙ after
             | inr same ↦ elim (either s c e ways (least_offer (search_rule width goal link) earlier) l) [
               | inl g ↦ g ∙ after

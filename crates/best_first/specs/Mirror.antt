@@ -40,6 +40,7 @@ module _ (layout : Layout) (width : ℕ) (goal : Cell) (link : Links) where
     pub opened : slice_get k.open_at id ≡ Some (not (is_taken (search_rule width goal link) run (state_of layout n)))
     pub offer : Offer State
     pub keeps : Keeps k.nodes n offer
+    pub led : link.led offer.from (state_told n.place) ≡ true
     pub source : is_taken (search_rule width goal link) run offer.from ≡ true
     pub best_is : is_taken (search_rule width goal link) run (state_of layout n) ≡ false
         → best (state_of layout n) ≡ Some offer

@@ -14,6 +14,15 @@ use Rattle.best_first.specs.Mirror.{Offers, IsSearching}
 abbrev pub numbers_of : ℕ → List (Taken State) → List ℕ
 numbers_of width run = reverse (map (λ u. state_number width u.state) run)
 
+module _ (width : ℕ) (goal : Cell) (link : Links) (start : Cell) where
+  -- the run took states of these numbers and ends, as none waits and no goal was taken
+  pub record IsExhausted (taken : List ℕ) : Type 0 where
+    pub run : List (Taken State)
+    pub is_run : IsRun (search_rule width goal link) (start_at start) run
+    pub no_goal : has_goal (search_rule width goal link) run ≡ false
+    pub none_waits : NoneWaits (search_rule width goal link) run
+    pub numbered : taken ≡ numbers_of width run
+
 module _ (layout : Layout) (width : ℕ) (goal : Cell) (link : Links) (start : Cell) where
   -- the search has taken states of these numbers, the last one with the node of this number
   pub record HasTaken (at : ℕ) (k : Table) (taken : List ℕ) : Type 0 where
@@ -34,15 +43,7 @@ module _ (layout : Layout) (width : ℕ) (goal : Cell) (link : Links) (start : C
         → best s ≡ least_offer (search_rule width goal link) (last ∷ earlier) s
     pub numbered : taken ≡ numbers_of width (last ∷ earlier)
 
-  -- the run took states of these numbers and ends, as none waits and no goal was taken
-  pub record IsExhausted (taken : List ℕ) : Type 0 where
-    pub run : List (Taken State)
-    pub is_run : IsRun (search_rule width goal link) (start_at start) run
-    pub no_goal : has_goal (search_rule width goal link) run ≡ false
-    pub none_waits : NoneWaits (search_rule width goal link) run
-    pub numbered : taken ≡ numbers_of width run
-
   -- the search has taken one state more, or ends as none waits
   abbrev pub GoesOn : Table → List ℕ → Option ℕ → Type 0
-  GoesOn k taken None = IsExhausted taken
+  GoesOn k taken None = IsExhausted width goal link start taken
   GoesOn k taken (Some id) = HasTaken id k taken

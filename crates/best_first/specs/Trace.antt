@@ -1,5 +1,6 @@
 -- The way along the parents.
 use Rattle.std.specs.Prelude.{◌≡◌, ◌≢◌, ℕ, ◌+◌, ◌-◌, ◌<◌, ◌≤◌, ◌^◌, List, [], ◌∷◌, ◌++◌, Some, slice_get, reverse}
+use Rattle.std.specs.Option.{option_map_or}
 use Rattle.root2_cost.specs.declared.Cost.{Cost}
 use Rattle.root2_cost.specs.Rank.{rank_of}
 use Rattle.root2_cost.specs.Sums.{add_costs, no_cost}
@@ -15,6 +16,10 @@ node_cell n = (state_told n.place).cell
 -- the rank of a node's cost: its key less the rank of the estimate
 abbrev pub rank_left : Cell → Node → ℕ
 rank_left goal n = n.key - rank_of (estimate (node_cell n) goal)
+
+-- that of the node of this number
+abbrev pub rank_at : Cell → List Node → ℕ → ℕ
+rank_at goal nodes id = option_map_or (λ n. rank_left goal n) (slice_get nodes id) 0
 
 -- from the node of this number back along the parents to the start, which has the number 0, these are the
 -- cells; the way between costs this, and ranks of costs fall

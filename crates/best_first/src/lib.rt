@@ -15,6 +15,7 @@ mod place;
 mod space;
 mod state;
 mod taken;
+mod way;
 
 pub use node::{Node, Offer};
 pub use place::Place;
@@ -22,3 +23,4 @@ pub use space::Space;
 pub use state::{Layout, State};
 pub use std::alloc::AllocError as NoMemory;
 pub use taken::Taken;
+pub use way::Way;

@@ -149,7 +149,8 @@ impl Session {
 
     /// The map's width, in cells.
     pub fn width(&self) -> u16
-        ensures { result ≡ self.now.layers.land.width }
+        ensures width { result ≡ self.now.layers.land.width }
+        ensures some { 0 < result }
     {
         self.land.width()
     }

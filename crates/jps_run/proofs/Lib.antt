@@ -1,8 +1,13 @@
-pub mod Unfolding
-pub mod Writing
-pub mod Readings
 pub mod Tallies
 pub mod Pieces
-pub mod Replying
+pub mod Stopping
+pub mod Turns
+pub mod Looping
+pub mod Unfolding
+pub mod Existing
+pub mod Solving
 pub mod Judgements
 pub mod Works
+pub mod Readings
+pub mod Writing
+pub mod Ended

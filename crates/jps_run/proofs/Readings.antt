@@ -1,62 +1,44 @@
--- Refused texts.
-use Rattle.std.proofs.Common.{◌≡◌, ◌≢◌, refl, List, ℕ}
+-- Texts that files hold.
+use Rattle.std.proofs.Common.{◌≡◌, ◌∙◌, ap, List, ℕ}
 use Rattle.std.specs.Prelude.{Result, Ok, Err}
 use Rattle.io_edge.specs.Told.{Held}
 use Rattle.io_edge.specs.Whole.{IsWhole}
+use Rattle.grid_moves.specs.Layers.{layers_of}
+use Rattle.grid_moves.specs.declared.Corner.{Corner}
 use Rattle.map_text.specs.Map.{Map}
-use Rattle.map_text.specs.Faults.{map_of}
-use Rattle.map_text.specs.Faults as map_faults
-use Rattle.map_text.specs.declared.fault.MapFault.{MapFault}
-use Rattle.map_text.specs.declared.fault.MapFault.TheVariants as map
-use Rattle.scen_text.specs.Faults.{scen_of}
-use Rattle.scen_text.specs.Faults as scen_faults
-use Rattle.scen_text.specs.declared.entry.Entry.{Entry}
-use Rattle.scen_text.specs.declared.fault.ScenFault.{ScenFault}
-use Rattle.scen_text.specs.declared.fault.ScenFault.TheVariants as scen
-use Rattle.script_text.specs.Faults.{script_of}
-use Rattle.script_text.specs.Faults as script_faults
-use Rattle.script_text.specs.declared.command.Command.{Command}
-use Rattle.script_text.specs.declared.fault.ScriptFault.{ScriptFault}
-use Rattle.script_text.specs.declared.fault.ScriptFault.TheVariants as script
-use Rattle.jps_run.specs.FaultLines.{map_line, scen_line, script_line}
-use Rattle.jps_run.specs.Held.{longest_text, faulty, IsMapRefused, IsScenRefused, IsScriptRefused}
+use Rattle.edit_replay.specs.Session.{SessionData}
+use Rattle.edit_replay.specs.declared.session.Engine.{Engine}
+use Rattle.word_list.specs.declared.request.Settings.{Settings}
+use Rattle.jps_run.specs.Session.{corner_of, engine_of, session_on}
+use Rattle.jps_run.specs.Files.{IsRead, Reads, ReadsText, faulty}
+use Rattle.jps_run.specs.Kinds.{limit_of}
+use Rattle.jps_run.specs.declared.kind.Kind.{Kind}
+use Rattle.jps_run.specs.declared.stop.Stop.{Stop}
+use Rattle.jps_run.specs.declared.stop.Stop.TheVariants as stop
 
-tells_map : (f : MapFault) (r : Result Map MapFault) → f ≢ map.NoMemory
-    → map_faults.Tells (Err f) r → r ≡ Err f
-tells_map (map.Header line) r n t = t
-tells_map (map.Side line) r n t = t
-tells_map (map.Short line) r n t = t
-tells_map (map.Missing line) r n t = t
-tells_map (map.Byte line column) r n t = t
-tells_map (map.After line) r n t = t
-tells_map map.NoMemory r n t = absurd (n refl)
+-- a file whose whole text was read so was itself read so
+pub file-read : {X : Type 0} (Spells : List ℕ → X → Type 0) (kind : Kind) (held : Held) (text : List ℕ)
+    (faults faults_now : ℕ) (result : Result X Stop)
+    → IsWhole held (limit_of kind) text → ReadsText Spells kind text result
+    → Reads Spells kind held faults faults_now result
+file-read Spells kind held text faults faults_now (Ok value) w r = λ earlier.
+    let a = r earlier in record { text = text; accepted = (w, a.0); spelled = a.1 }
+file-read Spells kind held text faults faults_now (Err (stop.Text line)) w r = λ earlier. faulty text w (r earlier)
+file-read Spells kind held text faults faults_now (Err stop.Read) w r = λ earlier. absurd (r earlier)
+file-read Spells kind held text faults faults_now (Err stop.Write) w r = λ earlier. absurd (r earlier)
+file-read Spells kind held text faults faults_now (Err stop.Memory) w r = λ earlier. tt
 
-tells_scen : (f : ScenFault) (r : Result (List Entry) ScenFault) → f ≢ scen.NoMemory
-    → scen_faults.Tells (Err f) r → r ≡ Err f
-tells_scen (scen.Version line) r n t = t
-tells_scen (scen.Fields line) r n t = t
-tells_scen (scen.Number line) r n t = t
-tells_scen (scen.Length line) r n t = t
-tells_scen scen.NoMemory r n t = absurd (n refl)
-
-tells_script : (f : ScriptFault) (r : Result (List Command) ScriptFault) → f ≢ script.NoMemory
-    → script_faults.Tells (Err f) r → r ≡ Err f
-tells_script (script.Line line) r n t = t
-tells_script (script.Long line) r n t = t
-tells_script script.NoMemory r n t = absurd (n refl)
-
--- a text whose reading tells a fault is refused with the fault's line
-pub refused_map : (held : Held) (text line : List ℕ) (f : MapFault) → IsWhole held longest_text text
-    → f ≢ map.NoMemory
-    → map_faults.Tells (Err f) (map_of text) → line ≡ map_line f → IsMapRefused held line
-refused_map held text line f w n t e = faulty text f w (tells_map f (map_of text) n t) e
-
-pub refused_scen : (held : Held) (text line : List ℕ) (f : ScenFault) → IsWhole held longest_text text
-    → f ≢ scen.NoMemory
-    → scen_faults.Tells (Err f) (scen_of text) → line ≡ scen_line f → IsScenRefused held line
-refused_scen held text line f w n t e = faulty text f w (tells_scen f (scen_of text) n t) e
-
-pub refused_script : (held : Held) (text line : List ℕ) (f : ScriptFault) → IsWhole held longest_text text
-    → f ≢ script.NoMemory
-    → script_faults.Tells (Err f) (script_of text) → line ≡ script_line f → IsScriptRefused held line
-refused_script held text line f w n t e = faulty text f w (tells_script f (script_of text) n t) e
+-- the session is that of the picked engine under the picked rule
+pub session-made : (d : SessionData) (set : Settings) (m : Map) (engine : Engine) (corner : Corner)
+    → d ≡ record { engine = engine; layers = layers_of corner m.width m.height m.cells }
+    → engine ≡ engine_of set.pick → corner ≡ corner_of set.one → d ≡ session_on set m
+session-made d set m engine corner is e k =
+    is
+    ∙ ap (λ (it : Engine). let s : SessionData = record {
+      engine = it;
+      layers = layers_of corner m.width m.height m.cells;
+    } in s) e
+    ∙ ap (λ (it : Corner). let s : SessionData = record {
+      engine = engine_of set.pick;
+      layers = layers_of it m.width m.height m.cells;
+    } in s) k

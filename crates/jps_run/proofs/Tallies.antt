@@ -1,5 +1,5 @@
 -- Counts of rows.
-use Rattle.std.proofs.Common.{◌≡◌, refl, sym, ap, ◌∙◌, List, [], ◌∷◌, ◌++◌, ℕ, suc, ◌+◌, Bool, true, false, ◌&&◌, ◌||◌, arith, if◌then◌else◌}
+use Rattle.std.proofs.Common.{◌≡◌, refl, sym, ap, ◌∙◌, List, [], ◌∷◌, ◌++◌, ℕ, suc, ◌+◌, ◌≤◌, Bool, true, false, ◌&&◌, ◌||◌, arith, if◌then◌else◌}
 use Rattle.std.specs.Prelude.{cond}
 use Rattle.std.specs.List.{count_by, list_all}
 use Rattle.std.proofs.lemmas.List.Sums.{sum_by-cons}
@@ -90,3 +90,11 @@ status_wrong t rows e h = by_test (list_all is_right rows) refl
         let none = some_wrong rows r in
         absurd (h (ap (λ (u : Tally). u.off) e ∙ none.0) (ap (λ (u : Tally). u.other) e ∙ none.1))
     by_test false r = ap (λ (b : Bool). if b then 0 else 1) (sym r)
+
+-- the status of rows is 0 or 1
+pub small_status : (rows : List Row) → scen_status rows ≤ 1
+small_status rows = by_test (list_all is_right rows)
+  where
+    by_test : (b : Bool) → (if b then 0 else 1) ≤ 1
+    by_test true = omega arith
+    by_test false = omega arith

@@ -1,28 +1,22 @@
--- Cells written one after the other.
-use Rattle.std.proofs.Common.{◌≡◌, refl, ap, sym, ◌∙◌, List, [], ◌∷◌, ◌++◌, append_assoc, ℕ, zero, suc, ◌+◌, ◌<◌, take, length, arith, get_or}
-use Rattle.grid_moves.specs.declared.Cell.{Cell}
-use Rattle.jps_run.specs.Lines.{point_text, points_text}
+-- Texts written one after the other.
+use Rattle.std.proofs.Common.{◌≡◌, ap, sym, ◌∙◌, List, [], ◌∷◌, ◌++◌, append_assoc, ℕ, suc, ◌+◌, ◌<◌, take, length, arith, get_or}
+use Rattle.std.proofs.Math.Seq.{take-suc}
+use Rattle.std.proofs.lemmas.List.{append-nil}
+use Rattle.jps_run.specs.Lines.{texts_of}
 
-points_text-added : (cells : List Cell) (c : Cell)
-    → points_text (cells ++ c ∷ []) ≡ points_text cells ++ point_text c
-points_text-added [] c = append_nil (point_text c)
-  where
-    append_nil : (xs : List ℕ) → xs ++ [] ≡ xs
-    append_nil [] = refl
-    append_nil (x ∷ xs) = ap (λ ys. x ∷ ys) (append_nil xs)
-points_text-added (d ∷ cells) c = ap (λ (text : List ℕ). point_text d ++ text) (points_text-added cells c)
-    ∙ sym (append_assoc (point_text d) (points_text cells) (point_text c))
+module _ {X : Type 0} (text : X → List ℕ) where
+  texts-added : (xs : List X) (x : X) → texts_of text (xs ++ x ∷ []) ≡ texts_of text xs ++ text x
+  texts-added [] x = append-nil (text x)
+  texts-added (y ∷ xs) x = ap (λ (t : List ℕ). text y ++ t) (texts-added xs x)
+      ∙ sym (append_assoc (text y) (texts_of text xs) (text x))
 
-take-next : (cells : List Cell) (i : ℕ) (d : Cell) → i < length cells
-    → take (suc i) cells ≡ take i cells ++ get_or cells i d ∷ []
-take-next [] i d h = absurd (omega arith)
-take-next (c ∷ cells) zero d h = refl
-take-next (c ∷ cells) (suc i) d h = ap (λ cs. c ∷ cs) (take-next cells i d (omega arith))
-
--- one cell more
-pub points_text-next : (cells : List Cell) (i : ℕ) (d : Cell) → i < length cells
-    → points_text (take (i + 1) cells) ≡ points_text (take i cells) ++ point_text (get_or cells i d)
-points_text-next cells i d h =
-    let next : i + 1 ≡ suc i = omega arith in
-    ap (λ n. points_text (take n cells)) next ∙ ap points_text (take-next cells i d h)
-    ∙ points_text-added (take i cells) (get_or cells i d)
+  -- one element more was written behind what stood there
+  pub texts-next : (xs : List X) (i : ℕ) (d : X) (before so_far now : List ℕ) → i < length xs
+      → so_far ≡ before ++ texts_of text (take i xs) → now ≡ so_far ++ text (get_or xs i d)
+      → now ≡ before ++ texts_of text (take (i + 1) xs)
+  texts-next xs i d before so_far now h s w =
+      w ∙ ap (λ (t : List ℕ). t ++ text (get_or xs i d)) s
+      ∙ append_assoc before (texts_of text (take i xs)) (text (get_or xs i d))
+      ∙ ap (λ (t : List ℕ). before ++ t) (sym (texts-added (take i xs) (get_or xs i d))
+      ∙ ap (λ (l : List X). texts_of text l) (sym (take-suc xs i d h))
+      ∙ ap (λ n. texts_of text (take n xs)) (let e : suc i ≡ i + 1 = omega arith in e))

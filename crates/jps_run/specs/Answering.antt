@@ -1,28 +1,35 @@
--- How far the answers to a script have come. No public clause cites this module.
-use Rattle.std.specs.Prelude.{◌≡◌, ℕ, List, [], ◌∷◌, ◌++◌, take}
-use Rattle.std.specs.declared.option.Option.{Option}
-use Rattle.grid_moves.specs.Grid.{GridData}
+-- How far the answers to commands have come. No public clause cites this module.
+use Rattle.std.specs.Prelude.{◌≡◌, ℕ, List, [], ◌++◌}
+use Rattle.std.specs.List.{fold}
+use Rattle.grid_moves.specs.Layers.{Layers}
 use Rattle.edit_replay.specs.Edited.{Edit, edited}
+use Rattle.edit_replay.specs.Session.{SessionData}
 use Rattle.script_text.specs.declared.command.Command.{Command}
-use Rattle.jps_run.specs.Matched.{AreMatched}
-use Rattle.jps_run.specs.Answers.{IsAnswerLine, AnswersAt, edits_in}
-use Rattle.jps_run.specs.Sending.{AreSent}
+use Rattle.word_list.specs.declared.request.Show.{Show}
+use Rattle.jps_run.specs.Answers.{IsAnswerLine, AreAnswers, edits_with}
+use Rattle.jps_run.specs.Session.{session_after}
+use Rattle.jps_run.specs.declared.answers.Answers.{Answers}
 
 -- a line that answers the command was appended
-pub record PutsAnswer (g : GridData) (command : Command) (before now : List ℕ) : Type 0 where
+pub record PutsAnswer (d : SessionData) (show : Show) (command : Command) (before now : List ℕ) : Type 0 where
   pub line : List ℕ
-  pub answers : IsAnswerLine g command line
+  pub answers : IsAnswerLine d show command line
   pub appended : now ≡ before ++ line
 
--- the grid is that of one command more
-abbrev pub GoesOn : GridData → Command → GridData → Type 0
-GoesOn old command new = (m : GridData) (earlier : List Edit) → old ≡ edited m earlier
-    → new ≡ edited m (earlier ++ edits_in (command ∷ []))
+-- the session goes on with the edits of the command
+pub record GoesOn (old : SessionData) (command : Command) (new : SessionData) : Type 0 where
+  pub engine : new.engine ≡ old.engine
+  pub layers : (m : Layers) (edits : List Edit) → old.layers ≡ edited m edits
+      → new.layers ≡ edited m (edits_with edits command)
 
--- so many commands have their lines, and the grid is as their edits leave it
-pub record IsAnswering (g : GridData) (commands : List Command) (worked : ℕ) (before now : Option (List ℕ))
-    (faults faults_now : ℕ) (waiting : List ℕ) (session : GridData) : Type 0 where
-  pub lines : List (List ℕ)
-  pub answers : AreMatched (AnswersAt g commands) (take worked commands) lines
-  pub sent : AreSent before now faults faults_now waiting lines
-  pub grid : session ≡ edited g (edits_in (take worked commands))
+-- the commands have these lines, and their edits were made
+pub record HasAnswered (first now : Answers) (commands : List Command) (lines : List (List ℕ)) : Type 0 where
+  pub answers : AreAnswers first.session first.show commands lines
+  pub session : now.session ≡ session_after first.session (fold edits_with [] commands)
+  pub show : now.show ≡ first.show
+
+-- one line answers each command, with status 0
+pub record IsSolved (first : Answers) (commands : List Command) (lines : List (List ℕ)) (status : ℕ)
+    : Type 0 where
+  pub answers : AreAnswers first.session first.show commands lines
+  pub good : status ≡ 0

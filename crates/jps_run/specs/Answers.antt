@@ -1,40 +1,46 @@
--- The lines that answer a script.
-use Rattle.std.specs.Prelude.{◌≡◌, ℕ, false, true, List, [], ◌∷◌, take, Option, Some, None}
-use Rattle.std.specs.List.{filter_map}
-use Rattle.grid_moves.specs.Grid.{GridData}
-use Rattle.edit_replay.specs.Edited.{Edit, edit_at, edited, edit_reply}
+-- The lines that answer commands.
+use Rattle.std.specs.Prelude.{◌≡◌, ℕ, List, [], ◌∷◌, ◌++◌}
+use Rattle.grid_moves.specs.declared.Cell.{Cell}
+use Rattle.grid_moves.specs.declared.Ground.TheVariants.{Blocked, Land, Water}
+use Rattle.edit_replay.specs.Edited.{Edit, edit_at}
+use Rattle.edit_replay.specs.Session.{SessionData}
+use Rattle.edit_replay.specs.declared.reply.Reply.{Reply}
 use Rattle.script_text.specs.declared.command.Command.{Command}
-use Rattle.script_text.specs.declared.command.Command.TheVariants.{Block, Free, Query}
-use Rattle.word_list.specs.declared.request.Show.TheVariants.{Points}
-use Rattle.jps_run.specs.Matched.{AreMatched}
-use Rattle.jps_run.specs.Lines.{IsRightLine, edit_line}
+use Rattle.script_text.specs.declared.command.Command.TheVariants.{Block, Free, Flood, Query}
+use Rattle.word_list.specs.declared.request.Show.{Show}
+use Rattle.jps_run.specs.Lines.{reply_line, edit_line}
+use Rattle.jps_run.specs.Session.{IsReply, session_after, reply_to_edit, width_of}
+use Rattle.jps_run.specs.Turns.{AreInTurn}
 
--- the edit that a command is, if it is one
-abbrev pub edit_in : Command → Option Edit
-edit_in (Block x y) = Some (edit_at x y false)
-edit_in (Free x y) = Some (edit_at x y true)
-edit_in (Query sx sy gx gy) = None
+-- the edits that a command makes
+abbrev pub edits_of : Command → List Edit
+edits_of (Block x y) = edit_at x y Blocked ∷ []
+edits_of (Free x y) = edit_at x y Land ∷ []
+edits_of (Flood x y) = edit_at x y Water ∷ []
+edits_of (Query sx sy gx gy) = []
 
--- the edits among commands, in order
-abbrev pub edits_in : List Command → List Edit
-edits_in commands = filter_map edit_in commands
+-- the line is that of a right reply to the query, which is that of the engine's run
+pub record IsReplyLine (d : SessionData) (show : Show) (s t : Cell) (line : List ℕ) : Type 0 where
+  pub reply : Reply
+  pub is_reply : IsReply d s t reply
+  pub shown : line ≡ reply_line (width_of d) show reply
 
--- the line answers the command on this grid: a query by a right answer, an edit by its reply
-abbrev pub IsAnswerLine : GridData → Command → List ℕ → Type 0
-IsAnswerLine g (Block x y) line = line ≡ edit_line (edit_reply g (edit_at x y false))
-IsAnswerLine g (Free x y) line = line ≡ edit_line (edit_reply g (edit_at x y true))
-IsAnswerLine g (Query sx sy gx gy) line =
-    IsRightLine g (record { x = sx; y = sy }) (record { x = gx; y = gy }) Points line
+-- the line answers the command
+abbrev pub IsAnswerLine : SessionData → Show → Command → List ℕ → Type 0
+IsAnswerLine d show (Block x y) line = line ≡ edit_line (reply_to_edit d (edit_at x y Blocked))
+IsAnswerLine d show (Free x y) line = line ≡ edit_line (reply_to_edit d (edit_at x y Land))
+IsAnswerLine d show (Flood x y) line = line ≡ edit_line (reply_to_edit d (edit_at x y Water))
+IsAnswerLine d show (Query sx sy gx gy) line =
+    IsReplyLine d show (record { x = sx; y = sy }) (record { x = gx; y = gy }) line
 
--- the line answers the command at place k of these, on the map's grid as the edits before it leave it
-abbrev pub AnswersAt : GridData → List Command → ℕ → Command → List ℕ → Type 0
-AnswersAt g commands k command line = IsAnswerLine (edited g (edits_in (take k commands))) command line
+-- the line answers the command on the map's session as these edits leave it
+abbrev pub AnswersAfter : SessionData → Show → List Edit → Command → List ℕ → Type 0
+AnswersAfter d show edits command line = IsAnswerLine (session_after d edits) show command line
 
--- one line answers each command
-abbrev pub AreAnswers : GridData → List Command → List (List ℕ) → Type 0
-AreAnswers g commands lines = AreMatched (AnswersAt g commands) commands lines
+-- these edits, and then those of the command
+abbrev pub edits_with : List Edit → Command → List Edit
+edits_with edits command = edits ++ edits_of command
 
--- the lines answer the first commands, as many as were worked
-pub record AreFirstAnswers (g : GridData) (commands : List Command) (lines : List (List ℕ)) : Type 0 where
-  pub worked : ℕ
-  pub answers : AreMatched (AnswersAt g commands) (take worked commands) lines
+-- one line answers each command, on the map's session as the edits before the command leave it
+abbrev pub AreAnswers : SessionData → Show → List Command → List (List ℕ) → Type 0
+AreAnswers d show commands lines = AreInTurn (AnswersAfter d show) edits_with [] commands lines

@@ -1,12 +1,17 @@
 -- How a call of `run` ends.
-use Rattle.std.specs.Prelude.{◌≡◌, ℕ, ◌≤◌, List, [], ◌⊎◌, codes, nat_eq, if◌then◌else◌}
+use Rattle.std.specs.Prelude.{◌≡◌, ℕ, ◌≤◌, List, [], ◌⊎◌, codes, nat_eq, if◌then◌else◌, Result}
 use Rattle.std.specs.List.{concat}
-use Rattle.std.specs.declared.option.Option.{Option}
-use Rattle.std.specs.Io.KnownBytes.{Appends}
-use Rattle.io_edge.specs.Told.{Held}
 use Rattle.io_edge.specs.Causes.{Rose}
-use Rattle.io_edge.specs.Whole.{AppendsSome}
-use Rattle.jps_run.specs.Outcome.{Outcome, IsOutcome, AreFirst, NameFile}
+use Rattle.word_list.specs.Calls.{is_call}
+use Rattle.word_list.specs.Request.{Call}
+use Rattle.word_list.specs.Rule.{StopsAt}
+use Rattle.jps_run.specs.FaultLines.{word_line}
+use Rattle.jps_run.specs.Files.{HasRefused, FileRose}
+use Rattle.jps_run.specs.Outcome.{Spell, Outcome, IsOutcome, IsOutput, files_of}
+use Rattle.jps_run.specs.Seen.{Seen, Stream}
+use Rattle.jps_run.specs.Sending.{Wrote, WroteSome, IsAll, IsPart, AreLines}
+use Rattle.jps_run.specs.Stops.{Stops, Ends}
+use Rattle.jps_run.specs.declared.stop.Stop.{Stop}
 
 -- what `err` gets in place of an outcome's line: where a read failed, where a write failed, for want of memory
 abbrev pub read_line : List ℕ
@@ -24,33 +29,61 @@ ending_line status =
     if nat_eq status 4 then read_line else if nat_eq status 5 then write_line else memory_line
 
 -- the stream got the line, or where its own count rose a first part of it
-abbrev pub Gets : Option (List ℕ) → Option (List ℕ) → ℕ → ℕ → List ℕ → Type 0
-Gets before now faults faults_now line =
-    Appends before now line ⊎ (Rose faults faults_now × AppendsSome before now line)
+abbrev pub Gets : Stream → Stream → List ℕ → Type 0
+Gets before now line = Wrote before now line ⊎ WroteSome before now line
 
--- the outcome came about: its status is answered, `out` got its text, and `err` its line
-pub record Comes (words : List (List ℕ)) (holds : List ℕ → Held) (status : ℕ)
-    (out out_now err err_now : Option (List ℕ)) (err_faults err_faults_now : ℕ) : Type 0 where
+-- the outcome came about: its status is answered, `out` got its lines, and `err` its line
+pub record Comes (words : List (List ℕ)) (before now : Seen) (err err_now : Stream) (status : ℕ)
+    : Type 0 where
   pub outcome : Outcome
-  pub is : IsOutcome words holds outcome
+  pub is : IsOutcome words before.holds outcome
   pub same_status : outcome.status ≡ status
-  pub wrote : Appends out out_now outcome.out
-  pub told : Gets err err_now err_faults err_faults_now outcome.line
+  pub wrote : Wrote before.out now.out (concat outcome.out)
+  pub told : Gets err err_now outcome.line
 
--- `out` got a first part of an outcome's whole text, or of the first lines of a right output
-pub data HasPart (words : List (List ℕ)) (holds : List ℕ → Held) (before now : Option (List ℕ)) : Type 0 where
-  of_text : (outcome : Outcome) → IsOutcome words holds outcome → outcome.status ≤ 1
-      → AppendsSome before now outcome.out → HasPart words holds before now
-  of_lines : (lines : List (List ℕ)) → AreFirst words holds lines → AppendsSome before now (concat lines)
-      → HasPart words holds before now
+-- nothing was written
+abbrev pub WroteNothing : Seen → Seen → Type 0
+WroteNothing before now = Wrote before.out now.out []
 
--- `out` got nothing, or the first lines of a right output, each whole
-abbrev pub HasLines : List (List ℕ) → (List ℕ → Held) → Option (List ℕ) → Option (List ℕ) → Type 0
-HasLines words holds before now = Appends before now [] ⊎
-    ((lines : List (List ℕ)) × AreFirst words holds lines × Appends before now (concat lines))
+-- a right output of a call
+abbrev pub Whole : Call → Seen → List (List ℕ) → ℕ → Type 0
+Whole call before lines status = IsOutput call before.holds lines status
 
--- the count of a file that the words name rose
-pub record FileRose (words : List (List ℕ)) (before now : List ℕ → ℕ) : Type 0 where
-  pub name : List ℕ
-  pub named : NameFile words name
-  pub rose : Rose (before name) (now name)
+-- the count of a file rose that the words name and that there was reason to read
+pub record NamedRose (words : List (List ℕ)) (before now : Seen) : Type 0 where
+  pub call : Call
+  pub spelled : Spell words call
+  pub rose : FileRose (files_of call.request) before now
+
+-- a first part of a right output was written
+pub record HasPart (words : List (List ℕ)) (before now : Seen) : Type 0 where
+  pub call : Call
+  pub spelled : Spell words call
+  pub part : IsPart (Whole call before) before.out now.out
+
+-- nothing was written, or the first lines of a right output, each whole
+pub data HasLines (words : List (List ℕ)) (before now : Seen) : Type 0 where
+  none : WroteNothing before now → HasLines words before now
+  some : (call : Call) → Spell words call → AreLines (Whole call before) before.out now.out
+      → HasLines words before now
+
+-- what is known where the work on a call stops
+abbrev pub worked_stops : Call → Seen → Seen → Stops
+worked_stops call before now = record {
+  Refused = λ line. HasRefused before.holds (files_of call.request) line × WroteNothing before now;
+  Read = FileRose (files_of call.request) before now × WroteNothing before now;
+  Write = Rose before.out.faults now.out.faults × IsPart (Whole call before) before.out now.out;
+  Memory = WroteNothing before now ⊎ AreLines (Whole call before) before.out now.out;
+}
+
+-- the work on a call came to a right output, or it stops
+abbrev pub HasWorked : Call → Seen → Seen → Result ℕ Stop → Type 0
+HasWorked call before now result = Ends
+    (λ status. (status ≤ 1) × IsAll (Whole call before) before.out now.out status)
+    (worked_stops call before now) result
+
+-- the stream got the line of the word with which no call begins, behind these words or among them
+pub record Names (words : List (List ℕ)) (before now : Stream) : Type 0 where
+  pub number : ℕ
+  pub stops : StopsAt is_call words number
+  pub told : Gets before now (word_line number)

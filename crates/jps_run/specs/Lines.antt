@@ -1,56 +1,69 @@
 -- The lines that answer a query or an edit.
-use Rattle.std.specs.Prelude.{◌≡◌, ℕ, List, [], ◌∷◌, ◌++◌, codes, decimal, Some, true, ⊤}
+use Rattle.std.specs.Prelude.{ℕ, ◌/◌, ◌%◌, nat_eq, if◌then◌else◌, List, [], ◌∷◌, ◌++◌, codes, decimal, unwrap_or, true, ◌≡◌, ⊤}
 use Rattle.root2_cost.specs.declared.Cost.{Cost}
 use Rattle.grid_moves.specs.declared.Cell.{Cell}
-use Rattle.grid_moves.specs.Grid.{GridData}
 use Rattle.grid_moves.specs.Points.{unfolding_of, is_lined}
-use Rattle.grid_moves.specs.Reply.{Answer, outside, blocked, none, walk, IsRight}
+use Rattle.edit_replay.specs.declared.reply.Reply.{Reply}
+use Rattle.edit_replay.specs.declared.reply.Reply.TheVariants as reply
 use Rattle.edit_replay.specs.declared.reply.EditReply.{EditReply}
 use Rattle.edit_replay.specs.declared.reply.EditReply.TheVariants as edit
 use Rattle.word_list.specs.declared.request.Show.{Show}
-use Rattle.word_list.specs.declared.request.Show.TheVariants.{Points, Cells}
+use Rattle.word_list.specs.declared.request.Show.TheVariants.{Points, Cells, Trace}
 
 -- ` x,y`
 abbrev pub point_text : Cell → List ℕ
 point_text c = codes " " ++ decimal c.x ++ codes "," ++ decimal c.y
 
--- each of the cells
-abbrev pub points_text : List Cell → List ℕ
-points_text [] = []
-points_text (c ∷ cells) = point_text c ++ points_text cells
+-- the texts of all elements, one after the other
+abbrev pub texts_of : {X : Type 0} → (X → List ℕ) → List X → List ℕ
+texts_of text [] = []
+texts_of text (x ∷ xs) = text x ++ texts_of text xs
+
+-- the cells that are shown of a walk: its points, or each cell of their unfolding; the points of a right reply unfold
+abbrev pub shown_cells : Show → List Cell → List Cell
+shown_cells Points points = points
+shown_cells Trace points = points
+shown_cells Cells points = unwrap_or (unfolding_of points) []
 
 -- `walk a b` and these cells
-abbrev pub walk_line : Cost → List Cell → List ℕ
-walk_line cost cells =
-    codes "walk " ++ decimal cost.a ++ codes " " ++ decimal cost.b ++ points_text cells ++ codes "\n"
+abbrev pub walk_text : Cost → List Cell → List ℕ
+walk_text cost cells = codes "walk " ++ decimal cost.a ++ codes " " ++ decimal cost.b ++ texts_of point_text cells
 
--- the line shows the answer: of a walk its points, or each cell of their unfolding
-abbrev pub IsLineOf : Show → Answer → List ℕ → Type 0
-IsLineOf show outside line = line ≡ codes "outside\n"
-IsLineOf show blocked line = line ≡ codes "blocked\n"
-IsLineOf show none line = line ≡ codes "none\n"
-IsLineOf Points (walk points cost) line = line ≡ walk_line cost points
-IsLineOf Cells (walk points cost) line =
-    (cells : List Cell) × (unfolding_of points ≡ Some cells) × (line ≡ walk_line cost cells)
+-- the name of the direction in which a state was reached, by its number from 0; the start has none, nor has a state of
+-- the plain engine
+abbrev pub arrival_text : ℕ → List ℕ
+arrival_text arrival =
+    if nat_eq arrival 0 then codes "N" else if nat_eq arrival 1 then codes "NE"
+    else if nat_eq arrival 2 then codes "E" else if nat_eq arrival 3 then codes "SE"
+    else if nat_eq arrival 4 then codes "S" else if nat_eq arrival 5 then codes "SW"
+    else if nat_eq arrival 6 then codes "W" else if nat_eq arrival 7 then codes "NW" else codes "-"
 
--- a line that shows the answer was appended
-pub record AppendsLine (show : Show) (answer : Answer) (before now : List ℕ) : Type 0 where
-  pub line : List ℕ
-  pub shown : IsLineOf show answer line
-  pub appended : now ≡ before ++ line
+-- ` x,y:D` of a state by its number, which is nine times its cell's number and its arrival
+abbrev pub state_text : ℕ → ℕ → List ℕ
+state_text width state =
+    point_text (record { x = (state / 9) % width; y = (state / 9) / width }) ++ codes ":"
+    ++ arrival_text (state % 9)
+
+-- ` taken` and the states that the search took, where they are shown
+abbrev pub taken_text : ℕ → Show → List ℕ → List ℕ
+taken_text width Points taken = []
+taken_text width Cells taken = []
+taken_text width Trace taken = codes " taken" ++ texts_of (state_text width) taken
+
+-- the line of the reply to a query, on a map of this width
+abbrev pub reply_line : ℕ → Show → Reply → List ℕ
+reply_line width show reply.Outside = codes "outside\n"
+reply_line width show reply.Blocked = codes "blocked\n"
+reply_line width show (reply.None taken) = codes "none" ++ taken_text width show taken ++ codes "\n"
+reply_line width show (reply.Walk points cost taken) =
+    walk_text cost (shown_cells show points) ++ taken_text width show taken ++ codes "\n"
 
 -- the points of a walk unfold
-abbrev pub Unfolds : Answer → Type 0
-Unfolds outside = ⊤
-Unfolds blocked = ⊤
-Unfolds none = ⊤
-Unfolds (walk points cost) = is_lined points ≡ true
-
--- the line shows a right answer to a query from s to t
-pub record IsRightLine (g : GridData) (s t : Cell) (show : Show) (line : List ℕ) : Type 0 where
-  pub answer : Answer
-  pub right : IsRight g s t answer
-  pub shown : IsLineOf show answer line
+abbrev pub Unfolds : Reply → Type 0
+Unfolds reply.Outside = ⊤
+Unfolds reply.Blocked = ⊤
+Unfolds (reply.None taken) = ⊤
+Unfolds (reply.Walk points cost taken) = is_lined points ≡ true
 
 -- the line of the reply to an edit
 abbrev pub edit_line : EditReply → List ℕ

@@ -1,118 +1,81 @@
 -- What a request comes to, where nothing outside fails and memory is there.
-use Rattle.std.specs.Prelude.{◌≡◌, ℕ, ◌⊎◌, List, [], Option, Some, None}
-use Rattle.std.specs.List.{concat}
-use Rattle.grid_moves.specs.Grid.{GridData, grid_of}
+use Rattle.std.specs.Prelude.{◌≡◌, ℕ, List, [], ◌∷◌, Some, Ok}
 use Rattle.io_edge.specs.Told.{Held}
 use Rattle.map_text.specs.Map.{Map}
+use Rattle.map_text.specs.Faults.{map_of}
 use Rattle.script_text.specs.declared.command.Command.{Command}
+use Rattle.script_text.specs.declared.command.Command.TheVariants as command
+use Rattle.script_text.specs.Faults.{script_of}
 use Rattle.scen_text.specs.declared.entry.Entry.{Entry}
-use Rattle.word_list.specs.Form.{asked_by, any_request}
-use Rattle.word_list.specs.Request.{Asked, Help, Version, Query, Solve, Scen}
+use Rattle.scen_text.specs.Faults.{scen_of}
+use Rattle.word_list.specs.Calls.{call_of, is_call}
+use Rattle.word_list.specs.Request.{Asked, Call, Help, Version, Query, Solve, Scen}
 use Rattle.word_list.specs.Rule.{IsBadWord}
-use Rattle.word_list.specs.declared.request.Pick.{Pick}
-use Rattle.word_list.specs.declared.request.Show.{Show}
-use Rattle.jps_run.specs.declared.row.Row.{Row}
-use Rattle.jps_run.specs.Lines.{IsRightLine}
+use Rattle.word_list.specs.declared.request.Settings.{Settings}
+use Rattle.jps_run.specs.Answers.{AreAnswers}
 use Rattle.jps_run.specs.FaultLines.{word_line}
-use Rattle.jps_run.specs.Held.{HoldsMap, IsMapRefused, HoldsScript, IsScriptRefused, HoldsScen, IsScenRefused}
-use Rattle.jps_run.specs.Answers.{AreAnswers, AreFirstAnswers}
-use Rattle.jps_run.specs.Rows.{AreRows, AreFirstRows, scen_lines, scen_status}
+use Rattle.jps_run.specs.Files.{File, AreAccepted, HasRefused}
+use Rattle.jps_run.specs.Rows.{AreRows, scen_lines, scen_status}
+use Rattle.jps_run.specs.Session.{session_on}
 use Rattle.jps_run.specs.Texts.{help_text, version_text}
+use Rattle.jps_run.specs.declared.kind.Kind.{Kind}
+use Rattle.jps_run.specs.declared.kind.Kind.TheVariants as kind
+use Rattle.jps_run.specs.declared.row.Row.{Row}
 
--- the status, what `out` gets, and the line that `err` gets
+-- the words spell the call
+abbrev pub Spell : List (List ℕ) → Call → Type 0
+Spell words call = call_of words ≡ Some call
+
+-- a call by what is asked for and how
+abbrev pub call_with : Asked → Settings → Call
+call_with asked set = record { request = asked; settings = set }
+
+-- the files of a request, in the order in which they are read
+abbrev pub files_of : Asked → List File
+files_of Help = []
+files_of Version = []
+files_of (Query map sx sy gx gy) = record { kind = kind.Map; name = map } ∷ []
+files_of (Solve map script) =
+    record { kind = kind.Map; name = map } ∷ record { kind = kind.Script; name = script } ∷ []
+files_of (Scen map scen) =
+    record { kind = kind.Map; name = map } ∷ record { kind = kind.Scen; name = scen } ∷ []
+
+-- the lines and the status of a call, on the texts of its files; a query is a script of one command
+pub data IsAnswered : Call → List (List ℕ) → List (List ℕ) → ℕ → Type 0 where
+  help : (set : Settings) → IsAnswered (call_with Help set) [] (help_text ∷ []) 0
+  version : (set : Settings) → IsAnswered (call_with Version set) [] (version_text ∷ []) 0
+  replied : (map text : List ℕ) (sx sy gx gy : ℕ) (set : Settings) (m : Map) (lines : List (List ℕ))
+      → map_of text ≡ Ok m
+      → AreAnswers (session_on set m) set.show (command.Query sx sy gx gy ∷ []) lines
+      → IsAnswered (call_with (Query map sx sy gx gy) set) (text ∷ []) lines 0
+  solved : (map script text second : List ℕ) (set : Settings) (m : Map) (commands : List Command)
+      (lines : List (List ℕ))
+      → map_of text ≡ Ok m → script_of second ≡ Ok commands
+      → AreAnswers (session_on set m) set.show commands lines
+      → IsAnswered (call_with (Solve map script) set) (text ∷ second ∷ []) lines 0
+  judged : (map scen text second : List ℕ) (set : Settings) (m : Map) (entries : List Entry) (rows : List Row)
+      → map_of text ≡ Ok m → scen_of second ≡ Ok entries → AreRows (session_on set m) entries rows
+      → IsAnswered (call_with (Scen map scen) set) (text ∷ second ∷ []) (scen_lines rows) (scen_status rows)
+
+-- the lines and the status are a right output of a call, with the files that are held
+pub record IsOutput (call : Call) (holds : List ℕ → Held) (lines : List (List ℕ)) (status : ℕ) : Type 0 where
+  pub texts : List (List ℕ)
+  pub accepted : AreAccepted holds [] (files_of call.request) texts
+  pub answered : IsAnswered call texts lines status
+
+-- the status, the lines that `out` gets, and the line that `err` gets
 pub record Outcome : Type 0 where
   pub status : ℕ
-  pub out : List ℕ
+  pub out : List (List ℕ)
   pub line : List ℕ
-
--- a request that is answered
-abbrev pub answered : ℕ → List ℕ → Outcome
-answered status out = record { status = status; out = out; line = [] }
-
--- words or a text that are refused
-abbrev pub refused : ℕ → List ℕ → Outcome
-refused status line = record { status = status; out = []; line = line }
-
--- the words spell what is asked
-abbrev pub Ask : List (List ℕ) → Asked → Type 0
-Ask words asked = asked_by any_request words ≡ Some asked
-
--- the map's file, where a request names one
-abbrev pub map_named : Asked → Option (List ℕ)
-map_named Help = None
-map_named Version = None
-map_named (Query map sx sy gx gy pick show) = Some map
-map_named (Solve map script pick) = Some map
-map_named (Scen map scen pick) = Some map
-
--- the file beside the map's, where a request names one
-abbrev pub second_named : Asked → Option (List ℕ)
-second_named Help = None
-second_named Version = None
-second_named (Query map sx sy gx gy pick show) = None
-second_named (Solve map script pick) = Some script
-second_named (Scen map scen pick) = Some scen
-
--- the words name the file
-pub record NameFile (words : List (List ℕ)) (name : List ℕ) : Type 0 where
-  pub asked : Asked
-  pub ask : Ask words asked
-  pub names : (map_named asked ≡ Some name) ⊎ (second_named asked ≡ Some name)
-
--- the grid of a map
-abbrev pub map_grid : Map → GridData
-map_grid m = grid_of m.width m.height m.cells
-
--- what a request comes to on its map, with the files that are held
-pub data IsOutcomeOn (holds : List ℕ → Held) (m : Map) : Asked → Outcome → Type 0 where
-  replied : (map : List ℕ) (sx sy gx gy : ℕ) (pick : Pick) (show : Show) (line : List ℕ)
-      → IsRightLine (map_grid m) (record { x = sx; y = sy }) (record { x = gx; y = gy }) show line
-      → IsOutcomeOn holds m (Query map sx sy gx gy pick show) (answered 0 line)
-  no_script : (map script : List ℕ) (pick : Pick) (line : List ℕ) → IsScriptRefused (holds script) line
-      → IsOutcomeOn holds m (Solve map script pick) (refused 3 line)
-  solved : (map script : List ℕ) (pick : Pick) (commands : List Command) (lines : List (List ℕ))
-      → HoldsScript (holds script) commands
-      → AreAnswers (map_grid m) commands lines
-      → IsOutcomeOn holds m (Solve map script pick) (answered 0 (concat lines))
-  no_scen : (map scen : List ℕ) (pick : Pick) (line : List ℕ) → IsScenRefused (holds scen) line
-      → IsOutcomeOn holds m (Scen map scen pick) (refused 3 line)
-  judged : (map scen : List ℕ) (pick : Pick) (entries : List Entry) (rows : List Row)
-      → HoldsScen (holds scen) entries
-      → AreRows (map_grid m) entries rows
-      → IsOutcomeOn holds m (Scen map scen pick) (answered (scen_status rows) (concat (scen_lines rows)))
-
--- the request's map is this one
-pub record HasMap (words : List (List ℕ)) (holds : List ℕ → Held) (asked : Asked) (m : Map) : Type 0 where
-  pub ask : Ask words asked
-  pub name : List ℕ
-  pub named : map_named asked ≡ Some name
-  pub held : HoldsMap (holds name) m
 
 -- what words and held files come to: the first of these that applies
 pub data IsOutcome (words : List (List ℕ)) (holds : List ℕ → Held) : Outcome → Type 0 where
-  bad_word : (number : ℕ) → IsBadWord any_request words number
-      → IsOutcome words holds (refused 2 (word_line number))
-  help : Ask words Help → IsOutcome words holds (answered 0 help_text)
-  version : Ask words Version → IsOutcome words holds (answered 0 version_text)
-  no_map : (asked : Asked) (name line : List ℕ) → Ask words asked → map_named asked ≡ Some name
-      → IsMapRefused (holds name) line
-      → IsOutcome words holds (refused 3 line)
-  on_map : (asked : Asked) (m : Map) (outcome : Outcome) → HasMap words holds asked m
-      → IsOutcomeOn holds m asked outcome
-      → IsOutcome words holds outcome
-
--- the first lines of a request's right output on its map
-pub data AreFirstOn (holds : List ℕ → Held) (m : Map) : Asked → List (List ℕ) → Type 0 where
-  answers : (map script : List ℕ) (pick : Pick) (commands : List Command) (lines : List (List ℕ))
-      → HoldsScript (holds script) commands
-      → AreFirstAnswers (map_grid m) commands lines → AreFirstOn holds m (Solve map script pick) lines
-  rows : (map scen : List ℕ) (pick : Pick) (entries : List Entry) (lines : List (List ℕ))
-      → HoldsScen (holds scen) entries
-      → AreFirstRows (map_grid m) entries lines → AreFirstOn holds m (Scen map scen pick) lines
-
--- the first lines of the right output of words and held files
-pub record AreFirst (words : List (List ℕ)) (holds : List ℕ → Held) (lines : List (List ℕ)) : Type 0 where
-  pub asked : Asked
-  pub map : Map
-  pub has_map : HasMap words holds asked map
-  pub first : AreFirstOn holds map asked lines
+  bad_word : (number : ℕ) → IsBadWord is_call words number
+      → IsOutcome words holds (record { status = 2; out = []; line = word_line number })
+  bad_text : (call : Call) (line : List ℕ) → Spell words call
+      → HasRefused holds (files_of call.request) line
+      → IsOutcome words holds (record { status = 3; out = []; line = line })
+  done : (call : Call) (lines : List (List ℕ)) (status : ℕ) → Spell words call
+      → IsOutput call holds lines status
+      → IsOutcome words holds (record { status = status; out = lines; line = [] })

@@ -1,39 +1,41 @@
 -- The rows that judge a scenario.
-use Rattle.std.specs.Prelude.{◌≡◌, ℕ, take, ◌+◌, Bool, true, false, nat_eq, ◌&&◌, ◌||◌, if◌then◌else◌, List, [], ◌∷◌, ◌++◌, length, codes, decimal, count_by}
+use Rattle.std.specs.Prelude.{◌≡◌, ℕ, ◌+◌, Bool, true, false, nat_eq, ◌&&◌, ◌||◌, if◌then◌else◌, List, [], ◌∷◌, ◌++◌, length, codes, decimal, count_by}
 use Rattle.std.specs.List.{list_all}
 use Rattle.root2_cost.specs.declared.Cost.{Cost}
 use Rattle.root2_cost.specs.declared.lengths.Decimal.{Decimal}
 use Rattle.root2_cost.specs.declared.lengths.Verdict.{Verdict}
 use Rattle.root2_cost.specs.declared.lengths.Verdict.TheVariants.{Agree, Near, Off}
 use Rattle.root2_cost.specs.Verdict.{verdict_of}
-use Rattle.grid_moves.specs.Grid.{GridData}
-use Rattle.grid_moves.specs.Reply.{Answer, outside, blocked, none, walk, IsRight}
+use Rattle.edit_replay.specs.declared.reply.Reply.{Reply}
+use Rattle.edit_replay.specs.declared.reply.Reply.TheVariants as reply
 use Rattle.scen_text.specs.declared.entry.Entry.{Entry}
-use Rattle.jps_run.specs.Matched.{AreMatched}
+use Rattle.edit_replay.specs.Session.{SessionData}
+use Rattle.jps_run.specs.Session.{IsReply, width_of, height_of}
+use Rattle.jps_run.specs.Turns.{AreInTurn}
 use Rattle.jps_run.specs.declared.row.Row.{Row}
 use Rattle.jps_run.specs.declared.row.Row.TheVariants as row
 
 -- the entry is meant for a map of these sides
-abbrev pub has_sides : GridData → Entry → Bool
-has_sides g entry = nat_eq entry.w g.width && nat_eq entry.h g.height
+abbrev pub has_sides : SessionData → Entry → Bool
+has_sides d entry = nat_eq entry.w (width_of d) && nat_eq entry.h (height_of d)
 
--- what a right answer makes of an entry with this length
-abbrev pub row_of : Decimal → Answer → Row
-row_of listed outside = row.Outside
-row_of listed blocked = row.Blocked
-row_of listed none = row.None
-row_of listed (walk points cost) = row.Judged (verdict_of listed cost) cost
+-- what a reply makes of an entry with this length
+abbrev pub row_of : Decimal → Reply → Row
+row_of listed reply.Outside = row.Outside
+row_of listed reply.Blocked = row.Blocked
+row_of listed (reply.None taken) = row.None
+row_of listed (reply.Walk points cost taken) = row.Judged (verdict_of listed cost) cost
 
--- the row of an entry: of another size, or what a right answer to its query makes of it
-pub data IsRow (g : GridData) (entry : Entry) (r : Row) : Type 0 where
-  scale : has_sides g entry ≡ false → r ≡ row.Scale → IsRow g entry r
-  answered : (answer : Answer) → has_sides g entry ≡ true
-      → IsRight g (record { x = entry.sx; y = entry.sy }) (record { x = entry.gx; y = entry.gy }) answer
-      → r ≡ row_of entry.length answer → IsRow g entry r
+-- the row of an entry: of another size, or what a right reply to its query makes of it
+pub data IsRow (d : SessionData) (entry : Entry) (r : Row) : Type 0 where
+  scale : has_sides d entry ≡ false → r ≡ row.Scale → IsRow d entry r
+  replied : (reply : Reply) → has_sides d entry ≡ true
+      → IsReply d (record { x = entry.sx; y = entry.sy }) (record { x = entry.gx; y = entry.gy }) reply
+      → r ≡ row_of entry.length reply → IsRow d entry r
 
 -- one row for each entry
-abbrev pub AreRows : GridData → List Entry → List Row → Type 0
-AreRows g entries rows = AreMatched (λ _ entry r. IsRow g entry r) entries rows
+abbrev pub AreRows : SessionData → List Entry → List Row → Type 0
+AreRows d entries rows = AreInTurn {S = Unit {0}} (λ _ entry r. IsRow d entry r) (λ s _. s) tt entries rows
 
 -- a verdict's word
 abbrev pub verdict_text : Verdict → List ℕ
@@ -94,9 +96,3 @@ scen_status rows = if list_all (λ r. is_agree r || is_near r) rows then 0 else 
 -- all lines: a row for each entry, and the sum
 abbrev pub scen_lines : List Row → List (List ℕ)
 scen_lines rows = row_lines 1 rows ++ sum_line rows ∷ []
-
--- the first lines of it: the rows of the first entries, or all rows and the sum
-pub data AreFirstRows (g : GridData) (entries : List Entry) (lines : List (List ℕ)) : Type 0 where
-  some : (worked : ℕ) (rows : List Row) → AreRows g (take worked entries) rows → lines ≡ row_lines 1 rows
-      → AreFirstRows g entries lines
-  all : (rows : List Row) → AreRows g entries rows → lines ≡ scen_lines rows → AreFirstRows g entries lines

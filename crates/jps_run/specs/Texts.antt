@@ -2,19 +2,32 @@
 use Rattle.std.specs.Prelude.{ℕ, List, codes, ◌++◌}
 
 -- what `--help` prints
-abbrev pub help_text : List ℕ
+unfoldable pub help_text : List ℕ
 help_text =
     codes "usage: jps COMMAND ...\n"
-    ++ codes "  jps query MAP SX SY GX GY [engine=plain] [show=points|show=cells]\n"
-    ++ codes "      a least walk from (SX,SY) to (GX,GY) on the map\n"
-    ++ codes "  jps solve MAP SCRIPT [engine=plain]\n"
+    ++ codes "  jps query MAP SX SY GX GY [engine=plain] [show=points|show=cells|show=trace] [rule=none|rule=one]\n"
+    ++ codes "      a least walk from the cell (SX,SY) to the cell (GX,GY) on the map\n"
+    ++ codes "  jps solve MAP SCRIPT [engine=plain] [show=points|show=cells|show=trace] [rule=none|rule=one]\n"
     ++ codes "      one line for each command of the script: edits of the map, and queries\n"
-    ++ codes "  jps scen MAP SCEN [engine=plain]\n"
+    ++ codes "  jps scen MAP SCEN [engine=plain] [rule=none|rule=one]\n"
     ++ codes "      one row for each entry of the scenario, its length judged by the least cost, and their sum\n"
     ++ codes "  jps --help\n"
     ++ codes "      this text\n"
     ++ codes "  jps --version\n"
     ++ codes "      the version\n"
+    ++ codes "\n"
+    ++ codes "A cell is its column and its row, which count from 0 in the upper left. `walk A B` is a walk of A\n"
+    ++ codes "straight and B diagonal moves; its points follow: its first cell, its last cell, and each cell at\n"
+    ++ codes "which it turns. show=cells shows each of its cells, show=trace each cell that the search took as well.\n"
+    ++ codes "With rule=one a diagonal move may pass one blocked cell beside it, with rule=none none.\n"
+    ++ codes "\n"
+    ++ codes "statuses: 0 done; 1 done, and a row of `scen` is neither agree nor near; 2 the words are refused;\n"
+    ++ codes "3 a file is refused; 4 a read failed; 5 a write of the output failed; 6 memory was refused\n"
+    ++ codes "faults, one line on standard error:\n"
+    ++ codes "  jps: word N            no call has word N there; words are counted from 1\n"
+    ++ codes "  jps: FILE CODE line N  line N of the map, script or scen breaks its form\n"
+    ++ codes "  jps: FILE long         the file is longer than 67108864 bytes\n"
+    ++ codes "  jps: read, jps: write, jps: memory\n"
 
 -- what `--version` prints
 abbrev pub version_text : List ℕ

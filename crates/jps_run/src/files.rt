@@ -1,99 +1,178 @@
-//! The texts that files hold.
+//! The texts that files hold, and the sessions on maps.
 
-ghost use Rattle.std.specs.Prelude.{◌≡◌, ◌^◌, IfOk};
+ghost use Rattle.std.specs.Prelude.{◌≡◌, ◌≤◌, ℕ, List, Ok, length};
 ghost use Rattle.io_edge.specs.Causes.{NoneFell};
-ghost use Rattle.io_edge.specs.Whole.{IsWhole};
-ghost use Rattle.map_text.specs.Faults.{plain};
-ghost use Rattle.jps_run.specs.Held.{longest_text, HoldsMap, IsMapRefused, HoldsScen, IsScenRefused, HoldsScript, IsScriptRefused};
-ghost use Rattle.jps_run.specs.Judging.{AreKept};
-ghost use Rattle.jps_run.specs.Stops.{ReadsSo, IsTooLong};
+ghost use Rattle.io_edge.specs.Whole.{IsWhole, IsLonger};
+ghost use Rattle.jps_run.specs.FaultLines.{long_line as line_of_long};
+ghost use Rattle.jps_run.specs.Files.{Reads, ReadsText, read_stops};
+ghost use Rattle.jps_run.specs.Kinds.{kind_word, limit_of};
+ghost use Rattle.jps_run.specs.Session as spec;
+ghost use Rattle.jps_run.specs.Spelled.{SpellsSession};
+ghost use Rattle.jps_run.specs.Stops.{Ends};
+ghost use Rattle.jps_run.specs.declared.kind.Kind.TheVariants as kinds;
 
 use crate::faults::{long_line, map_line, scen_line, script_line};
+use crate::kind::Kind;
 use crate::stop::Stop;
+use edit_replay::{Engine, Session};
+use grid_moves::Corner;
 use io_edge::{Files, ReadStop, read_whole};
 use map_text::{MapText, read_map};
 use scen_text::{Entry, read_scen};
 use script_text::{Command, read_script};
 use std::alloc::Global;
+use word_list::{Pick, Settings};
 
-/// The longest map, scenario or script, in bytes.
-const LONGEST_TEXT: u32 = 1 << 26;
+/// What a text is read as.
+pub(crate) trait Text: Drop + Sized {
+    ghost use Rattle.std.specs.Prelude.{ℕ, List};
+    ghost use Rattle.jps_run.specs.declared.kind.Kind.{Kind};
 
-// The bytes of a file whose text is of this kind.
+    ghost kind_of_text: { Kind };
+
+    ghost spells: { List ℕ → Self → Type 0 };
+
+    /// The kind of these texts.
+    fn kind() -> Kind
+        ensures { result ≡ kind_of_text };
+
+    /// The value that the text spells.
+    fn of_text(alloc: Global, text: &[u8]) -> Result<Self, Stop>
+        requires { length text.now ≤ limit_of kind_of_text }
+        ensures { ReadsText spells kind_of_text text.now result };
+}
+
+impl Text for MapText {
+    ghost use Rattle.jps_run.specs.Spelled.{SpellsMap};
+    ghost use Rattle.jps_run.specs.declared.kind.Kind.TheVariants.{Map};
+
+    ghost kind_of_text = { Map };
+
+    ghost spells = { SpellsMap };
+
+    fn kind() -> Kind {
+        Kind::Map
+    }
+
+    fn of_text(alloc: Global, text: &[u8]) -> Result<MapText, Stop> {
+        match read_map(alloc, text) {
+            Ok(map) => Ok(map),
+            Err(fault) => Err(Stop::Text(map_line(alloc, fault)?)),
+        }
+    }
+}
+
+impl Text for Vec<Command> {
+    ghost use Rattle.jps_run.specs.Spelled.{SpellsScript};
+    ghost use Rattle.jps_run.specs.declared.kind.Kind.TheVariants.{Script};
+
+    ghost kind_of_text = { Script };
+
+    ghost spells = { SpellsScript };
+
+    fn kind() -> Kind {
+        Kind::Script
+    }
+
+    fn of_text(alloc: Global, text: &[u8]) -> Result<Vec<Command>, Stop> {
+        match read_script(alloc, text) {
+            Ok(commands) => Ok(commands),
+            Err(fault) => Err(Stop::Text(script_line(alloc, fault)?)),
+        }
+    }
+}
+
+impl Text for Vec<Entry> {
+    ghost use Rattle.jps_run.specs.Spelled.{SpellsScen};
+    ghost use Rattle.jps_run.specs.declared.kind.Kind.TheVariants.{Scen};
+
+    ghost kind_of_text = { Scen };
+
+    ghost spells = { SpellsScen };
+
+    fn kind() -> Kind {
+        Kind::Scen
+    }
+
+    fn of_text(alloc: Global, text: &[u8]) -> Result<Vec<Entry>, Stop> {
+        match read_scen(alloc, text) {
+            Ok(entries) => Ok(entries),
+            Err(fault) => Err(Stop::Text(scen_line(alloc, fault)?)),
+        }
+    }
+}
+
+// The text of a file.
 fn read_text<F: Files>(
     alloc: Global,
     files: &mut F,
+    kind: Kind,
     name: &str,
-    kind: &[u8],
 ) -> Result<Vec<u8>, Stop>
-    ensures read { ReadsSo (λ text. IsWhole (F.holds files.old name.now) longest_text text.items)
-        (IsTooLong kind.now (F.holds files.old name.now)) (F.faults files.old name.now)
-        (F.faults files.new name.now) result }
+    ensures read { Ends (λ text. IsWhole (F.holds files.old name.now) (limit_of kind) text.items)
+        (read_stops (λ line. IsLonger (F.holds files.old name.now) (limit_of kind)
+        × (line ≡ line_of_long (kind_word kind))) (F.faults files.old name.now) (F.faults files.new name.now))
+        result }
     ensures unchanged { F.holds files.new ≡ F.holds files.old }
     ensures later { NoneFell (F.faults files.old) (F.faults files.new) }
 {
-    match read_whole(alloc, files, name, LONGEST_TEXT) {
+    match read_whole(alloc, files, name, kind.limit()) {
         Ok(text) => Ok(text),
         Err(ReadStop::Fault) => Err(Stop::Read),
         Err(ReadStop::NoMemory) => Err(Stop::Memory),
-        Err(ReadStop::TooLong) => Err(Stop::Text(long_line(alloc, kind)?)),
+        Err(ReadStop::TooLong) => Err(Stop::Text(long_line(alloc, kind.word())?)),
     }
 }
 
-/// The map that a file holds.
-pub(crate) fn read_map_file<F: Files>(
+/// What the file of this name is read as.
+pub(crate) fn read_file<F: Files, T: Text>(
     alloc: Global,
     files: &mut F,
     name: &str,
-) -> Result<MapText, Stop>
-    ensures read { ReadsSo (λ m. HoldsMap (F.holds files.old name.now) (plain m))
-        (IsMapRefused (F.holds files.old name.now)) (F.faults files.old name.now)
+) -> Result<T, Stop>
+    ensures read { Reads T.spells T.kind_of_text (F.holds files.old name.now) (F.faults files.old name.now)
         (F.faults files.new name.now) result }
     ensures unchanged { F.holds files.new ≡ F.holds files.old }
     ensures later { NoneFell (F.faults files.old) (F.faults files.new) }
 {
-    let text = read_text(alloc, files, name, b"map")?;
-    match read_map(alloc, text.as_slice()) {
-        Ok(map) => Ok(map),
-        Err(fault) => Err(Stop::Text(map_line(alloc, fault)?)),
+    let text = read_text(alloc, files, T::kind(), name)?;
+    T::of_text(alloc, text.as_slice())
+}
+
+// The engine that is picked.
+fn engine_of(pick: Pick) -> Engine
+    ensures { result ≡ spec.engine_of pick }
+{
+    match pick {
+        Pick::Plain => Engine::Plain,
     }
 }
 
-/// The commands of the script that a file holds.
-pub(crate) fn read_script_file<F: Files>(
+// The corner rule, by whether a diagonal move may pass one blocked cell.
+fn corner_of(one: bool) -> Corner
+    ensures { result ≡ spec.corner_of one }
+{
+    if one { Corner::One } else { Corner::Never }
+}
+
+/// A session on the map that a file holds, as the settings ask. The bytes of the map are given back.
+pub(crate) fn open_session<F: Files>(
     alloc: Global,
     files: &mut F,
     name: &str,
-) -> Result<Vec<Command>, Stop>
-    ensures read { ReadsSo (λ commands. HoldsScript (F.holds files.old name.now) commands.items)
-        (IsScriptRefused (F.holds files.old name.now)) (F.faults files.old name.now)
+    settings: Settings,
+) -> Result<Session, Stop>
+    ensures read { Reads (SpellsSession settings) kinds.Map (F.holds files.old name.now) (F.faults files.old name.now)
         (F.faults files.new name.now) result }
     ensures unchanged { F.holds files.new ≡ F.holds files.old }
     ensures later { NoneFell (F.faults files.old) (F.faults files.new) }
 {
-    let text = read_text(alloc, files, name, b"script")?;
-    match read_script(alloc, text.as_slice()) {
-        Ok(commands) => Ok(commands),
-        Err(fault) => Err(Stop::Text(script_line(alloc, fault)?)),
-    }
-}
-
-/// The entries of the scenario that a file holds, each with a length that can be judged.
-pub(crate) fn read_scen_file<F: Files>(
-    alloc: Global,
-    files: &mut F,
-    name: &str,
-) -> Result<Vec<Entry>, Stop>
-    ensures read { ReadsSo (λ entries. HoldsScen (F.holds files.old name.now) entries.items)
-        (IsScenRefused (F.holds files.old name.now)) (F.faults files.old name.now)
-        (F.faults files.new name.now) result }
-    ensures kept { IfOk result (λ entries. AreKept entries.items) }
-    ensures unchanged { F.holds files.new ≡ F.holds files.old }
-    ensures later { NoneFell (F.faults files.old) (F.faults files.new) }
-{
-    let text = read_text(alloc, files, name, b"scen")?;
-    match read_scen(alloc, text.as_slice()) {
-        Ok(entries) => Ok(entries),
-        Err(fault) => Err(Stop::Text(scen_line(alloc, fault)?)),
-    }
+    let map: MapText = read_file(alloc, files, name)?;
+    let session = Session::new(
+        alloc,
+        &map,
+        engine_of(settings.pick),
+        corner_of(settings.one),
+    )?;
+    Ok(session)
 }

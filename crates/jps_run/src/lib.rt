@@ -1,14 +1,18 @@
 //! The top call of the program: words, files and streams in, a status out.
 #![tactic(auto)]
 
+mod answers;
 mod faults;
 mod files;
+mod job;
+mod kind;
 mod lines;
 mod query;
 mod row;
+mod scen;
 mod scenario;
-mod script;
 mod sending;
+mod solve;
 mod stop;
 #[cfg(test)]
 mod tests;
@@ -16,4 +20,4 @@ mod texts;
 mod top;
 
 pub use std::alloc::AllocError as NoMemory;
-pub use top::run;
+pub use top::{refuse, run, starve};

@@ -1,9 +1,7 @@
 //! The lines that answer a query or an edit.
 
-ghost use Rattle.std.specs.Prelude.{◌≡◌, ◌++◌, ◌∷◌, take, OnOk, codes, decimal};
-ghost use Rattle.edit_replay.specs.Replies.{answer_of};
+ghost use Rattle.std.specs.Prelude.{◌≡◌, ◌<◌, ◌++◌, OnOk};
 ghost use Rattle.jps_run.specs.Lines as spec;
-ghost use Rattle.jps_run.specs.Lines.{AppendsLine, Unfolds};
 
 use crate::NoMemory;
 use edit_replay::{EditReply, Reply};
@@ -26,7 +24,7 @@ fn put_point(out: &mut Vec<u8>, c: Cell) -> Result<(), NoMemory>
 
 // Appends each cell after a blank.
 fn put_points(out: &mut Vec<u8>, cells: &[Cell]) -> Result<(), NoMemory>
-    ensures { OnOk result (out.new.items ≡ out.old.items ++ spec.points_text cells.now) }
+    ensures { OnOk result (out.new.items ≡ out.old.items ++ spec.texts_of spec.point_text cells.now) }
 {
     for c in cells {
         put_point(out, *c)?;
@@ -34,36 +32,98 @@ fn put_points(out: &mut Vec<u8>, cells: &[Cell]) -> Result<(), NoMemory>
     Ok(())
 }
 
-// Appends the line of a walk.
+// Appends what a walk's line says of its cost and these cells.
 fn put_walk(out: &mut Vec<u8>, cost: Cost, cells: &[Cell]) -> Result<(), NoMemory>
-    ensures { OnOk result (out.new.items ≡ out.old.items ++ spec.walk_line cost cells.now) }
+    ensures { OnOk result (out.new.items ≡ out.old.items ++ spec.walk_text cost cells.now) }
 {
     put(out, b"walk ")?;
     put_number(out, u64::from(cost.a))?;
     put(out, b" ")?;
     put_number(out, u64::from(cost.b))?;
-    put_points(out, cells)?;
-    put(out, b"\n")
+    put_points(out, cells)
 }
 
-/// Appends the line that shows the reply.
+// The name of the direction in which a state was reached, by its number.
+fn arrival_text(arrival: u32) -> &'static [u8]
+    ensures { result.now ≡ spec.arrival_text arrival }
+{
+    match arrival {
+        0 => b"N",
+        1 => b"NE",
+        2 => b"E",
+        3 => b"SE",
+        4 => b"S",
+        5 => b"SW",
+        6 => b"W",
+        7 => b"NW",
+        _ => b"-",
+    }
+}
+
+// Appends a blank and the state.
+fn put_state(out: &mut Vec<u8>, width: u16, state: u32) -> Result<(), NoMemory>
+    requires { 0 < width }
+    ensures { OnOk result (out.new.items ≡ out.old.items ++ spec.state_text width state) }
+{
+    let cell = state / 9;
+    let width = u32::from(width);
+    put(out, b" ")?;
+    put_number(out, u64::from(cell % width))?;
+    put(out, b",")?;
+    put_number(out, u64::from(cell / width))?;
+    put(out, b":")?;
+    put(out, arrival_text(state % 9))
+}
+
+// Appends the states that the search took, where they are shown.
+fn put_taken(out: &mut Vec<u8>, width: u16, show: Show, taken: &[u32]) -> Result<(), NoMemory>
+    requires { 0 < width }
+    ensures { OnOk result (out.new.items ≡ out.old.items ++ spec.taken_text width show taken.now) }
+{
+    match show {
+        Show::Points | Show::Cells => Ok(()),
+        Show::Trace => {
+            put(out, b" taken")?;
+            for state in taken {
+                put_state(out, width, *state)?;
+            }
+            Ok(())
+        }
+    }
+}
+
+/// Appends the line of the reply to a query, on a map of this width.
 pub(crate) fn put_reply(
     alloc: Global,
     out: &mut Vec<u8>,
     reply: &Reply,
+    width: u16,
     show: Show,
 ) -> Result<(), NoMemory>
-    requires { Unfolds (answer_of reply.now) }
-    ensures { OnOk result (AppendsLine show (answer_of reply.now) out.old.items out.new.items) }
+    requires unfolds { spec.Unfolds reply.now }
+    requires some { 0 < width }
+    ensures { OnOk result (out.new.items ≡ out.old.items ++ spec.reply_line width show reply.now) }
 {
     match reply {
         Reply::Outside => put(out, b"outside\n"),
         Reply::Blocked => put(out, b"blocked\n"),
-        Reply::None { .. } => put(out, b"none\n"),
-        Reply::Walk { points, cost, .. } => match show {
-            Show::Points => put_walk(out, *cost, points.as_slice()),
-            Show::Cells => put_walk(out, *cost, unfold(alloc, points)?.as_slice()),
-        },
+        Reply::None { taken } => {
+            put(out, b"none")?;
+            put_taken(out, width, show, taken.as_slice())?;
+            put(out, b"\n")
+        }
+        Reply::Walk {
+            points,
+            cost,
+            taken,
+        } => {
+            match show {
+                Show::Points | Show::Trace => put_walk(out, *cost, points.as_slice())?,
+                Show::Cells => put_walk(out, *cost, unfold(alloc, points)?.as_slice())?,
+            }
+            put_taken(out, width, show, taken.as_slice())?;
+            put(out, b"\n")
+        }
     }
 }
 

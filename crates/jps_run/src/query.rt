@@ -1,45 +1,20 @@
-//! Sessions on maps, and the command `query`.
+//! The command `query`: a script of one command.
 
-ghost use Rattle.std.specs.Prelude.{◌≡◌, IfOk};
-ghost use Rattle.io_edge.specs.Causes.{NoneFell};
-ghost use Rattle.jps_run.specs.Held.{IsMapRefused};
-ghost use Rattle.jps_run.specs.Lines.{IsRightLine};
-ghost use Rattle.jps_run.specs.Stops.{ReadsSo, StandsForHeld};
+ghost use Rattle.std.specs.Prelude.{◌≡◌};
+ghost use Rattle.word_list.specs.Request as asked;
+ghost use Rattle.jps_run.specs.Ending.{HasWorked};
+ghost use Rattle.jps_run.specs.Outcome.{call_with};
+ghost use Rattle.jps_run.specs.Seen.{seen};
 
-use crate::NoMemory;
-use crate::files::read_map_file;
-use crate::lines::put_reply;
+use crate::answers::write_answers;
+use crate::files::open_session;
 use crate::stop::Stop;
-use edit_replay::{Engine, Session};
-use io_edge::Files;
+use io_edge::{Files, Sink};
+use script_text::Command;
 use std::alloc::Global;
 use std::sync::ledger::Ledger;
 use steps::Steps;
-use word_list::{Pick, Show};
-
-// The engine that the words pick.
-fn engine_of(pick: Pick) -> Engine {
-    match pick {
-        Pick::Plain => Engine::Plain,
-    }
-}
-
-/// A session on the map that a file holds. The bytes of the map are given back.
-pub(crate) fn open_session<F: Files>(
-    alloc: Global,
-    files: &mut F,
-    name: &str,
-    pick: Pick,
-) -> Result<Session, Stop>
-    ensures read { ReadsSo (StandsForHeld (F.holds files.old name.now)) (IsMapRefused (F.holds files.old name.now))
-        (F.faults files.old name.now) (F.faults files.new name.now) result }
-    ensures unchanged { F.holds files.new ≡ F.holds files.old }
-    ensures later { NoneFell (F.faults files.old) (F.faults files.new) }
-{
-    let map = read_map_file(alloc, files, name)?;
-    let session = Session::new(alloc, &map, engine_of(pick))?;
-    Ok(session)
-}
+use word_list::Settings;
 
 /// The ends of a query, each by its column and its row.
 #[derive(Clone, Copy, Debug)]
@@ -50,19 +25,27 @@ pub(crate) struct Ends {
     pub gy: u32,
 }
 
-/// The line that answers a query on the session's grid.
-pub(crate) fn query_line<L: Ledger>(
+/// Answers one query.
+pub(crate) fn query<F: Files, O: Sink, L: Ledger>(
     alloc: Global,
-    session: &mut Session,
+    files: &mut F,
+    out: &mut O,
+    map: &str,
     ends: Ends,
-    show: Show,
+    settings: Settings,
     steps: &mut Steps<L>,
-) -> Result<Vec<u8>, NoMemory>
-    ensures { IfOk result (λ line. IsRightLine session.old (record { x = ends.sx; y = ends.sy })
-        (record { x = ends.gx; y = ends.gy }) show line.items) }
+) -> Result<u8, Stop>
+    ensures worked { HasWorked (call_with (asked.Query map.now ends.sx ends.sy ends.gx ends.gy) settings)
+        (seen (F.holds files.old) (F.faults files.old) (O.written out.old) (O.faults out.old))
+        (seen (F.holds files.new) (F.faults files.new) (O.written out.new) (O.faults out.new)) result }
+    ensures unchanged { F.holds files.new ≡ F.holds files.old }
 {
-    let reply = session.query(alloc, ends.sx, ends.sy, ends.gx, ends.gy, steps)?;
-    let mut line = Vec::new(alloc);
-    put_reply(alloc, &mut line, &reply, show)?;
-    Ok(line)
+    let session = open_session(alloc, files, map, settings)?;
+    let commands = [Command::Query {
+        sx: ends.sx,
+        sy: ends.sy,
+        gx: ends.gx,
+        gy: ends.gy,
+    }];
+    write_answers(alloc, session, settings.show, &commands, out, steps)
 }

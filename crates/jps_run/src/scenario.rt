@@ -1,24 +1,87 @@
-//! The command `scen`: the rows that judge a scenario.
+//! The rows that judge a scenario.
 
-ghost use Rattle.std.specs.Prelude.{◌≡◌, IfOk};
+ghost use Rattle.std.specs.Prelude.{◌≡◌, [], IfOk};
 ghost use Rattle.scen_text.specs.Lengths.{IsKept};
-ghost use Rattle.jps_run.specs.Rows.{IsRow, AreFirstRows};
-ghost use Rattle.jps_run.specs.Judging.{AreKept, AreAllRows};
-ghost use Rattle.jps_run.specs.Stops.{WritesLines};
+ghost use Rattle.edit_replay.specs.Replies.{IsShort, answer_of};
+ghost use Rattle.jps_run.specs.Judging.{IsJudged};
+ghost use Rattle.jps_run.specs.Rows as rows;
+ghost use Rattle.jps_run.specs.Seen.{stream};
+ghost use Rattle.jps_run.specs.Sending.{SendsWhole};
+ghost use Rattle.jps_run.specs.Spelled.{AreKept};
+ghost use Rattle.jps_run.specs.Tally.{tally_of};
 
 use crate::NoMemory;
+use crate::job::{Job, work_items};
 use crate::row::{Row, Tally, put_row};
-use crate::sending::{send_full, write_out};
 use crate::stop::Stop;
 use edit_replay::{Reply, Session};
 use io_edge::Sink;
-use root2_cost::judge;
+use root2_cost::{Decimal, judge};
 use scen_text::Entry;
 use std::alloc::Global;
 use std::sync::ledger::Ledger;
 use steps::Steps;
 
-// The row of an entry, on the session's grid.
+/// A session that judges a scenario's entries in order, and the counts of their rows.
+#[derive(Drop)]
+pub(crate) struct Judge {
+    pub session: Session,
+    pub tally: Tally,
+}
+
+impl Job for Judge {
+    ghost use Rattle.scen_text.specs.Lengths.{IsKept};
+    ghost use Rattle.jps_run.specs.Judging.{HasJudged, IsJudged};
+
+    type Item = Entry;
+
+    ghost can_work = { λ entry. IsKept entry.length };
+
+    ghost has_worked = { HasJudged };
+
+    ghost is_whole = { IsJudged };
+
+    fn answer<L: Ledger>(
+        &mut self,
+        alloc: Global,
+        number: u64,
+        item: Entry,
+        lines: &mut Vec<u8>,
+        steps: &mut Steps<L>,
+    ) -> Result<(), NoMemory> {
+        let row = row_of(alloc, &mut self.session, item, steps)?;
+        self.tally.count(row);
+        put_row(lines, number, row)
+    }
+
+    fn close(&self, lines: &mut Vec<u8>) -> Result<u8, NoMemory> {
+        self.tally.put(lines)?;
+        Ok(self.tally.status())
+    }
+}
+
+// Whether the entry is meant for a map of the session's sides.
+fn has_sides(session: &Session, entry: Entry) -> bool
+    ensures { result ≡ rows.has_sides session.now entry }
+{
+    entry.w == u32::from(session.width()) && entry.h == u32::from(session.height())
+}
+
+// What the reply makes of an entry with this length.
+fn row_of_reply(listed: Decimal, reply: &Reply) -> Row
+    requires kept { IsKept listed }
+    requires short { IsShort (answer_of reply.now) }
+    ensures { result ≡ rows.row_of listed reply.now }
+{
+    match reply {
+        Reply::Outside => Row::Outside,
+        Reply::Blocked => Row::Blocked,
+        Reply::None { .. } => Row::None,
+        Reply::Walk { cost, .. } => Row::Judged(judge(listed, *cost), *cost),
+    }
+}
+
+// The row of an entry, by the session.
 fn row_of<L: Ledger>(
     alloc: Global,
     session: &mut Session,
@@ -26,42 +89,31 @@ fn row_of<L: Ledger>(
     steps: &mut Steps<L>,
 ) -> Result<Row, NoMemory>
     requires { IsKept entry.length }
-    ensures row { IfOk result (IsRow session.old entry) }
+    ensures row { IfOk result (rows.IsRow session.old entry) }
     ensures grid { session.new ≡ session.old }
 {
-    if entry.w != u32::from(session.width()) || entry.h != u32::from(session.height()) {
+    if !has_sides(session, entry) {
         return Ok(Row::Scale);
     }
-    match session.query(alloc, entry.sx, entry.sy, entry.gx, entry.gy, steps)? {
-        Reply::Outside => Ok(Row::Outside),
-        Reply::Blocked => Ok(Row::Blocked),
-        Reply::None { .. } => Ok(Row::None),
-        Reply::Walk { cost, .. } => Ok(Row::Judged(judge(entry.length, cost), cost)),
-    }
+    let reply = session.query(alloc, entry.sx, entry.sy, entry.gx, entry.gy, steps)?;
+    Ok(row_of_reply(entry.length, &reply))
 }
 
-/// Judges the entries in order on the session's grid, and writes their rows and the sum; the status
-/// comes out.
+/// Judges the entries in order by the session, and sums their rows up.
 pub(crate) fn write_rows<O: Sink, L: Ledger>(
     alloc: Global,
-    session: &mut Session,
+    session: Session,
     entries: &[Entry],
     out: &mut O,
     steps: &mut Steps<L>,
 ) -> Result<u8, Stop>
     requires { AreKept entries.now }
-    ensures { WritesLines (AreAllRows session.old entries.now) (AreFirstRows session.old entries.now)
-        (O.written out.old) (O.written out.new) (O.faults out.old) (O.faults out.new) result }
+    ensures { SendsWhole (IsJudged (record { session = session; tally = tally_of [] }) entries.now)
+        (stream (O.written out.old) (O.faults out.old)) (stream (O.written out.new) (O.faults out.new)) result }
 {
-    let mut lines = Vec::new(alloc);
-    let mut tally = Tally::new();
-    for entry in entries {
-        let row = row_of(alloc, session, *entry, steps)?;
-        tally.count(row);
-        put_row(&mut lines, tally.rows, row)?;
-        send_full(out, &mut lines)?;
-    }
-    tally.put(&mut lines)?;
-    write_out(out, lines.as_slice())?;
-    Ok(tally.status())
+    let mut job = Judge {
+        session,
+        tally: Tally::new(),
+    };
+    work_items(alloc, &mut job, entries, out, steps)
 }

@@ -1,8 +1,8 @@
 //! Output in pieces.
 
-ghost use Rattle.std.specs.Prelude.{◌≡◌, ◌≤◌};
-ghost use Rattle.jps_run.specs.Sending.{SendsSo};
-ghost use Rattle.jps_run.specs.Stops.{WritesSo};
+ghost use Rattle.std.specs.Prelude.{◌≤◌};
+ghost use Rattle.jps_run.specs.Seen.{stream};
+ghost use Rattle.jps_run.specs.Sending.{Sends, SendsFull};
 
 use crate::stop::Stop;
 use io_edge::{Sink, write_whole};
@@ -11,9 +11,9 @@ use io_edge::{Sink, write_whole};
 const PIECE: usize = 1 << 16;
 
 /// Writes the bytes.
-pub(crate) fn write_out<O: Sink>(out: &mut O, bytes: &[u8]) -> Result<(), Stop>
-    ensures wrote { WritesSo (O.written out.old) (O.written out.new) (O.faults out.old) (O.faults out.new)
-        bytes.now result }
+pub(crate) fn send<O: Sink>(out: &mut O, bytes: &[u8]) -> Result<(), Stop>
+    ensures sent { Sends (stream (O.written out.old) (O.faults out.old))
+        (stream (O.written out.new) (O.faults out.new)) bytes.now result }
     ensures later { O.faults out.old ≤ O.faults out.new }
 {
     match write_whole(out, bytes) {
@@ -24,12 +24,12 @@ pub(crate) fn write_out<O: Sink>(out: &mut O, bytes: &[u8]) -> Result<(), Stop>
 
 /// Writes the lines that wait, once they are many.
 pub(crate) fn send_full<O: Sink>(out: &mut O, waiting: &mut Vec<u8>) -> Result<(), Stop>
-    ensures sent { SendsSo (O.written out.old) (O.written out.new) (O.faults out.old) (O.faults out.new)
-        waiting.old.items waiting.new.items result }
+    ensures sent { SendsFull (stream (O.written out.old) (O.faults out.old))
+        (stream (O.written out.new) (O.faults out.new)) waiting.old.items waiting.new.items result }
     ensures later { O.faults out.old ≤ O.faults out.new }
 {
     if PIECE <= waiting.len() {
-        write_out(out, waiting.as_slice())?;
+        send(out, waiting.as_slice())?;
         waiting.clear();
     }
     Ok(())

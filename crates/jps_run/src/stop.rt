@@ -8,8 +8,6 @@ use std::alloc::AllocError;
 /// Why the work on a request stops before its output is written.
 #[derive(Drop)]
 pub(crate) enum Stop {
-    /// The words are refused, with this line.
-    Words(Vec<u8>),
     /// A text is refused, with this line.
     Text(Vec<u8>),
     /// A read of a file failed.

@@ -1,9 +1,9 @@
 //! Whole calls over files and streams in memory. The lines are those of squared paper; lengths are
 //! sums of 1 and √2 = 1.41421356..
 
-ghost use Rattle.std.specs.Prelude.{◌≡◌, ◌<◌, ◌^◌, length};
+ghost use Rattle.std.specs.Prelude.{◌≡◌, ◌<◌};
 
-use crate::run;
+use crate::{refuse, run};
 use io_edge::{MemFiles, MemSink, SureSource};
 use std::alloc::{AllocError, Global};
 use std::marker::Brand;
@@ -16,8 +16,13 @@ const OPEN: &[u8] = b"type octile\nheight 3\nwidth 3\nmap\n...\n...\n...\n";
 
 const PILLAR: &[u8] = b"type octile\nheight 3\nwidth 3\nmap\n...\n.@.\n...\n";
 
+// Two cells that touch only at a corner.
+const TOUCHING: &[u8] = b"type octile\nheight 2\nwidth 2\nmap\n.@\n@.\n";
+
 // Two walls with a crossing between them.
 const CROSSING: &[u8] = b"type octile\nheight 3\nwidth 3\nmap\n.@.\n...\n.@.\n";
+
+const SHORE: &[u8] = b"type octile\nheight 2\nwidth 3\nmap\n.WW\n.WW\n";
 
 const TWO_ROWS: &[u8] = b"type octile\nheight 2\nwidth 4\nmap\n....\n....\n";
 
@@ -65,7 +70,6 @@ fn call<L: Ledger>(
     requires name { blank.name ≡ L.name }
     requires parts { blank.parts ≡ L.parts }
     requires some { 0 < L.parts }
-    requires few { length words.now < 2 ^ 31 }
 {
     let mut steps = Steps::<L>::new(blank);
     let mut input = SureSource::new(Vec::new(alloc));
@@ -95,7 +99,6 @@ fn check(
     let mut files = two_files(alloc, made.map, made.second, made.failing_read)?;
     let mut out = stream(alloc, made.failing_write)?;
     let mut err = stream(alloc, 0)?;
-    assert!(rt; words.len() < 100);
     let answer = call::<Brand>(
         alloc,
         words.as_slice(),
@@ -110,153 +113,217 @@ fn check(
     Ok(())
 }
 
+// The words `query m` and these.
 const CORNER: &[&str] = &["query", "m", "0", "0", "2", "2"];
-
-// The query from corner to corner.
-fn corner(map: &'static [u8], failing_read: u64, failing_write: u64) -> Request<'static> {
-    Request {
-        words: CORNER,
-        map,
-        second: b"",
-        failing_read,
-        failing_write,
-    }
-}
-
-#[test]
-fn queries_are_answered(rt: HostRuntime) -> Result<(), Fail> {
-    let alloc = rt.alloc();
-    check(
-        alloc,
-        &rt,
-        corner(OPEN, 0, 0),
-        0,
-        b"walk 0 2 0,0 2,2\n",
-        b"",
-    )?;
-    check(
-        alloc,
-        &rt,
-        corner(PILLAR, 0, 0),
-        0,
-        b"walk 4 0 0,0 2,0 2,2\n",
-        b"",
-    )?;
-    let cells: [&str; 8] = [
-        "query",
-        "m",
-        "0",
-        "0",
-        "2",
-        "2",
-        "show=cells",
-        "engine=plain",
-    ];
-    let made = Request {
-        words: &cells,
-        ..corner(OPEN, 0, 0)
-    };
-    check(alloc, &rt, made, 0, b"walk 0 2 0,0 1,1 2,2\n", b"")
-}
-
-#[test]
-fn faults_have_their_status(rt: HostRuntime) -> Result<(), Fail> {
-    let alloc = rt.alloc();
-    check(alloc, &rt, corner(OPEN, 2, 0), 4, b"", b"jps: read\n")?;
-    check(alloc, &rt, corner(OPEN, 0, 2), 5, b"w", b"jps: write\n")?;
-    check(
-        alloc,
-        &rt,
-        corner(b"", 0, 0),
-        3,
-        b"",
-        b"jps: map M1 line 1\n",
-    )?;
-    let made = Request {
-        words: &[],
-        ..corner(OPEN, 0, 0)
-    };
-    check(alloc, &rt, made, 2, b"", b"jps: word 1\n")
-}
 
 const SOLVE: &[&str] = &["solve", "m", "s"];
 
-// A script on the crossing.
-fn script(text: &'static [u8], failing_write: u64) -> Request<'static> {
+const SCEN: &[&str] = &["scen", "m", "s"];
+
+// A call of these words on this map, with nothing else held and nothing failing.
+fn on_map<'a>(words: &'a [&'a str], map: &'a [u8]) -> Request<'a> {
     Request {
-        words: SOLVE,
-        map: CROSSING,
-        second: text,
+        words,
+        map,
+        second: b"",
         failing_read: 0,
-        failing_write,
+        failing_write: 0,
     }
 }
 
 const EDITS: &[u8] =
     b"query 0 1 2 1\nblock 1 1\nquery 0 1 2 1\nfree 1 1\nfree 1 1\nquery 0 1 2 1\nblock 3 0\n";
 
-#[test]
-fn scripts_are_answered_in_turn(rt: HostRuntime) -> Result<(), Fail> {
-    let alloc = rt.alloc();
-    let lines = b"walk 2 0 0,1 2,1\nok\nnone\nok\nsame\nwalk 2 0 0,1 2,1\noutside\n";
-    check(alloc, &rt, script(EDITS, 0), 0, lines, b"")?;
-    check(
-        alloc,
-        &rt,
-        script(EDITS, 21),
-        5,
-        b"walk 2 0 0,1 2,1\nok\n",
-        b"jps: write\n",
-    )?;
-    check(alloc, &rt, script(b"", 0), 0, b"", b"")?;
-    check(
-        alloc,
-        &rt,
-        script(b"free 1 1\nbolck 1 1\n", 0),
-        3,
-        b"",
-        b"jps: script T1 line 2\n",
-    )?;
-    let made = Request {
-        words: &["solve", "m", "absent"],
-        ..script(EDITS, 0)
-    };
-    check(alloc, &rt, made, 4, b"", b"jps: read\n")
-}
-
-const SCEN: &[&str] = &["scen", "m", "s"];
-
-// A scenario on two rows of four cells.
-fn scenario(text: &'static [u8]) -> Request<'static> {
-    Request {
-        words: SCEN,
-        map: TWO_ROWS,
-        second: text,
-        failing_read: 0,
-        failing_write: 0,
-    }
-}
+const ANSWERS: &[u8] = b"walk 2 0 0,1 2,1\nok\nnone\nok\nsame\nwalk 2 0 0,1 2,1\noutside\n";
 
 // From (0,0) to (3,1) there are two straight moves and a diagonal one, 3.41421356..
+const LENGTHS: &[u8] =
+    b"version 1\n0 m 4 2 0 0 3 1 3.41421\n0 m 4 2 0 0 3 1 3.405\n0 m 4 2 0 0 3 1 3.40\n";
+
+const ROWS: &[u8] =
+    b"row 1 agree 2 1\nrow 2 near 2 1\nrow 3 off 2 1\nsum 3 agree 1 near 1 off 1 other 0\n";
+
+// A query, a script and a scenario, each with its output.
+fn query() -> (Request<'static>, &'static [u8]) {
+    (on_map(CORNER, OPEN), b"walk 0 2 0,0 2,2\n")
+}
+
+fn script() -> (Request<'static>, &'static [u8]) {
+    let made = Request {
+        second: EDITS,
+        ..on_map(SOLVE, CROSSING)
+    };
+    (made, ANSWERS)
+}
+
+fn scenario() -> (Request<'static>, &'static [u8]) {
+    let made = Request {
+        second: LENGTHS,
+        ..on_map(SCEN, TWO_ROWS)
+    };
+    (made, ROWS)
+}
+
 #[test]
-fn scenarios_are_judged(rt: HostRuntime) -> Result<(), Fail> {
+fn queries_are_answered(rt: HostRuntime) -> Result<(), Fail> {
     let alloc = rt.alloc();
-    let lengths =
-        b"version 1\n0 m 4 2 0 0 3 1 3.41421\n0 m 4 2 0 0 3 1 3.405\n0 m 4 2 0 0 3 1 3.40\n";
-    let rows =
-        b"row 1 agree 2 1\nrow 2 near 2 1\nrow 3 off 2 1\nsum 3 agree 1 near 1 off 1 other 0\n";
-    check(alloc, &rt, scenario(lengths), 1, rows, b"")?;
-    let others = b"version 1\n0 m 4 3 0 0 3 1 3.4\n0 m 4 2 4 0 3 1 3.4\n0 m 4 2 3 1 3 1 0\n";
+    let (made, line) = query();
+    check(alloc, &rt, made, 0, line, b"")?;
+    let cells: [&str; 8] = ["query", "m", "0", "0", "2", "2", "show=cells", "rule=none"];
+    let line = b"walk 0 2 0,0 1,1 2,2\n";
+    check(alloc, &rt, on_map(&cells, OPEN), 0, line, b"")?;
+    let trace: [&str; 7] = ["query", "m", "0", "0", "2", "2", "show=trace"];
+    let line = b"walk 4 0 0,0 2,0 2,2 taken 0,0:- 1,0:- 0,1:- 2,0:- 2,1:- 0,2:- 1,2:- 2,2:-\n";
+    check(alloc, &rt, on_map(&trace, PILLAR), 0, line, b"")?;
+    let one: [&str; 8] = ["query", "m", "0", "0", "2", "2", "show=trace", "rule=one"];
+    let line = b"walk 2 1 0,0 1,0 2,1 2,2 taken 0,0:- 1,0:- 0,1:- 2,1:- 1,2:- 2,2:-\n";
+    check(alloc, &rt, on_map(&one, PILLAR), 0, line, b"")?;
+    let touching: [&str; 7] = ["query", "m", "0", "0", "1", "1", "show=trace"];
+    let line = b"none taken 0,0:-\n";
+    check(alloc, &rt, on_map(&touching, TOUCHING), 0, line, b"")?;
+    let apart: [&str; 7] = ["query", "m", "0", "0", "1", "0", "show=trace"];
+    check(alloc, &rt, on_map(&apart, SHORE), 0, b"none taken\n", b"")?;
+    check(alloc, &rt, on_map(&trace, TOUCHING), 0, b"outside\n", b"")
+}
+
+#[test]
+fn scripts_and_scenarios_are_answered(rt: HostRuntime) -> Result<(), Fail> {
+    let alloc = rt.alloc();
+    let (made, lines) = script();
+    check(alloc, &rt, made, 0, lines, b"")?;
+    let made = Request {
+        words: &["solve", "m", "s", "show=cells"],
+        second: b"query 1 0 2 1\nflood 0 0\nquery 0 0 2 0\nflood 0 0\nquery 0 0 0 1\n",
+        ..on_map(SOLVE, SHORE)
+    };
+    let lines = b"walk 0 1 1,0 2,1\nok\nwalk 2 0 0,0 1,0 2,0\nsame\nnone\n";
+    check(alloc, &rt, made, 0, lines, b"")?;
+    let (made, rows) = scenario();
+    check(alloc, &rt, made, 1, rows, b"")?;
+    let made = Request {
+        second: b"version 1\n0 m 4 3 0 0 3 1 3.4\n0 m 4 2 4 0 3 1 3.4\n0 m 4 2 3 1 3 1 0\n",
+        ..made
+    };
     let rows = b"row 1 scale\nrow 2 outside\nrow 3 agree 0 0\nsum 3 agree 1 near 0 off 0 other 2\n";
-    check(alloc, &rt, scenario(others), 1, rows, b"")?;
-    let none = b"sum 0 agree 0 near 0 off 0 other 0\n";
-    check(alloc, &rt, scenario(b"version 1\n"), 0, none, b"")?;
+    check(alloc, &rt, made, 1, rows, b"")?;
+    let made = Request {
+        second: b"version 1\n",
+        ..made
+    };
     check(
         alloc,
         &rt,
-        scenario(b"version 2\n"),
+        made,
+        0,
+        b"sum 0 agree 0 near 0 off 0 other 0\n",
+        b"",
+    )
+}
+
+// The first `reads` reads of a call, each failing in turn.
+fn check_reads(alloc: Global, rt: &impl Abort, made: Request<'_>, reads: u64) -> Result<(), Fail> {
+    for read in 0..reads {
+        let failing = Request {
+            failing_read: read + 1,
+            ..made
+        };
+        check(alloc, rt, failing, 4, b"", b"jps: read\n")?;
+    }
+    Ok(())
+}
+
+// A file of n bytes takes n / 16 reads, rounded up, and one that finds its end.
+#[test]
+fn each_failing_read_ends_the_call(rt: HostRuntime) -> Result<(), Fail> {
+    let alloc = rt.alloc();
+    check_reads(alloc, &rt, query().0, 4)?;
+    check_reads(alloc, &rt, script().0, 10)?;
+    check_reads(alloc, &rt, scenario().0, 10)?;
+    let absent = Request {
+        words: &["solve", "m", "absent"],
+        ..script().0
+    };
+    check(alloc, &rt, absent, 4, b"", b"jps: read\n")
+}
+
+// Each write of a call's output failing in turn; a write takes one byte.
+fn check_writes(
+    alloc: Global,
+    rt: &impl Abort,
+    made: Request<'_>,
+    output: &[u8],
+) -> Result<(), Fail> {
+    for write in 0..output.len() {
+        let failing = Request {
+            failing_write: write as u64 + 1,
+            ..made
+        };
+        check(alloc, rt, failing, 5, &output[..write], b"jps: write\n")?;
+    }
+    Ok(())
+}
+
+#[test]
+fn each_failing_write_leaves_a_first_part(rt: HostRuntime) -> Result<(), Fail> {
+    let alloc = rt.alloc();
+    check_writes(alloc, &rt, query().0, query().1)?;
+    check_writes(alloc, &rt, script().0, script().1)?;
+    check_writes(alloc, &rt, scenario().0, scenario().1)
+}
+
+#[test]
+fn refused_words_and_texts_are_named(rt: HostRuntime) -> Result<(), Fail> {
+    let alloc = rt.alloc();
+    check(alloc, &rt, on_map(&[], OPEN), 2, b"", b"jps: word 1\n")?;
+    let rule: [&str; 7] = ["query", "m", "0", "0", "2", "2", "rule=two"];
+    check(alloc, &rt, on_map(&rule, OPEN), 2, b"", b"jps: word 7\n")?;
+    check(
+        alloc,
+        &rt,
+        on_map(CORNER, b""),
         3,
         b"",
-        b"jps: scen C1 line 1\n",
-    )
+        b"jps: map M1 line 1\n",
+    )?;
+    let short = b"type octile\nheight 3\nwidth 3\nmap\n...\n...\n..";
+    check(
+        alloc,
+        &rt,
+        on_map(CORNER, short),
+        3,
+        b"",
+        b"jps: map M3 line 7\n",
+    )?;
+    let made = Request {
+        second: b"free 1 1\nbolck 1 1\n",
+        ..script().0
+    };
+    check(alloc, &rt, made, 3, b"", b"jps: script T1 line 2\n")?;
+    let made = Request { map: b"", ..made };
+    check(alloc, &rt, made, 3, b"", b"jps: map M1 line 1\n")?;
+    let made = Request {
+        second: b"version 1\n0 m 4 2 0 0\n",
+        ..scenario().0
+    };
+    check(alloc, &rt, made, 3, b"", b"jps: scen C2 line 2\n")?;
+    let made = Request {
+        second: b"version 1\n0 m 4 2 0000000000 0 3 1 3.4\n",
+        ..made
+    };
+    check(alloc, &rt, made, 3, b"", b"jps: scen C3 line 2\n")
+}
+
+// A word that is no text stands where the row's next word would; then the stream fails at once.
+#[test]
+fn words_that_are_no_text_are_named(rt: HostRuntime) -> Result<(), Fail> {
+    let alloc = rt.alloc();
+    let before = strings(alloc, &["query", "m", "0"])?;
+    let mut err = stream(alloc, 0)?;
+    assert_eq!(rt; refuse(alloc, before.as_slice(), &mut err), 2);
+    let line: &[u8] = b"jps: word 4\n";
+    assert_eq!(rt; err.bytes(), line);
+    let mut err = stream(alloc, 1)?;
+    assert_eq!(rt; refuse(alloc, before.as_slice(), &mut err), 2);
+    assert_eq!(rt; err.bytes().len(), 0);
+    Ok(())
 }

@@ -4,20 +4,34 @@ ghost use Rattle.std.specs.Prelude.{◌≡◌};
 ghost use Rattle.jps_run.specs.Texts as spec;
 
 /// What `--help` prints.
+#[tactic(auto, unfolding(crate::specs::Texts::help_text))]
 pub(crate) fn help_text() -> &'static [u8]
     ensures { result.now ≡ spec.help_text }
 {
     b"usage: jps COMMAND ...
-  jps query MAP SX SY GX GY [engine=plain] [show=points|show=cells]
-      a least walk from (SX,SY) to (GX,GY) on the map
-  jps solve MAP SCRIPT [engine=plain]
+  jps query MAP SX SY GX GY [engine=plain] [show=points|show=cells|show=trace] [rule=none|rule=one]
+      a least walk from the cell (SX,SY) to the cell (GX,GY) on the map
+  jps solve MAP SCRIPT [engine=plain] [show=points|show=cells|show=trace] [rule=none|rule=one]
       one line for each command of the script: edits of the map, and queries
-  jps scen MAP SCEN [engine=plain]
+  jps scen MAP SCEN [engine=plain] [rule=none|rule=one]
       one row for each entry of the scenario, its length judged by the least cost, and their sum
   jps --help
       this text
   jps --version
       the version
+
+A cell is its column and its row, which count from 0 in the upper left. `walk A B` is a walk of A
+straight and B diagonal moves; its points follow: its first cell, its last cell, and each cell at
+which it turns. show=cells shows each of its cells, show=trace each cell that the search took as well.
+With rule=one a diagonal move may pass one blocked cell beside it, with rule=none none.
+
+statuses: 0 done; 1 done, and a row of `scen` is neither agree nor near; 2 the words are refused;
+3 a file is refused; 4 a read failed; 5 a write of the output failed; 6 memory was refused
+faults, one line on standard error:
+  jps: word N            no call has word N there; words are counted from 1
+  jps: FILE CODE line N  line N of the map, script or scen breaks its form
+  jps: FILE long         the file is longer than 67108864 bytes
+  jps: read, jps: write, jps: memory
 "
 }
 

@@ -1,154 +1,112 @@
 //! The top call.
 
-ghost use Rattle.std.specs.Prelude.{◌≡◌, ◌<◌, ◌≤◌, ◌^◌, ◌⊎◌, ℕ, List, [], length, map, string_bytes};
-ghost use Rattle.std.specs.Io.KnownBytes.{Appends};
+ghost use Rattle.std.specs.Prelude.{◌≡◌, ℕ, ◌≤◌, ◌⊎◌, map, string_bytes};
 ghost use Rattle.io_edge.specs.Causes.{Rose};
-ghost use Rattle.word_list.specs.Request as asked;
-ghost use Rattle.jps_run.specs.Outcome.{Ask};
-ghost use Rattle.jps_run.specs.Ending.{Comes, HasPart, HasLines, FileRose, Gets, ending_line};
-ghost use Rattle.jps_run.specs.Stops.{HasWorked};
+ghost use Rattle.word_list.specs.Request.{called};
+ghost use Rattle.jps_run.specs.Ending.{Comes, Gets, HasLines, HasPart, HasWorked, NamedRose, Names, WroteNothing, ending_line};
+ghost use Rattle.jps_run.specs.FaultLines.{word_line as line_of_word};
+ghost use Rattle.jps_run.specs.Seen.{seen, stream};
+ghost use Rattle.jps_run.specs.Sending.{IsPrinted, SendsWhole};
 
 use crate::faults::word_line;
-use crate::files::{read_scen_file, read_script_file};
-use crate::query::{Ends, open_session, query_line};
-use crate::scenario::write_rows;
-use crate::script::write_answers;
-use crate::sending::write_out;
+use crate::query::{Ends, query};
+use crate::scen::scen;
+use crate::sending::send;
+use crate::solve::solve;
 use crate::stop::Stop;
 use crate::texts::{help_text, version_text};
 use io_edge::{Files, Sink, Source, write_whole};
 use std::alloc::Global;
 use std::sync::ledger::Ledger;
 use steps::Steps;
-use word_list::{Pick, Request, Show, read_words};
+use word_list::{Request, Settings, first_bad, read_words};
 
-// Answers one query.
-fn query<F: Files, O: Sink, L: Ledger>(
-    alloc: Global,
-    files: &mut F,
-    out: &mut O,
-    map: &str,
-    ends: Ends,
-    pick: Pick,
-    show: Show,
-    steps: &mut Steps<L>,
-) -> Result<u8, Stop>
-    ensures worked { (words : List (List ℕ)) → Ask words
-        (asked.Query map.now ends.sx ends.sy ends.gx ends.gy pick show)
-        → HasWorked words (F.holds files.old) (F.faults files.old) (F.faults files.new) (O.written out.old)
-        (O.written out.new) (O.faults out.old) (O.faults out.new) result }
-    ensures unchanged { F.holds files.new ≡ F.holds files.old }
+// Writes a text whole.
+fn print<O: Sink>(out: &mut O, text: &[u8]) -> Result<u8, Stop>
+    ensures { SendsWhole (IsPrinted text.now) (stream (O.written out.old) (O.faults out.old))
+        (stream (O.written out.new) (O.faults out.new)) result }
 {
-    let mut session = open_session(alloc, files, map, pick)?;
-    let line = query_line(alloc, &mut session, ends, show, steps)?;
-    write_out(out, line.as_slice())?;
+    send(out, text)?;
     Ok(0)
 }
 
-// Answers a script.
-fn solve<F: Files, O: Sink, L: Ledger>(
-    alloc: Global,
-    files: &mut F,
-    out: &mut O,
-    map: &str,
-    script: &str,
-    pick: Pick,
-    steps: &mut Steps<L>,
-) -> Result<u8, Stop>
-    ensures worked { (words : List (List ℕ)) → Ask words (asked.Solve map.now script.now pick)
-        → HasWorked words (F.holds files.old) (F.faults files.old) (F.faults files.new) (O.written out.old)
-        (O.written out.new) (O.faults out.old) (O.faults out.new) result }
-    ensures unchanged { F.holds files.new ≡ F.holds files.old }
-{
-    let mut session = open_session(alloc, files, map, pick)?;
-    let commands = read_script_file(alloc, files, script)?;
-    write_answers(alloc, &mut session, commands.as_slice(), out, steps)?;
-    Ok(0)
-}
-
-// Judges a scenario.
-fn judge<F: Files, O: Sink, L: Ledger>(
-    alloc: Global,
-    files: &mut F,
-    out: &mut O,
-    map: &str,
-    scen: &str,
-    pick: Pick,
-    steps: &mut Steps<L>,
-) -> Result<u8, Stop>
-    ensures worked { (words : List (List ℕ)) → Ask words (asked.Scen map.now scen.now pick)
-        → HasWorked words (F.holds files.old) (F.faults files.old) (F.faults files.new) (O.written out.old)
-        (O.written out.new) (O.faults out.old) (O.faults out.new) result }
-    ensures unchanged { F.holds files.new ≡ F.holds files.old }
-{
-    let mut session = open_session(alloc, files, map, pick)?;
-    let entries = read_scen_file(alloc, files, scen)?;
-    write_rows(alloc, &mut session, entries.as_slice(), out, steps)
-}
-
-// Does what the words ask for, and gives the status.
+// Does what is asked for, and gives the status.
 fn work<F: Files, O: Sink, L: Ledger>(
     alloc: Global,
-    words: &[String],
+    request: Request<'_>,
+    settings: Settings,
     files: &mut F,
     out: &mut O,
     steps: &mut Steps<L>,
 ) -> Result<u8, Stop>
-    requires { length words.now < 2 ^ 31 }
-    ensures worked { HasWorked (map string_bytes words.now) (F.holds files.old) (F.faults files.old)
-        (F.faults files.new) (O.written out.old) (O.written out.new) (O.faults out.old) (O.faults out.new)
-        result }
+    ensures worked { HasWorked (called request.entry settings)
+        (seen (F.holds files.old) (F.faults files.old) (O.written out.old) (O.faults out.old))
+        (seen (F.holds files.new) (F.faults files.new) (O.written out.new) (O.faults out.new)) result }
     ensures unchanged { F.holds files.new ≡ F.holds files.old }
 {
-    let request = match read_words(words) {
-        Ok(request) => request,
-        Err(bad) => return Err(Stop::Words(word_line(alloc, bad.0)?)),
-    };
     match request {
-        Request::Help => {
-            write_out(out, help_text())?;
-            Ok(0)
-        }
-        Request::Version => {
-            write_out(out, version_text())?;
-            Ok(0)
-        }
+        Request::Help => print(out, help_text()),
+        Request::Version => print(out, version_text()),
         Request::Query {
             map,
             sx,
             sy,
             gx,
             gy,
-            pick,
-            show,
         } => query(
             alloc,
             files,
             out,
             map,
             Ends { sx, sy, gx, gy },
-            pick,
-            show,
+            settings,
             steps,
         ),
-        Request::Solve { map, script, pick } => solve(alloc, files, out, map, script, pick, steps),
-        Request::Scen { map, scen, pick } => judge(alloc, files, out, map, scen, pick, steps),
+        Request::Solve { map, script } => solve(alloc, files, out, map, script, settings, steps),
+        Request::Scen { map, scen: name } => scen(alloc, files, out, map, name, settings, steps),
     }
 }
 
-// Writes the line of an ending to `err`.
+// Writes a line to `err`.
 fn tell<E: Sink>(err: &mut E, line: &[u8])
-    ensures told { Gets (E.written err.old) (E.written err.new) (E.faults err.old) (E.faults err.new)
-        line.now }
+    ensures told { Gets (stream (E.written err.old) (E.faults err.old))
+        (stream (E.written err.new) (E.faults err.new)) line.now }
     ensures later { E.faults err.old ≤ E.faults err.new }
 {
     let _ = write_whole(err, line);
 }
 
+/// Ends for want of memory, and answers the status, which is 6.
+pub fn starve<E: Sink>(err: &mut E) -> u8
+    ensures status { result ≡ 6 }
+    ensures memory { Gets (stream (E.written err.old) (E.faults err.old))
+        (stream (E.written err.new) (E.faults err.new)) (ending_line 6) }
+{
+    tell(err, b"jps: memory\n");
+    6
+}
+
+// Refuses the word of this number: status 2, or 6 where its line found no memory.
+fn refuse_word<E: Sink>(alloc: Global, number: u32, err: &mut E) -> u8
+    ensures statuses { (result ≡ 2) ⊎ (result ≡ 6) }
+    ensures word { result ≡ 2 → Gets (stream (E.written err.old) (E.faults err.old))
+        (stream (E.written err.new) (E.faults err.new)) (line_of_word number) }
+    ensures memory { result ≡ 6 → Gets (stream (E.written err.old) (E.faults err.old))
+        (stream (E.written err.new) (E.faults err.new)) (ending_line 6) }
+{
+    match word_line(alloc, number) {
+        Ok(line) => {
+            tell(err, line.as_slice());
+            2
+        }
+        Err(_) => starve(err),
+    }
+}
+
 /// Does what the words ask for, and answers the status.
 ///
 /// `words` are the program's words without its own name. Files are read by their names, `out` gets
-/// the output and `err` the line of a refusal or a fault. `input` is not used yet. `steps` counts
+/// the output and `err` the line of a refusal or a fault. `input` is left as it is. `steps` counts
 /// what the session counts; the plain engine counts nothing.
 ///
 /// Statuses: 0 done; 1 done, and a scenario has a row that is neither agree nor near; 2 the words
@@ -158,42 +116,55 @@ pub fn run<F: Files, I: Source, O: Sink, E: Sink, L: Ledger>(
     alloc: Global,
     words: &[String],
     files: &mut F,
-    _input: &mut I,
+    input: &mut I,
     out: &mut O,
     err: &mut E,
     steps: &mut Steps<L>,
 ) -> u8
-    requires few { length words.now < 2 ^ 31 }
     ensures statuses { result ≤ 6 }
     // The headline: the status, the output and the line are those of the outcome; a line that
-    // answers a query is that of a right reply, on the grid as the edits before it leave it.
-    ensures outcome { result ≤ 3 → Comes (map string_bytes words.now) (F.holds files.old) result
-        (O.written out.old) (O.written out.new) (E.written err.old) (E.written err.new) (E.faults err.old)
-        (E.faults err.new) }
-    // A read fault has its cause: the count of a file that the words name rose. Nothing was written.
-    ensures read { result ≡ 4 → FileRose (map string_bytes words.now) (F.faults files.old)
-        (F.faults files.new) × Appends (O.written out.old) (O.written out.new) [] }
-    // A write fault has its cause, and a first part of a right output was written.
-    ensures write { result ≡ 5 → Rose (O.faults out.old) (O.faults out.new) × HasPart
-        (map string_bytes words.now) (F.holds files.old) (O.written out.old) (O.written out.new) }
-    // On want of memory whole lines were written, the first ones of a right output, or nothing.
-    ensures memory { result ≡ 6 → HasLines (map string_bytes words.now) (F.holds files.old)
-        (O.written out.old) (O.written out.new) }
-    ensures line { 4 ≤ result → Gets (E.written err.old) (E.written err.new) (E.faults err.old)
-        (E.faults err.new) (ending_line result) }
+    // answers a query is that of a right reply, which is that of the run of the picked engine, on
+    // the grid as the edits before it leave it.
+    ensures outcome { result ≤ 3 → Comes (map string_bytes words.now)
+        (seen (F.holds files.old) (F.faults files.old) (O.written out.old) (O.faults out.old))
+        (seen (F.holds files.new) (F.faults files.new) (O.written out.new) (O.faults out.new))
+        (stream (E.written err.old) (E.faults err.old)) (stream (E.written err.new) (E.faults err.new)) result }
+    // A read fault has its cause: the count of a file rose that the words name and that there was
+    // reason to read, as the files before it were accepted. Nothing was written.
+    ensures read { result ≡ 4 → NamedRose (map string_bytes words.now)
+        (seen (F.holds files.old) (F.faults files.old) (O.written out.old) (O.faults out.old))
+        (seen (F.holds files.new) (F.faults files.new) (O.written out.new) (O.faults out.new)) }
+    ensures nothing { result ≡ 4 → WroteNothing
+        (seen (F.holds files.old) (F.faults files.old) (O.written out.old) (O.faults out.old))
+        (seen (F.holds files.new) (F.faults files.new) (O.written out.new) (O.faults out.new)) }
+    // A write fault has its cause, and a first part of a whole right output was written.
+    ensures write { result ≡ 5 → Rose (O.faults out.old) (O.faults out.new) }
+    ensures part { result ≡ 5 → HasPart (map string_bytes words.now)
+        (seen (F.holds files.old) (F.faults files.old) (O.written out.old) (O.faults out.old))
+        (seen (F.holds files.new) (F.faults files.new) (O.written out.new) (O.faults out.new)) }
+    // On want of memory the first lines of a whole right output were written, or nothing.
+    ensures memory { result ≡ 6 → HasLines (map string_bytes words.now)
+        (seen (F.holds files.old) (F.faults files.old) (O.written out.old) (O.faults out.old))
+        (seen (F.holds files.new) (F.faults files.new) (O.written out.new) (O.faults out.new)) }
+    ensures line { 4 ≤ result → Gets (stream (E.written err.old) (E.faults err.old))
+        (stream (E.written err.new) (E.faults err.new)) (ending_line result) }
     // Where no count rose, the status is an outcome's or that of want of memory.
-    ensures complete { ¬ FileRose (map string_bytes words.now) (F.faults files.old) (F.faults files.new)
+    ensures complete { ¬ NamedRose (map string_bytes words.now)
+        (seen (F.holds files.old) (F.faults files.old) (O.written out.old) (O.faults out.old))
+        (seen (F.holds files.new) (F.faults files.new) (O.written out.new) (O.faults out.new))
         → ¬ Rose (O.faults out.old) (O.faults out.new) → (result ≤ 3) ⊎ (result ≡ 6) }
     ensures unchanged { F.holds files.new ≡ F.holds files.old }
+    // Nothing is taken from the input.
+    ensures input_stays { I.left input.new ≡ I.left input.old }
 {
-    match work(alloc, words, files, out, steps) {
+    let (request, settings) = match read_words(words) {
+        Ok(call) => call,
+        Err(bad) => return refuse_word(alloc, bad.0, err),
+    };
+    match work(alloc, request, settings, files, out, steps) {
         Ok(status) => {
             tell(err, b"");
             status
-        }
-        Err(Stop::Words(line)) => {
-            tell(err, line.as_slice());
-            2
         }
         Err(Stop::Text(line)) => {
             tell(err, line.as_slice());
@@ -207,9 +178,21 @@ pub fn run<F: Files, I: Source, O: Sink, E: Sink, L: Ledger>(
             tell(err, b"jps: write\n");
             5
         }
-        Err(Stop::Memory) => {
-            tell(err, b"jps: memory\n");
-            6
-        }
+        Err(Stop::Memory) => starve(err),
     }
+}
+
+/// Refuses a list of words of which some are no text, and answers the status.
+///
+/// `before` are the words before the first one that is no text. Statuses: 2, or 6 where memory was
+/// refused.
+pub fn refuse<E: Sink>(alloc: Global, before: &[String], err: &mut E) -> u8
+    ensures statuses { (result ≡ 2) ⊎ (result ≡ 6) }
+    // The line names the first word with which no call begins; the word that is no text is none's.
+    ensures word { result ≡ 2 → Names (map string_bytes before.now)
+        (stream (E.written err.old) (E.faults err.old)) (stream (E.written err.new) (E.faults err.new)) }
+    ensures memory { result ≡ 6 → Gets (stream (E.written err.old) (E.faults err.old))
+        (stream (E.written err.new) (E.faults err.new)) (ending_line 6) }
+{
+    refuse_word(alloc, first_bad(before), err)
 }

@@ -1,6 +1,6 @@
 -- A line that spells a command is read as it, and the other way round.
 use Rattle.std.proofs.Common.{◌≡◌, ◌≤◌, ℕ, true, false, cond, ltb, List, [], ◌∷◌, length, map, Option, Some, None, refl, ap, subst, ◌∙◌, ◌⊎◌, inl, inr}
-use Rattle.std.specs.Prelude.{codes}
+use Rattle.std.specs.Prelude.{codes, if◌then◌else◌}
 use Rattle.std.specs.Option.{option_map, option_and_then, is_some}
 use Rattle.std.specs.Str.{bytes_eq}
 use Rattle.std.proofs.lemmas.Bool.{cases_Bool, le-ltb, ltb-false}
@@ -9,9 +9,9 @@ use Rattle.text_line.specs.Lines.{without_cr}
 use Rattle.text_line.specs.Fields.{fields_of, is_nothing, is_blank}
 use Rattle.text_line.specs.Numbers.{number_of}
 use Rattle.script_text.specs.declared.command.Command.{Command}
-use Rattle.script_text.specs.declared.command.Command.TheVariants.{Block, Free, Query}
+use Rattle.script_text.specs.declared.command.Command.TheVariants.{Block, Free, Flood, Query}
 use Rattle.script_text.specs.declared.fault.ScriptFault.TheVariants.{Line}
-use Rattle.script_text.specs.Spelling.{SpellsCommand}
+use Rattle.script_text.specs.Spelling.{Names, SpellsCommand}
 use Rattle.script_text.specs.Lines.{two_numbers, four_numbers, command_in, command_on, fault_on}
 
 two_of : (digits : List (List ℕ)) (x y : ℕ) → map number_of digits ≡ Some x ∷ Some y ∷ []
@@ -73,56 +73,68 @@ pub spelled_command : (line : List ℕ) (command : Command) → SpellsCommand li
     → command_in (fields_of line) ≡ Some command
 spelled_command line (Block x y) s = rw (s.fields, two_of s.digits x y s.values) refl
 spelled_command line (Free x y) s = rw (s.fields, two_of s.digits x y s.values) refl
+spelled_command line (Flood x y) s = rw (s.fields, two_of s.digits x y s.values) refl
 spelled_command line (Query sx sy gx gy) s = rw (s.fields, four_of s.digits sx sy gx gy s.values) refl
 
 -- what is read as a command spells it
-read_command : (line : List ℕ) (fields : List (List ℕ)) (command : Command) → fields_of line ≡ fields
-    → command_in fields ≡ Some command → SpellsCommand line command
-read_command line [] command are is = absurd cc
-read_command line (word ∷ digits) command are is =
-    elim (cases_Bool (bytes_eq word (codes "block"))) [
-      | inl block ↦
-          let p = made (λ (p : ℕ × ℕ). Block p.0 p.1) (two_numbers digits) command (rw block at is) in
-          subst (SpellsCommand line) p.2
-          (record {
-            digits = digits;
-            fields = named (codes "block") block;
-            values = two_named
-                digits p.0 p.1;
-          })
-      | inr not_block ↦ elim (cases_Bool (bytes_eq word (codes "free"))) [
-        | inl free ↦
-            let p = made (λ (p : ℕ × ℕ). Free p.0 p.1) (two_numbers digits) command
-            (rw (not_block, free) at is) in
+module _ (line word : List ℕ) (digits : List (List ℕ)) (are : fields_of line ≡ word ∷ digits) where
+  named : (name : List ℕ) → bytes_eq word name ≡ true → fields_of line ≡ name ∷ digits
+  named name same = are ∙ ap (λ (first : List ℕ). first ∷ digits) ((bytes_eq-Decides word name).0 same)
+
+  -- a word and two numbers
+  two_read : (name : List ℕ) → bytes_eq word name ≡ true → (f : ℕ → ℕ → Command)
+      → ((x y : ℕ) → Names name (x ∷ y ∷ []) line → SpellsCommand line (f x y)) → (command : Command)
+      → option_map (λ p. f p.0 p.1) (two_numbers digits) ≡ Some command → SpellsCommand line command
+  two_read name same f spells command is =
+      let p = made (λ (p : ℕ × ℕ). f p.0 p.1) (two_numbers digits) command is in
+      subst (SpellsCommand line) p.2 (spells p.0.0 p.0.1
+      (record { digits = digits; fields = named name same; values = two_named digits p.0 p.1 }))
+
+  read_command : (command : Command) → command_in (word ∷ digits) ≡ Some command → SpellsCommand line command
+  read_command command is = elim (cases_Bool (bytes_eq word (codes "block"))) [
+    | inl same ↦ two_read (codes "block") same Block (λ x y names. names) command (rw same at is)
+    | inr other ↦ no_block (rw other at is)
+  ]
+    where
+      no_flood : (if bytes_eq word (codes "query")
+          then option_map (λ p. Query p.0 p.1 p.2 p.3) (four_numbers digits) else None) ≡ Some command
+          → SpellsCommand line command
+      no_flood is = elim (cases_Bool (bytes_eq word (codes "query"))) [
+        | inl query ↦
+            let p = made (λ (p : ℕ × ℕ × ℕ × ℕ). Query p.0 p.1 p.2 p.3) (four_numbers digits) command
+            (rw query at is) in
             subst (SpellsCommand line) p.2
-            (record {
-              digits = digits;
-              fields = named (codes "free") free;
-              values = two_named
-                  digits p.0 p.1;
-            })
-        | inr not_free ↦ elim (cases_Bool (bytes_eq word (codes "query"))) [
-          | inl query ↦
-              let p = made (λ (p : ℕ × ℕ × ℕ × ℕ). Query p.0 p.1 p.2 p.3) (four_numbers digits) command
-              (rw (not_block, not_free, query) at is) in
-              subst (SpellsCommand line) p.2
-              (record {
-                digits = digits;
-                fields = named (codes "query") query;
-                values = four_named
-                    digits p.0 p.1;
-              })
-          | inr not_query ↦ absurd (cc (rw (not_block, not_free, not_query) at is))
-        ]
+            (record { digits = digits; fields = named (codes "query") query; values = four_named digits p.0 p.1 })
+        | inr other ↦ absurd (cc (rw other at is))
       ]
-    ]
-  where
-    named : (name : List ℕ) → bytes_eq word name ≡ true → fields_of line ≡ name ∷ digits
-    named name same = are ∙ ap (λ (first : List ℕ). first ∷ digits) ((bytes_eq-Decides word name).0 same)
+
+      no_free : (if bytes_eq word (codes "flood") then option_map (λ p. Flood p.0 p.1) (two_numbers digits)
+          else if bytes_eq word (codes "query") then
+          option_map (λ p. Query p.0 p.1 p.2 p.3) (four_numbers digits) else None) ≡ Some command
+          → SpellsCommand line command
+      no_free is = elim (cases_Bool (bytes_eq word (codes "flood"))) [
+        | inl same ↦ two_read (codes "flood") same Flood (λ x y names. names) command (rw same at is)
+        | inr other ↦ no_flood (rw other at is)
+      ]
+
+      no_block : (if bytes_eq word (codes "free") then option_map (λ p. Free p.0 p.1) (two_numbers digits)
+          else if bytes_eq word (codes "flood") then option_map (λ p. Flood p.0 p.1) (two_numbers digits)
+          else if bytes_eq word (codes "query") then
+          option_map (λ p. Query p.0 p.1 p.2 p.3) (four_numbers digits) else None) ≡ Some command
+          → SpellsCommand line command
+      no_block is = elim (cases_Bool (bytes_eq word (codes "free"))) [
+        | inl same ↦ two_read (codes "free") same Free (λ x y names. names) command (rw same at is)
+        | inr other ↦ no_free (rw other at is)
+      ]
 
 pub command_spelled : (line : List ℕ) (command : Command) → command_in (fields_of line) ≡ Some command
     → SpellsCommand line command
-command_spelled line command is = read_command line (fields_of line) command refl is
+command_spelled line command is = of_fields (fields_of line) refl is
+  where
+    of_fields : (fields : List (List ℕ)) → fields_of line ≡ fields → command_in fields ≡ Some command
+        → SpellsCommand line command
+    of_fields [] are is = absurd cc
+    of_fields (word ∷ digits) are is = read_command line word digits are command is
 
 -- a blank line is no command
 blank_fields : (fields : List (List ℕ)) → is_nothing fields ≡ true → command_in fields ≡ None

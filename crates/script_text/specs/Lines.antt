@@ -6,7 +6,7 @@ use Rattle.text_line.specs.Lines.{without_cr}
 use Rattle.text_line.specs.Fields.{fields_of, is_blank}
 use Rattle.text_line.specs.Numbers.{number_of}
 use Rattle.script_text.specs.declared.command.Command.{Command}
-use Rattle.script_text.specs.declared.command.Command.TheVariants.{Block, Free, Query}
+use Rattle.script_text.specs.declared.command.Command.TheVariants.{Block, Free, Flood, Query}
 use Rattle.script_text.specs.declared.fault.ScriptFault.{ScriptFault}
 use Rattle.script_text.specs.declared.fault.ScriptFault.TheVariants.{Line, Long}
 
@@ -28,6 +28,7 @@ command_in [] = None
 command_in (word ∷ digits) =
     if bytes_eq word (codes "block") then option_map (λ p. Block p.0 p.1) (two_numbers digits)
     else if bytes_eq word (codes "free") then option_map (λ p. Free p.0 p.1) (two_numbers digits)
+    else if bytes_eq word (codes "flood") then option_map (λ p. Flood p.0 p.1) (two_numbers digits)
     else if bytes_eq word (codes "query") then option_map (λ p. Query p.0 p.1 p.2 p.3) (four_numbers digits)
     else None
 

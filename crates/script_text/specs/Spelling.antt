@@ -5,7 +5,7 @@ use Rattle.text_line.specs.Lines.{pieces_of, lines_of}
 use Rattle.text_line.specs.Fields.{fields_of, is_blank}
 use Rattle.text_line.specs.Numbers.{number_of}
 use Rattle.script_text.specs.declared.command.Command.{Command}
-use Rattle.script_text.specs.declared.command.Command.TheVariants.{Block, Free, Query}
+use Rattle.script_text.specs.declared.command.Command.TheVariants.{Block, Free, Flood, Query}
 
 -- the fields of a line are the word and numbers of these values
 pub record Names (word numbers line : List ℕ) : Type 0 where
@@ -17,6 +17,7 @@ pub record Names (word numbers line : List ℕ) : Type 0 where
 abbrev pub SpellsCommand : List ℕ → Command → Type 0
 SpellsCommand line (Block x y) = Names (codes "block") (x ∷ y ∷ []) line
 SpellsCommand line (Free x y) = Names (codes "free") (x ∷ y ∷ []) line
+SpellsCommand line (Flood x y) = Names (codes "flood") (x ∷ y ∷ []) line
 SpellsCommand line (Query sx sy gx gy) = Names (codes "query") (sx ∷ sy ∷ gx ∷ gy ∷ []) line
 
 -- each line spells the command at its place, and there are no others

@@ -1,15 +1,15 @@
 -- Worked rows of the grammar, by computing.
 use Rattle.std.specs.Prelude.{◌≡◌, [], ◌∷◌, ◌++◌, codes, replicate, refl, Ok, Err}
-use Rattle.script_text.specs.declared.command.Command.TheVariants.{Block, Free, Query}
+use Rattle.script_text.specs.declared.command.Command.TheVariants.{Block, Free, Flood, Query}
 use Rattle.script_text.specs.declared.fault.ScriptFault.TheVariants.{Line, Long}
 use Rattle.script_text.specs.Faults.{script_of}
 use Rattle.text_line.specs.Numbers.{number_of}
 
 -- blank lines, tabs, carriage returns and leading zeros are read over, and the last line needs no line feed
-pub three_commands : script_of (codes "query 0 1 2 1\r\n\n\tblock  1 01 \n \nfree 1 1") ≡ Ok
-    (Query 0 1 2 1 ∷ Block 1 1 ∷ Free 1 1 ∷ [])
+pub four_commands : script_of (codes "query 0 1 2 1\r\n\n\tblock  1 01 \n \nfree 1 1\nflood 2 1") ≡ Ok
+    (Query 0 1 2 1 ∷ Block 1 1 ∷ Free 1 1 ∷ Flood 2 1 ∷ [])
 unfolding script_of number_of
-three_commands = refl
+four_commands = refl
 
 pub empty_text : script_of [] ≡ Ok []
 unfolding script_of

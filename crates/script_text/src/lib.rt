@@ -6,6 +6,7 @@
 //! query 0 1 2 1
 //! block 1 1
 //! free 1 1
+//! flood 1 1
 //! ```
 //!
 //! A line has at most 128 bytes before its line feed, a carriage return counted, and a number 1 to 9

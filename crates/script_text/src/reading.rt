@@ -86,6 +86,10 @@ fn command_of(word: &[u8], fields: Fields<'_>) -> Option<Command>
             let (x, y) = two_numbers(fields)?;
             Some(Command::Free { x, y })
         }
+        b"flood" => {
+            let (x, y) = two_numbers(fields)?;
+            Some(Command::Flood { x, y })
+        }
         b"query" => {
             let (sx, sy, gx, gy) = four_numbers(fields)?;
             Some(Command::Query { sx, sy, gx, gy })

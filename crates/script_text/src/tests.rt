@@ -9,11 +9,11 @@ fn blank(alloc: Global, spaces: usize, ending: &[u8]) -> Result<Vec<u8>, AllocEr
     Ok(text)
 }
 
-// The commands are those of a script that blocks and frees one cell between queries.
+// The commands are those of a script that blocks, frees and floods one cell between queries.
 #[test]
 fn commands_are_read_in_order(rt: HostRuntime) -> Result<(), Fail> {
     let text =
-        b"query 0 1 2 1\nblock 1 1\nquery 0 1 2 1\nfree 1 1\n\tfree  01 1\r\n\nquery 0 1 2 1\nblock 3 0";
+        b"query 0 1 2 1\nblock 1 1\nquery 0 1 2 1\nfree 1 1\n\tflood  01 1\r\n\nquery 0 1 2 1\nblock 3 0";
     assert!(rt; text.len() < 200);
     let commands = read_script(rt.alloc(), text)?;
     let query = Command::Query {
@@ -23,9 +23,10 @@ fn commands_are_read_in_order(rt: HostRuntime) -> Result<(), Fail> {
         gy: 1,
     };
     let free = Command::Free { x: 1, y: 1 };
+    let flood = Command::Flood { x: 1, y: 1 };
     let block = Command::Block { x: 1, y: 1 };
     let outside = Command::Block { x: 3, y: 0 };
-    let wanted = [query, block, query, free, free, query, outside];
+    let wanted = [query, block, query, free, flood, query, outside];
     assert_eq!(rt; commands.as_slice(), wanted.as_slice());
     Ok(())
 }

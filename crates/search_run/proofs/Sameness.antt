@@ -4,7 +4,8 @@ use Rattle.std.specs.Prelude.{Option, Some, None, nat_eq, nat_lt}
 use Rattle.std.proofs.lemmas.Bool.Decides.{nat_tests}
 use Rattle.root2_cost.specs.declared.Cost.{Cost}
 use Rattle.root2_cost.proofs.AtMost.{IsAtMost-antisymmetric}
-use Rattle.search_run.specs.Run.{Rule, Taken, Offer, IsNext, IsRun, HasEnded, least_offer, sum_at}
+use Rattle.search_run.specs.Run.{Rule, Taken, Offer, IsNext, IsRun, least_offer, sum_at}
+use Rattle.search_run.specs.Ended.{IsEnded}
 use Rattle.search_run.specs.Laws.{NumbersTellStates}
 use Rattle.search_run.proofs.Leastness.{least_offer-from, or_false}
 
@@ -97,7 +98,7 @@ module _ {S : Type 0} (r : Rule S) (tell : NumbersTellStates r) where
     ]
 
     -- an ended run is extended by itself alone
-    ended_same : (one other : List (Taken S)) → IsRun r start one → IsRun r start other → HasEnded r one
+    ended_same : (one other : List (Taken S)) → IsRun r start one → IsRun r start other → IsEnded r one
         → Extends one other → one ≡ other
     ended_same [] other is also end e = absurd is
     ended_same (x ∷ earlier) other is also end e = elim (above (x ∷ earlier) other e) [
@@ -105,15 +106,15 @@ module _ {S : Type 0} (r : Rule S) (tell : NumbersTellStates r) where
       | inr z ↦ absurd (goes_no_further z.0 (part_run z.0 (x ∷ earlier) other z.1 also) end)
     ]
       where
-        goes_no_further : (z : Taken S) → IsRun r start (z ∷ x ∷ earlier) → HasEnded r (x ∷ earlier) → ⊥
+        goes_no_further : (z : Taken S) → IsRun r start (z ∷ x ∷ earlier) → IsEnded r (x ∷ earlier) → ⊥
         goes_no_further z on (inl g) = let n = on.1 in cc
         goes_no_further z on (inr none) =
             let o : Offer S = record { cost = z.cost; from = z.parent } in
             let e : Some o ≡ None = sym on.2.offered ∙ none z.state on.2.waits in
             cc
 
-    pub ended_runs : (one other : List (Taken S)) → IsRun r start one → IsRun r start other → HasEnded r one
-        → HasEnded r other → one ≡ other
+    pub ended_runs : (one other : List (Taken S)) → IsRun r start one → IsRun r start other → IsEnded r one
+        → IsEnded r other → one ≡ other
     ended_runs one other is also end both = elim (nested one other is also) [
       | inl e ↦ ended_same one other is also end e
       | inr e ↦ sym (ended_same other one also is both e)

@@ -3,7 +3,8 @@ use Rattle.std.specs.Prelude.{◌≡◌, true, false, List, ◌∷◌, Some}
 use Rattle.root2_cost.specs.declared.Cost.{Cost}
 use Rattle.root2_cost.specs.Order.{IsLess, IsAtMost}
 use Rattle.root2_cost.specs.Sums.{add_costs}
-use Rattle.search_run.specs.Run.{Rule, Taken, IsIn, IsRun, NoneWaits, HasEnded, has_goal, is_taken, least_offer, sum_at}
+use Rattle.search_run.specs.Run.{Rule, Taken, IsIn, IsRun, NoneWaits, has_goal, is_taken, least_offer, sum_at}
+use Rattle.search_run.specs.Ended.{IsEnded}
 use Rattle.search_run.specs.Chain.{Chain, IsConsistent}
 
 -- numbers tell apart the states that links lead to
@@ -57,4 +58,4 @@ ParentsOffersStand S =
 abbrev pub EndedRunsAreOne : Type 0 → Type 0
 EndedRunsAreOne S =
     (r : Rule S) → NumbersTellStates r → (start : S) (one other : List (Taken S)) → IsRun r start one
-    → IsRun r start other → HasEnded r one → HasEnded r other → one ≡ other
+    → IsRun r start other → IsEnded r one → IsEnded r other → one ≡ other

@@ -98,7 +98,3 @@ way_to r (x ∷ earlier) s =
 pub data IsIn {S : Type 0} (u : Taken S) : List (Taken S) → Type 0 where
   here : (earlier : List (Taken S)) → IsIn u (u ∷ earlier)
   there : (x : Taken S) (earlier : List (Taken S)) → IsIn u earlier → IsIn u (x ∷ earlier)
-
--- the run goes no further: it took a goal, or no state waits
-abbrev pub HasEnded : {S : Type 0} → Rule S → List (Taken S) → Type 0
-HasEnded r run = (has_goal r run ≡ true) ⊎ NoneWaits r run

@@ -1,3 +1,4 @@
-pub mod Choices
-pub mod Forms
 pub mod Rules
+pub mod Settled
+pub mod Fitted
+pub mod Calls

@@ -1,34 +1,71 @@
--- A list has one bad word.
-use Rattle.std.proofs.Common.{◌≡◌, ℕ, ◌<◌, List, Result, Ok, Err, Some, subst, arith}
-use Rattle.std.specs.Prelude.{IsErrAnd}
-use Rattle.word_list.specs.declared.request.Request.{Request}
-use Rattle.word_list.specs.declared.request.BadWord.{BadWord}
-use Rattle.word_list.specs.Request.{asked}
-use Rattle.word_list.specs.Form.{Form, any_request, asked_by}
-use Rattle.word_list.specs.Rule.{IsBadWord}
-use Rattle.word_list.specs.Left.{Left, NamesBad, Tells}
+-- Where accepted lists stop, and that a list has one bad word.
+use Rattle.std.proofs.Common.{◌≡◌, ℕ, suc, ◌<◌, ◌≤◌, Bool, true, false, List, [], ◌∷◌, ◌++◌, length, take, drop, refl, sym, ap, ◌∙◌, append_assoc, arith}
+use Rattle.std.proofs.lemmas.List.{append-nil, take-append-drop, take-take}
+use Rattle.word_list.specs.Rule.{Begins, EndsAfter, StopsAt}
 
 -- no other number is smaller
-not_below : (form : Form) (words : List (List ℕ)) (one other : ℕ) → IsBadWord form words one
-    → IsBadWord form words other → one < other → ⊥
-not_below form words one other is also below = is.here (omega (arith, also.within)) (also.least one below)
+not_below : (accepts : List (List ℕ) → Bool) (words : List (List ℕ)) (one other : ℕ)
+    → StopsAt accepts words one → StopsAt accepts words other → one < other → ⊥
+not_below accepts words one other is also below =
+    is.here (omega (arith, also.within)) (also.least one below)
 
-pub one_bad_word : (form : Form) (words : List (List ℕ)) (one other : ℕ) → IsBadWord form words one
-    → IsBadWord form words other → one ≡ other
-one_bad_word form words one other is also =
-    let over = not_below form words one other is also in
-    let under = not_below form words other one also is in
+pub one_stop : (accepts : List (List ℕ) → Bool) (words : List (List ℕ)) (one other : ℕ)
+    → StopsAt accepts words one → StopsAt accepts words other → one ≡ other
+one_stop accepts words one other is also =
+    let over = not_below accepts words one other is also in
+    let under = not_below accepts words other one also is in
     omega (arith, over, under)
 
--- the answer for all the words, where they have a bad word
-pub refused_by : (left : Left) (words : List (List ℕ)) (answer : Result Request BadWord) (number : ℕ)
-    → left ≡ record { words = words; number = 1 } → Tells any_request left answer
-    → IsBadWord any_request words number → IsErrAnd answer (λ bad. bad.0 ≡ number)
-refused_by left words (Ok request) number all tells bad =
-    let told : asked_by any_request words ≡ Some (asked request) =
-    subst (λ (l : Left). asked_by any_request l.words ≡ Some (asked request)) all tells.told in
-    cc (bad.refused)
-refused_by left words (Err b) number all tells bad =
-    let told : NamesBad any_request (record { words = words; number = 1 }) b.0 =
-    subst (λ (l : Left). NamesBad any_request l b.0) all tells.told in
-    omega (arith, told.counted, one_bad_word any_request words told.count number told.bad bad)
+module _ (accepts : List (List ℕ) → Bool) where
+  -- with fewer words too
+  begins_less : (words : List (List ℕ)) (k count : ℕ) → k ≤ count
+      → Begins accepts (take count words) → Begins accepts (take k words)
+  begins_less words k count below found =
+      let joined : take k words ++ drop k (take count words) ≡ take count words =
+      ap (λ (front : List (List ℕ)). front ++ drop k (take count words)) (sym (take-take k count words below))
+      ∙ take-append-drop k (take count words) in (
+        drop k (take count words) ++ found.0,
+        ap accepts (sym (append_assoc (take k words) (drop k (take count words)) found.0)
+            ∙ ap (λ (front : List (List ℕ)). front ++ found.0) joined) ∙ found.1,
+      )
+
+  pub stops_behind : (words : List (List ℕ)) (count : ℕ) → EndsAfter accepts words count
+      → StopsAt accepts words (suc count)
+  stops_behind words count after = record {
+    least = λ k below. begins_less words k count (omega arith) after.begins;
+    within = omega (arith, after.within);
+    here = λ inside. after.ends (omega arith);
+  }
+
+  -- a list whose first word is wrong, or absent
+  pub ends_at_once : (words : List (List ℕ)) → Begins accepts []
+      → (0 < length words → ¬ Begins accepts (take 1 words)) → EndsAfter accepts words 0
+  ends_at_once words some none = record { begins = some; within = omega arith; ends = none }
+
+  -- a list that goes on with another after a word
+  pub ends_later : (next : List (List ℕ) → Bool) (word : List ℕ) (words : List (List ℕ)) (count : ℕ)
+      → ((more : List (List ℕ)) → accepts (word ∷ more) ≡ next more)
+      → EndsAfter next words count → EndsAfter accepts (word ∷ words) (suc count)
+  ends_later next word words count goes_on after = record {
+    begins = (after.begins.0, goes_on (take count words ++ after.begins.0) ∙ after.begins.1);
+    within = omega (arith, after.within);
+    ends = λ inside found. after.ends (omega arith)
+        (found.0, sym (goes_on (take (suc count) words ++ found.0)) ∙ found.1);
+  }
+
+  -- a test that the beginning of each list which meets it meets too
+  module _ (front : (ys xs : List (List ℕ)) → accepts (xs ++ ys) ≡ true → accepts xs ≡ true)
+      (words : List (List ℕ)) (count : ℕ) (wrong : accepts (take (suc count) words) ≡ false) where
+    pub refused_there : accepts words ≡ false
+    refused_there = elim (accepts words) as (λ b. accepts words ≡ b → accepts words ≡ false) [
+      | true ↦ λ right. let first = front (drop (suc count) words) (take (suc count) words)
+          (ap accepts (take-append-drop (suc count) words) ∙ right) in cc (first, wrong)
+      | false ↦ λ no. no
+    ] refl
+
+    pub ends_there : count < length words → accepts (take count words) ≡ true → EndsAfter accepts words count
+    ends_there inside right = record {
+      begins = ([], rw append-nil right);
+      within = omega arith;
+      ends = λ more found. let first = front found.0 (take (suc count) words) found.1 in cc (first, wrong);
+    }

@@ -1,6 +1,7 @@
 pub mod Request
 pub mod Settings
-pub mod Form
+pub mod Rows
+pub mod Calls
 pub mod Rule
-pub mod Left
+pub mod Steps
 pub mod Worked

@@ -1,7 +1,6 @@
 -- What a list of words may ask for.
 use Rattle.std.specs.Prelude.{ℕ, List}
-use Rattle.word_list.specs.declared.request.Pick.{Pick}
-use Rattle.word_list.specs.declared.request.Show.{Show}
+use Rattle.word_list.specs.declared.request.Settings.{Settings}
 use Rattle.word_list.specs.declared.request.Request.{Request}
 use Rattle.word_list.specs.declared.request.Request.TheVariants as request
 
@@ -9,14 +8,23 @@ use Rattle.word_list.specs.declared.request.Request.TheVariants as request
 pub data Asked : Type 0 where
   Help : Asked
   Version : Asked
-  Query : (map : List ℕ) (sx sy gx gy : ℕ) (pick : Pick) (show : Show) → Asked
-  Solve : (map script : List ℕ) (pick : Pick) → Asked
-  Scen : (map scen : List ℕ) (pick : Pick) → Asked
+  Query : (map : List ℕ) (sx sy gx gy : ℕ) → Asked
+  Solve : (map script : List ℕ) → Asked
+  Scen : (map scen : List ℕ) → Asked
 
 -- what a request asks for
 abbrev pub asked : Request → Asked
 asked request.Help = Help
 asked request.Version = Version
-asked (request.Query map sx sy gx gy pick show) = Query map.now sx sy gx gy pick show
-asked (request.Solve map script pick) = Solve map.now script.now pick
-asked (request.Scen map scen pick) = Scen map.now scen.now pick
+asked (request.Query map sx sy gx gy) = Query map.now sx sy gx gy
+asked (request.Solve map script) = Solve map.now script.now
+asked (request.Scen map scen) = Scen map.now scen.now
+
+-- a request and how it is to be done
+pub record Call : Type 0 where
+  pub request : Asked
+  pub settings : Settings
+
+-- the call that was read
+abbrev pub called : Request → Settings → Call
+called request settings = record { request = asked request; settings = settings }

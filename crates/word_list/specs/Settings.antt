@@ -1,15 +1,13 @@
 -- The settings that may follow a command's other words.
-use Rattle.std.specs.Prelude.{ℕ, Bool, true, false, List, nat_le, ◌&&◌, if◌then◌else◌, bytes_eq, codes, slice_get, count_by, Option, Some, None}
-use Rattle.std.specs.List.{list_all, list_any, filter_map}
-use Rattle.word_list.specs.declared.request.Pick.{Pick}
+use Rattle.std.specs.Prelude.{ℕ, Bool, true, false, List, [], ◌∷◌, not, ◌&&◌, if◌then◌else◌, bytes_eq, codes, Option, Some, None}
+use Rattle.std.specs.List.{list_all, list_any, fold}
 use Rattle.word_list.specs.declared.request.Pick.TheVariants.{Plain}
-use Rattle.word_list.specs.declared.request.Show.{Show}
-use Rattle.word_list.specs.declared.request.Show.TheVariants.{Points, Cells}
+use Rattle.word_list.specs.declared.request.Show.TheVariants.{Points, Cells, Trace}
+use Rattle.word_list.specs.declared.request.Settings.{Settings}
 use Rattle.word_list.specs.declared.settings.Setting.{Setting}
 use Rattle.word_list.specs.declared.settings.Setting.TheVariants as setting
 use Rattle.word_list.specs.declared.settings.Choice.{Choice}
 use Rattle.word_list.specs.declared.settings.Choice.TheVariants as choice
-use Rattle.word_list.specs.declared.settings.Settings.{Settings}
 
 -- the setting that a word spells, if it spells one
 abbrev pub setting_of : List ℕ → Option Setting
@@ -17,47 +15,60 @@ setting_of word =
     if bytes_eq word (codes "engine=plain") then Some (setting.Engine Plain)
     else if bytes_eq word (codes "show=points") then Some (setting.Show Points)
     else if bytes_eq word (codes "show=cells") then Some (setting.Show Cells)
+    else if bytes_eq word (codes "show=trace") then Some (setting.Show Trace)
+    else if bytes_eq word (codes "rule=none") then Some (setting.Rule false)
+    else if bytes_eq word (codes "rule=one") then Some (setting.Rule true)
     else None
 
 -- what a setting chooses
 abbrev pub choice_of : Setting → Choice
 choice_of (setting.Engine pick) = choice.Engine
 choice_of (setting.Show show) = choice.Show
+choice_of (setting.Rule one) = choice.Rule
 
 -- whether two choices are the same
 abbrev pub is_same : Choice → Choice → Bool
 is_same choice.Engine choice.Engine = true
 is_same choice.Show choice.Show = true
+is_same choice.Rule choice.Rule = true
 is_same one other = false
 
--- whether a setting makes this choice
-abbrev pub is_made_by : Option Setting → Choice → Bool
-is_made_by None choice = false
-is_made_by (Some setting) choice = is_same (choice_of setting) choice
+-- whether two settings can't stand together
+abbrev pub is_clash : Setting → Setting → Bool
+is_clash one other = is_same (choice_of one) (choice_of other)
 
--- whether each word is a setting whose choice is allowed, and no choice is made twice
+-- whether two words are settings that can't stand together
+abbrev pub are_clashing : Option Setting → Option Setting → Bool
+are_clashing (Some one) (Some other) = is_clash one other
+are_clashing one other = false
+
+-- whether a word is a setting of one of these choices
+abbrev pub is_allowed : List Choice → Option Setting → Bool
+is_allowed allows (Some setting) = list_any (is_same (choice_of setting)) allows
+is_allowed allows None = false
+
+-- whether no two of the elements, the earlier one first, meet the test
+abbrev pub no_two : {A : Type 0} → (A → A → Bool) → List A → Bool
+no_two test [] = true
+no_two test (x ∷ xs) = not (list_any (test x) xs) && no_two test xs
+
+-- whether each word is a setting that is allowed, and no two of them clash
 abbrev pub are_settings : List Choice → List (List ℕ) → Bool
-are_settings allowed words =
-    list_all (λ word. list_any (is_made_by (setting_of word)) allowed) words
-    && list_all (λ choice. nat_le (count_by (λ word. is_made_by (setting_of word) choice) words) 1) allowed
+are_settings allows words =
+    list_all (λ word. is_allowed allows (setting_of word)) words
+    && no_two (λ one other. are_clashing (setting_of one) (setting_of other)) words
 
--- which engine a setting picks
-abbrev pub pick_of : Option Setting → Option Pick
-pick_of (Some (setting.Engine pick)) = Some pick
-pick_of other = None
+-- the settings with one more word
+abbrev pub settings_with : Settings → Option Setting → Settings
+settings_with set (Some (setting.Engine pick)) = record { pick = pick; show = set.show; one = set.one }
+settings_with set (Some (setting.Show show)) = record { pick = set.pick; show = show; one = set.one }
+settings_with set (Some (setting.Rule one)) = record { pick = set.pick; show = set.show; one = one }
+settings_with set None = set
 
--- what a setting says to show
-abbrev pub show_of : Option Setting → Option Show
-show_of (Some (setting.Show show)) = Some show
-show_of other = None
-
--- what the first element that has an answer answers
-abbrev pub first_some : {A B : Type 0} → (A → Option B) → List A → Option B
-first_some answer xs = slice_get (filter_map answer xs) 0
+-- the settings of a call that is silent on them
+abbrev pub default_settings : Settings
+default_settings = record { pick = Plain; show = Points; one = false }
 
 -- what the words choose
-abbrev pub chosen : List (List ℕ) → Settings
-chosen words = record {
-  pick = first_some (λ word. pick_of (setting_of word)) words;
-  show = first_some (λ word. show_of (setting_of word)) words;
-}
+abbrev pub settings_of : List (List ℕ) → Settings
+settings_of words = fold (λ set word. settings_with set (setting_of word)) default_settings words

@@ -1,29 +1,30 @@
-//! The program's words and the request that they spell.
+//! The program's words and the call that they spell.
 //!
-//! A command's name is followed by the words that it asks for, and then by its settings, each at
-//! most once and in any order:
+//! A command's name is followed by the words that it takes, and then by settings, no two of which
+//! may clash, in any order:
 //!
 //! ```text
 //! --help
 //! --version
-//! query MAP SX SY GX GY [engine=plain] [show=points|show=cells]
-//! solve MAP SCRIPT [engine=plain]
-//! scen MAP SCEN [engine=plain]
+//! query MAP SX SY GX GY [engine=plain] [show=points|show=cells|show=trace] [rule=none|rule=one]
+//! solve MAP SCRIPT [engine=plain] [show=points|show=cells|show=trace] [rule=none|rule=one]
+//! scen MAP SCEN [engine=plain] [rule=none|rule=one]
 //! ```
 //!
-//! Names of files are any words, and numbers are 1 to 9 decimal digits. A list that is no request is
-//! refused at its first word with which no request can begin, or one word behind its end where only
+//! Names of files are any words, and numbers are 1 to 9 decimal digits. A list that is no call is
+//! refused at its first word with which no call can begin, or one word behind its end where only
 //! words are missing.
+//!
+//! A command has a row in `rows.rt`, a setting one in `settings.rt`.
 #![tactic(auto)]
 
-mod commands;
 mod reading;
 mod request;
+mod rows;
 mod settings;
-mod words_left;
 
-pub use reading::read_words;
-pub use request::{BadWord, Pick, Request, Show};
+pub use reading::{first_bad, read_words};
+pub use request::{BadWord, Pick, Request, Settings, Show};
 
 #[cfg(test)]
 mod tests;

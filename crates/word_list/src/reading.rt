@@ -1,102 +1,88 @@
-//! Reading a request from the words.
+//! Reading a call from the words.
 
-ghost use Rattle.std.specs.Prelude.{◌≡◌, ℕ, ◌<◌, ◌^◌, [], length, map, string_bytes, Some, IfOk, IfErr, IsOkAnd, IsErrAnd};
-ghost use Rattle.word_list.specs.declared.commands.Command.TheVariants as command;
-ghost use Rattle.word_list.specs.Request.{Asked, asked as asked_for};
-ghost use Rattle.word_list.specs.Form.{Last, asked_by, any_request, form_of};
-ghost use Rattle.word_list.specs.Rule.{IsBadWord};
-ghost use Rattle.word_list.specs.Left.{Tells};
+ghost use Rattle.std.specs.Prelude.{◌≡◌, ℕ, ◌≤◌, map, string_bytes, length, Some, IfOk, IfErr, IsOkAnd, IsErrAnd, OnOk, MatchResult};
+ghost use Rattle.word_list.specs.Request.{Call, called};
+ghost use Rattle.word_list.specs.Calls.{call_of, is_call};
+ghost use Rattle.word_list.specs.Rule.{IsBadWord, StopsAt};
+ghost use Rattle.word_list.specs.Rows.{row_data};
+ghost use Rattle.word_list.specs.Steps.{AreOf, ReadsAfter, RefusesAfter};
 
-use crate::commands::Command;
-use crate::request::{BadWord, Request};
-use crate::settings::Choice;
-use crate::words_left::WordsLeft;
+use crate::request::{BadWord, Request, Settings};
+use crate::rows::{Kind, Row, request, row_named};
+use crate::settings::read_settings;
 
-/// The request that the words spell, or the number of the word that no request has there.
-pub fn read_words(words: &[String]) -> Result<Request<'_>, BadWord>
-    requires { length words.now < 2 ^ 31 }
+/// The call that the words spell, or the number of the word that no call has there.
+pub fn read_words(words: &[String]) -> Result<(Request<'_>, Settings), BadWord>
     // What is read is spelled so.
-    ensures found { IfOk result (λ request.
-        asked_by any_request (map string_bytes words.now) ≡ Some (asked_for request)) }
+    ensures found { IfOk result (λ read.
+        call_of (map string_bytes words.now) ≡ Some (called read.0 read.1)) }
     // What is spelled so is read.
-    ensures only { (asked : Asked) → asked_by any_request (map string_bytes words.now) ≡ Some asked
-        → IsOkAnd result (λ request. asked_for request ≡ asked) }
+    ensures only { (call : Call) → call_of (map string_bytes words.now) ≡ Some call
+        → IsOkAnd result (λ read. called read.0 read.1 ≡ call) }
     // A refusal names the bad word.
-    ensures refused { IfErr result (λ bad. IsBadWord any_request (map string_bytes words.now) bad.0) }
+    ensures refused { IfErr result (λ bad. IsBadWord is_call (map string_bytes words.now) bad.0) }
     // A list with a bad word is refused by its number.
-    ensures named { (number : ℕ) → IsBadWord any_request (map string_bytes words.now) number
+    ensures named { (number : ℕ) → IsBadWord is_call (map string_bytes words.now) number
         → IsErrAnd result (λ bad. bad.0 ≡ number) }
 {
-    read(WordsLeft::of(words))
+    read(words)
 }
 
-/// The request that the words left spell.
-fn read(mut left: WordsLeft<'_>) -> Result<Request<'_>, BadWord>
-    ensures { Tells any_request left.entry result }
+/// The number of the first bad word where these words stand before one that no call has, as one that
+/// is no text.
+pub fn first_bad(words: &[String]) -> u32
+    ensures { StopsAt is_call (map string_bytes words.now) result }
 {
-    match left.command()? {
-        Command::Help => alone(left, Request::Help),
-        Command::Version => alone(left, Request::Version),
-        Command::Query => query(left),
-        Command::Solve => solve(left),
-        Command::Scen => scen(left),
+    match read(words) {
+        Ok(_) => words.len() as u32 + 1,
+        Err(bad) => bad.0,
     }
 }
 
-/// The request, where no word is left.
-#[tactic(auto, using(crate::proofs::Forms::settings_wrong))]
-fn alone<'a>(left: WordsLeft<'a>, request: Request<'a>) -> Result<Request<'a>, BadWord>
-    ensures { Tells (Last [] (λ none. asked_for request.entry)) left.entry result }
+/// The call that the words spell, or the number of the bad word.
+fn read(words: &[String]) -> Result<(Request<'_>, Settings), BadWord>
+    ensures few { OnOk result (length words.now ≤ 12) }
+    ensures told { MatchResult result
+        (λ read. call_of (map string_bytes words.now) ≡ Some (called read.0 read.1))
+        (λ bad. IsBadWord is_call (map string_bytes words.now) bad.0) }
 {
-    left.settings(&[])?;
-    Ok(request)
+    let [name, words @ ..] = words else {
+        return Err(BadWord(1));
+    };
+    let Some(row) = row_named(name.as_str()) else {
+        return Err(BadWord(1));
+    };
+    match read_after(row, words) {
+        Ok(call) => Ok(call),
+        Err(count) => Err(BadWord(count as u32 + 2)),
+    }
 }
 
-/// The query that the words left spell: MAP SX SY GX GY and its settings.
-fn query(mut left: WordsLeft<'_>) -> Result<Request<'_>, BadWord>
-    ensures { Tells (form_of command.Query) left.entry result }
+/// The call of a command by the words after its name, or how many of these stand before the bad one.
+fn read_after(row: Row, words: &[String]) -> Result<(Request<'_>, Settings), usize>
+    ensures { MatchResult result
+        (λ read. ReadsAfter (row_data row) (map string_bytes words.now) (called read.0 read.1))
+        (λ count. RefusesAfter (row_data row) (map string_bytes words.now) count) }
 {
-    let map = left.word()?;
-    let sx = left.number()?;
-    let sy = left.number()?;
-    let gx = left.number()?;
-    let gy = left.number()?;
-    let settings = left.settings(&[Choice::Engine, Choice::Show])?;
-    Ok(Request::Query {
-        map,
-        sx,
-        sy,
-        gx,
-        gy,
-        pick: settings.pick.unwrap_or_default(),
-        show: settings.show.unwrap_or_default(),
-    })
+    let count = fitting(row.takes, words);
+    if count < row.takes.len() {
+        return Err(count);
+    }
+    match read_settings(row.allows, &words[count..]) {
+        Ok(settings) => Ok((request(row.command, words), settings)),
+        Err(place) => Err(count + place),
+    }
 }
 
-/// The script to be solved that the words left name: MAP SCRIPT and its settings.
-fn solve(mut left: WordsLeft<'_>) -> Result<Request<'_>, BadWord>
-    ensures { Tells (form_of command.Solve) left.entry result }
+/// How many of the words are of these kinds, one after the other.
+fn fitting(takes: &[Kind], words: &[String]) -> usize
+    ensures count { AreOf takes.now (map string_bytes words.now) result }
+    ensures within { result ≤ length words.now }
 {
-    let map = left.word()?;
-    let script = left.word()?;
-    let settings = left.settings(&[Choice::Engine])?;
-    Ok(Request::Solve {
-        map,
-        script,
-        pick: settings.pick.unwrap_or_default(),
-    })
-}
-
-/// The scenario to be compared that the words left name: MAP SCEN and its settings.
-fn scen(mut left: WordsLeft<'_>) -> Result<Request<'_>, BadWord>
-    ensures { Tells (form_of command.Scen) left.entry result }
-{
-    let map = left.word()?;
-    let scen = left.word()?;
-    let settings = left.settings(&[Choice::Engine])?;
-    Ok(Request::Scen {
-        map,
-        scen,
-        pick: settings.pick.unwrap_or_default(),
-    })
+    for (place, kind) in takes.iter().enumerate() {
+        if !kind.is_at(words, place) {
+            return place;
+        }
+    }
+    takes.len()
 }

@@ -16,21 +16,26 @@ pub enum Request<'a> {
         sy: u32,
         gx: u32,
         gy: u32,
-        pick: Pick,
-        show: Show,
     },
     /// What each command of the script does on the map.
     Solve {
         map: &'a str,
         script: &'a str,
-        pick: Pick,
     },
     /// How the listed lengths of the scenario agree with the least ones on the map.
     Scen {
         map: &'a str,
         scen: &'a str,
-        pick: Pick,
     },
+}
+
+/// How a request is to be done. A setting that the words don't have stands at its default.
+#[derive(Clone, Copy, Debug, Default)]
+pub struct Settings {
+    pub pick: Pick,
+    pub show: Show,
+    /// Whether a diagonal move may pass one blocked cell beside it.
+    pub one: bool,
 }
 
 /// Which engine searches.
@@ -41,7 +46,7 @@ pub enum Pick {
     Plain,
 }
 
-/// What the answer to a query shows of a walk.
+/// What an answer shows of a walk.
 #[derive(Clone, Copy, Debug, Default, PartialEq, Eq)]
 pub enum Show {
     /// The ends of the walk's straight pieces.
@@ -49,9 +54,11 @@ pub enum Show {
     Points,
     /// Each cell of the walk.
     Cells,
+    /// The points, and then each state that the search took.
+    Trace,
 }
 
-/// The number of the word, from 1, with which no request begins; one more than there are words where
+/// The number of the word, from 1, with which no call begins; one more than there are words where
 /// words are missing at the end.
 #[derive(Clone, Copy, Debug, PartialEq, Eq, Error)]
 #[error("word {0}")]

@@ -1,20 +1,45 @@
-use Rattle.word_list.proofs.Forms.{command_taken, command_lacking}
+use Rattle.std.proofs.Common.{map, string_bytes, sym, ap, ◌∙◌, arith}
+use Rattle.std.specs.Option.{option_map}
+use Rattle.std.proofs.lemmas.List.{length-map}
+use Rattle.word_list.specs.Rows.{row_data}
+use Rattle.word_list.proofs.Fitted.{few_before}
+use Rattle.word_list.proofs.Calls.{names_none, names_first_apart, names_later_apart, calls_apart, words_apart, few_apart}
 use Rattle.word_list.proofs.reading.read.Goals as goal
 
-pub returns-in_err-command : goal.returns-in_err-command
-returns-in_err-command c = command_lacking c.in_err-command.ensures c.from_residual.ensures.1
+pub returns-in_default-clause-told : goal.returns-in_default-clause-told
+returns-in_default-clause-told c =
+    names_none (map string_bytes c.args.words.now) (omega (arith, length-map c.args.words.now string_bytes))
 
-pub returns-in-Help : goal.returns-in-Help
-returns-in-Help c = command_taken c.in_ok-command.ensures c.in-Help.is c.alone.ensures
+pub returns-in_default-row_named-clause-told : goal.returns-in_default-row_named-clause-told
+returns-in_default-row_named-clause-told c =
+    names_first_apart
+    (words_apart c.args.words.now _ _ c.in-len1-up.len_at_least c.name-item.is c.as_str.ensures.value)
+    (sym c.row_named.ensures.row ∙ ap (option_map row_data) c.in_default-row_named.is)
 
-pub returns-in-Version : goal.returns-in-Version
-returns-in-Version c = command_taken c.in_ok-command.ensures c.in-Version.is c.alone-in-Version.ensures
+pub overflow_cast-result : goal.overflow_cast-result
+overflow_cast-result c =
+    omega (arith, few_before _ _ _ _ c.in-Err.ensures.ends, c.in-Some.ensures.few)
 
-pub returns-in-Query : goal.returns-in-Query
-returns-in-Query c = command_taken c.in_ok-command.ensures c.in-Query.is c.query.ensures
+pub overflow_add-result : goal.overflow_add-result
+overflow_add-result c =
+    omega (arith, few_before _ _ _ _ c.in-Err.ensures.ends, c.in-Some.ensures.few)
 
-pub returns-in-Solve : goal.returns-in-Solve
-returns-in-Solve c = command_taken c.in_ok-command.ensures c.in-Solve.is c.solve.ensures
+pub returns-in-Err-clause-told : goal.returns-in-Err-clause-told
+returns-in-Err-clause-told c =
+    names_later_apart
+    (words_apart c.args.words.now _ _ c.in-len1-up.len_at_least c.name-item.is c.as_str.ensures.value)
+    (sym c.in-Some.ensures.row) c.in-Err.ensures
 
-pub returns-in-Scen : goal.returns-in-Scen
-returns-in-Scen c = command_taken c.in_ok-command.ensures c.in-Scen.is c.scen.ensures
+pub returns-in-Ok-clause-told : goal.returns-in-Ok-clause-told
+returns-in-Ok-clause-told c =
+    calls_apart (words_apart c.args.words.now _ _ c.in-len1-up.len_at_least c.name-item.is c.as_str.ensures.value)
+    (sym c.in-Some.ensures.row) c.in-Ok.ensures
+
+pub returns-in-Ok-clause-few : goal.returns-in-Ok-clause-few
+returns-in-Ok-clause-few c =
+    omega (
+      arith,
+      length-map c.args.words.now string_bytes,
+      few_apart (words_apart c.args.words.now _ _ c.in-len1-up.len_at_least c.name-item.is c.as_str.ensures.value)
+          c.in-Some.ensures.few c.in-Ok.ensures,
+    )

@@ -1,0 +1,43 @@
+//! The way that a search found, back along the parents.
+
+ghost use Rattle.std.specs.Prelude.{◌≡◌, ◌<◌, ◌+◌, ◌^◌, IfOk, Some, slice_get, length};
+ghost use Rattle.best_first.specs.Trace.{HasBack, IsWayTo};
+
+use crate::{NoMemory, Space};
+use grid_moves::{Cell, estimate};
+use path_points::Points;
+use root2_cost::Cost;
+use std::alloc::Global;
+
+/// A way from the start of a search.
+#[derive(Debug, Drop)]
+pub struct Way {
+    /// The cells of its states, from the start on.
+    pub points: Points,
+    /// What it costs.
+    pub cost: Cost,
+}
+
+impl Space {
+    /// The way from the start to the state of a node, along the parents: the cells of its states, and
+    /// the pair of its cost, counted on the way.
+    pub fn way_to(&self, alloc: Global, goal: Cell, at: u32) -> Result<Way, NoMemory>
+        requires { HasBack goal self.now.table.nodes at }
+        ensures { IfOk result (λ w. IsWayTo goal self.now.table.nodes at w.points w.cost) }
+    {
+        let mut points = Points::new(alloc);
+        let mut cost = Cost { a: 0, b: 0 };
+        let mut id = at;
+        'back: while id != 0 {
+            let node = self.node(id);
+            let cell = node.place.cell();
+            let before = self.node(node.parent).place.cell();
+            points.push(cell)?;
+            cost = cost.add(estimate(before, cell));
+            id = node.parent;
+        }
+        points.push(self.node(id).place.cell())?;
+        points.reverse();
+        Ok(Way { points, cost })
+    }
+}

@@ -1,0 +1,18 @@
+use Rattle.std.proofs.Common.{subst, List, ℕ}
+use Rattle.io_edge.specs.Whole.{IsWhole}
+use Rattle.jps_run.specs.Files.{ReadsText}
+use Rattle.jps_run.specs.Kinds.{limit_of}
+use Rattle.jps_run.specs.declared.kind.Kind.{Kind}
+use Rattle.jps_run.proofs.Readings.{file-read}
+use Rattle.jps_run.proofs.files.read_file.Goals as goal
+
+pub returns-clause-read : goal.returns-clause-read
+returns-clause-read g c =
+    let held = g.F.Files.holds c.args.files.now c.args.name.now in
+    file-read g.T.Text.spells g.T.Text.kind_of_text held c.in_ok-text.text.items
+    (g.F.Files.faults c.args.files.now c.args.name.now) (g.F.Files.faults c.read_text.new.files c.args.name.now)
+    c.of_text.result
+    (subst (λ (kind : Kind). IsWhole held (limit_of kind) c.in_ok-text.text.items) c.kind.ensures
+    c.in_ok-text.ensures.read)
+    (subst (λ (text : List ℕ). ReadsText g.T.Text.spells g.T.Text.kind_of_text text c.of_text.result)
+    c.as_slice.ensures.value c.of_text.ensures)

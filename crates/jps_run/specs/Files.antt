@@ -1,0 +1,79 @@
+-- The files of a request: which texts they hold, and the first one that is refused.
+use Rattle.std.specs.Prelude.{◌≡◌, ℕ, List, [], ◌∷◌, ◌++◌, ⊤, Option, Some, None, Result}
+use Rattle.io_edge.specs.Told.{Held}
+use Rattle.io_edge.specs.Causes.{Rose}
+use Rattle.io_edge.specs.Whole.{IsWhole, IsLonger}
+use Rattle.jps_run.specs.FaultLines.{long_line}
+use Rattle.jps_run.specs.Kinds.{kind_word, limit_of, refusal_of}
+use Rattle.jps_run.specs.Seen.{Seen}
+use Rattle.jps_run.specs.Stops.{Stops, Ends}
+use Rattle.jps_run.specs.declared.kind.Kind.{Kind}
+use Rattle.jps_run.specs.declared.stop.Stop.{Stop}
+
+-- a file that a request names, and the kind of text that it is to hold
+pub record File : Type 0 where
+  pub kind : Kind
+  pub name : List ℕ
+
+-- the file holds this text, which is accepted behind the texts before it
+abbrev pub IsAccepted : List (List ℕ) → Kind → Held → List ℕ → Type 0
+IsAccepted earlier kind held text = IsWhole held (limit_of kind) text × (refusal_of kind earlier text ≡ None)
+
+-- the file holds too long a text, or one that is refused behind the texts before it, and the line says so
+pub data IsRefused (earlier : List (List ℕ)) (kind : Kind) (held : Held) (line : List ℕ) : Type 0 where
+  too_long : IsLonger held (limit_of kind) → line ≡ long_line (kind_word kind)
+      → IsRefused earlier kind held line
+  faulty : (text : List ℕ) → IsWhole held (limit_of kind) text → refusal_of kind earlier text ≡ Some line
+      → IsRefused earlier kind held line
+
+-- the files hold these texts, and each is accepted behind the texts before it
+abbrev pub AreAccepted : (List ℕ → Held) → List (List ℕ) → List File → List (List ℕ) → Type 0
+AreAccepted holds earlier [] [] = ⊤
+AreAccepted holds earlier (file ∷ files) (text ∷ texts) =
+    IsAccepted earlier file.kind (holds file.name) text × AreAccepted holds (earlier ++ text ∷ []) files texts
+AreAccepted holds earlier [] (text ∷ texts) = ⊥
+AreAccepted holds earlier (file ∷ files) [] = ⊥
+
+-- one of the files, where those before it are accepted, so that there is reason to read it
+pub record ComesTo (holds : List ℕ → Held) (files : List File) (file : File) : Type 0 where
+  pub before : List File
+  pub behind : List File
+  pub all : files ≡ before ++ file ∷ behind
+  pub texts : List (List ℕ)
+  pub accepted : AreAccepted holds [] before texts
+
+-- the first file that is refused, and its line
+pub record HasRefused (holds : List ℕ → Held) (files : List File) (line : List ℕ) : Type 0 where
+  pub file : File
+  pub comes : ComesTo holds files file
+  pub refused : IsRefused comes.texts file.kind (holds file.name) line
+
+-- the count of a file rose that there was reason to read
+pub record FileRose (files : List File) (before now : Seen) : Type 0 where
+  pub file : File
+  pub comes : ComesTo before.holds files file
+  pub rose : Rose (before.faults file.name) (now.faults file.name)
+
+-- a text was read as this value: the held bytes spell it, and are accepted behind the texts before it
+pub record IsRead {X : Type 0} (Spells : List ℕ → X → Type 0) (earlier : List (List ℕ)) (kind : Kind) (held : Held)
+    (value : X) : Type 0 where
+  pub text : List ℕ
+  pub accepted : IsAccepted earlier kind held text
+  pub spelled : Spells text value
+
+-- a reading may stop at a refused text, at a read that failed, as the file's count shows, or for want of memory
+abbrev pub read_stops : (List ℕ → Type 0) → ℕ → ℕ → Stops
+read_stops Refused faults faults_now =
+    record { Refused = Refused; Read = Rose faults faults_now; Write = ⊥; Memory = ⊤ }
+
+-- a file of this kind was read as a value, or the reading stopped
+abbrev pub Reads : {X : Type 0} → (List ℕ → X → Type 0) → Kind → Held → ℕ → ℕ → Result X Stop → Type 0
+Reads Spells kind held faults faults_now result = (earlier : List (List ℕ)) → Ends
+    (IsRead Spells earlier kind held)
+    (read_stops (IsRefused earlier kind held) faults faults_now) result
+
+-- a text was read as a value that it spells and accepted behind the texts before it, or it is refused
+abbrev pub ReadsText : {X : Type 0} → (List ℕ → X → Type 0) → Kind → List ℕ → Result X Stop → Type 0
+ReadsText Spells kind text result = (earlier : List (List ℕ)) → Ends
+    (λ value. (refusal_of kind earlier text ≡ None) × Spells text value)
+    (record { Refused = λ line. refusal_of kind earlier text ≡ Some line; Read = ⊥; Write = ⊥; Memory = ⊤ }) result

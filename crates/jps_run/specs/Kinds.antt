@@ -1,0 +1,29 @@
+-- The kinds of texts that a request reads.
+use Rattle.std.specs.Prelude.{ℕ, ◌^◌, List, codes, Result, Ok, Err, Option, Some, None}
+use Rattle.map_text.specs.Faults.{map_of}
+use Rattle.script_text.specs.Faults.{script_of}
+use Rattle.scen_text.specs.Faults.{scen_of}
+use Rattle.jps_run.specs.FaultLines.{map_line, script_line, scen_line}
+use Rattle.jps_run.specs.declared.kind.Kind.{Kind}
+use Rattle.jps_run.specs.declared.kind.Kind.TheVariants.{Map, Script, Scen}
+
+-- the word of a kind in fault lines
+abbrev pub kind_word : Kind → List ℕ
+kind_word Map = codes "map"
+kind_word Script = codes "script"
+kind_word Scen = codes "scen"
+
+-- the longest text of a kind, in bytes
+abbrev pub limit_of : Kind → ℕ
+limit_of kind = 2 ^ 26
+
+-- the line of a text that is read as a fault
+abbrev pub fault_in : {V F : Type 0} → (F → List ℕ) → Result V F → Option (List ℕ)
+fault_in line_of (Ok value) = None
+fault_in line_of (Err fault) = Some (line_of fault)
+
+-- the line with which a text is refused behind the texts before it, if it is
+abbrev pub refusal_of : Kind → List (List ℕ) → List ℕ → Option (List ℕ)
+refusal_of Map earlier text = fault_in map_line (map_of text)
+refusal_of Script earlier text = fault_in script_line (script_of text)
+refusal_of Scen earlier text = fault_in scen_line (scen_of text)

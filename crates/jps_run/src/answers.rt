@@ -1,0 +1,96 @@
+//! The answers to commands: edits and queries of a session.
+
+ghost use Rattle.std.specs.Prelude.{OnOk};
+ghost use Rattle.jps_run.specs.Answering.{PutsAnswer, GoesOn, IsSolved};
+ghost use Rattle.jps_run.specs.Seen.{stream};
+ghost use Rattle.jps_run.specs.Sending.{SendsWhole};
+
+use crate::NoMemory;
+use crate::job::{Job, work_items};
+use crate::lines::{put_edit_reply, put_reply};
+use crate::stop::Stop;
+use edit_replay::Session;
+use grid_moves::Ground;
+use io_edge::Sink;
+use script_text::Command;
+use std::alloc::Global;
+use std::sync::ledger::Ledger;
+use steps::Steps;
+use word_list::Show;
+
+/// A session that answers commands in order, and what its lines show.
+#[derive(Drop)]
+pub(crate) struct Answers {
+    pub session: Session,
+    pub show: Show,
+}
+
+impl Job for Answers {
+    ghost use Rattle.std.specs.Prelude.{⊤};
+    ghost use Rattle.jps_run.specs.Answering.{HasAnswered, IsSolved};
+
+    type Item = Command;
+
+    ghost can_work = { λ _. ⊤ };
+
+    ghost has_worked = { HasAnswered };
+
+    ghost is_whole = { IsSolved };
+
+    fn answer<L: Ledger>(
+        &mut self,
+        alloc: Global,
+        _number: u64,
+        item: Command,
+        lines: &mut Vec<u8>,
+        steps: &mut Steps<L>,
+    ) -> Result<(), NoMemory> {
+        put_answer(alloc, &mut self.session, self.show, item, lines, steps)
+    }
+
+    fn close(&self, _lines: &mut Vec<u8>) -> Result<u8, NoMemory> {
+        Ok(0)
+    }
+}
+
+// Answers one command, and appends its line.
+fn put_answer<L: Ledger>(
+    alloc: Global,
+    session: &mut Session,
+    show: Show,
+    command: Command,
+    lines: &mut Vec<u8>,
+    steps: &mut Steps<L>,
+) -> Result<(), NoMemory>
+    ensures answered { OnOk result (PutsAnswer session.old show command lines.old.items lines.new.items) }
+    ensures edited { OnOk result (GoesOn session.old command session.new) }
+{
+    match command {
+        Command::Block { x, y } => put_edit_reply(
+            lines,
+            session.edit(x, y, Ground::Blocked, steps),
+        ),
+        Command::Free { x, y } => put_edit_reply(lines, session.edit(x, y, Ground::Land, steps)),
+        Command::Flood { x, y } => put_edit_reply(lines, session.edit(x, y, Ground::Water, steps)),
+        Command::Query { sx, sy, gx, gy } => {
+            let reply = session.query(alloc, sx, sy, gx, gy, steps)?;
+            put_reply(alloc, lines, &reply, session.width(), show)
+        }
+    }
+}
+
+/// Answers the commands in order, each by the session as the edits before it leave it.
+pub(crate) fn write_answers<O: Sink, L: Ledger>(
+    alloc: Global,
+    session: Session,
+    show: Show,
+    commands: &[Command],
+    out: &mut O,
+    steps: &mut Steps<L>,
+) -> Result<u8, Stop>
+    ensures { SendsWhole (IsSolved (record { session = session; show = show }) commands.now)
+        (stream (O.written out.old) (O.faults out.old)) (stream (O.written out.new) (O.faults out.new)) result }
+{
+    let mut job = Answers { session, show };
+    work_items(alloc, &mut job, commands, out, steps)
+}

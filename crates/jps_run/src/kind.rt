@@ -1,0 +1,32 @@
+//! The kinds of texts that a request reads.
+
+ghost use Rattle.std.specs.Prelude.{◌≡◌};
+ghost use Rattle.jps_run.specs.Kinds.{kind_word, limit_of};
+
+/// A kind of text.
+#[derive(Clone, Copy, Debug)]
+pub(crate) enum Kind {
+    Map,
+    Script,
+    Scen,
+}
+
+impl Kind {
+    /// Its word in fault lines.
+    pub(crate) fn word(self) -> &'static [u8]
+        ensures { result.now ≡ kind_word self }
+    {
+        match self {
+            Kind::Map => b"map",
+            Kind::Script => b"script",
+            Kind::Scen => b"scen",
+        }
+    }
+
+    /// Its longest text, in bytes.
+    pub(crate) fn limit(self) -> u32
+        ensures { result ≡ limit_of self }
+    {
+        1 << 26
+    }
+}

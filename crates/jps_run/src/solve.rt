@@ -1,0 +1,44 @@
+//! The command `solve`: the answers to a script.
+
+ghost use Rattle.std.specs.Prelude.{◌≡◌};
+ghost use Rattle.word_list.specs.Request as asked;
+ghost use Rattle.jps_run.specs.Ending.{HasWorked};
+ghost use Rattle.jps_run.specs.Outcome.{call_with};
+ghost use Rattle.jps_run.specs.Seen.{seen};
+
+use crate::answers::write_answers;
+use crate::files::{open_session, read_file};
+use crate::stop::Stop;
+use io_edge::{Files, Sink};
+use script_text::Command;
+use std::alloc::Global;
+use std::sync::ledger::Ledger;
+use steps::Steps;
+use word_list::Settings;
+
+/// Answers a script.
+pub(crate) fn solve<F: Files, O: Sink, L: Ledger>(
+    alloc: Global,
+    files: &mut F,
+    out: &mut O,
+    map: &str,
+    script: &str,
+    settings: Settings,
+    steps: &mut Steps<L>,
+) -> Result<u8, Stop>
+    ensures worked { HasWorked (call_with (asked.Solve map.now script.now) settings)
+        (seen (F.holds files.old) (F.faults files.old) (O.written out.old) (O.faults out.old))
+        (seen (F.holds files.new) (F.faults files.new) (O.written out.new) (O.faults out.new)) result }
+    ensures unchanged { F.holds files.new ≡ F.holds files.old }
+{
+    let session = open_session(alloc, files, map, settings)?;
+    let commands: Vec<Command> = read_file(alloc, files, script)?;
+    write_answers(
+        alloc,
+        session,
+        settings.show,
+        commands.as_slice(),
+        out,
+        steps,
+    )
+}

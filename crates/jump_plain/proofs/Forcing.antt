@@ -1,0 +1,145 @@
+-- Where a neighbour is forced, told by the cells beside two cells of a run.
+use Rattle.std.proofs.Common.{◌≡◌, arith, Bool, true, false, not, ◌&&◌, ◌||◌, refl, ap, sym, ◌∙◌}
+use Rattle.std.specs.Prelude.{Some}
+use Rattle.grid_moves.specs.declared.Cell.{Cell}
+use Rattle.grid_moves.specs.declared.Corner.{Corner}
+use Rattle.grid_moves.specs.declared.Corner.TheVariants.{Never, One}
+use Rattle.grid_moves.specs.declared.Dir.{Dir}
+use Rattle.grid_moves.specs.Grid.{GridData, is_free}
+use Rattle.grid_moves.specs.Move.{legal_ahead, is_open, is_passable}
+use Rattle.grid_moves.proofs.Legal.{and_both, legal_is}
+use Rattle.pruning.specs.declared.turns.Side.{Side}
+use Rattle.pruning.specs.declared.turns.Side.TheVariants.{Right, Left}
+use Rattle.pruning.specs.Turns.{turn, quarter, rear, is_diagonal}
+use Rattle.pruning.specs.Allowed.{is_blocked, can_move}
+use Rattle.pruning.specs.Marked.{is_forced, is_forced_on}
+use Rattle.pruning.proofs.Places.{Place, move}
+use Rattle.pruning.proofs.Table.{straight_back, straight_side, diagonal_back, turn_parity, quarter_parity, turn_back}
+use Rattle.pruning.proofs.Moves.{can_move-straight, can_move-diagonal}
+use Rattle.pruning.proofs.Bridging.{place_of, free_place, open_there, Leads, leads_there, legal_leads}
+use Rattle.pruning.proofs.Replacing.{by_corner}
+use Rattle.jump_plain.specs.Beside.{sides_of, opens}
+
+-- which cells a forced neighbour asks for, by the rule
+module _ (r : Corner) (blocked can : Dir → Bool) (d : Dir) (s : Side) where
+  uncut : r ≡ Never → is_diagonal d ≡ false
+      → is_forced_on r blocked can d s ≡ (blocked (rear s d) && can (quarter s d))
+  uncut e h = rw (e, h) refl
+
+  cut : r ≡ One → is_diagonal d ≡ false
+      → is_forced_on r blocked can d s ≡ (blocked (quarter s d) && can (turn s d))
+  cut e h = rw (e, h) refl
+
+  cut_past : is_diagonal d ≡ true → blocked (rear s d) ≡ false → is_forced_on r blocked can d s ≡ false
+  cut_past h k = by_corner r (λ e. rw (e, h) refl) (λ e. rw (e, h, k) refl)
+
+-- a move between two cells, one of them free, passes where one may be cut
+passes : (r : Corner) (a b c : Bool) → r ≡ One → (b || c) ≡ true → (a && is_passable r b c) ≡ a
+passes r a b c e h = rw (e, h) (grind arith)
+
+either : (b c : Bool) → b ≡ true → (b || c) ≡ true
+either b c h = grind arith
+
+either-right : (b c : Bool) → c ≡ true → (b || c) ≡ true
+either-right b c h = grind arith
+
+shut : (r : Corner) (o b c : Bool) → r ≡ One → b ≡ false → (not c && (o && is_passable r b c)) ≡ false
+shut r o b c e h = rw e (grind arith)
+
+shut-right : (r : Corner) (o b c : Bool) → r ≡ One → c ≡ false → (not b && (o && is_passable r b c)) ≡ false
+shut-right r o b c e h = rw e (grind arith)
+
+module _ (g : GridData) (u v : Cell) (d : Dir) (l : Leads g u v d) where
+  source : is_free g u ≡ true
+  source = (legal_is g u v l.legal).source
+
+  target : is_free g v ≡ true
+  target = (legal_is g u v l.legal).target
+
+  -- one cell, seen from two
+  seen_from : (f h : Dir) → move f (move d (place_of u)) ≡ move h (place_of u)
+      → is_open g v f ≡ is_open g u h
+  seen_from f h s = open_there g v f
+      ∙ ap (λ (p : Place). free_place g p) (ap (λ (p : Place). move f p) (sym (leads_there g u v d l)) ∙ s)
+      ∙ sym (open_there g u h)
+
+  open_ahead : is_open g u d ≡ true
+  open_ahead = open_there g u d ∙ ap (λ (p : Place). free_place g p) (leads_there g u v d l) ∙ target
+
+  -- where no corner is cut a neighbour is forced at v where the side opens from u to v
+  forced_there : g.corner ≡ Never → is_diagonal d ≡ false → (s : Side)
+      → is_forced_on g.corner (is_blocked g v) (can_move g v) d s
+      ≡ (not (is_open g u (quarter s d)) && is_open g v (quarter s d))
+  forced_there r h s = uncut g.corner (is_blocked g v) (can_move g v) d s r h ∙ rw (
+    seen_from (rear s d) (quarter s d) (straight_back s d (place_of u) h),
+    can_move-straight g v (quarter s d) target (quarter_parity s d ∙ h),
+  ) refl
+
+  pub is_forced-there : g.corner ≡ Never → is_diagonal d ≡ false
+      → is_forced g v d ≡ opens (sides_of g u d) (sides_of g v d)
+  is_forced-there r h = rw (forced_there r h Right, forced_there r h Left) refl
+
+  -- where one may be cut a neighbour is forced at u there
+  turns_aside : g.corner ≡ One → is_diagonal d ≡ false → (s : Side)
+      → can_move g u (turn s d) ≡ is_open g u (turn s d)
+  turns_aside r h Right =
+      let beside : is_open g u (turn Left (turn Right d)) ≡ true = rw (turn_back Right d) open_ahead in
+      can_move-diagonal g u (turn Right d) source (turn_parity Right d ∙ ap not h)
+      ∙ passes g.corner (is_open g u (turn Right d)) (is_open g u (turn Left (turn Right d)))
+      (is_open g u (turn Right (turn Right d))) r (either _ _ beside)
+  turns_aside r h Left =
+      let beside : is_open g u (turn Right (turn Left d)) ≡ true = rw (turn_back Left d) open_ahead in
+      can_move-diagonal g u (turn Left d) source (turn_parity Left d ∙ ap not h)
+      ∙ passes g.corner (is_open g u (turn Left d)) (is_open g u (turn Left (turn Left d)))
+      (is_open g u (turn Right (turn Left d))) r (either-right _ _ beside)
+
+  forced_here : g.corner ≡ One → is_diagonal d ≡ false → (s : Side)
+      → is_forced_on g.corner (is_blocked g u) (can_move g u) d s
+      ≡ (not (is_open g u (quarter s d)) && is_open g v (quarter s d))
+  forced_here r h s = cut g.corner (is_blocked g u) (can_move g u) d s r h
+      ∙ rw (turns_aside r h s, seen_from (quarter s d) (turn s d) (straight_side s d (place_of u) h)) refl
+
+  pub is_forced-here : g.corner ≡ One → is_diagonal d ≡ false
+      → is_forced g u d ≡ opens (sides_of g u d) (sides_of g v d)
+  is_forced-here r h = rw (forced_here r h Right, forced_here r h Left) refl
+
+  -- after a diagonal move past two free cells nothing is forced
+  free_behind : (s : Side) → is_diagonal d ≡ true → is_open g u (turn s d) ≡ true
+      → is_forced_on g.corner (is_blocked g v) (can_move g v) d s ≡ false
+  free_behind s h o = cut_past g.corner (is_blocked g v) (can_move g v) d s h
+      (ap not (seen_from (rear s d) (turn s d) (diagonal_back s d (place_of u) h) ∙ o))
+
+  pub is_forced-past : is_diagonal d ≡ true → is_open g u (turn Right d) ≡ true
+      → is_open g u (turn Left d) ≡ true → is_forced g v d ≡ false
+  is_forced-past h o p = rw (free_behind Right h o, free_behind Left h p) refl
+
+-- the same in the words of code, in which the components are named by other names
+pub clear_past : (g : GridData) (u v : Cell) (d : Dir) → legal_ahead g u d ≡ Some v
+    → is_diagonal d ≡ true → (e f : Dir) → e ≡ turn Right d → f ≡ turn Left d → (right left clear : Bool)
+    → right ≡ is_open g u e → left ≡ is_open g u f → clear ≡ (right && left)
+    → clear ≡ true → is_forced g v d ≡ false
+clear_past g u v d legal h e f m n right left clear i j k c =
+    let open_both = and_both right left (sym k ∙ c) in
+    is_forced-past g u v d (legal_leads g u v d legal) h
+    (ap (λ (a : Dir). is_open g u a) (sym m) ∙ sym i ∙ open_both.0)
+    (ap (λ (a : Dir). is_open g u a) (sym n) ∙ sym j ∙ open_both.1)
+
+-- where one may be cut nothing is forced at the end of a run
+module _ (g : GridData) (u : Cell) (d : Dir) (free : is_free g u ≡ true) (r : g.corner ≡ One) where
+  none_forced : is_diagonal d ≡ false → is_open g u d ≡ false → (s : Side)
+      → is_forced_on g.corner (is_blocked g u) (can_move g u) d s ≡ false
+  none_forced h o Right =
+      let beside : is_open g u (turn Left (turn Right d)) ≡ false = rw (turn_back Right d) o in
+      cut g.corner (is_blocked g u) (can_move g u) d Right r h
+      ∙ rw (can_move-diagonal g u (turn Right d) free (turn_parity Right d ∙ ap not h))
+      (shut g.corner (is_open g u (turn Right d)) (is_open g u (turn Left (turn Right d)))
+      (is_open g u (turn Right (turn Right d))) r beside)
+  none_forced h o Left =
+      let beside : is_open g u (turn Right (turn Left d)) ≡ false = rw (turn_back Left d) o in
+      cut g.corner (is_blocked g u) (can_move g u) d Left r h
+      ∙ rw (can_move-diagonal g u (turn Left d) free (turn_parity Left d ∙ ap not h))
+      (shut-right g.corner (is_open g u (turn Left d)) (is_open g u (turn Left (turn Left d)))
+      (is_open g u (turn Right (turn Left d))) r beside)
+
+  pub is_forced-nowhere : is_diagonal d ≡ false → is_open g u d ≡ false → is_forced g u d ≡ false
+  is_forced-nowhere h o = rw (none_forced h o Right, none_forced h o Left) refl

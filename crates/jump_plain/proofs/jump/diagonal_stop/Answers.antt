@@ -1,0 +1,64 @@
+use Rattle.std.proofs.Common.{◌≡◌, ◌+◌, ◌<◌, ◌≤◌, ◌∙◌, true, false, suc, arith, sym, ap}
+use Rattle.std.specs.Prelude.{Some, None}
+use Rattle.grid_moves.specs.Grid.{GridData, is_free}
+use Rattle.grid_moves.specs.Move.{legal_ahead}
+use Rattle.grid_moves.proofs.Legal.{legal_is}
+use Rattle.pruning.specs.First.{first_stop, run_length}
+use Rattle.pruning.proofs.Bridging.{Leads, legal_leads}
+use Rattle.jump_plain.proofs.Reaching.{run_length-next, run_length-few}
+use Rattle.jump_plain.proofs.Diagonal.{is_stop-diagonal, stops_nowhere, stops_here, stops_later}
+use Rattle.jump_plain.proofs.jump.diagonal_stop.Goals as goal
+
+pub overflow_add-moves : goal.overflow_add-moves
+overflow_add-moves g c =
+    let grid : GridData = g.T.Terrain.grid c.args.t.now in
+    let next = run_length-next grid c.run.cell c.in-Some.next.cell c.args.d (sym c.in-Some.ensures.legal) in
+    let few = run_length-few grid c.args.at c.args.d in
+    let wide = c.requires.whole.sides.narrow in
+    let high = c.requires.whole.sides.low in
+    let run = c.run.invariant.run in
+    omega arith
+
+pub stops_at-requires-clause-free : goal.stops_at-requires-clause-free
+stops_at-requires-clause-free g c =
+    let grid : GridData = g.T.Terrain.grid c.args.t.now in
+    (legal_is grid c.run.cell c.in-Some.next.cell
+    (legal_leads grid c.run.cell c.in-Some.next.cell c.args.d (sym c.in-Some.ensures.legal)).legal).target
+
+pub returns-then-stops_at : goal.returns-then-stops_at
+returns-then-stops_at g c =
+    let grid : GridData = g.T.Terrain.grid c.args.t.now in
+    stops_here grid c.args.goal c.run.cell c.args.d c.run.moves
+    (first_stop grid c.args.goal c.args.at c.args.d) c.run.invariant.stop c.in-Some.next.cell
+    (sym c.in-Some.ensures.legal)
+    (is_stop-diagonal grid c.args.goal c.args.d c.in-Some.next.cell c.requires.diagonal
+    ∙ sym c.stops_at.ensures ∙ c.if-stops_at.true)
+
+pub run-smaller : goal.run-smaller
+run-smaller g c =
+    let grid : GridData = g.T.Terrain.grid c.args.t.now in
+    let next = run_length-next grid c.run.cell c.in-Some.next.cell c.args.d (sym c.in-Some.ensures.legal) in
+    omega arith
+
+pub run-preserved : goal.run-preserved
+run-preserved g c =
+    let grid : GridData = g.T.Terrain.grid c.args.t.now in
+    let legal = sym c.in-Some.ensures.legal in
+    record {
+      free = (legal_is grid c.run.cell c.in-Some.next.cell
+          (legal_leads grid c.run.cell c.in-Some.next.cell c.args.d legal).legal).target;
+      stop = stops_later grid c.args.goal c.run.cell c.args.d c.run.moves
+          (first_stop grid c.args.goal c.args.at c.args.d) c.run.invariant.stop c.in-Some.next.cell legal
+          (is_stop-diagonal grid c.args.goal c.args.d c.in-Some.next.cell c.requires.diagonal
+          ∙ sym c.stops_at.ensures ∙ c.if-stops_at.false);
+      run = let next = run_length-next grid c.run.cell c.in-Some.next.cell c.args.d legal in
+          let run = c.run.invariant.run in
+          omega arith;
+    }
+
+pub returns : goal.returns
+returns g c =
+    let grid : GridData = g.T.Terrain.grid c.args.t.now in
+    stops_nowhere grid c.args.goal c.run.cell c.args.d c.run.moves
+    (first_stop grid c.args.goal c.args.at c.args.d) c.run.invariant.stop
+    (sym c.in_default.ensures.legal)

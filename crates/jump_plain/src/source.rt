@@ -1,0 +1,53 @@
+//! A grid as a source of jumps.
+
+ghost use Rattle.std.specs.Prelude.{◌≡◌, Some};
+
+use crate::jump::first_stop;
+use arrayvec::ArrayVec;
+use grid_moves::{Cell, Dir, Terrain};
+use pruning::{Arrival, JumpSource, allowed};
+use std::sync::ledger::Ledger;
+use steps::Steps;
+
+/// The jumps on a grid, found cell by cell. They stand for that grid, count no step and take no memory.
+#[derive(Clone, Copy)]
+pub struct PlainJumps<'a, T: Terrain> {
+    pub terrain: &'a T,
+}
+
+impl<'a, T: Terrain> JumpSource for PlainJumps<'a, T> {
+    ghost StandsFor = { λ j g. T.grid j.terrain.now ≡ g };
+
+    ghost most = { λ _. Some (record { stop = 0; allowed = 0 }) };
+
+    ghost fewest = { λ _. 0 };
+
+    fn width(&self) -> u16 {
+        self.terrain.width()
+    }
+
+    fn height(&self) -> u16 {
+        self.terrain.height()
+    }
+
+    fn stop<L: Ledger>(
+        &self,
+        at: Cell,
+        d: Dir,
+        goal: Cell,
+        _steps: &mut Steps<L>,
+    ) -> Option<u16> {
+        let _whole = self.terrain.width();
+        first_stop(self.terrain, at, d, goal)
+    }
+
+    fn allowed<L: Ledger>(
+        &self,
+        at: Cell,
+        by: Arrival,
+        _steps: &mut Steps<L>,
+    ) -> ArrayVec<Dir, 8> {
+        let _whole = self.terrain.width();
+        allowed(self.terrain, at, by)
+    }
+}

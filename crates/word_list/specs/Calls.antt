@@ -1,0 +1,27 @@
+-- The lists of words that are calls of the program.
+use Rattle.std.specs.Prelude.{ℕ, Bool, false, List, [], ◌∷◌, length, drop, is_some, ◌&&◌, if◌then◌else◌, Option, Some, None, option_and_then}
+use Rattle.word_list.specs.declared.rows.Kind.{Kind}
+use Rattle.word_list.specs.declared.settings.Choice.{Choice}
+use Rattle.word_list.specs.Request.{Call}
+use Rattle.word_list.specs.Settings.{are_settings, settings_of}
+use Rattle.word_list.specs.Rows.{is_of, asked_by, row_of}
+
+-- whether the words are a word of each kind and then settings
+abbrev pub fits : List Kind → List Choice → List (List ℕ) → Bool
+fits [] allows words = are_settings allows words
+fits (kind ∷ takes) allows [] = false
+fits (kind ∷ takes) allows (word ∷ words) = is_of kind word && fits takes allows words
+
+-- the call that the words spell, if they spell one
+abbrev pub call_of : List (List ℕ) → Option Call
+call_of [] = None
+call_of (name ∷ words) = option_and_then
+    (λ row. if fits row.takes row.allows words then Some (record {
+      request = asked_by row.command words;
+      settings = settings_of (drop (length row.takes) words);
+    }) else None)
+    (row_of name)
+
+-- whether the words spell a call
+unfoldable pub is_call : List (List ℕ) → Bool
+is_call words = is_some (call_of words)

@@ -1,0 +1,128 @@
+//! The table of commands.
+
+ghost use Rattle.std.specs.Prelude.{◌≡◌, ◌≤◌, length, map, string_bytes, Some, IfSome, slice_get};
+ghost use Rattle.std.specs.Option.{option_map};
+ghost use Rattle.word_list.specs.Request.{asked};
+ghost use Rattle.word_list.specs.Steps.{is_one_of};
+ghost use Rattle.word_list.specs.Rows.{row_of, row_data, is_of, word_at, number_at as spelled_at, asked_by};
+
+use crate::request::Request;
+use crate::settings::Choice;
+
+/// A command.
+#[derive(Clone, Copy, Debug)]
+pub enum Command {
+    Help,
+    Version,
+    Query,
+    Solve,
+    Scen,
+}
+
+/// What a word that a command takes has to be.
+#[derive(Clone, Copy, Debug)]
+pub enum Kind {
+    /// The name of a file, which may be any word.
+    File,
+    /// A number of 1 to 9 decimal digits.
+    Number,
+}
+
+impl Kind {
+    /// Whether the word is of this kind.
+    fn has(self, word: &str) -> bool
+        ensures { result ≡ is_of self word.now }
+    {
+        match self {
+            Kind::File => true,
+            Kind::Number => text_line::number(word.as_bytes()).is_some(),
+        }
+    }
+
+    /// Whether the words have one of this kind at the place, from 0.
+    pub fn is_at(self, words: &[String], place: usize) -> bool
+        ensures { result ≡ is_one_of (Some self) (slice_get (map string_bytes words.now) place) }
+    {
+        match words.get(place) {
+            Some(word) => self.has(word.as_str()),
+            None => false,
+        }
+    }
+}
+
+/// A command, the kinds of the words that it takes after its name, and the settings that it allows
+/// after these.
+#[derive(Clone, Copy, Debug)]
+pub struct Row {
+    pub command: Command,
+    pub takes: &'static [Kind],
+    pub allows: &'static [Choice],
+}
+
+/// The row of the command of this name, if there is one.
+pub fn row_named(name: &str) -> Option<Row>
+    ensures row { option_map row_data result ≡ row_of name.now }
+    ensures few { IfSome result (λ row. length row.takes.now ≤ 8) }
+{
+    use Choice::{Engine, Rule, Show};
+    use Kind::{File, Number};
+    let (command, takes, allows): (Command, &[Kind], &[Choice]) = match name {
+        "--help" => (Command::Help, &[], &[]),
+        "--version" => (Command::Version, &[], &[]),
+        "query" => (
+            Command::Query,
+            &[File, Number, Number, Number, Number],
+            &[Engine, Show, Rule],
+        ),
+        "solve" => (Command::Solve, &[File, File], &[Engine, Show, Rule]),
+        "scen" => (Command::Scen, &[File, File], &[Engine, Rule]),
+        _ => return None,
+    };
+    Some(Row {
+        command,
+        takes,
+        allows,
+    })
+}
+
+/// What the command asks for by the words after its name, which are of its kinds.
+pub fn request<'a>(command: Command, words: &'a [String]) -> Request<'a>
+    ensures { asked result ≡ asked_by command (map string_bytes words.now) }
+{
+    match command {
+        Command::Help => Request::Help,
+        Command::Version => Request::Version,
+        Command::Query => Request::Query {
+            map: name_at(words, 0),
+            sx: number_at(words, 1),
+            sy: number_at(words, 2),
+            gx: number_at(words, 3),
+            gy: number_at(words, 4),
+        },
+        Command::Solve => Request::Solve {
+            map: name_at(words, 0),
+            script: name_at(words, 1),
+        },
+        Command::Scen => Request::Scen {
+            map: name_at(words, 0),
+            scen: name_at(words, 1),
+        },
+    }
+}
+
+/// The word at the place, from 0; the empty one past the end.
+fn name_at(words: &[String], place: usize) -> &str
+    ensures { result.now ≡ word_at (map string_bytes words.now) place }
+{
+    match words.get(place) {
+        Some(word) => word.as_str(),
+        None => "",
+    }
+}
+
+/// The number at the place, from 0; 0 where there is none.
+fn number_at(words: &[String], place: usize) -> u32
+    ensures { result ≡ spelled_at (map string_bytes words.now) place }
+{
+    text_line::number(name_at(words, place).as_bytes()).unwrap_or(0)
+}
