@@ -11,7 +11,7 @@ use Rattle.best_first.specs.declared.state.State.{State}
 use Rattle.best_first.specs.State.{start_at}
 use Rattle.best_first.specs.Progress.{numbers_of}
 use Rattle.best_first.proofs.Ending.{has_ended_run}
-use Rattle.search_core.specs.Jumps.{jump_link, jump_rule}
+use Rattle.search_core.specs.Jumps.{jump_links, jump_rule}
 use Rattle.search_core.specs.Existence.{HasAnswer}
 use Rattle.search_core.specs.Answer.{IsJumpRun}
 use Rattle.search_core.specs.declared.found.Found.{Found}
@@ -77,6 +77,6 @@ module _ (g : GridData) (s t : Cell) where
 pub has_answer : (g : GridData) (s t : Cell) → is_free g s ≡ true → HasAnswer g s t
 has_answer g s t free =
     let e : HasEndedRun (jump_rule g t) (start_at s) =
-    has_ended_run g.width g.height t (jump_link g t) (jumps_are_links g t) s in
+    has_ended_run g.width g.height t (jump_links g t) (jumps_are_links g t) s in
     let a = by_end g s t e.run e.is_run e.ended (has_goal (jump_rule g t) e.run) refl in
     record { answer = a.0; run = a.1; least = run_least g s t a.0 free a.1 }

@@ -6,3 +6,5 @@ pub mod Answering
 pub mod Offers
 pub mod Serving
 pub mod Counting
+pub mod Arrivals
+pub mod Standing

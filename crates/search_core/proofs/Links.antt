@@ -22,7 +22,7 @@ use Rattle.pruning.proofs.Running.{AreMoved, run_walked}
 use Rattle.pruning.proofs.Stopping.{first_stop_is_first}
 use Rattle.best_first.specs.declared.state.State.{State}
 use Rattle.best_first.specs.Rule.{AreLinks}
-use Rattle.search_core.specs.Jumps.{come_to, landing, jump_in, jump_link}
+use Rattle.search_core.specs.Jumps.{come_to, landing, jump_in, jump_link, jump_links}
 
 -- what an option led on to
 passed : {A B : Type 0} (o : Option A) (f : A → Option B) (b : B) → option_and_then f o ≡ Some b
@@ -87,10 +87,10 @@ link_is g goal u v c h =
     }
 
 -- and each jump is a link
-pub jump_links : (g : GridData) (goal : Cell) (u v : State) (d : Dir) (k : ℕ) → v.arrival ≡ Some d
+pub jump_is_link : (g : GridData) (goal : Cell) (u v : State) (d : Dir) (k : ℕ) → v.arrival ≡ Some d
     → is_allowed g u.cell (come_to u.arrival) d ≡ true → first_stop g goal u.cell d ≡ Some k
     → run_end g d k u.cell ≡ Some v.cell → jump_link g goal u v ≡ Some (run_cost d k)
-jump_links g goal u v d k e a f r =
+jump_is_link g goal u v d k e a f r =
     let lands : landing g u.cell v.cell d k ≡ Some (run_cost d k) =
     through (run_end g d k u.cell) (λ w. if is_same w v.cell then Some (run_cost d k) else None) v.cell
     (Some (run_cost d k)) r (here (is_same v.cell v.cell) (is_same-itself v.cell)) in
@@ -136,7 +136,7 @@ moved_off W k u v h m = let p = m.0 in grind (arith, nat_tests)
 moved_off NW k u v h m = let p = m.1 in grind (arith, nat_tests)
 
 -- jump links suit a search on the map
-pub jumps_are_links : (g : GridData) (goal : Cell) → AreLinks g.width g.height (jump_link g goal)
+pub jumps_are_links : (g : GridData) (goal : Cell) → AreLinks g.width g.height (jump_links g goal)
 jumps_are_links g goal = record {
   lands = λ u v c e. let l = link_is g goal u v c e in
       let r = run_walked g l.dir l.moves u.cell v.cell (allowed_free g u l.dir l.allowed) l.reached in
@@ -144,6 +144,7 @@ jumps_are_links g goal = record {
   moves = λ u v c e. let l = link_is g goal u v c e in
       let r = run_walked g l.dir l.moves u.cell v.cell (allowed_free g u l.dir l.allowed) l.reached in
       moved_off l.dir l.moves u.cell v.cell l.first.in_range r.moved;
+  starts = λ c. refl;
   priced = λ u v c e. let l = link_is g goal u v c e in
       let r = run_walked g l.dir l.moves u.cell v.cell (allowed_free g u l.dir l.allowed) l.reached in
       l.priced ∙ moved_cost l.dir l.moves u.cell v.cell r.moved;

@@ -13,6 +13,7 @@ use Rattle.grid_moves.specs.Grid.{GridData, IsGrid, is_free}
 use Rattle.grid_moves.specs.Move.{all_dirs, is_same}
 use Rattle.grid_moves.proofs.Legal.{free_inside, same_cell}
 use Rattle.grid_moves.proofs.Places.{number_below}
+use Rattle.pruning.specs.declared.Arrival.{Arrival}
 use Rattle.pruning.specs.Allowed.{is_allowed, allowed_dirs}
 use Rattle.pruning.specs.Chain.{run_cost}
 use Rattle.pruning.specs.First.{first_stop}
@@ -36,10 +37,10 @@ use Rattle.best_first.proofs.Offering.{rank-add_costs}
 use Rattle.best_first.proofs.Searching.{closed_below, way_on, key_rises, one_more}
 use Rattle.best_first.proofs.States.{same_state}
 use Rattle.best_first.proofs.Ways.{AreOfLinks, AreEnough, offers_after}
-use Rattle.search_core.specs.Jumps.{come_to, jump_link, jump_rule}
+use Rattle.search_core.specs.Jumps.{come_to, jump_link, jump_links, jump_rule}
 use Rattle.search_core.specs.Jumping.{HasPlaces, IsSpaceOf, offer_after, column_after, row_after, jumped_in, jumped, IsAt, IsOffering}
 use Rattle.search_core.specs.declared.jumping.Last.{Last}
-use Rattle.search_core.proofs.Links.{first_is, link_is, jump_links, jumps_are_links, allowed_free}
+use Rattle.search_core.proofs.Links.{first_is, link_is, jump_is_link, jumps_are_links, allowed_free}
 use Rattle.search_core.proofs.Passing.{run_moves}
 use Rattle.search_core.proofs.Passing as passing
 
@@ -56,7 +57,7 @@ after_moved W k u v m = (omega (arith, m.0), omega (arith, m.1))
 after_moved NW k u v m = (omega (arith, m.0), omega (arith, m.1))
 
 -- the direction is one of these
-data IsOneOf (d : Dir) : List Dir → Type 0 where
+pub data IsOneOf (d : Dir) : List Dir → Type 0 where
   now : (dirs : List Dir) → IsOneOf d (d ∷ dirs)
   then : (e : Dir) (dirs : List Dir) → IsOneOf d dirs → IsOneOf d (e ∷ dirs)
 
@@ -95,16 +96,30 @@ module _ (p : Dir → Bool) where
       by_test true f j = rw f (then c (filter p dirs) j)
       by_test false f j = rw f j
 
+-- these are the allowed directions: each is allowed, and each allowed one is one of them
+pub record AreAllAllowed (g : GridData) (x : Cell) (by : Arrival) (dirs : List Dir) : Type 0 where
+  pub each : AllByRecursion (λ d. is_allowed g x by d ≡ true) dirs
+  pub all : (d : Dir) → is_allowed g x by d ≡ true → IsOneOf d dirs
+
+pub all_allowed : (g : GridData) (x : Cell) (by : Arrival) (dirs : List Dir) → dirs ≡ allowed_dirs g x by
+    → AreAllAllowed g x by dirs
+all_allowed g x by dirs e = subst (λ (ds : List Dir). AreAllAllowed g x by ds) (sym e) (record {
+  each = all_filter (is_allowed g x by) all_dirs;
+  all = λ d a. in_filter (is_allowed g x by) d all_dirs a (in_all d);
+})
+
 module _ (g : GridData) (s t : Cell) where
   -- a search over jumps between free cells is one of the machine
   pub fit : IsGrid g → is_free g s ≡ true → is_free g t ≡ true
-      → IsSearch g.width g.height s t (jump_link g t)
+      → IsSearch g.width g.height s t (jump_links g t)
   fit whole from to = record {
-    narrow = whole.sides.narrow;
-    low = whole.sides.low;
-    start_on = free_inside g s from;
-    goal_on = free_inside g t to;
-    links = jumps_are_links g t;
+    posed = record {
+      narrow = whole.sides.narrow;
+      low = whole.sides.low;
+      start_on = free_inside g s from;
+      goal_on = free_inside g t to;
+      links = jumps_are_links g t;
+    };
     few = λ run u is m. let few = passing.costs_fit g t whole s run u is m in omega arith;
   }
 
@@ -145,7 +160,7 @@ module _ (g : GridData) (s t : Cell) where
     jump_linked d n a e =
         let end = jump_end d n a e in
         ap (λ (v : State). jump_link g t last.state v) end.after
-        ∙ jump_links g t last.state (record { cell = end.cell; arrival = Some d }) d n refl a e end.reached
+        ∙ jump_is_link g t last.state (record { cell = end.cell; arrival = Some d }) d n refl a e end.reached
 
     -- the ways on over these directions
     abbrev pub way_after : Dir → ℕ → Onward
@@ -187,21 +202,19 @@ module _ (g : GridData) (s t : Cell) where
         by_stop None i = i
         by_stop (Some m) i = later (way_after c m) (ways_in dirs) i
 
-    -- each link is among the ways of the allowed directions
-    linked_among : (v : State) (c : Cost) → jump_link g t last.state v ≡ Some c
-        → IsAmong (record { to = v; cost = c })
-        (ways_in (allowed_dirs g last.state.cell (come_to last.state.arrival)))
-    linked_among v c e =
+    -- each link is among the ways in the allowed directions
+    linked_among : (dirs : List Dir) → AreAllAllowed g last.state.cell (come_to last.state.arrival) dirs
+        → (v : State) (c : Cost) → jump_link g t last.state v ≡ Some c
+        → IsAmong (record { to = v; cost = c }) (ways_in dirs)
+    linked_among dirs all v c e =
         let l = link_is g t last.state v c e in
         let end = jump_end l.dir l.moves l.allowed l.computed in
         let cell : end.cell ≡ v.cell = one_end (sym end.reached ∙ l.reached) in
         let to : (offer_after last l.dir l.moves).to ≡ v =
         end.after ∙ same_state (record { cell = end.cell; arrival = Some l.dir }) v cell (sym l.arrives) in
-        let by = is_allowed g last.state.cell (come_to last.state.arrival) in
-        subst (λ (w : Onward). IsAmong w (ways_in (allowed_dirs g last.state.cell (come_to last.state.arrival))))
+        subst (λ (w : Onward). IsAmong w (ways_in dirs))
         (same_way (way_after l.dir l.moves) (record { to = v; cost = c }) to (sym l.priced))
-        (each_among (filter by all_dirs) l.dir l.moves l.computed
-        (in_filter by l.dir all_dirs l.allowed (in_all l.dir)))
+        (each_among dirs l.dir l.moves l.computed (all.all l.dir l.allowed))
       where
         one_end : {a b : Cell} → Some a ≡ Some b → a ≡ b
         one_end {a} e = ap (λ (o : Option Cell). elim o as (λ _. Cell) [ Some x ↦ x | None ↦ a ]) e
@@ -227,8 +240,8 @@ module _ (g : GridData) (s t : Cell) where
         one_offer : IsAt g s t last latest earlier (with_onward latest best (way_after d n))
             (offered ByArrival t (offer_after last d n) k)
         one_offer = record {
-          searching = one_more ByArrival g.width g.height s t (jump_link g t) (fit whole from to) latest earlier
-              last.at best k i.searching (offer_after last d n) (run_cost d n) linked ranked refl;
+          searching = one_more ByArrival g.width g.height s t (jump_links g t) (fit whole from to) latest earlier
+              last.at best k i.searching (offer_after last d n) (run_cost d n) linked ranked refl refl;
           state = i.state;
           ranked = i.ranked;
         }
@@ -236,10 +249,10 @@ module _ (g : GridData) (s t : Cell) where
         -- no closed node has a greater key
         closed : ClosedBelow (node_for t (offer_after last d n)).key k
         closed =
-            let below = closed_below ByArrival g.width g.height s t (jump_link g t) (fit whole from to) latest
+            let below = closed_below ByArrival g.width g.height s t (jump_links g t) (fit whole from to) latest
             earlier last.at best k i.searching in
-            let rises = key_rises ByArrival g.width g.height s t (jump_link g t) (fit whole from to) latest earlier
-            last.at best k i.searching (offer_after last d n) (run_cost d n) linked ranked refl in
+            let rises = key_rises ByArrival g.width g.height s t (jump_links g t) (fit whole from to) latest earlier
+            last.at best k i.searching (offer_after last d n) (run_cost d n) linked ranked refl refl in
             record {
               flags = below.flags;
               below = λ id m h f. let most = below.below id m h f in omega arith;
@@ -271,28 +284,33 @@ module _ (g : GridData) (s t : Cell) where
           (λ b j i. all_dirs_offered dirs a.1 b j i)
 
       -- after all allowed directions the state has made its offers
-      pub all_offered : (k : Table) (taken : List ℕ)
-          → IsAt g s t last latest earlier (with_all latest (least_offer (jump_rule g t) earlier)
-          (ways_in (allowed_dirs g last.state.cell (come_to last.state.arrival)))) k
-          → is_same last.state.cell t ≡ false → taken ≡ numbers_of g.width (latest ∷ earlier)
-          → HasOffered ByArrival g.width t (jump_link g t) s last.at k taken
-      all_offered k taken i open_ended numbered =
-          let ways = ways_in (allowed_dirs g last.state.cell (come_to last.state.arrival)) in
-          let allowed = all_filter (is_allowed g last.state.cell (come_to last.state.arrival)) all_dirs in
-          let not_goal : is_same latest.state.cell t ≡ false =
-          ap (λ (u : State). is_same u.cell t) i.state ∙ open_ended in
-          record {
-            last = latest;
-            earlier = earlier;
-            best = with_all latest (least_offer (jump_rule g t) earlier) ways;
-            searching = i.searching;
-            open_ended = not_goal;
-            all_made = λ v n. offers_after g.width t (jump_link g t) latest earlier ways not_goal
-                (λ w j. ap (λ (u : State). jump_link g t u w.to) i.state
-                ∙ each_linked (allowed_dirs g last.state.cell (come_to last.state.arrival)) allowed w j)
-                (λ u c e. inl (linked_among u c (ap (λ (x : State). jump_link g t x u) (sym i.state) ∙ e))) v;
-            numbered = numbered;
-          }
+      module _ (dirs : List Dir) (all : AreAllAllowed g last.state.cell (come_to last.state.arrival) dirs) where
+        pub all_offered : (k : Table) (taken : List ℕ)
+            → IsAt g s t last latest earlier (with_all latest (least_offer (jump_rule g t) earlier) (ways_in dirs))
+            k → is_same last.state.cell t ≡ false → taken ≡ numbers_of g.width (latest ∷ earlier)
+            → HasOffered ByArrival g.width t (jump_links g t) s last.at k taken
+        all_offered k taken i open_ended numbered =
+            let not_goal : is_same latest.state.cell t ≡ false =
+            ap (λ (u : State). is_same u.cell t) i.state ∙ open_ended in
+            record {
+              last = latest;
+              earlier = earlier;
+              best = with_all latest (least_offer (jump_rule g t) earlier) (ways_in dirs);
+              searching = i.searching;
+              open_ended = not_goal;
+              all_made = λ v n. offers_after g.width t (jump_links g t) latest earlier (ways_in dirs) not_goal
+                  (of_links i.state) (enough i.state) v n;
+              numbered = numbered;
+            }
+          where
+            of_links : latest.state ≡ last.state
+                → AreOfLinks g.width t (jump_links g t) latest (ways_in dirs)
+            of_links e w j = ap (λ (u : State). jump_link g t u w.to) e ∙ each_linked dirs all.each w j
+
+            enough : latest.state ≡ last.state
+                → AreEnough g.width t (jump_links g t) latest earlier (ways_in dirs)
+            enough e v c n l =
+                inl (linked_among dirs all v c (ap (λ (u : State). jump_link g t u v) (sym e) ∙ l))
 
   rank_small : (p q : Cost) → p.a + p.b ≤ 2 ^ 27 → q.a + q.b ≤ 8192 → rank_of p + rank_of q < 2 ^ 63
   rank_small p q h k = omega arith

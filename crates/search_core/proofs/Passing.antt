@@ -29,7 +29,7 @@ use Rattle.best_first.specs.State.{start_at}
 use Rattle.best_first.specs.Rule.{HasFewMoves}
 use Rattle.best_first.proofs.Links.{consistent}
 use Rattle.best_first.proofs.States.{same_state}
-use Rattle.search_core.specs.Jumps.{jump_link, jump_rule}
+use Rattle.search_core.specs.Jumps.{jump_links, jump_rule}
 use Rattle.search_core.proofs.Links.{link_is, jumps_are_links}
 
 differ : (m n : ℕ) → (m ≡ n → ⊥) → eqb m n ≡ false
@@ -222,7 +222,7 @@ module _ (g : GridData) (goal : Cell) where
       let yes : is_taken (jump_rule g goal) earlier x ≡ true =
       sym (ap (λ (s : State). is_taken (jump_rule g goal) earlier s) state)
       ∙ is_taken-member (jump_rule g goal)
-      (consistent g.width g.height goal (jump_link g goal) (jumps_are_links g goal)) earlier old.by old.member in
+      (consistent g.width g.height goal (jump_links g goal) (jumps_are_links g goal)) earlier old.by old.member in
       absurd (cc))
 
   passed : (start : Cell) (run : List (Taken State)) → IsRun (jump_rule g goal) (start_at start) run

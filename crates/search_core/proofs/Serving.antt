@@ -40,7 +40,7 @@ module _ (P : Dir → Type 0) where
   all_get (c ∷ dirs) (suc i) d a e = all_get dirs i d a.1 e
 
 -- a space that keeps its shape serves as before
-same_shape : (g : GridData) (old new : SpaceData) → IsSpaceOf g old → KeepsShape old new → IsSpaceOf g new
+pub same_shape : (g : GridData) (old new : SpaceData) → IsSpaceOf g old → KeepsShape old new → IsSpaceOf g new
 same_shape g old new of shape = record {
   whole = of.whole;
   places = record {

@@ -22,8 +22,8 @@ use Rattle.best_first.specs.declared.state.State.{State}
 use Rattle.best_first.specs.State.{is_same_state, start_at}
 use Rattle.best_first.proofs.Links.{consistent}
 use Rattle.best_first.proofs.States.{is_same_state-state, is_same_state-itself}
-use Rattle.search_core.specs.Jumps.{come_to, jump_link, jump_rule}
-use Rattle.search_core.proofs.Links.{IsLink, link_is, jump_links, jumps_are_links}
+use Rattle.search_core.specs.Jumps.{come_to, jump_link, jump_links, jump_rule}
+use Rattle.search_core.proofs.Links.{IsLink, link_is, jump_is_link, jumps_are_links}
 
 -- a state of the search as chains have it, and back
 abbrev pub stop_of : State → Stop
@@ -43,11 +43,11 @@ come_again (By d) = refl
 module _ (g : GridData) (goal : Cell) where
   -- the estimate suits the rule of jumps
   pub jumps_consistent : IsConsistent (jump_rule g goal)
-  jumps_consistent = consistent g.width g.height goal (jump_link g goal) (jumps_are_links g goal)
+  jumps_consistent = consistent g.width g.height goal (jump_links g goal) (jumps_are_links g goal)
 
   jump_linked : (s u : Stop) (d : Dir) (k : ℕ) → IsJump g goal s u d k
       → jump_link g goal (state_at s) (state_at u) ≡ Some (run_cost d k)
-  jump_linked s u d k j = jump_links g goal (state_at s) (state_at u) d k
+  jump_linked s u d k j = jump_is_link g goal (state_at s) (state_at u) d k
       (ap arrived j.arrives)
       (subst (λ (a : Arrival). is_allowed g s.cell a d ≡ true) (sym (come_again s.arrival)) j.allowed)
       (sym (only_one_first_stop g goal s.cell d (Some k) j.first)) j.reached

@@ -21,7 +21,8 @@ use Rattle.best_first.specs.State.{state_told}
 use Rattle.best_first.specs.Table.{Table, offered}
 use Rattle.best_first.specs.Trace.{rank_left}
 use Rattle.search_core.specs.declared.jumping.Last.{Last}
-use Rattle.search_core.specs.Jumps.{jump_link}
+use Rattle.search_core.specs.Jumps.{jump_links}
+use Rattle.search_core.specs.Run.{IsExhausted}
 
 -- the space is made for searches over jumps on this grid
 pub record HasPlaces (g : GridData) (space : SpaceData) : Type 0 where
@@ -83,7 +84,7 @@ module _ (g : GridData) (s t : Cell) where
   -- a search from s to t took this state last and is at its offers
   pub record IsAt (last : Last) (latest : Taken State) (earlier : List (Taken State)) (best : Offers)
       (k : Table) : Type 0 where
-    pub searching : IsSearching ByArrival g.width t (jump_link g t) s latest earlier last.at best k
+    pub searching : IsSearching ByArrival g.width t (jump_links g t) s latest earlier last.at best k
     pub state : latest.state ≡ last.state
     pub ranked : last.rank ≡ rank_of latest.cost
 
@@ -98,4 +99,9 @@ module _ (g : GridData) (s t : Cell) where
   -- it took states of these numbers, the last one with the node of this number
   pub record HasReached (at : ℕ) (space : SpaceData) (taken : List ℕ) : Type 0 where
     pub of : IsSpaceOf g space
-    pub has : HasTaken ByArrival g.width t (jump_link g t) s at space.table taken
+    pub has : HasTaken ByArrival g.width t (jump_links g t) s at space.table taken
+
+  -- it took one state more, or ends as none waits
+  abbrev pub GoesOnFrom : SpaceData → List ℕ → Option ℕ → Type 0
+  GoesOnFrom space taken None = IsExhausted g s t taken
+  GoesOnFrom space taken (Some at) = HasReached at space taken

@@ -1,6 +1,6 @@
 -- The rule of the jump engines: a state is a cell and the direction in which it was come to, and links are the
 -- jumps to first stops. Harabor and Grastien: AAAI 2011, and SoCS 2012 where no corner is cut.
-use Rattle.std.specs.Prelude.{◌≡◌, ℕ, refl, Option, Some, None, option_and_then, if◌then◌else◌, codes}
+use Rattle.std.specs.Prelude.{◌≡◌, ℕ, true, refl, Option, Some, None, option_and_then, if◌then◌else◌, codes}
 use Rattle.root2_cost.specs.declared.Cost.{Cost}
 use Rattle.grid_moves.specs.declared.Cell.{Cell}
 use Rattle.grid_moves.specs.declared.Corner.TheVariants.{Never, One}
@@ -37,12 +37,16 @@ jump_in g goal u v d =
     else None
 
 -- what it costs to go on from u to v: the jump in the direction in which v is come to
-abbrev pub jump_link : GridData → Cell → Links
+abbrev pub jump_link : GridData → Cell → State → State → Option Cost
 jump_link g goal u v = option_and_then (jump_in g goal u v.cell) v.arrival
 
--- the rule of a search for a goal
+-- the links of a search for a goal; a node's place has its state, and tells nothing of its parent
+abbrev pub jump_links : GridData → Cell → Links
+jump_links g goal = record { step = jump_link g goal; led = λ u v. true }
+
+-- the rule of such a search
 abbrev pub jump_rule : GridData → Cell → Rule State
-jump_rule g goal = search_rule g.width goal (jump_link g goal)
+jump_rule g goal = search_rule g.width goal (jump_links g goal)
 
 abbrev cell : ℕ → ℕ → Cell
 cell x y = record { x = x; y = y }

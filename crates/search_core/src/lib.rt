@@ -10,6 +10,7 @@
 mod found;
 mod jumping;
 pub mod laws;
+mod search;
 
 pub use best_first::{NoMemory, Taken};
 pub use found::Found;
