@@ -8,3 +8,4 @@ pub mod Serving
 pub mod Counting
 pub mod Arrivals
 pub mod Standing
+pub mod Advancing

@@ -9,6 +9,7 @@ use Rattle.grid_moves.specs.declared.Dir.{Dir}
 use Rattle.grid_moves.specs.Grid.{GridData, IsGrid, is_free}
 use Rattle.grid_moves.specs.Move.{is_same}
 use Rattle.grid_moves.specs.Points.{estimate}
+use Rattle.grid_moves.proofs.Legal.{free_inside}
 use Rattle.pruning.specs.Allowed.{allowed_dirs}
 use Rattle.search_run.specs.Run.{Taken, here, least_offer}
 use Rattle.best_first.specs.declared.node.Node.{Node}
@@ -129,3 +130,76 @@ module _ (Stands : GridData → Type 0) (s t : Cell) (g : GridData) (served : Is
           (sym table) (all_dirs_offered g s t (last_at t at n) whole served.from served.to h.has.last h.has.earlier
           dirs all.each (least_offer (jump_rule g t) h.has.earlier) space.table first_at)) open_ended
           h.has.numbered
+
+    -- in code the node is read once room was made
+    module _ (mid : SpaceData) (shape : KeepsShape space mid) (table : mid.table ≡ space.table) (last : Last)
+        (told : (n : Node) → slice_get mid.table.nodes at ≡ Some n → last ≡ last_at t at n) where
+      last_is : last ≡ last_at t at h.has.searching.node
+      last_is = told h.has.searching.node
+          (ap (λ (k : Table). slice_get k.nodes at) table ∙ h.has.searching.node_is)
+
+      pub offering_at : IsOffering g s t last mid
+      offering_at = subst (λ (l : Last). IsOffering g s t l mid) (sym last_is)
+          (offering_first h.has.searching.node h.has.searching.node_is mid shape table)
+
+      pub arrived_at : HasArrived g last.state
+      arrived_at = subst (λ (l : Last). HasArrived g l.state) (sym last_is)
+          (state_arrived h.has.searching.node h.has.searching.node_is)
+
+      pub offered_at : (dirs : List Dir) (k : Table)
+          → dirs ≡ allowed_dirs g last.state.cell (come_to last.state.arrival)
+          → k ≡ jumped g t last dirs mid.table
+          → ((n : Node) → slice_get space.table.nodes at ≡ Some n → is_same (node_cell n) t ≡ false)
+          → HasOffered ByArrival g.width t (jump_links g t) s at k taken
+      offered_at dirs k allowed jumps open_ended =
+          has_offered h.has.searching.node h.has.searching.node_is k dirs
+          (allowed ∙ ap (λ (l : Last). allowed_dirs g l.state.cell (come_to l.state.arrival)) last_is)
+          (jumps ∙ ap (λ (l : Last). jumped g t l dirs mid.table) last_is
+          ∙ ap (λ (j : Table). jumped g t (last_at t at h.has.searching.node) dirs j) table)
+          (open_ended h.has.searching.node h.has.searching.node_is)
+
+  -- none waits
+  pub none_waits : (at : ℕ) (k : Table) (taken : List ℕ) → IsGrid g
+      → HasOffered ByArrival g.width t (jump_links g t) s at k taken → NoneOpen k → IsExhausted g s t taken
+  none_waits at k taken whole o none =
+      exhausted ByArrival g.width g.height s t (jump_links g t) (fit g s t whole served.from served.to) at k taken o
+      none
+
+  -- the next state
+  pub record HasNext (id : ℕ) (node : Node) (k : Table) (taken : List ℕ) : Type 0 where
+    pub has : HasTaken ByArrival g.width t (jump_links g t) s id (closed_at id k)
+        (taken ++ state_number g.width (state_told node.place) ∷ [])
+    pub on : (node_cell node).x < g.width
+    pub row : (node_cell node).y < g.height
+
+  pub has_next : (at : ℕ) (k : Table) (taken : List ℕ) → IsGrid g
+      → HasOffered ByArrival g.width t (jump_links g t) s at k taken → (id : ℕ) (node : Node)
+      → IsFirstNode k id → slice_get k.nodes id ≡ Some node → HasNext id node k taken
+  has_next at k taken whole o id node first read =
+      let has = next_taken ByArrival g.width g.height s t (jump_links g t)
+      (fit g s t whole served.from served.to) at k taken o id node first read in
+      let one : has.searching.node ≡ node =
+      ap (λ (q : Option Node). elim q as (λ _. Node) [ Some x ↦ x | None ↦ node ])
+      (sym has.searching.node_is ∙ read) in
+      let state : has.last.state ≡ state_told node.place =
+      sym has.searching.state ∙ ap (λ (m : Node). state_told m.place) one in
+      let arrived = run_arrived g s t served.from (has.last ∷ has.earlier) has.searching.run has.last
+      (here has.earlier) in
+      let inside = free_inside g has.last.state.cell arrived.free in
+      let cell : has.last.state.cell ≡ node_cell node = ap (λ (u : State). u.cell) state in
+      record {
+        has = has;
+        on = subst (λ (c : Cell). c.x < g.width) cell inside.0;
+        row = subst (λ (c : Cell). c.y < g.height) cell inside.1;
+      }
+
+  pub reached_next : (id : ℕ) (node : Node) (old mid new : SpaceData) (before taken : List ℕ) → IsSpaceOf g old
+      → KeepsShape old mid → KeepsShape mid new → HasNext id node mid.table before
+      → new.table ≡ closed_at id mid.table
+      → taken ≡ before ++ state_number g.width (state_told node.place) ∷ [] → HasReached g s t id new taken
+  reached_next id node old mid new before taken of shape shape_on next table numbers = record {
+    of = same_shape g mid new (same_shape g old mid of shape) shape_on;
+    has = subst (λ (k : Table). HasTaken ByArrival g.width t (jump_links g t) s id k taken) (sym table)
+        (subst (λ (ns : List ℕ). HasTaken ByArrival g.width t (jump_links g t) s id (closed_at id mid.table) ns)
+        (sym numbers) next.has);
+  }
