@@ -203,3 +203,36 @@ module _ (Stands : GridData → Type 0) (s t : Cell) (g : GridData) (served : Is
         (subst (λ (ns : List ℕ). HasTaken ByArrival g.width t (jump_links g t) s id (closed_at id mid.table) ns)
         (sym numbers) next.has);
   }
+
+  module _ (at : ℕ) (space : SpaceData) (taken : List ℕ) (h : HasReached g s t at space taken) where
+    -- the way back from the last state
+    pub leads_back : HasBack t space.table.nodes at
+    leads_back = has_back ByArrival g.width g.height s t (jump_links g t)
+        (fit g s t h.of.whole served.from served.to) at space.table taken h.has
+
+    -- where it is the goal's, it is the answer
+    pub found_at : ((n : Node) → slice_get space.table.nodes at ≡ Some n → node_cell n ≡ t)
+        → (points : List Cell) (cost : Cost) → IsWayTo t space.table.nodes at points cost
+        → IsFound g s t points cost taken
+    found_at at_goal points cost way =
+        let one = way_is ByArrival g.width g.height s t (jump_links g t)
+        (fit g s t h.of.whole served.from served.to) at space.table taken h.has points cost way in
+        record {
+          earlier = h.has.earlier;
+          last = h.has.last;
+          run = h.has.searching.run;
+          at_goal = ap (λ (u : State). u.cell) (sym h.has.searching.state)
+              ∙ at_goal h.has.searching.node h.has.searching.node_is;
+          priced = one.1;
+          along = one.0;
+          numbered = h.has.numbered;
+        }
+
+    -- there are at most nine states for each of 2^24 cells
+    pub few_taken : length taken ≤ 150994944
+    few_taken =
+        let fits = taken_fits ByArrival g.width g.height s t (jump_links g t)
+        (fit g s t h.of.whole served.from served.to) at space.table taken h.has in
+        let cells : g.height * g.width ≤ 16777216 =
+        (let a = h.of.whole.sides.narrow in let b = h.of.whole.sides.low in mul-le-mul b a) in
+        omega arith

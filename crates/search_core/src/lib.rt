@@ -10,7 +10,8 @@
 mod found;
 mod jumping;
 pub mod laws;
-mod search;
+mod searching;
 
 pub use best_first::{NoMemory, Taken};
 pub use found::Found;
+pub use searching::{search, search_in};

@@ -4,7 +4,7 @@ use Rattle.std.specs.declared.result.Result.{Result}
 use Rattle.best_first.specs.declared.state.State.{State}
 use Rattle.best_first.specs.State.{state_number}
 use Rattle.search_core.proofs.Standing.{reached_first}
-use Rattle.search_core.proofs.search.begin.Goals as goal
+use Rattle.search_core.proofs.searching.begin.Goals as goal
 
 on_ok : {T E : Type 0} (result : Result T E) {P Q : Type 0} → OnOk result P → (P → Q) → OnOk result Q
 on_ok (Ok v) p f = f p

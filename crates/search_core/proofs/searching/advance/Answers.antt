@@ -3,7 +3,7 @@ use Rattle.std.specs.Prelude.{slice_get, Some}
 use Rattle.std.proofs.lemmas.Option.{slice_get_within}
 use Rattle.best_first.specs.declared.node.Node.{Node}
 use Rattle.search_core.proofs.Advancing.{counted_one, ranked, can_call, offering, each_allowed, ended, on_map, reached_on}
-use Rattle.search_core.proofs.search.advance.Goals as goal
+use Rattle.search_core.proofs.searching.advance.Goals as goal
 
 pub last_at-last-requires-clause-ranked : goal.last_at-last-requires-clause-ranked
 last_at-last-requires-clause-ranked g c =
