@@ -68,9 +68,11 @@ module _ (Stands : GridData → Type 0) (s t : Cell) (last : Last) (d : Dir)
   pub ready_on : (space : SpaceData) (n : ℕ) → OnSome Stands s t
       → OnEach Stands s t (λ g. IsOffering g s t last space) → Answers (Some n)
       → (g : GridData) × IsReady g s t last d n space
-  ready_on space n some offering a =
-      (some.0, is_ready some.0 s t some.1.from some.1.to last space (offering some.0 some.1) d
-      (allowed some.0 some.1) n (computed (Some n) a some.0 some.1))
+  ready_on space n some offering a = (
+    some.0,
+    is_ready some.0 s t some.1.from some.1.to last space (offering some.0 some.1) d
+        (allowed some.0 some.1) n (computed (Some n) a some.0 some.1),
+  )
 
   -- and gives the nodes after the jump
   pub jumped_on : (space : SpaceData) (n : ℕ) (o : Way) (new : Table)
