@@ -1,15 +1,15 @@
 -- The parents of the nodes lead back along the run's way.
-use Rattle.std.proofs.Common.{◌≡◌, ◌≢◌, ℕ, ◌+◌, ◌-◌, ◌*◌, ◌<◌, ◌≤◌, ◌⊎◌, inl, inr, List, [], ◌∷◌, ◌++◌, refl, ap, sym, ◌∙◌, subst, Bool, true, false, ◌||◌, ◌&&◌, arith, reverse, map}
+use Rattle.std.proofs.Common.{◌≡◌, ◌≢◌, ℕ, ◌+◌, ◌-◌, ◌<◌, inl, inr, List, [], ◌∷◌, ◌++◌, refl, ap, sym, ◌∙◌, subst, Bool, true, false, ◌&&◌, arith, reverse, map}
 use Rattle.std.proofs.lemmas.List.{reverse-append}
 use Rattle.std.proofs.lemmas.Bool.Decides.{nat_tests}
-use Rattle.std.specs.Prelude.{Option, Some, None, slice_get, if◌then◌else◌, nat_eq}
+use Rattle.std.specs.Prelude.{Some, slice_get, nat_eq}
 use Rattle.root2_cost.specs.declared.Cost.{Cost}
 use Rattle.root2_cost.specs.Rank.{rank_of}
 use Rattle.root2_cost.specs.Sums.{add_costs, no_cost}
 use Rattle.grid_moves.specs.declared.Cell.{Cell}
 use Rattle.grid_moves.specs.Move.{is_same}
 use Rattle.grid_moves.specs.Points.{estimate}
-use Rattle.search_run.specs.Run.{Taken, Offer, IsIn, here, there, IsRun, is_taken, way_to, sum_at}
+use Rattle.search_run.specs.Run.{Taken, IsIn, here, there, IsRun, is_taken, way_to}
 use Rattle.search_run.proofs.Leastness.{least_offer-from, or_true}
 use Rattle.best_first.specs.declared.node.Node.{Node}
 use Rattle.best_first.specs.declared.state.State.{State}
@@ -87,7 +87,7 @@ module _ (layout : Layout) (width height : ℕ) (start goal : Cell) (link : Link
   cell_is n s e = sym (in_cell layout (state_told n.place)) ∙ ap (λ (u : State). u.cell) e
 
   -- what is left of a key is the rank of the cost
-  left_is : (id : ℕ) (n : Node) → slice_get k.nodes id ≡ Some n → (u : Taken State) → IsIn u (last ∷ before)
+  pub left_is : (id : ℕ) (n : Node) → slice_get k.nodes id ≡ Some n → (u : Taken State) → IsIn u (last ∷ before)
       → state_of layout n ≡ u.state → rank_left goal n ≡ rank_of u.cost
   left_is id n h u m e =
       let key : n.key ≡ rank_of u.cost + rank_of (estimate u.state.cell goal)

@@ -1,16 +1,12 @@
 -- A run takes at most nine states for each cell.
-use Rattle.std.proofs.Common.{◌≡◌, ℕ, zero, suc, ◌+◌, ◌*◌, ◌<◌, ◌≤◌, length, List, [], ◌∷◌, refl, ap, sym, ◌∙◌, subst, Bool, true, false, ◌||◌, arith, map, eqb}
+use Rattle.std.proofs.Common.{◌≡◌, ℕ, zero, suc, ◌+◌, ◌*◌, ◌<◌, ◌≤◌, length, List, [], ◌∷◌, refl, ap, sym, ◌∙◌, subst, true, false, arith}
 use Rattle.std.specs.Prelude.{Option, Some, None, slice_get}
-use Rattle.std.specs.List.{IsDistinct, AllByRecursion, list_any}
-use Rattle.std.proofs.lemmas.Map.Steps.{length-le_from_distinct_below}
-use Rattle.std.proofs.lemmas.Bool.Decides.{nat_tests}
 use Rattle.grid_moves.specs.declared.Cell.{Cell}
 use Rattle.grid_moves.specs.Grid.{cell_number}
 use Rattle.grid_moves.proofs.Places.{one_cell, number_below}
 use Rattle.search_run.specs.Run.{Taken, IsIn, here, there, IsRun, is_taken}
 use Rattle.search_run.proofs.Leastness.{or_false}
 use Rattle.best_first.specs.declared.state.State.{State}
-use Rattle.best_first.specs.declared.state.Layout.{Layout}
 use Rattle.best_first.specs.State.{arrival_number, state_number, is_same_state, start_at}
 use Rattle.best_first.specs.Rule.{Links, search_rule, LiesOn, IsPosed}
 use Rattle.best_first.proofs.Numbers.{at_most}

@@ -1,16 +1,14 @@
 -- An exact index leads to what is looked up, and stays exact.
-use Rattle.std.proofs.Common.{◌≡◌, ◌≢◌, ℕ, zero, suc, ◌+◌, ◌*◌, ◌<◌, ◌≤◌, ◌⊎◌, inl, inr, length, List, [], ◌∷◌, ◌++◌, refl, ap, sym, ◌∙◌, subst, Bool, true, false, arith, map}
+use Rattle.std.proofs.Common.{◌≡◌, ℕ, zero, suc, ◌+◌, ◌*◌, ◌<◌, ◌≤◌, ◌⊎◌, inl, inr, length, List, [], ◌∷◌, ◌++◌, refl, ap, sym, ◌∙◌, subst, Bool, true, false, arith}
 use Rattle.std.specs.Prelude.{Option, Some, None, slice_get, slice_set, slice_index_or, nat_eq, if◌then◌else◌}
 use Rattle.std.proofs.lemmas.Grind.{common_steps}
-use Rattle.std.proofs.lemmas.Option.{slice_get_within}
-use Rattle.grid_moves.specs.declared.Cell.{Cell}
 use Rattle.grid_moves.specs.Grid.{cell_number}
 use Rattle.grid_moves.proofs.Places.{one_cell}
 use Rattle.best_first.specs.declared.node.Node.{Node}
 use Rattle.best_first.specs.declared.state.State.{State}
 use Rattle.best_first.specs.declared.state.Layout.{Layout}
 use Rattle.best_first.specs.declared.state.Layout.TheVariants.{ByCell, ByArrival}
-use Rattle.best_first.specs.Index.{entry_for, entry_in, entry_of_record, AreHeads, AreBlank, IsNodeAt, AreCovered, IsExact, IsPut}
+use Rattle.best_first.specs.Index.{entry_for, entry_in, entry_of_record, AreHeads, AreBlank, IsNodeAt, IsExact, IsPut}
 use Rattle.best_first.specs.Node.{state_of}
 use Rattle.best_first.specs.Space.{IsPlaced}
 use Rattle.best_first.specs.State.{arrival_number, state_number}

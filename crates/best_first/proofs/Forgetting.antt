@@ -1,12 +1,12 @@
 -- Heads that are set back to 0, node by node.
-use Rattle.std.proofs.Common.{◌≡◌, ℕ, zero, suc, ◌+◌, ◌<◌, ◌≤◌, inl, inr, length, List, refl, ap, sym, ◌∙◌, subst, arith}
+use Rattle.std.proofs.Common.{◌≡◌, ℕ, suc, ◌+◌, ◌≤◌, inl, inr, length, List, ap, sym, ◌∙◌, subst, arith}
 use Rattle.std.specs.Prelude.{Some, slice_get, slice_set}
 use Rattle.std.proofs.lemmas.Option.{slice_get_within}
 use Rattle.grid_moves.specs.declared.Cell.{Cell}
 use Rattle.grid_moves.specs.Grid.{cell_number}
 use Rattle.best_first.specs.declared.node.Node.{Node}
 use Rattle.best_first.specs.declared.state.Layout.{Layout}
-use Rattle.best_first.specs.Index.{AreCovered, AreBlank, IsNodeAt}
+use Rattle.best_first.specs.Index.{AreCovered, AreBlank}
 use Rattle.best_first.specs.Node.{state_of}
 use Rattle.best_first.specs.Space.{IsPlaced}
 use Rattle.best_first.specs.State.{state_told}

@@ -1,19 +1,15 @@
 -- The octile estimate is consistent over links that cost octile distances, and sums are short.
-use Rattle.std.proofs.Common.{◌≡◌, ℕ, ◌+◌, ◌*◌, ◌<◌, ◌≤◌, ◌^◌, refl, ap, sym, ◌∙◌, subst, true, false, arith}
-use Rattle.std.specs.Prelude.{Some}
+use Rattle.std.proofs.Common.{ℕ, ◌+◌, ◌≤◌, ◌^◌, arith}
 use Rattle.root2_cost.specs.declared.Cost.{Cost}
 use Rattle.root2_cost.specs.Laws.{HasShortParts}
 use Rattle.root2_cost.specs.Order.{IsAtMost}
-use Rattle.root2_cost.specs.Rank.{rank_of}
-use Rattle.root2_cost.specs.Sums.{add_costs, no_cost}
+use Rattle.root2_cost.specs.Sums.{add_costs}
 use Rattle.root2_cost.proofs.Distance.{octile_triangle}
 use Rattle.grid_moves.specs.declared.Cell.{Cell}
-use Rattle.grid_moves.specs.Move.{is_same}
 use Rattle.grid_moves.specs.Points.{apart, estimate}
 use Rattle.grid_moves.proofs.Legal.{is_same-cell}
 use Rattle.grid_moves.proofs.Consistent.{estimate_nothing}
 use Rattle.search_run.specs.Chain.{IsConsistent}
-use Rattle.best_first.specs.declared.state.State.{State}
 use Rattle.best_first.specs.Rule.{Links, search_rule, AreLinks, LiesOn}
 use Rattle.best_first.proofs.States.{is_same_state-state, is_same_state-itself}
 

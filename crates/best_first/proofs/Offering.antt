@@ -1,6 +1,6 @@
 -- An offer keeps the run: with a new node, a lesser key, or no change.
-use Rattle.std.proofs.Common.{◌≡◌, ◌≢◌, ℕ, ◌+◌, ◌*◌, ◌<◌, ◌≤◌, ◌⊎◌, inl, inr, length, List, [], ◌∷◌, ◌++◌, refl, ap, sym, ◌∙◌, subst, Bool, true, false, arith}
-use Rattle.std.specs.Prelude.{Option, Some, None, slice_get, if◌then◌else◌, nat_lt}
+use Rattle.std.proofs.Common.{◌≡◌, ◌≢◌, ℕ, ◌+◌, ◌<◌, ◌≤◌, inl, inr, length, List, [], ◌∷◌, ◌++◌, refl, ap, sym, ◌∙◌, subst, Bool, true, false, arith}
+use Rattle.std.specs.Prelude.{Option, Some, None, slice_get, nat_lt}
 use Rattle.std.proofs.lemmas.Bool.Decides.{nat_tests}
 use Rattle.std.proofs.lemmas.Option.{slice_get_within}
 use Rattle.std.proofs.lemmas.Grind.{common_steps}
@@ -13,17 +13,17 @@ use Rattle.root2_cost.proofs.Ranking.{less_ranks, ranks_less}
 use Rattle.root2_cost.proofs.Sums.{IsLess-add_right, IsLess-cancel_right}
 use Rattle.grid_moves.specs.declared.Cell.{Cell}
 use Rattle.grid_moves.specs.Points.{estimate}
-use Rattle.search_run.specs.Run.{Taken, Offer, IsIn, is_taken, lesser, sum_at}
+use Rattle.search_run.specs.Run.{Taken, Offer, is_taken, lesser, sum_at}
 use Rattle.best_first.specs.declared.node.Node.{Node}
 use Rattle.best_first.specs.declared.node.Offer.{Offer as Way}
 use Rattle.best_first.specs.declared.state.State.{State}
 use Rattle.best_first.specs.declared.state.Layout.{Layout}
 use Rattle.best_first.specs.declared.state.Layout.TheVariants.{ByCell, ByArrival}
-use Rattle.best_first.specs.State.{is_same_state, state_in, state_told, place_of}
+use Rattle.best_first.specs.State.{is_same_state, state_in, state_told}
 use Rattle.best_first.specs.Rule.{Links, search_rule}
 use Rattle.best_first.specs.Node.{state_of}
 use Rattle.best_first.specs.Table.{Table, lookup, node_for, added, replaced, is_bettered, offered, offered_at}
-use Rattle.best_first.specs.Mirror.{Offers, with_offer, Keeps, IsInOrder, Mirrors}
+use Rattle.best_first.specs.Mirror.{Offers, with_offer, Keeps, Mirrors}
 use Rattle.best_first.proofs.Lists.{get-last, get-added, got-added, get-set_same, get-set_other}
 use Rattle.best_first.proofs.States.{is_same_state-state, is_same_state-itself, same_or_not, told-place}
 use Rattle.best_first.proofs.Lookup.{lookup-found, none_found}

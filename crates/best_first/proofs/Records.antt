@@ -1,13 +1,12 @@
 -- Heads and records: what is read of them, and what changes when a record is taken and when an entry is set.
-use Rattle.std.proofs.Common.{◌≡◌, ◌≢◌, ℕ, zero, suc, ◌+◌, ◌<◌, ◌≤◌, ◌⊎◌, inl, inr, length, List, [], ◌∷◌, ◌++◌, refl, ap, sym, ◌∙◌, subst, Bool, true, false, arith}
-use Rattle.std.specs.Prelude.{Option, Some, None, slice_get, slice_set, slice_index_or, nat_eq, if◌then◌else◌}
+use Rattle.std.proofs.Common.{◌≡◌, ℕ, zero, suc, ◌<◌, ◌⊎◌, inl, inr, length, List, [], ◌∷◌, ◌++◌, refl, ap, sym, ◌∙◌, subst, true, false, arith}
+use Rattle.std.specs.Prelude.{Option, Some, None, slice_get, slice_set, slice_index_or, nat_eq}
 use Rattle.std.specs.Option.{option_map_or}
 use Rattle.std.proofs.lemmas.Option.{get_or_from_slice_get, slice_get_within}
 use Rattle.std.proofs.lemmas.Bool.Decides.{nat_tests}
-use Rattle.best_first.specs.declared.state.Layout.{Layout}
 use Rattle.best_first.specs.declared.state.Layout.TheVariants.{ByCell, ByArrival}
-use Rattle.best_first.specs.Index.{entry_of_record, entry_in, HasRecord, AreRecords, AreHeads, IsOpened, IsPut, AreBlank}
-use Rattle.best_first.proofs.Lists.{get-last, get-added, got-added, get-set_same, get-set_other, got-set}
+use Rattle.best_first.specs.Index.{entry_of_record, entry_in, HasRecord, AreRecords, IsOpened, IsPut}
+use Rattle.best_first.proofs.Lists.{get-last, get-added, get-set_same, get-set_other, got-set}
 
 -- a list read at a place, by a default or not
 pub read : {X : Type 0} (xs : List X) (i : ℕ) (x : X) → i < length xs
@@ -257,12 +256,12 @@ opened_before heads records cell (suc r) a e n = record {
     get_head (Some v) g = ap (λ (m : ℕ). Some m) (sym (head-is heads cell v g) ∙ e)
 
 -- an entry set after a record was opened
-pub put_opened : (heads later : List ℕ) (records more changed : List (List ℕ)) (cell b entry : ℕ)
+pub put_opened : (heads later : List ℕ) (records more after : List (List ℕ)) (cell b entry : ℕ)
     → (o : IsOpened heads later records more cell) → b < 9
     → ((entries : List ℕ) → slice_get more o.r ≡ Some entries
-    → changed ≡ slice_set more o.r (slice_set entries b entry))
-    → IsPut ByArrival heads later records changed cell b entry
-put_opened heads later records more changed cell b entry o small set =
+    → after ≡ slice_set more o.r (slice_set entries b entry))
+    → IsPut ByArrival heads later records after cell b entry
+put_opened heads later records more after cell b entry o small set =
     let old = o.records_are.have cell o.r o.head in
     let p = set_entry later more cell o.r o.records_are o.head old.entries old.record_is b entry small in
     subst (λ (c : List (List ℕ)). IsPut ByArrival heads later records c cell b entry)

@@ -1,9 +1,8 @@
 -- The search from one taken state to the next.
-use Rattle.std.proofs.Common.{◌≡◌, ℕ, zero, suc, ◌+◌, ◌*◌, ◌<◌, ◌≤◌, ◌^◌, ◌⊎◌, inl, inr, length, List, [], ◌∷◌, refl, ap, sym, ◌∙◌, subst, Bool, true, false, not, ◌||◌, arith}
+use Rattle.std.proofs.Common.{◌≡◌, ℕ, zero, suc, ◌+◌, ◌<◌, ◌≤◌, ◌^◌, ◌⊎◌, inl, inr, List, [], ◌∷◌, refl, ap, sym, ◌∙◌, subst, Bool, true, false, ◌||◌, arith}
 use Rattle.std.specs.Prelude.{Option, Some, None, slice_get, if◌then◌else◌}
 use Rattle.root2_cost.specs.declared.Cost.{Cost}
 use Rattle.root2_cost.specs.Laws.{HasShortParts}
-use Rattle.root2_cost.specs.Order.{IsLess}
 use Rattle.root2_cost.specs.Rank.{rank_of}
 use Rattle.root2_cost.specs.Sums.{add_costs, no_cost}
 use Rattle.root2_cost.proofs.AtMost.{IsAtMost-not_more}
@@ -13,7 +12,7 @@ use Rattle.grid_moves.specs.declared.Cell.{Cell}
 use Rattle.grid_moves.specs.Move.{is_same}
 use Rattle.grid_moves.specs.Points.{estimate}
 use Rattle.search_run.specs.Chain.{IsConsistent}
-use Rattle.search_run.specs.Run.{Taken, Offer, IsIn, here, there, IsRun, is_taken, has_goal, lesser, least_offer, sum_at}
+use Rattle.search_run.specs.Run.{Taken, IsIn, here, there, IsRun, is_taken, has_goal, lesser, least_offer, sum_at}
 use Rattle.search_run.proofs.Leastness.{least_offer-from, taken_state, below_last, link_rises}
 use Rattle.best_first.specs.declared.node.Node.{Node}
 use Rattle.best_first.specs.declared.node.Offer.{Offer as Way}
@@ -24,13 +23,13 @@ use Rattle.best_first.specs.State.{is_same_state, start_at, state_in, state_told
 use Rattle.best_first.specs.Rule.{Links, search_rule, LiesOn, IsPosed, IsSearch}
 use Rattle.best_first.specs.Node.{state_of}
 use Rattle.best_first.specs.Table.{Table, lookup, node_for, begun, offered, closed_at, IsFirstNode, NoneOpen, ClosedBelow}
-use Rattle.best_first.specs.Mirror.{Offers, Keeps, IsInOrder, Mirrors, IsSearching}
+use Rattle.best_first.specs.Mirror.{Offers, IsInOrder, Mirrors, IsSearching}
 use Rattle.best_first.specs.Ways.{with_onward}
 use Rattle.best_first.specs.Progress.{IsExhausted, numbers_of}
 use Rattle.best_first.proofs.Links.{consistent, short_sum, short_link}
 use Rattle.best_first.proofs.Mirrors.{some_node}
 use Rattle.best_first.proofs.Offering.{in_cell, rank-add_costs, new_key, offered_keeps, same_best}
-use Rattle.best_first.proofs.States.{is_same_state-state, is_same_state-itself, same_or_not, told-place}
+use Rattle.best_first.proofs.States.{is_same_state-itself, told-place}
 use Rattle.best_first.proofs.Tables.{offered_slot}
 use Rattle.best_first.proofs.Taking.{next, is_next, mirrors_on, none_open}
 
@@ -194,6 +193,10 @@ module _ (layout : Layout) (width height : ℕ) (start goal : Cell) (link : Link
       told = ap (λ (s : State). link.led s (state_told (place_of o.to))) i.state
           ∙ ap (λ (s : State). link.led x.state s)
           (told-place o.to (let a = way_on.0 in let b = fit.posed.narrow in omega arith)) ∙ led
+
+      -- which leaves the node of the taken state
+      pub node_stays : slice_get (offered layout goal o k).nodes at ≡ Some i.node
+      node_stays = offered_slot layout goal o k at i.node i.node_is key_rises
 
       -- one more offer
       pub one_more : IsSearching layout width goal link start x earlier at

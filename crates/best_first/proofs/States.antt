@@ -1,20 +1,18 @@
 -- States, their numbers, and the places that stand for them.
-use Rattle.std.proofs.Common.{◌≡◌, ℕ, zero, suc, min, ◌+◌, ◌*◌, ◌/◌, ◌%◌, ◌<◌, ◌≤◌, ◌⊎◌, inl, inr, refl, ap, sym, ◌∙◌, subst, Bool, true, false, ◌&&◌, arith}
-use Rattle.std.specs.Prelude.{Option, Some, None, nat_eq, nat_lt, slice_get}
+use Rattle.std.proofs.Common.{◌≡◌, ℕ, zero, suc, min, ◌+◌, ◌*◌, ◌/◌, ◌%◌, ◌<◌, ◌≤◌, ◌⊎◌, inl, inr, refl, ap, sym, ◌∙◌, Bool, true, false, ◌&&◌, arith}
+use Rattle.std.specs.Prelude.{Option, Some, None, nat_eq, slice_get}
 use Rattle.std.proofs.lemmas.Bool.Decides.{nat_tests}
 use Rattle.std.proofs.Math.Nat.{mul-le-mul}
 use Rattle.grid_moves.specs.declared.Cell.{Cell}
 use Rattle.grid_moves.specs.declared.Dir.{Dir}
 use Rattle.grid_moves.specs.declared.Dir.TheVariants.{N, NE, E, SE, S, SW, W, NW}
-use Rattle.grid_moves.specs.Grid.{cell_number}
-use Rattle.grid_moves.specs.Move.{is_same, all_dirs, dir_number}
+use Rattle.grid_moves.specs.Move.{is_same, all_dirs}
 use Rattle.grid_moves.proofs.Legal.{same_cell, is_same-cell, is_same-itself}
-use Rattle.grid_moves.proofs.Places.{one_cell}
 use Rattle.best_first.specs.declared.state.State.{State}
 use Rattle.best_first.specs.declared.state.Layout.{Layout}
 use Rattle.best_first.specs.declared.state.Layout.TheVariants.{ByCell, ByArrival}
 use Rattle.best_first.specs.declared.place.Place.{Place}
-use Rattle.best_first.specs.State.{arrival_number, state_number, is_same_state, start_at, state_in, place_of, state_told}
+use Rattle.best_first.specs.State.{arrival_number, state_number, is_same_state, state_in, place_of, state_told}
 
 arrival_of : ℕ → Option Dir
 arrival_of n = slice_get all_dirs n

@@ -1,5 +1,5 @@
 -- The next node that is popped is the run's next state, and where none is left no state waits.
-use Rattle.std.proofs.Common.{◌≡◌, ◌≢◌, ℕ, ◌+◌, ◌<◌, ◌≤◌, ◌⊎◌, inl, inr, List, [], ◌∷◌, refl, ap, sym, ◌∙◌, subst, Bool, true, false, ◌&&◌, ◌||◌, not, arith}
+use Rattle.std.proofs.Common.{◌≡◌, ◌≢◌, ℕ, ◌<◌, ◌≤◌, ◌⊎◌, inl, inr, List, ◌∷◌, refl, ap, sym, ◌∙◌, subst, Bool, true, false, ◌&&◌, ◌||◌, not, arith}
 use Rattle.std.specs.Prelude.{Option, Some, None, slice_get, slice_set, nat_eq, nat_lt}
 use Rattle.std.proofs.lemmas.Bool.Decides.{nat_tests}
 use Rattle.std.proofs.lemmas.Grind.{common_steps}
@@ -7,7 +7,6 @@ use Rattle.root2_cost.specs.declared.Cost.{Cost}
 use Rattle.root2_cost.specs.Laws.{HasShortParts}
 use Rattle.root2_cost.specs.Order.{is_less, IsLess}
 use Rattle.root2_cost.specs.Rank.{rank_of}
-use Rattle.root2_cost.specs.Sums.{add_costs}
 use Rattle.root2_cost.proofs.Less.{IsLess-total, IsLess-irreflexive, IsLess-asymmetric, same_cost}
 use Rattle.root2_cost.proofs.Ranking.{less_ranks}
 use Rattle.grid_moves.specs.declared.Cell.{Cell}
@@ -16,9 +15,9 @@ use Rattle.search_run.proofs.Leastness.{or_false, or_true}
 use Rattle.best_first.specs.declared.node.Node.{Node}
 use Rattle.best_first.specs.declared.state.State.{State}
 use Rattle.best_first.specs.declared.state.Layout.{Layout}
-use Rattle.best_first.specs.State.{is_same_state, state_number, state_told}
+use Rattle.best_first.specs.State.{is_same_state, state_number}
 use Rattle.best_first.specs.Rule.{Links, search_rule}
-use Rattle.best_first.specs.Node.{state_of, ranks_before}
+use Rattle.best_first.specs.Node.{state_of}
 use Rattle.best_first.specs.Table.{Table, lookup, closed_at, IsFirstNode, NoneOpen}
 use Rattle.best_first.specs.Mirror.{IsInOrder, Mirrors}
 use Rattle.best_first.proofs.Lists.{get-set_same, get-set_other}

@@ -1,11 +1,9 @@
 -- How a table keeps the run of a search.
-use Rattle.std.specs.Prelude.{◌≡◌, ℕ, ◌+◌, ◌<◌, ◌≤◌, ◌^◌, true, false, not, List, [], ◌∷◌, length, Option, Some, None, if◌then◌else◌, slice_get}
-use Rattle.root2_cost.specs.declared.Cost.{Cost}
+use Rattle.std.specs.Prelude.{◌≡◌, ℕ, ◌<◌, true, false, not, List, ◌∷◌, length, Option, Some, None, if◌then◌else◌, slice_get}
 use Rattle.root2_cost.specs.Laws.{HasShortParts}
 use Rattle.root2_cost.specs.Rank.{rank_of}
-use Rattle.root2_cost.specs.Sums.{add_costs}
 use Rattle.grid_moves.specs.declared.Cell.{Cell}
-use Rattle.search_run.specs.Run.{Taken, Offer, IsIn, lesser, least_offer, is_taken, has_goal, sum_at, IsRun, NoneWaits}
+use Rattle.search_run.specs.Run.{Taken, Offer, IsIn, lesser, is_taken, has_goal, sum_at, IsRun}
 use Rattle.best_first.specs.declared.node.Node.{Node}
 use Rattle.best_first.specs.declared.state.State.{State}
 use Rattle.best_first.specs.declared.state.Layout.{Layout}

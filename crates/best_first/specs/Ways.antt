@@ -1,8 +1,8 @@
 -- What a taken state offers: the links that it has, in some order.
-use Rattle.std.specs.Prelude.{◌≡◌, List, [], ◌∷◌, Option, Some}
+use Rattle.std.specs.Prelude.{List, [], ◌∷◌}
 use Rattle.root2_cost.specs.declared.Cost.{Cost}
 use Rattle.root2_cost.specs.Sums.{add_costs}
-use Rattle.search_run.specs.Run.{Taken, Offer}
+use Rattle.search_run.specs.Run.{Taken}
 use Rattle.best_first.specs.declared.state.State.{State}
 use Rattle.best_first.specs.Mirror.{Offers, with_offer}
 

@@ -3,11 +3,15 @@
 //! The key is one whole number that orders the sums of cost and estimate by their values. Among
 //! equal sums the state of the lesser number goes first, which is that of the lesser place.
 
-ghost use Rattle.std.specs.Prelude.{◌≡◌};
+ghost use Rattle.std.specs.Prelude.{◌≡◌, ◌≤◌, ◌<◌, ◌^◌};
+ghost use Rattle.best_first.specs.Trace.{node_cell, rank_left};
+ghost use Rattle.grid_moves.specs.Points.{estimate};
+ghost use Rattle.root2_cost.specs.Rank.{rank_of};
 ghost use Rattle.best_first.specs.Node.{ranks_before};
 ghost use Rattle.best_first.specs.Ranks.{ranks_order};
 
 use crate::{Place, State};
+use grid_moves::{Cell, estimate};
 use open_list::Ranked;
 
 /// A state that the search knows, with the least cost offered so far.
@@ -32,6 +36,17 @@ pub struct Offer {
     pub to: State,
 }
 
+impl Node {
+    /// The rank of the node's cost: its key less the rank of the estimate.
+    #[inline(always)]
+    pub fn cost_rank(self, goal: Cell) -> u64
+        requires { rank_of (estimate (node_cell self) goal) ≤ self.key }
+        ensures { result ≡ rank_left goal self }
+    {
+        self.key - estimate_rank(self.place.cell(), goal)
+    }
+}
+
 impl Ranked for Node {
     ghost before = { λ m n. ranks_before m n };
 
@@ -40,4 +55,13 @@ impl Ranked for Node {
     }
 
     ghost order = { ranks_order };
+}
+
+/// The rank of the estimate.
+#[inline(always)]
+pub(crate) fn estimate_rank(from: Cell, to: Cell) -> u64
+    ensures value { result ≡ rank_of (estimate from to) }
+    ensures small { result < 2 ^ 60 }
+{
+    estimate(from, to).rank()
 }

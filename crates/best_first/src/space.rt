@@ -11,8 +11,9 @@ ghost use Rattle.grid_moves.specs.Points.{estimate};
 ghost use Rattle.root2_cost.specs.Rank.{rank_of};
 
 use crate::index::Index;
+use crate::node::estimate_rank;
 use crate::{Layout, NoMemory, Node, Offer, Place, State};
-use grid_moves::{Cell, estimate, number_of};
+use grid_moves::{Cell, number_of};
 use open_list::Pool;
 use std::alloc::Global;
 use std::marker::Model;
@@ -50,15 +51,6 @@ impl Model for Space {
 
     ghost invariant = { λ s.
         AreParts s.index.layout s.width s.pool.nodes s.index.heads.items s.index.records.items };
-}
-
-// The rank of the estimate.
-#[inline(always)]
-pub(crate) fn estimate_rank(from: Cell, to: Cell) -> u64
-    ensures value { result ≡ rank_of (estimate from to) }
-    ensures small { result < 2 ^ 60 }
-{
-    estimate(from, to).rank()
 }
 
 // The node of an offer.

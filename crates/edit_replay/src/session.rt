@@ -4,7 +4,7 @@ ghost use Rattle.std.specs.Prelude.{◌≡◌, ◌<◌, IfOk, IfSome, MatchOptio
 ghost use Rattle.grid_moves.specs.Grid.{IsGrid, is_free, is_inside};
 ghost use Rattle.grid_moves.specs.Layers as spec;
 ghost use Rattle.grid_moves.specs.Reply.{IsRight};
-ghost use Rattle.plain_search.specs.Table.{HasRoom};
+ghost use Rattle.plain_search.specs.Room.{HasRoom};
 ghost use Rattle.edit_replay.specs.Edited.{edit_at, edit_reply};
 ghost use Rattle.edit_replay.specs.Replies.{answer_of, AddsEdit, EditsSo, IsEnd, IsRightOn, IsRunOn, IsRunReply, IsShort};
 
@@ -35,7 +35,7 @@ pub struct Session {
 
 impl Model for Session {
     ghost use Rattle.grid_moves.specs.Layers.{AreLayers};
-    ghost use Rattle.plain_search.specs.Table.{HasRoom};
+    ghost use Rattle.plain_search.specs.Room.{HasRoom};
     ghost use Rattle.edit_replay.specs.Session.{SessionData};
 
     ghost Value = { SessionData };

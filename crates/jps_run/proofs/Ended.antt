@@ -1,18 +1,14 @@
 -- How a call of `run` ends.
-use Rattle.std.proofs.Common.{◌≡◌, refl, sym, ap, ◌∙◌, subst, List, [], ℕ, ◌≤◌, ◌⊎◌, inl, inr, arith}
-use Rattle.std.specs.Prelude.{Vec}
+use Rattle.std.proofs.Common.{◌≡◌, refl, sym, subst, List, [], ℕ, ◌≤◌, ◌⊎◌, inl, inr, arith}
 use Rattle.word_list.specs.Calls.{is_call}
 use Rattle.word_list.specs.Request.{Call}
 use Rattle.word_list.specs.Rule.{IsBadWord}
-use Rattle.jps_run.specs.Ending.{Comes, Gets, HasLines, Whole, WroteNothing, none, some, worked_stops}
+use Rattle.jps_run.specs.Ending.{Comes, Gets, HasLines, Whole, WroteNothing, none, some}
 use Rattle.jps_run.specs.FaultLines.{word_line}
 use Rattle.jps_run.specs.Files.{HasRefused}
 use Rattle.jps_run.specs.Outcome.{Spell, bad_word, bad_text, done, files_of}
 use Rattle.jps_run.specs.Seen.{Seen, Stream}
 use Rattle.jps_run.specs.Sending.{IsAll, AreLines}
-use Rattle.jps_run.specs.Stops.{StopsSo}
-use Rattle.jps_run.specs.declared.stop.Stop.{Stop}
-use Rattle.jps_run.specs.declared.stop.Stop.TheVariants as stop
 use Rattle.jps_run.proofs.Pieces.{nothing}
 
 module _ (words : List (List ℕ)) (before : Seen) (err err_now : Stream) where

@@ -1,11 +1,10 @@
 -- The rows of entries.
-use Rattle.std.proofs.Common.{◌≡◌, refl, sym, ap, ◌∙◌, subst, List, [], ◌∷◌, ◌++◌, append_assoc, ℕ, suc, ◌+◌, ◌^◌, ◌<◌, length, arith, length-append, true, false, Bool}
+use Rattle.std.proofs.Common.{◌≡◌, refl, sym, ap, ◌∙◌, subst, List, [], ◌∷◌, ◌++◌, append_assoc, ℕ, suc, ◌+◌, ◌^◌, ◌<◌, length, arith, true, false, Bool}
 use Rattle.std.specs.Prelude.{Result, Ok, Err, OnOk}
-use Rattle.std.specs.List.{concat}
 use Rattle.std.proofs.lemmas.List.{append-nil}
 use Rattle.scen_text.specs.declared.entry.Entry.{Entry}
 use Rattle.jps_run.specs.Judging.{HasJudged, IsJudged}
-use Rattle.jps_run.specs.Rows.{has_sides, row_of, IsRow, scale, replied, row_line, row_lines, scen_lines, scen_status, sum_line}
+use Rattle.jps_run.specs.Rows.{has_sides, row_of, IsRow, scale, replied, row_line, row_lines, scen_status, sum_line}
 use Rattle.edit_replay.specs.Session.{SessionData}
 use Rattle.jps_run.specs.Tally.{tally_of, sum_text}
 use Rattle.jps_run.specs.Working.{Adds, Completes, IsNext}

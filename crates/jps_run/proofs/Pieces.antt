@@ -8,7 +8,7 @@ use Rattle.std.proofs.lemmas.List.Folds.{concat-append}
 use Rattle.io_edge.specs.Causes.{Rose}
 use Rattle.io_edge.specs.Whole.{AppendsSome}
 use Rattle.jps_run.specs.Seen.{Stream}
-use Rattle.jps_run.specs.Sending.{Wrote, WroteSome, AreSent, IsPart, AreLines, IsAll}
+use Rattle.jps_run.specs.Sending.{Wrote, WroteSome, AreSent, IsPart, AreLines}
 use Rattle.jps_run.specs.Working.{Completes}
 
 -- nothing was written

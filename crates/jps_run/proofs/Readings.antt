@@ -10,7 +10,8 @@ use Rattle.edit_replay.specs.Session.{SessionData}
 use Rattle.edit_replay.specs.declared.session.Engine.{Engine}
 use Rattle.word_list.specs.declared.request.Settings.{Settings}
 use Rattle.jps_run.specs.Session.{corner_of, engine_of, session_on}
-use Rattle.jps_run.specs.Files.{IsRead, Reads, ReadsText, faulty}
+use Rattle.jps_run.specs.Files.{faulty}
+use Rattle.jps_run.specs.Reading.{Reads, ReadsText}
 use Rattle.jps_run.specs.Kinds.{limit_of}
 use Rattle.jps_run.specs.declared.kind.Kind.{Kind}
 use Rattle.jps_run.specs.declared.stop.Stop.{Stop}

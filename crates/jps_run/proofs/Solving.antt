@@ -1,7 +1,7 @@
 -- The answers to commands.
 use Rattle.std.proofs.Common.{◌≡◌, refl, sym, ap, ◌∙◌, subst, List, [], ◌∷◌, ◌++◌, ℕ}
 use Rattle.std.specs.Prelude.{Result, Ok, Err, OnOk}
-use Rattle.std.specs.List.{fold, concat}
+use Rattle.std.specs.List.{fold}
 use Rattle.std.proofs.lemmas.List.{append-nil}
 use Rattle.grid_moves.specs.Layers.{Layers}
 use Rattle.grid_moves.specs.declared.Ground.TheVariants.{Blocked, Land, Water}
@@ -12,7 +12,7 @@ use Rattle.edit_replay.proofs.Edits.{edited-nothing}
 use Rattle.script_text.specs.declared.command.Command.{Command}
 use Rattle.script_text.specs.declared.command.Command.TheVariants.{Block, Free, Flood, Query}
 use Rattle.word_list.specs.declared.request.Show.{Show}
-use Rattle.jps_run.specs.Answers.{IsAnswerLine, AnswersAfter, AreAnswers, edits_of, edits_with}
+use Rattle.jps_run.specs.Answers.{IsAnswerLine, AnswersAfter, edits_of, edits_with}
 use Rattle.jps_run.specs.Answering.{PutsAnswer, GoesOn, HasAnswered, IsSolved}
 use Rattle.jps_run.specs.Lines.{reply_line, edit_line}
 use Rattle.jps_run.specs.Session.{session_after, reply_to_edit, width_of}

@@ -1,6 +1,7 @@
 -- What is known at a stop goes on to the call that it is passed to.
 use Rattle.std.proofs.Common.{◌≡◌, subst, sym, List, ℕ}
 use Rattle.std.specs.Prelude.{Result, Ok, Err, IsErrAnd}
+use Rattle.jps_run.specs.Sending.{write_stops}
 use Rattle.jps_run.specs.Stops.{Stops, StopsSo, Ends}
 use Rattle.jps_run.specs.declared.stop.Stop.{Stop}
 use Rattle.jps_run.specs.declared.stop.Stop.TheVariants as stop
@@ -39,3 +40,13 @@ no_stops Memory = record { Refused = λ line. ⊥; Read = ⊥; Write = ⊥; Memo
 pub follow-same : (known : Stops) → Follow known known
 follow-same known =
     record { refused = λ line k. k; read = λ k. k; write = λ k. k; memory = λ k. k }
+
+-- only memory may have been refused
+pub only_memory : {M : Type 0} {later : Stops} → (M → later.Memory) → Follow (no_stops M) later
+only_memory f =
+    record { refused = λ line k. absurd k; read = λ k. absurd k; write = λ k. absurd k; memory = f }
+
+-- only a write may have failed
+pub only_write : {W : Type 0} {later : Stops} → (W → later.Write) → Follow (write_stops W) later
+only_write f =
+    record { refused = λ line k. absurd k; read = λ k. absurd k; write = f; memory = λ k. absurd k }

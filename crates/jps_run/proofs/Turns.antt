@@ -1,5 +1,5 @@
 -- Findings for items that are worked one after the other.
-use Rattle.std.proofs.Common.{◌≡◌, refl, sym, ap, ◌∙◌, subst, List, [], ◌∷◌, ◌++◌, ℕ, suc, length}
+use Rattle.std.proofs.Common.{◌≡◌, refl, ap, List, [], ◌∷◌, ◌++◌, suc, length}
 use Rattle.std.specs.List.{fold}
 use Rattle.jps_run.specs.Turns.{AreInTurn}
 

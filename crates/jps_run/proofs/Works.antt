@@ -1,11 +1,12 @@
 -- The work on a request comes to its outcome, or stops.
-use Rattle.std.proofs.Common.{◌≡◌, refl, sym, ap, ◌∙◌, subst, List, [], ◌∷◌, ℕ, ◌≤◌, inl, inr, arith, ◌++◌}
+use Rattle.std.proofs.Common.{◌≡◌, refl, sym, ap, ◌∙◌, subst, List, [], ◌∷◌, ℕ, ◌≤◌, inl, inr, arith}
 use Rattle.std.specs.Prelude.{Result, IsErrAnd}
 use Rattle.io_edge.specs.Told.{Held}
 use Rattle.io_edge.specs.Causes.{NoneFell}
 use Rattle.word_list.specs.Request.{Call}
-use Rattle.jps_run.specs.Ending.{Whole, HasWorked, worked_stops}
-use Rattle.jps_run.specs.Files.{File, IsAccepted, AreAccepted, ComesTo, IsRefused, read_stops}
+use Rattle.jps_run.specs.Worked.{HasWorked, worked_stops}
+use Rattle.jps_run.specs.Files.{File, IsAccepted, AreAccepted, ComesTo, IsRefused}
+use Rattle.jps_run.specs.Reading.{read_stops}
 use Rattle.jps_run.specs.Outcome.{files_of, IsAnswered, IsOutput}
 use Rattle.jps_run.specs.Seen.{Seen}
 use Rattle.jps_run.specs.Sending.{IsAll, IsPrinted, SendsWhole}

@@ -67,21 +67,6 @@ pub data HasLines (words : List (List ℕ)) (before now : Seen) : Type 0 where
   some : (call : Call) → Spell words call → AreLines (Whole call before) before.out now.out
       → HasLines words before now
 
--- what is known where the work on a call stops
-abbrev pub worked_stops : Call → Seen → Seen → Stops
-worked_stops call before now = record {
-  Refused = λ line. HasRefused before.holds (files_of call.request) line × WroteNothing before now;
-  Read = FileRose (files_of call.request) before now × WroteNothing before now;
-  Write = Rose before.out.faults now.out.faults × IsPart (Whole call before) before.out now.out;
-  Memory = WroteNothing before now ⊎ AreLines (Whole call before) before.out now.out;
-}
-
--- the work on a call came to a right output, or it stops
-abbrev pub HasWorked : Call → Seen → Seen → Result ℕ Stop → Type 0
-HasWorked call before now result = Ends
-    (λ status. (status ≤ 1) × IsAll (Whole call before) before.out now.out status)
-    (worked_stops call before now) result
-
 -- the stream got the line of the word with which no call begins, behind these words or among them
 pub record Names (words : List (List ℕ)) (before now : Stream) : Type 0 where
   pub number : ℕ

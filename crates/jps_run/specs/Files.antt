@@ -1,5 +1,5 @@
 -- The files of a request: which texts they hold, and the first one that is refused.
-use Rattle.std.specs.Prelude.{◌≡◌, ℕ, List, [], ◌∷◌, ◌++◌, ⊤, Option, Some, None, Result}
+use Rattle.std.specs.Prelude.{◌≡◌, ℕ, List, [], ◌∷◌, ◌++◌, ⊤, Some, None, Result}
 use Rattle.io_edge.specs.Told.{Held}
 use Rattle.io_edge.specs.Causes.{Rose}
 use Rattle.io_edge.specs.Whole.{IsWhole, IsLonger}
@@ -53,27 +53,3 @@ pub record FileRose (files : List File) (before now : Seen) : Type 0 where
   pub file : File
   pub comes : ComesTo before.holds files file
   pub rose : Rose (before.faults file.name) (now.faults file.name)
-
--- a text was read as this value: the held bytes spell it, and are accepted behind the texts before it
-pub record IsRead {X : Type 0} (Spells : List ℕ → X → Type 0) (earlier : List (List ℕ)) (kind : Kind) (held : Held)
-    (value : X) : Type 0 where
-  pub text : List ℕ
-  pub accepted : IsAccepted earlier kind held text
-  pub spelled : Spells text value
-
--- a reading may stop at a refused text, at a read that failed, as the file's count shows, or for want of memory
-abbrev pub read_stops : (List ℕ → Type 0) → ℕ → ℕ → Stops
-read_stops Refused faults faults_now =
-    record { Refused = Refused; Read = Rose faults faults_now; Write = ⊥; Memory = ⊤ }
-
--- a file of this kind was read as a value, or the reading stopped
-abbrev pub Reads : {X : Type 0} → (List ℕ → X → Type 0) → Kind → Held → ℕ → ℕ → Result X Stop → Type 0
-Reads Spells kind held faults faults_now result = (earlier : List (List ℕ)) → Ends
-    (IsRead Spells earlier kind held)
-    (read_stops (IsRefused earlier kind held) faults faults_now) result
-
--- a text was read as a value that it spells and accepted behind the texts before it, or it is refused
-abbrev pub ReadsText : {X : Type 0} → (List ℕ → X → Type 0) → Kind → List ℕ → Result X Stop → Type 0
-ReadsText Spells kind text result = (earlier : List (List ℕ)) → Ends
-    (λ value. (refusal_of kind earlier text ≡ None) × Spells text value)
-    (record { Refused = λ line. refusal_of kind earlier text ≡ Some line; Read = ⊥; Write = ⊥; Memory = ⊤ }) result

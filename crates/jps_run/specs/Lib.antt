@@ -6,7 +6,7 @@ pub mod FaultLines
 pub mod Kinds
 pub mod Files
 pub mod Session
-pub mod Spelled
+pub mod Reading
 pub mod Lines
 pub mod Answers
 pub mod Rows
@@ -14,6 +14,7 @@ pub mod Tally
 pub mod Texts
 pub mod Outcome
 pub mod Ending
+pub mod Worked
 pub mod Working
 pub mod Answering
 pub mod Judging

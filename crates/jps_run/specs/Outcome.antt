@@ -18,7 +18,6 @@ use Rattle.jps_run.specs.Files.{File, AreAccepted, HasRefused}
 use Rattle.jps_run.specs.Rows.{AreRows, scen_lines, scen_status}
 use Rattle.jps_run.specs.Session.{session_on}
 use Rattle.jps_run.specs.Texts.{help_text, version_text}
-use Rattle.jps_run.specs.declared.kind.Kind.{Kind}
 use Rattle.jps_run.specs.declared.kind.Kind.TheVariants as kind
 use Rattle.jps_run.specs.declared.row.Row.{Row}
 

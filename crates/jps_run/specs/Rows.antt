@@ -1,7 +1,6 @@
 -- The rows that judge a scenario.
 use Rattle.std.specs.Prelude.{◌≡◌, ℕ, ◌+◌, Bool, true, false, nat_eq, ◌&&◌, ◌||◌, if◌then◌else◌, List, [], ◌∷◌, ◌++◌, length, codes, decimal, count_by}
 use Rattle.std.specs.List.{list_all}
-use Rattle.root2_cost.specs.declared.Cost.{Cost}
 use Rattle.root2_cost.specs.declared.lengths.Decimal.{Decimal}
 use Rattle.root2_cost.specs.declared.lengths.Verdict.{Verdict}
 use Rattle.root2_cost.specs.declared.lengths.Verdict.TheVariants.{Agree, Near, Off}

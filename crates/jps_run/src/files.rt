@@ -4,10 +4,10 @@ ghost use Rattle.std.specs.Prelude.{◌≡◌, ◌≤◌, ℕ, List, Ok, length}
 ghost use Rattle.io_edge.specs.Causes.{NoneFell};
 ghost use Rattle.io_edge.specs.Whole.{IsWhole, IsLonger};
 ghost use Rattle.jps_run.specs.FaultLines.{long_line as line_of_long};
-ghost use Rattle.jps_run.specs.Files.{Reads, ReadsText, read_stops};
+ghost use Rattle.jps_run.specs.Reading.{Reads, ReadsText, read_stops};
 ghost use Rattle.jps_run.specs.Kinds.{kind_word, limit_of};
 ghost use Rattle.jps_run.specs.Session as spec;
-ghost use Rattle.jps_run.specs.Spelled.{SpellsSession};
+ghost use Rattle.jps_run.specs.Reading.{SpellsSession};
 ghost use Rattle.jps_run.specs.Stops.{Ends};
 ghost use Rattle.jps_run.specs.declared.kind.Kind.TheVariants as kinds;
 
@@ -43,7 +43,7 @@ pub(crate) trait Text: Drop + Sized {
 }
 
 impl Text for MapText {
-    ghost use Rattle.jps_run.specs.Spelled.{SpellsMap};
+    ghost use Rattle.jps_run.specs.Reading.{SpellsMap};
     ghost use Rattle.jps_run.specs.declared.kind.Kind.TheVariants.{Map};
 
     ghost kind_of_text = { Map };
@@ -63,7 +63,7 @@ impl Text for MapText {
 }
 
 impl Text for Vec<Command> {
-    ghost use Rattle.jps_run.specs.Spelled.{SpellsScript};
+    ghost use Rattle.jps_run.specs.Reading.{SpellsScript};
     ghost use Rattle.jps_run.specs.declared.kind.Kind.TheVariants.{Script};
 
     ghost kind_of_text = { Script };
@@ -83,7 +83,7 @@ impl Text for Vec<Command> {
 }
 
 impl Text for Vec<Entry> {
-    ghost use Rattle.jps_run.specs.Spelled.{SpellsScen};
+    ghost use Rattle.jps_run.specs.Reading.{SpellsScen};
     ghost use Rattle.jps_run.specs.declared.kind.Kind.TheVariants.{Scen};
 
     ghost kind_of_text = { Scen };

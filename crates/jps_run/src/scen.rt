@@ -2,7 +2,7 @@
 
 ghost use Rattle.std.specs.Prelude.{◌≡◌};
 ghost use Rattle.word_list.specs.Request as asked;
-ghost use Rattle.jps_run.specs.Ending.{HasWorked};
+ghost use Rattle.jps_run.specs.Worked.{HasWorked};
 ghost use Rattle.jps_run.specs.Outcome.{call_with};
 ghost use Rattle.jps_run.specs.Seen.{seen};
 

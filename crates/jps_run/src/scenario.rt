@@ -7,7 +7,7 @@ ghost use Rattle.jps_run.specs.Judging.{IsJudged};
 ghost use Rattle.jps_run.specs.Rows as rows;
 ghost use Rattle.jps_run.specs.Seen.{stream};
 ghost use Rattle.jps_run.specs.Sending.{SendsWhole};
-ghost use Rattle.jps_run.specs.Spelled.{AreKept};
+ghost use Rattle.jps_run.specs.Reading.{AreKept};
 ghost use Rattle.jps_run.specs.Tally.{tally_of};
 
 use crate::NoMemory;

@@ -3,7 +3,8 @@
 ghost use Rattle.std.specs.Prelude.{◌≡◌, ℕ, ◌≤◌, ◌⊎◌, map, string_bytes};
 ghost use Rattle.io_edge.specs.Causes.{Rose};
 ghost use Rattle.word_list.specs.Request.{called};
-ghost use Rattle.jps_run.specs.Ending.{Comes, Gets, HasLines, HasPart, HasWorked, NamedRose, Names, WroteNothing, ending_line};
+ghost use Rattle.jps_run.specs.Ending.{Comes, Gets, HasLines, HasPart, NamedRose, Names, WroteNothing, ending_line};
+ghost use Rattle.jps_run.specs.Worked.{HasWorked};
 ghost use Rattle.jps_run.specs.FaultLines.{word_line as line_of_word};
 ghost use Rattle.jps_run.specs.Seen.{seen, stream};
 ghost use Rattle.jps_run.specs.Sending.{IsPrinted, SendsWhole};

@@ -1,13 +1,12 @@
 -- What a text is read as, what it spells and how it breaks the grammar.
-use Rattle.std.proofs.Common.{◌≡◌, ◌≢◌, ℕ, ◌+◌, List, length, Option, Some, None, Result, Ok, Err, refl, ap, subst, ◌∙◌, arith}
-use Rattle.std.specs.Prelude.{IfOk, IfErr}
+use Rattle.std.proofs.Common.{◌≡◌, ℕ, ◌+◌, List, length, Option, Result, Ok, Err, refl, ap, subst, ◌∙◌, arith}
 use Rattle.text_line.specs.Lines.{lines_of}
+use Rattle.text_line.specs.Reading.{reading}
+use Rattle.text_line.proofs.Reading.{Reads, reading_ok, reading_err}
 use Rattle.map_text.specs.declared.fault.MapFault.{MapFault}
-use Rattle.map_text.specs.declared.fault.MapFault.TheVariants.{Header, Side, Short, Missing, Byte, After, NoMemory}
-use Rattle.map_text.specs.declared.map.MapText.{MapText}
 use Rattle.map_text.specs.Map.{Map}
 use Rattle.map_text.specs.Spelling.{Spells}
-use Rattle.map_text.specs.Faults.{fault_at, first_fault, map_on, reading, map_of, BreaksFirst, plain, Tells}
+use Rattle.map_text.specs.Faults.{fault_at, first_fault, map_on, map_of, BreaksFirst, Tells}
 use Rattle.map_text.proofs.First.{first_fault_none, first_fault_found, first_fault_breaks, first_fault_clean}
 use Rattle.map_text.proofs.Clean.{Clean, clean_spells, broken_inside}
 use Rattle.map_text.proofs.Spelled.{spelled_clean, spelled_map}
@@ -31,18 +30,8 @@ map_of_clean text clean =
     ap (λ (found : Option MapFault). reading found (map_on lines))
     (first_fault_none lines 0 (length lines + 1) (λ k below. clean k (omega arith)))
 
-reading_ok : (found : Option MapFault) (on map : Map) → reading found on ≡ Ok map
-    → (found ≡ None) × (on ≡ map)
-reading_ok None on map read = (refl, cc)
-reading_ok (Some fault) on map read = absurd cc
-
-reading_err : (found : Option MapFault) (on : Map) (fault : MapFault) → reading found on ≡ Err fault
-    → found ≡ Some fault
-reading_err None on fault read = absurd cc
-reading_err (Some other) on fault read = cc
-
 -- what is read as a map spells it
-pub map_of_ok : (text : List ℕ) (map : Map) → map_of text ≡ Ok map → Spells text map
+map_of_ok : (text : List ℕ) (map : Map) → map_of text ≡ Ok map → Spells text map
 unfolding map_of
 map_of_ok text map read =
     let lines = lines_of text in
@@ -51,7 +40,7 @@ map_of_ok text map read =
     subst (Spells text) parts.1 (clean_spells text lines refl (λ k below. clean k (omega arith)))
 
 -- what is read as a fault breaks the grammar first so
-pub map_of_err : (text : List ℕ) (fault : MapFault) → map_of text ≡ Err fault
+map_of_err : (text : List ℕ) (fault : MapFault) → map_of text ≡ Err fault
     → BreaksFirst (lines_of text) fault
 unfolding map_of
 map_of_err text fault read =
@@ -60,7 +49,7 @@ map_of_err text fault read =
     (reading_err (first_fault lines 0 (length lines + 1)) (map_on lines) fault read)
 
 -- what spells a map is read as it
-pub map_of_spelled : (text : List ℕ) (map : Map) → Spells text map → map_of text ≡ Ok map
+map_of_spelled : (text : List ℕ) (map : Map) → Spells text map → map_of text ≡ Ok map
 map_of_spelled text map s =
     let clean : Clean (lines_of text) =
     λ k below. ap (λ (lines : List (List ℕ)). fault_at lines k) s.lines ∙ spelled_clean text map s k in
@@ -68,40 +57,16 @@ map_of_spelled text map s =
     (map_on lines) in read) s.lines
     ∙ ap (λ (on : Map). let read : Result Map MapFault = Ok on in read) (spelled_map text map s)
 
-tells_err : (fault : MapFault) (read : Result Map MapFault) → Tells (Err fault) read → fault ≢ NoMemory
-    → read ≡ Err fault
-tells_err (Header line) read tells other = tells
-tells_err (Side line) read tells other = tells
-tells_err (Short line) read tells other = tells
-tells_err (Missing line) read tells other = tells
-tells_err (Byte line column) read tells other = tells
-tells_err (After line) read tells other = tells
-tells_err NoMemory read tells other = absurd (other refl)
-
-pub err_tells : (fault : MapFault) (read : Result Map MapFault) → read ≡ Err fault → Tells (Err fault) read
-err_tells (Header line) read is = is
-err_tells (Side line) read is = is
-err_tells (Short line) read is = is
-err_tells (Missing line) read is = is
-err_tells (Byte line column) read is = is
-err_tells (After line) read is = is
-err_tells NoMemory read is = tt
+pub map_read : (text : List ℕ) → Reads (Spells text) (BreaksFirst (lines_of text)) (map_of text)
+map_read text = record {
+  found = map_of_ok text;
+  only = map_of_spelled text;
+  first = map_of_err text;
+  broken = map_of_broken text;
+}
 
 -- a text that breaks the grammar is answered by its first fault
 pub broken_tells : (text : List ℕ) (lines : List (List ℕ)) (fault : MapFault) → lines ≡ lines_of text
     → BreaksFirst lines fault → Tells (Err fault) (map_of text)
-broken_tells text lines fault are first =
-    err_tells fault (map_of text) (map_of_broken text fault
-    (subst (λ (all : List (List ℕ)). BreaksFirst all fault) are first))
-
--- the same of an answer
-pub tells_spelled : (text : List ℕ) (answer : Result MapText MapFault) → Tells answer (map_of text)
-    → IfOk answer (λ map. Spells text (plain map))
-tells_spelled text (Ok map) tells = map_of_ok text (plain map) tells
-tells_spelled text (Err fault) tells = tt
-
-pub tells_broken : (text : List ℕ) (answer : Result MapText MapFault) → Tells answer (map_of text)
-    → IfErr answer (λ fault. fault ≢ NoMemory → BreaksFirst (lines_of text) fault)
-tells_broken text (Ok map) tells = tt
-tells_broken text (Err fault) tells =
-    λ other. map_of_err text fault (tells_err fault (map_of text) tells other)
+broken_tells text lines fault are first = λ other. map_of_broken text fault
+    (subst (λ (all : List (List ℕ)). BreaksFirst all fault) are first)

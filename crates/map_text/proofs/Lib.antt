@@ -8,3 +8,5 @@ pub mod Clean
 pub mod Spelled
 pub mod Laws
 pub mod Body
+pub mod Written
+pub mod Canonical

@@ -1,5 +1,5 @@
 -- How each line of a text breaks the grammar of maps, and the reading of a text up to the first line that does.
-use Rattle.std.specs.Prelude.{◌≡◌, ℕ, zero, suc, ◌+◌, ◌<◌, Bool, false, nat_lt, nat_le, ◌==◌, ◌&&◌, not, if◌then◌else◌, List, [], ◌∷◌, length, take, drop, slice_get, codes, position, unwrap_or, Option, Some, None, Result, Ok, Err}
+use Rattle.std.specs.Prelude.{◌≡◌, ℕ, zero, suc, ◌+◌, ◌<◌, Bool, false, nat_lt, nat_le, ◌==◌, ◌&&◌, not, if◌then◌else◌, List, [], ◌∷◌, length, take, drop, slice_get, codes, position, unwrap_or, Option, Some, None, Result}
 use Rattle.std.specs.Option.{option_map, option_and_then, option_or}
 use Rattle.std.specs.List.{concat}
 use Rattle.std.specs.Str.{bytes_eq}
@@ -7,6 +7,8 @@ use Rattle.std.specs.Cmp.Lexicographic.{pointwise}
 use Rattle.text_line.specs.Lines.{lines_of}
 use Rattle.text_line.specs.Fields.{fields_of, is_nothing}
 use Rattle.text_line.specs.Numbers.{number_of}
+use Rattle.text_line.specs.Reading as read
+use Rattle.text_line.specs.Reading.{reading}
 use Rattle.text_line.specs.declared.lines.Line.{Line}
 use Rattle.map_text.specs.declared.fault.MapFault.{MapFault}
 use Rattle.map_text.specs.declared.fault.MapFault.TheVariants.{Header, Side, Short, Missing, Byte, After, NoMemory}
@@ -89,11 +91,6 @@ map_on lines = record {
       (take (height_of lines) (drop 4 lines));
 }
 
--- a fault where there is one, else the map
-abbrev pub reading : Option MapFault → Map → Result Map MapFault
-reading None map = Ok map
-reading (Some fault) map = Err fault
-
 -- what a text is read as: its map, or the fault of its first broken line; the place after the last line is judged too,
 -- as a line may be absent
 unfoldable pub map_of : List ℕ → Result Map MapFault
@@ -103,11 +100,9 @@ map_of text = let lines = lines_of text in reading (first_fault lines 0 (length 
 abbrev pub CleanBefore : List (List ℕ) → ℕ → Type 0
 CleanBefore lines place = (k : ℕ) → k < place → fault_at lines k ≡ None
 
--- the first line that breaks the grammar is that of a place, and it breaks it so
-pub record BreaksFirst (lines : List (List ℕ)) (fault : MapFault) : Type 0 where
-  pub place : ℕ
-  pub breaks : fault_at lines place ≡ Some fault
-  pub before : CleanBefore lines place
+-- the first line that breaks the grammar breaks it so
+abbrev pub BreaksFirst : List (List ℕ) → MapFault → Type 0
+BreaksFirst lines fault = read.BreaksFirst (fault_at lines) fault
 
 -- a map without where it lies in memory
 abbrev pub plain : MapText → Map
@@ -115,6 +110,4 @@ plain m = record { width = m.width; height = m.height; cells = m.cells }
 
 -- an answer tells a reading; for want of memory it tells nothing
 abbrev pub Tells : Result MapText MapFault → Result Map MapFault → Type 0
-Tells (Ok m) read = read ≡ Ok (plain m)
-Tells (Err NoMemory) read = Unit {0}
-Tells (Err fault) read = read ≡ Err fault
+Tells answer reading = read.Tells NoMemory plain answer reading

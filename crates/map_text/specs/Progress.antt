@@ -1,13 +1,7 @@
 -- How far a reading has come.
-use Rattle.std.specs.Prelude.{◌≡◌, ℕ, ◌+◌, List, drop, Option, Some, None, Result, Ok, Err}
-use Rattle.map_text.specs.declared.fault.MapFault.{MapFault}
+use Rattle.std.specs.Prelude.{◌≡◌, ℕ, ◌+◌, List, drop}
 use Rattle.text_line.specs.Left.{Left}
 use Rattle.map_text.specs.Faults.{CleanBefore, height_of, width_of}
-
--- an answer for a line: what it is, where it breaks nothing, or its fault
-abbrev pub Judges : {X : Type 0} → Result X MapFault → Option MapFault → (X → Type 0) → Type 0
-Judges (Ok x) fault Is = (fault ≡ None) × Is x
-Judges (Err named) fault Is = fault ≡ Some named
 
 -- the lines before a place break nothing, and those from it on are left
 pub record Stands (lines : List (List ℕ)) (place : ℕ) (left : Left) : Type 0 where

@@ -31,7 +31,7 @@ impl Bytes {
     }
 
     /// The bytes of a vector.
-    pub(crate) fn of(items: Vec<u8>) -> Bytes
+    pub fn of(items: Vec<u8>) -> Bytes
         ensures { result ≡ items.items }
     {
         Bytes { items }

@@ -25,12 +25,14 @@ mod bytes;
 mod fault;
 mod map;
 mod reading;
+mod writing;
 
 pub use bytes::Bytes;
 pub use fault::MapFault;
 pub use map::MapText;
 pub use reading::read_map;
 pub use std::alloc::AllocError as NoMemory;
+pub use writing::write_map;
 
 #[cfg(test)]
 mod tests;

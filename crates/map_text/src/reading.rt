@@ -4,6 +4,7 @@ ghost use Rattle.std.specs.Prelude.{◌≡◌, ◌≢◌, ◌≤◌, ◌^◌, le
 ghost use Rattle.std.specs.Prelude.{Some, Ok, Err, IfOk, IfErr, MatchResult};
 ghost use Rattle.std.specs.List.{list_any};
 ghost use Rattle.text_line.specs.Lines.{lines_of};
+ghost use Rattle.text_line.specs.Reading.{Judges};
 ghost use Rattle.map_text.specs.declared.fault.MapFault.{MapFault};
 ghost use Rattle.map_text.specs.declared.fault.MapFault.TheVariants.{NoMemory};
 ghost use Rattle.map_text.specs.Map.{Map, is_terrain as terrain};
@@ -11,7 +12,7 @@ ghost use Rattle.map_text.specs.Spelling.{Spells};
 ghost use Rattle.map_text.specs.Faults as spec;
 ghost use Rattle.map_text.specs.Faults.{bytes_of, side_on, side_fault, row_fault};
 ghost use Rattle.map_text.specs.Faults.{map_of, BreaksFirst, Tells, plain};
-ghost use Rattle.map_text.specs.Progress.{Judges, StandsAfterHeader};
+ghost use Rattle.map_text.specs.Progress.{StandsAfterHeader};
 
 use crate::bytes::Bytes;
 use crate::fault::MapFault;

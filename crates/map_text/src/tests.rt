@@ -56,6 +56,20 @@ fn tabs_returns_and_empty_lines_are_read_over(rt: HostRuntime) -> Result<(), Fai
     Ok(())
 }
 
+// The text is the one of the format's description.
+#[test]
+fn a_map_is_written_in_its_canonical_text(rt: HostRuntime) -> Result<(), Fail> {
+    let text = b"type octile\nheight 2\nwidth 3\nmap\n...\n.@.\n";
+    let map = read_map(
+        rt.alloc(),
+        b"type octile\r\nheight 02\nwidth\t3\nmap\n...\n.@.\n\n",
+    )?;
+    let mut out = Vec::new(rt.alloc());
+    write_map(&map, &mut out)?;
+    assert_eq!(rt; out.as_slice(), text.as_slice());
+    Ok(())
+}
+
 #[test]
 fn bytes_are_appended(rt: HostRuntime) -> Result<(), Fail> {
     let mut bytes = Bytes::new(rt.alloc());

@@ -1,6 +1,6 @@
 -- The check of points as a function on lists: when it finds a walk, and when a bad point.
 use Rattle.std.proofs.Common.{◌≡◌, ℕ, zero, suc, ◌+◌, ◌-◌, ◌<◌, ◌≤◌, arith, Bool, true, false, ◌&&◌, ◌⊎◌, inl, inr, refl, ap, sym, ◌∙◌, subst, List, [], ◌∷◌, ◌++◌, length, take, drop, get_or, length-append, zero-add, add-zero}
-use Rattle.std.specs.Prelude.{if◌then◌else◌, nat_le, Option, Some, None, Result, Ok, Err, option_map, slice_get, IfOk, IfErr}
+use Rattle.std.specs.Prelude.{if◌then◌else◌, nat_le, Option, Some, None, Result, Ok, Err, option_map, not, IfOk, IfErr}
 use Rattle.std.proofs.lemmas.Bool.Decides.{nat_tests}
 use Rattle.std.proofs.lemmas.List.{at_drop_more, at_drop_all}
 use Rattle.root2_cost.specs.declared.Cost.{Cost}
@@ -9,9 +9,10 @@ use Rattle.root2_cost.proofs.Sums.{add_costs-assoc, add_costs-no_cost_left, add_
 use Rattle.grid_moves.specs.declared.Cell.{Cell}
 use Rattle.grid_moves.specs.Grid.{GridData, is_free}
 use Rattle.grid_moves.specs.Points.{steps_between, are_lined, unfolded_from}
+use Rattle.grid_moves.specs.Least.{IsLeast}
 use Rattle.grid_moves.specs.Walk.{is_walk, cost_of}
 use Rattle.path_points.specs.declared.checking.BadAt.{BadAt}
-use Rattle.path_points.specs.Checked.{most_steps, run, steps_through, cost_within, is_legal_run, is_good_run, starts_free, BreaksAfter, IsBadAt, IsFirst, IsFirstBad, IsShortWalk}
+use Rattle.path_points.specs.Checked.{most_steps, run, good_cost, is_legal_run, is_good_run, starts_free, breaks_after, is_bad_at, IsFirstBad, IsShortWalk}
 use Rattle.path_points.proofs.Filling.{and_both, segment-length}
 use Rattle.path_points.proofs.Joined.{walk_free, run_joined, run_parts, run_free, run_cost_joined, run_counts}
 use Rattle.path_points.proofs.Running.{le_true}
@@ -119,35 +120,18 @@ pub checked_end :
     → checked_from g i u (drop i points) cost ≡ Ok cost
 checked_end g i u points cost h = at_drop_all (λ points. checked_from g i u points cost) points i h
 
-le_left : (s k m : ℕ) → s ≤ m → nat_le k (m - s) ≡ nat_le (s + k) m
-le_left s k m h = by_test (nat_le k (m - s)) refl
-  where
-    by_test : (b : Bool) → nat_le k (m - s) ≡ b → nat_le k (m - s) ≡ nat_le (s + k) m
-    by_test true e = grind (arith, nat_tests)
-    by_test false e = grind (arith, nat_tests)
-
-within_is :
-    (g : GridData) (s : ℕ) (u v : Cell) (left : ℕ) → s ≤ most_steps → left ≡ most_steps - s
-    → cost_within g u v left ≡ (if is_good_run g s u v then Some (cost_of (u ∷ run u v)) else None)
-within_is g s u v left h e =
-    ap (λ n. cost_within g u v n) e
-    ∙ ap (λ b. if is_legal_run g u v && b then Some (cost_of (u ∷ run u v)) else None)
-    (le_left s (steps_between u v) most_steps h)
-
-pub within_none :
-    (g : GridData) (s : ℕ) (u v : Cell) (left : ℕ) → s ≤ most_steps → left ≡ most_steps - s
-    → cost_within g u v left ≡ None → is_good_run g s u v ≡ false
-within_none g s u v left h e n = by_test (is_good_run g s u v) (sym (within_is g s u v left h e) ∙ n)
+-- the cost of the run tells whether it is good
+pub good_none : (g : GridData) (s : ℕ) (u v : Cell) → good_cost g s u v ≡ None → is_good_run g s u v ≡ false
+good_none g s u v = by_test (is_good_run g s u v)
   where
     by_test : (b : Bool) → (if b then Some (cost_of (u ∷ run u v)) else None) ≡ None → b ≡ false
     by_test true k = absurd (cc)
     by_test false k = refl
 
-pub within_some :
-    (g : GridData) (s : ℕ) (u v : Cell) (left : ℕ) (cost : Cost) → s ≤ most_steps
-    → left ≡ most_steps - s → cost_within g u v left ≡ Some cost
+pub good_some :
+    (g : GridData) (s : ℕ) (u v : Cell) (cost : Cost) → good_cost g s u v ≡ Some cost
     → (is_good_run g s u v ≡ true) × (cost ≡ cost_of (u ∷ run u v))
-within_some g s u v left cost h e n = by_test (is_good_run g s u v) (sym (within_is g s u v left h e) ∙ n)
+good_some g s u v cost = by_test (is_good_run g s u v)
   where
     by_test :
         (b : Bool) → (if b then Some (cost_of (u ∷ run u v)) else None) ≡ Some cost
@@ -240,84 +224,42 @@ goes_ok g i u (v ∷ points) cost total t =
           ∙ t.priced;
     }))
 
--- the point after point i is bad, where s steps came before
-record BreaksFrom (g : GridData) (s : ℕ) (points : List Cell) (i : ℕ) : Type 0 where
-  from : Cell
-  to : Cell
-  is_from : slice_get points i ≡ Some from
-  is_to : slice_get points (suc i) ≡ Some to
-  broken : is_good_run g (s + steps_through (take (suc i) points)) from to ≡ false
+-- the first break is that after the n-th point from u on
+FirstBreak : GridData → ℕ → Cell → List Cell → ℕ → Type 0
+FirstBreak g s u points n = IsLeast (λ k. breaks_after g s (u ∷ points) k ≡ true) 0 n
 
-breaks_first :
-    (g : GridData) (s : ℕ) (u v : Cell) (points : List Cell) → is_good_run g s u v ≡ false
-    → BreaksFrom g s (u ∷ v ∷ points) 0
-breaks_first g s u v points h =
-    record { from = u; to = v; is_from = refl; is_to = refl; broken = rw (add-zero s) h }
-
-first_breaks :
-    (g : GridData) (s : ℕ) (u v : Cell) (points : List Cell) → BreaksFrom g s (u ∷ v ∷ points) 0
-    → is_good_run g s u v ≡ false
-first_breaks g s u v points b =
-    let from : b.from ≡ u = let e = b.is_from in cc in
-    let to : b.to ≡ v = let e = b.is_to in cc in
-    let here : is_good_run g s b.from b.to ≡ false = rw (add-zero s) at b.broken in
-    ap (λ (c : Cell). is_good_run g s u c) (sym to)
-    ∙ ap (λ (c : Cell). is_good_run g s c b.to) (sym from) ∙ here
-
--- the steps before count along
-breaks_later :
-    (g : GridData) (s t : ℕ) (u v : Cell) (points : List Cell) (i : ℕ) → t ≡ s + steps_between u v
-    → BreaksFrom g t (v ∷ points) i → BreaksFrom g s (u ∷ v ∷ points) (suc i)
-breaks_later g s t u v points i e b =
-    let rest = steps_through (v ∷ take i points) in
-    let same : s + (steps_between u v + rest) ≡ t + rest = omega arith in
-    record {
-      from = b.from;
-      to = b.to;
-      is_from = b.is_from;
-      is_to = b.is_to;
-      broken = ap (λ n. is_good_run g n b.from b.to) same ∙ b.broken;
-    }
-
-later_breaks :
-    (g : GridData) (s t : ℕ) (u v : Cell) (points : List Cell) (i : ℕ) → t ≡ s + steps_between u v
-    → BreaksFrom g s (u ∷ v ∷ points) (suc i) → BreaksFrom g t (v ∷ points) i
-later_breaks g s t u v points i e b =
-    let rest = steps_through (v ∷ take i points) in
-    let same : t + rest ≡ s + (steps_between u v + rest) = omega arith in
-    record {
-      from = b.from;
-      to = b.to;
-      is_from = b.is_from;
-      is_to = b.is_to;
-      broken = ap (λ n. is_good_run g n b.from b.to) same ∙ b.broken;
-    }
+not_true : (b : Bool) → not b ≡ true → b ≡ false
+not_true false h = refl
+not_true true h = absurd (cc)
 
 -- where the first of the later points is bad, after a good one
 first_later :
-    (g : GridData) (s t : ℕ) (u v : Cell) (points : List Cell) (n : ℕ) → t ≡ s + steps_between u v
-    → is_good_run g s u v ≡ true → IsFirst (BreaksFrom g t (v ∷ points)) n
-    → IsFirst (BreaksFrom g s (u ∷ v ∷ points)) (suc n)
-first_later g s t u v points n e good first =
-    record { here = breaks_later g s t u v points n e first.here; none_before = before }
+    (g : GridData) (s : ℕ) (u v : Cell) (points : List Cell) (n : ℕ) → is_good_run g s u v ≡ true
+    → FirstBreak g (s + steps_between u v) v points n → FirstBreak g s u (v ∷ points) (suc n)
+unfolding FirstBreak
+first_later g s u v points n good first =
+    record { in_range = omega arith; holds = first.holds; least = before }
   where
-    before : (k : ℕ) → k < suc n → ¬ BreaksFrom g s (u ∷ v ∷ points) k
-    before zero h b = let bad = first_breaks g s u v points b in absurd (cc)
-    before (suc k) h b = first.none_before k (omega arith) (later_breaks g s t u v points k e b)
+    before : (k : ℕ) → 0 ≤ k → k < suc n → ¬ (breaks_after g s (u ∷ v ∷ points) k ≡ true)
+    before zero l h b = let bad = not_true (is_good_run g s u v) b in cc
+    before (suc k) l h b = first.least k (omega arith) (omega arith) b
 
 later_first :
-    (g : GridData) (s t : ℕ) (u v : Cell) (points : List Cell) (n : ℕ) → t ≡ s + steps_between u v
-    → IsFirst (BreaksFrom g s (u ∷ v ∷ points)) (suc n) → IsFirst (BreaksFrom g t (v ∷ points)) n
-later_first g s t u v points n e first = record {
-  here = later_breaks g s t u v points n e first.here;
-  none_before = λ k h b. first.none_before (suc k) (omega arith) (breaks_later g s t u v points k e b);
+    (g : GridData) (s : ℕ) (u v : Cell) (points : List Cell) (n : ℕ) → FirstBreak g s u (v ∷ points) (suc n)
+    → FirstBreak g (s + steps_between u v) v points n
+unfolding FirstBreak
+later_first g s u v points n first = record {
+  in_range = omega arith;
+  holds = first.holds;
+  least = λ k l h b. first.least (suc k) (omega arith) (omega arith) b;
 }
 
 -- an error names the first bad point
 err_first :
     (g : GridData) (i : ℕ) (u : Cell) (points : List Cell) (cost : Cost) (bad : BadAt)
     → checked_from g i u points cost ≡ Err bad
-    → (n : ℕ) × (bad.0 ≡ i + suc n) × IsFirst (BreaksFrom g (steps_of cost) (u ∷ points)) n
+    → (n : ℕ) × (bad.0 ≡ i + suc n) × FirstBreak g (steps_of cost) u points n
+unfolding FirstBreak
 err_first g i u [] cost bad h = absurd (cc)
 err_first g i u (v ∷ points) cost bad h =
     elim (if_err (is_good_run g (steps_of cost) u v) on (record { 0 = i + 1 }) bad h) [
@@ -326,18 +268,14 @@ err_first g i u (v ∷ points) cost bad h =
           let place : bad.0 ≡ i + suc (suc rest.0) = (let e = rest.1 in omega arith) in (
             suc rest.0,
             place,
-            first_later g (steps_of cost) (steps_of (paid cost u v)) u v points rest.0
-                (steps_on cost u v) later.0 rest.2,
+            first_later g (steps_of cost) u v points rest.0 later.0
+                (subst (λ s. FirstBreak g s v points rest.0) (steps_on cost u v) rest.2),
           )
       | inr now ↦
           let place : bad.0 ≡ i + 1 = ap (λ (b : BadAt). b.0) (sym now.1) in (
             0,
             place,
-            record {
-              here = breaks_first g (steps_of cost) u v points now.0;
-              none_before = λ k h. absurd
-                  (omega arith);
-            },
+            record { in_range = omega arith; holds = rw now.0 refl; least = λ k l h. absurd (omega arith) },
           )
     ]
   where
@@ -347,22 +285,22 @@ err_first g i u (v ∷ points) cost bad h =
 -- the first bad point is named by an error
 first_err :
     (g : GridData) (i : ℕ) (u : Cell) (points : List Cell) (cost : Cost) (n : ℕ)
-    → IsFirst (BreaksFrom g (steps_of cost) (u ∷ points)) n
-    → checked_from g i u points cost ≡ bad_at (i + suc n)
-first_err g i u [] cost n first = let e = first.here.is_to in absurd (cc)
-first_err g i u (v ∷ points) cost zero first = rw (first_breaks g (steps_of cost) u v points first.here) refl
+    → FirstBreak g (steps_of cost) u points n → checked_from g i u points cost ≡ bad_at (i + suc n)
+unfolding FirstBreak
+first_err g i u [] cost n first = let e = first.holds in absurd (cc)
+first_err g i u (v ∷ points) cost zero first =
+    rw (not_true (is_good_run g (steps_of cost) u v) first.holds) refl
 first_err g i u (v ∷ points) cost (suc n) first =
     let good : is_good_run g (steps_of cost) u v ≡ true = by_test (is_good_run g (steps_of cost) u v) refl in
-    let rest =
-    first_err g (i + 1) v points (paid cost u v) n
-    (later_first g (steps_of cost) (steps_of (paid cost u v)) u v points n (steps_on cost u v) first)
-    in
+    let rest = first_err g (i + 1) v points (paid cost u v) n
+    (subst (λ s. FirstBreak g s v points n) (sym (steps_on cost u v))
+    (later_first g (steps_of cost) u v points n first)) in
     let same : i + 1 + suc n ≡ i + suc (suc n) = omega arith in
     rw good (rest ∙ ap bad_at same)
   where
     by_test : (b : Bool) → is_good_run g (steps_of cost) u v ≡ b → is_good_run g (steps_of cost) u v ≡ true
     by_test true e = e
-    by_test false e = absurd (first.none_before 0 (omega arith) (breaks_first g (steps_of cost) u v points e))
+    by_test false e = absurd (first.least 0 (omega arith) (omega arith) (rw e refl))
 
 -- the answer is right: the cost where the points stand for a short walk, else the first bad point
 pub record IsVerdict (g : GridData) (points : List Cell) (answer : Result Cost BadAt) : Type 0 where
@@ -385,13 +323,13 @@ pub verdict_at_start :
 verdict_at_start g points h = record {
   walk = tt;
   ok = λ cost w. let free = short_free g points cost w in absurd (cc);
-  bad = record { here = h; none_before = λ k l. absurd (omega arith) };
+  bad = record { in_range = omega arith; holds = rw h refl; least = λ k l b. absurd (omega arith) };
   err = only;
 }
   where
     only : (i : ℕ) → IsFirstBad g points i → bad_at 0 ≡ bad_at i
     only zero first = refl
-    only (suc n) first = absurd (first.none_before 0 (omega arith) h)
+    only (suc n) first = absurd (first.least 0 (omega arith) (omega arith) (rw h refl))
 
 module _ (g : GridData) (u : Cell) (points : List Cell) (free : is_free g u ≡ true) where
   goes_short : (total : Cost) → GoesOn g u points no_cost total → IsShortWalk g (u ∷ points) total
@@ -418,47 +356,27 @@ module _ (g : GridData) (u : Cell) (points : List Cell) (free : is_free g u ≡ 
             ∙ w.priced;
       }
 
-  bad_from : (n : ℕ) → BreaksFrom g 0 (u ∷ points) n → BreaksAfter g (u ∷ points) n
-  bad_from n b =
-      let steps = zero-add (steps_through (take (suc n) (u ∷ points))) in
-      record {
-        from = b.from;
-        to = b.to;
-        is_from = b.is_from;
-        is_to = b.is_to;
-        broken = ap (λ n. is_good_run g n b.from b.to) (sym steps) ∙ b.broken;
-      }
-
-  from_bad : (n : ℕ) → BreaksAfter g (u ∷ points) n → BreaksFrom g 0 (u ∷ points) n
-  from_bad n b =
-      let steps = zero-add (steps_through (take (suc n) (u ∷ points))) in
-      record {
-        from = b.from;
-        to = b.to;
-        is_from = b.is_from;
-        is_to = b.is_to;
-        broken = ap (λ n. is_good_run g n b.from b.to) steps ∙ b.broken;
-      }
-
-  first_bad : (n : ℕ) → IsFirst (BreaksFrom g 0 (u ∷ points)) n → IsFirstBad g (u ∷ points) (suc n)
-  first_bad n first = record { here = bad_from n first.here; none_before = before }
+  first_bad : (n : ℕ) → FirstBreak g 0 u points n → IsFirstBad g (u ∷ points) (suc n)
+  unfolding FirstBreak
+  first_bad n first = record { in_range = omega arith; holds = first.holds; least = before }
     where
-      before : (k : ℕ) → k < suc n → ¬ IsBadAt g (u ∷ points) k
-      before zero h b = absurd (cc)
-      before (suc k) h b = first.none_before k (omega arith) (from_bad k b)
+      before : (k : ℕ) → 0 ≤ k → k < suc n → ¬ (is_bad_at g (u ∷ points) k ≡ true)
+      before zero l h b = let bad = not_true (is_free g u) b in cc
+      before (suc k) l h b = first.least k (omega arith) (omega arith) b
 
   bad_first :
       (answer : Result Cost BadAt) → checked_from g 0 u points no_cost ≡ answer → (i : ℕ)
       → IsFirstBad g (u ∷ points) i → answer ≡ bad_at i
-  bad_first answer e zero first = let bad = first.here in absurd (cc)
+  unfolding FirstBreak
+  bad_first answer e zero first = let bad = not_true (is_free g u) first.holds in absurd (cc)
   bad_first answer e (suc n) first =
-      let same : 0 + suc n ≡ suc n = zero-add (suc n) in
       sym e
       ∙ first_err g 0 u points no_cost n (record {
-        here = from_bad n first.here;
-        none_before = λ k h b. first.none_before (suc k) (omega arith) (bad_from k b);
+        in_range = omega arith;
+        holds = first.holds;
+        least = λ k l h b. first.least (suc k) (omega arith) (omega arith) b;
       })
-      ∙ ap bad_at same
+      ∙ ap bad_at (zero-add (suc n))
 
   -- from a free first point the check on the list decides
   pub verdict_from :

@@ -4,7 +4,7 @@ ghost use Rattle.std.specs.Prelude.{◌≡◌, ℕ, ◌+◌, ◌^◌, ◌<◌, �
 ghost use Rattle.root2_cost.specs.declared.Cost.{Cost};
 ghost use Rattle.grid_moves.specs.Grid.{is_free};
 ghost use Rattle.grid_moves.specs.Points as spec;
-ghost use Rattle.path_points.specs.Checked.{cost_within, IsFirstBad, IsShortWalk};
+ghost use Rattle.path_points.specs.Checked.{good_cost, IsFirstBad, IsShortWalk};
 
 use crate::Points;
 use crate::segments::{are_lined, step_toward, steps_between};
@@ -18,15 +18,17 @@ const MOST_STEPS: u32 = 1 << 24;
 #[derive(Clone, Copy, Debug, PartialEq, Eq)]
 pub struct BadAt(pub u32);
 
-// The cost of the legal run between the cells, where there is one of at most so many steps.
-fn run_cost<T: Terrain>(t: &T, from: Cell, to: Cell, most: u32) -> Option<Cost>
-    requires { is_free (T.grid t.now) from ≡ true }
-    ensures cost { result ≡ cost_within (T.grid t.now) from to most }
+// The cost of the legal run between the cells, where there is one that takes the steps so far to at
+// most 2^24.
+fn run_cost<T: Terrain>(t: &T, from: Cell, to: Cell, before: u32) -> Option<Cost>
+    requires free { is_free (T.grid t.now) from ≡ true }
+    requires few { before ≤ 2 ^ 24 }
+    ensures cost { result ≡ good_cost (T.grid t.now) before from to }
     ensures steps { IfSome result (λ cost. cost.a + cost.b ≡ spec.steps_between from to) }
     ensures free { OnSome result (is_free (T.grid t.now) to ≡ true) }
 {
     let steps = steps_between(from, to);
-    if !are_lined(from, to) || most < u32::from(steps) {
+    if !are_lined(from, to) || before + u32::from(steps) > MOST_STEPS {
         return None;
     }
     let mut at = from;
@@ -64,8 +66,7 @@ pub fn check_walk<T: Terrain>(t: &T, p: &Points) -> Result<Cost, BadAt>
     let mut last = *first;
     let mut cost = Cost { a: 0, b: 0 };
     for (i, next) in others.iter().enumerate() {
-        let left = MOST_STEPS - (cost.a + cost.b);
-        let Some(run) = run_cost(t, last, *next, left) else {
+        let Some(run) = run_cost(t, last, *next, cost.a + cost.b) else {
             return Err(BadAt(i as u32 + 1));
         };
         cost = cost.add(run);

@@ -1,17 +1,23 @@
 -- Walks as lists of cells: one more move, and walks as chains of links.
-use Rattle.std.proofs.Common.{◌≡◌, refl, ap, sym, ◌∙◌, subst, Bool, true, false, ◌&&◌, List, [], ◌∷◌, ◌++◌}
-use Rattle.std.specs.Prelude.{Some, None, Option, if◌then◌else◌}
+use Rattle.std.proofs.Common.{◌≡◌, ℕ, ◌+◌, ◌≤◌, arith, refl, ap, sym, ◌∙◌, subst, Bool, true, false, ◌&&◌, ◌||◌, List, [], ◌∷◌, ◌++◌}
+use Rattle.std.specs.Prelude.{Some, None, Option, if◌then◌else◌, nat_eq}
+use Rattle.std.proofs.lemmas.Bool.Decides.{nat_tests}
 use Rattle.root2_cost.specs.declared.Cost.{Cost}
 use Rattle.root2_cost.specs.Sums.{add_costs, no_cost}
 use Rattle.root2_cost.proofs.Sums.{add_costs-assoc, add_costs-no_cost_left, add_costs-no_cost_right}
 use Rattle.grid_moves.specs.declared.Cell.{Cell}
+use Rattle.grid_moves.specs.declared.Dir.{Dir}
 use Rattle.grid_moves.specs.Grid.{GridData, is_free}
-use Rattle.grid_moves.specs.Move.{is_legal, move_cost}
+use Rattle.grid_moves.specs.Move.{is_legal, is_same, move_cost}
+use Rattle.grid_moves.specs.Points.{apart, estimate}
 use Rattle.grid_moves.specs.Walk.{is_walk, cost_of, last_of}
-use Rattle.grid_moves.proofs.Legal.{and_both, legal_is, is_same-cell, is_same-itself}
-use Rattle.grid_moves.proofs.Consistent.{estimate_falls, estimate_nothing}
+use Rattle.grid_moves.proofs.Legal.{IsLegal, and_both, legal_is, is_same-cell, free_inside}
 use Rattle.search_run.specs.Chain.{Chain, stays, goes_on, IsConsistent}
-use Rattle.plain_search.specs.Rule.{plain_rule, move_link}
+use Rattle.best_first.specs.declared.state.State.{State}
+use Rattle.best_first.specs.State.{start_at}
+use Rattle.best_first.specs.Rule.{AreLinks}
+use Rattle.best_first.proofs.Links.{consistent}
+use Rattle.plain_search.specs.Rule.{plain_rule, plain_links, move_link}
 
 -- s followed by these cells is a walk to v, at this cost
 pub record Goes (g : GridData) (s v : Cell) (cells : List Cell) (cost : Cost) : Type 0 where
@@ -50,32 +56,91 @@ abbrev cost_in : Option Cost → Cost
 cost_in None = no_cost
 cost_in (Some k) = k
 
-pub link_legal : (g : GridData) (u v : Cell) (c : Cost) → move_link g u v ≡ Some c
-    → (is_legal g u v ≡ true) × (c ≡ move_cost u v)
-link_legal g u v c e = by_test (is_legal g u v) refl e
-  where
-    by_test : (b : Bool) → is_legal g u v ≡ b → (if b then Some (move_cost u v) else None) ≡ Some c
-        → (is_legal g u v ≡ true) × (c ≡ move_cost u v)
-    by_test true l e = (l, ap (λ (o : Option Cost). cost_in o) (sym e))
-    by_test false l e = absurd (cc)
+-- a link is a legal move to the state of a cell's start, at the move's cost
+pub record IsMove (g : GridData) (u v : State) (c : Cost) : Type 0 where
+  pub legal : is_legal g u.cell v.cell ≡ true
+  pub cost : c ≡ move_cost u.cell v.cell
+  pub plain : v ≡ start_at v.cell
 
-pub legal_link : (g : GridData) (u v : Cell) → is_legal g u v ≡ true → move_link g u v ≡ Some (move_cost u v)
+pub link_move : (g : GridData) (u v : State) (c : Cost) → move_link g u.cell v.cell v.arrival ≡ Some c
+    → IsMove g u v c
+link_move g u v c e = by_arrival v.arrival refl e
+  where
+    by_test : v.arrival ≡ None → (b : Bool) → is_legal g u.cell v.cell ≡ b
+        → (if b then Some (move_cost u.cell v.cell) else None) ≡ Some c → IsMove g u v c
+    by_test a true l e = record {
+      legal = l;
+      cost = ap (λ (o : Option Cost). cost_in o) (sym e);
+      plain = ap (λ (d : Option Dir). let s : State = record { cell = v.cell; arrival = d } in s) a;
+    }
+    by_test a false l e = absurd (cc)
+
+    by_arrival : (d : Option Dir) → v.arrival ≡ d → move_link g u.cell v.cell d ≡ Some c → IsMove g u v c
+    by_arrival None a e = by_test a (is_legal g u.cell v.cell) refl e
+    by_arrival (Some d) a e = absurd (cc)
+
+pub legal_link : (g : GridData) (u v : Cell) → is_legal g u v ≡ true
+    → move_link g u v None ≡ Some (move_cost u v)
 legal_link g u v l = rw l refl
+
+-- the octile distance of two neighbours is what a move between them costs
+pub move_cost-estimate : (g : GridData) (u v : Cell) → is_legal g u v ≡ true → move_cost u v ≡ estimate u v
+move_cost-estimate g u v l = by_tests (nat_eq u.x v.x) (nat_eq u.y v.y) refl refl
+  where
+    near : IsLegal g u v
+    near = legal_is g u v l
+
+    same : (m n : ℕ) → nat_eq m n ≡ true → m ≡ n
+    same m n e = grind (arith, nat_tests)
+
+    other : (m n : ℕ) → nat_eq m n ≡ false → m ≡ n → ⊥
+    other m n e f = grind (arith, nat_tests)
+
+    along : (m n : ℕ) → m ≤ n + 1 → n ≤ m + 1 → (m ≡ n → ⊥) → apart m n ≡ 1
+    along m n h k ne = omega arith
+
+    still : (m n : ℕ) → m ≡ n → apart m n ≡ 0
+    still m n e = omega arith
+
+    by_tests : (a b : Bool) → nat_eq u.x v.x ≡ a → nat_eq u.y v.y ≡ b
+        → (if a || b then record { a = 1; b = 0 } else record { a = 0; b = 1 }) ≡ estimate u v
+    by_tests true true e f = absurd (near.differ (same u.x v.x e) (same u.y v.y f))
+    by_tests true false e f =
+        rw (still u.x v.x (same u.x v.x e), along u.y v.y near.y_low near.y_high (other u.y v.y f)) refl
+    by_tests false true e f =
+        rw (along u.x v.x near.x_low near.x_high (other u.x v.x e), still u.y v.y (same u.y v.y f)) refl
+    by_tests false false e f = rw (
+      along u.x v.x near.x_low near.x_high (other u.x v.x e),
+      along u.y v.y near.y_low near.y_high (other u.y v.y f),
+    ) refl
+
+-- a legal move leads to another cell
+pub legal_apart : (g : GridData) (u v : Cell) → is_legal g u v ≡ true → is_same u v ≡ false
+legal_apart g u v l = by_test (is_same u v) refl
+  where
+    by_test : (b : Bool) → is_same u v ≡ b → is_same u v ≡ false
+    by_test false e = e
+    by_test true e = absurd (let one = is_same-cell u v e in
+        (legal_is g u v l).differ (ap (λ (c : Cell). c.x) one) (ap (λ (c : Cell). c.y) one))
+
+-- the links of the plain engine on a map
+pub plain_are_links : (g : GridData) → AreLinks g.width g.height (plain_links g)
+plain_are_links g = record {
+  lands = λ u v c e. free_inside g v.cell (legal_is g u.cell v.cell (link_move g u v c e).legal).target;
+  moves = λ u v c e. legal_apart g u.cell v.cell (link_move g u v c e).legal;
+  starts = λ c. refl;
+  priced = λ u v c e. (let m = link_move g u v c e in m.cost ∙ move_cost-estimate g u.cell v.cell m.legal);
+}
 
 -- the octile estimate is fit for the plain rule
 pub plain_consistent : (g : GridData) (t : Cell) → IsConsistent (plain_rule g t)
-plain_consistent g t = record {
-  falls = λ u v c e. let l = link_legal g u v c e in rw l.1 (estimate_falls g u v t l.0);
-  nothing = λ s e. rw (is_same-cell s t e) (estimate_nothing t);
-  one = is_same-cell;
-  itself = is_same-itself;
-}
+plain_consistent g t = consistent g.width g.height t (plain_links g) (plain_are_links g)
 
 -- a walk is a chain of its cost
 pub walk_chain : (g : GridData) (t s : Cell) (cells : List Cell) → is_walk g (s ∷ cells) ≡ true
-    → Chain (plain_rule g t) s (last_of s cells) (cost_of (s ∷ cells))
-walk_chain g t s [] w = stays s
+    → Chain (plain_rule g t) (start_at s) (start_at (last_of s cells)) (cost_of (s ∷ cells))
+walk_chain g t s [] w = stays (start_at s)
 walk_chain g t s (v ∷ cells) w =
     let parts = and_both (is_legal g s v) (is_walk g (v ∷ cells)) w in
-    goes_on s v (last_of v cells) (move_cost s v) (cost_of (v ∷ cells)) (legal_link g s v parts.0)
-    (walk_chain g t v cells parts.1)
+    goes_on (start_at s) (start_at v) (start_at (last_of v cells)) (move_cost s v) (cost_of (v ∷ cells))
+    (legal_link g s v parts.0) (walk_chain g t v cells parts.1)

@@ -1,10 +1,7 @@
 pub mod Rule
 pub mod Found
 pub mod Answer
-pub mod Node
-pub mod Ranks
-pub mod Table
-pub mod Mirror
+pub mod Room
+pub mod Offers
 pub mod Progress
-pub mod Trace
 pub mod Existence

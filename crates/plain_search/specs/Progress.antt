@@ -1,20 +1,16 @@
--- Where a search stands between two states. No public clause cites this module.
-use Rattle.std.specs.Prelude.{◌≡◌, ℕ, List, ◌∷◌, Option, Some, None}
+-- Where a plain search stands. No public clause cites this module.
+use Rattle.std.specs.Prelude.{◌≡◌, ℕ, List, Option}
 use Rattle.grid_moves.specs.declared.Cell.{Cell}
 use Rattle.grid_moves.specs.Grid.{GridData}
-use Rattle.search_run.specs.Run.{Taken}
-use Rattle.plain_search.specs.Found.{numbers_of, IsExhausted}
-use Rattle.plain_search.specs.Table.{Table}
-use Rattle.plain_search.specs.Mirror.{IsSearching}
+use Rattle.best_first.specs.declared.state.Layout.TheVariants.{ByCell}
+use Rattle.best_first.specs.Progress as search
+use Rattle.best_first.specs.Table.{Table}
+use Rattle.plain_search.specs.Rule.{plain_links}
 
--- the search has taken these states, the last one with the node of this number, and goes on
-pub record HasTaken (g : GridData) (s t : Cell) (at : ℕ) (k : Table) (taken : List ℕ) : Type 0 where
-  pub last : Taken Cell
-  pub earlier : List (Taken Cell)
-  pub searching : IsSearching g s t last earlier at k
-  pub numbered : taken ≡ numbers_of g.width (last ∷ earlier)
+-- the search from s for t has taken states of these numbers, the last one with the node of this number
+abbrev pub HasTaken : GridData → Cell → Cell → ℕ → Table → List ℕ → Type 0
+HasTaken g s t at k taken = search.HasTaken ByCell g.width t (plain_links g) s at k taken
 
--- the search has taken one state more, or ends as none waits
+-- and has taken one state more, or ends as none waits
 abbrev pub GoesOn : GridData → Cell → Cell → Table → List ℕ → Option ℕ → Type 0
-GoesOn g s t k taken None = IsExhausted g s t taken
-GoesOn g s t k taken (Some id) = HasTaken g s t id k taken
+GoesOn g s t k taken next = search.GoesOn ByCell g.width t (plain_links g) s k taken next

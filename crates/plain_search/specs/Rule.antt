@@ -1,26 +1,32 @@
--- The rule of the plain engine: one state for each cell, and every legal move.
-use Rattle.std.specs.Prelude.{ℕ, ◌+◌, ◌*◌, Option, Some, None, if◌then◌else◌}
+-- The rule of the plain engine: one state for each cell, that of a start, and every legal move.
+use Rattle.std.specs.Prelude.{ℕ, Bool, true, false, Option, Some, None, if◌then◌else◌}
+use Rattle.std.specs.Option.{option_map_or}
 use Rattle.root2_cost.specs.declared.Cost.{Cost}
 use Rattle.grid_moves.specs.declared.Cell.{Cell}
-use Rattle.grid_moves.specs.Grid.{GridData, cell_number}
-use Rattle.grid_moves.specs.Move.{is_legal, is_same, move_cost}
-use Rattle.grid_moves.specs.Points.{estimate}
+use Rattle.grid_moves.specs.declared.Dir.{Dir}
+use Rattle.grid_moves.specs.Grid.{GridData}
+use Rattle.grid_moves.specs.Move.{is_legal, is_same, move_cost, ahead}
 use Rattle.search_run.specs.Run.{Rule}
+use Rattle.best_first.specs.declared.state.State.{State}
+use Rattle.best_first.specs.Rule.{Links, search_rule}
 
--- the printed number of the state at a cell: nine times the cell's number, and 8, as for the start's arrival
-abbrev pub state_number : ℕ → Cell → ℕ
-state_number width c = cell_number width c * 9 + 8
+-- what a move costs, where it is legal and leads to the state of a start
+abbrev pub move_link : GridData → Cell → Cell → Option Dir → Option Cost
+move_link g u v None = if is_legal g u v then Some (move_cost u v) else None
+move_link g u v (Some d) = None
 
--- what a legal move costs
-abbrev pub move_link : GridData → Cell → Cell → Option Cost
-move_link g u v = if is_legal g u v then Some (move_cost u v) else None
+-- what a node's place tells besides its state: in which direction the parent's move leads to it
+abbrev pub is_led : Cell → Cell → Option Dir → Bool
+is_led u v None = true
+is_led u v (Some d) = option_map_or (λ c. is_same c v) (ahead d u) false
+
+-- the links of the plain engine
+abbrev pub plain_links : GridData → Links
+plain_links g = record {
+  step = λ u v. move_link g u.cell v.cell v.arrival;
+  led = λ u v. is_led u.cell v.cell v.arrival;
+}
 
 -- the rule of a search for t
-abbrev pub plain_rule : GridData → Cell → Rule Cell
-plain_rule g t = record {
-  is_same = is_same;
-  number = λ c. state_number g.width c;
-  estimate = λ c. estimate c t;
-  is_goal = λ c. is_same c t;
-  link = move_link g;
-}
+abbrev pub plain_rule : GridData → Cell → Rule State
+plain_rule g t = search_rule g.width t (plain_links g)

@@ -2,13 +2,16 @@
 #![tactic(auto)]
 
 pub mod laws;
-mod node;
+mod moves;
+mod offers;
 mod search;
-mod space;
-mod taken;
-mod trace;
+mod turns;
+mod workspace;
 
+pub use best_first::Taken;
 pub use search::{Plain, least, least_in};
-pub use space::Workspace;
 pub use std::alloc::AllocError as NoMemory;
-pub use taken::Taken;
+pub use workspace::Workspace;
+
+#[cfg(test)]
+mod tests;

@@ -1,18 +1,26 @@
-//! The search.
+//! The search: A* with one state for each cell and every legal move.
+//!
+//! A state is taken by the least sum of its cost and the octile distance to the goal; among equal sums
+//! the one of the lesser cell number goes first. The search ends where the goal is taken. Moves that the
+//! parent has offered at no greater cost are left out (module `moves`), which changes nothing in the run.
+//!
+//! A* after Hart, Nilsson and Raphael (1968); the order of ties is this project's. The machine under it is
+//! `best_first`.
 
 ghost use Rattle.std.specs.Prelude.{◌≡◌, ◌+◌, ◌*◌, ◌<◌, ◌++◌, ◌∷◌, [], true, false, length, IfOk, OnOk, OnErr, IfSome, slice_get, Some};
 ghost use Rattle.grid_moves.specs.Grid.{IsGrid, is_free};
 ghost use Rattle.grid_moves.specs.Move.{is_same};
 ghost use Rattle.plain_search.specs.Answer.{IsPlainRun, IsLeast};
+ghost use Rattle.best_first.specs.State.{state_number, start_at};
+ghost use Rattle.best_first.specs.Trace.{node_cell};
 ghost use Rattle.plain_search.specs.Progress.{HasTaken, GoesOn};
-ghost use Rattle.plain_search.specs.Rule.{state_number};
-ghost use Rattle.plain_search.specs.Table.{HasRoom};
+ghost use Rattle.plain_search.specs.Room.{HasRoom, IsReady};
 
-use crate::node::Node;
-use crate::space::Workspace;
-use crate::trace::points_to;
-use crate::{NoMemory, Taken};
-use grid_moves::{Cell, Terrain, number_of};
+use crate::offers::offer_all;
+use crate::turns::turns;
+use crate::{NoMemory, Taken, Workspace};
+use best_first::{Layout, Space, State};
+use grid_moves::{Cell, Terrain};
 use path_points::Points;
 use root2_cost::Cost;
 use std::alloc::Global;
@@ -45,24 +53,28 @@ struct Ends {
 // The printed number of the state at a cell.
 fn state_at<T: Terrain>(t: &T, c: Cell) -> u32
     requires { is_free (T.grid t.now) c ≡ true }
-    ensures { result ≡ state_number (T.grid t.now).width c }
+    ensures { result ≡ state_number (T.grid t.now).width (start_at c) }
 {
-    number_of(t.width(), c) * 9 + 8
+    State::start(c).number(t.width())
 }
 
 // Takes the start.
 fn begin<T: Terrain, L: Ledger>(
     t: &T,
     ends: Ends,
-    space: &mut Workspace,
+    space: &mut Space,
     taken: &mut Taken,
     steps: &mut Steps<L>,
 ) -> Result<(), NoMemory>
     requires from { is_free (T.grid t.now) ends.from ≡ true }
-    requires room { HasRoom (T.grid t.now) space.old }
+    requires to { is_free (T.grid t.now) ends.to ≡ true }
+    requires layout { space.old.layout ≡ Layout.ByCell }
+    requires room { HasRoom (T.grid t.now) space.old.places }
     requires none { taken.old ≡ [] }
     ensures taken { OnOk result (HasTaken (T.grid t.now) ends.from ends.to 0 space.new.table taken.new) }
-    ensures room { HasRoom (T.grid t.now) space.new }
+    ensures ready { OnOk result (IsReady (T.grid t.now) space.new) }
+    ensures layout { space.new.layout ≡ space.old.layout }
+    ensures places { space.new.places ≡ space.old.places }
     ensures whole { IsGrid (T.grid t.now) }
 {
     space.begin(t.width(), ends.from, ends.to, steps)?;
@@ -73,7 +85,7 @@ fn begin<T: Terrain, L: Ledger>(
 fn advance<T: Terrain, L: Ledger>(
     t: &T,
     ends: Ends,
-    space: &mut Workspace,
+    space: &mut Space,
     at: u32,
     taken: &mut Taken,
     steps: &mut Steps<L>,
@@ -81,18 +93,20 @@ fn advance<T: Terrain, L: Ledger>(
     requires free { is_free (T.grid t.now) ends.from ≡ true }
     requires to { is_free (T.grid t.now) ends.to ≡ true }
     requires whole { IsGrid (T.grid t.now) }
+    requires ready { IsReady (T.grid t.now) space.old }
     requires taken { HasTaken (T.grid t.now) ends.from ends.to at space.old.table taken.old }
     requires open_ended { (n : _) → slice_get space.old.table.nodes at ≡ Some n
-        → is_same n.cell ends.to ≡ false }
+        → is_same (node_cell n) ends.to ≡ false }
     ensures goes_on { IfOk result (GoesOn (T.grid t.now) ends.from ends.to space.new.table taken.new) }
     ensures one_more { IfOk result (λ next. IfSome next (λ id. length taken.new ≡ length taken.old + 1)) }
-    ensures room { HasRoom (T.grid t.now) space.new }
+    ensures ready { IsReady (T.grid t.now) space.new }
 {
-    space.relax(t, ends.to, at, steps)?;
+    space.reserve()?;
+    offer_all(t, ends.to, at, space, steps);
     match space.take_next(steps) {
         None => Ok(None),
         Some(next) => {
-            taken.push(state_at(t, space.node(next).cell))?;
+            taken.push(state_at(t, space.node(next).place.cell()))?;
             Ok(Some(next))
         }
     }
@@ -103,19 +117,22 @@ fn found<T: Terrain>(
     alloc: Global,
     t: &T,
     ends: Ends,
-    space: &Workspace,
+    space: &Space,
     at: u32,
     taken: Taken,
 ) -> Result<Plain, NoMemory>
+    requires whole { IsGrid (T.grid t.now) }
+    requires from { is_free (T.grid t.now) ends.from ≡ true }
+    requires to { is_free (T.grid t.now) ends.to ≡ true }
     requires taken { HasTaken (T.grid t.now) ends.from ends.to at space.now.table taken }
-    requires goal { (n : _) → slice_get space.now.table.nodes at ≡ Some n → n.cell ≡ ends.to }
+    requires goal { (n : _) → slice_get space.now.table.nodes at ≡ Some n → node_cell n ≡ ends.to }
     ensures { IfOk result (IsPlainRun (T.grid t.now) ends.from ends.to) }
 {
-    let goal = space.node(at);
-    let points = points_to(alloc, space, ends.from, goal)?;
+    let way = space.way_to(alloc, ends.to, at)?;
+    let points = turns(alloc, way.points.as_slice())?;
     Ok(Plain::Found {
         points,
-        cost: goal.cost,
+        cost: way.cost,
         taken,
     })
 }
@@ -125,19 +142,21 @@ fn run<T: Terrain, L: Ledger>(
     alloc: Global,
     t: &T,
     ends: Ends,
-    space: &mut Workspace,
+    space: &mut Space,
     steps: &mut Steps<L>,
 ) -> Result<Plain, NoMemory>
     requires from { is_free (T.grid t.now) ends.from ≡ true }
     requires to { is_free (T.grid t.now) ends.to ≡ true }
-    requires room { HasRoom (T.grid t.now) space.old }
+    requires layout { space.old.layout ≡ Layout.ByCell }
+    requires room { HasRoom (T.grid t.now) space.old.places }
     ensures run { IfOk result (IsPlainRun (T.grid t.now) ends.from ends.to) }
-    ensures room { HasRoom (T.grid t.now) space.new }
+    ensures layout { space.new.layout ≡ space.old.layout }
+    ensures places { space.new.places ≡ space.old.places }
 {
     let mut taken = Taken::new(alloc);
     begin(t, ends, space, &mut taken, steps)?;
     let mut at: u32 = 0;
-    'taking: while space.node(at).cell != ends.to {
+    'taking: while space.node(at).place.cell() != ends.to {
         match advance(t, ends, space, at, &mut taken, steps)? {
             Some(next) => at = next,
             None => return Ok(Plain::None { taken }),
@@ -151,7 +170,7 @@ fn run_counted<T: Terrain, L: Ledger>(
     alloc: Global,
     t: &T,
     ends: Ends,
-    space: &mut Workspace,
+    space: &mut Space,
     blank: Blank,
 ) -> Result<Plain, NoMemory>
     requires name { blank.name ≡ L.name }
@@ -159,10 +178,12 @@ fn run_counted<T: Terrain, L: Ledger>(
     requires some { 0 < L.parts }
     requires from { is_free (T.grid t.now) ends.from ≡ true }
     requires to { is_free (T.grid t.now) ends.to ≡ true }
-    requires room { HasRoom (T.grid t.now) space.old }
+    requires layout { space.old.layout ≡ Layout.ByCell }
+    requires room { HasRoom (T.grid t.now) space.old.places }
     ensures run { IfOk result (IsPlainRun (T.grid t.now) ends.from ends.to) }
     ensures least { IfOk result (IsLeast (T.grid t.now) ends.from ends.to) }
-    ensures room { HasRoom (T.grid t.now) space.new }
+    ensures layout { space.new.layout ≡ space.old.layout }
+    ensures places { space.new.places ≡ space.old.places }
 {
     let mut steps = Steps::<L>::new(blank);
     run(alloc, t, ends, space, &mut steps)
@@ -186,7 +207,7 @@ pub fn least_in<T: Terrain>(
     ensures least { IfOk result (IsLeast (T.grid t.now) from to) }
     ensures room { HasRoom (T.grid t.now) space.new }
 {
-    run_counted::<T, Brand>(alloc, t, Ends { from, to }, space, Blank::new(1))
+    run_counted::<T, Brand>(alloc, t, Ends { from, to }, &mut space.space, Blank::new(1))
 }
 
 /// The plain engine's run from one free cell to another: its answer is a least walk, or that none

@@ -12,8 +12,10 @@ use Rattle.text_line.specs.Places.{LineAt}
 use Rattle.scen_text.specs.declared.fault.ScenFault.{ScenFault}
 use Rattle.scen_text.specs.declared.entry.Entry.{Entry}
 use Rattle.scen_text.specs.Lengths.{is_point, decimal_of, length_parted, length_of, IsKept}
-use Rattle.scen_text.specs.Spelling.{Spells, SpellEntries}
-use Rattle.scen_text.proofs.Values.{digits_part, short_number, joined-lt}
+use Rattle.text_line.specs.Reading.{SpellInOrder}
+use Rattle.scen_text.specs.Spelling.{IsBlank, IsEntry, Spells}
+use Rattle.text_line.proofs.Digits.{digits_part, short_number}
+use Rattle.scen_text.proofs.Values.{joined-lt}
 
 decimal_kept : (whole decimals : List ℕ) → is_number 8 whole ≡ true
     → list_all is_ascii_digit decimals ≡ true → IsKept (decimal_of whole decimals)
@@ -62,16 +64,16 @@ one_more_kept first later here there zero entry found =
     subst (λ (is : Entry). IsKept is.length) same here
 one_more_kept first later here there (suc k) entry found = there k entry found
 
-spelled_kept : (lines : List LineAt) (entries : List Entry) → SpellEntries lines entries → AllKept entries
-spelled_kept [] entries spelled = subst AllKept (sym spelled) none_kept
+spelled_kept : (lines : List LineAt) (entries : List Entry) → SpellInOrder IsBlank IsEntry lines entries
+    → AllKept entries
+spelled_kept [] entries none = subst AllKept (sym none) none_kept
 spelled_kept (line ∷ lines) entries spelled =
     elim spelled [
       | inl blank ↦ spelled_kept lines entries blank.1
       | inr first ↦
-          let is = first.3 in
-          let here = length_kept is.words.listed.bytes first.0.length is.listed in
-          subst AllKept (sym first.2) (one_more_kept first.0 first.1 here
-          (spelled_kept lines first.1 first.4))
+          let is = first.spelled in
+          subst AllKept (sym first.are) (one_more_kept first.first first.others
+          (length_kept is.words.listed.bytes first.first.length is.listed) (spelled_kept lines first.others first.later))
     ]
 
 -- and so has each entry that an answer tells, where the entries are spelled

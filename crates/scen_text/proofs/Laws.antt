@@ -1,24 +1,25 @@
 -- What a text is read as, what it spells and how it breaks the grammar.
-use Rattle.std.proofs.Common.{◌≡◌, ◌≢◌, ℕ, zero, suc, ◌<◌, ◌≤◌, true, ◌||◌, cond, ltb, List, [], ◌∷◌, ◌++◌, length, Option, Some, None, Result, Ok, Err, refl, sym, ap, subst, ◌∙◌, ◌⊎◌, inl, inr, arith}
-use Rattle.std.specs.Prelude.{slice_get, map, codes, unwrap_or, IfOk, IfErr, Vec}
+use Rattle.std.proofs.Common.{◌≡◌, ℕ, zero, suc, ◌<◌, ◌≤◌, true, false, ◌||◌, cond, ltb, List, [], ◌∷◌, ◌++◌, length, Option, Some, None, Ok, Err, refl, ap, subst, ◌∙◌, ◌⊎◌, inl, inr, arith}
+use Rattle.std.specs.Prelude.{codes, unwrap_or, if◌then◌else◌}
 use Rattle.std.specs.Option.{option_or, is_some}
-use Rattle.std.specs.List.{flat_map}
 use Rattle.std.specs.Str.{bytes_eq}
-use Rattle.std.specs.declared.alloc.Global.{Global}
 use Rattle.std.proofs.lemmas.Bool.{cases_Bool, and_parts, ltb-false}
 use Rattle.std.proofs.lemmas.Slice.Eq.{bytes_eq-Decides}
 use Rattle.text_line.specs.Fields.{fields_of}
+use Rattle.text_line.specs.Reading as lines
+use Rattle.text_line.specs.Reading.{reading, read_lines, fault_on, SpellInOrder}
+use Rattle.text_line.proofs.Reading.{Reads, Judges, lines_read}
 use Rattle.text_line.specs.Numbers.{number_of}
 use Rattle.text_line.specs.Places.{Placed, LineAt, fields_from, lines_at}
 use Rattle.scen_text.specs.declared.fault.ScenFault.{ScenFault}
-use Rattle.scen_text.specs.declared.fault.ScenFault.TheVariants.{Version, Number, Length, NoMemory}
+use Rattle.scen_text.specs.declared.fault.ScenFault.TheVariants.{Version, Fields, Number, Length}
 use Rattle.scen_text.specs.declared.entry.Entry.{Entry}
 use Rattle.scen_text.specs.Lengths.{length_of}
 use Rattle.scen_text.specs.Words.{Words, words_of}
-use Rattle.scen_text.specs.Spelling.{HasWords, IsEntry, IsBlank, SpellEntries, IsVersion, Spells}
-use Rattle.scen_text.specs.Faults.{names_version, number_fault, length_fault, words_fault, fields_fault, line_fault, later_fault, fault_at, entry_in, entries_in, entries_on, first_of, reading, entries_of, lines_read, scen_of, BreaksFirst, Tells}
+use Rattle.scen_text.specs.Spelling.{HasWords, IsEntry, IsBlank, IsVersion, SpellsLines, Spells}
+use Rattle.scen_text.specs.Faults.{names_version, number_fault, length_fault, words_fault, fields_read, line_read, fault_at, entry_in, first_of, all_read, scen_of, BreaksFirst}
 use Rattle.scen_text.proofs.Split.{words_there}
-use Rattle.scen_text.proofs.Lines.{line_words, tells_err}
+use Rattle.scen_text.proofs.Lines.{line_words}
 
 -- where the first of two is none, none is there
 or_parts : (a b : Option ScenFault) → option_or a b ≡ None → (a ≡ None) × (b ≡ None)
@@ -73,74 +74,59 @@ words_spell line words has none =
           spells_some _ (length_of words.listed.bytes) (Length n) (record { digits = 0; places = 0 }) right.7;
     }
 
--- a line that breaks nothing is blank or spells an entry
-line_spells : (line : LineAt) (fields : List Placed) → fields_from line.place line.bytes ≡ fields
-    → fields_fault line.number fields ≡ None
-    → (IsBlank line × (entries_on line ≡ [])) ⊎
-    ((entry : Entry) × (entries_on line ≡ entry ∷ []) × IsEntry line entry)
-line_spells line [] are none = inl (are, ap (entries_in line.number) are)
-line_spells line (bucket ∷ left) are none =
+-- what a line after the first is read as, by its fields
+fields_blank : (line : ℕ) (fields : List Placed) → fields_read line fields ≡ Ok None → fields ≡ []
+fields_blank line [] read = refl
+fields_blank line (bucket ∷ left) read =
+    elim (ltb (length (bucket ∷ left)) 9) as (λ few. (if few then Err (Fields line)
+    else reading (words_fault line (words_of (bucket ∷ left))) (Some (entry_in line (words_of (bucket ∷ left)))))
+    ≡ Ok None → bucket ∷ left ≡ []) [
+      | true ↦ λ read. absurd cc
+      | false ↦ λ read. absurd (entry_left (words_fault line (words_of (bucket ∷ left))) _ read)
+    ] read
+  where
+    entry_left : (fault : Option ScenFault) (entry : Entry) → reading fault (Some entry) ≡ Ok None → ⊥
+    entry_left None entry read = cc
+    entry_left (Some fault) entry read = cc
+
+fields_spell : (line : LineAt) (fields : List Placed) (entry : Entry)
+    → fields_from line.place line.bytes ≡ fields → fields_read line.number fields ≡ Ok (Some entry)
+    → IsEntry line entry
+fields_spell line [] entry are read = absurd cc
+fields_spell line (bucket ∷ left) entry are read =
     elim (cases_Bool (ltb (length (bucket ∷ left)) 9)) [
-      | inl few ↦ absurd (cc (rw few at none))
+      | inl few ↦ absurd (cc (rw few at read))
       | inr enough ↦
           let words = words_of (bucket ∷ left) in
           let long : 8 ≤ length left = omega (arith, ltb-false (length (bucket ∷ left)) 9 enough) in
-          let has : HasWords (fields_from line.place line.bytes) (words_of (bucket ∷ left)) =
-          rw are (words_there bucket left long) in
-          let right : words_fault line.number (words_of (bucket ∷ left)) ≡ None = rw enough at none in
-          inr (entry_in line.number words, ap (entries_in line.number) are, words_spell line words has right)
+          let has : HasWords (fields_from line.place line.bytes) words = rw are (words_there bucket left long) in
+          let parts = read_clean (words_fault line.number words) (rw enough at read) in
+          subst (IsEntry line) parts.1 (words_spell line words has parts.0)
     ]
+  where
+    read_clean : {found : Entry} (fault : Option ScenFault) → reading fault (Some found) ≡ Ok (Some entry)
+        → (fault ≡ None) × (found ≡ entry)
+    read_clean None read = (refl, cc)
+    read_clean (Some fault) read = absurd cc
 
--- lines that break nothing spell the entries on them
-lines_spell : (lines : List LineAt) → first_of (map line_fault lines) ≡ None
-    → SpellEntries lines (flat_map entries_on lines)
-lines_spell [] none = refl
-lines_spell (line ∷ lines) none =
-    let parts = or_parts (line_fault line) (first_of (map line_fault lines)) none in
-    let later = lines_spell lines parts.1 in
-    elim (line_spells line (fields_from line.place line.bytes) refl parts.0) [
-      | inl blank ↦ inl (blank.0, rw blank.1 later)
-      | inr entry ↦ inr (
-        entry.0,
-        flat_map entries_on lines,
-        ap (λ (here : List Entry). here ++ flat_map entries_on lines) entry.1,
-        entry.2,
-        later,
-      )
-    ]
-
--- a line that spells an entry breaks nothing, and is read as it
-entry_read : (line : LineAt) (entry : Entry) → IsEntry line entry
-    → (line_fault line ≡ None) × (entries_on line ≡ entry ∷ [])
+-- a line that spells an entry is read as it
+entry_read : (line : LineAt) (entry : Entry) → IsEntry line entry → line_read line ≡ Ok (Some entry)
 entry_read line entry is =
     let words = is.words in
     let left =
     is.has.name ++ words.w ∷ words.h ∷ words.sx ∷ words.sy ∷ words.gx ∷ words.gy ∷ words.listed ∷ [] in
     let there : HasWords (words.bucket ∷ left) words =
     record { name = is.has.name; are = refl; spans = is.has.spans } in
-    let read = line_words line words.bucket left words is.has.are there in
-    let right : words_fault line.number is.words ≡ None =
-    rw (is.bucket, is.w, is.h, is.sx, is.sy, is.gx, is.gy, is.listed) refl in
-    let same : entry_in line.number is.words ≡ entry =
-    rw (is.bucket, is.w, is.h, is.sx, is.sy, is.gx, is.gy, is.listed, ← is.number, ← is.name) refl in
-    (read.0 ∙ right, read.1 ∙ ap (λ (here : Entry). here ∷ []) same)
+    line_words line words.bucket left words is.has.are there
+    ∙ rw (is.bucket, is.w, is.h, is.sx, is.sy, is.gx, is.gy, is.listed, ← is.number, ← is.name) refl
 
--- lines that spell entries break nothing, and are read as them
-lines_right : (lines : List LineAt) (entries : List Entry) → SpellEntries lines entries
-    → (first_of (map line_fault lines) ≡ None) × (flat_map entries_on lines ≡ entries)
-lines_right [] entries spelled = (refl, sym spelled)
-lines_right (line ∷ lines) entries spelled =
-    elim spelled [
-      | inl blank ↦
-          let right : line_fault line ≡ None = ap (fields_fault line.number) blank.0 in
-          let none : entries_on line ≡ [] = ap (entries_in line.number) blank.0 in
-          let later = lines_right lines entries blank.1 in
-          (rw right later.0, rw none later.1)
-      | inr entry ↦
-          let read = entry_read line entry.0 entry.3 in
-          let later = lines_right lines entry.1 entry.4 in
-          (rw read.0 later.0, rw read.1 (ap (λ (rest : List Entry). entry.0 ∷ rest) later.1 ∙ sym entry.2))
-    ]
+lines_judged : Judges line_read IsBlank IsEntry
+lines_judged = record {
+  blank = λ line read. fields_blank line.number (fields_from line.place line.bytes) read;
+  nothing = λ line blank. ap (fields_read line.number) blank;
+  spelled = λ line entry read. fields_spell line (fields_from line.place line.bytes) entry refl read;
+  value = entry_read;
+}
 
 -- fields that name the version
 version_is : (fields : List (List ℕ)) → names_version fields ≡ true
@@ -169,173 +155,85 @@ version_named line is =
       | inr other ↦ ap names_version other
     ]
 
-reading_ok : (fault : Option ScenFault) (on entries : List Entry) → reading fault on ≡ Ok entries
-    → (fault ≡ None) × (on ≡ entries)
-reading_ok None on entries read = (refl, cc)
-reading_ok (Some fault) on entries read = absurd cc
+-- all lines are read as what they spell, or as their first fault
+no_line : {fault : ScenFault} (place : ℕ) → fault_at [] place ≡ Some fault → Version 1 ≡ fault
+no_line zero breaks = cc
+no_line (suc place) breaks = absurd cc
 
-reading_err : (found : Option ScenFault) (on : List Entry) (fault : ScenFault) → reading found on ≡ Err fault
-    → found ≡ Some fault
-reading_err None on fault read = absurd cc
-reading_err (Some other) on fault read = cc
+module _ (first : LineAt) (others : List LineAt) where
+  -- the first line names the version
+  module _ (right : names_version (fields_of first.bytes) ≡ true) where
+    later : Reads (SpellInOrder IsBlank IsEntry others) (lines.BreaksFirst (fault_on line_read others))
+        (read_lines line_read others)
+    later = lines_read line_read lines_judged others
 
--- what is read as entries spells them
-text_spells : (text : List ℕ) (lines : List LineAt) (entries : List Entry) → lines_at text ≡ lines
-    → lines_read lines ≡ Ok entries → Spells text entries
-text_spells text [] entries are read = absurd cc
-text_spells text (first ∷ lines) entries are read =
-    elim (cases_Bool (names_version (fields_of first.bytes))) [
-      | inl right ↦
-          let found : entries_of lines ≡ Ok entries = rw right at read in
-          let parts =
-          reading_ok (first_of (map line_fault lines)) (flat_map entries_on lines) entries found in
-          record {
-            first = first;
-            others = lines;
-            lines = are;
-            version = version_is (fields_of first.bytes)
-                right;
-            spelled = subst (SpellEntries lines) parts.1 (lines_spell lines parts.0);
-          }
-      | inr wrong ↦ absurd (cc (rw wrong at read))
-    ]
+    clean : (place : ℕ) → ((k : ℕ) → k < place → fault_on line_read others k ≡ None) → (k : ℕ) → k < suc place
+        → fault_at (first ∷ others) k ≡ None
+    clean place before zero below = rw right refl
+    clean place before (suc k) below = before k (omega arith)
 
--- what spells entries is read as them
-pub scen_of_spelled : (text : List ℕ) (entries : List Entry) → Spells text entries → scen_of text ≡ Ok entries
-unfolding scen_of
-scen_of_spelled text entries s =
-    let right = lines_right s.others entries s.spelled in
-    ap lines_read s.lines ∙ rw (version_named s.first.bytes s.version, right.0)
-    (ap (λ (all : List Entry). let read : Result (List Entry) ScenFault = Ok all in read) right.1)
+    behind_version : (place : ℕ) (fault : ScenFault) → fault_at (first ∷ others) place ≡ Some fault
+        → ((k : ℕ) → k < place → fault_at (first ∷ others) k ≡ None)
+        → lines.BreaksFirst (fault_on line_read others) fault
+    behind_version zero fault breaks before = let no = rw right at breaks in absurd cc
+    behind_version (suc place) fault breaks before =
+        record { place = place; breaks = breaks; before = λ k below. before (suc k) (omega arith) }
 
-cases_fault : (here : Option ScenFault) → (here ≡ None) ⊎ ((fault : ScenFault) × (here ≡ Some fault))
-cases_fault None = inl refl
-cases_fault (Some fault) = inr (fault, refl)
-
--- the first of some lines that breaks the grammar is that of a place
-record FirstOf (lines : List LineAt) (fault : ScenFault) : Type 0 where
-  place : ℕ
-  breaks : later_fault (slice_get lines place) ≡ Some fault
-  before : (k : ℕ) → k < place → later_fault (slice_get lines k) ≡ None
-
-before_more : (line : LineAt) (lines : List LineAt) (place : ℕ) → line_fault line ≡ None
-    → ((k : ℕ) → k < place → later_fault (slice_get lines k) ≡ None) → (k : ℕ) → k < suc place
-    → later_fault (slice_get (line ∷ lines) k) ≡ None
-before_more line lines place none before zero below = none
-before_more line lines place none before (suc k) below = before k (omega arith)
-
-first_found : (lines : List LineAt) (fault : ScenFault) → first_of (map line_fault lines) ≡ Some fault
-    → FirstOf lines fault
-first_found [] fault found = absurd cc
-first_found (line ∷ lines) fault found =
-    elim (cases_fault (line_fault line)) [
-      | inl none ↦
-          let later = first_found lines fault (rw none at found) in
-          record {
-            place = suc later.place;
-            breaks = later.breaks;
-            before = before_more line lines later.place
-                none later.before;
-          }
-      | inr here ↦
-          let same = rw here.1 at found in
-          record { place = 0; breaks = here.1 ∙ same; before = λ k below. absurd (omega arith) }
-    ]
-
-first_is : (lines : List LineAt) (place : ℕ) (fault : ScenFault)
-    → later_fault (slice_get lines place) ≡ Some fault
-    → ((k : ℕ) → k < place → later_fault (slice_get lines k) ≡ None)
-    → first_of (map line_fault lines) ≡ Some fault
-first_is [] zero fault breaks before = absurd cc
-first_is [] (suc place) fault breaks before = absurd cc
-first_is (line ∷ lines) zero fault breaks before = rw breaks refl
-first_is (line ∷ lines) (suc place) fault breaks before =
-    let none : line_fault line ≡ None = before 0 (omega arith) in
-    rw none (first_is lines place fault breaks (λ k below. before (suc k) (omega arith)))
-
-before_all : (first : LineAt) (lines : List LineAt) (place : ℕ) → names_version (fields_of first.bytes) ≡ true
-    → ((k : ℕ) → k < place → later_fault (slice_get lines k) ≡ None) → (k : ℕ) → k < suc place
-    → fault_at (first ∷ lines) k ≡ None
-before_all first lines place right before zero below = rw right refl
-before_all first lines place right before (suc k) below = before k (omega arith)
-
--- what is read as a fault breaks the grammar first so
-read_breaks : (lines : List LineAt) (fault : ScenFault) → lines_read lines ≡ Err fault
-    → BreaksFirst lines fault
-read_breaks [] fault read =
-    let same : Version 1 ≡ fault = cc in
-    record {
-      place = 0;
-      breaks = ap (λ (named : ScenFault). let here : Option ScenFault = Some named in here)
-          same;
-      before = λ k below. absurd (omega arith);
+    read_right : Reads (SpellsLines (first ∷ others)) (BreaksFirst (first ∷ others)) (all_read (first ∷ others))
+    read_right = record {
+      found = λ entries read. record {
+        first = first;
+        others = others;
+        are = refl;
+        version = version_is (fields_of first.bytes) right;
+        spelled = later.found entries (rw right at read);
+      };
+      only = λ entries spells. rw right (later.only entries (subst
+          (λ (lines : List LineAt). SpellInOrder IsBlank IsEntry lines entries) (others_are spells.are) spells.spelled));
+      first = λ fault read.
+          let is = later.first fault (rw right at read) in
+          record { place = suc is.place; breaks = is.breaks; before = clean is.place is.before };
+      broken = λ fault first_broken. rw right
+          (later.broken fault (behind_version first_broken.place fault first_broken.breaks first_broken.before));
     }
-read_breaks (first ∷ lines) fault read =
-    elim (cases_Bool (names_version (fields_of first.bytes))) [
-      | inl right ↦
-          let found : entries_of lines ≡ Err fault = rw right at read in
-          let is = first_found lines fault
-          (reading_err (first_of (map line_fault lines)) (flat_map entries_on lines) fault found) in
-          record {
-            place = suc is.place;
-            breaks = is.breaks;
-            before = before_all first lines is.place
-                right is.before;
-          }
-      | inr wrong ↦
+      where
+        others_are : {line : LineAt} {lines : List LineAt} → first ∷ others ≡ line ∷ lines → lines ≡ others
+        others_are are = cc
+
+  -- it doesn't
+  module _ (wrong : names_version (fields_of first.bytes) ≡ false) where
+    no_version : (place : ℕ) (fault : ScenFault) → fault_at (first ∷ others) place ≡ Some fault
+        → ((k : ℕ) → k < place → fault_at (first ∷ others) k ≡ None) → Version 1 ≡ fault
+    no_version zero fault breaks before = let here = rw wrong at breaks in cc
+    no_version (suc place) fault breaks before = let no = rw wrong at (before 0 (omega arith)) in absurd cc
+
+    read_wrong : Reads (SpellsLines (first ∷ others)) (BreaksFirst (first ∷ others)) (all_read (first ∷ others))
+    read_wrong = record {
+      found = λ entries read. let no = rw wrong at read in absurd cc;
+      only = λ entries spells. let named = version_named spells.first.bytes spells.version in absurd (cc (named, wrong, spells.are));
+      first = λ fault read.
           let found = rw wrong at read in
           let same : Version 1 ≡ fault = cc in
-          record { place = 0; breaks = rw (wrong, same) refl; before = λ k below. absurd (omega arith) }
-    ]
+          record { place = 0; breaks = rw (wrong, same) refl; before = λ k below. absurd (omega arith) };
+      broken = λ fault is. rw (wrong, no_version is.place fault is.breaks is.before) refl;
+    }
 
-breaks_read : (lines : List LineAt) (place : ℕ) (fault : ScenFault) → fault_at lines place ≡ Some fault
-    → ((k : ℕ) → k < place → fault_at lines k ≡ None) → lines_read lines ≡ Err fault
-breaks_read [] zero fault breaks before = let same : Version 1 ≡ fault =
-    cc in ap (λ (named : ScenFault). let read : Result (List Entry) ScenFault = Err named in read) same
-breaks_read [] (suc place) fault breaks before = absurd cc
-breaks_read (first ∷ lines) zero fault breaks before =
-    elim (cases_Bool (names_version (fields_of first.bytes))) [
-      | inl right ↦ absurd (cc (rw right at breaks))
-      | inr wrong ↦
-          let found = rw wrong at breaks in
-          let same : Version 1 ≡ fault = cc in
-          rw (wrong, same) refl
-    ]
-breaks_read (first ∷ lines) (suc place) fault breaks before =
-    let start : fault_at (first ∷ lines) 0 ≡ None = before 0 (omega arith) in
-    elim (cases_Bool (names_version (fields_of first.bytes))) [
-      | inl right ↦ rw (
-        right,
-        first_is lines place fault breaks
-            (λ k below. before (suc k) (omega arith)),
-      ) refl
-      | inr wrong ↦ absurd (cc (rw wrong at start))
-    ]
-
--- a text whose first broken line breaks the grammar so is read as that fault
-pub scen_of_broken : (text : List ℕ) (fault : ScenFault) → BreaksFirst (lines_at text) fault
-    → scen_of text ≡ Err fault
+pub scen_read : (text : List ℕ) → Reads (Spells text) (BreaksFirst (lines_at text)) (scen_of text)
 unfolding scen_of
-scen_of_broken text fault first = breaks_read (lines_at text) first.place fault first.breaks first.before
-
-scen_of_ok : (text : List ℕ) (entries : List Entry) → scen_of text ≡ Ok entries → Spells text entries
-unfolding scen_of
-scen_of_ok text entries read = text_spells text (lines_at text) entries refl read
-
-scen_of_err : (text : List ℕ) (fault : ScenFault) → scen_of text ≡ Err fault
-    → BreaksFirst (lines_at text) fault
-unfolding scen_of
-scen_of_err text fault read = read_breaks (lines_at text) fault read
-
--- the same of an answer
-pub tells_spelled : (text : List ℕ) (answer : Result (Vec Entry Global) ScenFault)
-    → Tells answer (scen_of text) → IfOk answer (λ read. Spells text read.items)
-tells_spelled text (Ok entries) tells = scen_of_ok text entries.items tells
-tells_spelled text (Err fault) tells = tt
-
-pub tells_broken : (text : List ℕ) (answer : Result (Vec Entry Global) ScenFault)
-    → Tells answer (scen_of text) → IfErr answer
-    (λ fault. fault ≢ NoMemory → BreaksFirst (lines_at text) fault)
-tells_broken text (Ok entries) tells = tt
-tells_broken text (Err fault) tells =
-    λ other. scen_of_err text fault (tells_err fault (scen_of text) tells other)
+scen_read text = read_all (lines_at text)
+  where
+    read_all : (all : List LineAt) → Reads (SpellsLines all) (BreaksFirst all) (all_read all)
+    read_all [] = record {
+      found = λ entries read. absurd cc;
+      only = λ entries spells. let no = spells.are in absurd cc;
+      first = λ fault read. record {
+        place = 0;
+        breaks = ap (λ (f : ScenFault). let here : Option ScenFault = Some f in here) (cc);
+        before = λ k below. absurd (omega arith);
+      };
+      broken = λ fault first. rw (no_line first.place first.breaks) refl;
+    }
+    read_all (first ∷ others) = elim (cases_Bool (names_version (fields_of first.bytes))) [
+      | inl right ↦ read_right first others right
+      | inr wrong ↦ read_wrong first others wrong
+    ]

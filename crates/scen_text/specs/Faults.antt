@@ -1,11 +1,12 @@
 -- How each line of a text breaks the grammar of scenarios, and the reading of a text up to the first line that does.
-use Rattle.std.specs.Prelude.{◌≡◌, ℕ, zero, suc, ◌<◌, Bool, false, nat_lt, ◌||◌, ◌&&◌, if◌then◌else◌, List, [], ◌∷◌, length, map, drop, slice_get, codes, unwrap_or, Option, Some, None, Result, Ok, Err, Vec}
+use Rattle.std.specs.Prelude.{ℕ, zero, suc, Bool, false, nat_lt, ◌||◌, ◌&&◌, if◌then◌else◌, List, [], ◌∷◌, length, drop, slice_get, codes, unwrap_or, Option, Some, None, Result, Ok, Err, Vec}
 use Rattle.std.specs.Option.{option_or, is_some}
-use Rattle.std.specs.List.{flat_map}
 use Rattle.std.specs.Str.{bytes_eq}
 use Rattle.std.specs.declared.alloc.Global.{Global}
 use Rattle.text_line.specs.Fields.{fields_of}
 use Rattle.text_line.specs.Numbers.{number_of}
+use Rattle.text_line.specs.Reading as lines
+use Rattle.text_line.specs.Reading.{reading, read_lines, fault_on}
 use Rattle.text_line.specs.Places.{Placed, LineAt, fields_from, lines_at}
 use Rattle.scen_text.specs.declared.fault.ScenFault.{ScenFault}
 use Rattle.scen_text.specs.declared.fault.ScenFault.TheVariants.{Version, Fields, Number, Length, NoMemory}
@@ -54,17 +55,6 @@ words_fault line words = first_of (
     ∷ length_fault line words.listed.bytes
     ∷ [])
 
--- C2: some fields, but fewer than nine; or else the fault of the words
-abbrev pub fields_fault : ℕ → List Placed → Option ScenFault
-fields_fault line [] = None
-fields_fault line (bucket ∷ fields) =
-    if nat_lt (length (bucket ∷ fields)) 9 then Some (Fields line) else words_fault line
-    (words_of (bucket ∷ fields))
-
--- how a line after the first breaks the grammar, where it does
-abbrev pub line_fault : LineAt → Option ScenFault
-line_fault line = fields_fault line.number (fields_from line.place line.bytes)
-
 -- the number that a word spells, 0 where it spells none
 abbrev pub number_or_zero : List ℕ → ℕ
 number_or_zero word = unwrap_or (number_of word) 0
@@ -84,50 +74,35 @@ entry_in line words = record {
   length = unwrap_or (length_of words.listed.bytes) (record { digits = 0; places = 0 });
 }
 
--- the entry that fields spell, none where there is no field
-abbrev pub entries_in : ℕ → List Placed → List Entry
-entries_in line [] = []
-entries_in line (bucket ∷ fields) = entry_in line (words_of (bucket ∷ fields)) ∷ []
+-- what the fields of a line after the first are read as: nothing where there is none, an entry, or a fault; C2: they are
+-- fewer than nine
+abbrev pub fields_read : ℕ → List Placed → Result (Option Entry) ScenFault
+fields_read line [] = Ok None
+fields_read line (bucket ∷ fields) =
+    if nat_lt (length (bucket ∷ fields)) 9 then Err (Fields line)
+    else reading (words_fault line (words_of (bucket ∷ fields))) (Some (entry_in line (words_of (bucket ∷ fields))))
 
--- the entry on a line, none on a blank one
-abbrev pub entries_on : LineAt → List Entry
-entries_on line = entries_in line.number (fields_from line.place line.bytes)
-
--- a fault where there is one, else the entries
-abbrev pub reading : Option ScenFault → List Entry → Result (List Entry) ScenFault
-reading None entries = Ok entries
-reading (Some fault) entries = Err fault
-
--- what the lines after the first are read as
-abbrev pub entries_of : List LineAt → Result (List Entry) ScenFault
-entries_of lines = reading (first_of (map line_fault lines)) (flat_map entries_on lines)
+-- what a line after the first is read as
+abbrev pub line_read : LineAt → Result (Option Entry) ScenFault
+line_read line = fields_read line.number (fields_from line.place line.bytes)
 
 -- what all lines are read as
-abbrev pub lines_read : List LineAt → Result (List Entry) ScenFault
-lines_read lines = if has_version (slice_get lines 0) then entries_of (drop 1 lines) else Err (Version 1)
+abbrev pub all_read : List LineAt → Result (List Entry) ScenFault
+all_read lines = if has_version (slice_get lines 0) then read_lines line_read (drop 1 lines) else Err (Version 1)
 
 -- what a text is read as: its entries, or the fault of its first broken line
 unfoldable pub scen_of : List ℕ → Result (List Entry) ScenFault
-scen_of text = lines_read (lines_at text)
-
--- how the line after the first breaks the grammar, where it is there and does
-abbrev pub later_fault : Option LineAt → Option ScenFault
-later_fault None = None
-later_fault (Some line) = line_fault line
+scen_of text = all_read (lines_at text)
 
 -- how the line at a place, counted from 0, breaks the grammar, where it does
 abbrev pub fault_at : List LineAt → ℕ → Option ScenFault
 fault_at lines zero = version_fault (slice_get lines 0)
-fault_at lines (suc place) = later_fault (slice_get lines (suc place))
+fault_at lines (suc place) = fault_on line_read (drop 1 lines) place
 
--- the first line that breaks the grammar is that of a place, and it breaks it so
-pub record BreaksFirst (lines : List LineAt) (fault : ScenFault) : Type 0 where
-  pub place : ℕ
-  pub breaks : fault_at lines place ≡ Some fault
-  pub before : (k : ℕ) → k < place → fault_at lines k ≡ None
+-- the first line that breaks the grammar breaks it so
+abbrev pub BreaksFirst : List LineAt → ScenFault → Type 0
+BreaksFirst all fault = lines.BreaksFirst (fault_at all) fault
 
 -- an answer tells a reading; for want of memory it tells nothing
 abbrev pub Tells : Result (Vec Entry Global) ScenFault → Result (List Entry) ScenFault → Type 0
-Tells (Ok entries) read = read ≡ Ok entries.items
-Tells (Err NoMemory) read = Unit {0}
-Tells (Err fault) read = read ≡ Err fault
+Tells answer read = lines.Tells NoMemory (λ entries. entries.items) answer read

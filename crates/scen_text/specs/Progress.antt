@@ -1,13 +1,10 @@
 -- How far a reading has come.
-use Rattle.std.specs.Prelude.{◌≡◌, List, [], ◌∷◌, ◌++◌, Option, Some, None, Result, Ok, Err}
+use Rattle.std.specs.Prelude.{◌≡◌, List, ◌∷◌, ◌++◌, Option, Some, None}
 use Rattle.text_line.specs.Places.{Placed, LineAt, placed, line_at}
 use Rattle.text_line.specs.declared.places.PlacedLine.{PlacedLine}
-use Rattle.scen_text.specs.declared.fault.ScenFault.{ScenFault}
-use Rattle.scen_text.specs.declared.entry.Entry.{Entry}
 use Rattle.scen_text.specs.declared.words.Words as declared
 use Rattle.scen_text.specs.Words.{Words}
 use Rattle.scen_text.specs.Spelling.{Spans}
-use Rattle.scen_text.specs.Faults.{line_fault, entries_on}
 
 -- words without where they lie in memory
 abbrev pub plain_words : declared.Words → Words
@@ -44,26 +41,7 @@ pub record HasWordsBefore (fields : List Placed) (words : Words) (left : List Pl
       words.listed ∷ left)
   pub spans : Spans name words.name
 
--- an answer for a line or a word: what it is, where it breaks nothing, or its fault
-abbrev pub Judges : {X : Type 0} → Result X ScenFault → Option ScenFault → (X → Type 0) → Type 0
-Judges (Ok x) fault Is = (fault ≡ None) × Is x
-Judges (Err named) fault Is = fault ≡ Some named
-
--- an entry as a list of at most one
-abbrev pub as_list : Option Entry → List Entry
-as_list None = []
-as_list (Some entry) = entry ∷ []
-
--- an answer for a line after the first: its entry, none where it is blank, or its fault
-abbrev pub ReadsLine : Result (Option Entry) ScenFault → LineAt → Type 0
-ReadsLine answer line = Judges answer (line_fault line) (λ found. entries_on line ≡ as_list found)
-
 -- the line that a call of `next` gave
 abbrev pub line_given : Option PlacedLine → Option LineAt
 line_given None = None
 line_given (Some line) = Some (line_at line)
-
--- a reading behind these entries
-abbrev pub behind : List Entry → Result (List Entry) ScenFault → Result (List Entry) ScenFault
-behind entries (Ok later) = Ok (entries ++ later)
-behind entries (Err fault) = Err fault

@@ -2,6 +2,7 @@
 use Rattle.std.specs.Prelude.{◌≡◌, ℕ, List, [], ◌∷◌, ◌++◌, ◌⊎◌, Some, codes}
 use Rattle.text_line.specs.Fields.{fields_of}
 use Rattle.text_line.specs.Numbers.{number_of}
+use Rattle.text_line.specs.Reading.{SpellInOrder}
 use Rattle.text_line.specs.Places.{Placed, LineAt, fields_from, lines_at}
 use Rattle.scen_text.specs.declared.entry.ByteRange.{ByteRange}
 use Rattle.scen_text.specs.declared.entry.Entry.{Entry}
@@ -45,23 +46,19 @@ pub record IsEntry (line : LineAt) (entry : Entry) : Type 0 where
 abbrev pub IsBlank : LineAt → Type 0
 IsBlank line = fields_from line.place line.bytes ≡ []
 
--- an entry for each line that is not blank, in order
-abbrev pub SpellEntries : List LineAt → List Entry → Type 0
-SpellEntries [] entries = entries ≡ []
-SpellEntries (line ∷ lines) entries =
-    (IsBlank line × SpellEntries lines entries)
-    ⊎ ((entry : Entry) × (later : List Entry) × (entries ≡ entry ∷ later) × IsEntry line entry ×
-    SpellEntries lines later)
-
 -- the word and the version
 abbrev pub IsVersion : List ℕ → Type 0
 IsVersion line = (fields_of line ≡ codes "version" ∷ codes "1" ∷ []) ⊎
     (fields_of line ≡ codes "version" ∷ codes "1.0" ∷ [])
 
--- a version line, and lines that spell the entries
-pub record Spells (text : List ℕ) (entries : List Entry) : Type 0 where
+-- a version line, and lines of which each is blank or spells the entry at its place
+pub record SpellsLines (lines : List LineAt) (entries : List Entry) : Type 0 where
   pub first : LineAt
   pub others : List LineAt
-  pub lines : lines_at text ≡ first ∷ others
+  pub are : lines ≡ first ∷ others
   pub version : IsVersion first.bytes
-  pub spelled : SpellEntries others entries
+  pub spelled : SpellInOrder IsBlank IsEntry others entries
+
+-- the lines of the text are so
+abbrev pub Spells : List ℕ → List Entry → Type 0
+Spells text entries = SpellsLines (lines_at text) entries

@@ -1,13 +1,13 @@
 //! Lengths in decimals.
 
-ghost use Rattle.std.specs.Prelude.{◌≡◌, ◌<◌, ◌^◌, IsTrue, position};
+ghost use Rattle.std.specs.Prelude.{◌≡◌, IsTrue, position};
 ghost use Rattle.std.specs.List.{list_all};
 ghost use Rattle.std.specs.Char.{is_ascii_digit};
-ghost use Rattle.std.specs.Str.Parse.{digits_value_after};
 ghost use Rattle.text_line.specs.Numbers.{is_number as number_word};
 ghost use Rattle.scen_text.specs.Lengths.{length_of, decimal_of, is_point};
 
 use root2_cost::Decimal;
+use text_line::{digits_after, is_number};
 
 /// The most decimals that are kept.
 const KEPT: usize = 10;
@@ -41,20 +41,6 @@ fn place_of_point(word: &[u8]) -> Option<usize>
     word.iter().position(|byte| *byte == b'.')
 }
 
-/// Whether the word has 1 to `most` digits and nothing else.
-fn is_number(word: &[u8], most: usize) -> bool
-    ensures { result ≡ number_word most word.now }
-{
-    1 <= word.len() && word.len() <= most && are_digits(word)
-}
-
-/// Whether each byte is a decimal digit.
-fn are_digits(word: &[u8]) -> bool
-    ensures { result ≡ list_all is_ascii_digit word.now }
-{
-    word.iter().all(|byte| byte.is_ascii_digit())
-}
-
 /// The number with these digits before the point and these behind it, of which ten are kept.
 fn decimal(whole: &[u8], decimals: &[u8]) -> Decimal
     requires whole { IsTrue (number_word 8 whole.now) }
@@ -63,20 +49,7 @@ fn decimal(whole: &[u8], decimals: &[u8]) -> Decimal
 {
     let kept = &decimals[..decimals.len().min(KEPT)];
     Decimal {
-        digits: value_after(value_after(0, whole), kept),
+        digits: digits_after(digits_after(0, whole), kept),
         places: kept.len() as u8,
     }
-}
-
-/// The number that the digits spell when they follow those of another number.
-fn value_after(number: u64, digits: &[u8]) -> u64
-    requires digits { IsTrue (list_all is_ascii_digit digits.now) }
-    requires fits { digits_value_after 10 number digits.now < 2 ^ 64 }
-    ensures { result ≡ digits_value_after 10 number digits.now }
-{
-    let mut value = number;
-    for digit in digits {
-        value = value * 10 + (*digit - b'0') as u64;
-    }
-    value
 }

@@ -4,13 +4,14 @@ ghost use Rattle.std.specs.Prelude.{◌≡◌, ◌≢◌, ◌≤◌, ◌+◌, �
 ghost use Rattle.std.specs.Prelude.{Some, Ok, Err, IfOk, IfErr};
 ghost use Rattle.text_line.specs.Places.{lines_at, line_at};
 ghost use Rattle.text_line.specs.Numbers.{number_of};
+ghost use Rattle.text_line.specs.Reading.{Judges};
 ghost use Rattle.scen_text.specs.declared.fault.ScenFault.{ScenFault};
 ghost use Rattle.scen_text.specs.declared.fault.ScenFault.TheVariants.{NoMemory};
 ghost use Rattle.scen_text.specs.declared.entry.Entry.{Entry};
 ghost use Rattle.scen_text.specs.Lengths.{IsKept};
 ghost use Rattle.scen_text.specs.Spelling.{Spells};
-ghost use Rattle.scen_text.specs.Faults.{number_fault, has_version, words_fault, entry_in, scen_of, BreaksFirst, Tells};
-ghost use Rattle.scen_text.specs.Progress.{Judges, ReadsLine, plain_words, line_given};
+ghost use Rattle.scen_text.specs.Faults.{number_fault, has_version, words_fault, entry_in, line_read, scen_of, BreaksFirst, Tells};
+ghost use Rattle.scen_text.specs.Progress.{plain_words, line_given};
 
 use crate::entry::Entry;
 use crate::fault::ScenFault;
@@ -82,15 +83,18 @@ fn is_version(line: Option<PlacedLine<'_>>) -> bool
 /// The entry on a line after the first, none on a blank one.
 fn entry_on(line: PlacedLine<'_>) -> Result<Option<Entry>, ScenFault>
     requires { line.place + length line.bytes.now ≤ 2 ^ 31 }
-    ensures { ReadsLine result (line_at line.entry) }
+    ensures { result ≡ line_read (line_at line.entry) }
 {
     let mut fields = FieldsAt::of(line);
     let Some(bucket) = fields.next() else {
         return Ok(None);
     };
-    match Words::of(bucket, fields) {
-        Some(words) => Ok(Some(entry(line.number, words)?)),
-        None => Err(ScenFault::Fields { line: line.number }),
+    let Some(words) = Words::of(bucket, fields) else {
+        return Err(ScenFault::Fields { line: line.number });
+    };
+    match entry(line.number, words) {
+        Ok(entry) => Ok(Some(entry)),
+        Err(fault) => Err(fault),
     }
 }
 

@@ -1,18 +1,20 @@
 -- A line that spells a command is read as it, and the other way round.
-use Rattle.std.proofs.Common.{◌≡◌, ◌≤◌, ℕ, true, false, cond, ltb, List, [], ◌∷◌, length, map, Option, Some, None, refl, ap, subst, ◌∙◌, ◌⊎◌, inl, inr}
+use Rattle.std.proofs.Common.{◌≡◌, ℕ, Bool, true, false, List, [], ◌∷◌, length, map, Option, Some, None, Result, Ok, Err, refl, ap, subst, ◌∙◌, inl, inr}
 use Rattle.std.specs.Prelude.{codes, if◌then◌else◌}
-use Rattle.std.specs.Option.{option_map, option_and_then, is_some}
+use Rattle.std.specs.Option.{option_map, option_map_or, option_and_then}
 use Rattle.std.specs.Str.{bytes_eq}
 use Rattle.std.proofs.lemmas.Bool.{cases_Bool, le-ltb, ltb-false}
 use Rattle.std.proofs.lemmas.Slice.Eq.{bytes_eq-Decides}
 use Rattle.text_line.specs.Lines.{without_cr}
-use Rattle.text_line.specs.Fields.{fields_of, is_nothing, is_blank}
+use Rattle.text_line.specs.Fields.{fields_of, is_blank}
 use Rattle.text_line.specs.Numbers.{number_of}
+use Rattle.text_line.proofs.Reading.{Judges}
 use Rattle.script_text.specs.declared.command.Command.{Command}
 use Rattle.script_text.specs.declared.command.Command.TheVariants.{Block, Free, Flood, Query}
-use Rattle.script_text.specs.declared.fault.ScriptFault.TheVariants.{Line}
-use Rattle.script_text.specs.Spelling.{Names, SpellsCommand}
-use Rattle.script_text.specs.Lines.{two_numbers, four_numbers, command_in, command_on, fault_on}
+use Rattle.script_text.specs.declared.fault.ScriptFault.{ScriptFault}
+use Rattle.script_text.specs.declared.fault.ScriptFault.TheVariants.{Line, Long}
+use Rattle.script_text.specs.Spelling.{Names, SpellsCommand, IsBlankPiece, IsCommandPiece}
+use Rattle.script_text.specs.Lines.{two_numbers, four_numbers, command_in, piece_read}
 
 two_of : (digits : List (List ℕ)) (x y : ℕ) → map number_of digits ≡ Some x ∷ Some y ∷ []
     → two_numbers digits ≡ Some (x, y)
@@ -136,41 +138,45 @@ command_spelled line command is = of_fields (fields_of line) refl is
     of_fields [] are is = absurd cc
     of_fields (word ∷ digits) are is = read_command line word digits are command is
 
--- a blank line is no command
-blank_fields : (fields : List (List ℕ)) → is_nothing fields ≡ true → command_in fields ≡ None
-blank_fields [] blank = refl
-blank_fields (word ∷ digits) blank = absurd cc
+-- a line that spells a command is not blank
+not_blank : (line : List ℕ) (command : Command) → SpellsCommand line command → is_blank line ≡ false
+not_blank line (Block x y) s = rw s.fields refl
+not_blank line (Free x y) s = rw s.fields refl
+not_blank line (Flood x y) s = rw s.fields refl
+not_blank line (Query sx sy gx gy) s = rw s.fields refl
 
-pub blank_on : (piece : List ℕ) → is_blank (without_cr piece) ≡ true → command_on piece ≡ None
-blank_on piece blank = blank_fields (fields_of (without_cr piece)) blank
+-- what a line is read as, by what is known of it
+abbrev read_as : ℕ → Bool → Bool → Option Command → Result (Option Command) ScriptFault
+read_as number long blank command = if long then Err (Long number) else if blank then Ok None
+    else option_map_or (λ command. Ok (Some command)) command (Err (Line number))
 
--- a line that breaks nothing is short, and is blank or a command
-pub fine_line : (number : ℕ) (piece : List ℕ) → fault_on number piece ≡ None
-    → (length piece ≤ 128) × ((is_blank (without_cr piece) ≡ true) ⊎
-    ((is_blank (without_cr piece) ≡ false) × (command : Command) × (command_on piece ≡ Some command)))
-fine_line number piece fine =
-    elim (cases_Bool (ltb 128 (length piece))) [
-      | inl long ↦ absurd (cc (rw long at fine))
-      | inr short ↦ (
-        ltb-false 128 (length piece) short,
-        elim (cases_Bool (is_blank (without_cr piece))) [
-          | inl blank ↦ inl blank
-          | inr filled ↦ let found =
-              there (command_on piece) (rw (short, filled) at fine) in inr (filled, found.0, found.1)
-        ],
-      )
-    ]
-  where
-    there : (found : Option Command) → cond (is_some found) None (Some (Line number)) ≡ None
-        → (command : Command) × (found ≡ Some command)
-    there None none = absurd cc
-    there (Some command) none = (command, refl)
+as_nothing : (number : ℕ) (long blank : Bool) (command : Option Command)
+    → read_as number long blank command ≡ Ok None → (long ≡ false) × (blank ≡ true)
+as_nothing number true blank command is = absurd cc
+as_nothing number false true command is = (refl, refl)
+as_nothing number false false None is = absurd cc
+as_nothing number false false (Some command) is = absurd cc
 
--- and the other way round
-pub blank_fine : (number : ℕ) (piece : List ℕ) → length piece ≤ 128 → is_blank (without_cr piece) ≡ true
-    → fault_on number piece ≡ None
-blank_fine number piece short blank = rw (le-ltb 128 (length piece) short, blank) refl
+as_command : (number : ℕ) (long blank : Bool) (found : Option Command) (command : Command)
+    → read_as number long blank found ≡ Ok (Some command) → (long ≡ false) × (found ≡ Some command)
+as_command number true blank found command is = absurd cc
+as_command number false true found command is = absurd cc
+as_command number false false None command is = absurd cc
+as_command number false false (Some found) command is = (refl, cc)
 
-pub command_fine : (number : ℕ) (piece : List ℕ) (command : Command) → length piece ≤ 128
-    → is_blank (without_cr piece) ≡ false → command_on piece ≡ Some command → fault_on number piece ≡ None
-command_fine number piece command short filled is = rw (le-ltb 128 (length piece) short, filled, is) refl
+-- so each line is read as what it is
+pub pieces_judged : Judges piece_read IsBlankPiece IsCommandPiece
+pieces_judged = record {
+  blank = λ piece is.
+      let parts = as_nothing piece.number _ (is_blank (without_cr piece.bytes)) _ is in
+      (ltb-false 128 (length piece.bytes) parts.0, parts.1);
+  nothing = λ piece is. rw (le-ltb 128 (length piece.bytes) is.0, is.1) refl;
+  spelled = λ piece command is.
+      let parts = as_command piece.number _ (is_blank (without_cr piece.bytes)) _ command is in
+      (ltb-false 128 (length piece.bytes) parts.0, command_spelled (without_cr piece.bytes) command parts.1);
+  value = λ piece command is. rw (
+    le-ltb 128 (length piece.bytes) is.0,
+    not_blank (without_cr piece.bytes) command is.1,
+    spelled_command (without_cr piece.bytes) command is.1,
+  ) refl;
+}

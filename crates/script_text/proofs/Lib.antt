@@ -1,4 +1,2 @@
 pub mod Commands
-pub mod First
 pub mod Laws
-pub mod Passing

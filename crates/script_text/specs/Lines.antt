@@ -1,8 +1,9 @@
 -- What one line of a script is read as.
-use Rattle.std.specs.Prelude.{◌≡◌, ℕ, ◌||◌, nat_lt, if◌then◌else◌, List, [], ◌∷◌, length, codes, Option, Some, None, Result, Ok, Err}
-use Rattle.std.specs.Option.{option_map, option_and_then, is_some}
+use Rattle.std.specs.Prelude.{ℕ, nat_lt, if◌then◌else◌, List, [], ◌∷◌, length, codes, Option, Some, None, Result, Ok, Err}
+use Rattle.std.specs.Option.{option_map, option_map_or, option_and_then}
 use Rattle.std.specs.Str.{bytes_eq}
 use Rattle.text_line.specs.Lines.{without_cr}
+use Rattle.text_line.specs.Left.{Numbered}
 use Rattle.text_line.specs.Fields.{fields_of, is_blank}
 use Rattle.text_line.specs.Numbers.{number_of}
 use Rattle.script_text.specs.declared.command.Command.{Command}
@@ -36,15 +37,10 @@ command_in (word ∷ digits) =
 abbrev pub command_on : List ℕ → Option Command
 command_on piece = command_in (fields_of (without_cr piece))
 
--- how the line with this number, which still has its carriage return, breaks the grammar, where it does;
--- T2: it has more than 128 bytes; else T1: it is neither blank nor a command
-abbrev pub fault_on : ℕ → List ℕ → Option ScriptFault
-fault_on number piece =
-    if nat_lt 128 (length piece) then Some (Long number)
-    else if is_blank (without_cr piece) || is_some (command_on piece) then None
-    else Some (Line number)
-
--- an answer for a line: what it is, where it breaks nothing, or its fault
-abbrev pub Judges : {X : Type 0} → Result X ScriptFault → Option ScriptFault → (X → Type 0) → Type 0
-Judges (Ok x) fault Is = (fault ≡ None) × Is x
-Judges (Err named) fault Is = fault ≡ Some named
+-- what a line is read as that still has its carriage return: a command, nothing where it is blank, or its fault; T2: it
+-- has more than 128 bytes; T1: it is neither blank nor a command
+abbrev pub piece_read : Numbered → Result (Option Command) ScriptFault
+piece_read piece =
+    if nat_lt 128 (length piece.bytes) then Err (Long piece.number)
+    else if is_blank (without_cr piece.bytes) then Ok None
+    else option_map_or (λ command. Ok (Some command)) (command_on piece.bytes) (Err (Line piece.number))

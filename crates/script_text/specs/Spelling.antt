@@ -1,9 +1,10 @@
 -- What the text of a script looks like.
-use Rattle.std.specs.Prelude.{◌≡◌, ◌≤◌, ℕ, not, List, [], ◌∷◌, length, map, filter, Some, codes, ⊤}
-use Rattle.std.specs.List.{AllByRecursion}
-use Rattle.text_line.specs.Lines.{pieces_of, lines_of}
+use Rattle.std.specs.Prelude.{◌≡◌, ◌≤◌, ℕ, true, List, [], ◌∷◌, length, map, Some, codes}
+use Rattle.text_line.specs.Lines.{without_cr}
+use Rattle.text_line.specs.Left.{Numbered, numbered_pieces}
 use Rattle.text_line.specs.Fields.{fields_of, is_blank}
 use Rattle.text_line.specs.Numbers.{number_of}
+use Rattle.text_line.specs.Reading.{SpellInOrder}
 use Rattle.script_text.specs.declared.command.Command.{Command}
 use Rattle.script_text.specs.declared.command.Command.TheVariants.{Block, Free, Flood, Query}
 
@@ -20,14 +21,16 @@ SpellsCommand line (Free x y) = Names (codes "free") (x ∷ y ∷ []) line
 SpellsCommand line (Flood x y) = Names (codes "flood") (x ∷ y ∷ []) line
 SpellsCommand line (Query sx sy gx gy) = Names (codes "query") (sx ∷ sy ∷ gx ∷ gy ∷ []) line
 
--- each line spells the command at its place, and there are no others
-abbrev pub SpellInOrder : List (List ℕ) → List Command → Type 0
-SpellInOrder [] [] = ⊤
-SpellInOrder [] (command ∷ commands) = ⊥
-SpellInOrder (line ∷ lines) [] = ⊥
-SpellInOrder (line ∷ lines) (command ∷ commands) = SpellsCommand line command × SpellInOrder lines commands
+-- a piece has at most 128 bytes, with its carriage return
+abbrev pub IsShort : Numbered → Type 0
+IsShort piece = length piece.bytes ≤ 128
 
--- the lines that are not blank spell the commands in order, and no line has more than 128 bytes, with its carriage return
-pub record Spells (text : List ℕ) (commands : List Command) : Type 0 where
-  pub short : AllByRecursion (λ piece. length piece ≤ 128) (pieces_of text)
-  pub spelled : SpellInOrder (filter (λ line. not (is_blank line)) (lines_of text)) commands
+abbrev pub IsBlankPiece : Numbered → Type 0
+IsBlankPiece piece = IsShort piece × (is_blank (without_cr piece.bytes) ≡ true)
+
+abbrev pub IsCommandPiece : Numbered → Command → Type 0
+IsCommandPiece piece command = IsShort piece × SpellsCommand (without_cr piece.bytes) command
+
+-- each line is blank or spells the command at its place, and none has more than 128 bytes
+abbrev pub Spells : List ℕ → List Command → Type 0
+Spells text commands = SpellInOrder IsBlankPiece IsCommandPiece (numbered_pieces text) commands

@@ -2,13 +2,13 @@
 
 ghost use Rattle.std.specs.Prelude.{◌≡◌, ◌≢◌, ◌≤◌, ◌^◌, ◌∷◌, List, length};
 ghost use Rattle.std.specs.Prelude.{Ok, Err, IfOk, IfErr};
-ghost use Rattle.text_line.specs.Lines.{pieces_of};
+ghost use Rattle.text_line.specs.Left.{numbered};
 ghost use Rattle.script_text.specs.declared.command.Command.{Command};
 ghost use Rattle.script_text.specs.declared.fault.ScriptFault.{ScriptFault};
 ghost use Rattle.script_text.specs.declared.fault.ScriptFault.TheVariants.{NoMemory};
 ghost use Rattle.script_text.specs.Spelling.{Spells};
 ghost use Rattle.script_text.specs.Lines as spec;
-ghost use Rattle.script_text.specs.Lines.{command_in, fault_on, Judges};
+ghost use Rattle.script_text.specs.Lines.{command_in, piece_read};
 ghost use Rattle.script_text.specs.Faults.{script_of, BreaksFirst, Tells};
 
 use crate::command::Command;
@@ -31,9 +31,9 @@ pub fn read_script(alloc: Global, text: &[u8]) -> Result<Vec<Command>, ScriptFau
     // What is spelled so is read, unless memory runs out.
     ensures only { (spelled : List Command) → Spells text.now spelled → Tells result (Ok spelled) }
     // A fault is that of the first line that breaks the grammar.
-    ensures first { IfErr result (λ fault. fault ≢ NoMemory → BreaksFirst (pieces_of text.now) fault) }
+    ensures first { IfErr result (λ fault. fault ≢ NoMemory → BreaksFirst text.now fault) }
     // Where a line breaks it first, its fault is answered, unless memory runs out.
-    ensures broken { (fault : ScriptFault) → BreaksFirst (pieces_of text.now) fault
+    ensures broken { (fault : ScriptFault) → BreaksFirst text.now fault
         → Tells result (Err fault) }
     // All of this as one function of the text.
     ensures exact { Tells result (script_of text.now) }
@@ -57,8 +57,7 @@ fn read(alloc: Global, text: &[u8]) -> Result<Vec<Command>, ScriptFault>
 
 /// The command of a line, or none where it is blank.
 fn command_on(piece: Line<'_>) -> Result<Option<Command>, ScriptFault>
-    ensures { let bytes = piece.entry.bytes.now in
-        Judges result (fault_on piece.entry.number bytes) (λ command. command ≡ spec.command_on bytes) }
+    ensures { result ≡ piece_read (numbered piece.entry) }
 {
     if piece.bytes.len() > MAX_LINE {
         return Err(ScriptFault::Long { line: piece.number });

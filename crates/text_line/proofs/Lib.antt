@@ -2,3 +2,5 @@ pub mod Cut
 pub mod Parts
 pub mod Digits
 pub mod Placing
+pub mod LongDigits
+pub mod Reading

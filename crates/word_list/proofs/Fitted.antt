@@ -1,11 +1,10 @@
 -- The words after a command's name: where they stop, and how many they are at most.
-use Rattle.std.proofs.Common.{◌≡◌, ℕ, zero, suc, ◌+◌, ◌<◌, ◌≤◌, true, false, List, [], ◌∷◌, ◌++◌, length, take, drop, refl, ◌∙◌, subst, arith}
+use Rattle.std.proofs.Common.{◌≡◌, ℕ, zero, suc, ◌+◌, ◌<◌, true, false, List, [], ◌∷◌, length, drop, refl, ◌∙◌, subst, arith}
 use Rattle.std.specs.Prelude.{codes}
-use Rattle.std.proofs.lemmas.Bool.{and_parts}
-use Rattle.std.proofs.lemmas.List.{length-append, length-take}
+use Rattle.text_line.specs.LongNumbers.{long_number_of}
 use Rattle.text_line.specs.Numbers.{number_of}
 use Rattle.word_list.specs.declared.rows.Kind.{Kind}
-use Rattle.word_list.specs.declared.rows.Kind.TheVariants.{File, Number}
+use Rattle.word_list.specs.declared.rows.Kind.TheVariants.{File, Number, Seed, Side, Percent}
 use Rattle.word_list.specs.declared.settings.Choice.{Choice}
 use Rattle.word_list.specs.Settings.{are_settings}
 use Rattle.word_list.specs.Rows.{is_of}
@@ -13,15 +12,17 @@ use Rattle.word_list.specs.Calls.{fits}
 use Rattle.word_list.specs.Rule.{Begins, EndsAfter}
 use Rattle.word_list.specs.Steps.{AreOf}
 use Rattle.word_list.proofs.Rules.{ends_at_once, ends_later}
-use Rattle.word_list.proofs.Settled.{at_most_three}
 
 module _ (allows : List Choice) where
   -- every form has a list
   pub completed : (takes : List Kind) → Begins (fits takes allows) []
-  unfolding number_of
+  unfolding number_of long_number_of
   completed [] = ([], refl)
   completed (File ∷ takes) = let rest = completed takes in ([] ∷ rest.0, rest.1)
   completed (Number ∷ takes) = let rest = completed takes in (codes "0" ∷ rest.0, rest.1)
+  completed (Seed ∷ takes) = let rest = completed takes in (codes "0" ∷ rest.0, rest.1)
+  completed (Side ∷ takes) = let rest = completed takes in (codes "1" ∷ rest.0, rest.1)
+  completed (Percent ∷ takes) = let rest = completed takes in (codes "0" ∷ rest.0, rest.1)
 
   -- a first word that is of its kind
   goes_on : (kind : Kind) (takes : List Kind) (word : List ℕ) → is_of kind word ≡ true
@@ -75,17 +76,3 @@ module _ (allows : List Choice) where
             (ends_later (fits (kind ∷ takes) allows) (fits takes allows) word words (length takes + place)
             (goes_on kind takes word right) (rest.1 place (length takes + place) refl after)),
       )
-
-  pub few_words : (takes : List Kind) (words : List (List ℕ)) → fits takes allows words ≡ true
-      → length words ≤ length takes + 3
-  few_words [] words right = omega (arith, at_most_three allows words right)
-  few_words (kind ∷ takes) [] right = omega arith
-  few_words (kind ∷ takes) (word ∷ words) right =
-      let rest = few_words takes words (and_parts (is_of kind word) _ right).1 in omega (arith, rest)
-
-  -- so the word that is named stands near the beginning
-  pub few_before : (takes : List Kind) (words : List (List ℕ)) (count : ℕ)
-      → EndsAfter (fits takes allows) words count → count ≤ length takes + 3
-  few_before takes words count after =
-      let few = few_words takes (take count words ++ after.begins.0) after.begins.1 in
-      omega (arith, few, after.within, length-append (take count words) after.begins.0, length-take count words)

@@ -1,6 +1,6 @@
 -- Where accepted lists stop, and that a list has one bad word.
-use Rattle.std.proofs.Common.{◌≡◌, ℕ, suc, ◌<◌, ◌≤◌, Bool, true, false, List, [], ◌∷◌, ◌++◌, length, take, drop, refl, sym, ap, ◌∙◌, append_assoc, arith}
-use Rattle.std.proofs.lemmas.List.{append-nil, take-append-drop, take-take}
+use Rattle.std.proofs.Common.{◌≡◌, ℕ, suc, ◌<◌, ◌≤◌, Bool, List, [], ◌∷◌, ◌++◌, length, take, drop, sym, ap, ◌∙◌, append_assoc, arith}
+use Rattle.std.proofs.lemmas.List.{take-append-drop, take-take}
 use Rattle.word_list.specs.Rule.{Begins, EndsAfter, StopsAt}
 
 -- no other number is smaller
@@ -52,20 +52,3 @@ module _ (accepts : List (List ℕ) → Bool) where
     ends = λ inside found. after.ends (omega arith)
         (found.0, sym (goes_on (take (suc count) words ++ found.0)) ∙ found.1);
   }
-
-  -- a test that the beginning of each list which meets it meets too
-  module _ (front : (ys xs : List (List ℕ)) → accepts (xs ++ ys) ≡ true → accepts xs ≡ true)
-      (words : List (List ℕ)) (count : ℕ) (wrong : accepts (take (suc count) words) ≡ false) where
-    pub refused_there : accepts words ≡ false
-    refused_there = elim (accepts words) as (λ b. accepts words ≡ b → accepts words ≡ false) [
-      | true ↦ λ right. let first = front (drop (suc count) words) (take (suc count) words)
-          (ap accepts (take-append-drop (suc count) words) ∙ right) in cc (first, wrong)
-      | false ↦ λ no. no
-    ] refl
-
-    pub ends_there : count < length words → accepts (take count words) ≡ true → EndsAfter accepts words count
-    ends_there inside right = record {
-      begins = ([], rw append-nil right);
-      within = omega arith;
-      ends = λ more found. let first = front found.0 (take (suc count) words) found.1 in cc (first, wrong);
-    }

@@ -1,19 +1,20 @@
--- Lists of settings: their beginnings, one word more, and how many they are at most.
-use Rattle.std.proofs.Common.{◌≡◌, ℕ, suc, ◌+◌, ◌<◌, ◌≤◌, Bool, true, false, ◌&&◌, ◌||◌, not, List, [], ◌∷◌, ◌++◌, refl, sym, ap, ◌∙◌, length, take, get_or, map, append_assoc, add-one, string_bytes, arith}
-use Rattle.std.specs.Prelude.{String, Option, Some, None, is_some, MatchOption, if◌then◌else◌}
+-- Lists of settings: where they stop, and how many they are at most.
+use Rattle.std.proofs.Common.{◌≡◌, ℕ, zero, suc, ◌+◌, ◌<◌, ◌≤◌, Bool, true, false, not, ◌||◌, List, [], ◌∷◌, ◌++◌, refl, sym, ap, ◌∙◌, length, take, get_or, map, append_assoc, append-nil, string_bytes, arith}
+use Rattle.std.specs.Prelude.{String, Option, Some, None, if◌then◌else◌}
 use Rattle.std.specs.Global.{Global}
-use Rattle.std.specs.List.{list_all, list_any}
-use Rattle.std.proofs.lemmas.Bool.{and_parts, and_from}
-use Rattle.std.proofs.lemmas.List.{append-nil, take_more, length-map, get_or-map}
-use Rattle.std.proofs.lemmas.List.Folds.{list_all-append, list_any-append, list_any_at, list_any_more}
+use Rattle.std.specs.List.{list_any}
+use Rattle.std.proofs.lemmas.Bool.{and_parts}
+use Rattle.std.proofs.lemmas.List.{length-map, get_or-map, take_more}
 use Rattle.std.proofs.lemmas.List.Sums.{fold-append}
-use Rattle.word_list.specs.declared.request.Settings.{Settings}
+use Rattle.std.proofs.lemmas.List.Folds.{list_any-append, list_any_at, list_any_more}
 use Rattle.word_list.specs.declared.settings.Setting.{Setting}
 use Rattle.word_list.specs.declared.settings.Setting.TheVariants as setting
 use Rattle.word_list.specs.declared.settings.Choice.{Choice}
 use Rattle.word_list.specs.declared.settings.Choice.TheVariants as choice
-use Rattle.word_list.specs.Settings.{setting_of, choice_of, is_same, are_clashing, is_allowed, no_two, are_settings, settings_with, default_settings, settings_of}
-use Rattle.word_list.specs.Steps.{allowed_after, AreSettings, IsWrongAt}
+use Rattle.word_list.specs.Settings.{setting_of, choice_of, is_same, are_clashing, is_allowed, may_follow, all_follow, settings_with, default_settings, settings_of}
+use Rattle.word_list.specs.Rule.{EndsAfter}
+use Rattle.word_list.specs.Steps.{AreSettled}
+use Rattle.word_list.proofs.Rules.{ends_at_once, ends_later}
 
 -- the bytes of a word at its place
 pub bytes_at : (words : List (String Global)) (place : ℕ) (word : String Global) (bytes : List ℕ)
@@ -34,190 +35,147 @@ module _ {A : Type 0} (test : A → Bool) (xs : List A) (place : ℕ) (x : A) (i
       → list_any test (take (place + 1) xs) ≡ false
   none_yet unmet none = list_any_more test xs place x inside ∙ rw (none, at, unmet) refl
 
--- one element more behind some of which no two meet the test
-regroup : (a b c d : Bool) → (not (a || (b || false)) && (c && not d)) ≡ ((not a && c) && not (b || d))
-regroup true b c d = refl
-regroup false true true d = refl
-regroup false true false d = refl
-regroup false false c d = refl
+-- a list of settings ends after so many words, and is one where these are all
+pub record Settles (allows : List Choice) (before words : List (List ℕ)) (count : ℕ) : Type 0 where
+  pub ends : EndsAfter (all_follow allows before) words count
+  pub wrong : count < length words → all_follow allows before words ≡ false
+  pub right : length words ≤ count → all_follow allows before words ≡ true
 
-no_two-more : {A : Type 0} (test : A → A → Bool) (xs : List A) (y : A)
-    → no_two test (xs ++ y ∷ []) ≡ (no_two test xs && not (list_any (λ x. test x y) xs))
-no_two-more test [] y = refl
-no_two-more test (x ∷ xs) y =
-    let apart : Bool = no_two test xs && not (list_any (λ x. test x y) xs) in
-    ap (λ (b : Bool). not (list_any (test x) (xs ++ y ∷ [])) && b) (no_two-more test xs y)
-    ∙ ap (λ (b : Bool). not b && apart) (list_any-append (test x) xs (y ∷ []))
-    ∙ regroup (list_any (test x) xs) (test x y) (no_two test xs) (list_any (λ x. test x y) xs)
-
--- what is left of both tests for one word more
-module _ (each apart : Bool) where
-  reorder : (allowed clashes : Bool) → ((each && (allowed && true)) && (apart && not clashes))
-      ≡ ((each && apart) && (allowed && not clashes))
-  reorder allowed clashes = elim each as (λ e. ((e && (allowed && true)) && (apart && not clashes))
-      ≡ ((e && apart) && (allowed && not clashes))) [
-        | true ↦ cases allowed apart
-        | false ↦ refl
-      ]
-    where
-      cases : (allowed apart : Bool) → ((allowed && true) && (apart && not clashes))
-          ≡ (apart && (allowed && not clashes))
-      cases true true = refl
-      cases true false = refl
-      cases false true = refl
-      cases false false = refl
-
--- whether a setting may stand behind some words
-abbrev may_stand : List Choice → List (List ℕ) → Option Setting → Bool
-may_stand allows behind s = is_some (allowed_after allows behind s)
-
--- one word more behind some settings
 module _ (allows : List Choice) where
-  are_more : (behind : List (List ℕ)) (word : List ℕ) → are_settings allows (behind ++ word ∷ [])
-      ≡ (are_settings allows behind && may_stand allows behind (setting_of word))
-  are_more behind word =
-      let each : Bool = list_all (λ word. is_allowed allows (setting_of word)) behind in
-      let apart : Bool = no_two (λ one other. are_clashing (setting_of one) (setting_of other)) behind in
-      ap (λ (b : Bool). b && no_two (λ one other. are_clashing (setting_of one) (setting_of other))
-      (behind ++ word ∷ []))
-      (list_all-append (λ word. is_allowed allows (setting_of word)) behind (word ∷ []))
-      ∙ ap (λ (b : Bool). (each && (is_allowed allows (setting_of word) && true)) && b)
-      (no_two-more (λ one other. are_clashing (setting_of one) (setting_of other)) behind word)
-      ∙ joined each apart (setting_of word)
-    where
-      joined : (each apart : Bool) (s : Option Setting) → ((each && (is_allowed allows s && true))
-          && (apart && not (list_any (λ other. are_clashing (setting_of other) s) behind)))
-          ≡ ((each && apart) && may_stand allows behind s)
-      joined each apart s = reorder each apart (is_allowed allows s)
-          (list_any (λ other. are_clashing (setting_of other) s) behind)
-          ∙ ap (λ (b : Bool). (each && apart) && b) (stands s)
-        where
-          stands : (s : Option Setting) → (is_allowed allows s
-              && not (list_any (λ other. are_clashing (setting_of other) s) behind))
-              ≡ may_stand allows behind s
-          stands None = refl
-          stands (Some s) = some (is_allowed allows (Some s)
-              && not (list_any (λ other. are_clashing (setting_of other) (Some s)) behind)) s
-            where
-              some : (b : Bool) (s : Setting) → b ≡ is_some (if b then Some s else None)
-              some true s = refl
-              some false s = refl
+  later : {before : List (List ℕ)} {word : List ℕ} {words : List (List ℕ)} {count : ℕ}
+      → AreSettled allows before (word ∷ words) (suc count)
+      → AreSettled allows (before ++ word ∷ []) words count
+  later {before} {word} {words} {count} are = record {
+    within = omega (arith, are.within);
+    first = λ k below. rw (append_assoc before (word ∷ []) (take k words)) (are.first (suc k) (omega arith));
+    next = rw (append_assoc before (word ∷ []) (take count words)) are.next;
+  }
 
-  pub front : (ys xs : List (List ℕ)) → are_settings allows (xs ++ ys) ≡ true → are_settings allows xs ≡ true
-  front [] xs right = rw append-nil at right
-  front (y ∷ ys) xs right = (and_parts _ _ (sym (are_more xs y)
-      ∙ front ys (xs ++ y ∷ []) (ap (are_settings allows) (append_assoc xs (y ∷ []) ys) ∙ right))).0
-
--- the word at a place behind some settings
-pub settings_next : (allows : List Choice) (words : List (List ℕ)) (place : ℕ) (word : List ℕ) (set : Settings)
-    → place < length words → get_or words place word ≡ word → AreSettings allows (take place words) set
-    → MatchOption (allowed_after allows (take place words) (setting_of word))
-    (IsWrongAt allows words place)
-    (λ s. AreSettings allows (take (suc place) words) (settings_with set (Some s)))
-settings_next allows words place word set inside at settings =
-    elim (allowed_after allows (take place words) (setting_of word)) as
-    (λ o. allowed_after allows (take place words) (setting_of word) ≡ o → MatchOption o
-    (IsWrongAt allows words place)
-    (λ s. AreSettings allows (take (suc place) words) (settings_with set (Some s)))) [
-      | None ↦ λ none. record {
-        inside = inside;
-        right = settings.right;
-        wrong = ap (are_settings allows) more ∙ are_more allows (take place words) word
-            ∙ rw (settings.right, none) refl;
+  pub settles : (before words : List (List ℕ)) (count : ℕ) → AreSettled allows before words count
+      → Settles allows before words count
+  settles before [] zero are = record {
+    ends = ends_at_once (all_follow allows before) [] ([], refl) (λ inside. absurd (omega arith));
+    wrong = λ below. absurd (omega arith);
+    right = λ above. refl;
+  }
+  settles before [] (suc count) are = absurd (omega (arith, are.within))
+  settles before (word ∷ words) zero are =
+      let wrong : may_follow allows before word ≡ false = rw append-nil at are.next in
+      record {
+        ends = ends_at_once (all_follow allows before) (word ∷ words) ([], refl)
+            (λ inside found. let no = rw wrong at found.1 in cc (no));
+        wrong = λ below. rw wrong refl;
+        right = λ above. absurd (omega arith);
       }
-      | Some s ↦ λ some. record {
-        right = ap (are_settings allows) more ∙ are_more allows (take place words) word
-            ∙ rw (settings.right, some) refl;
-        chosen = chosen_so s some;
+  settles before (word ∷ words) (suc count) are =
+      let first : may_follow allows before word ≡ true = rw append-nil at (are.first 0 (omega arith)) in
+      let goes_on : (more : List (List ℕ)) → all_follow allows before (word ∷ more)
+      ≡ all_follow allows (before ++ word ∷ []) more = λ more. rw first refl in
+      let rest = settles (before ++ word ∷ []) words count (later are) in
+      record {
+        ends = ends_later (all_follow allows before) (all_follow allows (before ++ word ∷ [])) word words count
+            goes_on rest.ends;
+        wrong = λ below. goes_on words ∙ rest.wrong (omega arith);
+        right = λ above. goes_on words ∙ rest.right (omega arith);
       }
-    ] refl
-  where
-    more : take (suc place) words ≡ take place words ++ word ∷ []
-    more = ap (λ (n : ℕ). take n words) (sym (add-one place)) ∙ take_more words place word inside
-        ∙ ap (λ (w : List ℕ). take place words ++ w ∷ []) at
-
-    spelled : (o : Option Setting) (s : Setting) → allowed_after allows (take place words) o ≡ Some s
-        → o ≡ Some s
-    spelled None s = λ some. cc
-    spelled (Some t) s = if_some (is_allowed allows (Some t)
-        && not (list_any (λ w. are_clashing (setting_of w) (Some t)) (take place words))) t s
-      where
-        if_some : (b : Bool) (t s : Setting) → (if b then Some t else None) ≡ Some s → Some t ≡ Some s
-        if_some true t s is = is
-        if_some false t s is = cc
-
-    chosen_so : (s : Setting) → allowed_after allows (take place words) (setting_of word) ≡ Some s
-        → settings_with set (Some s) ≡ settings_of (take (suc place) words)
-    chosen_so s some =
-        ap (λ (set : Settings). settings_with set (Some s)) settings.chosen
-        ∙ ap (settings_with (settings_of (take place words))) (sym (spelled (setting_of word) s some))
-        ∙ sym (ap settings_of more ∙ fold-append (λ set word. settings_with set (setting_of word))
-        default_settings (take place words) (word ∷ []))
 
 -- whether a word makes a choice
 abbrev is_made : Choice → Option Setting → Bool
 is_made choice None = false
-is_made choice (Some s) = is_same choice (choice_of s)
+is_made choice (Some s) = is_same (choice_of s) choice
 
 -- 1 where some of the words makes the choice
 abbrev made : Choice → List (List ℕ) → ℕ
 made choice words = if list_any (λ word. is_made choice (setting_of word)) words then 1 else 0
 
--- none of the words makes the choice of a setting that clashes with none of them
-none_made : (s : Setting) (words : List (List ℕ))
-    → list_any (λ word. are_clashing (Some s) (setting_of word)) words ≡ false
-    → made (choice_of s) words ≡ 0
-none_made s words apart = rw (same words ∙ apart) refl
-  where
-    agrees : (o : Option Setting) → is_made (choice_of s) o ≡ are_clashing (Some s) o
-    agrees None = refl
-    agrees (Some t) = refl
+-- how many choices the words make
+abbrev all_made : List (List ℕ) → ℕ
+all_made words = made choice.Engine words + made choice.Show words + made choice.Rule words
 
-    same : (words : List (List ℕ)) → list_any (λ word. is_made (choice_of s) (setting_of word)) words
-        ≡ list_any (λ word. are_clashing (Some s) (setting_of word)) words
-    same [] = refl
-    same (word ∷ words) = rw (agrees (setting_of word), same words) refl
-
--- there are at most as many settings as choices
-pub few_settings : (allows : List Choice) (words : List (List ℕ)) → are_settings allows words ≡ true
-    → length words ≤ made choice.Engine words + made choice.Show words + made choice.Rule words
-few_settings allows [] right = omega arith
-few_settings allows (word ∷ words) right =
-    let both = and_parts (is_allowed allows (setting_of word)
-    && list_all (λ word. is_allowed allows (setting_of word)) words) _ right in
-    let each = and_parts (is_allowed allows (setting_of word)) _ both.0 in
-    let apart = and_parts (not (list_any (λ other. are_clashing (setting_of word) (setting_of other)) words)) _
-    both.1 in
-    let rest = few_settings allows words (and_from _ _ each.1 apart.1) in
-    let none = is_not (list_any (λ other. are_clashing (setting_of word) (setting_of other)) words) apart.0 in
-    elim (setting_of word) as (λ s. setting_of word ≡ s → suc (length words)
-    ≤ made choice.Engine (word ∷ words) + made choice.Show (word ∷ words) + made choice.Rule (word ∷ words)) [
-      | None ↦ λ is. let no = rw is at each.0 in cc (no)
-      | Some (setting.Engine pick) ↦ λ is. rw is
-          (omega (arith, rest, none_made (setting.Engine pick) words (rw is at none)))
-      | Some (setting.Show show) ↦ λ is. rw is
-          (omega (arith, rest, none_made (setting.Show show) words (rw is at none)))
-      | Some (setting.Rule one) ↦ λ is. rw is
-          (omega (arith, rest, none_made (setting.Rule one) words (rw is at none)))
-    ] refl
+few_made : (words : List (List ℕ)) → all_made words ≤ 3
+few_made words = omega (
+  arith,
+  one (list_any (λ word. is_made choice.Engine (setting_of word)) words),
+  one (list_any (λ word. is_made choice.Show (setting_of word)) words),
+  one (list_any (λ word. is_made choice.Rule (setting_of word)) words),
+)
   where
-    is_not : (b : Bool) → not b ≡ true → b ≡ false
-    is_not true is = cc
-    is_not false is = refl
+    one : (b : Bool) → (if b then 1 else 0) ≤ 1
+    one true = omega arith
+    one false = omega arith
 
--- as `made` is at most 1
-pub at_most_three : (allows : List Choice) (words : List (List ℕ)) → are_settings allows words ≡ true
-    → length words ≤ 3
-at_most_three allows words right =
-    let few = few_settings allows words right in
-    omega (
-      arith,
-      few,
-      at_most_one (list_any (λ word. is_made choice.Engine (setting_of word)) words),
-      at_most_one (list_any (λ word. is_made choice.Show (setting_of word)) words),
-      at_most_one (list_any (λ word. is_made choice.Rule (setting_of word)) words),
-    )
-  where
-    at_most_one : (b : Bool) → (if b then 1 else 0) ≤ 1
-    at_most_one true = omega arith
-    at_most_one false = omega arith
+-- a word that may follow makes a choice that is not made yet
+module _ (allows : List Choice) (before : List (List ℕ)) (word : List ℕ) where
+  unmade : (s : Setting) → list_any (λ other. are_clashing (setting_of other) (Some s)) before ≡ false
+      → list_any (λ other. is_made (choice_of s) (setting_of other)) before ≡ false
+  unmade s none = same before ∙ none
+    where
+      agrees : (o : Option Setting) → is_made (choice_of s) o ≡ are_clashing o (Some s)
+      agrees None = refl
+      agrees (Some t) = refl
+
+      same : (words : List (List ℕ)) → list_any (λ other. is_made (choice_of s) (setting_of other)) words
+          ≡ list_any (λ other. are_clashing (setting_of other) (Some s)) words
+      same [] = refl
+      same (other ∷ words) = rw (agrees (setting_of other), same words) refl
+
+  -- what is made stays so
+  kept : (choice : Choice) → made choice before ≤ made choice (before ++ word ∷ [])
+  kept choice = rw (list_any-append (λ other. is_made choice (setting_of other)) before (word ∷ []))
+      (more (list_any (λ other. is_made choice (setting_of other)) before) _)
+    where
+      more : (b c : Bool) → (if b then 1 else 0) ≤ (if b || c then 1 else 0)
+      more true c = omega arith
+      more false c = omega arith
+
+  grown : (s : Setting) → setting_of word ≡ Some s
+      → list_any (λ other. are_clashing (setting_of other) (setting_of word)) before ≡ false
+      → made (choice_of s) before + 1 ≤ made (choice_of s) (before ++ word ∷ [])
+  grown s is none =
+      let not_yet = unmade s (rw is at none) in
+      rw (
+        list_any-append (λ other. is_made (choice_of s) (setting_of other)) before (word ∷ []),
+        not_yet,
+        is,
+        itself (choice_of s),
+      ) (omega arith)
+    where
+      itself : (choice : Choice) → is_same choice choice ≡ true
+      itself choice.Engine = refl
+      itself choice.Show = refl
+      itself choice.Rule = refl
+
+  one_more : may_follow allows before word ≡ true → all_made before + 1 ≤ all_made (before ++ word ∷ [])
+  one_more follows =
+      let parts = and_parts (is_allowed allows (setting_of word)) _ follows in
+      let none = is_not (list_any (λ other. are_clashing (setting_of other) (setting_of word)) before) parts.1 in
+      let engine = kept choice.Engine in
+      let show = kept choice.Show in
+      let rule = kept choice.Rule in
+      elim (setting_of word) as (λ s. setting_of word ≡ s → all_made before + 1 ≤ all_made (before ++ word ∷ [])) [
+        | None ↦ λ is. let no = rw is at parts.0 in cc (no)
+        | Some (setting.Engine pick) ↦ λ is. omega (arith, grown (setting.Engine pick) is none, show, rule)
+        | Some (setting.Show what) ↦ λ is. omega (arith, grown (setting.Show what) is none, engine, rule)
+        | Some (setting.Rule one) ↦ λ is. omega (arith, grown (setting.Rule one) is none, engine, show)
+      ] refl
+    where
+      is_not : (b : Bool) → not b ≡ true → b ≡ false
+      is_not true is = cc
+      is_not false is = refl
+
+pub few_settled : (allows : List Choice) (before words : List (List ℕ)) (count : ℕ)
+    → AreSettled allows before words count → all_made before + count ≤ 3
+few_settled allows before words zero are = omega (arith, few_made before)
+few_settled allows before [] (suc count) are = absurd (omega (arith, are.within))
+few_settled allows before (word ∷ words) (suc count) are =
+    let first : may_follow allows before word ≡ true = rw append-nil at (are.first 0 (omega arith)) in
+    let rest = few_settled allows (before ++ word ∷ []) words count (later allows are) in
+    omega (arith, rest, one_more allows before word first)
+
+-- what words choose, by one more of them
+pub chosen_more : (words : List (List ℕ)) (place : ℕ) (word : List ℕ) → place < length words
+    → get_or words place word ≡ word
+    → settings_of (take (place + 1) words) ≡ settings_with (settings_of (take place words)) (setting_of word)
+chosen_more words place word inside at =
+    ap settings_of (take_more words place word inside ∙ ap (λ (w : List ℕ). take place words ++ w ∷ []) at)
+    ∙ fold-append (λ set word. settings_with set (setting_of word)) default_settings (take place words) (word ∷ [])

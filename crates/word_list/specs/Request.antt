@@ -1,5 +1,5 @@
 -- What a list of words may ask for.
-use Rattle.std.specs.Prelude.{ℕ, List}
+use Rattle.std.specs.Prelude.{ℕ, ◌≤◌, List, ⊤}
 use Rattle.word_list.specs.declared.request.Settings.{Settings}
 use Rattle.word_list.specs.declared.request.Request.{Request}
 use Rattle.word_list.specs.declared.request.Request.TheVariants as request
@@ -11,6 +11,8 @@ pub data Asked : Type 0 where
   Query : (map : List ℕ) (sx sy gx gy : ℕ) → Asked
   Solve : (map script : List ℕ) → Asked
   Scen : (map scen : List ℕ) → Asked
+  Make : (seed w h percent : ℕ) → Asked
+  Drill : (seed : ℕ) → Asked
 
 -- what a request asks for
 abbrev pub asked : Request → Asked
@@ -19,6 +21,18 @@ asked request.Version = Version
 asked (request.Query map sx sy gx gy) = Query map.now sx sy gx gy
 asked (request.Solve map script) = Solve map.now script.now
 asked (request.Scen map scen) = Scen map.now scen.now
+asked (request.Make seed w h percent) = Make seed w h percent
+asked (request.Drill seed) = Drill seed
+
+-- the sides of a map that is to be made are 1 to 4096
+abbrev pub HasSides : Request → Type 0
+HasSides request.Help = ⊤
+HasSides request.Version = ⊤
+HasSides (request.Query map sx sy gx gy) = ⊤
+HasSides (request.Solve map script) = ⊤
+HasSides (request.Scen map scen) = ⊤
+HasSides (request.Make seed w h percent) = (1 ≤ w) × (w ≤ 4096) × (1 ≤ h) × (h ≤ 4096)
+HasSides (request.Drill seed) = ⊤
 
 -- a request and how it is to be done
 pub record Call : Type 0 where

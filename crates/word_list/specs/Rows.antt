@@ -1,14 +1,15 @@
 -- The table of commands.
-use Rattle.std.specs.Prelude.{ℕ, Bool, true, List, [], ◌∷◌, is_some, if◌then◌else◌, bytes_eq, codes, slice_get, Option, Some, None, unwrap_or}
+use Rattle.std.specs.Prelude.{ℕ, Bool, true, nat_le, ◌&&◌, List, [], ◌∷◌, is_some, if◌then◌else◌, bytes_eq, codes, slice_get, Option, Some, None, unwrap_or}
+use Rattle.text_line.specs.LongNumbers.{long_number_of}
 use Rattle.text_line.specs.Numbers.{number_of}
 use Rattle.word_list.specs.declared.rows.Command.{Command}
 use Rattle.word_list.specs.declared.rows.Command.TheVariants as command
 use Rattle.word_list.specs.declared.rows.Kind.{Kind}
-use Rattle.word_list.specs.declared.rows.Kind.TheVariants.{File, Number}
+use Rattle.word_list.specs.declared.rows.Kind.TheVariants.{File, Number, Seed, Side, Percent}
 use Rattle.word_list.specs.declared.rows.Row as declared
 use Rattle.word_list.specs.declared.settings.Choice.{Choice}
 use Rattle.word_list.specs.declared.settings.Choice.TheVariants.{Engine, Show, Rule}
-use Rattle.word_list.specs.Request.{Asked, Help, Version, Query, Solve, Scen}
+use Rattle.word_list.specs.Request.{Asked, Help, Version, Query, Solve, Scen, Make, Drill}
 
 -- a command, the kinds of the words that it takes, and the settings that it allows after them
 pub record Row : Type 0 where
@@ -33,12 +34,32 @@ row_of name =
     Some (record { command = command.Solve; takes = File ∷ File ∷ []; allows = Engine ∷ Show ∷ Rule ∷ [] })
     else if bytes_eq name (codes "scen") then
     Some (record { command = command.Scen; takes = File ∷ File ∷ []; allows = Engine ∷ Rule ∷ [] })
+    else if bytes_eq name (codes "make") then
+    Some (record { command = command.Make; takes = Seed ∷ Side ∷ Side ∷ Percent ∷ []; allows = [] })
+    else if bytes_eq name (codes "drill") then
+    Some (record { command = command.Drill; takes = Seed ∷ []; allows = Engine ∷ Rule ∷ [] })
     else None
+
+-- the number, where it lies between these
+abbrev pub number_within : ℕ → ℕ → Option ℕ → Option ℕ
+number_within least most None = None
+number_within least most (Some n) = if nat_le least n && nat_le n most then Some n else None
+
+-- the side of a map that a word spells, if it is one
+abbrev pub side_of : List ℕ → Option ℕ
+side_of word = number_within 1 4096 (number_of word)
+
+-- the percentage that a word spells, if it is one
+abbrev pub percent_of : List ℕ → Option ℕ
+percent_of word = number_within 0 100 (number_of word)
 
 -- whether a word is of a kind: any word may name a file
 abbrev pub is_of : Kind → List ℕ → Bool
 is_of File word = true
 is_of Number word = is_some (number_of word)
+is_of Seed word = is_some (long_number_of word)
+is_of Side word = is_some (side_of word)
+is_of Percent word = is_some (percent_of word)
 
 -- the word at a place, from 0
 abbrev pub word_at : List (List ℕ) → ℕ → List ℕ
@@ -48,6 +69,16 @@ word_at words place = unwrap_or (slice_get words place) []
 abbrev pub number_at : List (List ℕ) → ℕ → ℕ
 number_at words place = unwrap_or (number_of (word_at words place)) 0
 
+-- the seed, the side and the percentage at a place
+abbrev pub seed_at : List (List ℕ) → ℕ → ℕ
+seed_at words place = unwrap_or (long_number_of (word_at words place)) 0
+
+abbrev pub side_at : List (List ℕ) → ℕ → ℕ
+side_at words place = unwrap_or (side_of (word_at words place)) 1
+
+abbrev pub percent_at : List (List ℕ) → ℕ → ℕ
+percent_at words place = unwrap_or (percent_of (word_at words place)) 0
+
 -- what a command asks for by the words after its name, which are of its kinds
 abbrev pub asked_by : Command → List (List ℕ) → Asked
 asked_by command.Help words = Help
@@ -56,6 +87,8 @@ asked_by command.Query words =
     Query (word_at words 0) (number_at words 1) (number_at words 2) (number_at words 3) (number_at words 4)
 asked_by command.Solve words = Solve (word_at words 0) (word_at words 1)
 asked_by command.Scen words = Scen (word_at words 0) (word_at words 1)
+asked_by command.Make words = Make (seed_at words 0) (side_at words 1) (side_at words 2) (percent_at words 3)
+asked_by command.Drill words = Drill (seed_at words 0)
 
 -- a row of the code
 abbrev pub row_data : declared.Row → Row

@@ -1,6 +1,6 @@
 -- The settings that may follow a command's other words.
-use Rattle.std.specs.Prelude.{ℕ, Bool, true, false, List, [], ◌∷◌, not, ◌&&◌, if◌then◌else◌, bytes_eq, codes, Option, Some, None}
-use Rattle.std.specs.List.{list_all, list_any, fold}
+use Rattle.std.specs.Prelude.{ℕ, Bool, true, false, List, [], ◌∷◌, ◌++◌, not, ◌&&◌, if◌then◌else◌, bytes_eq, codes, Option, Some, None}
+use Rattle.std.specs.List.{list_any, fold}
 use Rattle.word_list.specs.declared.request.Pick.TheVariants.{Plain}
 use Rattle.word_list.specs.declared.request.Show.TheVariants.{Points, Cells, Trace}
 use Rattle.word_list.specs.declared.request.Settings.{Settings}
@@ -47,16 +47,20 @@ abbrev pub is_allowed : List Choice → Option Setting → Bool
 is_allowed allows (Some setting) = list_any (is_same (choice_of setting)) allows
 is_allowed allows None = false
 
--- whether no two of the elements, the earlier one first, meet the test
-abbrev pub no_two : {A : Type 0} → (A → A → Bool) → List A → Bool
-no_two test [] = true
-no_two test (x ∷ xs) = not (list_any (test x) xs) && no_two test xs
+-- whether a word is a setting that is allowed and clashes with none of the words before it
+abbrev pub may_follow : List Choice → List (List ℕ) → List ℕ → Bool
+may_follow allows before word = is_allowed allows (setting_of word)
+    && not (list_any (λ other. are_clashing (setting_of other) (setting_of word)) before)
 
--- whether each word is a setting that is allowed, and no two of them clash
+-- whether each of the words may follow those before it
+abbrev pub all_follow : List Choice → List (List ℕ) → List (List ℕ) → Bool
+all_follow allows before [] = true
+all_follow allows before (word ∷ words) =
+    may_follow allows before word && all_follow allows (before ++ word ∷ []) words
+
+-- whether the words are settings that are allowed, no two of which clash
 abbrev pub are_settings : List Choice → List (List ℕ) → Bool
-are_settings allows words =
-    list_all (λ word. is_allowed allows (setting_of word)) words
-    && no_two (λ one other. are_clashing (setting_of one) (setting_of other)) words
+are_settings allows words = all_follow allows [] words
 
 -- the settings with one more word
 abbrev pub settings_with : Settings → Option Setting → Settings

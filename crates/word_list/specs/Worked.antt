@@ -1,10 +1,11 @@
 -- Worked rows of the accepted lists, by computing.
 use Rattle.std.specs.Prelude.{◌≡◌, ℕ, Bool, true, false, List, [], ◌∷◌, codes, refl, Option, Some, None}
+use Rattle.text_line.specs.LongNumbers.{long_number_of}
 use Rattle.text_line.specs.Numbers.{number_of}
 use Rattle.word_list.specs.declared.request.Pick.TheVariants.{Plain}
 use Rattle.word_list.specs.declared.request.Show.{Show}
 use Rattle.word_list.specs.declared.request.Show.TheVariants.{Points, Cells, Trace}
-use Rattle.word_list.specs.Request.{Call, Help, Query, Solve, Scen}
+use Rattle.word_list.specs.Request.{Call, Help, Query, Solve, Scen, Make}
 use Rattle.word_list.specs.Settings.{default_settings}
 use Rattle.word_list.specs.Calls.{call_of}
 
@@ -37,15 +38,6 @@ rule_before_show = refl
 pub engine_twice : query_with (codes "engine=plain" ∷ codes "engine=plain" ∷ []) ≡ None
 unfolding number_of
 engine_twice = refl
-
-pub shown_twice : query_with (codes "show=points" ∷ codes "rule=one" ∷ codes "show=cells" ∷ []) ≡ None
-unfolding number_of
-shown_twice = refl
-
--- a setting is spelled exactly
-pub misspelled : query_with (codes "show=Points" ∷ []) ≡ None
-unfolding number_of
-misspelled = refl
 
 -- a word in a file's place is its name, whatever it begins with; leading zeros are digits
 pub any_name : call_of (codes "query" ∷ codes "--help" ∷ codes "000000001" ∷ codes "1" ∷ codes "1" ∷ codes "1"
@@ -80,9 +72,6 @@ shown_rows = refl
 pub no_scenario : call_of (codes "scen" ∷ codes "m" ∷ []) ≡ None
 no_scenario = refl
 
-pub no_words : call_of [] ≡ None
-no_words = refl
-
 pub help_alone : call_of (codes "--help" ∷ []) ≡ Some (record {
   request = Help;
   settings = default_settings;
@@ -91,3 +80,21 @@ help_alone = refl
 
 pub help_with_more : call_of (codes "--help" ∷ codes "rule=none" ∷ []) ≡ None
 help_with_more = refl
+
+-- a seed, two sides and a percentage
+pub map_of_a_seed : call_of (codes "make" ∷ codes "18446744073709551615" ∷ codes "4096" ∷ codes "1"
+    ∷ codes "100" ∷ []) ≡ Some (record {
+      request = Make 18446744073709551615 4096 1 100;
+      settings = default_settings;
+    })
+unfolding number_of long_number_of
+map_of_a_seed = refl
+
+-- no side is 0, and no percentage above 100
+pub side_of_nothing : call_of (codes "make" ∷ codes "7" ∷ codes "0" ∷ codes "2" ∷ codes "0" ∷ []) ≡ None
+unfolding number_of long_number_of
+side_of_nothing = refl
+
+pub more_than_all : call_of (codes "make" ∷ codes "7" ∷ codes "2" ∷ codes "2" ∷ codes "101" ∷ []) ≡ None
+unfolding number_of long_number_of
+more_than_all = refl

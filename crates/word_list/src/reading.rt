@@ -1,15 +1,14 @@
 //! Reading a call from the words.
 
-ghost use Rattle.std.specs.Prelude.{◌≡◌, ℕ, ◌≤◌, map, string_bytes, length, Some, IfOk, IfErr, IsOkAnd, IsErrAnd, OnOk, MatchResult};
-ghost use Rattle.word_list.specs.Request.{Call, called};
+ghost use Rattle.std.specs.Prelude.{◌≡◌, ℕ, ◌≤◌, ◌∷◌, map, string_bytes, length, Some, IfOk, IfErr, IsOkAnd, IsErrAnd, OnOk, MatchResult};
+ghost use Rattle.word_list.specs.Request.{Call, HasSides, called};
 ghost use Rattle.word_list.specs.Calls.{call_of, is_call};
 ghost use Rattle.word_list.specs.Rule.{IsBadWord, StopsAt};
-ghost use Rattle.word_list.specs.Rows.{row_data};
-ghost use Rattle.word_list.specs.Steps.{AreOf, ReadsAfter, RefusesAfter};
+ghost use Rattle.word_list.specs.Steps.{AreOf};
 
 use crate::request::{BadWord, Request, Settings};
-use crate::rows::{Kind, Row, request, row_named};
-use crate::settings::read_settings;
+use crate::rows::{Kind, request, row_named};
+use crate::settings::{chosen, settled};
 
 /// The call that the words spell, or the number of the word that no call has there.
 pub fn read_words(words: &[String]) -> Result<(Request<'_>, Settings), BadWord>
@@ -19,6 +18,8 @@ pub fn read_words(words: &[String]) -> Result<(Request<'_>, Settings), BadWord>
     // What is spelled so is read.
     ensures only { (call : Call) → call_of (map string_bytes words.now) ≡ Some call
         → IsOkAnd result (λ read. called read.0 read.1 ≡ call) }
+    // The sides of a map that is to be made are sides of a map.
+    ensures sides { IfOk result (λ read. HasSides read.0) }
     // A refusal names the bad word.
     ensures refused { IfErr result (λ bad. IsBadWord is_call (map string_bytes words.now) bad.0) }
     // A list with a bad word is refused by its number.
@@ -42,36 +43,38 @@ pub fn first_bad(words: &[String]) -> u32
 /// The call that the words spell, or the number of the bad word.
 fn read(words: &[String]) -> Result<(Request<'_>, Settings), BadWord>
     ensures few { OnOk result (length words.now ≤ 12) }
+    ensures sides { IfOk result (λ read. HasSides read.0) }
     ensures told { MatchResult result
         (λ read. call_of (map string_bytes words.now) ≡ Some (called read.0 read.1))
         (λ bad. IsBadWord is_call (map string_bytes words.now) bad.0) }
 {
-    let [name, words @ ..] = words else {
-        return Err(BadWord(1));
-    };
-    let Some(row) = row_named(name.as_str()) else {
-        return Err(BadWord(1));
-    };
-    match read_after(row, words) {
-        Ok(call) => Ok(call),
-        Err(count) => Err(BadWord(count as u32 + 2)),
+    match words {
+        [name, words @ ..] => read_after(name.as_str(), words),
+        _ => Err(BadWord(1)),
     }
 }
 
-/// The call of a command by the words after its name, or how many of these stand before the bad one.
-fn read_after(row: Row, words: &[String]) -> Result<(Request<'_>, Settings), usize>
-    ensures { MatchResult result
-        (λ read. ReadsAfter (row_data row) (map string_bytes words.now) (called read.0 read.1))
-        (λ count. RefusesAfter (row_data row) (map string_bytes words.now) count) }
+/// The same of a command's name and the words after it.
+fn read_after<'a>(name: &str, words: &'a [String]) -> Result<(Request<'a>, Settings), BadWord>
+    ensures few { OnOk result (length words.now ≤ 11) }
+    ensures sides { IfOk result (λ read. HasSides read.0) }
+    ensures told { MatchResult result
+        (λ read. call_of (name.now ∷ map string_bytes words.now) ≡ Some (called read.0 read.1))
+        (λ bad. IsBadWord is_call (name.now ∷ map string_bytes words.now) bad.0) }
 {
-    let count = fitting(row.takes, words);
-    if count < row.takes.len() {
-        return Err(count);
+    let Some(row) = row_named(name) else {
+        return Err(BadWord(1));
+    };
+    let taken = fitting(row.takes, words);
+    if taken < row.takes.len() {
+        return Err(BadWord(taken as u32 + 2));
     }
-    match read_settings(row.allows, &words[count..]) {
-        Ok(settings) => Ok((request(row.command, words), settings)),
-        Err(place) => Err(count + place),
+    let rest = &words[taken..];
+    let more = settled(row.allows, rest);
+    if more < rest.len() {
+        return Err(BadWord((taken + more) as u32 + 2));
     }
+    Ok((request(row.command, words), chosen(rest)))
 }
 
 /// How many of the words are of these kinds, one after the other.

@@ -27,6 +27,17 @@ pub enum Request<'a> {
         map: &'a str,
         scen: &'a str,
     },
+    /// The map of a seed with these sides, 1 to 4096, of whose cells so many percent are blocked.
+    Make {
+        seed: u64,
+        w: u16,
+        h: u16,
+        percent: u8,
+    },
+    /// What the commands of a seed come to on the map of the seed.
+    Drill {
+        seed: u64,
+    },
 }
 
 /// How a request is to be done. A setting that the words don't have stands at its default.

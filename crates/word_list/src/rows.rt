@@ -2,12 +2,13 @@
 
 ghost use Rattle.std.specs.Prelude.{◌≡◌, ◌≤◌, length, map, string_bytes, Some, IfSome, slice_get};
 ghost use Rattle.std.specs.Option.{option_map};
-ghost use Rattle.word_list.specs.Request.{asked};
+ghost use Rattle.word_list.specs.Request.{HasSides, asked};
 ghost use Rattle.word_list.specs.Steps.{is_one_of};
-ghost use Rattle.word_list.specs.Rows.{row_of, row_data, is_of, word_at, number_at as spelled_at, asked_by};
+ghost use Rattle.word_list.specs.Rows.{row_of, row_data, is_of, word_at, number_at as spelled_at, seed_at as spelled_seed_at, side_of as spelled_side, side_at as spelled_side_at, percent_of as spelled_percent, percent_at as spelled_percent_at, asked_by};
 
 use crate::request::Request;
 use crate::settings::Choice;
+use text_line::long_number;
 
 /// A command.
 #[derive(Clone, Copy, Debug)]
@@ -17,6 +18,28 @@ pub enum Command {
     Query,
     Solve,
     Scen,
+    Make,
+    Drill,
+}
+
+/// The side of a map that the word spells, if it is one: a number from 1 to 4096.
+fn side_of(word: &str) -> Option<u16>
+    ensures { result ≡ spelled_side word.now }
+{
+    match text_line::number(word.as_bytes()) {
+        Some(n) if 1 <= n && n <= 4096 => Some(n as u16),
+        _ => None,
+    }
+}
+
+/// The percentage that the word spells, if it is one: a number from 0 to 100.
+fn percent_of(word: &str) -> Option<u8>
+    ensures { result ≡ spelled_percent word.now }
+{
+    match text_line::number(word.as_bytes()) {
+        Some(n) if n <= 100 => Some(n as u8),
+        _ => None,
+    }
 }
 
 /// What a word that a command takes has to be.
@@ -26,6 +49,12 @@ pub enum Kind {
     File,
     /// A number of 1 to 9 decimal digits.
     Number,
+    /// A number of 1 to 20 decimal digits below 2^64.
+    Seed,
+    /// A number from 1 to 4096.
+    Side,
+    /// A number from 0 to 100.
+    Percent,
 }
 
 impl Kind {
@@ -36,6 +65,9 @@ impl Kind {
         match self {
             Kind::File => true,
             Kind::Number => text_line::number(word.as_bytes()).is_some(),
+            Kind::Seed => long_number(word.as_bytes()).is_some(),
+            Kind::Side => side_of(word).is_some(),
+            Kind::Percent => percent_of(word).is_some(),
         }
     }
 
@@ -65,7 +97,7 @@ pub fn row_named(name: &str) -> Option<Row>
     ensures few { IfSome result (λ row. length row.takes.now ≤ 8) }
 {
     use Choice::{Engine, Rule, Show};
-    use Kind::{File, Number};
+    use Kind::{File, Number, Percent, Seed, Side};
     let (command, takes, allows): (Command, &[Kind], &[Choice]) = match name {
         "--help" => (Command::Help, &[], &[]),
         "--version" => (Command::Version, &[], &[]),
@@ -76,6 +108,8 @@ pub fn row_named(name: &str) -> Option<Row>
         ),
         "solve" => (Command::Solve, &[File, File], &[Engine, Show, Rule]),
         "scen" => (Command::Scen, &[File, File], &[Engine, Rule]),
+        "make" => (Command::Make, &[Seed, Side, Side, Percent], &[]),
+        "drill" => (Command::Drill, &[Seed], &[Engine, Rule]),
         _ => return None,
     };
     Some(Row {
@@ -87,7 +121,8 @@ pub fn row_named(name: &str) -> Option<Row>
 
 /// What the command asks for by the words after its name, which are of its kinds.
 pub fn request<'a>(command: Command, words: &'a [String]) -> Request<'a>
-    ensures { asked result ≡ asked_by command (map string_bytes words.now) }
+    ensures asked { asked result ≡ asked_by command (map string_bytes words.now) }
+    ensures sides { HasSides result }
 {
     match command {
         Command::Help => Request::Help,
@@ -107,6 +142,15 @@ pub fn request<'a>(command: Command, words: &'a [String]) -> Request<'a>
             map: name_at(words, 0),
             scen: name_at(words, 1),
         },
+        Command::Make => Request::Make {
+            seed: seed_at(words, 0),
+            w: side_at(words, 1),
+            h: side_at(words, 2),
+            percent: percent_at(words, 3),
+        },
+        Command::Drill => Request::Drill {
+            seed: seed_at(words, 0),
+        },
     }
 }
 
@@ -125,4 +169,27 @@ fn number_at(words: &[String], place: usize) -> u32
     ensures { result ≡ spelled_at (map string_bytes words.now) place }
 {
     text_line::number(name_at(words, place).as_bytes()).unwrap_or(0)
+}
+
+/// The seed at the place, from 0; 0 where there is none.
+fn seed_at(words: &[String], place: usize) -> u64
+    ensures { result ≡ spelled_seed_at (map string_bytes words.now) place }
+{
+    long_number(name_at(words, place).as_bytes()).unwrap_or(0)
+}
+
+/// The side of a map at the place, from 0; 1 where there is none.
+fn side_at(words: &[String], place: usize) -> u16
+    ensures spelled { result ≡ spelled_side_at (map string_bytes words.now) place }
+    ensures some { 1 ≤ result }
+    ensures most { result ≤ 4096 }
+{
+    side_of(name_at(words, place)).unwrap_or(1)
+}
+
+/// The percentage at the place, from 0; 0 where there is none.
+fn percent_at(words: &[String], place: usize) -> u8
+    ensures { result ≡ spelled_percent_at (map string_bytes words.now) place }
+{
+    percent_of(name_at(words, place)).unwrap_or(0)
 }

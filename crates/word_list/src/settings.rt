@@ -1,9 +1,9 @@
 //! The settings that may follow a command's other words.
 
-ghost use Rattle.std.specs.Prelude.{◌≡◌, map, string_bytes, Some, MatchResult};
+ghost use Rattle.std.specs.Prelude.{◌≡◌, ◌≤◌, [], take, slice_get, map, string_bytes, Some};
 ghost use Rattle.std.specs.List.{list_any};
-ghost use Rattle.word_list.specs.Settings.{setting_of, choice_of, is_clash, are_clashing, settings_with};
-ghost use Rattle.word_list.specs.Steps.{allowed_after, AreSettings, IsWrongAt};
+ghost use Rattle.word_list.specs.Settings.{setting_of, choice_of, is_clash, are_clashing, may_follow, settings_with, settings_of};
+ghost use Rattle.word_list.specs.Steps.{AreSettled, one_follows};
 
 use crate::request::{Pick, Settings, Show};
 
@@ -60,45 +60,70 @@ impl Setting {
     {
         self.choice() == other.choice()
     }
-
-    /// The settings with this one.
-    fn over(self, settings: Settings) -> Settings
-        ensures { result ≡ settings_with settings (Some self) }
-    {
-        match self {
-            Setting::Engine(pick) => Settings { pick, ..settings },
-            Setting::Show(show) => Settings { show, ..settings },
-            Setting::Rule(one) => Settings { one, ..settings },
-        }
-    }
 }
 
-/// What the words choose, all of which are to be settings that are allowed and of which no two may
-/// clash; or how many words stand before the first that breaks this.
-pub fn read_settings(allows: &[Choice], words: &[String]) -> Result<Settings, usize>
-    ensures { MatchResult result
-        (λ settings. AreSettings allows.now (map string_bytes words.now) settings)
-        (λ place. IsWrongAt allows.now (map string_bytes words.now) place) }
+/// What the words choose.
+pub fn chosen(words: &[String]) -> Settings
+    ensures { result ≡ settings_of (map string_bytes words.now) }
 {
     let mut settings = Settings::default();
-    for (place, word) in words.iter().enumerate() {
-        match setting_after(allows, &words[..place], word.as_str()) {
-            Some(setting) => settings = setting.over(settings),
-            None => return Err(place),
-        }
+    for word in words {
+        settings = with_word(settings, word.as_str());
     }
-    Ok(settings)
+    settings
 }
 
-/// The setting that the word is, where it is allowed and clashes with none of the words before it.
-fn setting_after(allows: &[Choice], before: &[String], word: &str) -> Option<Setting>
-    ensures { result ≡ allowed_after allows.now (map string_bytes before.now) (setting_of word.now) }
+/// The settings with one more word.
+fn with_word(settings: Settings, word: &str) -> Settings
+    ensures { result ≡ settings_with settings (setting_of word.now) }
 {
-    let setting = Setting::spelled(word)?;
-    if allows.contains(&setting.choice()) && !clashes_with(setting, before) {
-        Some(setting)
-    } else {
-        None
+    match Setting::spelled(word) {
+        Some(Setting::Engine(pick)) => Settings { pick, ..settings },
+        Some(Setting::Show(show)) => Settings { show, ..settings },
+        Some(Setting::Rule(one)) => Settings { one, ..settings },
+        None => settings,
+    }
+}
+
+/// How many of the words, from the first on, are settings that are allowed and clash with none of
+/// the words before them.
+pub fn settled(allows: &[Choice], words: &[String]) -> usize
+    ensures count { AreSettled allows.now [] (map string_bytes words.now) result }
+    ensures few { result ≤ 3 }
+{
+    count_settled(allows, words)
+}
+
+/// The same, without how many there may be at most.
+fn count_settled(allows: &[Choice], words: &[String]) -> usize
+    ensures { AreSettled allows.now [] (map string_bytes words.now) result }
+{
+    for place in 0..words.len() {
+        if !follows_at(allows, words, place) {
+            return place;
+        }
+    }
+    words.len()
+}
+
+/// Whether there is a word at the place, from 0, and it may follow the words before it.
+fn follows_at(allows: &[Choice], words: &[String], place: usize) -> bool
+    ensures { result ≡ one_follows allows.now (take place (map string_bytes words.now))
+        (slice_get (map string_bytes words.now) place) }
+{
+    match words.get(place) {
+        Some(word) => follows(allows, &words[..place], word.as_str()),
+        None => false,
+    }
+}
+
+/// Whether the word is a setting that is allowed and clashes with none of the words before it.
+fn follows(allows: &[Choice], before: &[String], word: &str) -> bool
+    ensures { result ≡ may_follow allows.now (map string_bytes before.now) word.now }
+{
+    match Setting::spelled(word) {
+        Some(setting) => allows.contains(&setting.choice()) && !clashes_with(setting, before),
+        None => false,
     }
 }
 

@@ -1,4 +1,4 @@
-use Rattle.std.proofs.Common.{◌≡◌, ℕ, suc, ◌-◌, arith}
+use Rattle.std.proofs.Common.{◌≡◌, suc, ◌-◌, arith}
 use Rattle.best_first.proofs.Records.{entry_of, record_within}
 use Rattle.best_first.proofs.index.entry_of_record.Goals as goal
 

@@ -1,5 +1,5 @@
-use Rattle.std.proofs.Common.{◌≡◌, ◌-◌, ◌∙◌, sym, subst, ap, refl, List, ℕ, suc, arith}
-use Rattle.std.specs.Prelude.{slice_get, slice_set, slice_index_or, Some}
+use Rattle.std.proofs.Common.{◌≡◌, ◌-◌, ◌∙◌, sym, subst, ap, ℕ, suc, arith}
+use Rattle.std.specs.Prelude.{slice_get, slice_set}
 use Rattle.best_first.specs.Index.{HasRecord}
 use Rattle.best_first.proofs.Records.{put_opened, head-is}
 use Rattle.best_first.proofs.index.put_in_record.Goals as goal

@@ -2,7 +2,6 @@ use Rattle.std.proofs.Common.{◌≡◌, ◌∙◌, ◌+◌, ◌<◌, sym, ap, s
 use Rattle.std.specs.Prelude.{slice_set}
 use Rattle.grid_moves.specs.declared.Cell.{Cell}
 use Rattle.grid_moves.specs.Grid.{cell_number}
-use Rattle.best_first.specs.declared.state.Layout.{Layout}
 use Rattle.best_first.specs.Index.{AreCovered}
 use Rattle.best_first.specs.Node.{state_of}
 use Rattle.best_first.specs.State.{state_told}

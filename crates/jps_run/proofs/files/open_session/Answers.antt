@@ -1,7 +1,7 @@
 use Rattle.map_text.specs.Faults.{plain}
-use Rattle.jps_run.specs.Files.{IsRead}
+use Rattle.jps_run.specs.Reading.{IsRead}
 use Rattle.edit_replay.specs.Session.{SessionData}
-use Rattle.jps_run.specs.Spelled.{SpellsSession}
+use Rattle.jps_run.specs.Reading.{SpellsSession}
 use Rattle.jps_run.specs.declared.kind.Kind.TheVariants as kinds
 use Rattle.jps_run.proofs.Readings.{session-made}
 use Rattle.jps_run.proofs.Stopping.{passed, follow-same}

@@ -1,6 +1,6 @@
 use Rattle.std.proofs.Common.{subst, List, ℕ}
 use Rattle.io_edge.specs.Whole.{IsWhole}
-use Rattle.jps_run.specs.Files.{ReadsText}
+use Rattle.jps_run.specs.Reading.{ReadsText}
 use Rattle.jps_run.specs.Kinds.{limit_of}
 use Rattle.jps_run.specs.declared.kind.Kind.{Kind}
 use Rattle.jps_run.proofs.Readings.{file-read}

@@ -1,4 +1,4 @@
-use Rattle.std.proofs.Common.{◌≡◌, refl, sym, subst, List, [], ◌∷◌, ℕ, arith}
+use Rattle.std.proofs.Common.{◌≡◌, refl, sym, subst, [], ◌∷◌, arith}
 use Rattle.word_list.specs.Request.{Query}
 use Rattle.jps_run.specs.Answers.{AreAnswers}
 use Rattle.jps_run.specs.Outcome.{IsAnswered, call_with, replied}

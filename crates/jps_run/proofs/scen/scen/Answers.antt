@@ -1,13 +1,13 @@
-use Rattle.std.proofs.Common.{◌≡◌, ◌≤◌, refl, sym, ◌∙◌, subst, List, [], ◌∷◌, ℕ, arith}
+use Rattle.std.proofs.Common.{◌≤◌, refl, sym, subst, List, [], ◌∷◌, ℕ}
 use Rattle.io_edge.specs.Told.{Held}
 use Rattle.scen_text.specs.declared.entry.Entry.{Entry}
 use Rattle.word_list.specs.Request.{Scen}
 use Rattle.jps_run.specs.Files.{IsAccepted}
 use Rattle.jps_run.specs.Outcome.{IsAnswered, call_with, judged}
-use Rattle.jps_run.specs.Rows.{AreRows, scen_lines, scen_status}
+use Rattle.jps_run.specs.Rows.{AreRows, scen_status}
 use Rattle.jps_run.specs.Seen.{seen}
 use Rattle.edit_replay.specs.Session.{SessionData}
-use Rattle.jps_run.specs.Spelled.{AreKept}
+use Rattle.jps_run.specs.Reading.{AreKept}
 use Rattle.jps_run.specs.declared.kind.Kind.TheVariants as kind
 use Rattle.jps_run.proofs.Works.{first-file, second-file, none-fell, reading-stops, sent-worked}
 use Rattle.jps_run.proofs.Tallies.{small_status}

@@ -1,4 +1,3 @@
-use Rattle.std.proofs.Common.{◌∙◌, sym}
 use Rattle.jps_run.specs.Rows.{replied}
 use Rattle.jps_run.proofs.scenario.row_of.Goals as goal
 

@@ -1,4 +1,4 @@
-use Rattle.std.proofs.Common.{◌≡◌, refl, sym, ◌∙◌, subst, List, [], ◌∷◌, ℕ, arith}
+use Rattle.std.proofs.Common.{◌≡◌, refl, sym, subst, List, [], ◌∷◌, ℕ, arith}
 use Rattle.io_edge.specs.Told.{Held}
 use Rattle.script_text.specs.declared.command.Command.{Command}
 use Rattle.word_list.specs.Request.{Solve}

@@ -1,7 +1,7 @@
 use Rattle.std.proofs.Common.{sym, subst}
 use Rattle.word_list.specs.Request.{Help, Version, called}
 use Rattle.word_list.specs.declared.request.Request.{Request}
-use Rattle.jps_run.specs.Ending.{HasWorked}
+use Rattle.jps_run.specs.Worked.{HasWorked}
 use Rattle.jps_run.specs.Outcome.{call_with, help, version}
 use Rattle.jps_run.specs.Seen.{seen}
 use Rattle.jps_run.specs.Texts.{help_text, version_text}

@@ -60,7 +60,7 @@ returns-then-not-is_empty c =
     (c.in_ok-height.height, c.in_ok-height.width)) lines c.in_ok-height.ensures in
     let after : height_of (lines_of c.args.text.now) ≤ row = omega (arith, header.height) in
     let filled = is_nothing_is c.in-Some.line.bytes.now ∙ sym c.if-not-is_empty.ensures in
-    map_of_broken c.args.text.now (After c.in-Some.line.number)
+    λ other. map_of_broken c.args.text.now (After c.in-Some.line.number)
     (other_wrong (lines_of c.args.text.now) row after c.loop-line.line-iterator
     c.next-in-loop-line.new.self c.in-Some.line c.loop-line.invariant c.in-Some.ensures.steps filled)
 

@@ -4,7 +4,7 @@ use Rattle.root2_cost.specs.declared.Cost.{Cost}
 use Rattle.root2_cost.specs.Sums.{add_costs}
 use Rattle.grid_moves.specs.declared.Cell.{Cell}
 use Rattle.path_points.specs.Checked.{most_steps, starts_free}
-use Rattle.path_points.proofs.Checks.{bad_at, steps_of, checked_from, good_few, checked_off, checked_on, checked_end, within_none, within_some, verdict_at_start, verdict_of}
+use Rattle.path_points.proofs.Checks.{bad_at, steps_of, checked_from, good_few, checked_off, checked_on, checked_end, good_none, good_some, verdict_at_start, verdict_of}
 use Rattle.path_points.proofs.checking.check_walk.Goals as goal
 
 pub returns-then-not-free : goal.returns-then-not-free
@@ -26,7 +26,7 @@ returns-in_default-run_cost g c =
     let next : Cell = slice_index_or others i origin in
     let split = sym c.as_slice.ensures ∙ c.in-Some.ensures.cases.0 in
     let bad =
-    within_none grid (steps_of c.loop-i.cost) last next _ c.loop-i.invariant.few refl
+    good_none grid (steps_of c.loop-i.cost) last next
     (sym c.run_cost.ensures.cost ∙ c.in_default-run_cost.is) in
     let answer =
     c.loop-i.invariant.decides
@@ -46,7 +46,7 @@ loop-i-preserved g c =
     let origin : Cell = record { x = 0; y = 0 } in
     let next : Cell = slice_index_or others i origin in
     let good =
-    within_some grid (steps_of cost) last next _ c.in-Some-run_cost.run' c.loop-i.invariant.few refl
+    good_some grid (steps_of cost) last next c.in-Some-run_cost.run'
     (sym c.run_cost.ensures.cost ∙ c.in-Some-run_cost.is) in
     let paid = ap (λ (run : Cost). add_costs cost run) (sym good.1) ∙ sym c.add-cost.ensures in
     record {

@@ -1,4 +1,4 @@
-use Rattle.std.proofs.Common.{◌≡◌, true, ◌∷◌, sym, ◌∙◌, ap, nat_le, ◌≤◌, ◌-◌, arith, inl, inr, refl}
+use Rattle.std.proofs.Common.{◌≡◌, true, ◌∷◌, sym, ◌∙◌, ap, nat_le, ◌≤◌, ◌+◌, ◌-◌, arith, inl, inr, refl}
 use Rattle.root2_cost.specs.Sums.{add_costs}
 use Rattle.root2_cost.proofs.Sums.{add_costs-no_cost_left}
 use Rattle.grid_moves.specs.Move.{is_legal}
@@ -6,19 +6,19 @@ use Rattle.grid_moves.specs.Points.{are_lined, segment, steps_between}
 use Rattle.grid_moves.specs.Walk.{is_walk, cost_of}
 use Rattle.grid_moves.proofs.Legal.{legal_is}
 use Rattle.path_points.proofs.Running.{run_on, run_off, run_left, run_counted, run_paid, run_ended, run_paid_off, less_nothing, none_unless, none_where, some_where, le_true}
-use Rattle.path_points.specs.Checked.{run}
+use Rattle.path_points.specs.Checked.{most_steps, run}
 use Rattle.path_points.proofs.checking.run_cost.Goals as goal
 use Rattle.path_points.proofs.checking.run_cost.Goals.{then-not-are_lined-via-then-not-are_lined}
-use Rattle.path_points.proofs.checking.run_cost.Goals.{then-not-are_lined-via-else-not-are_lined+then-most-from}
+use Rattle.path_points.proofs.checking.run_cost.Goals.{then-not-are_lined-via-else-not-are_lined+then-before-from-gt-MOST_STEPS}
 
 pub returns-then-not-are_lined-clause-cost : goal.returns-then-not-are_lined-clause-cost
 returns-then-not-are_lined-clause-cost g c =
     let u = c.args.from in
     let v = c.args.to in
-    none_unless (are_lined u v) (is_walk (g.T.Terrain.grid c.args.t.now) (u ∷ run u v)) (steps_between u v)
-    c.args.most (cost_of (u ∷ run u v)) (elim c.then-not-are_lined.branch [
+    none_unless (are_lined u v) (is_walk (g.T.Terrain.grid c.args.t.now) (u ∷ run u v))
+    (c.args.before + steps_between u v) most_steps (cost_of (u ∷ run u v)) (elim c.then-not-are_lined.branch [
       | then-not-are_lined-via-then-not-are_lined w ↦ inl (sym c.are_lined.ensures ∙ w.if-not-are_lined.true)
-      | then-not-are_lined-via-else-not-are_lined+then-most-from w ↦ inr (omega arith)
+      | then-not-are_lined-via-else-not-are_lined+then-before-from-gt-MOST_STEPS w ↦ inr (omega arith)
     ])
 
 pub loop-init : goal.loop-init
@@ -28,7 +28,7 @@ loop-init g c =
     let v = c.args.to in
     let n = c.steps_between-steps.result in
     record {
-      free = c.requires;
+      free = c.requires.free;
       left = sym c.steps_between-steps.ensures ∙ sym (less_nothing n);
       counted = refl;
       legal = ap (λ k. is_walk grid (u ∷ segment k u v)) (less_nothing n);
@@ -47,7 +47,7 @@ returns-then-not-is_legal-clause-cost g c =
     run_off grid n c.loop.counter c.loop.at c.step_toward-next.result v (omega arith)
     c.step_toward-next.ensures (sym c.is_legal.ensures ∙ c.if-not-is_legal.true) in
     let none = sym c.loop.invariant.legal ∙ off in
-    none_where (are_lined u v) _ (nat_le (steps_between u v) c.args.most) _
+    none_where (are_lined u v) _ (nat_le (c.args.before + steps_between u v) most_steps) _
     (ap (λ n. is_walk grid (u ∷ segment n u v)) (sym c.steps_between-steps.ensures) ∙ none)
 
 pub loop-preserved : goal.loop-preserved
@@ -78,7 +78,7 @@ returns-clause-cost g c =
     let v = c.args.to in
     let n = c.steps_between-steps.result in
     let lined = sym c.are_lined.ensures ∙ c.if-not-are_lined.false in
-    let few : steps_between u v ≤ c.args.most =
+    let few : c.args.before + steps_between u v ≤ most_steps =
     omega (arith, c.steps_between-steps.ensures, c.from.ensures) in
     let walk =
     ap (λ n. is_walk grid (u ∷ segment n u v)) (sym c.steps_between-steps.ensures)
@@ -89,5 +89,5 @@ returns-clause-cost g c =
     sym (run_paid_off c.loop.cost n c.loop.counter c.loop.at v (omega arith))
     ∙ c.loop.invariant.priced
     ∙ ap (λ n. cost_of (u ∷ segment n u v)) c.steps_between-steps.ensures in
-    some_where (are_lined u v) _ (nat_le (steps_between u v) c.args.most) _ c.loop.cost lined walk
+    some_where (are_lined u v) _ (nat_le (c.args.before + steps_between u v) most_steps) _ c.loop.cost lined walk
     (le_true _ _ few) paid

@@ -1,7 +1,7 @@
 use Rattle.std.proofs.Common.{◌≡◌, ◌+◌, ℕ, length, subst, arith}
 use Rattle.std.specs.Prelude.{Option, IfSome}
 use Rattle.plain_search.specs.Progress.{GoesOn}
-use Rattle.plain_search.proofs.Concluding.{taken_fits}
+use Rattle.plain_search.proofs.Concluding.{fits}
 use Rattle.plain_search.proofs.search.run.Goals as goal
 
 pub taking-smaller : goal.taking-smaller
@@ -9,8 +9,8 @@ taking-smaller g c =
     let grid = g.T.Terrain.grid c.args.t.now in
     let taken = subst (λ (o : Option ℕ). GoesOn grid c.args.ends.from c.args.ends.to c.advance.new.space.table
     c.advance.new.taken o) c.in-Some.is c.in_ok-next.ensures.goes_on in
-    let fits = taken_fits grid c.args.ends.from c.args.ends.to c.in-Some.next c.advance.new.space.table
-    c.advance.new.taken c.requires.from taken in
+    let most = fits grid c.args.ends.from c.args.ends.to c.begin.ensures.whole c.requires.from c.requires.to
+    c.in-Some.next c.advance.new.space.table c.advance.new.taken taken in
     let more = subst (λ (o : Option ℕ). IfSome o
     (λ id. length c.advance.new.taken ≡ length c.taking.taken + 1)) c.in-Some.is
     c.in_ok-next.ensures.one_more in

@@ -6,8 +6,7 @@ use Rattle.grid_moves.specs.Grid.{GridData, is_free}
 use Rattle.plain_search.specs.Answer.{IsPlainRun, IsLeast}
 use Rattle.plain_search.specs.declared.search.Plain.{Plain}
 use Rattle.plain_search.specs.declared.search.Plain.TheVariants.{Found, None}
-use Rattle.plain_search.proofs.Concluding.{found_least}
-use Rattle.plain_search.proofs.Right.{exhausted_none}
+use Rattle.plain_search.proofs.Right.{found_least, exhausted_none}
 use Rattle.plain_search.proofs.search.run_counted.Goals as goal
 
 -- a run's answer is least

@@ -1,23 +1,26 @@
-use Rattle.std.proofs.Common.{subst}
-use Rattle.scen_text.specs.Faults.{Tells}
-use Rattle.scen_text.proofs.Laws.{scen_of_spelled, scen_of_broken, tells_spelled, tells_broken}
+use Rattle.scen_text.specs.declared.fault.ScenFault.TheVariants.{NoMemory}
+use Rattle.text_line.proofs.Reading.{tells_found, tells_only, tells_first, tells_broken}
+use Rattle.scen_text.proofs.Laws.{scen_read}
 use Rattle.scen_text.proofs.Kept.{answer_kept}
 use Rattle.scen_text.proofs.reading.read_scen.Goals as goal
 
 pub returns-clause-found : goal.returns-clause-found
-returns-clause-found c = tells_spelled c.args.text.now c.read.result c.read.ensures
+returns-clause-found c =
+    tells_found (scen_read c.args.text.now) NoMemory (λ entries. entries.items) c.read.result c.read.ensures
 
 pub returns-clause-kept : goal.returns-clause-kept
 returns-clause-kept c =
-    answer_kept c.args.text.now c.read.result (tells_spelled c.args.text.now c.read.result c.read.ensures)
+    answer_kept c.args.text.now c.read.result
+    (tells_found (scen_read c.args.text.now) NoMemory (λ entries. entries.items) c.read.result c.read.ensures)
 
 pub returns-clause-only : goal.returns-clause-only
 returns-clause-only c =
-    λ spelled s. subst (Tells c.read.result) (scen_of_spelled c.args.text.now spelled s) c.read.ensures
+    tells_only (scen_read c.args.text.now) NoMemory (λ entries. entries.items) c.read.result c.read.ensures
 
 pub returns-clause-first : goal.returns-clause-first
-returns-clause-first c = tells_broken c.args.text.now c.read.result c.read.ensures
+returns-clause-first c =
+    tells_first (scen_read c.args.text.now) NoMemory (λ entries. entries.items) c.read.result c.read.ensures
 
 pub returns-clause-broken : goal.returns-clause-broken
 returns-clause-broken c =
-    λ fault first. subst (Tells c.read.result) (scen_of_broken c.args.text.now fault first) c.read.ensures
+    tells_broken (scen_read c.args.text.now) NoMemory (λ entries. entries.items) c.read.result c.read.ensures

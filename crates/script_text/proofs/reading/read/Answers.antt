@@ -1,4 +1,4 @@
-use Rattle.script_text.proofs.Passing.{script_begun}
+use Rattle.script_text.proofs.Laws.{script_begun}
 use Rattle.script_text.proofs.reading.read.Goals as goal
 
 pub loop-piece-init : goal.loop-piece-init

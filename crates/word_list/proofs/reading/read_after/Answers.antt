@@ -1,18 +1,27 @@
-use Rattle.std.proofs.Common.{refl}
-use Rattle.std.proofs.lemmas.List.{drop-map, take_rest}
-use Rattle.word_list.proofs.Calls.{refuses_part, refuses_later, reads_so}
+use Rattle.std.proofs.Common.{refl, sym, ap, ◌∙◌}
+use Rattle.std.specs.Option.{option_map}
+use Rattle.std.proofs.lemmas.List.{drop-map, take_rest, length-map}
+use Rattle.word_list.specs.Rows.{row_data}
+use Rattle.word_list.proofs.Calls.{names_first, names_taken, names_setting, calls}
 use Rattle.word_list.proofs.reading.read_after.Goals as goal
 
-pub returns-then-count-row : goal.returns-then-count-row
-returns-then-count-row c =
-    refuses_part _ _ c.fitting-count.result c.fitting-count.ensures.count c.if-count-row.true
+pub returns-in_default-clause-told : goal.returns-in_default-clause-told
+returns-in_default-clause-told c =
+    names_first c.args.name.now _ (sym c.row_named.ensures.row ∙ ap (option_map row_data) c.in_default.is)
 
-pub returns-in-Ok : goal.returns-in-Ok
-returns-in-Ok c =
-    reads_so _ _ c.fitting-count.result c.fitting-count.ensures.count _ c.if-count-row.false
-    (rw (take_rest, drop-map) refl) _ _ c.in-Ok.ensures c.request.ensures
+pub returns-then-taken-row-clause-told : goal.returns-then-taken-row-clause-told
+returns-then-taken-row-clause-told c =
+    names_taken c.args.name.now _ (row_data c.in-Some.row) (sym c.in-Some.ensures.row) c.fitting-taken.result
+    c.fitting-taken.ensures.count c.if-taken-row.true
 
-pub returns-in-Err : goal.returns-in-Err
-returns-in-Err c =
-    refuses_later _ _ c.fitting-count.result c.fitting-count.ensures.count _ c.if-count-row.false
-    (rw (take_rest, drop-map) refl) _ c.in-Err.ensures
+pub returns-then-more-rest-clause-told : goal.returns-then-more-rest-clause-told
+returns-then-more-rest-clause-told c =
+    names_setting c.args.name.now _ (row_data c.in-Some.row) (sym c.in-Some.ensures.row) c.fitting-taken.result
+    c.fitting-taken.ensures.count c.if-taken-row.false _ (rw (take_rest, drop-map) refl) c.settled-more.result
+    c.settled-more.ensures.count (rw length-map c.if-more-rest.true)
+
+pub returns-clause-told : goal.returns-clause-told
+returns-clause-told c =
+    calls c.args.name.now _ (row_data c.in-Some.row) (sym c.in-Some.ensures.row) c.fitting-taken.result
+    c.fitting-taken.ensures.count c.if-taken-row.false _ (rw (take_rest, drop-map) refl) c.settled-more.result
+    c.settled-more.ensures.count (rw length-map c.if-more-rest.false) _ _ c.request.ensures.asked c.chosen.ensures

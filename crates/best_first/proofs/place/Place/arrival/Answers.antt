@@ -1,6 +1,5 @@
 use Rattle.std.proofs.Common.{◌≡◌, ℕ, zero, suc, ◌<◌, ◌%◌, length, List, [], ◌∷◌, refl, sym, arith}
-use Rattle.std.specs.Prelude.{Option, Some, slice_get, slice_index_or}
-use Rattle.grid_moves.specs.declared.Dir.{Dir}
+use Rattle.std.specs.Prelude.{Some, slice_get, slice_index_or}
 use Rattle.grid_moves.specs.declared.Dir.TheVariants.{N}
 use Rattle.grid_moves.specs.Move.{all_dirs}
 use Rattle.best_first.specs.State.{state_told}

@@ -1,6 +1,5 @@
-use Rattle.std.proofs.Common.{◌≡◌, ◌∙◌, ◌+◌, ◌≤◌, sym, ap, subst, refl, length, ℕ, List, [], arith}
+use Rattle.std.proofs.Common.{◌≡◌, ◌∙◌, ◌≤◌, sym, ap, subst, refl, length, ℕ, [], arith}
 use Rattle.open_list.specs.OpenList.{OpenList}
-use Rattle.grid_moves.specs.declared.Cell.{Cell}
 use Rattle.best_first.specs.declared.node.Node.{Node}
 use Rattle.best_first.specs.declared.state.Layout.{Layout}
 use Rattle.best_first.specs.Index.{AreBlank, AreParts, IsPut}

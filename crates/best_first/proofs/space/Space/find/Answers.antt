@@ -1,4 +1,4 @@
-use Rattle.std.proofs.Common.{◌≡◌, ◌∙◌, sym, ap, subst, length, ℕ}
+use Rattle.std.proofs.Common.{◌∙◌, sym, ap, subst, length, ℕ}
 use Rattle.best_first.specs.Index.{entry_for, entry_in}
 use Rattle.best_first.specs.Space.{SpaceData, IsPlaced}
 use Rattle.best_first.specs.State.{state_in, arrival_number}

@@ -1,5 +1,5 @@
-use Rattle.std.proofs.Common.{◌≡◌, ◌∙◌, sym, ap, subst, length, ℕ}
-use Rattle.std.specs.Prelude.{slice_get, Some}
+use Rattle.std.proofs.Common.{◌∙◌, sym, ap}
+use Rattle.std.specs.Prelude.{slice_get}
 use Rattle.open_list.specs.OpenList.{OpenList}
 use Rattle.best_first.specs.declared.node.Node.{Node}
 use Rattle.best_first.specs.Node.{state_of}

@@ -1,4 +1,4 @@
-use Rattle.std.proofs.Common.{◌≡◌, ◌≤◌, length, arith}
+use Rattle.std.proofs.Common.{◌≤◌, length, arith}
 use Rattle.best_first.proofs.Parts.{parts_blank}
 use Rattle.best_first.proofs.space.Space.new.Goals as goal
 

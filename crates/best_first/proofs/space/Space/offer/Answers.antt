@@ -1,11 +1,11 @@
-use Rattle.std.proofs.Common.{◌≡◌, ◌∙◌, ◌-◌, ◌<◌, ◌≤◌, sym, ap, subst, length, ℕ, arith}
+use Rattle.std.proofs.Common.{◌≡◌, ◌∙◌, ◌-◌, ◌<◌, sym, ap, subst, length}
 use Rattle.std.proofs.lemmas.Option.{slice_get_within}
-use Rattle.std.specs.Prelude.{slice_get, Some, None}
+use Rattle.std.specs.Prelude.{slice_get}
 use Rattle.best_first.specs.declared.node.Node.{Node}
 use Rattle.best_first.specs.Node.{state_of}
 use Rattle.best_first.specs.Space.{SpaceData}
 use Rattle.best_first.specs.State.{state_in}
-use Rattle.best_first.specs.Table.{lookup, node_for, ClosedBelow}
+use Rattle.best_first.specs.Table.{lookup, node_for}
 use Rattle.best_first.proofs.Lookup.{lookup-found}
 use Rattle.best_first.proofs.Mirrors.{some_node}
 use Rattle.best_first.proofs.Parts.{node_state}

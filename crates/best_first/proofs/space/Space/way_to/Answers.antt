@@ -1,13 +1,10 @@
-use Rattle.std.proofs.Common.{◌≡◌, ◌∙◌, ◌≢◌, ◌<◌, sym, ap, subst, arith, length, ℕ, List, ◌∷◌, [], ◌++◌}
+use Rattle.std.proofs.Common.{◌∙◌, sym, ap, subst, List}
 use Rattle.std.proofs.lemmas.Option.{slice_get_within}
-use Rattle.std.specs.Prelude.{slice_get, Some}
 use Rattle.root2_cost.specs.declared.Cost.{Cost}
 use Rattle.root2_cost.specs.Sums.{add_costs}
 use Rattle.grid_moves.specs.declared.Cell.{Cell}
-use Rattle.grid_moves.specs.Points.{estimate}
-use Rattle.best_first.specs.declared.node.Node.{Node}
-use Rattle.best_first.specs.Trace.{IsOnTheWay, IsWayTo, node_cell}
-use Rattle.best_first.proofs.Tracing.{further, has_node, on_the_way, fits_on, step_back, whole_way, ranks_fall}
+use Rattle.best_first.specs.Trace.{IsOnTheWay}
+use Rattle.best_first.proofs.Tracing.{has_node, on_the_way, step_back}
 use Rattle.best_first.proofs.space.Space.way_to.Goals as goal
 
 pub back-init : goal.back-init

@@ -1,0 +1,67 @@
+-- What texts are read as, and how their reading may stop. No public clause cites this module.
+use Rattle.std.specs.Prelude.{◌≡◌, ℕ, List, Ok, Some, slice_get}
+use Rattle.std.specs.Global.{Vec}
+use Rattle.map_text.specs.Map.{Map}
+use Rattle.map_text.specs.Faults.{map_of, plain}
+use Rattle.map_text.specs.declared.map.MapText.{MapText}
+use Rattle.script_text.specs.Faults.{script_of}
+use Rattle.script_text.specs.declared.command.Command.{Command}
+use Rattle.scen_text.specs.Faults.{scen_of}
+use Rattle.scen_text.specs.Lengths.{IsKept}
+use Rattle.scen_text.specs.declared.entry.Entry.{Entry}
+use Rattle.edit_replay.specs.Session.{SessionData}
+use Rattle.word_list.specs.declared.request.Settings.{Settings}
+use Rattle.jps_run.specs.Session.{session_on}
+use Rattle.std.specs.Prelude.{◌∷◌, None, ⊤, Result}
+use Rattle.io_edge.specs.Causes.{Rose}
+use Rattle.io_edge.specs.Told.{Held}
+use Rattle.jps_run.specs.Files.{IsAccepted, IsRefused}
+use Rattle.jps_run.specs.Kinds.{refusal_of}
+use Rattle.jps_run.specs.Stops.{Stops, Ends}
+use Rattle.jps_run.specs.declared.kind.Kind.{Kind}
+use Rattle.jps_run.specs.declared.stop.Stop.{Stop}
+
+-- a text was read as this value: the held bytes spell it, and are accepted behind the texts before it
+pub record IsRead {X : Type 0} (Spells : List ℕ → X → Type 0) (earlier : List (List ℕ)) (kind : Kind) (held : Held)
+    (value : X) : Type 0 where
+  pub text : List ℕ
+  pub accepted : IsAccepted earlier kind held text
+  pub spelled : Spells text value
+
+-- a reading may stop at a refused text, at a read that failed, as the file's count shows, or for want of memory
+abbrev pub read_stops : (List ℕ → Type 0) → ℕ → ℕ → Stops
+read_stops Refused faults faults_now =
+    record { Refused = Refused; Read = Rose faults faults_now; Write = ⊥; Memory = ⊤ }
+
+-- a file of this kind was read as a value, or the reading stopped
+abbrev pub Reads : {X : Type 0} → (List ℕ → X → Type 0) → Kind → Held → ℕ → ℕ → Result X Stop → Type 0
+Reads Spells kind held faults faults_now result = (earlier : List (List ℕ)) → Ends
+    (IsRead Spells earlier kind held)
+    (read_stops (IsRefused earlier kind held) faults faults_now) result
+
+-- a text was read as a value that it spells and accepted behind the texts before it, or it is refused
+abbrev pub ReadsText : {X : Type 0} → (List ℕ → X → Type 0) → Kind → List ℕ → Result X Stop → Type 0
+ReadsText Spells kind text result = (earlier : List (List ℕ)) → Ends
+    (λ value. (refusal_of kind earlier text ≡ None) × Spells text value)
+    (record { Refused = λ line. refusal_of kind earlier text ≡ Some line; Read = ⊥; Write = ⊥; Memory = ⊤ }) result
+
+-- the text spells this map
+abbrev pub SpellsMap : List ℕ → MapText → Type 0
+SpellsMap text m = map_of text ≡ Ok (plain m)
+
+-- the text spells a map, and the session is that on it, as the settings ask
+pub record SpellsSession (set : Settings) (text : List ℕ) (d : SessionData) : Type 0 where
+  pub map : Map
+  pub spelled : map_of text ≡ Ok map
+  pub begun : d ≡ session_on set map
+
+-- each entry has a length that can be judged
+abbrev pub AreKept : List Entry → Type 0
+AreKept entries = (k : ℕ) (entry : Entry) → slice_get entries k ≡ Some entry → IsKept entry.length
+
+abbrev pub SpellsScript : List ℕ → Vec Command → Type 0
+SpellsScript text commands = script_of text ≡ Ok commands.items
+
+-- the text spells these entries, and their lengths can be judged
+abbrev pub SpellsScen : List ℕ → Vec Entry → Type 0
+SpellsScen text entries = (scen_of text ≡ Ok entries.items) × AreKept entries.items

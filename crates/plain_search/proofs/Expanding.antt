@@ -1,0 +1,82 @@
+-- From what is read around a cell to the offers of its state.
+use Rattle.std.proofs.Common.{◌≡◌, ℕ, ◌∙◌, sym, ap, subst, refl, Bool, true, false, ◌&&◌}
+use Rattle.std.specs.Prelude.{Option, Some}
+use Rattle.grid_moves.specs.declared.Cell.{Cell}
+use Rattle.grid_moves.specs.declared.Dir.{Dir}
+use Rattle.grid_moves.specs.declared.Dir.TheVariants.{N, NE, E, SE, S, SW, W, NW}
+use Rattle.grid_moves.specs.declared.around.Around.{Around}
+use Rattle.grid_moves.specs.Around.{if_open}
+use Rattle.grid_moves.specs.Grid.{GridData}
+use Rattle.grid_moves.specs.Move.{all_dirs, legal_ahead}
+use Rattle.grid_moves.proofs.Legal.{and_both}
+use Rattle.best_first.specs.declared.node.Node.{Node}
+use Rattle.best_first.specs.Space.{SpaceData}
+use Rattle.best_first.specs.State.{state_told}
+use Rattle.best_first.specs.Table.{Table}
+use Rattle.best_first.specs.Trace.{node_cell, rank_left}
+use Rattle.plain_search.specs.declared.moves.Sides.{Sides}
+use Rattle.plain_search.specs.Offers.{is_open_to, end_of, IsAround, less_offered, sides_of, all_offered, MayOffer, MayExpand, HasExpanded}
+
+-- a move that is kept is open
+pub kept_open : (a : Around) (s : Sides) (d : Dir) → is_open_to (less_offered a s) d ≡ true
+    → is_open_to a d ≡ true
+kept_open a s N h = (and_both a.n _ h).0
+kept_open a s NE h = (and_both a.ne _ h).0
+kept_open a s E h = (and_both a.e _ h).0
+kept_open a s SE h = (and_both a.se _ h).0
+kept_open a s S h = (and_both a.s _ h).0
+kept_open a s SW h = (and_both a.sw _ h).0
+kept_open a s W h = (and_both a.w _ h).0
+kept_open a s NW h = (and_both a.nw _ h).0
+
+-- and leads to the same cell
+pub kept_end : (a : Around) (s : Sides) (c : Cell) (d : Dir) → end_of (less_offered a s) c d ≡ end_of a c d
+kept_end a s c N = refl
+kept_end a s c NE = refl
+kept_end a s c E = refl
+kept_end a s c SE = refl
+kept_end a s c S = refl
+kept_end a s c SW = refl
+kept_end a s c W = refl
+kept_end a s c NW = refl
+
+module _ (g : GridData) (goal : Cell) (id : ℕ) (n : Node) where
+  may_less : (space : SpaceData) (key rank : ℕ) (a : Around) (s : Sides) (c : Cell)
+      → MayOffer goal id key rank a c space → MayOffer goal id key rank (less_offered a s) c space
+  may_less space key rank a s c m N h = m N (kept_open a s N h)
+  may_less space key rank a s c m NE h = m NE (kept_open a s NE h)
+  may_less space key rank a s c m E h = m E (kept_open a s E h)
+  may_less space key rank a s c m SE h = m SE (kept_open a s SE h)
+  may_less space key rank a s c m S h = m S (kept_open a s S h)
+  may_less space key rank a s c m SW h = m SW (kept_open a s SW h)
+  may_less space key rank a s c m W h = m W (kept_open a s W h)
+  may_less space key rank a s c m NW h = m NW (kept_open a s NW h)
+
+  module _ (cell : Cell) (a moves : Around) (s : Sides) (rank : ℕ) (at : cell ≡ node_cell n)
+      (around : IsAround g cell a) (less : moves ≡ less_offered a s) (left : rank ≡ rank_left goal n) where
+    around_node : IsAround g (node_cell n) a
+    around_node = subst (λ (c : Cell). IsAround g c a) at around
+
+    -- the moves may be offered
+    pub may_offer : (space : SpaceData) → MayExpand g goal id n space
+        → MayOffer goal id n.key rank moves cell space
+    may_offer space m =
+        subst (λ (r : ℕ). MayOffer goal id n.key r moves cell space) (sym left)
+        (subst (λ (b : Around). MayOffer goal id n.key (rank_left goal n) b cell space) (sym less)
+        (subst (λ (c : Cell). MayOffer goal id n.key (rank_left goal n) (less_offered a s) c space) (sym at)
+        (may_less space n.key (rank_left goal n) a s (node_cell n) (m.may a around_node))))
+
+    -- and then they were
+    pub expanded : (old new : Table) (arrival : Option Dir) → s ≡ sides_of arrival
+        → arrival ≡ (state_told n.place).arrival → new ≡ all_offered goal id rank moves cell all_dirs old
+        → HasExpanded g goal id n old new
+    expanded old new arrival sides told t = record {
+      around = a;
+      is_around = around_node;
+      table =
+          t ∙ ap (λ (r : ℕ). all_offered goal id r moves cell all_dirs old) left
+          ∙ ap (λ (b : Around). all_offered goal id (rank_left goal n) b cell all_dirs old) less
+          ∙ ap (λ (c : Cell). all_offered goal id (rank_left goal n) (less_offered a s) c all_dirs old) at
+          ∙ ap (λ (q : Sides). all_offered goal id (rank_left goal n) (less_offered a q) (node_cell n) all_dirs
+          old) (sides ∙ ap (λ (d : Option Dir). sides_of d) told);
+    }

@@ -1,0 +1,55 @@
+//! The worked rows: maps of three by three and two by two cells, by hand.
+
+ghost use Rattle.std.specs.Prelude.{◌≡◌, true};
+ghost use Rattle.grid_moves.specs.Grid.{AreCells};
+
+use crate::{NoMemory, Plain, least};
+use grid_moves::{Cell, Corner, Grid, Terrain};
+use root2_cost::Cost;
+use std::alloc::Global;
+use std::test::Fail;
+
+fn cell(x: u16, y: u16) -> Cell {
+    Cell { x, y }
+}
+
+// Whether the search finds this: points, cost and taken states, or no walk and the taken states.
+fn is_answer(
+    alloc: Global,
+    grid: &Grid,
+    from: Cell,
+    to: Cell,
+    walk: Option<(&[Cell], Cost)>,
+    states: &[u32],
+) -> Result<bool, NoMemory> {
+    if !grid.free(from) || !grid.free(to) {
+        return Ok(false);
+    }
+    match least(alloc, grid, from, to)? {
+        Plain::Found {
+            points,
+            cost,
+            taken,
+        } => Ok(walk == Some((points.as_slice(), cost)) && taken.as_slice() == states),
+        Plain::None { taken } => Ok(walk.is_none() && taken.as_slice() == states),
+    }
+}
+
+// Round the pillar in the middle: the cells 0, 1, 3, 2, 5, 6, 7, 8 are taken.
+#[test]
+fn the_pillar_is_passed(rt: HostRuntime) -> Result<(), Fail> {
+    let grid = Grid::of_cells(rt.alloc(), 3, 3, b"....@....", Corner::Never)?;
+    let points = [cell(0, 0), cell(2, 0), cell(2, 2)];
+    let walk = Some((points.as_slice(), Cost { a: 4, b: 0 }));
+    let states = [8, 17, 35, 26, 53, 62, 71, 80];
+    assert!(rt; is_answer(rt.alloc(), &grid, cell(0, 0), cell(2, 2), walk, &states)?);
+    Ok(())
+}
+
+// Two cells that touch at a corner.
+#[test]
+fn no_walk_leads_past_two_corners(rt: HostRuntime) -> Result<(), Fail> {
+    let grid = Grid::of_cells(rt.alloc(), 2, 2, b".@@.", Corner::Never)?;
+    assert!(rt; is_answer(rt.alloc(), &grid, cell(0, 0), cell(1, 1), None, &[8])?);
+    Ok(())
+}
