@@ -34,7 +34,8 @@ pub counted_one : (most : Option MostSteps) (fewest n a b c : ℕ) → n ≤ 8
     → IsWithin most (λ told. told.allowed) a b → IsWithin most (λ told. n * told.stop) b c → a + fewest ≤ b
     → b ≤ c → IsCounted most fewest 1 a c
 counted_one most fewest n a b c few first then low on = record {
-  within = within_then most (λ told. told.allowed) (λ told. n * told.stop) (λ told. 1 * most_for_state told) a b
+  within = within_then most (λ told. told.allowed) (λ told. n * told.stop) (λ told. 1 * most_for_state told)
+      a b
       c first then (λ told. let l = times n told.stop few in omega arith);
   at_least = omega arith;
 }
@@ -67,7 +68,8 @@ module _ (Stands : GridData → Type 0) (s t : Cell) (at : ℕ) (old mid : Space
     offering g v = offering_at Stands s t g v at old taken (reached g v) mid shape table last told
 
     module _ (dirs : List Dir)
-        (rule : (g : GridData) → Stands g → IsTrue (is_free g last.state.cell) → CanArrive g last.state.cell by
+        (rule : (g : GridData) → Stands g → IsTrue (is_free g last.state.cell)
+        → CanArrive g last.state.cell by
         → dirs ≡ allowed_dirs g last.state.cell by) where
       allowed : OnEach Stands s t (λ g. dirs ≡ allowed_dirs g last.state.cell (come_to last.state.arrival))
       allowed g v = rule g v.stands (free_there g v) (can_arrive g v)
@@ -78,31 +80,37 @@ module _ (Stands : GridData → Type 0) (s t : Cell) (at : ℕ) (old mid : Space
       each_allowed g v =
           (all_allowed g last.state.cell (come_to last.state.arrival) dirs (allowed g v)).each
 
-      module _ (done : SpaceData) (jumps : OnEach Stands s t (λ g. done.table ≡ jumped g t last dirs mid.table))
+      module _ (done : SpaceData) (jumps : OnEach Stands s t
+          (λ g. done.table ≡ jumped g t last dirs mid.table))
           (shape_on : KeepsShape mid done)
-          (open_ended : (n : Node) → slice_get old.table.nodes at ≡ Some n → is_same (node_cell n) t ≡ false) where
-        offered : OnEach Stands s t (λ g. HasOffered ByArrival g.width t (jump_links g t) s at done.table taken)
+          (open_ended : (n : Node) → slice_get old.table.nodes at ≡ Some n → is_same (node_cell n) t
+          ≡ false) where
+        offered : OnEach Stands s t (λ g. HasOffered ByArrival g.width t (jump_links g t) s at done.table
+            taken)
         offered g v = offered_at Stands s t g v at old taken (reached g v) mid shape table last told dirs
             done.table (allowed g v) (jumps g v) open_ended
 
         pub ended : NoneOpen done.table → OnEach Stands s t (λ g. IsExhausted g s t taken)
-        ended none g v = none_waits Stands s t g v at done.table taken (reached g v).of.whole (offered g v) none
+        ended none g v = none_waits Stands s t g v at done.table taken (reached g v).of.whole (offered g v)
+            none
 
         module _ (id : ℕ) (first : IsFirstNode done.table id) (node : Node) (new : SpaceData)
-            (read : slice_get new.table.nodes id ≡ Some node) (nodes : new.table.nodes ≡ done.table.nodes) where
-          next : (g : GridData) (v : IsServed Stands s t g) → HasNext Stands s t g v id node done.table taken
-          next g v = has_next Stands s t g v at done.table taken (reached g v).of.whole (offered g v) id node first
-              (ap (λ (ns : List Node). slice_get ns id) (sym nodes) ∙ read)
+            (read : slice_get new.table.nodes id ≡ Some node) (nodes : new.table.nodes ≡ done.table.nodes)
+          where
+            next : (g : GridData) (v : IsServed Stands s t g) → HasNext Stands s t g v id node done.table taken
+            next g v = has_next Stands s t g v at done.table taken (reached g v).of.whole (offered g v) id
+                node first
+                (ap (λ (ns : List Node). slice_get ns id) (sym nodes) ∙ read)
 
-          pub on_map : OnSome Stands s t
-              → (g : GridData) × Stands g × ((node_cell node).x < g.width) × ((node_cell node).y < g.height)
-          on_map some = let n = next some.0 some.1 in (some.0, some.1.stands, n.on, n.row)
+            pub on_map : OnSome Stands s t
+                → (g : GridData) × Stands g × ((node_cell node).x < g.width) × ((node_cell node).y < g.height)
+            on_map some = let n = next some.0 some.1 in (some.0, some.1.stands, n.on, n.row)
 
-          pub reached_on : KeepsShape done new → new.table ≡ closed_at id done.table → (number : ℕ)
-              → ((g : GridData) → Stands g → number ≡ state_number g.width (state_told node.place))
-              → (after : List ℕ) → after ≡ taken ++ number ∷ []
-              → OnEach Stands s t (λ g. HasReached g s t id new after)
-          reached_on shape_last closed number is after pushed g v =
-              reached_next Stands s t g v id node mid done new taken after
-              (same_shape g old mid (reached g v).of shape) shape_on shape_last (next g v) closed
-              (pushed ∙ ap (λ (n : ℕ). taken ++ n ∷ []) (is g v.stands))
+            pub reached_on : KeepsShape done new → new.table ≡ closed_at id done.table → (number : ℕ)
+                → ((g : GridData) → Stands g → number ≡ state_number g.width (state_told node.place))
+                → (after : List ℕ) → after ≡ taken ++ number ∷ []
+                → OnEach Stands s t (λ g. HasReached g s t id new after)
+            reached_on shape_last closed number is after pushed g v =
+                reached_next Stands s t g v id node mid done new taken after
+                (same_shape g old mid (reached g v).of shape) shape_on shape_last (next g v) closed
+                (pushed ∙ ap (λ (n : ℕ). taken ++ n ∷ []) (is g v.stands))

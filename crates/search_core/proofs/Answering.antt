@@ -30,7 +30,8 @@ module _ (g : GridData) (s t : Cell) where
       only false e = e
 
       by_earlier : (earlier : List (Taken State)) → IsRun (jump_rule g t) (start_at s) (x ∷ earlier)
-          → (is_same x.state.cell t || has_goal (jump_rule g t) earlier) ≡ true → is_same x.state.cell t ≡ true
+          → (is_same x.state.cell t || has_goal (jump_rule g t) earlier) ≡ true → is_same x.state.cell t
+          ≡ true
       by_earlier [] is h = only (is_same x.state.cell t) h
       by_earlier (y ∷ more) is h = only (is_same x.state.cell t) (rw is.1 at h)
 

@@ -110,7 +110,8 @@ jump_is_link g goal u v d k e a f r =
 pub allowed_free : (g : GridData) (u : State) (d : Dir) → is_allowed g u.cell (come_to u.arrival) d ≡ true
     → is_free g u.cell ≡ true
 allowed_free g u d a =
-    let can = (and_both (is_kept g.corner (is_blocked g u.cell) (come_to u.arrival) d) (can_move g u.cell d) a).1 in
+    let can = (and_both (is_kept g.corner (is_blocked g u.cell) (come_to u.arrival) d) (can_move g u.cell d)
+    a).1 in
     let to = leads_from g u.cell d can in
     (legal_is g u.cell to.0 to.1.legal).source
 

@@ -125,7 +125,8 @@ module _ (g : GridData) (s t : Cell) where
 
   module _ (last : Last) where
     abbrev pub AreAllowed : List Dir → Type 0
-    AreAllowed dirs = AllByRecursion (λ d. is_allowed g last.state.cell (come_to last.state.arrival) d ≡ true) dirs
+    AreAllowed dirs = AllByRecursion
+        (λ d. is_allowed g last.state.cell (come_to last.state.arrival) d ≡ true) dirs
 
     -- where a jump leads to
     record HasEnd (d : Dir) (n : ℕ) : Type 0 where
@@ -240,7 +241,8 @@ module _ (g : GridData) (s t : Cell) where
         one_offer : IsAt g s t last latest earlier (with_onward latest best (way_after d n))
             (offered ByArrival t (offer_after last d n) k)
         one_offer = record {
-          searching = one_more ByArrival g.width g.height s t (jump_links g t) (fit whole from to) latest earlier
+          searching = one_more ByArrival g.width g.height s t (jump_links g t) (fit whole from to) latest
+              earlier
               last.at best k i.searching (offer_after last d n) (run_cost d n) linked ranked refl refl;
           state = i.state;
           ranked = i.ranked;
@@ -249,9 +251,11 @@ module _ (g : GridData) (s t : Cell) where
         -- no closed node has a greater key
         closed : ClosedBelow (node_for t (offer_after last d n)).key k
         closed =
-            let below = closed_below ByArrival g.width g.height s t (jump_links g t) (fit whole from to) latest
+            let below = closed_below ByArrival g.width g.height s t (jump_links g t) (fit whole from to)
+            latest
             earlier last.at best k i.searching in
-            let rises = key_rises ByArrival g.width g.height s t (jump_links g t) (fit whole from to) latest earlier
+            let rises = key_rises ByArrival g.width g.height s t (jump_links g t) (fit whole from to) latest
+            earlier
             last.at best k i.searching (offer_after last d n) (run_cost d n) linked ranked refl refl in
             record {
               flags = below.flags;
@@ -259,11 +263,13 @@ module _ (g : GridData) (s t : Cell) where
             }
 
       -- the offer in one direction
-      one_dir : (best : Offers) (k : Table) → IsAt g s t last latest earlier best k → (d : Dir) (ways : List Onward)
+      one_dir : (best : Offers) (k : Table) → IsAt g s t last latest earlier best k
+          → (d : Dir) (ways : List Onward)
           → is_allowed g last.state.cell (come_to last.state.arrival) d ≡ true
           → (Q : Offers → Table → Type 0)
           → ((b : Offers) (j : Table) → IsAt g s t last latest earlier b j → Q (with_all latest b ways) j)
-          → Q (with_all latest best (with_jump d (first_stop g t last.state.cell d) ways)) (jumped_in g t last d k)
+          → Q (with_all latest best (with_jump d (first_stop g t last.state.cell d) ways))
+          (jumped_in g t last d k)
       one_dir best k i d ways a Q next = by_stop (first_stop g t last.state.cell d) refl
         where
           by_stop : (o : Option ℕ) → first_stop g t last.state.cell d ≡ o
@@ -284,33 +290,35 @@ module _ (g : GridData) (s t : Cell) where
           (λ b j i. all_dirs_offered dirs a.1 b j i)
 
       -- after all allowed directions the state has made its offers
-      module _ (dirs : List Dir) (all : AreAllAllowed g last.state.cell (come_to last.state.arrival) dirs) where
-        pub all_offered : (k : Table) (taken : List ℕ)
-            → IsAt g s t last latest earlier (with_all latest (least_offer (jump_rule g t) earlier) (ways_in dirs))
-            k → is_same last.state.cell t ≡ false → taken ≡ numbers_of g.width (latest ∷ earlier)
-            → HasOffered ByArrival g.width t (jump_links g t) s last.at k taken
-        all_offered k taken i open_ended numbered =
-            let not_goal : is_same latest.state.cell t ≡ false =
-            ap (λ (u : State). is_same u.cell t) i.state ∙ open_ended in
-            record {
-              last = latest;
-              earlier = earlier;
-              best = with_all latest (least_offer (jump_rule g t) earlier) (ways_in dirs);
-              searching = i.searching;
-              open_ended = not_goal;
-              all_made = λ v n. offers_after g.width t (jump_links g t) latest earlier (ways_in dirs) not_goal
-                  (of_links i.state) (enough i.state) v n;
-              numbered = numbered;
-            }
-          where
-            of_links : latest.state ≡ last.state
-                → AreOfLinks g.width t (jump_links g t) latest (ways_in dirs)
-            of_links e w j = ap (λ (u : State). jump_link g t u w.to) e ∙ each_linked dirs all.each w j
+      module _ (dirs : List Dir) (all : AreAllAllowed g last.state.cell (come_to last.state.arrival) dirs)
+        where
+          pub all_offered : (k : Table) (taken : List ℕ)
+              → IsAt g s t last latest earlier
+              (with_all latest (least_offer (jump_rule g t) earlier) (ways_in dirs))
+              k → is_same last.state.cell t ≡ false → taken ≡ numbers_of g.width (latest ∷ earlier)
+              → HasOffered ByArrival g.width t (jump_links g t) s last.at k taken
+          all_offered k taken i open_ended numbered =
+              let not_goal : is_same latest.state.cell t ≡ false =
+              ap (λ (u : State). is_same u.cell t) i.state ∙ open_ended in
+              record {
+                last = latest;
+                earlier = earlier;
+                best = with_all latest (least_offer (jump_rule g t) earlier) (ways_in dirs);
+                searching = i.searching;
+                open_ended = not_goal;
+                all_made = λ v n. offers_after g.width t (jump_links g t) latest earlier (ways_in dirs) not_goal
+                    (of_links i.state) (enough i.state) v n;
+                numbered = numbered;
+              }
+            where
+              of_links : latest.state ≡ last.state
+                  → AreOfLinks g.width t (jump_links g t) latest (ways_in dirs)
+              of_links e w j = ap (λ (u : State). jump_link g t u w.to) e ∙ each_linked dirs all.each w j
 
-            enough : latest.state ≡ last.state
-                → AreEnough g.width t (jump_links g t) latest earlier (ways_in dirs)
-            enough e v c n l =
-                inl (linked_among dirs all v c (ap (λ (u : State). jump_link g t u v) (sym e) ∙ l))
+              enough : latest.state ≡ last.state
+                  → AreEnough g.width t (jump_links g t) latest earlier (ways_in dirs)
+              enough e v c n l =
+                  inl (linked_among dirs all v c (ap (λ (u : State). jump_link g t u v) (sym e) ∙ l))
 
   rank_small : (p q : Cost) → p.a + p.b ≤ 2 ^ 27 → q.a + q.b ≤ 8192 → rank_of p + rank_of q < 2 ^ 63
   rank_small p q h k = omega arith

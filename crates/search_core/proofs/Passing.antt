@@ -114,7 +114,8 @@ module _ (g : GridData) (goal : Cell) where
       → (d ≡ f) × (e ≡ s) × (m ≡ n)
   unfolding number
   one_stop d f e s q p m n same a b =
-      let parts = parted (cell_number g.width a.cell) (cell_number g.width b.cell) (dir_number d) (dir_number f)
+      let parts = parted (cell_number g.width a.cell) (cell_number g.width b.cell) (dir_number d)
+      (dir_number f)
       (dir_small d) (dir_small f) (a.number_is ∙ same ∙ sym b.number_is) in
       let dir : d ≡ f = same_dir d f (equal (dir_number d) (dir_number f) parts.1) in
       let cell : a.cell ≡ b.cell = one_cell g.width a.cell b.cell a.on.0 b.on.0 parts.0 in
@@ -170,7 +171,8 @@ module _ (g : GridData) (goal : Cell) where
 
   jump_numbers : (d : Dir) (e : Cell) (k : ℕ) (x : Cell) → NoneBelow (StopsAfter g goal x d) 1 k
       → StopsAfter g goal x d k → run_end g d k x ≡ Some e → HasNumbers d e k
-  jump_numbers d e zero x none stop r = record { numbers = []; each = tt; distinct = distinct_none; many = refl }
+  jump_numbers d e zero x none stop r
+      = record { numbers = []; each = tt; distinct = distinct_none; many = refl }
   jump_numbers d e (suc k) x none stop r =
       by_cell (legal_ahead g x d) refl r (λ v. jump_numbers d e k v)
     where
@@ -222,7 +224,8 @@ module _ (g : GridData) (goal : Cell) where
       let yes : is_taken (jump_rule g goal) earlier x ≡ true =
       sym (ap (λ (s : State). is_taken (jump_rule g goal) earlier s) state)
       ∙ is_taken-member (jump_rule g goal)
-      (consistent g.width g.height goal (jump_links g goal) (jumps_are_links g goal)) earlier old.by old.member in
+      (consistent g.width g.height goal (jump_links g goal) (jumps_are_links g goal)) earlier old.by
+      old.member in
       absurd (cc))
 
   passed : (start : Cell) (run : List (Taken State)) → IsRun (jump_rule g goal) (start_at start) run
@@ -243,7 +246,8 @@ module _ (g : GridData) (goal : Cell) where
       (record { cost = x.cost; from = x.parent }) is.2.offered in
       let link = link_is g goal from.by.state x.state from.offered.step from.offered.linked in
       let before = passed start (y ∷ earlier) is.0 in
-      let new = jump_numbers link.dir x.state.cell link.moves from.by.state.cell link.first.least link.first.holds
+      let new = jump_numbers link.dir x.state.cell link.moves from.by.state.cell link.first.least
+      link.first.holds
       link.reached in
       let long : length (new.numbers ++ before.numbers) ≡ link.moves + length before.numbers =
       length-append new.numbers before.numbers

@@ -89,7 +89,8 @@ module _ (g : GridData) (s t : Cell) where
           least = λ others o.
               let l = walk_linked others o in
               (Most-then (Most-same (walk.priced ∙ f.priced))
-              (Most-then (run_is_least (jump_rule g t) (jumps_consistent g t) (start_at s) l.to f.last f.earlier
+              (Most-then (run_is_least (jump_rule g t) (jumps_consistent g t) (start_at s) l.to f.last
+              f.earlier
               l.cost f.run at_t l.chain l.at_goal) l.most)).is;
         };
         priced = walk.priced;
@@ -99,7 +100,8 @@ module _ (g : GridData) (s t : Cell) where
   pub exhausted_none : (taken : List ℕ) → IsExhausted g s t taken → NoWalk g s t
   exhausted_none taken x = λ cells w.
       let l = walk_linked cells w in
-      run_finds_all (jump_rule g t) (jumps_consistent g t) (start_at s) l.to x.run l.cost x.is_run x.none_waits
+      run_finds_all (jump_rule g t) (jumps_consistent g t) (start_at s) l.to x.run l.cost x.is_run
+      x.none_waits
       x.no_goal l.chain l.at_goal
 
   -- so the answer of the run is right

@@ -36,7 +36,8 @@ module _ (P : Dir → Type 0) where
 
   pub all_get : (dirs : List Dir) (i : ℕ) (d : Dir) → AllByRecursion P dirs → slice_get dirs i ≡ Some d → P d
   all_get [] i d a e = absurd (cc)
-  all_get (c ∷ dirs) zero d a e = subst P (ap (λ (o : Option Dir). elim o as (λ _. Dir) [ Some x ↦ x | None ↦ c ]) e) a.0
+  all_get (c ∷ dirs) zero d a e = subst P
+      (ap (λ (o : Option Dir). elim o as (λ _. Dir) [ Some x ↦ x | None ↦ c ]) e) a.0
   all_get (c ∷ dirs) (suc i) d a e = all_get dirs i d a.1 e
 
 -- a space that keeps its shape serves as before
@@ -51,45 +52,47 @@ same_shape g old new of shape = record {
 }
 
 module _ (Stands : GridData → Type 0) (s t : Cell) (last : Last) (d : Dir)
-    (allowed : OnEach Stands s t (λ g. is_allowed g last.state.cell (come_to last.state.arrival) d ≡ true)) where
-  pub free_at : (g : GridData) → IsServed Stands s t g → is_free g last.state.cell ≡ true
-  free_at g v = allowed_free g last.state d (allowed g v)
+    (allowed : OnEach Stands s t (λ g. is_allowed g last.state.cell (come_to last.state.arrival) d ≡ true))
+  where
+    pub free_at : (g : GridData) → IsServed Stands s t g → is_free g last.state.cell ≡ true
+    free_at g v = allowed_free g last.state d (allowed g v)
 
-  -- the answer of a source is the first stop
-  pub record Answers (o : Option ℕ) : Type 0 where
-    pub first : (g : GridData) → Stands g → IsTrue (is_free g last.state.cell) → IsTrue (is_free g t)
-        → IsFirstStop g t last.state.cell d o
+    -- the answer of a source is the first stop
+    pub record Answers (o : Option ℕ) : Type 0 where
+      pub first : (g : GridData) → Stands g → IsTrue (is_free g last.state.cell) → IsTrue (is_free g t)
+          → IsFirstStop g t last.state.cell d o
 
-  computed : (o : Option ℕ) → Answers o → (g : GridData) → IsServed Stands s t g
-      → first_stop g t last.state.cell d ≡ o
-  computed o a g v = sym (only_one_first_stop g t last.state.cell d o (a.first g v.stands (free_at g v) v.to))
+    computed : (o : Option ℕ) → Answers o → (g : GridData) → IsServed Stands s t g
+        → first_stop g t last.state.cell d ≡ o
+    computed o a g v = sym (only_one_first_stop g t last.state.cell d o (a.first g v.stands (free_at g v) v.to))
 
-  -- so the offer may be made
-  pub ready_on : (space : SpaceData) (n : ℕ) → OnSome Stands s t
-      → OnEach Stands s t (λ g. IsOffering g s t last space) → Answers (Some n)
-      → (g : GridData) × IsReady g s t last d n space
-  ready_on space n some offering a = (
-    some.0,
-    is_ready some.0 s t some.1.from some.1.to last space (offering some.0 some.1) d
-        (allowed some.0 some.1) n (computed (Some n) a some.0 some.1),
-  )
+    -- so the offer may be made
+    pub ready_on : (space : SpaceData) (n : ℕ) → OnSome Stands s t
+        → OnEach Stands s t (λ g. IsOffering g s t last space) → Answers (Some n)
+        → (g : GridData) × IsReady g s t last d n space
+    ready_on space n some offering a = (
+      some.0,
+      is_ready some.0 s t some.1.from some.1.to last space (offering some.0 some.1) d
+          (allowed some.0 some.1) n (computed (Some n) a some.0 some.1),
+    )
 
-  -- and gives the nodes after the jump
-  pub jumped_on : (space : SpaceData) (n : ℕ) (o : Way) (new : Table)
-      → OnEach Stands s t (λ g. IsOffering g s t last space) → Answers (Some n) → o ≡ offer_after last d n
-      → new ≡ offered space.layout t o space.table
-      → OnEach Stands s t (λ g. new ≡ jumped_in g t last d space.table)
-  jumped_on space n o new offering a same table g v =
-      let k = space.table in
-      let made : new ≡ offered ByArrival t (offer_after last d n) k =
-      table ∙ ap (λ (l : Layout). offered l t o k) (offering g v).of.places.layout
-      ∙ ap (λ (w : Way). offered ByArrival t w k) same in
-      made ∙ ap (λ (q : Option ℕ). option_map_or (λ m. offered ByArrival t (offer_after last d m) k) q k)
-      (sym (computed (Some n) a g v))
+    -- and gives the nodes after the jump
+    pub jumped_on : (space : SpaceData) (n : ℕ) (o : Way) (new : Table)
+        → OnEach Stands s t (λ g. IsOffering g s t last space) → Answers (Some n) → o ≡ offer_after last d n
+        → new ≡ offered space.layout t o space.table
+        → OnEach Stands s t (λ g. new ≡ jumped_in g t last d space.table)
+    jumped_on space n o new offering a same table g v =
+        let k = space.table in
+        let made : new ≡ offered ByArrival t (offer_after last d n) k =
+        table ∙ ap (λ (l : Layout). offered l t o k) (offering g v).of.places.layout
+        ∙ ap (λ (w : Way). offered ByArrival t w k) same in
+        made ∙ ap (λ (q : Option ℕ). option_map_or (λ m. offered ByArrival t (offer_after last d m) k) q k)
+        (sym (computed (Some n) a g v))
 
-  pub stays_on : (k : Table) → Answers None → OnEach Stands s t (λ g. k ≡ jumped_in g t last d k)
-  stays_on k a g v = ap (λ (o : Option ℕ). option_map_or (λ m. offered ByArrival t (offer_after last d m) k) o k)
-      (sym (computed None a g v))
+    pub stays_on : (k : Table) → Answers None → OnEach Stands s t (λ g. k ≡ jumped_in g t last d k)
+    stays_on k a g v = ap (λ (o : Option ℕ). option_map_or (λ m. offered ByArrival t (offer_after last d m) k)
+        o k)
+        (sym (computed None a g v))
 
 module _ (Stands : GridData → Type 0) (s t : Cell) (last : Last) where
   -- the first of the directions were offered in, on each grid

@@ -40,19 +40,20 @@ module _ (Stands : GridData → Type 0) (s t : Cell) (g : GridData) (served : Is
       → w ≡ g.width → new.layout ≡ old.layout → new.places ≡ old.places → new.width ≡ w
       → new.table ≡ begun t s → before ≡ [] → taken ≡ before ++ state_number w (start_at s) ∷ []
       → HasReached g s t 0 new taken
-  reached_first old new w before taken whole places width layout as_many new_width table none numbers = record {
-    of = record {
-      whole = whole;
-      places = record {
-        layout = layout ∙ places.layout;
-        enough = subst (λ (n : ℕ). g.height * g.width ≤ n) (sym as_many) places.enough;
-      };
-      width = new_width ∙ width;
-    };
-    has = subst (λ (k : Table). HasTaken ByArrival g.width t (jump_links g t) s 0 k taken) (sym table)
-        (subst (λ (ns : List ℕ). HasTaken ByArrival g.width t (jump_links g t) s 0 (begun t s) ns) (sym first)
-        (has_begun ByArrival g.width g.height s t (jump_links g t) (fit g s t whole served.from served.to)));
-  }
+  reached_first old new w before taken whole places width layout as_many new_width table none numbers
+      = record {
+        of = record {
+          whole = whole;
+          places = record {
+            layout = layout ∙ places.layout;
+            enough = subst (λ (n : ℕ). g.height * g.width ≤ n) (sym as_many) places.enough;
+          };
+          width = new_width ∙ width;
+        };
+        has = subst (λ (k : Table). HasTaken ByArrival g.width t (jump_links g t) s 0 k taken) (sym table)
+            (subst (λ (ns : List ℕ). HasTaken ByArrival g.width t (jump_links g t) s 0 (begun t s) ns) (sym first)
+            (has_begun ByArrival g.width g.height s t (jump_links g t) (fit g s t whole served.from served.to)));
+      }
     where
       first : taken ≡ state_number g.width (start_at s) ∷ []
       first = numbers ∙ ap (λ (ns : List ℕ). ns ++ state_number w (start_at s) ∷ []) none
@@ -76,7 +77,8 @@ module _ (Stands : GridData → Type 0) (s t : Cell) (g : GridData) (served : Is
       key_is : n.key ≡ rank_of h.has.last.cost + rank_of (estimate (node_cell n) t)
       key_is =
           taken_key ByArrival g.width g.height s t (jump_links g t) (fit g s t whole served.from served.to)
-          h.has.last h.has.earlier at (least_offer (jump_rule g t) h.has.earlier) space.table h.has.searching at n
+          h.has.last h.has.earlier at (least_offer (jump_rule g t) h.has.earlier) space.table
+          h.has.searching at n
           read h.has.last (here h.has.earlier) state_is
           ∙ rank-add_costs h.has.last.cost (estimate h.has.last.state.cell t)
           ∙ ap (λ (u : State). rank_of h.has.last.cost + rank_of (estimate u.cell t)) state_is
@@ -123,11 +125,15 @@ module _ (Stands : GridData → Type 0) (s t : Cell) (g : GridData) (served : Is
           → k ≡ jumped g t (last_at t at n) dirs space.table → is_same (node_cell n) t ≡ false
           → HasOffered ByArrival g.width t (jump_links g t) s at k taken
       has_offered k dirs allowed table open_ended =
-          let all = all_allowed g (state_told n.place).cell (come_to (state_told n.place).arrival) dirs allowed in
-          all_offered g s t (last_at t at n) whole served.from served.to h.has.last h.has.earlier dirs all k taken
+          let all = all_allowed g (state_told n.place).cell (come_to (state_told n.place).arrival) dirs
+          allowed in
+          all_offered g s t (last_at t at n) whole served.from served.to h.has.last h.has.earlier dirs all k
+          taken
           (subst (λ (l : Table). IsAt g s t (last_at t at n) h.has.last h.has.earlier
-          (with_all h.has.last (least_offer (jump_rule g t) h.has.earlier) (ways_in g s t (last_at t at n) dirs)) l)
-          (sym table) (all_dirs_offered g s t (last_at t at n) whole served.from served.to h.has.last h.has.earlier
+          (with_all h.has.last (least_offer (jump_rule g t) h.has.earlier)
+          (ways_in g s t (last_at t at n) dirs)) l)
+          (sym table) (all_dirs_offered g s t (last_at t at n) whole served.from served.to h.has.last
+          h.has.earlier
           dirs all.each (least_offer (jump_rule g t) h.has.earlier) space.table first_at)) open_ended
           h.has.numbered
 
@@ -162,7 +168,8 @@ module _ (Stands : GridData → Type 0) (s t : Cell) (g : GridData) (served : Is
   pub none_waits : (at : ℕ) (k : Table) (taken : List ℕ) → IsGrid g
       → HasOffered ByArrival g.width t (jump_links g t) s at k taken → NoneOpen k → IsExhausted g s t taken
   none_waits at k taken whole o none =
-      exhausted ByArrival g.width g.height s t (jump_links g t) (fit g s t whole served.from served.to) at k taken o
+      exhausted ByArrival g.width g.height s t (jump_links g t) (fit g s t whole served.from served.to) at k
+      taken o
       none
 
   -- the next state
@@ -193,14 +200,16 @@ module _ (Stands : GridData → Type 0) (s t : Cell) (g : GridData) (served : Is
         row = subst (λ (c : Cell). c.y < g.height) cell inside.1;
       }
 
-  pub reached_next : (id : ℕ) (node : Node) (old mid new : SpaceData) (before taken : List ℕ) → IsSpaceOf g old
+  pub reached_next : (id : ℕ) (node : Node) (old mid new : SpaceData) (before taken : List ℕ)
+      → IsSpaceOf g old
       → KeepsShape old mid → KeepsShape mid new → HasNext id node mid.table before
       → new.table ≡ closed_at id mid.table
       → taken ≡ before ++ state_number g.width (state_told node.place) ∷ [] → HasReached g s t id new taken
   reached_next id node old mid new before taken of shape shape_on next table numbers = record {
     of = same_shape g mid new (same_shape g old mid of shape) shape_on;
     has = subst (λ (k : Table). HasTaken ByArrival g.width t (jump_links g t) s id k taken) (sym table)
-        (subst (λ (ns : List ℕ). HasTaken ByArrival g.width t (jump_links g t) s id (closed_at id mid.table) ns)
+        (subst (λ (ns : List ℕ). HasTaken ByArrival g.width t (jump_links g t) s id (closed_at id mid.table)
+        ns)
         (sym numbers) next.has);
   }
 

@@ -112,21 +112,24 @@ module _ (g : GridData) (goal : Cell) where
       → HasWay s earlier by.state by.cost → HasWay s (x ∷ earlier) x.state x.cost
   goes_further s x earlier by c l parent total before =
       let last = sym before.ends in
-      let jump : IsJump g goal (last_state (start_state s) (map stop_of before.states)) (stop_of x.state) l.dir
+      let jump : IsJump g goal (last_state (start_state s) (map stop_of before.states)) (stop_of x.state)
+      l.dir
       l.moves = subst (λ (p : Stop). IsJump g goal p (stop_of x.state) l.dir l.moves) last
       (linked_jump by.state x.state c l) in
       let chain = one_more (start_state s) (stop_of x.state) (map stop_of before.states) by.cost l.dir l.moves
       before.chain jump in
       let cost : add_costs by.cost (run_cost l.dir l.moves) ≡ x.cost =
       ap (λ (p : Cost). add_costs by.cost p) (sym l.priced) ∙ sym total in
-      let joined : map stop_of (before.states ++ x.state ∷ []) ≡ map stop_of before.states ++ stop_of x.state ∷ [] =
+      let joined : map stop_of (before.states ++ x.state ∷ [])
+      ≡ map stop_of before.states ++ stop_of x.state ∷ [] =
       map-append stop_of before.states (x.state ∷ []) in
       let way : way_to (jump_rule g goal) earlier x.parent ≡ start_at s ∷ before.states =
       ap (λ (p : State). way_to (jump_rule g goal) earlier p) (sym parent) ∙ before.is_way in
       record {
         states = before.states ++ x.state ∷ [];
         is_way = rw (is_same_state-itself x.state) (ap (λ (w : List State). w ++ x.state ∷ []) way);
-        chain = subst (λ (p : Cost). IsChain g goal (start_state s) (map stop_of (before.states ++ x.state ∷ [])) p)
+        chain = subst (λ (p : Cost). IsChain g goal (start_state s)
+            (map stop_of (before.states ++ x.state ∷ [])) p)
             cost (subst (λ (stops : List Stop). IsChain g goal (start_state s) stops
             (add_costs by.cost (run_cost l.dir l.moves))) (sym joined) chain);
         ends = ap (λ (stops : List Stop). last_state (start_state s) stops) joined

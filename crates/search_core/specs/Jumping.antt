@@ -74,7 +74,8 @@ offer_after last d k = record {
 -- the nodes after the offer of the jump in one direction, if it has a stop, and in all of these
 abbrev pub jumped_in : GridData → Cell → Last → Dir → Table → Table
 jumped_in g goal last d k =
-    option_map_or (λ n. offered ByArrival goal (offer_after last d n) k) (first_stop g goal last.state.cell d) k
+    option_map_or (λ n. offered ByArrival goal (offer_after last d n) k)
+    (first_stop g goal last.state.cell d) k
 
 abbrev pub jumped : GridData → Cell → Last → List Dir → Table → Table
 jumped g goal last [] k = k

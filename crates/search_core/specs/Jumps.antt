@@ -1,5 +1,5 @@
--- The rule of the jump engines: a state is a cell and the direction in which it was come to, and links are the
--- jumps to first stops. Harabor and Grastien: AAAI 2011, and SoCS 2012 where no corner is cut.
+-- The rule of the jump engines: a state is a cell and the direction in which it was come to, and links are
+-- the jumps to first stops. Harabor and Grastien: AAAI 2011, and SoCS 2012 where no corner is cut.
 use Rattle.std.specs.Prelude.{◌≡◌, ℕ, true, refl, Option, Some, None, option_and_then, if◌then◌else◌, codes}
 use Rattle.root2_cost.specs.declared.Cost.{Cost}
 use Rattle.grid_moves.specs.declared.Cell.{Cell}
@@ -56,13 +56,16 @@ abbrev by : Dir → ℕ → ℕ → State
 by d x y = record { cell = cell x y; arrival = Some d }
 
 -- round a pillar, to the lower right: from the start to the right or down, and from there to the goal
-pub to_the_right : jump_link (pillar Never) (cell 2 2) (start_at (cell 0 0)) (by E 2 0) ≡ Some (record { a = 2; b = 0 })
+pub to_the_right : jump_link (pillar Never) (cell 2 2) (start_at (cell 0 0)) (by E 2 0)
+    ≡ Some (record { a = 2; b = 0 })
 to_the_right = refl
 
-pub downwards : jump_link (pillar Never) (cell 2 2) (start_at (cell 0 0)) (by S 0 2) ≡ Some (record { a = 2; b = 0 })
+pub downwards : jump_link (pillar Never) (cell 2 2) (start_at (cell 0 0)) (by S 0 2)
+    ≡ Some (record { a = 2; b = 0 })
 downwards = refl
 
-pub on_to_the_goal : jump_link (pillar Never) (cell 2 2) (by E 2 0) (by S 2 2) ≡ Some (record { a = 2; b = 0 })
+pub on_to_the_goal : jump_link (pillar Never) (cell 2 2) (by E 2 0) (by S 2 2)
+    ≡ Some (record { a = 2; b = 0 })
 on_to_the_goal = refl
 
 -- a jump stops at its first stop alone, and only in allowed directions
@@ -73,11 +76,13 @@ pub not_back : jump_link (pillar Never) (cell 2 2) (by E 2 0) (by E 0 0) ≡ Non
 not_back = refl
 
 -- where a corner may be cut the way leads past the pillar, by a move less
-pub past_the_pillar : jump_link (pillar One) (cell 2 2) (by E 1 0) (by SE 2 1) ≡ Some (record { a = 0; b = 1 })
+pub past_the_pillar : jump_link (pillar One) (cell 2 2) (by E 1 0) (by SE 2 1)
+    ≡ Some (record { a = 0; b = 1 })
 past_the_pillar = refl
 
 -- on `......./....@..` the goal stands before the mark
-pub to_the_goal : jump_link (grid_of 7 2 (codes "...........@..") Never) (cell 3 0) (start_at (cell 0 0)) (by E 3 0)
+pub to_the_goal : jump_link (grid_of 7 2 (codes "...........@..") Never) (cell 3 0) (start_at (cell 0 0))
+    (by E 3 0)
     ≡ Some (record { a = 3; b = 0 })
 to_the_goal = refl
 
@@ -88,14 +93,16 @@ closed_row = grid_of 4 2 (codes "......@.") Never
 pub no_stop_in_its_row : jump_link closed_row (cell 3 1) (start_at (cell 0 0)) (by SE 1 1) ≡ None
 no_stop_in_its_row = refl
 
-pub round_by_the_right : jump_link closed_row (cell 3 1) (start_at (cell 0 0)) (by E 3 0) ≡ Some (record { a = 3; b = 0 })
+pub round_by_the_right : jump_link closed_row (cell 3 1) (start_at (cell 0 0)) (by E 3 0)
+    ≡ Some (record { a = 3; b = 0 })
 round_by_the_right = refl
 
 -- on `..@./..../..../....` the marked cell (1,1) stops before the goal (3,3) on the same diagonal
 abbrev gap_above : GridData
 gap_above = grid_of 4 4 (codes "..@.............") Never
 
-pub to_the_mark : jump_link gap_above (cell 3 3) (start_at (cell 0 0)) (by SE 1 1) ≡ Some (record { a = 0; b = 1 })
+pub to_the_mark : jump_link gap_above (cell 3 3) (start_at (cell 0 0)) (by SE 1 1)
+    ≡ Some (record { a = 0; b = 1 })
 to_the_mark = refl
 
 pub mark_to_goal : jump_link gap_above (cell 3 3) (by SE 1 1) (by SE 3 3) ≡ Some (record { a = 0; b = 2 })

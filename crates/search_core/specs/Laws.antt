@@ -11,7 +11,8 @@ use Rattle.search_core.specs.declared.found.Found.{Found}
 
 -- what a run from a free cell answers is right
 abbrev pub RunsAreRight : Type 0
-RunsAreRight = (g : GridData) (s t : Cell) (f : Found) → is_free g s ≡ true → IsJumpRun g s t f → IsLeast g s t f
+RunsAreRight = (g : GridData) (s t : Cell) (f : Found) → is_free g s ≡ true → IsJumpRun g s t f
+    → IsLeast g s t f
 
 -- no state is taken at a cost of more than 2^27 moves
 abbrev pub CostsFit : Type 0

@@ -46,7 +46,8 @@ fn begin<J: JumpSource, M: Ledger>(
 
 // The printed number of a node's state.
 fn number_at<J: JumpSource>(j: &J, node: Node) -> u32
-    requires { (g : GridData) × J.StandsFor j.now g × ((node_cell node).x < g.width) × ((node_cell node).y < g.height) }
+    requires { (g : GridData) × J.StandsFor j.now g
+        × ((node_cell node).x < g.width) × ((node_cell node).y < g.height) }
     ensures { (g : GridData) → J.StandsFor j.now g → result ≡ state_number g.width (state_told node.place) }
 {
     let state = State {

@@ -13,22 +13,27 @@ last_at-last-requires-clause-ranked g c =
 
 pub allowed-dirs-requires : goal.allowed-dirs-requires
 allowed-dirs-requires g c =
-    can_call (g.J.JumpSource.StandsFor c.args.j.now) c.args.ends.from c.args.ends.to c.args.at c.args.space.now
+    can_call (g.J.JumpSource.StandsFor c.args.j.now) c.args.ends.from c.args.ends.to c.args.at
+    c.args.space.now
     c.reserve.new.self c.args.taken.now c.requires.reached c.in_ok-reserve.ensures.shape
-    c.in_ok-reserve.ensures.table c.last_at-last.result c.last_at-last.ensures c.come_to.result c.come_to.ensures
+    c.in_ok-reserve.ensures.table c.last_at-last.result c.last_at-last.ensures c.come_to.result
+    c.come_to.ensures
     c.requires.some
 
 pub offer_jumps-requires-clause-offering : goal.offer_jumps-requires-clause-offering
 offer_jumps-requires-clause-offering g c =
-    offering (g.J.JumpSource.StandsFor c.args.j.now) c.args.ends.from c.args.ends.to c.args.at c.args.space.now
+    offering (g.J.JumpSource.StandsFor c.args.j.now) c.args.ends.from c.args.ends.to c.args.at
+    c.args.space.now
     c.reserve.new.self c.args.taken.now c.requires.reached c.in_ok-reserve.ensures.shape
-    c.in_ok-reserve.ensures.table c.last_at-last.result c.last_at-last.ensures c.come_to.result c.come_to.ensures
+    c.in_ok-reserve.ensures.table c.last_at-last.result c.last_at-last.ensures c.come_to.result
+    c.come_to.ensures
 
 pub offer_jumps-requires-clause-allowed : goal.offer_jumps-requires-clause-allowed
 offer_jumps-requires-clause-allowed g c =
     each_allowed (g.J.JumpSource.StandsFor c.args.j.now) c.args.ends.from c.args.ends.to c.args.at
     c.args.space.now c.reserve.new.self c.args.taken.now c.requires.reached c.in_ok-reserve.ensures.shape
-    c.in_ok-reserve.ensures.table c.last_at-last.result c.last_at-last.ensures c.come_to.result c.come_to.ensures
+    c.in_ok-reserve.ensures.table c.last_at-last.result c.last_at-last.ensures c.come_to.result
+    c.come_to.ensures
     c.as_slice.result.now
     (λ x stands free can. c.as_slice.ensures.value ∙ c.allowed-dirs.ensures.rule x stands free can)
 
@@ -42,7 +47,8 @@ pub number_at-requires : goal.number_at-requires
 number_at-requires g c =
     on_map (g.J.JumpSource.StandsFor c.args.j.now) c.args.ends.from c.args.ends.to c.args.at c.args.space.now
     c.reserve.new.self c.args.taken.now c.requires.reached c.in_ok-reserve.ensures.shape
-    c.in_ok-reserve.ensures.table c.last_at-last.result c.last_at-last.ensures c.come_to.result c.come_to.ensures
+    c.in_ok-reserve.ensures.table c.last_at-last.result c.last_at-last.ensures c.come_to.result
+    c.come_to.ensures
     c.as_slice.result.now
     (λ x stands free can. c.as_slice.ensures.value ∙ c.allowed-dirs.ensures.rule x stands free can)
     c.offer_jumps.new.space c.offer_jumps.ensures.jumped c.offer_jumps.ensures.shape c.requires.open_ended
@@ -53,7 +59,8 @@ pub returns-in-None-clause-goes_on : goal.returns-in-None-clause-goes_on
 returns-in-None-clause-goes_on g c =
     ended (g.J.JumpSource.StandsFor c.args.j.now) c.args.ends.from c.args.ends.to c.args.at c.args.space.now
     c.reserve.new.self c.args.taken.now c.requires.reached c.in_ok-reserve.ensures.shape
-    c.in_ok-reserve.ensures.table c.last_at-last.result c.last_at-last.ensures c.come_to.result c.come_to.ensures
+    c.in_ok-reserve.ensures.table c.last_at-last.result c.last_at-last.ensures c.come_to.result
+    c.come_to.ensures
     c.as_slice.result.now
     (λ x stands free can. c.as_slice.ensures.value ∙ c.allowed-dirs.ensures.rule x stands free can)
     c.offer_jumps.new.space c.offer_jumps.ensures.jumped c.offer_jumps.ensures.shape c.requires.open_ended
@@ -62,15 +69,18 @@ returns-in-None-clause-goes_on g c =
 pub returns-in-None-clause-counted : goal.returns-in-None-clause-counted
 returns-in-None-clause-counted g c =
     counted_one (g.J.JumpSource.most c.args.j.now) (g.J.JumpSource.fewest c.args.j.now)
-    (length c.as_slice.result.now) c.args.steps.now c.allowed-dirs.new.steps c.offer_jumps.new.steps (omega arith)
+    (length c.as_slice.result.now) c.args.steps.now c.allowed-dirs.new.steps c.offer_jumps.new.steps
+    (omega arith)
     c.allowed-dirs.ensures.most c.offer_jumps.ensures.most c.allowed-dirs.ensures.fewest
     c.offer_jumps.ensures.fewest
 
 pub returns-in_ok-push-in-Some-clause-goes_on : goal.returns-in_ok-push-in-Some-clause-goes_on
 returns-in_ok-push-in-Some-clause-goes_on g c =
-    reached_on (g.J.JumpSource.StandsFor c.args.j.now) c.args.ends.from c.args.ends.to c.args.at c.args.space.now
+    reached_on (g.J.JumpSource.StandsFor c.args.j.now) c.args.ends.from c.args.ends.to c.args.at
+    c.args.space.now
     c.reserve.new.self c.args.taken.now c.requires.reached c.in_ok-reserve.ensures.shape
-    c.in_ok-reserve.ensures.table c.last_at-last.result c.last_at-last.ensures c.come_to.result c.come_to.ensures
+    c.in_ok-reserve.ensures.table c.last_at-last.result c.last_at-last.ensures c.come_to.result
+    c.come_to.ensures
     c.as_slice.result.now
     (λ x stands free can. c.as_slice.ensures.value ∙ c.allowed-dirs.ensures.rule x stands free can)
     c.offer_jumps.new.space c.offer_jumps.ensures.jumped c.offer_jumps.ensures.shape c.requires.open_ended
@@ -81,6 +91,7 @@ returns-in_ok-push-in-Some-clause-goes_on g c =
 pub returns-in_ok-push-in-Some-clause-counted : goal.returns-in_ok-push-in-Some-clause-counted
 returns-in_ok-push-in-Some-clause-counted g c =
     counted_one (g.J.JumpSource.most c.args.j.now) (g.J.JumpSource.fewest c.args.j.now)
-    (length c.as_slice.result.now) c.args.steps.now c.allowed-dirs.new.steps c.offer_jumps.new.steps (omega arith)
+    (length c.as_slice.result.now) c.args.steps.now c.allowed-dirs.new.steps c.offer_jumps.new.steps
+    (omega arith)
     c.allowed-dirs.ensures.most c.offer_jumps.ensures.most c.allowed-dirs.ensures.fewest
     c.offer_jumps.ensures.fewest

@@ -17,19 +17,22 @@ pub taking-smaller : goal.taking-smaller
 taking-smaller g c =
     let some = c.requires.some in
     let reached = subst (λ (o : Option ℕ). OnEach (g.J.JumpSource.StandsFor c.args.j.now) c.args.ends.from
-    c.args.ends.to (λ x. GoesOnFrom x c.args.ends.from c.args.ends.to c.advance.new.space c.advance.new.taken o))
+    c.args.ends.to (λ x. GoesOnFrom x c.args.ends.from c.args.ends.to c.advance.new.space
+    c.advance.new.taken o))
     c.in-Some.is c.in_ok-next.ensures.goes_on in
     let more = subst (λ (o : Option ℕ). IfSome o
     (λ id. length c.advance.new.taken ≡ length c.taking.taken + 1)) c.in-Some.is
     c.in_ok-next.ensures.one_more in
     smaller (length c.taking.taken) (length c.advance.new.taken) more
-    (few_taken (g.J.JumpSource.StandsFor c.args.j.now) c.args.ends.from c.args.ends.to some.0 some.1 c.in-Some.next
+    (few_taken (g.J.JumpSource.StandsFor c.args.j.now) c.args.ends.from c.args.ends.to some.0 some.1
+    c.in-Some.next
     c.advance.new.space c.advance.new.taken (reached some.0 some.1))
 
 pub taking-preserved : goal.taking-preserved
 taking-preserved g c =
     let reached = subst (λ (o : Option ℕ). OnEach (g.J.JumpSource.StandsFor c.args.j.now) c.args.ends.from
-    c.args.ends.to (λ x. GoesOnFrom x c.args.ends.from c.args.ends.to c.advance.new.space c.advance.new.taken o))
+    c.args.ends.to (λ x. GoesOnFrom x c.args.ends.from c.args.ends.to c.advance.new.space
+    c.advance.new.taken o))
     c.in-Some.is c.in_ok-next.ensures.goes_on in
     let more = subst (λ (o : Option ℕ). IfSome o
     (λ id. length c.advance.new.taken ≡ length c.taking.taken + 1)) c.in-Some.is

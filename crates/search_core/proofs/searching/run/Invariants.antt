@@ -9,7 +9,8 @@ abbrev pub invariant-taking : goal.invariant-taking
 invariant-taking g l = record {
   reached : OnEach (g.J.JumpSource.StandsFor l.j) l.ends.from l.ends.to
       (λ x. HasReached x l.ends.from l.ends.to l.at l.space l.taken);
-  counted : IsCountedSoFar (g.J.JumpSource.most l.j) (g.J.JumpSource.fewest l.j) l.taken l.initial.steps l.steps;
+  counted : IsCountedSoFar (g.J.JumpSource.most l.j) (g.J.JumpSource.fewest l.j) l.taken l.initial.steps
+      l.steps;
 }
 
 abbrev pub decreases-taking : goal.decreases-taking
