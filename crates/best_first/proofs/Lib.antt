@@ -16,4 +16,5 @@ pub mod Exact
 pub mod Forgetting
 pub mod Tables
 pub mod Parts
+pub mod Ending
 pub mod Tracing

@@ -1,4 +1,4 @@
 pub mod Run
 pub mod Chain
-pub mod Ended
 pub mod Laws
+pub mod Ended

@@ -1,0 +1,116 @@
+-- One step of the search, on each grid on which the query is served.
+use Rattle.std.proofs.Common.{◌≡◌, ℕ, ◌+◌, ◌*◌, ◌<◌, ◌≤◌, refl, ap, sym, ◌∙◌, subst, true, false, List, [], ◌∷◌, ◌++◌, length, arith}
+use Rattle.std.specs.Prelude.{Option, Some, None, IsTrue, slice_get}
+use Rattle.std.specs.List.{AllByRecursion}
+use Rattle.root2_cost.specs.Rank.{rank_of}
+use Rattle.grid_moves.specs.declared.Cell.{Cell}
+use Rattle.grid_moves.specs.declared.Dir.{Dir}
+use Rattle.grid_moves.specs.Grid.{GridData, is_free}
+use Rattle.grid_moves.specs.Move.{is_same}
+use Rattle.grid_moves.specs.Points.{estimate}
+use Rattle.pruning.specs.declared.Arrival.{Arrival}
+use Rattle.pruning.specs.Allowed.{is_allowed, allowed_dirs}
+use Rattle.pruning.specs.Source.{MostSteps, IsWithin, CanArrive}
+use Rattle.best_first.specs.declared.node.Node.{Node}
+use Rattle.best_first.specs.declared.state.Layout.TheVariants.{ByArrival}
+use Rattle.best_first.specs.Progress.{HasOffered}
+use Rattle.best_first.specs.Space.{SpaceData, KeepsShape}
+use Rattle.best_first.specs.State.{state_number, state_told}
+use Rattle.best_first.specs.Table.{Table, closed_at, IsFirstNode, NoneOpen}
+use Rattle.best_first.specs.Trace.{node_cell}
+use Rattle.search_core.specs.Counting.{most_for_state, IsCounted}
+use Rattle.search_core.specs.Jumps.{come_to, jump_links}
+use Rattle.search_core.specs.Jumping.{HasPlaces, last_at, jumped, IsOffering, HasReached}
+use Rattle.search_core.specs.Run.{IsExhausted}
+use Rattle.search_core.specs.Serving.{IsServed, OnSome, OnEach}
+use Rattle.search_core.specs.declared.jumping.Last.{Last}
+use Rattle.search_core.proofs.Counting.{within_then}
+use Rattle.search_core.proofs.Offers.{all_allowed}
+use Rattle.search_core.proofs.Serving.{same_shape}
+use Rattle.search_core.proofs.Standing.{HasNext, key_enough, offering_at, arrived_at, offered_at, none_waits, has_next, reached_next}
+
+-- a state's steps: a call for its directions, and one for each of eight
+pub counted_one : (most : Option MostSteps) (fewest n a b c : ℕ) → n ≤ 8
+    → IsWithin most (λ told. told.allowed) a b → IsWithin most (λ told. n * told.stop) b c → a + fewest ≤ b
+    → b ≤ c → IsCounted most fewest 1 a c
+counted_one most fewest n a b c few first then low on = record {
+  within = within_then most (λ told. told.allowed) (λ told. n * told.stop) (λ told. 1 * most_for_state told)
+      a b
+      c first then (λ told. let l = times n told.stop few in omega arith);
+  at_least = omega arith;
+}
+  where
+    times : (n s : ℕ) → n ≤ 8 → n * s ≤ 8 * s
+    times n s h = grind arith
+
+module _ (Stands : GridData → Type 0) (s t : Cell) (at : ℕ) (old mid : SpaceData) (taken : List ℕ)
+    (reached : OnEach Stands s t (λ g. HasReached g s t at old taken)) (shape : KeepsShape old mid)
+    (table : mid.table ≡ old.table) where
+  pub ranked : OnSome Stands s t → (n : Node) → slice_get mid.table.nodes at ≡ Some n
+      → rank_of (estimate (node_cell n) t) ≤ n.key
+  ranked some n read = key_enough Stands s t some.0 some.1 at old taken (reached some.0 some.1) n
+      (ap (λ (k : Table). slice_get k.nodes at) (sym table) ∙ read)
+
+  module _ (last : Last) (told : (n : Node) → slice_get mid.table.nodes at ≡ Some n → last ≡ last_at t at n)
+      (by : Arrival) (by_is : by ≡ come_to last.state.arrival) where
+    can_arrive : OnEach Stands s t (λ g. CanArrive g last.state.cell by)
+    can_arrive g v = subst (λ (a : Arrival). CanArrive g last.state.cell a) (sym by_is)
+        (arrived_at Stands s t g v at old taken (reached g v) mid shape table last told).arrival
+
+    free_there : OnEach Stands s t (λ g. is_free g last.state.cell ≡ true)
+    free_there g v = (arrived_at Stands s t g v at old taken (reached g v) mid shape table last told).free
+
+    pub can_call : OnSome Stands s t
+        → (g : GridData) × Stands g × IsTrue (is_free g last.state.cell) × CanArrive g last.state.cell by
+    can_call some = (some.0, some.1.stands, free_there some.0 some.1, can_arrive some.0 some.1)
+
+    pub offering : OnEach Stands s t (λ g. IsOffering g s t last mid)
+    offering g v = offering_at Stands s t g v at old taken (reached g v) mid shape table last told
+
+    module _ (dirs : List Dir)
+        (rule : (g : GridData) → Stands g → IsTrue (is_free g last.state.cell)
+        → CanArrive g last.state.cell by
+        → dirs ≡ allowed_dirs g last.state.cell by) where
+      allowed : OnEach Stands s t (λ g. dirs ≡ allowed_dirs g last.state.cell (come_to last.state.arrival))
+      allowed g v = rule g v.stands (free_there g v) (can_arrive g v)
+          ∙ ap (λ (a : Arrival). allowed_dirs g last.state.cell a) by_is
+
+      pub each_allowed : OnEach Stands s t (λ g. AllByRecursion
+          (λ d. is_allowed g last.state.cell (come_to last.state.arrival) d ≡ true) dirs)
+      each_allowed g v =
+          (all_allowed g last.state.cell (come_to last.state.arrival) dirs (allowed g v)).each
+
+      module _ (done : SpaceData) (jumps : OnEach Stands s t
+          (λ g. done.table ≡ jumped g t last dirs mid.table))
+          (shape_on : KeepsShape mid done)
+          (open_ended : (n : Node) → slice_get old.table.nodes at ≡ Some n → is_same (node_cell n) t
+          ≡ false) where
+        offered : OnEach Stands s t (λ g. HasOffered ByArrival g.width t (jump_links g t) s at done.table
+            taken)
+        offered g v = offered_at Stands s t g v at old taken (reached g v) mid shape table last told dirs
+            done.table (allowed g v) (jumps g v) open_ended
+
+        pub ended : NoneOpen done.table → OnEach Stands s t (λ g. IsExhausted g s t taken)
+        ended none g v = none_waits Stands s t g v at done.table taken (reached g v).of.whole (offered g v)
+            none
+
+        module _ (id : ℕ) (first : IsFirstNode done.table id) (node : Node) (new : SpaceData)
+            (read : slice_get new.table.nodes id ≡ Some node) (nodes : new.table.nodes ≡ done.table.nodes)
+          where
+            next : (g : GridData) (v : IsServed Stands s t g) → HasNext Stands s t g v id node done.table taken
+            next g v = has_next Stands s t g v at done.table taken (reached g v).of.whole (offered g v) id
+                node first
+                (ap (λ (ns : List Node). slice_get ns id) (sym nodes) ∙ read)
+
+            pub on_map : OnSome Stands s t
+                → (g : GridData) × Stands g × ((node_cell node).x < g.width) × ((node_cell node).y < g.height)
+            on_map some = let n = next some.0 some.1 in (some.0, some.1.stands, n.on, n.row)
+
+            pub reached_on : KeepsShape done new → new.table ≡ closed_at id done.table → (number : ℕ)
+                → ((g : GridData) → Stands g → number ≡ state_number g.width (state_told node.place))
+                → (after : List ℕ) → after ≡ taken ++ number ∷ []
+                → OnEach Stands s t (λ g. HasReached g s t id new after)
+            reached_on shape_last closed number is after pushed g v =
+                reached_next Stands s t g v id node mid done new taken after
+                (same_shape g old mid (reached g v).of shape) shape_on shape_last (next g v) closed
+                (pushed ∙ ap (λ (n : ℕ). taken ++ n ∷ []) (is g v.stands))

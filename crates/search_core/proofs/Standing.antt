@@ -1,0 +1,247 @@
+-- From the space of a search to what it answers, on a grid on which the query is served.
+use Rattle.std.proofs.Common.{◌≡◌, ℕ, suc, ◌+◌, ◌-◌, ◌*◌, ◌<◌, ◌≤◌, refl, ap, sym, ◌∙◌, subst, true, false, List, [], ◌∷◌, ◌++◌, length, arith, map, mul-le-mul}
+use Rattle.std.proofs.lemmas.Option.{slice_get_within}
+use Rattle.std.specs.Prelude.{Option, Some, None, slice_get}
+use Rattle.root2_cost.specs.declared.Cost.{Cost}
+use Rattle.root2_cost.specs.Rank.{rank_of}
+use Rattle.grid_moves.specs.declared.Cell.{Cell}
+use Rattle.grid_moves.specs.declared.Dir.{Dir}
+use Rattle.grid_moves.specs.Grid.{GridData, IsGrid, is_free}
+use Rattle.grid_moves.specs.Move.{is_same}
+use Rattle.grid_moves.specs.Points.{estimate}
+use Rattle.grid_moves.proofs.Legal.{free_inside}
+use Rattle.pruning.specs.Allowed.{allowed_dirs}
+use Rattle.search_run.specs.Run.{Taken, here, least_offer}
+use Rattle.best_first.specs.declared.node.Node.{Node}
+use Rattle.best_first.specs.declared.state.State.{State}
+use Rattle.best_first.specs.declared.state.Layout.TheVariants.{ByArrival}
+use Rattle.best_first.specs.Node.{state_of}
+use Rattle.best_first.specs.Progress.{HasTaken, HasOffered, numbers_of}
+use Rattle.best_first.specs.Space.{SpaceData, KeepsShape}
+use Rattle.best_first.specs.State.{state_number, state_told, start_at}
+use Rattle.best_first.specs.Table.{Table, begun, closed_at, IsFirstNode, NoneOpen}
+use Rattle.best_first.specs.Trace.{HasBack, IsWayTo, node_cell}
+use Rattle.best_first.specs.Ways.{with_all}
+use Rattle.best_first.proofs.Offering.{rank-add_costs}
+use Rattle.best_first.proofs.Searching.{taken_key}
+use Rattle.best_first.proofs.Progress.{has_begun, next_taken, exhausted, taken_fits, has_back, way_is}
+use Rattle.search_core.specs.Jumps.{come_to, jump_links, jump_rule}
+use Rattle.search_core.specs.Run.{IsFound, IsExhausted}
+use Rattle.search_core.specs.Jumping.{HasPlaces, IsSpaceOf, last_at, jumped, IsAt, IsOffering, HasReached}
+use Rattle.search_core.specs.Serving.{IsServed}
+use Rattle.search_core.specs.declared.jumping.Last.{Last}
+use Rattle.search_core.proofs.Arrivals.{HasArrived, run_arrived}
+use Rattle.search_core.proofs.Offers.{fit, ways_in, all_allowed, all_dirs_offered, all_offered}
+use Rattle.search_core.proofs.Serving.{same_shape}
+
+module _ (Stands : GridData → Type 0) (s t : Cell) (g : GridData) (served : IsServed Stands s t g) where
+  -- at the start
+  pub reached_first : (old new : SpaceData) (w : ℕ) (before taken : List ℕ) → IsGrid g → HasPlaces g old
+      → w ≡ g.width → new.layout ≡ old.layout → new.places ≡ old.places → new.width ≡ w
+      → new.table ≡ begun t s → before ≡ [] → taken ≡ before ++ state_number w (start_at s) ∷ []
+      → HasReached g s t 0 new taken
+  reached_first old new w before taken whole places width layout as_many new_width table none numbers
+      = record {
+        of = record {
+          whole = whole;
+          places = record {
+            layout = layout ∙ places.layout;
+            enough = subst (λ (n : ℕ). g.height * g.width ≤ n) (sym as_many) places.enough;
+          };
+          width = new_width ∙ width;
+        };
+        has = subst (λ (k : Table). HasTaken ByArrival g.width t (jump_links g t) s 0 k taken) (sym table)
+            (subst (λ (ns : List ℕ). HasTaken ByArrival g.width t (jump_links g t) s 0 (begun t s) ns) (sym first)
+            (has_begun ByArrival g.width g.height s t (jump_links g t) (fit g s t whole served.from served.to)));
+      }
+    where
+      first : taken ≡ state_number g.width (start_at s) ∷ []
+      first = numbers ∙ ap (λ (ns : List ℕ). ns ++ state_number w (start_at s) ∷ []) none
+          ∙ ap (λ (n : ℕ). state_number n (start_at s) ∷ []) width
+
+  module _ (at : ℕ) (space : SpaceData) (taken : List ℕ) (h : HasReached g s t at space taken) where
+    whole : IsGrid g
+    whole = h.of.whole
+
+    -- its node
+    module _ (n : Node) (read : slice_get space.table.nodes at ≡ Some n) where
+      one_node : h.has.searching.node ≡ n
+      one_node = one_of (sym h.has.searching.node_is ∙ read)
+        where
+          one_of : {a b : Node} → Some a ≡ Some b → a ≡ b
+          one_of {a} e = ap (λ (o : Option Node). elim o as (λ _. Node) [ Some x ↦ x | None ↦ a ]) e
+
+      pub state_is : h.has.last.state ≡ state_told n.place
+      state_is = sym h.has.searching.state ∙ ap (λ (m : Node). state_told m.place) one_node
+
+      key_is : n.key ≡ rank_of h.has.last.cost + rank_of (estimate (node_cell n) t)
+      key_is =
+          taken_key ByArrival g.width g.height s t (jump_links g t) (fit g s t whole served.from served.to)
+          h.has.last h.has.earlier at (least_offer (jump_rule g t) h.has.earlier) space.table
+          h.has.searching at n
+          read h.has.last (here h.has.earlier) state_is
+          ∙ rank-add_costs h.has.last.cost (estimate h.has.last.state.cell t)
+          ∙ ap (λ (u : State). rank_of h.has.last.cost + rank_of (estimate u.cell t)) state_is
+
+      -- its estimate is part of its key
+      pub key_enough : rank_of (estimate (node_cell n) t) ≤ n.key
+      key_enough = rw key_is (more (rank_of h.has.last.cost) (rank_of (estimate (node_cell n) t)))
+        where
+          more : (a b : ℕ) → b ≤ a + b
+          more a b = omega arith
+
+      ranked : (last_at t at n).rank ≡ rank_of h.has.last.cost
+      ranked = ap (λ (k : ℕ). k - rank_of (estimate (node_cell n) t)) key_is
+          ∙ less (rank_of h.has.last.cost) (rank_of (estimate (node_cell n) t))
+        where
+          less : (a b : ℕ) → (a + b) - b ≡ a
+          less a b = omega arith
+
+      first_at : IsAt g s t (last_at t at n) h.has.last h.has.earlier
+          (least_offer (jump_rule g t) h.has.earlier) space.table
+      first_at = record { searching = h.has.searching; state = state_is; ranked = ranked }
+
+      -- at its offers, with room made
+      pub offering_first : (mid : SpaceData) → KeepsShape space mid → mid.table ≡ space.table
+          → IsOffering g s t (last_at t at n) mid
+      offering_first mid shape table = record {
+        of = same_shape g space mid h.of shape;
+        latest = h.has.last;
+        earlier = h.has.earlier;
+        best = least_offer (jump_rule g t) h.has.earlier;
+        is_at = subst (λ (k : Table). IsAt g s t (last_at t at n) h.has.last h.has.earlier
+            (least_offer (jump_rule g t) h.has.earlier) k) (sym table) first_at;
+      }
+
+      -- the state's cell is free, and it can be come to so
+      pub state_arrived : HasArrived g (state_told n.place)
+      state_arrived = subst (λ (u : State). HasArrived g u) state_is
+          (run_arrived g s t served.from (h.has.last ∷ h.has.earlier) h.has.searching.run h.has.last
+          (here h.has.earlier))
+
+      -- after all its offers
+      pub has_offered : (k : Table) (dirs : List Dir)
+          → dirs ≡ allowed_dirs g (state_told n.place).cell (come_to (state_told n.place).arrival)
+          → k ≡ jumped g t (last_at t at n) dirs space.table → is_same (node_cell n) t ≡ false
+          → HasOffered ByArrival g.width t (jump_links g t) s at k taken
+      has_offered k dirs allowed table open_ended =
+          let all = all_allowed g (state_told n.place).cell (come_to (state_told n.place).arrival) dirs
+          allowed in
+          all_offered g s t (last_at t at n) whole served.from served.to h.has.last h.has.earlier dirs all k
+          taken
+          (subst (λ (l : Table). IsAt g s t (last_at t at n) h.has.last h.has.earlier
+          (with_all h.has.last (least_offer (jump_rule g t) h.has.earlier)
+          (ways_in g s t (last_at t at n) dirs)) l)
+          (sym table) (all_dirs_offered g s t (last_at t at n) whole served.from served.to h.has.last
+          h.has.earlier
+          dirs all.each (least_offer (jump_rule g t) h.has.earlier) space.table first_at)) open_ended
+          h.has.numbered
+
+    -- in code the node is read once room was made
+    module _ (mid : SpaceData) (shape : KeepsShape space mid) (table : mid.table ≡ space.table) (last : Last)
+        (told : (n : Node) → slice_get mid.table.nodes at ≡ Some n → last ≡ last_at t at n) where
+      last_is : last ≡ last_at t at h.has.searching.node
+      last_is = told h.has.searching.node
+          (ap (λ (k : Table). slice_get k.nodes at) table ∙ h.has.searching.node_is)
+
+      pub offering_at : IsOffering g s t last mid
+      offering_at = subst (λ (l : Last). IsOffering g s t l mid) (sym last_is)
+          (offering_first h.has.searching.node h.has.searching.node_is mid shape table)
+
+      pub arrived_at : HasArrived g last.state
+      arrived_at = subst (λ (l : Last). HasArrived g l.state) (sym last_is)
+          (state_arrived h.has.searching.node h.has.searching.node_is)
+
+      pub offered_at : (dirs : List Dir) (k : Table)
+          → dirs ≡ allowed_dirs g last.state.cell (come_to last.state.arrival)
+          → k ≡ jumped g t last dirs mid.table
+          → ((n : Node) → slice_get space.table.nodes at ≡ Some n → is_same (node_cell n) t ≡ false)
+          → HasOffered ByArrival g.width t (jump_links g t) s at k taken
+      offered_at dirs k allowed jumps open_ended =
+          has_offered h.has.searching.node h.has.searching.node_is k dirs
+          (allowed ∙ ap (λ (l : Last). allowed_dirs g l.state.cell (come_to l.state.arrival)) last_is)
+          (jumps ∙ ap (λ (l : Last). jumped g t l dirs mid.table) last_is
+          ∙ ap (λ (j : Table). jumped g t (last_at t at h.has.searching.node) dirs j) table)
+          (open_ended h.has.searching.node h.has.searching.node_is)
+
+  -- none waits
+  pub none_waits : (at : ℕ) (k : Table) (taken : List ℕ) → IsGrid g
+      → HasOffered ByArrival g.width t (jump_links g t) s at k taken → NoneOpen k → IsExhausted g s t taken
+  none_waits at k taken whole o none =
+      exhausted ByArrival g.width g.height s t (jump_links g t) (fit g s t whole served.from served.to) at k
+      taken o
+      none
+
+  -- the next state
+  pub record HasNext (id : ℕ) (node : Node) (k : Table) (taken : List ℕ) : Type 0 where
+    pub has : HasTaken ByArrival g.width t (jump_links g t) s id (closed_at id k)
+        (taken ++ state_number g.width (state_told node.place) ∷ [])
+    pub on : (node_cell node).x < g.width
+    pub row : (node_cell node).y < g.height
+
+  pub has_next : (at : ℕ) (k : Table) (taken : List ℕ) → IsGrid g
+      → HasOffered ByArrival g.width t (jump_links g t) s at k taken → (id : ℕ) (node : Node)
+      → IsFirstNode k id → slice_get k.nodes id ≡ Some node → HasNext id node k taken
+  has_next at k taken whole o id node first read =
+      let has = next_taken ByArrival g.width g.height s t (jump_links g t)
+      (fit g s t whole served.from served.to) at k taken o id node first read in
+      let one : has.searching.node ≡ node =
+      ap (λ (q : Option Node). elim q as (λ _. Node) [ Some x ↦ x | None ↦ node ])
+      (sym has.searching.node_is ∙ read) in
+      let state : has.last.state ≡ state_told node.place =
+      sym has.searching.state ∙ ap (λ (m : Node). state_told m.place) one in
+      let arrived = run_arrived g s t served.from (has.last ∷ has.earlier) has.searching.run has.last
+      (here has.earlier) in
+      let inside = free_inside g has.last.state.cell arrived.free in
+      let cell : has.last.state.cell ≡ node_cell node = ap (λ (u : State). u.cell) state in
+      record {
+        has = has;
+        on = subst (λ (c : Cell). c.x < g.width) cell inside.0;
+        row = subst (λ (c : Cell). c.y < g.height) cell inside.1;
+      }
+
+  pub reached_next : (id : ℕ) (node : Node) (old mid new : SpaceData) (before taken : List ℕ)
+      → IsSpaceOf g old
+      → KeepsShape old mid → KeepsShape mid new → HasNext id node mid.table before
+      → new.table ≡ closed_at id mid.table
+      → taken ≡ before ++ state_number g.width (state_told node.place) ∷ [] → HasReached g s t id new taken
+  reached_next id node old mid new before taken of shape shape_on next table numbers = record {
+    of = same_shape g mid new (same_shape g old mid of shape) shape_on;
+    has = subst (λ (k : Table). HasTaken ByArrival g.width t (jump_links g t) s id k taken) (sym table)
+        (subst (λ (ns : List ℕ). HasTaken ByArrival g.width t (jump_links g t) s id (closed_at id mid.table)
+        ns)
+        (sym numbers) next.has);
+  }
+
+  module _ (at : ℕ) (space : SpaceData) (taken : List ℕ) (h : HasReached g s t at space taken) where
+    -- the way back from the last state
+    pub leads_back : HasBack t space.table.nodes at
+    leads_back = has_back ByArrival g.width g.height s t (jump_links g t)
+        (fit g s t h.of.whole served.from served.to) at space.table taken h.has
+
+    -- where it is the goal's, it is the answer
+    pub found_at : ((n : Node) → slice_get space.table.nodes at ≡ Some n → node_cell n ≡ t)
+        → (points : List Cell) (cost : Cost) → IsWayTo t space.table.nodes at points cost
+        → IsFound g s t points cost taken
+    found_at at_goal points cost way =
+        let one = way_is ByArrival g.width g.height s t (jump_links g t)
+        (fit g s t h.of.whole served.from served.to) at space.table taken h.has points cost way in
+        record {
+          earlier = h.has.earlier;
+          last = h.has.last;
+          run = h.has.searching.run;
+          at_goal = ap (λ (u : State). u.cell) (sym h.has.searching.state)
+              ∙ at_goal h.has.searching.node h.has.searching.node_is;
+          priced = one.1;
+          along = one.0;
+          numbered = h.has.numbered;
+        }
+
+    -- there are at most nine states for each of 2^24 cells
+    pub few_taken : length taken ≤ 150994944
+    few_taken =
+        let fits = taken_fits ByArrival g.width g.height s t (jump_links g t)
+        (fit g s t h.of.whole served.from served.to) at space.table taken h.has in
+        let cells : g.height * g.width ≤ 16777216 =
+        (let a = h.of.whole.sides.narrow in let b = h.of.whole.sides.low in mul-le-mul b a) in
+        omega arith

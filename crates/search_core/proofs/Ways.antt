@@ -1,0 +1,165 @@
+-- Chains of first stops are chains of links, and the way along the parents of a run is a chain.
+use Rattle.std.proofs.Common.{◌≡◌, ℕ, refl, ap, sym, ◌∙◌, subst, Bool, true, false, List, [], ◌∷◌, ◌++◌}
+use Rattle.std.specs.Prelude.{Option, Some, None, map}
+use Rattle.std.proofs.lemmas.List.{map-append}
+use Rattle.root2_cost.specs.declared.Cost.{Cost}
+use Rattle.root2_cost.specs.Sums.{add_costs, no_cost}
+use Rattle.root2_cost.proofs.Sums.{add_costs-assoc, add_costs-no_cost_left, add_costs-no_cost_right}
+use Rattle.grid_moves.specs.declared.Cell.{Cell}
+use Rattle.grid_moves.specs.declared.Dir.{Dir}
+use Rattle.grid_moves.specs.Grid.{GridData}
+use Rattle.pruning.specs.declared.Arrival.{Arrival}
+use Rattle.pruning.specs.declared.Arrival.TheVariants.{Start, By}
+use Rattle.pruning.specs.Allowed.{is_allowed}
+use Rattle.pruning.specs.Chain.{start_state, run_cost, IsJump, IsChain, stays, jumps, last_state}
+use Rattle.pruning.specs.Chain.{State as Stop}
+use Rattle.pruning.proofs.Stopping.{only_one_first_stop}
+use Rattle.search_run.specs.Run.{Taken, IsIn, here, there, IsRun, is_taken, way_to}
+use Rattle.search_run.specs.Chain.{Chain, IsConsistent}
+use Rattle.search_run.specs.Chain.{stays as links_nowhere, goes_on as links_on}
+use Rattle.search_run.proofs.Leastness.{least_offer-from, is_taken-member}
+use Rattle.best_first.specs.declared.state.State.{State}
+use Rattle.best_first.specs.State.{is_same_state, start_at}
+use Rattle.best_first.proofs.Links.{consistent}
+use Rattle.best_first.proofs.States.{is_same_state-state, is_same_state-itself}
+use Rattle.search_core.specs.Jumps.{come_to, jump_link, jump_links, jump_rule}
+use Rattle.search_core.proofs.Links.{IsLink, link_is, jump_is_link, jumps_are_links}
+
+-- a state of the search as chains have it, and back
+abbrev pub stop_of : State → Stop
+stop_of s = record { cell = s.cell; arrival = come_to s.arrival }
+
+abbrev arrived : Arrival → Option Dir
+arrived Start = None
+arrived (By d) = Some d
+
+abbrev pub state_at : Stop → State
+state_at s = record { cell = s.cell; arrival = arrived s.arrival }
+
+come_again : (a : Arrival) → come_to (arrived a) ≡ a
+come_again Start = refl
+come_again (By d) = refl
+
+module _ (g : GridData) (goal : Cell) where
+  -- the estimate suits the rule of jumps
+  pub jumps_consistent : IsConsistent (jump_rule g goal)
+  jumps_consistent = consistent g.width g.height goal (jump_links g goal) (jumps_are_links g goal)
+
+  jump_linked : (s u : Stop) (d : Dir) (k : ℕ) → IsJump g goal s u d k
+      → jump_link g goal (state_at s) (state_at u) ≡ Some (run_cost d k)
+  jump_linked s u d k j = jump_is_link g goal (state_at s) (state_at u) d k
+      (ap arrived j.arrives)
+      (subst (λ (a : Arrival). is_allowed g s.cell a d ≡ true) (sym (come_again s.arrival)) j.allowed)
+      (sym (only_one_first_stop g goal s.cell d (Some k) j.first)) j.reached
+
+  pub chain_linked : (s : Stop) (states : List Stop) (cost : Cost) → IsChain g goal s states cost
+      → Chain (jump_rule g goal) (state_at s) (state_at (last_state s states)) cost
+  chain_linked s _ _ (stays _) = links_nowhere (state_at s)
+  chain_linked s _ _ (jumps _ u states d k rest j c) =
+      links_on (state_at s) (state_at u) (state_at (last_state u states)) (run_cost d k) rest
+      (jump_linked s u d k j) (chain_linked u states rest c)
+
+  linked_jump : (u v : State) (c : Cost) (l : IsLink g goal u v c)
+      → IsJump g goal (stop_of u) (stop_of v) l.dir l.moves
+  linked_jump u v c l = record {
+    allowed = l.allowed;
+    first = l.first;
+    reached = l.reached;
+    arrives = ap come_to l.arrives;
+  }
+
+  last-joined : (s u : Stop) (states : List Stop) → last_state s (states ++ u ∷ []) ≡ u
+  last-joined s u [] = refl
+  last-joined s u (v ∷ states) = last-joined v u states
+
+  -- one jump more at the end of a chain
+  one_more : (s u : Stop) (states : List Stop) (cost : Cost) (d : Dir) (k : ℕ) → IsChain g goal s states cost
+      → IsJump g goal (last_state s states) u d k
+      → IsChain g goal s (states ++ u ∷ []) (add_costs cost (run_cost d k))
+  one_more s u _ _ d k (stays _) j =
+      subst (λ (c : Cost). IsChain g goal s (u ∷ []) c)
+      (add_costs-no_cost_right (run_cost d k) ∙ sym (add_costs-no_cost_left (run_cost d k)))
+      (jumps s u [] d k no_cost j (stays u))
+  one_more s u _ _ d k (jumps _ v states e n rest i c) j =
+      subst (λ (p : Cost). IsChain g goal s (v ∷ states ++ u ∷ []) p)
+      (sym (add_costs-assoc (run_cost e n) rest (run_cost d k)))
+      (jumps s v (states ++ u ∷ []) e n (add_costs rest (run_cost d k)) i (one_more v u states rest d k c j))
+
+  -- the way to a taken state is a chain of the cost at which it was taken
+  pub record HasWay (s : Cell) (run : List (Taken State)) (v : State) (cost : Cost) : Type 0 where
+    pub states : List State
+    pub is_way : way_to (jump_rule g goal) run v ≡ start_at s ∷ states
+    pub chain : IsChain g goal (start_state s) (map stop_of states) cost
+    pub ends : last_state (start_state s) (map stop_of states) ≡ stop_of v
+
+  -- the way of an earlier state stays the same
+  way_stays : (x : Taken State) (earlier : List (Taken State)) (v : State)
+      → is_taken (jump_rule g goal) earlier x.state ≡ false → is_taken (jump_rule g goal) earlier v ≡ true
+      → is_same_state x.state v ≡ false
+  way_stays x earlier v n y = by_test (is_same_state x.state v) refl
+    where
+      by_test : (b : Bool) → is_same_state x.state v ≡ b → is_same_state x.state v ≡ false
+      by_test true e =
+          let no : is_taken (jump_rule g goal) earlier v ≡ false =
+          subst (λ (s : State). is_taken (jump_rule g goal) earlier s ≡ false)
+          (is_same_state-state x.state v e) n in
+          absurd (cc)
+      by_test false e = e
+
+  -- the way over a parent, with one jump more
+  goes_further : (s : Cell) (x : Taken State) (earlier : List (Taken State)) (by : Taken State) (c : Cost)
+      → IsLink g goal by.state x.state c → by.state ≡ x.parent → x.cost ≡ add_costs by.cost c
+      → HasWay s earlier by.state by.cost → HasWay s (x ∷ earlier) x.state x.cost
+  goes_further s x earlier by c l parent total before =
+      let last = sym before.ends in
+      let jump : IsJump g goal (last_state (start_state s) (map stop_of before.states)) (stop_of x.state)
+      l.dir
+      l.moves = subst (λ (p : Stop). IsJump g goal p (stop_of x.state) l.dir l.moves) last
+      (linked_jump by.state x.state c l) in
+      let chain = one_more (start_state s) (stop_of x.state) (map stop_of before.states) by.cost l.dir l.moves
+      before.chain jump in
+      let cost : add_costs by.cost (run_cost l.dir l.moves) ≡ x.cost =
+      ap (λ (p : Cost). add_costs by.cost p) (sym l.priced) ∙ sym total in
+      let joined : map stop_of (before.states ++ x.state ∷ [])
+      ≡ map stop_of before.states ++ stop_of x.state ∷ [] =
+      map-append stop_of before.states (x.state ∷ []) in
+      let way : way_to (jump_rule g goal) earlier x.parent ≡ start_at s ∷ before.states =
+      ap (λ (p : State). way_to (jump_rule g goal) earlier p) (sym parent) ∙ before.is_way in
+      record {
+        states = before.states ++ x.state ∷ [];
+        is_way = rw (is_same_state-itself x.state) (ap (λ (w : List State). w ++ x.state ∷ []) way);
+        chain = subst (λ (p : Cost). IsChain g goal (start_state s)
+            (map stop_of (before.states ++ x.state ∷ [])) p)
+            cost (subst (λ (stops : List Stop). IsChain g goal (start_state s) stops
+            (add_costs by.cost (run_cost l.dir l.moves))) (sym joined) chain);
+        ends = ap (λ (stops : List Stop). last_state (start_state s) stops) joined
+            ∙ last-joined (start_state s) (stop_of x.state) (map stop_of before.states);
+      }
+
+  pub way : (s : Cell) (run : List (Taken State)) → IsRun (jump_rule g goal) (start_at s) run
+      → (u : Taken State) → IsIn u run → HasWay s run u.state u.cost
+  way s [] is u m = absurd is
+  way s (x ∷ []) is u (there z e m) = elim m [ ]
+  way s (x ∷ []) is u (here e) =
+      subst (λ (w : Taken State). HasWay s (w ∷ []) w.state w.cost) (sym is) (record {
+        states = [];
+        is_way = rw (is_same_state-itself (start_at s)) refl;
+        chain = stays (start_state s);
+        ends = refl;
+      })
+  way s (x ∷ y ∷ earlier) is u (here e) =
+      let from = least_offer-from (jump_rule g goal) (y ∷ earlier) x.state
+      (record { cost = x.cost; from = x.parent }) is.2.offered in
+      goes_further s x (y ∷ earlier) from.by from.offered.step
+      (link_is g goal from.by.state x.state from.offered.step from.offered.linked) (sym from.offered.source)
+      from.offered.total (way s (y ∷ earlier) is.0 from.by from.member)
+  way s (x ∷ y ∷ earlier) is u (there z e m) =
+      let other = way_stays x (y ∷ earlier) u.state is.2.waits
+      (is_taken-member (jump_rule g goal) jumps_consistent (y ∷ earlier) u m) in
+      let before = way s (y ∷ earlier) is.0 u m in
+      record {
+        states = before.states;
+        is_way = rw other before.is_way;
+        chain = before.chain;
+        ends = before.ends;
+      }

@@ -1,0 +1,97 @@
+use Rattle.std.proofs.Common.{◌≡◌, ◌∙◌, ◌<◌, ◌≤◌, ℕ, length, arith, sym, ap, subst, List}
+use Rattle.std.specs.Prelude.{slice_get, Some}
+use Rattle.std.proofs.lemmas.Option.{slice_get_within}
+use Rattle.best_first.specs.declared.node.Node.{Node}
+use Rattle.search_core.proofs.Advancing.{counted_one, ranked, can_call, offering, each_allowed, ended, on_map, reached_on}
+use Rattle.search_core.proofs.searching.advance.Goals as goal
+
+pub last_at-last-requires-clause-ranked : goal.last_at-last-requires-clause-ranked
+last_at-last-requires-clause-ranked g c =
+    ranked (g.J.JumpSource.StandsFor c.args.j.now) c.args.ends.from c.args.ends.to c.args.at c.args.space.now
+    c.reserve.new.self c.args.taken.now c.requires.reached c.in_ok-reserve.ensures.shape
+    c.in_ok-reserve.ensures.table c.requires.some
+
+pub allowed-dirs-requires : goal.allowed-dirs-requires
+allowed-dirs-requires g c =
+    can_call (g.J.JumpSource.StandsFor c.args.j.now) c.args.ends.from c.args.ends.to c.args.at
+    c.args.space.now
+    c.reserve.new.self c.args.taken.now c.requires.reached c.in_ok-reserve.ensures.shape
+    c.in_ok-reserve.ensures.table c.last_at-last.result c.last_at-last.ensures c.come_to.result
+    c.come_to.ensures
+    c.requires.some
+
+pub offer_jumps-requires-clause-offering : goal.offer_jumps-requires-clause-offering
+offer_jumps-requires-clause-offering g c =
+    offering (g.J.JumpSource.StandsFor c.args.j.now) c.args.ends.from c.args.ends.to c.args.at
+    c.args.space.now
+    c.reserve.new.self c.args.taken.now c.requires.reached c.in_ok-reserve.ensures.shape
+    c.in_ok-reserve.ensures.table c.last_at-last.result c.last_at-last.ensures c.come_to.result
+    c.come_to.ensures
+
+pub offer_jumps-requires-clause-allowed : goal.offer_jumps-requires-clause-allowed
+offer_jumps-requires-clause-allowed g c =
+    each_allowed (g.J.JumpSource.StandsFor c.args.j.now) c.args.ends.from c.args.ends.to c.args.at
+    c.args.space.now c.reserve.new.self c.args.taken.now c.requires.reached c.in_ok-reserve.ensures.shape
+    c.in_ok-reserve.ensures.table c.last_at-last.result c.last_at-last.ensures c.come_to.result
+    c.come_to.ensures
+    c.as_slice.result.now
+    (λ x stands free can. c.as_slice.ensures.value ∙ c.allowed-dirs.ensures.rule x stands free can)
+
+pub node-node-requires : goal.node-node-requires
+node-node-requires g c =
+    slice_get_within c.take_next.new.self.table.nodes c.in-Some.next c.in-Some.ensures.first.node
+    (ap (λ (ns : List Node). slice_get ns c.in-Some.next) c.take_next.ensures.nodes
+    ∙ c.in-Some.ensures.first.node_is)
+
+pub number_at-requires : goal.number_at-requires
+number_at-requires g c =
+    on_map (g.J.JumpSource.StandsFor c.args.j.now) c.args.ends.from c.args.ends.to c.args.at c.args.space.now
+    c.reserve.new.self c.args.taken.now c.requires.reached c.in_ok-reserve.ensures.shape
+    c.in_ok-reserve.ensures.table c.last_at-last.result c.last_at-last.ensures c.come_to.result
+    c.come_to.ensures
+    c.as_slice.result.now
+    (λ x stands free can. c.as_slice.ensures.value ∙ c.allowed-dirs.ensures.rule x stands free can)
+    c.offer_jumps.new.space c.offer_jumps.ensures.jumped c.offer_jumps.ensures.shape c.requires.open_ended
+    c.in-Some.next c.in-Some.ensures.first c.node-node.result c.take_next.new.self c.node-node.ensures
+    c.take_next.ensures.nodes c.requires.some
+
+pub returns-in-None-clause-goes_on : goal.returns-in-None-clause-goes_on
+returns-in-None-clause-goes_on g c =
+    ended (g.J.JumpSource.StandsFor c.args.j.now) c.args.ends.from c.args.ends.to c.args.at c.args.space.now
+    c.reserve.new.self c.args.taken.now c.requires.reached c.in_ok-reserve.ensures.shape
+    c.in_ok-reserve.ensures.table c.last_at-last.result c.last_at-last.ensures c.come_to.result
+    c.come_to.ensures
+    c.as_slice.result.now
+    (λ x stands free can. c.as_slice.ensures.value ∙ c.allowed-dirs.ensures.rule x stands free can)
+    c.offer_jumps.new.space c.offer_jumps.ensures.jumped c.offer_jumps.ensures.shape c.requires.open_ended
+    c.in-None.ensures.none
+
+pub returns-in-None-clause-counted : goal.returns-in-None-clause-counted
+returns-in-None-clause-counted g c =
+    counted_one (g.J.JumpSource.most c.args.j.now) (g.J.JumpSource.fewest c.args.j.now)
+    (length c.as_slice.result.now) c.args.steps.now c.allowed-dirs.new.steps c.offer_jumps.new.steps
+    (omega arith)
+    c.allowed-dirs.ensures.most c.offer_jumps.ensures.most c.allowed-dirs.ensures.fewest
+    c.offer_jumps.ensures.fewest
+
+pub returns-in_ok-push-in-Some-clause-goes_on : goal.returns-in_ok-push-in-Some-clause-goes_on
+returns-in_ok-push-in-Some-clause-goes_on g c =
+    reached_on (g.J.JumpSource.StandsFor c.args.j.now) c.args.ends.from c.args.ends.to c.args.at
+    c.args.space.now
+    c.reserve.new.self c.args.taken.now c.requires.reached c.in_ok-reserve.ensures.shape
+    c.in_ok-reserve.ensures.table c.last_at-last.result c.last_at-last.ensures c.come_to.result
+    c.come_to.ensures
+    c.as_slice.result.now
+    (λ x stands free can. c.as_slice.ensures.value ∙ c.allowed-dirs.ensures.rule x stands free can)
+    c.offer_jumps.new.space c.offer_jumps.ensures.jumped c.offer_jumps.ensures.shape c.requires.open_ended
+    c.in-Some.next c.in-Some.ensures.first c.node-node.result c.take_next.new.self c.node-node.ensures
+    c.take_next.ensures.nodes c.take_next.ensures.shape c.in-Some.ensures.closed c.number_at.result
+    c.number_at.ensures c.push.new.self c.in_ok-push-in-Some.ensures.pushed
+
+pub returns-in_ok-push-in-Some-clause-counted : goal.returns-in_ok-push-in-Some-clause-counted
+returns-in_ok-push-in-Some-clause-counted g c =
+    counted_one (g.J.JumpSource.most c.args.j.now) (g.J.JumpSource.fewest c.args.j.now)
+    (length c.as_slice.result.now) c.args.steps.now c.allowed-dirs.new.steps c.offer_jumps.new.steps
+    (omega arith)
+    c.allowed-dirs.ensures.most c.offer_jumps.ensures.most c.allowed-dirs.ensures.fewest
+    c.offer_jumps.ensures.fewest

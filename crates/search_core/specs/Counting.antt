@@ -1,0 +1,29 @@
+-- How many steps of its source a search counts.
+use Rattle.std.specs.Prelude.{◌≡◌, ℕ, suc, ◌+◌, ◌*◌, ◌≤◌, List, length, Option, MatchOption}
+use Rattle.pruning.specs.Source.{MostSteps, IsWithin}
+use Rattle.search_core.specs.declared.found.Found.{Found}
+
+-- the most for one state: a call of `allowed`, and one of `stop` for each of eight directions
+abbrev pub most_for_state : MostSteps → ℕ
+most_for_state told = 8 * told.stop + told.allowed
+
+-- where the source tells its most, the counter rose by no more than that for each state that was taken
+abbrev pub IsWithinTaken : Option MostSteps → Found → ℕ → ℕ → Type 0
+IsWithinTaken most f old new = IsWithin most (λ told. length f.taken * most_for_state told) old new
+
+-- the counter rose by at least so much for each state that was taken away from the goal: for all of them, or,
+-- where a walk was found, for all but the last
+abbrev pub RoseByTaken : ℕ → Found → ℕ → ℕ → Type 0
+RoseByTaken fewest f old new = MatchOption f.answer (old + length f.taken * fewest ≤ new)
+    (λ _. old + length f.taken * fewest ≤ new + fewest)
+
+-- the counter rose as a search that went on from n states makes it
+pub record IsCounted (most : Option MostSteps) (fewest n old new : ℕ) : Type 0 where
+  pub within : IsWithin most (λ told. n * most_for_state told) old new
+  pub at_least : old + n * fewest ≤ new
+
+-- and one that went on from all states that it took but the last
+pub record IsCountedSoFar (most : Option MostSteps) (fewest : ℕ) (taken : List ℕ) (old new : ℕ) : Type 0 where
+  pub gone_on : ℕ
+  pub one_more : length taken ≡ suc gone_on
+  pub counted : IsCounted most fewest gone_on old new

@@ -1,0 +1,108 @@
+-- How a search over jumps goes on from the state that was taken last. No public clause cites this module.
+use Rattle.std.specs.Prelude.{◌≡◌, ℕ, ◌+◌, ◌-◌, ◌*◌, ◌≤◌, List, [], ◌∷◌, Some, None, Option}
+use Rattle.std.specs.Option.{option_map_or}
+use Rattle.root2_cost.specs.Rank.{rank_of}
+use Rattle.grid_moves.specs.declared.Cell.{Cell}
+use Rattle.grid_moves.specs.declared.Dir.{Dir}
+use Rattle.grid_moves.specs.declared.Dir.TheVariants.{N, NE, E, SE, S, SW, W, NW}
+use Rattle.grid_moves.specs.Grid.{GridData, IsGrid}
+use Rattle.grid_moves.specs.Points.{estimate}
+use Rattle.pruning.specs.Chain.{run_cost}
+use Rattle.pruning.specs.First.{first_stop}
+use Rattle.search_run.specs.Run.{Taken}
+use Rattle.best_first.specs.declared.node.Node.{Node}
+use Rattle.best_first.specs.declared.node.Offer.{Offer as Way}
+use Rattle.best_first.specs.declared.state.State.{State}
+use Rattle.best_first.specs.declared.state.Layout.TheVariants.{ByArrival}
+use Rattle.best_first.specs.Mirror.{Offers, IsSearching}
+use Rattle.best_first.specs.Progress.{HasTaken}
+use Rattle.best_first.specs.Space.{SpaceData}
+use Rattle.best_first.specs.State.{state_told}
+use Rattle.best_first.specs.Table.{Table, offered}
+use Rattle.best_first.specs.Trace.{rank_left}
+use Rattle.search_core.specs.declared.jumping.Last.{Last}
+use Rattle.search_core.specs.Jumps.{jump_links}
+use Rattle.search_core.specs.Run.{IsExhausted}
+
+-- the space is made for searches over jumps on this grid
+pub record HasPlaces (g : GridData) (space : SpaceData) : Type 0 where
+  pub layout : space.layout ≡ ByArrival
+  pub enough : g.height * g.width ≤ space.places
+
+-- it holds the nodes of such a search
+pub record IsSpaceOf (g : GridData) (space : SpaceData) : Type 0 where
+  pub whole : IsGrid g
+  pub places : HasPlaces g space
+  pub width : space.width ≡ g.width
+
+-- what is known of a state by its node
+abbrev pub last_at : Cell → ℕ → Node → Last
+last_at goal at n = record { at = at; rank = rank_left goal n; state = state_told n.place }
+
+-- the column and the row after k moves
+abbrev pub column_after : Dir → ℕ → ℕ → ℕ
+column_after N k x = x
+column_after NE k x = x + k
+column_after E k x = x + k
+column_after SE k x = x + k
+column_after S k x = x
+column_after SW k x = x - k
+column_after W k x = x - k
+column_after NW k x = x - k
+
+abbrev pub row_after : Dir → ℕ → ℕ → ℕ
+row_after N k y = y - k
+row_after NE k y = y - k
+row_after E k y = y
+row_after SE k y = y + k
+row_after S k y = y + k
+row_after SW k y = y + k
+row_after W k y = y
+row_after NW k y = y - k
+
+-- the offer of the state that k moves in d lead to
+abbrev pub offer_after : Last → Dir → ℕ → Way
+offer_after last d k = record {
+  rank = last.rank + rank_of (run_cost d k);
+  parent = last.at;
+  to = record {
+    cell = record { x = column_after d k last.state.cell.x; y = row_after d k last.state.cell.y };
+    arrival = Some d;
+  };
+}
+
+-- the nodes after the offer of the jump in one direction, if it has a stop, and in all of these
+abbrev pub jumped_in : GridData → Cell → Last → Dir → Table → Table
+jumped_in g goal last d k =
+    option_map_or (λ n. offered ByArrival goal (offer_after last d n) k)
+    (first_stop g goal last.state.cell d) k
+
+abbrev pub jumped : GridData → Cell → Last → List Dir → Table → Table
+jumped g goal last [] k = k
+jumped g goal last (d ∷ dirs) k = jumped g goal last dirs (jumped_in g goal last d k)
+
+module _ (g : GridData) (s t : Cell) where
+  -- a search from s to t took this state last and is at its offers
+  pub record IsAt (last : Last) (latest : Taken State) (earlier : List (Taken State)) (best : Offers)
+      (k : Table) : Type 0 where
+    pub searching : IsSearching ByArrival g.width t (jump_links g t) s latest earlier last.at best k
+    pub state : latest.state ≡ last.state
+    pub ranked : last.rank ≡ rank_of latest.cost
+
+  -- it is, by some run
+  pub record IsOffering (last : Last) (space : SpaceData) : Type 0 where
+    pub of : IsSpaceOf g space
+    pub latest : Taken State
+    pub earlier : List (Taken State)
+    pub best : Offers
+    pub is_at : IsAt last latest earlier best space.table
+
+  -- it took states of these numbers, the last one with the node of this number
+  pub record HasReached (at : ℕ) (space : SpaceData) (taken : List ℕ) : Type 0 where
+    pub of : IsSpaceOf g space
+    pub has : HasTaken ByArrival g.width t (jump_links g t) s at space.table taken
+
+  -- it took one state more, or ends as none waits
+  abbrev pub GoesOnFrom : SpaceData → List ℕ → Option ℕ → Type 0
+  GoesOnFrom space taken None = IsExhausted g s t taken
+  GoesOnFrom space taken (Some at) = HasReached at space taken

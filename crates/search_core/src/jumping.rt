@@ -1,0 +1,182 @@
+//! Going on from a taken state: one offer for each jump.
+
+ghost use Rattle.std.specs.Prelude.{◌≡◌, ℕ, ◌+◌, ◌-◌, ◌*◌, ◌<◌, ◌≤◌, ◌^◌, true, Some, length, slice_get, MatchOption};
+ghost use Rattle.std.specs.List.{AllByRecursion};
+ghost use Rattle.root2_cost.specs.Rank.{rank_of};
+ghost use Rattle.grid_moves.specs.Points.{estimate};
+ghost use Rattle.pruning.specs.Allowed.{is_allowed};
+ghost use Rattle.pruning.specs.Chain as chain;
+ghost use Rattle.pruning.specs.Source.{IsWithin};
+ghost use Rattle.best_first.specs.Space.{KeepsShape};
+ghost use Rattle.best_first.specs.Trace.{node_cell};
+ghost use Rattle.search_core.specs.Jumps as jumps;
+ghost use Rattle.search_core.specs.Jumping as spec;
+ghost use Rattle.search_core.specs.Serving.{OnSome, OnEach};
+
+use best_first::{Offer, Space, State};
+use grid_moves::{Cell, Dir, estimate};
+use pruning::{Arrival, JumpSource, is_diagonal};
+use root2_cost::Cost;
+use std::sync::ledger::Ledger;
+use steps::Steps;
+
+/// The ends of a query.
+#[derive(Clone, Copy, Debug)]
+pub struct Ends {
+    pub from: Cell,
+    pub to: Cell,
+}
+
+/// The state that was taken last: the number of its node, the rank of its cost, and the state.
+#[derive(Clone, Copy, Debug)]
+pub struct Last {
+    pub at: u32,
+    pub rank: u64,
+    pub state: State,
+}
+
+// How a search came to a state.
+pub(crate) fn come_to(arrival: Option<Dir>) -> Arrival
+    ensures { result ≡ jumps.come_to arrival }
+{
+    match arrival {
+        Some(d) => Arrival::By(d),
+        None => Arrival::Start,
+    }
+}
+
+// What k moves in d cost.
+fn run_cost(d: Dir, k: u16) -> Cost
+    ensures { result ≡ chain.run_cost d k }
+{
+    if is_diagonal(d) {
+        Cost {
+            a: 0,
+            b: u32::from(k),
+        }
+    } else {
+        Cost {
+            a: u32::from(k),
+            b: 0,
+        }
+    }
+}
+
+// The column after k moves.
+fn column_after(d: Dir, k: u16, x: u16) -> u16
+    requires { x + k < 65536 }
+    ensures { result ≡ spec.column_after d k x }
+{
+    match d {
+        Dir::N | Dir::S => x,
+        Dir::NE | Dir::E | Dir::SE => x + k,
+        Dir::SW | Dir::W | Dir::NW => x.saturating_sub(k),
+    }
+}
+
+// The row after k moves.
+fn row_after(d: Dir, k: u16, y: u16) -> u16
+    requires { y + k < 65536 }
+    ensures { result ≡ spec.row_after d k y }
+{
+    match d {
+        Dir::E | Dir::W => y,
+        Dir::SE | Dir::S | Dir::SW => y + k,
+        Dir::N | Dir::NE | Dir::NW => y.saturating_sub(k),
+    }
+}
+
+// The offer of the state that k moves in d lead to.
+fn offer_after(last: Last, d: Dir, k: u16) -> Offer
+    requires column { last.state.cell.x + k < 65536 }
+    requires row { last.state.cell.y + k < 65536 }
+    requires rank { last.rank + rank_of (chain.run_cost d k) < 2 ^ 63 }
+    ensures { result ≡ spec.offer_after last d k }
+{
+    let cell = Cell {
+        x: column_after(d, k, last.state.cell.x),
+        y: row_after(d, k, last.state.cell.y),
+    };
+    Offer {
+        rank: last.rank + run_cost(d, k).rank(),
+        parent: last.at,
+        to: State {
+            cell,
+            arrival: Some(d),
+        },
+    }
+}
+
+// What is known of the state whose node has this number.
+pub(crate) fn last_at(space: &Space, goal: Cell, at: u32) -> Last
+    requires known { at < length space.now.table.nodes }
+    requires ranked { (n : _) → slice_get space.now.table.nodes at ≡ Some n
+        → rank_of (estimate (node_cell n) goal) ≤ n.key }
+    ensures { (n : _) → slice_get space.now.table.nodes at ≡ Some n → result ≡ spec.last_at goal at n }
+{
+    let node = space.node(at);
+    let cell = node.place.cell();
+    Last {
+        at,
+        rank: node.key - estimate(cell, goal).rank(),
+        state: State {
+            cell,
+            arrival: node.place.arrival(),
+        },
+    }
+}
+
+// Offers the jump in an allowed direction, if it has a stop.
+fn offer_jump<J: JumpSource, L: Ledger, M: Ledger>(
+    j: &J,
+    ends: Ends,
+    last: Last,
+    d: Dir,
+    space: &mut Space,
+    steps: &mut Steps<L>,
+    own: &mut Steps<M>,
+)
+    requires some { OnSome (J.StandsFor j.now) ends.from ends.to }
+    requires offering { OnEach (J.StandsFor j.now) ends.from ends.to
+        (λ g. spec.IsOffering g ends.from ends.to last space.old) }
+    requires allowed { OnEach (J.StandsFor j.now) ends.from ends.to
+        (λ g. is_allowed g last.state.cell (jumps.come_to last.state.arrival) d ≡ true) }
+    requires room { 1 ≤ space.old.spare }
+    ensures jumped { OnEach (J.StandsFor j.now) ends.from ends.to
+        (λ g. space.new.table ≡ spec.jumped_in g ends.to last d space.old.table) }
+    ensures shape { KeepsShape space.old space.new }
+    ensures spare { space.old.spare ≤ space.new.spare + 1 }
+    ensures most { IsWithin (J.most j.now) (λ told. told.stop) steps.old steps.new }
+    ensures fewest { steps.old ≤ steps.new }
+{
+    if let Some(k) = j.stop(last.state.cell, d, ends.to, steps) {
+        space.offer(ends.to, offer_after(last, d, k), own);
+    }
+}
+
+// Offers the jumps in these directions.
+pub(crate) fn offer_jumps<J: JumpSource, L: Ledger, M: Ledger>(
+    j: &J,
+    ends: Ends,
+    last: Last,
+    dirs: &[Dir],
+    space: &mut Space,
+    steps: &mut Steps<L>,
+    own: &mut Steps<M>,
+)
+    requires some { OnSome (J.StandsFor j.now) ends.from ends.to }
+    requires offering { OnEach (J.StandsFor j.now) ends.from ends.to
+        (λ g. spec.IsOffering g ends.from ends.to last space.old) }
+    requires allowed { OnEach (J.StandsFor j.now) ends.from ends.to (λ g. AllByRecursion
+        (λ d. is_allowed g last.state.cell (jumps.come_to last.state.arrival) d ≡ true) dirs.now) }
+    requires room { length dirs.now ≤ space.old.spare }
+    ensures jumped { OnEach (J.StandsFor j.now) ends.from ends.to
+        (λ g. space.new.table ≡ spec.jumped g ends.to last dirs.now space.old.table) }
+    ensures shape { KeepsShape space.old space.new }
+    ensures most { IsWithin (J.most j.now) (λ told. length dirs.now * told.stop) steps.old steps.new }
+    ensures fewest { steps.old ≤ steps.new }
+{
+    for d in dirs {
+        offer_jump(j, ends, last, *d, space, steps, own);
+    }
+}

@@ -1,0 +1,22 @@
+//! Laws of the search over jumps: each is the contract of a call that does nothing.
+
+ghost use Rattle.search_core.specs.Existence.{AnswersExist};
+ghost use Rattle.search_core.specs.Laws.{CostsFit, RunsAreRight};
+
+/// From each free cell to each cell of a map there is an answer that is right and that of the jump
+/// engines' run: its run from there ends.
+pub fn answers_exist()
+    ensures { AnswersExist }
+{}
+
+/// What the run of the jump engines answers is right: a least walk, or none exactly where no walk
+/// exists.
+pub fn runs_are_right()
+    ensures { RunsAreRight }
+{}
+
+/// A state is taken at a cost of at most 2^27 moves, as along the jumps of a run each cell is passed in
+/// each direction once.
+pub fn costs_fit()
+    ensures { CostsFit }
+{}

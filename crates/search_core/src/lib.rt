@@ -1,0 +1,17 @@
+//! Least walks by jumps, over any source of jumps.
+//!
+//! A* after Hart, Nilsson and Raphael (1968) over the jump points of Harabor and Grastien (AAAI 2011;
+//! where no corner is cut, SoCS 2012). A state is a cell and the direction in which it was come to; a
+//! state that was taken offers, in each allowed direction, the state of the first stop. Among equal
+//! sums of cost and octile estimate the state of the lesser number goes first, and of equal offers to
+//! one state the earlier one stands. Both ends have to be free.
+#![tactic(auto)]
+
+mod found;
+mod jumping;
+pub mod laws;
+mod searching;
+
+pub use best_first::{NoMemory, Taken};
+pub use found::Found;
+pub use searching::{search, search_in};

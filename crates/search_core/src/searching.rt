@@ -1,0 +1,235 @@
+//! The search.
+
+ghost use Rattle.std.specs.Prelude.{◌≡◌, ℕ, ◌+◌, ◌*◌, ◌<◌, ◌≤◌, ◌++◌, ◌∷◌, [], false, length, IfOk, IfSome, IfNone, IsSome, OnOk, slice_get, Some};
+ghost use Rattle.grid_moves.specs.Grid.{GridData, IsGrid, is_free};
+ghost use Rattle.grid_moves.specs.Move.{is_same};
+ghost use Rattle.pruning.specs.Source.{IsWithin};
+ghost use Rattle.best_first.specs.Progress.{GoesOn};
+ghost use Rattle.best_first.specs.Space.{KeepsShape};
+ghost use Rattle.best_first.specs.State.{state_number, state_told};
+ghost use Rattle.best_first.specs.Trace.{node_cell};
+ghost use Rattle.search_core.specs.Answer.{IsJumpRun, IsLeast};
+ghost use Rattle.search_core.specs.Counting.{IsCounted, IsCountedSoFar, IsWithinTaken, RoseByTaken};
+ghost use Rattle.search_core.specs.Jumping.{HasPlaces, IsSpaceOf, HasReached, GoesOnFrom};
+ghost use Rattle.search_core.specs.Serving.{OnSome, OnEach};
+
+use crate::jumping::{Ends, come_to, last_at, offer_jumps};
+use crate::{Found, NoMemory, Taken};
+use best_first::{Layout, Node, Space, State};
+use grid_moves::Cell;
+use pruning::JumpSource;
+use std::alloc::Global;
+use std::marker::Brand;
+use std::sync::ledger::{Blank, Ledger};
+use steps::Steps;
+
+// Takes the start.
+fn begin<J: JumpSource, M: Ledger>(
+    j: &J,
+    ends: Ends,
+    space: &mut Space,
+    taken: &mut Taken,
+    own: &mut Steps<M>,
+) -> Result<(), NoMemory>
+    requires some { OnSome (J.StandsFor j.now) ends.from ends.to }
+    requires places { OnEach (J.StandsFor j.now) ends.from ends.to (λ g. HasPlaces g space.old) }
+    requires none { taken.old ≡ [] }
+    ensures reached { OnOk result (OnEach (J.StandsFor j.now) ends.from ends.to
+        (λ g. HasReached g ends.from ends.to 0 space.new taken.new)) }
+    ensures places { OnEach (J.StandsFor j.now) ends.from ends.to (λ g. HasPlaces g space.new) }
+    ensures one { OnOk result (length taken.new ≡ 1) }
+{
+    let width = j.width();
+    space.begin(width, ends.from, ends.to, own)?;
+    taken.push(State::start(ends.from).number(width))
+}
+
+// The printed number of a node's state.
+fn number_at<J: JumpSource>(j: &J, node: Node) -> u32
+    requires { (g : GridData) × J.StandsFor j.now g
+        × ((node_cell node).x < g.width) × ((node_cell node).y < g.height) }
+    ensures { (g : GridData) → J.StandsFor j.now g → result ≡ state_number g.width (state_told node.place) }
+{
+    let state = State {
+        cell: node.place.cell(),
+        arrival: node.place.arrival(),
+    };
+    state.number(j.width())
+}
+
+// Makes the offers of the last taken state, and takes the next, if a state waits.
+fn advance<J: JumpSource, L: Ledger, M: Ledger>(
+    j: &J,
+    ends: Ends,
+    space: &mut Space,
+    at: u32,
+    taken: &mut Taken,
+    steps: &mut Steps<L>,
+    own: &mut Steps<M>,
+) -> Result<Option<u32>, NoMemory>
+    requires some { OnSome (J.StandsFor j.now) ends.from ends.to }
+    requires reached { OnEach (J.StandsFor j.now) ends.from ends.to
+        (λ g. HasReached g ends.from ends.to at space.old taken.old) }
+    requires open_ended { (n : _) → slice_get space.old.table.nodes at ≡ Some n
+        → is_same (node_cell n) ends.to ≡ false }
+    ensures goes_on { IfOk result (λ next. OnEach (J.StandsFor j.now) ends.from ends.to
+        (λ g. GoesOnFrom g ends.from ends.to space.new taken.new next)) }
+    ensures one_more { IfOk result (λ next. IfSome next (λ id. length taken.new ≡ length taken.old + 1)) }
+    ensures same { IfOk result (λ next. IfNone next (taken.new ≡ taken.old)) }
+    ensures places { OnEach (J.StandsFor j.now) ends.from ends.to (λ g. HasPlaces g space.new) }
+    ensures counted { IfOk result (λ _. IsCounted (J.most j.now) (J.fewest j.now) 1 steps.old steps.new) }
+{
+    space.reserve()?;
+    let last = last_at(space, ends.to, at);
+    let dirs = j.allowed(last.state.cell, come_to(last.state.arrival), steps);
+    offer_jumps(j, ends, last, dirs.as_slice(), space, steps, own);
+    match space.take_next(own) {
+        None => Ok(None),
+        Some(next) => {
+            let node = space.node(next);
+            taken.push(number_at(j, node))?;
+            Ok(Some(next))
+        }
+    }
+}
+
+// The answer where the goal was taken last.
+fn found<J: JumpSource>(
+    alloc: Global,
+    j: &J,
+    ends: Ends,
+    space: &Space,
+    at: u32,
+    taken: Taken,
+) -> Result<Found, NoMemory>
+    requires some { OnSome (J.StandsFor j.now) ends.from ends.to }
+    requires reached { OnEach (J.StandsFor j.now) ends.from ends.to
+        (λ g. HasReached g ends.from ends.to at space.now taken) }
+    requires goal { (n : _) → slice_get space.now.table.nodes at ≡ Some n → node_cell n ≡ ends.to }
+    ensures run { IfOk result (λ f. OnEach (J.StandsFor j.now) ends.from ends.to
+        (λ g. IsJumpRun g ends.from ends.to f)) }
+    ensures found { IfOk result (λ f. IsSome f.answer) }
+    ensures taken { IfOk result (λ f. f.taken ≡ taken) }
+{
+    let way = space.way_to(alloc, ends.to, at)?;
+    Ok(Found {
+        answer: Some((way.points, way.cost)),
+        taken,
+    })
+}
+
+// The search's run.
+fn run<J: JumpSource, L: Ledger, M: Ledger>(
+    alloc: Global,
+    j: &J,
+    ends: Ends,
+    space: &mut Space,
+    steps: &mut Steps<L>,
+    own: &mut Steps<M>,
+) -> Result<Found, NoMemory>
+    requires some { OnSome (J.StandsFor j.now) ends.from ends.to }
+    requires places { OnEach (J.StandsFor j.now) ends.from ends.to (λ g. HasPlaces g space.old) }
+    ensures run { IfOk result (λ f. OnEach (J.StandsFor j.now) ends.from ends.to
+        (λ g. IsJumpRun g ends.from ends.to f)) }
+    ensures most { IfOk result (λ f. IsWithinTaken (J.most j.now) f steps.old steps.new) }
+    ensures fewest { IfOk result (λ f. RoseByTaken (J.fewest j.now) f steps.old steps.new) }
+    ensures places { OnEach (J.StandsFor j.now) ends.from ends.to (λ g. HasPlaces g space.new) }
+{
+    let mut taken = Taken::new(alloc);
+    begin(j, ends, space, &mut taken, own)?;
+    let mut at: u32 = 0;
+    'taking: while space.node(at).place.cell() != ends.to {
+        match advance(j, ends, space, at, &mut taken, steps, own)? {
+            Some(next) => at = next,
+            None => {
+                return Ok(Found {
+                    answer: None,
+                    taken,
+                });
+            }
+        }
+    }
+    found(alloc, j, ends, space, at, taken)
+}
+
+// A search whose steps of the open list are counted by a counter of its own.
+fn run_counted<J: JumpSource, L: Ledger, M: Ledger>(
+    alloc: Global,
+    j: &J,
+    ends: Ends,
+    space: &mut Space,
+    steps: &mut Steps<L>,
+    blank: Blank,
+) -> Result<Found, NoMemory>
+    requires name { blank.name ≡ M.name }
+    requires parts { blank.parts ≡ M.parts }
+    requires positive { 0 < M.parts }
+    requires some { OnSome (J.StandsFor j.now) ends.from ends.to }
+    requires places { OnEach (J.StandsFor j.now) ends.from ends.to (λ g. HasPlaces g space.old) }
+    ensures run { IfOk result (λ f. OnEach (J.StandsFor j.now) ends.from ends.to
+        (λ g. IsJumpRun g ends.from ends.to f)) }
+    ensures least { IfOk result (λ f. OnEach (J.StandsFor j.now) ends.from ends.to
+        (λ g. IsLeast g ends.from ends.to f)) }
+    ensures most { IfOk result (λ f. IsWithinTaken (J.most j.now) f steps.old steps.new) }
+    ensures fewest { IfOk result (λ f. RoseByTaken (J.fewest j.now) f steps.old steps.new) }
+    ensures places { OnEach (J.StandsFor j.now) ends.from ends.to (λ g. HasPlaces g space.new) }
+{
+    let mut own = Steps::<M>::new(blank);
+    run(alloc, j, ends, space, steps, &mut own)
+}
+
+/// The jump engines' run from one free cell to another, over memory that is lent: its answer is a
+/// least walk, or that none exists.
+///
+/// This holds on each grid for which `j` stands and in which both cells are free; there has to be one.
+/// `space` has to be made by arrival, for a map with as many cells at least; it is used again as often
+/// as wanted. `steps` counts what the source counts, by its bounds for each state that was taken.
+pub fn search_in<J: JumpSource, L: Ledger>(
+    alloc: Global,
+    j: &J,
+    from: Cell,
+    to: Cell,
+    space: &mut Space,
+    steps: &mut Steps<L>,
+) -> Result<Found, NoMemory>
+    requires some { OnSome (J.StandsFor j.now) from to }
+    requires places { OnEach (J.StandsFor j.now) from to (λ g. HasPlaces g space.old) }
+    ensures run { IfOk result (λ f. OnEach (J.StandsFor j.now) from to (λ g. IsJumpRun g from to f)) }
+    ensures least { IfOk result (λ f. OnEach (J.StandsFor j.now) from to (λ g. IsLeast g from to f)) }
+    ensures most { IfOk result (λ f. IsWithinTaken (J.most j.now) f steps.old steps.new) }
+    ensures fewest { IfOk result (λ f. RoseByTaken (J.fewest j.now) f steps.old steps.new) }
+    ensures places { OnEach (J.StandsFor j.now) from to (λ g. HasPlaces g space.new) }
+{
+    run_counted::<J, L, Brand>(alloc, j, Ends { from, to }, space, steps, Blank::new(1))
+}
+
+// The memory for searches on a map of this size.
+fn space_for<J: JumpSource>(alloc: Global, j: &J) -> Result<Space, NoMemory>
+    requires { (g : GridData) × J.StandsFor j.now g }
+    ensures { IfOk result (λ space. (g : GridData) → J.StandsFor j.now g → HasPlaces g space) }
+{
+    let cells = j.height() as usize * j.width() as usize;
+    Space::new(alloc, Layout::ByArrival, cells)
+}
+
+/// The jump engines' run from one free cell to another: its answer is a least walk, or that none
+/// exists.
+///
+/// This holds on each grid for which `j` stands and in which both cells are free; there has to be one.
+/// `steps` counts what the source counts, by its bounds for each state that was taken.
+pub fn search<J: JumpSource, L: Ledger>(
+    alloc: Global,
+    j: &J,
+    from: Cell,
+    to: Cell,
+    steps: &mut Steps<L>,
+) -> Result<Found, NoMemory>
+    requires { OnSome (J.StandsFor j.now) from to }
+    ensures run { IfOk result (λ f. OnEach (J.StandsFor j.now) from to (λ g. IsJumpRun g from to f)) }
+    ensures least { IfOk result (λ f. OnEach (J.StandsFor j.now) from to (λ g. IsLeast g from to f)) }
+    ensures most { IfOk result (λ f. IsWithinTaken (J.most j.now) f steps.old steps.new) }
+    ensures fewest { IfOk result (λ f. RoseByTaken (J.fewest j.now) f steps.old steps.new) }
+{
+    let mut space = space_for(alloc, j)?;
+    search_in(alloc, j, from, to, &mut space, steps)
+}
