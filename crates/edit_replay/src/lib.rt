@@ -1,6 +1,6 @@
 //! A session of queries and edits on one map.
 //!
-//! A session keeps the current grid and the memory of its searches, so that a query costs in
+//! A session keeps the current layers and the memory of its searches, so that a query costs in
 //! proportion to what it touches and not to the map.
 #![tactic(auto)]
 

@@ -13,7 +13,8 @@ pub enum Reply {
         cost: Cost,
         taken: Taken,
     },
-    /// Both ends are free, and no walk exists; the states that the search took.
+    /// Both ends are free, and no walk exists; the states that the search took. Or the ends lie in
+    /// different layers; then no state was taken.
     None {
         taken: Taken,
     },

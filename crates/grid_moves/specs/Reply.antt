@@ -1,9 +1,10 @@
 -- Right replies to a query.
-use Rattle.std.specs.Prelude.{◌≡◌, ◌&&◌, Bool, true, false, ◌⊎◌, List, ◌∷◌, Some}
+use Rattle.std.specs.Prelude.{◌≡◌, ◌&&◌, Bool, true, false, ◌⊎◌, refl, List, ◌∷◌, Some}
 use Rattle.root2_cost.specs.declared.Cost.{Cost}
 use Rattle.grid_moves.specs.declared.Cell.{Cell}
+use Rattle.grid_moves.specs.declared.Ground.TheVariants.{Blocked}
 use Rattle.grid_moves.specs.Grid.{GridData}
-use Rattle.grid_moves.specs.Layers.{Layers, in_one_layer, is_free_ground, is_on_map, query_grid}
+use Rattle.grid_moves.specs.Layers.{Layers, in_one_layer, is_free_ground, is_on_map, layers_with, query_grid, shore}
 use Rattle.grid_moves.specs.Walk.{IsWalk, IsLeastWalk, NoWalk, cost_of}
 use Rattle.grid_moves.specs.Points.{unfolding_of}
 
@@ -42,3 +43,11 @@ IsRight ls s t none = (are_free_ends ls s t ≡ true)
     × ((in_one_layer ls s t ≡ false) ⊎ NoWalk (query_grid ls s) s t)
 IsRight ls s t (walk points cost) =
     (in_one_layer ls s t ≡ true) × StandsForLeast (query_grid ls s) s t points cost
+
+-- worked rows on the map `.WW/.WW`: outside it, and where an end was blocked
+pub off_the_shore : IsRight shore (record { x = 3; y = 0 }) (record { x = 1; y = 0 }) outside
+off_the_shore = refl
+
+pub onto_a_block : IsRight (layers_with shore (record { x = 2; y = 0 }) Blocked) (record { x = 2; y = 0 })
+    (record { x = 0; y = 0 }) blocked
+onto_a_block = (refl, refl)

@@ -347,13 +347,7 @@ fn maps_and_drills_come_from_numbers(rt: HostRuntime) -> Result<(), Fail> {
             b"type octile\nheight 2\nwidth 3\nmap\n@@@\n@@@\n",
             b"",
         ),
-        (
-            &["make", "7", "3", "2", "0"],
-            3,
-            5,
-            b"ty",
-            b"jps: write\n",
-        ),
+        (&["make", "7", "3", "2", "0"], 3, 5, b"ty", b"jps: write\n"),
         (
             &["drill", "1"],
             0,

@@ -108,7 +108,7 @@ fn refuse_word<E: Sink>(alloc: Global, number: u32, err: &mut E) -> u8
 ///
 /// `words` are the program's words without its own name. Files are read by their names, `out` gets
 /// the output and `err` the line of a refusal or a fault. `input` is left as it is. `steps` counts
-/// what the session counts; the plain engine counts nothing.
+/// what the session counts.
 ///
 /// Statuses: 0 done; 1 done, and a scenario has a row that is neither agree nor near; 2 the words
 /// are refused; 3 a text is refused; 4 a read failed; 5 a write of the output failed; 6 memory was
