@@ -1,4 +1,5 @@
--- A diagonal jump stops at the goal, where a neighbour is forced, and where a straight jump in a component stops.
+-- A diagonal jump stops at the goal, where a neighbour is forced, and where a straight jump in a component
+-- finds a stop.
 use Rattle.std.proofs.Common.{◌≡◌, ℕ, zero, suc, ◌+◌, arith, Bool, true, false, not, ◌||◌, refl, ap, sym, ◌∙◌}
 use Rattle.std.specs.Prelude.{Option, Some, None, is_some, option_and_then, option_map, if◌then◌else◌}
 use Rattle.grid_moves.specs.declared.Cell.{Cell}
@@ -71,7 +72,8 @@ is_stop-diagonal g goal d v h = rw (
   straight_finds g goal v (turn Right d) (turn_parity Right d ∙ ap not h),
   straight_finds g goal v (turn Left d) (turn_parity Left d ∙ ap not h),
   h,
-) (regroup (is_same v goal) (is_forced g v d) (goal_on g goal v (turn Right d)) (goal_on g goal v (turn Left d))
+) (regroup (is_same v goal) (is_forced g v d) (goal_on g goal v (turn Right d))
+    (goal_on g goal v (turn Left d))
     (forced_on g v (turn Right d)) (forced_on g v (turn Left d)))
   where
     regroup : (a b c d e f : Bool)
@@ -96,7 +98,8 @@ module _ (g : GridData) (goal u : Cell) (d : Dir) (m : ℕ) (all : Option ℕ)
       sym (so_far ∙ ap (λ (o : Option ℕ). later m o) (first_on_run-none g d (is_stop g goal d) u e))
 
   module _ (v : Cell) (legal : legal_ahead g u d ≡ Some v) where
-    found : all ≡ later m (if is_stop g goal d v then Some 1 else option_map (λ k. suc k) (first_stop g goal v d))
+    found : all ≡ later m
+        (if is_stop g goal d v then Some 1 else option_map (λ k. suc k) (first_stop g goal v d))
     found = so_far
         ∙ ap (λ (o : Option ℕ). later m o) (first_on_run-next g d (is_stop g goal d) u v legal)
 

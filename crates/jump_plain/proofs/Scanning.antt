@@ -115,10 +115,12 @@ reach_begun g x d h r e f sides is = reach_of-with g x d h r e f
     no_further m = ap (λ (n : ℕ). let r : Reach = record { moves = n; marked = m.marked } in r) (plus m.moves)
 
 -- what a scan has found, after so many moves
-module _ (g : GridData) (u : Cell) (d : Dir) (h : is_diagonal d ≡ false) (r : Corner) (sides : Sides) (moves : ℕ)
+module _ (g : GridData) (u : Cell) (d : Dir) (h : is_diagonal d ≡ false) (r : Corner) (sides : Sides)
+    (moves : ℕ)
     (all : Reach) (so_far : all ≡ further moves (left_with r sides g u d)) where
   pub reached_end : legal_ahead g u d ≡ None → record { moves = moves; marked = false } ≡ all
-  reached_end e = sym (so_far ∙ rw e (ap (λ (n : ℕ). let m : Reach = record { moves = n; marked = false } in m)
+  reached_end e = sym (so_far
+      ∙ rw e (ap (λ (n : ℕ). let m : Reach = record { moves = n; marked = false } in m)
       (nothing moves)))
     where
       nothing : (n : ℕ) → n + 0 ≡ n

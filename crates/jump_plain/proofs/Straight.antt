@@ -94,7 +94,8 @@ stop-next true false None m goal =
 stop-next true false (Some k) m goal =
     let near : nat_le 1 (suc k) ≡ true = grind (arith, nat_tests) in rw near refl
 stop-next false true o m goal =
-    let far : (nat_lt 0 (nearer false goal) && nat_le (nearer false goal) 1) ≡ false = grind (arith, nat_tests) in
+    let far : (nat_lt 0 (nearer false goal) && nat_le (nearer false goal) 1) ≡ false =
+    grind (arith, nat_tests) in
     rw far refl
 stop-next false false None m goal = step_on m false goal
 stop-next false false (Some k) m goal = step_on k true goal
@@ -109,7 +110,8 @@ is_stop-straight g goal d v h = rw h (straight (is_same v goal) (is_forced g v d
 
 straight_within : (g : GridData) (goal : Cell) (d : Dir) → is_diagonal d ≡ false → (n : ℕ) (x : Cell)
     → first_within n g d (is_stop g goal d) x
-    ≡ stop_of (reach_to (first_within n g d (λ v. is_forced g v d) x) (moves_within n g d x)) (moves_to d x goal)
+    ≡ stop_of (reach_to (first_within n g d (λ v. is_forced g v d) x) (moves_within n g d x))
+    (moves_to d x goal)
 straight_within g goal d h zero x = nothing (moves_to d x goal)
 straight_within g goal d h (suc n) x =
     by_cell (legal_ahead g x d) refl (λ v. straight_within g goal d h n v)

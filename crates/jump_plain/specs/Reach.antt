@@ -36,7 +36,8 @@ abbrev pub left_at : Corner → GridData → Cell → Dir → Reach
 left_at Never g x d = reach_of g x d
 left_at One g x d = reach_at g x d
 
--- the mark that the move from u to the next cell shows stands at the next cell where no corner is cut, else at u
+-- the mark that the move from u to the next cell shows stands at the next cell where no corner is cut, and
+-- else at u
 abbrev pub mark_ahead : Corner → ℕ
 mark_ahead Never = 1
 mark_ahead One = 0
@@ -72,5 +73,6 @@ to_the_mark = refl
 pub to_the_end : reach_of (notch Never) (record { x = 2; y = 0 }) E ≡ record { moves = 2; marked = false }
 to_the_end = refl
 
-pub to_an_earlier_mark : reach_of (notch One) (record { x = 0; y = 0 }) E ≡ record { moves = 1; marked = true }
+pub to_an_earlier_mark : reach_of (notch One) (record { x = 0; y = 0 }) E
+    ≡ record { moves = 1; marked = true }
 to_an_earlier_mark = refl

@@ -12,8 +12,8 @@ run-init g c =
     let grid : GridData = g.T.Terrain.grid c.args.t.now in
     record {
       free = c.requires.free;
-      left = reach_begun grid c.args.at c.args.d c.requires.straight c.corner-rule.result c.corner-rule.ensures
-          c.requires.free c.first_sides-sides.result c.first_sides-sides.ensures;
+      left = reach_begun grid c.args.at c.args.d c.requires.straight c.corner-rule.result
+          c.corner-rule.ensures c.requires.free c.first_sides-sides.result c.first_sides-sides.ensures;
       run = omega arith;
     }
 
