@@ -5,6 +5,7 @@
 #![tactic(auto)]
 
 mod checking;
+mod costs;
 mod points;
 mod segments;
 #[cfg(test)]
@@ -12,6 +13,7 @@ mod tests;
 mod unfolding;
 
 pub use checking::{BadAt, check_walk};
+pub use costs::Costs;
 pub use points::{Cells, Points};
 pub use std::alloc::AllocError as NoMemory;
 pub use unfolding::unfold;

@@ -7,3 +7,4 @@ pub mod Distance
 pub mod Signs
 pub mod Most
 pub mod Ranking
+pub mod Differences

@@ -1,9 +1,12 @@
 -- What holds of all costs.
-use Rattle.std.specs.Prelude.{◌≡◌, ℕ, ◌+◌, ◌*◌, ◌^◌, ◌<◌, ◌≤◌, ◌⊎◌, ◌↔◌}
+use Rattle.std.specs.Prelude.{◌≡◌, ℕ, ◌+◌, ◌*◌, ◌^◌, ◌<◌, ◌≤◌, ◌⊎◌, ◌↔◌, ◌<ℤ◌}
+use Rattle.std.specs.Int.RustNames.{unsigned_abs}
 use Rattle.root2_cost.specs.declared.Cost.{Cost}
 use Rattle.root2_cost.specs.Order.{IsLess, IsAtMost}
 use Rattle.root2_cost.specs.Sums.{add_costs, octile_cost}
-use Rattle.root2_cost.specs.Rank.{rank_of}
+use Rattle.root2_cost.specs.declared.Signed.{Signed}
+use Rattle.root2_cost.specs.Signed.{signed_of, add_signed, signed_difference, IsSignedLess, IsSignedAtMost, RisesAtMost}
+use Rattle.root2_cost.specs.Rank.{rank_of, signed_rank}
 
 -- of two costs one is the lesser, or they are the same pair
 abbrev pub OrderIsTotal : Type 0
@@ -42,3 +45,31 @@ RanksTellOrder = (p q : Cost) → HasShortParts p → HasShortParts q → IsLess
 -- two such costs of one rank are the same pair
 abbrev pub RanksTellPairs : Type 0
 RanksTellPairs = (p q : Cost) → HasShortParts p → HasShortParts q → rank_of p ≡ rank_of q → p ≡ q
+
+-- as differences, costs have their order
+abbrev pub SignedCostsKeepOrder : Type 0
+SignedCostsKeepOrder = (p q : Cost) → IsSignedLess (signed_of p) (signed_of q) ↔ IsLess p q
+
+-- a difference at most one that is at most a third is at most the third
+abbrev pub SignedOrderIsTransitive : Type 0
+SignedOrderIsTransitive = (p q r : Signed) → IsSignedAtMost p q → IsSignedAtMost q r → IsSignedAtMost p r
+
+-- the differences of consecutive values sum up to that of the last and the first
+abbrev pub DifferencesTelescope : Type 0
+DifferencesTelescope = (p q r : Signed)
+    → add_signed (signed_difference q p) (signed_difference r q) ≡ signed_difference r p
+
+-- the costs of two steps together bound the rise over both
+abbrev pub BoundsAddUp : Type 0
+BoundsAddUp = (p q r : Signed) (m n : Cost) → RisesAtMost p m q → RisesAtMost q n r
+    → RisesAtMost p (add_costs m n) r
+
+-- both parts are below 2^30 in amount
+pub record HasShortSides (s : Signed) : Type 0 where
+  pub straight : unsigned_abs s.a < 2 ^ 30
+  pub diagonal : unsigned_abs s.b < 2 ^ 30
+
+-- of two such differences the lesser is the one of the lesser rank
+abbrev pub SignedRanksTellOrder : Type 0
+SignedRanksTellOrder = (p q : Signed) → HasShortSides p → HasShortSides q
+    → IsSignedLess p q ↔ (signed_rank p <ℤ signed_rank q)

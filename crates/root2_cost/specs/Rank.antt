@@ -1,6 +1,7 @@
 -- The order of costs told by one whole number.
-use Rattle.std.specs.Prelude.{◌≡◌, ℕ, ◌+◌, ◌*◌, nat_lt, true, refl}
+use Rattle.std.specs.Prelude.{◌≡◌, ℕ, ◌+◌, ◌*◌, nat_lt, true, refl, ℤ, pos, ◌+ℤ◌, ◌*ℤ◌}
 use Rattle.root2_cost.specs.declared.Cost.{Cost}
+use Rattle.root2_cost.specs.declared.Signed.{Signed}
 
 -- what one straight move counts
 abbrev pub straight_rank : ℕ
@@ -13,6 +14,10 @@ diagonal_rank = 4478554083
 -- the rank of a cost
 abbrev pub rank_of : Cost → ℕ
 rank_of c = c.a * straight_rank + c.b * diagonal_rank
+
+-- the rank of a difference of costs
+abbrev pub signed_rank : Signed → ℤ
+signed_rank s = (s.a *ℤ pos straight_rank) +ℤ (s.b *ℤ pos diagonal_rank)
 
 -- the square of the second number is twice that of the first, and one more
 pub squares_meet : diagonal_rank * diagonal_rank ≡ 2 * (straight_rank * straight_rank) + 1

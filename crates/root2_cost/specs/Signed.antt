@@ -1,5 +1,5 @@
 -- Pairs a + b√2 with parts of either sign: differences of costs.
-use Rattle.std.specs.Prelude.{ℕ, Bool, not, ◌&&◌, ◌≡◌, IsTrue, refl, pos, ◌-ℤ◌, neg_ℤ}
+use Rattle.std.specs.Prelude.{ℕ, Bool, true, false, not, ◌&&◌, ◌≡◌, IsTrue, refl, pos, ◌+ℤ◌, ◌-ℤ◌, neg_ℤ}
 use Rattle.root2_cost.specs.declared.Cost.{Cost}
 use Rattle.root2_cost.specs.declared.Signed.{Signed}
 use Rattle.root2_cost.specs.Order.{is_positive}
@@ -37,3 +37,47 @@ is_within m s =
 -- 7 straight moves less 5 diagonal ones: just below 0
 pub seven_and_five : IsBelowZero (cost_difference (record { a = 7; b = 0 }) (record { a = 0; b = 5 }))
 seven_and_five = refl
+
+-- a cost as such a pair
+abbrev pub signed_of : Cost → Signed
+signed_of c = record { a = pos c.a; b = pos c.b }
+
+-- the sum, part by part
+abbrev pub add_signed : Signed → Signed → Signed
+add_signed p q = record { a = p.a +ℤ q.a; b = p.b +ℤ q.b }
+
+-- what p has more than q, part by part
+abbrev pub signed_difference : Signed → Signed → Signed
+signed_difference p q = record { a = p.a -ℤ q.a; b = p.b -ℤ q.b }
+
+-- p is less than q where q minus p is above 0
+abbrev pub is_signed_less : Signed → Signed → Bool
+is_signed_less p q = is_positive (q.a -ℤ p.a) (q.b -ℤ p.b)
+
+-- p is less than q
+abbrev pub IsSignedLess : Signed → Signed → Type 0
+IsSignedLess p q = IsTrue (is_signed_less p q)
+
+-- p is at most q: q is not less than p
+abbrev pub IsSignedAtMost : Signed → Signed → Type 0
+IsSignedAtMost p q = is_signed_less q p ≡ false
+
+-- from p a step of this cost leads at most to q
+abbrev pub RisesAtMost : Signed → Cost → Signed → Type 0
+RisesAtMost p step q = IsSignedAtMost q (add_signed p (signed_of step))
+
+-- -3 + √2 is less than -1
+pub below_minus_one : IsSignedLess
+    (cost_difference (record { a = 0; b = 1 }) (record { a = 3; b = 0 }))
+    (cost_difference (record { a = 0; b = 0 }) (record { a = 1; b = 0 }))
+below_minus_one = refl
+
+-- from -1 a diagonal step leads to at most -1 + √2, and not to 1
+pub within_a_step : RisesAtMost (cost_difference (record { a = 0; b = 0 }) (record { a = 1; b = 0 }))
+    (record { a = 0; b = 1 }) (cost_difference (record { a = 0; b = 1 }) (record { a = 1; b = 0 }))
+within_a_step = refl
+
+pub beyond_a_step : is_signed_less
+    (add_signed (cost_difference (record { a = 0; b = 0 }) (record { a = 1; b = 0 })) (signed_of (record { a = 0; b = 1 })))
+    (signed_of (record { a = 1; b = 0 })) ≡ true
+beyond_a_step = refl

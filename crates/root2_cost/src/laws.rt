@@ -4,6 +4,7 @@
 //! pairs that sums keep and that compares straight with diagonal moves by their squares.
 
 ghost use Rattle.root2_cost.specs.Laws.{OrderIsTotal, OrderIsTransitive, ValuesTellPairs, SumsKeepOrder, SquaresDecide, DistancesAdd, RanksTellOrder, RanksTellPairs};
+ghost use Rattle.root2_cost.specs.Laws.{SignedCostsKeepOrder, SignedOrderIsTransitive, DifferencesTelescope, BoundsAddUp, SignedRanksTellOrder};
 
 /// Of two costs one is the lesser, or they are the same pair.
 pub fn order_is_total()
@@ -43,4 +44,29 @@ pub fn ranks_tell_order()
 /// Two such costs of one rank are the same pair.
 pub fn ranks_tell_pairs()
     ensures { RanksTellPairs }
+{}
+
+/// Differences of costs with nothing are ordered as the costs are.
+pub fn signed_costs_keep_order()
+    ensures { SignedCostsKeepOrder }
+{}
+
+/// The order of differences is transitive.
+pub fn signed_order_is_transitive()
+    ensures { SignedOrderIsTransitive }
+{}
+
+/// The differences of consecutive values sum up to that of the last and the first.
+pub fn differences_telescope()
+    ensures { DifferencesTelescope }
+{}
+
+/// Where each of two steps rises by at most its cost, both rise by at most the sum of the costs.
+pub fn bounds_add_up()
+    ensures { BoundsAddUp }
+{}
+
+/// Of two differences with parts below 2^30 in amount the lesser is the one of the lesser rank.
+pub fn signed_ranks_tell_order()
+    ensures { SignedRanksTellOrder }
 {}

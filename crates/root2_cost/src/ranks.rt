@@ -10,9 +10,10 @@
 //! Numbers, chapters X and XIV.
 
 ghost use Rattle.std.specs.Prelude.{◌≡◌, ◌<◌, ◌^◌};
-ghost use Rattle.root2_cost.specs.Rank.{rank_of};
+ghost use Rattle.std.specs.Int.RustNames.{unsigned_abs};
+ghost use Rattle.root2_cost.specs.Rank.{rank_of, signed_rank};
 
-use crate::Cost;
+use crate::{Cost, Signed};
 
 /// What one straight move counts.
 const STRAIGHT_RANK: u64 = 3_166_815_962;
@@ -29,6 +30,18 @@ impl Cost {
         ensures { result ≡ rank_of self }
     {
         self.a as u64 * STRAIGHT_RANK + self.b as u64 * DIAGONAL_RANK
+    }
+}
+
+impl Signed {
+    /// The rank of a difference with parts below 2^30 in amount: of two such differences the lesser
+    /// has the lesser rank (`laws::signed_ranks_tell_order`).
+    pub fn rank(self) -> i64
+        requires a { unsigned_abs self.a < 2 ^ 30 }
+        requires b { unsigned_abs self.b < 2 ^ 30 }
+        ensures { result ≡ signed_rank self }
+    {
+        self.a * STRAIGHT_RANK as i64 + self.b * DIAGONAL_RANK as i64
     }
 }
 
