@@ -6,7 +6,7 @@ use Rattle.std.proofs.lemmas.Int.{ints}
 use Rattle.root2_cost.specs.declared.Cost.{Cost}
 use Rattle.root2_cost.specs.declared.Signed.{Signed}
 use Rattle.root2_cost.specs.Order.{is_positive, is_less, IsLess, IsAtMost}
-use Rattle.root2_cost.specs.Sums.{add_costs}
+use Rattle.root2_cost.specs.Sums.{add_costs, no_cost}
 use Rattle.root2_cost.specs.Signed.{signed_of, add_signed, signed_difference, is_signed_less, IsSignedLess, IsSignedAtMost, RisesAtMost}
 use Rattle.root2_cost.specs.Rank.{rank_of, signed_rank, straight_rank, diagonal_rank}
 use Rattle.root2_cost.specs.Laws.{HasShortParts, HasShortSides}
@@ -190,3 +190,48 @@ signed_ranks_less p q s t h =
     less_is p q (gain p) (loss p) (gain q) (loss q) (is_parted p) (is_parted q)
     ∙ ranks_less (add_costs (gain p) (loss q)) (add_costs (gain q) (loss p)) (short_sum p q s t)
     (short_sum q p t s) ranks
+
+-- where nothing is paid nothing rises
+pub rises_nothing : (p : Signed) → RisesAtMost p no_cost p
+rises_nothing p =
+    let a : p.a -ℤ (p.a +ℤ pos 0) ≡ pos 0 = omega (arith, ints) in
+    let b : p.b -ℤ (p.b +ℤ pos 0) ≡ pos 0 = omega (arith, ints) in
+    ap (λ (n : ℤ). is_positive n (p.b -ℤ (p.b +ℤ pos 0))) a ∙ ap (λ (n : ℤ). is_positive (pos 0) n) b
+
+-- from nothing, a rise to a cost pays it
+pub rise_from_nothing : (paid cost : Cost) → RisesAtMost (signed_of no_cost) paid (signed_of cost)
+    → IsAtMost cost paid
+rise_from_nothing paid cost h =
+    let none : (n : ℕ) → 0 + n ≡ n = λ n. omega arith in
+    ap (λ (n : ℕ). is_positive (pos cost.a -ℤ pos n) (pos cost.b -ℤ pos paid.b)) (sym (none paid.a))
+    ∙ ap (λ (n : ℕ). is_positive (pos cost.a -ℤ pos (0 + paid.a)) (pos cost.b -ℤ pos n)) (sym (none paid.b)) ∙ h
+
+-- the rank of a difference with a cost more
+pub signed_rank-more : (s : Signed) (c : Cost)
+    → signed_rank (add_signed s (signed_of c)) ≡ signed_rank s +ℤ pos (rank_of c)
+signed_rank-more s c =
+    let e : (s.a +ℤ pos c.a) *ℤ pos straight_rank ≡ (s.a *ℤ pos straight_rank) +ℤ pos (c.a * straight_rank) =
+    spread s.a c.a straight_rank in
+    let f : (s.b +ℤ pos c.b) *ℤ pos diagonal_rank ≡ (s.b *ℤ pos diagonal_rank) +ℤ pos (c.b * diagonal_rank) =
+    spread s.b c.b diagonal_rank in
+    joined_ranks _ _ (s.a *ℤ pos straight_rank) (s.b *ℤ pos diagonal_rank) (c.a * straight_rank)
+    (c.b * diagonal_rank) e f
+  where
+    joined_ranks : (m n k l : ℤ) (i j : ℕ) → m ≡ k +ℤ pos i → n ≡ l +ℤ pos j
+        → m +ℤ n ≡ (k +ℤ l) +ℤ pos (i + j)
+    joined_ranks m n k l i j e f = omega (arith, ints)
+
+    apart : (x y : ℤ) (a b c d n k : ℕ) → x ≡ pos (a * k) -ℤ pos (b * k) → y ≡ pos (c * k) -ℤ pos (d * k)
+        → (a + d) * k ≡ (c + n + b) * k → x ≡ y +ℤ pos (n * k)
+    apart x y a b c d n k e f h = omega (arith, ints)
+
+    counted : (z : ℤ) (n : ℕ) → up (z +ℤ pos n) + down z ≡ up z + n + down (z +ℤ pos n)
+    counted z n =
+        let e = parted z in
+        let f = parted (z +ℤ pos n) in
+        omega (arith, ints)
+
+    spread : (z : ℤ) (n k : ℕ) → (z +ℤ pos n) *ℤ pos k ≡ (z *ℤ pos k) +ℤ pos (n * k)
+    spread z n k =
+        apart ((z +ℤ pos n) *ℤ pos k) (z *ℤ pos k) (up (z +ℤ pos n)) (down (z +ℤ pos n)) (up z) (down z) n k
+        (times (z +ℤ pos n) k) (times z k) (ap (λ m. m * k) (counted z n))
