@@ -1,9 +1,10 @@
 #!/usr/bin/env python3
 """Processor time per further query of a scenario, for one program or several in turn.
 
-  per_query.py MAP SCEN PROGRAM [PROGRAM ..] [--rounds N]
+  per_query.py MAP SCEN PROGRAM [PROGRAM ..] [--rounds N] [--rule RULE]
 
-Each program is called as `PROGRAM scen MAP SCEN engine=plain`, once with all entries and once with
+Each program is called as `PROGRAM scen MAP SCEN engine=plain`, with `rule=RULE` where that is
+given, once with all entries and once with
 the first one alone; the difference over the other entries is the time of a further query, without
 the start of the process and the reading of the map. The least of the rounds counts. With several
 programs their outputs are compared, and ratios are those to the first program.
@@ -15,10 +16,10 @@ import subprocess
 import tempfile
 
 
-def call(program, map_file, scen_file):
+def call(program, map_file, scen_file, settings):
     """Seconds of processor time of one call, and its output."""
     before = resource.getrusage(resource.RUSAGE_CHILDREN)
-    done = subprocess.run([program, "scen", map_file, scen_file, "engine=plain"], stdout=subprocess.PIPE)
+    done = subprocess.run([program, "scen", map_file, scen_file, *settings], stdout=subprocess.PIPE)
     after = resource.getrusage(resource.RUSAGE_CHILDREN)
     return after.ru_utime + after.ru_stime - before.ru_utime - before.ru_stime, done.stdout
 
@@ -29,7 +30,9 @@ def main():
     parser.add_argument("scen")
     parser.add_argument("programs", nargs="+", metavar="PROGRAM")
     parser.add_argument("--rounds", type=int, default=3)
+    parser.add_argument("--rule")
     options = parser.parse_args()
+    settings = ["engine=plain"] + ([f"rule={options.rule}"] if options.rule else [])
     lines = pathlib.Path(options.scen).read_text().splitlines(keepends=True)
     with tempfile.TemporaryDirectory() as folder:
         first_alone = pathlib.Path(folder) / "first.scen"
@@ -38,8 +41,8 @@ def main():
         outputs = set()
         for _ in range(options.rounds):
             for program in options.programs:
-                whole, output = call(program, options.map, options.scen)
-                first, _ = call(program, options.map, str(first_alone))
+                whole, output = call(program, options.map, options.scen, settings)
+                first, _ = call(program, options.map, str(first_alone), settings)
                 times[program].append((whole - first) / (len(lines) - 2))
                 outputs.add(output)
     base = min(times[options.programs[0]])

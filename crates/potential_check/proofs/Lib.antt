@@ -1,0 +1,14 @@
+pub mod Choices
+pub mod Entries
+pub mod Steep
+pub mod Reaching
+pub mod Climbing
+pub mod Walks
+pub mod Feasible
+pub mod Ranked
+pub mod Judging
+pub mod Words
+pub mod LinesLeft
+pub mod Listing
+pub mod Breaking
+pub mod Spelled

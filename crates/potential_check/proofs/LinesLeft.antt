@@ -1,0 +1,194 @@
+-- What is left to read, before a line and after it.
+use Rattle.std.proofs.Common.{◌≡◌, ℕ, zero, suc, ◌+◌, ◌^◌, ◌≤◌, ◌⊎◌, inl, inr, arith, refl, ap, sym, ◌∙◌, subst, Bool, true, false, eqb, List, [], ◌∷◌, ◌++◌, length, Option, Some, None, Result, Ok, Err}
+use Rattle.std.specs.Prelude.{nat_le, ◌&&◌, if◌then◌else◌, map}
+use Rattle.std.specs.List.{list_all, onto_first}
+use Rattle.std.proofs.lemmas.Bool.{and_parts}
+use Rattle.text_line.specs.declared.lines.Line.{Line}
+use Rattle.text_line.specs.Left.{Left, GivesNext}
+use Rattle.text_line.specs.Lines.{is_line_feed, lines_of, pieces_of, without_cr}
+use Rattle.text_line.proofs.Placing.{length-without_cr}
+use Rattle.grid_moves.specs.declared.Cell.{Cell}
+use Rattle.grid_moves.specs.Grid.{cell_number}
+use Rattle.potential_check.specs.declared.certificate.Certificate.{Certificate}
+use Rattle.potential_check.specs.declared.fault.CertFault.{CertFault}
+use Rattle.potential_check.specs.declared.fault.CertFault.TheVariants as faults
+use Rattle.potential_check.specs.Certificate.{ascend_from}
+use Rattle.potential_check.specs.Text.{AreShort, Plain, State, Step, Tells, absent_fault, after_step, at_claim, at_ends, at_points, at_size, at_version, certificate_of, closed, ended, goes, in_cells, in_values, misspelt, next, read_from, read_left, step_fault, unordered}
+use Rattle.potential_check.proofs.Entries.{le_is, le_true, tested}
+
+-- a line that may follow
+pub reads_on : (state after : State) (old new : Left) (line : Line) → GivesNext old (Some line) new
+    → next state line.bytes.now ≡ goes after → read_left state old ≡ read_left after new
+reads_on state after old new line gives e =
+    ap (λ (ls : List (List ℕ)). read_from state old.number ls) gives.0
+    ∙ ap (λ (s : Step). after_step s old.number (λ following. read_from following (old.number + 1)
+    new.lines)) e
+    ∙ ap (λ (n : ℕ). read_from after n new.lines) (sym gives.2)
+
+-- one that may not
+pub reads_fault : (state : State) (old new : Left) (line : Line) (fault : CertFault)
+    → GivesNext old (Some line) new → step_fault (next state line.bytes.now) old.number ≡ Some fault
+    → read_left state old ≡ Err fault
+reads_fault state old new line fault gives e =
+    ap (λ (ls : List (List ℕ)). read_from state old.number ls) gives.0
+    ∙ by_step (next state line.bytes.now) e
+  where
+    by_step : (s : Step) → step_fault s old.number ≡ Some fault
+        → after_step s old.number (λ following. read_from following (old.number + 1) new.lines) ≡ Err fault
+    by_step (goes after) f = absurd (cc)
+    by_step misspelt f = ap (λ (k : CertFault). let r : Result Plain CertFault = Err k in r) (same _ fault f)
+      where
+        same : (a b : CertFault) → Some a ≡ Some b → a ≡ b
+        same a b e = cc
+    by_step unordered f = ap (λ (k : CertFault). let r : Result Plain CertFault = Err k in r) (same _ fault f)
+      where
+        same : (a b : CertFault) → Some a ≡ Some b → a ≡ b
+        same a b e = cc
+
+-- no line, where one is needed
+pub reads_absent : (state : State) (old new : Left) (fault : CertFault) → GivesNext old None new
+    → absent_fault state old.number ≡ Some fault → read_left state old ≡ Err fault
+reads_absent state old new fault gives e =
+    ap (λ (ls : List (List ℕ)). read_from state old.number ls) gives.0 ∙ by_state state e
+  where
+    by_fault : (f : CertFault) → Some f ≡ Some fault → (let r : Result Plain CertFault = Err f in r)
+        ≡ Err fault
+    by_fault f g = let same : f ≡ fault = cc in ap (λ (k : CertFault). let r : Result Plain CertFault = Err
+        k in r) same
+
+    by_state : (s : State) → absent_fault s old.number ≡ Some fault → closed s old.number ≡ Err fault
+    by_state at_version f = by_fault _ f
+    by_state at_size f = by_fault _ f
+    by_state (at_ends w h) f = by_fault _ f
+    by_state (at_claim head) f = by_fault _ f
+    by_state (at_points head cost) f = by_fault _ f
+    by_state (in_values head cost points least values) f = by_fault _ f
+    by_state (in_cells head least cells) f = by_fault _ f
+    by_state (ended p) f = absurd (cc)
+
+-- no line, where none is needed
+pub reads_closed : (p : Plain) (old new : Left) → GivesNext old None new → read_left (ended p) old ≡ Ok p
+reads_closed p old new gives = ap (λ (ls : List (List ℕ)). read_from (ended p) old.number ls) gives.0
+
+-- an answer tells what is read, told what is left to read
+pub tells_on : (answer : Result Certificate CertFault) (read more : Result Plain CertFault) → read ≡ more
+    → Tells answer more → Tells answer read
+tells_on answer read more e t = subst (λ (r : Result Plain CertFault). Tells answer r) (sym e) t
+
+-- lines stay short
+pub short_next : (old new : Left) (line : Line) → GivesNext old (Some line) new → AreShort old
+    → AreShort new × (length line.bytes.now ≤ 2 ^ 30) × (old.number + 1 ≤ 2 ^ 31)
+short_next old new line gives short =
+    let all : list_all (λ l. nat_le (length l) (2 ^ 30)) (line.bytes.now ∷ new.lines) ≡ true =
+    ap (λ (ls : List (List ℕ)). list_all (λ l. nat_le (length l) (2 ^ 30)) ls) (sym gives.0) ∙ short.short in
+    let parts = and_parts (nat_le (length line.bytes.now) (2 ^ 30)) (list_all (λ l. nat_le (length l) (2 ^
+    30)) new.lines) all in
+    let count : length old.lines ≡ suc (length new.lines) = ap length gives.0 in (
+      record { few = omega (arith, short.few, gives.2); short = parts.1 },
+      le_is (length line.bytes.now) (2 ^ 30) parts.0,
+      omega (arith, short.few),
+    )
+
+-- the lines of a text are no longer than it, and no more
+pub record Within (n : ℕ) (lines : List (List ℕ)) : Type 0 where
+  pub few : length lines ≤ n
+  pub short : list_all (λ l. nat_le (length l) n) lines ≡ true
+
+weaker : (m n : ℕ) (lines : List (List ℕ)) → m ≤ n → list_all (λ l. nat_le (length l) m) lines ≡ true
+    → list_all (λ l. nat_le (length l) n) lines ≡ true
+weaker m n [] h all = refl
+weaker m n (l ∷ lines) h all =
+    let parts = and_parts (nat_le (length l) m) (list_all (λ l. nat_le (length l) m) lines) all in
+    let most = le_is (length l) m parts.0 in
+    rw (le_true (length l) n (omega arith), weaker m n lines h parts.1) refl
+
+longer_first : (byte n : ℕ) (pieces : List (List ℕ)) → Within n pieces
+    → Within (suc n) (onto_first byte pieces)
+longer_first byte n [] w = record { few = omega arith; short = rw (le_true 1 (suc n) (omega arith)) refl }
+longer_first byte n (p ∷ pieces) w =
+    let parts = and_parts (nat_le (length p) n) (list_all (λ l. nat_le (length l) n) pieces) w.short in
+    let most = le_is (length p) n parts.0 in
+    record {
+      few = omega (arith, w.few);
+      short = rw (
+        le_true (suc (length p)) (suc n) (omega arith),
+        weaker n (suc n) pieces (omega arith)
+            parts.1,
+      ) refl;
+    }
+
+one_more : (b n : ℕ) (pieces : List (List ℕ)) (feed : Bool) → Within n pieces
+    → Within (suc n) (if feed then [] ∷ pieces else onto_first b pieces)
+one_more b n pieces true later = record {
+  few = omega (arith, later.few);
+  short = rw (le_true 0 (suc n) (omega arith), weaker n (suc n) pieces (omega arith) later.short) refl;
+}
+one_more b n pieces false later = longer_first b n pieces later
+
+pieces_within : (text : List ℕ) → Within (length text) (pieces_of text)
+pieces_within [] = record { few = omega arith; short = refl }
+pieces_within (b ∷ bytes) =
+    one_more b (length bytes) (pieces_of bytes) (is_line_feed b) (pieces_within bytes)
+
+lines_within : (n : ℕ) (pieces : List (List ℕ)) → Within n pieces → Within n (map without_cr pieces)
+lines_within n [] w = record { few = w.few; short = refl }
+lines_within n (p ∷ pieces) w =
+    let parts = and_parts (nat_le (length p) n) (list_all (λ l. nat_le (length l) n) pieces) w.short in
+    let most = le_is (length p) n parts.0 in
+    let less = length-without_cr p in
+    let later = lines_within n pieces (record { few = omega (arith, w.few); short = parts.1 }) in
+    record {
+      few = omega (arith, w.few, count without_cr pieces);
+      short = rw (le_true (length (without_cr p)) n (omega arith), later.short) refl;
+    }
+  where
+    count : (f : List ℕ → List ℕ) (ps : List (List ℕ)) → length (map f ps) ≡ length ps
+    count f [] = refl
+    count f (p ∷ ps) = ap suc (count f ps)
+
+pub short_text : (text : List ℕ) → length text ≤ 2 ^ 30 → AreShort (record {
+  lines = lines_of text;
+  number
+      = 1;
+})
+short_text text h =
+    let within = lines_within (length text) (pieces_of text) (pieces_within text) in
+    record {
+      few = omega (arith, within.few);
+      short = weaker (length text) (2 ^ 30) (lines_of text) h within.short;
+    }
+
+-- the first line
+pub text_read : (text : List ℕ) (left : Left) → left ≡ record { lines = lines_of text; number = 1 }
+    → certificate_of text ≡ read_left at_version left
+unfolding certificate_of
+text_read text left e = ap (λ (l : Left). read_left at_version l) (sym e)
+
+-- cells ascend from n on, up to below m
+abbrev pub ascend_to : ℕ → ℕ → List Cell → ℕ → Bool
+ascend_to width n [] m = nat_le n m
+ascend_to width n (c ∷ cells) m =
+    nat_le n (cell_number width c) && ascend_to width (cell_number width c + 1) cells m
+
+-- a further cell
+pub ascend_to-pushed : (width n m : ℕ) (cells : List Cell) (c : Cell) → ascend_to width n cells m ≡ true
+    → m ≤ cell_number width c → ascend_to width n (cells ++ c ∷ []) (cell_number width c + 1) ≡ true
+ascend_to-pushed width n m [] c a h =
+    let most = le_is n m a in
+    rw (
+      le_true n (cell_number width c) (omega arith),
+      le_true (cell_number width c + 1) (cell_number width
+          c + 1) (omega arith),
+    ) refl
+ascend_to-pushed width n m (d ∷ cells) c a h =
+    let parts = and_parts (nat_le n (cell_number width d)) (ascend_to width (cell_number width d + 1) cells
+    m) a in
+    rw (parts.0, ascend_to-pushed width (cell_number width d + 1) m cells c parts.1 h) refl
+
+pub ascend_to-ascend : (width n m : ℕ) (cells : List Cell) → ascend_to width n cells m ≡ true
+    → ascend_from width n cells ≡ true
+ascend_to-ascend width n m [] a = refl
+ascend_to-ascend width n m (d ∷ cells) a =
+    let parts = and_parts (nat_le n (cell_number width d)) (ascend_to width (cell_number width d + 1) cells
+    m) a in
+    rw (parts.0, ascend_to-ascend width (cell_number width d + 1) m cells parts.1) refl

@@ -1,0 +1,233 @@
+-- Points that stand for a walk between two cells.
+use Rattle.std.proofs.Common.{◌≡◌, ℕ, zero, suc, ◌+◌, ◌-◌, ◌<◌, ◌≤◌, ◌⊎◌, inl, inr, arith, refl, ap, sym, ◌∙◌, subst, Bool, true, false, List, [], ◌∷◌, ◌++◌, length}
+use Rattle.std.specs.Prelude.{Option, Some, None, Result, Ok, Err, option_map, slice_get, ◌&&◌, nat_eq, if◌then◌else◌, IfOk, IfErr}
+use Rattle.std.proofs.lemmas.Bool.{and_parts}
+use Rattle.std.proofs.lemmas.Bool.Decides.{nat_tests}
+use Rattle.root2_cost.specs.declared.Cost.{Cost}
+use Rattle.root2_cost.proofs.Less.{same_cost}
+use Rattle.grid_moves.specs.declared.Cell.{Cell}
+use Rattle.grid_moves.specs.Grid.{GridData}
+use Rattle.grid_moves.specs.Move.{is_same}
+use Rattle.grid_moves.specs.Points.{are_lined, segment, steps_between, unfolded_from, unfolding_of}
+use Rattle.grid_moves.specs.Walk.{is_walk, cost_of, last_of, IsWalk}
+use Rattle.grid_moves.proofs.Legal.{is_same-cell, is_same-itself}
+use Rattle.path_points.specs.declared.checking.BadAt.{BadAt}
+use Rattle.path_points.specs.Checked.{IsFirstBad, IsShortWalk, most_steps, run}
+use Rattle.path_points.proofs.Joined.{run_ends}
+use Rattle.potential_check.specs.Accepted.{IsBadWalk, IsRightWalk, begins_at, ends_at, is_at, is_cost, elsewhere, broken, other}
+use Rattle.potential_check.specs.Judged.{JudgesWalk}
+use Rattle.potential_check.proofs.Entries.{tested}
+
+-- where cells end that follow others
+last_of-append : (u : Cell) (cells later : List Cell) → last_of u (cells ++ later)
+    ≡ last_of (last_of u cells) later
+last_of-append u [] later = refl
+last_of-append u (c ∷ cells) later = last_of-append c cells later
+
+unfolded_some : (b : Bool) (f : List Cell → List Cell) (o : Option (List Cell)) (cells : List Cell)
+    → (if b then option_map f o else None) ≡ Some cells → (more : List Cell) × (o ≡ Some more) × (f more
+    ≡ cells)
+unfolded_some false f o cells h = absurd (cc)
+unfolded_some true f None cells h = absurd (cc)
+unfolded_some true f (Some more) cells h = (more, refl, cc)
+
+-- an unfolding ends in the last point
+unfolded_ends : (u : Cell) (points cells : List Cell) → unfolded_from u points ≡ Some cells
+    → last_of u cells ≡ last_of u points
+unfolded_ends u [] cells h = let none : [] ≡ cells = cc in ap (last_of u) (sym none)
+unfolded_ends u (v ∷ points) cells h =
+    let parts = unfolded_some (are_lined u v) (λ more. run u v ++ more) (unfolded_from v points) cells h in
+    ap (last_of u) (sym parts.2) ∙ last_of-append u (run u v) parts.0
+    ∙ ap (λ (c : Cell). last_of c parts.0) (run_ends u v) ∙ unfolded_ends v points parts.0 parts.1
+
+last_point : (u : Cell) (points : List Cell)
+    → slice_get (u ∷ points) (length (u ∷ points) - 1) ≡ Some (last_of u points)
+last_point u [] = refl
+last_point u (v ∷ points) =
+    let n : suc (suc (length points)) - 1 ≡ suc (suc (length points) - 1) = omega arith in
+    rw n (last_point v points)
+
+at_cell : (c p : Cell) → is_at c (Some p) ≡ true → p ≡ c
+at_cell c p h = is_same-cell p c h
+
+-- what an unfolding says of the points
+pub record Unfolds (points : List Cell) (s : Cell) (cells : List Cell) : Type 0 where
+  pub begins : begins_at s points ≡ true
+  pub ends : slice_get points (length points - 1) ≡ Some (last_of s cells)
+
+unfolding_some : (p : Cell) (o : Option (List Cell)) (s : Cell) (cells : List Cell)
+    → option_map (λ more. p ∷ more) o ≡ Some (s ∷ cells) → (p ≡ s) × (o ≡ Some cells)
+unfolding_some p None s cells h = absurd (cc)
+unfolding_some p (Some more) s cells h =
+    let e : p ∷ more ≡ s ∷ cells = cc in
+    let f : more ≡ cells = cc in
+    (cc, ap (λ (l : List Cell). let o : Option (List Cell) = Some l in o) f)
+
+pub unfolds_is : (points : List Cell) (s : Cell) (cells : List Cell) → unfolding_of points ≡ Some (s ∷ cells)
+    → Unfolds points s cells
+unfolds_is [] s cells h = absurd (cc)
+unfolds_is (p ∷ points) s cells h =
+    let parts = unfolding_some p (unfolded_from p points) s cells h in
+    record {
+      begins = ap (λ (c : Cell). is_same c s) parts.0 ∙ is_same-itself s;
+      ends = last_point p points ∙ ap (λ (c : Cell). let o : Option Cell = Some c in o)
+          (sym (unfolded_ends p points cells parts.1) ∙ ap (λ (c : Cell). last_of c cells) parts.0);
+    }
+
+-- the cells of an unfolding that begins at s
+pub begun : (points cells : List Cell) (s : Cell) → unfolding_of points ≡ Some cells → begins_at s points
+    ≡ true
+    → (more : List Cell) × (unfolding_of points ≡ Some (s ∷ more)) × (cells ≡ s ∷ more)
+begun [] cells s h b = absurd (cc)
+begun (p ∷ points) cells s h b = by_option (unfolded_from p points) h
+  where
+    first : p ≡ s
+    first = at_cell s p b
+
+    by_option : (o : Option (List Cell)) → option_map (λ more. p ∷ more) o ≡ Some cells
+        → (more : List Cell) × (option_map (λ more. p ∷ more) o ≡ Some (s ∷ more)) × (cells ≡ s ∷ more)
+    by_option None e = absurd (cc)
+    by_option (Some more) e =
+        let f : p ∷ more ≡ cells = cc in
+        let same : p ∷ more ≡ s ∷ more = ap (λ (c : Cell). c ∷ more) first in
+        (more, ap (λ (l : List Cell). let o : Option (List Cell) = Some l in o) same, sym f ∙ same)
+
+is_cost-same : (p q : Cost) → is_cost p q ≡ true → p ≡ q
+is_cost-same p q h = same_cost p q (grind (arith, nat_tests)) (grind (arith, nat_tests))
+
+is_cost-itself : (p : Cost) → is_cost p p ≡ true
+is_cost-itself p = grind (arith, nat_tests)
+
+-- the answers of a check of points
+abbrev failing : BadAt → Result Cost BadAt
+failing bad = Err bad
+
+abbrev paying : Cost → Result Cost BadAt
+paying cost = Ok cost
+
+module _ (g : GridData) (s t : Cell) (cost : Cost) (points : List Cell) where
+  -- a right walk is a short one of the cost
+  pub right_short : IsRightWalk g s t cost points → IsShortWalk g points cost
+  right_short r = record {
+    cells = s ∷ r.cells;
+    unfolds = r.unfolds;
+    walk = r.walk.legal;
+    short = omega (arith, r.short);
+    priced = r.priced;
+  }
+
+  pub right_begins : IsRightWalk g s t cost points → begins_at s points ≡ true
+  right_begins r = (unfolds_is points s r.cells r.unfolds).begins
+
+  pub right_ends : IsRightWalk g s t cost points → ends_at t points ≡ true
+  right_ends r = ap (is_at t) (unfolds_is points s r.cells r.unfolds).ends
+      ∙ ap (λ (c : Cell). is_same c t) r.walk.ends ∙ is_same-itself t
+
+  -- and the other way round
+  pub short_right : (paid : Cost) → IsShortWalk g points paid → begins_at s points ≡ true
+      → ends_at t points ≡ true → is_cost paid cost ≡ true → IsRightWalk g s t cost points
+  short_right paid w begins ends priced =
+      let cells = begun points w.cells s w.unfolds begins in
+      let unfolds = unfolds_is points s cells.0 cells.1 in
+      record {
+        cells = cells.0;
+        unfolds = cells.1;
+        walk = record {
+          legal = ap (λ (l : List Cell). is_walk g l) (sym cells.2) ∙ w.walk;
+          ends = at_cell t (last_of s cells.0) (ap (is_at t) (sym unfolds.ends) ∙ ends);
+        };
+        short = omega (arith, w.short, ap length cells.2);
+        priced = ap cost_of (sym cells.2) ∙ w.priced ∙ is_cost-same paid cost priced;
+      }
+
+  -- the answers of a check of the points, and what they tell
+  pub record Tells (answer : Result Cost BadAt) : Type 0 where
+    pub walk : IfOk answer (λ paid. IsShortWalk g points paid)
+    pub ok : (paid : Cost) → IsShortWalk g points paid → answer ≡ Ok paid
+    pub bad : IfErr answer (λ bad. IsFirstBad g points bad.0)
+    pub err : (i : ℕ) → IsFirstBad g points i → answer ≡ Err (record { 0 = i })
+
+  bad_number : (a b : BadAt) → failing a ≡ failing b → a.0 ≡ b.0
+  bad_number a b e = let f : a ≡ b = cc in ap (λ (k : BadAt). k.0) f
+
+  -- the first point is not the start
+  pub judged_elsewhere : begins_at s points ≡ false → JudgesWalk g s t cost points (Some 0)
+  judged_elsewhere off = record {
+    right = tt;
+    none = λ r. absurd (let b = right_begins r in cc);
+    wrong = elsewhere off;
+    some = only;
+  }
+    where
+      only : (i : ℕ) → IsBadWalk g s t cost points i → Some 0 ≡ Some i
+      only i (elsewhere e) = refl
+      only i (broken e first) = absurd (cc)
+      only i (other paid e w o) = absurd (cc)
+
+  -- a point is bad
+  pub judged_broken : (bad : BadAt) → begins_at s points ≡ true → Tells (Err bad)
+      → JudgesWalk g s t cost points (Some bad.0)
+  judged_broken bad begins tells = record {
+    right = tt;
+    none = λ r. absurd (let o = tells.ok cost (right_short r) in cc);
+    wrong = broken begins tells.bad;
+    some = only;
+  }
+    where
+      only : (i : ℕ) → IsBadWalk g s t cost points i → Some bad.0 ≡ Some i
+      only i (elsewhere e) = absurd (cc)
+      only i (broken e first) = ap (λ (n : ℕ). let o : Option ℕ = Some n in o)
+          (bad_number bad (record { 0 = i }) (tells.err i first))
+      only i (other paid e w o) = absurd (let p = tells.ok paid w in cc)
+
+  ok_cost : (p q : Cost) → paying p ≡ paying q → p ≡ q
+  ok_cost p q e = cc
+
+  -- the walk ends elsewhere, or costs something else
+  pub judged_other : (paid : Cost) → begins_at s points ≡ true → Tells (Ok paid)
+      → (ends_at t points && is_cost paid cost) ≡ false → JudgesWalk g s t cost points (Some (length points))
+  judged_other paid begins tells off = record {
+    right = tt;
+    none = λ r. absurd (
+        let same = ok_cost paid cost (tells.ok cost (right_short r)) in
+        let both : (ends_at t points && is_cost paid cost) ≡ true = rw (
+          right_ends r,
+          same,
+          is_cost-itself
+              cost,
+        ) refl in
+        cc);
+    wrong = other paid begins tells.walk off;
+    some = only;
+  }
+    where
+      only : (i : ℕ) → IsBadWalk g s t cost points i → Some (length points) ≡ Some i
+      only i (elsewhere e) = absurd (cc)
+      only i (broken e first) = absurd (let p = tells.err i first in cc)
+      only i (other paid e w o) = refl
+
+  -- it is right
+  pub judged_right : (paid : Cost) → begins_at s points ≡ true → Tells (Ok paid) → ends_at t points ≡ true
+      → is_cost paid cost ≡ true → JudgesWalk g s t cost points None
+  judged_right paid begins tells ends priced = record {
+    right = short_right paid tells.walk begins ends priced;
+    none = λ r. refl;
+    wrong = tt;
+    some = λ i bad. absurd (no_bad i bad);
+  }
+    where
+      no_bad : (i : ℕ) → IsBadWalk g s t cost points i → ⊥
+      no_bad i (elsewhere e) = cc
+      no_bad i (broken e first) = let p = tells.err i first in cc
+      no_bad i (other more e w off) =
+          let same = ok_cost paid more (tells.ok more w) in
+          let both : (ends_at t points && is_cost more cost) ≡ true = rw (ends, ← same, priced) refl in
+          cc
+
+-- of two tests that do not both hold
+pub and_false_left : (a b : Bool) → a ≡ false → (a && b) ≡ false
+and_false_left a b h = rw h refl
+
+pub and_false_right : (a b : Bool) → b ≡ false → (a && b) ≡ false
+and_false_right true b h = h
+and_false_right false b h = refl

@@ -1,0 +1,11 @@
+pub mod Certificate
+pub mod Potential
+pub mod Moves
+pub mod Accepted
+pub mod Heights
+pub mod Rising
+pub mod Judged
+pub mod Forms
+pub mod Text
+pub mod Spelling
+pub mod Worked

@@ -1,0 +1,209 @@
+//! Checks of certificates.
+
+ghost use Rattle.std.specs.Prelude.{◌≡◌, ◌^◌, ◌<◌, length, Ok, Err, IfOk, IfErr, IsTrue};
+ghost use Rattle.std.specs.List.{list_all};
+ghost use Rattle.grid_moves.specs.Grid.{IsGrid};
+ghost use Rattle.potential_check.specs.Accepted as spec;
+ghost use Rattle.potential_check.specs.Accepted.{Holds, IsAccepted, Refuses, claimed};
+ghost use Rattle.potential_check.specs.Certificate.{are_listed, cells_of, is_claim, is_short, is_small};
+ghost use Rattle.potential_check.specs.Judged.{JudgesClaim, JudgesWalk};
+ghost use Rattle.potential_check.specs.Moves.{first_failing};
+ghost use Rattle.potential_check.specs.Potential as potentials;
+ghost use Rattle.potential_check.specs.declared.certificate.Claim.TheVariants as claims;
+ghost use Rattle.potential_check.specs.declared.verdict.Reject.{Reject};
+
+use crate::certificate::{Certificate, Claim};
+use crate::heights::Heights;
+use crate::rising::Hills;
+use crate::verdict::{Proof, Reject};
+use grid_moves::{Cell, Grid, Terrain, estimate};
+use path_points::{Cells, Costs, Points, check_walk};
+use root2_cost::{Cost, Signed};
+
+/// What the certificate proves of the grid, or the first clause that it fails.
+///
+/// The clauses are tested in the order of `Reject`. The points and the list are passed over a few
+/// times, and the cells of the grid once. No memory is taken.
+pub fn check(g: &Grid, c: &Certificate) -> Result<Proof, Reject>
+    // What is accepted holds of all walks on the grid.
+    ensures proves { IfOk result (λ proof. Holds g.now c.now.start c.now.goal proof) }
+    // Only what meets all clauses is accepted, and all of that is.
+    ensures ok { IfOk result (λ proof. IsAccepted g.now c.now) }
+    ensures accepts { IsAccepted g.now c.now → result ≡ Ok (claimed c.now.claim) }
+    // All else is refused by the first clause that it fails, with its numbers.
+    ensures err { IfErr result (Refuses g.now c.now) }
+    ensures refuses { (reject : Reject) → Refuses g.now c.now reject → result ≡ Err reject }
+{
+    if g.width() != c.width || g.height() != c.height {
+        return Err(Reject::Size);
+    }
+    if !g.free(c.start) || !g.free(c.goal) {
+        return Err(Reject::Ends);
+    }
+    check_claim(g, c.start, c.goal, &c.claim)
+}
+
+// What the claim about walks from s to t proves, or the first clause that it fails.
+fn check_claim(g: &Grid, s: Cell, t: Cell, claim: &Claim) -> Result<Proof, Reject>
+    requires whole { IsGrid g.now }
+    requires goal { IsTrue (is_short t) }
+    requires claim { IsTrue (is_claim g.now.width g.now.height claim.now) }
+    ensures { JudgesClaim g.now s t claim.now result }
+{
+    match claim {
+        Claim::Least {
+            cost,
+            points,
+            values,
+        } => check_least(g, s, t, *cost, points, values),
+        Claim::NoWalk { cells } => check_none(g, s, t, cells),
+    }
+}
+
+// The same for a claim of least cost.
+fn check_least(
+    g: &Grid,
+    s: Cell,
+    t: Cell,
+    cost: Cost,
+    points: &Points,
+    values: &Costs,
+) -> Result<Proof, Reject>
+    requires whole { IsGrid g.now }
+    requires goal { IsTrue (is_short t) }
+    requires claim { IsTrue (is_claim g.now.width g.now.height (claims.Least cost points.now values.now)) }
+    ensures { JudgesClaim g.now s t (claims.Least cost points.now values.now) result }
+{
+    if let Some(i) = bad_point(g, s, t, cost, points) {
+        return Err(Reject::Walk(i));
+    }
+    if !is_value(potential(cost, t, values, s), Cost { a: 0, b: 0 }) {
+        return Err(Reject::Start);
+    }
+    if !is_value(potential(cost, t, values, t), cost) {
+        return Err(Reject::Goal);
+    }
+    match first_raise(g, t, cost, values) {
+        Some((u, v)) => Err(Reject::Move(u, v)),
+        None => Ok(Proof::Least(cost)),
+    }
+}
+
+// The same for a claim that no walk exists.
+fn check_none(g: &Grid, s: Cell, t: Cell, cells: &Cells) -> Result<Proof, Reject>
+    requires whole { IsGrid g.now }
+    requires claim { IsTrue (is_claim g.now.width g.now.height (claims.NoWalk cells.now)) }
+    ensures { JudgesClaim g.now s t (claims.NoWalk cells.now) result }
+{
+    if !is_listed(cells, s) {
+        return Err(Reject::Start);
+    }
+    if is_listed(cells, t) {
+        return Err(Reject::Goal);
+    }
+    match first_way_out(g, cells) {
+        Some((u, v)) => Err(Reject::Open(u, v)),
+        None => Ok(Proof::NoWalk),
+    }
+}
+
+// The first legal move that raises the potential by more than its cost.
+fn first_raise(g: &Grid, t: Cell, cost: Cost, values: &Costs) -> Option<(Cell, Cell)>
+    requires whole { IsGrid g.now }
+    requires goal { IsTrue (is_short t) }
+    requires cost { IsTrue (is_small cost) }
+    requires values { IsTrue (list_all (λ entry. is_small entry.1) values.now) }
+    requires listed { IsTrue (are_listed g.now.width g.now.height (cells_of values.now)) }
+    ensures { result ≡ first_failing g.now (potentials.rises (potentials.potential_of cost t values.now)) }
+{
+    let heights = Heights::Values {
+        cost,
+        goal: t,
+        rest: values.as_slice(),
+    };
+    let slopes = Hills { grid: g, heights };
+    slopes.first_climb()
+}
+
+// The first legal move from a listed cell to one that is not.
+fn first_way_out(g: &Grid, cells: &Cells) -> Option<(Cell, Cell)>
+    requires whole { IsGrid g.now }
+    requires listed { IsTrue (are_listed g.now.width g.now.height cells.now) }
+    ensures { result ≡ first_failing g.now (spec.leaves cells.now) }
+{
+    let heights = Heights::Members {
+        rest: cells.as_slice(),
+    };
+    let hills = Hills { grid: g, heights };
+    hills.first_climb()
+}
+
+// The potential of a cell: its value, if it is listed, else the cost less the estimate.
+fn potential(cost: Cost, goal: Cell, values: &Costs, c: Cell) -> Signed
+    ensures { result ≡ potentials.potential_of cost goal values.now c }
+{
+    for (cell, value) in values.as_slice() {
+        if *cell == c {
+            return value.signed();
+        }
+    }
+    cost.minus(estimate(c, goal))
+}
+
+// Whether the cell is listed.
+fn is_listed(cells: &Cells, c: Cell) -> bool
+    ensures { result ≡ potentials.is_listed cells.now c }
+{
+    cells.as_slice().iter().any(|cell| *cell == c)
+}
+
+// Whether the value is this cost.
+fn is_value(s: Signed, c: Cost) -> bool
+    ensures { result ≡ spec.is_value s c }
+{
+    s == c.signed()
+}
+
+// Whether there is such a point, and it is this cell.
+fn is_at(c: Cell, point: Option<Cell>) -> bool
+    ensures { result ≡ spec.is_at c point }
+{
+    match point {
+        Some(p) => p == c,
+        None => false,
+    }
+}
+
+// Whether the first point is this cell.
+fn begins_at(s: Cell, points: &Points) -> bool
+    ensures { result ≡ spec.begins_at s points.now }
+{
+    is_at(s, points.as_slice().first().copied())
+}
+
+// Whether the last point is this cell.
+fn ends_at(t: Cell, points: &Points) -> bool
+    ensures { result ≡ spec.ends_at t points.now }
+{
+    is_at(t, points.as_slice().last().copied())
+}
+
+// The number that tells that the points are no walk from start to goal of this cost, if they aren't.
+fn bad_point(g: &Grid, s: Cell, t: Cell, cost: Cost, points: &Points) -> Option<u32>
+    requires { length points.now < 2 ^ 30 }
+    ensures { JudgesWalk g.now s t cost points.now result }
+{
+    if !begins_at(s, points) {
+        return Some(0);
+    }
+    match check_walk(g, points) {
+        Err(bad) => Some(bad.0),
+        Ok(paid) => {
+            if ends_at(t, points) && paid == cost {
+                None
+            } else {
+                Some(points.as_slice().len() as u32)
+            }
+        }
+    }
+}
