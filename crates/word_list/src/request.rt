@@ -55,6 +55,8 @@ pub enum Pick {
     /// The one that looks at every neighbour of a cell.
     #[default]
     Plain,
+    /// The one that jumps, cell by cell.
+    Jps,
 }
 
 /// What an answer shows of a walk.
