@@ -3,9 +3,9 @@
 ghost use Rattle.std.specs.Prelude.{◌≡◌, ◌+◌, ◌<◌, ◌≤◌, ◌^◌, true, length, slice_get, Some, if◌then◌else◌};
 ghost use Rattle.best_first.specs.Space.{IsPlaced, KeepsShape};
 ghost use Rattle.best_first.specs.Table.{node_for, offered, ClosedBelow};
-ghost use Rattle.grid_moves.specs.Grid.{IsGrid};
+ghost use Rattle.grid_moves.specs.Grid.{IsGrid, is_free};
 ghost use Rattle.grid_moves.specs.Move.{all_dirs};
-ghost use Rattle.plain_search.specs.Offers.{cost_to, offer_to, all_offered, MayOffer, MayExpand, HasExpanded};
+ghost use Rattle.plain_search.specs.Offers.{IsAround, cost_to, offer_to, all_offered, MayOffer, MayExpand, HasExpanded};
 
 use crate::moves::{Sides, less_offered};
 use best_first::{Layout, Offer, Space, State};
@@ -122,6 +122,49 @@ fn offer_around<L: Ledger>(
     offer_over(space, from, a.nw, Cell { x: left, y: up }, Dir::NW, steps);
 }
 
+// The legal moves from a free cell.
+#[inline(always)]
+fn read_moves<T: Terrain>(t: &T, c: Cell) -> Around
+    requires free { is_free (T.grid t.now) c ≡ true }
+    requires whole { IsGrid (T.grid t.now) }
+    ensures { IsAround (T.grid t.now) c result }
+{
+    Around::of(t, c)
+}
+
+// The same, for the rare cells at the border of the map.
+#[inline(never)]
+fn read_border_moves<T: Terrain>(t: &T, c: Cell) -> Around
+    requires free { is_free (T.grid t.now) c ≡ true }
+    requires whole { IsGrid (T.grid t.now) }
+    ensures { IsAround (T.grid t.now) c result }
+{
+    read_moves(t, c)
+}
+
+// Whether this cell and all around it lie on the map.
+#[inline(always)]
+fn is_inner<T: Terrain>(t: &T, c: Cell) -> bool {
+    let (width, height) = (t.width(), t.height());
+    let (left, right) = (c.x.wrapping_sub(1), c.x.wrapping_add(1));
+    let (up, down) = (c.y.wrapping_sub(1), c.y.wrapping_add(1));
+    left < width && c.x < width && right < width && up < height && c.y < height && down < height
+}
+
+// The legal moves from a free cell. Of an inner one the compiler knows that all around it lies on the map.
+#[inline(always)]
+fn moves_around<T: Terrain>(t: &T, c: Cell) -> Around
+    requires free { is_free (T.grid t.now) c ≡ true }
+    requires whole { IsGrid (T.grid t.now) }
+    ensures { IsAround (T.grid t.now) c result }
+{
+    if is_inner(t, c) {
+        read_moves(t, c)
+    } else {
+        read_border_moves(t, c)
+    }
+}
+
 /// Offers the legal moves from the node of that number, in increasing order of direction, but for
 /// those that its parent has offered at no greater cost. There is room for them.
 pub(crate) fn offer_all<T: Terrain, L: Ledger>(
@@ -144,7 +187,7 @@ pub(crate) fn offer_all<T: Terrain, L: Ledger>(
 {
     let node = space.node(at);
     let cell = node.place.cell();
-    let around = Around::of(t, cell);
+    let around = moves_around(t, cell);
     let moves = less_offered(around, Sides::of(node.place.arrival()));
     let from = Source {
         id: at,
