@@ -121,7 +121,7 @@ entries_follow g c d = by_cell (legal_ahead g c d) refl
     stuck e false = refl
 
     -- what the run from c finds, by what the run from v finds
-    abbrev found : Cell → ℤ
+    found : Cell → ℤ
     found v = if is_marked g v d then pos 1 else from_before (mark_or_run (first_mark g v d) (run_length g v d))
 
     stepped : (v : Cell) → legal_ahead g c d ≡ Some v
