@@ -1,2 +1,5 @@
 pub mod Lengths
 pub mod Following
+pub mod Placing
+pub mod Short
+pub mod Refreshing
