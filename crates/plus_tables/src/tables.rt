@@ -1,12 +1,13 @@
 //! The tables of a grid: eight entries for each cell, each made from those at the next cell.
 
-ghost use Rattle.std.specs.Prelude.{◌≡◌, true};
+ghost use Rattle.std.specs.Prelude.{◌≡◌, true, IfOk, replicate, pos};
 ghost use Rattle.grid_moves.specs.Grid.{IsGrid, is_free};
 ghost use Rattle.plus_tables.specs.Tables as spec;
 ghost use Rattle.plus_tables.specs.Local as local;
 
-use grid_moves::{Cell, Corner, Dir, Terrain, dir_number, step};
+use grid_moves::{Cell, Corner, Dir, NoMemory, Terrain, dir_number, step};
 use pruning::{Side, forced, is_diagonal, turn};
+use std::alloc::Global;
 use std::marker::Model;
 use std::sync::ledger::Ledger;
 use steps::Steps;
@@ -51,6 +52,13 @@ fn entry_place(width: u16, c: Cell, d: Dir) -> usize
     (c.y as usize * width as usize + c.x as usize) * 8 + dir_number(d) as usize
 }
 
+// So many numbers 0.
+fn zeros(alloc: Global, count: usize) -> Result<Vec<i16>, NoMemory>
+    ensures { IfOk result (λ numbers. numbers.items ≡ replicate count (pos 0)) }
+{
+    vec![in alloc; 0i16; count]
+}
+
 // Whether an entry tells of a mark.
 #[inline(always)]
 pub fn tells_mark(entry: i16) -> bool
@@ -69,10 +77,11 @@ fn from_before(entry: i16) -> i16
 }
 
 impl Tables {
-    ghost use Rattle.std.specs.Prelude.{◌≡◌, ◌≢◌, ◌+◌, true, false};
+    ghost use Rattle.std.specs.Prelude.{◌≡◌, ◌≢◌, ◌+◌, true, false, IfOk, pos};
     ghost use Rattle.grid_moves.specs.Grid.{IsGrid, is_free};
     ghost use Rattle.plus_tables.specs.Entry.{table_entry};
     ghost use Rattle.plus_tables.specs.Local.{is_mark_by};
+    ghost use Rattle.plus_tables.specs.Sweep.{IsSwept, is_cell};
     ghost use Rattle.plus_tables.specs.Tables.{AreSized, RestsRight, entry_at, is_on, is_place, tables_with};
 
     /// The number of columns.
@@ -87,6 +96,22 @@ impl Tables {
         ensures { result ≡ self.now.height }
     {
         self.height
+    }
+
+    // Tables of the size of a grid, with 0 everywhere.
+    pub(crate) fn blank<T: Terrain>(alloc: Global, t: &T) -> Result<Tables, NoMemory>
+        ensures sized { IfOk result (λ tables. AreSized tables (T.grid t.now)) }
+        ensures blank { IfOk result (λ tables. (c : _) (d : _) → entry_at tables c d ≡ pos 0) }
+    {
+        let (width, height) = (t.width(), t.height());
+        let corner = t.corner();
+        let entries = zeros(alloc, height as usize * width as usize * 8)?;
+        Ok(Tables {
+            width,
+            height,
+            corner,
+            entries,
+        })
     }
 
     // The entry for a cell of the map and a direction.
@@ -135,6 +160,20 @@ impl Tables {
             Some(v) => from_before(self.get(v, d)),
             None => 0,
         }
+    }
+
+    // Makes one entry that of the grid.
+    #[inline(always)]
+    pub(crate) fn renew<T: Terrain>(&mut self, t: &T, c: Cell, d: Dir)
+        requires whole { IsGrid (T.grid t.now) }
+        requires sized { AreSized self.old (T.grid t.now) }
+        requires inside { is_on self.old c ≡ true }
+        requires rests { RestsRight self.old (T.grid t.now) c d }
+        ensures { IsSwept (T.grid t.now) d (is_cell c) self.old self.new }
+    {
+        let _ = &self.width;
+        let entry = self.told_by_next(t, c, d);
+        self.put(c, d, entry);
     }
 
     /// The table entry for a cell of the map and a direction: above 0, the number of moves to the first
