@@ -198,14 +198,15 @@ impl Space {
 
     // 0 where a state has no node, or the number of its node and one.
     #[inline(always)]
-    fn find(&self, state: State) -> u32
+    fn find(&self, layout: Layout, state: State) -> u32
+        requires told { layout ≡ self.now.layout }
         requires narrow { self.now.width ≤ 4096 }
         requires placed { IsPlaced self.now.width self.now.places state.cell }
         ensures { result ≡ entry_for (lookup self.now.layout self.now.table.nodes
             (state_in self.now.layout state)) }
     {
         self.index
-            .entry(number_of(self.width, state.cell) as usize, state)
+            .entry(layout, number_of(self.width, state.cell) as usize, state)
     }
 
     // Adds a node for a state that has none.
@@ -239,6 +240,34 @@ impl Space {
         self.pool.lower(id, node, steps);
     }
 
+    // Offers a way on from a taken state, told the layout.
+    #[inline(always)]
+    fn offer_in<L: Ledger>(
+        &mut self,
+        layout: Layout,
+        goal: Cell,
+        offer: Offer,
+        steps: &mut Steps<L>,
+    )
+        requires told { layout ≡ self.old.layout }
+        requires narrow { self.old.width ≤ 4096 }
+        requires placed { IsPlaced self.old.width self.old.places offer.to.cell }
+        requires fits { offer.rank < 2 ^ 63 }
+        requires closed { ClosedBelow (node_for goal offer).key self.old.table }
+        requires room { 1 ≤ self.old.spare }
+        ensures table { self.new.table ≡ offered self.old.layout goal offer self.old.table }
+        ensures shape { KeepsShape self.old self.new }
+        ensures spare { self.old.spare ≤ self.new.spare + 1 }
+    {
+        let node = node_for(goal, offer);
+        let entry = self.find(layout, offer.to);
+        if entry == 0 {
+            self.add(offer.to, node, steps);
+        } else if node.key < self.pool.node(entry - 1).key {
+            self.lower(entry - 1, node, steps);
+        }
+    }
+
     /// Offers a way on from a taken state: its node is added where the state has none, and takes the
     /// place of the state's node where that one has a greater key.
     ///
@@ -255,13 +284,23 @@ impl Space {
         ensures shape { KeepsShape self.old self.new }
         ensures spare { self.old.spare ≤ self.new.spare + 1 }
     {
-        let node = node_for(goal, offer);
-        let entry = self.find(offer.to);
-        if entry == 0 {
-            self.add(offer.to, node, steps);
-        } else if node.key < self.pool.node(entry - 1).key {
-            self.lower(entry - 1, node, steps);
-        }
+        self.offer_in(self.index.layout, goal, offer, steps);
+    }
+
+    /// The same where each cell has one state, with no look at the layout.
+    #[inline(always)]
+    pub fn offer_by_cell<L: Ledger>(&mut self, goal: Cell, offer: Offer, steps: &mut Steps<L>)
+        requires layout { self.old.layout ≡ Layout.ByCell }
+        requires narrow { self.old.width ≤ 4096 }
+        requires placed { IsPlaced self.old.width self.old.places offer.to.cell }
+        requires fits { offer.rank < 2 ^ 63 }
+        requires closed { ClosedBelow (node_for goal offer).key self.old.table }
+        requires room { 1 ≤ self.old.spare }
+        ensures table { self.new.table ≡ offered self.old.layout goal offer self.old.table }
+        ensures shape { KeepsShape self.old self.new }
+        ensures spare { self.old.spare ≤ self.new.spare + 1 }
+    {
+        self.offer_in(Layout::ByCell, goal, offer, steps);
     }
 
     /// Takes the open node that ranks first, and gives its number, or `None` where none is open.

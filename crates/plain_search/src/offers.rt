@@ -5,7 +5,7 @@ ghost use Rattle.best_first.specs.Space.{IsPlaced, KeepsShape};
 ghost use Rattle.best_first.specs.Table.{node_for, offered, ClosedBelow};
 ghost use Rattle.grid_moves.specs.Grid.{IsGrid, is_free};
 ghost use Rattle.grid_moves.specs.Move.{all_dirs};
-ghost use Rattle.plain_search.specs.Offers.{IsAround, cost_to, offer_to, all_offered, MayOffer, MayExpand, HasExpanded};
+ghost use Rattle.plain_search.specs.Offers.{IsAround, cost_to, offer_to, all_offered, less_offered, sides_of, MayOffer, MayExpand, HasExpanded};
 
 use crate::moves::{Sides, less_offered};
 use best_first::{Layout, Offer, Space, State};
@@ -76,11 +76,12 @@ fn offer_over<L: Ledger>(
     ensures spare { space.old.spare ≤ space.new.spare + 1 }
 {
     if is_open {
-        space.offer(from.goal, offer_to(from, to, d), steps);
+        space.offer_by_cell(from.goal, offer_to(from, to, d), steps);
     }
 }
 
 // Offers the open moves from a cell, in increasing order of direction.
+#[inline(always)]
 fn offer_around<L: Ledger>(
     space: &mut Space,
     from: Source,
@@ -120,6 +121,61 @@ fn offer_around<L: Ledger>(
     offer_over(space, from, a.sw, Cell { x: left, y: down }, Dir::SW, steps);
     offer_over(space, from, a.w, Cell { x: left, y }, Dir::W, steps);
     offer_over(space, from, a.nw, Cell { x: left, y: up }, Dir::NW, steps);
+}
+
+// Offers the moves from a cell less those that its parent has offered, told how the cell was come to.
+#[inline(always)]
+fn offer_less<L: Ledger>(
+    space: &mut Space,
+    from: Source,
+    c: Cell,
+    a: Around,
+    arrival: Option<Dir>,
+    steps: &mut Steps<L>,
+)
+    requires layout { space.old.layout ≡ Layout.ByCell }
+    requires narrow { space.old.width ≤ 4096 }
+    requires short { from.rank < 2 ^ 62 }
+    requires may { MayOffer from.goal from.id from.key from.rank a c space.old }
+    requires closed { ClosedBelow from.key space.old.table }
+    requires room { 8 ≤ space.old.spare }
+    ensures table { space.new.table ≡ all_offered from.goal from.id from.rank
+        (less_offered a (sides_of arrival)) c all_dirs space.old.table }
+    ensures shape { KeepsShape space.old space.new }
+{
+    offer_around(space, from, c, less_offered(a, Sides::of(arrival)), steps);
+}
+
+// The same: each arrival has code of its own, in which the sides where the parent lies are constants.
+fn offer_from<L: Ledger>(
+    space: &mut Space,
+    from: Source,
+    c: Cell,
+    a: Around,
+    arrival: Option<Dir>,
+    steps: &mut Steps<L>,
+)
+    requires layout { space.old.layout ≡ Layout.ByCell }
+    requires narrow { space.old.width ≤ 4096 }
+    requires short { from.rank < 2 ^ 62 }
+    requires may { MayOffer from.goal from.id from.key from.rank a c space.old }
+    requires closed { ClosedBelow from.key space.old.table }
+    requires room { 8 ≤ space.old.spare }
+    ensures table { space.new.table ≡ all_offered from.goal from.id from.rank
+        (less_offered a (sides_of arrival)) c all_dirs space.old.table }
+    ensures shape { KeepsShape space.old space.new }
+{
+    match arrival {
+        None => offer_less(space, from, c, a, None, steps),
+        Some(Dir::N) => offer_less(space, from, c, a, Some(Dir::N), steps),
+        Some(Dir::NE) => offer_less(space, from, c, a, Some(Dir::NE), steps),
+        Some(Dir::E) => offer_less(space, from, c, a, Some(Dir::E), steps),
+        Some(Dir::SE) => offer_less(space, from, c, a, Some(Dir::SE), steps),
+        Some(Dir::S) => offer_less(space, from, c, a, Some(Dir::S), steps),
+        Some(Dir::SW) => offer_less(space, from, c, a, Some(Dir::SW), steps),
+        Some(Dir::W) => offer_less(space, from, c, a, Some(Dir::W), steps),
+        Some(Dir::NW) => offer_less(space, from, c, a, Some(Dir::NW), steps),
+    }
 }
 
 // The legal moves from a free cell.
@@ -188,12 +244,11 @@ pub(crate) fn offer_all<T: Terrain, L: Ledger>(
     let node = space.node(at);
     let cell = node.place.cell();
     let around = moves_around(t, cell);
-    let moves = less_offered(around, Sides::of(node.place.arrival()));
     let from = Source {
         id: at,
         key: node.key,
         rank: node.cost_rank(goal),
         goal,
     };
-    offer_around(space, from, cell, moves, steps);
+    offer_from(space, from, cell, around, node.place.arrival(), steps);
 }

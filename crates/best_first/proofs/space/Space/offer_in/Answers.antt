@@ -10,7 +10,7 @@ use Rattle.best_first.proofs.Lookup.{lookup-found}
 use Rattle.best_first.proofs.Mirrors.{some_node}
 use Rattle.best_first.proofs.Parts.{node_state}
 use Rattle.best_first.proofs.Tables.{entry_some, open_of}
-use Rattle.best_first.proofs.space.Space.offer.Goals as goal
+use Rattle.best_first.proofs.space.Space.offer_in.Goals as goal
 
 pub node-requires : goal.node-requires
 node-requires g c =
