@@ -56,39 +56,32 @@ module _ (goal : Cell) (id key rank : ℕ) (a : Around) (s : Sides) (c : Cell) (
   may_less moves less m =
       subst (λ (b : Around). MayOffer goal id key rank b c space) (sym less) (kept_may m)
 
--- the moves that were offered, by the arrival
-pub less_by : (goal : Cell) (id rank : ℕ) (a moves : Around) (s : Sides) (arrival : Option Dir) (c : Cell)
-    (old new : Table) → moves ≡ less_offered a s → s ≡ sides_of arrival
-    → new ≡ all_offered goal id rank moves c all_dirs old
-    → new ≡ all_offered goal id rank (less_offered a (sides_of arrival)) c all_dirs old
-less_by goal id rank a moves s arrival c old new less sides t =
-    t ∙ ap (λ (b : Around). all_offered goal id rank b c all_dirs old)
-    (less ∙ ap (λ (q : Sides). less_offered a q) sides)
-
-module _ (g : GridData) (goal : Cell) (id : ℕ) (n : Node) (cell : Cell) (a : Around) (rank : ℕ)
-    (at : cell ≡ node_cell n) (around : IsAround g cell a) (left : rank ≡ rank_left goal n) where
+module _ (g : GridData) (goal : Cell) (id : ℕ) (n : Node) (cell : Cell) (a moves : Around) (s : Sides)
+    (rank : ℕ) (at : cell ≡ node_cell n) (around : IsAround g cell a) (less : moves ≡ less_offered a s)
+    (left : rank ≡ rank_left goal n) where
   around_node : IsAround g (node_cell n) a
   around_node = subst (λ (c : Cell). IsAround g c a) at around
 
-  -- the moves may be offered
+  -- the moves that are kept may be offered
   pub may_offer : (space : SpaceData) → MayExpand g goal id n space
-      → MayOffer goal id n.key rank a cell space
+      → MayOffer goal id n.key rank moves cell space
   may_offer space m =
-      subst (λ (r : ℕ). MayOffer goal id n.key r a cell space) (sym left)
+      may_less goal id n.key rank a s cell space moves less
+      (subst (λ (r : ℕ). MayOffer goal id n.key r a cell space) (sym left)
       (subst (λ (c : Cell). MayOffer goal id n.key (rank_left goal n) a c space) (sym at)
-      (m.may a around_node))
+      (m.may a around_node)))
 
   -- and then they were
-  pub expanded : (old new : Table) (arrival : Option Dir) → arrival ≡ (state_told n.place).arrival
-      → new ≡ all_offered goal id rank (less_offered a (sides_of arrival)) cell all_dirs old
+  pub expanded : (old new : Table) (arrival : Option Dir) → s ≡ sides_of arrival
+      → arrival ≡ (state_told n.place).arrival → new ≡ all_offered goal id rank moves cell all_dirs old
       → HasExpanded g goal id n old new
-  expanded old new arrival told t = record {
+  expanded old new arrival sides told t = record {
     around = a;
     is_around = around_node;
     table =
-        t ∙ ap (λ (r : ℕ). all_offered goal id r (less_offered a (sides_of arrival)) cell all_dirs old) left
-        ∙ ap (λ (c : Cell). all_offered goal id (rank_left goal n) (less_offered a (sides_of arrival)) c
-        all_dirs old) at
-        ∙ ap (λ (d : Option Dir). all_offered goal id (rank_left goal n) (less_offered a (sides_of d))
-        (node_cell n) all_dirs old) told;
+        t ∙ ap (λ (r : ℕ). all_offered goal id r moves cell all_dirs old) left
+        ∙ ap (λ (b : Around). all_offered goal id (rank_left goal n) b cell all_dirs old) less
+        ∙ ap (λ (c : Cell). all_offered goal id (rank_left goal n) (less_offered a s) c all_dirs old) at
+        ∙ ap (λ (q : Sides). all_offered goal id (rank_left goal n) (less_offered a q) (node_cell n) all_dirs
+        old) (sides ∙ ap (λ (d : Option Dir). sides_of d) told);
   }
