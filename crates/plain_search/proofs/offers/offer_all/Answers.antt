@@ -2,28 +2,16 @@ use Rattle.std.proofs.Common.{◌≡◌, ◌∙◌, sym, ap, subst}
 use Rattle.std.specs.Prelude.{Option, Some, None}
 use Rattle.best_first.specs.declared.node.Node.{Node}
 use Rattle.plain_search.specs.Offers.{HasExpanded}
-use Rattle.plain_search.proofs.Expanding.{may_offer, expanded}
 use Rattle.plain_search.proofs.offers.offer_all.Goals as goal
 
 one_node : (m n : Node) → Some m ≡ Some n → m ≡ n
 one_node m n e = ap (λ (o : Option Node). elim o as (λ _. Node) [ Some v ↦ v | None ↦ m ]) e
 
-pub offer_around-requires-clause-may : goal.offer_around-requires-clause-may
-offer_around-requires-clause-may g c =
-    let grid = g.T.Terrain.grid c.args.t.now in
-    may_offer grid c.args.goal c.args.at c.node-node.result c.cell-cell.result c.moves_around-around.result
-    c.less_offered-moves.result c.of.result c.cost_rank.result c.cell-cell.ensures
-    c.moves_around-around.ensures
-    c.less_offered-moves.ensures c.cost_rank.ensures c.args.space.now
-    (c.requires.may c.node-node.result c.node-node.ensures)
-
 pub returns-clause-expanded : goal.returns-clause-expanded
 returns-clause-expanded g c = λ n h.
-    let grid = g.T.Terrain.grid c.args.t.now in
-    subst (λ (m : Node). HasExpanded grid c.args.goal c.args.at m c.args.space.now.table
-    c.offer_around.new.space.table) (one_node c.node-node.result n (sym c.node-node.ensures ∙ h))
-    (expanded grid c.args.goal c.args.at c.node-node.result c.cell-cell.result c.moves_around-around.result
-    c.less_offered-moves.result c.of.result c.cost_rank.result c.cell-cell.ensures
-    c.moves_around-around.ensures
-    c.less_offered-moves.ensures c.cost_rank.ensures c.args.space.now.table c.offer_around.new.space.table
-    c.arrival.result c.of.ensures c.arrival.ensures c.offer_around.ensures.table)
+    subst (λ (m : Node). HasExpanded (g.T.Terrain.grid c.args.t.now) c.args.goal c.args.at m
+    c.args.space.now.table c.offer_from.new.space.table)
+    (one_node c.node-node.result n (sym c.node-node.ensures ∙ h)) c.offer_from.ensures.expanded
+
+pub offer_from-requires-clause-may : goal.offer_from-requires-clause-may
+offer_from-requires-clause-may g c = c.requires.may c.node-node.result c.node-node.ensures

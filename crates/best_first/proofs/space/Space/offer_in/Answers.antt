@@ -10,7 +10,7 @@ use Rattle.best_first.proofs.Lookup.{lookup-found}
 use Rattle.best_first.proofs.Mirrors.{some_node}
 use Rattle.best_first.proofs.Parts.{node_state}
 use Rattle.best_first.proofs.Tables.{entry_some, open_of}
-use Rattle.best_first.proofs.space.Space.offer.Goals as goal
+use Rattle.best_first.proofs.space.Space.offer_in.Goals as goal
 
 pub node-requires : goal.node-requires
 node-requires g c =
@@ -21,8 +21,8 @@ node-requires g c =
     let within = slice_get_within s.table.nodes (c.find-entry.result - 1) f.node f.node_is in
     subst (λ (d : SpaceData). c.find-entry.result - 1 < length d.table.nodes) (sym c.self.view_is) within
 
-pub lower-requires-clause-is_open : goal.lower-requires-clause-is_open
-lower-requires-clause-is_open g c =
+pub lower_parts-requires-clause-is_open : goal.lower_parts-requires-clause-is_open
+lower_parts-requires-clause-is_open g c =
     let s = c.args.self.now in
     let key : (node_for c.args.goal c.args.offer).key < c.node.result.now.key =
     subst (λ (n : Node). n.key < c.node.result.now.key) c.node_for-node.ensures c.if-node.true in
@@ -31,8 +31,8 @@ lower-requires-clause-is_open g c =
     (ap (λ (d : SpaceData). slice_get d.table.nodes (c.find-entry.result - 1)) (sym c.self.view_is)
     ∙ c.node.ensures) key
 
-pub lower-requires-clause-same : goal.lower-requires-clause-same
-lower-requires-clause-same g c = λ old h.
+pub lower_parts-requires-clause-same : goal.lower_parts-requires-clause-same
+lower_parts-requires-clause-same g c = λ old h.
     let s = c.args.self.now in
     let l = entry_some (lookup s.layout s.table.nodes (state_in s.layout c.args.offer.to)) c.find-entry.result
     c.find-entry.ensures c.if-entry-eq0.false in
