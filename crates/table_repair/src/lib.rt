@@ -1,0 +1,2 @@
+//! Repair.
+#![tactic(auto)]
