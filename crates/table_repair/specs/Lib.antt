@@ -1,1 +1,3 @@
 pub mod Differ
+pub mod Counted
+pub mod Mending

@@ -1,0 +1,93 @@
+-- How the entries for one direction are made right, from the far end of each line.
+use Rattle.std.specs.Prelude.{◌≡◌, ℕ, zero, suc, ◌+◌, ◌≤◌, ◌⊎◌, Bool, true, false, ◌&&◌, Option, Some, option_and_then, if◌then◌else◌, nat_le, nat_lt, nat_eq, None}
+use Rattle.grid_moves.specs.declared.Cell.{Cell}
+use Rattle.grid_moves.specs.declared.Dir.{Dir}
+use Rattle.grid_moves.specs.declared.Dir.TheVariants.{NE, E, SE, S, SW}
+use Rattle.grid_moves.specs.Grid.{GridData, is_inside}
+use Rattle.grid_moves.specs.Move.{ahead, behind, is_dir}
+use Rattle.pruning.specs.declared.turns.Side.{Side}
+use Rattle.pruning.specs.Turns.{turn, is_diagonal}
+use Rattle.plus_tables.specs.Entry.{table_entry}
+use Rattle.plus_tables.specs.Tables.{TablesData, IsWhole, AreSized, AreTablesOf, entry_at}
+use Rattle.table_repair.specs.Counted.{places_differing}
+
+-- the entry for the cell and the direction is the grid's
+abbrev pub IsRight : GridData → TablesData → Cell → Dir → Type 0
+IsRight h t u d = entry_at t u d ≡ table_entry h u d
+
+-- all entries for the direction are
+abbrev pub AreRight : GridData → TablesData → Dir → Type 0
+AreRight h t d = (u : Cell) → is_inside h u ≡ true → IsRight h t u d
+
+-- all entries for the components of a diagonal direction are
+abbrev pub AreBesideRight : GridData → TablesData → Dir → Type 0
+AreBesideRight h t d = is_diagonal d ≡ true → (s : Side) → AreRight h t (turn s d)
+
+-- the cell so many moves ahead, if there is one
+abbrev pub cell_after : Dir → ℕ → Cell → Option Cell
+cell_after d zero u = Some u
+cell_after d (suc k) u = option_and_then (λ v. cell_after d k v) (ahead d u)
+
+-- the cell behind, if it lies on the map
+abbrev pub behind_on : GridData → Dir → Cell → Option Cell
+behind_on h d v = option_and_then (λ u. if is_inside h u then Some u else None) (behind d v)
+
+-- an entry for d is right where the one at the next cell is, or where there is none, unless it waits to be
+-- looked at: where its next cell is one of those that this test tells
+pub record FollowBut (h : GridData) (t : TablesData) (d : Dir) (waits : Cell → Bool) : Type 0 where
+  pub next : (u v : Cell) → is_inside h u ≡ true → ahead d u ≡ Some v → is_inside h v ≡ true
+      → waits v ≡ false → IsRight h t v d → IsRight h t u d
+  pub last : (u : Cell) → is_inside h u ≡ true → ((v : Cell) → ahead d u ≡ Some v → is_inside h v ≡ false)
+      → IsRight h t u d
+
+-- the entry was made right, at most n moves behind one of these cells
+pub record IsMended (h : GridData) (t : TablesData) (d : Dir) (starts : Cell → Bool) (n : ℕ) (u : Cell)
+    : Type 0 where
+  pub right : IsRight h t u d
+  pub moves : ℕ
+  pub few : moves ≤ n
+  pub start : Cell
+  pub starts_there : starts start ≡ true
+  pub reaches : cell_after d moves u ≡ Some start
+
+-- what n entries for d that were made right, each on a line behind one of these cells, change
+pub record Mends (h : GridData) (d : Dir) (starts : Cell → Bool) (old new : TablesData) (n : ℕ) : Type 0 where
+  pub width : new.width ≡ old.width
+  pub height : new.height ≡ old.height
+  pub corner : new.corner ≡ old.corner
+  pub others : (u : Cell) (e : Dir) → is_dir e d ≡ false → is_inside h u ≡ true
+      → entry_at new u e ≡ entry_at old u e
+  pub along : (u : Cell) → is_inside h u ≡ true
+      → (entry_at new u d ≡ entry_at old u d) ⊎ IsMended h new d starts n u
+  pub count : (r : TablesData) → IsWhole r → AreTablesOf r h
+      → places_differing old.entries r.entries ≡ places_differing new.entries r.entries + n
+
+-- numbers from the first one on, and below the end
+pub record Numbers : Type 0 where
+  pub first : ℕ
+  pub end : ℕ
+
+abbrev pub is_among : Numbers → ℕ → Bool
+is_among s n = nat_le s.first n && nat_lt n s.end
+
+-- the cell lies in one of these rows and columns
+abbrev pub is_in : Numbers → Numbers → Cell → Bool
+is_in rows columns v = is_among rows v.y && is_among columns v.x
+
+-- the columns rise along the direction, or the rows
+abbrev pub goes_right : Dir → Bool
+goes_right NE = true
+goes_right E = true
+goes_right SE = true
+goes_right _ = false
+
+abbrev pub goes_down : Dir → Bool
+goes_down SE = true
+goes_down S = true
+goes_down SW = true
+goes_down _ = false
+
+-- no cell of the one kind lies ahead of one of the other
+abbrev pub NoneAhead : Dir → (Cell → Bool) → (Cell → Bool) → Type 0
+NoneAhead d here later = (v w : Cell) (k : ℕ) → here v ≡ true → cell_after d (suc k) v ≡ Some w
+    → later w ≡ false
