@@ -11,7 +11,7 @@ use Rattle.pruning.specs.Turns.{turn, is_diagonal}
 use Rattle.pruning.proofs.Table.{at_both, same_dir}
 use Rattle.plus_tables.specs.Tables.{TablesData, IsWhole, AreSized, AreTablesOf, is_on, entry_at}
 use Rattle.table_repair.specs.Counted.{places_differing}
-use Rattle.table_repair.specs.Mending.{IsRight, AreRight, AreBesideRight, IsMended, Mends, FollowBut, cell_after}
+use Rattle.table_repair.specs.Mending.{IsRight, AreRight, AreBesideRight, AreReady, IsMended, Mends, FollowBut, cell_after}
 
 pub sized_kept : (h : GridData) (d : Dir) (starts : Cell → Bool) (old new : TablesData) (n : ℕ)
     → Mends h d starts old new n → AreSized old h → AreSized new h
@@ -36,6 +36,7 @@ module _ (h : GridData) (d : Dir) (starts : Cell → Bool) where
     width = refl;
     height = refl;
     corner = refl;
+    length_kept = refl;
     others = λ u e a i. refl;
     along = λ u i. inl refl;
     count = λ r w a. omega arith;
@@ -67,6 +68,18 @@ module _ (h : GridData) (d : Dir) (starts : Cell → Bool) where
       → AreBesideRight h old d → AreBesideRight h new d
   beside_stay old new n m r k s u i = right_stays old new n m u (turn s d) i (r k s u i)
 
+  pub ready_stays : (old new : TablesData) (n : ℕ) → Mends h d starts old new n → AreReady h old d
+      → AreReady h new d
+  ready_stays old new n m r = record {
+    grid = r.grid;
+    sized = sized_kept h d starts old new n m r.sized;
+    whole = record {
+      sides = rw (m.width, m.height) r.whole.sides;
+      whole = rw (m.width, m.height) (m.length_kept ∙ r.whole.whole);
+    };
+    beside = beside_stay old new n m r.beside;
+  }
+
   wider_reach : (new : TablesData) (m n : ℕ) (u : Cell) → m ≤ n → IsMended h new d starts m u
       → IsMended h new d starts n u
   wider_reach new m n u l a = record {
@@ -96,6 +109,7 @@ module _ (h : GridData) (d : Dir) (starts : Cell → Bool) where
     width = b.width ∙ a.width;
     height = b.height ∙ a.height;
     corner = b.corner ∙ a.corner;
+    length_kept = b.length_kept ∙ a.length_kept;
     others = λ v e k i. b.others v e k i ∙ a.others v e k i;
     along = along;
     count = λ r w k. regroup _ _ _ (a.count r w k) (b.count r w k);
@@ -123,6 +137,7 @@ mends_wider h d few more wider old new n m = record {
   width = m.width;
   height = m.height;
   corner = m.corner;
+  length_kept = m.length_kept;
   others = m.others;
   along = λ u i. elim (m.along u i) [
     | inl e ↦ inl e

@@ -1,5 +1,5 @@
 -- One walk back from a cell, as long as entries change.
-use Rattle.std.proofs.Common.{◌≡◌, ◌≢◌, ℕ, zero, suc, ◌+◌, ◌<◌, ◌≤◌, ◌⊎◌, inl, inr, arith, Bool, true, false, refl, ap, sym, ◌∙◌, ◌&&◌, ◌||◌, length, get_or}
+use Rattle.std.proofs.Common.{◌≡◌, ◌≢◌, ℕ, zero, suc, ◌+◌, ◌<◌, ◌≤◌, ◌⊎◌, inl, inr, arith, Bool, true, false, refl, ap, sym, ◌∙◌, ◌&&◌, ◌||◌, length, length-set, get_or}
 use Rattle.std.specs.Prelude.{ℤ, pos, Option, Some, None, if◌then◌else◌, not}
 use Rattle.std.specs.Ordering.{int_eq}
 use Rattle.std.proofs.lemmas.Bool.Decides.{nat_tests, Decides-int_eq}
@@ -14,10 +14,10 @@ use Rattle.grid_moves.specs.declared.Dir.TheVariants.{N, NE, E, SE, S, SW, W, NW
 use Rattle.plus_tables.specs.Entry.{table_entry}
 use Rattle.plus_tables.specs.Tables.{TablesData, IsWhole, AreSized, AreTablesOf, RestsRight, is_on, entry_at, entry_place, tables_with}
 use Rattle.table_repair.specs.Counted.{places_differing}
-use Rattle.table_repair.specs.Mending.{IsRight, AreBesideRight, IsMended, Mends, FollowBut, cell_after, behind_on}
+use Rattle.table_repair.specs.Mending.{IsRight, AreBesideRight, AreReady, IsMended, Mends, FollowBut, cell_after, behind_on}
 use Rattle.table_repair.proofs.Counting.{entry-with, entry-with_other, count-with, with_itself}
 use Rattle.table_repair.proofs.Lines.{behind_on-is, behind_on-from, one_behind, after_before, after_moved, inside_parts, is_inside-from}
-use Rattle.table_repair.proofs.Mends.{mends_none, on_inside, sized_kept, beside_stay, mends_wider}
+use Rattle.table_repair.proofs.Mends.{mends_none, on_inside, ready_stays}
 
 -- what waits for this cell, and for those that wait later
 abbrev pub or_later : Cell → (Cell → Bool) → Cell → Bool
@@ -26,7 +26,7 @@ or_later v later w = is_same w v || later w
 -- after n changes behind v the walk stands at a cell whose entry is right
 pub record Walked (h : GridData) (d : Dir) (v : Cell) (old now : TablesData) (at_cell : Cell) (n : ℕ)
     : Type 0 where
-  pub sized : AreSized now h
+  pub ready : AreReady h now d
   pub reaches : cell_after d n at_cell ≡ Some v
   pub inside : is_inside h at_cell ≡ true
   pub right : IsRight h now at_cell d
@@ -34,10 +34,10 @@ pub record Walked (h : GridData) (d : Dir) (v : Cell) (old now : TablesData) (at
   pub follows : (later : Cell → Bool) → FollowBut h old d (or_later v later)
       → FollowBut h now d (or_later at_cell later)
 
-pub walked_none : (h : GridData) (d : Dir) (v : Cell) (t : TablesData) → AreSized t h → is_inside h v ≡ true
+pub walked_none : (h : GridData) (d : Dir) (v : Cell) (t : TablesData) → AreReady h t d → is_inside h v ≡ true
     → IsRight h t v d → Walked h d v t t v 0
 walked_none h d v t s i r = record {
-  sized = s;
+  ready = s;
   reaches = refl;
   inside = i;
   right = r;
@@ -88,10 +88,12 @@ module _ (h : GridData) (d : Dir) (v : Cell) (old now : TablesData) (at_cell u :
               let same = one_behind d p u at_cell (rw (← is_same-cell w at_cell s) k) e in rw same r
           by_test false s = g.next p w j k l (false_or (is_same w at_cell) (later w) s m) q
 
-  module _ (whole : IsWhole now) (new : TablesData) (is : new ≡ tables_with now u d (table_entry h u d))
-    where
+  module _ (new : TablesData) (is : new ≡ tables_with now u d (table_entry h u d)) where
+      whole : IsWhole now
+      whole = walked.ready.whole
+
       on : is_on now u ≡ true
-      on = on_inside now h walked.sized u i
+      on = on_inside now h walked.ready.sized u i
 
       set_right : IsRight h new u d
       set_right = rw is (entry-with now whole u on d (table_entry h u d))
@@ -99,7 +101,7 @@ module _ (h : GridData) (d : Dir) (v : Cell) (old now : TablesData) (at_cell u :
       stays : (w : Cell) (f : Dir) → is_inside h w ≡ true → (w ≡ u → f ≡ d → ⊥)
           → entry_at new w f ≡ entry_at now w f
       stays w f j other = rw is (entry-with_other now whole u on d f w (table_entry h u d)
-          (on_inside now h walked.sized w j) other)
+          (on_inside now h walked.ready.sized w j) other)
 
       right_kept : (w : Cell) → is_inside h w ≡ true → IsRight h now w d → IsRight h new w d
       right_kept w j r = by_test (is_same w u) refl
@@ -111,13 +113,9 @@ module _ (h : GridData) (d : Dir) (v : Cell) (old now : TablesData) (at_cell u :
               differ : w ≡ u → ⊥
               differ k = let t : is_same w u ≡ true = rw k (is_same-itself u) in absurd (cc)
 
-      pub walk_goes_on : entry_at now u d ≢ table_entry h u d → Walked h d v old new u (n + 1)
-      walk_goes_on changed = record {
-        sized = record {
-          width = ap (λ (t : TablesData). t.width) is ∙ walked.sized.width;
-          height = ap (λ (t : TablesData). t.height) is ∙ walked.sized.height;
-          corner = ap (λ (t : TablesData). t.corner) is ∙ walked.sized.corner;
-        };
+      pub walk_goes_on : AreReady h old d → entry_at now u d ≢ table_entry h u d → Walked h d v old new u (n + 1)
+      walk_goes_on first changed = record {
+        ready = ready_stays h d (λ w. is_same w v) old new (n + 1) mends first;
         reaches = reaches;
         inside = i;
         right = set_right;
@@ -163,10 +161,10 @@ module _ (h : GridData) (d : Dir) (v : Cell) (old now : TablesData) (at_cell u :
           count r w a = total _ _ _ (walked.mends.count r w a) one_changed
             where
               same_width : now.width ≡ r.width
-              same_width = walked.sized.width ∙ sym a.sized.width
+              same_width = walked.ready.sized.width ∙ sym a.sized.width
 
               same_height : now.height ≡ r.height
-              same_height = walked.sized.height ∙ sym a.sized.height
+              same_height = walked.ready.sized.height ∙ sym a.sized.height
 
               same_length : length now.entries ≡ length r.entries
               same_length = whole.whole ∙ rw (same_width, same_height) (sym w.whole)
@@ -187,6 +185,9 @@ module _ (h : GridData) (d : Dir) (v : Cell) (old now : TablesData) (at_cell u :
             width = ap (λ (t : TablesData). t.width) is ∙ walked.mends.width;
             height = ap (λ (t : TablesData). t.height) is ∙ walked.mends.height;
             corner = ap (λ (t : TablesData). t.corner) is ∙ walked.mends.corner;
+            length_kept = ap (λ (t : TablesData). length t.entries) is
+                ∙ length-set now.entries (entry_place now.width u d) (table_entry h u d)
+                ∙ walked.mends.length_kept;
             others = λ w f k j. stays w f j (λ s t. other f k t) ∙ walked.mends.others w f k j;
             along = along;
             count = count;
@@ -259,3 +260,27 @@ walk_short h d v u n grid i j r =
     by_dir SW a b k l p q = omega arith
     by_dir W a b k l p q = omega arith
     by_dir NW a b k l p q = omega arith
+
+-- what a refresh tells
+pub was_right : (one other : ℤ) (changed : Bool) → changed ≡ not (int_eq one other) → changed ≡ false
+    → one ≡ other
+was_right one other changed e f = by_test (int_eq one other) refl
+  where
+    by_test : (b : Bool) → int_eq one other ≡ b → one ≡ other
+    by_test true g = (Decides-int_eq one other).0 g
+    by_test false g = absurd (let t : changed ≡ true = rw (e, g) refl in cc)
+
+pub was_wrong : (one other : ℤ) (changed : Bool) → changed ≡ not (int_eq one other) → changed ≡ true
+    → one ≢ other
+was_wrong one other changed e f same =
+    let t : int_eq one other ≡ true = (Decides-int_eq one other).1 same in
+    let u : changed ≡ false = rw (e, t) refl in
+    absurd (cc)
+
+-- a refresh of a right entry leaves the tables as they are
+pub nothing_set : (h : GridData) (t new : TablesData) (u : Cell) (d : Dir) → AreReady h t d
+    → is_inside h u ≡ true → new ≡ tables_with t u d (table_entry h u d) → entry_at t u d ≡ table_entry h u d
+    → new ≡ t
+nothing_set h t new u d ready i is right =
+    is ∙ ap (λ (x : ℤ). tables_with t u d x) (sym right)
+    ∙ with_itself t ready.whole u (on_inside t h ready.sized u i) d

@@ -1,14 +1,15 @@
 -- How the entries for one direction are made right, from the far end of each line.
-use Rattle.std.specs.Prelude.{◌≡◌, ℕ, zero, suc, ◌+◌, ◌≤◌, ◌⊎◌, Bool, true, false, ◌&&◌, Option, Some, option_and_then, if◌then◌else◌, nat_le, nat_lt, nat_eq, None}
+use Rattle.std.specs.Prelude.{◌≡◌, ℕ, zero, suc, ◌+◌, ◌≤◌, ◌⊎◌, Bool, true, false, ◌&&◌, ◌||◌, ◌-◌, Option, Some, option_and_then, if◌then◌else◌, nat_le, nat_lt, nat_eq, length, None}
 use Rattle.grid_moves.specs.declared.Cell.{Cell}
 use Rattle.grid_moves.specs.declared.Dir.{Dir}
 use Rattle.grid_moves.specs.declared.Dir.TheVariants.{NE, E, SE, S, SW}
-use Rattle.grid_moves.specs.Grid.{GridData, is_inside}
+use Rattle.grid_moves.specs.Grid.{GridData, IsGrid, is_inside}
 use Rattle.grid_moves.specs.Move.{ahead, behind, is_dir}
 use Rattle.pruning.specs.declared.turns.Side.{Side}
 use Rattle.pruning.specs.Turns.{turn, is_diagonal}
 use Rattle.plus_tables.specs.Entry.{table_entry}
 use Rattle.plus_tables.specs.Tables.{TablesData, IsWhole, AreSized, AreTablesOf, entry_at}
+use Rattle.table_repair.specs.declared.span.Span.{Span}
 use Rattle.table_repair.specs.Counted.{places_differing}
 
 -- the entry for the cell and the direction is the grid's
@@ -22,6 +23,13 @@ AreRight h t d = (u : Cell) → is_inside h u ≡ true → IsRight h t u d
 -- all entries for the components of a diagonal direction are
 abbrev pub AreBesideRight : GridData → TablesData → Dir → Type 0
 AreBesideRight h t d = is_diagonal d ≡ true → (s : Side) → AreRight h t (turn s d)
+
+-- what refreshing the tables' entries for d asks of them
+pub record AreReady (h : GridData) (t : TablesData) (d : Dir) : Type 0 where
+  pub grid : IsGrid h
+  pub sized : AreSized t h
+  pub whole : IsWhole t
+  pub beside : AreBesideRight h t d
 
 -- the cell so many moves ahead, if there is one
 abbrev pub cell_after : Dir → ℕ → Cell → Option Cell
@@ -55,6 +63,7 @@ pub record Mends (h : GridData) (d : Dir) (starts : Cell → Bool) (old new : Ta
   pub width : new.width ≡ old.width
   pub height : new.height ≡ old.height
   pub corner : new.corner ≡ old.corner
+  pub length_kept : length new.entries ≡ length old.entries
   pub others : (u : Cell) (e : Dir) → is_dir e d ≡ false → is_inside h u ≡ true
       → entry_at new u e ≡ entry_at old u e
   pub along : (u : Cell) → is_inside h u ≡ true
@@ -62,17 +71,36 @@ pub record Mends (h : GridData) (d : Dir) (starts : Cell → Bool) (old new : Ta
   pub count : (r : TablesData) → IsWhole r → AreTablesOf r h
       → places_differing old.entries r.entries ≡ places_differing new.entries r.entries + n
 
--- numbers from the first one on, and below the end
-pub record Numbers : Type 0 where
-  pub first : ℕ
-  pub end : ℕ
-
-abbrev pub is_among : Numbers → ℕ → Bool
+-- the number is one of the span's
+abbrev pub is_among : Span → ℕ → Bool
 is_among s n = nat_le s.first n && nat_lt n s.end
 
+-- how many there are
+abbrev pub span_length : Span → ℕ
+span_length s = s.end - s.first
+
+-- the last or the first of them
+abbrev pub far_number : Bool → Span → Option ℕ
+far_number from_end s =
+    if nat_lt s.first s.end then Some (if from_end then s.end - 1 else s.first) else None
+
+-- the span without it
+abbrev pub without_far : Bool → Span → Span
+without_far from_end s =
+    if nat_lt s.first s.end then (if from_end then record { first = s.first; end = s.end - 1 }
+      else record { first = s.first + 1; end = s.end }) else s
+
+-- the cell lies in this row and one of these columns
+abbrev pub is_in_row : ℕ → Span → Cell → Bool
+is_in_row y columns v = nat_eq v.y y && is_among columns v.x
+
 -- the cell lies in one of these rows and columns
-abbrev pub is_in : Numbers → Numbers → Cell → Bool
+abbrev pub is_in : Span → Span → Cell → Bool
 is_in rows columns v = is_among rows v.y && is_among columns v.x
+
+-- one of the tests holds
+abbrev pub either : (Cell → Bool) → (Cell → Bool) → Cell → Bool
+either one other v = one v || other v
 
 -- the columns rise along the direction, or the rows
 abbrev pub goes_right : Dir → Bool
@@ -91,3 +119,15 @@ goes_down _ = false
 abbrev pub NoneAhead : Dir → (Cell → Bool) → (Cell → Bool) → Type 0
 NoneAhead d here later = (v w : Cell) (k : ℕ) → here v ≡ true → cell_after d (suc k) v ≡ Some w
     → later w ≡ false
+
+-- The entries for d whose next cell is one of these wait, and others may wait besides, none of which lies
+-- ahead: so each of these can be looked at, from the far end.
+pub record CanSweep (h : GridData) (t : TablesData) (d : Dir) (here : Cell → Bool) : Type 0 where
+  pub later : Cell → Bool
+  pub follow : FollowBut h t d (either here later)
+  pub none_ahead : NoneAhead d here later
+
+-- and then they wait no more
+abbrev pub Sweeps : GridData → Dir → (Cell → Bool) → TablesData → TablesData → Type 0
+Sweeps h d here old new = (later : Cell → Bool) → FollowBut h old d (either here later)
+    → FollowBut h new d later

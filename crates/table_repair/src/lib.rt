@@ -1,2 +1,5 @@
-//! Repair.
+//! Tables of jump distances that mend themselves after one cell changed.
 #![tactic(auto)]
+
+mod mend;
+mod span;
