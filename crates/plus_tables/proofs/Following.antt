@@ -1,6 +1,6 @@
 -- The local law: an entry follows from the entries at the next cell.
-use Rattle.std.proofs.Common.{◌≡◌, ℕ, zero, suc, ◌+◌, ◌≤◌, arith, Bool, true, false, not, ◌&&◌, ◌||◌, refl, ap, sym, ◌∙◌}
-use Rattle.std.specs.Prelude.{ℤ, pos, negsuc, neg_ℤ, Option, Some, None, is_some, option_and_then, option_map, unwrap_or, if◌then◌else◌}
+use Rattle.std.proofs.Common.{◌≡◌, ℕ, zero, suc, ◌+◌, ◌≤◌, arith, Bool, true, false, not, ◌||◌, refl, ap, sym, ◌∙◌}
+use Rattle.std.specs.Prelude.{ℤ, pos, Option, Some, None, is_some, option_and_then, option_map, unwrap_or, if◌then◌else◌}
 use Rattle.grid_moves.specs.declared.Cell.{Cell}
 use Rattle.grid_moves.specs.declared.Dir.{Dir}
 use Rattle.grid_moves.specs.Least.{FindsLeast}
@@ -12,11 +12,11 @@ use Rattle.pruning.specs.declared.turns.Side.TheVariants.{Right, Left}
 use Rattle.pruning.specs.Turns.{turn, is_diagonal}
 use Rattle.pruning.specs.Marked.{is_forced}
 use Rattle.pruning.specs.First.{first_within, first_on_run, holds_on_run, is_marked, first_mark, run_length}
-use Rattle.pruning.proofs.Table.{turn_parity, by_parity, by_test}
+use Rattle.pruning.proofs.Table.{turn_parity, by_parity}
 use Rattle.pruning.proofs.Bridging.{legal_leads}
 use Rattle.pruning.proofs.Firsts.{HoldsAfter, first_on_run-finds, first_on_run-next, first_on_run-none}
 use Rattle.plus_tables.specs.Entry.{mark_or_run, table_entry}
-use Rattle.plus_tables.specs.Local.{tells_mark, from_before, is_mark_by, entry_through, entry_by_next, EntriesFollow}
+use Rattle.plus_tables.specs.Local.{tells_mark, from_before, is_mark_by, entry_through, EntriesFollow}
 use Rattle.plus_tables.proofs.Lengths.{run_length-next, run_length-none}
 
 -- two tests that agree everywhere find the same

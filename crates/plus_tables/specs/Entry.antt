@@ -1,9 +1,9 @@
 -- Table entries: the jump distances of Harabor and Grastien's JPS+, ICAPS 2014.
-use Rattle.std.specs.Prelude.{◌≡◌, ℕ, ℤ, pos, negsuc, neg_ℤ, Option, Some, None, refl, if◌then◌else◌, codes}
+use Rattle.std.specs.Prelude.{◌≡◌, ℕ, ℤ, pos, neg_ℤ, Option, Some, None, refl, if◌then◌else◌, codes}
 use Rattle.grid_moves.specs.declared.Cell.{Cell}
 use Rattle.grid_moves.specs.declared.Corner.TheVariants.{Never, One}
 use Rattle.grid_moves.specs.declared.Dir.{Dir}
-use Rattle.grid_moves.specs.declared.Dir.TheVariants.{N, NE, E, SE, S, SW, W, NW}
+use Rattle.grid_moves.specs.declared.Dir.TheVariants.{E, SE, W}
 use Rattle.grid_moves.specs.Grid.{GridData, grid_of, is_free}
 use Rattle.grid_moves.specs.Examples.{notch}
 use Rattle.pruning.specs.First.{first_mark, run_length}

@@ -1,10 +1,10 @@
 -- Tables as contracts see them.
-use Rattle.std.specs.Prelude.{◌≡◌, ℕ, ◌+◌, ◌*◌, ℤ, pos, IsTrue, Bool, true, ◌&&◌, nat_lt, List, length, slice_index_or, slice_set, Some}
+use Rattle.std.specs.Prelude.{◌≡◌, ℕ, ◌+◌, ◌*◌, ℤ, pos, neg_ℤ, ◌≤ℤ◌, IsTrue, Bool, true, ◌&&◌, nat_lt, List, length, slice_index_or, slice_set, Some}
 use Rattle.grid_moves.specs.declared.Cell.{Cell}
 use Rattle.grid_moves.specs.declared.Corner.{Corner}
 use Rattle.grid_moves.specs.declared.Dir.{Dir}
 use Rattle.grid_moves.specs.Grid.{GridData, AreSides, IsGrid, is_inside, cell_number}
-use Rattle.grid_moves.specs.Move.{dir_number, legal_ahead}
+use Rattle.grid_moves.specs.Move.{dir_number, legal_ahead, is_same, is_dir}
 use Rattle.pruning.specs.declared.turns.Side.{Side}
 use Rattle.pruning.specs.Turns.{turn, is_diagonal}
 use Rattle.plus_tables.specs.Entry.{table_entry}
@@ -42,6 +42,15 @@ tables_with t c d entry = record {
   corner = t.corner;
   entries = slice_set t.entries (entry_place t.width c d) entry;
 }
+
+-- the cell and the direction of an entry are those of another
+abbrev pub is_place : Cell → Dir → Cell → Dir → Bool
+is_place b e c d = is_same b c && is_dir e d
+
+-- numbers as the entries of a map are: no run is longer than two sides together
+pub record IsShort (entry : ℤ) : Type 0 where
+  pub low : neg_ℤ (pos 8192) ≤ℤ entry
+  pub high : entry ≤ℤ pos 8192
 
 -- the tables have the sides and the corner rule of the grid
 pub record AreSized (t : TablesData) (g : GridData) : Type 0 where

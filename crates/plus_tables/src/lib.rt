@@ -6,6 +6,7 @@
 //! rules.
 #![tactic(auto)]
 
+mod build;
 mod tables;
 
 pub use tables::Tables;
