@@ -4,3 +4,4 @@ pub mod Counting
 pub mod Lines
 pub mod Mends
 pub mod Walking
+pub mod Sweeping

@@ -261,22 +261,6 @@ walk_short h d v u n grid i j r =
     by_dir W a b k l p q = omega arith
     by_dir NW a b k l p q = omega arith
 
--- what a refresh tells
-pub was_right : (one other : ℤ) (changed : Bool) → changed ≡ not (int_eq one other) → changed ≡ false
-    → one ≡ other
-was_right one other changed e f = by_test (int_eq one other) refl
-  where
-    by_test : (b : Bool) → int_eq one other ≡ b → one ≡ other
-    by_test true g = (Decides-int_eq one other).0 g
-    by_test false g = absurd (let t : changed ≡ true = rw (e, g) refl in cc)
-
-pub was_wrong : (one other : ℤ) (changed : Bool) → changed ≡ not (int_eq one other) → changed ≡ true
-    → one ≢ other
-was_wrong one other changed e f same =
-    let t : int_eq one other ≡ true = (Decides-int_eq one other).1 same in
-    let u : changed ≡ false = rw (e, t) refl in
-    absurd (cc)
-
 -- a refresh of a right entry leaves the tables as they are
 pub nothing_set : (h : GridData) (t new : TablesData) (u : Cell) (d : Dir) → AreReady h t d
     → is_inside h u ≡ true → new ≡ tables_with t u d (table_entry h u d) → entry_at t u d ≡ table_entry h u d

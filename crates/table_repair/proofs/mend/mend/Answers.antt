@@ -7,7 +7,7 @@ use Rattle.grid_moves.specs.declared.Cell.{Cell}
 use Rattle.plus_tables.specs.Tables.{TablesData, tables_with}
 use Rattle.table_repair.proofs.Lines.{behind_on-is}
 use Rattle.table_repair.proofs.Mends.{on_inside}
-use Rattle.table_repair.proofs.Walking.{walked_none, walk_stops, walk_goes_on, walk_ends, walk_short, rests_right, was_right, was_wrong, nothing_set}
+use Rattle.table_repair.proofs.Walking.{walked_none, walk_stops, walk_goes_on, walk_ends, walk_short, rests_right, nothing_set}
 use Rattle.table_repair.proofs.mend.mend.Goals as goal
 
 pub loop-before-init : goal.loop-before-init
@@ -20,9 +20,6 @@ loop-before-init g c = record {
 pub refresh-requires-clause-sized : goal.refresh-requires-clause-sized
 refresh-requires-clause-sized g c = c.loop-before.invariant.walked.ready.sized
 
-pub refresh-requires-clause-whole : goal.refresh-requires-clause-whole
-refresh-requires-clause-whole g c = c.requires.ready.grid
-
 pub refresh-requires-clause-rests : goal.refresh-requires-clause-rests
 refresh-requires-clause-rests g c =
     let w = c.loop-before.invariant.walked in
@@ -31,15 +28,12 @@ refresh-requires-clause-rests g c =
     rests_right c.args.grid.now c.loop-before.tables c.args.d c.in-Some.before c.loop-before.at l.0
     w.inside w.right w.ready.beside
 
-pub refresh-requires-clause-on : goal.refresh-requires-clause-on
-refresh-requires-clause-on g c =
+pub refresh-requires-clause-inside : goal.refresh-requires-clause-inside
+refresh-requires-clause-inside g c =
     let w = c.loop-before.invariant.walked in
     let l = behind_on-is c.args.grid.now c.args.d c.in-Some.before c.loop-before.at
     (sym c.cell_before.ensures ∙ c.in-Some.is) in
     on_inside c.loop-before.tables c.args.grid.now w.ready.sized c.in-Some.before l.1
-
-pub refresh-requires-clause-stub : goal.refresh-requires-clause-stub
-refresh-requires-clause-stub g c = ?
 
 pub returns-then-not-refresh-clause-mends : goal.returns-then-not-refresh-clause-mends
 returns-then-not-refresh-clause-mends g c =
@@ -47,8 +41,7 @@ returns-then-not-refresh-clause-mends g c =
     let l = behind_on-is c.args.grid.now c.args.d c.in-Some.before c.loop-before.at
     (sym c.cell_before.ensures ∙ c.in-Some.is) in
     let same = nothing_set c.args.grid.now c.loop-before.tables c.refresh.new.self c.in-Some.before c.args.d
-    w.ready l.1 c.refresh.ensures.is (was_right _ _ c.refresh.result c.refresh.ensures.changed
-    c.if-not-refresh.true) in
+    w.ready l.1 c.refresh.ensures.is (c.refresh.ensures.stayed c.if-not-refresh.true) in
     rw same w.mends
 
 pub returns-then-not-refresh-clause-follows : goal.returns-then-not-refresh-clause-follows
@@ -56,7 +49,7 @@ returns-then-not-refresh-clause-follows g c = λ later f.
     let w = c.loop-before.invariant.walked in
     let l = behind_on-is c.args.grid.now c.args.d c.in-Some.before c.loop-before.at
     (sym c.cell_before.ensures ∙ c.in-Some.is) in
-    let right = was_right _ _ c.refresh.result c.refresh.ensures.changed c.if-not-refresh.true in
+    let right = c.refresh.ensures.stayed c.if-not-refresh.true in
     let same = nothing_set c.args.grid.now c.loop-before.tables c.refresh.new.self c.in-Some.before c.args.d
     w.ready l.1 c.refresh.ensures.is right in
     rw same (walk_stops c.args.grid.now c.args.d c.args.from c.args.tables.now c.loop-before.tables
@@ -91,7 +84,7 @@ loop-before-preserved g c =
       walked = walk_goes_on c.args.grid.now c.args.d c.args.from c.args.tables.now c.loop-before.tables
           c.loop-before.at c.in-Some.before c.loop-before.changed w l.0 l.1 c.refresh.new.self
           c.refresh.ensures.is c.requires.ready
-          (was_wrong _ _ c.refresh.result c.refresh.ensures.changed c.if-not-refresh.false);
+          (c.refresh.ensures.changed c.if-not-refresh.false);
       counted = let n = c.loop-before.invariant.counted in omega arith;
     }
 
