@@ -16,12 +16,17 @@ use Rattle.table_repair.proofs.Lines.{after_moved, right_ahead, is_inside-from}
 use Rattle.table_repair.proofs.Mends.{mends_none, mends_both, mends_wider, follow_more, ready_stays}
 use Rattle.table_repair.proofs.Walking.{or_false, false_or}
 
+-- the second number is nearer than the first, from the end or from the beginning
+abbrev IsNearer : Bool → ℕ → ℕ → Type 0
+IsNearer true n k = k < n
+IsNearer false n k = n < k
+
 -- a number taken from the far end of a span
 pub record IsTaken (from_end : Bool) (old : Span) (n : ℕ) (new : Span) : Type 0 where
   pub member : is_among old n ≡ true
   pub rest : (k : ℕ) → is_among old k ≡ true → (k ≡ n) ⊎ (is_among new k ≡ true)
   pub within : (k : ℕ) → is_among new k ≡ true → is_among old k ≡ true
-  pub nearer : (k : ℕ) → is_among new k ≡ true → if from_end then (k < n) else (n < k)
+  pub nearer : (k : ℕ) → is_among new k ≡ true → IsNearer from_end n k
   pub shorter : span_length old ≡ span_length new + 1
 
 among_parts : (s : Span) (k : ℕ) → is_among s k ≡ true → (s.first ≤ k) × (k < s.end)
@@ -146,7 +151,7 @@ pub row_ahead : (d : Dir) (k : ℕ) (v w : Cell) (y : ℕ) (old rest : Span) →
 row_ahead d k v w y old rest t e m = by_test (is_in_row y old w) refl
   where
     not_left : (d : Dir) → AreMoved d (suc k) v w → w.y ≡ v.y
-        → ((n : ℕ) → is_among rest n ≡ true → if goes_right d then (n < v.x) else (v.x < n))
+        → ((n : ℕ) → is_among rest n ≡ true → IsNearer (goes_right d) v.x n)
         → (w.x ≡ v.x) ⊎ (is_among rest w.x ≡ true) → ⊥
     not_left N m e t l = let a = m.1 in omega arith
     not_left NE m e t l = let a = m.1 in omega arith
@@ -172,7 +177,7 @@ pub rows_ahead : (d : Dir) (k : ℕ) (v w : Cell) (old rest columns : Span) → 
 rows_ahead d k v w old rest columns t m = by_test (is_in rest columns w) refl
   where
     not_left : (d : Dir) → AreMoved d (suc k) v w
-        → ((n : ℕ) → is_among rest n ≡ true → if goes_down d then (n < v.y) else (v.y < n))
+        → ((n : ℕ) → is_among rest n ≡ true → IsNearer (goes_down d) v.y n)
         → is_among rest w.y ≡ true → ⊥
     not_left N m t l = let a = m.1 in let b = t w.y l in omega arith
     not_left NE m t l = let a = m.1 in let b = t w.y l in omega arith

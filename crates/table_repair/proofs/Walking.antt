@@ -52,10 +52,10 @@ same_test w v h = by_test (is_same w v) refl
     by_test true e = absurd (h e)
     by_test false e = e
 
-or_false : (a b : Bool) → (a || b) ≡ false → (a ≡ false) × (b ≡ false)
+pub or_false : (a b : Bool) → (a || b) ≡ false → (a ≡ false) × (b ≡ false)
 or_false a b h = (grind arith, grind arith)
 
-false_or : (a b : Bool) → a ≡ false → b ≡ false → (a || b) ≡ false
+pub false_or : (a b : Bool) → a ≡ false → b ≡ false → (a || b) ≡ false
 false_or a b h k = grind arith
 
 -- the condition of a refresh
