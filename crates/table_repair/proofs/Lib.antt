@@ -5,3 +5,5 @@ pub mod Lines
 pub mod Mends
 pub mod Walking
 pub mod Sweeping
+pub mod Rows
+pub mod Totals

@@ -29,10 +29,10 @@ pub record IsTaken (from_end : Bool) (old : Span) (n : ℕ) (new : Span) : Type 
   pub nearer : (k : ℕ) → is_among new k ≡ true → IsNearer from_end n k
   pub shorter : span_length old ≡ span_length new + 1
 
-among_parts : (s : Span) (k : ℕ) → is_among s k ≡ true → (s.first ≤ k) × (k < s.end)
+pub among_parts : (s : Span) (k : ℕ) → is_among s k ≡ true → (s.first ≤ k) × (k < s.end)
 among_parts s k h = (grind (arith, nat_tests), grind (arith, nat_tests))
 
-among_from : (s : Span) (k : ℕ) → s.first ≤ k → k < s.end → is_among s k ≡ true
+pub among_from : (s : Span) (k : ℕ) → s.first ≤ k → k < s.end → is_among s k ≡ true
 among_from s k h l = grind (arith, nat_tests)
 
 some_number : (n m : ℕ) → Some n ≡ Some m → n ≡ m
@@ -87,7 +87,7 @@ is_taken from_end old new n t w = by_test from_end (nat_lt old.first old.end) re
     by_test : (from_end b : Bool) → nat_lt old.first old.end ≡ b
         → (if b then Some (if from_end then old.end - 1 else old.first) else None) ≡ Some n
         → new ≡ (if b then (if from_end then record { first = old.first; end = old.end - 1 }
-          else record { first = old.first + 1; end = old.end }) else old)
+        else record { first = old.first + 1; end = old.end }) else old)
         → IsTaken from_end old n new
     by_test from_end false e t w = absurd (cc)
     by_test true true e t w =
@@ -193,3 +193,10 @@ rows_ahead d k v w old rest columns t m = by_test (is_in rest columns w) refl
     by_test true i =
         let p = and_both (is_among rest w.y) (is_among columns w.x) i in
         absurd (not_left d m t.nearer p.0)
+
+-- the same, as code tells it
+pub taken_told : (from_end side : Bool) → from_end ≡ side → (old new : Span) (n : ℕ) (answer : Option ℕ)
+    → answer ≡ Some n → answer ≡ far_number from_end old → new ≡ without_far from_end old
+    → IsTaken side old n new
+taken_told from_end side e old new n answer is told rest =
+    rw (← e) (is_taken from_end old new n (sym told ∙ is) rest)

@@ -89,137 +89,137 @@ module _ (h : GridData) (d : Dir) (v : Cell) (old now : TablesData) (at_cell u :
           by_test false s = g.next p w j k l (false_or (is_same w at_cell) (later w) s m) q
 
   module _ (new : TablesData) (is : new ≡ tables_with now u d (table_entry h u d)) where
-      whole : IsWhole now
-      whole = walked.ready.whole
+    whole : IsWhole now
+    whole = walked.ready.whole
 
-      on : is_on now u ≡ true
-      on = on_inside now h walked.ready.sized u i
+    on : is_on now u ≡ true
+    on = on_inside now h walked.ready.sized u i
 
-      set_right : IsRight h new u d
-      set_right = rw is (entry-with now whole u on d (table_entry h u d))
+    set_right : IsRight h new u d
+    set_right = rw is (entry-with now whole u on d (table_entry h u d))
 
-      stays : (w : Cell) (f : Dir) → is_inside h w ≡ true → (w ≡ u → f ≡ d → ⊥)
-          → entry_at new w f ≡ entry_at now w f
-      stays w f j other = rw is (entry-with_other now whole u on d f w (table_entry h u d)
-          (on_inside now h walked.ready.sized w j) other)
+    stays : (w : Cell) (f : Dir) → is_inside h w ≡ true → (w ≡ u → f ≡ d → ⊥)
+        → entry_at new w f ≡ entry_at now w f
+    stays w f j other = rw is (entry-with_other now whole u on d f w (table_entry h u d)
+        (on_inside now h walked.ready.sized w j) other)
 
-      right_kept : (w : Cell) → is_inside h w ≡ true → IsRight h now w d → IsRight h new w d
-      right_kept w j r = by_test (is_same w u) refl
-        where
-          by_test : (b : Bool) → is_same w u ≡ b → IsRight h new w d
-          by_test true s = let same = is_same-cell w u s in rw same set_right
-          by_test false s = stays w d j (λ k l. absurd (differ k)) ∙ r
-            where
-              differ : w ≡ u → ⊥
-              differ k = let t : is_same w u ≡ true = rw k (is_same-itself u) in absurd (cc)
+    right_kept : (w : Cell) → is_inside h w ≡ true → IsRight h now w d → IsRight h new w d
+    right_kept w j r = by_test (is_same w u) refl
+      where
+        by_test : (b : Bool) → is_same w u ≡ b → IsRight h new w d
+        by_test true s = let same = is_same-cell w u s in rw same set_right
+        by_test false s = stays w d j (λ k l. absurd (differ k)) ∙ r
+          where
+            differ : w ≡ u → ⊥
+            differ k = let t : is_same w u ≡ true = rw k (is_same-itself u) in absurd (cc)
 
-      pub walk_goes_on : AreReady h old d → entry_at now u d ≢ table_entry h u d → Walked h d v old new u (n + 1)
-      walk_goes_on first changed = record {
-        ready = ready_stays h d (λ w. is_same w v) old new (n + 1) mends first;
-        reaches = reaches;
-        inside = i;
-        right = set_right;
-        mends = mends;
-        follows = follows;
-      }
-        where
-          reaches : cell_after d (n + 1) u ≡ Some v
-          reaches = let one : n + 1 ≡ suc n = omega arith in
-              rw one (after_before d n u at_cell v e walked.reaches)
+    pub walk_goes_on : AreReady h old d → entry_at now u d ≢ table_entry h u d → Walked h d v old new u (n + 1)
+    walk_goes_on first changed = record {
+      ready = ready_stays h d (λ w. is_same w v) old new (n + 1) mends first;
+      reaches = reaches;
+      inside = i;
+      right = set_right;
+      mends = mends;
+      follows = follows;
+    }
+      where
+        reaches : cell_after d (n + 1) u ≡ Some v
+        reaches = let one : n + 1 ≡ suc n = omega arith in
+            rw one (after_before d n u at_cell v e walked.reaches)
 
-          along : (w : Cell) → is_inside h w ≡ true
-              → (entry_at new w d ≡ entry_at old w d) ⊎ IsMended h new d (λ w. is_same w v) (n + 1) w
-          along w j = by_test (is_same w u) refl
-            where
-              by_test : (b : Bool) → is_same w u ≡ b
-                  → (entry_at new w d ≡ entry_at old w d) ⊎ IsMended h new d (λ w. is_same w v) (n + 1) w
-              by_test true s = let same = is_same-cell w u s in rw same (inr (record {
-                right = set_right;
-                moves = n + 1;
-                few = omega arith;
-                start = v;
-                starts_there = is_same-itself v;
-                reaches = reaches;
-              }))
-              by_test false s =
-                  let kept = stays w d j (λ k l.
-                  let t : is_same w u ≡ true = rw k (is_same-itself u) in absurd (cc)) in
-                  elim (walked.mends.along w j) [
-                    | inl f ↦ inl (kept ∙ f)
-                    | inr a ↦ inr (record {
-                      right = kept ∙ a.right;
-                      moves = a.moves;
-                      few = let few = a.few in omega arith;
-                      start = a.start;
-                      starts_there = a.starts_there;
-                      reaches = a.reaches;
-                    })
-                  ]
+        along : (w : Cell) → is_inside h w ≡ true
+            → (entry_at new w d ≡ entry_at old w d) ⊎ IsMended h new d (λ w. is_same w v) (n + 1) w
+        along w j = by_test (is_same w u) refl
+          where
+            by_test : (b : Bool) → is_same w u ≡ b
+                → (entry_at new w d ≡ entry_at old w d) ⊎ IsMended h new d (λ w. is_same w v) (n + 1) w
+            by_test true s = let same = is_same-cell w u s in rw same (inr (record {
+              right = set_right;
+              moves = n + 1;
+              few = omega arith;
+              start = v;
+              starts_there = is_same-itself v;
+              reaches = reaches;
+            }))
+            by_test false s =
+                let kept = stays w d j (λ k l.
+                let t : is_same w u ≡ true = rw k (is_same-itself u) in absurd (cc)) in
+                elim (walked.mends.along w j) [
+                  | inl f ↦ inl (kept ∙ f)
+                  | inr a ↦ inr (record {
+                    right = kept ∙ a.right;
+                    moves = a.moves;
+                    few = let few = a.few in omega arith;
+                    start = a.start;
+                    starts_there = a.starts_there;
+                    reaches = a.reaches;
+                  })
+                ]
 
-          count : (r : TablesData) → IsWhole r → AreTablesOf r h
-              → places_differing old.entries r.entries ≡ places_differing new.entries r.entries + (n + 1)
-          count r w a = total _ _ _ (walked.mends.count r w a) one_changed
-            where
-              same_width : now.width ≡ r.width
-              same_width = walked.ready.sized.width ∙ sym a.sized.width
+        count : (r : TablesData) → IsWhole r → AreTablesOf r h
+            → places_differing old.entries r.entries ≡ places_differing new.entries r.entries + (n + 1)
+        count r w a = total _ _ _ (walked.mends.count r w a) one_changed
+          where
+            same_width : now.width ≡ r.width
+            same_width = walked.ready.sized.width ∙ sym a.sized.width
 
-              same_height : now.height ≡ r.height
-              same_height = walked.ready.sized.height ∙ sym a.sized.height
+            same_height : now.height ≡ r.height
+            same_height = walked.ready.sized.height ∙ sym a.sized.height
 
-              same_length : length now.entries ≡ length r.entries
-              same_length = whole.whole ∙ rw (same_width, same_height) (sym w.whole)
+            same_length : length now.entries ≡ length r.entries
+            same_length = whole.whole ∙ rw (same_width, same_height) (sym w.whole)
 
-              its_own : table_entry h u d ≡ get_or r.entries (entry_place now.width u d) (pos 0)
-              its_own = rw same_width (sym (a.right u d i))
+            its_own : table_entry h u d ≡ get_or r.entries (entry_place now.width u d) (pos 0)
+            its_own = rw same_width (sym (a.right u d i))
 
-              one_changed : places_differing now.entries r.entries
-                  ≡ places_differing new.entries r.entries + 1
-              one_changed = rw is
-                  (count-with now whole u on d (table_entry h u d) r.entries same_length its_own changed)
+            one_changed : places_differing now.entries r.entries
+                ≡ places_differing new.entries r.entries + 1
+            one_changed = rw is
+                (count-with now whole u on d (table_entry h u d) r.entries same_length its_own changed)
 
-              total : (x y z : ℕ) → x ≡ y + n → y ≡ z + 1 → x ≡ z + (n + 1)
-              total x y z e f = omega arith
+            total : (x y z : ℕ) → x ≡ y + n → y ≡ z + 1 → x ≡ z + (n + 1)
+            total x y z e f = omega arith
 
-          mends : Mends h d (λ w. is_same w v) old new (n + 1)
-          mends = record {
-            width = ap (λ (t : TablesData). t.width) is ∙ walked.mends.width;
-            height = ap (λ (t : TablesData). t.height) is ∙ walked.mends.height;
-            corner = ap (λ (t : TablesData). t.corner) is ∙ walked.mends.corner;
-            length_kept = ap (λ (t : TablesData). length t.entries) is
-                ∙ length-set now.entries (entry_place now.width u d) (table_entry h u d)
-                ∙ walked.mends.length_kept;
-            others = λ w f k j. stays w f j (λ s t. other f k t) ∙ walked.mends.others w f k j;
-            along = along;
-            count = count;
-          }
-            where
-              other : (f : Dir) → is_dir f d ≡ false → f ≡ d → ⊥
-              other f k s = let t : is_dir f d ≡ true = rw s (itself d) in absurd (cc)
-                where
-                  itself : (d : Dir) → is_dir d d ≡ true
-                  itself d = grind (arith, nat_tests)
+        mends : Mends h d (λ w. is_same w v) old new (n + 1)
+        mends = record {
+          width = ap (λ (t : TablesData). t.width) is ∙ walked.mends.width;
+          height = ap (λ (t : TablesData). t.height) is ∙ walked.mends.height;
+          corner = ap (λ (t : TablesData). t.corner) is ∙ walked.mends.corner;
+          length_kept = ap (λ (t : TablesData). length t.entries) is
+              ∙ length-set now.entries (entry_place now.width u d) (table_entry h u d)
+              ∙ walked.mends.length_kept;
+          others = λ w f k j. stays w f j (λ s t. other f k t) ∙ walked.mends.others w f k j;
+          along = along;
+          count = count;
+        }
+          where
+            other : (f : Dir) → is_dir f d ≡ false → f ≡ d → ⊥
+            other f k s = let t : is_dir f d ≡ true = rw s (itself d) in absurd (cc)
+              where
+                itself : (d : Dir) → is_dir d d ≡ true
+                itself d = grind (arith, nat_tests)
 
-          follows : (later : Cell → Bool) → FollowBut h old d (or_later v later)
-              → FollowBut h new d (or_later u later)
-          follows later f = record { next = next; last = λ p j k. right_kept p j (g.last p j k) }
-            where
-              g : FollowBut h now d (or_later at_cell later)
-              g = walked.follows later f
+        follows : (later : Cell → Bool) → FollowBut h old d (or_later v later)
+            → FollowBut h new d (or_later u later)
+        follows later f = record { next = next; last = λ p j k. right_kept p j (g.last p j k) }
+          where
+            g : FollowBut h now d (or_later at_cell later)
+            g = walked.follows later f
 
-              next : (p w : Cell) → is_inside h p ≡ true → ahead d p ≡ Some w → is_inside h w ≡ true
-                  → or_later u later w ≡ false → IsRight h new w d → IsRight h new p d
-              next p w j k l m q = by_test (is_same w at_cell) refl
-                where
-                  by_test : (b : Bool) → is_same w at_cell ≡ b → IsRight h new p d
-                  by_test true s =
-                      let same = one_behind d p u at_cell (rw (← is_same-cell w at_cell s) k) e in
-                      rw same set_right
-                  by_test false s =
-                      let both = or_false (is_same w u) (later w) m in
-                      let before : IsRight h now w d = sym (stays w d l (λ x y.
-                      let t : is_same w u ≡ true = rw x (is_same-itself u) in absurd (cc))) ∙ q in
-                      right_kept p j
-                      (g.next p w j k l (false_or (is_same w at_cell) (later w) s both.1) before)
+            next : (p w : Cell) → is_inside h p ≡ true → ahead d p ≡ Some w → is_inside h w ≡ true
+                → or_later u later w ≡ false → IsRight h new w d → IsRight h new p d
+            next p w j k l m q = by_test (is_same w at_cell) refl
+              where
+                by_test : (b : Bool) → is_same w at_cell ≡ b → IsRight h new p d
+                by_test true s =
+                    let same = one_behind d p u at_cell (rw (← is_same-cell w at_cell s) k) e in
+                    rw same set_right
+                by_test false s =
+                    let both = or_false (is_same w u) (later w) m in
+                    let before : IsRight h now w d = sym (stays w d l (λ x y.
+                    let t : is_same w u ≡ true = rw x (is_same-itself u) in absurd (cc))) ∙ q in
+                    right_kept p j
+                    (g.next p w j k l (false_or (is_same w at_cell) (later w) s both.1) before)
 
 -- there is no cell behind
 pub walk_ends : (h : GridData) (d : Dir) (v : Cell) (old now : TablesData) (at_cell : Cell) (n : ℕ)

@@ -88,7 +88,7 @@ far_number from_end s =
 abbrev pub without_far : Bool → Span → Span
 without_far from_end s =
     if nat_lt s.first s.end then (if from_end then record { first = s.first; end = s.end - 1 }
-      else record { first = s.first + 1; end = s.end }) else s
+    else record { first = s.first + 1; end = s.end }) else s
 
 -- the cell lies in this row and one of these columns
 abbrev pub is_in_row : ℕ → Span → Cell → Bool

@@ -3,3 +3,4 @@
 
 mod mend;
 mod span;
+mod sweep;

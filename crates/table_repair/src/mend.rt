@@ -23,9 +23,9 @@ fn cell_before(grid: &Grid, d: Dir, v: Cell) -> Option<Cell>
     }
 }
 
-// Makes the entry for `d` at the cell behind `from` right, and those further back as long as entries
-// change; says how many did. The entry at `from` is right, and so are those for the components of `d`.
-fn mend<L: Ledger>(
+/// Makes the entry for `d` at the cell behind `from` right, and those further back as long as entries
+/// change; says how many did. The entry at `from` is right, and so are those for the components of `d`.
+pub fn mend<L: Ledger>(
     tables: &mut Tables,
     grid: &Grid,
     from: Cell,
