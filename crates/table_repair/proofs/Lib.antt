@@ -7,3 +7,6 @@ pub mod Walking
 pub mod Sweeping
 pub mod Rows
 pub mod Totals
+pub mod Directions
+pub mod Reach
+pub mod Beginning

@@ -14,7 +14,7 @@ use Rattle.table_repair.proofs.Lines.{after_moved, right_ahead, is_inside-from}
 use Rattle.table_repair.proofs.Walking.{or_false, false_or}
 use Rattle.table_repair.proofs.Sweeping.{IsTaken, Swept, swept_more, swept_all, row_ahead, rows_ahead, among_parts}
 
-and_true : (a b : Bool) → a ≡ true → b ≡ true → (a && b) ≡ true
+pub and_true : (a b : Bool) → a ≡ true → b ≡ true → (a && b) ≡ true
 and_true a b h k = grind arith
 
 same_number : (n : ℕ) → nat_eq n n ≡ true
@@ -23,11 +23,11 @@ same_number n = grind (arith, nat_tests)
 number_same : (m n : ℕ) → nat_eq m n ≡ true → m ≡ n
 number_same m n h = grind (arith, nat_tests)
 
-not_true : (b : Bool) → (b ≡ true → ⊥) → b ≡ false
+pub not_true : (b : Bool) → (b ≡ true → ⊥) → b ≡ false
 not_true true h = absurd (h refl)
 not_true false h = refl
 
-true_false : (b : Bool) → b ≡ true → b ≡ false → ⊥
+pub true_false : (b : Bool) → b ≡ true → b ≡ false → ⊥
 true_false b h k = cc
 
 module _ (h : GridData) (d : Dir) (y : ℕ) (columns left rest : Span) (x : ℕ) (old now : TablesData) (n : ℕ)

@@ -1,5 +1,5 @@
 -- How the entries for one direction are made right, from the far end of each line.
-use Rattle.std.specs.Prelude.{◌≡◌, ℕ, zero, suc, ◌+◌, ◌≤◌, ◌⊎◌, Bool, true, false, ◌&&◌, ◌||◌, ◌-◌, Option, Some, option_and_then, if◌then◌else◌, nat_le, nat_lt, nat_eq, length, None}
+use Rattle.std.specs.Prelude.{◌≡◌, ℕ, zero, suc, ◌+◌, ◌≤◌, ◌⊎◌, Bool, true, false, ◌&&◌, ◌||◌, ◌-◌, Option, Some, option_and_then, if◌then◌else◌, nat_le, nat_lt, nat_eq, length, None, not, min, List, [], ◌∷◌}
 use Rattle.grid_moves.specs.declared.Cell.{Cell}
 use Rattle.grid_moves.specs.declared.Dir.{Dir}
 use Rattle.grid_moves.specs.declared.Dir.TheVariants.{NE, E, SE, S, SW}
@@ -131,3 +131,56 @@ pub record CanSweep (h : GridData) (t : TablesData) (d : Dir) (here : Cell → B
 abbrev pub Sweeps : GridData → Dir → (Cell → Bool) → TablesData → TablesData → Type 0
 Sweeps h d here old new = (later : Cell → Bool) → FollowBut h old d (either here later)
     → FollowBut h new d later
+
+-- what refreshing any entries asks of the tables
+pub record AreSound (h : GridData) (t : TablesData) : Type 0 where
+  pub grid : IsGrid h
+  pub sized : AreSized t h
+  pub whole : IsWhole t
+
+-- what n entries that were made right, for directions of one kind, change
+pub record MendsKind (h : GridData) (kind : Dir → Bool) (starts : Cell → Bool) (old new : TablesData) (n : ℕ)
+    : Type 0 where
+  pub sound : AreSound h new
+  pub others : (u : Cell) (e : Dir) → kind e ≡ false → is_inside h u ≡ true
+      → entry_at new u e ≡ entry_at old u e
+  pub along : (u : Cell) (e : Dir) → kind e ≡ true → is_inside h u ≡ true
+      → (entry_at new u e ≡ entry_at old u e) ⊎ IsMended h new e starts n u
+  pub count : (r : TablesData) → IsWhole r → AreTablesOf r h
+      → places_differing old.entries r.entries ≡ places_differing new.entries r.entries + n
+
+-- the direction is straight
+abbrev pub is_straight : Dir → Bool
+is_straight d = not (is_diagonal d)
+
+-- any cell
+abbrev pub any_cell : Cell → Bool
+any_cell v = true
+
+-- the direction is one of these
+abbrev pub is_listed : List Dir → Dir → Bool
+is_listed [] d = false
+is_listed (e ∷ es) d = is_dir d e || is_listed es d
+
+-- a row or column of so many, and those beside it
+abbrev pub span_beside : ℕ → ℕ → Span
+span_beside n side = record { first = n - 1; end = min side (n + 2) }
+
+-- the span with so many numbers more before it, or behind it
+abbrev pub widened : Bool → Span → ℕ → ℕ → Span
+widened before s by side =
+    if before then record { first = s.first - by; end = s.end }
+    else record { first = s.first; end = min side (s.end + by) }
+
+-- these numbers alone
+abbrev pub span_next : Bool → Span → ℕ → ℕ → Span
+span_next before s by side =
+    if before then record { first = s.first - by; end = s.first }
+    else record { first = s.end; end = min side (s.end + by) }
+
+-- For a diagonal direction the entries wait whose next cell lies in the block, or so many moves behind it in
+-- its rows or columns.
+abbrev pub is_in_reach : GridData → Span → Span → ℕ → Dir → Cell → Bool
+is_in_reach h rows columns by d = either
+    (is_in rows (widened (goes_right d) columns by h.width))
+    (is_in (span_next (goes_down d) rows by h.height) columns)
