@@ -10,3 +10,4 @@ pub mod Totals
 pub mod Directions
 pub mod Reach
 pub mod Beginning
+pub mod Diagonals

@@ -184,3 +184,12 @@ abbrev pub is_in_reach : GridData → Span → Span → ℕ → Dir → Cell →
 is_in_reach h rows columns by d = either
     (is_in rows (widened (goes_right d) columns by h.width))
     (is_in (span_next (goes_down d) rows by h.height) columns)
+
+-- rows and columns of the map, at least one and at most three of each
+pub record IsBlock (h : GridData) (rows columns : Span) : Type 0 where
+  pub low : rows.end ≤ h.height
+  pub narrow : columns.end ≤ h.width
+  pub some_row : rows.first + 1 ≤ rows.end
+  pub some_column : columns.first + 1 ≤ columns.end
+  pub three_rows : rows.end ≤ rows.first + 3
+  pub three_columns : columns.end ≤ columns.first + 3

@@ -2,5 +2,6 @@
 #![tactic(auto)]
 
 mod mend;
+mod repair;
 mod span;
 mod sweep;
