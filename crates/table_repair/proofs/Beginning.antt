@@ -110,6 +110,6 @@ module _ (c : Cell) (g h : GridData) (differ : DifferAtMostAt c g h) where
           → is_diagonal d ≡ true → (s : Side) → IsKept g h v (turn s d)
       beside v i w k side = elim (mends.along v (turn side d) (turned_straight side) i) [
         | inl e ↦ sym (right (turn side d) (turned_straight side) v i) ∙ e
-          ∙ tables.right v (turn side d) (sym (same_inside v) ∙ i)
+            ∙ tables.right v (turn side d) (sym (same_inside v) ∙ i)
         | inr a ↦ absurd (true_false (is_in_reach h rows columns by d v) (reached v side i a) w)
       ]

@@ -11,3 +11,5 @@ pub mod Directions
 pub mod Reach
 pub mod Beginning
 pub mod Diagonals
+pub mod Passes
+pub mod Ending

@@ -141,10 +141,10 @@ pub rear_behind : (d : Dir) (rows columns wide : Span) (by side : ℕ) → is_di
     → NoneAhead d (is_in rows wide) (is_in (span_next (goes_down d) rows by side) columns)
 rear_behind d rows columns wide by side diagonal v w k here r =
     not_true (is_in (span_next (goes_down d) rows by side) columns w) (λ there.
-        let p = and_both (is_among rows v.y) (is_among wide v.x) here in
-        let q = and_both (is_among (span_next (goes_down d) rows by side) w.y) (is_among columns w.x) there in
-        beyond d diagonal (after_moved d (suc k) v w r) (among_parts rows v.y p.0)
-        (among_parts (span_next (goes_down d) rows by side) w.y q.0))
+    let p = and_both (is_among rows v.y) (is_among wide v.x) here in
+    let q = and_both (is_among (span_next (goes_down d) rows by side) w.y) (is_among columns w.x) there in
+    beyond d diagonal (after_moved d (suc k) v w r) (among_parts rows v.y p.0)
+    (among_parts (span_next (goes_down d) rows by side) w.y q.0))
   where
     beyond : (d : Dir) → is_diagonal d ≡ true → AreMoved d (suc k) v w → (rows.first ≤ v.y) × (v.y < rows.end)
         → ((span_next (goes_down d) rows by side).first ≤ w.y)
@@ -164,7 +164,7 @@ pub block_inside : (h : GridData) (c : Cell) (rows columns : Span) → rows ≡ 
 block_inside h c rows columns r s v i =
     let p = and_both (is_among rows v.y) (is_among columns v.x) i in
     let y = among_parts (span_beside c.y h.height) v.y
-        (subst (λ (t : Span). is_among t v.y ≡ true) r p.0) in
+    (subst (λ (t : Span). is_among t v.y ≡ true) r p.0) in
     let x = among_parts (span_beside c.x h.width) v.x
-        (subst (λ (t : Span). is_among t v.x ≡ true) s p.1) in
+    (subst (λ (t : Span). is_among t v.x ≡ true) s p.1) in
     is_inside-from h v (omega arith) (omega arith)
