@@ -1,13 +1,12 @@
 -- From what is read around a cell to the offers of its state.
-use Rattle.std.proofs.Common.{◌≡◌, ℕ, ◌∙◌, sym, ap, subst, refl, Bool, true, false, ◌&&◌}
-use Rattle.std.specs.Prelude.{Option, Some}
+use Rattle.std.proofs.Common.{◌≡◌, ℕ, ◌∙◌, sym, ap, subst, refl, true}
+use Rattle.std.specs.Prelude.{Option}
 use Rattle.grid_moves.specs.declared.Cell.{Cell}
 use Rattle.grid_moves.specs.declared.Dir.{Dir}
 use Rattle.grid_moves.specs.declared.Dir.TheVariants.{N, NE, E, SE, S, SW, W, NW}
 use Rattle.grid_moves.specs.declared.around.Around.{Around}
-use Rattle.grid_moves.specs.Around.{if_open}
 use Rattle.grid_moves.specs.Grid.{GridData}
-use Rattle.grid_moves.specs.Move.{all_dirs, legal_ahead}
+use Rattle.grid_moves.specs.Move.{all_dirs}
 use Rattle.grid_moves.proofs.Legal.{and_both}
 use Rattle.best_first.specs.declared.node.Node.{Node}
 use Rattle.best_first.specs.Space.{SpaceData}

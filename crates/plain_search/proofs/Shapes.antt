@@ -1,5 +1,5 @@
 -- What stays while a state makes its offers.
-use Rattle.std.proofs.Common.{◌≡◌, ℕ, ◌∙◌, sym, subst}
+use Rattle.std.proofs.Common.{ℕ, ◌∙◌, sym, subst}
 use Rattle.grid_moves.specs.declared.Cell.{Cell}
 use Rattle.grid_moves.specs.declared.around.Around.{Around}
 use Rattle.best_first.specs.Space.{SpaceData, IsPlaced, KeepsShape}
