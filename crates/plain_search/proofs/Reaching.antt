@@ -45,7 +45,7 @@ in_place [] u m = elim m [ ]
 in_place (x ∷ run) u (here e) = (0, refl)
 in_place (x ∷ run) u (there z e m) = let i = in_place run u m in (suc i.0, i.1)
 
-member_at : (run : List (Taken State)) (i : ℕ) (u : Taken State) → slice_get run i ≡ Some u → IsIn u run
+pub member_at : (run : List (Taken State)) (i : ℕ) (u : Taken State) → slice_get run i ≡ Some u → IsIn u run
 member_at [] i u h = absurd (cc)
 member_at (x ∷ run) zero u h = subst (λ (w : Taken State). IsIn w (x ∷ run)) (some_one x u h) (here run)
   where
