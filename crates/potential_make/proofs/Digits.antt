@@ -1,6 +1,6 @@
 -- What is read of written numbers.
-use Rattle.std.proofs.Common.{◌≡◌, ℕ, zero, suc, ◌+◌, ◌-◌, ◌*◌, ◌^◌, ◌<◌, ◌≤◌, Bool, true, false, ◌&&◌, not, eqb, List, [], ◌∷◌, ◌++◌, length, take, drop, refl, ap, sym, ◌∙◌, arith, append_assoc}
-use Rattle.std.specs.Prelude.{codes, decimal, Option, Some, None, option_map, option_and_then, position, nat_le, nat_lt, if◌then◌else◌, unwrap_or}
+use Rattle.std.proofs.Common.{◌≡◌, ℕ, suc, ◌+◌, ◌^◌, ◌<◌, ◌≤◌, Bool, true, false, not, eqb, List, [], ◌∷◌, ◌++◌, length, take, drop, refl, ap, sym, ◌∙◌, arith, append_assoc}
+use Rattle.std.specs.Prelude.{codes, decimal, Some, nat_le, nat_lt}
 use Rattle.std.specs.Char.{is_ascii_digit, digit_value}
 use Rattle.std.specs.List.{list_all, position_or_len}
 use Rattle.std.specs.Str.{bytes_eq}
@@ -9,10 +9,9 @@ use Rattle.std.proofs.lemmas.Bool.{and_parts, and_from, le-leb}
 use Rattle.std.proofs.lemmas.Bool.Decides.{nat_tests}
 use Rattle.std.proofs.lemmas.Fmt.{decimal_is_IsNumeral, length-decimal-le}
 use Rattle.std.proofs.lemmas.List.{append-nil, length-append}
-use Rattle.text_line.specs.Numbers.{number_of, value_of}
-use Rattle.root2_cost.specs.declared.Cost.{Cost}
+use Rattle.text_line.specs.Numbers.{number_of}
 use Rattle.grid_moves.specs.declared.Cell.{Cell}
-use Rattle.potential_check.specs.Forms.{after_byte, after_word, cell_before, cell_in, digits_ahead, last_number, number_ahead, number_before, two_numbers}
+use Rattle.potential_check.specs.Forms.{after_word, cell_before, cell_in, digits_ahead, last_number, number_ahead, number_before, two_numbers}
 use Rattle.potential_make.specs.Written.{pair_text}
 
 -- the digits of a number: at most so many

@@ -1,14 +1,14 @@
 -- Least walks take few moves.
-use Rattle.std.proofs.Common.{◌≡◌, ℕ, zero, suc, ◌+◌, ◌*◌, ◌<◌, ◌≤◌, length, List, [], ◌∷◌, refl, ap, sym, ◌∙◌, subst, arith, Bool, true, false, ◌&&◌, ◌||◌}
-use Rattle.std.specs.Prelude.{Option, Some, None, slice_get, nat_eq, if◌then◌else◌}
+use Rattle.std.proofs.Common.{◌≡◌, ℕ, ◌+◌, ◌*◌, ◌<◌, ◌≤◌, length, List, [], ◌∷◌, refl, ap, sym, ◌∙◌, subst, arith, Bool, true, false, ◌||◌}
+use Rattle.std.specs.Prelude.{Some, slice_get, nat_eq, if◌then◌else◌}
 use Rattle.root2_cost.specs.declared.Cost.{Cost}
 use Rattle.grid_moves.specs.declared.Cell.{Cell}
 use Rattle.grid_moves.specs.Grid.{GridData, IsGrid, is_free, cell_number}
-use Rattle.grid_moves.specs.Move.{is_legal, move_cost}
-use Rattle.grid_moves.specs.Walk.{IsWalk, NoWalk, is_walk, cost_of}
-use Rattle.grid_moves.proofs.Legal.{and_both, free_inside}
+use Rattle.grid_moves.specs.Move.{move_cost}
+use Rattle.grid_moves.specs.Walk.{cost_of}
+use Rattle.grid_moves.proofs.Legal.{free_inside}
 use Rattle.grid_moves.proofs.Places.{one_cell, number_below}
-use Rattle.search_run.specs.Run.{Taken, IsIn, here, IsRun}
+use Rattle.search_run.specs.Run.{Taken, here, IsRun}
 use Rattle.best_first.specs.declared.state.State.{State}
 use Rattle.best_first.specs.State.{start_at}
 use Rattle.best_first.proofs.Bounds.{apart_run}

@@ -1,7 +1,7 @@
 -- What a search found makes a certificate that is accepted.
-use Rattle.std.proofs.Common.{◌≡◌, ℕ, zero, suc, ◌+◌, ◌-◌, ◌*◌, ◌^◌, ◌<◌, ◌≤◌, ◌⊎◌, inl, inr, Bool, true, false, ◌&&◌, ◌||◌, not, List, [], ◌∷◌, ◌++◌, length, map, refl, ap, sym, ◌∙◌, subst, arith}
-use Rattle.std.specs.Prelude.{Option, Some, None, nat_lt, nat_le, if◌then◌else◌, pos, ◌-ℤ◌, ℤ, slice_index_or, slice_index}
-use Rattle.std.specs.List.{Contains, list_all, list_any}
+use Rattle.std.proofs.Common.{◌≡◌, ℕ, zero, suc, ◌+◌, ◌*◌, ◌^◌, ◌<◌, ◌≤◌, Bool, true, false, ◌&&◌, ◌||◌, List, [], ◌∷◌, ◌++◌, length, map, refl, ap, sym, ◌∙◌, subst, arith}
+use Rattle.std.specs.Prelude.{None, nat_lt, nat_le, pos, ◌-ℤ◌, ℤ, slice_index_or, slice_index}
+use Rattle.std.specs.List.{Contains, list_all}
 use Rattle.std.specs.List.Sorted.{IsStrictlyIncreasing}
 use Rattle.std.specs.Ordering.{int_eq}
 use Rattle.std.proofs.lemmas.Bool.{and_parts, and_from}
@@ -9,34 +9,33 @@ use Rattle.std.proofs.lemmas.Bool.Decides.{nat_tests}
 use Rattle.std.proofs.lemmas.Int.{ints}
 use Rattle.root2_cost.specs.declared.Cost.{Cost}
 use Rattle.root2_cost.specs.declared.Signed.{Signed}
-use Rattle.root2_cost.specs.Order.{is_less, IsLess, IsAtMost}
+use Rattle.root2_cost.specs.Order.{is_less, IsAtMost}
 use Rattle.root2_cost.specs.Signed.{cost_difference, signed_of}
 use Rattle.root2_cost.specs.Sums.{add_costs, no_cost}
-use Rattle.root2_cost.proofs.AtMost.{IsAtMost-antisymmetric, IsAtMost-refl, IsAtMost-not_more}
+use Rattle.root2_cost.proofs.AtMost.{IsAtMost-antisymmetric, IsAtMost-refl}
 use Rattle.root2_cost.proofs.Sums.{no_cost_at_most, add_costs-no_cost_right, add_costs-no_cost_left}
 use Rattle.grid_moves.specs.declared.Cell.{Cell}
 use Rattle.grid_moves.specs.Grid.{GridData, IsGrid, is_free, cell_number}
 use Rattle.grid_moves.specs.Move.{is_legal, is_same}
 use Rattle.grid_moves.specs.Points.{estimate}
 use Rattle.grid_moves.specs.Reply.{StandsForLeast}
-use Rattle.grid_moves.specs.Walk.{IsWalk, NoWalk, is_walk, cost_of, last_of}
+use Rattle.grid_moves.specs.Walk.{NoWalk, is_walk, cost_of, last_of}
 use Rattle.grid_moves.proofs.Legal.{and_both, free_inside, is_same-cell, is_same-itself, legal_is}
-use Rattle.path_points.specs.Checked.{most_steps}
 use Rattle.path_points.specs.Corners.{corners, goes_straight, turns_after}
 use Rattle.best_first.specs.State.{start_at}
 use Rattle.search_run.proofs.Leastness.{estimate_along}
 use Rattle.plain_search.specs.Answer.{IsPlainRun, IsLeast}
 use Rattle.plain_search.specs.Found.{IsFound}
-use Rattle.plain_search.specs.Lists.{AreClosed, AreLists, AreReached, HasWalk, IsBelow, IsLeastCost, plain_of}
+use Rattle.plain_search.specs.Lists.{AreClosed, AreLists, AreReached, IsLeastCost, plain_of}
 use Rattle.plain_search.specs.Rule.{plain_rule}
 use Rattle.plain_search.specs.declared.lists.Listed.{Listed}
 use Rattle.plain_search.specs.declared.lists.Listed.TheVariants.{Found, None}
 use Rattle.plain_search.proofs.Right.{way_is_least}
 use Rattle.plain_search.proofs.Walks.{one_more, plain_consistent, walk_chain}
-use Rattle.potential_check.specs.Accepted.{AcceptsClaim, AcceptsLeast, AcceptsNone, is_value, leaves}
+use Rattle.potential_check.specs.Accepted.{AcceptsLeast, AcceptsNone, is_value, leaves}
 use Rattle.potential_check.specs.Certificate.{are_listed, are_sides, ascend_from, cells_of, is_short, is_small, lies_inside}
 use Rattle.potential_check.specs.Potential.{is_listed, potential_of}
-use Rattle.potential_make.specs.Certified.{HasItsPotential, IsAcceptedText}
+use Rattle.potential_make.specs.Certified.{IsAcceptedText}
 use Rattle.potential_make.specs.Written.{certificate_text, claim_of}
 use Rattle.potential_make.proofs.Few.{few_least, moves_counted}
 use Rattle.potential_make.proofs.Potentials.{feasible, has_potential}

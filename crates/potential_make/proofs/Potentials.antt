@@ -1,35 +1,32 @@
 -- The potential of a least cost with its closed cells: what it is, and that no legal move raises it by more
 -- than its cost.
-use Rattle.std.proofs.Common.{◌≡◌, ℕ, zero, suc, ◌+◌, ◌<◌, ◌⊎◌, inl, inr, length, List, [], ◌∷◌, ◌++◌, refl, ap, sym, ◌∙◌, subst, arith, Bool, true, false, ◌&&◌, ◌||◌}
-use Rattle.std.specs.Prelude.{pos, ◌+ℤ◌, ◌-ℤ◌, ℤ, not, if◌then◌else◌, slice_index_or}
-use Rattle.std.specs.List.{Contains, list_any}
-use Rattle.std.specs.Ordering.{int_eq}
+use Rattle.std.proofs.Common.{◌≡◌, ℕ, zero, suc, ◌+◌, ◌<◌, ◌⊎◌, inl, inr, length, List, [], ◌∷◌, ◌++◌, refl, ap, ◌∙◌, subst, arith, Bool, true, false}
+use Rattle.std.specs.Prelude.{pos, ◌+ℤ◌, ◌-ℤ◌, ℤ, slice_index_or}
+use Rattle.std.specs.List.{Contains}
 use Rattle.std.proofs.lemmas.Int.{ints}
 use Rattle.root2_cost.specs.declared.Cost.{Cost}
-use Rattle.root2_cost.specs.declared.Signed.{Signed}
 use Rattle.root2_cost.specs.Order.{is_less, is_positive, IsLess, IsAtMost}
 use Rattle.root2_cost.specs.Signed.{add_signed, cost_difference, is_signed_less, signed_of}
 use Rattle.root2_cost.specs.Sums.{add_costs, no_cost}
-use Rattle.root2_cost.proofs.AtMost.{IsAtMost-antisymmetric, IsAtMost-not_more, IsAtMost-or_more, IsAtMost-trans, less_at_most, same_at_most}
+use Rattle.root2_cost.proofs.AtMost.{IsAtMost-not_more, IsAtMost-or_more, IsAtMost-trans, less_at_most}
 use Rattle.root2_cost.proofs.Differences.{same_signed}
-use Rattle.root2_cost.proofs.Sums.{IsAtMost-add_left, IsAtMost-add_right, IsLess-moved, no_cost_at_most, add_costs-no_cost_right, add_costs-no_cost_left, add_costs-assoc, add_costs-comm}
+use Rattle.root2_cost.proofs.Sums.{IsAtMost-add_left, IsAtMost-add_right, IsLess-moved}
 use Rattle.grid_moves.specs.declared.Cell.{Cell}
 use Rattle.grid_moves.specs.Grid.{GridData, is_free}
 use Rattle.grid_moves.specs.Move.{is_legal, is_same, move_cost}
 use Rattle.grid_moves.specs.Points.{estimate}
-use Rattle.grid_moves.specs.Walk.{IsWalk, NoWalk, cost_of}
-use Rattle.grid_moves.proofs.Legal.{is_same-cell, is_same-itself, legal_is}
+use Rattle.grid_moves.specs.Walk.{NoWalk, cost_of}
+use Rattle.grid_moves.proofs.Legal.{is_same-cell, is_same-itself}
 use Rattle.best_first.specs.State.{start_at}
-use Rattle.plain_search.specs.Answer.{IsPlainRun, IsLeast}
+use Rattle.plain_search.specs.Answer.{IsLeast}
 use Rattle.plain_search.specs.Existence.{HasAnswer}
-use Rattle.plain_search.specs.Lists.{AreClosed, AreReached, HasWalk, IsBelow, IsLeastCost}
+use Rattle.plain_search.specs.Lists.{AreClosed, IsBelow, IsLeastCost}
 use Rattle.plain_search.specs.declared.search.Plain.{Plain}
 use Rattle.plain_search.specs.declared.search.Plain.TheVariants as found
 use Rattle.plain_search.proofs.Answering.{has_answer}
 use Rattle.plain_search.proofs.Closing.{one_least}
 use Rattle.plain_search.proofs.Walks.{Goes, legal_link, one_more, plain_consistent}
-use Rattle.potential_check.specs.Accepted.{is_value, leaves}
-use Rattle.potential_check.specs.Potential.{IsFeasible, NoMove, is_listed, potential_of}
+use Rattle.potential_check.specs.Potential.{IsFeasible, potential_of}
 use Rattle.potential_make.specs.Certified.{HasPotential}
 
 -- the same difference keeps the order

@@ -1,8 +1,8 @@
 -- The text of a certificate spells it.
-use Rattle.std.proofs.Common.{◌≡◌, ℕ, zero, suc, ◌+◌, ◌^◌, ◌<◌, ◌≤◌, Bool, true, false, ◌&&◌, not, eqb, List, [], ◌∷◌, ◌++◌, length, map, refl, ap, sym, ◌∙◌, arith, append_assoc}
-use Rattle.std.specs.Prelude.{codes, decimal, Option, Some, None, option_map, option_and_then, nat_lt}
+use Rattle.std.proofs.Common.{◌≡◌, ℕ, ◌^◌, ◌<◌, Bool, true, false, ◌&&◌, not, eqb, List, [], ◌∷◌, ◌++◌, map, refl, ap, ◌∙◌, arith, append_assoc}
+use Rattle.std.specs.Prelude.{codes, decimal, Some, nat_lt}
 use Rattle.std.specs.Char.{is_ascii_digit}
-use Rattle.std.specs.List.{All, AllByRecursion, list_all, slice_split}
+use Rattle.std.specs.List.{All, list_all, slice_split}
 use Rattle.std.proofs.lemmas.Bool.{and_parts, and_from}
 use Rattle.std.proofs.lemmas.Bool.Decides.{nat_tests}
 use Rattle.std.proofs.lemmas.List.{append-nil}
@@ -17,8 +17,8 @@ use Rattle.potential_check.specs.declared.certificate.Claim.TheVariants.{Least, 
 use Rattle.potential_check.specs.Certificate.{are_listed, are_sides, cells_of, is_short, is_small}
 use Rattle.potential_check.specs.Forms.{ends_on, is_space, least_on, member_on, points_in, points_on, size_on, value_on}
 use Rattle.potential_check.specs.Spelling.{SpellInOrder, Spells, SpellsClaim}
-use Rattle.potential_make.specs.Written.{certificate_text, claim_text, ends_text, head_text, least_text, member_text, pair_text, point_text, texts_of, value_text}
-use Rattle.potential_make.proofs.Digits.{AreDigits, are_digits, cell_read, cell_then, pair_read, word_read}
+use Rattle.potential_make.specs.Written.{certificate_text, claim_text, member_text, pair_text, point_text, texts_of, value_text}
+use Rattle.potential_make.proofs.Digits.{are_digits, cell_read, cell_then, pair_read, word_read}
 
 -- a byte that ends no line
 is_plain : ℕ → Bool

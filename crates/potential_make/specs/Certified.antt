@@ -1,5 +1,5 @@
 -- What is known of the text of a certificate.
-use Rattle.std.specs.Prelude.{◌≡◌, ℕ, ◌^◌, ◌≤◌, false, List, length, IsTrue}
+use Rattle.std.specs.Prelude.{◌≡◌, ℕ, false, List}
 use Rattle.root2_cost.specs.declared.Cost.{Cost}
 use Rattle.root2_cost.specs.Order.{is_less}
 use Rattle.root2_cost.specs.Signed.{cost_difference, signed_of}
@@ -14,7 +14,6 @@ use Rattle.plain_search.specs.declared.lists.Listed.{Listed}
 use Rattle.potential_check.specs.declared.certificate.Claim.{Claim}
 use Rattle.potential_check.specs.declared.certificate.Claim.TheVariants as claim
 use Rattle.potential_check.specs.Accepted.{AcceptsClaim}
-use Rattle.potential_check.specs.Certificate.{is_certificate}
 use Rattle.potential_check.specs.Potential.{potential_of}
 use Rattle.potential_check.specs.Spelling.{Spells}
 use Rattle.potential_make.specs.Written.{certificate_text, claim_of}

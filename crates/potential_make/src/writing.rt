@@ -53,8 +53,9 @@ fn put_head(out: &mut Vec<u8>, g: &Grid, from: Cell, to: Cell) -> Result<(), NoM
     ensures head { OnOk result (out.new.items ≡ out.old.items ++ spec.head_text g.now.width g.now.height from to) }
     ensures whole { IsGrid g.now }
 {
+    let (width, height) = (u32::from(g.width()), u32::from(g.height()));
     put(out, b"jps-cert 1\nsize ")?;
-    put_pair(out, u32::from(g.width()), u32::from(g.height()))?;
+    put_pair(out, width, height)?;
     put_ends(out, from, to)
 }
 

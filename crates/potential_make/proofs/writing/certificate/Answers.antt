@@ -1,4 +1,4 @@
-use Rattle.std.proofs.Common.{◌≡◌, ◌++◌, ◌∙◌, ap, [], List, ℕ}
+use Rattle.std.proofs.Common.{◌++◌, ◌∙◌, ap, List, ℕ}
 use Rattle.std.specs.Prelude.{codes}
 use Rattle.potential_make.specs.Written.{claim_of, claim_text, head_text}
 use Rattle.potential_make.proofs.Making.{accepted_text}
