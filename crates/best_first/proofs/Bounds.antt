@@ -53,7 +53,7 @@ module _ (width height : ℕ) (start goal : Cell) (link : Links) (posed : IsPose
   later_other x (y ∷ some) n u (there z w m) e = later_other x some (or_false (is_same_state y.state x.state)
       (is_taken (search_rule width goal link) some x.state) n).1 u m e
 
-  apart_run : (run : List (Taken State)) → IsRun (search_rule width goal link) (start_at start) run
+  pub apart_run : (run : List (Taken State)) → IsRun (search_rule width goal link) (start_at start) run
       → (i j : ℕ) (a b : Taken State) → slice_get run i ≡ Some a → slice_get run j ≡ Some b
       → a.state ≡ b.state → i ≡ j
   apart_run [] is i j a b h g e = absurd is

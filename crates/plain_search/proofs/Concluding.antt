@@ -1,34 +1,42 @@
 -- From what a search has taken to its answer.
-use Rattle.std.proofs.Common.{◌≡◌, ℕ, ◌+◌, ◌*◌, ◌≤◌, ◌⊎◌, length, List, [], ◌∷◌, ◌++◌, refl, ap, sym, ◌∙◌, subst, true, false, map}
-use Rattle.std.specs.Prelude.{Option, Some, None, slice_get}
+use Rattle.std.proofs.Common.{◌≡◌, ℕ, ◌*◌, ◌≤◌, ◌⊎◌, length, List, [], ◌∷◌, ◌++◌, refl, ap, sym, ◌∙◌, subst, true, false, map}
+use Rattle.std.specs.Prelude.{Some, slice_get}
 use Rattle.root2_cost.specs.declared.Cost.{Cost}
 use Rattle.grid_moves.specs.declared.Cell.{Cell}
-use Rattle.grid_moves.specs.declared.Dir.{Dir}
-use Rattle.grid_moves.specs.declared.around.Around.{Around}
 use Rattle.grid_moves.specs.Grid.{GridData, IsGrid, is_free}
 use Rattle.grid_moves.specs.Move.{is_same, all_dirs}
 use Rattle.path_points.specs.Corners.{corners}
-use Rattle.search_run.specs.Run.{Taken, here, is_taken, least_offer, way_to}
+use Rattle.search_run.specs.Run.{here, least_offer, way_to}
 use Rattle.best_first.specs.declared.node.Node.{Node}
 use Rattle.best_first.specs.declared.state.State.{State}
 use Rattle.best_first.specs.declared.state.Layout.TheVariants.{ByCell}
-use Rattle.best_first.specs.Mirror.{Offers, IsSearching}
+use Rattle.best_first.specs.Mirror.{IsSearching}
 use Rattle.best_first.specs.Progress as search
 use Rattle.best_first.specs.Space.{SpaceData}
 use Rattle.best_first.specs.State.{start_at, state_number, state_told}
 use Rattle.best_first.specs.Table.{Table, IsFirstNode, NoneOpen, begun, closed_at}
-use Rattle.best_first.specs.Trace.{node_cell, rank_left, HasBack, IsWayTo}
+use Rattle.best_first.specs.Trace.{node_cell, HasBack, IsWayTo}
 use Rattle.best_first.specs.Ways.{IsAmong, with_all}
 use Rattle.best_first.proofs.Mirrors.{some_node}
 use Rattle.best_first.proofs.Progress.{has_begun, next_taken, exhausted, taken_fits, has_back, way_is, last_led}
 use Rattle.best_first.proofs.Ways.{offers_after}
-use Rattle.plain_search.specs.Found.{IsFound, IsExhausted, cells_to}
-use Rattle.plain_search.specs.Offers.{IsAround, less_offered, sides_of, ways_over, all_offered, MayExpand, HasExpanded}
+use Rattle.plain_search.specs.Answer.{IsPlainRun, IsLeast}
+use Rattle.plain_search.specs.Found.{IsFound, IsExhausted}
+use Rattle.plain_search.specs.Offers.{IsAround, less_offered, sides_of, ways_over, MayExpand, HasExpanded}
 use Rattle.plain_search.specs.Progress.{HasTaken}
 use Rattle.plain_search.specs.Room.{IsReady}
 use Rattle.plain_search.specs.Rule.{plain_rule, plain_links, is_led}
 use Rattle.plain_search.proofs.Offering.{may_expand, all_over, are_links, enough}
+use Rattle.plain_search.specs.declared.search.Plain.{Plain}
+use Rattle.plain_search.specs.declared.search.Plain.TheVariants as found
 use Rattle.plain_search.proofs.Posed.{fit, run_free}
+use Rattle.plain_search.proofs.Right.{found_least, exhausted_none}
+
+-- a run's answer is least
+pub run_least : (g : GridData) (s t : Cell) (p : Plain) → is_free g s ≡ true → IsPlainRun g s t p
+    → IsLeast g s t p
+run_least g s t (found.Found points cost taken) free r = found_least g s t points cost taken free r
+run_least g s t (found.None taken) free r = exhausted_none g t s taken r
 
 module _ (g : GridData) (s t : Cell) (whole : IsGrid g) (from : is_free g s ≡ true) (to : is_free g t ≡ true) where
   -- at the start

@@ -1,12 +1,12 @@
 -- What a state leaves out its parent has offered: the parent's move to that cell is legal.
-use Rattle.std.proofs.Common.{◌≡◌, ℕ, zero, suc, ◌+◌, ◌≤◌, ◌⊎◌, inl, inr, refl, ap, sym, ◌∙◌, subst, arith, Bool, true, false, ◌&&◌, ◌||◌, not}
+use Rattle.std.proofs.Common.{◌≡◌, ℕ, zero, suc, ◌+◌, ◌≤◌, ◌⊎◌, inl, inr, refl, ap, sym, ◌∙◌, arith, true, false}
 use Rattle.std.specs.Prelude.{Option, Some, None}
 use Rattle.grid_moves.specs.declared.Cell.{Cell}
 use Rattle.grid_moves.specs.declared.Dir.{Dir}
 use Rattle.grid_moves.specs.declared.Dir.TheVariants.{N, NE, E, SE, S, SW, W, NW}
 use Rattle.grid_moves.specs.Grid.{GridData, is_free}
-use Rattle.grid_moves.specs.Move.{is_legal, is_same, is_passable, corner_of, ahead, column_ahead, row_ahead, before}
-use Rattle.grid_moves.proofs.Legal.{IsLegal, legal_is, is_legal-from, same_cell, is_same-cell, is_same-itself, passable-both}
+use Rattle.grid_moves.specs.Move.{is_legal, is_same, corner_of, ahead, column_ahead, row_ahead, before}
+use Rattle.grid_moves.proofs.Legal.{IsLegal, legal_is, is_legal-from, same_cell, is_same-itself, passable-both}
 use Rattle.plain_search.specs.declared.moves.Sides.{Sides}
 use Rattle.plain_search.specs.Offers.{sides_of}
 

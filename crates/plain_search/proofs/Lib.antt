@@ -8,3 +8,8 @@ pub mod Posed
 pub mod Offering
 pub mod Concluding
 pub mod Answering
+pub mod Decoding
+pub mod Entries
+pub mod Ascending
+pub mod Closing
+pub mod Reaching

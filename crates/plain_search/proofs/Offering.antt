@@ -17,7 +17,7 @@ use Rattle.grid_moves.specs.Points.{estimate}
 use Rattle.grid_moves.proofs.Ahead.{legal_ahead-of}
 use Rattle.grid_moves.proofs.Legal.{is_same-cell, is_same-itself, free_inside, legal_is}
 use Rattle.grid_moves.proofs.Places.{number_below}
-use Rattle.search_run.specs.Run.{Taken, Offer, IsIn, here, there, IsRun, is_taken, least_offer}
+use Rattle.search_run.specs.Run.{Taken, here, IsRun, is_taken, least_offer}
 use Rattle.search_run.proofs.Leastness.{least_offer-from, is_taken-member, or_false}
 use Rattle.search_run.proofs.Parents.{parent_offers}
 use Rattle.best_first.specs.declared.node.Node.{Node}
@@ -25,25 +25,23 @@ use Rattle.best_first.specs.declared.state.State.{State}
 use Rattle.best_first.specs.declared.state.Layout.TheVariants.{ByCell}
 use Rattle.best_first.specs.Mirror.{Offers, IsSearching}
 use Rattle.best_first.specs.Space.{SpaceData, IsPlaced}
-use Rattle.best_first.specs.State.{start_at, state_told, is_same_state}
-use Rattle.best_first.specs.Table.{Table, node_for, offered}
+use Rattle.best_first.specs.State.{start_at, is_same_state}
+use Rattle.best_first.specs.Table.{Table, offered}
 use Rattle.best_first.specs.Trace.{node_cell, rank_left}
 use Rattle.best_first.specs.Ways.{Onward, IsAmong, first, later, with_onward, with_all}
 use Rattle.best_first.proofs.Backing.{left_is}
 use Rattle.best_first.proofs.Links.{estimate_triangle}
 use Rattle.best_first.proofs.Offering.{rank-add_costs}
 use Rattle.best_first.proofs.Mirrors.{some_node}
-use Rattle.best_first.proofs.Progress.{last_led}
 use Rattle.best_first.proofs.States.{same_or_not}
 use Rattle.best_first.proofs.Searching.{one_more, node_stays, key_rises, closed_below, taken_key}
-use Rattle.best_first.proofs.Ways.{offers_after}
 use Rattle.plain_search.specs.declared.moves.Sides.{Sides}
 use Rattle.plain_search.specs.Rule.{plain_rule, plain_links, is_led}
 use Rattle.plain_search.specs.Offers.{sides_of, is_open_to, end_of, IsAround, less_offered, cost_to, offer_to, all_offered, ways_over, MayExpand}
 use Rattle.plain_search.proofs.Dropping.{LeadsTo, leads, open_leads, dropped, all_kept}
 use Rattle.plain_search.proofs.Expanding.{kept_open, kept_end}
-use Rattle.plain_search.proofs.Leaving.{LiesAt, lies_at, ahead_parts, some_number, before_is}
-use Rattle.plain_search.proofs.Posed.{posed, fit, run_free, cells_fit}
+use Rattle.plain_search.proofs.Leaving.{lies_at, ahead_parts, some_number, before_is}
+use Rattle.plain_search.proofs.Posed.{fit, run_free}
 use Rattle.plain_search.proofs.Walks.{IsMove, link_move, legal_link, move_cost-estimate, plain_consistent}
 
 same : (m n : ℕ) → m ≡ n → nat_eq m n ≡ true

@@ -1,5 +1,5 @@
 -- A plain search is posed on its grid, and takes few moves.
-use Rattle.std.proofs.Common.{◌≡◌, ℕ, ◌+◌, ◌*◌, ◌≤◌, ◌^◌, length, List, [], ◌∷◌, refl, ap, sym, ◌∙◌, subst, true, false, Bool, arith, mul-le-mul, ◌||◌}
+use Rattle.std.proofs.Common.{◌≡◌, ◌+◌, ◌*◌, ◌≤◌, length, List, [], ◌∷◌, refl, ap, ◌∙◌, true, false, Bool, arith, mul-le-mul, ◌||◌}
 use Rattle.std.specs.Prelude.{nat_eq, if◌then◌else◌}
 use Rattle.root2_cost.specs.declared.Cost.{Cost}
 use Rattle.grid_moves.specs.declared.Cell.{Cell}
@@ -43,7 +43,7 @@ module _ (g : GridData) (s t : Cell) (whole : IsGrid g) (from : is_free g s ≡ 
   run_free (x ∷ y ∷ earlier) is u (there z e m) = run_free (y ∷ earlier) is.0 u m
 
   -- a move more for each state taken, at most
-  moves_within : (run : List (Taken State)) → IsRun (plain_rule g t) (start_at s) run → (u : Taken State)
+  pub moves_within : (run : List (Taken State)) → IsRun (plain_rule g t) (start_at s) run → (u : Taken State)
       → IsIn u run → u.cost.a + u.cost.b ≤ length run
   moves_within [] is u m = absurd is
   moves_within (x ∷ []) is u (here z) = rw is (omega arith)

@@ -5,3 +5,5 @@ pub mod Room
 pub mod Offers
 pub mod Progress
 pub mod Existence
+pub mod Lists
+pub mod Listing

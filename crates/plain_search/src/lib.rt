@@ -2,6 +2,7 @@
 #![tactic(auto)]
 
 pub mod laws;
+mod lists;
 mod moves;
 mod offers;
 mod search;
@@ -9,6 +10,7 @@ mod turns;
 mod workspace;
 
 pub use best_first::Taken;
+pub use lists::Listed;
 pub use search::{Plain, least, least_in};
 pub use std::alloc::AllocError as NoMemory;
 pub use workspace::Workspace;

@@ -13,9 +13,12 @@ ghost use Rattle.grid_moves.specs.Move.{is_same};
 ghost use Rattle.plain_search.specs.Answer.{IsPlainRun, IsLeast};
 ghost use Rattle.best_first.specs.State.{state_number, start_at};
 ghost use Rattle.best_first.specs.Trace.{node_cell};
-ghost use Rattle.plain_search.specs.Progress.{HasTaken, GoesOn};
+ghost use Rattle.plain_search.specs.Found.{IsExhausted};
+ghost use Rattle.plain_search.specs.Lists.{AreLists, plain_of};
+ghost use Rattle.plain_search.specs.Progress.{HasTaken, GoesOn, HasEnded};
 ghost use Rattle.plain_search.specs.Room.{HasRoom, IsReady};
 
+use crate::lists::{Listed, closed_cells, reached_cells};
 use crate::offers::offer_all;
 use crate::turns::turns;
 use crate::{NoMemory, Taken, Workspace};
@@ -126,7 +129,8 @@ fn found<T: Terrain>(
     requires to { is_free (T.grid t.now) ends.to ≡ true }
     requires taken { HasTaken (T.grid t.now) ends.from ends.to at space.now.table taken }
     requires goal { (n : _) → slice_get space.now.table.nodes at ≡ Some n → node_cell n ≡ ends.to }
-    ensures { IfOk result (IsPlainRun (T.grid t.now) ends.from ends.to) }
+    ensures run { IfOk result (IsPlainRun (T.grid t.now) ends.from ends.to) }
+    ensures least { IfOk result (IsLeast (T.grid t.now) ends.from ends.to) }
 {
     let way = space.way_to(alloc, ends.to, at)?;
     let points = turns(alloc, way.points.as_slice())?;
@@ -137,42 +141,52 @@ fn found<T: Terrain>(
     })
 }
 
-// The search's run.
-fn run<T: Terrain, L: Ledger>(
-    alloc: Global,
+// The answer where the goal was not taken.
+fn exhausted<T: Terrain>(_t: &T, ends: Ends, taken: Taken) -> Plain
+    requires taken { IsExhausted (T.grid _t.now) ends.from ends.to taken }
+    ensures run { IsPlainRun (T.grid _t.now) ends.from ends.to result }
+    ensures least { IsLeast (T.grid _t.now) ends.from ends.to result }
+{
+    Plain::None { taken }
+}
+
+// Takes states until the goal is taken, and gives the number of its node, or until none waits.
+fn take_all<T: Terrain, L: Ledger>(
     t: &T,
     ends: Ends,
     space: &mut Space,
+    taken: &mut Taken,
     steps: &mut Steps<L>,
-) -> Result<Plain, NoMemory>
+) -> Result<Option<u32>, NoMemory>
     requires from { is_free (T.grid t.now) ends.from ≡ true }
     requires to { is_free (T.grid t.now) ends.to ≡ true }
     requires layout { space.old.layout ≡ Layout.ByCell }
     requires room { HasRoom (T.grid t.now) space.old.places }
-    ensures run { IfOk result (IsPlainRun (T.grid t.now) ends.from ends.to) }
+    requires none { taken.old ≡ [] }
+    ensures ended { IfOk result (HasEnded (T.grid t.now) ends.from ends.to space.new.table taken.new) }
+    ensures whole { OnOk result (IsGrid (T.grid t.now)) }
     ensures layout { space.new.layout ≡ space.old.layout }
     ensures places { space.new.places ≡ space.old.places }
 {
-    let mut taken = Taken::new(alloc);
-    begin(t, ends, space, &mut taken, steps)?;
+    begin(t, ends, space, taken, steps)?;
     let mut at: u32 = 0;
     'taking: while space.node(at).place.cell() != ends.to {
-        match advance(t, ends, space, at, &mut taken, steps)? {
+        match advance(t, ends, space, at, taken, steps)? {
             Some(next) => at = next,
-            None => return Ok(Plain::None { taken }),
+            None => return Ok(None),
         }
     }
-    found(alloc, t, ends, space, at, taken)
+    Ok(Some(at))
 }
 
-// A search whose steps of the open list are counted by a counter of its own.
-fn run_counted<T: Terrain, L: Ledger>(
-    alloc: Global,
+// The same, where the steps of the open list are counted by a counter of its own.
+fn take_counted<T: Terrain, L: Ledger>(
     t: &T,
     ends: Ends,
     space: &mut Space,
+    taken: &mut Taken,
     blank: Blank,
-) -> Result<Plain, NoMemory>
+) -> Result<Option<u32>, NoMemory>
     requires name { blank.name ≡ L.name }
     requires parts { blank.parts ≡ L.parts }
     requires some { 0 < L.parts }
@@ -180,13 +194,14 @@ fn run_counted<T: Terrain, L: Ledger>(
     requires to { is_free (T.grid t.now) ends.to ≡ true }
     requires layout { space.old.layout ≡ Layout.ByCell }
     requires room { HasRoom (T.grid t.now) space.old.places }
-    ensures run { IfOk result (IsPlainRun (T.grid t.now) ends.from ends.to) }
-    ensures least { IfOk result (IsLeast (T.grid t.now) ends.from ends.to) }
+    requires none { taken.old ≡ [] }
+    ensures ended { IfOk result (HasEnded (T.grid t.now) ends.from ends.to space.new.table taken.new) }
+    ensures whole { OnOk result (IsGrid (T.grid t.now)) }
     ensures layout { space.new.layout ≡ space.old.layout }
     ensures places { space.new.places ≡ space.old.places }
 {
     let mut steps = Steps::<L>::new(blank);
-    run(alloc, t, ends, space, &mut steps)
+    take_all(t, ends, space, taken, &mut steps)
 }
 
 /// The plain engine's run from one free cell to another, over memory that is lent: its answer is a
@@ -207,17 +222,81 @@ pub fn least_in<T: Terrain>(
     ensures least { IfOk result (IsLeast (T.grid t.now) from to) }
     ensures room { HasRoom (T.grid t.now) space.new }
 {
-    run_counted::<T, Brand>(alloc, t, Ends { from, to }, &mut space.space, Blank::new(1))
+    let ends = Ends { from, to };
+    let mut taken = Taken::new(alloc);
+    let space = &mut space.space;
+    match take_counted::<T, Brand>(t, ends, space, &mut taken, Blank::new(1))? {
+        Some(at) => found(alloc, t, ends, space, at, taken),
+        None => Ok(exhausted(t, ends, taken)),
+    }
 }
 
-/// The plain engine's run from one free cell to another: its answer is a least walk, or that none
-/// exists.
-pub fn least<T: Terrain>(alloc: Global, t: &T, from: Cell, to: Cell) -> Result<Plain, NoMemory>
+// The answer where the goal was taken last, with the list of closed cells.
+fn found_listed<T: Terrain>(
+    alloc: Global,
+    t: &T,
+    ends: Ends,
+    space: &Space,
+    at: u32,
+    taken: Taken,
+) -> Result<Listed, NoMemory>
+    requires whole { IsGrid (T.grid t.now) }
+    requires from { is_free (T.grid t.now) ends.from ≡ true }
+    requires to { is_free (T.grid t.now) ends.to ≡ true }
+    requires taken { HasTaken (T.grid t.now) ends.from ends.to at space.now.table taken }
+    requires goal { (n : _) → slice_get space.now.table.nodes at ≡ Some n → node_cell n ≡ ends.to }
+    ensures run { IfOk result (λ found. IsPlainRun (T.grid t.now) ends.from ends.to (plain_of found)) }
+    ensures least { IfOk result (λ found. IsLeast (T.grid t.now) ends.from ends.to (plain_of found)) }
+    ensures lists { IfOk result (AreLists (T.grid t.now) ends.from ends.to) }
+{
+    let way = space.way_to(alloc, ends.to, at)?;
+    let points = turns(alloc, way.points.as_slice())?;
+    let limit = space.node(at).key;
+    let closed = closed_cells(alloc, space, ends.to, limit)?;
+    Ok(Listed::Found {
+        points,
+        cost: way.cost,
+        closed,
+        taken,
+    })
+}
+
+// The answer where the goal was not taken, with the list of reached cells.
+fn none_listed<T: Terrain>(
+    alloc: Global,
+    t: &T,
+    ends: Ends,
+    taken: Taken,
+) -> Result<Listed, NoMemory>
+    requires whole { IsGrid (T.grid t.now) }
+    requires from { is_free (T.grid t.now) ends.from ≡ true }
+    requires to { is_free (T.grid t.now) ends.to ≡ true }
+    requires taken { IsExhausted (T.grid t.now) ends.from ends.to taken }
+    ensures run { IfOk result (λ found. IsPlainRun (T.grid t.now) ends.from ends.to (plain_of found)) }
+    ensures least { IfOk result (λ found. IsLeast (T.grid t.now) ends.from ends.to (plain_of found)) }
+    ensures lists { IfOk result (AreLists (T.grid t.now) ends.from ends.to) }
+{
+    let reached = reached_cells(alloc, t.width(), taken.as_slice())?;
+    Ok(Listed::None { reached, taken })
+}
+
+/// The plain engine's run from one free cell to another, with the lists by which its answer can be
+/// checked without a search: its answer is a least walk, or that none exists.
+///
+/// The lists take time and memory by their lengths; `least_in` makes none.
+pub fn least<T: Terrain>(alloc: Global, t: &T, from: Cell, to: Cell) -> Result<Listed, NoMemory>
     requires from { is_free (T.grid t.now) from ≡ true }
     requires to { is_free (T.grid t.now) to ≡ true }
-    ensures run { IfOk result (IsPlainRun (T.grid t.now) from to) }
-    ensures least { IfOk result (IsLeast (T.grid t.now) from to) }
+    ensures run { IfOk result (λ found. IsPlainRun (T.grid t.now) from to (plain_of found)) }
+    ensures least { IfOk result (λ found. IsLeast (T.grid t.now) from to (plain_of found)) }
+    ensures lists { IfOk result (AreLists (T.grid t.now) from to) }
 {
-    let mut space = Workspace::of_grid(alloc, t)?;
-    least_in(alloc, t, from, to, &mut space)
+    let ends = Ends { from, to };
+    let mut taken = Taken::new(alloc);
+    let mut memory = Workspace::of_grid(alloc, t)?;
+    let space = &mut memory.space;
+    match take_counted::<T, Brand>(t, ends, space, &mut taken, Blank::new(1))? {
+        Some(at) => found_listed(alloc, t, ends, space, at, taken),
+        None => none_listed(alloc, t, ends, taken),
+    }
 }

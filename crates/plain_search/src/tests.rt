@@ -3,7 +3,7 @@
 ghost use Rattle.std.specs.Prelude.{◌≡◌, true};
 ghost use Rattle.grid_moves.specs.Grid.{AreCells};
 
-use crate::{NoMemory, Plain, least};
+use crate::{Listed, NoMemory, least};
 use grid_moves::{Cell, Corner, Grid, Terrain};
 use root2_cost::Cost;
 use std::alloc::Global;
@@ -26,12 +26,13 @@ fn is_answer(
         return Ok(false);
     }
     match least(alloc, grid, from, to)? {
-        Plain::Found {
+        Listed::Found {
             points,
             cost,
             taken,
+            ..
         } => Ok(walk == Some((points.as_slice(), cost)) && taken.as_slice() == states),
-        Plain::None { taken } => Ok(walk.is_none() && taken.as_slice() == states),
+        Listed::None { taken, .. } => Ok(walk.is_none() && taken.as_slice() == states),
     }
 }
 

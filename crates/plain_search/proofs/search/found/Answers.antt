@@ -1,6 +1,7 @@
-use Rattle.std.proofs.Common.{◌≡◌, ◌∙◌, ap}
+use Rattle.std.proofs.Common.{◌∙◌, ap}
 use Rattle.path_points.specs.Corners.{corners}
-use Rattle.plain_search.proofs.Concluding.{leads_back, is_found}
+use Rattle.plain_search.specs.declared.search.Plain.TheVariants.{Found}
+use Rattle.plain_search.proofs.Concluding.{leads_back, is_found, run_least}
 use Rattle.plain_search.proofs.search.found.Goals as goal
 
 pub way_to-requires : goal.way_to-requires
@@ -10,7 +11,13 @@ way_to-requires g c =
 
 pub returns : goal.returns
 returns g c =
-    is_found (g.T.Terrain.grid c.args.t.now) c.args.ends.from c.args.ends.to c.requires.whole c.requires.from
+    let grid = g.T.Terrain.grid c.args.t.now in
+    let run = is_found grid c.args.ends.from c.args.ends.to c.requires.whole c.requires.from
     c.requires.to c.args.at c.args.space.now.table c.args.taken c.requires.taken c.in_ok-points.points
     c.in_ok-way.way.points c.in_ok-way.way.cost c.requires.goal c.in_ok-way.ensures
-    (c.in_ok-points.ensures ∙ ap corners c.as_slice.ensures)
+    (c.in_ok-points.ensures ∙ ap corners c.as_slice.ensures) in
+    record {
+      run = run;
+      least = run_least grid c.args.ends.from c.args.ends.to
+          (Found c.in_ok-points.points c.in_ok-way.way.cost c.args.taken) c.requires.from run;
+    }

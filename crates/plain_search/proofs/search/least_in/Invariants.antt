@@ -1,4 +1,4 @@
 use Rattle.plain_search.proofs.search.least_in.Given as goal
 
-abbrev pub ghosts-run_counted : goal.ghosts-run_counted
-ghosts-run_counted g a = record { name = a.blank.name; parts = a.blank.parts }
+abbrev pub ghosts-take_counted : goal.ghosts-take_counted
+ghosts-take_counted g a = record { name = a.blank.name; parts = a.blank.parts }

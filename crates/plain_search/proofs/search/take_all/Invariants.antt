@@ -1,7 +1,7 @@
-use Rattle.std.proofs.Common.{◌≡◌, ◌*◌, ◌-◌, length}
+use Rattle.std.proofs.Common.{◌*◌, ◌-◌, length}
 use Rattle.plain_search.specs.Progress.{HasTaken}
 use Rattle.plain_search.specs.Room.{IsReady}
-use Rattle.plain_search.proofs.search.run.Given as goal
+use Rattle.plain_search.proofs.search.take_all.Given as goal
 
 abbrev pub invariant-taking : goal.invariant-taking
 invariant-taking g l = record {

@@ -2,7 +2,7 @@ use Rattle.std.proofs.Common.{◌≡◌, ◌+◌, ℕ, length, subst, arith}
 use Rattle.std.specs.Prelude.{Option, IfSome}
 use Rattle.plain_search.specs.Progress.{GoesOn}
 use Rattle.plain_search.proofs.Concluding.{fits}
-use Rattle.plain_search.proofs.search.run.Goals as goal
+use Rattle.plain_search.proofs.search.take_all.Goals as goal
 
 pub taking-smaller : goal.taking-smaller
 taking-smaller g c =

@@ -1,0 +1,336 @@
+-- The closed cells of a search that took its goal.
+use Rattle.std.proofs.Common.{◌≡◌, ℕ, ◌+◌, ◌-◌, ◌<◌, ◌≤◌, inl, inr, List, [], ◌∷◌, refl, ap, sym, ◌∙◌, subst, arith, Bool, true, false}
+use Rattle.std.proofs.lemmas.Bool.Decides.{nat_tests}
+use Rattle.std.proofs.lemmas.List.Sorted.{IsPermutation-sym, Contains-permutation}
+use Rattle.std.specs.Prelude.{Option, Some, None, slice_get, nat_lt, if◌then◌else◌}
+use Rattle.std.specs.List.{Contains}
+use Rattle.root2_cost.specs.declared.Cost.{Cost}
+use Rattle.root2_cost.specs.Laws.{HasShortParts}
+use Rattle.root2_cost.specs.Order.{is_less, IsLess, IsAtMost}
+use Rattle.root2_cost.specs.Rank.{rank_of}
+use Rattle.root2_cost.specs.Sums.{add_costs}
+use Rattle.root2_cost.proofs.AtMost.{IsAtMost-not_more}
+use Rattle.root2_cost.proofs.Less.{IsLess-total}
+use Rattle.root2_cost.proofs.Most.{Most-then, Most-same}
+use Rattle.root2_cost.proofs.Ranking.{less_ranks, ranks_less}
+use Rattle.root2_cost.proofs.Sums.{add_costs-no_cost_right}
+use Rattle.grid_moves.specs.declared.Cell.{Cell}
+use Rattle.grid_moves.specs.Grid.{GridData, IsGrid, is_free}
+use Rattle.grid_moves.specs.Points.{estimate}
+use Rattle.grid_moves.specs.Walk.{cost_of, last_of}
+use Rattle.grid_moves.proofs.Legal.{is_same-itself}
+use Rattle.search_run.specs.Run.{Taken, Offer, IsIn, here, IsRun, is_taken, least_offer, sum_at}
+use Rattle.search_run.proofs.Leastness.{or_false, taken_state, taken_is_least, lower_taken}
+use Rattle.best_first.specs.declared.node.Node.{Node}
+use Rattle.best_first.specs.declared.state.State.{State}
+use Rattle.best_first.specs.declared.state.Layout.TheVariants.{ByCell}
+use Rattle.best_first.specs.Mirror.{IsInOrder}
+use Rattle.best_first.specs.Node.{state_of}
+use Rattle.best_first.specs.State.{start_at}
+use Rattle.best_first.specs.Table.{Table, lookup}
+use Rattle.best_first.specs.Trace.{node_cell, rank_left}
+use Rattle.best_first.proofs.Lookup.{lookup-found}
+use Rattle.best_first.proofs.Offering.{rank-add_costs}
+use Rattle.plain_search.specs.Lists.{AreClosed, IsLeastCost, IsBelow}
+use Rattle.plain_search.specs.Listing.{cost_of_rank, ArePriced, IsSortedFrom, entry_below, entries_below, place_number}
+use Rattle.plain_search.specs.Progress.{HasTaken, IsAtGoal}
+use Rattle.plain_search.specs.Rule.{plain_rule, plain_links}
+use Rattle.plain_search.proofs.Ascending.{ascending, distinct_made, one_place_number}
+use Rattle.plain_search.proofs.Decoding.{cost-rank}
+use Rattle.plain_search.proofs.Entries.{made_contained, contained_made}
+use Rattle.plain_search.proofs.Posed.{run_free}
+use Rattle.plain_search.proofs.Right.{way}
+use Rattle.plain_search.proofs.Walks.{plain_consistent, walk_chain}
+
+-- a taken state's cell has the cost at which it was taken as its least
+pub taken_least : (g : GridData) (s t : Cell) (run : List (Taken State)) → is_free g s ≡ true
+    → IsRun (plain_rule g t) (start_at s) run → (u : Taken State) → IsIn u run → u.state ≡ start_at u.state.cell
+    → IsLeastCost g s u.state.cell u.cost
+taken_least g s t run free is u m plain =
+    let w = way g t s run free is u m in
+    record {
+      cells = w.cells;
+      least = record {
+        walk = record { legal = w.goes.legal; ends = w.goes.ends };
+        least = λ others o.
+            let to : start_at (last_of s others) ≡ u.state = ap (λ (c : Cell). start_at c) o.ends ∙ sym plain in
+            let chain = walk_chain g t s others o.legal in
+            (Most-then (Most-same w.goes.priced)
+            (taken_is_least (plain_rule g t) (plain_consistent g t) (start_at s) run u (cost_of (s ∷ others)) is m
+            (rw to at chain))).is;
+      };
+      priced = w.goes.priced;
+    }
+
+-- two least costs of one cell are one
+pub one_least : (g : GridData) (s c : Cell) (p q : Cost) → IsLeastCost g s c p → IsLeastCost g s c q → p ≡ q
+one_least g s c p q a b =
+    let e : IsAtMost p q = rw (sym a.priced, sym b.priced) (a.least.least b.cells b.least.walk) in
+    let f : IsAtMost q p = rw (sym a.priced, sym b.priced) (b.least.least a.cells a.least.walk) in
+    elim (IsLess-total p q) [
+      | inl less ↦ absurd (IsAtMost-not_more q p f less)
+      | inr (inl more) ↦ absurd (IsAtMost-not_more p q e more)
+      | inr (inr same) ↦ same
+    ]
+
+abbrev entry : Cell → Cost → Cell × Cost
+entry c cost = (c, cost)
+
+some_entry : (e f : Cell × Cost) → Some e ≡ Some f → e ≡ f
+some_entry e f q = ap (λ (o : Option (Cell × Cost)). elim o as (λ _. Cell × Cost) [ Some v ↦ v | None ↦ e ]) q
+
+-- a made entry: the key is below, and what the entry is
+record IsEntry (goal : Cell) (limit : ℕ) (n : Node) (c : Cell) (cost : Cost) : Type 0 where
+  below : n.key < limit
+  cell : node_cell n ≡ c
+  cost_is : cost_of_rank (rank_left goal n) ≡ cost
+
+entry_is : (goal : Cell) (limit : ℕ) (n : Node) (c : Cell) (cost : Cost)
+    → entry_below goal limit n ≡ Some (c, cost) → IsEntry goal limit n c cost
+entry_is goal limit n c cost h = by_test (nat_lt n.key limit) refl h
+  where
+    by_test : (b : Bool) → nat_lt n.key limit ≡ b
+        → (if b then Some (entry (node_cell n) (cost_of_rank (rank_left goal n))) else None) ≡ Some (entry c cost)
+        → IsEntry goal limit n c cost
+    by_test false e h = absurd (cc)
+    by_test true e h =
+        let same = some_entry (entry (node_cell n) (cost_of_rank (rank_left goal n))) (entry c cost) h in
+        record {
+          below = less n.key limit e;
+          cell = ap (λ (p : Cell × Cost). p.0) same;
+          cost_is = ap (λ (p : Cell × Cost). p.1) same;
+        }
+      where
+        less : (m n : ℕ) → nat_lt m n ≡ true → m < n
+        less m n e = grind (arith, nat_tests)
+
+below_test : (m n : ℕ) → m < n → nat_lt m n ≡ true
+below_test m n e = grind (arith, nat_tests)
+
+-- the rank that is left is that of the cost
+pub priced_left : (goal : Cell) (n : Node) (cost : Cost) → HasShortParts cost
+    → n.key ≡ rank_of cost + rank_of (estimate (node_cell n) goal) → cost_of_rank (rank_left goal n) ≡ cost
+priced_left goal n cost short e =
+    ap cost_of_rank (left n.key (rank_of cost) (rank_of (estimate (node_cell n) goal)) e) ∙ cost-rank cost short
+  where
+    left : (k a b : ℕ) → k ≡ a + b → k - b ≡ a
+    left k a b h = omega arith
+
+short_cost : (p q : Cost) → HasShortParts (add_costs p q) → HasShortParts p
+short_cost p q h = let a = h.straight in let b = h.diagonal in
+    record { straight = omega arith; diagonal = omega arith }
+
+-- no state that waits has a lesser sum than the last taken one
+first_no : (g : GridData) (s t : Cell) (x : Taken State) (earlier : List (Taken State)) (v : State)
+    (o : Offer State) → IsRun (plain_rule g t) (start_at s) (x ∷ earlier)
+    → is_taken (plain_rule g t) (x ∷ earlier) v ≡ false → least_offer (plain_rule g t) earlier v ≡ Some o
+    → IsLess (sum_at (plain_rule g t) v o.cost) (sum_at (plain_rule g t) x.state x.cost) → ⊥
+first_no g s t x [] v o is u b less = cc
+first_no g s t x (y ∷ more) v o is u b less =
+    let untaken = (or_false ((plain_rule g t).is_same x.state v) (is_taken (plain_rule g t) (y ∷ more) v) u).1 in
+    let no = is.2.first v o untaken b in
+    let f = (or_false (is_less (sum_at (plain_rule g t) v o.cost) (sum_at (plain_rule g t) x.state x.cost)) _ no).0 in
+    let y : is_less (sum_at (plain_rule g t) v o.cost) (sum_at (plain_rule g t) x.state x.cost) ≡ true = less in
+    cc
+
+module _ (g : GridData) (s t : Cell) (whole : IsGrid g) (from : is_free g s ≡ true) (to : is_free g t ≡ true)
+    (at : ℕ) (k : Table) (taken : List ℕ) (h : HasTaken g s t at k taken) where
+  abbrev order : (id : ℕ) (n : Node) → slice_get k.nodes id ≡ Some n
+      → IsInOrder ByCell g.width t (plain_links g) (h.last ∷ h.earlier) (least_offer (plain_rule g t) h.earlier) k id n
+  order id n e = h.searching.mirrors.in_order id n e
+
+  -- each node's key is the rank of its offer's cost and of the estimate
+  key_of : (id : ℕ) (n : Node) (e : slice_get k.nodes id ≡ Some n)
+      → n.key ≡ rank_of (order id n e).offer.cost + rank_of (estimate (node_cell n) t)
+  key_of id n e = (order id n e).keeps.key ∙ rank-add_costs (order id n e).offer.cost (estimate (node_cell n) t)
+
+  pub are_priced : ArePriced t k.nodes
+  are_priced id n e = record {
+    cost = (order id n e).offer.cost;
+    short = short_cost (order id n e).offer.cost (estimate (node_cell n) t) (order id n e).keeps.short;
+    key = key_of id n e;
+  }
+
+  cost_at : (id : ℕ) (n : Node) (e : slice_get k.nodes id ≡ Some n)
+      → cost_of_rank (rank_left t n) ≡ (order id n e).offer.cost
+  cost_at id n e = priced_left t n (order id n e).offer.cost
+      (short_cost (order id n e).offer.cost (estimate (node_cell n) t) (order id n e).keeps.short) (key_of id n e)
+
+  -- the last taken state's node
+  abbrev last_node : Node
+  last_node = h.searching.node
+
+  last_cost : (order at last_node h.searching.node_is).offer.cost ≡ h.last.cost
+  last_cost = sym ((order at last_node h.searching.node_is).taken_by h.last (here h.earlier) (sym h.searching.state)).0
+
+  last_state : h.last.state ≡ start_at (node_cell last_node)
+  last_state = sym h.searching.state
+
+  abbrev last_sum : Cost
+  last_sum = sum_at (plain_rule g t) h.last.state h.last.cost
+
+  sum_is : sum_at (plain_rule g t) (state_of ByCell last_node) (order at last_node h.searching.node_is).offer.cost
+      ≡ last_sum
+  sum_is = ap (λ (c : Cost). sum_at (plain_rule g t) (state_of ByCell last_node) c) last_cost
+      ∙ ap (λ (v : State). sum_at (plain_rule g t) v h.last.cost) h.searching.state
+
+  limit_is : last_node.key ≡ rank_of last_sum
+  limit_is = (order at last_node h.searching.node_is).keeps.key ∙ ap rank_of sum_is
+
+  last_short : HasShortParts last_sum
+  last_short = subst HasShortParts sum_is (order at last_node h.searching.node_is).keeps.short
+
+  -- a node of a key below the last one's was taken
+  below_taken : (id : ℕ) (n : Node) → slice_get k.nodes id ≡ Some n → n.key < last_node.key
+      → is_taken (plain_rule g t) (h.last ∷ h.earlier) (state_of ByCell n) ≡ true
+  below_taken id n e less =
+      by_test (is_taken (plain_rule g t) (h.last ∷ h.earlier) (state_of ByCell n)) refl
+    where
+      by_test : (b : Bool) → is_taken (plain_rule g t) (h.last ∷ h.earlier) (state_of ByCell n) ≡ b
+          → is_taken (plain_rule g t) (h.last ∷ h.earlier) (state_of ByCell n) ≡ true
+      by_test true u = u
+      by_test false u =
+          let o = order id n e in
+          let lesser : IsLess (sum_at (plain_rule g t) (state_of ByCell n) o.offer.cost) last_sum =
+          ranks_less (sum_at (plain_rule g t) (state_of ByCell n) o.offer.cost) last_sum o.keeps.short last_short
+          (rw (sym o.keeps.key, sym limit_is) less) in
+          absurd (first_no g s t h.last h.earlier (state_of ByCell n) o.offer h.searching.run u (o.best_is u) lesser)
+
+  module _ (goal : IsAtGoal t k at) where
+    at_t : node_cell last_node ≡ t
+    at_t = goal last_node h.searching.node_is
+
+    -- at the goal nothing is left to go
+    sum_cost : last_sum ≡ h.last.cost
+    sum_cost =
+        let yes : (plain_rule g t).is_goal h.last.state ≡ true =
+        ap (λ (v : State). (plain_rule g t).is_goal v) (last_state ∙ ap (λ (c : Cell). start_at c) at_t)
+        ∙ is_same-itself t in
+        ap (λ (e : Cost). add_costs h.last.cost e) ((plain_consistent g t).nothing h.last.state yes)
+        ∙ add_costs-no_cost_right h.last.cost
+
+    -- an entry is a taken cell with its least cost, below the goal's
+    pub only_closed : (c : Cell) (cost : Cost) → Contains (entries_below t last_node.key k.nodes) (c, cost)
+        → IsLeastCost g s c cost × IsBelow t h.last.cost c cost
+    only_closed c cost m =
+        let made = contained_made (entry_below t last_node.key) k.nodes (c, cost) m in
+        let n = made.from in
+        let is = entry_is t last_node.key n c cost made.made in
+        let o = order made.place n made.from_is in
+        let u = taken_state (plain_rule g t) (plain_consistent g t) (h.last ∷ h.earlier) (state_of ByCell n)
+        (below_taken made.place n made.from_is is.below) in
+        let paid : u.0.cost ≡ cost = (o.taken_by u.0 u.1 u.2).0 ∙ sym (cost_at made.place n made.from_is)
+        ∙ is.cost_is in
+        let where_ : u.0.state.cell ≡ c = ap (λ (v : State). v.cell) u.2 ∙ is.cell in
+        let plain : u.0.state ≡ start_at u.0.state.cell =
+        (run_free g s t whole from to (h.last ∷ h.earlier) h.searching.run u.0 u.1).1 in
+        let least : IsLeastCost g s u.0.state.cell u.0.cost =
+        taken_least g s t (h.last ∷ h.earlier) from h.searching.run u.0 u.1 plain in
+        let lesser : IsLess (sum_at (plain_rule g t) (state_of ByCell n) o.offer.cost) last_sum =
+        ranks_less (sum_at (plain_rule g t) (state_of ByCell n) o.offer.cost) last_sum o.keeps.short last_short
+        (rw (sym o.keeps.key, sym limit_is) is.below) in (
+          subst (λ (d : Cost). IsLeastCost g s c d) paid
+              (subst (λ (d : Cell). IsLeastCost g s d u.0.cost) where_ least),
+          subst (λ (d : Cost). IsLess (add_costs cost (estimate c t)) d) sum_cost
+              (subst (λ (d : Cost). IsLess (add_costs d (estimate c t)) last_sum)
+              (sym (cost_at made.place n made.from_is) ∙ is.cost_is)
+              (subst (λ (d : Cell). IsLess (add_costs o.offer.cost (estimate d t)) last_sum) is.cell lesser)),
+        )
+
+    -- and each such cell has one
+    pub all_closed : (c : Cell) (cost : Cost) → IsLeastCost g s c cost → IsBelow t h.last.cost c cost
+        → Contains (entries_below t last_node.key k.nodes) (c, cost)
+    all_closed c cost least below = by_lookup (lookup ByCell k.nodes (start_at c)) refl
+      where
+        ends : start_at (last_of s least.cells) ≡ start_at c
+        ends = ap (λ (d : Cell). start_at d) least.least.walk.ends
+
+        lesser : IsLess (sum_at (plain_rule g t) (start_at c) (cost_of (s ∷ least.cells))) last_sum
+        lesser = subst (λ (d : Cost). IsLess (sum_at (plain_rule g t) (start_at c) (cost_of (s ∷ least.cells))) d)
+            (sym sum_cost)
+            (subst (λ (d : Cost). IsLess (sum_at (plain_rule g t) (start_at c) d) h.last.cost) (sym least.priced) below)
+
+        is_in : is_taken (plain_rule g t) (h.last ∷ h.earlier) (start_at c) ≡ true
+        is_in = lower_taken (plain_rule g t) (plain_consistent g t) (start_at s) (start_at c) h.last h.earlier
+            (cost_of (s ∷ least.cells)) h.searching.run
+            (rw ends at (walk_chain g t s least.cells least.least.walk.legal)) lesser
+
+        by_lookup : (o : Option ℕ) → lookup ByCell k.nodes (start_at c) ≡ o
+            → Contains (entries_below t last_node.key k.nodes) (c, cost)
+        by_lookup None e = absurd (let no = (h.searching.mirrors.known (start_at c) e).0 in
+            let yes = is_in in cc)
+        by_lookup (Some id) e =
+            let f = lookup-found ByCell k.nodes (start_at c) id e in
+            let o = order id f.node f.node_is in
+            let u = taken_state (plain_rule g t) (plain_consistent g t) (h.last ∷ h.earlier) (start_at c) is_in in
+            let where_ : u.0.state.cell ≡ c = ap (λ (v : State). v.cell) u.2 in
+            let plain : u.0.state ≡ start_at u.0.state.cell = u.2 ∙ ap (λ (d : Cell). start_at d) (sym where_) in
+            let taken_cost : IsLeastCost g s c u.0.cost =
+            subst (λ (d : Cell). IsLeastCost g s d u.0.cost) where_
+            (taken_least g s t (h.last ∷ h.earlier) from h.searching.run u.0 u.1 plain) in
+            let paid : u.0.cost ≡ cost = one_least g s c u.0.cost cost taken_cost least in
+            let offered : o.offer.cost ≡ cost = sym (o.taken_by u.0 u.1 (u.2 ∙ sym f.state)).0 ∙ paid in
+            let cell : node_cell f.node ≡ c = ap (λ (v : State). v.cell) f.state in
+            let sum : sum_at (plain_rule g t) (state_of ByCell f.node) o.offer.cost
+            ≡ add_costs cost (estimate c t) =
+            ap (λ (d : Cost). add_costs d (estimate (node_cell f.node) t)) offered
+            ∙ ap (λ (d : Cell). add_costs cost (estimate d t)) cell in
+            let short : HasShortParts (add_costs cost (estimate c t)) = subst HasShortParts sum o.keeps.short in
+            let key : f.node.key ≡ rank_of (add_costs cost (estimate c t)) = o.keeps.key ∙ ap rank_of sum in
+            let less : rank_of (add_costs cost (estimate c t)) < rank_of last_sum =
+            less_ranks (add_costs cost (estimate c t)) last_sum short
+            (subst (λ (d : Cost). IsLess (add_costs cost (estimate c t)) d) (sym sum_cost) below) in
+            let under : f.node.key < last_node.key = rw (key, limit_is) less in
+            made_contained (entry_below t last_node.key) k.nodes id f.node (c, cost) f.node_is
+            (made_entry f.node c cost under cell (cost_at id f.node f.node_is ∙ offered))
+          where
+            made_entry : (n : Node) (c : Cell) (cost : Cost) → n.key < last_node.key → node_cell n ≡ c
+                → cost_of_rank (rank_left t n) ≡ cost → entry_below t last_node.key n ≡ Some (c, cost)
+            made_entry n c cost under cell paid =
+                let yes : nat_lt n.key last_node.key ≡ true = below_test n.key last_node.key under in
+                rw yes (ap (λ (d : Cell). Some (entry d (cost_of_rank (rank_left t n)))) cell
+                ∙ ap (λ (d : Cost). Some (entry c d)) paid)
+
+    -- nodes are of different cells, in columns of the map
+    one_made : (i j : ℕ) (a b : Node) (y z : Cell × Cost) → slice_get k.nodes i ≡ Some a
+        → slice_get k.nodes j ≡ Some b → entry_below t last_node.key a ≡ Some y
+        → entry_below t last_node.key b ≡ Some z → place_number y.0 ≡ place_number z.0 → i ≡ j
+    one_made i j a b y z p q r w e =
+        let first = entry_is t last_node.key a y.0 y.1 r in
+        let second = entry_is t last_node.key b z.0 z.1 w in
+        let same : node_cell a ≡ node_cell b = one_place_number (node_cell a) (node_cell b)
+        (wide (node_cell a).x g.width (order i a p).column whole.sides.narrow)
+        (wide (node_cell b).x g.width (order j b q).column whole.sides.narrow)
+        (ap place_number first.cell ∙ e ∙ sym (ap place_number second.cell)) in
+        h.searching.mirrors.only i j a b p q (ap (λ (c : Cell). start_at c) same)
+      where
+        wide : (m w : ℕ) → m < w → w ≤ 4096 → m < 65536
+        wide m w a b = omega arith
+
+    -- the list of the entries in order
+    pub are_closed : (limit : ℕ) (closed : List (Cell × Cost)) → limit ≡ last_node.key
+        → IsSortedFrom (λ (e : Cell × Cost). e.0) (entries_below t limit k.nodes) closed
+        → AreClosed g s t h.last.cost closed
+    are_closed limit closed e by =
+        subst (λ (n : ℕ). IsSortedFrom (λ (e : Cell × Cost). e.0) (entries_below t n k.nodes) closed
+        → AreClosed g s t h.last.cost closed) (sym e) in_order by
+      where
+        entry_of : IsSortedFrom (λ (e : Cell × Cost). e.0) (entries_below t last_node.key k.nodes) closed
+            → (y : Cell × Cost) → Contains closed y → Contains (entries_below t last_node.key k.nodes) y
+        entry_of by y m = Contains-permutation closed (entries_below t last_node.key k.nodes) y
+            (IsPermutation-sym (entries_below t last_node.key k.nodes) closed by.permutation) m
+
+        in_order : IsSortedFrom (λ (e : Cell × Cost). e.0) (entries_below t last_node.key k.nodes) closed
+            → AreClosed g s t h.last.cost closed
+        in_order by = record {
+          only = λ c cost m. only_closed c cost (entry_of by (c, cost) m);
+          all = λ c cost least below. Contains-permutation (entries_below t last_node.key k.nodes) closed (c, cost)
+              by.permutation (all_closed c cost least below);
+          ascend = ascending (λ (e : Cell × Cost). e.0) g.width (entries_below t last_node.key k.nodes) closed
+              (let n = whole.sides.narrow in omega arith) by
+              (distinct_made (entry_below t last_node.key) (λ (e : Cell × Cost). place_number e.0) k.nodes one_made)
+              (λ y m.
+              let made = contained_made (entry_below t last_node.key) k.nodes y (entry_of by y m) in
+              let is = entry_is t last_node.key made.from y.0 y.1 made.made in
+              subst (λ (c : Cell). c.x < g.width) is.cell (order made.place made.from made.from_is).column);
+        }

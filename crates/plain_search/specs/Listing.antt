@@ -1,0 +1,73 @@
+-- How the lists of a search are made. No public clause cites this module.
+use Rattle.std.specs.Prelude.{◌≡◌, ℕ, ◌+◌, ◌-◌, ◌*◌, ◌/◌, ◌%◌, ◌<◌, nat_lt, if◌then◌else◌, List, Option, Some, None, slice_get, refl}
+use Rattle.std.specs.List.{filter_map}
+use Rattle.std.specs.List.Sorted.{IsPermutation, IsNonDecreasingBy}
+use Rattle.root2_cost.specs.declared.Cost.{Cost}
+use Rattle.root2_cost.specs.Laws.{HasShortParts}
+use Rattle.root2_cost.specs.Rank.{rank_of, straight_rank, diagonal_rank}
+use Rattle.grid_moves.specs.declared.Cell.{Cell}
+use Rattle.grid_moves.specs.Points.{estimate}
+use Rattle.best_first.specs.declared.node.Node.{Node}
+use Rattle.best_first.specs.Trace.{node_cell, rank_left}
+
+-- what a diagonal move counts more than a straight one
+abbrev pub rank_step : ℕ
+rank_step = 1311738121
+
+-- how many diagonal moves a cost of this rank has
+abbrev pub diagonals_of : ℕ → ℕ
+diagonals_of rank = rank % straight_rank * rank_step % straight_rank
+
+-- the cost of this rank
+unfoldable pub cost_of_rank : ℕ → Cost
+cost_of_rank rank = record {
+  a = (rank - diagonals_of rank * diagonal_rank) / straight_rank;
+  b = diagonals_of rank;
+}
+
+-- 5 straight moves and 2 diagonal ones
+pub told_again : cost_of_rank (rank_of (record { a = 5; b = 2 })) ≡ record { a = 5; b = 2 }
+unfolding cost_of_rank
+told_again = refl
+
+-- some cost of few moves has the rank
+pub record HasRank (rank : ℕ) : Type 0 where
+  pub cost : Cost
+  pub short : HasShortParts cost
+  pub ranked : rank_of cost ≡ rank
+
+-- the key of the node is the rank of a cost of few moves and of the estimate
+pub record IsPriced (goal : Cell) (n : Node) : Type 0 where
+  pub cost : Cost
+  pub short : HasShortParts cost
+  pub key : n.key ≡ rank_of cost + rank_of (estimate (node_cell n) goal)
+
+-- so are those of all nodes
+abbrev pub ArePriced : Cell → List Node → Type 0
+ArePriced goal nodes = (id : ℕ) (n : Node) → slice_get nodes id ≡ Some n → IsPriced goal n
+
+-- the cell and the cost of a node, if its key is below this
+abbrev pub entry_below : Cell → ℕ → Node → Option (Cell × Cost)
+entry_below goal limit n =
+    if nat_lt n.key limit then Some (node_cell n, cost_of_rank (rank_left goal n)) else None
+
+-- those of all nodes
+abbrev pub entries_below : Cell → ℕ → List Node → List (Cell × Cost)
+entries_below goal limit nodes = filter_map (entry_below goal limit) nodes
+
+-- cells in the order of their numbers have these numbers in order, whatever the map's width
+abbrev pub place_number : Cell → ℕ
+place_number c = c.y * 65536 + c.x
+
+-- the cell of a state's printed number
+abbrev pub cell_of : ℕ → ℕ → Cell
+cell_of width state = record { x = state / 9 % width; y = state / 9 / width }
+
+-- the states' numbers are those of cells of a map of this width, in one of 65536 rows
+abbrev pub AreOn : ℕ → List ℕ → Type 0
+AreOn width states = (k state : ℕ) → slice_get states k ≡ Some state → state < 65536 * width * 9
+
+-- the same items in ascending order of their cells
+pub record IsSortedFrom {X : Type 0} (cell : X → Cell) (some sorted : List X) : Type 0 where
+  pub permutation : IsPermutation some sorted
+  pub ordered : IsNonDecreasingBy (λ x. place_number (cell x)) sorted

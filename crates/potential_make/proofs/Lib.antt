@@ -1,0 +1,6 @@
+pub mod Texts
+pub mod Few
+pub mod Potentials
+pub mod Digits
+pub mod Spelled
+pub mod Making

@@ -1,0 +1,68 @@
+-- The text of a certificate.
+use Rattle.std.specs.Prelude.{◌≡◌, ℕ, List, [], ◌∷◌, ◌++◌, codes, decimal, refl}
+use Rattle.std.specs.Fmt.{digits}
+use Rattle.root2_cost.specs.declared.Cost.{Cost}
+use Rattle.grid_moves.specs.declared.Cell.{Cell}
+use Rattle.plain_search.specs.declared.lists.Listed.{Listed}
+use Rattle.plain_search.specs.declared.lists.Listed.TheVariants.{Found, None}
+use Rattle.potential_check.specs.declared.certificate.Claim.{Claim}
+use Rattle.potential_check.specs.declared.certificate.Claim.TheVariants.{Least, NoWalk}
+
+-- two numbers, parted by a space
+abbrev pub pair_text : ℕ → ℕ → List ℕ
+pair_text m n = decimal m ++ codes " " ++ decimal n
+
+-- the texts of all elements, one after the other
+abbrev pub texts_of : {X : Type 0} → (X → List ℕ) → List X → List ℕ
+texts_of text [] = []
+texts_of text (x ∷ xs) = text x ++ texts_of text xs
+
+-- the end of a line, and the line of start and goal
+abbrev pub ends_text : Cell → Cell → List ℕ
+ends_text s t = codes "\nends " ++ pair_text s.x s.y ++ codes " " ++ pair_text t.x t.y ++ codes "\n"
+
+-- the lines of the version, the sides and the ends
+abbrev pub head_text : ℕ → ℕ → Cell → Cell → List ℕ
+head_text width height s t = codes "jps-cert 1\nsize " ++ pair_text width height ++ ends_text s t
+
+-- ` X,Y`
+abbrev pub point_text : Cell → List ℕ
+point_text c = codes " " ++ decimal c.x ++ codes "," ++ decimal c.y
+
+-- the line of the cost, and that of the points
+abbrev pub least_text : Cost → List Cell → List ℕ
+least_text cost points =
+    codes "least " ++ pair_text cost.a cost.b ++ codes "\npoints" ++ texts_of point_text points ++ codes "\n"
+
+-- the line of a cell and its value
+abbrev pub value_text : (Cell × Cost) → List ℕ
+value_text entry =
+    codes "value " ++ pair_text entry.0.x entry.0.y ++ codes " " ++ pair_text entry.1.a entry.1.b ++ codes "\n"
+
+-- the line of a listed cell
+abbrev pub member_text : Cell → List ℕ
+member_text c = codes "in " ++ pair_text c.x c.y ++ codes "\n"
+
+-- the lines of a claim
+abbrev pub claim_text : Claim → List ℕ
+claim_text (Least cost points values) = least_text cost points ++ texts_of value_text values
+claim_text (NoWalk cells) = codes "none\n" ++ texts_of member_text cells
+
+-- the text of a certificate: no number has leading zeros, a line feed ends each line, and nothing follows
+-- `end`
+abbrev pub certificate_text : ℕ → ℕ → Cell → Cell → Claim → List ℕ
+certificate_text width height s t claim = head_text width height s t ++ claim_text claim ++ codes "end\n"
+
+-- the claim of what a search found: with its points and its closed or its reached cells
+abbrev pub claim_of : Listed → Claim
+claim_of (Found points cost closed taken) = Least cost points closed
+claim_of (None reached taken) = NoWalk reached
+
+-- round the pillar of `.../.@./...`, from the upper left to the lower right
+pub round_the_pillar : certificate_text 3 3 (record { x = 0; y = 0 }) (record { x = 2; y = 2 })
+    (Least (record { a = 4; b = 0 })
+    (record { x = 0; y = 0 } ∷ record { x = 2; y = 0 } ∷ record { x = 2; y = 2 } ∷ [])
+    ((record { x = 0; y = 0 }, record { a = 0; b = 0 }) ∷ (record { x = 1; y = 0 }, record { a = 1; b = 0 }) ∷ []))
+    ≡ codes "jps-cert 1\nsize 3 3\nends 0 0 2 2\nleast 4 0\npoints 0,0 2,0 2,2\nvalue 0 0 0 0\nvalue 1 0 1 0\nend\n"
+unfolding digits
+round_the_pillar = refl

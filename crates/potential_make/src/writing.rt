@@ -1,0 +1,163 @@
+//! The text of a certificate.
+
+ghost use Rattle.std.specs.Prelude.{◌≡◌, ◌++◌, true, OnOk, IfOk};
+ghost use Rattle.grid_moves.specs.Grid.{IsGrid, is_free};
+ghost use Rattle.potential_make.specs.Certified.{IsCertificate, IsAcceptedText, HasPotential};
+ghost use Rattle.potential_make.specs.Written as spec;
+
+use crate::NoMemory;
+use grid_moves::{Cell, Grid, Terrain};
+use plain_search::{Listed, least};
+use root2_cost::Cost;
+use std::alloc::Global;
+use text_line::{put, put_number};
+
+/// The certificate of the least cost between two free cells of a grid, or that no walk exists: the
+/// plain engine's points, and its closed or reached cells.
+///
+/// It takes as long as the plain engine, and then as long as sorting and writing the list.
+pub fn certificate(alloc: Global, g: &Grid, from: Cell, to: Cell) -> Result<Vec<u8>, NoMemory>
+    requires from { is_free g.now from ≡ true }
+    requires to { is_free g.now to ≡ true }
+    // It is the text of the claim with the points and the lists of the plain engine's run.
+    ensures text { IfOk result (λ text. IsCertificate g.now from to text.items) }
+    // The reader reads it, and the checker accepts what is read.
+    ensures accepted { IfOk result (λ text. IsAcceptedText g.now from to text.items) }
+{
+    let found = least(alloc, g, from, to)?;
+    let mut text = Vec::new(alloc);
+    put_head(&mut text, g, from, to)?;
+    put_claim(&mut text, &found)?;
+    put(&mut text, b"end\n")?;
+    Ok(text)
+}
+
+// Appends two numbers, parted by a space.
+fn put_pair(out: &mut Vec<u8>, m: u32, n: u32) -> Result<(), NoMemory>
+    ensures { OnOk result (out.new.items ≡ out.old.items ++ spec.pair_text m n) }
+{
+    put_number(out, u64::from(m))?;
+    put(out, b" ")?;
+    put_number(out, u64::from(n))
+}
+
+// Appends a cell's column and row, parted by a space.
+fn put_cell(out: &mut Vec<u8>, c: Cell) -> Result<(), NoMemory>
+    ensures { OnOk result (out.new.items ≡ out.old.items ++ spec.pair_text c.x c.y) }
+{
+    put_pair(out, u32::from(c.x), u32::from(c.y))
+}
+
+// Appends the lines that begin a certificate.
+fn put_head(out: &mut Vec<u8>, g: &Grid, from: Cell, to: Cell) -> Result<(), NoMemory>
+    ensures head { OnOk result (out.new.items ≡ out.old.items ++ spec.head_text g.now.width g.now.height from to) }
+    ensures whole { IsGrid g.now }
+{
+    let (width, height) = (u32::from(g.width()), u32::from(g.height()));
+    put(out, b"jps-cert 1\nsize ")?;
+    put_pair(out, width, height)?;
+    put_ends(out, from, to)
+}
+
+// Appends the line of the ends, behind the end of the line before.
+fn put_ends(out: &mut Vec<u8>, from: Cell, to: Cell) -> Result<(), NoMemory>
+    ensures { OnOk result (out.new.items ≡ out.old.items ++ spec.ends_text from to) }
+{
+    put(out, b"\nends ")?;
+    put_cell(out, from)?;
+    put(out, b" ")?;
+    put_cell(out, to)?;
+    put(out, b"\n")
+}
+
+// Appends the lines of the claim.
+fn put_claim(out: &mut Vec<u8>, found: &Listed) -> Result<(), NoMemory>
+    ensures { OnOk result (out.new.items ≡ out.old.items ++ spec.claim_text (spec.claim_of found.now)) }
+{
+    match found {
+        Listed::Found {
+            points,
+            cost,
+            closed,
+            ..
+        } => {
+            put_least(out, *cost, points.as_slice())?;
+            put_values(out, closed.as_slice())
+        }
+        Listed::None { reached, .. } => {
+            put(out, b"none\n")?;
+            put_members(out, reached.as_slice())
+        }
+    }
+}
+
+// Appends the line of the cost and that of the points.
+fn put_least(out: &mut Vec<u8>, cost: Cost, points: &[Cell]) -> Result<(), NoMemory>
+    ensures { OnOk result (out.new.items ≡ out.old.items ++ spec.least_text cost points.now) }
+{
+    put(out, b"least ")?;
+    put_pair(out, cost.a, cost.b)?;
+    put(out, b"\npoints")?;
+    put_points(out, points)?;
+    put(out, b"\n")
+}
+
+// Appends a point, behind a space.
+fn put_point(out: &mut Vec<u8>, c: Cell) -> Result<(), NoMemory>
+    ensures { OnOk result (out.new.items ≡ out.old.items ++ spec.point_text c) }
+{
+    put(out, b" ")?;
+    put_number(out, u64::from(c.x))?;
+    put(out, b",")?;
+    put_number(out, u64::from(c.y))
+}
+
+// Appends the points.
+fn put_points(out: &mut Vec<u8>, points: &[Cell]) -> Result<(), NoMemory>
+    ensures { OnOk result (out.new.items ≡ out.old.items ++ spec.texts_of spec.point_text points.now) }
+{
+    for c in points {
+        put_point(out, *c)?;
+    }
+    Ok(())
+}
+
+// Appends the line of a value.
+fn put_value(out: &mut Vec<u8>, c: Cell, cost: Cost) -> Result<(), NoMemory>
+    ensures { OnOk result (out.new.items ≡ out.old.items ++ spec.value_text (c, cost)) }
+{
+    put(out, b"value ")?;
+    put_cell(out, c)?;
+    put(out, b" ")?;
+    put_pair(out, cost.a, cost.b)?;
+    put(out, b"\n")
+}
+
+// Appends a line for each value.
+fn put_values(out: &mut Vec<u8>, values: &[(Cell, Cost)]) -> Result<(), NoMemory>
+    ensures { OnOk result (out.new.items ≡ out.old.items ++ spec.texts_of spec.value_text values.now) }
+{
+    for entry in values {
+        put_value(out, entry.0, entry.1)?;
+    }
+    Ok(())
+}
+
+// Appends the line of a listed cell.
+fn put_member(out: &mut Vec<u8>, c: Cell) -> Result<(), NoMemory>
+    ensures { OnOk result (out.new.items ≡ out.old.items ++ spec.member_text c) }
+{
+    put(out, b"in ")?;
+    put_cell(out, c)?;
+    put(out, b"\n")
+}
+
+// Appends a line for each cell.
+fn put_members(out: &mut Vec<u8>, cells: &[Cell]) -> Result<(), NoMemory>
+    ensures { OnOk result (out.new.items ≡ out.old.items ++ spec.texts_of spec.member_text cells.now) }
+{
+    for c in cells {
+        put_member(out, *c)?;
+    }
+    Ok(())
+}
