@@ -11,4 +11,5 @@ pub mod Judgements
 pub mod Works
 pub mod Readings
 pub mod Writing
+pub mod Answering
 pub mod Ended

@@ -466,3 +466,37 @@ fed-stopped text piece place byte at now before got fault result inside is f t e
       };
       answer = answers-err result fault _ e other stays.0;
     })
+
+grown-by : (text : List ℕ) (byte : ℕ) → (f : Option ScriptFault) → fault_so_far text ≡ f
+    → (more : List Command) × (commands_so_far (text ++ byte ∷ []) ≡ commands_so_far text ++ more)
+grown-by text byte (Some fault) is =
+    ([], (fault-stays text (byte ∷ []) fault is).1 ∙ sym (append-nil (commands_so_far text)))
+grown-by text byte None is = elim (cases_Bool (is_line_feed byte)) [
+  | inl e ↦ (
+    values_in (piece_read (next_line (cut text))),
+    commands-after text byte ∙ rw e (commands-next (cut text) (or-none _ _ (known-clean text is)).0)
+        ∙ ap (λ (l : List Command). l ++ values_in (piece_read (next_line (cut text)))) (sym (commands-known text)),
+  )
+  | inr e ↦ (
+    [],
+    commands-after text byte ∙ rw e (sym (commands-known text)) ∙ sym (append-nil (commands_so_far text)),
+  )
+]
+
+-- the commands that are known stay the first ones, whatever bytes come
+pub commands-grow : (text bytes : List ℕ)
+    → (more : List Command) × (commands_so_far (text ++ bytes) ≡ commands_so_far text ++ more)
+commands-grow text [] = ([], ap commands_so_far (append-nil text) ∙ sym (append-nil (commands_so_far text)))
+commands-grow text (byte ∷ bytes) =
+    let here = grown-by text byte (fault_so_far text) refl in
+    let later = commands-grow (text ++ byte ∷ []) bytes in (
+      here.0 ++ later.0,
+      ap commands_so_far (sym (append_assoc text (byte ∷ []) bytes)) ∙ later.1
+          ∙ ap (λ (l : List Command). l ++ later.0) here.1
+          ∙ append_assoc (commands_so_far text) here.0 later.0,
+    )
+
+-- of no text a command or a fault is known
+pub begun-known : (fault_so_far [] ≡ None) × (commands_so_far [] ≡ [])
+unfolding cut fault_so_far commands_so_far
+begun-known = (refl, refl)

@@ -47,7 +47,8 @@ impl LineFeeder {
 
     /// How many bytes came, those of the piece with the first fault among them.
     pub fn taken(&self) -> u32
-        ensures { result ≡ self.now.taken }
+        ensures count { result ≡ self.now.taken }
+        ensures within { result ≤ 2 ^ 26 }
     {
         self.taken
     }
