@@ -1,5 +1,5 @@
 -- How far the answers to what comes in have come. No public clause cites this module.
-use Rattle.std.specs.Prelude.{◌≡◌, ◌≢◌, ℕ, ◌+◌, ◌≤◌, ◌^◌, ⊤, ◌++◌, List, [], length, Option, Some, None, Result, Ok, Err}
+use Rattle.std.specs.Prelude.{◌≡◌, ◌≢◌, ℕ, ◌+◌, ◌<◌, ◌≤◌, ◌^◌, ⊤, ◌++◌, List, [], length, Option, Some, None, Result, Ok, Err}
 use Rattle.std.specs.List.{concat}
 use Rattle.std.specs.Option.{option_map}
 use Rattle.std.specs.Io.KnownBytes.{Consumes}
@@ -106,14 +106,16 @@ Refuses answer result = Ends (λ done. answer ≡ Ok tt) (record {
   Memory = ⊤;
 }) result
 
--- bytes came in, so many, in which no line is refused, and their whole commands are answered
-pub record IsHearing (first now : Answers) (feeder : LineFeeder) (input left : Option (List ℕ)) (before after : Stream)
-    : Type 0 where
+-- bytes came in in which no line is refused, and their whole commands are answered; more may be read
+pub record IsHearing (first now : Answers) (feeder : LineFeeder) (input input_now : Incoming) (buffer : List ℕ)
+    (before after : Stream) : Type 0 where
   pub text : List ℕ
-  pub consumed : Consumes input left text
+  pub consumed : Consumes input.left input_now.left text
   pub counted : length text ≡ feeder.taken
   pub few : feeder.taken ≤ 2 ^ 26
   pub heard : HasHeard first now feeder text before after
+  pub later : input.faults ≤ input_now.faults
+  pub room : 0 < length buffer
 
 -- all that came in is answered, or that stops
 abbrev pub Hears : Answers → Incoming → Incoming → Stream → Stream → Result ℕ Stop → Type 0

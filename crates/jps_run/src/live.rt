@@ -1,6 +1,8 @@
 //! The command `live`: the answers to a script that comes in.
 
-ghost use Rattle.std.specs.Prelude.{◌≡◌, ◌+◌, ◌≤◌, ◌^◌, length, IfOk, OnOk};
+ghost use Rattle.std.specs.Prelude.{◌≡◌, ◌+◌, ◌<◌, ◌≤◌, ◌^◌, length, IfOk, OnOk};
+ghost use Rattle.std.specs.Io.KnownBytes.{ReadConsumes};
+ghost use Rattle.io_edge.specs.Causes.{HasCause};
 ghost use Rattle.word_list.specs.Request as asked;
 ghost use Rattle.jps_run.specs.Hearing.{AnswersKnown, Refuses, Hears, HearsPiece, HearsEnd};
 ghost use Rattle.jps_run.specs.Outcome.{call_with};
@@ -12,7 +14,7 @@ use crate::answers::{Answers, answer_more};
 use crate::faults::{long_line, script_line};
 use crate::files::open_session;
 use crate::stop::Stop;
-use io_edge::{Files, Sink, Source};
+use io_edge::{Failed, Files, Sink, Source};
 use script_text::{Command, LineFeeder, ScriptFault};
 use std::alloc::Global;
 use std::sync::ledger::Ledger;
@@ -66,7 +68,7 @@ fn hear<I: Source, O: Sink, L: Ledger>(
     let mut feeder = LineFeeder::new();
     'pieces: loop {
         let room = MOST - feeder.taken() as usize;
-        match input.read(buffer.as_mut_slice()) {
+        match read_into(input, &mut buffer) {
             Ok(0) => return hear_end(alloc, job, &mut feeder, out, steps),
             Ok(count) => {
                 let piece = &buffer[..count.min(room)];
@@ -78,6 +80,17 @@ fn hear<I: Source, O: Sink, L: Ledger>(
             Err(_) => return Err(Stop::Read),
         }
     }
+}
+
+// Reads once into the buffer.
+fn read_into<I: Source>(input: &mut I, buffer: &mut Vec<u8>) -> Result<usize, Failed>
+    requires { 0 < length buffer.old.items }
+    ensures bound { IfOk result (λ n. n ≤ length buffer.new.items) }
+    ensures kept { length buffer.new.items ≡ length buffer.old.items }
+    ensures bytes { ReadConsumes (I.left input.old) (I.left input.new) result buffer.new.items }
+    ensures cause { HasCause (I.faults input.old) (I.faults input.new) result }
+{
+    input.read(buffer.as_mut_slice())
 }
 
 // So many bytes.

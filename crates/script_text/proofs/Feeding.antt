@@ -500,3 +500,19 @@ commands-grow text (byte ∷ bytes) =
 pub begun-known : (fault_so_far [] ≡ None) × (commands_so_far [] ≡ [])
 unfolding cut fault_so_far commands_so_far
 begun-known = (refl, refl)
+
+-- those of the whole text begin with them
+pub commands-end : (text : List ℕ) → (more : List Command) × (commands_of text ≡ commands_so_far text ++ more)
+commands-end text = by_fault (fault_so_far text) refl
+  where
+    by_rest : fault_so_far text ≡ None → (rest : List ℕ) → (cut text).rest ≡ rest
+        → (more : List Command) × (commands_of text ≡ commands_so_far text ++ more)
+    by_rest clean [] are = ([], (whole-clean text clean are).1 ∙ sym (append-nil (commands_so_far text)))
+    by_rest clean (b ∷ bytes) are =
+        (values_in (piece_read (next_line (cut text))), (whole-next text b bytes clean are).1)
+
+    by_fault : (f : Option ScriptFault) → fault_so_far text ≡ f
+        → (more : List Command) × (commands_of text ≡ commands_so_far text ++ more)
+    by_fault (Some fault) is =
+        ([], (whole-refused text fault is).1 ∙ sym (append-nil (commands_so_far text)))
+    by_fault None is = by_rest is (cut text).rest refl
