@@ -124,5 +124,5 @@ worked-served call before now input input_now result w =
       refused = λ line k. inl k;
       read = λ k. inl k;
       write = λ k. (k.0, inl k.1);
-      memory = λ k. elim k [ | inl n ↦ inl n | inr l ↦ inr (inl l) ];
+      memory = λ k. elim k [ inl n ↦ inl n | inr l ↦ inr (inl l) ];
     }) w

@@ -77,16 +77,16 @@ take-more-front {X} (suc n) (x ∷ xs) ys =
 at-most : (n m : ℕ) → (n ≤ m) ⊎ (m < n)
 at-most zero m = inl (omega arith)
 at-most (suc n) zero = inr (omega arith)
-at-most (suc n) (suc m) = elim (at-most n m) [ | inl h ↦ inl (omega arith) | inr h ↦ inr (omega arith) ]
+at-most (suc n) (suc m) = elim (at-most n m) [ inl h ↦ inl (omega arith) | inr h ↦ inr (omega arith) ]
 
 take-twice : {X : Type 0} (n m : ℕ) (xs : List X) → take n (take m xs) ≡ take (min m n) xs
 take-twice n m xs = elim (at-most n m) [
   | inl h ↦ take-take n m xs h ∙ ap (λ k. take k xs) (let e : n ≡ min m n = omega arith in e)
   | inr h ↦
-    take_all n (take m xs)
-        (let l : length (take m xs) ≡ min m (length xs) = length-take m xs in
-        let short : length (take m xs) ≤ n = omega arith in short)
-        ∙ ap (λ k. take k xs) (let e : m ≡ min m n = omega arith in e)
+      take_all n (take m xs)
+      (let l : length (take m xs) ≡ min m (length xs) = length-take m xs in
+      let short : length (take m xs) ≤ n = omega arith in short)
+      ∙ ap (λ k. take k xs) (let e : m ≡ min m n = omega arith in e)
 ]
 
 -- of what was taken these bytes count
@@ -102,16 +102,16 @@ refused-script : (full rest : List ℕ) (fault : ScriptFault) (line : List ℕ)
     → IsHeard (full ++ rest) (commands_so_far (counted full)) (Some line)
 refused-script full rest fault line is named = elim (at-most (length (full ++ rest)) (limit_of kind.Script)) [
   | inl h ↦
-    let e : counted (full ++ rest) ≡ full ++ rest = take_all (limit_of kind.Script) (full ++ rest) h in
-    let known : fault_so_far (full ++ rest) ≡ Some fault
-    = ap fault_so_far (sym e ∙ front.1) ∙ stays.0 in
-    let w = whole-refused (full ++ rest) fault known in
-    whole h (sym (w.1 ∙ ap commands_so_far (sym e ∙ front.1) ∙ stays.1))
-        (sym (ap (option_map script_line) w.0 ∙ ap (λ (l : List ℕ). Some l) named))
+      let e : counted (full ++ rest) ≡ full ++ rest = take_all (limit_of kind.Script) (full ++ rest) h in
+      let known : fault_so_far (full ++ rest) ≡ Some fault
+      = ap fault_so_far (sym e ∙ front.1) ∙ stays.0 in
+      let w = whole-refused (full ++ rest) fault known in
+      whole h (sym (w.1 ∙ ap commands_so_far (sym e ∙ front.1) ∙ stays.1))
+      (sym (ap (option_map script_line) w.0 ∙ ap (λ (l : List ℕ). Some l) named))
   | inr h ↦
-    too_long h (sym (ap commands_so_far front.1 ∙ stays.1))
-        (sym (ap (λ (f : Option ScriptFault). Some (option_map_or script_line f (long_line (codes "script"))))
-        (ap fault_so_far front.1 ∙ stays.0) ∙ ap (λ (l : List ℕ). Some l) named))
+      too_long h (sym (ap commands_so_far front.1 ∙ stays.1))
+      (sym (ap (λ (f : Option ScriptFault). Some (option_map_or script_line f (long_line (codes "script"))))
+      (ap fault_so_far front.1 ∙ stays.0) ∙ ap (λ (l : List ℕ). Some l) named))
 ]
   where
     front : (more : List ℕ) × (counted (full ++ rest) ≡ counted full ++ more)

@@ -57,3 +57,31 @@ returns-in-Err-Memory-clause-memory g c = λ same.
     (g.O.Sink.written c.serve.new.out) (g.O.Sink.faults c.serve.new.out))
     (called c.in-Ok.call.0 c.in-Ok.call.1) c.in-Ok.ensures.found
     (rw c.in-Err-Memory.field-0-is at c.in-Err-Memory.ensures.served)
+
+pub returns-in-Err-Read-clause-read : goal.returns-in-Err-Read-clause-read
+returns-in-Err-Read-clause-read g c = λ same.
+    read-comes (map string_bytes c.args.words.now)
+    (seen (g.F.Files.holds c.args.files.now) (g.F.Files.faults c.args.files.now)
+    (g.O.Sink.written c.args.out.now) (g.O.Sink.faults c.args.out.now))
+    (incoming (g.I.Source.left c.args.input.now) (g.I.Source.faults c.args.input.now))
+    (incoming (g.I.Source.left c.serve.new.input) (g.I.Source.faults c.serve.new.input))
+    (stream (g.E.Sink.written c.args.err.now) (g.E.Sink.faults c.args.err.now))
+    (stream (g.E.Sink.written c.args.err.now) (g.E.Sink.faults c.args.err.now))
+    (seen (g.F.Files.holds c.serve.new.files) (g.F.Files.faults c.serve.new.files)
+    (g.O.Sink.written c.serve.new.out) (g.O.Sink.faults c.serve.new.out))
+    (called c.in-Ok.call.0 c.in-Ok.call.1) c.in-Ok.ensures.found
+    (rw c.in-Err-Read.field-0-is at c.in-Err-Read.ensures.served)
+
+pub returns-in-Err-Write-clause-part : goal.returns-in-Err-Write-clause-part
+returns-in-Err-Write-clause-part g c = λ same.
+    part-comes (map string_bytes c.args.words.now)
+    (seen (g.F.Files.holds c.args.files.now) (g.F.Files.faults c.args.files.now)
+    (g.O.Sink.written c.args.out.now) (g.O.Sink.faults c.args.out.now))
+    (incoming (g.I.Source.left c.args.input.now) (g.I.Source.faults c.args.input.now))
+    (incoming (g.I.Source.left c.serve.new.input) (g.I.Source.faults c.serve.new.input))
+    (stream (g.E.Sink.written c.args.err.now) (g.E.Sink.faults c.args.err.now))
+    (stream (g.E.Sink.written c.args.err.now) (g.E.Sink.faults c.args.err.now))
+    (seen (g.F.Files.holds c.serve.new.files) (g.F.Files.faults c.serve.new.files)
+    (g.O.Sink.written c.serve.new.out) (g.O.Sink.faults c.serve.new.out))
+    (called c.in-Ok.call.0 c.in-Ok.call.1) c.in-Ok.ensures.found
+    (rw c.in-Err-Write.field-0-is at c.in-Err-Write.ensures.served).1
