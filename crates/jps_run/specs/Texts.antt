@@ -9,6 +9,8 @@ help_text =
     ++ codes "      a least walk from the cell (SX,SY) to the cell (GX,GY) on the map\n"
     ++ codes "  jps solve MAP SCRIPT [engine=ENGINE] [show=points|show=cells|show=trace] [rule=none|rule=one]\n"
     ++ codes "      one line for each command of the script: edits of the map, and queries\n"
+    ++ codes "  jps live MAP [engine=ENGINE] [show=points|show=cells|show=trace] [rule=none|rule=one]\n"
+    ++ codes "      the same for a script on standard input, each command answered as it comes\n"
     ++ codes "  jps scen MAP SCEN [engine=ENGINE] [rule=none|rule=one]\n"
     ++ codes "      one row for each entry of the scenario, its length judged by the least cost, and their sum\n"
     ++ codes "  jps make SEED W H P\n"
@@ -28,11 +30,11 @@ help_text =
     ++ codes "With rule=one a diagonal move may pass one blocked cell beside it, with rule=none none.\n"
     ++ codes "\n"
     ++ codes "statuses: 0 done; 1 done, and a row of `scen` is neither agree nor near; 2 the words are refused;\n"
-    ++ codes "3 a file is refused; 4 a read failed; 5 a write of the output failed; 6 memory was refused\n"
+    ++ codes "3 a text is refused; 4 a read failed; 5 a write of the output failed; 6 memory was refused\n"
     ++ codes "faults, one line on standard error:\n"
     ++ codes "  jps: word N            word N is missing, or no call has it there; words are counted from 1\n"
-    ++ codes "  jps: FILE CODE line N  line N of the map, script or scen breaks its form\n"
-    ++ codes "  jps: FILE long         the file is longer than 67108864 bytes\n"
+    ++ codes "  jps: TEXT CODE line N  line N of the map, script or scen breaks its form\n"
+    ++ codes "  jps: TEXT long         the text is longer than 67108864 bytes\n"
     ++ codes "  jps: read, jps: write, jps: memory\n"
 
 -- what `--version` prints

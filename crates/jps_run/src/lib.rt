@@ -8,6 +8,7 @@ mod files;
 mod job;
 mod kind;
 mod lines;
+mod live;
 mod make;
 mod query;
 mod row;

@@ -13,6 +13,8 @@ pub(crate) fn help_text() -> &'static [u8]
       a least walk from the cell (SX,SY) to the cell (GX,GY) on the map
   jps solve MAP SCRIPT [engine=ENGINE] [show=points|show=cells|show=trace] [rule=none|rule=one]
       one line for each command of the script: edits of the map, and queries
+  jps live MAP [engine=ENGINE] [show=points|show=cells|show=trace] [rule=none|rule=one]
+      the same for a script on standard input, each command answered as it comes
   jps scen MAP SCEN [engine=ENGINE] [rule=none|rule=one]
       one row for each entry of the scenario, its length judged by the least cost, and their sum
   jps make SEED W H P
@@ -32,11 +34,11 @@ ENGINE is plain, where none is named, or jps, which jumps. Walks cost the same b
 With rule=one a diagonal move may pass one blocked cell beside it, with rule=none none.
 
 statuses: 0 done; 1 done, and a row of `scen` is neither agree nor near; 2 the words are refused;
-3 a file is refused; 4 a read failed; 5 a write of the output failed; 6 memory was refused
+3 a text is refused; 4 a read failed; 5 a write of the output failed; 6 memory was refused
 faults, one line on standard error:
   jps: word N            word N is missing, or no call has it there; words are counted from 1
-  jps: FILE CODE line N  line N of the map, script or scen breaks its form
-  jps: FILE long         the file is longer than 67108864 bytes
+  jps: TEXT CODE line N  line N of the map, script or scen breaks its form
+  jps: TEXT long         the text is longer than 67108864 bytes
   jps: read, jps: write, jps: memory
 "
 }

@@ -10,6 +10,7 @@ pub data Asked : Type 0 where
   Version : Asked
   Query : (map : List ℕ) (sx sy gx gy : ℕ) → Asked
   Solve : (map script : List ℕ) → Asked
+  Live : (map : List ℕ) → Asked
   Scen : (map scen : List ℕ) → Asked
   Make : (seed w h percent : ℕ) → Asked
   Drill : (seed : ℕ) → Asked
@@ -20,6 +21,7 @@ asked request.Help = Help
 asked request.Version = Version
 asked (request.Query map sx sy gx gy) = Query map.now sx sy gx gy
 asked (request.Solve map script) = Solve map.now script.now
+asked (request.Live map) = Live map.now
 asked (request.Scen map scen) = Scen map.now scen.now
 asked (request.Make seed w h percent) = Make seed w h percent
 asked (request.Drill seed) = Drill seed
@@ -30,6 +32,7 @@ HasSides request.Help = ⊤
 HasSides request.Version = ⊤
 HasSides (request.Query map sx sy gx gy) = ⊤
 HasSides (request.Solve map script) = ⊤
+HasSides (request.Live map) = ⊤
 HasSides (request.Scen map scen) = ⊤
 HasSides (request.Make seed w h percent) = (1 ≤ w) × (w ≤ 4096) × (1 ≤ h) × (h ≤ 4096)
 HasSides (request.Drill seed) = ⊤

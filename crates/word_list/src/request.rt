@@ -22,6 +22,10 @@ pub enum Request<'a> {
         map: &'a str,
         script: &'a str,
     },
+    /// What each command of a script that comes in does on the map.
+    Live {
+        map: &'a str,
+    },
     /// How the listed lengths of the scenario agree with the least ones on the map.
     Scen {
         map: &'a str,
