@@ -20,3 +20,4 @@ pub mod Answering
 pub mod Judging
 pub mod Drill
 pub mod Drilling
+pub mod Certificates

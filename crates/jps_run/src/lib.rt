@@ -2,13 +2,16 @@
 #![tactic(auto)]
 
 mod answers;
+mod check;
 mod drill;
 mod faults;
 mod files;
 mod job;
 mod kind;
+mod layers;
 mod lines;
 mod make;
+mod prove;
 mod query;
 mod row;
 mod scen;

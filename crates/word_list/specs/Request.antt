@@ -11,6 +11,8 @@ pub data Asked : Type 0 where
   Query : (map : List ℕ) (sx sy gx gy : ℕ) → Asked
   Solve : (map script : List ℕ) → Asked
   Scen : (map scen : List ℕ) → Asked
+  Prove : (map : List ℕ) (sx sy gx gy : ℕ) → Asked
+  Check : (map cert : List ℕ) → Asked
   Make : (seed w h percent : ℕ) → Asked
   Drill : (seed : ℕ) → Asked
 
@@ -21,6 +23,8 @@ asked request.Version = Version
 asked (request.Query map sx sy gx gy) = Query map.now sx sy gx gy
 asked (request.Solve map script) = Solve map.now script.now
 asked (request.Scen map scen) = Scen map.now scen.now
+asked (request.Prove map sx sy gx gy) = Prove map.now sx sy gx gy
+asked (request.Check map cert) = Check map.now cert.now
 asked (request.Make seed w h percent) = Make seed w h percent
 asked (request.Drill seed) = Drill seed
 
@@ -31,6 +35,8 @@ HasSides request.Version = ⊤
 HasSides (request.Query map sx sy gx gy) = ⊤
 HasSides (request.Solve map script) = ⊤
 HasSides (request.Scen map scen) = ⊤
+HasSides (request.Prove map sx sy gx gy) = ⊤
+HasSides (request.Check map cert) = ⊤
 HasSides (request.Make seed w h percent) = (1 ≤ w) × (w ≤ 4096) × (1 ≤ h) × (h ≤ 4096)
 HasSides (request.Drill seed) = ⊤
 
