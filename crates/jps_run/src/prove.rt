@@ -13,7 +13,7 @@ use crate::layers::{Layers, open_layers};
 use crate::query::Ends;
 use crate::sending::send_as;
 use crate::stop::Stop;
-use grid_moves::{Cell, Terrain};
+use grid_moves::Cell;
 use io_edge::{Files, Sink};
 use potential_make::certificate;
 use std::alloc::Global;
@@ -38,23 +38,17 @@ fn said(alloc: Global, line: &[u8]) -> Result<Printed, NoMemory>
 }
 
 // What is printed for a query between two cells of the map.
-fn proof_between(
-    alloc: Global,
-    layers: &Layers,
-    from: Cell,
-    to: Cell,
-) -> Result<Printed, NoMemory>
+fn proof_between(alloc: Global, layers: &Layers, from: Cell, to: Cell) -> Result<Printed, NoMemory>
     requires on { (is_on_map layers.now from && is_on_map layers.now to) ≡ true }
     ensures { IfOk result (λ p. IsProof layers.now from to p.text.items p.status) }
 {
-    if !layers.is_free_ground(from) || !layers.is_free_ground(to) {
+    if !layers.are_free_ends(from, to) {
         return said(alloc, b"blocked\n");
     }
-    let grid = layers.query_grid(from);
-    if !grid.free(from) || !grid.free(to) {
+    if !layers.in_one_layer(from, to) {
         return said(alloc, b"apart\n");
     }
-    let text = certificate(alloc, grid, from, to)?;
+    let text = certificate(alloc, layers.query_grid(from), from, to)?;
     Ok(Printed { text, status: 0 })
 }
 
