@@ -17,3 +17,4 @@ pub mod Listening
 pub mod Incomings
 pub mod Ended
 pub mod Serving
+pub mod Printing

@@ -23,3 +23,4 @@ pub mod Answering
 pub mod Judging
 pub mod Drill
 pub mod Drilling
+pub mod Certificates

@@ -2,14 +2,17 @@
 #![tactic(auto)]
 
 mod answers;
+mod check;
 mod drill;
 mod faults;
 mod files;
 mod job;
 mod kind;
+mod layers;
 mod lines;
 mod live;
 mod make;
+mod prove;
 mod query;
 mod row;
 mod scen;

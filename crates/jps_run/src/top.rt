@@ -10,10 +10,12 @@ ghost use Rattle.jps_run.specs.Worked.{HasWorked};
 ghost use Rattle.jps_run.specs.FaultLines.{word_line as line_of_word};
 ghost use Rattle.jps_run.specs.Seen.{incoming, seen, stream};
 
+use crate::check::check;
 use crate::drill::drill;
 use crate::faults::word_line;
 use crate::live::live;
 use crate::make::make;
+use crate::prove::prove;
 use crate::query::{Ends, query};
 use crate::scen::scen;
 use crate::sending::send_text;
@@ -63,6 +65,14 @@ fn work<F: Files, O: Sink, L: Ledger>(
         Request::Solve { map, script } => solve(alloc, files, out, map, script, settings, steps),
         Request::Live { .. } => unreachable!(),
         Request::Scen { map, scen: name } => scen(alloc, files, out, map, name, settings, steps),
+        Request::Prove {
+            map,
+            sx,
+            sy,
+            gx,
+            gy,
+        } => prove(alloc, files, out, map, Ends { sx, sy, gx, gy }, settings),
+        Request::Check { map, cert } => check(alloc, files, out, map, cert, settings),
         Request::Make {
             seed,
             w,
@@ -141,7 +151,8 @@ fn refuse_word<E: Sink>(alloc: Global, number: u32, err: &mut E) -> u8
 /// that comes in from `input`; `out` gets the output and `err` the line of a refusal or a fault.
 /// `steps` counts what the session counts.
 ///
-/// Statuses: 0 done; 1 done, and a scenario has a row that is neither agree nor near; 2 the words
+/// Statuses: 0 done; 1 done, and a scenario has a row that is neither agree nor near, or `check`
+/// refuses, or `prove` has no ends on one layer of the map; 2 the words
 /// are refused; 3 a text is refused; 4 a read failed; 5 a write of the output failed; 6 memory was
 /// refused, the one answer that is free.
 pub fn run<F: Files, I: Source, O: Sink, E: Sink, L: Ledger>(
