@@ -1,0 +1,5 @@
+pub mod Trail
+pub mod Word
+pub mod Seek
+pub mod Scan
+pub mod Source

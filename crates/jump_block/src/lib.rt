@@ -1,0 +1,6 @@
+//! Jumps over bits of a map: 512 cells at a time.
+#![tactic(auto)]
+
+mod block;
+mod scan;
+mod word;
