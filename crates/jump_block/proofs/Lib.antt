@@ -4,3 +4,4 @@ pub mod Blocks
 pub mod Reading
 pub mod Scans
 pub mod Runs
+pub mod Directions

@@ -3,4 +3,5 @@
 
 mod block;
 mod scan;
+mod straight;
 mod word;
