@@ -1,5 +1,5 @@
 -- Bits of words: shifted with a carry, the first that is set, and those past a place.
-use Rattle.std.proofs.Common.{◌≡◌, ◌≢◌, ℕ, zero, suc, ◌+◌, ◌*◌, ◌-◌, ◌/◌, ◌%◌, ◌^◌, ◌<◌, ◌≤◌, ◌⊎◌, inl, inr, arith, Bool, true, false, not, ◌&&◌, ◌||◌, refl, ap, sym, ◌∙◌, bit_and, bit_or, w64}
+use Rattle.std.proofs.Common.{◌≡◌, ℕ, suc, ◌+◌, ◌*◌, ◌-◌, ◌/◌, ◌%◌, ◌^◌, ◌<◌, ◌≤◌, ◌⊎◌, inl, inr, arith, Bool, true, false, not, ◌&&◌, refl, ap, sym, ◌∙◌, bit_and, w64}
 use Rattle.std.specs.Prelude.{nat_eq, nat_lt}
 use Rattle.std.specs.Int.{bit_at}
 use Rattle.std.specs.Int.Count.{count_leading_zeros, count_trailing_zeros}
@@ -9,7 +9,7 @@ use Rattle.std.proofs.lemmas.Nat.Bits.{bit_at_above, bit_at_cat_low, bit_at_cat_
 use Rattle.std.proofs.Math.Nat.{pow-succ'}
 use Rattle.std.proofs.lemmas.Bool.{cases_lt}
 use Rattle.bit_grid.specs.Bits.{is_set}
-use Rattle.bit_grid.proofs.Words.{set_and, set_or, set_not, set_raised, set_raised-lowest, set_lowered}
+use Rattle.bit_grid.proofs.Words.{set_and, set_not}
 
 -- the highest bit alone
 pub set_top : (a : ℕ) → a < 18446744073709551616 → is_set (a / 9223372036854775808) 0 ≡ is_set a 63

@@ -1,7 +1,6 @@
 -- Scans on a grid, in each straight direction.
-use Rattle.std.proofs.Common.{◌≡◌, ◌≢◌, ℕ, zero, suc, ◌+◌, ◌*◌, ◌-◌, ◌<◌, ◌≤◌, ◌⊎◌, inl, inr, arith, Bool, true, false, not, ◌&&◌, ◌||◌, refl, ap, sym, ◌∙◌, subst}
-use Rattle.std.specs.Prelude.{Option, Some, None, is_some, nat_lt, nat_le, if◌then◌else◌}
-use Rattle.std.proofs.lemmas.Bool.{cases_lt}
+use Rattle.std.proofs.Common.{◌≡◌, ◌≢◌, ℕ, zero, suc, ◌+◌, ◌-◌, ◌<◌, arith, Bool, true, false, not, ◌||◌, refl, ap, sym, ◌∙◌, subst}
+use Rattle.std.specs.Prelude.{Option, Some}
 use Rattle.std.proofs.lemmas.Bool.Decides.{nat_tests}
 use Rattle.grid_moves.specs.declared.Cell.{Cell}
 use Rattle.grid_moves.specs.declared.Corner.{Corner}
@@ -11,19 +10,17 @@ use Rattle.grid_moves.specs.declared.Dir.TheVariants.{N, NE, E, SE, S, SW, W, NW
 use Rattle.grid_moves.specs.Grid.{GridData, IsGrid, is_free, is_inside}
 use Rattle.grid_moves.specs.Move.{ahead, is_open}
 use Rattle.grid_moves.proofs.Legal.{free_inside}
-use Rattle.bit_grid.specs.Bits.{LineData, Shows, is_free_from_one, AreRowsOf, AreColumnsOf}
-use Rattle.pruning.specs.declared.turns.Side.TheVariants.{Right, Left}
-use Rattle.pruning.specs.Turns.{turn, quarter, is_diagonal}
+use Rattle.bit_grid.specs.Bits.{LineData, is_free_from_one, AreRowsOf, AreColumnsOf}
+use Rattle.pruning.specs.Turns.{is_diagonal}
 use Rattle.jump_plain.specs.declared.beside.Sides.{Sides}
 use Rattle.jump_plain.specs.Beside.{sides_of}
 use Rattle.jump_plain.specs.Reach.{first_sides}
 use Rattle.jump_block.proofs.Runs.{IsRay, IsTold, told_by_ray}
 use Rattle.jump_block.specs.declared.word.Way.{Way}
-use Rattle.jump_block.specs.declared.word.Way.TheVariants.{Forward, Back}
-use Rattle.jump_block.specs.Trail.{Trail, at_start, begun, opens, halts, trail_on}
+use Rattle.jump_block.specs.Trail.{at_start, begun, opens, trail_on}
 use Rattle.jump_block.specs.declared.block.Halt.{Halt}
 use Rattle.jump_block.specs.Scan.{IsStart, Finds}
-use Rattle.jump_block.specs.Source.{AreItsBits, by_rows, by_columns, trail_of}
+use Rattle.jump_block.specs.Source.{by_rows, by_columns, trail_of}
 
 abbrev pub cell : ℕ → ℕ → Cell
 cell x y = record { x = x; y = y }

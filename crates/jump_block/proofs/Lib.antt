@@ -5,3 +5,5 @@ pub mod Reading
 pub mod Scans
 pub mod Runs
 pub mod Directions
+pub mod Patches
+pub mod Diagonals

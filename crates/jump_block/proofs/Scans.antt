@@ -1,19 +1,19 @@
 -- Scans over several blocks.
-use Rattle.std.proofs.Common.{◌≡◌, ℕ, zero, suc, ◌+◌, ◌*◌, ◌-◌, ◌/◌, ◌%◌, ◌<◌, ◌≤◌, ◌⊎◌, inl, inr, arith, Bool, true, false, not, ◌&&◌, ◌||◌, refl, ap, sym, ◌∙◌, subst}
-use Rattle.std.specs.Prelude.{nat_eq, nat_lt, nat_le, min, Some, None, if◌then◌else◌}
+use Rattle.std.proofs.Common.{◌≡◌, ℕ, zero, suc, ◌+◌, ◌*◌, ◌-◌, ◌/◌, ◌<◌, ◌≤◌, ◌⊎◌, inl, inr, arith, Bool, true, false, not, ◌&&◌, ◌||◌, refl, ap, sym, ◌∙◌}
+use Rattle.std.specs.Prelude.{nat_lt, nat_le, min, if◌then◌else◌}
 use Rattle.std.proofs.lemmas.Bool.{cases_lt}
 use Rattle.std.proofs.lemmas.Bool.Decides.{nat_tests}
 use Rattle.grid_moves.specs.declared.Corner.{Corner}
 use Rattle.grid_moves.specs.declared.Corner.TheVariants.{Never, One}
-use Rattle.bit_grid.specs.Bits.{LineData, Shows}
+use Rattle.bit_grid.specs.Bits.{LineData}
 use Rattle.jump_block.specs.declared.word.Way.{Way}
 use Rattle.jump_block.specs.declared.word.Way.TheVariants.{Forward, Back}
 use Rattle.jump_block.specs.declared.word.Words.{Words}
 use Rattle.jump_block.specs.declared.block.Block.{Block}
-use Rattle.jump_block.specs.Trail.{Trail, IsClear, Halts, halts, at_start, begun, along, trail_on}
-use Rattle.jump_block.specs.Word.{Meets, IsWordOf, AreWordsOf, AreEdgesOf, IsBlockOf, IsAhead, moves_before, nth_word, edge_before, words_of, HasNext, next_block}
+use Rattle.jump_block.specs.Trail.{Trail, IsClear, Halts, at_start, begun, along, trail_on}
+use Rattle.jump_block.specs.Word.{Meets, IsWordOf, IsBlockOf, IsAhead, moves_before, nth_word, edge_before, HasNext, next_block}
 use Rattle.jump_block.specs.Seek.{HasPassed}
-use Rattle.jump_block.specs.Scan.{IsStart, most_lanes, nearer, Finds, looked}
+use Rattle.jump_block.specs.Scan.{IsStart, most_lanes, nearer}
 
 -- how many blocks past the first, and how many are left
 abbrev pub distance : Way → ℕ → ℕ → ℕ

@@ -12,7 +12,7 @@ use Rattle.std.proofs.lemmas.Bool.Decides.{nat_tests}
 use Rattle.grid_moves.specs.declared.Corner.{Corner}
 use Rattle.grid_moves.specs.declared.Corner.TheVariants.{Never, One}
 use Rattle.jump_block.specs.Trail.{Trail, opens, halts, at_start, begun}
-use Rattle.jump_block.specs.Word.{Meets, IsWordOf, AreWordsOf, IsEdgeOf, AreEdgesOf, IsOpened, near}
+use Rattle.jump_block.specs.Word.{Meets, IsWordOf, AreWordsOf, IsEdgeOf, IsOpened}
 use Rattle.jump_block.proofs.Bits.{set_top, set_top-above, set_bottom, set_bottom-below, set_past, set_apart}
 
 exchanged : (a b c d : Bool) → a ≡ c → b ≡ d → (a && not b) ≡ (not d && c)

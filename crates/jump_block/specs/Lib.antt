@@ -3,3 +3,4 @@ pub mod Word
 pub mod Seek
 pub mod Scan
 pub mod Source
+pub mod Patch

@@ -1,11 +1,8 @@
 -- Scans along a line, over as many blocks as it takes.
-use Rattle.std.specs.Prelude.{◌≡◌, ℕ, zero, suc, ◌+◌, ◌*◌, ◌-◌, ◌/◌, ◌<◌, ◌≤◌, Bool, true, false, nat_lt, min, if◌then◌else◌, Option, Some, None}
-use Rattle.grid_moves.specs.declared.Corner.{Corner}
+use Rattle.std.specs.Prelude.{◌≡◌, ℕ, ◌+◌, ◌*◌, ◌/◌, ◌<◌, ◌≤◌, Bool, true, false, nat_lt, min, if◌then◌else◌, Option, Some, None}
 use Rattle.bit_grid.specs.Bits.{LineData, Shows}
-use Rattle.jump_block.specs.declared.word.Way.{Way}
-use Rattle.jump_block.specs.declared.word.Way.TheVariants.{Forward, Back}
 use Rattle.jump_block.specs.declared.block.Halt.{Halt}
-use Rattle.jump_block.specs.Trail.{Trail, Halts, IsClear, begun, trail_on}
+use Rattle.jump_block.specs.Trail.{Trail, Halts, IsClear}
 
 -- a scan starts at this place of this line, at a free cell of the map that the lines show
 pub record IsStart (l : LineData) (free : ℕ → ℕ → Bool) (line from : ℕ) : Type 0 where

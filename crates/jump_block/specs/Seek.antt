@@ -1,5 +1,5 @@
 -- What the search of a block finds.
-use Rattle.std.specs.Prelude.{◌≡◌, ℕ}
+use Rattle.std.specs.Prelude.{ℕ}
 use Rattle.jump_block.specs.declared.word.Way.{Way}
 use Rattle.jump_block.specs.declared.word.Words.{Words}
 use Rattle.jump_block.specs.declared.block.Seek.{Seek}

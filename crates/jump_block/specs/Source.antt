@@ -1,9 +1,9 @@
 -- Jumps over bits: the grids for which they stand, where a scan on one halts, and how many cells it covers.
-use Rattle.std.specs.Prelude.{◌≡◌, ⊤, ℕ, ◌+◌, ◌<◌, ◌≤◌, Bool, true, false, not, ◌&&◌, nat_lt, nat_le, if◌then◌else◌, Option, Some, None}
+use Rattle.std.specs.Prelude.{◌≡◌, ⊤, ℕ, ◌+◌, ◌<◌, Bool, true, false, if◌then◌else◌, Option, Some, None}
 use Rattle.grid_moves.specs.declared.Cell.{Cell}
 use Rattle.grid_moves.specs.declared.Corner.{Corner}
 use Rattle.grid_moves.specs.declared.Dir.{Dir}
-use Rattle.grid_moves.specs.declared.Dir.TheVariants.{N, NE, E, SE, S, SW, W, NW}
+use Rattle.grid_moves.specs.declared.Dir.TheVariants.{N, E, S, W}
 use Rattle.grid_moves.specs.Grid.{GridData, IsGrid}
 use Rattle.bit_grid.specs.Bits.{LineData, AreRowsOf, AreColumnsOf, is_free_from_one}
 use Rattle.pruning.specs.First.{run_length}
@@ -20,6 +20,23 @@ pub record AreItsBits (rows columns : LineData) (corner : Corner) (g : GridData)
   pub are_rows : AreRowsOf rows g
   pub are_columns : AreColumnsOf columns g
   pub rule : corner ≡ g.corner
+
+-- the same, and it has these sides
+pub record AreJumpsOn (rows columns : LineData) (width height : ℕ) (corner : Corner) (g : GridData) : Type 0 where
+  pub bits : AreItsBits rows columns corner g
+  pub wide : width ≡ g.width
+  pub high : height ≡ g.height
+
+-- to the east or the south a scan goes forward, and to the west or the north back
+abbrev pub is_forward : Dir → Bool
+is_forward E = true
+is_forward S = true
+is_forward _ = false
+
+abbrev pub is_back : Dir → Bool
+is_back W = true
+is_back N = true
+is_back _ = false
 
 -- cells by the row or the column that is the line
 abbrev pub by_rows : GridData → ℕ → ℕ → Bool

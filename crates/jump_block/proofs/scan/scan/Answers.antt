@@ -1,9 +1,8 @@
-use Rattle.std.proofs.Common.{◌≡◌, ◌<◌, ◌≤◌, ℕ, ◌+◌, ◌*◌, ◌/◌, arith, refl, ap, sym, ◌∙◌, subst, false, true, Bool, ◌&&◌}
+use Rattle.std.proofs.Common.{◌≡◌, ℕ, ◌*◌, arith, ap, sym, ◌∙◌, false, true, ◌&&◌}
 use Rattle.std.specs.Prelude.{nat_lt, nat_le}
-use Rattle.jump_block.specs.Trail.{Trail, begun, trail_on, IsClear}
-use Rattle.jump_block.specs.Word.{HasNext, next_block, moves_before, edge_before}
-use Rattle.jump_block.specs.Scan.{IsStart, most_lanes, looked}
-use Rattle.jump_block.proofs.Scans.{IsOnWay, goes_on, block_ahead, first_distance, first_on_way, fewer_left, ahead_next, passed_next, read_next, goal_next, most_next, within_goal, met, not_met, start_inside}
+use Rattle.jump_block.specs.Trail.{Trail, begun, trail_on}
+use Rattle.jump_block.specs.Word.{moves_before, edge_before}
+use Rattle.jump_block.proofs.Scans.{goes_on, block_ahead, first_distance, first_on_way, fewer_left, ahead_next, passed_next, read_next, goal_next, most_next, met, not_met, start_inside}
 use Rattle.jump_block.proofs.scan.scan.Goals as goal
 
 pub returns-in-Halted-clause-finds : goal.returns-in-Halted-clause-finds

@@ -1,4 +1,4 @@
-use Rattle.std.proofs.Common.{◌≡◌, ℕ, ◌+◌, ◌*◌, ◌/◌, ◌<◌, ◌≤◌, Bool}
+use Rattle.std.proofs.Common.{◌≡◌, ℕ, ◌+◌, ◌*◌, ◌<◌, ◌≤◌, Bool}
 use Rattle.jump_block.specs.Trail.{begun, trail_on}
 use Rattle.jump_block.specs.Word.{edge_before}
 use Rattle.jump_block.specs.Seek.{HasPassed}

@@ -1,4 +1,4 @@
-use Rattle.std.proofs.Common.{◌≡◌, ℕ, subst, sym, ◌∙◌, ap, Bool}
+use Rattle.std.proofs.Common.{sym, ◌∙◌, ap}
 use Rattle.jump_block.specs.declared.word.Way.{Way}
 use Rattle.jump_block.specs.Word.{is_past}
 use Rattle.jump_block.proofs.Bits.{set_above, set_below}

@@ -1,5 +1,5 @@
-use Rattle.std.proofs.Common.{◌≡◌, ℕ, ◌+◌, ◌*◌, ap, ◌∙◌, refl, sym, subst}
-use Rattle.jump_block.specs.Word.{IsFound, words_of, nth_word, near, moves_before}
+use Rattle.std.proofs.Common.{ℕ, ◌+◌, ◌*◌, ap, ◌∙◌}
+use Rattle.jump_block.specs.Word.{words_of, nth_word, near, moves_before}
 use Rattle.jump_block.proofs.Blocks.{nth_found, nth_passed}
 use Rattle.jump_block.proofs.block.Block.seek.Goals as goal
 

@@ -1,4 +1,3 @@
-use Rattle.std.proofs.Common.{◌≤◌}
 use Rattle.jump_block.specs.Trail.{Trail, IsClear}
 use Rattle.jump_block.specs.Word.{AreEdgesOf, IsBlockOf, edge_before, moves_before}
 use Rattle.jump_block.specs.Seek.{HasPassed}

@@ -1,8 +1,8 @@
-use Rattle.std.proofs.Common.{◌≡◌, ◌<◌, ℕ, ◌+◌, ◌-◌, ◌*◌, ◌/◌, ◌%◌, ap, ◌∙◌, refl, sym, subst, arith, bit_and}
+use Rattle.std.proofs.Common.{◌≡◌, ◌<◌, ℕ, ◌+◌, ◌-◌, ◌*◌, ◌/◌, ◌%◌, refl, sym, subst, arith, bit_and}
 use Rattle.jump_block.specs.declared.word.Words.{Words}
-use Rattle.jump_block.specs.Trail.{Trail, begun}
+use Rattle.jump_block.specs.Trail.{begun}
 use Rattle.jump_block.specs.Word.{AreWordsOf, IsBlockOf, IsFound, IsAhead, edge_before, nth_word}
-use Rattle.jump_block.specs.Seek.{HasPassed, IsSought}
+use Rattle.jump_block.specs.Seek.{HasPassed}
 use Rattle.jump_block.proofs.Blocks.{word_there, start_found, start_passed, start_ahead, block_later}
 use Rattle.jump_block.proofs.block.Block.seek_start.Goals as goal
 

@@ -1,9 +1,6 @@
-use Rattle.std.proofs.Common.{◌≡◌, ◌≤◌, ℕ, ◌+◌, ◌*◌, ◌/◌, arith, ap, sym, ◌∙◌, subst}
-use Rattle.std.specs.Prelude.{Option}
-use Rattle.grid_moves.specs.Grid.{GridData}
+use Rattle.std.proofs.Common.{◌≤◌, ℕ, arith, sym, ◌∙◌}
 use Rattle.jump_plain.proofs.Straight.{straight_stop}
 use Rattle.jump_block.specs.Scan.{most_lanes}
-use Rattle.jump_block.specs.Source.{scanned}
 use Rattle.jump_block.proofs.Directions.{told_on}
 use Rattle.jump_block.proofs.straight.Bits.straight.Goals as goal
 
