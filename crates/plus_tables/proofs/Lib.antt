@@ -5,3 +5,6 @@ pub mod Short
 pub mod Refreshing
 pub mod Ahead
 pub mod Sweeping
+pub mod Clear
+pub mod Stops
+pub mod Goals

@@ -7,6 +7,7 @@
 #![tactic(auto)]
 
 mod build;
+mod jumps;
 mod tables;
 
 pub use tables::Tables;

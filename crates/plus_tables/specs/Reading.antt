@@ -1,0 +1,110 @@
+-- What jumps read off entries.
+use Rattle.std.specs.Prelude.{◌≡◌, ℕ, zero, suc, ◌+◌, ◌-◌, ℤ, pos, negsuc, neg_ℤ, Bool, true, false, ◌&&◌, ◌||◌, not, nat_lt, nat_le, nat_eq, Option, Some, None, min, List, [], ◌∷◌, refl, if◌then◌else◌}
+use Rattle.grid_moves.specs.declared.Cell.{Cell}
+use Rattle.grid_moves.specs.declared.Corner.{Corner}
+use Rattle.grid_moves.specs.declared.Corner.TheVariants.{Never, One}
+use Rattle.grid_moves.specs.declared.Dir.{Dir}
+use Rattle.grid_moves.specs.declared.Dir.TheVariants.{N, NE, E, SE, S, SW, W, NW}
+use Rattle.pruning.specs.Turns.{is_diagonal}
+
+-- the mark that an entry tells of
+abbrev pub mark_of : ℤ → Option ℕ
+mark_of (pos zero) = None
+mark_of (pos (suc k)) = Some (suc k)
+mark_of (negsuc n) = None
+
+-- the run has so many moves, from 1, and no mark on them
+abbrev pub is_clear : ℤ → ℕ → Bool
+is_clear (pos n) k = nat_lt k n
+is_clear (negsuc n) k = nat_le k (suc n)
+
+-- the move is legal: every entry but 0 tells of one
+abbrev pub is_move : ℤ → Bool
+is_move (pos zero) = false
+is_move (pos (suc k)) = true
+is_move (negsuc n) = true
+
+-- how many columns lie between, where d leads from the one towards the other; else 0
+abbrev pub columns_to : Dir → ℕ → ℕ → ℕ
+columns_to N from to = 0
+columns_to NE from to = to - from
+columns_to E from to = to - from
+columns_to SE from to = to - from
+columns_to S from to = 0
+columns_to SW from to = from - to
+columns_to W from to = from - to
+columns_to NW from to = from - to
+
+-- and how many rows
+abbrev pub rows_to : Dir → ℕ → ℕ → ℕ
+rows_to N from to = from - to
+rows_to NE from to = from - to
+rows_to E from to = 0
+rows_to SE from to = to - from
+rows_to S from to = to - from
+rows_to SW from to = to - from
+rows_to W from to = 0
+rows_to NW from to = from - to
+
+-- the column and the row after so many moves
+abbrev pub column_after : Dir → ℕ → ℕ → ℕ
+column_after N k x = x
+column_after NE k x = x + k
+column_after E k x = x + k
+column_after SE k x = x + k
+column_after S k x = x
+column_after SW k x = x - k
+column_after W k x = x - k
+column_after NW k x = x - k
+
+abbrev pub row_after : Dir → ℕ → ℕ → ℕ
+row_after N k y = y - k
+row_after NE k y = y - k
+row_after E k y = y
+row_after SE k y = y + k
+row_after S k y = y + k
+row_after SW k y = y + k
+row_after W k y = y
+row_after NW k y = y - k
+
+abbrev pub cell_after : Dir → ℕ → Cell → Cell
+cell_after d k c = record { x = column_after d k c.x; y = row_after d k c.y }
+
+-- the component of a diagonal that leads along a row, and the one that leads along a column
+abbrev pub row_part : Dir → Dir
+row_part NE = E
+row_part SE = E
+row_part SW = W
+row_part NW = W
+row_part d = d
+
+abbrev pub column_part : Dir → Dir
+column_part NE = N
+column_part SE = S
+column_part SW = S
+column_part NW = N
+column_part d = d
+
+-- from a cell in the goal's row or column, which is so many columns and rows on from where a diagonal jump
+-- began, the goal is there, or on the run in the component
+abbrev pub sees_goal : (Cell → Dir → ℤ) → Dir → Cell → ℕ → ℕ → Bool
+sees_goal entry d v columns rows =
+    if nat_eq columns rows then true
+    else if nat_lt rows columns then is_clear (entry v (row_part d)) (columns - rows)
+    else is_clear (entry v (column_part d)) (rows - columns)
+
+-- the stop of a jump, told the entry at its cell, and after how many moves, and whether, it comes to the goal
+-- or sees it
+abbrev pub stop_by : ℤ → ℕ → Bool → Option ℕ
+stop_by entry near sees = if nat_lt 0 near && is_clear entry near && sees then Some near else mark_of entry
+
+-- the number of moves in a straight d that lead from one cell to another, or 0 where none do
+abbrev pub straight_to : Dir → Cell → Cell → ℕ
+straight_to N u v = if nat_eq u.x v.x then u.y - v.y else 0
+straight_to NE u v = 0
+straight_to E u v = if nat_eq u.y v.y then v.x - u.x else 0
+straight_to SE u v = 0
+straight_to S u v = if nat_eq u.x v.x then v.y - u.y else 0
+straight_to SW u v = 0
+straight_to W u v = if nat_eq u.y v.y then u.x - v.x else 0
+straight_to NW u v = 0
