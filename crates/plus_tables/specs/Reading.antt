@@ -1,11 +1,14 @@
 -- What jumps read off entries.
-use Rattle.std.specs.Prelude.{◌≡◌, ℕ, zero, suc, ◌+◌, ◌-◌, ℤ, pos, negsuc, neg_ℤ, Bool, true, false, ◌&&◌, ◌||◌, not, nat_lt, nat_le, nat_eq, Option, Some, None, min, List, [], ◌∷◌, refl, if◌then◌else◌}
+use Rattle.std.specs.Prelude.{◌≡◌, ℕ, zero, suc, ◌+◌, ◌-◌, ℤ, pos, negsuc, neg_ℤ, Bool, true, false, ◌&&◌, ◌||◌, not, nat_lt, nat_le, nat_eq, Option, Some, None, min, List, [], ◌∷◌, filter, refl, if◌then◌else◌}
 use Rattle.grid_moves.specs.declared.Cell.{Cell}
 use Rattle.grid_moves.specs.declared.Corner.{Corner}
 use Rattle.grid_moves.specs.declared.Corner.TheVariants.{Never, One}
 use Rattle.grid_moves.specs.declared.Dir.{Dir}
 use Rattle.grid_moves.specs.declared.Dir.TheVariants.{N, NE, E, SE, S, SW, W, NW}
-use Rattle.pruning.specs.Turns.{is_diagonal}
+use Rattle.grid_moves.specs.Move.{is_dir, opposite}
+use Rattle.pruning.specs.declared.turns.Side.{Side}
+use Rattle.pruning.specs.declared.turns.Side.TheVariants.{Right, Left}
+use Rattle.pruning.specs.Turns.{turn, quarter, rear, is_diagonal}
 
 -- the mark that an entry tells of
 abbrev pub mark_of : ℤ → Option ℕ
@@ -98,6 +101,15 @@ sees_goal entry d v columns rows =
 abbrev pub stop_by : ℤ → ℕ → Bool → Option ℕ
 stop_by entry near sees = if nat_lt 0 near && is_clear entry near && sees then Some near else mark_of entry
 
+-- a diagonal jump meets the goal's row or column after so many moves
+abbrev pub near_to : Dir → Cell → Cell → ℕ
+near_to d u goal = min (columns_to d u.x goal.x) (rows_to d u.y goal.y)
+
+-- the stop of a diagonal jump
+abbrev pub diagonal_by : (Cell → Dir → ℤ) → Cell → Dir → Cell → Option ℕ
+diagonal_by entry u d goal = stop_by (entry u d) (near_to d u goal)
+    (sees_goal entry d (cell_after d (near_to d u goal) u) (columns_to d u.x goal.x) (rows_to d u.y goal.y))
+
 -- the number of moves in a straight d that lead from one cell to another, or 0 where none do
 abbrev pub straight_to : Dir → Cell → Cell → ℕ
 straight_to N u v = if nat_eq u.x v.x then u.y - v.y else 0
@@ -108,3 +120,42 @@ straight_to S u v = if nat_eq u.x v.x then v.y - u.y else 0
 straight_to SW u v = 0
 straight_to W u v = if nat_eq u.y v.y then u.x - v.x else 0
 straight_to NW u v = 0
+
+-- which of the two sides a wall stands at, that makes a turn to it be kept
+-- no corner is cut: after a straight move, behind, as the entry at the cell before tells; after a diagonal
+-- nothing is asked. One may be: after a straight move, beside; after a diagonal, behind
+abbrev pub is_wall : Corner → (Cell → Dir → ℤ) → Cell → Dir → Side → Bool
+is_wall Never entry at d s =
+    if is_diagonal d then false else not (is_move (entry (cell_after (opposite d) 1 at) (quarter s d)))
+is_wall One entry at d s = not (is_move (entry at (if is_diagonal d then rear s d else quarter s d)))
+
+-- a turn by a quarter is kept at all: where no corner is cut after a straight move, else after a diagonal
+abbrev pub turns_far : Corner → Dir → Bool
+turns_far Never d = not (is_diagonal d)
+turns_far One d = is_diagonal d
+
+-- e is a turn to that side that is kept
+abbrev pub is_kept_aside : Corner → Dir → Dir → Side → Bool → Bool
+is_kept_aside corner d e s wall = (is_dir e (turn s d) && (is_diagonal d || wall))
+    || (is_dir e (quarter s d) && (turns_far corner d && wall))
+
+-- the directions that pruning keeps after d, told at which sides a wall stands
+abbrev pub is_kept_by : Corner → Dir → Bool → Bool → Dir → Bool
+is_kept_by corner d right left e =
+    is_dir e d || is_kept_aside corner d e Right right || is_kept_aside corner d e Left left
+
+-- d and the two directions to each side of it, in increasing order: all that pruning may keep
+abbrev pub fan : Dir → List Dir
+fan N = N ∷ NE ∷ E ∷ W ∷ NW ∷ []
+fan NE = N ∷ NE ∷ E ∷ SE ∷ NW ∷ []
+fan E = N ∷ NE ∷ E ∷ SE ∷ S ∷ []
+fan SE = NE ∷ E ∷ SE ∷ S ∷ SW ∷ []
+fan S = E ∷ SE ∷ S ∷ SW ∷ W ∷ []
+fan SW = SE ∷ S ∷ SW ∷ W ∷ NW ∷ []
+fan W = N ∷ S ∷ SW ∷ W ∷ NW ∷ []
+fan NW = N ∷ NE ∷ SW ∷ W ∷ NW ∷ []
+
+-- the allowed directions after a move in d, by entries
+abbrev pub allowed_by : Corner → (Cell → Dir → ℤ) → Cell → Dir → List Dir
+allowed_by corner entry at d = filter (λ e. is_kept_by corner d (is_wall corner entry at d Right)
+    (is_wall corner entry at d Left) e && is_move (entry at e)) (fan d)

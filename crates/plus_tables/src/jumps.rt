@@ -5,9 +5,10 @@
 //! column first; if that comes before its own mark, the entry of the component there tells whether the run
 //! leads on to the goal.
 
-ghost use Rattle.std.specs.Prelude.{◌≡◌, ◌+◌, ◌<◌, ◌≤◌, false, true};
+ghost use Rattle.std.specs.Prelude.{◌≡◌, ◌+◌, ◌<◌, ◌≤◌, false, true, min};
 ghost use Rattle.plus_tables.specs.Reading as spec;
-ghost use Rattle.plus_tables.specs.Tables.{IsShort};
+ghost use Rattle.plus_tables.specs.Tables.{entry_at, is_on};
+ghost use Rattle.pruning.specs.Turns as turns;
 
 use crate::tables::{Tables, tells_mark};
 use grid_moves::{Cell, Dir};
@@ -17,7 +18,7 @@ use steps::Steps;
 // The mark that an entry tells of.
 #[inline(always)]
 fn mark_of(entry: i16) -> Option<u16>
-    ensures { result ≡ spec.mark_of entry }
+    ensures is { result ≡ spec.mark_of entry }
 {
     if tells_mark(entry) {
         Some(entry.unsigned_abs())
@@ -29,7 +30,7 @@ fn mark_of(entry: i16) -> Option<u16>
 // Whether a run has so many moves, and no mark on them.
 #[inline(always)]
 fn is_clear(entry: i16, moves: u16) -> bool
-    ensures { result ≡ spec.is_clear entry moves }
+    ensures is { result ≡ spec.is_clear entry moves }
 {
     if 0 <= entry {
         moves < entry.unsigned_abs()
@@ -38,18 +39,10 @@ fn is_clear(entry: i16, moves: u16) -> bool
     }
 }
 
-// Whether an entry tells of a legal move.
-#[inline(always)]
-pub fn is_move(entry: i16) -> bool
-    ensures { result ≡ spec.is_move entry }
-{
-    entry != 0
-}
-
 // How many columns lie between, where the direction leads from the one towards the other; else 0.
 #[inline(always)]
 fn columns_to(d: Dir, from: u16, to: u16) -> u16
-    ensures { result ≡ spec.columns_to d from to }
+    ensures is { result ≡ spec.columns_to d from to }
 {
     match d {
         Dir::NE | Dir::E | Dir::SE => to.saturating_sub(from),
@@ -61,7 +54,7 @@ fn columns_to(d: Dir, from: u16, to: u16) -> u16
 // How many rows lie between, where the direction leads from the one towards the other; else 0.
 #[inline(always)]
 fn rows_to(d: Dir, from: u16, to: u16) -> u16
-    ensures { result ≡ spec.rows_to d from to }
+    ensures is { result ≡ spec.rows_to d from to }
 {
     match d {
         Dir::SE | Dir::S | Dir::SW => to.saturating_sub(from),
@@ -73,8 +66,8 @@ fn rows_to(d: Dir, from: u16, to: u16) -> u16
 // The column after so many moves.
 #[inline(always)]
 fn column_after(d: Dir, moves: u16, x: u16) -> u16
-    requires { x + moves < 65536 }
-    ensures { result ≡ spec.column_after d moves x }
+    requires { spec.column_after d moves x < 65536 }
+    ensures is { result ≡ spec.column_after d moves x }
 {
     match d {
         Dir::NE | Dir::E | Dir::SE => x + moves,
@@ -86,8 +79,8 @@ fn column_after(d: Dir, moves: u16, x: u16) -> u16
 // The row after so many moves.
 #[inline(always)]
 fn row_after(d: Dir, moves: u16, y: u16) -> u16
-    requires { y + moves < 65536 }
-    ensures { result ≡ spec.row_after d moves y }
+    requires { spec.row_after d moves y < 65536 }
+    ensures is { result ≡ spec.row_after d moves y }
 {
     match d {
         Dir::SE | Dir::S | Dir::SW => y + moves,
@@ -96,12 +89,12 @@ fn row_after(d: Dir, moves: u16, y: u16) -> u16
     }
 }
 
-// The cell after so many moves.
+/// The cell after so many moves.
 #[inline(always)]
-fn cell_after(d: Dir, moves: u16, c: Cell) -> Cell
-    requires columns { c.x + moves < 65536 }
-    requires rows { c.y + moves < 65536 }
-    ensures { result ≡ spec.cell_after d moves c }
+pub fn cell_after(d: Dir, moves: u16, c: Cell) -> Cell
+    requires columns { spec.column_after d moves c.x < 65536 }
+    requires rows { spec.row_after d moves c.y < 65536 }
+    ensures is { result ≡ spec.cell_after d moves c }
 {
     Cell {
         x: column_after(d, moves, c.x),
@@ -112,7 +105,7 @@ fn cell_after(d: Dir, moves: u16, c: Cell) -> Cell
 // The component of a diagonal that leads along a row.
 #[inline(always)]
 fn row_part(d: Dir) -> Dir
-    ensures { result ≡ spec.row_part d }
+    ensures is { result ≡ spec.row_part d }
 {
     match d {
         Dir::NE | Dir::SE => Dir::E,
@@ -124,7 +117,7 @@ fn row_part(d: Dir) -> Dir
 // The component of a diagonal that leads along a column.
 #[inline(always)]
 fn column_part(d: Dir) -> Dir
-    ensures { result ≡ spec.column_part d }
+    ensures is { result ≡ spec.column_part d }
 {
     match d {
         Dir::NE | Dir::NW => Dir::N,
@@ -136,7 +129,7 @@ fn column_part(d: Dir) -> Dir
 // The number of moves in a straight direction that lead from one cell to another, or 0 where none do.
 #[inline(always)]
 fn straight_to(d: Dir, from: Cell, to: Cell) -> u16
-    ensures { result ≡ spec.straight_to d from to }
+    ensures is { result ≡ spec.straight_to d from to }
 {
     match d {
         Dir::N if from.x == to.x => from.y.saturating_sub(to.y),
@@ -144,5 +137,81 @@ fn straight_to(d: Dir, from: Cell, to: Cell) -> u16
         Dir::E if from.y == to.y => to.x.saturating_sub(from.x),
         Dir::W if from.y == to.y => from.x.saturating_sub(to.x),
         _ => 0,
+    }
+}
+
+/// After how many moves a straight jump stops. One step.
+#[inline(always)]
+pub fn straight_stop<L: Ledger>(
+    tables: &Tables,
+    at: Cell,
+    d: Dir,
+    goal: Cell,
+    steps: &mut Steps<L>,
+) -> Option<u16>
+    requires at { is_on tables.now at ≡ true }
+    ensures is { result ≡ spec.stop_by (entry_at tables.now at d) (spec.straight_to d at goal) true }
+    ensures step { steps.new ≡ steps.old + 1 }
+{
+    let entry = tables.entry(at, d, steps);
+    let near = straight_to(d, at, goal);
+    if 0 < near && is_clear(entry, near) {
+        Some(near)
+    } else {
+        mark_of(entry)
+    }
+}
+
+// Whether the goal is at a cell in its row or column, or on the run in the component from there. It lies so many
+// columns and rows on from where the diagonal jump began. At most one step.
+#[inline(always)]
+fn sees_goal<L: Ledger>(
+    tables: &Tables,
+    at: Cell,
+    d: Dir,
+    columns: u16,
+    rows: u16,
+    steps: &mut Steps<L>,
+) -> bool
+    requires at { is_on tables.now at ≡ true }
+    ensures is { result ≡ spec.sees_goal (entry_at tables.now) d at columns rows }
+    ensures most { steps.new ≤ steps.old + 1 }
+    ensures fewest { steps.old ≤ steps.new }
+{
+    if columns == rows {
+        true
+    } else if rows < columns {
+        is_clear(tables.entry(at, row_part(d), steps), columns - rows)
+    } else {
+        is_clear(tables.entry(at, column_part(d), steps), rows - columns)
+    }
+}
+
+/// After how many moves a diagonal jump stops. At most two steps.
+#[inline(always)]
+pub fn diagonal_stop<L: Ledger>(
+    tables: &Tables,
+    at: Cell,
+    d: Dir,
+    goal: Cell,
+    steps: &mut Steps<L>,
+) -> Option<u16>
+    requires at { is_on tables.now at ≡ true }
+    requires goal { is_on tables.now goal ≡ true }
+    ensures is { result ≡ spec.diagonal_by (entry_at tables.now) at d goal }
+    ensures most { steps.new ≤ steps.old + 2 }
+    ensures fewest { steps.old + 1 ≤ steps.new }
+{
+    let entry = tables.entry(at, d, steps);
+    let columns = columns_to(d, at.x, goal.x);
+    let rows = rows_to(d, at.y, goal.y);
+    let near = columns.min(rows);
+    if 0 < near
+        && is_clear(entry, near)
+        && sees_goal(tables, cell_after(d, near, at), d, columns, rows, steps)
+    {
+        Some(near)
+    } else {
+        mark_of(entry)
     }
 }

@@ -8,6 +8,9 @@
 
 mod build;
 mod jumps;
+mod source;
 mod tables;
+mod turns;
 
+pub use source::PlusJumps;
 pub use tables::Tables;
