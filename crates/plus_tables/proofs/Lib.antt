@@ -8,3 +8,5 @@ pub mod Sweeping
 pub mod Clear
 pub mod Stops
 pub mod Goals
+pub mod Told
+pub mod Turning

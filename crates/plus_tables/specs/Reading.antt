@@ -121,6 +121,11 @@ straight_to SW u v = 0
 straight_to W u v = if nat_eq u.y v.y then u.x - v.x else 0
 straight_to NW u v = 0
 
+-- the stop of a jump
+abbrev pub stop_told : (Cell → Dir → ℤ) → Cell → Dir → Cell → Option ℕ
+stop_told entry u d goal =
+    if is_diagonal d then diagonal_by entry u d goal else stop_by (entry u d) (straight_to d u goal) true
+
 -- which of the two sides a wall stands at, that makes a turn to it be kept
 -- no corner is cut: after a straight move, behind, as the entry at the cell before tells; after a diagonal
 -- nothing is asked. One may be: after a straight move, beside; after a diagonal, behind

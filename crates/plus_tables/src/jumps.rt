@@ -140,9 +140,9 @@ fn straight_to(d: Dir, from: Cell, to: Cell) -> u16
     }
 }
 
-/// After how many moves a straight jump stops. One step.
+// After how many moves a straight jump stops. One step.
 #[inline(always)]
-pub fn straight_stop<L: Ledger>(
+fn straight_stop<L: Ledger>(
     tables: &Tables,
     at: Cell,
     d: Dir,
@@ -187,9 +187,9 @@ fn sees_goal<L: Ledger>(
     }
 }
 
-/// After how many moves a diagonal jump stops. At most two steps.
+// After how many moves a diagonal jump stops. At most two steps.
 #[inline(always)]
-pub fn diagonal_stop<L: Ledger>(
+fn diagonal_stop<L: Ledger>(
     tables: &Tables,
     at: Cell,
     d: Dir,
@@ -213,5 +213,32 @@ pub fn diagonal_stop<L: Ledger>(
         Some(near)
     } else {
         mark_of(entry)
+    }
+}
+
+/// After how many moves a jump stops. One step or two. Each direction has code of its own, in which it is a constant.
+#[inline(always)]
+pub fn stop_told<L: Ledger>(
+    tables: &Tables,
+    at: Cell,
+    d: Dir,
+    goal: Cell,
+    steps: &mut Steps<L>,
+) -> Option<u16>
+    requires at { is_on tables.now at ≡ true }
+    requires goal { is_on tables.now goal ≡ true }
+    ensures is { result ≡ spec.stop_told (entry_at tables.now) at d goal }
+    ensures most { steps.new ≤ steps.old + 2 }
+    ensures fewest { steps.old + 1 ≤ steps.new }
+{
+    match d {
+        Dir::N => straight_stop(tables, at, Dir::N, goal, steps),
+        Dir::NE => diagonal_stop(tables, at, Dir::NE, goal, steps),
+        Dir::E => straight_stop(tables, at, Dir::E, goal, steps),
+        Dir::SE => diagonal_stop(tables, at, Dir::SE, goal, steps),
+        Dir::S => straight_stop(tables, at, Dir::S, goal, steps),
+        Dir::SW => diagonal_stop(tables, at, Dir::SW, goal, steps),
+        Dir::W => straight_stop(tables, at, Dir::W, goal, steps),
+        Dir::NW => diagonal_stop(tables, at, Dir::NW, goal, steps),
     }
 }

@@ -3,7 +3,7 @@
 ghost use Rattle.std.specs.Prelude.{◌≡◌, Some};
 ghost use Rattle.plus_tables.specs.Tables.{AreTablesOf};
 
-use crate::jumps::{diagonal_stop, straight_stop};
+use crate::jumps::stop_told;
 use crate::tables::Tables;
 use crate::turns::{allowed_after, legal_of};
 use arrayvec::ArrayVec;
@@ -34,17 +34,7 @@ impl<'a> JumpSource for PlusJumps<'a> {
     }
 
     fn stop<L: Ledger>(&self, at: Cell, d: Dir, goal: Cell, steps: &mut Steps<L>) -> Option<u16> {
-        let tables = self.tables;
-        match d {
-            Dir::N => straight_stop(tables, at, Dir::N, goal, steps),
-            Dir::NE => diagonal_stop(tables, at, Dir::NE, goal, steps),
-            Dir::E => straight_stop(tables, at, Dir::E, goal, steps),
-            Dir::SE => diagonal_stop(tables, at, Dir::SE, goal, steps),
-            Dir::S => straight_stop(tables, at, Dir::S, goal, steps),
-            Dir::SW => diagonal_stop(tables, at, Dir::SW, goal, steps),
-            Dir::W => straight_stop(tables, at, Dir::W, goal, steps),
-            Dir::NW => diagonal_stop(tables, at, Dir::NW, goal, steps),
-        }
+        stop_told(self.tables, at, d, goal, steps)
     }
 
     fn allowed<L: Ledger>(&self, at: Cell, by: Arrival, steps: &mut Steps<L>) -> ArrayVec<Dir, 8> {
