@@ -144,7 +144,7 @@ come_to S k x goal h p = absurd (cc)
 come_to W k x goal h p = absurd (cc)
 
 -- the cell after so many moves
-moved_to : (d : Dir) (k : ℕ) (x v : Cell) → AreMoved d k x v → v ≡ cell_after d k x
+pub moved_to : (d : Dir) (k : ℕ) (x v : Cell) → AreMoved d k x v → v ≡ cell_after d k x
 moved_to N k x v p = let a = p.0 in let b = p.1 in same_cell v (cell_after N k x) (omega arith) (omega arith)
 moved_to NE k x v p = let a = p.0 in let b = p.1 in same_cell v (cell_after NE k x) (omega arith) (omega arith)
 moved_to E k x v p = let a = p.0 in let b = p.1 in same_cell v (cell_after E k x) (omega arith) (omega arith)

@@ -1,7 +1,7 @@
 -- The allowed directions that are told by tables.
 use Rattle.std.proofs.Common.{◌≡◌, ℕ, ◌+◌, ◌<◌, arith, Bool, true, false, not, ◌&&◌, ◌||◌, refl, ap, sym, ◌∙◌, subst, List, [], ◌∷◌}
 use Rattle.std.specs.Prelude.{ℤ, Some, filter, if◌then◌else◌}
-use Rattle.std.proofs.lemmas.Bool.Decides.{nat_tests}
+use Rattle.std.proofs.lemmas.List.Elements.{filter_agree}
 use Rattle.grid_moves.specs.declared.Cell.{Cell}
 use Rattle.grid_moves.specs.declared.Corner.{Corner}
 use Rattle.grid_moves.specs.declared.Corner.TheVariants.{Never, One}
@@ -10,6 +10,7 @@ use Rattle.grid_moves.specs.declared.Dir.TheVariants.{N, NE, E, SE, S, SW, W, NW
 use Rattle.grid_moves.specs.Grid.{GridData, is_free, is_inside}
 use Rattle.grid_moves.specs.Move.{all_dirs, is_dir, is_open, legal_ahead, opposite}
 use Rattle.grid_moves.proofs.Legal.{legal_is}
+use Rattle.pruning.specs.declared.Arrival.{Arrival}
 use Rattle.pruning.specs.declared.Arrival.TheVariants.{Start, By}
 use Rattle.pruning.specs.declared.turns.Side.{Side}
 use Rattle.pruning.specs.declared.turns.Side.TheVariants.{Right, Left}
@@ -27,12 +28,8 @@ use Rattle.plus_tables.specs.Tables.{TablesData, AreTablesOf, entry_at, is_on}
 use Rattle.plus_tables.specs.Reading.{is_move, cell_after, is_wall, turns_far, is_kept_by, fan, allowed_by}
 use Rattle.plus_tables.proofs.Clear.{is_move-is}
 use Rattle.plus_tables.proofs.Goals.{moved_to}
+use Rattle.plus_tables.proofs.Refreshing.{on_map}
 use Rattle.plus_tables.proofs.Told.{free_is_inside}
-
-filter-same : (one other : Dir → Bool) → ((e : Dir) → one e ≡ other e) → (dirs : List Dir)
-    → filter one dirs ≡ filter other dirs
-filter-same one other same [] = refl
-filter-same one other same (e ∷ dirs) = rw (same e, filter-same one other same dirs) refl
 
 -- pruning keeps no direction but those of the fan
 fan-all : (corner : Corner) (right left : Bool) (legal : Dir → Bool) (d : Dir)
@@ -78,7 +75,7 @@ module _ (t : TablesData) (g : GridData) (right : AreTablesOf t g) where
   pub started : (at : Cell) → is_free g at ≡ true
       → filter (λ e. is_move (entry_at t at e)) all_dirs ≡ allowed_dirs g at Start
   started at f =
-      filter-same (λ e. is_move (entry_at t at e)) (is_allowed g at Start) (λ e. legal_told at e f) all_dirs
+      filter_agree (λ e. is_move (entry_at t at e)) (is_allowed g at Start) (λ e. legal_told at e f) all_dirs
 
   module _ (u at : Cell) (d : Dir) (e : legal_ahead g u d ≡ Some at) where
     source : is_free g u ≡ true
@@ -125,8 +122,40 @@ module _ (t : TablesData) (g : GridData) (right : AreTablesOf t g) where
           blocked_told at (quarter Left d) target (quarter_parity Left d ∙ h),
         ) refl))
 
+    abbrev told : Dir → Bool
+    told to = is_kept_by g.corner d (is_wall g.corner (entry_at t) at d Right)
+        (is_wall g.corner (entry_at t) at d Left) to && is_move (entry_at t at to)
+
+    allowed_told : (to : Dir) → told to ≡ is_allowed g at (By d) to
+    allowed_told to = both_same _ _ _ _ (kept_told to) (legal_told at to target)
+      where
+        both_same : (a b c d : Bool) → a ≡ b → c ≡ d → (a && c) ≡ (b && d)
+        both_same a b c d e f = rw (e, f) refl
+
     pub arrived : allowed_by t.corner (entry_at t) at d ≡ allowed_dirs g at (By d)
-    arrived = rw right.sized.corner (sym (fan-all g.corner (is_wall g.corner (entry_at t) at d Right)
+    arrived = ap (λ (r : Corner). allowed_by r (entry_at t) at d) right.sized.corner
+        ∙ sym (fan-all g.corner (is_wall g.corner (entry_at t) at d Right)
         (is_wall g.corner (entry_at t) at d Left) (λ to. is_move (entry_at t at to)) d)
-        ∙ filter-same _ (is_allowed g at (By d)) (λ to. ap (λ (b : Bool). b && is_move (entry_at t at to)) (kept_told to)
-        ∙ ap (λ (b : Bool). is_kept g.corner (is_blocked g at) (By d) to && b) (legal_told at to target)) all_dirs)
+        ∙ filter_agree told (is_allowed g at (By d)) allowed_told all_dirs
+
+    -- the cell before lies on the map
+    pub before_on : is_on t (cell_after (opposite d) 1 at) ≡ true
+    before_on = ap (λ (c : Cell). is_on t c) (sym (cell_before g u at d e)) ∙ on_map t g u right.sized source
+
+-- the same, by any arrival
+pub allowed_started : (t : TablesData) (g : GridData) → AreTablesOf t g → (at : Cell) (by : Arrival)
+    → is_free g at ≡ true → by ≡ Start → filter (λ e. is_move (entry_at t at e)) all_dirs ≡ allowed_dirs g at by
+allowed_started t g right at by f e =
+    started t g right at f ∙ ap (λ (b : Arrival). allowed_dirs g at b) (sym e)
+
+pub allowed_arrived : (t : TablesData) (g : GridData) → AreTablesOf t g → (at : Cell) (by : Arrival) (d : Dir)
+    → CanArrive g at by → by ≡ By d → allowed_by t.corner (entry_at t) at d ≡ allowed_dirs g at by
+allowed_arrived t g right at by d can e =
+    let from : CanArrive g at (By d) = subst (λ (b : Arrival). CanArrive g at b) e can in
+    arrived t g right from.0 at d from.1 ∙ ap (λ (b : Arrival). allowed_dirs g at b) (sym e)
+
+pub before_on_map : (t : TablesData) (g : GridData) → AreTablesOf t g → (at : Cell) (by : Arrival) (d : Dir)
+    → CanArrive g at by → by ≡ By d → is_on t (cell_after (opposite d) 1 at) ≡ true
+before_on_map t g right at by d can e =
+    let from : CanArrive g at (By d) = subst (λ (b : Arrival). CanArrive g at b) e can in
+    before_on t g right from.0 at d from.1
