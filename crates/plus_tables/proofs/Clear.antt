@@ -1,6 +1,6 @@
 -- What entries say of marks and runs.
-use Rattle.std.proofs.Common.{◌≡◌, ℕ, zero, suc, ◌+◌, ◌<◌, ◌≤◌, arith, Bool, true, false, not, refl, ap, sym, ◌∙◌, subst}
-use Rattle.std.specs.Prelude.{ℤ, pos, negsuc, neg_ℤ, Option, Some, None, is_some, unwrap_or, nat_lt, nat_le, if◌then◌else◌}
+use Rattle.std.proofs.Common.{◌≡◌, ℕ, zero, suc, ◌<◌, ◌≤◌, arith, true, false, refl, ap, sym, ◌∙◌, subst}
+use Rattle.std.specs.Prelude.{ℤ, pos, negsuc, neg_ℤ, Option, Some, None, is_some, unwrap_or, nat_le}
 use Rattle.std.proofs.lemmas.Bool.Decides.{nat_tests}
 use Rattle.grid_moves.specs.declared.Cell.{Cell}
 use Rattle.grid_moves.specs.declared.Dir.{Dir}
@@ -15,7 +15,7 @@ use Rattle.pruning.proofs.Runs.{run_length_is_told}
 use Rattle.pruning.proofs.Stopping.{first_mark_is_first}
 use Rattle.plus_tables.specs.Entry.{mark_or_run, table_entry}
 use Rattle.plus_tables.specs.Reading.{mark_of, is_clear, is_move}
-use Rattle.plus_tables.proofs.Following.{table_entry-free, first_mark-some}
+use Rattle.plus_tables.proofs.Following.{table_entry-free}
 use Rattle.plus_tables.proofs.Lengths.{run_length-next, run_length-none}
 
 -- what a run's first mark and its length say together, whatever the entry looks like

@@ -1,12 +1,11 @@
 -- The stop of a jump, by its entry and by where it comes to the goal or sees it.
-use Rattle.std.proofs.Common.{◌≡◌, ℕ, zero, suc, ◌+◌, ◌<◌, ◌≤◌, arith, Bool, true, false, not, ◌&&◌, refl, ap, sym, ◌∙◌, subst}
-use Rattle.std.specs.Prelude.{ℤ, Option, Some, None, nat_lt, nat_le, if◌then◌else◌}
+use Rattle.std.proofs.Common.{◌≡◌, ℕ, ◌≤◌, arith, Bool, true, false, ◌&&◌, refl, ap, sym, ◌∙◌}
+use Rattle.std.specs.Prelude.{ℤ, Option, Some, None, nat_lt, if◌then◌else◌}
 use Rattle.std.proofs.lemmas.Bool.Decides.{nat_tests}
 use Rattle.grid_moves.specs.declared.Cell.{Cell}
 use Rattle.grid_moves.specs.declared.Dir.{Dir}
 use Rattle.grid_moves.specs.Grid.{GridData}
 use Rattle.grid_moves.proofs.Legal.{and_both}
-use Rattle.pruning.specs.Marked.{run_end}
 use Rattle.pruning.specs.Stop.{StopsAfter, IsFirstStop, MarkedAfter, marked}
 use Rattle.plus_tables.specs.Reading.{mark_of, is_clear, stop_by}
 use Rattle.plus_tables.proofs.Clear.{Tells, clear_before, clear_to_mark, clear_all, mark_first}

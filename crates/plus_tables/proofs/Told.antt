@@ -1,6 +1,5 @@
 -- The stop that is told by tables is the first.
-use Rattle.std.proofs.Common.{◌≡◌, ℕ, ◌+◌, ◌-◌, ◌<◌, ◌≤◌, arith, Bool, true, false, ◌&&◌, refl, ap, sym, ◌∙◌, subst}
-use Rattle.std.specs.Prelude.{ℤ, Option, nat_lt, nat_le, nat_eq, min, if◌then◌else◌}
+use Rattle.std.proofs.Common.{◌≡◌, ℕ, arith, true, false, refl}
 use Rattle.std.proofs.lemmas.Bool.Decides.{nat_tests}
 use Rattle.grid_moves.specs.declared.Cell.{Cell}
 use Rattle.grid_moves.specs.declared.Dir.{Dir}
@@ -11,8 +10,8 @@ use Rattle.pruning.specs.Turns.{is_diagonal}
 use Rattle.pruning.specs.Stop.{IsFirstStop}
 use Rattle.pruning.proofs.Table.{by_parity}
 use Rattle.plus_tables.specs.Entry.{table_entry}
-use Rattle.plus_tables.specs.Tables.{TablesData, AreTablesOf, entry_at, is_on}
-use Rattle.plus_tables.specs.Reading.{columns_to, rows_to, cell_after, near_to, row_part, column_part, is_clear, sees_goal, stop_by, diagonal_by, stop_told, straight_to}
+use Rattle.plus_tables.specs.Tables.{TablesData, AreTablesOf, entry_at}
+use Rattle.plus_tables.specs.Reading.{columns_to, rows_to, cell_after, near_to, row_part, column_part, sees_goal, stop_told, straight_to}
 use Rattle.plus_tables.proofs.Clear.{entry_tells}
 use Rattle.plus_tables.proofs.Stops.{stop_by-first}
 use Rattle.plus_tables.proofs.Goals.{straight_goal, diagonal_goal}

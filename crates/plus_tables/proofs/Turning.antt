@@ -1,20 +1,19 @@
 -- The allowed directions that are told by tables.
-use Rattle.std.proofs.Common.{◌≡◌, ℕ, ◌+◌, ◌<◌, arith, Bool, true, false, not, ◌&&◌, ◌||◌, refl, ap, sym, ◌∙◌, subst, List, [], ◌∷◌}
-use Rattle.std.specs.Prelude.{ℤ, Some, filter, if◌then◌else◌}
+use Rattle.std.proofs.Common.{◌≡◌, arith, Bool, true, false, not, ◌&&◌, refl, ap, sym, ◌∙◌, subst}
+use Rattle.std.specs.Prelude.{ℤ, Some, filter}
 use Rattle.std.proofs.lemmas.List.Elements.{filter_agree}
 use Rattle.grid_moves.specs.declared.Cell.{Cell}
 use Rattle.grid_moves.specs.declared.Corner.{Corner}
-use Rattle.grid_moves.specs.declared.Corner.TheVariants.{Never, One}
 use Rattle.grid_moves.specs.declared.Dir.{Dir}
 use Rattle.grid_moves.specs.declared.Dir.TheVariants.{N, NE, E, SE, S, SW, W, NW}
-use Rattle.grid_moves.specs.Grid.{GridData, is_free, is_inside}
-use Rattle.grid_moves.specs.Move.{all_dirs, is_dir, is_open, legal_ahead, opposite}
+use Rattle.grid_moves.specs.Grid.{GridData, is_free}
+use Rattle.grid_moves.specs.Move.{all_dirs, is_open, legal_ahead, opposite}
 use Rattle.grid_moves.proofs.Legal.{legal_is}
 use Rattle.pruning.specs.declared.Arrival.{Arrival}
 use Rattle.pruning.specs.declared.Arrival.TheVariants.{Start, By}
 use Rattle.pruning.specs.declared.turns.Side.{Side}
 use Rattle.pruning.specs.declared.turns.Side.TheVariants.{Right, Left}
-use Rattle.pruning.specs.Turns.{turn, quarter, rear, is_diagonal}
+use Rattle.pruning.specs.Turns.{quarter, rear, is_diagonal}
 use Rattle.pruning.specs.Allowed.{is_blocked, can_move, is_kept, is_allowed, allowed_dirs}
 use Rattle.pruning.specs.Source.{CanArrive}
 use Rattle.pruning.proofs.Table.{straight_back, turn_parity, quarter_parity, by_parity}
@@ -23,9 +22,8 @@ use Rattle.pruning.proofs.Moves.{can_move-straight}
 use Rattle.pruning.proofs.Bridging.{place_of, free_place, open_there, leads_there, legal_leads}
 use Rattle.pruning.proofs.Replacing.{by_corner}
 use Rattle.pruning.proofs.Running.{AreMoved, run_walked}
-use Rattle.plus_tables.specs.Entry.{table_entry}
 use Rattle.plus_tables.specs.Tables.{TablesData, AreTablesOf, entry_at, is_on}
-use Rattle.plus_tables.specs.Reading.{is_move, cell_after, is_wall, turns_far, is_kept_by, fan, allowed_by}
+use Rattle.plus_tables.specs.Reading.{is_move, cell_after, is_wall, is_kept_by, fan, allowed_by}
 use Rattle.plus_tables.proofs.Clear.{is_move-is}
 use Rattle.plus_tables.proofs.Goals.{moved_to}
 use Rattle.plus_tables.proofs.Refreshing.{on_map}
