@@ -82,11 +82,12 @@ impl Tables {
     ghost use Rattle.plus_tables.specs.Entry.{table_entry};
     ghost use Rattle.plus_tables.specs.Local.{is_mark_by};
     ghost use Rattle.plus_tables.specs.Sweep.{IsSwept, is_cell};
-    ghost use Rattle.plus_tables.specs.Tables.{AreSized, RestsRight, entry_at, is_on, is_place, tables_with};
+    ghost use Rattle.plus_tables.specs.Tables.{AreSized, IsWhole, RestsRight, entry_at, is_on, is_place, tables_with};
 
     /// The number of columns.
     pub fn width(&self) -> u16
-        ensures { result ≡ self.now.width }
+        ensures is { result ≡ self.now.width }
+        ensures whole { IsWhole self.now }
     {
         self.width
     }
