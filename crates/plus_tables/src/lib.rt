@@ -14,3 +14,6 @@ mod turns;
 
 pub use source::PlusJumps;
 pub use tables::Tables;
+
+#[cfg(test)]
+mod tests;
