@@ -8,6 +8,7 @@
 
 mod build;
 mod jumps;
+mod onward;
 mod source;
 mod tables;
 mod turns;
