@@ -172,6 +172,25 @@ impl Tables {
         }
     }
 
+    // The same; each direction has code of its own, in which it is a constant.
+    fn told<T: Terrain>(&self, t: &T, c: Cell, d: Dir) -> i16
+        requires whole { IsGrid (T.grid t.now) }
+        requires sized { AreSized self.now (T.grid t.now) }
+        requires rests { RestsRight self.now (T.grid t.now) c d }
+        ensures { result ≡ table_entry (T.grid t.now) c d }
+    {
+        match d {
+            Dir::N => self.told_by_next(t, c, Dir::N),
+            Dir::NE => self.told_by_next(t, c, Dir::NE),
+            Dir::E => self.told_by_next(t, c, Dir::E),
+            Dir::SE => self.told_by_next(t, c, Dir::SE),
+            Dir::S => self.told_by_next(t, c, Dir::S),
+            Dir::SW => self.told_by_next(t, c, Dir::SW),
+            Dir::W => self.told_by_next(t, c, Dir::W),
+            Dir::NW => self.told_by_next(t, c, Dir::NW),
+        }
+    }
+
     // Makes one entry that of the grid.
     #[inline(always)]
     pub(crate) fn renew<T: Terrain>(&mut self, t: &T, c: Cell, d: Dir)
@@ -224,7 +243,7 @@ impl Tables {
         let _ = &self.width;
         steps.tick();
         let before = self.get(c, d);
-        let entry = self.told_by_next(t, c, d);
+        let entry = self.told(t, c, d);
         self.put(c, d, entry);
         before != entry
     }
