@@ -7,6 +7,10 @@
 #![tactic(auto)]
 
 mod build;
+mod jumps;
+mod source;
 mod tables;
+mod turns;
 
+pub use source::PlusJumps;
 pub use tables::Tables;

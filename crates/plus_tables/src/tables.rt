@@ -99,6 +99,13 @@ impl Tables {
         self.height
     }
 
+    /// The corner rule.
+    pub fn corner(&self) -> Corner
+        ensures { result ≡ self.now.corner }
+    {
+        self.corner
+    }
+
     // Tables of the size of a grid, with 0 everywhere.
     pub(crate) fn blank<T: Terrain>(alloc: Global, t: &T) -> Result<Tables, NoMemory>
         ensures sized { IfOk result (λ tables. AreSized tables (T.grid t.now)) }
