@@ -1,16 +1,13 @@
 -- The two sweeps for a diagonal direction.
-use Rattle.std.proofs.Common.{◌≡◌, ℕ, ◌+◌, ◌-◌, ◌*◌, ◌<◌, ◌≤◌, arith, Bool, true, false, refl, ap, subst, sym, ◌∙◌, ◌&&◌, ◌||◌, mul-le-mul}
-use Rattle.std.specs.Prelude.{min}
-use Rattle.std.proofs.lemmas.Bool.Decides.{nat_tests}
-use Rattle.grid_moves.specs.declared.Cell.{Cell}
+use Rattle.std.proofs.Common.{◌≡◌, ℕ, ◌+◌, ◌*◌, ◌≤◌, arith, Bool, true, false, refl, mul-le-mul}
 use Rattle.grid_moves.specs.declared.Dir.{Dir}
-use Rattle.grid_moves.specs.Grid.{GridData, is_inside}
+use Rattle.grid_moves.specs.Grid.{GridData}
 use Rattle.pruning.specs.Turns.{is_diagonal}
 use Rattle.plus_tables.specs.Tables.{TablesData}
 use Rattle.table_repair.specs.declared.span.Span.{Span}
 use Rattle.table_repair.specs.Mending.{AreRight, FollowBut, Mends, Sweeps, CanSweep, IsBlock, any_cell, either, is_in, is_in_reach, widened, span_next, span_length, goes_right, goes_down}
 use Rattle.table_repair.proofs.Mends.{mends_both, mends_wider, follow_more}
-use Rattle.table_repair.proofs.Walking.{or_false, false_or}
+use Rattle.table_repair.proofs.Walking.{or_false}
 use Rattle.table_repair.proofs.Directions.{none_waits}
 use Rattle.table_repair.proofs.Reach.{rear_behind}
 

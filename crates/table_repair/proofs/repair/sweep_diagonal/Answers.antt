@@ -1,6 +1,4 @@
 -- First the block's rows, and then what lies behind it in its columns.
-use Rattle.std.proofs.Common.{◌≡◌, ◌≤◌, arith}
-use Rattle.table_repair.specs.declared.span.Span.{Span}
 use Rattle.table_repair.specs.Mending.{goes_right, goes_down, widened, span_next, is_in}
 use Rattle.table_repair.proofs.Mends.{ready_stays}
 use Rattle.table_repair.proofs.Diagonals.{span_told, first_waits, second_waits, both_right, both_mend, wide_within, rear_within, cells_few, steps_both}

@@ -1,5 +1,5 @@
 -- The directions up to this one are done.
-use Rattle.std.proofs.Common.{◌≡◌, ◌+◌, ◌*◌, ◌≤◌, take}
+use Rattle.std.proofs.Common.{◌+◌, ◌*◌, ◌≤◌, take}
 use Rattle.pruning.specs.Turns.{is_diagonal}
 use Rattle.table_repair.specs.Mending.{any_cell, is_in_reach, is_listed}
 use Rattle.table_repair.proofs.Passes.{Passed}

@@ -1,5 +1,5 @@
 -- The directions up to this one are done.
-use Rattle.std.proofs.Common.{◌≡◌, ◌+◌, ◌*◌, ◌≤◌, take}
+use Rattle.std.proofs.Common.{◌+◌, ◌*◌, ◌≤◌, take}
 use Rattle.table_repair.specs.Mending.{is_in, is_listed, is_straight, span_length}
 use Rattle.table_repair.proofs.Passes.{Passed}
 use Rattle.table_repair.proofs.repair.sweep_straight.Given as goal

@@ -1,5 +1,5 @@
 -- What is left of the rows waits; a step for each change, and one for each cell of a row.
-use Rattle.std.proofs.Common.{◌≡◌, ◌+◌, ◌-◌, ◌*◌, ◌≤◌, ℕ, true}
+use Rattle.std.proofs.Common.{◌≡◌, ◌+◌, ◌*◌, ◌≤◌, ℕ, true}
 use Rattle.table_repair.specs.Mending.{span_length, is_in, is_among}
 use Rattle.table_repair.proofs.Sweeping.{Swept}
 use Rattle.table_repair.proofs.sweep.sweep.Given as goal

@@ -1,7 +1,7 @@
 -- Each column taken is one piece more.
-use Rattle.std.proofs.Common.{◌≡◌, ◌≤◌, arith, sym, ◌∙◌}
-use Rattle.table_repair.specs.Mending.{goes_right, is_in_row}
-use Rattle.table_repair.proofs.Sweeping.{taken_told, none_taken, swept_none, swept_all}
+use Rattle.std.proofs.Common.{sym, ◌∙◌}
+use Rattle.table_repair.specs.Mending.{goes_right}
+use Rattle.table_repair.proofs.Sweeping.{taken_told, none_taken}
 use Rattle.table_repair.proofs.Rows.{row_inside, row_right, row_next, row_done}
 use Rattle.table_repair.proofs.Totals.{few_more, counted_more}
 use Rattle.table_repair.proofs.sweep.sweep_row.Goals as goal
