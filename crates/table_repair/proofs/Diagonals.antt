@@ -11,11 +11,6 @@ use Rattle.table_repair.proofs.Walking.{or_false}
 use Rattle.table_repair.proofs.Directions.{none_waits}
 use Rattle.table_repair.proofs.Reach.{rear_behind}
 
--- the spans, as code tells them
-pub span_told : (make : Bool → Span → ℕ → ℕ → Span) (result s : Span) (given side : Bool) (by m n : ℕ)
-    → result ≡ make given s by m → given ≡ side → m ≡ n → result ≡ make side s by n
-span_told make result s given side by m n e f g = rw (← f, ← g) e
-
 module _ (h : GridData) (rows columns wide rear : Span) (by : ℕ) (d : Dir) (diagonal : is_diagonal d ≡ true)
     (is_wide : wide ≡ widened (goes_right d) columns by h.width)
     (is_rear : rear ≡ span_next (goes_down d) rows by h.height) where
