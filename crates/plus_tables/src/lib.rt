@@ -8,9 +8,13 @@
 
 mod build;
 mod jumps;
+mod onward;
 mod source;
 mod tables;
 mod turns;
 
 pub use source::PlusJumps;
 pub use tables::Tables;
+
+#[cfg(test)]
+mod tests;
