@@ -6,7 +6,6 @@ use Rattle.grid_moves.specs.declared.Cell.{Cell}
 use Rattle.grid_moves.specs.declared.Dir.{Dir}
 use Rattle.grid_moves.specs.declared.Dir.TheVariants.{N, NE, E, SE, S, SW, W, NW}
 use Rattle.grid_moves.specs.Grid.{GridData, IsGrid}
-use Rattle.grid_moves.specs.Points.{estimate}
 use Rattle.pruning.specs.Chain.{run_cost}
 use Rattle.pruning.specs.First.{first_stop}
 use Rattle.search_run.specs.Run.{Taken}
