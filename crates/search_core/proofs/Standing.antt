@@ -25,7 +25,8 @@ use Rattle.best_first.proofs.Searching.{taken_key}
 use Rattle.best_first.proofs.Progress.{has_begun, next_taken, exhausted, taken_fits, has_back, way_is}
 use Rattle.search_core.specs.Jumps.{come_to, jump_links, jump_rule}
 use Rattle.search_core.specs.Run.{IsFound, IsExhausted}
-use Rattle.search_core.specs.Jumping.{HasPlaces, IsSpaceOf, last_at, jumped, IsAt, IsOffering, HasReached}
+use Rattle.search_core.specs.Jumping.{IsSpaceOf, last_at, jumped, IsAt, IsOffering, HasReached}
+use Rattle.search_core.specs.Room.{HasPlaces}
 use Rattle.search_core.specs.Serving.{IsServed}
 use Rattle.search_core.specs.declared.jumping.Last.{Last}
 use Rattle.search_core.proofs.Arrivals.{HasArrived, run_arrived}
