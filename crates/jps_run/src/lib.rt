@@ -9,6 +9,8 @@ mod job;
 mod kind;
 mod lines;
 mod live;
+#[cfg(test)]
+mod live_tests;
 mod make;
 mod query;
 mod row;
