@@ -11,11 +11,13 @@ use Rattle.jps_run.specs.Files.{File, IsAccepted, AreAccepted, ComesTo, IsRefuse
 use Rattle.jps_run.specs.Reading.{read_stops}
 use Rattle.jps_run.specs.Outcome.{comes_as_lines, files_of, IsAnswered, IsOutput}
 use Rattle.jps_run.specs.Seen.{Seen, Stream}
-use Rattle.jps_run.specs.Sending.{IsAll, SendsOne, SendsText, SendsWhole, Wrote, WroteSome, write_stops}
+use Rattle.jps_run.specs.Sending.{IsAll, SendsAs, SendsOne, SendsText, SendsWhole, Wrote, WroteSome, write_stops}
 use Rattle.jps_run.specs.Stops.{StopsSo}
 use Rattle.jps_run.specs.declared.stop.Stop.{Stop}
 use Rattle.jps_run.proofs.Pieces.{nothing, rose-since}
-use Rattle.jps_run.proofs.Stopping.{passed, ends-on, only_write}
+use Rattle.jps_run.specs.Ending.{Whole}
+use Rattle.jps_run.specs.declared.stop.Stop.TheVariants as memory
+use Rattle.jps_run.proofs.Stopping.{passed, ends-on, no_stops, only_memory, only_write}
 
 -- the first file of a request
 abbrev pub first-file : (holds : List ℕ → Held) (file : File) (rest : List File)
@@ -154,6 +156,49 @@ module _ (call : Call) (before : Seen) where
     where
       output : (text : List ℕ) → Right text → IsOutput call before.holds (text ∷ []) 0
       output text right = record { texts = []; accepted = accepted; answered = is text right }
+
+module _ (call : Call) (before : Seen) where
+  -- a right text was printed whole after the files were read, with its status, or a part of it
+  pub printed-as : (now : Seen) (texts : List (List ℕ)) (text : List ℕ) (status : ℕ) (result : Result ℕ Stop)
+      → AreAccepted before.holds [] (files_of call.request) texts → IsAnswered call texts (text ∷ []) status
+      → status ≤ 1 → SendsAs text status before.out now.out result → HasWorked call before now result
+  printed-as now texts text status result accepted answered small s =
+      ends-on (λ is. (is ≡ status) × Wrote before.out now.out text) _ _ (worked_stops call before now) result
+      (λ is w. (
+        subst (λ n. n ≤ 1) (sym w.0) small,
+        record {
+          lines = text ∷ [];
+          whole = subst (λ n. IsOutput call before.holds (text ∷ []) n) (sym w.0) output;
+          wrote = subst (λ (b : List ℕ). Wrote before.out now.out b) (sym (append-nil text)) w.1;
+        },
+      ))
+      (record {
+        refused = λ line k. absurd k;
+        read = λ k. absurd k;
+        write = λ k. (
+          k.0,
+          record {
+            lines = text ∷ [];
+            status = status;
+            whole = output;
+            wrote = subst (λ (b : List ℕ). AppendsSome before.out.written now.out.written b) (sym (append-nil text))
+                k.1;
+          },
+        );
+        memory = λ k. absurd k;
+      }) s
+    where
+      output : IsOutput call before.holds (text ∷ []) status
+      output = record { texts = texts; accepted = accepted; answered = answered }
+
+  -- memory was refused before anything was printed
+  pub starved : (now : Seen) (result : Result ℕ Stop) (stop : Stop) → stop ≡ memory.Memory
+      → IsErrAnd result (λ s. s ≡ stop) → Wrote before.out now.out [] → HasWorked call before now result
+  starved now result stop is m w =
+      passed (λ status. (status ≤ 1) × IsAll (Whole call before) before.out now.out status)
+      (no_stops (Wrote before.out now.out [])) (worked_stops call before now) result stop m
+      (subst (λ (s : Stop). StopsSo (no_stops (Wrote before.out now.out [])) s) (sym is) w)
+      (only_memory (λ k. inl k))
 
 -- a right text was sent
 pub sent-one : (Right : List ℕ → Type 0) (text : List ℕ) (before now : Stream) (result : Result ℕ Stop)

@@ -6,6 +6,8 @@ use Rattle.scen_text.specs.declared.fault.ScenFault.{ScenFault}
 use Rattle.scen_text.specs.declared.fault.ScenFault.TheVariants as scen
 use Rattle.script_text.specs.declared.fault.ScriptFault.{ScriptFault}
 use Rattle.script_text.specs.declared.fault.ScriptFault.TheVariants as script
+use Rattle.potential_check.specs.declared.fault.CertFault.{CertFault}
+use Rattle.potential_check.specs.declared.fault.CertFault.TheVariants as cert
 
 -- the line of a refused list of words
 abbrev pub word_line : ℕ → List ℕ
@@ -48,3 +50,9 @@ abbrev pub script_line : ScriptFault → List ℕ
 script_line (script.Line number) = fault_line (codes "script") (codes "T1") number
 script_line (script.Long number) = fault_line (codes "script") (codes "T2") number
 script_line script.NoMemory = no_fault
+
+-- the line of a certificate's text that is refused
+abbrev pub cert_line : CertFault → List ℕ
+cert_line (cert.Line number) = fault_line (codes "cert") (codes "P1") number
+cert_line (cert.Order number) = fault_line (codes "cert") (codes "P2") number
+cert_line cert.NoMemory = no_fault

@@ -3,19 +3,24 @@ use Rattle.std.specs.Prelude.{ℕ, ◌^◌, List, codes, Result, Ok, Err, Option
 use Rattle.map_text.specs.Faults.{map_of}
 use Rattle.script_text.specs.Faults.{script_of}
 use Rattle.scen_text.specs.Faults.{scen_of}
-use Rattle.jps_run.specs.FaultLines.{map_line, script_line, scen_line}
+use Rattle.potential_check.specs.Text.{certificate_of}
+use Rattle.jps_run.specs.FaultLines.{cert_line, map_line, script_line, scen_line}
 use Rattle.jps_run.specs.declared.kind.Kind.{Kind}
-use Rattle.jps_run.specs.declared.kind.Kind.TheVariants.{Map, Script, Scen}
+use Rattle.jps_run.specs.declared.kind.Kind.TheVariants.{Map, Script, Scen, Cert}
 
 -- the word of a kind in fault lines
 abbrev pub kind_word : Kind → List ℕ
 kind_word Map = codes "map"
 kind_word Script = codes "script"
 kind_word Scen = codes "scen"
+kind_word Cert = codes "cert"
 
 -- the longest text of a kind, in bytes
 abbrev pub limit_of : Kind → ℕ
-limit_of kind = 2 ^ 26
+limit_of Map = 2 ^ 26
+limit_of Script = 2 ^ 26
+limit_of Scen = 2 ^ 26
+limit_of Cert = 2 ^ 30
 
 -- the line of a text that is read as a fault
 abbrev pub fault_in : {V F : Type 0} → (F → List ℕ) → Result V F → Option (List ℕ)
@@ -27,3 +32,4 @@ abbrev pub refusal_of : Kind → List (List ℕ) → List ℕ → Option (List �
 refusal_of Map earlier text = fault_in map_line (map_of text)
 refusal_of Script earlier text = fault_in script_line (script_of text)
 refusal_of Scen earlier text = fault_in scen_line (scen_of text)
+refusal_of Cert earlier text = fault_in cert_line (certificate_of text)

@@ -10,8 +10,11 @@ use Rattle.scen_text.specs.Faults.{scen_of}
 use Rattle.scen_text.specs.Lengths.{IsKept}
 use Rattle.scen_text.specs.declared.entry.Entry.{Entry}
 use Rattle.edit_replay.specs.Session.{SessionData}
+use Rattle.potential_check.specs.Text.{certificate_of, plain as claimed_by}
+use Rattle.potential_check.specs.declared.certificate.Certificate.{Certificate}
+use Rattle.grid_moves.specs.Layers.{Layers, layers_of}
 use Rattle.word_list.specs.declared.request.Settings.{Settings}
-use Rattle.jps_run.specs.Session.{session_on}
+use Rattle.jps_run.specs.Session.{corner_of, session_on}
 use Rattle.std.specs.Prelude.{None, ⊤, Result}
 use Rattle.io_edge.specs.Causes.{Rose}
 use Rattle.io_edge.specs.Told.{Held}
@@ -70,3 +73,13 @@ SpellsScript text commands = script_of text ≡ Ok commands.items
 -- the text spells these entries, and their lengths can be judged
 abbrev pub SpellsScen : List ℕ → Vec Entry → Type 0
 SpellsScen text entries = (scen_of text ≡ Ok entries.items) × AreKept entries.items
+
+-- the text spells this certificate
+abbrev pub SpellsCert : List ℕ → Certificate → Type 0
+SpellsCert text c = certificate_of text ≡ Ok (claimed_by c)
+
+-- the text spells a map, and these are its layers under the rule of the settings
+pub record SpellsLayers (set : Settings) (text : List ℕ) (ls : Layers) : Type 0 where
+  pub map : Map
+  pub spelled : map_of text ≡ Ok map
+  pub made : ls ≡ layers_of (corner_of set.one) map.width map.height map.cells

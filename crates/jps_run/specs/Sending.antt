@@ -85,3 +85,8 @@ SendsOne Right before now result = Ends
 abbrev pub SendsText : List ℕ → Stream → Stream → Result ℕ Stop → Type 0
 SendsText text before now result = Ends (λ status. (status ≡ 0) × Wrote before now text)
     (write_stops (WroteSome before now text)) result
+
+-- this text was written whole, with this status, or a first part of it
+abbrev pub SendsAs : List ℕ → ℕ → Stream → Stream → Result ℕ Stop → Type 0
+SendsAs text status before now result = Ends (λ is. (is ≡ status) × Wrote before now text)
+    (write_stops (WroteSome before now text)) result

@@ -4,10 +4,12 @@ ghost use Rattle.std.specs.Prelude.{◌≡◌, ◌≢◌, ◌++◌, IfOk, codes,
 ghost use Rattle.map_text.specs.declared.fault.MapFault.TheVariants.{NoMemory as no_map_memory};
 ghost use Rattle.scen_text.specs.declared.fault.ScenFault.TheVariants.{NoMemory as no_scen_memory};
 ghost use Rattle.script_text.specs.declared.fault.ScriptFault.TheVariants.{NoMemory as no_script_memory};
+ghost use Rattle.potential_check.specs.declared.fault.CertFault.TheVariants.{NoMemory as no_cert_memory};
 ghost use Rattle.jps_run.specs.FaultLines as spec;
 
 use crate::NoMemory;
 use map_text::MapFault;
+use potential_check::CertFault;
 use scen_text::ScenFault;
 use script_text::ScriptFault;
 use std::alloc::Global;
@@ -100,5 +102,16 @@ pub(crate) fn script_line(alloc: Global, fault: ScriptFault) -> Result<Vec<u8>, 
         ScriptFault::Line { line } => fault_line(alloc, b"script", b"T1", line),
         ScriptFault::Long { line } => fault_line(alloc, b"script", b"T2", line),
         ScriptFault::NoMemory => Err(NoMemory),
+    }
+}
+
+/// The line of a refused certificate's text.
+pub(crate) fn cert_line(alloc: Global, fault: CertFault) -> Result<Vec<u8>, NoMemory>
+    ensures { IfOk result (λ line. (fault ≢ no_cert_memory) × (line.items ≡ spec.cert_line fault)) }
+{
+    match fault {
+        CertFault::Line { line } => fault_line(alloc, b"cert", b"P1", line),
+        CertFault::Order { line } => fault_line(alloc, b"cert", b"P2", line),
+        CertFault::NoMemory => Err(NoMemory),
     }
 }

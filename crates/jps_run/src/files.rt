@@ -11,13 +11,14 @@ ghost use Rattle.jps_run.specs.Reading.{SpellsSession};
 ghost use Rattle.jps_run.specs.Stops.{Ends};
 ghost use Rattle.jps_run.specs.declared.kind.Kind.TheVariants as kinds;
 
-use crate::faults::{long_line, map_line, scen_line, script_line};
+use crate::faults::{cert_line, long_line, map_line, scen_line, script_line};
 use crate::kind::Kind;
 use crate::stop::Stop;
 use edit_replay::{Engine, Session};
 use grid_moves::Corner;
 use io_edge::{Files, ReadStop, read_whole};
 use map_text::{MapText, read_map};
+use potential_check::{Certificate, read_certificate};
 use scen_text::{Entry, read_scen};
 use script_text::{Command, read_script};
 use std::alloc::Global;
@@ -98,6 +99,26 @@ impl Text for Vec<Entry> {
         match read_scen(alloc, text) {
             Ok(entries) => Ok(entries),
             Err(fault) => Err(Stop::Text(scen_line(alloc, fault)?)),
+        }
+    }
+}
+
+impl Text for Certificate {
+    ghost use Rattle.jps_run.specs.Reading.{SpellsCert};
+    ghost use Rattle.jps_run.specs.declared.kind.Kind.TheVariants.{Cert};
+
+    ghost kind_of_text = { Cert };
+
+    ghost spells = { SpellsCert };
+
+    fn kind() -> Kind {
+        Kind::Cert
+    }
+
+    fn of_text(alloc: Global, text: &[u8]) -> Result<Certificate, Stop> {
+        match read_certificate(alloc, text) {
+            Ok(certificate) => Ok(certificate),
+            Err(fault) => Err(Stop::Text(cert_line(alloc, fault)?)),
         }
     }
 }

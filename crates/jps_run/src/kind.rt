@@ -9,6 +9,7 @@ pub(crate) enum Kind {
     Map,
     Script,
     Scen,
+    Cert,
 }
 
 impl Kind {
@@ -20,6 +21,7 @@ impl Kind {
             Kind::Map => b"map",
             Kind::Script => b"script",
             Kind::Scen => b"scen",
+            Kind::Cert => b"cert",
         }
     }
 
@@ -27,6 +29,9 @@ impl Kind {
     pub(crate) fn limit(self) -> u32
         ensures { result ≡ limit_of self }
     {
-        1 << 26
+        match self {
+            Kind::Map | Kind::Script | Kind::Scen => 1 << 26,
+            Kind::Cert => 1 << 30,
+        }
     }
 }

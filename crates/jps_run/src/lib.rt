@@ -2,13 +2,19 @@
 #![tactic(auto)]
 
 mod answers;
+mod check;
 mod drill;
 mod faults;
 mod files;
 mod job;
 mod kind;
+mod layers;
 mod lines;
+mod live;
+#[cfg(test)]
+mod live_tests;
 mod make;
+mod prove;
 mod query;
 mod row;
 mod scen;

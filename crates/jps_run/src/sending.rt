@@ -2,7 +2,7 @@
 
 ghost use Rattle.std.specs.Prelude.{◌≤◌};
 ghost use Rattle.jps_run.specs.Seen.{stream};
-ghost use Rattle.jps_run.specs.Sending.{Sends, SendsFull, SendsText};
+ghost use Rattle.jps_run.specs.Sending.{Sends, SendsAs, SendsFull, SendsText};
 
 use crate::stop::Stop;
 use io_edge::{Sink, write_whole};
@@ -42,4 +42,13 @@ pub(crate) fn send_text<O: Sink>(out: &mut O, text: &[u8]) -> Result<u8, Stop>
 {
     send(out, text)?;
     Ok(0)
+}
+
+/// Writes a text whole, and gives this status.
+pub(crate) fn send_as<O: Sink>(out: &mut O, text: &[u8], status: u8) -> Result<u8, Stop>
+    ensures { SendsAs text.now status (stream (O.written out.old) (O.faults out.old))
+        (stream (O.written out.new) (O.faults out.new)) result }
+{
+    send(out, text)?;
+    Ok(status)
 }

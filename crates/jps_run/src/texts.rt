@@ -13,8 +13,14 @@ pub(crate) fn help_text() -> &'static [u8]
       a least walk from the cell (SX,SY) to the cell (GX,GY) on the map
   jps solve MAP SCRIPT [engine=ENGINE] [show=points|show=cells|show=trace] [rule=none|rule=one]
       one line for each command of the script: edits of the map, and queries
+  jps live MAP [engine=ENGINE] [show=points|show=cells|show=trace] [rule=none|rule=one]
+      the same for a script on standard input, each command answered as it comes
   jps scen MAP SCEN [engine=ENGINE] [rule=none|rule=one]
       one row for each entry of the scenario, its length judged by the least cost, and their sum
+  jps prove MAP SX SY GX GY [rule=none|rule=one]
+      a certificate that the cost of a least walk is least, or that there is no walk
+  jps check MAP CERT [rule=none|rule=one]
+      whether the certificate proves what it claims on the map; nothing is searched
   jps make SEED W H P
       a map of W by H cells, P percent of them blocked, made from the number SEED
   jps drill SEED [engine=ENGINE] [rule=none|rule=one]
@@ -31,12 +37,13 @@ its cells, show=trace each state that the search took as well: a cell, and how i
 ENGINE is plain, where none is named, or jps, which jumps. Walks cost the same by each.
 With rule=one a diagonal move may pass one blocked cell beside it, with rule=none none.
 
-statuses: 0 done; 1 done, and a row of `scen` is neither agree nor near; 2 the words are refused;
-3 a file is refused; 4 a read failed; 5 a write of the output failed; 6 memory was refused
+statuses: 0 done; 1 done, and a row of `scen` is neither agree nor near, `check` refuses, or `prove`
+has no free ends on one layer; 2 the words are refused; 3 a text is refused; 4 a read failed;
+5 a write of the output failed; 6 memory was refused
 faults, one line on standard error:
   jps: word N            word N is missing, or no call has it there; words are counted from 1
-  jps: FILE CODE line N  line N of the map, script or scen breaks its form
-  jps: FILE long         the file is longer than 67108864 bytes
+  jps: TEXT CODE line N  line N of the map, script, scen or cert breaks its form
+  jps: TEXT long         the text is longer than 67108864 bytes, a cert than 1073741824
   jps: read, jps: write, jps: memory
 "
 }

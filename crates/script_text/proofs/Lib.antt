@@ -1,2 +1,5 @@
 pub mod Commands
 pub mod Laws
+pub mod Cuts
+pub mod Feeding
+pub mod Joining

@@ -22,10 +22,28 @@ pub enum Request<'a> {
         map: &'a str,
         script: &'a str,
     },
+    /// What each command of a script that comes in does on the map.
+    Live {
+        map: &'a str,
+    },
     /// How the listed lengths of the scenario agree with the least ones on the map.
     Scen {
         map: &'a str,
         scen: &'a str,
+    },
+    /// A certificate of the least cost of the walks on the map between two cells, or that there is
+    /// none.
+    Prove {
+        map: &'a str,
+        sx: u32,
+        sy: u32,
+        gx: u32,
+        gy: u32,
+    },
+    /// Whether the certificate proves what it claims on the map.
+    Check {
+        map: &'a str,
+        cert: &'a str,
     },
     /// The map of a seed with these sides, 1 to 4096, of whose cells so many percent are blocked.
     Make {

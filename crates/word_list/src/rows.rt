@@ -17,7 +17,10 @@ pub enum Command {
     Version,
     Query,
     Solve,
+    Live,
     Scen,
+    Prove,
+    Check,
     Make,
     Drill,
 }
@@ -107,7 +110,14 @@ pub fn row_named(name: &str) -> Option<Row>
             &[Engine, Show, Rule],
         ),
         "solve" => (Command::Solve, &[File, File], &[Engine, Show, Rule]),
+        "live" => (Command::Live, &[File], &[Engine, Show, Rule]),
         "scen" => (Command::Scen, &[File, File], &[Engine, Rule]),
+        "prove" => (
+            Command::Prove,
+            &[File, Number, Number, Number, Number],
+            &[Rule],
+        ),
+        "check" => (Command::Check, &[File, File], &[Rule]),
         "make" => (Command::Make, &[Seed, Side, Side, Percent], &[]),
         "drill" => (Command::Drill, &[Seed], &[Engine, Rule]),
         _ => return None,
@@ -138,9 +148,23 @@ pub fn request<'a>(command: Command, words: &'a [String]) -> Request<'a>
             map: name_at(words, 0),
             script: name_at(words, 1),
         },
+        Command::Live => Request::Live {
+            map: name_at(words, 0),
+        },
         Command::Scen => Request::Scen {
             map: name_at(words, 0),
             scen: name_at(words, 1),
+        },
+        Command::Prove => Request::Prove {
+            map: name_at(words, 0),
+            sx: number_at(words, 1),
+            sy: number_at(words, 2),
+            gx: number_at(words, 3),
+            gy: number_at(words, 4),
+        },
+        Command::Check => Request::Check {
+            map: name_at(words, 0),
+            cert: name_at(words, 1),
         },
         Command::Make => Request::Make {
             seed: seed_at(words, 0),

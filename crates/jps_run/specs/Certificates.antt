@@ -1,0 +1,53 @@
+-- What `prove` and `check` print.
+use Rattle.std.specs.Prelude.{◌≡◌, ℕ, true, false, ◌&&◌, List, ◌++◌, codes, decimal}
+use Rattle.grid_moves.specs.declared.Cell.{Cell}
+use Rattle.grid_moves.specs.Grid.{GridData}
+use Rattle.grid_moves.specs.Layers.{Layers, in_one_layer, is_on_map, query_grid}
+use Rattle.grid_moves.specs.Reply.{are_free_ends}
+use Rattle.potential_check.specs.Accepted.{Holds, IsAccepted, Refuses, claimed}
+use Rattle.potential_check.specs.declared.certificate.Certificate.{Certificate}
+use Rattle.potential_check.specs.declared.verdict.Proof.{Proof}
+use Rattle.potential_check.specs.declared.verdict.Proof.TheVariants as proof
+use Rattle.potential_check.specs.declared.verdict.Reject.{Reject}
+use Rattle.potential_check.specs.declared.verdict.Reject.TheVariants as reject
+use Rattle.potential_make.specs.Certified.{IsCertificate}
+
+-- what is printed for a query from s to t, and the status: the certificate on the grid of the query, or why there
+-- is none
+pub data IsProof (ls : Layers) (s t : Cell) : List ℕ → ℕ → Type 0 where
+  outside : (is_on_map ls s && is_on_map ls t) ≡ false → IsProof ls s t (codes "outside\n") 1
+  blocked : (is_on_map ls s && is_on_map ls t) ≡ true → are_free_ends ls s t ≡ false
+      → IsProof ls s t (codes "blocked\n") 1
+  apart : are_free_ends ls s t ≡ true → in_one_layer ls s t ≡ false → IsProof ls s t (codes "apart\n") 1
+  certified : (text : List ℕ) → in_one_layer ls s t ≡ true → IsCertificate (query_grid ls s) s t text
+      → IsProof ls s t text 0
+
+-- `X,Y`
+abbrev pub cell_text : Cell → List ℕ
+cell_text c = decimal c.x ++ codes "," ++ decimal c.y
+
+-- the line of what an accepted certificate proves
+abbrev pub proof_line : Proof → List ℕ
+proof_line (proof.Least cost) =
+    codes "accepted least " ++ decimal cost.a ++ codes " " ++ decimal cost.b ++ codes "\n"
+proof_line proof.NoWalk = codes "accepted none\n"
+
+-- two cells, parted by a space
+abbrev pub move_text : Cell → Cell → List ℕ
+move_text u v = cell_text u ++ codes " " ++ cell_text v
+
+-- the line of the first clause that a certificate fails
+abbrev pub reject_line : Reject → List ℕ
+reject_line reject.Size = codes "refused size\n"
+reject_line reject.Ends = codes "refused ends\n"
+reject_line (reject.Walk i) = codes "refused walk " ++ decimal i ++ codes "\n"
+reject_line reject.Start = codes "refused start\n"
+reject_line reject.Goal = codes "refused goal\n"
+reject_line (reject.Move u v) = codes "refused move " ++ move_text u v ++ codes "\n"
+reject_line (reject.Open u v) = codes "refused open " ++ move_text u v ++ codes "\n"
+
+-- the line of a certificate on a grid, and the status; what an accepted one claims holds of all walks
+pub data IsVerdict (g : GridData) (c : Certificate) : List ℕ → ℕ → Type 0 where
+  accepted : IsAccepted g c → Holds g c.start c.goal (claimed c.claim)
+      → IsVerdict g c (proof_line (claimed c.claim)) 0
+  refused : (why : Reject) → Refuses g c why → IsVerdict g c (reject_line why) 1
