@@ -54,3 +54,22 @@ fn no_walk_leads_past_two_corners(rt: HostRuntime) -> Result<(), Fail> {
     assert!(rt; is_answer(rt.alloc(), &grid, cell(0, 0), cell(1, 1), None, &[8])?);
     Ok(())
 }
+
+// On `.../...` the cells (1,0) and (1,1) offer the goal at one cost. The first of them was taken first.
+#[test]
+fn the_earlier_of_equal_offers_stands(rt: HostRuntime) -> Result<(), Fail> {
+    let grid = Grid::of_cells(rt.alloc(), 3, 2, b"......", Corner::Never)?;
+    let points = [cell(0, 0), cell(1, 0), cell(2, 1)];
+    let walk = Some((points.as_slice(), Cost { a: 1, b: 1 }));
+    assert!(rt;
+        is_answer(
+            rt.alloc(),
+            &grid,
+            cell(0, 0),
+            cell(2, 1),
+            walk,
+            &[8, 17, 44, 53]
+        )?
+    );
+    Ok(())
+}
