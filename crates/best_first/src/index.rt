@@ -121,16 +121,18 @@ impl Index {
         })
     }
 
-    /// The entry for a state, told its cell's number: 0, or the number of its node and one.
+    /// The entry for a state, told its cell's number: 0, or the number of its node and one. The layout
+    /// is told too: where it is a constant, there is no look at it.
     #[inline(always)]
-    pub(crate) fn entry(&self, cell: usize, state: State) -> u32
+    pub(crate) fn entry(&self, layout: Layout, cell: usize, state: State) -> u32
+        requires told { layout ≡ self.now.layout }
         requires heads { AreHeads self.now.layout self.now.heads.items self.now.records.items }
         requires within { cell < length self.now.heads.items }
         ensures { result ≡ entry_in self.now.layout self.now.heads.items self.now.records.items cell
             (arrival_number (state_in self.now.layout state).arrival) }
     {
         let head = self.heads[cell];
-        match self.layout {
+        match layout {
             Layout::ByCell => head,
             Layout::ByArrival => {
                 entry_of_record(

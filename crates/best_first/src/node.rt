@@ -1,7 +1,8 @@
 //! Nodes of the search, their order, and offers.
 //!
 //! The key is one whole number that orders the sums of cost and estimate by their values. Among
-//! equal sums the state of the lesser number goes first, which is that of the lesser place.
+//! equal sums the state of the lesser number goes first, which is that of the lesser place. Two nodes
+//! are compared with no branch, since which of them goes first is seldom foreseen by the processor.
 
 ghost use Rattle.std.specs.Prelude.{◌≡◌, ◌≤◌, ◌<◌, ◌^◌};
 ghost use Rattle.best_first.specs.Trace.{node_cell, rank_left};
@@ -51,7 +52,7 @@ impl Ranked for Node {
     ghost before = { λ m n. ranks_before m n };
 
     fn before(&self, other: &Node) -> bool {
-        self.key < other.key || self.key == other.key && self.place.bits < other.place.bits
+        (self.key < other.key) | ((self.key == other.key) & (self.place.bits < other.place.bits))
     }
 
     ghost order = { ranks_order };

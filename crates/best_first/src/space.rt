@@ -13,7 +13,7 @@ ghost use Rattle.root2_cost.specs.Rank.{rank_of};
 use crate::index::Index;
 use crate::node::estimate_rank;
 use crate::{Layout, NoMemory, Node, Offer, Place, State};
-use grid_moves::{Cell, number_of};
+use grid_moves::{Cell, Dir, number_of};
 use open_list::Pool;
 use std::alloc::Global;
 use std::marker::Model;
@@ -205,18 +205,19 @@ impl Space {
 
     // 0 where a state has no node, or the number of its node and one.
     #[inline(always)]
-    fn find(&self, state: State) -> u32
+    fn find(&self, layout: Layout, state: State) -> u32
+        requires told { layout ≡ self.now.layout }
         requires narrow { self.now.width ≤ 4096 }
         requires placed { IsPlaced self.now.width self.now.places state.cell }
         ensures { result ≡ entry_for (lookup self.now.layout self.now.table.nodes
             (state_in self.now.layout state)) }
     {
         self.index
-            .entry(number_of(self.width, state.cell) as usize, state)
+            .entry(layout, number_of(self.width, state.cell) as usize, state)
     }
 
     // Adds a node for a state that has none.
-    #[inline(never)]
+    #[inline(always)]
     fn add<L: Ledger>(&mut self, state: State, node: Node, steps: &mut Steps<L>)
         requires narrow { self.old.width ≤ 4096 }
         requires placed { IsPlaced self.old.width self.old.places state.cell }
@@ -232,8 +233,37 @@ impl Space {
             .put(number_of(self.width, state.cell) as usize, state, id + 1);
     }
 
-    // Puts a node of a lesser key in the place of an open one of the same state.
+    // The same, told the parts of the node: a node would be handed over in memory, these are in registers.
     #[inline(never)]
+    fn add_parts<L: Ledger>(
+        &mut self,
+        cell: Cell,
+        arrival: Option<Dir>,
+        key: u64,
+        parent: u32,
+        steps: &mut Steps<L>,
+    )
+        requires narrow { self.old.width ≤ 4096 }
+        requires placed { IsPlaced self.old.width self.old.places cell }
+        requires new { lookup self.old.layout self.old.table.nodes
+            (state_in self.old.layout (record { cell = cell; arrival = arrival })) ≡ None }
+        requires room { 1 ≤ self.old.spare }
+        ensures table { self.new.table ≡ added (record {
+          key = key;
+          parent = parent;
+          place = place_of (record { cell = cell; arrival = arrival });
+        }) self.old.table }
+        ensures shape { KeepsShape self.old self.new }
+        ensures spare { self.old.spare ≤ self.new.spare + 1 }
+    {
+        let state = State { cell, arrival };
+        let place = Place::of(state);
+        let node = Node { key, parent, place };
+        self.add(state, node, steps);
+    }
+
+    // Puts a node of a lesser key in the place of an open one of the same state.
+    #[inline(always)]
     fn lower<L: Ledger>(&mut self, id: u32, node: Node, steps: &mut Steps<L>)
         requires is_open { slice_get self.old.table.open_at id ≡ Some true }
         requires less { is_bettered self.old.table.nodes id node.key ≡ true }
@@ -244,6 +274,58 @@ impl Space {
         ensures spare { self.new.spare ≡ self.old.spare }
     {
         self.pool.lower(id, node, steps);
+    }
+
+    // The same, told the parts of the node.
+    #[inline(never)]
+    fn lower_parts<L: Ledger>(
+        &mut self,
+        id: u32,
+        key: u64,
+        parent: u32,
+        place: Place,
+        steps: &mut Steps<L>,
+    )
+        requires is_open { slice_get self.old.table.open_at id ≡ Some true }
+        requires less { is_bettered self.old.table.nodes id key ≡ true }
+        requires same { (old : _) → slice_get self.old.table.nodes id ≡ Some old
+            → state_of self.old.layout old
+            ≡ state_of self.old.layout (record { key = key; parent = parent; place = place }) }
+        ensures table { self.new.table
+            ≡ replaced id (record { key = key; parent = parent; place = place }) self.old.table }
+        ensures shape { KeepsShape self.old self.new }
+        ensures spare { self.new.spare ≡ self.old.spare }
+    {
+        self.lower(id, Node { key, parent, place }, steps);
+    }
+
+    // Offers a way on from a taken state, told the layout.
+    #[inline(always)]
+    fn offer_in<L: Ledger>(
+        &mut self,
+        layout: Layout,
+        goal: Cell,
+        offer: Offer,
+        steps: &mut Steps<L>,
+    )
+        requires told { layout ≡ self.old.layout }
+        requires narrow { self.old.width ≤ 4096 }
+        requires placed { IsPlaced self.old.width self.old.places offer.to.cell }
+        requires fits { offer.rank < 2 ^ 63 }
+        requires closed { ClosedBelow (node_for goal offer).key self.old.table }
+        requires room { 1 ≤ self.old.spare }
+        ensures table { self.new.table ≡ offered self.old.layout goal offer self.old.table }
+        ensures shape { KeepsShape self.old self.new }
+        ensures spare { self.old.spare ≤ self.new.spare + 1 }
+    {
+        let node = node_for(goal, offer);
+        let entry = self.find(layout, offer.to);
+        if entry == 0 {
+            let State { cell, arrival } = offer.to;
+            self.add_parts(cell, arrival, node.key, node.parent, steps);
+        } else if node.key < self.pool.node(entry - 1).key {
+            self.lower_parts(entry - 1, node.key, node.parent, node.place, steps);
+        }
     }
 
     /// Offers a way on from a taken state: its node is added where the state has none, and takes the
@@ -262,13 +344,23 @@ impl Space {
         ensures shape { KeepsShape self.old self.new }
         ensures spare { self.old.spare ≤ self.new.spare + 1 }
     {
-        let node = node_for(goal, offer);
-        let entry = self.find(offer.to);
-        if entry == 0 {
-            self.add(offer.to, node, steps);
-        } else if node.key < self.pool.node(entry - 1).key {
-            self.lower(entry - 1, node, steps);
-        }
+        self.offer_in(self.index.layout, goal, offer, steps);
+    }
+
+    /// The same where each cell has one state, with no look at the layout.
+    #[inline(always)]
+    pub fn offer_by_cell<L: Ledger>(&mut self, goal: Cell, offer: Offer, steps: &mut Steps<L>)
+        requires layout { self.old.layout ≡ Layout.ByCell }
+        requires narrow { self.old.width ≤ 4096 }
+        requires placed { IsPlaced self.old.width self.old.places offer.to.cell }
+        requires fits { offer.rank < 2 ^ 63 }
+        requires closed { ClosedBelow (node_for goal offer).key self.old.table }
+        requires room { 1 ≤ self.old.spare }
+        ensures table { self.new.table ≡ offered self.old.layout goal offer self.old.table }
+        ensures shape { KeepsShape self.old self.new }
+        ensures spare { self.old.spare ≤ self.new.spare + 1 }
+    {
+        self.offer_in(Layout::ByCell, goal, offer, steps);
     }
 
     /// Takes the open node that ranks first, and gives its number, or `None` where none is open.

@@ -1,11 +1,11 @@
 -- The layers of a session, and what is right on them.
-use Rattle.std.proofs.Common.{◌≡◌, ℕ, List, Bool, true, false, ◌&&◌, sym, ap, ◌∙◌, subst}
+use Rattle.std.proofs.Common.{◌≡◌, ℕ, List, true, sym, subst}
 use Rattle.std.specs.Prelude.{IfOk, Ok, Err}
 use Rattle.std.specs.declared.result.Result.{Result}
 use Rattle.grid_moves.specs.declared.Cell.{Cell}
 use Rattle.grid_moves.specs.declared.Corner.{Corner}
 use Rattle.grid_moves.specs.declared.Ground.TheVariants.{Land, Water}
-use Rattle.grid_moves.specs.Grid.{AreCells, GridData, is_free, layer_of}
+use Rattle.grid_moves.specs.Grid.{AreCells, GridData, layer_of}
 use Rattle.grid_moves.specs.Layers.{AreLayers, Layers, query_grid}
 use Rattle.grid_moves.proofs.Layering.{are_layers-of}
 use Rattle.grid_moves.specs.Reply.{IsRight, are_free_ends}

@@ -2,3 +2,4 @@ pub mod Simple
 pub mod Edits
 pub mod Answering
 pub mod Replying
+pub mod Counts

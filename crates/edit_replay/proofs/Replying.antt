@@ -1,66 +1,86 @@
--- Each query has a reply that is right and the engine's run.
-use Rattle.std.proofs.Common.{◌≡◌, Bool, true, false, inl, inr, refl, ◌&&◌, []}
+-- Each query has a reply that is right and the run of the session's engine.
+use Rattle.std.proofs.Common.{◌≡◌, ℕ, Bool, true, false, inr, inl, refl, ◌&&◌, List, []}
+use Rattle.std.specs.Prelude.{Option, MatchOption}
+use Rattle.std.specs.Prelude as option
+use Rattle.root2_cost.specs.declared.Cost.{Cost}
 use Rattle.grid_moves.specs.declared.Cell.{Cell}
 use Rattle.grid_moves.specs.Grid.{is_free}
 use Rattle.grid_moves.specs.Layers.{Layers, in_one_layer, is_on_map, query_grid}
-use Rattle.grid_moves.specs.Reply.{IsRight, are_free_ends}
-use Rattle.plain_search.specs.Answer.{IsPlainRun, IsLeast}
-use Rattle.plain_search.specs.Existence.{HasAnswer}
+use Rattle.grid_moves.specs.Reply.{IsRight, StandsForLeast, are_free_ends}
+use Rattle.grid_moves.specs.Walk.{NoWalk}
+use Rattle.plain_search.specs.Answer.{IsPlainRun}
+use Rattle.plain_search.specs.Answer as plain
 use Rattle.plain_search.specs.declared.search.Plain.{Plain}
 use Rattle.plain_search.specs.declared.search.Plain.TheVariants as found
-use Rattle.plain_search.proofs.Answering.{has_answer}
+use Rattle.plain_search.proofs.Answering as plainly
+use Rattle.search_core.specs.Run as jump
+use Rattle.search_core.proofs.Answering as jumping
 use Rattle.edit_replay.specs.Replies.{answer_of, IsRunOn}
 use Rattle.edit_replay.specs.Session.{SessionData}
 use Rattle.edit_replay.specs.Existence.{HasReply}
 use Rattle.edit_replay.specs.declared.reply.Reply.{Reply}
 use Rattle.edit_replay.specs.declared.reply.Reply.TheVariants.{Walk, None, Outside, Blocked}
-use Rattle.edit_replay.specs.declared.session.Engine.{Engine}
-use Rattle.edit_replay.specs.declared.session.Engine.TheVariants as engine
-
--- a reply that is right and the plain engine's run
-record HasPlainReply (ls : Layers) (s t : Cell) : Type 0 where
-  reply : Reply
-  right : IsRight ls s t (answer_of reply)
-  run : IsRunOn engine.Plain (query_grid ls s) s t reply
+use Rattle.edit_replay.specs.declared.engine.Engine.{Engine}
+use Rattle.edit_replay.specs.declared.engine.Engine.TheVariants as engine
 
 and_first : (a b : Bool) → (a && b) ≡ true → a ≡ true
 and_first true b e = refl
 and_first false b e = absurd (cc)
 
 module _ (ls : Layers) (s t : Cell) where
-  -- both ends free in one layer: the search's answer
-  searched : are_free_ends ls s t ≡ true → in_one_layer ls s t ≡ true → (p : Plain)
-      → IsPlainRun (query_grid ls s) s t p → IsLeast (query_grid ls s) s t p → HasPlainReply ls s t
-  searched free one (found.Found points cost taken) run least =
+  -- a reply that is right and the run of this engine
+  record HasReplyBy (e : Engine) : Type 0 where
+    reply : Reply
+    right : IsRight ls s t (answer_of reply)
+    run : IsRunOn e (query_grid ls s) s t reply
+
+  -- both ends free in one layer: the plain search's answer
+  by_plain : are_free_ends ls s t ≡ true → in_one_layer ls s t ≡ true → (p : Plain)
+      → IsPlainRun (query_grid ls s) s t p → plain.IsLeast (query_grid ls s) s t p
+      → HasReplyBy engine.Plain
+  by_plain free one (found.Found points cost taken) run least =
       record { reply = Walk points cost taken; right = (one, least); run = run }
-  searched free one (found.None taken) run least =
+  by_plain free one (found.None taken) run least =
       record { reply = None taken; right = (free, inr least); run = rw one run }
 
-  -- by the layers of two free ends
-  by_layer : are_free_ends ls s t ≡ true → (b : Bool) → in_one_layer ls s t ≡ b → HasPlainReply ls s t
-  by_layer free true one =
-      let a : HasAnswer (query_grid ls s) s t = has_answer (query_grid ls s) s t
-      (and_first (is_free (query_grid ls s) s) (is_free (query_grid ls s) t) one) in
-      searched free one a.answer a.run a.least
-  by_layer free false two = record { reply = None []; right = (free, inl two); run = rw two refl }
+  -- and that of a search over jumps
+  by_jumps : are_free_ends ls s t ≡ true → in_one_layer ls s t ≡ true → (answer : Option (List Cell × Cost))
+      → (taken : List ℕ)
+      → MatchOption answer (jump.IsExhausted (query_grid ls s) s t taken)
+      (λ told. jump.IsFound (query_grid ls s) s t told.0 told.1 taken)
+      → MatchOption answer (NoWalk (query_grid ls s) s t)
+      (λ told. StandsForLeast (query_grid ls s) s t told.0 told.1)
+      → HasReplyBy engine.Jps
+  by_jumps free one (option.Some told) taken run least =
+      record { reply = Walk told.0 told.1 taken; right = (one, least); run = run }
+  by_jumps free one option.None taken run least =
+      record { reply = None taken; right = (free, inr least); run = rw one run }
 
-  by_ground : (is_on_map ls s && is_on_map ls t) ≡ true → (b : Bool) → are_free_ends ls s t ≡ b
-      → HasPlainReply ls s t
-  by_ground on true free = by_layer free (in_one_layer ls s t) refl
-  by_ground on false free = record { reply = Blocked; right = (on, free); run = tt }
+  searched : (e : Engine) → are_free_ends ls s t ≡ true → in_one_layer ls s t ≡ true
+      → is_free (query_grid ls s) s ≡ true → HasReplyBy e
+  searched engine.Plain free one from =
+      let a = plainly.has_answer (query_grid ls s) s t from in by_plain free one a.answer a.run a.least
+  searched engine.Jps free one from =
+      let a = jumping.has_answer (query_grid ls s) s t from in
+      by_jumps free one a.answer.answer a.answer.taken a.run a.least
 
-  by_map : (b : Bool) → (is_on_map ls s && is_on_map ls t) ≡ b → HasPlainReply ls s t
-  by_map true on = by_ground on (are_free_ends ls s t) refl
-  by_map false off = record { reply = Outside; right = off; run = tt }
+  module _ (e : Engine) where
+    -- by the layers of two free ends
+    by_layer : are_free_ends ls s t ≡ true → (b : Bool) → in_one_layer ls s t ≡ b → HasReplyBy e
+    by_layer free true one = searched e free one
+        (and_first (is_free (query_grid ls s) s) (is_free (query_grid ls s) t) one)
+    by_layer free false two = record { reply = None []; right = (free, inl two); run = rw two refl }
 
-  plain_reply : HasPlainReply ls s t
-  plain_reply = by_map (is_on_map ls s && is_on_map ls t) refl
+    by_ends : (is_on_map ls s && is_on_map ls t) ≡ true → (b : Bool) → are_free_ends ls s t ≡ b
+        → HasReplyBy e
+    by_ends on true free = by_layer free (in_one_layer ls s t) refl
+    by_ends on false free = record { reply = Blocked; right = (on, free); run = tt }
 
-  -- each engine's run
-  of_engine : (e : Engine) (p : HasPlainReply ls s t) → IsRunOn e (query_grid ls s) s t p.reply
-  of_engine engine.Plain p = p.run
+    by_map : (b : Bool) → (is_on_map ls s && is_on_map ls t) ≡ b → HasReplyBy e
+    by_map true on = by_ends on (are_free_ends ls s t) refl
+    by_map false off = record { reply = Outside; right = off; run = tt }
 
 pub has_reply : (d : SessionData) (s t : Cell) → HasReply d s t
 has_reply d s t =
-    let p : HasPlainReply d.layers s t = plain_reply d.layers s t in
-    record { reply = p.reply; right = p.right; run = of_engine d.layers s t d.engine p }
+    let p = by_map d.layers s t d.engine (is_on_map d.layers s && is_on_map d.layers t) refl in
+    record { reply = p.reply; right = p.right; run = p.run }

@@ -1,4 +1,6 @@
 pub mod Edited
 pub mod Session
+pub mod Memory
+pub mod Counting
 pub mod Replies
 pub mod Existence

@@ -1,5 +1,5 @@
 -- What a session stands for, and what its replies do.
-use Rattle.std.specs.Prelude.{◌≡◌, ℕ, ◌+◌, ◌^◌, ◌<◌, Bool, true, false, ◌&&◌, ◌⊎◌, ⊤, MatchBool, List, [], ◌∷◌, ◌++◌}
+use Rattle.std.specs.Prelude.{◌≡◌, ℕ, ◌+◌, ◌^◌, ◌<◌, true, false, ◌&&◌, ◌⊎◌, ⊤, MatchBool, List, [], ◌∷◌, ◌++◌}
 use Rattle.root2_cost.specs.declared.Cost.{Cost}
 use Rattle.grid_moves.specs.declared.Cell.{Cell}
 use Rattle.grid_moves.specs.declared.Ground.{Ground}
@@ -7,11 +7,12 @@ use Rattle.grid_moves.specs.Grid.{GridData, is_free, is_ground, is_inside}
 use Rattle.grid_moves.specs.Layers.{Layers, ground_at, is_on_map, layers_with, query_grid}
 use Rattle.grid_moves.specs.Reply.{Answer, outside, blocked, none, walk, StandsForLeast}
 use Rattle.grid_moves.specs.Walk.{NoWalk}
-use Rattle.plain_search.specs.Found.{IsFound, IsExhausted}
+use Rattle.plain_search.specs.Found as plain
+use Rattle.search_core.specs.Run as jump
 use Rattle.edit_replay.specs.Edited.{Edit, edited}
 use Rattle.edit_replay.specs.Session.{SessionData}
-use Rattle.edit_replay.specs.declared.session.Engine.{Engine}
-use Rattle.edit_replay.specs.declared.session.Engine.TheVariants.{Plain}
+use Rattle.edit_replay.specs.declared.engine.Engine.{Engine}
+use Rattle.edit_replay.specs.declared.engine.Engine.TheVariants.{Plain, Jps}
 use Rattle.edit_replay.specs.declared.reply.EditReply.{EditReply}
 use Rattle.edit_replay.specs.declared.reply.EditReply.TheVariants as replied
 use Rattle.edit_replay.specs.declared.reply.Reply.{Reply}
@@ -31,13 +32,22 @@ IsShort blocked = ⊤
 IsShort none = ⊤
 IsShort (walk points cost) = cost.a + cost.b < 2 ^ 24
 
--- an engine's run on one grid found this walk
+-- an engine's run on one grid found this walk: the plain engine's run, or that of all engines that jump
 abbrev pub Finds : Engine → GridData → Cell → Cell → List Cell → Cost → List ℕ → Type 0
-Finds Plain g s t points cost taken = IsFound g s t points cost taken
+Finds Plain g s t points cost taken = plain.IsFound g s t points cost taken
+Finds Jps g s t points cost taken = jump.IsFound g s t points cost taken
 
 -- an engine's run on one grid ended without a walk
 abbrev pub Exhausts : Engine → GridData → Cell → Cell → List ℕ → Type 0
-Exhausts Plain g s t taken = IsExhausted g s t taken
+Exhausts Plain g s t taken = plain.IsExhausted g s t taken
+Exhausts Jps g s t taken = jump.IsExhausted g s t taken
+
+-- points, cost and taken states are those of the run of all engines that jump, between free cells of this grid
+abbrev pub IsJumpReply : GridData → Cell → Cell → Reply → Type 0
+IsJumpReply g s t (Walk points cost taken) = jump.IsFound g s t points cost taken
+IsJumpReply g s t (None taken) = jump.IsExhausted g s t taken
+IsJumpReply g s t Outside = ⊥
+IsJumpReply g s t Blocked = ⊥
 
 -- points, cost and taken states are those of the engine's run on this grid; where an end is not free on it
 -- nothing is searched, and no state is taken

@@ -4,13 +4,17 @@
 //! proportion to what it touches and not to the map.
 #![tactic(auto)]
 
+mod engine;
 pub mod laws;
+mod layer;
+mod memory;
 mod reply;
 mod session;
 #[cfg(test)]
 mod tests;
 
+pub use engine::Engine;
 pub use plain_search::Taken;
 pub use reply::{EditReply, Reply};
-pub use session::{Engine, Session};
+pub use session::Session;
 pub use std::alloc::AllocError as NoMemory;

@@ -1,51 +1,45 @@
 //! The session.
 
-ghost use Rattle.std.specs.Prelude.{◌≡◌, ◌<◌, IfOk, IfSome, MatchOption, true, false};
-ghost use Rattle.grid_moves.specs.Grid.{IsGrid, is_free, is_inside};
+ghost use Rattle.std.specs.Prelude.{◌≡◌, ◌<◌, IfOk, MatchOption, true, false};
+ghost use Rattle.grid_moves.specs.Grid.{IsGrid, is_inside};
 ghost use Rattle.grid_moves.specs.Layers as spec;
 ghost use Rattle.grid_moves.specs.Reply.{IsRight};
-ghost use Rattle.plain_search.specs.Room.{HasRoom};
+ghost use Rattle.edit_replay.specs.Counting.{RoseByStates, RoseWithin, fewest_of, most_of};
 ghost use Rattle.edit_replay.specs.Edited.{edit_at, edit_reply};
-ghost use Rattle.edit_replay.specs.Replies.{answer_of, AddsEdit, EditsSo, IsEnd, IsRightOn, IsRunOn, IsRunReply, IsShort};
+ghost use Rattle.edit_replay.specs.Replies.{answer_of, AddsEdit, EditsSo, IsEnd, IsRunReply, IsShort};
 
-use crate::{EditReply, NoMemory, Reply};
+use crate::layer::Layer;
+use crate::memory::Memory;
+use crate::{EditReply, Engine, NoMemory, Reply};
 use grid_moves::{Cell, Corner, Grid, Ground, Terrain};
 use map_text::MapText;
-use plain_search::{Plain, Taken, Workspace, least_in};
 use std::alloc::Global;
 use std::marker::Model;
 use std::sync::ledger::Ledger;
 use steps::Steps;
 
-/// How a session searches.
-#[derive(Clone, Copy, Debug, PartialEq, Eq)]
-pub enum Engine {
-    /// Plain A*, one state for each cell.
-    Plain,
-}
-
 /// A map's current layers, land and water, and the memory of the searches on both.
 #[derive(Drop)]
 pub struct Session {
-    engine: Engine,
-    land: Grid,
-    water: Grid,
-    space: Workspace,
+    land: Layer,
+    water: Layer,
+    memory: Memory,
 }
 
 impl Model for Session {
     ghost use Rattle.grid_moves.specs.Layers.{AreLayers};
-    ghost use Rattle.plain_search.specs.Room.{HasRoom};
+    ghost use Rattle.edit_replay.specs.Memory.{Fits, engine_with};
     ghost use Rattle.edit_replay.specs.Session.{SessionData};
 
     ghost Value = { SessionData };
 
     ghost view = { λ s. record {
-      engine = s.engine;
-      layers = record { land = s.land; water = s.water };
+      engine = engine_with s.memory;
+      layers = record { land = s.land.grid; water = s.water.grid };
     } };
 
-    ghost invariant = { λ s. AreLayers (record { land = s.land; water = s.water }) × HasRoom s.land s.space };
+    ghost invariant = { λ s.
+        AreLayers (record { land = s.land.grid; water = s.water.grid }) × Fits s.land.grid s.memory };
 }
 
 // The cell of a queried column and row, where it lies inside.
@@ -84,43 +78,6 @@ fn is_free_ground(land: &Grid, water: &Grid, c: Cell) -> bool
     land.free(c) || water.free(c)
 }
 
-// The reply to a query that starts in a free cell of a grid, by the engine's run on it. Where it
-// ends in no free cell of this grid, nothing is searched.
-fn search(
-    alloc: Global,
-    grid: &Grid,
-    from: Cell,
-    to: Cell,
-    engine: Engine,
-    space: &mut Workspace,
-) -> Result<Reply, NoMemory>
-    requires from { is_free grid.now from ≡ true }
-    requires room { HasRoom grid.now space.old }
-    ensures right { IfOk result (IsRightOn grid.now from to) }
-    ensures run { IfOk result (IsRunOn engine grid.now from to) }
-    ensures room { HasRoom grid.now space.new }
-{
-    if !grid.free(to) {
-        return Ok(Reply::None {
-            taken: Taken::new(alloc),
-        });
-    }
-    match engine {
-        Engine::Plain => match least_in(alloc, grid, from, to, space)? {
-            Plain::Found {
-                points,
-                cost,
-                taken,
-            } => Ok(Reply::Walk {
-                points,
-                cost,
-                taken,
-            }),
-            Plain::None { taken } => Ok(Reply::None { taken }),
-        },
-    }
-}
-
 impl Session {
     /// A session on a map's layers, which get this corner rule.
     pub fn new(
@@ -138,12 +95,11 @@ impl Session {
         let cells = map.cells.as_slice();
         let land = Grid::of_layer(alloc, width, height, cells, corner, Ground::Land)?;
         let water = Grid::of_layer(alloc, width, height, cells, corner, Ground::Water)?;
-        let space = Workspace::of_grid(alloc, &land)?;
+        let memory = Memory::new(alloc, engine, &land)?;
         Ok(Session {
-            engine,
-            land,
-            water,
-            space,
+            land: Layer { grid: land },
+            water: Layer { grid: water },
+            memory,
         })
     }
 
@@ -152,14 +108,14 @@ impl Session {
         ensures width { result ≡ self.now.layers.land.width }
         ensures some { 0 < result }
     {
-        self.land.width()
+        self.land.grid.width()
     }
 
     /// The map's height, in cells.
     pub fn height(&self) -> u16
         ensures { result ≡ self.now.layers.land.height }
     {
-        self.land.height()
+        self.land.grid.height()
     }
 
     /// Makes a cell blocked, land or water.
@@ -169,7 +125,7 @@ impl Session {
     /// the session stands for the map after all edits in turn, where the last edit of a cell
     /// decides. No memory is taken.
     ///
-    /// The plain engine keeps nothing that an edit has to mend, and counts no steps.
+    /// The engines `plain` and `jps` keep nothing that an edit has to mend, and count no steps.
     pub fn edit<L: Ledger>(&mut self, x: u32, y: u32, to: Ground, steps: &mut Steps<L>) -> EditReply
         ensures reply { result ≡ edit_reply self.old.layers (edit_at x y to) }
         ensures edited { AddsEdit self.old.layers (edit_at x y to) self.new.layers }
@@ -177,10 +133,10 @@ impl Session {
         ensures engine { self.new.engine ≡ self.old.engine }
         ensures uncounted { steps.new ≡ steps.old }
     {
-        let Some(c) = cell_at(&self.land, x, y) else {
+        let Some(c) = cell_at(&self.land.grid, x, y) else {
             return EditReply::Outside;
         };
-        if ground_at(&self.land, &self.water, c) == to {
+        if ground_at(&self.land.grid, &self.water.grid, c) == to {
             return EditReply::Same;
         }
         self.land.set(c, to == Ground::Land);
@@ -195,7 +151,8 @@ impl Session {
     /// since it comes to no cell twice. Where memory is wanting, the session stands for the same
     /// layers as before, and may be asked and edited again.
     ///
-    /// The plain engine counts no steps.
+    /// `steps` counts what the engine counts: by the most and the fewest that are told of it, for each
+    /// state that was taken. The engines `plain` and `jps` count none.
     pub fn query<L: Ledger>(
         &mut self,
         alloc: Global,
@@ -212,23 +169,25 @@ impl Session {
             (IsRunReply self.old (record { x = sx; y = sy }) (record { x = gx; y = gy })) }
         ensures short { IfOk result (λ reply. IsShort (answer_of reply)) }
         ensures unchanged { self.new ≡ self.old }
-        ensures uncounted { steps.new ≡ steps.old }
+        ensures most { IfOk result (RoseWithin (most_of self.old.engine) steps.old steps.new) }
+        ensures fewest { IfOk result (RoseByStates (fewest_of self.old.engine) steps.old steps.new) }
+        ensures uncounted { self.old.engine ≡ Engine.Plain → steps.new ≡ steps.old }
     {
-        let Some(from) = cell_at(&self.land, sx, sy) else {
+        let Some(from) = cell_at(&self.land.grid, sx, sy) else {
             return Ok(Reply::Outside);
         };
-        let Some(to) = cell_at(&self.land, gx, gy) else {
+        let Some(to) = cell_at(&self.land.grid, gx, gy) else {
             return Ok(Reply::Outside);
         };
-        if !is_free_ground(&self.land, &self.water, from)
-            || !is_free_ground(&self.land, &self.water, to)
+        if !is_free_ground(&self.land.grid, &self.water.grid, from)
+            || !is_free_ground(&self.land.grid, &self.water.grid, to)
         {
             return Ok(Reply::Blocked);
         }
-        if self.water.free(from) {
-            search(alloc, &self.water, from, to, self.engine, &mut self.space)
+        if self.water.grid.free(from) {
+            self.water.search(alloc, from, to, &mut self.memory, steps)
         } else {
-            search(alloc, &self.land, from, to, self.engine, &mut self.space)
+            self.land.search(alloc, from, to, &mut self.memory, steps)
         }
     }
 }

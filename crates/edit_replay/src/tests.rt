@@ -47,6 +47,7 @@ fn answer_all<L: Ledger>(
     alloc: Global,
     rt: &impl Abort,
     map: &MapText,
+    engine: Engine,
     corner: Corner,
     lines: &[Line],
     blank: Blank,
@@ -56,7 +57,7 @@ fn answer_all<L: Ledger>(
     requires some { 0 < L.parts }
 {
     let mut steps = Steps::<L>::new(blank);
-    let mut session = Session::new(alloc, map, Engine::Plain, corner)?;
+    let mut session = Session::new(alloc, map, engine, corner)?;
     for (i, line) in lines.iter().enumerate() {
         match *line {
             Line::Query(ends, told) => {
@@ -78,12 +79,13 @@ fn check_script(
     alloc: Global,
     rt: &impl Abort,
     text: &[u8],
+    engine: Engine,
     corner: Corner,
     lines: &[Line],
 ) -> Result<(), Fail> {
     assert!(rt; text.len() < 100);
     let map = read_map(alloc, text)?;
-    answer_all::<Brand>(alloc, rt, &map, corner, lines, Blank::new(1))?;
+    answer_all::<Brand>(alloc, rt, &map, engine, corner, lines, Blank::new(1))?;
     Ok(())
 }
 
@@ -101,7 +103,24 @@ fn a_script_is_answered_in_turn(rt: HostRuntime) -> Result<(), Fail> {
         across,
         Line::Edit(3, 0, Ground::Blocked, EditReply::Outside),
     ];
-    check_script(rt.alloc(), &rt, text, Corner::Never, &lines)
+    check_script(rt.alloc(), &rt, text, Engine::Plain, Corner::Never, &lines)
+}
+
+// The same, by jumps: two states are taken on the way across, and one where the middle is blocked, as
+// none of its jumps stops.
+#[test]
+fn a_script_is_answered_by_jumps(rt: HostRuntime) -> Result<(), Fail> {
+    let text = b"type octile\nheight 3\nwidth 3\nmap\n.@.\n...\n.@.\n";
+    let across = Line::Query((0, 1, 2, 1), (3, 2, 0, 2));
+    let lines = [
+        across,
+        Line::Edit(1, 1, Ground::Blocked, EditReply::Done),
+        Line::Query((0, 1, 2, 1), (2, 0, 0, 1)),
+        Line::Edit(1, 1, Ground::Land, EditReply::Done),
+        across,
+        Line::Query((1, 0, 2, 1), (1, 0, 0, 0)),
+    ];
+    check_script(rt.alloc(), &rt, text, Engine::Jps, Corner::Never, &lines)
 }
 
 // On the map `.WW/.WW` queries run among water cells or among land cells, and edits move the shore.
@@ -120,7 +139,7 @@ fn water_is_a_layer_of_its_own(rt: HostRuntime) -> Result<(), Fail> {
         Line::Edit(2, 0, Ground::Blocked, EditReply::Done),
         Line::Query((2, 0, 0, 0), (1, 0, 0, 0)),
     ];
-    check_script(rt.alloc(), &rt, text, Corner::Never, &lines)
+    check_script(rt.alloc(), &rt, text, Engine::Plain, Corner::Never, &lines)
 }
 
 // On the map `.../.@./...` the corner is passed under one rule alone.
@@ -128,7 +147,7 @@ fn water_is_a_layer_of_its_own(rt: HostRuntime) -> Result<(), Fail> {
 fn a_corner_is_passed(rt: HostRuntime) -> Result<(), Fail> {
     let text = b"type octile\nheight 3\nwidth 3\nmap\n...\n.@.\n...\n";
     let round = [Line::Query((0, 0, 2, 2), (3, 4, 0, 8))];
-    check_script(rt.alloc(), &rt, text, Corner::Never, &round)?;
+    check_script(rt.alloc(), &rt, text, Engine::Plain, Corner::Never, &round)?;
     let past = [Line::Query((0, 0, 2, 2), (3, 2, 1, 6))];
-    check_script(rt.alloc(), &rt, text, Corner::One, &past)
+    check_script(rt.alloc(), &rt, text, Engine::Plain, Corner::One, &past)
 }

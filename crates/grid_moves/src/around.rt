@@ -1,7 +1,7 @@
-//! The legal moves from a cell, with each cell around it read at most once.
+//! The legal moves from a cell, with each cell around it read once.
 //!
-//! The cells beside a diagonal move are the ends of straight moves. So these are read first, and a
-//! diagonal cell is read only where the corner rule lets a move pass between them.
+//! The cells beside a diagonal move are the ends of straight moves. All eight are read with no branch on
+//! what is found, since whether a cell is free is seldom foreseen by the processor.
 
 ghost use Rattle.std.specs.Prelude.{◌≡◌, ◌&&◌, true};
 ghost use Rattle.grid_moves.specs.Grid.{IsGrid, is_free};
@@ -66,16 +66,16 @@ fn passages_between(rule: Corner, n: bool, e: bool, s: bool, w: bool) -> Passage
 {
     match rule {
         Corner::Never => Passages {
-            ne: n && e,
-            se: s && e,
-            sw: s && w,
-            nw: n && w,
+            ne: n & e,
+            se: s & e,
+            sw: s & w,
+            nw: n & w,
         },
         Corner::One => Passages {
-            ne: n || e,
-            se: s || e,
-            sw: s || w,
-            nw: n || w,
+            ne: n | e,
+            se: s | e,
+            sw: s | w,
+            nw: n | w,
         },
     }
 }
@@ -85,7 +85,7 @@ fn passages_between(rule: Corner, n: bool, e: bool, s: bool, w: bool) -> Passage
 fn is_open_beyond<T: Terrain>(t: &T, passes: bool, x: u16, y: u16) -> bool
     ensures { result ≡ (is_free (T.grid t.now) (record { x = x; y = y }) && passes) }
 {
-    passes && is_free_at(t, x, y)
+    passes & is_free_at(t, x, y)
 }
 
 impl Around {

@@ -11,5 +11,10 @@ pub mod Judgements
 pub mod Works
 pub mod Readings
 pub mod Writing
+pub mod Answering
+pub mod Hearing
+pub mod Listening
+pub mod Incomings
 pub mod Ended
+pub mod Serving
 pub mod Printing

@@ -22,11 +22,11 @@ take-more {X} xs i x h e =
 module _ {Job Item : Type 0} (Worked : Job → Job → List Item → List (List ℕ) → Type 0)
     (Whole : Job → List Item → List (List ℕ) → ℕ → Type 0) (first : Job) where
   -- lines that some items have can be completed, whatever items come behind
-  abbrev CanComplete : Type 0
+  abbrev pub CanComplete : Type 0
   CanComplete = (now : Job) (some others : List Item) (lines : List (List ℕ)) → Worked first now some lines
       → Completes (Whole first (some ++ others)) lines
 
-  completed : CanComplete → (items : List Item) (count : ℕ) (job : Job) (lines : List (List ℕ))
+  pub completed : CanComplete → (items : List Item) (count : ℕ) (job : Job) (lines : List (List ℕ))
       → Worked first job (take count items) lines → Completes (Whole first items) lines
   completed can items count job lines w =
       subst (λ (all : List Item). Completes (Whole first all) lines) (take-append-drop count items)

@@ -7,7 +7,7 @@ use Rattle.grid_moves.specs.Layers.{layers_of}
 use Rattle.grid_moves.specs.declared.Corner.{Corner}
 use Rattle.map_text.specs.Map.{Map}
 use Rattle.edit_replay.specs.Session.{SessionData}
-use Rattle.edit_replay.specs.declared.session.Engine.{Engine}
+use Rattle.edit_replay.specs.declared.engine.Engine.{Engine}
 use Rattle.word_list.specs.declared.request.Settings.{Settings}
 use Rattle.jps_run.specs.Session.{corner_of, engine_of, session_on}
 use Rattle.jps_run.specs.Files.{faulty}

@@ -7,7 +7,7 @@ use Rattle.grid_moves.specs.Layers.{Layers}
 use Rattle.grid_moves.specs.declared.Ground.TheVariants.{Blocked, Land, Water}
 use Rattle.edit_replay.specs.Edited.{Edit, edit_at, edited}
 use Rattle.edit_replay.specs.Session.{SessionData}
-use Rattle.edit_replay.specs.declared.session.Engine.{Engine}
+use Rattle.edit_replay.specs.declared.engine.Engine.{Engine}
 use Rattle.edit_replay.proofs.Edits.{edited-nothing}
 use Rattle.script_text.specs.declared.command.Command.{Command}
 use Rattle.script_text.specs.declared.command.Command.TheVariants.{Block, Free, Flood, Query}

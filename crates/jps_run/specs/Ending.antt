@@ -1,13 +1,15 @@
 -- How a call of `run` ends.
-use Rattle.std.specs.Prelude.{◌≡◌, true, ℕ, List, [], ◌⊎◌, codes, nat_eq, if◌then◌else◌}
+use Rattle.std.specs.Prelude.{◌≡◌, true, ℕ, List, [], ◌⊎◌, codes, nat_eq, if◌then◌else◌, Option}
 use Rattle.std.specs.List.{concat}
+use Rattle.io_edge.specs.Causes.{Rose}
 use Rattle.word_list.specs.Calls.{is_call}
 use Rattle.word_list.specs.Request.{Call}
 use Rattle.word_list.specs.Rule.{StopsAt}
 use Rattle.jps_run.specs.FaultLines.{word_line}
 use Rattle.jps_run.specs.Files.{FileRose}
-use Rattle.jps_run.specs.Outcome.{Spell, Outcome, IsOutcome, IsOutput, comes_as_lines, files_of}
-use Rattle.jps_run.specs.Seen.{Seen, Stream}
+use Rattle.jps_run.specs.Outcome.{Spell, Outcome, IsOutcome, IsOutput, comes_as_lines, files_of, reads_input}
+use Rattle.jps_run.specs.Heard.{WrotePending, WroteSomeTaken, WroteLinesTaken}
+use Rattle.jps_run.specs.Seen.{Seen, Stream, Incoming}
 use Rattle.jps_run.specs.Sending.{Wrote, WroteSome, IsPart, AreLines}
 
 -- what `err` gets in place of an outcome's line: where a read failed, where a write failed, for want of memory
@@ -30,10 +32,10 @@ abbrev pub Gets : Stream → Stream → List ℕ → Type 0
 Gets before now line = Wrote before now line ⊎ WroteSome before now line
 
 -- the outcome came about: its status is answered, `out` got its lines, and `err` its line
-pub record Comes (words : List (List ℕ)) (before now : Seen) (err err_now : Stream) (status : ℕ)
-    : Type 0 where
+pub record Comes (words : List (List ℕ)) (before now : Seen) (input : Option (List ℕ)) (err err_now : Stream)
+    (status : ℕ) : Type 0 where
   pub outcome : Outcome
-  pub is : IsOutcome words before.holds outcome
+  pub is : IsOutcome words before.holds input outcome
   pub same_status : outcome.status ≡ status
   pub wrote : Wrote before.out now.out (concat outcome.out)
   pub told : Gets err err_now outcome.line
@@ -52,18 +54,45 @@ pub record NamedRose (words : List (List ℕ)) (before now : Seen) : Type 0 wher
   pub spelled : Spell words call
   pub rose : FileRose (files_of call.request) before now
 
--- a first part of a right output was written
-pub record HasPart (words : List (List ℕ)) (before now : Seen) : Type 0 where
+-- the words ask for what is read from the input
+pub record ReadsInput (words : List (List ℕ)) : Type 0 where
   pub call : Call
   pub spelled : Spell words call
-  pub part : IsPart (Whole call before) before.out now.out
+  pub reads : reads_input call.request ≡ true
 
--- nothing was written, or of an output that comes as lines the first ones, each whole
-pub data HasLines (words : List (List ℕ)) (before now : Seen) : Type 0 where
-  none : WroteNothing before now → HasLines words before now
+-- the words ask for what is read from the input, and its count rose
+pub record InputRose (words : List (List ℕ)) (input input_now : Incoming) : Type 0 where
+  pub call : Call
+  pub spelled : Spell words call
+  pub reads : reads_input call.request ≡ true
+  pub rose : Rose input.faults input_now.faults
+
+-- a read failed: of a file, and nothing was written; or of the input, and exactly the lines of the whole commands among
+-- the bytes that were taken were written
+pub data HasFailed (words : List (List ℕ)) (before now : Seen) (input input_now : Incoming) : Type 0 where
+  of_file : NamedRose words before now → WroteNothing before now → HasFailed words before now input input_now
+  of_input : (rose : InputRose words input input_now)
+      → WrotePending rose.call before now input.left input_now.left
+      → HasFailed words before now input input_now
+
+-- a first part of a right output was written; where the words ask for what is read from the input, of the lines of the
+-- whole commands among the bytes that were taken
+pub data HasPart (words : List (List ℕ)) (before now : Seen) (input input_now : Incoming) : Type 0 where
+  of_all : (call : Call) → Spell words call → IsPart (Whole call before) before.out now.out
+      → HasPart words before now input input_now
+  of_taken : (call : Call) → Spell words call
+      → WroteSomeTaken call before now input.left input_now.left
+      → HasPart words before now input input_now
+
+-- nothing was written, or of an output that comes as lines the first ones, each whole; where the words ask for what is
+-- read from the input, the first lines of the whole commands among the bytes that were taken
+pub data HasLines (words : List (List ℕ)) (before now : Seen) (input input_now : Incoming) : Type 0 where
+  none : WroteNothing before now → HasLines words before now input input_now
   some : (call : Call) → Spell words call → comes_as_lines call.request ≡ true
       → AreLines (Whole call before) before.out now.out
-      → HasLines words before now
+      → HasLines words before now input input_now
+  first : (call : Call) → Spell words call → WroteLinesTaken call before now input.left input_now.left
+      → HasLines words before now input input_now
 
 -- the stream got the line of the word with which no call begins, behind these words or among them
 pub record Names (words : List (List ℕ)) (before now : Stream) : Type 0 where

@@ -12,9 +12,12 @@ pub mod Answers
 pub mod Rows
 pub mod Tally
 pub mod Texts
+pub mod Heard
 pub mod Outcome
 pub mod Ending
 pub mod Worked
+pub mod Served
+pub mod Hearing
 pub mod Working
 pub mod Answering
 pub mod Judging

@@ -1,5 +1,5 @@
 -- What a request comes to, where nothing outside fails and memory is there.
-use Rattle.std.specs.Prelude.{◌≡◌, ℕ, Bool, true, false, List, [], ◌∷◌, Some, Ok}
+use Rattle.std.specs.Prelude.{◌≡◌, ℕ, Bool, true, false, List, [], ◌∷◌, Option, Some, None, Ok}
 use Rattle.grid_moves.specs.Layers.{layers_of, query_grid}
 use Rattle.io_edge.specs.Told.{Held}
 use Rattle.map_text.specs.Map.{Map}
@@ -14,7 +14,7 @@ use Rattle.scen_text.specs.Faults.{scen_of}
 use Rattle.potential_check.specs.Text.{certificate_of, plain}
 use Rattle.potential_check.specs.declared.certificate.Certificate.{Certificate}
 use Rattle.word_list.specs.Calls.{call_of, is_call}
-use Rattle.word_list.specs.Request.{Asked, Call, Help, Version, Query, Solve, Scen, Prove, Check, Make, Drill}
+use Rattle.word_list.specs.Request.{Asked, Call, Help, Version, Query, Solve, Live, Scen, Prove, Check, Make, Drill}
 use Rattle.word_list.specs.Rule.{IsBadWord}
 use Rattle.word_list.specs.declared.request.Settings.{Settings}
 use Rattle.jps_run.specs.Answers.{AreAnswers}
@@ -23,6 +23,7 @@ use Rattle.jps_run.specs.Drill.{AreDrilled, drill_line}
 use Rattle.jps_run.specs.declared.drill.Finding.{Finding}
 use Rattle.jps_run.specs.FaultLines.{word_line}
 use Rattle.jps_run.specs.Files.{File, AreAccepted, HasRefused}
+use Rattle.jps_run.specs.Heard.{AreHeard}
 use Rattle.jps_run.specs.Rows.{AreRows, scen_lines, scen_status}
 use Rattle.jps_run.specs.Session.{corner_of, session_on}
 use Rattle.jps_run.specs.Texts.{help_text, version_text}
@@ -44,6 +45,7 @@ files_of Version = []
 files_of (Query map sx sy gx gy) = record { kind = kind.Map; name = map } ∷ []
 files_of (Solve map script) =
     record { kind = kind.Map; name = map } ∷ record { kind = kind.Script; name = script } ∷ []
+files_of (Live map) = record { kind = kind.Map; name = map } ∷ []
 files_of (Prove map sx sy gx gy) = record { kind = kind.Map; name = map } ∷ []
 files_of (Check map cert) =
     record { kind = kind.Map; name = map } ∷ record { kind = kind.Cert; name = cert } ∷ []
@@ -58,11 +60,17 @@ comes_as_lines Help = false
 comes_as_lines Version = false
 comes_as_lines (Query map sx sy gx gy) = true
 comes_as_lines (Solve map script) = true
+comes_as_lines (Live map) = true
 comes_as_lines (Scen map scen) = true
 comes_as_lines (Prove map sx sy gx gy) = false
 comes_as_lines (Check map cert) = false
 comes_as_lines (Make seed w h percent) = false
 comes_as_lines (Drill seed) = false
+
+-- whether what is asked for is read from the input
+abbrev pub reads_input : Asked → Bool
+reads_input (Live map) = true
+reads_input other = false
 
 -- the lines and the status of a call, on the texts of its files; a query is a script of one command
 pub data IsAnswered : Call → List (List ℕ) → List (List ℕ) → ℕ → Type 0 where
@@ -108,13 +116,19 @@ pub record Outcome : Type 0 where
   pub out : List (List ℕ)
   pub line : List ℕ
 
--- what words and held files come to: the first of these that applies
-pub data IsOutcome (words : List (List ℕ)) (holds : List ℕ → Held) : Outcome → Type 0 where
+-- what words, held files and an input come to: the first of these that applies
+pub data IsOutcome (words : List (List ℕ)) (holds : List ℕ → Held) (input : Option (List ℕ))
+    : Outcome → Type 0 where
   bad_word : (number : ℕ) → IsBadWord is_call words number
-      → IsOutcome words holds (record { status = 2; out = []; line = word_line number })
+      → IsOutcome words holds input (record { status = 2; out = []; line = word_line number })
   bad_text : (call : Call) (line : List ℕ) → Spell words call
       → HasRefused holds (files_of call.request) line
-      → IsOutcome words holds (record { status = 3; out = []; line = line })
+      → IsOutcome words holds input (record { status = 3; out = []; line = line })
   done : (call : Call) (lines : List (List ℕ)) (status : ℕ) → Spell words call
       → IsOutput call holds lines status
-      → IsOutcome words holds (record { status = status; out = lines; line = [] })
+      → IsOutcome words holds input (record { status = status; out = lines; line = [] })
+  answered : (call : Call) (lines : List (List ℕ)) → Spell words call → AreHeard call holds input lines None
+      → IsOutcome words holds input (record { status = 0; out = lines; line = [] })
+  bad_line : (call : Call) (lines : List (List ℕ)) (line : List ℕ) → Spell words call
+      → AreHeard call holds input lines (Some line)
+      → IsOutcome words holds input (record { status = 3; out = lines; line = line })

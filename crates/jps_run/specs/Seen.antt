@@ -22,3 +22,12 @@ stream written faults = record { written = written; faults = faults }
 abbrev pub seen : (List ℕ → Held) → (List ℕ → ℕ) → Option (List ℕ) → ℕ → Seen
 seen holds faults written out_faults =
     record { holds = holds; faults = faults; out = stream written out_faults }
+
+-- a stream that is read from: what is left of it, where that is told, and how many reads failed
+pub record Incoming : Type 0 where
+  pub left : Option (List ℕ)
+  pub faults : ℕ
+
+-- what comes in, by its parts
+abbrev pub incoming : Option (List ℕ) → ℕ → Incoming
+incoming left faults = record { left = left; faults = faults }

@@ -2,12 +2,14 @@
 
 ghost use Rattle.std.specs.Prelude.{OnOk};
 ghost use Rattle.jps_run.specs.Answering.{PutsAnswer, GoesOn, IsSolved};
+ghost use Rattle.jps_run.specs.Hearing.{AnswersMore};
 ghost use Rattle.jps_run.specs.Seen.{stream};
 ghost use Rattle.jps_run.specs.Sending.{SendsWhole};
 
 use crate::NoMemory;
 use crate::job::{Job, work_items};
 use crate::lines::{put_edit_reply, put_reply};
+use crate::sending::{send, send_full};
 use crate::stop::Stop;
 use edit_replay::Session;
 use grid_moves::Ground;
@@ -94,4 +96,30 @@ pub(crate) fn write_answers<O: Sink, L: Ledger>(
 {
     let mut job = Answers { session, show };
     work_items(alloc, &mut job, commands, out, steps)
+}
+
+/// Answers these commands too, and writes all their lines.
+pub(crate) fn answer_more<O: Sink, L: Ledger>(
+    alloc: Global,
+    job: &mut Answers,
+    commands: &[Command],
+    out: &mut O,
+    steps: &mut Steps<L>,
+) -> Result<(), Stop>
+    ensures { AnswersMore job.old job.new commands.now (stream (O.written out.old) (O.faults out.old))
+        (stream (O.written out.new) (O.faults out.new)) result }
+{
+    let mut lines = Vec::new(alloc);
+    for command in commands {
+        put_answer(
+            alloc,
+            &mut job.session,
+            job.show,
+            *command,
+            &mut lines,
+            steps,
+        )?;
+        send_full(out, &mut lines)?;
+    }
+    send(out, lines.as_slice())
 }

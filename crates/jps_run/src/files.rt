@@ -166,6 +166,7 @@ pub(crate) fn engine_of(pick: Pick) -> Engine
 {
     match pick {
         Pick::Plain => Engine::Plain,
+        Pick::Jps => Engine::Jps,
     }
 }
 

@@ -10,6 +10,7 @@ mod job;
 mod kind;
 mod layers;
 mod lines;
+mod live;
 mod make;
 mod prove;
 mod query;

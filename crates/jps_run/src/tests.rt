@@ -186,10 +186,70 @@ fn queries_are_answered(rt: HostRuntime) -> Result<(), Fail> {
     check(alloc, &rt, on_map(&trace, TOUCHING), 0, b"outside\n", b"")
 }
 
+// A goal before a mark on one line, a goal whose row is met where the way along it is closed, and a
+// mark before the goal on one diagonal.
+const MARK_BEHIND: &[u8] = b"type octile\nheight 2\nwidth 7\nmap\n.......\n....@..\n";
+
+const CLOSED_ROW: &[u8] = b"type octile\nheight 2\nwidth 4\nmap\n....\n..@.\n";
+
+const GAP_ABOVE: &[u8] = b"type octile\nheight 4\nwidth 4\nmap\n..@.\n....\n....\n....\n";
+
+// A query from (0,0) to (x,y) by jumps with two settings more.
+fn jumping<'a>(x: &'a str, y: &'a str, show: &'a str, rule: &'a str) -> [&'a str; 9] {
+    ["query", "m", "0", "0", x, y, "engine=jps", show, rule]
+}
+
+#[test]
+fn jumps_stop_at_marks_and_goals(rt: HostRuntime) -> Result<(), Fail> {
+    let (trace, none) = ("show=trace", "rule=none");
+    let table: [(&[u8], [&str; 9], &[u8]); 7] = [
+        (
+            PILLAR,
+            jumping("2", "2", trace, none),
+            b"walk 4 0 0,0 0,2 2,2 taken 0,0:- 2,0:E 0,2:S 2,2:E\n",
+        ),
+        (
+            PILLAR,
+            jumping("2", "2", trace, "rule=one"),
+            b"walk 2 1 0,0 0,1 1,2 2,2 taken 0,0:- 1,0:E 0,1:S 2,1:SE 1,2:SE 2,2:E\n",
+        ),
+        (
+            MARK_BEHIND,
+            jumping("3", "0", trace, none),
+            b"walk 3 0 0,0 3,0 taken 0,0:- 3,0:E\n",
+        ),
+        (
+            CLOSED_ROW,
+            jumping("3", "1", trace, none),
+            b"walk 4 0 0,0 3,0 3,1 taken 0,0:- 3,0:E 3,1:S\n",
+        ),
+        (
+            GAP_ABOVE,
+            jumping("3", "3", trace, none),
+            b"walk 0 3 0,0 1,1 3,3 taken 0,0:- 1,1:SE 3,3:SE\n",
+        ),
+        (
+            GAP_ABOVE,
+            jumping("3", "3", "show=cells", none),
+            b"walk 0 3 0,0 1,1 2,2 3,3\n",
+        ),
+        (SHORE, jumping("1", "0", trace, none), b"none taken\n"),
+    ];
+    for (map, words, line) in table {
+        check(rt.alloc(), &rt, on_map(&words, map), 0, line, b"")?;
+    }
+    Ok(())
+}
+
 #[test]
 fn scripts_and_scenarios_are_answered(rt: HostRuntime) -> Result<(), Fail> {
     let alloc = rt.alloc();
     let (made, lines) = script();
+    check(alloc, &rt, made, 0, lines, b"")?;
+    let made = Request {
+        words: &["solve", "m", "s", "engine=jps"],
+        ..made
+    };
     check(alloc, &rt, made, 0, lines, b"")?;
     let made = Request {
         words: &["solve", "m", "s", "show=cells"],

@@ -9,11 +9,13 @@ pub(crate) fn help_text() -> &'static [u8]
     ensures { result.now ≡ spec.help_text }
 {
     b"usage: jps COMMAND ...
-  jps query MAP SX SY GX GY [engine=plain] [show=points|show=cells|show=trace] [rule=none|rule=one]
+  jps query MAP SX SY GX GY [engine=ENGINE] [show=points|show=cells|show=trace] [rule=none|rule=one]
       a least walk from the cell (SX,SY) to the cell (GX,GY) on the map
-  jps solve MAP SCRIPT [engine=plain] [show=points|show=cells|show=trace] [rule=none|rule=one]
+  jps solve MAP SCRIPT [engine=ENGINE] [show=points|show=cells|show=trace] [rule=none|rule=one]
       one line for each command of the script: edits of the map, and queries
-  jps scen MAP SCEN [engine=plain] [rule=none|rule=one]
+  jps live MAP [engine=ENGINE] [show=points|show=cells|show=trace] [rule=none|rule=one]
+      the same for a script on standard input, each command answered as it comes
+  jps scen MAP SCEN [engine=ENGINE] [rule=none|rule=one]
       one row for each entry of the scenario, its length judged by the least cost, and their sum
   jps prove MAP SX SY GX GY [rule=none|rule=one]
       a certificate that the cost of a least walk is least, or that there is no walk
@@ -21,7 +23,7 @@ pub(crate) fn help_text() -> &'static [u8]
       whether the certificate proves what it claims on the map; nothing is searched
   jps make SEED W H P
       a map of W by H cells, P percent of them blocked, made from the number SEED
-  jps drill SEED [engine=plain] [rule=none|rule=one]
+  jps drill SEED [engine=ENGINE] [rule=none|rule=one]
       150 edits and queries on the map of SEED, summed up in one line that is the same by each engine
   jps --help
       this text
@@ -30,16 +32,18 @@ pub(crate) fn help_text() -> &'static [u8]
 
 A cell is its column and its row, which count from 0 in the upper left. `walk A B` is a walk of A
 straight and B diagonal moves; its points follow: its first cell, its last cell, and each cell at
-which it turns. show=cells shows each of its cells, show=trace each cell that the search took as well.
+which it turns, or by an engine that jumps each cell at which a jump stopped. show=cells shows each of
+its cells, show=trace each state that the search took as well: a cell, and how it was come to.
+ENGINE is plain, where none is named, or jps, which jumps. Walks cost the same by each.
 With rule=one a diagonal move may pass one blocked cell beside it, with rule=none none.
 
 statuses: 0 done; 1 done, and a row of `scen` is neither agree nor near, `check` refuses, or `prove`
-has no free ends on one layer; 2 the words are refused; 3 a file is refused; 4 a read failed;
+has no free ends on one layer; 2 the words are refused; 3 a text is refused; 4 a read failed;
 5 a write of the output failed; 6 memory was refused
 faults, one line on standard error:
   jps: word N            word N is missing, or no call has it there; words are counted from 1
-  jps: FILE CODE line N  line N of the map, script, scen or cert breaks its form
-  jps: FILE long         the file is longer than 67108864 bytes, a cert than 1073741824
+  jps: TEXT CODE line N  line N of the map, script, scen or cert breaks its form
+  jps: TEXT long         the text is longer than 67108864 bytes, a cert than 1073741824
   jps: read, jps: write, jps: memory
 "
 }

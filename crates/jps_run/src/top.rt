@@ -1,16 +1,19 @@
 //! The top call.
 
-ghost use Rattle.std.specs.Prelude.{◌≡◌, ℕ, ◌≤◌, ◌⊎◌, map, string_bytes};
+ghost use Rattle.std.specs.Prelude.{◌≡◌, ℕ, ◌≤◌, ◌⊎◌, false, map, string_bytes};
 ghost use Rattle.io_edge.specs.Causes.{Rose};
-ghost use Rattle.word_list.specs.Request.{HasSides, called};
-ghost use Rattle.jps_run.specs.Ending.{Comes, Gets, HasLines, HasPart, NamedRose, Names, WroteNothing, ending_line};
+ghost use Rattle.word_list.specs.Request.{HasSides, asked, called};
+ghost use Rattle.jps_run.specs.Ending.{Comes, Gets, HasFailed, HasLines, HasPart, InputRose, NamedRose, Names, ReadsInput, ending_line};
+ghost use Rattle.jps_run.specs.Outcome.{reads_input};
+ghost use Rattle.jps_run.specs.Served.{HasServed};
 ghost use Rattle.jps_run.specs.Worked.{HasWorked};
 ghost use Rattle.jps_run.specs.FaultLines.{word_line as line_of_word};
-ghost use Rattle.jps_run.specs.Seen.{seen, stream};
+ghost use Rattle.jps_run.specs.Seen.{incoming, seen, stream};
 
 use crate::check::check;
 use crate::drill::drill;
 use crate::faults::word_line;
+use crate::live::live;
 use crate::make::make;
 use crate::prove::prove;
 use crate::query::{Ends, query};
@@ -25,7 +28,7 @@ use std::sync::ledger::Ledger;
 use steps::Steps;
 use word_list::{Request, Settings, first_bad, read_words};
 
-// Does what is asked for, and gives the status.
+// Does what is asked for by files alone, and gives the status.
 fn work<F: Files, O: Sink, L: Ledger>(
     alloc: Global,
     request: Request<'_>,
@@ -35,6 +38,7 @@ fn work<F: Files, O: Sink, L: Ledger>(
     steps: &mut Steps<L>,
 ) -> Result<u8, Stop>
     requires sides { HasSides request }
+    requires apart { reads_input (asked request) ≡ false }
     ensures worked { HasWorked (called request.entry settings)
         (seen (F.holds files.old) (F.faults files.old) (O.written out.old) (O.faults out.old))
         (seen (F.holds files.new) (F.faults files.new) (O.written out.new) (O.faults out.new)) result }
@@ -59,6 +63,7 @@ fn work<F: Files, O: Sink, L: Ledger>(
             steps,
         ),
         Request::Solve { map, script } => solve(alloc, files, out, map, script, settings, steps),
+        Request::Live { .. } => unreachable!(),
         Request::Scen { map, scen: name } => scen(alloc, files, out, map, name, settings, steps),
         Request::Prove {
             map,
@@ -75,6 +80,32 @@ fn work<F: Files, O: Sink, L: Ledger>(
             percent,
         } => make(alloc, out, seed, w, h, percent),
         Request::Drill { seed } => drill(alloc, out, seed, settings, steps),
+    }
+}
+
+// Does what is asked for, and gives the status.
+fn serve<F: Files, I: Source, O: Sink, L: Ledger>(
+    alloc: Global,
+    request: Request<'_>,
+    settings: Settings,
+    files: &mut F,
+    input: &mut I,
+    out: &mut O,
+    steps: &mut Steps<L>,
+) -> Result<u8, Stop>
+    requires sides { HasSides request }
+    ensures served { HasServed (called request.entry settings)
+        (seen (F.holds files.old) (F.faults files.old) (O.written out.old) (O.faults out.old))
+        (seen (F.holds files.new) (F.faults files.new) (O.written out.new) (O.faults out.new))
+        (incoming (I.left input.old) (I.faults input.old))
+        (incoming (I.left input.new) (I.faults input.new)) result }
+    ensures unchanged { F.holds files.new ≡ F.holds files.old }
+    ensures input_stays { reads_input (asked request.entry) ≡ false
+        → I.left input.new ≡ I.left input.old }
+{
+    match request {
+        Request::Live { map } => live(alloc, files, input, out, map, settings, steps),
+        _ => work(alloc, request, settings, files, out, steps),
     }
 }
 
@@ -116,9 +147,9 @@ fn refuse_word<E: Sink>(alloc: Global, number: u32, err: &mut E) -> u8
 
 /// Does what the words ask for, and answers the status.
 ///
-/// `words` are the program's words without its own name. Files are read by their names, `out` gets
-/// the output and `err` the line of a refusal or a fault. `input` is left as it is. `steps` counts
-/// what the session counts.
+/// `words` are the program's words without its own name. Files are read by their names, a script
+/// that comes in from `input`; `out` gets the output and `err` the line of a refusal or a fault.
+/// `steps` counts what the session counts.
 ///
 /// Statuses: 0 done; 1 done, and a scenario has a row that is neither agree nor near, or `check`
 /// refuses, or `prove` has no ends on one layer of the map; 2 the words
@@ -140,41 +171,48 @@ pub fn run<F: Files, I: Source, O: Sink, E: Sink, L: Ledger>(
     ensures outcome { result ≤ 3 → Comes (map string_bytes words.now)
         (seen (F.holds files.old) (F.faults files.old) (O.written out.old) (O.faults out.old))
         (seen (F.holds files.new) (F.faults files.new) (O.written out.new) (O.faults out.new))
-        (stream (E.written err.old) (E.faults err.old))
+        (I.left input.old) (stream (E.written err.old) (E.faults err.old))
         (stream (E.written err.new) (E.faults err.new)) result }
     // A read fault has its cause: the count of a file rose that the words name and that there was
-    // reason to read, as the files before it were accepted. Nothing was written.
-    ensures read { result ≡ 4 → NamedRose (map string_bytes words.now)
+    // reason to read, as the files before it were accepted, and nothing was written; or that of an
+    // input that the words ask for, and exactly the lines of its whole commands so far were.
+    ensures read { result ≡ 4 → HasFailed (map string_bytes words.now)
         (seen (F.holds files.old) (F.faults files.old) (O.written out.old) (O.faults out.old))
-        (seen (F.holds files.new) (F.faults files.new) (O.written out.new) (O.faults out.new)) }
-    ensures nothing { result ≡ 4 → WroteNothing
-        (seen (F.holds files.old) (F.faults files.old) (O.written out.old) (O.faults out.old))
-        (seen (F.holds files.new) (F.faults files.new) (O.written out.new) (O.faults out.new)) }
+        (seen (F.holds files.new) (F.faults files.new) (O.written out.new) (O.faults out.new))
+        (incoming (I.left input.old) (I.faults input.old))
+        (incoming (I.left input.new) (I.faults input.new)) }
     // A write fault has its cause, and a first part of a whole right output was written.
     ensures write { result ≡ 5 → Rose (O.faults out.old) (O.faults out.new) }
     ensures part { result ≡ 5 → HasPart (map string_bytes words.now)
         (seen (F.holds files.old) (F.faults files.old) (O.written out.old) (O.faults out.old))
-        (seen (F.holds files.new) (F.faults files.new) (O.written out.new) (O.faults out.new)) }
+        (seen (F.holds files.new) (F.faults files.new) (O.written out.new) (O.faults out.new))
+        (incoming (I.left input.old) (I.faults input.old))
+        (incoming (I.left input.new) (I.faults input.new)) }
     // On want of memory the first lines of a whole right output were written, or nothing.
     ensures memory { result ≡ 6 → HasLines (map string_bytes words.now)
         (seen (F.holds files.old) (F.faults files.old) (O.written out.old) (O.faults out.old))
-        (seen (F.holds files.new) (F.faults files.new) (O.written out.new) (O.faults out.new)) }
+        (seen (F.holds files.new) (F.faults files.new) (O.written out.new) (O.faults out.new))
+        (incoming (I.left input.old) (I.faults input.old))
+        (incoming (I.left input.new) (I.faults input.new)) }
     ensures line { 4 ≤ result → Gets (stream (E.written err.old) (E.faults err.old))
         (stream (E.written err.new) (E.faults err.new)) (ending_line result) }
     // Where no count rose, the status is an outcome's or that of want of memory.
     ensures complete { ¬ NamedRose (map string_bytes words.now)
         (seen (F.holds files.old) (F.faults files.old) (O.written out.old) (O.faults out.old))
         (seen (F.holds files.new) (F.faults files.new) (O.written out.new) (O.faults out.new))
+        → ¬ InputRose (map string_bytes words.now)
+        (incoming (I.left input.old) (I.faults input.old))
+        (incoming (I.left input.new) (I.faults input.new))
         → ¬ Rose (O.faults out.old) (O.faults out.new) → (result ≤ 3) ⊎ (result ≡ 6) }
     ensures unchanged { F.holds files.new ≡ F.holds files.old }
-    // Nothing is taken from the input.
-    ensures input_stays { I.left input.new ≡ I.left input.old }
+    // Nothing is taken from an input that the words do not ask for.
+    ensures input_stays { ¬ ReadsInput (map string_bytes words.now) → I.left input.new ≡ I.left input.old }
 {
     let (request, settings) = match read_words(words) {
         Ok(call) => call,
         Err(bad) => return refuse_word(alloc, bad.0, err),
     };
-    match work(alloc, request, settings, files, out, steps) {
+    match serve(alloc, request, settings, files, input, out, steps) {
         Ok(status) => {
             tell(err, b"");
             status

@@ -39,43 +39,49 @@ kept_end a s c SW = refl
 kept_end a s c W = refl
 kept_end a s c NW = refl
 
-module _ (g : GridData) (goal : Cell) (id : ℕ) (n : Node) where
-  may_less : (space : SpaceData) (key rank : ℕ) (a : Around) (s : Sides) (c : Cell)
-      → MayOffer goal id key rank a c space → MayOffer goal id key rank (less_offered a s) c space
-  may_less space key rank a s c m N h = m N (kept_open a s N h)
-  may_less space key rank a s c m NE h = m NE (kept_open a s NE h)
-  may_less space key rank a s c m E h = m E (kept_open a s E h)
-  may_less space key rank a s c m SE h = m SE (kept_open a s SE h)
-  may_less space key rank a s c m S h = m S (kept_open a s S h)
-  may_less space key rank a s c m SW h = m SW (kept_open a s SW h)
-  may_less space key rank a s c m W h = m W (kept_open a s W h)
-  may_less space key rank a s c m NW h = m NW (kept_open a s NW h)
+module _ (goal : Cell) (id key rank : ℕ) (a : Around) (s : Sides) (c : Cell) (space : SpaceData) where
+  kept_may : MayOffer goal id key rank a c space → MayOffer goal id key rank (less_offered a s) c space
+  kept_may m N h = m N (kept_open a s N h)
+  kept_may m NE h = m NE (kept_open a s NE h)
+  kept_may m E h = m E (kept_open a s E h)
+  kept_may m SE h = m SE (kept_open a s SE h)
+  kept_may m S h = m S (kept_open a s S h)
+  kept_may m SW h = m SW (kept_open a s SW h)
+  kept_may m W h = m W (kept_open a s W h)
+  kept_may m NW h = m NW (kept_open a s NW h)
 
-  module _ (cell : Cell) (a moves : Around) (s : Sides) (rank : ℕ) (at : cell ≡ node_cell n)
-      (around : IsAround g cell a) (less : moves ≡ less_offered a s) (left : rank ≡ rank_left goal n) where
-    around_node : IsAround g (node_cell n) a
-    around_node = subst (λ (c : Cell). IsAround g c a) at around
+  -- where all moves may be offered, those that are kept may
+  pub may_less : (moves : Around) → moves ≡ less_offered a s → MayOffer goal id key rank a c space
+      → MayOffer goal id key rank moves c space
+  may_less moves less m =
+      subst (λ (b : Around). MayOffer goal id key rank b c space) (sym less) (kept_may m)
 
-    -- the moves may be offered
-    pub may_offer : (space : SpaceData) → MayExpand g goal id n space
-        → MayOffer goal id n.key rank moves cell space
-    may_offer space m =
-        subst (λ (r : ℕ). MayOffer goal id n.key r moves cell space) (sym left)
-        (subst (λ (b : Around). MayOffer goal id n.key (rank_left goal n) b cell space) (sym less)
-        (subst (λ (c : Cell). MayOffer goal id n.key (rank_left goal n) (less_offered a s) c space) (sym at)
-        (may_less space n.key (rank_left goal n) a s (node_cell n) (m.may a around_node))))
+module _ (g : GridData) (goal : Cell) (id : ℕ) (n : Node) (cell : Cell) (a moves : Around) (s : Sides)
+    (rank : ℕ) (at : cell ≡ node_cell n) (around : IsAround g cell a) (less : moves ≡ less_offered a s)
+    (left : rank ≡ rank_left goal n) where
+  around_node : IsAround g (node_cell n) a
+  around_node = subst (λ (c : Cell). IsAround g c a) at around
 
-    -- and then they were
-    pub expanded : (old new : Table) (arrival : Option Dir) → s ≡ sides_of arrival
-        → arrival ≡ (state_told n.place).arrival → new ≡ all_offered goal id rank moves cell all_dirs old
-        → HasExpanded g goal id n old new
-    expanded old new arrival sides told t = record {
-      around = a;
-      is_around = around_node;
-      table =
-          t ∙ ap (λ (r : ℕ). all_offered goal id r moves cell all_dirs old) left
-          ∙ ap (λ (b : Around). all_offered goal id (rank_left goal n) b cell all_dirs old) less
-          ∙ ap (λ (c : Cell). all_offered goal id (rank_left goal n) (less_offered a s) c all_dirs old) at
-          ∙ ap (λ (q : Sides). all_offered goal id (rank_left goal n) (less_offered a q) (node_cell n) all_dirs
-          old) (sides ∙ ap (λ (d : Option Dir). sides_of d) told);
-    }
+  -- the moves that are kept may be offered
+  pub may_offer : (space : SpaceData) → MayExpand g goal id n space
+      → MayOffer goal id n.key rank moves cell space
+  may_offer space m =
+      may_less goal id n.key rank a s cell space moves less
+      (subst (λ (r : ℕ). MayOffer goal id n.key r a cell space) (sym left)
+      (subst (λ (c : Cell). MayOffer goal id n.key (rank_left goal n) a c space) (sym at)
+      (m.may a around_node)))
+
+  -- and then they were
+  pub expanded : (old new : Table) (arrival : Option Dir) → s ≡ sides_of arrival
+      → arrival ≡ (state_told n.place).arrival → new ≡ all_offered goal id rank moves cell all_dirs old
+      → HasExpanded g goal id n old new
+  expanded old new arrival sides told t = record {
+    around = a;
+    is_around = around_node;
+    table =
+        t ∙ ap (λ (r : ℕ). all_offered goal id r moves cell all_dirs old) left
+        ∙ ap (λ (b : Around). all_offered goal id (rank_left goal n) b cell all_dirs old) less
+        ∙ ap (λ (c : Cell). all_offered goal id (rank_left goal n) (less_offered a s) c all_dirs old) at
+        ∙ ap (λ (q : Sides). all_offered goal id (rank_left goal n) (less_offered a q) (node_cell n) all_dirs
+        old) (sides ∙ ap (λ (d : Option Dir). sides_of d) told);
+  }

@@ -57,7 +57,7 @@ impl Sides {
 fn is_kept(legal: bool, away: bool, toward: bool, beside: bool, beyond: bool) -> bool
     ensures { result ≡ (legal && (away || not (toward || beside || beyond))) }
 {
-    legal && (away || !(toward || beside || beyond))
+    legal & (away | !(toward | beside | beyond))
 }
 
 // Whether the parent lies on this side and the diagonal move on that side is legal.
@@ -65,7 +65,7 @@ fn is_kept(legal: bool, away: bool, toward: bool, beside: bool, beyond: bool) ->
 fn is_passed(side: bool, legal: bool) -> bool
     ensures { result ≡ (side && legal) }
 {
-    side && legal
+    side & legal
 }
 
 // Whether a diagonal move is kept: it is legal, and leads away from the parent, by column or by row, or
@@ -74,7 +74,7 @@ fn is_passed(side: bool, legal: bool) -> bool
 fn is_kept_diagonal(legal: bool, by_column: bool, by_row: bool, column: bool, row: bool) -> bool
     ensures { result ≡ (legal && (by_column || by_row || not (column || row))) }
 {
-    legal && (by_column || by_row || !(column || row))
+    legal & (by_column | by_row | !(column | row))
 }
 
 /// The legal moves less those that the parent, on these sides, has offered.

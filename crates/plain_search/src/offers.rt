@@ -2,13 +2,14 @@
 
 ghost use Rattle.std.specs.Prelude.{◌≡◌, ◌+◌, ◌<◌, ◌≤◌, ◌^◌, true, length, slice_get, Some, if◌then◌else◌};
 ghost use Rattle.best_first.specs.Space.{IsPlaced, KeepsShape};
+ghost use Rattle.best_first.specs.State.{state_told};
 ghost use Rattle.best_first.specs.Table.{node_for, offered, ClosedBelow};
-ghost use Rattle.grid_moves.specs.Grid.{IsGrid};
+ghost use Rattle.grid_moves.specs.Grid.{IsGrid, is_free};
 ghost use Rattle.grid_moves.specs.Move.{all_dirs};
-ghost use Rattle.plain_search.specs.Offers.{cost_to, offer_to, all_offered, MayOffer, MayExpand, HasExpanded};
+ghost use Rattle.plain_search.specs.Offers.{IsAround, cost_to, offer_to, all_offered, MayOffer, MayExpand, HasExpanded};
 
 use crate::moves::{Sides, less_offered};
-use best_first::{Layout, Offer, Space, State};
+use best_first::{Layout, Node, Offer, Space, State};
 use grid_moves::{Around, Cell, Dir, Terrain};
 use root2_cost::Cost;
 use std::sync::ledger::Ledger;
@@ -76,11 +77,12 @@ fn offer_over<L: Ledger>(
     ensures spare { space.old.spare ≤ space.new.spare + 1 }
 {
     if is_open {
-        space.offer(from.goal, offer_to(from, to, d), steps);
+        space.offer_by_cell(from.goal, offer_to(from, to, d), steps);
     }
 }
 
 // Offers the open moves from a cell, in increasing order of direction.
+#[inline(always)]
 fn offer_around<L: Ledger>(
     space: &mut Space,
     from: Source,
@@ -122,8 +124,118 @@ fn offer_around<L: Ledger>(
     offer_over(space, from, a.nw, Cell { x: left, y: up }, Dir::NW, steps);
 }
 
+// The legal moves from a free cell.
+#[inline(always)]
+fn read_moves<T: Terrain>(t: &T, c: Cell) -> Around
+    requires free { is_free (T.grid t.now) c ≡ true }
+    requires whole { IsGrid (T.grid t.now) }
+    ensures { IsAround (T.grid t.now) c result }
+{
+    Around::of(t, c)
+}
+
+// The same, for the rare cells at the border of the map.
+#[inline(never)]
+fn read_border_moves<T: Terrain>(t: &T, c: Cell) -> Around
+    requires free { is_free (T.grid t.now) c ≡ true }
+    requires whole { IsGrid (T.grid t.now) }
+    ensures { IsAround (T.grid t.now) c result }
+{
+    read_moves(t, c)
+}
+
+// Whether this cell and all around it lie on the map.
+#[inline(always)]
+fn is_inner<T: Terrain>(t: &T, c: Cell) -> bool {
+    let (width, height) = (t.width(), t.height());
+    let (left, right) = (c.x.wrapping_sub(1), c.x.wrapping_add(1));
+    let (up, down) = (c.y.wrapping_sub(1), c.y.wrapping_add(1));
+    left < width && c.x < width && right < width && up < height && c.y < height && down < height
+}
+
+// The legal moves from a free cell. Of an inner one the compiler knows that all around it lies on the map.
+#[inline(always)]
+fn moves_around<T: Terrain>(t: &T, c: Cell) -> Around
+    requires free { is_free (T.grid t.now) c ≡ true }
+    requires whole { IsGrid (T.grid t.now) }
+    ensures { IsAround (T.grid t.now) c result }
+{
+    if is_inner(t, c) {
+        read_moves(t, c)
+    } else {
+        read_border_moves(t, c)
+    }
+}
+
+// Makes the offers of a node, told how its state was come to: where that is a constant, so are the sides
+// on which the parent lies.
+#[inline(always)]
+fn offer_after<T: Terrain, L: Ledger>(
+    t: &T,
+    goal: Cell,
+    at: u32,
+    node: Node,
+    arrival: Option<Dir>,
+    space: &mut Space,
+    steps: &mut Steps<L>,
+)
+    requires whole { IsGrid (T.grid t.now) }
+    requires node { slice_get space.old.table.nodes at ≡ Some node }
+    requires layout { space.old.layout ≡ Layout.ByCell }
+    requires narrow { space.old.width ≤ 4096 }
+    requires room { 8 ≤ space.old.spare }
+    requires may { MayExpand (T.grid t.now) goal at node space.old }
+    requires told { arrival ≡ (state_told node.place).arrival }
+    ensures expanded { HasExpanded (T.grid t.now) goal at node space.old.table space.new.table }
+    ensures shape { KeepsShape space.old space.new }
+{
+    let cell = node.place.cell();
+    let around = moves_around(t, cell);
+    let moves = less_offered(around, Sides::of(arrival));
+    let from = Source {
+        id: at,
+        key: node.key,
+        rank: node.cost_rank(goal),
+        goal,
+    };
+    offer_around(space, from, cell, moves, steps);
+}
+
+// Makes the offers of a node: each arrival has code of its own.
+#[inline(always)]
+fn offer_from<T: Terrain, L: Ledger>(
+    t: &T,
+    goal: Cell,
+    at: u32,
+    node: Node,
+    space: &mut Space,
+    steps: &mut Steps<L>,
+)
+    requires whole { IsGrid (T.grid t.now) }
+    requires node { slice_get space.old.table.nodes at ≡ Some node }
+    requires layout { space.old.layout ≡ Layout.ByCell }
+    requires narrow { space.old.width ≤ 4096 }
+    requires room { 8 ≤ space.old.spare }
+    requires may { MayExpand (T.grid t.now) goal at node space.old }
+    ensures expanded { HasExpanded (T.grid t.now) goal at node space.old.table space.new.table }
+    ensures shape { KeepsShape space.old space.new }
+{
+    match node.place.arrival() {
+        None => offer_after(t, goal, at, node, None, space, steps),
+        Some(Dir::N) => offer_after(t, goal, at, node, Some(Dir::N), space, steps),
+        Some(Dir::NE) => offer_after(t, goal, at, node, Some(Dir::NE), space, steps),
+        Some(Dir::E) => offer_after(t, goal, at, node, Some(Dir::E), space, steps),
+        Some(Dir::SE) => offer_after(t, goal, at, node, Some(Dir::SE), space, steps),
+        Some(Dir::S) => offer_after(t, goal, at, node, Some(Dir::S), space, steps),
+        Some(Dir::SW) => offer_after(t, goal, at, node, Some(Dir::SW), space, steps),
+        Some(Dir::W) => offer_after(t, goal, at, node, Some(Dir::W), space, steps),
+        Some(Dir::NW) => offer_after(t, goal, at, node, Some(Dir::NW), space, steps),
+    }
+}
+
 /// Offers the legal moves from the node of that number, in increasing order of direction, but for
 /// those that its parent has offered at no greater cost. There is room for them.
+#[inline(never)]
 pub(crate) fn offer_all<T: Terrain, L: Ledger>(
     t: &T,
     goal: Cell,
@@ -143,14 +255,5 @@ pub(crate) fn offer_all<T: Terrain, L: Ledger>(
     ensures shape { KeepsShape space.old space.new }
 {
     let node = space.node(at);
-    let cell = node.place.cell();
-    let around = Around::of(t, cell);
-    let moves = less_offered(around, Sides::of(node.place.arrival()));
-    let from = Source {
-        id: at,
-        key: node.key,
-        rank: node.cost_rank(goal),
-        goal,
-    };
-    offer_around(space, from, cell, moves, steps);
+    offer_from(t, goal, at, node, space, steps);
 }

@@ -25,9 +25,10 @@ ghost use Rattle.pruning.specs.First as first;
 use crate::Arrival;
 use crate::turns::{Side, is_diagonal, quarter, rear, turn};
 use arrayvec::ArrayVec;
-use grid_moves::{ALL_DIRS, Cell, Corner, Dir, Terrain, dir_number, is_open, step};
+use grid_moves::{ALL_DIRS, Cell, Corner, Dir, Terrain, dir_number, is_open, is_passable};
 
 // Whether the directions are one.
+#[inline(always)]
 fn is_dir(d: Dir, e: Dir) -> bool
     ensures { result ≡ moves.is_dir d e }
 {
@@ -35,6 +36,7 @@ fn is_dir(d: Dir, e: Dir) -> bool
 }
 
 // Whether the cell beside this one is blocked; what lies outside the map is.
+#[inline(always)]
 fn is_blocked<T: Terrain>(t: &T, at: Cell, d: Dir) -> bool
     requires free { IsTrue (is_free (T.grid t.now) at) }
     requires whole { IsGrid (T.grid t.now) }
@@ -43,14 +45,35 @@ fn is_blocked<T: Terrain>(t: &T, at: Cell, d: Dir) -> bool
     !is_open(t, at, d)
 }
 
+// Whether a diagonal move passes between the two cells beside it.
+#[inline(always)]
+fn passes<T: Terrain>(t: &T, at: Cell, d: Dir) -> bool
+    requires free { IsTrue (is_free (T.grid t.now) at) }
+    requires whole { IsGrid (T.grid t.now) }
+    ensures { result ≡ moves.is_passable (T.grid t.now).corner
+        (moves.is_open (T.grid t.now) at (turns.turn Side.Left d))
+        (moves.is_open (T.grid t.now) at (turns.turn Side.Right d)) }
+{
+    let left = is_open(t, at, turn(Side::Left, d));
+    let right = is_open(t, at, turn(Side::Right, d));
+    is_passable(t.corner(), left, right)
+}
+
 // Whether the move is legal.
+#[inline(always)]
 fn can_move<T: Terrain>(t: &T, at: Cell, d: Dir) -> bool
+    requires free { IsTrue (is_free (T.grid t.now) at) }
+    requires whole { IsGrid (T.grid t.now) }
     ensures { result ≡ spec.can_move (T.grid t.now) at d }
 {
-    step(t, at, d).is_some()
+    if is_diagonal(d) && !passes(t, at, d) {
+        return false;
+    }
+    is_open(t, at, d)
 }
 
 // Whether a turn by an eighth to this side is kept.
+#[inline(always)]
 fn keeps_eighth<T: Terrain>(t: &T, at: Cell, d: Dir, side: Side) -> bool
     requires free { IsTrue (is_free (T.grid t.now) at) }
     requires whole { IsGrid (T.grid t.now) }
@@ -63,6 +86,7 @@ fn keeps_eighth<T: Terrain>(t: &T, at: Cell, d: Dir, side: Side) -> bool
 }
 
 // Whether a turn by a quarter to this side is kept.
+#[inline(always)]
 fn keeps_quarter<T: Terrain>(t: &T, at: Cell, d: Dir, side: Side) -> bool
     requires free { IsTrue (is_free (T.grid t.now) at) }
     requires whole { IsGrid (T.grid t.now) }
@@ -75,6 +99,7 @@ fn keeps_quarter<T: Terrain>(t: &T, at: Cell, d: Dir, side: Side) -> bool
 }
 
 // Whether `to` is a turn from `d` to this side, and is kept.
+#[inline(always)]
 fn is_kept_aside<T: Terrain>(t: &T, at: Cell, d: Dir, to: Dir, side: Side) -> bool
     requires free { IsTrue (is_free (T.grid t.now) at) }
     requires whole { IsGrid (T.grid t.now) }
@@ -86,6 +111,7 @@ fn is_kept_aside<T: Terrain>(t: &T, at: Cell, d: Dir, to: Dir, side: Side) -> bo
 }
 
 // Whether pruning keeps this direction.
+#[inline(always)]
 fn is_kept<T: Terrain>(t: &T, at: Cell, by: Arrival, to: Dir) -> bool
     requires free { IsTrue (is_free (T.grid t.now) at) }
     requires whole { IsGrid (T.grid t.now) }
@@ -102,6 +128,7 @@ fn is_kept<T: Terrain>(t: &T, at: Cell, by: Arrival, to: Dir) -> bool
 }
 
 // Those of these directions that are allowed, in order.
+#[inline(always)]
 fn allowed_of<T: Terrain>(t: &T, at: Cell, by: Arrival, dirs: &[Dir]) -> ArrayVec<Dir, 8>
     requires free { IsTrue (is_free (T.grid t.now) at) }
     requires whole { IsGrid (T.grid t.now) }
@@ -129,10 +156,21 @@ pub fn allowed<T: Terrain>(t: &T, at: Cell, by: Arrival) -> ArrayVec<Dir, 8>
     requires whole { IsGrid (T.grid t.now) }
     ensures rule { result.items ≡ spec.allowed_dirs (T.grid t.now) at by }
 {
-    allowed_of(t, at, by, &ALL_DIRS)
+    match by {
+        Arrival::Start => allowed_of(t, at, by, &ALL_DIRS),
+        Arrival::By(Dir::N) => allowed_of(t, at, Arrival::By(Dir::N), &ALL_DIRS),
+        Arrival::By(Dir::NE) => allowed_of(t, at, Arrival::By(Dir::NE), &ALL_DIRS),
+        Arrival::By(Dir::E) => allowed_of(t, at, Arrival::By(Dir::E), &ALL_DIRS),
+        Arrival::By(Dir::SE) => allowed_of(t, at, Arrival::By(Dir::SE), &ALL_DIRS),
+        Arrival::By(Dir::S) => allowed_of(t, at, Arrival::By(Dir::S), &ALL_DIRS),
+        Arrival::By(Dir::SW) => allowed_of(t, at, Arrival::By(Dir::SW), &ALL_DIRS),
+        Arrival::By(Dir::W) => allowed_of(t, at, Arrival::By(Dir::W), &ALL_DIRS),
+        Arrival::By(Dir::NW) => allowed_of(t, at, Arrival::By(Dir::NW), &ALL_DIRS),
+    }
 }
 
 // Whether there is a wall in one direction, and the move in another is legal.
+#[inline(always)]
 fn goes_past_wall<T: Terrain>(t: &T, at: Cell, wall: Dir, to: Dir) -> bool
     requires free { IsTrue (is_free (T.grid t.now) at) }
     requires whole { IsGrid (T.grid t.now) }
@@ -142,6 +180,7 @@ fn goes_past_wall<T: Terrain>(t: &T, at: Cell, wall: Dir, to: Dir) -> bool
 }
 
 // Whether a neighbour on this side is forced.
+#[inline(always)]
 fn is_forced_on<T: Terrain>(t: &T, at: Cell, d: Dir, side: Side) -> bool
     requires free { IsTrue (is_free (T.grid t.now) at) }
     requires whole { IsGrid (T.grid t.now) }

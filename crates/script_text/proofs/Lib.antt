@@ -1,2 +1,4 @@
 pub mod Commands
 pub mod Laws
+pub mod Cuts
+pub mod Feeding

@@ -17,10 +17,13 @@
 
 mod command;
 mod fault;
+mod feeder;
 mod reading;
+mod room;
 
 pub use command::Command;
 pub use fault::ScriptFault;
+pub use feeder::LineFeeder;
 pub use reading::read_script;
 
 #[cfg(test)]

@@ -17,7 +17,7 @@ use std::alloc::Global;
 use text_line::{Fields, Line, Pieces, number, without_cr};
 
 /// The most bytes that a line has before its line feed or the end, with its carriage return.
-const MAX_LINE: usize = 128;
+pub(crate) const MAX_LINE: usize = 128;
 
 /// The commands that a text of at most 2^26 bytes spells, in order, or the fault of its first broken
 /// line.
@@ -56,7 +56,7 @@ fn read(alloc: Global, text: &[u8]) -> Result<Vec<Command>, ScriptFault>
 }
 
 /// The command of a line, or none where it is blank.
-fn command_on(piece: Line<'_>) -> Result<Option<Command>, ScriptFault>
+pub(crate) fn command_on(piece: Line<'_>) -> Result<Option<Command>, ScriptFault>
     ensures { result ≡ piece_read (numbered piece.entry) }
 {
     if piece.bytes.len() > MAX_LINE {

@@ -1,3 +1,5 @@
+ghost use Rattle.std.specs.Prelude.{◌<◌, length};
+
 use super::*;
 use std::alloc::{AllocError, Global};
 use std::test::*;
@@ -61,5 +63,67 @@ fn a_line_has_at_most_128_bytes(rt: HostRuntime) -> Result<(), Fail> {
             Err(fault) => assert!(rt; !right && fault == ScriptFault::Long { line: 1 }),
         }
     }
+    Ok(())
+}
+
+// Feeds the text in pieces of so many bytes, and ends it.
+fn feed_all(text: &[u8], size: usize, got: &mut Vec<Command>) -> Result<(), ScriptFault>
+    requires some { 0 < size }
+    requires few { length text.now < 1000 }
+{
+    let mut feeder = LineFeeder::new();
+    for piece in text.chunks(size) {
+        if feeder.taken() < 1000 && piece.len() < 1000 {
+            feeder.feed(piece, got)?;
+        }
+    }
+    feeder.end(got)
+}
+
+// Two lines, the second with a carriage return, and a last one without line feed.
+#[test]
+fn a_script_in_pieces_is_the_script(rt: HostRuntime) -> Result<(), Fail> {
+    let query = Command::Query {
+        sx: 0,
+        sy: 1,
+        gx: 2,
+        gy: 1,
+    };
+    let free = Command::Free { x: 1, y: 1 };
+    for size in [1, 7, 64] {
+        let mut got = Vec::new(rt.alloc());
+        feed_all(
+            b"query 0 1 2 1\n\n free 1 1\r\nquery 0 1 2 1",
+            size,
+            &mut got,
+        )?;
+        assert_eq!(rt; got.as_slice(), [query, free, query].as_slice());
+        got.clear();
+        let fault = feed_all(b"free 1 1\n\nbolck 1 1\nquery 0 1 2 1\n", size, &mut got);
+        assert!(rt; matches!(fault, Err(ScriptFault::Line { line: 3 })));
+        assert_eq!(rt; got.as_slice(), [free].as_slice());
+    }
+    Ok(())
+}
+
+// A line of 129 blanks is refused before its line feed comes; what comes later changes nothing.
+#[test]
+fn a_long_line_is_refused_at_its_129th_byte(rt: HostRuntime) -> Result<(), Fail> {
+    let mut got = Vec::new(rt.alloc());
+    let mut feeder = LineFeeder::new();
+    feeder.feed(b"free 1 1\n", &mut got)?;
+    for _ in 0..128 {
+        if feeder.taken() < 1000 {
+            feeder.feed(b" ", &mut got)?;
+        }
+    }
+    assert!(rt; feeder.taken() < 1000);
+    for piece in [b" ".as_slice(), b"\nfree 1 1\n"] {
+        assert!(rt; feeder.taken() < 1000 && piece.len() < 1000);
+        let fault = feeder.feed(piece, &mut got);
+        assert!(rt; matches!(fault, Err(ScriptFault::Long { line: 2 })));
+    }
+    assert!(rt; matches!(feeder.end(&mut got), Err(ScriptFault::Long { line: 2 })));
+    assert_eq!(rt; got.len(), 1);
     Ok(())
 }

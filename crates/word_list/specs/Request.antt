@@ -10,6 +10,7 @@ pub data Asked : Type 0 where
   Version : Asked
   Query : (map : List ℕ) (sx sy gx gy : ℕ) → Asked
   Solve : (map script : List ℕ) → Asked
+  Live : (map : List ℕ) → Asked
   Scen : (map scen : List ℕ) → Asked
   Prove : (map : List ℕ) (sx sy gx gy : ℕ) → Asked
   Check : (map cert : List ℕ) → Asked
@@ -22,6 +23,7 @@ asked request.Help = Help
 asked request.Version = Version
 asked (request.Query map sx sy gx gy) = Query map.now sx sy gx gy
 asked (request.Solve map script) = Solve map.now script.now
+asked (request.Live map) = Live map.now
 asked (request.Scen map scen) = Scen map.now scen.now
 asked (request.Prove map sx sy gx gy) = Prove map.now sx sy gx gy
 asked (request.Check map cert) = Check map.now cert.now
@@ -34,6 +36,7 @@ HasSides request.Help = ⊤
 HasSides request.Version = ⊤
 HasSides (request.Query map sx sy gx gy) = ⊤
 HasSides (request.Solve map script) = ⊤
+HasSides (request.Live map) = ⊤
 HasSides (request.Scen map scen) = ⊤
 HasSides (request.Prove map sx sy gx gy) = ⊤
 HasSides (request.Check map cert) = ⊤

@@ -9,7 +9,7 @@ use Rattle.word_list.specs.declared.rows.Kind.TheVariants.{File, Number, Seed, S
 use Rattle.word_list.specs.declared.rows.Row as declared
 use Rattle.word_list.specs.declared.settings.Choice.{Choice}
 use Rattle.word_list.specs.declared.settings.Choice.TheVariants.{Engine, Show, Rule}
-use Rattle.word_list.specs.Request.{Asked, Help, Version, Query, Solve, Scen, Prove, Check, Make, Drill}
+use Rattle.word_list.specs.Request.{Asked, Help, Version, Query, Solve, Live, Scen, Prove, Check, Make, Drill}
 
 -- a command, the kinds of the words that it takes, and the settings that it allows after them
 pub record Row : Type 0 where
@@ -32,6 +32,8 @@ row_of name =
     })
     else if bytes_eq name (codes "solve") then
     Some (record { command = command.Solve; takes = File ∷ File ∷ []; allows = Engine ∷ Show ∷ Rule ∷ [] })
+    else if bytes_eq name (codes "live") then
+    Some (record { command = command.Live; takes = File ∷ []; allows = Engine ∷ Show ∷ Rule ∷ [] })
     else if bytes_eq name (codes "scen") then
     Some (record { command = command.Scen; takes = File ∷ File ∷ []; allows = Engine ∷ Rule ∷ [] })
     else if bytes_eq name (codes "prove") then
@@ -94,6 +96,7 @@ asked_by command.Version words = Version
 asked_by command.Query words =
     Query (word_at words 0) (number_at words 1) (number_at words 2) (number_at words 3) (number_at words 4)
 asked_by command.Solve words = Solve (word_at words 0) (word_at words 1)
+asked_by command.Live words = Live (word_at words 0)
 asked_by command.Scen words = Scen (word_at words 0) (word_at words 1)
 asked_by command.Prove words =
     Prove (word_at words 0) (number_at words 1) (number_at words 2) (number_at words 3) (number_at words 4)

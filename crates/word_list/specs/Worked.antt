@@ -2,7 +2,7 @@
 use Rattle.std.specs.Prelude.{◌≡◌, ℕ, Bool, true, false, List, [], ◌∷◌, codes, refl, Option, Some, None}
 use Rattle.text_line.specs.LongNumbers.{long_number_of}
 use Rattle.text_line.specs.Numbers.{number_of}
-use Rattle.word_list.specs.declared.request.Pick.TheVariants.{Plain}
+use Rattle.word_list.specs.declared.request.Pick.TheVariants.{Plain, Jps}
 use Rattle.word_list.specs.declared.request.Show.{Show}
 use Rattle.word_list.specs.declared.request.Show.TheVariants.{Points, Cells, Trace}
 use Rattle.word_list.specs.Request.{Call, Help, Query, Solve, Scen, Make}
@@ -23,6 +23,18 @@ query_of show one = Some (record {
 pub defaults : query_with [] ≡ query_of Points false
 unfolding number_of
 defaults = refl
+
+-- another engine, and a word that is none
+pub jumping : query_with (codes "engine=jps" ∷ []) ≡ Some (record {
+  request = Query (codes "m") 0 0 2 2;
+  settings = record { pick = Jps; show = Points; one = false };
+})
+unfolding number_of
+jumping = refl
+
+pub no_engine : query_with (codes "engine=jsp" ∷ []) ≡ None
+unfolding number_of
+no_engine = refl
 
 -- settings in any order
 pub show_before_rule : query_with (codes "show=cells" ∷ codes "rule=one" ∷ []) ≡ query_of Cells true

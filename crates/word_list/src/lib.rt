@@ -8,6 +8,7 @@
 //! --version
 //! query MAP SX SY GX GY [engine=plain] [show=points|show=cells|show=trace] [rule=none|rule=one]
 //! solve MAP SCRIPT [engine=plain] [show=points|show=cells|show=trace] [rule=none|rule=one]
+//! live MAP [engine=plain] [show=points|show=cells|show=trace] [rule=none|rule=one]
 //! scen MAP SCEN [engine=plain] [rule=none|rule=one]
 //! make SEED W H P
 //! drill SEED [engine=plain] [rule=none|rule=one]

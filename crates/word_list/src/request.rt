@@ -22,6 +22,10 @@ pub enum Request<'a> {
         map: &'a str,
         script: &'a str,
     },
+    /// What each command of a script that comes in does on the map.
+    Live {
+        map: &'a str,
+    },
     /// How the listed lengths of the scenario agree with the least ones on the map.
     Scen {
         map: &'a str,
@@ -69,6 +73,8 @@ pub enum Pick {
     /// The one that looks at every neighbour of a cell.
     #[default]
     Plain,
+    /// The one that jumps, cell by cell.
+    Jps,
 }
 
 /// What an answer shows of a walk.

@@ -17,6 +17,7 @@ pub enum Command {
     Version,
     Query,
     Solve,
+    Live,
     Scen,
     Prove,
     Check,
@@ -109,6 +110,7 @@ pub fn row_named(name: &str) -> Option<Row>
             &[Engine, Show, Rule],
         ),
         "solve" => (Command::Solve, &[File, File], &[Engine, Show, Rule]),
+        "live" => (Command::Live, &[File], &[Engine, Show, Rule]),
         "scen" => (Command::Scen, &[File, File], &[Engine, Rule]),
         "prove" => (
             Command::Prove,
@@ -145,6 +147,9 @@ pub fn request<'a>(command: Command, words: &'a [String]) -> Request<'a>
         Command::Solve => Request::Solve {
             map: name_at(words, 0),
             script: name_at(words, 1),
+        },
+        Command::Live => Request::Live {
+            map: name_at(words, 0),
         },
         Command::Scen => Request::Scen {
             map: name_at(words, 0),

@@ -34,6 +34,7 @@ impl Setting {
     {
         match word {
             "engine=plain" => Some(Setting::Engine(Pick::Plain)),
+            "engine=jps" => Some(Setting::Engine(Pick::Jps)),
             "show=points" => Some(Setting::Show(Show::Points)),
             "show=cells" => Some(Setting::Show(Show::Cells)),
             "show=trace" => Some(Setting::Show(Show::Trace)),

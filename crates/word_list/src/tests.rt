@@ -13,7 +13,7 @@ fn words_of(alloc: Global, line: &str) -> Result<Vec<String>, AllocError> {
 // Counted by hand, from the table of commands.
 #[test]
 fn the_first_word_of_no_call_is_named(rt: HostRuntime) -> Result<(), Fail> {
-    let lists: [(&str, u32); 17] = [
+    let lists: [(&str, u32); 20] = [
         ("mkae", 1),
         ("make", 2),
         ("make 7 0 2 0", 3),
@@ -24,10 +24,13 @@ fn the_first_word_of_no_call_is_named(rt: HostRuntime) -> Result<(), Fail> {
         ("query m 0 0 2 x y", 6),
         ("query m 0 0 0000000002 2", 5),
         ("query m 0 0 2 2 2", 7),
-        ("query m 0 0 2 2 engine=jps engine=jps", 7),
+        ("query m 0 0 2 2 engine=jsp", 7),
+        ("query m 0 0 2 2 engine=jps engine=plain", 8),
         ("query m 0 0 2 2 engine=plain show=cells engine=plain", 9),
         ("query m engine=plain 0 0 2 2", 3),
         ("solve m s engine=", 4),
+        ("live", 2),
+        ("live m s", 3),
         ("scen m", 3),
         ("scen m s show=points engine=plain", 4),
         ("scen m s rule=one rule=none rule=one", 5),
@@ -49,7 +52,7 @@ fn the_first_word_of_no_call_is_named(rt: HostRuntime) -> Result<(), Fail> {
 
 #[test]
 fn a_query_is_read_with_its_settings(rt: HostRuntime) -> Result<(), Fail> {
-    let line = "query  007 1 2 000000003 show=trace engine=plain rule=one";
+    let line = "query  007 1 2 000000003 show=trace engine=jps rule=one";
     let words = words_of(rt.alloc(), line)?;
     match read_words(&words) {
         Ok(
@@ -66,7 +69,7 @@ fn a_query_is_read_with_its_settings(rt: HostRuntime) -> Result<(), Fail> {
         ) => {
             assert_eq!(rt; map, "");
             assert_eq!(rt; (sx, sy, gx, gy), (7, 1, 2, 3));
-            assert_eq!(rt; settings.pick, Pick::Plain);
+            assert_eq!(rt; settings.pick, Pick::Jps);
             assert_eq!(rt; settings.show, Show::Trace);
             assert!(rt; settings.one);
         }

@@ -14,6 +14,6 @@ returns-then-eq-clause-edited g c = adds_same c.args.self.now.layers
 
 pub returns-clause-edited : goal.returns-clause-edited
 returns-clause-edited g c =
-    let after : Layers = record { land = c.set.new.self; water = c.set-2.new.self } in
+    let after : Layers = record { land = c.set.new.self.grid; water = c.set-2.new.self.grid } in
     adds_done c.args.self.now.layers after (edit_at c.args.x c.args.y c.args.to)
     (search rules) (search rules) (search rules)

@@ -9,14 +9,14 @@ returns-then-free-clause-short g c =
     let from : Cell = record { x = c.args.sx; y = c.args.sy } in
     let to : Cell = record { x = c.args.gx; y = c.args.gy } in
     reply_is_short c.args.self.now.layers from to c.search.result (search rules)
-    (result_on_grid c.args.self.now.layers c.self.inside.water from to c.search.result (search rules)
+    (result_on_grid c.args.self.now.layers c.self.inside.water.grid from to c.search.result (search rules)
     (search rules) (search rules))
 
 pub returns-else-free-clause-right : goal.returns-else-free-clause-right
 returns-else-free-clause-right g c =
     let from : Cell = record { x = c.args.sx; y = c.args.sy } in
     let to : Cell = record { x = c.args.gx; y = c.args.gy } in
-    result_on_grid c.args.self.now.layers c.self.inside.land from to c.search-else-free.result (search rules)
+    result_on_grid c.args.self.now.layers c.self.inside.land.grid from to c.search-else-free.result (search rules)
     (search rules) (search rules)
 
 pub returns-else-free-clause-short : goal.returns-else-free-clause-short
@@ -24,5 +24,5 @@ returns-else-free-clause-short g c =
     let from : Cell = record { x = c.args.sx; y = c.args.sy } in
     let to : Cell = record { x = c.args.gx; y = c.args.gy } in
     reply_is_short c.args.self.now.layers from to c.search-else-free.result (search rules)
-    (result_on_grid c.args.self.now.layers c.self.inside.land from to c.search-else-free.result (search rules)
+    (result_on_grid c.args.self.now.layers c.self.inside.land.grid from to c.search-else-free.result (search rules)
     (search rules) (search rules))

@@ -1,0 +1,41 @@
+-- The steps of a search, counted by the states of its reply.
+use Rattle.std.proofs.Common.{◌≡◌, ℕ, zero, suc, ◌+◌, ◌-◌, ◌*◌, ◌<◌, ◌≤◌, List, ◌∷◌, length, map, reverse, ap, ◌∙◌, arith}
+use Rattle.std.specs.Prelude.{Option, Some, MatchOption}
+use Rattle.std.proofs.lemmas.List.{length-map, length-reverse}
+use Rattle.root2_cost.specs.declared.Cost.{Cost}
+use Rattle.grid_moves.specs.declared.Cell.{Cell}
+use Rattle.grid_moves.specs.Grid.{GridData}
+use Rattle.best_first.specs.State.{state_number}
+use Rattle.search_core.specs.Run.{IsFound, IsExhausted}
+
+numbered : {A : Type 0} (number : A → ℕ) (x : A) (xs : List A)
+    → length (reverse (map number (x ∷ xs))) ≡ suc (length xs)
+numbered number x xs = length-reverse (map number (x ∷ xs)) ∙ length-map (x ∷ xs) number
+
+-- a search that found a walk took a state, the last one
+some_taken : (g : GridData) (s t : Cell) (points : List Cell) (cost : Cost) (taken : List ℕ)
+    → IsFound g s t points cost taken → 0 < length taken
+some_taken g s t points cost taken found =
+    let all : length taken ≡ suc (length found.earlier) =
+    ap length found.numbered ∙ numbered (λ u. state_number g.width u.state) found.last found.earlier in
+    omega arith
+
+-- the last one is the goal's
+but_the_last : (fewest old new n : ℕ) → 0 < n → old + n * fewest ≤ new + fewest
+    → old + (n - 1) * fewest ≤ new
+but_the_last fewest old new zero some rose = absurd (omega arith)
+but_the_last fewest old new (suc n) some rose =
+    let one : suc n * fewest ≡ n * fewest + fewest = grind arith in
+    let less : suc n - 1 ≡ n = omega arith in
+    rw less (omega arith)
+
+pub rose_away : (g : GridData) (s t : Cell) (answer : Option (List Cell × Cost)) (taken : List ℕ)
+    (points : List Cell) (cost : Cost) (fewest old new : ℕ) → answer ≡ Some (points, cost)
+    → MatchOption answer (IsExhausted g s t taken) (λ told. IsFound g s t told.0 told.1 taken)
+    → MatchOption answer (old + length taken * fewest ≤ new)
+    (λ _. old + length taken * fewest ≤ new + fewest)
+    → old + (length taken - 1) * fewest ≤ new
+rose_away g s t answer taken points cost fewest old new is run rose =
+    let found : IsFound g s t points cost taken = rw is at run in
+    let all : old + length taken * fewest ≤ new + fewest = rw is at rose in
+    but_the_last fewest old new (length taken) (some_taken g s t points cost taken found) all

@@ -1,0 +1,136 @@
+//! A layer of a session, and the searches on it.
+
+ghost use Rattle.std.specs.Prelude.{◌≡◌, ◌*◌, true, IfOk};
+ghost use Rattle.grid_moves.specs.Grid.{grid_with, is_free, is_inside};
+ghost use Rattle.pruning.specs.Source.{IsWithin};
+ghost use Rattle.search_core.specs.Counting.{most_for_state};
+ghost use Rattle.search_core.specs.Jumping.{HasPlaces};
+ghost use Rattle.search_core.specs.Serving.{OnEach, OnSome};
+ghost use Rattle.edit_replay.specs.Counting.{RoseByStates, RoseWithin, fewest_of, most_of, states_taken};
+ghost use Rattle.edit_replay.specs.Memory.{Fits, engine_with};
+ghost use Rattle.edit_replay.specs.Replies.{IsJumpReply, IsRightOn, IsRunOn};
+
+use crate::memory::Memory;
+use crate::{Engine, NoMemory, Reply};
+use best_first::Space;
+use grid_moves::{Cell, Grid, Terrain};
+use jump_plain::PlainJumps;
+use plain_search::{Plain, Taken, Workspace, least_in};
+use pruning::JumpSource;
+use search_core::{Found, search_in};
+use std::alloc::Global;
+use std::sync::ledger::Ledger;
+use steps::Steps;
+
+/// One layer of a map: its current grid.
+#[derive(Drop)]
+pub(crate) struct Layer {
+    pub grid: Grid,
+}
+
+// The plain engine's reply, between free cells.
+fn search_plainly(
+    alloc: Global,
+    grid: &Grid,
+    from: Cell,
+    to: Cell,
+    space: &mut Workspace,
+) -> Result<Reply, NoMemory>
+    requires from { is_free grid.now from ≡ true }
+    requires to { is_free grid.now to ≡ true }
+    requires fits { Fits grid.now (Memory.ByCell space.old) }
+    ensures right { IfOk result (IsRightOn grid.now from to) }
+    ensures run { IfOk result (IsRunOn Engine.Plain grid.now from to) }
+    ensures fits { Fits grid.now (Memory.ByCell space.new) }
+{
+    match least_in(alloc, grid, from, to, space)? {
+        Plain::Found {
+            points,
+            cost,
+            taken,
+        } => Ok(Reply::Walk {
+            points,
+            cost,
+            taken,
+        }),
+        Plain::None { taken } => Ok(Reply::None { taken }),
+    }
+}
+
+// The reply of an engine that jumps, between free cells, by its source of jumps.
+fn search_by_jumps<J: JumpSource, L: Ledger>(
+    alloc: Global,
+    j: &J,
+    from: Cell,
+    to: Cell,
+    space: &mut Space,
+    steps: &mut Steps<L>,
+) -> Result<Reply, NoMemory>
+    requires some { OnSome (J.StandsFor j.now) from to }
+    requires places { OnEach (J.StandsFor j.now) from to (λ g. HasPlaces g space.old) }
+    ensures right { IfOk result (λ reply. OnEach (J.StandsFor j.now) from to
+        (λ g. IsRightOn g from to reply)) }
+    ensures run { IfOk result (λ reply. OnEach (J.StandsFor j.now) from to
+        (λ g. IsJumpReply g from to reply)) }
+    ensures most { IfOk result (λ reply. IsWithin (J.most j.now)
+        (λ told. states_taken reply * most_for_state told) steps.old steps.new) }
+    ensures fewest { IfOk result (RoseByStates (J.fewest j.now) steps.old steps.new) }
+    ensures places { OnEach (J.StandsFor j.now) from to (λ g. HasPlaces g space.new) }
+{
+    let Found { answer, taken } = search_in(alloc, j, from, to, space, steps)?;
+    match answer {
+        Some((points, cost)) => Ok(Reply::Walk {
+            points,
+            cost,
+            taken,
+        }),
+        None => Ok(Reply::None { taken }),
+    }
+}
+
+impl Layer {
+    /// Makes a cell free on this layer or not.
+    pub(crate) fn set(&mut self, c: Cell, free: bool)
+        requires { is_inside self.old.grid c ≡ true }
+        ensures { self.new.grid ≡ grid_with self.old.grid c free }
+    {
+        self.grid.set(c, free);
+    }
+
+    /// The reply to a query that starts in a free cell of this layer, by the run of the memory's
+    /// engine. Where it ends in no free cell of the layer, nothing is searched.
+    pub(crate) fn search<L: Ledger>(
+        &self,
+        alloc: Global,
+        from: Cell,
+        to: Cell,
+        memory: &mut Memory,
+        steps: &mut Steps<L>,
+    ) -> Result<Reply, NoMemory>
+        requires from { is_free self.now.grid from ≡ true }
+        requires fits { Fits self.now.grid memory.old }
+        ensures right { IfOk result (IsRightOn self.now.grid from to) }
+        ensures run { IfOk result (IsRunOn (engine_with memory.old) self.now.grid from to) }
+        ensures most { IfOk result (RoseWithin (most_of (engine_with memory.old)) steps.old steps.new) }
+        ensures fewest { IfOk result
+            (RoseByStates (fewest_of (engine_with memory.old)) steps.old steps.new) }
+        ensures uncounted { engine_with memory.old ≡ Engine.Plain → steps.new ≡ steps.old }
+        ensures engine { engine_with memory.new ≡ engine_with memory.old }
+        ensures fits { Fits self.now.grid memory.new }
+    {
+        if !self.grid.free(to) {
+            return Ok(Reply::None {
+                taken: Taken::new(alloc),
+            });
+        }
+        match memory {
+            Memory::ByCell(space) => search_plainly(alloc, &self.grid, from, to, space),
+            Memory::ByArrival(space) => {
+                let jumps = PlainJumps {
+                    terrain: &self.grid,
+                };
+                search_by_jumps(alloc, &jumps, from, to, space, steps)
+            }
+        }
+    }
+}

@@ -1,0 +1,4 @@
+pub mod Entry
+pub mod Local
+pub mod Tables
+pub mod Sweep

@@ -1,0 +1,158 @@
+-- Texts that are cut behind each line feed, byte by byte.
+use Rattle.std.proofs.Common.{◌≡◌, ◌≢◌, ℕ, suc, ◌+◌, ◌<◌, ◌≤◌, Bool, true, false, List, [], ◌∷◌, ◌++◌, append_assoc, length, length-append, Option, Some, None, Result, Ok, Err, refl, sym, ap, ◌∙◌, subst, inl, inr, arith}
+use Rattle.std.specs.Prelude.{nat_lt, if◌then◌else◌}
+use Rattle.std.specs.List.{onto_first}
+use Rattle.std.specs.Option.{option_or}
+use Rattle.std.proofs.lemmas.Bool.{cases_Bool, ltb-false, ltb-true, lt-ltb, le-ltb}
+use Rattle.std.proofs.lemmas.List.{append-nil}
+use Rattle.text_line.specs.Left.{Numbered, numbered_from, numbered_pieces}
+use Rattle.text_line.specs.Lines.{is_line_feed, pieces_of}
+use Rattle.text_line.specs.Reading.{first_fault, fault_in, values_in, values_on, reading}
+use Rattle.script_text.specs.declared.command.Command.{Command}
+use Rattle.script_text.specs.declared.fault.ScriptFault.{ScriptFault}
+use Rattle.script_text.specs.declared.fault.ScriptFault.TheVariants.{Line, Long, NoMemory}
+use Rattle.script_text.specs.Lines.{piece_read}
+use Rattle.script_text.specs.Faults.{script_of}
+use Rattle.script_text.specs.Feeding.{Cut, within_line, with_first, cut, with_command, commands_on, whole_lines, length_fault, known_fault, fault_so_far, commands_so_far, fault_of, commands_of}
+
+-- a cut text with one byte more
+abbrev pub with_last : Cut → ℕ → Cut
+with_last c byte = if is_line_feed byte then record { lines = c.lines ++ c.rest ∷ []; rest = [] }
+    else record { lines = c.lines; rest = c.rest ++ byte ∷ [] }
+
+-- bytes before and behind a text change places
+apart : (x y : ℕ) (lines : List (List ℕ)) (rest : List ℕ)
+    → with_first x (with_last (record { lines = lines; rest = rest }) y)
+    ≡ with_last (with_first x (record { lines = lines; rest = rest })) y
+apart x y [] rest = elim (cases_Bool (is_line_feed x)) [
+  | inl e ↦ elim (cases_Bool (is_line_feed y)) [ inl f ↦ rw (e, f) refl | inr f ↦ rw (e, f) refl ]
+  | inr e ↦ elim (cases_Bool (is_line_feed y)) [ inl f ↦ rw (e, f) refl | inr f ↦ rw (e, f) refl ]
+]
+apart x y (line ∷ lines) rest = elim (cases_Bool (is_line_feed x)) [
+  | inl e ↦ elim (cases_Bool (is_line_feed y)) [ inl f ↦ rw (e, f) refl | inr f ↦ rw (e, f) refl ]
+  | inr e ↦ elim (cases_Bool (is_line_feed y)) [ inl f ↦ rw (e, f) refl | inr f ↦ rw (e, f) refl ]
+]
+
+-- a text is cut byte by byte from its front, too
+pub cut-more : (text : List ℕ) (byte : ℕ) → cut (text ++ byte ∷ []) ≡ with_last (cut text) byte
+unfolding cut
+cut-more [] byte = elim (cases_Bool (is_line_feed byte)) [ inl e ↦ rw e refl | inr e ↦ rw e refl ]
+cut-more (x ∷ text) byte =
+    ap (with_first x) (cut-more text byte) ∙ apart x byte (cut text).lines (cut text).rest
+
+-- the last line of a text, if it needs its line feed
+abbrev pub last_line : List ℕ → List (List ℕ)
+last_line [] = []
+last_line (byte ∷ bytes) = (byte ∷ bytes) ∷ []
+
+onto : (x : ℕ) (lines : List (List ℕ)) (rest : List ℕ)
+    → onto_first x (lines ++ last_line rest)
+    ≡ (within_line x lines rest).lines ++ last_line (within_line x lines rest).rest
+onto x [] [] = refl
+onto x [] (b ∷ bytes) = refl
+onto x (line ∷ lines) rest = refl
+
+-- the lines of a text are those with line feed, and the last one
+pub pieces-cut : (text : List ℕ) → pieces_of text ≡ (cut text).lines ++ last_line (cut text).rest
+unfolding cut
+pieces-cut [] = refl
+pieces-cut (x ∷ text) = elim (cases_Bool (is_line_feed x)) [
+  | inl e ↦ rw e (ap (λ (l : List (List ℕ)). [] ∷ l) (pieces-cut text))
+  | inr e ↦ rw e (ap (onto_first x) (pieces-cut text) ∙ onto x (cut text).lines (cut text).rest)
+]
+
+-- lines are numbered on
+pub numbered-more : (number : ℕ) (lines more : List (List ℕ)) → numbered_from number (lines ++ more)
+    ≡ numbered_from number lines ++ numbered_from (number + length lines) more
+numbered-more number [] more =
+    ap (λ n. numbered_from n more) (let e : number ≡ number + length {A = List ℕ} [] = omega arith in e)
+numbered-more number (line ∷ lines) more =
+    ap (λ (l : List Numbered). record { number = number; bytes = line } ∷ l)
+    (numbered-more (number + 1) lines more
+    ∙ ap (λ n. numbered_from (number + 1) lines ++ numbered_from n more)
+    (let e : number + 1 + length lines ≡ number + length (line ∷ lines) = omega arith in e))
+
+-- the first fault of lines and later lines
+pub fault-append : (xs ys : List Numbered)
+    → first_fault piece_read (xs ++ ys) ≡ option_or (first_fault piece_read xs) (first_fault piece_read ys)
+fault-append [] ys = refl
+fault-append (x ∷ xs) ys = ap (option_or (fault_in (piece_read x))) (fault-append xs ys)
+    ∙ grouped (fault_in (piece_read x)) (first_fault piece_read xs) (first_fault piece_read ys)
+  where
+    grouped : (a b c : Option ScriptFault) → option_or a (option_or b c) ≡ option_or (option_or a b) c
+    grouped None b c = refl
+    grouped (Some a) b c = refl
+
+pub or-none : (a b : Option ScriptFault) → option_or a b ≡ None → (a ≡ None) × (b ≡ None)
+or-none None b none = (refl, none)
+or-none (Some f) b none = absurd cc
+
+-- the commands of lines without fault and of later lines
+pub commands-append : (xs ys : List Numbered) → first_fault piece_read xs ≡ None
+    → commands_on (xs ++ ys) ≡ commands_on xs ++ commands_on ys
+commands-append [] ys none = refl
+commands-append (x ∷ xs) ys none =
+    let parts = or-none (fault_in (piece_read x)) (first_fault piece_read xs) none in
+    ap (with_command (piece_read x)) (commands-append xs ys parts.1) ∙ behind (piece_read x) parts.0
+  where
+    behind : (r : Result (Option Command) ScriptFault) → fault_in r ≡ None
+        → with_command r (commands_on xs ++ commands_on ys) ≡ with_command r (commands_on xs) ++ commands_on ys
+    behind (Ok None) clean = refl
+    behind (Ok (Some command)) clean = refl
+    behind (Err fault) clean = absurd cc
+
+-- behind a fault no command counts
+pub commands-stay : (xs ys : List Numbered) (fault : ScriptFault) → first_fault piece_read xs ≡ Some fault
+    → commands_on (xs ++ ys) ≡ commands_on xs
+commands-stay [] ys fault some = absurd cc
+commands-stay (x ∷ xs) ys fault some =
+    by_first (piece_read x) (λ later. commands-stay xs ys fault later) some
+  where
+    by_first : (r : Result (Option Command) ScriptFault)
+        → (first_fault piece_read xs ≡ Some fault → commands_on (xs ++ ys) ≡ commands_on xs)
+        → option_or (fault_in r) (first_fault piece_read xs) ≡ Some fault
+        → with_command r (commands_on (xs ++ ys)) ≡ with_command r (commands_on xs)
+    by_first (Err named) stay some = refl
+    by_first (Ok None) stay some = stay some
+    by_first (Ok (Some command)) stay some = ap (λ (l : List Command). command ∷ l) (stay some)
+
+-- one line alone
+pub fault-one : (x : Numbered) → first_fault piece_read (x ∷ []) ≡ fault_in (piece_read x)
+fault-one x = alone (fault_in (piece_read x))
+  where
+    alone : (f : Option ScriptFault) → option_or f None ≡ f
+    alone None = refl
+    alone (Some fault) = refl
+
+pub commands-one : (x : Numbered) → commands_on (x ∷ []) ≡ values_in (piece_read x)
+commands-one x = alone (piece_read x)
+  where
+    alone : (r : Result (Option Command) ScriptFault) → with_command r [] ≡ values_in r
+    alone (Ok None) = refl
+    alone (Ok (Some command)) = refl
+    alone (Err fault) = refl
+
+-- lines without fault are read as their commands
+pub commands-clean : (xs : List Numbered) → first_fault piece_read xs ≡ None
+    → values_on piece_read xs ≡ commands_on xs
+commands-clean [] none = refl
+commands-clean (x ∷ xs) none =
+    let parts = or-none (fault_in (piece_read x)) (first_fault piece_read xs) none in
+    ap (λ (l : List Command). values_in (piece_read x) ++ l) (commands-clean xs parts.1)
+    ∙ same (piece_read x) parts.0
+  where
+    same : (r : Result (Option Command) ScriptFault) → fault_in r ≡ None
+        → values_in r ++ commands_on xs ≡ with_command r (commands_on xs)
+    same (Ok None) clean = refl
+    same (Ok (Some command)) clean = refl
+    same (Err fault) clean = absurd cc
+
+-- a text is read as its commands or its first fault
+pub script-by : (text : List ℕ) → script_of text ≡ reading (fault_of text) (commands_of text)
+unfolding script_of fault_of commands_of
+script-by text = by_fault (first_fault piece_read (numbered_pieces text)) refl
+  where
+    by_fault : (f : Option ScriptFault) → first_fault piece_read (numbered_pieces text) ≡ f
+        → reading f (values_on piece_read (numbered_pieces text)) ≡ reading f (commands_on (numbered_pieces text))
+    by_fault None is = ap Ok (commands-clean (numbered_pieces text) is)
+    by_fault (Some fault) is = refl
