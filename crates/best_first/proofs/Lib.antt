@@ -18,3 +18,4 @@ pub mod Tables
 pub mod Parts
 pub mod Ending
 pub mod Tracing
+pub mod Telling

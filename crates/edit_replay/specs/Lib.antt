@@ -4,3 +4,4 @@ pub mod Memory
 pub mod Counting
 pub mod Replies
 pub mod Existence
+pub mod Oneness

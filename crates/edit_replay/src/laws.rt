@@ -1,8 +1,15 @@
 //! Laws of replies: each is the contract of a call that does nothing.
 
 ghost use Rattle.edit_replay.specs.Existence.{RepliesExist};
+ghost use Rattle.edit_replay.specs.Oneness.{RepliesAreOne};
 
 /// Whatever the engine, the grids and the ends, there is a reply that is right and the engine's run.
 pub fn replies_exist()
     ensures { RepliesExist }
+{}
+
+/// Whatever the engine and the ends, on the layers of one map there is no other such reply: two that
+/// are right and the engine's run have the same points, the same cost and the same taken states.
+pub fn replies_are_one()
+    ensures { RepliesAreOne }
 {}

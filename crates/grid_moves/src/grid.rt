@@ -136,8 +136,7 @@ impl Terrain for Grid {
     }
 
     fn free(&self, c: Cell) -> bool {
-        c.x < self.width
-            && c.y < self.height
+        (c.x < self.width) & (c.y < self.height)
             && self.cells[c.y as usize * self.width as usize + c.x as usize]
     }
 }

@@ -11,6 +11,8 @@ mod kind;
 mod layers;
 mod lines;
 mod live;
+#[cfg(test)]
+mod live_tests;
 mod make;
 mod prove;
 mod query;

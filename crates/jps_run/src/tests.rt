@@ -26,7 +26,7 @@ const SHORE: &[u8] = b"type octile\nheight 2\nwidth 3\nmap\n.WW\n.WW\n";
 
 const TWO_ROWS: &[u8] = b"type octile\nheight 2\nwidth 4\nmap\n....\n....\n";
 
-fn strings(alloc: Global, words: &[&str]) -> Result<Vec<String>, AllocError> {
+pub(crate) fn strings(alloc: Global, words: &[&str]) -> Result<Vec<String>, AllocError> {
     let mut strings = Vec::new(alloc);
     for word in words {
         strings.push(String::from_str(alloc, word)?)?;
@@ -35,7 +35,7 @@ fn strings(alloc: Global, words: &[&str]) -> Result<Vec<String>, AllocError> {
 }
 
 // The files `m` and `s`, read in pieces of 16; the call of this number fails, and none where it is 0.
-fn two_files(
+pub(crate) fn two_files(
     alloc: Global,
     map: &[u8],
     second: &[u8],
@@ -53,7 +53,7 @@ fn two_files(
 }
 
 // A stream that takes one byte a call; the call of this number fails, and none where it is 0.
-fn stream(alloc: Global, failing: u64) -> Result<MemSink, AllocError> {
+pub(crate) fn stream(alloc: Global, failing: u64) -> Result<MemSink, AllocError> {
     let mut numbers = Vec::new(alloc);
     numbers.push(failing)?;
     MemSink::new(alloc, 1000, 1, numbers)

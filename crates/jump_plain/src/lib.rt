@@ -7,7 +7,7 @@
 //! next, so that it reads each cell once, and the goal is looked for by its column and row alone.
 #![tactic(auto)]
 
-mod beside;
+pub mod beside;
 mod jump;
 mod scan;
 mod source;

@@ -13,3 +13,4 @@ pub mod Entries
 pub mod Ascending
 pub mod Closing
 pub mod Reaching
+pub mod Oneness

@@ -7,3 +7,4 @@ pub mod Progress
 pub mod Existence
 pub mod Lists
 pub mod Listing
+pub mod Laws

@@ -5,3 +5,8 @@ pub mod Short
 pub mod Refreshing
 pub mod Ahead
 pub mod Sweeping
+pub mod Clear
+pub mod Stops
+pub mod Goals
+pub mod Told
+pub mod Turning

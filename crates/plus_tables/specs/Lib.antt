@@ -2,3 +2,4 @@ pub mod Entry
 pub mod Local
 pub mod Tables
 pub mod Sweep
+pub mod Reading

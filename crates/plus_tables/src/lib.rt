@@ -7,6 +7,14 @@
 #![tactic(auto)]
 
 mod build;
+mod jumps;
+mod onward;
+mod source;
 mod tables;
+mod turns;
 
+pub use source::PlusJumps;
 pub use tables::Tables;
+
+#[cfg(test)]
+mod tests;

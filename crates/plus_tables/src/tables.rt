@@ -5,8 +5,9 @@ ghost use Rattle.grid_moves.specs.Grid.{IsGrid, is_free};
 ghost use Rattle.plus_tables.specs.Tables as spec;
 ghost use Rattle.plus_tables.specs.Local as local;
 
-use grid_moves::{Cell, Corner, Dir, NoMemory, Terrain, dir_number, step};
-use pruning::{Side, forced, is_diagonal, turn};
+use crate::onward::{is_forced_next, next};
+use grid_moves::{Cell, Corner, Dir, NoMemory, Terrain, dir_number};
+use pruning::{Side, is_diagonal, turn};
 use std::alloc::Global;
 use std::marker::Model;
 use std::sync::ledger::Ledger;
@@ -77,9 +78,10 @@ fn from_before(entry: i16) -> i16
 }
 
 impl Tables {
-    ghost use Rattle.std.specs.Prelude.{◌≡◌, ◌≢◌, ◌+◌, true, false, IfOk, pos};
+    ghost use Rattle.std.specs.Prelude.{◌≡◌, ◌≢◌, ◌+◌, true, false, IfOk, Some, pos};
     ghost use Rattle.grid_moves.specs.Grid.{IsGrid, is_free};
     ghost use Rattle.plus_tables.specs.Entry.{table_entry};
+    ghost use Rattle.grid_moves.specs.Move.{legal_ahead};
     ghost use Rattle.plus_tables.specs.Local.{is_mark_by};
     ghost use Rattle.plus_tables.specs.Sweep.{IsSwept, is_cell};
     ghost use Rattle.plus_tables.specs.Tables.{AreSized, IsWhole, RestsRight, entry_at, is_on, is_place, tables_with};
@@ -97,6 +99,13 @@ impl Tables {
         ensures { result ≡ self.now.height }
     {
         self.height
+    }
+
+    /// The corner rule.
+    pub fn corner(&self) -> Corner
+        ensures { result ≡ self.now.corner }
+    {
+        self.corner
     }
 
     // Tables of the size of a grid, with 0 everywhere.
@@ -134,15 +143,15 @@ impl Tables {
         self.entries[place] = entry;
     }
 
-    // Whether a free cell is marked for a direction, told by its entries.
+    // Whether the next cell is marked for a direction, told by its entries.
     #[inline(always)]
-    fn is_mark<T: Terrain>(&self, t: &T, v: Cell, d: Dir) -> bool
-        requires free { is_free (T.grid t.now) v ≡ true }
+    fn is_mark<T: Terrain>(&self, t: &T, at: Cell, v: Cell, d: Dir) -> bool
+        requires legal { legal_ahead (T.grid t.now) at d ≡ Some v }
+        requires on { is_on self.now v ≡ true }
         requires whole { IsGrid (T.grid t.now) }
-        requires sized { AreSized self.now (T.grid t.now) }
         ensures { result ≡ is_mark_by (T.grid t.now) (entry_at self.now) d v }
     {
-        forced(t, v, d)
+        is_forced_next(t, at, v, d)
             || (is_diagonal(d)
                 && (tells_mark(self.get(v, turn(Side::Right, d)))
                     || tells_mark(self.get(v, turn(Side::Left, d)))))
@@ -156,10 +165,29 @@ impl Tables {
         requires rests { RestsRight self.now (T.grid t.now) c d }
         ensures { result ≡ table_entry (T.grid t.now) c d }
     {
-        match step(t, c, d) {
-            Some(v) if self.is_mark(t, v, d) => 1,
+        match next(t, c, d) {
+            Some(v) if self.is_mark(t, c, v, d) => 1,
             Some(v) => from_before(self.get(v, d)),
             None => 0,
+        }
+    }
+
+    // The same; each direction has code of its own, in which it is a constant.
+    fn told<T: Terrain>(&self, t: &T, c: Cell, d: Dir) -> i16
+        requires whole { IsGrid (T.grid t.now) }
+        requires sized { AreSized self.now (T.grid t.now) }
+        requires rests { RestsRight self.now (T.grid t.now) c d }
+        ensures { result ≡ table_entry (T.grid t.now) c d }
+    {
+        match d {
+            Dir::N => self.told_by_next(t, c, Dir::N),
+            Dir::NE => self.told_by_next(t, c, Dir::NE),
+            Dir::E => self.told_by_next(t, c, Dir::E),
+            Dir::SE => self.told_by_next(t, c, Dir::SE),
+            Dir::S => self.told_by_next(t, c, Dir::S),
+            Dir::SW => self.told_by_next(t, c, Dir::SW),
+            Dir::W => self.told_by_next(t, c, Dir::W),
+            Dir::NW => self.told_by_next(t, c, Dir::NW),
         }
     }
 
@@ -215,7 +243,7 @@ impl Tables {
         let _ = &self.width;
         steps.tick();
         let before = self.get(c, d);
-        let entry = self.told_by_next(t, c, d);
+        let entry = self.told(t, c, d);
         self.put(c, d, entry);
         before != entry
     }

@@ -2,3 +2,4 @@ pub mod Commands
 pub mod Laws
 pub mod Cuts
 pub mod Feeding
+pub mod Joining

@@ -6,7 +6,7 @@ use Rattle.script_text.specs.declared.command.Command.{Command}
 use Rattle.script_text.specs.declared.fault.ScriptFault.{ScriptFault}
 use Rattle.text_line.specs.Lines.{is_line_feed}
 use Rattle.script_text.specs.declared.feeder.LineFeeder.{LineFeeder}
-use Rattle.script_text.specs.Feeding.{cut, fault_so_far, fault_of, commands_so_far, commands_of, Appended, Answers}
+use Rattle.script_text.specs.Feeding.{cut, fault_so_far, fault_of, commands_so_far, commands_of, text_of, Appended, Answers}
 
 -- the line that is to be completed next, by its number from 1 and its bytes
 pub record IsNext (text : List ℕ) (number : ℕ) (line : List ℕ) : Type 0 where
@@ -52,3 +52,8 @@ pub record IsFeeding (first now : LineFeeder) (piece : List ℕ) (count : ℕ) (
       ≤ vec_capacity got + count_by is_line_feed (take count piece)
   pub fed : (text : List ℕ) → HasTaken first text
       → HasFed text (text ++ take count piece) now before.items got.items (Ok tt)
+
+-- so many pieces were fed, and no fault was met
+pub record IsReading (feeder : LineFeeder) (pieces : List (Vec ℕ)) (count : ℕ) (before got : List Command) : Type 0 where
+  pub counted : feeder.taken ≡ length (text_of (take count pieces))
+  pub fed : HasFed [] (text_of (take count pieces)) feeder before got (Ok tt)

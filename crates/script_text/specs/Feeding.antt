@@ -1,5 +1,7 @@
 -- A script that comes in pieces: what is known of it by the bytes that came so far.
 use Rattle.std.specs.Prelude.{◌≡◌, ◌≢◌, ℕ, ◌+◌, nat_lt, if◌then◌else◌, List, [], ◌∷◌, ◌++◌, length, Option, Some, None, Result, Ok, Err}
+use Rattle.std.specs.Global.{Vec}
+use Rattle.std.specs.List.{flat_map}
 use Rattle.std.specs.Option.{option_or}
 use Rattle.text_line.specs.Left.{Numbered, numbered_from, numbered_pieces}
 use Rattle.text_line.specs.Lines.{is_line_feed}
@@ -79,3 +81,7 @@ pub record Appended (earlier later before now : List Command) : Type 0 where
 abbrev pub Answers : Result (Unit {0}) ScriptFault → Option ScriptFault → Type 0
 Answers (Ok done) fault = fault ≡ None
 Answers (Err named) fault = (fault ≡ Some named) × (named ≢ NoMemory)
+
+-- the script that comes in these pieces
+abbrev pub text_of : List (Vec ℕ) → List ℕ
+text_of pieces = flat_map (λ piece. piece.items) pieces

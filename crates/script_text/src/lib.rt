@@ -18,12 +18,14 @@
 mod command;
 mod fault;
 mod feeder;
+mod pieces;
 mod reading;
 mod room;
 
 pub use command::Command;
 pub use fault::ScriptFault;
 pub use feeder::LineFeeder;
+pub use pieces::read_pieces;
 pub use reading::read_script;
 
 #[cfg(test)]

@@ -1,6 +1,6 @@
 -- One step of the search, on each grid on which the query is served.
-use Rattle.std.proofs.Common.{◌≡◌, ℕ, ◌+◌, ◌*◌, ◌<◌, ◌≤◌, refl, ap, sym, ◌∙◌, subst, true, false, List, [], ◌∷◌, ◌++◌, length, arith}
-use Rattle.std.specs.Prelude.{Option, Some, None, IsTrue, slice_get}
+use Rattle.std.proofs.Common.{◌≡◌, ℕ, ◌+◌, ◌*◌, ◌<◌, ◌≤◌, ap, sym, ◌∙◌, subst, true, false, List, [], ◌∷◌, ◌++◌, arith}
+use Rattle.std.specs.Prelude.{Option, Some, IsTrue, slice_get}
 use Rattle.std.specs.List.{AllByRecursion}
 use Rattle.root2_cost.specs.Rank.{rank_of}
 use Rattle.grid_moves.specs.declared.Cell.{Cell}
@@ -20,7 +20,7 @@ use Rattle.best_first.specs.Table.{Table, closed_at, IsFirstNode, NoneOpen}
 use Rattle.best_first.specs.Trace.{node_cell}
 use Rattle.search_core.specs.Counting.{most_for_state, IsCounted}
 use Rattle.search_core.specs.Jumps.{come_to, jump_links}
-use Rattle.search_core.specs.Jumping.{HasPlaces, last_at, jumped, IsOffering, HasReached}
+use Rattle.search_core.specs.Jumping.{last_at, jumped, IsOffering, HasReached}
 use Rattle.search_core.specs.Run.{IsExhausted}
 use Rattle.search_core.specs.Serving.{IsServed, OnSome, OnEach}
 use Rattle.search_core.specs.declared.jumping.Last.{Last}

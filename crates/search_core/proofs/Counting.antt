@@ -1,6 +1,6 @@
 -- Bounds on what is counted add up.
 use Rattle.std.proofs.Common.{◌≡◌, ℕ, suc, ◌+◌, ◌*◌, ◌≤◌, arith, List, length}
-use Rattle.std.specs.Prelude.{Option, Some, None, ⊤}
+use Rattle.std.specs.Prelude.{Option, Some, None}
 use Rattle.pruning.specs.Source.{MostSteps, IsWithin}
 use Rattle.search_core.specs.Counting.{most_for_state, IsCounted, IsCountedSoFar, IsWithinTaken}
 use Rattle.search_core.specs.declared.found.Found.{Found}

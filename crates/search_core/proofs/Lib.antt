@@ -9,3 +9,4 @@ pub mod Counting
 pub mod Arrivals
 pub mod Standing
 pub mod Advancing
+pub mod Oneness

@@ -1,6 +1,6 @@
 -- The offers over the jumps of the last taken state are those of its links.
-use Rattle.std.proofs.Common.{◌≡◌, ℕ, ◌+◌, ◌-◌, ◌*◌, ◌^◌, ◌<◌, ◌≤◌, ◌⊎◌, inl, inr, refl, ap, sym, ◌∙◌, subst, Bool, true, false, List, [], ◌∷◌, arith}
-use Rattle.std.specs.Prelude.{Option, Some, None, filter, slice_get}
+use Rattle.std.proofs.Common.{◌≡◌, ℕ, ◌+◌, ◌^◌, ◌<◌, ◌≤◌, ◌⊎◌, inl, inr, refl, ap, sym, ◌∙◌, subst, Bool, true, false, List, [], ◌∷◌, arith}
+use Rattle.std.specs.Prelude.{Option, Some, None, filter}
 use Rattle.std.specs.List.{AllByRecursion}
 use Rattle.std.specs.Option.{option_map_or}
 use Rattle.root2_cost.specs.declared.Cost.{Cost}
@@ -18,27 +18,23 @@ use Rattle.pruning.specs.Allowed.{is_allowed, allowed_dirs}
 use Rattle.pruning.specs.Chain.{run_cost}
 use Rattle.pruning.specs.First.{first_stop}
 use Rattle.pruning.specs.Marked.{run_end}
-use Rattle.pruning.specs.Stop.{StopsAfter, IsFirstStop}
 use Rattle.pruning.proofs.Running.{AreMoved, run_walked}
 use Rattle.pruning.proofs.Runs.{run_short}
-use Rattle.pruning.proofs.Stopping.{only_one_first_stop}
-use Rattle.search_run.specs.Run.{Taken, IsIn, here, least_offer}
-use Rattle.best_first.specs.declared.node.Offer.{Offer as Way}
+use Rattle.search_run.specs.Run.{Taken, here, least_offer}
 use Rattle.best_first.specs.declared.state.State.{State}
 use Rattle.best_first.specs.declared.state.Layout.TheVariants.{ByArrival}
-use Rattle.best_first.specs.Mirror.{Offers, IsSearching}
+use Rattle.best_first.specs.Mirror.{Offers}
 use Rattle.best_first.specs.Progress.{HasOffered, numbers_of}
 use Rattle.best_first.specs.Rule.{IsSearch}
 use Rattle.best_first.specs.Space.{SpaceData, IsPlaced}
-use Rattle.best_first.specs.State.{start_at}
 use Rattle.best_first.specs.Table.{Table, node_for, offered, ClosedBelow}
 use Rattle.best_first.specs.Ways.{Onward, IsAmong, first, later, with_onward, with_all}
 use Rattle.best_first.proofs.Offering.{rank-add_costs}
-use Rattle.best_first.proofs.Searching.{closed_below, way_on, key_rises, one_more}
+use Rattle.best_first.proofs.Searching.{closed_below, key_rises, one_more}
 use Rattle.best_first.proofs.States.{same_state}
 use Rattle.best_first.proofs.Ways.{AreOfLinks, AreEnough, offers_after}
 use Rattle.search_core.specs.Jumps.{come_to, jump_link, jump_links, jump_rule}
-use Rattle.search_core.specs.Jumping.{HasPlaces, IsSpaceOf, offer_after, column_after, row_after, jumped_in, jumped, IsAt, IsOffering}
+use Rattle.search_core.specs.Jumping.{offer_after, column_after, row_after, jumped_in, jumped, IsAt, IsOffering}
 use Rattle.search_core.specs.declared.jumping.Last.{Last}
 use Rattle.search_core.proofs.Links.{first_is, link_is, jump_is_link, jumps_are_links, allowed_free}
 use Rattle.search_core.proofs.Passing.{run_moves}

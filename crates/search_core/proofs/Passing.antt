@@ -11,9 +11,9 @@ use Rattle.root2_cost.specs.Sums.{add_costs}
 use Rattle.grid_moves.specs.declared.Cell.{Cell}
 use Rattle.grid_moves.specs.declared.Dir.{Dir}
 use Rattle.grid_moves.specs.declared.Dir.TheVariants.{N, NE, E, SE, S, SW, W, NW}
-use Rattle.grid_moves.specs.Grid.{GridData, IsGrid, cell_number, is_free}
+use Rattle.grid_moves.specs.Grid.{GridData, IsGrid, cell_number}
 use Rattle.grid_moves.specs.Least.{NoneBelow, IsLeast}
-use Rattle.grid_moves.specs.Move.{legal_ahead, dir_number, is_dir}
+use Rattle.grid_moves.specs.Move.{legal_ahead, dir_number}
 use Rattle.grid_moves.proofs.Legal.{free_inside, legal_is}
 use Rattle.grid_moves.proofs.Places.{one_cell, number_below}
 use Rattle.pruning.specs.Chain.{run_cost}
@@ -26,7 +26,6 @@ use Rattle.search_run.specs.Run.{Taken, IsIn, here, there, IsRun, is_taken}
 use Rattle.search_run.proofs.Leastness.{least_offer-from, is_taken-member}
 use Rattle.best_first.specs.declared.state.State.{State}
 use Rattle.best_first.specs.State.{start_at}
-use Rattle.best_first.specs.Rule.{HasFewMoves}
 use Rattle.best_first.proofs.Links.{consistent}
 use Rattle.best_first.proofs.States.{same_state}
 use Rattle.search_core.specs.Jumps.{jump_links, jump_rule}

@@ -15,7 +15,7 @@ use Rattle.pruning.proofs.Explaining.{turns_are_marked}
 use Rattle.pruning.proofs.Law.{canonical_from}
 use Rattle.pruning.proofs.Replacing.{turns_are_replaced}
 use Rattle.pruning.proofs.Unfolding.{chains_are_walks}
-use Rattle.search_run.specs.Run.{Taken, here, way_to}
+use Rattle.search_run.specs.Run.{here}
 use Rattle.search_run.specs.Chain.{Chain}
 use Rattle.search_run.proofs.Leastness.{run_is_least, run_finds_all}
 use Rattle.best_first.specs.declared.state.State.{State}

@@ -1,5 +1,5 @@
 -- What the code needs at one jump, on each grid on which the query is served.
-use Rattle.std.proofs.Common.{◌≡◌, ℕ, zero, subst, refl, ap, sym, ◌∙◌, true, List, [], ◌∷◌, ◌++◌, suc, ◌+◌, ◌*◌, ◌≤◌, arith, take}
+use Rattle.std.proofs.Common.{◌≡◌, ℕ, zero, subst, refl, ap, sym, ◌∙◌, true, List, [], ◌∷◌, ◌++◌, suc, ◌+◌, ◌*◌, ◌≤◌, take}
 use Rattle.std.specs.Prelude.{Option, Some, None, IsTrue, slice_get}
 use Rattle.std.specs.List.{AllByRecursion}
 use Rattle.std.proofs.lemmas.List.{take_more}
@@ -10,7 +10,6 @@ use Rattle.grid_moves.specs.declared.Dir.{Dir}
 use Rattle.grid_moves.specs.Grid.{GridData, is_free}
 use Rattle.pruning.specs.Allowed.{is_allowed}
 use Rattle.pruning.specs.First.{first_stop}
-use Rattle.pruning.specs.Source.{MostSteps, IsWithin}
 use Rattle.pruning.specs.Stop.{IsFirstStop}
 use Rattle.pruning.proofs.Stopping.{only_one_first_stop}
 use Rattle.best_first.specs.declared.node.Offer.{Offer as Way}

@@ -1,22 +1,20 @@
 -- From the space of a search to what it answers, on a grid on which the query is served.
-use Rattle.std.proofs.Common.{◌≡◌, ℕ, suc, ◌+◌, ◌-◌, ◌*◌, ◌<◌, ◌≤◌, refl, ap, sym, ◌∙◌, subst, true, false, List, [], ◌∷◌, ◌++◌, length, arith, map, mul-le-mul}
-use Rattle.std.proofs.lemmas.Option.{slice_get_within}
+use Rattle.std.proofs.Common.{◌≡◌, ℕ, ◌+◌, ◌-◌, ◌*◌, ◌<◌, ◌≤◌, ap, sym, ◌∙◌, subst, false, List, [], ◌∷◌, ◌++◌, length, arith, mul-le-mul}
 use Rattle.std.specs.Prelude.{Option, Some, None, slice_get}
 use Rattle.root2_cost.specs.declared.Cost.{Cost}
 use Rattle.root2_cost.specs.Rank.{rank_of}
 use Rattle.grid_moves.specs.declared.Cell.{Cell}
 use Rattle.grid_moves.specs.declared.Dir.{Dir}
-use Rattle.grid_moves.specs.Grid.{GridData, IsGrid, is_free}
+use Rattle.grid_moves.specs.Grid.{GridData, IsGrid}
 use Rattle.grid_moves.specs.Move.{is_same}
 use Rattle.grid_moves.specs.Points.{estimate}
 use Rattle.grid_moves.proofs.Legal.{free_inside}
 use Rattle.pruning.specs.Allowed.{allowed_dirs}
-use Rattle.search_run.specs.Run.{Taken, here, least_offer}
+use Rattle.search_run.specs.Run.{here, least_offer}
 use Rattle.best_first.specs.declared.node.Node.{Node}
 use Rattle.best_first.specs.declared.state.State.{State}
 use Rattle.best_first.specs.declared.state.Layout.TheVariants.{ByArrival}
-use Rattle.best_first.specs.Node.{state_of}
-use Rattle.best_first.specs.Progress.{HasTaken, HasOffered, numbers_of}
+use Rattle.best_first.specs.Progress.{HasTaken, HasOffered}
 use Rattle.best_first.specs.Space.{SpaceData, KeepsShape}
 use Rattle.best_first.specs.State.{state_number, state_told, start_at}
 use Rattle.best_first.specs.Table.{Table, begun, closed_at, IsFirstNode, NoneOpen}
@@ -27,7 +25,8 @@ use Rattle.best_first.proofs.Searching.{taken_key}
 use Rattle.best_first.proofs.Progress.{has_begun, next_taken, exhausted, taken_fits, has_back, way_is}
 use Rattle.search_core.specs.Jumps.{come_to, jump_links, jump_rule}
 use Rattle.search_core.specs.Run.{IsFound, IsExhausted}
-use Rattle.search_core.specs.Jumping.{HasPlaces, IsSpaceOf, last_at, jumped, IsAt, IsOffering, HasReached}
+use Rattle.search_core.specs.Jumping.{IsSpaceOf, last_at, jumped, IsAt, IsOffering, HasReached}
+use Rattle.search_core.specs.Room.{HasPlaces}
 use Rattle.search_core.specs.Serving.{IsServed}
 use Rattle.search_core.specs.declared.jumping.Last.{Last}
 use Rattle.search_core.proofs.Arrivals.{HasArrived, run_arrived}

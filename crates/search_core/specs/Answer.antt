@@ -1,7 +1,7 @@
 -- The answer of a search over jumps.
-use Rattle.std.specs.Prelude.{◌≡◌, ℕ, true, Option, Some, None, MatchOption}
+use Rattle.std.specs.Prelude.{MatchOption}
 use Rattle.grid_moves.specs.declared.Cell.{Cell}
-use Rattle.grid_moves.specs.Grid.{GridData, is_free}
+use Rattle.grid_moves.specs.Grid.{GridData}
 use Rattle.grid_moves.specs.Reply.{StandsForLeast}
 use Rattle.grid_moves.specs.Walk.{NoWalk}
 use Rattle.search_core.specs.Run.{IsFound, IsExhausted}

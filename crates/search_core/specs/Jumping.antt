@@ -1,12 +1,12 @@
--- How a search over jumps goes on from the state that was taken last. No public clause cites this module.
-use Rattle.std.specs.Prelude.{◌≡◌, ℕ, ◌+◌, ◌-◌, ◌*◌, ◌≤◌, List, [], ◌∷◌, Some, None, Option}
+-- How a search over jumps goes on from the state that was taken last.
+-- No public clause cites a definition of this module.
+use Rattle.std.specs.Prelude.{◌≡◌, ℕ, ◌+◌, ◌-◌, List, [], ◌∷◌, Some, None, Option}
 use Rattle.std.specs.Option.{option_map_or}
 use Rattle.root2_cost.specs.Rank.{rank_of}
 use Rattle.grid_moves.specs.declared.Cell.{Cell}
 use Rattle.grid_moves.specs.declared.Dir.{Dir}
 use Rattle.grid_moves.specs.declared.Dir.TheVariants.{N, NE, E, SE, S, SW, W, NW}
 use Rattle.grid_moves.specs.Grid.{GridData, IsGrid}
-use Rattle.grid_moves.specs.Points.{estimate}
 use Rattle.pruning.specs.Chain.{run_cost}
 use Rattle.pruning.specs.First.{first_stop}
 use Rattle.search_run.specs.Run.{Taken}
@@ -22,14 +22,10 @@ use Rattle.best_first.specs.Table.{Table, offered}
 use Rattle.best_first.specs.Trace.{rank_left}
 use Rattle.search_core.specs.declared.jumping.Last.{Last}
 use Rattle.search_core.specs.Jumps.{jump_links}
+pub use Rattle.search_core.specs.Room.{HasPlaces}
 use Rattle.search_core.specs.Run.{IsExhausted}
 
--- the space is made for searches over jumps on this grid
-pub record HasPlaces (g : GridData) (space : SpaceData) : Type 0 where
-  pub layout : space.layout ≡ ByArrival
-  pub enough : g.height * g.width ≤ space.places
-
--- it holds the nodes of such a search
+-- the space holds the nodes of a search over jumps on this grid
 pub record IsSpaceOf (g : GridData) (space : SpaceData) : Type 0 where
   pub whole : IsGrid g
   pub places : HasPlaces g space

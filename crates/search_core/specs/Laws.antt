@@ -18,3 +18,8 @@ RunsAreRight = (g : GridData) (s t : Cell) (f : Found) → is_free g s ≡ true 
 abbrev pub CostsFit : Type 0
 CostsFit = (g : GridData) (s t : Cell) (run : List (Taken State)) (u : Taken State) → IsGrid g
     → IsRun (jump_rule g t) (start_at s) run → IsIn u run → u.cost.a + u.cost.b ≤ 2 ^ 27
+
+-- two answers that are the run from s to t are one answer: the same points, cost and taken states
+abbrev pub RunsAreOne : Type 0
+RunsAreOne = (g : GridData) (s t : Cell) (one other : Found) → IsJumpRun g s t one → IsJumpRun g s t other
+    → one ≡ other

@@ -4,5 +4,6 @@ pub mod Answer
 pub mod Existence
 pub mod Laws
 pub mod Serving
+pub mod Room
 pub mod Counting
 pub mod Jumping

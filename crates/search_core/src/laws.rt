@@ -1,7 +1,7 @@
 //! Laws of the search over jumps: each is the contract of a call that does nothing.
 
 ghost use Rattle.search_core.specs.Existence.{AnswersExist};
-ghost use Rattle.search_core.specs.Laws.{CostsFit, RunsAreRight};
+ghost use Rattle.search_core.specs.Laws.{CostsFit, RunsAreOne, RunsAreRight};
 
 /// From each free cell to each cell of a map there is an answer that is right and that of the jump
 /// engines' run: its run from there ends.
@@ -19,4 +19,10 @@ pub fn runs_are_right()
 /// each direction once.
 pub fn costs_fit()
     ensures { CostsFit }
+{}
+
+/// The jump engines' run from one cell to another is one: two answers that are their run have the same
+/// points, the same cost and the same taken states, whichever source found the jumps.
+pub fn runs_are_one()
+    ensures { RunsAreOne }
 {}

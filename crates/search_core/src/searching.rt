@@ -1,4 +1,13 @@
-//! The search.
+//! The search: A* over the states that jumps lead to.
+//!
+//! A state is taken by the least sum of its cost and the octile distance to the goal; among equal sums
+//! the one of the lesser number goes first, and of equal offers to a state the earlier one stands. The
+//! search ends where the goal is taken, or where no state waits. Both ends have to be free on a grid
+//! for which the source of jumps stands. The steps of the open list are counted by a counter of their
+//! own (`own`), so that `steps` counts those of the source alone.
+//!
+//! A* after Hart, Nilsson and Raphael (1968) over the jump points of Harabor and Grastien (AAAI 2011);
+//! the order of ties is this project's. The machine under it is `best_first`.
 
 ghost use Rattle.std.specs.Prelude.{◌≡◌, ℕ, ◌+◌, ◌*◌, ◌<◌, ◌≤◌, ◌++◌, ◌∷◌, [], false, length, IfOk, IfSome, IfNone, IsSome, OnOk, slice_get, Some};
 ghost use Rattle.grid_moves.specs.Grid.{GridData, IsGrid, is_free};
@@ -10,7 +19,8 @@ ghost use Rattle.best_first.specs.State.{state_number, state_told};
 ghost use Rattle.best_first.specs.Trace.{node_cell};
 ghost use Rattle.search_core.specs.Answer.{IsJumpRun, IsLeast};
 ghost use Rattle.search_core.specs.Counting.{IsCounted, IsCountedSoFar, IsWithinTaken, RoseByTaken};
-ghost use Rattle.search_core.specs.Jumping.{HasPlaces, IsSpaceOf, HasReached, GoesOnFrom};
+ghost use Rattle.search_core.specs.Jumping.{IsSpaceOf, HasReached, GoesOnFrom};
+ghost use Rattle.search_core.specs.Room.{HasPlaces};
 ghost use Rattle.search_core.specs.Serving.{OnSome, OnEach};
 
 use crate::jumping::{Ends, come_to, last_at, offer_jumps};

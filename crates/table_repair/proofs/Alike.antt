@@ -1,13 +1,12 @@
 -- Two grids that are alike around a cell have the same moves and marks there.
-use Rattle.std.proofs.Common.{◌≡◌, ◌≢◌, ℤ, ℕ, arith, Bool, true, false, refl, ap, sym, ◌∙◌, ◌&&◌, ◌||◌}
-use Rattle.std.specs.Prelude.{Option, Some, None, option_map, unwrap_or, pos, if◌then◌else◌, option_and_then, is_some, not}
+use Rattle.std.proofs.Common.{◌≡◌, ℤ, Bool, true, false, refl, ap, sym, ◌∙◌, ◌||◌}
+use Rattle.std.specs.Prelude.{Option, Some, None, option_map, unwrap_or, pos, if◌then◌else◌, option_and_then}
 use Rattle.grid_moves.specs.declared.Cell.{Cell}
 use Rattle.grid_moves.specs.declared.Corner.{Corner}
 use Rattle.grid_moves.specs.declared.Corner.TheVariants.{Never, One}
 use Rattle.grid_moves.specs.declared.Dir.{Dir}
 use Rattle.grid_moves.specs.Grid.{GridData, is_free}
-use Rattle.grid_moves.specs.Move.{ahead, corner_of, is_legal, legal_ahead, is_open, is_free_cell, is_same}
-use Rattle.grid_moves.proofs.Legal.{is_same-itself}
+use Rattle.grid_moves.specs.Move.{ahead, corner_of, is_legal, legal_ahead, is_open, is_free_cell}
 use Rattle.pruning.specs.declared.turns.Side.{Side}
 use Rattle.pruning.specs.declared.turns.Side.TheVariants.{Right, Left}
 use Rattle.pruning.specs.Turns.{turn, quarter, rear, is_diagonal}
@@ -16,7 +15,7 @@ use Rattle.pruning.specs.Marked.{is_forced, is_forced_on}
 use Rattle.pruning.proofs.Bridging.{legal_leads}
 use Rattle.pruning.proofs.Table.{by_parity}
 use Rattle.plus_tables.specs.Entry.{table_entry}
-use Rattle.plus_tables.specs.Local.{EntriesFollow, entry_by_next, entry_through, is_mark_by, from_before}
+use Rattle.plus_tables.specs.Local.{EntriesFollow, entry_by_next, entry_through, is_mark_by}
 use Rattle.table_repair.specs.Differ.{DifferAtMostAt, is_near, IsKept, ChangesSpreadBack}
 use Rattle.table_repair.proofs.Moving.{is_near-from, is_near-parts, near_ahead, near_back, near_itself}
 

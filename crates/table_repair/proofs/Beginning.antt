@@ -1,8 +1,7 @@
 -- Which entries wait before the first sweep: near the edited cell, and for the diagonals where straight
 -- entries changed.
-use Rattle.std.proofs.Common.{◌≡◌, ℕ, ◌+◌, ◌<◌, ◌≤◌, ◌⊎◌, inl, inr, arith, Bool, true, false, refl, ap, sym, ◌∙◌, ◌&&◌, ◌||◌}
-use Rattle.std.specs.Prelude.{ℤ, pos, Option, Some, None, not, option_map, unwrap_or}
-use Rattle.std.proofs.lemmas.Bool.Decides.{nat_tests}
+use Rattle.std.proofs.Common.{◌≡◌, ℕ, ◌<◌, ◌≤◌, inl, inr, Bool, true, false, refl, sym, ◌∙◌}
+use Rattle.std.specs.Prelude.{pos, Option, Some, None, option_map, unwrap_or}
 use Rattle.grid_moves.specs.declared.Cell.{Cell}
 use Rattle.grid_moves.specs.declared.Dir.{Dir}
 use Rattle.grid_moves.specs.Grid.{GridData, IsGrid, is_inside}
@@ -20,7 +19,7 @@ use Rattle.table_repair.specs.declared.span.Span.{Span}
 use Rattle.table_repair.specs.Differ.{DifferAtMostAt, IsKept, is_near}
 use Rattle.table_repair.specs.Mending.{IsRight, AreRight, FollowBut, IsMended, MendsKind, is_straight, is_in, is_in_reach, span_beside}
 use Rattle.table_repair.proofs.Alike.{changes_spread_back}
-use Rattle.table_repair.proofs.Lines.{is_inside-from, inside_parts, after_moved}
+use Rattle.table_repair.proofs.Lines.{is_inside-from, after_moved}
 use Rattle.table_repair.proofs.Walking.{walk_short}
 use Rattle.table_repair.proofs.Rows.{not_true, true_false}
 use Rattle.table_repair.proofs.Reach.{near_beside, block_reached, line_reached, block_inside}

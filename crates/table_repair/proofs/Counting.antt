@@ -1,14 +1,14 @@
 -- How many places differ, as one is set right.
-use Rattle.std.proofs.Common.{◌≡◌, ◌≢◌, ℕ, ◌+◌, ◌*◌, ◌<◌, zero, suc, arith, Bool, true, false, refl, ap, sym, ◌∙◌, List, [], ◌∷◌, length, get_or, set, get_or-set_same, get_or-set_other}
-use Rattle.std.specs.Prelude.{ℤ, pos, if◌then◌else◌, slice_index_or, slice_set}
+use Rattle.std.proofs.Common.{◌≡◌, ◌≢◌, ℕ, ◌+◌, ◌*◌, ◌<◌, zero, suc, arith, Bool, true, false, refl, ap, List, [], ◌∷◌, length, get_or, set, get_or-set_same, get_or-set_other}
+use Rattle.std.specs.Prelude.{ℤ, pos, if◌then◌else◌}
 use Rattle.std.specs.Ordering.{int_eq}
 use Rattle.std.proofs.lemmas.Bool.Decides.{nat_tests, Decides-int_eq}
 use Rattle.std.proofs.lemmas.List.{set-get_or}
 use Rattle.grid_moves.specs.declared.Cell.{Cell}
 use Rattle.grid_moves.specs.declared.Dir.{Dir}
 use Rattle.grid_moves.specs.declared.Dir.TheVariants.{N, NE, E, SE, S, SW, W, NW}
-use Rattle.grid_moves.specs.Grid.{GridData, cell_number}
-use Rattle.grid_moves.specs.Move.{dir_number, is_dir}
+use Rattle.grid_moves.specs.Grid.{cell_number}
+use Rattle.grid_moves.specs.Move.{dir_number}
 use Rattle.grid_moves.proofs.Places.{one_place, one_cell, number_below}
 use Rattle.pruning.proofs.Table.{same_dir}
 use Rattle.plus_tables.specs.Tables.{TablesData, IsWhole, entry_place, entry_at, tables_with, is_on}

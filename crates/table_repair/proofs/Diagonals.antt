@@ -1,23 +1,15 @@
 -- The two sweeps for a diagonal direction.
-use Rattle.std.proofs.Common.{◌≡◌, ℕ, ◌+◌, ◌-◌, ◌*◌, ◌<◌, ◌≤◌, arith, Bool, true, false, refl, ap, subst, sym, ◌∙◌, ◌&&◌, ◌||◌, mul-le-mul}
-use Rattle.std.specs.Prelude.{min}
-use Rattle.std.proofs.lemmas.Bool.Decides.{nat_tests}
-use Rattle.grid_moves.specs.declared.Cell.{Cell}
+use Rattle.std.proofs.Common.{◌≡◌, ℕ, ◌+◌, ◌*◌, ◌≤◌, arith, Bool, true, false, refl, mul-le-mul}
 use Rattle.grid_moves.specs.declared.Dir.{Dir}
-use Rattle.grid_moves.specs.Grid.{GridData, is_inside}
+use Rattle.grid_moves.specs.Grid.{GridData}
 use Rattle.pruning.specs.Turns.{is_diagonal}
 use Rattle.plus_tables.specs.Tables.{TablesData}
 use Rattle.table_repair.specs.declared.span.Span.{Span}
 use Rattle.table_repair.specs.Mending.{AreRight, FollowBut, Mends, Sweeps, CanSweep, IsBlock, any_cell, either, is_in, is_in_reach, widened, span_next, span_length, goes_right, goes_down}
 use Rattle.table_repair.proofs.Mends.{mends_both, mends_wider, follow_more}
-use Rattle.table_repair.proofs.Walking.{or_false, false_or}
+use Rattle.table_repair.proofs.Walking.{or_false}
 use Rattle.table_repair.proofs.Directions.{none_waits}
 use Rattle.table_repair.proofs.Reach.{rear_behind}
-
--- the spans, as code tells them
-pub span_told : (make : Bool → Span → ℕ → ℕ → Span) (result s : Span) (given side : Bool) (by m n : ℕ)
-    → result ≡ make given s by m → given ≡ side → m ≡ n → result ≡ make side s by n
-span_told make result s given side by m n e f g = rw (← f, ← g) e
 
 module _ (h : GridData) (rows columns wide rear : Span) (by : ℕ) (d : Dir) (diagonal : is_diagonal d ≡ true)
     (is_wide : wide ≡ widened (goes_right d) columns by h.width)

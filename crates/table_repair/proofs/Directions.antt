@@ -1,16 +1,13 @@
 -- Sweeps for directions of one kind, one after the other.
-use Rattle.std.proofs.Common.{◌≡◌, ℕ, ◌+◌, ◌≤◌, ◌⊎◌, inl, inr, arith, Bool, true, false, refl, ap, sym, ◌∙◌, ◌&&◌, ◌||◌, List, [], ◌∷◌}
-use Rattle.std.specs.Prelude.{not}
-use Rattle.std.proofs.lemmas.Bool.Decides.{nat_tests}
+use Rattle.std.proofs.Common.{◌≡◌, ℕ, ◌+◌, ◌≤◌, ◌⊎◌, inl, inr, arith, Bool, true, false, refl, ap, sym, ◌∙◌}
 use Rattle.grid_moves.specs.declared.Cell.{Cell}
 use Rattle.grid_moves.specs.declared.Dir.{Dir}
-use Rattle.grid_moves.specs.Grid.{GridData, IsGrid, is_inside}
-use Rattle.grid_moves.specs.Move.{ahead, is_dir}
+use Rattle.grid_moves.specs.Grid.{GridData, is_inside}
+use Rattle.grid_moves.specs.Move.{is_dir}
 use Rattle.pruning.proofs.Table.{same_dir}
-use Rattle.plus_tables.specs.Tables.{TablesData, IsWhole, AreSized, AreTablesOf, entry_at}
-use Rattle.table_repair.specs.Counted.{places_differing}
-use Rattle.table_repair.specs.Mending.{IsRight, AreRight, AreBesideRight, AreReady, AreSound, FollowBut, IsMended, Mends, MendsKind, CanSweep, either, is_listed}
-use Rattle.table_repair.proofs.Mends.{sized_kept, right_stays, all_stay, ready_stays}
+use Rattle.plus_tables.specs.Tables.{TablesData, entry_at}
+use Rattle.table_repair.specs.Mending.{AreRight, AreBesideRight, AreReady, AreSound, FollowBut, IsMended, Mends, MendsKind}
+use Rattle.table_repair.proofs.Mends.{sized_kept}
 use Rattle.table_repair.proofs.Lines.{right_ahead}
 
 pub ready_from : (h : GridData) (t : TablesData) (d : Dir) → AreSound h t → AreBesideRight h t d → AreReady h t d

@@ -1,7 +1,6 @@
 -- After both passes the tables are the grid's, and each change was counted.
-use Rattle.std.proofs.Common.{◌≡◌, ℕ, zero, suc, ◌+◌, ◌-◌, ◌*◌, ◌<◌, ◌≤◌, arith, Bool, true, false, refl, ap, sym, ◌∙◌, ◌&&◌, ◌||◌, List, [], ◌∷◌, mul-le-mul}
+use Rattle.std.proofs.Common.{◌≡◌, ℕ, ◌+◌, ◌*◌, ◌≤◌, arith, Bool, true, false, refl, ◌∙◌, [], ◌∷◌, mul-le-mul}
 use Rattle.std.specs.Prelude.{min, not}
-use Rattle.std.proofs.lemmas.Bool.Decides.{nat_tests}
 use Rattle.grid_moves.specs.declared.Cell.{Cell}
 use Rattle.grid_moves.specs.declared.Dir.{Dir}
 use Rattle.grid_moves.specs.declared.Dir.TheVariants.{N, NE, E, SE, S, SW, W, NW}
@@ -14,7 +13,7 @@ use Rattle.table_repair.specs.Counted.{places_differing}
 use Rattle.table_repair.specs.Repaired.{AreTablesBut}
 use Rattle.table_repair.specs.Mending.{AreRight, FollowBut, MendsKind, any_cell, is_in, is_in_reach, is_listed, is_straight, span_beside, span_length}
 use Rattle.table_repair.proofs.Counting.{none_differing}
-use Rattle.table_repair.proofs.Beginning.{straight_begins, diagonal_begins, same_inside}
+use Rattle.table_repair.proofs.Beginning.{straight_begins, diagonal_begins}
 
 -- the four of each kind
 pub all_straight : (d : Dir) → is_straight d ≡ true → is_listed (N ∷ E ∷ S ∷ W ∷ []) d ≡ true

@@ -1,18 +1,14 @@
 -- What lies ahead on a line.
-use Rattle.std.proofs.Common.{◌≡◌, ℕ, zero, suc, ◌+◌, ◌-◌, ◌<◌, ◌≤◌, ◌⊎◌, inl, inr, arith, Bool, true, false, refl, ap, sym, ◌∙◌, ◌&&◌, ◌||◌}
-use Rattle.std.specs.Prelude.{Option, Some, None, option_and_then, if◌then◌else◌, not}
+use Rattle.std.proofs.Common.{◌≡◌, ℕ, zero, suc, ◌+◌, ◌-◌, ◌<◌, ◌≤◌, arith, Bool, true, false, refl, sym, ◌∙◌}
+use Rattle.std.specs.Prelude.{Option, Some, None, option_and_then, if◌then◌else◌}
 use Rattle.std.proofs.lemmas.Bool.Decides.{nat_tests}
 use Rattle.grid_moves.specs.declared.Cell.{Cell}
 use Rattle.grid_moves.specs.declared.Dir.{Dir}
 use Rattle.grid_moves.specs.declared.Dir.TheVariants.{N, NE, E, SE, S, SW, W, NW}
 use Rattle.grid_moves.specs.Grid.{GridData, is_inside}
-use Rattle.grid_moves.specs.Move.{ahead, opposite, is_same, legal_ahead}
-use Rattle.grid_moves.proofs.Legal.{and_both, is_same-cell, is_same-itself}
-use Rattle.pruning.proofs.Bridging.{one_of, legal_leads}
-use Rattle.pruning.proofs.Table.{by_test}
+use Rattle.grid_moves.specs.Move.{ahead, opposite}
+use Rattle.pruning.proofs.Bridging.{one_of}
 use Rattle.pruning.proofs.Running.{Trend, rising, level, falling, column_trend, row_trend, IsMoved, AreMoved}
-use Rattle.plus_tables.specs.Entry.{table_entry}
-use Rattle.plus_tables.specs.Local.{EntriesFollow}
 use Rattle.plus_tables.specs.Tables.{TablesData}
 use Rattle.table_repair.specs.Mending.{IsRight, cell_after, behind_on, FollowBut}
 use Rattle.table_repair.proofs.Moving.{ahead_moved, ahead_behind, behind_ahead, moved_further, moved_nowhere}

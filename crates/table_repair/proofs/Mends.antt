@@ -1,17 +1,15 @@
 -- What is kept as entries are made right, one after the other.
-use Rattle.std.proofs.Common.{◌≡◌, ◌≢◌, ℕ, zero, suc, ◌+◌, ◌<◌, ◌≤◌, ◌⊎◌, inl, inr, arith, Bool, true, false, refl, ap, sym, ◌∙◌, ◌&&◌, ◌||◌}
-use Rattle.std.specs.Prelude.{Option, Some, None, if◌then◌else◌, not}
-use Rattle.std.proofs.lemmas.Bool.Decides.{nat_tests}
+use Rattle.std.proofs.Common.{◌≡◌, ℕ, ◌+◌, ◌≤◌, ◌⊎◌, inl, inr, arith, Bool, true, false, refl, ◌∙◌}
+use Rattle.std.specs.Prelude.{not}
 use Rattle.grid_moves.specs.declared.Cell.{Cell}
 use Rattle.grid_moves.specs.declared.Dir.{Dir}
 use Rattle.grid_moves.specs.Grid.{GridData, is_inside}
 use Rattle.grid_moves.specs.Move.{is_dir}
 use Rattle.pruning.specs.declared.turns.Side.{Side}
-use Rattle.pruning.specs.Turns.{turn, is_diagonal}
+use Rattle.pruning.specs.Turns.{turn}
 use Rattle.pruning.proofs.Table.{at_both, same_dir}
-use Rattle.plus_tables.specs.Tables.{TablesData, IsWhole, AreSized, AreTablesOf, is_on, entry_at}
-use Rattle.table_repair.specs.Counted.{places_differing}
-use Rattle.table_repair.specs.Mending.{IsRight, AreRight, AreBesideRight, AreReady, IsMended, Mends, FollowBut, cell_after}
+use Rattle.plus_tables.specs.Tables.{TablesData, AreSized, is_on, entry_at}
+use Rattle.table_repair.specs.Mending.{IsRight, AreRight, AreBesideRight, AreReady, IsMended, Mends, FollowBut}
 
 pub sized_kept : (h : GridData) (d : Dir) (starts : Cell → Bool) (old new : TablesData) (n : ℕ)
     → Mends h d starts old new n → AreSized old h → AreSized new h

@@ -1,19 +1,18 @@
 -- Passes over the directions of one kind.
-use Rattle.std.proofs.Common.{◌≡◌, ℕ, zero, suc, ◌+◌, ◌*◌, ◌<◌, ◌≤◌, ◌⊎◌, inl, inr, arith, Bool, true, false, refl, ap, sym, ◌∙◌, ◌&&◌, ◌||◌, List, [], ◌∷◌, length, take, get_or}
+use Rattle.std.proofs.Common.{◌≡◌, ℕ, zero, suc, ◌+◌, ◌*◌, ◌<◌, ◌≤◌, ◌⊎◌, inl, inr, arith, Bool, true, false, refl, ap, ◌∙◌, ◌||◌, List, [], ◌∷◌, length, take, get_or}
 use Rattle.std.specs.Prelude.{not}
 use Rattle.std.proofs.lemmas.Bool.Decides.{nat_tests}
 use Rattle.grid_moves.specs.declared.Cell.{Cell}
 use Rattle.grid_moves.specs.declared.Dir.{Dir}
-use Rattle.grid_moves.specs.Grid.{GridData, is_inside}
+use Rattle.grid_moves.specs.Grid.{GridData}
 use Rattle.grid_moves.specs.Move.{is_dir}
 use Rattle.pruning.specs.declared.turns.Side.{Side}
 use Rattle.pruning.specs.Turns.{turn, is_diagonal}
 use Rattle.pruning.proofs.Table.{same_dir, turn_parity}
-use Rattle.plus_tables.specs.Tables.{TablesData, entry_at}
-use Rattle.table_repair.specs.declared.span.Span.{Span}
-use Rattle.table_repair.specs.Mending.{AreRight, AreReady, AreSound, AreBesideRight, CanSweep, FollowBut, Mends, MendsKind, Sweeps, is_listed, is_straight, either, is_in}
+use Rattle.plus_tables.specs.Tables.{TablesData}
+use Rattle.table_repair.specs.Mending.{AreRight, AreReady, AreSound, CanSweep, FollowBut, Mends, MendsKind, Sweeps, is_listed, is_straight, either}
 use Rattle.table_repair.proofs.Mends.{all_stay, follow_more}
-use Rattle.table_repair.proofs.Walking.{or_false, false_or}
+use Rattle.table_repair.proofs.Walking.{or_false}
 use Rattle.table_repair.proofs.Directions.{kind_none, kind_more, none_waits, right_follows, follow_stays, ready_from}
 
 itself : (d : Dir) → is_dir d d ≡ true

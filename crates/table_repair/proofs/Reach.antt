@@ -1,7 +1,6 @@
 -- Straight entries that changed lie in reach of the diagonal sweeps.
-use Rattle.std.proofs.Common.{◌≡◌, ℕ, ◌+◌, ◌-◌, ◌<◌, ◌≤◌, ◌⊎◌, inl, inr, arith, Bool, true, false, refl, ap, subst, sym, ◌∙◌, ◌&&◌, ◌||◌}
-use Rattle.std.specs.Prelude.{Some, min, suc}
-use Rattle.std.proofs.lemmas.Bool.Decides.{nat_tests}
+use Rattle.std.proofs.Common.{◌≡◌, ℕ, ◌+◌, ◌<◌, ◌≤◌, ◌⊎◌, inl, inr, arith, Bool, true, false, subst, ◌||◌}
+use Rattle.std.specs.Prelude.{suc}
 use Rattle.grid_moves.specs.declared.Cell.{Cell}
 use Rattle.grid_moves.specs.declared.Dir.{Dir}
 use Rattle.grid_moves.specs.declared.Dir.TheVariants.{N, NE, E, SE, S, SW, W, NW}
@@ -13,11 +12,11 @@ use Rattle.pruning.specs.Turns.{turn, is_diagonal}
 use Rattle.pruning.proofs.Running.{AreMoved}
 use Rattle.table_repair.specs.declared.span.Span.{Span}
 use Rattle.table_repair.specs.Differ.{is_near}
-use Rattle.table_repair.specs.Mending.{is_among, is_in, either, span_beside, widened, span_next, is_in_reach, goes_right, goes_down, NoneAhead, cell_after}
+use Rattle.table_repair.specs.Mending.{is_among, is_in, span_beside, widened, span_next, is_in_reach, goes_right, goes_down, NoneAhead}
 use Rattle.table_repair.proofs.Moving.{is_near-parts}
 use Rattle.table_repair.proofs.Lines.{inside_parts, is_inside-from, after_moved}
 use Rattle.table_repair.proofs.Sweeping.{among_parts, among_from}
-use Rattle.table_repair.proofs.Rows.{and_true, not_true, true_false}
+use Rattle.table_repair.proofs.Rows.{and_true, not_true}
 
 wide_before : (s : Span) (by side a b k : ℕ) → is_among s b ≡ true → b ≡ a + k → k ≤ by
     → is_among (widened true s by side) a ≡ true

@@ -1,18 +1,16 @@
 -- A sweep, piece by piece, from the far end.
-use Rattle.std.proofs.Common.{◌≡◌, ◌≢◌, ℕ, zero, suc, ◌+◌, ◌-◌, ◌*◌, ◌<◌, ◌≤◌, ◌⊎◌, inl, inr, arith, Bool, true, false, refl, ap, sym, ◌∙◌, ◌&&◌, ◌||◌}
-use Rattle.std.specs.Prelude.{Option, Some, None, if◌then◌else◌, nat_lt, nat_le, nat_eq}
+use Rattle.std.proofs.Common.{◌≡◌, ℕ, suc, ◌+◌, ◌-◌, ◌<◌, ◌≤◌, ◌⊎◌, inl, inr, arith, Bool, true, false, refl, sym, ◌∙◌, ◌||◌}
+use Rattle.std.specs.Prelude.{Option, Some, None, if◌then◌else◌, nat_lt, nat_eq}
 use Rattle.std.proofs.lemmas.Bool.Decides.{nat_tests}
 use Rattle.grid_moves.specs.declared.Cell.{Cell}
 use Rattle.grid_moves.specs.declared.Dir.{Dir}
 use Rattle.grid_moves.specs.declared.Dir.TheVariants.{N, NE, E, SE, S, SW, W, NW}
-use Rattle.grid_moves.specs.Grid.{GridData, is_inside}
-use Rattle.grid_moves.specs.Move.{is_same}
-use Rattle.grid_moves.proofs.Legal.{and_both, is_same-cell, is_same-itself}
-use Rattle.pruning.proofs.Running.{Trend, rising, level, falling, column_trend, row_trend, IsMoved, AreMoved}
+use Rattle.grid_moves.specs.Grid.{GridData}
+use Rattle.grid_moves.proofs.Legal.{and_both}
+use Rattle.pruning.proofs.Running.{AreMoved}
 use Rattle.plus_tables.specs.Tables.{TablesData}
 use Rattle.table_repair.specs.declared.span.Span.{Span}
-use Rattle.table_repair.specs.Mending.{IsRight, AreReady, FollowBut, Mends, NoneAhead, CanSweep, Sweeps, either, is_among, span_length, far_number, without_far, is_in_row, is_in, goes_right, goes_down, cell_after}
-use Rattle.table_repair.proofs.Lines.{after_moved, right_ahead, is_inside-from}
+use Rattle.table_repair.specs.Mending.{AreReady, FollowBut, Mends, Sweeps, either, is_among, span_length, far_number, without_far, is_in_row, is_in, goes_right, goes_down}
 use Rattle.table_repair.proofs.Mends.{mends_none, mends_both, mends_wider, follow_more, ready_stays}
 use Rattle.table_repair.proofs.Walking.{or_false, false_or}
 

@@ -1,22 +1,21 @@
 -- One walk back from a cell, as long as entries change.
-use Rattle.std.proofs.Common.{◌≡◌, ◌≢◌, ℕ, zero, suc, ◌+◌, ◌<◌, ◌≤◌, ◌⊎◌, inl, inr, arith, Bool, true, false, refl, ap, sym, ◌∙◌, ◌&&◌, ◌||◌, length, length-set, get_or}
-use Rattle.std.specs.Prelude.{ℤ, pos, Option, Some, None, if◌then◌else◌, not}
-use Rattle.std.specs.Ordering.{int_eq}
-use Rattle.std.proofs.lemmas.Bool.Decides.{nat_tests, Decides-int_eq}
+use Rattle.std.proofs.Common.{◌≡◌, ◌≢◌, ℕ, suc, ◌+◌, ◌<◌, ◌⊎◌, inl, inr, arith, Bool, true, false, refl, ap, sym, ◌∙◌, ◌||◌, length, length-set, get_or}
+use Rattle.std.specs.Prelude.{ℤ, pos, Some, None}
+use Rattle.std.proofs.lemmas.Bool.Decides.{nat_tests}
 use Rattle.grid_moves.specs.declared.Cell.{Cell}
 use Rattle.grid_moves.specs.declared.Dir.{Dir}
 use Rattle.grid_moves.specs.Grid.{GridData, IsGrid, is_inside}
 use Rattle.grid_moves.specs.Move.{ahead, is_dir, is_same, legal_ahead}
-use Rattle.grid_moves.proofs.Legal.{is_same-cell, is_same-itself, legal_is, free_inside}
+use Rattle.grid_moves.proofs.Legal.{is_same-cell, is_same-itself}
 use Rattle.pruning.proofs.Bridging.{one_of, legal_leads}
-use Rattle.pruning.proofs.Running.{Trend, rising, level, falling, IsMoved, AreMoved, column_trend, row_trend}
+use Rattle.pruning.proofs.Running.{IsMoved, column_trend, row_trend}
 use Rattle.grid_moves.specs.declared.Dir.TheVariants.{N, NE, E, SE, S, SW, W, NW}
 use Rattle.plus_tables.specs.Entry.{table_entry}
-use Rattle.plus_tables.specs.Tables.{TablesData, IsWhole, AreSized, AreTablesOf, RestsRight, is_on, entry_at, entry_place, tables_with}
+use Rattle.plus_tables.specs.Tables.{TablesData, IsWhole, AreTablesOf, RestsRight, is_on, entry_at, entry_place, tables_with}
 use Rattle.table_repair.specs.Counted.{places_differing}
 use Rattle.table_repair.specs.Mending.{IsRight, AreBesideRight, AreReady, IsMended, Mends, FollowBut, cell_after, behind_on}
 use Rattle.table_repair.proofs.Counting.{entry-with, entry-with_other, count-with, with_itself}
-use Rattle.table_repair.proofs.Lines.{behind_on-is, behind_on-from, one_behind, after_before, after_moved, inside_parts, is_inside-from}
+use Rattle.table_repair.proofs.Lines.{behind_on-from, one_behind, after_before, after_moved, inside_parts}
 use Rattle.table_repair.proofs.Mends.{mends_none, on_inside, ready_stays}
 
 -- what waits for this cell, and for those that wait later

@@ -3,6 +3,7 @@
 ghost use Rattle.std.specs.Prelude.{◌≡◌, ◌+◌, ◌*◌, ◌<◌, ◌≤◌, true, length};
 ghost use Rattle.grid_moves.specs.declared.Dir.{Dir};
 ghost use Rattle.pruning.specs.Turns.{is_diagonal};
+ghost use Rattle.table_repair.specs.Mending as spec;
 ghost use Rattle.table_repair.specs.Mending.{AreReady, AreRight, AreSound, FollowBut, IsBlock, Mends, MendsKind};
 ghost use Rattle.table_repair.specs.Mending.{any_cell, is_in, is_in_reach, is_listed, is_straight, span_length};
 
@@ -34,12 +35,31 @@ pub fn sweep_straight<L: Ledger>(
     ensures few { result ≤ 68719476736 * length dirs.now }
     ensures steps { steps.new
         ≤ steps.old + result + length dirs.now * (span_length rows * span_length columns) }
+    ensures later { steps.old ≤ steps.new }
 {
     let mut changed = 0;
     for d in dirs {
         changed += sweep(tables, grid, rows, columns, *d, steps);
     }
     changed
+}
+
+// The columns of the block, and so many behind them.
+fn columns_in_reach(grid: &Grid, columns: Span, by: u16, d: Dir) -> Span
+    requires small { columns.end ≤ 4096 }
+    requires few { by ≤ 4096 }
+    ensures { result ≡ spec.widened (spec.goes_right d) columns by grid.now.width }
+{
+    widened(columns, goes_right(d), by, grid.width())
+}
+
+// So many rows behind those of the block.
+fn rows_behind(grid: &Grid, rows: Span, by: u16, d: Dir) -> Span
+    requires small { rows.end ≤ 4096 }
+    requires few { by ≤ 4096 }
+    ensures { result ≡ spec.span_next (spec.goes_down d) rows by grid.now.height }
+{
+    span_next(rows, goes_down(d), by, grid.height())
 }
 
 // Makes the entries for a diagonal direction right that wait for the cells of the block, or so many moves
@@ -62,10 +82,10 @@ fn sweep_diagonal<L: Ledger>(
     ensures right { AreRight grid.now tables.new d }
     ensures few { result ≤ 137438953472 }
     ensures steps { steps.new ≤ steps.old + result + 3 * (grid.now.width + grid.now.height) }
+    ensures later { steps.old ≤ steps.new }
 {
-    let (width, height) = (grid.width(), grid.height());
-    let wide = widened(columns, goes_right(d), by, width);
-    let rear = span_next(rows, goes_down(d), by, height);
+    let wide = columns_in_reach(grid, columns, by, d);
+    let rear = rows_behind(grid, rows, by, d);
     let changed = sweep(tables, grid, rows, wide, d, steps);
     changed + sweep(tables, grid, rear, columns, d, steps)
 }
@@ -94,6 +114,7 @@ pub fn sweep_diagonals<L: Ledger>(
     ensures few { result ≤ 137438953472 * length dirs.now }
     ensures steps { steps.new
         ≤ steps.old + result + length dirs.now * (3 * (grid.now.width + grid.now.height)) }
+    ensures later { steps.old ≤ steps.new }
 {
     let mut changed = 0;
     for d in dirs {

@@ -1,5 +1,4 @@
-use Rattle.std.proofs.Common.{◌≡◌, ◌∙◌, ℕ, ◌<◌, ◌^◌, ap, sym, subst}
-use Rattle.grid_moves.specs.declared.Cell.{Cell}
+use Rattle.std.proofs.Common.{◌<◌, ◌^◌, sym, subst}
 use Rattle.best_first.specs.declared.node.Offer.{Offer}
 use Rattle.best_first.specs.Space.{IsPlaced}
 use Rattle.best_first.specs.Table.{ClosedBelow, node_for}

@@ -1,5 +1,5 @@
-use Rattle.std.proofs.Common.{◌≡◌, ◌∙◌, ◌<◌, ◌≤◌, ℕ, length, arith, sym, ap, subst, List}
-use Rattle.std.specs.Prelude.{slice_get, Some}
+use Rattle.std.proofs.Common.{◌∙◌, length, arith, ap, List}
+use Rattle.std.specs.Prelude.{slice_get}
 use Rattle.std.proofs.lemmas.Option.{slice_get_within}
 use Rattle.best_first.specs.declared.node.Node.{Node}
 use Rattle.search_core.proofs.Advancing.{counted_one, ranked, can_call, offering, each_allowed, ended, on_map, reached_on}

@@ -1,10 +1,5 @@
 -- Each refresh is a further cell of the walk, or its end.
-use Rattle.std.proofs.Common.{◌≡◌, ◌≢◌, ◌<◌, arith, Bool, true, false, refl, ap, sym, ◌∙◌}
-use Rattle.std.specs.Prelude.{ℤ, Option, Some, None, not}
-use Rattle.std.specs.Ordering.{int_eq}
-use Rattle.std.proofs.lemmas.Bool.Decides.{Decides-int_eq}
-use Rattle.grid_moves.specs.declared.Cell.{Cell}
-use Rattle.plus_tables.specs.Tables.{TablesData, tables_with}
+use Rattle.std.proofs.Common.{arith, sym, ◌∙◌}
 use Rattle.table_repair.proofs.Lines.{behind_on-is}
 use Rattle.table_repair.proofs.Mends.{on_inside}
 use Rattle.table_repair.proofs.Walking.{walked_none, walk_stops, walk_goes_on, walk_ends, walk_short, rests_right, nothing_set}

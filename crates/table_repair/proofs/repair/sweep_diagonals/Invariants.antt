@@ -1,5 +1,5 @@
 -- The directions up to this one are done.
-use Rattle.std.proofs.Common.{◌≡◌, ◌+◌, ◌*◌, ◌≤◌, take}
+use Rattle.std.proofs.Common.{◌+◌, ◌*◌, ◌≤◌, take}
 use Rattle.pruning.specs.Turns.{is_diagonal}
 use Rattle.table_repair.specs.Mending.{any_cell, is_in_reach, is_listed}
 use Rattle.table_repair.proofs.Passes.{Passed}
@@ -12,4 +12,5 @@ invariant-loop-d g l = record {
   few : l.changed ≤ 137438953472 * l.d-index;
   counted : l.steps
       ≤ l.fn.steps + l.changed + l.d-index * (3 * (l.grid.width + l.grid.height));
+  later : l.fn.steps ≤ l.steps;
 }

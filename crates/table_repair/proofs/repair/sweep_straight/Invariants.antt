@@ -1,5 +1,5 @@
 -- The directions up to this one are done.
-use Rattle.std.proofs.Common.{◌≡◌, ◌+◌, ◌*◌, ◌≤◌, take}
+use Rattle.std.proofs.Common.{◌+◌, ◌*◌, ◌≤◌, take}
 use Rattle.table_repair.specs.Mending.{is_in, is_listed, is_straight, span_length}
 use Rattle.table_repair.proofs.Passes.{Passed}
 use Rattle.table_repair.proofs.repair.sweep_straight.Given as goal
@@ -11,4 +11,5 @@ invariant-loop-d g l = record {
   few : l.changed ≤ 68719476736 * l.d-index;
   counted : l.steps
       ≤ l.fn.steps + l.changed + l.d-index * (span_length l.rows * span_length l.columns);
+  later : l.fn.steps ≤ l.steps;
 }

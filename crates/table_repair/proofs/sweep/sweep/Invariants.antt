@@ -1,5 +1,5 @@
 -- What is left of the rows waits; a step for each change, and one for each cell of a row.
-use Rattle.std.proofs.Common.{◌≡◌, ◌+◌, ◌-◌, ◌*◌, ◌≤◌, ℕ, true}
+use Rattle.std.proofs.Common.{◌≡◌, ◌+◌, ◌*◌, ◌≤◌, ℕ, true}
 use Rattle.table_repair.specs.Mending.{span_length, is_in, is_among}
 use Rattle.table_repair.proofs.Sweeping.{Swept}
 use Rattle.table_repair.proofs.sweep.sweep.Given as goal
@@ -11,6 +11,7 @@ invariant-loop-y g l = record {
   few : l.changed + 16777216 * span_length l.left ≤ 16777216 * span_length l.fn.rows;
   counted : l.steps + span_length l.left * span_length l.columns
       ≤ l.fn.steps + l.changed + span_length l.fn.rows * span_length l.columns;
+  later : l.fn.steps ≤ l.steps;
 }
 
 abbrev pub decreases-loop-y : goal.decreases-loop-y

@@ -1,0 +1,196 @@
+-- Two replies that are right and the run of the session's engine are one reply.
+use Rattle.std.proofs.Common.{◌≡◌, ℕ, ◌⊎◌, inl, inr, refl, ap, sym, ◌∙◌, Bool, true, false, ◌&&◌, ◌||◌, List, []}
+use Rattle.std.specs.Prelude.{MatchBool, if◌then◌else◌}
+use Rattle.std.proofs.lemmas.Bool.Decides.{when_true}
+use Rattle.std.specs.Prelude as option
+use Rattle.std.specs.declared.option.Option.{Option}
+use Rattle.root2_cost.specs.declared.Cost.{Cost}
+use Rattle.grid_moves.specs.declared.Cell.{Cell}
+use Rattle.grid_moves.specs.Grid.{GridData, is_free, is_inside}
+use Rattle.grid_moves.specs.Layers.{AreLayers, Layers, in_one_layer, is_free_ground, is_on_map, query_grid}
+use Rattle.grid_moves.specs.Reply.{IsRight, are_free_ends}
+use Rattle.grid_moves.proofs.Layering.{is_inside-water}
+use Rattle.plain_search.specs.Found as plain
+use Rattle.plain_search.specs.declared.search.Plain.{Plain}
+use Rattle.plain_search.specs.declared.search.Plain.TheVariants as plain_found
+use Rattle.plain_search.proofs.Oneness as plainly
+use Rattle.search_core.specs.Run as jump
+use Rattle.search_core.specs.declared.found.Found.{Found}
+use Rattle.search_core.proofs.Oneness as jumping
+use Rattle.edit_replay.specs.Replies.{answer_of, Finds, Exhausts, IsRunOn}
+use Rattle.edit_replay.specs.Session.{SessionData}
+use Rattle.edit_replay.specs.Oneness.{IsReplyOf}
+use Rattle.edit_replay.specs.declared.engine.Engine.{Engine}
+use Rattle.edit_replay.specs.declared.engine.Engine.TheVariants as engine
+use Rattle.edit_replay.specs.declared.reply.Reply.{Reply}
+use Rattle.edit_replay.specs.declared.reply.Reply.TheVariants.{Walk, None, Outside, Blocked}
+
+-- the reply of a search that found a walk, and of one that found none
+told : Option (List Cell × Cost) → List ℕ → Reply
+told (option.Some way) taken = Walk way.0 way.1 taken
+told option.None taken = None taken
+
+-- runs that find a walk and runs that end without one have one reply between them
+record AreOne (found : List Cell → Cost → List ℕ → Type 0) (exhausted : List ℕ → Type 0) : Type 0 where
+  walks : (ps qs : List Cell) (c d : Cost) (ms ns : List ℕ) → found ps c ms → found qs d ns
+      → Walk ps c ms ≡ Walk qs d ns
+  ends : (ms ns : List ℕ) → exhausted ms → exhausted ns → ms ≡ ns
+  apart : (ps : List Cell) (c : Cost) (ms ns : List ℕ) → found ps c ms → exhausted ns → ⊥
+
+-- the reply of a plain search
+of_plain : Plain → Reply
+of_plain (plain_found.Found points cost taken) = Walk points cost taken
+of_plain (plain_found.None taken) = None taken
+
+-- the reply of a search over jumps
+of_jumps : Found → Reply
+of_jumps f = told f.answer f.taken
+
+taken_of : Reply → List ℕ
+taken_of (Walk points cost taken) = taken
+taken_of (None taken) = taken
+taken_of Outside = []
+taken_of Blocked = []
+
+is_walk : Reply → Bool
+is_walk (Walk points cost taken) = true
+is_walk (None taken) = false
+is_walk Outside = false
+is_walk Blocked = false
+
+walk_is_none : (ps : List Cell) (c : Cost) (ms ns : List ℕ) → Walk ps c ms ≡ None ns → ⊥
+unfolding is_walk
+walk_is_none ps c ms ns e = let b : true ≡ false = ap is_walk e in cc
+
+module _ (g : GridData) (s t : Cell) where
+  plain_runs : AreOne (plain.IsFound g s t) (plain.IsExhausted g s t)
+  unfolding of_plain taken_of
+  plain_runs = record {
+    walks = λ ps qs c d ms ns is also. ap of_plain (plainly.one_answer g s t (plain_found.Found ps c ms)
+        (plain_found.Found qs d ns) is also);
+    ends = λ ms ns is also. ap (λ p. taken_of (of_plain p)) (plainly.one_answer g s t (plain_found.None ms)
+        (plain_found.None ns) is also);
+    apart = λ ps c ms ns is also. walk_is_none ps c ms ns (ap of_plain (plainly.one_answer g s t
+        (plain_found.Found ps c ms) (plain_found.None ns) is also));
+  }
+
+  jump_runs : AreOne (jump.IsFound g s t) (jump.IsExhausted g s t)
+  unfolding of_jumps told taken_of
+  jump_runs = record {
+    walks = λ ps qs c d ms ns is also. ap of_jumps (jumping.one_answer g s t
+        (record { answer = option.Some (ps, c); taken = ms }) (record { answer = option.Some (qs, d); taken = ns })
+        is also);
+    ends = λ ms ns is also. ap (λ f. taken_of (of_jumps f)) (jumping.one_answer g s t
+        (record { answer = option.None; taken = ms }) (record { answer = option.None; taken = ns }) is also);
+    apart = λ ps c ms ns is also. walk_is_none ps c ms ns (ap of_jumps (jumping.one_answer g s t
+        (record { answer = option.Some (ps, c); taken = ms }) (record { answer = option.None; taken = ns }) is also));
+  }
+
+  -- the plain engine's run is one, and so is that of all engines that jump
+  runs_are_one : (e : Engine) → AreOne (Finds e g s t) (Exhausts e g s t)
+  runs_are_one engine.Plain = plain_runs
+  runs_are_one engine.Jps = jump_runs
+
+not_both : (b : Bool) → b ≡ true → b ≡ false → ⊥
+not_both b e f = let h : true ≡ false = sym e ∙ f in cc
+
+and_both : (a b : Bool) → (a && b) ≡ true → (a ≡ true) × (b ≡ true)
+and_both true b e = (refl, e)
+and_both false b e = absurd (cc)
+
+and_true : (a b : Bool) → a ≡ true → b ≡ true → (a && b) ≡ true
+and_true a b e f = rw (e, f) refl
+
+or_late : (a b : Bool) → b ≡ true → (a || b) ≡ true
+or_late true b e = refl
+or_late false b e = e
+
+or_early : (a b : Bool) → a ≡ true → (a || b) ≡ true
+or_early true b e = refl
+or_early false b e = absurd (cc)
+
+or_either : (a b : Bool) → (a || b) ≡ true → (a ≡ true) ⊎ (b ≡ true)
+or_either true b e = inl refl
+or_either false b e = inr e
+
+module _ (ls : Layers) (are : AreLayers ls) (s t : Cell) (e : Engine) where
+  -- nothing was found by one run or nothing was searched
+  one_none : (ms ns : List ℕ) → IsRunOn e (query_grid ls s) s t (None ms)
+      → IsRunOn e (query_grid ls s) s t (None ns) → None ms ≡ None ns
+  one_none ms ns is also = ap (λ (taken : List ℕ). None taken) (by_test (in_one_layer ls s t) is also)
+    where
+      by_test : (b : Bool) → MatchBool b (Exhausts e (query_grid ls s) s t ms) (ms ≡ [])
+          → MatchBool b (Exhausts e (query_grid ls s) s t ns) (ns ≡ []) → ms ≡ ns
+      by_test true is also = (runs_are_one (query_grid ls s) s t e).ends ms ns is also
+      by_test false is also = is ∙ sym also
+
+  -- where a walk was found, the ends lie in one layer
+  walk_or_none : (ps : List Cell) (c : Cost) (ms ns : List ℕ) → in_one_layer ls s t ≡ true
+      → IsRunOn e (query_grid ls s) s t (Walk ps c ms) → IsRunOn e (query_grid ls s) s t (None ns) → ⊥
+  walk_or_none ps c ms ns one is also = (runs_are_one (query_grid ls s) s t e).apart ps c ms ns is
+      (when_true (Exhausts e (query_grid ls s) s t ns) (ns ≡ []) one also)
+
+  -- ends in one layer are free
+  ends_free : in_one_layer ls s t ≡ true → are_free_ends ls s t ≡ true
+  ends_free one = by_water (is_free ls.water s) one
+    where
+      by_water : (b : Bool)
+          → (is_free (if b then ls.water else ls.land) s && is_free (if b then ls.water else ls.land) t) ≡ true
+          → are_free_ends ls s t ≡ true
+      by_water true one = let p = and_both (is_free ls.water s) (is_free ls.water t) one in
+          and_true (is_free_ground ls s) (is_free_ground ls t)
+          (or_late (is_free ls.land s) (is_free ls.water s) p.0)
+          (or_late (is_free ls.land t) (is_free ls.water t) p.1)
+      by_water false one = let p = and_both (is_free ls.land s) (is_free ls.land t) one in
+          and_true (is_free_ground ls s) (is_free_ground ls t)
+          (or_early (is_free ls.land s) (is_free ls.water s) p.0)
+          (or_early (is_free ls.land t) (is_free ls.water t) p.1)
+
+  -- free ends lie on the map
+  ground_on : (c : Cell) → is_free_ground ls c ≡ true → is_on_map ls c ≡ true
+  ground_on c free = elim (or_either (is_free ls.land c) (is_free ls.water c) free) [
+    | inl f ↦ (and_both (is_inside ls.land c) _ f).0
+    | inr f ↦ sym (is_inside-water ls are c) ∙ (and_both (is_inside ls.water c) _ f).0
+  ]
+
+  ends_on : are_free_ends ls s t ≡ true → (is_on_map ls s && is_on_map ls t) ≡ true
+  ends_on free =
+      let p = and_both (is_free_ground ls s) (is_free_ground ls t) free in
+      and_true (is_on_map ls s) (is_on_map ls t) (ground_on s p.0) (ground_on t p.1)
+
+  -- a right reply that searched, or that says blocked, has its ends on the map
+  not_outside : {A : Type 0} → are_free_ends ls s t ≡ true → (is_on_map ls s && is_on_map ls t) ≡ false → A
+  not_outside free off = absurd (not_both (is_on_map ls s && is_on_map ls t) (ends_on free) off)
+
+  not_blocked : {A : Type 0} → are_free_ends ls s t ≡ true → are_free_ends ls s t ≡ false → A
+  not_blocked free shut = absurd (not_both (are_free_ends ls s t) free shut)
+
+  -- the reply is right, and the run of this engine
+  record IsReplyBy (reply : Reply) : Type 0 where
+    right : IsRight ls s t (answer_of reply)
+    run : IsRunOn e (query_grid ls s) s t reply
+
+  one_reply : (one other : Reply) → IsReplyBy one → IsReplyBy other → one ≡ other
+  one_reply (Walk ps c ms) (Walk qs d ns) p q =
+      (runs_are_one (query_grid ls s) s t e).walks ps qs c d ms ns p.run q.run
+  one_reply (Walk ps c ms) (None ns) p q = absurd (walk_or_none ps c ms ns p.right.0 p.run q.run)
+  one_reply (Walk ps c ms) Outside p q = not_outside (ends_free p.right.0) q.right
+  one_reply (Walk ps c ms) Blocked p q = not_blocked (ends_free p.right.0) q.right.1
+  one_reply (None ms) (Walk qs d ns) p q = absurd (walk_or_none qs d ns ms q.right.0 q.run p.run)
+  one_reply (None ms) (None ns) p q = one_none ms ns p.run q.run
+  one_reply (None ms) Outside p q = not_outside p.right.0 q.right
+  one_reply (None ms) Blocked p q = not_blocked p.right.0 q.right.1
+  one_reply Outside (Walk qs d ns) p q = not_outside (ends_free q.right.0) p.right
+  one_reply Outside (None ns) p q = not_outside q.right.0 p.right
+  one_reply Outside Outside p q = refl
+  one_reply Outside Blocked p q = absurd (not_both (is_on_map ls s && is_on_map ls t) q.right.0 p.right)
+  one_reply Blocked (Walk qs d ns) p q = not_blocked (ends_free q.right.0) p.right.1
+  one_reply Blocked (None ns) p q = not_blocked q.right.0 p.right.1
+  one_reply Blocked Outside p q = absurd (not_both (is_on_map ls s && is_on_map ls t) p.right.0 q.right)
+  one_reply Blocked Blocked p q = refl
+
+-- the replies of one engine
+pub one_run_reply : (d : SessionData) (s t : Cell) (one other : Reply) → AreLayers d.layers
+    → IsReplyOf d s t one → IsReplyOf d s t other → one ≡ other
+one_run_reply d s t one other are p q = one_reply d.layers are s t d.engine one other
+    (record { right = p.right; run = p.run }) (record { right = q.right; run = q.run })

@@ -1,0 +1,18 @@
+-- That a query has one reply alone.
+use Rattle.std.specs.Prelude.{◌≡◌}
+use Rattle.grid_moves.specs.declared.Cell.{Cell}
+use Rattle.grid_moves.specs.Layers.{AreLayers}
+use Rattle.grid_moves.specs.Reply.{IsRight}
+use Rattle.edit_replay.specs.Replies.{answer_of, IsRunReply}
+use Rattle.edit_replay.specs.Session.{SessionData}
+use Rattle.edit_replay.specs.declared.reply.Reply.{Reply}
+
+-- the reply is right, and the run of the session's engine
+pub record IsReplyOf (d : SessionData) (s t : Cell) (reply : Reply) : Type 0 where
+  pub right : IsRight d.layers s t (answer_of reply)
+  pub run : IsRunReply d s t reply
+
+-- on the layers of one map two such replies are one reply: the same points, cost and taken states
+abbrev pub RepliesAreOne : Type 0
+RepliesAreOne = (d : SessionData) (s t : Cell) (one other : Reply) → AreLayers d.layers
+    → IsReplyOf d s t one → IsReplyOf d s t other → one ≡ other

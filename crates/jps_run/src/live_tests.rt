@@ -1,0 +1,186 @@
+//! The command `live`: each failing read in turn, inputs in pieces, and the order of reads and writes.
+
+ghost use Rattle.std.specs.Prelude.{◌≡◌, ◌<◌, ◌≤◌, length, IfOk, None};
+ghost use Rattle.std.specs.Io.KnownBytes.{ReadConsumes, WriteAppends};
+ghost use Rattle.io_edge.specs.Causes.{HasCause};
+
+use crate::run;
+use crate::tests::{stream, strings, two_files};
+use arrayvec::ArrayVec;
+use io_edge::{Failed, MemSource, Sink, Source};
+use std::alloc::Global;
+use std::cell::Cell;
+use std::marker::Brand;
+use std::process::Abort;
+use std::sync::ledger::{Blank, Ledger};
+use std::test::Fail;
+use steps::Steps;
+
+// Two walls with a crossing between them.
+const CROSSING: &[u8] = b"type octile\nheight 3\nwidth 3\nmap\n.@.\n...\n.@.\n";
+
+// Two lines, of 14 and of 10 bytes.
+const SCRIPT: &[u8] = b"query 0 1 2 1\nblock 1 1\n";
+
+const WALK: &[u8] = b"walk 2 0 0,1 2,1\n";
+
+const BOTH: &[u8] = b"walk 2 0 0,1 2,1\nok\n";
+
+fn call<I: Source, O: Sink, L: Ledger>(
+    alloc: Global,
+    rt: &impl Abort,
+    input: &mut I,
+    out: &mut O,
+    line: &[u8],
+    blank: Blank,
+) -> Result<u8, Fail>
+    requires name { blank.name ≡ L.name }
+    requires parts { blank.parts ≡ L.parts }
+    requires some { 0 < L.parts }
+{
+    let mut steps = Steps::<L>::new(blank);
+    let words = strings(alloc, &["live", "m"])?;
+    let mut files = two_files(alloc, CROSSING, b"", 0)?;
+    let mut err = stream(alloc, 0)?;
+    let status = run(
+        alloc,
+        words.as_slice(),
+        &mut files,
+        input,
+        out,
+        &mut err,
+        &mut steps,
+    );
+    assert_eq!(rt; err.bytes(), line);
+    Ok(status)
+}
+
+// A script that comes in pieces of so many bytes, the read of this number failing, has this status,
+// this output and this line.
+fn check(
+    alloc: Global,
+    rt: &impl Abort,
+    script: &[u8],
+    piece: usize,
+    failing: u64,
+    status: u8,
+    output: &[u8],
+    line: &[u8],
+) -> Result<(), Fail>
+    requires { 1 ≤ piece }
+{
+    let mut failing_reads = Vec::new(alloc);
+    failing_reads.push(failing)?;
+    let mut input = MemSource::new(Vec::from_slice(alloc, script)?, piece, failing_reads);
+    let mut out = stream(alloc, 0)?;
+    let answer = call::<_, _, Brand>(alloc, rt, &mut input, &mut out, line, Blank::new(1))?;
+    assert_eq!(rt; answer, status);
+    assert_eq!(rt; out.bytes(), output);
+    Ok(())
+}
+
+// The lines of the commands whose line feed is among the first bytes, so many.
+fn lines_of(bytes: u64) -> &'static [u8] {
+    match bytes {
+        0..14 => b"",
+        14..24 => WALK,
+        _ => BOTH,
+    }
+}
+
+// A read takes one byte; the 25th finds the end.
+#[test]
+fn each_failing_read_leaves_the_whole_commands(rt: HostRuntime) -> Result<(), Fail> {
+    for taken in 0..25 {
+        check(
+            rt.alloc(),
+            &rt,
+            SCRIPT,
+            1,
+            taken + 1,
+            4,
+            lines_of(taken),
+            b"jps: read\n",
+        )?;
+    }
+    Ok(())
+}
+
+// The last line needs no line feed, and a misspelt line ends the call behind the answers before it.
+#[test]
+fn a_script_is_answered_up_to_its_first_fault(rt: HostRuntime) -> Result<(), Fail> {
+    for piece in [1, 7, 4096] {
+        let open = b"query 0 1 2 1\nblock 1 1";
+        check(rt.alloc(), &rt, open, piece, 0, 0, BOTH, b"")?;
+        let misspelt = b"query 0 1 2 1\n\nbolck 1 1\nblock 1 1\n";
+        check(
+            rt.alloc(),
+            &rt,
+            misspelt,
+            piece,
+            0,
+            3,
+            WALK,
+            b"jps: script T1 line 3\n",
+        )?;
+    }
+    Ok(())
+}
+
+// A script that comes in pieces of 7 bytes; it counts its reads.
+#[derive(Drop)]
+struct Spoken<'a> {
+    text: &'a [u8],
+    reads: &'a Cell<u64>,
+}
+
+impl<'a> Source for Spoken<'a> {
+    ghost left = { λ _. None };
+
+    ghost faults = { λ _. 0 };
+
+    fn read(&mut self, buf: &mut [u8]) -> Result<usize, Failed> {
+        self.reads.set(self.reads.get().saturating_add(1));
+        let count = self.text.len().min(buf.len()).min(7);
+        buf[..count].copy_from_slice(&self.text[..count]);
+        self.text = &self.text[count..];
+        Ok(count)
+    }
+}
+
+// A stream that notes at each write how many reads there were.
+#[derive(Drop)]
+struct Noted<'a> {
+    reads: &'a Cell<u64>,
+    notes: ArrayVec<u64, 16>,
+}
+
+impl<'a> Sink for Noted<'a> {
+    ghost written = { λ _. None };
+
+    ghost faults = { λ _. 0 };
+
+    fn write(&mut self, piece: &[u8]) -> Result<usize, Failed> {
+        let _ = self.notes.try_push(self.reads.get());
+        Ok(piece.len())
+    }
+}
+
+// The second read completes the first line, the fourth the second one; a fifth finds the end.
+#[test]
+fn a_line_is_answered_before_the_next_read(rt: HostRuntime) -> Result<(), Fail> {
+    let reads = Cell::new(0);
+    let mut input = Spoken {
+        text: SCRIPT,
+        reads: &reads,
+    };
+    let mut out = Noted {
+        reads: &reads,
+        notes: ArrayVec::new(),
+    };
+    let status = call::<_, _, Brand>(rt.alloc(), &rt, &mut input, &mut out, b"", Blank::new(1))?;
+    assert_eq!(rt; status, 0);
+    assert_eq!(rt; out.notes.as_slice(), [2, 4].as_slice());
+    assert_eq!(rt; reads.get(), 5);
+    Ok(())
+}

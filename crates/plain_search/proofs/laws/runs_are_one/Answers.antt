@@ -1,0 +1,5 @@
+use Rattle.plain_search.proofs.Oneness.{one_answer}
+use Rattle.plain_search.proofs.laws.runs_are_one.Goals as goal
+
+pub returns : goal.returns
+returns c = one_answer

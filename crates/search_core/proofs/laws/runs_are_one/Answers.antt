@@ -1,0 +1,5 @@
+use Rattle.search_core.proofs.Oneness.{one_answer}
+use Rattle.search_core.proofs.laws.runs_are_one.Goals as goal
+
+pub returns : goal.returns
+returns c = one_answer
