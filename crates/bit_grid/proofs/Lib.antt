@@ -1,0 +1,3 @@
+pub mod Words
+mod Packing
+mod Showing

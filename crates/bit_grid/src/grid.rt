@@ -1,0 +1,71 @@
+//! The bits of a grid, by rows and by columns.
+
+ghost use Rattle.std.specs.Prelude.{◌≡◌, IfOk, IsTrue};
+ghost use Rattle.grid_moves.specs.Grid.{GridData, grid_with, is_inside};
+
+use crate::NoMemory;
+use crate::lines::{Columns, Lines, Rows};
+use crate::pack::Axis;
+use grid_moves::{Cell, Terrain};
+use std::alloc::Global;
+use std::marker::Model;
+
+/// Which cells of a map are free, as bits of its rows and of its columns.
+#[derive(Drop)]
+pub struct BitGrid {
+    rows: Lines,
+    columns: Lines,
+}
+
+impl Model for BitGrid {
+    ghost use Rattle.bit_grid.specs.Bits.{BitData};
+
+    ghost Value = { BitData };
+
+    ghost view = { λ b. record {
+      rows = b.rows;
+      columns = b.columns;
+    } };
+}
+
+impl BitGrid {
+    ghost use Rattle.bit_grid.specs.Bits.{AreBitsOf, AreColumnsOf, AreRowsOf};
+
+    /// The bits of a grid: 9 blocks for each of 4098 rows and as many columns at most, 4.7 MB.
+    pub fn of_grid<T: Terrain>(alloc: Global, t: &T) -> Result<BitGrid, NoMemory>
+        ensures { IfOk result (λ bits. AreBitsOf bits (T.grid t.now)) }
+    {
+        let (width, height) = (t.width(), t.height());
+        Ok(BitGrid {
+            rows: Lines::on(alloc, t, Axis::Rows, height, width)?,
+            columns: Lines::on(alloc, t, Axis::Columns, width, height)?,
+        })
+    }
+
+    /// Makes a cell of the map free, or blocked, in its row and in its column; all other bits stay.
+    pub fn set(&mut self, c: Cell, free: bool)
+        requires inside { (g : GridData) × AreBitsOf self.old g × IsTrue (is_inside g c) }
+        ensures edited { (g : GridData) → AreBitsOf self.old g → IsTrue (is_inside g c)
+            → AreBitsOf self.new (grid_with g c free) }
+    {
+        let (line, position) = (u32::from(c.y) + 1, u32::from(c.x) + 1);
+        self.rows.set(line, position, free);
+        self.columns.set(position, line, free);
+    }
+
+    /// The rows.
+    #[inline(always)]
+    pub fn rows(&self) -> Rows<'_>
+        ensures are { (g : GridData) → AreBitsOf self.now g → AreRowsOf result.now g }
+    {
+        &self.rows
+    }
+
+    /// The columns.
+    #[inline(always)]
+    pub fn columns(&self) -> Columns<'_>
+        ensures are { (g : GridData) → AreBitsOf self.now g → AreColumnsOf result.now g }
+    {
+        &self.columns
+    }
+}

@@ -1,0 +1,132 @@
+//! Lines of bits.
+
+ghost use Rattle.std.specs.Prelude.{◌≡◌, ℕ, ◌+◌, ◌*◌, ◌<◌, ◌≤◌, Bool, IfOk, length, slice_index_or, nat_eq, if◌then◌else◌};
+ghost use Rattle.grid_moves.specs.Grid.{IsGrid};
+ghost use Rattle.bit_grid.specs.Pack.{is_free_on};
+ghost use Rattle.bit_grid.specs.Bits.{Shows, is_set, with_cell};
+
+use crate::NoMemory;
+use crate::pack::{Axis, words_on};
+use grid_moves::Terrain;
+use std::alloc::Global;
+use std::marker::Model;
+use std::simd::u64x8;
+use std::sync::ledger::Ledger;
+use steps::Steps;
+
+// The word with one bit set or cleared.
+#[inline(always)]
+fn with_bit(word: u64, place: u32, free: bool) -> u64
+    requires { place < 64 }
+    ensures { (j : ℕ) → j < 64 → is_set result j ≡ (if nat_eq j place then free else is_set word j) }
+{
+    if free {
+        word | 1 << place
+    } else {
+        word & !(1 << place)
+    }
+}
+
+/// Lines of bits side by side, each in blocks of 512.
+#[derive(Drop)]
+pub struct Lines {
+    lines: u32,
+    blocks: u32,
+    words: Vec<u64>,
+}
+
+/// The rows of a grid: line `l` is row `l - 1`, and its bit `p` column `p - 1`.
+pub type Rows<'a> = &'a Lines;
+
+/// The columns of a grid: line `l` is column `l - 1`, and its bit `p` row `p - 1`.
+pub type Columns<'a> = &'a Lines;
+
+impl Model for Lines {
+    ghost use Rattle.std.specs.Prelude.{◌≡◌, ◌*◌, length};
+    ghost use Rattle.bit_grid.specs.Bits.{LineData};
+
+    ghost Value = { LineData };
+
+    ghost view = { λ l. record {
+      lines = l.lines;
+      blocks = l.blocks;
+      words = l.words.items;
+    } };
+
+    ghost invariant = { λ l. length l.words.items ≡ l.lines * (l.blocks * 8) };
+}
+
+// How many blocks hold so many bits.
+fn blocks_for(bits: u32) -> u32
+    requires { bits ≤ 65536 }
+    ensures enough { bits ≤ result * 512 }
+    ensures few { result * 512 < bits + 512 }
+{
+    bits.div_ceil(512)
+}
+
+impl Lines {
+    // The lines of a grid along an axis, told how many there are and how many cells each has.
+    pub(crate) fn on<T: Terrain>(
+        alloc: Global,
+        t: &T,
+        axis: Axis,
+        lines: u16,
+        positions: u16,
+    ) -> Result<Lines, NoMemory>
+        requires whole { IsGrid (T.grid t.now) }
+        requires lines { lines ≤ 4096 }
+        requires positions { positions ≤ 4096 }
+        ensures { IfOk result (λ l. Shows l lines positions (is_free_on axis (T.grid t.now))) }
+    {
+        let lines = lines + 2;
+        let blocks = blocks_for(u32::from(positions) + 2);
+        let words = words_on(alloc, t, axis, lines, blocks as u16 * 8)?;
+        Ok(Lines {
+            lines: u32::from(lines),
+            blocks,
+            words,
+        })
+    }
+
+    // Sets the bit at a position of a line, or clears it; all others stay.
+    pub(crate) fn set(&mut self, line: u32, position: u32, free: bool)
+        requires line { line < self.old.lines }
+        requires position { position < self.old.blocks * 512 }
+        ensures { (lines positions : ℕ) (shown : ℕ → ℕ → Bool) → Shows self.old lines positions shown
+            → Shows self.new lines positions (with_cell shown line position free) }
+    {
+        let place = line as usize * self.blocks as usize * 8 + position as usize / 64;
+        self.words[place] = with_bit(self.words[place], position % 64, free);
+    }
+
+    /// The number of lines, the border's two among them.
+    pub fn lines(&self) -> u32
+        ensures { result ≡ self.now.lines }
+    {
+        self.lines
+    }
+
+    /// The number of blocks in a line.
+    pub fn blocks(&self) -> u32
+        ensures { result ≡ self.now.blocks }
+    {
+        self.blocks
+    }
+
+    /// A block of a line, both counted from 0: bit `j` of word `k` is the line's bit `512·index + 64·k + j`.
+    /// This is the one way to read bits, and it counts one step.
+    #[inline(always)]
+    pub fn lane<L: Ledger>(&self, line: u32, index: u32, steps: &mut Steps<L>) -> u64x8
+        requires line { line < self.now.lines }
+        requires index { index < self.now.blocks }
+        ensures shown { (lines positions : ℕ) (free : ℕ → ℕ → Bool) → Shows self.now lines positions free
+            → (k j : ℕ) → k < 8 → j < 64
+            → is_set (slice_index_or result k 0) j ≡ free line (index * 512 + k * 64 + j) }
+        ensures one_step { steps.new ≡ steps.old + 1 }
+    {
+        steps.tick();
+        let start = (line as usize * self.blocks as usize + index as usize) * 8;
+        u64x8::from_slice(&self.words[start..start + 8])
+    }
+}
