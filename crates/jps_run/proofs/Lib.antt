@@ -12,3 +12,4 @@ pub mod Works
 pub mod Readings
 pub mod Writing
 pub mod Ended
+pub mod Counts

@@ -1,8 +1,9 @@
 //! The top call.
 
-ghost use Rattle.std.specs.Prelude.{◌≡◌, ℕ, ◌≤◌, ◌⊎◌, map, string_bytes};
+ghost use Rattle.std.specs.Prelude.{◌≡◌, ℕ, ◌≤◌, ◌⊎◌, OnOk, map, string_bytes};
 ghost use Rattle.io_edge.specs.Causes.{Rose};
 ghost use Rattle.word_list.specs.Request.{HasSides, called};
+ghost use Rattle.jps_run.specs.Counting.{HasCounted, RoseAsCalled};
 ghost use Rattle.jps_run.specs.Ending.{Comes, Gets, HasLines, HasPart, NamedRose, Names, WroteNothing, ending_line};
 ghost use Rattle.jps_run.specs.Worked.{HasWorked};
 ghost use Rattle.jps_run.specs.FaultLines.{word_line as line_of_word};
@@ -36,6 +37,8 @@ fn work<F: Files, O: Sink, L: Ledger>(
     ensures worked { HasWorked (called request.entry settings)
         (seen (F.holds files.old) (F.faults files.old) (O.written out.old) (O.faults out.old))
         (seen (F.holds files.new) (F.faults files.new) (O.written out.new) (O.faults out.new)) result }
+    ensures counted { OnOk result (HasCounted (called request.entry settings) (F.holds files.old)
+        steps.old steps.new) }
     ensures unchanged { F.holds files.new ≡ F.holds files.old }
 {
     match request {
@@ -156,6 +159,10 @@ pub fn run<F: Files, I: Source, O: Sink, E: Sink, L: Ledger>(
         (seen (F.holds files.new) (F.faults files.new) (O.written out.new) (O.faults out.new))
         → ¬ Rose (O.faults out.old) (O.faults out.new) → (result ≤ 3) ⊎ (result ≡ 6) }
     ensures unchanged { F.holds files.new ≡ F.holds files.old }
+    // A call that comes to its end counts, for each state that its searches took away from their
+    // goals, at least the fewest steps of its engine.
+    ensures counted { result ≤ 1 → RoseAsCalled (map string_bytes words.now) (F.holds files.old)
+        steps.old steps.new }
     // Nothing is taken from the input.
     ensures input_stays { I.left input.new ≡ I.left input.old }
 {
