@@ -1,0 +1,141 @@
+-- The local law: an entry follows from the entries at the next cell.
+use Rattle.std.proofs.Common.{◌≡◌, ℕ, zero, suc, ◌+◌, ◌≤◌, arith, Bool, true, false, not, ◌||◌, refl, ap, sym, ◌∙◌}
+use Rattle.std.specs.Prelude.{ℤ, pos, Option, Some, None, is_some, option_and_then, option_map, unwrap_or, if◌then◌else◌}
+use Rattle.grid_moves.specs.declared.Cell.{Cell}
+use Rattle.grid_moves.specs.declared.Dir.{Dir}
+use Rattle.grid_moves.specs.Least.{FindsLeast}
+use Rattle.grid_moves.specs.Grid.{GridData, is_free}
+use Rattle.grid_moves.specs.Move.{legal_ahead}
+use Rattle.grid_moves.proofs.Legal.{legal_is}
+use Rattle.pruning.specs.declared.turns.Side.{Side}
+use Rattle.pruning.specs.declared.turns.Side.TheVariants.{Right, Left}
+use Rattle.pruning.specs.Turns.{turn, is_diagonal}
+use Rattle.pruning.specs.Marked.{is_forced}
+use Rattle.pruning.specs.First.{first_within, first_on_run, holds_on_run, is_marked, first_mark, run_length}
+use Rattle.pruning.proofs.Table.{turn_parity, by_parity}
+use Rattle.pruning.proofs.Bridging.{legal_leads}
+use Rattle.pruning.proofs.Firsts.{HoldsAfter, first_on_run-finds, first_on_run-next, first_on_run-none}
+use Rattle.plus_tables.specs.Entry.{mark_or_run, table_entry}
+use Rattle.plus_tables.specs.Local.{tells_mark, from_before, is_mark_by, entry_through, EntriesFollow}
+use Rattle.plus_tables.proofs.Lengths.{run_length-next, run_length-none}
+
+-- two tests that agree everywhere find the same
+pub first_within-same : (g : GridData) (d : Dir) (one other : Cell → Bool) → ((v : Cell) → one v ≡ other v)
+    → (n : ℕ) (x : Cell) → first_within n g d one x ≡ first_within n g d other x
+first_within-same g d one other same zero x = refl
+first_within-same g d one other same (suc n) x =
+    by_cell (legal_ahead g x d) (λ v. first_within-same g d one other same n v)
+  where
+    by_cell : (o : Option Cell)
+        → ((v : Cell) → first_within n g d one v ≡ first_within n g d other v)
+        → option_and_then
+        (λ v. if one v then Some 1 else option_map (λ k. suc k) (first_within n g d one v)) o
+        ≡ option_and_then
+        (λ v. if other v then Some 1 else option_map (λ k. suc k) (first_within n g d other v)) o
+    by_cell None next = refl
+    by_cell (Some v) next = rw (same v, next v) refl
+
+-- for a straight d the marked cells are those with a forced neighbour
+pub is_marked-straight : (g : GridData) (v : Cell) (d : Dir) → is_diagonal d ≡ false
+    → is_marked g v d ≡ is_forced g v d
+is_marked-straight g v d h = rw h (drop (is_forced g v d))
+  where
+    drop : (a : Bool) → (a || false) ≡ a
+    drop true = refl
+    drop false = refl
+
+pub first_mark-straight : (g : GridData) (x : Cell) (d : Dir) → is_diagonal d ≡ false
+    → first_mark g x d ≡ first_on_run g d (λ v. is_forced g v d) x
+first_mark-straight g x d h = first_within-same g d (λ v. is_marked g v d) (λ v. is_forced g v d)
+    (λ v. is_marked-straight g v d h) (g.width + g.height) x
+
+-- a first mark is at least one move away
+pub first_mark-some : (g : GridData) (x : Cell) (d : Dir) (k : ℕ) → first_mark g x d ≡ Some k → 1 ≤ k
+first_mark-some g x d k e = by_answer (first_mark g x d) (first_on_run-finds g d (λ v. is_marked g v d) x) e
+  where
+    by_answer : (o : Option ℕ) → FindsLeast (HoldsAfter g d (λ v. is_marked g v d) x) 1 o → o ≡ Some k
+        → 1 ≤ k
+    by_answer None f h = absurd (cc)
+    by_answer (Some m) f h =
+        let same : m ≡ k = ap (λ (o : Option ℕ). unwrap_or o 0) h in
+        let least = f.in_range in
+        omega arith
+
+-- the entry of a free cell
+pub table_entry-free : (g : GridData) (c : Cell) (d : Dir) → is_free g c ≡ true
+    → table_entry g c d ≡ mark_or_run (first_mark g c d) (run_length g c d)
+table_entry-free g c d h = rw h refl
+
+-- an entry above 0 tells of a mark
+pub tells_mark-is : (g : GridData) (c : Cell) (d : Dir) → is_free g c ≡ true
+    → tells_mark (table_entry g c d) ≡ is_some (first_mark g c d)
+tells_mark-is g c d h = ap (λ (z : ℤ). tells_mark z) (table_entry-free g c d h)
+    ∙ by_mark (first_mark g c d) refl
+  where
+    above : (k n : ℕ) → 1 ≤ k → tells_mark (mark_or_run (Some k) n) ≡ true
+    above zero n h = absurd (omega arith)
+    above (suc k) n h = refl
+
+    below : (n : ℕ) → tells_mark (mark_or_run None n) ≡ false
+    below zero = refl
+    below (suc n) = refl
+
+    by_mark : (o : Option ℕ) → first_mark g c d ≡ o
+        → tells_mark (mark_or_run o (run_length g c d)) ≡ is_some o
+    by_mark None e = below (run_length g c d)
+    by_mark (Some k) e = above k (run_length g c d) (first_mark-some g c d k e)
+
+-- so the marks at a free cell are told by its entries
+pub is_mark_by-is : (g : GridData) (d : Dir) (v : Cell) → is_free g v ≡ true
+    → is_mark_by g (table_entry g) d v ≡ is_marked g v d
+is_mark_by-is g d v f = by_parity d diagonal straight
+  where
+    component : is_diagonal d ≡ true → (s : Side) → tells_mark (table_entry g v (turn s d))
+        ≡ holds_on_run g (turn s d) (λ u. is_forced g u (turn s d)) v
+    component h s = tells_mark-is g v (turn s d) f
+        ∙ ap (λ (o : Option ℕ). is_some o)
+        (first_mark-straight g v (turn s d) (turn_parity s d ∙ ap not h))
+
+    diagonal : is_diagonal d ≡ true → is_mark_by g (table_entry g) d v ≡ is_marked g v d
+    diagonal h = rw (component h Right, component h Left) refl
+
+    straight : is_diagonal d ≡ false → is_mark_by g (table_entry g) d v ≡ is_marked g v d
+    straight h = rw h refl
+
+-- from one move further back
+further : (b : Bool) (o : Option ℕ) (n : ℕ) → ((k : ℕ) → o ≡ Some k → 1 ≤ k)
+    → mark_or_run (if b then Some 1 else option_map (λ k. suc k) o) (suc n)
+    ≡ (if b then pos 1 else from_before (mark_or_run o n))
+further true o n h = refl
+further false None zero h = refl
+further false None (suc n) h = refl
+further false (Some zero) n h = let none = h 0 refl in absurd (omega arith)
+further false (Some (suc k)) n h = refl
+
+pub entries_follow : EntriesFollow
+entries_follow g c d = by_cell (legal_ahead g c d) refl
+  where
+    stuck : legal_ahead g c d ≡ None → (b : Bool)
+        → (if b then mark_or_run (first_mark g c d) (run_length g c d) else pos 0) ≡ pos 0
+    stuck e true = rw (first_on_run-none g d (λ v. is_marked g v d) c e, run_length-none g c d e) refl
+    stuck e false = refl
+
+    -- what the run from c finds, by what the run from v finds
+    found : Cell → ℤ
+    found v = if is_marked g v d then pos 1 else from_before (mark_or_run (first_mark g v d) (run_length g v d))
+
+    stepped : (v : Cell) → legal_ahead g c d ≡ Some v
+        → mark_or_run (first_mark g c d) (run_length g c d) ≡ found v
+    stepped v e = rw (first_on_run-next g d (λ v. is_marked g v d) c v e, run_length-next g c v d e)
+        (further (is_marked g v d) (first_mark g v d) (run_length g v d) (λ k. first_mark-some g v d k))
+
+    told : (v : Cell) → is_free g v ≡ true → entry_through g (table_entry g) d v ≡ found v
+    told v f = rw (is_mark_by-is g d v f, table_entry-free g v d f) refl
+
+    by_cell : (o : Option Cell) → legal_ahead g c d ≡ o → table_entry g c d
+        ≡ unwrap_or (option_map (λ v. entry_through g (table_entry g) d v) o) (pos 0)
+    by_cell None e = stuck e (is_free g c)
+    by_cell (Some v) e =
+        let legal = legal_is g c v (legal_leads g c v d e).legal in
+        table_entry-free g c d legal.source
+        ∙ stepped v e ∙ sym (told v legal.target)

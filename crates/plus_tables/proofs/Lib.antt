@@ -1,0 +1,12 @@
+pub mod Lengths
+pub mod Following
+pub mod Placing
+pub mod Short
+pub mod Refreshing
+pub mod Ahead
+pub mod Sweeping
+pub mod Clear
+pub mod Stops
+pub mod Goals
+pub mod Told
+pub mod Turning

@@ -1,0 +1,61 @@
+-- Entries are short: no run is longer than the sides together.
+use Rattle.std.proofs.Common.{◌≡◌, ℕ, ◌+◌, ◌≤◌, arith, Bool, true, false, refl, ap, w16, to_z, of_z}
+use Rattle.std.specs.Prelude.{ℤ, pos, neg_ℤ, Option, Some, None, unwrap_or, if◌then◌else◌}
+use Rattle.std.proofs.lemmas.Int.{ints}
+use Rattle.grid_moves.specs.declared.Cell.{Cell}
+use Rattle.grid_moves.specs.declared.Dir.{Dir}
+use Rattle.grid_moves.specs.Least.{FindsLeast}
+use Rattle.grid_moves.specs.Grid.{GridData, IsGrid, is_free}
+use Rattle.pruning.specs.First.{is_marked, first_mark, run_length}
+use Rattle.pruning.proofs.Runs.{run_short}
+use Rattle.pruning.proofs.Firsts.{HoldsAfter, first_on_run-finds}
+use Rattle.plus_tables.specs.Entry.{mark_or_run, table_entry}
+use Rattle.plus_tables.specs.Tables.{IsShort}
+use Rattle.plus_tables.proofs.Lengths.{run_length-few}
+
+-- a first mark lies on the run
+pub first_mark-few : (g : GridData) (x : Cell) (d : Dir) (k : ℕ) → first_mark g x d ≡ Some k
+    → k ≤ g.width + g.height
+first_mark-few g x d k e = by_answer (first_mark g x d) (first_on_run-finds g d (λ v. is_marked g v d) x) e
+  where
+    by_answer : (o : Option ℕ) → FindsLeast (HoldsAfter g d (λ v. is_marked g v d) x) 1 o → o ≡ Some k
+        → k ≤ g.width + g.height
+    by_answer None f h = absurd (cc)
+    by_answer (Some m) f h =
+        let same : m ≡ k = ap (λ (o : Option ℕ). unwrap_or o 0) h in
+        let few = run_short g d m x f.holds.cell f.holds.reached in
+        omega arith
+
+short_mark : (k : ℕ) → k ≤ 8192 → IsShort (pos k)
+short_mark k h = record { low = omega (arith, ints); high = omega (arith, ints) }
+
+short_run : (n : ℕ) → n ≤ 8192 → IsShort (neg_ℤ (pos n))
+short_run n h = record { low = omega (arith, ints); high = omega (arith, ints) }
+
+pub table_entry-short : (g : GridData) → IsGrid g → (c : Cell) (d : Dir) → IsShort (table_entry g c d)
+table_entry-short g whole c d = by_cell (is_free g c)
+  where
+    few : (k : ℕ) → k ≤ g.width + g.height → k ≤ 8192
+    few k h =
+        let wide = whole.sides.narrow in
+        let high = whole.sides.low in
+        omega arith
+
+    by_mark : (o : Option ℕ) → first_mark g c d ≡ o → IsShort (mark_or_run o (run_length g c d))
+    by_mark None e = short_run (run_length g c d) (few (run_length g c d) (run_length-few g c d))
+    by_mark (Some k) e = short_mark k (few k (first_mark-few g c d k e))
+
+    by_cell : (b : Bool)
+        → IsShort (if b then mark_or_run (first_mark g c d) (run_length g c d) else pos 0)
+    by_cell true = by_mark (first_mark g c d) refl
+    by_cell false = short_mark 0 (omega arith)
+
+-- a short number fits its type
+pub same_value : (entry value : ℤ) → IsShort entry → value ≡ entry → to_z w16 (of_z w16 value) ≡ entry
+same_value entry value short is =
+    let low = short.low in
+    let high = short.high in
+    omega (arith, ints)
+
+pub short_value : (entry value : ℤ) → IsShort entry → value ≡ entry → IsShort (to_z w16 (of_z w16 value))
+short_value entry value short is = rw (same_value entry value short is) short

@@ -1,0 +1,5 @@
+pub mod Entry
+pub mod Local
+pub mod Tables
+pub mod Sweep
+pub mod Reading

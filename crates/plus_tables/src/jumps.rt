@@ -1,0 +1,244 @@
+//! Jumps read off tables.
+//!
+//! A straight jump stops at the goal, if it lies on the run before the first mark, else at the mark: its own
+//! entry tells both. A diagonal jump can see the goal at one cell alone, where it meets the goal's row or
+//! column first; if that comes before its own mark, the entry of the component there tells whether the run
+//! leads on to the goal.
+
+ghost use Rattle.std.specs.Prelude.{◌≡◌, ◌+◌, ◌<◌, ◌≤◌, false, true, min};
+ghost use Rattle.plus_tables.specs.Reading as spec;
+ghost use Rattle.plus_tables.specs.Tables.{entry_at, is_on};
+ghost use Rattle.pruning.specs.Turns as turns;
+
+use crate::tables::{Tables, tells_mark};
+use grid_moves::{Cell, Dir};
+use std::sync::ledger::Ledger;
+use steps::Steps;
+
+// The mark that an entry tells of.
+#[inline(always)]
+fn mark_of(entry: i16) -> Option<u16>
+    ensures is { result ≡ spec.mark_of entry }
+{
+    if tells_mark(entry) {
+        Some(entry.unsigned_abs())
+    } else {
+        None
+    }
+}
+
+// Whether a run has so many moves, and no mark on them.
+#[inline(always)]
+fn is_clear(entry: i16, moves: u16) -> bool
+    ensures is { result ≡ spec.is_clear entry moves }
+{
+    if 0 <= entry {
+        moves < entry.unsigned_abs()
+    } else {
+        moves <= entry.unsigned_abs()
+    }
+}
+
+// How many columns lie between, where the direction leads from the one towards the other; else 0.
+#[inline(always)]
+fn columns_to(d: Dir, from: u16, to: u16) -> u16
+    ensures is { result ≡ spec.columns_to d from to }
+{
+    match d {
+        Dir::NE | Dir::E | Dir::SE => to.saturating_sub(from),
+        Dir::SW | Dir::W | Dir::NW => from.saturating_sub(to),
+        Dir::N | Dir::S => 0,
+    }
+}
+
+// How many rows lie between, where the direction leads from the one towards the other; else 0.
+#[inline(always)]
+fn rows_to(d: Dir, from: u16, to: u16) -> u16
+    ensures is { result ≡ spec.rows_to d from to }
+{
+    match d {
+        Dir::SE | Dir::S | Dir::SW => to.saturating_sub(from),
+        Dir::N | Dir::NE | Dir::NW => from.saturating_sub(to),
+        Dir::E | Dir::W => 0,
+    }
+}
+
+// The column after so many moves.
+#[inline(always)]
+fn column_after(d: Dir, moves: u16, x: u16) -> u16
+    requires { spec.column_after d moves x < 65536 }
+    ensures is { result ≡ spec.column_after d moves x }
+{
+    match d {
+        Dir::NE | Dir::E | Dir::SE => x + moves,
+        Dir::SW | Dir::W | Dir::NW => x.saturating_sub(moves),
+        Dir::N | Dir::S => x,
+    }
+}
+
+// The row after so many moves.
+#[inline(always)]
+fn row_after(d: Dir, moves: u16, y: u16) -> u16
+    requires { spec.row_after d moves y < 65536 }
+    ensures is { result ≡ spec.row_after d moves y }
+{
+    match d {
+        Dir::SE | Dir::S | Dir::SW => y + moves,
+        Dir::N | Dir::NE | Dir::NW => y.saturating_sub(moves),
+        Dir::E | Dir::W => y,
+    }
+}
+
+/// The cell after so many moves.
+#[inline(always)]
+pub fn cell_after(d: Dir, moves: u16, c: Cell) -> Cell
+    requires columns { spec.column_after d moves c.x < 65536 }
+    requires rows { spec.row_after d moves c.y < 65536 }
+    ensures is { result ≡ spec.cell_after d moves c }
+{
+    Cell {
+        x: column_after(d, moves, c.x),
+        y: row_after(d, moves, c.y),
+    }
+}
+
+// The component of a diagonal that leads along a row.
+#[inline(always)]
+fn row_part(d: Dir) -> Dir
+    ensures is { result ≡ spec.row_part d }
+{
+    match d {
+        Dir::NE | Dir::SE => Dir::E,
+        Dir::SW | Dir::NW => Dir::W,
+        _ => d,
+    }
+}
+
+// The component of a diagonal that leads along a column.
+#[inline(always)]
+fn column_part(d: Dir) -> Dir
+    ensures is { result ≡ spec.column_part d }
+{
+    match d {
+        Dir::NE | Dir::NW => Dir::N,
+        Dir::SE | Dir::SW => Dir::S,
+        _ => d,
+    }
+}
+
+// The number of moves in a straight direction that lead from one cell to another, or 0 where none do.
+#[inline(always)]
+fn straight_to(d: Dir, from: Cell, to: Cell) -> u16
+    ensures is { result ≡ spec.straight_to d from to }
+{
+    match d {
+        Dir::N if from.x == to.x => from.y.saturating_sub(to.y),
+        Dir::S if from.x == to.x => to.y.saturating_sub(from.y),
+        Dir::E if from.y == to.y => to.x.saturating_sub(from.x),
+        Dir::W if from.y == to.y => from.x.saturating_sub(to.x),
+        _ => 0,
+    }
+}
+
+// After how many moves a straight jump stops. One step.
+#[inline(always)]
+fn straight_stop<L: Ledger>(
+    tables: &Tables,
+    at: Cell,
+    d: Dir,
+    goal: Cell,
+    steps: &mut Steps<L>,
+) -> Option<u16>
+    requires at { is_on tables.now at ≡ true }
+    ensures is { result ≡ spec.stop_by (entry_at tables.now at d) (spec.straight_to d at goal) true }
+    ensures step { steps.new ≡ steps.old + 1 }
+{
+    let entry = tables.entry(at, d, steps);
+    let near = straight_to(d, at, goal);
+    if 0 < near && is_clear(entry, near) {
+        Some(near)
+    } else {
+        mark_of(entry)
+    }
+}
+
+// Whether the goal is at a cell in its row or column, or on the run in the component from there. It lies so many
+// columns and rows on from where the diagonal jump began. At most one step.
+#[inline(always)]
+fn sees_goal<L: Ledger>(
+    tables: &Tables,
+    at: Cell,
+    d: Dir,
+    columns: u16,
+    rows: u16,
+    steps: &mut Steps<L>,
+) -> bool
+    requires at { is_on tables.now at ≡ true }
+    ensures is { result ≡ spec.sees_goal (entry_at tables.now) d at columns rows }
+    ensures most { steps.new ≤ steps.old + 1 }
+    ensures fewest { steps.old ≤ steps.new }
+{
+    if columns == rows {
+        true
+    } else if rows < columns {
+        is_clear(tables.entry(at, row_part(d), steps), columns - rows)
+    } else {
+        is_clear(tables.entry(at, column_part(d), steps), rows - columns)
+    }
+}
+
+// After how many moves a diagonal jump stops. At most two steps.
+#[inline(always)]
+fn diagonal_stop<L: Ledger>(
+    tables: &Tables,
+    at: Cell,
+    d: Dir,
+    goal: Cell,
+    steps: &mut Steps<L>,
+) -> Option<u16>
+    requires at { is_on tables.now at ≡ true }
+    requires goal { is_on tables.now goal ≡ true }
+    ensures is { result ≡ spec.diagonal_by (entry_at tables.now) at d goal }
+    ensures most { steps.new ≤ steps.old + 2 }
+    ensures fewest { steps.old + 1 ≤ steps.new }
+{
+    let entry = tables.entry(at, d, steps);
+    let columns = columns_to(d, at.x, goal.x);
+    let rows = rows_to(d, at.y, goal.y);
+    let near = columns.min(rows);
+    if 0 < near
+        && is_clear(entry, near)
+        && sees_goal(tables, cell_after(d, near, at), d, columns, rows, steps)
+    {
+        Some(near)
+    } else {
+        mark_of(entry)
+    }
+}
+
+/// After how many moves a jump stops. One step or two. Each direction has code of its own, in which it is a constant.
+#[inline(always)]
+pub fn stop_told<L: Ledger>(
+    tables: &Tables,
+    at: Cell,
+    d: Dir,
+    goal: Cell,
+    steps: &mut Steps<L>,
+) -> Option<u16>
+    requires at { is_on tables.now at ≡ true }
+    requires goal { is_on tables.now goal ≡ true }
+    ensures is { result ≡ spec.stop_told (entry_at tables.now) at d goal }
+    ensures most { steps.new ≤ steps.old + 2 }
+    ensures fewest { steps.old + 1 ≤ steps.new }
+{
+    match d {
+        Dir::N => straight_stop(tables, at, Dir::N, goal, steps),
+        Dir::NE => diagonal_stop(tables, at, Dir::NE, goal, steps),
+        Dir::E => straight_stop(tables, at, Dir::E, goal, steps),
+        Dir::SE => diagonal_stop(tables, at, Dir::SE, goal, steps),
+        Dir::S => straight_stop(tables, at, Dir::S, goal, steps),
+        Dir::SW => diagonal_stop(tables, at, Dir::SW, goal, steps),
+        Dir::W => straight_stop(tables, at, Dir::W, goal, steps),
+        Dir::NW => diagonal_stop(tables, at, Dir::NW, goal, steps),
+    }
+}

@@ -1,0 +1,46 @@
+//! The tables of a grid as a source of jumps.
+
+ghost use Rattle.std.specs.Prelude.{◌≡◌, Some};
+ghost use Rattle.plus_tables.specs.Tables.{AreTablesOf};
+
+use crate::jumps::stop_told;
+use crate::tables::Tables;
+use crate::turns::{allowed_after, legal_of};
+use arrayvec::ArrayVec;
+use grid_moves::{ALL_DIRS, Cell, Dir};
+use pruning::{Arrival, JumpSource};
+use std::sync::ledger::Ledger;
+use steps::Steps;
+
+/// The jumps on a grid, read off its tables alone. A step is one entry that is read.
+#[derive(Clone, Copy)]
+pub struct PlusJumps<'a> {
+    pub tables: &'a Tables,
+}
+
+impl<'a> JumpSource for PlusJumps<'a> {
+    ghost StandsFor = { λ j g. AreTablesOf j.tables.now g };
+
+    ghost most = { λ _. Some (record { stop = 4; allowed = 8 }) };
+
+    ghost fewest = { λ _. 1 };
+
+    fn width(&self) -> u16 {
+        self.tables.width()
+    }
+
+    fn height(&self) -> u16 {
+        self.tables.height()
+    }
+
+    fn stop<L: Ledger>(&self, at: Cell, d: Dir, goal: Cell, steps: &mut Steps<L>) -> Option<u16> {
+        stop_told(self.tables, at, d, goal, steps)
+    }
+
+    fn allowed<L: Ledger>(&self, at: Cell, by: Arrival, steps: &mut Steps<L>) -> ArrayVec<Dir, 8> {
+        match by {
+            Arrival::Start => legal_of(self.tables, at, &ALL_DIRS, steps),
+            Arrival::By(d) => allowed_after(self.tables, at, d, steps),
+        }
+    }
+}

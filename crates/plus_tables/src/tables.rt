@@ -1,0 +1,229 @@
+//! The tables of a grid: eight entries for each cell, each made from those at the next cell.
+
+ghost use Rattle.std.specs.Prelude.{◌≡◌, true, IfOk, replicate, pos};
+ghost use Rattle.grid_moves.specs.Grid.{IsGrid, is_free};
+ghost use Rattle.plus_tables.specs.Tables as spec;
+ghost use Rattle.plus_tables.specs.Local as local;
+
+use grid_moves::{Cell, Corner, Dir, NoMemory, Terrain, dir_number, step};
+use pruning::{Side, forced, is_diagonal, turn};
+use std::alloc::Global;
+use std::marker::Model;
+use std::sync::ledger::Ledger;
+use steps::Steps;
+
+/// The table entries of a grid, eight for each cell.
+///
+/// They keep the sides and the corner rule of the grid. Contracts see these and the entries, as whole numbers.
+#[derive(Drop)]
+pub struct Tables {
+    width: u16,
+    height: u16,
+    corner: Corner,
+    // Row by row from the upper left, those of one cell in the order of the directions.
+    entries: Vec<i16>,
+}
+
+impl Model for Tables {
+    ghost use Rattle.plus_tables.specs.Tables.{TablesData, IsWhole};
+
+    ghost Value = { TablesData };
+
+    ghost view = { λ t. record {
+      width = t.width;
+      height = t.height;
+      corner = t.corner;
+      entries = t.entries.items;
+    } };
+
+    ghost invariant = { λ t. IsWhole (record {
+      width = t.width;
+      height = t.height;
+      corner = t.corner;
+      entries = t.entries.items;
+    }) };
+}
+
+// The place of an entry among all.
+#[inline(always)]
+fn entry_place(width: u16, c: Cell, d: Dir) -> usize
+    ensures { result ≡ spec.entry_place width c d }
+{
+    (c.y as usize * width as usize + c.x as usize) * 8 + dir_number(d) as usize
+}
+
+// So many numbers 0.
+fn zeros(alloc: Global, count: usize) -> Result<Vec<i16>, NoMemory>
+    ensures { IfOk result (λ numbers. numbers.items ≡ replicate count (pos 0)) }
+{
+    vec![in alloc; 0i16; count]
+}
+
+// Whether an entry tells of a mark.
+#[inline(always)]
+pub fn tells_mark(entry: i16) -> bool
+    ensures { result ≡ local.tells_mark entry }
+{
+    0 < entry
+}
+
+// What an entry becomes from one move further back.
+#[inline(always)]
+fn from_before(entry: i16) -> i16
+    requires { spec.IsShort entry }
+    ensures { result ≡ local.from_before entry }
+{
+    if 0 < entry { entry + 1 } else { entry - 1 }
+}
+
+impl Tables {
+    ghost use Rattle.std.specs.Prelude.{◌≡◌, ◌≢◌, ◌+◌, true, false, IfOk, pos};
+    ghost use Rattle.grid_moves.specs.Grid.{IsGrid, is_free};
+    ghost use Rattle.plus_tables.specs.Entry.{table_entry};
+    ghost use Rattle.plus_tables.specs.Local.{is_mark_by};
+    ghost use Rattle.plus_tables.specs.Sweep.{IsSwept, is_cell};
+    ghost use Rattle.plus_tables.specs.Tables.{AreSized, IsWhole, RestsRight, entry_at, is_on, is_place, tables_with};
+
+    /// The number of columns.
+    pub fn width(&self) -> u16
+        ensures is { result ≡ self.now.width }
+        ensures whole { IsWhole self.now }
+    {
+        self.width
+    }
+
+    /// The number of rows.
+    pub fn height(&self) -> u16
+        ensures { result ≡ self.now.height }
+    {
+        self.height
+    }
+
+    /// The corner rule.
+    pub fn corner(&self) -> Corner
+        ensures { result ≡ self.now.corner }
+    {
+        self.corner
+    }
+
+    // Tables of the size of a grid, with 0 everywhere.
+    pub(crate) fn blank<T: Terrain>(alloc: Global, t: &T) -> Result<Tables, NoMemory>
+        ensures sized { IfOk result (λ tables. AreSized tables (T.grid t.now)) }
+        ensures blank { IfOk result (λ tables. (c : _) (d : _) → entry_at tables c d ≡ pos 0) }
+    {
+        let (width, height) = (t.width(), t.height());
+        let corner = t.corner();
+        let entries = zeros(alloc, height as usize * width as usize * 8)?;
+        Ok(Tables {
+            width,
+            height,
+            corner,
+            entries,
+        })
+    }
+
+    // The entry for a cell of the map and a direction.
+    #[inline(always)]
+    fn get(&self, c: Cell, d: Dir) -> i16
+        requires { is_on self.now c ≡ true }
+        ensures { result ≡ entry_at self.now c d }
+    {
+        self.entries[entry_place(self.width, c, d)]
+    }
+
+    // Changes one entry.
+    #[inline(always)]
+    fn put(&mut self, c: Cell, d: Dir, entry: i16)
+        requires { is_on self.old c ≡ true }
+        ensures { self.new ≡ tables_with self.old c d entry }
+    {
+        let place = entry_place(self.width, c, d);
+        self.entries[place] = entry;
+    }
+
+    // Whether a free cell is marked for a direction, told by its entries.
+    #[inline(always)]
+    fn is_mark<T: Terrain>(&self, t: &T, v: Cell, d: Dir) -> bool
+        requires free { is_free (T.grid t.now) v ≡ true }
+        requires whole { IsGrid (T.grid t.now) }
+        requires sized { AreSized self.now (T.grid t.now) }
+        ensures { result ≡ is_mark_by (T.grid t.now) (entry_at self.now) d v }
+    {
+        forced(t, v, d)
+            || (is_diagonal(d)
+                && (tells_mark(self.get(v, turn(Side::Right, d)))
+                    || tells_mark(self.get(v, turn(Side::Left, d)))))
+    }
+
+    // The entry of the grid for a cell and a direction, told by the entries at the next cell.
+    #[inline(always)]
+    fn told_by_next<T: Terrain>(&self, t: &T, c: Cell, d: Dir) -> i16
+        requires whole { IsGrid (T.grid t.now) }
+        requires sized { AreSized self.now (T.grid t.now) }
+        requires rests { RestsRight self.now (T.grid t.now) c d }
+        ensures { result ≡ table_entry (T.grid t.now) c d }
+    {
+        match step(t, c, d) {
+            Some(v) if self.is_mark(t, v, d) => 1,
+            Some(v) => from_before(self.get(v, d)),
+            None => 0,
+        }
+    }
+
+    // Makes one entry that of the grid.
+    #[inline(always)]
+    pub(crate) fn renew<T: Terrain>(&mut self, t: &T, c: Cell, d: Dir)
+        requires whole { IsGrid (T.grid t.now) }
+        requires sized { AreSized self.old (T.grid t.now) }
+        requires inside { is_on self.old c ≡ true }
+        requires rests { RestsRight self.old (T.grid t.now) c d }
+        ensures { IsSwept (T.grid t.now) d (is_cell c) self.old self.new }
+    {
+        let _ = &self.width;
+        let entry = self.told_by_next(t, c, d);
+        self.put(c, d, entry);
+    }
+
+    /// The table entry for a cell of the map and a direction: above 0, the number of moves to the first
+    /// marked cell of the legal run; else minus the number of moves of the run. One step.
+    #[inline(always)]
+    pub fn entry<L: Ledger>(&self, c: Cell, d: Dir, steps: &mut Steps<L>) -> i16
+        requires { is_on self.now c ≡ true }
+        ensures is { result ≡ entry_at self.now c d }
+        ensures step { steps.new ≡ steps.old + 1 }
+    {
+        steps.tick();
+        self.get(c, d)
+    }
+
+    /// Makes one entry that of a grid, told by the entries at the next cell in this direction, which are to
+    /// be right. All others stay. Whether the entry changed; one step.
+    ///
+    /// The grid has the sides and the corner rule of the tables.
+    pub fn refresh<T: Terrain, L: Ledger>(
+        &mut self,
+        t: &T,
+        c: Cell,
+        d: Dir,
+        steps: &mut Steps<L>,
+    ) -> bool
+        requires sized { AreSized self.old (T.grid t.now) }
+        requires inside { is_on self.old c ≡ true }
+        requires rests { RestsRight self.old (T.grid t.now) c d }
+        ensures is { self.new ≡ tables_with self.old c d (table_entry (T.grid t.now) c d) }
+        ensures entry { entry_at self.new c d ≡ table_entry (T.grid t.now) c d }
+        ensures others { (b : _) (e : _) → is_on self.old b ≡ true → is_place b e c d ≡ false
+            → entry_at self.new b e ≡ entry_at self.old b e }
+        ensures stayed { result ≡ false → entry_at self.old c d ≡ table_entry (T.grid t.now) c d }
+        ensures changed { result ≡ true → entry_at self.old c d ≢ table_entry (T.grid t.now) c d }
+        ensures step { steps.new ≡ steps.old + 1 }
+    {
+        let _whole = t.width();
+        let _ = &self.width;
+        steps.tick();
+        let before = self.get(c, d);
+        let entry = self.told_by_next(t, c, d);
+        self.put(c, d, entry);
+        before != entry
+    }
+}

@@ -1,0 +1,126 @@
+-- Two grids that are alike around a cell have the same moves and marks there.
+use Rattle.std.proofs.Common.{◌≡◌, ◌≢◌, ℤ, ℕ, arith, Bool, true, false, refl, ap, sym, ◌∙◌, ◌&&◌, ◌||◌}
+use Rattle.std.specs.Prelude.{Option, Some, None, option_map, unwrap_or, pos, if◌then◌else◌, option_and_then, is_some, not}
+use Rattle.grid_moves.specs.declared.Cell.{Cell}
+use Rattle.grid_moves.specs.declared.Corner.{Corner}
+use Rattle.grid_moves.specs.declared.Corner.TheVariants.{Never, One}
+use Rattle.grid_moves.specs.declared.Dir.{Dir}
+use Rattle.grid_moves.specs.Grid.{GridData, is_free}
+use Rattle.grid_moves.specs.Move.{ahead, corner_of, is_legal, legal_ahead, is_open, is_free_cell, is_same}
+use Rattle.grid_moves.proofs.Legal.{is_same-itself}
+use Rattle.pruning.specs.declared.turns.Side.{Side}
+use Rattle.pruning.specs.declared.turns.Side.TheVariants.{Right, Left}
+use Rattle.pruning.specs.Turns.{turn, quarter, rear, is_diagonal}
+use Rattle.pruning.specs.Allowed.{is_blocked, can_move}
+use Rattle.pruning.specs.Marked.{is_forced, is_forced_on}
+use Rattle.pruning.proofs.Bridging.{legal_leads}
+use Rattle.pruning.proofs.Table.{by_parity}
+use Rattle.plus_tables.specs.Entry.{table_entry}
+use Rattle.plus_tables.specs.Local.{EntriesFollow, entry_by_next, entry_through, is_mark_by, from_before}
+use Rattle.table_repair.specs.Differ.{DifferAtMostAt, is_near, IsKept, ChangesSpreadBack}
+use Rattle.table_repair.proofs.Moving.{is_near-from, is_near-parts, near_ahead, near_back, near_itself}
+
+-- the grids have one corner rule, and around p every cell is free in both or in neither
+pub record AreAlike (g h : GridData) (p : Cell) : Type 0 where
+  pub corner : h.corner ≡ g.corner
+  pub free : (u : Cell) → is_near u p ≡ true → is_free h u ≡ is_free g u
+
+pub alike_apart : (c : Cell) (g h : GridData) → DifferAtMostAt c g h → (p : Cell) → is_near p c ≡ false
+    → AreAlike g h p
+alike_apart c g h differ p far = record {
+  corner = differ.corner;
+  free = λ u n. differ.others u (λ same. apart u n same);
+}
+  where
+    apart : (u : Cell) → is_near u p ≡ true → u ≡ c → ⊥
+    apart u n same =
+        let there : is_near p c ≡ true = rw (← same) (near_back u p n) in
+        absurd (cc)
+
+abbrev on_either : Corner → (Dir → Bool) → (Dir → Bool) → Dir → Bool
+on_either r blocked can d = is_forced_on r blocked can d Right || is_forced_on r blocked can d Left
+
+module _ (g h : GridData) (p : Cell) (a : AreAlike g h p) where
+  legal_same : (u v : Cell) → is_near u p ≡ true → is_near v p ≡ true → is_legal h u v ≡ is_legal g u v
+  legal_same u v m n =
+      let s = is_near-parts u p m in
+      let t = is_near-parts v p n in
+      let one : is_near (corner_of u v) p ≡ true = is_near-from (corner_of u v) p s.0 s.1 t.2 t.3 in
+      let other : is_near (corner_of v u) p ≡ true = is_near-from (corner_of v u) p t.0 t.1 s.2 s.3 in
+      rw (a.free u m, a.free v n, a.free (corner_of u v) one, a.free (corner_of v u) other, a.corner) refl
+
+  abbrev over : GridData → Cell → Option Cell → Option Cell
+  over k u o = option_and_then (λ v. if is_legal k u v then Some v else None) o
+
+  over_same : (u v : Cell) → is_near u p ≡ true → is_near v p ≡ true → over h u (Some v) ≡ over g u (Some v)
+  over_same u v m n = rw (legal_same u v m n) refl
+
+  -- the moves to p, and from p
+  pub moves_to : (u : Cell) (d : Dir) → ahead d u ≡ Some p → legal_ahead h u d ≡ legal_ahead g u d
+  moves_to u d e = rw e (over_same u p (near_ahead d u p e) (near_itself p))
+
+  pub moves_from : (d : Dir) → legal_ahead h p d ≡ legal_ahead g p d
+  moves_from d = by_cell (ahead d p) refl
+    where
+      by_cell : (o : Option Cell) → ahead d p ≡ o → over h p o ≡ over g p o
+      by_cell None e = refl
+      by_cell (Some v) e = over_same p v (near_itself p) (near_back p v (near_ahead d p v e))
+
+  opens_same : (d : Dir) → is_open h p d ≡ is_open g p d
+  opens_same d = by_cell (ahead d p) refl
+    where
+      by_cell : (o : Option Cell) → ahead d p ≡ o → is_free_cell h o ≡ is_free_cell g o
+      by_cell None e = refl
+      by_cell (Some v) e = a.free v (near_back p v (near_ahead d p v e))
+
+  pub forced_same : (d : Dir) → is_forced h p d ≡ is_forced g p d
+  forced_same d =
+      ap (λ (r : Corner). on_either r (is_blocked h p) (can_move h p) d) a.corner
+      ∙ both _ _ _ _ (on_side g.corner Right) (on_side g.corner Left)
+    where
+      both : (k l m n : Bool) → k ≡ l → m ≡ n → (k || m) ≡ (l || n)
+      both k l m n e f = cc
+
+      on_side : (r : Corner) (s : Side) → is_forced_on r (is_blocked h p) (can_move h p) d s
+          ≡ is_forced_on r (is_blocked g p) (can_move g p) d s
+      on_side Never s = rw (opens_same (rear s d), moves_from (quarter s d)) refl
+      on_side One s = rw (
+        opens_same (rear s d),
+        moves_from (quarter s d),
+        opens_same (quarter s d),
+        moves_from (turn s d),
+      ) refl
+
+-- told by the entries at the next cell
+module _ (g h : GridData) (d : Dir) (v : Cell) (a : AreAlike g h v) (kept : IsKept g h v d)
+    (beside : is_diagonal d ≡ true → (s : Side) → IsKept g h v (turn s d)) where
+  mark_same : is_mark_by h (table_entry h) d v ≡ is_mark_by g (table_entry g) d v
+  mark_same = by_parity d
+      (λ e. rw (forced_same g h v a d, beside e Right, beside e Left) refl)
+      (λ e. rw (forced_same g h v a d, e) refl)
+
+  pub through_same : entry_through h (table_entry h) d v ≡ entry_through g (table_entry g) d v
+  through_same = rw (mark_same, kept) refl
+
+-- the entry, told by the next cell, if there is one
+abbrev told : Dir → GridData → Option Cell → ℤ
+told d k o = unwrap_or (option_map (λ v. entry_through k (table_entry k) d v) o) (pos 0)
+
+module _ (follow : EntriesFollow) where
+  pub changes_spread_back : ChangesSpreadBack
+  changes_spread_back c g h differ u d far kept beside =
+      follow h u d ∙ by_ahead (ahead d u) refl ∙ sym (follow g u d)
+    where
+      by_legal : (o : Option Cell) → legal_ahead g u d ≡ o → told d h o ≡ told d g o
+      by_legal None e = refl
+      by_legal (Some v) e =
+          let l = (legal_leads g u v d e).ahead_is in
+          through_same g h d v (alike_apart c g h differ v (far v l)) (kept v l) (beside v l)
+
+      by_ahead : (o : Option Cell) → ahead d u ≡ o
+          → entry_by_next h (table_entry h) u d ≡ entry_by_next g (table_entry g) u d
+      by_ahead None e = rw e refl
+      by_ahead (Some v) e =
+          let same : legal_ahead h u d ≡ legal_ahead g u d =
+          moves_to g h v (alike_apart c g h differ v (far v e)) u d e in
+          ap (λ (o : Option Cell). told d h o) same ∙ by_legal (legal_ahead g u d) refl

@@ -1,0 +1,104 @@
+-- The two sweeps for a diagonal direction.
+use Rattle.std.proofs.Common.{◌≡◌, ℕ, ◌+◌, ◌-◌, ◌*◌, ◌<◌, ◌≤◌, arith, Bool, true, false, refl, ap, subst, sym, ◌∙◌, ◌&&◌, ◌||◌, mul-le-mul}
+use Rattle.std.specs.Prelude.{min}
+use Rattle.std.proofs.lemmas.Bool.Decides.{nat_tests}
+use Rattle.grid_moves.specs.declared.Cell.{Cell}
+use Rattle.grid_moves.specs.declared.Dir.{Dir}
+use Rattle.grid_moves.specs.Grid.{GridData, is_inside}
+use Rattle.pruning.specs.Turns.{is_diagonal}
+use Rattle.plus_tables.specs.Tables.{TablesData}
+use Rattle.table_repair.specs.declared.span.Span.{Span}
+use Rattle.table_repair.specs.Mending.{AreRight, FollowBut, Mends, Sweeps, CanSweep, IsBlock, any_cell, either, is_in, is_in_reach, widened, span_next, span_length, goes_right, goes_down}
+use Rattle.table_repair.proofs.Mends.{mends_both, mends_wider, follow_more}
+use Rattle.table_repair.proofs.Walking.{or_false, false_or}
+use Rattle.table_repair.proofs.Directions.{none_waits}
+use Rattle.table_repair.proofs.Reach.{rear_behind}
+
+-- the spans, as code tells them
+pub span_told : (make : Bool → Span → ℕ → ℕ → Span) (result s : Span) (given side : Bool) (by m n : ℕ)
+    → result ≡ make given s by m → given ≡ side → m ≡ n → result ≡ make side s by n
+span_told make result s given side by m n e f g = rw (← f, ← g) e
+
+module _ (h : GridData) (rows columns wide rear : Span) (by : ℕ) (d : Dir) (diagonal : is_diagonal d ≡ true)
+    (is_wide : wide ≡ widened (goes_right d) columns by h.width)
+    (is_rear : rear ≡ span_next (goes_down d) rows by h.height) where
+  both_parts : (t : TablesData) → FollowBut h t d (is_in_reach h rows columns by d)
+      → FollowBut h t d (either (is_in rows wide) (is_in rear columns))
+  both_parts t f = rw (is_wide, is_rear) f
+
+  pub first_waits : (t : TablesData) → FollowBut h t d (is_in_reach h rows columns by d)
+      → CanSweep h t d (is_in rows wide)
+  first_waits t f = record {
+    later = is_in rear columns;
+    follow = both_parts t f;
+    none_ahead = rw is_rear (rear_behind d rows columns wide by h.height diagonal);
+  }
+
+  pub second_waits : (t now : TablesData) → FollowBut h t d (is_in_reach h rows columns by d)
+      → Sweeps h d (is_in rows wide) t now → CanSweep h now d (is_in rear columns)
+  second_waits t now f sweeps = record {
+    later = λ w. false;
+    follow = follow_more h now d (is_in rear columns) (either (is_in rear columns) (λ w. false))
+        (λ w k. (or_false (is_in rear columns w) false k).0)
+        (sweeps (is_in rear columns) (both_parts t f));
+    none_ahead = λ v w k here r. refl;
+  }
+
+  pub both_right : (t now new : TablesData) → FollowBut h t d (is_in_reach h rows columns by d)
+      → Sweeps h d (is_in rows wide) t now → Sweeps h d (is_in rear columns) now new → AreRight h new d
+  both_right t now new f first second = none_waits h new d (λ w. false) (λ w. refl)
+      (second (λ w. false) (follow_more h now d (is_in rear columns) (either (is_in rear columns) (λ w. false))
+      (λ w k. (or_false (is_in rear columns w) false k).0)
+      (first (is_in rear columns) (both_parts t f))))
+
+  pub both_mend : (t now new : TablesData) (m n : ℕ) → Mends h d (is_in rows wide) t now m
+      → Mends h d (is_in rear columns) now new n → Mends h d any_cell t new (m + n)
+  both_mend t now new m n a b = mends_both h d any_cell t now new m n
+      (mends_wider h d (is_in rows wide) any_cell (λ w k. refl) t now m a)
+      (mends_wider h d (is_in rear columns) any_cell (λ w k. refl) now new n b)
+
+  -- they lie on the map
+  wide_end : (before : Bool) → IsBlock h rows columns → (widened before columns by h.width).end ≤ h.width
+  wide_end true b = let n = b.narrow in omega arith
+  wide_end false b = omega arith
+
+  wide_short : (before : Bool) → IsBlock h rows columns
+      → span_length (widened before columns by h.width) ≤ h.width
+  wide_short true b = let n = b.narrow in omega arith
+  wide_short false b = omega arith
+
+  rear_end : (before : Bool) → IsBlock h rows columns → (span_next before rows by h.height).end ≤ h.height
+  rear_end true b = let n = b.low in let m = b.some_row in omega arith
+  rear_end false b = omega arith
+
+  rear_short : (before : Bool) → IsBlock h rows columns
+      → span_length (span_next before rows by h.height) ≤ h.height
+  rear_short true b = let n = b.low in let m = b.some_row in omega arith
+  rear_short false b = omega arith
+
+  pub wide_within : IsBlock h rows columns → wide.end ≤ h.width
+  wide_within b = rw is_wide (wide_end (goes_right d) b)
+
+  pub rear_within : IsBlock h rows columns → rear.end ≤ h.height
+  rear_within b = rw is_rear (rear_end (goes_down d) b)
+
+  -- how many cells that are
+  pub cells_few : IsBlock h rows columns
+      → span_length rows * span_length wide + span_length rear * span_length columns
+      ≤ 3 * (h.width + h.height)
+  cells_few b =
+      let w : span_length wide ≤ h.width = rw is_wide (wide_short (goes_right d) b) in
+      let r : span_length rear ≤ h.height = rw is_rear (rear_short (goes_down d) b) in
+      total (span_length rows) (span_length wide) (span_length rear) (span_length columns)
+      (let m = b.three_rows in omega arith) w r (let m = b.three_columns in omega arith)
+    where
+      total : (a b c e : ℕ) → a ≤ 3 → b ≤ h.width → c ≤ h.height → e ≤ 3
+          → a * b + c * e ≤ 3 * (h.width + h.height)
+      total a b c e i j k l =
+          let one : a * b ≤ 3 * h.width = mul-le-mul i j in
+          let other : c * e ≤ h.height * 3 = mul-le-mul k l in
+          omega arith
+
+pub steps_both : (start now new m n cells more limit : ℕ) → now ≤ start + m + cells → new ≤ now + n + more
+    → cells + more ≤ limit → new ≤ start + (m + n) + limit
+steps_both start now new m n cells more limit e f g = omega arith

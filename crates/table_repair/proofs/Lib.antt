@@ -1,0 +1,15 @@
+pub mod Moving
+pub mod Alike
+pub mod Counting
+pub mod Lines
+pub mod Mends
+pub mod Walking
+pub mod Sweeping
+pub mod Rows
+pub mod Totals
+pub mod Directions
+pub mod Reach
+pub mod Beginning
+pub mod Diagonals
+pub mod Passes
+pub mod Ending

@@ -1,0 +1,144 @@
+-- A row is swept column by column, and a block row by row.
+use Rattle.std.proofs.Common.{◌≡◌, ◌≢◌, ℕ, zero, suc, ◌+◌, ◌-◌, ◌*◌, ◌<◌, ◌≤◌, ◌⊎◌, inl, inr, arith, Bool, true, false, refl, ap, sym, ◌∙◌, ◌&&◌, ◌||◌}
+use Rattle.std.specs.Prelude.{Option, Some, None, nat_eq}
+use Rattle.std.proofs.lemmas.Bool.Decides.{nat_tests}
+use Rattle.grid_moves.specs.declared.Cell.{Cell}
+use Rattle.grid_moves.specs.declared.Dir.{Dir}
+use Rattle.grid_moves.specs.Grid.{GridData, is_inside}
+use Rattle.grid_moves.specs.Move.{is_same}
+use Rattle.grid_moves.proofs.Legal.{and_both, is_same-cell, is_same-itself, same_cell}
+use Rattle.plus_tables.specs.Tables.{TablesData}
+use Rattle.table_repair.specs.declared.span.Span.{Span}
+use Rattle.table_repair.specs.Mending.{IsRight, AreReady, FollowBut, Mends, NoneAhead, CanSweep, Sweeps, either, is_among, is_in_row, is_in, goes_right, goes_down, cell_after}
+use Rattle.table_repair.proofs.Lines.{after_moved, right_ahead, is_inside-from}
+use Rattle.table_repair.proofs.Walking.{or_false, false_or}
+use Rattle.table_repair.proofs.Sweeping.{IsTaken, Swept, swept_more, swept_all, row_ahead, rows_ahead, among_parts}
+
+pub and_true : (a b : Bool) → a ≡ true → b ≡ true → (a && b) ≡ true
+and_true a b h k = grind arith
+
+same_number : (n : ℕ) → nat_eq n n ≡ true
+same_number n = grind (arith, nat_tests)
+
+number_same : (m n : ℕ) → nat_eq m n ≡ true → m ≡ n
+number_same m n h = grind (arith, nat_tests)
+
+pub not_true : (b : Bool) → (b ≡ true → ⊥) → b ≡ false
+not_true true h = absurd (h refl)
+not_true false h = refl
+
+pub true_false : (b : Bool) → b ≡ true → b ≡ false → ⊥
+true_false b h k = cc
+
+module _ (h : GridData) (d : Dir) (y : ℕ) (columns left rest : Span) (x : ℕ) (old now : TablesData) (n : ℕ)
+    (swept : Swept h d (is_in_row y columns) (is_in_row y left) old now n)
+    (within : (k : ℕ) → is_among left k ≡ true → is_among columns k ≡ true)
+    (taken : IsTaken (goes_right d) left x rest) where
+  abbrev v : Cell
+  v = record { x = x; y = y }
+
+  v_there : is_in_row y columns v ≡ true
+  v_there = and_true (nat_eq y y) (is_among columns x) (same_number y) (within x taken.member)
+
+  pub row_inside : y < h.height → columns.end ≤ h.width → is_inside h v ≡ true
+  row_inside low narrow =
+      let p = among_parts columns x (within x taken.member) in
+      is_inside-from h v (omega arith) low
+
+  pub row_right : y < h.height → columns.end ≤ h.width → CanSweep h old d (is_in_row y columns)
+      → IsRight h now v d
+  row_right low narrow can =
+      right_ahead h now d (either (is_in_row y left) can.later) (swept.follows can.later can.follow) v
+      (row_inside low narrow)
+      (λ w k r. false_or (is_in_row y left w) (can.later w)
+      (row_ahead d k v w y left rest taken refl (after_moved d (suc k) v w r))
+      (can.none_ahead v w k v_there r))
+
+  pub row_next : (new : TablesData) (m : ℕ) → Mends h d (λ w. is_same w v) now new m
+      → Sweeps h d (λ w. is_same w v) now new
+      → Swept h d (is_in_row y columns) (is_in_row y rest) old new (n + m)
+  row_next new m mends sweeps = swept_more h d (is_in_row y columns) (is_in_row y left) (λ w. is_same w v)
+      (is_in_row y rest) old now new n m swept split inner mends sweeps
+    where
+      split : (w : Cell) → is_same w v ≡ false → is_in_row y rest w ≡ false → is_in_row y left w ≡ false
+      split w s r = not_true (is_in_row y left w) (λ i.
+          let p = and_both (nat_eq w.y y) (is_among left w.x) i in
+          elim (taken.rest w.x p.1) [
+            | inl e ↦ true_false (is_same w v)
+                (let same = same_cell w v e (number_same w.y y p.0) in rw same (is_same-itself v)) s
+            | inr a ↦ true_false (is_in_row y rest w) (and_true (nat_eq w.y y) (is_among rest w.x) p.0 a) r
+          ])
+
+      inner : (w : Cell) → is_same w v ≡ true → is_in_row y columns w ≡ true
+      inner w s = rw (is_same-cell w v s) v_there
+
+module _ (h : GridData) (d : Dir) (rows columns left rest : Span) (y : ℕ) (old now : TablesData) (n : ℕ)
+    (swept : Swept h d (is_in rows columns) (is_in left columns) old now n)
+    (within : (k : ℕ) → is_among left k ≡ true → is_among rows k ≡ true)
+    (taken : IsTaken (goes_down d) left y rest) where
+  of_rows : (w : Cell) → is_in_row y columns w ≡ true → is_in rows columns w ≡ true
+  of_rows w i =
+      let p = and_both (nat_eq w.y y) (is_among columns w.x) i in
+      and_true (is_among rows w.y) (is_among columns w.x)
+      (rw (number_same w.y y p.0) (within y taken.member)) p.1
+
+  split : (w : Cell) → is_in_row y columns w ≡ false → is_in rest columns w ≡ false
+      → is_in left columns w ≡ false
+  split w s r = not_true (is_in left columns w) (λ i.
+      let p = and_both (is_among left w.y) (is_among columns w.x) i in
+      elim (taken.rest w.y p.0) [
+        | inl e ↦ true_false (is_in_row y columns w)
+            (and_true (nat_eq w.y y) (is_among columns w.x) (rw e (same_number y)) p.1) s
+        | inr a ↦ true_false (is_in rest columns w) (and_true (is_among rest w.y) (is_among columns w.x) a p.1) r
+      ])
+
+  -- what waits in the rows that are left waits later
+  pub block_waits : CanSweep h old d (is_in rows columns) → CanSweep h now d (is_in_row y columns)
+  block_waits can = record {
+    later = either (is_in rest columns) can.later;
+    follow = record {
+      next = λ u v i e j w r. f.next u v i e j (wider v w) r;
+      last = f.last;
+    };
+    none_ahead = λ v w k here r. false_or (is_in rest columns w) (can.later w)
+        (rows_ahead d k v w left rest columns (at_row v here) (after_moved d (suc k) v w r))
+        (can.none_ahead v w k (of_rows v here) r);
+  }
+    where
+      f : FollowBut h now d (either (is_in left columns) can.later)
+      f = swept.follows can.later can.follow
+
+      wider : (w : Cell) → (is_in_row y columns w || (is_in rest columns w || can.later w)) ≡ false
+          → (is_in left columns w || can.later w) ≡ false
+      wider w k =
+          let p = or_false (is_in_row y columns w) (is_in rest columns w || can.later w) k in
+          let q = or_false (is_in rest columns w) (can.later w) p.1 in
+          false_or (is_in left columns w) (can.later w) (split w p.0 q.0) q.1
+
+      at_row : (v : Cell) → is_in_row y columns v ≡ true → IsTaken (goes_down d) left v.y rest
+      at_row v here =
+          let p = and_both (nat_eq v.y y) (is_among columns v.x) here in
+          rw (number_same v.y y p.0) taken
+
+  pub block_next : (new : TablesData) (m : ℕ) → Mends h d (is_in_row y columns) now new m
+      → Sweeps h d (is_in_row y columns) now new
+      → Swept h d (is_in rows columns) (is_in rest columns) old new (n + m)
+  block_next new m mends sweeps = swept_more h d (is_in rows columns) (is_in left columns)
+      (is_in_row y columns) (is_in rest columns) old now new n m swept split of_rows mends sweeps
+
+-- nothing is left
+pub row_done : (h : GridData) (d : Dir) (y : ℕ) (columns left : Span) (old now : TablesData) (n : ℕ)
+    → Swept h d (is_in_row y columns) (is_in_row y left) old now n
+    → ((k : ℕ) → is_among left k ≡ false) → Sweeps h d (is_in_row y columns) old now
+row_done h d y columns left old now n swept none =
+    swept_all h d (is_in_row y columns) (is_in_row y left) old now n swept
+    (λ w. not_true (is_in_row y left w)
+    (λ i. true_false (is_among left w.x) (and_both (nat_eq w.y y) (is_among left w.x) i).1 (none w.x)))
+
+pub block_done : (h : GridData) (d : Dir) (rows columns left : Span) (old now : TablesData) (n : ℕ)
+    → Swept h d (is_in rows columns) (is_in left columns) old now n
+    → ((k : ℕ) → is_among left k ≡ false) → Sweeps h d (is_in rows columns) old now
+block_done h d rows columns left old now n swept none =
+    swept_all h d (is_in rows columns) (is_in left columns) old now n swept
+    (λ w. not_true (is_in left columns w)
+    (λ i. true_false (is_among left w.y) (and_both (is_among left w.y) (is_among columns w.x) i).0 (none w.y)))

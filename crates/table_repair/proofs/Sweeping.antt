@@ -1,0 +1,202 @@
+-- A sweep, piece by piece, from the far end.
+use Rattle.std.proofs.Common.{◌≡◌, ◌≢◌, ℕ, zero, suc, ◌+◌, ◌-◌, ◌*◌, ◌<◌, ◌≤◌, ◌⊎◌, inl, inr, arith, Bool, true, false, refl, ap, sym, ◌∙◌, ◌&&◌, ◌||◌}
+use Rattle.std.specs.Prelude.{Option, Some, None, if◌then◌else◌, nat_lt, nat_le, nat_eq}
+use Rattle.std.proofs.lemmas.Bool.Decides.{nat_tests}
+use Rattle.grid_moves.specs.declared.Cell.{Cell}
+use Rattle.grid_moves.specs.declared.Dir.{Dir}
+use Rattle.grid_moves.specs.declared.Dir.TheVariants.{N, NE, E, SE, S, SW, W, NW}
+use Rattle.grid_moves.specs.Grid.{GridData, is_inside}
+use Rattle.grid_moves.specs.Move.{is_same}
+use Rattle.grid_moves.proofs.Legal.{and_both, is_same-cell, is_same-itself}
+use Rattle.pruning.proofs.Running.{Trend, rising, level, falling, column_trend, row_trend, IsMoved, AreMoved}
+use Rattle.plus_tables.specs.Tables.{TablesData}
+use Rattle.table_repair.specs.declared.span.Span.{Span}
+use Rattle.table_repair.specs.Mending.{IsRight, AreReady, FollowBut, Mends, NoneAhead, CanSweep, Sweeps, either, is_among, span_length, far_number, without_far, is_in_row, is_in, goes_right, goes_down, cell_after}
+use Rattle.table_repair.proofs.Lines.{after_moved, right_ahead, is_inside-from}
+use Rattle.table_repair.proofs.Mends.{mends_none, mends_both, mends_wider, follow_more, ready_stays}
+use Rattle.table_repair.proofs.Walking.{or_false, false_or}
+
+-- the second number is nearer than the first, from the end or from the beginning
+abbrev IsNearer : Bool → ℕ → ℕ → Type 0
+IsNearer true n k = k < n
+IsNearer false n k = n < k
+
+-- a number taken from the far end of a span
+pub record IsTaken (from_end : Bool) (old : Span) (n : ℕ) (new : Span) : Type 0 where
+  pub member : is_among old n ≡ true
+  pub rest : (k : ℕ) → is_among old k ≡ true → (k ≡ n) ⊎ (is_among new k ≡ true)
+  pub within : (k : ℕ) → is_among new k ≡ true → is_among old k ≡ true
+  pub nearer : (k : ℕ) → is_among new k ≡ true → IsNearer from_end n k
+  pub shorter : span_length old ≡ span_length new + 1
+
+pub among_parts : (s : Span) (k : ℕ) → is_among s k ≡ true → (s.first ≤ k) × (k < s.end)
+among_parts s k h = (grind (arith, nat_tests), grind (arith, nat_tests))
+
+pub among_from : (s : Span) (k : ℕ) → s.first ≤ k → k < s.end → is_among s k ≡ true
+among_from s k h l = grind (arith, nat_tests)
+
+some_number : (n m : ℕ) → Some n ≡ Some m → n ≡ m
+some_number n m h = cc
+
+taken_last : (first end n : ℕ) → first < end → n ≡ end - 1
+    → IsTaken true (record { first = first; end = end }) n (record { first = first; end = end - 1 })
+taken_last first end n l e = record {
+  member = among_from (record { first = first; end = end }) n (omega arith) (omega arith);
+  rest = λ k h. split k (among_parts (record { first = first; end = end }) k h);
+  within = λ k h. let p = among_parts (record { first = first; end = end - 1 }) k h in
+      among_from (record { first = first; end = end }) k p.0 (omega arith);
+  nearer = λ k h. let p = among_parts (record { first = first; end = end - 1 }) k h in omega arith;
+  shorter = omega arith;
+}
+  where
+    either_way : (k : ℕ) → k < end → (k ≡ n) ⊎ (k < end - 1)
+    either_way k h = grind arith
+
+    split : (k : ℕ) → (first ≤ k) × (k < end)
+        → (k ≡ n) ⊎ (is_among (record { first = first; end = end - 1 }) k ≡ true)
+    split k p = elim (either_way k p.1) [
+      | inl s ↦ inl s
+      | inr s ↦ inr (among_from (record { first = first; end = end - 1 }) k p.0 s)
+    ]
+
+taken_first : (first end n : ℕ) → first < end → n ≡ first
+    → IsTaken false (record { first = first; end = end }) n (record { first = first + 1; end = end })
+taken_first first end n l e = record {
+  member = among_from (record { first = first; end = end }) n (omega arith) (omega arith);
+  rest = λ k h. split k (among_parts (record { first = first; end = end }) k h);
+  within = λ k h. let p = among_parts (record { first = first + 1; end = end }) k h in
+      among_from (record { first = first; end = end }) k (omega arith) p.1;
+  nearer = λ k h. let p = among_parts (record { first = first + 1; end = end }) k h in omega arith;
+  shorter = omega arith;
+}
+  where
+    either_way : (k : ℕ) → first ≤ k → (k ≡ n) ⊎ (first + 1 ≤ k)
+    either_way k h = grind arith
+
+    split : (k : ℕ) → (first ≤ k) × (k < end)
+        → (k ≡ n) ⊎ (is_among (record { first = first + 1; end = end }) k ≡ true)
+    split k p = elim (either_way k p.0) [
+      | inl s ↦ inl s
+      | inr s ↦ inr (among_from (record { first = first + 1; end = end }) k s p.1)
+    ]
+
+pub is_taken : (from_end : Bool) (old new : Span) (n : ℕ) → far_number from_end old ≡ Some n
+    → new ≡ without_far from_end old → IsTaken from_end old n new
+is_taken from_end old new n t w = by_test from_end (nat_lt old.first old.end) refl t w
+  where
+    by_test : (from_end b : Bool) → nat_lt old.first old.end ≡ b
+        → (if b then Some (if from_end then old.end - 1 else old.first) else None) ≡ Some n
+        → new ≡ (if b then (if from_end then record { first = old.first; end = old.end - 1 }
+        else record { first = old.first + 1; end = old.end }) else old)
+        → IsTaken from_end old n new
+    by_test from_end false e t w = absurd (cc)
+    by_test true true e t w =
+        let l : old.first < old.end = grind (arith, nat_tests) in
+        rw w (taken_last old.first old.end n l (sym (some_number (old.end - 1) n t)))
+    by_test false true e t w =
+        let l : old.first < old.end = grind (arith, nat_tests) in
+        rw w (taken_first old.first old.end n l (sym (some_number old.first n t)))
+
+-- nothing is left
+pub none_taken : (from_end : Bool) (s : Span) → far_number from_end s ≡ None → (k : ℕ) → is_among s k ≡ false
+none_taken from_end s t k = by_test (nat_lt s.first s.end) refl t
+  where
+    by_test : (b : Bool) → nat_lt s.first s.end ≡ b
+        → (if b then Some (if from_end then s.end - 1 else s.first) else None) ≡ None
+        → is_among s k ≡ false
+    by_test true e t = absurd (cc)
+    by_test false e t = grind (arith, nat_tests)
+
+-- how far a sweep has come: what is left waits
+pub record Swept (h : GridData) (d : Dir) (all left : Cell → Bool) (old now : TablesData) (n : ℕ) : Type 0 where
+  pub ready : AreReady h now d
+  pub mends : Mends h d all old now n
+  pub follows : (later : Cell → Bool) → FollowBut h old d (either all later) → FollowBut h now d (either left later)
+
+pub swept_none : (h : GridData) (d : Dir) (all : Cell → Bool) (t : TablesData) → AreReady h t d
+    → Swept h d all all t t 0
+swept_none h d all t r = record { ready = r; mends = mends_none h d all t; follows = λ later f. f }
+
+pub swept_more : (h : GridData) (d : Dir) (all left piece rest : Cell → Bool) (old now new : TablesData)
+    (n m : ℕ) → Swept h d all left old now n
+    → ((w : Cell) → piece w ≡ false → rest w ≡ false → left w ≡ false)
+    → ((w : Cell) → piece w ≡ true → all w ≡ true)
+    → Mends h d piece now new m → Sweeps h d piece now new → Swept h d all rest old new (n + m)
+swept_more h d all left piece rest old now new n m swept split within mends sweeps = record {
+  ready = ready_stays h d piece now new m mends swept.ready;
+  mends = mends_both h d all old now new n m swept.mends
+      (mends_wider h d piece all within now new m mends);
+  follows = λ later f. sweeps (either rest later) (follow_more h now d (either left later)
+      (either piece (either rest later))
+      (λ w k. wider w later k) (swept.follows later f));
+}
+  where
+    wider : (w : Cell) (later : Cell → Bool) → (piece w || (rest w || later w)) ≡ false
+        → (left w || later w) ≡ false
+    wider w later k =
+        let p = or_false (piece w) (rest w || later w) k in
+        let q = or_false (rest w) (later w) p.1 in
+        false_or (left w) (later w) (split w p.0 q.0) q.1
+
+-- where nothing is left
+pub swept_all : (h : GridData) (d : Dir) (all left : Cell → Bool) (old now : TablesData) (n : ℕ)
+    → Swept h d all left old now n → ((w : Cell) → left w ≡ false) → Sweeps h d all old now
+swept_all h d all left old now n swept none later f =
+    follow_more h now d (either left later) later
+    (λ w k. false_or (left w) (later w) (none w) k) (swept.follows later f)
+
+-- no cell ahead of the one taken from a row is left there
+pub row_ahead : (d : Dir) (k : ℕ) (v w : Cell) (y : ℕ) (old rest : Span) → IsTaken (goes_right d) old v.x rest
+    → v.y ≡ y → AreMoved d (suc k) v w → is_in_row y old w ≡ false
+row_ahead d k v w y old rest t e m = by_test (is_in_row y old w) refl
+  where
+    not_left : (d : Dir) → AreMoved d (suc k) v w → w.y ≡ v.y
+        → ((n : ℕ) → is_among rest n ≡ true → IsNearer (goes_right d) v.x n)
+        → (w.x ≡ v.x) ⊎ (is_among rest w.x ≡ true) → ⊥
+    not_left N m e t l = let a = m.1 in omega arith
+    not_left NE m e t l = let a = m.1 in omega arith
+    not_left S m e t l = let a = m.1 in omega arith
+    not_left SE m e t l = let a = m.1 in omega arith
+    not_left SW m e t l = let a = m.1 in omega arith
+    not_left NW m e t l = let a = m.1 in omega arith
+    not_left E m e t (inl l) = let a = m.0 in omega arith
+    not_left E m e t (inr l) = let a = m.0 in let b = t w.x l in omega arith
+    not_left W m e t (inl l) = let a = m.0 in omega arith
+    not_left W m e t (inr l) = let a = m.0 in let b = t w.x l in omega arith
+
+    by_test : (b : Bool) → is_in_row y old w ≡ b → is_in_row y old w ≡ false
+    by_test false i = i
+    by_test true i =
+        let p = and_both (nat_eq w.y y) (is_among old w.x) i in
+        let r : w.y ≡ y = grind (arith, nat_tests) in
+        absurd (not_left d m (r ∙ sym e) t.nearer (t.rest w.x p.1))
+
+-- no cell ahead of a row that is taken lies in those that are left
+pub rows_ahead : (d : Dir) (k : ℕ) (v w : Cell) (old rest columns : Span) → IsTaken (goes_down d) old v.y rest
+    → AreMoved d (suc k) v w → is_in rest columns w ≡ false
+rows_ahead d k v w old rest columns t m = by_test (is_in rest columns w) refl
+  where
+    not_left : (d : Dir) → AreMoved d (suc k) v w
+        → ((n : ℕ) → is_among rest n ≡ true → IsNearer (goes_down d) v.y n)
+        → is_among rest w.y ≡ true → ⊥
+    not_left N m t l = let a = m.1 in let b = t w.y l in omega arith
+    not_left NE m t l = let a = m.1 in let b = t w.y l in omega arith
+    not_left E m t l = let a = m.1 in let b = t w.y l in omega arith
+    not_left SE m t l = let a = m.1 in let b = t w.y l in omega arith
+    not_left S m t l = let a = m.1 in let b = t w.y l in omega arith
+    not_left SW m t l = let a = m.1 in let b = t w.y l in omega arith
+    not_left W m t l = let a = m.1 in let b = t w.y l in omega arith
+    not_left NW m t l = let a = m.1 in let b = t w.y l in omega arith
+
+    by_test : (b : Bool) → is_in rest columns w ≡ b → is_in rest columns w ≡ false
+    by_test false i = i
+    by_test true i =
+        let p = and_both (is_among rest w.y) (is_among columns w.x) i in
+        absurd (not_left d m t.nearer p.0)
+
+-- the same, as code tells it
+pub taken_told : (from_end side : Bool) → from_end ≡ side → (old new : Span) (n : ℕ) (answer : Option ℕ)
+    → answer ≡ Some n → answer ≡ far_number from_end old → new ≡ without_far from_end old
+    → IsTaken side old n new
+taken_told from_end side e old new n answer is told rest =
+    rw (← e) (is_taken from_end old new n (sym told ∙ is) rest)

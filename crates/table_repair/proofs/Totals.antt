@@ -1,0 +1,33 @@
+-- How changes and steps add up over a sweep.
+use Rattle.std.proofs.Common.{◌≡◌, ℕ, ◌+◌, ◌-◌, ◌*◌, ◌<◌, ◌≤◌, arith}
+
+pub few_more : (changed one left rest all : ℕ) → left ≡ rest + 1 → changed + 4096 * left ≤ 4096 * all
+    → one < 4096 → changed + one + 4096 * rest ≤ 4096 * all
+few_more changed one left rest all e few h = omega arith
+
+pub counted_more : (steps now first changed one left rest all : ℕ) → left ≡ rest + 1
+    → steps + left ≤ first + changed + all → now ≤ steps + one + 1
+    → now + rest ≤ first + (changed + one) + all
+counted_more steps now first changed one left rest all e counted h = omega arith
+
+-- row by row
+pub few_rows : (changed row left rest all wide : ℕ) → left ≡ rest + 1 → wide ≤ 4096
+    → changed + 16777216 * left ≤ 16777216 * all → row ≤ 4096 * wide
+    → changed + row + 16777216 * rest ≤ 16777216 * all
+few_rows changed row left rest all wide e h few r = omega arith
+
+pub counted_rows : (steps now first changed row left rest all wide : ℕ) → left ≡ rest + 1
+    → steps + left * wide ≤ first + changed + all * wide → now ≤ steps + row + wide
+    → now + rest * wide ≤ first + (changed + row) + all * wide
+counted_rows steps now first changed row left rest all wide e counted h = rest_of (left * wide) (rest * wide)
+    (product left rest wide e) counted
+  where
+    product : (left rest wide : ℕ) → left ≡ rest + 1 → left * wide ≡ rest * wide + wide
+    product left rest wide e = rw e (omega arith)
+
+    rest_of : (a b : ℕ) → a ≡ b + wide → steps + a ≤ first + changed + all * wide
+        → now + b ≤ first + (changed + row) + all * wide
+    rest_of a b f counted = omega arith
+
+pub short : (first end side : ℕ) → end ≤ side → side ≤ 4096 → end - first ≤ 4096
+short first end side h k = omega arith

@@ -1,0 +1,52 @@
+-- Each row taken is one piece more.
+use Rattle.std.proofs.Common.{◌≡◌, ◌≤◌, ◌<◌, arith, sym, ◌∙◌}
+use Rattle.table_repair.specs.Mending.{goes_down, span_length}
+use Rattle.table_repair.proofs.Sweeping.{taken_told, none_taken, among_parts}
+use Rattle.table_repair.proofs.Rows.{block_waits, block_next, block_done}
+use Rattle.table_repair.proofs.Totals.{few_rows, counted_rows, short}
+use Rattle.table_repair.proofs.sweep.sweep.Goals as goal
+
+pub sweep_row-changed-requires-clause-row : goal.sweep_row-changed-requires-clause-row
+sweep_row-changed-requires-clause-row g c =
+    let i = c.loop-y.invariant in
+    let taken = taken_told c.goes_down.result (goes_down c.args.d) c.goes_down.ensures c.loop-y.left
+    c.take_far.new.span c.in-Some.y c.take_far.result c.in-Some.is c.take_far.ensures.taken
+    c.take_far.ensures.rest in
+    let there = among_parts c.args.rows c.in-Some.y (i.within c.in-Some.y taken.member) in
+    let below = c.requires.rows in
+    omega arith
+
+pub sweep_row-changed-requires-clause-waits : goal.sweep_row-changed-requires-clause-waits
+sweep_row-changed-requires-clause-waits g c =
+    let i = c.loop-y.invariant in
+    let taken = taken_told c.goes_down.result (goes_down c.args.d) c.goes_down.ensures c.loop-y.left
+    c.take_far.new.span c.in-Some.y c.take_far.result c.in-Some.is c.take_far.ensures.taken
+    c.take_far.ensures.rest in
+    block_waits c.args.grid.now c.args.d c.args.rows c.args.columns c.loop-y.left c.take_far.new.span
+    c.in-Some.y c.args.tables.now c.loop-y.tables c.loop-y.changed i.swept i.within taken c.requires.waits
+
+pub loop-y-preserved : goal.loop-y-preserved
+loop-y-preserved g c =
+    let i = c.loop-y.invariant in
+    let taken = taken_told c.goes_down.result (goes_down c.args.d) c.goes_down.ensures c.loop-y.left
+    c.take_far.new.span c.in-Some.y c.take_far.result c.in-Some.is c.take_far.ensures.taken
+    c.take_far.ensures.rest in
+    let narrow = c.requires.ready.grid.sides.narrow in
+    let columns = c.requires.columns in
+    let wide : span_length c.args.columns ≤ 4096 = short _ _ _ columns narrow in
+    record {
+      swept = block_next c.args.grid.now c.args.d c.args.rows c.args.columns c.loop-y.left c.take_far.new.span
+          c.in-Some.y c.args.tables.now c.loop-y.tables c.loop-y.changed i.swept i.within taken
+          c.sweep_row-changed.new.tables c.sweep_row-changed.result c.sweep_row-changed.ensures.mends
+          c.sweep_row-changed.ensures.sweeps;
+      within = λ k h. i.within k (taken.within k h);
+      few = few_rows _ _ _ _ _ _ taken.shorter wide i.few c.sweep_row-changed.ensures.few;
+      counted = counted_rows _ _ _ _ _ _ _ _ _ taken.shorter i.counted c.sweep_row-changed.ensures.steps;
+    }
+
+pub returns-clause-sweeps : goal.returns-clause-sweeps
+returns-clause-sweeps g c =
+    let i = c.loop-y.invariant in
+    block_done c.args.grid.now c.args.d c.args.rows c.args.columns c.loop-y.left c.args.tables.now
+    c.loop-y.tables c.loop-y.changed i.swept (none_taken c.goes_down.result c.loop-y.left
+    (sym c.take_far.ensures.taken ∙ c.in_default.is))

@@ -1,0 +1,4 @@
+pub mod Differ
+pub mod Counted
+pub mod Mending
+pub mod Repaired

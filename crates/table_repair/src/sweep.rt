@@ -1,0 +1,82 @@
+//! Sweeps: all the cells of a block, from the far end of each line.
+
+ghost use Rattle.std.specs.Prelude.{◌≡◌, ◌+◌, ◌*◌, ◌<◌, ◌≤◌, true};
+ghost use Rattle.grid_moves.specs.Grid.{is_inside};
+ghost use Rattle.grid_moves.specs.Move.{is_same};
+ghost use Rattle.table_repair.specs.Mending as spec;
+ghost use Rattle.table_repair.specs.Mending.{AreReady, CanSweep, Mends, Sweeps, is_in, is_in_row, span_length};
+
+use crate::mend::mend;
+use crate::span::{Span, take_far};
+use grid_moves::{Cell, Dir, Grid, Terrain};
+use plus_tables::Tables;
+use std::sync::ledger::Ledger;
+use steps::Steps;
+
+// Whether the columns rise along the direction.
+pub fn goes_right(d: Dir) -> bool
+    ensures { result ≡ spec.goes_right d }
+{
+    matches!(d, Dir::NE | Dir::E | Dir::SE)
+}
+
+// Whether the rows rise along the direction.
+pub fn goes_down(d: Dir) -> bool
+    ensures { result ≡ spec.goes_down d }
+{
+    matches!(d, Dir::SE | Dir::S | Dir::SW)
+}
+
+// Makes the entries for `d` right that wait for the cells of this row and these columns; says how many
+// changed.
+fn sweep_row<L: Ledger>(
+    tables: &mut Tables,
+    grid: &Grid,
+    y: u16,
+    columns: Span,
+    d: Dir,
+    steps: &mut Steps<L>,
+) -> u64
+    requires ready { AreReady grid.now tables.old d }
+    requires row { y < grid.now.height }
+    requires columns { columns.end ≤ grid.now.width }
+    requires waits { CanSweep grid.now tables.old d (is_in_row y columns) }
+    ensures mends { Mends grid.now d (is_in_row y columns) tables.old tables.new result }
+    ensures sweeps { Sweeps grid.now d (is_in_row y columns) tables.old tables.new }
+    ensures few { result ≤ 4096 * span_length columns }
+    ensures steps { steps.new ≤ steps.old + result + span_length columns }
+{
+    let mut left = columns;
+    let mut changed = 0;
+    while let Some(x) = take_far(&mut left, goes_right(d)) {
+        changed += mend(tables, grid, Cell { x, y }, d, steps);
+    }
+    changed
+}
+
+/// Makes the entries for `d` right that wait for the cells of these rows and columns; says how many
+/// changed.
+pub fn sweep<L: Ledger>(
+    tables: &mut Tables,
+    grid: &Grid,
+    rows: Span,
+    columns: Span,
+    d: Dir,
+    steps: &mut Steps<L>,
+) -> u64
+    requires ready { AreReady grid.now tables.old d }
+    requires rows { rows.end ≤ grid.now.height }
+    requires columns { columns.end ≤ grid.now.width }
+    requires waits { CanSweep grid.now tables.old d (is_in rows columns) }
+    ensures mends { Mends grid.now d (is_in rows columns) tables.old tables.new result }
+    ensures sweeps { Sweeps grid.now d (is_in rows columns) tables.old tables.new }
+    ensures few { result ≤ 16777216 * span_length rows }
+    ensures steps { steps.new ≤ steps.old + result + span_length rows * span_length columns }
+{
+    let mut left = rows;
+    let mut changed = 0;
+    while let Some(y) = take_far(&mut left, goes_down(d)) {
+        changed += sweep_row(tables, grid, y, columns, d, steps);
+    }
+    changed
+}
