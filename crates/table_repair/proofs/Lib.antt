@@ -13,3 +13,4 @@ pub mod Beginning
 pub mod Diagonals
 pub mod Passes
 pub mod Ending
+pub mod Editing

@@ -15,3 +15,6 @@ mod span;
 mod sweep;
 
 pub use repairer::Repairer;
+
+#[cfg(test)]
+mod tests;
