@@ -89,3 +89,96 @@ fn the_middle_of_a_row(rt: HostRuntime) -> Result<(), Fail> {
     assert_eq!(rt; freed.entries.as_slice(), open.as_slice());
     Ok(())
 }
+
+// The next word of a fixed generator.
+fn next_word(state: &mut u64) -> u32 {
+    *state = state
+        .wrapping_mul(6364136223846793005)
+        .wrapping_add(1442695040888963407);
+    (*state >> 33) as u32
+}
+
+// So many cells, about a quarter of them blocked.
+fn mixed_cells(alloc: Global, count: usize, state: &mut u64) -> Result<Vec<u8>, NoMemory>
+    ensures { IfOk result (λ cells. length cells.items ≡ count) }
+{
+    let mut cells = Vec::new(alloc);
+    for _ in 0..count {
+        cells.push(if next_word(state) % 4 == 0 {
+            b'@'
+        } else {
+            b'.'
+        })?;
+    }
+    Ok(cells)
+}
+
+// All entries, row by row.
+fn entries_of<L: Ledger>(
+    alloc: Global,
+    tables: &Tables,
+    steps: &mut Steps<L>,
+) -> Result<Vec<i16>, NoMemory> {
+    let mut entries = Vec::new(alloc);
+    for y in 0..tables.height() {
+        for x in 0..tables.width() {
+            for d in ALL_DIRS.iter() {
+                entries.push(tables.entry(Cell { x, y }, *d, steps))?;
+            }
+        }
+    }
+    Ok(entries)
+}
+
+// At how many places the numbers differ.
+fn places_apart(one: &[i16], other: &[i16]) -> usize {
+    one.iter().zip(other).filter(|(a, b)| a != b).count()
+}
+
+// Edits a square map of mixed cells so often; says whether each time the mended tables were those that are
+// built afresh, and as many entries had changed as the repair said.
+fn edits_agree<L: Ledger>(
+    alloc: Global,
+    side: u16,
+    edits: u32,
+    corner: Corner,
+    blank: Blank,
+) -> Result<bool, NoMemory>
+    requires some_side { 1 ≤ side }
+    requires short_side { side ≤ 4096 }
+    requires name { blank.name ≡ L.name }
+    requires parts { blank.parts ≡ L.parts }
+    requires some { 0 < L.parts }
+{
+    let mut steps = Steps::<L>::new(blank);
+    let mut state = 18;
+    let cells = mixed_cells(alloc, side as usize * side as usize, &mut state)?;
+    let mut grid = Grid::of_cells(alloc, side, side, &cells, corner)?;
+    let mut tables = Tables::build(alloc, &grid)?;
+    let mut before = entries_of(alloc, &tables, &mut steps)?;
+    for _ in 0..edits {
+        let x = (next_word(&mut state) % u32::from(side)) as u16;
+        let y = (next_word(&mut state) % u32::from(side)) as u16;
+        let c = Cell { x, y };
+        let free = !grid.free(c);
+        let changed = edit(&mut grid, &mut tables, c, free, &mut steps);
+        let fresh = Tables::build(alloc, &grid)?;
+        let after = entries_of(alloc, &fresh, &mut steps)?;
+        let mended = entries_of(alloc, &tables, &mut steps)?;
+        if mended.as_slice() != after.as_slice()
+            || changed != places_apart(&before, &after) as u64
+        {
+            return Ok(false);
+        }
+        before = after;
+    }
+    Ok(true)
+}
+
+#[test]
+fn five_hundred_edits(rt: HostRuntime) -> Result<(), Fail> {
+    for corner in [Corner::Never, Corner::One] {
+        assert!(rt; edits_agree::<Brand>(rt.alloc(), 64, 500, corner, Blank::new(1))?);
+    }
+    Ok(())
+}
