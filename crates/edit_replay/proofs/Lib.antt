@@ -3,3 +3,4 @@ pub mod Edits
 pub mod Answering
 pub mod Replying
 pub mod Counts
+pub mod Following

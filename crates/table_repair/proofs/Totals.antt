@@ -31,3 +31,7 @@ counted_rows steps now first changed row left rest all wide e counted h = rest_o
 
 pub short : (first end side : ℕ) → end ≤ side → side ≤ 4096 → end - first ≤ 4096
 short first end side h k = omega arith
+
+-- a counter that never fell
+pub later_on : {old mid new : ℕ} → old ≤ mid → mid ≤ new → old ≤ new
+later_on first more = omega arith

@@ -41,6 +41,7 @@ pub fn mend<L: Ledger>(
         → FollowBut grid.now tables.new d later }
     ensures few { result < 4096 }
     ensures steps { steps.new ≤ steps.old + result + 1 }
+    ensures later { steps.old ≤ steps.new }
 {
     let mut changed = 0;
     let mut at = from;

@@ -34,6 +34,7 @@ pub fn sweep_straight<L: Ledger>(
     ensures few { result ≤ 68719476736 * length dirs.now }
     ensures steps { steps.new
         ≤ steps.old + result + length dirs.now * (span_length rows * span_length columns) }
+    ensures later { steps.old ≤ steps.new }
 {
     let mut changed = 0;
     for d in dirs {
@@ -62,6 +63,7 @@ fn sweep_diagonal<L: Ledger>(
     ensures right { AreRight grid.now tables.new d }
     ensures few { result ≤ 137438953472 }
     ensures steps { steps.new ≤ steps.old + result + 3 * (grid.now.width + grid.now.height) }
+    ensures later { steps.old ≤ steps.new }
 {
     let (width, height) = (grid.width(), grid.height());
     let wide = widened(columns, goes_right(d), by, width);
@@ -94,6 +96,7 @@ pub fn sweep_diagonals<L: Ledger>(
     ensures few { result ≤ 137438953472 * length dirs.now }
     ensures steps { steps.new
         ≤ steps.old + result + length dirs.now * (3 * (grid.now.width + grid.now.height)) }
+    ensures later { steps.old ≤ steps.new }
 {
     let mut changed = 0;
     for d in dirs {

@@ -62,6 +62,7 @@ impl Repairer {
         ensures changed { result ≡ places_differing tables.old.entries tables.new.entries }
         ensures steps { steps.new
             ≤ steps.old + 18 * (grid.now.width + grid.now.height) + result }
+        ensures later { steps.old ≤ steps.new }
     {
         let (width, table_width) = (grid.width(), tables.width());
         prove_eq!(width, self.width);

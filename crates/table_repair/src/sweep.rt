@@ -45,6 +45,7 @@ fn sweep_row<L: Ledger>(
     ensures sweeps { Sweeps grid.now d (is_in_row y columns) tables.old tables.new }
     ensures few { result ≤ 4096 * span_length columns }
     ensures steps { steps.new ≤ steps.old + result + span_length columns }
+    ensures later { steps.old ≤ steps.new }
 {
     let mut left = columns;
     let mut changed = 0;
@@ -72,6 +73,7 @@ pub fn sweep<L: Ledger>(
     ensures sweeps { Sweeps grid.now d (is_in rows columns) tables.old tables.new }
     ensures few { result ≤ 16777216 * span_length rows }
     ensures steps { steps.new ≤ steps.old + result + span_length rows * span_length columns }
+    ensures later { steps.old ≤ steps.new }
 {
     let mut left = rows;
     let mut changed = 0;

@@ -6,14 +6,14 @@
 //! ```text
 //! --help
 //! --version
-//! query MAP SX SY GX GY [engine=plain] [show=points|show=cells|show=trace] [rule=none|rule=one]
-//! solve MAP SCRIPT [engine=plain] [show=points|show=cells|show=trace] [rule=none|rule=one]
-//! scen MAP SCEN [engine=plain] [rule=none|rule=one]
+//! query MAP SX SY GX GY [engine=ENGINE] [show=points|show=cells|show=trace] [rule=none|rule=one]
+//! solve MAP SCRIPT [engine=ENGINE] [show=points|show=cells|show=trace] [rule=none|rule=one]
+//! scen MAP SCEN [engine=ENGINE] [rule=none|rule=one]
 //! make SEED W H P
-//! drill SEED [engine=plain] [rule=none|rule=one]
+//! drill SEED [engine=ENGINE] [rule=none|rule=one]
 //! ```
 //!
-//! Names of files are any words; numbers are 1 to 9 decimal digits, and a seed 1 to 20. A list that is no call is
+//! ENGINE is `plain`, `jps` or `plus`. Names of files are any words; numbers are 1 to 9 decimal digits, and a seed 1 to 20. A list that is no call is
 //! refused at its first word with which no call can begin, or one word behind its end where only
 //! words are missing.
 //!

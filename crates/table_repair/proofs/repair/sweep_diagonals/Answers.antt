@@ -5,6 +5,7 @@ use Rattle.grid_moves.specs.declared.Dir.TheVariants.{N}
 use Rattle.pruning.specs.Turns.{is_diagonal}
 use Rattle.table_repair.specs.Mending.{any_cell, is_in_reach, is_listed}
 use Rattle.table_repair.proofs.Passes.{passed_none, passed_more, listed_at, listed_take, listed_all, diagonal_ready, counted_pass}
+use Rattle.table_repair.proofs.Totals.{later_on}
 use Rattle.table_repair.proofs.repair.sweep_diagonals.Goals as goal
 
 pub sweep_diagonal-changed-requires-clause-ready : goal.sweep_diagonal-changed-requires-clause-ready
@@ -44,6 +45,7 @@ loop-d-preserved g c =
       counted = counted_pass c.args.steps.now c.loop-d.steps _ c.loop-d.changed
           c.sweep_diagonal-changed.result c.loop-d.d-index _ i.counted
           c.sweep_diagonal-changed.ensures.steps;
+      later = later_on i.later c.sweep_diagonal-changed.ensures.later;
     }
 
 pub returns-clause-right : goal.returns-clause-right

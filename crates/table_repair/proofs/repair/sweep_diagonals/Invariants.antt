@@ -12,4 +12,5 @@ invariant-loop-d g l = record {
   few : l.changed ≤ 137438953472 * l.d-index;
   counted : l.steps
       ≤ l.fn.steps + l.changed + l.d-index * (3 * (l.grid.width + l.grid.height));
+  later : l.fn.steps ≤ l.steps;
 }

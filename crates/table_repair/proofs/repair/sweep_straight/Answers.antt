@@ -4,6 +4,7 @@ use Rattle.grid_moves.specs.declared.Dir.{Dir}
 use Rattle.grid_moves.specs.declared.Dir.TheVariants.{N}
 use Rattle.table_repair.specs.Mending.{is_in, is_listed, is_straight, span_length}
 use Rattle.table_repair.proofs.Passes.{passed_none, passed_more, listed_at, listed_take, listed_all, straight_ready, nothing_later, swept_right, counted_pass}
+use Rattle.table_repair.proofs.Totals.{later_on}
 use Rattle.table_repair.proofs.repair.sweep_straight.Goals as goal
 
 pub sweep-changed-requires-clause-ready : goal.sweep-changed-requires-clause-ready
@@ -41,6 +42,7 @@ loop-d-preserved g c =
       few = omega arith;
       counted = counted_pass c.args.steps.now c.loop-d.steps _ c.loop-d.changed c.sweep-changed.result
           c.loop-d.d-index _ i.counted c.sweep-changed.ensures.steps;
+      later = later_on i.later c.sweep-changed.ensures.later;
     }
 
 pub returns-clause-right : goal.returns-clause-right

@@ -11,4 +11,5 @@ invariant-loop-d g l = record {
   few : l.changed ≤ 68719476736 * l.d-index;
   counted : l.steps
       ≤ l.fn.steps + l.changed + l.d-index * (span_length l.rows * span_length l.columns);
+  later : l.fn.steps ≤ l.steps;
 }

@@ -3,7 +3,7 @@ use Rattle.std.proofs.Common.{◌≡◌, ◌≤◌, ◌<◌, arith, sym, ◌∙�
 use Rattle.table_repair.specs.Mending.{goes_down, span_length}
 use Rattle.table_repair.proofs.Sweeping.{taken_told, none_taken, among_parts}
 use Rattle.table_repair.proofs.Rows.{block_waits, block_next, block_done}
-use Rattle.table_repair.proofs.Totals.{few_rows, counted_rows, short}
+use Rattle.table_repair.proofs.Totals.{few_rows, counted_rows, later_on, short}
 use Rattle.table_repair.proofs.sweep.sweep.Goals as goal
 
 pub sweep_row-changed-requires-clause-row : goal.sweep_row-changed-requires-clause-row
@@ -42,6 +42,7 @@ loop-y-preserved g c =
       within = λ k h. i.within k (taken.within k h);
       few = few_rows _ _ _ _ _ _ taken.shorter wide i.few c.sweep_row-changed.ensures.few;
       counted = counted_rows _ _ _ _ _ _ _ _ _ taken.shorter i.counted c.sweep_row-changed.ensures.steps;
+      later = later_on i.later c.sweep_row-changed.ensures.later;
     }
 
 pub returns-clause-sweeps : goal.returns-clause-sweeps

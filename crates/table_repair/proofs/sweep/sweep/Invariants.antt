@@ -11,6 +11,7 @@ invariant-loop-y g l = record {
   few : l.changed + 16777216 * span_length l.left ≤ 16777216 * span_length l.fn.rows;
   counted : l.steps + span_length l.left * span_length l.columns
       ≤ l.fn.steps + l.changed + span_length l.fn.rows * span_length l.columns;
+  later : l.fn.steps ≤ l.steps;
 }
 
 abbrev pub decreases-loop-y : goal.decreases-loop-y

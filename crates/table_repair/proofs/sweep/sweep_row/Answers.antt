@@ -3,7 +3,7 @@ use Rattle.std.proofs.Common.{◌≡◌, ◌≤◌, arith, sym, ◌∙◌}
 use Rattle.table_repair.specs.Mending.{goes_right, is_in_row}
 use Rattle.table_repair.proofs.Sweeping.{taken_told, none_taken, swept_none, swept_all}
 use Rattle.table_repair.proofs.Rows.{row_inside, row_right, row_next, row_done}
-use Rattle.table_repair.proofs.Totals.{few_more, counted_more}
+use Rattle.table_repair.proofs.Totals.{few_more, counted_more, later_on}
 use Rattle.table_repair.proofs.sweep.sweep_row.Goals as goal
 
 pub mend-changed-requires-clause-inside : goal.mend-changed-requires-clause-inside
@@ -45,6 +45,7 @@ loop-x-preserved g c =
       within = λ k h. i.within k (taken.within k h);
       few = few_more _ _ _ _ _ shorter few one;
       counted = counted_more _ _ _ _ _ _ _ _ shorter counted steps;
+      later = later_on i.later c.mend-changed.ensures.later;
     }
 
 pub returns-clause-sweeps : goal.returns-clause-sweeps

@@ -10,6 +10,7 @@ invariant-loop-x g l = record {
   within : (k : ℕ) → is_among l.left k ≡ true → is_among l.fn.columns k ≡ true;
   few : l.changed + 4096 * span_length l.left ≤ 4096 * span_length l.fn.columns;
   counted : l.steps + span_length l.left ≤ l.fn.steps + l.changed + span_length l.fn.columns;
+  later : l.fn.steps ≤ l.steps;
 }
 
 abbrev pub decreases-loop-x : goal.decreases-loop-x
