@@ -91,6 +91,7 @@ module _ (l : LineData) (lines positions : ℕ) (shown : ℕ → ℕ → Bool) (
   set_shown = record {
     bordered = shows.bordered;
     ample = shows.ample;
+    tight = shows.tight;
     bits = λ m w j c d e. by_place m w j c d e (nat_eq (m * (l.blocks * 8) + w) place) refl;
   }
     where
@@ -111,6 +112,7 @@ pub shows_alike : (l : LineData) (lines positions : ℕ) (free now : ℕ → ℕ
 shows_alike l lines positions free now same shows = record {
   bordered = shows.bordered;
   ample = shows.ample;
+  tight = shows.tight;
   bits = λ line w j a b c. shows.bits line w j a b c ∙ same line (w * 64 + j);
 }
 

@@ -31,6 +31,7 @@ word_of l line w = slice_index_or l.words (line * (l.blocks * 8) + w) 0
 pub record Shows (l : LineData) (lines positions : ℕ) (free : ℕ → ℕ → Bool) : Type 0 where
   pub bordered : l.lines ≡ lines + 2
   pub ample : positions + 2 ≤ l.blocks * 512
+  pub tight : l.blocks * 512 < positions + 514
   pub bits : (line w j : ℕ) → line < l.lines → w < l.blocks * 8 → j < 64
       → is_set (word_of l line w) j ≡ free line (w * 64 + j)
 

@@ -1,0 +1,286 @@
+-- The search of a block, word by word.
+use Rattle.std.proofs.Common.{◌≡◌, ℕ, suc, ◌+◌, ◌*◌, ◌-◌, ◌/◌, ◌^◌, ◌<◌, ◌≤◌, ◌⊎◌, inl, inr, arith, Bool, true, false, not, ◌&&◌, refl, ap, sym, ◌∙◌, subst, bit_and}
+use Rattle.std.specs.Prelude.{nat_eq}
+use Rattle.std.proofs.lemmas.Bool.{cases_lt}
+use Rattle.std.proofs.lemmas.Bool.Decides.{nat_tests}
+use Rattle.std.specs.Int.{bit_at}
+use Rattle.std.proofs.lemmas.Nat.Bits.{bit_at-lt, shr_and_one}
+use Rattle.grid_moves.specs.declared.Corner.{Corner}
+use Rattle.grid_moves.specs.declared.Corner.TheVariants.{Never, One}
+use Rattle.bit_grid.specs.Bits.{is_set}
+use Rattle.bit_grid.proofs.Words.{set_and, set_none}
+use Rattle.jump_block.specs.declared.word.Way.{Way}
+use Rattle.jump_block.specs.declared.word.Way.TheVariants.{Forward, Back}
+use Rattle.jump_block.specs.declared.word.Words.{Words}
+use Rattle.jump_block.specs.declared.block.Block.{Block}
+use Rattle.jump_block.specs.Trail.{Trail, IsClear, Halts, halts, at_start, begun}
+use Rattle.jump_block.specs.Word.{Meets, IsWordOf, AreWordsOf, IsEdgeOf, AreEdgesOf, IsBlockOf, IsFound, IsAhead, near, far, moves_before, moves_short_of, is_past, nth_word, edge_before, words_of}
+use Rattle.jump_block.specs.Seek.{HasPassed}
+
+-- the words that the way has passed give the edges
+edge_of : (side : ℕ → Bool) (way : Way) (from base word : ℕ) → IsWordOf side way from base word
+    → IsEdgeOf side way from (far way base) word
+edge_of side Forward from base word here = λ k m. here 63 k (omega arith) (omega arith)
+edge_of side Back from base word here = λ k m. here 0 k (omega arith) (omega arith)
+
+pub edges_of : (t : Trail) (way : Way) (from base : ℕ) (w : Words) → AreWordsOf t way from base w
+    → AreEdgesOf t way from (far way base) w
+edges_of t way from base w are = record {
+  before = edge_of t.before way from base w.before are.before;
+  after = edge_of t.after way from base w.after are.after;
+}
+
+-- before the way leaves the first word it has no edge behind it
+pub no_edges : (t : Trail) (way : Way) (from base : ℕ) (w : Words) → base ≤ from → from < base + 64
+    → AreEdgesOf t way from (near way base) w
+no_edges t Forward from base w a b = record {
+  before = λ k m. absurd (omega arith);
+  after = λ k m. absurd (omega arith);
+}
+no_edges t Back from base w a b = record {
+  before = λ k m. absurd (omega arith);
+  after = λ k m. absurd (omega arith);
+}
+
+-- a number of moves is told by where they lead
+short_of : (way : Way) (from place k : ℕ) → Meets way from place (suc k) → moves_short_of way from place ≡ k
+short_of Forward from place k m = omega arith
+short_of Back from place k m = omega arith
+
+-- earlier moves lead to earlier places
+earlier : (way : Way) (from base i j k m : ℕ) → Meets way from (base + i) (suc k)
+    → Meets way from (base + j) (suc m) → m < k → is_past way j i ≡ true
+earlier Forward from base i j k m a b h = grind (arith, nat_tests)
+earlier Back from base i j k m a b h = grind (arith, nat_tests)
+
+within : (way : Way) (from base i k m : ℕ) → i < 64 → Meets way from (base + i) (suc k) → m < k
+    → m < moves_before way from (far way base)
+within Forward from base i k m l a h = omega arith
+within Back from base i k m l a h = omega arith
+
+module _ (t : Trail) (way : Way) (from base n middle found : ℕ)
+    (is : IsFound t way from base n middle found) where
+  -- none of the bits is set
+  pub found_none : found ≡ 0 → IsClear t (moves_before way from (far way base))
+  found_none none k h = by_place (cases_lt k n)
+    where
+      by_place : (k < n) ⊎ (n ≤ k) → halts t k ≡ false
+      by_place (inl l) = is.clear k l
+      by_place (inr l) = let at = is.here k l h in
+          sym (is.bits at.0 k at.1 at.2) ∙ ap (λ (m : ℕ). is_set m at.0) none ∙ set_none at.0
+
+  -- the first that is set
+  pub found_halt : (bit : ℕ) (blocked : Bool) → bit < 64 → is_set found bit ≡ true
+      → ((j : ℕ) → j < 64 → is_past way j bit ≡ true → is_set found j ≡ false)
+      → blocked ≡ nat_eq (bit_and (middle / 2 ^ bit) 1) 0
+      → Halts t (moves_short_of way from (base + bit)) blocked
+  found_halt bit blocked small set first told =
+      let there = is.past bit small set in
+      subst (λ (k : ℕ). Halts t k blocked) (sym (short_of way from (base + bit) there.0 there.1))
+      (record {
+        clear = λ m h. by_place there.0 there.1 m h (cases_lt m n);
+        here = sym (is.bits bit there.0 small there.1) ∙ set;
+        told = told ∙ ap (λ (b : ℕ). nat_eq b 0) (shr_and_one middle bit)
+            ∙ flag (bit_at middle bit) (bit_at-lt middle bit)
+            ∙ ap not (is.shows bit (suc there.0) small there.1);
+      })
+    where
+      flag : (b : ℕ) → b < 2 → nat_eq b 0 ≡ not (nat_eq b 1)
+      flag b h = grind (arith, nat_tests)
+
+      by_place : (k : ℕ) → Meets way from (base + bit) (suc k) → (m : ℕ) → m < k → (m < n) ⊎ (n ≤ m)
+          → halts t m ≡ false
+      by_place k at m h (inl l) = is.clear m l
+      by_place k at m h (inr l) =
+          let its = is.here m l (within way from base bit k m small at h) in
+          sym (is.bits its.0 m its.1 its.2)
+          ∙ first its.0 its.1 (earlier way from base bit its.0 k m at its.2 h)
+
+-- where the i-th word begins and ends
+begins : (way : Way) (start i : ℕ) → i < 8 → near way (start + nth_word way i * 64) ≡ edge_before way start i
+begins Forward start i h = refl
+begins Back start i h = omega arith
+
+pub ends : (way : Way) (start i : ℕ) → i < 8
+    → far way (start + nth_word way i * 64) ≡ edge_before way start (i + 1)
+ends Forward start i h = omega arith
+ends Back start i h = omega arith
+
+pub ahead_later : (way : Way) (from start i n : ℕ) → i ≤ n → IsAhead way from (edge_before way start i)
+    → IsAhead way from (edge_before way start n)
+ahead_later Forward from start i n h a = omega arith
+ahead_later Back from start i n h a = omega arith
+
+-- past an edge, a word's bits are those of moves
+moves_there : (way : Way) (from base : ℕ) → IsAhead way from (near way base) → (j : ℕ) → j < 64
+    → (k : ℕ) × Meets way from (base + j) (suc k)
+moves_there Forward from base a j h = (base + j - (from + 1), omega arith)
+moves_there Back from base a j h = (from - (base + j + 1), omega arith)
+
+places_there : (way : Way) (from base : ℕ) → IsAhead way from (near way base) → (k : ℕ)
+    → moves_before way from (near way base) ≤ k → k < moves_before way from (far way base)
+    → (j : ℕ) × (j < 64) × Meets way from (base + j) (suc k)
+places_there Forward from base a k h l = (from + suc k - base, omega arith, omega arith)
+places_there Back from base a k h l = (from - (base + suc k), omega arith, omega arith)
+
+-- a word that the way comes to from another
+pub found_further : (t : Trail) (way : Way) (from base found : ℕ) (w last : Words) → AreWordsOf t way from base w
+    → IsAhead way from (near way base) → HasPassed t way from (near way base) last
+    → ((t : Trail) (from base : ℕ) → AreWordsOf t way from base w → AreEdgesOf t way from (near way base) last
+    → (j k : ℕ) → j < 64 → Meets way from (base + j) (suc k) → is_set found j ≡ halts t k)
+    → IsFound t way from base (moves_before way from (near way base)) w.middle found
+found_further t way from base found w last are ahead passed told = record {
+  clear = passed.clear;
+  shows = are.middle;
+  bits = told t from base are passed.edges;
+  past = λ j h set. moves_there way from base ahead j h;
+  here = places_there way from base ahead;
+}
+
+pub passed_further : (t : Trail) (way : Way) (from base found : ℕ) (w last : Words)
+    → AreWordsOf t way from base w → IsAhead way from (near way base) → HasPassed t way from (near way base) last
+    → ((t : Trail) (from base : ℕ) → AreWordsOf t way from base w → AreEdgesOf t way from (near way base) last
+    → (j k : ℕ) → j < 64 → Meets way from (base + j) (suc k) → is_set found j ≡ halts t k)
+    → found ≡ 0 → HasPassed t way from (far way base) w
+passed_further t way from base found w last are ahead passed told none = record {
+  edges = edges_of t way from base w are;
+  clear = found_none t way from base (moves_before way from (near way base)) w.middle found
+      (found_further t way from base found w last are ahead passed told) none;
+}
+
+-- the i-th word of a block
+module _ (t : Trail) (way : Way) (from start i n found : ℕ) (b : Block) (w last : Words)
+    (block : IsBlockOf t way from start i b) (low : i ≤ n) (high : n < 8) (words : w ≡ words_of b (nth_word way n))
+    (ahead : IsAhead way from (edge_before way start i))
+    (passed : HasPassed t way from (edge_before way start n) last)
+    (told : (t : Trail) (from base : ℕ) → AreWordsOf t way from base w
+    → AreEdgesOf t way from (near way base) last
+    → (j k : ℕ) → j < 64 → Meets way from (base + j) (suc k) → is_set found j ≡ halts t k) where
+  base : ℕ
+  base = start + nth_word way n * 64
+
+  are : AreWordsOf t way from (start + nth_word way n * 64) w
+  are = rw words (block n low high)
+
+  ahead_here : IsAhead way from (near way (start + nth_word way n * 64))
+  ahead_here = rw (begins way start n high) (ahead_later way from start i n low ahead)
+
+  passed_here : HasPassed t way from (near way (start + nth_word way n * 64)) last
+  passed_here = rw (begins way start n high) passed
+
+  pub nth_found : IsFound t way from (start + nth_word way n * 64)
+      (moves_before way from (near way (start + nth_word way n * 64))) w.middle found
+  nth_found = found_further t way from (start + nth_word way n * 64) found w last are ahead_here passed_here told
+
+  pub nth_passed : found ≡ 0 → HasPassed t way from (edge_before way start (n + 1)) w
+  nth_passed none = rw (← ends way start n high)
+      (passed_further t way from (start + nth_word way n * 64) found w last are ahead_here passed_here told none)
+
+-- the block in which a scan starts
+module _ (t : Trail) (rule : Corner) (way : Way) (start place w found halting over : ℕ) (words : Words)
+    (b : Block) (block : IsBlockOf t way (start + w * 64 + place) start 0 b) (low : place < 64) (high : w < 8)
+    (are : AreWordsOf (begun rule t) way (start + w * 64 + place) (start + w * 64) words)
+    (told : (t : Trail) (from base : ℕ) → AreWordsOf t way from base words
+    → AreEdgesOf t way from (near way base) words
+    → (j k : ℕ) → j < 64 → Meets way from (base + j) (suc k) → is_set halting j ≡ halts t k)
+    (masked : (j : ℕ) → j < 64 → is_set over j ≡ is_past way place j)
+    (found_is : found ≡ bit_and halting over) where
+  set_there : (j : ℕ) → j < 64 → is_set found j ≡ (is_set halting j && is_past way place j)
+  set_there j h = ap (λ (n : ℕ). is_set n j) found_is ∙ set_and halting over j
+      ∙ ap (λ (p : Bool). is_set halting j && p) (masked j h)
+
+  all_past : (way : Way) (base j k : ℕ) → Meets way (base + place) (base + j) (suc k)
+      → is_past way place j ≡ true
+  all_past Forward base j k m = grind (arith, nat_tests)
+  all_past Back base j k m = grind (arith, nat_tests)
+
+  moves_past : (way : Way) (base j : ℕ) → is_past way place j ≡ true
+      → (k : ℕ) × Meets way (base + place) (base + j) (suc k)
+  moves_past Forward base j h =
+      let past : place < j = grind (arith, nat_tests) in (j - (place + 1), omega arith)
+  moves_past Back base j h =
+      let past : j < place = grind (arith, nat_tests) in (place - (j + 1), omega arith)
+
+  places_past : (way : Way) (base k : ℕ) → k < moves_before way (base + place) (far way base)
+      → (j : ℕ) × (j < 64) × Meets way (base + place) (base + j) (suc k)
+  places_past Forward base k h = (place + suc k, omega arith, omega arith)
+  places_past Back base k h = (place - suc k, omega arith, omega arith)
+
+  and_second : (a b : Bool) → (a && b) ≡ true → b ≡ true
+  and_second a b h = grind arith
+
+  and_true : (a b : Bool) → b ≡ true → (a && b) ≡ a
+  and_true a b h = grind arith
+
+  pub start_found : IsFound (begun rule t) way (start + w * 64 + place) (start + w * 64) 0 words.middle found
+  start_found = record {
+    clear = λ k h. absurd (omega arith);
+    shows = are.middle;
+    bits = λ j k h m. set_there j h ∙ and_true _ _ (all_past way (start + w * 64) j k m)
+        ∙ told (begun rule t) (start + w * 64 + place) (start + w * 64) are
+        (no_edges (begun rule t) way (start + w * 64 + place) (start + w * 64) words (omega arith) (omega arith))
+        j k h m;
+    past = λ j h set. moves_past way (start + w * 64) j (and_second _ _ (sym (set_there j h) ∙ set));
+    here = λ k l h. places_past way (start + w * 64) k h;
+  }
+
+  -- the words after it are the trail's own
+  its_own : (r : Corner) (side : ℕ → Bool) (from base word : ℕ)
+      → ((j k : ℕ) → j < 64 → Meets way from (base + j) k → (m : ℕ) × (k ≡ suc m))
+      → IsWordOf side way from base word → IsWordOf (at_start r side) way from base word
+  its_own r side from base word later here j k h m =
+      let more = later j k h m in here j k h m ∙ by_rule r more.0 more.1
+    where
+      by_rule : (r : Corner) (n : ℕ) → k ≡ suc n → side k ≡ at_start r side k
+      by_rule Never n e = refl
+      by_rule One n e = rw e refl
+
+  later_words : (way : Way) (n : ℕ) → nth_word way w + 1 ≤ n → n < 8 → (j k : ℕ) → j < 64
+      → Meets way (start + w * 64 + place) (start + nth_word way n * 64 + j) k → (m : ℕ) × (k ≡ suc m)
+  later_words Forward n a b j k h m = (k - 1, omega arith)
+  later_words Back n a b j k h m = (k - 1, omega arith)
+
+  pub block_later : IsBlockOf (begun rule t) way (start + w * 64 + place) start (nth_word way w + 1) b
+  block_later n a c =
+      let there = block n (omega arith) c in
+      record {
+        middle = there.middle;
+        before = its_own rule t.before (start + w * 64 + place) (start + nth_word way n * 64) _
+            (later_words way n a c) there.before;
+        after = its_own rule t.after (start + w * 64 + place) (start + nth_word way n * 64) _
+            (later_words way n a c) there.after;
+      }
+
+  -- its own word's far edge
+  far_edge : (way : Way) → far way (start + w * 64) ≡ edge_before way start (nth_word way w + 1)
+  far_edge Forward = omega arith
+  far_edge Back = omega arith
+
+  pub start_passed : found ≡ 0
+      → HasPassed (begun rule t) way (start + w * 64 + place) (edge_before way start (nth_word way w + 1)) words
+  start_passed none = rw (← far_edge way) (record {
+    edges = edges_of (begun rule t) way (start + w * 64 + place) (start + w * 64) words are;
+    clear = found_none (begun rule t) way (start + w * 64 + place) (start + w * 64) 0 words.middle found
+        start_found none;
+  })
+
+-- the edge after the word in which a scan starts lies ahead
+pub start_ahead : (way : Way) (start w place : ℕ) → place < 64 → w < 8
+    → IsAhead way (start + w * 64 + place) (edge_before way start (nth_word way w + 1))
+start_ahead Forward start w place h k = omega arith
+start_ahead Back start w place h k = omega arith
+
+-- a word of a block by its own number
+pub word_there : (t : Trail) (way : Way) (from start w : ℕ) (b : Block) → IsBlockOf t way from start 0 b → w < 8
+    → AreWordsOf t way from (start + w * 64) (words_of b w)
+word_there t way from start w b block h =
+    subst (λ (v : ℕ). AreWordsOf t way from (start + v * 64) (words_of b v)) (twice way)
+    (block (nth_word way w) (omega arith) (small way))
+  where
+    twice : (way : Way) → nth_word way (nth_word way w) ≡ w
+    twice Forward = refl
+    twice Back = omega arith
+
+    small : (way : Way) → nth_word way w < 8
+    small Forward = h
+    small Back = omega arith

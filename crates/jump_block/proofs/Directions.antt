@@ -1,0 +1,378 @@
+-- Scans on a grid, in each straight direction.
+use Rattle.std.proofs.Common.{◌≡◌, ◌≢◌, ℕ, zero, suc, ◌+◌, ◌-◌, ◌<◌, arith, Bool, true, false, not, ◌||◌, refl, ap, sym, ◌∙◌, subst}
+use Rattle.std.specs.Prelude.{Option, Some}
+use Rattle.std.proofs.lemmas.Bool.Decides.{nat_tests}
+use Rattle.grid_moves.specs.declared.Cell.{Cell}
+use Rattle.grid_moves.specs.declared.Corner.{Corner}
+use Rattle.grid_moves.specs.declared.Corner.TheVariants.{Never, One}
+use Rattle.grid_moves.specs.declared.Dir.{Dir}
+use Rattle.grid_moves.specs.declared.Dir.TheVariants.{N, NE, E, SE, S, SW, W, NW}
+use Rattle.grid_moves.specs.Grid.{GridData, IsGrid, is_free, is_inside}
+use Rattle.grid_moves.specs.Move.{ahead, is_open}
+use Rattle.grid_moves.proofs.Legal.{free_inside}
+use Rattle.bit_grid.specs.Bits.{LineData, is_free_from_one, AreRowsOf, AreColumnsOf}
+use Rattle.pruning.specs.Turns.{is_diagonal}
+use Rattle.jump_plain.specs.declared.beside.Sides.{Sides}
+use Rattle.jump_plain.specs.Beside.{sides_of}
+use Rattle.jump_plain.specs.Reach.{first_sides}
+use Rattle.jump_block.proofs.Runs.{IsRay, IsTold, told_by_ray}
+use Rattle.jump_block.specs.declared.word.Way.{Way}
+use Rattle.jump_block.specs.Trail.{at_start, begun, opens, trail_on}
+use Rattle.jump_block.specs.declared.block.Halt.{Halt}
+use Rattle.jump_block.specs.Scan.{IsStart, Finds}
+use Rattle.jump_block.specs.Source.{by_rows, by_columns, trail_of}
+
+abbrev pub cell : ℕ → ℕ → Cell
+cell x y = record { x = x; y = y }
+
+-- the column and the row ahead, counted from 1
+abbrev pub column_from_one : Dir → ℕ → ℕ
+column_from_one N x = suc x
+column_from_one NE x = suc (suc x)
+column_from_one E x = suc (suc x)
+column_from_one SE x = suc (suc x)
+column_from_one S x = suc x
+column_from_one SW x = x
+column_from_one W x = x
+column_from_one NW x = x
+
+abbrev pub row_from_one : Dir → ℕ → ℕ
+row_from_one N y = y
+row_from_one NE y = y
+row_from_one E y = suc y
+row_from_one SE y = suc (suc y)
+row_from_one S y = suc (suc y)
+row_from_one SW y = suc (suc y)
+row_from_one W y = suc y
+row_from_one NW y = y
+
+one_more : (n : ℕ) → n + 1 ≡ suc n
+one_more n = omega arith
+
+same_free : (g : GridData) (x y p q : ℕ) → x ≡ p → y ≡ q → is_free g (cell x y) ≡ is_free g (cell p q)
+same_free g x y p q e f = rw (e, f) refl
+
+pub same_from_one : (g : GridData) (x y p q : ℕ) → x ≡ p → y ≡ q
+    → is_free_from_one g x y ≡ is_free_from_one g p q
+same_from_one g x y p q e f = rw (e, f) refl
+
+-- a cell is open where the border or its neighbour is free
+pub open_from_one : (g : GridData) (d : Dir) (x y : ℕ)
+    → is_open g (cell x y) d ≡ is_free_from_one g (column_from_one d x) (row_from_one d y)
+open_from_one g N x zero = refl
+open_from_one g N x (suc y) = refl
+open_from_one g NE x zero = refl
+open_from_one g NE x (suc y) = same_free g _ _ _ _ (one_more x) refl
+open_from_one g E x y = same_free g _ _ _ _ (one_more x) refl
+open_from_one g SE x y = same_free g _ _ _ _ (one_more x) (one_more y)
+open_from_one g S x y = same_free g _ _ _ _ refl (one_more y)
+open_from_one g SW zero y = refl
+open_from_one g SW (suc x) y = same_free g _ _ _ _ refl (one_more y)
+open_from_one g W zero y = refl
+open_from_one g W (suc x) y = refl
+open_from_one g NW zero y = refl
+open_from_one g NW (suc x) zero = refl
+open_from_one g NW (suc x) (suc y) = refl
+
+pub free_from_one : (g : GridData) (x y p q : ℕ) → p ≡ x + 1 → q ≡ y + 1
+    → is_free_from_one g p q ≡ is_free g (cell x y)
+free_from_one g x y p q e f =
+    same_from_one g p q (suc x) (suc y) (e ∙ one_more x) (f ∙ one_more y)
+
+-- nothing is free on the border and beyond
+pub border_column : (g : GridData) (y : ℕ) → is_free_from_one g y 0 ≡ false
+border_column g zero = refl
+border_column g (suc y) = refl
+
+outside : (g : GridData) (x y : ℕ) → is_inside g (cell x y) ≡ false → is_free g (cell x y) ≡ false
+outside g x y h = rw h refl
+
+beyond_columns : (g : GridData) (x y : ℕ) → g.width < x → is_free_from_one g x y ≡ false
+beyond_columns g zero y h = refl
+beyond_columns g (suc x) zero h = refl
+beyond_columns g (suc x) (suc y) h =
+    let none : is_inside g (cell x y) ≡ false = grind (arith, nat_tests) in outside g x y none
+
+beyond_rows : (g : GridData) (x y : ℕ) → g.height < y → is_free_from_one g x y ≡ false
+beyond_rows g zero y h = refl
+beyond_rows g (suc x) zero h = refl
+beyond_rows g (suc x) (suc y) h =
+    let none : is_inside g (cell x y) ≡ false = grind (arith, nat_tests) in outside g x y none
+
+module _ (g : GridData) (x : Cell) (free : is_free g x ≡ true) where
+  in_column : x.x < g.width
+  in_column = let inside = free_inside g x free in grind (arith, nat_tests)
+
+  in_row : x.y < g.height
+  in_row = let inside = free_inside g x free in grind (arith, nat_tests)
+
+  pub row_start : (l : LineData) → AreRowsOf l g → IsStart l (by_rows g) (x.y + 1) (x.x + 1)
+  row_start l rows = record {
+    count = g.height;
+    positions = g.width;
+    shows = rows;
+    below = omega arith;
+    above = let row = in_row in omega arith;
+    starts = free_from_one g x.x x.y (x.x + 1) (x.y + 1) refl refl ∙ free;
+    first = refl;
+    beyond = λ p h. beyond_columns g p (x.y + 1) h;
+  }
+
+  pub column_start : (l : LineData) → AreColumnsOf l g → IsStart l (by_columns g) (x.x + 1) (x.y + 1)
+  column_start l columns = record {
+    count = g.width;
+    positions = g.height;
+    shows = columns;
+    below = omega arith;
+    above = let column = in_column in omega arith;
+    starts = free_from_one g x.x x.y (x.x + 1) (x.y + 1) refl refl ∙ free;
+    first = border_column g (x.x + 1);
+    beyond = λ p h. beyond_rows g (x.x + 1) p h;
+  }
+
+same_sides : (a b c d : Bool) → a ≡ c → b ≡ d
+    → (let s : Sides = record { right = a; left = b } in s) ≡ (let s : Sides = record { right = c; left = d } in s)
+same_sides a b c d e f = rw (e, f) refl
+
+-- after the start the sides are the trail's own
+own : (r : Corner) (side : ℕ → Bool) (k : ℕ) → at_start r side (suc k) ≡ side (suc k)
+own Never side k = refl
+own One side k = refl
+
+regrouped : (a b c : Bool) → ((a || b) || c) ≡ (a || (b || c))
+regrouped a b c = grind arith
+
+turned : (a b c : Bool) → ((a || b) || c) ≡ (a || (c || b))
+turned a b c = grind arith
+
+-- a side of a cell
+module _ (g : GridData) (d : Dir) (x y p q : ℕ) where
+  pub is_open_there : p ≡ column_from_one d x → q ≡ row_from_one d y
+      → is_free_from_one g p q ≡ is_open g (cell x y) d
+  is_open_there e f = same_from_one g p q _ _ e f ∙ sym (open_from_one g d x y)
+
+-- where a bit is free it is no border
+no_border_column : (g : GridData) (p q : ℕ) → is_free_from_one g p q ≡ true → 0 < p
+no_border_column g zero q h = absurd (cc)
+no_border_column g (suc p) q h = omega arith
+
+no_border_row : (g : GridData) (p q : ℕ) → is_free_from_one g p q ≡ true → 0 < q
+no_border_row g zero q h = absurd (cc)
+no_border_row g (suc p) zero h = absurd (cc)
+no_border_row g (suc p) (suc q) h = omega arith
+
+-- the cell ahead, where it is open
+west_ahead : (g : GridData) (n m y : ℕ) → m ≡ n - 1 → is_open g (cell n y) W ≡ true
+    → ahead W (cell n y) ≡ Some (cell m y)
+west_ahead g zero m y e h = absurd (cc)
+west_ahead g (suc n) m y e h = let same : n ≡ m = omega arith in ap (λ (k : ℕ). Some (cell k y)) same
+
+north_ahead : (g : GridData) (x n m : ℕ) → m ≡ n - 1 → is_open g (cell x n) N ≡ true
+    → ahead N (cell x n) ≡ Some (cell x m)
+north_ahead g x zero m e h = absurd (cc)
+north_ahead g x (suc n) m e h = let same : n ≡ m = omega arith in ap (λ (k : ℕ). Some (cell x k)) same
+
+module _ (g : GridData) (x : Cell) (rule : Corner) where
+  abbrev east_sides : ℕ → Sides
+  east_sides k = record {
+    right = (begun rule (trail_of g E x)).after k;
+    left = (begun rule (trail_of g E x)).before k;
+  }
+
+  east_begins : east_sides 0 ≡ first_sides rule g x E
+  east_begins = by_rule rule
+    where
+      by_rule : (r : Corner)
+          → (let s : Sides = record { right = at_start r (trail_of g E x).after 0; left = at_start r (trail_of g E x).before 0 } in s)
+          ≡ first_sides r g x E
+      by_rule Never = same_sides _ _ _ _ (is_open_there g S x.x x.y _ _ (omega arith) (omega arith))
+          (is_open_there g N x.x x.y _ _ (omega arith) (omega arith))
+      by_rule One = refl
+
+  east_ray : IsRay g x E rule (λ k. cell (x.x + k) x.y) (begun rule (trail_of g E x)).free east_sides
+  east_ray = record {
+    starts = ap (λ (n : ℕ). cell n x.y) (omega arith);
+    begins = east_begins;
+    open_is = λ k. sym (is_open_there g E (x.x + k) x.y _ _ (omega arith) (omega arith));
+    goes = east_goes;
+    sides_are = east_later;
+  }
+    where
+      east_goes : (k : ℕ) → is_open g (cell (x.x + k) x.y) E ≡ true → ahead E (cell (x.x + k) x.y) ≡ Some (cell (x.x + suc k) x.y)
+      east_goes k h = let next : x.x + k + 1 ≡ x.x + suc k = omega arith in
+          ap (λ (n : ℕ). Some (cell n x.y)) next
+
+      east_later : (k : ℕ) → (trail_of g E x).free (suc k) ≡ true → east_sides (suc k) ≡ sides_of g (cell (x.x + suc k) x.y) E
+      east_later k f =
+          same_sides _ _ _ _
+          (own rule (trail_of g E x).after k ∙ is_open_there g S _ _ _ _ (omega arith) (omega arith))
+          (own rule (trail_of g E x).before k ∙ is_open_there g N _ _ _ _ (omega arith) (omega arith))
+
+  pub told_east : rule ≡ g.corner → is_free g x ≡ true → IsGrid g
+      → IsTold g x E rule (begun rule (trail_of g E x))
+  told_east r f whole = told_by_ray g x E rule refl r f whole (λ k. cell (x.x + k) x.y)
+      (begun rule (trail_of g E x)).free east_sides east_ray (begun rule (trail_of g E x))
+      (λ k. turned (not ((trail_of g E x).free (suc k))) (opens (begun rule (trail_of g E x)).before k)
+      (opens (begun rule (trail_of g E x)).after k)) (λ k. refl)
+
+  abbrev west_sides : ℕ → Sides
+  west_sides k = record {
+    right = (begun rule (trail_of g W x)).before k;
+    left = (begun rule (trail_of g W x)).after k;
+  }
+
+  west_begins : west_sides 0 ≡ first_sides rule g x W
+  west_begins = by_rule rule
+    where
+      by_rule : (r : Corner)
+          → (let s : Sides = record { right = at_start r (trail_of g W x).before 0; left = at_start r (trail_of g W x).after 0 } in s)
+          ≡ first_sides r g x W
+      by_rule Never = same_sides _ _ _ _ (is_open_there g N x.x x.y _ _ (omega arith) (omega arith))
+          (is_open_there g S x.x x.y _ _ (omega arith) (omega arith))
+      by_rule One = refl
+
+  west_ray : IsRay g x W rule (λ k. cell (x.x - k) x.y) (begun rule (trail_of g W x)).free west_sides
+  west_ray = record {
+    starts = ap (λ (n : ℕ). cell n x.y) (omega arith);
+    begins = west_begins;
+    open_is = λ k. sym (is_open_there g W (x.x - k) x.y _ _ (omega arith) (omega arith));
+    goes = west_goes;
+    sides_are = west_later;
+  }
+    where
+      west_goes : (k : ℕ) → is_open g (cell (x.x - k) x.y) W ≡ true → ahead W (cell (x.x - k) x.y) ≡ Some (cell (x.x - suc k) x.y)
+      west_goes k h = west_ahead g (x.x - k) (x.x - suc k) x.y (omega arith) h
+
+      west_later : (k : ℕ) → (trail_of g W x).free (suc k) ≡ true → west_sides (suc k) ≡ sides_of g (cell (x.x - suc k) x.y) W
+      west_later k f =
+          let on_map = no_border_column g (x.x + 1 - suc k) (x.y + 1) f in
+          same_sides _ _ _ _
+          (own rule (trail_of g W x).before k ∙ is_open_there g N _ _ _ _ (omega arith) (omega arith))
+          (own rule (trail_of g W x).after k ∙ is_open_there g S _ _ _ _ (omega arith) (omega arith))
+
+  pub told_west : rule ≡ g.corner → is_free g x ≡ true → IsGrid g
+      → IsTold g x W rule (begun rule (trail_of g W x))
+  told_west r f whole = told_by_ray g x W rule refl r f whole (λ k. cell (x.x - k) x.y)
+      (begun rule (trail_of g W x)).free west_sides west_ray (begun rule (trail_of g W x))
+      (λ k. regrouped (not ((trail_of g W x).free (suc k))) (opens (begun rule (trail_of g W x)).before k)
+      (opens (begun rule (trail_of g W x)).after k)) (λ k. refl)
+
+  abbrev south_sides : ℕ → Sides
+  south_sides k = record {
+    right = (begun rule (trail_of g S x)).before k;
+    left = (begun rule (trail_of g S x)).after k;
+  }
+
+  south_begins : south_sides 0 ≡ first_sides rule g x S
+  south_begins = by_rule rule
+    where
+      by_rule : (r : Corner)
+          → (let s : Sides = record { right = at_start r (trail_of g S x).before 0; left = at_start r (trail_of g S x).after 0 } in s)
+          ≡ first_sides r g x S
+      by_rule Never = same_sides _ _ _ _ (is_open_there g W x.x x.y _ _ (omega arith) (omega arith))
+          (is_open_there g E x.x x.y _ _ (omega arith) (omega arith))
+      by_rule One = refl
+
+  south_ray : IsRay g x S rule (λ k. cell x.x (x.y + k)) (begun rule (trail_of g S x)).free south_sides
+  south_ray = record {
+    starts = ap (λ (n : ℕ). cell x.x n) (omega arith);
+    begins = south_begins;
+    open_is = λ k. sym (is_open_there g S x.x (x.y + k) _ _ (omega arith) (omega arith));
+    goes = south_goes;
+    sides_are = south_later;
+  }
+    where
+      south_goes : (k : ℕ) → is_open g (cell x.x (x.y + k)) S ≡ true → ahead S (cell x.x (x.y + k)) ≡ Some (cell x.x (x.y + suc k))
+      south_goes k h = let next : x.y + k + 1 ≡ x.y + suc k = omega arith in
+          ap (λ (n : ℕ). Some (cell x.x n)) next
+
+      south_later : (k : ℕ) → (trail_of g S x).free (suc k) ≡ true → south_sides (suc k) ≡ sides_of g (cell x.x (x.y + suc k)) S
+      south_later k f =
+          same_sides _ _ _ _
+          (own rule (trail_of g S x).before k ∙ is_open_there g W _ _ _ _ (omega arith) (omega arith))
+          (own rule (trail_of g S x).after k ∙ is_open_there g E _ _ _ _ (omega arith) (omega arith))
+
+  pub told_south : rule ≡ g.corner → is_free g x ≡ true → IsGrid g
+      → IsTold g x S rule (begun rule (trail_of g S x))
+  told_south r f whole = told_by_ray g x S rule refl r f whole (λ k. cell x.x (x.y + k))
+      (begun rule (trail_of g S x)).free south_sides south_ray (begun rule (trail_of g S x))
+      (λ k. regrouped (not ((trail_of g S x).free (suc k))) (opens (begun rule (trail_of g S x)).before k)
+      (opens (begun rule (trail_of g S x)).after k)) (λ k. refl)
+
+  abbrev north_sides : ℕ → Sides
+  north_sides k = record {
+    right = (begun rule (trail_of g N x)).after k;
+    left = (begun rule (trail_of g N x)).before k;
+  }
+
+  north_begins : north_sides 0 ≡ first_sides rule g x N
+  north_begins = by_rule rule
+    where
+      by_rule : (r : Corner)
+          → (let s : Sides = record { right = at_start r (trail_of g N x).after 0; left = at_start r (trail_of g N x).before 0 } in s)
+          ≡ first_sides r g x N
+      by_rule Never = same_sides _ _ _ _ (is_open_there g E x.x x.y _ _ (omega arith) (omega arith))
+          (is_open_there g W x.x x.y _ _ (omega arith) (omega arith))
+      by_rule One = refl
+
+  north_ray : IsRay g x N rule (λ k. cell x.x (x.y - k)) (begun rule (trail_of g N x)).free north_sides
+  north_ray = record {
+    starts = ap (λ (n : ℕ). cell x.x n) (omega arith);
+    begins = north_begins;
+    open_is = λ k. sym (is_open_there g N x.x (x.y - k) _ _ (omega arith) (omega arith));
+    goes = north_goes;
+    sides_are = north_later;
+  }
+    where
+      north_goes : (k : ℕ) → is_open g (cell x.x (x.y - k)) N ≡ true → ahead N (cell x.x (x.y - k)) ≡ Some (cell x.x (x.y - suc k))
+      north_goes k h = north_ahead g x.x (x.y - k) (x.y - suc k) (omega arith) h
+
+      north_later : (k : ℕ) → (trail_of g N x).free (suc k) ≡ true → north_sides (suc k) ≡ sides_of g (cell x.x (x.y - suc k)) N
+      north_later k f =
+          let on_map = no_border_row g (x.x + 1) (x.y + 1 - suc k) f in
+          same_sides _ _ _ _
+          (own rule (trail_of g N x).after k ∙ is_open_there g E _ _ _ _ (omega arith) (omega arith))
+          (own rule (trail_of g N x).before k ∙ is_open_there g W _ _ _ _ (omega arith) (omega arith))
+
+  pub told_north : rule ≡ g.corner → is_free g x ≡ true → IsGrid g
+      → IsTold g x N rule (begun rule (trail_of g N x))
+  told_north r f whole = told_by_ray g x N rule refl r f whole (λ k. cell x.x (x.y - k))
+      (begun rule (trail_of g N x)).free north_sides north_ray (begun rule (trail_of g N x))
+      (λ k. turned (not ((trail_of g N x).free (suc k))) (opens (begun rule (trail_of g N x)).before k)
+      (opens (begun rule (trail_of g N x)).after k)) (λ k. refl)
+
+-- a scan's finding, by equal numbers
+pub found_along : (free : ℕ → ℕ → Bool) (way : Way) (rule : Corner) (l : LineData) (line place line' place' : ℕ)
+    (goal goal' : ℕ) (found : Option Halt) → line ≡ line' → place ≡ place' → goal ≡ goal'
+    → IsStart l free line' place'
+    → ((f : ℕ → ℕ → Bool) → IsStart l f line place → Finds (begun rule (trail_on f way line place)) goal found)
+    → Finds (begun rule (trail_on free way line' place')) goal' found
+found_along free way rule l line place line' place' goal goal' found e f h start finds =
+    subst (λ (n : ℕ). Finds (begun rule (trail_on free way line' place')) n found) h
+    (subst (λ (n : ℕ). Finds (begun rule (trail_on free way line' n)) goal found) f
+    (subst (λ (n : ℕ). Finds (begun rule (trail_on free way n place)) goal found) e
+    (finds free (subst (λ (n : ℕ). IsStart l free line n) (sym f)
+    (subst (λ (n : ℕ). IsStart l free n place') (sym e) start)))))
+
+-- the straight direction that is none of three
+pub is_north : (d : Dir) → is_diagonal d ≡ false → d ≢ E → d ≢ W → d ≢ S → d ≡ N
+is_north N h e w s = refl
+is_north E h e w s = absurd (e refl)
+is_north W h e w s = absurd (w refl)
+is_north S h e w s = absurd (s refl)
+is_north NE h e w s = absurd (cc)
+is_north SE h e w s = absurd (cc)
+is_north SW h e w s = absurd (cc)
+is_north NW h e w s = absurd (cc)
+
+-- what a scan in a straight direction tells
+pub told_on : (g : GridData) (x : Cell) (d : Dir) (rule : Corner) → is_diagonal d ≡ false → rule ≡ g.corner
+    → is_free g x ≡ true → IsGrid g → IsTold g x d rule (begun rule (trail_of g d x))
+told_on g x N rule h r f whole = told_north g x rule r f whole
+told_on g x E rule h r f whole = told_east g x rule r f whole
+told_on g x S rule h r f whole = told_south g x rule r f whole
+told_on g x W rule h r f whole = told_west g x rule r f whole
+told_on g x NE rule h r f whole = absurd (cc)
+told_on g x SE rule h r f whole = absurd (cc)
+told_on g x SW rule h r f whole = absurd (cc)
+told_on g x NW rule h r f whole = absurd (cc)

@@ -1,0 +1,225 @@
+-- Scans over several blocks.
+use Rattle.std.proofs.Common.{◌≡◌, ℕ, zero, suc, ◌+◌, ◌*◌, ◌-◌, ◌/◌, ◌<◌, ◌≤◌, ◌⊎◌, inl, inr, arith, Bool, true, false, not, ◌&&◌, ◌||◌, refl, ap, sym, ◌∙◌}
+use Rattle.std.specs.Prelude.{nat_lt, nat_le, min, if◌then◌else◌}
+use Rattle.std.proofs.lemmas.Bool.{cases_lt}
+use Rattle.std.proofs.lemmas.Bool.Decides.{nat_tests}
+use Rattle.grid_moves.specs.declared.Corner.{Corner}
+use Rattle.grid_moves.specs.declared.Corner.TheVariants.{Never, One}
+use Rattle.bit_grid.specs.Bits.{LineData}
+use Rattle.jump_block.specs.declared.word.Way.{Way}
+use Rattle.jump_block.specs.declared.word.Way.TheVariants.{Forward, Back}
+use Rattle.jump_block.specs.declared.word.Words.{Words}
+use Rattle.jump_block.specs.declared.block.Block.{Block}
+use Rattle.jump_block.specs.Trail.{Trail, IsClear, Halts, at_start, begun, along, trail_on}
+use Rattle.jump_block.specs.Word.{Meets, IsWordOf, IsBlockOf, IsAhead, moves_before, nth_word, edge_before, HasNext, next_block}
+use Rattle.jump_block.specs.Seek.{HasPassed}
+use Rattle.jump_block.specs.Scan.{IsStart, most_lanes, nearer}
+
+-- how many blocks past the first, and how many are left
+abbrev pub distance : Way → ℕ → ℕ → ℕ
+distance Forward from index = index - from / 512
+distance Back from index = from / 512 - index
+
+abbrev pub blocks_left : Way → ℕ → ℕ → ℕ
+blocks_left Forward blocks index = blocks - index
+blocks_left Back blocks index = index
+
+-- the block is the first or one past it
+abbrev pub IsOnWay : Way → ℕ → ℕ → Type 0
+IsOnWay Forward from index = from / 512 ≤ index
+IsOnWay Back from index = index ≤ from / 512
+
+-- a halt comes after all that is clear
+pub clear_halts : (t : Trail) (n passed : ℕ) (blocked : Bool) → IsClear t n → Halts t passed blocked → n ≤ passed
+clear_halts t n passed blocked clear here = by_place (cases_lt passed n)
+  where
+    by_place : (passed < n) ⊎ (n ≤ passed) → n ≤ passed
+    by_place (inl l) = absurd (let never = clear passed l in let there = here.here in cc)
+    by_place (inr l) = l
+
+-- what a scan has passed is free
+last_free : (t : Trail) (n : ℕ) → t.free 0 ≡ true → IsClear t n → t.free n ≡ true
+last_free t zero start clear = start
+last_free t (suc m) start clear = first_of (t.free (suc m)) _ _ (clear m (omega arith))
+  where
+    first_of : (a b c : Bool) → (not a || b || c) ≡ false → a ≡ true
+    first_of a b c h = grind arith
+
+along_start : (way : Way) (from : ℕ) → along way from 0 ≡ from
+along_start Forward from = omega arith
+along_start Back from = omega arith
+
+module _ (l : LineData) (free : ℕ → ℕ → Bool) (line from : ℕ) (start : IsStart l free line from) where
+  -- the start lies in a block of the line
+  pub start_inside : from / 512 < l.blocks
+  start_inside = by_place (cases_lt start.positions from)
+    where
+      by_place : (start.positions < from) ⊎ (from ≤ start.positions) → from / 512 < l.blocks
+      by_place (inl h) = absurd (let never = start.beyond from h in let there = start.starts in cc)
+      by_place (inr h) = let ample = start.shows.ample in omega (arith, ample)
+
+  pub line_inside : line + 1 < l.lines
+  line_inside = let all = start.shows.bordered in let above = start.above in omega arith
+
+  -- a further block
+  module _ (way : Way) (rule : Corner) (index : ℕ) (below : index < l.blocks) (on_way : IsOnWay way from index)
+      (clear : IsClear (begun rule (trail_on free way line from))
+      (moves_before way from (edge_before way (index * 512) 8))) where
+    free_there : free line (along way from (moves_before way from (edge_before way (index * 512) 8))) ≡ true
+    free_there = last_free (begun rule (trail_on free way line from)) _
+        (ap (λ (p : ℕ). free line p) (along_start way from) ∙ start.starts) clear
+
+    last_place : (p : ℕ) → along way from (moves_before way from (edge_before way (index * 512) 8)) ≡ p
+        → free line p ≡ true
+    last_place p e = ap (λ (q : ℕ). free line q) (sym e) ∙ free_there
+
+  forward_next : (index p : ℕ) → p ≡ index * 512 + 511 → free line p ≡ true → index + 1 < l.blocks
+  forward_next index p e there = by_place (cases_lt start.positions p)
+    where
+      by_place : (start.positions < p) ⊎ (p ≤ start.positions) → index + 1 < l.blocks
+      by_place (inl h) = absurd (let never = start.beyond p h in cc)
+      by_place (inr h) = let ample = start.shows.ample in omega (arith, ample)
+
+  back_next : (index : ℕ) → free line (index * 512) ≡ true → 0 < index
+  back_next zero there = absurd (let never = start.first in cc)
+  back_next (suc index) there = omega arith
+
+  pub goes_on : l.blocks ≤ 128 → (way : Way) (rule : Corner) (index : ℕ) → index < l.blocks
+      → IsOnWay way from index
+      → IsClear (begun rule (trail_on free way line from))
+      (moves_before way from (edge_before way (index * 512) 8))
+      → HasNext way index × (next_block way index < l.blocks) × IsOnWay way from (next_block way index)
+  goes_on few Forward rule index below on_way clear =
+      let there : from + (index * 512 + 8 * 64 - (from + 1)) ≡ index * 512 + 511 = omega arith in
+      let next = forward_next index _ there (free_there Forward rule index below on_way clear) in
+      (omega arith, next, omega arith)
+  goes_on few Back rule index below on_way clear =
+      let there : from - (from - (index * 512 + (8 - 8) * 64)) ≡ index * 512 = omega arith in
+      let next = back_next index (last_place Back rule index below on_way clear (index * 512) there) in
+      (next, omega arith, omega arith)
+
+-- blocks meet at their edges
+pub edges_meet : (way : Way) (index : ℕ) → HasNext way index
+    → edge_before way (next_block way index * 512) 0 ≡ edge_before way (index * 512) 8
+edges_meet Forward index h = omega arith
+edges_meet Back index h = omega arith
+
+pub edge_ahead : (way : Way) (from index : ℕ) → IsOnWay way from index → IsAhead way from (edge_before way (index * 512) 8)
+edge_ahead Forward from index h = omega arith
+edge_ahead Back from index h = omega arith
+
+-- a block ahead is what the begun trail has there
+its_own : (r : Corner) (side : ℕ → Bool) (way : Way) (from base word : ℕ)
+    → ((j k : ℕ) → j < 64 → Meets way from (base + j) k → (m : ℕ) × (k ≡ suc m))
+    → IsWordOf side way from base word → IsWordOf (at_start r side) way from base word
+its_own r side way from base word later here j k h m =
+    let more = later j k h m in here j k h m ∙ by_rule r more.0 more.1
+  where
+    by_rule : (r : Corner) (n : ℕ) → k ≡ suc n → side k ≡ at_start r side k
+    by_rule Never n e = refl
+    by_rule One n e = rw e refl
+
+later_words : (way : Way) (from start n : ℕ) → IsAhead way from (edge_before way start 0) → n < 8
+    → (j k : ℕ) → j < 64 → Meets way from (start + nth_word way n * 64 + j) k → (m : ℕ) × (k ≡ suc m)
+later_words Forward from start n a c j k h m = (k - 1, omega arith)
+later_words Back from start n a c j k h m = (k - 1, omega arith)
+
+pub block_ahead : (t : Trail) (rule : Corner) (way : Way) (from start : ℕ) (b : Block)
+    → IsAhead way from (edge_before way start 0) → IsBlockOf t way from start 0 b
+    → IsBlockOf (begun rule t) way from start 0 b
+block_ahead t rule way from start b ahead block n a c =
+    let there = block n a c in
+    record {
+      middle = there.middle;
+      before = its_own rule t.before way from (start + nth_word way n * 64) _
+          (later_words way from start n ahead c) there.before;
+      after = its_own rule t.after way from (start + nth_word way n * 64) _
+          (later_words way from start n ahead c) there.after;
+    }
+
+-- how many blocks are read
+pub first_distance : (way : Way) (from : ℕ) → distance way from (from / 512) ≡ 0
+first_distance Forward from = omega arith
+first_distance Back from = omega arith
+
+pub next_distance : (way : Way) (from index : ℕ) → IsOnWay way from index → HasNext way index
+    → distance way from (next_block way index) ≡ distance way from index + 1
+next_distance Forward from index h k = omega arith
+next_distance Back from index h k = omega arith
+
+pub passed_blocks : (way : Way) (from index : ℕ) → IsOnWay way from index
+    → distance way from index * 512 ≤ moves_before way from (edge_before way (index * 512) 8)
+passed_blocks Forward from index h = omega arith
+passed_blocks Back from index h = omega arith
+
+pub fewer_left : (way : Way) (blocks index : ℕ) → index < blocks → HasNext way index
+    → blocks_left way blocks (next_block way index) < blocks_left way blocks index
+fewer_left Forward blocks index h k = omega arith
+fewer_left Back blocks index h k = omega arith
+
+-- so many reads are within the bound
+pub within_most : (to_goal passed blocks : ℕ) → blocks * 512 ≤ passed + 512
+    → (0 < to_goal → blocks * 512 ≤ to_goal + 512)
+    → 3 * (blocks + 1) ≤ most_lanes (nearer to_goal passed)
+within_most to_goal passed blocks a b = by_test (nat_lt 0 to_goal) refl
+  where
+    by_test : (s : Bool) → nat_lt 0 to_goal ≡ s
+        → 3 * (blocks + 1) ≤ 3 * ((if s then min to_goal passed else passed) / 512 + 2)
+    by_test true e =
+        let ahead : 0 < to_goal = grind (arith, nat_tests) in
+        let near = b ahead in
+        omega arith
+    by_test false e = omega arith
+
+pub within_goal : (to_goal blocks : ℕ) → blocks * 512 ≤ to_goal + 512 → 3 * (blocks + 1) ≤ most_lanes to_goal
+within_goal to_goal blocks a = omega arith
+
+-- what the test of the goal says
+pub met : (to_goal n : ℕ) → (nat_lt 0 to_goal && nat_le to_goal n) ≡ true → (0 < to_goal) × (to_goal ≤ n)
+met to_goal n h = (grind (arith, nat_tests), grind (arith, nat_tests))
+
+pub not_met : (to_goal n : ℕ) → (nat_lt 0 to_goal && nat_le to_goal n) ≡ false → 0 < to_goal → n < to_goal
+not_met to_goal n h k = grind (arith, nat_tests)
+
+pub first_on_way : (way : Way) (from : ℕ) → IsOnWay way from (from / 512)
+first_on_way Forward from = omega arith
+first_on_way Back from = omega arith
+
+-- on to the next block
+module _ (way : Way) (from index next : ℕ) (is : next ≡ next_block way index) (has : HasNext way index)
+    (on_way : IsOnWay way from index) where
+  edges_next : edge_before way (next * 512) 0 ≡ edge_before way (index * 512) 8
+  edges_next = rw is (edges_meet way index has)
+
+  pub ahead_next : IsAhead way from (edge_before way (next * 512) 0)
+  ahead_next = rw edges_next (edge_ahead way from index on_way)
+
+  pub passed_next : (t : Trail) (last : Words) → HasPassed t way from (edge_before way (index * 512) 8) last
+      → HasPassed t way from (edge_before way (next * 512) 0) last
+  passed_next t last passed = rw edges_next passed
+
+  pub distance_next : distance way from next ≡ distance way from index + 1
+  distance_next = rw is (next_distance way from index on_way has)
+
+  -- the number of lanes that are read, and how far the goal is
+  pub read_next : (steps read old : ℕ) → read ≡ steps + 3 → steps ≡ old + 3 * (distance way from index + 1)
+      → read ≡ old + 3 * (distance way from next + 1)
+  read_next steps read old a b = let more = distance_next in omega arith
+
+  pub goal_next : (to_goal : ℕ) → moves_before way from (edge_before way (index * 512) 8) < to_goal
+      → distance way from next * 512 ≤ to_goal + 512
+  goal_next to_goal h =
+      let more = distance_next in
+      let all = passed_blocks way from index on_way in
+      omega arith
+
+  pub most_next : (t : Trail) (to_goal passed : ℕ) (blocked : Bool)
+      → IsClear t (moves_before way from (edge_before way (index * 512) 8)) → Halts t passed blocked
+      → (nat_lt 0 to_goal && nat_le to_goal (moves_before way from (edge_before way (index * 512) 8))) ≡ false
+      → 3 * (distance way from next + 1) ≤ most_lanes (nearer to_goal passed)
+  most_next t to_goal passed blocked clear halt unmet =
+      let more = distance_next in
+      let all = passed_blocks way from index on_way in
+      let after = clear_halts t _ passed blocked clear halt in
+      within_most to_goal passed (distance way from next) (omega (arith, more, all, after))
+      (λ h. goal_next to_goal (not_met to_goal _ unmet h))

@@ -1,0 +1,145 @@
+-- Where a scan halts, 64 cells at a time.
+use Rattle.std.proofs.Common.{◌≡◌, ℕ, zero, suc, ◌+◌, ◌*◌, ◌-◌, ◌/◌, ◌%◌, ◌<◌, ◌≤◌, ◌⊎◌, inl, inr, arith, Bool, true, false, not, ◌&&◌, ◌||◌, refl, ap, sym, ◌∙◌, subst, bit_and, bit_or}
+use Rattle.std.proofs.lemmas.Nat.{or_lt}
+use Rattle.std.proofs.lemmas.Bool.{cases_lt}
+use Rattle.bit_grid.specs.Bits.{is_set}
+use Rattle.bit_grid.proofs.Words.{set_or, set_raised, set_raised-lowest, set_lowered, set_none}
+use Rattle.jump_block.specs.declared.word.Way.{Way}
+use Rattle.jump_block.specs.declared.word.Way.TheVariants.{Forward, Back}
+use Rattle.jump_block.specs.declared.word.Words.{Words}
+use Rattle.std.specs.Prelude.{nat_eq}
+use Rattle.std.proofs.lemmas.Bool.Decides.{nat_tests}
+use Rattle.grid_moves.specs.declared.Corner.{Corner}
+use Rattle.grid_moves.specs.declared.Corner.TheVariants.{Never, One}
+use Rattle.jump_block.specs.Trail.{Trail, opens, halts, at_start, begun}
+use Rattle.jump_block.specs.Word.{Meets, IsWordOf, AreWordsOf, IsEdgeOf, IsOpened}
+use Rattle.jump_block.proofs.Bits.{set_top, set_top-above, set_bottom, set_bottom-below, set_past, set_apart}
+
+exchanged : (a b c d : Bool) → a ≡ c → b ≡ d → (a && not b) ≡ (not d && c)
+exchanged a b c d e f = grind arith
+
+or_first : (a b : Bool) → b ≡ false → (a || b) ≡ a
+or_first a b e = grind arith
+
+or_second : (a b : Bool) → a ≡ false → (a || b) ≡ b
+or_second a b e = grind arith
+
+module _ (side : ℕ → Bool) (from base word last : ℕ) (small : word < 18446744073709551616)
+    (small_last : last < 18446744073709551616) where
+  -- the bit before, with the carry of the word before
+  before_forward : IsWordOf side Forward from base word → IsEdgeOf side Forward from base last → (j k : ℕ)
+      → j < 64
+      → from + suc k ≡ base + j
+      → is_set (bit_or (word * 2 % 18446744073709551616) (last / 9223372036854775808)) j ≡ side k
+  before_forward here edge zero k h m =
+      set_or (word * 2 % 18446744073709551616) (last / 9223372036854775808) 0
+      ∙ or_second _ _ (set_raised-lowest word) ∙ set_top last small_last ∙ edge k (omega arith)
+  before_forward here edge (suc j) k h m =
+      set_or (word * 2 % 18446744073709551616) (last / 9223372036854775808) (suc j)
+      ∙ or_first _ _ (set_top-above last j small_last) ∙ set_raised word j h ∙ here j k (omega arith) (omega arith)
+
+  pub opened_forward : IsWordOf side Forward from base word → IsEdgeOf side Forward from base last → (j k : ℕ)
+      → j < 64 → from + suc k ≡ base + j
+      → is_set (bit_and word (18446744073709551615
+      - bit_or (word * 2 % 18446744073709551616) (last / 9223372036854775808))) j ≡ opens side k
+  opened_forward here edge j k h m =
+      set_apart word (bit_or (word * 2 % 18446744073709551616) (last / 9223372036854775808)) j
+      (or_lt 64 (word * 2 % 18446744073709551616) (last / 9223372036854775808) (omega arith) (omega arith)) h
+      ∙ exchanged _ _ _ _ (here j (suc k) h m) (before_forward here edge j k h m)
+
+  before_back : IsWordOf side Back from base word → IsEdgeOf side Back from (base + 64) last → (j k : ℕ)
+      → j < 64 → base + j + suc k ≡ from
+      → is_set (bit_or (word / 2) (last * 9223372036854775808 % 18446744073709551616)) j ≡ side k
+  before_back here edge j k h m = by_place (cases_lt j 63)
+    where
+      by_place : (j < 63) ⊎ (63 ≤ j)
+          → is_set (bit_or (word / 2) (last * 9223372036854775808 % 18446744073709551616)) j ≡ side k
+      by_place (inl l) =
+          set_or (word / 2) (last * 9223372036854775808 % 18446744073709551616) j
+          ∙ or_first _ _ (set_bottom-below last j l) ∙ set_lowered word j
+          ∙ here (suc j) k (omega arith) (omega arith)
+      by_place (inr l) =
+          let top : j ≡ 63 = omega arith in
+          rw top (set_or (word / 2) (last * 9223372036854775808 % 18446744073709551616) 63
+          ∙ or_second _ _ (set_lowered word 63 ∙ set_past word small) ∙ set_bottom last ∙ edge k (omega arith))
+
+  pub opened_back : IsWordOf side Back from base word → IsEdgeOf side Back from (base + 64) last → (j k : ℕ)
+      → j < 64 → base + j + suc k ≡ from
+      → is_set (bit_and word (18446744073709551615
+      - bit_or (word / 2) (last * 9223372036854775808 % 18446744073709551616))) j ≡ opens side k
+  opened_back here edge j k h m =
+      set_apart word (bit_or (word / 2) (last * 9223372036854775808 % 18446744073709551616)) j
+      (or_lt 64 (word / 2) (last * 9223372036854775808 % 18446744073709551616) (omega arith) (omega arith)) h
+      ∙ exchanged _ _ _ _ (here j (suc k) h m) (before_back here edge j k h m)
+
+pub opened_on_forward : (way : Way) → way ≡ Forward → (word last : ℕ) → word < 18446744073709551616
+    → last < 18446744073709551616 → IsOpened way word last (bit_and word (18446744073709551615
+    - bit_or (word * 2 % 18446744073709551616) (last / 9223372036854775808)))
+opened_on_forward way e word last a b = subst (λ (w : Way). IsOpened w word last (bit_and word
+    (18446744073709551615 - bit_or (word * 2 % 18446744073709551616) (last / 9223372036854775808)))) (sym e)
+    (λ side from base. opened_forward side from base word last a b)
+
+pub opened_on_back : (way : Way) → way ≡ Back → (word last : ℕ) → word < 18446744073709551616
+    → last < 18446744073709551616 → IsOpened way word last (bit_and word (18446744073709551615
+    - bit_or (word / 2) (last * 9223372036854775808 % 18446744073709551616)))
+opened_on_back way e word last a b = subst (λ (w : Way). IsOpened w word last (bit_and word
+    (18446744073709551615 - bit_or (word / 2) (last * 9223372036854775808 % 18446744073709551616)))) (sym e)
+    (λ side from base. opened_back side from base word last a b)
+
+-- all three together
+pub halts_there : (blocked one other middle j : ℕ) (t : Trail) (k : ℕ)
+    → is_set blocked j ≡ not (is_set middle j)
+    → is_set middle j ≡ t.free (suc k) → is_set one j ≡ opens t.before k → is_set other j ≡ opens t.after k
+    → is_set (bit_or (bit_or blocked one) other) j ≡ halts t k
+halts_there blocked one other middle j t k not_free free before after =
+    set_or (bit_or blocked one) other j
+    ∙ rw (set_or blocked one j, not_free, free, before, after) refl
+
+-- the words with which a scan begins
+module _ (rule : Corner) (bit : ℕ) (place : ℕ) (never : rule ≡ Never → bit ≡ 0)
+    (one : rule ≡ One → (j : ℕ) → j < 64 → is_set bit j ≡ nat_eq j place) (h : place < 64) (way : Way)
+    (base : ℕ) where
+  stays : (side : ℕ → Bool) (word : ℕ) → bit ≡ 0 → IsWordOf side way (base + place) base word
+      → IsWordOf side way (base + place) base (bit_or word bit)
+  stays side word e here j k l m = set_or word bit j
+      ∙ or_first _ _ (ap (λ (n : ℕ). is_set n j) e ∙ set_none j) ∙ here j k l m
+
+  at_place : (j k : ℕ) → Meets way (base + place) (base + j) k → nat_eq j place ≡ nat_eq k 0
+  at_place j k m = by_way way m
+    where
+      by_way : (w : Way) → Meets w (base + place) (base + j) k → nat_eq j place ≡ nat_eq k 0
+      by_way Forward m = grind (arith, nat_tests)
+      by_way Back m = grind (arith, nat_tests)
+
+  opened_there : (side : ℕ → Bool) (word : ℕ) → ((j : ℕ) → j < 64 → is_set bit j ≡ nat_eq j place)
+      → IsWordOf side way (base + place) base word
+      → IsWordOf (at_start One side) way (base + place) base (bit_or word bit)
+  opened_there side word is here j zero l m = set_or word bit j
+      ∙ or_true _ _ (is j l ∙ at_place j zero m)
+    where
+      or_true : (a b : Bool) → b ≡ true → (a || b) ≡ true
+      or_true a b e = grind arith
+  opened_there side word is here j (suc k) l m = set_or word bit j
+      ∙ or_first _ _ (is j l ∙ at_place j (suc k) m ∙ later) ∙ here j (suc k) l m
+    where
+      later : nat_eq (suc k) 0 ≡ false
+      later = grind (arith, nat_tests)
+
+  begun_side : (side : ℕ → Bool) (word : ℕ) → IsWordOf side way (base + place) base word
+      → IsWordOf (at_start rule side) way (base + place) base (bit_or word bit)
+  begun_side side word here = by_rule rule never one
+    where
+      by_rule : (r : Corner) → (r ≡ Never → bit ≡ 0)
+          → (r ≡ One → (j : ℕ) → j < 64 → is_set bit j ≡ nat_eq j place)
+          → IsWordOf (at_start r side) way (base + place) base (bit_or word bit)
+      by_rule Never n o = stays side word (n refl) here
+      by_rule One n o = opened_there side word (o refl) here
+
+  pub begun_words : (t : Trail) (w : Words) → AreWordsOf t way (base + place) base w
+      → AreWordsOf (begun rule t) way (base + place) base
+      (record { middle = w.middle; before = bit_or w.before bit; after = bit_or w.after bit })
+  begun_words t w are = record {
+    middle = are.middle;
+    before = begun_side t.before w.before are.before;
+    after = begun_side t.after w.after are.after;
+  }

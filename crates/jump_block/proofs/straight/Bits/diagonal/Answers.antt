@@ -1,0 +1,105 @@
+use Rattle.std.proofs.Common.{true, false, arith, sym, ◌∙◌}
+use Rattle.pruning.specs.First.{first_stop}
+use Rattle.jump_plain.proofs.Besides.{beyond_stuck}
+use Rattle.jump_plain.proofs.Reaching.{run_length-next, run_length-few}
+use Rattle.jump_plain.proofs.Diagonal.{is_stop-read, stops_nowhere, stops_here, stops_later}
+use Rattle.jump_block.proofs.Diagonals.{legal_next, free_next}
+use Rattle.jump_block.proofs.straight.Bits.diagonal.Goals as goal
+
+pub overflow_add-moves : goal.overflow_add-moves
+overflow_add-moves g c =
+    let grid = c.requires.stands.0 in
+    let are = c.requires.stands.1 in
+    let free = c.requires.stands.2 in
+    let there = c.run.invariant.there grid are free in
+    let legal = legal_next grid c.run.cell c.beyond-next.result c.args.d c.leads.result
+    (c.leads.ensures grid c.run.cell there.around there.free) c.run-test.true c.beyond-next.ensures in
+    let longer = run_length-next grid c.run.cell c.beyond-next.result c.args.d legal in
+    let few = run_length-few grid c.args.at c.args.d in
+    let wide = are.whole.sides.narrow in
+    let high = are.whole.sides.low in
+    let run = there.run in
+    omega arith
+
+pub read-around-requires-in-run : goal.read-around-requires-in-run
+read-around-requires-in-run g c =
+    let grid = c.requires.stands.0 in
+    let are = c.requires.stands.1 in
+    let free = c.requires.stands.2 in
+    let there = c.run.invariant.there grid are free in
+    let legal = legal_next grid c.run.cell c.beyond-next.result c.args.d c.leads.result
+    (c.leads.ensures grid c.run.cell there.around there.free) c.run-test.true c.beyond-next.ensures in
+    let next = free_next grid c.run.cell c.beyond-next.result c.args.d legal in
+    record { stands = (grid, are.whole, are.are_rows, next) }
+
+pub stops_at-requires-clause-stands : goal.stops_at-requires-clause-stands
+stops_at-requires-clause-stands g c =
+    let grid = c.requires.stands.0 in
+    let are = c.requires.stands.1 in
+    let free = c.requires.stands.2 in
+    let there = c.run.invariant.there grid are free in
+    let legal = legal_next grid c.run.cell c.beyond-next.result c.args.d c.leads.result
+    (c.leads.ensures grid c.run.cell there.around there.free) c.run-test.true c.beyond-next.ensures in
+    let next = free_next grid c.run.cell c.beyond-next.result c.args.d legal in
+    let around = c.read-around-in-run.ensures.around grid are.whole are.are_rows are.rule next in
+    (grid, are, next, around)
+
+pub returns-then-stops_at-clause-first : goal.returns-then-stops_at-clause-first
+returns-then-stops_at-clause-first g c = λ grid are free.
+    let there = c.run.invariant.there grid are free in
+    let legal = legal_next grid c.run.cell c.beyond-next.result c.args.d c.leads.result
+    (c.leads.ensures grid c.run.cell there.around there.free) c.run-test.true c.beyond-next.ensures in
+    let next = free_next grid c.run.cell c.beyond-next.result c.args.d legal in
+    let around = c.read-around-in-run.ensures.around grid are.whole are.are_rows are.rule next in
+    stops_here grid c.args.goal c.run.cell c.args.d c.run.moves
+    (first_stop grid c.args.goal c.args.at c.args.d) there.stop c.beyond-next.result legal
+    (is_stop-read grid c.args.goal c.args.d c.beyond-next.result c.requires.diagonal c.stops_at.result true
+    (c.stops_at.ensures.stops grid are next around) c.if-stops_at.true)
+
+pub run-smaller : goal.run-smaller
+run-smaller g c =
+    let grid = c.requires.stands.0 in
+    let are = c.requires.stands.1 in
+    let free = c.requires.stands.2 in
+    let there = c.run.invariant.there grid are free in
+    let legal = legal_next grid c.run.cell c.beyond-next.result c.args.d c.leads.result
+    (c.leads.ensures grid c.run.cell there.around there.free) c.run-test.true c.beyond-next.ensures in
+    let longer = run_length-next grid c.run.cell c.beyond-next.result c.args.d legal in
+    let few = run_length-few grid c.args.at c.args.d in
+    let wide = are.whole.sides.narrow in
+    let high = are.whole.sides.low in
+    let run = there.run in
+    omega arith
+
+pub run-preserved : goal.run-preserved
+run-preserved g c = record {
+  read = let before = c.run.invariant.read in
+      let reads = c.read-around-in-run.ensures.fewest in
+      let more = c.stops_at.ensures.more in
+      omega arith;
+  there = λ grid are free.
+      let there = c.run.invariant.there grid are free in
+      let legal = legal_next grid c.run.cell c.beyond-next.result c.args.d c.leads.result
+      (c.leads.ensures grid c.run.cell there.around there.free) c.run-test.true c.beyond-next.ensures in
+      let next = free_next grid c.run.cell c.beyond-next.result c.args.d legal in
+      let around = c.read-around-in-run.ensures.around grid are.whole are.are_rows are.rule next in
+      record {
+        free = next;
+        around = around;
+        stop = stops_later grid c.args.goal c.run.cell c.args.d c.run.moves
+            (first_stop grid c.args.goal c.args.at c.args.d) there.stop c.beyond-next.result legal
+            (is_stop-read grid c.args.goal c.args.d c.beyond-next.result c.requires.diagonal c.stops_at.result
+            false (c.stops_at.ensures.stops grid are next around) c.if-stops_at.false);
+        run = let longer = run_length-next grid c.run.cell c.beyond-next.result c.args.d legal in
+            let run = there.run in
+            omega arith;
+      };
+}
+
+pub returns-clause-first : goal.returns-clause-first
+returns-clause-first g c = λ grid are free.
+    let there = c.run.invariant.there grid are free in
+    stops_nowhere grid c.args.goal c.run.cell c.args.d c.run.moves
+    (first_stop grid c.args.goal c.args.at c.args.d) there.stop
+    (beyond_stuck grid c.run.cell c.args.d
+    (sym (c.leads.ensures grid c.run.cell there.around there.free) ∙ c.run-test.false))

@@ -1,0 +1,6 @@
+pub mod Trail
+pub mod Word
+pub mod Seek
+pub mod Scan
+pub mod Source
+pub mod Patch

@@ -1,0 +1,34 @@
+-- Scans along a line, over as many blocks as it takes.
+use Rattle.std.specs.Prelude.{◌≡◌, ℕ, ◌+◌, ◌*◌, ◌/◌, ◌<◌, ◌≤◌, Bool, true, false, nat_lt, min, if◌then◌else◌, Option, Some, None}
+use Rattle.bit_grid.specs.Bits.{LineData, Shows}
+use Rattle.jump_block.specs.declared.block.Halt.{Halt}
+use Rattle.jump_block.specs.Trail.{Trail, Halts, IsClear}
+
+-- a scan starts at this place of this line, at a free cell of the map that the lines show
+pub record IsStart (l : LineData) (free : ℕ → ℕ → Bool) (line from : ℕ) : Type 0 where
+  pub count : ℕ
+  pub positions : ℕ
+  pub shows : Shows l count positions free
+  pub below : 1 ≤ line
+  pub above : line ≤ count
+  pub starts : free line from ≡ true
+  pub first : free line 0 ≡ false
+  pub beyond : (p : ℕ) → positions < p → free line p ≡ false
+
+-- how many blocks of three lines a scan over so many moves reads at most
+abbrev pub most_lanes : ℕ → ℕ
+most_lanes moves = 3 * (moves / 512 + 2)
+
+-- the nearer of the goal, so many moves on, or 0 where it is not ahead, and a number of moves
+abbrev pub nearer : ℕ → ℕ → ℕ
+nearer to_goal moves = if nat_lt 0 to_goal then min to_goal moves else moves
+
+-- a scan finds where it halts, or else that nothing halts it before the goal
+abbrev pub Finds : Trail → ℕ → Option Halt → Type 0
+Finds t to_goal (Some h) = Halts t h.passed h.blocked
+Finds t to_goal None = (0 < to_goal) × IsClear t to_goal
+
+-- how far a scan looks
+abbrev pub looked : ℕ → Option Halt → ℕ
+looked to_goal (Some h) = nearer to_goal h.passed
+looked to_goal None = to_goal

@@ -1,0 +1,18 @@
+-- What the search of a block finds.
+use Rattle.std.specs.Prelude.{ℕ}
+use Rattle.jump_block.specs.declared.word.Way.{Way}
+use Rattle.jump_block.specs.declared.word.Words.{Words}
+use Rattle.jump_block.specs.declared.block.Seek.{Seek}
+use Rattle.jump_block.specs.declared.block.Seek.TheVariants.{Halted, Passed}
+use Rattle.jump_block.specs.Trail.{Trail, Halts, IsClear}
+use Rattle.jump_block.specs.Word.{AreEdgesOf, moves_before}
+
+-- the scan comes to the edge, and these are the last words before it
+pub record HasPassed (t : Trail) (way : Way) (from edge : ℕ) (w : Words) : Type 0 where
+  pub edges : AreEdgesOf t way from edge w
+  pub clear : IsClear t (moves_before way from edge)
+
+-- it halts before the edge, or comes to it
+abbrev pub IsSought : Trail → Way → ℕ → ℕ → Seek → Type 0
+IsSought t way from edge (Halted h) = Halts t h.passed h.blocked
+IsSought t way from edge (Passed w) = HasPassed t way from edge w

@@ -1,0 +1,74 @@
+-- Jumps over bits: the grids for which they stand, where a scan on one halts, and how many cells it covers.
+use Rattle.std.specs.Prelude.{◌≡◌, ⊤, ℕ, ◌+◌, ◌<◌, Bool, true, false, if◌then◌else◌, Option, Some, None}
+use Rattle.grid_moves.specs.declared.Cell.{Cell}
+use Rattle.grid_moves.specs.declared.Corner.{Corner}
+use Rattle.grid_moves.specs.declared.Dir.{Dir}
+use Rattle.grid_moves.specs.declared.Dir.TheVariants.{N, E, S, W}
+use Rattle.grid_moves.specs.Grid.{GridData, IsGrid}
+use Rattle.bit_grid.specs.Bits.{LineData, AreRowsOf, AreColumnsOf, is_free_from_one}
+use Rattle.pruning.specs.First.{run_length}
+use Rattle.jump_plain.specs.declared.scan.Reach.{Reach}
+use Rattle.jump_plain.specs.Reach as reach
+use Rattle.jump_plain.specs.Reach.{mark_ahead}
+use Rattle.jump_block.specs.declared.block.Halt.{Halt}
+use Rattle.jump_block.specs.declared.word.Way.TheVariants.{Forward, Back}
+use Rattle.jump_block.specs.Trail.{Trail, trail_on}
+
+-- the rows and the columns are the bits of this grid, which has this rule
+pub record AreItsBits (rows columns : LineData) (corner : Corner) (g : GridData) : Type 0 where
+  pub whole : IsGrid g
+  pub are_rows : AreRowsOf rows g
+  pub are_columns : AreColumnsOf columns g
+  pub rule : corner ≡ g.corner
+
+-- the same, and it has these sides
+pub record AreJumpsOn (rows columns : LineData) (width height : ℕ) (corner : Corner) (g : GridData) : Type 0 where
+  pub bits : AreItsBits rows columns corner g
+  pub wide : width ≡ g.width
+  pub high : height ≡ g.height
+
+-- to the east or the south a scan goes forward, and to the west or the north back
+abbrev pub is_forward : Dir → Bool
+is_forward E = true
+is_forward S = true
+is_forward _ = false
+
+abbrev pub is_back : Dir → Bool
+is_back W = true
+is_back N = true
+is_back _ = false
+
+-- cells by the row or the column that is the line
+abbrev pub by_rows : GridData → ℕ → ℕ → Bool
+by_rows g line place = is_free_from_one g place line
+
+abbrev pub by_columns : GridData → ℕ → ℕ → Bool
+by_columns g line place = is_free_from_one g line place
+
+-- what a straight scan from x passes
+abbrev pub trail_of : GridData → Dir → Cell → Trail
+trail_of g E x = trail_on (by_rows g) Forward (x.y + 1) (x.x + 1)
+trail_of g W x = trail_on (by_rows g) Back (x.y + 1) (x.x + 1)
+trail_of g S x = trail_on (by_columns g) Forward (x.x + 1) (x.y + 1)
+trail_of g _ x = trail_on (by_columns g) Back (x.x + 1) (x.y + 1)
+
+-- how far a scan reaches that halts there
+abbrev pub reach_of_halt : Corner → Halt → Reach
+reach_of_halt rule h =
+    if h.blocked then record { moves = h.passed; marked = false }
+    else record { moves = h.passed + mark_ahead rule; marked = true }
+
+-- the first stop, told where the scan halts, or else that the goal is met before
+abbrev pub stop_of : Corner → Option Halt → ℕ → Option ℕ
+stop_of rule (Some h) to_goal = reach.stop_of (reach_of_halt rule h) to_goal
+stop_of rule None to_goal = Some to_goal
+
+-- so few moves that one more can be counted
+abbrev pub HasFew : Option Halt → Type 0
+HasFew (Some h) = h.passed < 65535
+HasFew None = ⊤
+
+-- how many cells a straight scan covers: up to the stop, or to the end of the legal run and one more
+abbrev pub scanned : GridData → Cell → Dir → Option ℕ → ℕ
+scanned g x d (Some k) = k
+scanned g x d None = run_length g x d + 1

@@ -1,0 +1,164 @@
+//! Blocks of 512 places, searched word by word.
+
+ghost use Rattle.std.specs.Prelude.{◌≡◌, ℕ, ◌+◌, ◌*◌, ◌-◌, ◌/◌, ◌<◌, ◌≤◌, Bool, length};
+ghost use Rattle.bit_grid.specs.Bits.{Shows};
+ghost use Rattle.jump_block.specs.Trail as trails;
+ghost use Rattle.jump_block.specs.Trail.{Trail, IsClear, begun, trail_on};
+ghost use Rattle.jump_block.specs.Word as spec;
+ghost use Rattle.jump_block.specs.Word.{AreEdgesOf, IsBlockOf, IsAhead, edge_before, moves_before, words_of, nth_word};
+ghost use Rattle.jump_block.specs.Seek.{IsSought};
+
+use crate::word::{Way, Words, begun, first, halts, past};
+use bit_grid::Lines;
+use grid_moves::Corner;
+use std::sync::ledger::Ledger;
+use steps::Steps;
+
+/// The same block of three lines that lie side by side.
+#[derive(Clone, Copy)]
+pub(crate) struct Block {
+    pub(crate) middle: [u64; 8],
+    pub(crate) before: [u64; 8],
+    pub(crate) after: [u64; 8],
+}
+
+/// Where a scan halts.
+#[derive(Clone, Copy)]
+pub(crate) struct Halt {
+    /// How many moves it makes before.
+    pub(crate) passed: u16,
+    /// Whether the next cell is blocked; else a side opens there.
+    pub(crate) blocked: bool,
+}
+
+/// What the search of a block finds: where the scan halts, or the last words that it passes.
+#[derive(Clone, Copy)]
+pub(crate) enum Seek {
+    Halted(Halt),
+    Passed(Words),
+}
+
+// The place in the block of the i-th word on the way.
+#[inline(always)]
+fn nth_word(way: Way, i: u32) -> u32
+    requires { i < 8 }
+    ensures is { result ≡ nth_word way i }
+    ensures small { result < 8 }
+{
+    match way {
+        Way::Forward => i,
+        Way::Back => 7 - i,
+    }
+}
+
+// How many moves are made before the one to a place.
+#[inline(always)]
+fn moves_short_of(way: Way, from: u32, place: u32) -> u16
+    requires place { place < 65536 }
+    requires from { from < 65536 }
+    ensures { result ≡ spec.moves_short_of way from place }
+{
+    match way {
+        Way::Forward => place.saturating_sub(from + 1) as u16,
+        Way::Back => from.saturating_sub(place + 1) as u16,
+    }
+}
+
+// Where a scan halts, told the bits of a word at which it does, and the word's first place.
+#[inline(always)]
+fn halt_at(way: Way, middle: u64, found: u64, from: u32, base: u32) -> Halt
+    requires some { 0 < found }
+    requires small { base + 64 ≤ 65536 }
+    requires start { from < 65536 }
+    ensures { (t : Trail) (n : ℕ) → spec.IsFound t way from base n middle found
+        → trails.Halts t result.passed result.blocked }
+{
+    let bit = first(way, found);
+    Halt {
+        passed: moves_short_of(way, from, base + bit),
+        blocked: middle >> bit & 1 == 0,
+    }
+}
+
+impl Block {
+    /// Reads a block of a line and of the lines beside it.
+    #[inline(always)]
+    pub(crate) fn read<L: Ledger>(
+        lines: &Lines,
+        line: u32,
+        index: u32,
+        steps: &mut Steps<L>,
+    ) -> Block
+        requires line { 1 ≤ line }
+        requires few { line < 65536 }
+        requires inside { line + 1 < lines.now.lines }
+        requires index { index < lines.now.blocks }
+        ensures shown { (count positions : ℕ) (free : ℕ → ℕ → Bool) → Shows lines.now count positions free
+            → (way : Way) (from : ℕ)
+            → IsBlockOf (trail_on free way line from) way from (index * 512) 0 result }
+        ensures three_steps { steps.new ≡ steps.old + 3 }
+    {
+        Block {
+            middle: lines.lane(line, index, steps).to_array(),
+            before: lines.lane(line - 1, index, steps).to_array(),
+            after: lines.lane(line + 1, index, steps).to_array(),
+        }
+    }
+
+    // The words of this number.
+    #[inline(always)]
+    fn words(&self, w: u32) -> Words
+        requires { w < 8 }
+        ensures { result ≡ words_of self.now w }
+    {
+        let w = w as usize;
+        Words {
+            middle: self.middle[w],
+            before: self.before[w],
+            after: self.after[w],
+        }
+    }
+
+    /// Searches the block from the i-th word on the way, told the words before.
+    #[inline(always)]
+    pub(crate) fn seek(&self, way: Way, i: u32, last: Words, from: u32, start: u32) -> Seek
+        requires some { i ≤ 8 }
+        requires small { start + 512 ≤ 65536 }
+        requires ahead { IsAhead way from (edge_before way start i) }
+        requires from { from < 65536 }
+        ensures { (t : Trail) → IsBlockOf t way from start i self.now
+            → AreEdgesOf t way from (edge_before way start i) last
+            → IsClear t (moves_before way from (edge_before way start i))
+            → IsSought t way from (edge_before way start 8) result }
+    {
+        let mut last = last;
+        for n in i..8 {
+            let w = nth_word(way, n);
+            let words = self.words(w);
+            let found = halts(way, words, last);
+            if found != 0 {
+                return Seek::Halted(halt_at(way, words.middle, found, from, start + w * 64));
+            }
+            last = words;
+        }
+        Seek::Passed(last)
+    }
+
+    /// Searches the block in which a scan starts.
+    #[inline(always)]
+    pub(crate) fn seek_start(&self, way: Way, rule: Corner, from: u32, start: u32) -> Seek
+        requires small { start + 512 ≤ 65536 }
+        requires low { start ≤ from }
+        requires high { from < start + 512 }
+        ensures { (t : Trail) → IsBlockOf t way from start 0 self.now
+            → IsSought (begun rule t) way from (edge_before way start 8) result }
+    {
+        let (w, place) = ((from - start) / 64, (from - start) % 64);
+        let words = begun(rule, self.words(w), place);
+        let found = halts(way, words, words) & past(way, place);
+        if found != 0 {
+            return Seek::Halted(halt_at(way, words.middle, found, from, start + w * 64));
+        }
+        self.seek(way, nth_word(way, w) + 1, words, from, start)
+    }
+}

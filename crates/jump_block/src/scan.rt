@@ -1,0 +1,92 @@
+//! Scans along a line, block by block.
+
+ghost use Rattle.std.specs.Prelude.{◌≡◌, ℕ, ◌+◌, ◌-◌, ◌*◌, ◌/◌, ◌<◌, ◌≤◌, ◌&&◌, Bool, nat_lt, nat_le};
+ghost use Rattle.jump_block.specs.Trail.{begun, trail_on};
+ghost use Rattle.jump_block.specs.Scan.{IsStart, Finds, looked, most_lanes};
+ghost use Rattle.jump_block.specs.Word as spec;
+
+use crate::block::{Block, Halt, Seek};
+use crate::word::Way;
+use bit_grid::Lines;
+use grid_moves::Corner;
+use std::sync::ledger::Ledger;
+use steps::Steps;
+
+/// Where a scan starts.
+#[derive(Clone, Copy)]
+pub(crate) struct Start {
+    pub(crate) line: u32,
+    pub(crate) place: u32,
+    /// How many moves on the goal lies, or 0 where it does not lie ahead.
+    pub(crate) to_goal: u32,
+}
+
+// The number of moves that lead to the block's last place on the way.
+#[inline(always)]
+fn moves_through(way: Way, from: u32, start: u32) -> u32
+    requires start { start + 512 ≤ 65536 }
+    requires from { from < 65536 }
+    ensures { result ≡ spec.moves_before way from (spec.edge_before way start 8) }
+{
+    match way {
+        Way::Forward => (start + 512).saturating_sub(from + 1),
+        Way::Back => from.saturating_sub(start),
+    }
+}
+
+// Whether the goal is among the next so many cells.
+#[inline(always)]
+fn is_met(to_goal: u32, moves: u32) -> bool
+    ensures { result ≡ (nat_lt 0 to_goal && nat_le to_goal moves) }
+{
+    0 < to_goal && to_goal <= moves
+}
+
+// The next block on the way.
+#[inline(always)]
+fn next_block(way: Way, index: u32) -> u32
+    requires more { spec.HasNext way index }
+    ensures { result ≡ spec.next_block way index }
+{
+    match way {
+        Way::Forward => index + 1,
+        Way::Back => index - 1,
+    }
+}
+
+/// Scans along a line from a free cell: finds where the scan halts, or `None` where the goal is met before.
+///
+/// It reads three blocks at a time: of the line, and of those beside it. The next ones are read only where
+/// neither a halt nor the goal is found in those at hand.
+#[inline(always)]
+pub(crate) fn scan<L: Ledger>(
+    way: Way,
+    rule: Corner,
+    lines: &Lines,
+    start: Start,
+    steps: &mut Steps<L>,
+) -> Option<Halt>
+    requires starts { (free : ℕ → ℕ → Bool) × IsStart lines.now free start.line start.place }
+    requires few { lines.now.lines < 65536 }
+    requires short { lines.now.blocks ≤ 128 }
+    ensures finds { (free : ℕ → ℕ → Bool) → IsStart lines.now free start.line start.place
+        → Finds (begun rule (trail_on free way start.line start.place)) start.to_goal result }
+    ensures most { steps.new ≤ steps.old + most_lanes (looked start.to_goal result) }
+    ensures fewest { steps.old + 3 ≤ steps.new }
+{
+    let mut index = start.place / 512;
+    let block = Block::read(lines, start.line, index, steps);
+    let mut last = match block.seek_start(way, rule, start.place, index * 512) {
+        Seek::Halted(halt) => return Some(halt),
+        Seek::Passed(words) => words,
+    };
+    'blocks: while !is_met(start.to_goal, moves_through(way, start.place, index * 512)) {
+        index = next_block(way, index);
+        let block = Block::read(lines, start.line, index, steps);
+        last = match block.seek(way, 0, last, start.place, index * 512) {
+            Seek::Halted(halt) => return Some(halt),
+            Seek::Passed(words) => words,
+        };
+    }
+    None
+}

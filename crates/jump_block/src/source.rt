@@ -1,0 +1,157 @@
+//! Bits of a grid as a source of jumps.
+
+ghost use Rattle.std.specs.Prelude.{◌≡◌, ℕ, ◌+◌, ◌≤◌, true, IsTrue, None};
+ghost use Rattle.grid_moves.specs.Grid.{GridData, is_free};
+ghost use Rattle.pruning.specs.Allowed.{allowed_dirs};
+ghost use Rattle.pruning.specs.First as first;
+ghost use Rattle.pruning.specs.Stop.{IsFirstStop};
+ghost use Rattle.jump_block.specs.Scan.{most_lanes};
+ghost use Rattle.jump_block.specs.Source.{AreItsBits, AreJumpsOn, is_forward, is_back, scanned};
+
+use crate::patch::{MIDDLE, Patch};
+use crate::straight::Bits;
+use arrayvec::ArrayVec;
+use bit_grid::{Columns, Rows};
+use grid_moves::{Cell, Corner, Dir, Terrain};
+use pruning::{Arrival, JumpSource, allowed};
+use std::sync::ledger::Ledger;
+use steps::Steps;
+
+/// The jumps on the grid whose bits these are, with the grid's sides and corner rule. A step is the reading of
+/// one block; no memory is taken.
+#[derive(Clone, Copy)]
+pub struct BlockJumps<'a> {
+    pub rows: Rows<'a>,
+    pub columns: Columns<'a>,
+    pub width: u16,
+    pub height: u16,
+    pub corner: Corner,
+}
+
+impl<'a> Bits<'a> {
+    // After how many moves a jump stops. Each direction has loops of its own, in which it is a constant.
+    #[inline(never)]
+    fn stop<L: Ledger>(&self, at: Cell, d: Dir, goal: Cell, steps: &mut Steps<L>) -> Option<u16>
+        requires stands { (g : GridData) × AreItsBits self.now.rows.now self.now.columns.now self.now.corner g
+            × (is_free g at ≡ true) }
+        ensures first { (g : GridData)
+            → AreItsBits self.now.rows.now self.now.columns.now self.now.corner g → is_free g at ≡ true
+            → result ≡ first.first_stop g goal at d }
+        ensures fewest { steps.old + 3 ≤ steps.new }
+    {
+        match d {
+            Dir::N => self.straight(at, Dir::N, goal, steps),
+            Dir::NE => self.diagonal(at, Dir::NE, goal, steps),
+            Dir::E => self.straight(at, Dir::E, goal, steps),
+            Dir::SE => self.diagonal(at, Dir::SE, goal, steps),
+            Dir::S => self.straight(at, Dir::S, goal, steps),
+            Dir::SW => self.diagonal(at, Dir::SW, goal, steps),
+            Dir::W => self.straight(at, Dir::W, goal, steps),
+            Dir::NW => self.diagonal(at, Dir::NW, goal, steps),
+        }
+    }
+
+    // The allowed directions.
+    fn allowed<L: Ledger>(&self, at: Cell, by: Arrival, steps: &mut Steps<L>) -> ArrayVec<Dir, 8>
+        requires stands { (g : GridData) × AreItsBits self.now.rows.now self.now.columns.now self.now.corner g
+            × (is_free g at ≡ true) }
+        ensures rule { (g : GridData)
+            → AreItsBits self.now.rows.now self.now.columns.now self.now.corner g → is_free g at ≡ true
+            → result.items ≡ allowed_dirs g at by }
+        ensures fewest { steps.old + 3 ≤ steps.new }
+    {
+        let around = Patch::read(self.rows, self.corner, at, steps);
+        let _whole = around.width();
+        allowed(&around, MIDDLE, by)
+    }
+}
+
+impl<'a> BlockJumps<'a> {
+    // The bits alone.
+    #[inline(always)]
+    fn bits(&self) -> Bits<'a>
+        ensures rows { result.rows.now ≡ self.now.rows.now }
+        ensures columns { result.columns.now ≡ self.now.columns.now }
+        ensures corner { result.corner ≡ self.now.corner }
+    {
+        Bits {
+            rows: self.rows,
+            columns: self.columns,
+            corner: self.corner,
+        }
+    }
+
+    /// After how many moves a jump to the east or to the south stops: the first stop.
+    ///
+    /// Let `k` be that number, or, where there is no stop, the length of the legal run and one. It reads at
+    /// most `3·(k/512 + 2)` blocks.
+    pub fn scan_forward<L: Ledger>(
+        &self,
+        at: Cell,
+        d: Dir,
+        goal: Cell,
+        steps: &mut Steps<L>,
+    ) -> Option<u16>
+        requires stands { (g : GridData) × AreJumpsOn self.now.rows.now self.now.columns.now self.now.width
+            self.now.height self.now.corner g × IsTrue (is_free g at) × IsTrue (is_free g goal) }
+        requires forward { is_forward d ≡ true }
+        ensures first { (g : GridData) → AreJumpsOn self.now.rows.now self.now.columns.now self.now.width
+            self.now.height self.now.corner g → IsTrue (is_free g at) → IsTrue (is_free g goal)
+            → IsFirstStop g goal at d result }
+        ensures most { (g : GridData) → AreJumpsOn self.now.rows.now self.now.columns.now self.now.width
+            self.now.height self.now.corner g → IsTrue (is_free g at) → IsTrue (is_free g goal)
+            → steps.new ≤ steps.old + most_lanes (scanned g at d result) }
+        ensures fewest { steps.old + 3 ≤ steps.new }
+    {
+        self.bits().straight(at, d, goal, steps)
+    }
+
+    /// After how many moves a jump to the west or to the north stops: the first stop.
+    ///
+    /// Let `k` be that number, or, where there is no stop, the length of the legal run and one. It reads at
+    /// most `3·(k/512 + 2)` blocks.
+    pub fn scan_back<L: Ledger>(
+        &self,
+        at: Cell,
+        d: Dir,
+        goal: Cell,
+        steps: &mut Steps<L>,
+    ) -> Option<u16>
+        requires stands { (g : GridData) × AreJumpsOn self.now.rows.now self.now.columns.now self.now.width
+            self.now.height self.now.corner g × IsTrue (is_free g at) × IsTrue (is_free g goal) }
+        requires back { is_back d ≡ true }
+        ensures first { (g : GridData) → AreJumpsOn self.now.rows.now self.now.columns.now self.now.width
+            self.now.height self.now.corner g → IsTrue (is_free g at) → IsTrue (is_free g goal)
+            → IsFirstStop g goal at d result }
+        ensures most { (g : GridData) → AreJumpsOn self.now.rows.now self.now.columns.now self.now.width
+            self.now.height self.now.corner g → IsTrue (is_free g at) → IsTrue (is_free g goal)
+            → steps.new ≤ steps.old + most_lanes (scanned g at d result) }
+        ensures fewest { steps.old + 3 ≤ steps.new }
+    {
+        self.bits().straight(at, d, goal, steps)
+    }
+}
+
+impl<'a> JumpSource for BlockJumps<'a> {
+    ghost StandsFor = { λ j g. AreJumpsOn j.rows.now j.columns.now j.width j.height j.corner g };
+
+    ghost most = { λ _. None };
+
+    ghost fewest = { λ _. 3 };
+
+    fn width(&self) -> u16 {
+        self.width
+    }
+
+    fn height(&self) -> u16 {
+        self.height
+    }
+
+    fn stop<L: Ledger>(&self, at: Cell, d: Dir, goal: Cell, steps: &mut Steps<L>) -> Option<u16> {
+        self.bits().stop(at, d, goal, steps)
+    }
+
+    fn allowed<L: Ledger>(&self, at: Cell, by: Arrival, steps: &mut Steps<L>) -> ArrayVec<Dir, 8> {
+        self.bits().allowed(at, by, steps)
+    }
+}

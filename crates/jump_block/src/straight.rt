@@ -1,0 +1,124 @@
+//! Straight jumps: a scan along a row or a column, and the first stop that follows from where it halts.
+
+ghost use Rattle.std.specs.Prelude.{◌≡◌, ℕ, ◌+◌, ◌≤◌, Bool, false, true, IsTrue};
+ghost use Rattle.grid_moves.specs.Grid.{GridData, is_free};
+ghost use Rattle.pruning.specs.Turns.{is_diagonal};
+ghost use Rattle.pruning.specs.First as first;
+ghost use Rattle.jump_plain.specs.Reach as reach;
+ghost use Rattle.jump_block.specs.Trail.{begun};
+ghost use Rattle.jump_block.specs.Scan.{Finds, looked, most_lanes};
+ghost use Rattle.jump_block.specs.Source as spec;
+ghost use Rattle.jump_block.specs.Source.{AreItsBits, trail_of, scanned};
+
+use crate::block::Halt;
+use crate::scan::{Start, scan};
+use crate::word::Way;
+use bit_grid::{Columns, Rows};
+use grid_moves::{Cell, Corner, Dir};
+use std::sync::ledger::Ledger;
+use steps::Steps;
+
+// The number of moves in a straight direction that lead from one cell to another, or 0 where none do.
+#[inline(always)]
+fn moves_to(d: Dir, from: Cell, to: Cell) -> u16
+    ensures { result ≡ reach.moves_to d from to }
+{
+    match d {
+        Dir::N if from.x == to.x => from.y.saturating_sub(to.y),
+        Dir::S if from.x == to.x => to.y.saturating_sub(from.y),
+        Dir::E if from.y == to.y => to.x.saturating_sub(from.x),
+        Dir::W if from.y == to.y => from.x.saturating_sub(to.x),
+        _ => 0,
+    }
+}
+
+// The first stop, told where the scan halts: the goal where it is met before, else the mark, if there is one.
+// Where no corner is cut the mark is the next cell's, and else that of the cell where the scan halts.
+#[inline(always)]
+fn stop_of(rule: Corner, found: Option<Halt>, to_goal: u16) -> Option<u16>
+    requires few { spec.HasFew found }
+    ensures { result ≡ spec.stop_of rule found to_goal }
+{
+    let Some(halt) = found else {
+        return Some(to_goal);
+    };
+    let ahead = match rule {
+        Corner::Never if !halt.blocked => 1,
+        _ => 0,
+    };
+    let moves = halt.passed + ahead;
+    if 0 < to_goal && to_goal <= moves {
+        Some(to_goal)
+    } else if halt.blocked {
+        None
+    } else {
+        Some(moves)
+    }
+}
+
+/// The bits of a grid as jumps read them.
+#[derive(Clone, Copy)]
+pub(crate) struct Bits<'a> {
+    pub(crate) rows: Rows<'a>,
+    pub(crate) columns: Columns<'a>,
+    pub(crate) corner: Corner,
+}
+
+impl<'a> Bits<'a> {
+    // Where a straight scan halts, or `None` where the goal, so many moves on, is met before.
+    #[inline(always)]
+    fn halt<L: Ledger>(&self, at: Cell, d: Dir, to_goal: u16, steps: &mut Steps<L>) -> Option<Halt>
+        requires stands { (g : GridData) × AreItsBits self.now.rows.now self.now.columns.now self.now.corner g
+            × (is_free g at ≡ true) }
+        requires straight { is_diagonal d ≡ false }
+        ensures finds { (g : GridData)
+            → AreItsBits self.now.rows.now self.now.columns.now self.now.corner g → is_free g at ≡ true
+            → Finds (begun self.now.corner (trail_of g d at)) to_goal result }
+        ensures most { steps.new ≤ steps.old + most_lanes (looked to_goal result) }
+        ensures fewest { steps.old + 3 ≤ steps.new }
+    {
+        let (x, y) = (u32::from(at.x) + 1, u32::from(at.y) + 1);
+        let to_goal = u32::from(to_goal);
+        let along_row = Start {
+            line: y,
+            place: x,
+            to_goal,
+        };
+        let along_column = Start {
+            line: x,
+            place: y,
+            to_goal,
+        };
+        match d {
+            Dir::E => scan(Way::Forward, self.corner, self.rows, along_row, steps),
+            Dir::W => scan(Way::Back, self.corner, self.rows, along_row, steps),
+            Dir::S => scan(Way::Forward, self.corner, self.columns, along_column, steps),
+            _ => scan(Way::Back, self.corner, self.columns, along_column, steps),
+        }
+    }
+
+    /// After how many moves a straight jump stops.
+    #[inline(always)]
+    pub(crate) fn straight<L: Ledger>(
+        &self,
+        at: Cell,
+        d: Dir,
+        goal: Cell,
+        steps: &mut Steps<L>,
+    ) -> Option<u16>
+        requires stands { (g : GridData) × AreItsBits self.now.rows.now self.now.columns.now self.now.corner g
+            × (is_free g at ≡ true) }
+        requires straight { is_diagonal d ≡ false }
+        ensures first { (g : GridData)
+            → AreItsBits self.now.rows.now self.now.columns.now self.now.corner g → is_free g at ≡ true
+            → result ≡ first.first_stop g goal at d }
+        ensures most { (g : GridData)
+            → AreItsBits self.now.rows.now self.now.columns.now self.now.corner g → is_free g at ≡ true
+            → steps.new ≤ steps.old + most_lanes (scanned g at d result) }
+        ensures fewest { steps.old + 3 ≤ steps.new }
+    {
+        let to_goal = moves_to(d, at, goal);
+        let found = self.halt(at, d, to_goal, steps);
+        stop_of(self.corner, found, to_goal)
+    }
+}

@@ -1,0 +1,114 @@
+//! Words of bits: 64 places of a line, and of the two lines beside it.
+//!
+//! A scan halts where the next cell is blocked or a side opens, which is blocked at one cell and free at the
+//! next. For 64 cells at a time: a side's bits, shifted by one on the way, are those of the cells before, with
+//! the last bit of the word before carried in; `side & !shifted` are the cells at which it opens.
+
+ghost use Rattle.std.specs.Prelude.{◌≡◌, ℕ, suc, ◌+◌, ◌-◌, ◌<◌, Bool, false, true, nat_eq, ◌&&◌, ◌||◌, not};
+ghost use Rattle.bit_grid.specs.Bits.{is_set};
+ghost use Rattle.jump_block.specs.Trail as trails;
+ghost use Rattle.jump_block.specs.Trail.{Trail, begun, opens};
+ghost use Rattle.jump_block.specs.Word as spec;
+ghost use Rattle.jump_block.specs.Word.{Meets, IsWordOf, AreWordsOf, IsEdgeOf, AreEdgesOf, IsOpened, is_past, near};
+
+use grid_moves::Corner;
+
+/// Which way a scan goes along a line: to higher places, or back to lower ones.
+#[derive(Clone, Copy)]
+pub(crate) enum Way {
+    Forward,
+    Back,
+}
+
+/// The same word of three lines that lie side by side.
+#[derive(Clone, Copy)]
+pub(crate) struct Words {
+    pub(crate) middle: u64,
+    pub(crate) before: u64,
+    pub(crate) after: u64,
+}
+
+// The bits at which a side opens, told the word that the way led through before.
+#[inline(always)]
+fn opened(way: Way, word: u64, last: u64) -> u64
+    ensures { IsOpened way word last result }
+{
+    match way {
+        Way::Forward => word & !(word << 1 | last >> 63),
+        Way::Back => word & !(word >> 1 | last << 63),
+    }
+}
+
+// The bits of blocked cells.
+#[inline(always)]
+fn blocked(middle: u64) -> u64
+    ensures { (j : ℕ) → j < 64 → is_set result j ≡ not (is_set middle j) }
+{
+    !middle
+}
+
+/// The bits that a scan does not reach from the cell before: blocked, or a side opens there.
+#[inline(always)]
+pub(crate) fn halts(way: Way, words: Words, last: Words) -> u64
+    ensures { (t : Trail) (from base : ℕ) → AreWordsOf t way from base words
+        → AreEdgesOf t way from (near way base) last
+        → (j k : ℕ) → j < 64 → Meets way from (base + j) (suc k) → is_set result j ≡ trails.halts t k }
+{
+    blocked(words.middle)
+        | opened(way, words.before, last.before)
+        | opened(way, words.after, last.after)
+}
+
+/// The bits past a place, on the way.
+#[inline(always)]
+pub(crate) fn past(way: Way, place: u32) -> u64
+    requires { place < 64 }
+    ensures { (j : ℕ) → j < 64 → is_set result j ≡ is_past way place j }
+{
+    match way {
+        Way::Forward => !(u64::MAX >> (63 - place)),
+        Way::Back => (1 << place) - 1,
+    }
+}
+
+/// The first bit that is set, on the way.
+#[inline(always)]
+pub(crate) fn first(way: Way, word: u64) -> u32
+    requires { 0 < word }
+    ensures small { result < 64 }
+    ensures set { is_set word result ≡ true }
+    ensures first { (j : ℕ) → j < 64 → is_past way j result ≡ true → is_set word j ≡ false }
+{
+    match way {
+        Way::Forward => word.trailing_zeros(),
+        Way::Back => 63 - word.leading_zeros(),
+    }
+}
+
+// The bit of the start, where the sides count as free there.
+#[inline(always)]
+fn start_bit(rule: Corner, place: u32) -> u64
+    requires { place < 64 }
+    ensures never { rule ≡ Corner.Never → result ≡ 0 }
+    ensures one { rule ≡ Corner.One → (j : ℕ) → j < 64 → is_set result j ≡ nat_eq j place }
+{
+    match rule {
+        Corner::Never => 0,
+        Corner::One => 1 << place,
+    }
+}
+
+/// The words of a scan that starts at this place.
+#[inline(always)]
+pub(crate) fn begun(rule: Corner, words: Words, place: u32) -> Words
+    requires { place < 64 }
+    ensures { (t : Trail) (way : Way) (base : ℕ) → AreWordsOf t way (base + place) base words
+        → AreWordsOf (begun rule t) way (base + place) base result }
+{
+    let bit = start_bit(rule, place);
+    Words {
+        middle: words.middle,
+        before: words.before | bit,
+        after: words.after | bit,
+    }
+}
