@@ -4,6 +4,7 @@
 //! proportion to what it touches and not to the map.
 #![tactic(auto)]
 
+mod beside;
 mod engine;
 pub mod laws;
 mod layer;

@@ -70,17 +70,19 @@ pub struct Settings {
 /// Which engine searches.
 #[derive(Clone, Copy, Debug, Default, PartialEq, Eq)]
 pub enum Pick {
-    /// The one that looks at every neighbour of a cell.
+    /// The one that goes from cell to cell.
     #[default]
     Plain,
     /// The one that jumps, cell by cell.
     Jps,
+    /// The one that jumps, by tables.
+    Plus,
 }
 
 /// What an answer shows of a walk.
 #[derive(Clone, Copy, Debug, Default, PartialEq, Eq)]
 pub enum Show {
-    /// The ends of the walk's straight pieces.
+    /// Cells that lead along the walk in straight lines: its ends, its turns, and the stops of jumps.
     #[default]
     Points,
     /// Each cell of the walk.
