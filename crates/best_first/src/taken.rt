@@ -6,8 +6,9 @@ use crate::NoMemory;
 use std::alloc::Global;
 use std::marker::Model;
 
-/// The numbers of the states that a search took, in their order. The state at a cell has nine times
-/// the cell's number and 8, as for the start's arrival.
+/// The numbers of the states that a search took, in their order. A state has nine times its cell's
+/// number and the number of the direction in which it was come to, or 8 where it has none: that is
+/// the start, and each state of a search with one state for a cell.
 #[derive(Debug, Drop)]
 pub struct Taken {
     states: Vec<u32>,

@@ -38,7 +38,7 @@ pub struct Sides {
     pub left: bool,
 }
 
-// Whether the cell ahead is free; what lies outside the map is not.
+/// Whether the cell ahead is free; what lies outside the map is not.
 #[inline(always)]
 pub fn is_free_beyond<T: Terrain>(t: &T, c: Cell, d: Dir) -> bool
     requires free { is_free (T.grid t.now) c ≡ true }

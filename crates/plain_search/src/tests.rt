@@ -54,3 +54,43 @@ fn no_walk_leads_past_two_corners(rt: HostRuntime) -> Result<(), Fail> {
     assert!(rt; is_answer(rt.alloc(), &grid, cell(0, 0), cell(1, 1), None, &[8])?);
     Ok(())
 }
+
+// On `.../...` the cells (1,0) and (1,1) offer the goal at one cost. The first of them was taken first.
+#[test]
+fn the_earlier_of_equal_offers_stands(rt: HostRuntime) -> Result<(), Fail> {
+    let grid = Grid::of_cells(rt.alloc(), 3, 2, b"......", Corner::Never)?;
+    let points = [cell(0, 0), cell(1, 0), cell(2, 1)];
+    let walk = Some((points.as_slice(), Cost { a: 1, b: 1 }));
+    assert!(rt;
+        is_answer(
+            rt.alloc(),
+            &grid,
+            cell(0, 0),
+            cell(2, 1),
+            walk,
+            &[8, 17, 44, 53]
+        )?
+    );
+    Ok(())
+}
+
+// Of the nine cells round the pillar, (0,0), (1,0) and (0,1) have sums below the least cost of 4; alone
+// between two corners, a cell is reached itself.
+#[test]
+fn lists_are_those_counted_by_hand(rt: HostRuntime) -> Result<(), Fail> {
+    let grid = Grid::of_cells(rt.alloc(), 3, 3, b"....@....", Corner::Never)?;
+    let (from, to) = (cell(0, 0), cell(2, 2));
+    assert!(rt; grid.free(from) && grid.free(to));
+    let entries = [
+        (cell(0, 0), Cost { a: 0, b: 0 }),
+        (cell(1, 0), Cost { a: 1, b: 0 }),
+        (cell(0, 1), Cost { a: 1, b: 0 }),
+    ];
+    match least(rt.alloc(), &grid, from, to)? {
+        Listed::Found { closed, .. } => {
+            assert_eq!(rt; closed.as_slice(), entries.as_slice());
+        }
+        Listed::None { .. } => assert!(rt; false, "a walk leads round the pillar"),
+    }
+    Ok(())
+}
