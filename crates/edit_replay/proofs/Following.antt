@@ -10,9 +10,9 @@ use Rattle.table_repair.specs.Repaired.{AreTablesBut}
 use Rattle.edit_replay.specs.Kept.{engine_that_jumps, engine_with, is_by_cell, is_plain, jumping}
 use Rattle.edit_replay.specs.Mended.{Follows, IsEditCounted, nothing, repaired}
 use Rattle.edit_replay.specs.declared.beside.Beside.{Beside}
-use Rattle.edit_replay.specs.declared.beside.Beside.TheVariants.{Nothing, Tables}
+use Rattle.edit_replay.specs.declared.beside.Beside.TheVariants.{Nothing, Bits, Tables}
 use Rattle.edit_replay.specs.declared.engine.Engine.{Engine}
-use Rattle.edit_replay.specs.declared.engine.Engine.TheVariants.{Plain, Jps, Plus}
+use Rattle.edit_replay.specs.declared.engine.Engine.TheVariants.{Plain, Jps, Block, Plus}
 use Rattle.edit_replay.specs.declared.memory.Memory.{Memory}
 use Rattle.edit_replay.specs.declared.memory.Memory.TheVariants.{ByCell, ByArrival}
 
@@ -34,6 +34,7 @@ tables_but t g h c free tables inside edited = subst (λ (k : GridData). AreTabl
 pub nothing_counted : (engine : Engine) (ls : Layers) (steps : ℕ) → IsEditCounted engine ls ls steps steps
 nothing_counted Plain ls steps = refl
 nothing_counted Jps ls steps = refl
+nothing_counted Block ls steps = refl
 nothing_counted Plus ls steps = record {
   land = 0;
   water = 0;
@@ -48,16 +49,31 @@ pub edit_counted : (memory : Memory) (land water : Beside) (before after : Layer
     → (is_by_cell memory ≡ true → engine_that_jumps land ≡ Jps)
     → Follows land before.land after.land old mid → Follows water before.water after.water mid new
     → IsEditCounted (engine_with memory land) before after old new
-edit_counted (ByCell places) Nothing Nothing before after old mid new same alone on_land on_water = on_water ∙ on_land
+edit_counted (ByCell places) Nothing Nothing before after old mid new same alone on_land on_water =
+    on_water ∙ on_land
+edit_counted (ByCell places) Nothing (Bits bits) before after old mid new same alone on_land on_water =
+    absurd (cc)
 edit_counted (ByCell places) Nothing (Tables tables) before after old mid new same alone on_land on_water =
     absurd (cc)
+edit_counted (ByCell places) (Bits bits) water before after old mid new same alone on_land on_water =
+    let jps = alone refl in absurd (cc)
 edit_counted (ByCell places) (Tables tables) water before after old mid new same alone on_land on_water =
     let jps = alone refl in absurd (cc)
 edit_counted (ByArrival space) Nothing Nothing before after old mid new same alone on_land on_water =
     on_water ∙ on_land
+edit_counted (ByArrival space) (Bits one) (Bits other) before after old mid new same alone on_land on_water =
+    on_water ∙ on_land
+edit_counted (ByArrival space) Nothing (Bits bits) before after old mid new same alone on_land on_water =
+    absurd (cc)
 edit_counted (ByArrival space) Nothing (Tables tables) before after old mid new same alone on_land on_water =
     absurd (cc)
+edit_counted (ByArrival space) (Bits bits) Nothing before after old mid new same alone on_land on_water =
+    absurd (cc)
+edit_counted (ByArrival space) (Bits bits) (Tables tables) before after old mid new same alone on_land on_water =
+    absurd (cc)
 edit_counted (ByArrival space) (Tables tables) Nothing before after old mid new same alone on_land on_water =
+    absurd (cc)
+edit_counted (ByArrival space) (Tables tables) (Bits bits) before after old mid new same alone on_land on_water =
     absurd (cc)
 edit_counted (ByArrival space) (Tables one) (Tables other) before after old mid new same alone on_land on_water =
     record {
@@ -73,6 +89,7 @@ pub plain_alone : (engine : Engine) (memory : Memory) (beside : Beside) → is_b
     → engine_that_jumps beside ≡ jumping engine → is_by_cell memory ≡ true → engine_that_jumps beside ≡ Jps
 plain_alone Plain memory beside states kept plain = kept
 plain_alone Jps memory beside states kept plain = kept
+plain_alone Block memory beside states kept plain = absurd (cc)
 plain_alone Plus memory beside states kept plain = absurd (cc)
 
 -- tables were mended

@@ -76,6 +76,8 @@ module _ (ls : Layers) (s t : Cell) where
       let a = plainly.has_answer (query_grid ls s) s t from in by_plain free one a.answer a.run a.least
   searched engine.Jps free one from =
       by_jumps engine.Jps (λ points cost taken found. found) (λ taken ended. ended) free one from
+  searched engine.Block free one from =
+      by_jumps engine.Block (λ points cost taken found. found) (λ taken ended. ended) free one from
   searched engine.Plus free one from =
       by_jumps engine.Plus (λ points cost taken found. found) (λ taken ended. ended) free one from
 

@@ -2,13 +2,14 @@
 use Rattle.std.specs.Prelude.{◌≡◌, ⊤, Bool, true, false}
 use Rattle.grid_moves.specs.Grid.{GridData}
 use Rattle.grid_moves.specs.Layers.{AreLayers}
+use Rattle.bit_grid.specs.Bits.{AreBitsOf}
 use Rattle.plus_tables.specs.Tables.{AreTablesOf}
 use Rattle.plain_search.specs.Room.{HasRoom}
 use Rattle.search_core.specs.Jumping.{HasPlaces}
 use Rattle.edit_replay.specs.declared.beside.Beside.{Beside}
-use Rattle.edit_replay.specs.declared.beside.Beside.TheVariants.{Nothing, Tables}
+use Rattle.edit_replay.specs.declared.beside.Beside.TheVariants.{Nothing, Bits, Tables}
 use Rattle.edit_replay.specs.declared.engine.Engine.{Engine}
-use Rattle.edit_replay.specs.declared.engine.Engine.TheVariants.{Plain, Jps, Plus}
+use Rattle.edit_replay.specs.declared.engine.Engine.TheVariants.{Plain, Jps, Block, Plus}
 use Rattle.edit_replay.specs.declared.layer.Layer.{Layer}
 use Rattle.edit_replay.specs.declared.memory.Memory.{Memory}
 use Rattle.edit_replay.specs.declared.memory.Memory.TheVariants.{ByCell, ByArrival}
@@ -16,6 +17,7 @@ use Rattle.edit_replay.specs.declared.memory.Memory.TheVariants.{ByCell, ByArriv
 -- what is kept beside a grid is this grid's
 abbrev pub IsOf : GridData → Beside → Type 0
 IsOf g Nothing = ⊤
+IsOf g (Bits bits) = AreBitsOf bits g
 IsOf g (Tables tables) = AreTablesOf tables g
 
 -- the memory has a place for each cell of the grid
@@ -26,6 +28,7 @@ Fits g (ByArrival space) = HasPlaces g space
 -- the engine whose jumps are found with what is kept so
 abbrev pub engine_that_jumps : Beside → Engine
 engine_that_jumps Nothing = Jps
+engine_that_jumps (Bits bits) = Block
 engine_that_jumps (Tables tables) = Plus
 
 -- the engine that searches with this memory, and with what is kept so
@@ -37,12 +40,14 @@ engine_with (ByArrival space) beside = engine_that_jumps beside
 abbrev pub jumping : Engine → Engine
 jumping Plain = Jps
 jumping Jps = Jps
+jumping Block = Block
 jumping Plus = Plus
 
 -- the engine has one state for each cell
 abbrev pub is_plain : Engine → Bool
 is_plain Plain = true
 is_plain Jps = false
+is_plain Block = false
 is_plain Plus = false
 
 abbrev pub is_by_cell : Memory → Bool

@@ -7,7 +7,7 @@ use Rattle.table_repair.specs.Counted.{places_differing}
 use Rattle.edit_replay.specs.declared.beside.Beside.{Beside}
 use Rattle.edit_replay.specs.declared.beside.Beside.TheVariants as beside
 use Rattle.edit_replay.specs.declared.engine.Engine.{Engine}
-use Rattle.edit_replay.specs.declared.engine.Engine.TheVariants.{Plain, Jps, Plus}
+use Rattle.edit_replay.specs.declared.engine.Engine.TheVariants.{Plain, Jps, Block, Plus}
 
 -- So many refreshes at most make the tables of a grid those of another: none where it is the same grid, else 18
 -- for each row and each column, and one for each entry that differs.
@@ -19,6 +19,7 @@ pub data MendsWithin (g h : GridData) (n : ℕ) : Type 0 where
 -- what is kept beside a grid followed it
 abbrev pub Follows : Beside → GridData → GridData → ℕ → ℕ → Type 0
 Follows beside.Nothing g h old new = new ≡ old
+Follows (beside.Bits bits) g h old new = new ≡ old
 Follows (beside.Tables tables) g h old new = (n : ℕ) × MendsWithin g h n × (new ≤ old + n)
 
 -- both layers' tables were mended
@@ -33,4 +34,5 @@ pub record AreMended (before after : Layers) (old new : ℕ) : Type 0 where
 abbrev pub IsEditCounted : Engine → Layers → Layers → ℕ → ℕ → Type 0
 IsEditCounted Plain before after old new = new ≡ old
 IsEditCounted Jps before after old new = new ≡ old
+IsEditCounted Block before after old new = new ≡ old
 IsEditCounted Plus before after old new = AreMended before after old new

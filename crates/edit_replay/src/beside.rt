@@ -6,6 +6,7 @@ ghost use Rattle.edit_replay.specs.Kept.{IsOf, jumping, engine_that_jumps};
 ghost use Rattle.edit_replay.specs.Mended.{Follows};
 
 use crate::{Engine, NoMemory};
+use bit_grid::BitGrid;
 use grid_moves::{Cell, Grid, Terrain};
 use plus_tables::Tables;
 use std::alloc::Global;
@@ -18,6 +19,8 @@ use table_repair::Repairer;
 pub(crate) enum Beside {
     /// Nothing: the grid alone is read.
     Nothing,
+    /// The grid's cells as bits.
+    Bits(BitGrid),
     /// The table entries of the grid.
     Tables(Tables),
 }
@@ -30,6 +33,7 @@ impl Beside {
     {
         match engine {
             Engine::Plain | Engine::Jps => Ok(Beside::Nothing),
+            Engine::Block => Ok(Beside::Bits(BitGrid::of_grid(alloc, grid)?)),
             Engine::Plus => Ok(Beside::Tables(Tables::build(alloc, grid)?)),
         }
     }
@@ -45,6 +49,7 @@ impl Beside {
     {
         match self {
             Beside::Nothing => {}
+            Beside::Bits(bits) => bits.set(c, grid.free(c)),
             Beside::Tables(tables) => {
                 let repairer = Repairer::new(tables.width(), tables.height());
                 repairer.repair(tables, grid, c, steps);

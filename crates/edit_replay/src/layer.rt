@@ -16,6 +16,7 @@ use crate::memory::Memory;
 use crate::{Engine, NoMemory, Reply};
 use best_first::Space;
 use grid_moves::{Cell, Grid, Terrain};
+use jump_block::BlockJumps;
 use jump_plain::PlainJumps;
 use plain_search::{Plain, Taken, Workspace, least_in};
 use plus_tables::PlusJumps;
@@ -145,6 +146,16 @@ impl Layer {
             Beside::Nothing => {
                 let jumps = PlainJumps {
                     terrain: &self.grid,
+                };
+                search_by_jumps(alloc, &jumps, from, to, space, steps)
+            }
+            Beside::Bits(bits) => {
+                let jumps = BlockJumps {
+                    rows: bits.rows(),
+                    columns: bits.columns(),
+                    width: self.grid.width(),
+                    height: self.grid.height(),
+                    corner: self.grid.corner(),
                 };
                 search_by_jumps(alloc, &jumps, from, to, space, steps)
             }

@@ -26,7 +26,7 @@ impl Memory {
     {
         match engine {
             Engine::Plain => Ok(Memory::ByCell(Workspace::of_grid(alloc, grid)?)),
-            Engine::Jps | Engine::Plus => {
+            Engine::Jps | Engine::Block | Engine::Plus => {
                 let cells = grid.height() as usize * grid.width() as usize;
                 Ok(Memory::ByArrival(Space::new(alloc, Layout::ByArrival, cells)?))
             }
