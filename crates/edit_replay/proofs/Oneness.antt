@@ -91,6 +91,7 @@ module _ (g : GridData) (s t : Cell) where
   runs_are_one engine.Plain = plain_runs
   runs_are_one engine.Jps = jump_runs
   runs_are_one engine.Plus = jump_runs
+  runs_are_one engine.Block = jump_runs
 
 not_both : (b : Bool) → b ≡ true → b ≡ false → ⊥
 not_both b e f = let h : true ≡ false = sym e ∙ f in cc
