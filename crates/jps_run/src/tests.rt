@@ -206,7 +206,7 @@ fn check_jumps(
     line: &[u8],
 ) -> Result<(), Fail> {
     let (x, y, show, rule) = query;
-    for engine in ["engine=jps", "engine=plus"] {
+    for engine in ["engine=jps", "engine=block", "engine=plus"] {
         let words: [&str; 9] = ["query", "m", "0", "0", x, y, engine, show, rule];
         check(alloc, rt, on_map(&words, map), 0, line, b"")?;
     }
@@ -260,7 +260,7 @@ fn scripts_and_scenarios_are_answered(rt: HostRuntime) -> Result<(), Fail> {
     let alloc = rt.alloc();
     let (made, lines) = script();
     check(alloc, &rt, made, 0, lines, b"")?;
-    for engine in ["engine=jps", "engine=plus"] {
+    for engine in ["engine=jps", "engine=block", "engine=plus"] {
         let words: [&str; 4] = ["solve", "m", "s", engine];
         let by_jumps = Request {
             words: &words,

@@ -16,9 +16,9 @@
 //! drill SEED [engine=ENGINE] [rule=none|rule=one]
 //! ```
 //!
-//! ENGINE is `plain`, `jps` or `plus`. Names of files are any words; numbers are 1 to 9 decimal digits, and a
-//! seed 1 to 20. A list that is no call is refused at its first word with which no call can begin, or one word
-//! behind its end where only words are missing.
+//! ENGINE is `plain`, `jps`, `block` or `plus`. Names of files are any words; numbers are 1 to 9 decimal digits,
+//! and a seed 1 to 20. A list that is no call is refused at its first word with which no call can begin, or one
+//! word behind its end where only words are missing.
 //!
 //! A command has a row in `rows.rt`, a setting one in `settings.rt`.
 #![tactic(auto)]

@@ -75,6 +75,8 @@ pub enum Pick {
     Plain,
     /// The one that jumps, cell by cell.
     Jps,
+    /// The one that jumps, by blocks of bits.
+    Block,
     /// The one that jumps, by tables.
     Plus,
 }
