@@ -445,3 +445,35 @@ fn maps_and_drills_come_from_numbers(rt: HostRuntime) -> Result<(), Fail> {
     }
     Ok(())
 }
+
+// Round the pillar in the middle of nine cells, by hand.
+const CERTIFICATE: &[u8] = b"jps-cert 1\nsize 3 3\nends 0 0 2 2\nleast 4 0\npoints 0,0 2,0 2,2\n\
+    value 0 0 0 0\nvalue 1 0 1 0\nvalue 0 1 1 0\nend\n";
+
+#[test]
+fn certificates_are_printed_and_judged(rt: HostRuntime) -> Result<(), Fail> {
+    let alloc = rt.alloc();
+    let prove = ["prove", "m", "0", "0", "2", "2"];
+    check(alloc, &rt, on_map(&prove, PILLAR), 0, CERTIFICATE, b"")?;
+    let blocked = ["prove", "m", "0", "0", "1", "1"];
+    check(alloc, &rt, on_map(&blocked, PILLAR), 1, b"blocked\n", b"")?;
+    for (words, status, line) in [
+        (
+            ["check", "m", "s", "rule=none"],
+            0,
+            b"accepted least 4 0\n".as_slice(),
+        ),
+        (
+            ["check", "m", "s", "rule=one"],
+            1,
+            b"refused move 1,0 2,1\n",
+        ),
+    ] {
+        let made = Request {
+            second: CERTIFICATE,
+            ..on_map(&words, PILLAR)
+        };
+        check(alloc, &rt, made, status, line, b"")?;
+    }
+    Ok(())
+}
