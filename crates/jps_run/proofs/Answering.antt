@@ -1,14 +1,13 @@
 -- Answers to more and more commands, whose lines are written before the next ones.
-use Rattle.std.proofs.Common.{◌≡◌, refl, sym, ap, ◌∙◌, subst, List, [], ◌∷◌, ◌++◌, append_assoc, ℕ, ◌+◌, ◌<◌, ◌≤◌, ◌⊎◌, length, length-append, take, get_or, arith}
-use Rattle.std.specs.Prelude.{Result, Ok, Err, IsErrAnd}
+use Rattle.std.proofs.Common.{◌≡◌, refl, sym, ap, ◌∙◌, subst, List, [], ◌∷◌, ◌++◌, ℕ, ◌+◌, ◌<◌, ◌≤◌, length, length-append, take, get_or, arith}
+use Rattle.std.specs.Prelude.{Result, Ok, IsErrAnd}
 use Rattle.std.specs.List.{concat}
 use Rattle.std.proofs.Math.ListN.{get_or-append}
 use Rattle.std.proofs.Math.Seq.{take-append_seam, take-append-add}
 use Rattle.std.proofs.lemmas.List.{append-nil, get_or-append-add}
-use Rattle.io_edge.specs.Causes.{Rose}
 use Rattle.script_text.specs.declared.command.Command.{Command}
 use Rattle.jps_run.specs.Answering.{GoesOn, HasAnswered, IsSolved, PutsAnswer}
-use Rattle.jps_run.specs.Hearing.{HasWritten, answer_stops, AnswersMore, IsAnswering}
+use Rattle.jps_run.specs.Hearing.{HasWritten, answer_stops}
 use Rattle.jps_run.specs.Seen.{Stream}
 use Rattle.jps_run.specs.Sending.{Wrote, WroteSome, AreSent, AreLines, Sends, write_stops}
 use Rattle.jps_run.specs.Stops.{StopsSo, Ends}
@@ -16,7 +15,7 @@ use Rattle.jps_run.specs.Working.{Adds, IsWorking}
 use Rattle.jps_run.specs.declared.answers.Answers.{Answers}
 use Rattle.jps_run.specs.declared.stop.Stop.{Stop}
 use Rattle.jps_run.specs.declared.stop.Stop.TheVariants as stop
-use Rattle.jps_run.proofs.Looping.{working-more, working-on, completed}
+use Rattle.jps_run.proofs.Looping.{working-more, completed}
 use Rattle.jps_run.proofs.Pieces.{sent-whole, part-sent, lines-sent}
 use Rattle.jps_run.proofs.Solving.{answered-more, answers-complete}
 use Rattle.jps_run.proofs.Stopping.{passed, ends-on, no_stops, only_memory, only_write}

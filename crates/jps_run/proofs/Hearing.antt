@@ -1,12 +1,8 @@
 -- Scripts that come in: pieces, their answers, and how they end.
-use Rattle.std.proofs.Common.{◌≡◌, ◌≢◌, refl, sym, ap, ◌∙◌, subst, List, [], ◌∷◌, ◌++◌, append_assoc, ℕ, ◌+◌, ◌-◌, ◌<◌, ◌≤◌, ◌⊎◌, inl, inr, length, length-append, take, min, arith}
-use Rattle.std.specs.Prelude.{Option, Some, None, Result, Ok, Err, IsErrAnd, OnOk, ⊤}
-use Rattle.std.specs.List.{concat}
-use Rattle.std.specs.Option.{option_map, option_map_or}
-use Rattle.std.specs.Io.KnownBytes.{Consumes, IsAtEnd}
-use Rattle.std.proofs.lemmas.List.{append-nil, take_all, take-append-le}
-use Rattle.std.proofs.Math.Seq.{take-append-add}
-use Rattle.io_edge.specs.Causes.{Rose}
+use Rattle.std.proofs.Common.{◌≡◌, ◌≢◌, refl, sym, ap, ◌∙◌, subst, List, [], ◌++◌, append_assoc, ℕ}
+use Rattle.std.specs.Prelude.{Option, Some, None, Result, Ok, Err, IsErrAnd}
+use Rattle.std.specs.Option.{option_map}
+use Rattle.std.proofs.lemmas.List.{append-nil}
 use Rattle.script_text.specs.declared.command.Command.{Command}
 use Rattle.script_text.specs.declared.fault.ScriptFault.{ScriptFault}
 use Rattle.script_text.specs.declared.fault.ScriptFault.TheVariants as fault
@@ -15,20 +11,19 @@ use Rattle.script_text.specs.declared.feeder.LineFeeder.{LineFeeder}
 use Rattle.script_text.specs.Fed.{HasTaken, HasFed, HasEnded}
 use Rattle.script_text.specs.Feeding.{commands_so_far, commands_of, fault_so_far, fault_of, Appended}
 use Rattle.script_text.specs.Feeding as known
-use Rattle.script_text.proofs.Feeding.{fault-stays, whole-refused, commands-grow, commands-end, begun-known}
-use Rattle.jps_run.specs.Answering.{HasAnswered, IsSolved}
-use Rattle.jps_run.specs.FaultLines.{long_line, script_line}
-use Rattle.jps_run.specs.Heard.{AnswerHeard, AnswerTaken, AnswerPending, AreWhole, IsHeard, IsTold, WroteAll, WroteFirst, WroteLines, counted, so_far, at_end, whole, too_long}
-use Rattle.jps_run.specs.Hearing.{HasWritten, answer_stops, known_stops, AnswersMore, AnswersKnown, AreKnown, Refuses, HasHeard, HearsPiece, HearsEnd, IsHearing}
+use Rattle.script_text.proofs.Feeding.{commands-grow, commands-end}
+use Rattle.jps_run.specs.Answering.{IsSolved}
+use Rattle.jps_run.specs.FaultLines.{script_line}
+use Rattle.jps_run.specs.Hearing.{HasWritten, answer_stops, known_stops, AnswersKnown, AreKnown, Refuses, HasHeard, HearsPiece}
 use Rattle.jps_run.specs.Seen.{Stream}
-use Rattle.jps_run.specs.Sending.{Wrote, AreLines, IsPart}
-use Rattle.jps_run.specs.Stops.{Stops, StopsSo, Ends}
+use Rattle.jps_run.specs.Sending.{AreLines}
+use Rattle.jps_run.specs.Stops.{StopsSo, Ends}
 use Rattle.jps_run.specs.declared.answers.Answers.{Answers}
 use Rattle.jps_run.specs.declared.stop.Stop.{Stop}
 use Rattle.jps_run.proofs.Answering.{all-sent}
 use Rattle.jps_run.proofs.Pieces.{lines-sent}
-use Rattle.jps_run.proofs.Solving.{answers-complete, answered-none}
-use Rattle.jps_run.proofs.Stopping.{Follow, passed, ends-on, follow-same}
+use Rattle.jps_run.proofs.Solving.{answers-complete}
+use Rattle.jps_run.proofs.Stopping.{passed, ends-on, follow-same}
 
 -- the answers to commands that became known stop
 pub known-stopped : (first new : Answers) (answer : Result (Unit {0}) ScriptFault) (earlier more all : List Command)

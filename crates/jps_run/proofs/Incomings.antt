@@ -1,6 +1,6 @@
 -- One read of what comes in.
-use Rattle.std.proofs.Common.{◌≡◌, ◌≢◌, refl, sym, ap, ◌∙◌, subst, List, [], ◌∷◌, ◌++◌, ℕ, ◌+◌, ◌-◌, ◌<◌, ◌≤◌, inl, inr, length, length-append, take, min, arith}
-use Rattle.std.specs.Prelude.{Option, Some, None, Result, Ok, Err, IsErrAnd, ◌^◌, codes}
+use Rattle.std.proofs.Common.{◌≡◌, refl, sym, ap, ◌∙◌, subst, List, [], ◌++◌, ℕ, ◌+◌, ◌<◌, ◌≤◌, length, length-append, take, min, arith}
+use Rattle.std.specs.Prelude.{Some, None, Result, IsErrAnd, ◌^◌, codes}
 use Rattle.std.specs.Option.{option_map}
 use Rattle.std.specs.Io.KnownBytes.{Consumes, IsAtEnd, Keeps}
 use Rattle.std.proofs.lemmas.List.{append-nil, take_all, length-take}
@@ -16,7 +16,7 @@ use Rattle.jps_run.specs.declared.kind.Kind.TheVariants as kind
 use Rattle.jps_run.specs.Heard.{AnswerHeard, AnswerTaken, AnswerPending, WroteAll, WroteLines, counted, so_far, at_end}
 use Rattle.jps_run.specs.Hearing.{HasWritten, known_stops, HasHeard, HearsEnd, IsHearing, Hears}
 use Rattle.jps_run.specs.Seen.{Stream, Incoming}
-use Rattle.jps_run.specs.Stops.{StopsSo, Ends}
+use Rattle.jps_run.specs.Stops.{StopsSo}
 use Rattle.jps_run.specs.declared.answers.Answers.{Answers}
 use Rattle.jps_run.specs.declared.stop.Stop.{Stop}
 use Rattle.jps_run.specs.declared.stop.Stop.TheVariants as stop

@@ -1,37 +1,25 @@
 -- What comes in, read by read, and how a call ends that answers it.
-use Rattle.std.proofs.Common.{◌≡◌, ◌≢◌, refl, sym, ap, ◌∙◌, subst, List, [], ◌∷◌, ◌++◌, append_assoc, ℕ, suc, zero, ◌+◌, ◌-◌, ◌<◌, ◌≤◌, ◌⊎◌, inl, inr, length, length-append, take, min, arith}
-use Rattle.std.specs.Prelude.{Option, Some, None, Result, Ok, Err, IsErrAnd, ◌^◌, codes}
+use Rattle.std.proofs.Common.{◌≡◌, refl, sym, ap, ◌∙◌, subst, List, [], ◌∷◌, ◌++◌, append_assoc, ℕ, suc, zero, ◌+◌, ◌<◌, ◌≤◌, ◌⊎◌, inl, inr, length, length-append, take, min, arith}
+use Rattle.std.specs.Prelude.{Option, Some, None, codes}
 use Rattle.std.specs.List.{concat}
 use Rattle.std.specs.Option.{option_map, option_map_or}
 use Rattle.std.specs.Io.KnownBytes.{Consumes, IsAtEnd, Keeps}
 use Rattle.std.proofs.lemmas.List.{append-nil, take_all, take-append-le, length-take}
 use Rattle.std.proofs.lemmas.List.{take-take}
 use Rattle.std.proofs.Math.Seq.{take-append-add}
-use Rattle.io_edge.specs.Causes.{Rose}
 use Rattle.script_text.specs.declared.command.Command.{Command}
 use Rattle.script_text.specs.declared.fault.ScriptFault.{ScriptFault}
-use Rattle.script_text.specs.declared.feeder.LineFeeder.{LineFeeder}
-use Rattle.script_text.specs.Fed.{HasTaken}
 use Rattle.script_text.specs.Feeding.{commands_so_far, commands_of, fault_so_far, fault_of}
-use Rattle.script_text.proofs.Feeding.{fault-stays, whole-refused, begun-known}
-use Rattle.edit_replay.specs.Session.{SessionData}
-use Rattle.word_list.specs.declared.request.Show.{Show}
-use Rattle.jps_run.specs.Answers.{AreAnswers}
-use Rattle.jps_run.specs.Answering.{HasAnswered, IsSolved}
+use Rattle.script_text.proofs.Feeding.{fault-stays, whole-refused}
+use Rattle.jps_run.specs.Answering.{IsSolved}
 use Rattle.jps_run.specs.FaultLines.{long_line, script_line}
 use Rattle.jps_run.specs.Kinds.{limit_of}
 use Rattle.jps_run.specs.declared.kind.Kind.TheVariants as kind
-use Rattle.jps_run.specs.Heard.{AnswerHeard, AnswerTaken, AnswerPending, AreWhole, IsHeard, IsTold, WroteAll, WroteFirst, WroteLines, counted, so_far, at_end, whole, too_long}
-use Rattle.jps_run.specs.Hearing.{HasWritten, known_stops, HasHeard, IsHearing, Hears}
-use Rattle.jps_run.specs.Seen.{Stream, Incoming}
+use Rattle.jps_run.specs.Heard.{AnswerHeard, AnswerTaken, AnswerPending, AreWhole, IsHeard, IsTold, WroteAll, WroteFirst, WroteLines, counted, whole, too_long}
+use Rattle.jps_run.specs.Hearing.{HasWritten}
+use Rattle.jps_run.specs.Seen.{Stream}
 use Rattle.jps_run.specs.Sending.{Wrote, AreLines, IsPart}
-use Rattle.jps_run.specs.Stops.{Stops, StopsSo, Ends}
 use Rattle.jps_run.specs.declared.answers.Answers.{Answers}
-use Rattle.jps_run.specs.declared.stop.Stop.{Stop}
-use Rattle.jps_run.proofs.Answering.{all-sent}
-use Rattle.jps_run.proofs.Pieces.{nothing, rose-since}
-use Rattle.jps_run.proofs.Solving.{answered-none}
-use Rattle.jps_run.proofs.Stopping.{passed, ends-on}
 
 -- what was taken, and then more
 pub consumes-both : (a b c : Option (List ℕ)) (x y : List ℕ) → Consumes a b x → Consumes b c y

@@ -1,7 +1,6 @@
 -- A call that answers what comes in.
-use Rattle.std.proofs.Common.{◌≡◌, refl, sym, subst, List, [], ℕ, ◌≤◌, ◌⊎◌, inl, inr, arith}
-use Rattle.std.specs.Prelude.{Option, None, Some, Result}
-use Rattle.io_edge.specs.Told.{Held}
+use Rattle.std.proofs.Common.{◌≡◌, refl, subst, List, [], ℕ, inr, arith}
+use Rattle.std.specs.Prelude.{None, Some, Result}
 use Rattle.edit_replay.specs.Session.{SessionData}
 use Rattle.word_list.specs.Request.{Live}
 use Rattle.word_list.specs.declared.request.Settings.{Settings}

@@ -73,3 +73,24 @@ fn the_earlier_of_equal_offers_stands(rt: HostRuntime) -> Result<(), Fail> {
     );
     Ok(())
 }
+
+// Of the nine cells round the pillar, (0,0), (1,0) and (0,1) have sums below the least cost of 4; alone
+// between two corners, a cell is reached itself.
+#[test]
+fn lists_are_those_counted_by_hand(rt: HostRuntime) -> Result<(), Fail> {
+    let grid = Grid::of_cells(rt.alloc(), 3, 3, b"....@....", Corner::Never)?;
+    let (from, to) = (cell(0, 0), cell(2, 2));
+    assert!(rt; grid.free(from) && grid.free(to));
+    let entries = [
+        (cell(0, 0), Cost { a: 0, b: 0 }),
+        (cell(1, 0), Cost { a: 1, b: 0 }),
+        (cell(0, 1), Cost { a: 1, b: 0 }),
+    ];
+    match least(rt.alloc(), &grid, from, to)? {
+        Listed::Found { closed, .. } => {
+            assert_eq!(rt; closed.as_slice(), entries.as_slice());
+        }
+        Listed::None { .. } => assert!(rt; false, "a walk leads round the pillar"),
+    }
+    Ok(())
+}

@@ -1,19 +1,17 @@
 -- Texts that are cut behind each line feed, byte by byte.
-use Rattle.std.proofs.Common.{◌≡◌, ◌≢◌, ℕ, suc, ◌+◌, ◌<◌, ◌≤◌, Bool, true, false, List, [], ◌∷◌, ◌++◌, append_assoc, length, length-append, Option, Some, None, Result, Ok, Err, refl, sym, ap, ◌∙◌, subst, inl, inr, arith}
-use Rattle.std.specs.Prelude.{nat_lt, if◌then◌else◌}
+use Rattle.std.proofs.Common.{◌≡◌, ℕ, ◌+◌, List, [], ◌∷◌, ◌++◌, length, Option, Some, None, Result, Ok, Err, refl, ap, ◌∙◌, inl, inr, arith}
+use Rattle.std.specs.Prelude.{if◌then◌else◌}
 use Rattle.std.specs.List.{onto_first}
 use Rattle.std.specs.Option.{option_or}
-use Rattle.std.proofs.lemmas.Bool.{cases_Bool, ltb-false, ltb-true, lt-ltb, le-ltb}
-use Rattle.std.proofs.lemmas.List.{append-nil}
+use Rattle.std.proofs.lemmas.Bool.{cases_Bool}
 use Rattle.text_line.specs.Left.{Numbered, numbered_from, numbered_pieces}
 use Rattle.text_line.specs.Lines.{is_line_feed, pieces_of}
 use Rattle.text_line.specs.Reading.{first_fault, fault_in, values_in, values_on, reading}
 use Rattle.script_text.specs.declared.command.Command.{Command}
 use Rattle.script_text.specs.declared.fault.ScriptFault.{ScriptFault}
-use Rattle.script_text.specs.declared.fault.ScriptFault.TheVariants.{Line, Long, NoMemory}
 use Rattle.script_text.specs.Lines.{piece_read}
 use Rattle.script_text.specs.Faults.{script_of}
-use Rattle.script_text.specs.Feeding.{Cut, within_line, with_first, cut, with_command, commands_on, whole_lines, length_fault, known_fault, fault_so_far, commands_so_far, fault_of, commands_of}
+use Rattle.script_text.specs.Feeding.{Cut, within_line, with_first, cut, with_command, commands_on, fault_of, commands_of}
 
 -- a cut text with one byte more
 abbrev pub with_last : Cut → ℕ → Cut

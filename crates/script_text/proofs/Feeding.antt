@@ -1,19 +1,18 @@
 -- What is known of a script by its first bytes, and what a feeder keeps of it.
-use Rattle.std.proofs.Common.{take, drop, get_or, ◌≡◌, ◌≢◌, ℕ, suc, ◌+◌, ◌<◌, ◌≤◌, Bool, true, false, List, [], ◌∷◌, ◌++◌, append_assoc, length, length-append, refl, sym, ap, ◌∙◌, subst, inl, inr, arith, rules}
+use Rattle.std.proofs.Common.{take, drop, get_or, ◌≡◌, ◌≢◌, ℕ, ◌+◌, ◌<◌, ◌≤◌, Bool, true, false, List, [], ◌∷◌, ◌++◌, append_assoc, length, length-append, refl, sym, ap, ◌∙◌, subst, inl, inr, arith, rules}
 use Rattle.std.specs.Prelude.{Option, Some, None, Result, Ok, Err, nat_lt, if◌then◌else◌, OnOk, IfErr, IsErrAnd}
-use Rattle.std.specs.Option.{option_or, option_map_or}
-use Rattle.std.proofs.lemmas.Bool.{cases_Bool, ltb-false, le-ltb}
+use Rattle.std.specs.Option.{option_or}
+use Rattle.std.proofs.lemmas.Bool.{cases_Bool, le-ltb}
 use Rattle.std.proofs.lemmas.List.{append-nil, take-append-drop, take_more}
 use Rattle.text_line.specs.Left.{Numbered, numbered_from, numbered_pieces}
-use Rattle.text_line.specs.Lines.{is_line_feed, pieces_of, without_cr}
-use Rattle.text_line.specs.Fields.{is_blank}
+use Rattle.text_line.specs.Lines.{is_line_feed}
 use Rattle.text_line.specs.Reading.{first_fault, fault_in, values_in}
 use Rattle.script_text.specs.declared.command.Command.{Command}
 use Rattle.script_text.specs.declared.fault.ScriptFault.{ScriptFault}
-use Rattle.script_text.specs.declared.fault.ScriptFault.TheVariants.{Line, Long, NoMemory}
+use Rattle.script_text.specs.declared.fault.ScriptFault.TheVariants.{Long, NoMemory}
 use Rattle.script_text.specs.declared.feeder.LineFeeder.{LineFeeder}
-use Rattle.script_text.specs.Lines.{piece_read, command_on}
-use Rattle.script_text.specs.Feeding.{Cut, cut, commands_on, whole_lines, length_fault, known_fault, fault_so_far, commands_so_far, fault_of, commands_of, Appended, Answers}
+use Rattle.script_text.specs.Lines.{piece_read}
+use Rattle.script_text.specs.Feeding.{Cut, cut, commands_on, whole_lines, length_fault, known_fault, fault_so_far, commands_so_far, fault_of, commands_of, Answers}
 use Rattle.script_text.specs.Fed.{IsNext, HasTaken, HasTakenByte, HasFed, HasEnded, completed}
 use Rattle.script_text.proofs.Cuts.{with_last, cut-more, last_line, pieces-cut, numbered-more, fault-append, or-none, commands-append, commands-stay, fault-one, commands-one}
 

@@ -1,15 +1,14 @@
 -- A script in a list of pieces.
-use Rattle.std.proofs.Common.{◌≡◌, ◌≢◌, ℕ, ◌+◌, ◌<◌, ◌≤◌, List, [], ◌∷◌, ◌++◌, append_assoc, length, length-append, take, drop, get_or, refl, sym, ap, ◌∙◌, subst, arith}
+use Rattle.std.proofs.Common.{◌≡◌, ◌≢◌, ℕ, ◌+◌, ◌<◌, ◌≤◌, List, [], ◌∷◌, ◌++◌, append_assoc, length, length-append, take, drop, get_or, sym, ap, ◌∙◌, subst, arith}
 use Rattle.std.specs.Prelude.{◌^◌, Result, Ok, Err, IsErrAnd}
 use Rattle.std.specs.Global.{Vec}
-use Rattle.std.specs.List.{flat_map}
 use Rattle.std.proofs.lemmas.Grind.{flat_map-append}
 use Rattle.std.proofs.lemmas.List.{append-nil, take-append-drop, take_all, take_more}
 use Rattle.script_text.specs.declared.command.Command.{Command}
 use Rattle.script_text.specs.declared.fault.ScriptFault.{ScriptFault}
 use Rattle.script_text.specs.declared.fault.ScriptFault.TheVariants.{NoMemory}
 use Rattle.script_text.specs.declared.feeder.LineFeeder.{LineFeeder}
-use Rattle.script_text.specs.Feeding.{commands_so_far, fault_so_far, commands_of, fault_of, text_of, Answers, Appended}
+use Rattle.script_text.specs.Feeding.{commands_so_far, fault_so_far, commands_of, fault_of, text_of, Answers}
 use Rattle.script_text.specs.Fed.{HasTaken, HasFed, HasEnded, IsReading}
 use Rattle.script_text.proofs.Feeding.{answers-err, begun-known, fault-stays, whole-refused}
 

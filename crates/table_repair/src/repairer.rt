@@ -12,7 +12,8 @@ const STRAIGHT: [Dir; 4] = [Dir::N, Dir::E, Dir::S, Dir::W];
 
 const DIAGONAL: [Dir; 4] = [Dir::NE, Dir::SE, Dir::SW, Dir::NW];
 
-/// Mends the tables of maps of one size. It needs no work lists, so neither it nor a repair takes memory.
+/// Mends the tables of maps of one size. The order of the sweeps makes work lists needless, so neither it nor
+/// a repair takes memory.
 #[derive(Debug, Drop)]
 pub struct Repairer {
     width: u16,
@@ -69,6 +70,7 @@ impl Repairer {
         prove_eq!(table_width, self.width);
         let rows = beside(c.y, self.height);
         let columns = beside(c.x, self.width);
+        // Diagonal entries rest on straight ones; those lie no further back than as many as changed.
         let straight = sweep_straight(tables, grid, rows, columns, &STRAIGHT, steps);
         let by = straight.min(4096) as u16;
         straight + sweep_diagonals(tables, grid, rows, columns, by, &DIAGONAL, steps)

@@ -1,8 +1,7 @@
 use Rattle.std.proofs.Common.{◌≡◌, ◌+◌, ◌-◌, ◌<◌, ◌≤◌, ◌∙◌, ap, subst, length, take, min, List, ℕ, arith}
-use Rattle.std.specs.Prelude.{◌^◌}
 use Rattle.std.specs.Io.KnownBytes.{Consumes}
 use Rattle.jps_run.specs.Seen.{stream, incoming}
-use Rattle.jps_run.proofs.Incomings.{starved-first, hearing-begun, input-failed, input-ended, piece-stopped, long-refused, long-starved, hearing-more}
+use Rattle.jps_run.proofs.Incomings.{starved-first, hearing-begun, input-ended, piece-stopped, long-refused, long-starved, hearing-more}
 use Rattle.jps_run.proofs.live.hear.Goals as goal
 
 pub returns-in_err-buffer : goal.returns-in_err-buffer

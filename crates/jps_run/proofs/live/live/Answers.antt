@@ -1,4 +1,4 @@
-use Rattle.std.proofs.Common.{◌≡◌, refl, sym, subst, List, [], ◌∷◌, inl, inr, arith}
+use Rattle.std.proofs.Common.{refl, []}
 use Rattle.word_list.specs.Request.{Live}
 use Rattle.jps_run.specs.Outcome.{call_with}
 use Rattle.jps_run.specs.Seen.{seen, incoming}

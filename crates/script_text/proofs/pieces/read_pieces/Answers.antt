@@ -1,9 +1,9 @@
-use Rattle.std.proofs.Common.{◌≡◌, ◌+◌, ◌≤◌, ◌++◌, ap, sym, subst, length, List, ℕ}
+use Rattle.std.proofs.Common.{◌+◌, ◌≤◌, ◌++◌, sym, subst, length, List, ℕ}
 use Rattle.std.specs.Prelude.{◌^◌}
 use Rattle.script_text.specs.Feeding.{text_of}
 use Rattle.script_text.specs.Fed.{HasFed}
 use Rattle.script_text.proofs.Cuts.{script-by}
-use Rattle.script_text.proofs.Joining.{piece-fits, reading-begun, reading-more, reading-stopped, reading-ended}
+use Rattle.script_text.proofs.Joining.{piece-fits, reading-begun, reading-stopped, reading-ended}
 use Rattle.script_text.proofs.pieces.read_pieces.Goals as goal
 
 pub loop-piece-init : goal.loop-piece-init

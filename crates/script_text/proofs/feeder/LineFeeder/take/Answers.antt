@@ -1,4 +1,4 @@
-use Rattle.std.proofs.Common.{◌≡◌, ◌≤◌, ℕ, false, length, refl, sym, subst, arith, rules}
+use Rattle.std.proofs.Common.{◌≤◌, length, refl, sym, subst, rules}
 use Rattle.std.proofs.lemmas.Bool.{ne_eqb}
 use Rattle.script_text.specs.Fed.{HasTakenByte}
 use Rattle.script_text.proofs.Feeding.{line-taken, byte-taken, byte-refused}
