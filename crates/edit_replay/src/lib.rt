@@ -1,7 +1,7 @@
 //! A session of queries and edits on one map.
 //!
-//! A session keeps the current layers and the memory of its searches, so that a query costs in
-//! proportion to what it touches and not to the map.
+//! A session keeps the current layers and the memory of its searches, which is made once and used
+//! again by each query, so that none has to clear it as a whole. No clause bounds the time of a query.
 #![tactic(auto)]
 
 mod beside;

@@ -154,7 +154,7 @@ impl Session {
     /// layers as before, and may be asked and edited again.
     ///
     /// `steps` counts what the engine counts: by the most and the fewest that are told of it, for each
-    /// state that was taken. The engines `plain` and `jps` count none.
+    /// state that was taken. On `Ok` the engines `plain` and `jps` count none.
     pub fn query<L: Ledger>(
         &mut self,
         alloc: Global,
