@@ -70,11 +70,7 @@ pub struct Settings {
 /// Which engine searches.
 #[derive(Clone, Copy, Debug, Default, PartialEq, Eq)]
 pub enum Pick {
-<<<<<<< HEAD
-    /// The one that goes from cell to cell.
-=======
     /// The one that goes on by every legal move, less those that the parent has offered as cheaply.
->>>>>>> 201bb54433464697d2fe7bab86de8aa07c99ad29
     #[default]
     Plain,
     /// The one that jumps, cell by cell.
@@ -88,12 +84,8 @@ pub enum Pick {
 /// What an answer shows of a walk.
 #[derive(Clone, Copy, Debug, Default, PartialEq, Eq)]
 pub enum Show {
-<<<<<<< HEAD
-    /// Cells that lead along the walk in straight lines: its ends, its turns, and the stops of jumps.
-=======
     /// Points that a walk is told by: by `plain` the ends of its straight pieces, by the engines that
     /// jump the cells where the search stopped on the way, of which several may lie on one line.
->>>>>>> 201bb54433464697d2fe7bab86de8aa07c99ad29
     #[default]
     Points,
     /// Each cell of the walk.
