@@ -1,7 +1,7 @@
 //! A session of queries and edits on one map.
 //!
-//! A session keeps the current layers and the memory of its searches, which is made once and used
-//! again by each query, so that none has to clear it as a whole. No clause bounds the time of a query.
+//! A session keeps the current layers, what its engine keeps beside them, and the memory of its
+//! searches, which is made once and used by each query.
 #![tactic(auto)]
 
 mod beside;

@@ -9,8 +9,7 @@ use grid_moves::{Grid, Terrain};
 use plain_search::Workspace;
 use std::alloc::Global;
 
-/// The memory of searches, by the states that the engine has. It depends on the
-/// engine and on the sides of a map.
+/// The memory of searches, by the states that the engine has. Of a map it depends on the sides alone.
 #[derive(Drop)]
 pub(crate) enum Memory {
     /// One state for each cell: for the plain engine.

@@ -124,8 +124,8 @@ impl Session {
     /// the session stands for the map after all edits in turn, where the last edit of a cell
     /// decides. No memory is taken.
     ///
-    /// The engines `plain` and `jps` keep nothing that an edit has to mend, and count no steps. With
-    /// `plus` a step is one refresh of a table entry: on each layer that the edit changes, at most 18
+    /// The engines `plain` and `jps` keep nothing that an edit has to mend, and `block` changes bits; they
+    /// count no steps. With `plus` a step is one refresh of a table entry: on each layer that the edit changes, at most 18
     /// for each row and each column of the map, and one for each entry that changes.
     pub fn edit<L: Ledger>(&mut self, x: u32, y: u32, to: Ground, steps: &mut Steps<L>) -> EditReply
         ensures reply { result ≡ edit_reply self.old.layers (edit_at x y to) }
@@ -154,7 +154,7 @@ impl Session {
     /// layers as before, and may be asked and edited again.
     ///
     /// `steps` counts what the engine counts: by the most and the fewest that are told of it, for each
-    /// state that was taken. On `Ok` the engines `plain` and `jps` count none.
+    /// state that was taken. `plain` counts none, and `jps` none where it answers.
     pub fn query<L: Ledger>(
         &mut self,
         alloc: Global,
