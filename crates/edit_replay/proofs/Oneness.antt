@@ -89,7 +89,7 @@ module _ (g : GridData) (s t : Cell) where
   -- the plain engine's run is one, and so is that of all engines that jump
   runs_are_one : (e : Engine) → AreOne (Finds e g s t) (Exhausts e g s t)
   runs_are_one engine.Plain = plain_runs
-  runs_are_one engine.Jps = jump_runs
+  runs_are_one other = jump_runs
 
 not_both : (b : Bool) → b ≡ true → b ≡ false → ⊥
 not_both b e f = let h : true ≡ false = sym e ∙ f in cc
