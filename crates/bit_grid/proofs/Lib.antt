@@ -1,3 +1,4 @@
 pub mod Words
 mod Packing
 mod Showing
+mod Turning

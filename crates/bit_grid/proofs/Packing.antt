@@ -5,6 +5,7 @@ use Rattle.std.proofs.Math.Seq.{get_or-append_seam}
 use Rattle.std.proofs.lemmas.Nat.{div-mul-add, mod-mul-add, mul-add-lt}
 use Rattle.std.proofs.lemmas.Bool.{cases_lt}
 use Rattle.bit_grid.specs.Bits.{is_set}
+use Rattle.bit_grid.specs.Turn.{ArePackedSoFar}
 
 -- one more position, below those that a word shows
 pub packed_more : (f : ℕ → Bool) (first done word next : ℕ) (bit : Bool) → done < 64
@@ -18,11 +19,6 @@ packed_more f first done word next bit few is lowest others so_far zero h =
 packed_more f first done word next bit few is lowest others so_far (suc j) h =
     let there : first + (64 - done) + j ≡ first + (64 - (done + 1)) + suc j = omega arith in
     others j (omega arith) ∙ so_far j (omega arith) ∙ ap f there
-
--- the words show lines one after the other, so many words each
-abbrev pub ArePackedSoFar : (ℕ → ℕ → Bool) → ℕ → List ℕ → Type 0
-ArePackedSoFar free per_line words = (m : ℕ) → m < length words → (j : ℕ) → j < 64
-    → is_set (slice_index_or words m 0) j ≡ free (m / per_line) (m % per_line * 64 + j)
 
 -- a further word
 pub packed_further : (free : ℕ → ℕ → Bool) (per_line line w word : ℕ) (words : List ℕ)

@@ -5,7 +5,6 @@ ghost use Rattle.grid_moves.specs.Grid.{GridData, grid_with, is_inside};
 
 use crate::NoMemory;
 use crate::lines::{Columns, Lines, Rows};
-use crate::pack::Axis;
 use grid_moves::{Cell, Terrain};
 use std::alloc::Global;
 use std::marker::Model;
@@ -36,10 +35,9 @@ impl BitGrid {
         ensures { IfOk result (λ bits. AreBitsOf bits (T.grid t.now)) }
     {
         let (width, height) = (t.width(), t.height());
-        Ok(BitGrid {
-            rows: Lines::on(alloc, t, Axis::Rows, height, width)?,
-            columns: Lines::on(alloc, t, Axis::Columns, width, height)?,
-        })
+        let rows = Lines::rows_of(alloc, t, height, width)?;
+        let columns = rows.turned(alloc, width, height)?;
+        Ok(BitGrid { rows, columns })
     }
 
     /// Makes a cell of the map free, or blocked, in its row and in its column; all other bits stay.

@@ -9,6 +9,7 @@
 mod grid;
 mod lines;
 mod pack;
+mod turn;
 
 pub use grid::BitGrid;
 pub use lines::{Columns, Lines, Rows};

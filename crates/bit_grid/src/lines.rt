@@ -1,12 +1,13 @@
 //! Lines of bits.
 
-ghost use Rattle.std.specs.Prelude.{◌≡◌, ℕ, ◌+◌, ◌*◌, ◌<◌, ◌≤◌, Bool, IfOk, length, slice_index_or, nat_eq, if◌then◌else◌};
+ghost use Rattle.std.specs.Prelude.{◌≡◌, ℕ, ◌+◌, ◌*◌, ◌<◌, ◌≤◌, Bool, false, IfOk, length, slice_index_or, nat_eq, if◌then◌else◌};
 ghost use Rattle.grid_moves.specs.Grid.{IsGrid};
-ghost use Rattle.bit_grid.specs.Pack.{is_free_on};
+ghost use Rattle.bit_grid.specs.Pack.{is_free_in};
 ghost use Rattle.bit_grid.specs.Bits.{Shows, is_set, with_cell};
 
 use crate::NoMemory;
-use crate::pack::{Axis, words_on};
+use crate::pack::words_on;
+use crate::turn::turned;
 use grid_moves::Terrain;
 use std::alloc::Global;
 use std::marker::Model;
@@ -66,24 +67,51 @@ fn blocks_for(bits: u32) -> u32
 }
 
 impl Lines {
-    // The lines of a grid along an axis, told how many there are and how many cells each has.
-    pub(crate) fn on<T: Terrain>(
+    // The rows of a grid, told how many there are and how many cells each has.
+    pub(crate) fn rows_of<T: Terrain>(
         alloc: Global,
         t: &T,
-        axis: Axis,
         lines: u16,
         positions: u16,
     ) -> Result<Lines, NoMemory>
         requires whole { IsGrid (T.grid t.now) }
         requires lines { lines ≤ 4096 }
         requires positions { positions ≤ 4096 }
-        ensures { IfOk result (λ l. Shows l lines positions (is_free_on axis (T.grid t.now))) }
+        ensures { IfOk result (λ l. Shows l lines positions (is_free_in (T.grid t.now))) }
     {
         let lines = lines + 2;
         let blocks = blocks_for(u32::from(positions) + 2);
-        let words = words_on(alloc, t, axis, lines, blocks as u16 * 8)?;
+        let words = words_on(alloc, t, lines, blocks as u16 * 8)?;
         Ok(Lines {
             lines: u32::from(lines),
+            blocks,
+            words,
+        })
+    }
+
+    // The columns, told the rows: so many columns of so many cells.
+    pub(crate) fn turned(&self, alloc: Global, columns: u16, cells: u16) -> Result<Lines, NoMemory>
+        requires columns { columns ≤ 4096 }
+        requires cells { cells ≤ 4096 }
+        requires wide { columns + 2 ≤ self.now.blocks * 512 }
+        requires high { self.now.lines ≡ cells + 2 }
+        requires short { self.now.blocks ≤ 128 }
+        ensures { IfOk result (λ l. (free : ℕ → ℕ → Bool) → Shows self.now cells columns free
+            → ((line place : ℕ) → cells + 2 ≤ line → free line place ≡ false)
+            → Shows l columns cells (λ line place. free place line)) }
+    {
+        let lines = u32::from(columns) + 2;
+        let blocks = blocks_for(u32::from(cells) + 2);
+        let words = turned(
+            alloc,
+            &self.words,
+            self.lines as usize,
+            self.blocks as usize * 8,
+            lines as usize,
+            blocks as usize * 8,
+        )?;
+        Ok(Lines {
+            lines,
             blocks,
             words,
         })

@@ -4,3 +4,4 @@ pub mod Answering
 pub mod Replying
 pub mod Counts
 pub mod Oneness
+pub mod Following

@@ -90,6 +90,8 @@ module _ (g : GridData) (s t : Cell) where
   runs_are_one : (e : Engine) → AreOne (Finds e g s t) (Exhausts e g s t)
   runs_are_one engine.Plain = plain_runs
   runs_are_one engine.Jps = jump_runs
+  runs_are_one engine.Plus = jump_runs
+  runs_are_one engine.Block = jump_runs
 
 not_both : (b : Bool) → b ≡ true → b ≡ false → ⊥
 not_both b e f = let h : true ≡ false = sym e ∙ f in cc

@@ -15,7 +15,7 @@ use Rattle.plain_search.specs.declared.search.Plain.TheVariants as found
 use Rattle.plain_search.proofs.Answering as plainly
 use Rattle.search_core.specs.Run as jump
 use Rattle.search_core.proofs.Answering as jumping
-use Rattle.edit_replay.specs.Replies.{answer_of, IsRunOn}
+use Rattle.edit_replay.specs.Replies.{answer_of, Exhausts, Finds, IsRunOn}
 use Rattle.edit_replay.specs.Session.{SessionData}
 use Rattle.edit_replay.specs.Existence.{HasReply}
 use Rattle.edit_replay.specs.declared.reply.Reply.{Reply}
@@ -43,26 +43,43 @@ module _ (ls : Layers) (s t : Cell) where
   by_plain free one (found.None taken) run least =
       record { reply = None taken; right = (free, inr least); run = rw one run }
 
-  -- and that of a search over jumps
-  by_jumps : are_free_ends ls s t ≡ true → in_one_layer ls s t ≡ true → (answer : Option (List Cell × Cost))
-      → (taken : List ℕ)
-      → MatchOption answer (jump.IsExhausted (query_grid ls s) s t taken)
-      (λ told. jump.IsFound (query_grid ls s) s t told.0 told.1 taken)
-      → MatchOption answer (NoWalk (query_grid ls s) s t)
-      (λ told. StandsForLeast (query_grid ls s) s t told.0 told.1)
-      → HasReplyBy engine.Jps
-  by_jumps free one (option.Some told) taken run least =
-      record { reply = Walk told.0 told.1 taken; right = (one, least); run = run }
-  by_jumps free one option.None taken run least =
-      record { reply = None taken; right = (free, inr least); run = rw one run }
+  -- and that of a search over jumps, for an engine whose run is that one
+  module _ (e : Engine)
+      (finds : (points : List Cell) (cost : Cost) (taken : List ℕ)
+      → jump.IsFound (query_grid ls s) s t points cost taken → Finds e (query_grid ls s) s t points cost taken)
+      (exhausts : (taken : List ℕ) → jump.IsExhausted (query_grid ls s) s t taken
+      → Exhausts e (query_grid ls s) s t taken) where
+    by_answer : are_free_ends ls s t ≡ true → in_one_layer ls s t ≡ true
+        → (answer : Option (List Cell × Cost)) → (taken : List ℕ)
+        → MatchOption answer (jump.IsExhausted (query_grid ls s) s t taken)
+        (λ told. jump.IsFound (query_grid ls s) s t told.0 told.1 taken)
+        → MatchOption answer (NoWalk (query_grid ls s) s t)
+        (λ told. StandsForLeast (query_grid ls s) s t told.0 told.1)
+        → HasReplyBy e
+    by_answer free one (option.Some told) taken run least = record {
+      reply = Walk told.0 told.1 taken;
+      right = (one, least);
+      run = finds told.0 told.1 taken run;
+    }
+    by_answer free one option.None taken run least =
+        record { reply = None taken; right = (free, inr least); run = rw one (exhausts taken run) }
+
+    by_jumps : are_free_ends ls s t ≡ true → in_one_layer ls s t ≡ true
+        → is_free (query_grid ls s) s ≡ true → HasReplyBy e
+    by_jumps free one from =
+        let a = jumping.has_answer (query_grid ls s) s t from in
+        by_answer free one a.answer.answer a.answer.taken a.run a.least
 
   searched : (e : Engine) → are_free_ends ls s t ≡ true → in_one_layer ls s t ≡ true
       → is_free (query_grid ls s) s ≡ true → HasReplyBy e
   searched engine.Plain free one from =
       let a = plainly.has_answer (query_grid ls s) s t from in by_plain free one a.answer a.run a.least
   searched engine.Jps free one from =
-      let a = jumping.has_answer (query_grid ls s) s t from in
-      by_jumps free one a.answer.answer a.answer.taken a.run a.least
+      by_jumps engine.Jps (λ points cost taken found. found) (λ taken ended. ended) free one from
+  searched engine.Block free one from =
+      by_jumps engine.Block (λ points cost taken found. found) (λ taken ended. ended) free one from
+  searched engine.Plus free one from =
+      by_jumps engine.Plus (λ points cost taken found. found) (λ taken ended. ended) free one from
 
   module _ (e : Engine) where
     -- by the layers of two free ends

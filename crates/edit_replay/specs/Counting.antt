@@ -1,7 +1,8 @@
 -- How many steps a query counts.
 use Rattle.std.specs.Prelude.{ℕ, ◌+◌, ◌-◌, ◌*◌, ◌≤◌, ⊤, length, Option, Some, MatchOption}
+use Rattle.std.specs.Prelude as option
 use Rattle.edit_replay.specs.declared.engine.Engine.{Engine}
-use Rattle.edit_replay.specs.declared.engine.Engine.TheVariants.{Plain, Jps}
+use Rattle.edit_replay.specs.declared.engine.Engine.TheVariants.{Plain, Jps, Block, Plus}
 use Rattle.edit_replay.specs.declared.reply.Reply.{Reply}
 use Rattle.edit_replay.specs.declared.reply.Reply.TheVariants.{Walk, None, Outside, Blocked}
 
@@ -9,11 +10,15 @@ use Rattle.edit_replay.specs.declared.reply.Reply.TheVariants.{Walk, None, Outsi
 abbrev pub most_of : Engine → Option ℕ
 most_of Plain = Some 0
 most_of Jps = Some 0
+most_of Block = option.None
+most_of Plus = Some 40
 
 -- the fewest steps that it counts for a state that it takes away from the goal
 abbrev pub fewest_of : Engine → ℕ
 fewest_of Plain = 0
 fewest_of Jps = 0
+fewest_of Block = 3
+fewest_of Plus = 1
 
 -- how many states the search took
 abbrev pub states_taken : Reply → ℕ

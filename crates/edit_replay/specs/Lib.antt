@@ -1,6 +1,7 @@
 pub mod Edited
 pub mod Session
-pub mod Memory
+pub mod Kept
+pub mod Mended
 pub mod Counting
 pub mod Replies
 pub mod Existence

@@ -12,7 +12,7 @@ use Rattle.search_core.specs.Run as jump
 use Rattle.edit_replay.specs.Edited.{Edit, edited}
 use Rattle.edit_replay.specs.Session.{SessionData}
 use Rattle.edit_replay.specs.declared.engine.Engine.{Engine}
-use Rattle.edit_replay.specs.declared.engine.Engine.TheVariants.{Plain, Jps}
+use Rattle.edit_replay.specs.declared.engine.Engine.TheVariants.{Plain}
 use Rattle.edit_replay.specs.declared.reply.EditReply.{EditReply}
 use Rattle.edit_replay.specs.declared.reply.EditReply.TheVariants as replied
 use Rattle.edit_replay.specs.declared.reply.Reply.{Reply}
@@ -35,12 +35,12 @@ IsShort (walk points cost) = cost.a + cost.b < 2 ^ 24
 -- an engine's run on one grid found this walk: the plain engine's run, or that of all engines that jump
 abbrev pub Finds : Engine → GridData → Cell → Cell → List Cell → Cost → List ℕ → Type 0
 Finds Plain g s t points cost taken = plain.IsFound g s t points cost taken
-Finds Jps g s t points cost taken = jump.IsFound g s t points cost taken
+Finds other g s t points cost taken = jump.IsFound g s t points cost taken
 
 -- an engine's run on one grid ended without a walk
 abbrev pub Exhausts : Engine → GridData → Cell → Cell → List ℕ → Type 0
 Exhausts Plain g s t taken = plain.IsExhausted g s t taken
-Exhausts Jps g s t taken = jump.IsExhausted g s t taken
+Exhausts other g s t taken = jump.IsExhausted g s t taken
 
 -- points, cost and taken states are those of the run of all engines that jump, between free cells of this grid
 abbrev pub IsJumpReply : GridData → Cell → Cell → Reply → Type 0

@@ -8,4 +8,8 @@ pub enum Engine {
     /// Jump point search, whose jumps are found cell by cell. A state is a cell and the direction in
     /// which it was come to.
     Jps,
+    /// The same, whose jumps are found over bits, 512 cells at a time.
+    Block,
+    /// The same, whose jumps are read off tables that edits mend.
+    Plus,
 }

@@ -1,9 +1,10 @@
 //! A session of queries and edits on one map.
 //!
-//! A session keeps the current layers and the memory of its searches, so that a query costs in
-//! proportion to what it touches and not to the map.
+//! A session keeps the current layers, what its engine keeps beside them, and the memory of its
+//! searches, which is made once and used by each query.
 #![tactic(auto)]
 
+mod beside;
 mod engine;
 pub mod laws;
 mod layer;

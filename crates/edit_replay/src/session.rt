@@ -1,11 +1,12 @@
 //! The session.
 
-ghost use Rattle.std.specs.Prelude.{◌≡◌, ◌<◌, IfOk, MatchOption, true, false};
+ghost use Rattle.std.specs.Prelude.{◌≡◌, ◌<◌, ◌≤◌, IfOk, MatchOption, true, false};
 ghost use Rattle.grid_moves.specs.Grid.{IsGrid, is_inside};
 ghost use Rattle.grid_moves.specs.Layers as spec;
 ghost use Rattle.grid_moves.specs.Reply.{IsRight};
 ghost use Rattle.edit_replay.specs.Counting.{RoseByStates, RoseWithin, fewest_of, most_of};
 ghost use Rattle.edit_replay.specs.Edited.{edit_at, edit_reply};
+ghost use Rattle.edit_replay.specs.Mended.{IsEditCounted};
 ghost use Rattle.edit_replay.specs.Replies.{answer_of, AddsEdit, EditsSo, IsEnd, IsRunReply, IsShort};
 
 use crate::layer::Layer;
@@ -27,19 +28,17 @@ pub struct Session {
 }
 
 impl Model for Session {
-    ghost use Rattle.grid_moves.specs.Layers.{AreLayers};
-    ghost use Rattle.edit_replay.specs.Memory.{Fits, engine_with};
+    ghost use Rattle.edit_replay.specs.Kept.{AreKept, engine_with};
     ghost use Rattle.edit_replay.specs.Session.{SessionData};
 
     ghost Value = { SessionData };
 
     ghost view = { λ s. record {
-      engine = engine_with s.memory;
+      engine = engine_with s.memory s.land.beside;
       layers = record { land = s.land.grid; water = s.water.grid };
     } };
 
-    ghost invariant = { λ s.
-        AreLayers (record { land = s.land.grid; water = s.water.grid }) × Fits s.land.grid s.memory };
+    ghost invariant = { λ s. AreKept s.land s.water s.memory };
 }
 
 // The cell of a queried column and row, where it lies inside.
@@ -97,8 +96,8 @@ impl Session {
         let water = Grid::of_layer(alloc, width, height, cells, corner, Ground::Water)?;
         let memory = Memory::new(alloc, engine, &land)?;
         Ok(Session {
-            land: Layer { grid: land },
-            water: Layer { grid: water },
+            land: Layer::new(alloc, engine, land)?,
+            water: Layer::new(alloc, engine, water)?,
             memory,
         })
     }
@@ -125,13 +124,16 @@ impl Session {
     /// the session stands for the map after all edits in turn, where the last edit of a cell
     /// decides. No memory is taken.
     ///
-    /// The engines `plain` and `jps` keep nothing that an edit has to mend, and count no steps.
+    /// The engines `plain` and `jps` keep nothing that an edit has to mend, and `block` changes bits; they
+    /// count no steps. With `plus` a step is one refresh of a table entry: on each layer that the edit changes, at most 18
+    /// for each row and each column of the map, and one for each entry that changes.
     pub fn edit<L: Ledger>(&mut self, x: u32, y: u32, to: Ground, steps: &mut Steps<L>) -> EditReply
         ensures reply { result ≡ edit_reply self.old.layers (edit_at x y to) }
         ensures edited { AddsEdit self.old.layers (edit_at x y to) self.new.layers }
         ensures cell { EditsSo self.old.layers (record { x = x; y = y }) to self.new.layers result }
         ensures engine { self.new.engine ≡ self.old.engine }
-        ensures uncounted { steps.new ≡ steps.old }
+        ensures counted { IsEditCounted self.old.engine self.old.layers self.new.layers steps.old steps.new }
+        ensures later { steps.old ≤ steps.new }
     {
         let Some(c) = cell_at(&self.land.grid, x, y) else {
             return EditReply::Outside;
@@ -139,8 +141,8 @@ impl Session {
         if ground_at(&self.land.grid, &self.water.grid, c) == to {
             return EditReply::Same;
         }
-        self.land.set(c, to == Ground::Land);
-        self.water.set(c, to == Ground::Water);
+        self.land.set(c, to == Ground::Land, steps);
+        self.water.set(c, to == Ground::Water, steps);
         EditReply::Done
     }
 
@@ -152,7 +154,7 @@ impl Session {
     /// layers as before, and may be asked and edited again.
     ///
     /// `steps` counts what the engine counts: by the most and the fewest that are told of it, for each
-    /// state that was taken. The engines `plain` and `jps` count none.
+    /// state that was taken. `plain` counts none, and `jps` none where it answers.
     pub fn query<L: Ledger>(
         &mut self,
         alloc: Global,

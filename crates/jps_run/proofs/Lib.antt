@@ -18,3 +18,4 @@ pub mod Incomings
 pub mod Ended
 pub mod Serving
 pub mod Printing
+pub mod Counts

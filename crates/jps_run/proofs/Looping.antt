@@ -19,6 +19,21 @@ take-more {X} xs i x h e =
     ap (λ n. take n xs) (let s : i + 1 ≡ suc i = omega arith in s) ∙ take-suc xs i x h
     ∙ ap (λ (y : X). take i xs ++ y ∷ []) (sym e)
 
+-- what holds of the first items and of one more
+pub counted-more : {Job Item : Type 0} (Counted : Job → Job → List Item → ℕ → ℕ → Type 0) (first now : Job)
+    (items : List Item) (count : ℕ) (item : Item) (start new : ℕ) → count < length items
+    → item ≡ get_or items count item → Counted first now (take count items ++ item ∷ []) start new
+    → Counted first now (take (count + 1) items) start new
+counted-more {Item = Item} Counted first now items count item start new h e counted =
+    subst (λ (some : List Item). Counted first now some start new) (sym (take-more items count item h e)) counted
+
+-- and of all
+pub counted-all : {Job Item : Type 0} (Counted : Job → Job → List Item → ℕ → ℕ → Type 0) (first now : Job)
+    (items : List Item) (count start new : ℕ) → length items ≤ count
+    → Counted first now (take count items) start new → Counted first now items start new
+counted-all {Item = Item} Counted first now items count start new h counted =
+    subst (λ (some : List Item). Counted first now some start new) (take_all count items h) counted
+
 module _ {Job Item : Type 0} (Worked : Job → Job → List Item → List (List ℕ) → Type 0)
     (Whole : Job → List Item → List (List ℕ) → ℕ → Type 0) (first : Job) where
   -- lines that some items have can be completed, whatever items come behind

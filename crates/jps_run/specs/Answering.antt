@@ -1,12 +1,14 @@
 -- How far the answers to commands have come. No public clause cites this module.
-use Rattle.std.specs.Prelude.{◌≡◌, ℕ, List, [], ◌++◌}
+use Rattle.std.specs.Prelude.{◌≡◌, ℕ, ◌+◌, ◌*◌, ◌≤◌, List, [], ◌++◌}
 use Rattle.std.specs.List.{fold}
 use Rattle.grid_moves.specs.Layers.{Layers}
 use Rattle.edit_replay.specs.Edited.{Edit, edited}
 use Rattle.edit_replay.specs.Session.{SessionData}
+use Rattle.edit_replay.specs.Counting.{fewest_of}
 use Rattle.script_text.specs.declared.command.Command.{Command}
 use Rattle.word_list.specs.declared.request.Show.{Show}
 use Rattle.jps_run.specs.Answers.{IsAnswerLine, AreAnswers, edits_with}
+use Rattle.jps_run.specs.Counting.{CommandTakes, CommandsTake, RoseBy}
 use Rattle.jps_run.specs.Session.{session_after}
 use Rattle.jps_run.specs.declared.answers.Answers.{Answers}
 
@@ -21,6 +23,17 @@ pub record GoesOn (old : SessionData) (command : Command) (new : SessionData) : 
   pub engine : new.engine ≡ old.engine
   pub layers : (m : Layers) (edits : List Edit) → old.layers ≡ edited m edits
       → new.layers ≡ edited m (edits_with edits command)
+
+-- the counter rose by at least the fewest steps of the engine for each state that the command takes
+pub record TakesFor (d : SessionData) (command : Command) (old new : ℕ) : Type 0 where
+  pub count : ℕ
+  pub takes : CommandTakes d command count
+  pub rose : old + count * fewest_of d.engine ≤ new
+
+-- it did so for these commands, and their edits were made
+pub record HaveTaken (first now : Answers) (commands : List Command) (old new : ℕ) : Type 0 where
+  pub rose : RoseBy first.session (CommandsTake first.session commands) old new
+  pub session : now.session ≡ session_after first.session (fold edits_with [] commands)
 
 -- the commands have these lines, and their edits were made
 pub record HasAnswered (first now : Answers) (commands : List Command) (lines : List (List ℕ)) : Type 0 where

@@ -10,6 +10,7 @@ pub mod Reading
 pub mod Lines
 pub mod Answers
 pub mod Rows
+pub mod Counting
 pub mod Tally
 pub mod Texts
 pub mod Heard

@@ -14,13 +14,15 @@ use Rattle.edit_replay.specs.declared.reply.Reply.{Reply}
 use Rattle.edit_replay.specs.declared.engine.Engine.{Engine}
 use Rattle.edit_replay.specs.declared.engine.Engine.TheVariants as engine
 use Rattle.word_list.specs.declared.request.Pick.{Pick}
-use Rattle.word_list.specs.declared.request.Pick.TheVariants.{Plain, Jps}
+use Rattle.word_list.specs.declared.request.Pick.TheVariants.{Plain, Jps, Block, Plus}
 use Rattle.word_list.specs.declared.request.Settings.{Settings}
 
 -- the engine that is picked
 abbrev pub engine_of : Pick → Engine
 engine_of Plain = engine.Plain
 engine_of Jps = engine.Jps
+engine_of Block = engine.Block
+engine_of Plus = engine.Plus
 
 -- the corner rule, by whether a diagonal move may pass one blocked cell
 abbrev pub corner_of : Bool → Corner

@@ -1,7 +1,8 @@
 //! The answers to commands: edits and queries of a session.
 
 ghost use Rattle.std.specs.Prelude.{OnOk};
-ghost use Rattle.jps_run.specs.Answering.{PutsAnswer, GoesOn, IsSolved};
+ghost use Rattle.jps_run.specs.Answering.{PutsAnswer, GoesOn, IsSolved, TakesFor};
+ghost use Rattle.jps_run.specs.Counting.{CommandsTake, RoseBy};
 ghost use Rattle.jps_run.specs.Hearing.{AnswersMore};
 ghost use Rattle.jps_run.specs.Seen.{stream};
 ghost use Rattle.jps_run.specs.Sending.{SendsWhole};
@@ -29,7 +30,7 @@ pub(crate) struct Answers {
 
 impl Job for Answers {
     ghost use Rattle.std.specs.Prelude.{⊤};
-    ghost use Rattle.jps_run.specs.Answering.{HasAnswered, IsSolved};
+    ghost use Rattle.jps_run.specs.Answering.{HasAnswered, HaveTaken, IsSolved};
 
     type Item = Command;
 
@@ -38,6 +39,8 @@ impl Job for Answers {
     ghost has_worked = { HasAnswered };
 
     ghost is_whole = { IsSolved };
+
+    ghost has_counted = { HaveTaken };
 
     fn answer<L: Ledger>(
         &mut self,
@@ -66,6 +69,7 @@ fn put_answer<L: Ledger>(
 ) -> Result<(), NoMemory>
     ensures answered { OnOk result (PutsAnswer session.old show command lines.old.items lines.new.items) }
     ensures edited { OnOk result (GoesOn session.old command session.new) }
+    ensures counted { OnOk result (TakesFor session.old command steps.old steps.new) }
 {
     match command {
         Command::Block { x, y } => put_edit_reply(
@@ -90,9 +94,11 @@ pub(crate) fn write_answers<O: Sink, L: Ledger>(
     out: &mut O,
     steps: &mut Steps<L>,
 ) -> Result<u8, Stop>
-    ensures { SendsWhole (IsSolved (record { session = session; show = show }) commands.now)
+    ensures sent { SendsWhole (IsSolved (record { session = session; show = show }) commands.now)
         (stream (O.written out.old) (O.faults out.old))
         (stream (O.written out.new) (O.faults out.new)) result }
+    ensures counted { OnOk result
+        (RoseBy session (CommandsTake session commands.now) steps.old steps.new) }
 {
     let mut job = Answers { session, show };
     work_items(alloc, &mut job, commands, out, steps)

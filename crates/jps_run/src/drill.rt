@@ -3,10 +3,13 @@
 
 ghost use Rattle.std.specs.Prelude.{◌≡◌, ◌≤◌, ◌^◌, ◌++◌, ◌∷◌, [], List, OnOk, IfOk, length};
 ghost use Rattle.edit_replay.specs.Replies.{IsShort, answer_of};
-ghost use Rattle.jps_run.specs.Answering.{GoesOn};
+ghost use Rattle.word_list.specs.Request as asked;
+ghost use Rattle.jps_run.specs.Answering.{GoesOn, TakesFor};
+ghost use Rattle.jps_run.specs.Counting.{CommandsTake, RoseBy, RoseFor};
 ghost use Rattle.jps_run.specs.Drill as spec;
 ghost use Rattle.jps_run.specs.Drill.{IsDrillText, IsFinding, IsShortFinding};
 ghost use Rattle.jps_run.specs.Drilling.{HasRoom, HasSummed, sums_of, sums_text};
+ghost use Rattle.jps_run.specs.Outcome.{call_with};
 ghost use Rattle.jps_run.specs.Seen.{stream};
 ghost use Rattle.jps_run.specs.Sending.{SendsOne};
 
@@ -180,6 +183,7 @@ fn find<L: Ledger>(
     ensures found { IfOk result (IsFinding session.old command) }
     ensures short { IfOk result (λ found. IsShortFinding found) }
     ensures edited { OnOk result (GoesOn session.old command session.new) }
+    ensures counted { OnOk result (TakesFor session.old command steps.old steps.new) }
 {
     match command {
         Command::Block { x, y } => Ok(finding_of_edit(session.edit(x, y, Ground::Blocked, steps))),
@@ -200,7 +204,9 @@ fn sum_up<L: Ledger>(
     steps: &mut Steps<L>,
 ) -> Result<Sums, NoMemory>
     requires few { length commands.now ≤ 2 ^ 32 }
-    ensures { IfOk result (HasSummed session.old commands.now) }
+    ensures summed { IfOk result (HasSummed session.old commands.now) }
+    ensures counted { OnOk result
+        (RoseBy session.old (CommandsTake session.old commands.now) steps.old steps.new) }
 {
     let mut sums = Sums::new();
     for command in commands {
@@ -217,7 +223,8 @@ fn drill_text<L: Ledger>(
     settings: Settings,
     steps: &mut Steps<L>,
 ) -> Result<Vec<u8>, NoMemory>
-    ensures { IfOk result (λ text. IsDrillText settings seed text.items) }
+    ensures text { IfOk result (λ text. IsDrillText settings seed text.items) }
+    ensures counted { OnOk result (RoseFor (call_with (asked.Drill seed) settings) [] steps.old steps.new) }
 {
     let map = map_maker::make(alloc, seed, SIDE, SIDE, PERCENT)?;
     let mut session = Session::new(
@@ -241,8 +248,9 @@ pub(crate) fn drill<O: Sink, L: Ledger>(
     settings: Settings,
     steps: &mut Steps<L>,
 ) -> Result<u8, Stop>
-    ensures { SendsOne (IsDrillText settings seed) (stream (O.written out.old) (O.faults out.old))
+    ensures sent { SendsOne (IsDrillText settings seed) (stream (O.written out.old) (O.faults out.old))
         (stream (O.written out.new) (O.faults out.new)) result }
+    ensures counted { OnOk result (RoseFor (call_with (asked.Drill seed) settings) [] steps.old steps.new) }
 {
     let text = drill_text(alloc, seed, settings, steps)?;
     send_text(out, text.as_slice())

@@ -167,6 +167,8 @@ pub(crate) fn engine_of(pick: Pick) -> Engine
     match pick {
         Pick::Plain => Engine::Plain,
         Pick::Jps => Engine::Jps,
+        Pick::Block => Engine::Block,
+        Pick::Plus => Engine::Plus,
     }
 }
 

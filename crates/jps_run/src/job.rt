@@ -26,6 +26,9 @@ pub(crate) trait Job {
     // the job's whole output for these items has these lines and this status
     ghost is_whole: { Self → List Self.Item → List (List ℕ) → ℕ → Type 0 };
 
+    // the first job became the other by working these items, and the counter rose as it has to
+    ghost has_counted: { Self → Self → List Self.Item → ℕ → ℕ → Type 0 };
+
     /// Works the item of this number, counted from 1, and appends its lines.
     fn answer<L: Ledger>(
         &mut self,
@@ -37,9 +40,12 @@ pub(crate) trait Job {
     ) -> Result<(), NoMemory>
         requires can { can_work item }
         requires next { IsNext (has_worked) self.old number }
-        ensures { OnOk result ((first : Self) (items : List Self.Item) (so_far : List (List ℕ))
+        ensures worked { OnOk result ((first : Self) (items : List Self.Item) (so_far : List (List ℕ))
             → has_worked first self.old items so_far
-            → Adds (has_worked first self.new (items ++ item ∷ [])) so_far lines.old.items lines.new.items) };
+            → Adds (has_worked first self.new (items ++ item ∷ [])) so_far lines.old.items lines.new.items) }
+        ensures counted { OnOk result ((first : Self) (items : List Self.Item) (start : ℕ)
+            → has_counted first self.old items start steps.old
+            → has_counted first self.new (items ++ item ∷ []) start steps.new) };
 
     /// Appends what closes the output behind the last item, and gives the status.
     fn close(&self, lines: &mut Vec<u8>) -> Result<u8, NoMemory>
@@ -62,8 +68,10 @@ where
     requires begins { J.has_worked job.old job.old [] [] }
     requires completes { (now : J) (some others : List J.Item) (lines : List (List ℕ))
         → J.has_worked job.old now some lines → Completes (J.is_whole job.old (some ++ others)) lines }
-    ensures { SendsWhole (J.is_whole job.old items.now) (stream (O.written out.old) (O.faults out.old))
+    requires counts { J.has_counted job.old job.old [] steps.old steps.old }
+    ensures sent { SendsWhole (J.is_whole job.old items.now) (stream (O.written out.old) (O.faults out.old))
         (stream (O.written out.new) (O.faults out.new)) result }
+    ensures counted { OnOk result (J.has_counted job.old job.new items.now steps.old steps.new) }
 {
     let mut lines = Vec::new(alloc);
     for (place, item) in items.iter().enumerate() {

@@ -1,7 +1,8 @@
 //! The command `query`: a script of one command.
 
-ghost use Rattle.std.specs.Prelude.{◌≡◌};
+ghost use Rattle.std.specs.Prelude.{◌≡◌, OnOk};
 ghost use Rattle.word_list.specs.Request as asked;
+ghost use Rattle.jps_run.specs.Counting.{HasCounted};
 ghost use Rattle.jps_run.specs.Worked.{HasWorked};
 ghost use Rattle.jps_run.specs.Outcome.{call_with};
 ghost use Rattle.jps_run.specs.Seen.{seen};
@@ -38,6 +39,8 @@ pub(crate) fn query<F: Files, O: Sink, L: Ledger>(
     ensures worked { HasWorked (call_with (asked.Query map.now ends.sx ends.sy ends.gx ends.gy) settings)
         (seen (F.holds files.old) (F.faults files.old) (O.written out.old) (O.faults out.old))
         (seen (F.holds files.new) (F.faults files.new) (O.written out.new) (O.faults out.new)) result }
+    ensures counted { OnOk result (HasCounted (call_with (asked.Query map.now ends.sx ends.sy ends.gx ends.gy) settings)
+        (F.holds files.old) steps.old steps.new) }
     ensures unchanged { F.holds files.new ≡ F.holds files.old }
 {
     let session = open_session(alloc, files, map, settings)?;

@@ -1,9 +1,10 @@
 //! The rows that judge a scenario.
 
-ghost use Rattle.std.specs.Prelude.{◌≡◌, [], IfOk};
+ghost use Rattle.std.specs.Prelude.{◌≡◌, [], IfOk, OnOk};
 ghost use Rattle.scen_text.specs.Lengths.{IsKept};
 ghost use Rattle.edit_replay.specs.Replies.{IsShort, answer_of};
-ghost use Rattle.jps_run.specs.Judging.{IsJudged};
+ghost use Rattle.jps_run.specs.Counting.{EntriesTake, RoseBy};
+ghost use Rattle.jps_run.specs.Judging.{IsJudged, TakesFor};
 ghost use Rattle.jps_run.specs.Rows as rows;
 ghost use Rattle.jps_run.specs.Seen.{stream};
 ghost use Rattle.jps_run.specs.Sending.{SendsWhole};
@@ -31,7 +32,7 @@ pub(crate) struct Judge {
 
 impl Job for Judge {
     ghost use Rattle.scen_text.specs.Lengths.{IsKept};
-    ghost use Rattle.jps_run.specs.Judging.{HasJudged, IsJudged};
+    ghost use Rattle.jps_run.specs.Judging.{HasJudged, HaveTaken, IsJudged};
 
     type Item = Entry;
 
@@ -40,6 +41,8 @@ impl Job for Judge {
     ghost has_worked = { HasJudged };
 
     ghost is_whole = { IsJudged };
+
+    ghost has_counted = { HaveTaken };
 
     fn answer<L: Ledger>(
         &mut self,
@@ -91,6 +94,7 @@ fn row_of<L: Ledger>(
     requires { IsKept entry.length }
     ensures row { IfOk result (rows.IsRow session.old entry) }
     ensures grid { session.new ≡ session.old }
+    ensures counted { OnOk result (TakesFor session.old entry steps.old steps.new) }
 {
     if !has_sides(session, entry) {
         return Ok(Row::Scale);
@@ -108,9 +112,10 @@ pub(crate) fn write_rows<O: Sink, L: Ledger>(
     steps: &mut Steps<L>,
 ) -> Result<u8, Stop>
     requires { AreKept entries.now }
-    ensures { SendsWhole (IsJudged (record { session = session; tally = tally_of [] }) entries.now)
+    ensures sent { SendsWhole (IsJudged (record { session = session; tally = tally_of [] }) entries.now)
         (stream (O.written out.old) (O.faults out.old))
         (stream (O.written out.new) (O.faults out.new)) result }
+    ensures counted { OnOk result (RoseBy session (EntriesTake session entries.now) steps.old steps.new) }
 {
     let mut job = Judge {
         session,

@@ -194,49 +194,63 @@ const CLOSED_ROW: &[u8] = b"type octile\nheight 2\nwidth 4\nmap\n....\n..@.\n";
 
 const GAP_ABOVE: &[u8] = b"type octile\nheight 4\nwidth 4\nmap\n..@.\n....\n....\n....\n";
 
-// A query from (0,0) to (x,y) by jumps with two settings more.
-fn jumping<'a>(x: &'a str, y: &'a str, show: &'a str, rule: &'a str) -> [&'a str; 9] {
-    ["query", "m", "0", "0", x, y, "engine=jps", show, rule]
+// A query from (0,0) to (x,y), what it shows and its corner rule.
+type Jump = (&'static str, &'static str, &'static str, &'static str);
+
+// The line is that of the query, whichever engine jumps.
+fn check_jumps(
+    alloc: Global,
+    rt: &impl Abort,
+    map: &[u8],
+    query: Jump,
+    line: &[u8],
+) -> Result<(), Fail> {
+    let (x, y, show, rule) = query;
+    for engine in ["engine=jps", "engine=block", "engine=plus"] {
+        let words: [&str; 9] = ["query", "m", "0", "0", x, y, engine, show, rule];
+        check(alloc, rt, on_map(&words, map), 0, line, b"")?;
+    }
+    Ok(())
 }
 
 #[test]
 fn jumps_stop_at_marks_and_goals(rt: HostRuntime) -> Result<(), Fail> {
     let (trace, none) = ("show=trace", "rule=none");
-    let table: [(&[u8], [&str; 9], &[u8]); 7] = [
+    let table: [(&[u8], Jump, &[u8]); 7] = [
         (
             PILLAR,
-            jumping("2", "2", trace, none),
+            ("2", "2", trace, none),
             b"walk 4 0 0,0 0,2 2,2 taken 0,0:- 2,0:E 0,2:S 2,2:E\n",
         ),
         (
             PILLAR,
-            jumping("2", "2", trace, "rule=one"),
+            ("2", "2", trace, "rule=one"),
             b"walk 2 1 0,0 0,1 1,2 2,2 taken 0,0:- 1,0:E 0,1:S 2,1:SE 1,2:SE 2,2:E\n",
         ),
         (
             MARK_BEHIND,
-            jumping("3", "0", trace, none),
+            ("3", "0", trace, none),
             b"walk 3 0 0,0 3,0 taken 0,0:- 3,0:E\n",
         ),
         (
             CLOSED_ROW,
-            jumping("3", "1", trace, none),
+            ("3", "1", trace, none),
             b"walk 4 0 0,0 3,0 3,1 taken 0,0:- 3,0:E 3,1:S\n",
         ),
         (
             GAP_ABOVE,
-            jumping("3", "3", trace, none),
+            ("3", "3", trace, none),
             b"walk 0 3 0,0 1,1 3,3 taken 0,0:- 1,1:SE 3,3:SE\n",
         ),
         (
             GAP_ABOVE,
-            jumping("3", "3", "show=cells", none),
+            ("3", "3", "show=cells", none),
             b"walk 0 3 0,0 1,1 2,2 3,3\n",
         ),
-        (SHORE, jumping("1", "0", trace, none), b"none taken\n"),
+        (SHORE, ("1", "0", trace, none), b"none taken\n"),
     ];
-    for (map, words, line) in table {
-        check(rt.alloc(), &rt, on_map(&words, map), 0, line, b"")?;
+    for (map, query, line) in table {
+        check_jumps(rt.alloc(), &rt, map, query, line)?;
     }
     Ok(())
 }
@@ -246,11 +260,14 @@ fn scripts_and_scenarios_are_answered(rt: HostRuntime) -> Result<(), Fail> {
     let alloc = rt.alloc();
     let (made, lines) = script();
     check(alloc, &rt, made, 0, lines, b"")?;
-    let made = Request {
-        words: &["solve", "m", "s", "engine=jps"],
-        ..made
-    };
-    check(alloc, &rt, made, 0, lines, b"")?;
+    for engine in ["engine=jps", "engine=block", "engine=plus"] {
+        let words: [&str; 4] = ["solve", "m", "s", engine];
+        let by_jumps = Request {
+            words: &words,
+            ..made
+        };
+        check(alloc, &rt, by_jumps, 0, lines, b"")?;
+    }
     let made = Request {
         words: &["solve", "m", "s", "show=cells"],
         second: b"query 1 0 2 1\nflood 0 0\nquery 0 0 2 0\nflood 0 0\nquery 0 0 0 1\n",
@@ -425,6 +442,38 @@ fn maps_and_drills_come_from_numbers(rt: HostRuntime) -> Result<(), Fail> {
             failing_write,
         };
         check(rt.alloc(), &rt, made, status, output, line)?;
+    }
+    Ok(())
+}
+
+// Round the pillar in the middle of nine cells, by hand.
+const CERTIFICATE: &[u8] = b"jps-cert 1\nsize 3 3\nends 0 0 2 2\nleast 4 0\npoints 0,0 2,0 2,2\n\
+    value 0 0 0 0\nvalue 1 0 1 0\nvalue 0 1 1 0\nend\n";
+
+#[test]
+fn certificates_are_printed_and_judged(rt: HostRuntime) -> Result<(), Fail> {
+    let alloc = rt.alloc();
+    let prove = ["prove", "m", "0", "0", "2", "2"];
+    check(alloc, &rt, on_map(&prove, PILLAR), 0, CERTIFICATE, b"")?;
+    let blocked = ["prove", "m", "0", "0", "1", "1"];
+    check(alloc, &rt, on_map(&blocked, PILLAR), 1, b"blocked\n", b"")?;
+    for (words, status, line) in [
+        (
+            ["check", "m", "s", "rule=none"],
+            0,
+            b"accepted least 4 0\n".as_slice(),
+        ),
+        (
+            ["check", "m", "s", "rule=one"],
+            1,
+            b"refused move 1,0 2,1\n",
+        ),
+    ] {
+        let made = Request {
+            second: CERTIFICATE,
+            ..on_map(&words, PILLAR)
+        };
+        check(alloc, &rt, made, status, line, b"")?;
     }
     Ok(())
 }

@@ -34,7 +34,8 @@ A cell is its column and its row, which count from 0 in the upper left. `walk A 
 straight and B diagonal moves; its points follow: its first cell, its last cell, and each cell at
 which it turns, or by an engine that jumps each cell at which a jump stopped. show=cells shows each of
 its cells, show=trace each state that the search took as well: a cell, and how it was come to.
-ENGINE is plain, where none is named, or jps, which jumps. Walks cost the same by each.
+ENGINE is plain, where none is named, jps, block or plus. Walks cost the same by each: jps jumps cell by
+cell, block over 512 cells at a time, plus by tables that are made when the map is read.
 With rule=one a diagonal move may pass one blocked cell beside it, with rule=none none.
 
 statuses: 0 done; 1 done, and a row of `scen` is neither agree nor near, `check` refuses, or `prove`

@@ -15,3 +15,6 @@ mod straight;
 mod word;
 
 pub use source::BlockJumps;
+
+#[cfg(test)]
+mod tests;

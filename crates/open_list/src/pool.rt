@@ -13,9 +13,10 @@ use steps::Steps;
 
 /// Nodes that are open or closed, each under a number that stays, and the open ones in their order.
 ///
-/// There are fewer than 2^28 nodes. An entry takes 12 bytes beside its node. Contracts see a pool as
-/// the list of its nodes, the list that says of each whether it is open, and the number of nodes
-/// that can still be added with no allocation.
+/// There are fewer than 2^28 nodes. An entry takes 12 bytes beside its node, and 4 more where the node
+/// is aligned by 8 bytes: 32 with a node of 16. Contracts see a pool as the list of its nodes, the list
+/// that says of each whether it is open, and the number of nodes that can still be added with no
+/// allocation.
 #[derive(Drop)]
 pub struct Pool<N: Ranked + Copy> {
     entries: Vec<Entry<N>>,

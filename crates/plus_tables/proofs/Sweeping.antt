@@ -6,17 +6,17 @@ use Rattle.grid_moves.specs.declared.Cell.{Cell}
 use Rattle.grid_moves.specs.declared.Dir.{Dir}
 use Rattle.grid_moves.specs.declared.Dir.TheVariants.{E}
 use Rattle.grid_moves.specs.Grid.{GridData, IsGrid, is_inside, is_free}
-use Rattle.grid_moves.specs.Move.{is_dir, legal_ahead}
+use Rattle.grid_moves.specs.Move.{is_dir, is_same, legal_ahead}
 use Rattle.grid_moves.proofs.Legal.{and_both, legal_is, is_same-cell}
 use Rattle.pruning.specs.declared.turns.Side.{Side}
 use Rattle.pruning.specs.Turns.{turn, is_diagonal}
 use Rattle.pruning.proofs.Bridging.{legal_leads}
 use Rattle.pruning.proofs.Table.{same_dir}
 use Rattle.plus_tables.specs.Entry.{table_entry}
-use Rattle.plus_tables.specs.Tables.{TablesData, IsWhole, AreSized, AreTablesOf, RestsRight, entry_at, is_on, tables_with}
-use Rattle.plus_tables.specs.Sweep.{IsSwept, AreRight, RestsElsewhere, is_cell, is_row, is_upward, above, from_row}
+use Rattle.plus_tables.specs.Tables.{TablesData, IsWhole, AreSized, AreTablesOf, RestsRight, entry_at, is_on, is_place, tables_with}
+use Rattle.plus_tables.specs.Sweep.{IsSwept, AreSwept, AreRight, is_across, is_one_of, of_row, RestsElsewhere, is_cell, is_row, is_upward, above, from_row}
 use Rattle.plus_tables.proofs.Ahead.{right, left, up, down, goes, along_straight, along_upward, turn_differs, turn_upward}
-use Rattle.plus_tables.proofs.Placing.{entry_at-with_same, entry_at-with_other}
+use Rattle.plus_tables.proofs.Placing.{entry_at-with_same, entry_at-with_other, is_whole-with}
 
 -- the next cell of a legal move lies on the map
 pub next_inside : (g : GridData) (c v : Cell) (d : Dir) → legal_ahead g c d ≡ Some v → is_inside g v ≡ true
@@ -298,3 +298,151 @@ right_blank t g whole sized blank none = record {
   whole = whole;
   right = λ c d inside. blank c d ∙ sym (rw (none c) refl);
 }
+
+-- one entry more
+swept_with : (g : GridData) (done : Cell → Dir → Bool) (t u w : TablesData) (c : Cell) (d : Dir) (entry : ℤ)
+    → AreSwept g done t u → is_on u c ≡ true → w ≡ tables_with u c d entry → entry ≡ table_entry g c d
+    → AreSwept g (λ b e. done b e || is_place b e c d) t w
+swept_with g done t u w c d entry swept on e is =
+    subst (λ (s : TablesData). AreSwept g (λ b e. done b e || is_place b e c d) t s) (sym e) (record {
+      sized = record {
+        width = swept.sized.width;
+        height = swept.sized.height;
+        corner = swept.sized.corner;
+      };
+      whole = is_whole-with u c d entry swept.whole;
+      right = λ b e inside h. by_place b e inside (is_place b e c d) refl h;
+      others = λ b e inside h. let none = neither (done b e) (is_place b e c d) h in
+          entry_at-with_other u b c d e entry (on_inside u g b swept.sized ∙ inside) on none.1
+          ∙ swept.others b e inside none.0;
+    })
+  where
+    neither : (a b : Bool) → (a || b) ≡ false → (a ≡ false) × (b ≡ false)
+    neither true b h = absurd (cc)
+    neither false b h = (refl, h)
+
+    left_of : (a b : Bool) → (a || b) ≡ true → b ≡ false → a ≡ true
+    left_of true b h k = refl
+    left_of false b h k = absurd (cc)
+
+    by_place : (b : Cell) (e : Dir) → is_inside g b ≡ true → (k : Bool) → is_place b e c d ≡ k
+        → (done b e || is_place b e c d) ≡ true → entry_at (tables_with u c d entry) b e ≡ table_entry g b e
+    by_place b e inside true k h =
+        let both = and_both (is_same b c) (is_dir e d) k in
+        let cell : b ≡ c = is_same-cell b c both.0 in
+        let dir : e ≡ d = same_dir e d both.1 in
+        ap (λ (b : Cell). entry_at (tables_with u c d entry) b e) cell
+        ∙ ap (λ (e : Dir). entry_at (tables_with u c d entry) c e) dir
+        ∙ entry_at-with_same u c d entry swept.whole on ∙ is
+        ∙ ap (λ (e : Dir). table_entry g c e) (sym dir) ∙ ap (λ (b : Cell). table_entry g b e) (sym cell)
+    by_place b e inside false k h =
+        entry_at-with_other u b c d e entry (on_inside u g b swept.sized ∙ inside) on k
+        ∙ swept.right b e inside (left_of (done b e) (is_place b e c d) h k)
+
+-- the entries for three directions in the left part of a row
+abbrev pub left_of_row : ℕ → ℕ → Dir → Dir → Dir → Cell → Dir → Bool
+left_of_row y x a b d c e = left_part y x c && is_one_of a b d e
+
+same_entries : (g : GridData) (one other : Cell → Dir → Bool) (t u : TablesData) → AreSwept g one t u
+    → ((c : Cell) (e : Dir) → is_inside g c ≡ true → one c e ≡ other c e) → AreSwept g other t u
+same_entries g one other t u swept same = record {
+  sized = swept.sized;
+  whole = swept.whole;
+  right = λ c e inside h. swept.right c e inside (same c e inside ∙ h);
+  others = λ c e inside h. swept.others c e inside (same c e inside ∙ h);
+}
+
+-- the next three
+pub swept_three : (g : GridData) (x y : ℕ) (a b d : Dir) (t u v w z : TablesData) (p q r : ℤ)
+    → AreSwept g (left_of_row y x a b d) t u → is_on u (record { x = x; y = y }) ≡ true
+    → v ≡ tables_with u (record { x = x; y = y }) a p → w ≡ tables_with v (record { x = x; y = y }) b q
+    → z ≡ tables_with w (record { x = x; y = y }) d r → p ≡ table_entry g (record { x = x; y = y }) a
+    → q ≡ table_entry g (record { x = x; y = y }) b → r ≡ table_entry g (record { x = x; y = y }) d
+    → AreSwept g (left_of_row y (x + 1) a b d) t z
+swept_three g x y a b d t u v w z p q r swept on e f h i j k =
+    same_entries g third (left_of_row y (x + 1) a b d) t z
+    (swept_with g second t w z c d r
+    (swept_with g first t v w c b q
+    (swept_with g (left_of_row y x a b d) t u v c a p swept on e i)
+    (ap (λ (s : TablesData). is_on s c) e ∙ on) f j)
+    (ap (λ (s : TablesData). is_on s c) f ∙ ap (λ (s : TablesData). is_on s c) e ∙ on) h k)
+    (λ m n inside. regroup (left_part y x m) (is_same m c) (left_part y (x + 1) m) (is_dir n a) (is_dir n b)
+    (is_dir n d) (left_part-more x y m))
+  where
+    c : Cell
+    c = record { x = x; y = y }
+
+    first : Cell → Dir → Bool
+    first m n = left_of_row y x a b d m n || is_place m n c a
+
+    second : Cell → Dir → Bool
+    second m n = first m n || is_place m n c b
+
+    third : Cell → Dir → Bool
+    third m n = second m n || is_place m n c d
+
+    regroup : (l s m i j k : Bool) → m ≡ (l || s)
+        → ((((l && (i || j || k)) || (s && i)) || (s && j)) || (s && k)) ≡ (m && (i || j || k))
+    regroup l s m i j k e = grind arith
+
+pub swept_no_row : (g : GridData) (y : ℕ) (a b d : Dir) (t : TablesData) → AreSized t g → IsWhole t
+    → AreSwept g (left_of_row y 0 a b d) t t
+swept_no_row g y a b d t sized whole = record {
+  sized = sized;
+  whole = whole;
+  right = λ c e inside h. absurd (let both = and_both (left_part y 0 c) (is_one_of a b d e) h in
+      let one = both.0 in let none = left_part-none y c in cc);
+  others = λ c e inside h. refl;
+}
+
+pub swept_row : (g : GridData) (n y : ℕ) (a b d : Dir) (t u : TablesData) → n ≡ g.width
+    → AreSwept g (left_of_row y n a b d) t u → AreSwept g (of_row y a b d) t u
+swept_row g n y a b d t u all swept = same_entries g (left_of_row y n a b d) (of_row y a b d) t u swept
+    (λ c e inside. ap (λ (k : Bool). k && is_one_of a b d e)
+    (ap (λ (m : ℕ). left_part y m c) all ∙ left_part-all g y c inside))
+
+-- what lies in another row is as before
+pub rests_across : (g : GridData) (x y : ℕ) (a b d e : Dir) (t u : TablesData) → is_across e ≡ true
+    → RestsElsewhere t g y e → AreSwept g (left_of_row y x a b d) t u
+    → RestsRight u g (record { x = x; y = y }) e
+rests_across g x y a b d e t u across rests swept = record {
+  ahead = λ v f. unchanged v e f ∙ rests.ahead c v refl f (apart v f);
+  beside = λ h v f s. unchanged v (turn s e) f ∙ rests.beside h c v refl f s;
+}
+  where
+    c : Cell
+    c = record { x = x; y = y }
+
+    apart : (v : Cell) → legal_ahead g c e ≡ Some v → v.y ≢ y
+    apart v f = λ same. elim (goes g c v e f) [
+      | right h k row column ↦ absurd (cc)
+      | left h k row column ↦ absurd (cc)
+      | up h k row ↦ omega arith
+      | down h k row ↦ omega arith
+    ]
+
+    unchanged : (v : Cell) (k : Dir) → legal_ahead g c e ≡ Some v → entry_at u v k ≡ entry_at t v k
+    unchanged v k f =
+        let other = apart v f in
+        let not_row : nat_eq v.y y ≡ false = grind (arith, nat_tests) in
+        swept.others v k (next_inside g c v e f) (rw not_row refl)
+
+-- and what was right stays right
+pub right_swept : (t u : TablesData) (g : GridData) (done before after : Cell → Dir → Bool)
+    → AreRight t g before → AreSwept g done t u
+    → ((c : Cell) (e : Dir) → is_inside g c ≡ true → after c e ≡ true → (before c e || done c e) ≡ true)
+    → AreRight u g after
+right_swept t u g done before after known swept more = record {
+  sized = swept.sized;
+  right = λ c e inside h. by_done c e inside (done c e) refl (more c e inside h);
+}
+  where
+    left_of : (a b : Bool) → (a || b) ≡ true → b ≡ false → a ≡ true
+    left_of true b h k = refl
+    left_of false b h k = absurd (cc)
+
+    by_done : (c : Cell) (e : Dir) → is_inside g c ≡ true → (k : Bool) → done c e ≡ k
+        → (before c e || done c e) ≡ true → entry_at u c e ≡ table_entry g c e
+    by_done c e inside true k h = swept.right c e inside k
+    by_done c e inside false k h =
+        swept.others c e inside k ∙ known.right c e inside (left_of (before c e) (done c e) h k)

@@ -71,9 +71,7 @@ impl Tables {
     {
         self.sweep_left(t, y);
         self.sweep_right(t, y, Dir::W);
-        self.sweep_right(t, y, Dir::N);
-        self.sweep_right(t, y, Dir::NE);
-        self.sweep_right(t, y, Dir::NW);
+        self.sweep_across(t, y, Dir::N, Dir::NE, Dir::NW);
     }
 
     // Sweeps a row for all directions that lead down.
@@ -84,9 +82,7 @@ impl Tables {
         requires below { AreRight self.old (T.grid t.now) (from_row (y + 1)) }
         ensures { AreRight self.new (T.grid t.now) (from_row y) }
     {
-        self.sweep_right(t, y, Dir::S);
-        self.sweep_right(t, y, Dir::SE);
-        self.sweep_right(t, y, Dir::SW);
+        self.sweep_across(t, y, Dir::S, Dir::SE, Dir::SW);
     }
 
     // Sweeps all rows.

@@ -5,7 +5,7 @@ ghost use Rattle.plus_tables.specs.Tables.{AreTablesOf};
 
 use crate::jumps::stop_told;
 use crate::tables::Tables;
-use crate::turns::{allowed_after, legal_of};
+use crate::turns::{allowed_told, legal_of};
 use arrayvec::ArrayVec;
 use grid_moves::{ALL_DIRS, Cell, Dir};
 use pruning::{Arrival, JumpSource};
@@ -40,7 +40,7 @@ impl<'a> JumpSource for PlusJumps<'a> {
     fn allowed<L: Ledger>(&self, at: Cell, by: Arrival, steps: &mut Steps<L>) -> ArrayVec<Dir, 8> {
         match by {
             Arrival::Start => legal_of(self.tables, at, &ALL_DIRS, steps),
-            Arrival::By(d) => allowed_after(self.tables, at, d, steps),
+            Arrival::By(d) => allowed_told(self.tables, at, d, steps),
         }
     }
 }

@@ -78,12 +78,12 @@ fn from_before(entry: i16) -> i16
 }
 
 impl Tables {
-    ghost use Rattle.std.specs.Prelude.{◌≡◌, ◌≢◌, ◌+◌, true, false, IfOk, Some, pos};
+    ghost use Rattle.std.specs.Prelude.{◌≡◌, ◌≢◌, ◌+◌, ◌<◌, true, false, IfOk, Some, pos};
     ghost use Rattle.grid_moves.specs.Grid.{IsGrid, is_free};
     ghost use Rattle.plus_tables.specs.Entry.{table_entry};
     ghost use Rattle.grid_moves.specs.Move.{legal_ahead};
     ghost use Rattle.plus_tables.specs.Local.{is_mark_by};
-    ghost use Rattle.plus_tables.specs.Sweep.{IsSwept, is_cell};
+    ghost use Rattle.plus_tables.specs.Sweep.{IsSwept, AreSwept, RestsElsewhere, is_cell, is_across, of_row};
     ghost use Rattle.plus_tables.specs.Tables.{AreSized, IsWhole, RestsRight, entry_at, is_on, is_place, tables_with};
 
     /// The number of columns.
@@ -203,6 +203,32 @@ impl Tables {
         let _ = &self.width;
         let entry = self.told_by_next(t, c, d);
         self.put(c, d, entry);
+    }
+
+    // Sweeps a row for three directions that lead to another row. All three entries of a cell are told before
+    // one is changed, so that what lies around the cell is read once.
+    #[inline(always)]
+    pub(crate) fn sweep_across<T: Terrain>(&mut self, t: &T, y: u16, a: Dir, b: Dir, d: Dir)
+        requires whole { IsGrid (T.grid t.now) }
+        requires sized { AreSized self.old (T.grid t.now) }
+        requires inside { y < self.old.height }
+        requires across_a { is_across a ≡ true }
+        requires across_b { is_across b ≡ true }
+        requires across_d { is_across d ≡ true }
+        requires rests_a { RestsElsewhere self.old (T.grid t.now) y a }
+        requires rests_b { RestsElsewhere self.old (T.grid t.now) y b }
+        requires rests_d { RestsElsewhere self.old (T.grid t.now) y d }
+        ensures { AreSwept (T.grid t.now) (of_row y a b d) self.old self.new }
+    {
+        for x in 0..self.width {
+            let c = Cell { x, y };
+            let one = self.told_by_next(t, c, a);
+            let two = self.told_by_next(t, c, b);
+            let three = self.told_by_next(t, c, d);
+            self.put(c, a, one);
+            self.put(c, b, two);
+            self.put(c, d, three);
+        }
     }
 
     /// The table entry for a cell of the map and a direction: above 0, the number of moves to the first

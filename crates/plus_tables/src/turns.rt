@@ -175,9 +175,9 @@ fn kept_of<L: Ledger>(
     found
 }
 
-/// The allowed directions after a move, in increasing order. At most 7 steps.
+// The allowed directions after a move, in increasing order. At most 7 steps.
 #[inline(always)]
-pub fn allowed_after<L: Ledger>(
+fn allowed_after<L: Ledger>(
     tables: &Tables,
     at: Cell,
     d: Dir,
@@ -197,4 +197,32 @@ pub fn allowed_after<L: Ledger>(
     };
     let dirs = fan(d);
     kept_of(tables, at, d, walls, &dirs, steps)
+}
+
+/// The allowed directions after a move, in increasing order. At most 7 steps. Each direction has code of its own, in
+/// which it is a constant.
+pub fn allowed_told<L: Ledger>(
+    tables: &Tables,
+    at: Cell,
+    d: Dir,
+    steps: &mut Steps<L>,
+) -> ArrayVec<Dir, 8>
+    requires at { is_on tables.now at ≡ true }
+    requires before { turns.is_diagonal d ≡ false
+        → is_on tables.now (spec.cell_after (moves.opposite d) 1 at) ≡ true }
+    requires sides { AreSides tables.now.width tables.now.height }
+    ensures is { result.items ≡ spec.allowed_by tables.now.corner (entry_at tables.now) at d }
+    ensures most { steps.new ≤ steps.old + 7 }
+    ensures fewest { steps.old + 1 ≤ steps.new }
+{
+    match d {
+        Dir::N => allowed_after(tables, at, Dir::N, steps),
+        Dir::NE => allowed_after(tables, at, Dir::NE, steps),
+        Dir::E => allowed_after(tables, at, Dir::E, steps),
+        Dir::SE => allowed_after(tables, at, Dir::SE, steps),
+        Dir::S => allowed_after(tables, at, Dir::S, steps),
+        Dir::SW => allowed_after(tables, at, Dir::SW, steps),
+        Dir::W => allowed_after(tables, at, Dir::W, steps),
+        Dir::NW => allowed_after(tables, at, Dir::NW, steps),
+    }
 }

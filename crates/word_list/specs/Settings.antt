@@ -1,7 +1,7 @@
 -- The settings that may follow a command's other words.
 use Rattle.std.specs.Prelude.{ℕ, Bool, true, false, List, [], ◌∷◌, ◌++◌, not, ◌&&◌, if◌then◌else◌, bytes_eq, codes, Option, Some, None}
 use Rattle.std.specs.List.{list_any, fold}
-use Rattle.word_list.specs.declared.request.Pick.TheVariants.{Plain, Jps}
+use Rattle.word_list.specs.declared.request.Pick.TheVariants.{Plain, Jps, Block, Plus}
 use Rattle.word_list.specs.declared.request.Show.TheVariants.{Points, Cells, Trace}
 use Rattle.word_list.specs.declared.request.Settings.{Settings}
 use Rattle.word_list.specs.declared.settings.Setting.{Setting}
@@ -14,6 +14,8 @@ abbrev pub setting_of : List ℕ → Option Setting
 setting_of word =
     if bytes_eq word (codes "engine=plain") then Some (setting.Engine Plain)
     else if bytes_eq word (codes "engine=jps") then Some (setting.Engine Jps)
+    else if bytes_eq word (codes "engine=block") then Some (setting.Engine Block)
+    else if bytes_eq word (codes "engine=plus") then Some (setting.Engine Plus)
     else if bytes_eq word (codes "show=points") then Some (setting.Show Points)
     else if bytes_eq word (codes "show=cells") then Some (setting.Show Cells)
     else if bytes_eq word (codes "show=trace") then Some (setting.Show Trace)

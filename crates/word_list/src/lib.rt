@@ -6,17 +6,19 @@
 //! ```text
 //! --help
 //! --version
-//! query MAP SX SY GX GY [engine=plain] [show=points|show=cells|show=trace] [rule=none|rule=one]
-//! solve MAP SCRIPT [engine=plain] [show=points|show=cells|show=trace] [rule=none|rule=one]
-//! live MAP [engine=plain] [show=points|show=cells|show=trace] [rule=none|rule=one]
-//! scen MAP SCEN [engine=plain] [rule=none|rule=one]
+//! query MAP SX SY GX GY [engine=ENGINE] [show=points|show=cells|show=trace] [rule=none|rule=one]
+//! solve MAP SCRIPT [engine=ENGINE] [show=points|show=cells|show=trace] [rule=none|rule=one]
+//! live MAP [engine=ENGINE] [show=points|show=cells|show=trace] [rule=none|rule=one]
+//! scen MAP SCEN [engine=ENGINE] [rule=none|rule=one]
+//! prove MAP SX SY GX GY [rule=none|rule=one]
+//! check MAP CERT [rule=none|rule=one]
 //! make SEED W H P
-//! drill SEED [engine=plain] [rule=none|rule=one]
+//! drill SEED [engine=ENGINE] [rule=none|rule=one]
 //! ```
 //!
-//! Names of files are any words; numbers are 1 to 9 decimal digits, and a seed 1 to 20. A list that is no call is
-//! refused at its first word with which no call can begin, or one word behind its end where only
-//! words are missing.
+//! ENGINE is `plain`, `jps`, `block` or `plus`. Names of files are any words; numbers are 1 to 9 decimal digits,
+//! and a seed 1 to 20. A list that is no call is refused at its first word with which no call can begin, or one
+//! word behind its end where only words are missing.
 //!
 //! A command has a row in `rows.rt`, a setting one in `settings.rt`.
 #![tactic(auto)]

@@ -70,17 +70,22 @@ pub struct Settings {
 /// Which engine searches.
 #[derive(Clone, Copy, Debug, Default, PartialEq, Eq)]
 pub enum Pick {
-    /// The one that looks at every neighbour of a cell.
+    /// The one that goes on by every legal move, less those that the parent has offered as cheaply.
     #[default]
     Plain,
     /// The one that jumps, cell by cell.
     Jps,
+    /// The one that jumps, by blocks of bits.
+    Block,
+    /// The one that jumps, by tables.
+    Plus,
 }
 
 /// What an answer shows of a walk.
 #[derive(Clone, Copy, Debug, Default, PartialEq, Eq)]
 pub enum Show {
-    /// The ends of the walk's straight pieces.
+    /// Points that a walk is told by: by `plain` the ends of its straight pieces, by the engines that
+    /// jump the cells where the search stopped on the way, of which several may lie on one line.
     #[default]
     Points,
     /// Each cell of the walk.

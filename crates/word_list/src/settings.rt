@@ -35,6 +35,8 @@ impl Setting {
         match word {
             "engine=plain" => Some(Setting::Engine(Pick::Plain)),
             "engine=jps" => Some(Setting::Engine(Pick::Jps)),
+            "engine=block" => Some(Setting::Engine(Pick::Block)),
+            "engine=plus" => Some(Setting::Engine(Pick::Plus)),
             "show=points" => Some(Setting::Show(Show::Points)),
             "show=cells" => Some(Setting::Show(Show::Cells)),
             "show=trace" => Some(Setting::Show(Show::Trace)),

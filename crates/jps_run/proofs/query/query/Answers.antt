@@ -6,6 +6,8 @@ use Rattle.jps_run.specs.Seen.{seen}
 use Rattle.edit_replay.specs.Session.{SessionData}
 use Rattle.jps_run.specs.declared.kind.Kind.TheVariants as kind
 use Rattle.script_text.specs.declared.command.Command.TheVariants as command
+use Rattle.jps_run.proofs.Counts.{query-counted, on_ok}
+use Rattle.jps_run.specs.Counting.{some}
 use Rattle.jps_run.proofs.Works.{first-file, none-fell, reading-stops, sent-worked}
 use Rattle.jps_run.proofs.query.query.Goals as goal
 
@@ -42,4 +44,12 @@ returns-clause-worked g c =
             (subst (λ (d : SessionData). AreAnswers d c.args.settings.show commands lines) r.spelled.begun
             w.answers));
       },
-    )) refl c.write_answers.ensures
+    )) refl c.write_answers.ensures.sent
+
+pub returns-clause-counted : goal.returns-clause-counted
+returns-clause-counted g c =
+    let e = c.args.ends in
+    let r = c.in_ok-session.ensures.read [] in
+    on_ok c.write_answers.result (λ rose. some (r.text ∷ []) (r.accepted, tt)
+    (query-counted c.args.map.now r.text e.sx e.sy e.gx e.gy c.args.settings c.in_ok-session.session
+    c.args.steps.now c.write_answers.new.steps r.spelled rose)) c.write_answers.ensures.counted

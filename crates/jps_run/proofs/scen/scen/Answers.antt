@@ -7,6 +7,8 @@ use Rattle.jps_run.specs.Seen.{seen}
 use Rattle.edit_replay.specs.Session.{SessionData}
 use Rattle.jps_run.specs.Reading.{AreKept}
 use Rattle.jps_run.specs.declared.kind.Kind.TheVariants as kind
+use Rattle.jps_run.proofs.Counts.{scen-counted, on_ok}
+use Rattle.jps_run.specs.Counting.{some}
 use Rattle.jps_run.proofs.Works.{both-accepted, first-file, second-file, none-fell, reading-stops, sent-worked}
 use Rattle.jps_run.proofs.Tallies.{small_status}
 use Rattle.jps_run.proofs.scen.scen.Goals as goal
@@ -65,4 +67,16 @@ returns-clause-worked g c =
             (subst (λ (all : List Entry). AreRows c.in_ok-session.session all w.rows) c.as_slice.ensures.value
             w.are))));
       },
-    )) refl c.write_rows.ensures
+    )) refl c.write_rows.ensures.sent
+
+pub returns-clause-counted : goal.returns-clause-counted
+returns-clause-counted g c =
+    let r = c.in_ok-session.ensures.read [] in
+    let s = c.in_ok-entries.ensures.read (r.text ∷ []) in
+    on_ok c.write_rows.result (λ rose. some (r.text ∷ s.text ∷ [])
+    (both-accepted (g.F.Files.holds c.args.files.now) (g.F.Files.holds c.open_session.new.files)
+    (record { kind = kind.Map; name = c.args.map.now }) (record { kind = kind.Scen; name = c.args.name.now })
+    r.text s.text r.accepted c.in_ok-session.ensures.unchanged s.accepted)
+    (scen-counted c.args.map.now c.args.name.now r.text s.text c.args.settings c.in_ok-session.session
+    c.in_ok-entries.entries.items c.as_slice.result.now c.args.steps.now c.write_rows.new.steps r.spelled
+    s.spelled.0 c.as_slice.ensures.value rose)) c.write_rows.ensures.counted

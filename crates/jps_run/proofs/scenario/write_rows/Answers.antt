@@ -1,6 +1,18 @@
+use Rattle.std.proofs.Common.{refl, []}
+use Rattle.jps_run.proofs.Counts.{on_ok, rose-none}
+use Rattle.jps_run.specs.Counting.{EntriesTake}
 use Rattle.jps_run.proofs.Judgements.{rows-complete}
 use Rattle.jps_run.proofs.scenario.write_rows.Goals as goal
 
 pub work_items-requires-clause-completes : goal.work_items-requires-clause-completes
 work_items-requires-clause-completes g c =
     rows-complete (record { session = c.args.session; tally = c.new.result })
+
+pub work_items-requires-clause-counts : goal.work_items-requires-clause-counts
+work_items-requires-clause-counts g c = record {
+  rose = rose-none c.args.session (EntriesTake c.args.session []) c.args.steps.now tt;
+  same = refl;
+}
+
+pub returns-clause-counted : goal.returns-clause-counted
+returns-clause-counted g c = on_ok c.work_items.result (λ taken. taken.rose) c.work_items.ensures.counted

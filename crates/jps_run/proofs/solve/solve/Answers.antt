@@ -6,6 +6,8 @@ use Rattle.jps_run.specs.Outcome.{IsAnswered, call_with, solved}
 use Rattle.jps_run.specs.Seen.{seen}
 use Rattle.edit_replay.specs.Session.{SessionData}
 use Rattle.jps_run.specs.declared.kind.Kind.TheVariants as kind
+use Rattle.jps_run.proofs.Counts.{solve-counted, on_ok}
+use Rattle.jps_run.specs.Counting.{some}
 use Rattle.jps_run.proofs.Works.{both-accepted, first-file, second-file, none-fell, reading-stops, sent-worked}
 use Rattle.jps_run.proofs.solve.solve.Goals as goal
 
@@ -58,4 +60,16 @@ returns-clause-worked g c =
             (subst (λ (all : List Command). AreAnswers c.in_ok-session.session c.args.settings.show all lines)
             c.as_slice.ensures.value w.answers)));
       },
-    )) refl c.write_answers.ensures
+    )) refl c.write_answers.ensures.sent
+
+pub returns-clause-counted : goal.returns-clause-counted
+returns-clause-counted g c =
+    let r = c.in_ok-session.ensures.read [] in
+    let s = c.in_ok-commands.ensures.read (r.text ∷ []) in
+    on_ok c.write_answers.result (λ rose. some (r.text ∷ s.text ∷ [])
+    (both-accepted (g.F.Files.holds c.args.files.now) (g.F.Files.holds c.open_session.new.files)
+    (record { kind = kind.Map; name = c.args.map.now }) (record { kind = kind.Script; name = c.args.script.now })
+    r.text s.text r.accepted c.in_ok-session.ensures.unchanged s.accepted)
+    (solve-counted c.args.map.now c.args.script.now r.text s.text c.args.settings c.in_ok-session.session
+    c.in_ok-commands.commands.items c.as_slice.result.now c.args.steps.now c.write_answers.new.steps r.spelled
+    s.spelled c.as_slice.ensures.value rose)) c.write_answers.ensures.counted

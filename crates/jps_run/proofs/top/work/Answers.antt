@@ -8,6 +8,9 @@ use Rattle.jps_run.specs.Worked.{HasWorked}
 use Rattle.jps_run.specs.Outcome.{IsAnswered, call_with, help, version, made, drilled}
 use Rattle.jps_run.specs.Seen.{seen}
 use Rattle.jps_run.specs.Texts.{help_text, version_text}
+use Rattle.std.specs.Prelude.{OnOk}
+use Rattle.jps_run.specs.Counting.{HasCounted, some}
+use Rattle.jps_run.proofs.Counts.{on_ok}
 use Rattle.jps_run.proofs.Works.{printed, sent-one}
 use Rattle.jps_run.proofs.top.work.Goals as goal
 
@@ -62,4 +65,11 @@ returns-in-Drill-clause-worked g c =
     subst (λ (r : Request). HasWorked (called r c.args.settings) before now c.drill.result) (sym m.is)
     (printed call before now (IsDrillText c.args.settings m.seed) c.drill.result tt
     (λ text r. subst (λ (t : List ℕ). IsAnswered call [] (t ∷ []) 0) (sym r.is)
-    (drilled m.seed c.args.settings r.found r.are)) c.drill.ensures)
+    (drilled m.seed c.args.settings r.found r.are)) c.drill.ensures.sent)
+
+pub returns-in-Drill-clause-counted : goal.returns-in-Drill-clause-counted
+returns-in-Drill-clause-counted g c =
+    let m = c.in-Drill in
+    subst (λ (r : Request). OnOk c.drill.result (HasCounted (called r c.args.settings)
+    (g.F.Files.holds c.args.files.now) c.args.steps.now c.drill.new.steps)) (sym m.is)
+    (on_ok c.drill.result (λ rose. some [] tt rose) c.drill.ensures.counted)

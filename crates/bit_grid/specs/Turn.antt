@@ -1,0 +1,20 @@
+-- Rows turned to columns.
+use Rattle.std.specs.Prelude.{◌≡◌, ℕ, ◌+◌, ◌*◌, ◌/◌, ◌%◌, ◌<◌, ◌≤◌, Bool, false, List, length, nat_lt, slice_index_or, if◌then◌else◌}
+use Rattle.bit_grid.specs.Bits.{is_set}
+
+-- one word of each row, and 0 where there is no such row
+abbrev pub IsStrip : List ℕ → List ℕ → ℕ → ℕ → ℕ → Type 0
+IsStrip strip words lines per_line group = (l : ℕ) → l < length strip
+    → slice_index_or strip l 0
+    ≡ (if nat_lt l lines then slice_index_or words (l * per_line + group) 0 else 0)
+
+-- the words show lines one after the other, so many words each
+abbrev pub ArePackedSoFar : (ℕ → ℕ → Bool) → ℕ → List ℕ → Type 0
+ArePackedSoFar free per_line words = (m : ℕ) → m < length words → (j : ℕ) → j < 64
+    → is_set (slice_index_or words m 0) j ≡ free (m / per_line) (m % per_line * 64 + j)
+
+-- the words show these rows, and all rows beyond them are blocked
+pub record IsWhole (words : List ℕ) (lines per_line : ℕ) (free : ℕ → ℕ → Bool) : Type 0 where
+  pub bits : (line w j : ℕ) → line < lines → w < per_line → j < 64
+      → is_set (slice_index_or words (line * per_line + w) 0) j ≡ free line (w * 64 + j)
+  pub beyond : (line place : ℕ) → lines ≤ line → free line place ≡ false

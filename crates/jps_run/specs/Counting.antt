@@ -1,0 +1,110 @@
+-- How many steps a call counts at least: so many for each state that its searches take away from their goals.
+use Rattle.std.specs.Prelude.{◌≡◌, ℕ, ◌+◌, ◌*◌, ◌≤◌, Bool, true, false, List, [], ◌∷◌, sum, Ok}
+use Rattle.io_edge.specs.Told.{Held}
+use Rattle.grid_moves.specs.declared.Cell.{Cell}
+use Rattle.map_text.specs.Map.{Map}
+use Rattle.map_text.specs.Faults.{map_of}
+use Rattle.map_maker.specs.Drill.{drill_commands}
+use Rattle.map_maker.specs.Making.{made_map}
+use Rattle.edit_replay.specs.Counting.{fewest_of, states_away}
+use Rattle.edit_replay.specs.Edited.{Edit}
+use Rattle.edit_replay.specs.Session.{SessionData}
+use Rattle.edit_replay.specs.declared.reply.Reply.{Reply}
+use Rattle.script_text.specs.declared.command.Command.{Command}
+use Rattle.script_text.specs.declared.command.Command.TheVariants as command
+use Rattle.script_text.specs.Faults.{script_of}
+use Rattle.scen_text.specs.declared.entry.Entry.{Entry}
+use Rattle.scen_text.specs.Faults.{scen_of}
+use Rattle.word_list.specs.Request.{Asked, Call, Help, Version, Query, Solve, Live, Scen, Prove, Check, Make, Drill}
+use Rattle.word_list.specs.declared.request.Settings.{Settings}
+use Rattle.jps_run.specs.Answers.{edits_with}
+use Rattle.jps_run.specs.Files.{AreAccepted}
+use Rattle.jps_run.specs.Outcome.{Spell, call_with, files_of}
+use Rattle.jps_run.specs.Rows.{has_sides}
+use Rattle.jps_run.specs.Session.{IsReply, session_after, session_on}
+use Rattle.jps_run.specs.Turns.{AreInTurn}
+
+-- the search for a right reply to the query, by the engine's run, takes so many states away from the goal
+pub record QueryTakes (d : SessionData) (s t : Cell) (n : ℕ) : Type 0 where
+  pub reply : Reply
+  pub is_reply : IsReply d s t reply
+  pub away : n ≡ states_away reply
+
+-- so many are taken for a command: for an edit none
+abbrev pub CommandTakes : SessionData → Command → ℕ → Type 0
+CommandTakes d (command.Block x y) n = n ≡ 0
+CommandTakes d (command.Free x y) n = n ≡ 0
+CommandTakes d (command.Flood x y) n = n ≡ 0
+CommandTakes d (command.Query sx sy gx gy) n =
+    QueryTakes d (record { x = sx; y = sy }) (record { x = gx; y = gy }) n
+
+-- on the map's session as these edits leave it
+abbrev pub TakesAfter : SessionData → List Edit → Command → ℕ → Type 0
+TakesAfter d edits c n = CommandTakes (session_after d edits) c n
+
+-- for each of the commands in turn
+abbrev pub CommandsTake : SessionData → List Command → List ℕ → Type 0
+CommandsTake d commands counts = AreInTurn (TakesAfter d) edits_with [] commands counts
+
+-- for an entry of a scenario: none where it is not searched
+pub data EntryTakes (d : SessionData) (entry : Entry) (n : ℕ) : Type 0 where
+  unsearched : has_sides d entry ≡ false → n ≡ 0 → EntryTakes d entry n
+  searched : has_sides d entry ≡ true
+      → QueryTakes d (record { x = entry.sx; y = entry.sy }) (record { x = entry.gx; y = entry.gy }) n
+      → EntryTakes d entry n
+
+-- for each of the entries
+abbrev pub EntriesTake : SessionData → List Entry → List ℕ → Type 0
+EntriesTake d entries counts =
+    AreInTurn {S = Unit {0}} (λ _ entry n. EntryTakes d entry n) (λ s _. s) tt entries counts
+
+-- the counter rose by at least the fewest steps of the session's engine for each state of these counts
+pub record RoseBy (d : SessionData) (Takes : List ℕ → Type 0) (old new : ℕ) : Type 0 where
+  pub counts : List ℕ
+  pub takes : Takes counts
+  pub rose : old + sum counts * fewest_of d.engine ≤ new
+
+-- whether anything is searched for what is asked
+abbrev pub searches : Asked → Bool
+searches Help = false
+searches Version = false
+searches (Query map sx sy gx gy) = true
+searches (Solve map script) = true
+searches (Live map) = false
+searches (Scen map scen) = true
+searches (Prove map sx sy gx gy) = false
+searches (Check map cert) = false
+searches (Make seed w h percent) = false
+searches (Drill seed) = true
+
+-- the counter rose as the searches of a call make it, on the texts of its files
+pub data RoseFor : Call → List (List ℕ) → ℕ → ℕ → Type 0 where
+  replied : (map text : List ℕ) (sx sy gx gy : ℕ) (set : Settings) (m : Map) (old new : ℕ)
+      → map_of text ≡ Ok m
+      → RoseBy (session_on set m) (CommandsTake (session_on set m) (command.Query sx sy gx gy ∷ [])) old new
+      → RoseFor (call_with (Query map sx sy gx gy) set) (text ∷ []) old new
+  solved : (map script text second : List ℕ) (set : Settings) (m : Map) (commands : List Command)
+      (old new : ℕ)
+      → map_of text ≡ Ok m → script_of second ≡ Ok commands
+      → RoseBy (session_on set m) (CommandsTake (session_on set m) commands) old new
+      → RoseFor (call_with (Solve map script) set) (text ∷ second ∷ []) old new
+  judged : (map scen text second : List ℕ) (set : Settings) (m : Map) (entries : List Entry) (old new : ℕ)
+      → map_of text ≡ Ok m → scen_of second ≡ Ok entries
+      → RoseBy (session_on set m) (EntriesTake (session_on set m) entries) old new
+      → RoseFor (call_with (Scen map scen) set) (text ∷ second ∷ []) old new
+  drilled : (seed : ℕ) (set : Settings) (old new : ℕ)
+      → RoseBy (session_on set (made_map seed 256 256 25))
+      (CommandsTake (session_on set (made_map seed 256 256 25)) (drill_commands seed)) old new
+      → RoseFor (call_with (Drill seed) set) [] old new
+
+-- the counter rose so, with the files that are held, or nothing is searched for the call
+pub data HasCounted (call : Call) (holds : List ℕ → Held) (old new : ℕ) : Type 0 where
+  none : searches call.request ≡ false → HasCounted call holds old new
+  some : (texts : List (List ℕ)) → AreAccepted holds [] (files_of call.request) texts
+      → RoseFor call texts old new → HasCounted call holds old new
+
+-- it rose as the searches of the call that the words spell make it
+pub record RoseAsCalled (words : List (List ℕ)) (holds : List ℕ → Held) (old new : ℕ) : Type 0 where
+  pub call : Call
+  pub spelled : Spell words call
+  pub counted : HasCounted call holds old new
