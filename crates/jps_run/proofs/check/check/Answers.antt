@@ -1,4 +1,4 @@
-use Rattle.std.proofs.Common.{◌≡◌, refl, sym, ap, ◌∙◌, subst, List, [], ◌∷◌, ℕ}
+use Rattle.std.proofs.Common.{refl, ap, ◌∙◌, subst, List, [], ◌∷◌, ℕ}
 use Rattle.grid_moves.specs.Grid.{GridData}
 use Rattle.grid_moves.specs.Layers.{Layers, query_grid}
 use Rattle.word_list.specs.Request.{Check}

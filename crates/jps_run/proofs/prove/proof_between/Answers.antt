@@ -1,4 +1,4 @@
-use Rattle.std.proofs.Common.{◌≡◌, sym, subst}
+use Rattle.std.proofs.Common.{sym, subst}
 use Rattle.grid_moves.specs.Grid.{GridData}
 use Rattle.potential_make.specs.Certified.{IsCertificate}
 use Rattle.jps_run.specs.Certificates.{IsProof, apart, blocked, certified}

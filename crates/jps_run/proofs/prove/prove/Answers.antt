@@ -1,9 +1,9 @@
-use Rattle.std.proofs.Common.{◌≡◌, refl, sym, ap, subst, List, [], ◌∷◌, ℕ}
+use Rattle.std.proofs.Common.{refl, subst, List, [], ◌∷◌, ℕ}
 use Rattle.grid_moves.specs.Layers.{Layers}
 use Rattle.word_list.specs.Request.{Prove}
 use Rattle.jps_run.specs.Certificates.{IsProof}
 use Rattle.jps_run.specs.Outcome.{call_with, proved}
-use Rattle.jps_run.specs.Seen.{seen, stream}
+use Rattle.jps_run.specs.Seen.{seen}
 use Rattle.jps_run.specs.Sending.{SendsAs}
 use Rattle.jps_run.specs.declared.kind.Kind.TheVariants as kind
 use Rattle.jps_run.proofs.Printing.{small_proof}
