@@ -47,7 +47,7 @@ told-more None left text c = ([], tt)
 told-more (Some xs) None text c = absurd c
 told-more (Some xs) (Some ys) text c = (ys, sym c)
 
-told-all : (input left : Option (List ℕ)) (text : List ℕ) → Consumes input left text → IsAtEnd left
+pub told-all : (input left : Option (List ℕ)) (text : List ℕ) → Consumes input left text → IsAtEnd left
     → IsTold input text
 told-all None left text c e = tt
 told-all (Some xs) None text c e = absurd c

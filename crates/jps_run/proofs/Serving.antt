@@ -18,7 +18,7 @@ use Rattle.jps_run.proofs.Stopping.{ends-on}
 module _ (map : List ℕ) (set : Settings) (before now : Seen) (input input_now : Incoming) (d : SessionData)
     (r : IsRead {X = SessionData} (SpellsSession set) [] kind.Map (before.holds map) d) where
   -- what is known of the session is known of the call
-  on-live : (Known : SessionData → Show → Type 0) → Known d set.show
+  pub on-live : (Known : SessionData → Show → Type 0) → Known d set.show
       → OnLive (call_with (Live map) set) before.holds Known
   on-live Known k = record {
     map = map;

@@ -1,5 +1,5 @@
 -- How many steps a call counts at least: so many for each state that its searches take away from their goals.
-use Rattle.std.specs.Prelude.{◌≡◌, ℕ, ◌+◌, ◌*◌, ◌≤◌, Bool, true, false, List, [], ◌∷◌, sum, Ok}
+use Rattle.std.specs.Prelude.{◌≡◌, ℕ, ◌+◌, ◌*◌, ◌≤◌, Bool, true, false, List, [], ◌∷◌, sum, Option, None, Ok}
 use Rattle.io_edge.specs.Told.{Held}
 use Rattle.grid_moves.specs.declared.Cell.{Cell}
 use Rattle.map_text.specs.Map.{Map}
@@ -19,6 +19,7 @@ use Rattle.word_list.specs.Request.{Asked, Call, Help, Version, Query, Solve, Li
 use Rattle.word_list.specs.declared.request.Settings.{Settings}
 use Rattle.jps_run.specs.Answers.{edits_with}
 use Rattle.jps_run.specs.Files.{AreAccepted}
+use Rattle.jps_run.specs.Heard.{IsHeard, IsTold, OnLive}
 use Rattle.jps_run.specs.Outcome.{Spell, call_with, files_of}
 use Rattle.jps_run.specs.Rows.{has_sides}
 use Rattle.jps_run.specs.Session.{IsReply, session_after, session_on}
@@ -70,7 +71,7 @@ searches Help = false
 searches Version = false
 searches (Query map sx sy gx gy) = true
 searches (Solve map script) = true
-searches (Live map) = false
+searches (Live map) = true
 searches (Scen map scen) = true
 searches (Prove map sx sy gx gy) = false
 searches (Check map cert) = false
@@ -97,14 +98,28 @@ pub data RoseFor : Call → List (List ℕ) → ℕ → ℕ → Type 0 where
       (CommandsTake (session_on set (made_map seed 256 256 25)) (drill_commands seed)) old new
       → RoseFor (call_with (Drill seed) set) [] old new
 
--- the counter rose so, with the files that are held, or nothing is searched for the call
+-- it rose as the commands of the script make it that came in
+pub record RoseHeard (d : SessionData) (input : Option (List ℕ)) (old new : ℕ) : Type 0 where
+  pub script : List ℕ
+  pub told : IsTold input script
+  pub commands : List Command
+  pub heard : IsHeard script commands None
+  pub rose : RoseBy d (CommandsTake d commands) old new
+
+-- the counter rose as the files make it that are held, or nothing is searched for the call
 pub data HasCounted (call : Call) (holds : List ℕ → Held) (old new : ℕ) : Type 0 where
   none : searches call.request ≡ false → HasCounted call holds old new
   some : (texts : List (List ℕ)) → AreAccepted holds [] (files_of call.request) texts
       → RoseFor call texts old new → HasCounted call holds old new
 
+-- it rose so, or as what came in makes it
+pub data RoseForCall (call : Call) (holds : List ℕ → Held) (input : Option (List ℕ)) (old new : ℕ) : Type 0 where
+  read : HasCounted call holds old new → RoseForCall call holds input old new
+  heard : OnLive call holds (λ d show. RoseHeard d input old new) → RoseForCall call holds input old new
+
 -- it rose as the searches of the call that the words spell make it
-pub record RoseAsCalled (words : List (List ℕ)) (holds : List ℕ → Held) (old new : ℕ) : Type 0 where
+pub record RoseAsCalled (words : List (List ℕ)) (holds : List ℕ → Held) (input : Option (List ℕ)) (old new : ℕ)
+    : Type 0 where
   pub call : Call
   pub spelled : Spell words call
-  pub counted : HasCounted call holds old new
+  pub counted : RoseForCall call holds input old new

@@ -10,10 +10,10 @@ pub mod Reading
 pub mod Lines
 pub mod Answers
 pub mod Rows
-pub mod Counting
 pub mod Tally
 pub mod Texts
 pub mod Heard
+pub mod Counting
 pub mod Outcome
 pub mod Ending
 pub mod Worked
@@ -21,6 +21,7 @@ pub mod Served
 pub mod Hearing
 pub mod Working
 pub mod Answering
+pub mod Rising
 pub mod Judging
 pub mod Drill
 pub mod Drilling

@@ -4,6 +4,7 @@ ghost use Rattle.std.specs.Prelude.{OnOk};
 ghost use Rattle.jps_run.specs.Answering.{PutsAnswer, GoesOn, IsSolved, TakesFor};
 ghost use Rattle.jps_run.specs.Counting.{CommandsTake, RoseBy};
 ghost use Rattle.jps_run.specs.Hearing.{AnswersMore};
+ghost use Rattle.jps_run.specs.Rising.{RiseMore};
 ghost use Rattle.jps_run.specs.Seen.{stream};
 ghost use Rattle.jps_run.specs.Sending.{SendsWhole};
 
@@ -112,8 +113,10 @@ pub(crate) fn answer_more<O: Sink, L: Ledger>(
     out: &mut O,
     steps: &mut Steps<L>,
 ) -> Result<(), Stop>
-    ensures { AnswersMore job.old job.new commands.now (stream (O.written out.old) (O.faults out.old))
+    ensures written { AnswersMore job.old job.new commands.now
+        (stream (O.written out.old) (O.faults out.old))
         (stream (O.written out.new) (O.faults out.new)) result }
+    ensures rose { OnOk result (RiseMore job.old job.new commands.now steps.old steps.new) }
 {
     let mut lines = Vec::new(alloc);
     for command in commands {

@@ -4,8 +4,11 @@ ghost use Rattle.std.specs.Prelude.{◌≡◌, ◌+◌, ◌<◌, ◌≤◌, ◌^
 ghost use Rattle.std.specs.Io.KnownBytes.{ReadConsumes};
 ghost use Rattle.io_edge.specs.Causes.{HasCause};
 ghost use Rattle.word_list.specs.Request as asked;
+ghost use Rattle.jps_run.specs.Counting.{RoseHeard};
+ghost use Rattle.jps_run.specs.Heard.{OnLive};
 ghost use Rattle.jps_run.specs.Hearing.{AnswersKnown, Refuses, Hears, HearsPiece, HearsEnd};
 ghost use Rattle.jps_run.specs.Outcome.{call_with};
+ghost use Rattle.jps_run.specs.Rising.{RiseEnd, RiseMore, RisePiece};
 ghost use Rattle.jps_run.specs.Seen.{seen, stream, incoming};
 ghost use Rattle.jps_run.specs.Served.{HasServed};
 
@@ -42,6 +45,8 @@ pub(crate) fn live<F: Files, I: Source, O: Sink, L: Ledger>(
         (seen (F.holds files.new) (F.faults files.new) (O.written out.new) (O.faults out.new))
         (incoming (I.left input.old) (I.faults input.old))
         (incoming (I.left input.new) (I.faults input.new)) result }
+    ensures counted { OnOk result (OnLive (call_with (asked.Live map.now) settings) (F.holds files.old)
+        (λ d show. RoseHeard d (I.left input.old) steps.old steps.new)) }
     ensures unchanged { F.holds files.new ≡ F.holds files.old }
 {
     let session = open_session(alloc, files, map, settings)?;
@@ -60,9 +65,10 @@ fn hear<I: Source, O: Sink, L: Ledger>(
     out: &mut O,
     steps: &mut Steps<L>,
 ) -> Result<u8, Stop>
-    ensures { Hears job.old (incoming (I.left input.old) (I.faults input.old))
+    ensures heard { Hears job.old (incoming (I.left input.old) (I.faults input.old))
         (incoming (I.left input.new) (I.faults input.new))
         (stream (O.written out.old) (O.faults out.old)) (stream (O.written out.new) (O.faults out.new)) result }
+    ensures rose { OnOk result (RoseHeard job.old.session (I.left input.old) steps.old steps.new) }
 {
     let mut buffer = blank(alloc, PIECE)?;
     let mut feeder = LineFeeder::new();
@@ -112,6 +118,8 @@ fn hear_piece<O: Sink, L: Ledger>(
     requires { feeder.old.taken + length piece.now ≤ 2 ^ 26 }
     ensures heard { HearsPiece job.old job.new feeder.old feeder.new piece.now
         (stream (O.written out.old) (O.faults out.old)) (stream (O.written out.new) (O.faults out.new)) result }
+    ensures rose { OnOk result (RisePiece job.old job.new feeder.old feeder.new piece.now
+        steps.old steps.new) }
     ensures counted { OnOk result (feeder.new.taken ≡ feeder.old.taken + length piece.now) }
 {
     let mut got = Vec::new(alloc);
@@ -127,8 +135,9 @@ fn hear_end<O: Sink, L: Ledger>(
     out: &mut O,
     steps: &mut Steps<L>,
 ) -> Result<u8, Stop>
-    ensures { HearsEnd job.old job.new feeder.old
+    ensures ended { HearsEnd job.old job.new feeder.old
         (stream (O.written out.old) (O.faults out.old)) (stream (O.written out.new) (O.faults out.new)) result }
+    ensures rose { OnOk result (RiseEnd job.old job.new feeder.old steps.old steps.new) }
 {
     let mut got = Vec::new(alloc);
     let ended = feeder.end(&mut got);
@@ -148,6 +157,7 @@ fn answer_known<O: Sink, L: Ledger>(
     ensures known { AnswersKnown job.old job.new known got.now (stream (O.written out.old) (O.faults out.old))
         (stream (O.written out.new) (O.faults out.new)) result }
     ensures all { OnOk result (known ≡ Ok tt) }
+    ensures rose { OnOk result (RiseMore job.old job.new got.now steps.old steps.new) }
 {
     answer_more(alloc, job, got, out, steps)?;
     refuse(alloc, known)

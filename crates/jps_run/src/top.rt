@@ -3,7 +3,7 @@
 ghost use Rattle.std.specs.Prelude.{◌≡◌, ℕ, ◌≤◌, ◌⊎◌, false, OnOk, map, string_bytes};
 ghost use Rattle.io_edge.specs.Causes.{Rose};
 ghost use Rattle.word_list.specs.Request.{HasSides, asked, called};
-ghost use Rattle.jps_run.specs.Counting.{HasCounted, RoseAsCalled};
+ghost use Rattle.jps_run.specs.Counting.{HasCounted, RoseAsCalled, RoseForCall};
 ghost use Rattle.jps_run.specs.Ending.{Comes, Gets, HasFailed, HasLines, HasPart, InputRose, NamedRose, Names, ReadsInput, ending_line};
 ghost use Rattle.jps_run.specs.Outcome.{reads_input};
 ghost use Rattle.jps_run.specs.Served.{HasServed};
@@ -102,8 +102,8 @@ fn serve<F: Files, I: Source, O: Sink, L: Ledger>(
         (seen (F.holds files.new) (F.faults files.new) (O.written out.new) (O.faults out.new))
         (incoming (I.left input.old) (I.faults input.old))
         (incoming (I.left input.new) (I.faults input.new)) result }
-    ensures counted { OnOk result (HasCounted (called request.entry settings) (F.holds files.old)
-        steps.old steps.new) }
+    ensures counted { OnOk result (RoseForCall (called request.entry settings) (F.holds files.old)
+        (I.left input.old) steps.old steps.new) }
     ensures unchanged { F.holds files.new ≡ F.holds files.old }
     ensures input_stays { reads_input (asked request.entry) ≡ false
         → I.left input.new ≡ I.left input.old }
@@ -213,7 +213,7 @@ pub fn run<F: Files, I: Source, O: Sink, E: Sink, L: Ledger>(
     // A call that comes to its end counts, for each state that its searches took away from their
     // goals, at least the fewest steps of its engine.
     ensures counted { result ≤ 1 → RoseAsCalled (map string_bytes words.now) (F.holds files.old)
-        steps.old steps.new }
+        (I.left input.old) steps.old steps.new }
     // Nothing is taken from an input that the words do not ask for.
     ensures input_stays { ¬ ReadsInput (map string_bytes words.now) → I.left input.new ≡ I.left input.old }
 {

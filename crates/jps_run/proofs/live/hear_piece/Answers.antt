@@ -1,5 +1,6 @@
 use Rattle.jps_run.specs.Seen.{stream}
 use Rattle.jps_run.proofs.Hearing.{piece-heard}
+use Rattle.jps_run.proofs.Rising.{rise-piece}
 use Rattle.jps_run.proofs.live.hear_piece.Goals as goal
 
 pub returns-clause-heard : goal.returns-clause-heard
@@ -10,3 +11,10 @@ returns-clause-heard g c =
     (stream (g.O.Sink.written c.answer_known.new.out) (g.O.Sink.faults c.answer_known.new.out))
     c.answer_known.result c.new-got.ensures.items c.as_slice.ensures.value c.feed-fed.ensures.fed
     c.feed-fed.ensures.memory c.answer_known.ensures.known
+
+pub returns-clause-rose : goal.returns-clause-rose
+returns-clause-rose g c =
+    rise-piece c.args.job.now c.answer_known.new.job c.args.feeder.now c.feed-fed.new.self c.new-got.result.items
+    c.feed-fed.new.got.items c.as_slice.result.now c.feed-fed.result c.args.steps.now c.answer_known.new.steps
+    c.new-got.ensures.items c.as_slice.ensures.value c.args.piece.now c.answer_known.result c.feed-fed.ensures.fed
+    c.answer_known.ensures.all c.answer_known.ensures.rose

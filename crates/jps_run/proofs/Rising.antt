@@ -1,0 +1,147 @@
+-- The steps that the commands count which come in.
+use Rattle.std.proofs.Common.{◌≡◌, refl, sym, ap, ◌∙◌, subst, List, [], ◌∷◌, ◌++◌, append_assoc, ℕ, ◌+◌, ◌<◌, ◌≤◌, length, length-append, take, get_or, min, arith}
+use Rattle.std.specs.Prelude.{◌≢◌, ◌^◌, Option, Result, Ok, Err, OnOk}
+use Rattle.std.specs.Option.{option_map}
+use Rattle.std.specs.Io.KnownBytes.{Consumes, IsAtEnd}
+use Rattle.std.proofs.lemmas.List.{append-nil}
+use Rattle.script_text.specs.declared.command.Command.{Command}
+use Rattle.script_text.specs.declared.fault.ScriptFault.{ScriptFault}
+use Rattle.script_text.specs.declared.fault.ScriptFault.TheVariants.{NoMemory}
+use Rattle.script_text.specs.declared.feeder.LineFeeder.{LineFeeder}
+use Rattle.script_text.specs.Fed.{HasTaken, HasFed, HasEnded}
+use Rattle.script_text.specs.Feeding.{commands_so_far, commands_of, fault_of, Appended}
+use Rattle.script_text.specs.Feeding as known
+use Rattle.script_text.proofs.Feeding.{begun-known}
+use Rattle.jps_run.specs.Answering.{GoesOn, HaveTaken, TakesFor}
+use Rattle.jps_run.specs.Counting.{RoseHeard}
+use Rattle.jps_run.specs.FaultLines.{script_line}
+use Rattle.jps_run.specs.Heard.{whole}
+use Rattle.jps_run.specs.Rising.{IsRising, RiseEnd, RiseMore, RisePiece}
+use Rattle.jps_run.specs.declared.answers.Answers.{Answers}
+use Rattle.jps_run.specs.declared.stop.Stop.{Stop}
+use Rattle.jps_run.proofs.Counts.{taken-more, taken-none}
+use Rattle.jps_run.proofs.Listening.{consumes-both, consumes-none, told-all}
+use Rattle.jps_run.proofs.Looping.{counted-all, counted-more}
+
+-- what holds, holds where it is done
+pub if_ok : {T E : Type 0} {P : Type 0} (result : Result T E) → P → OnOk result P
+if_ok (Ok done) p = p
+if_ok (Err error) p = tt
+
+-- nothing is answered yet
+pub rise-none : (job : Answers) (at : ℕ) → RiseMore job job [] at at
+rise-none job at = λ first earlier start h.
+    subst (λ (some : List Command). HaveTaken first job some start at) (sym (append-nil earlier)) h
+
+-- one command more is answered
+pub rise-next : (old job now : Answers) (commands : List Command) (place : ℕ) (command : Command) (at mid new : ℕ)
+    → place < length commands → command ≡ get_or commands place command
+    → RiseMore old job (take place commands) at mid → GoesOn job.session command now.session
+    → TakesFor job.session command mid new → RiseMore old now (take (place + 1) commands) at new
+rise-next old job now commands place command at mid new h e rise on more = λ first earlier start t.
+    counted-more (λ (f n : Answers) (some : List Command) (s w : ℕ). HaveTaken f n (earlier ++ some) s w) first now
+    commands place command start new h e
+    (subst (λ (some : List Command). HaveTaken first now some start new)
+    (append_assoc earlier (take place commands) (command ∷ []))
+    (taken-more {T = Unit {0}} {E = Stop} (Ok tt) job now command mid new on more first
+    (earlier ++ take place commands) start (rise first earlier start t)))
+
+-- all are answered
+pub rise-all : (old now : Answers) (commands : List Command) (place at new : ℕ) → length commands ≤ place
+    → RiseMore old now (take place commands) at new → RiseMore old now commands at new
+rise-all old now commands place at new h rise = λ first earlier start t.
+    counted-all (λ (f n : Answers) (some : List Command) (s w : ℕ). HaveTaken f n (earlier ++ some) s w) first now
+    commands place start new h (rise first earlier start t)
+
+-- the commands that were appended to none are those that became known
+all-known : (earlier later before got slice : List Command) → before ≡ [] → slice ≡ got
+    → Appended earlier later before got → earlier ++ slice ≡ later
+all-known earlier later before got slice empty same a =
+    ap (λ (l : List Command). earlier ++ l)
+    (same ∙ a.appended ∙ ap (λ (b : List Command). b ++ a.more) empty) ∙ sym a.known
+
+-- an answer without fault is not for want of memory
+not-starved : (answer : Result (Unit {0}) ScriptFault) → answer ≡ Ok tt → answer ≢ Err NoMemory
+not-starved answer ok = λ no. (let e : Ok tt ≡ Err NoMemory = sym ok ∙ no in cc)
+
+module _ (old new : Answers) (feeder feeder_now : LineFeeder) (before got slice : List Command)
+    (answer : Result (Unit {0}) ScriptFault) (at now : ℕ) (empty : before ≡ []) (same : slice ≡ got) where
+  -- the commands of a piece are answered
+  pub rise-piece : (piece : List ℕ) (result : Result (Unit {0}) Stop)
+      → (answer ≢ Err NoMemory → (text : List ℕ) → HasTaken feeder text
+      → HasFed text (text ++ piece) feeder_now before got answer)
+      → OnOk result (answer ≡ Ok tt) → OnOk result (RiseMore old new slice at now)
+      → OnOk result (RisePiece old new feeder feeder_now piece at now)
+  rise-piece piece (Err error) fed ok rise = tt
+  rise-piece piece (Ok done) fed ok rise = λ first text start h t.
+      let f = fed (not-starved answer ok) text h in (
+        f.taken,
+        subst (λ (all : List Command). HaveTaken first new all start now)
+            (all-known (commands_so_far text) (commands_so_far (text ++ piece)) before got slice empty same
+            f.commands) (rise first (commands_so_far text) start t),
+      )
+
+  -- and those of the end of a script
+  pub rise-end : (answer ≢ Err NoMemory → (text : List ℕ) → HasTaken feeder text
+      → HasEnded text feeder_now before got answer) → answer ≡ Ok tt → RiseMore old new slice at now
+      → RiseEnd old new feeder at now
+  rise-end ended ok rise = λ first text start h t.
+      let f = ended (not-starved answer ok) text h in (
+        subst (λ (a : Result (Unit {0}) ScriptFault). known.Answers a (fault_of text)) ok f.answer,
+        subst (λ (all : List Command). HaveTaken first new all start now)
+            (all-known (commands_so_far text) (commands_of text) before got slice empty same f.commands)
+            (rise first (commands_so_far text) start t),
+      )
+
+-- nothing was read yet
+pub rising-begun : (first : Answers) (feeder : LineFeeder) (input : Option (List ℕ)) (start : ℕ)
+    → HasTaken feeder [] → feeder.taken ≡ 0 → IsRising first first feeder input input start start
+rising-begun first feeder input start begun none = record {
+  text = [];
+  consumed = consumes-none input;
+  counted = sym none;
+  fed = begun;
+  taken = subst (λ (commands : List Command). HaveTaken first first commands start start) (sym begun-known.1)
+      (taken-none first start);
+}
+
+module _ (first job new : Answers) (feeder : LineFeeder) (input mid left : Option (List ℕ)) (start at now : ℕ)
+    (r : IsRising first job feeder input mid start at) where
+  -- a piece was heard whole
+  pub rising-more : (feeder_now : LineFeeder) (count room : ℕ) (bytes piece : List ℕ)
+      → Consumes mid left (take count bytes) → piece ≡ take (min count room) bytes → count ≤ room
+      → feeder_now.taken ≡ feeder.taken + length piece → RisePiece job new feeder feeder_now piece at now
+      → IsRising first new feeder_now input left start now
+  rising-more feeder_now count room bytes piece read is fits counted rise =
+      let all : piece ≡ take count bytes
+      = is ∙ ap (λ n. take n bytes) (let e : min count room ≡ count = omega arith in e) in
+      let p = rise first r.text start r.fed r.taken in
+      record {
+        text = r.text ++ piece;
+        consumed = subst (λ (l : List ℕ). Consumes input left (r.text ++ l)) (sym all)
+            (consumes-both input mid left r.text (take count bytes) r.consumed read);
+        counted = length-append r.text piece
+            ∙ (let e : length r.text ≡ feeder.taken = r.counted in
+            let s : length r.text + length piece ≡ feeder_now.taken = omega (arith, counted) in s);
+        fed = p.0;
+        taken = p.1;
+      }
+
+  -- nothing more came in
+  pub rising-ended : (bytes : List ℕ) → Consumes mid left (take 0 bytes) → IsAtEnd left → feeder.taken ≤ 2 ^ 26
+      → (result : Result ℕ Stop) → OnOk result (RiseEnd job new feeder at now)
+      → OnOk result (RoseHeard first.session input start now)
+  rising-ended bytes read ended few (Err error) rise = tt
+  rising-ended bytes read ended few (Ok status) rise =
+      let e = rise first r.text start r.fed r.taken in
+      record {
+        script = r.text;
+        told = told-all input left r.text
+            (subst (λ (t : List ℕ). Consumes input left t) (append-nil r.text)
+            (consumes-both input mid left r.text [] r.consumed read)) ended;
+        commands = commands_of r.text;
+        heard = whole (let l : length r.text ≡ feeder.taken = r.counted in
+            let h : length r.text ≤ 2 ^ 26 = omega arith in h) refl
+            (sym (ap (λ (f : Option ScriptFault). option_map script_line f) e.0));
+        rose = e.1.rose;
+      }
