@@ -210,8 +210,8 @@ pub fn run<F: Files, I: Source, O: Sink, E: Sink, L: Ledger>(
         (incoming (I.left input.new) (I.faults input.new))
         → ¬ Rose (O.faults out.old) (O.faults out.new) → (result ≤ 3) ⊎ (result ≡ 6) }
     ensures unchanged { F.holds files.new ≡ F.holds files.old }
-    // A call that comes to its end counts, for each state that its searches took away from their
-    // goals, at least the fewest steps of its engine.
+    // A call of `query`, `solve`, `live`, `scen` or `drill` that comes to its end counts, for each
+    // state that its searches took away from their goals, at least the fewest steps of its engine.
     ensures counted { result ≤ 1 → RoseAsCalled (map string_bytes words.now) (F.holds files.old)
         (I.left input.old) steps.old steps.new }
     // Nothing is taken from an input that the words do not ask for.
