@@ -1,54 +1,77 @@
-"""Whether engines judge scenarios alike, over a folder of maps with scenarios.
+#!/usr/bin/env python3
+"""Whether engines answer alike, over a folder of maps with scenarios.
 
-    same_rows.py PROGRAM FOLDER ENGINE ENGINE .. [--rule RULE] [--queries N]
+    same_rows.py PROGRAM FOLDER ENGINE ENGINE .. [--walks] [--rule RULE] [--queries N]
 
-For each map of the folder with a scenario beside it (X.map, X.scen) the first N entries (300) are
-judged by each engine. A row shows the cost of a walk, so that equal output is equal costs. Prints a line
-for each map and ends with status 1 where two engines differ.
+For each map of the folder with a scenario beside it (X.map, X.scen) N of its entries (300), evenly spread,
+are answered by each engine. Without --walks they are judged by `scen`: a row shows the cost of a walk, so
+equal output is equal costs. With --walks they are asked by `solve` with show=trace: each line has the points
+and every state that the search took. Prints a line for each map and ends with status 1 where two engines
+differ, or where the folder has no such pair of files.
 """
 
 import argparse
+import hashlib
 import pathlib
 import subprocess
 import sys
 import tempfile
 
 
-def rows(program, map_file, scen_file, engine, rule):
-    words = [program, "scen", map_file, scen_file, f"engine={engine}", f"rule={rule}"]
-    made = subprocess.run(words, capture_output=True)
-    if made.returncode > 1:
-        sys.exit(f"{' '.join(map(str, words))}: status {made.returncode} {made.stderr.decode()}")
-    return made.stdout
+def spread(entries, count):
+    """So many of the entries, evenly spread, the first among them."""
+    count = min(count, len(entries))
+    return [entries[k * len(entries) // count] for k in range(count)]
+
+
+def script_of(entries):
+    """A query for each entry: its start and its goal are the fields before the listed length."""
+    ends = (entry.split()[-5:-1] for entry in entries)
+    return "".join(f"query {' '.join(four)}\n" for four in ends)
+
+
+def digest_of(words):
+    """The digest of what the program prints. Status 1 of `scen` says that a listed length is off."""
+    made = subprocess.Popen([str(word) for word in words], stdout=subprocess.PIPE, stderr=subprocess.PIPE)
+    digest, lines = hashlib.sha256(), 0
+    for piece in iter(lambda: made.stdout.read(1 << 20), b""):
+        digest.update(piece)
+        lines += piece.count(b"\n")
+    told = made.stderr.read().decode().strip()
+    if made.wait() not in (0, 1):
+        sys.exit(f"{' '.join(map(str, words))}: status {made.returncode}: {told}")
+    return digest.hexdigest(), lines
 
 
 def main():
-    words = argparse.ArgumentParser()
+    words = argparse.ArgumentParser(description=__doc__, formatter_class=argparse.RawDescriptionHelpFormatter)
     words.add_argument("program")
     words.add_argument("folder", type=pathlib.Path)
     words.add_argument("engines", nargs="+")
-    words.add_argument("--rule", default="none")
+    words.add_argument("--walks", action="store_true")
+    words.add_argument("--rule", default="none", choices=["none", "one"])
     words.add_argument("--queries", type=int, default=300)
     given = words.parse_args()
+    maps = [m for m in sorted(given.folder.glob("*.map")) if m.with_suffix(".scen").exists()]
     differ = 0
-    for map_file in sorted(given.folder.glob("*.map")):
-        scen_file = map_file.with_suffix(".scen")
-        if not scen_file.exists():
-            continue
-        lines = scen_file.read_text().splitlines(keepends=True)
-        with tempfile.NamedTemporaryFile("w", suffix=".scen") as cut:
-            cut.writelines(lines[: given.queries + 1])
-            cut.flush()
+    for map_file in maps:
+        head, *entries = map_file.with_suffix(".scen").read_text().splitlines(keepends=True)
+        entries = spread(entries, given.queries)
+        with tempfile.NamedTemporaryFile("w") as asked:
+            asked.write(script_of(entries) if given.walks else head + "".join(entries))
+            asked.flush()
+            call = [given.program, "solve" if given.walks else "scen", map_file, asked.name]
+            shown = ["show=trace"] if given.walks else []
             told = {
-                engine: rows(given.program, map_file, cut.name, engine, given.rule)
+                engine: digest_of([*call, f"engine={engine}", f"rule={given.rule}", *shown])
                 for engine in given.engines
             }
         first = told[given.engines[0]]
         others = [engine for engine in given.engines if told[engine] != first]
         differ += bool(others)
-        last = first.splitlines()[-1].decode()
-        print(f"{map_file.stem}: {last}: {'differs by ' + ', '.join(others) if others else 'same'}")
-    sys.exit(1 if differ else 0)
+        print(f"{map_file.stem}: {first[1]} lines: {'differs by ' + ', '.join(others) if others else 'same'}", flush=True)
+    print(f"{len(maps)} maps, {differ} differ")
+    sys.exit(1 if differ or not maps else 0)
 
 
 main()
