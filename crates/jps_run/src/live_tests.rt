@@ -166,21 +166,60 @@ impl<'a> Sink for Noted<'a> {
     }
 }
 
-// The second read completes the first line, the fourth the second one; a fifth finds the end.
-#[test]
-fn a_line_is_answered_before_the_next_read(rt: HostRuntime) -> Result<(), Fail> {
+// A script that comes in pieces of 7 bytes has this status and line, these numbers of reads before its
+// writes, and so many reads in all.
+fn check_order(
+    alloc: Global,
+    rt: &impl Abort,
+    script: &[u8],
+    status: u8,
+    line: &[u8],
+    notes: &[u64],
+    read: u64,
+) -> Result<(), Fail> {
     let reads = Cell::new(0);
     let mut input = Spoken {
-        text: SCRIPT,
+        text: script,
         reads: &reads,
     };
     let mut out = Noted {
         reads: &reads,
         notes: ArrayVec::new(),
     };
-    let status = call::<_, _, Brand>(rt.alloc(), &rt, &mut input, &mut out, b"", Blank::new(1))?;
-    assert_eq!(rt; status, 0);
-    assert_eq!(rt; out.notes.as_slice(), [2, 4].as_slice());
-    assert_eq!(rt; reads.get(), 5);
+    let answer = call::<_, _, Brand>(alloc, rt, &mut input, &mut out, line, Blank::new(1))?;
+    assert_eq!(rt; answer, status);
+    assert_eq!(rt; out.notes.as_slice(), notes);
+    assert_eq!(rt; reads.get(), read);
     Ok(())
+}
+
+// The second read completes the first line, the fourth the second one; a fifth finds the end.
+#[test]
+fn a_line_is_answered_before_the_next_read(rt: HostRuntime) -> Result<(), Fail> {
+    check_order(rt.alloc(), &rt, SCRIPT, 0, b"", &[2, 4], 5)
+}
+
+// A misspelt line ends the call with the read that completes it, a long one with that of its 129th byte.
+#[test]
+fn a_refused_line_ends_the_call_at_once(rt: HostRuntime) -> Result<(), Fail> {
+    let misspelt = b"bolck\nblock 1 1\nblock 1 1\n";
+    check_order(
+        rt.alloc(),
+        &rt,
+        misspelt,
+        3,
+        b"jps: script T1 line 1\n",
+        &[],
+        1,
+    )?;
+    let long = [b' '; 200];
+    check_order(
+        rt.alloc(),
+        &rt,
+        &long,
+        3,
+        b"jps: script T2 line 1\n",
+        &[],
+        19,
+    )
 }

@@ -7,8 +7,8 @@ use std::alloc::{AllocError, Global};
 use std::test::*;
 use text_line::put;
 
-// The lines of a certificate that a walk round the pillar of `.../.@./...` is least; line `at`, from 1,
-// is this one in its place.
+// The lines of a certificate that a walk round the pillar of `.../.@./...` is least; in place of line `at`,
+// from 1, stands this one, or none where it is empty.
 fn changed(alloc: Global, at: u32, line: &[u8]) -> Result<Vec<u8>, AllocError> {
     let mut text = Vec::new(alloc);
     for (number, given) in [
@@ -22,8 +22,11 @@ fn changed(alloc: Global, at: u32, line: &[u8]) -> Result<Vec<u8>, AllocError> {
         (8, b"value 0 1 1 0"),
         (9, b"end"),
     ] {
-        put(&mut text, if number == at { line } else { given })?;
-        put(&mut text, b"\n")?;
+        let shown = if number == at { line } else { given };
+        if !shown.is_empty() {
+            put(&mut text, shown)?;
+            put(&mut text, b"\n")?;
+        }
     }
     Ok(text)
 }
@@ -67,6 +70,14 @@ fn each_change_has_its_answer(rt: HostRuntime) -> Result<(), Fail> {
         ),
         (7, b"value 0 1 1 0", Err(CertFault::Order { line: 8 })),
         (9, b"", Err(CertFault::Line { line: 9 })),
+        (6, b"", Ok(Err(Reject::Start))),
+        (7, b"", Ok(Err(Reject::Move(corner, cell(1, 0))))),
+        (8, b"", Ok(Err(Reject::Move(corner, cell(0, 1))))),
+        (
+            9,
+            b"value 2 1 4 0\nend",
+            Ok(Err(Reject::Move(cell(2, 0), cell(2, 1)))),
+        ),
     ] {
         let text = changed(rt.alloc(), at, line)?;
         let told = judged(rt.alloc(), &grid, &text);

@@ -45,7 +45,7 @@ impl LineFeeder {
         }
     }
 
-    /// How many bytes came, those of the piece with the first fault among them.
+    /// How many bytes were taken: all that came, up to the one with which the first fault was known.
     pub fn taken(&self) -> u32
         ensures count { result ≡ self.now.taken }
         ensures within { result ≤ 2 ^ 26 }
@@ -64,6 +64,7 @@ impl LineFeeder {
         ensures fed { result ≢ Err NoMemory → (text : List ℕ) → HasTaken self.old text
             → HasFed text (text ++ piece.now) self.new got.old.items got.new.items result }
         ensures counted { OnOk result (self.new.taken ≡ self.old.taken + length piece.now) }
+        ensures few { self.new.taken ≤ self.old.taken + length piece.now }
         // A fault that is kept is answered again.
         ensures kept { (fault : ScriptFault) → self.old.fault ≡ Some fault
             → (result ≡ Err fault) × (self.new ≡ self.old) × (got.new.items ≡ got.old.items) }

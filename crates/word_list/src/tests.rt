@@ -13,7 +13,7 @@ fn words_of(alloc: Global, line: &str) -> Result<Vec<String>, AllocError> {
 // Counted by hand, from the table of commands.
 #[test]
 fn the_first_word_of_no_call_is_named(rt: HostRuntime) -> Result<(), Fail> {
-    let lists: [(&str, u32); 20] = [
+    let lists: [(&str, u32); 24] = [
         ("mkae", 1),
         ("make", 2),
         ("make 7 0 2 0", 3),
@@ -31,6 +31,10 @@ fn the_first_word_of_no_call_is_named(rt: HostRuntime) -> Result<(), Fail> {
         ("solve m s engine=", 4),
         ("live", 2),
         ("live m s", 3),
+        ("live m show=cells show=cells", 4),
+        ("prove m 0 0 1 1 engine=plain", 7),
+        ("check m", 3),
+        ("check m c show=cells", 4),
         ("scen m", 3),
         ("scen m s show=points engine=plain", 4),
         ("scen m s rule=one rule=none rule=one", 5),
