@@ -1,10 +1,11 @@
 //! Bits of a grid as a source of jumps.
 
-ghost use Rattle.std.specs.Prelude.{◌≡◌, ℕ, ◌+◌, ◌≤◌, true, IsTrue, None};
+ghost use Rattle.std.specs.Prelude.{◌≡◌, ℕ, ◌+◌, ◌≤◌, false, true, IsTrue, None};
 ghost use Rattle.grid_moves.specs.Grid.{GridData, is_free};
 ghost use Rattle.pruning.specs.Allowed.{allowed_dirs};
 ghost use Rattle.pruning.specs.First as first;
 ghost use Rattle.pruning.specs.Stop.{IsFirstStop};
+ghost use Rattle.pruning.specs.Turns.{is_diagonal};
 ghost use Rattle.jump_block.specs.Scan.{most_lanes};
 ghost use Rattle.jump_block.specs.Source.{AreItsBits, AreJumpsOn, is_forward, is_back, scanned};
 
@@ -29,7 +30,9 @@ pub struct BlockJumps<'a> {
 }
 
 impl<'a> Bits<'a> {
-    // After how many moves a jump stops. Each direction has loops of its own, in which it is a constant.
+    // After how many moves a jump stops; a straight one reads at most `3·(k/512 + 2)` blocks, where `k` is that
+    // number, or, where there is no stop, the length of the legal run and one. Each direction has loops of its
+    // own, in which it is a constant.
     #[inline(never)]
     fn stop<L: Ledger>(&self, at: Cell, d: Dir, goal: Cell, steps: &mut Steps<L>) -> Option<u16>
         requires stands { (g : GridData) × AreItsBits self.now.rows.now self.now.columns.now self.now.corner g
@@ -37,6 +40,9 @@ impl<'a> Bits<'a> {
         ensures first { (g : GridData)
             → AreItsBits self.now.rows.now self.now.columns.now self.now.corner g → is_free g at ≡ true
             → result ≡ first.first_stop g goal at d }
+        ensures most { is_diagonal d ≡ false → (g : GridData)
+            → AreItsBits self.now.rows.now self.now.columns.now self.now.corner g → is_free g at ≡ true
+            → steps.new ≤ steps.old + most_lanes (scanned g at d result) }
         ensures fewest { steps.old + 3 ≤ steps.new }
     {
         match d {
@@ -103,7 +109,7 @@ impl<'a> BlockJumps<'a> {
             → steps.new ≤ steps.old + most_lanes (scanned g at d result) }
         ensures fewest { steps.old + 3 ≤ steps.new }
     {
-        self.bits().straight(at, d, goal, steps)
+        self.bits().stop(at, d, goal, steps)
     }
 
     /// After how many moves a jump to the west or to the north stops: the first stop.
@@ -128,7 +134,7 @@ impl<'a> BlockJumps<'a> {
             → steps.new ≤ steps.old + most_lanes (scanned g at d result) }
         ensures fewest { steps.old + 3 ≤ steps.new }
     {
-        self.bits().straight(at, d, goal, steps)
+        self.bits().stop(at, d, goal, steps)
     }
 }
 
