@@ -30,9 +30,9 @@ pub struct BlockJumps<'a> {
 }
 
 impl<'a> Bits<'a> {
-    // After how many moves a jump stops; a straight one reads at most `3·(k/512 + 2)` blocks, where `k` is that
-    // number, or, where there is no stop, the length of the legal run and one. Each direction has loops of its
-    // own, in which it is a constant.
+    // After how many moves a jump stops. A straight one reads at most `3·(k/512 + 2)` blocks: `k` is that
+    // number, or, where there is no stop, the length of the legal run and one.
+    // Each direction has loops of its own, in which it is a constant.
     #[inline(never)]
     fn stop<L: Ledger>(&self, at: Cell, d: Dir, goal: Cell, steps: &mut Steps<L>) -> Option<u16>
         requires stands { (g : GridData) × AreItsBits self.now.rows.now self.now.columns.now self.now.corner g
