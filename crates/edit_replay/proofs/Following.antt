@@ -1,5 +1,5 @@
 -- What is kept beside a grid follows an edit.
-use Rattle.std.proofs.Common.{◌≡◌, refl, sym, subst, ◌∙◌, true, ℕ, ◌+◌, ◌*◌, ◌≤◌, Bool, arith}
+use Rattle.std.proofs.Common.{◌≡◌, ◌≢◌, refl, sym, subst, ◌∙◌, true, ℕ, ◌+◌, ◌*◌, ◌≤◌, Bool, arith}
 use Rattle.grid_moves.specs.declared.Cell.{Cell}
 use Rattle.grid_moves.specs.Grid.{GridData, grid_with, is_inside}
 use Rattle.grid_moves.specs.Layers.{Layers}
@@ -93,12 +93,12 @@ plain_alone Block memory beside states kept plain = absurd (cc)
 plain_alone Plus memory beside states kept plain = absurd (cc)
 
 -- tables were mended
-pub tables_follow : (old new : TablesData) (g h : GridData) (changed steps steps_now : ℕ) → IsWhole old
+pub tables_follow : (old new : TablesData) (g h : GridData) → h ≢ g → (changed steps steps_now : ℕ) → IsWhole old
     → AreTablesOf old g → AreTablesOf new h → changed ≡ places_differing old.entries new.entries
     → steps_now ≤ steps + 18 * (h.width + h.height) + changed
     → Follows (Tables old) g h steps steps_now
-tables_follow old new g h changed steps steps_now whole of_old of_new e within = (
+tables_follow old new g h changes changed steps steps_now whole of_old of_new e within = (
   18 * (h.width + h.height) + places_differing old.entries new.entries,
-  repaired old new whole of_old of_new refl,
+  repaired changes old new whole of_old of_new refl,
   (omega arith),
 )

@@ -1,5 +1,5 @@
--- Two replies that are right and the run of the session's engine are one reply.
-use Rattle.std.proofs.Common.{◌≡◌, ℕ, ◌⊎◌, inl, inr, refl, ap, sym, ◌∙◌, Bool, true, false, ◌&&◌, ◌||◌, List, []}
+-- Two replies that are right and the runs of engines that both jump, or of the plain engine, are one reply.
+use Rattle.std.proofs.Common.{◌≡◌, ℕ, ◌⊎◌, inl, inr, refl, ap, sym, subst, ◌∙◌, Bool, true, false, ◌&&◌, ◌||◌, List, []}
 use Rattle.std.specs.Prelude.{MatchBool, if◌then◌else◌}
 use Rattle.std.proofs.lemmas.Bool.Decides.{when_true}
 use Rattle.std.specs.Prelude as option
@@ -17,6 +17,7 @@ use Rattle.plain_search.proofs.Oneness as plainly
 use Rattle.search_core.specs.Run as jump
 use Rattle.search_core.specs.declared.found.Found.{Found}
 use Rattle.search_core.proofs.Oneness as jumping
+use Rattle.edit_replay.specs.Kept.{is_plain}
 use Rattle.edit_replay.specs.Replies.{answer_of, Finds, Exhausts, IsRunOn}
 use Rattle.edit_replay.specs.Session.{SessionData}
 use Rattle.edit_replay.specs.Oneness.{IsReplyOf}
@@ -191,8 +192,44 @@ module _ (ls : Layers) (are : AreLayers ls) (s t : Cell) (e : Engine) where
   one_reply Blocked Outside p q = absurd (not_both (is_on_map ls s && is_on_map ls t) p.right.0 q.right)
   one_reply Blocked Blocked p q = refl
 
--- the replies of one engine
-pub one_run_reply : (d : SessionData) (s t : Cell) (one other : Reply) → AreLayers d.layers
-    → IsReplyOf d s t one → IsReplyOf d s t other → one ≡ other
-one_run_reply d s t one other are p q = one_reply d.layers are s t d.engine one other
-    (record { right = p.right; run = p.run }) (record { right = q.right; run = q.run })
+-- one engine for all that jump, and the plain one
+like : Bool → Engine
+like true = engine.Plain
+like false = engine.Jps
+
+module _ (g : GridData) (s t : Cell) where
+  finds_like : (e : Engine) (ps : List Cell) (c : Cost) (ms : List ℕ) → Finds e g s t ps c ms
+      → Finds (like (is_plain e)) g s t ps c ms
+  unfolding like
+  finds_like engine.Plain ps c ms is = is
+  finds_like engine.Jps ps c ms is = is
+  finds_like engine.Block ps c ms is = is
+  finds_like engine.Plus ps c ms is = is
+
+  exhausts_like : (e : Engine) (ms : List ℕ) (b : Bool) → MatchBool b (Exhausts e g s t ms) (ms ≡ [])
+      → MatchBool b (Exhausts (like (is_plain e)) g s t ms) (ms ≡ [])
+  unfolding like
+  exhausts_like engine.Plain ms b is = is
+  exhausts_like engine.Jps ms b is = is
+  exhausts_like engine.Block ms b is = is
+  exhausts_like engine.Plus ms b is = is
+
+  -- the run of an engine is that of each engine that is like it
+  run_like : (e : Engine) (reply : Reply) → IsRunOn e g s t reply → IsRunOn (like (is_plain e)) g s t reply
+  run_like e (Walk ps c ms) is = finds_like e ps c ms is
+  run_like e (None ms) is = exhausts_like e ms (is_free g s && is_free g t) is
+  run_like e Outside is = is
+  run_like e Blocked is = is
+
+-- the replies of two sessions with the same layers, whose engines both jump or are both plain
+pub one_run_reply : (d e : SessionData) (s t : Cell) (one other : Reply) → d.layers ≡ e.layers → AreLayers d.layers
+    → is_plain d.engine ≡ is_plain e.engine → IsReplyOf d s t one → IsReplyOf e s t other → one ≡ other
+one_run_reply d e s t one other same are alike p q =
+    one_reply d.layers are s t (like (is_plain d.engine)) one other
+    (record { right = p.right; run = run_like (query_grid d.layers s) s t d.engine one p.run })
+    (record {
+      right = subst (λ (ls : Layers). IsRight ls s t (answer_of other)) (sym same) q.right;
+      run = subst (λ (ls : Layers). IsRunOn (like (is_plain d.engine)) (query_grid ls s) s t other) (sym same)
+          (subst (λ (b : Bool). IsRunOn (like b) (query_grid e.layers s) s t other) (sym alike)
+          (run_like (query_grid e.layers s) s t e.engine other q.run));
+    })

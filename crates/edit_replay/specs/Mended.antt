@@ -1,5 +1,5 @@
 -- How many steps an edit counts, where what is kept beside the grids has to follow it.
-use Rattle.std.specs.Prelude.{◌≡◌, ℕ, ◌+◌, ◌*◌, ◌≤◌}
+use Rattle.std.specs.Prelude.{◌≡◌, ◌≢◌, ℕ, ◌+◌, ◌*◌, ◌≤◌}
 use Rattle.grid_moves.specs.Grid.{GridData}
 use Rattle.grid_moves.specs.Layers.{Layers}
 use Rattle.plus_tables.specs.Tables.{TablesData, AreTablesOf, IsWhole}
@@ -13,7 +13,7 @@ use Rattle.edit_replay.specs.declared.engine.Engine.TheVariants.{Plain, Jps, Blo
 -- for each row and each column, and one for each entry that differs.
 pub data MendsWithin (g h : GridData) (n : ℕ) : Type 0 where
   nothing : h ≡ g → n ≡ 0 → MendsWithin g h n
-  repaired : (old new : TablesData) → IsWhole old → AreTablesOf old g → AreTablesOf new h
+  repaired : h ≢ g → (old new : TablesData) → IsWhole old → AreTablesOf old g → AreTablesOf new h
       → n ≡ 18 * (h.width + h.height) + places_differing old.entries new.entries → MendsWithin g h n
 
 -- what is kept beside a grid followed it
@@ -22,7 +22,7 @@ Follows beside.Nothing g h old new = new ≡ old
 Follows (beside.Bits bits) g h old new = new ≡ old
 Follows (beside.Tables tables) g h old new = (n : ℕ) × MendsWithin g h n × (new ≤ old + n)
 
--- both layers' tables were mended
+-- both layers' tables were mended, those of a layer that stays as it was by no refresh
 pub record AreMended (before after : Layers) (old new : ℕ) : Type 0 where
   pub land : ℕ
   pub water : ℕ

@@ -1,6 +1,6 @@
 //! What an engine keeps beside the grid of a layer.
 
-ghost use Rattle.std.specs.Prelude.{◌≡◌, ◌≤◌, true, IfOk};
+ghost use Rattle.std.specs.Prelude.{◌≡◌, ◌≢◌, ◌≤◌, true, IfOk};
 ghost use Rattle.grid_moves.specs.Grid.{GridData, grid_with, is_inside};
 ghost use Rattle.edit_replay.specs.Kept.{IsOf, jumping, engine_that_jumps};
 ghost use Rattle.edit_replay.specs.Mended.{Follows};
@@ -44,7 +44,8 @@ impl Beside {
             × (grid.now ≡ grid_with g c free) }
         ensures is_of { IsOf grid.now self.new }
         ensures engine { engine_that_jumps self.new ≡ engine_that_jumps self.old }
-        ensures counted { (g : GridData) → IsOf g self.old → Follows self.old g grid.now steps.old steps.new }
+        ensures counted { (g : GridData) → IsOf g self.old → grid.now ≢ g
+            → Follows self.old g grid.now steps.old steps.new }
         ensures later { steps.old ≤ steps.new }
     {
         match self {

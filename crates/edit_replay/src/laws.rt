@@ -8,8 +8,9 @@ pub fn replies_exist()
     ensures { RepliesExist }
 {}
 
-/// Whatever the engine and the ends, on the layers of one map there is no other such reply: two that
-/// are right and the engine's run have the same points, the same cost and the same taken states.
+/// Whatever the ends, on the layers of one map there is no other such reply: two that are right and the
+/// run of their session's engine have the same points, the same cost and the same taken states. They are
+/// replies of one session or of two, by one engine or by two that both jump (`jps`, `block` and `plus`).
 pub fn replies_are_one()
     ensures { RepliesAreOne }
 {}

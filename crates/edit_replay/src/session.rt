@@ -1,6 +1,6 @@
 //! The session.
 
-ghost use Rattle.std.specs.Prelude.{◌≡◌, ◌<◌, ◌≤◌, IfOk, MatchOption, true, false};
+ghost use Rattle.std.specs.Prelude.{◌≡◌, ◌≢◌, ◌<◌, ◌≤◌, IfOk, MatchOption, true, false};
 ghost use Rattle.grid_moves.specs.Grid.{IsGrid, is_inside};
 ghost use Rattle.grid_moves.specs.Layers as spec;
 ghost use Rattle.grid_moves.specs.Reply.{IsRight};
@@ -125,14 +125,16 @@ impl Session {
     /// decides. No memory is taken.
     ///
     /// The engines `plain` and `jps` keep nothing that an edit has to mend, and `block` changes bits; they
-    /// count no steps. With `plus` a step is one refresh of a table entry: on each layer at most 18 for each
-    /// row and each column of the map, and one for each entry that changes.
+    /// count no steps. With `plus` a step is one refresh of a table entry: on each layer that changes at most
+    /// 18 for each row and each column of the map, and one for each entry that changes. Nothing is counted on a
+    /// layer that stays as it was, so nothing at all where the reply isn't `Done`.
     pub fn edit<L: Ledger>(&mut self, x: u32, y: u32, to: Ground, steps: &mut Steps<L>) -> EditReply
         ensures reply { result ≡ edit_reply self.old.layers (edit_at x y to) }
         ensures edited { AddsEdit self.old.layers (edit_at x y to) self.new.layers }
         ensures cell { EditsSo self.old.layers (record { x = x; y = y }) to self.new.layers result }
         ensures engine { self.new.engine ≡ self.old.engine }
         ensures counted { IsEditCounted self.old.engine self.old.layers self.new.layers steps.old steps.new }
+        ensures unchanged { result ≢ EditReply.Done → steps.new ≡ steps.old }
         ensures later { steps.old ≤ steps.new }
     {
         let Some(c) = cell_at(&self.land.grid, x, y) else {
