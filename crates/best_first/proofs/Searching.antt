@@ -64,7 +64,7 @@ module _ (width height : ℕ) (start goal : Cell) (link : Links) (fit : IsSearch
   pub taken_short : (run : List (Taken State)) → IsRun (search_rule width goal link) (start_at start) run
       → (u : Taken State) → IsIn u run → HasShortParts (sum_at (search_rule width goal link) u.state u.cost)
   taken_short run is u m =
-      short_sum width height u.state.cell goal u.cost fit.posed.narrow fit.posed.low (run_on width height start goal link fit.posed run is u m) fit.posed.goal_on
+      short_sum width height u.state.cell goal u.cost fit.posed.narrow fit.posed.low (run_on width height start goal link fit.posed run is u m) fit.posed.goal_near
       (let f = fit.few run u is m in omega arith)
 
 module _ (layout : Layout) (width height : ℕ) (start goal : Cell) (link : Links)
@@ -143,7 +143,7 @@ module _ (layout : Layout) (width height : ℕ) (start goal : Cell) (link : Link
 
       short : HasShortParts (sum_at (search_rule width goal link) (state_in layout o.to) (add_costs x.cost c))
       short = short_sum width height (state_in layout o.to).cell goal (add_costs x.cost c) fit.posed.narrow fit.posed.low lands
-          fit.posed.goal_on cost_few
+          fit.posed.goal_near cost_few
 
       parent_is : slice_get k.nodes o.parent ≡ Some i.node
       parent_is = rw parent i.node_is
@@ -296,7 +296,7 @@ module _ (layout : Layout) (width height : ℕ) (start goal : Cell) (link : Link
       key = start_key
           ∙ ap (λ (s : State). rank_of (sum_at (search_rule width goal link) s no_cost)) (sym first_state);
       short = subst (λ (s : State). HasShortParts (sum_at (search_rule width goal link) s no_cost))
-          (sym first_state) (short_sum width height start goal no_cost fit.posed.narrow fit.posed.low fit.posed.start_on fit.posed.goal_on
+          (sym first_state) (short_sum width height start goal no_cost fit.posed.narrow fit.posed.low fit.posed.start_on fit.posed.goal_near
           (omega arith));
       parent = first_node;
       parent_is = refl;

@@ -34,6 +34,7 @@ use Rattle.best_first.proofs.Offering.{rank-add_costs}
 use Rattle.plain_search.specs.Lists.{AreClosed, IsLeastCost, IsBelow}
 use Rattle.plain_search.specs.Listing.{cost_of_rank, ArePriced, IsSortedFrom, entry_below, entries_below, place_number}
 use Rattle.plain_search.specs.Progress.{HasTaken, IsAtGoal}
+use Rattle.plain_search.specs.Room.{IsNear}
 use Rattle.plain_search.specs.Rule.{plain_rule, plain_links}
 use Rattle.plain_search.proofs.Ascending.{ascending, distinct_made, one_place_number}
 use Rattle.plain_search.proofs.Decoding.{cost-rank}
@@ -133,7 +134,7 @@ first_no g s t x (y ∷ more) v o is u b less =
     let y : is_less (sum_at (plain_rule g t) v o.cost) (sum_at (plain_rule g t) x.state x.cost) ≡ true = less in
     cc
 
-module _ (g : GridData) (s t : Cell) (whole : IsGrid g) (from : is_free g s ≡ true) (to : is_free g t ≡ true)
+module _ (g : GridData) (s t : Cell) (whole : IsGrid g) (from : is_free g s ≡ true) (to : IsNear g t)
     (at : ℕ) (k : Table) (taken : List ℕ) (h : HasTaken g s t at k taken) where
   abbrev order : (id : ℕ) (n : Node) → slice_get k.nodes id ≡ Some n
       → IsInOrder ByCell g.width t (plain_links g) (h.last ∷ h.earlier) (least_offer (plain_rule g t) h.earlier) k id n

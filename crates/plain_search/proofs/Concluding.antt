@@ -18,13 +18,15 @@ use Rattle.best_first.specs.Table.{Table, IsFirstNode, NoneOpen, begun, closed_a
 use Rattle.best_first.specs.Trace.{node_cell, HasBack, IsWayTo}
 use Rattle.best_first.specs.Ways.{IsAmong, with_all}
 use Rattle.best_first.proofs.Mirrors.{some_node}
-use Rattle.best_first.proofs.Progress.{has_begun, next_taken, exhausted, taken_fits, has_back, way_is, last_led}
+use Rattle.best_first.proofs.Offering.{same_best}
+use Rattle.best_first.proofs.Progress.{has_begun, next_taken, taken_fits, has_back, way_is, last_led}
+use Rattle.best_first.proofs.Taking.{none_open}
 use Rattle.best_first.proofs.Ways.{offers_after}
 use Rattle.plain_search.specs.Answer.{IsPlainRun, IsLeast}
-use Rattle.plain_search.specs.Found.{IsFound, IsExhausted}
+use Rattle.plain_search.specs.Found.{IsFound}
 use Rattle.plain_search.specs.Offers.{IsAround, less_offered, sides_of, ways_over, MayExpand, HasExpanded}
-use Rattle.plain_search.specs.Progress.{HasTaken}
-use Rattle.plain_search.specs.Room.{IsReady}
+use Rattle.plain_search.specs.Progress.{HasTaken, HasStopped}
+use Rattle.plain_search.specs.Room.{IsNear, IsReady}
 use Rattle.plain_search.specs.Rule.{plain_rule, plain_links, is_led}
 use Rattle.plain_search.proofs.Offering.{may_expand, all_over, are_links, enough}
 use Rattle.plain_search.specs.declared.search.Plain.{Plain}
@@ -38,7 +40,7 @@ pub run_least : (g : GridData) (s t : Cell) (p : Plain) → is_free g s ≡ true
 run_least g s t (found.Found points cost taken) free r = found_least g s t points cost taken free r
 run_least g s t (found.None taken) free r = exhausted_none g t s taken r
 
-module _ (g : GridData) (s t : Cell) (whole : IsGrid g) (from : is_free g s ≡ true) (to : is_free g t ≡ true) where
+module _ (g : GridData) (s t : Cell) (whole : IsGrid g) (from : is_free g s ≡ true) (to : IsNear g t) where
   -- at the start
   pub begins : (k : Table) (taken : List ℕ) → k ≡ begun t s → taken ≡ state_number g.width (start_at s) ∷ []
       → HasTaken g s t 0 k taken
@@ -126,9 +128,23 @@ module _ (g : GridData) (s t : Cell) (whole : IsGrid g) (from : is_free g s ≡ 
           ∙ (run_free g s t whole from to (on.last ∷ on.earlier) on.searching.run on.last (here on.earlier)).0
 
       -- or none
-      pub is_exhausted : NoneOpen later → IsExhausted g s t taken
-      is_exhausted none = exhausted ByCell g.width g.height s t (plain_links g) (fit g s t whole from to) at later
-          taken has_offered none
+      pub has_stopped : NoneOpen later → HasStopped g s t later taken
+      has_stopped none =
+          let o = has_offered in
+          let run = o.last ∷ o.earlier in
+          let all = same_best ByCell g.width t (plain_links g) run o.best later o.searching.mirrors
+          (least_offer (plain_rule g t) run) o.all_made in
+          record {
+            exhausted = record {
+              run = run;
+              is_run = o.searching.run;
+              no_goal = rw o.open_ended o.searching.no_goal;
+              none_waits = none_open ByCell g.width t (plain_links g) run later all none;
+              numbered = o.numbered;
+            };
+            mirrors = all;
+            none_open = none;
+          }
 
     -- the way back from the last state
     pub leads_back : HasBack t k.nodes at

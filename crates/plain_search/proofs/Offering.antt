@@ -37,6 +37,7 @@ use Rattle.best_first.proofs.States.{same_or_not}
 use Rattle.best_first.proofs.Searching.{one_more, node_stays, key_rises, closed_below, taken_key}
 use Rattle.plain_search.specs.declared.moves.Sides.{Sides}
 use Rattle.plain_search.specs.Rule.{plain_rule, plain_links, is_led}
+use Rattle.plain_search.specs.Room.{IsNear}
 use Rattle.plain_search.specs.Offers.{sides_of, is_open_to, end_of, IsAround, less_offered, cost_to, offer_to, all_offered, ways_over, MayExpand}
 use Rattle.plain_search.proofs.Dropping.{LeadsTo, leads, open_leads, dropped, all_kept}
 use Rattle.plain_search.proofs.Expanding.{kept_open, kept_end}
@@ -73,7 +74,7 @@ ahead_cost d c v e = by_dir d (ahead_parts d c v e)
     by_dir NW p =
         rw (other c.x v.x (before_is c.x v.x p.0), other c.y v.y (before_is c.y v.y p.1)) refl
 
-module _ (g : GridData) (s t : Cell) (whole : IsGrid g) (from : is_free g s ≡ true) (to : is_free g t ≡ true)
+module _ (g : GridData) (s t : Cell) (whole : IsGrid g) (from : is_free g s ≡ true) (to : IsNear g t)
     (x : Taken State) (earlier : List (Taken State)) (at : ℕ) where
   module _ (best : Offers) (k : Table)
       (i : IsSearching ByCell g.width t (plain_links g) s x earlier at best k) where
@@ -310,7 +311,7 @@ flag_is : (b : Bool) (v w : Cell) → (if b then Some v else None) ≡ Some w �
 flag_is true v w h = (refl, ap (λ (o : Option Cell). elim o as (λ _. Cell) [ Some u ↦ u | None ↦ v ]) h)
 flag_is false v w h = absurd (cc)
 
-module _ (g : GridData) (s t : Cell) (whole : IsGrid g) (from : is_free g s ≡ true) (to : is_free g t ≡ true) where
+module _ (g : GridData) (s t : Cell) (whole : IsGrid g) (from : is_free g s ≡ true) (to : IsNear g t) where
   -- a neighbour of the parent has its offer
   left_out : (x : Taken State) (earlier : List (Taken State))
       → IsRun (plain_rule g t) (start_at s) (x ∷ earlier) → (a : Around) → IsAround g x.state.cell a

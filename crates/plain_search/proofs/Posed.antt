@@ -12,6 +12,8 @@ use Rattle.best_first.specs.declared.state.State.{State}
 use Rattle.best_first.specs.State.{start_at}
 use Rattle.best_first.specs.Rule.{IsPosed, IsSearch}
 use Rattle.best_first.proofs.Bounds.{few_taken}
+use Rattle.best_first.proofs.Links.{on_near}
+use Rattle.plain_search.specs.Room.{IsNear}
 use Rattle.plain_search.specs.Rule.{plain_rule, plain_links}
 use Rattle.plain_search.proofs.Walks.{link_move, plain_are_links}
 
@@ -19,13 +21,17 @@ use Rattle.plain_search.proofs.Walks.{link_move, plain_are_links}
 pub cells_fit : (g : GridData) → IsGrid g → g.height * g.width ≤ 16777216
 cells_fit g i = let a = i.sides.narrow in let b = i.sides.low in mul-le-mul b a
 
-module _ (g : GridData) (s t : Cell) (whole : IsGrid g) (from : is_free g s ≡ true) (to : is_free g t ≡ true) where
+-- a free cell lies near the map
+pub free_near : (g : GridData) (c : Cell) → is_free g c ≡ true → IsNear g c
+free_near g c f = on_near g.width g.height c (free_inside g c f)
+
+module _ (g : GridData) (s t : Cell) (whole : IsGrid g) (from : is_free g s ≡ true) (to : IsNear g t) where
   pub posed : IsPosed g.width g.height s t (plain_links g)
   posed = record {
     narrow = whole.sides.narrow;
     low = whole.sides.low;
     start_on = free_inside g s from;
-    goal_on = free_inside g t to;
+    goal_near = to;
     links = plain_are_links g;
   }
 

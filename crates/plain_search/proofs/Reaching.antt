@@ -20,6 +20,7 @@ use Rattle.best_first.proofs.Bounds.{state_below, apart_run}
 use Rattle.plain_search.specs.Found.{IsExhausted}
 use Rattle.plain_search.specs.Lists.{AreReached}
 use Rattle.plain_search.specs.Listing.{AreOn, IsSortedFrom, cell_of, place_number}
+use Rattle.plain_search.specs.Room.{IsNear}
 use Rattle.plain_search.specs.Rule.{plain_rule, plain_links}
 use Rattle.plain_search.proofs.Ascending.{ascending, distinct_made, filter_map-some, one_place_number}
 use Rattle.plain_search.proofs.Entries.{made_contained, contained_made}
@@ -63,7 +64,7 @@ taken_cell u = Some u.state.cell
 abbrev number : ℕ → Taken State → ℕ
 number width u = state_number width u.state
 
-module _ (g : GridData) (s t : Cell) (whole : IsGrid g) (from : is_free g s ≡ true) (to : is_free g t ≡ true)
+module _ (g : GridData) (s t : Cell) (whole : IsGrid g) (from : is_free g s ≡ true) (to : IsNear g t)
     (taken : List ℕ) (x : IsExhausted g s t taken) where
   plain_at : (u : Taken State) → IsIn u x.run → (is_free g u.state.cell ≡ true) × (u.state ≡ start_at u.state.cell)
   plain_at u m = run_free g s t whole from to x.run x.is_run u m

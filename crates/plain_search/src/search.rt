@@ -18,7 +18,7 @@ ghost use Rattle.best_first.specs.Trace.{node_cell};
 ghost use Rattle.plain_search.specs.Found.{IsExhausted};
 ghost use Rattle.plain_search.specs.Lists.{AreLists, plain_of};
 ghost use Rattle.plain_search.specs.Progress.{HasTaken, GoesOn, HasEnded};
-ghost use Rattle.plain_search.specs.Room.{HasRoom, IsReady};
+ghost use Rattle.plain_search.specs.Room.{HasRoom, IsNear, IsReady};
 
 use crate::lists::{Listed, closed_cells, reached_cells};
 use crate::offers::offer_all;
@@ -72,7 +72,7 @@ fn begin<T: Terrain, L: Ledger>(
     steps: &mut Steps<L>,
 ) -> Result<(), NoMemory>
     requires from { is_free (T.grid t.now) ends.from ≡ true }
-    requires to { is_free (T.grid t.now) ends.to ≡ true }
+    requires to { IsNear (T.grid t.now) ends.to }
     requires layout { space.old.layout ≡ Layout.ByCell }
     requires room { HasRoom (T.grid t.now) space.old.places }
     requires none { taken.old ≡ [] }
@@ -96,7 +96,7 @@ fn advance<T: Terrain, L: Ledger>(
     steps: &mut Steps<L>,
 ) -> Result<Option<u32>, NoMemory>
     requires free { is_free (T.grid t.now) ends.from ≡ true }
-    requires to { is_free (T.grid t.now) ends.to ≡ true }
+    requires to { IsNear (T.grid t.now) ends.to }
     requires whole { IsGrid (T.grid t.now) }
     requires ready { IsReady (T.grid t.now) space.old }
     requires taken { HasTaken (T.grid t.now) ends.from ends.to at space.old.table taken.old }
@@ -128,7 +128,7 @@ fn found<T: Terrain>(
 ) -> Result<Plain, NoMemory>
     requires whole { IsGrid (T.grid t.now) }
     requires from { is_free (T.grid t.now) ends.from ≡ true }
-    requires to { is_free (T.grid t.now) ends.to ≡ true }
+    requires to { IsNear (T.grid t.now) ends.to }
     requires taken { HasTaken (T.grid t.now) ends.from ends.to at space.now.table taken }
     requires goal { (n : _) → slice_get space.now.table.nodes at ≡ Some n → node_cell n ≡ ends.to }
     ensures run { IfOk result (IsPlainRun (T.grid t.now) ends.from ends.to) }
@@ -161,7 +161,7 @@ fn take_all<T: Terrain, L: Ledger>(
     steps: &mut Steps<L>,
 ) -> Result<Option<u32>, NoMemory>
     requires from { is_free (T.grid t.now) ends.from ≡ true }
-    requires to { is_free (T.grid t.now) ends.to ≡ true }
+    requires to { IsNear (T.grid t.now) ends.to }
     requires layout { space.old.layout ≡ Layout.ByCell }
     requires room { HasRoom (T.grid t.now) space.old.places }
     requires none { taken.old ≡ [] }
@@ -193,7 +193,7 @@ fn take_counted<T: Terrain, L: Ledger>(
     requires parts { blank.parts ≡ L.parts }
     requires some { 0 < L.parts }
     requires from { is_free (T.grid t.now) ends.from ≡ true }
-    requires to { is_free (T.grid t.now) ends.to ≡ true }
+    requires to { IsNear (T.grid t.now) ends.to }
     requires layout { space.old.layout ≡ Layout.ByCell }
     requires room { HasRoom (T.grid t.now) space.old.places }
     requires none { taken.old ≡ [] }
@@ -244,7 +244,7 @@ fn found_listed<T: Terrain>(
 ) -> Result<Listed, NoMemory>
     requires whole { IsGrid (T.grid t.now) }
     requires from { is_free (T.grid t.now) ends.from ≡ true }
-    requires to { is_free (T.grid t.now) ends.to ≡ true }
+    requires to { IsNear (T.grid t.now) ends.to }
     requires taken { HasTaken (T.grid t.now) ends.from ends.to at space.now.table taken }
     requires goal { (n : _) → slice_get space.now.table.nodes at ≡ Some n → node_cell n ≡ ends.to }
     ensures run { IfOk result (λ found. IsPlainRun (T.grid t.now) ends.from ends.to (plain_of found)) }
@@ -272,7 +272,7 @@ fn none_listed<T: Terrain>(
 ) -> Result<Listed, NoMemory>
     requires whole { IsGrid (T.grid t.now) }
     requires from { is_free (T.grid t.now) ends.from ≡ true }
-    requires to { is_free (T.grid t.now) ends.to ≡ true }
+    requires to { IsNear (T.grid t.now) ends.to }
     requires taken { IsExhausted (T.grid t.now) ends.from ends.to taken }
     ensures run { IfOk result (λ found. IsPlainRun (T.grid t.now) ends.from ends.to (plain_of found)) }
     ensures least { IfOk result (λ found. IsLeast (T.grid t.now) ends.from ends.to (plain_of found)) }

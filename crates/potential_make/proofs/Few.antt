@@ -17,15 +17,16 @@ use Rattle.plain_search.specs.Answer.{IsPlainRun, IsLeast}
 use Rattle.plain_search.specs.Existence.{HasAnswer}
 use Rattle.plain_search.specs.Found.{IsFound}
 use Rattle.plain_search.specs.Lists.{IsLeastCost}
+use Rattle.plain_search.specs.Room.{IsNear}
 use Rattle.plain_search.specs.Rule.{plain_rule, plain_links}
 use Rattle.plain_search.specs.declared.search.Plain.{Plain}
 use Rattle.plain_search.specs.declared.search.Plain.TheVariants as found
 use Rattle.plain_search.proofs.Answering.{has_answer}
 use Rattle.plain_search.proofs.Closing.{one_least}
-use Rattle.plain_search.proofs.Posed.{posed, run_free, moves_within}
+use Rattle.plain_search.proofs.Posed.{free_near, posed, run_free, moves_within}
 use Rattle.plain_search.proofs.Reaching.{member_at}
 
-module _ (g : GridData) (s t : Cell) (whole : IsGrid g) (from : is_free g s ≡ true) (to : is_free g t ≡ true) where
+module _ (g : GridData) (s t : Cell) (whole : IsGrid g) (from : is_free g s ≡ true) (to : IsNear g t) where
   -- a run takes at most one state for each cell
   run_few : (run : List (Taken State)) → IsRun (plain_rule g t) (start_at s) run
       → length run ≤ g.height * g.width
@@ -74,7 +75,7 @@ few_least g s c cost whole from to least = by_answer answer.answer answer.run an
         let same : cost ≡ paid = one_least g s c cost paid least
         (record { cells = is.cells; least = is.least; priced = is.priced }) in
         subst (λ (d : Cost). d.a + d.b ≤ g.height * g.width) (sym same)
-        (few_found g s c whole from to points paid taken run)
+        (few_found g s c whole from (free_near g c to) points paid taken run)
     by_answer (found.None taken) run is = absurd (is least.cells least.least.walk)
 
 -- each move counts once

@@ -7,8 +7,8 @@ use Rattle.best_first.specs.declared.node.Node.{Node}
 use Rattle.best_first.specs.State.{state_number, start_at}
 use Rattle.best_first.specs.Table.{Table, closed_at}
 use Rattle.best_first.specs.Trace.{node_cell}
-use Rattle.plain_search.specs.Progress.{HasTaken}
-use Rattle.plain_search.proofs.Concluding.{may_go_on, goes_on, next_free, is_exhausted}
+use Rattle.plain_search.specs.Progress.{HasTaken, HasStopped}
+use Rattle.plain_search.proofs.Concluding.{may_go_on, goes_on, next_free, has_stopped}
 use Rattle.plain_search.proofs.Shapes.{ready_on}
 use Rattle.plain_search.proofs.search.advance.Goals as goal
 
@@ -48,10 +48,12 @@ returns-in-None-clause-goes_on g c =
     let k = c.reserve.new.self.table in
     let taken = subst (λ (l : Table). HasTaken grid c.args.ends.from c.args.ends.to c.args.at l c.args.taken.now)
     (sym c.reserve.ensures.table) c.requires.taken in
-    is_exhausted grid c.args.ends.from c.args.ends.to c.requires.whole c.requires.free c.requires.to c.args.at k
+    subst (λ (l : Table). HasStopped grid c.args.ends.from c.args.ends.to l c.args.taken.now)
+    (sym c.in-None.ensures.unchanged)
+    (has_stopped grid c.args.ends.from c.args.ends.to c.requires.whole c.requires.free c.requires.to c.args.at k
     c.args.taken.now taken c.offer_all.new.space.table
     (λ n h. c.requires.open_ended n (ap (λ (l : Table). slice_get l.nodes c.args.at)
-    (sym c.reserve.ensures.table) ∙ h)) c.offer_all.ensures.expanded c.in-None.ensures.none
+    (sym c.reserve.ensures.table) ∙ h)) c.offer_all.ensures.expanded c.in-None.ensures.none)
 
 pub returns-in_ok-push-in-Some-clause-goes_on : goal.returns-in_ok-push-in-Some-clause-goes_on
 returns-in_ok-push-in-Some-clause-goes_on g c =
