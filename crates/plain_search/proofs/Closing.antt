@@ -1,5 +1,5 @@
 -- The closed cells of a search that took its goal.
-use Rattle.std.proofs.Common.{◌≡◌, ℕ, ◌+◌, ◌-◌, ◌<◌, ◌≤◌, inl, inr, List, [], ◌∷◌, refl, ap, sym, ◌∙◌, subst, arith, Bool, true, false}
+use Rattle.std.proofs.Common.{◌≡◌, ℕ, ◌<◌, ◌≤◌, inl, inr, List, [], ◌∷◌, refl, ap, sym, ◌∙◌, subst, arith, Bool, true, false}
 use Rattle.std.proofs.lemmas.Bool.Decides.{nat_tests}
 use Rattle.std.proofs.lemmas.List.Sorted.{IsPermutation-sym, Contains-permutation}
 use Rattle.std.specs.Prelude.{Option, Some, None, slice_get, nat_lt, if◌then◌else◌}
@@ -30,16 +30,15 @@ use Rattle.best_first.specs.State.{start_at}
 use Rattle.best_first.specs.Table.{Table, lookup}
 use Rattle.best_first.specs.Trace.{node_cell, rank_left}
 use Rattle.best_first.proofs.Lookup.{lookup-found}
-use Rattle.best_first.proofs.Offering.{rank-add_costs}
 use Rattle.plain_search.specs.Lists.{AreClosed, IsLeastCost, IsBelow}
 use Rattle.plain_search.specs.Listing.{cost_of_rank, ArePriced, IsSortedFrom, entry_below, entries_below, place_number}
 use Rattle.plain_search.specs.Progress.{HasTaken, IsAtGoal}
 use Rattle.plain_search.specs.Room.{IsNear}
 use Rattle.plain_search.specs.Rule.{plain_rule, plain_links}
 use Rattle.plain_search.proofs.Ascending.{ascending, distinct_made, one_place_number}
-use Rattle.plain_search.proofs.Decoding.{cost-rank}
 use Rattle.plain_search.proofs.Entries.{made_contained, contained_made}
 use Rattle.plain_search.proofs.Posed.{run_free}
+use Rattle.plain_search.proofs.Pricing.{nodes_priced, node_cost}
 use Rattle.plain_search.proofs.Right.{way}
 use Rattle.plain_search.proofs.Walks.{plain_consistent, walk_chain}
 
@@ -108,19 +107,6 @@ entry_is goal limit n c cost h = by_test (nat_lt n.key limit) refl h
 below_test : (m n : ℕ) → m < n → nat_lt m n ≡ true
 below_test m n e = grind (arith, nat_tests)
 
--- the rank that is left is that of the cost
-pub priced_left : (goal : Cell) (n : Node) (cost : Cost) → HasShortParts cost
-    → n.key ≡ rank_of cost + rank_of (estimate (node_cell n) goal) → cost_of_rank (rank_left goal n) ≡ cost
-priced_left goal n cost short e =
-    ap cost_of_rank (left n.key (rank_of cost) (rank_of (estimate (node_cell n) goal)) e) ∙ cost-rank cost short
-  where
-    left : (k a b : ℕ) → k ≡ a + b → k - b ≡ a
-    left k a b h = omega arith
-
-short_cost : (p q : Cost) → HasShortParts (add_costs p q) → HasShortParts p
-short_cost p q h = let a = h.straight in let b = h.diagonal in
-    record { straight = omega arith; diagonal = omega arith }
-
 -- no state that waits has a lesser sum than the last taken one
 first_no : (g : GridData) (s t : Cell) (x : Taken State) (earlier : List (Taken State)) (v : State)
     (o : Offer State) → IsRun (plain_rule g t) (start_at s) (x ∷ earlier)
@@ -140,22 +126,12 @@ module _ (g : GridData) (s t : Cell) (whole : IsGrid g) (from : is_free g s ≡ 
       → IsInOrder ByCell g.width t (plain_links g) (h.last ∷ h.earlier) (least_offer (plain_rule g t) h.earlier) k id n
   order id n e = h.searching.mirrors.in_order id n e
 
-  -- each node's key is the rank of its offer's cost and of the estimate
-  key_of : (id : ℕ) (n : Node) (e : slice_get k.nodes id ≡ Some n)
-      → n.key ≡ rank_of (order id n e).offer.cost + rank_of (estimate (node_cell n) t)
-  key_of id n e = (order id n e).keeps.key ∙ rank-add_costs (order id n e).offer.cost (estimate (node_cell n) t)
-
   pub are_priced : ArePriced t k.nodes
-  are_priced id n e = record {
-    cost = (order id n e).offer.cost;
-    short = short_cost (order id n e).offer.cost (estimate (node_cell n) t) (order id n e).keeps.short;
-    key = key_of id n e;
-  }
+  are_priced = nodes_priced g t (h.last ∷ h.earlier) (least_offer (plain_rule g t) h.earlier) k h.searching.mirrors
 
   cost_at : (id : ℕ) (n : Node) (e : slice_get k.nodes id ≡ Some n)
       → cost_of_rank (rank_left t n) ≡ (order id n e).offer.cost
-  cost_at id n e = priced_left t n (order id n e).offer.cost
-      (short_cost (order id n e).offer.cost (estimate (node_cell n) t) (order id n e).keeps.short) (key_of id n e)
+  cost_at = node_cost g t (h.last ∷ h.earlier) (least_offer (plain_rule g t) h.earlier) k h.searching.mirrors
 
   -- the last taken state's node
   abbrev last_node : Node

@@ -11,6 +11,9 @@ pub mod Answering
 pub mod Decoding
 pub mod Entries
 pub mod Ascending
+pub mod Pricing
 pub mod Closing
+pub mod Putting
+pub mod ToAll
 pub mod Reaching
 pub mod Oneness

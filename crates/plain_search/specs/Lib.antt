@@ -6,5 +6,6 @@ pub mod Offers
 pub mod Progress
 pub mod Existence
 pub mod Lists
+pub mod Costs
 pub mod Listing
 pub mod Laws

@@ -6,6 +6,7 @@ mod lists;
 mod moves;
 mod offers;
 mod search;
+mod to_all;
 mod turns;
 mod workspace;
 
@@ -13,6 +14,7 @@ pub use best_first::Taken;
 pub use lists::Listed;
 pub use search::{Plain, least, least_in};
 pub use std::alloc::AllocError as NoMemory;
+pub use to_all::least_to_all;
 pub use workspace::Workspace;
 
 #[cfg(test)]

@@ -6,6 +6,7 @@
 //! one, and p² is 1 more than a multiple of q, p times the rank leaves the diagonal moves modulo q.
 
 ghost use Rattle.std.specs.Prelude.{◌≡◌, ◌<◌, ◌≤◌, ◌*◌, IfOk, length, map};
+ghost use Rattle.best_first.specs.Trace.{rank_left};
 ghost use Rattle.plain_search.specs.Listing as spec;
 ghost use Rattle.plain_search.specs.Listing.{ArePriced, HasRank, IsPriced, IsSortedFrom, AreOn, place_number, entries_below, cell_of};
 
@@ -57,13 +58,21 @@ fn cost_of_rank(rank: u64) -> Cost
     }
 }
 
+/// The cost of a node.
+pub(crate) fn cost_of_node(goal: Cell, node: Node) -> Cost
+    requires { IsPriced goal node }
+    ensures { result ≡ spec.cost_of_rank (rank_left goal node) }
+{
+    cost_of_rank(node.cost_rank(goal))
+}
+
 // The cell and the cost of a node, if its key is below this.
 fn entry_below(goal: Cell, limit: u64, node: Node) -> Option<(Cell, Cost)>
     requires { IsPriced goal node }
     ensures { result ≡ spec.entry_below goal limit node }
 {
     if node.key < limit {
-        Some((node.place.cell(), cost_of_rank(node.cost_rank(goal))))
+        Some((node.place.cell(), cost_of_node(goal, node)))
     } else {
         None
     }

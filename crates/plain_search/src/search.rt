@@ -2,7 +2,7 @@
 //!
 //! A state is taken by the least sum of its cost and the octile distance to the goal; among equal sums
 //! the one of the lesser cell number goes first, and of equal offers to a cell the earlier one stands.
-//! The search ends where the goal is taken, or where no state waits. Both ends have to be free. Moves
+//! The search ends where the goal is taken, or where no state waits. Moves
 //! that the parent has offered at no greater cost are left out (module `moves`), which changes nothing in
 //! the run.
 //!
@@ -48,11 +48,12 @@ pub enum Plain {
     },
 }
 
-// The ends of a query.
+/// The ends of a search. The goal may lie just beyond the map: then it is never met, and the search
+/// takes every state to which moves lead.
 #[derive(Clone, Copy)]
-struct Ends {
-    from: Cell,
-    to: Cell,
+pub(crate) struct Ends {
+    pub(crate) from: Cell,
+    pub(crate) to: Cell,
 }
 
 // The printed number of the state at a cell.
@@ -181,8 +182,8 @@ fn take_all<T: Terrain, L: Ledger>(
     Ok(Some(at))
 }
 
-// The same, where the steps of the open list are counted by a counter of its own.
-fn take_counted<T: Terrain, L: Ledger>(
+/// The same, where the steps of the open list are counted by a counter of its own.
+pub(crate) fn take_counted<T: Terrain, L: Ledger>(
     t: &T,
     ends: Ends,
     space: &mut Space,

@@ -3,7 +3,7 @@
 ghost use Rattle.std.specs.Prelude.{◌≡◌, true};
 ghost use Rattle.grid_moves.specs.Grid.{AreCells};
 
-use crate::{Listed, NoMemory, least};
+use crate::{Listed, NoMemory, least, least_to_all};
 use grid_moves::{Cell, Corner, Grid, Terrain};
 use root2_cost::Cost;
 use std::alloc::Global;
@@ -92,5 +92,83 @@ fn lists_are_those_counted_by_hand(rt: HostRuntime) -> Result<(), Fail> {
         }
         Listed::None { .. } => assert!(rt; false, "a walk leads round the pillar"),
     }
+    Ok(())
+}
+
+// What a walk of so many moves of each kind costs.
+fn cost(straight: u32, diagonal: u32) -> Option<Cost> {
+    Some(Cost {
+        a: straight,
+        b: diagonal,
+    })
+}
+
+// Whether these are the least costs from a cell to all cells.
+fn are_costs(
+    alloc: Global,
+    grid: &Grid,
+    from: Cell,
+    costs: &[Option<Cost>],
+) -> Result<bool, NoMemory> {
+    if !grid.free(from) {
+        return Ok(false);
+    }
+    let found = least_to_all(alloc, grid, from)?;
+    Ok(found.as_slice() == costs)
+}
+
+// Round the pillar from the upper left, with no corner cut.
+#[test]
+fn costs_round_the_pillar(rt: HostRuntime) -> Result<(), Fail> {
+    let grid = Grid::of_cells(rt.alloc(), 3, 3, b"....@....", Corner::Never)?;
+    let costs = [
+        cost(0, 0),
+        cost(1, 0),
+        cost(2, 0),
+        cost(1, 0),
+        None,
+        cost(3, 0),
+        cost(2, 0),
+        cost(3, 0),
+        cost(4, 0),
+    ];
+    assert!(rt; are_costs(rt.alloc(), &grid, cell(0, 0), &costs)?);
+    Ok(())
+}
+
+// Where one blocked cell may be passed, a diagonal move past the pillar takes the place of two straight ones.
+#[test]
+fn costs_past_the_pillar(rt: HostRuntime) -> Result<(), Fail> {
+    let grid = Grid::of_cells(rt.alloc(), 3, 3, b"....@....", Corner::One)?;
+    let costs = [
+        cost(0, 0),
+        cost(1, 0),
+        cost(2, 0),
+        cost(1, 0),
+        None,
+        cost(1, 1),
+        cost(2, 0),
+        cost(1, 1),
+        cost(2, 1),
+    ];
+    assert!(rt; are_costs(rt.alloc(), &grid, cell(0, 0), &costs)?);
+    Ok(())
+}
+
+// On `..@./..@.` the last column is free, and cut off.
+#[test]
+fn no_cost_leads_to_a_part_cut_off(rt: HostRuntime) -> Result<(), Fail> {
+    let grid = Grid::of_cells(rt.alloc(), 4, 2, b"..@...@.", Corner::Never)?;
+    let costs = [
+        cost(1, 0),
+        cost(0, 0),
+        None,
+        None,
+        cost(0, 1),
+        cost(1, 0),
+        None,
+        None,
+    ];
+    assert!(rt; are_costs(rt.alloc(), &grid, cell(1, 0), &costs)?);
     Ok(())
 }
