@@ -1,5 +1,5 @@
 -- Where a search stands between two states.
-use Rattle.std.specs.Prelude.{◌≡◌, ℕ, false, List, ◌∷◌, Option, Some, None, map, reverse}
+use Rattle.std.specs.Prelude.{◌≡◌, ℕ, false, List, ◌∷◌, map, reverse}
 use Rattle.grid_moves.specs.declared.Cell.{Cell}
 use Rattle.grid_moves.specs.Move.{is_same}
 use Rattle.search_run.specs.Run.{Taken, IsRun, NoneWaits, has_goal, is_taken, least_offer}
@@ -42,8 +42,3 @@ module _ (layout : Layout) (width : ℕ) (goal : Cell) (link : Links) (start : C
     pub all_made : (s : State) → is_taken (search_rule width goal link) (last ∷ earlier) s ≡ false
         → best s ≡ least_offer (search_rule width goal link) (last ∷ earlier) s
     pub numbered : taken ≡ numbers_of width (last ∷ earlier)
-
-  -- the search has taken one state more, or ends as none waits
-  abbrev pub GoesOn : Table → List ℕ → Option ℕ → Type 0
-  GoesOn k taken None = IsExhausted width goal link start taken
-  GoesOn k taken (Some id) = HasTaken id k taken
