@@ -13,7 +13,6 @@ ghost use Rattle.std.specs.Prelude.{◌≡◌, ℕ, ◌+◌, ◌*◌, ◌<◌, �
 ghost use Rattle.grid_moves.specs.Grid.{GridData, IsGrid, is_free};
 ghost use Rattle.grid_moves.specs.Move.{is_same};
 ghost use Rattle.pruning.specs.Source.{IsWithin};
-ghost use Rattle.best_first.specs.Progress.{GoesOn};
 ghost use Rattle.best_first.specs.Space.{KeepsShape};
 ghost use Rattle.best_first.specs.State.{state_number, state_told};
 ghost use Rattle.best_first.specs.Trace.{node_cell};
