@@ -24,7 +24,8 @@ use Rattle.plain_search.proofs.Decoding.{cost-rank}
 pub priced_left : (goal : Cell) (n : Node) (cost : Cost) → HasShortParts cost
     → n.key ≡ rank_of cost + rank_of (estimate (node_cell n) goal) → cost_of_rank (rank_left goal n) ≡ cost
 priced_left goal n cost short e =
-    ap cost_of_rank (left n.key (rank_of cost) (rank_of (estimate (node_cell n) goal)) e) ∙ cost-rank cost short
+    ap cost_of_rank (left n.key (rank_of cost) (rank_of (estimate (node_cell n) goal)) e)
+    ∙ cost-rank cost short
   where
     left : (k a b : ℕ) → k ≡ a + b → k - b ≡ a
     left k a b h = omega arith
@@ -56,4 +57,5 @@ module _ (g : GridData) (t : Cell) (run : List (Taken State)) (best : Offers) (k
       → cost_of_rank (rank_left t n) ≡ (m.in_order id n e).offer.cost
   node_cost id n e =
       let o = m.in_order id n e in
-      priced_left t n o.offer.cost (short_cost o.offer.cost (estimate (node_cell n) t) o.keeps.short) (key_of id n e)
+      priced_left t n o.offer.cost (short_cost o.offer.cost (estimate (node_cell n) t) o.keeps.short)
+      (key_of id n e)

@@ -29,14 +29,15 @@ module _ (goal : Cell) (width : ℕ) where
 
   -- one node more
   pub put_more : (nodes : List Node) (n : Node) (costs : List (Option Cost))
-      → costs_put goal width (nodes ++ n ∷ []) costs ≡ cost_put goal width n (costs_put goal width nodes costs)
+      → costs_put goal width (nodes ++ n ∷ []) costs
+      ≡ cost_put goal width n (costs_put goal width nodes costs)
   put_more [] n costs = refl
   put_more (m ∷ nodes) n costs = put_more nodes n (cost_put goal width m costs)
 
   -- the next one, put in its place
-  pub put_next : (nodes : List Node) (id : ℕ) (n : Node) (blank costs : List (Option Cost)) (number : ℕ) (cost : Cost)
-      → slice_get nodes id ≡ Some n → costs ≡ costs_put goal width (take id nodes) blank → number ≡ place n
-      → cost ≡ cost_of_rank (rank_left goal n)
+  pub put_next : (nodes : List Node) (id : ℕ) (n : Node) (blank costs : List (Option Cost)) (number : ℕ)
+      (cost : Cost) → slice_get nodes id ≡ Some n → costs ≡ costs_put goal width (take id nodes) blank
+      → number ≡ place n → cost ≡ cost_of_rank (rank_left goal n)
       → slice_set costs number (Some cost) ≡ costs_put goal width (take (id + 1) nodes) blank
   put_next nodes id n blank costs number cost h made at_cell is =
       let more : take (id + 1) nodes ≡ take id nodes ++ n ∷ [] =
@@ -64,9 +65,9 @@ module _ (goal : Cell) (width : ℕ) where
       ∙ get-set_other costs j (place m) (paid m) (λ e. away 0 m refl (sym e))
 
   -- at that of a cell of one node alone stands its cost
-  pub put_at : (nodes : List Node) (costs : List (Option Cost)) (id : ℕ) (n : Node) → slice_get nodes id ≡ Some n
-      → ((i j : ℕ) (a b : Node) → slice_get nodes i ≡ Some a → slice_get nodes j ≡ Some b → place a ≡ place b
-      → i ≡ j) → place n < length costs
+  pub put_at : (nodes : List Node) (costs : List (Option Cost)) (id : ℕ) (n : Node)
+      → slice_get nodes id ≡ Some n → ((i j : ℕ) (a b : Node) → slice_get nodes i ≡ Some a
+      → slice_get nodes j ≡ Some b → place a ≡ place b → i ≡ j) → place n < length costs
       → slice_get (costs_put goal width nodes costs) (place n) ≡ Some (paid n)
   put_at [] costs id n h apart within = absurd (cc)
   put_at (m ∷ nodes) costs zero n h apart within =

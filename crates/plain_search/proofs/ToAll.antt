@@ -33,14 +33,17 @@ use Rattle.plain_search.proofs.Walks.{plain_consistent, walk_chain}
 
 module _ (g : GridData) (s t : Cell) (whole : IsGrid g) (from : is_free g s ≡ true) (to : IsNear g t) where
   -- a goal below the last row is not taken
-  pub stopped : (k : Table) (taken : List ℕ) (ended : Option ℕ) → t.y ≡ g.height → HasEnded g s t k taken ended
-      → HasStopped g s t k taken
+  pub stopped : (k : Table) (taken : List ℕ) (ended : Option ℕ) → t.y ≡ g.height
+      → HasEnded g s t k taken ended → HasStopped g s t k taken
   stopped k taken None beyond h = h
   stopped k taken (Some at) beyond h = absurd (
       let i = h.0.searching in
-      let free = (run_free g s t whole from to (h.0.last ∷ h.0.earlier) i.run h.0.last (here h.0.earlier)).0 in
-      let at_t : h.0.last.state.cell ≡ t = ap (λ (u : State). u.cell) (sym i.state) ∙ h.1 i.node i.node_is in
-      let above : t.y < g.height = (free_inside g t (ap (λ (c : Cell). is_free g c) (sym at_t) ∙ free)).1 in
+      let free =
+      (run_free g s t whole from to (h.0.last ∷ h.0.earlier) i.run h.0.last (here h.0.earlier)).0 in
+      let at_t : h.0.last.state.cell ≡ t =
+      ap (λ (u : State). u.cell) (sym i.state) ∙ h.1 i.node i.node_is in
+      let above : t.y < g.height =
+      (free_inside g t (ap (λ (c : Cell). is_free g c) (sym at_t) ∙ free)).1 in
       omega arith)
 
   module _ (k : Table) (taken : List ℕ) (h : HasStopped g s t k taken) where
@@ -59,7 +62,8 @@ module _ (g : GridData) (s t : Cell) (whole : IsGrid g) (from : is_free g s ≡ 
 
     state_at : (id : ℕ) (n : Node) → slice_get k.nodes id ≡ Some n
         → (u : Taken State) × IsIn u run × (u.state ≡ state_of ByCell n)
-    state_at id n e = taken_state (plain_rule g t) (plain_consistent g t) run (state_of ByCell n) (taken_at id n e)
+    state_at id n e =
+        taken_state (plain_rule g t) (plain_consistent g t) run (state_of ByCell n) (taken_at id n e)
 
     -- so it lies on the map
     inside : (id : ℕ) (n : Node) → slice_get k.nodes id ≡ Some n
@@ -107,60 +111,64 @@ module _ (g : GridData) (s t : Cell) (whole : IsGrid g) (from : is_free g s ≡ 
     none_at : (c : Cell) → lookup ByCell k.nodes (start_at c) ≡ None → NoWalk g s c
     none_at c e = λ cells w.
         let chain = walk_chain g t s cells w.legal in
-        let is_in = all_taken (plain_rule g t) (plain_consistent g t) (start_at s) (start_at (last_of s cells)) run
-        (cost_of (s ∷ cells)) h.exhausted.is_run h.exhausted.none_waits h.exhausted.no_goal chain in
+        let is_in = all_taken (plain_rule g t) (plain_consistent g t) (start_at s)
+        (start_at (last_of s cells)) run (cost_of (s ∷ cells)) h.exhausted.is_run h.exhausted.none_waits
+        h.exhausted.no_goal chain in
         let found : is_taken (plain_rule g t) run (start_at c) ≡ true =
         ap (λ (d : Cell). is_taken (plain_rule g t) run (start_at d)) (sym w.ends) ∙ is_in in
-        let missed : is_taken (plain_rule g t) run (start_at c) ≡ false = (h.mirrors.known (start_at c) e).0 in
+        let missed : is_taken (plain_rule g t) run (start_at c) ≡ false =
+        (h.mirrors.known (start_at c) e).0 in
         cc
 
-    pub are_costs : (costs : List (Option Cost))
-        → costs ≡ costs_put t g.width k.nodes (replicate (g.height * g.width) None) → AreCostsToAll g s costs
-    are_costs costs made = record { as_many = as_many; right = right }
-      where
-        as_many : length costs ≡ g.height * g.width
-        as_many = ap length made ∙ put_length t g.width k.nodes (replicate (g.height * g.width) None)
-            ∙ length-replicate (g.height * g.width) None
+    -- what is made of the nodes, from no cost
+    abbrev blank : List (Option Cost)
+    blank = replicate (g.height * g.width) None
 
-        column : (c : Cell) → is_inside g c ≡ true → (c.x < g.width) × (c.y < g.height)
-        column c on = (grind (arith, nat_tests), grind (arith, nat_tests))
+    abbrev all_put : List (Option Cost)
+    all_put = costs_put t g.width k.nodes blank
 
-        by_lookup : (c : Cell) (entry : Option Cost) → is_inside g c ≡ true
-            → slice_get (costs_put t g.width k.nodes (replicate (g.height * g.width) None)) (cell_number g.width c)
-            ≡ Some entry → (o : Option ℕ) → lookup ByCell k.nodes (start_at c) ≡ o → IsCostTo g s c entry
-        by_lookup c entry on h None e =
-            let same = put_elsewhere t g.width k.nodes (replicate (g.height * g.width) None) (cell_number g.width c)
-            (λ id n p q. none_found ByCell k.nodes (start_at c) e id n p (ap (λ (d : Cell). start_at d)
-            (one_cell g.width (node_cell n) c (inside id n p).0 (column c on).0 q))) in
-            let none : entry ≡ None = none_in (g.height * g.width) (cell_number g.width c) entry (sym same ∙ h) in
-            subst (λ (o : Option Cost). IsCostTo g s c o) (sym none) (none_at c e)
-        by_lookup c entry on h (Some id) e =
-            let f = lookup-found ByCell k.nodes (start_at c) id e in
-            let cell : node_cell f.node ≡ c = ap (λ (v : State). v.cell) f.state in
-            let p = inside id f.node f.node_is in
-            let within : cell_number g.width (node_cell f.node) < length (replicate (g.height * g.width) None) =
-            subst (λ (l : ℕ). cell_number g.width (node_cell f.node) < l)
-            (sym (length-replicate (g.height * g.width) None))
-            (number_below g.width g.height (node_cell f.node) p.0 p.1) in
-            let stands = put_at t g.width k.nodes (replicate (g.height * g.width) None) id f.node f.node_is apart
-            within in
-            let paid : Some (cost_of_rank (rank_left t f.node)) ≡ entry =
-            some_one (Some (cost_of_rank (rank_left t f.node))) entry (sym stands
-            ∙ ap (λ (d : Cell). slice_get (costs_put t g.width k.nodes (replicate (g.height * g.width) None))
-            (cell_number g.width d)) cell ∙ h) in
-            subst (λ (o : Option Cost). IsCostTo g s c o) paid
-            (subst (λ (d : Cell). IsLeastCost g s d (cost_of_rank (rank_left t f.node))) cell
-            (least_at id f.node f.node_is))
-          where
-            some_one : (a b : Option Cost) → Some a ≡ Some b → a ≡ b
-            some_one a b q = ap (λ (o : Option (Option Cost)). elim o as (λ _. Option Cost)
-                [ Some v ↦ v | None ↦ a ]) q
+    column : (c : Cell) → is_inside g c ≡ true → c.x < g.width
+    column c on = grind (arith, nat_tests)
 
-        right : (c : Cell) (entry : Option Cost) → is_inside g c ≡ true
-            → slice_get costs (cell_number g.width c) ≡ Some entry → IsCostTo g s c entry
-        right c entry on h = by_lookup c entry on
-            (ap (λ (es : List (Option Cost)). slice_get es (cell_number g.width c)) (sym made) ∙ h)
-            (lookup ByCell k.nodes (start_at c)) refl
+    some_one : (a b : Option Cost) → Some a ≡ Some b → a ≡ b
+    some_one a b q =
+        ap (λ (o : Option (Option Cost)). elim o as (λ _. Option Cost) [ Some v ↦ v | None ↦ a ]) q
+
+    -- the entry of a cell, by what the table has for its state
+    entry_is : (c : Cell) (entry : Option Cost) → is_inside g c ≡ true
+        → slice_get all_put (cell_number g.width c) ≡ Some entry → (o : Option ℕ)
+        → lookup ByCell k.nodes (start_at c) ≡ o → IsCostTo g s c entry
+    entry_is c entry on h None e =
+        let same = put_elsewhere t g.width k.nodes blank (cell_number g.width c) (λ id n p q.
+        none_found ByCell k.nodes (start_at c) e id n p (ap (λ (d : Cell). start_at d)
+        (one_cell g.width (node_cell n) c (inside id n p).0 (column c on) q))) in
+        let none : entry ≡ None =
+        none_in (g.height * g.width) (cell_number g.width c) entry (sym same ∙ h) in
+        subst (λ (o : Option Cost). IsCostTo g s c o) (sym none) (none_at c e)
+    entry_is c entry on h (Some id) e =
+        let f = lookup-found ByCell k.nodes (start_at c) id e in
+        let cell : node_cell f.node ≡ c = ap (λ (v : State). v.cell) f.state in
+        let p = inside id f.node f.node_is in
+        let within : cell_number g.width (node_cell f.node) < length blank =
+        subst (λ (l : ℕ). cell_number g.width (node_cell f.node) < l)
+        (sym (length-replicate (g.height * g.width) None))
+        (number_below g.width g.height (node_cell f.node) p.0 p.1) in
+        let stands = put_at t g.width k.nodes blank id f.node f.node_is apart within in
+        let paid : Some (cost_of_rank (rank_left t f.node)) ≡ entry =
+        some_one (Some (cost_of_rank (rank_left t f.node))) entry (sym stands
+        ∙ ap (λ (d : Cell). slice_get all_put (cell_number g.width d)) cell ∙ h) in
+        subst (λ (o : Option Cost). IsCostTo g s c o) paid
+        (subst (λ (d : Cell). IsLeastCost g s d (cost_of_rank (rank_left t f.node))) cell
+        (least_at id f.node f.node_is))
+
+    pub are_costs : (costs : List (Option Cost)) → costs ≡ all_put → AreCostsToAll g s costs
+    are_costs costs made = record {
+      as_many = ap length made ∙ put_length t g.width k.nodes blank
+          ∙ length-replicate (g.height * g.width) None;
+      right = λ c entry on h. entry_is c entry on
+          (ap (λ (es : List (Option Cost)). slice_get es (cell_number g.width c)) (sym made) ∙ h)
+          (lookup ByCell k.nodes (start_at c)) refl;
+    }
 
 -- a search for the first cell below the last row, told the sides of the map
 module _ (g : GridData) (s : Cell) (whole : IsGrid g) (from : is_free g s ≡ true) (width height : ℕ)
@@ -182,8 +190,10 @@ module _ (g : GridData) (s : Cell) (whole : IsGrid g) (from : is_free g s ≡ tr
   all_priced = are_priced g s below whole from near k taken stop
 
   pub all_placed : ArePlaced width (height * width) k.nodes
-  all_placed = subst (λ (n : ℕ). ArePlaced n (height * width) k.nodes) (sym w)
-      (subst (λ (n : ℕ). ArePlaced g.width n k.nodes) cells (are_placed g s below whole from near k taken stop))
+  all_placed =
+      subst (λ (n : ℕ). ArePlaced n (height * width) k.nodes) (sym w)
+      (subst (λ (n : ℕ). ArePlaced g.width n k.nodes) cells
+      (are_placed g s below whole from near k taken stop))
 
   pub all_costs : (costs : List (Option Cost))
       → costs ≡ costs_put below width k.nodes (replicate (height * width) None) → AreCostsToAll g s costs

@@ -59,7 +59,8 @@ entries_below goal limit nodes = filter_map (entry_below goal limit) nodes
 
 -- the nodes are of cells of a map of this width, with so many cells
 abbrev pub ArePlaced : ℕ → ℕ → List Node → Type 0
-ArePlaced width cells nodes = (id : ℕ) (n : Node) → slice_get nodes id ≡ Some n → IsPlaced width cells (node_cell n)
+ArePlaced width cells nodes =
+    (id : ℕ) (n : Node) → slice_get nodes id ≡ Some n → IsPlaced width cells (node_cell n)
 
 -- these entries, one for each cell, with the node's cost at the number of its cell
 abbrev pub cost_put : Cell → ℕ → Node → List (Option Cost) → List (Option Cost)

@@ -16,7 +16,7 @@ use Rattle.plain_search.specs.Rule.{plain_rule, plain_links}
 abbrev pub HasTaken : GridData → Cell → Cell → ℕ → Table → List ℕ → Type 0
 HasTaken g s t at k taken = search.HasTaken ByCell g.width t (plain_links g) s at k taken
 
--- the search ended with the goal not taken: no node is open, and each keeps the offer by which its state was taken
+-- the search ended with the goal not taken: no node is open, and each keeps the offer of its taken state
 pub record HasStopped (g : GridData) (s t : Cell) (k : Table) (taken : List ℕ) : Type 0 where
   pub exhausted : IsExhausted g s t taken
   pub mirrors : Mirrors ByCell g.width t (plain_links g) exhausted.run

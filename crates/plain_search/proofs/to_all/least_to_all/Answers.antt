@@ -18,7 +18,8 @@ costs_by_cell-requires-clause-placed g c =
 
 pub returns : goal.returns
 returns g c =
-    IfOk-weaker c.costs_by_cell.result _ _ (λ costs made. all_costs (g.T.Terrain.grid c.args.t.now) c.args.from c.height-height.ensures.whole c.requires
+    IfOk-weaker c.costs_by_cell.result _ _ (λ costs made.
+    all_costs (g.T.Terrain.grid c.args.t.now) c.args.from c.height-height.ensures.whole c.requires
     c.width-width.result c.height-height.result c.width-width.ensures.is c.height-height.ensures.is
     c.take_counted.new.space.table c.take_counted.new.taken c.in_ok-take_counted.field-0
     c.in_ok-take_counted.ensures.ended costs.items made) c.costs_by_cell.ensures
