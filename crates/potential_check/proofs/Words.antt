@@ -1,19 +1,18 @@
 -- The words of a line that is cut at each space, and numbers at its beginning.
-use Rattle.std.proofs.Common.{◌≡◌, ℕ, zero, suc, ◌+◌, ◌-◌, ◌^◌, ◌<◌, ◌≤◌, ◌⊎◌, inl, inr, arith, refl, ap, sym, ◌∙◌, Bool, true, false, List, [], ◌∷◌, ◌++◌, append_assoc, length, take, drop, get_or}
-use Rattle.std.specs.Prelude.{Option, Some, None, option_map, option_and_then, position, ◌&&◌, if◌then◌else◌, nat_le, not}
+use Rattle.std.proofs.Common.{◌≡◌, ℕ, zero, suc, ◌+◌, ◌-◌, ◌^◌, ◌<◌, ◌≤◌, arith, refl, ap, sym, ◌∙◌, Bool, true, false, List, [], ◌∷◌, ◌++◌, append_assoc, length, take, drop, get_or}
+use Rattle.std.specs.Prelude.{Option, Some, None, option_map, option_and_then, position, ◌&&◌, if◌then◌else◌, nat_le}
 use Rattle.std.specs.List.{list_all, slice_split}
 use Rattle.std.specs.Char.{is_ascii_digit}
 use Rattle.std.specs.Str.{bytes_eq}
 use Rattle.std.proofs.lemmas.Bool.{and_parts}
-use Rattle.std.proofs.lemmas.List.{length-drop, length-take-le}
+use Rattle.std.proofs.lemmas.List.{length-drop}
 use Rattle.std.proofs.lemmas.List.Quantifiers.{position-Some}
 use Rattle.text_line.specs.Numbers.{is_number, number_of, value_of}
 use Rattle.text_line.proofs.Digits.{value_of-lt}
 use Rattle.text_line.proofs.Parts.{position-None}
 use Rattle.grid_moves.specs.declared.Cell.{Cell}
-use Rattle.potential_check.specs.Certificate.{is_short}
 use Rattle.potential_check.specs.Forms.{after_word, cell_in, is_space, points_in, points_on}
-use Rattle.potential_check.proofs.Entries.{le_is, tested}
+use Rattle.potential_check.proofs.Entries.{le_is}
 
 split_cut : (line : List ℕ) (end : ℕ) → end < length line
     → ((k : ℕ) → k < end → is_space (get_or line k 0) ≡ false) → is_space (get_or line end 0) ≡ true

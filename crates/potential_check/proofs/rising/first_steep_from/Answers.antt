@@ -1,4 +1,4 @@
-use Rattle.std.proofs.Common.{rules, ◌∙◌, ap, refl, ◌≡◌, w64}
+use Rattle.std.proofs.Common.{rules, ◌∙◌, ap, ◌≡◌, w64}
 use Rattle.std.specs.Prelude.{Option, ℤ, FitsSigned}
 use Rattle.std.specs.Option.{option_or}
 use Rattle.grid_moves.specs.declared.Cell.{Cell}
