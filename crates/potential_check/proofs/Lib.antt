@@ -1,6 +1,7 @@
 pub mod Choices
 pub mod Entries
 pub mod Steep
+pub mod Flat
 pub mod Reaching
 pub mod Climbing
 pub mod Walks

@@ -241,6 +241,7 @@ pub(crate) fn points_on(alloc: Global, line: &[u8]) -> Result<Option<Points>, Al
 }
 
 /// The cell and its value on a line `value X Y A B`.
+#[inline(never)]
 pub(crate) fn value_on(line: &[u8]) -> Option<(Cell, Cost)>
     ensures value { result ≡ spec.value_on line.now }
     ensures small { IfSome result (λ entry. IsTrue (is_small entry.1)) }
