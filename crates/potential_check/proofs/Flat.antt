@@ -20,8 +20,9 @@ one_before zero n is = inr refl
 one_before (suc m) n is = let same : m ≡ n = omega (arith, is.some) in inl (ap (λ (k : ℕ). Some k) same)
 
 -- a move in a direction, towards a cell that it would lead to
-pub flat_ahead : (g : GridData) (u : Cell) (d : Dir) (x y : ℕ) (from to : ℤ) → IsAtMostOne (column_ahead d u.x) x
-    → IsAtMostOne (row_ahead d u.y) y → is_steep from (rank_of (move_cost u (record { x = x; y = y }))) to ≡ false
+pub flat_ahead : (g : GridData) (u : Cell) (d : Dir) (x y : ℕ) (from to : ℤ)
+    → IsAtMostOne (column_ahead d u.x) x → IsAtMostOne (row_ahead d u.y) y
+    → is_steep from (rank_of (move_cost u (record { x = x; y = y }))) to ≡ false
     → steep_move u from to (legal_ahead g u d) ≡ None
 flat_ahead g u d x y from to (inr e) row flat = rw e refl
 flat_ahead g u d x y from to (inl e) (inr f) flat = rw (e, f) refl
@@ -46,9 +47,13 @@ neither true b e = absurd (cc)
 neither false b e = (refl, e)
 
 pub none_steep : (g : GridData) (u : Cell) (from : ℤ) (to : Dir → ℤ)
-    → steep_move u from (to N) (legal_ahead g u N) ≡ None → steep_move u from (to NE) (legal_ahead g u NE) ≡ None
-    → steep_move u from (to E) (legal_ahead g u E) ≡ None → steep_move u from (to SE) (legal_ahead g u SE) ≡ None
-    → steep_move u from (to S) (legal_ahead g u S) ≡ None → steep_move u from (to SW) (legal_ahead g u SW) ≡ None
-    → steep_move u from (to W) (legal_ahead g u W) ≡ None → steep_move u from (to NW) (legal_ahead g u NW) ≡ None
+    → steep_move u from (to N) (legal_ahead g u N) ≡ None
+    → steep_move u from (to NE) (legal_ahead g u NE) ≡ None
+    → steep_move u from (to E) (legal_ahead g u E) ≡ None
+    → steep_move u from (to SE) (legal_ahead g u SE) ≡ None
+    → steep_move u from (to S) (legal_ahead g u S) ≡ None
+    → steep_move u from (to SW) (legal_ahead g u SW) ≡ None
+    → steep_move u from (to W) (legal_ahead g u W) ≡ None
+    → steep_move u from (to NW) (legal_ahead g u NW) ≡ None
     → first_steep g u from to all_dirs ≡ None
 none_steep g u from to n ne e se s sw w nw = rw (n, ne, e, se, s, sw, w, nw) refl

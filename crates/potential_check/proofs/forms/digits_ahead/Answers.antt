@@ -10,13 +10,14 @@ pub returns-then-count-eq0-clause-number : goal.returns-then-count-eq0-clause-nu
 returns-then-count-eq0-clause-number c =
     let none : c.loop-count.count ≡ 0 = omega arith in
     let stop = sym c.is_ascii_digit.ensures.value ∙ c.if-not-is_ascii_digit.true in
-    no_digit c.args.most c.args.line.now (λ h. subst (λ (n : ℕ). is_ascii_digit (get_or c.args.line.now n 0) ≡ false) none stop)
+    no_digit c.args.most c.args.line.now
+    (λ h. subst (λ (n : ℕ). is_ascii_digit (get_or c.args.line.now n 0) ≡ false) none stop)
 
 pub returns-else-count-eq0-clause-number : goal.returns-else-count-eq0-clause-number
 returns-else-count-eq0-clause-number c =
     let stop = sym c.is_ascii_digit.ensures.value ∙ c.if-not-is_ascii_digit.true in
-    let read = number_read c.args.most c.loop-count.count c.args.line.now (omega arith) c.loop-count.invariant.few
-    (c.requires) (omega arith) c.loop-count.invariant.digits (λ h. stop) in
+    let read = number_read c.args.most c.loop-count.count c.args.line.now (omega arith)
+    c.loop-count.invariant.few c.requires (omega arith) c.loop-count.invariant.digits (λ h. stop) in
     rw c.loop-count.invariant.value read
 
 pub returns-else-count-eq0-clause-bound : goal.returns-else-count-eq0-clause-bound
@@ -68,8 +69,8 @@ returns-then-all-eq0-clause-number c =
 pub returns-else-all-eq0-clause-number : goal.returns-else-all-eq0-clause-number
 returns-else-all-eq0-clause-number c =
     let all : c.loop-count.count ≡ length c.args.line.now = omega arith in
-    let read = number_read c.args.most c.loop-count.count c.args.line.now (omega arith) c.loop-count.invariant.few
-    c.requires (omega arith) c.loop-count.invariant.digits (λ h. absurd (omega arith)) in
+    let read = number_read c.args.most c.loop-count.count c.args.line.now (omega arith)
+    c.loop-count.invariant.few c.requires (omega arith) c.loop-count.invariant.digits (λ h. absurd (omega arith)) in
     rw c.loop-count.invariant.value (subst (λ (n : ℕ). number_ahead c.args.most c.args.line.now
     ≡ Some (value_of (take c.loop-count.count c.args.line.now), drop n c.args.line.now)) all read)
 
