@@ -1,5 +1,5 @@
 -- A text is read as a fault exactly where a line breaks the grammar first so.
-use Rattle.std.proofs.Common.{◌≡◌, ◌≢◌, ℕ, zero, suc, ◌+◌, ◌≤◌, arith, refl, ap, sym, ◌∙◌, subst, List, [], ◌∷◌, length, take, Option, Some, None, Result, Ok, Err}
+use Rattle.std.proofs.Common.{◌≡◌, ◌≢◌, ℕ, zero, suc, ◌+◌, ◌≤◌, arith, refl, ap, sym, ◌∙◌, List, [], ◌∷◌, length, take, Option, Some, Result, Ok, Err}
 use Rattle.std.specs.Prelude.{slice_get, IfErr}
 use Rattle.text_line.specs.Lines.{lines_of}
 use Rattle.potential_check.specs.declared.certificate.Certificate.{Certificate}

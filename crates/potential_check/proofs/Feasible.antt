@@ -1,8 +1,7 @@
 -- The first move with a property, or none; and what a potential or a set of cells tells of all walks.
-use Rattle.std.proofs.Common.{◌≡◌, ℕ, zero, suc, ◌+◌, ◌-◌, ◌<◌, ◌≤◌, ◌⊎◌, inl, inr, arith, refl, ap, sym, ◌∙◌, subst, Bool, true, false, List, [], ◌∷◌}
-use Rattle.std.specs.Prelude.{Option, Some, None, ◌&&◌, not, if◌then◌else◌, nat_lt}
+use Rattle.std.proofs.Common.{◌≡◌, ℕ, zero, suc, ◌+◌, ◌<◌, ◌≤◌, ◌⊎◌, inl, inr, arith, refl, ap, sym, ◌∙◌, subst, Bool, true, false, List, [], ◌∷◌}
+use Rattle.std.specs.Prelude.{Option, Some, None, ◌&&◌, not, if◌then◌else◌}
 use Rattle.std.specs.Option.{option_or}
-use Rattle.std.specs.Ordering.{int_eq}
 use Rattle.std.proofs.lemmas.Bool.{and_parts}
 use Rattle.root2_cost.specs.declared.Cost.{Cost}
 use Rattle.root2_cost.specs.declared.Signed.{Signed}
@@ -13,15 +12,14 @@ use Rattle.root2_cost.proofs.Differences.{bounds_add, rise_from_nothing, rises_n
 use Rattle.grid_moves.specs.declared.Cell.{Cell}
 use Rattle.grid_moves.specs.declared.Dir.{Dir}
 use Rattle.grid_moves.specs.declared.Dir.TheVariants.{N, NE, E, SE, S, SW, W, NW}
-use Rattle.grid_moves.specs.Grid.{GridData, is_free}
+use Rattle.grid_moves.specs.Grid.{GridData}
 use Rattle.grid_moves.specs.Move.{all_dirs, is_legal, legal_ahead, move_cost}
 use Rattle.grid_moves.specs.Walk.{is_walk, cost_of, last_of, IsWalk}
 use Rattle.grid_moves.proofs.Ahead.{legal_ahead-is, legal_ahead-of}
 use Rattle.grid_moves.proofs.Legal.{free_inside, legal_is}
-use Rattle.potential_check.specs.Potential.{IsFeasible, NoMove, rises}
+use Rattle.potential_check.specs.Potential.{IsFeasible, NoMove}
 use Rattle.potential_check.specs.Moves.{failing_move, first_ahead, first_failing, first_in_row, first_in_rows}
-use Rattle.potential_check.specs.Accepted.{is_value, leaves}
-use Rattle.potential_check.proofs.Entries.{tested}
+use Rattle.potential_check.specs.Accepted.{is_value}
 
 -- of two answers neither is there where the first is not
 pub neither : {X : Type 0} (a b : Option X) → option_or a b ≡ None → (a ≡ None) × (b ≡ None)

@@ -1,6 +1,6 @@
 -- The answers of a check, by the first clause that fails.
 use Rattle.std.proofs.Common.{◌≡◌, ℕ, zero, suc, ◌+◌, ◌^◌, ◌<◌, ◌≤◌, arith, refl, ap, sym, ◌∙◌, subst, Bool, true, false, List, [], ◌∷◌, length}
-use Rattle.std.specs.Prelude.{Option, Some, None, Result, Ok, Err, ◌&&◌, not, nat_le, nat_lt, nat_eq, IfOk, IfErr}
+use Rattle.std.specs.Prelude.{Option, Some, None, Result, Ok, Err, ◌&&◌, nat_le, nat_lt, IfOk}
 use Rattle.std.specs.Prelude.{if◌then◌else◌}
 use Rattle.std.specs.Option.{option_or}
 use Rattle.std.specs.List.{list_all}
@@ -11,20 +11,18 @@ use Rattle.grid_moves.specs.Grid.{GridData, IsGrid}
 use Rattle.grid_moves.specs.declared.Dir.{Dir}
 use Rattle.grid_moves.specs.Move.{all_dirs, is_legal, legal_ahead}
 use Rattle.grid_moves.proofs.Ahead.{legal_ahead-is}
-use Rattle.grid_moves.specs.Walk.{IsWalk, is_walk, last_of}
-use Rattle.grid_moves.specs.Walk as walks
+use Rattle.grid_moves.specs.Walk.{last_of}
 use Rattle.grid_moves.proofs.Legal.{free_inside, legal_is}
 use Rattle.potential_check.specs.declared.certificate.Claim.{Claim}
 use Rattle.potential_check.specs.declared.certificate.Claim.TheVariants.{Least, NoWalk}
-use Rattle.potential_check.specs.declared.certificate.Certificate.{Certificate}
 use Rattle.potential_check.specs.declared.verdict.Proof.{Proof}
 use Rattle.potential_check.specs.declared.verdict.Proof.TheVariants as proof
 use Rattle.potential_check.specs.declared.verdict.Reject.{Reject}
 use Rattle.potential_check.specs.declared.verdict.Reject.TheVariants.{Size, Ends, Walk, Start, Goal, Move, Open}
-use Rattle.potential_check.specs.Certificate.{are_listed, are_points, are_sides, cells_of, is_certificate, is_claim, is_short, is_small}
-use Rattle.potential_check.specs.Potential.{NoMove, is_listed, potential_of, rises}
+use Rattle.potential_check.specs.Certificate.{are_listed, are_points, cells_of, is_claim, is_short, is_small}
+use Rattle.potential_check.specs.Potential.{is_listed, potential_of, rises}
 use Rattle.potential_check.specs.Moves.{failing_move, first_ahead, first_failing, first_in_row, first_in_rows}
-use Rattle.potential_check.specs.Accepted.{AcceptsClaim, AcceptsLeast, AcceptsNone, HasLeastCost, Holds, IsAccepted, IsRightWalk, Refuses, RefusesClaim, RefusesLeast, RefusesNone, claimed, ends_at_cost, has_free_ends, has_size, leaves, starts_at_nothing}
+use Rattle.potential_check.specs.Accepted.{AcceptsClaim, Holds, RefusesLeast, RefusesNone, claimed, ends_at_cost, leaves, starts_at_nothing}
 use Rattle.potential_check.specs.Judged.{JudgesClaim, JudgesWalk}
 use Rattle.potential_check.specs.Rising.{climbs, height_of}
 use Rattle.potential_check.proofs.Entries.{lt_is}

@@ -1,6 +1,7 @@
 pub mod Choices
 pub mod Entries
 pub mod Steep
+pub mod Flat
 pub mod Reaching
 pub mod Climbing
 pub mod Walks
@@ -8,6 +9,7 @@ pub mod Feasible
 pub mod Ranked
 pub mod Judging
 pub mod Words
+pub mod Leading
 pub mod LinesLeft
 pub mod Listing
 pub mod Breaking

@@ -1,13 +1,12 @@
 -- What a line of a list comes to.
 use Rattle.std.proofs.Common.{◌≡◌, ℕ, ◌+◌, ◌≤◌, arith, refl, ap, sym, ◌∙◌, Bool, true, false, List, [], ◌∷◌, ◌++◌, Option, Some, None, Result, Ok, Err}
-use Rattle.std.specs.Prelude.{nat_le, ◌&&◌, not, codes, if◌then◌else◌, map}
+use Rattle.std.specs.Prelude.{◌&&◌, not, codes}
 use Rattle.std.specs.List.{list_all}
 use Rattle.std.specs.Str.{bytes_eq}
 use Rattle.root2_cost.specs.declared.Cost.{Cost}
 use Rattle.grid_moves.specs.declared.Cell.{Cell}
 use Rattle.grid_moves.specs.Grid.{cell_number}
-use Rattle.potential_check.specs.declared.certificate.Certificate.{Certificate}
-use Rattle.potential_check.specs.declared.certificate.Claim.TheVariants.{Least, NoWalk}
+use Rattle.potential_check.specs.declared.certificate.Claim.TheVariants.{Least}
 use Rattle.potential_check.specs.declared.fault.CertFault.{CertFault}
 use Rattle.potential_check.specs.declared.fault.CertFault.TheVariants.{Line, Order, NoMemory}
 use Rattle.potential_check.specs.declared.reading.Head.{Head}

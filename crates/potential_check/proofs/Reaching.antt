@@ -1,6 +1,6 @@
 -- Hands that read a list row by row.
-use Rattle.std.proofs.Common.{◌≡◌, ℕ, zero, suc, ◌+◌, ◌*◌, ◌<◌, ◌≤◌, ◌⊎◌, inl, inr, arith, refl, ap, sym, ◌∙◌, subst, Bool, true, false, List, [], IsTrue}
-use Rattle.std.specs.Prelude.{ℤ, min, ◌&&◌, nat_lt}
+use Rattle.std.proofs.Common.{◌≡◌, ℕ, zero, suc, ◌+◌, ◌*◌, ◌<◌, ◌≤◌, inl, inr, arith, refl, ap, sym, ◌∙◌, subst, true, false, List, [], IsTrue}
+use Rattle.std.specs.Prelude.{ℤ, min, nat_lt}
 use Rattle.std.specs.List.{list_all}
 use Rattle.std.proofs.lemmas.Bool.{and_parts}
 use Rattle.grid_moves.specs.declared.Cell.{Cell}
@@ -10,9 +10,9 @@ use Rattle.potential_check.specs.declared.heights.Heights.{Heights}
 use Rattle.potential_check.specs.declared.rising.Column.{Column}
 use Rattle.potential_check.specs.declared.rising.Rows.{Rows}
 use Rattle.potential_check.specs.declared.rising.Hills.{Hills}
-use Rattle.potential_check.specs.Certificate.{are_listed, lies_inside, ascend_from}
+use Rattle.potential_check.specs.Certificate.{lies_inside, ascend_from}
 use Rattle.potential_check.specs.Heights.{entries, floor, are_low, first_height, rest_after}
-use Rattle.potential_check.specs.Rising.{height_of, height_at, cells_in, entries_from, AreHills, StandAt, Reach, RowsReach, Takes, IsColumn}
+use Rattle.potential_check.specs.Rising.{height_at, cells_in, entries_from, AreHills, StandAt, Reach, RowsReach, Takes, IsColumn}
 use Rattle.potential_check.proofs.Entries.{tested, lt_is, lt_not, lt_false, first_is, rest_is, height_of-later, height_of-outside, entries_from-later, ascend_later, inside_later, none_past, none_left_out}
 
 -- the number before n is one, and the same

@@ -1,5 +1,5 @@
 -- A text is read as a certificate exactly where it spells it.
-use Rattle.std.proofs.Common.{◌≡◌, ℕ, zero, suc, ◌+◌, ◌≤◌, arith, refl, ap, sym, ◌∙◌, subst, inl, inr, Bool, true, false, List, [], ◌∷◌, ◌++◌, append_assoc, Option, Some, None, Result, Ok, Err}
+use Rattle.std.proofs.Common.{◌≡◌, ℕ, ◌+◌, refl, ap, sym, ◌∙◌, subst, inl, inr, Bool, true, false, List, [], ◌∷◌, ◌++◌, append_assoc, Option, Some, None, Result, Ok, Err}
 use Rattle.std.specs.Prelude.{IfOk, codes, nat_eq, nat_le, ◌&&◌, if◌then◌else◌, map}
 use Rattle.std.specs.List.{AllByRecursion, list_all}
 use Rattle.std.specs.Str.{bytes_eq}
@@ -8,7 +8,6 @@ use Rattle.std.proofs.lemmas.List.{append-nil}
 use Rattle.root2_cost.specs.declared.Cost.{Cost}
 use Rattle.grid_moves.specs.declared.Cell.{Cell}
 use Rattle.grid_moves.specs.Grid.{cell_number}
-use Rattle.text_line.specs.Fields.{is_nothing}
 use Rattle.text_line.specs.Lines.{lines_of}
 use Rattle.potential_check.specs.declared.certificate.Certificate.{Certificate}
 use Rattle.potential_check.specs.declared.certificate.Claim.{Claim}
@@ -19,7 +18,7 @@ use Rattle.potential_check.specs.Certificate.{are_listed, ascend_from, cells_of,
 use Rattle.potential_check.specs.Forms.{ends_on, least_on, member_on, points_on, size_on, value_on}
 use Rattle.potential_check.specs.Text.{Plain, State, Step, Tells, after_step, at_claim, at_ends, at_points, at_size, at_version, certificate_of, closed, ended, goes, in_cells, in_values, is_end, listed, misspelt, next, plain, read_from, spelled, unordered}
 use Rattle.potential_check.specs.Spelling.{SpellInOrder, Spells, SpellsClaim}
-use Rattle.potential_check.proofs.Entries.{le_is, le_true, tested}
+use Rattle.potential_check.proofs.Entries.{tested}
 
 -- bytes that are a word's
 bytes_are : (xs ys : List ℕ) → bytes_eq xs ys ≡ true → xs ≡ ys

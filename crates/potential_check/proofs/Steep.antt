@@ -1,5 +1,5 @@
 -- Heights as arguments of calls.
-use Rattle.std.proofs.Common.{◌≡◌, ap, sym, ◌∙◌, w64, to_z, of_z}
+use Rattle.std.proofs.Common.{◌≡◌, ap, ◌∙◌, w64, to_z, of_z}
 use Rattle.std.specs.Prelude.{Option, ℤ, FitsSigned}
 use Rattle.std.proofs.lemmas.Int.{to_z-of_z}
 use Rattle.grid_moves.specs.declared.Cell.{Cell}

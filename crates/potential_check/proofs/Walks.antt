@@ -1,22 +1,20 @@
 -- Points that stand for a walk between two cells.
-use Rattle.std.proofs.Common.{◌≡◌, ℕ, zero, suc, ◌+◌, ◌-◌, ◌<◌, ◌≤◌, ◌⊎◌, inl, inr, arith, refl, ap, sym, ◌∙◌, subst, Bool, true, false, List, [], ◌∷◌, ◌++◌, length}
-use Rattle.std.specs.Prelude.{Option, Some, None, Result, Ok, Err, option_map, slice_get, ◌&&◌, nat_eq, if◌then◌else◌, IfOk, IfErr}
-use Rattle.std.proofs.lemmas.Bool.{and_parts}
+use Rattle.std.proofs.Common.{◌≡◌, ℕ, suc, ◌-◌, arith, refl, ap, sym, ◌∙◌, Bool, true, false, List, [], ◌∷◌, ◌++◌, length}
+use Rattle.std.specs.Prelude.{Option, Some, None, Result, Ok, Err, option_map, slice_get, ◌&&◌, if◌then◌else◌, IfOk, IfErr}
 use Rattle.std.proofs.lemmas.Bool.Decides.{nat_tests}
 use Rattle.root2_cost.specs.declared.Cost.{Cost}
 use Rattle.root2_cost.proofs.Less.{same_cost}
 use Rattle.grid_moves.specs.declared.Cell.{Cell}
 use Rattle.grid_moves.specs.Grid.{GridData}
 use Rattle.grid_moves.specs.Move.{is_same}
-use Rattle.grid_moves.specs.Points.{are_lined, segment, steps_between, unfolded_from, unfolding_of}
-use Rattle.grid_moves.specs.Walk.{is_walk, cost_of, last_of, IsWalk}
+use Rattle.grid_moves.specs.Points.{are_lined, unfolded_from, unfolding_of}
+use Rattle.grid_moves.specs.Walk.{is_walk, cost_of, last_of}
 use Rattle.grid_moves.proofs.Legal.{is_same-cell, is_same-itself}
 use Rattle.path_points.specs.declared.checking.BadAt.{BadAt}
-use Rattle.path_points.specs.Checked.{IsFirstBad, IsShortWalk, most_steps, run}
+use Rattle.path_points.specs.Checked.{IsFirstBad, IsShortWalk, run}
 use Rattle.path_points.proofs.Joined.{run_ends}
 use Rattle.potential_check.specs.Accepted.{IsBadWalk, IsRightWalk, begins_at, ends_at, is_at, is_cost, elsewhere, broken, other}
 use Rattle.potential_check.specs.Judged.{JudgesWalk}
-use Rattle.potential_check.proofs.Entries.{tested}
 
 -- where cells end that follow others
 last_of-append : (u : Cell) (cells later : List Cell) → last_of u (cells ++ later)

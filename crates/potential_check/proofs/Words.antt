@@ -1,19 +1,15 @@
 -- The words of a line that is cut at each space, and numbers at its beginning.
-use Rattle.std.proofs.Common.{◌≡◌, ℕ, zero, suc, ◌+◌, ◌-◌, ◌^◌, ◌<◌, ◌≤◌, ◌⊎◌, inl, inr, arith, refl, ap, sym, ◌∙◌, Bool, true, false, List, [], ◌∷◌, ◌++◌, append_assoc, length, take, drop, get_or}
-use Rattle.std.specs.Prelude.{Option, Some, None, option_map, option_and_then, position, ◌&&◌, if◌then◌else◌, nat_le, not}
+use Rattle.std.proofs.Common.{◌≡◌, ℕ, zero, suc, ◌+◌, ◌-◌, ◌<◌, ◌≤◌, arith, refl, ap, sym, ◌∙◌, Bool, true, false, List, [], ◌∷◌, ◌++◌, append_assoc, length, take, drop, get_or}
+use Rattle.std.specs.Prelude.{Option, Some, None, option_map, option_and_then, position, ◌&&◌, if◌then◌else◌, nat_le}
 use Rattle.std.specs.List.{list_all, slice_split}
-use Rattle.std.specs.Char.{is_ascii_digit}
 use Rattle.std.specs.Str.{bytes_eq}
 use Rattle.std.proofs.lemmas.Bool.{and_parts}
-use Rattle.std.proofs.lemmas.List.{length-drop, length-take-le}
+use Rattle.std.proofs.lemmas.List.{length-drop}
 use Rattle.std.proofs.lemmas.List.Quantifiers.{position-Some}
-use Rattle.text_line.specs.Numbers.{is_number, number_of, value_of}
-use Rattle.text_line.proofs.Digits.{value_of-lt}
 use Rattle.text_line.proofs.Parts.{position-None}
 use Rattle.grid_moves.specs.declared.Cell.{Cell}
-use Rattle.potential_check.specs.Certificate.{is_short}
 use Rattle.potential_check.specs.Forms.{after_word, cell_in, is_space, points_in, points_on}
-use Rattle.potential_check.proofs.Entries.{le_is, tested}
+use Rattle.potential_check.proofs.Entries.{le_is}
 
 split_cut : (line : List ℕ) (end : ℕ) → end < length line
     → ((k : ℕ) → k < end → is_space (get_or line k 0) ≡ false) → is_space (get_or line end 0) ≡ true
@@ -53,20 +49,6 @@ words_cut line end at =
 -- or at the line's end
 pub words_one : (line : List ℕ) → position is_space line ≡ None → slice_split is_space line ≡ line ∷ []
 words_one line none = split_one line (position-None is_space line none)
-
--- a number of at most so many digits is below that power of ten
-pub number_bound : (word : List ℕ) (most n : ℕ) → number_of word ≡ Some n → length word ≤ most → n < 10 ^ most
-unfolding number_of
-number_bound word most n is short = by_test (is_number 9 word) refl is
-  where
-    by_test : (b : Bool) → is_number 9 word ≡ b → (if b then Some (value_of word) else None) ≡ Some n
-        → n < 10 ^ most
-    by_test false t e = absurd (cc)
-    by_test true t e =
-        let digits = and_parts (nat_le 1 (length word) && nat_le (length word) 9) (list_all is_ascii_digit
-        word) t in
-        let same : value_of word ≡ n = cc in
-        omega (arith, value_of-lt most word digits.1 short)
 
 -- what stands after a word is shorter by it
 pub after_word-shorter : (word line rest : List ℕ) → after_word word line ≡ Some rest

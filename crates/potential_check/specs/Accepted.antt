@@ -1,5 +1,5 @@
 -- Which certificates are accepted, and how the others are refused: by the first clause that fails.
-use Rattle.std.specs.Prelude.{◌≡◌, ℕ, ◌-◌, ◌≤◌, Bool, true, false, nat_eq, ◌&&◌, not, List, [], ◌∷◌, length, slice_get, Option, Some, None, pos}
+use Rattle.std.specs.Prelude.{◌≡◌, ℕ, ◌-◌, ◌≤◌, Bool, true, false, nat_eq, ◌&&◌, not, List, ◌∷◌, length, slice_get, Option, Some, None, pos}
 use Rattle.std.specs.Ordering.{int_eq}
 use Rattle.root2_cost.specs.declared.Cost.{Cost}
 use Rattle.root2_cost.specs.declared.Signed.{Signed}

@@ -1,5 +1,5 @@
 -- Heights of cells by a list that is read once.
-use Rattle.std.specs.Prelude.{ℕ, ◌^◌, ◌<◌, Bool, true, ◌&&◌, if◌then◌else◌, List, [], ◌∷◌, map, ℤ, pos}
+use Rattle.std.specs.Prelude.{◌^◌, Bool, true, ◌&&◌, if◌then◌else◌, List, [], ◌∷◌, map, ℤ, pos}
 use Rattle.std.specs.List.{list_all}
 use Rattle.root2_cost.specs.Signed.{signed_of, cost_difference}
 use Rattle.root2_cost.specs.Rank.{signed_rank}

@@ -1,5 +1,5 @@
 -- Worked rows of the definitions, by computing.
-use Rattle.std.specs.Prelude.{◌≡◌, true, false, ◌++◌, [], ◌∷◌, Some, None, Ok, Err, codes, refl, List, ℕ}
+use Rattle.std.specs.Prelude.{◌≡◌, ◌++◌, [], ◌∷◌, Some, None, Ok, Err, codes, refl, List, ℕ}
 use Rattle.root2_cost.specs.declared.Cost.{Cost}
 use Rattle.grid_moves.specs.declared.Cell.{Cell}
 use Rattle.grid_moves.specs.declared.Corner.TheVariants.{Never, One}
@@ -9,7 +9,6 @@ use Rattle.text_line.specs.Numbers.{number_of}
 use Rattle.potential_check.specs.declared.certificate.Claim.TheVariants.{Least, NoWalk}
 use Rattle.potential_check.specs.declared.fault.CertFault.TheVariants.{Line, Order}
 use Rattle.potential_check.specs.Accepted.{leaves}
-use Rattle.potential_check.specs.Certificate.{is_certificate}
 use Rattle.potential_check.specs.Moves.{first_failing}
 use Rattle.potential_check.specs.Potential.{potential_of, rises}
 use Rattle.potential_check.specs.Text.{certificate_of}

@@ -3,8 +3,7 @@
 //! Each line has exactly the bytes of its form: words parted by one space, with nothing before the
 //! first and after the last.
 
-ghost use Rattle.std.specs.Prelude.{◌≡◌, ◌<◌, ◌≤◌, ◌^◌, ◌∷◌, [], IsTrue, IfOk, IfSome, MatchOption, Some, None, length, not, position};
-ghost use Rattle.std.specs.Char.{is_ascii_digit};
+ghost use Rattle.std.specs.Prelude.{◌≡◌, ◌<◌, ◌≤◌, ◌^◌, ◌∷◌, [], IsTrue, IfOk, IfSome, MatchOption, Some, None, drop, length, position};
 ghost use Rattle.std.specs.List.{slice_split};
 ghost use Rattle.potential_check.specs.Certificate.{are_points, are_sides, is_short, is_small};
 ghost use Rattle.potential_check.specs.Forms as spec;
@@ -14,7 +13,6 @@ use grid_moves::Cell;
 use path_points::Points;
 use root2_cost::Cost;
 use std::alloc::{AllocError, Global};
-use text_line::number;
 
 // What stands after the word, if the line begins with it.
 #[inline(always)]
@@ -43,45 +41,53 @@ fn after_byte(byte: u8, line: &[u8]) -> Option<&[u8]>
     }
 }
 
-// Where the first byte that is no digit stands, if there is one.
+// The number of at most so many digits that the line begins with, and how many they are. Each digit is
+// read once.
 #[inline(always)]
-fn place_of_other(line: &[u8]) -> Option<usize>
-    ensures { result ≡ position (λ byte. not (is_ascii_digit byte)) line.now }
+fn digits_ahead(most: usize, line: &[u8]) -> Option<(u32, usize)>
+    requires { most ≤ 9 }
+    ensures number { MatchOption result
+        (spec.number_ahead most line.now ≡ None)
+        (λ found. spec.number_ahead most line.now ≡ Some (found.0, drop found.1 line.now)) }
+    ensures inside { IfSome result (λ found. found.1 ≤ length line.now) }
+    ensures bound { IfSome result (λ found. found.0 < 10 ^ most) }
 {
-    line.iter().position(|byte| !byte.is_ascii_digit())
-}
-
-// How many digits the line begins with.
-#[inline(always)]
-fn digits_ahead(line: &[u8]) -> usize
-    ensures digits { result ≡ spec.digits_ahead line.now }
-    ensures inside { result ≤ length line.now }
-{
-    match place_of_other(line) {
-        Some(place) => place,
-        None => line.len(),
+    let mut value = 0;
+    for count in 0..line.len() {
+        let byte = line[count];
+        if !byte.is_ascii_digit() {
+            return if count == 0 {
+                None
+            } else {
+                Some((value, count))
+            };
+        }
+        if count == most {
+            return None;
+        }
+        value = value * 10 + u32::from(byte - b'0');
     }
+    let all = line.len();
+    if all == 0 { None } else { Some((value, all)) }
 }
 
 // The number of at most so many digits that the line begins with, and what stands after it.
 #[inline(always)]
 fn number_ahead(most: usize, line: &[u8]) -> Option<(u32, &[u8])>
+    requires { most ≤ 9 }
     ensures number { MatchOption result
         (spec.number_ahead most line.now ≡ None)
         (λ cut. spec.number_ahead most line.now ≡ Some (cut.0, cut.1.now)) }
     ensures bound { IfSome result (λ cut. cut.0 < 10 ^ most) }
 {
-    let count = digits_ahead(line);
-    if most < count {
-        return None;
-    }
-    let n = number(&line[..count])?;
+    let (n, count) = digits_ahead(most, line)?;
     Some((n, &line[count..]))
 }
 
 // The same where the byte stands after the number, and what stands after the byte.
 #[inline(always)]
 fn number_before(byte: u8, most: usize, line: &[u8]) -> Option<(u32, &[u8])>
+    requires { most ≤ 9 }
     ensures number { MatchOption result
         (spec.number_before byte most line.now ≡ None)
         (λ cut. spec.number_before byte most line.now ≡ Some (cut.0, cut.1.now)) }
@@ -95,6 +101,7 @@ fn number_before(byte: u8, most: usize, line: &[u8]) -> Option<(u32, &[u8])>
 // The number of at most so many digits that the line is.
 #[inline(always)]
 fn last_number(most: usize, line: &[u8]) -> Option<u32>
+    requires { most ≤ 9 }
     ensures number { result ≡ spec.last_number most line.now }
     ensures bound { IfSome result (λ n. n < 10 ^ most) }
 {
@@ -234,6 +241,7 @@ pub(crate) fn points_on(alloc: Global, line: &[u8]) -> Result<Option<Points>, Al
 }
 
 /// The cell and its value on a line `value X Y A B`.
+#[inline(never)]
 pub(crate) fn value_on(line: &[u8]) -> Option<(Cell, Cost)>
     ensures value { result ≡ spec.value_on line.now }
     ensures small { IfSome result (λ entry. IsTrue (is_small entry.1)) }

@@ -4,9 +4,10 @@
 //! in the row itself, and one in the row above and below. So no cell is looked up, and no memory is
 //! taken.
 
-ghost use Rattle.std.specs.Prelude.{◌≡◌, ◌+◌, ◌<◌, ◌≤◌, true, Some, None, IfNone, if◌then◌else◌};
-ghost use Rattle.grid_moves.specs.Grid.{IsGrid, is_free};
-ghost use Rattle.grid_moves.specs.Move.{all_dirs};
+ghost use Rattle.std.specs.Prelude.{◌≡◌, ◌+◌, ◌<◌, ◌≤◌, true, false, Some, None, IfNone, if◌then◌else◌};
+ghost use Rattle.root2_cost.specs.Rank.{rank_of};
+ghost use Rattle.grid_moves.specs.Grid.{GridData, IsGrid, is_free};
+ghost use Rattle.grid_moves.specs.Move.{all_dirs, move_cost};
 ghost use Rattle.grid_moves.specs.Around.{IsBefore, if_open};
 ghost use Rattle.potential_check.specs.Heights.{entries, floor, are_low};
 ghost use Rattle.potential_check.specs.Moves.{first_in_row, first_failing};
@@ -47,13 +48,55 @@ fn before(n: u16) -> u16
     n.wrapping_sub(1)
 }
 
+// Whether a move of this cost from a height to another rises by more. A sum above all heights is not below
+// one.
+#[inline(always)]
+fn is_steep(from: i64, cost: u64, to: i64) -> bool
+    ensures { result ≡ spec.is_steep from cost to }
+{
+    match from.checked_add_unsigned(cost) {
+        Some(most) => most < to,
+        None => false,
+    }
+}
+
+// Whether a move from u to the cell would rise by more than its cost.
+#[inline(always)]
+fn would_climb(u: Cell, v: Cell, from: i64, to: i64) -> bool
+    ensures { result ≡ spec.is_steep from (rank_of (move_cost u v)) to }
+{
+    is_steep(from, move_cost(u, v).rank(), to)
+}
+
+// Whether a move in some direction would rise by more than its cost, were it legal. Most often none would,
+// and the cells around need not be read.
+#[inline(always)]
+fn may_climb(u: Cell, left: Column, middle: Column, right: Column) -> bool
+    requires column { u.x < 65535 }
+    requires row { u.y < 65535 }
+    ensures { (g : GridData) → result ≡ false
+        → first_steep g u middle.here (towards left middle right) all_dirs ≡ None }
+{
+    let from = middle.here;
+    let (west, east) = (before(u.x), u.x + 1);
+    let (north, south) = (before(u.y), u.y + 1);
+    let n = would_climb(u, Cell { x: u.x, y: north }, from, middle.above);
+    let ne = would_climb(u, Cell { x: east, y: north }, from, right.above);
+    let e = would_climb(u, Cell { x: east, y: u.y }, from, right.here);
+    let se = would_climb(u, Cell { x: east, y: south }, from, right.below);
+    let s = would_climb(u, Cell { x: u.x, y: south }, from, middle.below);
+    let sw = would_climb(u, Cell { x: west, y: south }, from, left.below);
+    let w = would_climb(u, Cell { x: west, y: u.y }, from, left.here);
+    let nw = would_climb(u, Cell { x: west, y: north }, from, left.above);
+    n | ne | e | se | s | sw | w | nw
+}
+
 // The cell, if the move to it from u is legal and rises by more than its cost.
 #[inline(always)]
 fn steep_move(legal: bool, u: Cell, v: Cell, from: i64, to: i64) -> Option<Cell>
     ensures { result ≡ spec.steep_move u from to (if_open legal v) }
 {
-    let cost = move_cost(u, v).rank();
-    if legal && (from as i128) + (cost as i128) < (to as i128) {
+    if legal && is_steep(from, move_cost(u, v).rank(), to) {
         Some(v)
     } else {
         None
@@ -63,6 +106,26 @@ fn steep_move(legal: bool, u: Cell, v: Cell, from: i64, to: i64) -> Option<Cell>
 // The first cell, by direction, to which a legal move rises by more than its cost.
 #[inline(always)]
 fn first_steep_from(g: &Grid, u: Cell, left: Column, middle: Column, right: Column) -> Option<Cell>
+    requires free { is_free g.now u ≡ true }
+    requires whole { IsGrid g.now }
+    ensures { result ≡ first_steep g.now u middle.here (towards left middle right) all_dirs }
+{
+    if may_climb(u, left, middle, right) {
+        first_steep_around(g, u, left, middle, right)
+    } else {
+        None
+    }
+}
+
+// The same by the cells around.
+#[inline(never)]
+fn first_steep_around(
+    g: &Grid,
+    u: Cell,
+    left: Column,
+    middle: Column,
+    right: Column,
+) -> Option<Cell>
     requires free { is_free g.now u ≡ true }
     requires whole { IsGrid g.now }
     ensures { result ≡ first_steep g.now u middle.here (towards left middle right) all_dirs }

@@ -3,4 +3,5 @@ pub mod Few
 pub mod Potentials
 pub mod Digits
 pub mod Spelled
+pub mod Lengths
 pub mod Making

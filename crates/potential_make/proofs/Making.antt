@@ -32,12 +32,15 @@ use Rattle.plain_search.specs.declared.lists.Listed.{Listed}
 use Rattle.plain_search.specs.declared.lists.Listed.TheVariants.{Found, None}
 use Rattle.plain_search.proofs.Right.{way_is_least}
 use Rattle.plain_search.proofs.Walks.{one_more, plain_consistent, walk_chain}
-use Rattle.potential_check.specs.Accepted.{AcceptsLeast, AcceptsNone, is_value, leaves}
+use Rattle.potential_check.specs.Accepted.{AcceptsClaim, AcceptsLeast, AcceptsNone, is_value, leaves}
 use Rattle.potential_check.specs.Certificate.{are_listed, are_sides, ascend_from, cells_of, is_short, is_small, lies_inside}
 use Rattle.potential_check.specs.Potential.{is_listed, potential_of}
-use Rattle.potential_make.specs.Certified.{IsAcceptedText}
+use Rattle.potential_check.specs.Spelling.{Spells}
+use Rattle.potential_check.proofs.Spelled.{certificate_of_spelled}
+use Rattle.potential_make.specs.Certified.{HasItsPotential, IsAcceptedText, stated}
 use Rattle.potential_make.specs.Written.{certificate_text, claim_of}
-use Rattle.potential_make.proofs.Few.{few_least, moves_counted}
+use Rattle.potential_make.proofs.Few.{few_found, few_least, moves_counted}
+use Rattle.potential_make.proofs.Lengths.{HasFewPoints, text_length, turns_few}
 use Rattle.potential_make.proofs.Potentials.{feasible, has_potential}
 use Rattle.potential_make.proofs.Spelled.{Fits, text_spells}
 
@@ -371,22 +374,54 @@ module _ (g : GridData) (s t : Cell) (whole : IsGrid g) (from : is_free g s ≡ 
   sides_small : (g.width < 10 ^ 9) × (g.height < 10 ^ 9)
   sides_small = let a = whole.sides.narrow in let b = whole.sides.low in (omega arith, omega arith)
 
+  found_fits : (found : Listed) → IsPlainRun g s t (plain_of found) → IsLeast g s t (plain_of found)
+      → AreLists g s t found → Fits g.width g.height (claim_of found)
+  found_fits (Found points cost closed taken) run least lists = fits_least points cost taken closed run least lists
+  found_fits (None reached taken) run least lists = fits_none reached least lists
+
+  few_points : (found : Listed) → IsPlainRun g s t (plain_of found) → HasFewPoints (claim_of found)
+  few_points (None reached taken) run = tt
+  few_points (Found points cost closed taken) run =
+      let w = way_is_least g t s run.last run.earlier from run.run run.at_goal in
+      let are : length points ≡ suc (length (turns_after s w.cells)) =
+      ap length (run.joined ∙ ap corners w.is_way) in
+      let turns = turns_few s w.cells in
+      let moves = moves_counted s w.cells in
+      let paid : (cost_of (s ∷ w.cells)).a + (cost_of (s ∷ w.cells)).b ≡ cost.a + cost.b =
+      ap (λ (c : Cost). c.a + c.b) (w.priced ∙ sym run.priced) in
+      let few = few_found g s t whole from to points cost taken run in
+      let most = cells_few in
+      omega arith
+
+  -- the text of what was found
+  module _ (found : Listed) (text : List ℕ) (run : IsPlainRun g s t (plain_of found))
+      (least : IsLeast g s t (plain_of found)) (lists : AreLists g s t found)
+      (written : text ≡ certificate_text g.width g.height s t (claim_of found)) where
+    spelled_text : Spells text (stated g s t (claim_of found))
+    spelled_text = rw written (text_spells g.width g.height s t (claim_of found) sides_small.0 sides_small.1
+        (sides_are g whole) (free_short g whole s from) (free_short g whole t to) (found_fits found run least lists))
+
+    pub short_text : length text ≤ 2 ^ 30
+    short_text = rw written (text_length g.width g.height s t (claim_of found) whole.sides.narrow whole.sides.low
+        (free_short g whole s from) (free_short g whole t to) (found_fits found run least lists)
+        (few_points found run))
+
+  accepted_claim : (found : Listed) → IsPlainRun g s t (plain_of found) → IsLeast g s t (plain_of found)
+      → AreLists g s t found → AcceptsClaim g s t (claim_of found) × HasItsPotential g s t (claim_of found)
+  accepted_claim (Found points cost closed taken) run least lists =
+      (accepts_least points cost taken closed run least lists, has_potential g s t cost closed lists)
+  accepted_claim (None reached taken) run least lists = (accepts_none reached least lists, tt)
+
   pub accepted_text : (found : Listed) (text : List ℕ) → IsPlainRun g s t (plain_of found)
       → IsLeast g s t (plain_of found) → AreLists g s t found
       → text ≡ certificate_text g.width g.height s t (claim_of found) → IsAcceptedText g s t text
-  accepted_text (Found points cost closed taken) text run least lists e = rw e (record {
-    claim = claim_of (Found points cost closed taken);
-    spelled = text_spells g.width g.height s t (claim_of (Found points cost closed taken)) sides_small.0 sides_small.1
-        (sides_are g whole) (free_short g whole s from) (free_short g whole t to)
-        (fits_least points cost taken closed run least lists);
-    accepted = accepts_least points cost taken closed run least lists;
-    potential = has_potential g s t cost closed lists;
-  })
-  accepted_text (None reached taken) text run least lists e = rw e (record {
-    claim = claim_of (None reached taken);
-    spelled = text_spells g.width g.height s t (claim_of (None reached taken)) sides_small.0 sides_small.1
-        (sides_are g whole) (free_short g whole s from) (free_short g whole t to)
-        (fits_none reached least lists);
-    accepted = accepts_none reached least lists;
-    potential = tt;
-  })
+  accepted_text found text run least lists e =
+      let spelled = spelled_text found text run least lists e in
+      let claim = accepted_claim found run least lists in
+      record {
+        claim = claim_of found;
+        spelled = spelled;
+        read = certificate_of_spelled text (stated g s t (claim_of found)) spelled;
+        accepted = claim.0;
+        potential = claim.1;
+      }

@@ -1,5 +1,5 @@
 -- What is known of the text of a certificate.
-use Rattle.std.specs.Prelude.{◌≡◌, ℕ, false, List}
+use Rattle.std.specs.Prelude.{◌≡◌, ℕ, false, List, Ok}
 use Rattle.root2_cost.specs.declared.Cost.{Cost}
 use Rattle.root2_cost.specs.Order.{is_less}
 use Rattle.root2_cost.specs.Signed.{cost_difference, signed_of}
@@ -16,6 +16,7 @@ use Rattle.potential_check.specs.declared.certificate.Claim.TheVariants as claim
 use Rattle.potential_check.specs.Accepted.{AcceptsClaim}
 use Rattle.potential_check.specs.Potential.{potential_of}
 use Rattle.potential_check.specs.Spelling.{Spells}
+use Rattle.potential_check.specs.Text.{Plain, certificate_of}
 use Rattle.potential_make.specs.Written.{certificate_text, claim_of}
 
 -- the text is that of the claim with what the plain engine's run from s to t found: its points, and the cells
@@ -41,12 +42,17 @@ abbrev pub HasItsPotential : GridData → Cell → Cell → Claim → Type 0
 HasItsPotential g s t (claim.Least cost points values) = HasPotential g s t cost values
 HasItsPotential g s t (claim.NoWalk cells) = Unit {0}
 
--- the text spells a claim on the walks from s to t that is accepted
+-- a claim on the walks from s to t of the map, as the reader knows it
+abbrev pub stated : GridData → Cell → Cell → Claim → Plain
+stated g s t claim = record {
+  head = record { width = g.width; height = g.height; start = s; goal = t };
+  claim = claim;
+}
+
+-- the text spells a claim on the walks from s to t that is accepted, and it is read as that claim
 pub record IsAcceptedText (g : GridData) (s t : Cell) (text : List ℕ) : Type 0 where
   pub claim : Claim
-  pub spelled : Spells text (record {
-    head = record { width = g.width; height = g.height; start = s; goal = t };
-    claim = claim;
-  })
+  pub spelled : Spells text (stated g s t claim)
+  pub read : certificate_of text ≡ Ok (stated g s t claim)
   pub accepted : AcceptsClaim g s t claim
   pub potential : HasItsPotential g s t claim

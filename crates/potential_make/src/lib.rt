@@ -13,4 +13,6 @@ pub use std::alloc::AllocError as NoMemory;
 pub use writing::certificate;
 
 #[cfg(test)]
+mod changed_bytes;
+#[cfg(test)]
 mod tests;

@@ -1,6 +1,6 @@
 //! The text of a certificate.
 
-ghost use Rattle.std.specs.Prelude.{◌≡◌, ◌++◌, true, OnOk, IfOk};
+ghost use Rattle.std.specs.Prelude.{◌≡◌, ◌≤◌, ◌^◌, ◌++◌, length, true, OnOk, IfOk};
 ghost use Rattle.grid_moves.specs.Grid.{IsGrid, is_free};
 ghost use Rattle.potential_make.specs.Certified.{IsCertificate, IsAcceptedText, HasPotential};
 ghost use Rattle.potential_make.specs.Written as spec;
@@ -23,6 +23,8 @@ pub fn certificate(alloc: Global, g: &Grid, from: Cell, to: Cell) -> Result<Vec<
     ensures text { IfOk result (λ text. IsCertificate g.now from to text.items) }
     // The reader reads it, and the checker accepts what is read.
     ensures accepted { IfOk result (λ text. IsAcceptedText g.now from to text.items) }
+    // It is no longer than the texts that the reader takes.
+    ensures short { IfOk result (λ text. length text.items ≤ 2 ^ 30) }
 {
     let found = least(alloc, g, from, to)?;
     let mut text = Vec::new(alloc);

@@ -1,4 +1,4 @@
-use Rattle.std.proofs.Common.{◌≡◌, ◌∙◌, ap, sym, refl, Bool, false, Some, length, ◌&&◌, List, subst}
+use Rattle.std.proofs.Common.{◌≡◌, ◌∙◌, sym, false, Some, length, ◌&&◌, List, subst}
 use Rattle.grid_moves.specs.declared.Cell.{Cell}
 use Rattle.potential_check.specs.Accepted.{ends_at, is_cost}
 use Rattle.potential_check.specs.Judged.{JudgesWalk}

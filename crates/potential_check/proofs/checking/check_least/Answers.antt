@@ -1,9 +1,7 @@
 use Rattle.std.proofs.Common.{◌∙◌, sym, ap, true, ◌≡◌}
-use Rattle.root2_cost.specs.declared.Cost.{Cost}
 use Rattle.root2_cost.specs.declared.Signed.{Signed}
 use Rattle.root2_cost.specs.Sums.{no_cost}
 use Rattle.potential_check.specs.Accepted.{ends_at_cost, is_value, starts_at_nothing}
-use Rattle.potential_check.specs.Judged.{JudgesWalk}
 use Rattle.potential_check.proofs.Judging.{judged_least, judged_move, right_walk}
 use Rattle.potential_check.proofs.checking.check_least.Goals as goal
 

@@ -1,5 +1,4 @@
-use Rattle.std.proofs.Common.{◌≡◌, ◌∙◌, ap, sym, subst, refl, true, false, List, ℕ}
-use Rattle.std.specs.Str.{bytes_eq}
+use Rattle.std.proofs.Common.{◌∙◌, ap, sym, subst, true, false}
 use Rattle.text_line.specs.Left.{Left}
 use Rattle.potential_check.specs.declared.fault.CertFault.TheVariants.{Line}
 use Rattle.potential_check.specs.Text.{AreShort, at_size, at_version}

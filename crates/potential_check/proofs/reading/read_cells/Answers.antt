@@ -1,8 +1,7 @@
-use Rattle.std.proofs.Common.{◌≡◌, ◌+◌, ◌∙◌, ap, sym, arith, refl, true, false, List, ◌++◌, ◌∷◌, [], ℕ, Some}
+use Rattle.std.proofs.Common.{◌+◌, ◌∙◌, ap, sym, arith, false, List, ◌++◌, ◌∷◌, [], ℕ}
 use Rattle.std.proofs.lemmas.Result.{err_from_is_err_and}
 use Rattle.std.specs.List.{list_all}
 use Rattle.grid_moves.specs.declared.Cell.{Cell}
-use Rattle.grid_moves.specs.Grid.{cell_number}
 use Rattle.potential_check.specs.declared.fault.CertFault.{CertFault}
 use Rattle.potential_check.specs.Certificate.{lies_inside}
 use Rattle.potential_check.specs.Text.{State, in_cells, next, read_left, step_fault}

@@ -1,9 +1,8 @@
-use Rattle.std.proofs.Common.{◌≡◌, ◌+◌, ◌∙◌, ap, sym, arith, refl, true, false, List, ◌++◌, ◌∷◌, [], ℕ, Some}
+use Rattle.std.proofs.Common.{◌+◌, ◌∙◌, ap, sym, arith, true, false, List, ◌++◌, ◌∷◌, [], ℕ}
 use Rattle.std.proofs.lemmas.Result.{err_from_is_err_and}
 use Rattle.std.specs.List.{list_all}
 use Rattle.root2_cost.specs.declared.Cost.{Cost}
 use Rattle.grid_moves.specs.declared.Cell.{Cell}
-use Rattle.grid_moves.specs.Grid.{cell_number}
 use Rattle.potential_check.specs.declared.certificate.Claim.TheVariants.{Least}
 use Rattle.potential_check.specs.declared.fault.CertFault.{CertFault}
 use Rattle.potential_check.specs.declared.fault.CertFault.TheVariants.{Line}

@@ -1,4 +1,4 @@
-use Rattle.std.proofs.Common.{◌≡◌, true, length, ℕ}
+use Rattle.std.proofs.Common.{◌≡◌, true, length}
 use Rattle.std.specs.List.{list_all}
 use Rattle.potential_check.specs.Certificate.{are_points, cells_of, is_small, lies_inside}
 use Rattle.potential_check.specs.Text.{AreShort, in_values, read_left}

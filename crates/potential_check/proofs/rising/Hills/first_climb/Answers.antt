@@ -1,5 +1,5 @@
-use Rattle.std.proofs.Common.{◌≡◌, ◌+◌, ◌-◌, ◌≤◌, ◌∙◌, ap, sym, arith, Some, None}
-use Rattle.potential_check.specs.Moves.{first_in_row, first_in_rows}
+use Rattle.std.proofs.Common.{◌≡◌, ◌-◌, ◌∙◌, ap, sym, arith}
+use Rattle.potential_check.specs.Moves.{first_in_rows}
 use Rattle.potential_check.specs.Rising.{climbs, height_at}
 use Rattle.potential_check.proofs.Climbing.{or_first, or_second, rows_end, rows_step}
 use Rattle.potential_check.proofs.rising.Hills.first_climb.Goals as goal

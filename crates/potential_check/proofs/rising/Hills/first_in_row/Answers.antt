@@ -1,9 +1,6 @@
-use Rattle.std.proofs.Common.{◌≡◌, ◌+◌, ◌-◌, ◌≤◌, ◌∙◌, ap, sym, refl, arith, Some, None, subst, ℕ}
-use Rattle.std.specs.Prelude.{Option}
+use Rattle.std.proofs.Common.{◌≡◌, ◌+◌, ◌-◌, ◌∙◌, ap, sym, refl, arith, Some, None, subst, ℕ}
 use Rattle.grid_moves.specs.declared.Cell.{Cell}
-use Rattle.grid_moves.specs.Grid.{GridData}
 use Rattle.grid_moves.specs.Move.{all_dirs}
-use Rattle.grid_moves.specs.Around.{IsBefore}
 use Rattle.potential_check.specs.Moves.{first_ahead, first_in_row}
 use Rattle.potential_check.specs.Rising.{IsColumn, climbs, height_at}
 use Rattle.potential_check.proofs.Reaching.{above_low, before_one, rows_next, rows_off, rows_taken}

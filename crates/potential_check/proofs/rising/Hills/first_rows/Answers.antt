@@ -1,5 +1,4 @@
-use Rattle.std.proofs.Common.{◌+◌, ◌≤◌, arith, refl}
-use Rattle.grid_moves.specs.Around.{IsBefore}
+use Rattle.std.proofs.Common.{arith, refl}
 use Rattle.potential_check.proofs.Reaching.{reach_begin, reach_next, reach_past, reach_row}
 use Rattle.potential_check.proofs.rising.Hills.first_rows.Goals as goal
 

@@ -1,4 +1,4 @@
-use Rattle.std.proofs.Common.{rules, ◌∙◌, ap, refl, ◌≡◌, w64}
+use Rattle.std.proofs.Common.{rules, ◌∙◌, ap, ◌≡◌, w64}
 use Rattle.std.specs.Prelude.{Option, ℤ, FitsSigned}
 use Rattle.std.specs.Option.{option_or}
 use Rattle.grid_moves.specs.declared.Cell.{Cell}
@@ -8,7 +8,7 @@ use Rattle.grid_moves.specs.Move.{legal_ahead}
 use Rattle.potential_check.specs.Rising.{steep_move, towards}
 use Rattle.potential_check.proofs.Choices.{eight}
 use Rattle.potential_check.proofs.Steep.{passed}
-use Rattle.potential_check.proofs.rising.first_steep_from.Goals as goal
+use Rattle.potential_check.proofs.rising.first_steep_around.Goals as goal
 
 pub returns : goal.returns
 returns c =

@@ -1,0 +1,117 @@
+-- The digits that a line begins with.
+use Rattle.std.proofs.Common.{◌≡◌, ℕ, ◌+◌, ◌*◌, ◌-◌, ◌^◌, ◌<◌, ◌≤◌, inl, inr, Bool, true, false, not, List, [], ◌∷◌, length, take, drop, get_or, refl, ap, sym, ◌∙◌, arith}
+use Rattle.std.specs.Prelude.{Some, None, nat_le, nat_lt}
+use Rattle.std.specs.Char.{is_ascii_digit}
+use Rattle.std.specs.List.{list_all, position_or_len}
+use Rattle.std.proofs.lemmas.Bool.Decides.{nat_tests}
+use Rattle.std.proofs.lemmas.List.{get_or-take, length-take, length-take-le, take_more}
+use Rattle.std.proofs.lemmas.List.Sums.{AllPass-from_list_all, passes_at_first, position_or_len_is}
+use Rattle.text_line.specs.Numbers.{number_of, value_of}
+use Rattle.text_line.proofs.Digits.{after_append, digit_value_is, value_of-lt}
+use Rattle.potential_check.specs.Forms.{digits_ahead, number_ahead}
+use Rattle.potential_check.proofs.Entries.{le_true, lt_is, lt_not, tested}
+use Rattle.potential_check.proofs.Words.{all_pushed}
+
+-- a byte that is no digit
+abbrev other : ℕ → Bool
+other byte = not (is_ascii_digit byte)
+
+-- the first `count` bytes of a line are digits
+abbrev pub AreDigits : ℕ → List ℕ → Type 0
+AreDigits count line = list_all is_ascii_digit (take count line) ≡ true
+
+-- one more digit
+pub digits_more : (count : ℕ) (line : List ℕ) → count < length line → AreDigits count line
+    → is_ascii_digit (get_or line count 0) ≡ true → AreDigits (count + 1) line
+digits_more count line inside digits digit =
+    ap (λ (l : List ℕ). list_all is_ascii_digit l) (take_more line count 0 inside)
+    ∙ all_pushed is_ascii_digit (take count line) (get_or line count 0) digits digit
+
+pub value_more : (count : ℕ) (line : List ℕ) → count < length line
+    → is_ascii_digit (get_or line count 0) ≡ true
+    → value_of (take (count + 1) line) ≡ value_of (take count line) * 10 + (get_or line count 0 - 48)
+value_more count line inside digit =
+    ap value_of (take_more line count 0 inside)
+    ∙ after_append 0 (take count line) (get_or line count 0 ∷ [])
+    ∙ ap (λ (d : ℕ). value_of (take count line) * 10 + d) (digit_value_is (get_or line count 0) digit)
+
+-- the value of so many digits
+pub value_low : (most count : ℕ) (line : List ℕ) → count ≤ most → AreDigits count line
+    → value_of (take count line) < 10 ^ most
+value_low most count line few digits =
+    value_of-lt most (take count line) digits (simp length-take (omega arith))
+
+each_digit : (count : ℕ) (line : List ℕ) → count ≤ length line → AreDigits count line → (k : ℕ) → k < count
+    → other (get_or line k 0) ≡ false
+each_digit count line inside digits k less =
+    let passes = AllPass-from_list_all is_ascii_digit (take count line) digits k 0
+    (omega (arith, length-take-le count line)) in
+    ap not (ap is_ascii_digit (sym (get_or-take count line k 0 less)) ∙ passes)
+
+-- digits that end at another byte, or with the line
+ahead_is : (count : ℕ) (line : List ℕ) → count ≤ length line → AreDigits count line
+    → (count < length line → is_ascii_digit (get_or line count 0) ≡ false) → digits_ahead line ≡ count
+ahead_is count line inside digits stops =
+    let at : position_or_len other line ≡ count =
+    position_or_len_is other line count 0 inside (each_digit count line inside digits)
+    (λ less. ap not (stops less)) in
+    elim (tested (nat_lt (position_or_len other line) (length line))) [
+      | inl less ↦ rw less at
+      | inr end ↦ rw end (omega (arith, at, inside, lt_not (position_or_len other line) (length line) end))
+    ]
+
+-- more digits than these
+ahead_many : (count : ℕ) (line : List ℕ) → count < length line → AreDigits (count + 1) line
+    → count < digits_ahead line
+ahead_many count line inside digits = elim (tested (nat_lt (position_or_len other line) (length line))) [
+  | inl less ↦ rw less (later (lt_is (position_or_len other line) (length line) less))
+  | inr end ↦ rw end inside
+]
+  where
+    later : position_or_len other line < length line → count < position_or_len other line
+    later less = elim (tested (nat_lt count (position_or_len other line))) [
+      | inl more ↦ lt_is count (position_or_len other line) more
+      | inr most ↦ absurd (
+          let at = passes_at_first other line 0 less in
+          let digit = each_digit (count + 1) line (omega arith) digits (position_or_len other line)
+          (omega (arith, lt_not count (position_or_len other line) most)) in
+          cc)
+    ]
+
+-- what is read of them
+pub number_read : (most count : ℕ) (line : List ℕ) → 0 < count → count ≤ most → most ≤ 9
+    → count ≤ length line → AreDigits count line
+    → (count < length line → is_ascii_digit (get_or line count 0) ≡ false)
+    → number_ahead most line ≡ Some (value_of (take count line), drop count line)
+unfolding number_of
+number_read most count line some few low inside digits stops =
+    rw (
+      ahead_is count line inside digits stops,
+      le_true count most few,
+      length-take-le count line inside,
+      le_true 1 count (omega arith),
+      le_true count 9 (omega arith),
+      digits,
+    ) refl
+
+pub no_digit : (most : ℕ) (line : List ℕ) → (0 < length line → is_ascii_digit (get_or line 0 0) ≡ false)
+    → number_ahead most line ≡ None
+unfolding number_of
+no_digit most line stops =
+    rw (
+      ahead_is 0 line (omega arith) refl stops,
+      le_true 0 most (omega arith),
+    ) refl
+
+pub too_many : (most : ℕ) (line : List ℕ) → most < length line → AreDigits (most + 1) line
+    → number_ahead most line ≡ None
+too_many most line inside digits =
+    rw (le_false (digits_ahead line) most (ahead_many most line inside digits)) refl
+  where
+    le_false : (m n : ℕ) → n < m → nat_le m n ≡ false
+    le_false m n h = grind (arith, nat_tests)
+
+-- there is room for one more digit
+pub value_fits : (most count : ℕ) (line : List ℕ) → count < most → most ≤ 9 → AreDigits count line
+    → value_of (take count line) < 10 ^ 8
+value_fits most count line few low digits = value_low 8 count line (omega arith) digits
