@@ -1,5 +1,5 @@
 -- Rows that a loop fills, column by column.
-use Rattle.std.proofs.Common.{◌≡◌, ◌≢◌, ℕ, suc, ◌+◌, ◌-◌, ◌<◌, ◌≤◌, ◌⊎◌, inl, inr, arith, Bool, true, false, ◌&&◌, ◌||◌, List, length, refl, ap, sym, ◌∙◌, below_more, get_or-set_other, get_or-set_same, zero, subst, w16, to_z, of_z}
+use Rattle.std.proofs.Common.{◌≡◌, ◌≢◌, ℕ, suc, ◌+◌, ◌<◌, ◌≤◌, arith, Bool, true, false, ◌&&◌, ◌||◌, List, length, refl, ap, sym, ◌∙◌, below_more, get_or-set_other, get_or-set_same, zero, subst, w16, to_z, of_z}
 use Rattle.std.specs.Prelude.{ℤ, pos, negsuc, slice_set, nat_lt}
 use Rattle.std.proofs.lemmas.List.{get_or_past}
 use Rattle.std.proofs.lemmas.Int.{ints}
@@ -28,7 +28,7 @@ pub whole_row : (g : GridData) (y n : ℕ) (row : List Bool) → length row ≡ 
     → flag row 0 ≡ false → flag row (g.width + 1) ≡ false
     → ((k : ℕ) → k < n → flag row (k + 1) ≡ is_free g (record { x = k; y = y })) → IsFlagRow g y row
 whole_row g y n row long all first last read =
-    record { long = long; border = first; cells = λ x. by_test x (nat_lt x n) refl; }
+    record { long = long; border = first; cells = λ x. by_test x (nat_lt x n) refl }
   where
     outside : (x : ℕ) → g.width ≤ x → is_free g (record { x = x; y = y }) ≡ false
     outside x h = by_flag (is_free g (record { x = x; y = y })) refl
@@ -87,7 +87,8 @@ told_across true l mark forced diagonal right left next beside across r is e m p
   where
     marks : mark ≡ (forced || (diagonal && (tells_mark beside || tells_mark across)))
     marks = m ∙ rw (
-      p, q,
+      p,
+      q,
       same_value beside beside (short refl).right_is refl,
       same_value across across (short refl).left_is refl,
     ) refl

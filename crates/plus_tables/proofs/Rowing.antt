@@ -1,6 +1,6 @@
 -- Rows of flags and of entries are those of the grid.
 use Rattle.std.proofs.Common.{◌≡◌, ℕ, zero, suc, ◌+◌, ◌-◌, ◌<◌, ◌≤◌, arith, Bool, true, false, not, ◌&&◌, ◌||◌, List, length, refl, ap, sym, ◌∙◌, subst}
-use Rattle.std.specs.Prelude.{ℤ, pos, Option, Some, None, option_and_then, is_some, nat_lt}
+use Rattle.std.specs.Prelude.{ℤ, Option, Some, None, option_and_then, is_some, nat_lt}
 use Rattle.std.proofs.lemmas.Bool.Decides.{nat_tests}
 use Rattle.grid_moves.specs.declared.Cell.{Cell}
 use Rattle.grid_moves.specs.declared.Corner.{Corner}
@@ -8,7 +8,7 @@ use Rattle.grid_moves.specs.declared.Corner.TheVariants.{Never, One}
 use Rattle.grid_moves.specs.declared.Dir.{Dir}
 use Rattle.grid_moves.specs.declared.Dir.TheVariants.{N, NE, E, SE, S, SW, W, NW}
 use Rattle.grid_moves.specs.Grid.{GridData, IsGrid, is_free, is_inside}
-use Rattle.grid_moves.specs.Move.{ahead, before, column_ahead, row_ahead, is_free_cell, is_open, is_passable, legal_ahead}
+use Rattle.grid_moves.specs.Move.{ahead, before, column_ahead, row_ahead, is_free_cell, is_open, legal_ahead}
 use Rattle.grid_moves.proofs.Legal.{free_inside, legal_is, same_cell}
 use Rattle.pruning.specs.declared.turns.Side.{Side}
 use Rattle.pruning.specs.declared.turns.Side.TheVariants.{Right, Left}
@@ -57,7 +57,7 @@ module _ (g : GridData) (whole : IsGrid g) where
   flag_before n o row is lies (suc x) = flag_there n o row is lies x (suc x) (omega arith)
 
   itself : (y : ℕ) → IsRowAt (Some y) y
-  itself y = record { some = λ k e. number_of y k e; none = λ e. absurd (cc); }
+  itself y = record { some = λ k e. number_of y k e; none = λ e. absurd (cc) }
     where
       number_of : (m k : ℕ) → Some m ≡ Some k → m ≡ k
       number_of m k e = ap (λ (o : Option ℕ). value o) e
@@ -147,7 +147,7 @@ parts_of (Some m) (Some n) w e =
 parts_of (Some m) None w e = absurd (cc)
 parts_of None o w e = absurd (cc)
 
-value_is : (m k : ℕ) → Some m ≡ Some k → m ≡ k
+pub value_is : (m k : ℕ) → Some m ≡ Some k → m ≡ k
 value_is m k e = ap (λ (o : Option ℕ). value o) e
   where
     value : Option ℕ → ℕ
@@ -216,9 +216,11 @@ module _ (g : GridData) (whole : IsGrid g) (c : Cell) (d : Dir) where
     mark_across : (w : Cell) → legal_ahead g c d ≡ Some w
         → mark_by forced right left d (place_after d c.x) ≡ is_mark_by g (table_entry g) d w
     mark_across w e = by_parity d
-        (λ h. rw (next_flag y forced w e (lies w e) forced_is,
-        next_number y right (turn Right d) w e (lies w e) (right_is h),
-        next_number y left (turn Left d) w e (lies w e) (left_is h)) refl)
+        (λ h. rw (
+          next_flag y forced w e (lies w e) forced_is,
+          next_number y right (turn Right d) w e (lies w e) (right_is h),
+          next_number y left (turn Left d) w e (lies w e) (left_is h),
+        ) refl)
         (λ h. rw (h, next_flag y forced w e (lies w e) forced_is) refl)
 
     pub told_entry : told legal (mark_by forced right left d (place_after d c.x)) (number ahead (place_after d c.x))
@@ -312,14 +314,14 @@ module _ (g : GridData) (whole : IsGrid g) (y : ℕ) (above here below forced : 
       (forced_is : IsForcedRow g y d forced) (long : length out ≡ g.width + 2)
       (are_told : (x : ℕ) → x < length out - 2 → IsToldAlong here forced d out x)
       (same : (x : ℕ) → (flag here (x + 1) && flag here (place_after d x)) ≡ legal_by g.corner above here below d x)
-      where
-    at_column : (x : ℕ) → x < g.width → ((w : Cell) → legal_ahead g (record { x = x; y = y }) d ≡ Some w
-        → number out (place_after d x) ≡ table_entry g w d)
-        → number out (x + 1) ≡ table_entry g (record { x = x; y = y }) d
-    at_column x within next =
-        along_one d straight forced_is (record { x = x; y = y }) refl
-        (same x ∙ row_legal g whole y above here below around d g.corner refl (record { x = x; y = y }) refl)
-        (λ w e. same_row d along (record { x = x; y = y }) w refl e) next (are_told x (omega arith))
+    where
+      at_column : (x : ℕ) → x < g.width → ((w : Cell) → legal_ahead g (record { x = x; y = y }) d ≡ Some w
+          → number out (place_after d x) ≡ table_entry g w d)
+          → number out (x + 1) ≡ table_entry g (record { x = x; y = y }) d
+      at_column x within next =
+          along_one d straight forced_is (record { x = x; y = y }) refl
+          (same x ∙ row_legal g whole y above here below around d g.corner refl (record { x = x; y = y }) refl)
+          (λ w e. same_row d along (record { x = x; y = y }) w refl e) next (are_told x (omega arith))
 
   whole_entries : (d : Dir) → ((x : ℕ) → x < g.width → number out (x + 1) ≡ table_entry g (record { x = x; y = y }) d)
       → IsEntryRow g y d out

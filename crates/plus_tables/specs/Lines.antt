@@ -1,5 +1,5 @@
 -- What the sweeps keep from row to row.
-use Rattle.std.specs.Prelude.{◌≡◌, ℕ, ◌+◌, ◌<◌, Bool, ◌&&◌, not, length}
+use Rattle.std.specs.Prelude.{◌≡◌, ℕ, ◌+◌, ◌<◌, Bool, false, ◌&&◌, not, length, replicate}
 use Rattle.grid_moves.specs.declared.Cell.{Cell}
 use Rattle.grid_moves.specs.declared.Dir.{Dir}
 use Rattle.grid_moves.specs.declared.Dir.TheVariants.{N, E, SE, S, SW, W}
@@ -9,6 +9,7 @@ use Rattle.pruning.specs.declared.turns.Side.TheVariants.{Right, Left}
 use Rattle.pruning.specs.Turns.{turn}
 use Rattle.plus_tables.specs.declared.lines.Line.{Line}
 use Rattle.plus_tables.specs.declared.lines.Band.{Band}
+use Rattle.plus_tables.specs.declared.lines.Rows.{Rows}
 use Rattle.plus_tables.specs.Rows.{IsFlagRow, IsEntryRow, IsRowAt, AreRowsAround}
 use Rattle.plus_tables.specs.Sweep.{is_row, is_upward}
 
@@ -61,3 +62,19 @@ pub record AreBelow (g : GridData) (y : ℕ) (line : Line) : Type 0 where
   pub straight : IsEntryRow g y S line.straight.items
   pub right : IsEntryRow g y SW line.right.items
   pub left : IsEntryRow g y SE line.left.items
+
+-- all that is kept before row y is swept for d and the directions beside it
+pub record IsKept (g : GridData) (d : Dir) (y : ℕ) (rows : Rows) : Type 0 where
+  pub ready : IsReady g d y rows.band rows.last
+  pub long : IsLong g rows.this
+  pub forced : length rows.forced.items ≡ g.width + 2
+
+-- before any row is: no flag is set
+pub record IsBlank (g : GridData) (rows : Rows) : Type 0 where
+  pub far : rows.band.far.items ≡ replicate (g.width + 2) false
+  pub next : rows.band.next.items ≡ replicate (g.width + 2) false
+  pub here : rows.band.here.items ≡ replicate (g.width + 2) false
+  pub back : rows.band.back.items ≡ replicate (g.width + 2) false
+  pub last : IsLong g rows.last
+  pub this : IsLong g rows.this
+  pub forced : length rows.forced.items ≡ g.width + 2

@@ -52,7 +52,7 @@ open_in ring NW = ring.nw
 abbrev pub can_by : Corner → Ring → Dir → Bool
 can_by corner ring d =
     if is_diagonal d then open_in ring d
-        && is_passable corner (open_in ring (turn Left d)) (open_in ring (turn Right d))
+    && is_passable corner (open_in ring (turn Left d)) (open_in ring (turn Right d))
     else open_in ring d
 
 -- a neighbour is forced at a free cell, told the cells around it
@@ -112,9 +112,9 @@ abbrev pub IsToldAt : Corner → List Bool → List Bool → List Bool → List 
     → List ℤ → ℕ → Type 0
 IsToldAt corner above here below forced ahead right left d out x =
     (legal_by corner above here below d x ≡ true → AreShort (number ahead (place_after d x))
-        (number right (place_after d x)) (number left (place_after d x)))
+    (number right (place_after d x)) (number left (place_after d x)))
     → number out (x + 1) ≡ told (legal_by corner above here below d x) (mark_by forced right left d (place_after d x))
-        (number ahead (place_after d x))
+    (number ahead (place_after d x))
 
 -- and so are those of so many columns
 abbrev pub AreToldBelow : Corner → List Bool → List Bool → List Bool → List Bool → List ℤ → List ℤ → List ℤ → Dir
@@ -128,7 +128,7 @@ abbrev pub IsToldAlong : List Bool → List Bool → Dir → List ℤ → ℕ �
 IsToldAlong here forced d out x =
     ((flag here (x + 1) && flag here (place_after d x)) ≡ true → IsShort (number out (place_after d x)))
     → number out (x + 1) ≡ told (flag here (x + 1) && flag here (place_after d x)) (flag forced (place_after d x))
-        (number out (place_after d x))
+    (number out (place_after d x))
 
 -- n is the number of the row that lies there, or of none on the map where none does
 pub record IsRowAt (there : Option ℕ) (n : ℕ) : Type 0 where

@@ -34,6 +34,16 @@ pub struct Band {
     pub back: Vec<bool>,
 }
 
+/// All that a sweep keeps: the rows of flags, the entries of the row that was swept last, and room for those of the
+/// next and for where neighbours are forced.
+#[derive(Drop)]
+pub struct Rows {
+    pub band: Band,
+    pub last: Line,
+    pub this: Line,
+    pub forced: Vec<bool>,
+}
+
 // A row of numbers 0.
 fn numbers(alloc: Global, width: u16) -> Result<Vec<i16>, NoMemory>
     requires { width ≤ 4096 }
@@ -42,8 +52,8 @@ fn numbers(alloc: Global, width: u16) -> Result<Vec<i16>, NoMemory>
     vec![in alloc; 0i16; width as usize + 2]
 }
 
-/// A row in which no cell is free.
-pub fn blocked(alloc: Global, width: u16) -> Result<Vec<bool>, NoMemory>
+// A row in which no cell is free.
+fn blocked(alloc: Global, width: u16) -> Result<Vec<bool>, NoMemory>
     requires { width ≤ 4096 }
     ensures { IfOk result (λ row. row.items ≡ replicate (width + 2) false) }
 {
@@ -51,8 +61,8 @@ pub fn blocked(alloc: Global, width: u16) -> Result<Vec<bool>, NoMemory>
 }
 
 impl Line {
-    /// A line of numbers 0.
-    pub fn blank<T: Terrain>(alloc: Global, t: &T) -> Result<Line, NoMemory>
+    // A line of numbers 0.
+    fn blank<T: Terrain>(alloc: Global, t: &T) -> Result<Line, NoMemory>
         ensures { IfOk result (λ line. lines.IsLong (T.grid t.now) line) }
     {
         let width = t.width();
@@ -63,6 +73,55 @@ impl Line {
             east: numbers(alloc, width)?,
             west: numbers(alloc, width)?,
         })
+    }
+}
+
+impl Band {
+    // Rows in which no cell is free.
+    fn blank<T: Terrain>(alloc: Global, t: &T) -> Result<Band, NoMemory>
+        ensures far { IfOk result (λ band. band.far.items ≡ replicate ((T.grid t.now).width + 2) false) }
+        ensures next { IfOk result (λ band. band.next.items ≡ replicate ((T.grid t.now).width + 2) false) }
+        ensures here { IfOk result (λ band. band.here.items ≡ replicate ((T.grid t.now).width + 2) false) }
+        ensures back { IfOk result (λ band. band.back.items ≡ replicate ((T.grid t.now).width + 2) false) }
+    {
+        let width = t.width();
+        Ok(Band {
+            far: blocked(alloc, width)?,
+            next: blocked(alloc, width)?,
+            here: blocked(alloc, width)?,
+            back: blocked(alloc, width)?,
+        })
+    }
+}
+
+impl Rows {
+    /// Rows of flags of which none is set, and entries 0.
+    pub fn blank<T: Terrain>(alloc: Global, t: &T) -> Result<Rows, NoMemory>
+        ensures { IfOk result (λ rows. lines.IsBlank (T.grid t.now) rows) }
+    {
+        let width = t.width();
+        Ok(Rows {
+            band: Band::blank(alloc, t)?,
+            last: Line::blank(alloc, t)?,
+            this: Line::blank(alloc, t)?,
+            forced: blocked(alloc, width)?,
+        })
+    }
+
+    /// Makes the row behind the one to be swept next, and keeps the entries of that which was swept now.
+    pub fn go_on(&mut self)
+        ensures far { self.new.band.far.items ≡ self.old.band.next.items }
+        ensures next { self.new.band.next.items ≡ self.old.band.here.items }
+        ensures here { self.new.band.here.items ≡ self.old.band.back.items }
+        ensures back { self.new.band.back.items ≡ self.old.band.far.items }
+        ensures last { self.new.last ≡ self.old.this }
+        ensures this { self.new.this ≡ self.old.last }
+        ensures forced { self.new.forced.items ≡ self.old.forced.items }
+    {
+        mem::swap(&mut self.band.far, &mut self.band.next);
+        mem::swap(&mut self.band.next, &mut self.band.here);
+        mem::swap(&mut self.band.here, &mut self.band.back);
+        mem::swap(&mut self.last, &mut self.this);
     }
 }
 
@@ -92,7 +151,7 @@ fn tell_across<T: Terrain>(
     ensures { (y m : ℕ) (e f : _) → spec.IsRowAt (moves.row_ahead d y) m
         → spec.AreRowsAround (T.grid t.now) y rows.entry.above.now rows.entry.here.now rows.entry.below.now
         → (m < 4096 → spec.AreRowsAround (T.grid t.now) m beyond.entry.above.now beyond.entry.here.now
-            beyond.entry.below.now)
+        beyond.entry.below.now)
         → spec.IsEntryRow (T.grid t.now) m d next.entry.ahead.now
         → spec.IsEntryRow (T.grid t.now) m e next.entry.right.now
         → spec.IsEntryRow (T.grid t.now) m f next.entry.left.now
@@ -115,7 +174,14 @@ fn tell_east<T: Terrain>(t: &T, rows: Three, forced: &mut [bool], out: &mut [i16
     ensures { (y : ℕ) → spec.AreRowsAround (T.grid t.now) y rows.entry.above.now rows.entry.here.now
         rows.entry.below.now → spec.IsEntryRow (T.grid t.now) y Dir.E out.new }
 {
-    force(t.corner(), rows.above, rows.here, rows.below, Dir::E, forced);
+    force(
+        t.corner(),
+        rows.above,
+        rows.here,
+        rows.below,
+        Dir::E,
+        forced,
+    );
     east(rows.here, forced, out);
 }
 
@@ -130,7 +196,14 @@ fn tell_west<T: Terrain>(t: &T, rows: Three, forced: &mut [bool], out: &mut [i16
     ensures { (y : ℕ) → spec.AreRowsAround (T.grid t.now) y rows.entry.above.now rows.entry.here.now
         rows.entry.below.now → spec.IsEntryRow (T.grid t.now) y Dir.W out.new }
 {
-    force(t.corner(), rows.above, rows.here, rows.below, Dir::W, forced);
+    force(
+        t.corner(),
+        rows.above,
+        rows.here,
+        rows.below,
+        Dir::W,
+        forced,
+    );
     west(rows.here, forced, out);
 }
 

@@ -19,7 +19,11 @@ use pruning::is_diagonal;
 fn from_before(entry: i16) -> i16
     ensures { IsShort entry → result ≡ local.from_before entry }
 {
-    if 0 < entry { entry.wrapping_add(1) } else { entry.wrapping_sub(1) }
+    if 0 < entry {
+        entry.wrapping_add(1)
+    } else {
+        entry.wrapping_sub(1)
+    }
 }
 
 // The entry of a cell, told whether the move is legal, whether the next cell is marked, and its entry.

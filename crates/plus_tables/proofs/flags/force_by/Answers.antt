@@ -1,4 +1,4 @@
-use Rattle.std.proofs.Common.{◌≡◌, ◌+◌, ◌<◌, length, arith, ap, ◌∙◌}
+use Rattle.std.proofs.Common.{◌+◌, ◌<◌, length, arith, ap, ◌∙◌}
 use Rattle.plus_tables.specs.declared.flags.Ring.{Ring}
 use Rattle.plus_tables.specs.Rows.{forced_by, ring_of}
 use Rattle.plus_tables.proofs.Growing.{flag_more}

@@ -1,4 +1,4 @@
-use Rattle.std.proofs.Common.{◌≡◌, ◌+◌, ◌<◌, length, arith, sym, ◌∙◌}
+use Rattle.std.proofs.Common.{◌≡◌, ◌+◌, length, arith}
 use Rattle.grid_moves.specs.Grid.{GridData}
 use Rattle.plus_tables.proofs.Growing.{whole_row}
 use Rattle.plus_tables.proofs.flags.read_row.Goals as goal

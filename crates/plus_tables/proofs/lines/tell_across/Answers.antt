@@ -1,7 +1,5 @@
-use Rattle.std.proofs.Common.{◌≡◌, ℕ, ◌+◌, ◌<◌, Bool, true, false, length, arith, refl, ◌∙◌}
-use Rattle.std.specs.Prelude.{nat_lt}
+use Rattle.std.proofs.Common.{arith}
 use Rattle.grid_moves.specs.Grid.{GridData}
-use Rattle.plus_tables.specs.Rows.{IsForcedRow}
 use Rattle.plus_tables.proofs.Rowing.{forced_if, told_row}
 use Rattle.plus_tables.proofs.lines.tell_across.Goals as goal
 

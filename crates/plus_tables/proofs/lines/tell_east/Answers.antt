@@ -1,4 +1,4 @@
-use Rattle.std.proofs.Common.{ℕ, ◌+◌, length, arith}
+use Rattle.std.proofs.Common.{arith}
 use Rattle.grid_moves.specs.declared.Dir.TheVariants.{E}
 use Rattle.grid_moves.specs.Grid.{GridData}
 use Rattle.plus_tables.proofs.Rowing.{forced_row, east_row}

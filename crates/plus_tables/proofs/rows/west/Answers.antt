@@ -1,4 +1,4 @@
-use Rattle.std.proofs.Common.{◌≡◌, ℕ, ◌+◌, ◌<◌, true, ◌&&◌, length, arith}
+use Rattle.std.proofs.Common.{◌≡◌, ◌+◌, ◌<◌, true, ◌&&◌, length, arith}
 use Rattle.std.specs.Prelude.{ℤ}
 use Rattle.plus_tables.specs.Tables.{IsShort}
 use Rattle.plus_tables.specs.Rows as spec
