@@ -121,46 +121,57 @@ fn force_by(
     requires above { length above.now ≡ length forced.old }
     requires here { length here.now ≡ length forced.old }
     requires below { length below.now ≡ length forced.old }
-    ensures { (x : ℕ) → x < length forced.new - 2
-        → spec.flag forced.new (x + 1) ≡ spec.forced_by corner (spec.ring_of above.now here.now below.now x) d }
+    ensures { spec.AreForced corner above.now here.now below.now d forced.new }
 {
     for x in 0..forced.len() - 2 {
         forced[x + 1] = is_forced(corner, ring_at(above, here, below, x), d);
     }
 }
 
-// The same; each direction has code of its own, in which it is a constant.
-#[inline(always)]
-fn force_told(
-    corner: Corner,
-    above: &[bool],
-    here: &[bool],
-    below: &[bool],
-    d: Dir,
-    forced: &mut [bool],
-)
+// The same where no corner is cut; each direction has code of its own, in which it is a constant.
+#[inline(never)]
+fn force_uncut(above: &[bool], here: &[bool], below: &[bool], d: Dir, forced: &mut [bool])
     requires some { 2 ≤ length forced.old }
     requires above { length above.now ≡ length forced.old }
     requires here { length here.now ≡ length forced.old }
     requires below { length below.now ≡ length forced.old }
-    ensures { (x : ℕ) → x < length forced.new - 2
-        → spec.flag forced.new (x + 1) ≡ spec.forced_by corner (spec.ring_of above.now here.now below.now x) d }
+    ensures { spec.AreForced Corner.Never above.now here.now below.now d forced.new }
 {
     match d {
-        Dir::N => force_by(corner, above, here, below, Dir::N, forced),
-        Dir::NE => force_by(corner, above, here, below, Dir::NE, forced),
-        Dir::E => force_by(corner, above, here, below, Dir::E, forced),
-        Dir::SE => force_by(corner, above, here, below, Dir::SE, forced),
-        Dir::S => force_by(corner, above, here, below, Dir::S, forced),
-        Dir::SW => force_by(corner, above, here, below, Dir::SW, forced),
-        Dir::W => force_by(corner, above, here, below, Dir::W, forced),
-        Dir::NW => force_by(corner, above, here, below, Dir::NW, forced),
+        Dir::N => force_by(Corner::Never, above, here, below, Dir::N, forced),
+        Dir::NE => force_by(Corner::Never, above, here, below, Dir::NE, forced),
+        Dir::E => force_by(Corner::Never, above, here, below, Dir::E, forced),
+        Dir::SE => force_by(Corner::Never, above, here, below, Dir::SE, forced),
+        Dir::S => force_by(Corner::Never, above, here, below, Dir::S, forced),
+        Dir::SW => force_by(Corner::Never, above, here, below, Dir::SW, forced),
+        Dir::W => force_by(Corner::Never, above, here, below, Dir::W, forced),
+        Dir::NW => force_by(Corner::Never, above, here, below, Dir::NW, forced),
+    }
+}
+
+// The same where a corner may be cut.
+#[inline(never)]
+fn force_cut(above: &[bool], here: &[bool], below: &[bool], d: Dir, forced: &mut [bool])
+    requires some { 2 ≤ length forced.old }
+    requires above { length above.now ≡ length forced.old }
+    requires here { length here.now ≡ length forced.old }
+    requires below { length below.now ≡ length forced.old }
+    ensures { spec.AreForced Corner.One above.now here.now below.now d forced.new }
+{
+    match d {
+        Dir::N => force_by(Corner::One, above, here, below, Dir::N, forced),
+        Dir::NE => force_by(Corner::One, above, here, below, Dir::NE, forced),
+        Dir::E => force_by(Corner::One, above, here, below, Dir::E, forced),
+        Dir::SE => force_by(Corner::One, above, here, below, Dir::SE, forced),
+        Dir::S => force_by(Corner::One, above, here, below, Dir::S, forced),
+        Dir::SW => force_by(Corner::One, above, here, below, Dir::SW, forced),
+        Dir::W => force_by(Corner::One, above, here, below, Dir::W, forced),
+        Dir::NW => force_by(Corner::One, above, here, below, Dir::NW, forced),
     }
 }
 
 /// For each column of a row whether a neighbour is forced there after a move, if the cell is free. `above`, `here` and
 /// `below` are the row and the two beside it.
-#[inline(never)]
 pub fn force(
     corner: Corner,
     above: &[bool],
@@ -173,12 +184,11 @@ pub fn force(
     requires above { length above.now ≡ length forced.old }
     requires here { length here.now ≡ length forced.old }
     requires below { length below.now ≡ length forced.old }
-    ensures { (x : ℕ) → x < length forced.new - 2
-        → spec.flag forced.new (x + 1) ≡ spec.forced_by corner (spec.ring_of above.now here.now below.now x) d }
+    ensures { spec.AreForced corner above.now here.now below.now d forced.new }
 {
     match corner {
-        Corner::Never => force_told(Corner::Never, above, here, below, d, forced),
-        Corner::One => force_told(Corner::One, above, here, below, d, forced),
+        Corner::Never => force_uncut(above, here, below, d, forced),
+        Corner::One => force_cut(above, here, below, d, forced),
     }
 }
 
