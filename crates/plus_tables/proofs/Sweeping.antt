@@ -12,6 +12,7 @@ use Rattle.grid_moves.proofs.Legal.{and_both, is_same-cell}
 use Rattle.pruning.proofs.Table.{same_dir}
 use Rattle.plus_tables.specs.Entry.{table_entry}
 use Rattle.plus_tables.specs.Tables.{TablesData, IsWhole, AreSized, AreTablesOf, entry_at, is_on, is_place, tables_with}
+use Rattle.plus_tables.specs.Laid.{with_up, with_down}
 use Rattle.plus_tables.specs.Sweep.{AreSwept, AreRight, is_row, is_upward, above, from_row}
 use Rattle.plus_tables.specs.Rows.{number, IsEntryRow}
 use Rattle.plus_tables.proofs.Short.{table_entry-short, same_value}
@@ -118,7 +119,7 @@ laid_row g among n y t u all swept =
     (ap (λ (m : ℕ). left_part y m c) all ∙ left_part-all g y c inside))
 
 -- a test of three directions and one of five
-three : (d : Dir) → is_downward d ≡ (is_dir d S || is_dir d SE || is_dir d SW)
+three : (d : Dir) → is_downward d ≡ (is_dir d SE || is_dir d S || is_dir d SW)
 three N = refl
 three NE = refl
 three E = refl
@@ -179,49 +180,50 @@ module _ (g : GridData) (x y : ℕ) where
   also done d c e = done c e || is_place c e at d
 
   -- one cell more, for the three directions that lead down
-  pub laid_down : (t u v w z : TablesData) (p q r : ℤ) → AreSwept g (laid is_downward y x) t u
-      → is_on u (record { x = x; y = y }) ≡ true
-      → v ≡ tables_with u (record { x = x; y = y }) S p → w ≡ tables_with v (record { x = x; y = y }) SE q
-      → z ≡ tables_with w (record { x = x; y = y }) SW r → p ≡ table_entry g (record { x = x; y = y }) S
-      → q ≡ table_entry g (record { x = x; y = y }) SE → r ≡ table_entry g (record { x = x; y = y }) SW
-      → AreSwept g (laid is_downward y (x + 1)) t z
+  pub laid_down : (t u z : TablesData) (s se sw : ℤ) → AreSwept g (laid is_downward y x) t u
+      → is_on u (record { x = x; y = y }) ≡ true → z ≡ with_down u (record { x = x; y = y }) s se sw
+      → s ≡ table_entry g (record { x = x; y = y }) S → se ≡ table_entry g (record { x = x; y = y }) SE
+      → sw ≡ table_entry g (record { x = x; y = y }) SW → AreSwept g (laid is_downward y (x + 1)) t z
   unfolding at also
-  laid_down t u v w z p q r swept on e f h i j k =
-      let on_v = stays_on u v S p e on in
-      let on_w = stays_on v w SE q f on_v in
-      same_entries g (also (also (also (laid is_downward y x) S) SE) SW) (laid is_downward y (x + 1)) t z
-      (swept_with g (also (also (laid is_downward y x) S) SE) t w z at SW r
-      (swept_with g (also (laid is_downward y x) S) t v w at SE q
-      (swept_with g (laid is_downward y x) t u v at S p swept on e i) on_v f j) on_w h k)
+  laid_down t u z s se sw swept on made is_s is_se is_sw =
+      let v : TablesData = tables_with u at SE se in
+      let w : TablesData = tables_with v at S s in
+      let on_v = stays_on u v SE se refl on in
+      let on_w = stays_on v w S s refl on_v in
+      same_entries g (also (also (also (laid is_downward y x) SE) S) SW) (laid is_downward y (x + 1)) t z
+      (swept_with g (also (also (laid is_downward y x) SE) S) t w z at SW sw
+      (swept_with g (also (laid is_downward y x) SE) t v w at S s
+      (swept_with g (laid is_downward y x) t u v at SE se swept on refl is_se) on_v refl is_s) on_w made is_sw)
       (λ c d inside. rw (three d, left_part-more x y c)
-      (regroup_three (left_part y x c) (is_same c at) (is_dir d S) (is_dir d SE) (is_dir d SW)))
+      (regroup_three (left_part y x c) (is_same c at) (is_dir d SE) (is_dir d S) (is_dir d SW)))
 
   -- and for the five that lead up or along the row
-  pub laid_up : (t u a b c d z : TablesData) (p q r i j : ℤ) → AreSwept g (laid is_upward y x) t u
-      → is_on u (record { x = x; y = y }) ≡ true
-      → a ≡ tables_with u (record { x = x; y = y }) N p → b ≡ tables_with a (record { x = x; y = y }) NE q
-      → c ≡ tables_with b (record { x = x; y = y }) E r → d ≡ tables_with c (record { x = x; y = y }) W i
-      → z ≡ tables_with d (record { x = x; y = y }) NW j → p ≡ table_entry g (record { x = x; y = y }) N
-      → q ≡ table_entry g (record { x = x; y = y }) NE → r ≡ table_entry g (record { x = x; y = y }) E
-      → i ≡ table_entry g (record { x = x; y = y }) W → j ≡ table_entry g (record { x = x; y = y }) NW
-      → AreSwept g (laid is_upward y (x + 1)) t z
+  pub laid_up : (t u z : TablesData) (n ne e w nw : ℤ) → AreSwept g (laid is_upward y x) t u
+      → is_on u (record { x = x; y = y }) ≡ true → z ≡ with_up u (record { x = x; y = y }) n ne e w nw
+      → n ≡ table_entry g (record { x = x; y = y }) N → ne ≡ table_entry g (record { x = x; y = y }) NE
+      → e ≡ table_entry g (record { x = x; y = y }) E → w ≡ table_entry g (record { x = x; y = y }) W
+      → nw ≡ table_entry g (record { x = x; y = y }) NW → AreSwept g (laid is_upward y (x + 1)) t z
   unfolding at also
-  laid_up t u a b c d z p q r i j swept on e_a e_b e_c e_d e_z is_p is_q is_r is_i is_j =
-      let on_a = stays_on u a N p e_a on in
-      let on_b = stays_on a b NE q e_b on_a in
-      let on_c = stays_on b c E r e_c on_b in
-      let on_d = stays_on c d W i e_d on_c in
+  laid_up t u z n ne e w nw swept on made is_n is_ne is_e is_w is_nw =
+      let a : TablesData = tables_with u at N n in
+      let b : TablesData = tables_with a at NE ne in
+      let c : TablesData = tables_with b at E e in
+      let d : TablesData = tables_with c at W w in
+      let on_a = stays_on u a N n refl on in
+      let on_b = stays_on a b NE ne refl on_a in
+      let on_c = stays_on b c E e refl on_b in
+      let on_d = stays_on c d W w refl on_c in
       same_entries g (also (also (also (also (also (laid is_upward y x) N) NE) E) W) NW)
       (laid is_upward y (x + 1)) t z
-      (swept_with g (also (also (also (also (laid is_upward y x) N) NE) E) W) t d z at NW j
-      (swept_with g (also (also (also (laid is_upward y x) N) NE) E) t c d at W i
-      (swept_with g (also (also (laid is_upward y x) N) NE) t b c at E r
-      (swept_with g (also (laid is_upward y x) N) t a b at NE q
-      (swept_with g (laid is_upward y x) t u a at N p swept on e_a is_p) on_a e_b is_q) on_b e_c is_r)
-      on_c e_d is_i) on_d e_z is_j)
-      (λ v e inside. rw (five e, left_part-more x y v)
-      (regroup_five (left_part y x v) (is_same v at) (is_dir e N) (is_dir e NE) (is_dir e E) (is_dir e W)
-      (is_dir e NW)))
+      (swept_with g (also (also (also (also (laid is_upward y x) N) NE) E) W) t d z at NW nw
+      (swept_with g (also (also (also (laid is_upward y x) N) NE) E) t c d at W w
+      (swept_with g (also (also (laid is_upward y x) N) NE) t b c at E e
+      (swept_with g (also (laid is_upward y x) N) t a b at NE ne
+      (swept_with g (laid is_upward y x) t u a at N n swept on refl is_n) on_a refl is_ne) on_b refl is_e)
+      on_c refl is_w) on_d made is_nw)
+      (λ v i inside. rw (five i, left_part-more x y v)
+      (regroup_five (left_part y x v) (is_same v at) (is_dir i N) (is_dir i NE) (is_dir i E) (is_dir i W)
+      (is_dir i NW)))
 
 -- what is read of a row of entries is the entry
 pub row_value : (g : GridData) → IsGrid g → (x y : ℕ) (d : Dir) (row : List ℤ) (value : ℤ) (k : ℕ) → k ≡ x + 1

@@ -5,3 +5,4 @@ pub mod Sweep
 pub mod Reading
 pub mod Rows
 pub mod Lines
+pub mod Laid

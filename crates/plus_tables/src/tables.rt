@@ -88,6 +88,7 @@ impl Tables {
     ghost use Rattle.plus_tables.specs.Rows.{number};
     ghost use Rattle.plus_tables.specs.Lines.{AreBelow, IsLine, IsLong, downward_row, upward_row};
     ghost use Rattle.plus_tables.specs.Tables.{AreSized, IsWhole, RestsRight, entry_at, is_on, is_place, tables_with};
+    ghost use Rattle.plus_tables.specs.Laid.{with_down, with_up};
 
     /// The number of columns.
     pub fn width(&self) -> u16
@@ -144,6 +145,34 @@ impl Tables {
     {
         let place = entry_place(self.width, c, d);
         self.entries[place] = entry;
+    }
+
+    // Changes the entries of a cell for all directions that lead up or along its row.
+    #[inline(always)]
+    fn put_up(&mut self, c: Cell, n: i16, ne: i16, e: i16, w: i16, nw: i16)
+        requires { is_on self.old c ≡ true }
+        ensures { self.new ≡ with_up self.old c n ne e w nw }
+    {
+        let place = entry_place(self.width, c, Dir::N);
+        let entries = self.entries.as_mut_slice();
+        entries[place] = n;
+        entries[place + 1] = ne;
+        entries[place + 2] = e;
+        entries[place + 6] = w;
+        entries[place + 7] = nw;
+    }
+
+    // Changes those for all directions that lead down.
+    #[inline(always)]
+    fn put_down(&mut self, c: Cell, s: i16, se: i16, sw: i16)
+        requires { is_on self.old c ≡ true }
+        ensures { self.new ≡ with_down self.old c s se sw }
+    {
+        let place = entry_place(self.width, c, Dir::N);
+        let entries = self.entries.as_mut_slice();
+        entries[place + 3] = se;
+        entries[place + 4] = s;
+        entries[place + 5] = sw;
     }
 
     // Whether the next cell is marked for a direction, told by its entries.
@@ -207,11 +236,8 @@ impl Tables {
         for x in 0..self.width {
             let c = Cell { x, y };
             let at = x as usize + 1;
-            self.put(c, Dir::N, line.straight[at]);
-            self.put(c, Dir::NE, line.right[at]);
-            self.put(c, Dir::E, line.east[at]);
-            self.put(c, Dir::W, line.west[at]);
-            self.put(c, Dir::NW, line.left[at]);
+            let (n, ne, nw) = (line.straight[at], line.right[at], line.left[at]);
+            self.put_up(c, n, ne, line.east[at], line.west[at], nw);
         }
     }
 
@@ -246,9 +272,7 @@ impl Tables {
         for x in 0..self.width {
             let c = Cell { x, y };
             let at = x as usize + 1;
-            self.put(c, Dir::S, line.straight[at]);
-            self.put(c, Dir::SE, line.left[at]);
-            self.put(c, Dir::SW, line.right[at]);
+            self.put_down(c, line.straight[at], line.left[at], line.right[at]);
         }
     }
 

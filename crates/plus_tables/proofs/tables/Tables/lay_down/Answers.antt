@@ -24,9 +24,9 @@ loop-x-preserved g c =
     let on : is_on c.loop-x.self at ≡ true = grind (arith, nat_tests) in
     let inside_column : x < grid.width = grind (arith, nat_tests) in
     let inside : is_inside grid at ≡ true = grind (arith, nat_tests) in
-    laid_down grid x y c.args.self.now c.loop-x.self c.put.new.self c.put-in-loop-x.new.self c.put-in-loop-x-2.new.self
+    laid_down grid x y c.args.self.now c.loop-x.self c.put_down.new.self
     (to_z w16 (of_z w16 c.index.result.now)) (to_z w16 (of_z w16 c.index-in-loop-x.result.now)) (to_z w16 (of_z w16 c.index-in-loop-x-2.result.now))
-    c.loop-x.invariant on c.put.ensures c.put-in-loop-x.ensures c.put-in-loop-x-2.ensures
+    c.loop-x.invariant on c.put_down.ensures
     (row_value grid c.requires.whole x y S line.straight.items c.index.result.now (x + 1) refl
     (omega (arith, c.requires.long.straight, inside_column)) c.index.ensures c.requires.told.straight inside)
     (row_value grid c.requires.whole x y SE line.left.items c.index-in-loop-x.result.now (x + 1) refl
