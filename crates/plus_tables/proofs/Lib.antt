@@ -10,3 +10,6 @@ pub mod Stops
 pub mod Goals
 pub mod Told
 pub mod Turning
+pub mod Growing
+pub mod Rowing
+pub mod Lining

@@ -3,3 +3,6 @@ pub mod Local
 pub mod Tables
 pub mod Sweep
 pub mod Reading
+pub mod Rows
+pub mod Lines
+pub mod Laid

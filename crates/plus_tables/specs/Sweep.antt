@@ -1,26 +1,13 @@
 -- What sweeps leave behind.
-use Rattle.std.specs.Prelude.{◌≡◌, ◌≢◌, ℕ, Bool, true, false, ◌&&◌, ◌||◌, nat_lt, nat_le, nat_eq, not, Some}
+use Rattle.std.specs.Prelude.{◌≡◌, ℕ, Bool, true, false, ◌&&◌, ◌||◌, nat_lt, nat_le, nat_eq}
 use Rattle.grid_moves.specs.declared.Cell.{Cell}
 use Rattle.grid_moves.specs.declared.Dir.{Dir}
 use Rattle.grid_moves.specs.declared.Dir.TheVariants.{N, NE, E, SE, S, SW, W, NW}
 use Rattle.grid_moves.specs.Grid.{GridData, is_inside}
-use Rattle.grid_moves.specs.Move.{is_dir, is_same, legal_ahead}
-use Rattle.pruning.specs.declared.turns.Side.{Side}
-use Rattle.pruning.specs.Turns.{turn, is_diagonal}
 use Rattle.plus_tables.specs.Entry.{table_entry}
 use Rattle.plus_tables.specs.Tables.{TablesData, IsWhole, AreSized, entry_at}
 
--- of all entries for d, those at the cells of an area are now the grid's, and every other entry is as before
-pub record IsSwept (g : GridData) (d : Dir) (area : Cell → Bool) (old new : TablesData) : Type 0 where
-  pub sized : AreSized new g
-  pub right : (c : Cell) → is_inside g c ≡ true → area c ≡ true → entry_at new c d ≡ table_entry g c d
-  pub others : (b : Cell) (e : Dir) → is_inside g b ≡ true → (area b && is_dir e d) ≡ false
-      → entry_at new b e ≡ entry_at old b e
-
--- areas: one cell, a row
-abbrev pub is_cell : Cell → Cell → Bool
-is_cell c b = is_same b c
-
+-- the cells of a row
 abbrev pub is_row : ℕ → Cell → Bool
 is_row y b = nat_eq b.y y
 
@@ -56,22 +43,3 @@ pub record AreSwept (g : GridData) (done : Cell → Dir → Bool) (old new : Tab
   pub right : (c : Cell) (d : Dir) → is_inside g c ≡ true → done c d ≡ true
       → entry_at new c d ≡ table_entry g c d
   pub others : (c : Cell) (d : Dir) → is_inside g c ≡ true → done c d ≡ false → entry_at new c d ≡ entry_at old c d
-
--- the direction leads to another row
-abbrev pub is_across : Dir → Bool
-is_across d = not (is_dir d E || is_dir d W)
-
--- e is one of three directions
-abbrev pub is_one_of : Dir → Dir → Dir → Dir → Bool
-is_one_of a b d e = is_dir e a || is_dir e b || is_dir e d
-
--- the entries of a row for three directions
-abbrev pub of_row : ℕ → Dir → Dir → Dir → Cell → Dir → Bool
-of_row y a b d c e = is_row y c && is_one_of a b d e
-
--- the entries in other rows on which those of this row for d rest are the grid's
-pub record RestsElsewhere (t : TablesData) (g : GridData) (y : ℕ) (d : Dir) : Type 0 where
-  pub ahead : (c v : Cell) → c.y ≡ y → legal_ahead g c d ≡ Some v → v.y ≢ y
-      → entry_at t v d ≡ table_entry g v d
-  pub beside : is_diagonal d ≡ true → (c v : Cell) → c.y ≡ y → legal_ahead g c d ≡ Some v → (s : Side)
-      → entry_at t v (turn s d) ≡ table_entry g v (turn s d)

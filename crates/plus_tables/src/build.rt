@@ -1,13 +1,16 @@
 //! Building the tables of a grid, by sweeps from the far end.
 //!
 //! Each entry is told by those at the next cell, so a direction is swept from where its runs end: the five
-//! directions that lead up or along a row go row by row downwards, the three others upwards after them.
-//! Along a row, E goes from its right end and W from its left. A diagonal entry looks at both its components
-//! at the next cell, so these go before it.
+//! directions that lead up or along a row go row by row downwards, the three others upwards after them. A diagonal
+//! entry looks at both its components at the next cell, so a sweep keeps the entries of the row before, and for the
+//! second sweep those along a row are read back.
 
 ghost use Rattle.std.specs.Prelude.{◌≡◌, false};
 ghost use Rattle.grid_moves.specs.Grid.{is_free};
+ghost use Rattle.grid_moves.specs.Around.{IsBefore};
 
+use crate::flags::read_row;
+use crate::lines::{Rows, tell_down, tell_up};
 use crate::tables::Tables;
 use grid_moves::{Cell, Dir, NoMemory, Terrain};
 use std::alloc::Global;
@@ -26,76 +29,75 @@ fn has_cells<T: Terrain>(t: &T) -> bool
     false
 }
 
+// The row before this one; before the first it is 65535, which no map has.
+fn before(y: u16) -> u16
+    ensures { IsBefore y result }
+{
+    y.wrapping_sub(1)
+}
+
 impl Tables {
-    ghost use Rattle.std.specs.Prelude.{◌≡◌, ◌<◌, ◌+◌, IfOk, true, false};
-    ghost use Rattle.grid_moves.specs.Grid.{IsGrid, is_free};
-    ghost use Rattle.grid_moves.specs.Move.{is_dir};
+    ghost use Rattle.std.specs.Prelude.{◌<◌, ◌+◌, ◌-◌, IfOk};
+    ghost use Rattle.grid_moves.specs.Grid.{IsGrid};
     ghost use Rattle.plus_tables.specs.Tables.{AreSized, AreTablesOf};
-    ghost use Rattle.plus_tables.specs.Sweep.{IsSwept, AreRight, RestsElsewhere, is_row, above, from_row};
-
-    // Sweeps a row to the right, for any direction but E.
-    #[inline(always)]
-    fn sweep_right<T: Terrain>(&mut self, t: &T, y: u16, d: Dir)
-        requires whole { IsGrid (T.grid t.now) }
-        requires sized { AreSized self.old (T.grid t.now) }
-        requires inside { y < self.old.height }
-        requires ahead { is_dir d Dir.E ≡ false }
-        requires rests { RestsElsewhere self.old (T.grid t.now) y d }
-        ensures { IsSwept (T.grid t.now) d (is_row y) self.old self.new }
-    {
-        for x in 0..self.width() {
-            self.renew(t, Cell { x, y }, d);
-        }
-    }
-
-    // Sweeps a row to the left, for E.
-    #[inline(always)]
-    fn sweep_left<T: Terrain>(&mut self, t: &T, y: u16)
-        requires whole { IsGrid (T.grid t.now) }
-        requires sized { AreSized self.old (T.grid t.now) }
-        requires inside { y < self.old.height }
-        ensures { IsSwept (T.grid t.now) Dir.E (is_row y) self.old self.new }
-    {
-        for x in (0..self.width()).rev() {
-            self.renew(t, Cell { x, y }, Dir::E);
-        }
-    }
+    ghost use Rattle.plus_tables.specs.Sweep.{AreRight, above, from_row};
+    ghost use Rattle.plus_tables.specs.Lines.{IsBlank, IsKept};
 
     // Sweeps a row for all directions that lead up or along it.
-    #[inline(never)]
-    fn sweep_up<T: Terrain>(&mut self, t: &T, y: u16)
+    fn sweep_row_up<T: Terrain>(&mut self, t: &T, y: u16, rows: &mut Rows)
         requires whole { IsGrid (T.grid t.now) }
         requires inside { y < self.old.height }
         requires above { AreRight self.old (T.grid t.now) (above y) }
-        ensures { AreRight self.new (T.grid t.now) (above (y + 1)) }
+        requires kept { IsKept (T.grid t.now) Dir.N y rows.old }
+        ensures right { AreRight self.new (T.grid t.now) (above (y + 1)) }
+        ensures kept { IsKept (T.grid t.now) Dir.N (y + 1) rows.new }
     {
-        self.sweep_left(t, y);
-        self.sweep_right(t, y, Dir::W);
-        self.sweep_across(t, y, Dir::N, Dir::NE, Dir::NW);
+        read_row(t, y + 1, &mut rows.band.back);
+        tell_up(t, &rows.band, &rows.last, &mut rows.forced, &mut rows.this);
+        self.lay_up(t, y, &rows.this);
+        rows.go_on();
     }
 
     // Sweeps a row for all directions that lead down.
-    #[inline(never)]
-    fn sweep_down<T: Terrain>(&mut self, t: &T, y: u16)
+    fn sweep_row_down<T: Terrain>(&mut self, t: &T, y: u16, rows: &mut Rows)
         requires whole { IsGrid (T.grid t.now) }
         requires inside { y < self.old.height }
         requires below { AreRight self.old (T.grid t.now) (from_row (y + 1)) }
-        ensures { AreRight self.new (T.grid t.now) (from_row y) }
+        requires kept { IsKept (T.grid t.now) Dir.S y rows.old }
+        ensures right { AreRight self.new (T.grid t.now) (from_row y) }
+        ensures kept { 0 < y → IsKept (T.grid t.now) Dir.S (y - 1) rows.new }
     {
-        self.sweep_across(t, y, Dir::S, Dir::SE, Dir::SW);
+        read_row(t, before(y), &mut rows.band.back);
+        tell_down(t, &rows.band, &rows.last, &mut rows.forced, &mut rows.this);
+        self.take_along(y, &mut rows.this.east, &mut rows.this.west);
+        self.lay_down(t, y, &rows.this);
+        rows.go_on();
     }
 
-    // Sweeps all rows.
-    fn sweep<T: Terrain>(&mut self, t: &T)
-        requires sized { AreSized self.old (T.grid t.now) }
+    // Sweeps all rows for all directions that lead up or along them.
+    fn sweep_up<T: Terrain>(&mut self, t: &T, rows: &mut Rows)
         requires whole { IsGrid (T.grid t.now) }
+        requires sized { AreSized self.old (T.grid t.now) }
+        requires blank { IsBlank (T.grid t.now) rows.old }
+        ensures { AreRight self.new (T.grid t.now) (above self.new.height) }
+    {
+        read_row(t, 0, &mut rows.band.here);
+        for y in 0..self.height() {
+            self.sweep_row_up(t, y, rows);
+        }
+    }
+
+    // Sweeps all rows for all directions that lead down.
+    fn sweep_down<T: Terrain>(&mut self, t: &T, rows: &mut Rows)
+        requires whole { IsGrid (T.grid t.now) }
+        requires up { AreRight self.old (T.grid t.now) (above self.old.height) }
+        requires blank { IsBlank (T.grid t.now) rows.old }
         ensures { AreTablesOf self.new (T.grid t.now) }
     {
-        for y in 0..self.height() {
-            self.sweep_up(t, y);
-        }
-        for y in (0..self.height()).rev() {
-            self.sweep_down(t, y);
+        let height = t.height();
+        read_row(t, height - 1, &mut rows.band.here);
+        for y in (0..height).rev() {
+            self.sweep_row_down(t, y, rows);
         }
     }
 
@@ -108,7 +110,10 @@ impl Tables {
         if !has_cells(t) {
             return Ok(tables);
         }
-        tables.sweep(t);
+        let mut up = Rows::blank(alloc, t)?;
+        tables.sweep_up(t, &mut up);
+        let mut down = Rows::blank(alloc, t)?;
+        tables.sweep_down(t, &mut down);
         Ok(tables)
     }
 }

@@ -7,8 +7,11 @@
 #![tactic(auto)]
 
 mod build;
+mod flags;
 mod jumps;
+mod lines;
 mod onward;
+mod rows;
 mod source;
 mod tables;
 mod turns;

@@ -5,6 +5,7 @@ ghost use Rattle.grid_moves.specs.Grid.{IsGrid, is_free};
 ghost use Rattle.plus_tables.specs.Tables as spec;
 ghost use Rattle.plus_tables.specs.Local as local;
 
+use crate::lines::Line;
 use crate::onward::{is_forced_next, next};
 use grid_moves::{Cell, Corner, Dir, NoMemory, Terrain, dir_number};
 use pruning::{Side, is_diagonal, turn};
@@ -78,13 +79,16 @@ fn from_before(entry: i16) -> i16
 }
 
 impl Tables {
-    ghost use Rattle.std.specs.Prelude.{◌≡◌, ◌≢◌, ◌+◌, ◌<◌, true, false, IfOk, Some, pos};
+    ghost use Rattle.std.specs.Prelude.{◌≡◌, ◌≢◌, ℕ, ◌+◌, ◌<◌, true, false, IfOk, Some, pos, length};
     ghost use Rattle.grid_moves.specs.Grid.{IsGrid, is_free};
     ghost use Rattle.plus_tables.specs.Entry.{table_entry};
     ghost use Rattle.grid_moves.specs.Move.{legal_ahead};
     ghost use Rattle.plus_tables.specs.Local.{is_mark_by};
-    ghost use Rattle.plus_tables.specs.Sweep.{IsSwept, AreSwept, RestsElsewhere, is_cell, is_across, of_row};
+    ghost use Rattle.plus_tables.specs.Sweep.{AreSwept};
+    ghost use Rattle.plus_tables.specs.Rows.{number};
+    ghost use Rattle.plus_tables.specs.Lines.{AreBelow, IsLine, IsLong, downward_row, upward_row};
     ghost use Rattle.plus_tables.specs.Tables.{AreSized, IsWhole, RestsRight, entry_at, is_on, is_place, tables_with};
+    ghost use Rattle.plus_tables.specs.Laid.{with_down, with_up};
 
     /// The number of columns.
     pub fn width(&self) -> u16
@@ -143,6 +147,34 @@ impl Tables {
         self.entries[place] = entry;
     }
 
+    // Changes the entries of a cell for all directions that lead up or along its row.
+    #[inline(always)]
+    fn put_up(&mut self, c: Cell, n: i16, ne: i16, e: i16, w: i16, nw: i16)
+        requires { is_on self.old c ≡ true }
+        ensures { self.new ≡ with_up self.old c n ne e w nw }
+    {
+        let place = entry_place(self.width, c, Dir::N);
+        let entries = self.entries.as_mut_slice();
+        entries[place] = n;
+        entries[place + 1] = ne;
+        entries[place + 2] = e;
+        entries[place + 6] = w;
+        entries[place + 7] = nw;
+    }
+
+    // Changes those for all directions that lead down.
+    #[inline(always)]
+    fn put_down(&mut self, c: Cell, s: i16, se: i16, sw: i16)
+        requires { is_on self.old c ≡ true }
+        ensures { self.new ≡ with_down self.old c s se sw }
+    {
+        let place = entry_place(self.width, c, Dir::N);
+        let entries = self.entries.as_mut_slice();
+        entries[place + 3] = se;
+        entries[place + 4] = s;
+        entries[place + 5] = sw;
+    }
+
     // Whether the next cell is marked for a direction, told by its entries.
     #[inline(always)]
     fn is_mark<T: Terrain>(&self, t: &T, at: Cell, v: Cell, d: Dir) -> bool
@@ -191,43 +223,56 @@ impl Tables {
         }
     }
 
-    // Makes one entry that of the grid.
-    #[inline(always)]
-    pub(crate) fn renew<T: Terrain>(&mut self, t: &T, c: Cell, d: Dir)
-        requires whole { IsGrid (T.grid t.now) }
-        requires sized { AreSized self.old (T.grid t.now) }
-        requires inside { is_on self.old c ≡ true }
-        requires rests { RestsRight self.old (T.grid t.now) c d }
-        ensures { IsSwept (T.grid t.now) d (is_cell c) self.old self.new }
-    {
-        let _ = &self.width;
-        let entry = self.told_by_next(t, c, d);
-        self.put(c, d, entry);
-    }
-
-    // Sweeps a row for three directions that lead to another row. All three entries of a cell are told before
-    // one is changed, so that what lies around the cell is read once.
-    #[inline(always)]
-    pub(crate) fn sweep_across<T: Terrain>(&mut self, t: &T, y: u16, a: Dir, b: Dir, d: Dir)
+    // Writes the entries of a row for all directions that lead up or along it.
+    #[inline(never)]
+    pub(crate) fn lay_up<T: Terrain>(&mut self, t: &T, y: u16, line: &Line)
         requires whole { IsGrid (T.grid t.now) }
         requires sized { AreSized self.old (T.grid t.now) }
         requires inside { y < self.old.height }
-        requires across_a { is_across a ≡ true }
-        requires across_b { is_across b ≡ true }
-        requires across_d { is_across d ≡ true }
-        requires rests_a { RestsElsewhere self.old (T.grid t.now) y a }
-        requires rests_b { RestsElsewhere self.old (T.grid t.now) y b }
-        requires rests_d { RestsElsewhere self.old (T.grid t.now) y d }
-        ensures { AreSwept (T.grid t.now) (of_row y a b d) self.old self.new }
+        requires long { IsLong (T.grid t.now) line.now }
+        requires told { IsLine (T.grid t.now) Dir.N y line.now }
+        ensures { AreSwept (T.grid t.now) (upward_row y) self.old self.new }
     {
         for x in 0..self.width {
             let c = Cell { x, y };
-            let one = self.told_by_next(t, c, a);
-            let two = self.told_by_next(t, c, b);
-            let three = self.told_by_next(t, c, d);
-            self.put(c, a, one);
-            self.put(c, b, two);
-            self.put(c, d, three);
+            let at = x as usize + 1;
+            let (n, ne, nw) = (line.straight[at], line.right[at], line.left[at]);
+            self.put_up(c, n, ne, line.east[at], line.west[at], nw);
+        }
+    }
+
+    // Reads the entries of a row for E and W.
+    #[inline(never)]
+    pub(crate) fn take_along(&self, y: u16, east: &mut [i16], west: &mut [i16])
+        requires inside { y < self.now.height }
+        requires east { length east.old ≡ self.now.width + 2 }
+        requires west { length west.old ≡ self.now.width + 2 }
+        ensures east { (x : ℕ) → x < self.now.width
+            → number east.new (x + 1) ≡ entry_at self.now (record { x = x; y = y }) Dir.E }
+        ensures west { (x : ℕ) → x < self.now.width
+            → number west.new (x + 1) ≡ entry_at self.now (record { x = x; y = y }) Dir.W }
+    {
+        for x in 0..self.width {
+            let c = Cell { x, y };
+            east[x as usize + 1] = self.get(c, Dir::E);
+            west[x as usize + 1] = self.get(c, Dir::W);
+        }
+    }
+
+    // Writes the entries of a row for all directions that lead down.
+    #[inline(never)]
+    pub(crate) fn lay_down<T: Terrain>(&mut self, t: &T, y: u16, line: &Line)
+        requires whole { IsGrid (T.grid t.now) }
+        requires sized { AreSized self.old (T.grid t.now) }
+        requires inside { y < self.old.height }
+        requires long { IsLong (T.grid t.now) line.now }
+        requires told { AreBelow (T.grid t.now) y line.now }
+        ensures { AreSwept (T.grid t.now) (downward_row y) self.old self.new }
+    {
+        for x in 0..self.width {
+            let c = Cell { x, y };
+            let at = x as usize + 1;
+            self.put_down(c, line.straight[at], line.left[at], line.right[at]);
         }
     }
 

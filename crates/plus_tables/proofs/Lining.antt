@@ -1,0 +1,279 @@
+-- Rows as code hands them over, and from one row to the next.
+use Rattle.std.proofs.Common.{◌≡◌, ℕ, zero, suc, ◌+◌, ◌-◌, ◌<◌, ◌≤◌, arith, Bool, true, false, List, length, refl, ap, sym, ◌∙◌, subst}
+use Rattle.std.specs.Prelude.{ℤ, Some, replicate, nat_lt}
+use Rattle.std.proofs.lemmas.Bool.Decides.{nat_tests}
+use Rattle.std.proofs.lemmas.List.{get_or-replicate, length-replicate, get_or_past}
+use Rattle.grid_moves.specs.declared.Dir.{Dir}
+use Rattle.grid_moves.specs.declared.Dir.TheVariants.{N, E, S, W}
+use Rattle.grid_moves.specs.Around.{IsBefore}
+use Rattle.grid_moves.specs.Grid.{GridData, IsGrid, is_free, is_inside}
+use Rattle.grid_moves.specs.Move.{row_ahead}
+use Rattle.grid_moves.proofs.Legal.{and_both, free_inside}
+use Rattle.pruning.specs.declared.turns.Side.TheVariants.{Right, Left}
+use Rattle.pruning.specs.Turns.{turn}
+use Rattle.plus_tables.specs.declared.lines.Line.{Line}
+use Rattle.plus_tables.specs.declared.lines.Band.{Band}
+use Rattle.plus_tables.specs.declared.lines.Rows.{Rows}
+use Rattle.plus_tables.specs.Entry.{table_entry}
+use Rattle.plus_tables.specs.Tables.{TablesData, entry_at}
+use Rattle.plus_tables.specs.Sweep.{AreRight, is_upward, from_row}
+use Rattle.plus_tables.specs.Rows.{flag, number, IsEntryRow, IsFlagRow, IsRowAt, AreRowsAround}
+use Rattle.plus_tables.specs.Lines.{IsLong, IsLine, IsReady, IsKept, IsBlank}
+use Rattle.plus_tables.proofs.Rowing.{value_is}
+
+-- the same rows by other names
+pub around_as : (g : GridData) (y : ℕ) (a b c p q r : List Bool) → p ≡ a → q ≡ b → r ≡ c
+    → AreRowsAround g y a b c → AreRowsAround g y p q r
+around_as g y a b c p q r e f h is = rw (e, f, h) is
+
+pub entries_as : (g : GridData) (m : ℕ) (d : Dir) (row same : List ℤ) → same ≡ row → IsEntryRow g m d row
+    → IsEntryRow g m d same
+entries_as g m d row same e is = rw e is
+
+pub flags_as : (g : GridData) (n : ℕ) (row same : List Bool) → same ≡ row → IsFlagRow g n row → IsFlagRow g n same
+flags_as g n row same e is = rw e is
+
+-- past the last column no flag is set
+pub last_flag : (g : GridData) (n : ℕ) (row : List Bool) → IsFlagRow g n row → flag row (g.width + 1) ≡ false
+last_flag g n row is = is.cells g.width ∙ by_test (is_free g (record { x = g.width; y = n })) refl
+  where
+    by_test : (b : Bool) → is_free g (record { x = g.width; y = n }) ≡ b
+        → is_free g (record { x = g.width; y = n }) ≡ false
+    by_test false e = e
+    by_test true e =
+        absurd (let i = free_inside g (record { x = g.width; y = n }) e in omega (arith, i.0))
+
+-- a row in which none is set is one below the map
+pub blank_row : (g : GridData) (n : ℕ) (row : List Bool) → row ≡ replicate (g.width + 2) false → g.height ≤ n
+    → IsFlagRow g n row
+blank_row g n row e far = record {
+  long = ap length e ∙ length-replicate (g.width + 2) false;
+  border = ap (λ (r : List Bool). flag r 0) e ∙ never 0;
+  cells = λ x. ap (λ (r : List Bool). flag r (x + 1)) e ∙ never (x + 1)
+      ∙ sym (by_test x (is_free g (record { x = x; y = n })) refl);
+}
+  where
+    never : (k : ℕ) → flag (replicate (g.width + 2) false) k ≡ false
+    never k = by_place k (nat_lt k (g.width + 2)) refl
+      where
+        by_place : (k : ℕ) (b : Bool) → nat_lt k (g.width + 2) ≡ b
+            → flag (replicate (g.width + 2) false) k ≡ false
+        by_place k true h = get_or-replicate (g.width + 2) k false false (grind (arith, nat_tests))
+        by_place k false h =
+            let past : g.width + 2 ≤ k = grind (arith, nat_tests) in
+            get_or_past (replicate (g.width + 2) false) k false
+            (omega (arith, past, length-replicate (g.width + 2) false))
+
+    by_test : (x : ℕ) (b : Bool) → is_free g (record { x = x; y = n }) ≡ b
+        → is_free g (record { x = x; y = n }) ≡ false
+    by_test x false e = e
+    by_test x true e = absurd (let i = free_inside g (record { x = x; y = n }) e in omega (arith, i.1))
+
+-- the rows beside a row
+pub row_itself : (y : ℕ) → IsRowAt (Some y) y
+row_itself y = record { some = λ k e. value_is y k e; none = λ e. absurd (cc) }
+
+pub row_over : (y n : ℕ) → y ≡ suc n → IsRowAt (row_ahead N y) n
+row_over y n e = subst (λ (m : ℕ). IsRowAt (row_ahead N m) n) (sym e) (row_itself n)
+
+pub row_under : (y n : ℕ) → n ≡ y + 1 → IsRowAt (row_ahead S y) n
+row_under y n e = subst (λ (m : ℕ). IsRowAt (row_ahead S y) m) (sym e) (row_itself (y + 1))
+
+pub row_before : (y n : ℕ) → IsBefore y n → IsRowAt (row_ahead N y) n
+row_before zero n is = record {
+  some = λ k e. absurd (cc);
+  none = λ e. let far : n ≡ 65535 = is.none refl in omega arith;
+}
+row_before (suc m) n is = row_over (suc m) n (let e : suc m ≡ n + 1 = is.some (omega arith) in omega arith)
+
+-- the entries along a row, as they are read back
+pub taken : (g : GridData) (t : TablesData) (y : ℕ) (d : Dir) (row : List ℤ) → AreRight t g (from_row (y + 1))
+    → is_upward d ≡ true
+    → ((x : ℕ) → x < t.width → number row (x + 1) ≡ entry_at t (record { x = x; y = y }) d)
+    → IsEntryRow g y d row
+taken g t y d row known h read v same inside =
+    let wide = known.sized.width in
+    let within : v.x < t.width = grind (arith, nat_tests) in
+    let here : is_inside g (record { x = v.x; y = y }) ≡ true =
+    ap (λ (n : ℕ). is_inside g (record { x = v.x; y = n })) (sym same) ∙ inside in
+    read v.x within
+    ∙ known.right (record { x = v.x; y = y }) d here (rw h refl)
+    ∙ ap (λ (n : ℕ). table_entry g (record { x = v.x; y = n }) d) (sym same)
+
+-- another row behind
+module _ (g : GridData) (d : Dir) (y n : ℕ) (band same : Band) (last : Line) (ready : IsReady g d y band last)
+    (far : same.far.items ≡ band.far.items) (next : same.next.items ≡ band.next.items)
+    (here : same.here.items ≡ band.here.items) (is : IsFlagRow g n same.back.items) where
+  pub ready_back : IsReady g d y same last
+  ready_back =
+      let m = ready.rows.ahead in
+      record {
+        rows = record {
+          ahead = m;
+          far_row = ready.rows.far_row;
+          back_row = n;
+          ahead_is = ready.rows.ahead_is;
+          far_is = flags_as g ready.rows.far_row band.far.items same.far.items far ready.rows.far_is;
+          next_is = flags_as g m band.next.items same.next.items next ready.rows.next_is;
+          here_is = flags_as g y band.here.items same.here.items here ready.rows.here_is;
+          back_is = is;
+          up = λ e on. around_as g m band.far.items band.next.items band.here.items same.far.items
+              same.next.items same.here.items far next here (ready.rows.up e on);
+          down = λ e on. around_as g m band.here.items band.next.items band.far.items same.here.items
+              same.next.items same.far.items here next far (ready.rows.down e on);
+        };
+        long = ready.long;
+        told = ready.told;
+      }
+
+-- the row and the two beside it
+pub around_up : (g : GridData) (y : ℕ) (band : Band) (last : Line) → IsReady g N y band last
+    → IsFlagRow g (y + 1) band.back.items
+    → AreRowsAround g y band.next.items band.here.items band.back.items
+around_up g y band last ready is = record {
+  upper = ready.rows.ahead;
+  lower = y + 1;
+  upper_is = ready.rows.ahead_is;
+  lower_is = row_itself (y + 1);
+  above_is = ready.rows.next_is;
+  here_is = ready.rows.here_is;
+  below_is = is;
+}
+
+pub around_down : (g : GridData) (y n : ℕ) (band : Band) (last : Line) → IsReady g S y band last
+    → IsBefore y n → IsFlagRow g n band.back.items
+    → AreRowsAround g y band.back.items band.here.items band.next.items
+around_down g y n band last ready before is = record {
+  upper = n;
+  lower = ready.rows.ahead;
+  upper_is = row_before y n before;
+  lower_is = ready.rows.ahead_is;
+  above_is = is;
+  here_is = ready.rows.here_is;
+  below_is = ready.rows.next_is;
+}
+
+-- on to the next row: downwards
+module _ (g : GridData) (y n : ℕ) (d : Dir) (band : Band) (last this : Line) (rows : Rows)
+    (ready : IsReady g d y band last) (is : IsFlagRow g n band.back.items) (told : IsLine g d y this)
+    (long : IsLong g this) (far : rows.band.far.items ≡ band.next.items)
+    (next : rows.band.next.items ≡ band.here.items) (here : rows.band.here.items ≡ band.back.items)
+    (back : rows.band.back.items ≡ band.far.items) (kept : rows.last ≡ this) (room : IsLong g rows.this)
+    (forced : length rows.forced.items ≡ g.width + 2) where
+  kept_on : IsRowAt (row_ahead d n) y
+      → (d ≡ N → AreRowsAround g y band.next.items band.here.items band.back.items)
+      → (d ≡ S → AreRowsAround g y band.back.items band.here.items band.next.items) → IsKept g d n rows
+  kept_on lies up down = record {
+    ready = record {
+      rows = record {
+        ahead = y;
+        far_row = ready.rows.ahead;
+        back_row = ready.rows.far_row;
+        ahead_is = lies;
+        far_is = flags_as g ready.rows.ahead band.next.items rows.band.far.items far ready.rows.next_is;
+        next_is = flags_as g y band.here.items rows.band.next.items next ready.rows.here_is;
+        here_is = flags_as g n band.back.items rows.band.here.items here is;
+        back_is = flags_as g ready.rows.far_row band.far.items rows.band.back.items back ready.rows.far_is;
+        up = λ e on. around_as g y band.next.items band.here.items band.back.items rows.band.far.items
+            rows.band.next.items rows.band.here.items far next here (up e);
+        down = λ e on. around_as g y band.back.items band.here.items band.next.items rows.band.here.items
+            rows.band.next.items rows.band.far.items here next far (down e);
+      };
+      long = subst (λ (l : Line). IsLong g l) (sym kept) long;
+      told = subst (λ (l : Line). IsLine g d y l) (sym kept) told;
+    };
+    long = room;
+    forced = forced;
+  }
+
+other_way : N ≡ S → ⊥
+other_way e = cc
+
+pub kept_up : (g : GridData) (y : ℕ) (band : Band) (last this : Line) (rows : Rows) → IsReady g N y band last
+    → IsFlagRow g (y + 1) band.back.items → IsLine g N y this → IsLong g this
+    → rows.band.far.items ≡ band.next.items → rows.band.next.items ≡ band.here.items
+    → rows.band.here.items ≡ band.back.items → rows.band.back.items ≡ band.far.items → rows.last ≡ this
+    → IsLong g rows.this → length rows.forced.items ≡ g.width + 2 → IsKept g N (y + 1) rows
+kept_up g y band last this rows ready is told long far next here back kept room forced =
+    kept_on g y (y + 1) N band last this rows ready is told long far next here back kept room forced
+    (row_over (y + 1) y (omega arith)) (λ e. around_up g y band last ready is) (λ e. absurd (other_way e))
+
+pub kept_down : (g : GridData) (y n : ℕ) (band : Band) (last this : Line) (rows : Rows) → 0 < y
+    → IsBefore y n → IsReady g S y band last → IsFlagRow g n band.back.items → IsLine g S y this → IsLong g this
+    → rows.band.far.items ≡ band.next.items → rows.band.next.items ≡ band.here.items
+    → rows.band.here.items ≡ band.back.items → rows.band.back.items ≡ band.far.items → rows.last ≡ this
+    → IsLong g rows.this → length rows.forced.items ≡ g.width + 2 → IsKept g S (y - 1) rows
+kept_down g y n band last this rows some before ready is told long far next here back kept room forced =
+    let e = before.some some in
+    let same : n ≡ y - 1 = omega arith in
+    subst (λ (m : ℕ). IsKept g S m rows) same
+    (kept_on g y n S band last this rows ready is told long far next here back kept room forced
+    (row_under n y e) (λ e. absurd (other_way (sym e))) (λ e. around_down g y n band last ready before is))
+
+-- before the first row
+nothing : (g : GridData) → IsGrid g → (d : Dir) (row : List ℤ) (n : ℕ) → g.height ≤ n → IsEntryRow g n d row
+nothing g whole d row n far v e inside =
+    absurd (let both = and_both (nat_lt v.x g.width) (nat_lt v.y g.height) inside in
+    let row_below : v.y < g.height = below v.y g.height both.1 in omega arith)
+  where
+    below : (m n : ℕ) → nat_lt m n ≡ true → m < n
+    below m n h = grind (arith, nat_tests)
+
+no_line : (g : GridData) → IsGrid g → (d : Dir) (n : ℕ) (line : Line) → g.height ≤ n → IsLine g d n line
+no_line g whole d n line far = record {
+  straight = nothing g whole d line.straight.items n far;
+  right = nothing g whole (turn Right d) line.right.items n far;
+  left = nothing g whole (turn Left d) line.left.items n far;
+  east = nothing g whole E line.east.items n far;
+  west = nothing g whole W line.west.items n far;
+}
+
+module _ (g : GridData) (whole : IsGrid g) (rows begun : Rows) (blank : IsBlank g rows)
+    (far : begun.band.far.items ≡ rows.band.far.items) (next : begun.band.next.items ≡ rows.band.next.items)
+    (back : begun.band.back.items ≡ rows.band.back.items) (last : begun.last ≡ rows.last)
+    (this : begun.this ≡ rows.this) (forced : begun.forced.items ≡ rows.forced.items) where
+  begun_at : (d : Dir) (y n m : ℕ) → g.height ≤ n → g.height ≤ m → IsRowAt (row_ahead d y) n
+      → IsFlagRow g y begun.band.here.items
+      → (d ≡ N → n < 4096 → AreRowsAround g n begun.band.far.items begun.band.next.items begun.band.here.items)
+      → (d ≡ S → n < 4096 → AreRowsAround g n begun.band.here.items begun.band.next.items begun.band.far.items)
+      → IsKept g d y begun
+  begun_at d y n m high higher lies is up down = record {
+    ready = record {
+      rows = record {
+        ahead = n;
+        far_row = m;
+        back_row = m;
+        ahead_is = lies;
+        far_is = blank_row g m begun.band.far.items (far ∙ blank.far) higher;
+        next_is = blank_row g n begun.band.next.items (next ∙ blank.next) high;
+        here_is = is;
+        back_is = blank_row g m begun.band.back.items (back ∙ blank.back) higher;
+        up = up;
+        down = down;
+      };
+      long = subst (λ (l : Line). IsLong g l) (sym last) blank.last;
+      told = no_line g whole d n begun.last high;
+    };
+    long = subst (λ (l : Line). IsLong g l) (sym this) blank.this;
+    forced = ap (λ (r : List Bool). length r) forced ∙ blank.forced;
+  }
+
+  low : g.height ≤ 4096
+  low = whole.sides.low
+
+  pub begun_up : IsFlagRow g 0 begun.band.here.items → IsKept g N 0 begun
+  begun_up is = begun_at N 0 4096 4096 low low
+      (record { some = λ k e. absurd (cc); none = λ e. omega arith }) is
+      (λ e on. absurd (omega (arith, on))) (λ e. absurd (other_way e))
+
+  pub begun_down : (y : ℕ) → y + 1 ≡ g.height → IsFlagRow g y begun.band.here.items → IsKept g S y begun
+  begun_down y e is = begun_at S y g.height (g.height + 1) (omega arith) (omega arith)
+      (row_under y g.height (sym e)) is (λ i. absurd (other_way (sym i))) (λ i on. record {
+        upper = y;
+        lower = g.height + 1;
+        upper_is = row_over g.height y (omega arith);
+        lower_is = row_itself (g.height + 1);
+        above_is = is;
+        here_is = blank_row g g.height begun.band.next.items (next ∙ blank.next) (omega arith);
+        below_is = blank_row g (g.height + 1) begun.band.far.items (far ∙ blank.far) (omega arith);
+      })

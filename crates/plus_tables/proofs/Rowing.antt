@@ -1,0 +1,384 @@
+-- Rows of flags and of entries are those of the grid.
+use Rattle.std.proofs.Common.{◌≡◌, ℕ, zero, suc, ◌+◌, ◌-◌, ◌<◌, ◌≤◌, arith, Bool, true, false, not, ◌&&◌, ◌||◌, List, length, refl, ap, sym, ◌∙◌, subst}
+use Rattle.std.specs.Prelude.{ℤ, Option, Some, None, option_and_then, is_some, nat_lt}
+use Rattle.std.proofs.lemmas.Bool.Decides.{nat_tests}
+use Rattle.grid_moves.specs.declared.Cell.{Cell}
+use Rattle.grid_moves.specs.declared.Corner.{Corner}
+use Rattle.grid_moves.specs.declared.Corner.TheVariants.{Never, One}
+use Rattle.grid_moves.specs.declared.Dir.{Dir}
+use Rattle.grid_moves.specs.declared.Dir.TheVariants.{N, NE, E, SE, S, SW, W, NW}
+use Rattle.grid_moves.specs.Grid.{GridData, IsGrid, is_free, is_inside}
+use Rattle.grid_moves.specs.Move.{ahead, before, column_ahead, row_ahead, is_free_cell, is_open, legal_ahead}
+use Rattle.grid_moves.proofs.Legal.{free_inside, legal_is, same_cell}
+use Rattle.pruning.specs.declared.turns.Side.{Side}
+use Rattle.pruning.specs.declared.turns.Side.TheVariants.{Right, Left}
+use Rattle.pruning.specs.Turns.{turn, quarter, rear, is_diagonal}
+use Rattle.pruning.specs.Allowed.{is_blocked, can_move}
+use Rattle.pruning.specs.Marked.{is_forced, is_forced_on}
+use Rattle.pruning.proofs.Table.{by_parity}
+use Rattle.pruning.proofs.Moves.{can_move-straight, can_move-diagonal}
+use Rattle.pruning.proofs.Bridging.{legal_leads, leads_from, leads_legal, one_of}
+use Rattle.plus_tables.specs.Entry.{table_entry}
+use Rattle.plus_tables.specs.Local.{is_mark_by, entry_by_next}
+use Rattle.plus_tables.specs.Tables.{IsShort}
+use Rattle.plus_tables.specs.Rows.{flag, number, ring_of, open_in, can_by, forced_on, forced_by, place_after, told, legal_by, mark_by, IsFlagRow, IsForcedRow, IsEntryRow, IsRowAt, AreRowsAround, AreForced, AreShort, AreToldBelow, IsToldAlong}
+use Rattle.plus_tables.proofs.Following.{entries_follow}
+use Rattle.plus_tables.proofs.Short.{table_entry-short}
+
+-- the cell of a column in a row, if there is one
+there : ℕ → Option ℕ → Option Cell
+there x o = option_and_then (λ y. Some (record { x = x; y = y })) o
+
+module _ (g : GridData) (whole : IsGrid g) where
+  off_map : (x y : ℕ) → 4096 ≤ y → is_free g (record { x = x; y = y }) ≡ false
+  off_map x y far = by_test (is_free g (record { x = x; y = y })) refl
+    where
+      by_test : (b : Bool) → is_free g (record { x = x; y = y }) ≡ b → is_free g (record { x = x; y = y }) ≡ false
+      by_test false e = e
+      by_test true e = absurd (
+          let i = free_inside g (record { x = x; y = y }) e in
+          let low = whole.sides.low in
+          omega (arith, i.1))
+
+  -- a flag of a row tells whether the cell there is free
+  flag_there : (n : ℕ) (o : Option ℕ) (row : List Bool) → IsFlagRow g n row → IsRowAt o n → (x k : ℕ)
+      → k ≡ x + 1 → flag row k ≡ is_free_cell g (there x o)
+  unfolding there
+  flag_there n (Some m) row is lies x k e =
+      ap (λ (i : ℕ). flag row i) e ∙ is.cells x
+      ∙ ap (λ (y : ℕ). is_free g (record { x = x; y = y })) (lies.some m refl)
+  flag_there n None row is lies x k e =
+      ap (λ (i : ℕ). flag row i) e ∙ is.cells x ∙ off_map x n (lies.none refl)
+
+  -- and before the first column none is
+  flag_before : (n : ℕ) (o : Option ℕ) (row : List Bool) → IsFlagRow g n row → IsRowAt o n → (x : ℕ)
+      → flag row x ≡ is_free_cell g (option_and_then (λ x. there x o) (before x))
+  flag_before n o row is lies zero = is.border
+  flag_before n o row is lies (suc x) = flag_there n o row is lies x (suc x) (omega arith)
+
+  itself : (y : ℕ) → IsRowAt (Some y) y
+  itself y = record { some = λ k e. number_of y k e; none = λ e. absurd (cc) }
+    where
+      number_of : (m k : ℕ) → Some m ≡ Some k → m ≡ k
+      number_of m k e = ap (λ (o : Option ℕ). value o) e
+        where
+          value : Option ℕ → ℕ
+          value None = 0
+          value (Some n) = n
+
+  module _ (y : ℕ) (above here below : List Bool) (around : AreRowsAround g y above here below) where
+    -- the flags around a column are those of the cells around its cell
+    ring_open : (x : ℕ) (d : Dir)
+        → open_in (ring_of above here below x) d ≡ is_open g (record { x = x; y = y }) d
+    unfolding there
+    ring_open x N = flag_there around.upper _ above around.above_is around.upper_is x (x + 1) refl
+    ring_open x NE = flag_there around.upper _ above around.above_is around.upper_is (x + 1) (x + 2) (omega arith)
+    ring_open x E = flag_there y (Some y) here around.here_is (itself y) (x + 1) (x + 2) (omega arith)
+    ring_open x SE = flag_there around.lower _ below around.below_is around.lower_is (x + 1) (x + 2) (omega arith)
+    ring_open x S = flag_there around.lower _ below around.below_is around.lower_is x (x + 1) refl
+    ring_open x SW = flag_before around.lower _ below around.below_is around.lower_is x
+    ring_open x W = flag_before y (Some y) here around.here_is (itself y) x
+    ring_open x NW = flag_before around.upper _ above around.above_is around.upper_is x
+
+    -- so they tell which moves are legal
+    ring_can : (x : ℕ) (d : Dir) → is_free g (record { x = x; y = y }) ≡ true
+        → can_by g.corner (ring_of above here below x) d ≡ can_move g (record { x = x; y = y }) d
+    ring_can x d f = by_parity d
+        (λ h. rw (h, ring_open x d, ring_open x (turn Left d), ring_open x (turn Right d))
+        (sym (can_move-diagonal g (record { x = x; y = y }) d f h)))
+        (λ h. rw (h, ring_open x d) (sym (can_move-straight g (record { x = x; y = y }) d f h)))
+
+    -- and where a neighbour is forced
+    ring_forced_on : (x : ℕ) (d : Dir) (s : Side) → is_free g (record { x = x; y = y }) ≡ true
+        → forced_on g.corner (ring_of above here below x) d s
+        ≡ is_forced_on g.corner (is_blocked g (record { x = x; y = y })) (can_move g (record { x = x; y = y })) d s
+    ring_forced_on x d s f = same_on g.corner (λ e. not (open_in (ring_of above here below x) e))
+        (is_blocked g (record { x = x; y = y })) (λ e. can_by g.corner (ring_of above here below x) e)
+        (can_move g (record { x = x; y = y })) (λ e. ap not (ring_open x e)) (λ e. ring_can x e f)
+      where
+        same_on : (r : Corner) (a b p q : Dir → Bool) → ((e : Dir) → a e ≡ b e) → ((e : Dir) → p e ≡ q e)
+            → is_forced_on r a p d s ≡ is_forced_on r b q d s
+        same_on Never a b p q i j = rw (i (rear s d), j (quarter s d)) refl
+        same_on One a b p q i j = rw (i (rear s d), i (quarter s d), j (quarter s d), j (turn s d)) refl
+
+    pub forced_row : (d : Dir) (corner : Corner) (forced : List Bool) → corner ≡ g.corner
+        → length forced ≡ g.width + 2 → AreForced corner above here below d forced → IsForcedRow g y d forced
+    forced_row d corner forced rule long are v row free =
+        let inside = free_inside g v free in
+        let below_last : v.x < length forced - 2 = omega (arith, inside.0) in
+        let free_here : is_free g (record { x = v.x; y = y }) ≡ true =
+        ap (λ (n : ℕ). is_free g (record { x = v.x; y = n })) (sym row) ∙ free in
+        are v.x below_last
+        ∙ ap (λ (r : Corner). forced_by r (ring_of above here below v.x) d) rule
+        ∙ both _ _ _ _ (ring_forced_on v.x d Right free_here) (ring_forced_on v.x d Left free_here)
+        ∙ ap (λ (n : ℕ). is_forced g (record { x = v.x; y = n }) d) (sym row)
+      where
+        both : (a b p q : Bool) → a ≡ p → b ≡ q → (a || b) ≡ (p || q)
+        both a b p q e f = rw (e, f) refl
+
+    -- a move is legal from a free cell alone
+    pub row_legal : (d : Dir) (corner : Corner) → corner ≡ g.corner → (v : Cell) → v.y ≡ y
+        → legal_by corner above here below d v.x ≡ can_move g v d
+    row_legal d corner rule v row =
+        ap (λ (r : Corner). legal_by r above here below d v.x) rule
+        ∙ ap (λ (b : Bool). b && can_by g.corner (ring_of above here below v.x) d) (around.here_is.cells v.x)
+        ∙ by_test (is_free g (record { x = v.x; y = y })) refl
+        ∙ ap (λ (n : ℕ). can_move g (record { x = v.x; y = n }) d) (sym row)
+      where
+        blocked : is_free g (record { x = v.x; y = y }) ≡ false → (b : Bool)
+            → can_move g (record { x = v.x; y = y }) d ≡ b → false ≡ can_move g (record { x = v.x; y = y }) d
+        blocked f false e = sym e
+        blocked f true e = absurd (
+            let l = leads_from g (record { x = v.x; y = y }) d e in
+            let t = (legal_is g (record { x = v.x; y = y }) l.0 l.1.legal).source in cc)
+
+        by_test : (b : Bool) → is_free g (record { x = v.x; y = y }) ≡ b
+            → (b && can_by g.corner (ring_of above here below v.x) d) ≡ can_move g (record { x = v.x; y = y }) d
+        by_test true f = ring_can v.x d f
+        by_test false f = blocked f (can_move g (record { x = v.x; y = y }) d) refl
+
+-- where the next cell stands
+parts_of : (x y : Option ℕ) (w : Cell)
+    → option_and_then (λ x. option_and_then (λ y. Some (record { x = x; y = y })) y) x ≡ Some w
+    → (x ≡ Some w.x) × (y ≡ Some w.y)
+parts_of (Some m) (Some n) w e =
+    let same = one_of (record { x = m; y = n }) w e in
+    (ap (λ (c : Cell). Some c.x) same, ap (λ (c : Cell). Some c.y) same)
+parts_of (Some m) None w e = absurd (cc)
+parts_of None o w e = absurd (cc)
+
+pub value_is : (m k : ℕ) → Some m ≡ Some k → m ≡ k
+value_is m k e = ap (λ (o : Option ℕ). value o) e
+  where
+    value : Option ℕ → ℕ
+    value None = 0
+    value (Some n) = n
+
+after_before : (x k : ℕ) → before x ≡ Some k → x ≡ k + 1
+after_before zero k e = absurd (cc)
+after_before (suc n) k e = let s = value_is n k e in omega arith
+
+place_is : (d : Dir) (x k : ℕ) → column_ahead d x ≡ Some k → place_after d x ≡ k + 1
+place_is N x k e = ap (λ (n : ℕ). n + 1) (value_is x k e)
+place_is NE x k e = let s = value_is (x + 1) k e in omega arith
+place_is E x k e = let s = value_is (x + 1) k e in omega arith
+place_is SE x k e = let s = value_is (x + 1) k e in omega arith
+place_is S x k e = ap (λ (n : ℕ). n + 1) (value_is x k e)
+place_is SW x k e = after_before x k e
+place_is W x k e = after_before x k e
+place_is NW x k e = after_before x k e
+
+-- the entry of a cell is told by the next cell
+pub told_is : (g : GridData) (c : Cell) (d : Dir) (legal mark : Bool) (next : ℤ) → legal ≡ can_move g c d
+    → ((w : Cell) → legal_ahead g c d ≡ Some w → mark ≡ is_mark_by g (table_entry g) d w)
+    → ((w : Cell) → legal_ahead g c d ≡ Some w → next ≡ table_entry g w d)
+    → told legal mark next ≡ table_entry g c d
+told_is g c d legal mark next can marked is =
+    ap (λ (b : Bool). told b mark next) can ∙ by_next (legal_ahead g c d) refl ∙ sym (entries_follow g c d)
+  where
+    by_next : (o : Option Cell) → legal_ahead g c d ≡ o
+        → told (is_some (legal_ahead g c d)) mark next ≡ entry_by_next g (table_entry g) c d
+    by_next None e = rw e refl
+    by_next (Some w) e = rw (e, marked w e, is w e) refl
+
+module _ (g : GridData) (whole : IsGrid g) (c : Cell) (d : Dir) where
+  -- what stands at the next place
+  next_number : (y : ℕ) (row : List ℤ) (e : Dir) (w : Cell) → legal_ahead g c d ≡ Some w → w.y ≡ y
+      → IsEntryRow g y e row → number row (place_after d c.x) ≡ table_entry g w e
+  next_number y row e w legal same is =
+      let l = legal_leads g c w d legal in
+      let target = free_inside g w (legal_is g c w l.legal).target in
+      let inside : is_inside g w ≡ true = is_within w.x w.y g.width g.height target.0 target.1 in
+      ap (λ (k : ℕ). number row k)
+      (place_is d c.x w.x (parts_of (column_ahead d c.x) (row_ahead d c.y) w l.ahead_is).0) ∙ is w same inside
+    where
+      is_within : (x y m n : ℕ) → x < m → y < n → (nat_lt x m && nat_lt y n) ≡ true
+      is_within x y m n h k = grind (arith, nat_tests)
+
+  next_flag : (y : ℕ) (row : List Bool) (w : Cell) → legal_ahead g c d ≡ Some w → w.y ≡ y
+      → IsForcedRow g y d row → flag row (place_after d c.x) ≡ is_forced g w d
+  next_flag y row w legal same is =
+      let l = legal_leads g c w d legal in
+      ap (λ (k : ℕ). flag row k)
+      (place_is d c.x w.x (parts_of (column_ahead d c.x) (row_ahead d c.y) w l.ahead_is).0)
+      ∙ is w same (legal_is g c w l.legal).target
+
+  -- in which row it stands
+  next_row : (w : Cell) → legal_ahead g c d ≡ Some w → row_ahead d c.y ≡ Some w.y
+  next_row w legal =
+      (parts_of (column_ahead d c.x) (row_ahead d c.y) w (legal_leads g c w d legal).ahead_is).1
+
+  -- an entry of a row, told by the next row
+  module _ (y : ℕ) (forced : List Bool) (ahead right left : List ℤ) (legal : Bool) (can : legal ≡ can_move g c d)
+      (lies : (w : Cell) → legal_ahead g c d ≡ Some w → w.y ≡ y) (forced_is : IsForcedRow g y d forced)
+      (ahead_is : IsEntryRow g y d ahead) (right_is : is_diagonal d ≡ true → IsEntryRow g y (turn Right d) right)
+      (left_is : is_diagonal d ≡ true → IsEntryRow g y (turn Left d) left) where
+    mark_across : (w : Cell) → legal_ahead g c d ≡ Some w
+        → mark_by forced right left d (place_after d c.x) ≡ is_mark_by g (table_entry g) d w
+    mark_across w e = by_parity d
+        (λ h. rw (
+          next_flag y forced w e (lies w e) forced_is,
+          next_number y right (turn Right d) w e (lies w e) (right_is h),
+          next_number y left (turn Left d) w e (lies w e) (left_is h),
+        ) refl)
+        (λ h. rw (h, next_flag y forced w e (lies w e) forced_is) refl)
+
+    pub told_entry : told legal (mark_by forced right left d (place_after d c.x)) (number ahead (place_after d c.x))
+        ≡ table_entry g c d
+    told_entry = told_is g c d legal (mark_by forced right left d (place_after d c.x))
+        (number ahead (place_after d c.x)) can mark_across
+        (λ w e. next_number y ahead d w e (lies w e) ahead_is)
+
+    short_at : (row : List ℤ) (e : Dir) → IsEntryRow g y e row → (w : Cell) → legal_ahead g c d ≡ Some w
+        → IsShort (number row (place_after d c.x))
+    short_at row e is w legal = subst (λ (z : ℤ). IsShort z)
+        (sym (next_number y row e w legal (lies w legal) is)) (table_entry-short g whole w e)
+
+    pub short_entries : (e f : Dir) → IsEntryRow g y e right → IsEntryRow g y f left → legal ≡ true
+        → AreShort (number ahead (place_after d c.x)) (number right (place_after d c.x)) (number left (place_after d c.x))
+    short_entries e f is too h =
+        let l = leads_from g c d (sym can ∙ h) in
+        let legal_is_it = leads_legal g c l.0 d l.1 in
+        record {
+          ahead_is = short_at ahead d ahead_is l.0 legal_is_it;
+          right_is = short_at right e is l.0 legal_is_it;
+          left_is = short_at left f too l.0 legal_is_it;
+        }
+
+-- in a row, the next cell lies in the row ahead
+module _ (g : GridData) (whole : IsGrid g) (y m : ℕ) (d : Dir) (lies : IsRowAt (row_ahead d y) m) where
+  in_row : (c w : Cell) → c.y ≡ y → legal_ahead g c d ≡ Some w → w.y ≡ m
+  in_row c w row e =
+      sym (lies.some w.y (ap (λ (n : ℕ). row_ahead d n) (sym row) ∙ next_row g whole c d w e))
+
+  -- a row that is told by the next is the row of entries
+  pub told_row : (corner : Corner) → corner ≡ g.corner → (above here below forced : List Bool)
+      (ahead right left out : List ℤ) (e f : Dir) → AreRowsAround g y above here below → IsForcedRow g m d forced
+      → IsEntryRow g m d ahead → IsEntryRow g m e right → IsEntryRow g m f left
+      → (is_diagonal d ≡ true → (e ≡ turn Right d) × (f ≡ turn Left d)) → length out ≡ g.width + 2
+      → AreToldBelow corner above here below forced ahead right left d out (length out - 2)
+      → IsEntryRow g y d out
+  told_row corner rule above here below forced ahead right left out e f around forced_is ahead_is right_is left_is
+      parts long are_told v row inside =
+      let below_last : v.x < length out - 2 = grind (arith, nat_tests) in
+      are_told v.x below_last
+      (short_entries g whole v d m forced ahead right left (legal_by corner above here below d v.x) can
+      (λ w k. in_row v w row k) forced_is ahead_is right_at left_at e f right_is left_is)
+      ∙ told_entry g whole v d m forced ahead right left (legal_by corner above here below d v.x) can
+      (λ w k. in_row v w row k) forced_is ahead_is right_at left_at
+    where
+      can : legal_by corner above here below d v.x ≡ can_move g v d
+      can = row_legal g whole y above here below around d corner rule v row
+
+      right_at : is_diagonal d ≡ true → IsEntryRow g m (turn Right d) right
+      right_at h = subst (λ (k : Dir). IsEntryRow g m k right) (parts h).0 right_is
+
+      left_at : is_diagonal d ≡ true → IsEntryRow g m (turn Left d) left
+      left_at h = subst (λ (k : Dir). IsEntryRow g m k left) (parts h).1 left_is
+
+-- along a row, told from the end
+module _ (g : GridData) (whole : IsGrid g) (y : ℕ) (above here below forced : List Bool) (out : List ℤ)
+    (around : AreRowsAround g y above here below) where
+  -- one entry, where the next one is right
+  along_one : (d : Dir) → is_diagonal d ≡ false → IsForcedRow g y d forced → (v : Cell) → v.y ≡ y
+      → (flag here (v.x + 1) && flag here (place_after d v.x)) ≡ can_move g v d
+      → ((w : Cell) → legal_ahead g v d ≡ Some w → w.y ≡ y)
+      → ((w : Cell) → legal_ahead g v d ≡ Some w → number out (place_after d v.x) ≡ table_entry g w d)
+      → IsToldAlong here forced d out v.x → number out (v.x + 1) ≡ table_entry g v d
+  along_one d h forced_is v row can lies next is_told =
+      is_told short ∙ told_is g v d (flag here (v.x + 1) && flag here (place_after d v.x))
+      (flag forced (place_after d v.x)) (number out (place_after d v.x)) can marked next
+    where
+      or_false : (b : Bool) → b ≡ (b || false)
+      or_false true = refl
+      or_false false = refl
+
+      marked : (w : Cell) → legal_ahead g v d ≡ Some w
+          → flag forced (place_after d v.x) ≡ is_mark_by g (table_entry g) d w
+      marked w e = next_flag g whole v d y forced w e (lies w e) forced_is
+          ∙ rw h (or_false (is_forced g w d))
+
+      short : (flag here (v.x + 1) && flag here (place_after d v.x)) ≡ true
+          → IsShort (number out (place_after d v.x))
+      short k =
+          let l = leads_from g v d (sym can ∙ k) in
+          subst (λ (z : ℤ). IsShort z) (sym (next l.0 (leads_legal g v l.0 d l.1)))
+          (table_entry-short g whole l.0 d)
+
+  same_row : (d : Dir) → ((n : ℕ) → row_ahead d n ≡ Some n) → (v w : Cell) → v.y ≡ y
+      → legal_ahead g v d ≡ Some w → w.y ≡ y
+  same_row d along v w row e =
+      value_is w.y y (sym (next_row g whole v d w e) ∙ along v.y ∙ ap (λ (n : ℕ). Some n) row)
+
+  module _ (d : Dir) (straight : is_diagonal d ≡ false) (along : (n : ℕ) → row_ahead d n ≡ Some n)
+      (forced_is : IsForcedRow g y d forced) (long : length out ≡ g.width + 2)
+      (are_told : (x : ℕ) → x < length out - 2 → IsToldAlong here forced d out x)
+      (same : (x : ℕ) → (flag here (x + 1) && flag here (place_after d x)) ≡ legal_by g.corner above here below d x)
+    where
+      at_column : (x : ℕ) → x < g.width → ((w : Cell) → legal_ahead g (record { x = x; y = y }) d ≡ Some w
+          → number out (place_after d x) ≡ table_entry g w d)
+          → number out (x + 1) ≡ table_entry g (record { x = x; y = y }) d
+      at_column x within next =
+          along_one d straight forced_is (record { x = x; y = y }) refl
+          (same x ∙ row_legal g whole y above here below around d g.corner refl (record { x = x; y = y }) refl)
+          (λ w e. same_row d along (record { x = x; y = y }) w refl e) next (are_told x (omega arith))
+
+  whole_entries : (d : Dir) → ((x : ℕ) → x < g.width → number out (x + 1) ≡ table_entry g (record { x = x; y = y }) d)
+      → IsEntryRow g y d out
+  whole_entries d columns v row inside =
+      let within : v.x < g.width = grind (arith, nat_tests) in
+      columns v.x within ∙ ap (λ (n : ℕ). table_entry g (record { x = v.x; y = n }) d) (sym row)
+
+  module _ (forced_is : IsForcedRow g y W forced) (long : length out ≡ g.width + 2)
+      (are_told : (x : ℕ) → x < length out - 2 → IsToldAlong here forced W out x) where
+    -- to the left each column rests on the one before
+    next_left : (k : ℕ) (w : Cell) → legal_ahead g (record { x = suc k; y = y }) W ≡ Some w
+        → record { x = k; y = y } ≡ w
+    next_left k w e =
+        let l = legal_leads g (record { x = suc k; y = y }) w W e in
+        let parts = parts_of (Some k) (Some y) w l.ahead_is in
+        same_cell (record { x = k; y = y }) w (value_is k w.x parts.0) (value_is y w.y parts.1)
+
+    west_column : (x : ℕ) → x < g.width → number out (x + 1) ≡ table_entry g (record { x = x; y = y }) W
+    west_column zero within = at_column W refl (λ n. refl) forced_is long are_told (λ x. refl) zero within
+        (λ w e. absurd (let l = legal_leads g (record { x = zero; y = y }) w W e in
+        let parts = parts_of None (Some y) w l.ahead_is in let none = parts.0 in cc))
+    west_column (suc k) within = at_column W refl (λ n. refl) forced_is long are_told (λ x. refl) (suc k) within
+        (λ w e. ap (λ (n : ℕ). number out n) (let m : suc k ≡ k + 1 = omega arith in m)
+        ∙ west_column k (omega arith) ∙ ap (λ (v : Cell). table_entry g v W) (next_left k w e))
+
+    pub west_row : IsEntryRow g y W out
+    west_row = whole_entries W west_column
+
+  module _ (forced_is : IsForcedRow g y E forced) (long : length out ≡ g.width + 2)
+      (are_told : (x : ℕ) → x < length out - 2 → IsToldAlong here forced E out x) where
+    -- and to the right on the one behind
+    next_right : (x : ℕ) (w : Cell) → legal_ahead g (record { x = x; y = y }) E ≡ Some w
+        → record { x = x + 1; y = y } ≡ w
+    next_right x w e =
+        let l = legal_leads g (record { x = x; y = y }) w E e in
+        let parts = parts_of (Some (x + 1)) (Some y) w l.ahead_is in
+        same_cell (record { x = x + 1; y = y }) w (value_is (x + 1) w.x parts.0) (value_is y w.y parts.1)
+
+    east_column : (n x : ℕ) → x + suc n ≡ g.width
+        → number out (x + 1) ≡ table_entry g (record { x = x; y = y }) E
+    east_column zero x e = at_column E refl (λ n. refl) forced_is long are_told (λ x. refl) x (omega arith)
+        (λ w k. absurd (let l = legal_leads g (record { x = x; y = y }) w E k in
+        let there = free_inside g w (legal_is g (record { x = x; y = y }) w l.legal).target in
+        let column : x + 1 ≡ w.x = ap (λ (v : Cell). v.x) (next_right x w k) in omega (arith, there.0)))
+    east_column (suc n) x e = at_column E refl (λ n. refl) forced_is long are_told (λ x. refl) x (omega arith)
+        (λ w k. ap (λ (n : ℕ). number out n) (let m : x + 2 ≡ x + 1 + 1 = omega arith in m)
+        ∙ east_column n (x + 1) (omega arith) ∙ ap (λ (v : Cell). table_entry g v E) (next_right x w k))
+
+    pub east_row : IsEntryRow g y E out
+    east_row = whole_entries E (λ x within. east_column (g.width - suc x) x (omega arith))
+
+-- where a neighbour is forced in a row that may lie off the map
+pub forced_if : (g : GridData) → IsGrid g → (m : ℕ) (above here below : List Bool)
+    → (m < 4096 → AreRowsAround g m above here below) → (d : Dir) (corner : Corner) (forced : List Bool)
+    → corner ≡ g.corner → length forced ≡ g.width + 2 → AreForced corner above here below d forced
+    → IsForcedRow g m d forced
+forced_if g whole m above here below around d corner forced rule long are v row free =
+    forced_row g whole m above here below
+    (around (let inside = free_inside g v free in let low = whole.sides.low in omega (arith, inside.1))) d corner
+    forced rule long are v row free

@@ -1,0 +1,49 @@
+use Rattle.std.proofs.Common.{◌≡◌, ◌+◌, ◌<◌, true, arith, refl, ap, w16, to_z, of_z}
+use Rattle.std.proofs.lemmas.Bool.Decides.{nat_tests}
+use Rattle.grid_moves.specs.declared.Cell.{Cell}
+use Rattle.grid_moves.specs.declared.Dir.TheVariants.{N, NE, E, W, NW}
+use Rattle.grid_moves.specs.Grid.{GridData, is_inside}
+use Rattle.plus_tables.specs.Tables.{TablesData, is_on}
+use Rattle.plus_tables.specs.Sweep.{is_upward}
+use Rattle.plus_tables.proofs.Sweeping.{row_value, laid_up, laid_row}
+use Rattle.plus_tables.proofs.tables.Tables.lay_up.Goals as goal
+
+pub loop-x-preserved : goal.loop-x-preserved
+loop-x-preserved g c =
+    let grid : GridData = g.T.Terrain.grid c.args.t.now in
+    let line = c.args.line.now in
+    let x = c.loop-x.x in
+    let y = c.args.y in
+    let at : Cell = record { x = x; y = y } in
+    let view = ap (λ (t : TablesData). t.width) c.self.view_is in
+    let test = c.loop-x-test.true in
+    let row = c.requires.inside in
+    let wide = c.loop-x.invariant.sized.width in
+    let high = c.loop-x.invariant.sized.height in
+    let wide_then = c.requires.sized.width in
+    let high_then = c.requires.sized.height in
+    let on : is_on c.loop-x.self at ≡ true = grind (arith, nat_tests) in
+    let inside_column : x < grid.width = grind (arith, nat_tests) in
+    let inside : is_inside grid at ≡ true = grind (arith, nat_tests) in
+    laid_up grid x y c.args.self.now c.loop-x.self c.put_up.new.self
+    (to_z w16 (of_z w16 c.index.result.now)) (to_z w16 (of_z w16 c.index-in-loop-x.result.now)) (to_z w16 (of_z w16 c.index-in-loop-x-3.result.now)) (to_z w16 (of_z w16 c.index-in-loop-x-4.result.now)) (to_z w16 (of_z w16 c.index-in-loop-x-2.result.now))
+    c.loop-x.invariant on c.put_up.ensures
+    (row_value grid c.requires.whole x y N line.straight.items c.index.result.now (x + 1) refl
+    (omega (arith, c.requires.long.straight, inside_column)) c.index.ensures c.requires.told.straight inside)
+    (row_value grid c.requires.whole x y NE line.right.items c.index-in-loop-x.result.now (x + 1) refl
+    (omega (arith, c.requires.long.right, inside_column)) c.index-in-loop-x.ensures c.requires.told.right inside)
+    (row_value grid c.requires.whole x y E line.east.items c.index-in-loop-x-3.result.now (x + 1) refl
+    (omega (arith, c.requires.long.east, inside_column)) c.index-in-loop-x-3.ensures c.requires.told.east inside)
+    (row_value grid c.requires.whole x y W line.west.items c.index-in-loop-x-4.result.now (x + 1) refl
+    (omega (arith, c.requires.long.west, inside_column)) c.index-in-loop-x-4.ensures c.requires.told.west inside)
+    (row_value grid c.requires.whole x y NW line.left.items c.index-in-loop-x-2.result.now (x + 1) refl
+    (omega (arith, c.requires.long.left, inside_column)) c.index-in-loop-x-2.ensures c.requires.told.left inside)
+
+pub returns : goal.returns
+returns g c =
+    let grid : GridData = g.T.Terrain.grid c.args.t.now in
+    let view = ap (λ (t : TablesData). t.width) c.self.view_is in
+    let wide_then = c.requires.sized.width in
+    let test = c.loop-x-test.false in
+    let all : c.loop-x.x ≡ grid.width = grind (arith, nat_tests) in
+    laid_row grid is_upward c.loop-x.x c.args.y c.args.self.now c.loop-x.self all c.loop-x.invariant

@@ -1,0 +1,79 @@
+use Rattle.std.proofs.Common.{◌≡◌, ◌+◌, Bool, List, length, refl, arith, ap, sym, ◌∙◌, subst}
+use Rattle.std.proofs.lemmas.Bool.Decides.{nat_tests}
+use Rattle.std.proofs.lemmas.List.{with_items_is}
+use Rattle.std.specs.Prelude.{ℤ}
+use Rattle.grid_moves.specs.declared.Dir.TheVariants.{E, W}
+use Rattle.grid_moves.specs.Grid.{GridData}
+use Rattle.plus_tables.specs.declared.lines.Line.{Line}
+use Rattle.plus_tables.specs.Sweep.{from_row}
+use Rattle.plus_tables.specs.Lines.{IsLong, downward_row}
+use Rattle.plus_tables.proofs.Sweeping.{right_swept}
+use Rattle.plus_tables.proofs.Lining.{flags_as, entries_as, taken, ready_back, around_down, kept_down}
+use Rattle.plus_tables.proofs.tables.Tables.sweep_row_down.Goals as goal
+
+pub tell_down-requires-clause-ready : goal.tell_down-requires-clause-ready
+tell_down-requires-clause-ready g c =
+    let grid : GridData = g.T.Terrain.grid c.args.t.now in
+    let rows = c.args.rows.now in
+    let back = flags_as grid c.before-2.result c.read_row.new.row _
+    (with_items_is rows.band.back c.read_row.new.row (omega arith)) c.read_row.ensures in
+    let ready = ready_back grid _ c.args.y c.before-2.result rows.band _ rows.last c.requires.kept.ready refl refl refl
+    back in
+    (c.args.y, ready, around_down grid c.args.y c.before-2.result _ rows.last ready c.before-2.ensures back)
+
+pub lay_down-requires-clause-told : goal.lay_down-requires-clause-told
+lay_down-requires-clause-told g c =
+    let grid : GridData = g.T.Terrain.grid c.args.t.now in
+    let rows = c.args.rows.now in
+    let back = flags_as grid c.before-2.result c.read_row.new.row _
+    (with_items_is rows.band.back c.read_row.new.row (omega arith)) c.read_row.ensures in
+    let ready = ready_back grid _ c.args.y c.before-2.result rows.band _ rows.last c.requires.kept.ready refl refl refl
+    back in
+    let told = c.tell_down.ensures.told c.args.y ready
+    (around_down grid c.args.y c.before-2.result _ rows.last ready c.before-2.ensures back) in
+    record { straight = told.straight; right = told.right; left = told.left }
+
+pub returns-clause-right : goal.returns-clause-right
+returns-clause-right g c =
+    right_swept c.args.self.now c.lay_down.new.self (g.T.Terrain.grid c.args.t.now) (downward_row c.args.y)
+    (from_row (c.args.y + 1)) (from_row c.args.y) c.requires.below c.lay_down.ensures
+    (λ v e inside h. grind (arith, nat_tests))
+
+pub returns-clause-kept : goal.returns-clause-kept
+returns-clause-kept g c =
+    let grid : GridData = g.T.Terrain.grid c.args.t.now in
+    let rows = c.args.rows.now in
+    let back = flags_as grid c.before-2.result c.read_row.new.row _
+    (with_items_is rows.band.back c.read_row.new.row (omega arith)) c.read_row.ensures in
+    let ready = ready_back grid _ c.args.y c.before-2.result rows.band _ rows.last c.requires.kept.ready refl refl refl
+    back in
+    let same = with_items_is rows.forced c.tell_down.new.forced (omega arith) in
+    let room : length c.tell_down.new.forced ≡ grid.width + 2 = omega (arith, c.requires.kept.forced) in
+    let told = c.tell_down.ensures.told c.args.y ready
+    (around_down grid c.args.y c.before-2.result _ rows.last ready c.before-2.ensures back) in
+    let this = c.tell_down.new.this in
+    let long = c.tell_down.ensures.long in
+    let east = with_items_is this.east c.take_along.new.east (omega arith) in
+    let west = with_items_is this.west c.take_along.new.west (omega arith) in
+    let east_long : length c.take_along.new.east ≡ grid.width + 2 = omega (arith, long.east) in
+    let west_long : length c.take_along.new.west ≡ grid.width + 2 = omega (arith, long.west) in
+    λ some. kept_down grid c.args.y c.before-2.result _ rows.last _ c.go_on.new.self some c.before-2.ensures ready back
+    (record {
+      straight = told.straight;
+      right = told.right;
+      left = told.left;
+      east = entries_as grid c.args.y E c.take_along.new.east _ east
+          (taken grid c.args.self.now c.args.y E c.take_along.new.east c.requires.below refl c.take_along.ensures.east);
+      west = entries_as grid c.args.y W c.take_along.new.west _ west
+          (taken grid c.args.self.now c.args.y W c.take_along.new.west c.requires.below refl c.take_along.ensures.west);
+    })
+    (record {
+      straight = long.straight;
+      right = long.right;
+      left = long.left;
+      east = ap (λ (r : List ℤ). length r) east ∙ east_long;
+      west = ap (λ (r : List ℤ). length r) west ∙ west_long;
+    })
+    c.go_on.ensures.far c.go_on.ensures.next c.go_on.ensures.here c.go_on.ensures.back c.go_on.ensures.last
+    (subst (λ (l : Line). IsLong grid l) (sym c.go_on.ensures.this) c.requires.kept.ready.long)
+    (ap (λ (r : List Bool). length r) (c.go_on.ensures.forced ∙ same) ∙ room)

@@ -1,0 +1,52 @@
+use Rattle.std.proofs.Common.{◌≡◌, ◌+◌, Bool, List, length, refl, arith, ap, sym, ◌∙◌, subst}
+use Rattle.std.proofs.lemmas.Bool.Decides.{nat_tests}
+use Rattle.std.proofs.lemmas.List.{with_items_is}
+use Rattle.grid_moves.specs.Grid.{GridData}
+use Rattle.plus_tables.specs.declared.lines.Line.{Line}
+use Rattle.plus_tables.specs.Sweep.{above}
+use Rattle.plus_tables.specs.Lines.{IsLong, upward_row}
+use Rattle.plus_tables.proofs.Sweeping.{right_swept}
+use Rattle.plus_tables.proofs.Lining.{flags_as, ready_back, around_up, kept_up}
+use Rattle.plus_tables.proofs.tables.Tables.sweep_row_up.Goals as goal
+
+pub tell_up-requires-clause-ready : goal.tell_up-requires-clause-ready
+tell_up-requires-clause-ready g c =
+    let grid : GridData = g.T.Terrain.grid c.args.t.now in
+    let rows = c.args.rows.now in
+    let back = flags_as grid (c.args.y + 1) c.read_row.new.row _
+    (with_items_is rows.band.back c.read_row.new.row (omega arith)) c.read_row.ensures in
+    let ready = ready_back grid _ c.args.y (c.args.y + 1) rows.band _ rows.last c.requires.kept.ready refl refl refl
+    back in
+    (c.args.y, ready, around_up grid c.args.y _ rows.last ready back)
+
+pub lay_up-requires-clause-told : goal.lay_up-requires-clause-told
+lay_up-requires-clause-told g c =
+    let grid : GridData = g.T.Terrain.grid c.args.t.now in
+    let rows = c.args.rows.now in
+    let back = flags_as grid (c.args.y + 1) c.read_row.new.row _
+    (with_items_is rows.band.back c.read_row.new.row (omega arith)) c.read_row.ensures in
+    let ready = ready_back grid _ c.args.y (c.args.y + 1) rows.band _ rows.last c.requires.kept.ready refl refl refl
+    back in
+    c.tell_up.ensures.told c.args.y ready (around_up grid c.args.y _ rows.last ready back)
+
+pub returns-clause-right : goal.returns-clause-right
+returns-clause-right g c =
+    right_swept c.args.self.now c.lay_up.new.self (g.T.Terrain.grid c.args.t.now) (upward_row c.args.y)
+    (above c.args.y) (above (c.args.y + 1)) c.requires.above c.lay_up.ensures
+    (λ v e inside h. grind (arith, nat_tests))
+
+pub returns-clause-kept : goal.returns-clause-kept
+returns-clause-kept g c =
+    let grid : GridData = g.T.Terrain.grid c.args.t.now in
+    let rows = c.args.rows.now in
+    let back = flags_as grid (c.args.y + 1) c.read_row.new.row _
+    (with_items_is rows.band.back c.read_row.new.row (omega arith)) c.read_row.ensures in
+    let ready = ready_back grid _ c.args.y (c.args.y + 1) rows.band _ rows.last c.requires.kept.ready refl refl refl
+    back in
+    let same = with_items_is rows.forced c.tell_up.new.forced (omega arith) in
+    let room : length c.tell_up.new.forced ≡ grid.width + 2 = omega (arith, c.requires.kept.forced) in
+    kept_up grid c.args.y _ rows.last c.tell_up.new.this c.go_on.new.self ready back
+    (c.tell_up.ensures.told c.args.y ready (around_up grid c.args.y _ rows.last ready back)) c.tell_up.ensures.long
+    c.go_on.ensures.far c.go_on.ensures.next c.go_on.ensures.here c.go_on.ensures.back c.go_on.ensures.last
+    (subst (λ (l : Line). IsLong grid l) (sym c.go_on.ensures.this) c.requires.kept.ready.long)
+    (ap (λ (r : List Bool). length r) (c.go_on.ensures.forced ∙ same) ∙ room)

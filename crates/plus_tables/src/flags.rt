@@ -1,0 +1,206 @@
+//! Rows of flags: which cells are free, and what the cells around one tell of moves.
+//!
+//! What belongs to column `x` stands at `x + 1`, so that each column has one before and one after it. No loop has a
+//! branch, and each direction and corner rule has code of its own, which the compiler turns into vector code.
+
+ghost use Rattle.std.specs.Prelude.{◌≡◌, ℕ, ◌+◌, ◌-◌, ◌<◌, ◌≤◌, false, length};
+ghost use Rattle.grid_moves.specs.Move as moves;
+ghost use Rattle.plus_tables.specs.Rows as spec;
+
+use grid_moves::{Cell, Corner, Dir, Terrain};
+use pruning::{Side, is_diagonal, quarter, rear, turn};
+
+/// Which cells around a cell are free.
+#[derive(Clone, Copy)]
+pub struct Ring {
+    pub n: bool,
+    pub ne: bool,
+    pub e: bool,
+    pub se: bool,
+    pub s: bool,
+    pub sw: bool,
+    pub w: bool,
+    pub nw: bool,
+}
+
+// The flags around a column.
+#[inline(always)]
+pub fn ring_at(above: &[bool], here: &[bool], below: &[bool], x: usize) -> Ring
+    requires above { x + 2 < length above.now }
+    requires here { x + 2 < length here.now }
+    requires below { x + 2 < length below.now }
+    ensures { result ≡ spec.ring_of above.now here.now below.now x }
+{
+    Ring {
+        n: above[x + 1],
+        ne: above[x + 2],
+        e: here[x + 2],
+        se: below[x + 2],
+        s: below[x + 1],
+        sw: below[x],
+        w: here[x],
+        nw: above[x],
+    }
+}
+
+// Whether the cell in this direction is free.
+#[inline(always)]
+fn is_open(ring: Ring, d: Dir) -> bool
+    ensures { result ≡ spec.open_in ring d }
+{
+    match d {
+        Dir::N => ring.n,
+        Dir::NE => ring.ne,
+        Dir::E => ring.e,
+        Dir::SE => ring.se,
+        Dir::S => ring.s,
+        Dir::SW => ring.sw,
+        Dir::W => ring.w,
+        Dir::NW => ring.nw,
+    }
+}
+
+// Whether a diagonal move passes between the two cells beside it.
+#[inline(always)]
+fn passes(corner: Corner, one: bool, other: bool) -> bool
+    ensures { result ≡ moves.is_passable corner one other }
+{
+    match corner {
+        Corner::Never => one & other,
+        Corner::One => one | other,
+    }
+}
+
+/// Whether a move from a free cell is legal.
+#[inline(always)]
+pub fn can_move(corner: Corner, ring: Ring, d: Dir) -> bool
+    ensures { result ≡ spec.can_by corner ring d }
+{
+    if is_diagonal(d) {
+        let left = is_open(ring, turn(Side::Left, d));
+        let right = is_open(ring, turn(Side::Right, d));
+        is_open(ring, d) & passes(corner, left, right)
+    } else {
+        is_open(ring, d)
+    }
+}
+
+// Whether a neighbour on this side is forced at a free cell, after a move.
+#[inline(always)]
+fn is_forced_on(corner: Corner, ring: Ring, d: Dir, s: Side) -> bool
+    ensures { result ≡ spec.forced_on corner ring d s }
+{
+    match corner {
+        Corner::Never if is_diagonal(d) => false,
+        Corner::One if !is_diagonal(d) => {
+            !is_open(ring, quarter(s, d)) & can_move(corner, ring, turn(s, d))
+        }
+        _ => !is_open(ring, rear(s, d)) & can_move(corner, ring, quarter(s, d)),
+    }
+}
+
+// Whether a neighbour is forced at a free cell, after a move.
+#[inline(always)]
+fn is_forced(corner: Corner, ring: Ring, d: Dir) -> bool
+    ensures { result ≡ spec.forced_by corner ring d }
+{
+    is_forced_on(corner, ring, d, Side::Right) | is_forced_on(corner, ring, d, Side::Left)
+}
+
+// For each column whether a neighbour is forced there, if it is free.
+#[inline(always)]
+fn force_by(
+    corner: Corner,
+    above: &[bool],
+    here: &[bool],
+    below: &[bool],
+    d: Dir,
+    forced: &mut [bool],
+)
+    requires some { 2 ≤ length forced.old }
+    requires above { length above.now ≡ length forced.old }
+    requires here { length here.now ≡ length forced.old }
+    requires below { length below.now ≡ length forced.old }
+    ensures { spec.AreForced corner above.now here.now below.now d forced.new }
+{
+    for x in 0..forced.len() - 2 {
+        forced[x + 1] = is_forced(corner, ring_at(above, here, below, x), d);
+    }
+}
+
+// The same where no corner is cut; each direction has code of its own, in which it is a constant.
+#[inline(never)]
+fn force_uncut(above: &[bool], here: &[bool], below: &[bool], d: Dir, forced: &mut [bool])
+    requires some { 2 ≤ length forced.old }
+    requires above { length above.now ≡ length forced.old }
+    requires here { length here.now ≡ length forced.old }
+    requires below { length below.now ≡ length forced.old }
+    ensures { spec.AreForced Corner.Never above.now here.now below.now d forced.new }
+{
+    match d {
+        Dir::N => force_by(Corner::Never, above, here, below, Dir::N, forced),
+        Dir::NE => force_by(Corner::Never, above, here, below, Dir::NE, forced),
+        Dir::E => force_by(Corner::Never, above, here, below, Dir::E, forced),
+        Dir::SE => force_by(Corner::Never, above, here, below, Dir::SE, forced),
+        Dir::S => force_by(Corner::Never, above, here, below, Dir::S, forced),
+        Dir::SW => force_by(Corner::Never, above, here, below, Dir::SW, forced),
+        Dir::W => force_by(Corner::Never, above, here, below, Dir::W, forced),
+        Dir::NW => force_by(Corner::Never, above, here, below, Dir::NW, forced),
+    }
+}
+
+// The same where a corner may be cut.
+#[inline(never)]
+fn force_cut(above: &[bool], here: &[bool], below: &[bool], d: Dir, forced: &mut [bool])
+    requires some { 2 ≤ length forced.old }
+    requires above { length above.now ≡ length forced.old }
+    requires here { length here.now ≡ length forced.old }
+    requires below { length below.now ≡ length forced.old }
+    ensures { spec.AreForced Corner.One above.now here.now below.now d forced.new }
+{
+    match d {
+        Dir::N => force_by(Corner::One, above, here, below, Dir::N, forced),
+        Dir::NE => force_by(Corner::One, above, here, below, Dir::NE, forced),
+        Dir::E => force_by(Corner::One, above, here, below, Dir::E, forced),
+        Dir::SE => force_by(Corner::One, above, here, below, Dir::SE, forced),
+        Dir::S => force_by(Corner::One, above, here, below, Dir::S, forced),
+        Dir::SW => force_by(Corner::One, above, here, below, Dir::SW, forced),
+        Dir::W => force_by(Corner::One, above, here, below, Dir::W, forced),
+        Dir::NW => force_by(Corner::One, above, here, below, Dir::NW, forced),
+    }
+}
+
+/// For each column of a row whether a neighbour is forced there after a move, if the cell is free. `above`, `here` and
+/// `below` are the row and the two beside it.
+pub fn force(
+    corner: Corner,
+    above: &[bool],
+    here: &[bool],
+    below: &[bool],
+    d: Dir,
+    forced: &mut [bool],
+)
+    requires some { 2 ≤ length forced.old }
+    requires above { length above.now ≡ length forced.old }
+    requires here { length here.now ≡ length forced.old }
+    requires below { length below.now ≡ length forced.old }
+    ensures { spec.AreForced corner above.now here.now below.now d forced.new }
+{
+    match corner {
+        Corner::Never => force_uncut(above, here, below, d, forced),
+        Corner::One => force_cut(above, here, below, d, forced),
+    }
+}
+
+/// Reads which cells of a row are free; none of a row outside is.
+#[inline(never)]
+pub fn read_row<T: Terrain>(t: &T, y: u16, row: &mut [bool])
+    requires long { length row.old ≡ (T.grid t.now).width + 2 }
+    requires first { spec.flag row.old 0 ≡ false }
+    requires last { spec.flag row.old ((T.grid t.now).width + 1) ≡ false }
+    ensures { spec.IsFlagRow (T.grid t.now) y row.new }
+{
+    for x in 0..t.width() {
+        row[x as usize + 1] = t.free(Cell { x, y });
+    }
+}

@@ -1,0 +1,170 @@
+//! Rows of entries, each told by those at the next cells: in another row, or further on in this one.
+//!
+//! What belongs to column `x` stands at `x + 1`, as in rows of flags. Across rows no entry rests on another of its
+//! row: these loops have no branch, and each direction has code of its own, which the compiler turns into vector
+//! code. Along a row each rests on the one before.
+
+ghost use Rattle.std.specs.Prelude.{◌≡◌, ℕ, ◌+◌, ◌-◌, ◌<◌, ◌≤◌, true, length};
+ghost use Rattle.plus_tables.specs.Local as local;
+ghost use Rattle.plus_tables.specs.Rows as spec;
+ghost use Rattle.plus_tables.specs.Tables.{IsShort};
+
+use crate::flags::{can_move, ring_at};
+use crate::tables::tells_mark;
+use grid_moves::{Corner, Dir};
+use pruning::is_diagonal;
+
+// What an entry becomes from one move further back.
+#[inline(always)]
+fn from_before(entry: i16) -> i16
+    ensures { IsShort entry → result ≡ local.from_before entry }
+{
+    if 0 < entry {
+        entry.wrapping_add(1)
+    } else {
+        entry.wrapping_sub(1)
+    }
+}
+
+// The entry of a cell, told whether the move is legal, whether the next cell is marked, and its entry.
+#[inline(always)]
+fn told(legal: bool, mark: bool, next: i16) -> i16
+    ensures { (legal ≡ true → IsShort next) → result ≡ spec.told legal mark next }
+{
+    let further = from_before(next);
+    let entry = if mark { 1 } else { further };
+    if legal { entry } else { 0 }
+}
+
+// Where the column stands to which a move leads.
+#[inline(always)]
+fn place_after(d: Dir, x: usize) -> usize
+    requires { x < 65536 }
+    ensures is { result ≡ spec.place_after d x }
+    ensures near { result ≤ x + 2 }
+{
+    match d {
+        Dir::NE | Dir::E | Dir::SE => x + 2,
+        Dir::SW | Dir::W | Dir::NW => x,
+        Dir::N | Dir::S => x + 1,
+    }
+}
+
+/// Three rows of flags: a row and the two beside it.
+#[derive(Clone, Copy)]
+pub struct Three<'a> {
+    pub above: &'a [bool],
+    pub here: &'a [bool],
+    pub below: &'a [bool],
+}
+
+/// The entries of the next row for a direction and for those beside it.
+#[derive(Clone, Copy)]
+pub struct Ahead<'a> {
+    pub ahead: &'a [i16],
+    pub right: &'a [i16],
+    pub left: &'a [i16],
+}
+
+// The entries of a row, told by those of the next.
+#[inline(always)]
+fn across_by(corner: Corner, rows: Three, forced: &[bool], next: Ahead, d: Dir, out: &mut [i16])
+    requires some { 2 ≤ length out.old }
+    requires few { length out.old < 65536 }
+    requires above { length rows.above.now ≡ length out.old }
+    requires here { length rows.here.now ≡ length out.old }
+    requires below { length rows.below.now ≡ length out.old }
+    requires forced { length forced.now ≡ length out.old }
+    requires ahead { length next.ahead.now ≡ length out.old }
+    requires right { length next.right.now ≡ length out.old }
+    requires left { length next.left.now ≡ length out.old }
+    ensures { spec.AreToldBelow corner rows.entry.above.now rows.entry.here.now rows.entry.below.now
+        forced.now next.entry.ahead.now next.entry.right.now next.entry.left.now d out.new
+        (length out.new - 2) }
+{
+    for x in 0..out.len() - 2 {
+        let ring = ring_at(rows.above, rows.here, rows.below, x);
+        let legal = rows.here[x + 1] & can_move(corner, ring, d);
+        let at = place_after(d, x);
+        let aside = tells_mark(next.right[at]) | tells_mark(next.left[at]);
+        let mark = forced[at] | (is_diagonal(d) & aside);
+        out[x + 1] = told(legal, mark, next.ahead[at]);
+    }
+}
+
+// The same; each direction that leads to another row has code of its own, in which it is a constant.
+#[inline(always)]
+fn across_told(corner: Corner, rows: Three, forced: &[bool], next: Ahead, d: Dir, out: &mut [i16])
+    requires some { 2 ≤ length out.old }
+    requires few { length out.old < 65536 }
+    requires above { length rows.above.now ≡ length out.old }
+    requires here { length rows.here.now ≡ length out.old }
+    requires below { length rows.below.now ≡ length out.old }
+    requires forced { length forced.now ≡ length out.old }
+    requires ahead { length next.ahead.now ≡ length out.old }
+    requires right { length next.right.now ≡ length out.old }
+    requires left { length next.left.now ≡ length out.old }
+    ensures { spec.AreToldBelow corner rows.entry.above.now rows.entry.here.now rows.entry.below.now
+        forced.now next.entry.ahead.now next.entry.right.now next.entry.left.now d out.new
+        (length out.new - 2) }
+{
+    match d {
+        Dir::N => across_by(corner, rows, forced, next, Dir::N, out),
+        Dir::NE => across_by(corner, rows, forced, next, Dir::NE, out),
+        Dir::SE => across_by(corner, rows, forced, next, Dir::SE, out),
+        Dir::S => across_by(corner, rows, forced, next, Dir::S, out),
+        Dir::SW => across_by(corner, rows, forced, next, Dir::SW, out),
+        Dir::NW => across_by(corner, rows, forced, next, Dir::NW, out),
+        _ => across_by(corner, rows, forced, next, d, out),
+    }
+}
+
+/// The entries of a row for a direction that leads to another, told by those of the next row.
+#[inline(never)]
+pub fn across(corner: Corner, rows: Three, forced: &[bool], next: Ahead, d: Dir, out: &mut [i16])
+    requires some { 2 ≤ length out.old }
+    requires few { length out.old < 65536 }
+    requires above { length rows.above.now ≡ length out.old }
+    requires here { length rows.here.now ≡ length out.old }
+    requires below { length rows.below.now ≡ length out.old }
+    requires forced { length forced.now ≡ length out.old }
+    requires ahead { length next.ahead.now ≡ length out.old }
+    requires right { length next.right.now ≡ length out.old }
+    requires left { length next.left.now ≡ length out.old }
+    ensures { spec.AreToldBelow corner rows.entry.above.now rows.entry.here.now rows.entry.below.now
+        forced.now next.entry.ahead.now next.entry.right.now next.entry.left.now d out.new
+        (length out.new - 2) }
+{
+    match corner {
+        Corner::Never => across_told(Corner::Never, rows, forced, next, d, out),
+        Corner::One => across_told(Corner::One, rows, forced, next, d, out),
+    }
+}
+
+/// The entries of a row for E, told from its right end.
+#[inline(never)]
+pub fn east(here: &[bool], forced: &[bool], out: &mut [i16])
+    requires some { 2 ≤ length out.old }
+    requires few { length out.old < 65536 }
+    requires here { length here.now ≡ length out.old }
+    requires forced { length forced.now ≡ length out.old }
+    ensures { (x : ℕ) → x < length out.new - 2 → spec.IsToldAlong here.now forced.now Dir.E out.new x }
+{
+    for x in (0..out.len() - 2).rev() {
+        out[x + 1] = told(here[x + 1] & here[x + 2], forced[x + 2], out[x + 2]);
+    }
+}
+
+/// The entries of a row for W, told from its left end.
+#[inline(never)]
+pub fn west(here: &[bool], forced: &[bool], out: &mut [i16])
+    requires some { 2 ≤ length out.old }
+    requires few { length out.old < 65536 }
+    requires here { length here.now ≡ length out.old }
+    requires forced { length forced.now ≡ length out.old }
+    ensures { (x : ℕ) → x < length out.new - 2 → spec.IsToldAlong here.now forced.now Dir.W out.new x }
+{
+    for x in 0..out.len() - 2 {
+        out[x + 1] = told(here[x + 1] & here[x], forced[x], out[x]);
+    }
+}
