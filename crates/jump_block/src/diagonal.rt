@@ -4,21 +4,44 @@ ghost use Rattle.std.specs.Prelude.{◌≡◌, ℕ, ◌+◌, ◌<◌, ◌≤◌,
 ghost use Rattle.grid_moves.specs.Grid.{GridData, is_free};
 ghost use Rattle.grid_moves.specs.Move as moves;
 ghost use Rattle.grid_moves.specs.Move.{ahead, is_same};
-ghost use Rattle.pruning.specs.Turns as turns;
 ghost use Rattle.pruning.specs.Turns.{is_diagonal};
 ghost use Rattle.pruning.specs.Allowed.{can_move};
 ghost use Rattle.pruning.specs.Marked.{is_forced};
 ghost use Rattle.bit_grid.specs.Bits.{is_free_from_one};
 ghost use Rattle.pruning.specs.First as first;
 ghost use Rattle.jump_plain.specs.Beside.{known};
+ghost use Rattle.jump_block.specs.Source as spec;
 ghost use Rattle.jump_block.specs.Source.{AreItsBits};
 
 use crate::patch::{Patch, bit_of};
 use crate::straight::Bits;
+use crate::word::Way;
 use grid_moves::{Cell, Corner, Dir, is_passable};
 use pruning::{Side, turn};
 use std::sync::ledger::Ledger;
 use steps::Steps;
+
+// Which way along the row a diagonal leads.
+#[inline(always)]
+fn row_way(d: Dir) -> Way
+    ensures { result ≡ spec.row_way d }
+{
+    match d {
+        Dir::NE | Dir::SE => Way::Forward,
+        _ => Way::Back,
+    }
+}
+
+// Which way along the column it leads.
+#[inline(always)]
+fn column_way(d: Dir) -> Way
+    ensures { result ≡ spec.column_way d }
+{
+    match d {
+        Dir::SE | Dir::SW => Way::Forward,
+        _ => Way::Back,
+    }
+}
 
 /// The cell that lies ahead. Before the first column or row it has the column or row 65535, at which no
 /// cell is free.
@@ -130,20 +153,6 @@ impl<'a> Bits<'a> {
         }
     }
 
-    // Whether a straight jump in this direction finds a stop.
-    #[inline(always)]
-    fn finds_stop<L: Ledger>(&self, at: Cell, d: Dir, goal: Cell, steps: &mut Steps<L>) -> bool
-        requires stands { (g : GridData) × AreItsBits self.now.rows.now self.now.columns.now self.now.corner g
-            × (is_free g at ≡ true) }
-        requires straight { is_diagonal d ≡ false }
-        ensures finds { (g : GridData)
-            → AreItsBits self.now.rows.now self.now.columns.now self.now.corner g → is_free g at ≡ true
-            → result ≡ is_some (first.first_stop g goal at d) }
-        ensures more { steps.old ≤ steps.new }
-    {
-        self.straight(at, d, goal, steps).is_some()
-    }
-
     // Whether a diagonal jump stops at a cell: it is the goal, or a neighbour is forced there, or a straight
     // jump in a component finds a stop.
     #[inline(always)]
@@ -154,14 +163,14 @@ impl<'a> Bits<'a> {
         ensures stops { (g : GridData)
             → AreItsBits self.now.rows.now self.now.columns.now self.now.corner g → is_free g at ≡ true
             → result ≡ (is_same at goal || is_forced g at d
-            || is_some (first.first_stop g goal at (turns.turn Side.Right d))
-            || is_some (first.first_stop g goal at (turns.turn Side.Left d))) }
+            || is_some (first.first_stop g goal at (spec.row_dir (spec.row_way d)))
+            || is_some (first.first_stop g goal at (spec.column_dir (spec.column_way d)))) }
         ensures more { steps.old ≤ steps.new }
     {
         at == goal
             || self.forces(at, d, steps)
-            || self.finds_stop(at, turn(Side::Right, d), goal, steps)
-            || self.finds_stop(at, turn(Side::Left, d), goal, steps)
+            || self.finds_on_row(at, row_way(d), goal, steps)
+            || self.finds_on_column(at, column_way(d), goal, steps)
     }
 
     /// After how many moves a diagonal jump stops.

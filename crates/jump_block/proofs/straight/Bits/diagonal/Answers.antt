@@ -1,5 +1,8 @@
-use Rattle.std.proofs.Common.{true, false, arith, sym, ◌∙◌}
+use Rattle.std.proofs.Common.{true, false, arith, refl, sym, ◌∙◌}
+use Rattle.std.specs.Prelude.{is_some}
+use Rattle.grid_moves.specs.declared.Dir.{Dir}
 use Rattle.pruning.specs.First.{first_stop}
+use Rattle.jump_block.proofs.Directions.{parts}
 use Rattle.jump_plain.proofs.Besides.{beyond_stuck}
 use Rattle.jump_plain.proofs.Reaching.{run_length-next, run_length-few}
 use Rattle.jump_plain.proofs.Diagonal.{is_stop-read, stops_nowhere, stops_here, stops_later}
@@ -48,7 +51,9 @@ returns-then-stops_at-clause-first g c = λ grid are free.
     stops_here grid c.args.goal c.run.cell c.args.d c.run.moves
     (first_stop grid c.args.goal c.args.at c.args.d) there.stop c.beyond-next.result legal
     (is_stop-read grid c.args.goal c.args.d c.beyond-next.result c.requires.diagonal c.stops_at.result true
-    (c.stops_at.ensures.stops grid are next) c.if-stops_at.true)
+    (c.stops_at.ensures.stops grid are next ∙ parts
+    (λ (e : Dir). is_some (first_stop grid c.args.goal c.beyond-next.result e)) c.args.d c.requires.diagonal
+    _ _ _ refl refl) c.if-stops_at.true)
 
 pub run-smaller : goal.run-smaller
 run-smaller g c =
@@ -81,7 +86,9 @@ run-preserved g c = record {
         stop = stops_later grid c.args.goal c.run.cell c.args.d c.run.moves
             (first_stop grid c.args.goal c.args.at c.args.d) there.stop c.beyond-next.result legal
             (is_stop-read grid c.args.goal c.args.d c.beyond-next.result c.requires.diagonal c.stops_at.result
-            false (c.stops_at.ensures.stops grid are next) c.if-stops_at.false);
+            false (c.stops_at.ensures.stops grid are next ∙ parts
+            (λ (e : Dir). is_some (first_stop grid c.args.goal c.beyond-next.result e)) c.args.d c.requires.diagonal
+            _ _ _ refl refl) c.if-stops_at.false);
         run = let longer = run_length-next grid c.run.cell c.beyond-next.result c.args.d legal in
             let run = there.run in
             omega arith;
