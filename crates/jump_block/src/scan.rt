@@ -64,27 +64,29 @@ fn scan_on<L: Ledger>(
     way: Way,
     rule: Corner,
     lines: &Lines,
-    start: Start,
+    line: u32,
+    place: u32,
+    to_goal: u32,
     last: Words,
     steps: &mut Steps<L>,
 ) -> Option<Halt>
-    requires starts { (free : ℕ → ℕ → Bool) × IsStart lines.now free start.line start.place }
+    requires starts { (free : ℕ → ℕ → Bool) × IsStart lines.now free line place }
     requires few { lines.now.lines < 65536 }
     requires short { lines.now.blocks ≤ 128 }
-    requires passed { (free : ℕ → ℕ → Bool) → IsStart lines.now free start.line start.place
-        → HasPassed (begun rule (trail_on free way start.line start.place)) way start.place
-        (spec.edge_before way (start.place / 512 * 512) 8) last }
-    ensures finds { (free : ℕ → ℕ → Bool) → IsStart lines.now free start.line start.place
-        → Finds (begun rule (trail_on free way start.line start.place)) start.to_goal result }
-    ensures most { steps.new + 3 ≤ steps.old + most_lanes (looked start.to_goal result) }
+    requires passed { (free : ℕ → ℕ → Bool) → IsStart lines.now free line place
+        → HasPassed (begun rule (trail_on free way line place)) way place
+        (spec.edge_before way (place / 512 * 512) 8) last }
+    ensures finds { (free : ℕ → ℕ → Bool) → IsStart lines.now free line place
+        → Finds (begun rule (trail_on free way line place)) to_goal result }
+    ensures most { steps.new + 3 ≤ steps.old + most_lanes (looked to_goal result) }
     ensures more { steps.old ≤ steps.new }
 {
-    let mut index = start.place / 512;
+    let mut index = place / 512;
     let mut last = last;
-    'blocks: while !is_met(start.to_goal, moves_through(way, start.place, index * 512)) {
+    'blocks: while !is_met(to_goal, moves_through(way, place, index * 512)) {
         index = next_block(way, index);
-        let block = Block::read(lines, start.line, index, steps);
-        last = match block.seek(way, 0, last, start.place, index * 512) {
+        let block = Block::read(lines, line, index, steps);
+        last = match block.seek(way, 0, last, place, index * 512) {
             Seek::Halted(halt) => return Some(halt),
             Seek::Passed(words) => words,
         };
@@ -115,6 +117,13 @@ pub(crate) fn scan<L: Ledger>(
     let block = Block::read(lines, start.line, index, steps);
     match block.seek_start(way, rule, start.place, index * 512) {
         Seek::Halted(halt) => Some(halt),
-        Seek::Passed(words) => scan_on(way, rule, lines, start, words, steps),
+        Seek::Passed(words) => {
+            let Start {
+                line,
+                place,
+                to_goal,
+            } = start;
+            scan_on(way, rule, lines, line, place, to_goal, words, steps)
+        }
     }
 }

@@ -7,11 +7,11 @@ use Rattle.jump_block.proofs.scan.scan_on.Goals as goal
 
 pub blocks-2-init : goal.blocks-2-init
 blocks-2-init g c =
-    let first = first_distance c.args.way c.args.start.place in
+    let first = first_distance c.args.way c.args.place in
     record {
-      below = start_inside c.args.lines.now c.requires.starts.0 c.args.start.line c.args.start.place
+      below = start_inside c.args.lines.now c.requires.starts.0 c.args.line c.args.place
           c.requires.starts.1;
-      on_way = first_on_way c.args.way c.args.start.place;
+      on_way = first_on_way c.args.way c.args.place;
       passed = c.requires.passed;
       read = omega arith;
       goal = λ h. omega arith;
@@ -20,7 +20,7 @@ blocks-2-init g c =
 pub next_block-index-requires : goal.next_block-index-requires
 next_block-index-requires g c =
     record {
-      more = (goes_on c.args.lines.now c.requires.starts.0 c.args.start.line c.args.start.place
+      more = (goes_on c.args.lines.now c.requires.starts.0 c.args.line c.args.place
           c.requires.starts.1 c.requires.short c.args.way c.args.rule c.blocks-2.index c.blocks-2.invariant.below
           c.blocks-2.invariant.on_way
           (c.blocks-2.invariant.passed c.requires.starts.0 c.requires.starts.1).clear).0;
@@ -28,15 +28,15 @@ next_block-index-requires g c =
 
 pub read-block-requires-clause-index : goal.read-block-requires-clause-index
 read-block-requires-clause-index g c =
-    rw c.next_block-index.ensures (goes_on c.args.lines.now c.requires.starts.0 c.args.start.line
-    c.args.start.place c.requires.starts.1 c.requires.short c.args.way c.args.rule c.blocks-2.index
+    rw c.next_block-index.ensures (goes_on c.args.lines.now c.requires.starts.0 c.args.line
+    c.args.place c.requires.starts.1 c.requires.short c.args.way c.args.rule c.blocks-2.index
     c.blocks-2.invariant.below c.blocks-2.invariant.on_way
     (c.blocks-2.invariant.passed c.requires.starts.0 c.requires.starts.1).clear).1
 
 pub seek-requires-clause-small : goal.seek-requires-clause-small
 seek-requires-clause-small g c =
     let below = rw (← c.next_block-index.ensures) at (goes_on c.args.lines.now c.requires.starts.0
-    c.args.start.line c.args.start.place c.requires.starts.1 c.requires.short c.args.way c.args.rule
+    c.args.line c.args.place c.requires.starts.1 c.requires.short c.args.way c.args.rule
     c.blocks-2.index c.blocks-2.invariant.below c.blocks-2.invariant.on_way
     (c.blocks-2.invariant.passed c.requires.starts.0 c.requires.starts.1).clear).1 in
     let few = c.requires.short in
@@ -44,56 +44,56 @@ seek-requires-clause-small g c =
 
 pub seek-requires-clause-ahead : goal.seek-requires-clause-ahead
 seek-requires-clause-ahead g c =
-    let on = goes_on c.args.lines.now c.requires.starts.0 c.args.start.line c.args.start.place
+    let on = goes_on c.args.lines.now c.requires.starts.0 c.args.line c.args.place
     c.requires.starts.1 c.requires.short c.args.way c.args.rule c.blocks-2.index c.blocks-2.invariant.below
     c.blocks-2.invariant.on_way
     (c.blocks-2.invariant.passed c.requires.starts.0 c.requires.starts.1).clear in
-    ahead_next c.args.way c.args.start.place c.blocks-2.index c.next_block-index.result
+    ahead_next c.args.way c.args.place c.blocks-2.index c.next_block-index.result
     c.next_block-index.ensures on.0 c.blocks-2.invariant.on_way
 
 pub returns-in-Halted-clause-finds : goal.returns-in-Halted-clause-finds
 returns-in-Halted-clause-finds g c = λ free start.
-    let t : Trail = trail_on free c.args.way c.args.start.line c.args.start.place in
-    let on = goes_on c.args.lines.now free c.args.start.line c.args.start.place start c.requires.short
+    let t : Trail = trail_on free c.args.way c.args.line c.args.place in
+    let on = goes_on c.args.lines.now free c.args.line c.args.place start c.requires.short
     c.args.way c.args.rule c.blocks-2.index c.blocks-2.invariant.below c.blocks-2.invariant.on_way
     (c.blocks-2.invariant.passed free start).clear in
-    let passed = passed_next c.args.way c.args.start.place c.blocks-2.index c.next_block-index.result
+    let passed = passed_next c.args.way c.args.place c.blocks-2.index c.next_block-index.result
     c.next_block-index.ensures on.0 c.blocks-2.invariant.on_way (begun c.args.rule t) c.blocks-2.last
     (c.blocks-2.invariant.passed free start) in
-    let ahead = ahead_next c.args.way c.args.start.place c.blocks-2.index c.next_block-index.result
+    let ahead = ahead_next c.args.way c.args.place c.blocks-2.index c.next_block-index.result
     c.next_block-index.ensures on.0 c.blocks-2.invariant.on_way in
     c.in-Halted.ensures (begun c.args.rule t)
-    (block_ahead t c.args.rule c.args.way c.args.start.place (c.next_block-index.result * 512)
+    (block_ahead t c.args.rule c.args.way c.args.place (c.next_block-index.result * 512)
     c.read-block.result ahead
     (c.read-block.ensures.shown start.count start.positions free start.shows c.args.way
-    c.args.start.place))
+    c.args.place))
     passed.edges passed.clear
 
 pub returns-in-Halted-clause-most : goal.returns-in-Halted-clause-most
 returns-in-Halted-clause-most g c =
     let free = c.requires.starts.0 in
     let start = c.requires.starts.1 in
-    let t : Trail = trail_on free c.args.way c.args.start.line c.args.start.place in
+    let t : Trail = trail_on free c.args.way c.args.line c.args.place in
     let halt = returns-in-Halted-clause-finds g c free start in
-    let on = goes_on c.args.lines.now free c.args.start.line c.args.start.place start c.requires.short
+    let on = goes_on c.args.lines.now free c.args.line c.args.place start c.requires.short
     c.args.way c.args.rule c.blocks-2.index c.blocks-2.invariant.below c.blocks-2.invariant.on_way
     (c.blocks-2.invariant.passed free start).clear in
-    let unmet : (nat_lt 0 c.args.start.to_goal && nat_le c.args.start.to_goal
-    (moves_before c.args.way c.args.start.place (edge_before c.args.way (c.blocks-2.index * 512) 8))) ≡ false =
-    ap (λ (n : ℕ). nat_lt 0 c.args.start.to_goal && nat_le c.args.start.to_goal n)
+    let unmet : (nat_lt 0 c.args.to_goal && nat_le c.args.to_goal
+    (moves_before c.args.way c.args.place (edge_before c.args.way (c.blocks-2.index * 512) 8))) ≡ false =
+    ap (λ (n : ℕ). nat_lt 0 c.args.to_goal && nat_le c.args.to_goal n)
     (sym c.moves_through.ensures) ∙ sym c.is_met.ensures ∙ c.blocks-2-test.true in
-    let read = read_next c.args.way c.args.start.place c.blocks-2.index c.next_block-index.result
+    let read = read_next c.args.way c.args.place c.blocks-2.index c.next_block-index.result
     c.next_block-index.ensures on.0 c.blocks-2.invariant.on_way (c.blocks-2.steps + 3) _ _
     (ap (λ (n : ℕ). n + 3) c.read-block.ensures.three_steps) c.blocks-2.invariant.read in
-    let most = most_next c.args.way c.args.start.place c.blocks-2.index c.next_block-index.result
-    c.next_block-index.ensures on.0 c.blocks-2.invariant.on_way (begun c.args.rule t) c.args.start.to_goal
+    let most = most_next c.args.way c.args.place c.blocks-2.index c.next_block-index.result
+    c.next_block-index.ensures on.0 c.blocks-2.invariant.on_way (begun c.args.rule t) c.args.to_goal
     c.in-Halted.halt.passed c.in-Halted.halt.blocked (c.blocks-2.invariant.passed free start).clear
     halt unmet in
     omega (arith, read, most)
 
 pub blocks-2-smaller : goal.blocks-2-smaller
 blocks-2-smaller g c =
-    let on = goes_on c.args.lines.now c.requires.starts.0 c.args.start.line c.args.start.place
+    let on = goes_on c.args.lines.now c.requires.starts.0 c.args.line c.args.place
     c.requires.starts.1 c.requires.short c.args.way c.args.rule c.blocks-2.index c.blocks-2.invariant.below
     c.blocks-2.invariant.on_way
     (c.blocks-2.invariant.passed c.requires.starts.0 c.requires.starts.1).clear in
@@ -102,11 +102,11 @@ blocks-2-smaller g c =
 
 pub blocks-2-preserved : goal.blocks-2-preserved
 blocks-2-preserved g c =
-    let unmet : (nat_lt 0 c.args.start.to_goal && nat_le c.args.start.to_goal
-    (moves_before c.args.way c.args.start.place (edge_before c.args.way (c.blocks-2.index * 512) 8))) ≡ false =
-    ap (λ (n : ℕ). nat_lt 0 c.args.start.to_goal && nat_le c.args.start.to_goal n)
+    let unmet : (nat_lt 0 c.args.to_goal && nat_le c.args.to_goal
+    (moves_before c.args.way c.args.place (edge_before c.args.way (c.blocks-2.index * 512) 8))) ≡ false =
+    ap (λ (n : ℕ). nat_lt 0 c.args.to_goal && nat_le c.args.to_goal n)
     (sym c.moves_through.ensures) ∙ sym c.is_met.ensures ∙ c.blocks-2-test.true in
-    let on = goes_on c.args.lines.now c.requires.starts.0 c.args.start.line c.args.start.place
+    let on = goes_on c.args.lines.now c.requires.starts.0 c.args.line c.args.place
     c.requires.starts.1 c.requires.short c.args.way c.args.rule c.blocks-2.index c.blocks-2.invariant.below
     c.blocks-2.invariant.on_way
     (c.blocks-2.invariant.passed c.requires.starts.0 c.requires.starts.1).clear in
@@ -114,32 +114,32 @@ blocks-2-preserved g c =
       below = rw c.next_block-index.ensures on.1;
       on_way = rw c.next_block-index.ensures on.2;
       passed = λ free start.
-          let t : Trail = trail_on free c.args.way c.args.start.line c.args.start.place in
-          let passed = passed_next c.args.way c.args.start.place c.blocks-2.index
+          let t : Trail = trail_on free c.args.way c.args.line c.args.place in
+          let passed = passed_next c.args.way c.args.place c.blocks-2.index
           c.next_block-index.result c.next_block-index.ensures on.0 c.blocks-2.invariant.on_way
           (begun c.args.rule t) c.blocks-2.last (c.blocks-2.invariant.passed free start) in
-          let ahead = ahead_next c.args.way c.args.start.place c.blocks-2.index
+          let ahead = ahead_next c.args.way c.args.place c.blocks-2.index
           c.next_block-index.result c.next_block-index.ensures on.0 c.blocks-2.invariant.on_way in
           c.in-Passed.ensures (begun c.args.rule t)
-          (block_ahead t c.args.rule c.args.way c.args.start.place (c.next_block-index.result * 512)
+          (block_ahead t c.args.rule c.args.way c.args.place (c.next_block-index.result * 512)
           c.read-block.result ahead
           (c.read-block.ensures.shown start.count start.positions free start.shows
-          c.args.way c.args.start.place))
+          c.args.way c.args.place))
           passed.edges passed.clear;
-      read = read_next c.args.way c.args.start.place c.blocks-2.index c.next_block-index.result
+      read = read_next c.args.way c.args.place c.blocks-2.index c.next_block-index.result
           c.next_block-index.ensures on.0 c.blocks-2.invariant.on_way (c.blocks-2.steps + 3) _ _
           (ap (λ (n : ℕ). n + 3) c.read-block.ensures.three_steps) c.blocks-2.invariant.read;
-      goal = λ h. goal_next c.args.way c.args.start.place c.blocks-2.index c.next_block-index.result
-          c.next_block-index.ensures on.0 c.blocks-2.invariant.on_way c.args.start.to_goal
-          (not_met c.args.start.to_goal _ unmet h);
+      goal = λ h. goal_next c.args.way c.args.place c.blocks-2.index c.next_block-index.result
+          c.next_block-index.ensures on.0 c.blocks-2.invariant.on_way c.args.to_goal
+          (not_met c.args.to_goal _ unmet h);
     }
 
 pub returns-clause-finds : goal.returns-clause-finds
 returns-clause-finds g c = λ free start.
     let passed = (c.blocks-2.invariant.passed free start).clear in
-    let is : (nat_lt 0 c.args.start.to_goal && nat_le c.args.start.to_goal
-    (moves_before c.args.way c.args.start.place (edge_before c.args.way (c.blocks-2.index * 512) 8))) ≡ true =
-    ap (λ (n : ℕ). nat_lt 0 c.args.start.to_goal && nat_le c.args.start.to_goal n)
+    let is : (nat_lt 0 c.args.to_goal && nat_le c.args.to_goal
+    (moves_before c.args.way c.args.place (edge_before c.args.way (c.blocks-2.index * 512) 8))) ≡ true =
+    ap (λ (n : ℕ). nat_lt 0 c.args.to_goal && nat_le c.args.to_goal n)
     (sym c.moves_through.ensures) ∙ sym c.is_met.ensures ∙ c.blocks-2-test.false in
-    let both = met c.args.start.to_goal _ is in
+    let both = met c.args.to_goal _ is in
     (both.0, λ k h. passed k (omega (arith, h, both.1)))
