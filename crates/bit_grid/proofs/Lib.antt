@@ -1,4 +1,5 @@
 pub mod Words
+mod Lanes
 mod Packing
 mod Showing
 mod Turning

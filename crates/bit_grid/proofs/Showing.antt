@@ -1,8 +1,6 @@
 -- Lines that show a map: a block of them, and one bit set.
 use Rattle.std.proofs.Common.{◌≡◌, ◌≢◌, ℕ, zero, suc, ◌+◌, ◌*◌, ◌/◌, ◌%◌, ◌<◌, ◌≤◌, arith, Bool, true, false, ◌&&◌, refl, ap, sym, ◌∙◌, List, length, slice_index_or, slice_set, nat_eq, take, drop, get_or-set_same, get_or-set_other}
 use Rattle.std.specs.Prelude.{if◌then◌else◌}
-use Rattle.std.specs.Simd.Lanes.{chunk}
-use Rattle.std.proofs.lemmas.Simd.{get_or-chunk}
 use Rattle.std.proofs.lemmas.List.{get_or-drop, get_or-take}
 use Rattle.std.proofs.lemmas.Nat.{same_from_place, mul-add-lt}
 use Rattle.std.proofs.lemmas.Bool.Decides.{nat_tests}
@@ -15,16 +13,14 @@ use Rattle.bit_grid.specs.Bits.{LineData, Shows, is_set, with_cell, is_free_from
 pub lane_shown : (l : LineData) (line index lines positions : ℕ) (free : ℕ → ℕ → Bool)
     → Shows l lines positions free → line < l.lines → index < l.blocks → (start n : ℕ) (words : List ℕ)
     → start ≡ (line * l.blocks + index) * 8 → 8 ≤ n → words ≡ l.words → (k j : ℕ) → k < 8 → j < 64
-    → is_set (slice_index_or (chunk 0 8 (take n (drop start words))) k 0) j
-    ≡ free line (index * 512 + k * 64 + j)
+    → is_set (slice_index_or (take n (drop start words)) k 0) j ≡ free line (index * 512 + k * 64 + j)
 lane_shown l line index lines positions free shows a b start n words s m is k j h i =
-    let below : 0 + k < n = omega arith in
-    let place : start + (0 + k) ≡ line * (l.blocks * 8) + (index * 8 + k) = omega (arith, s) in
+    let below : k < n = omega arith in
+    let place : start + k ≡ line * (l.blocks * 8) + (index * 8 + k) = omega (arith, s) in
     let within : index * 8 + k < l.blocks * 8 = omega arith in
     let position : (index * 8 + k) * 64 + j ≡ index * 512 + k * 64 + j = omega arith in
-    ap (λ (n : ℕ). is_set n j) (get_or-chunk 0 8 (take n (drop start words)) k 0 h
-    ∙ get_or-take n (drop start words) (0 + k) 0 below
-    ∙ get_or-drop start words (0 + k) 0
+    ap (λ (n : ℕ). is_set n j) (get_or-take n (drop start words) k 0 below
+    ∙ get_or-drop start words k 0
     ∙ ap (λ (m : ℕ). slice_index_or words m 0) place
     ∙ ap (λ (ws : List ℕ). slice_index_or ws (line * (l.blocks * 8) + (index * 8 + k)) 0) is)
     ∙ shows.bits line (index * 8 + k) j a within i

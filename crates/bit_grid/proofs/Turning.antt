@@ -1,29 +1,30 @@
 -- Rows turned to columns, by strips of words.
-use Rattle.std.proofs.Common.{◌≡◌, ℕ, zero, suc, ◌+◌, ◌*◌, ◌<◌, ◌≤◌, arith, Bool, true, false, refl, ap, sym, ◌∙◌, List, length, slice_index_or, nat_lt}
+use Rattle.std.proofs.Common.{◌≡◌, ℕ, ◌+◌, ◌*◌, ◌/◌, ◌%◌, ◌<◌, ◌≤◌, arith, Bool, true, false, refl, ap, sym, ◌∙◌, List, length, slice_index_or, nat_lt}
 use Rattle.std.specs.Prelude.{if◌then◌else◌}
 use Rattle.std.proofs.lemmas.Bool.Decides.{nat_tests}
-use Rattle.grid_moves.specs.Grid.{GridData, is_free, is_inside}
-use Rattle.bit_grid.specs.Bits.{LineData, Shows, is_set, is_free_from_one}
+use Rattle.bit_grid.specs.Bits.{LineData, Shows, is_set}
 use Rattle.bit_grid.specs.Turn.{IsStrip, IsWhole, ArePackedSoFar}
-use Rattle.bit_grid.proofs.Words.{set_none}
 use Rattle.bit_grid.proofs.Packing.{packed_lines}
 
 -- a bit of a strip is one of a row
-pub strip_bit : (strip words : List ℕ) (lines per_line group : ℕ) (free : ℕ → ℕ → Bool)
-    → IsStrip strip words lines per_line group → IsWhole words lines per_line free → group < per_line
-    → (l place column : ℕ) → l < length strip → place < 64 → group * 64 + place ≡ column
+pub strip_bit : (strip words : List ℕ) (lines per_line byte : ℕ) (free : ℕ → ℕ → Bool)
+    → IsStrip strip words lines per_line byte → IsWhole words lines per_line free → byte < per_line * 8
+    → (l place column : ℕ) → l < length strip → place < 8 → byte * 8 + place ≡ column
     → is_set (slice_index_or strip l 0) place ≡ free l column
-strip_bit strip words lines per_line group free gathered whole h l place column k i e =
-    ap (λ (n : ℕ). is_set n place) (gathered l k) ∙ by_test (nat_lt l lines) refl
+strip_bit strip words lines per_line byte free gathered whole h l place column k i e =
+    gathered l k place i ∙ by_test (nat_lt l lines) refl
   where
     by_test : (b : Bool) → nat_lt l lines ≡ b
-        → is_set (if b then slice_index_or words (l * per_line + group) 0 else 0) place ≡ free l column
+        → (if b then is_set (slice_index_or words (l * per_line + byte / 8) 0) (byte % 8 * 8 + place) else false)
+        ≡ free l column
     by_test true t =
         let below : l < lines = grind (arith, nat_tests) in
-        whole.bits l group place below h i ∙ ap (λ (p : ℕ). free l p) e
+        let at : byte / 8 * 64 + (byte % 8 * 8 + place) ≡ column = omega arith in
+        whole.bits l (byte / 8) (byte % 8 * 8 + place) below (omega arith) (omega arith)
+        ∙ ap (λ (p : ℕ). free l p) at
     by_test false t =
         let past : lines ≤ l = grind (arith, nat_tests) in
-        set_none place ∙ sym (whole.beyond l column past)
+        sym (whole.beyond l column past)
 
 -- the lines that show a map are whole, if all beyond it is blocked
 pub whole_of : (l : LineData) (cells columns : ℕ) (free : ℕ → ℕ → Bool) → Shows l cells columns free
@@ -47,15 +48,3 @@ turned_shown columns cells blocks lines words free all ample tight long packed =
   bits = λ line w j a b c. packed_lines (λ column row. free row column) lines (blocks * 8) words long packed
       line w a b j c;
 }
-
--- no row beyond the last has a free cell
-pub beyond_rows : (g : GridData) (line place : ℕ) → g.height + 2 ≤ line → is_free_from_one g place line ≡ false
-beyond_rows g line zero h = refl
-beyond_rows g zero (suc place) h = refl
-beyond_rows g (suc line) (suc place) h =
-    let none : is_inside g (record { x = place; y = line }) ≡ false = grind (arith, nat_tests) in
-    outside place line none
-  where
-    outside : (x y : ℕ) → is_inside g (record { x = x; y = y }) ≡ false
-        → is_free g (record { x = x; y = y }) ≡ false
-    outside x y e = rw e refl

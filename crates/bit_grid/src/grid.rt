@@ -34,9 +34,8 @@ impl BitGrid {
     pub fn of_grid<T: Terrain>(alloc: Global, t: &T) -> Result<BitGrid, NoMemory>
         ensures { IfOk result (λ bits. AreBitsOf bits (T.grid t.now)) }
     {
-        let (width, height) = (t.width(), t.height());
-        let rows = Lines::rows_of(alloc, t, height, width)?;
-        let columns = rows.turned(alloc, width, height)?;
+        let rows = Lines::rows_of(alloc, t)?;
+        let columns = rows.turned(alloc, t.width(), t.height())?;
         Ok(BitGrid { rows, columns })
     }
 

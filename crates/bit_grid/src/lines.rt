@@ -1,7 +1,6 @@
 //! Lines of bits.
 
 ghost use Rattle.std.specs.Prelude.{◌≡◌, ℕ, ◌+◌, ◌*◌, ◌<◌, ◌≤◌, Bool, false, IfOk, length, slice_index_or, nat_eq, if◌then◌else◌};
-ghost use Rattle.grid_moves.specs.Grid.{IsGrid};
 ghost use Rattle.bit_grid.specs.Pack.{is_free_in};
 ghost use Rattle.bit_grid.specs.Bits.{Shows, is_set, with_cell};
 
@@ -11,7 +10,6 @@ use crate::turn::turned;
 use grid_moves::Terrain;
 use std::alloc::Global;
 use std::marker::Model;
-use std::simd::u64x8;
 use std::sync::ledger::Ledger;
 use steps::Steps;
 
@@ -67,23 +65,15 @@ fn blocks_for(bits: u32) -> u32
 }
 
 impl Lines {
-    // The rows of a grid, told how many there are and how many cells each has.
-    pub(crate) fn rows_of<T: Terrain>(
-        alloc: Global,
-        t: &T,
-        lines: u16,
-        positions: u16,
-    ) -> Result<Lines, NoMemory>
-        requires whole { IsGrid (T.grid t.now) }
-        requires lines { lines ≤ 4096 }
-        requires positions { positions ≤ 4096 }
-        ensures { IfOk result (λ l. Shows l lines positions (is_free_in (T.grid t.now))) }
+    // The rows of a grid.
+    pub(crate) fn rows_of<T: Terrain>(alloc: Global, t: &T) -> Result<Lines, NoMemory>
+        ensures { IfOk result (λ l.
+            Shows l (T.grid t.now).height (T.grid t.now).width (is_free_in (T.grid t.now))) }
     {
-        let lines = lines + 2;
-        let blocks = blocks_for(u32::from(positions) + 2);
-        let words = words_on(alloc, t, lines, blocks as u16 * 8)?;
+        let blocks = blocks_for(u32::from(t.width()) + 2);
+        let words = words_on(alloc, t, blocks as usize * 8)?;
         Ok(Lines {
-            lines: u32::from(lines),
+            lines: u32::from(t.height()) + 2,
             blocks,
             words,
         })
@@ -142,19 +132,21 @@ impl Lines {
         self.blocks
     }
 
-    /// A block of a line, both counted from 0: bit `j` of word `k` is the line's bit `512·index + 64·k + j`.
-    /// This is the one way to read bits, and it counts one step.
+    /// A block of a line, both counted from 0: its eight words, where bit `j` of word `k` is the line's bit
+    /// `512·index + 64·k + j`. This is the one way to read bits, and it counts one step for each block that it
+    /// hands out, however many of its words are read.
     #[inline(always)]
-    pub fn lane<L: Ledger>(&self, line: u32, index: u32, steps: &mut Steps<L>) -> u64x8
+    pub fn lane<L: Ledger>(&self, line: u32, index: u32, steps: &mut Steps<L>) -> &[u64]
         requires line { line < self.now.lines }
         requires index { index < self.now.blocks }
+        ensures eight { length result.now ≡ 8 }
         ensures shown { (lines positions : ℕ) (free : ℕ → ℕ → Bool) → Shows self.now lines positions free
             → (k j : ℕ) → k < 8 → j < 64
-            → is_set (slice_index_or result k 0) j ≡ free line (index * 512 + k * 64 + j) }
+            → is_set (slice_index_or result.now k 0) j ≡ free line (index * 512 + k * 64 + j) }
         ensures one_step { steps.new ≡ steps.old + 1 }
     {
         steps.tick();
         let start = (line as usize * self.blocks as usize + index as usize) * 8;
-        u64x8::from_slice(&self.words[start..start + 8])
+        &self.words[start..start + 8]
     }
 }

@@ -1,68 +1,104 @@
-//! Cells packed to words of bits.
+//! Cells packed to words of bits, 64 bytes to a word.
 
-ghost use Rattle.std.specs.Prelude.{◌≡◌, ℕ, suc, ◌+◌, ◌*◌, ◌<◌, ◌≤◌, IfOk, length};
+ghost use Rattle.std.specs.Prelude.{◌≡◌, ℕ, suc, ◌+◌, ◌*◌, ◌<◌, ◌≤◌, Bool, IfOk, OnOk, length, slice_index_or, nat_eq};
+ghost use Rattle.std.specs.Int.Bits.{bit_and};
 ghost use Rattle.grid_moves.specs.Grid.{IsGrid};
 ghost use Rattle.bit_grid.specs.Bits.{is_set};
-ghost use Rattle.bit_grid.specs.Pack.{is_free_in, IsPacked, ArePacked};
+ghost use Rattle.bit_grid.specs.Pack.{is_free_in, AreFlags, IsBordered, ArePacked};
+ghost use Rattle.bit_grid.specs.Turn.{ArePackedSoFar};
 
 use crate::NoMemory;
 use grid_moves::{Cell, Terrain};
 use std::alloc::Global;
+use std::simd::prelude::*;
 
-// Whether the cell at a position of a row is free, both counted from 1.
-#[inline(always)]
-fn is_free_in<T: Terrain>(t: &T, line: u16, position: u16) -> bool
-    requires whole { IsGrid (T.grid t.now) }
-    ensures { result ≡ is_free_in (T.grid t.now) line position }
+// So many bytes, all 0.
+pub(crate) fn zeros(alloc: Global, n: usize) -> Result<Vec<u8>, NoMemory>
+    ensures as_many { IfOk result (λ v. length v.items ≡ n) }
+    ensures zeros { IfOk result (λ v. (p : ℕ) → p < n → slice_index_or v.items p 0 ≡ 0) }
 {
-    let (line, position) = (line.wrapping_sub(1), position.wrapping_sub(1));
-    t.free(Cell {
-        x: position,
-        y: line,
-    })
+    vec![in alloc; 0u8; n]
 }
 
-// A word with one more bit, below the others.
+// The lanes that have this bit.
 #[inline(always)]
-pub(crate) fn with_lowest(word: u64, bit: bool) -> u64
-    ensures lowest { is_set result 0 ≡ bit }
-    ensures others { (j : ℕ) → suc j < 64 → is_set result (suc j) ≡ is_set word j }
+fn lanes_with(bytes: u8x64, bit: u8) -> u64
+    ensures { (j : ℕ) → j < 64
+        → is_set result j ≡ nat_eq (bit_and (slice_index_or bytes j 0) bit) bit }
 {
-    word << 1 | u64::from(bit)
+    (bytes & u8x64::splat(bit))
+        .simd_eq(u8x64::splat(bit))
+        .to_bitmask()
 }
 
-// The word that shows the 64 positions of a row from this one on.
+// The word whose bit i is the bit at a place of the i-th byte from this one on.
 #[inline(always)]
-fn word_on<T: Terrain>(t: &T, line: u16, first: u16) -> u64
-    requires whole { IsGrid (T.grid t.now) }
-    requires few { first + 64 ≤ 65536 }
-    ensures { IsPacked (T.grid t.now) line first result }
+fn bits_at(bytes: &[u8], first: usize, place: u32) -> u64
+    requires inside { first + 64 ≤ length bytes.now }
+    requires place { place < 8 }
+    ensures { (j : ℕ) → j < 64 → is_set result j ≡ is_set (slice_index_or bytes.now (first + j) 0) place }
 {
-    let mut word = 0u64;
-    for done in 0..64u16 {
-        let bit = is_free_in(t, line, first + (63 - done));
-        word = with_lowest(word, bit);
+    lanes_with(u8x64::from_slice(&bytes[first..first + 64]), 1 << place)
+}
+
+// Pushes the words of one line, told by a bit of each byte.
+pub(crate) fn push_line(
+    words: &mut Vec<u64>,
+    bytes: &[u8],
+    place: u32,
+    per_line: usize,
+) -> Result<(), NoMemory>
+    requires place { place < 8 }
+    requires long { per_line * 64 ≤ length bytes.now }
+    ensures long { OnOk result (length words.new.items ≡ length words.old.items + per_line) }
+    ensures shown { OnOk result ((free : ℕ → ℕ → Bool) (line : ℕ) → length words.old.items ≡ line * per_line
+        → ((l : ℕ) → l < per_line * 64 → is_set (slice_index_or bytes.now l 0) place ≡ free line l)
+        → ArePackedSoFar free per_line words.old.items → ArePackedSoFar free per_line words.new.items) }
+{
+    for w in 0..per_line {
+        words.push(bits_at(bytes, w * 64, place))?;
     }
-    word
+    Ok(())
 }
 
-/// The words of so many rows, so many words each.
+// Writes the flags of a row's cells, between those of the border.
+fn read_row<T: Terrain>(t: &T, y: u16, flags: &mut [u8])
+    requires whole { IsGrid (T.grid t.now) }
+    requires room { (T.grid t.now).width + 2 ≤ length flags.old }
+    requires border { IsBordered (T.grid t.now) flags.old }
+    ensures long { length flags.new ≡ length flags.old }
+    ensures border { IsBordered (T.grid t.now) flags.new }
+    ensures flags { AreFlags (T.grid t.now) (suc y) flags.new }
+{
+    let mut x = 0;
+    'cells: while x < t.width() {
+        flags[x as usize + 1] = u8::from(t.free(Cell { x, y }));
+        x += 1;
+    }
+}
+
+/// The words of a grid's rows and of the border's two, so many words each.
 pub(crate) fn words_on<T: Terrain>(
     alloc: Global,
     t: &T,
-    lines: u16,
-    per_line: u16,
+    per_line: usize,
 ) -> Result<Vec<u64>, NoMemory>
     requires whole { IsGrid (T.grid t.now) }
-    requires few { per_line * 64 ≤ 65536 }
-    ensures shown { IfOk result (λ words. ArePacked (T.grid t.now) lines per_line words.items) }
-    ensures as_many { IfOk result (λ words. length words.items ≡ lines * per_line) }
+    requires ample { (T.grid t.now).width + 2 ≤ per_line * 64 }
+    requires few { per_line ≤ 1024 }
+    ensures shown { IfOk result (λ words. ArePacked (T.grid t.now) ((T.grid t.now).height + 2) per_line words.items) }
+    ensures as_many { IfOk result (λ words. length words.items ≡ ((T.grid t.now).height + 2) * per_line) }
 {
-    let mut words = Vec::with_capacity(alloc, lines as usize * per_line as usize)?;
-    for line in 0..lines {
-        for w in 0..per_line {
-            words.push(word_on(t, line, w * 64))?;
-        }
+    let height = t.height();
+    let mut words = Vec::with_capacity(alloc, (height as usize + 2) * per_line)?;
+    let border = zeros(alloc, per_line * 64)?;
+    let mut flags = zeros(alloc, per_line * 64)?;
+    let flags = flags.as_mut_slice();
+    push_line(&mut words, flags, 0, per_line)?;
+    for y in 0..height {
+        read_row(t, y, flags);
+        push_line(&mut words, flags, 0, per_line)?;
     }
+    push_line(&mut words, &border, 0, per_line)?;
     Ok(words)
 }

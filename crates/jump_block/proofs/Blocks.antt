@@ -177,11 +177,11 @@ module _ (t : Trail) (way : Way) (from start i n found : ℕ) (b : Block) (w las
       (passed_further t way from (start + nth_word way n * 64) found w last are ahead_here passed_here told none)
 
 -- the block in which a scan starts
-module _ (t : Trail) (rule : Corner) (way : Way) (start place w found halting over : ℕ) (words : Words)
+module _ (t : Trail) (rule : Corner) (way : Way) (start place w found halting over : ℕ) (words last : Words)
     (b : Block) (block : IsBlockOf t way (start + w * 64 + place) start 0 b) (low : place < 64) (high : w < 8)
     (are : AreWordsOf (begun rule t) way (start + w * 64 + place) (start + w * 64) words)
     (told : (t : Trail) (from base : ℕ) → AreWordsOf t way from base words
-    → AreEdgesOf t way from (near way base) words
+    → AreEdgesOf t way from (near way base) last
     → (j k : ℕ) → j < 64 → Meets way from (base + j) (suc k) → is_set halting j ≡ halts t k)
     (masked : (j : ℕ) → j < 64 → is_set over j ≡ is_past way place j)
     (found_is : found ≡ bit_and halting over) where
@@ -218,7 +218,7 @@ module _ (t : Trail) (rule : Corner) (way : Way) (start place w found halting ov
     shows = are.middle;
     bits = λ j k h m. set_there j h ∙ and_true _ _ (all_past way (start + w * 64) j k m)
         ∙ told (begun rule t) (start + w * 64 + place) (start + w * 64) are
-        (no_edges (begun rule t) way (start + w * 64 + place) (start + w * 64) words (omega arith) (omega arith))
+        (no_edges (begun rule t) way (start + w * 64 + place) (start + w * 64) last (omega arith) (omega arith))
         j k h m;
     past = λ j h set. moves_past way (start + w * 64) j (and_second _ _ (sym (set_there j h) ∙ set));
     here = λ k l h. places_past way (start + w * 64) k h;

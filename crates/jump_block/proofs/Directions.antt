@@ -11,16 +11,18 @@ use Rattle.grid_moves.specs.Grid.{GridData, IsGrid, is_free, is_inside}
 use Rattle.grid_moves.specs.Move.{ahead, is_open}
 use Rattle.grid_moves.proofs.Legal.{free_inside}
 use Rattle.bit_grid.specs.Bits.{LineData, is_free_from_one, AreRowsOf, AreColumnsOf}
-use Rattle.pruning.specs.Turns.{is_diagonal}
+use Rattle.pruning.specs.declared.turns.Side.TheVariants.{Right, Left}
+use Rattle.pruning.specs.Turns.{is_diagonal, turn}
 use Rattle.jump_plain.specs.declared.beside.Sides.{Sides}
 use Rattle.jump_plain.specs.Beside.{sides_of}
 use Rattle.jump_plain.specs.Reach.{first_sides}
 use Rattle.jump_block.proofs.Runs.{IsRay, IsTold, told_by_ray}
 use Rattle.jump_block.specs.declared.word.Way.{Way}
+use Rattle.jump_block.specs.declared.word.Way.TheVariants.{Forward, Back}
 use Rattle.jump_block.specs.Trail.{at_start, begun, opens, trail_on}
 use Rattle.jump_block.specs.declared.block.Halt.{Halt}
 use Rattle.jump_block.specs.Scan.{IsStart, Finds}
-use Rattle.jump_block.specs.Source.{by_rows, by_columns, trail_of}
+use Rattle.jump_block.specs.Source.{by_rows, by_columns, trail_of, row_dir, column_dir, row_way, column_way}
 
 abbrev pub cell : ℕ → ℕ → Cell
 cell x y = record { x = x; y = y }
@@ -376,3 +378,37 @@ told_on g x NE rule h r f whole = absurd (cc)
 told_on g x SE rule h r f whole = absurd (cc)
 told_on g x SW rule h r f whole = absurd (cc)
 told_on g x NW rule h r f whole = absurd (cc)
+
+-- the trail by its row or its column
+pub row_trail : (g : GridData) (way : Way) (x : Cell)
+    → trail_of g (row_dir way) x ≡ trail_on (by_rows g) way (x.y + 1) (x.x + 1)
+row_trail g Forward x = refl
+row_trail g Back x = refl
+
+pub column_trail : (g : GridData) (way : Way) (x : Cell)
+    → trail_of g (column_dir way) x ≡ trail_on (by_columns g) way (x.x + 1) (x.y + 1)
+column_trail g Forward x = refl
+column_trail g Back x = refl
+
+pub row_straight : (way : Way) → is_diagonal (row_dir way) ≡ false
+row_straight Forward = refl
+row_straight Back = refl
+
+pub column_straight : (way : Way) → is_diagonal (column_dir way) ≡ false
+column_straight Forward = refl
+column_straight Back = refl
+
+swap : (x a b : Bool) → (x || a || b) ≡ (x || b || a)
+swap x a b = grind arith
+
+-- the straight parts of a diagonal
+pub parts : (P : Dir → Bool) (d : Dir) → is_diagonal d ≡ true → (x a b : Bool) → a ≡ P (row_dir (row_way d))
+    → b ≡ P (column_dir (column_way d)) → (x || a || b) ≡ (x || P (turn Right d) || P (turn Left d))
+parts P NE h x a b e f = rw (e, f) refl
+parts P SE h x a b e f = rw (e, f) (swap x (P E) (P S))
+parts P SW h x a b e f = rw (e, f) refl
+parts P NW h x a b e f = rw (e, f) (swap x (P W) (P N))
+parts P N h x a b e f = absurd (cc)
+parts P E h x a b e f = absurd (cc)
+parts P S h x a b e f = absurd (cc)
+parts P W h x a b e f = absurd (cc)

@@ -92,15 +92,6 @@ module _ (g : GridData) (x : Cell) (p : Patch) (around : IsAround g x p) where
             ∙ rw (patch_open d, patch_open (turn Left d), patch_open (turn Right d), around.rule) refl
             ∙ sym (can_move-diagonal g x d free h)
 
-    pub patch_leads : (d : Dir) → is_diagonal d ≡ true → (ahead left right passes both : Bool)
-        → ahead ≡ is_open (grid_of_patch p) (cell 1 1) d
-        → left ≡ is_open (grid_of_patch p) (cell 1 1) (turn Left d)
-        → right ≡ is_open (grid_of_patch p) (cell 1 1) (turn Right d)
-        → passes ≡ is_passable p.corner left right → both ≡ (ahead && passes) → both ≡ can_move g x d
-    patch_leads d h ahead left right passes both a l r q b =
-        b ∙ rw (a, q, l, r) refl
-        ∙ sym (can_move-diagonal (grid_of_patch p) (cell 1 1) d (patch_free free) h) ∙ patch_moves d
-
     blocked_alike : (d : Dir) → is_blocked (grid_of_patch p) (cell 1 1) d ≡ is_blocked g x d
     blocked_alike d = ap not (patch_open d)
 
@@ -148,3 +139,20 @@ module _ (g : GridData) (x : Cell) (p : Patch) (around : IsAround g x p) where
     patch_allows by = filter_alike (is_allowed (grid_of_patch p) (cell 1 1) by) (is_allowed g x by)
         (λ e. both_alike _ _ _ _ (ap (λ (r : Corner). is_kept r (is_blocked (grid_of_patch p) (cell 1 1)) by e)
         around.rule ∙ kept_alike g.corner by e) (patch_moves e)) all_dirs
+
+-- where no corner is cut, a diagonal move forces no neighbour
+pub never_forces : (g : GridData) (x : Cell) (d : Dir) → g.corner ≡ Never → is_diagonal d ≡ true
+    → is_forced g x d ≡ false
+never_forces g x d rule diagonal =
+    ap (λ (r : Corner). is_forced_on r (is_blocked g x) (can_move g x) d Right
+    || is_forced_on r (is_blocked g x) (can_move g x) d Left) rule
+    ∙ ap (λ (b : Bool). (if b then false else (is_blocked g x (rear Right d) && can_move g x (quarter Right d)))
+    || (if b then false else (is_blocked g x (rear Left d) && can_move g x (quarter Left d)))) diagonal
+
+-- a diagonal move is told by three cells
+pub leads_by : (g : GridData) (x : Cell) (d : Dir) → is_free g x ≡ true → is_diagonal d ≡ true
+    → (rule : Corner) → rule ≡ g.corner → (ahead left right passes both : Bool)
+    → ahead ≡ is_open g x d → left ≡ is_open g x (turn Left d) → right ≡ is_open g x (turn Right d)
+    → passes ≡ is_passable rule left right → both ≡ (ahead && passes) → both ≡ can_move g x d
+leads_by g x d free diagonal rule same ahead left right passes both a l r q b =
+    b ∙ rw (a, q, l, r, same) refl ∙ sym (can_move-diagonal g x d free diagonal)

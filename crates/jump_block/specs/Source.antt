@@ -3,7 +3,7 @@ use Rattle.std.specs.Prelude.{◌≡◌, ⊤, ℕ, ◌+◌, ◌<◌, Bool, true,
 use Rattle.grid_moves.specs.declared.Cell.{Cell}
 use Rattle.grid_moves.specs.declared.Corner.{Corner}
 use Rattle.grid_moves.specs.declared.Dir.{Dir}
-use Rattle.grid_moves.specs.declared.Dir.TheVariants.{N, E, S, W}
+use Rattle.grid_moves.specs.declared.Dir.TheVariants.{N, NE, E, SE, S, SW, W}
 use Rattle.grid_moves.specs.Grid.{GridData, IsGrid}
 use Rattle.bit_grid.specs.Bits.{LineData, AreRowsOf, AreColumnsOf, is_free_from_one}
 use Rattle.pruning.specs.First.{run_length}
@@ -11,6 +11,7 @@ use Rattle.jump_plain.specs.declared.scan.Reach.{Reach}
 use Rattle.jump_plain.specs.Reach as reach
 use Rattle.jump_plain.specs.Reach.{mark_ahead}
 use Rattle.jump_block.specs.declared.block.Halt.{Halt}
+use Rattle.jump_block.specs.declared.word.Way.{Way}
 use Rattle.jump_block.specs.declared.word.Way.TheVariants.{Forward, Back}
 use Rattle.jump_block.specs.Trail.{Trail, trail_on}
 
@@ -37,6 +38,26 @@ abbrev pub is_back : Dir → Bool
 is_back W = true
 is_back N = true
 is_back _ = false
+
+-- the direction of a way along a row, and along a column
+abbrev pub row_dir : Way → Dir
+row_dir Forward = E
+row_dir Back = W
+
+abbrev pub column_dir : Way → Dir
+column_dir Forward = S
+column_dir Back = N
+
+-- which way along the row, and along the column, the straight parts of a diagonal lead
+abbrev pub row_way : Dir → Way
+row_way NE = Forward
+row_way SE = Forward
+row_way _ = Back
+
+abbrev pub column_way : Dir → Way
+column_way SE = Forward
+column_way SW = Forward
+column_way _ = Back
 
 -- cells by the row or the column that is the line
 abbrev pub by_rows : GridData → ℕ → ℕ → Bool

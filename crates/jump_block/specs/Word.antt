@@ -1,5 +1,5 @@
 -- Words of a trail: 64 places of a line, and the places beside them.
-use Rattle.std.specs.Prelude.{◌≡◌, ℕ, suc, ◌+◌, ◌*◌, ◌-◌, ◌<◌, ◌≤◌, Bool, true, nat_lt, slice_index_or}
+use Rattle.std.specs.Prelude.{◌≡◌, ℕ, suc, ◌+◌, ◌*◌, ◌-◌, ◌<◌, ◌≤◌, Bool, true, nat_lt, length, slice_index_or}
 use Rattle.bit_grid.specs.Bits.{is_set}
 use Rattle.jump_block.specs.declared.word.Way.{Way}
 use Rattle.jump_block.specs.declared.word.Way.TheVariants.{Forward, Back}
@@ -71,12 +71,16 @@ abbrev pub edge_before : Way → ℕ → ℕ → ℕ
 edge_before Forward start i = start + i * 64
 edge_before Back start i = start + (8 - i) * 64
 
+-- it has eight words of each line
+abbrev pub AreEight : Block → Type 0
+AreEight b = (length b.middle.now ≡ 8) × (length b.before.now ≡ 8) × (length b.after.now ≡ 8)
+
 -- word w of a block
 abbrev pub words_of : Block → ℕ → Words
 words_of b w = record {
-  middle = slice_index_or b.middle w 0;
-  before = slice_index_or b.before w 0;
-  after = slice_index_or b.after w 0;
+  middle = slice_index_or b.middle.now w 0;
+  before = slice_index_or b.before.now w 0;
+  after = slice_index_or b.after.now w 0;
 }
 
 -- from the i-th word on the way, the block from `start` on is what the trail has there

@@ -5,7 +5,7 @@ ghost use Rattle.bit_grid.specs.Bits.{Shows};
 ghost use Rattle.jump_block.specs.Trail as trails;
 ghost use Rattle.jump_block.specs.Trail.{Trail, IsClear, begun, trail_on};
 ghost use Rattle.jump_block.specs.Word as spec;
-ghost use Rattle.jump_block.specs.Word.{AreEdgesOf, IsBlockOf, IsAhead, edge_before, moves_before, words_of, nth_word};
+ghost use Rattle.jump_block.specs.Word.{AreEdgesOf, AreEight, IsBlockOf, IsAhead, edge_before, moves_before, words_of, nth_word};
 ghost use Rattle.jump_block.specs.Seek.{IsSought};
 
 use crate::word::{Way, Words, begun, first, halts, past};
@@ -14,12 +14,12 @@ use grid_moves::Corner;
 use std::sync::ledger::Ledger;
 use steps::Steps;
 
-/// The same block of three lines that lie side by side.
+/// The same block of three lines that lie side by side, eight words of each.
 #[derive(Clone, Copy)]
-pub(crate) struct Block {
-    pub(crate) middle: [u64; 8],
-    pub(crate) before: [u64; 8],
-    pub(crate) after: [u64; 8],
+pub(crate) struct Block<'a> {
+    pub(crate) middle: &'a [u64],
+    pub(crate) before: &'a [u64],
+    pub(crate) after: &'a [u64],
 }
 
 /// Where a scan halts.
@@ -37,6 +37,13 @@ pub(crate) enum Seek {
     Halted(Halt),
     Passed(Words),
 }
+
+// No bits: what a scan has passed before its first word. Its bits up to the start are left out.
+const NOTHING: Words = Words {
+    middle: 0,
+    before: 0,
+    after: 0,
+};
 
 // The place in the block of the i-th word on the way.
 #[inline(always)]
@@ -80,15 +87,15 @@ fn halt_at(way: Way, middle: u64, found: u64, from: u32, base: u32) -> Halt
     }
 }
 
-impl Block {
+impl<'a> Block<'a> {
     /// Reads a block of a line and of the lines beside it.
     #[inline(always)]
     pub(crate) fn read<L: Ledger>(
-        lines: &Lines,
+        lines: &'a Lines,
         line: u32,
         index: u32,
         steps: &mut Steps<L>,
-    ) -> Block
+    ) -> Block<'a>
         requires line { 1 ≤ line }
         requires few { line < 65536 }
         requires inside { line + 1 < lines.now.lines }
@@ -96,19 +103,21 @@ impl Block {
         ensures shown { (count positions : ℕ) (free : ℕ → ℕ → Bool) → Shows lines.now count positions free
             → (way : Way) (from : ℕ)
             → IsBlockOf (trail_on free way line from) way from (index * 512) 0 result }
+        ensures eight { AreEight result }
         ensures three_steps { steps.new ≡ steps.old + 3 }
     {
         Block {
-            middle: lines.lane(line, index, steps).to_array(),
-            before: lines.lane(line - 1, index, steps).to_array(),
-            after: lines.lane(line + 1, index, steps).to_array(),
+            middle: lines.lane(line, index, steps),
+            before: lines.lane(line - 1, index, steps),
+            after: lines.lane(line + 1, index, steps),
         }
     }
 
     // The words of this number.
     #[inline(always)]
     fn words(&self, w: u32) -> Words
-        requires { w < 8 }
+        requires eight { AreEight self.now }
+        requires inside { w < 8 }
         ensures { result ≡ words_of self.now w }
     {
         let w = w as usize;
@@ -122,6 +131,7 @@ impl Block {
     /// Searches the block from the i-th word on the way, told the words before.
     #[inline(always)]
     pub(crate) fn seek(&self, way: Way, i: u32, last: Words, from: u32, start: u32) -> Seek
+        requires eight { AreEight self.now }
         requires some { i ≤ 8 }
         requires small { start + 512 ≤ 65536 }
         requires ahead { IsAhead way from (edge_before way start i) }
@@ -147,6 +157,7 @@ impl Block {
     /// Searches the block in which a scan starts.
     #[inline(always)]
     pub(crate) fn seek_start(&self, way: Way, rule: Corner, from: u32, start: u32) -> Seek
+        requires eight { AreEight self.now }
         requires small { start + 512 ≤ 65536 }
         requires low { start ≤ from }
         requires high { from < start + 512 }
@@ -155,7 +166,7 @@ impl Block {
     {
         let (w, place) = ((from - start) / 64, (from - start) % 64);
         let words = begun(rule, self.words(w), place);
-        let found = halts(way, words, words) & past(way, place);
+        let found = halts(way, words, NOTHING) & past(way, place);
         if found != 0 {
             return Seek::Halted(halt_at(way, words.middle, found, from, start + w * 64));
         }

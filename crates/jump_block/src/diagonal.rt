@@ -1,22 +1,47 @@
 //! Diagonal jumps: cell by cell, with a scan in each component from each cell.
 
-ghost use Rattle.std.specs.Prelude.{◌≡◌, ℕ, ◌+◌, ◌<◌, ◌≤◌, ◌||◌, Bool, false, true, is_some};
+ghost use Rattle.std.specs.Prelude.{◌≡◌, ℕ, ◌+◌, ◌<◌, ◌≤◌, ◌&&◌, ◌||◌, Bool, false, true, is_some};
 ghost use Rattle.grid_moves.specs.Grid.{GridData, is_free};
+ghost use Rattle.grid_moves.specs.Move as moves;
 ghost use Rattle.grid_moves.specs.Move.{ahead, is_same};
-ghost use Rattle.pruning.specs.Turns as turns;
 ghost use Rattle.pruning.specs.Turns.{is_diagonal};
+ghost use Rattle.pruning.specs.Allowed.{can_move};
 ghost use Rattle.pruning.specs.Marked.{is_forced};
+ghost use Rattle.bit_grid.specs.Bits.{is_free_from_one};
 ghost use Rattle.pruning.specs.First as first;
 ghost use Rattle.jump_plain.specs.Beside.{known};
-ghost use Rattle.jump_block.specs.Patch.{grid_of_patch, IsAround};
+ghost use Rattle.jump_block.specs.Source as spec;
 ghost use Rattle.jump_block.specs.Source.{AreItsBits};
 
-use crate::patch::Patch;
+use crate::patch::{Patch, bit_of};
 use crate::straight::Bits;
-use grid_moves::{Cell, Dir};
+use crate::word::Way;
+use grid_moves::{Cell, Corner, Dir, is_passable};
 use pruning::{Side, turn};
 use std::sync::ledger::Ledger;
 use steps::Steps;
+
+// Which way along the row a diagonal leads.
+#[inline(always)]
+fn row_way(d: Dir) -> Way
+    ensures { result ≡ spec.row_way d }
+{
+    match d {
+        Dir::NE | Dir::SE => Way::Forward,
+        _ => Way::Back,
+    }
+}
+
+// Which way along the column it leads.
+#[inline(always)]
+fn column_way(d: Dir) -> Way
+    ensures { result ≡ spec.column_way d }
+{
+    match d {
+        Dir::SE | Dir::SW => Way::Forward,
+        _ => Way::Back,
+    }
+}
 
 /// The cell that lies ahead. Before the first column or row it has the column or row 65535, at which no
 /// cell is free.
@@ -40,47 +65,112 @@ fn beyond(c: Cell, d: Dir) -> Cell
     }
 }
 
+// Whether both hold.
+#[inline(always)]
+fn both(one: bool, other: bool) -> bool
+    ensures { result ≡ (one && other) }
+{
+    one && other
+}
+
+/// A bit of a row, both counted from 0, the border's among them.
+#[derive(Clone, Copy)]
+pub(crate) struct Bit {
+    pub(crate) line: u32,
+    pub(crate) place: u32,
+}
+
+// The bit of the cell beside a cell of the map.
+#[inline(always)]
+fn bit_beside(at: Cell, d: Dir) -> Bit
+    ensures is { (g : GridData) → is_free_from_one g result.place result.line ≡ moves.is_open g at d }
+    ensures low { result.line ≤ at.y + 2 }
+    ensures near { result.place ≤ at.x + 2 }
+{
+    let (x, y) = (u32::from(at.x), u32::from(at.y));
+    let (line, place) = match d {
+        Dir::N => (y, x + 1),
+        Dir::NE => (y, x + 2),
+        Dir::E => (y + 1, x + 2),
+        Dir::SE => (y + 2, x + 2),
+        Dir::S => (y + 2, x + 1),
+        Dir::SW => (y + 2, x),
+        Dir::W => (y + 1, x),
+        Dir::NW => (y, x),
+    };
+    Bit { line, place }
+}
+
 impl<'a> Bits<'a> {
-    // Whether a straight jump in this direction finds a stop.
+    // Whether the cell beside a free cell is free.
     #[inline(always)]
-    fn finds_stop<L: Ledger>(&self, at: Cell, d: Dir, goal: Cell, steps: &mut Steps<L>) -> bool
+    fn is_open<L: Ledger>(&self, at: Cell, d: Dir, steps: &mut Steps<L>) -> bool
         requires stands { (g : GridData) × AreItsBits self.now.rows.now self.now.columns.now self.now.corner g
             × (is_free g at ≡ true) }
-        requires straight { is_diagonal d ≡ false }
-        ensures finds { (g : GridData)
+        ensures is { (g : GridData)
+            → AreItsBits self.now.rows.now self.now.columns.now self.now.corner g
+            → result ≡ moves.is_open g at d }
+        ensures one_step { steps.new ≡ steps.old + 1 }
+    {
+        let bit = bit_beside(at, d);
+        bit_of(self.rows, bit.line, bit.place, steps)
+    }
+
+    // Whether a diagonal move from a free cell is legal.
+    #[inline(always)]
+    fn leads<L: Ledger>(&self, at: Cell, d: Dir, steps: &mut Steps<L>) -> bool
+        requires stands { (g : GridData) × AreItsBits self.now.rows.now self.now.columns.now self.now.corner g
+            × (is_free g at ≡ true) }
+        requires diagonal { is_diagonal d ≡ true }
+        ensures leads { (g : GridData)
             → AreItsBits self.now.rows.now self.now.columns.now self.now.corner g → is_free g at ≡ true
-            → result ≡ is_some (first.first_stop g goal at d) }
+            → result ≡ can_move g at d }
+        ensures three_steps { steps.new ≡ steps.old + 3 }
+    {
+        let ahead = self.is_open(at, d, steps);
+        let left = self.is_open(at, turn(Side::Left, d), steps);
+        let right = self.is_open(at, turn(Side::Right, d), steps);
+        both(ahead, is_passable(self.corner, left, right))
+    }
+
+    // Whether, after a diagonal move to a free cell, a neighbour is forced there.
+    #[inline(always)]
+    fn forces<L: Ledger>(&self, at: Cell, d: Dir, steps: &mut Steps<L>) -> bool
+        requires stands { (g : GridData) × AreItsBits self.now.rows.now self.now.columns.now self.now.corner g
+            × (is_free g at ≡ true) }
+        requires diagonal { is_diagonal d ≡ true }
+        ensures forces { (g : GridData)
+            → AreItsBits self.now.rows.now self.now.columns.now self.now.corner g → is_free g at ≡ true
+            → result ≡ is_forced g at d }
         ensures more { steps.old ≤ steps.new }
     {
-        self.straight(at, d, goal, steps).is_some()
+        match self.corner {
+            Corner::Never => false,
+            Corner::One => {
+                let around = Patch::read(self.rows, self.corner, at, steps);
+                around.forces(d)
+            }
+        }
     }
 
     // Whether a diagonal jump stops at a cell: it is the goal, or a neighbour is forced there, or a straight
     // jump in a component finds a stop.
     #[inline(always)]
-    fn stops_at<L: Ledger>(
-        &self,
-        around: Patch,
-        at: Cell,
-        d: Dir,
-        goal: Cell,
-        steps: &mut Steps<L>,
-    ) -> bool
+    fn stops_at<L: Ledger>(&self, at: Cell, d: Dir, goal: Cell, steps: &mut Steps<L>) -> bool
         requires stands { (g : GridData) × AreItsBits self.now.rows.now self.now.columns.now self.now.corner g
-            × (is_free g at ≡ true) × IsAround g at around }
+            × (is_free g at ≡ true) }
         requires diagonal { is_diagonal d ≡ true }
         ensures stops { (g : GridData)
             → AreItsBits self.now.rows.now self.now.columns.now self.now.corner g → is_free g at ≡ true
-            → IsAround g at around
             → result ≡ (is_same at goal || is_forced g at d
-            || is_some (first.first_stop g goal at (turns.turn Side.Right d))
-            || is_some (first.first_stop g goal at (turns.turn Side.Left d))) }
+            || is_some (first.first_stop g goal at (spec.row_dir (spec.row_way d)))
+            || is_some (first.first_stop g goal at (spec.column_dir (spec.column_way d)))) }
         ensures more { steps.old ≤ steps.new }
     {
         at == goal
-            || around.forces(d)
-            || self.finds_stop(at, turn(Side::Right, d), goal, steps)
-            || self.finds_stop(at, turn(Side::Left, d), goal, steps)
+            || self.forces(at, d, steps)
+            || self.finds_on_row(at, row_way(d), goal, steps)
+            || self.finds_on_column(at, column_way(d), goal, steps)
     }
 
     /// After how many moves a diagonal jump stops.
@@ -102,12 +192,10 @@ impl<'a> Bits<'a> {
     {
         let mut cell = at;
         let mut moves = 0;
-        let mut around = Patch::read(self.rows, self.corner, at, steps);
-        'run: while around.leads(d) {
+        'run: while self.leads(cell, d, steps) {
             let next = beyond(cell, d);
             moves += 1;
-            around = Patch::read(self.rows, self.corner, next, steps);
-            if self.stops_at(around, next, d, goal, steps) {
+            if self.stops_at(next, d, goal, steps) {
                 return Some(moves);
             }
             cell = next;

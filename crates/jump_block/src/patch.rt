@@ -1,17 +1,15 @@
 //! The cells around a cell, read from the bits of three rows.
 
-ghost use Rattle.std.specs.Prelude.{◌≡◌, ℕ, suc, ◌+◌, ◌*◌, ◌/◌, ◌<◌, ◌≤◌, ◌&&◌, Bool, true, false};
+ghost use Rattle.std.specs.Prelude.{◌≡◌, ℕ, suc, ◌+◌, ◌*◌, ◌/◌, ◌<◌, ◌≤◌, Bool, true, false};
 ghost use Rattle.grid_moves.specs.Grid.{GridData, IsGrid, is_free};
-ghost use Rattle.grid_moves.specs.Move as moves;
 ghost use Rattle.pruning.specs.Turns as turns;
-ghost use Rattle.pruning.specs.Allowed.{can_move};
 ghost use Rattle.pruning.specs.Marked.{is_forced};
 ghost use Rattle.bit_grid.specs.Bits.{Shows, AreRowsOf, is_set};
 ghost use Rattle.jump_block.specs.Patch.{grid_of_patch, AreThree, IsAround};
 
 use bit_grid::{Lines, Rows};
-use grid_moves::{Cell, Corner, Dir, Terrain, is_passable};
-use pruning::{Side, forced, turn};
+use grid_moves::{Cell, Corner, Dir, Terrain};
+use pruning::forced;
 use std::sync::ledger::Ledger;
 use steps::Steps;
 
@@ -35,14 +33,6 @@ fn is_set(word: u64, place: u32) -> bool
     ensures { result ≡ is_set word place }
 {
     word >> place & 1 == 1
-}
-
-// Whether both hold.
-#[inline(always)]
-fn both(one: bool, other: bool) -> bool
-    ensures { result ≡ (one && other) }
-{
-    one && other
 }
 
 // The word from this bit on.
@@ -72,13 +62,13 @@ fn word_with<L: Ledger>(lines: &Lines, line: u32, place: u32, steps: &mut Steps<
         → (j : ℕ) → j < 64 → is_set result j ≡ free line (place / 64 * 64 + j) }
     ensures one_step { steps.new ≡ steps.old + 1 }
 {
-    let lane = lines.lane(line, place / 512, steps).to_array();
+    let lane = lines.lane(line, place / 512, steps);
     lane[(place / 64 % 8) as usize]
 }
 
 // Whether a line's bit is set.
 #[inline(always)]
-fn bit_of<L: Ledger>(lines: &Lines, line: u32, place: u32, steps: &mut Steps<L>) -> bool
+pub(crate) fn bit_of<L: Ledger>(lines: &Lines, line: u32, place: u32, steps: &mut Steps<L>) -> bool
     requires line { line < lines.now.lines }
     requires place { place < lines.now.blocks * 512 }
     ensures shown { (count positions : ℕ) (free : ℕ → ℕ → Bool) → Shows lines.now count positions free
@@ -142,36 +132,6 @@ impl Patch {
             below: three(rows, y + 2, x, steps),
             corner,
         }
-    }
-
-    // Whether the cell beside the middle is free.
-    #[inline(always)]
-    fn is_open(&self, d: Dir) -> bool
-        ensures { result ≡ moves.is_open (grid_of_patch self.now) (record { x = 1; y = 1 }) d }
-    {
-        match d {
-            Dir::N => is_set(self.above, 1),
-            Dir::NE => is_set(self.above, 2),
-            Dir::E => is_set(self.middle, 2),
-            Dir::SE => is_set(self.below, 2),
-            Dir::S => is_set(self.below, 1),
-            Dir::SW => is_set(self.below, 0),
-            Dir::W => is_set(self.middle, 0),
-            Dir::NW => is_set(self.above, 0),
-        }
-    }
-
-    /// Whether a diagonal move from the middle is legal.
-    #[inline(always)]
-    pub(crate) fn leads(&self, d: Dir) -> bool
-        requires diagonal { turns.is_diagonal d ≡ true }
-        ensures { (g : GridData) (x : Cell) → IsAround g x self.now → is_free g x ≡ true
-            → result ≡ can_move g x d }
-    {
-        let left = self.is_open(turn(Side::Left, d));
-        let right = self.is_open(turn(Side::Right, d));
-        let passes = is_passable(self.corner, left, right);
-        both(self.is_open(d), passes)
     }
 
     /// Whether, after a diagonal move to the middle, a neighbour is forced there.

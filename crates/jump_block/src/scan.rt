@@ -4,9 +4,10 @@ ghost use Rattle.std.specs.Prelude.{◌≡◌, ℕ, ◌+◌, ◌-◌, ◌*◌, �
 ghost use Rattle.jump_block.specs.Trail.{begun, trail_on};
 ghost use Rattle.jump_block.specs.Scan.{IsStart, Finds, looked, most_lanes};
 ghost use Rattle.jump_block.specs.Word as spec;
+ghost use Rattle.jump_block.specs.Seek.{HasPassed};
 
 use crate::block::{Block, Halt, Seek};
-use crate::word::Way;
+use crate::word::{Way, Words};
 use bit_grid::Lines;
 use grid_moves::Corner;
 use std::sync::ledger::Ledger;
@@ -54,10 +55,48 @@ fn next_block(way: Way, index: u32) -> u32
     }
 }
 
+// Goes on past the block in which a scan started, told the last words that it passed there.
+//
+// It reads three blocks at a time: of the line, and of those beside it. The next ones are read only where
+// neither a halt nor the goal is found in those at hand.
+#[inline(never)]
+fn scan_on<L: Ledger>(
+    way: Way,
+    rule: Corner,
+    lines: &Lines,
+    line: u32,
+    place: u32,
+    to_goal: u32,
+    last: Words,
+    steps: &mut Steps<L>,
+) -> Option<Halt>
+    requires starts { (free : ℕ → ℕ → Bool) × IsStart lines.now free line place }
+    requires few { lines.now.lines < 65536 }
+    requires short { lines.now.blocks ≤ 128 }
+    requires passed { (free : ℕ → ℕ → Bool) → IsStart lines.now free line place
+        → HasPassed (begun rule (trail_on free way line place)) way place
+        (spec.edge_before way (place / 512 * 512) 8) last }
+    ensures finds { (free : ℕ → ℕ → Bool) → IsStart lines.now free line place
+        → Finds (begun rule (trail_on free way line place)) to_goal result }
+    ensures most { steps.new + 3 ≤ steps.old + most_lanes (looked to_goal result) }
+    ensures more { steps.old ≤ steps.new }
+{
+    let mut index = place / 512;
+    let mut last = last;
+    'blocks: while !is_met(to_goal, moves_through(way, place, index * 512)) {
+        index = next_block(way, index);
+        let block = Block::read(lines, line, index, steps);
+        last = match block.seek(way, 0, last, place, index * 512) {
+            Seek::Halted(halt) => return Some(halt),
+            Seek::Passed(words) => words,
+        };
+    }
+    None
+}
+
 /// Scans along a line from a free cell: finds where the scan halts, or `None` where the goal is met before.
 ///
-/// It reads three blocks at a time: of the line, and of those beside it. The next ones are read only where
-/// neither a halt nor the goal is found in those at hand.
+/// Most scans halt in the block in which they start, so what is past it is looked at out of line.
 #[inline(always)]
 pub(crate) fn scan<L: Ledger>(
     way: Way,
@@ -74,19 +113,17 @@ pub(crate) fn scan<L: Ledger>(
     ensures most { steps.new ≤ steps.old + most_lanes (looked start.to_goal result) }
     ensures fewest { steps.old + 3 ≤ steps.new }
 {
-    let mut index = start.place / 512;
+    let index = start.place / 512;
     let block = Block::read(lines, start.line, index, steps);
-    let mut last = match block.seek_start(way, rule, start.place, index * 512) {
-        Seek::Halted(halt) => return Some(halt),
-        Seek::Passed(words) => words,
-    };
-    'blocks: while !is_met(start.to_goal, moves_through(way, start.place, index * 512)) {
-        index = next_block(way, index);
-        let block = Block::read(lines, start.line, index, steps);
-        last = match block.seek(way, 0, last, start.place, index * 512) {
-            Seek::Halted(halt) => return Some(halt),
-            Seek::Passed(words) => words,
-        };
+    match block.seek_start(way, rule, start.place, index * 512) {
+        Seek::Halted(halt) => Some(halt),
+        Seek::Passed(words) => {
+            let Start {
+                line,
+                place,
+                to_goal,
+            } = start;
+            scan_on(way, rule, lines, line, place, to_goal, words, steps)
+        }
     }
-    None
 }

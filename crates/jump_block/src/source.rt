@@ -30,10 +30,84 @@ pub struct BlockJumps<'a> {
 }
 
 impl<'a> Bits<'a> {
+    // After how many moves a jump stops, where no corner is cut. Each direction has loops of its own, in which
+    // it is a constant, and so is the rule.
+    #[inline(never)]
+    fn stop_by_never<L: Ledger>(
+        &self,
+        at: Cell,
+        d: Dir,
+        goal: Cell,
+        steps: &mut Steps<L>,
+    ) -> Option<u16>
+        requires rule { self.now.corner ≡ Corner.Never }
+        requires stands { (g : GridData) × AreItsBits self.now.rows.now self.now.columns.now self.now.corner g
+            × (is_free g at ≡ true) }
+        ensures first { (g : GridData)
+            → AreItsBits self.now.rows.now self.now.columns.now self.now.corner g → is_free g at ≡ true
+            → result ≡ first.first_stop g goal at d }
+        ensures most { is_diagonal d ≡ false → (g : GridData)
+            → AreItsBits self.now.rows.now self.now.columns.now self.now.corner g → is_free g at ≡ true
+            → steps.new ≤ steps.old + most_lanes (scanned g at d result) }
+        ensures fewest { steps.old + 3 ≤ steps.new }
+    {
+        let bits = Bits {
+            rows: self.rows,
+            columns: self.columns,
+            corner: Corner::Never,
+        };
+        match d {
+            Dir::N => bits.straight(at, Dir::N, goal, steps),
+            Dir::NE => bits.diagonal(at, Dir::NE, goal, steps),
+            Dir::E => bits.straight(at, Dir::E, goal, steps),
+            Dir::SE => bits.diagonal(at, Dir::SE, goal, steps),
+            Dir::S => bits.straight(at, Dir::S, goal, steps),
+            Dir::SW => bits.diagonal(at, Dir::SW, goal, steps),
+            Dir::W => bits.straight(at, Dir::W, goal, steps),
+            Dir::NW => bits.diagonal(at, Dir::NW, goal, steps),
+        }
+    }
+
+    // The same where a corner may be cut past one blocked cell.
+    #[inline(never)]
+    fn stop_by_one<L: Ledger>(
+        &self,
+        at: Cell,
+        d: Dir,
+        goal: Cell,
+        steps: &mut Steps<L>,
+    ) -> Option<u16>
+        requires rule { self.now.corner ≡ Corner.One }
+        requires stands { (g : GridData) × AreItsBits self.now.rows.now self.now.columns.now self.now.corner g
+            × (is_free g at ≡ true) }
+        ensures first { (g : GridData)
+            → AreItsBits self.now.rows.now self.now.columns.now self.now.corner g → is_free g at ≡ true
+            → result ≡ first.first_stop g goal at d }
+        ensures most { is_diagonal d ≡ false → (g : GridData)
+            → AreItsBits self.now.rows.now self.now.columns.now self.now.corner g → is_free g at ≡ true
+            → steps.new ≤ steps.old + most_lanes (scanned g at d result) }
+        ensures fewest { steps.old + 3 ≤ steps.new }
+    {
+        let bits = Bits {
+            rows: self.rows,
+            columns: self.columns,
+            corner: Corner::One,
+        };
+        match d {
+            Dir::N => bits.straight(at, Dir::N, goal, steps),
+            Dir::NE => bits.diagonal(at, Dir::NE, goal, steps),
+            Dir::E => bits.straight(at, Dir::E, goal, steps),
+            Dir::SE => bits.diagonal(at, Dir::SE, goal, steps),
+            Dir::S => bits.straight(at, Dir::S, goal, steps),
+            Dir::SW => bits.diagonal(at, Dir::SW, goal, steps),
+            Dir::W => bits.straight(at, Dir::W, goal, steps),
+            Dir::NW => bits.diagonal(at, Dir::NW, goal, steps),
+        }
+    }
+
     // After how many moves a jump stops. A straight one reads at most `3·(k/512 + 2)` blocks: `k` is that
     // number, or, where there is no stop, the length of the legal run and one.
-    // Each direction has loops of its own, in which it is a constant.
-    #[inline(never)]
+    #[inline(always)]
     fn stop<L: Ledger>(&self, at: Cell, d: Dir, goal: Cell, steps: &mut Steps<L>) -> Option<u16>
         requires stands { (g : GridData) × AreItsBits self.now.rows.now self.now.columns.now self.now.corner g
             × (is_free g at ≡ true) }
@@ -45,15 +119,9 @@ impl<'a> Bits<'a> {
             → steps.new ≤ steps.old + most_lanes (scanned g at d result) }
         ensures fewest { steps.old + 3 ≤ steps.new }
     {
-        match d {
-            Dir::N => self.straight(at, Dir::N, goal, steps),
-            Dir::NE => self.diagonal(at, Dir::NE, goal, steps),
-            Dir::E => self.straight(at, Dir::E, goal, steps),
-            Dir::SE => self.diagonal(at, Dir::SE, goal, steps),
-            Dir::S => self.straight(at, Dir::S, goal, steps),
-            Dir::SW => self.diagonal(at, Dir::SW, goal, steps),
-            Dir::W => self.straight(at, Dir::W, goal, steps),
-            Dir::NW => self.diagonal(at, Dir::NW, goal, steps),
+        match self.corner {
+            Corner::Never => self.stop_by_never(at, d, goal, steps),
+            Corner::One => self.stop_by_one(at, d, goal, steps),
         }
     }
 

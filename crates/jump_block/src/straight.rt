@@ -1,6 +1,6 @@
 //! Straight jumps: a scan along a row or a column, and the first stop that follows from where it halts.
 
-ghost use Rattle.std.specs.Prelude.{◌≡◌, ℕ, ◌+◌, ◌≤◌, Bool, false, true, IsTrue};
+ghost use Rattle.std.specs.Prelude.{◌≡◌, ℕ, ◌+◌, ◌≤◌, Bool, false, true, IsTrue, is_some};
 ghost use Rattle.grid_moves.specs.Grid.{GridData, is_free};
 ghost use Rattle.pruning.specs.Turns.{is_diagonal};
 ghost use Rattle.pruning.specs.First as first;
@@ -29,6 +29,28 @@ fn moves_to(d: Dir, from: Cell, to: Cell) -> u16
         Dir::E if from.y == to.y => to.x.saturating_sub(from.x),
         Dir::W if from.y == to.y => from.x.saturating_sub(to.x),
         _ => 0,
+    }
+}
+
+// The direction of a way along a row.
+#[inline(always)]
+fn row_dir(way: Way) -> Dir
+    ensures { result ≡ spec.row_dir way }
+{
+    match way {
+        Way::Forward => Dir::E,
+        Way::Back => Dir::W,
+    }
+}
+
+// The direction of a way along a column.
+#[inline(always)]
+fn column_dir(way: Way) -> Dir
+    ensures { result ≡ spec.column_dir way }
+{
+    match way {
+        Way::Forward => Dir::S,
+        Way::Back => Dir::N,
     }
 }
 
@@ -65,6 +87,56 @@ pub(crate) struct Bits<'a> {
 }
 
 impl<'a> Bits<'a> {
+    // Where a scan along the row halts, or `None` where the goal, so many moves on, is met before.
+    #[inline(always)]
+    fn halt_on_row<L: Ledger>(
+        &self,
+        at: Cell,
+        way: Way,
+        to_goal: u16,
+        steps: &mut Steps<L>,
+    ) -> Option<Halt>
+        requires stands { (g : GridData) × AreItsBits self.now.rows.now self.now.columns.now self.now.corner g
+            × (is_free g at ≡ true) }
+        ensures finds { (g : GridData)
+            → AreItsBits self.now.rows.now self.now.columns.now self.now.corner g → is_free g at ≡ true
+            → Finds (begun self.now.corner (trail_of g (spec.row_dir way) at)) to_goal result }
+        ensures most { steps.new ≤ steps.old + most_lanes (looked to_goal result) }
+        ensures fewest { steps.old + 3 ≤ steps.new }
+    {
+        let along_row = Start {
+            line: u32::from(at.y) + 1,
+            place: u32::from(at.x) + 1,
+            to_goal: u32::from(to_goal),
+        };
+        scan(way, self.corner, self.rows, along_row, steps)
+    }
+
+    // The same along the column.
+    #[inline(always)]
+    fn halt_on_column<L: Ledger>(
+        &self,
+        at: Cell,
+        way: Way,
+        to_goal: u16,
+        steps: &mut Steps<L>,
+    ) -> Option<Halt>
+        requires stands { (g : GridData) × AreItsBits self.now.rows.now self.now.columns.now self.now.corner g
+            × (is_free g at ≡ true) }
+        ensures finds { (g : GridData)
+            → AreItsBits self.now.rows.now self.now.columns.now self.now.corner g → is_free g at ≡ true
+            → Finds (begun self.now.corner (trail_of g (spec.column_dir way) at)) to_goal result }
+        ensures most { steps.new ≤ steps.old + most_lanes (looked to_goal result) }
+        ensures fewest { steps.old + 3 ≤ steps.new }
+    {
+        let along_column = Start {
+            line: u32::from(at.x) + 1,
+            place: u32::from(at.y) + 1,
+            to_goal: u32::from(to_goal),
+        };
+        scan(way, self.corner, self.columns, along_column, steps)
+    }
+
     // Where a straight scan halts, or `None` where the goal, so many moves on, is met before.
     #[inline(always)]
     fn halt<L: Ledger>(&self, at: Cell, d: Dir, to_goal: u16, steps: &mut Steps<L>) -> Option<Halt>
@@ -77,24 +149,54 @@ impl<'a> Bits<'a> {
         ensures most { steps.new ≤ steps.old + most_lanes (looked to_goal result) }
         ensures fewest { steps.old + 3 ≤ steps.new }
     {
-        let (x, y) = (u32::from(at.x) + 1, u32::from(at.y) + 1);
-        let to_goal = u32::from(to_goal);
-        let along_row = Start {
-            line: y,
-            place: x,
-            to_goal,
-        };
-        let along_column = Start {
-            line: x,
-            place: y,
-            to_goal,
-        };
         match d {
-            Dir::E => scan(Way::Forward, self.corner, self.rows, along_row, steps),
-            Dir::W => scan(Way::Back, self.corner, self.rows, along_row, steps),
-            Dir::S => scan(Way::Forward, self.corner, self.columns, along_column, steps),
-            _ => scan(Way::Back, self.corner, self.columns, along_column, steps),
+            Dir::E => self.halt_on_row(at, Way::Forward, to_goal, steps),
+            Dir::W => self.halt_on_row(at, Way::Back, to_goal, steps),
+            Dir::S => self.halt_on_column(at, Way::Forward, to_goal, steps),
+            _ => self.halt_on_column(at, Way::Back, to_goal, steps),
         }
+    }
+
+    /// Whether a straight jump along the row finds a stop.
+    #[inline(always)]
+    pub(crate) fn finds_on_row<L: Ledger>(
+        &self,
+        at: Cell,
+        way: Way,
+        goal: Cell,
+        steps: &mut Steps<L>,
+    ) -> bool
+        requires stands { (g : GridData) × AreItsBits self.now.rows.now self.now.columns.now self.now.corner g
+            × (is_free g at ≡ true) }
+        ensures finds { (g : GridData)
+            → AreItsBits self.now.rows.now self.now.columns.now self.now.corner g → is_free g at ≡ true
+            → result ≡ is_some (first.first_stop g goal at (spec.row_dir way)) }
+        ensures more { steps.old ≤ steps.new }
+    {
+        let to_goal = moves_to(row_dir(way), at, goal);
+        let found = self.halt_on_row(at, way, to_goal, steps);
+        stop_of(self.corner, found, to_goal).is_some()
+    }
+
+    /// Whether one along the column does.
+    #[inline(always)]
+    pub(crate) fn finds_on_column<L: Ledger>(
+        &self,
+        at: Cell,
+        way: Way,
+        goal: Cell,
+        steps: &mut Steps<L>,
+    ) -> bool
+        requires stands { (g : GridData) × AreItsBits self.now.rows.now self.now.columns.now self.now.corner g
+            × (is_free g at ≡ true) }
+        ensures finds { (g : GridData)
+            → AreItsBits self.now.rows.now self.now.columns.now self.now.corner g → is_free g at ≡ true
+            → result ≡ is_some (first.first_stop g goal at (spec.column_dir way)) }
+        ensures more { steps.old ≤ steps.new }
+    {
+        let to_goal = moves_to(column_dir(way), at, goal);
+        let found = self.halt_on_column(at, way, to_goal, steps);
+        stop_of(self.corner, found, to_goal).is_some()
     }
 
     /// After how many moves a straight jump stops.

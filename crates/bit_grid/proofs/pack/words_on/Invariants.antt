@@ -1,17 +1,13 @@
 use Rattle.std.proofs.Common.{◌≡◌, ◌+◌, ◌*◌, length}
-use Rattle.bit_grid.specs.Pack.{is_free_in}
+use Rattle.bit_grid.specs.Pack.{is_free_in, IsBordered}
 use Rattle.bit_grid.specs.Turn.{ArePackedSoFar}
 use Rattle.bit_grid.proofs.pack.words_on.Given as goal
 
--- the words of the lines behind, and of this line so far
-abbrev pub invariant-loop-line : goal.invariant-loop-line
-invariant-loop-line g l = record {
-  long : length l.words.items ≡ l.line * l.per_line;
-  shown : ArePackedSoFar (is_free_in (g.T.Terrain.grid l.t)) l.per_line l.words.items;
-}
-
-abbrev pub invariant-loop-w : goal.invariant-loop-w
-invariant-loop-w g l = record {
-  long : length l.words.items ≡ l.line * l.per_line + l.w;
+-- the border's first row is packed, and the rows behind
+abbrev pub invariant-loop-y : goal.invariant-loop-y
+invariant-loop-y g l = record {
+  room : length l.flags ≡ l.per_line * 64;
+  border : IsBordered (g.T.Terrain.grid l.t) l.flags;
+  long : length l.words.items ≡ (l.y + 1) * l.per_line;
   shown : ArePackedSoFar (is_free_in (g.T.Terrain.grid l.t)) l.per_line l.words.items;
 }

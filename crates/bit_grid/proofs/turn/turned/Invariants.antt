@@ -7,7 +7,7 @@ abbrev pub invariant-loop-column : goal.invariant-loop-column
 invariant-loop-column l = record {
   room : length l.strip ≡ l.per_column * 64;
   long : length l.found.items ≡ l.column * l.per_column;
-  strip : 0 < l.column → IsStrip l.strip l.words l.lines l.per_line ((l.column - 1) / 64);
+  strip : 0 < l.column → IsStrip l.strip l.words l.lines l.per_line ((l.column - 1) / 8);
   behind : (free : ℕ → ℕ → Bool) → IsWhole l.words l.lines l.per_line free
       → ArePackedSoFar (λ column row. free row column) l.per_column l.found.items;
 }

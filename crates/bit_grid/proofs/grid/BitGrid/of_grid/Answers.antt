@@ -1,23 +1,23 @@
-use Rattle.std.proofs.Common.{ℕ, subst, Bool}
+use Rattle.std.proofs.Common.{ℕ, subst, arith, sym, Bool}
 use Rattle.grid_moves.specs.Grid.{GridData}
 use Rattle.bit_grid.specs.Bits.{Shows, is_free_from_one}
-use Rattle.bit_grid.proofs.Turning.{beyond_rows}
+use Rattle.bit_grid.proofs.Packing.{beyond_rows}
 use Rattle.bit_grid.proofs.grid.BitGrid.of_grid.Goals as goal
 
 pub returns : goal.returns
 returns g c =
     let grid : GridData = g.T.Terrain.grid c.args.t.now in
     let free : ℕ → ℕ → Bool = λ line place. is_free_from_one grid place line in
-    let rows = subst (λ (n : ℕ). Shows c.in_ok-rows.rows n grid.width free) c.height-height.ensures.is
-    (subst (λ (n : ℕ). Shows c.in_ok-rows.rows c.height-height.result n free) c.width-width.ensures.is
+    let rows = subst (λ (n : ℕ). Shows c.in_ok-rows.rows n c.width.result free) (sym c.height.ensures.is)
+    (subst (λ (n : ℕ). Shows c.in_ok-rows.rows grid.height n free) (sym c.width.ensures.is)
     c.in_ok-rows.ensures) in
-    let columns = c.in_ok-columns.ensures free c.in_ok-rows.ensures
-    (λ line place h. beyond_rows grid line place (rw (← c.height-height.ensures.is) h)) in
+    let columns = c.in_ok-columns.ensures free rows
+    (λ line place h. beyond_rows grid line place (rw (← c.height.ensures.is) (omega arith))) in
     record {
-      whole = c.width-width.ensures.whole;
-      rows = rows;
+      whole = c.width.ensures.whole;
+      rows = c.in_ok-rows.ensures;
       columns = subst (λ (n : ℕ). Shows c.in_ok-columns.columns n grid.height (is_free_from_one grid))
-          c.width-width.ensures.is
-          (subst (λ (n : ℕ). Shows c.in_ok-columns.columns c.width-width.result n (is_free_from_one grid))
-          c.height-height.ensures.is columns);
+          c.width.ensures.is
+          (subst (λ (n : ℕ). Shows c.in_ok-columns.columns c.width.result n (is_free_from_one grid))
+          c.height.ensures.is columns);
     }

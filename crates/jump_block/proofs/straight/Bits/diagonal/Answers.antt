@@ -1,5 +1,8 @@
-use Rattle.std.proofs.Common.{true, false, arith, sym, ◌∙◌}
+use Rattle.std.proofs.Common.{true, false, arith, refl, sym, ◌∙◌}
+use Rattle.std.specs.Prelude.{is_some}
+use Rattle.grid_moves.specs.declared.Dir.{Dir}
 use Rattle.pruning.specs.First.{first_stop}
+use Rattle.jump_block.proofs.Directions.{parts}
 use Rattle.jump_plain.proofs.Besides.{beyond_stuck}
 use Rattle.jump_plain.proofs.Reaching.{run_length-next, run_length-few}
 use Rattle.jump_plain.proofs.Diagonal.{is_stop-read, stops_nowhere, stops_here, stops_later}
@@ -13,7 +16,7 @@ overflow_add-moves g c =
     let free = c.requires.stands.2 in
     let there = c.run.invariant.there grid are free in
     let legal = legal_next grid c.run.cell c.beyond-next.result c.args.d c.leads.result
-    (c.leads.ensures grid c.run.cell there.around there.free) c.run-test.true c.beyond-next.ensures in
+    (c.leads.ensures.leads grid are there.free) c.run-test.true c.beyond-next.ensures in
     let longer = run_length-next grid c.run.cell c.beyond-next.result c.args.d legal in
     let few = run_length-few grid c.args.at c.args.d in
     let wide = are.whole.sides.narrow in
@@ -21,16 +24,12 @@ overflow_add-moves g c =
     let run = there.run in
     omega arith
 
-pub read-around-requires-in-run : goal.read-around-requires-in-run
-read-around-requires-in-run g c =
+pub leads-requires-clause-stands : goal.leads-requires-clause-stands
+leads-requires-clause-stands g c =
     let grid = c.requires.stands.0 in
     let are = c.requires.stands.1 in
     let free = c.requires.stands.2 in
-    let there = c.run.invariant.there grid are free in
-    let legal = legal_next grid c.run.cell c.beyond-next.result c.args.d c.leads.result
-    (c.leads.ensures grid c.run.cell there.around there.free) c.run-test.true c.beyond-next.ensures in
-    let next = free_next grid c.run.cell c.beyond-next.result c.args.d legal in
-    record { stands = (grid, are.whole, are.are_rows, next) }
+    (grid, are, (c.run.invariant.there grid are free).free)
 
 pub stops_at-requires-clause-stands : goal.stops_at-requires-clause-stands
 stops_at-requires-clause-stands g c =
@@ -39,22 +38,22 @@ stops_at-requires-clause-stands g c =
     let free = c.requires.stands.2 in
     let there = c.run.invariant.there grid are free in
     let legal = legal_next grid c.run.cell c.beyond-next.result c.args.d c.leads.result
-    (c.leads.ensures grid c.run.cell there.around there.free) c.run-test.true c.beyond-next.ensures in
+    (c.leads.ensures.leads grid are there.free) c.run-test.true c.beyond-next.ensures in
     let next = free_next grid c.run.cell c.beyond-next.result c.args.d legal in
-    let around = c.read-around-in-run.ensures.around grid are.whole are.are_rows are.rule next in
-    (grid, are, next, around)
+    (grid, are, next)
 
 pub returns-then-stops_at-clause-first : goal.returns-then-stops_at-clause-first
 returns-then-stops_at-clause-first g c = λ grid are free.
     let there = c.run.invariant.there grid are free in
     let legal = legal_next grid c.run.cell c.beyond-next.result c.args.d c.leads.result
-    (c.leads.ensures grid c.run.cell there.around there.free) c.run-test.true c.beyond-next.ensures in
+    (c.leads.ensures.leads grid are there.free) c.run-test.true c.beyond-next.ensures in
     let next = free_next grid c.run.cell c.beyond-next.result c.args.d legal in
-    let around = c.read-around-in-run.ensures.around grid are.whole are.are_rows are.rule next in
     stops_here grid c.args.goal c.run.cell c.args.d c.run.moves
     (first_stop grid c.args.goal c.args.at c.args.d) there.stop c.beyond-next.result legal
     (is_stop-read grid c.args.goal c.args.d c.beyond-next.result c.requires.diagonal c.stops_at.result true
-    (c.stops_at.ensures.stops grid are next around) c.if-stops_at.true)
+    (c.stops_at.ensures.stops grid are next ∙ parts
+    (λ (e : Dir). is_some (first_stop grid c.args.goal c.beyond-next.result e)) c.args.d c.requires.diagonal
+    _ _ _ refl refl) c.if-stops_at.true)
 
 pub run-smaller : goal.run-smaller
 run-smaller g c =
@@ -63,7 +62,7 @@ run-smaller g c =
     let free = c.requires.stands.2 in
     let there = c.run.invariant.there grid are free in
     let legal = legal_next grid c.run.cell c.beyond-next.result c.args.d c.leads.result
-    (c.leads.ensures grid c.run.cell there.around there.free) c.run-test.true c.beyond-next.ensures in
+    (c.leads.ensures.leads grid are there.free) c.run-test.true c.beyond-next.ensures in
     let longer = run_length-next grid c.run.cell c.beyond-next.result c.args.d legal in
     let few = run_length-few grid c.args.at c.args.d in
     let wide = are.whole.sides.narrow in
@@ -74,22 +73,22 @@ run-smaller g c =
 pub run-preserved : goal.run-preserved
 run-preserved g c = record {
   read = let before = c.run.invariant.read in
-      let reads = c.read-around-in-run.ensures.fewest in
+      let reads = c.leads.ensures.three_steps in
       let more = c.stops_at.ensures.more in
       omega arith;
   there = λ grid are free.
       let there = c.run.invariant.there grid are free in
       let legal = legal_next grid c.run.cell c.beyond-next.result c.args.d c.leads.result
-      (c.leads.ensures grid c.run.cell there.around there.free) c.run-test.true c.beyond-next.ensures in
+      (c.leads.ensures.leads grid are there.free) c.run-test.true c.beyond-next.ensures in
       let next = free_next grid c.run.cell c.beyond-next.result c.args.d legal in
-      let around = c.read-around-in-run.ensures.around grid are.whole are.are_rows are.rule next in
       record {
         free = next;
-        around = around;
         stop = stops_later grid c.args.goal c.run.cell c.args.d c.run.moves
             (first_stop grid c.args.goal c.args.at c.args.d) there.stop c.beyond-next.result legal
             (is_stop-read grid c.args.goal c.args.d c.beyond-next.result c.requires.diagonal c.stops_at.result
-            false (c.stops_at.ensures.stops grid are next around) c.if-stops_at.false);
+            false (c.stops_at.ensures.stops grid are next ∙ parts
+            (λ (e : Dir). is_some (first_stop grid c.args.goal c.beyond-next.result e)) c.args.d c.requires.diagonal
+            _ _ _ refl refl) c.if-stops_at.false);
         run = let longer = run_length-next grid c.run.cell c.beyond-next.result c.args.d legal in
             let run = there.run in
             omega arith;
@@ -102,4 +101,4 @@ returns-clause-first g c = λ grid are free.
     stops_nowhere grid c.args.goal c.run.cell c.args.d c.run.moves
     (first_stop grid c.args.goal c.args.at c.args.d) there.stop
     (beyond_stuck grid c.run.cell c.args.d
-    (sym (c.leads.ensures grid c.run.cell there.around there.free) ∙ c.run-test.false))
+    (sym (c.leads.ensures.leads grid are there.free) ∙ c.run-test.false))

@@ -1,7 +1,7 @@
 use Rattle.std.proofs.Common.{◌≡◌, ℕ, ◌+◌, ◌*◌, List, [], ◌∷◌, ◌++◌, length, length-append, ap, sym, subst, arith, ◌∙◌}
 use Rattle.bit_grid.specs.Turn.{ArePackedSoFar}
 use Rattle.bit_grid.proofs.Packing.{packed_further}
-use Rattle.bit_grid.proofs.turn.push_line.Goals as goal
+use Rattle.bit_grid.proofs.pack.push_line.Goals as goal
 
 pub loop-w-preserved : goal.loop-w-preserved
 loop-w-preserved c =
