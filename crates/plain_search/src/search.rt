@@ -2,9 +2,9 @@
 //!
 //! A state is taken by the least sum of its cost and the octile distance to the goal; among equal sums
 //! the one of the lesser cell number goes first, and of equal offers to a cell the earlier one stands.
-//! The search ends where the goal is taken, or where no state waits. Moves
-//! that the parent has offered at no greater cost are left out (module `moves`), which changes nothing in
-//! the run.
+//! The search ends where the goal is taken, or where no state waits. The start has to be free. Moves that
+//! the parent has offered at no greater cost are left out (module `moves`), which changes nothing in the
+//! run.
 //!
 //! A* after Hart, Nilsson and Raphael (1968); the order of ties is this project's. The machine under it is
 //! `best_first`.
@@ -182,7 +182,8 @@ fn take_all<T: Terrain, L: Ledger>(
     Ok(Some(at))
 }
 
-/// The same, where the steps of the open list are counted by a counter of its own.
+/// Takes states until the goal is taken, and gives the number of its node, or until none waits. The
+/// steps of the open list are counted by a counter of its own.
 pub(crate) fn take_counted<T: Terrain, L: Ledger>(
     t: &T,
     ends: Ends,

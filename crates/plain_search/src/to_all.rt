@@ -56,10 +56,11 @@ pub fn least_to_all<T: Terrain>(
     t: &T,
     from: Cell,
 ) -> Result<Vec<Option<Cost>>, NoMemory>
-    requires { is_free (T.grid t.now) from ≡ true }
-    ensures { IfOk result (λ costs. AreCostsToAll (T.grid t.now) from costs.items) }
+    requires from { is_free (T.grid t.now) from ≡ true }
+    ensures costs { IfOk result (λ costs. AreCostsToAll (T.grid t.now) from costs.items) }
 {
     let (width, height) = (t.width(), t.height());
+    // The first cell below the last row, which is never met.
     let to = Cell { x: 0, y: height };
     let mut taken = Taken::new(alloc);
     let mut memory = Workspace::of_grid(alloc, t)?;
