@@ -33,7 +33,8 @@ whole_row g y n row long all first last read =
     outside : (x : ℕ) → g.width ≤ x → is_free g (record { x = x; y = y }) ≡ false
     outside x h = by_flag (is_free g (record { x = x; y = y })) refl
       where
-        by_flag : (b : Bool) → is_free g (record { x = x; y = y }) ≡ b → is_free g (record { x = x; y = y }) ≡ false
+        by_flag : (b : Bool) → is_free g (record { x = x; y = y }) ≡ b → is_free g (record { x = x; y = y })
+            ≡ false
         by_flag false e = e
         by_flag true e = absurd (let i = free_inside g (record { x = x; y = y }) e in omega (arith, i.0))
 
@@ -72,11 +73,13 @@ told_read true mark next r is short =
 
 -- and so is the mark beside it
 pub told_across : (legal legal_too mark forced diagonal right left : Bool) (next beside across r : ℤ)
-    → ((legal_too ≡ true → IsShort (to_z w16 (of_z w16 next))) → r ≡ told legal_too mark (to_z w16 (of_z w16 next)))
+    → ((legal_too ≡ true → IsShort (to_z w16 (of_z w16 next))) → r ≡ told legal_too mark
+    (to_z w16 (of_z w16 next)))
     → legal_too ≡ legal → mark ≡ (forced || (diagonal && (right || left)))
     → right ≡ tells_mark (to_z w16 (of_z w16 beside)) → left ≡ tells_mark (to_z w16 (of_z w16 across))
     → (legal ≡ true → AreShort next beside across)
-    → to_z w16 (of_z w16 r) ≡ told legal (forced || (diagonal && (tells_mark beside || tells_mark across))) next
+    → to_z w16 (of_z w16 r) ≡ told legal (forced || (diagonal && (tells_mark beside || tells_mark across)))
+    next
 told_across true l mark forced diagonal right left next beside across r is e m p q short =
     told_read true (forced || (diagonal && (tells_mark beside || tells_mark across))) next r
     (subst (λ (k : Bool). (true ≡ true → IsShort (to_z w16 (of_z w16 next)))
@@ -107,7 +110,8 @@ pub number_more : (row : List ℤ) (x : ℕ) (v : ℤ) (P : ℕ → ℤ → Type
     → ((k : ℕ) → k < x → P k (number row (k + 1))) → P x v
     → (k : ℕ) → k < x + 1 → P k (number (slice_set row (x + 1) v) (k + 1))
 number_more row x v P below known is = below_more (λ k. P k (number (slice_set row (x + 1) v) (k + 1))) x
-    (λ k h. subst (λ (z : ℤ). P k z) (sym (number_stays row (x + 1) (k + 1) v (λ same. omega arith))) (known k h))
+    (λ k h. subst (λ (z : ℤ). P k z) (sym (number_stays row (x + 1) (k + 1) v (λ same. omega arith)))
+    (known k h))
     (subst (λ (z : ℤ). P x z) (sym (get_or-set_same row (x + 1) v (pos 0) below)) is)
 
 -- the same where each rests on the one before
@@ -127,7 +131,8 @@ number_after row x v P below known is =
 
 -- and from the right end, where each rests on the one behind
 pub number_before : (row : List ℤ) (x n : ℕ) (v : ℤ) (P : ℕ → ℤ → ℤ → Type 0) → x + 1 < length row
-    → ((k : ℕ) → x + 1 ≤ k → k < n → P k (number row (k + 2)) (number row (k + 1))) → P x (number row (x + 2)) v
+    → ((k : ℕ) → x + 1 ≤ k → k < n → P k (number row (k + 2)) (number row (k + 1))) → P x
+    (number row (x + 2)) v
     → (k : ℕ) → x ≤ k → k < n
     → P k (number (slice_set row (x + 1) v) (k + 2)) (number (slice_set row (x + 1) v) (k + 1))
 number_before row x n v P below known is k from upto = by_test (nat_lt x k) refl
@@ -149,5 +154,6 @@ number_before row x n v P below known is k from upto = by_test (nat_lt x k) refl
         (subst (λ (z : ℤ). P k z (number row (k + 1))) (further k from) (known k after upto))
     by_test false e =
         let same : x ≡ k = grind (arith, nat_tests) in
-        subst (λ (m : ℕ). P m (number (slice_set row (x + 1) v) (m + 2)) (number (slice_set row (x + 1) v) (m + 1)))
+        subst (λ (m : ℕ). P m (number (slice_set row (x + 1) v) (m + 2))
+        (number (slice_set row (x + 1) v) (m + 1)))
         same at

@@ -3,7 +3,6 @@ pub mod Following
 pub mod Placing
 pub mod Short
 pub mod Refreshing
-pub mod Ahead
 pub mod Sweeping
 pub mod Clear
 pub mod Stops

@@ -30,7 +30,8 @@ pub entries_as : (g : GridData) (m : ℕ) (d : Dir) (row same : List ℤ) → sa
     → IsEntryRow g m d same
 entries_as g m d row same e is = rw e is
 
-pub flags_as : (g : GridData) (n : ℕ) (row same : List Bool) → same ≡ row → IsFlagRow g n row → IsFlagRow g n same
+pub flags_as : (g : GridData) (n : ℕ) (row same : List Bool) → same ≡ row → IsFlagRow g n row → IsFlagRow g
+    n same
 flags_as g n row same e is = rw e is
 
 -- past the last column no flag is set
@@ -199,7 +200,8 @@ kept_up g y band last this rows ready is told long far next here back kept room 
     (row_over (y + 1) y (omega arith)) (λ e. around_up g y band last ready is) (λ e. absurd (other_way e))
 
 pub kept_down : (g : GridData) (y n : ℕ) (band : Band) (last this : Line) (rows : Rows) → 0 < y
-    → IsBefore y n → IsReady g S y band last → IsFlagRow g n band.back.items → IsLine g S y this → IsLong g this
+    → IsBefore y n → IsReady g S y band last → IsFlagRow g n band.back.items → IsLine g S y this → IsLong g
+    this
     → rows.band.far.items ≡ band.next.items → rows.band.next.items ≡ band.here.items
     → rows.band.here.items ≡ band.back.items → rows.band.back.items ≡ band.far.items → rows.last ≡ this
     → IsLong g rows.this → length rows.forced.items ≡ g.width + 2 → IsKept g S (y - 1) rows
@@ -234,8 +236,10 @@ module _ (g : GridData) (whole : IsGrid g) (rows begun : Rows) (blank : IsBlank 
     (this : begun.this ≡ rows.this) (forced : begun.forced.items ≡ rows.forced.items) where
   begun_at : (d : Dir) (y n m : ℕ) → g.height ≤ n → g.height ≤ m → IsRowAt (row_ahead d y) n
       → IsFlagRow g y begun.band.here.items
-      → (d ≡ N → n < 4096 → AreRowsAround g n begun.band.far.items begun.band.next.items begun.band.here.items)
-      → (d ≡ S → n < 4096 → AreRowsAround g n begun.band.here.items begun.band.next.items begun.band.far.items)
+      → (d ≡ N → n < 4096 → AreRowsAround g n begun.band.far.items begun.band.next.items
+      begun.band.here.items)
+      → (d ≡ S → n < 4096 → AreRowsAround g n begun.band.here.items begun.band.next.items
+      begun.band.far.items)
       → IsKept g d y begun
   begun_at d y n m high higher lies is up down = record {
     ready = record {

@@ -113,8 +113,10 @@ eight_in t now c e whole on place count is all =
     last k p n m e f h = omega arith
 
 -- the entries of a cell, changed one after another at places from the first on
-three_sets : (a b : List ℤ) (p q r i j k : ℕ) (u v w x y z : ℤ) → a ≡ b → p ≡ i → q ≡ j → r ≡ k → u ≡ x → v ≡ y
-    → w ≡ z → slice_set (slice_set (slice_set a p u) q v) r w ≡ slice_set (slice_set (slice_set b i x) j y) k z
+three_sets : (a b : List ℤ) (p q r i j k : ℕ) (u v w x y z : ℤ) → a ≡ b → p ≡ i → q ≡ j → r ≡ k → u ≡ x → v
+    ≡ y
+    → w ≡ z → slice_set (slice_set (slice_set a p u) q v) r w ≡ slice_set (slice_set (slice_set b i x) j y)
+    k z
 three_sets a b p q r i j k u v w x y z e f g h l m n = rw (e, f, g, h, l, m, n) refl
 
 two_sets : (a b : List ℤ) (p q i j : ℕ) (u v x y : ℤ) → a ≡ b → p ≡ i → q ≡ j → u ≡ x → v ≡ y
@@ -137,7 +139,8 @@ module _ (t now : TablesData) (c : Cell) (same : t ≡ now) (place : ℕ) (is : 
       ap (λ (es : List ℤ). whole_with t es) (made ∙ two_sets _ _ (place + 6) (place + 7)
       (entry_place t.width c W) (entry_place t.width c NW) i j w nw
       (three_sets entries t.entries place (place + 1) (place + 2) (entry_place t.width c N)
-      (entry_place t.width c NE) (entry_place t.width c E) p q r n ne e read is (first 1) (first 2) is_n is_ne is_e)
+      (entry_place t.width c NE) (entry_place t.width c E) p q r n ne e read is (first 1) (first 2) is_n
+      is_ne is_e)
       (first 6) (first 7) is_w is_nw)
       ∙ ap (λ (s : TablesData). with_up s c n ne e w nw) same
 

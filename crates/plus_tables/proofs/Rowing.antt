@@ -33,7 +33,8 @@ module _ (g : GridData) (whole : IsGrid g) where
   off_map : (x y : ℕ) → 4096 ≤ y → is_free g (record { x = x; y = y }) ≡ false
   off_map x y far = by_test (is_free g (record { x = x; y = y })) refl
     where
-      by_test : (b : Bool) → is_free g (record { x = x; y = y }) ≡ b → is_free g (record { x = x; y = y }) ≡ false
+      by_test : (b : Bool) → is_free g (record { x = x; y = y }) ≡ b
+          → is_free g (record { x = x; y = y }) ≡ false
       by_test false e = e
       by_test true e = absurd (
           let i = free_inside g (record { x = x; y = y }) e in
@@ -72,9 +73,11 @@ module _ (g : GridData) (whole : IsGrid g) where
         → open_in (ring_of above here below x) d ≡ is_open g (record { x = x; y = y }) d
     unfolding there
     ring_open x N = flag_there around.upper _ above around.above_is around.upper_is x (x + 1) refl
-    ring_open x NE = flag_there around.upper _ above around.above_is around.upper_is (x + 1) (x + 2) (omega arith)
+    ring_open x NE = flag_there around.upper _ above around.above_is around.upper_is (x + 1) (x + 2)
+        (omega arith)
     ring_open x E = flag_there y (Some y) here around.here_is (itself y) (x + 1) (x + 2) (omega arith)
-    ring_open x SE = flag_there around.lower _ below around.below_is around.lower_is (x + 1) (x + 2) (omega arith)
+    ring_open x SE = flag_there around.lower _ below around.below_is around.lower_is (x + 1) (x + 2)
+        (omega arith)
     ring_open x S = flag_there around.lower _ below around.below_is around.lower_is x (x + 1) refl
     ring_open x SW = flag_before around.lower _ below around.below_is around.lower_is x
     ring_open x W = flag_before y (Some y) here around.here_is (itself y) x
@@ -91,7 +94,8 @@ module _ (g : GridData) (whole : IsGrid g) where
     -- and where a neighbour is forced
     ring_forced_on : (x : ℕ) (d : Dir) (s : Side) → is_free g (record { x = x; y = y }) ≡ true
         → forced_on g.corner (ring_of above here below x) d s
-        ≡ is_forced_on g.corner (is_blocked g (record { x = x; y = y })) (can_move g (record { x = x; y = y })) d s
+        ≡ is_forced_on g.corner (is_blocked g (record { x = x; y = y }))
+        (can_move g (record { x = x; y = y })) d s
     ring_forced_on x d s f = same_on g.corner (λ e. not (open_in (ring_of above here below x) e))
         (is_blocked g (record { x = x; y = y })) (λ e. can_by g.corner (ring_of above here below x) e)
         (can_move g (record { x = x; y = y })) (λ e. ap not (ring_open x e)) (λ e. ring_can x e f)
@@ -133,7 +137,8 @@ module _ (g : GridData) (whole : IsGrid g) where
             let t = (legal_is g (record { x = v.x; y = y }) l.0 l.1.legal).source in cc)
 
         by_test : (b : Bool) → is_free g (record { x = v.x; y = y }) ≡ b
-            → (b && can_by g.corner (ring_of above here below v.x) d) ≡ can_move g (record { x = v.x; y = y }) d
+            → (b && can_by g.corner (ring_of above here below v.x) d)
+            ≡ can_move g (record { x = v.x; y = y }) d
         by_test true f = ring_can v.x d f
         by_test false f = blocked f (can_move g (record { x = v.x; y = y }) d) refl
 
@@ -209,9 +214,11 @@ module _ (g : GridData) (whole : IsGrid g) (c : Cell) (d : Dir) where
       (parts_of (column_ahead d c.x) (row_ahead d c.y) w (legal_leads g c w d legal).ahead_is).1
 
   -- an entry of a row, told by the next row
-  module _ (y : ℕ) (forced : List Bool) (ahead right left : List ℤ) (legal : Bool) (can : legal ≡ can_move g c d)
+  module _ (y : ℕ) (forced : List Bool) (ahead right left : List ℤ) (legal : Bool)
+      (can : legal ≡ can_move g c d)
       (lies : (w : Cell) → legal_ahead g c d ≡ Some w → w.y ≡ y) (forced_is : IsForcedRow g y d forced)
-      (ahead_is : IsEntryRow g y d ahead) (right_is : is_diagonal d ≡ true → IsEntryRow g y (turn Right d) right)
+      (ahead_is : IsEntryRow g y d ahead)
+      (right_is : is_diagonal d ≡ true → IsEntryRow g y (turn Right d) right)
       (left_is : is_diagonal d ≡ true → IsEntryRow g y (turn Left d) left) where
     mark_across : (w : Cell) → legal_ahead g c d ≡ Some w
         → mark_by forced right left d (place_after d c.x) ≡ is_mark_by g (table_entry g) d w
@@ -223,7 +230,8 @@ module _ (g : GridData) (whole : IsGrid g) (c : Cell) (d : Dir) where
         ) refl)
         (λ h. rw (h, next_flag y forced w e (lies w e) forced_is) refl)
 
-    pub told_entry : told legal (mark_by forced right left d (place_after d c.x)) (number ahead (place_after d c.x))
+    pub told_entry : told legal (mark_by forced right left d (place_after d c.x))
+        (number ahead (place_after d c.x))
         ≡ table_entry g c d
     told_entry = told_is g c d legal (mark_by forced right left d (place_after d c.x))
         (number ahead (place_after d c.x)) can mark_across
@@ -235,7 +243,8 @@ module _ (g : GridData) (whole : IsGrid g) (c : Cell) (d : Dir) where
         (sym (next_number y row e w legal (lies w legal) is)) (table_entry-short g whole w e)
 
     pub short_entries : (e f : Dir) → IsEntryRow g y e right → IsEntryRow g y f left → legal ≡ true
-        → AreShort (number ahead (place_after d c.x)) (number right (place_after d c.x)) (number left (place_after d c.x))
+        → AreShort (number ahead (place_after d c.x)) (number right (place_after d c.x))
+        (number left (place_after d c.x))
     short_entries e f is too h =
         let l = leads_from g c d (sym can ∙ h) in
         let legal_is_it = leads_legal g c l.0 d l.1 in
@@ -253,12 +262,14 @@ module _ (g : GridData) (whole : IsGrid g) (y m : ℕ) (d : Dir) (lies : IsRowAt
 
   -- a row that is told by the next is the row of entries
   pub told_row : (corner : Corner) → corner ≡ g.corner → (above here below forced : List Bool)
-      (ahead right left out : List ℤ) (e f : Dir) → AreRowsAround g y above here below → IsForcedRow g m d forced
+      (ahead right left out : List ℤ) (e f : Dir) → AreRowsAround g y above here below
+      → IsForcedRow g m d forced
       → IsEntryRow g m d ahead → IsEntryRow g m e right → IsEntryRow g m f left
       → (is_diagonal d ≡ true → (e ≡ turn Right d) × (f ≡ turn Left d)) → length out ≡ g.width + 2
       → AreToldBelow corner above here below forced ahead right left d out (length out - 2)
       → IsEntryRow g y d out
-  told_row corner rule above here below forced ahead right left out e f around forced_is ahead_is right_is left_is
+  told_row corner rule above here below forced ahead right left out e f around forced_is ahead_is right_is
+      left_is
       parts long are_told v row inside =
       let below_last : v.x < length out - 2 = grind (arith, nat_tests) in
       are_told v.x below_last
@@ -313,17 +324,20 @@ module _ (g : GridData) (whole : IsGrid g) (y : ℕ) (above here below forced : 
   module _ (d : Dir) (straight : is_diagonal d ≡ false) (along : (n : ℕ) → row_ahead d n ≡ Some n)
       (forced_is : IsForcedRow g y d forced) (long : length out ≡ g.width + 2)
       (are_told : (x : ℕ) → x < length out - 2 → IsToldAlong here forced d out x)
-      (same : (x : ℕ) → (flag here (x + 1) && flag here (place_after d x)) ≡ legal_by g.corner above here below d x)
+      (same : (x : ℕ) → (flag here (x + 1) && flag here (place_after d x))
+      ≡ legal_by g.corner above here below d x)
     where
       at_column : (x : ℕ) → x < g.width → ((w : Cell) → legal_ahead g (record { x = x; y = y }) d ≡ Some w
           → number out (place_after d x) ≡ table_entry g w d)
           → number out (x + 1) ≡ table_entry g (record { x = x; y = y }) d
       at_column x within next =
           along_one d straight forced_is (record { x = x; y = y }) refl
-          (same x ∙ row_legal g whole y above here below around d g.corner refl (record { x = x; y = y }) refl)
+          (same x ∙ row_legal g whole y above here below around d g.corner refl (record { x = x; y = y })
+          refl)
           (λ w e. same_row d along (record { x = x; y = y }) w refl e) next (are_told x (omega arith))
 
-  whole_entries : (d : Dir) → ((x : ℕ) → x < g.width → number out (x + 1) ≡ table_entry g (record { x = x; y = y }) d)
+  whole_entries : (d : Dir)
+      → ((x : ℕ) → x < g.width → number out (x + 1) ≡ table_entry g (record { x = x; y = y }) d)
       → IsEntryRow g y d out
   whole_entries d columns v row inside =
       let within : v.x < g.width = grind (arith, nat_tests) in
@@ -343,7 +357,8 @@ module _ (g : GridData) (whole : IsGrid g) (y : ℕ) (above here below forced : 
     west_column zero within = at_column W refl (λ n. refl) forced_is long are_told (λ x. refl) zero within
         (λ w e. absurd (let l = legal_leads g (record { x = zero; y = y }) w W e in
         let parts = parts_of None (Some y) w l.ahead_is in let none = parts.0 in cc))
-    west_column (suc k) within = at_column W refl (λ n. refl) forced_is long are_told (λ x. refl) (suc k) within
+    west_column (suc k) within = at_column W refl (λ n. refl) forced_is long are_told (λ x. refl) (suc k)
+        within
         (λ w e. ap (λ (n : ℕ). number out n) (let m : suc k ≡ k + 1 = omega arith in m)
         ∙ west_column k (omega arith) ∙ ap (λ (v : Cell). table_entry g v W) (next_left k w e))
 
@@ -380,5 +395,6 @@ pub forced_if : (g : GridData) → IsGrid g → (m : ℕ) (above here below : Li
     → IsForcedRow g m d forced
 forced_if g whole m above here below around d corner forced rule long are v row free =
     forced_row g whole m above here below
-    (around (let inside = free_inside g v free in let low = whole.sides.low in omega (arith, inside.1))) d corner
+    (around (let inside = free_inside g v free in let low = whole.sides.low in omega (arith, inside.1))) d
+    corner
     forced rule long are v row free

@@ -193,7 +193,8 @@ module _ (g : GridData) (x y : ℕ) where
       same_entries g (also (also (also (laid is_downward y x) SE) S) SW) (laid is_downward y (x + 1)) t z
       (swept_with g (also (also (laid is_downward y x) SE) S) t w z at SW sw
       (swept_with g (also (laid is_downward y x) SE) t v w at S s
-      (swept_with g (laid is_downward y x) t u v at SE se swept on refl is_se) on_v refl is_s) on_w made is_sw)
+      (swept_with g (laid is_downward y x) t u v at SE se swept on refl is_se) on_v refl is_s) on_w made
+      is_sw)
       (λ c d inside. rw (three d, left_part-more x y c)
       (regroup_three (left_part y x c) (is_same c at) (is_dir d SE) (is_dir d S) (is_dir d SW)))
 

@@ -1,9 +1,9 @@
 //! Building the tables of a grid, by sweeps from the far end.
 //!
 //! Each entry is told by those at the next cell, so a direction is swept from where its runs end: the five
-//! directions that lead up or along a row go row by row downwards, the three others upwards after them. A diagonal
-//! entry looks at both its components at the next cell, so a sweep keeps the entries of the row before, and for the
-//! second sweep those along a row are read back.
+//! directions that lead up or along a row go row by row downwards, the three others upwards after them. A
+//! diagonal entry looks at both its components at the next cell, so a sweep keeps the entries of the row before,
+//! and for the second sweep those along a row are read back.
 
 ghost use Rattle.std.specs.Prelude.{◌≡◌, false};
 ghost use Rattle.grid_moves.specs.Grid.{is_free};

@@ -1,7 +1,7 @@
 //! Rows of flags: which cells are free, and what the cells around one tell of moves.
 //!
-//! What belongs to column `x` stands at `x + 1`, so that each column has one before and one after it. No loop has a
-//! branch, and each direction and corner rule has code of its own, which the compiler turns into vector code.
+//! What belongs to column `x` stands at `x + 1`, so that each column has one before and one after it. No loop has
+//! a branch, and each direction and corner rule has code of its own, which the compiler turns into vector code.
 
 ghost use Rattle.std.specs.Prelude.{◌≡◌, ℕ, ◌+◌, ◌-◌, ◌<◌, ◌≤◌, false, length};
 ghost use Rattle.grid_moves.specs.Move as moves;
@@ -170,8 +170,8 @@ fn force_cut(above: &[bool], here: &[bool], below: &[bool], d: Dir, forced: &mut
     }
 }
 
-/// For each column of a row whether a neighbour is forced there after a move, if the cell is free. `above`, `here` and
-/// `below` are the row and the two beside it.
+/// For each column of a row whether a neighbour is forced there after a move, if the cell is free. `above`,
+/// `here` and `below` are the row and the two beside it.
 pub fn force(
     corner: Corner,
     above: &[bool],

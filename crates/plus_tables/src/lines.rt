@@ -14,8 +14,8 @@ use pruning::Side;
 use std::alloc::Global;
 use std::mem;
 
-/// The entries of a row for a straight direction across rows, for those beside it, and along the row. What belongs to
-/// column `x` stands at `x + 1`.
+/// The entries of a row for a straight direction across rows, for those beside it, and along the row. What
+/// belongs to column `x` stands at `x + 1`.
 #[derive(Drop)]
 pub struct Line {
     pub straight: Vec<i16>,
@@ -34,8 +34,8 @@ pub struct Band {
     pub back: Vec<bool>,
 }
 
-/// All that a sweep keeps: the rows of flags, the entries of the row that was swept last, and room for those of the
-/// next and for where neighbours are forced.
+/// All that a sweep keeps: the rows of flags, the entries of the row that was swept last, and room for those of
+/// the next and for where neighbours are forced.
 #[derive(Drop)]
 pub struct Rows {
     pub band: Band,
@@ -125,7 +125,8 @@ impl Rows {
     }
 }
 
-// The entries of a row for one direction across rows, told by the next row. `beyond` are the rows around that one.
+// The entries of a row for one direction across rows, told by the next row. `beyond` are the rows around that
+// one.
 #[inline(never)]
 fn tell_across<T: Terrain>(
     t: &T,

@@ -7,6 +7,7 @@ ghost use Rattle.plus_tables.specs.Local as local;
 
 use crate::lines::Line;
 use crate::onward::{is_forced_next, next};
+use crate::rows::from_before;
 use grid_moves::{Cell, Corner, Dir, NoMemory, Terrain, dir_number};
 use pruning::{Side, is_diagonal, turn};
 use std::alloc::Global;
@@ -67,15 +68,6 @@ pub fn tells_mark(entry: i16) -> bool
     ensures { result ≡ local.tells_mark entry }
 {
     0 < entry
-}
-
-// What an entry becomes from one move further back.
-#[inline(always)]
-fn from_before(entry: i16) -> i16
-    requires { spec.IsShort entry }
-    ensures { result ≡ local.from_before entry }
-{
-    if 0 < entry { entry + 1 } else { entry - 1 }
 }
 
 impl Tables {

@@ -8,5 +8,6 @@ abbrev pub invariant-loop-x : goal.invariant-loop-x
 invariant-loop-x g l = record {
   first : spec.flag l.row 0 ≡ false;
   last : spec.flag l.row ((g.T.Terrain.grid l.t).width + 1) ≡ false;
-  read : (k : ℕ) → k < l.x → spec.flag l.row (k + 1) ≡ is_free (g.T.Terrain.grid l.t) (record { x = k; y = l.y });
+  read : (k : ℕ) → k < l.x → spec.flag l.row (k + 1) ≡ is_free (g.T.Terrain.grid l.t)
+      (record { x = k; y = l.y });
 }

@@ -9,6 +9,7 @@ returns g c = λ y around.
     let grid : GridData = g.T.Terrain.grid c.args.t.now in
     east_row grid c.requires.whole y c.args.rows.above.now c.args.rows.here.now c.args.rows.below.now
     c.force.new.forced c.east.new.out around
-    (forced_row grid c.requires.whole y c.args.rows.above.now c.args.rows.here.now c.args.rows.below.now around E
+    (forced_row grid c.requires.whole y c.args.rows.above.now c.args.rows.here.now c.args.rows.below.now
+    around E
     c.corner.result c.force.new.forced c.corner.ensures (omega (arith, c.requires.forced)) c.force.ensures)
     (omega (arith, c.requires.out)) c.east.ensures

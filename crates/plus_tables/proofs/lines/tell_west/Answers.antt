@@ -9,6 +9,7 @@ returns g c = λ y around.
     let grid : GridData = g.T.Terrain.grid c.args.t.now in
     west_row grid c.requires.whole y c.args.rows.above.now c.args.rows.here.now c.args.rows.below.now
     c.force.new.forced c.west.new.out around
-    (forced_row grid c.requires.whole y c.args.rows.above.now c.args.rows.here.now c.args.rows.below.now around W
+    (forced_row grid c.requires.whole y c.args.rows.above.now c.args.rows.here.now c.args.rows.below.now
+    around W
     c.corner.result c.force.new.forced c.corner.ensures (omega (arith, c.requires.forced)) c.force.ensures)
     (omega (arith, c.requires.out)) c.west.ensures

@@ -22,20 +22,25 @@ loop-x-preserved c =
     (spec.mark_by c.args.forced.now next.right.now next.left.now c.args.d (spec.place_after c.args.d k))
     (spec.number next.ahead.now (spec.place_after c.args.d k)))
     long c.loop-x.invariant
-    (subst (λ (n : ℕ). (spec.legal_by c.args.corner rows.above.now rows.here.now rows.below.now c.args.d x ≡ true
-    → spec.AreShort (spec.number next.ahead.now n) (spec.number next.right.now n) (spec.number next.left.now n))
+    (subst (λ (n : ℕ). (spec.legal_by c.args.corner rows.above.now rows.here.now rows.below.now c.args.d x ≡
+    true
+    → spec.AreShort (spec.number next.ahead.now n) (spec.number next.right.now n)
+    (spec.number next.left.now n))
     → to_z w16 (of_z w16 c.told.result)
     ≡ spec.told (spec.legal_by c.args.corner rows.above.now rows.here.now rows.below.now c.args.d x)
     (spec.mark_by c.args.forced.now next.right.now next.left.now c.args.d n) (spec.number next.ahead.now n))
     c.place_after-at.ensures.is
     (told_across (spec.legal_by c.args.corner rows.above.now rows.here.now rows.below.now c.args.d x)
     (spec.flag rows.here.now (x + 1) && c.can_move.result)
-    (spec.flag c.args.forced.now at || (c.is_diagonal.result && (c.tells_mark.result || c.tells_mark-in-loop-x.result)))
+    (spec.flag c.args.forced.now at || (c.is_diagonal.result &&
+    (c.tells_mark.result || c.tells_mark-in-loop-x.result)))
     (spec.flag c.args.forced.now at) (is_diagonal c.args.d) c.tells_mark.result c.tells_mark-in-loop-x.result
-    (spec.number next.ahead.now at) (spec.number next.right.now at) (spec.number next.left.now at) c.told.result
+    (spec.number next.ahead.now at) (spec.number next.right.now at) (spec.number next.left.now at)
+    c.told.result
     c.told.ensures
     (ap (λ (b : Bool). spec.flag rows.here.now (x + 1) && b)
     (c.can_move.ensures ∙ ap (λ (r : Ring). spec.can_by c.args.corner r c.args.d) c.ring_at-ring.ensures))
-    (ap (λ (b : Bool). spec.flag c.args.forced.now at || (b && (c.tells_mark.result || c.tells_mark-in-loop-x.result)))
+    (ap (λ (b : Bool). spec.flag c.args.forced.now at ||
+    (b && (c.tells_mark.result || c.tells_mark-in-loop-x.result)))
     c.is_diagonal.ensures)
     c.tells_mark.ensures c.tells_mark-in-loop-x.ensures))

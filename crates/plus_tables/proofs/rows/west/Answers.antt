@@ -9,7 +9,8 @@ pub loop-x-preserved : goal.loop-x-preserved
 loop-x-preserved c =
     let long : c.loop-x.x + 1 < length c.loop-x.out = omega arith in
     number_after c.loop-x.out c.loop-x.x _
-    (λ k (next here : ℤ). ((spec.flag c.args.here.now (k + 1) && spec.flag c.args.here.now k) ≡ true → IsShort next)
+    (λ k (next here : ℤ). ((spec.flag c.args.here.now (k + 1) && spec.flag c.args.here.now k) ≡ true →
+    IsShort next)
     → here ≡ spec.told (spec.flag c.args.here.now (k + 1) && spec.flag c.args.here.now k)
     (spec.flag c.args.forced.now k) next)
     long c.loop-x.invariant

@@ -25,14 +25,17 @@ loop-x-preserved g c =
     let inside_column : x < grid.width = grind (arith, nat_tests) in
     let inside : is_inside grid at ≡ true = grind (arith, nat_tests) in
     laid_down grid x y c.args.self.now c.loop-x.self c.put_down.new.self
-    (to_z w16 (of_z w16 c.index.result.now)) (to_z w16 (of_z w16 c.index-in-loop-x.result.now)) (to_z w16 (of_z w16 c.index-in-loop-x-2.result.now))
+    (to_z w16 (of_z w16 c.index.result.now)) (to_z w16 (of_z w16 c.index-in-loop-x.result.now))
+    (to_z w16 (of_z w16 c.index-in-loop-x-2.result.now))
     c.loop-x.invariant on c.put_down.ensures
     (row_value grid c.requires.whole x y S line.straight.items c.index.result.now (x + 1) refl
     (omega (arith, c.requires.long.straight, inside_column)) c.index.ensures c.requires.told.straight inside)
     (row_value grid c.requires.whole x y SE line.left.items c.index-in-loop-x.result.now (x + 1) refl
-    (omega (arith, c.requires.long.left, inside_column)) c.index-in-loop-x.ensures c.requires.told.left inside)
+    (omega (arith, c.requires.long.left, inside_column)) c.index-in-loop-x.ensures c.requires.told.left
+    inside)
     (row_value grid c.requires.whole x y SW line.right.items c.index-in-loop-x-2.result.now (x + 1) refl
-    (omega (arith, c.requires.long.right, inside_column)) c.index-in-loop-x-2.ensures c.requires.told.right inside)
+    (omega (arith, c.requires.long.right, inside_column)) c.index-in-loop-x-2.ensures c.requires.told.right
+    inside)
 
 pub returns : goal.returns
 returns g c =

@@ -26,18 +26,24 @@ loop-x-preserved g c =
     let inside_column : x < grid.width = grind (arith, nat_tests) in
     let inside : is_inside grid at ≡ true = grind (arith, nat_tests) in
     laid_up grid x y c.args.self.now c.loop-x.self c.put_up.new.self
-    (to_z w16 (of_z w16 c.index.result.now)) (to_z w16 (of_z w16 c.index-in-loop-x.result.now)) (to_z w16 (of_z w16 c.index-in-loop-x-3.result.now)) (to_z w16 (of_z w16 c.index-in-loop-x-4.result.now)) (to_z w16 (of_z w16 c.index-in-loop-x-2.result.now))
+    (to_z w16 (of_z w16 c.index.result.now)) (to_z w16 (of_z w16 c.index-in-loop-x.result.now))
+    (to_z w16 (of_z w16 c.index-in-loop-x-3.result.now))
+    (to_z w16 (of_z w16 c.index-in-loop-x-4.result.now)) (to_z w16 (of_z w16 c.index-in-loop-x-2.result.now))
     c.loop-x.invariant on c.put_up.ensures
     (row_value grid c.requires.whole x y N line.straight.items c.index.result.now (x + 1) refl
     (omega (arith, c.requires.long.straight, inside_column)) c.index.ensures c.requires.told.straight inside)
     (row_value grid c.requires.whole x y NE line.right.items c.index-in-loop-x.result.now (x + 1) refl
-    (omega (arith, c.requires.long.right, inside_column)) c.index-in-loop-x.ensures c.requires.told.right inside)
+    (omega (arith, c.requires.long.right, inside_column)) c.index-in-loop-x.ensures c.requires.told.right
+    inside)
     (row_value grid c.requires.whole x y E line.east.items c.index-in-loop-x-3.result.now (x + 1) refl
-    (omega (arith, c.requires.long.east, inside_column)) c.index-in-loop-x-3.ensures c.requires.told.east inside)
+    (omega (arith, c.requires.long.east, inside_column)) c.index-in-loop-x-3.ensures c.requires.told.east
+    inside)
     (row_value grid c.requires.whole x y W line.west.items c.index-in-loop-x-4.result.now (x + 1) refl
-    (omega (arith, c.requires.long.west, inside_column)) c.index-in-loop-x-4.ensures c.requires.told.west inside)
+    (omega (arith, c.requires.long.west, inside_column)) c.index-in-loop-x-4.ensures c.requires.told.west
+    inside)
     (row_value grid c.requires.whole x y NW line.left.items c.index-in-loop-x-2.result.now (x + 1) refl
-    (omega (arith, c.requires.long.left, inside_column)) c.index-in-loop-x-2.ensures c.requires.told.left inside)
+    (omega (arith, c.requires.long.left, inside_column)) c.index-in-loop-x-2.ensures c.requires.told.left
+    inside)
 
 pub returns : goal.returns
 returns g c =

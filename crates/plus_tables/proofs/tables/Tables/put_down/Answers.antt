@@ -44,4 +44,5 @@ returns c =
     let made = slice_set (slice_set (slice_set entries (place + 3) se) (place + 4) s) (place + 5) sw in
     down_is t c.args.self.now c.args.c c.self.view_is place c.entry_place-place.ensures entries
     c.as_mut_slice-entries.ensures.value c.args.s c.args.se c.args.sw se s sw
-    se_is s_is sw_is _ (with_items_is c.self.inside.entries made (omega (arith, length-set {A = ℤ}, c.self.inside.entries.ok.0, long)))
+    se_is s_is sw_is _ (with_items_is c.self.inside.entries made
+    (omega (arith, length-set {A = ℤ}, c.self.inside.entries.ok.0, long)))

@@ -75,7 +75,9 @@ returns c =
     let nw : ℤ = to_z w16 (of_z w16 c.args.nw) in
     let nw_is : nw ≡ c.args.nw = omega (arith, ints) in
     let long = ap (λ (r : List ℤ). length r) c.as_mut_slice-entries.ensures.value in
-    let made = slice_set (slice_set (slice_set (slice_set (slice_set entries place n) (place + 1) ne) (place + 2) e) (place + 6) w) (place + 7) nw in
+    let made = slice_set (slice_set (slice_set (slice_set (slice_set entries place n) (place + 1) ne)
+    (place + 2) e) (place + 6) w) (place + 7) nw in
     up_is t c.args.self.now c.args.c c.self.view_is place c.entry_place-place.ensures entries
     c.as_mut_slice-entries.ensures.value c.args.n c.args.ne c.args.e c.args.w c.args.nw n ne e w nw
-    n_is ne_is e_is w_is nw_is _ (with_items_is c.self.inside.entries made (omega (arith, length-set {A = ℤ}, c.self.inside.entries.ok.0, long)))
+    n_is ne_is e_is w_is nw_is _ (with_items_is c.self.inside.entries made
+    (omega (arith, length-set {A = ℤ}, c.self.inside.entries.ok.0, long)))

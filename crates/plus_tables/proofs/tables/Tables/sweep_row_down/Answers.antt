@@ -17,7 +17,8 @@ tell_down-requires-clause-ready g c =
     let rows = c.args.rows.now in
     let back = flags_as grid c.before-2.result c.read_row.new.row _
     (with_items_is rows.band.back c.read_row.new.row (omega arith)) c.read_row.ensures in
-    let ready = ready_back grid _ c.args.y c.before-2.result rows.band _ rows.last c.requires.kept.ready refl refl refl
+    let ready = ready_back grid _ c.args.y c.before-2.result rows.band _ rows.last c.requires.kept.ready
+    refl refl refl
     back in
     (c.args.y, ready, around_down grid c.args.y c.before-2.result _ rows.last ready c.before-2.ensures back)
 
@@ -27,7 +28,8 @@ lay_down-requires-clause-told g c =
     let rows = c.args.rows.now in
     let back = flags_as grid c.before-2.result c.read_row.new.row _
     (with_items_is rows.band.back c.read_row.new.row (omega arith)) c.read_row.ensures in
-    let ready = ready_back grid _ c.args.y c.before-2.result rows.band _ rows.last c.requires.kept.ready refl refl refl
+    let ready = ready_back grid _ c.args.y c.before-2.result rows.band _ rows.last c.requires.kept.ready
+    refl refl refl
     back in
     let told = c.tell_down.ensures.told c.args.y ready
     (around_down grid c.args.y c.before-2.result _ rows.last ready c.before-2.ensures back) in
@@ -45,7 +47,8 @@ returns-clause-kept g c =
     let rows = c.args.rows.now in
     let back = flags_as grid c.before-2.result c.read_row.new.row _
     (with_items_is rows.band.back c.read_row.new.row (omega arith)) c.read_row.ensures in
-    let ready = ready_back grid _ c.args.y c.before-2.result rows.band _ rows.last c.requires.kept.ready refl refl refl
+    let ready = ready_back grid _ c.args.y c.before-2.result rows.band _ rows.last c.requires.kept.ready
+    refl refl refl
     back in
     let same = with_items_is rows.forced c.tell_down.new.forced (omega arith) in
     let room : length c.tell_down.new.forced ≡ grid.width + 2 = omega (arith, c.requires.kept.forced) in
@@ -57,15 +60,18 @@ returns-clause-kept g c =
     let west = with_items_is this.west c.take_along.new.west (omega arith) in
     let east_long : length c.take_along.new.east ≡ grid.width + 2 = omega (arith, long.east) in
     let west_long : length c.take_along.new.west ≡ grid.width + 2 = omega (arith, long.west) in
-    λ some. kept_down grid c.args.y c.before-2.result _ rows.last _ c.go_on.new.self some c.before-2.ensures ready back
+    λ some. kept_down grid c.args.y c.before-2.result _ rows.last _ c.go_on.new.self some c.before-2.ensures
+    ready back
     (record {
       straight = told.straight;
       right = told.right;
       left = told.left;
       east = entries_as grid c.args.y E c.take_along.new.east _ east
-          (taken grid c.args.self.now c.args.y E c.take_along.new.east c.requires.below refl c.take_along.ensures.east);
+          (taken grid c.args.self.now c.args.y E c.take_along.new.east c.requires.below refl
+          c.take_along.ensures.east);
       west = entries_as grid c.args.y W c.take_along.new.west _ west
-          (taken grid c.args.self.now c.args.y W c.take_along.new.west c.requires.below refl c.take_along.ensures.west);
+          (taken grid c.args.self.now c.args.y W c.take_along.new.west c.requires.below refl
+          c.take_along.ensures.west);
     })
     (record {
       straight = long.straight;

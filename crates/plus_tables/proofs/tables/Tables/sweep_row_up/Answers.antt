@@ -15,7 +15,8 @@ tell_up-requires-clause-ready g c =
     let rows = c.args.rows.now in
     let back = flags_as grid (c.args.y + 1) c.read_row.new.row _
     (with_items_is rows.band.back c.read_row.new.row (omega arith)) c.read_row.ensures in
-    let ready = ready_back grid _ c.args.y (c.args.y + 1) rows.band _ rows.last c.requires.kept.ready refl refl refl
+    let ready = ready_back grid _ c.args.y (c.args.y + 1) rows.band _ rows.last c.requires.kept.ready refl
+    refl refl
     back in
     (c.args.y, ready, around_up grid c.args.y _ rows.last ready back)
 
@@ -25,7 +26,8 @@ lay_up-requires-clause-told g c =
     let rows = c.args.rows.now in
     let back = flags_as grid (c.args.y + 1) c.read_row.new.row _
     (with_items_is rows.band.back c.read_row.new.row (omega arith)) c.read_row.ensures in
-    let ready = ready_back grid _ c.args.y (c.args.y + 1) rows.band _ rows.last c.requires.kept.ready refl refl refl
+    let ready = ready_back grid _ c.args.y (c.args.y + 1) rows.band _ rows.last c.requires.kept.ready refl
+    refl refl
     back in
     c.tell_up.ensures.told c.args.y ready (around_up grid c.args.y _ rows.last ready back)
 
@@ -41,12 +43,14 @@ returns-clause-kept g c =
     let rows = c.args.rows.now in
     let back = flags_as grid (c.args.y + 1) c.read_row.new.row _
     (with_items_is rows.band.back c.read_row.new.row (omega arith)) c.read_row.ensures in
-    let ready = ready_back grid _ c.args.y (c.args.y + 1) rows.band _ rows.last c.requires.kept.ready refl refl refl
+    let ready = ready_back grid _ c.args.y (c.args.y + 1) rows.band _ rows.last c.requires.kept.ready refl
+    refl refl
     back in
     let same = with_items_is rows.forced c.tell_up.new.forced (omega arith) in
     let room : length c.tell_up.new.forced ≡ grid.width + 2 = omega (arith, c.requires.kept.forced) in
     kept_up grid c.args.y _ rows.last c.tell_up.new.this c.go_on.new.self ready back
-    (c.tell_up.ensures.told c.args.y ready (around_up grid c.args.y _ rows.last ready back)) c.tell_up.ensures.long
+    (c.tell_up.ensures.told c.args.y ready (around_up grid c.args.y _ rows.last ready back))
+    c.tell_up.ensures.long
     c.go_on.ensures.far c.go_on.ensures.next c.go_on.ensures.here c.go_on.ensures.back c.go_on.ensures.last
     (subst (λ (l : Line). IsLong grid l) (sym c.go_on.ensures.this) c.requires.kept.ready.long)
     (ap (λ (r : List Bool). length r) (c.go_on.ensures.forced ∙ same) ∙ room)

@@ -20,12 +20,6 @@ get-requires g c =
     (next_free c.args.self.now grid c.args.c c.args.d c.requires.rests c.in-Some.v
     (sym c.in-Some.ensures))
 
-pub from_before-requires : goal.from_before-requires
-from_before-requires g c =
-    short_value (entry_at c.args.self.now c.in-Some.v c.args.d) c.get.result
-    (next_short c.args.self.now (g.T.Terrain.grid c.args.t.now) c.args.c c.args.d c.requires.rests c.in-Some.v
-    (sym c.in-Some.ensures) c.requires.whole) c.get.ensures
-
 pub returns-in-Some : goal.returns-in-Some
 returns-in-Some g c =
     told_marked c.args.self.now (g.T.Terrain.grid c.args.t.now) c.args.c c.args.d c.requires.rests c.in-Some.v
@@ -42,7 +36,8 @@ returns-in-Some-2 g c =
     (sym c.is_mark.ensures ∙ c.if-is_mark.false) in
     same_value (table_entry grid c.args.c c.args.d) c.from_before.result
     (table_entry-short grid c.requires.whole c.args.c c.args.d)
-    (c.from_before.ensures ∙ ap (λ (z : ℤ). from_before z) (same_value there c.get.result short c.get.ensures)
+    (c.from_before.ensures (short_value there c.get.result short c.get.ensures) ∙ ap
+    (λ (z : ℤ). from_before z) (same_value there c.get.result short c.get.ensures)
     ∙ further)
 
 pub returns-in-None : goal.returns-in-None
