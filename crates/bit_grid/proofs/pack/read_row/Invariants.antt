@@ -1,4 +1,4 @@
-use Rattle.std.proofs.Common.{◌≡◌, ◌≤◌, ◌-◌, ℕ, length}
+use Rattle.std.proofs.Common.{◌≡◌, ◌≤◌, ◌-◌, length}
 use Rattle.bit_grid.specs.Pack.{IsBordered}
 use Rattle.bit_grid.proofs.Packing.{AreFirst}
 use Rattle.bit_grid.proofs.pack.read_row.Given as goal
