@@ -1,6 +1,6 @@
 -- Where a neighbour is forced, told by the cells beside two cells of a run.
 use Rattle.std.proofs.Common.{◌≡◌, arith, Bool, true, false, not, ◌&&◌, ◌||◌, refl, ap, sym, ◌∙◌}
-use Rattle.std.specs.Prelude.{Some}
+use Rattle.std.specs.Prelude.{Option, Some, is_some}
 use Rattle.grid_moves.specs.declared.Cell.{Cell}
 use Rattle.grid_moves.specs.declared.Corner.{Corner}
 use Rattle.grid_moves.specs.declared.Corner.TheVariants.{Never, One}
@@ -18,7 +18,13 @@ use Rattle.pruning.proofs.Table.{straight_back, straight_side, diagonal_back, tu
 use Rattle.pruning.proofs.Moves.{can_move-straight, can_move-diagonal}
 use Rattle.pruning.proofs.Bridging.{place_of, free_place, open_there, Leads, leads_there, legal_leads}
 use Rattle.pruning.proofs.Replacing.{by_corner}
+use Rattle.jump_plain.specs.declared.beside.Sides.{Sides}
+use Rattle.jump_plain.specs.declared.jump.Components.{Components}
 use Rattle.jump_plain.specs.Beside.{sides_of, opens}
+use Rattle.jump_plain.specs.Reach.{components_of, first_sides, sides_after}
+
+abbrev sides : Bool → Bool → Sides
+sides a b = record { right = a; left = b }
 
 -- which cells a forced neighbour asks for, by the rule
 module _ (r : Corner) (blocked can : Dir → Bool) (d : Dir) (s : Side) where
@@ -48,6 +54,10 @@ shut r o b c e h = rw e (grind arith)
 
 shut-right : (r : Corner) (o b c : Bool) → r ≡ One → c ≡ false → (not b && (o && is_passable r b c)) ≡ false
 shut-right r o b c e h = rw e (grind arith)
+
+passes_both : (r : Corner) (a b : Bool) → r ≡ Never → is_passable r a b ≡ true → (a ≡ true) × (b ≡ true)
+passes_both Never a b e h = and_both a b h
+passes_both One a b e h = absurd (cc)
 
 module _ (g : GridData) (u v : Cell) (d : Dir) (l : Leads g u v d) where
   source : is_free g u ≡ true
@@ -113,6 +123,19 @@ module _ (g : GridData) (u v : Cell) (d : Dir) (l : Leads g u v d) where
       → is_open g u (turn Left d) ≡ true → is_forced g v d ≡ false
   is_forced-past h o p = rw (free_behind Right h o, free_behind Left h p) refl
 
+  -- where no corner is cut the cells beside a diagonal move are free, also as seen from its end
+  pub free_rear : g.corner ≡ Never → is_diagonal d ≡ true → can_move g u d ≡ true → (s : Side)
+      → is_open g v (rear s d) ≡ true
+  free_rear r h m s = seen_from (rear s d) (turn s d) (diagonal_back s d (place_of u) h) ∙ free_beside s
+    where
+      both : (is_open g u (turn Left d) ≡ true) × (is_open g u (turn Right d) ≡ true)
+      both = let passes = and_both (is_open g u d) _ (sym (can_move-diagonal g u d source h) ∙ m) in
+          passes_both g.corner (is_open g u (turn Left d)) (is_open g u (turn Right d)) r passes.1
+
+      free_beside : (s : Side) → is_open g u (turn s d) ≡ true
+      free_beside Right = both.1
+      free_beside Left = both.0
+
 -- the same in the words of code, in which the components are named by other names
 pub clear_past : (g : GridData) (u v : Cell) (d : Dir) → legal_ahead g u d ≡ Some v
     → is_diagonal d ≡ true → (e f : Dir) → e ≡ turn Right d → f ≡ turn Left d → (right left clear : Bool)
@@ -143,3 +166,28 @@ module _ (g : GridData) (u : Cell) (d : Dir) (free : is_free g u ≡ true) (r : 
 
   pub is_forced-nowhere : is_diagonal d ≡ false → is_open g u d ≡ false → is_forced g u d ≡ false
   is_forced-nowhere h o = rw (none_forced h o Right, none_forced h o Left) refl
+
+-- a legal move leads to a free cell
+pub ahead_free : (g : GridData) (u v : Cell) (d : Dir) → legal_ahead g u d ≡ Some v → is_free g v ≡ true
+ahead_free g u v d legal = target g u v d (legal_leads g u v d legal)
+
+same_sides : (a b c e : Bool) → a ≡ c → b ≡ e → sides a b ≡ sides c e
+same_sides a b c e h k = rw (h, k) refl
+
+-- a scan begins at the end of a diagonal move with the sides that are known there
+pub sides_known : (g : GridData) (u v : Cell) (d : Dir) → legal_ahead g u d ≡ Some v → is_diagonal d ≡ true
+    → (beside : Components) → beside ≡ components_of g v d → (s : Side)
+    → sides_after g.corner beside s ≡ first_sides g.corner g v (turn s d)
+sides_known g u v d legal h beside is s =
+    ap (λ (c : Components). sides_after g.corner c s) is ∙ by_rule g.corner refl s
+  where
+    rear : g.corner ≡ Never → (s : Side) → is_open g v (turn s (quarter s d)) ≡ true
+    rear r s = free_rear g u v d (legal_leads g u v d legal) r h (ap (λ (o : Option Cell). is_some o) legal) s
+
+    by_rule : (r : Corner) → g.corner ≡ r → (s : Side)
+        → sides_after r (components_of g v d) s ≡ first_sides r g v (turn s d)
+    by_rule Never r Right = same_sides true (is_open g v (turn Left d)) _ _ (sym (rear r Right))
+        (ap (λ (e : Dir). is_open g v (turn Left e)) (sym (turn_back Right d)))
+    by_rule Never r Left = same_sides (is_open g v (turn Right d)) true _ _
+        (ap (λ (e : Dir). is_open g v (turn Right e)) (sym (turn_back Left d))) (sym (rear r Left))
+    by_rule One r s = refl

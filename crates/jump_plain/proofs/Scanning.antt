@@ -1,5 +1,5 @@
 -- A scan from cell to cell: what it has still to find.
-use Rattle.std.proofs.Common.{◌≡◌, ℕ, ◌+◌, ◌≤◌, arith, Bool, true, false, refl, ap, sym, ◌∙◌}
+use Rattle.std.proofs.Common.{◌≡◌, ℕ, ◌+◌, ◌-◌, ◌≤◌, arith, Bool, true, false, refl, ap, sym, ◌∙◌}
 use Rattle.std.specs.Prelude.{Option, Some, None, is_some, if◌then◌else◌}
 use Rattle.grid_moves.specs.declared.Cell.{Cell}
 use Rattle.grid_moves.specs.declared.Corner.{Corner}
@@ -14,7 +14,7 @@ use Rattle.pruning.proofs.Moves.{can_move-straight}
 use Rattle.jump_plain.specs.declared.beside.Sides.{Sides}
 use Rattle.jump_plain.specs.declared.scan.Reach.{Reach}
 use Rattle.jump_plain.specs.Beside.{sides_of, opens}
-use Rattle.jump_plain.specs.Reach.{reach_of, reach_at, further, left_at, mark_ahead, first_sides}
+use Rattle.jump_plain.specs.Reach.{reach_of, reach_at, further, left_at, mark_ahead, first_sides, free_bits, shut_bits}
 use Rattle.jump_plain.proofs.Forcing.{is_forced-there, is_forced-here, is_forced-nowhere}
 use Rattle.jump_plain.proofs.Reaching.{reach-next, reach-none}
 
@@ -153,3 +153,23 @@ module _ (g : GridData) (u : Cell) (d : Dir) (h : is_diagonal d ≡ false) (r : 
 
         regroup : (m n : ℕ) → m + (1 + n) ≡ m + 1 + n
         regroup m n = omega arith
+
+-- a scan keeps sides by bits: what it has found, after so many moves, where these are shut
+pub record HasSides (g : GridData) (u : Cell) (d : Dir) (r : Corner) (shut moves : ℕ) (all : Reach)
+    : Type 0 where
+  pub sides : Sides
+  pub are : shut ≡ shut_bits sides
+  pub left : all ≡ further moves (left_with r sides g u d)
+
+pub sides_shut : (s : Sides) (free shut : ℕ) → free ≡ free_bits s → shut ≡ 255 - free → shut ≡ shut_bits s
+sides_shut s free shut e f = f ∙ ap (λ (n : ℕ). 255 - n) e
+
+-- what it begins with
+pub sides_begun : (g : GridData) (x : Cell) (d : Dir) → is_diagonal d ≡ false → is_free g x ≡ true
+    → (sides : Sides) → sides ≡ first_sides g.corner g x d → (free shut : ℕ) → free ≡ free_bits sides
+    → shut ≡ 255 - free → HasSides g x d g.corner shut 0 (reach_of g x d)
+sides_begun g x d h f sides is free shut e k = record {
+  sides = sides;
+  are = sides_shut sides free shut e k;
+  left = reach_begun g x d h g.corner refl f sides is;
+}

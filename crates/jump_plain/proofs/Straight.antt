@@ -1,6 +1,6 @@
 -- The first stop of a straight jump: the goal where the scan reaches it, else the mark.
 use Rattle.std.proofs.Common.{◌≡◌, ℕ, zero, suc, ◌+◌, ◌-◌, arith, Bool, true, false, ◌&&◌, ◌||◌, refl, ap, sym, ◌∙◌, subst}
-use Rattle.std.specs.Prelude.{⊤, Option, Some, None, option_and_then, option_map, unwrap_or, nat_lt, nat_le, nat_eq, if◌then◌else◌}
+use Rattle.std.specs.Prelude.{⊤, Option, Some, None, option_and_then, option_map, unwrap_or, is_some, nat_lt, nat_le, nat_eq, if◌then◌else◌}
 use Rattle.std.proofs.lemmas.Bool.Decides.{nat_tests}
 use Rattle.grid_moves.specs.declared.Cell.{Cell}
 use Rattle.grid_moves.specs.declared.Dir.{Dir}
@@ -13,6 +13,7 @@ use Rattle.pruning.specs.First.{first_within, moves_within, is_stop, first_stop}
 use Rattle.pruning.specs.Stop.{IsFirstStop}
 use Rattle.pruning.proofs.Bridging.{legal_leads}
 use Rattle.pruning.proofs.Stopping.{first_stop_is_first}
+use Rattle.jump_plain.specs.declared.scan.Reach.{Reach}
 use Rattle.jump_plain.specs.Reach.{reach_to, reach_of, moves_to, stop_of}
 
 -- from the next cell the goal is one move nearer, or there, or not ahead
@@ -137,6 +138,31 @@ straight_within g goal d h (suc n) x =
 pub straight_stop : (g : GridData) (goal x : Cell) (d : Dir) → is_diagonal d ≡ false
     → first_stop g goal x d ≡ stop_of (reach_of g x d) (moves_to d x goal)
 straight_stop g goal x d h = straight_within g goal d h (g.width + g.height) x
+
+-- a mark on the run is a stop; without one there is none where the goal is not ahead
+pub mark_stops : (g : GridData) (goal x : Cell) (d : Dir) → is_diagonal d ≡ false → (reach : Reach)
+    → reach ≡ reach_of g x d → reach.marked ≡ true → true ≡ is_some (first_stop g goal x d)
+mark_stops g goal x d h reach is m =
+    by_test (nat_lt 0 (moves_to d x goal) && nat_le (moves_to d x goal) reach.moves) m
+    ∙ ap (λ (r : Reach). is_some (stop_of r (moves_to d x goal))) is
+    ∙ ap (λ (o : Option ℕ). is_some o) (sym (straight_stop g goal x d h))
+  where
+    by_test : (b : Bool) → reach.marked ≡ true → true ≡ is_some
+        (if b then Some (moves_to d x goal) else if reach.marked then Some reach.moves else None)
+    by_test true m = refl
+    by_test false m = rw m refl
+
+pub no_stop : (g : GridData) (goal x : Cell) (d : Dir) → is_diagonal d ≡ false → (reach : Reach)
+    → reach ≡ reach_of g x d → reach.marked ≡ false → moves_to d x goal ≡ 0
+    → false ≡ is_some (first_stop g goal x d)
+no_stop g goal x d h reach is m k = nothing_of reach m
+    ∙ ap (λ (r : Reach). is_some (stop_of r 0)) is
+    ∙ ap (λ (n : ℕ). is_some (stop_of (reach_of g x d) n)) (sym k)
+    ∙ ap (λ (o : Option ℕ). is_some o) (sym (straight_stop g goal x d h))
+  where
+    nothing_of : (r : Reach) → r.marked ≡ false → false ≡ is_some (stop_of r 0)
+    nothing_of r m = let none : (nat_lt 0 0 && nat_le 0 r.moves) ≡ false = grind (arith, nat_tests) in
+        rw (none, m) refl
 
 -- what is computed on a grid is the first stop on it
 pub first_meets : (g h : GridData) (goal x : Cell) (d : Dir) (answer : Option ℕ) → g ≡ h

@@ -7,10 +7,15 @@ use Rattle.grid_moves.specs.declared.Dir.{Dir}
 use Rattle.grid_moves.specs.declared.Dir.TheVariants.{N, NE, E, SE, S, SW, W, NW}
 use Rattle.grid_moves.specs.Grid.{GridData}
 use Rattle.grid_moves.specs.Examples.{notch}
+use Rattle.grid_moves.specs.Move.{is_open}
+use Rattle.pruning.specs.declared.turns.Side.{Side}
+use Rattle.pruning.specs.declared.turns.Side.TheVariants.{Right, Left}
+use Rattle.pruning.specs.Turns.{turn}
 use Rattle.pruning.specs.Marked.{is_forced}
 use Rattle.pruning.specs.First.{first_on_run, run_length}
 use Rattle.jump_plain.specs.declared.beside.Sides.{Sides}
 use Rattle.jump_plain.specs.declared.scan.Reach.{Reach}
+use Rattle.jump_plain.specs.declared.jump.Components.{Components}
 use Rattle.jump_plain.specs.Beside.{sides_of}
 
 -- to the first mark, if there is one, else to the end of a run of so many moves
@@ -47,6 +52,24 @@ mark_ahead One = 0
 abbrev pub first_sides : Corner → GridData → Cell → Dir → Sides
 first_sides Never g x d = sides_of g x d
 first_sides One g x d = record { right = true; left = true }
+
+-- which sides are free, by bits, and which are not
+abbrev pub free_bits : Sides → ℕ
+free_bits s = if s.right then (if s.left then 3 else 1) else if s.left then 2 else 0
+
+abbrev pub shut_bits : Sides → ℕ
+shut_bits s = 255 - free_bits s
+
+-- which of the two cells beside a diagonal move from c are free
+abbrev pub components_of : GridData → Cell → Dir → Components
+components_of g c d = record { right = is_open g c (turn Right d); left = is_open g c (turn Left d) }
+
+-- the sides with which a scan begins at the end of a diagonal move, in its component to that side, told which
+-- cells beside the next move are free: the cell passed by the move is free where no corner is cut
+abbrev pub sides_after : Corner → Components → Side → Sides
+sides_after Never c Right = record { right = true; left = c.left }
+sides_after Never c Left = record { right = c.right; left = true }
+sides_after One c s = record { right = true; left = true }
 
 -- the number of moves in a straight d that lead from u to v, or 0 where none do
 abbrev pub moves_to : Dir → Cell → Cell → ℕ

@@ -9,9 +9,9 @@ ghost use Rattle.pruning.specs.Marked.{is_forced};
 ghost use Rattle.pruning.specs.First as first;
 ghost use Rattle.jump_plain.specs.Reach as spec;
 
-use crate::beside::{beyond, is_free_beyond};
-use crate::scan::{Reach, scan};
-use grid_moves::{Cell, Dir, Terrain, is_passable};
+use crate::beside::{Sides, beyond, is_free_beyond};
+use crate::scan::{Reach, scan, scan_with};
+use grid_moves::{Cell, Corner, Dir, Terrain, is_passable};
 use pruning::{Side, forced, turn};
 
 // The number of moves in a straight direction that lead from one cell to another, or 0 where none do.
@@ -56,6 +56,51 @@ fn straight_stop<T: Terrain>(t: &T, at: Cell, d: Dir, goal: Cell) -> Option<u16>
     stop_of(reach, to_goal)
 }
 
+/// Which of the two cells beside a diagonal move are free: the ends of the moves in its components.
+#[derive(Clone, Copy)]
+pub struct Components {
+    pub right: bool,
+    pub left: bool,
+}
+
+impl Components {
+    /// Reads the cells beside the move from a free cell.
+    #[inline(always)]
+    pub fn of<T: Terrain>(t: &T, c: Cell, d: Dir) -> Components
+        requires free { is_free (T.grid t.now) c ≡ true }
+        requires whole { IsGrid (T.grid t.now) }
+        ensures { result ≡ spec.components_of (T.grid t.now) c d }
+    {
+        Components {
+            right: is_free_beyond(t, c, turn(Side::Right, d)),
+            left: is_free_beyond(t, c, turn(Side::Left, d)),
+        }
+    }
+}
+
+// The sides with which a scan begins at the end of a diagonal move, in the component to this side, told the
+// cells ahead of that end. The other component's is a side of the run. Where no corner is cut, the
+// side half behind was passed by the move, and is free.
+#[inline(always)]
+fn sides_after(rule: Corner, beside: Components, side: Side) -> Sides
+    ensures { result ≡ spec.sides_after rule beside side }
+{
+    match (rule, side) {
+        (Corner::Never, Side::Right) => Sides {
+            right: true,
+            left: beside.left,
+        },
+        (Corner::Never, Side::Left) => Sides {
+            right: beside.right,
+            left: true,
+        },
+        (Corner::One, _) => Sides {
+            right: true,
+            left: true,
+        },
+    }
+}
+
 /// The next cell of a diagonal run.
 #[derive(Clone, Copy)]
 struct Next {
@@ -82,18 +127,17 @@ fn both(one: bool, other: bool) -> bool
 
 // The next cell of a diagonal run, exactly where the move to it is legal.
 #[inline(always)]
-fn diagonal_ahead<T: Terrain>(t: &T, at: Cell, d: Dir) -> Option<Next>
+fn diagonal_ahead<T: Terrain>(t: &T, at: Cell, d: Dir, beside: Components) -> Option<Next>
     requires diagonal { is_diagonal d ≡ true }
     requires free { is_free (T.grid t.now) at ≡ true }
     requires whole { IsGrid (T.grid t.now) }
+    requires beside { beside ≡ spec.components_of (T.grid t.now) at d }
     ensures legal { option_map (λ n. n.cell) result ≡ legal_ahead (T.grid t.now) at d }
     ensures clear { IfSome result (λ n. n.clear ≡ true → is_forced (T.grid t.now) n.cell d ≡ false) }
 {
-    let right = is_free_beyond(t, at, turn(Side::Right, d));
-    let left = is_free_beyond(t, at, turn(Side::Left, d));
     let cell = beyond(at, d);
-    let clear = both(right, left);
-    if leads_on(t, is_passable(t.corner(), left, right), cell) {
+    let clear = both(beside.right, beside.left);
+    if leads_on(t, is_passable(t.corner(), beside.left, beside.right), cell) {
         Some(Next { cell, clear })
     } else {
         None
@@ -111,9 +155,21 @@ fn is_forced_at<T: Terrain>(t: &T, next: Next, d: Dir) -> bool
     !next.clear && forced(t, next.cell, d)
 }
 
-// Whether a straight jump in this direction finds a stop.
+// Whether a cell lies on the line of a straight run, ahead or behind.
 #[inline(always)]
-fn finds_stop<T: Terrain>(t: &T, at: Cell, d: Dir, goal: Cell) -> bool
+fn is_on_line(d: Dir, from: Cell, to: Cell) -> bool
+    ensures { result ≡ false → spec.moves_to d from to ≡ 0 }
+{
+    match d {
+        Dir::N | Dir::S => from.x == to.x,
+        Dir::E | Dir::W => from.y == to.y,
+        Dir::NE | Dir::SE | Dir::SW | Dir::NW => false,
+    }
+}
+
+// Whether a straight jump finds a stop, for the rare runs on the goal's line.
+#[inline(never)]
+fn finds_on_line<T: Terrain>(t: &T, at: Cell, d: Dir, goal: Cell) -> bool
     requires straight { is_diagonal d ≡ false }
     requires free { is_free (T.grid t.now) at ≡ true }
     requires whole { IsGrid (T.grid t.now) }
@@ -122,22 +178,45 @@ fn finds_stop<T: Terrain>(t: &T, at: Cell, d: Dir, goal: Cell) -> bool
     straight_stop(t, at, d, goal).is_some()
 }
 
-// Whether a diagonal jump stops at a cell: it is the goal, or a neighbour is forced there, or a straight jump
-// in a component finds a stop.
+// Whether a straight jump finds a stop, told the sides that its scan begins with: a mark, or else the goal,
+// which can lie on its line alone.
 #[inline(always)]
-fn stops_at<T: Terrain>(t: &T, next: Next, d: Dir, goal: Cell) -> bool
+fn finds_stop<T: Terrain>(t: &T, at: Cell, d: Dir, goal: Cell, sides: Sides) -> bool
+    requires straight { is_diagonal d ≡ false }
+    requires free { is_free (T.grid t.now) at ≡ true }
+    requires whole { IsGrid (T.grid t.now) }
+    requires sides { sides ≡ spec.first_sides (T.grid t.now).corner (T.grid t.now) at d }
+    ensures { result ≡ is_some (first.first_stop (T.grid t.now) goal at d) }
+{
+    if scan_with(t, at, d, sides).marked {
+        return true;
+    }
+    if is_on_line(d, at, goal) {
+        return finds_on_line(t, at, d, goal);
+    }
+    false
+}
+
+// Whether a diagonal jump stops at a cell, told which cells ahead of it are free: it is the goal, or a
+// neighbour is forced there, or a straight jump in a component finds a stop.
+#[inline(always)]
+fn stops_at<T: Terrain>(t: &T, next: Next, d: Dir, goal: Cell, beside: Components) -> bool
     requires diagonal { is_diagonal d ≡ true }
     requires free { is_free (T.grid t.now) next.cell ≡ true }
     requires whole { IsGrid (T.grid t.now) }
     requires clear { next.clear ≡ true → is_forced (T.grid t.now) next.cell d ≡ false }
+    requires sides { (s : Side) → spec.sides_after (T.grid t.now).corner beside s
+        ≡ spec.first_sides (T.grid t.now).corner (T.grid t.now) next.cell (turns.turn s d) }
     ensures { result ≡ (is_same next.cell goal || is_forced (T.grid t.now) next.cell d
         || is_some (first.first_stop (T.grid t.now) goal next.cell (turns.turn Side.Right d))
         || is_some (first.first_stop (T.grid t.now) goal next.cell (turns.turn Side.Left d))) }
 {
+    let right = sides_after(t.corner(), beside, Side::Right);
+    let left = sides_after(t.corner(), beside, Side::Left);
     next.cell == goal
         || is_forced_at(t, next, d)
-        || finds_stop(t, next.cell, turn(Side::Right, d), goal)
-        || finds_stop(t, next.cell, turn(Side::Left, d), goal)
+        || finds_stop(t, next.cell, turn(Side::Right, d), goal, right)
+        || finds_stop(t, next.cell, turn(Side::Left, d), goal, left)
 }
 
 // After how many moves a diagonal jump stops.
@@ -149,10 +228,12 @@ fn diagonal_stop<T: Terrain>(t: &T, at: Cell, d: Dir, goal: Cell) -> Option<u16>
     ensures { result ≡ first.first_stop (T.grid t.now) goal at d }
 {
     let mut cell = at;
+    let mut beside = Components::of(t, at, d);
     let mut moves = 0;
-    'run: while let Some(next) = diagonal_ahead(t, cell, d) {
+    'run: while let Some(next) = diagonal_ahead(t, cell, d, beside) {
         moves += 1;
-        if stops_at(t, next, d, goal) {
+        beside = Components::of(t, next.cell, d);
+        if stops_at(t, next, d, goal, beside) {
             return Some(moves);
         }
         cell = next.cell;

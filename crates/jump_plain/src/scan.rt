@@ -9,12 +9,15 @@
 //! ```
 //!
 //! Where one may be, the mark is `u`'s, from which the forced neighbour `n` lies diagonally ahead.
+//!
+//! Both sides are kept in one byte, so that one test tells whether any of them opens.
 
-ghost use Rattle.std.specs.Prelude.{◌≡◌, ◌+◌, ◌≤◌, false, true};
+ghost use Rattle.std.specs.Prelude.{◌≡◌, ◌+◌, ◌-◌, ◌≤◌, false, true};
 ghost use Rattle.grid_moves.specs.Grid.{IsGrid, is_free};
 ghost use Rattle.grid_moves.specs.Grid as grids;
 ghost use Rattle.pruning.specs.Turns.{is_diagonal};
 ghost use Rattle.pruning.specs.First.{run_length};
+ghost use Rattle.jump_plain.specs.Beside as besides;
 ghost use Rattle.jump_plain.specs.Reach as spec;
 
 use crate::beside::{Sides, beyond, straight_ahead};
@@ -58,28 +61,53 @@ fn first_sides<T: Terrain>(t: &T, rule: Corner, at: Cell, d: Dir) -> Sides
     }
 }
 
-// Scans along the legal run from a free cell in a straight direction.
+// Which sides are free, by bits: 1 for the right one, 2 for the left one.
 #[inline(always)]
-fn scan_run<T: Terrain>(t: &T, at: Cell, d: Dir) -> Reach
+fn free_bits(sides: Sides) -> u8
+    ensures { result ≡ spec.free_bits sides }
+{
+    u8::from(sides.right) | (u8::from(sides.left) << 1)
+}
+
+// Which are not, told which are.
+#[inline(always)]
+fn shut_bits(free: u8) -> u8
+    ensures { result ≡ 255 - free }
+{
+    !free
+}
+
+// Whether a side that was shut at one cell is free at the next.
+#[inline(always)]
+fn opens(shut: u8, free: u8) -> bool
+    ensures { (u v : Sides) → shut ≡ spec.shut_bits u → free ≡ spec.free_bits v
+        → result ≡ besides.opens u v }
+{
+    free & shut != 0
+}
+
+// Scans along the legal run from a free cell in a straight direction, told the sides to begin with.
+#[inline(always)]
+fn scan_run<T: Terrain>(t: &T, at: Cell, d: Dir, sides: Sides) -> Reach
     requires straight { is_diagonal d ≡ false }
     requires free { is_free (T.grid t.now) at ≡ true }
     requires whole { IsGrid (T.grid t.now) }
+    requires sides { sides ≡ spec.first_sides (T.grid t.now).corner (T.grid t.now) at d }
     ensures { result ≡ spec.reach_of (T.grid t.now) at d }
 {
-    let rule = t.corner();
-    let mut sides = first_sides(t, rule, at, d);
+    let mut shut = shut_bits(free_bits(sides));
     let mut cell = at;
     let mut moves = 0;
     'run: while let Some(next) = straight_ahead(t, cell, d) {
-        let sides_then = Sides::of(t, next, d);
-        if sides.opens(sides_then) {
+        let free = free_bits(Sides::of(t, next, d));
+        if opens(shut, free) {
             return Reach {
-                moves: moves + mark_ahead(rule),
+                moves: moves + mark_ahead(t.corner()),
                 marked: true,
             };
         }
         cell = next;
-        sides = sides_then;
+        shut = shut_bits(free);
         moves += 1;
     }
     Reach {
@@ -90,13 +118,14 @@ fn scan_run<T: Terrain>(t: &T, at: Cell, d: Dir) -> Reach
 
 // The same, for the rare runs along the border of the map.
 #[inline(never)]
-fn scan_border<T: Terrain>(t: &T, at: Cell, d: Dir) -> Reach
+fn scan_border<T: Terrain>(t: &T, at: Cell, d: Dir, sides: Sides) -> Reach
     requires straight { is_diagonal d ≡ false }
     requires free { is_free (T.grid t.now) at ≡ true }
     requires whole { IsGrid (T.grid t.now) }
+    requires sides { sides ≡ spec.first_sides (T.grid t.now).corner (T.grid t.now) at d }
     ensures { result ≡ spec.reach_of (T.grid t.now) at d }
 {
-    scan_run(t, at, d)
+    scan_run(t, at, d, sides)
 }
 
 // Whether the cell lies on the map.
@@ -107,10 +136,28 @@ fn is_inside<T: Terrain>(t: &T, c: Cell) -> bool
     c.x < t.width() && c.y < t.height()
 }
 
-/// Scans along the legal run from a free cell in a straight direction: to the first cell with a forced
-/// neighbour, or else to the run's end. The cell itself is not looked at.
+/// Scans along the legal run from a free cell in a straight direction, told the sides to begin with: to the
+/// first cell with a forced neighbour, or else to the run's end. The cell itself is not looked at.
 ///
 /// Where both lines beside the run lie on the map, the compiler knows it in all of the loop.
+#[inline(always)]
+pub fn scan_with<T: Terrain>(t: &T, at: Cell, d: Dir, sides: Sides) -> Reach
+    requires straight { is_diagonal d ≡ false }
+    requires free { is_free (T.grid t.now) at ≡ true }
+    requires whole { IsGrid (T.grid t.now) }
+    requires sides { sides ≡ spec.first_sides (T.grid t.now).corner (T.grid t.now) at d }
+    ensures { result ≡ spec.reach_of (T.grid t.now) at d }
+{
+    let right = beyond(at, quarter(Side::Right, d));
+    let left = beyond(at, quarter(Side::Left, d));
+    if is_inside(t, at) && is_inside(t, right) && is_inside(t, left) {
+        scan_run(t, at, d, sides)
+    } else {
+        scan_border(t, at, d, sides)
+    }
+}
+
+/// The same, where the sides are read first.
 #[inline(always)]
 pub fn scan<T: Terrain>(t: &T, at: Cell, d: Dir) -> Reach
     requires straight { is_diagonal d ≡ false }
@@ -118,11 +165,6 @@ pub fn scan<T: Terrain>(t: &T, at: Cell, d: Dir) -> Reach
     requires whole { IsGrid (T.grid t.now) }
     ensures { result ≡ spec.reach_of (T.grid t.now) at d }
 {
-    let right = beyond(at, quarter(Side::Right, d));
-    let left = beyond(at, quarter(Side::Left, d));
-    if is_inside(t, at) && is_inside(t, right) && is_inside(t, left) {
-        scan_run(t, at, d)
-    } else {
-        scan_border(t, at, d)
-    }
+    let sides = first_sides(t, t.corner(), at, d);
+    scan_with(t, at, d, sides)
 }

@@ -1,5 +1,6 @@
 pub mod Turns
 pub mod Allowed
+pub mod Ring
 pub mod Marked
 pub mod Canonical
 pub mod Stop

@@ -7,6 +7,7 @@
 #![tactic(auto)]
 
 pub mod laws;
+mod ring;
 mod rule;
 mod source;
 mod turns;

@@ -19,10 +19,12 @@ ghost use Rattle.grid_moves.specs.Grid.{IsGrid, is_free};
 ghost use Rattle.grid_moves.specs.Move as moves;
 ghost use Rattle.pruning.specs.Turns as turns;
 ghost use Rattle.pruning.specs.Allowed as spec;
+ghost use Rattle.pruning.specs.Ring as rings;
 ghost use Rattle.pruning.specs.Marked as marks;
 ghost use Rattle.pruning.specs.First as first;
 
 use crate::Arrival;
+use crate::ring::{Ring, is_inside, ring_of};
 use crate::turns::{Side, is_diagonal, quarter, rear, turn};
 use arrayvec::ArrayVec;
 use grid_moves::{ALL_DIRS, Cell, Corner, Dir, Terrain, dir_number, is_open, is_passable};
@@ -72,76 +74,145 @@ fn can_move<T: Terrain>(t: &T, at: Cell, d: Dir) -> bool
     is_open(t, at, d)
 }
 
+// Whether the cell in this direction is blocked.
+#[inline(always)]
+fn is_shut(ring: Ring, d: Dir) -> bool
+    ensures { result ≡ rings.is_shut ring d }
+{
+    !ring.is_free(d)
+}
+
 // Whether a turn by an eighth to this side is kept.
 #[inline(always)]
-fn keeps_eighth<T: Terrain>(t: &T, at: Cell, d: Dir, side: Side) -> bool
-    requires free { IsTrue (is_free (T.grid t.now) at) }
-    requires whole { IsGrid (T.grid t.now) }
-    ensures { result ≡ spec.keeps_eighth (T.grid t.now).corner (spec.is_blocked (T.grid t.now) at) d side }
+fn keeps_eighth(rule: Corner, ring: Ring, d: Dir, side: Side) -> bool
+    ensures { result ≡ spec.keeps_eighth rule (rings.is_shut ring) d side }
 {
-    match t.corner() {
-        Corner::Never => is_diagonal(d) || is_blocked(t, at, rear(side, d)),
-        Corner::One => is_diagonal(d) || is_blocked(t, at, quarter(side, d)),
+    match rule {
+        Corner::Never => is_diagonal(d) | is_shut(ring, rear(side, d)),
+        Corner::One => is_diagonal(d) | is_shut(ring, quarter(side, d)),
     }
 }
 
 // Whether a turn by a quarter to this side is kept.
 #[inline(always)]
-fn keeps_quarter<T: Terrain>(t: &T, at: Cell, d: Dir, side: Side) -> bool
-    requires free { IsTrue (is_free (T.grid t.now) at) }
-    requires whole { IsGrid (T.grid t.now) }
-    ensures { result ≡ spec.keeps_quarter (T.grid t.now).corner (spec.is_blocked (T.grid t.now) at) d side }
+fn keeps_quarter(rule: Corner, ring: Ring, d: Dir, side: Side) -> bool
+    ensures { result ≡ spec.keeps_quarter rule (rings.is_shut ring) d side }
 {
-    match t.corner() {
-        Corner::Never => !is_diagonal(d) && is_blocked(t, at, rear(side, d)),
-        Corner::One => is_diagonal(d) && is_blocked(t, at, rear(side, d)),
+    match rule {
+        Corner::Never => !is_diagonal(d) & is_shut(ring, rear(side, d)),
+        Corner::One => is_diagonal(d) & is_shut(ring, rear(side, d)),
     }
 }
 
 // Whether `to` is a turn from `d` to this side, and is kept.
 #[inline(always)]
-fn is_kept_aside<T: Terrain>(t: &T, at: Cell, d: Dir, to: Dir, side: Side) -> bool
-    requires free { IsTrue (is_free (T.grid t.now) at) }
-    requires whole { IsGrid (T.grid t.now) }
-    ensures { result
-        ≡ spec.is_kept_aside (T.grid t.now).corner (spec.is_blocked (T.grid t.now) at) d to side }
+fn is_kept_aside(rule: Corner, ring: Ring, d: Dir, to: Dir, side: Side) -> bool
+    ensures { result ≡ spec.is_kept_aside rule (rings.is_shut ring) d to side }
 {
-    (is_dir(to, turn(side, d)) && keeps_eighth(t, at, d, side))
-        || (is_dir(to, quarter(side, d)) && keeps_quarter(t, at, d, side))
+    (is_dir(to, turn(side, d)) & keeps_eighth(rule, ring, d, side))
+        | (is_dir(to, quarter(side, d)) & keeps_quarter(rule, ring, d, side))
 }
 
 // Whether pruning keeps this direction.
 #[inline(always)]
-fn is_kept<T: Terrain>(t: &T, at: Cell, by: Arrival, to: Dir) -> bool
-    requires free { IsTrue (is_free (T.grid t.now) at) }
-    requires whole { IsGrid (T.grid t.now) }
-    ensures { result ≡ spec.is_kept (T.grid t.now).corner (spec.is_blocked (T.grid t.now) at) by to }
+fn is_kept(rule: Corner, ring: Ring, by: Arrival, to: Dir) -> bool
+    ensures { result ≡ spec.is_kept rule (rings.is_shut ring) by to }
 {
     match by {
         Arrival::Start => true,
         Arrival::By(d) => {
             is_dir(to, d)
-                || is_kept_aside(t, at, d, to, Side::Right)
-                || is_kept_aside(t, at, d, to, Side::Left)
+                | is_kept_aside(rule, ring, d, to, Side::Right)
+                | is_kept_aside(rule, ring, d, to, Side::Left)
         }
     }
 }
 
+// Whether a diagonal move passes between two cells, with no branch on them.
+#[inline(always)]
+fn is_between(rule: Corner, left: bool, right: bool) -> bool
+    ensures { result ≡ moves.is_passable rule left right }
+{
+    match rule {
+        Corner::Never => left & right,
+        Corner::One => left | right,
+    }
+}
+
+// Whether the move is legal.
+#[inline(always)]
+fn leads_on(rule: Corner, ring: Ring, d: Dir) -> bool
+    ensures { result ≡ rings.leads_on rule ring d }
+{
+    if is_diagonal(d) {
+        let left = ring.is_free(turn(Side::Left, d));
+        let right = ring.is_free(turn(Side::Right, d));
+        ring.is_free(d) & is_between(rule, left, right)
+    } else {
+        ring.is_free(d)
+    }
+}
+
+// Whether the direction is allowed.
+#[inline(always)]
+fn is_allowed(rule: Corner, ring: Ring, by: Arrival, d: Dir) -> bool
+    ensures { result ≡ rings.is_allowed_on rule ring by d }
+{
+    is_kept(rule, ring, by, d) & leads_on(rule, ring, d)
+}
+
 // Those of these directions that are allowed, in order.
 #[inline(always)]
-fn allowed_of<T: Terrain>(t: &T, at: Cell, by: Arrival, dirs: &[Dir]) -> ArrayVec<Dir, 8>
-    requires free { IsTrue (is_free (T.grid t.now) at) }
-    requires whole { IsGrid (T.grid t.now) }
+fn allowed_of(rule: Corner, ring: Ring, by: Arrival, dirs: &[Dir]) -> ArrayVec<Dir, 8>
     requires few { length dirs.now ≤ 8 }
-    ensures { result.items ≡ filter (spec.is_allowed (T.grid t.now) at by) dirs.now }
+    ensures { result.items ≡ filter (rings.is_allowed_on rule ring by) dirs.now }
 {
     let mut found = ArrayVec::new();
     for d in dirs {
-        if is_kept(t, at, by, *d) && can_move(t, at, *d) {
+        if is_allowed(rule, ring, by, *d) {
             found.push(*d);
         }
     }
     found
+}
+
+// All directions that are allowed, with code of its own for each arrival.
+#[inline(always)]
+fn allowed_by(rule: Corner, ring: Ring, by: Arrival) -> ArrayVec<Dir, 8>
+    ensures { result.items ≡ filter (rings.is_allowed_on rule ring by) moves.all_dirs }
+{
+    match by {
+        Arrival::Start => allowed_of(rule, ring, by, &ALL_DIRS),
+        Arrival::By(Dir::N) => allowed_of(rule, ring, Arrival::By(Dir::N), &ALL_DIRS),
+        Arrival::By(Dir::NE) => allowed_of(rule, ring, Arrival::By(Dir::NE), &ALL_DIRS),
+        Arrival::By(Dir::E) => allowed_of(rule, ring, Arrival::By(Dir::E), &ALL_DIRS),
+        Arrival::By(Dir::SE) => allowed_of(rule, ring, Arrival::By(Dir::SE), &ALL_DIRS),
+        Arrival::By(Dir::S) => allowed_of(rule, ring, Arrival::By(Dir::S), &ALL_DIRS),
+        Arrival::By(Dir::SW) => allowed_of(rule, ring, Arrival::By(Dir::SW), &ALL_DIRS),
+        Arrival::By(Dir::W) => allowed_of(rule, ring, Arrival::By(Dir::W), &ALL_DIRS),
+        Arrival::By(Dir::NW) => allowed_of(rule, ring, Arrival::By(Dir::NW), &ALL_DIRS),
+    }
+}
+
+// The allowed directions at a free cell, with each cell around it read once.
+#[inline(always)]
+fn allowed_around<T: Terrain>(t: &T, at: Cell, by: Arrival) -> ArrayVec<Dir, 8>
+    requires free { IsTrue (is_free (T.grid t.now) at) }
+    requires whole { IsGrid (T.grid t.now) }
+    ensures rule { result.items ≡ spec.allowed_dirs (T.grid t.now) at by }
+{
+    let ring = ring_of(t, at);
+    allowed_by(t.corner(), ring, by)
+}
+
+// The same, for the rare cells on the border of the map.
+#[inline(never)]
+fn allowed_on_border<T: Terrain>(t: &T, at: Cell, by: Arrival) -> ArrayVec<Dir, 8>
+    requires free { IsTrue (is_free (T.grid t.now) at) }
+    requires whole { IsGrid (T.grid t.now) }
+    ensures rule { result.items ≡ spec.allowed_dirs (T.grid t.now) at by }
+{
+    allowed_around(t, at, by)
 }
 
 /// The allowed directions at a free cell, in increasing order.
@@ -151,21 +222,18 @@ fn allowed_of<T: Terrain>(t: &T, at: Cell, by: Arrival, dirs: &[Dir]) -> ArrayVe
 /// corner is cut, after a straight move, the side itself and the diagonal towards it; where one may be,
 /// after a straight move the diagonal, and after a diagonal one the diagonal a quarter aside. Each where
 /// the move is legal.
+///
+/// Where the cells around lie on the map, the compiler knows it of each of them.
 pub fn allowed<T: Terrain>(t: &T, at: Cell, by: Arrival) -> ArrayVec<Dir, 8>
     requires free { IsTrue (is_free (T.grid t.now) at) }
     requires whole { IsGrid (T.grid t.now) }
     ensures rule { result.items ≡ spec.allowed_dirs (T.grid t.now) at by }
 {
-    match by {
-        Arrival::Start => allowed_of(t, at, by, &ALL_DIRS),
-        Arrival::By(Dir::N) => allowed_of(t, at, Arrival::By(Dir::N), &ALL_DIRS),
-        Arrival::By(Dir::NE) => allowed_of(t, at, Arrival::By(Dir::NE), &ALL_DIRS),
-        Arrival::By(Dir::E) => allowed_of(t, at, Arrival::By(Dir::E), &ALL_DIRS),
-        Arrival::By(Dir::SE) => allowed_of(t, at, Arrival::By(Dir::SE), &ALL_DIRS),
-        Arrival::By(Dir::S) => allowed_of(t, at, Arrival::By(Dir::S), &ALL_DIRS),
-        Arrival::By(Dir::SW) => allowed_of(t, at, Arrival::By(Dir::SW), &ALL_DIRS),
-        Arrival::By(Dir::W) => allowed_of(t, at, Arrival::By(Dir::W), &ALL_DIRS),
-        Arrival::By(Dir::NW) => allowed_of(t, at, Arrival::By(Dir::NW), &ALL_DIRS),
+    let (left, up) = (at.x.wrapping_sub(1), at.y.wrapping_sub(1));
+    if is_inside(t, left, up) && is_inside(t, at.x + 1, at.y + 1) && is_inside(t, at.x, at.y) {
+        allowed_around(t, at, by)
+    } else {
+        allowed_on_border(t, at, by)
     }
 }
 

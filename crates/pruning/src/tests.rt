@@ -23,6 +23,27 @@ fn round_a_pillar(rt: HostRuntime) -> Result<(), Fail> {
     Ok(())
 }
 
+// On the map `...../.@...`, where no corner is cut: behind the wall the way down is forced, above it nothing.
+#[test]
+fn behind_a_wall(rt: HostRuntime) -> Result<(), Fail> {
+    let grid = Grid::of_cells(rt.alloc(), 5, 2, b"......@...", Corner::Never)?;
+    assert!(rt; !forced(&grid, Cell { x: 1, y: 0 }, Dir::E));
+    assert!(rt; forced(&grid, Cell { x: 2, y: 0 }, Dir::E));
+    Ok(())
+}
+
+// Where a corner may be cut: after a diagonal move past a pillar, its component and a quarter round the
+// pillar's other corner; where the search starts, all legal moves.
+#[test]
+fn round_a_corner(rt: HostRuntime) -> Result<(), Fail> {
+    let grid = Grid::of_cells(rt.alloc(), 3, 3, b"....@....", Corner::One)?;
+    let past = allowed(&grid, Cell { x: 2, y: 1 }, Arrival::By(Dir::SE));
+    assert_eq!(rt; past.as_slice(), [Dir::S, Dir::SW].as_slice());
+    let start = allowed(&grid, Cell { x: 0, y: 0 }, Arrival::Start);
+    assert_eq!(rt; start.as_slice(), [Dir::E, Dir::S].as_slice());
+    Ok(())
+}
+
 // On the map `...../.@...`, where a corner may be cut: above the wall the way past it is forced.
 #[test]
 fn beyond_a_wall(rt: HostRuntime) -> Result<(), Fail> {

@@ -1,8 +1,7 @@
 use Rattle.std.proofs.Common.{true, false, arith, sym}
 use Rattle.grid_moves.specs.Grid.{GridData}
-use Rattle.grid_moves.proofs.Legal.{legal_is}
 use Rattle.pruning.specs.First.{first_stop}
-use Rattle.pruning.proofs.Bridging.{legal_leads}
+use Rattle.jump_plain.proofs.Forcing.{ahead_free, sides_known}
 use Rattle.jump_plain.proofs.Reaching.{run_length-next, run_length-few}
 use Rattle.jump_plain.proofs.Diagonal.{is_stop-read, stops_nowhere, stops_here, stops_later}
 use Rattle.jump_plain.proofs.jump.diagonal_stop.Goals as goal
@@ -17,11 +16,21 @@ overflow_add-moves g c =
     let run = c.run.invariant.run in
     omega arith
 
+pub of-beside-requires-in-Some-clause-free : goal.of-beside-requires-in-Some-clause-free
+of-beside-requires-in-Some-clause-free g c =
+    ahead_free (g.T.Terrain.grid c.args.t.now) c.run.cell c.in-Some.next.cell c.args.d
+    (sym c.in-Some.ensures.legal)
+
 pub stops_at-requires-clause-free : goal.stops_at-requires-clause-free
 stops_at-requires-clause-free g c =
-    let grid : GridData = g.T.Terrain.grid c.args.t.now in
-    (legal_is grid c.run.cell c.in-Some.next.cell
-    (legal_leads grid c.run.cell c.in-Some.next.cell c.args.d (sym c.in-Some.ensures.legal)).legal).target
+    ahead_free (g.T.Terrain.grid c.args.t.now) c.run.cell c.in-Some.next.cell c.args.d
+    (sym c.in-Some.ensures.legal)
+
+pub stops_at-requires-clause-sides : goal.stops_at-requires-clause-sides
+stops_at-requires-clause-sides g c = λ s.
+    sides_known (g.T.Terrain.grid c.args.t.now) c.run.cell c.in-Some.next.cell c.args.d
+    (sym c.in-Some.ensures.legal) c.requires.diagonal c.of-beside-in-Some.result
+    c.of-beside-in-Some.ensures s
 
 pub returns-then-stops_at : goal.returns-then-stops_at
 returns-then-stops_at g c =
@@ -43,8 +52,8 @@ run-preserved g c =
     let grid : GridData = g.T.Terrain.grid c.args.t.now in
     let legal = sym c.in-Some.ensures.legal in
     record {
-      free = (legal_is grid c.run.cell c.in-Some.next.cell
-          (legal_leads grid c.run.cell c.in-Some.next.cell c.args.d legal).legal).target;
+      free = ahead_free grid c.run.cell c.in-Some.next.cell c.args.d legal;
+      beside = c.of-beside-in-Some.ensures;
       stop = stops_later grid c.args.goal c.run.cell c.args.d c.run.moves
           (first_stop grid c.args.goal c.args.at c.args.d) c.run.invariant.stop c.in-Some.next.cell legal
           (is_stop-read grid c.args.goal c.args.d c.in-Some.next.cell c.requires.diagonal

@@ -1,10 +1,10 @@
-use Rattle.std.proofs.Common.{arith, sym}
+use Rattle.std.proofs.Common.{arith, ap, refl, sym, ◌∙◌}
+use Rattle.grid_moves.specs.declared.Corner.{Corner}
 use Rattle.grid_moves.specs.Grid.{GridData}
-use Rattle.grid_moves.proofs.Legal.{legal_is}
-use Rattle.pruning.proofs.Bridging.{legal_leads}
-use Rattle.jump_plain.specs.Reach.{reach_of}
+use Rattle.jump_plain.proofs.Forcing.{ahead_free}
+use Rattle.jump_plain.specs.Reach.{mark_ahead, reach_of}
 use Rattle.jump_plain.proofs.Reaching.{run_length-next, run_length-few}
-use Rattle.jump_plain.proofs.Scanning.{mark_ahead-near, reach_begun, reached_end, reached_mark, reached_next}
+use Rattle.jump_plain.proofs.Scanning.{mark_ahead-near, reached_end, reached_mark, reached_next, sides_begun, sides_shut}
 use Rattle.jump_plain.proofs.scan.scan_run.Goals as goal
 
 pub run-init : goal.run-init
@@ -12,21 +12,21 @@ run-init g c =
     let grid : GridData = g.T.Terrain.grid c.args.t.now in
     record {
       free = c.requires.free;
-      left = reach_begun grid c.args.at c.args.d c.requires.straight c.corner-rule.result
-          c.corner-rule.ensures c.requires.free c.first_sides-sides.result c.first_sides-sides.ensures;
+      left = sides_begun grid c.args.at c.args.d c.requires.straight c.requires.free c.args.sides
+          c.requires.sides c.free_bits.result c.shut_bits-shut.result c.free_bits.ensures
+          c.shut_bits-shut.ensures;
       run = omega arith;
     }
 
-pub of-sides_then-requires-clause-free : goal.of-sides_then-requires-clause-free
-of-sides_then-requires-clause-free g c =
+pub of-requires-clause-free : goal.of-requires-clause-free
+of-requires-clause-free g c =
     let grid : GridData = g.T.Terrain.grid c.args.t.now in
-    (legal_is grid c.run.cell c.in-Some.next
-    (legal_leads grid c.run.cell c.in-Some.next c.args.d (sym c.in-Some.ensures)).legal).target
+    ahead_free grid c.run.cell c.in-Some.next c.args.d (sym c.in-Some.ensures)
 
 pub overflow_add-result : goal.overflow_add-result
 overflow_add-result g c =
     let grid : GridData = g.T.Terrain.grid c.args.t.now in
-    let near = mark_ahead-near c.corner-rule.result in
+    let near = mark_ahead-near c.corner.result in
     let ahead = c.mark_ahead.ensures in
     let few = run_length-few grid c.args.at c.args.d in
     let wide = c.requires.whole.sides.narrow in
@@ -37,10 +37,13 @@ overflow_add-result g c =
 pub returns-then-opens : goal.returns-then-opens
 returns-then-opens g c =
     let grid : GridData = g.T.Terrain.grid c.args.t.now in
-    reached_mark grid c.run.cell c.args.d c.requires.straight c.corner-rule.result c.run.sides c.run.moves
-    (reach_of grid c.args.at c.args.d) c.run.invariant.left c.in-Some.next (sym c.in-Some.ensures)
-    c.of-sides_then.result c.of-sides_then.ensures c.opens.result c.opens.ensures c.mark_ahead.result
-    c.mark_ahead.ensures c.if-opens.true
+    let has = c.run.invariant.left in
+    reached_mark grid c.run.cell c.args.d c.requires.straight grid.corner has.sides c.run.moves
+    (reach_of grid c.args.at c.args.d) has.left c.in-Some.next (sym c.in-Some.ensures)
+    c.of.result c.of.ensures c.opens.result
+    (c.opens.ensures has.sides c.of.result has.are c.free_bits-free.ensures)
+    c.mark_ahead.result (c.mark_ahead.ensures ∙ ap (λ (r : Corner). mark_ahead r) c.corner.ensures)
+    c.if-opens.true
 
 pub overflow_add-moves : goal.overflow_add-moves
 overflow_add-moves g c =
@@ -61,21 +64,29 @@ run-smaller g c =
 pub run-preserved : goal.run-preserved
 run-preserved g c =
     let grid : GridData = g.T.Terrain.grid c.args.t.now in
+    let has = c.run.invariant.left in
     let legal = sym c.in-Some.ensures in
-    let leads = legal_leads grid c.run.cell c.in-Some.next c.args.d legal in
-    let free = (legal_is grid c.run.cell c.in-Some.next leads.legal).target in
+    let free = ahead_free grid c.run.cell c.in-Some.next c.args.d legal in
     record {
       free = free;
-      left = reached_next grid c.run.cell c.args.d c.requires.straight c.corner-rule.result c.run.sides
-          c.run.moves (reach_of grid c.args.at c.args.d) c.run.invariant.left c.in-Some.next legal
-          c.of-sides_then.result c.of-sides_then.ensures c.opens.result c.opens.ensures
-          c.corner-rule.ensures free c.if-opens.false;
+      left = record {
+        sides = c.of.result;
+        are = sides_shut c.of.result c.free_bits-free.result c.shut_bits-shut-in-Some.result
+            c.free_bits-free.ensures c.shut_bits-shut-in-Some.ensures;
+        left = reached_next grid c.run.cell c.args.d c.requires.straight grid.corner has.sides
+            c.run.moves (reach_of grid c.args.at c.args.d) has.left c.in-Some.next legal
+            c.of.result c.of.ensures c.opens.result
+            (c.opens.ensures has.sides c.of.result has.are c.free_bits-free.ensures)
+            refl free c.if-opens.false;
+      };
       run = let next = run_length-next grid c.run.cell c.in-Some.next c.args.d legal in
           let run = c.run.invariant.run in
           omega arith;
     }
 
 pub returns : goal.returns
-returns g c = reached_end (g.T.Terrain.grid c.args.t.now) c.run.cell c.args.d c.requires.straight
-    c.corner-rule.result c.run.sides c.run.moves (reach_of (g.T.Terrain.grid c.args.t.now) c.args.at c.args.d)
-    c.run.invariant.left (sym c.in_default.ensures)
+returns g c =
+    let grid : GridData = g.T.Terrain.grid c.args.t.now in
+    let has = c.run.invariant.left in
+    reached_end grid c.run.cell c.args.d c.requires.straight grid.corner has.sides c.run.moves
+    (reach_of grid c.args.at c.args.d) has.left (sym c.in_default.ensures)

@@ -1,8 +1,8 @@
 use Rattle.std.proofs.Common.{◌≡◌, ◌+◌, true}
 use Rattle.grid_moves.specs.Grid.{is_free}
 use Rattle.pruning.specs.First.{run_length}
-use Rattle.jump_plain.specs.Reach.{reach_of, further}
-use Rattle.jump_plain.proofs.Scanning.{left_with}
+use Rattle.jump_plain.specs.Reach.{reach_of}
+use Rattle.jump_plain.proofs.Scanning.{HasSides}
 use Rattle.jump_plain.proofs.scan.scan_run.Given as goal
 
 -- the cell is so many moves on, and what is left to find from there is what is left in all, less these
@@ -11,7 +11,7 @@ invariant-run g l =
     let grid = g.T.Terrain.grid l.t in
     record {
       free : is_free grid l.cell ≡ true;
-      left : reach_of grid l.fn.at l.d ≡ further l.moves (left_with l.rule l.sides grid l.cell l.d);
+      left : HasSides grid l.cell l.d grid.corner l.shut l.moves (reach_of grid l.fn.at l.d);
       run : l.moves + run_length grid l.cell l.d ≡ run_length grid l.fn.at l.d;
     }
 
