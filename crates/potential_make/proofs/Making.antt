@@ -24,6 +24,7 @@ use Rattle.grid_moves.proofs.Legal.{and_both, free_inside, is_same-cell, is_same
 use Rattle.path_points.specs.Corners.{corners, goes_straight, turns_after}
 use Rattle.best_first.specs.State.{start_at}
 use Rattle.search_run.proofs.Leastness.{estimate_along}
+use Rattle.plain_search.proofs.Posed.{free_near}
 use Rattle.plain_search.specs.Answer.{IsPlainRun, IsLeast}
 use Rattle.plain_search.specs.Found.{IsFound}
 use Rattle.plain_search.specs.Lists.{AreClosed, AreLists, AreReached, IsLeastCost, plain_of}
@@ -389,7 +390,7 @@ module _ (g : GridData) (s t : Cell) (whole : IsGrid g) (from : is_free g s ≡ 
       let moves = moves_counted s w.cells in
       let paid : (cost_of (s ∷ w.cells)).a + (cost_of (s ∷ w.cells)).b ≡ cost.a + cost.b =
       ap (λ (c : Cost). c.a + c.b) (w.priced ∙ sym run.priced) in
-      let few = few_found g s t whole from to points cost taken run in
+      let few = few_found g s t whole from (free_near g t to) points cost taken run in
       let most = cells_few in
       omega arith
 
