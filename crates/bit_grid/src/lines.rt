@@ -133,7 +133,7 @@ impl Lines {
     }
 
     /// A block of a line, both counted from 0: its eight words, where bit `j` of word `k` is the line's bit
-    /// `512·index + 64·k + j`. This is the one way to read bits, and it counts one step for each block that it
+    /// `512·index + 64·k + j`. This is the one way to read bits. It counts one step for each block that it
     /// hands out, however many of its words are read.
     #[inline(always)]
     pub fn lane<L: Ledger>(&self, line: u32, index: u32, steps: &mut Steps<L>) -> &[u64]

@@ -86,7 +86,8 @@ pub(crate) fn words_on<T: Terrain>(
     requires whole { IsGrid (T.grid t.now) }
     requires ample { (T.grid t.now).width + 2 ≤ per_line * 64 }
     requires few { per_line ≤ 1024 }
-    ensures shown { IfOk result (λ words. ArePacked (T.grid t.now) ((T.grid t.now).height + 2) per_line words.items) }
+    ensures shown { IfOk result (λ words.
+        ArePacked (T.grid t.now) ((T.grid t.now).height + 2) per_line words.items) }
     ensures as_many { IfOk result (λ words. length words.items ≡ ((T.grid t.now).height + 2) * per_line) }
 {
     let height = t.height();

@@ -17,7 +17,8 @@ fn byte_or_none(words: &[u64], lines: usize, per_line: usize, byte: usize, line:
     requires whole { length words.now ≡ lines * per_line }
     requires byte { byte < per_line * 8 }
     ensures { (k : ℕ) → k < 8 → is_set result k
-        ≡ (if nat_lt line lines then is_set (slice_index_or words.now (line * per_line + byte / 8) 0) (byte % 8 * 8 + k)
+        ≡ (if nat_lt line lines
+        then is_set (slice_index_or words.now (line * per_line + byte / 8) 0) (byte % 8 * 8 + k)
         else false) }
 {
     if line < lines {

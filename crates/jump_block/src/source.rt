@@ -18,8 +18,8 @@ use pruning::{Arrival, JumpSource, allowed};
 use std::sync::ledger::Ledger;
 use steps::Steps;
 
-/// The jumps on the grid whose bits these are, with the grid's sides and corner rule. A step is the reading of
-/// one block; no memory is taken.
+/// The jumps on the grid whose bits these are, with the grid's sides and corner rule. A step is the reading
+/// of one block; no memory is taken.
 #[derive(Clone, Copy)]
 pub struct BlockJumps<'a> {
     pub rows: Rows<'a>,
@@ -30,8 +30,8 @@ pub struct BlockJumps<'a> {
 }
 
 impl<'a> Bits<'a> {
-    // After how many moves a jump stops, where no corner is cut. Each direction has loops of its own, in which
-    // it is a constant, and so is the rule.
+    // After how many moves a jump stops, where no corner is cut. Each direction has loops of its own, in
+    // which it is a constant, and so is the rule.
     #[inline(never)]
     fn stop_by_never<L: Ledger>(
         &self,
