@@ -1,6 +1,6 @@
 -- Scans on a grid, in each straight direction.
 use Rattle.std.proofs.Common.{◌≡◌, ◌≢◌, ℕ, zero, suc, ◌+◌, ◌-◌, ◌<◌, arith, Bool, true, false, not, ◌||◌, refl, ap, sym, ◌∙◌, subst}
-use Rattle.std.specs.Prelude.{Option, Some}
+use Rattle.std.specs.Prelude.{Option, Some, nat_eq}
 use Rattle.std.proofs.lemmas.Bool.Decides.{nat_tests}
 use Rattle.grid_moves.specs.declared.Cell.{Cell}
 use Rattle.grid_moves.specs.declared.Corner.{Corner}
@@ -15,7 +15,7 @@ use Rattle.pruning.specs.declared.turns.Side.TheVariants.{Right, Left}
 use Rattle.pruning.specs.Turns.{is_diagonal, turn}
 use Rattle.jump_plain.specs.declared.beside.Sides.{Sides}
 use Rattle.jump_plain.specs.Beside.{sides_of}
-use Rattle.jump_plain.specs.Reach.{first_sides}
+use Rattle.jump_plain.specs.Reach.{first_sides, moves_to}
 use Rattle.jump_block.proofs.Runs.{IsRay, IsTold, told_by_ray}
 use Rattle.jump_block.specs.declared.word.Way.{Way}
 use Rattle.jump_block.specs.declared.word.Way.TheVariants.{Forward, Back}
@@ -397,6 +397,15 @@ row_straight Back = refl
 pub column_straight : (way : Way) → is_diagonal (column_dir way) ≡ false
 column_straight Forward = refl
 column_straight Back = refl
+
+-- a cell that is not on the line is not ahead on it
+pub off_row : (way : Way) (u v : Cell) → nat_eq u.y v.y ≡ false → moves_to (row_dir way) u v ≡ 0
+off_row Forward u v h = rw h refl
+off_row Back u v h = rw h refl
+
+pub off_column : (way : Way) (u v : Cell) → nat_eq u.x v.x ≡ false → moves_to (column_dir way) u v ≡ 0
+off_column Forward u v h = rw h refl
+off_column Back u v h = rw h refl
 
 swap : (x a b : Bool) → (x || a || b) ≡ (x || b || a)
 swap x a b = grind arith

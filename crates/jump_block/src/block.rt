@@ -25,8 +25,9 @@ pub(crate) struct Block<'a> {
 /// Where a scan halts.
 #[derive(Clone, Copy)]
 pub(crate) struct Halt {
-    /// How many moves it makes before.
-    pub(crate) passed: u16,
+    /// How many moves it makes before, below 65536. It has a register of its own, and is left out where a
+    /// caller asks only whether the next cell is blocked.
+    pub(crate) passed: u64,
     /// Whether the next cell is blocked; else a side opens there.
     pub(crate) blocked: bool,
 }
@@ -60,14 +61,14 @@ fn nth_word(way: Way, i: u32) -> u32
 
 // How many moves are made before the one to a place.
 #[inline(always)]
-fn moves_short_of(way: Way, from: u32, place: u32) -> u16
+fn moves_short_of(way: Way, from: u32, place: u32) -> u64
     requires place { place < 65536 }
     requires from { from < 65536 }
     ensures { result ≡ spec.moves_short_of way from place }
 {
     match way {
-        Way::Forward => place.saturating_sub(from + 1) as u16,
-        Way::Back => from.saturating_sub(place + 1) as u16,
+        Way::Forward => u64::from(place.saturating_sub(from + 1)),
+        Way::Back => u64::from(from.saturating_sub(place + 1)),
     }
 }
 

@@ -1,6 +1,6 @@
 //! Diagonal jumps: cell by cell, with a scan in each component from each cell.
 
-ghost use Rattle.std.specs.Prelude.{◌≡◌, ℕ, ◌+◌, ◌<◌, ◌≤◌, ◌&&◌, ◌||◌, Bool, false, true, is_some};
+ghost use Rattle.std.specs.Prelude.{◌≡◌, ℕ, ◌+◌, ◌<◌, ◌≤◌, ◌&&◌, ◌||◌, Bool, false, true, is_some, nat_eq};
 ghost use Rattle.grid_moves.specs.Grid.{GridData, is_free};
 ghost use Rattle.grid_moves.specs.Move as moves;
 ghost use Rattle.grid_moves.specs.Move.{ahead, is_same};
@@ -71,6 +71,14 @@ fn both(one: bool, other: bool) -> bool
     ensures { result ≡ (one && other) }
 {
     one && other
+}
+
+// Whether a cell lies in another's row or column.
+#[inline(always)]
+fn is_in_line(one: Cell, other: Cell) -> bool
+    ensures { result ≡ (nat_eq one.x other.x || nat_eq one.y other.y) }
+{
+    one.x == other.x || one.y == other.y
 }
 
 /// A bit of a row, both counted from 0, the border's among them.
@@ -154,9 +162,9 @@ impl<'a> Bits<'a> {
     }
 
     // Whether a diagonal jump stops at a cell: it is the goal, or a neighbour is forced there, or a straight
-    // jump in a component finds a stop.
-    #[inline(always)]
-    fn stops_at<L: Ledger>(&self, at: Cell, d: Dir, goal: Cell, steps: &mut Steps<L>) -> bool
+    // jump in a component finds a stop. For the rare cells in the goal's row or column.
+    #[inline(never)]
+    fn stops_in_line<L: Ledger>(&self, at: Cell, d: Dir, goal: Cell, steps: &mut Steps<L>) -> bool
         requires stands { (g : GridData) × AreItsBits self.now.rows.now self.now.columns.now self.now.corner g
             × (is_free g at ≡ true) }
         requires diagonal { is_diagonal d ≡ true }
@@ -171,6 +179,30 @@ impl<'a> Bits<'a> {
             || self.forces(at, d, steps)
             || self.finds_on_row(at, row_way(d), goal, steps)
             || self.finds_on_column(at, column_way(d), goal, steps)
+    }
+
+    // Whether a diagonal jump stops at a cell. Only in the goal's row or column is the goal looked for; at all
+    // other cells a component is asked for its mark alone. The call out of line gets a copy of the bits, so
+    // that their own stay in registers here.
+    #[inline(always)]
+    fn stops_at<L: Ledger>(&self, at: Cell, d: Dir, goal: Cell, steps: &mut Steps<L>) -> bool
+        requires stands { (g : GridData) × AreItsBits self.now.rows.now self.now.columns.now self.now.corner g
+            × (is_free g at ≡ true) }
+        requires diagonal { is_diagonal d ≡ true }
+        ensures stops { (g : GridData)
+            → AreItsBits self.now.rows.now self.now.columns.now self.now.corner g → is_free g at ≡ true
+            → result ≡ (is_same at goal || is_forced g at d
+            || is_some (first.first_stop g goal at (spec.row_dir (spec.row_way d)))
+            || is_some (first.first_stop g goal at (spec.column_dir (spec.column_way d)))) }
+        ensures more { steps.old ≤ steps.new }
+    {
+        if is_in_line(at, goal) {
+            let bits = *self;
+            return bits.stops_in_line(at, d, goal, steps);
+        }
+        self.forces(at, d, steps)
+            || self.finds_mark_on_row(at, row_way(d), steps)
+            || self.finds_mark_on_column(at, column_way(d), steps)
     }
 
     /// After how many moves a diagonal jump stops.

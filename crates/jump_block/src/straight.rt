@@ -1,6 +1,6 @@
 //! Straight jumps: a scan along a row or a column, and the first stop that follows from where it halts.
 
-ghost use Rattle.std.specs.Prelude.{◌≡◌, ℕ, ◌+◌, ◌≤◌, Bool, false, true, IsTrue, is_some};
+ghost use Rattle.std.specs.Prelude.{◌≡◌, ℕ, ◌+◌, ◌≤◌, Bool, false, true, IsTrue, is_some, nat_eq};
 ghost use Rattle.grid_moves.specs.Grid.{GridData, is_free};
 ghost use Rattle.pruning.specs.Turns.{is_diagonal};
 ghost use Rattle.pruning.specs.First as first;
@@ -68,7 +68,7 @@ fn stop_of(rule: Corner, found: Option<Halt>, to_goal: u16) -> Option<u16>
         Corner::Never if !halt.blocked => 1,
         _ => 0,
     };
-    let moves = halt.passed + ahead;
+    let moves = (halt.passed + ahead) as u16;
     if 0 < to_goal && to_goal <= moves {
         Some(to_goal)
     } else if halt.blocked {
@@ -197,6 +197,46 @@ impl<'a> Bits<'a> {
         let to_goal = moves_to(column_dir(way), at, goal);
         let found = self.halt_on_column(at, way, to_goal, steps);
         stop_of(self.corner, found, to_goal).is_some()
+    }
+
+    /// Whether a straight jump along the row finds a stop, for a goal that is not on the row.
+    #[inline(always)]
+    pub(crate) fn finds_mark_on_row<L: Ledger>(
+        &self,
+        at: Cell,
+        way: Way,
+        steps: &mut Steps<L>,
+    ) -> bool
+        requires stands { (g : GridData) × AreItsBits self.now.rows.now self.now.columns.now self.now.corner g
+            × (is_free g at ≡ true) }
+        ensures finds { (g : GridData)
+            → AreItsBits self.now.rows.now self.now.columns.now self.now.corner g → is_free g at ≡ true
+            → (goal : Cell) → nat_eq at.y goal.y ≡ false
+            → result ≡ is_some (first.first_stop g goal at (spec.row_dir way)) }
+        ensures more { steps.old ≤ steps.new }
+    {
+        let found = self.halt_on_row(at, way, 0, steps);
+        stop_of(self.corner, found, 0).is_some()
+    }
+
+    /// Whether a straight jump along the column finds a stop, for a goal that is not on the column.
+    #[inline(always)]
+    pub(crate) fn finds_mark_on_column<L: Ledger>(
+        &self,
+        at: Cell,
+        way: Way,
+        steps: &mut Steps<L>,
+    ) -> bool
+        requires stands { (g : GridData) × AreItsBits self.now.rows.now self.now.columns.now self.now.corner g
+            × (is_free g at ≡ true) }
+        ensures finds { (g : GridData)
+            → AreItsBits self.now.rows.now self.now.columns.now self.now.corner g → is_free g at ≡ true
+            → (goal : Cell) → nat_eq at.x goal.x ≡ false
+            → result ≡ is_some (first.first_stop g goal at (spec.column_dir way)) }
+        ensures more { steps.old ≤ steps.new }
+    {
+        let found = self.halt_on_column(at, way, 0, steps);
+        stop_of(self.corner, found, 0).is_some()
     }
 
     /// After how many moves a straight jump stops.
