@@ -14,7 +14,7 @@
 //! after a diagonal move nothing is forced. Where one blocked cell may be passed (AAAI 2011) it stands at
 //! the side of `x`, and after a diagonal move behind it; `n` is forced.
 
-ghost use Rattle.std.specs.Prelude.{◌≡◌, ◌≤◌, ◌&&◌, IsTrue, false, List, filter, length};
+ghost use Rattle.std.specs.Prelude.{◌≡◌, ◌≤◌, ◌<◌, ◌&&◌, ◌++◌, ◌∷◌, [], IsTrue, false, List, filter, length, if◌then◌else◌};
 ghost use Rattle.grid_moves.specs.Grid.{IsGrid, is_free};
 ghost use Rattle.grid_moves.specs.Move as moves;
 ghost use Rattle.pruning.specs.Turns as turns;
@@ -161,6 +161,19 @@ fn is_allowed(rule: Corner, ring: Ring, by: Arrival, d: Dir) -> bool
     is_kept(rule, ring, by, d) & leads_on(rule, ring, d)
 }
 
+// Pushes a direction where it is wanted. It is pushed first and taken back where it is not, so that there is
+// no branch on that, which the processor would seldom foresee.
+#[inline(always)]
+fn push_if(found: &mut ArrayVec<Dir, 8>, d: Dir, wanted: bool)
+    requires room { length found.old.items < 8 }
+    ensures { found.new.items ≡ (if wanted then found.old.items ++ d ∷ [] else found.old.items) }
+{
+    found.push(d);
+    if !wanted {
+        found.pop();
+    }
+}
+
 // Those of these directions that are allowed, in order.
 #[inline(always)]
 fn allowed_of(rule: Corner, ring: Ring, by: Arrival, dirs: &[Dir]) -> ArrayVec<Dir, 8>
@@ -169,9 +182,7 @@ fn allowed_of(rule: Corner, ring: Ring, by: Arrival, dirs: &[Dir]) -> ArrayVec<D
 {
     let mut found = ArrayVec::new();
     for d in dirs {
-        if is_allowed(rule, ring, by, *d) {
-            found.push(*d);
-        }
+        push_if(&mut found, *d, is_allowed(rule, ring, by, *d));
     }
     found
 }
@@ -194,6 +205,17 @@ fn allowed_by(rule: Corner, ring: Ring, by: Arrival) -> ArrayVec<Dir, 8>
     }
 }
 
+// The same, with code of its own for each rule.
+#[inline(always)]
+fn allowed_on(rule: Corner, ring: Ring, by: Arrival) -> ArrayVec<Dir, 8>
+    ensures { result.items ≡ filter (rings.is_allowed_on rule ring by) moves.all_dirs }
+{
+    match rule {
+        Corner::Never => allowed_by(Corner::Never, ring, by),
+        Corner::One => allowed_by(Corner::One, ring, by),
+    }
+}
+
 // The allowed directions at a free cell, with each cell around it read once.
 #[inline(always)]
 fn allowed_around<T: Terrain>(t: &T, at: Cell, by: Arrival) -> ArrayVec<Dir, 8>
@@ -202,7 +224,7 @@ fn allowed_around<T: Terrain>(t: &T, at: Cell, by: Arrival) -> ArrayVec<Dir, 8>
     ensures rule { result.items ≡ spec.allowed_dirs (T.grid t.now) at by }
 {
     let ring = ring_of(t, at);
-    allowed_by(t.corner(), ring, by)
+    allowed_on(t.corner(), ring, by)
 }
 
 // The same, for the rare cells on the border of the map.
@@ -223,7 +245,7 @@ fn allowed_on_border<T: Terrain>(t: &T, at: Cell, by: Arrival) -> ArrayVec<Dir, 
 /// after a straight move the diagonal, and after a diagonal one the diagonal a quarter aside. Each where
 /// the move is legal.
 ///
-/// Where the cells around lie on the map, the compiler knows it of each of them.
+/// Where the cells around lie on the map, the compiler knows that each of them does.
 pub fn allowed<T: Terrain>(t: &T, at: Cell, by: Arrival) -> ArrayVec<Dir, 8>
     requires free { IsTrue (is_free (T.grid t.now) at) }
     requires whole { IsGrid (T.grid t.now) }

@@ -56,6 +56,27 @@ row_after SW k y = y + k
 row_after W k y = y
 row_after NW k y = y - k
 
+-- how many columns a move leads to the east, and one; how many rows to the south, and one
+abbrev pub columns_and_one : Dir → ℕ
+columns_and_one N = 1
+columns_and_one NE = 2
+columns_and_one E = 2
+columns_and_one SE = 2
+columns_and_one S = 1
+columns_and_one SW = 0
+columns_and_one W = 0
+columns_and_one NW = 0
+
+abbrev pub rows_and_one : Dir → ℕ
+rows_and_one N = 0
+rows_and_one NE = 0
+rows_and_one E = 1
+rows_and_one SE = 2
+rows_and_one S = 2
+rows_and_one SW = 2
+rows_and_one W = 1
+rows_and_one NW = 0
+
 -- the offer of the state that k moves in d lead to
 abbrev pub offer_after : Last → Dir → ℕ → Way
 offer_after last d k = record {

@@ -62,28 +62,49 @@ fn run_cost(d: Dir, k: u16) -> Cost
     }
 }
 
+// How many columns a move in d leads to the east, and one: a number that the compiler has in a table, so
+// that there is no branch on the direction, which the processor would seldom foresee.
+#[inline(always)]
+fn columns_and_one(d: Dir) -> u32
+    ensures { result ≡ spec.columns_and_one d }
+{
+    match d {
+        Dir::SW | Dir::W | Dir::NW => 0,
+        Dir::N | Dir::S => 1,
+        Dir::NE | Dir::E | Dir::SE => 2,
+    }
+}
+
+// How many rows a move in d leads to the south, and one.
+#[inline(always)]
+fn rows_and_one(d: Dir) -> u32
+    ensures { result ≡ spec.rows_and_one d }
+{
+    match d {
+        Dir::N | Dir::NE | Dir::NW => 0,
+        Dir::E | Dir::W => 1,
+        Dir::SE | Dir::S | Dir::SW => 2,
+    }
+}
+
 // The column after k moves.
+#[inline(always)]
 fn column_after(d: Dir, k: u16, x: u16) -> u16
     requires { x + k < 65536 }
     ensures { result ≡ spec.column_after d k x }
 {
-    match d {
-        Dir::N | Dir::S => x,
-        Dir::NE | Dir::E | Dir::SE => x + k,
-        Dir::SW | Dir::W | Dir::NW => x.saturating_sub(k),
-    }
+    let k = u32::from(k);
+    (u32::from(x) + k * columns_and_one(d)).saturating_sub(k) as u16
 }
 
 // The row after k moves.
+#[inline(always)]
 fn row_after(d: Dir, k: u16, y: u16) -> u16
     requires { y + k < 65536 }
     ensures { result ≡ spec.row_after d k y }
 {
-    match d {
-        Dir::E | Dir::W => y,
-        Dir::SE | Dir::S | Dir::SW => y + k,
-        Dir::N | Dir::NE | Dir::NW => y.saturating_sub(k),
-    }
+    let k = u32::from(k);
+    (u32::from(y) + k * rows_and_one(d)).saturating_sub(k) as u16
 }
 
 // The offer of the state that k moves in d lead to.
