@@ -337,7 +337,7 @@ fn judge_map(
     }
     let text = certificate(alloc, &grid, from, to)?;
     let as_written = judged(alloc, &grid, map, text.as_slice())?;
-    if as_written == Verdict::Refused {
+    if as_written != Verdict::TrueLeast && as_written != Verdict::TrueNone {
         counts.add(Verdict::False);
     }
     judge_changes(alloc, &grid, map, text.as_slice(), counts)
