@@ -14,7 +14,7 @@ ghost use Rattle.search_core.specs.Jumping as spec;
 ghost use Rattle.search_core.specs.Serving.{OnSome, OnEach};
 
 use best_first::{Offer, Space, State};
-use grid_moves::{Cell, Dir, estimate};
+use grid_moves::{Cell, Dir, dir_number, estimate};
 use pruning::{Arrival, JumpSource, is_diagonal};
 use root2_cost::Cost;
 use std::sync::ledger::Ledger;
@@ -62,17 +62,17 @@ fn run_cost(d: Dir, k: u16) -> Cost
     }
 }
 
-// How many columns a move in d leads to the east, and one: a number that the compiler has in a table, so
-// that there is no branch on the direction, which the processor would seldom foresee.
+// How many columns a move in each direction leads to the east, and one; how many rows to the south, and
+// one. Tables, as there is then no branch on the direction, which the processor would seldom foresee.
+const COLUMNS_AND_ONE: [u32; 8] = [1, 2, 2, 2, 1, 0, 0, 0];
+const ROWS_AND_ONE: [u32; 8] = [0, 0, 1, 2, 2, 2, 1, 0];
+
+// How many columns a move in d leads to the east, and one.
 #[inline(always)]
 fn columns_and_one(d: Dir) -> u32
     ensures { result ≡ spec.columns_and_one d }
 {
-    match d {
-        Dir::SW | Dir::W | Dir::NW => 0,
-        Dir::N | Dir::S => 1,
-        Dir::NE | Dir::E | Dir::SE => 2,
-    }
+    COLUMNS_AND_ONE[dir_number(d) as usize]
 }
 
 // How many rows a move in d leads to the south, and one.
@@ -80,11 +80,7 @@ fn columns_and_one(d: Dir) -> u32
 fn rows_and_one(d: Dir) -> u32
     ensures { result ≡ spec.rows_and_one d }
 {
-    match d {
-        Dir::N | Dir::NE | Dir::NW => 0,
-        Dir::E | Dir::W => 1,
-        Dir::SE | Dir::S | Dir::SW => 2,
-    }
+    ROWS_AND_ONE[dir_number(d) as usize]
 }
 
 // The column after k moves.
