@@ -1,6 +1,7 @@
 pub mod Places
 pub mod Table
 pub mod Moves
+pub mod Packing
 pub mod Ringing
 pub mod Bridging
 pub mod Kept

@@ -2,6 +2,7 @@ pub mod Turns
 pub mod Allowed
 pub mod Ring
 pub mod Marked
+pub mod Packed
 pub mod Canonical
 pub mod Stop
 pub mod First

@@ -8,6 +8,7 @@
 
 pub mod laws;
 mod ring;
+mod packed;
 mod rule;
 mod source;
 mod turns;

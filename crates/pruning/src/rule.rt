@@ -14,20 +14,22 @@
 //! after a diagonal move nothing is forced. Where one blocked cell may be passed (AAAI 2011) it stands at
 //! the side of `x`, and after a diagonal move behind it; `n` is forced.
 
-ghost use Rattle.std.specs.Prelude.{◌≡◌, ◌≤◌, ◌<◌, ◌&&◌, ◌++◌, ◌∷◌, [], IsTrue, false, List, filter, length, if◌then◌else◌};
+ghost use Rattle.std.specs.Prelude.{◌≡◌, ℕ, ◌+◌, ◌*◌, ◌≤◌, ◌<◌, ◌^◌, ◌&&◌, ◌∷◌, IsTrue, false, List, filter};
 ghost use Rattle.grid_moves.specs.Grid.{IsGrid, is_free};
 ghost use Rattle.grid_moves.specs.Move as moves;
 ghost use Rattle.pruning.specs.Turns as turns;
 ghost use Rattle.pruning.specs.Allowed as spec;
+ghost use Rattle.pruning.specs.Packed.{word_of};
 ghost use Rattle.pruning.specs.Ring as rings;
 ghost use Rattle.pruning.specs.Marked as marks;
 ghost use Rattle.pruning.specs.First as first;
 
 use crate::Arrival;
+use crate::packed::{put_first, unpacked};
 use crate::ring::{Ring, is_inside, ring_of};
 use crate::turns::{Side, is_diagonal, quarter, rear, turn};
 use arrayvec::ArrayVec;
-use grid_moves::{ALL_DIRS, Cell, Corner, Dir, Terrain, dir_number, is_open, is_passable};
+use grid_moves::{Cell, Corner, Dir, Terrain, dir_number, is_open, is_passable};
 
 // Whether the directions are one.
 #[inline(always)]
@@ -161,59 +163,72 @@ fn is_allowed(rule: Corner, ring: Ring, by: Arrival, d: Dir) -> bool
     is_kept(rule, ring, by, d) & leads_on(rule, ring, d)
 }
 
-// Pushes a direction where it is wanted. It is pushed first and taken back where it is not, so that there is
-// no branch on that, which the processor would seldom foresee.
+// Puts a direction before others, if it is allowed. It is known by numbers alone, with no branch, which the
+// processor would seldom foresee.
 #[inline(always)]
-fn push_if(found: &mut ArrayVec<Dir, 8>, d: Dir, wanted: bool)
-    requires room { length found.old.items < 8 }
-    ensures { found.new.items ≡ (if wanted then found.old.items ++ d ∷ [] else found.old.items) }
+fn put_allowed(rule: Corner, ring: Ring, by: Arrival, d: Dir, others: u32) -> u32
+    requires room { others < 2 ^ 28 }
+    ensures word { (ds : List Dir) → others ≡ word_of (filter (rings.is_allowed_on rule ring by) ds)
+        → result ≡ word_of (filter (rings.is_allowed_on rule ring by) (d ∷ ds)) }
+    ensures small { result ≤ 16 * others + 8 }
 {
-    found.push(d);
-    if !wanted {
-        found.pop();
+    if is_allowed(rule, ring, by, d) {
+        put_first(d, others)
+    } else {
+        others
     }
 }
 
-// Those of these directions that are allowed, in order.
+// The word of all directions that are allowed.
 #[inline(always)]
-fn allowed_of(rule: Corner, ring: Ring, by: Arrival, dirs: &[Dir]) -> ArrayVec<Dir, 8>
-    requires few { length dirs.now ≤ 8 }
-    ensures { result.items ≡ filter (rings.is_allowed_on rule ring by) dirs.now }
+fn allowed_of(rule: Corner, ring: Ring, by: Arrival) -> u32
+    ensures { result ≡ word_of (filter (rings.is_allowed_on rule ring by) moves.all_dirs) }
 {
-    let mut found = ArrayVec::new();
-    for d in dirs {
-        push_if(&mut found, *d, is_allowed(rule, ring, by, *d));
-    }
-    found
+    let nw = put_allowed(rule, ring, by, Dir::NW, 0);
+    let w = put_allowed(rule, ring, by, Dir::W, nw);
+    let sw = put_allowed(rule, ring, by, Dir::SW, w);
+    let s = put_allowed(rule, ring, by, Dir::S, sw);
+    let se = put_allowed(rule, ring, by, Dir::SE, s);
+    let e = put_allowed(rule, ring, by, Dir::E, se);
+    let ne = put_allowed(rule, ring, by, Dir::NE, e);
+    put_allowed(rule, ring, by, Dir::N, ne)
 }
 
-// All directions that are allowed, with code of its own for each arrival.
+// The same, with code of its own for each arrival.
 #[inline(always)]
-fn allowed_by(rule: Corner, ring: Ring, by: Arrival) -> ArrayVec<Dir, 8>
-    ensures { result.items ≡ filter (rings.is_allowed_on rule ring by) moves.all_dirs }
+fn allowed_by(rule: Corner, ring: Ring, by: Arrival) -> u32
+    ensures { result ≡ word_of (filter (rings.is_allowed_on rule ring by) moves.all_dirs) }
 {
     match by {
-        Arrival::Start => allowed_of(rule, ring, by, &ALL_DIRS),
-        Arrival::By(Dir::N) => allowed_of(rule, ring, Arrival::By(Dir::N), &ALL_DIRS),
-        Arrival::By(Dir::NE) => allowed_of(rule, ring, Arrival::By(Dir::NE), &ALL_DIRS),
-        Arrival::By(Dir::E) => allowed_of(rule, ring, Arrival::By(Dir::E), &ALL_DIRS),
-        Arrival::By(Dir::SE) => allowed_of(rule, ring, Arrival::By(Dir::SE), &ALL_DIRS),
-        Arrival::By(Dir::S) => allowed_of(rule, ring, Arrival::By(Dir::S), &ALL_DIRS),
-        Arrival::By(Dir::SW) => allowed_of(rule, ring, Arrival::By(Dir::SW), &ALL_DIRS),
-        Arrival::By(Dir::W) => allowed_of(rule, ring, Arrival::By(Dir::W), &ALL_DIRS),
-        Arrival::By(Dir::NW) => allowed_of(rule, ring, Arrival::By(Dir::NW), &ALL_DIRS),
+        Arrival::Start => allowed_of(rule, ring, Arrival::Start),
+        Arrival::By(Dir::N) => allowed_of(rule, ring, Arrival::By(Dir::N)),
+        Arrival::By(Dir::NE) => allowed_of(rule, ring, Arrival::By(Dir::NE)),
+        Arrival::By(Dir::E) => allowed_of(rule, ring, Arrival::By(Dir::E)),
+        Arrival::By(Dir::SE) => allowed_of(rule, ring, Arrival::By(Dir::SE)),
+        Arrival::By(Dir::S) => allowed_of(rule, ring, Arrival::By(Dir::S)),
+        Arrival::By(Dir::SW) => allowed_of(rule, ring, Arrival::By(Dir::SW)),
+        Arrival::By(Dir::W) => allowed_of(rule, ring, Arrival::By(Dir::W)),
+        Arrival::By(Dir::NW) => allowed_of(rule, ring, Arrival::By(Dir::NW)),
     }
 }
 
 // The same, with code of its own for each rule.
 #[inline(always)]
-fn allowed_on(rule: Corner, ring: Ring, by: Arrival) -> ArrayVec<Dir, 8>
-    ensures { result.items ≡ filter (rings.is_allowed_on rule ring by) moves.all_dirs }
+fn allowed_under(rule: Corner, ring: Ring, by: Arrival) -> u32
+    ensures { result ≡ word_of (filter (rings.is_allowed_on rule ring by) moves.all_dirs) }
 {
     match rule {
         Corner::Never => allowed_by(Corner::Never, ring, by),
         Corner::One => allowed_by(Corner::One, ring, by),
     }
+}
+
+// All directions that are allowed.
+#[inline(always)]
+fn allowed_on(rule: Corner, ring: Ring, by: Arrival) -> ArrayVec<Dir, 8>
+    ensures { result.items ≡ filter (rings.is_allowed_on rule ring by) moves.all_dirs }
+{
+    unpacked(allowed_under(rule, ring, by))
 }
 
 // The allowed directions at a free cell, with each cell around it read once.

@@ -1,0 +1,55 @@
+-- Words of directions taken apart.
+use Rattle.std.proofs.Common.{◌≡◌, ℕ, ◌/◌, ◌<◌, ◌≤◌, ◌++◌, List, [], ◌∷◌, length, arith, sym, ap, ◌∙◌, length-append, append-nil, Bool}
+use Rattle.std.specs.Prelude.{filter}
+use Rattle.std.proofs.lemmas.List.{append_assoc}
+use Rattle.std.proofs.lemmas.List.Sums.{length-filter, count_by-le-length}
+use Rattle.grid_moves.specs.declared.Dir.{Dir}
+use Rattle.grid_moves.specs.declared.Dir.TheVariants.{N, NE, E, SE, S, SW, W, NW}
+use Rattle.pruning.specs.Packed.{word_of}
+
+-- without its first direction, the word of the others is left
+pub rest_is : (w : ℕ) (d : Dir) (rest : List Dir) → w ≡ word_of (d ∷ rest) → w / 16 ≡ word_of rest
+rest_is w N rest h = omega (arith, h)
+rest_is w NE rest h = omega (arith, h)
+rest_is w E rest h = omega (arith, h)
+rest_is w SE rest h = omega (arith, h)
+rest_is w S rest h = omega (arith, h)
+rest_is w SW rest h = omega (arith, h)
+rest_is w W rest h = omega (arith, h)
+rest_is w NW rest h = omega (arith, h)
+
+module _ (left : ℕ) (some : 0 < left) where
+  -- a word that is not 0 has a first direction
+  pub has_first : (rest : List Dir) → left ≡ word_of rest
+      → (d : Dir) × (ds : List Dir) × (left ≡ word_of (d ∷ ds))
+  has_first [] h = absurd (omega (arith, h, some))
+  has_first (d ∷ ds) h = (d, ds, h)
+
+  -- with the first one found, the others are left
+  pub goes_on : (all found new : List Dir) (next : Dir)
+      → ((d : Dir) (ds : List Dir) → left ≡ word_of (d ∷ ds) → next ≡ d) → new ≡ found ++ next ∷ []
+      → (rest : List Dir) → left ≡ word_of rest → all ≡ found ++ rest
+      → (more : List Dir) × (left / 16 ≡ word_of more) × (all ≡ new ++ more)
+  goes_on all found new next is pushed [] h parts = absurd (omega (arith, h, some))
+  goes_on all found new next is pushed (d ∷ ds) h parts = (
+    ds,
+    rest_is left d ds h,
+    parts ∙ ap (λ (e : Dir). found ++ e ∷ ds) (sym (is d ds h))
+        ∙ sym (append_assoc found (next ∷ []) ds) ∙ ap (λ (xs : List Dir). xs ++ ds) (sym pushed),
+  )
+
+-- where the word is 0, all are found
+pub all_found : (all found rest : List Dir) → 0 ≡ word_of rest → all ≡ found ++ rest → found ≡ all
+all_found all found [] h parts = sym (parts ∙ append-nil found)
+all_found all found (d ∷ ds) h parts = absurd (omega (arith, h))
+
+-- so many are found before the last
+pub has_room : (all found rest : List Dir) (left : ℕ) → 0 < left → left ≡ word_of rest → all ≡ found ++ rest
+    → length all ≤ 8 → length found < 8
+has_room all found [] left some h parts few = absurd (omega (arith, h, some))
+has_room all found (d ∷ ds) left some h parts few =
+    let n = ap (λ (xs : List Dir). length xs) parts ∙ length-append found (d ∷ ds) in omega (arith, n, few)
+
+-- a test keeps no more than there are
+pub few_kept : (p : Dir → Bool) (ds : List Dir) → length (filter p ds) ≤ length ds
+few_kept p ds = let n = length-filter p ds in let m = count_by-le-length p ds in omega (arith, n, m)
