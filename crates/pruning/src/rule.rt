@@ -19,6 +19,7 @@ ghost use Rattle.grid_moves.specs.Grid.{IsGrid, is_free};
 ghost use Rattle.grid_moves.specs.Move as moves;
 ghost use Rattle.pruning.specs.Turns as turns;
 ghost use Rattle.pruning.specs.Allowed as spec;
+ghost use Rattle.pruning.specs.Packed as packed;
 ghost use Rattle.pruning.specs.Packed.{word_of};
 ghost use Rattle.pruning.specs.Ring as rings;
 ghost use Rattle.pruning.specs.Marked as marks;
@@ -179,11 +180,42 @@ fn put_allowed(rule: Corner, ring: Ring, by: Arrival, d: Dir, others: u32) -> u3
     }
 }
 
-// The word of all directions that are allowed.
+// The rule of this number.
 #[inline(always)]
-fn allowed_of(rule: Corner, ring: Ring, by: Arrival) -> u32
-    ensures { result ≡ word_of (filter (rings.is_allowed_on rule ring by) moves.all_dirs) }
+fn corner_of(number: usize) -> Corner
+    ensures { result ≡ packed.corner_of number }
 {
+    match number {
+        0 => Corner::Never,
+        _ => Corner::One,
+    }
+}
+
+// The arrival of this number.
+#[inline(always)]
+fn arrival_of(number: usize) -> Arrival
+    ensures { result ≡ packed.arrival_of number }
+{
+    match number {
+        0 => Arrival::By(Dir::N),
+        1 => Arrival::By(Dir::NE),
+        2 => Arrival::By(Dir::E),
+        3 => Arrival::By(Dir::SE),
+        4 => Arrival::By(Dir::S),
+        5 => Arrival::By(Dir::SW),
+        6 => Arrival::By(Dir::W),
+        7 => Arrival::By(Dir::NW),
+        _ => Arrival::Start,
+    }
+}
+
+// The word of all directions that are allowed, for a rule and an arrival that the compiler knows.
+fn allowed_of<const RULE: usize, const BY: usize>(ring: Ring) -> u32
+    ensures { result ≡ word_of (filter
+        (rings.is_allowed_on (packed.corner_of RULE) ring (packed.arrival_of BY)) moves.all_dirs) }
+{
+    let rule = corner_of(RULE);
+    let by = arrival_of(BY);
     let nw = put_allowed(rule, ring, by, Dir::NW, 0);
     let w = put_allowed(rule, ring, by, Dir::W, nw);
     let sw = put_allowed(rule, ring, by, Dir::SW, w);
@@ -196,19 +228,19 @@ fn allowed_of(rule: Corner, ring: Ring, by: Arrival) -> u32
 
 // The same, with code of its own for each arrival.
 #[inline(always)]
-fn allowed_by(rule: Corner, ring: Ring, by: Arrival) -> u32
-    ensures { result ≡ word_of (filter (rings.is_allowed_on rule ring by) moves.all_dirs) }
+fn allowed_by<const RULE: usize>(ring: Ring, by: Arrival) -> u32
+    ensures { result ≡ word_of (filter (rings.is_allowed_on (packed.corner_of RULE) ring by) moves.all_dirs) }
 {
     match by {
-        Arrival::Start => allowed_of(rule, ring, Arrival::Start),
-        Arrival::By(Dir::N) => allowed_of(rule, ring, Arrival::By(Dir::N)),
-        Arrival::By(Dir::NE) => allowed_of(rule, ring, Arrival::By(Dir::NE)),
-        Arrival::By(Dir::E) => allowed_of(rule, ring, Arrival::By(Dir::E)),
-        Arrival::By(Dir::SE) => allowed_of(rule, ring, Arrival::By(Dir::SE)),
-        Arrival::By(Dir::S) => allowed_of(rule, ring, Arrival::By(Dir::S)),
-        Arrival::By(Dir::SW) => allowed_of(rule, ring, Arrival::By(Dir::SW)),
-        Arrival::By(Dir::W) => allowed_of(rule, ring, Arrival::By(Dir::W)),
-        Arrival::By(Dir::NW) => allowed_of(rule, ring, Arrival::By(Dir::NW)),
+        Arrival::Start => allowed_of::<RULE, 8>(ring),
+        Arrival::By(Dir::N) => allowed_of::<RULE, 0>(ring),
+        Arrival::By(Dir::NE) => allowed_of::<RULE, 1>(ring),
+        Arrival::By(Dir::E) => allowed_of::<RULE, 2>(ring),
+        Arrival::By(Dir::SE) => allowed_of::<RULE, 3>(ring),
+        Arrival::By(Dir::S) => allowed_of::<RULE, 4>(ring),
+        Arrival::By(Dir::SW) => allowed_of::<RULE, 5>(ring),
+        Arrival::By(Dir::W) => allowed_of::<RULE, 6>(ring),
+        Arrival::By(Dir::NW) => allowed_of::<RULE, 7>(ring),
     }
 }
 
@@ -218,8 +250,8 @@ fn allowed_under(rule: Corner, ring: Ring, by: Arrival) -> u32
     ensures { result ≡ word_of (filter (rings.is_allowed_on rule ring by) moves.all_dirs) }
 {
     match rule {
-        Corner::Never => allowed_by(Corner::Never, ring, by),
-        Corner::One => allowed_by(Corner::One, ring, by),
+        Corner::Never => allowed_by::<0>(ring, by),
+        Corner::One => allowed_by::<1>(ring, by),
     }
 }
 
