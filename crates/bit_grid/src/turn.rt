@@ -3,7 +3,7 @@
 //! The words of eight columns are made at a time: what all rows have in one byte is gathered first, so that
 //! the bits of a column lie side by side.
 
-ghost use Rattle.std.specs.Prelude.{◌≡◌, ℕ, ◌+◌, ◌*◌, ◌/◌, ◌%◌, ◌<◌, ◌≤◌, Bool, false, IfOk, length, nat_lt, slice_index_or, if◌then◌else◌};
+ghost use Rattle.std.specs.Prelude.{◌≡◌, ℕ, ◌+◌, ◌*◌, ◌/◌, ◌%◌, ◌<◌, ◌≤◌, Bool, IfOk, length, slice_index_or};
 ghost use Rattle.bit_grid.specs.Bits.{is_set};
 ghost use Rattle.bit_grid.specs.Turn.{IsStrip, IsWhole, ArePackedSoFar};
 
@@ -11,32 +11,31 @@ use crate::NoMemory;
 use crate::pack::{push_line, zeros};
 use std::alloc::Global;
 
-// A byte of a row, or 0 where there is no such row.
+// A byte of a row.
 #[inline(always)]
-fn byte_or_none(words: &[u64], lines: usize, per_line: usize, byte: usize, line: usize) -> u8
+fn byte_of(words: &[u64], lines: usize, per_line: usize, byte: usize, line: usize) -> u8
     requires whole { length words.now ≡ lines * per_line }
     requires byte { byte < per_line * 8 }
+    requires line { line < lines }
     ensures { (k : ℕ) → k < 8 → is_set result k
-        ≡ (if nat_lt line lines
-        then is_set (slice_index_or words.now (line * per_line + byte / 8) 0) (byte % 8 * 8 + k)
-        else false) }
+        ≡ is_set (slice_index_or words.now (line * per_line + byte / 8) 0) (byte % 8 * 8 + k) }
 {
-    if line < lines {
-        (words[line * per_line + byte / 8] >> (byte % 8 * 8) & 255) as u8
-    } else {
-        0
-    }
+    (words[line * per_line + byte / 8] >> (byte % 8 * 8) & 255) as u8
 }
 
-// Gathers one byte of each row.
+// Gathers one byte of each row, and 0 where there is no such row.
 fn gather(strip: &mut [u8], words: &[u64], lines: usize, per_line: usize, byte: usize)
     requires whole { length words.now ≡ lines * per_line }
     requires byte { byte < per_line * 8 }
+    requires room { lines ≤ length strip.old }
     ensures long { length strip.new ≡ length strip.old }
     ensures gathered { IsStrip strip.new words.now lines per_line byte }
 {
-    for line in 0..strip.len() {
-        strip[line] = byte_or_none(words, lines, per_line, byte, line);
+    for line in 0..lines {
+        strip[line] = byte_of(words, lines, per_line, byte, line);
+    }
+    for line in lines..strip.len() {
+        strip[line] = 0;
     }
 }
 
@@ -45,6 +44,7 @@ fn gather(strip: &mut [u8], words: &[u64], lines: usize, per_line: usize, byte: 
 fn gather_for(strip: &mut [u8], words: &[u64], lines: usize, per_line: usize, column: usize)
     requires whole { length words.now ≡ lines * per_line }
     requires column { column < per_line * 64 }
+    requires room { lines ≤ length strip.old }
     requires at_hand { 0 < column % 8 → IsStrip strip.old words.now lines per_line (column / 8) }
     ensures long { length strip.new ≡ length strip.old }
     ensures gathered { IsStrip strip.new words.now lines per_line (column / 8) }
