@@ -3,8 +3,16 @@ use Rattle.std.proofs.Common.{◌≡◌, ℕ, ◌+◌, ◌*◌, ◌/◌, ◌%◌
 use Rattle.std.specs.Prelude.{if◌then◌else◌}
 use Rattle.std.proofs.lemmas.Bool.Decides.{nat_tests}
 use Rattle.bit_grid.specs.Bits.{LineData, Shows, is_set}
-use Rattle.bit_grid.specs.Turn.{IsStrip, IsWhole, ArePackedSoFar}
+use Rattle.bit_grid.specs.Turn.{AreWordsTo, AreBytesTo, IsStrip, IsWhole, ArePackedSoFar}
 use Rattle.bit_grid.proofs.Packing.{packed_lines}
+use Rattle.bit_grid.proofs.Words.{set_none}
+
+-- bytes of the words of rows are a strip
+pub strip_of : (strip down words : List ℕ) (lines per_line byte : ℕ) → length strip ≡ length down
+    → AreWordsTo (length down) down words lines per_line (byte / 8)
+    → AreBytesTo (length strip) strip down (byte % 8) → IsStrip strip words lines per_line byte
+strip_of strip down words lines per_line byte alike gathered taken l h k i =
+    taken l h k i ∙ ap (λ (n : ℕ). is_set n (byte % 8 * 8 + k)) (gathered l (rw (← alike) h))
 
 -- a bit of a strip is one of a row
 pub strip_bit : (strip words : List ℕ) (lines per_line byte : ℕ) (free : ℕ → ℕ → Bool)
@@ -15,7 +23,7 @@ strip_bit strip words lines per_line byte free gathered whole h l place column k
     gathered l k place i ∙ by_test (nat_lt l lines) refl
   where
     by_test : (b : Bool) → nat_lt l lines ≡ b
-        → (if b then is_set (slice_index_or words (l * per_line + byte / 8) 0) (byte % 8 * 8 + place) else false)
+        → is_set (if b then slice_index_or words (l * per_line + byte / 8) 0 else 0) (byte % 8 * 8 + place)
         ≡ free l column
     by_test true t =
         let below : l < lines = grind (arith, nat_tests) in
@@ -24,7 +32,7 @@ strip_bit strip words lines per_line byte free gathered whole h l place column k
         ∙ ap (λ (p : ℕ). free l p) at
     by_test false t =
         let past : lines ≤ l = grind (arith, nat_tests) in
-        sym (whole.beyond l column past)
+        set_none (byte % 8 * 8 + place) ∙ sym (whole.beyond l column past)
 
 -- the lines that show a map are whole, if all beyond it is blocked
 pub whole_of : (l : LineData) (cells columns : ℕ) (free : ℕ → ℕ → Bool) → Shows l cells columns free

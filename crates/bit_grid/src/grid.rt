@@ -5,7 +5,7 @@ ghost use Rattle.grid_moves.specs.Grid.{GridData, grid_with, is_inside};
 
 use crate::NoMemory;
 use crate::lines::{Columns, Lines, Rows};
-use grid_moves::{Cell, Terrain};
+use grid_moves::{Cell, Grid, Terrain};
 use std::alloc::Global;
 use std::marker::Model;
 
@@ -31,11 +31,11 @@ impl BitGrid {
     ghost use Rattle.bit_grid.specs.Bits.{AreBitsOf, AreColumnsOf, AreRowsOf};
 
     /// The bits of a grid: 9 blocks for each of 4098 rows and as many columns at most, 4.7 MB.
-    pub fn of_grid<T: Terrain>(alloc: Global, t: &T) -> Result<BitGrid, NoMemory>
-        ensures { IfOk result (λ bits. AreBitsOf bits (T.grid t.now)) }
+    pub fn of_grid(alloc: Global, grid: &Grid) -> Result<BitGrid, NoMemory>
+        ensures { IfOk result (λ bits. AreBitsOf bits grid.now) }
     {
-        let rows = Lines::rows_of(alloc, t)?;
-        let columns = rows.turned(alloc, t.width(), t.height())?;
+        let rows = Lines::rows_of(alloc, grid)?;
+        let columns = rows.turned(alloc, grid.width(), grid.height())?;
         Ok(BitGrid { rows, columns })
     }
 

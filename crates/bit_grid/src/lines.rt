@@ -7,7 +7,7 @@ ghost use Rattle.bit_grid.specs.Bits.{Shows, is_set, with_cell};
 use crate::NoMemory;
 use crate::pack::words_on;
 use crate::turn::turned;
-use grid_moves::Terrain;
+use grid_moves::{Grid, Terrain};
 use std::alloc::Global;
 use std::marker::Model;
 use std::sync::ledger::Ledger;
@@ -66,14 +66,13 @@ fn blocks_for(bits: u32) -> u32
 
 impl Lines {
     // The rows of a grid.
-    pub(crate) fn rows_of<T: Terrain>(alloc: Global, t: &T) -> Result<Lines, NoMemory>
-        ensures { IfOk result (λ l.
-            Shows l (T.grid t.now).height (T.grid t.now).width (is_free_in (T.grid t.now))) }
+    pub(crate) fn rows_of(alloc: Global, grid: &Grid) -> Result<Lines, NoMemory>
+        ensures { IfOk result (λ l. Shows l grid.now.height grid.now.width (is_free_in grid.now)) }
     {
-        let blocks = blocks_for(u32::from(t.width()) + 2);
-        let words = words_on(alloc, t, blocks as usize * 8)?;
+        let blocks = blocks_for(u32::from(grid.width()) + 2);
+        let words = words_on(alloc, grid, blocks as usize * 8)?;
         Ok(Lines {
-            lines: u32::from(t.height()) + 2,
+            lines: u32::from(grid.height()) + 2,
             blocks,
             words,
         })

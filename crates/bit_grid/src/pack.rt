@@ -2,13 +2,12 @@
 
 ghost use Rattle.std.specs.Prelude.{◌≡◌, ℕ, suc, ◌+◌, ◌*◌, ◌<◌, ◌≤◌, Bool, IfOk, OnOk, length, slice_index_or, nat_eq};
 ghost use Rattle.std.specs.Int.Bits.{bit_and};
-ghost use Rattle.grid_moves.specs.Grid.{IsGrid};
 ghost use Rattle.bit_grid.specs.Bits.{is_set};
 ghost use Rattle.bit_grid.specs.Pack.{is_free_in, AreFlags, IsBordered, ArePacked};
 ghost use Rattle.bit_grid.specs.Turn.{ArePackedSoFar};
 
 use crate::NoMemory;
-use grid_moves::{Cell, Terrain};
+use grid_moves::{Grid, Terrain};
 use std::alloc::Global;
 use std::simd::prelude::*;
 
@@ -62,42 +61,35 @@ pub(crate) fn push_line(
 }
 
 // Writes the flags of a row's cells, between those of the border.
-fn read_row<T: Terrain>(t: &T, y: u16, flags: &mut [u8])
-    requires whole { IsGrid (T.grid t.now) }
-    requires room { (T.grid t.now).width + 2 ≤ length flags.old }
-    requires border { IsBordered (T.grid t.now) flags.old }
+fn read_row(grid: &Grid, y: u16, flags: &mut [u8])
+    requires inside { y < grid.now.height }
+    requires room { grid.now.width + 2 ≤ length flags.old }
+    requires border { IsBordered grid.now flags.old }
     ensures long { length flags.new ≡ length flags.old }
-    ensures border { IsBordered (T.grid t.now) flags.new }
-    ensures flags { AreFlags (T.grid t.now) (suc y) flags.new }
+    ensures border { IsBordered grid.now flags.new }
+    ensures flags { AreFlags grid.now (suc y) flags.new }
 {
-    let mut x = 0;
-    'cells: while x < t.width() {
-        flags[x as usize + 1] = u8::from(t.free(Cell { x, y }));
-        x += 1;
+    let row = grid.row(y);
+    for x in 0..row.len() {
+        flags[x + 1] = u8::from(row[x]);
     }
 }
 
 /// The words of a grid's rows and of the border's two, so many words each.
-pub(crate) fn words_on<T: Terrain>(
-    alloc: Global,
-    t: &T,
-    per_line: usize,
-) -> Result<Vec<u64>, NoMemory>
-    requires whole { IsGrid (T.grid t.now) }
-    requires ample { (T.grid t.now).width + 2 ≤ per_line * 64 }
+pub(crate) fn words_on(alloc: Global, grid: &Grid, per_line: usize) -> Result<Vec<u64>, NoMemory>
+    requires ample { grid.now.width + 2 ≤ per_line * 64 }
     requires few { per_line ≤ 1024 }
-    ensures shown { IfOk result (λ words.
-        ArePacked (T.grid t.now) ((T.grid t.now).height + 2) per_line words.items) }
-    ensures as_many { IfOk result (λ words. length words.items ≡ ((T.grid t.now).height + 2) * per_line) }
+    ensures shown { IfOk result (λ words. ArePacked grid.now (grid.now.height + 2) per_line words.items) }
+    ensures as_many { IfOk result (λ words. length words.items ≡ (grid.now.height + 2) * per_line) }
 {
-    let height = t.height();
+    let height = grid.height();
     let mut words = Vec::with_capacity(alloc, (height as usize + 2) * per_line)?;
     let border = zeros(alloc, per_line * 64)?;
     let mut flags = zeros(alloc, per_line * 64)?;
     let flags = flags.as_mut_slice();
     push_line(&mut words, flags, 0, per_line)?;
     for y in 0..height {
-        read_row(t, y, flags);
+        read_row(grid, y, flags);
         push_line(&mut words, flags, 0, per_line)?;
     }
     push_line(&mut words, &border, 0, per_line)?;

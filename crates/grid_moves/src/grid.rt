@@ -1,6 +1,6 @@
 //! A grid in memory.
 
-ghost use Rattle.std.specs.Prelude.{◌≡◌, ◌≢◌, ◌*◌, ◌≤◌, IfOk, IsTrue, false, map, length};
+ghost use Rattle.std.specs.Prelude.{◌≡◌, ◌≢◌, ℕ, ◌*◌, ◌<◌, ◌≤◌, IfOk, IsTrue, false, map, length, slice_index_or};
 ghost use Rattle.grid_moves.specs.Grid as spec;
 
 use crate::{Cell, Corner, Ground, NoMemory, Terrain};
@@ -103,6 +103,17 @@ impl Grid {
             corner,
             cells,
         })
+    }
+
+    /// The cells of a row, from the left: for each column `true` where the cell is free.
+    pub fn row(&self, y: u16) -> &[bool]
+        requires inside { y < self.now.height }
+        ensures wide { length result.now ≡ self.now.width }
+        ensures flags { (x : ℕ) → x < self.now.width
+            → slice_index_or result.now x false ≡ is_free self.now (record { x = x; y = y }) }
+    {
+        let start = y as usize * self.width as usize;
+        &self.cells[start..start + self.width as usize]
     }
 
     /// Makes a cell of the map free, or blocked; all other cells stay.

@@ -5,8 +5,8 @@ use Rattle.bit_grid.proofs.Packing.{flags_none, top_blocked, end_blocked, zeros_
 use Rattle.bit_grid.proofs.pack.words_on.Goals as goal
 
 pub loop-y-init : goal.loop-y-init
-loop-y-init g c =
-    let grid : GridData = g.T.Terrain.grid c.args.t.now in
+loop-y-init c =
+    let grid : GridData = c.args.grid.now in
     let same = c.as_mut_slice-flags.ensures.value in
     let room : length c.as_mut_slice-flags.result.now ≡ c.args.per_line * 64 = rw same c.in_ok-flags.ensures.as_many in
     let zeros : (p : ℕ) → p < c.args.per_line * 64 → slice_index_or c.as_mut_slice-flags.result.now p 0 ≡ 0 =
@@ -24,8 +24,8 @@ loop-y-init g c =
     }
 
 pub loop-y-preserved : goal.loop-y-preserved
-loop-y-preserved g c =
-    let grid : GridData = g.T.Terrain.grid c.args.t.now in
+loop-y-preserved c =
+    let grid : GridData = c.args.grid.now in
     let next : suc c.loop-y.y ≡ c.loop-y.y + 1 = omega arith in
     let room = c.read_row.ensures.long ∙ c.loop-y.invariant.room in
     let so_far = c.loop-y.invariant.long in
@@ -38,8 +38,8 @@ loop-y-preserved g c =
     }
 
 pub returns-clause-shown : goal.returns-clause-shown
-returns-clause-shown g c =
-    let grid : GridData = g.T.Terrain.grid c.args.t.now in
+returns-clause-shown c =
+    let grid : GridData = c.args.grid.now in
     let so_far : length c.loop-y.words.items ≡ (c.loop-y.y + 1) * c.args.per_line = c.loop-y.invariant.long in
     let more : length c.push_line-2.new.words.items ≡ length c.loop-y.words.items + c.args.per_line =
     c.in_ok-push_line-3.ensures.long in

@@ -1,14 +1,17 @@
-use Rattle.std.proofs.Common.{◌≡◌, ℕ, ◌+◌, ◌*◌, ◌/◌, ◌%◌, ◌<◌, length, nat_lt, slice_index_or, false}
-use Rattle.std.specs.Prelude.{if◌then◌else◌}
-use Rattle.bit_grid.specs.Bits.{is_set}
+use Rattle.std.proofs.Common.{◌≡◌, length}
+use Rattle.bit_grid.specs.Turn.{AreWordsTo}
 use Rattle.bit_grid.proofs.turn.gather.Given as goal
 
 -- the rows behind are gathered
 abbrev pub invariant-loop-line : goal.invariant-loop-line
 invariant-loop-line l = record {
-  long : length l.strip ≡ length l.fn.strip;
-  behind : (m : ℕ) → m < l.line → (k : ℕ) → k < 8 → is_set (slice_index_or l.strip m 0) k
-      ≡ (if nat_lt m l.lines
-      then is_set (slice_index_or l.words (m * l.per_line + l.byte / 8) 0) (l.byte % 8 * 8 + k)
-      else false);
+  long : length l.down ≡ length l.fn.down;
+  behind : AreWordsTo l.line l.down l.words l.lines l.per_line l.word;
+}
+
+-- all rows are, and what lies behind past them is 0
+abbrev pub invariant-loop-line-2 : goal.invariant-loop-line-2
+invariant-loop-line-2 l = record {
+  long : length l.down ≡ length l.fn.down;
+  behind : AreWordsTo l.line l.down l.words l.lines l.per_line l.word;
 }

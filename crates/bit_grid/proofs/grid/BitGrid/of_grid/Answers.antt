@@ -5,8 +5,8 @@ use Rattle.bit_grid.proofs.Packing.{beyond_rows}
 use Rattle.bit_grid.proofs.grid.BitGrid.of_grid.Goals as goal
 
 pub returns : goal.returns
-returns g c =
-    let grid : GridData = g.T.Terrain.grid c.args.t.now in
+returns c =
+    let grid : GridData = c.args.grid.now in
     let free : ℕ → ℕ → Bool = λ line place. is_free_from_one grid place line in
     let rows = subst (λ (n : ℕ). Shows c.in_ok-rows.rows n c.width.result free) (sym c.height.ensures.is)
     (subst (λ (n : ℕ). Shows c.in_ok-rows.rows grid.height n free) (sym c.width.ensures.is)
