@@ -86,7 +86,7 @@ fn scan_on<L: Ledger>(
     'blocks: while !is_met(to_goal, moves_through(way, place, index * 512)) {
         index = next_block(way, index);
         let block = Block::read(lines, line, index, steps);
-        last = match block.seek(way, 0, last, place, index * 512) {
+        last = match block.seek_whole(way, last, place, index * 512) {
             Seek::Halted(halt) => return Some(halt),
             Seek::Passed(words) => words,
         };
