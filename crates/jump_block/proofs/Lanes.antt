@@ -1,15 +1,14 @@
 -- Eight words at once, lane by lane.
-use Rattle.std.proofs.Common.{◌≡◌, ℕ, zero, suc, ◌*◌, ◌-◌, ◌/◌, ◌%◌, ◌^◌, ◌<◌, arith, refl, ap, sym, ◌∙◌, subst, bit_and, bit_or, map, List, [], ◌∷◌, length, slice_index_or}
-use Rattle.std.specs.Prelude.{take, replicate}
+use Rattle.std.proofs.Common.{◌≡◌, ℕ, ◌+◌, ◌-◌, ◌%◌, ◌<◌, arith, Bool, true, refl, ap, sym, ◌∙◌, bit_or, bit_xor, map, List, [], ◌∷◌, length, slice_index_or}
+use Rattle.std.specs.Prelude.{nat_eq, take, replicate}
+use Rattle.std.specs.Int.{bit_at}
 use Rattle.std.specs.Simd.Lanes.{zip2, fold_l, Each1}
 use Rattle.std.proofs.lemmas.List.{get_or-map, length-map}
 use Rattle.std.proofs.lemmas.Nat.{le_or_l, le_or_r}
+use Rattle.std.proofs.lemmas.Nat.Bits.{bit_at-lt, bit_at-zero, bit_at_ones, bit_at_xor}
 use Rattle.std.proofs.lemmas.Simd.{get_or-zip2, length-zip2, get_or-replicate, length-replicate, get_or-chunk, length-chunk, Each1-get_or}
-use Rattle.jump_block.specs.declared.word.Way.{Way}
-use Rattle.jump_block.specs.declared.word.Way.TheVariants.{Forward, Back}
-use Rattle.jump_block.specs.Word.{IsOpened, nth_word}
-use Rattle.jump_block.specs.Eight.{HasNone, nth_of, nth_before}
-use Rattle.jump_block.proofs.Reading.{nth_small}
+use Rattle.bit_grid.specs.Bits.{is_set}
+use Rattle.jump_block.specs.Eight.{HasNone, IsAllAs}
 
 -- eight lanes, each told by its number
 pub record AreLanes (xs : List ℕ) (f : ℕ → ℕ) : Type 0 where
@@ -76,77 +75,34 @@ none_of_three a b c la lb lc h =
       λ w l. (or_none _ _ (sym (all.each w l) ∙ none w l)).1,
     )
 
--- a fact of each of the eight
-pub of_eight : (P : ℕ → Type 0) → P 0 → P 1 → P 2 → P 3 → P 4 → P 5 → P 6 → P 7 → (i : ℕ) → i < 8 → P i
-of_eight P a b c d e f g h zero l = a
-of_eight P a b c d e f g h (suc zero) l = b
-of_eight P a b c d e f g h (suc (suc zero)) l = c
-of_eight P a b c d e f g h (suc (suc (suc zero))) l = d
-of_eight P a b c d e f g h (suc (suc (suc (suc zero)))) l = e
-of_eight P a b c d e f g h (suc (suc (suc (suc (suc zero))))) l = f
-of_eight P a b c d e f g h (suc (suc (suc (suc (suc (suc zero)))))) l = g
-of_eight P a b c d e f g h (suc (suc (suc (suc (suc (suc (suc zero))))))) l = h
-of_eight P a b c d e f g h (suc (suc (suc (suc (suc (suc (suc (suc n)))))))) l = absurd (omega arith)
+-- words that differ nowhere from one whose bits are all alike
+alike_bit : (a b j : ℕ) (set : Bool) → bit_xor a b ≡ 0 → is_set b j ≡ set → is_set a j ≡ set
+alike_bit a b j set none is =
+    same (bit_at a j) (bit_at b j) (bit_at-lt a j) (bit_at-lt b j)
+    (sym (bit_at_xor a b j) ∙ ap (λ (n : ℕ). bit_at n j) none ∙ bit_at-zero j) ∙ is
+  where
+    same : (m n : ℕ) → m < 2 → n < 2 → (m + n) % 2 ≡ 0 → nat_eq m 1 ≡ nat_eq n 1
+    same m n h k e =
+        let alike : m ≡ n = omega arith in
+        ap (λ (l : ℕ). nat_eq l 1) alike
 
--- the word before each
-pub before_forward : (last : ℕ) (words : List ℕ) (i : ℕ) → i < 8
-    → nth_of Forward (last ∷ slice_index_or words 0 0 ∷ slice_index_or words 1 0 ∷ slice_index_or words 2 0
-    ∷ slice_index_or words 3 0 ∷ slice_index_or words 4 0 ∷ slice_index_or words 5 0 ∷ slice_index_or words 6 0
-    ∷ []) i ≡ nth_before Forward words last i
-before_forward last words = of_eight (λ i. nth_of Forward (last ∷ slice_index_or words 0 0
-    ∷ slice_index_or words 1 0 ∷ slice_index_or words 2 0 ∷ slice_index_or words 3 0 ∷ slice_index_or words 4 0
-    ∷ slice_index_or words 5 0 ∷ slice_index_or words 6 0 ∷ []) i ≡ nth_before Forward words last i)
-    refl refl refl refl refl refl refl refl
+pub set_all : (j : ℕ) → j < 64 → is_set 18446744073709551615 j ≡ true
+set_all j h = ap (λ (n : ℕ). nat_eq n 1) (bit_at_ones 64 j h)
 
-pub before_back : (last : ℕ) (words : List ℕ) (i : ℕ) → i < 8
-    → nth_of Back (slice_index_or words 1 0 ∷ slice_index_or words 2 0 ∷ slice_index_or words 3 0
-    ∷ slice_index_or words 4 0 ∷ slice_index_or words 5 0 ∷ slice_index_or words 6 0 ∷ slice_index_or words 7 0
-    ∷ last ∷ []) i ≡ nth_before Back words last i
-before_back last words = of_eight (λ i. nth_of Back (slice_index_or words 1 0 ∷ slice_index_or words 2 0
-    ∷ slice_index_or words 3 0 ∷ slice_index_or words 4 0 ∷ slice_index_or words 5 0 ∷ slice_index_or words 6 0
-    ∷ slice_index_or words 7 0 ∷ last ∷ []) i ≡ nth_before Back words last i)
-    refl refl refl refl refl refl refl refl
+pub all_alike : (set : Bool) (alike : ℕ) (side : List ℕ) → length side ≡ 8
+    → ((j : ℕ) → j < 64 → is_set alike j ≡ set)
+    → HasNone (zip2 bit_xor (take 8 side) (replicate 8 alike)) → IsAllAs set side
+all_alike set alike side long is none w j h k =
+    let differ = zipped bit_xor (take 8 side) (replicate 8 alike) _ _ (loaded side long) (splat alike) in
+    alike_bit (slice_index_or side w 0) alike j set (sym (differ.each w h) ∙ none w h) (is j k)
 
--- the bits at which a side opens, in each
-module _ (words before : List ℕ) (long : length words ≡ 8) (long_before : length before ≡ 8) where
-  pub opened_forward : AreLanes (zip2 bit_and words (map (λ n. 18446744073709551615 - n)
-      (zip2 bit_or (zip2 (λ a b. a * 2 ^ b % 18446744073709551616) words (replicate 8 1))
-      (zip2 (λ a b. a / 2 ^ b) before (replicate 8 63)))))
-      (λ w. bit_and (slice_index_or words w 0) (18446744073709551615
-      - bit_or (slice_index_or words w 0 * 2 % 18446744073709551616)
-      (slice_index_or before w 0 / 9223372036854775808)))
-  opened_forward =
-      zipped bit_and words _ _ _ (own words long)
-      (mapped (λ n. 18446744073709551615 - n) _ _
-      (zipped bit_or _ _ _ _
-      (zipped (λ a b. a * 2 ^ b % 18446744073709551616) words _ _ _ (own words long) (splat 1))
-      (zipped (λ a b. a / 2 ^ b) before _ _ _ (own before long_before) (splat 63))))
-
-  pub opened_back : AreLanes (zip2 bit_and words (map (λ n. 18446744073709551615 - n)
-      (zip2 bit_or (zip2 (λ a b. a / 2 ^ b) words (replicate 8 1))
-      (zip2 (λ a b. a * 2 ^ b % 18446744073709551616) before (replicate 8 63)))))
-      (λ w. bit_and (slice_index_or words w 0) (18446744073709551615
-      - bit_or (slice_index_or words w 0 / 2)
-      (slice_index_or before w 0 * 9223372036854775808 % 18446744073709551616)))
-  opened_back =
-      zipped bit_and words _ _ _ (own words long)
-      (mapped (λ n. 18446744073709551615 - n) _ _
-      (zipped bit_or _ _ _ _
-      (zipped (λ a b. a / 2 ^ b) words _ _ _ (own words long) (splat 1))
-      (zipped (λ a b. a * 2 ^ b % 18446744073709551616) before _ _ _ (own before long_before) (splat 63))))
-
--- from the lanes of the words that were loaded to the words on the way
-pub opened_at : (way on : Way) → way ≡ on → (words before found result : List ℕ) (last i : ℕ)
-    → length words ≡ 8 → i < 8 → result ≡ found → nth_of way before i ≡ nth_before way words last i
-    → ((w : ℕ) → w < 8
-    → IsOpened on (slice_index_or (take 8 words) w 0) (slice_index_or before w 0) (slice_index_or found w 0))
-    → IsOpened way (nth_of way words i) (nth_before way words last i) (nth_of way result i)
-opened_at way on e words before found result last i long h same before_is told =
-    let w : ℕ = nth_word way i in
-    subst (λ (n : ℕ). IsOpened way n (nth_before way words last i) (slice_index_or result w 0))
-    ((loaded words long).each w (nth_small way i h))
-    (subst (λ (n : ℕ). IsOpened way (slice_index_or (take 8 words) w 0) n (slice_index_or result w 0)) before_is
-    (subst (λ (l : List ℕ). IsOpened way (slice_index_or (take 8 words) w 0) (slice_index_or before w 0)
-    (slice_index_or l w 0)) (sym same)
-    (subst (λ (v : Way). IsOpened v (slice_index_or (take 8 words) w 0) (slice_index_or before w 0)
-    (slice_index_or found w 0)) (sym e) (told w (nth_small way i h)))))
+-- where no cell is blocked all are free
+pub all_free : (middle : List ℕ) → length middle ≡ 8
+    → ((w : ℕ) → slice_index_or middle w 0 < 18446744073709551616)
+    → HasNone (map (λ n. 18446744073709551615 - n) (take 8 middle)) → IsAllAs true middle
+all_free middle long small none w j h k =
+    let blocked = mapped (λ n. 18446744073709551615 - n) _ _ (loaded middle long) in
+    let is_none = sym (blocked.each w h) ∙ none w h in
+    let bounded = small w in
+    let full : slice_index_or middle w 0 ≡ 18446744073709551615 = omega (arith, is_none, bounded) in
+    ap (λ (n : ℕ). is_set n j) full ∙ set_all j k

@@ -8,7 +8,7 @@ ghost use Rattle.jump_block.specs.Word as spec;
 ghost use Rattle.jump_block.specs.Word.{AreEdgesOf, AreEight, IsBlockOf, IsAhead, edge_before, moves_before, words_of, nth_word};
 ghost use Rattle.jump_block.specs.Seek.{HasPassed, IsSought};
 
-use crate::eight::{are_none, blocked, opened};
+use crate::eight::{are_none, blocked, changed};
 use crate::word::{Way, Words, begun, first, halts, past};
 use bit_grid::Lines;
 use grid_moves::Corner;
@@ -156,7 +156,7 @@ impl<'a> Block<'a> {
         Seek::Passed(last)
     }
 
-    // Whether a scan that comes to the block passes it, told the words before.
+    // Whether a scan that comes to the block passes it and nothing changes beside it, told the words before.
     #[inline(always)]
     fn is_passed(&self, way: Way, last: Words) -> bool
         requires eight { AreEight self.now }
@@ -167,8 +167,8 @@ impl<'a> Block<'a> {
     {
         are_none(
             blocked(self.middle),
-            opened(way, self.before, last.before),
-            opened(way, self.after, last.after),
+            changed(way, self.before, last.before),
+            changed(way, self.after, last.after),
         )
     }
 

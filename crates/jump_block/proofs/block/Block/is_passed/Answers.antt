@@ -3,6 +3,6 @@ use Rattle.jump_block.proofs.block.Block.is_passed.Goals as goal
 
 pub returns : goal.returns
 returns c = λ yes t from start block ahead passed.
-    passed_whole t c.args.way from start c.args.self.now c.args.last c.blocked.result c.opened.result
-    c.opened-2.result block ahead passed c.blocked.ensures c.opened.ensures c.opened-2.ensures
-    (c.are_none.ensures yes)
+    let none = c.are_none.ensures yes in
+    passed_whole t c.args.way from start c.args.self.now c.args.last block ahead passed
+    (c.blocked.ensures none.0) (c.changed.ensures none.1) (c.changed-2.ensures none.2)
