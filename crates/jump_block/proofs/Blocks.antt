@@ -187,7 +187,8 @@ none_opened : (way : Way) (word last : ℕ) (set : Bool) → is_set last (last_b
     → ((j : ℕ) → j < 64 → is_set word j ≡ set) → IsOpened way word last 0
 none_opened Forward word last set ends same side from base here edge zero k h m =
     set_none 0
-    ∙ steady (side k) (side (suc k)) set (sym (edge k (omega arith)) ∙ ends) (sym (here 0 (suc k) h m) ∙ same 0 h)
+    ∙ steady (side k) (side (suc k)) set (sym (edge k (omega arith)) ∙ ends)
+    (sym (here 0 (suc k) h m) ∙ same 0 h)
 none_opened Forward word last set ends same side from base here edge (suc j) k h m =
     set_none (suc j)
     ∙ steady (side k) (side (suc k)) set (sym (here j k (omega arith) (omega arith)) ∙ same j (omega arith))
@@ -217,12 +218,14 @@ module _ (t : Trail) (way : Way) (from start : ℕ) (b : Block) (last : Words)
   before_ends : (i : ℕ) → i ≤ 8
       → is_set (words_before i).before (last_bit way) ≡ is_set last.before (last_bit way)
   before_ends zero h = refl
-  before_ends (suc i) h = before (nth_word way i) (last_bit way) (nth_small way i (omega arith)) (last_bit_small way)
+  before_ends (suc i) h =
+      before (nth_word way i) (last_bit way) (nth_small way i (omega arith)) (last_bit_small way)
 
   after_ends : (i : ℕ) → i ≤ 8
       → is_set (words_before i).after (last_bit way) ≡ is_set last.after (last_bit way)
   after_ends zero h = refl
-  after_ends (suc i) h = after (nth_word way i) (last_bit way) (nth_small way i (omega arith)) (last_bit_small way)
+  after_ends (suc i) h =
+      after (nth_word way i) (last_bit way) (nth_small way i (omega arith)) (last_bit_small way)
 
   none_halts : (i : ℕ) → i < 8 → (t : Trail) (from first : ℕ)
       → AreWordsOf t way from first (words_of b (nth_word way i))
@@ -233,9 +236,11 @@ module _ (t : Trail) (way : Way) (from start : ℕ) (b : Block) (last : Words)
       let small = nth_small way i h in
       halts_there 0 0 0 (slice_index_or b.middle.now w 0) j t k
       (set_none j ∙ sym (ap not (free w j small l))) (its.middle j (suc k) l m)
-      (none_opened way (slice_index_or b.before.now w 0) (words_before i).before _ (before_ends i (omega arith))
+      (none_opened way (slice_index_or b.before.now w 0) (words_before i).before _
+      (before_ends i (omega arith))
       (λ j. before w j small) t.before from first its.before edges.before j k l m)
-      (none_opened way (slice_index_or b.after.now w 0) (words_before i).after _ (after_ends i (omega arith))
+      (none_opened way (slice_index_or b.after.now w 0) (words_before i).after _
+      (after_ends i (omega arith))
       (λ j. after w j small) t.after from first its.after edges.after j k l m)
 
   passed_to : (i : ℕ) → i ≤ 8 → HasPassed t way from (edge_before way start i) (words_before i)

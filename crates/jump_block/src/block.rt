@@ -1,4 +1,4 @@
-//! Blocks of 512 places, searched word by word.
+//! Blocks of 512 places, searched word by word, or passed whole.
 
 ghost use Rattle.std.specs.Prelude.{◌≡◌, ℕ, ◌+◌, ◌*◌, ◌-◌, ◌/◌, ◌<◌, ◌≤◌, Bool, true, length};
 ghost use Rattle.bit_grid.specs.Bits.{Shows};
@@ -156,7 +156,8 @@ impl<'a> Block<'a> {
         Seek::Passed(last)
     }
 
-    // Whether a scan that comes to the block passes it and nothing changes beside it, told the words before.
+    // Whether all cells of the block are free and nothing changes beside it, told the words before: a scan
+    // that comes to it passes it then. It may pass others too.
     #[inline(always)]
     fn is_passed(&self, way: Way, last: Words) -> bool
         requires eight { AreEight self.now }
@@ -172,7 +173,7 @@ impl<'a> Block<'a> {
         )
     }
 
-    /// Searches the whole block, told the words before. Mostly it is passed, and that is asked first.
+    /// Searches the whole block, told the words before. Mostly it is passed, which a quick test finds first.
     #[inline(always)]
     pub(crate) fn seek_whole(&self, way: Way, last: Words, from: u32, start: u32) -> Seek
         requires eight { AreEight self.now }

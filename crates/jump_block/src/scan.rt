@@ -94,7 +94,7 @@ fn scan_on<L: Ledger>(
     None
 }
 
-// The same forward. Each way has a loop of its own, in which it is a constant.
+// The same forward, out of line. Each way has a loop of its own, in which it is a constant.
 #[inline(never)]
 fn scan_on_forward<L: Ledger>(
     rule: Corner,
