@@ -1,5 +1,5 @@
 -- The search of a block, word by word.
-use Rattle.std.proofs.Common.{◌≡◌, ℕ, suc, ◌+◌, ◌*◌, ◌-◌, ◌/◌, ◌^◌, ◌<◌, ◌≤◌, ◌⊎◌, inl, inr, arith, Bool, true, false, not, ◌&&◌, refl, ap, sym, ◌∙◌, subst, bit_and}
+use Rattle.std.proofs.Common.{◌≡◌, ℕ, zero, suc, ◌+◌, ◌*◌, ◌-◌, ◌/◌, ◌^◌, ◌<◌, ◌≤◌, ◌⊎◌, inl, inr, arith, Bool, true, false, not, ◌&&◌, refl, ap, sym, ◌∙◌, subst, bit_and, slice_index_or}
 use Rattle.std.specs.Prelude.{nat_eq}
 use Rattle.std.proofs.lemmas.Bool.{cases_lt}
 use Rattle.std.proofs.lemmas.Bool.Decides.{nat_tests}
@@ -14,8 +14,11 @@ use Rattle.jump_block.specs.declared.word.Way.TheVariants.{Forward, Back}
 use Rattle.jump_block.specs.declared.word.Words.{Words}
 use Rattle.jump_block.specs.declared.block.Block.{Block}
 use Rattle.jump_block.specs.Trail.{Trail, IsClear, Halts, halts, at_start, begun}
-use Rattle.jump_block.specs.Word.{Meets, IsWordOf, AreWordsOf, IsEdgeOf, AreEdgesOf, IsBlockOf, IsFound, IsAhead, near, far, moves_before, moves_short_of, is_past, nth_word, edge_before, words_of}
+use Rattle.jump_block.specs.Word.{Meets, IsWordOf, AreWordsOf, IsEdgeOf, AreEdgesOf, IsOpened, IsBlockOf, IsFound, IsAhead, near, far, moves_before, moves_short_of, is_past, nth_word, edge_before, words_of}
+use Rattle.jump_block.specs.Eight.{IsAllAs, last_bit}
 use Rattle.jump_block.specs.Seek.{HasPassed}
+use Rattle.jump_block.proofs.Words.{halts_there}
+use Rattle.jump_block.proofs.Reading.{nth_small}
 
 -- the words that the way has passed give the edges
 edge_of : (side : ℕ → Bool) (way : Way) (from base word : ℕ) → IsWordOf side way from base word
@@ -175,6 +178,81 @@ module _ (t : Trail) (way : Way) (from start i n found : ℕ) (b : Block) (w las
   pub nth_passed : found ≡ 0 → HasPassed t way from (edge_before way start (n + 1)) w
   nth_passed none = rw (← ends way start n high)
       (passed_further t way from (start + nth_word way n * 64) found w last are ahead_here passed_here told none)
+
+-- a side that is as it was before does not open
+steady : (a b c : Bool) → a ≡ c → b ≡ c → false ≡ (not a && b)
+steady a b c e f = grind arith
+
+none_opened : (way : Way) (word last : ℕ) (set : Bool) → is_set last (last_bit way) ≡ set
+    → ((j : ℕ) → j < 64 → is_set word j ≡ set) → IsOpened way word last 0
+none_opened Forward word last set ends same side from base here edge zero k h m =
+    set_none 0
+    ∙ steady (side k) (side (suc k)) set (sym (edge k (omega arith)) ∙ ends)
+    (sym (here 0 (suc k) h m) ∙ same 0 h)
+none_opened Forward word last set ends same side from base here edge (suc j) k h m =
+    set_none (suc j)
+    ∙ steady (side k) (side (suc k)) set (sym (here j k (omega arith) (omega arith)) ∙ same j (omega arith))
+    (sym (here (suc j) (suc k) h m) ∙ same (suc j) h)
+none_opened Back word last set ends same side from base here edge j k h m =
+    set_none j
+    ∙ steady (side k) (side (suc k)) set (by_place (cases_lt j 63)) (sym (here j (suc k) h m) ∙ same j h)
+  where
+    by_place : (j < 63) ⊎ (63 ≤ j) → side k ≡ set
+    by_place (inl l) = sym (here (suc j) k (omega arith) (omega arith)) ∙ same (suc j) (omega arith)
+    by_place (inr l) = sym (edge k (omega arith)) ∙ ends
+
+-- a block whose cells are all free, and beside which all is as it was before
+module _ (t : Trail) (way : Way) (from start : ℕ) (b : Block) (last : Words)
+    (block : IsBlockOf t way from start 0 b) (ahead : IsAhead way from (edge_before way start 0))
+    (passed : HasPassed t way from (edge_before way start 0) last) (free : IsAllAs true b.middle.now)
+    (before : IsAllAs (is_set last.before (last_bit way)) b.before.now)
+    (after : IsAllAs (is_set last.after (last_bit way)) b.after.now) where
+  abbrev words_before : ℕ → Words
+  words_before zero = last
+  words_before (suc i) = words_of b (nth_word way i)
+
+  last_bit_small : (way : Way) → last_bit way < 64
+  last_bit_small Forward = omega arith
+  last_bit_small Back = omega arith
+
+  before_ends : (i : ℕ) → i ≤ 8
+      → is_set (words_before i).before (last_bit way) ≡ is_set last.before (last_bit way)
+  before_ends zero h = refl
+  before_ends (suc i) h =
+      before (nth_word way i) (last_bit way) (nth_small way i (omega arith)) (last_bit_small way)
+
+  after_ends : (i : ℕ) → i ≤ 8
+      → is_set (words_before i).after (last_bit way) ≡ is_set last.after (last_bit way)
+  after_ends zero h = refl
+  after_ends (suc i) h =
+      after (nth_word way i) (last_bit way) (nth_small way i (omega arith)) (last_bit_small way)
+
+  none_halts : (i : ℕ) → i < 8 → (t : Trail) (from first : ℕ)
+      → AreWordsOf t way from first (words_of b (nth_word way i))
+      → AreEdgesOf t way from (near way first) (words_before i)
+      → (j k : ℕ) → j < 64 → Meets way from (first + j) (suc k) → is_set 0 j ≡ halts t k
+  none_halts i h t from first its edges j k l m =
+      let w : ℕ = nth_word way i in
+      let small = nth_small way i h in
+      halts_there 0 0 0 (slice_index_or b.middle.now w 0) j t k
+      (set_none j ∙ sym (ap not (free w j small l))) (its.middle j (suc k) l m)
+      (none_opened way (slice_index_or b.before.now w 0) (words_before i).before _
+      (before_ends i (omega arith))
+      (λ j. before w j small) t.before from first its.before edges.before j k l m)
+      (none_opened way (slice_index_or b.after.now w 0) (words_before i).after _
+      (after_ends i (omega arith))
+      (λ j. after w j small) t.after from first its.after edges.after j k l m)
+
+  passed_to : (i : ℕ) → i ≤ 8 → HasPassed t way from (edge_before way start i) (words_before i)
+  passed_to zero h = passed
+  passed_to (suc i) h =
+      let one_more : i + 1 ≡ suc i = omega arith in
+      subst (λ (n : ℕ). HasPassed t way from (edge_before way start n) (words_of b (nth_word way i))) one_more
+      (nth_passed t way from start 0 i 0 b (words_of b (nth_word way i)) (words_before i) block (omega arith)
+      (omega arith) refl ahead (passed_to i (omega arith)) (none_halts i (omega arith)) refl)
+
+  pub passed_whole : HasPassed t way from (edge_before way start 8) (words_of b (nth_word way 7))
+  passed_whole = passed_to 8 (omega arith)
 
 -- the block in which a scan starts
 module _ (t : Trail) (rule : Corner) (way : Way) (start place w found halting over : ℕ) (words last : Words)

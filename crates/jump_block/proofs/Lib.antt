@@ -1,5 +1,6 @@
 pub mod Bits
 pub mod Words
+pub mod Lanes
 pub mod Blocks
 pub mod Reading
 pub mod Scans

@@ -18,7 +18,7 @@ word_read : (free : ℕ → ℕ → Bool) (way : Way) (line from index w : ℕ) 
 word_read free way line from index w words h shown = λ j k l m.
     shown w j h l ∙ ap (λ (p : ℕ). free line p) (meets_along way from (index * 512 + w * 64 + j) k m)
 
-nth_small : (way : Way) (n : ℕ) → n < 8 → nth_word way n < 8
+pub nth_small : (way : Way) (n : ℕ) → n < 8 → nth_word way n < 8
 nth_small Forward n h = h
 nth_small Back n h = omega arith
 

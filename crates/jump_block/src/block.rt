@@ -1,13 +1,14 @@
-//! Blocks of 512 places, searched word by word.
+//! Blocks of 512 places, searched word by word, or passed whole.
 
-ghost use Rattle.std.specs.Prelude.{◌≡◌, ℕ, ◌+◌, ◌*◌, ◌-◌, ◌/◌, ◌<◌, ◌≤◌, Bool, length};
+ghost use Rattle.std.specs.Prelude.{◌≡◌, ℕ, ◌+◌, ◌*◌, ◌-◌, ◌/◌, ◌<◌, ◌≤◌, Bool, true, length};
 ghost use Rattle.bit_grid.specs.Bits.{Shows};
 ghost use Rattle.jump_block.specs.Trail as trails;
 ghost use Rattle.jump_block.specs.Trail.{Trail, IsClear, begun, trail_on};
 ghost use Rattle.jump_block.specs.Word as spec;
 ghost use Rattle.jump_block.specs.Word.{AreEdgesOf, AreEight, IsBlockOf, IsAhead, edge_before, moves_before, words_of, nth_word};
-ghost use Rattle.jump_block.specs.Seek.{IsSought};
+ghost use Rattle.jump_block.specs.Seek.{HasPassed, IsSought};
 
+use crate::eight::{are_none, blocked, changed};
 use crate::word::{Way, Words, begun, first, halts, past};
 use bit_grid::Lines;
 use grid_moves::Corner;
@@ -153,6 +154,41 @@ impl<'a> Block<'a> {
             last = words;
         }
         Seek::Passed(last)
+    }
+
+    // Whether all cells of the block are free and nothing changes beside it, told the words before: a scan
+    // that comes to it passes it then. It may pass others too.
+    #[inline(always)]
+    fn is_passed(&self, way: Way, last: Words) -> bool
+        requires eight { AreEight self.now }
+        ensures { result ≡ true → (t : Trail) (from start : ℕ) → IsBlockOf t way from start 0 self.now
+            → IsAhead way from (edge_before way start 0)
+            → HasPassed t way from (edge_before way start 0) last
+            → HasPassed t way from (edge_before way start 8) (words_of self.now (spec.nth_word way 7)) }
+    {
+        are_none(
+            blocked(self.middle),
+            changed(way, self.before, last.before),
+            changed(way, self.after, last.after),
+        )
+    }
+
+    /// Searches the whole block, told the words before. Mostly it is passed, which a quick test finds first.
+    #[inline(always)]
+    pub(crate) fn seek_whole(&self, way: Way, last: Words, from: u32, start: u32) -> Seek
+        requires eight { AreEight self.now }
+        requires small { start + 512 ≤ 65536 }
+        requires ahead { IsAhead way from (edge_before way start 0) }
+        requires from { from < 65536 }
+        ensures { (t : Trail) → IsBlockOf t way from start 0 self.now
+            → AreEdgesOf t way from (edge_before way start 0) last
+            → IsClear t (moves_before way from (edge_before way start 0))
+            → IsSought t way from (edge_before way start 8) result }
+    {
+        if self.is_passed(way, last) {
+            return Seek::Passed(self.words(nth_word(way, 7)));
+        }
+        self.seek(way, 0, last, from, start)
     }
 
     /// Searches the block in which a scan starts.

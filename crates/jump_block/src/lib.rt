@@ -8,6 +8,7 @@
 
 mod block;
 mod diagonal;
+mod eight;
 mod patch;
 mod scan;
 mod source;

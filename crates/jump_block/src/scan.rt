@@ -59,7 +59,7 @@ fn next_block(way: Way, index: u32) -> u32
 //
 // It reads three blocks at a time: of the line, and of those beside it. The next ones are read only where
 // neither a halt nor the goal is found in those at hand.
-#[inline(never)]
+#[inline(always)]
 fn scan_on<L: Ledger>(
     way: Way,
     rule: Corner,
@@ -86,12 +86,62 @@ fn scan_on<L: Ledger>(
     'blocks: while !is_met(to_goal, moves_through(way, place, index * 512)) {
         index = next_block(way, index);
         let block = Block::read(lines, line, index, steps);
-        last = match block.seek(way, 0, last, place, index * 512) {
+        last = match block.seek_whole(way, last, place, index * 512) {
             Seek::Halted(halt) => return Some(halt),
             Seek::Passed(words) => words,
         };
     }
     None
+}
+
+// The same forward, out of line. Each way has a loop of its own, in which it is a constant.
+#[inline(never)]
+fn scan_on_forward<L: Ledger>(
+    rule: Corner,
+    lines: &Lines,
+    line: u32,
+    place: u32,
+    to_goal: u32,
+    last: Words,
+    steps: &mut Steps<L>,
+) -> Option<Halt>
+    requires starts { (free : ℕ → ℕ → Bool) × IsStart lines.now free line place }
+    requires few { lines.now.lines < 65536 }
+    requires short { lines.now.blocks ≤ 128 }
+    requires passed { (free : ℕ → ℕ → Bool) → IsStart lines.now free line place
+        → HasPassed (begun rule (trail_on free Way.Forward line place)) Way.Forward place
+        (spec.edge_before Way.Forward (place / 512 * 512) 8) last }
+    ensures finds { (free : ℕ → ℕ → Bool) → IsStart lines.now free line place
+        → Finds (begun rule (trail_on free Way.Forward line place)) to_goal result }
+    ensures most { steps.new + 3 ≤ steps.old + most_lanes (looked to_goal result) }
+    ensures more { steps.old ≤ steps.new }
+{
+    scan_on(Way::Forward, rule, lines, line, place, to_goal, last, steps)
+}
+
+// The same back.
+#[inline(never)]
+fn scan_on_back<L: Ledger>(
+    rule: Corner,
+    lines: &Lines,
+    line: u32,
+    place: u32,
+    to_goal: u32,
+    last: Words,
+    steps: &mut Steps<L>,
+) -> Option<Halt>
+    requires starts { (free : ℕ → ℕ → Bool) × IsStart lines.now free line place }
+    requires few { lines.now.lines < 65536 }
+    requires short { lines.now.blocks ≤ 128 }
+    requires passed { (free : ℕ → ℕ → Bool) → IsStart lines.now free line place
+        → HasPassed (begun rule (trail_on free Way.Back line place)) Way.Back place
+        (spec.edge_before Way.Back (place / 512 * 512) 8) last }
+    ensures finds { (free : ℕ → ℕ → Bool) → IsStart lines.now free line place
+        → Finds (begun rule (trail_on free Way.Back line place)) to_goal result }
+    ensures most { steps.new + 3 ≤ steps.old + most_lanes (looked to_goal result) }
+    ensures more { steps.old ≤ steps.new }
+{
+    scan_on(Way::Back, rule, lines, line, place, to_goal, last, steps)
 }
 
 /// Scans along a line from a free cell: finds where the scan halts, or `None` where the goal is met before.
@@ -123,7 +173,10 @@ pub(crate) fn scan<L: Ledger>(
                 place,
                 to_goal,
             } = start;
-            scan_on(way, rule, lines, line, place, to_goal, words, steps)
+            match way {
+                Way::Forward => { scan_on_forward(rule, lines, line, place, to_goal, words, steps) }
+                Way::Back => scan_on_back(rule, lines, line, place, to_goal, words, steps),
+            }
         }
     }
 }

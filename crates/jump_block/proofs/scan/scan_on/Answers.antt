@@ -33,8 +33,8 @@ read-block-requires-clause-index g c =
     c.blocks-2.invariant.below c.blocks-2.invariant.on_way
     (c.blocks-2.invariant.passed c.requires.starts.0 c.requires.starts.1).clear).1
 
-pub seek-requires-clause-small : goal.seek-requires-clause-small
-seek-requires-clause-small g c =
+pub seek_whole-requires-clause-small : goal.seek_whole-requires-clause-small
+seek_whole-requires-clause-small g c =
     let below = rw (← c.next_block-index.ensures) at (goes_on c.args.lines.now c.requires.starts.0
     c.args.line c.args.place c.requires.starts.1 c.requires.short c.args.way c.args.rule
     c.blocks-2.index c.blocks-2.invariant.below c.blocks-2.invariant.on_way
@@ -42,8 +42,8 @@ seek-requires-clause-small g c =
     let few = c.requires.short in
     omega (arith, below, few)
 
-pub seek-requires-clause-ahead : goal.seek-requires-clause-ahead
-seek-requires-clause-ahead g c =
+pub seek_whole-requires-clause-ahead : goal.seek_whole-requires-clause-ahead
+seek_whole-requires-clause-ahead g c =
     let on = goes_on c.args.lines.now c.requires.starts.0 c.args.line c.args.place
     c.requires.starts.1 c.requires.short c.args.way c.args.rule c.blocks-2.index c.blocks-2.invariant.below
     c.blocks-2.invariant.on_way
