@@ -1,10 +1,11 @@
 -- Words of directions taken apart.
-use Rattle.std.proofs.Common.{◌≡◌, ℕ, ◌/◌, ◌<◌, ◌≤◌, ◌++◌, List, [], ◌∷◌, length, arith, sym, ap, ◌∙◌, length-append, append-nil, Bool}
+use Rattle.std.proofs.Common.{◌≡◌, ℕ, ◌/◌, ◌<◌, ◌≤◌, ◌++◌, List, [], ◌∷◌, length, arith, sym, ap, ◌∙◌, ◌*◌, ◌^◌, length-append, append-nil, Bool, refl, ◌-◌, drop, length-drop}
 use Rattle.std.specs.Prelude.{filter}
 use Rattle.std.proofs.lemmas.List.{append_assoc}
 use Rattle.std.proofs.lemmas.List.Sums.{length-filter, count_by-le-length}
 use Rattle.grid_moves.specs.declared.Dir.{Dir}
 use Rattle.grid_moves.specs.declared.Dir.TheVariants.{N, NE, E, SE, S, SW, W, NW}
+use Rattle.grid_moves.specs.Move.{dir_number}
 use Rattle.pruning.specs.Packed.{word_of}
 
 -- without its first direction, the word of the others is left
@@ -24,6 +25,17 @@ module _ (left : ℕ) (some : 0 < left) where
       → (d : Dir) × (ds : List Dir) × (left ≡ word_of (d ∷ ds))
   has_first [] h = absurd (omega (arith, h, some))
   has_first (d ∷ ds) h = (d, ds, h)
+
+  -- and those after it, whichever directions the word has
+  pub is_split : (first : Dir) → ((d : Dir) (ds : List Dir) → left ≡ word_of (d ∷ ds) → first ≡ d)
+      → (ds : List Dir) → left ≡ word_of ds
+      → (others : List Dir) × (ds ≡ first ∷ others) × (left / 16 ≡ word_of others)
+  is_split first is [] h = absurd (omega (arith, h, some))
+  is_split first is (d ∷ ds) h = (
+    ds,
+    ap (λ (e : Dir). e ∷ ds) (sym (is d ds h)),
+    rest_is left d ds h,
+  )
 
   -- with the first one found, the others are left
   pub goes_on : (all found new : List Dir) (next : Dir)
@@ -53,3 +65,47 @@ has_room all found (d ∷ ds) left some h parts few =
 -- a test keeps no more than there are
 pub few_kept : (p : Dir → Bool) (ds : List Dir) → length (filter p ds) ≤ length ds
 few_kept p ds = let n = length-filter p ds in let m = count_by-le-length p ds in omega (arith, n, m)
+
+dir_small : (d : Dir) → dir_number d < 8
+dir_small N = omega arith
+dir_small NE = omega arith
+dir_small E = omega arith
+dir_small SE = omega arith
+dir_small S = omega arith
+dir_small SW = omega arith
+dir_small W = omega arith
+dir_small NW = omega arith
+
+-- sixteen for each direction
+abbrev room_for : List Dir → ℕ
+room_for [] = 1
+room_for (d ∷ ds) = 16 * room_for ds
+
+below_room : (ds : List Dir) → word_of ds < room_for ds
+below_room [] = omega arith
+below_room (d ∷ ds) = let n = dir_small d in let m = below_room ds in omega (arith, n, m)
+
+few_room : (ds : List Dir) → length ds ≤ 7 → room_for ds ≤ 2 ^ 28
+few_room [] h = omega arith
+few_room (_ ∷ []) h = omega arith
+few_room (_ ∷ _ ∷ []) h = omega arith
+few_room (_ ∷ _ ∷ _ ∷ []) h = omega arith
+few_room (_ ∷ _ ∷ _ ∷ _ ∷ []) h = omega arith
+few_room (_ ∷ _ ∷ _ ∷ _ ∷ _ ∷ []) h = omega arith
+few_room (_ ∷ _ ∷ _ ∷ _ ∷ _ ∷ _ ∷ []) h = omega arith
+few_room (_ ∷ _ ∷ _ ∷ _ ∷ _ ∷ _ ∷ _ ∷ []) h = omega arith
+few_room (_ ∷ _ ∷ _ ∷ _ ∷ _ ∷ _ ∷ _ ∷ _ ∷ ds) h = absurd (omega (arith, h))
+
+-- the word of fewer than eight directions leaves room for one more
+pub has_place : (ds : List Dir) → length ds ≤ 7 → word_of ds < 2 ^ 28
+has_place ds h = let n = below_room ds in let m = few_room ds h in omega (arith, n, m)
+
+-- where the word is 0 there are none
+pub are_none : (ds : List Dir) → 0 ≡ word_of ds → ds ≡ []
+are_none [] h = refl
+are_none (d ∷ ds) h = absurd (omega (arith, h))
+
+-- before the last of them is put, fewer than eight are
+pub few_last : (dirs : List Dir) (i : ℕ) → length dirs ≤ 8 → i < length dirs
+    → length (drop (length dirs - i) dirs) ≤ 7
+few_last dirs i few h = let n = length-drop (length dirs - i) dirs in omega (arith, n, few, h)

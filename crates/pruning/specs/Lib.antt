@@ -3,6 +3,7 @@ pub mod Allowed
 pub mod Ring
 pub mod Marked
 pub mod Packed
+pub mod Numbered
 pub mod Canonical
 pub mod Stop
 pub mod First

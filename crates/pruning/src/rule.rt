@@ -19,14 +19,14 @@ ghost use Rattle.grid_moves.specs.Grid.{IsGrid, is_free};
 ghost use Rattle.grid_moves.specs.Move as moves;
 ghost use Rattle.pruning.specs.Turns as turns;
 ghost use Rattle.pruning.specs.Allowed as spec;
-ghost use Rattle.pruning.specs.Packed as packed;
+ghost use Rattle.pruning.specs.Numbered as numbered;
 ghost use Rattle.pruning.specs.Packed.{word_of};
 ghost use Rattle.pruning.specs.Ring as rings;
 ghost use Rattle.pruning.specs.Marked as marks;
 ghost use Rattle.pruning.specs.First as first;
 
 use crate::Arrival;
-use crate::packed::{put_first, unpacked};
+use crate::packed::{Packed, put_first, unpacked};
 use crate::ring::{Ring, is_inside, ring_of};
 use crate::turns::{Side, is_diagonal, quarter, rear, turn};
 use arrayvec::ArrayVec;
@@ -183,7 +183,7 @@ fn put_allowed(rule: Corner, ring: Ring, by: Arrival, d: Dir, others: u32) -> u3
 // The rule of this number.
 #[inline(always)]
 fn corner_of(number: usize) -> Corner
-    ensures { result ≡ packed.corner_of number }
+    ensures { result ≡ numbered.corner_of number }
 {
     match number {
         0 => Corner::Never,
@@ -194,7 +194,7 @@ fn corner_of(number: usize) -> Corner
 // The arrival of this number.
 #[inline(always)]
 fn arrival_of(number: usize) -> Arrival
-    ensures { result ≡ packed.arrival_of number }
+    ensures { result ≡ numbered.arrival_of number }
 {
     match number {
         0 => Arrival::By(Dir::N),
@@ -212,7 +212,7 @@ fn arrival_of(number: usize) -> Arrival
 // The word of all directions that are allowed, for a rule and an arrival that the compiler knows.
 fn allowed_of<const RULE: usize, const BY: usize>(ring: Ring) -> u32
     ensures { result ≡ word_of (filter
-        (rings.is_allowed_on (packed.corner_of RULE) ring (packed.arrival_of BY)) moves.all_dirs) }
+        (rings.is_allowed_on (numbered.corner_of RULE) ring (numbered.arrival_of BY)) moves.all_dirs) }
 {
     let rule = corner_of(RULE);
     let by = arrival_of(BY);
@@ -229,7 +229,7 @@ fn allowed_of<const RULE: usize, const BY: usize>(ring: Ring) -> u32
 // The same, with code of its own for each arrival.
 #[inline(always)]
 fn allowed_by<const RULE: usize>(ring: Ring, by: Arrival) -> u32
-    ensures { result ≡ word_of (filter (rings.is_allowed_on (packed.corner_of RULE) ring by) moves.all_dirs) }
+    ensures { result ≡ word_of (filter (rings.is_allowed_on (numbered.corner_of RULE) ring by) moves.all_dirs) }
 {
     match by {
         Arrival::Start => allowed_of::<RULE, 8>(ring),
@@ -255,31 +255,23 @@ fn allowed_under(rule: Corner, ring: Ring, by: Arrival) -> u32
     }
 }
 
-// All directions that are allowed.
-#[inline(always)]
-fn allowed_on(rule: Corner, ring: Ring, by: Arrival) -> ArrayVec<Dir, 8>
-    ensures { result.items ≡ filter (rings.is_allowed_on rule ring by) moves.all_dirs }
-{
-    unpacked(allowed_under(rule, ring, by))
-}
-
 // The allowed directions at a free cell, with each cell around it read once.
 #[inline(always)]
-fn allowed_around<T: Terrain>(t: &T, at: Cell, by: Arrival) -> ArrayVec<Dir, 8>
+fn allowed_around<T: Terrain>(t: &T, at: Cell, by: Arrival) -> u32
     requires free { IsTrue (is_free (T.grid t.now) at) }
     requires whole { IsGrid (T.grid t.now) }
-    ensures rule { result.items ≡ spec.allowed_dirs (T.grid t.now) at by }
+    ensures rule { result ≡ word_of (spec.allowed_dirs (T.grid t.now) at by) }
 {
     let ring = ring_of(t, at);
-    allowed_on(t.corner(), ring, by)
+    allowed_under(t.corner(), ring, by)
 }
 
 // The same, for the rare cells on the border of the map.
 #[inline(never)]
-fn allowed_on_border<T: Terrain>(t: &T, at: Cell, by: Arrival) -> ArrayVec<Dir, 8>
+fn allowed_on_border<T: Terrain>(t: &T, at: Cell, by: Arrival) -> u32
     requires free { IsTrue (is_free (T.grid t.now) at) }
     requires whole { IsGrid (T.grid t.now) }
-    ensures rule { result.items ≡ spec.allowed_dirs (T.grid t.now) at by }
+    ensures rule { result ≡ word_of (spec.allowed_dirs (T.grid t.now) at by) }
 {
     allowed_around(t, at, by)
 }
@@ -291,19 +283,29 @@ fn allowed_on_border<T: Terrain>(t: &T, at: Cell, by: Arrival) -> ArrayVec<Dir, 
 /// corner is cut, after a straight move, the side itself and the diagonal towards it; where one may be,
 /// after a straight move the diagonal, and after a diagonal one the diagonal a quarter aside. Each where
 /// the move is legal.
-///
-/// Where the cells around lie on the map, the compiler knows that each of them does.
 pub fn allowed<T: Terrain>(t: &T, at: Cell, by: Arrival) -> ArrayVec<Dir, 8>
     requires free { IsTrue (is_free (T.grid t.now) at) }
     requires whole { IsGrid (T.grid t.now) }
     ensures rule { result.items ≡ spec.allowed_dirs (T.grid t.now) at by }
 {
+    unpacked(allowed_word(t, at, by).word)
+}
+
+/// The same in one word. Where the cells around lie on the map, the compiler knows that each of them does.
+pub fn allowed_word<T: Terrain>(t: &T, at: Cell, by: Arrival) -> Packed
+    requires free { IsTrue (is_free (T.grid t.now) at) }
+    requires whole { IsGrid (T.grid t.now) }
+    ensures rule { result.word ≡ word_of (spec.allowed_dirs (T.grid t.now) at by) }
+{
     let (left, up) = (at.x.wrapping_sub(1), at.y.wrapping_sub(1));
-    if is_inside(t, left, up) && is_inside(t, at.x + 1, at.y + 1) && is_inside(t, at.x, at.y) {
+    let inner =
+        is_inside(t, left, up) && is_inside(t, at.x + 1, at.y + 1) && is_inside(t, at.x, at.y);
+    let word = if inner {
         allowed_around(t, at, by)
     } else {
         allowed_on_border(t, at, by)
-    }
+    };
+    Packed { word }
 }
 
 // Whether there is a wall in one direction, and the move in another is legal.

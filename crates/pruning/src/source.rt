@@ -3,10 +3,11 @@
 ghost use Rattle.std.specs.Prelude.{◌≡◌, ℕ, ◌+◌, ◌≤◌, Option, IsTrue};
 ghost use Rattle.grid_moves.specs.Grid.{GridData, IsGrid, is_free};
 ghost use Rattle.pruning.specs.Allowed.{allowed_dirs};
+ghost use Rattle.pruning.specs.Packed.{word_of};
 ghost use Rattle.pruning.specs.Stop.{IsFirstStop};
 ghost use Rattle.pruning.specs.Source.{MostSteps, IsWithin, CanArrive};
 
-use crate::Arrival;
+use crate::{Arrival, Packed};
 use arrayvec::ArrayVec;
 use grid_moves::{Cell, Dir};
 use std::sync::ledger::Ledger;
@@ -52,6 +53,14 @@ pub trait JumpSource {
         requires { (g : GridData) × StandsFor self.now g × IsTrue (is_free g at) × CanArrive g at by }
         ensures rule { (g : GridData) → StandsFor self.now g → IsTrue (is_free g at) → CanArrive g at by
             → result.items ≡ allowed_dirs g at by }
+        ensures most { IsWithin (most self.now) (λ told. told.allowed) steps.old steps.new }
+        ensures fewest { steps.old + fewest self.now ≤ steps.new };
+
+    /// The same in one word, which a search takes apart faster than a list.
+    fn allowed_word<L: Ledger>(&self, at: Cell, by: Arrival, steps: &mut Steps<L>) -> Packed
+        requires { (g : GridData) × StandsFor self.now g × IsTrue (is_free g at) × CanArrive g at by }
+        ensures rule { (g : GridData) → StandsFor self.now g → IsTrue (is_free g at) → CanArrive g at by
+            → result.word ≡ word_of (allowed_dirs g at by) }
         ensures most { IsWithin (most self.now) (λ told. told.allowed) steps.old steps.new }
         ensures fewest { steps.old + fewest self.now ≤ steps.new };
 }

@@ -4,7 +4,8 @@ use Rattle.grid_moves.specs.declared.Corner.{Corner}
 use Rattle.grid_moves.specs.declared.Dir.TheVariants.{NE, E, SE, S, SW, W, NW}
 use Rattle.grid_moves.specs.Move.{all_dirs}
 use Rattle.pruning.specs.declared.Arrival.{Arrival}
-use Rattle.pruning.specs.Packed.{word_of, arrival_of}
+use Rattle.pruning.specs.Numbered.{arrival_of}
+use Rattle.pruning.specs.Packed.{word_of}
 use Rattle.pruning.specs.Ring.{is_allowed_on}
 use Rattle.pruning.proofs.rule.allowed_of.Goals as goal
 
