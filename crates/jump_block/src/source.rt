@@ -4,6 +4,7 @@ ghost use Rattle.std.specs.Prelude.{◌≡◌, ℕ, ◌+◌, ◌≤◌, false, t
 ghost use Rattle.grid_moves.specs.Grid.{GridData, is_free};
 ghost use Rattle.pruning.specs.Allowed.{allowed_dirs};
 ghost use Rattle.pruning.specs.First as first;
+ghost use Rattle.pruning.specs.Packed.{word_of};
 ghost use Rattle.pruning.specs.Stop.{IsFirstStop};
 ghost use Rattle.pruning.specs.Turns.{is_diagonal};
 ghost use Rattle.jump_block.specs.Scan.{most_lanes};
@@ -14,7 +15,7 @@ use crate::straight::Bits;
 use arrayvec::ArrayVec;
 use bit_grid::{Columns, Rows};
 use grid_moves::{Cell, Corner, Dir, Terrain};
-use pruning::{Arrival, JumpSource, allowed};
+use pruning::{Arrival, JumpSource, Packed, allowed, allowed_word};
 use std::sync::ledger::Ledger;
 use steps::Steps;
 
@@ -138,6 +139,20 @@ impl<'a> Bits<'a> {
         let _whole = around.width();
         allowed(&around, MIDDLE, by)
     }
+
+    // The same in one word.
+    fn allowed_word<L: Ledger>(&self, at: Cell, by: Arrival, steps: &mut Steps<L>) -> Packed
+        requires stands { (g : GridData) × AreItsBits self.now.rows.now self.now.columns.now self.now.corner g
+            × (is_free g at ≡ true) }
+        ensures rule { (g : GridData)
+            → AreItsBits self.now.rows.now self.now.columns.now self.now.corner g → is_free g at ≡ true
+            → result.word ≡ word_of (allowed_dirs g at by) }
+        ensures fewest { steps.old + 3 ≤ steps.new }
+    {
+        let around = Patch::read(self.rows, self.corner, at, steps);
+        let _whole = around.width();
+        allowed_word(&around, MIDDLE, by)
+    }
 }
 
 impl<'a> BlockJumps<'a> {
@@ -227,5 +242,9 @@ impl<'a> JumpSource for BlockJumps<'a> {
 
     fn allowed<L: Ledger>(&self, at: Cell, by: Arrival, steps: &mut Steps<L>) -> ArrayVec<Dir, 8> {
         self.bits().allowed(at, by, steps)
+    }
+
+    fn allowed_word<L: Ledger>(&self, at: Cell, by: Arrival, steps: &mut Steps<L>) -> Packed {
+        self.bits().allowed_word(at, by, steps)
     }
 }

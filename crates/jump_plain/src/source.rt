@@ -5,7 +5,7 @@ ghost use Rattle.std.specs.Prelude.{◌≡◌, Some};
 use crate::jump::first_stop;
 use arrayvec::ArrayVec;
 use grid_moves::{Cell, Dir, Terrain};
-use pruning::{Arrival, JumpSource, allowed};
+use pruning::{Arrival, JumpSource, Packed, allowed, allowed_word};
 use std::sync::ledger::Ledger;
 use steps::Steps;
 
@@ -38,5 +38,10 @@ impl<'a, T: Terrain> JumpSource for PlainJumps<'a, T> {
     fn allowed<L: Ledger>(&self, at: Cell, by: Arrival, _steps: &mut Steps<L>) -> ArrayVec<Dir, 8> {
         let _whole = self.terrain.width();
         allowed(self.terrain, at, by)
+    }
+
+    fn allowed_word<L: Ledger>(&self, at: Cell, by: Arrival, _steps: &mut Steps<L>) -> Packed {
+        let _whole = self.terrain.width();
+        allowed_word(self.terrain, at, by)
     }
 }

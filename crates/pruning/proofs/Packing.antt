@@ -1,11 +1,11 @@
 -- Words of directions taken apart.
-use Rattle.std.proofs.Common.{◌≡◌, ℕ, ◌/◌, ◌<◌, ◌≤◌, ◌++◌, List, [], ◌∷◌, length, arith, sym, ap, ◌∙◌, ◌*◌, ◌^◌, length-append, append-nil, Bool, refl, ◌-◌, drop, length-drop}
+use Rattle.std.proofs.Common.{◌≡◌, ℕ, ◌/◌, ◌<◌, ◌≤◌, ◌++◌, List, [], ◌∷◌, length, arith, sym, ap, ◌∙◌, ◌*◌, ◌^◌, length-append, append-nil, Bool, refl, get_or, ◌-◌, drop, length-drop}
 use Rattle.std.specs.Prelude.{filter}
 use Rattle.std.proofs.lemmas.List.{append_assoc}
 use Rattle.std.proofs.lemmas.List.Sums.{length-filter, count_by-le-length}
 use Rattle.grid_moves.specs.declared.Dir.{Dir}
 use Rattle.grid_moves.specs.declared.Dir.TheVariants.{N, NE, E, SE, S, SW, W, NW}
-use Rattle.grid_moves.specs.Move.{dir_number}
+use Rattle.grid_moves.specs.Move.{dir_number, all_dirs}
 use Rattle.pruning.specs.Packed.{word_of}
 
 -- without its first direction, the word of the others is left
@@ -109,3 +109,28 @@ are_none (d ∷ ds) h = absurd (omega (arith, h))
 pub few_last : (dirs : List Dir) (i : ℕ) → length dirs ≤ 8 → i < length dirs
     → length (drop (length dirs - i) dirs) ≤ 7
 few_last dirs i few h = let n = length-drop (length dirs - i) dirs in omega (arith, n, few, h)
+
+-- a direction is told by its number
+told : (d : Dir) → get_or all_dirs (dir_number d) N ≡ d
+told N = refl
+told NE = refl
+told E = refl
+told SE = refl
+told S = refl
+told SW = refl
+told W = refl
+told NW = refl
+
+same_number : (a b : Dir) → dir_number a ≡ dir_number b → a ≡ b
+same_number a b h = sym (told a) ∙ ap (λ (n : ℕ). get_or all_dirs n N) h ∙ told b
+
+-- two lists of one word are the same
+pub one_word : (ds es : List Dir) → word_of ds ≡ word_of es → ds ≡ es
+one_word [] es h = sym (are_none es h)
+one_word (d ∷ ds) [] h = absurd (omega (arith, h))
+one_word (d ∷ ds) (e ∷ es) h =
+    let n = dir_small d in
+    let m = dir_small e in
+    let number : dir_number d ≡ dir_number e = omega (arith, h, n, m) in
+    let others : word_of ds ≡ word_of es = omega (arith, h, n, m) in
+    ap (λ (c : Dir). c ∷ ds) (same_number d e number) ∙ ap (λ (cs : List Dir). e ∷ cs) (one_word ds es others)

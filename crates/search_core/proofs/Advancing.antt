@@ -1,15 +1,16 @@
 -- One step of the search, on each grid on which the query is served.
-use Rattle.std.proofs.Common.{◌≡◌, ℕ, ◌+◌, ◌*◌, ◌<◌, ◌≤◌, ap, sym, ◌∙◌, subst, true, false, List, [], ◌∷◌, ◌++◌, arith}
+use Rattle.std.proofs.Common.{◌≡◌, ℕ, ◌+◌, ◌*◌, ◌<◌, ◌≤◌, ap, sym, ◌∙◌, subst, true, false, List, [], ◌∷◌, ◌++◌, length, arith}
 use Rattle.std.specs.Prelude.{Option, Some, IsTrue, slice_get}
 use Rattle.std.specs.List.{AllByRecursion}
 use Rattle.root2_cost.specs.Rank.{rank_of}
 use Rattle.grid_moves.specs.declared.Cell.{Cell}
 use Rattle.grid_moves.specs.declared.Dir.{Dir}
 use Rattle.grid_moves.specs.Grid.{GridData, is_free}
-use Rattle.grid_moves.specs.Move.{is_same}
+use Rattle.grid_moves.specs.Move.{is_same, all_dirs}
 use Rattle.grid_moves.specs.Points.{estimate}
 use Rattle.pruning.specs.declared.Arrival.{Arrival}
 use Rattle.pruning.specs.Allowed.{is_allowed, allowed_dirs}
+use Rattle.pruning.specs.Packed.{word_of}
 use Rattle.pruning.specs.Source.{MostSteps, IsWithin, CanArrive}
 use Rattle.best_first.specs.declared.node.Node.{Node}
 use Rattle.best_first.specs.declared.state.Layout.TheVariants.{ByArrival}
@@ -24,6 +25,7 @@ use Rattle.search_core.specs.Jumping.{last_at, jumped, IsOffering, HasReached}
 use Rattle.search_core.specs.Run.{IsExhausted}
 use Rattle.search_core.specs.Serving.{IsServed, OnSome, OnEach}
 use Rattle.search_core.specs.declared.jumping.Last.{Last}
+use Rattle.pruning.proofs.Packing.{few_kept, one_word}
 use Rattle.search_core.proofs.Counting.{within_then}
 use Rattle.search_core.proofs.Offers.{all_allowed}
 use Rattle.search_core.proofs.Serving.{same_shape}
@@ -66,6 +68,22 @@ module _ (Stands : GridData → Type 0) (s t : Cell) (at : ℕ) (old mid : Space
 
     pub offering : OnEach Stands s t (λ g. IsOffering g s t last mid)
     offering g v = offering_at Stands s t g v at old taken (reached g v) mid shape table last told
+
+    -- a word of the allowed directions on each grid is that of those on one
+    module _ (word : ℕ) (told_word : (g : GridData) → Stands g → IsTrue (is_free g last.state.cell)
+        → CanArrive g last.state.cell by → word ≡ word_of (allowed_dirs g last.state.cell by))
+        (some : OnSome Stands s t) where
+      pub word_is : word ≡ word_of (allowed_dirs some.0 last.state.cell by)
+      word_is = told_word some.0 some.1.stands (free_there some.0 some.1) (can_arrive some.0 some.1)
+
+      pub word_few : length (allowed_dirs some.0 last.state.cell by) ≤ 8
+      word_few = few_kept (is_allowed some.0 last.state.cell by) all_dirs
+
+      pub word_rule : (g : GridData) → Stands g → IsTrue (is_free g last.state.cell)
+          → CanArrive g last.state.cell by
+          → allowed_dirs some.0 last.state.cell by ≡ allowed_dirs g last.state.cell by
+      word_rule g stands free can = one_word (allowed_dirs some.0 last.state.cell by)
+          (allowed_dirs g last.state.cell by) (sym word_is ∙ told_word g stands free can)
 
     module _ (dirs : List Dir)
         (rule : (g : GridData) → Stands g → IsTrue (is_free g last.state.cell)

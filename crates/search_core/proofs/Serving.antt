@@ -1,15 +1,16 @@
 -- What the code needs at one jump, on each grid on which the query is served.
-use Rattle.std.proofs.Common.{◌≡◌, ℕ, zero, subst, refl, ap, sym, ◌∙◌, true, List, [], ◌∷◌, ◌++◌, suc, ◌+◌, ◌*◌, ◌≤◌, take}
-use Rattle.std.specs.Prelude.{Option, Some, None, IsTrue, slice_get}
+use Rattle.std.proofs.Common.{◌≡◌, ℕ, subst, refl, ap, sym, ◌∙◌, true, List, [], ◌∷◌, ◌++◌, ◌+◌, ◌*◌, ◌≤◌, length, arith, length-append, append-nil}
+use Rattle.std.specs.Prelude.{Option, Some, None, IsTrue}
 use Rattle.std.specs.List.{AllByRecursion}
-use Rattle.std.proofs.lemmas.List.{take_more}
-use Rattle.std.proofs.lemmas.Option.{slice_get_within, get_or_from_slice_get}
+use Rattle.std.proofs.lemmas.List.{append_assoc}
 use Rattle.std.specs.Option.{option_map_or}
 use Rattle.grid_moves.specs.declared.Cell.{Cell}
 use Rattle.grid_moves.specs.declared.Dir.{Dir}
 use Rattle.grid_moves.specs.Grid.{GridData, is_free}
 use Rattle.pruning.specs.Allowed.{is_allowed}
 use Rattle.pruning.specs.First.{first_stop}
+use Rattle.pruning.specs.Packed.{word_of}
+use Rattle.pruning.specs.Source.{MostSteps, IsWithin}
 use Rattle.pruning.specs.Stop.{IsFirstStop}
 use Rattle.pruning.proofs.Stopping.{only_one_first_stop}
 use Rattle.best_first.specs.declared.node.Offer.{Offer as Way}
@@ -19,25 +20,22 @@ use Rattle.best_first.specs.Space.{SpaceData, KeepsShape}
 use Rattle.best_first.specs.Table.{Table, offered}
 use Rattle.best_first.specs.Ways.{with_all}
 use Rattle.search_core.specs.Jumps.{come_to}
-use Rattle.search_core.specs.Jumping.{offer_after, jumped_in, jumped, IsSpaceOf, IsAt, IsOffering}
+use Rattle.search_core.specs.Jumping.{offer_after, jumped_in, jumped, IsSpaceOf, IsAt, IsOffering, OnDirs}
 use Rattle.search_core.specs.Serving.{IsServed, OnSome, OnEach}
 use Rattle.search_core.specs.declared.jumping.Last.{Last}
+use Rattle.search_core.proofs.Counting.{within_none, within_then}
 use Rattle.search_core.proofs.Links.{allowed_free}
 use Rattle.search_core.proofs.Offers.{IsReady, is_ready, ways_in, all_dirs_offered}
 
 module _ (P : Dir → Type 0) where
-  -- what holds of each holds of the first of them, and of one of them
-  all_take : (dirs : List Dir) (i : ℕ) → AllByRecursion P dirs → AllByRecursion P (take i dirs)
-  all_take [] zero a = tt
-  all_take [] (suc i) a = tt
-  all_take (d ∷ dirs) zero a = tt
-  all_take (d ∷ dirs) (suc i) a = (a.0, all_take dirs i a.1)
+  -- what holds of each holds of the first of them, and of the next one
+  pub all_front : (done rest : List Dir) → AllByRecursion P (done ++ rest) → AllByRecursion P done
+  all_front [] rest a = tt
+  all_front (d ∷ done) rest a = (a.0, all_front done rest a.1)
 
-  pub all_get : (dirs : List Dir) (i : ℕ) (d : Dir) → AllByRecursion P dirs → slice_get dirs i ≡ Some d → P d
-  all_get [] i d a e = absurd (cc)
-  all_get (c ∷ dirs) zero d a e = subst P
-      (ap (λ (o : Option Dir). elim o as (λ _. Dir) [ Some x ↦ x | None ↦ c ]) e) a.0
-  all_get (c ∷ dirs) (suc i) d a e = all_get dirs i d a.1 e
+  pub all_next : (done : List Dir) (d : Dir) (rest : List Dir) → AllByRecursion P (done ++ d ∷ rest) → P d
+  all_next [] d rest a = a.0
+  all_next (c ∷ done) d rest a = all_next done d rest a.1
 
 -- a space that keeps its shape serves as before
 pub same_shape : (g : GridData) (old new : SpaceData) → IsSpaceOf g old → KeepsShape old new → IsSpaceOf g new
@@ -104,36 +102,96 @@ module _ (Stands : GridData → Type 0) (s t : Cell) (last : Last) where
   jumped-joined g [] d k = refl
   jumped-joined g (e ∷ dirs) d k = jumped-joined g dirs d (jumped_in g t last e k)
 
-  pub jumped_more : (dirs : List Dir) (i : ℕ) (d : Dir) (old mid new : Table) → slice_get dirs i ≡ Some d
-      → HasJumped (take i dirs) old mid → OnEach Stands s t (λ g. new ≡ jumped_in g t last d mid)
-      → HasJumped (take (i + 1) dirs) old new
-  jumped_more dirs i d old mid new e before step g v =
+  pub jumped_more : (done : List Dir) (d : Dir) (old mid new : Table) → HasJumped done old mid
+      → OnEach Stands s t (λ g. new ≡ jumped_in g t last d mid) → HasJumped (done ++ d ∷ []) old new
+  jumped_more done d old mid new before step g v =
       step g v ∙ ap (λ (k : Table). jumped_in g t last d k) (before g v)
-      ∙ sym (jumped-joined g (take i dirs) d old)
-      ∙ ap (λ (l : List Dir). jumped g t last l old) (sym (one_taken dirs i d e))
-    where
-      one_taken : (dirs : List Dir) (i : ℕ) (d : Dir) → slice_get dirs i ≡ Some d
-          → take (i + 1) dirs ≡ take i dirs ++ d ∷ []
-      one_taken dirs i d e = take_more dirs i d (slice_get_within dirs i d e)
-          ∙ ap (λ (x : Dir). take i dirs ++ x ∷ []) (get_or_from_slice_get dirs i d d e)
+      ∙ sym (jumped-joined g done d old)
 
   -- the search is still at its offers
-  pub still_offering : (dirs : List Dir) (i : ℕ) (old new : SpaceData)
+  pub still_offering : (done : List Dir) (old new : SpaceData)
       → OnEach Stands s t (λ g. IsOffering g s t last old)
       → OnEach Stands s t (λ g. AllByRecursion
-      (λ d. is_allowed g last.state.cell (come_to last.state.arrival) d ≡ true) dirs)
-      → HasJumped (take i dirs) old.table new.table → KeepsShape old new
+      (λ d. is_allowed g last.state.cell (come_to last.state.arrival) d ≡ true) done)
+      → HasJumped done old.table new.table → KeepsShape old new
       → OnEach Stands s t (λ g. IsOffering g s t last new)
-  still_offering dirs i old new offering allowed has shape g v =
+  still_offering done old new offering allowed has shape g v =
       let o = offering g v in
       record {
         of = same_shape g old new o.of shape;
         latest = o.latest;
         earlier = o.earlier;
-        best = with_all o.latest o.best (ways_in g s t last (take i dirs));
+        best = with_all o.latest o.best (ways_in g s t last done);
         is_at = subst (λ (k : Table). IsAt g s t last o.latest o.earlier
-            (with_all o.latest o.best (ways_in g s t last (take i dirs))) k) (sym (has g v))
-            (all_dirs_offered g s t last o.of.whole v.from v.to o.latest o.earlier (take i dirs)
-            (all_take (λ d. is_allowed g last.state.cell (come_to last.state.arrival) d ≡ true) dirs i
-            (allowed g v)) o.best old.table o.is_at);
+            (with_all o.latest o.best (ways_in g s t last done)) k) (sym (has g v))
+            (all_dirs_offered g s t last o.of.whole v.from v.to o.latest o.earlier done
+            (allowed g v) o.best old.table o.is_at);
       }
+
+  module _ (most : Option MostSteps) (ds : List Dir) where
+    -- of the directions some were offered in, and the word has the others
+    pub record IsSoFar (left : ℕ) (old new : SpaceData) (before after : ℕ) : Type 0 where
+      pub done : List Dir
+      pub rest : List Dir
+      pub parts : ds ≡ done ++ rest
+      pub word : left ≡ word_of rest
+      pub jumped : HasJumped done old.table new.table
+      pub room : old.spare ≤ new.spare + length done
+      pub within : IsWithin most (λ told. length done * told.stop) before after
+
+    pub at_first : (word : ℕ) (space : SpaceData) (steps : ℕ) → word ≡ word_of ds
+        → IsSoFar word space space steps steps
+    at_first word space steps is = record {
+      done = [];
+      rest = ds;
+      parts = refl;
+      word = is;
+      jumped = λ g v. refl;
+      room = omega arith;
+      within = within_none most (λ told. 0 * told.stop) steps;
+    }
+
+    -- one more was offered, and the word that is left has those after it
+    pub at_next : (first : Dir) (left others : ℕ) (old mid new : SpaceData) (before at after : ℕ)
+        → IsSoFar left old mid before at
+        → OnDirs left (λ rest. (more : List Dir) × (rest ≡ first ∷ more) × (others ≡ word_of more))
+        → OnEach Stands s t (λ g. new.table ≡ jumped_in g t last first mid.table)
+        → mid.spare ≤ new.spare + 1 → IsWithin most (λ told. told.stop) at after
+        → IsSoFar others old new before after
+    at_next first left others old mid new before at after so split step spare steps =
+        let next = split so.rest so.word in
+        let n : length (so.done ++ first ∷ []) ≡ length so.done + 1 = length-append so.done (first ∷ []) in
+        record {
+          done = so.done ++ first ∷ [];
+          rest = next.0;
+          parts = so.parts ∙ ap (λ (ds : List Dir). so.done ++ ds) next.1
+              ∙ sym (append_assoc so.done (first ∷ []) next.0);
+          word = next.2;
+          jumped = jumped_more so.done first old.table mid.table new.table so.jumped step;
+          room = let r = so.room in omega (arith, n, r, spare);
+          within = within_then most (λ told. length so.done * told.stop) (λ told. told.stop)
+              (λ told. length (so.done ++ first ∷ []) * told.stop) before at after so.within steps
+              (λ told. more_steps (length so.done) (length (so.done ++ first ∷ [])) told.stop n);
+        }
+      where
+        more_steps : (n m s : ℕ) → m ≡ n + 1 → n * s + s ≤ m * s
+        more_steps n m s e = rw e (omega arith)
+
+    -- where none is left, it was all of them
+    pub at_last : (left : ℕ) (old new : SpaceData) (before after : ℕ) → IsSoFar left old new before after
+        → OnDirs left (λ rest. rest ≡ [])
+        → HasJumped ds old.table new.table × IsWithin most (λ told. length ds * told.stop) before after
+    at_last left old new before after so none =
+        let all : so.done ≡ ds = sym (so.parts ∙ ap (λ (rest : List Dir). so.done ++ rest)
+        (none so.rest so.word) ∙ append-nil so.done) in
+        (
+          subst (λ (ds : List Dir). HasJumped ds old.table new.table) all so.jumped,
+          subst (λ (ds : List Dir). IsWithin most (λ told. length ds * told.stop) before after) all so.within,
+        )
+
+-- where one is left there is room for it
+pub has_one : (ds done rest more : List Dir) (d : Dir) → ds ≡ done ++ rest → rest ≡ d ∷ more
+    → (old mid : ℕ) → length ds ≤ old → old ≤ mid + length done → 1 ≤ mid
+has_one ds done rest more d parts next old mid few room =
+    let n = ap (λ (ds : List Dir). length ds) (parts ∙ ap (λ (rest : List Dir). done ++ rest) next)
+    ∙ length-append done (d ∷ more) in omega (arith, n, few, room)

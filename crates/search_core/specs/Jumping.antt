@@ -9,6 +9,7 @@ use Rattle.grid_moves.specs.declared.Dir.TheVariants.{N, NE, E, SE, S, SW, W, NW
 use Rattle.grid_moves.specs.Grid.{GridData, IsGrid}
 use Rattle.pruning.specs.Chain.{run_cost}
 use Rattle.pruning.specs.First.{first_stop}
+use Rattle.pruning.specs.Packed.{word_of}
 use Rattle.search_run.specs.Run.{Taken}
 use Rattle.best_first.specs.declared.node.Node.{Node}
 use Rattle.best_first.specs.declared.node.Offer.{Offer as Way}
@@ -87,6 +88,10 @@ offer_after last d k = record {
     arrival = Some d;
   };
 }
+
+-- it holds for the directions of a word
+abbrev pub OnDirs : ℕ → (List Dir → Type 0) → Type 0
+OnDirs word P = (ds : List Dir) → word ≡ word_of ds → P ds
 
 -- the nodes after the offer of the jump in one direction, if it has a stop, and in all of these
 abbrev pub jumped_in : GridData → Cell → Last → Dir → Table → Table

@@ -1,11 +1,12 @@
 //! Going on from a taken state: one offer for each jump.
 
-ghost use Rattle.std.specs.Prelude.{◌≡◌, ℕ, ◌+◌, ◌-◌, ◌*◌, ◌<◌, ◌≤◌, ◌^◌, true, Some, length, slice_get, MatchOption};
+ghost use Rattle.std.specs.Prelude.{◌≡◌, ℕ, ◌+◌, ◌-◌, ◌*◌, ◌<◌, ◌≤◌, ◌^◌, true, List, Some, length, slice_get, MatchOption};
 ghost use Rattle.std.specs.List.{AllByRecursion};
 ghost use Rattle.root2_cost.specs.Rank.{rank_of};
 ghost use Rattle.grid_moves.specs.Points.{estimate};
 ghost use Rattle.pruning.specs.Allowed.{is_allowed};
 ghost use Rattle.pruning.specs.Chain as chain;
+ghost use Rattle.pruning.specs.Packed.{word_of};
 ghost use Rattle.pruning.specs.Source.{IsWithin};
 ghost use Rattle.best_first.specs.Space.{KeepsShape};
 ghost use Rattle.best_first.specs.Trace.{node_cell};
@@ -15,7 +16,7 @@ ghost use Rattle.search_core.specs.Serving.{OnSome, OnEach};
 
 use best_first::{Offer, Space, State};
 use grid_moves::{Cell, Dir, dir_number, estimate};
-use pruning::{Arrival, JumpSource, is_diagonal};
+use pruning::{Arrival, JumpSource, Packed, is_diagonal};
 use root2_cost::Cost;
 use std::sync::ledger::Ledger;
 use steps::Steps;
@@ -176,7 +177,7 @@ pub(crate) fn offer_jumps<J: JumpSource, L: Ledger, M: Ledger>(
     j: &J,
     ends: Ends,
     last: Last,
-    dirs: &[Dir],
+    dirs: Packed,
     space: &mut Space,
     steps: &mut Steps<L>,
     own: &mut Steps<M>,
@@ -184,16 +185,19 @@ pub(crate) fn offer_jumps<J: JumpSource, L: Ledger, M: Ledger>(
     requires some { OnSome (J.StandsFor j.now) ends.from ends.to }
     requires offering { OnEach (J.StandsFor j.now) ends.from ends.to
         (λ g. spec.IsOffering g ends.from ends.to last space.old) }
-    requires allowed { OnEach (J.StandsFor j.now) ends.from ends.to (λ g. AllByRecursion
-        (λ d. is_allowed g last.state.cell (jumps.come_to last.state.arrival) d ≡ true) dirs.now) }
-    requires room { length dirs.now ≤ space.old.spare }
-    ensures jumped { OnEach (J.StandsFor j.now) ends.from ends.to
-        (λ g. space.new.table ≡ spec.jumped g ends.to last dirs.now space.old.table) }
+    requires allowed { spec.OnDirs dirs.word (λ ds. OnEach (J.StandsFor j.now) ends.from ends.to
+        (λ g. AllByRecursion (λ d. is_allowed g last.state.cell (jumps.come_to last.state.arrival) d ≡ true) ds)) }
+    requires room { (ds : List Dir) × (dirs.word ≡ word_of ds) × (length ds ≤ space.old.spare) }
+    ensures jumped { spec.OnDirs dirs.word (λ ds. OnEach (J.StandsFor j.now) ends.from ends.to
+        (λ g. space.new.table ≡ spec.jumped g ends.to last ds space.old.table)) }
     ensures shape { KeepsShape space.old space.new }
-    ensures most { IsWithin (J.most j.now) (λ told. length dirs.now * told.stop) steps.old steps.new }
+    ensures most { spec.OnDirs dirs.word
+        (λ ds. IsWithin (J.most j.now) (λ told. length ds * told.stop) steps.old steps.new) }
     ensures fewest { steps.old ≤ steps.new }
 {
-    for d in dirs {
-        offer_jump(j, ends, last, *d, space, steps, own);
+    let mut left = dirs;
+    'jumps: while let Some(s) = left.split() {
+        offer_jump(j, ends, last, s.first, space, steps, own);
+        left = s.others;
     }
 }

@@ -90,8 +90,8 @@ fn advance<J: JumpSource, L: Ledger, M: Ledger>(
 {
     space.reserve()?;
     let last = last_at(space, ends.to, at);
-    let dirs = j.allowed(last.state.cell, come_to(last.state.arrival), steps);
-    offer_jumps(j, ends, last, dirs.as_slice(), space, steps, own);
+    let dirs = j.allowed_word(last.state.cell, come_to(last.state.arrival), steps);
+    offer_jumps(j, ends, last, dirs, space, steps, own);
     match space.take_next(own) {
         None => Ok(None),
         Some(next) => {

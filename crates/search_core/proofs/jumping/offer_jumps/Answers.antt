@@ -1,51 +1,70 @@
-use Rattle.std.proofs.Common.{◌≡◌, ◌∙◌, ◌+◌, ◌*◌, ◌<◌, true, length, arith, ap, List}
-use Rattle.std.proofs.lemmas.Bool.Decides.{nat_tests}
-use Rattle.std.proofs.lemmas.List.{take_all}
-use Rattle.std.proofs.lemmas.Option.{slice_get-get_or}
+use Rattle.std.proofs.Common.{◌≡◌, ◌∙◌, ◌++◌, true, List, arith, ap, subst, refl}
+use Rattle.std.specs.List.{AllByRecursion}
 use Rattle.grid_moves.specs.declared.Dir.{Dir}
-use Rattle.grid_moves.specs.declared.Dir.TheVariants.{N}
 use Rattle.pruning.specs.Allowed.{is_allowed}
 use Rattle.search_core.specs.Jumps.{come_to}
-use Rattle.search_core.specs.Jumping.{jumped}
-use Rattle.search_core.proofs.Counting.{within_then}
-use Rattle.search_core.proofs.Serving.{all_get, still_offering, jumped_more}
+use Rattle.search_core.proofs.Serving.{all_front, all_next, still_offering, at_first, at_next, at_last, has_one}
 use Rattle.search_core.proofs.jumping.offer_jumps.Goals as goal
+
+pub jumps-init : goal.jumps-init
+jumps-init g c = record {
+  so_far = λ ds is. at_first (g.J.JumpSource.StandsFor c.args.j.now) c.args.ends.from c.args.ends.to c.args.last
+      (g.J.JumpSource.most c.args.j.now) ds c.args.dirs.word c.args.space.now c.args.steps.now is;
+  shape = record { layout = refl; places = refl; width = refl };
+  fewest = omega arith;
+}
 
 pub offer_jump-requires-clause-offering : goal.offer_jump-requires-clause-offering
 offer_jump-requires-clause-offering g c =
-    still_offering (g.J.JumpSource.StandsFor c.args.j.now) c.args.ends.from c.args.ends.to c.args.last
-    c.args.dirs.now c.loop-d.d-index c.args.space.now c.loop-d.space c.requires.offering c.requires.allowed
-    c.loop-d.invariant.jumped c.loop-d.invariant.shape
+    let so = c.jumps.invariant.so_far c.requires.room.0 c.requires.room.1 in
+    still_offering (g.J.JumpSource.StandsFor c.args.j.now) c.args.ends.from c.args.ends.to c.args.last so.done
+    c.args.space.now c.jumps.space c.requires.offering
+    (λ x served. all_front (λ d. is_allowed x c.args.last.state.cell (come_to c.args.last.state.arrival) d ≡ true)
+    so.done so.rest (subst (λ (ds : List Dir). AllByRecursion
+    (λ d. is_allowed x c.args.last.state.cell (come_to c.args.last.state.arrival) d ≡ true) ds) so.parts
+    (c.requires.allowed c.requires.room.0 c.requires.room.1 x served)))
+    so.jumped c.jumps.invariant.shape
 
 pub offer_jump-requires-clause-allowed : goal.offer_jump-requires-clause-allowed
 offer_jump-requires-clause-allowed g c = λ x served.
-    let inside : c.loop-d.d-index < length c.args.dirs.now = grind (arith, nat_tests) in
-    all_get (λ d. is_allowed x c.args.last.state.cell (come_to c.args.last.state.arrival) d ≡ true)
-    c.args.dirs.now c.loop-d.d-index _ (c.requires.allowed x served)
-    (slice_get-get_or c.args.dirs.now c.loop-d.d-index N inside)
+    let so = c.jumps.invariant.so_far c.requires.room.0 c.requires.room.1 in
+    let next = c.in-Some.ensures.some so.rest so.word in
+    all_next (λ d. is_allowed x c.args.last.state.cell (come_to c.args.last.state.arrival) d ≡ true) so.done
+    c.in-Some.s.first next.0 (subst (λ (ds : List Dir). AllByRecursion
+    (λ d. is_allowed x c.args.last.state.cell (come_to c.args.last.state.arrival) d ≡ true) ds)
+    (so.parts ∙ ap (λ (ds : List Dir). so.done ++ ds) next.1)
+    (c.requires.allowed c.requires.room.0 c.requires.room.1 x served))
 
-pub loop-d-preserved : goal.loop-d-preserved
-loop-d-preserved g c =
-    let inside : c.loop-d.d-index < length c.args.dirs.now = grind (arith, nat_tests) in
-    record {
-      jumped = jumped_more (g.J.JumpSource.StandsFor c.args.j.now) c.args.ends.from c.args.ends.to c.args.last
-          c.args.dirs.now c.loop-d.d-index _ c.args.space.now.table c.loop-d.space.table
-          c.offer_jump.new.space.table (slice_get-get_or c.args.dirs.now c.loop-d.d-index N inside)
-          c.loop-d.invariant.jumped c.offer_jump.ensures.jumped;
-      shape = record {
-        layout = c.offer_jump.ensures.shape.layout ∙ c.loop-d.invariant.shape.layout;
-        places = c.offer_jump.ensures.shape.places ∙ c.loop-d.invariant.shape.places;
-        width = c.offer_jump.ensures.shape.width ∙ c.loop-d.invariant.shape.width;
-      };
-      room = omega arith;
-      most = within_then (g.J.JumpSource.most c.args.j.now) (λ told. c.loop-d.d-index * told.stop)
-          (λ told. told.stop) (λ told. (c.loop-d.d-index + 1) * told.stop) c.args.steps.now c.loop-d.steps
-          c.offer_jump.new.steps c.loop-d.invariant.most c.offer_jump.ensures.most (λ told. omega arith);
-      fewest = omega arith;
-    }
+pub offer_jump-requires-clause-room : goal.offer_jump-requires-clause-room
+offer_jump-requires-clause-room g c =
+    let so = c.jumps.invariant.so_far c.requires.room.0 c.requires.room.1 in
+    let next = c.in-Some.ensures.some so.rest so.word in
+    has_one c.requires.room.0 so.done so.rest next.0 c.in-Some.s.first so.parts next.1 c.args.space.now.spare
+    c.jumps.space.spare c.requires.room.2 so.room
+
+pub jumps-preserved : goal.jumps-preserved
+jumps-preserved g c = record {
+  so_far = λ ds is. at_next (g.J.JumpSource.StandsFor c.args.j.now) c.args.ends.from c.args.ends.to c.args.last
+      (g.J.JumpSource.most c.args.j.now) ds c.in-Some.s.first c.jumps.left.word c.in-Some.s.others.word
+      c.args.space.now c.jumps.space c.offer_jump.new.space c.args.steps.now c.jumps.steps
+      c.offer_jump.new.steps (c.jumps.invariant.so_far ds is) c.in-Some.ensures.some
+      c.offer_jump.ensures.jumped c.offer_jump.ensures.spare c.offer_jump.ensures.most;
+  shape = record {
+    layout = c.offer_jump.ensures.shape.layout ∙ c.jumps.invariant.shape.layout;
+    places = c.offer_jump.ensures.shape.places ∙ c.jumps.invariant.shape.places;
+    width = c.offer_jump.ensures.shape.width ∙ c.jumps.invariant.shape.width;
+  };
+  fewest = let n = c.jumps.invariant.fewest in let m = c.offer_jump.ensures.fewest in omega (arith, n, m);
+}
 
 pub returns-clause-jumped : goal.returns-clause-jumped
-returns-clause-jumped g c = λ x served.
-    c.loop-d.invariant.jumped x served
-    ∙ ap (λ (dirs : List Dir). jumped x c.args.ends.to c.args.last dirs c.args.space.now.table)
-    (take_all c.loop-d.d-index c.args.dirs.now (grind (arith, nat_tests)))
+returns-clause-jumped g c = λ ds is.
+    (at_last (g.J.JumpSource.StandsFor c.args.j.now) c.args.ends.from c.args.ends.to c.args.last
+    (g.J.JumpSource.most c.args.j.now) ds c.jumps.left.word c.args.space.now c.jumps.space c.args.steps.now
+    c.jumps.steps (c.jumps.invariant.so_far ds is) c.in_default.ensures.none).0
+
+pub returns-clause-most : goal.returns-clause-most
+returns-clause-most g c = λ ds is.
+    (at_last (g.J.JumpSource.StandsFor c.args.j.now) c.args.ends.from c.args.ends.to c.args.last
+    (g.J.JumpSource.most c.args.j.now) ds c.jumps.left.word c.args.space.now c.jumps.space c.args.steps.now
+    c.jumps.steps (c.jumps.invariant.so_far ds is) c.in_default.ensures.none).1

@@ -1,16 +1,18 @@
-use Rattle.std.proofs.Common.{◌+◌, ◌*◌, ◌≤◌, take}
-use Rattle.pruning.specs.Source.{IsWithin}
+use Rattle.std.proofs.Common.{◌≤◌}
 use Rattle.best_first.specs.Space.{KeepsShape}
-use Rattle.search_core.proofs.Serving.{HasJumped}
+use Rattle.search_core.specs.Jumping.{OnDirs}
+use Rattle.search_core.proofs.Serving.{IsSoFar}
 use Rattle.search_core.proofs.jumping.offer_jumps.Given as goal
 
--- the jumps in the directions before this one were offered
-abbrev pub invariant-loop-d : goal.invariant-loop-d
-invariant-loop-d g l = record {
-  jumped : HasJumped (g.J.JumpSource.StandsFor l.j) l.ends.from l.ends.to l.last (take l.d-index l.dirs)
-      l.initial.space.table l.space.table;
+-- some of the jumps were offered, and the others are left
+abbrev pub invariant-jumps : goal.invariant-jumps
+invariant-jumps g l = record {
+  so_far : OnDirs l.fn.dirs.word (λ ds. IsSoFar (g.J.JumpSource.StandsFor l.j) l.ends.from l.ends.to l.last
+      (g.J.JumpSource.most l.j) ds l.left.word l.initial.space l.space l.initial.steps l.steps);
   shape : KeepsShape l.initial.space l.space;
-  room : l.initial.space.spare ≤ l.space.spare + l.d-index;
-  most : IsWithin (g.J.JumpSource.most l.j) (λ told. l.d-index * told.stop) l.initial.steps l.steps;
   fewest : l.initial.steps ≤ l.steps;
 }
+
+-- the word that is left shrinks
+abbrev pub decreases-jumps : goal.decreases-jumps
+decreases-jumps g l = l.left.word
