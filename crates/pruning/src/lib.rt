@@ -14,7 +14,7 @@ mod source;
 mod turns;
 
 use grid_moves::Dir;
-pub use packed::{Packed, Split, word_of_dirs};
+pub use packed::{Packed, Split};
 pub use rule::{allowed, allowed_word, forced};
 pub use source::JumpSource;
 pub use turns::{Side, is_diagonal, quarter, rear, turn};

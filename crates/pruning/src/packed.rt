@@ -1,17 +1,35 @@
-//! Lists of directions in one word, which stays in a register: the lowest four bits have the first direction's
-//! number and one, those above them the others.
+//! Lists of directions in one word, which stays in a register.
 
-ghost use Rattle.std.specs.Prelude.{◌≡◌, ℕ, ◌+◌, ◌*◌, ◌-◌, ◌<◌, ◌≤◌, ◌^◌, [], ◌∷◌, List, length, IfNone, IfSome};
+ghost use Rattle.std.specs.Prelude.{◌≡◌, ℕ, ◌+◌, ◌*◌, ◌<◌, ◌≤◌, ◌^◌, [], ◌∷◌, List, length, IfNone, IfSome};
 ghost use Rattle.pruning.specs.Packed.{word_of};
 
 use arrayvec::ArrayVec;
 use grid_moves::{ALL_DIRS, Dir, dir_number};
+use std::marker::Model;
 
-/// At most eight directions in one word: the lowest four bits have the first direction's number and one, those
-/// above them the others. The word is 0 where there are none.
+/// At most eight directions in one word. Contracts see their list.
 #[derive(Clone, Copy, Debug)]
 pub struct Packed {
-    pub word: u32,
+    // The lowest four bits have the first direction's number and one, those above them the others.
+    word: u32,
+}
+
+impl Model for Packed {
+    ghost use Rattle.std.specs.Prelude.{◌≡◌, List};
+    ghost use Rattle.std.proofs.Common.{sym};
+    ghost use Rattle.grid_moves.specs.declared.Dir.{Dir};
+
+    ghost Value = { List Dir };
+
+    ghost use Rattle.pruning.specs.Packed.{word_of, dirs_of};
+
+    ghost view = { λ p. dirs_of 8 p.word };
+
+    ghost invariant = { λ p. p.word ≡ word_of (dirs_of 8 p.word) };
+
+    ghost inverse = { λ ds. record { word = word_of ds } };
+
+    ghost inverse_ok = { λ p h i. record { word = sym h i } };
 }
 
 /// The first direction and the others.
@@ -21,12 +39,11 @@ pub struct Split {
     pub others: Packed,
 }
 
-/// The word of a direction and of those after it.
+// The word of a direction and of those after it.
 #[inline(always)]
-pub(crate) fn put_first(d: Dir, others: u32) -> u32
+fn put_first(d: Dir, others: u32) -> u32
     requires room { others < 2 ^ 28 }
     ensures word { (ds : List Dir) → others ≡ word_of ds → result ≡ word_of (d ∷ ds) }
-    ensures small { result ≤ 16 * others + 8 }
 {
     others * 16 + (u32::from(dir_number(d)) + 1)
 }
@@ -41,13 +58,31 @@ fn first_of(word: u32) -> Dir
 }
 
 impl Packed {
+    /// No direction.
+    #[inline(always)]
+    pub fn new() -> Packed
+        ensures { result ≡ [] }
+    {
+        Packed { word: 0 }
+    }
+
+    /// A direction and these after it.
+    #[inline(always)]
+    pub(crate) fn after(self, d: Dir) -> Packed
+        requires room { length self < 8 }
+        ensures { result ≡ d ∷ self }
+    {
+        Packed {
+            word: put_first(d, self.word),
+        }
+    }
+
     /// The first direction and the others, or `None` where there are none.
     #[inline(always)]
     pub fn split(self) -> Option<Split>
-        requires packed { (ds : List Dir) × (self.word ≡ word_of ds) }
-        ensures none { (ds : List Dir) → self.word ≡ word_of ds → IfNone result (ds ≡ []) }
-        ensures some { (ds : List Dir) → self.word ≡ word_of ds → IfSome result (λ s. (others : List Dir)
-            × (ds ≡ s.first ∷ others) × (s.others.word ≡ word_of others)) }
+        ensures few { length self ≤ 8 }
+        ensures none { IfNone result (self ≡ []) }
+        ensures some { IfSome result (λ s. self ≡ s.first ∷ s.others) }
     {
         if self.word == 0 {
             return None;
@@ -59,31 +94,31 @@ impl Packed {
             },
         })
     }
-}
 
-/// The directions of a word.
-#[inline(always)]
-pub(crate) fn unpacked(word: u32) -> ArrayVec<Dir, 8>
-    requires packed { (ds : List Dir) × (word ≡ word_of ds) × (length ds ≤ 8) }
-    ensures { (ds : List Dir) → word ≡ word_of ds → result.items ≡ ds }
-{
-    let mut found = ArrayVec::new();
-    let mut left = word;
-    'left: while left != 0 {
-        found.push(first_of(left));
-        left /= 16;
+    /// The directions in a list of their own.
+    #[inline(always)]
+    pub fn to_list(self) -> ArrayVec<Dir, 8>
+        ensures { result.items ≡ self }
+    {
+        let _at_most_eight = &self.word;
+        let mut found = ArrayVec::new();
+        let mut left = self;
+        'left: while let Some(s) = left.split() {
+            found.push(s.first);
+            left = s.others;
+        }
+        found
     }
-    found
-}
 
-/// The word of these directions.
-pub fn word_of_dirs(dirs: &[Dir]) -> Packed
-    requires few { length dirs.now ≤ 8 }
-    ensures { result.word ≡ word_of dirs.now }
-{
-    let mut word = 0;
-    for i in 0..dirs.len() {
-        word = put_first(dirs[dirs.len() - 1 - i], word);
+    /// These directions, in one word.
+    pub fn of_dirs(dirs: &[Dir]) -> Packed
+        requires few { length dirs.now ≤ 8 }
+        ensures { result ≡ dirs.now }
+    {
+        let mut packed = Packed::new();
+        for i in 0..dirs.len() {
+            packed = packed.after(dirs[dirs.len() - 1 - i]);
+        }
+        packed
     }
-    Packed { word }
 }

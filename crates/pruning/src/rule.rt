@@ -14,19 +14,18 @@
 //! after a diagonal move nothing is forced. Where one blocked cell may be passed (AAAI 2011) it stands at
 //! the side of `x`, and after a diagonal move behind it; `n` is forced.
 
-ghost use Rattle.std.specs.Prelude.{◌≡◌, ℕ, ◌+◌, ◌*◌, ◌≤◌, ◌<◌, ◌^◌, ◌&&◌, ◌∷◌, IsTrue, false, List, filter};
+ghost use Rattle.std.specs.Prelude.{◌≡◌, ◌+◌, ◌≤◌, ◌<◌, ◌&&◌, ◌∷◌, IsTrue, false, List, filter, length};
 ghost use Rattle.grid_moves.specs.Grid.{IsGrid, is_free};
 ghost use Rattle.grid_moves.specs.Move as moves;
 ghost use Rattle.pruning.specs.Turns as turns;
 ghost use Rattle.pruning.specs.Allowed as spec;
 ghost use Rattle.pruning.specs.Numbered as numbered;
-ghost use Rattle.pruning.specs.Packed.{word_of};
 ghost use Rattle.pruning.specs.Ring as rings;
 ghost use Rattle.pruning.specs.Marked as marks;
 ghost use Rattle.pruning.specs.First as first;
 
 use crate::Arrival;
-use crate::packed::{Packed, put_first, unpacked};
+use crate::packed::Packed;
 use crate::ring::{Ring, is_inside, ring_of};
 use crate::turns::{Side, is_diagonal, quarter, rear, turn};
 use arrayvec::ArrayVec;
@@ -164,17 +163,18 @@ fn is_allowed(rule: Corner, ring: Ring, by: Arrival, d: Dir) -> bool
     is_kept(rule, ring, by, d) & leads_on(rule, ring, d)
 }
 
-// Puts a direction before others, if it is allowed. It is known by numbers alone, with no branch, which the
-// processor would seldom foresee.
+// Puts a direction before others, if it is allowed: a choice of two numbers, of which the compiler makes no
+// branch, as the processor would seldom foresee it.
 #[inline(always)]
-fn put_allowed(rule: Corner, ring: Ring, by: Arrival, d: Dir, others: u32) -> u32
-    requires room { others < 2 ^ 28 }
-    ensures word { (ds : List Dir) → others ≡ word_of (filter (rings.is_allowed_on rule ring by) ds)
-        → result ≡ word_of (filter (rings.is_allowed_on rule ring by) (d ∷ ds)) }
-    ensures small { result ≤ 16 * others + 8 }
+fn put_allowed(rule: Corner, ring: Ring, by: Arrival, d: Dir, others: Packed) -> Packed
+    requires room { length others < 8 }
+    ensures kept { (ds : List Dir) → others ≡ filter (rings.is_allowed_on rule ring by) ds
+        → result ≡ filter (rings.is_allowed_on rule ring by) (d ∷ ds) }
+    ensures small { length result ≤ length others + 1 }
 {
+    let with_it = others.after(d);
     if is_allowed(rule, ring, by, d) {
-        put_first(d, others)
+        with_it
     } else {
         others
     }
@@ -209,14 +209,14 @@ fn arrival_of(number: usize) -> Arrival
     }
 }
 
-// The word of all directions that are allowed, for a rule and an arrival that the compiler knows.
-fn allowed_of<const RULE: usize, const BY: usize>(ring: Ring) -> u32
-    ensures { result ≡ word_of (filter
-        (rings.is_allowed_on (numbered.corner_of RULE) ring (numbered.arrival_of BY)) moves.all_dirs) }
+// All directions that are allowed, for a rule and an arrival that the compiler knows.
+fn allowed_of<const RULE: usize, const BY: usize>(ring: Ring) -> Packed
+    ensures { result ≡ filter
+        (rings.is_allowed_on (numbered.corner_of RULE) ring (numbered.arrival_of BY)) moves.all_dirs }
 {
     let rule = corner_of(RULE);
     let by = arrival_of(BY);
-    let nw = put_allowed(rule, ring, by, Dir::NW, 0);
+    let nw = put_allowed(rule, ring, by, Dir::NW, Packed::new());
     let w = put_allowed(rule, ring, by, Dir::W, nw);
     let sw = put_allowed(rule, ring, by, Dir::SW, w);
     let s = put_allowed(rule, ring, by, Dir::S, sw);
@@ -228,8 +228,8 @@ fn allowed_of<const RULE: usize, const BY: usize>(ring: Ring) -> u32
 
 // The same, with code of its own for each arrival.
 #[inline(always)]
-fn allowed_by<const RULE: usize>(ring: Ring, by: Arrival) -> u32
-    ensures { result ≡ word_of (filter (rings.is_allowed_on (numbered.corner_of RULE) ring by) moves.all_dirs) }
+fn allowed_by<const RULE: usize>(ring: Ring, by: Arrival) -> Packed
+    ensures { result ≡ filter (rings.is_allowed_on (numbered.corner_of RULE) ring by) moves.all_dirs }
 {
     match by {
         Arrival::Start => allowed_of::<RULE, 8>(ring),
@@ -246,8 +246,8 @@ fn allowed_by<const RULE: usize>(ring: Ring, by: Arrival) -> u32
 
 // The same, with code of its own for each rule.
 #[inline(always)]
-fn allowed_under(rule: Corner, ring: Ring, by: Arrival) -> u32
-    ensures { result ≡ word_of (filter (rings.is_allowed_on rule ring by) moves.all_dirs) }
+fn allowed_under(rule: Corner, ring: Ring, by: Arrival) -> Packed
+    ensures { result ≡ filter (rings.is_allowed_on rule ring by) moves.all_dirs }
 {
     match rule {
         Corner::Never => allowed_by::<0>(ring, by),
@@ -257,10 +257,10 @@ fn allowed_under(rule: Corner, ring: Ring, by: Arrival) -> u32
 
 // The allowed directions at a free cell, with each cell around it read once.
 #[inline(always)]
-fn allowed_around<T: Terrain>(t: &T, at: Cell, by: Arrival) -> u32
+fn allowed_around<T: Terrain>(t: &T, at: Cell, by: Arrival) -> Packed
     requires free { IsTrue (is_free (T.grid t.now) at) }
     requires whole { IsGrid (T.grid t.now) }
-    ensures rule { result ≡ word_of (spec.allowed_dirs (T.grid t.now) at by) }
+    ensures rule { result ≡ spec.allowed_dirs (T.grid t.now) at by }
 {
     let ring = ring_of(t, at);
     allowed_under(t.corner(), ring, by)
@@ -268,10 +268,10 @@ fn allowed_around<T: Terrain>(t: &T, at: Cell, by: Arrival) -> u32
 
 // The same, for the rare cells on the border of the map.
 #[inline(never)]
-fn allowed_on_border<T: Terrain>(t: &T, at: Cell, by: Arrival) -> u32
+fn allowed_on_border<T: Terrain>(t: &T, at: Cell, by: Arrival) -> Packed
     requires free { IsTrue (is_free (T.grid t.now) at) }
     requires whole { IsGrid (T.grid t.now) }
-    ensures rule { result ≡ word_of (spec.allowed_dirs (T.grid t.now) at by) }
+    ensures rule { result ≡ spec.allowed_dirs (T.grid t.now) at by }
 {
     allowed_around(t, at, by)
 }
@@ -288,24 +288,23 @@ pub fn allowed<T: Terrain>(t: &T, at: Cell, by: Arrival) -> ArrayVec<Dir, 8>
     requires whole { IsGrid (T.grid t.now) }
     ensures rule { result.items ≡ spec.allowed_dirs (T.grid t.now) at by }
 {
-    unpacked(allowed_word(t, at, by).word)
+    allowed_word(t, at, by).to_list()
 }
 
 /// The same in one word. Where the cells around lie on the map, the compiler knows that each of them does.
 pub fn allowed_word<T: Terrain>(t: &T, at: Cell, by: Arrival) -> Packed
     requires free { IsTrue (is_free (T.grid t.now) at) }
     requires whole { IsGrid (T.grid t.now) }
-    ensures rule { result.word ≡ word_of (spec.allowed_dirs (T.grid t.now) at by) }
+    ensures rule { result ≡ spec.allowed_dirs (T.grid t.now) at by }
 {
     let (left, up) = (at.x.wrapping_sub(1), at.y.wrapping_sub(1));
     let inner =
         is_inside(t, left, up) && is_inside(t, at.x + 1, at.y + 1) && is_inside(t, at.x, at.y);
-    let word = if inner {
+    if inner {
         allowed_around(t, at, by)
     } else {
         allowed_on_border(t, at, by)
-    };
-    Packed { word }
+    }
 }
 
 // Whether there is a wall in one direction, and the move in another is legal.

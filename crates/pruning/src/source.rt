@@ -3,7 +3,6 @@
 ghost use Rattle.std.specs.Prelude.{◌≡◌, ℕ, ◌+◌, ◌≤◌, Option, IsTrue};
 ghost use Rattle.grid_moves.specs.Grid.{GridData, IsGrid, is_free};
 ghost use Rattle.pruning.specs.Allowed.{allowed_dirs};
-ghost use Rattle.pruning.specs.Packed.{word_of};
 ghost use Rattle.pruning.specs.Stop.{IsFirstStop};
 ghost use Rattle.pruning.specs.Source.{MostSteps, IsWithin, CanArrive};
 
@@ -22,7 +21,8 @@ pub trait JumpSource {
     /// The grids for which the source stands.
     ghost StandsFor: { Self → GridData → Type 0 };
 
-    /// How many steps one call of `stop` makes at most, and one of `allowed`, if that is told.
+    /// How many steps one call of `stop` makes at most, and one of `allowed` or `allowed_word`, if that is
+    /// told.
     ghost most: { Self → Option MostSteps };
 
     /// How many steps each of these calls makes at least.
@@ -60,7 +60,7 @@ pub trait JumpSource {
     fn allowed_word<L: Ledger>(&self, at: Cell, by: Arrival, steps: &mut Steps<L>) -> Packed
         requires { (g : GridData) × StandsFor self.now g × IsTrue (is_free g at) × CanArrive g at by }
         ensures rule { (g : GridData) → StandsFor self.now g → IsTrue (is_free g at) → CanArrive g at by
-            → result.word ≡ word_of (allowed_dirs g at by) }
+            → result ≡ allowed_dirs g at by }
         ensures most { IsWithin (most self.now) (λ told. told.allowed) steps.old steps.new }
         ensures fewest { steps.old + fewest self.now ≤ steps.new };
 }

@@ -94,7 +94,7 @@ impl JumpSource for Alone {
 
     fn allowed_word<L: Ledger>(&self, _at: Cell, _by: Arrival, steps: &mut Steps<L>) -> Packed {
         steps.tick();
-        Packed { word: 0 }
+        Packed::new()
     }
 }
 

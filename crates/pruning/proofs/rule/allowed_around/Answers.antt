@@ -1,13 +1,10 @@
-use Rattle.std.proofs.Common.{◌∙◌, ap, List}
-use Rattle.grid_moves.specs.declared.Dir.{Dir}
-use Rattle.pruning.specs.Packed.{word_of}
+use Rattle.std.proofs.Common.{◌∙◌}
 use Rattle.pruning.proofs.Ringing.{allowed_of_ring}
 use Rattle.pruning.proofs.rule.allowed_around.Goals as goal
 
 pub returns : goal.returns
 returns g c = record {
   rule = c.allowed_under.ensures
-      ∙ ap (λ (ds : List Dir). word_of ds)
-      (allowed_of_ring (g.T.Terrain.grid c.args.t.now) c.args.at c.requires.free c.ring_of-ring.result
-      c.ring_of-ring.ensures c.corner.result c.corner.ensures c.args.by);
+      ∙ allowed_of_ring (g.T.Terrain.grid c.args.t.now) c.args.at c.requires.free c.ring_of-ring.result
+      c.ring_of-ring.ensures c.corner.result c.corner.ensures c.args.by;
 }

@@ -1,0 +1,21 @@
+use Rattle.std.proofs.Common.{◌≤◌, ◌<◌, ◌^◌, ◌∷◌, ◌∙◌, List, length, arith, ap, sym, subst}
+use Rattle.grid_moves.specs.declared.Dir.{Dir}
+use Rattle.pruning.specs.Packed.{word_of}
+use Rattle.pruning.proofs.Packing.{has_place, shown, whole}
+use Rattle.pruning.proofs.packed.Packed.after.Goals as goal
+
+pub put_first-requires : goal.put_first-requires
+put_first-requires c =
+    let word = c.self.invariant ∙ ap (λ (ds : List Dir). word_of ds) c.self.view_is in
+    let few : length c.args.self ≤ 7 = grind arith in
+    record { room = subst (λ (w : _). w < 2 ^ 28) (sym word) (has_place c.args.self few); }
+
+pub invariant_of-result : goal.invariant_of-result
+invariant_of-result c =
+    let word = c.self.invariant ∙ ap (λ (ds : List Dir). word_of ds) c.self.view_is in
+    whole c.put_first.result (c.args.d ∷ c.args.self) (c.put_first.ensures.word c.args.self word) (grind arith)
+
+pub returns : goal.returns
+returns c =
+    let word = c.self.invariant ∙ ap (λ (ds : List Dir). word_of ds) c.self.view_is in
+    shown c.put_first.result (c.args.d ∷ c.args.self) (c.put_first.ensures.word c.args.self word) (grind arith)
