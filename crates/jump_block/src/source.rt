@@ -4,7 +4,6 @@ ghost use Rattle.std.specs.Prelude.{◌≡◌, ℕ, ◌+◌, ◌≤◌, false, t
 ghost use Rattle.grid_moves.specs.Grid.{GridData, is_free};
 ghost use Rattle.pruning.specs.Allowed.{allowed_dirs};
 ghost use Rattle.pruning.specs.First as first;
-ghost use Rattle.pruning.specs.Packed.{word_of};
 ghost use Rattle.pruning.specs.Stop.{IsFirstStop};
 ghost use Rattle.pruning.specs.Turns.{is_diagonal};
 ghost use Rattle.jump_block.specs.Scan.{most_lanes};
@@ -146,7 +145,7 @@ impl<'a> Bits<'a> {
             × (is_free g at ≡ true) }
         ensures rule { (g : GridData)
             → AreItsBits self.now.rows.now self.now.columns.now self.now.corner g → is_free g at ≡ true
-            → result.word ≡ word_of (allowed_dirs g at by) }
+            → result ≡ allowed_dirs g at by }
         ensures fewest { steps.old + 3 ≤ steps.new }
     {
         let around = Patch::read(self.rows, self.corner, at, steps);

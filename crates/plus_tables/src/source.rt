@@ -8,7 +8,7 @@ use crate::tables::Tables;
 use crate::turns::{allowed_told, legal_of};
 use arrayvec::ArrayVec;
 use grid_moves::{ALL_DIRS, Cell, Dir};
-use pruning::{Arrival, JumpSource, Packed, word_of_dirs};
+use pruning::{Arrival, JumpSource, Packed};
 use std::sync::ledger::Ledger;
 use steps::Steps;
 
@@ -46,6 +46,6 @@ impl<'a> JumpSource for PlusJumps<'a> {
 
     fn allowed_word<L: Ledger>(&self, at: Cell, by: Arrival, steps: &mut Steps<L>) -> Packed {
         let dirs = self.allowed(at, by, steps);
-        word_of_dirs(dirs.as_slice())
+        Packed::of_dirs(dirs.as_slice())
     }
 }

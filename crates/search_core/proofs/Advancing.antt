@@ -10,8 +10,8 @@ use Rattle.grid_moves.specs.Move.{is_same, all_dirs}
 use Rattle.grid_moves.specs.Points.{estimate}
 use Rattle.pruning.specs.declared.Arrival.{Arrival}
 use Rattle.pruning.specs.Allowed.{is_allowed, allowed_dirs}
-use Rattle.pruning.specs.Packed.{word_of}
 use Rattle.pruning.specs.Source.{MostSteps, IsWithin, CanArrive}
+use Rattle.pruning.proofs.Packing.{few_kept}
 use Rattle.best_first.specs.declared.node.Node.{Node}
 use Rattle.best_first.specs.declared.state.Layout.TheVariants.{ByArrival}
 use Rattle.best_first.specs.Progress.{HasOffered}
@@ -25,7 +25,6 @@ use Rattle.search_core.specs.Jumping.{last_at, jumped, IsOffering, HasReached}
 use Rattle.search_core.specs.Run.{IsExhausted}
 use Rattle.search_core.specs.Serving.{IsServed, OnSome, OnEach}
 use Rattle.search_core.specs.declared.jumping.Last.{Last}
-use Rattle.pruning.proofs.Packing.{few_kept, one_word}
 use Rattle.search_core.proofs.Counting.{within_then}
 use Rattle.search_core.proofs.Offers.{all_allowed}
 use Rattle.search_core.proofs.Serving.{same_shape}
@@ -69,22 +68,6 @@ module _ (Stands : GridData → Type 0) (s t : Cell) (at : ℕ) (old mid : Space
     pub offering : OnEach Stands s t (λ g. IsOffering g s t last mid)
     offering g v = offering_at Stands s t g v at old taken (reached g v) mid shape table last told
 
-    -- a word of the allowed directions on each grid is that of those on one
-    module _ (word : ℕ) (told_word : (g : GridData) → Stands g → IsTrue (is_free g last.state.cell)
-        → CanArrive g last.state.cell by → word ≡ word_of (allowed_dirs g last.state.cell by))
-        (some : OnSome Stands s t) where
-      pub word_is : word ≡ word_of (allowed_dirs some.0 last.state.cell by)
-      word_is = told_word some.0 some.1.stands (free_there some.0 some.1) (can_arrive some.0 some.1)
-
-      pub word_few : length (allowed_dirs some.0 last.state.cell by) ≤ 8
-      word_few = few_kept (is_allowed some.0 last.state.cell by) all_dirs
-
-      pub word_rule : (g : GridData) → Stands g → IsTrue (is_free g last.state.cell)
-          → CanArrive g last.state.cell by
-          → allowed_dirs some.0 last.state.cell by ≡ allowed_dirs g last.state.cell by
-      word_rule g stands free can = one_word (allowed_dirs some.0 last.state.cell by)
-          (allowed_dirs g last.state.cell by) (sym word_is ∙ told_word g stands free can)
-
     module _ (dirs : List Dir)
         (rule : (g : GridData) → Stands g → IsTrue (is_free g last.state.cell)
         → CanArrive g last.state.cell by
@@ -92,6 +75,13 @@ module _ (Stands : GridData → Type 0) (s t : Cell) (at : ℕ) (old mid : Space
       allowed : OnEach Stands s t (λ g. dirs ≡ allowed_dirs g last.state.cell (come_to last.state.arrival))
       allowed g v = rule g v.stands (free_there g v) (can_arrive g v)
           ∙ ap (λ (a : Arrival). allowed_dirs g last.state.cell a) by_is
+
+      -- there are at most eight of them
+      pub few_allowed : OnSome Stands s t → length dirs ≤ 8
+      few_allowed some =
+          let all = ap (λ (ds : List Dir). length ds) (allowed some.0 some.1) in
+          let few = few_kept (is_allowed some.0 last.state.cell (come_to last.state.arrival)) all_dirs in
+          omega (arith, all, few)
 
       pub each_allowed : OnEach Stands s t (λ g. AllByRecursion
           (λ d. is_allowed g last.state.cell (come_to last.state.arrival) d ≡ true) dirs)

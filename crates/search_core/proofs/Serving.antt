@@ -9,7 +9,6 @@ use Rattle.grid_moves.specs.declared.Dir.{Dir}
 use Rattle.grid_moves.specs.Grid.{GridData, is_free}
 use Rattle.pruning.specs.Allowed.{is_allowed}
 use Rattle.pruning.specs.First.{first_stop}
-use Rattle.pruning.specs.Packed.{word_of}
 use Rattle.pruning.specs.Source.{MostSteps, IsWithin}
 use Rattle.pruning.specs.Stop.{IsFirstStop}
 use Rattle.pruning.proofs.Stopping.{only_one_first_stop}
@@ -20,7 +19,7 @@ use Rattle.best_first.specs.Space.{SpaceData, KeepsShape}
 use Rattle.best_first.specs.Table.{Table, offered}
 use Rattle.best_first.specs.Ways.{with_all}
 use Rattle.search_core.specs.Jumps.{come_to}
-use Rattle.search_core.specs.Jumping.{offer_after, jumped_in, jumped, IsSpaceOf, IsAt, IsOffering, OnDirs}
+use Rattle.search_core.specs.Jumping.{offer_after, jumped_in, jumped, IsSpaceOf, IsAt, IsOffering}
 use Rattle.search_core.specs.Serving.{IsServed, OnSome, OnEach}
 use Rattle.search_core.specs.declared.jumping.Last.{Last}
 use Rattle.search_core.proofs.Counting.{within_none, within_then}
@@ -129,44 +128,35 @@ module _ (Stands : GridData → Type 0) (s t : Cell) (last : Last) where
       }
 
   module _ (most : Option MostSteps) (ds : List Dir) where
-    -- of the directions some were offered in, and the word has the others
-    pub record IsSoFar (left : ℕ) (old new : SpaceData) (before after : ℕ) : Type 0 where
+    -- some of the directions were offered in, and the others are left
+    pub record IsSoFar (left : List Dir) (old new : SpaceData) (before after : ℕ) : Type 0 where
       pub done : List Dir
-      pub rest : List Dir
-      pub parts : ds ≡ done ++ rest
-      pub word : left ≡ word_of rest
+      pub parts : ds ≡ done ++ left
       pub jumped : HasJumped done old.table new.table
       pub room : old.spare ≤ new.spare + length done
       pub within : IsWithin most (λ told. length done * told.stop) before after
 
-    pub at_first : (word : ℕ) (space : SpaceData) (steps : ℕ) → word ≡ word_of ds
-        → IsSoFar word space space steps steps
-    at_first word space steps is = record {
+    pub at_first : (space : SpaceData) (steps : ℕ) → IsSoFar ds space space steps steps
+    at_first space steps = record {
       done = [];
-      rest = ds;
       parts = refl;
-      word = is;
       jumped = λ g v. refl;
       room = omega arith;
       within = within_none most (λ told. 0 * told.stop) steps;
     }
 
-    -- one more was offered, and the word that is left has those after it
-    pub at_next : (first : Dir) (left others : ℕ) (old mid new : SpaceData) (before at after : ℕ)
-        → IsSoFar left old mid before at
-        → OnDirs left (λ rest. (more : List Dir) × (rest ≡ first ∷ more) × (others ≡ word_of more))
+    -- one more was offered in, and those after it are left
+    pub at_next : (first : Dir) (left others : List Dir) (old mid new : SpaceData) (before at after : ℕ)
+        → IsSoFar left old mid before at → left ≡ first ∷ others
         → OnEach Stands s t (λ g. new.table ≡ jumped_in g t last first mid.table)
         → mid.spare ≤ new.spare + 1 → IsWithin most (λ told. told.stop) at after
         → IsSoFar others old new before after
     at_next first left others old mid new before at after so split step spare steps =
-        let next = split so.rest so.word in
         let n : length (so.done ++ first ∷ []) ≡ length so.done + 1 = length-append so.done (first ∷ []) in
         record {
           done = so.done ++ first ∷ [];
-          rest = next.0;
-          parts = so.parts ∙ ap (λ (ds : List Dir). so.done ++ ds) next.1
-              ∙ sym (append_assoc so.done (first ∷ []) next.0);
-          word = next.2;
+          parts = so.parts ∙ ap (λ (ds : List Dir). so.done ++ ds) split
+              ∙ sym (append_assoc so.done (first ∷ []) others);
           jumped = jumped_more so.done first old.table mid.table new.table so.jumped step;
           room = let r = so.room in omega (arith, n, r, spare);
           within = within_then most (λ told. length so.done * told.stop) (λ told. told.stop)
@@ -178,20 +168,20 @@ module _ (Stands : GridData → Type 0) (s t : Cell) (last : Last) where
         more_steps n m s e = rw e (omega arith)
 
     -- where none is left, it was all of them
-    pub at_last : (left : ℕ) (old new : SpaceData) (before after : ℕ) → IsSoFar left old new before after
-        → OnDirs left (λ rest. rest ≡ [])
+    pub at_last : (left : List Dir) (old new : SpaceData) (before after : ℕ)
+        → IsSoFar left old new before after → left ≡ []
         → HasJumped ds old.table new.table × IsWithin most (λ told. length ds * told.stop) before after
     at_last left old new before after so none =
-        let all : so.done ≡ ds = sym (so.parts ∙ ap (λ (rest : List Dir). so.done ++ rest)
-        (none so.rest so.word) ∙ append-nil so.done) in
+        let all : so.done ≡ ds = sym (so.parts ∙ ap (λ (rest : List Dir). so.done ++ rest) none
+        ∙ append-nil so.done) in
         (
           subst (λ (ds : List Dir). HasJumped ds old.table new.table) all so.jumped,
           subst (λ (ds : List Dir). IsWithin most (λ told. length ds * told.stop) before after) all so.within,
         )
 
 -- where one is left there is room for it
-pub has_one : (ds done rest more : List Dir) (d : Dir) → ds ≡ done ++ rest → rest ≡ d ∷ more
+pub has_one : (ds done left others : List Dir) (first : Dir) → ds ≡ done ++ left → left ≡ first ∷ others
     → (old mid : ℕ) → length ds ≤ old → old ≤ mid + length done → 1 ≤ mid
-has_one ds done rest more d parts next old mid few room =
-    let n = ap (λ (ds : List Dir). length ds) (parts ∙ ap (λ (rest : List Dir). done ++ rest) next)
-    ∙ length-append done (d ∷ more) in omega (arith, n, few, room)
+has_one ds done left others first parts split old mid few room =
+    let n = ap (λ (ds : List Dir). length ds) (parts ∙ ap (λ (rest : List Dir). done ++ rest) split)
+    ∙ length-append done (first ∷ others) in omega (arith, n, few, room)

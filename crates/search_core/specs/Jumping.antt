@@ -9,7 +9,6 @@ use Rattle.grid_moves.specs.declared.Dir.TheVariants.{N, NE, E, SE, S, SW, W, NW
 use Rattle.grid_moves.specs.Grid.{GridData, IsGrid}
 use Rattle.pruning.specs.Chain.{run_cost}
 use Rattle.pruning.specs.First.{first_stop}
-use Rattle.pruning.specs.Packed.{word_of}
 use Rattle.search_run.specs.Run.{Taken}
 use Rattle.best_first.specs.declared.node.Node.{Node}
 use Rattle.best_first.specs.declared.node.Offer.{Offer as Way}
@@ -57,27 +56,6 @@ row_after SW k y = y + k
 row_after W k y = y
 row_after NW k y = y - k
 
--- how many columns a move leads to the east, and one; how many rows to the south, and one
-abbrev pub columns_and_one : Dir → ℕ
-columns_and_one N = 1
-columns_and_one NE = 2
-columns_and_one E = 2
-columns_and_one SE = 2
-columns_and_one S = 1
-columns_and_one SW = 0
-columns_and_one W = 0
-columns_and_one NW = 0
-
-abbrev pub rows_and_one : Dir → ℕ
-rows_and_one N = 0
-rows_and_one NE = 0
-rows_and_one E = 1
-rows_and_one SE = 2
-rows_and_one S = 2
-rows_and_one SW = 2
-rows_and_one W = 1
-rows_and_one NW = 0
-
 -- the offer of the state that k moves in d lead to
 abbrev pub offer_after : Last → Dir → ℕ → Way
 offer_after last d k = record {
@@ -88,10 +66,6 @@ offer_after last d k = record {
     arrival = Some d;
   };
 }
-
--- it holds for the directions of a word
-abbrev pub OnDirs : ℕ → (List Dir → Type 0) → Type 0
-OnDirs word P = (ds : List Dir) → word ≡ word_of ds → P ds
 
 -- the nodes after the offer of the jump in one direction, if it has a stop, and in all of these
 abbrev pub jumped_in : GridData → Cell → Last → Dir → Table → Table

@@ -1,12 +1,11 @@
 //! Going on from a taken state: one offer for each jump.
 
-ghost use Rattle.std.specs.Prelude.{◌≡◌, ℕ, ◌+◌, ◌-◌, ◌*◌, ◌<◌, ◌≤◌, ◌^◌, true, List, Some, length, slice_get, MatchOption};
+ghost use Rattle.std.specs.Prelude.{◌≡◌, ℕ, ◌+◌, ◌-◌, ◌*◌, ◌<◌, ◌≤◌, ◌^◌, true, Some, length, slice_get, MatchOption};
 ghost use Rattle.std.specs.List.{AllByRecursion};
 ghost use Rattle.root2_cost.specs.Rank.{rank_of};
 ghost use Rattle.grid_moves.specs.Points.{estimate};
 ghost use Rattle.pruning.specs.Allowed.{is_allowed};
 ghost use Rattle.pruning.specs.Chain as chain;
-ghost use Rattle.pruning.specs.Packed.{word_of};
 ghost use Rattle.pruning.specs.Source.{IsWithin};
 ghost use Rattle.best_first.specs.Space.{KeepsShape};
 ghost use Rattle.best_first.specs.Trace.{node_cell};
@@ -63,23 +62,23 @@ fn run_cost(d: Dir, k: u16) -> Cost
     }
 }
 
-// How many columns a move in each direction leads to the east, and one; how many rows to the south, and
-// one. Tables, as there is then no branch on the direction, which the processor would seldom foresee.
+// One more than the columns by which a move in each direction leads to the east, and one more than the rows by
+// which it leads to the south. Tables, as there is then no branch on the direction, which the processor would seldom foresee.
 const COLUMNS_AND_ONE: [u32; 8] = [1, 2, 2, 2, 1, 0, 0, 0];
 const ROWS_AND_ONE: [u32; 8] = [0, 0, 1, 2, 2, 2, 1, 0];
 
-// How many columns a move in d leads to the east, and one.
+// One more than the columns by which a move in d leads to the east: the column after it, from column 1.
 #[inline(always)]
 fn columns_and_one(d: Dir) -> u32
-    ensures { result ≡ spec.columns_and_one d }
+    ensures { result ≡ spec.column_after d 1 1 }
 {
     COLUMNS_AND_ONE[dir_number(d) as usize]
 }
 
-// How many rows a move in d leads to the south, and one.
+// One more than the rows by which a move in d leads to the south: the row after it, from row 1.
 #[inline(always)]
 fn rows_and_one(d: Dir) -> u32
-    ensures { result ≡ spec.rows_and_one d }
+    ensures { result ≡ spec.row_after d 1 1 }
 {
     ROWS_AND_ONE[dir_number(d) as usize]
 }
@@ -185,14 +184,13 @@ pub(crate) fn offer_jumps<J: JumpSource, L: Ledger, M: Ledger>(
     requires some { OnSome (J.StandsFor j.now) ends.from ends.to }
     requires offering { OnEach (J.StandsFor j.now) ends.from ends.to
         (λ g. spec.IsOffering g ends.from ends.to last space.old) }
-    requires allowed { spec.OnDirs dirs.word (λ ds. OnEach (J.StandsFor j.now) ends.from ends.to
-        (λ g. AllByRecursion (λ d. is_allowed g last.state.cell (jumps.come_to last.state.arrival) d ≡ true) ds)) }
-    requires room { (ds : List Dir) × (dirs.word ≡ word_of ds) × (length ds ≤ space.old.spare) }
-    ensures jumped { spec.OnDirs dirs.word (λ ds. OnEach (J.StandsFor j.now) ends.from ends.to
-        (λ g. space.new.table ≡ spec.jumped g ends.to last ds space.old.table)) }
+    requires allowed { OnEach (J.StandsFor j.now) ends.from ends.to (λ g. AllByRecursion
+        (λ d. is_allowed g last.state.cell (jumps.come_to last.state.arrival) d ≡ true) dirs) }
+    requires room { length dirs ≤ space.old.spare }
+    ensures jumped { OnEach (J.StandsFor j.now) ends.from ends.to
+        (λ g. space.new.table ≡ spec.jumped g ends.to last dirs space.old.table) }
     ensures shape { KeepsShape space.old space.new }
-    ensures most { spec.OnDirs dirs.word
-        (λ ds. IsWithin (J.most j.now) (λ told. length ds * told.stop) steps.old steps.new) }
+    ensures most { IsWithin (J.most j.now) (λ told. length dirs * told.stop) steps.old steps.new }
     ensures fewest { steps.old ≤ steps.new }
 {
     let mut left = dirs;

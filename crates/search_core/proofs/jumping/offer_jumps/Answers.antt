@@ -8,46 +8,43 @@ use Rattle.search_core.proofs.jumping.offer_jumps.Goals as goal
 
 pub jumps-init : goal.jumps-init
 jumps-init g c = record {
-  so_far = λ ds is. at_first (g.J.JumpSource.StandsFor c.args.j.now) c.args.ends.from c.args.ends.to c.args.last
-      (g.J.JumpSource.most c.args.j.now) ds c.args.dirs.word c.args.space.now c.args.steps.now is;
+  so_far = at_first (g.J.JumpSource.StandsFor c.args.j.now) c.args.ends.from c.args.ends.to c.args.last
+      (g.J.JumpSource.most c.args.j.now) c.args.dirs c.args.space.now c.args.steps.now;
   shape = record { layout = refl; places = refl; width = refl };
   fewest = omega arith;
 }
 
 pub offer_jump-requires-clause-offering : goal.offer_jump-requires-clause-offering
 offer_jump-requires-clause-offering g c =
-    let so = c.jumps.invariant.so_far c.requires.room.0 c.requires.room.1 in
+    let so = c.jumps.invariant.so_far in
     still_offering (g.J.JumpSource.StandsFor c.args.j.now) c.args.ends.from c.args.ends.to c.args.last so.done
     c.args.space.now c.jumps.space c.requires.offering
     (λ x served. all_front (λ d. is_allowed x c.args.last.state.cell (come_to c.args.last.state.arrival) d ≡ true)
-    so.done so.rest (subst (λ (ds : List Dir). AllByRecursion
+    so.done c.jumps.left (subst (λ (ds : List Dir). AllByRecursion
     (λ d. is_allowed x c.args.last.state.cell (come_to c.args.last.state.arrival) d ≡ true) ds) so.parts
-    (c.requires.allowed c.requires.room.0 c.requires.room.1 x served)))
+    (c.requires.allowed x served)))
     so.jumped c.jumps.invariant.shape
 
 pub offer_jump-requires-clause-allowed : goal.offer_jump-requires-clause-allowed
 offer_jump-requires-clause-allowed g c = λ x served.
-    let so = c.jumps.invariant.so_far c.requires.room.0 c.requires.room.1 in
-    let next = c.in-Some.ensures.some so.rest so.word in
+    let so = c.jumps.invariant.so_far in
     all_next (λ d. is_allowed x c.args.last.state.cell (come_to c.args.last.state.arrival) d ≡ true) so.done
-    c.in-Some.s.first next.0 (subst (λ (ds : List Dir). AllByRecursion
+    c.in-Some.s.first c.in-Some.s.others (subst (λ (ds : List Dir). AllByRecursion
     (λ d. is_allowed x c.args.last.state.cell (come_to c.args.last.state.arrival) d ≡ true) ds)
-    (so.parts ∙ ap (λ (ds : List Dir). so.done ++ ds) next.1)
-    (c.requires.allowed c.requires.room.0 c.requires.room.1 x served))
+    (so.parts ∙ ap (λ (ds : List Dir). so.done ++ ds) c.in-Some.ensures.some) (c.requires.allowed x served))
 
 pub offer_jump-requires-clause-room : goal.offer_jump-requires-clause-room
 offer_jump-requires-clause-room g c =
-    let so = c.jumps.invariant.so_far c.requires.room.0 c.requires.room.1 in
-    let next = c.in-Some.ensures.some so.rest so.word in
-    has_one c.requires.room.0 so.done so.rest next.0 c.in-Some.s.first so.parts next.1 c.args.space.now.spare
-    c.jumps.space.spare c.requires.room.2 so.room
+    let so = c.jumps.invariant.so_far in
+    has_one c.args.dirs so.done c.jumps.left c.in-Some.s.others c.in-Some.s.first so.parts c.in-Some.ensures.some
+    c.args.space.now.spare c.jumps.space.spare c.requires.room so.room
 
 pub jumps-preserved : goal.jumps-preserved
 jumps-preserved g c = record {
-  so_far = λ ds is. at_next (g.J.JumpSource.StandsFor c.args.j.now) c.args.ends.from c.args.ends.to c.args.last
-      (g.J.JumpSource.most c.args.j.now) ds c.in-Some.s.first c.jumps.left.word c.in-Some.s.others.word
+  so_far = at_next (g.J.JumpSource.StandsFor c.args.j.now) c.args.ends.from c.args.ends.to c.args.last
+      (g.J.JumpSource.most c.args.j.now) c.args.dirs c.in-Some.s.first c.jumps.left c.in-Some.s.others
       c.args.space.now c.jumps.space c.offer_jump.new.space c.args.steps.now c.jumps.steps
-      c.offer_jump.new.steps (c.jumps.invariant.so_far ds is) c.in-Some.ensures.some
+      c.offer_jump.new.steps c.jumps.invariant.so_far c.in-Some.ensures.some
       c.offer_jump.ensures.jumped c.offer_jump.ensures.spare c.offer_jump.ensures.most;
   shape = record {
     layout = c.offer_jump.ensures.shape.layout ∙ c.jumps.invariant.shape.layout;
@@ -58,13 +55,13 @@ jumps-preserved g c = record {
 }
 
 pub returns-clause-jumped : goal.returns-clause-jumped
-returns-clause-jumped g c = λ ds is.
+returns-clause-jumped g c =
     (at_last (g.J.JumpSource.StandsFor c.args.j.now) c.args.ends.from c.args.ends.to c.args.last
-    (g.J.JumpSource.most c.args.j.now) ds c.jumps.left.word c.args.space.now c.jumps.space c.args.steps.now
-    c.jumps.steps (c.jumps.invariant.so_far ds is) c.in_default.ensures.none).0
+    (g.J.JumpSource.most c.args.j.now) c.args.dirs c.jumps.left c.args.space.now c.jumps.space
+    c.args.steps.now c.jumps.steps c.jumps.invariant.so_far c.in_default.ensures.none).0
 
 pub returns-clause-most : goal.returns-clause-most
-returns-clause-most g c = λ ds is.
+returns-clause-most g c =
     (at_last (g.J.JumpSource.StandsFor c.args.j.now) c.args.ends.from c.args.ends.to c.args.last
-    (g.J.JumpSource.most c.args.j.now) ds c.jumps.left.word c.args.space.now c.jumps.space c.args.steps.now
-    c.jumps.steps (c.jumps.invariant.so_far ds is) c.in_default.ensures.none).1
+    (g.J.JumpSource.most c.args.j.now) c.args.dirs c.jumps.left c.args.space.now c.jumps.space
+    c.args.steps.now c.jumps.steps c.jumps.invariant.so_far c.in_default.ensures.none).1

@@ -1,18 +1,16 @@
-use Rattle.std.proofs.Common.{◌≤◌}
+use Rattle.std.proofs.Common.{◌≤◌, length}
 use Rattle.best_first.specs.Space.{KeepsShape}
-use Rattle.search_core.specs.Jumping.{OnDirs}
 use Rattle.search_core.proofs.Serving.{IsSoFar}
 use Rattle.search_core.proofs.jumping.offer_jumps.Given as goal
 
 -- some of the jumps were offered, and the others are left
 abbrev pub invariant-jumps : goal.invariant-jumps
 invariant-jumps g l = record {
-  so_far : OnDirs l.fn.dirs.word (λ ds. IsSoFar (g.J.JumpSource.StandsFor l.j) l.ends.from l.ends.to l.last
-      (g.J.JumpSource.most l.j) ds l.left.word l.initial.space l.space l.initial.steps l.steps);
+  so_far : IsSoFar (g.J.JumpSource.StandsFor l.j) l.ends.from l.ends.to l.last (g.J.JumpSource.most l.j)
+      l.fn.dirs l.left l.initial.space l.space l.initial.steps l.steps;
   shape : KeepsShape l.initial.space l.space;
   fewest : l.initial.steps ≤ l.steps;
 }
 
--- the word that is left shrinks
 abbrev pub decreases-jumps : goal.decreases-jumps
-decreases-jumps g l = l.left.word
+decreases-jumps g l = length l.left

@@ -1,13 +1,8 @@
-use Rattle.std.proofs.Common.{◌≡◌, ◌∙◌, true, length, arith, ap, sym, subst, List}
+use Rattle.std.proofs.Common.{◌∙◌, length, arith, ap, List}
 use Rattle.std.specs.Prelude.{slice_get}
 use Rattle.std.proofs.lemmas.Option.{slice_get_within}
 use Rattle.best_first.specs.declared.node.Node.{Node}
-use Rattle.std.specs.List.{AllByRecursion}
-use Rattle.grid_moves.specs.declared.Dir.{Dir}
-use Rattle.pruning.specs.Allowed.{is_allowed, allowed_dirs}
-use Rattle.pruning.proofs.Packing.{one_word}
-use Rattle.search_core.specs.Jumps.{come_to}
-use Rattle.search_core.proofs.Advancing.{word_is, word_few, word_rule, counted_one, ranked, can_call, offering, each_allowed, ended, on_map, reached_on}
+use Rattle.search_core.proofs.Advancing.{counted_one, ranked, can_call, offering, each_allowed, few_allowed, ended, on_map, reached_on}
 use Rattle.search_core.proofs.searching.advance.Goals as goal
 
 pub last_at-last-requires-clause-ranked : goal.last_at-last-requires-clause-ranked
@@ -34,38 +29,22 @@ offer_jumps-requires-clause-offering g c =
     c.come_to.ensures
 
 pub offer_jumps-requires-clause-allowed : goal.offer_jumps-requires-clause-allowed
-offer_jumps-requires-clause-allowed g c = λ ds is x served.
-    let told = word_is (g.J.JumpSource.StandsFor c.args.j.now) c.args.ends.from c.args.ends.to c.args.at
-    c.args.space.now c.reserve.new.self c.args.taken.now c.requires.reached c.in_ok-reserve.ensures.shape
-    c.in_ok-reserve.ensures.table c.last_at-last.result c.last_at-last.ensures c.come_to.result
-    c.come_to.ensures c.allowed_word-dirs.result.word c.allowed_word-dirs.ensures.rule c.requires.some in
-    let same = one_word (allowed_dirs c.requires.some.0 c.last_at-last.result.state.cell c.come_to.result) ds (sym told ∙ is) in
-    subst (λ (ds : List Dir). AllByRecursion (λ d. is_allowed x c.last_at-last.result.state.cell
-    (come_to c.last_at-last.result.state.arrival) d ≡ true) ds) same
-    (each_allowed (g.J.JumpSource.StandsFor c.args.j.now) c.args.ends.from c.args.ends.to c.args.at
+offer_jumps-requires-clause-allowed g c =
+    each_allowed (g.J.JumpSource.StandsFor c.args.j.now) c.args.ends.from c.args.ends.to c.args.at
     c.args.space.now c.reserve.new.self c.args.taken.now c.requires.reached c.in_ok-reserve.ensures.shape
     c.in_ok-reserve.ensures.table c.last_at-last.result c.last_at-last.ensures c.come_to.result
     c.come_to.ensures
-    (allowed_dirs c.requires.some.0 c.last_at-last.result.state.cell c.come_to.result)
-    (word_rule (g.J.JumpSource.StandsFor c.args.j.now) c.args.ends.from c.args.ends.to c.args.at
-    c.args.space.now c.reserve.new.self c.args.taken.now c.requires.reached c.in_ok-reserve.ensures.shape
-    c.in_ok-reserve.ensures.table c.last_at-last.result c.last_at-last.ensures c.come_to.result
-    c.come_to.ensures c.allowed_word-dirs.result.word c.allowed_word-dirs.ensures.rule c.requires.some) x served)
+    c.allowed_word-dirs.result
+    c.allowed_word-dirs.ensures.rule
 
 pub offer_jumps-requires-clause-room : goal.offer_jumps-requires-clause-room
 offer_jumps-requires-clause-room g c =
-    let few = word_few (g.J.JumpSource.StandsFor c.args.j.now) c.args.ends.from c.args.ends.to c.args.at
+    let few = few_allowed (g.J.JumpSource.StandsFor c.args.j.now) c.args.ends.from c.args.ends.to c.args.at
     c.args.space.now c.reserve.new.self c.args.taken.now c.requires.reached c.in_ok-reserve.ensures.shape
     c.in_ok-reserve.ensures.table c.last_at-last.result c.last_at-last.ensures c.come_to.result
-    c.come_to.ensures c.allowed_word-dirs.result.word c.allowed_word-dirs.ensures.rule c.requires.some in
-    let room = c.in_ok-reserve.ensures.room in (
-      (allowed_dirs c.requires.some.0 c.last_at-last.result.state.cell c.come_to.result),
-      word_is (g.J.JumpSource.StandsFor c.args.j.now) c.args.ends.from c.args.ends.to c.args.at
-    c.args.space.now c.reserve.new.self c.args.taken.now c.requires.reached c.in_ok-reserve.ensures.shape
-    c.in_ok-reserve.ensures.table c.last_at-last.result c.last_at-last.ensures c.come_to.result
-    c.come_to.ensures c.allowed_word-dirs.result.word c.allowed_word-dirs.ensures.rule c.requires.some,
-      omega (arith, few, room),
-    )
+    c.come_to.ensures c.allowed_word-dirs.result c.allowed_word-dirs.ensures.rule c.requires.some in
+    let room = c.in_ok-reserve.ensures.room in
+    omega (arith, few, room)
 
 pub node-node-requires : goal.node-node-requires
 node-node-requires g c =
@@ -79,16 +58,9 @@ number_at-requires g c =
     c.reserve.new.self c.args.taken.now c.requires.reached c.in_ok-reserve.ensures.shape
     c.in_ok-reserve.ensures.table c.last_at-last.result c.last_at-last.ensures c.come_to.result
     c.come_to.ensures
-    (allowed_dirs c.requires.some.0 c.last_at-last.result.state.cell c.come_to.result)
-    (word_rule (g.J.JumpSource.StandsFor c.args.j.now) c.args.ends.from c.args.ends.to c.args.at
-    c.args.space.now c.reserve.new.self c.args.taken.now c.requires.reached c.in_ok-reserve.ensures.shape
-    c.in_ok-reserve.ensures.table c.last_at-last.result c.last_at-last.ensures c.come_to.result
-    c.come_to.ensures c.allowed_word-dirs.result.word c.allowed_word-dirs.ensures.rule c.requires.some)
-    c.offer_jumps.new.space (c.offer_jumps.ensures.jumped (allowed_dirs c.requires.some.0 c.last_at-last.result.state.cell c.come_to.result)
-    (word_is (g.J.JumpSource.StandsFor c.args.j.now) c.args.ends.from c.args.ends.to c.args.at
-    c.args.space.now c.reserve.new.self c.args.taken.now c.requires.reached c.in_ok-reserve.ensures.shape
-    c.in_ok-reserve.ensures.table c.last_at-last.result c.last_at-last.ensures c.come_to.result
-    c.come_to.ensures c.allowed_word-dirs.result.word c.allowed_word-dirs.ensures.rule c.requires.some)) c.offer_jumps.ensures.shape c.requires.open_ended
+    c.allowed_word-dirs.result
+    c.allowed_word-dirs.ensures.rule
+    c.offer_jumps.new.space c.offer_jumps.ensures.jumped c.offer_jumps.ensures.shape c.requires.open_ended
     c.in-Some.next c.in-Some.ensures.first c.node-node.result c.take_next.new.self c.node-node.ensures
     c.take_next.ensures.nodes c.requires.some
 
@@ -98,31 +70,20 @@ returns-in-None-clause-goes_on g c =
     c.reserve.new.self c.args.taken.now c.requires.reached c.in_ok-reserve.ensures.shape
     c.in_ok-reserve.ensures.table c.last_at-last.result c.last_at-last.ensures c.come_to.result
     c.come_to.ensures
-    (allowed_dirs c.requires.some.0 c.last_at-last.result.state.cell c.come_to.result)
-    (word_rule (g.J.JumpSource.StandsFor c.args.j.now) c.args.ends.from c.args.ends.to c.args.at
-    c.args.space.now c.reserve.new.self c.args.taken.now c.requires.reached c.in_ok-reserve.ensures.shape
-    c.in_ok-reserve.ensures.table c.last_at-last.result c.last_at-last.ensures c.come_to.result
-    c.come_to.ensures c.allowed_word-dirs.result.word c.allowed_word-dirs.ensures.rule c.requires.some)
-    c.offer_jumps.new.space (c.offer_jumps.ensures.jumped (allowed_dirs c.requires.some.0 c.last_at-last.result.state.cell c.come_to.result)
-    (word_is (g.J.JumpSource.StandsFor c.args.j.now) c.args.ends.from c.args.ends.to c.args.at
-    c.args.space.now c.reserve.new.self c.args.taken.now c.requires.reached c.in_ok-reserve.ensures.shape
-    c.in_ok-reserve.ensures.table c.last_at-last.result c.last_at-last.ensures c.come_to.result
-    c.come_to.ensures c.allowed_word-dirs.result.word c.allowed_word-dirs.ensures.rule c.requires.some)) c.offer_jumps.ensures.shape c.requires.open_ended
+    c.allowed_word-dirs.result
+    c.allowed_word-dirs.ensures.rule
+    c.offer_jumps.new.space c.offer_jumps.ensures.jumped c.offer_jumps.ensures.shape c.requires.open_ended
     c.in-None.ensures.none
 
 pub returns-in-None-clause-counted : goal.returns-in-None-clause-counted
 returns-in-None-clause-counted g c =
     counted_one (g.J.JumpSource.most c.args.j.now) (g.J.JumpSource.fewest c.args.j.now)
-    (length (allowed_dirs c.requires.some.0 c.last_at-last.result.state.cell c.come_to.result)) c.args.steps.now c.allowed_word-dirs.new.steps c.offer_jumps.new.steps
-    (word_few (g.J.JumpSource.StandsFor c.args.j.now) c.args.ends.from c.args.ends.to c.args.at
+    (length c.allowed_word-dirs.result) c.args.steps.now c.allowed_word-dirs.new.steps c.offer_jumps.new.steps
+    (few_allowed (g.J.JumpSource.StandsFor c.args.j.now) c.args.ends.from c.args.ends.to c.args.at
     c.args.space.now c.reserve.new.self c.args.taken.now c.requires.reached c.in_ok-reserve.ensures.shape
     c.in_ok-reserve.ensures.table c.last_at-last.result c.last_at-last.ensures c.come_to.result
-    c.come_to.ensures c.allowed_word-dirs.result.word c.allowed_word-dirs.ensures.rule c.requires.some)
-    c.allowed_word-dirs.ensures.most (c.offer_jumps.ensures.most (allowed_dirs c.requires.some.0 c.last_at-last.result.state.cell c.come_to.result)
-    (word_is (g.J.JumpSource.StandsFor c.args.j.now) c.args.ends.from c.args.ends.to c.args.at
-    c.args.space.now c.reserve.new.self c.args.taken.now c.requires.reached c.in_ok-reserve.ensures.shape
-    c.in_ok-reserve.ensures.table c.last_at-last.result c.last_at-last.ensures c.come_to.result
-    c.come_to.ensures c.allowed_word-dirs.result.word c.allowed_word-dirs.ensures.rule c.requires.some)) c.allowed_word-dirs.ensures.fewest
+    c.come_to.ensures c.allowed_word-dirs.result c.allowed_word-dirs.ensures.rule c.requires.some)
+    c.allowed_word-dirs.ensures.most c.offer_jumps.ensures.most c.allowed_word-dirs.ensures.fewest
     c.offer_jumps.ensures.fewest
 
 pub returns-in_ok-push-in-Some-clause-goes_on : goal.returns-in_ok-push-in-Some-clause-goes_on
@@ -132,16 +93,9 @@ returns-in_ok-push-in-Some-clause-goes_on g c =
     c.reserve.new.self c.args.taken.now c.requires.reached c.in_ok-reserve.ensures.shape
     c.in_ok-reserve.ensures.table c.last_at-last.result c.last_at-last.ensures c.come_to.result
     c.come_to.ensures
-    (allowed_dirs c.requires.some.0 c.last_at-last.result.state.cell c.come_to.result)
-    (word_rule (g.J.JumpSource.StandsFor c.args.j.now) c.args.ends.from c.args.ends.to c.args.at
-    c.args.space.now c.reserve.new.self c.args.taken.now c.requires.reached c.in_ok-reserve.ensures.shape
-    c.in_ok-reserve.ensures.table c.last_at-last.result c.last_at-last.ensures c.come_to.result
-    c.come_to.ensures c.allowed_word-dirs.result.word c.allowed_word-dirs.ensures.rule c.requires.some)
-    c.offer_jumps.new.space (c.offer_jumps.ensures.jumped (allowed_dirs c.requires.some.0 c.last_at-last.result.state.cell c.come_to.result)
-    (word_is (g.J.JumpSource.StandsFor c.args.j.now) c.args.ends.from c.args.ends.to c.args.at
-    c.args.space.now c.reserve.new.self c.args.taken.now c.requires.reached c.in_ok-reserve.ensures.shape
-    c.in_ok-reserve.ensures.table c.last_at-last.result c.last_at-last.ensures c.come_to.result
-    c.come_to.ensures c.allowed_word-dirs.result.word c.allowed_word-dirs.ensures.rule c.requires.some)) c.offer_jumps.ensures.shape c.requires.open_ended
+    c.allowed_word-dirs.result
+    c.allowed_word-dirs.ensures.rule
+    c.offer_jumps.new.space c.offer_jumps.ensures.jumped c.offer_jumps.ensures.shape c.requires.open_ended
     c.in-Some.next c.in-Some.ensures.first c.node-node.result c.take_next.new.self c.node-node.ensures
     c.take_next.ensures.nodes c.take_next.ensures.shape c.in-Some.ensures.closed c.number_at.result
     c.number_at.ensures c.push.new.self c.in_ok-push-in-Some.ensures.pushed
@@ -149,14 +103,10 @@ returns-in_ok-push-in-Some-clause-goes_on g c =
 pub returns-in_ok-push-in-Some-clause-counted : goal.returns-in_ok-push-in-Some-clause-counted
 returns-in_ok-push-in-Some-clause-counted g c =
     counted_one (g.J.JumpSource.most c.args.j.now) (g.J.JumpSource.fewest c.args.j.now)
-    (length (allowed_dirs c.requires.some.0 c.last_at-last.result.state.cell c.come_to.result)) c.args.steps.now c.allowed_word-dirs.new.steps c.offer_jumps.new.steps
-    (word_few (g.J.JumpSource.StandsFor c.args.j.now) c.args.ends.from c.args.ends.to c.args.at
+    (length c.allowed_word-dirs.result) c.args.steps.now c.allowed_word-dirs.new.steps c.offer_jumps.new.steps
+    (few_allowed (g.J.JumpSource.StandsFor c.args.j.now) c.args.ends.from c.args.ends.to c.args.at
     c.args.space.now c.reserve.new.self c.args.taken.now c.requires.reached c.in_ok-reserve.ensures.shape
     c.in_ok-reserve.ensures.table c.last_at-last.result c.last_at-last.ensures c.come_to.result
-    c.come_to.ensures c.allowed_word-dirs.result.word c.allowed_word-dirs.ensures.rule c.requires.some)
-    c.allowed_word-dirs.ensures.most (c.offer_jumps.ensures.most (allowed_dirs c.requires.some.0 c.last_at-last.result.state.cell c.come_to.result)
-    (word_is (g.J.JumpSource.StandsFor c.args.j.now) c.args.ends.from c.args.ends.to c.args.at
-    c.args.space.now c.reserve.new.self c.args.taken.now c.requires.reached c.in_ok-reserve.ensures.shape
-    c.in_ok-reserve.ensures.table c.last_at-last.result c.last_at-last.ensures c.come_to.result
-    c.come_to.ensures c.allowed_word-dirs.result.word c.allowed_word-dirs.ensures.rule c.requires.some)) c.allowed_word-dirs.ensures.fewest
+    c.come_to.ensures c.allowed_word-dirs.result c.allowed_word-dirs.ensures.rule c.requires.some)
+    c.allowed_word-dirs.ensures.most c.offer_jumps.ensures.most c.allowed_word-dirs.ensures.fewest
     c.offer_jumps.ensures.fewest

@@ -1,6 +1,4 @@
-use Rattle.std.proofs.Common.{◌∙◌, ap, List}
-use Rattle.grid_moves.specs.declared.Dir.{Dir}
-use Rattle.pruning.specs.Packed.{word_of}
+use Rattle.std.proofs.Common.{◌∙◌}
 use Rattle.jump_block.proofs.Patches.{patch_free, patch_allows}
 use Rattle.jump_block.proofs.straight.Bits.allowed_word.Goals as goal
 
@@ -14,6 +12,5 @@ allowed_word-requires-clause-free g c =
 
 pub returns-clause-rule : goal.returns-clause-rule
 returns-clause-rule g c = λ grid are free.
-    c.allowed_word.ensures.rule ∙ ap (λ (ds : List Dir). word_of ds)
-    (patch_allows grid c.args.at c.read-around.result
-    (c.read-around.ensures.around grid are.whole are.are_rows are.rule free) free c.args.by)
+    c.allowed_word.ensures.rule ∙ patch_allows grid c.args.at c.read-around.result
+    (c.read-around.ensures.around grid are.whole are.are_rows are.rule free) free c.args.by
