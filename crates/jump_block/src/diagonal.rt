@@ -13,7 +13,7 @@ ghost use Rattle.jump_plain.specs.Beside.{known};
 ghost use Rattle.jump_block.specs.Source as spec;
 ghost use Rattle.jump_block.specs.Source.{AreItsBits};
 
-use crate::patch::{Patch, bit_near};
+use crate::patch::{Patch, bit_of};
 use crate::straight::Bits;
 use crate::word::Way;
 use grid_moves::{Cell, Corner, Dir, is_passable};
@@ -121,7 +121,7 @@ impl<'a> Bits<'a> {
         ensures one_step { steps.new ≡ steps.old + 1 }
     {
         let bit = bit_beside(at, d);
-        bit_near(self.rows, bit.line, u32::from(at.x) + 1, bit.place, steps)
+        bit_of(self.rows, bit.line, bit.place, steps)
     }
 
     // Whether a diagonal move from a free cell is legal.
@@ -206,9 +206,6 @@ impl<'a> Bits<'a> {
     }
 
     /// After how many moves a diagonal jump stops.
-    ///
-    /// Whether the way leads on from a cell is read before the scans from there, out of words that they read
-    /// too.
     #[inline(always)]
     pub(crate) fn diagonal<L: Ledger>(
         &self,
@@ -227,11 +224,9 @@ impl<'a> Bits<'a> {
     {
         let mut cell = at;
         let mut moves = 0;
-        let mut goes_on = self.leads(at, d, steps);
-        'run: while goes_on {
+        'run: while self.leads(cell, d, steps) {
             let next = beyond(cell, d);
             moves += 1;
-            goes_on = self.leads(next, d, steps);
             if self.stops_at(next, d, goal, steps) {
                 return Some(moves);
             }

@@ -78,30 +78,6 @@ pub(crate) fn bit_of<L: Ledger>(lines: &Lines, line: u32, place: u32, steps: &mu
     is_set(word_with(lines, line, place, steps), place % 64)
 }
 
-/// Whether a line's bit is set, told a place beside it too: mostly both lie in one word, which a scan from that
-/// place reads as well, so that it is read once.
-#[inline(always)]
-pub(crate) fn bit_near<L: Ledger>(
-    lines: &Lines,
-    line: u32,
-    beside: u32,
-    place: u32,
-    steps: &mut Steps<L>,
-) -> bool
-    requires line { line < lines.now.lines }
-    requires beside { beside < lines.now.blocks * 512 }
-    requires place { place < lines.now.blocks * 512 }
-    ensures shown { (count positions : ℕ) (free : ℕ → ℕ → Bool) → Shows lines.now count positions free
-        → result ≡ free line place }
-    ensures one_step { steps.new ≡ steps.old + 1 }
-{
-    if place / 64 == beside / 64 {
-        is_set(word_with(lines, line, beside, steps), place % 64)
-    } else {
-        bit_of(lines, line, place, steps)
-    }
-}
-
 // Three bits that lie in two words.
 #[inline(never)]
 fn three_apart<L: Ledger>(lines: &Lines, line: u32, first: u32, steps: &mut Steps<L>) -> u64

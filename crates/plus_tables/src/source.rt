@@ -8,7 +8,7 @@ use crate::tables::Tables;
 use crate::turns::{allowed_told, legal_of};
 use arrayvec::ArrayVec;
 use grid_moves::{ALL_DIRS, Cell, Dir};
-use pruning::{Arrival, JumpSource, Packed};
+use pruning::{Arrival, JumpSource};
 use std::sync::ledger::Ledger;
 use steps::Steps;
 
@@ -42,10 +42,5 @@ impl<'a> JumpSource for PlusJumps<'a> {
             Arrival::Start => legal_of(self.tables, at, &ALL_DIRS, steps),
             Arrival::By(d) => allowed_told(self.tables, at, d, steps),
         }
-    }
-
-    fn allowed_word<L: Ledger>(&self, at: Cell, by: Arrival, steps: &mut Steps<L>) -> Packed {
-        let dirs = self.allowed(at, by, steps);
-        Packed::of_dirs(dirs.as_slice())
     }
 }

@@ -62,5 +62,8 @@ pub trait JumpSource {
         ensures rule { (g : GridData) → StandsFor self.now g → IsTrue (is_free g at) → CanArrive g at by
             → result ≡ allowed_dirs g at by }
         ensures most { IsWithin (most self.now) (λ told. told.allowed) steps.old steps.new }
-        ensures fewest { steps.old + fewest self.now ≤ steps.new };
+        ensures fewest { steps.old + fewest self.now ≤ steps.new }
+    {
+        Packed::of_dirs(self.allowed(at, by, steps).as_slice())
+    }
 }

@@ -4,7 +4,7 @@ ghost use Rattle.std.specs.Prelude.{◌≡◌, ◌<◌, IsTrue, Some, codes};
 ghost use Rattle.grid_moves.specs.declared.Corner.TheVariants.{Never};
 ghost use Rattle.grid_moves.specs.Grid.{GridData, grid_of, is_free};
 
-use crate::{Arrival, JumpSource, Packed, allowed, forced};
+use crate::{Arrival, JumpSource, allowed, forced};
 use arrayvec::ArrayVec;
 use grid_moves::{Cell, Corner, Dir, Grid, Terrain};
 use std::marker::Brand;
@@ -90,11 +90,6 @@ impl JumpSource for Alone {
     ) -> ArrayVec<Dir, 8> {
         steps.tick();
         ArrayVec::new()
-    }
-
-    fn allowed_word<L: Ledger>(&self, _at: Cell, _by: Arrival, steps: &mut Steps<L>) -> Packed {
-        steps.tick();
-        Packed::new()
     }
 }
 

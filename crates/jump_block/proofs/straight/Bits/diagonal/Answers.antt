@@ -15,8 +15,8 @@ overflow_add-moves g c =
     let are = c.requires.stands.1 in
     let free = c.requires.stands.2 in
     let there = c.run.invariant.there grid are free in
-    let legal = legal_next grid c.run.cell c.beyond-next.result c.args.d c.run.goes_on
-    there.leads c.run-test.true c.beyond-next.ensures in
+    let legal = legal_next grid c.run.cell c.beyond-next.result c.args.d c.leads.result
+    (c.leads.ensures.leads grid are there.free) c.run-test.true c.beyond-next.ensures in
     let longer = run_length-next grid c.run.cell c.beyond-next.result c.args.d legal in
     let few = run_length-few grid c.args.at c.args.d in
     let wide = are.whole.sides.narrow in
@@ -24,16 +24,12 @@ overflow_add-moves g c =
     let run = there.run in
     omega arith
 
-pub leads-goes_on-requires-in-run-clause-stands : goal.leads-goes_on-requires-in-run-clause-stands
-leads-goes_on-requires-in-run-clause-stands g c =
+pub leads-requires-clause-stands : goal.leads-requires-clause-stands
+leads-requires-clause-stands g c =
     let grid = c.requires.stands.0 in
     let are = c.requires.stands.1 in
     let free = c.requires.stands.2 in
-    let there = c.run.invariant.there grid are free in
-    let legal = legal_next grid c.run.cell c.beyond-next.result c.args.d c.run.goes_on
-    there.leads c.run-test.true c.beyond-next.ensures in
-    let next = free_next grid c.run.cell c.beyond-next.result c.args.d legal in
-    (grid, are, next)
+    (grid, are, (c.run.invariant.there grid are free).free)
 
 pub stops_at-requires-clause-stands : goal.stops_at-requires-clause-stands
 stops_at-requires-clause-stands g c =
@@ -41,16 +37,16 @@ stops_at-requires-clause-stands g c =
     let are = c.requires.stands.1 in
     let free = c.requires.stands.2 in
     let there = c.run.invariant.there grid are free in
-    let legal = legal_next grid c.run.cell c.beyond-next.result c.args.d c.run.goes_on
-    there.leads c.run-test.true c.beyond-next.ensures in
+    let legal = legal_next grid c.run.cell c.beyond-next.result c.args.d c.leads.result
+    (c.leads.ensures.leads grid are there.free) c.run-test.true c.beyond-next.ensures in
     let next = free_next grid c.run.cell c.beyond-next.result c.args.d legal in
     (grid, are, next)
 
 pub returns-then-stops_at-clause-first : goal.returns-then-stops_at-clause-first
 returns-then-stops_at-clause-first g c = λ grid are free.
     let there = c.run.invariant.there grid are free in
-    let legal = legal_next grid c.run.cell c.beyond-next.result c.args.d c.run.goes_on
-    there.leads c.run-test.true c.beyond-next.ensures in
+    let legal = legal_next grid c.run.cell c.beyond-next.result c.args.d c.leads.result
+    (c.leads.ensures.leads grid are there.free) c.run-test.true c.beyond-next.ensures in
     let next = free_next grid c.run.cell c.beyond-next.result c.args.d legal in
     stops_here grid c.args.goal c.run.cell c.args.d c.run.moves
     (first_stop grid c.args.goal c.args.at c.args.d) there.stop c.beyond-next.result legal
@@ -65,8 +61,8 @@ run-smaller g c =
     let are = c.requires.stands.1 in
     let free = c.requires.stands.2 in
     let there = c.run.invariant.there grid are free in
-    let legal = legal_next grid c.run.cell c.beyond-next.result c.args.d c.run.goes_on
-    there.leads c.run-test.true c.beyond-next.ensures in
+    let legal = legal_next grid c.run.cell c.beyond-next.result c.args.d c.leads.result
+    (c.leads.ensures.leads grid are there.free) c.run-test.true c.beyond-next.ensures in
     let longer = run_length-next grid c.run.cell c.beyond-next.result c.args.d legal in
     let few = run_length-few grid c.args.at c.args.d in
     let wide = are.whole.sides.narrow in
@@ -77,17 +73,16 @@ run-smaller g c =
 pub run-preserved : goal.run-preserved
 run-preserved g c = record {
   read = let before = c.run.invariant.read in
-      let reads = c.leads-goes_on-in-run.ensures.three_steps in
+      let reads = c.leads.ensures.three_steps in
       let more = c.stops_at.ensures.more in
       omega arith;
   there = λ grid are free.
       let there = c.run.invariant.there grid are free in
-      let legal = legal_next grid c.run.cell c.beyond-next.result c.args.d c.run.goes_on
-      there.leads c.run-test.true c.beyond-next.ensures in
+      let legal = legal_next grid c.run.cell c.beyond-next.result c.args.d c.leads.result
+      (c.leads.ensures.leads grid are there.free) c.run-test.true c.beyond-next.ensures in
       let next = free_next grid c.run.cell c.beyond-next.result c.args.d legal in
       record {
         free = next;
-        leads = c.leads-goes_on-in-run.ensures.leads grid are next;
         stop = stops_later grid c.args.goal c.run.cell c.args.d c.run.moves
             (first_stop grid c.args.goal c.args.at c.args.d) there.stop c.beyond-next.result legal
             (is_stop-read grid c.args.goal c.args.d c.beyond-next.result c.requires.diagonal c.stops_at.result
@@ -106,4 +101,4 @@ returns-clause-first g c = λ grid are free.
     stops_nowhere grid c.args.goal c.run.cell c.args.d c.run.moves
     (first_stop grid c.args.goal c.args.at c.args.d) there.stop
     (beyond_stuck grid c.run.cell c.args.d
-    (sym there.leads ∙ c.run-test.false))
+    (sym (c.leads.ensures.leads grid are there.free) ∙ c.run-test.false))

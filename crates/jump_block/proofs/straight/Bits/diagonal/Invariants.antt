@@ -1,19 +1,17 @@
 use Rattle.std.proofs.Common.{◌≡◌, ◌+◌, ◌-◌, ◌≤◌, true}
 use Rattle.grid_moves.specs.Grid.{GridData, is_free}
-use Rattle.pruning.specs.Allowed.{can_move}
 use Rattle.pruning.specs.First.{first_stop, run_length}
 use Rattle.jump_plain.proofs.Diagonal.{later}
 use Rattle.jump_block.specs.Source.{AreItsBits}
 use Rattle.jump_block.proofs.straight.Bits.diagonal.Given as goal
 
--- the cell is so many moves on, the way leads on or does not, and the first stop in all is that from there
+-- the cell is so many moves on, and the first stop in all is that from there, after these
 abbrev pub invariant-run : goal.invariant-run
 invariant-run g l = record {
-  read : l.fn.steps + 3 ≤ l.steps;
+  read : l.fn.steps ≤ l.steps;
   there : (grid : GridData) → AreItsBits l.self.rows.now l.self.columns.now l.self.corner grid
       → is_free grid l.fn.at ≡ true → record {
         free : is_free grid l.cell ≡ true;
-        leads : l.goes_on ≡ can_move grid l.cell l.d;
         stop : first_stop grid l.goal l.fn.at l.d ≡ later l.moves (first_stop grid l.goal l.cell l.d);
         run : l.moves + run_length grid l.cell l.d ≡ run_length grid l.fn.at l.d;
       };
