@@ -157,7 +157,7 @@ impl<'a> Block<'a> {
     }
 
     // Whether all cells of the block are free and nothing changes beside it, told the words before: a scan
-    // that comes to it passes it then. It may pass others too.
+    // that comes to it passes it then. It passes some other blocks too, which are searched word by word.
     #[inline(always)]
     fn is_passed(&self, way: Way, last: Words) -> bool
         requires eight { AreEight self.now }

@@ -5,10 +5,11 @@ ghost use Rattle.grid_moves.specs.Grid.{GridData, is_free, is_inside};
 ghost use Rattle.bit_grid.specs.Bits.{AreBitsOf};
 
 use crate::BlockJumps;
+use arrayvec::ArrayVec;
 use bit_grid::BitGrid;
 use grid_moves::{ALL_DIRS, Cell, Corner, Dir, Grid, NoMemory, Terrain};
 use jump_plain::PlainJumps;
-use pruning::JumpSource;
+use pruning::{Arrival, JumpSource};
 use std::alloc::Global;
 use std::marker::Brand;
 use std::sync::ledger::{Blank, Ledger};
@@ -52,11 +53,59 @@ fn is_alike(grid: &Grid, bits: &BitGrid, at: Cell, d: Dir, goal: Cell) -> bool
         == stop_of::<PlainJumps<'_, Grid>, Brand>(&plain, at, d, goal, Blank::new(1))
 }
 
+// The directions in which a search over some source goes on from where it starts.
+fn starts_of<J: JumpSource, L: Ledger>(jumps: &J, at: Cell, blank: Blank) -> ArrayVec<Dir, 8>
+    requires name { blank.name ≡ L.name }
+    requires parts { blank.parts ≡ L.parts }
+    requires some { 0 < L.parts }
+    requires stands { (g : GridData) × J.StandsFor jumps.now g × IsTrue (is_free g at) }
+{
+    let mut steps = Steps::<L>::new(blank);
+    jumps.allowed(at, Arrival::Start, &mut steps)
+}
+
+// The same, taken out of one word.
+fn word_of_starts<J: JumpSource, L: Ledger>(jumps: &J, at: Cell, blank: Blank) -> ArrayVec<Dir, 8>
+    requires name { blank.name ≡ L.name }
+    requires parts { blank.parts ≡ L.parts }
+    requires some { 0 < L.parts }
+    requires stands { (g : GridData) × J.StandsFor jumps.now g × IsTrue (is_free g at) }
+{
+    let mut steps = Steps::<L>::new(blank);
+    jumps
+        .allowed_word(at, Arrival::Start, &mut steps)
+        .to_list()
+}
+
+// Whether a search over the bits starts in the directions of one over plain jumps, if it can start there.
+fn starts_alike(grid: &Grid, bits: &BitGrid, at: Cell) -> bool
+    requires { AreBitsOf bits.now grid.now }
+{
+    if !grid.free(at) {
+        return true;
+    }
+    let block = BlockJumps {
+        rows: bits.rows(),
+        columns: bits.columns(),
+        width: grid.width(),
+        height: grid.height(),
+        corner: grid.corner(),
+    };
+    let plain = PlainJumps { terrain: grid };
+    let dirs = starts_of::<PlainJumps<'_, Grid>, Brand>(&plain, at, Blank::new(1));
+    let list = starts_of::<BlockJumps<'_>, Brand>(&block, at, Blank::new(1));
+    let word = word_of_starts::<BlockJumps<'_>, Brand>(&block, at, Blank::new(1));
+    list.as_slice() == dirs.as_slice() && word.as_slice() == dirs.as_slice()
+}
+
 // Whether the jumps in all directions from these cells are alike.
 fn are_alike(grid: &Grid, bits: &BitGrid, cells: &[Cell], goal: Cell) -> bool
     requires { AreBitsOf bits.now grid.now }
 {
     for at in cells {
+        if !starts_alike(grid, bits, *at) {
+            return false;
+        }
         for d in ALL_DIRS {
             if !is_alike(grid, bits, *at, d, goal) {
                 return false;
