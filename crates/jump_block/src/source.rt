@@ -30,6 +30,38 @@ pub struct BlockJumps<'a> {
 }
 
 impl<'a> Bits<'a> {
+    // A diagonal jump where no corner is cut. It is a function of its own, so that straight jumps, which are short, keep
+    // clear of its many registers.
+    #[inline(never)]
+    fn diagonal_by_never<L: Ledger>(
+        &self,
+        at: Cell,
+        d: Dir,
+        goal: Cell,
+        steps: &mut Steps<L>,
+    ) -> Option<u16>
+        requires rule { self.now.corner ≡ Corner.Never }
+        requires diagonal { is_diagonal d ≡ true }
+        requires stands { (g : GridData) × AreItsBits self.now.rows.now self.now.columns.now self.now.corner g
+            × (is_free g at ≡ true) }
+        ensures first { (g : GridData)
+            → AreItsBits self.now.rows.now self.now.columns.now self.now.corner g → is_free g at ≡ true
+            → result ≡ first.first_stop g goal at d }
+        ensures fewest { steps.old + 3 ≤ steps.new }
+    {
+        let bits = Bits {
+            rows: self.rows,
+            columns: self.columns,
+            corner: Corner::Never,
+        };
+        match d {
+            Dir::NE => bits.diagonal(at, Dir::NE, goal, steps),
+            Dir::SE => bits.diagonal(at, Dir::SE, goal, steps),
+            Dir::SW => bits.diagonal(at, Dir::SW, goal, steps),
+            _ => bits.diagonal(at, Dir::NW, goal, steps),
+        }
+    }
+
     // After how many moves a jump stops, where no corner is cut. Each direction has loops of its own, in
     // which it is a constant, and so is the rule.
     #[inline(never)]
@@ -58,13 +90,42 @@ impl<'a> Bits<'a> {
         };
         match d {
             Dir::N => bits.straight(at, Dir::N, goal, steps),
-            Dir::NE => bits.diagonal(at, Dir::NE, goal, steps),
             Dir::E => bits.straight(at, Dir::E, goal, steps),
-            Dir::SE => bits.diagonal(at, Dir::SE, goal, steps),
             Dir::S => bits.straight(at, Dir::S, goal, steps),
-            Dir::SW => bits.diagonal(at, Dir::SW, goal, steps),
             Dir::W => bits.straight(at, Dir::W, goal, steps),
-            Dir::NW => bits.diagonal(at, Dir::NW, goal, steps),
+            Dir::NE | Dir::SE | Dir::SW | Dir::NW => self.diagonal_by_never(at, d, goal, steps),
+        }
+    }
+
+    // A diagonal jump where a corner may be cut past one blocked cell. It is a function of its own, so that straight jumps, which are short, keep
+    // clear of its many registers.
+    #[inline(never)]
+    fn diagonal_by_one<L: Ledger>(
+        &self,
+        at: Cell,
+        d: Dir,
+        goal: Cell,
+        steps: &mut Steps<L>,
+    ) -> Option<u16>
+        requires rule { self.now.corner ≡ Corner.One }
+        requires diagonal { is_diagonal d ≡ true }
+        requires stands { (g : GridData) × AreItsBits self.now.rows.now self.now.columns.now self.now.corner g
+            × (is_free g at ≡ true) }
+        ensures first { (g : GridData)
+            → AreItsBits self.now.rows.now self.now.columns.now self.now.corner g → is_free g at ≡ true
+            → result ≡ first.first_stop g goal at d }
+        ensures fewest { steps.old + 3 ≤ steps.new }
+    {
+        let bits = Bits {
+            rows: self.rows,
+            columns: self.columns,
+            corner: Corner::One,
+        };
+        match d {
+            Dir::NE => bits.diagonal(at, Dir::NE, goal, steps),
+            Dir::SE => bits.diagonal(at, Dir::SE, goal, steps),
+            Dir::SW => bits.diagonal(at, Dir::SW, goal, steps),
+            _ => bits.diagonal(at, Dir::NW, goal, steps),
         }
     }
 
@@ -95,13 +156,10 @@ impl<'a> Bits<'a> {
         };
         match d {
             Dir::N => bits.straight(at, Dir::N, goal, steps),
-            Dir::NE => bits.diagonal(at, Dir::NE, goal, steps),
             Dir::E => bits.straight(at, Dir::E, goal, steps),
-            Dir::SE => bits.diagonal(at, Dir::SE, goal, steps),
             Dir::S => bits.straight(at, Dir::S, goal, steps),
-            Dir::SW => bits.diagonal(at, Dir::SW, goal, steps),
             Dir::W => bits.straight(at, Dir::W, goal, steps),
-            Dir::NW => bits.diagonal(at, Dir::NW, goal, steps),
+            Dir::NE | Dir::SE | Dir::SW | Dir::NW => self.diagonal_by_one(at, d, goal, steps),
         }
     }
 
