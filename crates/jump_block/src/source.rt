@@ -30,8 +30,8 @@ pub struct BlockJumps<'a> {
 }
 
 impl<'a> Bits<'a> {
-    // A diagonal jump where no corner is cut. It is a function of its own, so that straight jumps, which are short, keep
-    // clear of its many registers.
+    // A diagonal jump where no corner is cut. It is a function of its own, so that straight jumps, which are
+    // short, keep clear of its many registers.
     #[inline(never)]
     fn diagonal_by_never<L: Ledger>(
         &self,
@@ -53,6 +53,37 @@ impl<'a> Bits<'a> {
             rows: self.rows,
             columns: self.columns,
             corner: Corner::Never,
+        };
+        match d {
+            Dir::NE => bits.diagonal(at, Dir::NE, goal, steps),
+            Dir::SE => bits.diagonal(at, Dir::SE, goal, steps),
+            Dir::SW => bits.diagonal(at, Dir::SW, goal, steps),
+            _ => bits.diagonal(at, Dir::NW, goal, steps),
+        }
+    }
+
+    // The same where a corner may be cut past one blocked cell.
+    #[inline(never)]
+    fn diagonal_by_one<L: Ledger>(
+        &self,
+        at: Cell,
+        d: Dir,
+        goal: Cell,
+        steps: &mut Steps<L>,
+    ) -> Option<u16>
+        requires rule { self.now.corner ≡ Corner.One }
+        requires diagonal { is_diagonal d ≡ true }
+        requires stands { (g : GridData) × AreItsBits self.now.rows.now self.now.columns.now self.now.corner g
+            × (is_free g at ≡ true) }
+        ensures first { (g : GridData)
+            → AreItsBits self.now.rows.now self.now.columns.now self.now.corner g → is_free g at ≡ true
+            → result ≡ first.first_stop g goal at d }
+        ensures fewest { steps.old + 3 ≤ steps.new }
+    {
+        let bits = Bits {
+            rows: self.rows,
+            columns: self.columns,
+            corner: Corner::One,
         };
         match d {
             Dir::NE => bits.diagonal(at, Dir::NE, goal, steps),
@@ -94,38 +125,6 @@ impl<'a> Bits<'a> {
             Dir::S => bits.straight(at, Dir::S, goal, steps),
             Dir::W => bits.straight(at, Dir::W, goal, steps),
             Dir::NE | Dir::SE | Dir::SW | Dir::NW => self.diagonal_by_never(at, d, goal, steps),
-        }
-    }
-
-    // A diagonal jump where a corner may be cut past one blocked cell. It is a function of its own, so that straight jumps, which are short, keep
-    // clear of its many registers.
-    #[inline(never)]
-    fn diagonal_by_one<L: Ledger>(
-        &self,
-        at: Cell,
-        d: Dir,
-        goal: Cell,
-        steps: &mut Steps<L>,
-    ) -> Option<u16>
-        requires rule { self.now.corner ≡ Corner.One }
-        requires diagonal { is_diagonal d ≡ true }
-        requires stands { (g : GridData) × AreItsBits self.now.rows.now self.now.columns.now self.now.corner g
-            × (is_free g at ≡ true) }
-        ensures first { (g : GridData)
-            → AreItsBits self.now.rows.now self.now.columns.now self.now.corner g → is_free g at ≡ true
-            → result ≡ first.first_stop g goal at d }
-        ensures fewest { steps.old + 3 ≤ steps.new }
-    {
-        let bits = Bits {
-            rows: self.rows,
-            columns: self.columns,
-            corner: Corner::One,
-        };
-        match d {
-            Dir::NE => bits.diagonal(at, Dir::NE, goal, steps),
-            Dir::SE => bits.diagonal(at, Dir::SE, goal, steps),
-            Dir::SW => bits.diagonal(at, Dir::SW, goal, steps),
-            _ => bits.diagonal(at, Dir::NW, goal, steps),
         }
     }
 

@@ -1,4 +1,4 @@
-//! Jumps over bits against plain jumps, with a wall at every place of two blocks.
+//! Jumps over bits, and where they begin, against plain ones, with a wall at every place of two blocks.
 
 ghost use Rattle.std.specs.Prelude.{◌≡◌, ◌<◌, IfOk, IsTrue};
 ghost use Rattle.grid_moves.specs.Grid.{GridData, is_free, is_inside};
@@ -72,9 +72,7 @@ fn word_of_starts<J: JumpSource, L: Ledger>(jumps: &J, at: Cell, blank: Blank) -
     requires stands { (g : GridData) × J.StandsFor jumps.now g × IsTrue (is_free g at) }
 {
     let mut steps = Steps::<L>::new(blank);
-    jumps
-        .allowed_word(at, Arrival::Start, &mut steps)
-        .to_list()
+    jumps.allowed_word(at, Arrival::Start, &mut steps).to_list()
 }
 
 // Whether a search over the bits starts in the directions of one over plain jumps, if it can start there.
@@ -98,7 +96,7 @@ fn starts_alike(grid: &Grid, bits: &BitGrid, at: Cell) -> bool
     list.as_slice() == dirs.as_slice() && word.as_slice() == dirs.as_slice()
 }
 
-// Whether the jumps in all directions from these cells are alike.
+// Whether the directions at a start and the jumps in all directions are alike at these cells.
 fn are_alike(grid: &Grid, bits: &BitGrid, cells: &[Cell], goal: Cell) -> bool
     requires { AreBitsOf bits.now grid.now }
 {

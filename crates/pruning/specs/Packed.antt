@@ -13,7 +13,8 @@ word_of (d ∷ ds) = dir_number d + 1 + 16 * word_of ds
 -- the directions of a word, at most so many
 unfoldable pub dirs_of : ℕ → ℕ → List Dir
 dirs_of zero word = []
-dirs_of (suc n) word = if nat_eq word 0 then [] else (get_or all_dirs (word % 16 - 1) N ∷ dirs_of n (word / 16))
+dirs_of (suc n) word =
+    if nat_eq word 0 then [] else (get_or all_dirs (word % 16 - 1) N ∷ dirs_of n (word / 16))
 
 -- east and south
 pub two_dirs : word_of (E ∷ S ∷ []) ≡ 83

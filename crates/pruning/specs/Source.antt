@@ -6,7 +6,7 @@ use Rattle.grid_moves.specs.Move.{legal_ahead}
 use Rattle.pruning.specs.declared.Arrival.{Arrival}
 use Rattle.pruning.specs.declared.Arrival.TheVariants.{Start, By}
 
--- how many steps a call of `stop`, and one of `allowed`, makes at most
+-- how many steps a call of `stop`, and one of `allowed` or `allowed_word`, makes at most
 pub record MostSteps : Type 0 where
   pub stop : ℕ
   pub allowed : ℕ

@@ -8,8 +8,8 @@
 #![tactic(auto)]
 
 pub mod laws;
-mod ring;
 mod packed;
+mod ring;
 mod rule;
 mod source;
 mod turns;

@@ -298,8 +298,9 @@ pub fn allowed_word<T: Terrain>(t: &T, at: Cell, by: Arrival) -> Packed
     ensures rule { result ≡ spec.allowed_dirs (T.grid t.now) at by }
 {
     let (left, up) = (at.x.wrapping_sub(1), at.y.wrapping_sub(1));
-    let inner =
-        is_inside(t, left, up) && is_inside(t, at.x + 1, at.y + 1) && is_inside(t, at.x, at.y);
+    let inner = is_inside(t, left, up)
+        && is_inside(t, at.x + 1, at.y + 1)
+        && is_inside(t, at.x, at.y);
     if inner {
         allowed_around(t, at, by)
     } else {

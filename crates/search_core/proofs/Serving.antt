@@ -173,8 +173,7 @@ module _ (Stands : GridData → Type 0) (s t : Cell) (last : Last) where
         → HasJumped ds old.table new.table × IsWithin most (λ told. length ds * told.stop) before after
     at_last left old new before after so none =
         let all : so.done ≡ ds = sym (so.parts ∙ ap (λ (rest : List Dir). so.done ++ rest) none
-        ∙ append-nil so.done) in
-        (
+        ∙ append-nil so.done) in (
           subst (λ (ds : List Dir). HasJumped ds old.table new.table) all so.jumped,
           subst (λ (ds : List Dir). IsWithin most (λ told. length ds * told.stop) before after) all so.within,
         )

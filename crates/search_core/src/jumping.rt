@@ -62,10 +62,11 @@ fn run_cost(d: Dir, k: u16) -> Cost
     }
 }
 
-// One more than the columns by which a move in each direction leads to the east, and one more than the rows by
-// which it leads to the south. They are read from tables, so that there is no branch on the direction, which
-// the processor would seldom foresee.
+// One more than the columns by which a move in each direction leads to the east, and one more than the rows
+// by which it leads to the south. They are read from tables, so that there is no branch on the direction,
+// which the processor would seldom foresee.
 const COLUMNS_AND_ONE: [u32; 8] = [1, 2, 2, 2, 1, 0, 0, 0];
+
 const ROWS_AND_ONE: [u32; 8] = [0, 0, 1, 2, 2, 2, 1, 0];
 
 // One more than the columns by which a move in d leads to the east: the column after it, from column 1.

@@ -12,13 +12,13 @@ pub returns : goal.returns
 returns g c =
     let gathered : c.put_allowed.result ≡ filter
     (is_allowed_on c.corner_of-rule.result c.args.ring c.arrival_of-by.result) all_dirs =
-        c.put_allowed.ensures.kept (NE ∷ E ∷ SE ∷ S ∷ SW ∷ W ∷ NW ∷ [])
-        (c.put_allowed-ne.ensures.kept (E ∷ SE ∷ S ∷ SW ∷ W ∷ NW ∷ [])
-        (c.put_allowed-e.ensures.kept (SE ∷ S ∷ SW ∷ W ∷ NW ∷ [])
-        (c.put_allowed-se.ensures.kept (S ∷ SW ∷ W ∷ NW ∷ [])
-        (c.put_allowed-s.ensures.kept (SW ∷ W ∷ NW ∷ [])
-        (c.put_allowed-sw.ensures.kept (W ∷ NW ∷ [])
-        (c.put_allowed-w.ensures.kept (NW ∷ []) (c.put_allowed-nw.ensures.kept [] c.new.ensures))))))) in
+    c.put_allowed.ensures.kept (NE ∷ E ∷ SE ∷ S ∷ SW ∷ W ∷ NW ∷ [])
+    (c.put_allowed-ne.ensures.kept (E ∷ SE ∷ S ∷ SW ∷ W ∷ NW ∷ [])
+    (c.put_allowed-e.ensures.kept (SE ∷ S ∷ SW ∷ W ∷ NW ∷ [])
+    (c.put_allowed-se.ensures.kept (S ∷ SW ∷ W ∷ NW ∷ [])
+    (c.put_allowed-s.ensures.kept (SW ∷ W ∷ NW ∷ [])
+    (c.put_allowed-sw.ensures.kept (W ∷ NW ∷ [])
+    (c.put_allowed-w.ensures.kept (NW ∷ []) (c.put_allowed-nw.ensures.kept [] c.new.ensures))))))) in
     subst (λ (r : Corner). c.put_allowed.result ≡ filter
     (is_allowed_on r c.args.ring (arrival_of g.row.BY)) all_dirs) c.corner_of-rule.ensures
     (subst (λ (a : Arrival). c.put_allowed.result ≡ filter

@@ -8,7 +8,7 @@ pub put_first-requires : goal.put_first-requires
 put_first-requires c =
     let word = c.self.invariant ∙ ap (λ (ds : List Dir). word_of ds) c.self.view_is in
     let few : length c.args.self ≤ 7 = grind arith in
-    record { room = subst (λ (w : _). w < 2 ^ 28) (sym word) (has_place c.args.self few); }
+    record { room = subst (λ (w : _). w < 2 ^ 28) (sym word) (has_place c.args.self few) }
 
 pub invariant_of-result : goal.invariant_of-result
 invariant_of-result c =
