@@ -1,5 +1,6 @@
 -- What files are known to hold, and what a read tells of it.
 use Rattle.std.specs.Prelude.{◌≡◌, ℕ, ◌≤◌, List, length, take, drop, ⊤, MatchResult}
+use Rattle.std.specs.declared.option.Option.{Option}
 use Rattle.std.specs.declared.result.Result.{Result}
 
 -- what stands under a name: not told, no file, or a file of these bytes
@@ -7,6 +8,21 @@ pub data Held : Type 0 where
   untold : Held
   absent : Held
   holding : List ℕ → Held
+
+-- what is known of files: what stands under each name, and how many reads of it failed
+pub record Disk : Type 0 where
+  pub holds : List ℕ → Held
+  pub faults : List ℕ → ℕ
+
+-- what is known of a stream that is read from: the bytes that are left, where that is told, and how many reads failed
+pub record Inflow : Type 0 where
+  pub left : Option (List ℕ)
+  pub faults : ℕ
+
+-- what is known of a stream that is written to: the bytes that were taken, where that is told, and how many writes failed
+pub record Outflow : Type 0 where
+  pub written : Option (List ℕ)
+  pub faults : ℕ
 
 -- the first n bytes of buf are those from `place` on, and there are none only at or past the end
 pub record IsPart (bytes : List ℕ) (place n : ℕ) (buf : List ℕ) : Type 0 where

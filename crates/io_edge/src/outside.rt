@@ -1,12 +1,12 @@
 //! The traits of the outside.
 //!
-//! `holds`, `left` and `written` are what contracts see of the bytes; an object that tells nothing
-//! gives `untold` or `None`. `faults` counts the faults and never falls.
+//! Contracts see one thing of each object: its bytes, where it tells them, together with a count of
+//! its faults, which never falls.
 
-ghost use Rattle.std.specs.Prelude.{◌≡◌, ℕ, ◌^◌, ◌<◌, ◌≤◌, List, Option, length, IfOk};
+ghost use Rattle.std.specs.Prelude.{◌≡◌, ◌^◌, ◌<◌, ◌≤◌, length, IfOk};
 ghost use Rattle.std.specs.Io.KnownBytes.{ReadConsumes, WriteAppends};
 ghost use Rattle.io_edge.specs.Causes.{HasCause, NoneFell};
-ghost use Rattle.io_edge.specs.Told.{Held, ReadsAt};
+ghost use Rattle.io_edge.specs.Told.{Disk, Inflow, Outflow, ReadsAt};
 
 use thiserror::Error;
 
@@ -17,9 +17,7 @@ pub struct Failed;
 
 /// Files by their names.
 pub trait Files {
-    ghost holds: { Self → List ℕ → Held };
-
-    ghost faults: { Self → List ℕ → ℕ };
+    ghost disk: { Self → Disk };
 
     /// Reads some of the bytes of the file `name` from byte `place` on, counted from 0, into the
     /// front of `buf`.
@@ -30,17 +28,15 @@ pub trait Files {
         requires some_room { 0 < length buf.old }
         requires near { place ≤ 2 ^ 30 }
         ensures bound { IfOk result (λ n. n ≤ length buf.old) }
-        ensures bytes { ReadsAt (holds self.old name.now) place result buf.new }
-        ensures unchanged { holds self.new ≡ holds self.old }
-        ensures cause { HasCause (faults self.old name.now) (faults self.new name.now) result }
-        ensures later { NoneFell (faults self.old) (faults self.new) };
+        ensures bytes { ReadsAt ((disk self.old).holds name.now) place result buf.new }
+        ensures unchanged { (disk self.new).holds ≡ (disk self.old).holds }
+        ensures cause { HasCause ((disk self.old).faults name.now) ((disk self.new).faults name.now) result }
+        ensures later { NoneFell (disk self.old).faults (disk self.new).faults };
 }
 
 /// Bytes that come in, one after another.
 pub trait Source {
-    ghost left: { Self → Option (List ℕ) };
-
-    ghost faults: { Self → ℕ };
+    ghost inflow: { Self → Inflow };
 
     /// Takes some of the bytes that are left into the front of `buf`.
     ///
@@ -48,15 +44,13 @@ pub trait Source {
     fn read(&mut self, buf: &mut [u8]) -> Result<usize, Failed>
         requires { 0 < length buf.old }
         ensures bound { IfOk result (λ n. n ≤ length buf.old) }
-        ensures bytes { ReadConsumes (left self.old) (left self.new) result buf.new }
-        ensures cause { HasCause (faults self.old) (faults self.new) result };
+        ensures bytes { ReadConsumes (inflow self.old).left (inflow self.new).left result buf.new }
+        ensures cause { HasCause (inflow self.old).faults (inflow self.new).faults result };
 }
 
 /// Bytes that go out, one after another.
 pub trait Sink {
-    ghost written: { Self → Option (List ℕ) };
-
-    ghost faults: { Self → ℕ };
+    ghost outflow: { Self → Outflow };
 
     /// Appends some of the first bytes of `piece`.
     ///
@@ -64,6 +58,6 @@ pub trait Sink {
     fn write(&mut self, piece: &[u8]) -> Result<usize, Failed>
         requires { 0 < length piece.now }
         ensures bound { IfOk result (λ n. (0 < n) × (n ≤ length piece.now)) }
-        ensures bytes { WriteAppends (written self.old) (written self.new) result piece.now }
-        ensures cause { HasCause (faults self.old) (faults self.new) result };
+        ensures bytes { WriteAppends (outflow self.old).written (outflow self.new).written result piece.now }
+        ensures cause { HasCause (outflow self.old).faults (outflow self.new).faults result };
 }

@@ -45,9 +45,7 @@ fn read_once<R: rt::Files>(rt: &R, name: &str, place: u64, buf: &mut [u8]) -> io
 }
 
 impl<'a, R: rt::Files> Files for RealFiles<'a, R> {
-    ghost holds = { λ _ _. untold };
-
-    ghost faults = { λ faults _. faults };
+    ghost disk = { λ faults. record { holds = λ _. untold; faults = λ _. faults } };
 
     fn read_at(&mut self, name: &str, place: u64, buf: &mut [u8]) -> Result<usize, Failed> {
         match read_once(self.rt, name, place, buf) {
@@ -85,9 +83,7 @@ impl<R: Read + Drop> RealIn<R> {
 }
 
 impl<R: Read + Drop> Source for RealIn<R> {
-    ghost left = { λ _. None };
-
-    ghost faults = { λ faults. faults };
+    ghost inflow = { λ faults. record { left = None; faults = faults } };
 
     fn read(&mut self, buf: &mut [u8]) -> Result<usize, Failed> {
         match self.reader.read(buf) {
@@ -134,9 +130,7 @@ fn write_once<W: Write>(writer: &mut W, piece: &[u8]) -> io::Result<usize>
 }
 
 impl<W: Write + Drop> Sink for RealOut<W> {
-    ghost written = { λ _. None };
-
-    ghost faults = { λ faults. faults };
+    ghost outflow = { λ faults. record { written = None; faults = faults } };
 
     // A write that takes nothing is a fault too: it would never come to an end.
     fn write(&mut self, piece: &[u8]) -> Result<usize, Failed> {

@@ -38,9 +38,7 @@ impl SureFiles {
 }
 
 impl Files for SureFiles {
-    ghost holds = { λ files name. held_surely files name };
-
-    ghost faults = { λ _ _. 0 };
+    ghost disk = { λ files. record { holds = held_surely files; faults = λ _. 0 } };
 
     fn read_at(&mut self, name: &str, place: u64, buf: &mut [u8]) -> Result<usize, Failed> {
         let Some(bytes) = bytes_under(self.files.as_slice(), name) else {
@@ -80,9 +78,7 @@ impl SureSource {
 }
 
 impl Source for SureSource {
-    ghost left = { λ left. Some left };
-
-    ghost faults = { λ _. 0 };
+    ghost inflow = { λ left. record { left = Some left; faults = 0 } };
 
     fn read(&mut self, buf: &mut [u8]) -> Result<usize, Failed> {
         let rest = &self.bytes[self.taken..];
@@ -124,9 +120,7 @@ impl SureSink {
 }
 
 impl Sink for SureSink {
-    ghost written = { λ _. None };
-
-    ghost faults = { λ _. 0 };
+    ghost outflow = { λ _. record { written = None; faults = 0 } };
 
     fn write(&mut self, piece: &[u8]) -> Result<usize, Failed>
         requires { 0 < length piece.now }

@@ -53,14 +53,14 @@ pub fn read_whole<F: Files>(
     limit: u32,
 ) -> Result<Vec<u8>, ReadStop>
     requires { limit ≤ 2 ^ 30 }
-    ensures whole { IfOk result (λ bytes. IsWhole (F.holds files.old name.now) limit bytes.items) }
+    ensures whole { IfOk result (λ bytes. IsWhole ((F.disk files.old).holds name.now) limit bytes.items) }
     ensures fault { result ≡ Err ReadStop.Fault
-        → Rose (F.faults files.old name.now) (F.faults files.new name.now) }
-    ensures long { result ≡ Err ReadStop.TooLong → IsLonger (F.holds files.old name.now) limit }
-    ensures complete { ¬ Rose (F.faults files.old name.now) (F.faults files.new name.now)
-        → IfErr result (IsOtherStop (F.holds files.old name.now) limit) }
-    ensures unchanged { F.holds files.new ≡ F.holds files.old }
-    ensures later { NoneFell (F.faults files.old) (F.faults files.new) }
+        → Rose ((F.disk files.old).faults name.now) ((F.disk files.new).faults name.now) }
+    ensures long { result ≡ Err ReadStop.TooLong → IsLonger ((F.disk files.old).holds name.now) limit }
+    ensures complete { ¬ Rose ((F.disk files.old).faults name.now) ((F.disk files.new).faults name.now)
+        → IfErr result (IsOtherStop ((F.disk files.old).holds name.now) limit) }
+    ensures unchanged { (F.disk files.new).holds ≡ (F.disk files.old).holds }
+    ensures later { NoneFell (F.disk files.old).faults (F.disk files.new).faults }
 {
     let most = limit as usize + 1;
     let mut bytes = Vec::new(alloc);
@@ -116,10 +116,10 @@ fn read_behind<F: Files>(
     ensures kept { take filled bytes.new.items ≡ take filled bytes.old.items }
     ensures room { length bytes.new.items ≡ length bytes.old.items }
     ensures bound { IfOk result (λ n. filled + n ≤ length bytes.old.items) }
-    ensures bytes { ReadsAt (F.holds files.old name.now) filled result (drop filled bytes.new.items) }
-    ensures unchanged { F.holds files.new ≡ F.holds files.old }
-    ensures fault { OnErr result (Rose (F.faults files.old name.now) (F.faults files.new name.now)) }
-    ensures later { NoneFell (F.faults files.old) (F.faults files.new) }
+    ensures bytes { ReadsAt ((F.disk files.old).holds name.now) filled result (drop filled bytes.new.items) }
+    ensures unchanged { (F.disk files.new).holds ≡ (F.disk files.old).holds }
+    ensures fault { OnErr result (Rose ((F.disk files.old).faults name.now) ((F.disk files.new).faults name.now)) }
+    ensures later { NoneFell (F.disk files.old).faults (F.disk files.new).faults }
 {
     let buf = bytes.as_mut_slice();
     files.read_at(name, filled as u64, &mut buf[filled..])
@@ -129,10 +129,10 @@ fn read_behind<F: Files>(
 ///
 /// After `WriteFault` the sink has a front part of them, and has failed.
 pub fn write_whole<S: Sink>(sink: &mut S, bytes: &[u8]) -> Result<(), WriteFault>
-    ensures ok { OnOk result (Appends (S.written sink.old) (S.written sink.new) bytes.now) }
-    ensures fault { OnErr result (Rose (S.faults sink.old) (S.faults sink.new)) }
-    ensures part { OnErr result (AppendsSome (S.written sink.old) (S.written sink.new) bytes.now) }
-    ensures later { S.faults sink.old ≤ S.faults sink.new }
+    ensures ok { OnOk result (Appends (S.outflow sink.old).written (S.outflow sink.new).written bytes.now) }
+    ensures fault { OnErr result (Rose (S.outflow sink.old).faults (S.outflow sink.new).faults) }
+    ensures part { OnErr result (AppendsSome (S.outflow sink.old).written (S.outflow sink.new).written bytes.now) }
+    ensures later { (S.outflow sink.old).faults ≤ (S.outflow sink.new).faults }
 {
     let mut count: usize = 0;
     while count < bytes.len() {

@@ -24,7 +24,7 @@ use Rattle.jps_run.specs.Answering.{GoesOn}
 use Rattle.jps_run.specs.Answers.{edits_with}
 use Rattle.jps_run.specs.Counting.{CommandTakes, CommandsTake, EntriesTake, EntryTakes, RoseBy, RoseFor, TakesAfter, drilled, judged, replied, solved}
 use Rattle.jps_run.specs.Outcome.{call_with}
-use Rattle.jps_run.specs.Reading.{SpellsSession}
+use Rattle.jps_run.specs.Reading.{IsMade, IsSessionOn}
 use Rattle.jps_run.specs.Judging as judging
 use Rattle.jps_run.specs.Session.{IsReply, session_after, session_on}
 use Rattle.jps_run.specs.declared.answers.Answers.{Answers}
@@ -64,27 +64,6 @@ rose-more first now commands command start old new session rose more =
           (subst (λ (d : SessionData). CommandTakes d command more.count) session more.takes);
       rose = rise start old new (fewest_of first.engine) rose.counts more.count rose.rose risen;
     }
-
--- the command at the next place
-pub rose-next : (first now : SessionData) (commands : List Command) (count : ℕ) (d : Command)
-    (start old new : ℕ) → count < length commands
-    → now ≡ session_after first (fold edits_with [] (take count commands))
-    → RoseBy first (CommandsTake first (take count commands)) start old
-    → answering.TakesFor now (slice_index_or commands count d) old new
-    → RoseBy first (CommandsTake first (take (count + 1) commands)) start new
-rose-next first now commands count d start old new h session rose more =
-    let all : take (count + 1) commands ≡ take count commands ++ slice_index_or commands count d ∷ [] =
-    ap (λ n. take n commands) (let s : count + 1 ≡ suc count = omega arith in s) ∙ take-suc commands count d h in
-    subst (λ (some : List Command). RoseBy first (CommandsTake first some) start new) (sym all)
-    (rose-more first now (take count commands) (slice_index_or commands count d) start old new session rose more)
-
--- and all of them
-pub rose-all : (first : SessionData) (commands : List Command) (count start new : ℕ) → length commands ≤ count
-    → RoseBy first (CommandsTake first (take count commands)) start new
-    → RoseBy first (CommandsTake first commands) start new
-rose-all first commands count start new h rose =
-    subst (λ (some : List Command). RoseBy first (CommandsTake first some) start new) (take_all count commands h)
-    rose
 
 -- one entry more
 pub rose-entry : (d : SessionData) (entries : List Entry) (entry : Entry) (start old new : ℕ)
@@ -159,26 +138,26 @@ drill-counted set seed d commands old new begun e rose =
     (subst (λ (s : SessionData). RoseBy s (CommandsTake s commands) old new) begun rose))
 
 pub query-counted : (map text : List ℕ) (sx sy gx gy : ℕ) (set : Settings) (d : SessionData) (old new : ℕ)
-    → SpellsSession set text d → RoseBy d (CommandsTake d (Query sx sy gx gy ∷ [])) old new
+    → IsMade (IsSessionOn set) text d → RoseBy d (CommandsTake d (Query sx sy gx gy ∷ [])) old new
     → RoseFor (call_with (asked.Query map sx sy gx gy) set) (text ∷ []) old new
 query-counted map text sx sy gx gy set d old new spelled rose =
     replied map text sx sy gx gy set spelled.map old new spelled.spelled
-    (subst (λ (s : SessionData). RoseBy s (CommandsTake s (Query sx sy gx gy ∷ [])) old new) spelled.begun rose)
+    (subst (λ (s : SessionData). RoseBy s (CommandsTake s (Query sx sy gx gy ∷ [])) old new) spelled.is rose)
 
 pub solve-counted : (map script text second : List ℕ) (set : Settings) (d : SessionData)
-    (commands some : List Command) (old new : ℕ) → SpellsSession set text d → script_of second ≡ Ok commands
+    (commands some : List Command) (old new : ℕ) → IsMade (IsSessionOn set) text d → script_of second ≡ Ok commands
     → some ≡ commands → RoseBy d (CommandsTake d some) old new
     → RoseFor (call_with (Solve map script) set) (text ∷ second ∷ []) old new
 solve-counted map script text second set d commands some old new spelled script_spelled e rose =
     solved map script text second set spelled.map commands old new spelled.spelled script_spelled
-    (subst (λ (s : SessionData). RoseBy s (CommandsTake s commands) old new) spelled.begun
+    (subst (λ (s : SessionData). RoseBy s (CommandsTake s commands) old new) spelled.is
     (subst (λ (all : List Command). RoseBy d (CommandsTake d all) old new) e rose))
 
 pub scen-counted : (map scen text second : List ℕ) (set : Settings) (d : SessionData)
-    (entries some : List Entry) (old new : ℕ) → SpellsSession set text d → scen_of second ≡ Ok entries
+    (entries some : List Entry) (old new : ℕ) → IsMade (IsSessionOn set) text d → scen_of second ≡ Ok entries
     → some ≡ entries → RoseBy d (EntriesTake d some) old new
     → RoseFor (call_with (Scen map scen) set) (text ∷ second ∷ []) old new
 scen-counted map scen text second set d entries some old new spelled scen_spelled e rose =
     judged map scen text second set spelled.map entries old new spelled.spelled scen_spelled
-    (subst (λ (s : SessionData). RoseBy s (EntriesTake s entries) old new) spelled.begun
+    (subst (λ (s : SessionData). RoseBy s (EntriesTake s entries) old new) spelled.is
     (subst (λ (all : List Entry). RoseBy d (EntriesTake d all) old new) e rose))

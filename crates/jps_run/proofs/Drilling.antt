@@ -1,28 +1,35 @@
 -- The sums of what commands come to.
-use Rattle.std.proofs.Common.{◌≡◌, refl, sym, ap, ◌∙◌, subst, List, [], ◌∷◌, ◌++◌, ℕ, zero, suc, ◌+◌, ◌*◌, ◌≤◌, ◌<◌, ◌^◌, length, take, drop, arith}
-use Rattle.std.specs.Prelude.{slice_index_or, bit_xor}
+use Rattle.std.proofs.Common.{◌≡◌, refl, sym, ap, ◌∙◌, subst, List, [], ◌∷◌, ◌++◌, ℕ, zero, suc, ◌+◌, ◌*◌, ◌≤◌, ◌<◌, ◌^◌, length, length-append, drop, true, arith}
+use Rattle.std.specs.Prelude.{bit_xor}
 use Rattle.std.specs.List.{All, fold, sum_by}
-use Rattle.std.proofs.Math.Seq.{take-suc}
-use Rattle.std.proofs.lemmas.List.{take_all, length-take-le}
+use Rattle.std.proofs.lemmas.List.{append-nil}
 use Rattle.std.proofs.lemmas.List.Elements.{All-push}
 use Rattle.std.proofs.lemmas.List.Sums.{count_by-le-length, sum_by-le}
-use Rattle.edit_replay.specs.Edited.{Edit}
+use Rattle.edit_replay.specs.Edited.{Edit, edit_at}
 use Rattle.edit_replay.specs.Session.{SessionData}
 use Rattle.map_maker.specs.Drill.{commands_of, drill_commands, words_in}
 use Rattle.map_maker.specs.Making.{made_map}
 use Rattle.map_maker.specs.Words.{words_of}
 use Rattle.script_text.specs.declared.command.Command.{Command}
 use Rattle.word_list.specs.declared.request.Settings.{Settings}
-use Rattle.jps_run.specs.Answering.{GoesOn}
+use Rattle.grid_moves.specs.declared.Ground.TheVariants.{Blocked, Land, Water}
+use Rattle.script_text.specs.declared.command.Command.TheVariants.{Block, Free, Flood, Query}
+use Rattle.word_list.specs.Request as asked
+use Rattle.jps_run.specs.Answering.{GoesOn, TakesFor}
 use Rattle.jps_run.specs.Answers.{edits_with}
-use Rattle.jps_run.specs.Drill.{AreFindings, FindsAfter, IsDrillText, IsFinding, IsShortFinding, is_walk, is_none, is_blocked, is_done, is_same, straight_in, diagonal_in}
-use Rattle.jps_run.specs.Drilling.{HasRoom, HasSummed, IsDrilling, sums_of, sums_text}
-use Rattle.jps_run.specs.Session.{session_after, session_on}
+use Rattle.jps_run.specs.Drill.{AreFindings, FindsAfter, IsFinding, drill_line, finding_of, finding_of_edit, IsShortFinding, is_walk, is_none, is_blocked, is_done, is_same, straight_in, diagonal_in}
+use Rattle.jps_run.specs.Drilling.{HasDrilled, HasRoom, HaveTaken, IsDrilled, LeavesRoom, sums_of, sums_text}
+use Rattle.jps_run.specs.Counting.{CommandsTake}
+use Rattle.jps_run.specs.Outcome.{IsAnswered, call_with, drilled}
+use Rattle.jps_run.specs.Session.{reply_to_edit, session_after, session_on}
+use Rattle.jps_run.specs.Working.{Adds, CanComplete, HasRoomForOne}
 use Rattle.jps_run.specs.declared.drill.Finding.{Finding}
 use Rattle.jps_run.specs.declared.drill.Finding.TheVariants as finding
-use Rattle.jps_run.specs.declared.drill.Sums.{Sums}
+use Rattle.jps_run.specs.declared.drill.Summary.{Summary}
+use Rattle.jps_run.proofs.Counts.{rose-more, rose-none}
+use Rattle.jps_run.proofs.Existing.{reply_exists}
 use Rattle.jps_run.proofs.Solving.{after-more, nothing_edited}
-use Rattle.jps_run.proofs.Turns.{turns-more, turns-count, fold-more}
+use Rattle.jps_run.proofs.Turns.{turns-more, turns-all, fold-more}
 
 -- a walk's moves are few
 few_straight : (found : Finding) → IsShortFinding found → straight_in found ≤ 2 ^ 24
@@ -58,60 +65,118 @@ has_room found few short = record {
     below : (n : ℕ) → n ≤ length found * 2 ^ 24 → n < 2 ^ 63
     below n most = omega arith
 
-module _ (first : SessionData) (commands : List Command) where
-  -- nothing was worked yet
-  pub drilling-none : (sums : Sums) → sums ≡ sums_of [] → IsDrilling first first commands 0 sums
-  drilling-none sums e = record {
-    found = [];
-    are = tt;
-    summed = e;
-    short = λ k d b. absurd (omega arith);
-    session = nothing_edited first;
-  }
+-- there is room for the next finding
+pub one-fits : (job : Summary) → HasRoomForOne (LeavesRoom job) → HasRoom job.sums
+one-fits job room =
+    let h = room.1 in
+    let few : length h.found + (room.0 + 1) ≤ 2 ^ 32 = h.few in
+    subst HasRoom (sym h.summed) (has_room h.found (omega arith) h.short)
 
-  -- there is room for the next finding
-  pub drilling-room : (now : SessionData) (count : ℕ) (sums : Sums) → IsDrilling first now commands count sums
-      → count < length commands → length commands ≤ 2 ^ 32 → HasRoom sums
-  drilling-room now count sums w h few =
-      let as_many : length w.found ≡ length (take count commands) =
-      turns-count (FindsAfter first) edits_with [] (take count commands) w.found w.are in
-      let taken : length (take count commands) ≡ count = length-take-le count commands (omega arith) in
-      subst HasRoom (sym w.summed) (has_room w.found (omega arith) w.short)
-
-  -- one command more was worked
-  pub drilling-more : (old new : SessionData) (count : ℕ) (sums sums_now : Sums) (d : Command) (found : Finding)
-      → IsDrilling first old commands count sums → count < length commands
-      → IsFinding old (slice_index_or commands count d) found → IsShortFinding found
-      → GoesOn old (slice_index_or commands count d) new
-      → ((all : List Finding) → sums ≡ sums_of all → sums_now ≡ sums_of (all ++ found ∷ []))
-      → IsDrilling first new commands (count + 1) sums_now
-  drilling-more old new count sums sums_now d found w h is short on counts =
-      let command : Command = slice_index_or commands count d in
-      let done : List Command = take count commands in
-      let all : take (count + 1) commands ≡ done ++ command ∷ [] =
-      ap (λ n. take n commands) (let s : count + 1 ≡ suc count = omega arith in s) ∙ take-suc commands count d h in
-      let edits : List Edit = fold edits_with [] done in
+module _ (job now : Summary) (command : Command) (found : Finding) (is : IsFinding job.session command found)
+    (on : GoesOn job.session command now.session)
+    (counts : (all : List Finding) → job.sums ≡ sums_of all → now.sums ≡ sums_of (all ++ found ∷ [])) where
+  -- one finding more leaves room for one less
+  pub room-left : IsShortFinding found → (n : ℕ) → LeavesRoom job (n + 1) → LeavesRoom now n
+  room-left short n h =
+      let both : length (h.found ++ found ∷ []) ≡ length h.found + 1 = length-append h.found (found ∷ []) in
+      let few : length h.found + (n + 1) ≤ 2 ^ 32 = h.few in
       record {
-        found = w.found ++ found ∷ [];
-        are = subst (λ (some : List Command). AreFindings first some (w.found ++ found ∷ [])) (sym all)
-            (turns-more (FindsAfter first) edits_with [] done w.found command found w.are
-            (subst (λ (s : SessionData). IsFinding s command found) w.session is));
-        summed = counts w.found w.summed;
-        short = All-push IsShortFinding w.found found w.short short;
-        session = after-more first old new edits command on w.session
-            ∙ ap (λ (made : List Edit). session_after first made)
-            (sym (fold-more (FindsAfter first) edits_with [] done command)
-            ∙ ap (λ (some : List Command). fold edits_with [] some) (sym all));
+        found = h.found ++ found ∷ [];
+        summed = counts h.found h.summed;
+        short = All-push IsShortFinding h.found found h.short short;
+        few = omega arith;
       }
 
-  -- all were worked
-  pub drilled-all : (now : SessionData) (count : ℕ) (sums : Sums) → IsDrilling first now commands count sums
-      → length commands ≤ count → HasSummed first commands sums
-  drilled-all now count sums w h = record {
-    found = w.found;
-    are = subst (λ (some : List Command). AreFindings first some w.found) (take_all count commands h) w.are;
-    summed = w.summed;
+  -- one command more was worked
+  pub drilled-more : (lines : List ℕ) (first : Summary) (commands : List Command) (so_far : List (List ℕ))
+      → HasDrilled first job commands so_far
+      → Adds (HasDrilled first now (commands ++ command ∷ [])) so_far lines lines
+  drilled-more lines first commands so_far h = record {
+    more = [];
+    stand = record {
+      found = h.found ++ found ∷ [];
+      are = turns-more (FindsAfter first.session) edits_with [] commands h.found command found h.are
+          (subst (λ (s : SessionData). IsFinding s command found) h.session is);
+      summed = counts h.found h.summed;
+      session = after-more first.session job.session now.session (fold edits_with [] commands) command on h.session
+          ∙ ap (λ (made : List Edit). session_after first.session made)
+          (sym (fold-more (FindsAfter first.session) edits_with [] commands command));
+      none = append-nil so_far ∙ h.none;
+    };
+    appended = sym (append-nil lines);
   }
+
+  -- and the counter rose for it
+  pub taken-more : (old new : ℕ) → TakesFor job.session command old new → (first : Summary) (commands : List Command)
+      (start : ℕ) → HaveTaken first job commands start old → HaveTaken first now (commands ++ command ∷ []) start new
+  taken-more old new more first commands start h = record {
+    rose = rose-more first.session job.session commands command start old new h.session h.rose more;
+    session = after-more first.session job.session now.session (fold edits_with [] commands) command on h.session
+        ∙ ap (λ (made : List Edit). session_after first.session made)
+        (sym (fold-more (FindsAfter first.session) edits_with [] commands command));
+  }
+
+-- nothing was worked yet
+pub drilled-none : (job : Summary) → job.sums ≡ sums_of [] → HasDrilled job job [] []
+drilled-none job e = record { found = []; are = tt; summed = e; session = nothing_edited job.session; none = refl }
+
+pub taken-none : (job : Summary) (start : ℕ) → HaveTaken job job [] start start
+taken-none job start = record {
+  rose = rose-none job.session (CommandsTake job.session []) start tt;
+  session = nothing_edited job.session;
+}
+
+-- there is room for all commands of a drill
+pub all-fit : (job : Summary) (count : ℕ) → job.sums ≡ sums_of [] → count ≤ 2 ^ 32 → LeavesRoom job count
+all-fit job count e few =
+    record { found = []; summed = e; short = λ k d b. absurd (omega arith); few = omega arith }
+
+-- the sums close the output
+pub drilled-all : (job : Summary) (before after : List ℕ) → after ≡ before ++ sums_text job.sums
+    → (first : Summary) (commands : List Command) (lines : List (List ℕ)) → HasDrilled first job commands lines
+    → Adds (λ all. IsDrilled first commands all 0) lines before after
+drilled-all job before after w first commands lines h = record {
+  more = drill_line h.found ∷ [];
+  stand = record {
+    found = h.found;
+    are = h.are;
+    all = ap (λ (l : List (List ℕ)). l ++ drill_line h.found ∷ []) h.none;
+    good = refl;
+  };
+  appended = w ∙ ap (λ (l : List ℕ). before ++ l)
+      (ap sums_text h.summed ∙ sym (append-nil (drill_line h.found)));
+}
+
+-- every command comes to something
+finding_exists : (d : SessionData) (edits : List Edit) (command : Command)
+    → (found : Finding) × FindsAfter d edits command found
+finding_exists d edits (Block x y) =
+    (finding_of_edit (reply_to_edit (session_after d edits) (edit_at x y Blocked)), refl)
+finding_exists d edits (Free x y) =
+    (finding_of_edit (reply_to_edit (session_after d edits) (edit_at x y Land)), refl)
+finding_exists d edits (Flood x y) =
+    (finding_of_edit (reply_to_edit (session_after d edits) (edit_at x y Water)), refl)
+finding_exists d edits (Query sx sy gx gy) =
+    let r = reply_exists (session_after d edits) (record { x = sx; y = sy }) (record { x = gx; y = gy }) in
+    (finding_of r.0, record { reply = r.0; is_reply = r.1; is = refl })
+
+-- so the line of the sums can follow
+pub drill-complete : CanComplete HasDrilled IsDrilled true
+drill-complete first now some others lines h =
+    let all = turns-all (FindsAfter first.session) edits_with (finding_exists first.session) [] some others h.found
+    h.are in
+    let found : List Finding = h.found ++ all.0 in
+    record {
+      more = drill_line found ∷ [];
+      status = 0;
+      whole = record {
+        found = found;
+        are = all.1;
+        all = ap (λ (l : List (List ℕ)). l ++ drill_line found ∷ []) h.none;
+        good = refl;
+      };
+      some = λ left e. (let never : drill_line found ∷ [] ≡ [] = e in cc);
+    }
 
 -- a drill has 150 commands
 as_many : (number count : ℕ) (words : List ℕ) → length (commands_of number count words) ≡ count
@@ -128,13 +193,16 @@ pub few-commands : (seed : ℕ) (commands : List Command) → commands ≡ drill
 few-commands seed commands e =
     subst (λ (some : List Command). length some ≤ 2 ^ 32) (sym e) (few_commands seed)
 
--- the sums of the commands of a seed on its map make the line
-pub drill-told : (set : Settings) (seed : ℕ) (d : SessionData) (commands : List Command) (sums : Sums)
-    (text : List ℕ) → d ≡ session_on set (made_map seed 256 256 25) → commands ≡ drill_commands seed
-    → HasSummed d commands sums → text ≡ sums_text sums → IsDrillText set seed text
-drill-told set seed d commands sums text begun e h t = record {
-  found = h.found;
-  are = subst (λ (some : List Command). AreFindings (session_on set (made_map seed 256 256 25)) some h.found) e
-      (subst (λ (s : SessionData). AreFindings s commands h.found) begun h.are);
-  is = t ∙ ap sums_text h.summed;
-}
+-- the line of a drill is a right output of its call
+pub drill-right : (set : Settings) (seed : ℕ) (job : Summary) (commands : List Command)
+    → job.session ≡ session_on set (made_map seed 256 256 25) → commands ≡ drill_commands seed
+    → (lines : List (List ℕ)) (status : ℕ) → IsDrilled job commands lines status
+    → (status ≤ 1) × IsAnswered (call_with (asked.Drill seed) set) [] lines status
+drill-right set seed job commands begun e lines status h = (
+  (let good : status ≡ 0 = h.good in omega arith),
+  subst (λ (n : ℕ). IsAnswered (call_with (asked.Drill seed) set) [] lines n) (sym h.good)
+      (subst (λ (l : List (List ℕ)). IsAnswered (call_with (asked.Drill seed) set) [] l 0) (sym h.all)
+      (drilled seed set h.found
+      (subst (λ (some : List Command). AreFindings (session_on set (made_map seed 256 256 25)) some h.found) e
+      (subst (λ (s : SessionData). AreFindings s commands h.found) begun h.are)))),
+)

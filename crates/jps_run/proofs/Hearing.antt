@@ -1,5 +1,5 @@
 -- Scripts that come in: pieces, their answers, and how they end.
-use Rattle.std.proofs.Common.{◌≡◌, ◌≢◌, refl, sym, ap, ◌∙◌, subst, List, [], ◌++◌, append_assoc, ℕ}
+use Rattle.std.proofs.Common.{◌≡◌, ◌≢◌, refl, sym, ap, ◌∙◌, subst, List, [], ◌++◌, append_assoc, ℕ, length}
 use Rattle.std.specs.Prelude.{Option, Some, None, Result, Ok, Err, IsErrAnd}
 use Rattle.std.specs.Option.{option_map}
 use Rattle.std.proofs.lemmas.List.{append-nil}
@@ -14,31 +14,37 @@ use Rattle.script_text.specs.Feeding as known
 use Rattle.script_text.proofs.Feeding.{commands-grow, commands-end}
 use Rattle.jps_run.specs.Answering.{IsSolved}
 use Rattle.jps_run.specs.FaultLines.{script_line}
-use Rattle.jps_run.specs.Hearing.{HasWritten, answer_stops, known_stops, AnswersKnown, AreKnown, Refuses, HasHeard, HearsPiece}
-use Rattle.jps_run.specs.Seen.{Stream}
-use Rattle.jps_run.specs.Sending.{AreLines}
+use Rattle.jps_run.specs.Hearing.{HasWritten, known_stops, AnswersKnown, AreKnown, Refuses, HasHeard, HearsPiece}
+use Rattle.io_edge.specs.Told.{Outflow}
+use Rattle.jps_run.specs.Answers.{AreAnswers}
+use Rattle.jps_run.specs.Heard.{WroteLines}
+use Rattle.jps_run.specs.Sending.{work_stops}
 use Rattle.jps_run.specs.Stops.{StopsSo, Ends}
 use Rattle.jps_run.specs.declared.answers.Answers.{Answers}
 use Rattle.jps_run.specs.declared.stop.Stop.{Stop}
-use Rattle.jps_run.proofs.Answering.{all-sent}
-use Rattle.jps_run.proofs.Pieces.{lines-sent}
+use Rattle.jps_run.proofs.Pieces.{all-sent, front-sent}
 use Rattle.jps_run.proofs.Solving.{answers-complete}
 use Rattle.jps_run.proofs.Stopping.{passed, ends-on, follow-same}
 
 -- the answers to commands that became known stop
 pub known-stopped : (first new : Answers) (answer : Result (Unit {0}) ScriptFault) (earlier more all : List Command)
-    (f : Option ScriptFault) (before now : Stream) → AreKnown answer earlier more all f
+    (f : Option ScriptFault) (before now : Outflow) → AreKnown answer earlier more all f
     → {X : Type 0} (Done : X → Type 0) (result : Result X Stop) (stop : Stop) → IsErrAnd result (λ s. s ≡ stop)
-    → ((others : List Command) → StopsSo (answer_stops first (earlier ++ (more ++ others)) before now) stop)
+    → ((others : List Command) → StopsSo (work_stops (IsSolved first (earlier ++ (more ++ others))) before now) stop)
     → Ends Done (known_stops first new all f before now) result
 known-stopped first new answer earlier more all f before now k Done result stop m stops =
-    passed Done (answer_stops first all before now) (known_stops first new all f before now) result stop m
-    (subst (λ (a : List Command). StopsSo (answer_stops first a before now) stop) (sym k.are) (stops k.others))
-    (record { refused = λ line no. absurd no; read = λ no. absurd no; write = λ w. w; memory = λ l. l })
+    passed Done (work_stops (IsSolved first all) before now) (known_stops first new all f before now) result stop m
+    (subst (λ (a : List Command). StopsSo (work_stops (IsSolved first a) before now) stop) (sym k.are) (stops k.others))
+    (record {
+      refused = λ line no. absurd no;
+      read = λ no. absurd no;
+      write = λ w. w;
+      memory = λ l. record { lines = l.lines; stand = l.whole.answers; count = l.count; wrote = l.wrote };
+    })
 
 -- the answers end, and a fault is known behind them or none
 module _ (first new : Answers) (answer : Result (Unit {0}) ScriptFault) (earlier more all : List Command)
-    (f : Option ScriptFault) (before now : Stream) (k : AreKnown answer earlier more all f)
+    (f : Option ScriptFault) (before now : Outflow) (k : AreKnown answer earlier more all f)
     (w : HasWritten first new (earlier ++ more) before now) where
   exactly : answer ≢ Err NoMemory → HasWritten first new all before now
   exactly other =
@@ -46,15 +52,17 @@ module _ (first new : Answers) (answer : Result (Unit {0}) ScriptFault) (earlier
       (sym (k.are ∙ ap (λ (o : List Command). earlier ++ (more ++ o)) (k.exact other).0
       ∙ ap (λ (l : List Command). earlier ++ l) (append-nil more))) w
 
-  first-lines : AreLines (IsSolved first all) before now
+  first-lines : WroteLines (AreAnswers first.session first.show all) before now
   first-lines =
-      lines-sent before (IsSolved first all) now [] w.lines (all-sent before now w.lines w.wrote w.later)
-      (let c = answers-complete first new (earlier ++ more) k.others w.lines w.answered in record {
-        more = c.more;
-        status = c.status;
-        whole = subst (λ (a : List Command). IsSolved first a (w.lines ++ c.more) c.status)
-            (append_assoc earlier more k.others ∙ sym k.are) c.whole;
-      })
+      let c = answers-complete first new (earlier ++ more) k.others w.lines w.worked in
+      let sent = all-sent before now w.lines w.wrote w.later in
+      record {
+        lines = w.lines ++ c.more;
+        stand = subst (λ (a : List Command). AreAnswers first.session first.show a (w.lines ++ c.more))
+            (append_assoc earlier more k.others ∙ sym k.are) c.whole.answers;
+        count = length sent.written;
+        wrote = front-sent before now [] w.lines c.more sent;
+      }
 
   pub known-ended : (result : Result (Unit {0}) Stop) → Refuses answer result
       → Ends (λ done. (answer ≡ Ok tt) × (f ≡ None) × HasWritten first new all before now)
@@ -131,7 +139,7 @@ end-known feeder now text got answer h ended starved =
 
 -- so a piece is heard
 pub piece-heard : (old new : Answers) (feeder feeder_now : LineFeeder) (piece : List ℕ)
-    (before_got got slice : List Command) (answer : Result (Unit {0}) ScriptFault) (at now : Stream)
+    (before_got got slice : List Command) (answer : Result (Unit {0}) ScriptFault) (at now : Outflow)
     (result : Result (Unit {0}) Stop) → before_got ≡ [] → slice ≡ got
     → (answer ≢ Err NoMemory → (text : List ℕ) → HasTaken feeder text
     → HasFed text (text ++ piece) feeder_now before_got got answer)
@@ -160,13 +168,13 @@ piece-heard old new feeder feeder_now piece before_got got slice answer at now r
 
 -- and the end of a script
 module _ (old new : Answers) (feeder feeder_now : LineFeeder) (before_got got slice : List Command)
-    (answer : Result (Unit {0}) ScriptFault) (at now : Stream) (result : Result (Unit {0}) Stop)
+    (answer : Result (Unit {0}) ScriptFault) (at now : Outflow) (result : Result (Unit {0}) Stop)
     (empty : before_got ≡ []) (same : slice ≡ got)
     (ended : answer ≢ Err NoMemory → (text : List ℕ) → HasTaken feeder text
     → HasEnded text feeder_now before_got got answer)
     (starved : answer ≡ Err NoMemory → (feeder_now ≡ feeder) × (got ≡ before_got))
     (known : AnswersKnown old new answer slice at now result)
-    (first : Answers) (text : List ℕ) (before : Stream) (h : HasHeard first old feeder text before at) where
+    (first : Answers) (text : List ℕ) (before : Outflow) (h : HasHeard first old feeder text before at) where
   pub end-heard : Ends (λ done. (answer ≡ Ok tt) × (fault_of text ≡ None)
       × HasWritten first new (commands_of text) before now)
       (known_stops first new (commands_of text) (fault_of text) before now) result

@@ -15,7 +15,7 @@ use Rattle.jps_run.specs.Kinds.{limit_of}
 use Rattle.jps_run.specs.declared.kind.Kind.TheVariants as kind
 use Rattle.jps_run.specs.Heard.{AnswerHeard, AnswerTaken, AnswerPending, WroteAll, WroteLines, counted, so_far, at_end}
 use Rattle.jps_run.specs.Hearing.{HasWritten, known_stops, HasHeard, HearsEnd, IsHearing, Hears}
-use Rattle.jps_run.specs.Seen.{Stream, Incoming}
+use Rattle.io_edge.specs.Told.{Inflow, Outflow}
 use Rattle.jps_run.specs.Stops.{StopsSo}
 use Rattle.jps_run.specs.declared.answers.Answers.{Answers}
 use Rattle.jps_run.specs.declared.stop.Stop.{Stop}
@@ -26,10 +26,10 @@ use Rattle.jps_run.proofs.Solving.{answered-none}
 use Rattle.jps_run.proofs.Stopping.{passed, ends-on, no_stops, only_memory}
 
 -- nothing is answered yet
-written-none : (first : Answers) (before : Stream) → HasWritten first first (commands_so_far []) before before
+written-none : (first : Answers) (before : Outflow) → HasWritten first first (commands_so_far []) before before
 written-none first before = record {
   lines = [];
-  answered = subst (λ commands. HasAnswered first first commands []) (sym begun-known.1) (answered-none first);
+  worked = subst (λ commands. HasAnswered first first commands []) (sym begun-known.1) (answered-none first);
   wrote = nothing before.written;
   later = omega arith;
 }
@@ -39,7 +39,7 @@ few-counted : (text : List ℕ) → length text ≤ 2 ^ 26 → counted text ≡ 
 few-counted text few = take_all (limit_of kind.Script) text few
 
 -- memory was refused before the first read
-pub starved-first : (first : Answers) (input : Incoming) (before : Stream) (result : Result ℕ Stop)
+pub starved-first : (first : Answers) (input : Inflow) (before : Outflow) (result : Result ℕ Stop)
     → IsErrAnd result (λ s. s ≡ stop.Memory) → Hears first input input before before result
 starved-first first input before result m =
     passed _ (no_stops (WroteLines (AnswerTaken first.session first.show input.left input.left) before before)) _
@@ -49,7 +49,7 @@ starved-first first input before result m =
     (only_memory (λ k. k))
 
 -- nothing was read yet
-pub hearing-begun : (first : Answers) (feeder : LineFeeder) (input : Incoming) (buffer : List ℕ) (before : Stream)
+pub hearing-begun : (first : Answers) (feeder : LineFeeder) (input : Inflow) (buffer : List ℕ) (before : Outflow)
     → HasTaken feeder [] → feeder.taken ≡ 0 → 0 < length buffer
     → IsHearing first first feeder input input buffer before before
 hearing-begun first feeder input buffer before begun none room = record {
@@ -62,8 +62,8 @@ hearing-begun first feeder input buffer before begun none room = record {
   room = room;
 }
 
-module _ (first job : Answers) (feeder : LineFeeder) (input mid now : Incoming) (buffer : List ℕ)
-    (before at : Stream) (h : IsHearing first job feeder input mid buffer before at) where
+module _ (first job : Answers) (feeder : LineFeeder) (input mid now : Inflow) (buffer : List ℕ)
+    (before at : Outflow) (h : IsHearing first job feeder input mid buffer before at) where
   -- the input failed
   pub input-failed : Keeps mid.left now.left → Rose mid.faults now.faults
       → Rose input.faults now.faults
@@ -78,7 +78,7 @@ module _ (first job : Answers) (feeder : LineFeeder) (input mid now : Incoming) 
 
   -- nothing more came in
   pub input-ended : (bytes : List ℕ) → Consumes mid.left now.left (take 0 bytes) → IsAtEnd now.left
-      → (new : Answers) (after : Stream) (result : Result ℕ Stop) → HearsEnd job new feeder at after result
+      → (new : Answers) (after : Outflow) (result : Result ℕ Stop) → HearsEnd job new feeder at after result
       → Hears first input now before after result
   input-ended bytes read ended new after result e =
       ends-on (λ status. (status ≡ 0) × (fault_of h.text ≡ None)
@@ -127,7 +127,7 @@ module _ (first job : Answers) (feeder : LineFeeder) (input mid now : Incoming) 
         ∙ ap (λ (l : List ℕ). h.text ++ l) (sym is)
 
     -- its answers stopped
-    pub piece-stopped : (new : Answers) (after : Stream) (result : Result ℕ Stop) (stop : Stop)
+    pub piece-stopped : (new : Answers) (after : Outflow) (result : Result ℕ Stop) (stop : Stop)
         → StopsSo (known_stops first new (commands_so_far (h.text ++ piece)) (fault_so_far (h.text ++ piece)) before after)
         stop
         → IsErrAnd result (λ s. s ≡ stop) → Hears first input now before after result
@@ -149,7 +149,7 @@ module _ (first job : Answers) (feeder : LineFeeder) (input mid now : Incoming) 
               (commands_so_far (h.text ++ piece)) (so_far (ap commands_so_far (sym same))) k;
         })
 
-    module _ (new : Answers) (feeder_now : LineFeeder) (after : Stream)
+    module _ (new : Answers) (feeder_now : LineFeeder) (after : Outflow)
         (heard : HasHeard first new feeder_now (h.text ++ piece) before after) where
       -- too many bytes came in
       pub long-refused : (line : List ℕ) → room < count → count ≤ length bytes → line ≡ long_line (codes "script")

@@ -1,19 +1,19 @@
 -- The rows of entries.
-use Rattle.std.proofs.Common.{◌≡◌, refl, sym, ap, ◌∙◌, subst, List, [], ◌∷◌, ◌++◌, append_assoc, ℕ, suc, ◌+◌, ◌^◌, ◌<◌, length, arith, true, false, Bool}
-use Rattle.std.specs.Prelude.{Result, Ok, Err, OnOk}
+use Rattle.std.proofs.Common.{◌≡◌, refl, sym, ap, ◌∙◌, subst, List, [], ◌∷◌, ◌++◌, append_assoc, ℕ, suc, ◌+◌, ◌^◌, ◌<◌, length, length-append, arith, true, false, Bool}
+use Rattle.std.specs.Prelude.{◌≢◌, Result, Ok, Err, OnOk}
 use Rattle.std.proofs.lemmas.List.{append-nil}
 use Rattle.scen_text.specs.declared.entry.Entry.{Entry}
-use Rattle.jps_run.specs.Judging.{HasJudged, IsJudged}
+use Rattle.jps_run.specs.Judging.{HasJudged, HasRoom, IsJudged}
 use Rattle.jps_run.specs.Rows.{has_sides, row_of, IsRow, scale, replied, row_line, row_lines, scen_status, sum_line}
 use Rattle.edit_replay.specs.Session.{SessionData}
 use Rattle.jps_run.specs.Tally.{tally_of, sum_text}
-use Rattle.jps_run.specs.Working.{Adds, Completes, IsNext}
+use Rattle.jps_run.specs.Working.{Adds, CanComplete, HasRoomForOne}
 use Rattle.jps_run.specs.declared.row.Row.{Row}
 use Rattle.jps_run.specs.declared.row.Row.TheVariants as row
 use Rattle.jps_run.specs.declared.row.Tally.{Tally}
 use Rattle.jps_run.specs.declared.scenario.Judge.{Judge}
 use Rattle.jps_run.proofs.Existing.{reply_exists}
-use Rattle.jps_run.proofs.Turns.{turns-more, turns-all, turns-count}
+use Rattle.jps_run.proofs.Turns.{turns-more, turns-all}
 
 abbrev Stands : SessionData → Unit {0} → Entry → Row → Type 0
 Stands d s entry r = IsRow d entry r
@@ -31,44 +31,47 @@ row_lines-append number (r ∷ some) others =
     ∙ ap (λ n. row_lines (number + 1) some ++ row_lines n others)
     (let e : number + 1 + length some ≡ number + suc (length some) = omega arith in e))
 
--- the number of the next row
-numbered : (number : ℕ) (job : Judge) → IsNext HasJudged job number → number ≡ job.tally.rows + 1
-numbered number job n =
-    n.counted
-    ∙ ap (λ k. k + 1) (sym (turns-count (Stands n.first.session) stays tt n.items n.worked.rows n.worked.are)
-    ∙ sym (ap (λ (t : Tally). t.rows) n.worked.counted))
-
-pub few : (number : ℕ) (job : Judge) → IsNext HasJudged job number → number < 2 ^ 64
-    → job.tally.rows + 1 < 2 ^ 64
-few number job n f = subst (λ k. k < 2 ^ 64) (numbered number job n) f
+-- one row more leaves room for one less
+pub room-more : {T E : Type 0} (result : Result T E) (job now : Judge) (r : Row) (room : HasRoomForOne (HasRoom job))
+    → ((rows : List Row) → job.tally ≡ tally_of rows → now.tally ≡ tally_of (rows ++ r ∷ []))
+    → OnOk result ((n : ℕ) → HasRoom job (n + 1) → HasRoom now n)
+room-more (Err error) job now r room counts = tt
+room-more (Ok done) job now r room counts = λ n h.
+    let t = h.counts in
+    let one : now.tally ≡ tally_of (t.rows ++ r ∷ []) = counts t.rows t.counted in
+    let old : job.tally.rows ≡ length t.rows = ap (λ (t : Tally). t.rows) t.counted in
+    let new : now.tally.rows ≡ length (t.rows ++ r ∷ []) = ap (λ (t : Tally). t.rows) one in
+    let both : length (t.rows ++ r ∷ []) ≡ length t.rows + 1 = length-append t.rows (r ∷ []) in
+    let few : job.tally.rows + (n + 1) < 2 ^ 64 = h.few in
+    record { counts = record { rows = t.rows ++ r ∷ []; counted = one }; few = omega arith }
 
 -- one entry more has its row
-pub judged-more : {T E : Type 0} (result : Result T E) (number : ℕ) (job now : Judge) (entry : Entry)
-    (r : Row) (before after : List ℕ) → IsNext HasJudged job number → IsRow job.session entry r
-    → now.session ≡ job.session
+pub judged-more : {T E : Type 0} (result : Result T E) (job now : Judge) (entry : Entry) (r : Row)
+    (before after : List ℕ) → IsRow job.session entry r → now.session ≡ job.session
     → ((rows : List Row) → job.tally ≡ tally_of rows → now.tally ≡ tally_of (rows ++ r ∷ []))
-    → OnOk result (after ≡ before ++ row_line number r)
+    → OnOk result (after ≡ before ++ row_line now.tally.rows r)
     → OnOk result ((first : Judge) (entries : List Entry) (lines : List (List ℕ))
     → HasJudged first job entries lines
     → Adds (HasJudged first now (entries ++ entry ∷ [])) lines before after)
-judged-more (Err error) number job now entry r before after n is same counts w = tt
-judged-more (Ok done) number job now entry r before after n is same counts w = λ first entries lines h.
-    let place : number ≡ 1 + length h.rows =
-    numbered number job n ∙ (let e : job.tally.rows ≡ length h.rows = ap (λ (t : Tally). t.rows) h.counted in
-    omega arith) in
+judged-more (Err error) job now entry r before after is same counts w = tt
+judged-more (Ok done) job now entry r before after is same counts w = λ first entries lines h.
+    let one : now.tally.rows ≡ length (h.rows ++ r ∷ []) =
+    ap (λ (t : Tally). t.rows) (counts h.rows h.counted) in
+    let both : length (h.rows ++ r ∷ []) ≡ length h.rows + 1 = length-append h.rows (r ∷ []) in
+    let place : now.tally.rows ≡ 1 + length h.rows = omega arith in
     record {
-      more = row_line number r ∷ [];
+      more = row_line now.tally.rows r ∷ [];
       stand = record {
         rows = h.rows ++ r ∷ [];
         are = turns-more (Stands first.session) stays tt entries h.rows entry r h.are
             (subst (λ (d : SessionData). IsRow d entry r) h.same is);
-        all = ap (λ (l : List (List ℕ)). l ++ row_line number r ∷ []) h.all
+        all = ap (λ (l : List (List ℕ)). l ++ row_line now.tally.rows r ∷ []) h.all
             ∙ ap (λ k. row_lines 1 h.rows ++ row_line k r ∷ []) place
             ∙ sym (row_lines-append 1 h.rows (r ∷ []));
         counted = counts h.rows h.counted;
         same = same ∙ h.same;
       };
-      appended = w ∙ ap (λ (l : List ℕ). before ++ l) (sym (append-nil (row_line number r)));
+      appended = w ∙ ap (λ (l : List ℕ). before ++ l) (sym (append-nil (row_line now.tally.rows r)));
     }
 
 -- the sum closes the rows
@@ -99,9 +102,12 @@ row_exists d s entry = by_sides (has_sides d entry) refl
         (record { x = entry.gx; y = entry.gy }) in
         (row_of entry.length p.0, replied p.0 e p.1 refl)
 
+not-empty : (lines : List (List ℕ)) (line : List ℕ) → lines ++ line ∷ [] ≢ []
+not-empty [] line = λ e. (let never : line ∷ [] ≡ [] = e in cc)
+not-empty (l ∷ lines) line = λ e. (let never : l ∷ (lines ++ line ∷ []) ≡ [] = e in cc)
+
 -- so the first rows can be completed
-pub rows-complete : (first now : Judge) (some others : List Entry) (lines : List (List ℕ))
-    → HasJudged first now some lines → Completes (IsJudged first (some ++ others)) lines
+pub rows-complete : CanComplete HasJudged IsJudged true
 rows-complete first now some others lines h =
     let all = turns-all (Stands first.session) stays (row_exists first.session) tt some others h.rows h.are in
     let rows : List Row = h.rows ++ all.0 in
@@ -117,6 +123,7 @@ rows-complete first now some others lines h =
             ∙ ap (λ (l : List (List ℕ)). l ++ sum_line rows ∷ []) (sym (row_lines-append 1 h.rows all.0));
         same_status = refl;
       };
+      some = λ left. not-empty rest (sum_line rows);
     }
 
 -- nothing is judged yet

@@ -8,10 +8,9 @@ pub mod Unfolding
 pub mod Existing
 pub mod Solving
 pub mod Judgements
-pub mod Works
+pub mod Opening
 pub mod Readings
 pub mod Writing
-pub mod Answering
 pub mod Hearing
 pub mod Listening
 pub mod Incomings

@@ -12,13 +12,14 @@ use Rattle.script_text.specs.declared.fault.ScriptFault.{ScriptFault}
 use Rattle.script_text.specs.Feeding.{commands_so_far, commands_of, fault_so_far, fault_of}
 use Rattle.script_text.proofs.Feeding.{fault-stays, whole-refused}
 use Rattle.jps_run.specs.Answering.{IsSolved}
+use Rattle.jps_run.specs.Answers.{AreAnswers}
 use Rattle.jps_run.specs.FaultLines.{long_line, script_line}
 use Rattle.jps_run.specs.Kinds.{limit_of}
 use Rattle.jps_run.specs.declared.kind.Kind.TheVariants as kind
 use Rattle.jps_run.specs.Heard.{AnswerHeard, AnswerTaken, AnswerPending, AreWhole, IsHeard, IsTold, WroteAll, WroteFirst, WroteLines, counted, whole, too_long}
 use Rattle.jps_run.specs.Hearing.{HasWritten}
-use Rattle.jps_run.specs.Seen.{Stream}
-use Rattle.jps_run.specs.Sending.{Wrote, AreLines, IsPart}
+use Rattle.io_edge.specs.Told.{Outflow}
+use Rattle.jps_run.specs.Sending.{Wrote, IsPart}
 use Rattle.jps_run.specs.declared.answers.Answers.{Answers}
 
 -- what was taken, and then more
@@ -109,7 +110,7 @@ refused-script full rest fault line is named = elim (at-most (length (full ++ re
         × (commands_so_far (counted full ++ front.0) ≡ commands_so_far (counted full))
     stays = fault-stays (counted full) front.0 fault is
 
-module _ (first : Answers) (input left : Option (List ℕ)) (full : List ℕ) (before now : Stream)
+module _ (first : Answers) (input left : Option (List ℕ)) (full : List ℕ) (before now : Outflow)
     (consumed : Consumes input left full) where
   -- a line of what came in is refused
   pub refused-heard : (new : Answers) (line : List ℕ)
@@ -131,7 +132,7 @@ module _ (first : Answers) (input left : Option (List ℕ)) (full : List ℕ) (b
               told = told.1;
               commands = commands_so_far (counted full);
               heard = refused-script full told.0 fault line is (let e : script_line fault ≡ line = cc in e);
-              answers = w.answered.answers;
+              answers = w.worked.answers;
             };
             wrote = w.wrote;
           }
@@ -156,7 +157,7 @@ module _ (first : Answers) (input left : Option (List ℕ)) (full : List ℕ) (b
               (ap (λ (l : List ℕ). Some l) named
               ∙ sym (ap (λ (f : Option ScriptFault). Some (option_map_or script_line f (long_line (codes "script"))))
               (ap fault_so_far same ∙ clean)));
-          answers = w.answered.answers;
+          answers = w.worked.answers;
         };
         wrote = w.wrote;
       }
@@ -173,7 +174,7 @@ module _ (first : Answers) (input left : Option (List ℕ)) (full : List ℕ) (b
       told = told-all input left full consumed ended;
       commands = commands_of full;
       heard = whole few refl named;
-      answers = w.answered.answers;
+      answers = w.worked.answers;
     };
     wrote = w.wrote;
   }
@@ -185,7 +186,7 @@ module _ (first : Answers) (input left : Option (List ℕ)) (full : List ℕ) (b
   pending-heard new few clean w = record {
     lines = w.lines;
     stand =
-        record { taken = full; consumed = consumed; few = few; clean = clean; answers = w.answered.answers };
+        record { taken = full; consumed = consumed; few = few; clean = clean; answers = w.worked.answers };
     wrote = w.wrote;
   }
 
@@ -206,7 +207,7 @@ module _ (first : Answers) (input left : Option (List ℕ)) (full : List ℕ) (b
     }
 
     -- the first lines were
-    pub lines-heard : AreLines (IsSolved first commands) before now
+    pub lines-heard : WroteLines (AreAnswers first.session first.show commands) before now
         → WroteLines (AnswerTaken first.session first.show input left) before now
     lines-heard l = record {
       lines = l.lines;
@@ -215,7 +216,7 @@ module _ (first : Answers) (input left : Option (List ℕ)) (full : List ℕ) (b
         consumed = consumed;
         commands = commands;
         whole = are;
-        answers = l.whole.answers;
+        answers = l.stand;
       };
       count = l.count;
       wrote = l.wrote;
@@ -231,7 +232,7 @@ module _ (first : Answers) (input left : Option (List ℕ)) (full : List ℕ) (b
         consumed = consumed;
         commands = commands;
         whole = are;
-        answers = w.answered.answers;
+        answers = w.worked.answers;
       };
       count = length w.lines;
       wrote = subst (λ (l : List (List ℕ)). Wrote before now (concat l))

@@ -1,13 +1,13 @@
 -- Lines that go out in pieces.
-use Rattle.std.proofs.Common.{◌≡◌, refl, sym, ap, ◌∙◌, subst, List, [], ◌∷◌, ◌++◌, append_assoc, ℕ, suc, ◌+◌, ◌≤◌, ◌⊎◌, inl, inr, length, take, arith, length-append}
-use Rattle.std.specs.Prelude.{Option, Some, None}
+use Rattle.std.proofs.Common.{◌≡◌, refl, sym, ap, ◌∙◌, subst, List, [], ◌∷◌, ◌++◌, append_assoc, ℕ, suc, ◌+◌, ◌<◌, ◌≤◌, ◌⊎◌, inl, inr, length, take, arith, length-append}
+use Rattle.std.specs.Prelude.{◌≢◌, Option, Some, None}
 use Rattle.std.specs.List.{concat}
 use Rattle.std.specs.Io.KnownBytes.{Appends}
 use Rattle.std.proofs.lemmas.List.{append-nil, take-append-le}
 use Rattle.std.proofs.lemmas.List.Folds.{concat-append}
 use Rattle.io_edge.specs.Causes.{Rose}
 use Rattle.io_edge.specs.Whole.{AppendsSome}
-use Rattle.jps_run.specs.Seen.{Stream}
+use Rattle.io_edge.specs.Told.{Outflow}
 use Rattle.jps_run.specs.Sending.{Wrote, WroteSome, AreSent, IsPart, AreLines}
 use Rattle.jps_run.specs.Working.{Completes}
 
@@ -57,7 +57,7 @@ appends-part a b c x y f s = (
 pub rose-since : (first before now : ℕ) → first ≤ before → Rose before now → Rose first now
 rose-since first before now l r = omega arith
 
-module _ (before : Stream) where
+module _ (before : Outflow) where
   -- no line yet
   pub sent-none : (waiting : List ℕ) → waiting ≡ [] → AreSent before before waiting []
   sent-none waiting e = record {
@@ -69,8 +69,20 @@ module _ (before : Stream) where
     later = omega arith;
   }
 
+  -- all lines were written, and none waits
+  pub all-sent : (now : Outflow) (lines : List (List ℕ)) → Wrote before now (concat lines)
+      → before.faults ≤ now.faults → AreSent before now [] lines
+  all-sent now lines wrote later = record {
+    written = lines;
+    others = [];
+    all = sym (append-nil lines);
+    wrote = wrote;
+    wait = refl;
+    later = later;
+  }
+
   -- more lines wait
-  pub sent-more : (now : Stream) (waiting waiting_now : List ℕ) (lines more : List (List ℕ))
+  pub sent-more : (now : Outflow) (waiting waiting_now : List ℕ) (lines more : List (List ℕ))
       → AreSent before now waiting lines → waiting_now ≡ waiting ++ concat more
       → AreSent before now waiting_now (lines ++ more)
   sent-more now waiting waiting_now lines more s e = record {
@@ -83,7 +95,7 @@ module _ (before : Stream) where
   }
 
   -- all that waited was written
-  pub sent-whole : (mid now : Stream) (waiting : List ℕ) (lines : List (List ℕ))
+  pub sent-whole : (mid now : Outflow) (waiting : List ℕ) (lines : List (List ℕ))
       → AreSent before mid waiting lines → Wrote mid now waiting → Wrote before now (concat lines)
   sent-whole mid now waiting lines s w =
       subst (λ (l : List ℕ). Wrote before now l) (sym (ap concat s.all ∙ concat-append s.written s.others))
@@ -91,7 +103,7 @@ module _ (before : Stream) where
       (subst (λ (l : List ℕ). Wrote mid now l) s.wait w))
 
   -- what waited was sent, or waits on
-  pub sent-on : (mid now : Stream) (waiting waiting_now : List ℕ) (lines : List (List ℕ))
+  pub sent-on : (mid now : Outflow) (waiting waiting_now : List ℕ) (lines : List (List ℕ))
       → AreSent before mid waiting lines → mid.faults ≤ now.faults
       → (Wrote mid now waiting × (waiting_now ≡ [])) ⊎ (Wrote mid now [] × (waiting_now ≡ waiting))
       → AreSent before now waiting_now lines
@@ -113,10 +125,21 @@ module _ (before : Stream) where
     later = let m : before.faults ≤ mid.faults = s.later in omega arith;
   }
 
-  module _ (Whole : List (List ℕ) → ℕ → Type 0) where
+  -- of these lines and more the first ones were written
+  pub front-sent : (now : Outflow) (waiting : List ℕ) (lines more : List (List ℕ))
+      → (s : AreSent before now waiting lines)
+      → Wrote before now (concat (take (length s.written) (lines ++ more)))
+  front-sent now waiting lines more s =
+      subst (λ (l : List (List ℕ)). Wrote before now (concat l))
+      (sym (ap (λ (l : List (List ℕ)). take (length s.written) (l ++ more)) s.all
+      ∙ ap (λ (l : List (List ℕ)). take (length s.written) l) (append_assoc s.written s.others more)
+      ∙ take-all s.written (s.others ++ more)))
+      s.wrote
+
+  module _ (Whole : List (List ℕ) → ℕ → Type 0) (Left : Type 0) where
     -- a write of what waited failed, where these lines can be completed
-    pub part-sent : (mid now : Stream) (waiting : List ℕ) (lines : List (List ℕ))
-        → AreSent before mid waiting lines → Completes Whole lines → WroteSome mid now waiting
+    pub part-sent : (mid now : Outflow) (waiting : List ℕ) (lines : List (List ℕ))
+        → AreSent before mid waiting lines → Completes Whole Left lines → WroteSome mid now waiting
         → Rose before.faults now.faults × IsPart Whole before now
     part-sent mid now waiting lines s c w = (
       rose-since before.faults mid.faults now.faults s.later w.0,
@@ -135,16 +158,23 @@ module _ (before : Stream) where
     )
 
     -- memory was refused while these lines can be completed
-    pub lines-sent : (now : Stream) (waiting : List ℕ) (lines : List (List ℕ))
-        → AreSent before now waiting lines → Completes Whole lines → AreLines Whole before now
-    lines-sent now waiting lines s c = record {
+    pub lines-sent : (now : Outflow) (waiting : List ℕ) (lines : List (List ℕ))
+        → AreSent before now waiting lines → Completes Whole Left lines → Left → AreLines Whole before now
+    lines-sent now waiting lines s c left = record {
       lines = lines ++ c.more;
       status = c.status;
       whole = c.whole;
       count = length s.written;
-      wrote = subst (λ (l : List (List ℕ)). Wrote before now (concat l))
-          (sym (ap (λ (l : List (List ℕ)). take (length s.written) (l ++ c.more)) s.all
-          ∙ ap (λ (l : List (List ℕ)). take (length s.written) l) (append_assoc s.written s.others c.more)
-          ∙ take-all s.written (s.others ++ c.more)))
-          s.wrote;
+      short = few s.written s.others c.more lines s.all (c.some left);
+      wrote = front-sent now waiting lines c.more s;
     }
+      where
+        few : (written others more lines : List (List ℕ)) → lines ≡ written ++ others → more ≢ []
+            → length written < length (lines ++ more)
+        few written others [] lines e some = absurd (some refl)
+        few written others (line ∷ more) lines e some =
+            let all : length lines ≡ length written + length others
+            = ap length e ∙ length-append written others in
+            let both : length (lines ++ line ∷ more) ≡ length lines + length (line ∷ more)
+            = length-append lines (line ∷ more) in
+            omega arith

@@ -12,46 +12,21 @@ use Rattle.script_text.specs.Fed.{HasTaken, HasFed, HasEnded}
 use Rattle.script_text.specs.Feeding.{commands_so_far, commands_of, fault_of, Appended}
 use Rattle.script_text.specs.Feeding as known
 use Rattle.script_text.proofs.Feeding.{begun-known}
-use Rattle.jps_run.specs.Answering.{GoesOn, HaveTaken, TakesFor}
+use Rattle.jps_run.specs.Answering.{HaveTaken}
 use Rattle.jps_run.specs.Counting.{RoseHeard}
 use Rattle.jps_run.specs.FaultLines.{script_line}
 use Rattle.jps_run.specs.Heard.{whole}
-use Rattle.jps_run.specs.Rising.{IsRising, RiseEnd, RiseMore, RisePiece}
+use Rattle.jps_run.specs.Rising.{IsRising, RiseEnd, RisePiece}
+use Rattle.jps_run.specs.Working.{CountsMore}
 use Rattle.jps_run.specs.declared.answers.Answers.{Answers}
 use Rattle.jps_run.specs.declared.stop.Stop.{Stop}
-use Rattle.jps_run.proofs.Counts.{taken-more, taken-none}
+use Rattle.jps_run.proofs.Counts.{taken-none}
 use Rattle.jps_run.proofs.Listening.{consumes-both, consumes-none, told-all}
-use Rattle.jps_run.proofs.Looping.{counted-all, counted-more}
 
 -- what holds, holds where it is done
 pub if_ok : {T E : Type 0} {P : Type 0} (result : Result T E) → P → OnOk result P
 if_ok (Ok done) p = p
 if_ok (Err error) p = tt
-
--- nothing is answered yet
-pub rise-none : (job : Answers) (at : ℕ) → RiseMore job job [] at at
-rise-none job at = λ first earlier start h.
-    subst (λ (some : List Command). HaveTaken first job some start at) (sym (append-nil earlier)) h
-
--- one command more is answered
-pub rise-next : (old job now : Answers) (commands : List Command) (place : ℕ) (command : Command) (at mid new : ℕ)
-    → place < length commands → command ≡ get_or commands place command
-    → RiseMore old job (take place commands) at mid → GoesOn job.session command now.session
-    → TakesFor job.session command mid new → RiseMore old now (take (place + 1) commands) at new
-rise-next old job now commands place command at mid new h e rise on more = λ first earlier start t.
-    counted-more (λ (f n : Answers) (some : List Command) (s w : ℕ). HaveTaken f n (earlier ++ some) s w) first now
-    commands place command start new h e
-    (subst (λ (some : List Command). HaveTaken first now some start new)
-    (append_assoc earlier (take place commands) (command ∷ []))
-    (taken-more {T = Unit {0}} {E = Stop} (Ok tt) job now command mid new on more first
-    (earlier ++ take place commands) start (rise first earlier start t)))
-
--- all are answered
-pub rise-all : (old now : Answers) (commands : List Command) (place at new : ℕ) → length commands ≤ place
-    → RiseMore old now (take place commands) at new → RiseMore old now commands at new
-rise-all old now commands place at new h rise = λ first earlier start t.
-    counted-all (λ (f n : Answers) (some : List Command) (s w : ℕ). HaveTaken f n (earlier ++ some) s w) first now
-    commands place start new h (rise first earlier start t)
 
 -- the commands that were appended to none are those that became known
 all-known : (earlier later before got slice : List Command) → before ≡ [] → slice ≡ got
@@ -70,7 +45,7 @@ module _ (old new : Answers) (feeder feeder_now : LineFeeder) (before got slice 
   pub rise-piece : (piece : List ℕ) (result : Result (Unit {0}) Stop)
       → (answer ≢ Err NoMemory → (text : List ℕ) → HasTaken feeder text
       → HasFed text (text ++ piece) feeder_now before got answer)
-      → OnOk result (answer ≡ Ok tt) → OnOk result (RiseMore old new slice at now)
+      → OnOk result (answer ≡ Ok tt) → OnOk result (CountsMore HaveTaken old new slice at now)
       → OnOk result (RisePiece old new feeder feeder_now piece at now)
   rise-piece piece (Err error) fed ok rise = tt
   rise-piece piece (Ok done) fed ok rise = λ first text start h t.
@@ -83,7 +58,7 @@ module _ (old new : Answers) (feeder feeder_now : LineFeeder) (before got slice 
 
   -- and those of the end of a script
   pub rise-end : (answer ≢ Err NoMemory → (text : List ℕ) → HasTaken feeder text
-      → HasEnded text feeder_now before got answer) → answer ≡ Ok tt → RiseMore old new slice at now
+      → HasEnded text feeder_now before got answer) → answer ≡ Ok tt → CountsMore HaveTaken old new slice at now
       → RiseEnd old new feeder at now
   rise-end ended ok rise = λ first text start h t.
       let f = ended (not-starved answer ok) text h in (

@@ -1,60 +1,121 @@
--- A call that answers what comes in.
-use Rattle.std.proofs.Common.{◌≡◌, refl, subst, List, [], ℕ, inr, arith}
-use Rattle.std.specs.Prelude.{None, Some, Result}
+-- The work on a call, from its files to its output.
+use Rattle.std.proofs.Common.{◌≡◌, refl, subst, ◌≤◌, ◌⊎◌, inl, inr, List, [], ℕ, true, arith}
+use Rattle.std.specs.Prelude.{None, Some, Option, Result, IsErrAnd}
+use Rattle.io_edge.specs.Told.{Disk, Held, Inflow, Outflow}
 use Rattle.edit_replay.specs.Session.{SessionData}
-use Rattle.word_list.specs.Request.{Live}
-use Rattle.word_list.specs.declared.request.Settings.{Settings}
+use Rattle.word_list.specs.Request.{Call}
 use Rattle.word_list.specs.declared.request.Show.{Show}
+use Rattle.jps_run.specs.Counting.{RoseForCall, none, read, some}
+use Rattle.jps_run.specs.Session.{session_on}
 use Rattle.jps_run.specs.Heard.{OnLive, WroteAll, WroteFirst, WroteLines, AnswerHeard, AnswerPending, AnswerTaken}
 use Rattle.jps_run.specs.Hearing.{Hears}
-use Rattle.jps_run.specs.Outcome.{call_with}
-use Rattle.jps_run.specs.Reading.{IsRead, SpellsSession}
-use Rattle.jps_run.specs.Seen.{Seen, Incoming}
-use Rattle.jps_run.specs.Served.{HasServed}
-use Rattle.jps_run.specs.declared.kind.Kind.TheVariants as kind
+use Rattle.jps_run.specs.Opened.{HasRisen, IsCounted, IsListener, IsWhole, IsWorkOn, open_stops}
+use Rattle.jps_run.specs.Outcome.{IsOutput, files_of}
+use Rattle.jps_run.specs.Sending.{IsAll, SendsWhole, work_stops}
+use Rattle.jps_run.specs.Served.{HasServed, served_stops}
+use Rattle.jps_run.specs.Stops.{StopsSo}
+use Rattle.jps_run.specs.declared.answers.Answers.{Answers}
 use Rattle.jps_run.specs.declared.stop.Stop.{Stop}
-use Rattle.jps_run.proofs.Stopping.{ends-on}
+use Rattle.jps_run.specs.declared.work.Work.{Work}
+use Rattle.jps_run.proofs.Pieces.{nothing}
+use Rattle.jps_run.proofs.Stopping.{passed, ends-on}
 
-module _ (map : List ℕ) (set : Settings) (before now : Seen) (input input_now : Incoming) (d : SessionData)
-    (r : IsRead {X = SessionData} (SpellsSession set) [] kind.Map (before.holds map) d) where
-  -- what is known of the session is known of the call
-  pub on-live : (Known : SessionData → Show → Type 0) → Known d set.show
-      → OnLive (call_with (Live map) set) before.holds Known
-  on-live Known k = record {
-    map = map;
-    settings = set;
-    is = refl;
-    text = r.text;
-    accepted = r.accepted;
-    read = r.spelled.map;
-    spelled = r.spelled.spelled;
-    known = subst (λ (s : SessionData). Known s set.show) r.spelled.begun k;
-  }
+-- what is known of the session is known of the call
+pub on-live : (call : Call) (holds : List ℕ → Held) (job : Answers) → IsListener call holds job
+    → (Known : SessionData → Show → Type 0) → Known job.session job.show → OnLive call holds Known
+on-live call holds job l Known k = record {
+  map = l.on.map;
+  settings = l.on.settings;
+  is = l.on.is;
+  text = l.on.text;
+  accepted = l.on.accepted;
+  read = l.on.read;
+  spelled = l.on.spelled;
+  known = subst (λ (show : Show). Known (session_on l.on.settings l.on.read) show) l.on.known.1
+      (subst (λ (d : SessionData). Known d job.show) l.on.known.0 k);
+}
 
-  pub heard-served : (result : Result ℕ Stop)
-      → Hears (record { session = d; show = set.show }) input input_now before.out now.out result
-      → HasServed (call_with (Live map) set) before now input input_now result
-  heard-served result h =
+-- the counter rose as the work makes it, and so for the call
+pub work-counted : (call : Call) (holds : List ℕ → Held) (work : Work) (input : Option (List ℕ)) (old new : ℕ)
+    → IsWorkOn call holds work → HasRisen work old new → RoseForCall call holds input old new
+work-counted call holds work input old new w rose = by_search (w.is.counted old new rose)
+  where
+    by_search : IsCounted call w.texts old new → RoseForCall call holds input old new
+    by_search (inl idle) = read (none idle)
+    by_search (inr risen) = read (some w.texts w.accepted risen)
+
+module _ (call : Call) (disk disk_now : Disk) (input input_now : Inflow) (out out_now : Outflow)
+    (result : Result ℕ Stop) where
+  -- the call was not opened
+  pub unopened-served : (stop : Stop) → StopsSo (open_stops disk disk_now (files_of call.request)) stop
+      → IsErrAnd result (λ s. s ≡ stop) → HasServed call disk disk_now input input_now out out result
+  unopened-served stop k m =
+      passed _ (open_stops disk disk_now (files_of call.request))
+      (served_stops call disk disk_now input input_now out out) result stop m k (record {
+        refused = λ line r. inl (r, nothing out.written);
+        read = λ r. inl (r, nothing out.written);
+        write = λ k. absurd k;
+        memory = λ k. inl (nothing out.written);
+      })
+
+  -- the work was done, or it stopped
+  pub work-served : (work : Work) → IsWorkOn call disk.holds work → SendsWhole (IsWhole work) out out_now result
+      → HasServed call disk disk_now input input_now out out_now result
+  work-served work w s =
+      let output : (lines : List (List ℕ)) (status : ℕ) → IsWhole work lines status → IsOutput call disk.holds lines status
+      = λ lines status whole.
+      record { texts = w.texts; accepted = w.accepted; answered = (w.is.right lines status whole).1 } in
+      ends-on (IsAll (IsWhole work) out out_now) _ (work_stops (IsWhole work) out out_now)
+      (served_stops call disk disk_now input input_now out out_now) result
+      (λ status a. (
+        (w.is.right a.lines status a.whole).0,
+        inl (record { lines = a.lines; whole = output a.lines status a.whole; wrote = a.wrote }),
+      ))
+      (record {
+        refused = λ line k. absurd k;
+        read = λ k. absurd k;
+        write = λ k. (
+          k.0,
+          inl (record {
+            lines = k.1.lines;
+            status = k.1.status;
+            whole = output k.1.lines k.1.status k.1.whole;
+            wrote = k.1.wrote;
+          }),
+        );
+        memory = λ k. inr (inl (record {
+          lines = k.lines;
+          status = k.status;
+          whole = output k.lines k.status k.whole;
+          count = k.count;
+          short = k.short;
+          wrote = k.wrote;
+        }));
+      }) s
+
+  -- what came in was answered, or that stopped
+  pub heard-served : (job : Answers) → IsListener call disk.holds job → Hears job input input_now out out_now result
+      → HasServed call disk disk_now input input_now out out_now result
+  heard-served job l h =
       ends-on (λ status. (status ≡ 0)
-      × WroteAll (AnswerHeard d set.show input.left None) before.out now.out) _ _ _ result
+      × WroteAll (AnswerHeard job.session job.show input.left None) out out_now) _ _
+      (served_stops call disk disk_now input input_now out out_now) result
       (λ status e. (
         (let good : status ≡ 0 = e.0 in omega arith),
-        inr (e.0, on-live (λ d show. WroteAll (AnswerHeard d show input.left None) before.out now.out) e.1),
+        inr (e.0, on-live call disk.holds job l (λ d show. WroteAll (AnswerHeard d show input.left None) out out_now) e.1),
       ))
       (record {
         refused = λ line w. inr
-            (on-live (λ d show. WroteAll (AnswerHeard d show input.left (Some line)) before.out now.out) w);
+            (on-live call disk.holds job l (λ d show. WroteAll (AnswerHeard d show input.left (Some line)) out out_now) w);
         read = λ w. inr (
-          refl,
+          l.reads,
           w.0,
-          on-live (λ d show. WroteAll (AnswerPending d show input.left input_now.left) before.out now.out) w.1,
+          on-live call disk.holds job l (λ d show. WroteAll (AnswerPending d show input.left input_now.left) out out_now) w.1,
         );
         write = λ w. (
           w.0,
-          inr (on-live (λ d show. WroteFirst (AnswerTaken d show input.left input_now.left) before.out now.out)
-              w.1),
+          inr (on-live call disk.holds job l (λ d show. WroteFirst (AnswerTaken d show input.left input_now.left) out out_now) w.1),
         );
         memory = λ w. inr
-            (inr (on-live (λ d show. WroteLines (AnswerTaken d show input.left input_now.left) before.out now.out)
-            w));
+            (inr (on-live call disk.holds job l (λ d show. WroteLines (AnswerTaken d show input.left input_now.left) out out_now) w));
       }) h

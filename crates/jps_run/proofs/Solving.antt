@@ -1,6 +1,6 @@
 -- The answers to commands.
-use Rattle.std.proofs.Common.{◌≡◌, refl, sym, ap, ◌∙◌, subst, List, [], ◌∷◌, ◌++◌, ℕ}
-use Rattle.std.specs.Prelude.{Result, Ok, Err, OnOk}
+use Rattle.std.proofs.Common.{◌≡◌, refl, sym, ap, ◌∙◌, subst, List, [], ◌∷◌, ◌++◌, ℕ, inl, inr, true, false, length, arith}
+use Rattle.std.specs.Prelude.{◌≢◌, Result, Ok, Err, OnOk}
 use Rattle.std.specs.List.{fold}
 use Rattle.std.proofs.lemmas.List.{append-nil}
 use Rattle.grid_moves.specs.Layers.{Layers}
@@ -16,10 +16,10 @@ use Rattle.jps_run.specs.Answers.{IsAnswerLine, AnswersAfter, edits_of, edits_wi
 use Rattle.jps_run.specs.Answering.{PutsAnswer, GoesOn, HasAnswered, IsSolved}
 use Rattle.jps_run.specs.Lines.{reply_line, edit_line}
 use Rattle.jps_run.specs.Session.{session_after, reply_to_edit, width_of}
-use Rattle.jps_run.specs.Working.{Adds, Completes}
+use Rattle.jps_run.specs.Working.{Adds, CanComplete, IsLeft}
 use Rattle.jps_run.specs.declared.answers.Answers.{Answers}
 use Rattle.jps_run.proofs.Existing.{reply_exists}
-use Rattle.jps_run.proofs.Turns.{turns-more, turns-all, fold-more}
+use Rattle.jps_run.proofs.Turns.{turns-more, turns-all, turns-left, fold-more}
 
 -- a query leaves the session as it is
 pub query-goes-on : {T E : Type 0} (result : Result T E) (old new : SessionData) (command : Command)
@@ -84,13 +84,25 @@ line_exists d show edits (Query sx sy gx gy) =
     let line : List ℕ = reply_line (width_of (session_after d edits)) show r.0 in
     (line, record { reply = r.0; is_reply = r.1; shown = refl })
 
--- so the first answers can be completed
-pub answers-complete : (first now : Answers) (some others : List Command) (lines : List (List ℕ))
-    → HasAnswered first now some lines → Completes (IsSolved first (some ++ others)) lines
+-- so the first answers can be completed, with a line for each command that is left
+pub answers-complete : CanComplete HasAnswered IsSolved false
 answers-complete first now some others lines h =
     let all = turns-all (AnswersAfter first.session first.show) edits_with
     (line_exists first.session first.show) [] some others lines h.answers in
-    record { more = all.0; status = 0; whole = record { answers = all.1; good = refl } }
+    record {
+      more = all.0;
+      status = 0;
+      whole = record { answers = all.1; good = refl };
+      some = λ left. left-over others all.0 left
+          (turns-left (AnswersAfter first.session first.show) edits_with [] some others lines all.0 h.answers all.1);
+    }
+  where
+    left-over : (others : List Command) (more : List (List ℕ)) → IsLeft false others
+        → length more ≡ length others → more ≢ []
+    left-over [] more (inl left) e = absurd (left refl)
+    left-over (c ∷ others) [] (inl left) e = absurd (omega arith)
+    left-over (c ∷ others) (line ∷ more) (inl left) e = λ empty. (let never : line ∷ more ≡ [] = empty in cc)
+    left-over others more (inr closed) e = absurd (let never : false ≡ true = closed in cc)
 
 pub nothing_edited : (d : SessionData) → d ≡ session_after d []
 nothing_edited d = same_session d d.engine (edited d.layers []) refl (sym (edited-nothing d.layers))

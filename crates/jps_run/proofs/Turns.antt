@@ -1,5 +1,5 @@
 -- Findings for items that are worked one after the other.
-use Rattle.std.proofs.Common.{◌≡◌, refl, ap, List, [], ◌∷◌, ◌++◌, suc, length}
+use Rattle.std.proofs.Common.{◌≡◌, refl, ap, List, [], ◌∷◌, ◌++◌, suc, ◌+◌, length, length-append, arith}
 use Rattle.std.specs.List.{fold}
 use Rattle.jps_run.specs.Turns.{AreInTurn}
 
@@ -30,6 +30,16 @@ module _ {S X Y : Type 0} (Stands : S → X → Y → Type 0) (next : S → X �
   turns-count s [] (v ∷ ys) t = absurd t
   turns-count s (u ∷ xs) [] t = absurd t
   turns-count s (u ∷ xs) (v ∷ ys) t = ap (λ n. suc n) (turns-count (next s u) xs ys t.1)
+
+  -- and as many more as items are left
+  pub turns-left : (s : S) (xs others : List X) (ys more : List Y) → AreInTurn Stands next s xs ys
+      → AreInTurn Stands next s (xs ++ others) (ys ++ more) → length more ≡ length others
+  turns-left s xs others ys more t all =
+      let a : length ys ≡ length xs = turns-count s xs ys t in
+      let b : length (ys ++ more) ≡ length (xs ++ others) = turns-count s (xs ++ others) (ys ++ more) all in
+      let c : length (ys ++ more) ≡ length ys + length more = length-append ys more in
+      let d : length (xs ++ others) ≡ length xs + length others = length-append xs others in
+      omega arith
 
   pub fold-more : (s : S) (xs : List X) (x : X) → fold next s (xs ++ x ∷ []) ≡ next (fold next s xs) x
   fold-more s [] x = refl

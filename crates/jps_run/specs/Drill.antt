@@ -116,9 +116,3 @@ drill_line found =
 -- the commands of the seed come to these, on the map of the seed: 256 by 256, a quarter of it blocked
 abbrev pub AreDrilled : Settings → ℕ → List Finding → Type 0
 AreDrilled set seed found = AreFindings (session_on set (made_map seed 256 256 25)) (drill_commands seed) found
-
--- the text is the line of what the commands of the seed come to
-pub record IsDrillText (set : Settings) (seed : ℕ) (text : List ℕ) : Type 0 where
-  pub found : List Finding
-  pub are : AreDrilled set seed found
-  pub is : text ≡ drill_line found

@@ -1,11 +1,12 @@
 -- How far a drill has come. No public clause cites this module.
-use Rattle.std.specs.Prelude.{◌≡◌, ℕ, ◌<◌, ◌^◌, List, [], ◌++◌, take, count_by}
+use Rattle.std.specs.Prelude.{◌≡◌, ℕ, ◌+◌, ◌<◌, ◌≤◌, ◌^◌, List, [], ◌∷◌, ◌++◌, length, count_by}
 use Rattle.std.specs.List.{All, fold, sum_by}
-use Rattle.edit_replay.specs.Session.{SessionData}
 use Rattle.script_text.specs.declared.command.Command.{Command}
 use Rattle.jps_run.specs.Answers.{edits_with}
-use Rattle.jps_run.specs.Drill.{AreFindings, IsShortFinding, queries_text, edits_text, costs_text, is_walk, is_none, is_blocked, is_done, is_same, straight_in, diagonal_in}
+use Rattle.jps_run.specs.Counting.{CommandsTake, RoseBy}
+use Rattle.jps_run.specs.Drill.{AreFindings, IsShortFinding, drill_line, queries_text, edits_text, costs_text, is_walk, is_none, is_blocked, is_done, is_same, straight_in, diagonal_in}
 use Rattle.jps_run.specs.Session.{session_after}
+use Rattle.jps_run.specs.declared.drill.Summary.{Summary}
 use Rattle.jps_run.specs.declared.drill.Finding.{Finding}
 use Rattle.jps_run.specs.declared.drill.Sums.{Sums}
 
@@ -37,16 +38,29 @@ sums_text sums =
     queries_text sums.walks sums.none sums.blocked ++ edits_text sums.done sums.same
     ++ costs_text sums.straight sums.diagonal
 
--- the commands came to findings with these sums
-pub record HasSummed (d : SessionData) (commands : List Command) (sums : Sums) : Type 0 where
+-- the sums are those of findings, and there is room for so many more
+pub record LeavesRoom (job : Summary) (more : ℕ) : Type 0 where
   pub found : List Finding
-  pub are : AreFindings d commands found
-  pub summed : sums ≡ sums_of found
-
--- so many commands were worked: they came to findings with these sums, and their edits were made
-pub record IsDrilling (first now : SessionData) (commands : List Command) (count : ℕ) (sums : Sums) : Type 0 where
-  pub found : List Finding
-  pub are : AreFindings first (take count commands) found
-  pub summed : sums ≡ sums_of found
+  pub summed : job.sums ≡ sums_of found
   pub short : All IsShortFinding found
-  pub session : now ≡ session_after first (fold edits_with [] (take count commands))
+  pub few : length found + more ≤ 2 ^ 32
+
+-- the commands came to findings with these sums, and their edits were made; no line is written before the sums
+pub record HasDrilled (first now : Summary) (commands : List Command) (lines : List (List ℕ)) : Type 0 where
+  pub found : List Finding
+  pub are : AreFindings first.session commands found
+  pub summed : now.sums ≡ sums_of found
+  pub session : now.session ≡ session_after first.session (fold edits_with [] commands)
+  pub none : lines ≡ []
+
+-- the counter rose for these commands, and their edits were made
+pub record HaveTaken (first now : Summary) (commands : List Command) (old new : ℕ) : Type 0 where
+  pub rose : RoseBy first.session (CommandsTake first.session commands) old new
+  pub session : now.session ≡ session_after first.session (fold edits_with [] commands)
+
+-- one line sums up what the commands come to, with status 0
+pub record IsDrilled (first : Summary) (commands : List Command) (lines : List (List ℕ)) (status : ℕ) : Type 0 where
+  pub found : List Finding
+  pub are : AreFindings first.session commands found
+  pub all : lines ≡ drill_line found ∷ []
+  pub good : status ≡ 0

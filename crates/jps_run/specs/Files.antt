@@ -1,17 +1,20 @@
 -- The files of a request: which texts they hold, and the first one that is refused.
 use Rattle.std.specs.Prelude.{◌≡◌, ℕ, List, [], ◌∷◌, ◌++◌, ⊤, Some, None}
-use Rattle.io_edge.specs.Told.{Held}
+use Rattle.io_edge.specs.Told.{Disk, Held}
 use Rattle.io_edge.specs.Causes.{Rose}
 use Rattle.io_edge.specs.Whole.{IsWhole, IsLonger}
 use Rattle.jps_run.specs.FaultLines.{long_line}
 use Rattle.jps_run.specs.Kinds.{kind_word, limit_of, refusal_of}
-use Rattle.jps_run.specs.Seen.{Seen}
 use Rattle.jps_run.specs.declared.kind.Kind.{Kind}
 
 -- a file that a request names, and the kind of text that it is to hold
 pub record File : Type 0 where
   pub kind : Kind
   pub name : List ℕ
+
+-- a file of this kind and name
+abbrev pub file_of : Kind → List ℕ → File
+file_of kind name = record { kind = kind; name = name }
 
 -- the file holds this text, which is accepted behind the texts before it
 abbrev pub IsAccepted : List (List ℕ) → Kind → Held → List ℕ → Type 0
@@ -47,7 +50,7 @@ pub record HasRefused (holds : List ℕ → Held) (files : List File) (line : Li
   pub refused : IsRefused comes.texts file.kind (holds file.name) line
 
 -- the count of a file rose that there was reason to read
-pub record FileRose (files : List File) (before now : Seen) : Type 0 where
+pub record FileRose (files : List File) (disk disk_now : Disk) : Type 0 where
   pub file : File
-  pub comes : ComesTo before.holds files file
-  pub rose : Rose (before.faults file.name) (now.faults file.name)
+  pub comes : ComesTo disk.holds files file
+  pub rose : Rose (disk.faults file.name) (disk_now.faults file.name)

@@ -3,7 +3,7 @@ use Rattle.std.specs.Prelude.{◌≡◌, ℕ, ◌≤◌, ◌<◌, ⊤, List, [],
 use Rattle.std.specs.List.{concat}
 use Rattle.std.specs.Option.{option_map, option_map_or}
 use Rattle.std.specs.Io.KnownBytes.{Consumes, IsAtEnd}
-use Rattle.io_edge.specs.Told.{Held}
+use Rattle.io_edge.specs.Told.{Held, Outflow}
 use Rattle.io_edge.specs.Whole.{AppendsSome}
 use Rattle.map_text.specs.Map.{Map}
 use Rattle.map_text.specs.Faults.{map_of}
@@ -17,7 +17,6 @@ use Rattle.jps_run.specs.Answers.{AreAnswers}
 use Rattle.jps_run.specs.FaultLines.{long_line, script_line}
 use Rattle.jps_run.specs.Files.{IsAccepted}
 use Rattle.jps_run.specs.Kinds.{limit_of}
-use Rattle.jps_run.specs.Seen.{Seen, Stream}
 use Rattle.jps_run.specs.Sending.{Wrote}
 use Rattle.jps_run.specs.Session.{session_on}
 use Rattle.jps_run.specs.declared.kind.Kind.TheVariants as kind
@@ -75,17 +74,17 @@ pub record AnswerPending (d : SessionData) (show : Show) (input left : Option (L
   pub answers : AreAnswers d show (commands_so_far taken) lines
 
 -- lines that stand so were written: all of them, a first part, or the first ones, each whole
-pub record WroteAll (Stand : List (List ℕ) → Type 0) (before now : Stream) : Type 0 where
+pub record WroteAll (Stand : List (List ℕ) → Type 0) (before now : Outflow) : Type 0 where
   pub lines : List (List ℕ)
   pub stand : Stand lines
   pub wrote : Wrote before now (concat lines)
 
-pub record WroteFirst (Stand : List (List ℕ) → Type 0) (before now : Stream) : Type 0 where
+pub record WroteFirst (Stand : List (List ℕ) → Type 0) (before now : Outflow) : Type 0 where
   pub lines : List (List ℕ)
   pub stand : Stand lines
   pub wrote : AppendsSome before.written now.written (concat lines)
 
-pub record WroteLines (Stand : List (List ℕ) → Type 0) (before now : Stream) : Type 0 where
+pub record WroteLines (Stand : List (List ℕ) → Type 0) (before now : Outflow) : Type 0 where
   pub lines : List (List ℕ)
   pub stand : Stand lines
   pub count : ℕ
@@ -108,18 +107,18 @@ AreHeard call holds input lines refusal = OnLive call holds (λ d show. AnswerHe
 
 -- its lines were written; exactly those of the whole commands among the bytes that were taken; a first part of these; the
 -- first ones of these, each whole
-abbrev pub WroteHeard : Call → Seen → Seen → Option (List ℕ) → Option (List ℕ) → Type 0
-WroteHeard call before now input refusal =
-    OnLive call before.holds (λ d show. WroteAll (AnswerHeard d show input refusal) before.out now.out)
+abbrev pub WroteHeard : Call → (List ℕ → Held) → Outflow → Outflow → Option (List ℕ) → Option (List ℕ) → Type 0
+WroteHeard call holds out out_now input refusal =
+    OnLive call holds (λ d show. WroteAll (AnswerHeard d show input refusal) out out_now)
 
-abbrev pub WrotePending : Call → Seen → Seen → Option (List ℕ) → Option (List ℕ) → Type 0
-WrotePending call before now input left =
-    OnLive call before.holds (λ d show. WroteAll (AnswerPending d show input left) before.out now.out)
+abbrev pub WrotePending : Call → (List ℕ → Held) → Outflow → Outflow → Option (List ℕ) → Option (List ℕ) → Type 0
+WrotePending call holds out out_now input left =
+    OnLive call holds (λ d show. WroteAll (AnswerPending d show input left) out out_now)
 
-abbrev pub WroteSomeTaken : Call → Seen → Seen → Option (List ℕ) → Option (List ℕ) → Type 0
-WroteSomeTaken call before now input left =
-    OnLive call before.holds (λ d show. WroteFirst (AnswerTaken d show input left) before.out now.out)
+abbrev pub WroteSomeTaken : Call → (List ℕ → Held) → Outflow → Outflow → Option (List ℕ) → Option (List ℕ) → Type 0
+WroteSomeTaken call holds out out_now input left =
+    OnLive call holds (λ d show. WroteFirst (AnswerTaken d show input left) out out_now)
 
-abbrev pub WroteLinesTaken : Call → Seen → Seen → Option (List ℕ) → Option (List ℕ) → Type 0
-WroteLinesTaken call before now input left =
-    OnLive call before.holds (λ d show. WroteLines (AnswerTaken d show input left) before.out now.out)
+abbrev pub WroteLinesTaken : Call → (List ℕ → Held) → Outflow → Outflow → Option (List ℕ) → Option (List ℕ) → Type 0
+WroteLinesTaken call holds out out_now input left =
+    OnLive call holds (λ d show. WroteLines (AnswerTaken d show input left) out out_now)

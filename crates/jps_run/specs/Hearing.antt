@@ -12,43 +12,19 @@ use Rattle.script_text.specs.Fed.{HasTaken}
 use Rattle.script_text.specs.Feeding.{commands_so_far, commands_of, fault_so_far, fault_of}
 use Rattle.script_text.specs.Feeding as known
 use Rattle.jps_run.specs.Answering.{HasAnswered, IsSolved}
+use Rattle.jps_run.specs.Answers.{AreAnswers}
 use Rattle.jps_run.specs.FaultLines.{script_line}
 use Rattle.jps_run.specs.Heard.{AnswerHeard, AnswerTaken, AnswerPending, WroteAll, WroteFirst, WroteLines}
-use Rattle.jps_run.specs.Seen.{Incoming, Stream}
-use Rattle.jps_run.specs.Sending.{Wrote, IsPart, AreLines}
+use Rattle.io_edge.specs.Told.{Inflow, Outflow}
+use Rattle.jps_run.specs.Sending.{IsPart}
 use Rattle.jps_run.specs.Stops.{Stops, Ends}
-use Rattle.jps_run.specs.Working.{IsWorking}
+use Rattle.jps_run.specs.Working.{HaveWorked}
 use Rattle.jps_run.specs.declared.answers.Answers.{Answers}
 use Rattle.jps_run.specs.declared.stop.Stop.{Stop}
 
 -- the commands are answered, and their lines were written
-pub record HasWritten (first now : Answers) (commands : List Command) (before after : Stream) : Type 0 where
-  pub lines : List (List ℕ)
-  pub answered : HasAnswered first now commands lines
-  pub wrote : Wrote before after (concat lines)
-  pub later : before.faults ≤ after.faults
-
--- what is known where the answers to these commands stop: a first part of their lines was written, or the first ones
-abbrev pub answer_stops : Answers → List Command → Stream → Stream → Stops
-answer_stops first all before now = record {
-  Refused = λ line. ⊥;
-  Read = ⊥;
-  Write = Rose before.faults now.faults × IsPart (IsSolved first all) before now;
-  Memory = AreLines (IsSolved first all) before now;
-}
-
--- the commands are answered too, behind any that were before, and whatever others come behind them; or that stops
-abbrev pub AnswersMore : Answers → Answers → List Command → Stream → Stream → Result (Unit {0}) Stop → Type 0
-AnswersMore old new more at now result = (first : Answers) (earlier others : List Command) (before : Stream)
-    → HasWritten first old earlier before at
-    → Ends (λ done. HasWritten first new (earlier ++ more) before now)
-    (answer_stops first (earlier ++ (more ++ others)) before now) result
-
--- some of the commands are answered too; of the lines the first ones were written, and the others wait
-abbrev pub IsAnswering : Answers → Answers → List Command → ℕ → Stream → Stream → List ℕ → Type 0
-IsAnswering old new more count at now waiting = (first : Answers) (earlier others : List Command) (before : Stream)
-    → HasWritten first old earlier before at
-    → IsWorking (HasAnswered first new) (earlier ++ (more ++ others)) (length earlier + count) before now waiting
+abbrev pub HasWritten : Answers → Answers → List Command → Outflow → Outflow → Type 0
+HasWritten first now commands before after = HaveWorked HasAnswered first now commands before after
 
 -- all commands that are known now, with the fault that is known, by an answer and the commands that were appended
 pub record AreKnown (answer : Result (Unit {0}) ScriptFault) (earlier more all : List Command)
@@ -58,40 +34,40 @@ pub record AreKnown (answer : Result (Unit {0}) ScriptFault) (earlier more all :
   pub exact : answer ≢ Err NoMemory → (others ≡ []) × known.Answers answer fault
 
 -- what is known where the answers to all these commands stop, behind which this fault is known
-abbrev pub known_stops : Answers → Answers → List Command → Option ScriptFault → Stream → Stream → Stops
+abbrev pub known_stops : Answers → Answers → List Command → Option ScriptFault → Outflow → Outflow → Stops
 known_stops first new all fault before now = record {
   Refused = λ line. (option_map script_line fault ≡ Some line) × HasWritten first new all before now;
   Read = ⊥;
   Write = Rose before.faults now.faults × IsPart (IsSolved first all) before now;
-  Memory = AreLines (IsSolved first all) before now;
+  Memory = WroteLines (AreAnswers first.session first.show all) before now;
 }
 
 -- all known commands were answered, and no fault is known; or that stops
-abbrev pub AnswersKnown : Answers → Answers → Result (Unit {0}) ScriptFault → List Command → Stream → Stream
+abbrev pub AnswersKnown : Answers → Answers → Result (Unit {0}) ScriptFault → List Command → Outflow → Outflow
     → Result (Unit {0}) Stop → Type 0
 AnswersKnown old new answer more at now result =
-    (first : Answers) (earlier all : List Command) (fault : Option ScriptFault) (before : Stream)
+    (first : Answers) (earlier all : List Command) (fault : Option ScriptFault) (before : Outflow)
     → HasWritten first old earlier before at → AreKnown answer earlier more all fault
     → Ends (λ done. (answer ≡ Ok tt) × (fault ≡ None) × HasWritten first new all before now)
     (known_stops first new all fault before now) result
 
 -- these bytes came in, no line is refused, and their whole commands are answered
-pub record HasHeard (first now : Answers) (feeder : LineFeeder) (text : List ℕ) (before after : Stream) : Type 0 where
+pub record HasHeard (first now : Answers) (feeder : LineFeeder) (text : List ℕ) (before after : Outflow) : Type 0 where
   pub fed : HasTaken feeder text
   pub clean : fault_so_far text ≡ None
   pub written : HasWritten first now (commands_so_far text) before after
 
 -- one piece more came in, and its whole commands are answered; or that stops
-abbrev pub HearsPiece : Answers → Answers → LineFeeder → LineFeeder → List ℕ → Stream → Stream
+abbrev pub HearsPiece : Answers → Answers → LineFeeder → LineFeeder → List ℕ → Outflow → Outflow
     → Result (Unit {0}) Stop → Type 0
-HearsPiece old new feeder feeder_now piece at now result = (first : Answers) (text : List ℕ) (before : Stream)
+HearsPiece old new feeder feeder_now piece at now result = (first : Answers) (text : List ℕ) (before : Outflow)
     → HasHeard first old feeder text before at
     → Ends (λ done. HasHeard first new feeder_now (text ++ piece) before now)
     (known_stops first new (commands_so_far (text ++ piece)) (fault_so_far (text ++ piece)) before now) result
 
 -- nothing more comes in, and the command of the last line is answered too; or that stops
-abbrev pub HearsEnd : Answers → Answers → LineFeeder → Stream → Stream → Result ℕ Stop → Type 0
-HearsEnd old new feeder at now result = (first : Answers) (text : List ℕ) (before : Stream)
+abbrev pub HearsEnd : Answers → Answers → LineFeeder → Outflow → Outflow → Result ℕ Stop → Type 0
+HearsEnd old new feeder at now result = (first : Answers) (text : List ℕ) (before : Outflow)
     → HasHeard first old feeder text before at
     → Ends (λ status. (status ≡ 0) × (fault_of text ≡ None) × HasWritten first new (commands_of text) before now)
     (known_stops first new (commands_of text) (fault_of text) before now) result
@@ -107,8 +83,8 @@ Refuses answer result = Ends (λ done. answer ≡ Ok tt) (record {
 }) result
 
 -- bytes came in in which no line is refused, and their whole commands are answered; more may be read
-pub record IsHearing (first now : Answers) (feeder : LineFeeder) (input input_now : Incoming) (buffer : List ℕ)
-    (before after : Stream) : Type 0 where
+pub record IsHearing (first now : Answers) (feeder : LineFeeder) (input input_now : Inflow) (buffer : List ℕ)
+    (before after : Outflow) : Type 0 where
   pub text : List ℕ
   pub consumed : Consumes input.left input_now.left text
   pub counted : length text ≡ feeder.taken
@@ -118,7 +94,7 @@ pub record IsHearing (first now : Answers) (feeder : LineFeeder) (input input_no
   pub room : 0 < length buffer
 
 -- all that came in is answered, or that stops
-abbrev pub Hears : Answers → Incoming → Incoming → Stream → Stream → Result ℕ Stop → Type 0
+abbrev pub Hears : Answers → Inflow → Inflow → Outflow → Outflow → Result ℕ Stop → Type 0
 Hears first input input_now before now result = Ends
     (λ status. (status ≡ 0) × WroteAll (AnswerHeard first.session first.show input.left None) before now)
     (record {

@@ -1,11 +1,11 @@
 -- How far the rows of a scenario have come. No public clause cites this module.
-use Rattle.std.specs.Prelude.{◌≡◌, ℕ, ◌+◌, ◌*◌, ◌≤◌, List}
+use Rattle.std.specs.Prelude.{◌≡◌, ℕ, ◌+◌, ◌*◌, ◌^◌, ◌<◌, ◌≤◌, List}
 use Rattle.edit_replay.specs.Counting.{fewest_of}
 use Rattle.edit_replay.specs.Session.{SessionData}
 use Rattle.scen_text.specs.declared.entry.Entry.{Entry}
 use Rattle.jps_run.specs.Counting.{EntriesTake, EntryTakes, RoseBy}
 use Rattle.jps_run.specs.Rows.{AreRows, row_lines, scen_lines, scen_status}
-use Rattle.jps_run.specs.Tally.{tally_of}
+use Rattle.jps_run.specs.Tally.{IsTally, tally_of}
 use Rattle.jps_run.specs.declared.row.Row.{Row}
 use Rattle.jps_run.specs.declared.scenario.Judge.{Judge}
 
@@ -16,6 +16,11 @@ pub record HasJudged (first now : Judge) (entries : List Entry) (lines : List (L
   pub all : lines ≡ row_lines 1 rows
   pub counted : now.tally ≡ tally_of rows
   pub same : now.session ≡ first.session
+
+-- the rows are counted, and there is room for so many more
+pub record HasRoom (job : Judge) (more : ℕ) : Type 0 where
+  pub counts : IsTally job.tally
+  pub few : job.tally.rows + more < 2 ^ 64
 
 -- the counter rose by at least the fewest steps of the engine for each state that the entry takes
 pub record TakesFor (d : SessionData) (entry : Entry) (old new : ℕ) : Type 0 where

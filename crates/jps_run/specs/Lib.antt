@@ -1,4 +1,3 @@
-pub mod Seen
 pub mod Stops
 pub mod Sending
 pub mod Turns
@@ -16,7 +15,7 @@ pub mod Heard
 pub mod Counting
 pub mod Outcome
 pub mod Ending
-pub mod Worked
+pub mod Opened
 pub mod Served
 pub mod Hearing
 pub mod Working

@@ -54,19 +54,6 @@ files_of (Drill seed) = []
 files_of (Scen map scen) =
     record { kind = kind.Map; name = map } ∷ record { kind = kind.Scen; name = scen } ∷ []
 
--- whether what is asked for comes as lines, which may go out one by one; else it is one text, made whole first
-abbrev pub comes_as_lines : Asked → Bool
-comes_as_lines Help = false
-comes_as_lines Version = false
-comes_as_lines (Query map sx sy gx gy) = true
-comes_as_lines (Solve map script) = true
-comes_as_lines (Live map) = true
-comes_as_lines (Scen map scen) = true
-comes_as_lines (Prove map sx sy gx gy) = false
-comes_as_lines (Check map cert) = false
-comes_as_lines (Make seed w h percent) = false
-comes_as_lines (Drill seed) = false
-
 -- whether what is asked for is read from the input
 abbrev pub reads_input : Asked → Bool
 reads_input (Live map) = true

@@ -1,5 +1,5 @@
 -- What texts are read as, and how their reading may stop. No public clause cites this module.
-use Rattle.std.specs.Prelude.{◌≡◌, ℕ, List, Ok, Some, slice_get}
+use Rattle.std.specs.Prelude.{◌≡◌, ℕ, List, [], ◌∷◌, Ok, Some, slice_get}
 use Rattle.std.specs.Global.{Vec}
 use Rattle.map_text.specs.Map.{Map}
 use Rattle.map_text.specs.Faults.{map_of, plain}
@@ -18,7 +18,7 @@ use Rattle.jps_run.specs.Session.{corner_of, session_on}
 use Rattle.std.specs.Prelude.{None, ⊤, Result}
 use Rattle.io_edge.specs.Causes.{Rose}
 use Rattle.io_edge.specs.Told.{Held}
-use Rattle.jps_run.specs.Files.{IsAccepted, IsRefused}
+use Rattle.jps_run.specs.Files.{AreAccepted, File, IsAccepted, IsRefused}
 use Rattle.jps_run.specs.Kinds.{refusal_of}
 use Rattle.jps_run.specs.Stops.{Stops, Ends}
 use Rattle.jps_run.specs.declared.kind.Kind.{Kind}
@@ -57,11 +57,28 @@ ReadsText Spells kind text result = (earlier : List (List ℕ)) → Ends
 abbrev pub SpellsMap : List ℕ → MapText → Type 0
 SpellsMap text m = map_of text ≡ Ok (plain m)
 
--- the text spells a map, and the session is that on it, as the settings ask
-pub record SpellsSession (set : Settings) (text : List ℕ) (d : SessionData) : Type 0 where
+-- the text spells a map, of which this was made
+pub record IsMade {X : Type 0} (IsOf : Map → X → Type 0) (text : List ℕ) (made : X) : Type 0 where
   pub map : Map
   pub spelled : map_of text ≡ Ok map
-  pub begun : d ≡ session_on set map
+  pub is : IsOf map made
+
+-- the session on a map, as the settings ask
+abbrev pub IsSessionOn : Settings → Map → SessionData → Type 0
+IsSessionOn set m d = d ≡ session_on set m
+
+-- the layers of a map under the rule of the settings
+abbrev pub AreLayersOf : Settings → Map → Layers → Type 0
+AreLayersOf set m ls = ls ≡ layers_of (corner_of set.one) m.width m.height m.cells
+
+-- the map and one file more were read as these values: the files hold these texts, the second one accepted behind the first
+pub record AreBothRead {X Y : Type 0} (Spells : List ℕ → X → Type 0) (SpellsMore : List ℕ → Y → Type 0)
+    (holds : List ℕ → Held) (first second : File) (values : X × Y) : Type 0 where
+  pub text : List ℕ
+  pub more : List ℕ
+  pub accepted : AreAccepted holds [] (first ∷ second ∷ []) (text ∷ more ∷ [])
+  pub spelled : Spells text values.0
+  pub spelled_more : SpellsMore more values.1
 
 -- each entry has a length that can be judged
 abbrev pub AreKept : List Entry → Type 0
@@ -77,9 +94,3 @@ SpellsScen text entries = (scen_of text ≡ Ok entries.items) × AreKept entries
 -- the text spells this certificate
 abbrev pub SpellsCert : List ℕ → Certificate → Type 0
 SpellsCert text c = certificate_of text ≡ Ok (claimed_by c)
-
--- the text spells a map, and these are its layers under the rule of the settings
-pub record SpellsLayers (set : Settings) (text : List ℕ) (ls : Layers) : Type 0 where
-  pub map : Map
-  pub spelled : map_of text ≡ Ok map
-  pub made : ls ≡ layers_of (corner_of set.one) map.width map.height map.cells

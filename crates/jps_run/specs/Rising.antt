@@ -8,11 +8,6 @@ use Rattle.script_text.specs.Feeding.{commands_so_far, commands_of, fault_of}
 use Rattle.jps_run.specs.Answering.{HaveTaken}
 use Rattle.jps_run.specs.declared.answers.Answers.{Answers}
 
--- the counter rose for these commands too, behind any that were before
-abbrev pub RiseMore : Answers → Answers → List Command → ℕ → ℕ → Type 0
-RiseMore old new more at now = (first : Answers) (earlier : List Command) (start : ℕ)
-    → HaveTaken first old earlier start at → HaveTaken first new (earlier ++ more) start now
-
 -- one piece more came in, and the counter rose for its whole commands
 abbrev pub RisePiece : Answers → Answers → LineFeeder → LineFeeder → List ℕ → ℕ → ℕ → Type 0
 RisePiece old new feeder feeder_now piece at now = (first : Answers) (text : List ℕ) (start : ℕ)

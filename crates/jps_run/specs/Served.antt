@@ -1,36 +1,37 @@
--- How the work on a call ends that may read the input. No public clause cites this module.
-use Rattle.std.specs.Prelude.{◌≡◌, ℕ, ◌≤◌, ◌⊎◌, true, None, Some, Result}
+-- How the work on a call ends. No public clause cites this module.
+use Rattle.std.specs.Prelude.{◌≡◌, ℕ, ◌≤◌, ◌⊎◌, true, List, [], None, Some, Result}
 use Rattle.io_edge.specs.Causes.{Rose}
+use Rattle.io_edge.specs.Told.{Disk, Inflow, Outflow}
 use Rattle.word_list.specs.Request.{Call}
-use Rattle.jps_run.specs.Ending.{Whole, WroteNothing}
 use Rattle.jps_run.specs.Files.{HasRefused, FileRose}
 use Rattle.jps_run.specs.Heard.{WroteHeard, WrotePending, WroteSomeTaken, WroteLinesTaken}
-use Rattle.jps_run.specs.Outcome.{comes_as_lines, files_of, reads_input}
-use Rattle.jps_run.specs.Seen.{Seen, Incoming}
-use Rattle.jps_run.specs.Sending.{IsAll, IsPart, AreLines}
+use Rattle.jps_run.specs.Hearing.{Hears}
+use Rattle.jps_run.specs.Opened.{IsWhole}
+use Rattle.jps_run.specs.Outcome.{IsOutput, files_of, reads_input}
+use Rattle.jps_run.specs.Sending.{IsAll, IsPart, AreLines, SendsWhole, Wrote}
 use Rattle.jps_run.specs.Stops.{Stops, Ends}
 use Rattle.jps_run.specs.declared.stop.Stop.{Stop}
 
 -- what is known where the work on a call stops
-abbrev pub served_stops : Call → Seen → Seen → Incoming → Incoming → Stops
-served_stops call before now input input_now = record {
-  Refused = λ line. (HasRefused before.holds (files_of call.request) line × WroteNothing before now)
-      ⊎ WroteHeard call before now input.left (Some line);
-  Read = (FileRose (files_of call.request) before now × WroteNothing before now)
+abbrev pub served_stops : Call → Disk → Disk → Inflow → Inflow → Outflow → Outflow → Stops
+served_stops call disk disk_now input input_now out out_now = record {
+  Refused = λ line. (HasRefused disk.holds (files_of call.request) line × Wrote out out_now [])
+      ⊎ WroteHeard call disk.holds out out_now input.left (Some line);
+  Read = (FileRose (files_of call.request) disk disk_now × Wrote out out_now [])
       ⊎ ((reads_input call.request ≡ true) × Rose input.faults input_now.faults
-      × WrotePending call before now input.left input_now.left);
-  Write = Rose before.out.faults now.out.faults
-      × (IsPart (Whole call before) before.out now.out
-      ⊎ WroteSomeTaken call before now input.left input_now.left);
-  Memory = WroteNothing before now
-      ⊎ (((comes_as_lines call.request ≡ true) × AreLines (Whole call before) before.out now.out)
-      ⊎ WroteLinesTaken call before now input.left input_now.left);
+      × WrotePending call disk.holds out out_now input.left input_now.left);
+  Write = Rose out.faults out_now.faults
+      × (IsPart (IsOutput call disk.holds) out out_now
+      ⊎ WroteSomeTaken call disk.holds out out_now input.left input_now.left);
+  Memory = Wrote out out_now []
+      ⊎ (AreLines (IsOutput call disk.holds) out out_now
+      ⊎ WroteLinesTaken call disk.holds out out_now input.left input_now.left);
 }
 
 -- the work on a call came to a right output, or it stops
-abbrev pub HasServed : Call → Seen → Seen → Incoming → Incoming → Result ℕ Stop → Type 0
-HasServed call before now input input_now result = Ends
+abbrev pub HasServed : Call → Disk → Disk → Inflow → Inflow → Outflow → Outflow → Result ℕ Stop → Type 0
+HasServed call disk disk_now input input_now out out_now result = Ends
     (λ status. (status ≤ 1)
-    × (IsAll (Whole call before) before.out now.out status
-    ⊎ ((status ≡ 0) × WroteHeard call before now input.left None)))
-    (served_stops call before now input input_now) result
+    × (IsAll (IsOutput call disk.holds) out out_now status
+    ⊎ ((status ≡ 0) × WroteHeard call disk.holds out out_now input.left None)))
+    (served_stops call disk disk_now input input_now out out_now) result

@@ -3,15 +3,11 @@
 ghost use Rattle.std.specs.Prelude.{OnOk};
 ghost use Rattle.jps_run.specs.Answering.{PutsAnswer, GoesOn, IsSolved, TakesFor};
 ghost use Rattle.jps_run.specs.Counting.{CommandsTake, RoseBy};
-ghost use Rattle.jps_run.specs.Hearing.{AnswersMore};
-ghost use Rattle.jps_run.specs.Rising.{RiseMore};
-ghost use Rattle.jps_run.specs.Seen.{stream};
 ghost use Rattle.jps_run.specs.Sending.{SendsWhole};
 
 use crate::NoMemory;
 use crate::job::{Job, work_items};
 use crate::lines::{put_edit_reply, put_reply};
-use crate::sending::{send, send_full};
 use crate::stop::Stop;
 use edit_replay::Session;
 use grid_moves::Ground;
@@ -30,14 +26,18 @@ pub(crate) struct Answers {
 }
 
 impl Job for Answers {
-    ghost use Rattle.std.specs.Prelude.{⊤};
+    ghost use Rattle.std.specs.Prelude.{⊤, false};
     ghost use Rattle.jps_run.specs.Answering.{HasAnswered, HaveTaken, IsSolved};
 
     type Item = Command;
 
     ghost can_work = { λ _. ⊤ };
 
+    ghost has_room = { λ _ _. ⊤ };
+
     ghost has_worked = { HasAnswered };
+
+    ghost closes = { false };
 
     ghost is_whole = { IsSolved };
 
@@ -46,7 +46,6 @@ impl Job for Answers {
     fn answer<L: Ledger>(
         &mut self,
         alloc: Global,
-        _number: u64,
         item: Command,
         lines: &mut Vec<u8>,
         steps: &mut Steps<L>,
@@ -89,46 +88,14 @@ fn put_answer<L: Ledger>(
 /// Answers the commands in order, each by the session as the edits before it leave it.
 pub(crate) fn write_answers<O: Sink, L: Ledger>(
     alloc: Global,
-    session: Session,
-    show: Show,
-    commands: &[Command],
-    out: &mut O,
-    steps: &mut Steps<L>,
-) -> Result<u8, Stop>
-    ensures sent { SendsWhole (IsSolved (record { session = session; show = show }) commands.now)
-        (stream (O.written out.old) (O.faults out.old))
-        (stream (O.written out.new) (O.faults out.new)) result }
-    ensures counted { OnOk result
-        (RoseBy session (CommandsTake session commands.now) steps.old steps.new) }
-{
-    let mut job = Answers { session, show };
-    work_items(alloc, &mut job, commands, out, steps)
-}
-
-/// Answers these commands too, and writes all their lines.
-pub(crate) fn answer_more<O: Sink, L: Ledger>(
-    alloc: Global,
     job: &mut Answers,
     commands: &[Command],
     out: &mut O,
     steps: &mut Steps<L>,
-) -> Result<(), Stop>
-    ensures written { AnswersMore job.old job.new commands.now
-        (stream (O.written out.old) (O.faults out.old))
-        (stream (O.written out.new) (O.faults out.new)) result }
-    ensures rose { OnOk result (RiseMore job.old job.new commands.now steps.old steps.new) }
+) -> Result<u8, Stop>
+    ensures sent { SendsWhole (IsSolved job.old commands.now) (O.outflow out.old) (O.outflow out.new) result }
+    ensures counted { OnOk result
+        (RoseBy job.old.session (CommandsTake job.old.session commands.now) steps.old steps.new) }
 {
-    let mut lines = Vec::new(alloc);
-    for command in commands {
-        put_answer(
-            alloc,
-            &mut job.session,
-            job.show,
-            *command,
-            &mut lines,
-            steps,
-        )?;
-        send_full(out, &mut lines)?;
-    }
-    send(out, lines.as_slice())
+    work_items(alloc, job, commands, out, steps)
 }

@@ -4,18 +4,17 @@ ghost use Rattle.std.specs.Prelude.{◌≡◌, ◌++◌, IfOk, OnOk, codes, deci
 ghost use Rattle.word_list.specs.Request as asked;
 ghost use Rattle.jps_run.specs.Certificates as spec;
 ghost use Rattle.jps_run.specs.Certificates.{IsVerdict};
+ghost use Rattle.jps_run.specs.Opened.{OpensWork};
 ghost use Rattle.jps_run.specs.Outcome.{call_with};
-ghost use Rattle.jps_run.specs.Seen.{seen};
-ghost use Rattle.jps_run.specs.Worked.{HasWorked};
 
 use crate::NoMemory;
-use crate::files::read_file;
-use crate::layers::open_layers;
+use crate::files::open_two;
+use crate::layers::Layers;
 use crate::prove::Printed;
-use crate::sending::send_as;
 use crate::stop::Stop;
+use crate::work::Work;
 use grid_moves::{Cell, Grid};
-use io_edge::{Files, Sink};
+use io_edge::Files;
 use potential_check::{Certificate, Proof, Reject};
 use std::alloc::Global;
 use text_line::{put, put_number};
@@ -119,24 +118,22 @@ fn verdict(alloc: Global, grid: &Grid, certificate: &Certificate) -> Result<Prin
     }
 }
 
-/// Prints whether the certificate is accepted on its grid of the map, or the first clause that it
-/// fails. All memory is taken before the first byte is written.
-pub(crate) fn check<F: Files, O: Sink>(
+/// Makes the line that says whether the certificate is accepted on its grid of the map, or the
+/// first clause that it fails.
+pub(crate) fn check<F: Files>(
     alloc: Global,
     files: &mut F,
-    out: &mut O,
     map: &str,
     cert: &str,
     settings: Settings,
-) -> Result<u8, Stop>
-    ensures worked { HasWorked (call_with (asked.Check map.now cert.now) settings)
-        (seen (F.holds files.old) (F.faults files.old) (O.written out.old) (O.faults out.old))
-        (seen (F.holds files.new) (F.faults files.new) (O.written out.new) (O.faults out.new)) result }
-    ensures unchanged { F.holds files.new ≡ F.holds files.old }
+) -> Result<Work, Stop>
+    ensures opened { OpensWork (call_with (asked.Check map.now cert.now) settings)
+        (F.disk files.old) (F.disk files.new) result }
+    ensures unchanged { (F.disk files.new).holds ≡ (F.disk files.old).holds }
 {
-    let layers = open_layers(alloc, files, map, settings)?;
-    let certificate: Certificate = read_file(alloc, files, cert)?;
+    let both: (Layers, Certificate) = open_two(alloc, files, map, settings, cert)?;
+    let (layers, certificate) = both;
     let grid = layers.query_grid(certificate.start);
-    let printed = verdict(alloc, grid, &certificate)?;
-    send_as(out, printed.text.as_slice(), printed.status)
+    let Printed { text, status } = verdict(alloc, grid, &certificate)?;
+    Ok(Work::Print { text, status })
 }

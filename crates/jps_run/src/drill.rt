@@ -5,18 +5,19 @@ ghost use Rattle.std.specs.Prelude.{◌≡◌, ◌≤◌, ◌^◌, ◌++◌, ◌
 ghost use Rattle.edit_replay.specs.Replies.{IsShort, answer_of};
 ghost use Rattle.word_list.specs.Request as asked;
 ghost use Rattle.jps_run.specs.Answering.{GoesOn, TakesFor};
-ghost use Rattle.jps_run.specs.Counting.{CommandsTake, RoseBy, RoseFor};
+ghost use Rattle.jps_run.specs.Counting.{CommandsTake, RoseBy};
 ghost use Rattle.jps_run.specs.Drill as spec;
-ghost use Rattle.jps_run.specs.Drill.{IsDrillText, IsFinding, IsShortFinding};
-ghost use Rattle.jps_run.specs.Drilling.{HasRoom, HasSummed, sums_of, sums_text};
+ghost use Rattle.jps_run.specs.Drill.{IsFinding, IsShortFinding};
+ghost use Rattle.jps_run.specs.Drilling.{HasRoom, IsDrilled, sums_of, sums_text};
+ghost use Rattle.jps_run.specs.Opened.{IsWorkOf};
 ghost use Rattle.jps_run.specs.Outcome.{call_with};
-ghost use Rattle.jps_run.specs.Seen.{stream};
-ghost use Rattle.jps_run.specs.Sending.{SendsOne};
+ghost use Rattle.jps_run.specs.Sending.{SendsWhole};
 
 use crate::NoMemory;
-use crate::files::{corner_of, engine_of};
-use crate::sending::send_text;
+use crate::files::OfMap;
+use crate::job::{Job, work_items};
 use crate::stop::Stop;
+use crate::work::Work;
 use edit_replay::{EditReply, Reply, Session};
 use grid_moves::Ground;
 use io_edge::Sink;
@@ -62,6 +63,49 @@ pub(crate) struct Sums {
     pub same: u64,
     pub straight: u64,
     pub diagonal: u64,
+}
+
+/// A session that works the commands of a drill in order, and the sums of what they come to.
+#[derive(Drop)]
+pub(crate) struct Summary {
+    pub session: Session,
+    pub sums: Sums,
+}
+
+impl Job for Summary {
+    ghost use Rattle.std.specs.Prelude.{⊤, true};
+    ghost use Rattle.jps_run.specs.Drilling.{HasDrilled, HaveTaken, IsDrilled, LeavesRoom};
+
+    type Item = Command;
+
+    ghost can_work = { λ _. ⊤ };
+
+    ghost has_room = { LeavesRoom };
+
+    ghost has_worked = { HasDrilled };
+
+    ghost closes = { true };
+
+    ghost is_whole = { IsDrilled };
+
+    ghost has_counted = { HaveTaken };
+
+    fn answer<L: Ledger>(
+        &mut self,
+        alloc: Global,
+        item: Command,
+        _lines: &mut Vec<u8>,
+        steps: &mut Steps<L>,
+    ) -> Result<(), NoMemory> {
+        let found = find(alloc, &mut self.session, item, steps)?;
+        self.sums.count(found);
+        Ok(())
+    }
+
+    fn close(&self, lines: &mut Vec<u8>) -> Result<u8, NoMemory> {
+        self.sums.put(lines)?;
+        Ok(0)
+    }
 }
 
 impl Sums {
@@ -196,62 +240,32 @@ fn find<L: Ledger>(
     }
 }
 
-// The sums of what the commands come to, in order.
-fn sum_up<L: Ledger>(
+/// Sums up what the commands come to, in order, by the session.
+pub(crate) fn write_sums<O: Sink, L: Ledger>(
     alloc: Global,
-    session: &mut Session,
+    session: Session,
     commands: &[Command],
-    steps: &mut Steps<L>,
-) -> Result<Sums, NoMemory>
-    requires few { length commands.now ≤ 2 ^ 32 }
-    ensures summed { IfOk result (HasSummed session.old commands.now) }
-    ensures counted { OnOk result
-        (RoseBy session.old (CommandsTake session.old commands.now) steps.old steps.new) }
-{
-    let mut sums = Sums::new();
-    for command in commands {
-        let found = find(alloc, session, *command, steps)?;
-        sums.count(found);
-    }
-    Ok(sums)
-}
-
-// The line of a drill.
-fn drill_text<L: Ledger>(
-    alloc: Global,
-    seed: u64,
-    settings: Settings,
-    steps: &mut Steps<L>,
-) -> Result<Vec<u8>, NoMemory>
-    ensures text { IfOk result (λ text. IsDrillText settings seed text.items) }
-    ensures counted { OnOk result (RoseFor (call_with (asked.Drill seed) settings) [] steps.old steps.new) }
-{
-    let map = map_maker::make(alloc, seed, SIDE, SIDE, PERCENT)?;
-    let mut session = Session::new(
-        alloc,
-        &map,
-        engine_of(settings.pick),
-        corner_of(settings.one),
-    )?;
-    let commands = drill_script(alloc, seed)?;
-    let sums = sum_up(alloc, &mut session, commands.as_slice(), steps)?;
-    let mut text = Vec::new(alloc);
-    sums.put(&mut text)?;
-    Ok(text)
-}
-
-/// Prints the sums of what the commands of a seed come to.
-pub(crate) fn drill<O: Sink, L: Ledger>(
-    alloc: Global,
     out: &mut O,
-    seed: u64,
-    settings: Settings,
     steps: &mut Steps<L>,
 ) -> Result<u8, Stop>
-    ensures sent { SendsOne (IsDrillText settings seed) (stream (O.written out.old) (O.faults out.old))
-        (stream (O.written out.new) (O.faults out.new)) result }
-    ensures counted { OnOk result (RoseFor (call_with (asked.Drill seed) settings) [] steps.old steps.new) }
+    requires few { length commands.now ≤ 2 ^ 32 }
+    ensures sent { SendsWhole (IsDrilled (record { session = session; sums = sums_of [] }) commands.now)
+        (O.outflow out.old) (O.outflow out.new) result }
+    ensures counted { OnOk result (RoseBy session (CommandsTake session commands.now) steps.old steps.new) }
 {
-    let text = drill_text(alloc, seed, settings, steps)?;
-    send_text(out, text.as_slice())
+    let mut job = Summary {
+        session,
+        sums: Sums::new(),
+    };
+    work_items(alloc, &mut job, commands, out, steps)
+}
+
+/// Makes the session and the commands of a seed.
+pub(crate) fn drill(alloc: Global, seed: u64, settings: Settings) -> Result<Work, NoMemory>
+    ensures { IfOk result (IsWorkOf (call_with (asked.Drill seed) settings) []) }
+{
+    let map = map_maker::make(alloc, seed, SIDE, SIDE, PERCENT)?;
+    let session = Session::of_map(alloc, &map, settings)?;
+    let commands = drill_script(alloc, seed)?;
+    Ok(Work::Drill { session, commands })
 }

@@ -1,16 +1,19 @@
 //! The texts that files hold, and the sessions on maps.
 
-ghost use Rattle.std.specs.Prelude.{◌≡◌, ◌≤◌, ℕ, List, Ok, length};
+ghost use Rattle.std.specs.Prelude.{◌≡◌, ◌≤◌, ℕ, List, [], ◌∷◌, Ok, IfOk, length};
 ghost use Rattle.io_edge.specs.Causes.{NoneFell};
 ghost use Rattle.io_edge.specs.Whole.{IsWhole, IsLonger};
 ghost use Rattle.jps_run.specs.FaultLines.{long_line as line_of_long};
-ghost use Rattle.jps_run.specs.Reading.{Reads, ReadsText, read_stops};
+ghost use Rattle.jps_run.specs.Reading.{AreBothRead, IsMade, IsRead, Reads, ReadsText, read_stops};
 ghost use Rattle.jps_run.specs.Kinds.{kind_word, limit_of};
 ghost use Rattle.jps_run.specs.Session as spec;
-ghost use Rattle.jps_run.specs.Reading.{SpellsSession};
+ghost use Rattle.jps_run.specs.Files.{file_of};
+ghost use Rattle.jps_run.specs.Opened.{open_stops};
+ghost use Rattle.map_text.specs.Faults.{plain};
 ghost use Rattle.jps_run.specs.Stops.{Ends};
 ghost use Rattle.jps_run.specs.declared.kind.Kind.TheVariants as kinds;
 
+use crate::NoMemory;
 use crate::faults::{cert_line, long_line, map_line, scen_line, script_line};
 use crate::kind::Kind;
 use crate::stop::Stop;
@@ -130,12 +133,12 @@ fn read_text<F: Files>(
     kind: Kind,
     name: &str,
 ) -> Result<Vec<u8>, Stop>
-    ensures read { Ends (λ text. IsWhole (F.holds files.old name.now) (limit_of kind) text.items)
-        (read_stops (λ line. IsLonger (F.holds files.old name.now) (limit_of kind)
-        × (line ≡ line_of_long (kind_word kind))) (F.faults files.old name.now) (F.faults files.new name.now))
+    ensures read { Ends (λ text. IsWhole ((F.disk files.old).holds name.now) (limit_of kind) text.items)
+        (read_stops (λ line. IsLonger ((F.disk files.old).holds name.now) (limit_of kind)
+        × (line ≡ line_of_long (kind_word kind))) ((F.disk files.old).faults name.now) ((F.disk files.new).faults name.now))
         result }
-    ensures unchanged { F.holds files.new ≡ F.holds files.old }
-    ensures later { NoneFell (F.faults files.old) (F.faults files.new) }
+    ensures unchanged { (F.disk files.new).holds ≡ (F.disk files.old).holds }
+    ensures later { NoneFell (F.disk files.old).faults (F.disk files.new).faults }
 {
     match read_whole(alloc, files, name, kind.limit()) {
         Ok(text) => Ok(text),
@@ -151,10 +154,10 @@ pub(crate) fn read_file<F: Files, T: Text>(
     files: &mut F,
     name: &str,
 ) -> Result<T, Stop>
-    ensures read { Reads T.spells T.kind_of_text (F.holds files.old name.now) (F.faults files.old name.now)
-        (F.faults files.new name.now) result }
-    ensures unchanged { F.holds files.new ≡ F.holds files.old }
-    ensures later { NoneFell (F.faults files.old) (F.faults files.new) }
+    ensures read { Reads T.spells T.kind_of_text ((F.disk files.old).holds name.now) ((F.disk files.old).faults name.now)
+        ((F.disk files.new).faults name.now) result }
+    ensures unchanged { (F.disk files.new).holds ≡ (F.disk files.old).holds }
+    ensures later { NoneFell (F.disk files.old).faults (F.disk files.new).faults }
 {
     let text = read_text(alloc, files, T::kind(), name)?;
     T::of_text(alloc, text.as_slice())
@@ -179,24 +182,80 @@ pub(crate) fn corner_of(one: bool) -> Corner
     if one { Corner::One } else { Corner::Never }
 }
 
-/// A session on the map that a file holds, as the settings ask. The bytes of the map are given back.
-pub(crate) fn open_session<F: Files>(
+/// What is made of a map, as the settings ask.
+pub(crate) trait OfMap: Drop + Sized {
+    ghost use Rattle.map_text.specs.Map.{Map};
+    ghost use Rattle.word_list.specs.declared.request.Settings.{Settings};
+
+    ghost is_of_map: { Settings → Map → Self → Type 0 };
+
+    /// The value of the map.
+    fn of_map(alloc: Global, map: &MapText, settings: Settings) -> Result<Self, NoMemory>
+        ensures { IfOk result (is_of_map settings (plain map.now)) };
+}
+
+impl OfMap for Session {
+    ghost use Rattle.jps_run.specs.Reading.{IsSessionOn};
+
+    ghost is_of_map = { IsSessionOn };
+
+    fn of_map(alloc: Global, map: &MapText, settings: Settings) -> Result<Session, NoMemory> {
+        Session::new(
+            alloc,
+            map,
+            engine_of(settings.pick),
+            corner_of(settings.one),
+        )
+    }
+}
+
+/// What is made of the map that a file holds. The bytes of the map are given back before it is made.
+pub(crate) fn read_map_file<F: Files, M: OfMap>(
     alloc: Global,
     files: &mut F,
     name: &str,
     settings: Settings,
-) -> Result<Session, Stop>
-    ensures read { Reads (SpellsSession settings) kinds.Map (F.holds files.old name.now)
-        (F.faults files.old name.now) (F.faults files.new name.now) result }
-    ensures unchanged { F.holds files.new ≡ F.holds files.old }
-    ensures later { NoneFell (F.faults files.old) (F.faults files.new) }
+) -> Result<M, Stop>
+    ensures read { Reads (IsMade (M.is_of_map settings)) kinds.Map ((F.disk files.old).holds name.now)
+        ((F.disk files.old).faults name.now) ((F.disk files.new).faults name.now) result }
+    ensures unchanged { (F.disk files.new).holds ≡ (F.disk files.old).holds }
+    ensures later { NoneFell (F.disk files.old).faults (F.disk files.new).faults }
 {
     let map: MapText = read_file(alloc, files, name)?;
-    let session = Session::new(
-        alloc,
-        &map,
-        engine_of(settings.pick),
-        corner_of(settings.one),
-    )?;
-    Ok(session)
+    let made = M::of_map(alloc, &map, settings)?;
+    Ok(made)
+}
+
+/// What is made of the map that the first file holds, for a call with this file alone.
+pub(crate) fn open_one<F: Files, M: OfMap>(
+    alloc: Global,
+    files: &mut F,
+    map: &str,
+    settings: Settings,
+) -> Result<M, Stop>
+    ensures read { Ends (IsRead (IsMade (M.is_of_map settings)) [] kinds.Map ((F.disk files.old).holds map.now))
+        (open_stops (F.disk files.old) (F.disk files.new) (file_of kinds.Map map.now ∷ [])) result }
+    ensures unchanged { (F.disk files.new).holds ≡ (F.disk files.old).holds }
+{
+    read_map_file(alloc, files, map, settings)
+}
+
+/// What is made of the map that the first file holds, and what the second file is read as, for a
+/// call with these two files. The second one is read only where the first is accepted.
+pub(crate) fn open_two<F: Files, M: OfMap, T: Text>(
+    alloc: Global,
+    files: &mut F,
+    map: &str,
+    settings: Settings,
+    second: &str,
+) -> Result<(M, T), Stop>
+    ensures read { Ends (AreBothRead (IsMade (M.is_of_map settings)) T.spells (F.disk files.old).holds
+        (file_of kinds.Map map.now) (file_of T.kind_of_text second.now))
+        (open_stops (F.disk files.old) (F.disk files.new)
+        (file_of kinds.Map map.now ∷ file_of T.kind_of_text second.now ∷ [])) result }
+    ensures unchanged { (F.disk files.new).holds ≡ (F.disk files.old).holds }
+{
+    let made: M = read_map_file(alloc, files, map, settings)?;
+    let text: T = read_file(alloc, files, second)?;
+    Ok((made, text))
 }

@@ -1,9 +1,8 @@
 //! The one loop over the items of a command.
 
-ghost use Rattle.std.specs.Prelude.{◌≡◌, ℕ, List, [], ◌∷◌, ◌++◌, slice_get, Some, OnOk, IfOk};
-ghost use Rattle.jps_run.specs.Seen.{stream};
+ghost use Rattle.std.specs.Prelude.{◌≡◌, ℕ, Bool, true, List, [], ◌∷◌, ◌++◌, ◌+◌, length, slice_get, Some, OnOk, OnErr, IfOk};
 ghost use Rattle.jps_run.specs.Sending.{SendsWhole};
-ghost use Rattle.jps_run.specs.Working.{Adds, Completes, IsNext};
+ghost use Rattle.jps_run.specs.Working.{Adds, CanComplete, CountsMore, HasRoomForOne, WorksMore};
 
 use crate::NoMemory;
 use crate::sending::{send, send_full};
@@ -20,8 +19,14 @@ pub(crate) trait Job {
     // the item may be worked
     ghost can_work: { Self.Item → Type 0 };
 
+    // there is room for so many items more
+    ghost has_room: { Self → ℕ → Type 0 };
+
     // the first job became the other by working these items, which have these lines
     ghost has_worked: { Self → Self → List Self.Item → List (List ℕ) → Type 0 };
+
+    // whether a line closes the output
+    ghost closes: { Bool };
 
     // the job's whole output for these items has these lines and this status
     ghost is_whole: { Self → List Self.Item → List (List ℕ) → ℕ → Type 0 };
@@ -29,29 +34,55 @@ pub(crate) trait Job {
     // the first job became the other by working these items, and the counter rose as it has to
     ghost has_counted: { Self → Self → List Self.Item → ℕ → ℕ → Type 0 };
 
-    /// Works the item of this number, counted from 1, and appends its lines.
+    /// Works the next item, and appends its lines.
     fn answer<L: Ledger>(
         &mut self,
         alloc: Global,
-        number: u64,
         item: Self::Item,
         lines: &mut Vec<u8>,
         steps: &mut Steps<L>,
     ) -> Result<(), NoMemory>
         requires can { can_work item }
-        requires next { IsNext (has_worked) self.old number }
+        requires room { HasRoomForOne (has_room self.old) }
         ensures worked { OnOk result ((first : Self) (items : List Self.Item) (so_far : List (List ℕ))
             → has_worked first self.old items so_far
             → Adds (has_worked first self.new (items ++ item ∷ [])) so_far lines.old.items lines.new.items) }
+        ensures room { OnOk result ((n : ℕ) → has_room self.old (n + 1) → has_room self.new n) }
         ensures counted { OnOk result ((first : Self) (items : List Self.Item) (start : ℕ)
             → has_counted first self.old items start steps.old
             → has_counted first self.new (items ++ item ∷ []) start steps.new) };
 
     /// Appends what closes the output behind the last item, and gives the status.
     fn close(&self, lines: &mut Vec<u8>) -> Result<u8, NoMemory>
-        ensures { IfOk result (λ status. (first : Self) (items : List Self.Item) (so_far : List (List ℕ))
+        ensures closed { IfOk result (λ status. (first : Self) (items : List Self.Item) (so_far : List (List ℕ))
             → has_worked first self.now items so_far
-            → Adds (λ all. is_whole first items all status) so_far lines.old.items lines.new.items) };
+            → Adds (λ all. is_whole first items all status) so_far lines.old.items lines.new.items) }
+        ensures starved { OnErr result (closes ≡ true) };
+}
+
+/// Works these items too, in order, and writes their lines in pieces.
+pub(crate) fn work_more<J: Job, O: Sink, L: Ledger>(
+    alloc: Global,
+    job: &mut J,
+    items: &[J::Item],
+    out: &mut O,
+    steps: &mut Steps<L>,
+) -> Result<(), Stop>
+where
+    J::Item: Copy,
+    requires can { (k : ℕ) (item : J.Item) → slice_get items.now k ≡ Some item → J.can_work item }
+    requires room { J.has_room job.old (length items.now) }
+    requires completes { CanComplete J.has_worked J.is_whole J.closes }
+    ensures written { WorksMore J.has_worked J.is_whole job.old job.new items.now
+        (O.outflow out.old) (O.outflow out.new) result }
+    ensures counted { OnOk result (CountsMore J.has_counted job.old job.new items.now steps.old steps.new) }
+{
+    let mut lines = Vec::new(alloc);
+    for item in items {
+        job.answer(alloc, *item, &mut lines, steps)?;
+        send_full(out, &mut lines)?;
+    }
+    send(out, lines.as_slice())
 }
 
 /// Works the items in order, and writes their lines and what closes them; the status comes out.
@@ -65,19 +96,15 @@ pub(crate) fn work_items<J: Job, O: Sink, L: Ledger>(
 where
     J::Item: Copy,
     requires can { (k : ℕ) (item : J.Item) → slice_get items.now k ≡ Some item → J.can_work item }
+    requires room { J.has_room job.old (length items.now) }
+    requires completes { CanComplete J.has_worked J.is_whole J.closes }
     requires begins { J.has_worked job.old job.old [] [] }
-    requires completes { (now : J) (some others : List J.Item) (lines : List (List ℕ))
-        → J.has_worked job.old now some lines → Completes (J.is_whole job.old (some ++ others)) lines }
     requires counts { J.has_counted job.old job.old [] steps.old steps.old }
-    ensures sent { SendsWhole (J.is_whole job.old items.now) (stream (O.written out.old) (O.faults out.old))
-        (stream (O.written out.new) (O.faults out.new)) result }
+    ensures sent { SendsWhole (J.is_whole job.old items.now) (O.outflow out.old) (O.outflow out.new) result }
     ensures counted { OnOk result (J.has_counted job.old job.new items.now steps.old steps.new) }
 {
+    work_more(alloc, job, items, out, steps)?;
     let mut lines = Vec::new(alloc);
-    for (place, item) in items.iter().enumerate() {
-        job.answer(alloc, place as u64 + 1, *item, &mut lines, steps)?;
-        send_full(out, &mut lines)?;
-    }
     let status = job.close(&mut lines)?;
     send(out, lines.as_slice())?;
     Ok(status)

@@ -1,18 +1,13 @@
 //! The two grids of a map.
 
-ghost use Rattle.std.specs.Prelude.{◌≡◌, IfOk, MatchOption, true, false};
+ghost use Rattle.std.specs.Prelude.{◌≡◌, MatchOption, true, false};
 ghost use Rattle.grid_moves.specs.Grid.{is_inside};
 ghost use Rattle.grid_moves.specs.Layers as spec;
 ghost use Rattle.grid_moves.specs.Reply as replies;
-ghost use Rattle.io_edge.specs.Causes.{NoneFell};
-ghost use Rattle.jps_run.specs.Reading.{Reads, SpellsLayers};
-ghost use Rattle.jps_run.specs.declared.kind.Kind.TheVariants as kinds;
 
 use crate::NoMemory;
-use crate::files::{corner_of, read_file};
-use crate::stop::Stop;
-use grid_moves::{Cell, Corner, Grid, Ground, Terrain};
-use io_edge::Files;
+use crate::files::{OfMap, corner_of};
+use grid_moves::{Cell, Grid, Ground, Terrain};
 use map_text::MapText;
 use std::alloc::Global;
 use std::marker::Model;
@@ -35,18 +30,21 @@ impl Model for Layers {
     ghost invariant = { λ ls. Unit {0} };
 }
 
-impl Layers {
-    // The grids of a map under a corner rule.
-    fn of_map(alloc: Global, map: &MapText, corner: Corner) -> Result<Layers, NoMemory>
-        ensures { IfOk result (λ ls. ls ≡ spec.layers_of corner map.now.width map.now.height
-            map.now.cells) }
-    {
+impl OfMap for Layers {
+    ghost use Rattle.jps_run.specs.Reading.{AreLayersOf};
+
+    ghost is_of_map = { AreLayersOf };
+
+    fn of_map(alloc: Global, map: &MapText, settings: Settings) -> Result<Layers, NoMemory> {
         let cells = map.cells.as_slice();
+        let corner = corner_of(settings.one);
         let land = Grid::of_layer(alloc, map.width, map.height, cells, corner, Ground::Land)?;
         let water = Grid::of_layer(alloc, map.width, map.height, cells, corner, Ground::Water)?;
         Ok(Layers { land, water })
     }
+}
 
+impl Layers {
     /// The cell of this column and row, where it lies on the map.
     pub(crate) fn cell_at(&self, x: u32, y: u32) -> Option<Cell>
         ensures { MatchOption result (spec.is_on_map self.now (record { x = x; y = y }) ≡ false)
@@ -95,21 +93,4 @@ impl Layers {
             &self.land
         }
     }
-}
-
-/// The layers of the map that a file holds, as the settings ask. The bytes of the map are given back.
-pub(crate) fn open_layers<F: Files>(
-    alloc: Global,
-    files: &mut F,
-    name: &str,
-    settings: Settings,
-) -> Result<Layers, Stop>
-    ensures read { Reads (SpellsLayers settings) kinds.Map (F.holds files.old name.now)
-        (F.faults files.old name.now) (F.faults files.new name.now) result }
-    ensures unchanged { F.holds files.new ≡ F.holds files.old }
-    ensures later { NoneFell (F.faults files.old) (F.faults files.new) }
-{
-    let map: MapText = read_file(alloc, files, name)?;
-    let layers = Layers::of_map(alloc, &map, corner_of(settings.one))?;
-    Ok(layers)
 }

@@ -26,6 +26,7 @@ mod stop;
 mod tests;
 mod texts;
 mod top;
+mod work;
 
 pub use std::alloc::AllocError as NoMemory;
 pub use top::{refuse, run, starve};

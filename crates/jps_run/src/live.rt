@@ -1,22 +1,27 @@
 //! The command `live`: the answers to a script that comes in.
 
-ghost use Rattle.std.specs.Prelude.{◌≡◌, ◌+◌, ◌<◌, ◌≤◌, ◌^◌, length, IfOk, OnOk};
+ghost use Rattle.std.specs.Prelude.{◌≡◌, [], ◌∷◌, ◌+◌, ◌<◌, ◌≤◌, ◌^◌, length, IfOk, OnOk};
 ghost use Rattle.std.specs.Io.KnownBytes.{ReadConsumes};
 ghost use Rattle.io_edge.specs.Causes.{HasCause};
 ghost use Rattle.word_list.specs.Request as asked;
 ghost use Rattle.jps_run.specs.Counting.{RoseHeard};
-ghost use Rattle.jps_run.specs.Heard.{OnLive};
+ghost use Rattle.jps_run.specs.Files.{file_of};
 ghost use Rattle.jps_run.specs.Hearing.{AnswersKnown, Refuses, Hears, HearsPiece, HearsEnd};
 ghost use Rattle.jps_run.specs.Outcome.{call_with};
-ghost use Rattle.jps_run.specs.Rising.{RiseEnd, RiseMore, RisePiece};
-ghost use Rattle.jps_run.specs.Seen.{seen, stream, incoming};
-ghost use Rattle.jps_run.specs.Served.{HasServed};
+ghost use Rattle.jps_run.specs.Rising.{RiseEnd, RisePiece};
+ghost use Rattle.jps_run.specs.Opened.{IsListener, open_stops};
+ghost use Rattle.jps_run.specs.Answering.{HaveTaken};
+ghost use Rattle.jps_run.specs.Stops.{Ends};
+ghost use Rattle.jps_run.specs.Working.{CountsMore};
+ghost use Rattle.jps_run.specs.declared.kind.Kind.TheVariants as kinds;
 
 use crate::NoMemory;
-use crate::answers::{Answers, answer_more};
+use crate::answers::Answers;
 use crate::faults::{long_line, script_line};
-use crate::files::open_session;
+use crate::files::open_one;
+use crate::job::work_more;
 use crate::stop::Stop;
+use edit_replay::Session;
 use io_edge::{Failed, Files, Sink, Source};
 use script_text::{Command, LineFeeder, ScriptFault};
 use std::alloc::Global;
@@ -30,45 +35,36 @@ const MOST: usize = 1 << 26;
 /// At most so many bytes are read at once.
 const PIECE: usize = 1 << 16;
 
-/// Answers the commands that come in on the map, those of each read before the next one.
-pub(crate) fn live<F: Files, I: Source, O: Sink, L: Ledger>(
+/// Opens a session that answers what comes in.
+pub(crate) fn live<F: Files>(
     alloc: Global,
     files: &mut F,
-    input: &mut I,
-    out: &mut O,
     map: &str,
     settings: Settings,
-    steps: &mut Steps<L>,
-) -> Result<u8, Stop>
-    ensures served { HasServed (call_with (asked.Live map.now) settings)
-        (seen (F.holds files.old) (F.faults files.old) (O.written out.old) (O.faults out.old))
-        (seen (F.holds files.new) (F.faults files.new) (O.written out.new) (O.faults out.new))
-        (incoming (I.left input.old) (I.faults input.old))
-        (incoming (I.left input.new) (I.faults input.new)) result }
-    ensures counted { OnOk result (OnLive (call_with (asked.Live map.now) settings) (F.holds files.old)
-        (λ d show. RoseHeard d (I.left input.old) steps.old steps.new)) }
-    ensures unchanged { F.holds files.new ≡ F.holds files.old }
+) -> Result<Answers, Stop>
+    ensures opened { Ends (IsListener (call_with (asked.Live map.now) settings) (F.disk files.old).holds)
+        (open_stops (F.disk files.old) (F.disk files.new) (file_of kinds.Map map.now ∷ [])) result }
+    ensures unchanged { (F.disk files.new).holds ≡ (F.disk files.old).holds }
 {
-    let session = open_session(alloc, files, map, settings)?;
-    let mut job = Answers {
+    let session: Session = open_one(alloc, files, map, settings)?;
+    Ok(Answers {
         session,
         show: settings.show,
-    };
-    hear(alloc, &mut job, input, out, steps)
+    })
 }
 
-// Answers what comes in.
-fn hear<I: Source, O: Sink, L: Ledger>(
+/// Answers the commands that come in, those of each read before the next one.
+pub(crate) fn hear<I: Source, O: Sink, L: Ledger>(
     alloc: Global,
     job: &mut Answers,
     input: &mut I,
     out: &mut O,
     steps: &mut Steps<L>,
 ) -> Result<u8, Stop>
-    ensures heard { Hears job.old (incoming (I.left input.old) (I.faults input.old))
-        (incoming (I.left input.new) (I.faults input.new))
-        (stream (O.written out.old) (O.faults out.old)) (stream (O.written out.new) (O.faults out.new)) result }
-    ensures rose { OnOk result (RoseHeard job.old.session (I.left input.old) steps.old steps.new) }
+    ensures heard { Hears job.old (I.inflow input.old)
+        (I.inflow input.new)
+        (O.outflow out.old) (O.outflow out.new) result }
+    ensures rose { OnOk result (RoseHeard job.old.session (I.inflow input.old).left steps.old steps.new) }
 {
     let mut buffer = blank(alloc, PIECE)?;
     let mut feeder = LineFeeder::new();
@@ -93,8 +89,8 @@ fn read_into<I: Source>(input: &mut I, buffer: &mut Vec<u8>) -> Result<usize, Fa
     requires { 0 < length buffer.old.items }
     ensures bound { IfOk result (λ n. n ≤ length buffer.new.items) }
     ensures kept { length buffer.new.items ≡ length buffer.old.items }
-    ensures bytes { ReadConsumes (I.left input.old) (I.left input.new) result buffer.new.items }
-    ensures cause { HasCause (I.faults input.old) (I.faults input.new) result }
+    ensures bytes { ReadConsumes (I.inflow input.old).left (I.inflow input.new).left result buffer.new.items }
+    ensures cause { HasCause (I.inflow input.old).faults (I.inflow input.new).faults result }
 {
     input.read(buffer.as_mut_slice())
 }
@@ -117,7 +113,7 @@ fn hear_piece<O: Sink, L: Ledger>(
 ) -> Result<(), Stop>
     requires { feeder.old.taken + length piece.now ≤ 2 ^ 26 }
     ensures heard { HearsPiece job.old job.new feeder.old feeder.new piece.now
-        (stream (O.written out.old) (O.faults out.old)) (stream (O.written out.new) (O.faults out.new)) result }
+        (O.outflow out.old) (O.outflow out.new) result }
     ensures rose { OnOk result (RisePiece job.old job.new feeder.old feeder.new piece.now
         steps.old steps.new) }
     ensures counted { OnOk result (feeder.new.taken ≡ feeder.old.taken + length piece.now) }
@@ -136,7 +132,7 @@ fn hear_end<O: Sink, L: Ledger>(
     steps: &mut Steps<L>,
 ) -> Result<u8, Stop>
     ensures ended { HearsEnd job.old job.new feeder.old
-        (stream (O.written out.old) (O.faults out.old)) (stream (O.written out.new) (O.faults out.new)) result }
+        (O.outflow out.old) (O.outflow out.new) result }
     ensures rose { OnOk result (RiseEnd job.old job.new feeder.old steps.old steps.new) }
 {
     let mut got = Vec::new(alloc);
@@ -154,12 +150,12 @@ fn answer_known<O: Sink, L: Ledger>(
     out: &mut O,
     steps: &mut Steps<L>,
 ) -> Result<(), Stop>
-    ensures known { AnswersKnown job.old job.new known got.now (stream (O.written out.old) (O.faults out.old))
-        (stream (O.written out.new) (O.faults out.new)) result }
+    ensures known { AnswersKnown job.old job.new known got.now (O.outflow out.old)
+        (O.outflow out.new) result }
     ensures all { OnOk result (known ≡ Ok tt) }
-    ensures rose { OnOk result (RiseMore job.old job.new got.now steps.old steps.new) }
+    ensures rose { OnOk result (CountsMore HaveTaken job.old job.new got.now steps.old steps.new) }
 {
-    answer_more(alloc, job, got, out, steps)?;
+    work_more(alloc, job, got, out, steps)?;
     refuse(alloc, known)
 }
 

@@ -4,17 +4,17 @@ ghost use Rattle.std.specs.Prelude.{◌≡◌, ◌&&◌, true, IfOk};
 ghost use Rattle.grid_moves.specs.Layers.{is_on_map};
 ghost use Rattle.word_list.specs.Request as asked;
 ghost use Rattle.jps_run.specs.Certificates.{IsProof};
+ghost use Rattle.jps_run.specs.Opened.{OpensWork};
 ghost use Rattle.jps_run.specs.Outcome.{call_with};
-ghost use Rattle.jps_run.specs.Seen.{seen};
-ghost use Rattle.jps_run.specs.Worked.{HasWorked};
 
 use crate::NoMemory;
-use crate::layers::{Layers, open_layers};
+use crate::files::open_one;
+use crate::layers::Layers;
 use crate::query::Ends;
-use crate::sending::send_as;
 use crate::stop::Stop;
+use crate::work::Work;
 use grid_moves::Cell;
-use io_edge::{Files, Sink};
+use io_edge::Files;
 use potential_make::certificate;
 use std::alloc::Global;
 use text_line::put;
@@ -66,22 +66,19 @@ fn proof_of(alloc: Global, layers: &Layers, ends: Ends) -> Result<Printed, NoMem
     proof_between(alloc, layers, from, to)
 }
 
-/// Prints the certificate of a query, or why there is none. All memory is taken before the first
-/// byte is written.
-pub(crate) fn prove<F: Files, O: Sink>(
+/// Makes the certificate of a query, or the line that says why there is none.
+pub(crate) fn prove<F: Files>(
     alloc: Global,
     files: &mut F,
-    out: &mut O,
     map: &str,
     ends: Ends,
     settings: Settings,
-) -> Result<u8, Stop>
-    ensures worked { HasWorked (call_with (asked.Prove map.now ends.sx ends.sy ends.gx ends.gy) settings)
-        (seen (F.holds files.old) (F.faults files.old) (O.written out.old) (O.faults out.old))
-        (seen (F.holds files.new) (F.faults files.new) (O.written out.new) (O.faults out.new)) result }
-    ensures unchanged { F.holds files.new ≡ F.holds files.old }
+) -> Result<Work, Stop>
+    ensures opened { OpensWork (call_with (asked.Prove map.now ends.sx ends.sy ends.gx ends.gy) settings)
+        (F.disk files.old) (F.disk files.new) result }
+    ensures unchanged { (F.disk files.new).holds ≡ (F.disk files.old).holds }
 {
-    let layers = open_layers(alloc, files, map, settings)?;
-    let printed = proof_of(alloc, &layers, ends)?;
-    send_as(out, printed.text.as_slice(), printed.status)
+    let layers: Layers = open_one(alloc, files, map, settings)?;
+    let Printed { text, status } = proof_of(alloc, &layers, ends)?;
+    Ok(Work::Print { text, status })
 }

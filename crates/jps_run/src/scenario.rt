@@ -6,7 +6,6 @@ ghost use Rattle.edit_replay.specs.Replies.{IsShort, answer_of};
 ghost use Rattle.jps_run.specs.Counting.{EntriesTake, RoseBy};
 ghost use Rattle.jps_run.specs.Judging.{IsJudged, TakesFor};
 ghost use Rattle.jps_run.specs.Rows as rows;
-ghost use Rattle.jps_run.specs.Seen.{stream};
 ghost use Rattle.jps_run.specs.Sending.{SendsWhole};
 ghost use Rattle.jps_run.specs.Reading.{AreKept};
 ghost use Rattle.jps_run.specs.Tally.{tally_of};
@@ -31,14 +30,19 @@ pub(crate) struct Judge {
 }
 
 impl Job for Judge {
+    ghost use Rattle.std.specs.Prelude.{true};
     ghost use Rattle.scen_text.specs.Lengths.{IsKept};
-    ghost use Rattle.jps_run.specs.Judging.{HasJudged, HaveTaken, IsJudged};
+    ghost use Rattle.jps_run.specs.Judging.{HasJudged, HasRoom, HaveTaken, IsJudged};
 
     type Item = Entry;
 
     ghost can_work = { λ entry. IsKept entry.length };
 
+    ghost has_room = { HasRoom };
+
     ghost has_worked = { HasJudged };
+
+    ghost closes = { true };
 
     ghost is_whole = { IsJudged };
 
@@ -47,14 +51,13 @@ impl Job for Judge {
     fn answer<L: Ledger>(
         &mut self,
         alloc: Global,
-        number: u64,
         item: Entry,
         lines: &mut Vec<u8>,
         steps: &mut Steps<L>,
     ) -> Result<(), NoMemory> {
         let row = row_of(alloc, &mut self.session, item, steps)?;
         self.tally.count(row);
-        put_row(lines, number, row)
+        put_row(lines, self.tally.rows, row)
     }
 
     fn close(&self, lines: &mut Vec<u8>) -> Result<u8, NoMemory> {
@@ -113,8 +116,8 @@ pub(crate) fn write_rows<O: Sink, L: Ledger>(
 ) -> Result<u8, Stop>
     requires { AreKept entries.now }
     ensures sent { SendsWhole (IsJudged (record { session = session; tally = tally_of [] }) entries.now)
-        (stream (O.written out.old) (O.faults out.old))
-        (stream (O.written out.new) (O.faults out.new)) result }
+        (O.outflow out.old)
+        (O.outflow out.new) result }
     ensures counted { OnOk result (RoseBy session (EntriesTake session entries.now) steps.old steps.new) }
 {
     let mut job = Judge {

@@ -1,8 +1,7 @@
 //! Output in pieces.
 
 ghost use Rattle.std.specs.Prelude.{◌≤◌};
-ghost use Rattle.jps_run.specs.Seen.{stream};
-ghost use Rattle.jps_run.specs.Sending.{Sends, SendsAs, SendsFull, SendsText};
+ghost use Rattle.jps_run.specs.Sending.{IsText, Sends, SendsFull, SendsWhole};
 
 use crate::stop::Stop;
 use io_edge::{Sink, write_whole};
@@ -12,9 +11,9 @@ const PIECE: usize = 1 << 16;
 
 /// Writes the bytes.
 pub(crate) fn send<O: Sink>(out: &mut O, bytes: &[u8]) -> Result<(), Stop>
-    ensures sent { Sends (stream (O.written out.old) (O.faults out.old))
-        (stream (O.written out.new) (O.faults out.new)) bytes.now result }
-    ensures later { O.faults out.old ≤ O.faults out.new }
+    ensures sent { Sends (O.outflow out.old)
+        (O.outflow out.new) bytes.now result }
+    ensures later { (O.outflow out.old).faults ≤ (O.outflow out.new).faults }
 {
     match write_whole(out, bytes) {
         Ok(()) => Ok(()),
@@ -24,9 +23,9 @@ pub(crate) fn send<O: Sink>(out: &mut O, bytes: &[u8]) -> Result<(), Stop>
 
 /// Writes the lines that wait, once they are many.
 pub(crate) fn send_full<O: Sink>(out: &mut O, waiting: &mut Vec<u8>) -> Result<(), Stop>
-    ensures sent { SendsFull (stream (O.written out.old) (O.faults out.old))
-        (stream (O.written out.new) (O.faults out.new)) waiting.old.items waiting.new.items result }
-    ensures later { O.faults out.old ≤ O.faults out.new }
+    ensures sent { SendsFull (O.outflow out.old)
+        (O.outflow out.new) waiting.old.items waiting.new.items result }
+    ensures later { (O.outflow out.old).faults ≤ (O.outflow out.new).faults }
 {
     if PIECE <= waiting.len() {
         send(out, waiting.as_slice())?;
@@ -35,19 +34,9 @@ pub(crate) fn send_full<O: Sink>(out: &mut O, waiting: &mut Vec<u8>) -> Result<(
     Ok(())
 }
 
-/// Writes a text whole, and gives the status 0.
-pub(crate) fn send_text<O: Sink>(out: &mut O, text: &[u8]) -> Result<u8, Stop>
-    ensures { SendsText text.now (stream (O.written out.old) (O.faults out.old))
-        (stream (O.written out.new) (O.faults out.new)) result }
-{
-    send(out, text)?;
-    Ok(0)
-}
-
 /// Writes a text whole, and gives this status.
-pub(crate) fn send_as<O: Sink>(out: &mut O, text: &[u8], status: u8) -> Result<u8, Stop>
-    ensures { SendsAs text.now status (stream (O.written out.old) (O.faults out.old))
-        (stream (O.written out.new) (O.faults out.new)) result }
+pub(crate) fn send_text<O: Sink>(out: &mut O, text: &[u8], status: u8) -> Result<u8, Stop>
+    ensures { SendsWhole (IsText text.now status) (O.outflow out.old) (O.outflow out.new) result }
 {
     send(out, text)?;
     Ok(status)

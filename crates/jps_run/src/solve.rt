@@ -1,47 +1,37 @@
 //! The command `solve`: the answers to a script.
 
-ghost use Rattle.std.specs.Prelude.{◌≡◌, OnOk};
+ghost use Rattle.std.specs.Prelude.{◌≡◌};
 ghost use Rattle.word_list.specs.Request as asked;
-ghost use Rattle.jps_run.specs.Counting.{HasCounted};
-ghost use Rattle.jps_run.specs.Worked.{HasWorked};
+ghost use Rattle.jps_run.specs.Opened.{OpensWork};
 ghost use Rattle.jps_run.specs.Outcome.{call_with};
-ghost use Rattle.jps_run.specs.Seen.{seen};
 
-use crate::answers::write_answers;
-use crate::files::{open_session, read_file};
+use crate::answers::Answers;
+use crate::files::open_two;
 use crate::stop::Stop;
-use io_edge::{Files, Sink};
+use crate::work::Work;
+use edit_replay::Session;
+use io_edge::Files;
 use script_text::Command;
 use std::alloc::Global;
-use std::sync::ledger::Ledger;
-use steps::Steps;
 use word_list::Settings;
 
-/// Answers a script.
-pub(crate) fn solve<F: Files, O: Sink, L: Ledger>(
+/// Opens a script.
+pub(crate) fn solve<F: Files>(
     alloc: Global,
     files: &mut F,
-    out: &mut O,
     map: &str,
     script: &str,
     settings: Settings,
-    steps: &mut Steps<L>,
-) -> Result<u8, Stop>
-    ensures worked { HasWorked (call_with (asked.Solve map.now script.now) settings)
-        (seen (F.holds files.old) (F.faults files.old) (O.written out.old) (O.faults out.old))
-        (seen (F.holds files.new) (F.faults files.new) (O.written out.new) (O.faults out.new)) result }
-    ensures counted { OnOk result (HasCounted (call_with (asked.Solve map.now script.now) settings)
-        (F.holds files.old) steps.old steps.new) }
-    ensures unchanged { F.holds files.new ≡ F.holds files.old }
+) -> Result<Work, Stop>
+    ensures opened { OpensWork (call_with (asked.Solve map.now script.now) settings)
+        (F.disk files.old) (F.disk files.new) result }
+    ensures unchanged { (F.disk files.new).holds ≡ (F.disk files.old).holds }
 {
-    let session = open_session(alloc, files, map, settings)?;
-    let commands: Vec<Command> = read_file(alloc, files, script)?;
-    write_answers(
-        alloc,
+    let both: (Session, Vec<Command>) = open_two(alloc, files, map, settings, script)?;
+    let (session, commands) = both;
+    let job = Answers {
         session,
-        settings.show,
-        commands.as_slice(),
-        out,
-        steps,
-    )
+        show: settings.show,
+    };
+    Ok(Work::Answer { job, commands })
 }

@@ -1,88 +1,90 @@
 //! The top call.
 
-ghost use Rattle.std.specs.Prelude.{◌≡◌, ℕ, ◌≤◌, ◌⊎◌, false, OnOk, map, string_bytes};
+ghost use Rattle.std.specs.Prelude.{◌≡◌, ◌≤◌, ◌⊎◌, false, OnOk, map, string_bytes};
 ghost use Rattle.io_edge.specs.Causes.{Rose};
 ghost use Rattle.word_list.specs.Request.{HasSides, asked, called};
-ghost use Rattle.jps_run.specs.Counting.{HasCounted, RoseAsCalled, RoseForCall};
+ghost use Rattle.jps_run.specs.Counting.{RoseAsCalled, RoseForCall};
 ghost use Rattle.jps_run.specs.Ending.{Comes, Gets, HasFailed, HasLines, HasPart, InputRose, NamedRose, Names, ReadsInput, ending_line};
+ghost use Rattle.jps_run.specs.Opened.{Opens, OpensWork};
 ghost use Rattle.jps_run.specs.Outcome.{reads_input};
 ghost use Rattle.jps_run.specs.Served.{HasServed};
-ghost use Rattle.jps_run.specs.Worked.{HasWorked};
 ghost use Rattle.jps_run.specs.FaultLines.{word_line as line_of_word};
-ghost use Rattle.jps_run.specs.Seen.{incoming, seen, stream};
 
 use crate::check::check;
 use crate::drill::drill;
 use crate::faults::word_line;
-use crate::live::live;
+use crate::live::{hear, live};
 use crate::make::make;
 use crate::prove::prove;
 use crate::query::{Ends, query};
 use crate::scen::scen;
-use crate::sending::send_text;
 use crate::solve::solve;
 use crate::stop::Stop;
 use crate::texts::{help_text, version_text};
+use crate::work::{Opened, Work, perform};
 use io_edge::{Files, Sink, Source, write_whole};
 use std::alloc::Global;
 use std::sync::ledger::Ledger;
 use steps::Steps;
 use word_list::{Request, Settings, first_bad, read_words};
 
-// Does what is asked for by files alone, and gives the status.
-fn work<F: Files, O: Sink, L: Ledger>(
+// Reads the files of what is asked for, and makes what is to be done with them.
+fn open<F: Files>(
     alloc: Global,
     request: Request<'_>,
     settings: Settings,
     files: &mut F,
-    out: &mut O,
-    steps: &mut Steps<L>,
-) -> Result<u8, Stop>
+) -> Result<Opened, Stop>
+    requires sides { HasSides request }
+    ensures opened { Opens (called request.entry settings) (F.disk files.old) (F.disk files.new) result }
+    ensures unchanged { (F.disk files.new).holds ≡ (F.disk files.old).holds }
+{
+    if let Request::Live { map } = request {
+        return Ok(Opened::Listener(live(alloc, files, map, settings)?));
+    }
+    Ok(Opened::Work(open_work(alloc, request, settings, files)?))
+}
+
+// Reads the files of what is asked for by files alone, and makes the work.
+fn open_work<F: Files>(
+    alloc: Global,
+    request: Request<'_>,
+    settings: Settings,
+    files: &mut F,
+) -> Result<Work, Stop>
     requires sides { HasSides request }
     requires apart { reads_input (asked request) ≡ false }
-    ensures worked { HasWorked (called request.entry settings)
-        (seen (F.holds files.old) (F.faults files.old) (O.written out.old) (O.faults out.old))
-        (seen (F.holds files.new) (F.faults files.new) (O.written out.new) (O.faults out.new)) result }
-    ensures counted { OnOk result (HasCounted (called request.entry settings) (F.holds files.old)
-        steps.old steps.new) }
-    ensures unchanged { F.holds files.new ≡ F.holds files.old }
+    ensures opened { OpensWork (called request.entry settings) (F.disk files.old) (F.disk files.new) result }
+    ensures unchanged { (F.disk files.new).holds ≡ (F.disk files.old).holds }
 {
     match request {
-        Request::Help => send_text(out, help_text()),
-        Request::Version => send_text(out, version_text()),
+        Request::Help => Ok(Work::Say(help_text())),
+        Request::Version => Ok(Work::Say(version_text())),
         Request::Query {
             map,
             sx,
             sy,
             gx,
             gy,
-        } => query(
-            alloc,
-            files,
-            out,
-            map,
-            Ends { sx, sy, gx, gy },
-            settings,
-            steps,
-        ),
-        Request::Solve { map, script } => solve(alloc, files, out, map, script, settings, steps),
+        } => query(alloc, files, map, Ends { sx, sy, gx, gy }, settings),
+        Request::Solve { map, script } => solve(alloc, files, map, script, settings),
         Request::Live { .. } => unreachable!(),
-        Request::Scen { map, scen: name } => scen(alloc, files, out, map, name, settings, steps),
+        Request::Scen { map, scen: name } => scen(alloc, files, map, name, settings),
         Request::Prove {
             map,
             sx,
             sy,
             gx,
             gy,
-        } => prove(alloc, files, out, map, Ends { sx, sy, gx, gy }, settings),
-        Request::Check { map, cert } => check(alloc, files, out, map, cert, settings),
+        } => prove(alloc, files, map, Ends { sx, sy, gx, gy }, settings),
+        Request::Check { map, cert } => check(alloc, files, map, cert, settings),
         Request::Make {
             seed,
             w,
             h,
             percent,
-        } => make(alloc, out, seed, w, h, percent),
-        Request::Drill { seed } => drill(alloc, out, seed, settings, steps),
+        } => Ok(make(alloc, seed, w, h, percent, settings)?),
+        Request::Drill { seed } => Ok(drill(alloc, seed, settings)?),
     }
 }
 
@@ -97,28 +99,25 @@ fn serve<F: Files, I: Source, O: Sink, L: Ledger>(
     steps: &mut Steps<L>,
 ) -> Result<u8, Stop>
     requires sides { HasSides request }
-    ensures served { HasServed (called request.entry settings)
-        (seen (F.holds files.old) (F.faults files.old) (O.written out.old) (O.faults out.old))
-        (seen (F.holds files.new) (F.faults files.new) (O.written out.new) (O.faults out.new))
-        (incoming (I.left input.old) (I.faults input.old))
-        (incoming (I.left input.new) (I.faults input.new)) result }
-    ensures counted { OnOk result (RoseForCall (called request.entry settings) (F.holds files.old)
-        (I.left input.old) steps.old steps.new) }
-    ensures unchanged { F.holds files.new ≡ F.holds files.old }
+    ensures served { HasServed (called request.entry settings) (F.disk files.old) (F.disk files.new)
+        (I.inflow input.old) (I.inflow input.new) (O.outflow out.old) (O.outflow out.new) result }
+    ensures counted { OnOk result (RoseForCall (called request.entry settings) (F.disk files.old).holds
+        (I.inflow input.old).left steps.old steps.new) }
+    ensures unchanged { (F.disk files.new).holds ≡ (F.disk files.old).holds }
     ensures input_stays { reads_input (asked request.entry) ≡ false
-        → I.left input.new ≡ I.left input.old }
+        → (I.inflow input.new).left ≡ (I.inflow input.old).left }
 {
-    match request {
-        Request::Live { map } => live(alloc, files, input, out, map, settings, steps),
-        _ => work(alloc, request, settings, files, out, steps),
+    match open(alloc, request, settings, files)? {
+        Opened::Work(work) => perform(alloc, work, out, steps),
+        Opened::Listener(mut job) => hear(alloc, &mut job, input, out, steps),
     }
 }
 
 // Writes a line to `err`.
 fn tell<E: Sink>(err: &mut E, line: &[u8])
-    ensures told { Gets (stream (E.written err.old) (E.faults err.old))
-        (stream (E.written err.new) (E.faults err.new)) line.now }
-    ensures later { E.faults err.old ≤ E.faults err.new }
+    ensures told { Gets (E.outflow err.old)
+        (E.outflow err.new) line.now }
+    ensures later { (E.outflow err.old).faults ≤ (E.outflow err.new).faults }
 {
     let _ = write_whole(err, line);
 }
@@ -126,8 +125,8 @@ fn tell<E: Sink>(err: &mut E, line: &[u8])
 /// Ends for want of memory, and answers the status, which is 6.
 pub fn starve<E: Sink>(err: &mut E) -> u8
     ensures status { result ≡ 6 }
-    ensures memory { Gets (stream (E.written err.old) (E.faults err.old))
-        (stream (E.written err.new) (E.faults err.new)) (ending_line 6) }
+    ensures memory { Gets (E.outflow err.old)
+        (E.outflow err.new) (ending_line 6) }
 {
     tell(err, b"jps: memory\n");
     6
@@ -136,10 +135,10 @@ pub fn starve<E: Sink>(err: &mut E) -> u8
 // Refuses the word of this number: status 2, or 6 where its line found no memory.
 fn refuse_word<E: Sink>(alloc: Global, number: u32, err: &mut E) -> u8
     ensures statuses { (result ≡ 2) ⊎ (result ≡ 6) }
-    ensures word { result ≡ 2 → Gets (stream (E.written err.old) (E.faults err.old))
-        (stream (E.written err.new) (E.faults err.new)) (line_of_word number) }
-    ensures memory { result ≡ 6 → Gets (stream (E.written err.old) (E.faults err.old))
-        (stream (E.written err.new) (E.faults err.new)) (ending_line 6) }
+    ensures word { result ≡ 2 → Gets (E.outflow err.old)
+        (E.outflow err.new) (line_of_word number) }
+    ensures memory { result ≡ 6 → Gets (E.outflow err.old)
+        (E.outflow err.new) (ending_line 6) }
 {
     match word_line(alloc, number) {
         Ok(line) => {
@@ -173,49 +172,33 @@ pub fn run<F: Files, I: Source, O: Sink, E: Sink, L: Ledger>(
     // The headline: the status, the output and the line are those of the outcome; a line that
     // answers a query is that of a right reply, which is that of the run of the picked engine, on
     // the grid as the edits before it leave it.
-    ensures outcome { result ≤ 3 → Comes (map string_bytes words.now)
-        (seen (F.holds files.old) (F.faults files.old) (O.written out.old) (O.faults out.old))
-        (seen (F.holds files.new) (F.faults files.new) (O.written out.new) (O.faults out.new))
-        (I.left input.old) (stream (E.written err.old) (E.faults err.old))
-        (stream (E.written err.new) (E.faults err.new)) result }
+    ensures outcome { result ≤ 3 → Comes (map string_bytes words.now) (F.disk files.old).holds
+        (I.inflow input.old).left (O.outflow out.old) (O.outflow out.new) (E.outflow err.old) (E.outflow err.new) result }
     // A read fault has its cause: the count of a file rose that the words name and that there was
     // reason to read, as the files before it were accepted, and nothing was written; or that of an
     // input that the words ask for, and exactly the lines of its whole commands so far were.
-    ensures read { result ≡ 4 → HasFailed (map string_bytes words.now)
-        (seen (F.holds files.old) (F.faults files.old) (O.written out.old) (O.faults out.old))
-        (seen (F.holds files.new) (F.faults files.new) (O.written out.new) (O.faults out.new))
-        (incoming (I.left input.old) (I.faults input.old))
-        (incoming (I.left input.new) (I.faults input.new)) }
+    ensures read { result ≡ 4 → HasFailed (map string_bytes words.now) (F.disk files.old) (F.disk files.new)
+        (I.inflow input.old) (I.inflow input.new) (O.outflow out.old) (O.outflow out.new) }
     // A write fault has its cause, and a first part of a whole right output was written.
-    ensures write { result ≡ 5 → Rose (O.faults out.old) (O.faults out.new) }
-    ensures part { result ≡ 5 → HasPart (map string_bytes words.now)
-        (seen (F.holds files.old) (F.faults files.old) (O.written out.old) (O.faults out.old))
-        (seen (F.holds files.new) (F.faults files.new) (O.written out.new) (O.faults out.new))
-        (incoming (I.left input.old) (I.faults input.old))
-        (incoming (I.left input.new) (I.faults input.new)) }
-    // On want of memory the first lines of a whole right output were written, or nothing.
-    ensures memory { result ≡ 6 → HasLines (map string_bytes words.now)
-        (seen (F.holds files.old) (F.faults files.old) (O.written out.old) (O.faults out.old))
-        (seen (F.holds files.new) (F.faults files.new) (O.written out.new) (O.faults out.new))
-        (incoming (I.left input.old) (I.faults input.old))
-        (incoming (I.left input.new) (I.faults input.new)) }
-    ensures line { 4 ≤ result → Gets (stream (E.written err.old) (E.faults err.old))
-        (stream (E.written err.new) (E.faults err.new)) (ending_line result) }
+    ensures write { result ≡ 5 → Rose (O.outflow out.old).faults (O.outflow out.new).faults }
+    ensures part { result ≡ 5 → HasPart (map string_bytes words.now) (F.disk files.old).holds
+        (I.inflow input.old) (I.inflow input.new) (O.outflow out.old) (O.outflow out.new) }
+    // On want of memory the first lines of a right output were written, not all, or nothing.
+    ensures memory { result ≡ 6 → HasLines (map string_bytes words.now) (F.disk files.old).holds
+        (I.inflow input.old) (I.inflow input.new) (O.outflow out.old) (O.outflow out.new) }
+    ensures line { 4 ≤ result → Gets (E.outflow err.old) (E.outflow err.new) (ending_line result) }
     // Where no count rose, the status is an outcome's or that of want of memory.
-    ensures complete { ¬ NamedRose (map string_bytes words.now)
-        (seen (F.holds files.old) (F.faults files.old) (O.written out.old) (O.faults out.old))
-        (seen (F.holds files.new) (F.faults files.new) (O.written out.new) (O.faults out.new))
-        → ¬ InputRose (map string_bytes words.now)
-        (incoming (I.left input.old) (I.faults input.old))
-        (incoming (I.left input.new) (I.faults input.new))
-        → ¬ Rose (O.faults out.old) (O.faults out.new) → (result ≤ 3) ⊎ (result ≡ 6) }
-    ensures unchanged { F.holds files.new ≡ F.holds files.old }
+    ensures complete { ¬ NamedRose (map string_bytes words.now) (F.disk files.old) (F.disk files.new)
+        → ¬ InputRose (map string_bytes words.now) (I.inflow input.old) (I.inflow input.new)
+        → ¬ Rose (O.outflow out.old).faults (O.outflow out.new).faults → (result ≤ 3) ⊎ (result ≡ 6) }
+    ensures unchanged { (F.disk files.new).holds ≡ (F.disk files.old).holds }
     // A call of `query`, `solve`, `live`, `scen` or `drill` that comes to its end counts, for each
     // state that its searches took away from their goals, at least the fewest steps of its engine.
-    ensures counted { result ≤ 1 → RoseAsCalled (map string_bytes words.now) (F.holds files.old)
-        (I.left input.old) steps.old steps.new }
+    ensures counted { result ≤ 1 → RoseAsCalled (map string_bytes words.now) (F.disk files.old).holds
+        (I.inflow input.old).left steps.old steps.new }
     // Nothing is taken from an input that the words do not ask for.
-    ensures input_stays { ¬ ReadsInput (map string_bytes words.now) → I.left input.new ≡ I.left input.old }
+    ensures input_stays { ¬ ReadsInput (map string_bytes words.now)
+        → (I.inflow input.new).left ≡ (I.inflow input.old).left }
 {
     let (request, settings) = match read_words(words) {
         Ok(call) => call,
@@ -250,9 +233,9 @@ pub fn refuse<E: Sink>(alloc: Global, before: &[String], err: &mut E) -> u8
     ensures statuses { (result ≡ 2) ⊎ (result ≡ 6) }
     // The line names the first word with which no call begins; the word that is no text is none's.
     ensures word { result ≡ 2 → Names (map string_bytes before.now)
-        (stream (E.written err.old) (E.faults err.old)) (stream (E.written err.new) (E.faults err.new)) }
-    ensures memory { result ≡ 6 → Gets (stream (E.written err.old) (E.faults err.old))
-        (stream (E.written err.new) (E.faults err.new)) (ending_line 6) }
+        (E.outflow err.old) (E.outflow err.new) }
+    ensures memory { result ≡ 6 → Gets (E.outflow err.old)
+        (E.outflow err.new) (ending_line 6) }
 {
     refuse_word(alloc, first_bad(before), err)
 }

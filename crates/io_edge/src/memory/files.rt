@@ -50,9 +50,7 @@ impl MemFiles {
 }
 
 impl Files for MemFiles {
-    ghost holds = { λ store name. held_under store.files name };
-
-    ghost faults = { λ store _. store.pace.faults };
+    ghost disk = { λ store. record { holds = held_under store.files; faults = λ _. store.pace.faults } };
 
     fn read_at(&mut self, name: &str, place: u64, buf: &mut [u8]) -> Result<usize, Failed>
         requires some_room { 0 < length buf.old }

@@ -48,9 +48,7 @@ impl MemSource {
 }
 
 impl Source for MemSource {
-    ghost left = { λ source. Some source.left };
-
-    ghost faults = { λ source. source.pace.faults };
+    ghost inflow = { λ source. record { left = Some source.left; faults = source.pace.faults } };
 
     fn read(&mut self, buf: &mut [u8]) -> Result<usize, Failed>
         requires { 0 < length buf.old }

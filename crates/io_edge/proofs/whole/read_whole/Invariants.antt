@@ -9,9 +9,9 @@ invariant-loop-filled g l = record {
   below : l.filled ≤ l.most;
   inside : l.filled ≤ length l.bytes.items;
   within : length l.bytes.items ≤ l.most;
-  read : HasRead (g.F.Files.holds l.fn.files l.name) l.filled l.bytes.items;
-  unchanged : g.F.Files.holds l.files ≡ g.F.Files.holds l.fn.files;
-  later : NoneFell (g.F.Files.faults l.fn.files) (g.F.Files.faults l.files);
+  read : HasRead ((g.F.Files.disk l.fn.files).holds l.name) l.filled l.bytes.items;
+  unchanged : (g.F.Files.disk l.files).holds ≡ (g.F.Files.disk l.fn.files).holds;
+  later : NoneFell (g.F.Files.disk l.fn.files).faults (g.F.Files.disk l.files).faults;
 }
 
 abbrev pub decreases-loop-filled : goal.decreases-loop-filled

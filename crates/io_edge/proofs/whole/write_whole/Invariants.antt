@@ -5,8 +5,8 @@ use Rattle.io_edge.proofs.whole.write_whole.Given as goal
 abbrev pub invariant-loop-count : goal.invariant-loop-count
 invariant-loop-count g l = record {
   below : l.count ≤ length l.bytes;
-  front : Appends (g.S.Sink.written l.fn.sink) (g.S.Sink.written l.sink) (take l.count l.bytes);
-  later : g.S.Sink.faults l.fn.sink ≤ g.S.Sink.faults l.sink;
+  front : Appends (g.S.Sink.outflow l.fn.sink).written (g.S.Sink.outflow l.sink).written (take l.count l.bytes);
+  later : (g.S.Sink.outflow l.fn.sink).faults ≤ (g.S.Sink.outflow l.sink).faults;
 }
 
 abbrev pub decreases-loop-count : goal.decreases-loop-count

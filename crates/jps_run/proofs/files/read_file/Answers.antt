@@ -8,10 +8,10 @@ use Rattle.jps_run.proofs.files.read_file.Goals as goal
 
 pub returns-clause-read : goal.returns-clause-read
 returns-clause-read g c =
-    let held = g.F.Files.holds c.args.files.now c.args.name.now in
+    let held = (g.F.Files.disk c.args.files.now).holds c.args.name.now in
     file-read g.T.Text.spells g.T.Text.kind_of_text held c.in_ok-text.text.items
-    (g.F.Files.faults c.args.files.now c.args.name.now)
-    (g.F.Files.faults c.read_text.new.files c.args.name.now)
+    ((g.F.Files.disk c.args.files.now).faults c.args.name.now)
+    ((g.F.Files.disk c.read_text.new.files).faults c.args.name.now)
     c.of_text.result
     (subst (λ (kind : Kind). IsWhole held (limit_of kind) c.in_ok-text.text.items) c.kind.ensures
     c.in_ok-text.ensures.read)

@@ -1,55 +1,54 @@
 use Rattle.std.proofs.Common.{◌≡◌, ◌+◌, ◌-◌, ◌<◌, ◌≤◌, ◌∙◌, ap, subst, length, take, min, List, ℕ, arith}
 use Rattle.std.specs.Io.KnownBytes.{Consumes}
-use Rattle.jps_run.specs.Seen.{stream, incoming}
 use Rattle.jps_run.proofs.Incomings.{starved-first, hearing-begun, input-ended, piece-stopped, long-refused, long-starved, hearing-more}
 use Rattle.jps_run.proofs.Rising.{rising-begun, rising-more, rising-ended}
 use Rattle.jps_run.proofs.live.hear.Goals as goal
 
 pub returns-in_err-buffer-clause-heard : goal.returns-in_err-buffer-clause-heard
 returns-in_err-buffer-clause-heard g c =
-    starved-first c.args.job.now (incoming (g.I.Source.left c.args.input.now) (g.I.Source.faults c.args.input.now))
-    (stream (g.O.Sink.written c.args.out.now) (g.O.Sink.faults c.args.out.now)) c.from_residual.result
+    starved-first c.args.job.now (g.I.Source.inflow c.args.input.now)
+    (g.O.Sink.outflow c.args.out.now) c.from_residual.result
     c.from_residual.ensures.1
 
 pub pieces-init : goal.pieces-init
 pieces-init g c = record {
   hearing =
       hearing-begun c.args.job.now c.new-feeder.result
-      (incoming (g.I.Source.left c.args.input.now) (g.I.Source.faults c.args.input.now)) c.in_ok-buffer.buffer.items
-      (stream (g.O.Sink.written c.args.out.now) (g.O.Sink.faults c.args.out.now)) c.new-feeder.ensures.begun
+      (g.I.Source.inflow c.args.input.now) c.in_ok-buffer.buffer.items
+      (g.O.Sink.outflow c.args.out.now) c.new-feeder.ensures.begun
       c.new-feeder.ensures.nothing (omega (arith, c.in_ok-buffer.ensures));
-  rising = rising-begun c.args.job.now c.new-feeder.result (g.I.Source.left c.args.input.now) c.args.steps.now
+  rising = rising-begun c.args.job.now c.new-feeder.result (g.I.Source.inflow c.args.input.now).left c.args.steps.now
       c.new-feeder.ensures.begun c.new-feeder.ensures.nothing;
 }
 
 pub returns-in-Ok-eq0-clause-heard : goal.returns-in-Ok-eq0-clause-heard
 returns-in-Ok-eq0-clause-heard g c =
     input-ended c.args.job.now c.pieces.job c.pieces.feeder
-    (incoming (g.I.Source.left c.args.input.now) (g.I.Source.faults c.args.input.now))
-    (incoming (g.I.Source.left c.pieces.input) (g.I.Source.faults c.pieces.input))
-    (incoming (g.I.Source.left c.read_into.new.input) (g.I.Source.faults c.read_into.new.input))
+    (g.I.Source.inflow c.args.input.now)
+    (g.I.Source.inflow c.pieces.input)
+    (g.I.Source.inflow c.read_into.new.input)
     c.pieces.buffer.items
-    (stream (g.O.Sink.written c.args.out.now) (g.O.Sink.faults c.args.out.now))
-    (stream (g.O.Sink.written c.pieces.out) (g.O.Sink.faults c.pieces.out)) c.pieces.invariant.hearing
+    (g.O.Sink.outflow c.args.out.now)
+    (g.O.Sink.outflow c.pieces.out) c.pieces.invariant.hearing
     c.read_into.new.buffer.items
-    (subst (λ n. Consumes (g.I.Source.left c.pieces.input) (g.I.Source.left c.read_into.new.input)
+    (subst (λ n. Consumes (g.I.Source.inflow c.pieces.input).left (g.I.Source.inflow c.read_into.new.input).left
     (take n c.read_into.new.buffer.items)) c.in-Ok-eq0.field-0-test c.in-Ok-eq0.ensures.bytes.0)
     (c.in-Ok-eq0.ensures.bytes.1 c.in-Ok-eq0.field-0-test
     (let k : length c.read_into.new.buffer.items ≡ length c.pieces.buffer.items = c.in-Ok-eq0.ensures.kept in
     let r : 0 < length c.pieces.buffer.items = c.pieces.invariant.hearing.room in omega arith))
-    c.hear_end.new.job (stream (g.O.Sink.written c.hear_end.new.out) (g.O.Sink.faults c.hear_end.new.out))
+    c.hear_end.new.job (g.O.Sink.outflow c.hear_end.new.out)
     c.hear_end.result c.hear_end.ensures.ended
 
 pub returns-in_err-hear_piece-in-Ok-clause-heard : goal.returns-in_err-hear_piece-in-Ok-clause-heard
 returns-in_err-hear_piece-in-Ok-clause-heard g c =
     piece-stopped
     c.args.job.now c.pieces.job c.pieces.feeder
-    (incoming (g.I.Source.left c.args.input.now) (g.I.Source.faults c.args.input.now))
-    (incoming (g.I.Source.left c.pieces.input) (g.I.Source.faults c.pieces.input))
-    (incoming (g.I.Source.left c.read_into.new.input) (g.I.Source.faults c.read_into.new.input))
+    (g.I.Source.inflow c.args.input.now)
+    (g.I.Source.inflow c.pieces.input)
+    (g.I.Source.inflow c.read_into.new.input)
     c.pieces.buffer.items
-    (stream (g.O.Sink.written c.args.out.now) (g.O.Sink.faults c.args.out.now))
-    (stream (g.O.Sink.written c.pieces.out) (g.O.Sink.faults c.pieces.out)) c.pieces.invariant.hearing
+    (g.O.Sink.outflow c.args.out.now)
+    (g.O.Sink.outflow c.pieces.out) c.pieces.invariant.hearing
     c.in-Ok.count (67108864 - c.taken.result) c.read_into.new.buffer.items (take c.min.result c.deref.result.now)
     c.in-Ok.ensures.bytes.0
     (let t : c.taken.result ≡ c.pieces.feeder.taken = c.taken.ensures.count in
@@ -58,22 +57,22 @@ returns-in_err-hear_piece-in-Ok-clause-heard g c =
     (ap (λ n. take n c.deref.result.now) c.min.ensures
     ∙ ap (λ (l : List ℕ). take (min c.in-Ok.count (67108864 - c.taken.result)) l) c.deref.ensures.value)
     c.hear_piece.new.job
-    (stream (g.O.Sink.written c.hear_piece.new.out) (g.O.Sink.faults c.hear_piece.new.out))
+    (g.O.Sink.outflow c.hear_piece.new.out)
     c.from_residual-in_err-hear_piece-in-Ok.result c.in_err-hear_piece-in-Ok.field-0.0
     (c.in_err-hear_piece-in-Ok.ensures.heard c.args.job.now c.pieces.invariant.hearing.text
-    (stream (g.O.Sink.written c.args.out.now) (g.O.Sink.faults c.args.out.now)) c.pieces.invariant.hearing.heard)
+    (g.O.Sink.outflow c.args.out.now) c.pieces.invariant.hearing.heard)
     c.from_residual-in_err-hear_piece-in-Ok.ensures.1
 
 pub returns-in_err-long_line-in-Ok-clause-heard : goal.returns-in_err-long_line-in-Ok-clause-heard
 returns-in_err-long_line-in-Ok-clause-heard g c =
     long-starved
     c.args.job.now c.pieces.job c.pieces.feeder
-    (incoming (g.I.Source.left c.args.input.now) (g.I.Source.faults c.args.input.now))
-    (incoming (g.I.Source.left c.pieces.input) (g.I.Source.faults c.pieces.input))
-    (incoming (g.I.Source.left c.read_into.new.input) (g.I.Source.faults c.read_into.new.input))
+    (g.I.Source.inflow c.args.input.now)
+    (g.I.Source.inflow c.pieces.input)
+    (g.I.Source.inflow c.read_into.new.input)
     c.pieces.buffer.items
-    (stream (g.O.Sink.written c.args.out.now) (g.O.Sink.faults c.args.out.now))
-    (stream (g.O.Sink.written c.pieces.out) (g.O.Sink.faults c.pieces.out)) c.pieces.invariant.hearing
+    (g.O.Sink.outflow c.args.out.now)
+    (g.O.Sink.outflow c.pieces.out) c.pieces.invariant.hearing
     c.in-Ok.count (67108864 - c.taken.result) c.read_into.new.buffer.items (take c.min.result c.deref.result.now)
     c.in-Ok.ensures.bytes.0
     (let t : c.taken.result ≡ c.pieces.feeder.taken = c.taken.ensures.count in
@@ -82,21 +81,21 @@ returns-in_err-long_line-in-Ok-clause-heard g c =
     (ap (λ n. take n c.deref.result.now) c.min.ensures
     ∙ ap (λ (l : List ℕ). take (min c.in-Ok.count (67108864 - c.taken.result)) l) c.deref.ensures.value)
     c.hear_piece.new.job c.hear_piece.new.feeder
-    (stream (g.O.Sink.written c.hear_piece.new.out) (g.O.Sink.faults c.hear_piece.new.out))
+    (g.O.Sink.outflow c.hear_piece.new.out)
     (c.in_ok-hear_piece-in-Ok.ensures.heard c.args.job.now c.pieces.invariant.hearing.text
-    (stream (g.O.Sink.written c.args.out.now) (g.O.Sink.faults c.args.out.now)) c.pieces.invariant.hearing.heard)
+    (g.O.Sink.outflow c.args.out.now) c.pieces.invariant.hearing.heard)
     c.from_residual-in_err-long_line-in-Ok.result c.from_residual-in_err-long_line-in-Ok.ensures.1
 
 pub returns-then-room-count-clause-heard : goal.returns-then-room-count-clause-heard
 returns-then-room-count-clause-heard g c =
     long-refused
     c.args.job.now c.pieces.job c.pieces.feeder
-    (incoming (g.I.Source.left c.args.input.now) (g.I.Source.faults c.args.input.now))
-    (incoming (g.I.Source.left c.pieces.input) (g.I.Source.faults c.pieces.input))
-    (incoming (g.I.Source.left c.read_into.new.input) (g.I.Source.faults c.read_into.new.input))
+    (g.I.Source.inflow c.args.input.now)
+    (g.I.Source.inflow c.pieces.input)
+    (g.I.Source.inflow c.read_into.new.input)
     c.pieces.buffer.items
-    (stream (g.O.Sink.written c.args.out.now) (g.O.Sink.faults c.args.out.now))
-    (stream (g.O.Sink.written c.pieces.out) (g.O.Sink.faults c.pieces.out)) c.pieces.invariant.hearing
+    (g.O.Sink.outflow c.args.out.now)
+    (g.O.Sink.outflow c.pieces.out) c.pieces.invariant.hearing
     c.in-Ok.count (67108864 - c.taken.result) c.read_into.new.buffer.items (take c.min.result c.deref.result.now)
     c.in-Ok.ensures.bytes.0
     (let t : c.taken.result ≡ c.pieces.feeder.taken = c.taken.ensures.count in
@@ -105,9 +104,9 @@ returns-then-room-count-clause-heard g c =
     (ap (λ n. take n c.deref.result.now) c.min.ensures
     ∙ ap (λ (l : List ℕ). take (min c.in-Ok.count (67108864 - c.taken.result)) l) c.deref.ensures.value)
     c.hear_piece.new.job c.hear_piece.new.feeder
-    (stream (g.O.Sink.written c.hear_piece.new.out) (g.O.Sink.faults c.hear_piece.new.out))
+    (g.O.Sink.outflow c.hear_piece.new.out)
     (c.in_ok-hear_piece-in-Ok.ensures.heard c.args.job.now c.pieces.invariant.hearing.text
-    (stream (g.O.Sink.written c.args.out.now) (g.O.Sink.faults c.args.out.now)) c.pieces.invariant.hearing.heard)
+    (g.O.Sink.outflow c.args.out.now) c.pieces.invariant.hearing.heard)
     c.in_ok-long_line-in-Ok.field-0.items c.if-room-count.true c.in-Ok.ensures.bound c.in_ok-long_line-in-Ok.ensures
 
 pub pieces-preserved : goal.pieces-preserved
@@ -115,12 +114,12 @@ pieces-preserved g c = record {
   hearing =
       hearing-more
       c.args.job.now c.pieces.job c.pieces.feeder
-      (incoming (g.I.Source.left c.args.input.now) (g.I.Source.faults c.args.input.now))
-      (incoming (g.I.Source.left c.pieces.input) (g.I.Source.faults c.pieces.input))
-      (incoming (g.I.Source.left c.read_into.new.input) (g.I.Source.faults c.read_into.new.input))
+      (g.I.Source.inflow c.args.input.now)
+      (g.I.Source.inflow c.pieces.input)
+      (g.I.Source.inflow c.read_into.new.input)
       c.pieces.buffer.items
-      (stream (g.O.Sink.written c.args.out.now) (g.O.Sink.faults c.args.out.now))
-      (stream (g.O.Sink.written c.pieces.out) (g.O.Sink.faults c.pieces.out)) c.pieces.invariant.hearing
+      (g.O.Sink.outflow c.args.out.now)
+      (g.O.Sink.outflow c.pieces.out) c.pieces.invariant.hearing
       c.in-Ok.count (67108864 - c.taken.result) c.read_into.new.buffer.items (take c.min.result c.deref.result.now)
       c.in-Ok.ensures.bytes.0
       (let t : c.taken.result ≡ c.pieces.feeder.taken = c.taken.ensures.count in
@@ -129,15 +128,15 @@ pieces-preserved g c = record {
       (ap (λ n. take n c.deref.result.now) c.min.ensures
       ∙ ap (λ (l : List ℕ). take (min c.in-Ok.count (67108864 - c.taken.result)) l) c.deref.ensures.value)
       c.hear_piece.new.job c.hear_piece.new.feeder
-      (stream (g.O.Sink.written c.hear_piece.new.out) (g.O.Sink.faults c.hear_piece.new.out))
+      (g.O.Sink.outflow c.hear_piece.new.out)
       (c.in_ok-hear_piece-in-Ok.ensures.heard c.args.job.now c.pieces.invariant.hearing.text
-      (stream (g.O.Sink.written c.args.out.now) (g.O.Sink.faults c.args.out.now)) c.pieces.invariant.hearing.heard)
+      (g.O.Sink.outflow c.args.out.now) c.pieces.invariant.hearing.heard)
       c.if-room-count.false c.in-Ok.ensures.bound c.in_ok-hear_piece-in-Ok.ensures.counted
       c.in-Ok.ensures.cause.later c.read_into.new.buffer.items
       (let k : length c.read_into.new.buffer.items ≡ length c.pieces.buffer.items = c.in-Ok.ensures.kept in
       let r : 0 < length c.pieces.buffer.items = c.pieces.invariant.hearing.room in omega arith);
   rising = rising-more c.args.job.now c.pieces.job c.hear_piece.new.job c.pieces.feeder
-      (g.I.Source.left c.args.input.now) (g.I.Source.left c.pieces.input) (g.I.Source.left c.read_into.new.input)
+      (g.I.Source.inflow c.args.input.now).left (g.I.Source.inflow c.pieces.input).left (g.I.Source.inflow c.read_into.new.input).left
       c.args.steps.now c.pieces.steps c.hear_piece.new.steps c.pieces.invariant.rising c.hear_piece.new.feeder
       c.in-Ok.count (67108864 - c.taken.result) c.read_into.new.buffer.items (take c.min.result c.deref.result.now)
       c.in-Ok.ensures.bytes.0
@@ -148,10 +147,10 @@ pieces-preserved g c = record {
 
 pub returns-in-Ok-eq0-clause-rose : goal.returns-in-Ok-eq0-clause-rose
 returns-in-Ok-eq0-clause-rose g c =
-    rising-ended c.args.job.now c.pieces.job c.hear_end.new.job c.pieces.feeder (g.I.Source.left c.args.input.now)
-    (g.I.Source.left c.pieces.input) (g.I.Source.left c.read_into.new.input) c.args.steps.now c.pieces.steps
+    rising-ended c.args.job.now c.pieces.job c.hear_end.new.job c.pieces.feeder (g.I.Source.inflow c.args.input.now).left
+    (g.I.Source.inflow c.pieces.input).left (g.I.Source.inflow c.read_into.new.input).left c.args.steps.now c.pieces.steps
     c.hear_end.new.steps c.pieces.invariant.rising c.read_into.new.buffer.items
-    (subst (λ n. Consumes (g.I.Source.left c.pieces.input) (g.I.Source.left c.read_into.new.input)
+    (subst (λ n. Consumes (g.I.Source.inflow c.pieces.input).left (g.I.Source.inflow c.read_into.new.input).left
     (take n c.read_into.new.buffer.items)) c.in-Ok-eq0.field-0-test c.in-Ok-eq0.ensures.bytes.0)
     (c.in-Ok-eq0.ensures.bytes.1 c.in-Ok-eq0.field-0-test
     (let k : length c.read_into.new.buffer.items ≡ length c.pieces.buffer.items = c.in-Ok-eq0.ensures.kept in

@@ -1,16 +1,18 @@
-use Rattle.std.proofs.Common.{sym, subst}
-use Rattle.std.specs.Prelude.{OnOk}
 use Rattle.word_list.specs.Request.{called}
-use Rattle.word_list.specs.declared.request.Request.{Request}
-use Rattle.jps_run.specs.Counting.{RoseForCall, heard, read}
+use Rattle.jps_run.specs.Counting.{RoseHeard, heard}
 use Rattle.jps_run.proofs.Counts.{on_ok}
+use Rattle.jps_run.proofs.Serving.{on-live, work-counted}
 use Rattle.jps_run.proofs.top.serve.Goals as goal
 
-pub returns-in-Live-clause-counted : goal.returns-in-Live-clause-counted
-returns-in-Live-clause-counted g c =
-    subst (λ (r : Request). OnOk c.live.result (RoseForCall (called r c.args.settings)
-    (g.F.Files.holds c.args.files.now) (g.I.Source.left c.args.input.now) c.args.steps.now c.live.new.steps))
-    (sym c.in-Live.is) (on_ok c.live.result (λ rose. heard rose) c.live.ensures.counted)
+pub returns-in-Work-clause-counted : goal.returns-in-Work-clause-counted
+returns-in-Work-clause-counted g c = on_ok c.perform.result (λ rose.
+    work-counted (called c.args.request c.args.settings) (g.F.Files.disk c.args.files.now).holds c.in-Work.work
+    (g.I.Source.inflow c.args.input.now).left c.args.steps.now c.perform.new.steps c.in-Work.ensures.opened rose)
+    c.perform.ensures.counted
 
-pub returns-in_default-clause-counted : goal.returns-in_default-clause-counted
-returns-in_default-clause-counted g c = on_ok c.work.result (λ rose. read rose) c.work.ensures.counted
+pub returns-in-Listener-clause-counted : goal.returns-in-Listener-clause-counted
+returns-in-Listener-clause-counted g c = on_ok c.hear.result (λ rose.
+    heard (on-live (called c.args.request c.args.settings) (g.F.Files.disk c.args.files.now).holds c.in-Listener.job
+    c.in-Listener.ensures.opened
+    (λ d show. RoseHeard d (g.I.Source.inflow c.args.input.now).left c.args.steps.now c.hear.new.steps) rose))
+    c.hear.ensures.rose

@@ -1,0 +1,93 @@
+-- What a call is opened as: the work that is left to be done once its files are read. No public clause cites this module.
+use Rattle.std.specs.Prelude.{◌≡◌, ℕ, ◌≤◌, ◌^◌, ◌⊎◌, true, false, ⊤, List, [], length, Result}
+use Rattle.io_edge.specs.Causes.{Rose}
+use Rattle.io_edge.specs.Told.{Disk, Held}
+use Rattle.word_list.specs.Request.{Call}
+use Rattle.jps_run.specs.Answering.{IsSolved}
+use Rattle.jps_run.specs.Counting.{CommandsTake, EntriesTake, RoseBy, RoseFor, searches}
+use Rattle.jps_run.specs.Drilling.{IsDrilled, sums_of}
+use Rattle.jps_run.specs.Files.{AreAccepted, File, FileRose, HasRefused}
+use Rattle.jps_run.specs.Heard.{OnLive}
+use Rattle.jps_run.specs.Judging.{IsJudged}
+use Rattle.jps_run.specs.Outcome.{IsAnswered, files_of, reads_input}
+use Rattle.jps_run.specs.Reading.{AreKept}
+use Rattle.jps_run.specs.Sending.{IsText}
+use Rattle.jps_run.specs.Stops.{Stops, Ends}
+use Rattle.jps_run.specs.Tally.{tally_of}
+use Rattle.jps_run.specs.declared.answers.Answers.{Answers}
+use Rattle.jps_run.specs.declared.stop.Stop.{Stop}
+use Rattle.jps_run.specs.declared.work.Opened.{Opened}
+use Rattle.jps_run.specs.declared.work.Opened.TheVariants as opened
+use Rattle.jps_run.specs.declared.work.Work.{Work}
+use Rattle.jps_run.specs.declared.work.Work.TheVariants as work
+
+-- the whole output of the work, and the status
+abbrev pub IsWhole : Work → List (List ℕ) → ℕ → Type 0
+IsWhole (work.Answer job commands) = IsSolved job commands.items
+IsWhole (work.Judge session entries) = IsJudged (record { session = session; tally = tally_of [] }) entries.items
+IsWhole (work.Drill session commands) = IsDrilled (record { session = session; sums = sums_of [] }) commands.items
+IsWhole (work.Print text status) = IsText text.items status
+IsWhole (work.Say text) = IsText text.now 0
+
+-- the counter rose as the searches of the work make it
+abbrev pub HasRisen : Work → ℕ → ℕ → Type 0
+HasRisen (work.Answer job commands) old new = RoseBy job.session (CommandsTake job.session commands.items) old new
+HasRisen (work.Judge session entries) old new = RoseBy session (EntriesTake session entries.items) old new
+HasRisen (work.Drill session commands) old new = RoseBy session (CommandsTake session commands.items) old new
+HasRisen (work.Print text status) old new = ⊤
+HasRisen (work.Say text) old new = ⊤
+
+-- the work can be done: the lengths of entries can be judged, and the sums of a drill have room
+abbrev pub CanPerform : Work → Type 0
+CanPerform (work.Answer job commands) = ⊤
+CanPerform (work.Judge session entries) = AreKept entries.items
+CanPerform (work.Drill session commands) = length commands.items ≤ 2 ^ 32
+CanPerform (work.Print text status) = ⊤
+CanPerform (work.Say text) = ⊤
+
+-- nothing is searched for the call, or the counter rose as the searches on the texts of its files make it
+abbrev pub IsCounted : Call → List (List ℕ) → ℕ → ℕ → Type 0
+IsCounted call texts old new = (searches call.request ≡ false) ⊎ RoseFor call texts old new
+
+-- the work is that of a call on the texts of its files: what it prints is a right answer
+pub record IsWorkOf (call : Call) (texts : List (List ℕ)) (work : Work) : Type 0 where
+  pub can : CanPerform work
+  pub right : (lines : List (List ℕ)) (status : ℕ) → IsWhole work lines status
+      → (status ≤ 1) × IsAnswered call texts lines status
+  pub counted : (old new : ℕ) → HasRisen work old new → IsCounted call texts old new
+
+-- so it is, and the files hold these texts
+pub record IsWorkOn (call : Call) (holds : List ℕ → Held) (work : Work) : Type 0 where
+  pub texts : List (List ℕ)
+  pub accepted : AreAccepted holds [] (files_of call.request) texts
+  pub is : IsWorkOf call texts work
+
+-- a session that answers what comes in, as the call asks
+pub record IsListener (call : Call) (holds : List ℕ → Held) (job : Answers) : Type 0 where
+  pub reads : reads_input call.request ≡ true
+  pub on : OnLive call holds (λ d show. (job.session ≡ d) × (job.show ≡ show))
+
+-- the call was opened as this
+abbrev pub IsOpenedAs : Call → (List ℕ → Held) → Opened → Type 0
+IsOpenedAs call holds (opened.Work work) = IsWorkOn call holds work
+IsOpenedAs call holds (opened.Listener job) = IsListener call holds job
+
+-- what is known where the reading of these files stops: the first refused one, or the count of one that there was reason
+-- to read
+abbrev pub open_stops : Disk → Disk → List File → Stops
+open_stops disk disk_now files = record {
+  Refused = HasRefused disk.holds files;
+  Read = FileRose files disk disk_now;
+  Write = ⊥;
+  Memory = ⊤;
+}
+
+-- work was opened for the call, or that stopped
+abbrev pub OpensWork : Call → Disk → Disk → Result Work Stop → Type 0
+OpensWork call disk disk_now result =
+    Ends (IsWorkOn call disk.holds) (open_stops disk disk_now (files_of call.request)) result
+
+-- the call was opened, or that stopped
+abbrev pub Opens : Call → Disk → Disk → Result Opened Stop → Type 0
+Opens call disk disk_now result =
+    Ends (IsOpenedAs call disk.holds) (open_stops disk disk_now (files_of call.request)) result

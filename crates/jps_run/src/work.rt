@@ -1,0 +1,83 @@
+//! What a call is opened as, and the one place that performs it.
+//!
+//! A command reads its files and makes a value: work on what was read, or a session that answers
+//! what comes in. It promises that the output of that work answers the call. How outputs are
+//! written, and what stands where a write fails or memory is refused, is known here alone.
+
+ghost use Rattle.std.specs.Prelude.{OnOk};
+ghost use Rattle.jps_run.specs.Opened.{CanPerform, HasRisen, IsWhole};
+ghost use Rattle.jps_run.specs.Sending.{SendsWhole};
+
+use crate::answers::{Answers, write_answers};
+use crate::drill::write_sums;
+use crate::scenario::write_rows;
+use crate::sending::send_text;
+use crate::stop::Stop;
+use edit_replay::Session;
+use io_edge::Sink;
+use scen_text::Entry;
+use script_text::Command;
+use std::alloc::Global;
+use std::sync::ledger::Ledger;
+use steps::Steps;
+
+/// Work whose output is settled by what was read.
+#[derive(Drop)]
+pub(crate) enum Work {
+    /// The session answers the commands, a line each.
+    Answer {
+        job: Answers,
+        commands: Vec<Command>,
+    },
+    /// The session judges the entries of a scenario, a row each, and their sum.
+    Judge {
+        session: Session,
+        entries: Vec<Entry>,
+    },
+    /// What the commands come to is summed up in one line.
+    Drill {
+        session: Session,
+        commands: Vec<Command>,
+    },
+    /// A text that was made whole, and the status.
+    Print {
+        text: Vec<u8>,
+        status: u8,
+    },
+    /// A text of the program's own, with status 0.
+    Say(&'static [u8]),
+}
+
+/// A call whose files are read.
+#[derive(Drop)]
+pub(crate) enum Opened {
+    Work(Work),
+    /// A session that answers what comes in.
+    Listener(Answers),
+}
+
+/// Does the work, and gives the status.
+pub(crate) fn perform<O: Sink, L: Ledger>(
+    alloc: Global,
+    work: Work,
+    out: &mut O,
+    steps: &mut Steps<L>,
+) -> Result<u8, Stop>
+    requires { CanPerform work }
+    ensures sent { SendsWhole (IsWhole work) (O.outflow out.old) (O.outflow out.new) result }
+    ensures counted { OnOk result (HasRisen work steps.old steps.new) }
+{
+    match work {
+        Work::Answer { mut job, commands } => {
+            write_answers(alloc, &mut job, commands.as_slice(), out, steps)
+        }
+        Work::Judge { session, entries } => {
+            write_rows(alloc, session, entries.as_slice(), out, steps)
+        }
+        Work::Drill { session, commands } => {
+            write_sums(alloc, session, commands.as_slice(), out, steps)
+        }
+        Work::Print { text, status } => send_text(out, text.as_slice(), status),
+        Work::Say(text) => send_text(out, text, 0),
+    }
+}
