@@ -15,72 +15,72 @@ use Rattle.jps_run.specs.Sending.{IsAll, IsPart, AreLines, Wrote}
 use Rattle.jps_run.proofs.Pieces.{nothing}
 
 module _ (words : List (List ℕ)) (holds : List ℕ → Held) (input : Option (List ℕ)) (out out_now err err_now : Outflow)
-    where
-  -- the words are refused
-  pub word-comes : (number status : ℕ) → IsBadWord is_call words number → (status ≡ 2) ⊎ (status ≡ 6)
-      → (status ≡ 2 → Gets err err_now (word_line number)) → status ≤ 3
-      → Comes words holds input out out err err_now status
-  word-comes number status bad (inl two) told few = record {
-    outcome = record { status = 2; out = []; line = word_line number };
-    is = bad_word number bad;
-    same_status = sym two;
-    wrote = nothing out.written;
-    told = told two;
-  }
-  word-comes number status bad (inr six) told few = absurd (omega arith)
+  where
+    -- the words are refused
+    pub word-comes : (number status : ℕ) → IsBadWord is_call words number → (status ≡ 2) ⊎ (status ≡ 6)
+        → (status ≡ 2 → Gets err err_now (word_line number)) → status ≤ 3
+        → Comes words holds input out out err err_now status
+    word-comes number status bad (inl two) told few = record {
+      outcome = record { status = 2; out = []; line = word_line number };
+      is = bad_word number bad;
+      same_status = sym two;
+      wrote = nothing out.written;
+      told = told two;
+    }
+    word-comes number status bad (inr six) told few = absurd (omega arith)
 
-  heard-by : (call : Call) {refusal : Option (List ℕ)} → (h : WroteHeard call holds out out_now input refusal)
-      → AreHeard call holds input h.known.lines refusal
-  heard-by call h = record {
-    map = h.map;
-    settings = h.settings;
-    is = h.is;
-    text = h.text;
-    accepted = h.accepted;
-    read = h.read;
-    spelled = h.spelled;
-    known = h.known.stand;
-  }
+    heard-by : (call : Call) {refusal : Option (List ℕ)} → (h : WroteHeard call holds out out_now input refusal)
+        → AreHeard call holds input h.known.lines refusal
+    heard-by call h = record {
+      map = h.map;
+      settings = h.settings;
+      is = h.is;
+      text = h.text;
+      accepted = h.accepted;
+      read = h.read;
+      spelled = h.spelled;
+      known = h.known.stand;
+    }
 
-  -- the call was done
-  pub call-comes : (call : Call) (status : ℕ) → Spell words call
-      → IsAll (IsOutput call holds) out out_now status
-      ⊎ ((status ≡ 0) × WroteHeard call holds out out_now input None) → Gets err err_now []
-      → Comes words holds input out out_now err err_now status
-  call-comes call status spelled (inl a) told = record {
-    outcome = record { status = status; out = a.lines; line = [] };
-    is = done call a.lines status spelled a.whole;
-    same_status = refl;
-    wrote = a.wrote;
-    told = told;
-  }
-  call-comes call status spelled (inr h) told = record {
-    outcome = record { status = 0; out = h.1.known.lines; line = [] };
-    is = answered call h.1.known.lines spelled (heard-by call h.1);
-    same_status = sym h.0;
-    wrote = h.1.known.wrote;
-    told = told;
-  }
+    -- the call was done
+    pub call-comes : (call : Call) (status : ℕ) → Spell words call
+        → IsAll (IsOutput call holds) out out_now status
+        ⊎ ((status ≡ 0) × WroteHeard call holds out out_now input None) → Gets err err_now []
+        → Comes words holds input out out_now err err_now status
+    call-comes call status spelled (inl a) told = record {
+      outcome = record { status = status; out = a.lines; line = [] };
+      is = done call a.lines status spelled a.whole;
+      same_status = refl;
+      wrote = a.wrote;
+      told = told;
+    }
+    call-comes call status spelled (inr h) told = record {
+      outcome = record { status = 0; out = h.1.known.lines; line = [] };
+      is = answered call h.1.known.lines spelled (heard-by call h.1);
+      same_status = sym h.0;
+      wrote = h.1.known.wrote;
+      told = told;
+    }
 
-  -- a text is refused, or what comes in
-  pub text-comes : (call : Call) (line bytes : List ℕ) → Spell words call
-      → (HasRefused holds (files_of call.request) line × Wrote out out_now [])
-      ⊎ WroteHeard call holds out out_now input (Some line) → bytes ≡ line
-      → Gets err err_now bytes → Comes words holds input out out_now err err_now 3
-  text-comes call line bytes spelled (inl r) e told = record {
-    outcome = record { status = 3; out = []; line = line };
-    is = bad_text call line spelled r.0;
-    same_status = refl;
-    wrote = r.1;
-    told = subst (λ (l : List ℕ). Gets err err_now l) e told;
-  }
-  text-comes call line bytes spelled (inr h) e told = record {
-    outcome = record { status = 3; out = h.known.lines; line = line };
-    is = bad_line call h.known.lines line spelled (heard-by call h);
-    same_status = refl;
-    wrote = h.known.wrote;
-    told = subst (λ (l : List ℕ). Gets err err_now l) e told;
-  }
+    -- a text is refused, or what comes in
+    pub text-comes : (call : Call) (line bytes : List ℕ) → Spell words call
+        → (HasRefused holds (files_of call.request) line × Wrote out out_now [])
+        ⊎ WroteHeard call holds out out_now input (Some line) → bytes ≡ line
+        → Gets err err_now bytes → Comes words holds input out out_now err err_now 3
+    text-comes call line bytes spelled (inl r) e told = record {
+      outcome = record { status = 3; out = []; line = line };
+      is = bad_text call line spelled r.0;
+      same_status = refl;
+      wrote = r.1;
+      told = subst (λ (l : List ℕ). Gets err err_now l) e told;
+    }
+    text-comes call line bytes spelled (inr h) e told = record {
+      outcome = record { status = 3; out = h.known.lines; line = line };
+      is = bad_line call h.known.lines line spelled (heard-by call h);
+      same_status = refl;
+      wrote = h.known.wrote;
+      told = subst (λ (l : List ℕ). Gets err err_now l) e told;
+    }
 
 module _ (words : List (List ℕ)) (disk disk_now : Disk) (input input_now : Inflow) (out out_now : Outflow)
     (call : Call) (spelled : Spell words call) where

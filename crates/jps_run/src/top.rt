@@ -107,7 +107,8 @@ fn serve<F: Files, I: Source, O: Sink, L: Ledger>(
     ensures input_stays { reads_input (asked request.entry) ≡ false
         → (I.inflow input.new).left ≡ (I.inflow input.old).left }
 {
-    match open(alloc, request, settings, files)? {
+    let opened = open(alloc, request, settings, files)?;
+    match opened {
         Opened::Work(work) => perform(alloc, work, out, steps),
         Opened::Listener(mut job) => hear(alloc, &mut job, input, out, steps),
     }

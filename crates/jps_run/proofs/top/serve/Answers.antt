@@ -1,4 +1,7 @@
+use Rattle.std.proofs.Common.{subst}
 use Rattle.word_list.specs.Request.{called}
+use Rattle.jps_run.specs.Opened.{IsOpenedAs}
+use Rattle.jps_run.specs.declared.work.Opened.{Opened}
 use Rattle.jps_run.specs.Counting.{RoseHeard, heard}
 use Rattle.jps_run.proofs.Counts.{on_ok}
 use Rattle.jps_run.proofs.Serving.{on-live, work-counted}
@@ -7,12 +10,14 @@ use Rattle.jps_run.proofs.top.serve.Goals as goal
 pub returns-in-Work-clause-counted : goal.returns-in-Work-clause-counted
 returns-in-Work-clause-counted g c = on_ok c.perform.result (λ rose.
     work-counted (called c.args.request c.args.settings) (g.F.Files.disk c.args.files.now).holds c.in-Work.work
-    (g.I.Source.inflow c.args.input.now).left c.args.steps.now c.perform.new.steps c.in-Work.ensures.opened rose)
+    (g.I.Source.inflow c.args.input.now).left c.args.steps.now c.perform.new.steps (subst (λ (o : Opened). IsOpenedAs (called c.args.request c.args.settings) (g.F.Files.disk c.args.files.now).holds o)
+    c.in-Work.is c.in_ok-opened.ensures.opened) rose)
     c.perform.ensures.counted
 
 pub returns-in-Listener-clause-counted : goal.returns-in-Listener-clause-counted
 returns-in-Listener-clause-counted g c = on_ok c.hear.result (λ rose.
     heard (on-live (called c.args.request c.args.settings) (g.F.Files.disk c.args.files.now).holds c.in-Listener.job
-    c.in-Listener.ensures.opened
+    (subst (λ (o : Opened). IsOpenedAs (called c.args.request c.args.settings) (g.F.Files.disk c.args.files.now).holds o)
+    c.in-Listener.is c.in_ok-opened.ensures.opened)
     (λ d show. RoseHeard d (g.I.Source.inflow c.args.input.now).left c.args.steps.now c.hear.new.steps) rose))
     c.hear.ensures.rose
