@@ -37,9 +37,13 @@ abbrev pub points_text : List Cell → List ℕ
 points_text [] = []
 points_text (first ∷ points) = point_text first ++ texts_of next_point points
 
--- `Mx yhn`: a stroke over a run of cells of this row
+-- `Mx yhn`: a stroke over a run of cells of the row whose number is written so
+abbrev pub stroke_over : List ℕ → Run → List ℕ
+stroke_over row run = codes "M" ++ decimal run.from ++ codes " " ++ row ++ codes "h" ++ decimal run.long
+
+-- the same for the row of this number
 abbrev pub stroke_text : ℕ → Run → List ℕ
-stroke_text y run = codes "M" ++ decimal run.from ++ codes " " ++ decimal y ++ codes "h" ++ decimal run.long
+stroke_text y run = stroke_over (decimal y) run
 
 -- the strokes over the longest runs of the ground's cells in the row of this number
 abbrev pub row_strokes : Ground → ℕ → List ℕ → List ℕ

@@ -1,8 +1,8 @@
 -- The strokes that are written as a row is passed over.
 use Rattle.std.specs.Prelude.{ℕ, zero, suc, ◌-◌, List, []}
-use Rattle.picture.specs.Picture.{stroke_text}
+use Rattle.picture.specs.Picture.{stroke_over}
 
--- the stroke of so many cells that end before a column, if there are any
-abbrev pub run_before : ℕ → ℕ → ℕ → List ℕ
-run_before y end zero = []
-run_before y end (suc more) = stroke_text y (record { from = end - suc more; long = suc more })
+-- the stroke of so many cells that end before a column, if there are any, in the row whose number is written so
+abbrev pub run_before : List ℕ → ℕ → ℕ → List ℕ
+run_before number end zero = []
+run_before number end (suc more) = stroke_over number (record { from = end - suc more; long = suc more })
