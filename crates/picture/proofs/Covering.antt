@@ -99,7 +99,8 @@ cells_from x (suc k) (true ∷ marks) =
 pub cells_of : (k : ℕ) (marks : List Bool) → list_any (has_cell k) (runs_from 0 marks) ≡ get_or marks k false
 cells_of k marks =
     let here : 0 + k ≡ k = omega arith in
-    subst (λ (n : ℕ). list_any (has_cell n) (runs_from 0 marks) ≡ get_or marks k false) here (cells_from 0 k marks)
+    subst (λ (n : ℕ). list_any (has_cell n) (runs_from 0 marks) ≡ get_or marks k false) here
+    (cells_from 0 k marks)
 
 -- runs that are apart and have the same cells are the same
 abbrev HaveSame : List Run → List Run → Type 0
@@ -144,7 +145,8 @@ ends_no_later x y run other runs others begin apart apart_other same =
     ]
 
 same_run : (run other : Run) → run.from ≡ other.from → run.long ≡ other.long → run ≡ other
-same_run run other begin long = ap (λ (n : ℕ). let one : Run = record { from = n; long = run.long } in one) begin
+same_run run other begin long =
+    ap (λ (n : ℕ). let one : Run = record { from = n; long = run.long } in one) begin
     ∙ ap (λ (n : ℕ). let one : Run = record { from = other.from; long = n } in one) long
 
 -- behind the first run they have the same cells too

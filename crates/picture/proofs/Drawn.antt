@@ -21,16 +21,21 @@ background : (byte : ℕ) → is_terrain byte ≡ true → (is_background byte �
 background byte terrain = (λ is. grind (arith, nat_tests), λ is. grind (arith, nat_tests))
 
 -- the mark of a cell
-mark_of : (p : ℕ → Bool) (row : List ℕ) (x : ℕ) → x < length row → get_or (map p row) x false ≡ p (get_or row x 0)
+mark_of : (p : ℕ → Bool) (row : List ℕ) (x : ℕ) → x < length row
+    → get_or (map p row) x false ≡ p (get_or row x 0)
 mark_of p [] x below = absurd (omega arith)
 mark_of p (byte ∷ row) zero below = refl
 mark_of p (byte ∷ row) (suc x) below = mark_of p row x (omega arith)
 
-pub drawn_once : (row : List ℕ) → list_all is_terrain row ≡ true → (x : ℕ) → x < length row → IsDrawnOnce row x
+pub drawn_once : (row : List ℕ) → list_all is_terrain row ≡ true → (x : ℕ) → x < length row
+    → IsDrawnOnce row x
 drawn_once row terrain x below =
     let byte = get_or row x 0 in
     let drawn = λ (kind : Ground). cells_of x (map (is_of kind) row) ∙ mark_of (is_of kind) row x below in
     record {
-      strokes = λ kind. (λ is. (own_ground kind byte).0 (sym (drawn kind) ∙ is), λ of. drawn kind ∙ (own_ground kind byte).1 of);
+      strokes = λ kind. (
+        λ is. (own_ground kind byte).0 (sym (drawn kind) ∙ is),
+        λ of. drawn kind ∙ (own_ground kind byte).1 of,
+      );
       none = background byte (AllPass-from_list_all is_terrain row terrain x 0 below);
     }

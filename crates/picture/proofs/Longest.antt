@@ -61,7 +61,8 @@ begins_after x [] halts = tt
 begins_after x (true ∷ marks) halts = absurd halts
 begins_after x (false ∷ marks) halts = begins_from (x + 1) marks
 
-same_run : (x n m : ℕ) (runs more : List Run) → n ≡ m → runs ≡ more → let one : Run = record { from = x; long = n } in
+same_run : (x n m : ℕ) (runs more : List Run) → n ≡ m → runs ≡ more
+    → let one : Run = record { from = x; long = n } in
     let other : Run = record { from = x; long = m } in
     one ∷ runs ≡ other ∷ more
 same_run x n m runs more e f = ap (λ (k : ℕ). let run : Run = record { from = x; long = k } in run ∷ runs) e

@@ -15,10 +15,14 @@ abbrev pub left_of_row : Ground → List ℕ → List ℕ → ℕ → ℕ → Li
 left_of_row kind number row x long =
     texts_of (stroke_over number) (runs_from (x - long) (marked long (map (is_of kind) (drop x row))))
 
--- what is written and the strokes that are left are those of the row; the cells of the run that is under way lie behind
+-- the strokes of a row whose number is written so
+abbrev pub strokes_of_row : Ground → List ℕ → List ℕ → List ℕ
+strokes_of_row kind number row = texts_of (stroke_over number) (runs_of kind row)
+
+-- what is written and the strokes that are left are those of the row; the cells of the run under way lie behind
 pub record HasPassed (kind : Ground) (number old row : List ℕ) (x long : ℕ) (new : List ℕ) : Type 0 where
   pub short : long ≤ x
-  pub text : new ++ left_of_row kind number row x long ≡ old ++ texts_of (stroke_over number) (runs_of kind row)
+  pub text : new ++ left_of_row kind number row x long ≡ old ++ strokes_of_row kind number row
 
 -- the strokes from the run under way on: its own, if it has a cell, and those behind it
 run_written : (number : List ℕ) (x long : ℕ) (marks : List Bool) → Halts marks → long ≤ x
@@ -36,9 +40,10 @@ module _ (kind : Ground) (number old row : List ℕ) where
   none_passed = record { short = omega arith; text = refl }
 
   -- a row without a cell of the ground
-  pub nothing_drawn : list_any (is_of kind) row ≡ false → old ≡ old ++ texts_of (stroke_over number) (runs_of kind row)
+  pub nothing_drawn : list_any (is_of kind) row ≡ false → old ≡ old ++ strokes_of_row kind number row
   nothing_drawn none = sym (append-nil old)
-      ∙ ap (λ (runs : List Run). old ++ texts_of (stroke_over number) runs) (sym (no_run (is_of kind) row 0 none))
+      ∙ ap (λ (runs : List Run). old ++ texts_of (stroke_over number) runs)
+      (sym (no_run (is_of kind) row 0 none))
 
   module _ (x long : ℕ) (new : List ℕ) (passed : HasPassed kind number old row x long new) where
     -- the cells that are left, of which one is the first
@@ -58,10 +63,12 @@ module _ (kind : Ground) (number old row : List ℕ) where
           short = omega (arith, passed.short);
           text = ap (λ (t : List ℕ). t ++ left_of_row kind number row (x + 1) more) same
               ∙ ap (λ (n : ℕ). new ++ texts_of (stroke_over number) (runs_from n (marked more marks))) place
-              ∙ ap (λ (n : ℕ). new ++ texts_of (stroke_over number) (runs_from (x - long) (marked n marks))) one
+              ∙ ap (λ (n : ℕ). new ++ texts_of (stroke_over number)
+              (runs_from (x - long) (marked n marks))) one
               ∙ ap (λ (all : List Bool). new ++ texts_of (stroke_over number) (runs_from (x - long) all))
               (sym (marked_more long marks)
-              ∙ ap (λ (b : Bool). marked long (b ∷ marks)) (sym is) ∙ ap (marked long) (sym (first_left below)))
+              ∙ ap (λ (b : Bool). marked long (b ∷ marks)) (sym is)
+              ∙ ap (marked long) (sym (first_left below)))
               ∙ passed.text;
         }
 
@@ -80,16 +87,19 @@ module _ (kind : Ground) (number old row : List ℕ) where
               (runs_from n (marked none marks))) place
               ∙ ap (λ (n : ℕ). (new ++ run_before number x long) ++ texts_of (stroke_over number)
               (runs_from (x + 1) (marked n marks))) counts
-              ∙ append_assoc new (run_before number x long) (texts_of (stroke_over number) (runs_from (x + 1) marks))
+              ∙ append_assoc new (run_before number x long)
+              (texts_of (stroke_over number) (runs_from (x + 1) marks))
               ∙ ap (λ (t : List ℕ). new ++ t) (run_written number x long (false ∷ marks) tt passed.short)
-              ∙ ap (λ (all : List Bool). new ++ texts_of (stroke_over number) (runs_from (x - long) (marked long all)))
+              ∙ ap (λ (all : List Bool). new ++ texts_of (stroke_over number)
+              (runs_from (x - long) (marked long all)))
               (sym first)
               ∙ passed.text;
         }
 
     -- behind the last cell
-    pub row_passed : {E : Type 0} (answer : Result (Unit {0}) E) (now : List ℕ) → length row ≤ x → x ≤ length row
-        → OnOk answer (now ≡ new ++ run_before number (length row) long) → OnOk answer (now ≡ old ++ texts_of (stroke_over number) (runs_of kind row))
+    pub row_passed : {E : Type 0} (answer : Result (Unit {0}) E) (now : List ℕ) → length row ≤ x
+        → x ≤ length row → OnOk answer (now ≡ new ++ run_before number (length row) long)
+        → OnOk answer (now ≡ old ++ strokes_of_row kind number row)
     row_passed (Err fault) now end within written = tt
     row_passed (Ok done) now end within written =
         let place : length row ≡ x = omega arith in

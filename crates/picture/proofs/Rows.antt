@@ -6,8 +6,8 @@ use Rattle.picture.specs.declared.kinds.Ground.{Ground}
 use Rattle.picture.specs.Picture.{row_strokes, strokes_from}
 
 -- what is written and the strokes of the rows left are the strokes of all rows
-pub record AreDrawn (kind : Ground) (old : List ℕ) (height width : ℕ) (cells left : List ℕ) (y : ℕ) (new : List ℕ)
-    : Type 0 where
+pub record AreDrawn (kind : Ground) (old : List ℕ) (height width : ℕ) (cells left : List ℕ) (y : ℕ)
+    (new : List ℕ) : Type 0 where
   pub long : length left ≡ (height - y) * width
   pub text : new ++ strokes_from kind y (rows_of (height - y) width left)
       ≡ old ++ strokes_from kind 0 (rows_of height width cells)

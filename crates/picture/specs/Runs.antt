@@ -7,15 +7,16 @@ pub record Run : Type 0 where
   pub from : ℕ
   pub long : ℕ
 
--- runs with the cell of a column before them: it joins the first run where that begins in the next column, else it is a
--- run of its own
+-- runs with the cell of a column before them: it joins the first run where that begins in the next column, else it
+-- is a run of its own
 abbrev pub with_cell : ℕ → List Run → List Run
 with_cell x [] = record { from = x; long = 1 } ∷ []
 with_cell x (run ∷ runs) =
     if run.from == x + 1 then record { from = x; long = run.long + 1 } ∷ runs
     else record { from = x; long = 1 } ∷ run ∷ runs
 
--- the longest runs of marked cells in the part of a row that begins in this column, told by a mark for each cell
+-- the longest runs of marked cells in the part of a row that begins in this column, told by a mark for each
+-- cell
 abbrev pub runs_from : ℕ → List Bool → List Run
 runs_from x [] = []
 runs_from x (true ∷ marks) = with_cell x (runs_from (x + 1) marks)

@@ -52,11 +52,16 @@ pub small_picture : picture_of small (cell 0 0) (cell 2 0) (Some straight) (Some
     (codes "<svg xmlns=\"http://www.w3.org/2000/svg\" viewBox=\"0 0 4 2\">"
     ∷ codes "<title>walk 2 0 from 0,0 to 2,0</title>"
     ∷ codes "<rect width=\"4\" height=\"2\" fill=\"#f4f1e8\"/>"
-    ∷ codes "<path transform=\"translate(0 .5)\" shape-rendering=\"crispEdges\" stroke=\"#c9bf8f\" d=\"M0 1h1\"/>"
-    ∷ codes "<path transform=\"translate(0 .5)\" shape-rendering=\"crispEdges\" stroke=\"#5c8a57\" d=\"M3 0h1\"/>"
-    ∷ codes "<path transform=\"translate(0 .5)\" shape-rendering=\"crispEdges\" stroke=\"#3b3f46\" d=\"M1 1h2\"/>"
-    ∷ codes "<path transform=\"translate(0 .5)\" shape-rendering=\"crispEdges\" stroke=\"#8fbfe0\" d=\"M3 1h1\"/>"
-    ∷ codes "<path transform=\"translate(0 .5)\" shape-rendering=\"crispEdges\" stroke=\"#f2b84b\" d=\"M0 0h1M1 0h1\"/>"
+    ∷ (codes "<path transform=\"translate(0 .5)\" shape-rendering=\"crispEdges\" "
+    ++ codes "stroke=\"#c9bf8f\" d=\"M0 1h1\"/>")
+    ∷ (codes "<path transform=\"translate(0 .5)\" shape-rendering=\"crispEdges\" "
+    ++ codes "stroke=\"#5c8a57\" d=\"M3 0h1\"/>")
+    ∷ (codes "<path transform=\"translate(0 .5)\" shape-rendering=\"crispEdges\" "
+    ++ codes "stroke=\"#3b3f46\" d=\"M1 1h2\"/>")
+    ∷ (codes "<path transform=\"translate(0 .5)\" shape-rendering=\"crispEdges\" "
+    ++ codes "stroke=\"#8fbfe0\" d=\"M3 1h1\"/>")
+    ∷ (codes "<path transform=\"translate(0 .5)\" shape-rendering=\"crispEdges\" "
+    ++ codes "stroke=\"#f2b84b\" d=\"M0 0h1M1 0h1\"/>")
     ∷ (codes "<polyline transform=\"translate(.5 .5)\" fill=\"none\" stroke=\"#d1352b\" stroke-width=\"0.4\" "
     ++ codes "points=\"0,0 2,0\"/>")
     ∷ codes "<circle cx=\"0.5\" cy=\"0.5\" r=\"0.4\" fill=\"#1f6f43\"/>"

@@ -58,8 +58,8 @@ fn put_head(
     goal: Cell,
     walk: Option<Walk<'_>>,
 ) -> Result<(), NoMemory>
-    ensures { OnOk result (out.new.items ≡ out.old.items ++ text_of (spec.head_lines (plain map.now) start goal
-        (option_map spec.plain_walk walk.entry))) }
+    ensures { OnOk result (out.new.items ≡ out.old.items ++
+        text_of (spec.head_lines (plain map.now) start goal (option_map spec.plain_walk walk.entry))) }
 {
     put_frame(out, map)?;
     put_title(out, start, goal, walk)?;
@@ -128,7 +128,8 @@ fn put_between(out: &mut Vec<u8>, start: Cell, goal: Cell) -> Result<(), NoMemor
 
 /// Appends the line of the background.
 fn put_background(out: &mut Vec<u8>, map: &MapText) -> Result<(), NoMemory>
-    ensures { OnOk result (out.new.items ≡ out.old.items ++ text_of (spec.background_line (plain map.now) ∷ [])) }
+    ensures { OnOk result (out.new.items ≡
+        out.old.items ++ text_of (spec.background_line (plain map.now) ∷ [])) }
 {
     put_named(out, b"<rect width=\"", map.width)?;
     put_named(out, b"\" height=\"", map.height)?;

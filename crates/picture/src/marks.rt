@@ -104,7 +104,8 @@ pub(crate) fn put_end(
     colour: &[u8],
     c: Cell,
 ) -> Result<(), NoMemory>
-    ensures { OnOk result (out.new.items ≡ out.old.items ++ text_of (spec.end_line tenths colour.now c ∷ [])) }
+    ensures { OnOk result (out.new.items ≡
+        out.old.items ++ text_of (spec.end_line tenths colour.now c ∷ [])) }
 {
     put_centre(out, c)?;
     put_radius(out, tenths)?;

@@ -137,7 +137,8 @@ pub(crate) fn put_strokes(
 /// Appends a stroke over the cell of each state, in order.
 pub(crate) fn put_states(out: &mut Vec<u8>, width: u16, states: &[u32]) -> Result<(), NoMemory>
     requires { 0 < width }
-    ensures { OnOk result (out.new.items ≡ out.old.items ++ spec.texts_of (spec.state_stroke width) states.now) }
+    ensures { OnOk result (out.new.items ≡
+        out.old.items ++ spec.texts_of (spec.state_stroke width) states.now) }
 {
     for state in states {
         put_state(out, width as usize, *state as usize)?;

@@ -16,12 +16,13 @@ returns c =
     let walk = option_map plain_walk c.args.walk in
     let head = head_lines map c.args.start c.args.goal walk in
     let to_grounds = head ++ ground_lines map in
-    let to_taken = to_grounds ++ taken_lines map.width (option_copied c.args.taken) in
+    let taken = taken_lines map.width (option_copied c.args.taken) in
+    let to_taken = to_grounds ++ taken in
     let lines = λ (n : ℕ). to_taken ++ walk_lines n walk ++ end_lines n c.args.start c.args.goal in
     lines_then (to_taken ++ walk_lines tenths walk) (end_lines tenths c.args.start c.args.goal) old
     c.put_walk.new.out.items c.put_ends.new.out.items
     (lines_then to_taken (walk_lines tenths walk) old c.put_taken.new.out.items c.put_walk.new.out.items
-    (lines_then to_grounds (taken_lines map.width (option_copied c.args.taken)) old c.put_grounds.new.out.items
+    (lines_then to_grounds taken old c.put_grounds.new.out.items
     c.put_taken.new.out.items
     (lines_then head (ground_lines map) old c.put_head.new.out.items c.put_grounds.new.out.items
     c.in_ok-put_head.ensures c.in_ok-put_grounds.ensures)

@@ -14,7 +14,8 @@ returns c =
     let head = path_text (colour kind) in
     let strokes = strokes_from kind 0 (rows_of map.height map.width map.cells) in
     let lent = strokes_from kind 0 (rows_of map.height map.width c.as_slice-cells.result.now) in
-    line_done c.put.result old c.put_strokes.new.out.items c.put.new.out.items (head ++ strokes) (codes "\"/>")
+    line_done c.put.result old c.put_strokes.new.out.items c.put.new.out.items (head ++ strokes)
+    (codes "\"/>")
     (then old c.put_path.new.out.items c.put_strokes.new.out.items (path_text c.colour.result.now) lent
     c.in_ok-put_path.ensures c.in_ok-put_strokes.ensures
     ∙ ap (λ (t : List ℕ). old ++ (path_text t ++ lent)) c.colour.ensures

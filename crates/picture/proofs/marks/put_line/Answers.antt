@@ -6,7 +6,8 @@ use Rattle.picture.proofs.marks.put_line.Goals as goal
 pub returns : goal.returns
 returns c =
     let old = c.args.out.now.items in
-    let head = codes "<polyline transform=\"translate(.5 .5)\" fill=\"none\" stroke=\"#d1352b\" stroke-width=\"" in
+    let head =
+    codes "<polyline transform=\"translate(.5 .5)\" fill=\"none\" stroke=\"#d1352b\" stroke-width=\"" in
     let wide = head ++ tenths_text c.args.tenths in
     let points = points_text c.args.walk.points.now in
     line_done c.put-3.result old c.put_points.new.out.items c.put-3.new.out.items

@@ -5,5 +5,6 @@ use Rattle.picture.proofs.strokes.put_short.Goals as goal
 
 pub returns-then-n-lt10 : goal.returns-then-n-lt10
 returns-then-n-lt10 c =
-    subst (λ (digits : List ℕ). OnOk c.put_byte.result (c.put_byte.new.out.items ≡ c.args.out.now.items ++ digits))
+    subst (λ (digits : List ℕ). OnOk c.put_byte.result
+    (c.put_byte.new.out.items ≡ c.args.out.now.items ++ digits))
     (sym (decimal_digit c.args.n c.if-n-lt10.true)) c.put_byte.ensures
