@@ -1,0 +1,6 @@
+pub mod Runs
+pub mod Grounds
+pub mod Picture
+pub mod Strokes
+pub mod Laws
+pub mod Worked
