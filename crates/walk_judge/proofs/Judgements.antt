@@ -206,6 +206,11 @@ module _ (g : GridData) (s t : Cell) where
         λ stands. one_judgement (told.Walk points) j (Least cost) here (least_accepted grid points cost stands),
       )
 
+  -- points of a least walk tell the least cost
+  pub stands_costs : (points : List Cell) (cost : Cost) → StandsForLeast g s t points cost
+      → IsCostTo g s t (Some cost)
+  stands_costs points cost stands = record { cells = stands.cells; least = stands.least; priced = stands.priced }
+
   -- a legal walk, where the least cost is known
   pub judged_same : (points : List Cell) (paid least : Cost) (found : Option Cost) → found ≡ Some least
       → IsCostTo g s t found → IsRightWalk g s t paid points → is_cost least paid ≡ true

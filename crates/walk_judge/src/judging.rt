@@ -149,6 +149,13 @@ fn ends_at(t: Cell, points: &Points) -> bool
     is_at(t, points.as_slice().last().copied())
 }
 
+/// Whether the pairs are one.
+fn is_same(p: Cost, q: Cost) -> bool
+    ensures { result ≡ checks.is_cost p q }
+{
+    p == q
+}
+
 /// How a legal walk of this cost is judged.
 fn compared<T: Terrain>(
     _t: &T,
@@ -164,7 +171,7 @@ fn compared<T: Terrain>(
 {
     match least {
         Some(least) => {
-            if least == paid {
+            if is_same(least, paid) {
                 Judged::Least(paid)
             } else {
                 Judged::Longer(paid, least)

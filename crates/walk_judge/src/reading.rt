@@ -42,17 +42,17 @@ fn read(alloc: Global, text: &[u8], entries: u32) -> Result<Vec<Told>, WalkFault
     ensures { Tells result (walks_of text.now entries) }
 {
     let mut walks = Vec::new(alloc);
-    let mut number = 1;
+    let mut next = 1;
     for line in Lines::of(text) {
-        match told_on(alloc, line.bytes, number, walks.len(), entries) {
+        match told_on(alloc, line.bytes, next, walks.len(), entries) {
             Ok(Some(told)) => walks.push(told)?,
             Ok(None) => {}
             Err(fault) => return Err(fault),
         }
-        number += 1;
+        next += 1;
     }
     if walks.len() < entries as usize {
-        return Err(WalkFault::Count { line: number });
+        return Err(WalkFault::Count { line: next });
     }
     Ok(walks)
 }

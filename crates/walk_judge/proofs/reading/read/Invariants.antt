@@ -7,6 +7,6 @@ use Rattle.walk_judge.proofs.reading.read.Given as goal
 abbrev pub invariant-loop-line : goal.invariant-loop-line
 invariant-loop-line l = record {
   read : walks_of l.text l.entries ≡ read_behind (place_read l.entries) l.walks.items
-      (places_from l.number (length l.walks.items) l.line-iterator.lines);
-  few : l.number + length l.line-iterator.lines ≤ 2 ^ 31;
+      (places_from l.next (length l.walks.items) l.line-iterator.lines);
+  few : l.next + length l.line-iterator.lines ≤ 2 ^ 31;
 }
