@@ -91,7 +91,8 @@ told_fields word words what read = by_test (is_none (word ∷ words)) refl read
     by_test false other h = by_points (points_in (word ∷ words)) refl h
 
 -- and the other way round
-pub fields_told : (fields : List (List ℕ)) (what : Told) → AreFieldsOf fields what → told_in fields ≡ Some what
+pub fields_told : (fields : List (List ℕ)) (what : Told) → AreFieldsOf fields what
+    → told_in fields ≡ Some what
 fields_told fields told.None are = ap told_in are
 fields_told fields (told.Walk points) are =
     elim (cases_Bool (is_none fields)) [
@@ -102,7 +103,8 @@ fields_told fields (told.Walk points) are =
     ]
 
 -- a line that tells something has a field
-pub fields_there : (fields : List (List ℕ)) (what : Told) → AreFieldsOf fields what → is_nothing fields ≡ false
+pub fields_there : (fields : List (List ℕ)) (what : Told) → AreFieldsOf fields what
+    → is_nothing fields ≡ false
 fields_there fields told.None are = ap (λ (f : List (List ℕ)). is_nothing f) are
 fields_there [] (told.Walk points) are = absurd (omega (arith, as_many [] points are.1, are.0))
 fields_there (word ∷ words) (told.Walk points) are = refl

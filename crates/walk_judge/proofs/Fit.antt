@@ -22,7 +22,8 @@ filled_room [] = omega arith
 filled_room ([] ∷ pieces) = omega (arith, filled_room pieces)
 filled_room ((b ∷ piece) ∷ pieces) = omega (arith, filled_room pieces)
 
-room_onto : (b n : ℕ) (pieces : List (List ℕ)) → room_of pieces ≤ n + 1 → room_of (onto_first b pieces) ≤ suc n + 1
+room_onto : (b n : ℕ) (pieces : List (List ℕ)) → room_of pieces ≤ n + 1
+    → room_of (onto_first b pieces) ≤ suc n + 1
 room_onto b n [] small = omega arith
 room_onto b n (piece ∷ pieces) small = omega arith
 
@@ -69,7 +70,8 @@ spelled_fit (piece ∷ pieces) walks room spelled =
     ]
 
 -- so are those of an answer that tells what is spelled
-pub answer_fit : (text : List ℕ) (entries : ℕ) (answer : Result (Vec Told Global) WalkFault) → length text ≤ 2 ^ 30
+pub answer_fit : (text : List ℕ) (entries : ℕ) (answer : Result (Vec Told Global) WalkFault)
+    → length text ≤ 2 ^ 30
     → IfOk answer (λ read. Spells text entries read.items)
     → IfOk answer (λ read. (k : ℕ) (what : Told) → slice_get read.items k ≡ Some what → IsFit what)
 answer_fit text entries (Ok read) short spells =

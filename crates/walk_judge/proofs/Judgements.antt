@@ -47,7 +47,8 @@ short_not_bad g points cost i w first =
     let other = verdict.err i first in
     cc
 
-err_number : (i k : ℕ) (answer : Result Cost BadAt) → answer ≡ Err (record { 0 = i }) → answer ≡ Err (record { 0 = k })
+err_number : (i k : ℕ) (answer : Result Cost BadAt) → answer ≡ Err (record { 0 = i })
+    → answer ≡ Err (record { 0 = k })
     → i ≡ k
 err_number i k answer one other =
     let same : failing (record { 0 = i }) ≡ failing (record { 0 = k }) = sym one ∙ other in
@@ -59,7 +60,8 @@ err_number i k answer one other =
     bad_number : (a b : BadAt) → failing a ≡ failing b → a.0 ≡ b.0
     bad_number a b e = let f : a ≡ b = cc in ap (λ (k : BadAt). k.0) f
 
-first_bad_one : (g : GridData) (points : List Cell) (i k : ℕ) → IsFirstBad g points i → IsFirstBad g points k → i ≡ k
+first_bad_one : (g : GridData) (points : List Cell) (i k : ℕ) → IsFirstBad g points i → IsFirstBad g points k
+    → i ≡ k
 first_bad_one g points i k one other =
     let verdict = (has_verdict g points).1 in
     err_number i k (has_verdict g points).0 (verdict.err i one) (verdict.err k other)
@@ -67,7 +69,8 @@ first_bad_one g points i k one other =
 ok_cost : (p q : Cost) (answer : Result Cost BadAt) → answer ≡ Ok p → answer ≡ Ok q → p ≡ q
 ok_cost p q answer one other = cc
 
-short_one : (g : GridData) (points : List Cell) (p q : Cost) → IsShortWalk g points p → IsShortWalk g points q → p ≡ q
+short_one : (g : GridData) (points : List Cell) (p q : Cost) → IsShortWalk g points p → IsShortWalk g points q
+    → p ≡ q
 short_one g points p q one other =
     let verdict = (has_verdict g points).1 in
     ok_cost p q (has_verdict g points).0 (verdict.ok p one) (verdict.ok q other)
@@ -100,7 +103,8 @@ module _ (g : GridData) (s t : Cell) where
       (one.least.least other.cells other.least.walk) (other.least.least one.cells one.least.walk)
       ∙ other.priced
 
-  right_one : (points : List Cell) (p q : Cost) → IsRightWalk g s t p points → IsRightWalk g s t q points → p ≡ q
+  right_one : (points : List Cell) (p q : Cost) → IsRightWalk g s t p points → IsRightWalk g s t q points
+      → p ≡ q
   right_one points p q one other =
       short_one g points p q (right_short g s t p points one) (right_short g s t q points other)
 
@@ -128,7 +132,8 @@ module _ (g : GridData) (s t : Cell) where
   bad_one points i k (short_of cost begins w away) (short_of other too v off) = refl
 
   -- what is told has one judgement
-  pub one_judgement : (what : Told) (j k : Judged) → IsJudgement g s t what j → IsJudgement g s t what k → j ≡ k
+  pub one_judgement : (what : Told) (j k : Judged) → IsJudgement g s t what j → IsJudgement g s t what k
+      → j ≡ k
   one_judgement told.None Nothing Nothing one other = refl
   one_judgement told.None Nothing (Exists q) none least = absurd (none least.cells least.least.walk)
   one_judgement told.None (Exists p) Nothing least none = absurd (none least.cells least.least.walk)
@@ -147,11 +152,14 @@ module _ (g : GridData) (s t : Cell) where
   one_judgement (told.Walk points) (Exists p) k one other = absurd one
   one_judgement (told.Walk points) (BadWalk i) (BadWalk n) one other =
       ap (λ (m : ℕ). let j : Judged = BadWalk m in j) (bad_one points i n one other)
-  one_judgement (told.Walk points) (BadWalk i) (Longer q r) one other = absurd (right_not_bad points q i other.0 one)
-  one_judgement (told.Walk points) (BadWalk i) (Least q) one other = absurd (right_not_bad points q i other.0 one)
+  one_judgement (told.Walk points) (BadWalk i) (Longer q r) one other =
+      absurd (right_not_bad points q i other.0 one)
+  one_judgement (told.Walk points) (BadWalk i) (Least q) one other =
+      absurd (right_not_bad points q i other.0 one)
   one_judgement (told.Walk points) (BadWalk i) Nothing one other = absurd other
   one_judgement (told.Walk points) (BadWalk i) (Exists q) one other = absurd other
-  one_judgement (told.Walk points) (Longer p l) (BadWalk n) one other = absurd (right_not_bad points p n one.0 other)
+  one_judgement (told.Walk points) (Longer p l) (BadWalk n) one other =
+      absurd (right_not_bad points p n one.0 other)
   one_judgement (told.Walk points) (Longer p l) (Longer q r) one other =
       let paid : p ≡ q = right_one points p q one.0 other.0 in
       let least : l ≡ r = least_one l r one.1 other.1 in
@@ -161,11 +169,12 @@ module _ (g : GridData) (s t : Cell) where
       absurd (one.2 (right_one points p q one.0 other.0 ∙ sym (least_one l q one.1 other.1)))
   one_judgement (told.Walk points) (Longer p l) Nothing one other = absurd other
   one_judgement (told.Walk points) (Longer p l) (Exists q) one other = absurd other
-  one_judgement (told.Walk points) (Least p) (BadWalk n) one other = absurd (right_not_bad points p n one.0 other)
+  one_judgement (told.Walk points) (Least p) (BadWalk n) one other =
+      absurd (right_not_bad points p n one.0 other)
   one_judgement (told.Walk points) (Least p) (Longer q r) one other =
       absurd (other.2 (right_one points q p other.0 one.0 ∙ sym (least_one r p other.1 one.1)))
-  one_judgement (told.Walk points) (Least p) (Least q) one other = ap (λ (c : Cost). let j : Judged = Least c in j)
-      (right_one points p q one.0 other.0)
+  one_judgement (told.Walk points) (Least p) (Least q) one other =
+      ap (λ (c : Cost). let j : Judged = Least c in j) (right_one points p q one.0 other.0)
   one_judgement (told.Walk points) (Least p) Nothing one other = absurd other
   one_judgement (told.Walk points) (Least p) (Exists q) one other = absurd other
 
@@ -177,8 +186,8 @@ module _ (g : GridData) (s t : Cell) where
     unfolds = is.0.unfolds;
     least = record {
       walk = is.0.walk;
-      least = λ others o. subst (λ (c : Cost). IsAtMost c (cost_of (s ∷ others))) (is.1.priced ∙ sym is.0.priced)
-          (is.1.least.least others o);
+      least = λ others o. subst (λ (c : Cost). IsAtMost c (cost_of (s ∷ others)))
+          (is.1.priced ∙ sym is.0.priced) (is.1.least.least others o);
     };
     priced = is.0.priced;
   }
@@ -197,19 +206,24 @@ module _ (g : GridData) (s t : Cell) where
     record { cells = stands.cells; least = stands.least; priced = stands.priced },
   )
 
-  pub accepted_exactly : IsGrid g → (what : Told) (j : Judged) → IsJudgement g s t what j → (points : List Cell)
-      (cost : Cost) → what ≡ told.Walk points
-      → (j ≡ Least cost → StandsForLeast g s t points cost) × (StandsForLeast g s t points cost → j ≡ Least cost)
+  pub accepted_exactly : IsGrid g → (what : Told) (j : Judged) → IsJudgement g s t what j
+      → (points : List Cell) (cost : Cost) → what ≡ told.Walk points
+      → (j ≡ Least cost → StandsForLeast g s t points cost)
+      × (StandsForLeast g s t points cost → j ≡ Least cost)
   accepted_exactly grid what j judged points cost is =
-      let here : IsJudgement g s t (told.Walk points) j = subst (λ (w : Told). IsJudgement g s t w j) is judged in (
-        λ e. accepted_least points cost (subst (λ (k : Judged). IsJudgement g s t (told.Walk points) k) e here),
-        λ stands. one_judgement (told.Walk points) j (Least cost) here (least_accepted grid points cost stands),
+      let here : IsJudgement g s t (told.Walk points) j =
+      subst (λ (w : Told). IsJudgement g s t w j) is judged in (
+        λ e. accepted_least points cost
+            (subst (λ (k : Judged). IsJudgement g s t (told.Walk points) k) e here),
+        λ stands. one_judgement (told.Walk points) j (Least cost) here
+            (least_accepted grid points cost stands),
       )
 
   -- points of a least walk tell the least cost
   pub stands_costs : (points : List Cell) (cost : Cost) → StandsForLeast g s t points cost
       → IsCostTo g s t (Some cost)
-  stands_costs points cost stands = record { cells = stands.cells; least = stands.least; priced = stands.priced }
+  stands_costs points cost stands =
+      record { cells = stands.cells; least = stands.least; priced = stands.priced }
 
   -- a legal walk, where the least cost is known
   pub judged_same : (points : List Cell) (paid least : Cost) (found : Option Cost) → found ≡ Some least

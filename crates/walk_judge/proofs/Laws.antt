@@ -28,8 +28,8 @@ abbrev end_read : ℕ → Bool → Result (Option Told) WalkFault
 end_read number few = if few then Err (Count number) else Ok None
 
 module _ (entries : ℕ) where
-  fields_blank : (number before : ℕ) (fields : List (List ℕ)) → fields_read entries number before fields ≡ Ok None
-      → fields ≡ []
+  fields_blank : (number before : ℕ) (fields : List (List ℕ))
+      → fields_read entries number before fields ≡ Ok None → fields ≡ []
   fields_blank number before [] read = refl
   fields_blank number before (field ∷ fields) read =
       by_test (nat_le entries before) (told_in (field ∷ fields)) read
@@ -41,7 +41,8 @@ module _ (entries : ℕ) where
       by_test false (Some told) read = absurd (cc)
 
   fields_tell : (number before : ℕ) (fields : List (List ℕ)) (what : Told)
-      → fields_read entries number before fields ≡ Ok (Some what) → (before < entries) × AreFieldsOf fields what
+      → fields_read entries number before fields ≡ Ok (Some what)
+      → (before < entries) × AreFieldsOf fields what
   fields_tell number before [] what read = absurd (cc)
   fields_tell number before (field ∷ fields) what read =
       by_test (nat_le entries before) refl (told_in (field ∷ fields)) refl read
@@ -70,7 +71,8 @@ module _ (entries : ℕ) where
       by_test true few read = absurd (cc)
       by_test false all read = grind (arith, nat_tests)
 
-  end_tells : (number before : ℕ) (what : Told) → place_read entries (at_end number before) ≡ Ok (Some what) → ⊥
+  end_tells : (number before : ℕ) (what : Told)
+      → place_read entries (at_end number before) ≡ Ok (Some what) → ⊥
   end_tells number before what read = by_test (nat_lt before entries) read
     where
       by_test : (b : Bool) → end_read number b ≡ Ok (Some what) → ⊥
@@ -86,11 +88,13 @@ module _ (entries : ℕ) where
   is_nothing_read (at_end number before) all =
       let none : nat_lt before entries ≡ false = grind (arith, nat_tests) in rw none refl
 
-  told_is : (place : Place) (what : Told) → place_read entries place ≡ Ok (Some what) → IsPlaceOf entries place what
+  told_is : (place : Place) (what : Told) → place_read entries place ≡ Ok (Some what)
+      → IsPlaceOf entries place what
   told_is (at_line number before line) what read = fields_tell number before (fields_of line) what read
   told_is (at_end number before) what read = end_tells number before what read
 
-  is_told : (place : Place) (what : Told) → IsPlaceOf entries place what → place_read entries place ≡ Ok (Some what)
+  is_told : (place : Place) (what : Told) → IsPlaceOf entries place what
+      → place_read entries place ≡ Ok (Some what)
   is_told (at_line number before line) what is = tell_fields number before (fields_of line) what is.0 is.1
   is_told (at_end number before) what is = absurd is
 
@@ -144,7 +148,8 @@ module _ (entries : ℕ) where
   ]
 
   -- a text is read as what it spells, or as its first fault
-  pub walks_read : (text : List ℕ) → Reads (Spells text entries) (BreaksFirst text entries) (walks_of text entries)
+  pub walks_read : (text : List ℕ)
+      → Reads (Spells text entries) (BreaksFirst text entries) (walks_of text entries)
   unfolding walks_of
   walks_read text =
       let all = lines_read (place_read entries) places_judged (places_of text) in
@@ -153,7 +158,8 @@ module _ (entries : ℕ) where
             let spelled = from_places 1 0 (lines_of text) walks (omega arith) (all.found walks read) in
             record { spelled = spelled.0; counted = omega (arith, spelled.1) };
         only = λ walks spells.
-            all.only walks (to_places 1 0 (lines_of text) walks spells.spelled (omega (arith, spells.counted)));
+            all.only walks
+            (to_places 1 0 (lines_of text) walks spells.spelled (omega (arith, spells.counted)));
         first = all.first;
         broken = all.broken;
       }

@@ -42,8 +42,8 @@ points_ended points words none =
     append_none (c ∷ l) = ap (λ (m : List Cell). c ∷ m) (append_none l)
 
 -- a field that is no point
-pub points_broken : (points : List Cell) (words behind : List (List ℕ)) (word : List ℕ) → words ≡ word ∷ behind
-    → point_of word ≡ None → with_points points (points_in words) ≡ None
+pub points_broken : (points : List Cell) (words behind : List (List ℕ)) (word : List ℕ)
+    → words ≡ word ∷ behind → point_of word ≡ None → with_points points (points_in words) ≡ None
 points_broken points words behind word cut none =
     ap (λ (w : List (List ℕ)). with_points points (points_in w)) cut
     ∙ ap (λ (o : Option Cell). with_points points (option_and_then (λ p. option_map (λ later. p ∷ later)

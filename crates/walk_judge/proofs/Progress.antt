@@ -27,5 +27,7 @@ pub walks_begun : (text : List ℕ) (entries : ℕ) (walks : List Told) (left : 
     → walks_of text entries ≡ read_behind (place_read entries) walks (places_from 1 (length walks) left.lines)
 unfolding walks_of
 walks_begun text entries walks left none all =
-    ap (λ (w : List Told). read_behind (place_read entries) w (places_from 1 (length w) (lines_of text))) (sym none)
-    ∙ ap (λ (l : Left). read_behind (place_read entries) walks (places_from 1 (length walks) l.lines)) (sym all)
+    ap (λ (w : List Told). read_behind (place_read entries) w (places_from 1 (length w) (lines_of text)))
+    (sym none)
+    ∙ ap (λ (l : Left). read_behind (place_read entries) walks (places_from 1 (length walks) l.lines))
+    (sym all)

@@ -12,9 +12,10 @@ use Rattle.walk_judge.specs.declared.judging.Judged.TheVariants as judged
 use Rattle.walk_judge.specs.declared.telling.Told.{Told}
 use Rattle.walk_judge.specs.declared.telling.Told.TheVariants as told
 
--- points, counted from 0, are no walk from s to t of at most 2^24 steps, and the number tells it: 0 where the first
--- point is not the start; else that of the first later point to which no legal run of at least one step leads from the
--- point before, or that brings the steps above 2^24; else the number of points, where the last one is not the goal
+-- points, counted from 0, are no walk from s to t of at most 2^24 steps, and the number tells it: 0 where the
+-- first point is not the start; else that of the first later point to which no legal run of at least one step
+-- leads from the point before, or that brings the steps above 2^24; else the number of points, where the last
+-- one is not the goal
 pub data IsBadPoint (g : GridData) (s t : Cell) (points : List Cell) : ℕ → Type 0 where
   elsewhere : begins_at s points ≡ false → IsBadPoint g s t points 0
   broken : {i : ℕ} → begins_at s points ≡ true → IsFirstBad g points i → IsBadPoint g s t points i
@@ -28,5 +29,6 @@ IsJudgement g s t told.None (judged.Exists least) = IsLeastCost g s t least
 IsJudgement g s t (told.Walk points) (judged.BadWalk i) = IsBadPoint g s t points i
 IsJudgement g s t (told.Walk points) (judged.Longer paid least) =
     IsRightWalk g s t paid points × IsLeastCost g s t least × (paid ≢ least)
-IsJudgement g s t (told.Walk points) (judged.Least cost) = IsRightWalk g s t cost points × IsLeastCost g s t cost
+IsJudgement g s t (told.Walk points) (judged.Least cost) =
+    IsRightWalk g s t cost points × IsLeastCost g s t cost
 IsJudgement g s t _ _ = ⊥

@@ -11,7 +11,8 @@ use Rattle.walk_judge.specs.declared.telling.Told.TheVariants as told
 abbrev pub is_comma : ℕ → Bool
 is_comma byte = byte == 44
 
--- the cell that a word spells whose first comma stands at this place, where it has one: column and row of 1 to 4 digits
+-- the cell that a word spells whose first comma stands at this place, where it has one: column and row of 1
+-- to 4 digits
 abbrev pub point_parted : List ℕ → Option ℕ → Option Cell
 point_parted word None = None
 point_parted word (Some comma) =
@@ -41,8 +42,8 @@ walk_of points = told.Walk points
 abbrev pub told_in : List (List ℕ) → Option Told
 told_in fields = if is_none fields then Some told.None else option_map walk_of (points_in fields)
 
--- the fields tell this: the one field `none` that no walk exists; one or more fields a walk, each of them its point at
--- the same place
+-- the fields tell this: the one field `none` tells that no walk exists; one or more fields tell a walk, each
+-- of them the point at its place
 abbrev pub AreFieldsOf : List (List ℕ) → Told → Type 0
 AreFieldsOf fields told.None = fields ≡ codes "none" ∷ []
 AreFieldsOf fields (told.Walk points) = (0 < length points) × (map point_of fields ≡ map (λ p. Some p) points)

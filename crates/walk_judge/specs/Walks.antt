@@ -10,8 +10,8 @@ use Rattle.walk_judge.specs.declared.fault.WalkFault.TheVariants.{Line, Count, N
 use Rattle.walk_judge.specs.declared.telling.Told.{Told}
 use Rattle.walk_judge.specs.Telling.{told_in, AreFieldsOf}
 
--- a place of a text: a line with its number, from 1, how many lines before it are not blank, and its bytes; or the end
--- behind the last line, likewise
+-- a place of a text: a line with its number, from 1, how many lines before it are not blank, and its bytes;
+-- or the end, with the number that a further line would have, and how many lines are not blank
 pub data Place : Type 0 where
   at_line : ℕ → ℕ → List ℕ → Place
   at_end : ℕ → ℕ → Place
@@ -31,8 +31,8 @@ abbrev pub form_read : ℕ → Option Told → Result (Option Told) WalkFault
 form_read number None = Err (Line number)
 form_read number (Some told) = Ok (Some told)
 
--- what a line is read as by its fields: nothing where there is none; K2: all entries have their lines before it; else
--- what it tells, or K1
+-- what a line is read as by its fields: nothing where there is none; K2: all entries have their lines before
+-- it; else what it tells, or K1
 abbrev pub fields_read : ℕ → ℕ → ℕ → List (List ℕ) → Result (Option Told) WalkFault
 fields_read entries number before [] = Ok None
 fields_read entries number before (field ∷ fields) =

@@ -21,7 +21,7 @@ pub no_row : point_of (codes "1,") ≡ None
 unfolding point_of
 no_row = refl
 
--- a walk and none, with a blank line, a carriage return, blanks before and behind, and a last line without line feed
+-- a walk and none, with a blank line, a carriage return, blanks before and behind, and no last line feed
 pub two_told : walks_of (codes " 0,0\t2,0\r\n \nnone ") 2 ≡ Ok
     (told.Walk (record { x = 0; y = 0 } ∷ record { x = 2; y = 0 } ∷ []) ∷ told.None ∷ [])
 unfolding walks_of point_of

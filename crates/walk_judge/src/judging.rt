@@ -63,8 +63,8 @@ pub fn judge_walk<T: Terrain>(
     Ok(judge_told(t, from, to, told, least))
 }
 
-/// The same where the least cost is known: none where no walk exists. No memory is taken, and the
-/// told walk is passed over once, step by step.
+/// The same where the least cost is known: none where no walk exists, as from a cell that is not free.
+/// No memory is taken. The told walk is passed over once, step by step, up to its first bad point.
 pub fn judge_told<T: Terrain>(
     t: &T,
     from: Cell,

@@ -23,7 +23,8 @@ pub fn read_walks(alloc: Global, text: &[u8], entries: u32) -> Result<Vec<Told>,
     // What is read is spelled so: one walk for each entry.
     ensures found { IfOk result (λ read. Spells text.now entries read.items) }
     // Each walk has one point or more, and fewer than 2^30.
-    ensures fit { IfOk result (λ read. (k : ℕ) (told : Told) → slice_get read.items k ≡ Some told → IsFit told) }
+    ensures fit { IfOk result (λ read. (k : ℕ) (told : Told) → slice_get read.items k ≡ Some told
+        → IsFit told) }
     // What is spelled so is read, unless memory runs out.
     ensures only { (spelled : List Told) → Spells text.now entries spelled → Tells result (Ok spelled) }
     // A fault is that of the first line that breaks the form.

@@ -20,5 +20,5 @@ pub returns-else-ends_at : goal.returns-else-ends_at
 returns-else-ends_at g c =
     let bad = short_of c.in-Ok.paid (sym c.begins_at.ensures ∙ c.if-not-begins_at.false) c.in-Ok.ensures.walk
     (sym c.ends_at.ensures ∙ c.if-ends_at.false) in
-    subst (λ (l : List Cell). IsBadPoint (g.T.Terrain.grid c.args.t.now) c.args.from c.args.to c.args.points.now
-    (length l)) (sym c.as_slice.ensures) bad
+    subst (λ (l : List Cell). IsBadPoint (g.T.Terrain.grid c.args.t.now) c.args.from c.args.to
+    c.args.points.now (length l)) (sym c.as_slice.ensures) bad

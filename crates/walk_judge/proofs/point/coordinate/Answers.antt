@@ -10,5 +10,6 @@ digits_after-requires-clause-fits c =
 pub overflow_cast-result : goal.overflow_cast-result
 overflow_cast-result c =
     let word = short_number 4 c.args.word.now c.requires in
-    let few : c.digits_after.result < 2 ^ 16 = omega (arith, c.digits_after.ensures, value_of-lt 4 c.args.word.now word.1 word.0) in
+    let few : c.digits_after.result < 2 ^ 16 =
+    omega (arith, c.digits_after.ensures, value_of-lt 4 c.args.word.now word.1 word.0) in
     search rules

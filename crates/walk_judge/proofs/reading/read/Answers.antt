@@ -10,7 +10,7 @@ loop-line-init c =
     c.into_iter-line-iterator.ensures.into_iter_gives ∙ c.of-line-items.ensures in
     let many = ap (λ (l : Left). length l.lines) all in
     record {
-      read = walks_begun c.args.text.now c.args.entries c.new-walks.result.items c.into_iter-line-iterator.result
-          c.new-walks.ensures.items all;
+      read = walks_begun c.args.text.now c.args.entries c.new-walks.result.items
+          c.into_iter-line-iterator.result c.new-walks.ensures.items all;
       few = omega (arith, few_lines c.args.text.now);
     }
