@@ -1,0 +1,241 @@
+-- Judgements: each told walk has one, and accepted are the legal least walks.
+use Rattle.std.proofs.Common.{◌≡◌, ℕ, arith, refl, ap, sym, ◌∙◌, subst, Bool, true, false, List, [], ◌∷◌}
+use Rattle.std.specs.Prelude.{Option, Some, Result, Ok, Err}
+use Rattle.std.proofs.lemmas.Bool.Decides.{nat_tests}
+use Rattle.root2_cost.specs.declared.Cost.{Cost}
+use Rattle.root2_cost.specs.Order.{IsAtMost}
+use Rattle.root2_cost.specs.Sums.{no_cost}
+use Rattle.root2_cost.proofs.AtMost.{IsAtMost-antisymmetric}
+use Rattle.root2_cost.proofs.Less.{same_cost}
+use Rattle.grid_moves.specs.declared.Cell.{Cell}
+use Rattle.grid_moves.specs.Grid.{GridData, IsGrid, is_free}
+use Rattle.grid_moves.specs.Move.{is_legal}
+use Rattle.grid_moves.specs.Reply.{StandsForLeast}
+use Rattle.grid_moves.specs.Walk.{NoWalk, cost_of, is_walk, last_of}
+use Rattle.grid_moves.proofs.Legal.{and_both}
+use Rattle.path_points.specs.declared.checking.BadAt.{BadAt}
+use Rattle.path_points.specs.Checked.{IsFirstBad, IsShortWalk}
+use Rattle.path_points.proofs.Checks.{IsVerdict, checked_from, verdict_at_start, verdict_from}
+use Rattle.plain_search.specs.Costs.{IsCostTo}
+use Rattle.plain_search.specs.Lists.{IsLeastCost}
+use Rattle.potential_check.specs.Accepted.{IsRightWalk, is_cost}
+use Rattle.potential_check.proofs.Walks.{right_begins, right_ends, right_short}
+use Rattle.walk_judge.specs.declared.judging.Judged.{Judged}
+use Rattle.walk_judge.specs.declared.judging.Judged.TheVariants.{Least, NoWalk as Nothing, BadWalk, Longer, Exists}
+use Rattle.walk_judge.specs.declared.telling.Told.{Told}
+use Rattle.walk_judge.specs.declared.telling.Told.TheVariants as told
+use Rattle.walk_judge.specs.Judgement.{IsBadPoint, elsewhere, broken, short_of, IsJudgement}
+use Rattle.walk_judge.proofs.Simple.{least_is_short}
+
+-- points stand for a walk, or have a first bad one
+has_verdict : (g : GridData) (points : List Cell) → (answer : Result Cost BadAt) × IsVerdict g points answer
+has_verdict g [] = (Err (record { 0 = 0 }), verdict_at_start g [] refl)
+has_verdict g (u ∷ points) = by_free (is_free g u) refl
+  where
+    by_free : (b : Bool) → is_free g u ≡ b → (answer : Result Cost BadAt) × IsVerdict g (u ∷ points) answer
+    by_free true free = (
+      checked_from g 0 u points no_cost,
+      verdict_from g u points free (checked_from g 0 u points no_cost) refl,
+    )
+    by_free false blocked = (Err (record { 0 = 0 }), verdict_at_start g (u ∷ points) blocked)
+
+short_not_bad : (g : GridData) (points : List Cell) (cost : Cost) (i : ℕ) → IsShortWalk g points cost
+    → IsFirstBad g points i → ⊥
+short_not_bad g points cost i w first =
+    let verdict = (has_verdict g points).1 in
+    let one = verdict.ok cost w in
+    let other = verdict.err i first in
+    cc
+
+err_number : (i k : ℕ) (answer : Result Cost BadAt) → answer ≡ Err (record { 0 = i })
+    → answer ≡ Err (record { 0 = k })
+    → i ≡ k
+err_number i k answer one other =
+    let same : failing (record { 0 = i }) ≡ failing (record { 0 = k }) = sym one ∙ other in
+    bad_number (record { 0 = i }) (record { 0 = k }) same
+  where
+    failing : BadAt → Result Cost BadAt
+    failing bad = Err bad
+
+    bad_number : (a b : BadAt) → failing a ≡ failing b → a.0 ≡ b.0
+    bad_number a b e = let f : a ≡ b = cc in ap (λ (k : BadAt). k.0) f
+
+first_bad_one : (g : GridData) (points : List Cell) (i k : ℕ) → IsFirstBad g points i → IsFirstBad g points k
+    → i ≡ k
+first_bad_one g points i k one other =
+    let verdict = (has_verdict g points).1 in
+    err_number i k (has_verdict g points).0 (verdict.err i one) (verdict.err k other)
+
+ok_cost : (p q : Cost) (answer : Result Cost BadAt) → answer ≡ Ok p → answer ≡ Ok q → p ≡ q
+ok_cost p q answer one other = cc
+
+short_one : (g : GridData) (points : List Cell) (p q : Cost) → IsShortWalk g points p → IsShortWalk g points q
+    → p ≡ q
+short_one g points p q one other =
+    let verdict = (has_verdict g points).1 in
+    ok_cost p q (has_verdict g points).0 (verdict.ok p one) (verdict.ok q other)
+
+pub is_cost-same : (p q : Cost) → is_cost p q ≡ true → p ≡ q
+is_cost-same p q h = same_cost p q (grind (arith, nat_tests)) (grind (arith, nat_tests))
+
+pub is_cost-itself : (p : Cost) → is_cost p p ≡ true
+is_cost-itself p = grind (arith, nat_tests)
+
+pub is_cost-other : (p q : Cost) → is_cost q p ≡ false → p ≡ q → ⊥
+is_cost-other p q off e = let same : is_cost q p ≡ true = rw e (is_cost-itself q) in cc
+
+-- to a cell that is not free no walk leads
+pub last_free : (g : GridData) (s : Cell) (cells : List Cell) → is_walk g (s ∷ cells) ≡ true
+    → is_free g (last_of s cells) ≡ true
+last_free g s [] h = h
+last_free g s (v ∷ cells) h = last_free g v cells (and_both (is_legal g s v) (is_walk g (v ∷ cells)) h).1
+
+pub none_to_blocked : (g : GridData) (s t : Cell) → is_free g t ≡ false → NoWalk g s t
+none_to_blocked g s t blocked cells w =
+    let free = ap (λ (c : Cell). is_free g c) (sym w.ends) ∙ last_free g s cells w.legal in
+    cc
+
+module _ (g : GridData) (s t : Cell) where
+  least_one : (p q : Cost) → IsLeastCost g s t p → IsLeastCost g s t q → p ≡ q
+  least_one p q one other =
+      sym one.priced
+      ∙ IsAtMost-antisymmetric (cost_of (s ∷ one.cells)) (cost_of (s ∷ other.cells))
+      (one.least.least other.cells other.least.walk) (other.least.least one.cells one.least.walk)
+      ∙ other.priced
+
+  right_one : (points : List Cell) (p q : Cost) → IsRightWalk g s t p points → IsRightWalk g s t q points
+      → p ≡ q
+  right_one points p q one other =
+      short_one g points p q (right_short g s t p points one) (right_short g s t q points other)
+
+  -- points that stand for a walk from s to t are not bad
+  right_not_bad : (points : List Cell) (paid : Cost) (i : ℕ) → IsRightWalk g s t paid points
+      → IsBadPoint g s t points i → ⊥
+  right_not_bad points paid i right (elsewhere off) = let begins = right_begins g s t paid points right in cc
+  right_not_bad points paid i right (broken begins first) =
+      short_not_bad g points paid i (right_short g s t paid points right) first
+  right_not_bad points paid i right (short_of cost begins w off) =
+      let ends = right_ends g s t paid points right in cc
+
+  -- and bad ones are by one number
+  bad_one : (points : List Cell) (i k : ℕ) → IsBadPoint g s t points i → IsBadPoint g s t points k → i ≡ k
+  bad_one points i k (elsewhere off) (elsewhere too) = refl
+  bad_one points i k (elsewhere off) (broken begins first) = absurd (cc)
+  bad_one points i k (elsewhere off) (short_of cost begins w away) = absurd (cc)
+  bad_one points i k (broken begins first) (elsewhere off) = absurd (cc)
+  bad_one points i k (broken begins first) (broken too other) = first_bad_one g points i k first other
+  bad_one points i k (broken begins first) (short_of cost too w away) =
+      absurd (short_not_bad g points cost i w first)
+  bad_one points i k (short_of cost begins w away) (elsewhere off) = absurd (cc)
+  bad_one points i k (short_of cost begins w away) (broken too first) =
+      absurd (short_not_bad g points cost k w first)
+  bad_one points i k (short_of cost begins w away) (short_of other too v off) = refl
+
+  -- what is told has one judgement
+  pub one_judgement : (what : Told) (j k : Judged) → IsJudgement g s t what j → IsJudgement g s t what k
+      → j ≡ k
+  one_judgement told.None Nothing Nothing one other = refl
+  one_judgement told.None Nothing (Exists q) none least = absurd (none least.cells least.least.walk)
+  one_judgement told.None (Exists p) Nothing least none = absurd (none least.cells least.least.walk)
+  one_judgement told.None (Exists p) (Exists q) one other = ap (λ (c : Cost). let j : Judged = Exists c in j)
+      (least_one p q one other)
+  one_judgement told.None Nothing (Least q) one other = absurd other
+  one_judgement told.None Nothing (BadWalk n) one other = absurd other
+  one_judgement told.None Nothing (Longer q r) one other = absurd other
+  one_judgement told.None (Exists p) (Least q) one other = absurd other
+  one_judgement told.None (Exists p) (BadWalk n) one other = absurd other
+  one_judgement told.None (Exists p) (Longer q r) one other = absurd other
+  one_judgement told.None (Least p) k one other = absurd one
+  one_judgement told.None (BadWalk i) k one other = absurd one
+  one_judgement told.None (Longer p q) k one other = absurd one
+  one_judgement (told.Walk points) Nothing k one other = absurd one
+  one_judgement (told.Walk points) (Exists p) k one other = absurd one
+  one_judgement (told.Walk points) (BadWalk i) (BadWalk n) one other =
+      ap (λ (m : ℕ). let j : Judged = BadWalk m in j) (bad_one points i n one other)
+  one_judgement (told.Walk points) (BadWalk i) (Longer q r) one other =
+      absurd (right_not_bad points q i other.0 one)
+  one_judgement (told.Walk points) (BadWalk i) (Least q) one other =
+      absurd (right_not_bad points q i other.0 one)
+  one_judgement (told.Walk points) (BadWalk i) Nothing one other = absurd other
+  one_judgement (told.Walk points) (BadWalk i) (Exists q) one other = absurd other
+  one_judgement (told.Walk points) (Longer p l) (BadWalk n) one other =
+      absurd (right_not_bad points p n one.0 other)
+  one_judgement (told.Walk points) (Longer p l) (Longer q r) one other =
+      let paid : p ≡ q = right_one points p q one.0 other.0 in
+      let least : l ≡ r = least_one l r one.1 other.1 in
+      ap (λ (c : Cost). let j : Judged = Longer c l in j) paid
+      ∙ ap (λ (c : Cost). let j : Judged = Longer q c in j) least
+  one_judgement (told.Walk points) (Longer p l) (Least q) one other =
+      absurd (one.2 (right_one points p q one.0 other.0 ∙ sym (least_one l q one.1 other.1)))
+  one_judgement (told.Walk points) (Longer p l) Nothing one other = absurd other
+  one_judgement (told.Walk points) (Longer p l) (Exists q) one other = absurd other
+  one_judgement (told.Walk points) (Least p) (BadWalk n) one other =
+      absurd (right_not_bad points p n one.0 other)
+  one_judgement (told.Walk points) (Least p) (Longer q r) one other =
+      absurd (other.2 (right_one points q p other.0 one.0 ∙ sym (least_one r p other.1 one.1)))
+  one_judgement (told.Walk points) (Least p) (Least q) one other =
+      ap (λ (c : Cost). let j : Judged = Least c in j) (right_one points p q one.0 other.0)
+  one_judgement (told.Walk points) (Least p) Nothing one other = absurd other
+  one_judgement (told.Walk points) (Least p) (Exists q) one other = absurd other
+
+  -- an accepted walk is legal and least
+  accepted_least : (points : List Cell) (cost : Cost) → IsJudgement g s t (told.Walk points) (Least cost)
+      → StandsForLeast g s t points cost
+  accepted_least points cost is = record {
+    cells = is.0.cells;
+    unfolds = is.0.unfolds;
+    least = record {
+      walk = is.0.walk;
+      least = λ others o. subst (λ (c : Cost). IsAtMost c (cost_of (s ∷ others)))
+          (is.1.priced ∙ sym is.0.priced) (is.1.least.least others o);
+    };
+    priced = is.0.priced;
+  }
+
+  -- and a legal least walk is accepted
+  least_accepted : IsGrid g → (points : List Cell) (cost : Cost) → StandsForLeast g s t points cost
+      → IsJudgement g s t (told.Walk points) (Least cost)
+  least_accepted grid points cost stands = (
+    record {
+      cells = stands.cells;
+      unfolds = stands.unfolds;
+      walk = stands.least.walk;
+      short = omega (arith, least_is_short g s t stands.cells grid stands.least);
+      priced = stands.priced;
+    },
+    record { cells = stands.cells; least = stands.least; priced = stands.priced },
+  )
+
+  pub accepted_exactly : IsGrid g → (what : Told) (j : Judged) → IsJudgement g s t what j
+      → (points : List Cell) (cost : Cost) → what ≡ told.Walk points
+      → (j ≡ Least cost → StandsForLeast g s t points cost)
+      × (StandsForLeast g s t points cost → j ≡ Least cost)
+  accepted_exactly grid what j judged points cost is =
+      let here : IsJudgement g s t (told.Walk points) j =
+      subst (λ (w : Told). IsJudgement g s t w j) is judged in (
+        λ e. accepted_least points cost
+            (subst (λ (k : Judged). IsJudgement g s t (told.Walk points) k) e here),
+        λ stands. one_judgement (told.Walk points) j (Least cost) here
+            (least_accepted grid points cost stands),
+      )
+
+  -- points of a least walk tell the least cost
+  pub stands_costs : (points : List Cell) (cost : Cost) → StandsForLeast g s t points cost
+      → IsCostTo g s t (Some cost)
+  stands_costs points cost stands =
+      record { cells = stands.cells; least = stands.least; priced = stands.priced }
+
+  -- a legal walk, where the least cost is known
+  pub judged_same : (points : List Cell) (paid least : Cost) (found : Option Cost) → found ≡ Some least
+      → IsCostTo g s t found → IsRightWalk g s t paid points → is_cost least paid ≡ true
+      → IsJudgement g s t (told.Walk points) (Least paid)
+  judged_same points paid least found is told_least right same =
+      let here : IsLeastCost g s t least = subst (λ (o : Option Cost). IsCostTo g s t o) is told_least in
+      (right, subst (λ (c : Cost). IsLeastCost g s t c) (is_cost-same least paid same) here)
+
+  pub judged_longer : (points : List Cell) (paid least : Cost) (found : Option Cost) → found ≡ Some least
+      → IsCostTo g s t found → IsRightWalk g s t paid points → is_cost least paid ≡ false
+      → IsJudgement g s t (told.Walk points) (Longer paid least)
+  judged_longer points paid least found is told_least right other =
+      let here : IsLeastCost g s t least = subst (λ (o : Option Cost). IsCostTo g s t o) is told_least in
+      (right, here, λ e. is_cost-other paid least other e)

@@ -1,0 +1,4 @@
+pub mod Telling
+pub mod Walks
+pub mod Judgement
+pub mod Worked

@@ -1,0 +1,52 @@
+-- Worked rows of the form, by computing.
+use Rattle.std.specs.Prelude.{◌≡◌, [], ◌∷◌, codes, refl, Some, None, Ok, Err}
+use Rattle.walk_judge.specs.declared.fault.WalkFault.TheVariants.{Line, Count}
+use Rattle.walk_judge.specs.declared.telling.Told.TheVariants as told
+use Rattle.walk_judge.specs.Telling.{point_of}
+use Rattle.walk_judge.specs.Walks.{walks_of}
+
+pub leading_zeros : point_of (codes "0012,4095") ≡ Some (record { x = 12; y = 4095 })
+unfolding point_of
+leading_zeros = refl
+
+pub five_digits : point_of (codes "00012,5") ≡ None
+unfolding point_of
+five_digits = refl
+
+pub two_commas : point_of (codes "1,2,3") ≡ None
+unfolding point_of
+two_commas = refl
+
+pub no_row : point_of (codes "1,") ≡ None
+unfolding point_of
+no_row = refl
+
+-- a walk and none, with a blank line, a carriage return, blanks before and behind, and no last line feed
+pub two_told : walks_of (codes " 0,0\t2,0\r\n \nnone ") 2 ≡ Ok
+    (told.Walk (record { x = 0; y = 0 } ∷ record { x = 2; y = 0 } ∷ []) ∷ told.None ∷ [])
+unfolding walks_of point_of
+two_told = refl
+
+-- no entry and no line
+pub nothing_told : walks_of (codes "\n\n") 0 ≡ Ok []
+unfolding walks_of point_of
+nothing_told = refl
+
+-- a line is missing: the one behind the last is named, and blank lines count
+pub too_few : walks_of (codes "none\n\nnone\n") 3 ≡ Err (Count 4)
+unfolding walks_of point_of
+too_few = refl
+
+-- one is too many, also where it is misspelt
+pub too_many : walks_of (codes "none\n\nnobody\n") 1 ≡ Err (Count 3)
+unfolding walks_of point_of
+too_many = refl
+
+-- a misspelt line before the end goes before a missing one
+pub misspelt : walks_of (codes "0,0 2,0\n0,0 1;1\n") 6 ≡ Err (Line 2)
+unfolding walks_of point_of
+misspelt = refl
+
+pub none_and_more : walks_of (codes "none 0,0\n") 1 ≡ Err (Line 1)
+unfolding walks_of point_of
+none_and_more = refl

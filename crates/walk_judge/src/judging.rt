@@ -1,0 +1,202 @@
+//! Judging what is told of the walks between two cells.
+
+ghost use Rattle.std.specs.Prelude.{◌≡◌, ◌^◌, ◌<◌, ◌↔◌, List, true, length, Some, IfOk, MatchResult};
+ghost use Rattle.root2_cost.specs.declared.Cost.{Cost};
+ghost use Rattle.grid_moves.specs.declared.Cell.{Cell};
+ghost use Rattle.grid_moves.specs.Grid.{is_free};
+ghost use Rattle.grid_moves.specs.Reply.{StandsForLeast};
+ghost use Rattle.plain_search.specs.Costs.{IsCostTo};
+ghost use Rattle.potential_check.specs.Accepted as checks;
+ghost use Rattle.potential_check.specs.Accepted.{IsRightWalk};
+ghost use Rattle.walk_judge.specs.Judgement.{IsBadPoint, IsJudgement};
+ghost use Rattle.walk_judge.specs.Telling.{IsFit, walk_of};
+ghost use Rattle.walk_judge.specs.declared.judging.Judged.{Judged};
+ghost use Rattle.walk_judge.specs.declared.judging.Judged.TheVariants.{Least};
+
+use crate::NoMemory;
+use crate::telling::Told;
+use grid_moves::{Cell, Terrain};
+use path_points::{Points, check_walk};
+use plain_search::{Plain, Workspace, least_in};
+use root2_cost::Cost;
+use std::alloc::Global;
+
+/// How a told walk is judged: the first case that applies.
+#[derive(Clone, Copy, Debug, PartialEq, Eq)]
+pub enum Judged {
+    /// The told walk is legal and least, and costs this.
+    Least(Cost),
+    /// Told is that no walk exists, and none does.
+    NoWalk,
+    /// The told points are no legal walk from start to goal. The number is 0 where the first point is
+    /// not the start; else that of the first later point, counted from 0, to which no legal run of at
+    /// least one step leads from the point before, or that brings the steps above 2^24; else the number
+    /// of points, where the last one is not the goal.
+    BadWalk(u32),
+    /// The told walk is legal and costs the first, and the least cost is the second, another pair.
+    Longer(Cost, Cost),
+    /// Told is that no walk exists, and the least cost is this.
+    Exists(Cost),
+}
+
+/// How what is told of the walks between two cells is judged, by a search of the least cost.
+///
+/// `to` may be any cell: to one that is not free no walk leads.
+pub fn judge_walk<T: Terrain>(
+    alloc: Global,
+    t: &T,
+    from: Cell,
+    to: Cell,
+    told: &Told,
+) -> Result<Judged, NoMemory>
+    requires free { is_free (T.grid t.now) from ≡ true }
+    requires fit { IsFit told.now }
+    // The first case that applies, and no other answer.
+    ensures judged { IfOk result (IsJudgement (T.grid t.now) from to told.now) }
+    ensures only { (judged : Judged) → IsJudgement (T.grid t.now) from to told.now judged
+        → IfOk result (λ answer. answer ≡ judged) }
+    // Exactly the legal least walks are accepted, at their cost.
+    ensures accepted { (points : List Cell) (cost : Cost) → told.now ≡ walk_of points → IfOk result (λ answer.
+        (answer ≡ Least cost) ↔ StandsForLeast (T.grid t.now) from to points cost) }
+{
+    let least = least_cost(alloc, t, from, to)?;
+    Ok(judge_told(t, from, to, told, least))
+}
+
+/// The same where the least cost is known: none where no walk exists, as from a cell that is not free.
+/// No memory is taken. The told walk is passed over once, step by step, up to its first bad point.
+pub fn judge_told<T: Terrain>(
+    t: &T,
+    from: Cell,
+    to: Cell,
+    told: &Told,
+    least: Option<Cost>,
+) -> Judged
+    requires fit { IsFit told.now }
+    requires least { IsCostTo (T.grid t.now) from to least }
+    ensures judged { IsJudgement (T.grid t.now) from to told.now result }
+    ensures only { (judged : Judged) → IsJudgement (T.grid t.now) from to told.now judged → result ≡ judged }
+    ensures accepted { (points : List Cell) (cost : Cost) → told.now ≡ walk_of points
+        → ((result ≡ Least cost) ↔ StandsForLeast (T.grid t.now) from to points cost) }
+{
+    // A terrain that tells its width is a grid, on which a least walk has fewer than 2^24 steps.
+    let _width = t.width();
+    judgement(t, from, to, told, least)
+}
+
+/// The same, whose clause is the relation alone.
+fn judgement<T: Terrain>(t: &T, from: Cell, to: Cell, told: &Told, least: Option<Cost>) -> Judged
+    requires fit { IsFit told.now }
+    requires least { IsCostTo (T.grid t.now) from to least }
+    ensures { IsJudgement (T.grid t.now) from to told.now result }
+{
+    match told {
+        Told::Walk(points) => match bad_point(t, from, to, points) {
+            Err(bad) => Judged::BadWalk(bad),
+            Ok(paid) => compared(t, from, to, points, paid, least),
+        },
+        Told::None => match least {
+            Some(cost) => Judged::Exists(cost),
+            None => Judged::NoWalk,
+        },
+    }
+}
+
+/// The cost of the walk that the points stand for, or the number that tells that they are none from
+/// start to goal.
+fn bad_point<T: Terrain>(t: &T, from: Cell, to: Cell, points: &Points) -> Result<Cost, u32>
+    requires { length points.now < 2 ^ 30 }
+    ensures { MatchResult result
+        (λ paid. IsRightWalk (T.grid t.now) from to paid points.now)
+        (λ i. IsBadPoint (T.grid t.now) from to points.now i) }
+{
+    if !begins_at(from, points) {
+        return Err(0);
+    }
+    match check_walk(t, points) {
+        Err(bad) => Err(bad.0),
+        Ok(paid) => {
+            if ends_at(to, points) {
+                Ok(paid)
+            } else {
+                Err(points.as_slice().len() as u32)
+            }
+        }
+    }
+}
+
+/// Whether there is such a point, and it is this cell.
+fn is_at(c: Cell, point: Option<Cell>) -> bool
+    ensures { result ≡ checks.is_at c point }
+{
+    match point {
+        Some(p) => p == c,
+        None => false,
+    }
+}
+
+/// Whether the first point is this cell.
+fn begins_at(s: Cell, points: &Points) -> bool
+    ensures { result ≡ checks.begins_at s points.now }
+{
+    is_at(s, points.as_slice().first().copied())
+}
+
+/// Whether the last point is this cell.
+fn ends_at(t: Cell, points: &Points) -> bool
+    ensures { result ≡ checks.ends_at t points.now }
+{
+    is_at(t, points.as_slice().last().copied())
+}
+
+/// Whether the pairs are one.
+fn is_same(p: Cost, q: Cost) -> bool
+    ensures { result ≡ checks.is_cost p q }
+{
+    p == q
+}
+
+/// How a legal walk of this cost is judged.
+fn compared<T: Terrain>(
+    _t: &T,
+    from: Cell,
+    to: Cell,
+    points: &Points,
+    paid: Cost,
+    least: Option<Cost>,
+) -> Judged
+    requires right { IsRightWalk (T.grid _t.now) from to paid points.now }
+    requires least { IsCostTo (T.grid _t.now) from to least }
+    ensures { IsJudgement (T.grid _t.now) from to (walk_of points.now) result }
+{
+    match least {
+        Some(least) => {
+            if is_same(least, paid) {
+                Judged::Least(paid)
+            } else {
+                Judged::Longer(paid, least)
+            }
+        }
+        None => unreachable!(),
+    }
+}
+
+/// The least cost of the walks between the cells, none where no walk exists.
+fn least_cost<T: Terrain>(
+    alloc: Global,
+    t: &T,
+    from: Cell,
+    to: Cell,
+) -> Result<Option<Cost>, NoMemory>
+    requires { is_free (T.grid t.now) from ≡ true }
+    ensures { IfOk result (IsCostTo (T.grid t.now) from to) }
+{
+    if !t.free(to) {
+        return Ok(None);
+    }
+    let mut space = Workspace::of_grid(alloc, t)?;
+    match least_in(alloc, t, from, to, &mut space)? {
+        Plain::Found { cost, .. } => Ok(Some(cost)),
+        Plain::None { .. } => Ok(None),
+    }
+}

@@ -1,0 +1,86 @@
+//! Reading told walks from their text.
+
+ghost use Rattle.std.specs.Prelude.{◌≡◌, ◌≢◌, ◌≤◌, ◌+◌, ◌^◌, ℕ, length, List, slice_get, Some, Ok, Err, IfOk, IfErr};
+ghost use Rattle.text_line.specs.Lines.{lines_of};
+ghost use Rattle.walk_judge.specs.declared.fault.WalkFault.{WalkFault};
+ghost use Rattle.walk_judge.specs.declared.fault.WalkFault.TheVariants.{NoMemory};
+ghost use Rattle.walk_judge.specs.declared.telling.Told.{Told};
+ghost use Rattle.walk_judge.specs.Telling.{IsFit};
+ghost use Rattle.walk_judge.specs.Walks.{at_line, BreaksFirst, Spells, Tells, TellsLine, place_read, walks_of};
+
+use crate::fault::WalkFault;
+use crate::point::points_on;
+use crate::telling::Told;
+use std::alloc::Global;
+use text_line::{Fields, Lines};
+
+/// The walks that a text of at most 2^30 bytes tells for so many entries, one for each in order, or
+/// the fault of its first broken line.
+///
+/// The text is passed over line by line and field by field, and each point is read from its field.
+pub fn read_walks(alloc: Global, text: &[u8], entries: u32) -> Result<Vec<Told>, WalkFault>
+    requires { length text.now ≤ 2 ^ 30 }
+    // What is read is spelled so: one walk for each entry.
+    ensures found { IfOk result (λ read. Spells text.now entries read.items) }
+    // Each walk has one point or more, and fewer than 2^30.
+    ensures fit { IfOk result (λ read. (k : ℕ) (told : Told) → slice_get read.items k ≡ Some told
+        → IsFit told) }
+    // What is spelled so is read, unless memory runs out.
+    ensures only { (spelled : List Told) → Spells text.now entries spelled → Tells result (Ok spelled) }
+    // A fault is that of the first line that breaks the form.
+    ensures first { IfErr result (λ fault. fault ≢ NoMemory → BreaksFirst text.now entries fault) }
+    // Where a line breaks it first, its fault is answered, unless memory runs out.
+    ensures broken { (fault : WalkFault) → BreaksFirst text.now entries fault → Tells result (Err fault) }
+    // All of this as one function of the text and the number of entries.
+    ensures exact { Tells result (walks_of text.now entries) }
+{
+    read(alloc, text, entries)
+}
+
+/// The same, whose clause is the one function.
+fn read(alloc: Global, text: &[u8], entries: u32) -> Result<Vec<Told>, WalkFault>
+    requires { length text.now ≤ 2 ^ 30 }
+    ensures { Tells result (walks_of text.now entries) }
+{
+    let mut walks = Vec::new(alloc);
+    let mut next = 1;
+    for line in Lines::of(text) {
+        match told_on(alloc, line.bytes, next, walks.len(), entries) {
+            Ok(Some(told)) => walks.push(told)?,
+            Ok(None) => {}
+            Err(fault) => return Err(fault),
+        }
+        next += 1;
+    }
+    if walks.len() < entries as usize {
+        return Err(WalkFault::Count { line: next });
+    }
+    Ok(walks)
+}
+
+/// What the line with this number tells, none where it is blank; so many lines before it are not.
+fn told_on(
+    alloc: Global,
+    line: &[u8],
+    number: u32,
+    before: usize,
+    entries: u32,
+) -> Result<Option<Told>, WalkFault>
+    ensures { TellsLine result (place_read entries (at_line number before line.now)) }
+{
+    let mut fields = Fields::of(line);
+    let Some(first) = fields.next() else {
+        return Ok(None);
+    };
+    if before >= entries as usize {
+        return Err(WalkFault::Count { line: number });
+    }
+    if first == b"none".as_slice() && fields.next().is_none() {
+        return Ok(Some(Told::None));
+    }
+    match points_on(alloc, line) {
+        Ok(Some(points)) => Ok(Some(Told::Walk(points))),
+        Ok(None) => Err(WalkFault::Line { line: number }),
+        Err(_) => Err(WalkFault::NoMemory),
+    }
+}
