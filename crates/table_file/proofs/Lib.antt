@@ -1,0 +1,7 @@
+pub mod Numbering
+pub mod Bytes
+pub mod Finding
+pub mod Putting
+pub mod Framing
+pub mod Laws
+pub mod Comparing
