@@ -5,3 +5,4 @@ pub mod Putting
 pub mod Framing
 pub mod Laws
 pub mod Comparing
+pub mod Differing
