@@ -88,10 +88,10 @@ module _ (land water : GridData) where
       less : (n : ℕ) → 13 + 32 * n - 13 ≡ 32 * n
       less n = omega arith
 
-  pub length-encoding : length (encoding land.corner land water) ≡ size_of land
+  pub length-encoding : (corner : Corner) → length (encoding corner land water) ≡ size_of land
   unfolding encoding
-  length-encoding =
-      length-append (head_bytes land.corner land.width land.height)
+  length-encoding corner =
+      length-append (head_bytes corner land.width land.height)
       (flat_map (λ s. entry_bytes (entry_for land water s)) (spots_of land.width land.height))
       ∙ ap (λ (n : ℕ). 13 + n) (length-flat (entry_for land water) (spots_of land.width land.height)
       ∙ length-spots_of land.width land.height)
@@ -105,7 +105,7 @@ module _ (land water : GridData) where
       let body = flat_map (λ s. entry_bytes (entry_for land water s)) spots in
       let front : take 13 (head ++ body) ≡ head = take_at head body 13 refl in
       let back : drop 13 (head ++ body) ≡ body = drop_at head body 13 refl in
-      let long : length (head ++ body) ≡ size_of land = length-encoding in
+      let long : length (head ++ body) ≡ size_of land = length-encoding land.corner in
       let frame : frame_fault land (head ++ body) ≡ None =
       frame_none (bytes_eq head (take 13 (head ++ body))) (nat_eq (length (head ++ body)) (size_of land))
       ((bytes_eq-Decides head (take 13 (head ++ body))).1 (sym front)) (grind (arith, nat_tests)) in

@@ -1,10 +1,11 @@
 //! Writing table files.
 
-ghost use Rattle.std.specs.Prelude.{◌≡◌, ◌*◌, ◌++◌, OnOk, OnErr, flat_map, length};
+ghost use Rattle.std.specs.Prelude.{◌≡◌, ◌*◌, ◌++◌, None, OnOk, OnErr, flat_map, length};
 ghost use Rattle.grid_moves.specs.Grid.{GridData};
 ghost use Rattle.plus_tables.specs.Tables.{AreTablesOf, IsWhole};
 ghost use Rattle.table_file.specs.Encoding as spec;
-ghost use Rattle.table_file.specs.Encoding.{AreOfOneMap, encoding};
+ghost use Rattle.table_file.specs.Encoding.{AreOfOneMap, encoding, size_of};
+ghost use Rattle.table_file.specs.Faults.{table_fault_of};
 ghost use Rattle.table_file.specs.Written.{Begins, file_of};
 
 use crate::NoMemory;
@@ -24,6 +25,11 @@ pub fn write_tables(
     ensures text { (first second : GridData) → AreTablesOf land.now first → AreTablesOf water.now second
         → AreOfOneMap first second → first.corner ≡ corner
         → OnOk result (out.new.items ≡ out.old.items ++ encoding corner first second) }
+    // It has 13 bytes, and 32 for each cell.
+    ensures size { (first second : GridData) → length (encoding corner first second) ≡ size_of first }
+    // It is loaded back.
+    ensures right { (first second : GridData) → first.corner ≡ corner
+        → table_fault_of first second (encoding corner first second) ≡ None }
     // For want of memory nothing is appended.
     ensures err { OnErr result (out.new.items ≡ out.old.items) }
 {
