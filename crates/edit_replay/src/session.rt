@@ -1,19 +1,22 @@
 //! The session.
 
 ghost use Rattle.std.specs.Prelude.{◌≡◌, ◌≢◌, ◌<◌, ◌≤◌, IfOk, MatchOption, true, false};
-ghost use Rattle.grid_moves.specs.Grid.{IsGrid, is_inside};
+ghost use Rattle.grid_moves.specs.Grid.{IsGrid, is_inside, layer_of};
 ghost use Rattle.grid_moves.specs.Layers as spec;
 ghost use Rattle.grid_moves.specs.Reply.{IsRight};
+ghost use Rattle.plus_tables.specs.Tables.{AreTablesOf};
 ghost use Rattle.edit_replay.specs.Counting.{RoseByStates, RoseWithin, fewest_of, most_of};
 ghost use Rattle.edit_replay.specs.Edited.{edit_at, edit_reply};
 ghost use Rattle.edit_replay.specs.Mended.{IsEditCounted};
 ghost use Rattle.edit_replay.specs.Replies.{answer_of, AddsEdit, EditsSo, IsEnd, IsRunReply, IsShort};
 
+use crate::beside::Beside;
 use crate::layer::Layer;
 use crate::memory::Memory;
 use crate::{EditReply, Engine, NoMemory, Reply};
 use grid_moves::{Cell, Corner, Grid, Ground, Terrain};
 use map_text::MapText;
+use plus_tables::Tables;
 use std::alloc::Global;
 use std::marker::Model;
 use std::sync::ledger::Ledger;
@@ -98,6 +101,43 @@ impl Session {
         Ok(Session {
             land: Layer::new(alloc, engine, land)?,
             water: Layer::new(alloc, engine, water)?,
+            memory,
+        })
+    }
+
+    /// A session of the engine `plus` on a map's layers, which get this corner rule, with tables that are
+    /// there already: those of its land grid and of its water grid. None are built, and edits mend these.
+    pub fn with_tables(
+        alloc: Global,
+        map: &MapText,
+        corner: Corner,
+        land: Tables,
+        water: Tables,
+    ) -> Result<Session, NoMemory>
+        requires land { AreTablesOf land
+            (layer_of Ground.Land corner map.now.width map.now.height map.now.cells) }
+        requires water { AreTablesOf water
+            (layer_of Ground.Water corner map.now.width map.now.height map.now.cells) }
+        ensures { IfOk result (λ s. s ≡ record {
+          engine = Engine.Plus;
+          layers = spec.layers_of corner map.now.width map.now.height map.now.cells;
+        }) }
+    {
+        let cells = map.cells.as_slice();
+        let grid = Grid::of_layer(alloc, map.width, map.height, cells, corner, Ground::Land)?;
+        let sea = Grid::of_layer(alloc, map.width, map.height, cells, corner, Ground::Water)?;
+        let memory = Memory::new(alloc, Engine::Plus, &grid)?;
+        let water = Layer {
+            grid: sea,
+            beside: Beside::Tables(water),
+        };
+        let land = Layer {
+            grid,
+            beside: Beside::Tables(land),
+        };
+        Ok(Session {
+            land,
+            water,
             memory,
         })
     }

@@ -3,8 +3,9 @@
 ghost use Rattle.std.specs.Prelude.{◌≡◌, ◌<◌};
 
 use crate::{EditReply, Engine, NoMemory, Reply, Session, Taken};
-use grid_moves::{Corner, Ground};
-use map_text::{MapText, read_map};
+use grid_moves::{Corner, Grid, Ground};
+use map_text::read_map;
+use plus_tables::Tables;
 use std::alloc::Global;
 use std::marker::Brand;
 use std::process::Abort;
@@ -46,9 +47,7 @@ fn told_of(reply: &Reply) -> Four {
 fn answer_all<L: Ledger>(
     alloc: Global,
     rt: &impl Abort,
-    map: &MapText,
-    engine: Engine,
-    corner: Corner,
+    session: &mut Session,
     lines: &[Line],
     blank: Blank,
 ) -> Result<(), NoMemory>
@@ -57,7 +56,6 @@ fn answer_all<L: Ledger>(
     requires some { 0 < L.parts }
 {
     let mut steps = Steps::<L>::new(blank);
-    let mut session = Session::new(alloc, map, engine, corner)?;
     for (i, line) in lines.iter().enumerate() {
         match *line {
             Line::Query(ends, told) => {
@@ -85,7 +83,27 @@ fn check_script(
 ) -> Result<(), Fail> {
     assert!(rt; text.len() < 100);
     let map = read_map(alloc, text)?;
-    answer_all::<Brand>(alloc, rt, &map, engine, corner, lines, Blank::new(1))?;
+    let mut session = Session::new(alloc, &map, engine, corner)?;
+    answer_all::<Brand>(alloc, rt, &mut session, lines, Blank::new(1))?;
+    Ok(())
+}
+
+// The same of a session with tables that were built before.
+fn check_tables(
+    alloc: Global,
+    rt: &impl Abort,
+    text: &[u8],
+    corner: Corner,
+    lines: &[Line],
+) -> Result<(), Fail> {
+    assert!(rt; text.len() < 100);
+    let map = read_map(alloc, text)?;
+    let cells = map.cells.as_slice();
+    let land = Grid::of_layer(alloc, map.width, map.height, cells, corner, Ground::Land)?;
+    let water = Grid::of_layer(alloc, map.width, map.height, cells, corner, Ground::Water)?;
+    let (first, second) = (Tables::build(alloc, &land)?, Tables::build(alloc, &water)?);
+    let mut session = Session::with_tables(alloc, &map, corner, first, second)?;
+    answer_all::<Brand>(alloc, rt, &mut session, lines, Blank::new(1))?;
     Ok(())
 }
 
@@ -106,8 +124,8 @@ fn a_script_is_answered_in_turn(rt: HostRuntime) -> Result<(), Fail> {
     check_script(rt.alloc(), &rt, text, Engine::Plain, Corner::Never, &lines)
 }
 
-// The same, by jumps: two states are taken on the way across, and one where the middle is blocked, as
-// none of its jumps stops.
+// The same, by jumps and by tables: two states are taken on the way across, and one where the middle is
+// blocked, as none of its jumps stops.
 #[test]
 fn a_script_is_answered_by_jumps(rt: HostRuntime) -> Result<(), Fail> {
     let text = b"type octile\nheight 3\nwidth 3\nmap\n.@.\n...\n.@.\n";
@@ -120,7 +138,8 @@ fn a_script_is_answered_by_jumps(rt: HostRuntime) -> Result<(), Fail> {
         across,
         Line::Query((1, 0, 2, 1), (1, 0, 0, 0)),
     ];
-    check_script(rt.alloc(), &rt, text, Engine::Jps, Corner::Never, &lines)
+    check_script(rt.alloc(), &rt, text, Engine::Jps, Corner::Never, &lines)?;
+    check_tables(rt.alloc(), &rt, text, Corner::Never, &lines)
 }
 
 // On the map `.WW/.WW` queries run among water cells or among land cells, and edits move the shore.

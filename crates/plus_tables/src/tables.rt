@@ -104,6 +104,14 @@ impl Tables {
         self.corner
     }
 
+    /// The entries, row by row from the upper left, those of one cell in the order of the directions.
+    pub fn entries(&self) -> &[i16]
+        ensures entries { result.now ≡ self.now.entries }
+        ensures whole { IsWhole self.now }
+    {
+        self.entries.as_slice()
+    }
+
     // Tables of the size of a grid, with 0 everywhere.
     pub(crate) fn blank<T: Terrain>(alloc: Global, t: &T) -> Result<Tables, NoMemory>
         ensures sized { IfOk result (λ tables. AreSized tables (T.grid t.now)) }

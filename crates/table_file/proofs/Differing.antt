@@ -1,0 +1,167 @@
+-- The fault of a text is the first way in which it differs from the encoding.
+use Rattle.std.proofs.Common.{◌≡◌, ◌≢◌, ℕ, zero, suc, ◌+◌, ◌*◌, ◌<◌, ◌⊎◌, inl, inr, Bool, true, false, List, [], ◌∷◌, length, take, drop, refl, ap, sym, ◌∙◌, subst, arith}
+use Rattle.std.specs.Prelude.{ℤ, Option, Some, None, Result, Ok, Err, IfErr, not, nat_eq, option_map, slice_get, if◌then◌else◌}
+use Rattle.std.specs.Option.{option_or}
+use Rattle.std.specs.Str.{bytes_eq}
+use Rattle.std.proofs.lemmas.Bool.Decides.{nat_tests}
+use Rattle.std.proofs.lemmas.List.{drop-drop}
+use Rattle.std.proofs.lemmas.Slice.Eq.{bytes_eq-Decides}
+use Rattle.grid_moves.specs.Grid.{GridData}
+use Rattle.table_file.specs.declared.fault.TableFault.{TableFault}
+use Rattle.table_file.specs.declared.fault.TableFault.TheVariants.{Head, Length, Entry, NoMemory}
+use Rattle.table_file.specs.Encoding.{entry_bytes, entry_for, head_bytes, size_of}
+use Rattle.table_file.specs.Faults.{Differs, IsFirstWrong, IsRightAt, Tells, entry_fault, first_wrong, table_fault_of}
+use Rattle.table_file.specs.Order.{Spot, spot, spots_of}
+use Rattle.table_file.proofs.Comparing.{frame_decides}
+use Rattle.table_file.proofs.Framing.{frame_fine, frame_head, frame_length}
+
+same_some : {A : Type 0} (a b : A) → Some a ≡ Some b → a ≡ b
+same_some a b same = cc
+
+if_some : (b : Bool) (head s : Spot) (rest : Option Spot) → (if b then rest else Some head) ≡ Some s
+    → ((b ≡ true) × (rest ≡ Some s)) ⊎ ((b ≡ false) × (head ≡ s))
+if_some true head s rest is = inl (refl, is)
+if_some false head s rest is = inr (refl, same_some head s is)
+
+module _ (entry : Spot → ℤ) where
+  two_on : (bytes : List ℕ) (k : ℕ) → drop (2 * k) (drop 2 bytes) ≡ drop (2 * suc k) bytes
+  two_on bytes k = drop-drop (2 * k) 2 bytes ∙ ap (λ (n : ℕ). drop n bytes) (twice k)
+    where
+      twice : (n : ℕ) → 2 + 2 * n ≡ 2 * suc n
+      twice n = omega arith
+
+  later_first : (spots : List Spot) (bytes : List ℕ) (head s : Spot)
+      → bytes_eq (take 2 bytes) (entry_bytes (entry head)) ≡ true → IsFirstWrong entry spots (drop 2 bytes) s
+      → IsFirstWrong entry (head ∷ spots) bytes s
+  later_first spots bytes head s right first = record {
+    place = suc first.place;
+    there = first.there;
+    wrong = λ fine. first.wrong (ap (take 2) (two_on bytes first.place) ∙ fine);
+    before = earlier;
+  }
+    where
+      earlier : (k : ℕ) (t : Spot) → k < suc first.place → slice_get (head ∷ spots) k ≡ Some t
+          → IsRightAt entry bytes k t
+      earlier zero t below is = (bytes_eq-Decides (take 2 bytes) (entry_bytes (entry head))).0 right
+          ∙ ap (λ (u : Spot). entry_bytes (entry u)) (same_some head t is)
+      earlier (suc k) t below is = ap (take 2) (sym (two_on bytes k)) ∙ first.before k t (omega arith) is
+
+  at_head : (spots : List Spot) (bytes : List ℕ) (head s : Spot)
+      → bytes_eq (take 2 bytes) (entry_bytes (entry head)) ≡ false → head ≡ s
+      → IsFirstWrong entry (head ∷ spots) bytes s
+  at_head spots bytes head s other is = record {
+    place = 0;
+    there = ap (λ (u : Spot). Some u) is;
+    wrong = λ fine. wrong (fine ∙ ap (λ (u : Spot). entry_bytes (entry u)) (sym is));
+    before = λ k t below there. absurd (omega arith);
+  }
+    where
+      wrong : take 2 bytes ≢ entry_bytes (entry head)
+      wrong fine = let right = (bytes_eq-Decides (take 2 bytes) (entry_bytes (entry head))).1 fine in absurd (cc)
+
+  first_is : (spots : List Spot) (bytes : List ℕ) (s : Spot) → first_wrong entry spots bytes ≡ Some s
+      → IsFirstWrong entry spots bytes s
+  first_is [] bytes s is = absurd (cc)
+  first_is (head ∷ spots) bytes s is =
+      elim (if_some (bytes_eq (take 2 bytes) (entry_bytes (entry head))) head s
+      (first_wrong entry spots (drop 2 bytes)) is) [
+        | inl both ↦ later_first spots bytes head s both.0 (first_is spots (drop 2 bytes) s both.1)
+        | inr both ↦ at_head spots bytes head s both.0 both.1
+      ]
+
+  if_right : (b : Bool) (head s : Spot) (rest : Option Spot) → b ≡ true → rest ≡ Some s
+      → (if b then rest else Some head) ≡ Some s
+  if_right true head s rest is told = told
+  if_right false head s rest is told = absurd (cc)
+
+  if_wrong : (b : Bool) (head s : Spot) (rest : Option Spot) → ¬ (b ≡ true) → head ≡ s
+      → (if b then rest else Some head) ≡ Some s
+  if_wrong true head s rest other is = absurd (other refl)
+  if_wrong false head s rest other is = ap (λ (u : Spot). Some u) is
+
+  found : (spots : List Spot) (bytes : List ℕ) (s : Spot) (place : ℕ) → slice_get spots place ≡ Some s
+      → ¬ IsRightAt entry bytes place s
+      → ((k : ℕ) (t : Spot) → k < place → slice_get spots k ≡ Some t → IsRightAt entry bytes k t)
+      → first_wrong entry spots bytes ≡ Some s
+  found [] bytes s place there wrong before = absurd (cc)
+  found (head ∷ spots) bytes s zero there wrong before =
+      if_wrong (bytes_eq (take 2 bytes) (entry_bytes (entry head))) head s
+      (first_wrong entry spots (drop 2 bytes))
+      (λ right. wrong ((bytes_eq-Decides (take 2 bytes) (entry_bytes (entry head))).0 right
+      ∙ ap (λ (u : Spot). entry_bytes (entry u)) (same_some head s there))) (same_some head s there)
+  found (head ∷ spots) bytes s (suc place) there wrong before =
+      if_right (bytes_eq (take 2 bytes) (entry_bytes (entry head))) head s
+      (first_wrong entry spots (drop 2 bytes))
+      ((bytes_eq-Decides (take 2 bytes) (entry_bytes (entry head))).1 (before 0 head (omega arith) refl))
+      (found spots (drop 2 bytes) s place there (λ right. wrong (ap (take 2) (sym (two_on bytes place)) ∙ right))
+      (λ k t below is. ap (take 2) (two_on bytes k) ∙ before (suc k) t (omega arith) is))
+
+decided : (right whole : Bool) (wrong : Option Spot) (fault : TableFault) (P : TableFault → Type 0)
+    → (right ≡ false → P Head) → (right ≡ true → whole ≡ false → P Length)
+    → ((s : Spot) → right ≡ true → whole ≡ true → wrong ≡ Some s → P (entry_fault s))
+    → option_or (if not right then Some Head else if not whole then Some Length else None)
+    (option_map entry_fault wrong) ≡ Some fault → P fault
+decided false whole wrong fault P head long first is = subst P (same_some Head fault is) (head refl)
+decided true false wrong fault P head long first is = subst P (same_some Length fault is) (long refl refl)
+decided true true None fault P head long first is = absurd (cc)
+decided true true (Some s) fault P head long first is =
+    subst P (same_some (entry_fault s) fault is) (first s refl refl refl)
+
+module _ (land water : GridData) (text : List ℕ) where
+  pub fault_differs : (fault : TableFault) → table_fault_of land water text ≡ Some fault
+      → Differs land water text fault
+  unfolding table_fault_of
+  fault_differs fault is =
+      let head = head_bytes land.corner land.width land.height in
+      let test = bytes_eq-Decides head (take 13 text) in
+      decided (bytes_eq head (take 13 text)) (nat_eq (length text) (size_of land))
+      (first_wrong (entry_for land water) (spots_of land.width land.height) (drop 13 text)) fault
+      (Differs land water text)
+      (λ other same. let right = test.1 (sym same) in absurd (cc))
+      (λ right other. (sym (test.0 right), longer other))
+      (λ s right all wrong. (
+        sym (test.0 right),
+        exact all,
+        first_is (entry_for land water) (spots_of land.width land.height) (drop 13 text) s wrong,
+      )) is
+    where
+      longer : nat_eq (length text) (size_of land) ≡ false → length text ≢ size_of land
+      longer other same = grind (arith, nat_tests)
+
+      exact : nat_eq (length text) (size_of land) ≡ true → length text ≡ size_of land
+      exact all = grind (arith, nat_tests)
+
+  head_test : take 13 text ≡ head_bytes land.corner land.width land.height
+      → bytes_eq (head_bytes land.corner land.width land.height) (take 13 text) ≡ true
+  head_test same = (bytes_eq-Decides (head_bytes land.corner land.width land.height) (take 13 text)).1 (sym same)
+
+  other_test : (b : Bool) → ¬ (b ≡ true) → b ≡ false
+  other_test true other = absurd (other refl)
+  other_test false other = refl
+
+  pub differs_fault : (fault : TableFault) → Differs land water text fault
+      → table_fault_of land water text ≡ Some fault
+  unfolding table_fault_of
+  differs_fault Head other = frame_decides land water text Head (frame_head land text (other_test
+      (bytes_eq (head_bytes land.corner land.width land.height) (take 13 text))
+      (λ right. other (sym ((bytes_eq-Decides (head_bytes land.corner land.width land.height) (take 13 text)).0
+      right)))))
+  differs_fault Length both =
+      frame_decides land water text Length (frame_length land text (head_test both.0) both.1)
+  differs_fault (Entry layer cell dir) parts =
+      ap (λ (o : Option TableFault). option_or o (option_map entry_fault (first_wrong (entry_for land water)
+      (spots_of land.width land.height) (drop 13 text)))) (frame_fine land text (head_test parts.0) parts.1)
+      ∙ ap (option_map entry_fault) (found (entry_for land water) (spots_of land.width land.height) (drop 13 text)
+      (spot layer cell dir) parts.2.place parts.2.there parts.2.wrong parts.2.before)
+  differs_fault NoMemory none = absurd none
+
+  -- the same of an answer that tells the fault
+  pub differs_by : {A : Type 0} (answer : Result A TableFault) → Tells answer (table_fault_of land water text)
+      → IfErr answer (λ fault. fault ≢ NoMemory → Differs land water text fault)
+  differs_by (Ok a) told = tt
+  differs_by (Err fault) told = λ other. fault_differs fault (told other)
+
+  pub told_by : {A : Type 0} (answer : Result A TableFault) → Tells answer (table_fault_of land water text)
+      → (fault : TableFault) → Differs land water text fault → Tells answer (Some fault)
+  told_by answer told fault differs =
+      subst (λ (o : Option TableFault). Tells answer o) (differs_fault fault differs) told

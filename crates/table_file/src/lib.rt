@@ -1,0 +1,29 @@
+//! Table files: the tables of a map's two grids as bytes, written for other programs and read back.
+//!
+//! A file tells for which map it was made only by the sides, so a text is loaded where it is, byte for byte,
+//! the encoding of the tables of the map at hand: a session never rests on entries that were not proved.
+//! The entries are the jump distances of JPS+ (Harabor and Grastien, ICAPS 2014); the format is this project's:
+//!
+//! ```text
+//! JPSPLUS1                 8 bytes
+//! the corner rule          1 byte: 0 where no corner is cut, 1 where one blocked cell may be passed
+//! width, height            2 bytes each
+//! entries of the land      for each cell by its number, for each direction from N clockwise: 2 bytes
+//! entries of the water     likewise
+//! ```
+//!
+//! Numbers have the lower byte first; entries are in two's complement.
+#![tactic(auto)]
+
+mod encoding;
+mod fault;
+mod loading;
+mod writing;
+
+pub use fault::TableFault;
+pub use loading::load;
+pub use std::alloc::AllocError as NoMemory;
+pub use writing::write_tables;
+
+#[cfg(test)]
+mod tests;
