@@ -1,0 +1,178 @@
+//! What a settled cell does: it offers each of its legal moves.
+//!
+//! A lesser rank takes the place of the neighbour's rank, and its directions that of the neighbour's; an equal
+//! one adds its directions. A neighbour whose rank falls into another wave waits for that wave. Its entry in the
+//! list of the wave before stays, and is passed over there.
+
+ghost use Rattle.std.specs.Prelude.{◌≡◌, ◌+◌, ◌<◌, ◌≤◌, ◌^◌, true, length, OnOk};
+ghost use Rattle.grid_moves.specs.Around.{if_open};
+ghost use Rattle.grid_moves.specs.Grid.{IsGrid, is_free};
+ghost use Rattle.grid_moves.specs.Move.{all_dirs};
+ghost use Rattle.cost_waves.specs.Front as spec;
+ghost use Rattle.cost_waves.specs.Front.{entered, next_with, after_with};
+ghost use Rattle.cost_waves.specs.Shape.{front_of, Fits};
+
+use crate::NoMemory;
+use crate::moves::moves_around;
+use grid_moves::{Around, Cell, Dir, Terrain, number_of};
+
+/// What one straight move counts in a rank.
+pub(crate) const STRAIGHT: u64 = 3_166_815_962;
+
+/// What one diagonal move counts.
+const DIAGONAL: u64 = 4_478_554_083;
+
+/// A cell that is settled: its rank, and the directions with which least walks to it begin. From the start of
+/// a pass a move begins with its own direction.
+#[derive(Clone, Copy)]
+pub(crate) struct Source {
+    pub(crate) cell: Cell,
+    pub(crate) rank: u64,
+    pub(crate) start: bool,
+    pub(crate) first: u8,
+}
+
+/// The cells that wait: for the next wave, and for the one after it.
+#[derive(Drop)]
+pub(crate) struct Ahead {
+    pub(crate) next: Vec<Cell>,
+    pub(crate) after: Vec<Cell>,
+}
+
+// What a move in a direction counts.
+#[inline(always)]
+fn dir_rank(d: Dir) -> u64
+    ensures value { result ≡ spec.dir_rank d }
+    ensures most { result ≤ 4478554083 }
+{
+    match d {
+        Dir::N | Dir::E | Dir::S | Dir::W => STRAIGHT,
+        Dir::NE | Dir::SE | Dir::SW | Dir::NW => DIAGONAL,
+    }
+}
+
+// The directions with which walks over this cell and on in this direction begin.
+#[inline(always)]
+fn first_over(from: Source, d: Dir) -> u8
+    ensures { result ≡ spec.first_over from d }
+{
+    let own = match d {
+        Dir::N => 1,
+        Dir::NE => 2,
+        Dir::E => 4,
+        Dir::SE => 8,
+        Dir::S => 16,
+        Dir::SW => 32,
+        Dir::W => 64,
+        Dir::NW => 128,
+    };
+    if from.start { own } else { from.first }
+}
+
+// Puts a cell whose rank fell into the list of its wave, unless it stands there. Ranks below the limit lie in
+// the next wave.
+#[inline(always)]
+fn list(to: Cell, rank: u64, known: u64, limit: u64, ahead: &mut Ahead) -> Result<(), NoMemory>
+    requires { limit < 2 ^ 63 }
+    ensures next { OnOk result (ahead.new.next.items ≡ next_with limit known rank to ahead.old.next.items) }
+    ensures after { OnOk result (ahead.new.after.items ≡ after_with limit known rank to ahead.old.after.items) }
+{
+    if rank < limit {
+        if limit <= known {
+            ahead.next.push(to)?;
+        }
+    } else if limit + STRAIGHT <= known {
+        ahead.after.push(to)?;
+    }
+    Ok(())
+}
+
+// Offers a cell a rank and directions.
+#[inline(always)]
+fn enter(
+    at: usize,
+    limit: u64,
+    to: Cell,
+    rank: u64,
+    first: u8,
+    ranks: &mut [u64],
+    firsts: &mut [u8],
+    ahead: &mut Ahead,
+) -> Result<(), NoMemory>
+    requires limit { limit < 2 ^ 63 }
+    requires ranked { at < length ranks.old }
+    requires begun { at < length firsts.old }
+    ensures { OnOk result (front_of ranks.new firsts.new ahead.new
+        ≡ entered at limit to rank first (front_of ranks.old firsts.old ahead.old)) }
+{
+    let known = ranks[at];
+    if rank < known {
+        ranks[at] = rank;
+        firsts[at] = first;
+        list(to, rank, known, limit, ahead)?;
+    } else if rank == known {
+        firsts[at] |= first;
+    }
+    Ok(())
+}
+
+// Offers a move in a direction, if it is open.
+#[inline(always)]
+fn offer(
+    from: Source,
+    d: Dir,
+    open: bool,
+    to: Cell,
+    width: u16,
+    limit: u64,
+    ranks: &mut [u64],
+    firsts: &mut [u8],
+    ahead: &mut Ahead,
+) -> Result<(), NoMemory>
+    requires limit { limit < 2 ^ 63 }
+    requires rank { from.rank < 2 ^ 63 }
+    requires fits { open ≡ true → Fits width to (length ranks.old) (length firsts.old) }
+    ensures { OnOk result (front_of ranks.new firsts.new ahead.new
+        ≡ spec.offered width limit from d (if_open open to) (front_of ranks.old firsts.old ahead.old)) }
+{
+    if !open {
+        return Ok(());
+    }
+    let at = number_of(width, to) as usize;
+    let rank = from.rank + dir_rank(d);
+    enter(at, limit, to, rank, first_over(from, d), ranks, firsts, ahead)
+}
+
+/// Offers the legal moves from a cell.
+#[inline(always)]
+pub(crate) fn spread<T: Terrain>(
+    t: &T,
+    from: Source,
+    limit: u64,
+    ranks: &mut [u64],
+    firsts: &mut [u8],
+    ahead: &mut Ahead,
+) -> Result<(), NoMemory>
+    requires whole { IsGrid (T.grid t.now) }
+    requires free { is_free (T.grid t.now) from.cell ≡ true }
+    requires limit { limit < 2 ^ 63 }
+    requires rank { from.rank < 2 ^ 63 }
+    requires ranked { length ranks.old ≡ (T.grid t.now).height * (T.grid t.now).width }
+    requires begun { length firsts.old ≡ (T.grid t.now).height * (T.grid t.now).width }
+    ensures { OnOk result (front_of ranks.new firsts.new ahead.new
+        ≡ spec.spread (T.grid t.now) limit from all_dirs (front_of ranks.old firsts.old ahead.old)) }
+{
+    let width = t.width();
+    let Cell { x, y } = from.cell;
+    let around = moves_around(t, from.cell);
+    let Around { left, right, up, down, .. } = around;
+    offer(from, Dir::N, around.n, Cell { x, y: up }, width, limit, ranks, firsts, ahead)?;
+    offer(from, Dir::NE, around.ne, Cell { x: right, y: up }, width, limit, ranks, firsts, ahead)?;
+    offer(from, Dir::E, around.e, Cell { x: right, y }, width, limit, ranks, firsts, ahead)?;
+    offer(from, Dir::SE, around.se, Cell { x: right, y: down }, width, limit, ranks, firsts, ahead)?;
+    offer(from, Dir::S, around.s, Cell { x, y: down }, width, limit, ranks, firsts, ahead)?;
+    offer(from, Dir::SW, around.sw, Cell { x: left, y: down }, width, limit, ranks, firsts, ahead)?;
+    offer(from, Dir::W, around.w, Cell { x: left, y }, width, limit, ranks, firsts, ahead)?;
+    offer(from, Dir::NW, around.nw, Cell { x: left, y: up }, width, limit, ranks, firsts, ahead)?;
+    Ok(())
+}
