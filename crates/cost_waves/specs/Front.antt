@@ -64,7 +64,7 @@ offered width limit from d (Some to) f =
     entered (cell_number width to) limit to (from.rank + dir_rank d) (first_over from d) f
 
 -- the legal moves in these directions
-abbrev pub spread : GridData → ℕ → Source → List Dir → Front → Front
+unfoldable pub spread : GridData → ℕ → Source → List Dir → Front → Front
 spread g limit from [] f = f
 spread g limit from (d ∷ dirs) f =
     spread g limit from dirs (offered g.width limit from d (legal_ahead g from.cell d) f)

@@ -4,7 +4,7 @@
 //! one adds its directions. A neighbour whose rank falls into another wave waits for that wave. Its entry in the
 //! list of the wave before stays, and is passed over there.
 
-ghost use Rattle.std.specs.Prelude.{◌≡◌, ◌+◌, ◌<◌, ◌≤◌, ◌^◌, true, length, OnOk};
+ghost use Rattle.std.specs.Prelude.{◌≡◌, ◌+◌, ◌*◌, ◌<◌, ◌≤◌, ◌^◌, true, length, OnOk};
 ghost use Rattle.grid_moves.specs.Around.{if_open};
 ghost use Rattle.grid_moves.specs.Grid.{IsGrid, is_free};
 ghost use Rattle.grid_moves.specs.Move.{all_dirs};
@@ -89,6 +89,7 @@ fn list(to: Cell, rank: u64, known: u64, limit: u64, ahead: &mut Ahead) -> Resul
 
 // Offers a cell a rank and directions.
 #[inline(always)]
+#[tactic(auto, unfolding(crate::specs::Front::entered))]
 fn enter(
     at: usize,
     limit: u64,
@@ -121,7 +122,7 @@ fn enter(
 fn offer(
     from: Source,
     d: Dir,
-    open: bool,
+    is_open: bool,
     to: Cell,
     width: u16,
     limit: u64,
@@ -131,11 +132,11 @@ fn offer(
 ) -> Result<(), NoMemory>
     requires limit { limit < 2 ^ 63 }
     requires rank { from.rank < 2 ^ 63 }
-    requires fits { open ≡ true → Fits width to (length ranks.old) (length firsts.old) }
+    requires fits { is_open ≡ true → Fits width to (length ranks.old) (length firsts.old) }
     ensures { OnOk result (front_of ranks.new firsts.new ahead.new
-        ≡ spec.offered width limit from d (if_open open to) (front_of ranks.old firsts.old ahead.old)) }
+        ≡ spec.offered width limit from d (if_open is_open to) (front_of ranks.old firsts.old ahead.old)) }
 {
-    if !open {
+    if !is_open {
         return Ok(());
     }
     let at = number_of(width, to) as usize;

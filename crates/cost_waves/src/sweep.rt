@@ -15,7 +15,7 @@ use std::mem;
 /// The cells of a wave, and those that wait for the next two.
 #[derive(Drop)]
 pub(crate) struct Lists {
-    pub(crate) now: Vec<Cell>,
+    pub(crate) wave: Vec<Cell>,
     pub(crate) ahead: Ahead,
 }
 
@@ -23,7 +23,7 @@ impl Lists {
     /// No cell, and no room yet.
     pub(crate) fn new(alloc: Global) -> Lists {
         Lists {
-            now: Vec::new(alloc),
+            wave: Vec::new(alloc),
             ahead: Ahead {
                 next: Vec::new(alloc),
                 after: Vec::new(alloc),
@@ -33,29 +33,29 @@ impl Lists {
 
     // Whether no cell waits.
     fn are_empty(&self) -> bool
-        ensures { result ≡ (vec_len self.now.now == 0 && vec_len self.now.ahead.next == 0 && vec_len self.now.ahead.after == 0) }
+        ensures { result ≡ (vec_len self.now.wave == 0 && vec_len self.now.ahead.next == 0 && vec_len self.now.ahead.after == 0) }
     {
-        self.now.is_empty() && self.ahead.next.is_empty() && self.ahead.after.is_empty()
+        self.wave.is_empty() && self.ahead.next.is_empty() && self.ahead.after.is_empty()
     }
 
     // Leaves the wave for the next one.
     fn turn(&mut self)
-        ensures now { self.new.now.items ≡ self.old.ahead.next.items }
+        ensures wave { self.new.wave.items ≡ self.old.ahead.next.items }
         ensures next { self.new.ahead.next.items ≡ self.old.ahead.after.items }
         ensures after { self.new.ahead.after.items ≡ [] }
     {
-        self.now.clear();
-        mem::swap(&mut self.now, &mut self.ahead.next);
+        self.wave.clear();
+        mem::swap(&mut self.wave, &mut self.ahead.next);
         mem::swap(&mut self.ahead.next, &mut self.ahead.after);
     }
 
     // Empties all lists.
     fn clear(&mut self)
-        ensures now { self.new.now.items ≡ [] }
+        ensures wave { self.new.wave.items ≡ [] }
         ensures next { self.new.ahead.next.items ≡ [] }
         ensures after { self.new.ahead.after.items ≡ [] }
     {
-        self.now.clear();
+        self.wave.clear();
         self.ahead.next.clear();
         self.ahead.after.clear();
     }
@@ -124,15 +124,15 @@ fn sweep<T: Terrain>(
     lists: &mut Lists,
 ) -> Result<(), NoMemory>
     requires whole { IsGrid (T.grid t.now) }
-    requires ready { HasReady (T.grid t.now) 3166815962 lists.old.now.items
+    requires ready { HasReady (T.grid t.now) 3166815962 lists.old.wave.items
         (front_of ranks.old firsts.old lists.old.ahead) }
     ensures { OnOk result ((s : Cell)
-        → IsReady (T.grid t.now) s 3166815962 lists.old.now.items (front_of ranks.old firsts.old lists.old.ahead)
+        → IsReady (T.grid t.now) s 3166815962 lists.old.wave.items (front_of ranks.old firsts.old lists.old.ahead)
         → IsSwept (T.grid t.now) s ranks.new firsts.new) }
 {
     let mut floor = STRAIGHT;
     while !lists.are_empty() {
-        wave(t, lists.now.as_slice(), floor, ranks, firsts, &mut lists.ahead)?;
+        wave(t, lists.wave.as_slice(), floor, ranks, firsts, &mut lists.ahead)?;
         lists.turn();
         floor += STRAIGHT;
     }
@@ -152,7 +152,7 @@ fn begin<T: Terrain>(
     requires begun { length firsts.old ≡ (T.grid t.now).height * (T.grid t.now).width }
     requires far { (k : ℕ) → slice_index_or ranks.old k far ≡ far }
     requires none { (k : ℕ) → slice_index_or firsts.old k 0 ≡ 0 }
-    ensures { OnOk result (IsReady (T.grid t.now) from 3166815962 lists.new.now.items
+    ensures { OnOk result (IsReady (T.grid t.now) from 3166815962 lists.new.wave.items
         (front_of ranks.new firsts.new lists.new.ahead)) }
 {
     lists.clear();

@@ -27,6 +27,7 @@ const DIAGONAL_RANK: u64 = 4_478_554_083;
 
 // The cost of a rank. As p, what a diagonal move counts, has a square that is 1 more than a multiple of q, what a
 // straight one counts, p times the rank leaves the diagonal moves modulo q.
+#[tactic(auto, unfolding(crate::specs::Rank::cost_of_rank))]
 fn cost_of_rank(rank: u64) -> Cost
     requires { rank < rank_limit }
     ensures { result ≡ spec.cost_of_rank rank }
@@ -41,6 +42,7 @@ fn cost_of_rank(rank: u64) -> Cost
 }
 
 // The cost that an entry tells, if it tells one.
+#[tactic(auto, unfolding(crate::specs::Rank::cost_of_rank))]
 fn cost_told(rank: u64) -> Option<Cost>
     ensures { result ≡ spec.cost_told rank }
 {
