@@ -1,2 +1,5 @@
 pub mod Spreading
 pub mod Walks
+pub mod Lists
+pub mod Keeping
+pub mod Entering

@@ -58,17 +58,20 @@ abbrev pub AllWait : GridData → ℕ → List ℕ → List Cell → Type 0
 AllWait g low ranks cells = (j : ℕ) (c : Cell) → slice_get cells j ≡ Some c → Waits g low ranks c
 
 -- a known cell was settled by a wave before, or it stands in the list of its wave
-pub data Held (floor : ℕ) (now : List Cell) (f : Front) (c : Cell) (rank : ℕ) : Type 0 where
-  before : rank < floor → Held floor now f c rank
-  here : rank < floor + straight_rank → Among now c → Held floor now f c rank
-  next : rank < floor + straight_rank + straight_rank → Among f.next c → Held floor now f c rank
-  after : rank < floor + straight_rank + straight_rank + straight_rank → Among f.after c → Held floor now f c rank
+pub data Held (floor : ℕ) (now next after : List Cell) (c : Cell) (rank : ℕ) : Type 0 where
+  before : rank < floor → Held floor now next after c rank
+  in_now : rank < floor + straight_rank → Among now c → Held floor now next after c rank
+  in_next : rank < floor + straight_rank + straight_rank → Among next c → Held floor now next after c rank
+  in_after : floor + straight_rank + straight_rank ≤ rank
+      → rank < floor + straight_rank + straight_rank + straight_rank → Among after c
+      → Held floor now next after c rank
 
 -- Of a pass from s, in the wave whose ranks begin at `floor`: each known rank is that of a walk, each told
 -- direction that of a walk of this rank, and each known cell is settled or waits.
 pub record Keeps (g : GridData) (s : Cell) (floor : ℕ) (now : List Cell) (f : Front) : Type 0 where
   pub ranked : length f.ranks ≡ g.height * g.width
   pub begun : length f.firsts ≡ g.height * g.width
+  pub home : is_free g s ≡ true
   pub start : rank_at g f.ranks s ≡ 0
   pub quiet : dirs_at g f.firsts s ≡ 0
   pub ways : (c : Cell) → is_inside g c ≡ true → rank_at g f.ranks c < rank_limit
@@ -78,7 +81,7 @@ pub record Keeps (g : GridData) (s : Cell) (floor : ℕ) (now : List Cell) (f : 
   pub told : (c : Cell) (d : Dir) → is_inside g c ≡ true → has_dir (dirs_at g f.firsts c) d ≡ true
       → rank_at g f.ranks c < rank_limit
   pub held : (c : Cell) → is_inside g c ≡ true → rank_at g f.ranks c < rank_limit
-      → Held floor now f c (rank_at g f.ranks c)
+      → Held floor now f.next f.after c (rank_at g f.ranks c)
   pub bounded : (c : Cell) → is_inside g c ≡ true → rank_at g f.ranks c < rank_limit
       → rank_at g f.ranks c + diagonal_rank ≤ diagonal_rank * known_count f.ranks
   pub wait_now : AllWait g floor f.ranks now
