@@ -122,6 +122,7 @@ module _ (g : GridData) (s : Cell) (whole : IsGrid g) (floor : ℕ) (now : List 
     joined_follows = record {
       lower = λ c i. omega arith;
       rank = λ c i h. refl;
+      back = λ c i h. refl;
       dirs = joined_stays;
       grows = λ c d i e h. joined_grows c d i h;
       more = omega arith;
@@ -343,6 +344,13 @@ module _ (g : GridData) (s : Cell) (whole : IsGrid g) (floor : ℕ) (now : List 
     lowered_follows = record {
       lower = lower;
       rank = λ c i h. there c (elsewhere c i h);
+      back = λ c i h. elim (same_or_apart g c to i on) [
+        | inr n ↦ there c n
+        | inl q ↦ absurd (
+            let low = o.low in
+            let n : rank_at g with_rank.ranks c ≡ rank = ap (λ (v : Cell). rank_at g with_rank.ranks v) q ∙ here in
+            omega arith)
+      ];
       dirs = λ c i h. dirs_else c (elsewhere c i h);
       grows = λ c d i e h. elim (same_or_apart g c to i on) [
         | inr n ↦ ap (λ (m : ℕ). has_dir m d) (dirs_else c n) ∙ h
@@ -399,6 +407,7 @@ has_entered g s whole floor now f k to rank first o limit is =
       follows = record {
         lower = λ c i. omega arith;
         rank = λ c i h. refl;
+      back = λ c i h. refl;
         dirs = λ c i h. refl;
         grows = λ c d i p h. h;
         more = omega arith;

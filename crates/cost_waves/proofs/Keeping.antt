@@ -91,6 +91,8 @@ pub record Follows (g : GridData) (floor : ℕ) (f f' : Front) : Type 0 where
   pub lower : (c : Cell) → IsOn g c → rank_at g f'.ranks c ≤ rank_at g f.ranks c
   pub rank : (c : Cell) → IsOn g c → rank_at g f.ranks c < floor + straight_rank
       → rank_at g f'.ranks c ≡ rank_at g f.ranks c
+  pub back : (c : Cell) → IsOn g c → rank_at g f'.ranks c < floor + straight_rank
+      → rank_at g f'.ranks c ≡ rank_at g f.ranks c
   pub dirs : (c : Cell) → IsOn g c → rank_at g f.ranks c < floor + straight_rank
       → dirs_at g f'.firsts c ≡ dirs_at g f.firsts c
   pub grows : (c : Cell) (d : Dir) → IsOn g c → rank_at g f'.ranks c ≡ rank_at g f.ranks c

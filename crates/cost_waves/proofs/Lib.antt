@@ -3,3 +3,4 @@ pub mod Walks
 pub mod Lists
 pub mod Keeping
 pub mod Entering
+pub mod Settling
