@@ -210,7 +210,7 @@ module _ (g : GridData) (s : Cell) (whole : IsGrid g) (floor : ℕ) (now : List 
     held_on : (c : Cell) (r : ℕ) → Held floor now f.next f.after c r → Held floor now with_rank.next with_rank.after c r
     held_on c r (before h) = before h
     held_on c r (in_now h a) = in_now h a
-    held_on c r (in_next h a) = in_next h (next_has c a)
+    held_on c r (in_next l h a) = in_next l h (next_has c a)
     held_on c r (in_after l h a) = in_after l h (after_has c a)
 
     -- the cell stands in the list of its new wave: it is put there, or it stood there
@@ -226,7 +226,7 @@ module _ (g : GridData) (s : Cell) (whole : IsGrid g) (floor : ℕ) (now : List 
         by_held : Held floor now f.next f.after to old → Among f.next to
         by_held (before q) = absurd (let l = o.low in omega arith)
         by_held (in_now q a) = absurd (let l = o.low in omega arith)
-        by_held (in_next q a) = a
+        by_held (in_next p q a) = a
         by_held (in_after p q a) = absurd (omega arith)
 
     stood_after : limit ≤ rank → old < limit + straight_rank → Among f.after to
@@ -235,7 +235,7 @@ module _ (g : GridData) (s : Cell) (whole : IsGrid g) (floor : ℕ) (now : List 
         by_held : Held floor now f.next f.after to old → Among f.after to
         by_held (before q) = absurd (omega arith)
         by_held (in_now q a) = absurd (omega arith)
-        by_held (in_next q a) = absurd (omega arith)
+        by_held (in_next p q a) = absurd (omega arith)
         by_held (in_after p q a) = a
 
     next_to : rank < limit → Among with_rank.next to
@@ -260,7 +260,7 @@ module _ (g : GridData) (s : Cell) (whole : IsGrid g) (floor : ℕ) (now : List 
     held_to = by_test (nat_lt rank limit) refl
       where
         by_test : (b : Bool) → nat_lt rank limit ≡ b → Held floor now with_rank.next with_rank.after to rank
-        by_test true e = let h : rank < limit = grind (arith, nat_tests) in in_next (omega arith) (next_to h)
+        by_test true e = let h : rank < limit = grind (arith, nat_tests) in in_next o.low (omega arith) (next_to h)
         by_test false e = let h : limit ≤ rank = grind (arith, nat_tests) in
             in_after (omega arith) o.high (after_to h)
 

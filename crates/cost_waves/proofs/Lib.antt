@@ -4,3 +4,5 @@ pub mod Lists
 pub mod Keeping
 pub mod Entering
 pub mod Settling
+pub mod Waving
+pub mod Beginning

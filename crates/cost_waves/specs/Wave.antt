@@ -61,7 +61,8 @@ AllWait g low ranks cells = (j : ℕ) (c : Cell) → slice_get cells j ≡ Some 
 pub data Held (floor : ℕ) (now next after : List Cell) (c : Cell) (rank : ℕ) : Type 0 where
   before : rank < floor → Held floor now next after c rank
   in_now : rank < floor + straight_rank → Among now c → Held floor now next after c rank
-  in_next : rank < floor + straight_rank + straight_rank → Among next c → Held floor now next after c rank
+  in_next : floor + straight_rank ≤ rank → rank < floor + straight_rank + straight_rank → Among next c
+      → Held floor now next after c rank
   in_after : floor + straight_rank + straight_rank ≤ rank
       → rank < floor + straight_rank + straight_rank + straight_rank → Among after c
       → Held floor now next after c rank

@@ -1,6 +1,6 @@
 //! All waves of a pass.
 
-ghost use Rattle.std.specs.Prelude.{◌≡◌, ◌+◌, ◌*◌, ◌<◌, ◌^◌, ◌==◌, ◌&&◌, [], ℕ, true, length, slice_index_or, OnOk, vec_len};
+ghost use Rattle.std.specs.Prelude.{◌≡◌, ◌+◌, ◌*◌, ◌<◌, ◌^◌, ◌==◌, ◌&&◌, [], ℕ, true, length, slice_index_or, OnOk};
 ghost use Rattle.grid_moves.specs.Grid.{IsGrid, is_free};
 ghost use Rattle.cost_waves.specs.Rank.{far};
 ghost use Rattle.cost_waves.specs.Shape.{front_of};
@@ -33,7 +33,8 @@ impl Lists {
 
     // Whether no cell waits.
     fn are_empty(&self) -> bool
-        ensures { result ≡ (vec_len self.now.wave == 0 && vec_len self.now.ahead.next == 0 && vec_len self.now.ahead.after == 0) }
+        ensures { result ≡ (length self.now.wave.items == 0 && length self.now.ahead.next.items == 0
+            && length self.now.ahead.after.items == 0) }
     {
         self.wave.is_empty() && self.ahead.next.is_empty() && self.ahead.after.is_empty()
     }
@@ -72,7 +73,7 @@ fn settle<T: Terrain>(
     ahead: &mut Ahead,
 ) -> Result<(), NoMemory>
     requires free { is_free (T.grid t.now) c ≡ true }
-    requires floor { floor < 2 ^ 62 }
+    requires floor { floor < 2 ^ 61 }
     requires rank { rank_at (T.grid t.now) ranks.old c < 2 ^ 63 }
     requires ranked { length ranks.old ≡ (T.grid t.now).height * (T.grid t.now).width }
     requires begun { length firsts.old ≡ (T.grid t.now).height * (T.grid t.now).width }
@@ -104,7 +105,8 @@ fn wave<T: Terrain>(
     ahead: &mut Ahead,
 ) -> Result<(), NoMemory>
     requires whole { IsGrid (T.grid t.now) }
-    requires floor { floor < 2 ^ 62 }
+    requires above { 0 < floor }
+    requires below { floor < 2 ^ 61 }
     requires ready { HasReady (T.grid t.now) floor now.now (front_of ranks.old firsts.old ahead.old) }
     ensures { OnOk result ((s : Cell)
         → IsReady (T.grid t.now) s floor now.now (front_of ranks.old firsts.old ahead.old)
