@@ -154,8 +154,9 @@ fn begin<T: Terrain>(
     requires begun { length firsts.old ≡ (T.grid t.now).height * (T.grid t.now).width }
     requires far { (k : ℕ) → slice_index_or ranks.old k far ≡ far }
     requires none { (k : ℕ) → slice_index_or firsts.old k 0 ≡ 0 }
-    ensures { OnOk result (IsReady (T.grid t.now) from 3166815962 lists.new.wave.items
+    ensures ready { OnOk result (IsReady (T.grid t.now) from 3166815962 lists.new.wave.items
         (front_of ranks.new firsts.new lists.new.ahead)) }
+    ensures whole { IsGrid (T.grid t.now) }
 {
     lists.clear();
     let at = number_of(t.width(), from) as usize;
@@ -184,7 +185,8 @@ pub(crate) fn pass_from<T: Terrain>(
     requires begun { length firsts.old ≡ (T.grid t.now).height * (T.grid t.now).width }
     requires far { (k : ℕ) → slice_index_or ranks.old k far ≡ far }
     requires none { (k : ℕ) → slice_index_or firsts.old k 0 ≡ 0 }
-    ensures { OnOk result (IsSwept (T.grid t.now) from ranks.new firsts.new) }
+    ensures swept { OnOk result (IsSwept (T.grid t.now) from ranks.new firsts.new) }
+    ensures whole { IsGrid (T.grid t.now) }
 {
     begin(t, from, ranks, firsts, lists)?;
     sweep(t, ranks, firsts, lists)

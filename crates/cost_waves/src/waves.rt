@@ -156,11 +156,13 @@ impl CostWaves {
             self.firsts.as_mut_slice(),
             &mut self.lists,
         );
-        if let Err(e) = outcome {
-            forget(self.ranks.as_mut_slice(), self.firsts.as_mut_slice());
-            return Err(e);
+        match outcome {
+            Ok(()) => Ok(()),
+            Err(e) => {
+                forget(self.ranks.as_mut_slice(), self.firsts.as_mut_slice());
+                Err(e)
+            }
         }
-        Ok(())
     }
 
     /// The least cost that is told of a cell, `None` where none is.
