@@ -174,15 +174,15 @@ module _ (g : GridData) (s : Cell) (whole : IsGrid g) (free : is_free g s ≡ tr
   -- the same, told by what the code has
   pub begun_by : (f : Front) (place : ℕ) (next after : List Cell) → place ≡ cell_number g.width s → next ≡ []
       → after ≡ [] → f ≡ spread g (2 * straight_rank) source all_dirs
-        (record { ranks = set ranks place 0; firsts = firsts; next = next; after = after })
+      (record { ranks = set ranks place 0; firsts = firsts; next = next; after = after })
       → (now' next' after' : List Cell) → now' ≡ f.next → next' ≡ f.after → after' ≡ []
       → IsReady g s straight_rank now' (record { ranks = f.ranks; firsts = f.firsts; next = next'; after = after' })
   begun_by f place next after e n a made now' next' after' p q t =
       let same : f ≡ spread g (2 * straight_rank) source all_dirs f0 = made
       ∙ ap (λ (k : ℕ). spread g (2 * straight_rank) source all_dirs
-        (record { ranks = set ranks k 0; firsts = firsts; next = next; after = after })) e
+      (record { ranks = set ranks k 0; firsts = firsts; next = next; after = after })) e
       ∙ ap (λ (ys : List Cell). spread g (2 * straight_rank) source all_dirs
-        (record { ranks = set ranks at 0; firsts = firsts; next = ys; after = after })) n
+      (record { ranks = set ranks at 0; firsts = firsts; next = ys; after = after })) n
       ∙ ap (λ (zs : List Cell). spread g (2 * straight_rank) source all_dirs
-        (record { ranks = set ranks at 0; firsts = firsts; next = []; after = zs })) a in
+      (record { ranks = set ranks at 0; firsts = firsts; next = []; after = zs })) a in
       ready_by g s straight_rank f.ranks f.firsts f.next f.after [] (begun_ready f same) now' next' after' p q t

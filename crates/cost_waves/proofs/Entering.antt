@@ -303,7 +303,7 @@ module _ (g : GridData) (s : Cell) (whole : IsGrid g) (floor : ℕ) (now : List 
       where
         by_test : (a b : Bool) → nat_le limit rank ≡ a
             → AllWait g (floor + straight_rank + straight_rank) with_rank.ranks
-              (if a && b then f.after ++ (to ∷ []) else f.after)
+            (if a && b then f.after ++ (to ∷ []) else f.after)
         by_test true true e =
             let h : limit ≤ rank = grind (arith, nat_tests) in
             one_more_waits (floor + straight_rank + straight_rank) f.after k.wait_after (omega arith) o.high
@@ -407,7 +407,7 @@ has_entered g s whole floor now f k to rank first o limit is =
       follows = record {
         lower = λ c i. omega arith;
         rank = λ c i h. refl;
-      back = λ c i h. refl;
+        back = λ c i h. refl;
         dirs = λ c i h. refl;
         grows = λ c d i p h. h;
         more = omega arith;

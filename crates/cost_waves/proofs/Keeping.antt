@@ -47,7 +47,7 @@ effect at limit to rank first f =
   where
     by_tests : (a b : Bool) → nat_lt rank (get_or f.ranks at far) ≡ a → nat_eq rank (get_or f.ranks at far) ≡ b
         → Effect at limit to rank first f (if a then lowered at limit to rank first f
-            else if b then joined at first f else f)
+        else if b then joined at first f else f)
     by_tests true b p q = lowers (grind (arith, nat_tests)) refl
     by_tests false true p q = joins (grind (arith, nat_tests)) refl
     by_tests false false p q = passes (grind (arith, nat_tests)) refl

@@ -208,7 +208,7 @@ pub wave_turned : (g : GridData) (s : Cell) (floor : ℕ) (now now1 : List Cell)
     → (IsReady g s floor now1 f0 → IsMidway g s floor now1 (length now1) f) → (now' next' after' : List Cell)
     → now' ≡ f.next → next' ≡ f.after → after' ≡ []
     → IsReady g s (floor + straight_rank) now'
-      (record { ranks = f.ranks; firsts = f.firsts; next = next'; after = after' })
+    (record { ranks = f.ranks; firsts = f.firsts; next = next'; after = after' })
 wave_turned g s floor now now1 f0 f small e r wave now' next' after' p q t =
     let m = wave (subst (λ (xs : List Cell). IsReady g s floor xs f0) (sym e) r) in
     ready_by g s (floor + straight_rank) f.ranks f.firsts f.next f.after [] (turn_ready g s floor now1 f small m)

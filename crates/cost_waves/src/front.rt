@@ -141,7 +141,16 @@ fn offer(
     }
     let at = number_of(width, to) as usize;
     let rank = from.rank + dir_rank(d);
-    enter(at, limit, to, rank, first_over(from, d), ranks, firsts, ahead)
+    enter(
+        at,
+        limit,
+        to,
+        rank,
+        first_over(from, d),
+        ranks,
+        firsts,
+        ahead,
+    )
 }
 
 /// Offers the legal moves from a cell.
@@ -166,14 +175,100 @@ pub(crate) fn spread<T: Terrain>(
     let width = t.width();
     let Cell { x, y } = from.cell;
     let around = moves_around(t, from.cell);
-    let Around { left, right, up, down, .. } = around;
-    offer(from, Dir::N, around.n, Cell { x, y: up }, width, limit, ranks, firsts, ahead)?;
-    offer(from, Dir::NE, around.ne, Cell { x: right, y: up }, width, limit, ranks, firsts, ahead)?;
-    offer(from, Dir::E, around.e, Cell { x: right, y }, width, limit, ranks, firsts, ahead)?;
-    offer(from, Dir::SE, around.se, Cell { x: right, y: down }, width, limit, ranks, firsts, ahead)?;
-    offer(from, Dir::S, around.s, Cell { x, y: down }, width, limit, ranks, firsts, ahead)?;
-    offer(from, Dir::SW, around.sw, Cell { x: left, y: down }, width, limit, ranks, firsts, ahead)?;
-    offer(from, Dir::W, around.w, Cell { x: left, y }, width, limit, ranks, firsts, ahead)?;
-    offer(from, Dir::NW, around.nw, Cell { x: left, y: up }, width, limit, ranks, firsts, ahead)?;
+    let Around {
+        left,
+        right,
+        up,
+        down,
+        ..
+    } = around;
+    offer(
+        from,
+        Dir::N,
+        around.n,
+        Cell { x, y: up },
+        width,
+        limit,
+        ranks,
+        firsts,
+        ahead,
+    )?;
+    offer(
+        from,
+        Dir::NE,
+        around.ne,
+        Cell { x: right, y: up },
+        width,
+        limit,
+        ranks,
+        firsts,
+        ahead,
+    )?;
+    offer(
+        from,
+        Dir::E,
+        around.e,
+        Cell { x: right, y },
+        width,
+        limit,
+        ranks,
+        firsts,
+        ahead,
+    )?;
+    offer(
+        from,
+        Dir::SE,
+        around.se,
+        Cell { x: right, y: down },
+        width,
+        limit,
+        ranks,
+        firsts,
+        ahead,
+    )?;
+    offer(
+        from,
+        Dir::S,
+        around.s,
+        Cell { x, y: down },
+        width,
+        limit,
+        ranks,
+        firsts,
+        ahead,
+    )?;
+    offer(
+        from,
+        Dir::SW,
+        around.sw,
+        Cell { x: left, y: down },
+        width,
+        limit,
+        ranks,
+        firsts,
+        ahead,
+    )?;
+    offer(
+        from,
+        Dir::W,
+        around.w,
+        Cell { x: left, y },
+        width,
+        limit,
+        ranks,
+        firsts,
+        ahead,
+    )?;
+    offer(
+        from,
+        Dir::NW,
+        around.nw,
+        Cell { x: left, y: up },
+        width,
+        limit,
+        ranks,
+        firsts,
+        ahead,
+    )?;
     Ok(())
 }

@@ -15,3 +15,6 @@ mod waves;
 
 pub use std::alloc::AllocError as NoMemory;
 pub use waves::CostWaves;
+
+#[cfg(test)]
+mod tests;

@@ -134,7 +134,14 @@ fn sweep<T: Terrain>(
 {
     let mut floor = STRAIGHT;
     while !lists.are_empty() {
-        wave(t, lists.wave.as_slice(), floor, ranks, firsts, &mut lists.ahead)?;
+        wave(
+            t,
+            lists.wave.as_slice(),
+            floor,
+            ranks,
+            firsts,
+            &mut lists.ahead,
+        )?;
         lists.turn();
         floor += STRAIGHT;
     }

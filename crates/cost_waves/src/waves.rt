@@ -133,6 +133,20 @@ impl CostWaves {
         })
     }
 
+    /// The number of columns of the maps.
+    pub fn width(&self) -> u16
+        ensures { result ≡ self.now.width }
+    {
+        self.width
+    }
+
+    /// The number of rows of the maps.
+    pub fn height(&self) -> u16
+        ensures { result ≡ self.now.height }
+    {
+        self.height
+    }
+
     /// Finds the least costs from a free cell to all cells of a map of these sides, and the directions with
     /// which least walks begin. What an earlier pass found is forgotten.
     ///
