@@ -1,6 +1,6 @@
 //! The memory of passes, and what the last of them found.
 
-ghost use Rattle.std.specs.Prelude.{◌≡◌, ◌*◌, ◌<◌, ℕ, true, length, slice_index_or, replicate, IfOk, OnOk, OnErr};
+ghost use Rattle.std.specs.Prelude.{◌≡◌, ◌*◌, ◌<◌, ℕ, true, length, map, slice_index_or, replicate, IfOk, OnOk, OnErr};
 ghost use Rattle.grid_moves.specs.Grid.{AreSides, is_free};
 ghost use Rattle.cost_waves.specs.Rank.{far, rank_limit};
 ghost use Rattle.cost_waves.specs.Rank as spec;
@@ -51,6 +51,13 @@ fn cost_told(rank: u64) -> Option<Cost>
     } else {
         None
     }
+}
+
+// The costs that entries tell.
+fn costs_told(alloc: Global, ranks: &[u64]) -> Result<Vec<Option<Cost>>, NoMemory>
+    ensures { IfOk result (λ costs. costs.items ≡ map spec.cost_told ranks.now) }
+{
+    ranks.iter().map(|rank| cost_told(*rank)).collect(alloc)
 }
 
 // Whether the byte has the direction.
@@ -205,6 +212,14 @@ impl CostWaves {
         ensures { result ≡ firsts_at self.now c }
     {
         self.firsts[number_of(self.width, c) as usize]
+    }
+
+    /// The costs that are told of the cells, in the order of their numbers, row by row from the upper left.
+    pub fn all_costs(&self, alloc: Global) -> Result<Vec<Option<Cost>>, NoMemory>
+        ensures costs { IfOk result (λ costs. costs.items ≡ map spec.cost_told self.now.ranks) }
+        ensures whole { IfOk result (λ costs. length costs.items ≡ self.now.height * self.now.width) }
+    {
+        costs_told(alloc, self.ranks.as_slice())
     }
 
     /// The directions that are told of the cells, a byte for each cell in the order of their numbers.
