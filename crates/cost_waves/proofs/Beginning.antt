@@ -1,7 +1,6 @@
 -- The start of a pass: its own wave.
-use Rattle.std.proofs.Common.{◌≡◌, ◌≢◌, ℕ, zero, suc, ◌+◌, ◌*◌, ◌^◌, ◌<◌, ◌≤◌, ◌⊎◌, inl, inr, arith, refl, ap, sym, ◌∙◌, subst, Bool, true, false, List, [], ◌∷◌, length, get_or, set, length-set}
-use Rattle.std.specs.Prelude.{Option, Some, None, slice_get, nat_lt, nat_eq, if◌then◌else◌}
-use Rattle.std.specs.Int.{bit_at}
+use Rattle.std.proofs.Common.{◌≡◌, ◌≢◌, ℕ, zero, suc, ◌+◌, ◌*◌, ◌^◌, ◌<◌, ◌≤◌, inl, inr, arith, refl, ap, sym, ◌∙◌, subst, Bool, true, false, List, [], ◌∷◌, length, get_or, set, length-set}
+use Rattle.std.specs.Prelude.{Option, Some, None, slice_get, nat_eq, if◌then◌else◌}
 use Rattle.std.proofs.lemmas.Bool.Decides.{nat_tests}
 use Rattle.std.proofs.lemmas.List.{get_or-set_same, get_or-set_other}
 use Rattle.std.proofs.lemmas.Nat.Bits.{bit_at-pow_same, bit_at-pow_other, bit_at-zero}
@@ -11,13 +10,13 @@ use Rattle.grid_moves.specs.declared.Cell.{Cell}
 use Rattle.grid_moves.specs.declared.Dir.{Dir}
 use Rattle.grid_moves.specs.declared.Dir.TheVariants.{N, NE, E, SE, S, SW, W, NW}
 use Rattle.grid_moves.specs.Grid.{GridData, IsGrid, cell_number, is_free, is_inside}
-use Rattle.grid_moves.specs.Move.{all_dirs, legal_ahead, dir_number}
+use Rattle.grid_moves.specs.Move.{all_dirs, dir_number}
 use Rattle.grid_moves.proofs.Places.{number_below}
 use Rattle.cost_waves.specs.declared.front.Source.{Source}
-use Rattle.cost_waves.specs.Front.{Front, spread, dir_rank, first_over}
+use Rattle.cost_waves.specs.Front.{Front, spread, dir_rank}
 use Rattle.cost_waves.specs.Rank.{far, rank_limit}
 use Rattle.cost_waves.specs.Told.{has_dir}
-use Rattle.cost_waves.specs.Wave.{rank_at, dirs_at, known_count, Way, WayBy, Among, Waits, AllWait, Held, in_now, Keeps, IsSettled, IsReady, IsMidway}
+use Rattle.cost_waves.specs.Wave.{rank_at, dirs_at, known_count, Way, WayBy, Waits, AllWait, Held, in_now, Keeps, IsSettled, IsReady}
 use Rattle.cost_waves.proofs.Keeping.{IsOn, is_on, free_on, same_or_apart}
 use Rattle.cost_waves.proofs.Lists.{count_new}
 use Rattle.cost_waves.proofs.Settling.{IsSource, HasSpread, has_spread, in_all}

@@ -1,14 +1,14 @@
 -- One offer keeps what holds in a wave.
-use Rattle.std.proofs.Common.{◌≡◌, ◌≢◌, ℕ, ◌+◌, ◌*◌, ◌<◌, ◌≤◌, ◌⊎◌, inl, inr, arith, refl, ap, sym, ◌∙◌, subst, Bool, true, false, List, [], ◌∷◌, ◌++◌, length, get_or, set, length-set}
-use Rattle.std.specs.Prelude.{Some, slice_get, nat_lt, nat_le, bit_or, ◌&&◌, if◌then◌else◌}
+use Rattle.std.proofs.Common.{◌≡◌, ◌≢◌, ℕ, ◌+◌, ◌*◌, ◌<◌, ◌≤◌, inl, inr, arith, refl, ap, sym, ◌∙◌, subst, Bool, true, false, List, [], ◌∷◌, ◌++◌, length, get_or, length-set}
+use Rattle.std.specs.Prelude.{nat_lt, nat_le, bit_or, ◌&&◌, if◌then◌else◌}
 use Rattle.std.proofs.lemmas.Bool.Decides.{nat_tests}
 use Rattle.std.proofs.lemmas.List.{get_or-set_same, get_or-set_other}
 use Rattle.root2_cost.specs.Rank.{straight_rank, diagonal_rank}
 use Rattle.grid_moves.specs.declared.Cell.{Cell}
 use Rattle.grid_moves.specs.declared.Dir.{Dir}
-use Rattle.grid_moves.specs.Grid.{GridData, IsGrid, cell_number, is_free, is_inside}
+use Rattle.grid_moves.specs.Grid.{GridData, IsGrid, cell_number, is_inside}
 use Rattle.grid_moves.proofs.Places.{number_below}
-use Rattle.cost_waves.specs.Front.{Front, entered, next_with, after_with}
+use Rattle.cost_waves.specs.Front.{Front, entered}
 use Rattle.cost_waves.specs.Rank.{far, rank_limit}
 use Rattle.cost_waves.specs.Told.{has_dir}
 use Rattle.cost_waves.specs.Wave.{rank_at, dirs_at, known_count, Way, WayBy, Among, Waits, AllWait, Held, before, in_now, in_next, in_after, Keeps}

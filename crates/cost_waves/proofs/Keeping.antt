@@ -1,20 +1,19 @@
 -- What one offer keeps.
-use Rattle.std.proofs.Common.{◌≡◌, ◌≢◌, ℕ, ◌+◌, ◌*◌, ◌<◌, ◌≤◌, ◌⊎◌, inl, inr, arith, refl, ap, sym, ◌∙◌, subst, Bool, true, false, List, [], ◌∷◌, ◌++◌, length, get_or, set, length-set, mul-le-mul}
-use Rattle.std.specs.Prelude.{Some, slice_get, nat_lt, nat_le, nat_eq, bit_or, ◌&&◌, if◌then◌else◌}
+use Rattle.std.proofs.Common.{◌≡◌, ◌≢◌, ℕ, ◌+◌, ◌*◌, ◌<◌, ◌≤◌, ◌⊎◌, inl, inr, arith, refl, ap, sym, ◌∙◌, Bool, true, false, length, get_or, set, mul-le-mul}
+use Rattle.std.specs.Prelude.{nat_lt, nat_eq, bit_or, if◌then◌else◌}
 use Rattle.std.proofs.lemmas.Bool.Decides.{nat_tests}
-use Rattle.std.proofs.lemmas.List.{get_or-set_same, get_or-set_other}
 use Rattle.root2_cost.specs.Rank.{straight_rank, diagonal_rank}
 use Rattle.grid_moves.specs.declared.Cell.{Cell}
 use Rattle.grid_moves.specs.declared.Dir.{Dir}
 use Rattle.grid_moves.specs.Grid.{GridData, IsGrid, cell_number, is_free, is_inside}
 use Rattle.grid_moves.specs.Move.{is_same}
 use Rattle.grid_moves.proofs.Legal.{free_inside, is_same-cell, is_same-itself}
-use Rattle.grid_moves.proofs.Places.{one_cell, number_below}
+use Rattle.grid_moves.proofs.Places.{one_cell}
 use Rattle.cost_waves.specs.Front.{Front, entered, next_with, after_with}
-use Rattle.cost_waves.specs.Rank.{far, rank_limit}
+use Rattle.cost_waves.specs.Rank.{far}
 use Rattle.cost_waves.specs.Told.{has_dir}
-use Rattle.cost_waves.specs.Wave.{rank_at, dirs_at, known_count, Way, WayBy, Among, Waits, AllWait, Held, before, in_now, in_next, in_after, Keeps}
-use Rattle.cost_waves.proofs.Lists.{among_more, among_last, from_more, count_new, count_old, count_low, or_left, or_right, or_either}
+use Rattle.cost_waves.specs.Wave.{rank_at, dirs_at, known_count, Way, WayBy}
+use Rattle.cost_waves.proofs.Lists.{count_low}
 
 -- the front with a lesser rank, and with an equal one
 abbrev pub lowered : ℕ → ℕ → Cell → ℕ → ℕ → Front → Front

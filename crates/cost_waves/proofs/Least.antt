@@ -1,29 +1,28 @@
 -- When no cell waits, known ranks are those of least walks, and told directions those of their first moves.
-use Rattle.std.proofs.Common.{◌≡◌, ℕ, ◌+◌, ◌*◌, ◌^◌, ◌<◌, ◌≤◌, ◌⊎◌, inl, inr, arith, refl, ap, sym, ◌∙◌, subst, Bool, true, false, List, [], ◌∷◌, length, get_or}
-use Rattle.std.specs.Prelude.{Option, Some, None, slice_get, nat_lt, if◌then◌else◌, IsTrue, ◌↔◌}
+use Rattle.std.proofs.Common.{◌≡◌, ℕ, ◌+◌, ◌*◌, ◌^◌, ◌<◌, ◌≤◌, inl, inr, arith, refl, ap, sym, ◌∙◌, subst, Bool, true, false, List, [], ◌∷◌}
+use Rattle.std.specs.Prelude.{Some, None, nat_lt, if◌then◌else◌}
 use Rattle.std.proofs.lemmas.Bool.Decides.{nat_tests}
 use Rattle.std.proofs.lemmas.Option.{slice_get_within}
 use Rattle.root2_cost.specs.declared.Cost.{Cost}
 use Rattle.root2_cost.specs.Laws.{HasShortParts}
 use Rattle.root2_cost.specs.Order.{IsLess, IsAtMost}
-use Rattle.root2_cost.specs.Rank.{rank_of, straight_rank, diagonal_rank}
-use Rattle.root2_cost.specs.Sums.{add_costs}
+use Rattle.root2_cost.specs.Rank.{rank_of}
 use Rattle.root2_cost.proofs.AtMost.{IsAtMost-cases, IsAtMost-or_more, IsAtMost-not_more, at_most_by_counts}
 use Rattle.root2_cost.proofs.Ranking.{less_ranks}
 use Rattle.grid_moves.specs.declared.Cell.{Cell}
 use Rattle.grid_moves.specs.declared.Dir.{Dir}
-use Rattle.grid_moves.specs.Grid.{GridData, IsGrid, cell_number, is_free, is_inside}
+use Rattle.grid_moves.specs.Grid.{GridData, IsGrid, is_inside}
 use Rattle.grid_moves.specs.Move.{is_legal, legal_ahead, move_cost}
-use Rattle.grid_moves.specs.Walk.{IsWalk, IsLeastWalk, NoWalk, is_walk, cost_of, last_of}
+use Rattle.grid_moves.specs.Walk.{IsWalk, IsLeastWalk, is_walk, cost_of, last_of}
 use Rattle.grid_moves.proofs.Ahead.{legal_ahead-of, legal_ahead-is}
 use Rattle.grid_moves.proofs.Legal.{and_both, legal_is}
-use Rattle.cost_waves.specs.Begin.{IsLeastCost, IsCostTo, Begins}
+use Rattle.cost_waves.specs.Begin.{IsCostTo, Begins}
 use Rattle.cost_waves.specs.Front.{Front, dir_rank}
-use Rattle.cost_waves.specs.Rank.{far, rank_limit, cost_of_rank, cost_told}
-use Rattle.cost_waves.specs.Told.{WaveData, has_dir, cost_at, begins_with, Tells}
-use Rattle.cost_waves.specs.Wave.{rank_at, dirs_at, Way, WayBy, Among, Held, before, in_now, in_next, in_after, Keeps, IsRelaxed, IsSettled, IsSwept, ended}
+use Rattle.cost_waves.specs.Rank.{rank_limit, cost_of_rank}
+use Rattle.cost_waves.specs.Told.{has_dir, Tells}
+use Rattle.cost_waves.specs.Wave.{rank_at, dirs_at, Among, Held, before, in_now, in_next, in_after, Keeps, IsSettled, IsSwept, ended}
 use Rattle.cost_waves.proofs.Decoding.{cost-rank}
-use Rattle.cost_waves.proofs.Keeping.{IsOn, free_on, on_inside, few}
+use Rattle.cost_waves.proofs.Keeping.{free_on, on_inside, few}
 use Rattle.cost_waves.proofs.Walks.{rank-add_costs, rank-move, rank_high}
 
 -- a cost of a small rank has few moves

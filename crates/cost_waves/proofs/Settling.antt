@@ -1,23 +1,22 @@
 -- A cell that is settled: all its moves are offered.
-use Rattle.std.proofs.Common.{◌≡◌, ℕ, ◌+◌, ◌*◌, ◌<◌, ◌≤◌, ◌⊎◌, inl, inr, arith, refl, ap, sym, ◌∙◌, subst, Bool, true, false, List, [], ◌∷◌}
-use Rattle.std.specs.Prelude.{Option, Some, None, slice_get, nat_lt, if◌then◌else◌}
-use Rattle.std.proofs.lemmas.Bool.Decides.{nat_tests}
-use Rattle.root2_cost.specs.Rank.{straight_rank, diagonal_rank}
+use Rattle.std.proofs.Common.{◌≡◌, ℕ, ◌+◌, ◌*◌, ◌<◌, ◌≤◌, arith, refl, ap, sym, ◌∙◌, subst, true, List, [], ◌∷◌}
+use Rattle.std.specs.Prelude.{Option, Some, None}
+use Rattle.root2_cost.specs.Rank.{straight_rank}
 use Rattle.grid_moves.specs.declared.Cell.{Cell}
 use Rattle.grid_moves.specs.declared.Dir.{Dir}
 use Rattle.grid_moves.specs.declared.Dir.TheVariants.{N, NE, E, SE, S, SW, W, NW}
-use Rattle.grid_moves.specs.Grid.{GridData, IsGrid, cell_number, is_free, is_inside}
+use Rattle.grid_moves.specs.Grid.{GridData, IsGrid, is_free, is_inside}
 use Rattle.grid_moves.specs.Move.{all_dirs, legal_ahead}
 use Rattle.grid_moves.proofs.Ahead.{legal_ahead-is}
 use Rattle.grid_moves.proofs.Legal.{legal_is}
 use Rattle.cost_waves.specs.declared.front.Source.{Source}
-use Rattle.cost_waves.specs.Front.{Front, entered, offered, spread, dir_rank, first_over}
-use Rattle.cost_waves.specs.Rank.{far, rank_limit}
+use Rattle.cost_waves.specs.Front.{Front, offered, spread, dir_rank, first_over}
+use Rattle.cost_waves.specs.Rank.{rank_limit}
 use Rattle.cost_waves.specs.Told.{has_dir}
-use Rattle.cost_waves.specs.Wave.{rank_at, dirs_at, Way, WayBy, Keeps, IsRelaxed, IsSettled, IsReady, IsMidway, settled, source_at}
+use Rattle.cost_waves.specs.Wave.{rank_at, dirs_at, Way, WayBy, Keeps, IsRelaxed, IsSettled}
 use Rattle.cost_waves.proofs.Entering.{HasEntered, has_entered}
-use Rattle.cost_waves.proofs.Keeping.{IsOn, is_on, free_on, on_inside, IsOffer, Follows, few}
-use Rattle.cost_waves.proofs.Walks.{way_more, way_by_more, rank_low, rank_high}
+use Rattle.cost_waves.proofs.Keeping.{IsOn, free_on, on_inside, IsOffer, Follows}
+use Rattle.cost_waves.proofs.Walks.{way_more, rank_low, rank_high}
 
 -- where a legal move leads
 pub ahead_is_free : (g : GridData) (u v : Cell) (d : Dir) → legal_ahead g u d ≡ Some v → is_free g v ≡ true

@@ -1,17 +1,17 @@
 -- Walks with one more move, and what a move counts.
-use Rattle.std.proofs.Common.{◌≡◌, ℕ, zero, suc, ◌+◌, ◌*◌, ◌<◌, ◌≤◌, arith, refl, ap, sym, ◌∙◌, subst, Bool, true, false, ◌||◌, List, [], ◌∷◌, ◌++◌}
+use Rattle.std.proofs.Common.{◌≡◌, ℕ, zero, suc, ◌+◌, ◌≤◌, arith, refl, ap, sym, ◌∙◌, subst, Bool, true, false, ◌||◌, List, [], ◌∷◌, ◌++◌}
 use Rattle.std.specs.Prelude.{Option, Some, None, nat_eq, if◌then◌else◌, option_and_then}
 use Rattle.std.proofs.lemmas.Bool.Decides.{nat_tests}
 use Rattle.root2_cost.specs.declared.Cost.{Cost}
 use Rattle.root2_cost.specs.Rank.{rank_of, straight_rank, diagonal_rank}
-use Rattle.root2_cost.specs.Sums.{add_costs, no_cost}
+use Rattle.root2_cost.specs.Sums.{add_costs}
 use Rattle.root2_cost.proofs.Sums.{add_costs-assoc, add_costs-no_cost_left, add_costs-no_cost_right}
 use Rattle.grid_moves.specs.declared.Cell.{Cell}
 use Rattle.grid_moves.specs.declared.Dir.{Dir}
 use Rattle.grid_moves.specs.declared.Dir.TheVariants.{N, NE, E, SE, S, SW, W, NW}
 use Rattle.grid_moves.specs.Grid.{GridData, is_free}
 use Rattle.grid_moves.specs.Move.{is_legal, move_cost, ahead, legal_ahead, column_ahead, row_ahead, before}
-use Rattle.grid_moves.specs.Walk.{IsWalk, is_walk, cost_of, last_of}
+use Rattle.grid_moves.specs.Walk.{is_walk, cost_of, last_of}
 use Rattle.grid_moves.proofs.Legal.{and_both, legal_is}
 use Rattle.grid_moves.proofs.Ahead.{legal_ahead-is}
 use Rattle.cost_waves.specs.Front.{dir_rank}

@@ -1,26 +1,18 @@
 -- A wave, cell by cell, and one wave after another.
-use Rattle.std.proofs.Common.{◌≡◌, ◌≢◌, ℕ, zero, suc, ◌+◌, ◌*◌, ◌^◌, ◌<◌, ◌≤◌, ◌⊎◌, inl, inr, arith, refl, ap, sym, ◌∙◌, subst, Bool, true, false, List, [], ◌∷◌, length, get_or, set, length-set}
+use Rattle.std.proofs.Common.{◌≡◌, ℕ, ◌+◌, ◌*◌, ◌^◌, ◌<◌, ◌≤◌, arith, refl, ap, sym, ◌∙◌, subst, Bool, true, false, List, [], ◌∷◌, length}
 use Rattle.std.specs.Prelude.{Option, Some, None, slice_get, nat_lt, nat_eq, ◌&&◌, if◌then◌else◌}
 use Rattle.std.proofs.lemmas.Bool.Decides.{nat_tests}
-use Rattle.std.proofs.lemmas.List.{get_or-set_same, get_or-set_other}
-use Rattle.std.proofs.lemmas.Nat.Bits.{bit_at-pow_same, bit_at-pow_other, bit_at-zero}
-use Rattle.std.proofs.lemmas.Option.{slice_get_within, slice_get_past}
+use Rattle.std.proofs.lemmas.Option.{slice_get_within}
 use Rattle.root2_cost.specs.Rank.{straight_rank, diagonal_rank}
 use Rattle.grid_moves.specs.declared.Cell.{Cell}
-use Rattle.grid_moves.specs.declared.Dir.{Dir}
-use Rattle.grid_moves.specs.declared.Dir.TheVariants.{N, NE, E, SE, S, SW, W, NW}
-use Rattle.grid_moves.specs.Grid.{GridData, IsGrid, cell_number, is_free, is_inside}
-use Rattle.grid_moves.specs.Move.{all_dirs, legal_ahead, dir_number}
-use Rattle.grid_moves.proofs.Places.{number_below}
-use Rattle.cost_waves.specs.declared.front.Source.{Source}
-use Rattle.cost_waves.specs.Front.{Front, spread, dir_rank, first_over}
-use Rattle.cost_waves.specs.Rank.{far, rank_limit}
-use Rattle.cost_waves.specs.Told.{has_dir}
-use Rattle.cost_waves.specs.Wave.{rank_at, dirs_at, known_count, Way, WayBy, Among, Waits, AllWait, Held, before, in_now, in_next, in_after, Keeps, IsRelaxed, IsSettled, IsReady, IsMidway, HasReady, IsSwept, ended, settled, source_at}
-use Rattle.cost_waves.proofs.Keeping.{IsOn, is_on, free_on, on_inside, same_or_apart, Follows, few}
-use Rattle.cost_waves.proofs.Lists.{count_new, count_low}
-use Rattle.cost_waves.proofs.Settling.{IsSource, HasSpread, has_spread, settled_on, in_all}
-use Rattle.cost_waves.proofs.Walks.{way_by_more, way_nowhere, way_by_one}
+use Rattle.grid_moves.specs.Grid.{GridData, IsGrid, is_inside}
+use Rattle.grid_moves.specs.Move.{all_dirs}
+use Rattle.cost_waves.specs.Front.{Front, spread}
+use Rattle.cost_waves.specs.Wave.{rank_at, known_count, Waits, AllWait, Held, before, in_now, in_next, in_after, Keeps, IsSettled, IsReady, IsMidway, IsSwept, settled, source_at}
+use Rattle.cost_waves.proofs.Keeping.{is_on, free_on, on_inside, Follows, few}
+use Rattle.cost_waves.proofs.Lists.{count_low}
+use Rattle.cost_waves.proofs.Settling.{IsSource, has_spread, settled_on, in_all}
+use Rattle.cost_waves.proofs.Walks.{way_by_more}
 
 -- before any cell of the list
 pub midway_none : (g : GridData) (s : Cell) (floor : ℕ) (now : List Cell) (f : Front) → IsReady g s floor now f

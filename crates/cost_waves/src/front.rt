@@ -14,13 +14,8 @@ ghost use Rattle.cost_waves.specs.Shape.{front_of, Fits};
 
 use crate::NoMemory;
 use crate::moves::moves_around;
+use crate::ranks::{DIAGONAL_RANK, STRAIGHT_RANK};
 use grid_moves::{Cell, Dir, Terrain, number_of};
-
-/// What one straight move counts in a rank.
-pub(crate) const STRAIGHT: u64 = 3_166_815_962;
-
-/// What one diagonal move counts.
-const DIAGONAL: u64 = 4_478_554_083;
 
 /// A cell that is settled: its rank, and the directions with which least walks to it begin. From the start of
 /// a pass a move begins with its own direction.
@@ -53,8 +48,8 @@ fn dir_rank(d: Dir) -> u64
     ensures most { result ≤ 4478554083 }
 {
     match d {
-        Dir::N | Dir::E | Dir::S | Dir::W => STRAIGHT,
-        Dir::NE | Dir::SE | Dir::SW | Dir::NW => DIAGONAL,
+        Dir::N | Dir::E | Dir::S | Dir::W => STRAIGHT_RANK,
+        Dir::NE | Dir::SE | Dir::SW | Dir::NW => DIAGONAL_RANK,
     }
 }
 
@@ -88,7 +83,7 @@ fn list(to: Cell, rank: u64, known: u64, limit: u64, ahead: &mut Ahead) -> Resul
         if limit <= known {
             ahead.next.push(to)?;
         }
-    } else if limit + STRAIGHT <= known {
+    } else if limit + STRAIGHT_RANK <= known {
         ahead.after.push(to)?;
     }
     Ok(())

@@ -10,6 +10,7 @@
 
 mod front;
 mod moves;
+mod ranks;
 mod sweep;
 mod waves;
 

@@ -2,63 +2,17 @@
 
 ghost use Rattle.std.specs.Prelude.{◌≡◌, ◌*◌, ◌<◌, ℕ, true, length, map, slice_index_or, replicate, IfOk, OnOk, OnErr};
 ghost use Rattle.grid_moves.specs.Grid.{AreSides, is_free};
-ghost use Rattle.cost_waves.specs.Rank.{far, rank_limit};
+ghost use Rattle.cost_waves.specs.Rank.{far};
 ghost use Rattle.cost_waves.specs.Rank as spec;
 ghost use Rattle.cost_waves.specs.Told.{Tells, IsBlank, cost_at, begins_with, firsts_at, has_dir};
 
 use crate::NoMemory;
+use crate::ranks::{FAR, cost_told, costs_told};
 use crate::sweep::{Lists, pass_from};
 use grid_moves::{Cell, Dir, Terrain, dir_number, number_of};
 use root2_cost::Cost;
 use std::alloc::Global;
 use std::marker::Model;
-
-/// What stands for a cell to which no walk is known: more than any rank that a pass meets.
-const FAR: u64 = 18_446_744_073_709_551_615;
-
-/// Ranks that passes meet are below this, 2^62.
-const RANK_LIMIT: u64 = 4_611_686_018_427_387_904;
-
-/// What one straight move counts in a rank.
-const STRAIGHT_RANK: u64 = 3_166_815_962;
-
-/// What one diagonal move counts.
-const DIAGONAL_RANK: u64 = 4_478_554_083;
-
-// The cost of a rank. As p, what a diagonal move counts, has a square that is 1 more than a multiple of q, what a
-// straight one counts, p times the rank leaves the diagonal moves modulo q.
-#[tactic(auto, unfolding(crate::specs::Rank::cost_of_rank))]
-fn cost_of_rank(rank: u64) -> Cost
-    requires { rank < rank_limit }
-    ensures { result ≡ spec.cost_of_rank rank }
-{
-    let step = DIAGONAL_RANK - STRAIGHT_RANK;
-    let diagonal = rank % STRAIGHT_RANK * step % STRAIGHT_RANK;
-    let straight = rank.saturating_sub(diagonal * DIAGONAL_RANK) / STRAIGHT_RANK;
-    Cost {
-        a: straight as u32,
-        b: diagonal as u32,
-    }
-}
-
-// The cost that an entry tells, if it tells one.
-#[tactic(auto, unfolding(crate::specs::Rank::cost_of_rank))]
-fn cost_told(rank: u64) -> Option<Cost>
-    ensures { result ≡ spec.cost_told rank }
-{
-    if rank < RANK_LIMIT {
-        Some(cost_of_rank(rank))
-    } else {
-        None
-    }
-}
-
-// The costs that entries tell.
-fn costs_told(alloc: Global, ranks: &[u64]) -> Result<Vec<Option<Cost>>, NoMemory>
-    ensures { IfOk result (λ costs. costs.items ≡ map spec.cost_told ranks.now) }
-{
-    ranks.iter().map(|rank| cost_told(*rank)).collect(alloc)
-}
 
 // Whether the byte has the direction.
 fn has_dir(byte: u8, d: Dir) -> bool

@@ -1,4 +1,4 @@
-use Rattle.std.proofs.Common.{◌≡◌, ℕ, ◌∙◌, ap}
+use Rattle.std.proofs.Common.{ℕ, ◌∙◌, ap}
 use Rattle.grid_moves.specs.Grid.{cell_number}
 use Rattle.cost_waves.specs.Shape.{front_of}
 use Rattle.cost_waves.proofs.Beginning.{begun_by}

@@ -1,5 +1,4 @@
-use Rattle.std.proofs.Common.{◌≡◌, ℕ, ◌+◌, ◌*◌, ◌<◌, ◌≤◌, sym, ◌∙◌, subst, arith, length, Bool, false}
-use Rattle.grid_moves.specs.declared.Cell.{Cell}
+use Rattle.std.proofs.Common.{◌<◌, sym, ◌∙◌, arith}
 use Rattle.cost_waves.specs.Shape.{front_of}
 use Rattle.cost_waves.proofs.Waving.{floor_small, wave_turned}
 use Rattle.cost_waves.proofs.sweep.sweep.Goals as goal

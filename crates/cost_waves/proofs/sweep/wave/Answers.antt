@@ -1,6 +1,5 @@
 use Rattle.std.proofs.Common.{◌≡◌, ℕ, ◌+◌, sym, subst, arith, length}
 use Rattle.std.proofs.lemmas.Option.{slice_get-get_or}
-use Rattle.grid_moves.specs.declared.Cell.{Cell}
 use Rattle.cost_waves.specs.Front.{Front}
 use Rattle.cost_waves.specs.Shape.{front_of}
 use Rattle.cost_waves.specs.Wave.{IsMidway}
