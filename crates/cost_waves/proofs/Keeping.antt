@@ -34,7 +34,8 @@ joined at first f = record {
 
 -- an offer lowers a rank, joins directions, or is passed over
 pub data Effect (at limit : ℕ) (to : Cell) (rank first : ℕ) (f f' : Front) : Type 0 where
-  lowers : rank < get_or f.ranks at far → f' ≡ lowered at limit to rank first f → Effect at limit to rank first f f'
+  lowers : rank < get_or f.ranks at far → f' ≡ lowered at limit to rank first f
+      → Effect at limit to rank first f f'
   joins : rank ≡ get_or f.ranks at far → f' ≡ joined at first f → Effect at limit to rank first f f'
   passes : get_or f.ranks at far < rank → f' ≡ f → Effect at limit to rank first f f'
 
@@ -44,7 +45,8 @@ unfolding entered
 effect at limit to rank first f =
     by_tests (nat_lt rank (get_or f.ranks at far)) (nat_eq rank (get_or f.ranks at far)) refl refl
   where
-    by_tests : (a b : Bool) → nat_lt rank (get_or f.ranks at far) ≡ a → nat_eq rank (get_or f.ranks at far) ≡ b
+    by_tests : (a b : Bool) → nat_lt rank (get_or f.ranks at far) ≡ a
+        → nat_eq rank (get_or f.ranks at far) ≡ b
         → Effect at limit to rank first f (if a then lowered at limit to rank first f
         else if b then joined at first f else f)
     by_tests true b p q = lowers (grind (arith, nat_tests)) refl
@@ -77,7 +79,8 @@ same_or_apart g c d p q = by_test (is_same c d) refl
         let t : is_same c d ≡ true = ap (λ (k : Cell). is_same c k) (sym one) ∙ is_same-itself c in cc)
 
 -- an offer to a cell that is worth making in the wave whose ranks begin at `floor`
-pub record IsOffer (g : GridData) (s : Cell) (floor : ℕ) (f : Front) (to : Cell) (rank first : ℕ) : Type 0 where
+pub record IsOffer (g : GridData) (s : Cell) (floor : ℕ) (f : Front) (to : Cell)
+    (rank first : ℕ) : Type 0 where
   pub free : is_free g to ≡ true
   pub low : floor + straight_rank ≤ rank
   pub high : rank < floor + straight_rank + straight_rank + straight_rank
@@ -85,7 +88,8 @@ pub record IsOffer (g : GridData) (s : Cell) (floor : ℕ) (f : Front) (to : Cel
   pub way : Way g s to rank
   pub sound : (d : Dir) → has_dir first d ≡ true → WayBy g s to d rank
 
--- what an offer leaves: no rank rises, ranks of this wave and those before stay, directions stay with their rank
+-- what an offer leaves: no rank rises, ranks of this wave and those before stay, directions stay with
+-- their rank
 pub record Follows (g : GridData) (floor : ℕ) (f f' : Front) : Type 0 where
   pub lower : (c : Cell) → IsOn g c → rank_at g f'.ranks c ≤ rank_at g f.ranks c
   pub rank : (c : Cell) → IsOn g c → rank_at g f.ranks c < floor + straight_rank

@@ -54,7 +54,8 @@ rank_at_most p q h a = elim (IsAtMost-cases p q a) [
   | inr e ↦ let r : rank_of p ≡ rank_of q = ap rank_of e in omega arith
 ]
 
-module _ (g : GridData) (s : Cell) (whole : IsGrid g) (ranks firsts : List ℕ) (w : IsSwept g s ranks firsts) where
+module _ (g : GridData) (s : Cell) (whole : IsGrid g) (ranks firsts : List ℕ)
+    (w : IsSwept g s ranks firsts) where
   abbrev f : Front
   f = ended ranks firsts
 
@@ -125,7 +126,8 @@ module _ (g : GridData) (s : Cell) (whole : IsGrid g) (ranks firsts : List ℕ) 
 
   from_start : (t : Cell) (cells : List Cell) → IsWalk g s t cells → Reached s t (cost_of (s ∷ cells))
   from_start t cells walk =
-      subst (λ (v : Cell). Reached s v (cost_of (s ∷ cells))) walk.ends (reached s cells walk.legal home known_start)
+      subst (λ (v : Cell). Reached s v (cost_of (s ∷ cells))) walk.ends
+      (reached s cells walk.legal home known_start)
 
   -- a walk of the known rank is a least one
   is_least : (t : Cell) (cells : List Cell) → is_inside g t ≡ true → rank_at g ranks t < rank_limit
@@ -160,7 +162,8 @@ module _ (g : GridData) (s : Cell) (whole : IsGrid g) (ranks firsts : List ℕ) 
       record {
         cells = way.cells;
         least = is_least t way.cells i h way.walk way.ranked;
-        priced = sym (cost-rank (cost_of (s ∷ way.cells)) (short_by_rank (cost_of (s ∷ way.cells)) (omega arith)))
+        priced = sym (cost-rank (cost_of (s ∷ way.cells)) (short_by_rank (cost_of (s ∷ way.cells))
+            (omega arith)))
             ∙ ap cost_of_rank way.ranked;
       }
   cost_is t i false e = λ cells walk.
@@ -169,7 +172,8 @@ module _ (g : GridData) (s : Cell) (whole : IsGrid g) (ranks firsts : List ℕ) 
       omega arith
 
   -- a told direction begins a least walk
-  told_begins : (t : Cell) (d : Dir) → is_inside g t ≡ true → has_dir (dirs_at g firsts t) d ≡ true → Begins g s t d
+  told_begins : (t : Cell) (d : Dir) → is_inside g t ≡ true → has_dir (dirs_at g firsts t) d ≡ true
+      → Begins g s t d
   told_begins t d i e =
       let way = k.begins t d i e in
       record {
@@ -197,7 +201,8 @@ module _ (g : GridData) (s : Cell) (whole : IsGrid g) (ranks firsts : List ℕ) 
       handed_on d v cells parts.1 inside known (omega arith) (r.same d (omega arith) has)
 
   -- the first move of a least walk is told
-  begins_told : (t : Cell) (d : Dir) → is_inside g t ≡ true → Begins g s t d → has_dir (dirs_at g firsts t) d ≡ true
+  begins_told : (t : Cell) (d : Dir) → is_inside g t ≡ true → Begins g s t d
+      → has_dir (dirs_at g firsts t) d ≡ true
   begins_told t d i b =
       let walk = b.least.walk in
       let end = from_start t (b.next ∷ b.cells) walk in
@@ -213,7 +218,8 @@ module _ (g : GridData) (s : Cell) (whole : IsGrid g) (ranks firsts : List ℕ) 
       let rest : rank_at g ranks t ≤ rank_at g ranks b.next + rank_of (cost_of (b.next ∷ b.cells)) =
       subst (λ (v : Cell). rank_at g ranks v ≤ rank_at g ranks b.next + rank_of (cost_of (b.next ∷ b.cells)))
       walk.ends (reached b.next b.cells parts.1 inside known).most in
-      let tight : rank_at g ranks b.next + rank_of (cost_of (b.next ∷ b.cells)) ≤ rank_at g ranks (last_of b.next b.cells) =
+      let tight : rank_at g ranks b.next + rank_of (cost_of (b.next ∷ b.cells)) ≤ rank_at g ranks
+      (last_of b.next b.cells) =
       subst (λ (v : Cell). rank_at g ranks b.next + rank_of (cost_of (b.next ∷ b.cells)) ≤ rank_at g ranks v)
       (sym walk.ends) (omega arith) in
       subst (λ (v : Cell). has_dir (dirs_at g firsts v) d ≡ true) walk.ends
@@ -221,7 +227,8 @@ module _ (g : GridData) (s : Cell) (whole : IsGrid g) (ranks firsts : List ℕ) 
 
   pub tells : (width height : ℕ) → width ≡ g.width
       → Tells g s (record { width = width; height = height; ranks = ranks; firsts = firsts })
-  tells width height e = subst (λ (n : ℕ). Tells g s (record { width = n; height = height; ranks = ranks; firsts = firsts }))
+  tells width height e = subst (λ (n : ℕ). Tells g s
+      (record { width = n; height = height; ranks = ranks; firsts = firsts }))
       (sym e) (record {
         costs = λ t i. cost_is t i (nat_lt (rank_at g ranks t) rank_limit) refl;
         firsts = λ t d i. (told_begins t d i, begins_told t d i);

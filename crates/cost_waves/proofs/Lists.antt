@@ -62,7 +62,8 @@ from_more xs y c i e = by_test (nat_lt i (length xs)) refl
 
 -- how many are known after an entry is written
 counted : (xs : List ℕ) (i y d : ℕ) → i < length xs
-    → known_count (set xs i y) + (if is_known (get_or xs i d) then 1 else 0) ≡ known_count xs + (if is_known y then 1 else 0)
+    → known_count (set xs i y) + (if is_known (get_or xs i d) then 1 else 0)
+    ≡ known_count xs + (if is_known y then 1 else 0)
 counted xs i y d h = sum_by-set (λ (x : ℕ). if is_known x then 1 else 0) xs i y d h
 
 pub count_new : (xs : List ℕ) (i y d : ℕ) → i < length xs → y < rank_limit → rank_limit ≤ get_or xs i d

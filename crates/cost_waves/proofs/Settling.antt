@@ -78,10 +78,12 @@ pub record IsSource (g : GridData) (s : Cell) (floor : ℕ) (f : Front) (from : 
   pub low : floor ≤ from.rank
   pub high : from.rank < floor + straight_rank
   pub known : from.rank < rank_limit
-  pub sound : (d b : Dir) (v : Cell) → legal_ahead g from.cell d ≡ Some v → has_dir (first_over from d) b ≡ true
+  pub sound : (d b : Dir) (v : Cell) → legal_ahead g from.cell d ≡ Some v → has_dir (first_over from d) b
+      ≡ true
       → WayBy g s v b (from.rank + dir_rank d)
   pub own : from.cell ≡ s → (d : Dir) → has_dir (first_over from d) d ≡ true
-  pub same : (d b : Dir) → has_dir (dirs_at g f.firsts from.cell) b ≡ true → has_dir (first_over from d) b ≡ true
+  pub same : (d b : Dir) → has_dir (dirs_at g f.firsts from.cell) b ≡ true
+      → has_dir (first_over from d) b ≡ true
 
 -- the direction is one of these
 pub data In (d : Dir) : List Dir → Type 0 where
@@ -170,12 +172,14 @@ module _ (g : GridData) (s : Cell) (whole : IsGrid g) (floor : ℕ) (now : List 
       relaxed = λ v h. absurd (cc);
     }
     offered_has d (Some w) e =
-        let h = has_entered g s whole floor now f k w (from.rank + dir_rank d) (first_over from d) (offer_of d w e)
+        let h = has_entered g s whole floor now f k w (from.rank + dir_rank d) (first_over from d)
+        (offer_of d w e)
         limit is in
         record {
           keeps = h.keeps;
           follows = h.follows;
-          relaxed = λ v t. subst (λ (c : Cell). IsRelaxed g s (offered g.width limit from d (Some w) f) from.cell d c)
+          relaxed = λ v t. subst (λ (c : Cell). IsRelaxed g s (offered g.width limit from d
+              (Some w) f) from.cell d c)
               (some_cell w v (sym e ∙ t)) (one_relaxed d w (offered g.width limit from d (Some w) f) h);
         }
 
@@ -192,7 +196,8 @@ module _ (g : GridData) (s : Cell) (whole : IsGrid g) (floor : ℕ) (now : List 
           known = o.known;
           sound = o.sound;
           own = o.own;
-          same = λ d c h. o.same d c (ap (λ (n : ℕ). has_dir n c) (sym (a.dirs from.cell on (omega arith))) ∙ h);
+          same = λ d c h. o.same d c (ap (λ (n : ℕ). has_dir n c) (sym (a.dirs from.cell on
+              (omega arith))) ∙ h);
         }
 
   pub has_spread : (dirs : List Dir) (f : Front) → Keeps g s floor now f → IsSource g s floor f from

@@ -15,7 +15,8 @@ use Rattle.cost_waves.proofs.Settling.{IsSource, has_spread, settled_on, in_all}
 use Rattle.cost_waves.proofs.Walks.{way_by_more}
 
 -- before any cell of the list
-pub midway_none : (g : GridData) (s : Cell) (floor : ℕ) (now : List Cell) (f : Front) → IsReady g s floor now f
+pub midway_none : (g : GridData) (s : Cell) (floor : ℕ) (now : List Cell) (f : Front)
+    → IsReady g s floor now f
     → IsMidway g s floor now 0 f
 midway_none g s floor now f r = record { ready = r; settled = λ j u h. absurd (omega arith) }
 
@@ -49,7 +50,8 @@ module _ (g : GridData) (s : Cell) (whole : IsGrid g) (floor : ℕ) (now : List 
         sound = λ d b v e t. way_by_more g s c v d e (rank_at g f.ranks c) b
             (r.keeps.begins c b (on_inside g c (free_on g c w.free)) t);
         own = λ e d. absurd (
-            let zero_rank : rank_at g f.ranks c ≡ 0 = ap (λ (v : Cell). rank_at g f.ranks v) e ∙ r.keeps.start in
+            let zero_rank : rank_at g f.ranks c ≡ 0 = ap (λ (v : Cell). rank_at g f.ranks v) e
+            ∙ r.keeps.start in
             omega arith);
         same = λ d b t. t;
       }
@@ -67,7 +69,8 @@ module _ (g : GridData) (s : Cell) (whole : IsGrid g) (floor : ℕ) (now : List 
 
       -- the cells up to this one
       up_to : (f' : Front) → ((j : ℕ) (u : Cell) → j < i → slice_get now j ≡ Some u → IsSettled g s f' u)
-          → IsSettled g s f' c → (j : ℕ) (u : Cell) → j < i + 1 → slice_get now j ≡ Some u → IsSettled g s f' u
+          → IsSettled g s f' c → (j : ℕ) (u : Cell) → j < i + 1 → slice_get now j ≡ Some u
+          → IsSettled g s f' u
       up_to f' old new j u h p = by_place (nat_lt j i) refl
         where
           last : nat_lt j i ≡ false → j ≡ i
@@ -146,11 +149,14 @@ turn_ready g s floor now f small m = record {
 
 -- while some cell waits, the wave is not far
 pub floor_low : (g : GridData) (s : Cell) → IsGrid g → (floor : ℕ) (now : List Cell) (f : Front)
-    → IsReady g s floor now f → (nat_eq (length now) 0 && nat_eq (length f.next) 0 && nat_eq (length f.after) 0) ≡ false
+    → IsReady g s floor now f → (nat_eq (length now) 0 && nat_eq (length f.next) 0 && nat_eq
+    (length f.after) 0) ≡ false
     → floor ≤ diagonal_rank * known_count f.ranks
-floor_low g s whole floor now f r t = by_lists now f.next f.after r.keeps.wait_now r.keeps.wait_next r.keeps.wait_after t
+floor_low g s whole floor now f r t = by_lists now f.next f.after r.keeps.wait_now r.keeps.wait_next
+    r.keeps.wait_after t
   where
-    by_lists : (xs ys zs : List Cell) → AllWait g floor f.ranks xs → AllWait g (floor + straight_rank) f.ranks ys
+    by_lists : (xs ys zs : List Cell) → AllWait g floor f.ranks xs
+        → AllWait g (floor + straight_rank) f.ranks ys
         → AllWait g (floor + straight_rank + straight_rank) f.ranks zs
         → (nat_eq (length xs) 0 && nat_eq (length ys) 0 && nat_eq (length zs) 0) ≡ false
         → floor ≤ diagonal_rank * known_count f.ranks
@@ -176,7 +182,8 @@ swept g s floor now f r t = by_lists now f.next f.after r t
 
 -- the bound on the wave in one number
 pub floor_small : (g : GridData) (s : Cell) → IsGrid g → (floor : ℕ) (now : List Cell) (f : Front)
-    → IsReady g s floor now f → (nat_eq (length now) 0 && nat_eq (length f.next) 0 && nat_eq (length f.after) 0) ≡ false
+    → IsReady g s floor now f → (nat_eq (length now) 0 && nat_eq (length f.next) 0 && nat_eq
+    (length f.after) 0) ≡ false
     → (floor ≤ 75137669218172928) × (floor ≤ diagonal_rank * length f.ranks)
 floor_small g s whole floor now f r t =
     let l = floor_low g s whole floor now f r t in
@@ -190,9 +197,12 @@ pub ready_by : (g : GridData) (s : Cell) (floor : ℕ) (ranks firsts : List ℕ)
     → (now' next' after' : List Cell) → now' ≡ now → next' ≡ next → after' ≡ after
     → IsReady g s floor now' (record { ranks = ranks; firsts = firsts; next = next'; after = after' })
 ready_by g s floor ranks firsts now next after r now' next' after' p q t =
-    subst (λ (zs : List Cell). IsReady g s floor now' (record { ranks = ranks; firsts = firsts; next = next'; after = zs })) (sym t)
-    (subst (λ (ys : List Cell). IsReady g s floor now' (record { ranks = ranks; firsts = firsts; next = ys; after = after })) (sym q)
-    (subst (λ (xs : List Cell). IsReady g s floor xs (record { ranks = ranks; firsts = firsts; next = next; after = after })) (sym p) r))
+    subst (λ (zs : List Cell). IsReady g s floor now'
+    (record { ranks = ranks; firsts = firsts; next = next'; after = zs })) (sym t)
+    (subst (λ (ys : List Cell). IsReady g s floor now'
+    (record { ranks = ranks; firsts = firsts; next = ys; after = after })) (sym q)
+    (subst (λ (xs : List Cell). IsReady g s floor xs
+    (record { ranks = ranks; firsts = firsts; next = next; after = after })) (sym p) r))
 
 -- a wave and the turn after it
 pub wave_turned : (g : GridData) (s : Cell) (floor : ℕ) (now now1 : List Cell) (f0 f : Front) → floor < 2 ^ 61
@@ -203,5 +213,6 @@ pub wave_turned : (g : GridData) (s : Cell) (floor : ℕ) (now now1 : List Cell)
     (record { ranks = f.ranks; firsts = f.firsts; next = next'; after = after' })
 wave_turned g s floor now now1 f0 f small e r wave now' next' after' p q t =
     let m = wave (subst (λ (xs : List Cell). IsReady g s floor xs f0) (sym e) r) in
-    ready_by g s (floor + straight_rank) f.ranks f.firsts f.next f.after [] (turn_ready g s floor now1 f small m)
+    ready_by g s (floor + straight_rank) f.ranks f.firsts f.next f.after []
+    (turn_ready g s floor now1 f small m)
     now' next' after' p q t

@@ -1,4 +1,5 @@
--- The cells that are known and those that wait, and what one settled cell does to them. No public clause cites
+-- The cells that are known and those that wait, and what one settled cell does to them. No public clause
+-- cites
 -- this module.
 use Rattle.std.specs.Prelude.{ℕ, ◌+◌, ◌^◌, nat_lt, nat_le, nat_eq, ◌&&◌, if◌then◌else◌, List, [], ◌∷◌, ◌++◌, slice_index_or, slice_set, Option, Some, None, bit_or}
 use Rattle.root2_cost.specs.Rank.{straight_rank, diagonal_rank}

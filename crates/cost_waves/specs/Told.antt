@@ -44,7 +44,7 @@ pub record IsBlank (w : WaveData) : Type 0 where
   pub costs : (t : Cell) → cost_at w t ≡ None
   pub firsts : (t : Cell) (d : Dir) → begins_with w t d ≡ false
 
--- of a byte of two directions: north-west by the highest bit is not in it, south-east by bit 3 is
+-- of the byte 9, the directions north and south-east
 pub south_east : has_dir 9 SE ≡ true
 south_east = refl
 

@@ -1,8 +1,8 @@
 //! What a settled cell does: it offers each of its legal moves.
 //!
-//! A lesser rank takes the place of the neighbour's rank, and its directions that of the neighbour's; an equal
-//! one adds its directions. A neighbour whose rank falls into another wave waits for that wave. Its entry in the
-//! list of the wave before stays, and is passed over there.
+//! A lesser rank takes the place of the neighbour's rank, and its directions that of the neighbour's; an
+//! equal one adds its directions. A neighbour whose rank falls into another wave waits for that wave. Its
+//! entry in the list of the wave before stays, and is passed over there.
 
 ghost use Rattle.std.specs.Prelude.{◌≡◌, ◌+◌, ◌*◌, ◌<◌, ◌≤◌, ◌^◌, true, length, OnOk};
 ghost use Rattle.grid_moves.specs.Around.{if_open};
@@ -77,7 +77,8 @@ fn first_over(from: Source, d: Dir) -> u8
 fn list(to: Cell, rank: u64, known: u64, limit: u64, ahead: &mut Ahead) -> Result<(), NoMemory>
     requires { limit < 2 ^ 63 }
     ensures next { OnOk result (ahead.new.next.items ≡ next_with limit known rank to ahead.old.next.items) }
-    ensures after { OnOk result (ahead.new.after.items ≡ after_with limit known rank to ahead.old.after.items) }
+    ensures after { OnOk result (ahead.new.after.items
+        ≡ after_with limit known rank to ahead.old.after.items) }
 {
     if rank < limit {
         if limit <= known {

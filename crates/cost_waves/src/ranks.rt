@@ -1,7 +1,7 @@
 //! Ranks of costs, and what they tell.
 //!
-//! The rank of a cost counts q for each straight move and p for each diagonal one (`root2_cost`). As p² is 1 more
-//! than a multiple of q, p times the rank leaves the diagonal moves modulo q.
+//! The rank of a cost counts q for each straight move and p for each diagonal one (`root2_cost`). As p² is 1
+//! more than a multiple of q, p times the rank leaves the diagonal moves modulo q.
 
 ghost use Rattle.std.specs.Prelude.{◌≡◌, ◌<◌, map, IfOk};
 ghost use Rattle.cost_waves.specs.Rank as spec;

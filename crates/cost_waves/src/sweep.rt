@@ -111,7 +111,8 @@ fn wave<T: Terrain>(
     requires ready { HasReady (T.grid t.now) floor now.now (front_of ranks.old firsts.old ahead.old) }
     ensures { OnOk result ((s : Cell)
         → IsReady (T.grid t.now) s floor now.now (front_of ranks.old firsts.old ahead.old)
-        → IsMidway (T.grid t.now) s floor now.now (length now.now) (front_of ranks.new firsts.new ahead.new)) }
+        → IsMidway (T.grid t.now) s floor now.now (length now.now)
+        (front_of ranks.new firsts.new ahead.new)) }
 {
     for c in now {
         settle(t, *c, floor, ranks, firsts, ahead)?;
@@ -130,7 +131,8 @@ fn sweep<T: Terrain>(
     requires ready { HasReady (T.grid t.now) 3166815962 lists.old.wave.items
         (front_of ranks.old firsts.old lists.old.ahead) }
     ensures { OnOk result ((s : Cell)
-        → IsReady (T.grid t.now) s 3166815962 lists.old.wave.items (front_of ranks.old firsts.old lists.old.ahead)
+        → IsReady (T.grid t.now) s 3166815962 lists.old.wave.items
+        (front_of ranks.old firsts.old lists.old.ahead)
         → IsSwept (T.grid t.now) s ranks.new firsts.new) }
 {
     let mut floor = STRAIGHT_RANK;

@@ -48,8 +48,8 @@ fn forget(ranks: &mut [u64], firsts: &mut [u8])
     }
 }
 
-/// The memory for passes over a map of fixed sides, and what the last pass found: for each cell its least cost
-/// from the start of the pass, and the directions with which least walks to it begin.
+/// The memory for passes over a map of fixed sides, and what the last pass found: for each cell its least
+/// cost from the start of the pass, and the directions with which least walks to it begin.
 ///
 /// It is made once, with nine bytes for each cell, and used again as often as wanted. Contracts see its sides
 /// and its entries.
@@ -71,7 +71,12 @@ impl Model for CostWaves {
 
     ghost Value = { WaveData };
 
-    ghost view = { λ w. record { width = w.width; height = w.height; ranks = w.ranks.items; firsts = w.firsts.items } };
+    ghost view = { λ w. record {
+      width = w.width;
+      height = w.height;
+      ranks = w.ranks.items;
+      firsts = w.firsts.items;
+    } };
 
     ghost invariant = { λ w. IsKept w.width w.height w.ranks.items w.firsts.items };
 }
@@ -111,9 +116,9 @@ impl CostWaves {
     /// Finds the least costs from a free cell to all cells of a map of these sides, and the directions with
     /// which least walks begin. What an earlier pass found is forgotten.
     ///
-    /// Each cell is settled once, and its entry is written at most as often as moves lead to it; all entries are
-    /// reset in one pass over them. The lists of cells that wait grow as they need, to at most two entries a
-    /// cell, and keep their room. After want of memory nothing is told of any cell.
+    /// A cell is settled by the wave of its least cost, and reads its neighbours' entries then; all entries are
+    /// reset in one run over them. The lists of cells that wait grow as they need, and keep their room. After
+    /// want of memory nothing is told of any cell.
     pub fn pass<T: Terrain>(&mut self, t: &T, from: Cell) -> Result<(), NoMemory>
         requires from { is_free (T.grid t.now) from ≡ true }
         requires width { self.old.width ≡ (T.grid t.now).width }
