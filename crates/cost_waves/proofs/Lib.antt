@@ -1,0 +1,11 @@
+pub mod Spreading
+pub mod Walks
+pub mod Lists
+pub mod Keeping
+pub mod Entering
+pub mod Settling
+pub mod Waving
+pub mod Beginning
+pub mod Decoding
+pub mod Least
+pub mod Blank

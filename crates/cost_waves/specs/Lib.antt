@@ -1,0 +1,8 @@
+pub mod Rank
+pub mod Begin
+pub mod Told
+pub mod Kept
+pub mod Front
+pub mod Shape
+pub mod Around
+pub mod Wave
