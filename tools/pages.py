@@ -56,8 +56,8 @@ class Program:
         return subprocess.run([self.path, word], check=True, capture_output=True, text=True).stdout
 
     def accepts(self, *words):
-        call = subprocess.run([self.path, *words], cwd=self.nowhere, stdin=subprocess.DEVNULL, capture_output=True)
-        return call.returncode != WORDS_REFUSED
+        quiet = {"stdin": subprocess.DEVNULL, "stdout": subprocess.DEVNULL, "stderr": subprocess.DEVNULL}
+        return subprocess.run([self.path, *words], cwd=self.nowhere, **quiet).returncode != WORDS_REFUSED
 
     def kinds(self, row):
         """For each word of the row whether it is a file's name or a number: 1 is both, a/b only the first."""
@@ -77,7 +77,8 @@ class Program:
         return found or [f"{key}="]
 
     def settings(self, row, sentences):
-        return [it for group in row.settings for setting in group for it in self.values(row, setting, sentences)]
+        named = [setting for group in row.settings for setting in group]
+        return [it for setting in named for it in self.values(row, setting, sentences)]
 
 
 def roff(text):
@@ -128,7 +129,8 @@ _jps() {
     local word words=() kinds=() settings=() all=() before
     # bash takes `=` for a word of its own: engine=plus comes in three
     for word in "${COMP_WORDS[@]:0:COMP_CWORD+1}"; do
-        if [[ ${#words[@]} -gt 2 && ( $word == = || ${words[-1]} == *= ) ]]; then words[-1]+=$word; else words+=("$word"); fi
+        if [[ ${#words[@]} -gt 2 && ( $word == = || ${words[-1]} == *= ) ]]; then words[-1]+=$word
+        else words+=("$word"); fi
     done
     word=${words[-1]} before=${words[*]:2:${#words[@]}-3}
     case ${words[1]} in
@@ -198,8 +200,8 @@ complete -c jps -f
 
 def cases(rows, ask):
     """For each command the line by which bash and zsh know its words and settings."""
-    made = ((row.name, " ".join(ask.kinds[row]), " ".join(ask.settings[row])) for row in rows)
-    return "\n".join(f"        {name}) kinds=({kinds}) settings=({settings}) ;;" for name, kinds, settings in made)
+    words = [(row.name, " ".join(ask.kinds[row]), " ".join(ask.settings[row])) for row in rows]
+    return "\n".join("        {}) kinds=({}) settings=({}) ;;".format(*it) for it in words)
 
 
 def bash(rows, ask):
@@ -214,14 +216,14 @@ def zsh(rows, ask):
 def fish(rows, ask):
     lines = []
     for row in rows:
-        lines.append(f"complete -c jps -n 'test (count (commandline -opc)) -eq 1' -a {row.name} -d {quoted(row.told)}")
+        lines.append(f"-n 'test (count (commandline -opc)) -eq 1' -a {row.name} -d {quoted(row.told)}")
         at = [k for k, kind in enumerate(ask.kinds[row]) if kind == "file"]
-        lines += [f"complete -c jps -n '__jps_at {row.name} {k}' -F" for k in at]
+        lines += [f"-n '__jps_at {row.name} {k}' -F" for k in at]
         for setting in ask.settings[row]:
             key = setting.split("=")[0]
             files = " -F" if setting.endswith("=") else ""
-            lines.append(f"complete -c jps -n '__jps_may {row.name} {len(row.words)} {key}' -a {setting}{files}")
-    return FISH + "\n".join(lines) + "\n"
+            lines.append(f"-n '__jps_may {row.name} {len(row.words)} {key}' -a {setting}{files}")
+    return FISH + "".join(f"complete -c jps {it}\n" for it in lines)
 
 
 class Answers:

@@ -1,5 +1,5 @@
 #!/usr/bin/env python3
-"""Judges a certificate of jps by the rules of docs/FORMATS.md, "A certificate beside its map, checked by hand".
+"""Judges a certificate of jps as docs/FORMATS.md shows under "A certificate beside its map, checked by hand".
 
     judge.py MAP CERT
 
@@ -67,8 +67,8 @@ def main():
     need(walks and cost == least, "the points are no walk from start to goal of that cost")
     value = {u: tuple(listed.get(u, [least[k] - octile(u, goal)[k] for k in (0, 1)])) for u in free}
     need(value[start] == (0, 0) and value[goal] == least, "the start has 0 and the goal the cost")
-    rises = ((value[v][0] - value[u][0] - a, value[v][1] - value[u][1] - b) for (u, v), (a, b) in legal.items())
-    need(not any(is_above_zero(*rise) for rise in rises), "no move raises the value by more than it costs")
+    above = [[value[v][k] - value[u][k] - cost[k] for k in (0, 1)] for (u, v), cost in legal.items()]
+    need(not any(is_above_zero(*it) for it in above), "no move raises the value by more than it costs")
     print("holds: least", *least)
 
 

@@ -65,7 +65,7 @@ def cut(given):
 
 
 def fault_of_whole(fault, number, size):
-    """The line of a refused piece, with the line's number in the whole scenario: line 1 is that of each piece."""
+    """The line of a refused piece, with the line's number in the whole scenario. Line 1 is in each."""
     found = re.fullmatch(rb"(jps: scen C\d line )(\d+)", fault)
     if not found or int(found[2]) == 1:
         return fault
@@ -109,7 +109,8 @@ def join(given):
         print(f"{stem}: {total.decode()}")
     print("sum {} agree {} near {} off {} other {}".format(*sums))
     if lacking:
-        print(f"{len(lacking)} pieces have no answer yet, {lacking[0]} is the first: call it again", file=sys.stderr)
+        told = f"{len(lacking)} pieces have no answer yet, {lacking[0]} is the first: call it again"
+        print(told, file=sys.stderr)
         sys.exit(LACKING)
     sys.exit(next((it for it in statuses if it > 1), max(statuses)))
 

@@ -1,5 +1,5 @@
 #!/usr/bin/env python3
-"""A robot's occupancy map, as ROS's map_server writes it, turned into a map for jps, and the walk marked on it.
+"""A robot's occupancy map, as ROS's map_server writes it, made a map for jps, and the walk marked on it.
 
     robot.py MAP.yaml X Y X Y [--radius R] [--jps PROGRAM] [--map OUT.map] [--picture OUT.ppm]
 
@@ -39,7 +39,7 @@ def read_pgm(path):
 
 
 def free_rows(told, grey):
-    """Which cells are free: those whose chance to be occupied lies below free_thresh. Unknown ones are not."""
+    """Which cells are free: their chance to be occupied lies below free_thresh. Unknown ones are not."""
     dark_is_free = told.get("negate", "0") not in ("0", "false")
     limit = float(told["free_thresh"])
     return [[(it if dark_is_free else 1 - it) < limit for it in row] for row in grey]
@@ -48,7 +48,8 @@ def free_rows(told, grey):
 def with_room(free, radius):
     """The cells round which no cell that is not free lies nearer than the radius, in cells."""
     reach = math.ceil(radius)
-    disk = [(dx, dy) for dx in range(-reach, reach + 1) for dy in range(-reach, reach + 1) if math.hypot(dx, dy) < radius]
+    across = range(-reach, reach + 1)
+    disk = [(dx, dy) for dx in across for dy in across if math.hypot(dx, dy) < radius]
     kept = [row[:] for row in free]
     for y, row in enumerate(free):
         for x in (x for x, is_free in enumerate(row) if not is_free):
