@@ -18,13 +18,20 @@ import tempfile
 WORDS_REFUSED = 2
 
 
+def alternatives(text):
+    """The alternatives of a setting, where `key=a|b` stands for `key=a|key=b`."""
+    first, *others = text.split("|")
+    key = first.split("=")[0]
+    return [first, *(it if "=" in it else f"{key}={it}" for it in others)]
+
+
 class Row:
     """One command of `--help`: its name, its words, its settings as lists of alternatives, what it does."""
 
     def __init__(self, words, told):
         self.name, *rest = words.split()
         self.words = [it for it in rest if not it.startswith("[")]
-        self.settings = [it[1:-1].split("|") for it in rest if it.startswith("[")]
+        self.settings = [alternatives(it[1:-1]) for it in rest if it.startswith("[")]
         self.told = told
 
 
