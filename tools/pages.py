@@ -1,0 +1,263 @@
+#!/usr/bin/env python3
+"""The man page of jps and its completions for bash, zsh and fish, made from what the program itself says.
+
+    pages.py PROGRAM FOLDER
+
+writes them below FOLDER, each at its usual place. Commands with their words and settings, statuses and
+faults are the rows of `--help`. What those leave open is asked of the program, which refuses words that it
+does not know with status 2: whether a word is a file's name or a number, and which values a setting such as
+`engine=ENGINE` has.
+"""
+
+import pathlib
+import re
+import subprocess
+import sys
+import tempfile
+
+WORDS_REFUSED = 2
+
+
+def alternatives(text):
+    """The alternatives of a setting, where `key=a|b` stands for `key=a|key=b`."""
+    first, *others = text.split("|")
+    key = first.split("=")[0]
+    return [first, *(it if "=" in it else f"{key}={it}" for it in others)]
+
+
+class Row:
+    """One command of `--help`: its name, its words, its settings as lists of alternatives, what it does."""
+
+    def __init__(self, words, told):
+        self.name, *rest = words.split()
+        self.words = [it for it in rest if not it.startswith("[")]
+        self.settings = [alternatives(it[1:-1]) for it in rest if it.startswith("[")]
+        self.told = told
+
+
+class Help:
+    """What `--help` says: its rows, its sentences, its statuses and its faults."""
+
+    def __init__(self, text):
+        blocks = [it.split("\n") for it in text.rstrip("\n").split("\n\n")]
+        usage = "\n".join(blocks[0])
+        found = re.findall(r"^  jps (.*)\n((?:      .*(?:\n|$))+)", usage, re.M)
+        self.rows = [Row(words, " ".join(told.split())) for words, told in found]
+        last = "\n".join(blocks[-1])
+        told = re.fullmatch(r"statuses: (.*)\nfaults, one line on standard error:\n(.*)", last, re.S)
+        if not told or len(self.rows) != len(re.findall(r"^  \S", usage, re.M)):
+            sys.exit("pages.py: --help has another form than this script reads")
+        self.statuses = re.split(r"; (?=\d )", " ".join(told[1].split()))
+        faults = re.sub(r"\n {4,}", " ", told[2])
+        self.faults = [re.split(r" {2,}", it.strip(), maxsplit=1) for it in faults.split("\n")]
+        self.sentences = [" ".join(it) for it in blocks[1:-1]]
+
+
+class Program:
+    """The program, called where no file is, so that accepted words are known by a read that fails."""
+
+    def __init__(self, path, nowhere):
+        self.path, self.nowhere = path, nowhere
+
+    def says(self, word):
+        return subprocess.run([self.path, word], check=True, capture_output=True, text=True).stdout
+
+    def accepts(self, *words):
+        quiet = {"stdin": subprocess.DEVNULL, "stdout": subprocess.DEVNULL, "stderr": subprocess.DEVNULL}
+        return subprocess.run([self.path, *words], cwd=self.nowhere, **quiet).returncode != WORDS_REFUSED
+
+    def kinds(self, row):
+        """For each word of the row whether it is a file's name or a number: 1 is both, a/b only the first."""
+        ones = ["1"] * len(row.words)
+        named = ([*ones[:k], "a/b", *ones[k + 1 :]] for k in range(len(ones)))
+        return ["file" if self.accepts(row.name, *words) else "number" for words in named]
+
+    def values(self, row, setting, sentences):
+        """The setting with each of its values. Where `--help` has a name for them, they stand in a sentence
+        with that name; where no word there is one, the value is a file's name."""
+        key, value = setting.split("=")
+        if not value.isupper():
+            return [setting]
+        near = " ".join(it for it in sentences if re.search(rf"\b{value}\b", it))
+        ones, tried = ["1"] * len(row.words), dict.fromkeys(re.findall(r"\b[a-z]+\b", near))
+        found = [f"{key}={it}" for it in tried if self.accepts(row.name, *ones, f"{key}={it}")]
+        return found or [f"{key}="]
+
+    def settings(self, row, sentences):
+        named = [setting for group in row.settings for setting in group]
+        return [it for setting in named for it in self.values(row, setting, sentences)]
+
+
+def roff(text):
+    """The text as roff reads it, with `words` of the program in bold."""
+    text = text.replace("\\", r"\e").replace("-", r"\-")
+    text = re.sub(r"`([^`]*)`", r"\\fB\1\\fR", text)
+    return re.sub(r"^([.'])", r"\\&\1", text)
+
+
+def man_row(row):
+    """A command with its words, names of values in italics."""
+    settings = [f"[{'|'.join(group)}]" for group in row.settings]
+    words = " ".join([*row.words, *settings])
+    return rf"\fBjps {roff(row.name)}\fR " + re.sub(r"\b([A-Z]+)\b", r"\\fI\1\\fR", roff(words))
+
+
+def man_page(told, version):
+    def items(pairs):
+        return [line for head, body in pairs for line in (".TP", rf"\fB{roff(head)}\fR", roff(body))]
+
+    lines = [
+        f'.TH JPS 1 "" "{roff(version)}" "User Commands"',
+        ".ad l",
+        ".SH NAME",
+        r"jps \- least walks on grid maps, each proved to be least",
+        ".SH SYNOPSIS",
+        *(line for row in told.rows for line in (man_row(row), ".br")),
+        ".SH COMMANDS",
+        *(line for row in told.rows for line in (".TP", man_row(row), roff(row.told))),
+        ".SH DESCRIPTION",
+        *(line for it in told.sentences for line in (".PP", roff(it))),
+        ".SH EXIT STATUS",
+        *items(it.split(" ", 1) for it in told.statuses),
+        ".SH DIAGNOSTICS",
+        "A fault is told by one line on standard error.",
+        *items((it[0], it[1] if len(it) > 1 else "") for it in told.faults),
+    ]
+    return "\n".join(it for it in lines if it) + "\n"
+
+
+def quoted(text):
+    """The text as one word of a shell."""
+    return "'" + text.replace("'", r"'\''") + "'"
+
+
+BASH = r"""# Completion of jps for bash, made by ./install.
+_jps() {
+    local word words=() kinds=() settings=() all=() before
+    # bash takes `=` for a word of its own: engine=plus comes in three
+    for word in "${COMP_WORDS[@]:0:COMP_CWORD+1}"; do
+        if [[ ${#words[@]} -gt 2 && ( $word == = || ${words[-1]} == *= ) ]]; then words[-1]+=$word
+        else words+=("$word"); fi
+    done
+    word=${words[-1]} before=${words[*]:2:${#words[@]}-3}
+    case ${words[1]} in
+@CASES@
+    esac
+    local at=$((${#words[@]} - 3)) setting
+    if ((at < 0)); then
+        all=(@NAMES@)
+    elif ((at < ${#kinds[@]})); then
+        if [[ ${kinds[at]} == file ]]; then compopt -o default; fi
+        return
+    elif [[ $word == *=* && " ${settings[*]} " == *" ${word%%=*}= "* ]]; then
+        compopt -o default
+        return
+    else
+        for setting in "${settings[@]}"; do
+            if [[ " $before" != *" ${setting%%=*}="* ]]; then all+=("$setting"); fi
+        done
+    fi
+    mapfile -t COMPREPLY < <(compgen -W "${all[*]}" -- "$word")
+    if [[ ${#COMPREPLY[@]} == 1 && ${COMPREPLY[0]} == *= ]]; then compopt -o nospace; fi
+    if [[ $word == *=* && $COMP_WORDBREAKS == *=* ]]; then COMPREPLY=("${COMPREPLY[@]#*=}"); fi
+}
+complete -F _jps jps
+"""
+
+ZSH = r"""#compdef jps
+# Completion of jps for zsh, made by ./install.
+local -a kinds settings commands
+local at=$((CURRENT - 2)) setting
+commands=(
+@COMMANDS@
+)
+case ${words[2]} in
+@CASES@
+esac
+if ((at == 0)); then
+    _describe -t commands command commands
+elif ((at <= $#kinds)); then
+    if [[ ${kinds[at]} == file ]]; then _files; else _message number; fi
+elif (($#settings)) && [[ $PREFIX == *=* && -n ${(M)settings:#${PREFIX%%=*}=} ]]; then
+    compset -P '*=' && _files
+else
+    for setting in $settings; do
+        if ((${words[(I)${setting%%=*}=*]} == 0 || ${words[(I)${setting%%=*}=*]} == CURRENT)); then
+            if [[ $setting == *= ]]; then compadd -S '' -- $setting; else compadd -- $setting; fi
+        fi
+    done
+fi
+"""
+
+FISH = r"""# Completion of jps for fish, made by ./install.
+# whether so many words after the command's name stand before the one to complete
+function __jps_at --argument-names command count
+    set -l words (commandline -opc)
+    test (count $words) -eq (math $count + 2); and test "$words[2]" = "$command"
+end
+# whether all words of the command stand there, and this setting does not
+function __jps_may --argument-names command count key
+    set -l words (commandline -opc)
+    test (count $words) -ge (math $count + 2); and test "$words[2]" = "$command"
+    and not string match -q -- "$key=*" $words[3..-1]
+end
+complete -c jps -f
+"""
+
+
+def cases(rows, ask):
+    """For each command the line by which bash and zsh know its words and settings."""
+    words = [(row.name, " ".join(ask.kinds[row]), " ".join(ask.settings[row])) for row in rows]
+    return "\n".join("        {}) kinds=({}) settings=({}) ;;".format(*it) for it in words)
+
+
+def bash(rows, ask):
+    return BASH.replace("@CASES@", cases(rows, ask)).replace("@NAMES@", " ".join(row.name for row in rows))
+
+
+def zsh(rows, ask):
+    told = "\n".join(f"    {quoted(f'{row.name}:{row.told}')}" for row in rows)
+    return ZSH.replace("@CASES@", cases(rows, ask)).replace("@COMMANDS@", told)
+
+
+def fish(rows, ask):
+    lines = []
+    for row in rows:
+        lines.append(f"-n 'test (count (commandline -opc)) -eq 1' -a {row.name} -d {quoted(row.told)}")
+        at = [k for k, kind in enumerate(ask.kinds[row]) if kind == "file"]
+        lines += [f"-n '__jps_at {row.name} {k}' -F" for k in at]
+        for setting in ask.settings[row]:
+            key = setting.split("=")[0]
+            files = " -F" if setting.endswith("=") else ""
+            lines.append(f"-n '__jps_may {row.name} {len(row.words)} {key}' -a {setting}{files}")
+    return FISH + "".join(f"complete -c jps {it}\n" for it in lines)
+
+
+class Answers:
+    """What the program was asked, by row."""
+
+    def __init__(self, program, told):
+        self.kinds = {row: program.kinds(row) for row in told.rows}
+        self.settings = {row: program.settings(row, told.sentences) for row in told.rows}
+
+
+def main():
+    if len(sys.argv) != 3:
+        sys.exit("usage: pages.py PROGRAM FOLDER")
+    folder = pathlib.Path(sys.argv[2])
+    with tempfile.TemporaryDirectory() as nowhere:
+        program = Program(str(pathlib.Path(sys.argv[1]).resolve()), nowhere)
+        told = Help(program.says("--help"))
+        ask = Answers(program, told)
+        version = program.says("--version").strip()
+    for place, text in {
+        "share/man/man1/jps.1": man_page(told, version),
+        "share/bash-completion/completions/jps": bash(told.rows, ask),
+        "share/zsh/site-functions/_jps": zsh(told.rows, ask),
+        "share/fish/vendor_completions.d/jps.fish": fish(told.rows, ask),
+    }.items():
+        (folder / place).parent.mkdir(parents=True, exist_ok=True)
+        (folder / place).write_text(text)
+
+
+main()
