@@ -1,6 +1,8 @@
 //! The top call of the program: words, files and streams in, a status out.
 #![tactic(auto)]
 
+#[cfg(test)]
+mod ample_tests;
 mod answers;
 mod check;
 mod drill;

@@ -5,7 +5,7 @@ ghost use Rattle.std.specs.Io.KnownBytes.{ReadConsumes, WriteAppends};
 ghost use Rattle.io_edge.specs.Causes.{HasCause};
 
 use crate::run;
-use crate::tests::{stream, strings, two_files};
+use crate::tests::{ENGINES, RULES, stream, strings, two_files};
 use arrayvec::ArrayVec;
 use io_edge::{Failed, MemSource, Sink, Source};
 use std::alloc::Global;
@@ -26,9 +26,14 @@ const WALK: &[u8] = b"walk 2 0 0,1 2,1\n";
 
 const BOTH: &[u8] = b"walk 2 0 0,1 2,1\nok\n";
 
+const LIVE: &[&str] = &["live", "m"];
+
+// A call of these words, the read of the map of this number failing, and none where it is 0.
 fn call<I: Source, O: Sink, L: Ledger>(
     alloc: Global,
     rt: &impl Abort,
+    words: &[&str],
+    failing: u64,
     input: &mut I,
     out: &mut O,
     line: &[u8],
@@ -39,8 +44,8 @@ fn call<I: Source, O: Sink, L: Ledger>(
     requires some { 0 < L.parts }
 {
     let mut steps = Steps::<L>::new(blank);
-    let words = strings(alloc, &["live", "m"])?;
-    let mut files = two_files(alloc, CROSSING, b"", 0)?;
+    let words = strings(alloc, words)?;
+    let mut files = two_files(alloc, CROSSING, b"", failing)?;
     let mut err = stream(alloc, 0)?;
     let status = run(
         alloc,
@@ -73,7 +78,16 @@ fn check(
     failing_reads.push(failing)?;
     let mut input = MemSource::new(Vec::from_slice(alloc, script)?, piece, failing_reads);
     let mut out = stream(alloc, 0)?;
-    let answer = call::<_, _, Brand>(alloc, rt, &mut input, &mut out, line, Blank::new(1))?;
+    let answer = call::<_, _, Brand>(
+        alloc,
+        rt,
+        LIVE,
+        0,
+        &mut input,
+        &mut out,
+        line,
+        Blank::new(1),
+    )?;
     assert_eq!(rt; answer, status);
     assert_eq!(rt; out.bytes(), output);
     Ok(())
@@ -135,9 +149,7 @@ struct Spoken<'a> {
 }
 
 impl<'a> Source for Spoken<'a> {
-    ghost left = { λ _. None };
-
-    ghost faults = { λ _. 0 };
+    ghost inflow = { λ _. record { left = None; faults = 0 } };
 
     fn read(&mut self, buf: &mut [u8]) -> Result<usize, Failed> {
         self.reads.set(self.reads.get().saturating_add(1));
@@ -156,9 +168,7 @@ struct Noted<'a> {
 }
 
 impl<'a> Sink for Noted<'a> {
-    ghost written = { λ _. None };
-
-    ghost faults = { λ _. 0 };
+    ghost outflow = { λ _. record { written = None; faults = 0 } };
 
     fn write(&mut self, piece: &[u8]) -> Result<usize, Failed> {
         let _ = self.notes.try_push(self.reads.get());
@@ -186,7 +196,16 @@ fn check_order(
         reads: &reads,
         notes: ArrayVec::new(),
     };
-    let answer = call::<_, _, Brand>(alloc, rt, &mut input, &mut out, line, Blank::new(1))?;
+    let answer = call::<_, _, Brand>(
+        alloc,
+        rt,
+        LIVE,
+        0,
+        &mut input,
+        &mut out,
+        line,
+        Blank::new(1),
+    )?;
     assert_eq!(rt; answer, status);
     assert_eq!(rt; out.notes.as_slice(), notes);
     assert_eq!(rt; reads.get(), read);
@@ -222,4 +241,89 @@ fn a_refused_line_ends_the_call_at_once(rt: HostRuntime) -> Result<(), Fail> {
         &[],
         19,
     )
+}
+
+// By each engine and under both rules the script has the same lines, but that jumps stop between two
+// walls where a diagonal may pass one blocked cell.
+#[test]
+fn each_engine_answers(rt: HostRuntime) -> Result<(), Fail> {
+    let alloc = rt.alloc();
+    for engine in ENGINES {
+        for rule in RULES {
+            let mut input = MemSource::new(Vec::from_slice(alloc, SCRIPT)?, 4096, Vec::new(alloc));
+            let mut out = stream(alloc, 0)?;
+            let words: [&str; 4] = ["live", "m", engine, rule];
+            let status = call::<_, _, Brand>(
+                alloc,
+                &rt,
+                &words,
+                0,
+                &mut input,
+                &mut out,
+                b"",
+                Blank::new(1),
+            )?;
+            let lines = if engine == "engine=plain" || rule == "rule=none" {
+                BOTH
+            } else {
+                b"walk 2 0 0,1 1,1 2,1\nok\n".as_slice()
+            };
+            assert_eq!(rt; status, 0);
+            assert_eq!(rt; out.bytes(), lines);
+        }
+    }
+    Ok(())
+}
+
+// Each of the four reads of the map failing, nothing is taken from the input and nothing is written.
+#[test]
+fn a_map_that_fails_ends_the_call(rt: HostRuntime) -> Result<(), Fail> {
+    let alloc = rt.alloc();
+    for failing in 1..5 {
+        let reads = Cell::new(0);
+        let mut input = Spoken {
+            text: SCRIPT,
+            reads: &reads,
+        };
+        let mut out = stream(alloc, 0)?;
+        let line = b"jps: read\n";
+        let status = call::<_, _, Brand>(
+            alloc,
+            &rt,
+            LIVE,
+            failing,
+            &mut input,
+            &mut out,
+            line,
+            Blank::new(1),
+        )?;
+        assert_eq!(rt; status, 4);
+        assert_eq!(rt; out.bytes().len(), 0);
+        assert_eq!(rt; reads.get(), 0);
+    }
+    Ok(())
+}
+
+// Each write failing, the bytes before it stand.
+#[test]
+fn each_failing_write_leaves_the_bytes_before(rt: HostRuntime) -> Result<(), Fail> {
+    let alloc = rt.alloc();
+    for write in 0..BOTH.len() {
+        let mut input = MemSource::new(Vec::from_slice(alloc, SCRIPT)?, 4096, Vec::new(alloc));
+        let mut out = stream(alloc, write as u64 + 1)?;
+        let line = b"jps: write\n";
+        let status = call::<_, _, Brand>(
+            alloc,
+            &rt,
+            LIVE,
+            0,
+            &mut input,
+            &mut out,
+            line,
+            Blank::new(1),
+        )?;
+        assert_eq!(rt; status, 5);
+        assert_eq!(rt; out.bytes(), &BOTH[..write]);
+    }
+    Ok(())
 }

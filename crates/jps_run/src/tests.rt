@@ -12,9 +12,9 @@ use std::sync::ledger::{Blank, Ledger};
 use std::test::Fail;
 use steps::Steps;
 
-const OPEN: &[u8] = b"type octile\nheight 3\nwidth 3\nmap\n...\n...\n...\n";
+pub(crate) const OPEN: &[u8] = b"type octile\nheight 3\nwidth 3\nmap\n...\n...\n...\n";
 
-const PILLAR: &[u8] = b"type octile\nheight 3\nwidth 3\nmap\n...\n.@.\n...\n";
+pub(crate) const PILLAR: &[u8] = b"type octile\nheight 3\nwidth 3\nmap\n...\n.@.\n...\n";
 
 // Two cells that touch only at a corner.
 const TOUCHING: &[u8] = b"type octile\nheight 2\nwidth 2\nmap\n.@\n@.\n";
@@ -25,6 +25,10 @@ const CROSSING: &[u8] = b"type octile\nheight 3\nwidth 3\nmap\n.@.\n...\n.@.\n";
 const SHORE: &[u8] = b"type octile\nheight 2\nwidth 3\nmap\n.WW\n.WW\n";
 
 const TWO_ROWS: &[u8] = b"type octile\nheight 2\nwidth 4\nmap\n....\n....\n";
+
+pub(crate) const ENGINES: [&str; 4] = ["engine=plain", "engine=jps", "engine=block", "engine=plus"];
+
+pub(crate) const RULES: [&str; 2] = ["rule=none", "rule=one"];
 
 pub(crate) fn strings(alloc: Global, words: &[&str]) -> Result<Vec<String>, AllocError> {
     let mut strings = Vec::new(alloc);
@@ -78,16 +82,16 @@ fn call<L: Ledger>(
 
 // A call: its words, the files `m` and `s`, and which read and which write fail.
 #[derive(Clone, Copy)]
-struct Request<'a> {
-    words: &'a [&'a str],
-    map: &'a [u8],
-    second: &'a [u8],
-    failing_read: u64,
-    failing_write: u64,
+pub(crate) struct Request<'a> {
+    pub words: &'a [&'a str],
+    pub map: &'a [u8],
+    pub second: &'a [u8],
+    pub failing_read: u64,
+    pub failing_write: u64,
 }
 
 // A call has this status, this output and this line.
-fn check(
+pub(crate) fn check(
     alloc: Global,
     rt: &impl Abort,
     made: Request<'_>,
@@ -121,7 +125,7 @@ const SOLVE: &[&str] = &["solve", "m", "s"];
 const SCEN: &[&str] = &["scen", "m", "s"];
 
 // A call of these words on this map, with nothing else held and nothing failing.
-fn on_map<'a>(words: &'a [&'a str], map: &'a [u8]) -> Request<'a> {
+pub(crate) fn on_map<'a>(words: &'a [&'a str], map: &'a [u8]) -> Request<'a> {
     Request {
         words,
         map,
@@ -144,11 +148,11 @@ const ROWS: &[u8] =
     b"row 1 agree 2 1\nrow 2 near 2 1\nrow 3 off 2 1\nsum 3 agree 1 near 1 off 1 other 0\n";
 
 // A query, a script and a scenario, each with its output.
-fn query() -> (Request<'static>, &'static [u8]) {
+pub(crate) fn query() -> (Request<'static>, &'static [u8]) {
     (on_map(CORNER, OPEN), b"walk 0 2 0,0 2,2\n")
 }
 
-fn script() -> (Request<'static>, &'static [u8]) {
+pub(crate) fn script() -> (Request<'static>, &'static [u8]) {
     let made = Request {
         second: EDITS,
         ..on_map(SOLVE, CROSSING)
@@ -156,7 +160,7 @@ fn script() -> (Request<'static>, &'static [u8]) {
     (made, ANSWERS)
 }
 
-fn scenario() -> (Request<'static>, &'static [u8]) {
+pub(crate) fn scenario() -> (Request<'static>, &'static [u8]) {
     let made = Request {
         second: LENGTHS,
         ..on_map(SCEN, TWO_ROWS)
@@ -298,7 +302,12 @@ fn scripts_and_scenarios_are_answered(rt: HostRuntime) -> Result<(), Fail> {
 }
 
 // The first `reads` reads of a call, each failing in turn.
-fn check_reads(alloc: Global, rt: &impl Abort, made: Request<'_>, reads: u64) -> Result<(), Fail> {
+pub(crate) fn check_reads(
+    alloc: Global,
+    rt: &impl Abort,
+    made: Request<'_>,
+    reads: u64,
+) -> Result<(), Fail> {
     for read in 0..reads {
         let failing = Request {
             failing_read: read + 1,
@@ -324,7 +333,7 @@ fn each_failing_read_ends_the_call(rt: HostRuntime) -> Result<(), Fail> {
 }
 
 // Each write of a call's output failing in turn; a write takes one byte.
-fn check_writes(
+pub(crate) fn check_writes(
     alloc: Global,
     rt: &impl Abort,
     made: Request<'_>,
@@ -447,7 +456,8 @@ fn maps_and_drills_come_from_numbers(rt: HostRuntime) -> Result<(), Fail> {
 }
 
 // Round the pillar in the middle of nine cells, by hand.
-const CERTIFICATE: &[u8] = b"jps-cert 1\nsize 3 3\nends 0 0 2 2\nleast 4 0\npoints 0,0 2,0 2,2\n\
+pub(crate) const CERTIFICATE: &[u8] =
+    b"jps-cert 1\nsize 3 3\nends 0 0 2 2\nleast 4 0\npoints 0,0 2,0 2,2\n\
     value 0 0 0 0\nvalue 1 0 1 0\nvalue 0 1 1 0\nend\n";
 
 #[test]
