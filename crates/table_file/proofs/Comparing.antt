@@ -63,7 +63,8 @@ module _ (land water : GridData) (text : List ℕ) where
 
   in_parts : table_fault_of land water text ≡ option_or (frame_fault land text)
       (option_or (land_fault (drop 13 text)) (water_fault land.width land.height
-      (drop (2 * length (spots_on Land (cells_from land.width 0 (land.height * land.width)))) (drop 13 text))))
+      (drop (2 * length (spots_on Land (cells_from land.width 0 (land.height * land.width)))) (drop 13
+      text))))
   unfolding table_fault_of
   in_parts =
       ap (λ (o : Option TableFault). option_or (frame_fault land text) o)
@@ -76,10 +77,12 @@ module _ (land water : GridData) (text : List ℕ) where
       → table_fault_of land water text ≡ Some fault
   frame_decides fault is = in_parts ∙ ap (λ (o : Option TableFault). option_or o (option_or
       (land_fault (drop 13 text)) (water_fault land.width land.height
-      (drop (2 * length (spots_on Land (cells_from land.width 0 (land.height * land.width)))) (drop 13 text))))) is
+      (drop (2 * length (spots_on Land (cells_from land.width 0 (land.height * land.width)))) (drop 13
+      text))))) is
 
   module _ (fine : frame_fault land text ≡ None) (body : List ℕ) (is : body ≡ drop 13 text) where
-    behind_frame : table_fault_of land water text ≡ option_or (land_fault body) (water_fault land.width land.height
+    behind_frame : table_fault_of land water text ≡ option_or (land_fault body) (water_fault land.width
+        land.height
         (drop (2 * length (spots_on Land (cells_from land.width 0 (land.height * land.width)))) body))
     behind_frame = in_parts ∙ ap (λ (o : Option TableFault). option_or o (option_or
         (land_fault (drop 13 text)) (water_fault land.width land.height (drop (2 * length
@@ -89,8 +92,10 @@ module _ (land water : GridData) (text : List ℕ) where
 
     pub land_decides : (fault : TableFault) → land_fault body ≡ Some fault
         → table_fault_of land water text ≡ Some fault
-    land_decides fault told = behind_frame ∙ ap (λ (o : Option TableFault). option_or o (water_fault land.width
-        land.height (drop (2 * length (spots_on Land (cells_from land.width 0 (land.height * land.width)))) body)))
+    land_decides fault told = behind_frame ∙ ap (λ (o : Option TableFault). option_or o (water_fault
+        land.width
+        land.height (drop (2 * length (spots_on Land (cells_from land.width 0 (land.height * land.width))))
+        body)))
         told
 
     pub water_decides : land_fault body ≡ None → AreOfOneMap land water → (k : ℕ)

@@ -57,7 +57,8 @@ module _ (entry : Spot → ℤ) where
   }
     where
       wrong : take 2 bytes ≢ entry_bytes (entry head)
-      wrong fine = let right = (bytes_eq-Decides (take 2 bytes) (entry_bytes (entry head))).1 fine in absurd (cc)
+      wrong fine = let right = (bytes_eq-Decides (take 2 bytes) (entry_bytes (entry head))).1 fine in
+          absurd (cc)
 
   first_is : (spots : List Spot) (bytes : List ℕ) (s : Spot) → first_wrong entry spots bytes ≡ Some s
       → IsFirstWrong entry spots bytes s
@@ -93,7 +94,8 @@ module _ (entry : Spot → ℤ) where
       if_right (bytes_eq (take 2 bytes) (entry_bytes (entry head))) head s
       (first_wrong entry spots (drop 2 bytes))
       ((bytes_eq-Decides (take 2 bytes) (entry_bytes (entry head))).1 (before 0 head (omega arith) refl))
-      (found spots (drop 2 bytes) s place there (λ right. wrong (ap (take 2) (sym (two_on bytes place)) ∙ right))
+      (found spots (drop 2 bytes) s place there (λ right. wrong (ap (take 2) (sym (two_on bytes place))
+      ∙ right))
       (λ k t below is. ap (take 2) (two_on bytes k) ∙ before (suc k) t (omega arith) is))
 
 decided : (right whole : Bool) (wrong : Option Spot) (fault : TableFault) (P : TableFault → Type 0)
@@ -133,7 +135,8 @@ module _ (land water : GridData) (text : List ℕ) where
 
   head_test : take 13 text ≡ head_bytes land.corner land.width land.height
       → bytes_eq (head_bytes land.corner land.width land.height) (take 13 text) ≡ true
-  head_test same = (bytes_eq-Decides (head_bytes land.corner land.width land.height) (take 13 text)).1 (sym same)
+  head_test same = (bytes_eq-Decides (head_bytes land.corner land.width land.height) (take 13 text)).1 (sym
+      same)
 
   other_test : (b : Bool) → ¬ (b ≡ true) → b ≡ false
   other_test true other = absurd (other refl)
@@ -144,14 +147,16 @@ module _ (land water : GridData) (text : List ℕ) where
   unfolding table_fault_of
   differs_fault Head other = frame_decides land water text Head (frame_head land text (other_test
       (bytes_eq (head_bytes land.corner land.width land.height) (take 13 text))
-      (λ right. other (sym ((bytes_eq-Decides (head_bytes land.corner land.width land.height) (take 13 text)).0
+      (λ right. other (sym ((bytes_eq-Decides (head_bytes land.corner land.width land.height) (take 13
+      text)).0
       right)))))
   differs_fault Length both =
       frame_decides land water text Length (frame_length land text (head_test both.0) both.1)
   differs_fault (Entry layer cell dir) parts =
       ap (λ (o : Option TableFault). option_or o (option_map entry_fault (first_wrong (entry_for land water)
       (spots_of land.width land.height) (drop 13 text)))) (frame_fine land text (head_test parts.0) parts.1)
-      ∙ ap (option_map entry_fault) (found (entry_for land water) (spots_of land.width land.height) (drop 13 text)
+      ∙ ap (option_map entry_fault) (found (entry_for land water) (spots_of land.width land.height) (drop
+      13 text)
       (spot layer cell dir) parts.2.place parts.2.there parts.2.wrong parts.2.before)
   differs_fault NoMemory none = absurd none
 

@@ -11,7 +11,8 @@ use Rattle.table_file.specs.Order.{Spot}
 use Rattle.table_file.specs.Reading.{first_other}
 use Rattle.table_file.proofs.Numbering.{AreNumbered}
 
-by_test : (b : Bool) (tell : ℕ → Spot) (s : Spot) (place : ℕ) (x : Option Spot) (y : Option ℕ) → s ≡ tell place
+by_test : (b : Bool) (tell : ℕ → Spot) (s : Spot) (place : ℕ) (x : Option Spot) (y : Option ℕ) → s
+    ≡ tell place
     → x ≡ option_map tell y → (if b then x else Some s) ≡ option_map tell (if b then y else Some place)
 by_test true tell s place x y is same = same
 by_test false tell s place x y is same = ap (λ (t : Spot). Some t) is
@@ -23,7 +24,8 @@ pub wrong_named : (tell : ℕ → Spot) (entry : Spot → ℤ) (place : ℕ) (sp
 wrong_named tell entry place [] bytes numbered = refl
 wrong_named tell entry place (s ∷ spots) bytes numbered =
     by_test (bytes_eq (take 2 bytes) (entry_bytes (entry s))) tell s place
-    (first_wrong entry spots (drop 2 bytes)) (first_other (place + 1) (map entry spots) (drop 2 bytes)) numbered.0
+    (first_wrong entry spots (drop 2 bytes)) (first_other (place + 1) (map entry spots) (drop 2 bytes))
+    numbered.0
     (wrong_named tell entry (place + 1) spots (drop 2 bytes) numbered.1)
 
 or_test : (b : Bool) (s : Spot) (x y z : Option Spot) → x ≡ option_or y z
@@ -32,7 +34,8 @@ or_test true s x y z same = same
 or_test false s x y z same = refl
 
 -- among two lists it is that of the first one, if there is one
-pub wrong-append : (entry : Spot → ℤ) (xs ys : List Spot) (bytes : List ℕ) → first_wrong entry (xs ++ ys) bytes
+pub wrong-append : (entry : Spot → ℤ) (xs ys : List Spot) (bytes : List ℕ)
+    → first_wrong entry (xs ++ ys) bytes
     ≡ option_or (first_wrong entry xs bytes) (first_wrong entry ys (drop (2 * length xs) bytes))
 wrong-append entry [] ys bytes = refl
 wrong-append entry (x ∷ xs) ys bytes =
@@ -57,7 +60,8 @@ all_right entry (s ∷ spots) bytes none long =
     let both = if_none (bytes_eq (take 2 bytes) (entry_bytes (entry s))) s
     (first_wrong entry spots (drop 2 bytes)) none in
     sym (take-append-drop 2 bytes)
-    ∙ ap (λ (l : List ℕ). l ++ drop 2 bytes) ((bytes_eq-Decides (take 2 bytes) (entry_bytes (entry s))).0 both.0)
+    ∙ ap (λ (l : List ℕ). l ++ drop 2 bytes) ((bytes_eq-Decides (take 2 bytes) (entry_bytes (entry s))).0
+    both.0)
     ∙ ap (λ (l : List ℕ). entry_bytes (entry s) ++ l)
     (all_right entry spots (drop 2 bytes) both.1 (length-drop 2 bytes ∙ omega arith))
 
@@ -97,9 +101,11 @@ module _ (entries : List ℤ) (bytes : List ℕ) (place : ℕ) (inside : place <
       (entry_bytes (slice_index_or entries place (pos 0)))
       then first_other (place + 1) (drop (place + 1) entries) (drop (2 * (place + 1)) bytes) else Some place)
   at_place =
-      ap (λ (l : List ℤ). first_other place l (drop (2 * place) bytes)) (drop_more entries place (pos 0) inside)
+      ap (λ (l : List ℤ). first_other place l (drop (2 * place) bytes)) (drop_more entries place (pos 0)
+      inside)
       ∙ ap (λ (l : List ℕ). if bytes_eq l (entry_bytes (slice_index_or entries place (pos 0)))
-      then first_other (place + 1) (drop (place + 1) entries) (drop 2 (drop (2 * place) bytes)) else Some place)
+      then first_other (place + 1) (drop (place + 1) entries) (drop 2 (drop (2 * place) bytes)) else Some
+      place)
       (next_two bytes (2 * place) (omega arith))
       ∙ ap (λ (l : List ℕ). if bytes_eq (slice_index_or bytes (2 * place) 0
       ∷ slice_index_or bytes (2 * place + 1) 0 ∷ []) (entry_bytes (slice_index_or entries place (pos 0)))

@@ -34,7 +34,8 @@ module _ (land : GridData) (text : List ℕ) where
   pub frame_length : bytes_eq (head_bytes land.corner land.width land.height) (take 13 text) ≡ true
       → length text ≢ size_of land → frame_fault land text ≡ Some Length
   frame_length right other =
-      let test : nat_eq (length text) (size_of land) ≡ false = grind (arith, nat_tests) in longer _ _ right test
+      let test : nat_eq (length text) (size_of land) ≡ false = grind (arith, nat_tests) in longer _ _ right
+      test
 
   pub frame_fine : bytes_eq (head_bytes land.corner land.width land.height) (take 13 text) ≡ true
       → length text ≡ size_of land → frame_fault land text ≡ None

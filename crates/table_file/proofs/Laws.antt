@@ -48,7 +48,8 @@ no_image : {A B : Type 0} (f : A → B) (x : Option A) → option_map f x ≡ No
 no_image f None none = refl
 no_image f (Some a) none = absurd (cc)
 
-no_frame : (right whole : Bool) → (if not right then Some Head else if not whole then Some Length else None) ≡ None
+no_frame : (right whole : Bool) → (if not right then Some Head else if not whole then Some Length else
+    None) ≡ None
     → (right ≡ true) × (whole ≡ true)
 no_frame true true none = (refl, refl)
 no_frame true false none = absurd (cc)
@@ -109,13 +110,15 @@ module _ (land water : GridData) where
       let frame : frame_fault land (head ++ body) ≡ None =
       frame_none (bytes_eq head (take 13 (head ++ body))) (nat_eq (length (head ++ body)) (size_of land))
       ((bytes_eq-Decides head (take 13 (head ++ body))).1 (sym front)) (grind (arith, nat_tests)) in
-      ap (λ (o : Option TableFault). option_or o (option_map entry_fault (first_wrong (entry_for land water) spots
+      ap (λ (o : Option TableFault). option_or o (option_map entry_fault (first_wrong (entry_for land
+      water) spots
       (drop 13 (head ++ body))))) frame
       ∙ ap (λ (l : List ℕ). option_map entry_fault (first_wrong (entry_for land water) spots l)) back
       ∙ ap (option_map entry_fault) (none_wrong (entry_for land water) spots)
 
   -- what is written for two tables is the encoding of their grids
-  pub file_is : (corner : Corner) (first_t sea : TablesData) → AreOfOneMap land water → AreTablesOf first_t land
+  pub file_is : (corner : Corner) (first_t sea : TablesData) → AreOfOneMap land water
+      → AreTablesOf first_t land
       → AreTablesOf sea water → IsWhole first_t → IsWhole sea
       → file_of corner first_t sea ≡ encoding corner land water
   unfolding encoding

@@ -26,8 +26,11 @@ numbered-append : {A : Type 0} (tell : ℕ → A) (place : ℕ) (xs ys : List A)
 numbered-append tell place [] ys first second =
     let same : place + 0 ≡ place = omega arith in subst (λ (n : ℕ). AreNumbered tell n ys) same second
 numbered-append tell place (x ∷ xs) ys first second =
-    let same : place + suc (length xs) ≡ place + 1 + length xs = omega arith in
-    (first.0, numbered-append tell (place + 1) xs ys first.1 (subst (λ (n : ℕ). AreNumbered tell n ys) same second))
+    let same : place + suc (length xs) ≡ place + 1 + length xs = omega arith in (
+      first.0,
+      numbered-append tell (place + 1) xs ys first.1 (subst (λ (n : ℕ). AreNumbered tell n ys) same
+          second),
+    )
 
 -- the place of an entry: eight times the cell's number, and the direction's
 cell_part : (n j place : ℕ) → place ≡ n * 8 + j → j < 8 → place / 8 ≡ n
@@ -37,7 +40,8 @@ dir_part : (n j place : ℕ) → place ≡ n * 8 + j → j < 8 → place % 8 ≡
 dir_part n j place is few = omega arith
 
 one_spot : (layer : Ground) (width n place : ℕ) (d : Dir) → place ≡ n * 8 + dir_number d → dir_number d < 8
-    → slice_index_or all_dirs (dir_number d) N ≡ d → spot layer (cell_of width n) d ≡ spot_of layer width place
+    → slice_index_or all_dirs (dir_number d) N ≡ d → spot layer (cell_of width n) d
+    ≡ spot_of layer width place
 one_spot layer width n place d is few named =
     ap (λ (e : Dir). spot layer (cell_of width n) e)
     (sym named ∙ ap (λ (k : ℕ). slice_index_or all_dirs k N) (sym (dir_part n (dir_number d) place is few)))
@@ -60,7 +64,11 @@ spots_at-numbered layer width n place is = (
             one_spot layer width n (place + 1 + 1 + 1 + 1 + 1) SW (omega arith) (omega arith) refl,
             (
               one_spot layer width n (place + 1 + 1 + 1 + 1 + 1 + 1) W (omega arith) (omega arith) refl,
-              (one_spot layer width n (place + 1 + 1 + 1 + 1 + 1 + 1 + 1) NW (omega arith) (omega arith) refl, tt),
+              (
+                one_spot layer width n (place + 1 + 1 + 1 + 1 + 1 + 1 + 1) NW (omega arith) (omega arith)
+                    refl,
+                tt,
+              ),
             ),
           ),
         ),
@@ -116,7 +124,8 @@ few_left place = omega arith
 place_back : (width place : ℕ)
     → entry_place width (cell_of width (place / 8)) (slice_index_or all_dirs (place % 8) N) ≡ place
 place_back width place =
-    ap (λ (n : ℕ). n * 8 + dir_number (slice_index_or all_dirs (place % 8) N)) (div-add-mod' (place / 8) width)
+    ap (λ (n : ℕ). n * 8 + dir_number (slice_index_or all_dirs (place % 8) N)) (div-add-mod' (place / 8)
+    width)
     ∙ ap (λ (n : ℕ). place / 8 * 8 + n) (dir_back (place % 8) (few_left place)) ∙ eighths place
 
 number_inside : (place cells : ℕ) → place < cells * 8 → place / 8 < cells

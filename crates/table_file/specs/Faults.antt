@@ -47,13 +47,15 @@ pub record IsFirstWrong (entry : Spot → ℤ) (spots : List Spot) (bytes : List
   pub wrong : ¬ IsRightAt entry bytes place s
   pub before : (k : ℕ) (t : Spot) → k < place → slice_get spots k ≡ Some t → IsRightAt entry bytes k t
 
--- a text differs from the encoding of two grids' tables in the first 13 bytes; or else in its length; or else in
--- an entry, and this is the first one
+-- how a text differs from the encoding of two grids' tables: in the first 13 bytes; or else in its length;
+-- or else in an entry, and this is the first one
 abbrev pub Differs : GridData → GridData → List ℕ → TableFault → Type 0
 Differs land water text Head = take 13 text ≢ head_bytes land.corner land.width land.height
 Differs land water text Length = (take 13 text ≡ head_bytes land.corner land.width land.height)
     × (length text ≢ size_of land)
-Differs land water text (Entry layer cell dir) = (take 13 text ≡ head_bytes land.corner land.width land.height)
+Differs land water text (Entry layer cell dir) =
+    (take 13 text ≡ head_bytes land.corner land.width land.height)
     × (length text ≡ size_of land)
-    × IsFirstWrong (entry_for land water) (spots_of land.width land.height) (drop 13 text) (spot layer cell dir)
+    × IsFirstWrong (entry_for land water) (spots_of land.width land.height) (drop 13 text)
+    (spot layer cell dir)
 Differs land water text NoMemory = ⊥

@@ -3,6 +3,7 @@ use Rattle.std.specs.Prelude.{◌≡◌, ℕ, List, [], ◌∷◌, ◌++◌, cod
 use Rattle.grid_moves.specs.declared.Corner.{Corner}
 use Rattle.grid_moves.specs.declared.Corner.TheVariants.{Never, One}
 use Rattle.grid_moves.specs.declared.Dir.TheVariants.{E, NW}
+use Rattle.grid_moves.specs.declared.Ground.{Ground}
 use Rattle.grid_moves.specs.declared.Ground.TheVariants.{Land, Water}
 use Rattle.grid_moves.specs.Grid.{GridData, layer_of}
 use Rattle.table_file.specs.declared.fault.TableFault.TheVariants.{Head, Length, Entry}
@@ -66,8 +67,10 @@ unfolding table_fault_of
 other_rule = refl
 
 -- the map `WW.`: one move to each side on the water, and none on the land
-pub water_behind_land : encoding One (layer_of Land One 3 1 (codes "WW.")) (layer_of Water One 3 1 (codes "WW."))
-    ≡ head_bytes One 3 1 ++ (zeros 48 ++ (zeros 4 ++ 255 ∷ 255 ∷ zeros 10) ++ (zeros 12 ++ 255 ∷ 255 ∷ zeros 2)
-    ++ zeros 16)
+abbrev two_wet : Ground → GridData
+two_wet layer = layer_of layer One 3 1 (codes "WW.")
+
+pub water_behind_land : encoding One (two_wet Land) (two_wet Water) ≡ head_bytes One 3 1 ++ (zeros 48
+    ++ (zeros 4 ++ 255 ∷ 255 ∷ zeros 10) ++ (zeros 12 ++ 255 ∷ 255 ∷ zeros 2) ++ zeros 16)
 unfolding encoding
 water_behind_land = refl

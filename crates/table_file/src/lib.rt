@@ -1,8 +1,9 @@
 //! Table files: the tables of a map's two grids as bytes, written for other programs and read back.
 //!
-//! A file tells for which map it was made only by the sides, so a text is loaded where it is, byte for byte,
-//! the encoding of the tables of the map at hand: a session never rests on entries that were not proved.
-//! The entries are the jump distances of JPS+ (Harabor and Grastien, ICAPS 2014); the format is this project's:
+//! A file tells by its sides alone for which map it was made, so a text is loaded only where it is, byte for
+//! byte, the encoding of the tables of the map at hand: no session rests on entries that are not its map's.
+//! The entries are the jump distances of JPS+ (Harabor and Grastien, ICAPS 2014). The format is this
+//! project's:
 //!
 //! ```text
 //! JPSPLUS1                 8 bytes

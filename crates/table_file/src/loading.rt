@@ -19,8 +19,8 @@ use std::alloc::Global;
 
 /// The tables of a map's land grid and water grid, where the text is their encoding, or else how it differs.
 ///
-/// The grids are those of one map under one corner rule. The tables are built from the grids and compared with
-/// the text, land first; where the head or the length is wrong, nothing is built.
+/// The grids are those of one map under one corner rule. The tables are built from the grids and compared
+/// with the text, land first; where the head or the length is wrong, nothing is built.
 pub fn load(
     alloc: Global,
     text: &[u8],

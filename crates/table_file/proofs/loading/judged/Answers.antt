@@ -9,21 +9,25 @@ half n k is = omega arith
 pub returns-in_err-body-clause-exact : goal.returns-in_err-body-clause-exact
 returns-in_err-body-clause-exact c =
     let p = err_from_is_err_and c.from_residual.result c.from_residual.ensures.1 in
-    rw (p.1, p.2) (λ other. frame_decides c.args.land.now c.args.water.now c.args.text.now _ c.in_err-body.ensures.wrong)
+    rw (p.1, p.2) (λ other. frame_decides c.args.land.now c.args.water.now c.args.text.now _
+    c.in_err-body.ensures.wrong)
 
 pub returns-in_err-first-clause-exact : goal.returns-in_err-first-clause-exact
 returns-in_err-first-clause-exact c =
     let p = err_from_is_err_and c.from_residual-in_err-first.result c.from_residual-in_err-first.ensures.1 in
-    rw (p.1, p.2) (λ other. land_decides c.args.land.now c.args.water.now c.args.text.now c.in_ok-body.ensures.right.0
+    rw (p.1, p.2) (λ other. land_decides c.args.land.now c.args.water.now c.args.text.now
+    c.in_ok-body.ensures.right.0
     c.in_ok-body.body.now c.in_ok-body.ensures.right.1 _
     (c.in_err-first.ensures.exact c.args.land.now c.args.water.now refl other))
 
 pub returns-in_err-second-clause-exact : goal.returns-in_err-second-clause-exact
 returns-in_err-second-clause-exact c =
-    let p = err_from_is_err_and c.from_residual-in_err-second.result c.from_residual-in_err-second.ensures.1 in
+    let p = err_from_is_err_and c.from_residual-in_err-second.result
+    c.from_residual-in_err-second.ensures.1 in
     rw (p.1, p.2) (λ other. water_decides c.args.land.now c.args.water.now c.args.text.now
     c.in_ok-body.ensures.right.0 c.in_ok-body.body.now c.in_ok-body.ensures.right.1
-    (c.in_ok-first.ensures.exact c.args.land.now c.args.water.now refl) c.requires (length c.in_ok-body.body.now / 2)
+    (c.in_ok-first.ensures.exact c.args.land.now c.args.water.now refl) c.requires (length
+    c.in_ok-body.body.now / 2)
     (half _ _ c.in_ok-body.ensures.right.2) c.split_at.result.1.now c.split_at.ensures.back
     ∙ c.in_err-second.ensures.exact c.args.land.now c.args.water.now refl other)
 
@@ -31,6 +35,7 @@ pub returns-clause-exact : goal.returns-clause-exact
 returns-clause-exact c =
     water_decides c.args.land.now c.args.water.now c.args.text.now
     c.in_ok-body.ensures.right.0 c.in_ok-body.body.now c.in_ok-body.ensures.right.1
-    (c.in_ok-first.ensures.exact c.args.land.now c.args.water.now refl) c.requires (length c.in_ok-body.body.now / 2)
+    (c.in_ok-first.ensures.exact c.args.land.now c.args.water.now refl) c.requires (length
+    c.in_ok-body.body.now / 2)
     (half _ _ c.in_ok-body.ensures.right.2) c.split_at.result.1.now c.split_at.ensures.back
     ∙ c.in_ok-second.ensures.exact c.args.land.now c.args.water.now refl

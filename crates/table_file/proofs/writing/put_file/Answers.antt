@@ -12,7 +12,8 @@ pub returns-clause-ok : goal.returns-clause-ok
 returns-clause-ok c =
     let head : c.put_head.new.out.items
     ≡ c.args.out.now.items ++ head_bytes c.args.corner c.args.land.now.width c.args.land.now.height =
-    rw (c.in_ok-put_head.ensures.ok, c.in_ok-reserve.ensures.items, c.width.ensures.is, c.height.ensures) refl in
+    rw (c.in_ok-put_head.ensures.ok, c.in_ok-reserve.ensures.items, c.width.ensures.is, c.height.ensures)
+    refl in
     let first : c.put_entries.new.out.items
     ≡ c.put_head.new.out.items ++ flat_map entry_bytes c.args.land.now.entries =
     rw (c.in_ok-put_entries.ensures.ok, c.entries-first.ensures.entries) refl in

@@ -21,7 +21,8 @@ loaded_back land water corner is =
 pub returns-else-is_err-clause-text : goal.returns-else-is_err-clause-text
 returns-else-is_err-clause-text c land water are are_too one corner =
     on_ok c.put_file-written.result (λ put. put ∙ ap (λ (l : List ℕ). c.args.out.now.items ++ l)
-    (file_is land water c.args.corner c.args.land.now c.args.water.now one are are_too c.put_file-written.ensures.land
+    (file_is land water c.args.corner c.args.land.now c.args.water.now one are are_too
+    c.put_file-written.ensures.land
     c.put_file-written.ensures.water)) c.put_file-written.ensures.ok
 
 pub returns-then-is_err-clause-size : goal.returns-then-is_err-clause-size
