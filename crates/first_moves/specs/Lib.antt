@@ -1,0 +1,4 @@
+pub mod First
+pub mod Runs
+pub mod Row
+pub mod Kept
