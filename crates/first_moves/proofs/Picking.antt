@@ -1,5 +1,5 @@
 -- The least direction of a byte.
-use Rattle.std.proofs.Common.{◌≡◌, ℕ, suc, ◌+◌, ◌*◌, ◌<◌, ◌≤◌, arith, refl, ap, sym, ◌∙◌, subst, Bool, true, false, List, length, get_or, map}
+use Rattle.std.proofs.Common.{◌≡◌, ℕ, suc, ◌+◌, ◌*◌, ◌<◌, ◌≤◌, arith, refl, ap, sym, ◌∙◌, subst, Bool, true, false, ◌⊎◌, inl, inr, List, [], ◌∷◌, length, get_or, map}
 use Rattle.std.specs.Prelude.{Option, Some, None, nat_eq, nat_lt, if◌then◌else◌, IsTrue, ◌↔◌}
 use Rattle.std.proofs.lemmas.Bool.Decides.{nat_tests}
 use Rattle.std.proofs.lemmas.List.{length-map, get_or-map}
@@ -7,9 +7,12 @@ use Rattle.grid_moves.specs.declared.Cell.{Cell}
 use Rattle.grid_moves.specs.declared.Dir.{Dir}
 use Rattle.grid_moves.specs.declared.Dir.TheVariants.{N, NE, E, SE, S, SW, W, NW}
 use Rattle.grid_moves.specs.Grid.{GridData, cell_number, is_inside}
-use Rattle.grid_moves.specs.Move.{dir_number}
-use Rattle.cost_waves.specs.Begin.{Begins}
-use Rattle.cost_waves.specs.Told.{WaveData, Tells}
+use Rattle.grid_moves.specs.Move.{dir_number, is_legal}
+use Rattle.grid_moves.specs.Walk.{IsLeastWalk, NoWalk, is_walk}
+use Rattle.grid_moves.proofs.Ahead.{legal_ahead-of}
+use Rattle.root2_cost.specs.declared.Cost.{Cost}
+use Rattle.cost_waves.specs.Begin.{Begins, IsCostTo}
+use Rattle.cost_waves.specs.Told.{WaveData, Tells, cost_at}
 use Rattle.first_moves.specs.First.{IsFirstMove, has_dir, first_in}
 use Rattle.first_moves.specs.declared.row.Run.{Run}
 use Rattle.first_moves.specs.Row.{IsRow}
@@ -74,18 +77,27 @@ found g s t byte told d h before = ((told d).0 h, λ e b. by_test e ((told e).1 
 
 -- where there is none at all, there is no first move
 not_found : (g : GridData) (s t : Cell) (byte : ℕ) → ((d : Dir) → IsTrue (has_dir byte d) ↔ Begins g s t d)
-    → NoneBefore byte 8 → IsFirstMove g s t None
-not_found g s t byte told none d b =
-    let not = none d (few_dirs d) in let is : has_dir byte d ≡ true = (told d).1 b in absurd (cc)
+    → (o : Option Cost) → IsCostTo g s t o → NoneBefore byte 8 → IsFirstMove g s t None
+not_found g s t byte told None cost none = inr cost
+not_found g s t byte told (Some c) cost none = by_cells cost.cells cost.least
+  where
+    by_cells : (cells : List Cell) → IsLeastWalk g s t cells → IsFirstMove g s t None
+    by_cells [] l = inl l.walk.ends
+    by_cells (v ∷ cells) l =
+        let parts = and_both (is_legal g s v) (is_walk g (v ∷ cells)) l.walk.legal in
+        let a = legal_ahead-of g s v parts.0 in
+        let not = none a.0 (few_dirs a.0) in
+        let is : has_dir byte a.0 ≡ true = (told a.0).1 (record { next = v; ahead = a.1; cells = cells; least = l }) in
+        absurd (cc)
 
 -- the least direction of the byte is the first move, where the byte has all that begin least walks
 pub first_is : (g : GridData) (s t : Cell) (byte : ℕ) → ((d : Dir) → IsTrue (has_dir byte d) ↔ Begins g s t d)
-    → IsFirstMove g s t (first_in byte)
-first_is g s t byte told = by_n (has_dir byte N) refl
+    → (o : Option Cost) → IsCostTo g s t o → IsFirstMove g s t (first_in byte)
+first_is g s t byte told o cost = by_n (has_dir byte N) refl
   where
     by_nw : NoneBefore byte 7 → (b : Bool) → has_dir byte NW ≡ b → IsFirstMove g s t (if b then Some NW else None)
     by_nw before true h = found g s t byte told NW h before
-    by_nw before false h = not_found g s t byte told (none_more byte 7 NW refl h before)
+    by_nw before false h = not_found g s t byte told o cost (none_more byte 7 NW refl h before)
 
     by_w : NoneBefore byte 6 → (b : Bool) → has_dir byte W ≡ b
         → IsFirstMove g s t (if b then Some W else if has_dir byte NW then Some NW else None)
@@ -166,4 +178,5 @@ row_of g s w runs wide whole tells cut = record {
         get_or-map first_in w.firsts (cell_number g.width t) 0 None within
         ∙ ap (λ (n : ℕ). first_in (get_or w.firsts (cell_number n t) 0)) (sym wide) in
         subst (λ (o : Option Dir). IsFirstMove g s t o) (sym is)
-        (first_is g s t (get_or w.firsts (cell_number w.width t) 0) (λ d. tells.firsts t d i))
+        (first_is g s t (get_or w.firsts (cell_number w.width t) 0) (λ d. tells.firsts t d i)
+        (cost_at w t) (tells.costs t i))

@@ -1,5 +1,5 @@
 -- The rows of all cells.
-use Rattle.std.proofs.Common.{◌≡◌, ℕ, zero, suc, ◌+◌, ◌*◌, ◌<◌, arith, refl, ap, sym, ◌∙◌, subst, Bool, true, false, List, [], ◌∷◌, ◌++◌, length, get_or, replicate, length-append}
+use Rattle.std.proofs.Common.{◌≡◌, ℕ, zero, suc, ◌+◌, ◌*◌, ◌<◌, arith, refl, ap, sym, ◌∙◌, subst, Bool, true, false, ◌⊎◌, inr, List, [], ◌∷◌, ◌++◌, length, get_or, replicate, length-append}
 use Rattle.std.specs.Prelude.{Option, Some, None, nat_eq, nat_lt, IfOk, Ok, Err, if◌then◌else◌}
 use Rattle.std.specs.declared.result.Result.{Result}
 use Rattle.std.proofs.lemmas.Bool.Decides.{nat_tests}
@@ -11,7 +11,7 @@ use Rattle.grid_moves.specs.declared.Dir.{Dir}
 use Rattle.grid_moves.specs.Grid.{GridData, cell_number, is_free, is_inside}
 use Rattle.grid_moves.proofs.Legal.{and_both}
 use Rattle.grid_moves.proofs.Places.{one_cell}
-use Rattle.cost_waves.proofs.Settling.{ahead_from}
+use Rattle.path_points.proofs.Joined.{walk_free}
 use Rattle.first_moves.specs.declared.row.Run.{Run}
 use Rattle.first_moves.specs.First.{IsFirstMove}
 use Rattle.first_moves.specs.Kept.{AreRows}
@@ -30,7 +30,7 @@ pub without_moves : (g : GridData) (s : Cell) → is_inside g s ≡ true → is_
 without_moves g s i blocked = by_count (g.height * g.width) refl
   where
     quiet : (t : Cell) → IsFirstMove g s t None
-    quiet t d b = let free = ahead_from g s b.next d b.ahead in absurd (cc)
+    quiet t = inr (λ cells w. let free = walk_free g s cells w.legal in absurd (cc))
 
     by_count : (n : ℕ) → g.height * g.width ≡ n → IsRow g s (record { start = 0; first = None } ∷ [])
     by_count zero e = absurd (let low = below_all g s i in omega (arith, low))

@@ -1,17 +1,18 @@
 -- First moves of least walks.
-use Rattle.std.specs.Prelude.{◌≡◌, ℕ, ◌≤◌, Bool, if◌then◌else◌, Option, Some, None, refl}
+use Rattle.std.specs.Prelude.{◌≡◌, ℕ, ◌≤◌, ◌⊎◌, Bool, if◌then◌else◌, Option, Some, None, refl}
 use Rattle.grid_moves.specs.declared.Cell.{Cell}
 use Rattle.grid_moves.specs.declared.Dir.{Dir}
 use Rattle.grid_moves.specs.declared.Dir.TheVariants.{N, NE, E, SE, S, SW, W, NW}
 use Rattle.grid_moves.specs.Grid.{GridData}
 use Rattle.grid_moves.specs.Move.{dir_number}
+use Rattle.grid_moves.specs.Walk.{NoWalk}
 use Rattle.cost_waves.specs.Begin.{Begins}
 use Rattle.cost_waves.specs.Told as told
 
 -- The first move from s to t: the direction of least number with which some least walk from s to t begins. There
--- is none exactly where no direction begins a least walk: t is s, an end is blocked, or no walk leads to t.
+-- is none exactly where t is s or no walk leads from s to t, as where an end is blocked.
 abbrev pub IsFirstMove : GridData → Cell → Cell → Option Dir → Type 0
-IsFirstMove g s t None = (d : Dir) → ¬ Begins g s t d
+IsFirstMove g s t None = (s ≡ t) ⊎ NoWalk g s t
 IsFirstMove g s t (Some d) = Begins g s t d × ((e : Dir) → Begins g s t e → dir_number d ≤ dir_number e)
 
 -- the byte has the direction: the bit of its number, from the lowest, is set

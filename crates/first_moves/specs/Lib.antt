@@ -2,3 +2,4 @@ pub mod First
 pub mod Runs
 pub mod Row
 pub mod Kept
+pub mod Follow

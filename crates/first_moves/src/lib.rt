@@ -6,6 +6,7 @@
 //! of a row.
 #![tactic(auto)]
 
+mod follow;
 mod moves;
 mod row;
 
