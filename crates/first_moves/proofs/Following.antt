@@ -1,7 +1,7 @@
 -- The walk of first moves.
 use Rattle.std.proofs.Common.{◌≡◌, ℕ, suc, ◌+◌, ◌*◌, ◌<◌, ◌≤◌, ◌⊎◌, inl, inr, arith, refl, ap, sym, ◌∙◌, subst, Bool, true, false, List, [], ◌∷◌, ◌++◌, length, length-append}
 use Rattle.std.proofs.lemmas.List.{append-nil, append_assoc}
-use Rattle.std.specs.Prelude.{Option, Some, None, nat_lt, if◌then◌else◌, IfSome}
+use Rattle.std.specs.Prelude.{Option, Some, None, not, nat_lt, if◌then◌else◌, IfSome}
 use Rattle.root2_cost.specs.declared.Cost.{Cost}
 use Rattle.root2_cost.specs.Order.{IsAtMost}
 use Rattle.root2_cost.specs.Sums.{add_costs, no_cost}
@@ -10,15 +10,16 @@ use Rattle.root2_cost.proofs.Sums.{add_costs-assoc, add_costs-no_cost_right, IsA
 use Rattle.grid_moves.specs.declared.Cell.{Cell}
 use Rattle.grid_moves.specs.declared.Dir.{Dir}
 use Rattle.grid_moves.specs.Grid.{GridData, cell_number, is_free, is_inside}
-use Rattle.grid_moves.specs.Move.{is_legal, legal_ahead, move_cost}
+use Rattle.grid_moves.specs.Move.{is_legal, is_same, legal_ahead, move_cost}
 use Rattle.grid_moves.specs.Points.{unfolding_of}
 use Rattle.grid_moves.specs.Reply.{StandsForLeast}
 use Rattle.grid_moves.specs.Walk.{IsWalk, IsLeastWalk, NoWalk, is_walk, cost_of, last_of}
 use Rattle.grid_moves.proofs.Ahead.{legal_ahead-is}
-use Rattle.grid_moves.proofs.Legal.{and_both, legal_is}
+use Rattle.grid_moves.proofs.Legal.{and_both, is_same-cell, is_same-itself, legal_is}
 use Rattle.path_points.specs.Corners.{corners, goes_straight, turns_after}
 use Rattle.path_points.proofs.Corners.{corners_unfold}
-use Rattle.path_points.proofs.Joined.{cost_counts, walk_free}
+use Rattle.path_points.proofs.Joined.{cost_counts}
+use Rattle.path_points.proofs.Running.{move_counts}
 use Rattle.cost_waves.specs.Begin.{Begins}
 use Rattle.first_moves.specs.First.{IsFirstMove}
 use Rattle.first_moves.specs.Follow.{LeadsTo, IsNext, AreFirst, IsFollowed}
@@ -175,3 +176,48 @@ stands g s t points cost f = record {
   least = f.least;
   priced = f.priced;
 }
+
+-- the same, told by what the code has
+pub counts_one : (u v : Cell) (cost : Cost) → cost ≡ move_cost u v → cost.a + cost.b ≡ 1
+counts_one u v cost e = subst (λ (c : Cost). c.a + c.b ≡ 1) (sym e) (move_counts u v)
+
+pub set_out_by : (g : GridData) (s t v : Cell) (none points : List Cell) (cost : Cost) → LeadsTo g s t v → none ≡ []
+    → points ≡ none ++ (s ∷ []) → cost ≡ move_cost s v → IsUnderWay g s t s v points cost
+set_out_by g s t v none points cost l n p c =
+    let is : points ≡ s ∷ [] = p ∙ ap (λ (q : List Cell). q ++ (s ∷ [])) n in
+    subst (λ (q : List Cell). IsUnderWay g s t s v q cost) (sym is)
+    (subst (λ (k : Cost). IsUnderWay g s t s v (s ∷ []) k) (sym c) (set_out g s t v l))
+
+pub one_on_by : (g : GridData) (s t before at v : Cell) (points points1 : List Cell) (cost move cost1 : Cost)
+    → IsUnderWay g s t before at points cost → LeadsTo g at t v
+    → points1 ≡ (if goes_straight before at v then points else points ++ (at ∷ []))
+    → move ≡ move_cost at v → cost1 ≡ add_costs cost move → IsUnderWay g s t at v points1 cost1
+one_on_by g s t before at v points points1 cost move cost1 w l p m c =
+    subst (λ (k : Cost). IsUnderWay g s t at v points1 k) (sym (c ∙ ap (λ (k : Cost). add_costs cost k) m))
+    (one_on g s t before at v points points1 cost w l p)
+
+pub counts_more : (u v : Cell) (cost move cost1 : Cost) → move ≡ move_cost u v → cost1 ≡ add_costs cost move
+    → cost1.a + cost1.b ≡ cost.a + cost.b + 1
+counts_more u v cost move cost1 m c =
+    let one = counts_one u v move m in
+    subst (λ (k : Cost). k.a + k.b ≡ cost.a + cost.b + 1) (sym c) (omega (arith, one))
+
+pub no_move_by : (g : GridData) (s t : Cell) (none points : List Cell) → is_free g s ≡ true → s ≡ t → none ≡ []
+    → points ≡ none ++ (s ∷ []) → IsFollowed g s t points no_cost
+no_move_by g s t none points free e n p =
+    let is : points ≡ s ∷ [] = p ∙ ap (λ (q : List Cell). q ++ (s ∷ [])) n in
+    subst (λ (q : List Cell). IsFollowed g s t q no_cost) (sym is) (no_move g s t free e)
+
+-- a test that cells differ
+pub apart_by : (u v : Cell) (r : Bool) → r ≡ not (is_same u v) → r ≡ true → u ≡ v → ⊥
+apart_by u v r n t e =
+    let same : is_same u v ≡ true = subst (λ (c : Cell). is_same u c ≡ true) e (is_same-itself u) in
+    let f : r ≡ false = n ∙ ap (λ (b : Bool). not b) same in
+    absurd (cc)
+
+pub same_by : (u v : Cell) (r : Bool) → r ≡ not (is_same u v) → r ≡ false → u ≡ v
+same_by u v r n f = is_same-cell u v (by_test (is_same u v) (sym n ∙ f))
+  where
+    by_test : (b : Bool) → not b ≡ false → b ≡ true
+    by_test true e = refl
+    by_test false e = absurd (cc)
