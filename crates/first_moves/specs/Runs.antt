@@ -24,13 +24,13 @@ abbrev pub runs_of : List (Option Dir) → List Run
 runs_of [] = []
 runs_of (m ∷ members) = record { start = 0; first = m } ∷ runs_from 1 m members
 
--- on a map of 3 columns and 3 rows with a way round to the lower right
+-- from the upper left of an open map of 3 columns and 3 rows
 pub seven_runs : runs_of (None ∷ Some E ∷ Some E ∷ Some S ∷ Some SE ∷ Some E ∷ Some S ∷ Some SE ∷ Some SE ∷ [])
     ≡ record { start = 0; first = None } ∷ record { start = 1; first = Some E } ∷ record { start = 3; first = Some S }
     ∷ record { start = 4; first = Some SE } ∷ record { start = 5; first = Some E } ∷ record { start = 6; first = Some S }
     ∷ record { start = 7; first = Some SE } ∷ []
 seven_runs = refl
 
--- on a map of two cells that are apart there is one
+-- where no move leads anywhere, there is one
 pub one_run : runs_of (None ∷ None ∷ None ∷ None ∷ []) ≡ record { start = 0; first = None } ∷ []
 one_run = refl

@@ -13,3 +13,6 @@ mod row;
 pub use moves::Moves;
 pub use row::{Row, Run};
 pub use std::alloc::AllocError as NoMemory;
+
+#[cfg(test)]
+mod tests;
