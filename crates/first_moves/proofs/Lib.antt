@@ -1,0 +1,5 @@
+pub mod Picking
+pub mod Cutting
+pub mod Rows
+pub mod Short
+pub mod Following

@@ -1,0 +1,16 @@
+use Rattle.std.proofs.Common.{◌≡◌, ◌<◌, suc, arith, length}
+use Rattle.std.specs.Prelude.{Option, None}
+use Rattle.first_moves.specs.declared.row.Run.{Run}
+use Rattle.first_moves.proofs.Cutting.{told}
+use Rattle.first_moves.proofs.row.search.Goals as goal
+
+pub returns : goal.returns
+returns c = λ members e h.
+    let low = c.loop-high.invariant.low in
+    let high = c.loop-high.invariant.high in
+    let next : c.loop-high.high ≡ suc c.loop-high.low = omega arith in
+    told c.args.runs.now members c.args.number c.loop-high.low (record { start = 0; first = None }) e h (record {
+      within = omega arith;
+      begun = λ p. c.loop-high.invariant.begun (record { start = 0; first = None }) p;
+      ends = rw next at (c.loop-high.invariant.ends (record { start = 0; first = None }));
+    })

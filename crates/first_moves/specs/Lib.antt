@@ -1,0 +1,5 @@
+pub mod First
+pub mod Runs
+pub mod Row
+pub mod Kept
+pub mod Follow

@@ -1,0 +1,140 @@
+//! The first moves between all cells of a map.
+
+ghost use Rattle.std.specs.Prelude.{◌≡◌, ◌+◌, ◌*◌, ◌<◌, ◌≤◌, ◌++◌, ◌∷◌, [], ℕ, true, List, length, slice_get, Some, IfOk, OnOk};
+ghost use Rattle.grid_moves.specs.declared.Cell.{Cell};
+ghost use Rattle.grid_moves.specs.Grid.{GridData, is_inside};
+ghost use Rattle.first_moves.specs.First.{IsFirstMove};
+ghost use Rattle.first_moves.specs.Row.{IsRow, AreMoves, row_at};
+ghost use Rattle.first_moves.specs.Kept.{AreRows};
+
+use crate::NoMemory;
+use crate::row::Row;
+use cost_waves::CostWaves;
+use grid_moves::{Cell, Dir, Terrain, number_of};
+use std::alloc::Global;
+use std::marker::Model;
+use std::sync::ledger::Ledger;
+use steps::Steps;
+
+// Appends a row.
+fn push_row(rows: &mut Vec<Row>, row: Row) -> Result<(), NoMemory>
+    ensures { OnOk result (rows.new.items ≡ rows.old.items ++ row ∷ []) }
+{
+    match rows.push(row) {
+        Ok(()) => Ok(()),
+        Err(failed) => Err(failed.into()),
+    }
+}
+
+// The rows of all cells of the map.
+fn all_rows<T: Terrain>(alloc: Global, t: &T) -> Result<Vec<Row>, NoMemory>
+    requires few { (T.grid t.now).height * (T.grid t.now).width ≤ 16384 }
+    ensures whole { IfOk result (λ rows. length rows.items ≡ (T.grid t.now).height * (T.grid t.now).width) }
+    ensures rows { IfOk result (λ rows. AreRows (T.grid t.now) rows.items) }
+{
+    let (width, height) = (t.width(), t.height());
+    let mut waves = CostWaves::new(alloc, width, height)?;
+    let mut scratch = Vec::new(alloc);
+    let mut rows = Vec::new(alloc);
+    for y in 0..height {
+        for x in 0..width {
+            let row = Row::at(alloc, &mut scratch, &mut waves, t, Cell { x, y })?;
+            push_row(&mut rows, row)?;
+        }
+    }
+    Ok(rows)
+}
+
+/// The first moves between all cells of a map of at most 2^14 cells: a row of runs for each cell.
+///
+/// Contracts see the sides and the rows.
+#[derive(Drop)]
+pub struct Moves {
+    width: u16,
+    height: u16,
+    rows: Vec<Row>,
+}
+
+impl Model for Moves {
+    ghost use Rattle.first_moves.specs.Row.{MovesData};
+    ghost use Rattle.first_moves.specs.Kept.{IsKept};
+
+    ghost Value = { MovesData };
+
+    ghost view = { λ m. record { width = m.width; height = m.height; rows = m.rows.items } };
+
+    ghost invariant = { λ m. IsKept m.width m.height m.rows.items };
+}
+
+impl Moves {
+    /// The first moves between all cells of a map of at most 2^14 cells, by one pass for each free cell.
+    ///
+    /// A row takes four bytes for each of its runs. For want of memory nothing is kept.
+    pub fn build<T: Terrain>(alloc: Global, t: &T) -> Result<Moves, NoMemory>
+        requires few { (T.grid t.now).height * (T.grid t.now).width ≤ 16384 }
+        ensures { IfOk result (λ moves. AreMoves (T.grid t.now) moves) }
+    {
+        let rows = all_rows(alloc, t)?;
+        Ok(Moves {
+            width: t.width(),
+            height: t.height(),
+            rows,
+        })
+    }
+
+    /// The number of columns.
+    pub fn width(&self) -> u16
+        ensures { result ≡ self.now.width }
+    {
+        self.width
+    }
+
+    /// The number of rows of the map.
+    pub fn height(&self) -> u16
+        ensures { result ≡ self.now.height }
+    {
+        self.height
+    }
+
+    /// The row of a cell: the first moves from there.
+    pub fn row(&self, s: Cell) -> &Row
+        requires column { s.x < self.now.width }
+        requires row { s.y < self.now.height }
+        ensures { result.now ≡ row_at self.now s }
+    {
+        &self.rows[number_of(self.width, s) as usize]
+    }
+
+    /// The number of runs in the row of a cell.
+    pub fn runs(&self, s: Cell) -> u32
+        requires column { s.x < self.now.width }
+        requires row { s.y < self.now.height }
+        ensures { result ≡ length (row_at self.now s) }
+    {
+        self.row(s).runs()
+    }
+
+    /// The number of the first cell of run i of a cell's row, counted from 0, and the first move to each of its
+    /// cells.
+    pub fn run_at(&self, s: Cell, i: u32) -> (u32, Option<Dir>)
+        requires column { s.x < self.now.width }
+        requires row { s.y < self.now.height }
+        requires run { i < length (row_at self.now s) }
+        ensures { slice_get (row_at self.now s) i ≡ Some (record { start = result.0; first = result.1 }) }
+    {
+        self.row(s).run_at(i)
+    }
+
+    /// The first move from one cell of the map to another, `None` where there is none. It counts one step.
+    pub fn first<L: Ledger>(&self, s: Cell, t: Cell, steps: &mut Steps<L>) -> Option<Dir>
+        requires column { s.x < self.now.width }
+        requires row { s.y < self.now.height }
+        requires goal_column { t.x < self.now.width }
+        requires goal_row { t.y < self.now.height }
+        ensures first { (g : GridData) → AreMoves g self.now → IsFirstMove g s t result }
+        ensures steps { steps.new ≡ steps.old + 1 }
+    {
+        steps.tick();
+        self.row(s).first(number_of(self.width, t))
+    }
+}

@@ -1,0 +1,255 @@
+//! The first moves from one cell, cut into runs.
+
+ghost use Rattle.std.specs.Prelude.{◌≡◌, ◌+◌, ◌*◌, ◌<◌, ◌≤◌, ◌++◌, ◌∷◌, [], ℕ, true, List, Option, None, map, length, slice_get, Some, slice_index_or, if◌then◌else◌, IfOk, OnOk};
+ghost use Rattle.grid_moves.specs.declared.Cell.{Cell};
+ghost use Rattle.grid_moves.specs.declared.Dir.{Dir};
+ghost use Rattle.grid_moves.specs.Grid.{GridData, cell_number, is_free, is_inside};
+ghost use Rattle.first_moves.specs.First as spec;
+ghost use Rattle.first_moves.specs.First.{IsFirstMove};
+ghost use Rattle.first_moves.specs.Runs.{runs_of, is_same_move};
+ghost use Rattle.first_moves.specs.Row.{IsRow};
+
+use crate::NoMemory;
+use cost_waves::CostWaves;
+use grid_moves::{Cell, Dir, Terrain, dir_number};
+use std::alloc::Global;
+use std::marker::Model;
+
+/// A run of equal first moves. It takes four bytes.
+#[derive(Clone, Copy, Debug, PartialEq, Eq)]
+pub struct Run {
+    /// The number of the first cell of the run.
+    pub start: u16,
+    /// The first move to each of its cells.
+    pub first: Option<Dir>,
+}
+
+// Whether the byte has the direction.
+fn has_dir(byte: u8, d: Dir) -> bool
+    ensures { result ≡ spec.has_dir byte d }
+{
+    (byte >> dir_number(d)) & 1 == 1
+}
+
+// The direction of least number in a byte of directions.
+fn first_in(byte: u8) -> Option<Dir>
+    ensures { result ≡ spec.first_in byte }
+{
+    if has_dir(byte, Dir::N) {
+        Some(Dir::N)
+    } else if has_dir(byte, Dir::NE) {
+        Some(Dir::NE)
+    } else if has_dir(byte, Dir::E) {
+        Some(Dir::E)
+    } else if has_dir(byte, Dir::SE) {
+        Some(Dir::SE)
+    } else if has_dir(byte, Dir::S) {
+        Some(Dir::S)
+    } else if has_dir(byte, Dir::SW) {
+        Some(Dir::SW)
+    } else if has_dir(byte, Dir::W) {
+        Some(Dir::W)
+    } else if has_dir(byte, Dir::NW) {
+        Some(Dir::NW)
+    } else {
+        None
+    }
+}
+
+// Whether two first moves are equal.
+fn is_same_move(one: Option<Dir>, other: Option<Dir>) -> bool
+    ensures { result ≡ is_same_move one other }
+{
+    match (one, other) {
+        (None, None) => true,
+        (Some(d), Some(e)) => d == e,
+        _ => false,
+    }
+}
+
+// Appends a run.
+fn push_run(runs: &mut Vec<Run>, start: u16, first: Option<Dir>) -> Result<(), NoMemory>
+    ensures { OnOk result (runs.new.items ≡ runs.old.items ++ record { start = start; first = first } ∷ []) }
+{
+    match runs.push(Run { start, first }) {
+        Ok(()) => Ok(()),
+        Err(failed) => Err(failed.into()),
+    }
+}
+
+// Appends the run that begins at a cell, if one does: where its first move differs from that to the cell before.
+// Mostly the bytes themselves are equal.
+fn go_on(runs: &mut Vec<Run>, start: u16, before: u8, byte: u8) -> Result<(), NoMemory>
+    ensures { OnOk result (runs.new.items ≡ (if is_same_move (spec.first_in before) (spec.first_in byte)
+        then runs.old.items else runs.old.items ++ record { start = start; first = spec.first_in byte } ∷ [])) }
+{
+    if byte == before {
+        return Ok(());
+    }
+    let first = first_in(byte);
+    if is_same_move(first_in(before), first) {
+        return Ok(());
+    }
+    push_run(runs, start, first)
+}
+
+// The runs of a row, told for each cell the directions with which least walks to it begin.
+fn fill(runs: &mut Vec<Run>, bytes: &[u8]) -> Result<(), NoMemory>
+    requires { length bytes.now ≤ 16384 }
+    ensures runs { OnOk result (runs.new.items ≡ runs_of (map spec.first_in bytes.now)) }
+    ensures few { OnOk result (length runs.new.items ≤ 16384) }
+{
+    runs.clear();
+    let Some((first, others)) = bytes.split_first() else {
+        return Ok(());
+    };
+    push_run(runs, 0, first_in(*first))?;
+    let mut before = *first;
+    for (i, byte) in others.iter().enumerate() {
+        go_on(runs, i as u16 + 1, before, *byte)?;
+        before = *byte;
+    }
+    Ok(())
+}
+
+// The first move to the cell of this number: that of the last run which begins at or before it.
+fn search(runs: &[Run], number: u32) -> Option<Dir>
+    ensures { (members : List (Option Dir)) → runs.now ≡ runs_of members → number < length members
+        → result ≡ slice_index_or members number None }
+{
+    let mut low: usize = 0;
+    let mut high = runs.len();
+    if high == 0 {
+        return None;
+    }
+    while 1 < high - low {
+        let middle = low + (high - low) / 2;
+        if u32::from(runs[middle].start) <= number {
+            low = middle;
+        } else {
+            high = middle;
+        }
+    }
+    runs[low].first
+}
+
+/// The first moves from one cell to all cells of a map, cut into longest runs of equal ones in the order of cell
+/// numbers.
+///
+/// Contracts see the list of runs.
+#[derive(Drop)]
+pub struct Row {
+    runs: Vec<Run>,
+}
+
+impl Model for Row {
+    ghost use Rattle.std.specs.Prelude.{List, length, ◌≤◌};
+    ghost use Rattle.first_moves.specs.declared.row.Run.{Run};
+
+    ghost Value = { List Run };
+
+    ghost view = { λ r. r.runs.items };
+
+    ghost invariant = { λ r. length r.runs.items ≤ 16384 };
+}
+
+impl Row {
+    /// The first moves from a free cell of a map of at most 2^14 cells, by one pass.
+    ///
+    /// `waves` is memory for passes over maps of these sides; what it told before is forgotten.
+    pub fn of<T: Terrain>(
+        alloc: Global,
+        waves: &mut CostWaves,
+        t: &T,
+        s: Cell,
+    ) -> Result<Row, NoMemory>
+        requires free { is_free (T.grid t.now) s ≡ true }
+        requires few { (T.grid t.now).height * (T.grid t.now).width ≤ 16384 }
+        requires width { waves.old.width ≡ (T.grid t.now).width }
+        requires height { waves.old.height ≡ (T.grid t.now).height }
+        ensures row { IfOk result (λ row. IsRow (T.grid t.now) s row) }
+        ensures width { waves.new.width ≡ waves.old.width }
+        ensures height { waves.new.height ≡ waves.old.height }
+    {
+        let mut scratch = Vec::new(alloc);
+        Row::by_pass(alloc, &mut scratch, waves, t, s)
+    }
+
+    // The same, with memory for runs that is used again. The row takes as much memory as it needs.
+    fn by_pass<T: Terrain>(
+        alloc: Global,
+        scratch: &mut Vec<Run>,
+        waves: &mut CostWaves,
+        t: &T,
+        s: Cell,
+    ) -> Result<Row, NoMemory>
+        requires free { is_free (T.grid t.now) s ≡ true }
+        requires few { (T.grid t.now).height * (T.grid t.now).width ≤ 16384 }
+        requires width { waves.old.width ≡ (T.grid t.now).width }
+        requires height { waves.old.height ≡ (T.grid t.now).height }
+        ensures row { IfOk result (λ row. IsRow (T.grid t.now) s row) }
+        ensures width { waves.new.width ≡ waves.old.width }
+        ensures height { waves.new.height ≡ waves.old.height }
+    {
+        waves.pass(t, s)?;
+        fill(scratch, waves.all_first_dirs())?;
+        let runs = Vec::from_slice(alloc, scratch.as_slice())?;
+        Ok(Row { runs })
+    }
+
+    // The row of a cell that is not free: no move leads from there.
+    fn without_moves(alloc: Global) -> Result<Row, NoMemory>
+        ensures { IfOk result (λ row. row ≡ record { start = 0; first = None } ∷ []) }
+    {
+        let mut runs = Vec::with_capacity(alloc, 1)?;
+        push_run(&mut runs, 0, None)?;
+        Ok(Row { runs })
+    }
+
+    // The row of a cell of the map, free or not.
+    pub(crate) fn at<T: Terrain>(
+        alloc: Global,
+        scratch: &mut Vec<Run>,
+        waves: &mut CostWaves,
+        t: &T,
+        s: Cell,
+    ) -> Result<Row, NoMemory>
+        requires inside { is_inside (T.grid t.now) s ≡ true }
+        requires few { (T.grid t.now).height * (T.grid t.now).width ≤ 16384 }
+        requires width { waves.old.width ≡ (T.grid t.now).width }
+        requires height { waves.old.height ≡ (T.grid t.now).height }
+        ensures row { IfOk result (λ row. IsRow (T.grid t.now) s row) }
+        ensures width { waves.new.width ≡ waves.old.width }
+        ensures height { waves.new.height ≡ waves.old.height }
+    {
+        if t.free(s) {
+            Row::by_pass(alloc, scratch, waves, t, s)
+        } else {
+            Row::without_moves(alloc)
+        }
+    }
+
+    /// The number of runs.
+    pub fn runs(&self) -> u32
+        ensures { result ≡ length self.now }
+    {
+        self.runs.len() as u32
+    }
+
+    /// The number of the first cell of run i, counted from 0, and the first move to each of its cells.
+    pub fn run_at(&self, i: u32) -> (u32, Option<Dir>)
+        requires { i < length self.now }
+        ensures { slice_get self.now i ≡ Some (record { start = result.0; first = result.1 }) }
+    {
+        let run = self.runs[i as usize];
+        (u32::from(run.start), run.first)
+    }
+
+    /// The first move to the cell of this number, found by halving the runs.
+    pub fn first(&self, number: u32) -> Option<Dir>
+        ensures { (g : GridData) (s t : Cell) → IsRow g s self.now → is_inside g t ≡ true
+            → number ≡ cell_number g.width t → IsFirstMove g s t result }
+    {
+        search(self.runs.as_slice(), number)
+    }
+}
