@@ -1,2 +1,3 @@
 pub mod Box
 pub mod Wide
+pub mod Stored

@@ -8,8 +8,10 @@
 
 mod area;
 mod around;
+mod boxes;
 
 pub use area::Area;
 pub use around::{CellBoxes, boxes_by, boxes_of};
+pub use boxes::Boxes;
 pub use std::alloc::AllocError as NoMemory;
 
