@@ -1,6 +1,6 @@
 -- A rectangle grows by one cell, and a scan by one place.
-use Rattle.std.proofs.Common.{◌≡◌, ◌≤◌, ◌<◌, ◌+◌, ◌⊎◌, inl, inr, ℕ, Bool, true, false, refl, ap, sym, ◌∙◌, subst, arith, List, [], ◌∷◌}
-use Rattle.std.specs.Prelude.{nat_le, nat_lt, nat_eq, ◌&&◌, ◌↔◌, IsTrue, Option, Some, None, if◌then◌else◌}
+use Rattle.std.proofs.Common.{◌≡◌, ◌≤◌, ◌<◌, ◌+◌, ◌⊎◌, inl, inr, ℕ, Bool, true, false, refl, sym, subst, arith, List, [], ◌∷◌}
+use Rattle.std.specs.Prelude.{nat_lt, Option, Some, None, if◌then◌else◌}
 use Rattle.std.proofs.lemmas.Bool.Decides.{nat_tests}
 use Rattle.grid_moves.specs.declared.Cell.{Cell}
 use Rattle.grid_moves.specs.declared.Dir.{Dir}
@@ -13,7 +13,7 @@ use Rattle.cost_waves.specs.Begin.{Begins}
 use Rattle.cost_waves.specs.Told.{WaveData, begins_with, Tells}
 use Rattle.goal_boxes.specs.declared.area.Area.{Area}
 use Rattle.goal_boxes.specs.declared.around.CellBoxes.{CellBoxes}
-use Rattle.goal_boxes.specs.Box.{holds, IsWithin, IsLeastArea, IsAreaOf, IsBox, box_in}
+use Rattle.goal_boxes.specs.Box.{holds, IsAreaOf, IsBox, box_in}
 use Rattle.goal_boxes.specs.Wide.{with_cell, widened, Seen}
 
 -- what it is to lie in a rectangle

@@ -2,6 +2,7 @@
 
 ghost use Rattle.std.specs.Prelude.{◌≡◌, ◌+◌, ◌<◌, true, OnOk, IfOk};
 ghost use Rattle.grid_moves.specs.Grid.{is_free};
+ghost use Rattle.cost_waves.specs.Told.{begins_with};
 ghost use Rattle.goal_boxes.specs.Box.{IsAreaOf, AreBoxes, box_in};
 ghost use Rattle.goal_boxes.specs.Wide.{Seen};
 
@@ -43,6 +44,16 @@ impl CellBoxes {
     }
 }
 
+// Whether the cell belongs in the box of the direction: some least walk to it begins so.
+#[inline(always)]
+fn belongs(waves: &CostWaves, c: Cell, d: Dir) -> bool
+    requires column { c.x < waves.now.width }
+    requires row { c.y < waves.now.height }
+    ensures { result ≡ begins_with waves.now c d }
+{
+    waves.begins(c, d)
+}
+
 // Goes on over one row.
 #[inline(always)]
 fn over_row(waves: &CostWaves, d: Dir, y: u16, before: Option<Area>) -> Option<Area>
@@ -52,7 +63,7 @@ fn over_row(waves: &CostWaves, d: Dir, y: u16, before: Option<Area>) -> Option<A
     let mut found = before;
     for x in 0..waves.width() {
         let c = Cell { x, y };
-        if waves.begins(c, d) {
+        if belongs(waves, c, d) {
             found = widened(found, c);
         }
     }

@@ -114,6 +114,20 @@ impl Boxes {
         })
     }
 
+    /// The number of columns.
+    pub fn width(&self) -> u16
+        ensures { result ≡ self.now.width }
+    {
+        self.width
+    }
+
+    /// The number of rows.
+    pub fn height(&self) -> u16
+        ensures { result ≡ self.now.height }
+    {
+        self.height
+    }
+
     /// The box of a cell in a direction, `None` where there is none.
     #[inline(always)]
     pub fn area(&self, c: Cell, d: Dir) -> Option<Area>

@@ -8,10 +8,18 @@
 
 mod area;
 mod around;
+mod boxed;
 mod boxes;
+mod offers;
+mod turns;
 
 pub use area::Area;
 pub use around::{CellBoxes, boxes_by, boxes_of};
+pub use best_first::Taken;
+pub use boxed::{Boxed, boxed_search};
 pub use boxes::Boxes;
 pub use std::alloc::AllocError as NoMemory;
 
+
+#[cfg(test)]
+mod tests;

@@ -1,4 +1,4 @@
-use Rattle.std.proofs.Common.{◌≡◌, ◌∙◌}
+use Rattle.std.proofs.Common.{◌∙◌}
 use Rattle.std.specs.Prelude.{Option}
 use Rattle.grid_moves.specs.declared.Dir.{Dir}
 use Rattle.goal_boxes.specs.declared.area.Area.{Area}

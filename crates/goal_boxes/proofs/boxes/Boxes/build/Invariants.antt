@@ -1,4 +1,4 @@
-use Rattle.std.proofs.Common.{◌≡◌, ◌+◌, ◌*◌}
+use Rattle.std.proofs.Common.{◌≡◌, ◌*◌}
 use Rattle.goal_boxes.specs.Stored.{AreBefore}
 use Rattle.goal_boxes.proofs.boxes.Boxes.build.Given as goal
 
