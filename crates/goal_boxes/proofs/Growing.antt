@@ -203,14 +203,14 @@ pub all_seen : (g : GridData) (u : Cell) (w : WaveData) → w.width ≡ g.width 
 all_seen g u w wide high tells d = same_area (Seen w d w.height 0) (λ t. Begins g u t d)
     (λ c s. (tells.firsts c d (inside c s)).0 s.told)
     (λ c b.
-        let i = free_inside g c (end_of_walk g u c d b) in
-        let x = i.0 in
-        let y = i.1 in
-        record {
-          column = omega arith;
-          told = (tells.firsts c d (on_map c x y)).1 b;
-          before = inl (omega arith);
-        })
+    let i = free_inside g c (end_of_walk g u c d b) in
+    let x = i.0 in
+    let y = i.1 in
+    record {
+      column = omega arith;
+      told = (tells.firsts c d (on_map c x y)).1 b;
+      before = inl (omega arith);
+    })
   where
     on_map : (c : Cell) → c.x < g.width → c.y < g.height → is_inside g c ≡ true
     on_map c x y = grind (arith, nat_tests)

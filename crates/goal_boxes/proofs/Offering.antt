@@ -213,5 +213,5 @@ enough g b t u v c l =
     let m = boxed_move g b t u v c l in
     let is : IsAmong (record { to = start_at v.cell; cost = c }) (ways_over g b t u.cell all_dirs) =
     among g b t u.cell v.cell c (λ d h. let r = leads_is g b t u.cell v.cell d m.legal h in
-        (r.to, sym r.priced ∙ sym m.cost)) all_dirs (step_toward g b t u v c l) in
+    (r.to, sym r.priced ∙ sym m.cost)) all_dirs (step_toward g b t u v c l) in
     subst (λ (q : State). IsAmong (record { to = q; cost = c }) (ways_over g b t u.cell all_dirs)) (sym m.plain) is

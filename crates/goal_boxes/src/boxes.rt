@@ -44,11 +44,7 @@ impl Model for Boxes {
 }
 
 // The boxes of a cell, if it is free.
-fn boxes_if_free<T: Terrain>(
-    t: &T,
-    c: Cell,
-    waves: &mut CostWaves,
-) -> Result<CellBoxes, NoMemory>
+fn boxes_if_free<T: Terrain>(t: &T, c: Cell, waves: &mut CostWaves) -> Result<CellBoxes, NoMemory>
     requires width { waves.old.width ≡ (T.grid t.now).width }
     requires height { waves.old.height ≡ (T.grid t.now).height }
     ensures boxes { IfOk result (λ b. is_free (T.grid t.now) c ≡ true → AreBoxes (T.grid t.now) c b) }

@@ -20,6 +20,5 @@ pub use boxed::{Boxed, boxed_search};
 pub use boxes::Boxes;
 pub use std::alloc::AllocError as NoMemory;
 
-
 #[cfg(test)]
 mod tests;
