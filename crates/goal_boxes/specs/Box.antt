@@ -19,8 +19,8 @@ pub record IsWithin (a b : Area) : Type 0 where
   pub right : a.x1 ≤ b.x1
   pub below : a.y1 ≤ b.y1
 
--- the least rectangle that holds every cell of a kind, of which there is one: it holds each, and lies within each
--- rectangle that does
+-- the least rectangle that holds every cell of a kind, of which there is one: it holds each, and lies within
+-- each rectangle that does
 pub record IsLeastArea (P : Cell → Type 0) (a : Area) : Type 0 where
   pub some : Cell
   pub is_one : P some
@@ -32,8 +32,8 @@ abbrev pub IsAreaOf : (Cell → Type 0) → Option Area → Type 0
 IsAreaOf P None = (c : Cell) → ¬ P c
 IsAreaOf P (Some a) = IsLeastArea P a
 
--- the box of u in direction d: the least rectangle that holds every cell to which some least walk from u begins
--- with a move in direction d, if there is one
+-- the box of u in direction d: the least rectangle that holds every cell to which some least walk from u
+-- begins with a move in direction d, if there is one
 abbrev pub IsBox : GridData → Cell → Dir → Option Area → Type 0
 IsBox g u d box = IsAreaOf (λ t. Begins g u t d) box
 

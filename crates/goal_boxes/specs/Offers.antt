@@ -1,4 +1,5 @@
--- The moves that a taken state offers: the legal ones whose boxes hold the goal. No public clause cites this module.
+-- The moves that a taken state offers: the legal ones whose boxes hold the goal. No public clause cites this
+-- module.
 use Rattle.std.specs.Prelude.{◌≡◌, ℕ, ◌<◌, ◌≤◌, ◌^◌, true, List, [], ◌∷◌, Option, Some, None, if◌then◌else◌}
 use Rattle.root2_cost.specs.Rank.{rank_of}
 use Rattle.grid_moves.specs.declared.Cell.{Cell}

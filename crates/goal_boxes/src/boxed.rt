@@ -1,10 +1,10 @@
 //! The boxed search: A* over the moves whose boxes hold the goal.
 //!
-//! The machine under it is `best_first`; the rule is the plain engine's, with fewer links. No move of a least walk
-//! to the goal is left out: the rest of the walk from each of its cells is a least walk that begins with its next
-//! move, so the box of that move holds the goal.
+//! The machine under it is `best_first`; the rule is the plain engine's, with fewer links. No move of a least
+//! walk to the goal is left out: the rest of the walk from each of its cells is a least walk that begins with
+//! its next move, so the box of that move holds the goal.
 
-ghost use Rattle.std.specs.Prelude.{◌≡◌, ◌+◌, ◌*◌, ◌<◌, ◌≤◌, ◌++◌, ◌∷◌, [], true, false, length, IfOk, OnOk, IfSome, slice_get, Some};
+ghost use Rattle.std.specs.Prelude.{◌≡◌, ◌+◌, ◌<◌, [], true, false, length, IfOk, OnOk, IfSome, slice_get, Some};
 ghost use Rattle.grid_moves.specs.Grid.{IsGrid, is_free};
 ghost use Rattle.grid_moves.specs.Move.{is_same};
 ghost use Rattle.best_first.specs.State.{state_number, start_at};
@@ -29,8 +29,8 @@ use steps::Steps;
 /// What a boxed search found.
 #[derive(Drop)]
 pub struct Boxed {
-    /// A least walk, by its points and its cost, or `None` where no walk exists. The points are its ends and
-    /// its turns.
+    /// A least walk, by its points and its cost, or `None` where no walk exists. The points are its ends
+    /// and its turns.
     pub answer: Option<(Points, Cost)>,
     /// The states that the search took.
     pub taken: Taken,
@@ -192,9 +192,9 @@ fn run_counted<T: Terrain, L: Ledger>(
 }
 
 /// The boxed run from one free cell to another: the states that it takes, in order, and a least walk, `None`
-/// exactly where no walk exists. A taken state offers the legal moves whose boxes hold the goal. Among equal sums
-/// of cost and octile distance the state of the lesser cell number goes first, and of equal offers to a cell the
-/// earlier one stands.
+/// exactly where no walk exists. A taken state offers the legal moves whose boxes hold the goal. Among equal
+/// sums of cost and octile distance the state of the lesser cell number goes first, and of equal offers to a
+/// cell the earlier one stands.
 ///
 /// The memory is that of a plain search: an entry for each cell is filled.
 pub fn boxed_search<T: Terrain>(

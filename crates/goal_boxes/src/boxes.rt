@@ -24,7 +24,8 @@ const NO_BOXES: CellBoxes = CellBoxes {
     nw: None,
 };
 
-/// The boxes of all cells of a grid, 80 bytes for each cell. Contracts see its sides and the boxes of each cell.
+/// The boxes of all cells of a grid, 80 bytes for each cell. Contracts see its sides and the boxes of each
+/// cell.
 #[derive(Drop)]
 pub struct Boxes {
     width: u16,
@@ -92,8 +93,8 @@ fn add_row<T: Terrain>(
 }
 
 impl Boxes {
-    /// The boxes of all free cells of a grid, by one pass from each of them: the time grows with the square of
-    /// the number of cells, so this is meant for grids of at most 2^14 cells.
+    /// The boxes of all free cells of a grid, by one pass from each of them: the time grows with the square
+    /// of the number of cells, so this is meant for grids of at most 2^14 cells.
     pub fn build<T: Terrain>(alloc: Global, t: &T) -> Result<Boxes, NoMemory>
         ensures { IfOk result (HoldsBoxes (T.grid t.now)) }
     {

@@ -135,8 +135,8 @@ fn offer_in<T: Terrain, L: Ledger>(
     }
 }
 
-/// Offers the legal moves from the node of that number whose boxes hold the goal, in increasing order of direction.
-/// There is room for them.
+/// Offers the legal moves from the node of that number whose boxes hold the goal, in increasing order of
+/// direction. There is room for them.
 pub(crate) fn offer_all<T: Terrain, L: Ledger>(
     t: &T,
     b: &Boxes,

@@ -46,8 +46,8 @@ fn is_answer(
     Ok(same && found.taken.as_slice() == states)
 }
 
-// From the upper left of the open map of three by three cells. To (2,1) and to (1,2) a least walk begins either
-// way, so each of them lies in two boxes.
+// From the upper left of the open map of three by three cells. To (2,1) and to (1,2) least walks begin both
+// ways, so each of them lies in two boxes.
 #[test]
 fn boxes_of_a_corner_overlap(rt: HostRuntime) -> Result<(), Fail> {
     let grid = Grid::of_cells(rt.alloc(), 3, 3, b".........", Corner::Never)?;
@@ -65,7 +65,8 @@ fn boxes_of_a_corner_overlap(rt: HostRuntime) -> Result<(), Fail> {
     Ok(())
 }
 
-// On `...@/.@@./....` the goal lies in the box downwards alone: the run goes round without a look to the right.
+// On `...@/.@@./....` the goal lies in the box downwards alone: the run goes round, and the cells to the right
+// of the start are never offered.
 #[test]
 fn moves_away_from_the_goal_are_left_out(rt: HostRuntime) -> Result<(), Fail> {
     let grid = Grid::of_cells(rt.alloc(), 4, 3, b"...@.@@.....", Corner::Never)?;
