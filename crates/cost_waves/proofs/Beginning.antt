@@ -1,7 +1,6 @@
 -- The start of a pass: its own wave.
-use Rattle.std.proofs.Common.{◌≡◌, ◌≢◌, ℕ, zero, suc, ◌+◌, ◌*◌, ◌^◌, ◌<◌, ◌≤◌, ◌⊎◌, inl, inr, arith, refl, ap, sym, ◌∙◌, subst, Bool, true, false, List, [], ◌∷◌, length, get_or, set, length-set}
-use Rattle.std.specs.Prelude.{Option, Some, None, slice_get, nat_lt, nat_eq, if◌then◌else◌}
-use Rattle.std.specs.Int.{bit_at}
+use Rattle.std.proofs.Common.{◌≡◌, ◌≢◌, ℕ, zero, suc, ◌+◌, ◌*◌, ◌^◌, ◌<◌, ◌≤◌, inl, inr, arith, refl, ap, sym, ◌∙◌, subst, Bool, true, false, List, [], ◌∷◌, length, get_or, set, length-set}
+use Rattle.std.specs.Prelude.{Option, Some, None, slice_get, nat_eq, if◌then◌else◌}
 use Rattle.std.proofs.lemmas.Bool.Decides.{nat_tests}
 use Rattle.std.proofs.lemmas.List.{get_or-set_same, get_or-set_other}
 use Rattle.std.proofs.lemmas.Nat.Bits.{bit_at-pow_same, bit_at-pow_other, bit_at-zero}
@@ -11,13 +10,13 @@ use Rattle.grid_moves.specs.declared.Cell.{Cell}
 use Rattle.grid_moves.specs.declared.Dir.{Dir}
 use Rattle.grid_moves.specs.declared.Dir.TheVariants.{N, NE, E, SE, S, SW, W, NW}
 use Rattle.grid_moves.specs.Grid.{GridData, IsGrid, cell_number, is_free, is_inside}
-use Rattle.grid_moves.specs.Move.{all_dirs, legal_ahead, dir_number}
+use Rattle.grid_moves.specs.Move.{all_dirs, dir_number}
 use Rattle.grid_moves.proofs.Places.{number_below}
 use Rattle.cost_waves.specs.declared.front.Source.{Source}
-use Rattle.cost_waves.specs.Front.{Front, spread, dir_rank, first_over}
+use Rattle.cost_waves.specs.Front.{Front, spread, dir_rank}
 use Rattle.cost_waves.specs.Rank.{far, rank_limit}
 use Rattle.cost_waves.specs.Told.{has_dir}
-use Rattle.cost_waves.specs.Wave.{rank_at, dirs_at, known_count, Way, WayBy, Among, Waits, AllWait, Held, in_now, Keeps, IsSettled, IsReady, IsMidway}
+use Rattle.cost_waves.specs.Wave.{rank_at, dirs_at, known_count, Way, WayBy, Waits, AllWait, Held, in_now, Keeps, IsSettled, IsReady}
 use Rattle.cost_waves.proofs.Keeping.{IsOn, is_on, free_on, same_or_apart}
 use Rattle.cost_waves.proofs.Lists.{count_new}
 use Rattle.cost_waves.proofs.Settling.{IsSource, HasSpread, has_spread, in_all}
@@ -26,7 +25,8 @@ use Rattle.cost_waves.proofs.Waving.{turned, turn_ready, ready_by}
 
 -- no direction is in an empty byte, and one in that of a single direction
 pub no_dirs : (d : Dir) → has_dir 0 d ≡ true → ⊥
-no_dirs d e = let z = bit_at-zero (dir_number d) in let f : has_dir 0 d ≡ false = grind (arith, nat_tests) in cc
+no_dirs d e = let z = bit_at-zero (dir_number d) in let f : has_dir 0 d
+    ≡ false = grind (arith, nat_tests) in cc
 
 own_dir : (d : Dir) → has_dir (2 ^ dir_number d) d ≡ true
 own_dir d = let z = bit_at-pow_same (dir_number d) in grind (arith, nat_tests)
@@ -100,10 +100,12 @@ module _ (g : GridData) (s : Cell) (whole : IsGrid g) (free : is_free g s ≡ tr
     | inr n ↦ absurd (let f = there c n in omega arith)
   ]
 
-  at_start : (P : Cell → ℕ → Type 0) → P s 0 → (c : Cell) → is_inside g c ≡ true → rank_at g f0.ranks c < rank_limit
+  at_start : (P : Cell → ℕ → Type 0) → P s 0 → (c : Cell) → is_inside g c ≡ true
+      → rank_at g f0.ranks c < rank_limit
       → P c (rank_at g f0.ranks c)
   at_start P p c i h =
-      subst (λ (v : Cell). P v (rank_at g f0.ranks v)) (sym (is_start c i h)) (subst (λ (r : ℕ). P s r) (sym here) p)
+      subst (λ (v : Cell). P v (rank_at g f0.ranks v)) (sym (is_start c i h)) (subst (λ (r : ℕ). P s r)
+      (sym here) p)
 
   empty : (c : Cell) (d : Dir) → has_dir (dirs_at g firsts c) d ≡ true → ⊥
   empty c d e = no_dirs d (ap (λ (n : ℕ). has_dir n d) (sym (none (cell_number g.width c))) ∙ e)
@@ -176,7 +178,13 @@ module _ (g : GridData) (s : Cell) (whole : IsGrid g) (free : is_free g s ≡ tr
       → after ≡ [] → f ≡ spread g (2 * straight_rank) source all_dirs
       (record { ranks = set ranks place 0; firsts = firsts; next = next; after = after })
       → (now' next' after' : List Cell) → now' ≡ f.next → next' ≡ f.after → after' ≡ []
-      → IsReady g s straight_rank now' (record { ranks = f.ranks; firsts = f.firsts; next = next'; after = after' })
+      → IsReady g s straight_rank now' (record {
+        ranks = f.ranks;
+        firsts = f.firsts;
+        next = next';
+        after =
+            after';
+      })
   begun_by f place next after e n a made now' next' after' p q t =
       let same : f ≡ spread g (2 * straight_rank) source all_dirs f0 = made
       ∙ ap (λ (k : ℕ). spread g (2 * straight_rank) source all_dirs
@@ -185,4 +193,5 @@ module _ (g : GridData) (s : Cell) (whole : IsGrid g) (free : is_free g s ≡ tr
       (record { ranks = set ranks at 0; firsts = firsts; next = ys; after = after })) n
       ∙ ap (λ (zs : List Cell). spread g (2 * straight_rank) source all_dirs
       (record { ranks = set ranks at 0; firsts = firsts; next = []; after = zs })) a in
-      ready_by g s straight_rank f.ranks f.firsts f.next f.after [] (begun_ready f same) now' next' after' p q t
+      ready_by g s straight_rank f.ranks f.firsts f.next f.after []
+      (begun_ready f same) now' next' after' p q t

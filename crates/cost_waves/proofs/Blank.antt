@@ -1,13 +1,12 @@
 -- Entries that tell nothing.
-use Rattle.std.proofs.Common.{◌≡◌, ℕ, refl, ap, ◌∙◌, arith, List, get_or, Bool, false}
-use Rattle.std.specs.Prelude.{None}
+use Rattle.std.proofs.Common.{◌≡◌, ℕ, ap, ◌∙◌, arith, List, get_or, false}
 use Rattle.std.proofs.lemmas.Bool.Decides.{nat_tests}
 use Rattle.std.proofs.lemmas.Nat.Bits.{bit_at-zero}
 use Rattle.grid_moves.specs.declared.Dir.{Dir}
 use Rattle.grid_moves.specs.Grid.{cell_number}
 use Rattle.grid_moves.specs.Move.{dir_number}
 use Rattle.cost_waves.specs.Rank.{far, cost_told, far_tells_nothing}
-use Rattle.cost_waves.specs.Told.{WaveData, has_dir, IsBlank}
+use Rattle.cost_waves.specs.Told.{has_dir, IsBlank}
 
 no_dir : (d : Dir) → has_dir 0 d ≡ false
 no_dir d = let z = bit_at-zero (dir_number d) in grind (arith, nat_tests)

@@ -1,14 +1,14 @@
 -- One offer keeps what holds in a wave.
-use Rattle.std.proofs.Common.{◌≡◌, ◌≢◌, ℕ, ◌+◌, ◌*◌, ◌<◌, ◌≤◌, ◌⊎◌, inl, inr, arith, refl, ap, sym, ◌∙◌, subst, Bool, true, false, List, [], ◌∷◌, ◌++◌, length, get_or, set, length-set}
-use Rattle.std.specs.Prelude.{Some, slice_get, nat_lt, nat_le, bit_or, ◌&&◌, if◌then◌else◌}
+use Rattle.std.proofs.Common.{◌≡◌, ◌≢◌, ℕ, ◌+◌, ◌*◌, ◌<◌, ◌≤◌, inl, inr, arith, refl, ap, sym, ◌∙◌, subst, Bool, true, false, List, [], ◌∷◌, ◌++◌, length, get_or, length-set}
+use Rattle.std.specs.Prelude.{nat_lt, nat_le, bit_or, ◌&&◌, if◌then◌else◌}
 use Rattle.std.proofs.lemmas.Bool.Decides.{nat_tests}
 use Rattle.std.proofs.lemmas.List.{get_or-set_same, get_or-set_other}
 use Rattle.root2_cost.specs.Rank.{straight_rank, diagonal_rank}
 use Rattle.grid_moves.specs.declared.Cell.{Cell}
 use Rattle.grid_moves.specs.declared.Dir.{Dir}
-use Rattle.grid_moves.specs.Grid.{GridData, IsGrid, cell_number, is_free, is_inside}
+use Rattle.grid_moves.specs.Grid.{GridData, IsGrid, cell_number, is_inside}
 use Rattle.grid_moves.proofs.Places.{number_below}
-use Rattle.cost_waves.specs.Front.{Front, entered, next_with, after_with}
+use Rattle.cost_waves.specs.Front.{Front, entered}
 use Rattle.cost_waves.specs.Rank.{far, rank_limit}
 use Rattle.cost_waves.specs.Told.{has_dir}
 use Rattle.cost_waves.specs.Wave.{rank_at, dirs_at, known_count, Way, WayBy, Among, Waits, AllWait, Held, before, in_now, in_next, in_after, Keeps}
@@ -30,10 +30,12 @@ module _ (g : GridData) (s : Cell) (whole : IsGrid g) (floor : ℕ) (now : List 
   on_start = free_on g s k.home
 
   ranked : at < length f.ranks
-  ranked = let n = k.ranked in let b : at < g.height * g.width = number_below g.width g.height to on.column on.row in omega arith
+  ranked = let n = k.ranked in let b : at < g.height * g.width = number_below g.width g.height to on.column
+      on.row in omega arith
 
   begun : at < length f.firsts
-  begun = let n = k.begun in let b : at < g.height * g.width = number_below g.width g.height to on.column on.row in omega arith
+  begun = let n = k.begun in let b : at < g.height * g.width = number_below g.width g.height to on.column
+      on.row in omega arith
 
   short : rank < rank_limit
   short = let b = o.bounded in let m = few g whole f k.ranked in omega arith
@@ -57,18 +59,21 @@ module _ (g : GridData) (s : Cell) (whole : IsGrid g) (floor : ℕ) (now : List 
     dirs_here = get_or-set_same f.firsts at (bit_or (get_or f.firsts at 0) first) 0 begun
 
     dirs_there : (c : Cell) → cell_number g.width c ≢ at → dirs_at g with_dirs.firsts c ≡ dirs_at g f.firsts c
-    dirs_there c n = get_or-set_other f.firsts at (cell_number g.width c) (bit_or (get_or f.firsts at 0) first) 0 n
+    dirs_there c n = get_or-set_other f.firsts at (cell_number g.width c) (bit_or
+        (get_or f.firsts at 0) first) 0 n
 
     joined_way : (d : Dir) → has_dir (dirs_at g with_dirs.firsts to) d ≡ true → WayBy g s to d old
-    joined_way d e = elim (or_either (dirs_at g f.firsts to) first d (ap (λ (n : ℕ). has_dir n d) (sym dirs_here) ∙ e)) [
-      | inl h ↦ k.begins to d (inside_to) h
-      | inr h ↦ subst (λ (r : ℕ). WayBy g s to d r) same (o.sound d h)
-    ]
+    joined_way d e = elim (or_either (dirs_at g f.firsts to) first d (ap (λ (n : ℕ). has_dir n d)
+        (sym dirs_here) ∙ e)) [
+          | inl h ↦ k.begins to d (inside_to) h
+          | inr h ↦ subst (λ (r : ℕ). WayBy g s to d r) same (o.sound d h)
+        ]
       where
         inside_to : is_inside g to ≡ true
         inside_to = let x = on.column in let y = on.row in grind (arith, nat_tests)
 
-    joined_begins : (c : Cell) (d : Dir) → is_inside g c ≡ true → has_dir (dirs_at g with_dirs.firsts c) d ≡ true
+    joined_begins : (c : Cell) (d : Dir) → is_inside g c ≡ true
+        → has_dir (dirs_at g with_dirs.firsts c) d ≡ true
         → WayBy g s c d (rank_at g f.ranks c)
     joined_begins c d i e = elim (same_or_apart g c to (is_on g c i) on) [
       | inr n ↦ k.begins c d i (ap (λ (m : ℕ). has_dir m d) (sym (dirs_there c n)) ∙ e)
@@ -76,11 +81,13 @@ module _ (g : GridData) (s : Cell) (whole : IsGrid g) (floor : ℕ) (now : List 
           (joined_way d (ap (λ (v : Cell). has_dir (dirs_at g with_dirs.firsts v) d) (sym h) ∙ e))
     ]
 
-    joined_told : (c : Cell) (d : Dir) → is_inside g c ≡ true → has_dir (dirs_at g with_dirs.firsts c) d ≡ true
+    joined_told : (c : Cell) (d : Dir) → is_inside g c ≡ true → has_dir (dirs_at g with_dirs.firsts c) d
+        ≡ true
         → rank_at g f.ranks c < rank_limit
     joined_told c d i e = elim (same_or_apart g c to (is_on g c i) on) [
       | inr n ↦ k.told c d i (ap (λ (m : ℕ). has_dir m d) (sym (dirs_there c n)) ∙ e)
-      | inl h ↦ subst (λ (v : Cell). rank_at g f.ranks v < rank_limit) (sym h) (subst (λ (r : ℕ). r < rank_limit) same short)
+      | inl h ↦ subst (λ (v : Cell). rank_at g f.ranks v < rank_limit) (sym h) (subst (λ
+          (r : ℕ). r < rank_limit) same short)
     ]
 
     pub joined_keeps : Keeps g s floor now with_dirs
@@ -106,7 +113,8 @@ module _ (g : GridData) (s : Cell) (whole : IsGrid g) (floor : ℕ) (now : List 
       | inr n ↦ ap (λ (m : ℕ). has_dir m d) (dirs_there c n) ∙ e
       | inl h ↦ subst (λ (v : Cell). has_dir (dirs_at g with_dirs.firsts v) d ≡ true) (sym h)
           (ap (λ (m : ℕ). has_dir m d) dirs_here
-          ∙ or_left (dirs_at g f.firsts to) first d (ap (λ (v : Cell). has_dir (dirs_at g f.firsts v) d) (sym h) ∙ e))
+          ∙ or_left (dirs_at g f.firsts to) first d (ap (λ (v : Cell). has_dir (dirs_at g f.firsts v) d)
+          (sym h) ∙ e))
     ]
 
     joined_stays : (c : Cell) → IsOn g c → rank_at g f.ranks c < floor + straight_rank
@@ -148,9 +156,11 @@ module _ (g : GridData) (s : Cell) (whole : IsGrid g) (floor : ℕ) (now : List 
     dirs_else : (c : Cell) → cell_number g.width c ≢ at → dirs_at g with_rank.firsts c ≡ dirs_at g f.firsts c
     dirs_else c n = get_or-set_other f.firsts at (cell_number g.width c) first 0 n
 
-    -- a fact of a cell and its rank and directions holds of all cells if it holds of the new entry and the old ones
+    -- a fact of a cell and its rank and directions holds of all cells if it holds of the new entry and the
+    -- old ones
     entry : (P : Cell → ℕ → ℕ → Type 0) → P to rank first → (c : Cell) → IsOn g c
-        → P c (rank_at g f.ranks c) (dirs_at g f.firsts c) → P c (rank_at g with_rank.ranks c) (dirs_at g with_rank.firsts c)
+        → P c (rank_at g f.ranks c) (dirs_at g f.firsts c) → P c (rank_at g with_rank.ranks c)
+        (dirs_at g with_rank.firsts c)
     entry P new c i p = elim (same_or_apart g c to i on) [
       | inr n ↦ subst (λ (m : ℕ). P c (rank_at g with_rank.ranks c) m) (sym (dirs_else c n))
           (subst (λ (r : ℕ). P c r (dirs_at g f.firsts c)) (sym (there c n)) p)
@@ -207,7 +217,8 @@ module _ (g : GridData) (s : Cell) (whole : IsGrid g) (floor : ℕ) (now : List 
         by_test true = among_more f.after to c a
         by_test false = a
 
-    held_on : (c : Cell) (r : ℕ) → Held floor now f.next f.after c r → Held floor now with_rank.next with_rank.after c r
+    held_on : (c : Cell) (r : ℕ) → Held floor now f.next f.after c r
+        → Held floor now with_rank.next with_rank.after c r
     held_on c r (before h) = before h
     held_on c r (in_now h a) = in_now h a
     held_on c r (in_next l h a) = in_next l h (next_has c a)
@@ -248,7 +259,8 @@ module _ (g : GridData) (s : Cell) (whole : IsGrid g) (floor : ℕ) (now : List 
         by_test false b e p = absurd (cc)
 
     after_to : limit ≤ rank → Among with_rank.after to
-    after_to h = by_test (nat_le limit rank) (nat_le (limit + straight_rank) old) (grind (arith, nat_tests)) refl
+    after_to h = by_test (nat_le limit rank) (nat_le (limit + straight_rank) old) (grind
+        (arith, nat_tests)) refl
       where
         by_test : (a b : Bool) → a ≡ true → nat_le (limit + straight_rank) old ≡ b
             → Among (if a && b then f.after ++ (to ∷ []) else f.after) to
@@ -260,7 +272,8 @@ module _ (g : GridData) (s : Cell) (whole : IsGrid g) (floor : ℕ) (now : List 
     held_to = by_test (nat_lt rank limit) refl
       where
         by_test : (b : Bool) → nat_lt rank limit ≡ b → Held floor now with_rank.next with_rank.after to rank
-        by_test true e = let h : rank < limit = grind (arith, nat_tests) in in_next o.low (omega arith) (next_to h)
+        by_test true e = let h : rank < limit = grind (arith, nat_tests) in in_next o.low (omega arith)
+            (next_to h)
         by_test false e = let h : limit ≤ rank = grind (arith, nat_tests) in
             in_after (omega arith) o.high (after_to h)
 
@@ -273,7 +286,8 @@ module _ (g : GridData) (s : Cell) (whole : IsGrid g) (floor : ℕ) (now : List 
         let m = more in
         record { free = w.free; below = omega arith; reached = omega arith }
 
-    all_wait : (low : ℕ) (cells : List Cell) → AllWait g low f.ranks cells → AllWait g low with_rank.ranks cells
+    all_wait : (low : ℕ) (cells : List Cell) → AllWait g low f.ranks cells
+        → AllWait g low with_rank.ranks cells
     all_wait low cells w j c e = waits_on low c (w j c e)
 
     one_more_waits : (low : ℕ) (cells : List Cell) → AllWait g low f.ranks cells → low ≤ rank
@@ -324,7 +338,8 @@ module _ (g : GridData) (s : Cell) (whole : IsGrid g) (floor : ℕ) (now : List 
           (k.told c d i);
       held = λ c i. entry (λ v r m. r < rank_limit → Held floor now with_rank.next with_rank.after v r)
           (λ h. held_to) c (is_on g c i) (λ h. held_on c (rank_at g f.ranks c) (k.held c i h));
-      bounded = λ c i. entry (λ v r m. r < rank_limit → r + diagonal_rank ≤ diagonal_rank * known_count with_rank.ranks)
+      bounded = λ c i. entry (λ v r m. r < rank_limit
+          → r + diagonal_rank ≤ diagonal_rank * known_count with_rank.ranks)
           (λ h. bounded_to) c (is_on g c i) (λ h. let b = k.bounded c i h in let m = more in omega arith);
       wait_now = all_wait floor now k.wait_now;
       wait_next = wait_next;
@@ -332,7 +347,8 @@ module _ (g : GridData) (s : Cell) (whole : IsGrid g) (floor : ℕ) (now : List 
     }
 
     -- an offer that lowers a rank goes to no cell of this wave or one before
-    elsewhere : (c : Cell) → IsOn g c → rank_at g f.ranks c < floor + straight_rank → cell_number g.width c ≢ at
+    elsewhere : (c : Cell) → IsOn g c → rank_at g f.ranks c < floor + straight_rank
+        → cell_number g.width c ≢ at
     elsewhere c i h = elim (same_or_apart g c to i on) [
       | inr n ↦ n
       | inl e ↦ absurd (
@@ -348,7 +364,8 @@ module _ (g : GridData) (s : Cell) (whole : IsGrid g) (floor : ℕ) (now : List 
         | inr n ↦ there c n
         | inl q ↦ absurd (
             let low = o.low in
-            let n : rank_at g with_rank.ranks c ≡ rank = ap (λ (v : Cell). rank_at g with_rank.ranks v) q ∙ here in
+            let n : rank_at g with_rank.ranks c ≡ rank = ap (λ (v : Cell). rank_at g with_rank.ranks v) q
+            ∙ here in
             omega arith)
       ];
       dirs = λ c i h. dirs_else c (elsewhere c i h);
@@ -356,7 +373,8 @@ module _ (g : GridData) (s : Cell) (whole : IsGrid g) (floor : ℕ) (now : List 
         | inr n ↦ ap (λ (m : ℕ). has_dir m d) (dirs_else c n) ∙ h
         | inl q ↦ absurd (
             let r : rank_at g f.ranks c ≡ old = ap (λ (v : Cell). rank_at g f.ranks v) q in
-            let n : rank_at g with_rank.ranks c ≡ rank = ap (λ (v : Cell). rank_at g with_rank.ranks v) q ∙ here in
+            let n : rank_at g with_rank.ranks c ≡ rank = ap (λ (v : Cell). rank_at g with_rank.ranks v) q
+            ∙ here in
             omega arith)
       ];
       more = more;
@@ -378,7 +396,8 @@ pub record HasEntered (g : GridData) (s : Cell) (floor : ℕ) (now : List Cell) 
       → has_dir (dirs_at g f'.firsts to) d ≡ true
 
 pub has_entered : (g : GridData) (s : Cell) (whole : IsGrid g) (floor : ℕ) (now : List Cell) (f : Front)
-    (k : Keeps g s floor now f) (to : Cell) (rank first : ℕ) (o : IsOffer g s floor f to rank first) (limit : ℕ)
+    (k : Keeps g s floor now f) (to : Cell) (rank first : ℕ) (o : IsOffer g s floor f to rank first)
+    (limit : ℕ)
     → limit ≡ floor + 2 * straight_rank
     → HasEntered g s floor now f (entered (cell_number g.width to) limit to rank first f) to rank first
 has_entered g s whole floor now f k to rank first o limit is =
@@ -396,22 +415,24 @@ has_entered g s whole floor now f k to rank first o limit is =
           low = omega arith;
           dirs = λ d q h. ap (λ (n : ℕ). has_dir n d) m ∙ h;
         })
-    by_effect f' (joins same e) = subst (λ (h : Front). HasEntered g s floor now f h to rank first) (sym e) (record {
-      keeps = joined_keeps g s whole floor now f k to rank first o same;
-      follows = joined_follows g s whole floor now f k to rank first o same;
-      low = omega arith;
-      dirs = λ d q h. joined_has g s whole floor now f k to rank first o same d h;
-    })
-    by_effect f' (passes more e) = subst (λ (h : Front). HasEntered g s floor now f h to rank first) (sym e) (record {
-      keeps = k;
-      follows = record {
-        lower = λ c i. omega arith;
-        rank = λ c i h. refl;
-        back = λ c i h. refl;
-        dirs = λ c i h. refl;
-        grows = λ c d i p h. h;
-        more = omega arith;
-      };
-      low = omega arith;
-      dirs = λ d q h. absurd (omega arith);
-    })
+    by_effect f' (joins same e) = subst (λ (h : Front). HasEntered g s floor now f h to rank first)
+        (sym e) (record {
+          keeps = joined_keeps g s whole floor now f k to rank first o same;
+          follows = joined_follows g s whole floor now f k to rank first o same;
+          low = omega arith;
+          dirs = λ d q h. joined_has g s whole floor now f k to rank first o same d h;
+        })
+    by_effect f' (passes more e) = subst (λ (h : Front). HasEntered g s floor now f h to rank first)
+        (sym e) (record {
+          keeps = k;
+          follows = record {
+            lower = λ c i. omega arith;
+            rank = λ c i h. refl;
+            back = λ c i h. refl;
+            dirs = λ c i h. refl;
+            grows = λ c d i p h. h;
+            more = omega arith;
+          };
+          low = omega arith;
+          dirs = λ d q h. absurd (omega arith);
+        })

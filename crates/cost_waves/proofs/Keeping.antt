@@ -1,20 +1,19 @@
 -- What one offer keeps.
-use Rattle.std.proofs.Common.{◌≡◌, ◌≢◌, ℕ, ◌+◌, ◌*◌, ◌<◌, ◌≤◌, ◌⊎◌, inl, inr, arith, refl, ap, sym, ◌∙◌, subst, Bool, true, false, List, [], ◌∷◌, ◌++◌, length, get_or, set, length-set, mul-le-mul}
-use Rattle.std.specs.Prelude.{Some, slice_get, nat_lt, nat_le, nat_eq, bit_or, ◌&&◌, if◌then◌else◌}
+use Rattle.std.proofs.Common.{◌≡◌, ◌≢◌, ℕ, ◌+◌, ◌*◌, ◌<◌, ◌≤◌, ◌⊎◌, inl, inr, arith, refl, ap, sym, ◌∙◌, Bool, true, false, length, get_or, set, mul-le-mul}
+use Rattle.std.specs.Prelude.{nat_lt, nat_eq, bit_or, if◌then◌else◌}
 use Rattle.std.proofs.lemmas.Bool.Decides.{nat_tests}
-use Rattle.std.proofs.lemmas.List.{get_or-set_same, get_or-set_other}
 use Rattle.root2_cost.specs.Rank.{straight_rank, diagonal_rank}
 use Rattle.grid_moves.specs.declared.Cell.{Cell}
 use Rattle.grid_moves.specs.declared.Dir.{Dir}
 use Rattle.grid_moves.specs.Grid.{GridData, IsGrid, cell_number, is_free, is_inside}
 use Rattle.grid_moves.specs.Move.{is_same}
 use Rattle.grid_moves.proofs.Legal.{free_inside, is_same-cell, is_same-itself}
-use Rattle.grid_moves.proofs.Places.{one_cell, number_below}
+use Rattle.grid_moves.proofs.Places.{one_cell}
 use Rattle.cost_waves.specs.Front.{Front, entered, next_with, after_with}
-use Rattle.cost_waves.specs.Rank.{far, rank_limit}
+use Rattle.cost_waves.specs.Rank.{far}
 use Rattle.cost_waves.specs.Told.{has_dir}
-use Rattle.cost_waves.specs.Wave.{rank_at, dirs_at, known_count, Way, WayBy, Among, Waits, AllWait, Held, before, in_now, in_next, in_after, Keeps}
-use Rattle.cost_waves.proofs.Lists.{among_more, among_last, from_more, count_new, count_old, count_low, or_left, or_right, or_either}
+use Rattle.cost_waves.specs.Wave.{rank_at, dirs_at, known_count, Way, WayBy}
+use Rattle.cost_waves.proofs.Lists.{count_low}
 
 -- the front with a lesser rank, and with an equal one
 abbrev pub lowered : ℕ → ℕ → Cell → ℕ → ℕ → Front → Front
@@ -35,7 +34,8 @@ joined at first f = record {
 
 -- an offer lowers a rank, joins directions, or is passed over
 pub data Effect (at limit : ℕ) (to : Cell) (rank first : ℕ) (f f' : Front) : Type 0 where
-  lowers : rank < get_or f.ranks at far → f' ≡ lowered at limit to rank first f → Effect at limit to rank first f f'
+  lowers : rank < get_or f.ranks at far → f' ≡ lowered at limit to rank first f
+      → Effect at limit to rank first f f'
   joins : rank ≡ get_or f.ranks at far → f' ≡ joined at first f → Effect at limit to rank first f f'
   passes : get_or f.ranks at far < rank → f' ≡ f → Effect at limit to rank first f f'
 
@@ -45,7 +45,8 @@ unfolding entered
 effect at limit to rank first f =
     by_tests (nat_lt rank (get_or f.ranks at far)) (nat_eq rank (get_or f.ranks at far)) refl refl
   where
-    by_tests : (a b : Bool) → nat_lt rank (get_or f.ranks at far) ≡ a → nat_eq rank (get_or f.ranks at far) ≡ b
+    by_tests : (a b : Bool) → nat_lt rank (get_or f.ranks at far) ≡ a
+        → nat_eq rank (get_or f.ranks at far) ≡ b
         → Effect at limit to rank first f (if a then lowered at limit to rank first f
         else if b then joined at first f else f)
     by_tests true b p q = lowers (grind (arith, nat_tests)) refl
@@ -78,7 +79,8 @@ same_or_apart g c d p q = by_test (is_same c d) refl
         let t : is_same c d ≡ true = ap (λ (k : Cell). is_same c k) (sym one) ∙ is_same-itself c in cc)
 
 -- an offer to a cell that is worth making in the wave whose ranks begin at `floor`
-pub record IsOffer (g : GridData) (s : Cell) (floor : ℕ) (f : Front) (to : Cell) (rank first : ℕ) : Type 0 where
+pub record IsOffer (g : GridData) (s : Cell) (floor : ℕ) (f : Front) (to : Cell)
+    (rank first : ℕ) : Type 0 where
   pub free : is_free g to ≡ true
   pub low : floor + straight_rank ≤ rank
   pub high : rank < floor + straight_rank + straight_rank + straight_rank
@@ -86,7 +88,8 @@ pub record IsOffer (g : GridData) (s : Cell) (floor : ℕ) (f : Front) (to : Cel
   pub way : Way g s to rank
   pub sound : (d : Dir) → has_dir first d ≡ true → WayBy g s to d rank
 
--- what an offer leaves: no rank rises, ranks of this wave and those before stay, directions stay with their rank
+-- what an offer leaves: no rank rises, ranks of this wave and those before stay, directions stay with
+-- their rank
 pub record Follows (g : GridData) (floor : ℕ) (f f' : Front) : Type 0 where
   pub lower : (c : Cell) → IsOn g c → rank_at g f'.ranks c ≤ rank_at g f.ranks c
   pub rank : (c : Cell) → IsOn g c → rank_at g f.ranks c < floor + straight_rank

@@ -1,29 +1,28 @@
 -- When no cell waits, known ranks are those of least walks, and told directions those of their first moves.
-use Rattle.std.proofs.Common.{◌≡◌, ℕ, ◌+◌, ◌*◌, ◌^◌, ◌<◌, ◌≤◌, ◌⊎◌, inl, inr, arith, refl, ap, sym, ◌∙◌, subst, Bool, true, false, List, [], ◌∷◌, length, get_or}
-use Rattle.std.specs.Prelude.{Option, Some, None, slice_get, nat_lt, if◌then◌else◌, IsTrue, ◌↔◌}
+use Rattle.std.proofs.Common.{◌≡◌, ℕ, ◌+◌, ◌*◌, ◌^◌, ◌<◌, ◌≤◌, inl, inr, arith, refl, ap, sym, ◌∙◌, subst, Bool, true, false, List, [], ◌∷◌}
+use Rattle.std.specs.Prelude.{Some, None, nat_lt, if◌then◌else◌}
 use Rattle.std.proofs.lemmas.Bool.Decides.{nat_tests}
 use Rattle.std.proofs.lemmas.Option.{slice_get_within}
 use Rattle.root2_cost.specs.declared.Cost.{Cost}
 use Rattle.root2_cost.specs.Laws.{HasShortParts}
 use Rattle.root2_cost.specs.Order.{IsLess, IsAtMost}
-use Rattle.root2_cost.specs.Rank.{rank_of, straight_rank, diagonal_rank}
-use Rattle.root2_cost.specs.Sums.{add_costs}
+use Rattle.root2_cost.specs.Rank.{rank_of}
 use Rattle.root2_cost.proofs.AtMost.{IsAtMost-cases, IsAtMost-or_more, IsAtMost-not_more, at_most_by_counts}
 use Rattle.root2_cost.proofs.Ranking.{less_ranks}
 use Rattle.grid_moves.specs.declared.Cell.{Cell}
 use Rattle.grid_moves.specs.declared.Dir.{Dir}
-use Rattle.grid_moves.specs.Grid.{GridData, IsGrid, cell_number, is_free, is_inside}
+use Rattle.grid_moves.specs.Grid.{GridData, IsGrid, is_inside}
 use Rattle.grid_moves.specs.Move.{is_legal, legal_ahead, move_cost}
-use Rattle.grid_moves.specs.Walk.{IsWalk, IsLeastWalk, NoWalk, is_walk, cost_of, last_of}
+use Rattle.grid_moves.specs.Walk.{IsWalk, IsLeastWalk, is_walk, cost_of, last_of}
 use Rattle.grid_moves.proofs.Ahead.{legal_ahead-of, legal_ahead-is}
 use Rattle.grid_moves.proofs.Legal.{and_both, legal_is}
-use Rattle.cost_waves.specs.Begin.{IsLeastCost, IsCostTo, Begins}
+use Rattle.cost_waves.specs.Begin.{IsCostTo, Begins}
 use Rattle.cost_waves.specs.Front.{Front, dir_rank}
-use Rattle.cost_waves.specs.Rank.{far, rank_limit, cost_of_rank, cost_told}
-use Rattle.cost_waves.specs.Told.{WaveData, has_dir, cost_at, begins_with, Tells}
-use Rattle.cost_waves.specs.Wave.{rank_at, dirs_at, Way, WayBy, Among, Held, before, in_now, in_next, in_after, Keeps, IsRelaxed, IsSettled, IsSwept, ended}
+use Rattle.cost_waves.specs.Rank.{rank_limit, cost_of_rank}
+use Rattle.cost_waves.specs.Told.{has_dir, Tells}
+use Rattle.cost_waves.specs.Wave.{rank_at, dirs_at, Among, Held, before, in_now, in_next, in_after, Keeps, IsSettled, IsSwept, ended}
 use Rattle.cost_waves.proofs.Decoding.{cost-rank}
-use Rattle.cost_waves.proofs.Keeping.{IsOn, free_on, on_inside, few}
+use Rattle.cost_waves.proofs.Keeping.{free_on, on_inside, few}
 use Rattle.cost_waves.proofs.Walks.{rank-add_costs, rank-move, rank_high}
 
 -- a cost of a small rank has few moves
@@ -55,7 +54,8 @@ rank_at_most p q h a = elim (IsAtMost-cases p q a) [
   | inr e ↦ let r : rank_of p ≡ rank_of q = ap rank_of e in omega arith
 ]
 
-module _ (g : GridData) (s : Cell) (whole : IsGrid g) (ranks firsts : List ℕ) (w : IsSwept g s ranks firsts) where
+module _ (g : GridData) (s : Cell) (whole : IsGrid g) (ranks firsts : List ℕ)
+    (w : IsSwept g s ranks firsts) where
   abbrev f : Front
   f = ended ranks firsts
 
@@ -126,7 +126,8 @@ module _ (g : GridData) (s : Cell) (whole : IsGrid g) (ranks firsts : List ℕ) 
 
   from_start : (t : Cell) (cells : List Cell) → IsWalk g s t cells → Reached s t (cost_of (s ∷ cells))
   from_start t cells walk =
-      subst (λ (v : Cell). Reached s v (cost_of (s ∷ cells))) walk.ends (reached s cells walk.legal home known_start)
+      subst (λ (v : Cell). Reached s v (cost_of (s ∷ cells))) walk.ends
+      (reached s cells walk.legal home known_start)
 
   -- a walk of the known rank is a least one
   is_least : (t : Cell) (cells : List Cell) → is_inside g t ≡ true → rank_at g ranks t < rank_limit
@@ -161,7 +162,8 @@ module _ (g : GridData) (s : Cell) (whole : IsGrid g) (ranks firsts : List ℕ) 
       record {
         cells = way.cells;
         least = is_least t way.cells i h way.walk way.ranked;
-        priced = sym (cost-rank (cost_of (s ∷ way.cells)) (short_by_rank (cost_of (s ∷ way.cells)) (omega arith)))
+        priced = sym (cost-rank (cost_of (s ∷ way.cells)) (short_by_rank (cost_of (s ∷ way.cells))
+            (omega arith)))
             ∙ ap cost_of_rank way.ranked;
       }
   cost_is t i false e = λ cells walk.
@@ -170,7 +172,8 @@ module _ (g : GridData) (s : Cell) (whole : IsGrid g) (ranks firsts : List ℕ) 
       omega arith
 
   -- a told direction begins a least walk
-  told_begins : (t : Cell) (d : Dir) → is_inside g t ≡ true → has_dir (dirs_at g firsts t) d ≡ true → Begins g s t d
+  told_begins : (t : Cell) (d : Dir) → is_inside g t ≡ true → has_dir (dirs_at g firsts t) d ≡ true
+      → Begins g s t d
   told_begins t d i e =
       let way = k.begins t d i e in
       record {
@@ -198,7 +201,8 @@ module _ (g : GridData) (s : Cell) (whole : IsGrid g) (ranks firsts : List ℕ) 
       handed_on d v cells parts.1 inside known (omega arith) (r.same d (omega arith) has)
 
   -- the first move of a least walk is told
-  begins_told : (t : Cell) (d : Dir) → is_inside g t ≡ true → Begins g s t d → has_dir (dirs_at g firsts t) d ≡ true
+  begins_told : (t : Cell) (d : Dir) → is_inside g t ≡ true → Begins g s t d
+      → has_dir (dirs_at g firsts t) d ≡ true
   begins_told t d i b =
       let walk = b.least.walk in
       let end = from_start t (b.next ∷ b.cells) walk in
@@ -214,7 +218,8 @@ module _ (g : GridData) (s : Cell) (whole : IsGrid g) (ranks firsts : List ℕ) 
       let rest : rank_at g ranks t ≤ rank_at g ranks b.next + rank_of (cost_of (b.next ∷ b.cells)) =
       subst (λ (v : Cell). rank_at g ranks v ≤ rank_at g ranks b.next + rank_of (cost_of (b.next ∷ b.cells)))
       walk.ends (reached b.next b.cells parts.1 inside known).most in
-      let tight : rank_at g ranks b.next + rank_of (cost_of (b.next ∷ b.cells)) ≤ rank_at g ranks (last_of b.next b.cells) =
+      let tight : rank_at g ranks b.next + rank_of (cost_of (b.next ∷ b.cells)) ≤ rank_at g ranks
+      (last_of b.next b.cells) =
       subst (λ (v : Cell). rank_at g ranks b.next + rank_of (cost_of (b.next ∷ b.cells)) ≤ rank_at g ranks v)
       (sym walk.ends) (omega arith) in
       subst (λ (v : Cell). has_dir (dirs_at g firsts v) d ≡ true) walk.ends
@@ -222,7 +227,8 @@ module _ (g : GridData) (s : Cell) (whole : IsGrid g) (ranks firsts : List ℕ) 
 
   pub tells : (width height : ℕ) → width ≡ g.width
       → Tells g s (record { width = width; height = height; ranks = ranks; firsts = firsts })
-  tells width height e = subst (λ (n : ℕ). Tells g s (record { width = n; height = height; ranks = ranks; firsts = firsts }))
+  tells width height e = subst (λ (n : ℕ). Tells g s
+      (record { width = n; height = height; ranks = ranks; firsts = firsts }))
       (sym e) (record {
         costs = λ t i. cost_is t i (nat_lt (rank_at g ranks t) rank_limit) refl;
         firsts = λ t d i. (told_begins t d i, begins_told t d i);

@@ -1,19 +1,16 @@
 -- Lists with one more cell, entries that are written, and bits of bytes.
-use Rattle.std.proofs.Common.{◌≡◌, ◌≢◌, ℕ, ◌+◌, ◌*◌, ◌<◌, ◌≤◌, ◌⊎◌, inl, inr, arith, refl, ap, sym, ◌∙◌, subst, Bool, true, false, List, [], ◌∷◌, ◌++◌, length, get_or, set, length-append}
-use Rattle.std.specs.Prelude.{Option, Some, None, slice_get, nat_lt, nat_eq, bit_or, max, count_by, if◌then◌else◌}
-use Rattle.std.specs.Int.{bit_at}
-use Rattle.std.specs.List.{sum_by}
+use Rattle.std.proofs.Common.{◌≡◌, ℕ, ◌+◌, ◌<◌, ◌≤◌, ◌⊎◌, inl, inr, arith, refl, ap, sym, ◌∙◌, Bool, true, false, List, [], ◌∷◌, ◌++◌, length, get_or, set, length-append}
+use Rattle.std.specs.Prelude.{Some, slice_get, nat_lt, bit_or, if◌then◌else◌}
 use Rattle.std.proofs.lemmas.Bool.Decides.{nat_tests}
 use Rattle.std.proofs.lemmas.List.Sums.{sum_by-set, count_by-le-length}
-use Rattle.std.proofs.lemmas.List.{get_or-set_same, get_or-set_other}
-use Rattle.std.proofs.lemmas.Nat.Bits.{bit_at_or, bit_at-lt, bit_at-pow_same, bit_at-pow_other}
+use Rattle.std.proofs.lemmas.Nat.Bits.{bit_at_or, bit_at-lt}
 use Rattle.std.proofs.lemmas.Option.{slice_get_within, get_or_from_slice_get, slice_get-get_or}
 use Rattle.std.proofs.Math.ListN.{get_or-append}
 use Rattle.std.proofs.Math.Seq.{get_or-append_seam}
 use Rattle.grid_moves.specs.declared.Cell.{Cell}
 use Rattle.grid_moves.specs.declared.Dir.{Dir}
 use Rattle.grid_moves.specs.Move.{dir_number}
-use Rattle.cost_waves.specs.Rank.{far, rank_limit}
+use Rattle.cost_waves.specs.Rank.{rank_limit}
 use Rattle.cost_waves.specs.Told.{has_dir}
 use Rattle.cost_waves.specs.Wave.{Among, known_count, is_known}
 
@@ -65,7 +62,8 @@ from_more xs y c i e = by_test (nat_lt i (length xs)) refl
 
 -- how many are known after an entry is written
 counted : (xs : List ℕ) (i y d : ℕ) → i < length xs
-    → known_count (set xs i y) + (if is_known (get_or xs i d) then 1 else 0) ≡ known_count xs + (if is_known y then 1 else 0)
+    → known_count (set xs i y) + (if is_known (get_or xs i d) then 1 else 0)
+    ≡ known_count xs + (if is_known y then 1 else 0)
 counted xs i y d h = sum_by-set (λ (x : ℕ). if is_known x then 1 else 0) xs i y d h
 
 pub count_new : (xs : List ℕ) (i y d : ℕ) → i < length xs → y < rank_limit → rank_limit ≤ get_or xs i d

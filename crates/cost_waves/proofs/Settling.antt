@@ -1,23 +1,22 @@
 -- A cell that is settled: all its moves are offered.
-use Rattle.std.proofs.Common.{◌≡◌, ℕ, ◌+◌, ◌*◌, ◌<◌, ◌≤◌, ◌⊎◌, inl, inr, arith, refl, ap, sym, ◌∙◌, subst, Bool, true, false, List, [], ◌∷◌}
-use Rattle.std.specs.Prelude.{Option, Some, None, slice_get, nat_lt, if◌then◌else◌}
-use Rattle.std.proofs.lemmas.Bool.Decides.{nat_tests}
-use Rattle.root2_cost.specs.Rank.{straight_rank, diagonal_rank}
+use Rattle.std.proofs.Common.{◌≡◌, ℕ, ◌+◌, ◌*◌, ◌<◌, ◌≤◌, arith, refl, ap, sym, ◌∙◌, subst, true, List, [], ◌∷◌}
+use Rattle.std.specs.Prelude.{Option, Some, None}
+use Rattle.root2_cost.specs.Rank.{straight_rank}
 use Rattle.grid_moves.specs.declared.Cell.{Cell}
 use Rattle.grid_moves.specs.declared.Dir.{Dir}
 use Rattle.grid_moves.specs.declared.Dir.TheVariants.{N, NE, E, SE, S, SW, W, NW}
-use Rattle.grid_moves.specs.Grid.{GridData, IsGrid, cell_number, is_free, is_inside}
+use Rattle.grid_moves.specs.Grid.{GridData, IsGrid, is_free, is_inside}
 use Rattle.grid_moves.specs.Move.{all_dirs, legal_ahead}
 use Rattle.grid_moves.proofs.Ahead.{legal_ahead-is}
 use Rattle.grid_moves.proofs.Legal.{legal_is}
 use Rattle.cost_waves.specs.declared.front.Source.{Source}
-use Rattle.cost_waves.specs.Front.{Front, entered, offered, spread, dir_rank, first_over}
-use Rattle.cost_waves.specs.Rank.{far, rank_limit}
+use Rattle.cost_waves.specs.Front.{Front, offered, spread, dir_rank, first_over}
+use Rattle.cost_waves.specs.Rank.{rank_limit}
 use Rattle.cost_waves.specs.Told.{has_dir}
-use Rattle.cost_waves.specs.Wave.{rank_at, dirs_at, Way, WayBy, Keeps, IsRelaxed, IsSettled, IsReady, IsMidway, settled, source_at}
+use Rattle.cost_waves.specs.Wave.{rank_at, dirs_at, Way, WayBy, Keeps, IsRelaxed, IsSettled}
 use Rattle.cost_waves.proofs.Entering.{HasEntered, has_entered}
-use Rattle.cost_waves.proofs.Keeping.{IsOn, is_on, free_on, on_inside, IsOffer, Follows, few}
-use Rattle.cost_waves.proofs.Walks.{way_more, way_by_more, rank_low, rank_high}
+use Rattle.cost_waves.proofs.Keeping.{IsOn, free_on, on_inside, IsOffer, Follows}
+use Rattle.cost_waves.proofs.Walks.{way_more, rank_low, rank_high}
 
 -- where a legal move leads
 pub ahead_is_free : (g : GridData) (u v : Cell) (d : Dir) → legal_ahead g u d ≡ Some v → is_free g v ≡ true
@@ -79,10 +78,12 @@ pub record IsSource (g : GridData) (s : Cell) (floor : ℕ) (f : Front) (from : 
   pub low : floor ≤ from.rank
   pub high : from.rank < floor + straight_rank
   pub known : from.rank < rank_limit
-  pub sound : (d b : Dir) (v : Cell) → legal_ahead g from.cell d ≡ Some v → has_dir (first_over from d) b ≡ true
+  pub sound : (d b : Dir) (v : Cell) → legal_ahead g from.cell d ≡ Some v → has_dir (first_over from d) b
+      ≡ true
       → WayBy g s v b (from.rank + dir_rank d)
   pub own : from.cell ≡ s → (d : Dir) → has_dir (first_over from d) d ≡ true
-  pub same : (d b : Dir) → has_dir (dirs_at g f.firsts from.cell) b ≡ true → has_dir (first_over from d) b ≡ true
+  pub same : (d b : Dir) → has_dir (dirs_at g f.firsts from.cell) b ≡ true
+      → has_dir (first_over from d) b ≡ true
 
 -- the direction is one of these
 pub data In (d : Dir) : List Dir → Type 0 where
@@ -171,12 +172,14 @@ module _ (g : GridData) (s : Cell) (whole : IsGrid g) (floor : ℕ) (now : List 
       relaxed = λ v h. absurd (cc);
     }
     offered_has d (Some w) e =
-        let h = has_entered g s whole floor now f k w (from.rank + dir_rank d) (first_over from d) (offer_of d w e)
+        let h = has_entered g s whole floor now f k w (from.rank + dir_rank d) (first_over from d)
+        (offer_of d w e)
         limit is in
         record {
           keeps = h.keeps;
           follows = h.follows;
-          relaxed = λ v t. subst (λ (c : Cell). IsRelaxed g s (offered g.width limit from d (Some w) f) from.cell d c)
+          relaxed = λ v t. subst (λ (c : Cell). IsRelaxed g s (offered g.width limit from d
+              (Some w) f) from.cell d c)
               (some_cell w v (sym e ∙ t)) (one_relaxed d w (offered g.width limit from d (Some w) f) h);
         }
 
@@ -193,7 +196,8 @@ module _ (g : GridData) (s : Cell) (whole : IsGrid g) (floor : ℕ) (now : List 
           known = o.known;
           sound = o.sound;
           own = o.own;
-          same = λ d c h. o.same d c (ap (λ (n : ℕ). has_dir n c) (sym (a.dirs from.cell on (omega arith))) ∙ h);
+          same = λ d c h. o.same d c (ap (λ (n : ℕ). has_dir n c) (sym (a.dirs from.cell on
+              (omega arith))) ∙ h);
         }
 
   pub has_spread : (dirs : List Dir) (f : Front) → Keeps g s floor now f → IsSource g s floor f from

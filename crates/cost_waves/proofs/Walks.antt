@@ -1,17 +1,17 @@
 -- Walks with one more move, and what a move counts.
-use Rattle.std.proofs.Common.{◌≡◌, ℕ, zero, suc, ◌+◌, ◌*◌, ◌<◌, ◌≤◌, arith, refl, ap, sym, ◌∙◌, subst, Bool, true, false, ◌||◌, List, [], ◌∷◌, ◌++◌}
+use Rattle.std.proofs.Common.{◌≡◌, ℕ, zero, suc, ◌+◌, ◌≤◌, arith, refl, ap, sym, ◌∙◌, subst, Bool, true, false, ◌||◌, List, [], ◌∷◌, ◌++◌}
 use Rattle.std.specs.Prelude.{Option, Some, None, nat_eq, if◌then◌else◌, option_and_then}
 use Rattle.std.proofs.lemmas.Bool.Decides.{nat_tests}
 use Rattle.root2_cost.specs.declared.Cost.{Cost}
 use Rattle.root2_cost.specs.Rank.{rank_of, straight_rank, diagonal_rank}
-use Rattle.root2_cost.specs.Sums.{add_costs, no_cost}
+use Rattle.root2_cost.specs.Sums.{add_costs}
 use Rattle.root2_cost.proofs.Sums.{add_costs-assoc, add_costs-no_cost_left, add_costs-no_cost_right}
 use Rattle.grid_moves.specs.declared.Cell.{Cell}
 use Rattle.grid_moves.specs.declared.Dir.{Dir}
 use Rattle.grid_moves.specs.declared.Dir.TheVariants.{N, NE, E, SE, S, SW, W, NW}
 use Rattle.grid_moves.specs.Grid.{GridData, is_free}
 use Rattle.grid_moves.specs.Move.{is_legal, move_cost, ahead, legal_ahead, column_ahead, row_ahead, before}
-use Rattle.grid_moves.specs.Walk.{IsWalk, is_walk, cost_of, last_of}
+use Rattle.grid_moves.specs.Walk.{is_walk, cost_of, last_of}
 use Rattle.grid_moves.proofs.Legal.{and_both, legal_is}
 use Rattle.grid_moves.proofs.Ahead.{legal_ahead-is}
 use Rattle.cost_waves.specs.Front.{dir_rank}
@@ -58,7 +58,8 @@ lies_ahead : (u v : Cell) (d : Dir) → ahead d u ≡ Some v → LiesAhead u v d
 lies_ahead u v d e = by_column (column_ahead d u.x) (row_ahead d u.y) refl refl e
   where
     by_column : (x y : Option ℕ) → column_ahead d u.x ≡ x → row_ahead d u.y ≡ y
-        → option_and_then (λ (m : ℕ). option_and_then (λ (n : ℕ). Some (record { x = m; y = n })) y) x ≡ Some v
+        → option_and_then (λ (m : ℕ). option_and_then (λ (n : ℕ). Some (record { x = m; y = n })) y) x
+        ≡ Some v
         → LiesAhead u v d
     by_column None y p q h = absurd (cc)
     by_column (Some m) None p q h = absurd (cc)
@@ -118,13 +119,15 @@ pub rank-move : (g : GridData) (u v : Cell) (d : Dir) → legal_ahead g u d ≡ 
 rank-move g u v d e = by_dir d (lies_ahead u v d (ahead_of g u v d e))
   where
     vertical : nat_eq u.x v.x ≡ true → rank_of (move_cost u v) ≡ straight_rank
-    vertical h = straight_by (nat_eq u.x v.x) (nat_eq u.y v.y) (either_left (nat_eq u.x v.x) (nat_eq u.y v.y) h)
+    vertical h = straight_by (nat_eq u.x v.x) (nat_eq u.y v.y) (either_left (nat_eq u.x v.x)
+        (nat_eq u.y v.y) h)
 
     level : nat_eq u.y v.y ≡ true → rank_of (move_cost u v) ≡ straight_rank
     level h = straight_by (nat_eq u.x v.x) (nat_eq u.y v.y) (either_right (nat_eq u.x v.x) (nat_eq u.y v.y) h)
 
     slanted : nat_eq u.x v.x ≡ false → nat_eq u.y v.y ≡ false → rank_of (move_cost u v) ≡ diagonal_rank
-    slanted h k = diagonal_by (nat_eq u.x v.x) (nat_eq u.y v.y) (neither (nat_eq u.x v.x) (nat_eq u.y v.y) h k)
+    slanted h k = diagonal_by (nat_eq u.x v.x) (nat_eq u.y v.y) (neither (nat_eq u.x v.x)
+        (nat_eq u.y v.y) h k)
 
     by_dir : (d : Dir) → LiesAhead u v d → rank_of (move_cost u v) ≡ dir_rank d
     by_dir N l = vertical (same_number u.x v.x l.column)
@@ -161,7 +164,8 @@ module _ (g : GridData) (s u v : Cell) (d : Dir) (e : legal_ahead g u d ≡ Some
   longer : (cells : List Cell) → GoesOn g s u v cells → rank_of (cost_of (s ∷ cells)) ≡ r
       → rank_of (cost_of (s ∷ (cells ++ (v ∷ [])))) ≡ r + dir_rank d
   longer cells m k =
-      let a : rank_of (cost_of (s ∷ (cells ++ (v ∷ [])))) ≡ rank_of (cost_of (s ∷ cells)) + rank_of (move_cost u v) =
+      let a : rank_of (cost_of (s ∷ (cells ++ (v ∷ [])))) ≡ rank_of (cost_of (s ∷ cells)) + rank_of
+      (move_cost u v) =
       ap rank_of m.priced ∙ rank-add_costs (cost_of (s ∷ cells)) (move_cost u v) in
       a ∙ ap (λ (n : ℕ). n + rank_of (move_cost u v)) k ∙ ap (λ (n : ℕ). r + n) (rank-move g u v d e)
 
@@ -189,7 +193,8 @@ module _ (g : GridData) (s u v : Cell) (d : Dir) (e : legal_ahead g u d ≡ Some
 pub way_nowhere : (g : GridData) (s : Cell) → is_free g s ≡ true → Way g s s 0
 way_nowhere g s f = record { cells = []; walk = record { legal = f; ends = refl }; ranked = refl }
 
-pub way_by_one : (g : GridData) (s v : Cell) (d : Dir) → legal_ahead g s d ≡ Some v → WayBy g s v d (dir_rank d)
+pub way_by_one : (g : GridData) (s v : Cell) (d : Dir) → legal_ahead g s d ≡ Some v
+    → WayBy g s v d (dir_rank d)
 way_by_one g s v d e =
     let l = legal_ahead-is g s v d e in
     record {

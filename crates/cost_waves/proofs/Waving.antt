@@ -1,29 +1,22 @@
 -- A wave, cell by cell, and one wave after another.
-use Rattle.std.proofs.Common.{◌≡◌, ◌≢◌, ℕ, zero, suc, ◌+◌, ◌*◌, ◌^◌, ◌<◌, ◌≤◌, ◌⊎◌, inl, inr, arith, refl, ap, sym, ◌∙◌, subst, Bool, true, false, List, [], ◌∷◌, length, get_or, set, length-set}
+use Rattle.std.proofs.Common.{◌≡◌, ℕ, ◌+◌, ◌*◌, ◌^◌, ◌<◌, ◌≤◌, arith, refl, ap, sym, ◌∙◌, subst, Bool, true, false, List, [], ◌∷◌, length}
 use Rattle.std.specs.Prelude.{Option, Some, None, slice_get, nat_lt, nat_eq, ◌&&◌, if◌then◌else◌}
 use Rattle.std.proofs.lemmas.Bool.Decides.{nat_tests}
-use Rattle.std.proofs.lemmas.List.{get_or-set_same, get_or-set_other}
-use Rattle.std.proofs.lemmas.Nat.Bits.{bit_at-pow_same, bit_at-pow_other, bit_at-zero}
-use Rattle.std.proofs.lemmas.Option.{slice_get_within, slice_get_past}
+use Rattle.std.proofs.lemmas.Option.{slice_get_within}
 use Rattle.root2_cost.specs.Rank.{straight_rank, diagonal_rank}
 use Rattle.grid_moves.specs.declared.Cell.{Cell}
-use Rattle.grid_moves.specs.declared.Dir.{Dir}
-use Rattle.grid_moves.specs.declared.Dir.TheVariants.{N, NE, E, SE, S, SW, W, NW}
-use Rattle.grid_moves.specs.Grid.{GridData, IsGrid, cell_number, is_free, is_inside}
-use Rattle.grid_moves.specs.Move.{all_dirs, legal_ahead, dir_number}
-use Rattle.grid_moves.proofs.Places.{number_below}
-use Rattle.cost_waves.specs.declared.front.Source.{Source}
-use Rattle.cost_waves.specs.Front.{Front, spread, dir_rank, first_over}
-use Rattle.cost_waves.specs.Rank.{far, rank_limit}
-use Rattle.cost_waves.specs.Told.{has_dir}
-use Rattle.cost_waves.specs.Wave.{rank_at, dirs_at, known_count, Way, WayBy, Among, Waits, AllWait, Held, before, in_now, in_next, in_after, Keeps, IsRelaxed, IsSettled, IsReady, IsMidway, HasReady, IsSwept, ended, settled, source_at}
-use Rattle.cost_waves.proofs.Keeping.{IsOn, is_on, free_on, on_inside, same_or_apart, Follows, few}
-use Rattle.cost_waves.proofs.Lists.{count_new, count_low}
-use Rattle.cost_waves.proofs.Settling.{IsSource, HasSpread, has_spread, settled_on, in_all}
-use Rattle.cost_waves.proofs.Walks.{way_by_more, way_nowhere, way_by_one}
+use Rattle.grid_moves.specs.Grid.{GridData, IsGrid, is_inside}
+use Rattle.grid_moves.specs.Move.{all_dirs}
+use Rattle.cost_waves.specs.Front.{Front, spread}
+use Rattle.cost_waves.specs.Wave.{rank_at, known_count, Waits, AllWait, Held, before, in_now, in_next, in_after, Keeps, IsSettled, IsReady, IsMidway, IsSwept, settled, source_at}
+use Rattle.cost_waves.proofs.Keeping.{is_on, free_on, on_inside, Follows, few}
+use Rattle.cost_waves.proofs.Lists.{count_low}
+use Rattle.cost_waves.proofs.Settling.{IsSource, has_spread, settled_on, in_all}
+use Rattle.cost_waves.proofs.Walks.{way_by_more}
 
 -- before any cell of the list
-pub midway_none : (g : GridData) (s : Cell) (floor : ℕ) (now : List Cell) (f : Front) → IsReady g s floor now f
+pub midway_none : (g : GridData) (s : Cell) (floor : ℕ) (now : List Cell) (f : Front)
+    → IsReady g s floor now f
     → IsMidway g s floor now 0 f
 midway_none g s floor now f r = record { ready = r; settled = λ j u h. absurd (omega arith) }
 
@@ -57,7 +50,8 @@ module _ (g : GridData) (s : Cell) (whole : IsGrid g) (floor : ℕ) (now : List 
         sound = λ d b v e t. way_by_more g s c v d e (rank_at g f.ranks c) b
             (r.keeps.begins c b (on_inside g c (free_on g c w.free)) t);
         own = λ e d. absurd (
-            let zero_rank : rank_at g f.ranks c ≡ 0 = ap (λ (v : Cell). rank_at g f.ranks v) e ∙ r.keeps.start in
+            let zero_rank : rank_at g f.ranks c ≡ 0 = ap (λ (v : Cell). rank_at g f.ranks v) e
+            ∙ r.keeps.start in
             omega arith);
         same = λ d b t. t;
       }
@@ -75,7 +69,8 @@ module _ (g : GridData) (s : Cell) (whole : IsGrid g) (floor : ℕ) (now : List 
 
       -- the cells up to this one
       up_to : (f' : Front) → ((j : ℕ) (u : Cell) → j < i → slice_get now j ≡ Some u → IsSettled g s f' u)
-          → IsSettled g s f' c → (j : ℕ) (u : Cell) → j < i + 1 → slice_get now j ≡ Some u → IsSettled g s f' u
+          → IsSettled g s f' c → (j : ℕ) (u : Cell) → j < i + 1 → slice_get now j ≡ Some u
+          → IsSettled g s f' u
       up_to f' old new j u h p = by_place (nat_lt j i) refl
         where
           last : nat_lt j i ≡ false → j ≡ i
@@ -154,11 +149,14 @@ turn_ready g s floor now f small m = record {
 
 -- while some cell waits, the wave is not far
 pub floor_low : (g : GridData) (s : Cell) → IsGrid g → (floor : ℕ) (now : List Cell) (f : Front)
-    → IsReady g s floor now f → (nat_eq (length now) 0 && nat_eq (length f.next) 0 && nat_eq (length f.after) 0) ≡ false
+    → IsReady g s floor now f → (nat_eq (length now) 0 && nat_eq (length f.next) 0 && nat_eq
+    (length f.after) 0) ≡ false
     → floor ≤ diagonal_rank * known_count f.ranks
-floor_low g s whole floor now f r t = by_lists now f.next f.after r.keeps.wait_now r.keeps.wait_next r.keeps.wait_after t
+floor_low g s whole floor now f r t = by_lists now f.next f.after r.keeps.wait_now r.keeps.wait_next
+    r.keeps.wait_after t
   where
-    by_lists : (xs ys zs : List Cell) → AllWait g floor f.ranks xs → AllWait g (floor + straight_rank) f.ranks ys
+    by_lists : (xs ys zs : List Cell) → AllWait g floor f.ranks xs
+        → AllWait g (floor + straight_rank) f.ranks ys
         → AllWait g (floor + straight_rank + straight_rank) f.ranks zs
         → (nat_eq (length xs) 0 && nat_eq (length ys) 0 && nat_eq (length zs) 0) ≡ false
         → floor ≤ diagonal_rank * known_count f.ranks
@@ -184,7 +182,8 @@ swept g s floor now f r t = by_lists now f.next f.after r t
 
 -- the bound on the wave in one number
 pub floor_small : (g : GridData) (s : Cell) → IsGrid g → (floor : ℕ) (now : List Cell) (f : Front)
-    → IsReady g s floor now f → (nat_eq (length now) 0 && nat_eq (length f.next) 0 && nat_eq (length f.after) 0) ≡ false
+    → IsReady g s floor now f → (nat_eq (length now) 0 && nat_eq (length f.next) 0 && nat_eq
+    (length f.after) 0) ≡ false
     → (floor ≤ 75137669218172928) × (floor ≤ diagonal_rank * length f.ranks)
 floor_small g s whole floor now f r t =
     let l = floor_low g s whole floor now f r t in
@@ -198,9 +197,12 @@ pub ready_by : (g : GridData) (s : Cell) (floor : ℕ) (ranks firsts : List ℕ)
     → (now' next' after' : List Cell) → now' ≡ now → next' ≡ next → after' ≡ after
     → IsReady g s floor now' (record { ranks = ranks; firsts = firsts; next = next'; after = after' })
 ready_by g s floor ranks firsts now next after r now' next' after' p q t =
-    subst (λ (zs : List Cell). IsReady g s floor now' (record { ranks = ranks; firsts = firsts; next = next'; after = zs })) (sym t)
-    (subst (λ (ys : List Cell). IsReady g s floor now' (record { ranks = ranks; firsts = firsts; next = ys; after = after })) (sym q)
-    (subst (λ (xs : List Cell). IsReady g s floor xs (record { ranks = ranks; firsts = firsts; next = next; after = after })) (sym p) r))
+    subst (λ (zs : List Cell). IsReady g s floor now'
+    (record { ranks = ranks; firsts = firsts; next = next'; after = zs })) (sym t)
+    (subst (λ (ys : List Cell). IsReady g s floor now'
+    (record { ranks = ranks; firsts = firsts; next = ys; after = after })) (sym q)
+    (subst (λ (xs : List Cell). IsReady g s floor xs
+    (record { ranks = ranks; firsts = firsts; next = next; after = after })) (sym p) r))
 
 -- a wave and the turn after it
 pub wave_turned : (g : GridData) (s : Cell) (floor : ℕ) (now now1 : List Cell) (f0 f : Front) → floor < 2 ^ 61
@@ -211,5 +213,6 @@ pub wave_turned : (g : GridData) (s : Cell) (floor : ℕ) (now now1 : List Cell)
     (record { ranks = f.ranks; firsts = f.firsts; next = next'; after = after' })
 wave_turned g s floor now now1 f0 f small e r wave now' next' after' p q t =
     let m = wave (subst (λ (xs : List Cell). IsReady g s floor xs f0) (sym e) r) in
-    ready_by g s (floor + straight_rank) f.ranks f.firsts f.next f.after [] (turn_ready g s floor now1 f small m)
+    ready_by g s (floor + straight_rank) f.ranks f.firsts f.next f.after []
+    (turn_ready g s floor now1 f small m)
     now' next' after' p q t

@@ -1,6 +1,7 @@
--- The cells that are known and those that wait, and what one settled cell does to them. No public clause cites
+-- The cells that are known and those that wait, and what one settled cell does to them. No public clause
+-- cites
 -- this module.
-use Rattle.std.specs.Prelude.{◌≡◌, ℕ, ◌+◌, ◌^◌, Bool, true, false, nat_lt, nat_le, nat_eq, ◌&&◌, if◌then◌else◌, List, [], ◌∷◌, ◌++◌, slice_index_or, slice_set, Option, Some, None, bit_or, refl}
+use Rattle.std.specs.Prelude.{ℕ, ◌+◌, ◌^◌, nat_lt, nat_le, nat_eq, ◌&&◌, if◌then◌else◌, List, [], ◌∷◌, ◌++◌, slice_index_or, slice_set, Option, Some, None, bit_or}
 use Rattle.root2_cost.specs.Rank.{straight_rank, diagonal_rank}
 use Rattle.grid_moves.specs.declared.Cell.{Cell}
 use Rattle.grid_moves.specs.declared.Dir.{Dir}

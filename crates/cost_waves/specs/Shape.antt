@@ -7,7 +7,13 @@ use Rattle.cost_waves.specs.Front.{Front}
 
 -- the front that these lists keep
 abbrev pub front_of : List ℕ → List ℕ → Ahead → Front
-front_of ranks firsts ahead = record { ranks = ranks; firsts = firsts; next = ahead.next.items; after = ahead.after.items }
+front_of ranks firsts ahead = record {
+  ranks = ranks;
+  firsts = firsts;
+  next = ahead.next.items;
+  after =
+      ahead.after.items;
+}
 
 -- the cell has a place among so many ranks and so many bytes
 pub record Fits (width : ℕ) (to : Cell) (ranked begun : ℕ) : Type 0 where

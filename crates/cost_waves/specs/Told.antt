@@ -1,5 +1,5 @@
 -- What waves keep of their last pass, and when it is right.
-use Rattle.std.specs.Prelude.{◌≡◌, ℕ, Bool, true, false, nat_eq, List, slice_index_or, Option, Some, None, IsTrue, ◌↔◌, refl}
+use Rattle.std.specs.Prelude.{◌≡◌, ℕ, Bool, true, false, nat_eq, List, slice_index_or, Option, None, IsTrue, ◌↔◌, refl}
 use Rattle.std.specs.Int.{bit_at}
 use Rattle.root2_cost.specs.declared.Cost.{Cost}
 use Rattle.grid_moves.specs.declared.Cell.{Cell}
@@ -44,7 +44,7 @@ pub record IsBlank (w : WaveData) : Type 0 where
   pub costs : (t : Cell) → cost_at w t ≡ None
   pub firsts : (t : Cell) (d : Dir) → begins_with w t d ≡ false
 
--- of a byte of two directions: north-west by the highest bit is not in it, south-east by bit 3 is
+-- of the byte 9, the directions north and south-east
 pub south_east : has_dir 9 SE ≡ true
 south_east = refl
 

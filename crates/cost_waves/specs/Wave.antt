@@ -89,7 +89,8 @@ pub record Keeps (g : GridData) (s : Cell) (floor : ℕ) (now : List Cell) (f : 
   pub wait_next : AllWait g (floor + straight_rank) f.ranks f.next
   pub wait_after : AllWait g (floor + straight_rank + straight_rank) f.ranks f.after
 
--- the move from u in direction d to v was offered: v is known at no more than over u, and where it costs no less,
+-- the move from u in direction d to v was offered: v is known at no more than over u, and where it costs
+-- no less,
 -- it has all directions that begin walks over u
 pub record IsRelaxed (g : GridData) (s : Cell) (f : Front) (u : Cell) (d : Dir) (v : Cell) : Type 0 where
   pub low : rank_at g f.ranks v ≤ rank_at g f.ranks u + dir_rank d
@@ -108,7 +109,8 @@ pub record IsReady (g : GridData) (s : Cell) (floor : ℕ) (now : List Cell) (f 
   pub settled : (u : Cell) → is_inside g u ≡ true → rank_at g f.ranks u < floor → IsSettled g s f u
 
 -- in a wave, after so many cells of its list
-pub record IsMidway (g : GridData) (s : Cell) (floor : ℕ) (now : List Cell) (done : ℕ) (f : Front) : Type 0 where
+pub record IsMidway (g : GridData) (s : Cell) (floor : ℕ) (now : List Cell) (done : ℕ)
+    (f : Front) : Type 0 where
   pub ready : IsReady g s floor now f
   pub settled : (j : ℕ) (u : Cell) → j < done → slice_get now j ≡ Some u → IsSettled g s f u
 

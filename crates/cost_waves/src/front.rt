@@ -1,8 +1,8 @@
 //! What a settled cell does: it offers each of its legal moves.
 //!
-//! A lesser rank takes the place of the neighbour's rank, and its directions that of the neighbour's; an equal
-//! one adds its directions. A neighbour whose rank falls into another wave waits for that wave. Its entry in the
-//! list of the wave before stays, and is passed over there.
+//! A lesser rank takes the place of the neighbour's rank, and its directions that of the neighbour's; an
+//! equal one adds its directions. A neighbour whose rank falls into another wave waits for that wave. Its
+//! entry in the list of the wave before stays, and is passed over there.
 
 ghost use Rattle.std.specs.Prelude.{◌≡◌, ◌+◌, ◌*◌, ◌<◌, ◌≤◌, ◌^◌, true, length, OnOk};
 ghost use Rattle.grid_moves.specs.Around.{if_open};
@@ -14,13 +14,8 @@ ghost use Rattle.cost_waves.specs.Shape.{front_of, Fits};
 
 use crate::NoMemory;
 use crate::moves::moves_around;
-use grid_moves::{Around, Cell, Dir, Terrain, number_of};
-
-/// What one straight move counts in a rank.
-pub(crate) const STRAIGHT: u64 = 3_166_815_962;
-
-/// What one diagonal move counts.
-const DIAGONAL: u64 = 4_478_554_083;
+use crate::ranks::{DIAGONAL_RANK, STRAIGHT_RANK};
+use grid_moves::{Cell, Dir, Terrain, number_of};
 
 /// A cell that is settled: its rank, and the directions with which least walks to it begin. From the start of
 /// a pass a move begins with its own direction.
@@ -30,6 +25,13 @@ pub(crate) struct Source {
     pub(crate) rank: u64,
     pub(crate) start: bool,
     pub(crate) first: u8,
+}
+
+// The width of the map, and the limit below which ranks lie in the next wave.
+#[derive(Clone, Copy)]
+struct Wave {
+    width: u16,
+    limit: u64,
 }
 
 /// The cells that wait: for the next wave, and for the one after it.
@@ -46,8 +48,8 @@ fn dir_rank(d: Dir) -> u64
     ensures most { result ≤ 4478554083 }
 {
     match d {
-        Dir::N | Dir::E | Dir::S | Dir::W => STRAIGHT,
-        Dir::NE | Dir::SE | Dir::SW | Dir::NW => DIAGONAL,
+        Dir::N | Dir::E | Dir::S | Dir::W => STRAIGHT_RANK,
+        Dir::NE | Dir::SE | Dir::SW | Dir::NW => DIAGONAL_RANK,
     }
 }
 
@@ -75,13 +77,14 @@ fn first_over(from: Source, d: Dir) -> u8
 fn list(to: Cell, rank: u64, known: u64, limit: u64, ahead: &mut Ahead) -> Result<(), NoMemory>
     requires { limit < 2 ^ 63 }
     ensures next { OnOk result (ahead.new.next.items ≡ next_with limit known rank to ahead.old.next.items) }
-    ensures after { OnOk result (ahead.new.after.items ≡ after_with limit known rank to ahead.old.after.items) }
+    ensures after { OnOk result (ahead.new.after.items
+        ≡ after_with limit known rank to ahead.old.after.items) }
 {
     if rank < limit {
         if limit <= known {
             ahead.next.push(to)?;
         }
-    } else if limit + STRAIGHT <= known {
+    } else if limit + STRAIGHT_RANK <= known {
         ahead.after.push(to)?;
     }
     Ok(())
@@ -117,43 +120,38 @@ fn enter(
     Ok(())
 }
 
-// Offers a move in a direction, if it is open.
+// Offers a move in a direction to the cell of this column and row, if it is open.
 #[inline(always)]
 fn offer(
+    wave: Wave,
     from: Source,
     d: Dir,
     is_open: bool,
-    to: Cell,
-    width: u16,
-    limit: u64,
+    x: u16,
+    y: u16,
     ranks: &mut [u64],
     firsts: &mut [u8],
     ahead: &mut Ahead,
 ) -> Result<(), NoMemory>
-    requires limit { limit < 2 ^ 63 }
+    requires limit { wave.limit < 2 ^ 63 }
     requires rank { from.rank < 2 ^ 63 }
-    requires fits { is_open ≡ true → Fits width to (length ranks.old) (length firsts.old) }
+    requires fits { is_open ≡ true
+        → Fits wave.width (record { x = x; y = y }) (length ranks.old) (length firsts.old) }
     ensures { OnOk result (front_of ranks.new firsts.new ahead.new
-        ≡ spec.offered width limit from d (if_open is_open to) (front_of ranks.old firsts.old ahead.old)) }
+        ≡ spec.offered wave.width wave.limit from d (if_open is_open (record { x = x; y = y }))
+        (front_of ranks.old firsts.old ahead.old)) }
 {
     if !is_open {
         return Ok(());
     }
-    let at = number_of(width, to) as usize;
+    let to = Cell { x, y };
+    let at = number_of(wave.width, to) as usize;
     let rank = from.rank + dir_rank(d);
-    enter(
-        at,
-        limit,
-        to,
-        rank,
-        first_over(from, d),
-        ranks,
-        firsts,
-        ahead,
-    )
+    let first = first_over(from, d);
+    enter(at, wave.limit, to, rank, first, ranks, firsts, ahead)
 }
 
-/// Offers the legal moves from a cell.
+/// Offers the legal moves from a cell. Ranks below `limit` lie in the next wave.
 #[inline(always)]
 pub(crate) fn spread<T: Terrain>(
     t: &T,
@@ -173,102 +171,17 @@ pub(crate) fn spread<T: Terrain>(
         ≡ spec.spread (T.grid t.now) limit from all_dirs (front_of ranks.old firsts.old ahead.old)) }
 {
     let width = t.width();
+    let w = Wave { width, limit };
     let Cell { x, y } = from.cell;
-    let around = moves_around(t, from.cell);
-    let Around {
-        left,
-        right,
-        up,
-        down,
-        ..
-    } = around;
-    offer(
-        from,
-        Dir::N,
-        around.n,
-        Cell { x, y: up },
-        width,
-        limit,
-        ranks,
-        firsts,
-        ahead,
-    )?;
-    offer(
-        from,
-        Dir::NE,
-        around.ne,
-        Cell { x: right, y: up },
-        width,
-        limit,
-        ranks,
-        firsts,
-        ahead,
-    )?;
-    offer(
-        from,
-        Dir::E,
-        around.e,
-        Cell { x: right, y },
-        width,
-        limit,
-        ranks,
-        firsts,
-        ahead,
-    )?;
-    offer(
-        from,
-        Dir::SE,
-        around.se,
-        Cell { x: right, y: down },
-        width,
-        limit,
-        ranks,
-        firsts,
-        ahead,
-    )?;
-    offer(
-        from,
-        Dir::S,
-        around.s,
-        Cell { x, y: down },
-        width,
-        limit,
-        ranks,
-        firsts,
-        ahead,
-    )?;
-    offer(
-        from,
-        Dir::SW,
-        around.sw,
-        Cell { x: left, y: down },
-        width,
-        limit,
-        ranks,
-        firsts,
-        ahead,
-    )?;
-    offer(
-        from,
-        Dir::W,
-        around.w,
-        Cell { x: left, y },
-        width,
-        limit,
-        ranks,
-        firsts,
-        ahead,
-    )?;
-    offer(
-        from,
-        Dir::NW,
-        around.nw,
-        Cell { x: left, y: up },
-        width,
-        limit,
-        ranks,
-        firsts,
-        ahead,
-    )?;
+    let a = moves_around(t, from.cell);
+    let (left, right, up, down) = (a.left, a.right, a.up, a.down);
+    offer(w, from, Dir::N, a.n, x, up, ranks, firsts, ahead)?;
+    offer(w, from, Dir::NE, a.ne, right, up, ranks, firsts, ahead)?;
+    offer(w, from, Dir::E, a.e, right, y, ranks, firsts, ahead)?;
+    offer(w, from, Dir::SE, a.se, right, down, ranks, firsts, ahead)?;
+    offer(w, from, Dir::S, a.s, x, down, ranks, firsts, ahead)?;
+    offer(w, from, Dir::SW, a.sw, left, down, ranks, firsts, ahead)?;
+    offer(w, from, Dir::W, a.w, left, y, ranks, firsts, ahead)?;
+    offer(w, from, Dir::NW, a.nw, left, up, ranks, firsts, ahead)?;
     Ok(())
 }

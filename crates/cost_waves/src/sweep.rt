@@ -7,7 +7,8 @@ ghost use Rattle.cost_waves.specs.Shape.{front_of};
 ghost use Rattle.cost_waves.specs.Wave.{rank_at, settled, IsReady, IsMidway, HasReady, IsSwept};
 
 use crate::NoMemory;
-use crate::front::{Ahead, STRAIGHT, Source, spread};
+use crate::front::{Ahead, Source, spread};
+use crate::ranks::STRAIGHT_RANK;
 use grid_moves::{Cell, Terrain, number_of};
 use std::alloc::Global;
 use std::mem;
@@ -92,7 +93,7 @@ fn settle<T: Terrain>(
         start: false,
         first,
     };
-    spread(t, from, floor + 2 * STRAIGHT, ranks, firsts, ahead)
+    spread(t, from, floor + 2 * STRAIGHT_RANK, ranks, firsts, ahead)
 }
 
 // Settles the cells of the wave whose ranks begin at `floor`.
@@ -110,7 +111,8 @@ fn wave<T: Terrain>(
     requires ready { HasReady (T.grid t.now) floor now.now (front_of ranks.old firsts.old ahead.old) }
     ensures { OnOk result ((s : Cell)
         → IsReady (T.grid t.now) s floor now.now (front_of ranks.old firsts.old ahead.old)
-        → IsMidway (T.grid t.now) s floor now.now (length now.now) (front_of ranks.new firsts.new ahead.new)) }
+        → IsMidway (T.grid t.now) s floor now.now (length now.now)
+        (front_of ranks.new firsts.new ahead.new)) }
 {
     for c in now {
         settle(t, *c, floor, ranks, firsts, ahead)?;
@@ -129,10 +131,11 @@ fn sweep<T: Terrain>(
     requires ready { HasReady (T.grid t.now) 3166815962 lists.old.wave.items
         (front_of ranks.old firsts.old lists.old.ahead) }
     ensures { OnOk result ((s : Cell)
-        → IsReady (T.grid t.now) s 3166815962 lists.old.wave.items (front_of ranks.old firsts.old lists.old.ahead)
+        → IsReady (T.grid t.now) s 3166815962 lists.old.wave.items
+        (front_of ranks.old firsts.old lists.old.ahead)
         → IsSwept (T.grid t.now) s ranks.new firsts.new) }
 {
-    let mut floor = STRAIGHT;
+    let mut floor = STRAIGHT_RANK;
     while !lists.are_empty() {
         wave(
             t,
@@ -143,7 +146,7 @@ fn sweep<T: Terrain>(
             &mut lists.ahead,
         )?;
         lists.turn();
-        floor += STRAIGHT;
+        floor += STRAIGHT_RANK;
     }
     Ok(())
 }
@@ -174,7 +177,14 @@ fn begin<T: Terrain>(
         start: true,
         first: 0,
     };
-    spread(t, source, 2 * STRAIGHT, ranks, firsts, &mut lists.ahead)?;
+    spread(
+        t,
+        source,
+        2 * STRAIGHT_RANK,
+        ranks,
+        firsts,
+        &mut lists.ahead,
+    )?;
     lists.turn();
     Ok(())
 }

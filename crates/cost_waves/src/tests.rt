@@ -54,8 +54,8 @@ fn are_found(
     Ok(k == cells.len())
 }
 
-// From the upper left to beyond the pillar: with no corner cut, and past its corners by the same memory. Its far
-// corner is reached both ways.
+// From the upper left to beyond the pillar: with no corner cut, and past its corners by the same memory. Its
+// far corner is reached both ways.
 #[test]
 fn least_walks_part_at_a_pillar(rt: HostRuntime) -> Result<(), Fail> {
     let grid = Grid::of_cells(rt.alloc(), 3, 3, b"....@....", Corner::Never)?;

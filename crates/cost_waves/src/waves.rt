@@ -1,57 +1,18 @@
 //! The memory of passes, and what the last of them found.
 
-ghost use Rattle.std.specs.Prelude.{◌≡◌, ◌*◌, ◌<◌, ℕ, true, length, slice_index_or, replicate, IfOk, OnOk, OnErr};
+ghost use Rattle.std.specs.Prelude.{◌≡◌, ◌*◌, ◌<◌, ℕ, true, length, map, slice_index_or, replicate, IfOk, OnOk, OnErr};
 ghost use Rattle.grid_moves.specs.Grid.{AreSides, is_free};
-ghost use Rattle.cost_waves.specs.Rank.{far, rank_limit};
+ghost use Rattle.cost_waves.specs.Rank.{far};
 ghost use Rattle.cost_waves.specs.Rank as spec;
 ghost use Rattle.cost_waves.specs.Told.{Tells, IsBlank, cost_at, begins_with, firsts_at, has_dir};
 
 use crate::NoMemory;
+use crate::ranks::{FAR, cost_told, costs_told};
 use crate::sweep::{Lists, pass_from};
 use grid_moves::{Cell, Dir, Terrain, dir_number, number_of};
 use root2_cost::Cost;
 use std::alloc::Global;
 use std::marker::Model;
-
-/// What stands for a cell to which no walk is known: more than any rank that a pass meets.
-const FAR: u64 = 18_446_744_073_709_551_615;
-
-/// Ranks that passes meet are below this, 2^62.
-const RANK_LIMIT: u64 = 4_611_686_018_427_387_904;
-
-/// What one straight move counts in a rank.
-const STRAIGHT_RANK: u64 = 3_166_815_962;
-
-/// What one diagonal move counts.
-const DIAGONAL_RANK: u64 = 4_478_554_083;
-
-// The cost of a rank. As p, what a diagonal move counts, has a square that is 1 more than a multiple of q, what a
-// straight one counts, p times the rank leaves the diagonal moves modulo q.
-#[tactic(auto, unfolding(crate::specs::Rank::cost_of_rank))]
-fn cost_of_rank(rank: u64) -> Cost
-    requires { rank < rank_limit }
-    ensures { result ≡ spec.cost_of_rank rank }
-{
-    let step = DIAGONAL_RANK - STRAIGHT_RANK;
-    let diagonal = rank % STRAIGHT_RANK * step % STRAIGHT_RANK;
-    let straight = rank.saturating_sub(diagonal * DIAGONAL_RANK) / STRAIGHT_RANK;
-    Cost {
-        a: straight as u32,
-        b: diagonal as u32,
-    }
-}
-
-// The cost that an entry tells, if it tells one.
-#[tactic(auto, unfolding(crate::specs::Rank::cost_of_rank))]
-fn cost_told(rank: u64) -> Option<Cost>
-    ensures { result ≡ spec.cost_told rank }
-{
-    if rank < RANK_LIMIT {
-        Some(cost_of_rank(rank))
-    } else {
-        None
-    }
-}
 
 // Whether the byte has the direction.
 fn has_dir(byte: u8, d: Dir) -> bool
@@ -87,8 +48,8 @@ fn forget(ranks: &mut [u64], firsts: &mut [u8])
     }
 }
 
-/// The memory for passes over a map of fixed sides, and what the last pass found: for each cell its least cost
-/// from the start of the pass, and the directions with which least walks to it begin.
+/// The memory for passes over a map of fixed sides, and what the last pass found: for each cell its least
+/// cost from the start of the pass, and the directions with which least walks to it begin.
 ///
 /// It is made once, with nine bytes for each cell, and used again as often as wanted. Contracts see its sides
 /// and its entries.
@@ -110,7 +71,12 @@ impl Model for CostWaves {
 
     ghost Value = { WaveData };
 
-    ghost view = { λ w. record { width = w.width; height = w.height; ranks = w.ranks.items; firsts = w.firsts.items } };
+    ghost view = { λ w. record {
+      width = w.width;
+      height = w.height;
+      ranks = w.ranks.items;
+      firsts = w.firsts.items;
+    } };
 
     ghost invariant = { λ w. IsKept w.width w.height w.ranks.items w.firsts.items };
 }
@@ -150,9 +116,9 @@ impl CostWaves {
     /// Finds the least costs from a free cell to all cells of a map of these sides, and the directions with
     /// which least walks begin. What an earlier pass found is forgotten.
     ///
-    /// Each cell is settled once, and its entry is written at most as often as moves lead to it; all entries are
-    /// reset in one pass over them. The lists of cells that wait grow as they need, to at most two entries a
-    /// cell, and keep their room. After want of memory nothing is told of any cell.
+    /// A cell is settled by the wave of its least cost, and reads its neighbours' entries then; all entries are
+    /// reset in one run over them. The lists of cells that wait grow as they need, and keep their room. After
+    /// want of memory nothing is told of any cell.
     pub fn pass<T: Terrain>(&mut self, t: &T, from: Cell) -> Result<(), NoMemory>
         requires from { is_free (T.grid t.now) from ≡ true }
         requires width { self.old.width ≡ (T.grid t.now).width }
@@ -205,6 +171,14 @@ impl CostWaves {
         ensures { result ≡ firsts_at self.now c }
     {
         self.firsts[number_of(self.width, c) as usize]
+    }
+
+    /// The costs that are told of the cells, in the order of their numbers, row by row from the upper left.
+    pub fn all_costs(&self, alloc: Global) -> Result<Vec<Option<Cost>>, NoMemory>
+        ensures costs { IfOk result (λ costs. costs.items ≡ map spec.cost_told self.now.ranks) }
+        ensures whole { IfOk result (λ costs. length costs.items ≡ self.now.height * self.now.width) }
+    {
+        costs_told(alloc, self.ranks.as_slice())
     }
 
     /// The directions that are told of the cells, a byte for each cell in the order of their numbers.

@@ -13,7 +13,6 @@ pub mod Entries
 pub mod Ascending
 pub mod Pricing
 pub mod Closing
-pub mod Putting
 pub mod ToAll
 pub mod Reaching
 pub mod Oneness

@@ -1,15 +1,13 @@
--- How the lists of a search are made, and the costs of all cells. No public clause cites this module.
-use Rattle.std.specs.Prelude.{◌≡◌, ℕ, ◌+◌, ◌-◌, ◌*◌, ◌/◌, ◌%◌, ◌<◌, nat_lt, if◌then◌else◌, List, Option, Some, None, [], ◌∷◌, slice_get, slice_set, refl}
+-- How the lists of a search are made. No public clause cites this module.
+use Rattle.std.specs.Prelude.{◌≡◌, ℕ, ◌+◌, ◌-◌, ◌*◌, ◌/◌, ◌%◌, ◌<◌, nat_lt, if◌then◌else◌, List, Option, Some, None, slice_get, refl}
 use Rattle.std.specs.List.{filter_map}
 use Rattle.std.specs.List.Sorted.{IsPermutation, IsNonDecreasingBy}
 use Rattle.root2_cost.specs.declared.Cost.{Cost}
 use Rattle.root2_cost.specs.Laws.{HasShortParts}
 use Rattle.root2_cost.specs.Rank.{rank_of, straight_rank, diagonal_rank}
 use Rattle.grid_moves.specs.declared.Cell.{Cell}
-use Rattle.grid_moves.specs.Grid.{cell_number}
 use Rattle.grid_moves.specs.Points.{estimate}
 use Rattle.best_first.specs.declared.node.Node.{Node}
-use Rattle.best_first.specs.Space.{IsPlaced}
 use Rattle.best_first.specs.Trace.{node_cell, rank_left}
 
 -- what a diagonal move counts more than a straight one
@@ -56,21 +54,6 @@ entry_below goal limit n =
 -- those of all nodes
 abbrev pub entries_below : Cell → ℕ → List Node → List (Cell × Cost)
 entries_below goal limit nodes = filter_map (entry_below goal limit) nodes
-
--- the nodes are of cells of a map of this width, with so many cells
-abbrev pub ArePlaced : ℕ → ℕ → List Node → Type 0
-ArePlaced width cells nodes =
-    (id : ℕ) (n : Node) → slice_get nodes id ≡ Some n → IsPlaced width cells (node_cell n)
-
--- these entries, one for each cell, with the node's cost at the number of its cell
-abbrev pub cost_put : Cell → ℕ → Node → List (Option Cost) → List (Option Cost)
-cost_put goal width n costs =
-    slice_set costs (cell_number width (node_cell n)) (Some (cost_of_rank (rank_left goal n)))
-
--- with those of all nodes
-abbrev pub costs_put : Cell → ℕ → List Node → List (Option Cost) → List (Option Cost)
-costs_put goal width [] costs = costs
-costs_put goal width (n ∷ nodes) costs = costs_put goal width nodes (cost_put goal width n costs)
 
 -- cells in the order of their numbers have these numbers in order, whatever the map's width
 abbrev pub place_number : Cell → ℕ

@@ -58,8 +58,8 @@ fn cost_of_rank(rank: u64) -> Cost
     }
 }
 
-/// The cost of a node.
-pub(crate) fn cost_of_node(goal: Cell, node: Node) -> Cost
+// The cost of a node.
+fn cost_of_node(goal: Cell, node: Node) -> Cost
     requires { IsPriced goal node }
     ensures { result ≡ spec.cost_of_rank (rank_left goal node) }
 {

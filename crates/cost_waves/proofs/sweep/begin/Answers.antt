@@ -1,4 +1,4 @@
-use Rattle.std.proofs.Common.{◌≡◌, ℕ, ◌∙◌, ap}
+use Rattle.std.proofs.Common.{ℕ, ◌∙◌, ap}
 use Rattle.grid_moves.specs.Grid.{cell_number}
 use Rattle.cost_waves.specs.Shape.{front_of}
 use Rattle.cost_waves.proofs.Beginning.{begun_by}
@@ -6,7 +6,8 @@ use Rattle.cost_waves.proofs.sweep.begin.Goals as goal
 
 pub returns-clause-ready : goal.returns-clause-ready
 returns-clause-ready g c =
-    begun_by (g.T.Terrain.grid c.args.t.now) c.args.from c.width.ensures.whole c.requires.from c.args.ranks.now
+    begun_by (g.T.Terrain.grid c.args.t.now) c.args.from c.width.ensures.whole c.requires.from
+    c.args.ranks.now
     c.args.firsts.now c.requires.ranked c.requires.begun c.requires.far c.requires.none
     (front_of c.spread.new.ranks c.spread.new.firsts c.spread.new.ahead) c.number_of-at.result
     c.clear.new.self.ahead.next.items c.clear.new.self.ahead.after.items

@@ -11,8 +11,10 @@ returns-in-Ok-clause-tells g c =
     let w = c.self.inside in
     let wide : w.width ≡ (g.T.Terrain.grid c.args.t.now).width =
     ap (λ (w : WaveData). w.width) c.self.view_is ∙ c.requires.width in
-    let r = with_items_is (with_items w.ranks c.forget.new.ranks) c.pass_from-outcome.new.ranks (omega arith) in
-    let f = with_items_is (with_items w.firsts c.forget.new.firsts) c.pass_from-outcome.new.firsts (omega arith) in
+    let r = with_items_is (with_items w.ranks c.forget.new.ranks) c.pass_from-outcome.new.ranks
+    (omega arith) in
+    let f = with_items_is (with_items w.firsts c.forget.new.firsts) c.pass_from-outcome.new.firsts
+    (omega arith) in
     subst (λ (rs : List ℕ). Tells (g.T.Terrain.grid c.args.t.now) c.args.from
     (record {
       width = w.width;
@@ -21,22 +23,31 @@ returns-in-Ok-clause-tells g c =
       firsts = (with_items (with_items w.firsts c.forget.new.firsts) c.pass_from-outcome.new.firsts).items;
     })) (sym r)
     (subst (λ (fs : List ℕ). Tells (g.T.Terrain.grid c.args.t.now) c.args.from
-    (record { width = w.width; height = w.height; ranks = c.pass_from-outcome.new.ranks; firsts = fs })) (sym f)
+    (record { width = w.width; height = w.height; ranks = c.pass_from-outcome.new.ranks; firsts = fs }))
+    (sym f)
     (tells (g.T.Terrain.grid c.args.t.now) c.args.from c.in-Ok.ensures.whole c.pass_from-outcome.new.ranks
     c.pass_from-outcome.new.firsts c.in-Ok.ensures.swept w.width w.height wide))
 
 pub returns-in-Err-clause-forgotten : goal.returns-in-Err-clause-forgotten
 returns-in-Err-clause-forgotten g c =
     let w = c.self.inside in
-    let rs : List ℕ = (with_items (with_items (with_items w.ranks c.forget.new.ranks) c.pass_from-outcome.new.ranks)
+    let rs : List ℕ = (with_items (with_items (with_items w.ranks c.forget.new.ranks)
+    c.pass_from-outcome.new.ranks)
     c.forget-in-Err.new.ranks).items in
-    let fs : List ℕ = (with_items (with_items (with_items w.firsts c.forget.new.firsts) c.pass_from-outcome.new.firsts)
+    let fs : List ℕ = (with_items (with_items (with_items w.firsts c.forget.new.firsts)
+    c.pass_from-outcome.new.firsts)
     c.forget-in-Err.new.firsts).items in
     let r : rs ≡ c.forget-in-Err.new.ranks = with_items_is (with_items (with_items w.ranks c.forget.new.ranks)
     c.pass_from-outcome.new.ranks) c.forget-in-Err.new.ranks (omega arith) in
-    let f : fs ≡ c.forget-in-Err.new.firsts = with_items_is (with_items (with_items w.firsts c.forget.new.firsts)
+    let f : fs ≡ c.forget-in-Err.new.firsts = with_items_is (with_items
+    (with_items w.firsts c.forget.new.firsts)
     c.pass_from-outcome.new.firsts) c.forget-in-Err.new.firsts (omega arith) in
-    subst (λ (ks : List ℕ). IsBlank (record { width = w.width; height = w.height; ranks = ks; firsts = fs })) (sym r)
+    subst (λ (ks : List ℕ). IsBlank (record {
+      width = w.width;
+      height = w.height;
+      ranks = ks;
+      firsts = fs;
+    })) (sym r)
     (subst (λ (ks : List ℕ). IsBlank (record {
       width = w.width;
       height = w.height;
