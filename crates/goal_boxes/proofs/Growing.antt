@@ -1,0 +1,233 @@
+-- A rectangle grows by one cell, and a scan by one place.
+use Rattle.std.proofs.Common.{◌≡◌, ◌≤◌, ◌<◌, ◌+◌, ◌⊎◌, inl, inr, ℕ, Bool, true, false, refl, sym, subst, arith, List, [], ◌∷◌}
+use Rattle.std.specs.Prelude.{nat_lt, Option, Some, None, if◌then◌else◌}
+use Rattle.std.proofs.lemmas.Bool.Decides.{nat_tests}
+use Rattle.grid_moves.specs.declared.Cell.{Cell}
+use Rattle.grid_moves.specs.declared.Dir.{Dir}
+use Rattle.grid_moves.specs.declared.Dir.TheVariants.{N, NE, E, SE, S, SW, W, NW}
+use Rattle.grid_moves.specs.Grid.{GridData, is_inside, is_free}
+use Rattle.grid_moves.specs.Move.{is_legal}
+use Rattle.grid_moves.specs.Walk.{is_walk, last_of}
+use Rattle.grid_moves.proofs.Legal.{same_cell, and_both, free_inside}
+use Rattle.cost_waves.specs.Begin.{Begins}
+use Rattle.cost_waves.specs.Told.{WaveData, begins_with, Tells}
+use Rattle.goal_boxes.specs.declared.area.Area.{Area}
+use Rattle.goal_boxes.specs.declared.around.CellBoxes.{CellBoxes}
+use Rattle.goal_boxes.specs.Box.{holds, IsAreaOf, IsBox, box_in}
+use Rattle.goal_boxes.specs.Wide.{with_cell, widened, Seen}
+
+-- what it is to lie in a rectangle
+pub record LiesIn (a : Area) (c : Cell) : Type 0 where
+  pub left : a.x0 ≤ c.x
+  pub right : c.x ≤ a.x1
+  pub above : a.y0 ≤ c.y
+  pub below : c.y ≤ a.y1
+
+pub lies_in : (a : Area) (c : Cell) → holds a c ≡ true → LiesIn a c
+lies_in a c h = record {
+  left = grind (arith, nat_tests);
+  right = grind (arith, nat_tests);
+  above = grind (arith, nat_tests);
+  below = grind (arith, nat_tests);
+}
+
+pub is_held : (a : Area) (c : Cell) → LiesIn a c → holds a c ≡ true
+is_held a c l =
+    let p = l.left in
+    let q = l.right in
+    let r = l.above in
+    let s = l.below in
+    grind (arith, nat_tests)
+
+-- the lesser and the greater of two numbers
+record IsLesser (m n k : ℕ) : Type 0 where
+  pub first : k ≤ m
+  pub second : k ≤ n
+  pub greatest : (l : ℕ) → l ≤ m → l ≤ n → l ≤ k
+
+record IsGreater (m n k : ℕ) : Type 0 where
+  pub first : m ≤ k
+  pub second : n ≤ k
+  pub least : (l : ℕ) → m ≤ l → n ≤ l → k ≤ l
+
+lesser : (m n : ℕ) → IsLesser m n (if nat_lt m n then m else n)
+lesser m n = by_test (nat_lt m n) refl
+  where
+    by_test : (b : Bool) → nat_lt m n ≡ b → IsLesser m n (if b then m else n)
+    by_test true e = record { first = omega arith; second = (let h : m < n = grind (arith, nat_tests) in omega arith); greatest = λ l p q. p }
+    by_test false e = record { first = (let h : n ≤ m = grind (arith, nat_tests) in h); second = omega arith; greatest = λ l p q. q }
+
+greater : (m n : ℕ) → IsGreater m n (if nat_lt m n then n else m)
+greater m n = by_test (nat_lt m n) refl
+  where
+    by_test : (b : Bool) → nat_lt m n ≡ b → IsGreater m n (if b then n else m)
+    by_test true e = record { first = (let h : m < n = grind (arith, nat_tests) in omega arith); second = omega arith; least = λ l p q. q }
+    by_test false e = record { first = omega arith; second = (let h : n ≤ m = grind (arith, nat_tests) in h); least = λ l p q. p }
+
+module _ (P Q : Cell → Type 0) (more : (c : Cell) → P c → Q c) (new : Cell) (is_new : Q new)
+    (either : (c : Cell) → Q c → (P c) ⊎ (c ≡ new)) where
+  pub grown : (found : Option Area) → IsAreaOf P found → IsAreaOf Q (Some (widened found new))
+  grown None none = record {
+    some = new;
+    is_one = is_new;
+    all = λ c q. elim (either c q) [
+      | inl p ↦ absurd (none c p)
+      | inr e ↦ is_held (widened None new) c (subst (λ (k : Cell). LiesIn (widened None new) k) (sym e)
+          (record { left = omega arith; right = omega arith; above = omega arith; below = omega arith }))
+    ];
+    least = λ b held. let l = lies_in b new (held new is_new) in
+        record { left = l.left; above = l.above; right = l.right; below = l.below };
+  }
+  grown (Some a) area = record {
+    some = new;
+    is_one = is_new;
+    all = λ c q. is_held (with_cell a new) c (by_kind c (either c q));
+    least = λ b held.
+        let l = lies_in b new (held new is_new) in
+        let w = area.least b (λ c p. held c (more c p)) in
+        record {
+          left = (lesser new.x a.x0).greatest b.x0 l.left w.left;
+          above = (lesser new.y a.y0).greatest b.y0 l.above w.above;
+          right = (greater a.x1 new.x).least b.x1 w.right l.right;
+          below = (greater a.y1 new.y).least b.y1 w.below l.below;
+        };
+  }
+    where
+      by_kind : (c : Cell) → (P c) ⊎ (c ≡ new) → LiesIn (with_cell a new) c
+      by_kind c (inl p) =
+          let l = lies_in a c (area.all c p) in
+          let x0 = (lesser new.x a.x0).second in
+          let y0 = (lesser new.y a.y0).second in
+          let x1 = (greater a.x1 new.x).first in
+          let y1 = (greater a.y1 new.y).first in
+          let left = l.left in
+          let right = l.right in
+          let above = l.above in
+          let below = l.below in
+          record { left = omega arith; right = omega arith; above = omega arith; below = omega arith }
+      by_kind c (inr e) = subst (λ (k : Cell). LiesIn (with_cell a new) k) (sym e) (record {
+        left = (lesser new.x a.x0).first;
+        right = (greater a.x1 new.x).second;
+        above = (lesser new.y a.y0).first;
+        below = (greater a.y1 new.y).second;
+      })
+
+-- of the same cells
+pub same_area : (P Q : Cell → Type 0) → ((c : Cell) → P c → Q c) → ((c : Cell) → Q c → P c)
+    → (found : Option Area) → IsAreaOf P found → IsAreaOf Q found
+same_area P Q to back None none = λ c q. none c (back c q)
+same_area P Q to back (Some a) area = record {
+  some = area.some;
+  is_one = to area.some area.is_one;
+  all = λ c q. area.all c (back c q);
+  least = λ b held. area.least b (λ c p. held c (to c p));
+}
+
+module _ (w : WaveData) (d : Dir) where
+  -- one place more: a cell of which the direction is told, or not
+  abbrev cell : ℕ → ℕ → Cell
+  cell y x = record { x = x; y = y }
+
+  more_seen : (y x : ℕ) (c : Cell) → Seen w d y x c → Seen w d y (x + 1) c
+  more_seen y x c s = record {
+    column = s.column;
+    told = s.told;
+    before = elim s.before [ inl h ↦ inl h | inr h ↦ inr (h.0, (let l = h.1 in omega arith)) ];
+  }
+
+  -- what is seen at one place more was seen, or is the cell there
+  seen_or_here : (y x : ℕ) (c : Cell) → Seen w d y (x + 1) c → (Seen w d y x c) ⊎ (c ≡ cell y x)
+  seen_or_here y x c s = elim s.before [
+    | inl h ↦ inl (record { column = s.column; told = s.told; before = inl h })
+    | inr h ↦ by_test h.0 h.1 (nat_lt c.x x) refl
+  ]
+    where
+      by_test : c.y ≡ y → c.x < x + 1 → (b : Bool) → nat_lt c.x x ≡ b → (Seen w d y x c) ⊎ (c ≡ cell y x)
+      by_test e h true t = inl (record { column = s.column; told = s.told; before = inr (e, grind (arith, nat_tests)) })
+      by_test e h false t = inr (same_cell c (cell y x) (let k : x ≤ c.x = grind (arith, nat_tests) in omega arith) e)
+
+  pub seen_told : (y x : ℕ) → x < w.width → begins_with w (cell y x) d ≡ true → (found : Option Area)
+      → IsAreaOf (Seen w d y x) found → IsAreaOf (Seen w d y (x + 1)) (Some (widened found (cell y x)))
+  seen_told y x h t = grown (Seen w d y x) (Seen w d y (x + 1)) (more_seen y x) (cell y x)
+      (record { column = h; told = t; before = inr (refl, omega arith) }) (seen_or_here y x)
+
+  pub seen_untold : (y x : ℕ) → begins_with w (cell y x) d ≡ false → (found : Option Area)
+      → IsAreaOf (Seen w d y x) found → IsAreaOf (Seen w d y (x + 1)) found
+  seen_untold y x f = same_area (Seen w d y x) (Seen w d y (x + 1)) (more_seen y x)
+      (λ c s. elim (seen_or_here y x c s) [
+        | inl p ↦ p
+        | inr e ↦ absurd (let t : begins_with w (cell y x) d ≡ true = subst (λ (k : Cell). begins_with w k d ≡ true) e s.told in cc)
+      ])
+
+  -- a whole row
+  pub row_seen : (y : ℕ) (found : Option Area) → IsAreaOf (Seen w d y w.width) found
+      → IsAreaOf (Seen w d (y + 1) 0) found
+  row_seen y = same_area (Seen w d y w.width) (Seen w d (y + 1) 0)
+      (λ c s. record {
+        column = s.column;
+        told = s.told;
+        before = inl (elim s.before [ inl h ↦ omega arith | inr h ↦ (let e = h.0 in omega arith) ]);
+      })
+      (λ c s. record {
+        column = s.column;
+        told = s.told;
+        before = elim s.before [
+          | inl h ↦ by_test s.column h (nat_lt c.y y) refl
+          | inr h ↦ absurd (let l = h.1 in omega arith)
+        ];
+      })
+    where
+      by_test : {c : Cell} → c.x < w.width → c.y < y + 1 → (b : Bool) → nat_lt c.y y ≡ b
+          → (c.y < y) ⊎ ((c.y ≡ y) × (c.x < w.width))
+      by_test {c} l h true t = inl (grind (arith, nat_tests))
+      by_test {c} l h false t = inr ((let k : y ≤ c.y = grind (arith, nat_tests) in omega arith), l)
+
+  -- before any row
+  pub none_seen : IsAreaOf (Seen w d 0 0) None
+  none_seen c s = elim s.before [ inl h ↦ omega arith | inr h ↦ (let l = h.1 in omega arith) ]
+
+-- where some least walk ends lies on the map
+end_free : (g : GridData) (u : Cell) (cells : List Cell) → is_walk g (u ∷ cells) ≡ true
+    → is_free g (last_of u cells) ≡ true
+end_free g u [] w = w
+end_free g u (v ∷ cells) w = end_free g v cells (and_both (is_legal g u v) (is_walk g (v ∷ cells)) w).1
+
+end_of_walk : (g : GridData) (u t : Cell) (d : Dir) → Begins g u t d → is_free g t ≡ true
+end_of_walk g u t d b =
+    let w = b.least.walk in
+    subst (λ (v : Cell). is_free g v ≡ true) w.ends (end_free g u (b.next ∷ b.cells) w.legal)
+
+-- what was seen when all rows were is what begins so
+pub all_seen : (g : GridData) (u : Cell) (w : WaveData) → w.width ≡ g.width → w.height ≡ g.height → Tells g u w
+    → (d : Dir) (found : Option Area) → IsAreaOf (Seen w d w.height 0) found → IsBox g u d found
+all_seen g u w wide high tells d = same_area (Seen w d w.height 0) (λ t. Begins g u t d)
+    (λ c s. (tells.firsts c d (inside c s)).0 s.told)
+    (λ c b.
+    let i = free_inside g c (end_of_walk g u c d b) in
+    let x = i.0 in
+    let y = i.1 in
+    record {
+      column = omega arith;
+      told = (tells.firsts c d (on_map c x y)).1 b;
+      before = inl (omega arith);
+    })
+  where
+    on_map : (c : Cell) → c.x < g.width → c.y < g.height → is_inside g c ≡ true
+    on_map c x y = grind (arith, nat_tests)
+
+    inside : (c : Cell) → Seen w d w.height 0 c → is_inside g c ≡ true
+    inside c s =
+        let x = s.column in
+        on_map c (omega arith) (elim s.before [ inl h ↦ omega arith | inr h ↦ absurd (let l = h.1 in omega arith) ])
+
+-- a box for each direction
+pub each_dir : (P : Dir → Option Area → Type 0) (b : CellBoxes) → P N b.n → P NE b.ne → P E b.e → P SE b.se
+    → P S b.s → P SW b.sw → P W b.w → P NW b.nw → (d : Dir) → P d (box_in b d)
+each_dir P b n ne e se s sw w nw N = n
+each_dir P b n ne e se s sw w nw NE = ne
+each_dir P b n ne e se s sw w nw E = e
+each_dir P b n ne e se s sw w nw SE = se
+each_dir P b n ne e se s sw w nw S = s
+each_dir P b n ne e se s sw w nw SW = sw
+each_dir P b n ne e se s sw w nw W = w
+each_dir P b n ne e se s sw w nw NW = nw

@@ -1,0 +1,8 @@
+mod Growing
+mod Storing
+mod Moves
+mod Posed
+mod Shapes
+mod Offering
+mod Right
+mod Concluding

@@ -1,0 +1,67 @@
+-- Boxes are kept cell by cell.
+use Rattle.std.proofs.Common.{◌≡◌, ◌<◌, ◌≤◌, ◌+◌, ◌*◌, ℕ, Bool, true, false, refl, ap, sym, ◌∙◌, subst, arith, List, [], ◌∷◌, ◌++◌, length, get_or}
+use Rattle.std.specs.Prelude.{nat_lt}
+use Rattle.std.proofs.lemmas.Bool.Decides.{nat_tests}
+use Rattle.std.proofs.lemmas.List.{get_or_append_left}
+use Rattle.std.proofs.Math.Seq.{get_or-append_seam}
+use Rattle.grid_moves.specs.declared.Cell.{Cell}
+use Rattle.grid_moves.specs.Grid.{GridData, cell_number, is_free}
+use Rattle.grid_moves.proofs.Legal.{free_inside}
+use Rattle.grid_moves.proofs.Places.{one_cell, number_below}
+use Rattle.goal_boxes.specs.declared.around.CellBoxes.{CellBoxes}
+use Rattle.goal_boxes.specs.Box.{AreBoxes}
+use Rattle.goal_boxes.specs.Stored.{no_boxes, boxes_at, HoldsBoxes, AreBefore}
+
+length-one_more : (cells : List CellBoxes) (b : CellBoxes) → length (cells ++ b ∷ []) ≡ length cells + 1
+length-one_more [] b = refl
+length-one_more (x ∷ cells) b = let e = length-one_more cells b in omega arith
+
+module _ (g : GridData) where
+  pub none_before : AreBefore g [] 0
+  none_before = record { count = refl; boxes = λ c f h. absurd (omega arith) }
+
+  -- one cell more
+  pub one_before : (cells : List CellBoxes) (n : ℕ) (u : Cell) (b : CellBoxes) → u.x < g.width
+      → cell_number g.width u ≡ n → (is_free g u ≡ true → AreBoxes g u b) → AreBefore g cells n
+      → AreBefore g (cells ++ b ∷ []) (n + 1)
+  one_before cells n u b on e new k = record {
+    count = length-one_more cells b ∙ ap (λ (m : ℕ). m + 1) k.count;
+    boxes = λ c f h. by_test c f h (nat_lt (cell_number g.width c) n) refl;
+  }
+    where
+      last : (c : Cell) → is_free g c ≡ true → c ≡ u
+          → AreBoxes g c (get_or (cells ++ b ∷ []) (cell_number g.width c) no_boxes)
+      last c f same =
+          let at : cell_number g.width c ≡ length cells =
+          ap (λ (v : Cell). cell_number g.width v) same ∙ e ∙ sym k.count in
+          let there : get_or (cells ++ b ∷ []) (cell_number g.width c) no_boxes ≡ b =
+          ap (λ (m : ℕ). get_or (cells ++ b ∷ []) m no_boxes) at ∙ get_or-append_seam cells b [] no_boxes in
+          subst (λ (x : CellBoxes). AreBoxes g c x) (sym there)
+          (subst (λ (v : Cell). AreBoxes g v b) (sym same) (new (ap (λ (v : Cell). is_free g v) (sym same) ∙ f)))
+
+      by_test : (c : Cell) → is_free g c ≡ true → cell_number g.width c < n + 1 → (t : Bool)
+          → nat_lt (cell_number g.width c) n ≡ t
+          → AreBoxes g c (get_or (cells ++ b ∷ []) (cell_number g.width c) no_boxes)
+      by_test c f h true t =
+          let l : cell_number g.width c < n = grind (arith, nat_tests) in
+          let m : cell_number g.width c < length cells = let q = k.count in omega arith in
+          subst (λ (x : CellBoxes). AreBoxes g c x)
+          (sym (get_or_append_left cells (b ∷ []) no_boxes (cell_number g.width c) m)) (k.boxes c f l)
+      by_test c f h false t =
+          let l : n ≤ cell_number g.width c = grind (arith, nat_tests) in
+          let m : cell_number g.width c ≡ n = omega arith in
+          last c f (one_cell g.width c u (free_inside g c f).0 on (m ∙ sym e))
+
+  -- all cells
+  pub all_kept : (width height : ℕ) (cells : List CellBoxes) → width ≡ g.width → height ≡ g.height
+      → AreBefore g cells (g.height * g.width)
+      → HoldsBoxes g (record { width = width; height = height; cells = cells })
+  all_kept width height cells wide high k = record {
+    width = wide;
+    height = high;
+    boxes = λ c f.
+        let i = free_inside g c f in
+        let below = number_below g.width g.height c i.0 i.1 in
+        subst (λ (n : ℕ). AreBoxes g c (boxes_at (record { width = n; height = height; cells = cells }) c)) (sym wide)
+        (k.boxes c f below);
+  }

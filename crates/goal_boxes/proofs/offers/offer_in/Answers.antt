@@ -1,0 +1,8 @@
+use Rattle.std.proofs.Common.{sym, ◌∙◌}
+use Rattle.goal_boxes.proofs.Shapes.{placed_on}
+use Rattle.goal_boxes.proofs.offers.offer_in.Goals as goal
+
+pub offer_over-requires-clause-may : goal.offer_over-requires-clause-may
+offer_over-requires-clause-may g c = λ v e.
+    let p = c.requires.may _ v (sym c.toward-to.ensures ∙ e) in
+    (placed_on {a = c.args.space.now} {b = c.loop-d.space} c.loop-d.invariant.shape v p.0, p.1)

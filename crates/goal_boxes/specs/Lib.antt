@@ -1,0 +1,7 @@
+pub mod Box
+pub mod Wide
+pub mod Stored
+pub mod Rule
+pub mod Answer
+pub mod Offers
+pub mod Progress

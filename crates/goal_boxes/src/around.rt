@@ -1,0 +1,115 @@
+//! The eight boxes of one cell, from one pass from it.
+
+ghost use Rattle.std.specs.Prelude.{◌≡◌, ◌+◌, ◌<◌, true, OnOk, IfOk};
+ghost use Rattle.grid_moves.specs.Grid.{is_free};
+ghost use Rattle.cost_waves.specs.Told.{begins_with};
+ghost use Rattle.goal_boxes.specs.Box.{IsAreaOf, AreBoxes, box_in};
+ghost use Rattle.goal_boxes.specs.Wide.{Seen};
+
+use crate::area::widened;
+use crate::{Area, NoMemory};
+use cost_waves::CostWaves;
+use grid_moves::{Cell, Dir, Terrain};
+use std::alloc::Global;
+
+/// The boxes of a cell, one for each direction; `None` where no least walk begins with a move in it.
+#[derive(Clone, Copy, Debug, PartialEq, Eq)]
+pub struct CellBoxes {
+    pub n: Option<Area>,
+    pub ne: Option<Area>,
+    pub e: Option<Area>,
+    pub se: Option<Area>,
+    pub s: Option<Area>,
+    pub sw: Option<Area>,
+    pub w: Option<Area>,
+    pub nw: Option<Area>,
+}
+
+impl CellBoxes {
+    /// The box in this direction.
+    #[inline(always)]
+    pub fn toward(self, d: Dir) -> Option<Area>
+        ensures { result ≡ box_in self d }
+    {
+        match d {
+            Dir::N => self.n,
+            Dir::NE => self.ne,
+            Dir::E => self.e,
+            Dir::SE => self.se,
+            Dir::S => self.s,
+            Dir::SW => self.sw,
+            Dir::W => self.w,
+            Dir::NW => self.nw,
+        }
+    }
+}
+
+// Whether the cell belongs in the box of the direction: some least walk to it begins so.
+#[inline(always)]
+fn belongs(waves: &CostWaves, c: Cell, d: Dir) -> bool
+    requires column { c.x < waves.now.width }
+    requires row { c.y < waves.now.height }
+    ensures { result ≡ begins_with waves.now c d }
+{
+    waves.begins(c, d)
+}
+
+// Goes on over one row.
+#[inline(always)]
+fn over_row(waves: &CostWaves, d: Dir, y: u16, before: Option<Area>) -> Option<Area>
+    requires row { y < waves.now.height }
+    ensures { IsAreaOf (Seen waves.now d y 0) before → IsAreaOf (Seen waves.now d (y + 1) 0) result }
+{
+    let mut found = before;
+    for x in 0..waves.width() {
+        let c = Cell { x, y };
+        if belongs(waves, c, d) {
+            found = widened(found, c);
+        }
+    }
+    found
+}
+
+// The least rectangle that holds each cell of which the direction is told.
+fn box_toward(waves: &CostWaves, d: Dir) -> Option<Area>
+    ensures { IsAreaOf (Seen waves.now d waves.now.height 0) result }
+{
+    let mut found = None;
+    for y in 0..waves.height() {
+        found = over_row(waves, d, y, found);
+    }
+    found
+}
+
+/// The boxes of a free cell, by memory that is lent: it has to be made for maps of these sides, and is used
+/// again as often as wanted.
+pub fn boxes_by<T: Terrain>(waves: &mut CostWaves, t: &T, u: Cell) -> Result<CellBoxes, NoMemory>
+    requires free { is_free (T.grid t.now) u ≡ true }
+    requires width { waves.old.width ≡ (T.grid t.now).width }
+    requires height { waves.old.height ≡ (T.grid t.now).height }
+    ensures boxes { IfOk result (AreBoxes (T.grid t.now) u) }
+    ensures width { waves.new.width ≡ waves.old.width }
+    ensures height { waves.new.height ≡ waves.old.height }
+{
+    waves.pass(t, u)?;
+    Ok(CellBoxes {
+        n: box_toward(waves, Dir::N),
+        ne: box_toward(waves, Dir::NE),
+        e: box_toward(waves, Dir::E),
+        se: box_toward(waves, Dir::SE),
+        s: box_toward(waves, Dir::S),
+        sw: box_toward(waves, Dir::SW),
+        w: box_toward(waves, Dir::W),
+        nw: box_toward(waves, Dir::NW),
+    })
+}
+
+/// The boxes of a free cell: in each direction the least rectangle that holds every cell to which some least
+/// walk begins so, and `None` where there is no such cell.
+pub fn boxes_of<T: Terrain>(alloc: Global, t: &T, u: Cell) -> Result<CellBoxes, NoMemory>
+    requires { is_free (T.grid t.now) u ≡ true }
+    ensures { IfOk result (AreBoxes (T.grid t.now) u) }
+{
+    let mut waves = CostWaves::new(alloc, t.width(), t.height())?;
+    boxes_by(&mut waves, t, u)
+}

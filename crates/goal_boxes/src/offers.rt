@@ -1,0 +1,168 @@
+//! The offers of a taken state: its legal moves whose boxes hold the goal.
+
+ghost use Rattle.std.specs.Prelude.{◌≡◌, ◌+◌, ◌<◌, ◌≤◌, ◌^◌, ◌∷◌, [], true, length, slice_get, Some};
+ghost use Rattle.best_first.specs.Space.{IsPlaced, KeepsShape};
+ghost use Rattle.best_first.specs.Table.{node_for, ClosedBelow};
+ghost use Rattle.grid_moves.specs.Grid.{IsGrid, is_free};
+ghost use Rattle.grid_moves.specs.Move.{all_dirs};
+ghost use Rattle.plain_search.specs.Offers.{cost_to, offer_to};
+ghost use Rattle.goal_boxes.specs.Offers.{toward, offered_over, all_offered, MayOffer, MayExpand, HasExpanded};
+ghost use Rattle.goal_boxes.specs.Rule.{is_toward};
+ghost use Rattle.goal_boxes.specs.Stored.{HoldsBoxes, box_at};
+
+use crate::Boxes;
+use best_first::{Layout, Offer, Space, State};
+use grid_moves::{ALL_DIRS, Cell, Dir, Terrain, step};
+use root2_cost::Cost;
+use std::sync::ledger::Ledger;
+use steps::Steps;
+
+// The taken state that offers: its node's number and key, the rank of its cost, its cell, and the goal.
+#[derive(Clone, Copy)]
+struct Source {
+    id: u32,
+    key: u64,
+    rank: u64,
+    cell: Cell,
+    goal: Cell,
+}
+
+// What a move in a direction costs.
+#[inline(always)]
+fn cost_to(d: Dir) -> Cost
+    ensures { result ≡ cost_to d }
+{
+    match d {
+        Dir::N | Dir::E | Dir::S | Dir::W => Cost { a: 1, b: 0 },
+        Dir::NE | Dir::SE | Dir::SW | Dir::NW => Cost { a: 0, b: 1 },
+    }
+}
+
+// The offer of a move.
+#[inline(always)]
+fn offer_to(from: Source, to: Cell, d: Dir) -> Offer
+    requires { from.rank < 2 ^ 62 }
+    ensures value { result ≡ offer_to from.id from.rank to d }
+    ensures fits { result.rank < 2 ^ 63 }
+{
+    Offer {
+        rank: from.rank + cost_to(d).rank(),
+        parent: from.id,
+        to: State {
+            cell: to,
+            arrival: Some(d),
+        },
+    }
+}
+
+// Whether the box of a cell in a direction holds the goal.
+#[inline(always)]
+fn is_toward(b: &Boxes, c: Cell, d: Dir, goal: Cell) -> bool
+    requires column { c.x < b.now.width }
+    requires row { c.y < b.now.height }
+    ensures { result ≡ is_toward goal (box_at b.now c d) }
+{
+    match b.area(c, d) {
+        Some(area) => area.holds(goal),
+        None => false,
+    }
+}
+
+// Where the move in a direction leads, if it is legal and its box holds the goal.
+#[inline(always)]
+fn toward<T: Terrain>(t: &T, b: &Boxes, c: Cell, d: Dir, goal: Cell) -> Option<Cell>
+    requires column { c.x < b.now.width }
+    requires row { c.y < b.now.height }
+    ensures { result ≡ toward (T.grid t.now) b.now goal c d }
+{
+    if is_toward(b, c, d, goal) {
+        step(t, c, d)
+    } else {
+        None
+    }
+}
+
+// Offers a move, if there is one.
+#[inline(always)]
+fn offer_over<L: Ledger>(
+    space: &mut Space,
+    from: Source,
+    to: Option<Cell>,
+    d: Dir,
+    steps: &mut Steps<L>,
+)
+    requires layout { space.old.layout ≡ Layout.ByCell }
+    requires narrow { space.old.width ≤ 4096 }
+    requires short { from.rank < 2 ^ 62 }
+    requires may { (v : _) → to ≡ Some v → IsPlaced space.old.width space.old.places v
+        × (from.key ≤ (node_for from.goal (offer_to from.id from.rank v d)).key) }
+    requires closed { ClosedBelow from.key space.old.table }
+    requires room { 1 ≤ space.old.spare }
+    ensures table { space.new.table ≡ offered_over from.goal from.id from.rank d to space.old.table }
+    ensures shape { KeepsShape space.old space.new }
+    ensures closed { ClosedBelow from.key space.new.table }
+    ensures spare { space.old.spare ≤ space.new.spare + 1 }
+{
+    if let Some(v) = to {
+        space.offer_by_cell(from.goal, offer_to(from, v, d), steps);
+    }
+}
+
+// Makes the offers in these directions, in their order.
+fn offer_in<T: Terrain, L: Ledger>(
+    t: &T,
+    b: &Boxes,
+    from: Source,
+    dirs: &[Dir],
+    space: &mut Space,
+    steps: &mut Steps<L>,
+)
+    requires column { from.cell.x < b.now.width }
+    requires row { from.cell.y < b.now.height }
+    requires layout { space.old.layout ≡ Layout.ByCell }
+    requires narrow { space.old.width ≤ 4096 }
+    requires short { from.rank < 2 ^ 62 }
+    requires may { MayOffer (T.grid t.now) b.now from.goal from.id from.key from.rank from.cell space.old }
+    requires closed { ClosedBelow from.key space.old.table }
+    requires room { length dirs.now ≤ space.old.spare }
+    ensures table { space.new.table
+        ≡ all_offered (T.grid t.now) b.now from.goal from.id from.rank from.cell dirs.now space.old.table }
+    ensures shape { KeepsShape space.old space.new }
+{
+    for d in dirs {
+        let to = toward(t, b, from.cell, *d, from.goal);
+        offer_over(space, from, to, *d, steps);
+    }
+}
+
+/// Offers the legal moves from the node of that number whose boxes hold the goal, in increasing order of
+/// direction. There is room for them.
+pub(crate) fn offer_all<T: Terrain, L: Ledger>(
+    t: &T,
+    b: &Boxes,
+    goal: Cell,
+    at: u32,
+    space: &mut Space,
+    steps: &mut Steps<L>,
+)
+    requires boxes { HoldsBoxes (T.grid t.now) b.now }
+    requires known { at < length space.old.table.nodes }
+    requires layout { space.old.layout ≡ Layout.ByCell }
+    requires narrow { space.old.width ≤ 4096 }
+    requires room { 8 ≤ space.old.spare }
+    requires may { (n : _) → slice_get space.old.table.nodes at ≡ Some n
+        → MayExpand (T.grid t.now) b.now goal at n space.old }
+    ensures expanded { (n : _) → slice_get space.old.table.nodes at ≡ Some n
+        → HasExpanded (T.grid t.now) b.now goal at n space.old.table space.new.table }
+    ensures shape { KeepsShape space.old space.new }
+{
+    let node = space.node(at);
+    let from = Source {
+        id: at,
+        key: node.key,
+        rank: node.cost_rank(goal),
+        cell: node.place.cell(),
+        goal,
+    };
+    offer_in(t, b, from, &ALL_DIRS, space, steps);
+}
