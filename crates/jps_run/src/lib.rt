@@ -3,6 +3,9 @@
 
 mod answers;
 mod check;
+mod draw;
+#[cfg(test)]
+mod draw_tests;
 mod drill;
 mod faults;
 mod files;

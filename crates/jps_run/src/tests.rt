@@ -78,7 +78,7 @@ fn call<L: Ledger>(
 
 // A call: its words, the files `m` and `s`, and which read and which write fail.
 #[derive(Clone, Copy)]
-struct Request<'a> {
+pub(crate) struct Request<'a> {
     words: &'a [&'a str],
     map: &'a [u8],
     second: &'a [u8],
@@ -87,7 +87,7 @@ struct Request<'a> {
 }
 
 // A call has this status, this output and this line.
-fn check(
+pub(crate) fn check(
     alloc: Global,
     rt: &impl Abort,
     made: Request<'_>,
@@ -121,7 +121,7 @@ const SOLVE: &[&str] = &["solve", "m", "s"];
 const SCEN: &[&str] = &["scen", "m", "s"];
 
 // A call of these words on this map, with nothing else held and nothing failing.
-fn on_map<'a>(words: &'a [&'a str], map: &'a [u8]) -> Request<'a> {
+pub(crate) fn on_map<'a>(words: &'a [&'a str], map: &'a [u8]) -> Request<'a> {
     Request {
         words,
         map,
