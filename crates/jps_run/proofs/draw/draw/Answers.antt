@@ -1,4 +1,4 @@
-use Rattle.std.proofs.Common.{refl, subst, inr, ◌∙◌, [], ◌∷◌}
+use Rattle.std.proofs.Common.{refl, subst, inr, [], ◌∷◌}
 use Rattle.map_text.specs.Map.{Map}
 use Rattle.map_text.specs.Faults.{plain}
 use Rattle.edit_replay.specs.Session.{SessionData}
