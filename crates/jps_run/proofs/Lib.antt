@@ -19,3 +19,4 @@ pub mod Serving
 pub mod Printing
 pub mod Counts
 pub mod Rising
+pub mod Pictured

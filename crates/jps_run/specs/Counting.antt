@@ -15,7 +15,7 @@ use Rattle.script_text.specs.declared.command.Command.TheVariants as command
 use Rattle.script_text.specs.Faults.{script_of}
 use Rattle.scen_text.specs.declared.entry.Entry.{Entry}
 use Rattle.scen_text.specs.Faults.{scen_of}
-use Rattle.word_list.specs.Request.{Asked, Call, Help, Version, Query, Solve, Live, Scen, Prove, Check, Make, Drill}
+use Rattle.word_list.specs.Request.{Asked, Call, Help, Version, Query, Solve, Live, Scen, Prove, Check, Make, Drill, Draw}
 use Rattle.word_list.specs.declared.request.Settings.{Settings}
 use Rattle.jps_run.specs.Answers.{edits_with}
 use Rattle.jps_run.specs.Files.{AreAccepted}
@@ -77,6 +77,7 @@ searches (Prove map sx sy gx gy) = false
 searches (Check map cert) = false
 searches (Make seed w h percent) = false
 searches (Drill seed) = true
+searches (Draw map sx sy gx gy) = true
 
 -- the counter rose as the searches of a call make it, on the texts of its files
 pub data RoseFor : Call → List (List ℕ) → ℕ → ℕ → Type 0 where
@@ -97,6 +98,10 @@ pub data RoseFor : Call → List (List ℕ) → ℕ → ℕ → Type 0 where
       → RoseBy (session_on set (made_map seed 256 256 25))
       (CommandsTake (session_on set (made_map seed 256 256 25)) (drill_commands seed)) old new
       → RoseFor (call_with (Drill seed) set) [] old new
+  drawn : (map text : List ℕ) (sx sy gx gy : ℕ) (set : Settings) (m : Map) (old new : ℕ)
+      → map_of text ≡ Ok m
+      → RoseBy (session_on set m) (CommandsTake (session_on set m) (command.Query sx sy gx gy ∷ [])) old new
+      → RoseFor (call_with (Draw map sx sy gx gy) set) (text ∷ []) old new
 
 -- it rose as the commands of the script make it that came in
 pub record RoseHeard (d : SessionData) (input : Option (List ℕ)) (old new : ℕ) : Type 0 where

@@ -25,3 +25,4 @@ pub mod Judging
 pub mod Drill
 pub mod Drilling
 pub mod Certificates
+pub mod Pictures

@@ -1,7 +1,8 @@
 -- What a call is opened as: the work that is left to be done once its files are read. No public clause cites this module.
-use Rattle.std.specs.Prelude.{◌≡◌, ℕ, ◌≤◌, ◌^◌, ◌⊎◌, true, false, ⊤, List, [], length, Result}
+use Rattle.std.specs.Prelude.{◌≡◌, ℕ, ◌≤◌, ◌^◌, ◌⊎◌, true, false, ⊤, List, [], ◌∷◌, length, Result}
 use Rattle.io_edge.specs.Causes.{Rose}
 use Rattle.io_edge.specs.Told.{Disk, Held}
+use Rattle.script_text.specs.declared.command.Command.TheVariants as command
 use Rattle.word_list.specs.Request.{Call}
 use Rattle.jps_run.specs.Answering.{IsSolved}
 use Rattle.jps_run.specs.Counting.{CommandsTake, EntriesTake, RoseBy, RoseFor, searches}
@@ -10,6 +11,7 @@ use Rattle.jps_run.specs.Files.{AreAccepted, File, FileRose, HasRefused}
 use Rattle.jps_run.specs.Heard.{OnLive}
 use Rattle.jps_run.specs.Judging.{IsJudged}
 use Rattle.jps_run.specs.Outcome.{IsAnswered, files_of, reads_input}
+use Rattle.jps_run.specs.Pictures.{IsPictured}
 use Rattle.jps_run.specs.Reading.{AreKept}
 use Rattle.jps_run.specs.Sending.{IsText}
 use Rattle.jps_run.specs.Stops.{Stops, Ends}
@@ -26,6 +28,8 @@ abbrev pub IsWhole : Work → List (List ℕ) → ℕ → Type 0
 IsWhole (work.Answer job commands) = IsSolved job commands.items
 IsWhole (work.Judge session entries) = IsJudged (record { session = session; tally = tally_of [] }) entries.items
 IsWhole (work.Drill session commands) = IsDrilled (record { session = session; sums = sums_of [] }) commands.items
+IsWhole (work.Draw canvas ends show) =
+    IsPictured canvas (record { x = ends.sx; y = ends.sy }) (record { x = ends.gx; y = ends.gy }) show
 IsWhole (work.Print text status) = IsText text.items status
 IsWhole (work.Say text) = IsText text.now 0
 
@@ -34,6 +38,8 @@ abbrev pub HasRisen : Work → ℕ → ℕ → Type 0
 HasRisen (work.Answer job commands) old new = RoseBy job.session (CommandsTake job.session commands.items) old new
 HasRisen (work.Judge session entries) old new = RoseBy session (EntriesTake session entries.items) old new
 HasRisen (work.Drill session commands) old new = RoseBy session (CommandsTake session commands.items) old new
+HasRisen (work.Draw canvas ends show) old new = RoseBy canvas.session
+    (CommandsTake canvas.session (command.Query ends.sx ends.sy ends.gx ends.gy ∷ [])) old new
 HasRisen (work.Print text status) old new = ⊤
 HasRisen (work.Say text) old new = ⊤
 
@@ -42,6 +48,7 @@ abbrev pub CanPerform : Work → Type 0
 CanPerform (work.Answer job commands) = ⊤
 CanPerform (work.Judge session entries) = AreKept entries.items
 CanPerform (work.Drill session commands) = length commands.items ≤ 2 ^ 32
+CanPerform (work.Draw canvas ends show) = ⊤
 CanPerform (work.Print text status) = ⊤
 CanPerform (work.Say text) = ⊤
 

@@ -14,7 +14,7 @@ use Rattle.scen_text.specs.Faults.{scen_of}
 use Rattle.potential_check.specs.Text.{certificate_of, plain}
 use Rattle.potential_check.specs.declared.certificate.Certificate.{Certificate}
 use Rattle.word_list.specs.Calls.{call_of, is_call}
-use Rattle.word_list.specs.Request.{Asked, Call, Help, Version, Query, Solve, Live, Scen, Prove, Check, Make, Drill}
+use Rattle.word_list.specs.Request.{Asked, Call, Help, Version, Query, Solve, Live, Scen, Prove, Check, Make, Drill, Draw}
 use Rattle.word_list.specs.Rule.{IsBadWord}
 use Rattle.word_list.specs.declared.request.Settings.{Settings}
 use Rattle.jps_run.specs.Answers.{AreAnswers}
@@ -24,6 +24,7 @@ use Rattle.jps_run.specs.declared.drill.Finding.{Finding}
 use Rattle.jps_run.specs.FaultLines.{word_line}
 use Rattle.jps_run.specs.Files.{File, AreAccepted, HasRefused}
 use Rattle.jps_run.specs.Heard.{AreHeard}
+use Rattle.jps_run.specs.Pictures.{IsDrawing}
 use Rattle.jps_run.specs.Rows.{AreRows, scen_lines, scen_status}
 use Rattle.jps_run.specs.Session.{corner_of, session_on}
 use Rattle.jps_run.specs.Texts.{help_text, version_text}
@@ -51,6 +52,7 @@ files_of (Check map cert) =
     record { kind = kind.Map; name = map } ∷ record { kind = kind.Cert; name = cert } ∷ []
 files_of (Make seed w h percent) = []
 files_of (Drill seed) = []
+files_of (Draw map sx sy gx gy) = record { kind = kind.Map; name = map } ∷ []
 files_of (Scen map scen) =
     record { kind = kind.Map; name = map } ∷ record { kind = kind.Scen; name = scen } ∷ []
 
@@ -90,6 +92,11 @@ pub data IsAnswered : Call → List (List ℕ) → List (List ℕ) → ℕ → T
       (canonical_text (made_map seed w h percent) ∷ []) 0
   drilled : (seed : ℕ) (set : Settings) (found : List Finding) → AreDrilled set seed found
       → IsAnswered (call_with (Drill seed) set) [] (drill_line found ∷ []) 0
+  drawn : (map text : List ℕ) (sx sy gx gy : ℕ) (set : Settings) (m : Map) (printed : List ℕ) (status : ℕ)
+      → map_of text ≡ Ok m
+      → IsDrawing (session_on set m) m (record { x = sx; y = sy }) (record { x = gx; y = gy }) set.show
+      printed status
+      → IsAnswered (call_with (Draw map sx sy gx gy) set) (text ∷ []) (printed ∷ []) status
 
 -- the lines and the status are a right output of a call, with the files that are held
 pub record IsOutput (call : Call) (holds : List ℕ → Held) (lines : List (List ℕ)) (status : ℕ) : Type 0 where

@@ -265,7 +265,7 @@ pub(crate) fn drill(alloc: Global, seed: u64, settings: Settings) -> Result<Work
     ensures { IfOk result (IsWorkOf (call_with (asked.Drill seed) settings) []) }
 {
     let map = map_maker::make(alloc, seed, SIDE, SIDE, PERCENT)?;
-    let session = Session::of_map(alloc, &map, settings)?;
+    let session = Session::of_map(alloc, map, settings)?;
     let commands = drill_script(alloc, seed)?;
     Ok(Work::Drill { session, commands })
 }

@@ -190,8 +190,8 @@ pub(crate) trait OfMap: Drop + Sized {
     ghost is_of_map: { Settings → Map → Self → Type 0 };
 
     /// The value of the map.
-    fn of_map(alloc: Global, map: &MapText, settings: Settings) -> Result<Self, NoMemory>
-        ensures { IfOk result (is_of_map settings (plain map.now)) };
+    fn of_map(alloc: Global, map: MapText, settings: Settings) -> Result<Self, NoMemory>
+        ensures { IfOk result (is_of_map settings (plain map)) };
 }
 
 impl OfMap for Session {
@@ -199,10 +199,10 @@ impl OfMap for Session {
 
     ghost is_of_map = { IsSessionOn };
 
-    fn of_map(alloc: Global, map: &MapText, settings: Settings) -> Result<Session, NoMemory> {
+    fn of_map(alloc: Global, map: MapText, settings: Settings) -> Result<Session, NoMemory> {
         Session::new(
             alloc,
-            map,
+            &map,
             engine_of(settings.pick),
             corner_of(settings.one),
         )
@@ -222,7 +222,7 @@ pub(crate) fn read_map_file<F: Files, M: OfMap>(
     ensures later { NoneFell (F.disk files.old).faults (F.disk files.new).faults }
 {
     let map: MapText = read_file(alloc, files, name)?;
-    let made = M::of_map(alloc, &map, settings)?;
+    let made = M::of_map(alloc, map, settings)?;
     Ok(made)
 }
 

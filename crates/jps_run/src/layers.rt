@@ -35,7 +35,7 @@ impl OfMap for Layers {
 
     ghost is_of_map = { AreLayersOf };
 
-    fn of_map(alloc: Global, map: &MapText, settings: Settings) -> Result<Layers, NoMemory> {
+    fn of_map(alloc: Global, map: MapText, settings: Settings) -> Result<Layers, NoMemory> {
         let cells = map.cells.as_slice();
         let corner = corner_of(settings.one);
         let land = Grid::of_layer(alloc, map.width, map.height, cells, corner, Ground::Land)?;

@@ -5,6 +5,9 @@
 mod ample_tests;
 mod answers;
 mod check;
+mod draw;
+#[cfg(test)]
+mod draw_tests;
 mod drill;
 mod faults;
 mod files;

@@ -27,8 +27,8 @@ pub(crate) struct Printed {
     pub(crate) status: u8,
 }
 
-// A line of a query without a certificate.
-fn said(alloc: Global, line: &[u8]) -> Result<Printed, NoMemory>
+/// A line in place of what was asked for, with status 1.
+pub(crate) fn said(alloc: Global, line: &[u8]) -> Result<Printed, NoMemory>
     ensures text { IfOk result (λ p. p.text.items ≡ line.now) }
     ensures status { IfOk result (λ p. p.status ≡ 1) }
 {

@@ -25,6 +25,8 @@ pub(crate) fn help_text() -> &'static [u8]
       a map of W by H cells, P percent of them blocked, made from the number SEED
   jps drill SEED [engine=ENGINE] [rule=none|rule=one]
       150 edits and queries on the map of SEED, summed up in one line that is the same by each engine
+  jps draw MAP SX SY GX GY [engine=ENGINE] [show=points|show=trace] [rule=none|rule=one]
+      a picture (SVG) of the map and of a least walk, and with show=trace of the cells of the taken states
   jps --help
       this text
   jps --version
@@ -38,8 +40,8 @@ ENGINE is plain, where none is named, jps, block or plus. Walks cost the same by
 cell, block over 512 cells at a time, plus by tables that are made when the map is read.
 With rule=one a diagonal move may pass one blocked cell beside it, with rule=none none.
 
-statuses: 0 done; 1 done, and a row of `scen` is neither agree nor near, `check` refuses, or `prove`
-has no free ends on one layer; 2 the words are refused; 3 a text is refused; 4 a read failed;
+statuses: 0 done; 1 done, and a row of `scen` is neither agree nor near, `check` refuses, `prove` has
+no free ends on one layer, or `draw` no free ends; 2 the words are refused; 3 a text is refused; 4 a read failed;
 5 a write of the output failed; 6 memory was refused
 faults, one line on standard error:
   jps: word N            word N is missing, or no call has it there; words are counted from 1

@@ -11,6 +11,7 @@ ghost use Rattle.jps_run.specs.Served.{HasServed};
 ghost use Rattle.jps_run.specs.FaultLines.{word_line as line_of_word};
 
 use crate::check::check;
+use crate::draw::draw;
 use crate::drill::drill;
 use crate::faults::word_line;
 use crate::live::{hear, live};
@@ -85,6 +86,13 @@ fn open_work<F: Files>(
             percent,
         } => Ok(make(alloc, seed, w, h, percent, settings)?),
         Request::Drill { seed } => Ok(drill(alloc, seed, settings)?),
+        Request::Draw {
+            map,
+            sx,
+            sy,
+            gx,
+            gy,
+        } => draw(alloc, files, map, Ends { sx, sy, gx, gy }, settings),
     }
 }
 
@@ -157,7 +165,7 @@ fn refuse_word<E: Sink>(alloc: Global, number: u32, err: &mut E) -> u8
 /// `steps` counts what the session counts.
 ///
 /// Statuses: 0 done; 1 done, and a scenario has a row that is neither agree nor near, or `check`
-/// refuses, or `prove` has no ends on one layer of the map; 2 the words
+/// refuses, or `prove` has no ends on one layer of the map, or `draw` none that are free; 2 the words
 /// are refused; 3 a text is refused; 4 a read failed; 5 a write of the output failed; 6 memory was
 /// refused, the one answer that is free.
 pub fn run<F: Files, I: Source, O: Sink, E: Sink, L: Ledger>(
@@ -193,7 +201,7 @@ pub fn run<F: Files, I: Source, O: Sink, E: Sink, L: Ledger>(
         → ¬ InputRose (map string_bytes words.now) (I.inflow input.old) (I.inflow input.new)
         → ¬ Rose (O.outflow out.old).faults (O.outflow out.new).faults → (result ≤ 3) ⊎ (result ≡ 6) }
     ensures unchanged { (F.disk files.new).holds ≡ (F.disk files.old).holds }
-    // A call of `query`, `solve`, `live`, `scen` or `drill` that comes to its end counts, for each
+    // A call of `query`, `solve`, `live`, `scen`, `drill` or `draw` that comes to its end counts, for each
     // state that its searches took away from their goals, at least the fewest steps of its engine.
     ensures counted { result ≤ 1 → RoseAsCalled (map string_bytes words.now) (F.disk files.old).holds
         (I.inflow input.old).left steps.old steps.new }

@@ -9,7 +9,9 @@ ghost use Rattle.jps_run.specs.Opened.{CanPerform, HasRisen, IsWhole};
 ghost use Rattle.jps_run.specs.Sending.{SendsWhole};
 
 use crate::answers::{Answers, write_answers};
+use crate::draw::{Canvas, write_drawing};
 use crate::drill::write_sums;
+use crate::query::Ends;
 use crate::scenario::write_rows;
 use crate::sending::send_text;
 use crate::stop::Stop;
@@ -20,6 +22,7 @@ use script_text::Command;
 use std::alloc::Global;
 use std::sync::ledger::Ledger;
 use steps::Steps;
+use word_list::Show;
 
 /// Work whose output is settled by what was read.
 #[derive(Drop)]
@@ -38,6 +41,12 @@ pub(crate) enum Work {
     Drill {
         session: Session,
         commands: Vec<Command>,
+    },
+    /// The session searches a query, and a picture of it and of the map is drawn.
+    Draw {
+        canvas: Canvas,
+        ends: Ends,
+        show: Show,
     },
     /// A text that was made whole, and the status.
     Print {
@@ -77,6 +86,11 @@ pub(crate) fn perform<O: Sink, L: Ledger>(
         Work::Drill { session, commands } => {
             write_sums(alloc, session, commands.as_slice(), out, steps)
         }
+        Work::Draw {
+            mut canvas,
+            ends,
+            show,
+        } => write_drawing(alloc, &mut canvas, ends, show, out, steps),
         Work::Print { text, status } => send_text(out, text.as_slice(), status),
         Work::Say(text) => send_text(out, text, 0),
     }

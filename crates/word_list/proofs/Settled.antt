@@ -143,6 +143,7 @@ module _ (allows : List Choice) (before : List (List ℕ)) (word : List ℕ) whe
       itself : (choice : Choice) → is_same choice choice ≡ true
       itself choice.Engine = refl
       itself choice.Show = refl
+      itself choice.Drawing = refl
       itself choice.Rule = refl
 
   one_more : may_follow allows before word ≡ true → all_made before + 1 ≤ all_made (before ++ word ∷ [])

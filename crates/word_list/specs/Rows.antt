@@ -8,8 +8,8 @@ use Rattle.word_list.specs.declared.rows.Kind.{Kind}
 use Rattle.word_list.specs.declared.rows.Kind.TheVariants.{File, Number, Seed, Side, Percent}
 use Rattle.word_list.specs.declared.rows.Row as declared
 use Rattle.word_list.specs.declared.settings.Choice.{Choice}
-use Rattle.word_list.specs.declared.settings.Choice.TheVariants.{Engine, Show, Rule}
-use Rattle.word_list.specs.Request.{Asked, Help, Version, Query, Solve, Live, Scen, Prove, Check, Make, Drill}
+use Rattle.word_list.specs.declared.settings.Choice.TheVariants.{Engine, Show, Drawing, Rule}
+use Rattle.word_list.specs.Request.{Asked, Help, Version, Query, Solve, Live, Scen, Prove, Check, Make, Drill, Draw}
 
 -- a command, the kinds of the words that it takes, and the settings that it allows after them
 pub record Row : Type 0 where
@@ -48,6 +48,12 @@ row_of name =
     Some (record { command = command.Make; takes = Seed ∷ Side ∷ Side ∷ Percent ∷ []; allows = [] })
     else if bytes_eq name (codes "drill") then
     Some (record { command = command.Drill; takes = Seed ∷ []; allows = Engine ∷ Rule ∷ [] })
+    else if bytes_eq name (codes "draw") then
+    Some (record {
+      command = command.Draw;
+      takes = File ∷ Number ∷ Number ∷ Number ∷ Number ∷ [];
+      allows = Engine ∷ Drawing ∷ Rule ∷ [];
+    })
     else None
 
 -- the number, where it lies between these
@@ -103,6 +109,8 @@ asked_by command.Prove words =
 asked_by command.Check words = Check (word_at words 0) (word_at words 1)
 asked_by command.Make words = Make (seed_at words 0) (side_at words 1) (side_at words 2) (percent_at words 3)
 asked_by command.Drill words = Drill (seed_at words 0)
+asked_by command.Draw words =
+    Draw (word_at words 0) (number_at words 1) (number_at words 2) (number_at words 3) (number_at words 4)
 
 -- a row of the code
 abbrev pub row_data : declared.Row → Row

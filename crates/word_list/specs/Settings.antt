@@ -1,5 +1,5 @@
 -- The settings that may follow a command's other words.
-use Rattle.std.specs.Prelude.{ℕ, Bool, true, false, List, [], ◌∷◌, ◌++◌, not, ◌&&◌, if◌then◌else◌, bytes_eq, codes, Option, Some, None}
+use Rattle.std.specs.Prelude.{ℕ, Bool, true, false, List, [], ◌∷◌, ◌++◌, not, ◌&&◌, ◌||◌, if◌then◌else◌, bytes_eq, codes, Option, Some, None}
 use Rattle.std.specs.List.{list_any, fold}
 use Rattle.word_list.specs.declared.request.Pick.TheVariants.{Plain, Jps, Block, Plus}
 use Rattle.word_list.specs.declared.request.Show.TheVariants.{Points, Cells, Trace}
@@ -33,6 +33,7 @@ choice_of (setting.Rule one) = choice.Rule
 abbrev pub is_same : Choice → Choice → Bool
 is_same choice.Engine choice.Engine = true
 is_same choice.Show choice.Show = true
+is_same choice.Drawing choice.Drawing = true
 is_same choice.Rule choice.Rule = true
 is_same one other = false
 
@@ -45,9 +46,21 @@ abbrev pub are_clashing : Option Setting → Option Setting → Bool
 are_clashing (Some one) (Some other) = is_clash one other
 are_clashing one other = false
 
+-- whether a setting tells what a picture shows
+abbrev pub is_drawn : Setting → Bool
+is_drawn (setting.Engine pick) = false
+is_drawn (setting.Show Points) = true
+is_drawn (setting.Show Cells) = false
+is_drawn (setting.Show Trace) = true
+is_drawn (setting.Rule one) = false
+
+-- whether a picture is among these choices, and the setting tells what it shows
+abbrev pub is_drawn_by : List Choice → Setting → Bool
+is_drawn_by allows setting = list_any (is_same choice.Drawing) allows && is_drawn setting
+
 -- whether a word is a setting of one of these choices
 abbrev pub is_allowed : List Choice → Option Setting → Bool
-is_allowed allows (Some setting) = list_any (is_same (choice_of setting)) allows
+is_allowed allows (Some setting) = list_any (is_same (choice_of setting)) allows || is_drawn_by allows setting
 is_allowed allows None = false
 
 -- whether a word is a setting that is allowed and clashes with none of the words before it

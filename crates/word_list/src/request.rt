@@ -56,6 +56,14 @@ pub enum Request<'a> {
     Drill {
         seed: u64,
     },
+    /// A picture of a least walk on the map between two cells.
+    Draw {
+        map: &'a str,
+        sx: u32,
+        sy: u32,
+        gx: u32,
+        gy: u32,
+    },
 }
 
 /// How a request is to be done. A setting that the words don't have stands at its default.

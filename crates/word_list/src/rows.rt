@@ -23,6 +23,7 @@ pub enum Command {
     Check,
     Make,
     Drill,
+    Draw,
 }
 
 /// The side of a map that the word spells, if it is one: a number from 1 to 4096.
@@ -99,7 +100,7 @@ pub fn row_named(name: &str) -> Option<Row>
     ensures row { option_map row_data result ≡ row_of name.now }
     ensures few { IfSome result (λ row. length row.takes.now ≤ 8) }
 {
-    use Choice::{Engine, Rule, Show};
+    use Choice::{Drawing, Engine, Rule, Show};
     use Kind::{File, Number, Percent, Seed, Side};
     let (command, takes, allows): (Command, &[Kind], &[Choice]) = match name {
         "--help" => (Command::Help, &[], &[]),
@@ -120,6 +121,11 @@ pub fn row_named(name: &str) -> Option<Row>
         "check" => (Command::Check, &[File, File], &[Rule]),
         "make" => (Command::Make, &[Seed, Side, Side, Percent], &[]),
         "drill" => (Command::Drill, &[Seed], &[Engine, Rule]),
+        "draw" => (
+            Command::Draw,
+            &[File, Number, Number, Number, Number],
+            &[Engine, Drawing, Rule],
+        ),
         _ => return None,
     };
     Some(Row {
@@ -174,6 +180,13 @@ pub fn request<'a>(command: Command, words: &'a [String]) -> Request<'a>
         },
         Command::Drill => Request::Drill {
             seed: seed_at(words, 0),
+        },
+        Command::Draw => Request::Draw {
+            map: name_at(words, 0),
+            sx: number_at(words, 1),
+            sy: number_at(words, 2),
+            gx: number_at(words, 3),
+            gy: number_at(words, 4),
         },
     }
 }

@@ -2,7 +2,7 @@
 
 ghost use Rattle.std.specs.Prelude.{◌≡◌, ◌≤◌, [], take, slice_get, map, string_bytes, Some};
 ghost use Rattle.std.specs.List.{list_any};
-ghost use Rattle.word_list.specs.Settings.{setting_of, choice_of, is_clash, are_clashing, may_follow, settings_with, settings_of};
+ghost use Rattle.word_list.specs.Settings.{setting_of, choice_of, is_allowed, is_drawn, is_drawn_by, is_clash, are_clashing, may_follow, settings_with, settings_of};
 ghost use Rattle.word_list.specs.Steps.{AreSettled, one_follows};
 
 use crate::request::{Pick, Settings, Show};
@@ -23,6 +23,8 @@ pub enum Choice {
     Engine,
     /// What an answer shows.
     Show,
+    /// What a picture shows: the points, and the states that the search took.
+    Drawing,
     /// Whether walks may pass corners.
     Rule,
 }
@@ -55,6 +57,33 @@ impl Setting {
             Setting::Show(_) => Choice::Show,
             Setting::Rule(_) => Choice::Rule,
         }
+    }
+
+    /// Whether it tells what a picture shows.
+    fn is_drawn(self) -> bool
+        ensures { result ≡ is_drawn self }
+    {
+        match self {
+            Setting::Engine(_) => false,
+            Setting::Show(Show::Points) => true,
+            Setting::Show(Show::Cells) => false,
+            Setting::Show(Show::Trace) => true,
+            Setting::Rule(_) => false,
+        }
+    }
+
+    /// Whether it is one of these choices.
+    fn is_allowed(self, allows: &[Choice]) -> bool
+        ensures { result ≡ is_allowed allows.now (Some self) }
+    {
+        allows.contains(&self.choice()) || self.is_drawn_by(allows)
+    }
+
+    /// Whether a picture is among the choices, and it tells what that shows.
+    fn is_drawn_by(self, allows: &[Choice]) -> bool
+        ensures { result ≡ is_drawn_by allows.now self }
+    {
+        allows.contains(&Choice::Drawing) && self.is_drawn()
     }
 
     /// Whether it can't stand together with another.
@@ -125,7 +154,7 @@ fn follows(allows: &[Choice], before: &[String], word: &str) -> bool
     ensures { result ≡ may_follow allows.now (map string_bytes before.now) word.now }
 {
     match Setting::spelled(word) {
-        Some(setting) => allows.contains(&setting.choice()) && !clashes_with(setting, before),
+        Some(setting) => setting.is_allowed(allows) && !clashes_with(setting, before),
         None => false,
     }
 }
