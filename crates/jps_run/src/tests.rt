@@ -60,7 +60,7 @@ pub(crate) fn two_files(
 pub(crate) fn stream(alloc: Global, failing: u64) -> Result<MemSink, AllocError> {
     let mut numbers = Vec::new(alloc);
     numbers.push(failing)?;
-    MemSink::new(alloc, 1000, 1, numbers)
+    MemSink::new(alloc, 4000, 1, numbers)
 }
 
 fn call<L: Ledger>(
