@@ -62,8 +62,9 @@ fn leads_over<L: Ledger>(
     let moves = Moves::build(alloc, grid)?;
     let found = moves.follow(alloc, grid, from, to, &mut steps)?;
     match (found, wanted) {
-        (Some((points, cost)), Some((cells, price))) =>
-            Ok(points.as_slice() == cells && cost == price),
+        (Some((points, cost)), Some((cells, price))) => Ok(
+            points.as_slice() == cells && cost == price,
+        ),
         (None, None) => Ok(true),
         _ => Ok(false),
     }
