@@ -3,7 +3,6 @@ use Rattle.std.proofs.Common.{◌≡◌, ℕ, zero, suc, ◌+◌, ◌-◌, ◌<�
 use Rattle.std.specs.Prelude.{Option, Some, None, nat_eq, nat_lt, if◌then◌else◌}
 use Rattle.std.proofs.lemmas.Bool.Decides.{nat_tests}
 use Rattle.grid_moves.specs.declared.Dir.{Dir}
-use Rattle.grid_moves.specs.Move.{dir_number}
 use Rattle.first_moves.specs.declared.row.Run.{Run}
 use Rattle.first_moves.specs.Runs.{is_same_move, runs_from, runs_of}
 use Rattle.first_moves.proofs.Picking.{same_dir}

@@ -1,5 +1,5 @@
 -- The least direction of a byte.
-use Rattle.std.proofs.Common.{◌≡◌, ℕ, suc, ◌+◌, ◌*◌, ◌<◌, ◌≤◌, arith, refl, ap, sym, ◌∙◌, subst, Bool, true, false, ◌⊎◌, inl, inr, List, [], ◌∷◌, length, get_or, map}
+use Rattle.std.proofs.Common.{◌≡◌, ℕ, suc, ◌*◌, ◌<◌, ◌≤◌, arith, refl, ap, sym, ◌∙◌, subst, Bool, true, false, inl, inr, List, [], ◌∷◌, length, get_or, map}
 use Rattle.std.specs.Prelude.{Option, Some, None, nat_eq, nat_lt, if◌then◌else◌, IsTrue, ◌↔◌}
 use Rattle.std.proofs.lemmas.Bool.Decides.{nat_tests}
 use Rattle.std.proofs.lemmas.List.{length-map, get_or-map}
@@ -8,7 +8,7 @@ use Rattle.grid_moves.specs.declared.Dir.{Dir}
 use Rattle.grid_moves.specs.declared.Dir.TheVariants.{N, NE, E, SE, S, SW, W, NW}
 use Rattle.grid_moves.specs.Grid.{GridData, cell_number, is_inside}
 use Rattle.grid_moves.specs.Move.{dir_number, is_legal}
-use Rattle.grid_moves.specs.Walk.{IsLeastWalk, NoWalk, is_walk}
+use Rattle.grid_moves.specs.Walk.{IsLeastWalk, is_walk}
 use Rattle.grid_moves.proofs.Ahead.{legal_ahead-of}
 use Rattle.root2_cost.specs.declared.Cost.{Cost}
 use Rattle.cost_waves.specs.Begin.{Begins, IsCostTo}

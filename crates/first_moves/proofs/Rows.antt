@@ -1,6 +1,6 @@
 -- The rows of all cells.
-use Rattle.std.proofs.Common.{◌≡◌, ℕ, zero, suc, ◌+◌, ◌*◌, ◌<◌, arith, refl, ap, sym, ◌∙◌, subst, Bool, true, false, ◌⊎◌, inr, List, [], ◌∷◌, ◌++◌, length, get_or, replicate, length-append}
-use Rattle.std.specs.Prelude.{Option, Some, None, nat_eq, nat_lt, IfOk, Ok, Err, if◌then◌else◌}
+use Rattle.std.proofs.Common.{◌≡◌, ℕ, zero, suc, ◌+◌, ◌*◌, ◌<◌, arith, refl, ap, sym, ◌∙◌, subst, Bool, true, false, inr, List, [], ◌∷◌, ◌++◌, length, get_or, replicate, length-append}
+use Rattle.std.specs.Prelude.{Option, None, nat_lt, IfOk, Ok, Err}
 use Rattle.std.specs.declared.result.Result.{Result}
 use Rattle.std.proofs.lemmas.Bool.Decides.{nat_tests}
 use Rattle.std.proofs.lemmas.List.{get_or-replicate, length-replicate}
@@ -16,7 +16,7 @@ use Rattle.first_moves.specs.declared.row.Run.{Run}
 use Rattle.first_moves.specs.First.{IsFirstMove}
 use Rattle.first_moves.specs.Kept.{AreRows}
 use Rattle.first_moves.specs.Row.{IsRow, AreMoves}
-use Rattle.first_moves.specs.Runs.{runs_from, runs_of}
+use Rattle.first_moves.specs.Runs.{runs_from}
 use Rattle.first_moves.proofs.Picking.{below_all}
 
 -- of members with no first move only the first one begins a run

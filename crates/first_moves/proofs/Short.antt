@@ -1,7 +1,6 @@
 -- A least walk comes to no cell twice, so it has fewer steps than the map has cells.
 use Rattle.std.proofs.Common.{◌≡◌, ℕ, suc, ◌+◌, ◌*◌, ◌<◌, ◌≤◌, arith, length, List, [], ◌∷◌}
-use Rattle.std.proofs.Common.{Bool, true, false, ◌&&◌, ◌||◌, map, eqb, refl, ap, sym, subst}
-use Rattle.std.specs.Prelude.{nat_eq}
+use Rattle.std.proofs.Common.{Bool, true, false, ◌||◌, map, eqb, refl, ap, sym, subst}
 use Rattle.std.specs.List.{IsDistinct, AllByRecursion, list_any}
 use Rattle.std.proofs.lemmas.Map.Steps.{length-le_from_distinct_below}
 use Rattle.std.proofs.lemmas.Bool.Decides.{nat_tests}
@@ -12,7 +11,7 @@ use Rattle.grid_moves.specs.declared.Cell.{Cell}
 use Rattle.grid_moves.specs.Grid.{GridData, cell_number, is_free}
 use Rattle.grid_moves.specs.Move.{is_legal, move_cost}
 use Rattle.grid_moves.specs.Walk.{IsLeastWalk, IsWalk, cost_of, is_walk}
-use Rattle.grid_moves.proofs.Legal.{and_both, free_inside, legal_is}
+use Rattle.grid_moves.proofs.Legal.{and_both, free_inside}
 use Rattle.grid_moves.proofs.Places.{number_below, one_cell}
 use Rattle.path_points.proofs.Joined.{walk_free}
 use Rattle.path_points.proofs.Running.{move_counts}

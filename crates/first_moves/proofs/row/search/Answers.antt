@@ -1,6 +1,5 @@
-use Rattle.std.proofs.Common.{◌≡◌, ◌<◌, suc, arith, length}
-use Rattle.std.specs.Prelude.{Option, None}
-use Rattle.first_moves.specs.declared.row.Run.{Run}
+use Rattle.std.proofs.Common.{◌≡◌, suc, arith}
+use Rattle.std.specs.Prelude.{None}
 use Rattle.first_moves.proofs.Cutting.{told}
 use Rattle.first_moves.proofs.row.search.Goals as goal
 

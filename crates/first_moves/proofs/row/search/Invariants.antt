@@ -1,4 +1,4 @@
-use Rattle.std.proofs.Common.{◌≡◌, ℕ, ◌<◌, ◌≤◌, ◌-◌, length, get_or}
+use Rattle.std.proofs.Common.{◌<◌, ◌≤◌, ◌-◌, length, get_or}
 use Rattle.first_moves.specs.declared.row.Run.{Run}
 use Rattle.first_moves.proofs.row.search.Given as goal
 

@@ -1,4 +1,4 @@
-use Rattle.std.proofs.Common.{◌≡◌, subst}
+use Rattle.std.proofs.Common.{subst}
 use Rattle.std.specs.Prelude.{Option}
 use Rattle.grid_moves.specs.declared.Dir.{Dir}
 use Rattle.first_moves.specs.First.{IsFirstMove}

@@ -1,5 +1,4 @@
-use Rattle.std.proofs.Common.{◌≡◌, sym, ◌∙◌, length, ap, map, List, ℕ}
-use Rattle.first_moves.specs.declared.row.Run.{Run}
+use Rattle.std.proofs.Common.{sym, ◌∙◌, length, ap, map, List, ℕ}
 use Rattle.first_moves.specs.First.{first_in}
 use Rattle.first_moves.specs.Runs.{runs_of}
 use Rattle.first_moves.proofs.Picking.{row_of, same_size}
