@@ -3,6 +3,9 @@
 
 mod answers;
 mod check;
+mod costs;
+#[cfg(test)]
+mod costs_tests;
 mod draw;
 #[cfg(test)]
 mod draw_tests;
