@@ -20,3 +20,4 @@ pub mod Printing
 pub mod Counts
 pub mod Rising
 pub mod Pictured
+pub mod Waved

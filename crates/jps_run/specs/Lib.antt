@@ -26,3 +26,6 @@ pub mod Drill
 pub mod Drilling
 pub mod Certificates
 pub mod Pictures
+pub mod Distances
+pub mod Telling
+pub mod Costing

@@ -16,6 +16,7 @@ use Rattle.jps_run.specs.Reading.{AreKept}
 use Rattle.jps_run.specs.Sending.{IsText}
 use Rattle.jps_run.specs.Stops.{Stops, Ends}
 use Rattle.jps_run.specs.Tally.{tally_of}
+use Rattle.jps_run.specs.Telling.{AreTold}
 use Rattle.jps_run.specs.declared.answers.Answers.{Answers}
 use Rattle.jps_run.specs.declared.stop.Stop.{Stop}
 use Rattle.jps_run.specs.declared.work.Opened.{Opened}
@@ -30,6 +31,7 @@ IsWhole (work.Judge session entries) = IsJudged (record { session = session; tal
 IsWhole (work.Drill session commands) = IsDrilled (record { session = session; sums = sums_of [] }) commands.items
 IsWhole (work.Draw canvas ends show) =
     IsPictured canvas (record { x = ends.sx; y = ends.sy }) (record { x = ends.gx; y = ends.gy }) show
+IsWhole (work.Tell job rows) = AreTold job rows.items
 IsWhole (work.Print text status) = IsText text.items status
 IsWhole (work.Say text) = IsText text.now 0
 
@@ -40,6 +42,7 @@ HasRisen (work.Judge session entries) old new = RoseBy session (EntriesTake sess
 HasRisen (work.Drill session commands) old new = RoseBy session (CommandsTake session commands.items) old new
 HasRisen (work.Draw canvas ends show) old new = RoseBy canvas.session
     (CommandsTake canvas.session (command.Query ends.sx ends.sy ends.gx ends.gy ∷ [])) old new
+HasRisen (work.Tell job rows) old new = ⊤
 HasRisen (work.Print text status) old new = ⊤
 HasRisen (work.Say text) old new = ⊤
 
@@ -49,6 +52,7 @@ CanPerform (work.Answer job commands) = ⊤
 CanPerform (work.Judge session entries) = AreKept entries.items
 CanPerform (work.Drill session commands) = length commands.items ≤ 2 ^ 32
 CanPerform (work.Draw canvas ends show) = ⊤
+CanPerform (work.Tell job rows) = ⊤
 CanPerform (work.Print text status) = ⊤
 CanPerform (work.Say text) = ⊤
 

@@ -14,11 +14,12 @@ use Rattle.scen_text.specs.Faults.{scen_of}
 use Rattle.potential_check.specs.Text.{certificate_of, plain}
 use Rattle.potential_check.specs.declared.certificate.Certificate.{Certificate}
 use Rattle.word_list.specs.Calls.{call_of, is_call}
-use Rattle.word_list.specs.Request.{Asked, Call, Help, Version, Query, Solve, Live, Scen, Prove, Check, Make, Drill, Draw}
+use Rattle.word_list.specs.Request.{Asked, Call, Help, Version, Query, Solve, Live, Scen, Prove, Check, Make, Drill, Draw, Costs}
 use Rattle.word_list.specs.Rule.{IsBadWord}
 use Rattle.word_list.specs.declared.request.Settings.{Settings}
 use Rattle.jps_run.specs.Answers.{AreAnswers}
 use Rattle.jps_run.specs.Certificates.{IsProof, IsVerdict}
+use Rattle.jps_run.specs.Distances.{AreCosts}
 use Rattle.jps_run.specs.Drill.{AreDrilled, drill_line}
 use Rattle.jps_run.specs.declared.drill.Finding.{Finding}
 use Rattle.jps_run.specs.FaultLines.{word_line}
@@ -53,6 +54,7 @@ files_of (Check map cert) =
 files_of (Make seed w h percent) = []
 files_of (Drill seed) = []
 files_of (Draw map sx sy gx gy) = record { kind = kind.Map; name = map } ∷ []
+files_of (Costs map x y) = record { kind = kind.Map; name = map } ∷ []
 files_of (Scen map scen) =
     record { kind = kind.Map; name = map } ∷ record { kind = kind.Scen; name = scen } ∷ []
 
@@ -97,6 +99,10 @@ pub data IsAnswered : Call → List (List ℕ) → List (List ℕ) → ℕ → T
       → IsDrawing (session_on set m) m (record { x = sx; y = sy }) (record { x = gx; y = gy }) set.show
       printed status
       → IsAnswered (call_with (Draw map sx sy gx gy) set) (text ∷ []) (printed ∷ []) status
+  costed : (map text : List ℕ) (x y : ℕ) (set : Settings) (m : Map) (lines : List (List ℕ))
+      → map_of text ≡ Ok m
+      → AreCosts (layers_of (corner_of set.one) m.width m.height m.cells) (record { x = x; y = y }) lines
+      → IsAnswered (call_with (Costs map x y) set) (text ∷ []) lines 0
 
 -- the lines and the status are a right output of a call, with the files that are held
 pub record IsOutput (call : Call) (holds : List ℕ → Held) (lines : List (List ℕ)) (status : ℕ) : Type 0 where

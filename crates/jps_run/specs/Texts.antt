@@ -23,6 +23,8 @@ help_text =
     ++ codes "      150 edits and queries on the map of SEED, summed up in one line that is the same by each engine\n"
     ++ codes "  jps draw MAP SX SY GX GY [engine=ENGINE] [show=points|show=trace] [rule=none|rule=one]\n"
     ++ codes "      a picture (SVG) of the map and of a least walk, and with show=trace of the cells of the taken states\n"
+    ++ codes "  jps costs MAP X Y [rule=none|rule=one]\n"
+    ++ codes "      the least cost from the cell (X,Y) to each cell, a line for each row: `A,B`, or `-` where no walk leads\n"
     ++ codes "  jps --help\n"
     ++ codes "      this text\n"
     ++ codes "  jps --version\n"

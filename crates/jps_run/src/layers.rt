@@ -60,8 +60,8 @@ impl Layers {
         }
     }
 
-    // Whether the cell is land or water.
-    fn is_free_ground(&self, c: Cell) -> bool
+    /// Whether the cell is land or water.
+    pub(crate) fn is_free_ground(&self, c: Cell) -> bool
         ensures { result ≡ spec.is_free_ground self.now c }
     {
         self.land.free(c) || self.water.free(c)

@@ -5,6 +5,9 @@
 mod ample_tests;
 mod answers;
 mod check;
+mod costs;
+#[cfg(test)]
+mod costs_tests;
 mod draw;
 #[cfg(test)]
 mod draw_tests;

@@ -27,6 +27,8 @@ pub(crate) fn help_text() -> &'static [u8]
       150 edits and queries on the map of SEED, summed up in one line that is the same by each engine
   jps draw MAP SX SY GX GY [engine=ENGINE] [show=points|show=trace] [rule=none|rule=one]
       a picture (SVG) of the map and of a least walk, and with show=trace of the cells of the taken states
+  jps costs MAP X Y [rule=none|rule=one]
+      the least cost from the cell (X,Y) to each cell, a line for each row: `A,B`, or `-` where no walk leads
   jps --help
       this text
   jps --version

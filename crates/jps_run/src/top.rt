@@ -11,6 +11,7 @@ ghost use Rattle.jps_run.specs.Served.{HasServed};
 ghost use Rattle.jps_run.specs.FaultLines.{word_line as line_of_word};
 
 use crate::check::check;
+use crate::costs::costs;
 use crate::draw::draw;
 use crate::drill::drill;
 use crate::faults::word_line;
@@ -93,6 +94,7 @@ fn open_work<F: Files>(
             gx,
             gy,
         } => draw(alloc, files, map, Ends { sx, sy, gx, gy }, settings),
+        Request::Costs { map, x, y } => costs(alloc, files, map, x, y, settings),
     }
 }
 

@@ -9,6 +9,7 @@ ghost use Rattle.jps_run.specs.Opened.{CanPerform, HasRisen, IsWhole};
 ghost use Rattle.jps_run.specs.Sending.{SendsWhole};
 
 use crate::answers::{Answers, write_answers};
+use crate::costs::{Distances, write_costs};
 use crate::draw::{Canvas, write_drawing};
 use crate::drill::write_sums;
 use crate::query::Ends;
@@ -47,6 +48,11 @@ pub(crate) enum Work {
         canvas: Canvas,
         ends: Ends,
         show: Show,
+    },
+    /// The least costs from a cell are told, a line for each of these rows of the map.
+    Tell {
+        job: Distances,
+        rows: Vec<u16>,
     },
     /// A text that was made whole, and the status.
     Print {
@@ -91,6 +97,7 @@ pub(crate) fn perform<O: Sink, L: Ledger>(
             ends,
             show,
         } => write_drawing(alloc, &mut canvas, ends, show, out, steps),
+        Work::Tell { mut job, rows } => write_costs(alloc, &mut job, rows.as_slice(), out, steps),
         Work::Print { text, status } => send_text(out, text.as_slice(), status),
         Work::Say(text) => send_text(out, text, 0),
     }

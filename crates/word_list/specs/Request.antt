@@ -17,6 +17,7 @@ pub data Asked : Type 0 where
   Make : (seed w h percent : ℕ) → Asked
   Drill : (seed : ℕ) → Asked
   Draw : (map : List ℕ) (sx sy gx gy : ℕ) → Asked
+  Costs : (map : List ℕ) (x y : ℕ) → Asked
 
 -- what a request asks for
 abbrev pub asked : Request → Asked
@@ -31,6 +32,7 @@ asked (request.Check map cert) = Check map.now cert.now
 asked (request.Make seed w h percent) = Make seed w h percent
 asked (request.Drill seed) = Drill seed
 asked (request.Draw map sx sy gx gy) = Draw map.now sx sy gx gy
+asked (request.Costs map x y) = Costs map.now x y
 
 -- the sides of a map that is to be made are 1 to 4096
 abbrev pub HasSides : Request → Type 0
@@ -45,6 +47,7 @@ HasSides (request.Check map cert) = ⊤
 HasSides (request.Make seed w h percent) = (1 ≤ w) × (w ≤ 4096) × (1 ≤ h) × (h ≤ 4096)
 HasSides (request.Drill seed) = ⊤
 HasSides (request.Draw map sx sy gx gy) = ⊤
+HasSides (request.Costs map x y) = ⊤
 
 -- a request and how it is to be done
 pub record Call : Type 0 where

@@ -64,6 +64,12 @@ pub enum Request<'a> {
         gx: u32,
         gy: u32,
     },
+    /// The least costs on the map from a cell to each cell.
+    Costs {
+        map: &'a str,
+        x: u32,
+        y: u32,
+    },
 }
 
 /// How a request is to be done. A setting that the words don't have stands at its default.

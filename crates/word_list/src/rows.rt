@@ -24,6 +24,7 @@ pub enum Command {
     Make,
     Drill,
     Draw,
+    Costs,
 }
 
 /// The side of a map that the word spells, if it is one: a number from 1 to 4096.
@@ -126,6 +127,7 @@ pub fn row_named(name: &str) -> Option<Row>
             &[File, Number, Number, Number, Number],
             &[Engine, Drawing, Rule],
         ),
+        "costs" => (Command::Costs, &[File, Number, Number], &[Rule]),
         _ => return None,
     };
     Some(Row {
@@ -187,6 +189,11 @@ pub fn request<'a>(command: Command, words: &'a [String]) -> Request<'a>
             sy: number_at(words, 2),
             gx: number_at(words, 3),
             gy: number_at(words, 4),
+        },
+        Command::Costs => Request::Costs {
+            map: name_at(words, 0),
+            x: number_at(words, 1),
+            y: number_at(words, 2),
         },
     }
 }
