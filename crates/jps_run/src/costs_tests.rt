@@ -14,7 +14,14 @@ fn costs_are_told_row_by_row(rt: HostRuntime) -> Result<(), Fail> {
     let lines = b"0,0 1,0 2,0\n1,0 - 3,0\n2,0 3,0 4,0\n";
     check(alloc, &rt, on_map(&round, ROUND), 0, lines, b"")?;
     let lake: [&str; 5] = ["costs", "m", "1", "0", "rule=one"];
-    check(alloc, &rt, on_map(&lake, LAKE), 0, b"- 0,0 1,0\n- 1,0 0,1\n", b"")?;
+    check(
+        alloc,
+        &rt,
+        on_map(&lake, LAKE),
+        0,
+        b"- 0,0 1,0\n- 1,0 0,1\n",
+        b"",
+    )?;
     let blocked: [&str; 4] = ["costs", "m", "1", "1"];
     check(alloc, &rt, on_map(&blocked, ROUND), 0, b"blocked\n", b"")?;
     let outside: [&str; 4] = ["costs", "m", "3", "0"];
