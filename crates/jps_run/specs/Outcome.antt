@@ -78,7 +78,8 @@ pub data IsAnswered : Call → List (List ℕ) → List (List ℕ) → ℕ → T
       → IsAnswered (call_with (Solve map script) set) (text ∷ second ∷ []) lines 0
   judged : (map scen text second : List ℕ) (set : Settings) (m : Map) (entries : List Entry) (rows : List Row)
       → map_of text ≡ Ok m → scen_of second ≡ Ok entries → AreRows (session_on set m) entries rows
-      → IsAnswered (call_with (Scen map scen) set) (text ∷ second ∷ []) (scen_lines rows) (scen_status rows)
+      → IsAnswered (call_with (Scen map scen) set) (text ∷ second ∷ [])
+      (scen_lines set.show rows) (scen_status rows)
   proved : (map text : List ℕ) (sx sy gx gy : ℕ) (set : Settings) (m : Map) (printed : List ℕ) (status : ℕ)
       → map_of text ≡ Ok m
       → IsProof (layers_of (corner_of set.one) m.width m.height m.cells) (record { x = sx; y = sy })

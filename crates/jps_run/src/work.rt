@@ -36,6 +36,7 @@ pub(crate) enum Work {
     /// The session judges the entries of a scenario, a row each, and their sum.
     Judge {
         session: Session,
+        show: Show,
         entries: Vec<Entry>,
     },
     /// What the commands come to is summed up in one line.
@@ -86,9 +87,11 @@ pub(crate) fn perform<O: Sink, L: Ledger>(
         Work::Answer { mut job, commands } => {
             write_answers(alloc, &mut job, commands.as_slice(), out, steps)
         }
-        Work::Judge { session, entries } => {
-            write_rows(alloc, session, entries.as_slice(), out, steps)
-        }
+        Work::Judge {
+            session,
+            show,
+            entries,
+        } => write_rows(alloc, session, show, entries.as_slice(), out, steps),
         Work::Drill { session, commands } => {
             write_sums(alloc, session, commands.as_slice(), out, steps)
         }

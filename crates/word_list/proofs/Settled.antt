@@ -11,6 +11,7 @@ use Rattle.word_list.specs.declared.settings.Setting.{Setting}
 use Rattle.word_list.specs.declared.settings.Setting.TheVariants as setting
 use Rattle.word_list.specs.declared.settings.Choice.{Choice}
 use Rattle.word_list.specs.declared.settings.Choice.TheVariants as choice
+use Rattle.word_list.specs.declared.request.Show.TheVariants.{Points, Cells, Trace, Taken}
 use Rattle.word_list.specs.Settings.{setting_of, choice_of, is_same, are_clashing, is_allowed, may_follow, all_follow, settings_with, default_settings, settings_of}
 use Rattle.word_list.specs.Rule.{EndsAfter}
 use Rattle.word_list.specs.Steps.{AreSettled}
@@ -90,13 +91,14 @@ made choice words = if list_any (λ word. is_made choice (setting_of word)) word
 
 -- how many choices the words make
 abbrev all_made : List (List ℕ) → ℕ
-all_made words = made choice.Engine words + made choice.Show words + made choice.Rule words
+all_made words = made choice.Engine words + made choice.Show words + made choice.Counts words + made choice.Rule words
 
-few_made : (words : List (List ℕ)) → all_made words ≤ 3
+few_made : (words : List (List ℕ)) → all_made words ≤ 4
 few_made words = omega (
   arith,
   one (list_any (λ word. is_made choice.Engine (setting_of word)) words),
   one (list_any (λ word. is_made choice.Show (setting_of word)) words),
+  one (list_any (λ word. is_made choice.Counts (setting_of word)) words),
   one (list_any (λ word. is_made choice.Rule (setting_of word)) words),
 )
   where
@@ -144,6 +146,7 @@ module _ (allows : List Choice) (before : List (List ℕ)) (word : List ℕ) whe
       itself choice.Engine = refl
       itself choice.Show = refl
       itself choice.Drawing = refl
+      itself choice.Counts = refl
       itself choice.Rule = refl
 
   one_more : may_follow allows before word ≡ true → all_made before + 1 ≤ all_made (before ++ word ∷ [])
@@ -152,12 +155,16 @@ module _ (allows : List Choice) (before : List (List ℕ)) (word : List ℕ) whe
       let none = is_not (list_any (λ other. are_clashing (setting_of other) (setting_of word)) before) parts.1 in
       let engine = kept choice.Engine in
       let show = kept choice.Show in
+      let counts = kept choice.Counts in
       let rule = kept choice.Rule in
       elim (setting_of word) as (λ s. setting_of word ≡ s → all_made before + 1 ≤ all_made (before ++ word ∷ [])) [
         | None ↦ λ is. let no = rw is at parts.0 in cc (no)
-        | Some (setting.Engine pick) ↦ λ is. omega (arith, grown (setting.Engine pick) is none, show, rule)
-        | Some (setting.Show what) ↦ λ is. omega (arith, grown (setting.Show what) is none, engine, rule)
-        | Some (setting.Rule one) ↦ λ is. omega (arith, grown (setting.Rule one) is none, engine, show)
+        | Some (setting.Engine pick) ↦ λ is. omega (arith, grown (setting.Engine pick) is none, show, counts, rule)
+        | Some (setting.Show Points) ↦ λ is. omega (arith, grown (setting.Show Points) is none, engine, counts, rule)
+        | Some (setting.Show Cells) ↦ λ is. omega (arith, grown (setting.Show Cells) is none, engine, counts, rule)
+        | Some (setting.Show Trace) ↦ λ is. omega (arith, grown (setting.Show Trace) is none, engine, counts, rule)
+        | Some (setting.Show Taken) ↦ λ is. omega (arith, grown (setting.Show Taken) is none, engine, show, rule)
+        | Some (setting.Rule one) ↦ λ is. omega (arith, grown (setting.Rule one) is none, engine, show, counts)
       ] refl
     where
       is_not : (b : Bool) → not b ≡ true → b ≡ false
@@ -165,7 +172,7 @@ module _ (allows : List Choice) (before : List (List ℕ)) (word : List ℕ) whe
       is_not false is = refl
 
 pub few_settled : (allows : List Choice) (before words : List (List ℕ)) (count : ℕ)
-    → AreSettled allows before words count → all_made before + count ≤ 3
+    → AreSettled allows before words count → all_made before + count ≤ 4
 few_settled allows before words zero are = omega (arith, few_made before)
 few_settled allows before [] (suc count) are = absurd (omega (arith, are.within))
 few_settled allows before (word ∷ words) (suc count) are =

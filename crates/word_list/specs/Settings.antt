@@ -2,7 +2,7 @@
 use Rattle.std.specs.Prelude.{ℕ, Bool, true, false, List, [], ◌∷◌, ◌++◌, not, ◌&&◌, ◌||◌, if◌then◌else◌, bytes_eq, codes, Option, Some, None}
 use Rattle.std.specs.List.{list_any, fold}
 use Rattle.word_list.specs.declared.request.Pick.TheVariants.{Plain, Jps, Block, Plus}
-use Rattle.word_list.specs.declared.request.Show.TheVariants.{Points, Cells, Trace}
+use Rattle.word_list.specs.declared.request.Show.TheVariants.{Points, Cells, Trace, Taken}
 use Rattle.word_list.specs.declared.request.Settings.{Settings}
 use Rattle.word_list.specs.declared.settings.Setting.{Setting}
 use Rattle.word_list.specs.declared.settings.Setting.TheVariants as setting
@@ -19,6 +19,7 @@ setting_of word =
     else if bytes_eq word (codes "show=points") then Some (setting.Show Points)
     else if bytes_eq word (codes "show=cells") then Some (setting.Show Cells)
     else if bytes_eq word (codes "show=trace") then Some (setting.Show Trace)
+    else if bytes_eq word (codes "show=taken") then Some (setting.Show Taken)
     else if bytes_eq word (codes "rule=none") then Some (setting.Rule false)
     else if bytes_eq word (codes "rule=one") then Some (setting.Rule true)
     else None
@@ -26,7 +27,10 @@ setting_of word =
 -- what a setting chooses
 abbrev pub choice_of : Setting → Choice
 choice_of (setting.Engine pick) = choice.Engine
-choice_of (setting.Show show) = choice.Show
+choice_of (setting.Show Points) = choice.Show
+choice_of (setting.Show Cells) = choice.Show
+choice_of (setting.Show Trace) = choice.Show
+choice_of (setting.Show Taken) = choice.Counts
 choice_of (setting.Rule one) = choice.Rule
 
 -- whether two choices are the same
@@ -34,6 +38,7 @@ abbrev pub is_same : Choice → Choice → Bool
 is_same choice.Engine choice.Engine = true
 is_same choice.Show choice.Show = true
 is_same choice.Drawing choice.Drawing = true
+is_same choice.Counts choice.Counts = true
 is_same choice.Rule choice.Rule = true
 is_same one other = false
 
@@ -52,6 +57,7 @@ is_drawn (setting.Engine pick) = false
 is_drawn (setting.Show Points) = true
 is_drawn (setting.Show Cells) = false
 is_drawn (setting.Show Trace) = true
+is_drawn (setting.Show Taken) = false
 is_drawn (setting.Rule one) = false
 
 -- whether a picture is among these choices, and the setting tells what it shows

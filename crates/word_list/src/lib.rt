@@ -9,7 +9,7 @@
 //! query MAP SX SY GX GY [engine=ENGINE] [show=points|show=cells|show=trace] [rule=none|rule=one]
 //! solve MAP SCRIPT [engine=ENGINE] [show=points|show=cells|show=trace] [rule=none|rule=one]
 //! live MAP [engine=ENGINE] [show=points|show=cells|show=trace] [rule=none|rule=one]
-//! scen MAP SCEN [engine=ENGINE] [rule=none|rule=one]
+//! scen MAP SCEN [engine=ENGINE] [show=taken] [rule=none|rule=one]
 //! prove MAP SX SY GX GY [rule=none|rule=one]
 //! check MAP CERT [rule=none|rule=one]
 //! make SEED W H P

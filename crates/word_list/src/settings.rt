@@ -25,6 +25,8 @@ pub enum Choice {
     Show,
     /// What a picture shows: the points, and the states that the search took.
     Drawing,
+    /// What rows count: the states that the searches took.
+    Counts,
     /// Whether walks may pass corners.
     Rule,
 }
@@ -42,6 +44,7 @@ impl Setting {
             "show=points" => Some(Setting::Show(Show::Points)),
             "show=cells" => Some(Setting::Show(Show::Cells)),
             "show=trace" => Some(Setting::Show(Show::Trace)),
+            "show=taken" => Some(Setting::Show(Show::Taken)),
             "rule=none" => Some(Setting::Rule(false)),
             "rule=one" => Some(Setting::Rule(true)),
             _ => None,
@@ -54,7 +57,10 @@ impl Setting {
     {
         match self {
             Setting::Engine(_) => Choice::Engine,
-            Setting::Show(_) => Choice::Show,
+            Setting::Show(Show::Points) => Choice::Show,
+            Setting::Show(Show::Cells) => Choice::Show,
+            Setting::Show(Show::Trace) => Choice::Show,
+            Setting::Show(Show::Taken) => Choice::Counts,
             Setting::Rule(_) => Choice::Rule,
         }
     }
@@ -68,6 +74,7 @@ impl Setting {
             Setting::Show(Show::Points) => true,
             Setting::Show(Show::Cells) => false,
             Setting::Show(Show::Trace) => true,
+            Setting::Show(Show::Taken) => false,
             Setting::Rule(_) => false,
         }
     }
@@ -121,7 +128,7 @@ fn with_word(settings: Settings, word: &str) -> Settings
 /// the words before them.
 pub fn settled(allows: &[Choice], words: &[String]) -> usize
     ensures count { AreSettled allows.now [] (map string_bytes words.now) result }
-    ensures few { result ≤ 3 }
+    ensures few { result ≤ 4 }
 {
     count_settled(allows, words)
 }

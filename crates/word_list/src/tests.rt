@@ -13,7 +13,7 @@ fn words_of(alloc: Global, line: &str) -> Result<Vec<String>, AllocError> {
 // Counted by hand, from the table of commands.
 #[test]
 fn the_first_word_of_no_call_is_named(rt: HostRuntime) -> Result<(), Fail> {
-    let lists: [(&str, u32); 27] = [
+    let lists: [(&str, u32); 30] = [
         ("mkae", 1),
         ("make", 2),
         ("make 7 0 2 0", 3),
@@ -40,6 +40,9 @@ fn the_first_word_of_no_call_is_named(rt: HostRuntime) -> Result<(), Fail> {
         ("check m c show=cells", 4),
         ("scen m", 3),
         ("scen m s show=points engine=plain", 4),
+        ("scen m s show=taken show=taken", 5),
+        ("query m 0 0 2 2 show=taken", 7),
+        ("draw m 0 0 2 2 show=taken", 7),
         ("scen m s rule=one rule=none rule=one", 5),
     ];
     for (line, number) in lists {
