@@ -93,16 +93,20 @@ states_in (row.None taken) = taken
 states_in (row.Judged verdict cost taken) = taken
 states_in _ = 0
 
--- the last line, which counts the rows
+-- the last line, which counts the rows, and its end behind those that are agree or near
+abbrev pub sum_line_end : Show → List Row → List ℕ
+sum_line_end show rows =
+    codes " off " ++ decimal (count_by is_off rows)
+    ++ codes " other " ++ decimal (count_by is_other rows)
+    ++ count_text show (sum_by states_in rows)
+    ++ codes "\n"
+
 abbrev pub sum_line : Show → List Row → List ℕ
 sum_line show rows =
     codes "sum " ++ decimal (length rows)
     ++ codes " agree " ++ decimal (count_by is_agree rows)
     ++ codes " near " ++ decimal (count_by is_near rows)
-    ++ codes " off " ++ decimal (count_by is_off rows)
-    ++ codes " other " ++ decimal (count_by is_other rows)
-    ++ count_text show (sum_by states_in rows)
-    ++ codes "\n"
+    ++ sum_line_end show rows
 
 -- the status is 1 where some row is neither agree nor near
 abbrev pub scen_status : List Row → ℕ

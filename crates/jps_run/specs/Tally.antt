@@ -26,16 +26,20 @@ pub record IsTally (tally : Tally) : Type 0 where
 abbrev pub IsSmall : Tally → Type 0
 IsSmall tally = tally.taken ≤ tally.rows * 2 ^ 64
 
--- the last line, by the counts
+-- the last line, by the counts, and its end behind the rows that are agree or near
+abbrev pub sum_end : Show → Tally → List ℕ
+sum_end show tally =
+    codes " off " ++ decimal tally.off
+    ++ codes " other " ++ decimal tally.other
+    ++ count_text show tally.taken
+    ++ codes "\n"
+
 abbrev pub sum_text : Show → Tally → List ℕ
 sum_text show tally =
     codes "sum " ++ decimal tally.rows
     ++ codes " agree " ++ decimal tally.agree
     ++ codes " near " ++ decimal tally.near
-    ++ codes " off " ++ decimal tally.off
-    ++ codes " other " ++ decimal tally.other
-    ++ count_text show tally.taken
-    ++ codes "\n"
+    ++ sum_end show tally
 
 pub sum_text-counted : (show : Show) (rows : List Row) → sum_text show (tally_of rows) ≡ sum_line show rows
 sum_text-counted show rows = refl

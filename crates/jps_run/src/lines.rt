@@ -118,7 +118,11 @@ pub(crate) fn put_reply(
             taken,
         } => {
             match show {
-                Show::Points | Show::Trace | Show::Taken => put_walk(out, *cost, points.as_slice())?,
+                Show::Points | Show::Trace | Show::Taken => put_walk(
+                    out,
+                    *cost,
+                    points.as_slice(),
+                )?,
                 Show::Cells => put_walk(out, *cost, unfold(alloc, points)?.as_slice())?,
             }
             put_taken(out, width, show, taken.as_slice())?;

@@ -3,11 +3,11 @@
 ghost use Rattle.std.specs.Prelude.{◌≡◌, ℕ, ◌<◌, ◌+◌, ◌^◌, ◌++◌, ◌∷◌, [], List, OnOk, length};
 ghost use Rattle.root2_cost.specs.declared.lengths.Verdict.TheVariants as verdict;
 ghost use Rattle.jps_run.specs.Rows as spec;
-ghost use Rattle.jps_run.specs.Tally.{tally_of, sum_text, IsSmall, IsTally};
+ghost use Rattle.jps_run.specs.Tally.{tally_of, sum_end, sum_text, IsSmall, IsTally};
 
 use crate::NoMemory;
-use root2_cost::{Cost, Verdict};
 use itoa::Buffer;
+use root2_cost::{Cost, Verdict};
 use text_line::{put, put_number};
 use word_list::Show;
 
@@ -97,12 +97,7 @@ fn put_row_text(out: &mut Vec<u8>, show: Show, row: Row) -> Result<(), NoMemory>
 }
 
 /// Appends the line of the row with this number, and how many states were taken where this is shown.
-pub(crate) fn put_row(
-    out: &mut Vec<u8>,
-    show: Show,
-    number: u64,
-    row: Row,
-) -> Result<(), NoMemory>
+pub(crate) fn put_row(out: &mut Vec<u8>, show: Show, number: u64, row: Row) -> Result<(), NoMemory>
     ensures { OnOk result (out.new.items ≡ out.old.items ++ spec.row_line show number row) }
 {
     put(out, b"row ")?;
@@ -199,6 +194,13 @@ impl Tally {
         put_number(out, self.agree)?;
         put(out, b" near ")?;
         put_number(out, self.near)?;
+        self.put_end(out, show)
+    }
+
+    // Appends its end, behind the rows that are agree or near.
+    fn put_end(&self, out: &mut Vec<u8>, show: Show) -> Result<(), NoMemory>
+        ensures { OnOk result (out.new.items ≡ out.old.items ++ sum_end show self.now) }
+    {
         put(out, b" off ")?;
         put_number(out, self.off)?;
         put(out, b" other ")?;
