@@ -30,3 +30,5 @@ pub mod Pictures
 pub mod Distances
 pub mod Telling
 pub mod Costing
+pub mod Rulings
+pub mod Refereeing

@@ -10,6 +10,7 @@ pub(crate) enum Kind {
     Script,
     Scen,
     Cert,
+    Walks,
 }
 
 impl Kind {
@@ -22,6 +23,7 @@ impl Kind {
             Kind::Script => b"script",
             Kind::Scen => b"scen",
             Kind::Cert => b"cert",
+            Kind::Walks => b"walks",
         }
     }
 
@@ -31,7 +33,7 @@ impl Kind {
     {
         match self {
             Kind::Map | Kind::Script | Kind::Scen => 1 << 26,
-            Kind::Cert => 1 << 30,
+            Kind::Cert | Kind::Walks => 1 << 30,
         }
     }
 }

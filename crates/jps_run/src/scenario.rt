@@ -68,8 +68,8 @@ impl Job for Judge {
     }
 }
 
-// Whether the entry is meant for a map of the session's sides.
-fn has_sides(session: &Session, entry: Entry) -> bool
+/// Whether the entry is meant for a map of the session's sides.
+pub(crate) fn has_sides(session: &Session, entry: Entry) -> bool
     ensures { result ≡ rows.has_sides session.now entry }
 {
     entry.w == u32::from(session.width()) && entry.h == u32::from(session.height())

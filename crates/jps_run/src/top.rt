@@ -15,6 +15,7 @@ use crate::costs::costs;
 use crate::draw::draw;
 use crate::drill::drill;
 use crate::faults::word_line;
+use crate::judge::judge;
 use crate::live::{hear, live};
 use crate::make::make;
 use crate::prove::prove;
@@ -72,6 +73,7 @@ fn open_work<F: Files>(
         Request::Solve { map, script } => solve(alloc, files, map, script, settings),
         Request::Live { .. } => unreachable!(),
         Request::Scen { map, scen: name } => scen(alloc, files, map, name, settings),
+        Request::Judge { map, scen, walks } => judge(alloc, files, map, scen, walks, settings),
         Request::Prove {
             map,
             sx,
@@ -166,8 +168,8 @@ fn refuse_word<E: Sink>(alloc: Global, number: u32, err: &mut E) -> u8
 /// that comes in from `input`; `out` gets the output and `err` the line of a refusal or a fault.
 /// `steps` counts what the session counts.
 ///
-/// Statuses: 0 done; 1 done, and a scenario has a row that is neither agree nor near, or `check`
-/// refuses, or `prove` has no ends that are free and on one layer of the map, or `draw` none that are free; 2 the words
+/// Statuses: 0 done; 1 done, and a scenario has a row that is neither agree nor near, or `judge` or
+/// `check` refuses, or `prove` has no ends that are free and on one layer of the map, or `draw` none that are free; 2 the words
 /// are refused; 3 a text is refused; 4 a read failed; 5 a write of the output failed; 6 memory was
 /// refused, the one answer that is free.
 pub fn run<F: Files, I: Source, O: Sink, E: Sink, L: Ledger>(

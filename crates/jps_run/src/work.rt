@@ -13,6 +13,7 @@ use crate::costs::{Distances, write_costs};
 use crate::draw::{Canvas, write_drawing};
 use crate::drill::write_sums;
 use crate::query::Ends;
+use crate::referee::{Referee, write_rulings};
 use crate::scenario::write_rows;
 use crate::sending::send_text;
 use crate::stop::Stop;
@@ -37,6 +38,11 @@ pub(crate) enum Work {
     Judge {
         session: Session,
         show: Show,
+        entries: Vec<Entry>,
+    },
+    /// What another program tells of the entries of a scenario is judged, a row each, and their sum.
+    Referee {
+        job: Referee,
         entries: Vec<Entry>,
     },
     /// What the commands come to is summed up in one line.
@@ -92,6 +98,9 @@ pub(crate) fn perform<O: Sink, L: Ledger>(
             show,
             entries,
         } => write_rows(alloc, session, show, entries.as_slice(), out, steps),
+        Work::Referee { mut job, entries } => {
+            write_rulings(alloc, &mut job, entries.as_slice(), out, steps)
+        }
         Work::Drill { session, commands } => {
             write_sums(alloc, session, commands.as_slice(), out, steps)
         }

@@ -9,7 +9,7 @@ use Rattle.word_list.specs.declared.rows.Kind.TheVariants.{File, Number, Seed, S
 use Rattle.word_list.specs.declared.rows.Row as declared
 use Rattle.word_list.specs.declared.settings.Choice.{Choice}
 use Rattle.word_list.specs.declared.settings.Choice.TheVariants.{Engine, Show, Drawing, Counts, Rule}
-use Rattle.word_list.specs.Request.{Asked, Help, Version, Query, Solve, Live, Scen, Prove, Check, Make, Drill, Draw, Costs}
+use Rattle.word_list.specs.Request.{Asked, Help, Version, Query, Solve, Live, Scen, Judge, Prove, Check, Make, Drill, Draw, Costs}
 
 -- a command, the kinds of the words that it takes, and the settings that it allows after them
 pub record Row : Type 0 where
@@ -36,6 +36,8 @@ row_of name =
     Some (record { command = command.Live; takes = File ∷ []; allows = Engine ∷ Show ∷ Rule ∷ [] })
     else if bytes_eq name (codes "scen") then
     Some (record { command = command.Scen; takes = File ∷ File ∷ []; allows = Engine ∷ Counts ∷ Rule ∷ [] })
+    else if bytes_eq name (codes "judge") then
+    Some (record { command = command.Judge; takes = File ∷ File ∷ File ∷ []; allows = Rule ∷ [] })
     else if bytes_eq name (codes "prove") then
     Some (record {
       command = command.Prove;
@@ -106,6 +108,7 @@ asked_by command.Query words =
 asked_by command.Solve words = Solve (word_at words 0) (word_at words 1)
 asked_by command.Live words = Live (word_at words 0)
 asked_by command.Scen words = Scen (word_at words 0) (word_at words 1)
+asked_by command.Judge words = Judge (word_at words 0) (word_at words 1) (word_at words 2)
 asked_by command.Prove words =
     Prove (word_at words 0) (number_at words 1) (number_at words 2) (number_at words 3) (number_at words 4)
 asked_by command.Check words = Check (word_at words 0) (word_at words 1)

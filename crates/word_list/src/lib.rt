@@ -10,6 +10,7 @@
 //! solve MAP SCRIPT [engine=ENGINE] [show=points|show=cells|show=trace] [rule=none|rule=one]
 //! live MAP [engine=ENGINE] [show=points|show=cells|show=trace] [rule=none|rule=one]
 //! scen MAP SCEN [engine=ENGINE] [show=taken] [rule=none|rule=one]
+//! judge MAP SCEN WALKS [rule=none|rule=one]
 //! prove MAP SX SY GX GY [rule=none|rule=one]
 //! check MAP CERT [rule=none|rule=one]
 //! make SEED W H P

@@ -31,6 +31,13 @@ pub enum Request<'a> {
         map: &'a str,
         scen: &'a str,
     },
+    /// How the walks that another program tells for the scenario are judged by the least ones on the
+    /// map.
+    Judge {
+        map: &'a str,
+        scen: &'a str,
+        walks: &'a str,
+    },
     /// A certificate of the least cost of the walks on the map between two cells, or that there is
     /// none.
     Prove {

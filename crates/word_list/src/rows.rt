@@ -19,6 +19,7 @@ pub enum Command {
     Solve,
     Live,
     Scen,
+    Judge,
     Prove,
     Check,
     Make,
@@ -114,6 +115,7 @@ pub fn row_named(name: &str) -> Option<Row>
         "solve" => (Command::Solve, &[File, File], &[Engine, Show, Rule]),
         "live" => (Command::Live, &[File], &[Engine, Show, Rule]),
         "scen" => (Command::Scen, &[File, File], &[Engine, Counts, Rule]),
+        "judge" => (Command::Judge, &[File, File, File], &[Rule]),
         "prove" => (
             Command::Prove,
             &[File, Number, Number, Number, Number],
@@ -162,6 +164,11 @@ pub fn request<'a>(command: Command, words: &'a [String]) -> Request<'a>
         Command::Scen => Request::Scen {
             map: name_at(words, 0),
             scen: name_at(words, 1),
+        },
+        Command::Judge => Request::Judge {
+            map: name_at(words, 0),
+            scen: name_at(words, 1),
+            walks: name_at(words, 2),
         },
         Command::Prove => Request::Prove {
             map: name_at(words, 0),
