@@ -7,6 +7,7 @@ The page is HTML with the pictures in it, for any browser; it needs no other fil
 `jps draw .. show=trace` prints. Its caption has the number of states from the line of `jps query .. show=trace`.
 """
 
+import html
 import subprocess
 import sys
 
@@ -18,9 +19,10 @@ PAGE = """<!DOCTYPE html>
 <meta charset="utf-8"/>
 <title>{title}</title>
 <style>
-body {{ font-family: sans-serif; margin: 2em; display: flex; flex-wrap: wrap; gap: 2em }}
-h1 {{ width: 100%; font-size: 1.2em; margin: 0 }}
-figure {{ margin: 0; flex: 1 1 20em; max-width: 40em }}
+body {{ font-family: sans-serif; margin: 2em; display: grid; gap: 1.5em }}
+body {{ grid-template-columns: repeat(auto-fill, minmax(16em, 1fr)) }}
+h1 {{ grid-column: 1 / -1; font-size: 1.2em; margin: 0 }}
+figure {{ margin: 0 }}
 </style>
 </head>
 <body>
@@ -59,8 +61,9 @@ def main():
     answer = says(program, "query", *words).rstrip("\n")
     if answer in ("outside", "blocked"):
         sys.exit(f"page.py: {answer}: there is nothing to draw")
+    title = html.escape(f"{' '.join(words)}: {' '.join(answer.split()[:3])}")
     figures = "".join(figure(program, engine, words) for engine in ENGINES)
-    print(PAGE.format(title=answer, figures=figures), end="")
+    print(PAGE.format(title=title, figures=figures), end="")
 
 
 main()
