@@ -27,5 +27,6 @@ pub mod Drilling
 pub mod Certificates
 pub mod Pictures
 pub mod Distances
+pub mod Tabled
 pub mod Telling
 pub mod Costing

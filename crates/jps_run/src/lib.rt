@@ -30,6 +30,9 @@ mod scenario;
 mod sending;
 mod solve;
 mod stop;
+mod tables;
+#[cfg(test)]
+mod tables_tests;
 #[cfg(test)]
 mod tests;
 mod texts;
