@@ -3,7 +3,7 @@
 ghost use Rattle.std.specs.Prelude.{◌≡◌};
 ghost use Rattle.word_list.specs.Request as asked;
 ghost use Rattle.jps_run.specs.Opened.{OpensWork};
-ghost use Rattle.jps_run.specs.Outcome.{call_with};
+ghost use Rattle.jps_run.specs.Calls.{call_with};
 
 use crate::files::open_two;
 use crate::stop::Stop;
@@ -26,7 +26,7 @@ pub(crate) fn scen<F: Files>(
         (F.disk files.old) (F.disk files.new) result }
     ensures unchanged { (F.disk files.new).holds ≡ (F.disk files.old).holds }
 {
-    let both: (Session, Vec<Entry>) = open_two(alloc, files, map, settings, name)?;
+    let both: (Session, Vec<Entry>) = open_two(alloc, files, map, settings, name, &())?;
     let (session, entries) = both;
     Ok(Work::Judge { session, entries })
 }

@@ -3,7 +3,7 @@
 ghost use Rattle.std.specs.Prelude.{◌≡◌};
 ghost use Rattle.word_list.specs.Request as asked;
 ghost use Rattle.jps_run.specs.Opened.{OpensWork};
-ghost use Rattle.jps_run.specs.Outcome.{call_with};
+ghost use Rattle.jps_run.specs.Calls.{call_with};
 
 use crate::answers::Answers;
 use crate::files::open_two;
@@ -27,7 +27,7 @@ pub(crate) fn solve<F: Files>(
         (F.disk files.old) (F.disk files.new) result }
     ensures unchanged { (F.disk files.new).holds ≡ (F.disk files.old).holds }
 {
-    let both: (Session, Vec<Command>) = open_two(alloc, files, map, settings, script)?;
+    let both: (Session, Vec<Command>) = open_two(alloc, files, map, settings, script, &())?;
     let (session, commands) = both;
     let job = Answers {
         session,

@@ -3,8 +3,8 @@
 ghost use Rattle.std.specs.Prelude.{◌≡◌, IfOk};
 ghost use Rattle.table_file.specs.Encoding.{AreOfOneMap, encoding};
 ghost use Rattle.word_list.specs.Request as asked;
+ghost use Rattle.jps_run.specs.Calls.{call_with};
 ghost use Rattle.jps_run.specs.Opened.{OpensWork};
-ghost use Rattle.jps_run.specs.Outcome.{call_with};
 
 use crate::NoMemory;
 use crate::files::open_one;

@@ -2,7 +2,8 @@ use Rattle.std.proofs.Common.{◌≡◌, refl, sym, ap, ◌∙◌, subst, inl, L
 use Rattle.grid_moves.specs.Layers.{Layers}
 use Rattle.table_file.specs.Encoding.{encoding}
 use Rattle.word_list.specs.Request.{Tables}
-use Rattle.jps_run.specs.Outcome.{IsAnswered, call_with, tabled}
+use Rattle.jps_run.specs.Calls.{call_with}
+use Rattle.jps_run.specs.Outcome.{IsAnswered, tabled}
 use Rattle.jps_run.specs.Session.{corner_of}
 use Rattle.jps_run.specs.Tabled.{tables_text}
 use Rattle.jps_run.proofs.Opening.{text-right}
