@@ -28,6 +28,7 @@ pub mod Calls
 pub mod Certificates
 pub mod Pictures
 pub mod Distances
+pub mod Tabled
 pub mod Telling
 pub mod Costing
 pub mod Rulings

@@ -16,7 +16,7 @@ use Rattle.walk_judge.specs.Walks.{walks_of}
 use Rattle.potential_check.specs.Text.{certificate_of, plain}
 use Rattle.potential_check.specs.declared.certificate.Certificate.{Certificate}
 use Rattle.word_list.specs.Calls.{call_of, is_call}
-use Rattle.word_list.specs.Request.{Call, Help, Version, Query, Solve, Live, Scen, Judge, Prove, Check, Make, Drill, Draw, Costs}
+use Rattle.word_list.specs.Request.{Call, Help, Version, Query, Solve, Live, Scen, Judge, Prove, Check, Make, Drill, Draw, Costs, Tables}
 use Rattle.word_list.specs.Rule.{IsBadWord}
 use Rattle.word_list.specs.declared.request.Settings.{Settings}
 use Rattle.jps_run.specs.Answers.{AreAnswers}
@@ -32,6 +32,7 @@ use Rattle.jps_run.specs.Pictures.{IsDrawing}
 use Rattle.jps_run.specs.Rows.{AreRows, scen_lines, scen_status}
 use Rattle.jps_run.specs.Rulings.{AreRulings, judge_lines, judge_status}
 use Rattle.jps_run.specs.Session.{corner_of, session_on}
+use Rattle.jps_run.specs.Tabled.{tables_text}
 use Rattle.jps_run.specs.Texts.{help_text, version_text}
 use Rattle.jps_run.specs.declared.row.Row.{Row}
 use Rattle.jps_run.specs.declared.ruling.Ruling.{Ruling}
@@ -87,6 +88,8 @@ pub data IsAnswered : Call → List (List ℕ) → List (List ℕ) → ℕ → T
       → map_of text ≡ Ok m
       → AreCosts (layers_of (corner_of set.one) m.width m.height m.cells) (record { x = x; y = y }) lines
       → IsAnswered (call_with (Costs map x y) set) (text ∷ []) lines 0
+  tabled : (map text : List ℕ) (set : Settings) (m : Map) → map_of text ≡ Ok m
+      → IsAnswered (call_with (Tables map) set) (text ∷ []) (tables_text (corner_of set.one) m ∷ []) 0
 
 -- the lines and the status are a right output of a call, with the files that are held
 pub record IsOutput (call : Call) (holds : List ℕ → Held) (lines : List (List ℕ)) (status : ℕ) : Type 0 where

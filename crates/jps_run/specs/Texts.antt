@@ -26,6 +26,8 @@ help_text =
     ++ codes "      a picture (SVG) of the map and of a least walk, and with show=trace of the cells of the taken states\n"
     ++ codes "  jps costs MAP X Y [rule=none|rule=one]\n"
     ++ codes "      the least cost from the cell (X,Y) to each cell, a line for each row: `A,B`, or `-` where no walk leads\n"
+    ++ codes "  jps tables MAP [rule=none|rule=one]\n"
+    ++ codes "      the tables of the engine plus as bytes, for other programs\n"
     ++ codes "  jps --help\n"
     ++ codes "      this text\n"
     ++ codes "  jps --version\n"

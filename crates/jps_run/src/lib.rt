@@ -33,6 +33,9 @@ mod scenario;
 mod sending;
 mod solve;
 mod stop;
+mod tables;
+#[cfg(test)]
+mod tables_tests;
 #[cfg(test)]
 mod tests;
 mod texts;

@@ -30,6 +30,8 @@ pub(crate) fn help_text() -> &'static [u8]
       a picture (SVG) of the map and of a least walk, and with show=trace of the cells of the taken states
   jps costs MAP X Y [rule=none|rule=one]
       the least cost from the cell (X,Y) to each cell, a line for each row: `A,B`, or `-` where no walk leads
+  jps tables MAP [rule=none|rule=one]
+      the tables of the engine plus as bytes, for other programs
   jps --help
       this text
   jps --version

@@ -23,6 +23,7 @@ use crate::query::{Ends, query};
 use crate::scen::scen;
 use crate::solve::solve;
 use crate::stop::Stop;
+use crate::tables::tables;
 use crate::texts::{help_text, version_text};
 use crate::work::{Opened, Work, perform};
 use io_edge::{Files, Sink, Source, write_whole};
@@ -97,6 +98,7 @@ fn open_work<F: Files>(
             gy,
         } => draw(alloc, files, map, Ends { sx, sy, gx, gy }, settings),
         Request::Costs { map, x, y } => costs(alloc, files, map, x, y, settings),
+        Request::Tables { map } => tables(alloc, files, map, settings),
     }
 }
 

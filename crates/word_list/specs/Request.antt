@@ -19,6 +19,7 @@ pub data Asked : Type 0 where
   Drill : (seed : ℕ) → Asked
   Draw : (map : List ℕ) (sx sy gx gy : ℕ) → Asked
   Costs : (map : List ℕ) (x y : ℕ) → Asked
+  Tables : (map : List ℕ) → Asked
 
 -- what a request asks for
 abbrev pub asked : Request → Asked
@@ -35,6 +36,7 @@ asked (request.Make seed w h percent) = Make seed w h percent
 asked (request.Drill seed) = Drill seed
 asked (request.Draw map sx sy gx gy) = Draw map.now sx sy gx gy
 asked (request.Costs map x y) = Costs map.now x y
+asked (request.Tables map) = Tables map.now
 
 -- the sides of a map that is to be made are 1 to 4096
 abbrev pub HasSides : Request → Type 0
@@ -51,6 +53,7 @@ HasSides (request.Make seed w h percent) = (1 ≤ w) × (w ≤ 4096) × (1 ≤ h
 HasSides (request.Drill seed) = ⊤
 HasSides (request.Draw map sx sy gx gy) = ⊤
 HasSides (request.Costs map x y) = ⊤
+HasSides (request.Tables map) = ⊤
 
 -- a request and how it is to be done
 pub record Call : Type 0 where

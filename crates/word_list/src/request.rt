@@ -77,6 +77,10 @@ pub enum Request<'a> {
         x: u32,
         y: u32,
     },
+    /// The tables of the map's two grids, as bytes.
+    Tables {
+        map: &'a str,
+    },
 }
 
 /// How a request is to be done. A setting that the words don't have stands at its default.

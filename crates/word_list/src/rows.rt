@@ -26,6 +26,7 @@ pub enum Command {
     Drill,
     Draw,
     Costs,
+    Tables,
 }
 
 /// The side of a map that the word spells, if it is one: a number from 1 to 4096.
@@ -134,6 +135,7 @@ pub fn row_named(name: &str) -> Option<Row>
             &[Engine, Drawing, Rule],
         ),
         "costs" => (Command::Costs, &[File, Number, Number], &[Rule]),
+        "tables" => (Command::Tables, &[File], &[Rule]),
         _ => return None,
     };
     Some(Row {
@@ -205,6 +207,9 @@ pub fn request<'a>(command: Command, words: &'a [String]) -> Request<'a>
             map: name_at(words, 0),
             x: number_at(words, 1),
             y: number_at(words, 2),
+        },
+        Command::Tables => Request::Tables {
+            map: name_at(words, 0),
         },
     }
 }
