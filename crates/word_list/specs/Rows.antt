@@ -9,7 +9,7 @@ use Rattle.word_list.specs.declared.rows.Kind.TheVariants.{File, Number, Seed, S
 use Rattle.word_list.specs.declared.rows.Row as declared
 use Rattle.word_list.specs.declared.settings.Choice.{Choice}
 use Rattle.word_list.specs.declared.settings.Choice.TheVariants.{Engine, Show, Drawing, Rule}
-use Rattle.word_list.specs.Request.{Asked, Help, Version, Query, Solve, Live, Scen, Prove, Check, Make, Drill, Draw, Costs}
+use Rattle.word_list.specs.Request.{Asked, Help, Version, Query, Solve, Live, Scen, Prove, Check, Make, Drill, Draw, Costs, Boxes, Moves}
 
 -- a command, the kinds of the words that it takes, and the settings that it allows after them
 pub record Row : Type 0 where
@@ -56,6 +56,10 @@ row_of name =
     })
     else if bytes_eq name (codes "costs") then
     Some (record { command = command.Costs; takes = File ∷ Number ∷ Number ∷ []; allows = Rule ∷ [] })
+    else if bytes_eq name (codes "boxes") then
+    Some (record { command = command.Boxes; takes = File ∷ Number ∷ Number ∷ []; allows = Rule ∷ [] })
+    else if bytes_eq name (codes "moves") then
+    Some (record { command = command.Moves; takes = File ∷ Number ∷ Number ∷ []; allows = Rule ∷ [] })
     else None
 
 -- the number, where it lies between these
@@ -114,6 +118,8 @@ asked_by command.Drill words = Drill (seed_at words 0)
 asked_by command.Draw words =
     Draw (word_at words 0) (number_at words 1) (number_at words 2) (number_at words 3) (number_at words 4)
 asked_by command.Costs words = Costs (word_at words 0) (number_at words 1) (number_at words 2)
+asked_by command.Boxes words = Boxes (word_at words 0) (number_at words 1) (number_at words 2)
+asked_by command.Moves words = Moves (word_at words 0) (number_at words 1) (number_at words 2)
 
 -- a row of the code
 abbrev pub row_data : declared.Row → Row

@@ -16,6 +16,8 @@
 //! drill SEED [engine=ENGINE] [rule=none|rule=one]
 //! draw MAP SX SY GX GY [engine=ENGINE] [show=points|show=trace] [rule=none|rule=one]
 //! costs MAP X Y [rule=none|rule=one]
+//! boxes MAP X Y [rule=none|rule=one]
+//! moves MAP X Y [rule=none|rule=one]
 //! ```
 //!
 //! ENGINE is `plain`, `jps`, `block` or `plus`. Names of files are any words; numbers are 1 to 9 decimal digits,

@@ -25,6 +25,8 @@ pub enum Command {
     Drill,
     Draw,
     Costs,
+    Boxes,
+    Moves,
 }
 
 /// The side of a map that the word spells, if it is one: a number from 1 to 4096.
@@ -128,6 +130,8 @@ pub fn row_named(name: &str) -> Option<Row>
             &[Engine, Drawing, Rule],
         ),
         "costs" => (Command::Costs, &[File, Number, Number], &[Rule]),
+        "boxes" => (Command::Boxes, &[File, Number, Number], &[Rule]),
+        "moves" => (Command::Moves, &[File, Number, Number], &[Rule]),
         _ => return None,
     };
     Some(Row {
@@ -191,6 +195,16 @@ pub fn request<'a>(command: Command, words: &'a [String]) -> Request<'a>
             gy: number_at(words, 4),
         },
         Command::Costs => Request::Costs {
+            map: name_at(words, 0),
+            x: number_at(words, 1),
+            y: number_at(words, 2),
+        },
+        Command::Boxes => Request::Boxes {
+            map: name_at(words, 0),
+            x: number_at(words, 1),
+            y: number_at(words, 2),
+        },
+        Command::Moves => Request::Moves {
             map: name_at(words, 0),
             x: number_at(words, 1),
             y: number_at(words, 2),
