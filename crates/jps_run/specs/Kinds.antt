@@ -1,16 +1,19 @@
 -- The kinds of texts that a request reads.
-use Rattle.std.specs.Prelude.{ℕ, ◌^◌, List, codes, Result, Ok, Err, Option, Some, None}
+use Rattle.std.specs.Prelude.{ℕ, ◌^◌, ◌*◌, nat_le, Bool, if◌then◌else◌, List, codes, Result, Ok, Err, Option, Some, None}
 use Rattle.map_text.specs.Faults.{map_of}
+use Rattle.map_text.specs.Map as maps
+use Rattle.map_text.specs.declared.fault.MapFault.{MapFault}
 use Rattle.script_text.specs.Faults.{script_of}
 use Rattle.scen_text.specs.Faults.{scen_of}
 use Rattle.potential_check.specs.Text.{certificate_of}
-use Rattle.jps_run.specs.FaultLines.{cert_line, map_line, script_line, scen_line}
+use Rattle.jps_run.specs.FaultLines.{cert_line, large_line, map_line, script_line, scen_line}
 use Rattle.jps_run.specs.declared.kind.Kind.{Kind}
-use Rattle.jps_run.specs.declared.kind.Kind.TheVariants.{Map, Script, Scen, Cert}
+use Rattle.jps_run.specs.declared.kind.Kind.TheVariants.{Map, SmallMap, Script, Scen, Cert}
 
 -- the word of a kind in fault lines
 abbrev pub kind_word : Kind → List ℕ
 kind_word Map = codes "map"
+kind_word SmallMap = codes "map"
 kind_word Script = codes "script"
 kind_word Scen = codes "scen"
 kind_word Cert = codes "cert"
@@ -18,6 +21,7 @@ kind_word Cert = codes "cert"
 -- the longest text of a kind, in bytes
 abbrev pub limit_of : Kind → ℕ
 limit_of Map = 2 ^ 26
+limit_of SmallMap = 2 ^ 26
 limit_of Script = 2 ^ 26
 limit_of Scen = 2 ^ 26
 limit_of Cert = 2 ^ 30
@@ -27,9 +31,19 @@ abbrev pub fault_in : {V F : Type 0} → (F → List ℕ) → Result V F → Opt
 fault_in line_of (Ok value) = None
 fault_in line_of (Err fault) = Some (line_of fault)
 
+-- a map has at most 2^14 cells
+abbrev pub is_small : maps.Map → Bool
+is_small m = nat_le (m.height * m.width) (2 ^ 14)
+
+-- the line of a map that is read as a fault, or that has more cells
+abbrev pub small_refusal : Result maps.Map MapFault → Option (List ℕ)
+small_refusal (Ok m) = if is_small m then None else Some large_line
+small_refusal (Err fault) = Some (map_line fault)
+
 -- the line with which a text is refused behind the texts before it, if it is
 abbrev pub refusal_of : Kind → List (List ℕ) → List ℕ → Option (List ℕ)
 refusal_of Map earlier text = fault_in map_line (map_of text)
+refusal_of SmallMap earlier text = small_refusal (map_of text)
 refusal_of Script earlier text = fault_in script_line (script_of text)
 refusal_of Scen earlier text = fault_in scen_line (scen_of text)
 refusal_of Cert earlier text = fault_in cert_line (certificate_of text)

@@ -29,3 +29,5 @@ pub mod Pictures
 pub mod Distances
 pub mod Telling
 pub mod Costing
+pub mod BoxLines
+pub mod RunLines

@@ -14,10 +14,11 @@ use Rattle.scen_text.specs.Faults.{scen_of}
 use Rattle.potential_check.specs.Text.{certificate_of, plain}
 use Rattle.potential_check.specs.declared.certificate.Certificate.{Certificate}
 use Rattle.word_list.specs.Calls.{call_of, is_call}
-use Rattle.word_list.specs.Request.{Asked, Call, Help, Version, Query, Solve, Live, Scen, Prove, Check, Make, Drill, Draw, Costs}
+use Rattle.word_list.specs.Request.{Asked, Call, Help, Version, Query, Solve, Live, Scen, Prove, Check, Make, Drill, Draw, Costs, Boxes, Moves}
 use Rattle.word_list.specs.Rule.{IsBadWord}
 use Rattle.word_list.specs.declared.request.Settings.{Settings}
 use Rattle.jps_run.specs.Answers.{AreAnswers}
+use Rattle.jps_run.specs.BoxLines.{IsBoxText}
 use Rattle.jps_run.specs.Certificates.{IsProof, IsVerdict}
 use Rattle.jps_run.specs.Distances.{AreCosts}
 use Rattle.jps_run.specs.Drill.{AreDrilled, drill_line}
@@ -27,6 +28,7 @@ use Rattle.jps_run.specs.Files.{File, AreAccepted, HasRefused}
 use Rattle.jps_run.specs.Heard.{AreHeard}
 use Rattle.jps_run.specs.Pictures.{IsDrawing}
 use Rattle.jps_run.specs.Rows.{AreRows, scen_lines, scen_status}
+use Rattle.jps_run.specs.RunLines.{IsRunText}
 use Rattle.jps_run.specs.Session.{corner_of, session_on}
 use Rattle.jps_run.specs.Texts.{help_text, version_text}
 use Rattle.jps_run.specs.declared.kind.Kind.TheVariants as kind
@@ -55,6 +57,8 @@ files_of (Make seed w h percent) = []
 files_of (Drill seed) = []
 files_of (Draw map sx sy gx gy) = record { kind = kind.Map; name = map } ∷ []
 files_of (Costs map x y) = record { kind = kind.Map; name = map } ∷ []
+files_of (Boxes map x y) = record { kind = kind.SmallMap; name = map } ∷ []
+files_of (Moves map x y) = record { kind = kind.SmallMap; name = map } ∷ []
 files_of (Scen map scen) =
     record { kind = kind.Map; name = map } ∷ record { kind = kind.Scen; name = scen } ∷ []
 
@@ -103,6 +107,14 @@ pub data IsAnswered : Call → List (List ℕ) → List (List ℕ) → ℕ → T
       → map_of text ≡ Ok m
       → AreCosts (layers_of (corner_of set.one) m.width m.height m.cells) (record { x = x; y = y }) lines
       → IsAnswered (call_with (Costs map x y) set) (text ∷ []) lines 0
+  boxed : (map text : List ℕ) (x y : ℕ) (set : Settings) (m : Map) (printed : List ℕ)
+      → map_of text ≡ Ok m
+      → IsBoxText (layers_of (corner_of set.one) m.width m.height m.cells) (record { x = x; y = y }) printed
+      → IsAnswered (call_with (Boxes map x y) set) (text ∷ []) (printed ∷ []) 0
+  moved : (map text : List ℕ) (x y : ℕ) (set : Settings) (m : Map) (printed : List ℕ)
+      → map_of text ≡ Ok m
+      → IsRunText (layers_of (corner_of set.one) m.width m.height m.cells) (record { x = x; y = y }) printed
+      → IsAnswered (call_with (Moves map x y) set) (text ∷ []) (printed ∷ []) 0
 
 -- the lines and the status are a right output of a call, with the files that are held
 pub record IsOutput (call : Call) (holds : List ℕ → Held) (lines : List (List ℕ)) (status : ℕ) : Type 0 where

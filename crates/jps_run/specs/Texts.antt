@@ -25,6 +25,10 @@ help_text =
     ++ codes "      a picture (SVG) of the map and of a least walk, and with show=trace of the cells of the taken states\n"
     ++ codes "  jps costs MAP X Y [rule=none|rule=one]\n"
     ++ codes "      the least cost from the cell (X,Y) to each cell, a line for each row: `A,B`, or `-` where no walk leads\n"
+    ++ codes "  jps boxes MAP X Y [rule=none|rule=one]\n"
+    ++ codes "      for each direction the least box of cells to which some least walk from the cell (X,Y) begins so\n"
+    ++ codes "  jps moves MAP X Y [rule=none|rule=one]\n"
+    ++ codes "      the first move from the cell (X,Y) to each cell, a line for each run of cells with one first move\n"
     ++ codes "  jps --help\n"
     ++ codes "      this text\n"
     ++ codes "  jps --version\n"
@@ -45,6 +49,7 @@ help_text =
     ++ codes "  jps: word N            word N is missing, or no call has it there; words are counted from 1\n"
     ++ codes "  jps: TEXT CODE line N  line N of the map, script, scen or cert breaks its form\n"
     ++ codes "  jps: TEXT long         the text is longer than 67108864 bytes, a cert than 1073741824\n"
+    ++ codes "  jps: map large         the map has more than 16384 cells, and `boxes` or `moves` was asked for\n"
     ++ codes "  jps: read, jps: write, jps: memory\n"
 
 -- what `--version` prints

@@ -7,6 +7,8 @@ ghost use Rattle.jps_run.specs.Kinds.{kind_word, limit_of};
 #[derive(Clone, Copy, Debug)]
 pub(crate) enum Kind {
     Map,
+    /// A map of at most 2^14 cells.
+    SmallMap,
     Script,
     Scen,
     Cert,
@@ -18,7 +20,7 @@ impl Kind {
         ensures { result.now ≡ kind_word self }
     {
         match self {
-            Kind::Map => b"map",
+            Kind::Map | Kind::SmallMap => b"map",
             Kind::Script => b"script",
             Kind::Scen => b"scen",
             Kind::Cert => b"cert",
@@ -30,7 +32,7 @@ impl Kind {
         ensures { result ≡ limit_of self }
     {
         match self {
-            Kind::Map | Kind::Script | Kind::Scen => 1 << 26,
+            Kind::Map | Kind::SmallMap | Kind::Script | Kind::Scen => 1 << 26,
             Kind::Cert => 1 << 30,
         }
     }

@@ -44,6 +44,23 @@ impl OfMap for Layers {
     }
 }
 
+/// The land grid and the water grid of a map of at most 2^14 cells.
+#[derive(Drop)]
+pub(crate) struct SmallLayers {
+    pub layers: Layers,
+}
+
+impl OfMap for SmallLayers {
+    ghost use Rattle.jps_run.specs.Reading.{AreSmallLayersOf};
+
+    ghost is_of_map = { AreSmallLayersOf };
+
+    fn of_map(alloc: Global, map: MapText, settings: Settings) -> Result<SmallLayers, NoMemory> {
+        let layers = Layers::of_map(alloc, map, settings)?;
+        Ok(SmallLayers { layers })
+    }
+}
+
 impl Layers {
     /// The cell of this column and row, where it lies on the map.
     pub(crate) fn cell_at(&self, x: u32, y: u32) -> Option<Cell>
