@@ -14,15 +14,17 @@ use Rattle.edit_replay.specs.declared.reply.Reply.{Reply}
 use Rattle.edit_replay.specs.declared.engine.Engine.{Engine}
 use Rattle.edit_replay.specs.declared.engine.Engine.TheVariants as engine
 use Rattle.word_list.specs.declared.request.Pick.{Pick}
-use Rattle.word_list.specs.declared.request.Pick.TheVariants.{Plain, Jps, Block, Plus}
+use Rattle.word_list.specs.declared.request.Pick.TheVariants.{Plain, Jps, Block, Plus, Boxes, Moves}
 use Rattle.word_list.specs.declared.request.Settings.{Settings}
 
--- the engine that is picked
+-- the engine that is picked; no session meets those of small maps
 abbrev pub engine_of : Pick → Engine
 engine_of Plain = engine.Plain
 engine_of Jps = engine.Jps
 engine_of Block = engine.Block
 engine_of Plus = engine.Plus
+engine_of Boxes = engine.Plain
+engine_of Moves = engine.Plain
 
 -- the corner rule, by whether a diagonal move may pass one blocked cell
 abbrev pub corner_of : Bool → Corner

@@ -172,6 +172,9 @@ pub(crate) fn engine_of(pick: Pick) -> Engine
         Pick::Jps => Engine::Jps,
         Pick::Block => Engine::Block,
         Pick::Plus => Engine::Plus,
+        // No session meets these: they answer by no search of its kind.
+        Pick::Boxes => Engine::Plain,
+        Pick::Moves => Engine::Plain,
     }
 }
 

@@ -5,7 +5,7 @@ use Rattle.text_line.specs.LongNumbers.{long_number_of}
 use Rattle.text_line.specs.Numbers.{number_of}
 use Rattle.word_list.specs.declared.rows.Kind.{Kind}
 use Rattle.word_list.specs.declared.rows.Kind.TheVariants.{File, Number, Seed, Side, Percent}
-use Rattle.word_list.specs.declared.settings.Choice.{Choice}
+use Rattle.word_list.specs.declared.settings.Family.{Family}
 use Rattle.word_list.specs.Settings.{are_settings}
 use Rattle.word_list.specs.Rows.{is_of}
 use Rattle.word_list.specs.Calls.{fits}
@@ -13,7 +13,7 @@ use Rattle.word_list.specs.Rule.{Begins, EndsAfter}
 use Rattle.word_list.specs.Steps.{AreOf}
 use Rattle.word_list.proofs.Rules.{ends_at_once, ends_later}
 
-module _ (allows : List Choice) where
+module _ (allows : List Family) where
   -- every form has a list
   pub completed : (takes : List Kind) → Begins (fits takes allows) []
   unfolding number_of long_number_of

@@ -3,7 +3,7 @@ use Rattle.std.proofs.Common.{◌≡◌, ℕ, zero, suc, ◌+◌, ◌<◌, ◌�
 use Rattle.std.specs.Prelude.{String, Option, Some, None, if◌then◌else◌}
 use Rattle.std.specs.Global.{Global}
 use Rattle.std.specs.List.{list_any}
-use Rattle.std.proofs.lemmas.Bool.{and_parts}
+use Rattle.std.proofs.lemmas.Bool.{and_parts, or_parts, or_left, false_from_ne_true, true≢false}
 use Rattle.std.proofs.lemmas.List.{length-map, get_or-map, take_more}
 use Rattle.std.proofs.lemmas.List.Sums.{fold-append}
 use Rattle.std.proofs.lemmas.List.Folds.{list_any-append, list_any_at, list_any_more}
@@ -11,7 +11,8 @@ use Rattle.word_list.specs.declared.settings.Setting.{Setting}
 use Rattle.word_list.specs.declared.settings.Setting.TheVariants as setting
 use Rattle.word_list.specs.declared.settings.Choice.{Choice}
 use Rattle.word_list.specs.declared.settings.Choice.TheVariants as choice
-use Rattle.word_list.specs.Settings.{setting_of, choice_of, is_same, are_clashing, is_allowed, may_follow, all_follow, settings_with, default_settings, settings_of}
+use Rattle.word_list.specs.declared.settings.Family.{Family}
+use Rattle.word_list.specs.Settings.{setting_of, choice_of, is_same, excludes, is_clash, are_clashing, is_allowed, may_follow, all_follow, settings_with, default_settings, settings_of}
 use Rattle.word_list.specs.Rule.{EndsAfter}
 use Rattle.word_list.specs.Steps.{AreSettled}
 use Rattle.word_list.proofs.Rules.{ends_at_once, ends_later}
@@ -36,12 +37,12 @@ module _ {A : Type 0} (test : A → Bool) (xs : List A) (place : ℕ) (x : A) (i
   none_yet unmet none = list_any_more test xs place x inside ∙ rw (none, at, unmet) refl
 
 -- a list of settings ends after so many words, and is one where these are all
-pub record Settles (allows : List Choice) (before words : List (List ℕ)) (count : ℕ) : Type 0 where
+pub record Settles (allows : List Family) (before words : List (List ℕ)) (count : ℕ) : Type 0 where
   pub ends : EndsAfter (all_follow allows before) words count
   pub wrong : count < length words → all_follow allows before words ≡ false
   pub right : length words ≤ count → all_follow allows before words ≡ true
 
-module _ (allows : List Choice) where
+module _ (allows : List Family) where
   later : {before : List (List ℕ)} {word : List ℕ} {words : List (List ℕ)} {count : ℕ}
       → AreSettled allows before (word ∷ words) (suc count)
       → AreSettled allows (before ++ word ∷ []) words count
@@ -104,20 +105,29 @@ few_made words = omega (
     one true = omega arith
     one false = omega arith
 
+-- what makes the same choice clashes
+equal_clash : (one other : Setting) → is_same (choice_of one) (choice_of other) ≡ true → is_clash one other ≡ true
+equal_clash one other same =
+    or_left (is_same (choice_of one) (choice_of other) || excludes one other) (excludes other one)
+    (or_left (is_same (choice_of one) (choice_of other)) (excludes one other) same)
+
 -- a word that may follow makes a choice that is not made yet
-module _ (allows : List Choice) (before : List (List ℕ)) (word : List ℕ) where
+module _ (allows : List Family) (before : List (List ℕ)) (word : List ℕ) where
   unmade : (s : Setting) → list_any (λ other. are_clashing (setting_of other) (Some s)) before ≡ false
       → list_any (λ other. is_made (choice_of s) (setting_of other)) before ≡ false
-  unmade s none = same before ∙ none
+  unmade s none = none_made before none
     where
-      agrees : (o : Option Setting) → is_made (choice_of s) o ≡ are_clashing o (Some s)
-      agrees None = refl
-      agrees (Some t) = refl
+      apart : (o : Option Setting) → are_clashing o (Some s) ≡ false → is_made (choice_of s) o ≡ false
+      apart None clear = refl
+      apart (Some t) clear = false_from_ne_true (is_same (choice_of t) (choice_of s))
+          (λ same. true≢false (sym (equal_clash t s same) ∙ clear))
 
-      same : (words : List (List ℕ)) → list_any (λ other. is_made (choice_of s) (setting_of other)) words
-          ≡ list_any (λ other. are_clashing (setting_of other) (Some s)) words
-      same [] = refl
-      same (other ∷ words) = rw (agrees (setting_of other), same words) refl
+      none_made : (words : List (List ℕ)) → list_any (λ other. are_clashing (setting_of other) (Some s)) words ≡ false
+          → list_any (λ other. is_made (choice_of s) (setting_of other)) words ≡ false
+      none_made [] clear = refl
+      none_made (other ∷ words) clear =
+          let parts = or_parts (are_clashing (setting_of other) (Some s)) _ clear in
+          rw (apart (setting_of other) parts.0) (none_made words parts.1)
 
   -- what is made stays so
   kept : (choice : Choice) → made choice before ≤ made choice (before ++ word ∷ [])
@@ -143,7 +153,6 @@ module _ (allows : List Choice) (before : List (List ℕ)) (word : List ℕ) whe
       itself : (choice : Choice) → is_same choice choice ≡ true
       itself choice.Engine = refl
       itself choice.Show = refl
-      itself choice.Drawing = refl
       itself choice.Rule = refl
 
   one_more : may_follow allows before word ≡ true → all_made before + 1 ≤ all_made (before ++ word ∷ [])
@@ -164,7 +173,7 @@ module _ (allows : List Choice) (before : List (List ℕ)) (word : List ℕ) whe
       is_not true is = cc
       is_not false is = refl
 
-pub few_settled : (allows : List Choice) (before words : List (List ℕ)) (count : ℕ)
+pub few_settled : (allows : List Family) (before words : List (List ℕ)) (count : ℕ)
     → AreSettled allows before words count → all_made before + count ≤ 3
 few_settled allows before words zero are = omega (arith, few_made before)
 few_settled allows before [] (suc count) are = absurd (omega (arith, are.within))

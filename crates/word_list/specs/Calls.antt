@@ -1,13 +1,13 @@
 -- The lists of words that are calls of the program.
 use Rattle.std.specs.Prelude.{ℕ, Bool, false, List, [], ◌∷◌, length, drop, is_some, ◌&&◌, if◌then◌else◌, Option, Some, None, option_and_then}
 use Rattle.word_list.specs.declared.rows.Kind.{Kind}
-use Rattle.word_list.specs.declared.settings.Choice.{Choice}
+use Rattle.word_list.specs.declared.settings.Family.{Family}
 use Rattle.word_list.specs.Request.{Call}
 use Rattle.word_list.specs.Settings.{are_settings, settings_of}
 use Rattle.word_list.specs.Rows.{is_of, asked_by, row_of}
 
 -- whether the words are a word of each kind and then settings
-abbrev pub fits : List Kind → List Choice → List (List ℕ) → Bool
+abbrev pub fits : List Kind → List Family → List (List ℕ) → Bool
 fits [] allows words = are_settings allows words
 fits (kind ∷ takes) allows [] = false
 fits (kind ∷ takes) allows (word ∷ words) = is_of kind word && fits takes allows words

@@ -7,15 +7,15 @@ use Rattle.word_list.specs.declared.rows.Command.TheVariants as command
 use Rattle.word_list.specs.declared.rows.Kind.{Kind}
 use Rattle.word_list.specs.declared.rows.Kind.TheVariants.{File, Number, Seed, Side, Percent}
 use Rattle.word_list.specs.declared.rows.Row as declared
-use Rattle.word_list.specs.declared.settings.Choice.{Choice}
-use Rattle.word_list.specs.declared.settings.Choice.TheVariants.{Engine, Show, Drawing, Rule}
+use Rattle.word_list.specs.declared.settings.Family.{Family}
+use Rattle.word_list.specs.declared.settings.Family.TheVariants.{Engine, SmallMap, Show, Drawing, Rule}
 use Rattle.word_list.specs.Request.{Asked, Help, Version, Query, Solve, Live, Scen, Prove, Check, Make, Drill, Draw, Costs, Boxes, Moves}
 
 -- a command, the kinds of the words that it takes, and the settings that it allows after them
 pub record Row : Type 0 where
   pub command : Command
   pub takes : List Kind
-  pub allows : List Choice
+  pub allows : List Family
 
 -- the row of a command's name
 abbrev pub row_of : List ℕ → Option Row
@@ -28,14 +28,14 @@ row_of name =
     Some (record {
       command = command.Query;
       takes = File ∷ Number ∷ Number ∷ Number ∷ Number ∷ [];
-      allows = Engine ∷ Show ∷ Rule ∷ [];
+      allows = Engine ∷ SmallMap ∷ Show ∷ Rule ∷ [];
     })
     else if bytes_eq name (codes "solve") then
     Some (record { command = command.Solve; takes = File ∷ File ∷ []; allows = Engine ∷ Show ∷ Rule ∷ [] })
     else if bytes_eq name (codes "live") then
     Some (record { command = command.Live; takes = File ∷ []; allows = Engine ∷ Show ∷ Rule ∷ [] })
     else if bytes_eq name (codes "scen") then
-    Some (record { command = command.Scen; takes = File ∷ File ∷ []; allows = Engine ∷ Rule ∷ [] })
+    Some (record { command = command.Scen; takes = File ∷ File ∷ []; allows = Engine ∷ SmallMap ∷ Rule ∷ [] })
     else if bytes_eq name (codes "prove") then
     Some (record {
       command = command.Prove;

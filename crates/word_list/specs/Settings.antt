@@ -1,13 +1,16 @@
 -- The settings that may follow a command's other words.
 use Rattle.std.specs.Prelude.{ℕ, Bool, true, false, List, [], ◌∷◌, ◌++◌, not, ◌&&◌, ◌||◌, if◌then◌else◌, bytes_eq, codes, Option, Some, None}
 use Rattle.std.specs.List.{list_any, fold}
-use Rattle.word_list.specs.declared.request.Pick.TheVariants.{Plain, Jps, Block, Plus}
+use Rattle.word_list.specs.declared.request.Pick.{Pick}
+use Rattle.word_list.specs.declared.request.Pick.TheVariants.{Plain, Jps, Block, Plus, Boxes, Moves}
 use Rattle.word_list.specs.declared.request.Show.TheVariants.{Points, Cells, Trace}
 use Rattle.word_list.specs.declared.request.Settings.{Settings}
 use Rattle.word_list.specs.declared.settings.Setting.{Setting}
 use Rattle.word_list.specs.declared.settings.Setting.TheVariants as setting
 use Rattle.word_list.specs.declared.settings.Choice.{Choice}
 use Rattle.word_list.specs.declared.settings.Choice.TheVariants as choice
+use Rattle.word_list.specs.declared.settings.Family.{Family}
+use Rattle.word_list.specs.declared.settings.Family.TheVariants as family
 
 -- the setting that a word spells, if it spells one
 abbrev pub setting_of : List ℕ → Option Setting
@@ -16,6 +19,8 @@ setting_of word =
     else if bytes_eq word (codes "engine=jps") then Some (setting.Engine Jps)
     else if bytes_eq word (codes "engine=block") then Some (setting.Engine Block)
     else if bytes_eq word (codes "engine=plus") then Some (setting.Engine Plus)
+    else if bytes_eq word (codes "engine=boxes") then Some (setting.Engine Boxes)
+    else if bytes_eq word (codes "engine=moves") then Some (setting.Engine Moves)
     else if bytes_eq word (codes "show=points") then Some (setting.Show Points)
     else if bytes_eq word (codes "show=cells") then Some (setting.Show Cells)
     else if bytes_eq word (codes "show=trace") then Some (setting.Show Trace)
@@ -33,49 +38,58 @@ choice_of (setting.Rule one) = choice.Rule
 abbrev pub is_same : Choice → Choice → Bool
 is_same choice.Engine choice.Engine = true
 is_same choice.Show choice.Show = true
-is_same choice.Drawing choice.Drawing = true
 is_same choice.Rule choice.Rule = true
 is_same one other = false
 
--- whether two settings can't stand together
+-- whether a setting can't stand beside this one, which makes another choice: first moves take no states, of which
+-- a trace could tell
+abbrev pub excludes : Setting → Setting → Bool
+excludes (setting.Engine Moves) (setting.Show Trace) = true
+excludes one other = false
+
+-- whether two settings can't stand together, in whatever order
 abbrev pub is_clash : Setting → Setting → Bool
-is_clash one other = is_same (choice_of one) (choice_of other)
+is_clash one other = is_same (choice_of one) (choice_of other) || excludes one other || excludes other one
 
 -- whether two words are settings that can't stand together
 abbrev pub are_clashing : Option Setting → Option Setting → Bool
 are_clashing (Some one) (Some other) = is_clash one other
 are_clashing one other = false
 
--- whether a setting tells what a picture shows
-abbrev pub is_drawn : Setting → Bool
-is_drawn (setting.Engine pick) = false
-is_drawn (setting.Show Points) = true
-is_drawn (setting.Show Cells) = false
-is_drawn (setting.Show Trace) = true
-is_drawn (setting.Rule one) = false
+-- whether an engine serves small maps alone
+abbrev pub is_for_small_maps : Pick → Bool
+is_for_small_maps Boxes = true
+is_for_small_maps Moves = true
+is_for_small_maps other = false
 
--- whether a picture is among these choices, and the setting tells what it shows
-abbrev pub is_drawn_by : List Choice → Setting → Bool
-is_drawn_by allows setting = list_any (is_same choice.Drawing) allows && is_drawn setting
+-- whether a setting is of a family; a picture shows the points, and the states that the search took
+abbrev pub has : Family → Setting → Bool
+has family.Engine (setting.Engine pick) = not (is_for_small_maps pick)
+has family.SmallMap (setting.Engine pick) = is_for_small_maps pick
+has family.Show (setting.Show show) = true
+has family.Drawing (setting.Show Points) = true
+has family.Drawing (setting.Show Trace) = true
+has family.Rule (setting.Rule one) = true
+has other setting = false
 
--- whether a word is a setting of one of these choices
-abbrev pub is_allowed : List Choice → Option Setting → Bool
-is_allowed allows (Some setting) = list_any (is_same (choice_of setting)) allows || is_drawn_by allows setting
+-- whether a word is a setting of one of these families
+abbrev pub is_allowed : List Family → Option Setting → Bool
+is_allowed allows (Some setting) = list_any (λ family. has family setting) allows
 is_allowed allows None = false
 
 -- whether a word is a setting that is allowed and clashes with none of the words before it
-abbrev pub may_follow : List Choice → List (List ℕ) → List ℕ → Bool
+abbrev pub may_follow : List Family → List (List ℕ) → List ℕ → Bool
 may_follow allows before word = is_allowed allows (setting_of word)
     && not (list_any (λ other. are_clashing (setting_of other) (setting_of word)) before)
 
 -- whether each of the words may follow those before it
-abbrev pub all_follow : List Choice → List (List ℕ) → List (List ℕ) → Bool
+abbrev pub all_follow : List Family → List (List ℕ) → List (List ℕ) → Bool
 all_follow allows before [] = true
 all_follow allows before (word ∷ words) =
     may_follow allows before word && all_follow allows (before ++ word ∷ []) words
 
 -- whether the words are settings that are allowed, no two of which clash
-abbrev pub are_settings : List Choice → List (List ℕ) → Bool
+abbrev pub are_settings : List Family → List (List ℕ) → Bool
 are_settings allows words = all_follow allows [] words
 
 -- the settings with one more word

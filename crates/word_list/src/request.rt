@@ -105,6 +105,10 @@ pub enum Pick {
     Block,
     /// The one that jumps, by tables.
     Plus,
+    /// The one that leaves out the moves whose boxes of goals don't hold the goal; for small maps.
+    Boxes,
+    /// The one that follows first moves; for small maps.
+    Moves,
 }
 
 /// What an answer shows of a walk.

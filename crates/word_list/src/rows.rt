@@ -7,7 +7,7 @@ ghost use Rattle.word_list.specs.Steps.{is_one_of};
 ghost use Rattle.word_list.specs.Rows.{row_of, row_data, is_of, word_at, number_at as spelled_at, seed_at as spelled_seed_at, side_of as spelled_side, side_at as spelled_side_at, percent_of as spelled_percent, percent_at as spelled_percent_at, asked_by};
 
 use crate::request::Request;
-use crate::settings::Choice;
+use crate::settings::Family;
 use text_line::long_number;
 
 /// A command.
@@ -95,7 +95,7 @@ impl Kind {
 pub struct Row {
     pub command: Command,
     pub takes: &'static [Kind],
-    pub allows: &'static [Choice],
+    pub allows: &'static [Family],
 }
 
 /// The row of the command of this name, if there is one.
@@ -103,19 +103,19 @@ pub fn row_named(name: &str) -> Option<Row>
     ensures row { option_map row_data result ≡ row_of name.now }
     ensures few { IfSome result (λ row. length row.takes.now ≤ 8) }
 {
-    use Choice::{Drawing, Engine, Rule, Show};
+    use Family::{Drawing, Engine, Rule, Show, SmallMap};
     use Kind::{File, Number, Percent, Seed, Side};
-    let (command, takes, allows): (Command, &[Kind], &[Choice]) = match name {
+    let (command, takes, allows): (Command, &[Kind], &[Family]) = match name {
         "--help" => (Command::Help, &[], &[]),
         "--version" => (Command::Version, &[], &[]),
         "query" => (
             Command::Query,
             &[File, Number, Number, Number, Number],
-            &[Engine, Show, Rule],
+            &[Engine, SmallMap, Show, Rule],
         ),
         "solve" => (Command::Solve, &[File, File], &[Engine, Show, Rule]),
         "live" => (Command::Live, &[File], &[Engine, Show, Rule]),
-        "scen" => (Command::Scen, &[File, File], &[Engine, Rule]),
+        "scen" => (Command::Scen, &[File, File], &[Engine, SmallMap, Rule]),
         "prove" => (
             Command::Prove,
             &[File, Number, Number, Number, Number],

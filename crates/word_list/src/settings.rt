@@ -2,7 +2,7 @@
 
 ghost use Rattle.std.specs.Prelude.{◌≡◌, ◌≤◌, [], take, slice_get, map, string_bytes, Some};
 ghost use Rattle.std.specs.List.{list_any};
-ghost use Rattle.word_list.specs.Settings.{setting_of, choice_of, is_allowed, is_drawn, is_drawn_by, is_clash, are_clashing, may_follow, settings_with, settings_of};
+ghost use Rattle.word_list.specs.Settings.{setting_of, choice_of, has as member, is_allowed, is_for_small_maps, excludes, is_clash, are_clashing, may_follow, settings_with, settings_of};
 ghost use Rattle.word_list.specs.Steps.{AreSettled, one_follows};
 
 use crate::request::{Pick, Settings, Show};
@@ -16,17 +16,60 @@ pub enum Setting {
     Rule(bool),
 }
 
-/// What a setting chooses.
+/// What a setting chooses. No choice is made twice.
 #[derive(Clone, Copy, Debug, PartialEq, Eq)]
-pub enum Choice {
+enum Choice {
     /// Which engine searches.
     Engine,
+    /// What an answer shows.
+    Show,
+    /// Whether walks may pass corners.
+    Rule,
+}
+
+/// Settings that a command allows, all of them or none.
+#[derive(Clone, Copy, Debug)]
+pub enum Family {
+    /// An engine that serves maps of any size, and edits.
+    Engine,
+    /// An engine that serves small maps, without edits.
+    SmallMap,
     /// What an answer shows.
     Show,
     /// What a picture shows: the points, and the states that the search took.
     Drawing,
     /// Whether walks may pass corners.
     Rule,
+}
+
+impl Family {
+    /// Whether the setting is one of these.
+    fn has(self, setting: Setting) -> bool
+        ensures { result ≡ member self setting }
+    {
+        match (self, setting) {
+            (Family::Engine, Setting::Engine(pick)) => !pick.is_for_small_maps(),
+            (Family::SmallMap, Setting::Engine(pick)) => pick.is_for_small_maps(),
+            (Family::Show, Setting::Show(_)) => true,
+            (Family::Drawing, Setting::Show(Show::Points)) => true,
+            (Family::Drawing, Setting::Show(Show::Trace)) => true,
+            (Family::Rule, Setting::Rule(_)) => true,
+            _ => false,
+        }
+    }
+}
+
+impl Pick {
+    /// Whether the engine serves small maps alone.
+    fn is_for_small_maps(self) -> bool
+        ensures { result ≡ is_for_small_maps self }
+    {
+        match self {
+            Pick::Boxes => true,
+            Pick::Moves => true,
+            _ => false,
+        }
+    }
 }
 
 impl Setting {
@@ -39,6 +82,8 @@ impl Setting {
             "engine=jps" => Some(Setting::Engine(Pick::Jps)),
             "engine=block" => Some(Setting::Engine(Pick::Block)),
             "engine=plus" => Some(Setting::Engine(Pick::Plus)),
+            "engine=boxes" => Some(Setting::Engine(Pick::Boxes)),
+            "engine=moves" => Some(Setting::Engine(Pick::Moves)),
             "show=points" => Some(Setting::Show(Show::Points)),
             "show=cells" => Some(Setting::Show(Show::Cells)),
             "show=trace" => Some(Setting::Show(Show::Trace)),
@@ -59,38 +104,29 @@ impl Setting {
         }
     }
 
-    /// Whether it tells what a picture shows.
-    fn is_drawn(self) -> bool
-        ensures { result ≡ is_drawn self }
-    {
-        match self {
-            Setting::Engine(_) => false,
-            Setting::Show(Show::Points) => true,
-            Setting::Show(Show::Cells) => false,
-            Setting::Show(Show::Trace) => true,
-            Setting::Rule(_) => false,
-        }
-    }
-
-    /// Whether it is one of these choices.
-    fn is_allowed(self, allows: &[Choice]) -> bool
+    /// Whether it is of one of these families.
+    fn is_allowed(self, allows: &[Family]) -> bool
         ensures { result ≡ is_allowed allows.now (Some self) }
     {
-        allows.contains(&self.choice()) || self.is_drawn_by(allows)
+        allows.iter().any(|family| family.has(self))
     }
 
-    /// Whether a picture is among the choices, and it tells what that shows.
-    fn is_drawn_by(self, allows: &[Choice]) -> bool
-        ensures { result ≡ is_drawn_by allows.now self }
+    /// Whether it can't stand beside this setting, which makes another choice: first moves take no
+    /// states, of which a trace could tell.
+    fn excludes(self, other: Setting) -> bool
+        ensures { result ≡ excludes self other }
     {
-        allows.contains(&Choice::Drawing) && self.is_drawn()
+        match (self, other) {
+            (Setting::Engine(Pick::Moves), Setting::Show(Show::Trace)) => true,
+            _ => false,
+        }
     }
 
     /// Whether it can't stand together with another.
     fn clashes(self, other: Setting) -> bool
         ensures { result ≡ is_clash self other }
     {
-        self.choice() == other.choice()
+        self.choice() == other.choice() || self.excludes(other) || other.excludes(self)
     }
 }
 
@@ -119,7 +155,7 @@ fn with_word(settings: Settings, word: &str) -> Settings
 
 /// How many of the words, from the first on, are settings that are allowed and clash with none of
 /// the words before them.
-pub fn settled(allows: &[Choice], words: &[String]) -> usize
+pub fn settled(allows: &[Family], words: &[String]) -> usize
     ensures count { AreSettled allows.now [] (map string_bytes words.now) result }
     ensures few { result ≤ 3 }
 {
@@ -127,7 +163,7 @@ pub fn settled(allows: &[Choice], words: &[String]) -> usize
 }
 
 /// The same, without how many there may be at most.
-fn count_settled(allows: &[Choice], words: &[String]) -> usize
+fn count_settled(allows: &[Family], words: &[String]) -> usize
     ensures { AreSettled allows.now [] (map string_bytes words.now) result }
 {
     for place in 0..words.len() {
@@ -139,7 +175,7 @@ fn count_settled(allows: &[Choice], words: &[String]) -> usize
 }
 
 /// Whether there is a word at the place, from 0, and it may follow the words before it.
-fn follows_at(allows: &[Choice], words: &[String], place: usize) -> bool
+fn follows_at(allows: &[Family], words: &[String], place: usize) -> bool
     ensures { result ≡ one_follows allows.now (take place (map string_bytes words.now))
         (slice_get (map string_bytes words.now) place) }
 {
@@ -150,7 +186,7 @@ fn follows_at(allows: &[Choice], words: &[String], place: usize) -> bool
 }
 
 /// Whether the word is a setting that is allowed and clashes with none of the words before it.
-fn follows(allows: &[Choice], before: &[String], word: &str) -> bool
+fn follows(allows: &[Family], before: &[String], word: &str) -> bool
     ensures { result ≡ may_follow allows.now (map string_bytes before.now) word.now }
 {
     match Setting::spelled(word) {

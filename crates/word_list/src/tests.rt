@@ -13,7 +13,7 @@ fn words_of(alloc: Global, line: &str) -> Result<Vec<String>, AllocError> {
 // Counted by hand, from the table of commands.
 #[test]
 fn the_first_word_of_no_call_is_named(rt: HostRuntime) -> Result<(), Fail> {
-    let lists: [(&str, u32); 29] = [
+    let lists: [(&str, u32); 37] = [
         ("mkae", 1),
         ("make", 2),
         ("make 7 0 2 0", 3),
@@ -28,6 +28,14 @@ fn the_first_word_of_no_call_is_named(rt: HostRuntime) -> Result<(), Fail> {
         ("query m 0 0 2 2 engine=jps engine=plain", 8),
         ("query m 0 0 2 2 engine=plain show=cells engine=plain", 9),
         ("query m engine=plain 0 0 2 2", 3),
+        ("query m 0 0 1 1 engine=moves show=trace", 8),
+        ("query m 0 0 1 1 show=trace engine=moves", 8),
+        ("query m 0 0 1 1 show=trace rule=one engine=moves", 9),
+        ("query m 0 0 1 1 engine=boxes engine=moves", 8),
+        ("draw m 0 0 2 2 engine=boxes", 7),
+        ("solve m s engine=moves", 4),
+        ("live m engine=boxes", 3),
+        ("drill 1 engine=moves", 3),
         ("draw m 0 0 2 2 show=cells", 7),
         ("draw m 0 0 2 2 show=trace show=points", 8),
         ("costs m 0 0 engine=plain", 5),
@@ -117,6 +125,40 @@ fn a_map_stands_before_its_script_or_scenario(rt: HostRuntime) -> Result<(), Fai
                     scen: "s"
                 },
                 Settings { one: false, .. }
+            ))
+        )
+    );
+    Ok(())
+}
+
+#[test]
+fn a_query_or_a_scenario_may_pick_an_engine_of_small_maps(rt: HostRuntime) -> Result<(), Fail> {
+    let words = words_of(rt.alloc(), "query m 0 0 3 1 engine=boxes show=trace")?;
+    let boxed = read_words(&words);
+    assert!(rt;
+        matches!(
+            boxed,
+            Ok((
+                Request::Query { gx: 3, gy: 1, .. },
+                Settings {
+                    pick: Pick::Boxes,
+                    show: Show::Trace,
+                    ..
+                }
+            ))
+        )
+    );
+    let words = words_of(rt.alloc(), "scen m s engine=moves")?;
+    let scen = read_words(&words);
+    assert!(rt;
+        matches!(
+            scen,
+            Ok((
+                Request::Scen { .. },
+                Settings {
+                    pick: Pick::Moves,
+                    ..
+                }
             ))
         )
     );
