@@ -23,7 +23,7 @@ use Rattle.jps_run.specs.Answering as answering
 use Rattle.jps_run.specs.Answering.{GoesOn}
 use Rattle.jps_run.specs.Answers.{edits_with}
 use Rattle.jps_run.specs.Counting.{CommandTakes, CommandsTake, EntriesTake, EntryTakes, RoseBy, RoseFor, TakesAfter, drilled, judged, replied, solved}
-use Rattle.jps_run.specs.Outcome.{call_with}
+use Rattle.jps_run.specs.Calls.{call_with}
 use Rattle.jps_run.specs.Reading.{IsMade, IsSessionOn}
 use Rattle.jps_run.specs.Judging as judging
 use Rattle.jps_run.specs.Session.{IsReply, session_after, session_on}

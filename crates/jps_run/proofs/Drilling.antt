@@ -20,7 +20,8 @@ use Rattle.jps_run.specs.Answers.{edits_with}
 use Rattle.jps_run.specs.Drill.{AreFindings, FindsAfter, IsFinding, drill_line, finding_of, finding_of_edit, IsShortFinding, is_walk, is_none, is_blocked, is_done, is_same, straight_in, diagonal_in}
 use Rattle.jps_run.specs.Drilling.{HasDrilled, HasRoom, HaveTaken, IsDrilled, LeavesRoom, sums_of, sums_text}
 use Rattle.jps_run.specs.Counting.{CommandsTake}
-use Rattle.jps_run.specs.Outcome.{IsAnswered, call_with, drilled}
+use Rattle.jps_run.specs.Calls.{call_with}
+use Rattle.jps_run.specs.Outcome.{IsAnswered, drilled}
 use Rattle.jps_run.specs.Session.{reply_to_edit, session_after, session_on}
 use Rattle.jps_run.specs.Working.{Adds, CanComplete, HasRoomForOne}
 use Rattle.jps_run.specs.declared.drill.Finding.{Finding}

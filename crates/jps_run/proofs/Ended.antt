@@ -10,7 +10,8 @@ use Rattle.jps_run.specs.Ending.{Comes, Gets, HasFailed, HasLines, HasPart, of_f
 use Rattle.jps_run.specs.FaultLines.{word_line}
 use Rattle.jps_run.specs.Files.{HasRefused, FileRose}
 use Rattle.jps_run.specs.Heard.{AreHeard, WroteHeard, WrotePending, WroteSomeTaken, WroteLinesTaken}
-use Rattle.jps_run.specs.Outcome.{Spell, IsOutput, answered, bad_line, bad_word, bad_text, done, files_of, reads_input}
+use Rattle.jps_run.specs.Calls.{files_of, reads_input}
+use Rattle.jps_run.specs.Outcome.{Spell, IsOutput, answered, bad_line, bad_word, bad_text, done}
 use Rattle.jps_run.specs.Sending.{IsAll, IsPart, AreLines, Wrote}
 use Rattle.jps_run.proofs.Pieces.{nothing}
 
@@ -64,7 +65,7 @@ module _ (words : List (List ℕ)) (holds : List ℕ → Held) (input : Option (
 
     -- a text is refused, or what comes in
     pub text-comes : (call : Call) (line bytes : List ℕ) → Spell words call
-        → (HasRefused holds (files_of call.request) line × Wrote out out_now [])
+        → (HasRefused holds (files_of call) line × Wrote out out_now [])
         ⊎ WroteHeard call holds out out_now input (Some line) → bytes ≡ line
         → Gets err err_now bytes → Comes words holds input out out_now err err_now 3
     text-comes call line bytes spelled (inl r) e told = record {
@@ -85,7 +86,7 @@ module _ (words : List (List ℕ)) (holds : List ℕ → Held) (input : Option (
 module _ (words : List (List ℕ)) (disk disk_now : Disk) (input input_now : Inflow) (out out_now : Outflow)
     (call : Call) (spelled : Spell words call) where
   -- a read failed
-  pub read-comes : (FileRose (files_of call.request) disk disk_now × Wrote out out_now [])
+  pub read-comes : (FileRose (files_of call) disk disk_now × Wrote out out_now [])
       ⊎ ((reads_input call.request ≡ true) × Rose input.faults input_now.faults
       × WrotePending call disk.holds out out_now input.left input_now.left)
       → HasFailed words disk disk_now input input_now out out_now

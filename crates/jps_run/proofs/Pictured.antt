@@ -16,7 +16,7 @@ use Rattle.word_list.specs.declared.request.Settings.{Settings}
 use Rattle.word_list.specs.declared.request.Show.{Show}
 use Rattle.jps_run.specs.Answering.{TakesFor}
 use Rattle.jps_run.specs.Counting.{CommandsTake, RoseBy, RoseFor, drawn}
-use Rattle.jps_run.specs.Outcome.{call_with}
+use Rattle.jps_run.specs.Calls.{call_with}
 use Rattle.jps_run.specs.Pictures.{IsCanvasOf, IsDrawing, IsPictured, drawing_of, drawing_status}
 use Rattle.jps_run.specs.Reading.{IsMade}
 use Rattle.jps_run.specs.Sending.{AreLines}

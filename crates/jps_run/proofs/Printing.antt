@@ -25,7 +25,7 @@ pub small_proof : (ls : Layers) (s t : Cell) (text : List ℕ) (status : ℕ) �
 small_proof ls s t _ _ (outside e) = omega arith
 small_proof ls s t _ _ (blocked e f) = omega arith
 small_proof ls s t _ _ (apart e f) = omega arith
-small_proof ls s t _ _ (certified text e c) = omega arith
+small_proof ls s t _ _ (certified text e c a) = omega arith
 
 pub small_verdict : (g : GridData) (c : Certificate) (text : List ℕ) (status : ℕ) → IsVerdict g c text status
     → status ≤ 1

@@ -18,17 +18,19 @@ use Rattle.jps_run.specs.declared.stop.Stop.{Stop}
 use Rattle.jps_run.specs.declared.stop.Stop.TheVariants as stop
 
 -- a file whose whole text was read so was itself read so
-pub file-read : {X : Type 0} (Spells : List ℕ → X → Type 0) (kind : Kind) (held : Held) (text : List ℕ)
-    (faults faults_now : ℕ) (result : Result X Stop)
-    → IsWhole held (limit_of kind) text → ReadsText Spells kind text result
-    → Reads Spells kind held faults faults_now result
-file-read Spells kind held text faults faults_now (Ok value) w r = λ earlier.
-    let a = r earlier in record { text = text; accepted = (w, a.0); spelled = a.1 }
-file-read Spells kind held text faults faults_now (Err (stop.Text line)) w r = λ earlier.
-    faulty text w (r earlier)
-file-read Spells kind held text faults faults_now (Err stop.Read) w r = λ earlier. absurd (r earlier)
-file-read Spells kind held text faults faults_now (Err stop.Write) w r = λ earlier. absurd (r earlier)
-file-read Spells kind held text faults faults_now (Err stop.Memory) w r = λ earlier. tt
+pub file-read : {X : Type 0} (IsBehind : List (List ℕ) → Type 0) (Spells : List ℕ → X → Type 0) (kind : Kind)
+    (held : Held) (text : List ℕ) (faults faults_now : ℕ) (result : Result X Stop)
+    → IsWhole held (limit_of kind) text → ReadsText IsBehind Spells kind text result
+    → Reads IsBehind Spells kind held faults faults_now result
+file-read IsBehind Spells kind held text faults faults_now (Ok value) w r = λ earlier behind.
+    let a = r earlier behind in record { text = text; accepted = (w, a.0); spelled = a.1 }
+file-read IsBehind Spells kind held text faults faults_now (Err (stop.Text line)) w r = λ earlier behind.
+    faulty text w (r earlier behind)
+file-read IsBehind Spells kind held text faults faults_now (Err stop.Read) w r = λ earlier behind.
+    absurd (r earlier behind)
+file-read IsBehind Spells kind held text faults faults_now (Err stop.Write) w r = λ earlier behind.
+    absurd (r earlier behind)
+file-read IsBehind Spells kind held text faults faults_now (Err stop.Memory) w r = λ earlier behind. tt
 
 -- the session is that of the picked engine under the picked rule
 pub session-made : (d : SessionData) (set : Settings) (m : Map) (engine : Engine) (corner : Corner)

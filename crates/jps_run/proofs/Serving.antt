@@ -1,5 +1,5 @@
 -- The work on a call, from its files to its output.
-use Rattle.std.proofs.Common.{◌≡◌, refl, subst, ◌≤◌, ◌⊎◌, inl, inr, List, [], ℕ, true, arith}
+use Rattle.std.proofs.Common.{◌≡◌, refl, subst, ◌≤◌, ◌⊎◌, inl, inr, List, [], ◌∷◌, ℕ, true, arith}
 use Rattle.std.specs.Prelude.{None, Some, Option, Result, IsErrAnd}
 use Rattle.io_edge.specs.Told.{Disk, Held, Inflow, Outflow}
 use Rattle.edit_replay.specs.Session.{SessionData}
@@ -10,7 +10,8 @@ use Rattle.jps_run.specs.Session.{session_on}
 use Rattle.jps_run.specs.Heard.{OnLive, WroteAll, WroteFirst, WroteLines, AnswerHeard, AnswerPending, AnswerTaken}
 use Rattle.jps_run.specs.Hearing.{Hears}
 use Rattle.jps_run.specs.Opened.{HasRisen, IsCounted, IsListener, IsWhole, IsWorkOn, open_stops}
-use Rattle.jps_run.specs.Outcome.{IsOutput, files_of}
+use Rattle.jps_run.specs.Calls.{MayHear, files_of}
+use Rattle.jps_run.specs.Outcome.{IsOutput}
 use Rattle.jps_run.specs.Sending.{IsAll, SendsWhole, work_stops}
 use Rattle.jps_run.specs.Served.{HasServed, served_stops}
 use Rattle.jps_run.specs.Stops.{StopsSo}
@@ -28,12 +29,18 @@ on-live call holds job l Known k = record {
   settings = l.on.settings;
   is = l.on.is;
   text = l.on.text;
+  behind = l.on.behind;
   accepted = l.on.accepted;
   read = l.on.read;
   spelled = l.on.spelled;
   known = subst (λ (show : Show). Known (session_on l.on.settings l.on.read) show) l.on.known.1
       (subst (λ (d : SessionData). Known d job.show) l.on.known.0 k);
 }
+
+-- a session that answers what comes in was opened behind accepted files
+pub may-hear : (call : Call) (holds : List ℕ → Held) (job : Answers) → IsListener call holds job → MayHear call holds
+may-hear call holds job l =
+    record { reads = l.reads; texts = l.on.text ∷ l.on.behind; accepted = l.on.accepted }
 
 -- the counter rose as the work makes it, and so for the call
 pub work-counted : (call : Call) (holds : List ℕ → Held) (work : Work) (input : Option (List ℕ)) (old new : ℕ)
@@ -47,10 +54,10 @@ work-counted call holds work input old new w rose = by_search (w.is.counted old 
 module _ (call : Call) (disk disk_now : Disk) (input input_now : Inflow) (out out_now : Outflow)
     (result : Result ℕ Stop) where
   -- the call was not opened
-  pub unopened-served : (stop : Stop) → StopsSo (open_stops disk disk_now (files_of call.request)) stop
+  pub unopened-served : (stop : Stop) → StopsSo (open_stops disk disk_now (files_of call)) stop
       → IsErrAnd result (λ s. s ≡ stop) → HasServed call disk disk_now input input_now out out result
   unopened-served stop k m =
-      passed _ (open_stops disk disk_now (files_of call.request))
+      passed _ (open_stops disk disk_now (files_of call))
       (served_stops call disk disk_now input input_now out out) result stop m k (record {
         refused = λ line r. inl (r, nothing out.written);
         read = λ r. inl (r, nothing out.written);

@@ -20,7 +20,8 @@ use Rattle.word_list.specs.declared.request.Settings.{Settings}
 use Rattle.jps_run.specs.Answers.{edits_with}
 use Rattle.jps_run.specs.Files.{AreAccepted}
 use Rattle.jps_run.specs.Heard.{IsHeard, IsTold, OnLive}
-use Rattle.jps_run.specs.Outcome.{Spell, call_with, files_of}
+use Rattle.jps_run.specs.Calls.{call_with, files_of}
+use Rattle.jps_run.specs.Outcome.{Spell}
 use Rattle.jps_run.specs.Rows.{has_sides}
 use Rattle.jps_run.specs.Session.{IsReply, session_after, session_on}
 use Rattle.jps_run.specs.Turns.{AreInTurn}
@@ -117,7 +118,7 @@ pub record RoseHeard (d : SessionData) (input : Option (List ℕ)) (old new : �
 -- the counter rose as the files make it that are held, or nothing is searched for the call
 pub data HasCounted (call : Call) (holds : List ℕ → Held) (old new : ℕ) : Type 0 where
   none : searches call.request ≡ false → HasCounted call holds old new
-  some : (texts : List (List ℕ)) → AreAccepted holds [] (files_of call.request) texts
+  some : (texts : List (List ℕ)) → AreAccepted holds [] (files_of call) texts
       → RoseFor call texts old new → HasCounted call holds old new
 
 -- it rose so, or as what came in makes it

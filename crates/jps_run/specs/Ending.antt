@@ -7,7 +7,8 @@ use Rattle.word_list.specs.Request.{Call}
 use Rattle.word_list.specs.Rule.{StopsAt}
 use Rattle.jps_run.specs.FaultLines.{word_line}
 use Rattle.jps_run.specs.Files.{FileRose}
-use Rattle.jps_run.specs.Outcome.{Spell, Outcome, IsOutcome, IsOutput, files_of, reads_input}
+use Rattle.jps_run.specs.Calls.{MayHear, files_of, reads_input}
+use Rattle.jps_run.specs.Outcome.{Spell, Outcome, IsOutcome, IsOutput}
 use Rattle.jps_run.specs.Heard.{WrotePending, WroteSomeTaken, WroteLinesTaken}
 use Rattle.io_edge.specs.Told.{Disk, Held, Inflow, Outflow}
 use Rattle.jps_run.specs.Sending.{Wrote, WroteSome, IsPart, AreLines}
@@ -44,13 +45,13 @@ pub record Comes (words : List (List ℕ)) (holds : List ℕ → Held) (input : 
 pub record NamedRose (words : List (List ℕ)) (disk disk_now : Disk) : Type 0 where
   pub call : Call
   pub spelled : Spell words call
-  pub rose : FileRose (files_of call.request) disk disk_now
+  pub rose : FileRose (files_of call) disk disk_now
 
--- the words ask for what is read from the input
-pub record ReadsInput (words : List (List ℕ)) : Type 0 where
+-- the words ask for what is read from the input, and each file that they name is accepted
+pub record CanHear (words : List (List ℕ)) (holds : List ℕ → Held) : Type 0 where
   pub call : Call
   pub spelled : Spell words call
-  pub reads : reads_input call.request ≡ true
+  pub may : MayHear call holds
 
 -- the words ask for what is read from the input, and its count rose
 pub record InputRose (words : List (List ℕ)) (input input_now : Inflow) : Type 0 where

@@ -1,5 +1,5 @@
 -- A script that comes in: its commands, its refusal, and the lines that answer it.
-use Rattle.std.specs.Prelude.{◌≡◌, ℕ, ◌≤◌, ◌<◌, ⊤, List, [], length, take, codes, Option, Some, None, Ok}
+use Rattle.std.specs.Prelude.{◌≡◌, ℕ, ◌≤◌, ◌<◌, ⊤, List, [], ◌∷◌, length, take, codes, Option, Some, None, Ok}
 use Rattle.std.specs.List.{concat}
 use Rattle.std.specs.Option.{option_map, option_map_or}
 use Rattle.std.specs.Io.KnownBytes.{Consumes, IsAtEnd}
@@ -15,7 +15,8 @@ use Rattle.word_list.specs.declared.request.Settings.{Settings}
 use Rattle.word_list.specs.declared.request.Show.{Show}
 use Rattle.jps_run.specs.Answers.{AreAnswers}
 use Rattle.jps_run.specs.FaultLines.{long_line, script_line}
-use Rattle.jps_run.specs.Files.{IsAccepted}
+use Rattle.jps_run.specs.Calls.{files_of}
+use Rattle.jps_run.specs.Files.{AreAccepted}
 use Rattle.jps_run.specs.Kinds.{limit_of}
 use Rattle.jps_run.specs.Sending.{Wrote}
 use Rattle.jps_run.specs.Session.{session_on}
@@ -90,13 +91,14 @@ pub record WroteLines (Stand : List (List ℕ) → Type 0) (before now : Outflow
   pub count : ℕ
   pub wrote : Wrote before now (concat (take count lines))
 
--- the call answers what comes in, on the session of a map that is accepted, of which this is known
+-- the call answers what comes in: each of its files is accepted, the map first, and of the session on the map this is known
 pub record OnLive (call : Call) (holds : List ℕ → Held) (Known : SessionData → Show → Type 0) : Type 0 where
   pub map : List ℕ
   pub settings : Settings
   pub is : call ≡ record { request = Live map; settings = settings }
   pub text : List ℕ
-  pub accepted : IsAccepted [] kind.Map (holds map) text
+  pub behind : List (List ℕ)
+  pub accepted : AreAccepted holds [] (files_of call) (text ∷ behind)
   pub read : Map
   pub spelled : map_of text ≡ Ok read
   pub known : Known (session_on settings read) settings.show

@@ -24,6 +24,7 @@ pub mod Rising
 pub mod Judging
 pub mod Drill
 pub mod Drilling
+pub mod Calls
 pub mod Certificates
 pub mod Pictures
 pub mod Distances

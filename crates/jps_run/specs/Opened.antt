@@ -10,7 +10,8 @@ use Rattle.jps_run.specs.Drilling.{IsDrilled, sums_of}
 use Rattle.jps_run.specs.Files.{AreAccepted, File, FileRose, HasRefused}
 use Rattle.jps_run.specs.Heard.{OnLive}
 use Rattle.jps_run.specs.Judging.{IsJudged}
-use Rattle.jps_run.specs.Outcome.{IsAnswered, files_of, reads_input}
+use Rattle.jps_run.specs.Calls.{files_of, reads_input}
+use Rattle.jps_run.specs.Outcome.{IsAnswered}
 use Rattle.jps_run.specs.Pictures.{IsPictured}
 use Rattle.jps_run.specs.Reading.{AreKept}
 use Rattle.jps_run.specs.Sending.{IsText}
@@ -70,7 +71,7 @@ pub record IsWorkOf (call : Call) (texts : List (List ℕ)) (work : Work) : Type
 -- so it is, and the files hold these texts
 pub record IsWorkOn (call : Call) (holds : List ℕ → Held) (work : Work) : Type 0 where
   pub texts : List (List ℕ)
-  pub accepted : AreAccepted holds [] (files_of call.request) texts
+  pub accepted : AreAccepted holds [] (files_of call) texts
   pub is : IsWorkOf call texts work
 
 -- a session that answers what comes in, as the call asks
@@ -96,9 +97,9 @@ open_stops disk disk_now files = record {
 -- work was opened for the call, or that stopped
 abbrev pub OpensWork : Call → Disk → Disk → Result Work Stop → Type 0
 OpensWork call disk disk_now result =
-    Ends (IsWorkOn call disk.holds) (open_stops disk disk_now (files_of call.request)) result
+    Ends (IsWorkOn call disk.holds) (open_stops disk disk_now (files_of call)) result
 
 -- the call was opened, or that stopped
 abbrev pub Opens : Call → Disk → Disk → Result Opened Stop → Type 0
 Opens call disk disk_now result =
-    Ends (IsOpenedAs call disk.holds) (open_stops disk disk_now (files_of call.request)) result
+    Ends (IsOpenedAs call disk.holds) (open_stops disk disk_now (files_of call)) result

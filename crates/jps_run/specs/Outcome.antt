@@ -1,5 +1,5 @@
 -- What a request comes to, where nothing outside fails and memory is there.
-use Rattle.std.specs.Prelude.{◌≡◌, ℕ, Bool, true, false, List, [], ◌∷◌, Option, Some, None, Ok}
+use Rattle.std.specs.Prelude.{◌≡◌, ℕ, List, [], ◌∷◌, Option, Some, None, Ok}
 use Rattle.grid_moves.specs.Layers.{layers_of, query_grid}
 use Rattle.io_edge.specs.Told.{Held}
 use Rattle.map_text.specs.Map.{Map}
@@ -14,7 +14,7 @@ use Rattle.scen_text.specs.Faults.{scen_of}
 use Rattle.potential_check.specs.Text.{certificate_of, plain}
 use Rattle.potential_check.specs.declared.certificate.Certificate.{Certificate}
 use Rattle.word_list.specs.Calls.{call_of, is_call}
-use Rattle.word_list.specs.Request.{Asked, Call, Help, Version, Query, Solve, Live, Scen, Prove, Check, Make, Drill, Draw, Costs, Boxes, Moves}
+use Rattle.word_list.specs.Request.{Call, Help, Version, Query, Solve, Live, Scen, Prove, Check, Make, Drill, Draw, Costs, Boxes, Moves}
 use Rattle.word_list.specs.Rule.{IsBadWord}
 use Rattle.word_list.specs.declared.request.Settings.{Settings}
 use Rattle.jps_run.specs.Answers.{AreAnswers}
@@ -24,48 +24,19 @@ use Rattle.jps_run.specs.Distances.{AreCosts}
 use Rattle.jps_run.specs.Drill.{AreDrilled, drill_line}
 use Rattle.jps_run.specs.declared.drill.Finding.{Finding}
 use Rattle.jps_run.specs.FaultLines.{word_line}
-use Rattle.jps_run.specs.Files.{File, AreAccepted, HasRefused}
+use Rattle.jps_run.specs.Calls.{call_with, files_of}
+use Rattle.jps_run.specs.Files.{AreAccepted, HasRefused}
 use Rattle.jps_run.specs.Heard.{AreHeard}
 use Rattle.jps_run.specs.Pictures.{IsDrawing}
 use Rattle.jps_run.specs.Rows.{AreRows, scen_lines, scen_status}
 use Rattle.jps_run.specs.RunLines.{IsRunText}
 use Rattle.jps_run.specs.Session.{corner_of, session_on}
 use Rattle.jps_run.specs.Texts.{help_text, version_text}
-use Rattle.jps_run.specs.declared.kind.Kind.TheVariants as kind
 use Rattle.jps_run.specs.declared.row.Row.{Row}
 
 -- the words spell the call
 abbrev pub Spell : List (List ℕ) → Call → Type 0
 Spell words call = call_of words ≡ Some call
-
--- a call by what is asked for and how
-abbrev pub call_with : Asked → Settings → Call
-call_with asked set = record { request = asked; settings = set }
-
--- the files of a request, in the order in which they are read
-abbrev pub files_of : Asked → List File
-files_of Help = []
-files_of Version = []
-files_of (Query map sx sy gx gy) = record { kind = kind.Map; name = map } ∷ []
-files_of (Solve map script) =
-    record { kind = kind.Map; name = map } ∷ record { kind = kind.Script; name = script } ∷ []
-files_of (Live map) = record { kind = kind.Map; name = map } ∷ []
-files_of (Prove map sx sy gx gy) = record { kind = kind.Map; name = map } ∷ []
-files_of (Check map cert) =
-    record { kind = kind.Map; name = map } ∷ record { kind = kind.Cert; name = cert } ∷ []
-files_of (Make seed w h percent) = []
-files_of (Drill seed) = []
-files_of (Draw map sx sy gx gy) = record { kind = kind.Map; name = map } ∷ []
-files_of (Costs map x y) = record { kind = kind.Map; name = map } ∷ []
-files_of (Boxes map x y) = record { kind = kind.SmallMap; name = map } ∷ []
-files_of (Moves map x y) = record { kind = kind.SmallMap; name = map } ∷ []
-files_of (Scen map scen) =
-    record { kind = kind.Map; name = map } ∷ record { kind = kind.Scen; name = scen } ∷ []
-
--- whether what is asked for is read from the input
-abbrev pub reads_input : Asked → Bool
-reads_input (Live map) = true
-reads_input other = false
 
 -- the lines and the status of a call, on the texts of its files; a query is a script of one command
 pub data IsAnswered : Call → List (List ℕ) → List (List ℕ) → ℕ → Type 0 where
@@ -119,7 +90,7 @@ pub data IsAnswered : Call → List (List ℕ) → List (List ℕ) → ℕ → T
 -- the lines and the status are a right output of a call, with the files that are held
 pub record IsOutput (call : Call) (holds : List ℕ → Held) (lines : List (List ℕ)) (status : ℕ) : Type 0 where
   pub texts : List (List ℕ)
-  pub accepted : AreAccepted holds [] (files_of call.request) texts
+  pub accepted : AreAccepted holds [] (files_of call) texts
   pub answered : IsAnswered call texts lines status
 
 -- the status, the lines that `out` gets, and the line that `err` gets
@@ -134,7 +105,7 @@ pub data IsOutcome (words : List (List ℕ)) (holds : List ℕ → Held) (input 
   bad_word : (number : ℕ) → IsBadWord is_call words number
       → IsOutcome words holds input (record { status = 2; out = []; line = word_line number })
   bad_text : (call : Call) (line : List ℕ) → Spell words call
-      → HasRefused holds (files_of call.request) line
+      → HasRefused holds (files_of call) line
       → IsOutcome words holds input (record { status = 3; out = []; line = line })
   done : (call : Call) (lines : List (List ℕ)) (status : ℕ) → Spell words call
       → IsOutput call holds lines status

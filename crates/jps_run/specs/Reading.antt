@@ -37,15 +37,21 @@ abbrev pub read_stops : (List ℕ → Type 0) → ℕ → ℕ → Stops
 read_stops Refused faults faults_now =
     record { Refused = Refused; Read = Rose faults faults_now; Write = ⊥; Memory = ⊤ }
 
--- a file of this kind was read as a value, or the reading stopped
-abbrev pub Reads : {X : Type 0} → (List ℕ → X → Type 0) → Kind → Held → ℕ → ℕ → Result X Stop → Type 0
-Reads Spells kind held faults faults_now result = (earlier : List (List ℕ)) → Ends
+-- nothing is known of the texts before
+abbrev pub IsFirst : List (List ℕ) → Type 0
+IsFirst earlier = ⊤
+
+-- a file of this kind was read as a value, or the reading stopped, behind all texts of which that is known
+abbrev pub Reads : {X : Type 0} → (List (List ℕ) → Type 0) → (List ℕ → X → Type 0) → Kind → Held → ℕ → ℕ
+    → Result X Stop → Type 0
+Reads IsBehind Spells kind held faults faults_now result = (earlier : List (List ℕ)) → IsBehind earlier → Ends
     (IsRead Spells earlier kind held)
     (read_stops (IsRefused earlier kind held) faults faults_now) result
 
--- a text was read as a value that it spells and accepted behind the texts before it, or it is refused
-abbrev pub ReadsText : {X : Type 0} → (List ℕ → X → Type 0) → Kind → List ℕ → Result X Stop → Type 0
-ReadsText Spells kind text result = (earlier : List (List ℕ)) → Ends
+-- a text was read as a value that it spells and accepted, or it is refused, behind all texts of which that is known
+abbrev pub ReadsText : {X : Type 0} → (List (List ℕ) → Type 0) → (List ℕ → X → Type 0) → Kind → List ℕ
+    → Result X Stop → Type 0
+ReadsText IsBehind Spells kind text result = (earlier : List (List ℕ)) → IsBehind earlier → Ends
     (λ value. (refusal_of kind earlier text ≡ None) × Spells text value)
     (record {
       Refused = λ line. refusal_of kind earlier text ≡ Some line;

@@ -5,19 +5,18 @@ use Rattle.io_edge.specs.Told.{Disk, Inflow, Outflow}
 use Rattle.word_list.specs.Request.{Call}
 use Rattle.jps_run.specs.Files.{HasRefused, FileRose}
 use Rattle.jps_run.specs.Heard.{WroteHeard, WrotePending, WroteSomeTaken, WroteLinesTaken}
-use Rattle.jps_run.specs.Hearing.{Hears}
-use Rattle.jps_run.specs.Opened.{IsWhole}
-use Rattle.jps_run.specs.Outcome.{IsOutput, files_of, reads_input}
-use Rattle.jps_run.specs.Sending.{IsAll, IsPart, AreLines, SendsWhole, Wrote}
+use Rattle.jps_run.specs.Calls.{files_of, reads_input}
+use Rattle.jps_run.specs.Outcome.{IsOutput}
+use Rattle.jps_run.specs.Sending.{IsAll, IsPart, AreLines, Wrote}
 use Rattle.jps_run.specs.Stops.{Stops, Ends}
 use Rattle.jps_run.specs.declared.stop.Stop.{Stop}
 
 -- what is known where the work on a call stops
 abbrev pub served_stops : Call → Disk → Disk → Inflow → Inflow → Outflow → Outflow → Stops
 served_stops call disk disk_now input input_now out out_now = record {
-  Refused = λ line. (HasRefused disk.holds (files_of call.request) line × Wrote out out_now [])
+  Refused = λ line. (HasRefused disk.holds (files_of call) line × Wrote out out_now [])
       ⊎ WroteHeard call disk.holds out out_now input.left (Some line);
-  Read = (FileRose (files_of call.request) disk disk_now × Wrote out out_now [])
+  Read = (FileRose (files_of call) disk disk_now × Wrote out out_now [])
       ⊎ ((reads_input call.request ≡ true) × Rose input.faults input_now.faults
       × WrotePending call disk.holds out out_now input.left input_now.left);
   Write = Rose out.faults out_now.faults

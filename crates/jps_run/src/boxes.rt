@@ -4,9 +4,9 @@ ghost use Rattle.std.specs.Prelude.{◌≡◌, ◌++◌, true, IfOk, OnOk};
 ghost use Rattle.goal_boxes.specs.Box.{box_in};
 ghost use Rattle.grid_moves.specs.Layers.{is_free_ground};
 ghost use Rattle.jps_run.specs.BoxLines as spec;
+ghost use Rattle.jps_run.specs.Calls.{call_with};
 ghost use Rattle.jps_run.specs.Lines.{texts_of};
 ghost use Rattle.jps_run.specs.Opened.{OpensWork};
-ghost use Rattle.jps_run.specs.Outcome.{call_with};
 ghost use Rattle.word_list.specs.Request as asked;
 
 use crate::NoMemory;

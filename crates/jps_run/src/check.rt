@@ -5,7 +5,7 @@ ghost use Rattle.word_list.specs.Request as asked;
 ghost use Rattle.jps_run.specs.Certificates as spec;
 ghost use Rattle.jps_run.specs.Certificates.{IsVerdict};
 ghost use Rattle.jps_run.specs.Opened.{OpensWork};
-ghost use Rattle.jps_run.specs.Outcome.{call_with};
+ghost use Rattle.jps_run.specs.Calls.{call_with};
 
 use crate::NoMemory;
 use crate::files::open_two;

@@ -6,7 +6,7 @@ ghost use Rattle.word_list.specs.Request as asked;
 ghost use Rattle.jps_run.specs.Costing.{IsCostWork};
 ghost use Rattle.jps_run.specs.Distances as spec;
 ghost use Rattle.jps_run.specs.Opened.{OpensWork};
-ghost use Rattle.jps_run.specs.Outcome.{call_with};
+ghost use Rattle.jps_run.specs.Calls.{call_with};
 ghost use Rattle.jps_run.specs.Sending.{SendsWhole};
 ghost use Rattle.jps_run.specs.Telling as telling;
 

@@ -10,7 +10,7 @@ ghost use Rattle.word_list.specs.Request as asked;
 ghost use Rattle.jps_run.specs.Answering.{TakesFor};
 ghost use Rattle.jps_run.specs.Counting.{CommandsTake, RoseBy};
 ghost use Rattle.jps_run.specs.Opened.{OpensWork};
-ghost use Rattle.jps_run.specs.Outcome.{call_with};
+ghost use Rattle.jps_run.specs.Calls.{call_with};
 ghost use Rattle.jps_run.specs.Pictures as spec;
 ghost use Rattle.jps_run.specs.Sending.{SendsWhole};
 

@@ -10,7 +10,7 @@ ghost use Rattle.jps_run.specs.Drill as spec;
 ghost use Rattle.jps_run.specs.Drill.{IsFinding, IsShortFinding};
 ghost use Rattle.jps_run.specs.Drilling.{HasRoom, IsDrilled, sums_of, sums_text};
 ghost use Rattle.jps_run.specs.Opened.{IsWorkOf};
-ghost use Rattle.jps_run.specs.Outcome.{call_with};
+ghost use Rattle.jps_run.specs.Calls.{call_with};
 ghost use Rattle.jps_run.specs.Sending.{SendsWhole};
 
 use crate::NoMemory;

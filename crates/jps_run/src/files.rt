@@ -32,33 +32,43 @@ pub(crate) trait Text: Drop + Sized {
     ghost use Rattle.std.specs.Prelude.{ℕ, List};
     ghost use Rattle.jps_run.specs.declared.kind.Kind.{Kind};
 
-    ghost kind_of_text: { Kind };
+    /// What these texts are judged by: what the call asks of them, and what was read before them.
+    type Context;
 
-    ghost spells: { List ℕ → Self → Type 0 };
+    ghost kind_of_text: { Self.Context → Kind };
+
+    // the context tells what these texts before say
+    ghost is_behind: { Self.Context → List (List ℕ) → Type 0 };
+
+    ghost spells: { Self.Context → List ℕ → Self → Type 0 };
 
     /// The kind of these texts.
-    fn kind() -> Kind
-        ensures { result ≡ kind_of_text };
+    fn kind(context: &Self::Context) -> Kind
+        ensures { result ≡ kind_of_text context.now };
 
     /// The value that the text spells.
-    fn of_text(alloc: Global, text: &[u8]) -> Result<Self, Stop>
-        requires { length text.now ≤ limit_of kind_of_text }
-        ensures { ReadsText spells kind_of_text text.now result };
+    fn of_text(alloc: Global, text: &[u8], context: &Self::Context) -> Result<Self, Stop>
+        requires { length text.now ≤ limit_of (kind_of_text context.now) }
+        ensures { ReadsText (is_behind context.now) (spells context.now) (kind_of_text context.now) text.now result };
 }
 
 impl Text for MapText {
     ghost use Rattle.jps_run.specs.Reading.{SpellsMap};
     ghost use Rattle.jps_run.specs.declared.kind.Kind.TheVariants.{Map};
 
-    ghost kind_of_text = { Map };
+    type Context = ();
 
-    ghost spells = { SpellsMap };
+    ghost kind_of_text = { λ _. Map };
 
-    fn kind() -> Kind {
+    ghost is_behind = { λ _ _. Unit {0} };
+
+    ghost spells = { λ _. SpellsMap };
+
+    fn kind(_context: &()) -> Kind {
         Kind::Map
     }
 
-    fn of_text(alloc: Global, text: &[u8]) -> Result<MapText, Stop> {
+    fn of_text(alloc: Global, text: &[u8], _context: &()) -> Result<MapText, Stop> {
         match read_map(alloc, text) {
             Ok(map) => Ok(map),
             Err(fault) => Err(Stop::Text(map_line(alloc, fault)?)),
@@ -70,15 +80,19 @@ impl Text for Vec<Command> {
     ghost use Rattle.jps_run.specs.Reading.{SpellsScript};
     ghost use Rattle.jps_run.specs.declared.kind.Kind.TheVariants.{Script};
 
-    ghost kind_of_text = { Script };
+    type Context = ();
 
-    ghost spells = { SpellsScript };
+    ghost kind_of_text = { λ _. Script };
 
-    fn kind() -> Kind {
+    ghost is_behind = { λ _ _. Unit {0} };
+
+    ghost spells = { λ _. SpellsScript };
+
+    fn kind(_context: &()) -> Kind {
         Kind::Script
     }
 
-    fn of_text(alloc: Global, text: &[u8]) -> Result<Vec<Command>, Stop> {
+    fn of_text(alloc: Global, text: &[u8], _context: &()) -> Result<Vec<Command>, Stop> {
         match read_script(alloc, text) {
             Ok(commands) => Ok(commands),
             Err(fault) => Err(Stop::Text(script_line(alloc, fault)?)),
@@ -90,15 +104,19 @@ impl Text for Vec<Entry> {
     ghost use Rattle.jps_run.specs.Reading.{SpellsScen};
     ghost use Rattle.jps_run.specs.declared.kind.Kind.TheVariants.{Scen};
 
-    ghost kind_of_text = { Scen };
+    type Context = ();
 
-    ghost spells = { SpellsScen };
+    ghost kind_of_text = { λ _. Scen };
 
-    fn kind() -> Kind {
+    ghost is_behind = { λ _ _. Unit {0} };
+
+    ghost spells = { λ _. SpellsScen };
+
+    fn kind(_context: &()) -> Kind {
         Kind::Scen
     }
 
-    fn of_text(alloc: Global, text: &[u8]) -> Result<Vec<Entry>, Stop> {
+    fn of_text(alloc: Global, text: &[u8], _context: &()) -> Result<Vec<Entry>, Stop> {
         match read_scen(alloc, text) {
             Ok(entries) => Ok(entries),
             Err(fault) => Err(Stop::Text(scen_line(alloc, fault)?)),
@@ -110,15 +128,19 @@ impl Text for Certificate {
     ghost use Rattle.jps_run.specs.Reading.{SpellsCert};
     ghost use Rattle.jps_run.specs.declared.kind.Kind.TheVariants.{Cert};
 
-    ghost kind_of_text = { Cert };
+    type Context = ();
 
-    ghost spells = { SpellsCert };
+    ghost kind_of_text = { λ _. Cert };
 
-    fn kind() -> Kind {
+    ghost is_behind = { λ _ _. Unit {0} };
+
+    ghost spells = { λ _. SpellsCert };
+
+    fn kind(_context: &()) -> Kind {
         Kind::Cert
     }
 
-    fn of_text(alloc: Global, text: &[u8]) -> Result<Certificate, Stop> {
+    fn of_text(alloc: Global, text: &[u8], _context: &()) -> Result<Certificate, Stop> {
         match read_certificate(alloc, text) {
             Ok(certificate) => Ok(certificate),
             Err(fault) => Err(Stop::Text(cert_line(alloc, fault)?)),
@@ -153,14 +175,16 @@ pub(crate) fn read_file<F: Files, T: Text>(
     alloc: Global,
     files: &mut F,
     name: &str,
+    context: &T::Context,
 ) -> Result<T, Stop>
-    ensures read { Reads T.spells T.kind_of_text ((F.disk files.old).holds name.now) ((F.disk files.old).faults name.now)
+    ensures read { Reads (T.is_behind context.now) (T.spells context.now) (T.kind_of_text context.now)
+        ((F.disk files.old).holds name.now) ((F.disk files.old).faults name.now)
         ((F.disk files.new).faults name.now) result }
     ensures unchanged { (F.disk files.new).holds ≡ (F.disk files.old).holds }
     ensures later { NoneFell (F.disk files.old).faults (F.disk files.new).faults }
 {
-    let text = read_text(alloc, files, T::kind(), name)?;
-    T::of_text(alloc, text.as_slice())
+    let text = read_text(alloc, files, T::kind(context), name)?;
+    T::of_text(alloc, text.as_slice(), context)
 }
 
 /// The engine that is picked.
@@ -219,12 +243,12 @@ pub(crate) fn read_map_file<F: Files, M: OfMap>(
     name: &str,
     settings: Settings,
 ) -> Result<M, Stop>
-    ensures read { Reads (IsMade (M.is_of_map settings)) kinds.Map ((F.disk files.old).holds name.now)
+    ensures read { Reads IsFirst (IsMade (M.is_of_map settings)) kinds.Map ((F.disk files.old).holds name.now)
         ((F.disk files.old).faults name.now) ((F.disk files.new).faults name.now) result }
     ensures unchanged { (F.disk files.new).holds ≡ (F.disk files.old).holds }
     ensures later { NoneFell (F.disk files.old).faults (F.disk files.new).faults }
 {
-    let map: MapText = read_file(alloc, files, name)?;
+    let map: MapText = read_file(alloc, files, name, &())?;
     let made = M::of_map(alloc, map, settings)?;
     Ok(made)
 }
@@ -245,20 +269,20 @@ pub(crate) fn open_one<F: Files, M: OfMap>(
 
 /// What is made of the map that the first file holds, and what the second file is read as, for a
 /// call with these two files. The second one is read only where the first is accepted.
-pub(crate) fn open_two<F: Files, M: OfMap, T: Text>(
+pub(crate) fn open_two<F: Files, M: OfMap, T: Text<Context = ()>>(
     alloc: Global,
     files: &mut F,
     map: &str,
     settings: Settings,
     second: &str,
 ) -> Result<(M, T), Stop>
-    ensures read { Ends (AreBothRead (IsMade (M.is_of_map settings)) T.spells (F.disk files.old).holds
-        (file_of kinds.Map map.now) (file_of T.kind_of_text second.now))
+    ensures read { Ends (AreBothRead (IsMade (M.is_of_map settings)) (T.spells ()) (F.disk files.old).holds
+        (file_of kinds.Map map.now) (file_of (T.kind_of_text ()) second.now))
         (open_stops (F.disk files.old) (F.disk files.new)
-        (file_of kinds.Map map.now ∷ file_of T.kind_of_text second.now ∷ [])) result }
+        (file_of kinds.Map map.now ∷ file_of (T.kind_of_text ()) second.now ∷ [])) result }
     ensures unchanged { (F.disk files.new).holds ≡ (F.disk files.old).holds }
 {
     let made: M = read_map_file(alloc, files, map, settings)?;
-    let text: T = read_file(alloc, files, second)?;
+    let text: T = read_file(alloc, files, second, &())?;
     Ok((made, text))
 }

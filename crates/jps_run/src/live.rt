@@ -7,7 +7,7 @@ ghost use Rattle.word_list.specs.Request as asked;
 ghost use Rattle.jps_run.specs.Counting.{RoseHeard};
 ghost use Rattle.jps_run.specs.Files.{file_of};
 ghost use Rattle.jps_run.specs.Hearing.{AnswersKnown, Refuses, Hears, HearsPiece, HearsEnd};
-ghost use Rattle.jps_run.specs.Outcome.{call_with};
+ghost use Rattle.jps_run.specs.Calls.{call_with};
 ghost use Rattle.jps_run.specs.Rising.{RiseEnd, RisePiece};
 ghost use Rattle.jps_run.specs.Opened.{IsListener, open_stops};
 ghost use Rattle.jps_run.specs.Answering.{HaveTaken};

@@ -4,8 +4,8 @@ ghost use Rattle.std.specs.Prelude.{◌≡◌, ◌≤◌, ◌*◌, ◌<◌, ◌+
 ghost use Rattle.grid_moves.specs.Layers.{is_free_ground, query_grid};
 ghost use Rattle.jps_run.specs.Reading.{AreSmall};
 ghost use Rattle.jps_run.specs.RunLines as spec;
+ghost use Rattle.jps_run.specs.Calls.{call_with};
 ghost use Rattle.jps_run.specs.Opened.{OpensWork};
-ghost use Rattle.jps_run.specs.Outcome.{call_with};
 ghost use Rattle.word_list.specs.Request as asked;
 
 use crate::NoMemory;

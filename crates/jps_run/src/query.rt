@@ -4,7 +4,7 @@ ghost use Rattle.std.specs.Prelude.{◌≡◌, [], ◌∷◌, IfOk};
 ghost use Rattle.script_text.specs.declared.command.Command.TheVariants.{Query};
 ghost use Rattle.word_list.specs.Request as asked;
 ghost use Rattle.jps_run.specs.Opened.{OpensWork};
-ghost use Rattle.jps_run.specs.Outcome.{call_with};
+ghost use Rattle.jps_run.specs.Calls.{call_with};
 
 use crate::NoMemory;
 use crate::answers::Answers;

@@ -3,7 +3,7 @@
 ghost use Rattle.std.specs.Prelude.{◌≡◌};
 ghost use Rattle.word_list.specs.Request as asked;
 ghost use Rattle.jps_run.specs.Opened.{OpensWork};
-ghost use Rattle.jps_run.specs.Outcome.{call_with};
+ghost use Rattle.jps_run.specs.Calls.{call_with};
 
 use crate::files::open_two;
 use crate::stop::Stop;

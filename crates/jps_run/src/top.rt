@@ -4,9 +4,9 @@ ghost use Rattle.std.specs.Prelude.{◌≡◌, ◌≤◌, ◌⊎◌, false, OnOk
 ghost use Rattle.io_edge.specs.Causes.{Rose};
 ghost use Rattle.word_list.specs.Request.{HasSides, asked, called};
 ghost use Rattle.jps_run.specs.Counting.{RoseAsCalled, RoseForCall};
-ghost use Rattle.jps_run.specs.Ending.{Comes, Gets, HasFailed, HasLines, HasPart, InputRose, NamedRose, Names, ReadsInput, ending_line};
+ghost use Rattle.jps_run.specs.Ending.{Comes, Gets, HasFailed, HasLines, CanHear, HasPart, InputRose, NamedRose, Names, ending_line};
 ghost use Rattle.jps_run.specs.Opened.{Opens, OpensWork};
-ghost use Rattle.jps_run.specs.Outcome.{reads_input};
+ghost use Rattle.jps_run.specs.Calls.{MayHear, reads_input};
 ghost use Rattle.jps_run.specs.Served.{HasServed};
 ghost use Rattle.jps_run.specs.FaultLines.{word_line as line_of_word};
 
@@ -118,7 +118,7 @@ fn serve<F: Files, I: Source, O: Sink, L: Ledger>(
     ensures counted { OnOk result (RoseForCall (called request.entry settings) (F.disk files.old).holds
         (I.inflow input.old).left steps.old steps.new) }
     ensures unchanged { (F.disk files.new).holds ≡ (F.disk files.old).holds }
-    ensures input_stays { reads_input (asked request.entry) ≡ false
+    ensures input_stays { ¬ MayHear (called request.entry settings) (F.disk files.old).holds
         → (I.inflow input.new).left ≡ (I.inflow input.old).left }
 {
     let opened = open(alloc, request, settings, files)?;
@@ -171,7 +171,7 @@ fn refuse_word<E: Sink>(alloc: Global, number: u32, err: &mut E) -> u8
 /// `steps` counts what the session counts.
 ///
 /// Statuses: 0 done; 1 done, and a scenario has a row that is neither agree nor near, or `check`
-/// refuses, or `prove` has no ends on one layer of the map, or `draw` none that are free; 2 the words
+/// refuses, or `prove` has no ends that are free and on one layer of the map, or `draw` none that are free; 2 the words
 /// are refused; 3 a text is refused; 4 a read failed; 5 a write of the output failed; 6 memory was
 /// refused, the one answer that is free.
 pub fn run<F: Files, I: Source, O: Sink, E: Sink, L: Ledger>(
@@ -211,8 +211,8 @@ pub fn run<F: Files, I: Source, O: Sink, E: Sink, L: Ledger>(
     // state that its searches took away from their goals, at least the fewest steps of its engine.
     ensures counted { result ≤ 1 → RoseAsCalled (map string_bytes words.now) (F.disk files.old).holds
         (I.inflow input.old).left steps.old steps.new }
-    // Nothing is taken from an input that the words do not ask for.
-    ensures input_stays { ¬ ReadsInput (map string_bytes words.now)
+    // Nothing is taken from an input that the words do not ask for, or before each of their files is accepted.
+    ensures input_stays { ¬ CanHear (map string_bytes words.now) (F.disk files.old).holds
         → (I.inflow input.new).left ≡ (I.inflow input.old).left }
 {
     let (request, settings) = match read_words(words) {

@@ -3,7 +3,8 @@ use Rattle.grid_moves.specs.Grid.{GridData}
 use Rattle.grid_moves.specs.Layers.{Layers, query_grid}
 use Rattle.word_list.specs.Request.{Check}
 use Rattle.jps_run.specs.Certificates.{IsVerdict}
-use Rattle.jps_run.specs.Outcome.{call_with, checked}
+use Rattle.jps_run.specs.Calls.{call_with}
+use Rattle.jps_run.specs.Outcome.{checked}
 use Rattle.jps_run.proofs.Opening.{text-right}
 use Rattle.jps_run.proofs.Printing.{small_verdict}
 use Rattle.jps_run.proofs.check.check.Goals as goal

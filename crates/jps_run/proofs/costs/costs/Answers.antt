@@ -2,7 +2,8 @@ use Rattle.std.proofs.Common.{refl, sym, subst, inl, List, [], ◌∷◌, ℕ, �
 use Rattle.grid_moves.specs.Layers.{Layers}
 use Rattle.word_list.specs.Request.{Costs}
 use Rattle.jps_run.specs.Distances.{AreCosts}
-use Rattle.jps_run.specs.Outcome.{IsAnswered, call_with, costed}
+use Rattle.jps_run.specs.Calls.{call_with}
+use Rattle.jps_run.specs.Outcome.{IsAnswered, costed}
 use Rattle.jps_run.proofs.costs.costs.Goals as goal
 
 pub returns-clause-opened : goal.returns-clause-opened

@@ -3,7 +3,8 @@ use Rattle.map_text.specs.Map.{Map}
 use Rattle.map_text.specs.Faults.{plain}
 use Rattle.edit_replay.specs.Session.{SessionData}
 use Rattle.word_list.specs.Request.{Draw}
-use Rattle.jps_run.specs.Outcome.{call_with, drawn}
+use Rattle.jps_run.specs.Calls.{call_with}
+use Rattle.jps_run.specs.Outcome.{drawn}
 use Rattle.jps_run.specs.Pictures.{IsDrawing}
 use Rattle.jps_run.specs.Session.{session_on}
 use Rattle.jps_run.proofs.Opening.{text-right}

@@ -12,4 +12,4 @@ returns-clause-read g c =
     reading-ends disk _ file (next-file disk.holds [] file [] [] tt) disk
     (g.F.Files.disk c.read_map_file.new.files) refl (none-fell disk.faults)
     (IsRead (IsMade (g.M.OfMap.is_of_map c.args.settings)) [] kinds.Map (disk.holds c.args.map.now))
-    c.read_map_file.result (c.read_map_file.ensures.read [])
+    c.read_map_file.result (c.read_map_file.ensures.read [] tt)

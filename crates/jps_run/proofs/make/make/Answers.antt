@@ -3,7 +3,8 @@ use Rattle.map_text.specs.Faults.{plain}
 use Rattle.map_text.specs.Writing.{canonical_text}
 use Rattle.map_maker.specs.Making.{made_map}
 use Rattle.word_list.specs.Request.{Make}
-use Rattle.jps_run.specs.Outcome.{IsAnswered, call_with, made}
+use Rattle.jps_run.specs.Calls.{call_with}
+use Rattle.jps_run.specs.Outcome.{IsAnswered, made}
 use Rattle.jps_run.proofs.Opening.{text-right}
 use Rattle.jps_run.proofs.make.make.Goals as goal
 

@@ -1,6 +1,6 @@
 use Rattle.std.proofs.Common.{sym, subst}
 use Rattle.grid_moves.specs.Grid.{GridData}
-use Rattle.potential_make.specs.Certified.{IsCertificate}
+use Rattle.potential_make.specs.Certified.{IsAcceptedText, IsCertificate}
 use Rattle.jps_run.specs.Certificates.{IsProof, apart, blocked, certified}
 use Rattle.jps_run.proofs.Printing.{if_said}
 use Rattle.jps_run.proofs.prove.proof_between.Goals as goal
@@ -16,5 +16,10 @@ returns-then-not-in_one_layer c = if_said c.said-then-not-in_one_layer.result
     (apart (sym c.if-not-are_free_ends.ensures) (sym c.if-not-in_one_layer.ensures))
 
 pub returns : goal.returns
-returns c = certified c.in_ok-text.text.items (sym c.if-not-in_one_layer.ensures) (subst (λ (g : GridData).
-    IsCertificate g c.args.from c.args.to c.in_ok-text.text.items) c.query_grid.ensures c.in_ok-text.ensures.text)
+returns c =
+    let text = c.in_ok-text.text.items in
+    certified text (sym c.if-not-in_one_layer.ensures)
+    (subst (λ (g : GridData). IsCertificate g c.args.from c.args.to text) c.query_grid.ensures
+    c.in_ok-text.ensures.text)
+    (subst (λ (g : GridData). IsAcceptedText g c.args.from c.args.to text) c.query_grid.ensures
+    c.in_ok-text.ensures.accepted)

@@ -5,7 +5,8 @@ use Rattle.script_text.specs.declared.command.Command.{Command}
 use Rattle.script_text.specs.declared.command.Command.TheVariants as command
 use Rattle.jps_run.specs.Answers.{AreAnswers}
 use Rattle.jps_run.specs.Counting.{CommandsTake, RoseBy}
-use Rattle.jps_run.specs.Outcome.{call_with, replied}
+use Rattle.jps_run.specs.Calls.{call_with}
+use Rattle.jps_run.specs.Outcome.{replied}
 use Rattle.jps_run.proofs.Counts.{query-counted}
 use Rattle.jps_run.proofs.Opening.{solved-right}
 use Rattle.jps_run.proofs.query.query.Goals as goal

@@ -1,7 +1,8 @@
 use Rattle.std.proofs.Common.{◌≤◌, refl, sym, subst, inr, List, [], ◌∷◌, ℕ}
 use Rattle.edit_replay.specs.Session.{SessionData}
 use Rattle.word_list.specs.Request.{Scen}
-use Rattle.jps_run.specs.Outcome.{IsAnswered, call_with, judged}
+use Rattle.jps_run.specs.Calls.{call_with}
+use Rattle.jps_run.specs.Outcome.{IsAnswered, judged}
 use Rattle.jps_run.specs.Rows.{AreRows, scen_status}
 use Rattle.jps_run.proofs.Counts.{scen-counted}
 use Rattle.jps_run.proofs.Tallies.{small_status}

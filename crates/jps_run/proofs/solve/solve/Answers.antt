@@ -2,7 +2,8 @@ use Rattle.std.proofs.Common.{refl, subst, inr, [], ◌∷◌}
 use Rattle.edit_replay.specs.Session.{SessionData}
 use Rattle.word_list.specs.Request.{Solve}
 use Rattle.jps_run.specs.Answers.{AreAnswers}
-use Rattle.jps_run.specs.Outcome.{call_with, solved}
+use Rattle.jps_run.specs.Calls.{call_with}
+use Rattle.jps_run.specs.Outcome.{solved}
 use Rattle.jps_run.proofs.Counts.{solve-counted}
 use Rattle.jps_run.proofs.Opening.{solved-right}
 use Rattle.jps_run.proofs.solve.solve.Goals as goal

@@ -4,7 +4,7 @@ use Rattle.jps_run.specs.Opened.{IsOpenedAs}
 use Rattle.jps_run.specs.declared.work.Opened.{Opened}
 use Rattle.jps_run.specs.Counting.{RoseHeard, heard}
 use Rattle.jps_run.proofs.Counts.{on_ok}
-use Rattle.jps_run.proofs.Serving.{on-live, work-counted}
+use Rattle.jps_run.proofs.Serving.{may-hear, on-live, work-counted}
 use Rattle.jps_run.proofs.top.serve.Goals as goal
 
 pub returns-in-Work-clause-counted : goal.returns-in-Work-clause-counted
@@ -21,3 +21,9 @@ returns-in-Listener-clause-counted g c = on_ok c.hear.result (λ rose.
     c.in-Listener.is c.in_ok-opened.ensures.opened)
     (λ d show. RoseHeard d (g.I.Source.inflow c.args.input.now).left c.args.steps.now c.hear.new.steps) rose))
     c.hear.ensures.rose
+
+pub returns-in-Listener-clause-input_stays : goal.returns-in-Listener-clause-input_stays
+returns-in-Listener-clause-input_stays g c = λ not. absurd
+    (not (may-hear (called c.args.request c.args.settings) (g.F.Files.disk c.args.files.now).holds c.in-Listener.job
+    (subst (λ (o : Opened). IsOpenedAs (called c.args.request c.args.settings) (g.F.Files.disk c.args.files.now).holds o)
+    c.in-Listener.is c.in_ok-opened.ensures.opened)))
