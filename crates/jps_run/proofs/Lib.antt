@@ -21,3 +21,4 @@ pub mod Counts
 pub mod Rising
 pub mod Pictured
 pub mod Waved
+pub mod Cells

@@ -1,5 +1,5 @@
 -- The kinds of texts that a request reads.
-use Rattle.std.specs.Prelude.{ℕ, ◌^◌, ◌*◌, nat_le, Bool, if◌then◌else◌, List, codes, Result, Ok, Err, Option, Some, None}
+use Rattle.std.specs.Prelude.{ℕ, ◌^◌, ◌*◌, nat_le, Bool, true, if◌then◌else◌, List, codes, Result, Ok, Err, Option, Some, None}
 use Rattle.map_text.specs.Faults.{map_of}
 use Rattle.map_text.specs.Map as maps
 use Rattle.map_text.specs.declared.fault.MapFault.{MapFault}
@@ -7,6 +7,8 @@ use Rattle.script_text.specs.Faults.{script_of}
 use Rattle.scen_text.specs.Faults.{scen_of}
 use Rattle.potential_check.specs.Text.{certificate_of}
 use Rattle.jps_run.specs.FaultLines.{cert_line, large_line, map_line, script_line, scen_line}
+use Rattle.jps_run.specs.declared.kind.Extent.{Extent}
+use Rattle.jps_run.specs.declared.kind.Extent.TheVariants.{Any, Small}
 use Rattle.jps_run.specs.declared.kind.Kind.{Kind}
 use Rattle.jps_run.specs.declared.kind.Kind.TheVariants.{Map, SmallMap, Script, Scen, Cert}
 
@@ -31,13 +33,19 @@ abbrev pub fault_in : {V F : Type 0} → (F → List ℕ) → Result V F → Opt
 fault_in line_of (Ok value) = None
 fault_in line_of (Err fault) = Some (line_of fault)
 
--- a map has at most 2^14 cells
-abbrev pub is_small : maps.Map → Bool
-is_small m = nat_le (m.height * m.width) (2 ^ 14)
+-- the kind of the maps that a call takes
+abbrev pub kind_for : Extent → Kind
+kind_for Any = Map
+kind_for Small = SmallMap
 
--- the line of a map that is read as a fault, or that has more cells
+-- whether a map is one of them: the small ones have at most 2^14 cells
+abbrev pub takes : Extent → maps.Map → Bool
+takes Any m = true
+takes Small m = nat_le (m.height * m.width) (2 ^ 14)
+
+-- the line of a map that is read as a fault, or that has more than 2^14 cells
 abbrev pub small_refusal : Result maps.Map MapFault → Option (List ℕ)
-small_refusal (Ok m) = if is_small m then None else Some large_line
+small_refusal (Ok m) = if takes Small m then None else Some large_line
 small_refusal (Err fault) = Some (map_line fault)
 
 -- the line with which a text is refused behind the texts before it, if it is

@@ -1,5 +1,5 @@
 -- What texts are read as, and how their reading may stop. No public clause cites this module.
-use Rattle.std.specs.Prelude.{◌≡◌, ◌≤◌, ◌*◌, ℕ, List, [], ◌∷◌, Ok, Some, slice_get}
+use Rattle.std.specs.Prelude.{◌≡◌, true, ◌≤◌, ◌*◌, ℕ, List, [], ◌∷◌, Ok, Some, slice_get}
 use Rattle.std.specs.Global.{Vec}
 use Rattle.map_text.specs.Map.{Map}
 use Rattle.map_text.specs.Faults.{map_of, plain}
@@ -19,8 +19,9 @@ use Rattle.std.specs.Prelude.{None, ⊤, Result}
 use Rattle.io_edge.specs.Causes.{Rose}
 use Rattle.io_edge.specs.Told.{Held}
 use Rattle.jps_run.specs.Files.{AreAccepted, File, IsAccepted, IsRefused}
-use Rattle.jps_run.specs.Kinds.{refusal_of}
+use Rattle.jps_run.specs.Kinds.{refusal_of, takes}
 use Rattle.jps_run.specs.Stops.{Stops, Ends}
+use Rattle.jps_run.specs.declared.kind.Extent.{Extent}
 use Rattle.jps_run.specs.declared.kind.Kind.{Kind}
 use Rattle.jps_run.specs.declared.layers.SmallLayers.{SmallLayers}
 use Rattle.jps_run.specs.declared.stop.Stop.{Stop}
@@ -60,9 +61,9 @@ ReadsText IsBehind Spells kind text result = (earlier : List (List ℕ)) → IsB
       Memory = ⊤;
     }) result
 
--- the text spells this map
-abbrev pub SpellsMap : List ℕ → MapText → Type 0
-SpellsMap text m = map_of text ≡ Ok (plain m)
+-- the text spells this map, which is one of those that are taken
+abbrev pub SpellsWithin : Extent → List ℕ → MapText → Type 0
+SpellsWithin extent text m = (map_of text ≡ Ok (plain m)) × (takes extent (plain m) ≡ true)
 
 -- the text spells a map, of which this was made
 pub record IsMade {X : Type 0} (IsOf : Map → X → Type 0) (text : List ℕ) (made : X) : Type 0 where

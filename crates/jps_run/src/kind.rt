@@ -1,7 +1,10 @@
 //! The kinds of texts that a request reads.
 
 ghost use Rattle.std.specs.Prelude.{◌≡◌};
-ghost use Rattle.jps_run.specs.Kinds.{kind_word, limit_of};
+ghost use Rattle.map_text.specs.Faults.{plain};
+ghost use Rattle.jps_run.specs.Kinds.{kind_for, kind_word, limit_of, takes};
+
+use map_text::MapText;
 
 /// A kind of text.
 #[derive(Clone, Copy, Debug)]
@@ -12,6 +15,36 @@ pub(crate) enum Kind {
     Script,
     Scen,
     Cert,
+}
+
+/// Which maps a call takes.
+#[derive(Clone, Copy, Debug)]
+pub(crate) enum Extent {
+    Any,
+    /// Maps of at most 2^14 cells.
+    Small,
+}
+
+impl Extent {
+    /// The kind of these maps.
+    pub(crate) fn kind(self) -> Kind
+        ensures { result ≡ kind_for self }
+    {
+        match self {
+            Extent::Any => Kind::Map,
+            Extent::Small => Kind::SmallMap,
+        }
+    }
+
+    /// Whether a map is one of them.
+    pub(crate) fn takes(self, map: &MapText) -> bool
+        ensures { result ≡ takes self (plain map.now) }
+    {
+        match self {
+            Extent::Any => true,
+            Extent::Small => u32::from(map.height) * u32::from(map.width) <= 1 << 14,
+        }
+    }
 }
 
 impl Kind {
