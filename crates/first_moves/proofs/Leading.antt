@@ -1,5 +1,5 @@
 -- Where a least walk leads from cell to cell, first moves do.
-use Rattle.std.proofs.Common.{◌≡◌, ℕ, zero, suc, ◌≤◌, inl, inr, arith, refl, ap, sym, ◌∙◌, subst, Bool, true, false, List, [], ◌∷◌, length}
+use Rattle.std.proofs.Common.{◌≡◌, ℕ, zero, suc, ◌+◌, ◌≤◌, inl, inr, arith, refl, ap, sym, ◌∙◌, subst, Bool, true, false, List, [], ◌∷◌, length}
 use Rattle.std.specs.Prelude.{Option, Some, None, slice_index_or}
 use Rattle.root2_cost.specs.declared.Cost.{Cost}
 use Rattle.root2_cost.proofs.AtMost.{IsAtMost-antisymmetric}
@@ -47,7 +47,7 @@ module _ (g : GridData) (m : MovesData) (moves : AreMoves g m) (t : Cell) (to : 
   led : (n : ℕ) (s : Cell) (cells : List Cell) → IsLeastWalk g s t cells → length cells ≤ n → IsLed g s t
   led n s [] l few = stays_led s l.walk.legal l.walk.ends
   led zero s (v ∷ cells) l few = absurd (omega arith)
-  led (suc n) s (v ∷ cells) l few = by_first p.0 p.1
+  led (suc n) s (v ∷ cells) l few = by_first (led n) p.0 p.1
     where
       free : is_free g s ≡ true
       free = walk_free g s (v ∷ cells) l.walk.legal
@@ -55,15 +55,16 @@ module _ (g : GridData) (m : MovesData) (moves : AreMoves g m) (t : Cell) (to : 
       p : (move : Option Dir) × IsFirstMove g s t move
       p = first_from s free
 
-      by_first : (move : Option Dir) → IsFirstMove g s t move → IsLed g s t
-      by_first None (inl e) = stays_led s free e
-      by_first None (inr none) = absurd (none (v ∷ cells) l.walk)
-      by_first (Some d) f =
+      by_first : ((u : Cell) (others : List Cell) → IsLeastWalk g u t others → length others ≤ n → IsLed g u t)
+          → (move : Option Dir) → IsFirstMove g s t move → IsLed g s t
+      by_first again None (inl e) = stays_led s free e
+      by_first again None (inr none) = absurd (none (v ∷ cells) l.walk)
+      by_first again (Some d) f =
           let b = f.0 in
           let leads : LeadsTo g s t b.next = record { dir = d; first = f; ahead = b.ahead } in
           let as_many : length (b.next ∷ b.cells) ≡ length (v ∷ cells) =
           same_moves g s t (b.next ∷ b.cells) (v ∷ cells) b.least l in
-          let on = led n b.next b.cells (least_rest g s t b.next b.cells b.least) (omega (arith, as_many)) in
+          let on = again b.next b.cells (least_rest g s t b.next b.cells b.least) (omega (arith, as_many)) in
           record {
             cells = b.next ∷ on.cells;
             first = (leads, on.first);

@@ -37,8 +37,14 @@ pub data IsBoxText (ls : Layers) (s : Cell) : List ℕ → Type 0 where
 -- the box to the lower right of the upper left cell of an open map of three columns and three rows
 abbrev corner_boxes : CellBoxes
 corner_boxes = record {
-  n = None; ne = None; e = None; se = Some (record { x0 = 1; y0 = 1; x1 = 2; y1 = 2 });
-  s = None; sw = None; w = None; nw = None;
+  n = None;
+  ne = None;
+  e = None;
+  se = Some (record { x0 = 1; y0 = 1; x1 = 2; y1 = 2 });
+  s = None;
+  sw = None;
+  w = None;
+  nw = None;
 }
 
 pub lower_right : box_line corner_boxes SE
