@@ -37,6 +37,7 @@ module _ (words : List (List ℕ)) (holds : List ℕ → Held) (input : Option (
       settings = h.settings;
       is = h.is;
       text = h.text;
+      behind = h.behind;
       accepted = h.accepted;
       read = h.read;
       spelled = h.spelled;

@@ -131,7 +131,7 @@ pub(crate) fn check<F: Files>(
         (F.disk files.old) (F.disk files.new) result }
     ensures unchanged { (F.disk files.new).holds ≡ (F.disk files.old).holds }
 {
-    let both: (Layers, Certificate) = open_two(alloc, files, map, settings, cert)?;
+    let both: (Layers, Certificate) = open_two(alloc, files, map, settings, cert, &())?;
     let (layers, certificate) = both;
     let grid = layers.query_grid(certificate.start);
     let Printed { text, status } = verdict(alloc, grid, &certificate)?;

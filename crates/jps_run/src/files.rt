@@ -4,7 +4,7 @@ ghost use Rattle.std.specs.Prelude.{◌≡◌, ◌≤◌, ℕ, List, [], ◌∷�
 ghost use Rattle.io_edge.specs.Causes.{NoneFell};
 ghost use Rattle.io_edge.specs.Whole.{IsWhole, IsLonger};
 ghost use Rattle.jps_run.specs.FaultLines.{long_line as line_of_long};
-ghost use Rattle.jps_run.specs.Reading.{AreBothRead, IsMade, IsRead, Reads, ReadsText, read_stops};
+ghost use Rattle.jps_run.specs.Reading.{AreBothRead, IsFirst, IsMade, IsRead, Reads, ReadsText, read_stops};
 ghost use Rattle.jps_run.specs.Kinds.{kind_for, kind_word, limit_of};
 ghost use Rattle.jps_run.specs.Session as spec;
 ghost use Rattle.jps_run.specs.Files.{file_of};
@@ -294,21 +294,24 @@ pub(crate) fn open_one<F: Files, M: OfMap>(
 }
 
 /// What is made of the map that the first file holds, and what the second file is read as, for a
-/// call with these two files. The second one is read only where the first is accepted.
-pub(crate) fn open_two<F: Files, M: OfMap, T: Text<Context = ()>>(
+/// call with these two files. The second one is read only where the first is accepted; `context` says what it is
+/// judged by.
+pub(crate) fn open_two<F: Files, M: OfMap, T: Text>(
     alloc: Global,
     files: &mut F,
     map: &str,
     settings: Settings,
     second: &str,
+    context: &T::Context,
 ) -> Result<(M, T), Stop>
-    ensures read { Ends (AreBothRead (IsMade (M.is_of_map settings)) (T.spells ()) (F.disk files.old).holds
-        (file_of (kind_for (M.extent_of settings)) map.now) (file_of (T.kind_of_text ()) second.now))
+    requires behind { (text : List ℕ) → T.is_behind context.now (text ∷ []) }
+    ensures read { Ends (AreBothRead (IsMade (M.is_of_map settings)) (T.spells context.now) (F.disk files.old).holds
+        (file_of (kind_for (M.extent_of settings)) map.now) (file_of (T.kind_of_text context.now) second.now))
         (open_stops (F.disk files.old) (F.disk files.new)
-        (file_of (kind_for (M.extent_of settings)) map.now ∷ file_of (T.kind_of_text ()) second.now ∷ [])) result }
+        (file_of (kind_for (M.extent_of settings)) map.now ∷ file_of (T.kind_of_text context.now) second.now ∷ [])) result }
     ensures unchanged { (F.disk files.new).holds ≡ (F.disk files.old).holds }
 {
     let made: M = read_map_file(alloc, files, map, settings)?;
-    let text: T = read_file(alloc, files, second, &())?;
+    let text: T = read_file(alloc, files, second, context)?;
     Ok((made, text))
 }

@@ -26,7 +26,7 @@ pub(crate) fn scen<F: Files>(
         (F.disk files.old) (F.disk files.new) result }
     ensures unchanged { (F.disk files.new).holds ≡ (F.disk files.old).holds }
 {
-    let both: (Session, Vec<Entry>) = open_two(alloc, files, map, settings, name)?;
+    let both: (Session, Vec<Entry>) = open_two(alloc, files, map, settings, name, &())?;
     let (session, entries) = both;
     Ok(Work::Judge { session, entries })
 }

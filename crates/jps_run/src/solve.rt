@@ -27,7 +27,7 @@ pub(crate) fn solve<F: Files>(
         (F.disk files.old) (F.disk files.new) result }
     ensures unchanged { (F.disk files.new).holds ≡ (F.disk files.old).holds }
 {
-    let both: (Session, Vec<Command>) = open_two(alloc, files, map, settings, script)?;
+    let both: (Session, Vec<Command>) = open_two(alloc, files, map, settings, script, &())?;
     let (session, commands) = both;
     let job = Answers {
         session,

@@ -16,20 +16,20 @@ pub returns-in_err-text-clause-read : goal.returns-in_err-text-clause-read
 returns-in_err-text-clause-read g c =
     let disk = g.F.Files.disk c.args.files.now in
     let first = file_of (kind_for (g.M.OfMap.extent_of c.args.settings)) c.args.map.now in
-    let second = file_of (g.T.Text.kind_of_text tt) c.args.second.now in
+    let second = file_of (g.T.Text.kind_of_text c.args.context.now) c.args.second.now in
     let r = c.in_ok-made.ensures.read [] tt in
     reading-stops disk _ second (next-file disk.holds (first ∷ []) second [] (r.text ∷ []) (r.accepted, tt))
     (g.F.Files.disk c.read_map_file.new.files) (g.F.Files.disk c.read_file.new.files)
     c.in_ok-made.ensures.unchanged c.in_ok-made.ensures.later _ c.from_residual-in_err-text.result
-    c.in_err-text.field-0.0 (c.in_err-text.ensures.read (r.text ∷ []) tt) c.from_residual-in_err-text.ensures.1
+    c.in_err-text.field-0.0 (c.in_err-text.ensures.read (r.text ∷ []) (c.requires.behind r.text)) c.from_residual-in_err-text.ensures.1
 
 pub returns-clause-read : goal.returns-clause-read
 returns-clause-read g c =
     let disk = g.F.Files.disk c.args.files.now in
     let first = file_of (kind_for (g.M.OfMap.extent_of c.args.settings)) c.args.map.now in
-    let second = file_of (g.T.Text.kind_of_text tt) c.args.second.now in
+    let second = file_of (g.T.Text.kind_of_text c.args.context.now) c.args.second.now in
     let r = c.in_ok-made.ensures.read [] tt in
-    let s = c.in_ok-text.ensures.read (r.text ∷ []) tt in
+    let s = c.in_ok-text.ensures.read (r.text ∷ []) (c.requires.behind r.text) in
     record {
       text = r.text;
       more = s.text;
