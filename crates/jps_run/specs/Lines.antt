@@ -8,7 +8,7 @@ use Rattle.edit_replay.specs.declared.reply.Reply.TheVariants as reply
 use Rattle.edit_replay.specs.declared.reply.EditReply.{EditReply}
 use Rattle.edit_replay.specs.declared.reply.EditReply.TheVariants as edit
 use Rattle.word_list.specs.declared.request.Show.{Show}
-use Rattle.word_list.specs.declared.request.Show.TheVariants.{Points, Cells, Trace}
+use Rattle.word_list.specs.declared.request.Show.TheVariants.{Points, Cells, Trace, Taken}
 
 -- ` x,y`
 abbrev pub point_text : Cell → List ℕ
@@ -23,6 +23,7 @@ texts_of text (x ∷ xs) = text x ++ texts_of text xs
 abbrev pub shown_cells : Show → List Cell → List Cell
 shown_cells Points points = points
 shown_cells Trace points = points
+shown_cells Taken points = points
 shown_cells Cells points = unwrap_or (unfolding_of points) []
 
 -- `walk a b` and these cells
@@ -49,6 +50,7 @@ state_text width state =
 abbrev pub taken_text : ℕ → Show → List ℕ → List ℕ
 taken_text width Points taken = []
 taken_text width Cells taken = []
+taken_text width Taken taken = []
 taken_text width Trace taken = codes " taken" ++ texts_of (state_text width) taken
 
 -- the line of the reply to a query, on a map of this width

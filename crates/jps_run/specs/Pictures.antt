@@ -9,7 +9,7 @@ use Rattle.edit_replay.specs.declared.reply.Reply.TheVariants as reply
 use Rattle.picture.specs.Picture.{picture_of}
 use Rattle.word_list.specs.declared.request.Settings.{Settings}
 use Rattle.word_list.specs.declared.request.Show.{Show}
-use Rattle.word_list.specs.declared.request.Show.TheVariants.{Points, Cells, Trace}
+use Rattle.word_list.specs.declared.request.Show.TheVariants.{Points, Cells, Trace, Taken}
 use Rattle.jps_run.specs.Session.{IsReply, session_on}
 use Rattle.jps_run.specs.declared.draw.Canvas.{Canvas}
 
@@ -18,6 +18,7 @@ abbrev pub drawn_states : Show → List ℕ → Option (List ℕ)
 drawn_states Points taken = None
 drawn_states Cells taken = None
 drawn_states Trace taken = Some taken
+drawn_states Taken taken = None
 
 -- what is printed for the reply to a query from s to t on a map
 abbrev pub drawing_of : Map → Cell → Cell → Show → Reply → List ℕ

@@ -91,7 +91,9 @@ fn picture_of(
         (option_map pictures.plain_walk walk.entry) (spec.drawn_states show taken.now)) }
 {
     match show {
-        Show::Points | Show::Cells => picture::draw(alloc, map, from, to, walk, None),
+        Show::Points | Show::Cells | Show::Taken => {
+            picture::draw(alloc, map, from, to, walk, None)
+        }
         Show::Trace => picture::draw(alloc, map, from, to, walk, Some(taken)),
     }
 }

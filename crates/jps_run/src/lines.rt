@@ -89,7 +89,7 @@ fn put_taken(out: &mut Vec<u8>, width: u16, show: Show, taken: &[u32]) -> Result
     ensures { OnOk result (out.new.items ≡ out.old.items ++ spec.taken_text width show taken.now) }
 {
     match show {
-        Show::Points | Show::Cells => Ok(()),
+        Show::Points | Show::Cells | Show::Taken => Ok(()),
         Show::Trace => {
             put(out, b" taken")?;
             for state in taken {
@@ -126,7 +126,11 @@ pub(crate) fn put_reply(
             taken,
         } => {
             match show {
-                Show::Points | Show::Trace => put_walk(out, *cost, points.as_slice())?,
+                Show::Points | Show::Trace | Show::Taken => put_walk(
+                    out,
+                    *cost,
+                    points.as_slice(),
+                )?,
                 Show::Cells => put_walk(out, *cost, unfold(alloc, points)?.as_slice())?,
             }
             put_taken(out, width, show, taken.as_slice())?;

@@ -8,7 +8,7 @@ use Rattle.word_list.specs.declared.rows.Kind.{Kind}
 use Rattle.word_list.specs.declared.rows.Kind.TheVariants.{File, Number, Seed, Side, Percent}
 use Rattle.word_list.specs.declared.rows.Row as declared
 use Rattle.word_list.specs.declared.settings.Family.{Family}
-use Rattle.word_list.specs.declared.settings.Family.TheVariants.{Engine, SmallMap, Show, Drawing, Rule}
+use Rattle.word_list.specs.declared.settings.Family.TheVariants.{Engine, SmallMap, Show, Drawing, Counts, Rule}
 use Rattle.word_list.specs.Request.{Asked, Help, Version, Query, Solve, Live, Scen, Prove, Check, Make, Drill, Draw, Costs, Boxes, Moves}
 
 -- a command, the kinds of the words that it takes, and the settings that it allows after them
@@ -35,7 +35,11 @@ row_of name =
     else if bytes_eq name (codes "live") then
     Some (record { command = command.Live; takes = File ∷ []; allows = Engine ∷ Show ∷ Rule ∷ [] })
     else if bytes_eq name (codes "scen") then
-    Some (record { command = command.Scen; takes = File ∷ File ∷ []; allows = Engine ∷ SmallMap ∷ Rule ∷ [] })
+    Some (record {
+      command = command.Scen;
+      takes = File ∷ File ∷ [];
+      allows = Engine ∷ SmallMap ∷ Counts ∷ Rule ∷ [];
+    })
     else if bytes_eq name (codes "prove") then
     Some (record {
       command = command.Prove;

@@ -3,7 +3,7 @@ use Rattle.std.specs.Prelude.{ℕ, Bool, true, false, List, [], ◌∷◌, ◌++
 use Rattle.std.specs.List.{list_any, fold}
 use Rattle.word_list.specs.declared.request.Pick.{Pick}
 use Rattle.word_list.specs.declared.request.Pick.TheVariants.{Plain, Jps, Block, Plus, Boxes, Moves}
-use Rattle.word_list.specs.declared.request.Show.TheVariants.{Points, Cells, Trace}
+use Rattle.word_list.specs.declared.request.Show.TheVariants.{Points, Cells, Trace, Taken}
 use Rattle.word_list.specs.declared.request.Settings.{Settings}
 use Rattle.word_list.specs.declared.settings.Setting.{Setting}
 use Rattle.word_list.specs.declared.settings.Setting.TheVariants as setting
@@ -24,6 +24,7 @@ setting_of word =
     else if bytes_eq word (codes "show=points") then Some (setting.Show Points)
     else if bytes_eq word (codes "show=cells") then Some (setting.Show Cells)
     else if bytes_eq word (codes "show=trace") then Some (setting.Show Trace)
+    else if bytes_eq word (codes "show=taken") then Some (setting.Show Taken)
     else if bytes_eq word (codes "rule=none") then Some (setting.Rule false)
     else if bytes_eq word (codes "rule=one") then Some (setting.Rule true)
     else None
@@ -41,10 +42,11 @@ is_same choice.Show choice.Show = true
 is_same choice.Rule choice.Rule = true
 is_same one other = false
 
--- whether a setting can't stand beside this one, which makes another choice: first moves take no states, of which
--- a trace could tell
+-- whether a setting can't stand beside this one, which makes another choice: first moves take no states, which a
+-- trace could list or a row could count
 abbrev pub excludes : Setting → Setting → Bool
 excludes (setting.Engine Moves) (setting.Show Trace) = true
+excludes (setting.Engine Moves) (setting.Show Taken) = true
 excludes one other = false
 
 -- whether two settings can't stand together, in whatever order
@@ -62,13 +64,17 @@ is_for_small_maps Boxes = true
 is_for_small_maps Moves = true
 is_for_small_maps other = false
 
--- whether a setting is of a family; a picture shows the points, and the states that the search took
+-- whether a setting is of a family; a picture shows the points, and the states that the search took; rows count
+-- these states
 abbrev pub has : Family → Setting → Bool
 has family.Engine (setting.Engine pick) = not (is_for_small_maps pick)
 has family.SmallMap (setting.Engine pick) = is_for_small_maps pick
-has family.Show (setting.Show show) = true
+has family.Show (setting.Show Points) = true
+has family.Show (setting.Show Cells) = true
+has family.Show (setting.Show Trace) = true
 has family.Drawing (setting.Show Points) = true
 has family.Drawing (setting.Show Trace) = true
+has family.Counts (setting.Show Taken) = true
 has family.Rule (setting.Rule one) = true
 has other setting = false
 

@@ -4,7 +4,7 @@ use Rattle.text_line.specs.LongNumbers.{long_number_of}
 use Rattle.text_line.specs.Numbers.{number_of}
 use Rattle.word_list.specs.declared.request.Pick.TheVariants.{Plain, Jps, Boxes, Moves}
 use Rattle.word_list.specs.declared.request.Show.{Show}
-use Rattle.word_list.specs.declared.request.Show.TheVariants.{Points, Cells, Trace}
+use Rattle.word_list.specs.declared.request.Show.TheVariants.{Points, Cells, Trace, Taken}
 use Rattle.word_list.specs.Request.{Call, Help, Query, Solve, Scen, Make}
 use Rattle.word_list.specs.Settings.{default_settings}
 use Rattle.word_list.specs.Calls.{call_of}
@@ -103,7 +103,21 @@ pub setting_for_name : call_of (codes "scen" ∷ codes "m" ∷ codes "rule=one" 
 })
 setting_for_name = refl
 
--- rows are shown in one way
+-- rows may tell counts, and nothing else is shown of them; no answer tells counts, and first moves have none
+pub counted_rows : call_of (codes "scen" ∷ codes "m" ∷ codes "s" ∷ codes "show=taken" ∷ []) ≡ Some (record {
+  request = Scen (codes "m") (codes "s");
+  settings = record { pick = Plain; show = Taken; one = false };
+})
+counted_rows = refl
+
+pub counted_answer : query_with (codes "show=taken" ∷ []) ≡ None
+unfolding number_of
+counted_answer = refl
+
+pub counts_before_moves : call_of (codes "scen" ∷ codes "m" ∷ codes "s" ∷ codes "show=taken" ∷ codes "engine=moves"
+    ∷ []) ≡ None
+counts_before_moves = refl
+
 pub shown_rows : call_of (codes "scen" ∷ codes "m" ∷ codes "s" ∷ codes "show=cells" ∷ []) ≡ None
 shown_rows = refl
 

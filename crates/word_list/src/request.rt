@@ -122,6 +122,8 @@ pub enum Show {
     Cells,
     /// The points, and then each state that the search took.
     Trace,
+    /// How many states the search took.
+    Taken,
 }
 
 /// The number of the word, from 1, with which no call begins; one more than there are words where

@@ -103,7 +103,7 @@ pub fn row_named(name: &str) -> Option<Row>
     ensures row { option_map row_data result ≡ row_of name.now }
     ensures few { IfSome result (λ row. length row.takes.now ≤ 8) }
 {
-    use Family::{Drawing, Engine, Rule, Show, SmallMap};
+    use Family::{Counts, Drawing, Engine, Rule, Show, SmallMap};
     use Kind::{File, Number, Percent, Seed, Side};
     let (command, takes, allows): (Command, &[Kind], &[Family]) = match name {
         "--help" => (Command::Help, &[], &[]),
@@ -115,7 +115,11 @@ pub fn row_named(name: &str) -> Option<Row>
         ),
         "solve" => (Command::Solve, &[File, File], &[Engine, Show, Rule]),
         "live" => (Command::Live, &[File], &[Engine, Show, Rule]),
-        "scen" => (Command::Scen, &[File, File], &[Engine, SmallMap, Rule]),
+        "scen" => (
+            Command::Scen,
+            &[File, File],
+            &[Engine, SmallMap, Counts, Rule],
+        ),
         "prove" => (
             Command::Prove,
             &[File, Number, Number, Number, Number],

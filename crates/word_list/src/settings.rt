@@ -38,6 +38,8 @@ pub enum Family {
     Show,
     /// What a picture shows: the points, and the states that the search took.
     Drawing,
+    /// What rows count: the states that the searches took.
+    Counts,
     /// Whether walks may pass corners.
     Rule,
 }
@@ -50,9 +52,12 @@ impl Family {
         match (self, setting) {
             (Family::Engine, Setting::Engine(pick)) => !pick.is_for_small_maps(),
             (Family::SmallMap, Setting::Engine(pick)) => pick.is_for_small_maps(),
-            (Family::Show, Setting::Show(_)) => true,
+            (Family::Show, Setting::Show(Show::Points)) => true,
+            (Family::Show, Setting::Show(Show::Cells)) => true,
+            (Family::Show, Setting::Show(Show::Trace)) => true,
             (Family::Drawing, Setting::Show(Show::Points)) => true,
             (Family::Drawing, Setting::Show(Show::Trace)) => true,
+            (Family::Counts, Setting::Show(Show::Taken)) => true,
             (Family::Rule, Setting::Rule(_)) => true,
             _ => false,
         }
@@ -87,6 +92,7 @@ impl Setting {
             "show=points" => Some(Setting::Show(Show::Points)),
             "show=cells" => Some(Setting::Show(Show::Cells)),
             "show=trace" => Some(Setting::Show(Show::Trace)),
+            "show=taken" => Some(Setting::Show(Show::Taken)),
             "rule=none" => Some(Setting::Rule(false)),
             "rule=one" => Some(Setting::Rule(true)),
             _ => None,
@@ -112,12 +118,13 @@ impl Setting {
     }
 
     /// Whether it can't stand beside this setting, which makes another choice: first moves take no
-    /// states, of which a trace could tell.
+    /// states, which a trace could list or a row could count.
     fn excludes(self, other: Setting) -> bool
         ensures { result ≡ excludes self other }
     {
         match (self, other) {
             (Setting::Engine(Pick::Moves), Setting::Show(Show::Trace)) => true,
+            (Setting::Engine(Pick::Moves), Setting::Show(Show::Taken)) => true,
             _ => false,
         }
     }

@@ -13,7 +13,7 @@ fn words_of(alloc: Global, line: &str) -> Result<Vec<String>, AllocError> {
 // Counted by hand, from the table of commands.
 #[test]
 fn the_first_word_of_no_call_is_named(rt: HostRuntime) -> Result<(), Fail> {
-    let lists: [(&str, u32); 37] = [
+    let lists: [(&str, u32); 42] = [
         ("mkae", 1),
         ("make", 2),
         ("make 7 0 2 0", 3),
@@ -50,6 +50,11 @@ fn the_first_word_of_no_call_is_named(rt: HostRuntime) -> Result<(), Fail> {
         ("check m c show=cells", 4),
         ("scen m", 3),
         ("scen m s show=points engine=plain", 4),
+        ("scen m s show=taken show=taken", 5),
+        ("scen m s engine=moves show=taken", 5),
+        ("scen m s show=taken rule=one engine=moves", 6),
+        ("query m 0 0 2 2 show=taken", 7),
+        ("draw m 0 0 2 2 show=taken", 7),
         ("scen m s rule=one rule=none rule=one", 5),
     ];
     for (line, number) in lists {
@@ -148,7 +153,7 @@ fn a_query_or_a_scenario_may_pick_an_engine_of_small_maps(rt: HostRuntime) -> Re
             ))
         )
     );
-    let words = words_of(rt.alloc(), "scen m s engine=moves")?;
+    let words = words_of(rt.alloc(), "scen m s engine=boxes show=taken")?;
     let scen = read_words(&words);
     assert!(rt;
         matches!(
@@ -156,7 +161,8 @@ fn a_query_or_a_scenario_may_pick_an_engine_of_small_maps(rt: HostRuntime) -> Re
             Ok((
                 Request::Scen { .. },
                 Settings {
-                    pick: Pick::Moves,
+                    pick: Pick::Boxes,
+                    show: Show::Taken,
                     ..
                 }
             ))
