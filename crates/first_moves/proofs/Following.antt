@@ -53,7 +53,7 @@ least_over g s t v l =
     record { cells = b.cells; least = subst (λ (c : Cell). IsLeastWalk g s t (c ∷ b.cells)) same b.least }
 
 -- a first move goes on over any least walk from its end
-over_first : (g : GridData) (s t v : Cell) → LeadsTo g s t v → (rest : List Cell) → IsLeastWalk g v t rest
+pub over_first : (g : GridData) (s t v : Cell) → LeadsTo g s t v → (rest : List Cell) → IsLeastWalk g v t rest
     → IsLeastWalk g s t (v ∷ rest)
 over_first g s t v l rest w =
     let legal = legal_ahead-is g s v l.dir l.ahead in

@@ -3,3 +3,4 @@ pub mod Cutting
 pub mod Rows
 pub mod Short
 pub mod Following
+pub mod Leading

@@ -3,3 +3,4 @@ pub mod Runs
 pub mod Row
 pub mod Kept
 pub mod Follow
+pub mod Existence

@@ -6,3 +6,4 @@ mod Shapes
 mod Offering
 mod Right
 mod Concluding
+pub mod Answering

@@ -5,3 +5,4 @@ pub mod Rule
 pub mod Answer
 pub mod Offers
 pub mod Progress
+pub mod Existence

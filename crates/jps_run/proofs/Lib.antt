@@ -22,3 +22,4 @@ pub mod Rising
 pub mod Pictured
 pub mod Waved
 pub mod Refereed
+pub mod Cells

@@ -1,6 +1,6 @@
 -- Texts that files hold.
-use Rattle.std.proofs.Common.{◌≡◌, ◌∙◌, ap, List, ℕ}
-use Rattle.std.specs.Prelude.{Result, Ok, Err}
+use Rattle.std.proofs.Common.{◌≡◌, ◌∙◌, ap, refl, List, ℕ, true, false}
+use Rattle.std.specs.Prelude.{Result, Ok, Err, Some, None}
 use Rattle.io_edge.specs.Told.{Held}
 use Rattle.io_edge.specs.Whole.{IsWhole}
 use Rattle.grid_moves.specs.Layers.{layers_of}
@@ -11,8 +11,14 @@ use Rattle.edit_replay.specs.declared.engine.Engine.{Engine}
 use Rattle.word_list.specs.declared.request.Settings.{Settings}
 use Rattle.jps_run.specs.Session.{corner_of, engine_of, session_on}
 use Rattle.jps_run.specs.Files.{faulty}
-use Rattle.jps_run.specs.Reading.{Reads, ReadsText}
-use Rattle.jps_run.specs.Kinds.{limit_of}
+use Rattle.jps_run.specs.FaultLines.{large_line, map_line}
+use Rattle.jps_run.specs.Reading.{Reads, ReadsText, SpellsWithin}
+use Rattle.jps_run.specs.Kinds.{kind_for, limit_of, refusal_of, takes}
+use Rattle.jps_run.specs.declared.kind.Extent.{Extent}
+use Rattle.jps_run.specs.declared.kind.Extent.TheVariants.{Any, Small}
+use Rattle.map_text.specs.Faults.{map_of, plain}
+use Rattle.map_text.specs.declared.fault.MapFault.{MapFault}
+use Rattle.map_text.specs.declared.map.MapText.{MapText}
 use Rattle.jps_run.specs.declared.kind.Kind.{Kind}
 use Rattle.jps_run.specs.declared.stop.Stop.{Stop}
 use Rattle.jps_run.specs.declared.stop.Stop.TheVariants as stop
@@ -46,3 +52,21 @@ session-made d set m engine corner is e k =
       engine = engine_of set.pick;
       layers = layers_of it m.width m.height m.cells;
     } in s) k
+
+-- a map that is taken, one that is not, and a text that spells none
+pub map-taken : (extent : Extent) (text : List ℕ) (m : MapText) → map_of text ≡ Ok (plain m)
+    → takes extent (plain m) ≡ true → (earlier : List (List ℕ))
+    → (refusal_of (kind_for extent) earlier text ≡ None) × SpellsWithin extent text m
+map-taken Any text m e t = λ earlier. (rw e refl, (e, t))
+map-taken Small text m e t = λ earlier. (rw (e, t) refl, (e, t))
+
+pub map-large : (extent : Extent) (text : List ℕ) (m : MapText) (line : List ℕ) → map_of text ≡ Ok (plain m)
+    → takes extent (plain m) ≡ false → line ≡ large_line → (earlier : List (List ℕ))
+    → refusal_of (kind_for extent) earlier text ≡ Some line
+map-large Any text m line e t l = λ earlier. absurd (cc)
+map-large Small text m line e t l = λ earlier. rw (e, t, l) refl
+
+pub map-faulty : (extent : Extent) (text : List ℕ) (fault : MapFault) (line : List ℕ) → map_of text ≡ Err fault
+    → line ≡ map_line fault → (earlier : List (List ℕ)) → refusal_of (kind_for extent) earlier text ≡ Some line
+map-faulty Any text fault line e l = λ earlier. rw (e, l) refl
+map-faulty Small text fault line e l = λ earlier. rw (e, l) refl

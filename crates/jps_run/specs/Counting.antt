@@ -15,7 +15,7 @@ use Rattle.script_text.specs.declared.command.Command.TheVariants as command
 use Rattle.script_text.specs.Faults.{script_of}
 use Rattle.scen_text.specs.declared.entry.Entry.{Entry}
 use Rattle.scen_text.specs.Faults.{scen_of}
-use Rattle.word_list.specs.Request.{Asked, Call, Help, Version, Query, Solve, Live, Scen, Judge, Prove, Check, Make, Drill, Draw, Costs, Tables}
+use Rattle.word_list.specs.Request.{Asked, Call, Help, Version, Query, Solve, Live, Scen, Judge, Prove, Check, Make, Drill, Draw, Costs, Tables, Boxes, Moves}
 use Rattle.word_list.specs.declared.request.Settings.{Settings}
 use Rattle.jps_run.specs.Answers.{edits_with}
 use Rattle.jps_run.specs.Files.{AreAccepted}
@@ -82,6 +82,8 @@ searches (Drill seed) = true
 searches (Draw map sx sy gx gy) = true
 searches (Costs map x y) = false
 searches (Tables map) = false
+searches (Boxes map x y) = false
+searches (Moves map x y) = false
 
 -- the counter rose as the searches of a call make it, on the texts of its files
 pub data RoseFor : Call → List (List ℕ) → ℕ → ℕ → Type 0 where

@@ -19,6 +19,10 @@ word_line number = codes "jps: word " ++ decimal number ++ codes "\n"
 abbrev pub long_line : List ℕ → List ℕ
 long_line kind = codes "jps: " ++ kind ++ codes " long\n"
 
+-- the line of a map of more cells than a call takes
+abbrev pub large_line : List ℕ
+large_line = codes "jps: map large\n"
+
 -- a fault by its name, in this line of a text of this kind
 abbrev pub fault_line : List ℕ → List ℕ → ℕ → List ℕ
 fault_line kind name number =

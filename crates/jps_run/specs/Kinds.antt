@@ -1,19 +1,24 @@
 -- The kinds of texts that a request reads.
-use Rattle.std.specs.Prelude.{ℕ, ◌^◌, List, ◌∷◌, length, codes, Result, Ok, Err, Option, Some, None}
+use Rattle.std.specs.Prelude.{ℕ, ◌^◌, List, ◌∷◌, length, codes, Result, Ok, Err, Option, Some, None, ◌*◌, nat_le, Bool, true, if◌then◌else◌}
 use Rattle.map_text.specs.Faults.{map_of}
+use Rattle.map_text.specs.Map as maps
+use Rattle.map_text.specs.declared.fault.MapFault.{MapFault}
 use Rattle.script_text.specs.Faults.{script_of}
 use Rattle.scen_text.specs.Faults.{scen_of}
 use Rattle.potential_check.specs.Text.{certificate_of}
 use Rattle.scen_text.specs.declared.entry.Entry.{Entry}
 use Rattle.scen_text.specs.declared.fault.ScenFault.{ScenFault}
 use Rattle.walk_judge.specs.Walks.{walks_of}
-use Rattle.jps_run.specs.FaultLines.{cert_line, map_line, script_line, scen_line, walks_line}
+use Rattle.jps_run.specs.FaultLines.{cert_line, map_line, script_line, scen_line, walks_line, large_line}
 use Rattle.jps_run.specs.declared.kind.Kind.{Kind}
-use Rattle.jps_run.specs.declared.kind.Kind.TheVariants.{Map, Script, Scen, Cert, Walks}
+use Rattle.jps_run.specs.declared.kind.Kind.TheVariants.{Map, Script, Scen, Cert, Walks, SmallMap}
+use Rattle.jps_run.specs.declared.kind.Extent.{Extent}
+use Rattle.jps_run.specs.declared.kind.Extent.TheVariants.{Any, Small}
 
 -- the word of a kind in fault lines
 abbrev pub kind_word : Kind → List ℕ
 kind_word Map = codes "map"
+kind_word SmallMap = codes "map"
 kind_word Script = codes "script"
 kind_word Scen = codes "scen"
 kind_word Cert = codes "cert"
@@ -22,6 +27,7 @@ kind_word Walks = codes "walks"
 -- the longest text of a kind, in bytes
 abbrev pub limit_of : Kind → ℕ
 limit_of Map = 2 ^ 26
+limit_of SmallMap = 2 ^ 26
 limit_of Script = 2 ^ 26
 limit_of Scen = 2 ^ 26
 limit_of Cert = 2 ^ 30
@@ -41,10 +47,25 @@ count_in (Err fault) = 0
 abbrev pub entries_in : List (List ℕ) → ℕ
 entries_in (map ∷ scen ∷ others) = count_in (scen_of scen)
 entries_in others = 0
+-- the kind of the maps that a call takes
+abbrev pub kind_for : Extent → Kind
+kind_for Any = Map
+kind_for Small = SmallMap
+
+-- whether a map is one of them: the small ones have at most 2^14 cells
+abbrev pub takes : Extent → maps.Map → Bool
+takes Any m = true
+takes Small m = nat_le (m.height * m.width) (2 ^ 14)
+
+-- the line of a map that is read as a fault, or that has more than 2^14 cells
+abbrev pub small_refusal : Result maps.Map MapFault → Option (List ℕ)
+small_refusal (Ok m) = if takes Small m then None else Some large_line
+small_refusal (Err fault) = Some (map_line fault)
 
 -- the line with which a text is refused behind the texts before it, if it is
 abbrev pub refusal_of : Kind → List (List ℕ) → List ℕ → Option (List ℕ)
 refusal_of Map earlier text = fault_in map_line (map_of text)
+refusal_of SmallMap earlier text = small_refusal (map_of text)
 refusal_of Script earlier text = fault_in script_line (script_of text)
 refusal_of Scen earlier text = fault_in scen_line (scen_of text)
 refusal_of Cert earlier text = fault_in cert_line (certificate_of text)

@@ -33,3 +33,5 @@ pub mod Telling
 pub mod Costing
 pub mod Rulings
 pub mod Refereeing
+pub mod BoxLines
+pub mod RunLines

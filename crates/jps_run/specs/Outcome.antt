@@ -16,10 +16,11 @@ use Rattle.walk_judge.specs.Walks.{walks_of}
 use Rattle.potential_check.specs.Text.{certificate_of, plain}
 use Rattle.potential_check.specs.declared.certificate.Certificate.{Certificate}
 use Rattle.word_list.specs.Calls.{call_of, is_call}
-use Rattle.word_list.specs.Request.{Call, Help, Version, Query, Solve, Live, Scen, Judge, Prove, Check, Make, Drill, Draw, Costs, Tables}
+use Rattle.word_list.specs.Request.{Call, Help, Version, Query, Solve, Live, Scen, Judge, Prove, Check, Make, Drill, Draw, Costs, Tables, Boxes, Moves}
 use Rattle.word_list.specs.Rule.{IsBadWord}
 use Rattle.word_list.specs.declared.request.Settings.{Settings}
 use Rattle.jps_run.specs.Answers.{AreAnswers}
+use Rattle.jps_run.specs.BoxLines.{IsBoxText}
 use Rattle.jps_run.specs.Certificates.{IsProof, IsVerdict}
 use Rattle.jps_run.specs.Distances.{AreCosts}
 use Rattle.jps_run.specs.Drill.{AreDrilled, drill_line}
@@ -31,6 +32,7 @@ use Rattle.jps_run.specs.Heard.{AreHeard}
 use Rattle.jps_run.specs.Pictures.{IsDrawing}
 use Rattle.jps_run.specs.Rows.{AreRows, scen_lines, scen_status}
 use Rattle.jps_run.specs.Rulings.{AreRulings, judge_lines, judge_status}
+use Rattle.jps_run.specs.RunLines.{IsRunText}
 use Rattle.jps_run.specs.Session.{corner_of, session_on}
 use Rattle.jps_run.specs.Tabled.{tables_text}
 use Rattle.jps_run.specs.Texts.{help_text, version_text}
@@ -90,6 +92,14 @@ pub data IsAnswered : Call → List (List ℕ) → List (List ℕ) → ℕ → T
       → IsAnswered (call_with (Costs map x y) set) (text ∷ []) lines 0
   tabled : (map text : List ℕ) (set : Settings) (m : Map) → map_of text ≡ Ok m
       → IsAnswered (call_with (Tables map) set) (text ∷ []) (tables_text (corner_of set.one) m ∷ []) 0
+  boxed : (map text : List ℕ) (x y : ℕ) (set : Settings) (m : Map) (printed : List ℕ)
+      → map_of text ≡ Ok m
+      → IsBoxText (layers_of (corner_of set.one) m.width m.height m.cells) (record { x = x; y = y }) printed
+      → IsAnswered (call_with (Boxes map x y) set) (text ∷ []) (printed ∷ []) 0
+  moved : (map text : List ℕ) (x y : ℕ) (set : Settings) (m : Map) (printed : List ℕ)
+      → map_of text ≡ Ok m
+      → IsRunText (layers_of (corner_of set.one) m.width m.height m.cells) (record { x = x; y = y }) printed
+      → IsAnswered (call_with (Moves map x y) set) (text ∷ []) (printed ∷ []) 0
 
 -- the lines and the status are a right output of a call, with the files that are held
 pub record IsOutput (call : Call) (holds : List ℕ → Held) (lines : List (List ℕ)) (status : ℕ) : Type 0 where

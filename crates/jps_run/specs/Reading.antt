@@ -1,5 +1,5 @@
 -- What texts are read as, and how their reading may stop. No public clause cites this module.
-use Rattle.std.specs.Prelude.{◌≡◌, ℕ, ◌≤◌, ◌^◌, List, [], ◌∷◌, length, Ok, Some, slice_get}
+use Rattle.std.specs.Prelude.{◌≡◌, ℕ, ◌≤◌, ◌^◌, List, [], ◌∷◌, length, Ok, Some, slice_get, true, ◌*◌}
 use Rattle.std.specs.Global.{Vec}
 use Rattle.map_text.specs.Map.{Map}
 use Rattle.map_text.specs.Faults.{map_of, plain}
@@ -22,9 +22,11 @@ use Rattle.std.specs.Prelude.{None, ⊤, Result}
 use Rattle.io_edge.specs.Causes.{Rose}
 use Rattle.io_edge.specs.Told.{Held}
 use Rattle.jps_run.specs.Files.{AreAccepted, File, IsAccepted, IsRefused}
-use Rattle.jps_run.specs.Kinds.{refusal_of}
+use Rattle.jps_run.specs.Kinds.{refusal_of, takes}
 use Rattle.jps_run.specs.Stops.{Stops, Ends}
+use Rattle.jps_run.specs.declared.kind.Extent.{Extent}
 use Rattle.jps_run.specs.declared.kind.Kind.{Kind}
+use Rattle.jps_run.specs.declared.layers.SmallLayers.{SmallLayers}
 use Rattle.jps_run.specs.declared.stop.Stop.{Stop}
 
 -- a text was read as this value: the held bytes spell it, and are accepted behind the texts before it
@@ -62,9 +64,9 @@ ReadsText IsBehind Spells kind text result = (earlier : List (List ℕ)) → IsB
       Memory = ⊤;
     }) result
 
--- the text spells this map
-abbrev pub SpellsMap : List ℕ → MapText → Type 0
-SpellsMap text m = map_of text ≡ Ok (plain m)
+-- the text spells this map, which is one of those that are taken
+abbrev pub SpellsWithin : Extent → List ℕ → MapText → Type 0
+SpellsWithin extent text m = (map_of text ≡ Ok (plain m)) × (takes extent (plain m) ≡ true)
 
 -- the text spells a map, of which this was made
 pub record IsMade {X : Type 0} (IsOf : Map → X → Type 0) (text : List ℕ) (made : X) : Type 0 where
@@ -79,6 +81,16 @@ IsSessionOn set m d = d ≡ session_on set m
 -- the layers of a map under the rule of the settings
 abbrev pub AreLayersOf : Settings → Map → Layers → Type 0
 AreLayersOf set m ls = ls ≡ layers_of (corner_of set.one) m.width m.height m.cells
+
+-- both grids have at most 2^14 cells
+pub record AreSmall (ls : Layers) : Type 0 where
+  pub land : ls.land.height * ls.land.width ≤ 16384
+  pub water : ls.water.height * ls.water.width ≤ 16384
+
+-- the layers of a map of at most 2^14 cells
+pub record AreSmallLayersOf (set : Settings) (m : Map) (small : SmallLayers) : Type 0 where
+  pub layers : AreLayersOf set m small.layers
+  pub few : AreSmall small.layers
 
 -- the map and one file more were read as these values: the files hold these texts, the second one accepted behind the first
 pub record AreBothRead {X Y : Type 0} (Spells : List ℕ → X → Type 0) (SpellsMore : List ℕ → Y → Type 0)

@@ -28,6 +28,10 @@ help_text =
     ++ codes "      the least cost from the cell (X,Y) to each cell, a line for each row: `A,B`, or `-` where no walk leads\n"
     ++ codes "  jps tables MAP [rule=none|rule=one]\n"
     ++ codes "      the tables of the engine plus as bytes, for other programs\n"
+    ++ codes "  jps boxes MAP X Y [rule=none|rule=one]\n"
+    ++ codes "      for each direction the least box of cells to which some least walk from the cell (X,Y) begins so\n"
+    ++ codes "  jps moves MAP X Y [rule=none|rule=one]\n"
+    ++ codes "      the first move from the cell (X,Y) to each cell, a line for each run of cells with one first move\n"
     ++ codes "  jps --help\n"
     ++ codes "      this text\n"
     ++ codes "  jps --version\n"
@@ -48,6 +52,7 @@ help_text =
     ++ codes "  jps: word N            word N is missing, or no call has it there; words are counted from 1\n"
     ++ codes "  jps: TEXT CODE line N  line N of the map, script, scen or cert breaks its form\n"
     ++ codes "  jps: TEXT long         the text is longer than 67108864 bytes, a cert than 1073741824\n"
+    ++ codes "  jps: map large         the map has more than 16384 cells, and `boxes` or `moves` was asked for\n"
     ++ codes "  jps: read, jps: write, jps: memory\n"
 
 -- what `--version` prints

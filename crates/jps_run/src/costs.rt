@@ -148,8 +148,8 @@ fn costs_from(alloc: Global, layers: &Layers, from: Cell) -> Result<Work, NoMemo
     Ok(Work::Tell { job, rows })
 }
 
-// A line alone.
-fn line_alone(alloc: Global, line: &[u8]) -> Result<Vec<u8>, NoMemory>
+/// A line alone.
+pub(crate) fn line_alone(alloc: Global, line: &[u8]) -> Result<Vec<u8>, NoMemory>
     ensures { IfOk result (λ text. text.items ≡ line.now) }
 {
     let mut text = Vec::new(alloc);

@@ -16,6 +16,7 @@ ghost use Rattle.jps_run.specs.Sending.{SendsWhole};
 
 use crate::NoMemory;
 use crate::files::{OfMap, corner_of, engine_of, open_one};
+use crate::kind::Extent;
 use crate::prove::{Printed, said};
 use crate::query::Ends;
 use crate::sending::send_text;
@@ -40,8 +41,15 @@ pub(crate) struct Canvas {
 
 impl OfMap for Canvas {
     ghost use Rattle.jps_run.specs.Pictures.{IsCanvasOf};
+    ghost use Rattle.jps_run.specs.declared.kind.Extent.TheVariants.{Any};
+
+    ghost extent_of = { λ _. Any };
 
     ghost is_of_map = { IsCanvasOf };
+
+    fn extent(_settings: Settings) -> Extent {
+        Extent::Any
+    }
 
     fn of_map(alloc: Global, map: MapText, settings: Settings) -> Result<Canvas, NoMemory> {
         let session = Session::new(

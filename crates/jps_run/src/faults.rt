@@ -39,6 +39,15 @@ pub(crate) fn long_line(alloc: Global, kind: &[u8]) -> Result<Vec<u8>, NoMemory>
     Ok(line)
 }
 
+/// The line of a map of more cells than a call takes.
+pub(crate) fn large_line(alloc: Global) -> Result<Vec<u8>, NoMemory>
+    ensures { IfOk result (λ line. line.items ≡ spec.large_line) }
+{
+    let mut line = Vec::new(alloc);
+    put(&mut line, b"jps: map large\n")?;
+    Ok(line)
+}
+
 // The line of a fault by its name, in this line of a text of this kind.
 fn fault_line(alloc: Global, kind: &[u8], name: &[u8], number: u32) -> Result<Vec<u8>, NoMemory>
     ensures { IfOk result (λ line. line.items ≡ spec.fault_line kind.now name.now number) }

@@ -5,17 +5,16 @@ ghost use Rattle.io_edge.specs.Causes.{NoneFell};
 ghost use Rattle.io_edge.specs.Whole.{IsWhole, IsLonger};
 ghost use Rattle.jps_run.specs.FaultLines.{long_line as line_of_long};
 ghost use Rattle.jps_run.specs.Reading.{AreBothRead, IsFirst, IsMade, IsRead, Reads, ReadsText, read_stops};
-ghost use Rattle.jps_run.specs.Kinds.{kind_word, limit_of};
+ghost use Rattle.jps_run.specs.Kinds.{kind_for, kind_word, limit_of};
 ghost use Rattle.jps_run.specs.Session as spec;
 ghost use Rattle.jps_run.specs.Files.{file_of};
 ghost use Rattle.jps_run.specs.Opened.{open_stops};
 ghost use Rattle.map_text.specs.Faults.{plain};
 ghost use Rattle.jps_run.specs.Stops.{Ends};
-ghost use Rattle.jps_run.specs.declared.kind.Kind.TheVariants as kinds;
 
 use crate::NoMemory;
-use crate::faults::{cert_line, long_line, map_line, scen_line, script_line, walks_line};
-use crate::kind::Kind;
+use crate::faults::{cert_line, large_line, long_line, map_line, scen_line, script_line, walks_line};
+use crate::kind::{Extent, Kind};
 use crate::stop::Stop;
 use edit_replay::{Engine, Session};
 use grid_moves::Corner;
@@ -54,24 +53,31 @@ pub(crate) trait Text: Drop + Sized {
 }
 
 impl Text for MapText {
-    ghost use Rattle.jps_run.specs.Reading.{SpellsMap};
-    ghost use Rattle.jps_run.specs.declared.kind.Kind.TheVariants.{Map};
+    ghost use Rattle.jps_run.specs.Kinds.{kind_for};
+    ghost use Rattle.jps_run.specs.Reading.{SpellsWithin};
 
-    type Context = ();
+    /// Which maps are taken.
+    type Context = Extent;
 
-    ghost kind_of_text = { λ _. Map };
+    ghost kind_of_text = { kind_for };
 
     ghost is_behind = { λ _ _. Unit {0} };
 
-    ghost spells = { λ _. SpellsMap };
+    ghost spells = { SpellsWithin };
 
-    fn kind(_context: &()) -> Kind {
-        Kind::Map
+    fn kind(context: &Extent) -> Kind {
+        context.kind()
     }
 
-    fn of_text(alloc: Global, text: &[u8], _context: &()) -> Result<MapText, Stop> {
+    fn of_text(alloc: Global, text: &[u8], context: &Extent) -> Result<MapText, Stop> {
         match read_map(alloc, text) {
-            Ok(map) => Ok(map),
+            Ok(map) => {
+                if context.takes(&map) {
+                    Ok(map)
+                } else {
+                    Err(Stop::Text(large_line(alloc)?))
+                }
+            }
             Err(fault) => Err(Stop::Text(map_line(alloc, fault)?)),
         }
     }
@@ -241,18 +247,35 @@ pub(crate) fn corner_of(one: bool) -> Corner
 pub(crate) trait OfMap: Drop + Sized {
     ghost use Rattle.map_text.specs.Map.{Map};
     ghost use Rattle.word_list.specs.declared.request.Settings.{Settings};
+    ghost use Rattle.jps_run.specs.Kinds.{takes};
+    ghost use Rattle.jps_run.specs.declared.kind.Extent.{Extent};
+
+    // the maps of which it is made
+    ghost extent_of: { Settings → Extent };
 
     ghost is_of_map: { Settings → Map → Self → Type 0 };
 
+    /// The maps of which it is made, as the settings ask.
+    fn extent(settings: Settings) -> Extent
+        ensures { result ≡ extent_of settings };
+
     /// The value of the map.
     fn of_map(alloc: Global, map: MapText, settings: Settings) -> Result<Self, NoMemory>
+        requires { takes (extent_of settings) (plain map) ≡ true }
         ensures { IfOk result (is_of_map settings (plain map)) };
 }
 
 impl OfMap for Session {
     ghost use Rattle.jps_run.specs.Reading.{IsSessionOn};
+    ghost use Rattle.jps_run.specs.declared.kind.Extent.TheVariants.{Any};
+
+    ghost extent_of = { λ _. Any };
 
     ghost is_of_map = { IsSessionOn };
+
+    fn extent(_settings: Settings) -> Extent {
+        Extent::Any
+    }
 
     fn of_map(alloc: Global, map: MapText, settings: Settings) -> Result<Session, NoMemory> {
         Session::new(
@@ -271,12 +294,13 @@ pub(crate) fn read_map_file<F: Files, M: OfMap>(
     name: &str,
     settings: Settings,
 ) -> Result<M, Stop>
-    ensures read { Reads IsFirst (IsMade (M.is_of_map settings)) kinds.Map ((F.disk files.old).holds name.now)
+    ensures read { Reads IsFirst (IsMade (M.is_of_map settings)) (kind_for (M.extent_of settings)) ((F.disk files.old).holds name.now)
         ((F.disk files.old).faults name.now) ((F.disk files.new).faults name.now) result }
     ensures unchanged { (F.disk files.new).holds ≡ (F.disk files.old).holds }
     ensures later { NoneFell (F.disk files.old).faults (F.disk files.new).faults }
 {
-    let map: MapText = read_file(alloc, files, name, &())?;
+    let extent = M::extent(settings);
+    let map: MapText = read_file(alloc, files, name, &extent)?;
     let made = M::of_map(alloc, map, settings)?;
     Ok(made)
 }
@@ -288,8 +312,10 @@ pub(crate) fn open_one<F: Files, M: OfMap>(
     map: &str,
     settings: Settings,
 ) -> Result<M, Stop>
-    ensures read { Ends (IsRead (IsMade (M.is_of_map settings)) [] kinds.Map ((F.disk files.old).holds map.now))
-        (open_stops (F.disk files.old) (F.disk files.new) (file_of kinds.Map map.now ∷ [])) result }
+    ensures read { Ends (IsRead (IsMade (M.is_of_map settings)) [] (kind_for (M.extent_of settings))
+        ((F.disk files.old).holds map.now))
+        (open_stops (F.disk files.old) (F.disk files.new) (file_of (kind_for (M.extent_of settings)) map.now ∷ []))
+        result }
     ensures unchanged { (F.disk files.new).holds ≡ (F.disk files.old).holds }
 {
     read_map_file(alloc, files, map, settings)
@@ -308,9 +334,9 @@ pub(crate) fn open_two<F: Files, M: OfMap, T: Text>(
 ) -> Result<(M, T), Stop>
     requires behind { (text : List ℕ) → T.is_behind context.now (text ∷ []) }
     ensures read { Ends (AreBothRead (IsMade (M.is_of_map settings)) (T.spells context.now) (F.disk files.old).holds
-        (file_of kinds.Map map.now) (file_of (T.kind_of_text context.now) second.now))
+        (file_of (kind_for (M.extent_of settings)) map.now) (file_of (T.kind_of_text context.now) second.now))
         (open_stops (F.disk files.old) (F.disk files.new)
-        (file_of kinds.Map map.now ∷ file_of (T.kind_of_text context.now) second.now ∷ [])) result }
+        (file_of (kind_for (M.extent_of settings)) map.now ∷ file_of (T.kind_of_text context.now) second.now ∷ [])) result }
     ensures unchanged { (F.disk files.new).holds ≡ (F.disk files.old).holds }
 {
     let made: M = read_map_file(alloc, files, map, settings)?;

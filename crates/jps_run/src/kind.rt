@@ -1,16 +1,51 @@
 //! The kinds of texts that a request reads.
 
 ghost use Rattle.std.specs.Prelude.{◌≡◌};
-ghost use Rattle.jps_run.specs.Kinds.{kind_word, limit_of};
+ghost use Rattle.map_text.specs.Faults.{plain};
+ghost use Rattle.jps_run.specs.Kinds.{kind_for, kind_word, limit_of, takes};
+
+use map_text::MapText;
 
 /// A kind of text.
 #[derive(Clone, Copy, Debug)]
 pub(crate) enum Kind {
     Map,
+    /// A map of at most 2^14 cells.
+    SmallMap,
     Script,
     Scen,
     Cert,
     Walks,
+}
+
+/// Which maps a call takes.
+#[derive(Clone, Copy, Debug)]
+pub(crate) enum Extent {
+    Any,
+    /// Maps of at most 2^14 cells.
+    Small,
+}
+
+impl Extent {
+    /// The kind of these maps.
+    pub(crate) fn kind(self) -> Kind
+        ensures { result ≡ kind_for self }
+    {
+        match self {
+            Extent::Any => Kind::Map,
+            Extent::Small => Kind::SmallMap,
+        }
+    }
+
+    /// Whether a map is one of them.
+    pub(crate) fn takes(self, map: &MapText) -> bool
+        ensures { result ≡ takes self (plain map.now) }
+    {
+        match self {
+            Extent::Any => true,
+            Extent::Small => u32::from(map.height) * u32::from(map.width) <= 1 << 14,
+        }
+    }
 }
 
 impl Kind {
@@ -19,7 +54,7 @@ impl Kind {
         ensures { result.now ≡ kind_word self }
     {
         match self {
-            Kind::Map => b"map",
+            Kind::Map | Kind::SmallMap => b"map",
             Kind::Script => b"script",
             Kind::Scen => b"scen",
             Kind::Cert => b"cert",
@@ -32,7 +67,7 @@ impl Kind {
         ensures { result ≡ limit_of self }
     {
         match self {
-            Kind::Map | Kind::Script | Kind::Scen => 1 << 26,
+            Kind::Map | Kind::SmallMap | Kind::Script | Kind::Scen => 1 << 26,
             Kind::Cert | Kind::Walks => 1 << 30,
         }
     }

@@ -7,6 +7,7 @@ ghost use Rattle.grid_moves.specs.Reply as replies;
 
 use crate::NoMemory;
 use crate::files::{OfMap, corner_of};
+use crate::kind::Extent;
 use grid_moves::{Cell, Grid, Ground, Terrain};
 use map_text::MapText;
 use std::alloc::Global;
@@ -32,8 +33,15 @@ impl Model for Layers {
 
 impl OfMap for Layers {
     ghost use Rattle.jps_run.specs.Reading.{AreLayersOf};
+    ghost use Rattle.jps_run.specs.declared.kind.Extent.TheVariants.{Any};
+
+    ghost extent_of = { λ _. Any };
 
     ghost is_of_map = { AreLayersOf };
+
+    fn extent(_settings: Settings) -> Extent {
+        Extent::Any
+    }
 
     fn of_map(alloc: Global, map: MapText, settings: Settings) -> Result<Layers, NoMemory> {
         let cells = map.cells.as_slice();
@@ -41,6 +49,30 @@ impl OfMap for Layers {
         let land = Grid::of_layer(alloc, map.width, map.height, cells, corner, Ground::Land)?;
         let water = Grid::of_layer(alloc, map.width, map.height, cells, corner, Ground::Water)?;
         Ok(Layers { land, water })
+    }
+}
+
+/// The land grid and the water grid of a map of at most 2^14 cells.
+#[derive(Drop)]
+pub(crate) struct SmallLayers {
+    pub layers: Layers,
+}
+
+impl OfMap for SmallLayers {
+    ghost use Rattle.jps_run.specs.Reading.{AreSmallLayersOf};
+    ghost use Rattle.jps_run.specs.declared.kind.Extent.TheVariants.{Small};
+
+    ghost extent_of = { λ _. Small };
+
+    ghost is_of_map = { AreSmallLayersOf };
+
+    fn extent(_settings: Settings) -> Extent {
+        Extent::Small
+    }
+
+    fn of_map(alloc: Global, map: MapText, settings: Settings) -> Result<SmallLayers, NoMemory> {
+        let layers = Layers::of_map(alloc, map, settings)?;
+        Ok(SmallLayers { layers })
     }
 }
 

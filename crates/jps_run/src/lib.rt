@@ -4,6 +4,7 @@
 #[cfg(test)]
 mod ample_tests;
 mod answers;
+mod boxes;
 mod check;
 mod costs;
 #[cfg(test)]
@@ -23,6 +24,7 @@ mod live;
 #[cfg(test)]
 mod live_tests;
 mod make;
+mod moves;
 mod prove;
 mod query;
 mod referee;

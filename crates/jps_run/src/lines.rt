@@ -1,11 +1,12 @@
 //! The lines that answer a query or an edit.
 
 ghost use Rattle.std.specs.Prelude.{◌≡◌, ◌<◌, ◌++◌, OnOk};
+ghost use Rattle.jps_run.specs.BoxLines as boxes;
 ghost use Rattle.jps_run.specs.Lines as spec;
 
 use crate::NoMemory;
 use edit_replay::{EditReply, Reply};
-use grid_moves::Cell;
+use grid_moves::{Cell, Dir, dir_number};
 use path_points::unfold;
 use root2_cost::Cost;
 use std::alloc::Global;
@@ -58,6 +59,13 @@ fn arrival_text(arrival: u32) -> &'static [u8]
         7 => b"NW",
         _ => b"-",
     }
+}
+
+/// The name of a direction.
+pub(crate) fn dir_text(d: Dir) -> &'static [u8]
+    ensures { result.now ≡ boxes.dir_text d }
+{
+    arrival_text(u32::from(dir_number(d)))
 }
 
 // Appends a blank and the state.

@@ -32,6 +32,10 @@ pub(crate) fn help_text() -> &'static [u8]
       the least cost from the cell (X,Y) to each cell, a line for each row: `A,B`, or `-` where no walk leads
   jps tables MAP [rule=none|rule=one]
       the tables of the engine plus as bytes, for other programs
+  jps boxes MAP X Y [rule=none|rule=one]
+      for each direction the least box of cells to which some least walk from the cell (X,Y) begins so
+  jps moves MAP X Y [rule=none|rule=one]
+      the first move from the cell (X,Y) to each cell, a line for each run of cells with one first move
   jps --help
       this text
   jps --version
@@ -52,6 +56,7 @@ faults, one line on standard error:
   jps: word N            word N is missing, or no call has it there; words are counted from 1
   jps: TEXT CODE line N  line N of the map, script, scen or cert breaks its form
   jps: TEXT long         the text is longer than 67108864 bytes, a cert than 1073741824
+  jps: map large         the map has more than 16384 cells, and `boxes` or `moves` was asked for
   jps: read, jps: write, jps: memory
 "
 }

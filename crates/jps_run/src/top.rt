@@ -10,6 +10,7 @@ ghost use Rattle.jps_run.specs.Calls.{MayHear, reads_input};
 ghost use Rattle.jps_run.specs.Served.{HasServed};
 ghost use Rattle.jps_run.specs.FaultLines.{word_line as line_of_word};
 
+use crate::boxes::boxes;
 use crate::check::check;
 use crate::costs::costs;
 use crate::draw::draw;
@@ -18,6 +19,7 @@ use crate::faults::word_line;
 use crate::judge::judge;
 use crate::live::{hear, live};
 use crate::make::make;
+use crate::moves::moves;
 use crate::prove::prove;
 use crate::query::{Ends, query};
 use crate::scen::scen;
@@ -99,6 +101,8 @@ fn open_work<F: Files>(
         } => draw(alloc, files, map, Ends { sx, sy, gx, gy }, settings),
         Request::Costs { map, x, y } => costs(alloc, files, map, x, y, settings),
         Request::Tables { map } => tables(alloc, files, map, settings),
+        Request::Boxes { map, x, y } => boxes(alloc, files, map, x, y, settings),
+        Request::Moves { map, x, y } => moves(alloc, files, map, x, y, settings),
     }
 }
 

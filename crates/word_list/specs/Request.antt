@@ -20,6 +20,8 @@ pub data Asked : Type 0 where
   Draw : (map : List ℕ) (sx sy gx gy : ℕ) → Asked
   Costs : (map : List ℕ) (x y : ℕ) → Asked
   Tables : (map : List ℕ) → Asked
+  Boxes : (map : List ℕ) (x y : ℕ) → Asked
+  Moves : (map : List ℕ) (x y : ℕ) → Asked
 
 -- what a request asks for
 abbrev pub asked : Request → Asked
@@ -37,6 +39,8 @@ asked (request.Drill seed) = Drill seed
 asked (request.Draw map sx sy gx gy) = Draw map.now sx sy gx gy
 asked (request.Costs map x y) = Costs map.now x y
 asked (request.Tables map) = Tables map.now
+asked (request.Boxes map x y) = Boxes map.now x y
+asked (request.Moves map x y) = Moves map.now x y
 
 -- the sides of a map that is to be made are 1 to 4096
 abbrev pub HasSides : Request → Type 0
@@ -54,6 +58,8 @@ HasSides (request.Drill seed) = ⊤
 HasSides (request.Draw map sx sy gx gy) = ⊤
 HasSides (request.Costs map x y) = ⊤
 HasSides (request.Tables map) = ⊤
+HasSides (request.Boxes map x y) = ⊤
+HasSides (request.Moves map x y) = ⊤
 
 -- a request and how it is to be done
 pub record Call : Type 0 where

@@ -9,7 +9,7 @@ use Rattle.word_list.specs.declared.rows.Kind.TheVariants.{File, Number, Seed, S
 use Rattle.word_list.specs.declared.rows.Row as declared
 use Rattle.word_list.specs.declared.settings.Family.{Family}
 use Rattle.word_list.specs.declared.settings.Family.TheVariants.{Engine, SmallMap, Show, Drawing, Counts, Rule}
-use Rattle.word_list.specs.Request.{Asked, Help, Version, Query, Solve, Live, Scen, Judge, Prove, Check, Make, Drill, Draw, Costs, Tables}
+use Rattle.word_list.specs.Request.{Asked, Help, Version, Query, Solve, Live, Scen, Judge, Prove, Check, Make, Drill, Draw, Costs, Tables, Boxes, Moves}
 
 -- a command, the kinds of the words that it takes, and the settings that it allows after them
 pub record Row : Type 0 where
@@ -64,6 +64,10 @@ row_of name =
     Some (record { command = command.Costs; takes = File ∷ Number ∷ Number ∷ []; allows = Rule ∷ [] })
     else if bytes_eq name (codes "tables") then
     Some (record { command = command.Tables; takes = File ∷ []; allows = Rule ∷ [] })
+    else if bytes_eq name (codes "boxes") then
+    Some (record { command = command.Boxes; takes = File ∷ Number ∷ Number ∷ []; allows = Rule ∷ [] })
+    else if bytes_eq name (codes "moves") then
+    Some (record { command = command.Moves; takes = File ∷ Number ∷ Number ∷ []; allows = Rule ∷ [] })
     else None
 
 -- the number, where it lies between these
@@ -124,6 +128,8 @@ asked_by command.Draw words =
     Draw (word_at words 0) (number_at words 1) (number_at words 2) (number_at words 3) (number_at words 4)
 asked_by command.Costs words = Costs (word_at words 0) (number_at words 1) (number_at words 2)
 asked_by command.Tables words = Tables (word_at words 0)
+asked_by command.Boxes words = Boxes (word_at words 0) (number_at words 1) (number_at words 2)
+asked_by command.Moves words = Moves (word_at words 0) (number_at words 1) (number_at words 2)
 
 -- a row of the code
 abbrev pub row_data : declared.Row → Row

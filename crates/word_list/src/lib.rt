@@ -18,6 +18,8 @@
 //! draw MAP SX SY GX GY [engine=ENGINE] [show=points|show=trace] [rule=none|rule=one]
 //! costs MAP X Y [rule=none|rule=one]
 //! tables MAP [rule=none|rule=one]
+//! boxes MAP X Y [rule=none|rule=one]
+//! moves MAP X Y [rule=none|rule=one]
 //! ```
 //!
 //! ENGINE is `plain`, `jps`, `block` or `plus`; SMALL is `boxes` or `moves`, engines of small maps. Names of

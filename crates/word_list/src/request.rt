@@ -81,6 +81,18 @@ pub enum Request<'a> {
     Tables {
         map: &'a str,
     },
+    /// The goal boxes of a cell, one for each direction.
+    Boxes {
+        map: &'a str,
+        x: u32,
+        y: u32,
+    },
+    /// The first moves from a cell to each cell, in runs.
+    Moves {
+        map: &'a str,
+        x: u32,
+        y: u32,
+    },
 }
 
 /// How a request is to be done. A setting that the words don't have stands at its default.

@@ -27,6 +27,8 @@ pub enum Command {
     Draw,
     Costs,
     Tables,
+    Boxes,
+    Moves,
 }
 
 /// The side of a map that the word spells, if it is one: a number from 1 to 4096.
@@ -136,6 +138,8 @@ pub fn row_named(name: &str) -> Option<Row>
         ),
         "costs" => (Command::Costs, &[File, Number, Number], &[Rule]),
         "tables" => (Command::Tables, &[File], &[Rule]),
+        "boxes" => (Command::Boxes, &[File, Number, Number], &[Rule]),
+        "moves" => (Command::Moves, &[File, Number, Number], &[Rule]),
         _ => return None,
     };
     Some(Row {
@@ -210,6 +214,16 @@ pub fn request<'a>(command: Command, words: &'a [String]) -> Request<'a>
         },
         Command::Tables => Request::Tables {
             map: name_at(words, 0),
+        },
+        Command::Boxes => Request::Boxes {
+            map: name_at(words, 0),
+            x: number_at(words, 1),
+            y: number_at(words, 2),
+        },
+        Command::Moves => Request::Moves {
+            map: name_at(words, 0),
+            x: number_at(words, 1),
+            y: number_at(words, 2),
         },
     }
 }

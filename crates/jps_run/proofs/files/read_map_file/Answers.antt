@@ -1,12 +1,12 @@
 use Rattle.map_text.specs.Faults.{plain}
 use Rattle.jps_run.specs.Reading.{IsMade, IsRead}
-use Rattle.jps_run.specs.declared.kind.Kind.TheVariants as kinds
+use Rattle.jps_run.specs.Kinds.{kind_for}
 use Rattle.jps_run.proofs.Stopping.{passed, follow-same}
 use Rattle.jps_run.proofs.files.read_map_file.Goals as goal
 
 pub returns-in_err-map-clause-read : goal.returns-in_err-map-clause-read
 returns-in_err-map-clause-read g c = λ earlier behind.
-    passed (IsRead (IsMade (g.M.OfMap.is_of_map c.args.settings)) earlier kinds.Map
+    passed (IsRead (IsMade (g.M.OfMap.is_of_map c.args.settings)) earlier (kind_for (g.M.OfMap.extent_of c.args.settings))
     ((g.F.Files.disk c.args.files.now).holds c.args.name.now)) _ _ c.from_residual.result c.in_err-map.field-0.0
     c.from_residual.ensures.1 (c.in_err-map.ensures.read earlier behind) (follow-same _)
 

@@ -1,0 +1,72 @@
+-- What is printed of one cell.
+use Rattle.std.proofs.Common.{◌≡◌, ◌≤◌, ◌*◌, sym, subst, ℕ, List, Bool, true, false, arith}
+use Rattle.std.specs.Prelude.{codes, if◌then◌else◌, IfOk, Result, Ok, Err}
+use Rattle.std.specs.Global.{Vec}
+use Rattle.std.proofs.lemmas.Bool.Decides.{nat_tests}
+use Rattle.first_moves.specs.declared.row.Run.{Run}
+use Rattle.first_moves.specs.Row.{IsRow}
+use Rattle.goal_boxes.specs.declared.around.CellBoxes.{CellBoxes}
+use Rattle.goal_boxes.specs.Box.{AreBoxes}
+use Rattle.grid_moves.specs.declared.Cell.{Cell}
+use Rattle.grid_moves.specs.Grid.{GridData, is_free}
+use Rattle.grid_moves.specs.Layers.{Layers, is_free_ground, is_on_map, query_grid}
+use Rattle.map_text.specs.Map.{Map}
+use Rattle.word_list.specs.declared.request.Settings.{Settings}
+use Rattle.jps_run.specs.BoxLines as boxes
+use Rattle.jps_run.specs.BoxLines.{IsBoxText, boxes_text}
+use Rattle.jps_run.specs.Kinds.{takes}
+use Rattle.jps_run.specs.Reading.{AreLayersOf, AreSmall, AreSmallLayersOf}
+use Rattle.jps_run.specs.RunLines as runs
+use Rattle.jps_run.specs.RunLines.{IsRunText, runs_text}
+use Rattle.jps_run.specs.declared.kind.Extent.TheVariants.{Small}
+use Rattle.jps_run.specs.declared.layers.SmallLayers.{SmallLayers}
+
+-- a text that is this line
+pub if_line : {E : Type 0} (result : Result (Vec ℕ) E) (Right : List ℕ → Type 0) (line : List ℕ)
+    → IfOk result (λ t. t.items ≡ line) → Right line → IfOk result (λ t. Right t.items)
+if_line (Ok t) Right line e r = subst Right (sym e) r
+if_line (Err e) Right line a r = tt
+
+-- the text of one cell is that of the same cell
+pub if_same : {E : Type 0} (result : Result (Vec ℕ) E) (Right : Cell → List ℕ → Type 0) (c s : Cell) → c ≡ s
+    → IfOk result (λ t. Right c t.items) → IfOk result (λ t. Right s t.items)
+if_same (Ok t) Right c s e r = subst (λ (k : Cell). Right k t.items) e r
+if_same (Err f) Right c s e r = tt
+
+pub blocked-boxes : (ls : Layers) (c s : Cell) → c ≡ s → is_on_map ls c ≡ true → is_free_ground ls c ≡ false
+    → IsBoxText ls s (codes "blocked\n")
+blocked-boxes ls c s e on shut = subst (λ (k : Cell). IsBoxText ls k (codes "blocked\n")) e (boxes.blocked on shut)
+
+pub blocked-runs : (ls : Layers) (c s : Cell) → c ≡ s → is_on_map ls c ≡ true → is_free_ground ls c ≡ false
+    → IsRunText ls s (codes "blocked\n")
+blocked-runs ls c s e on shut = subst (λ (k : Cell). IsRunText ls k (codes "blocked\n")) e (runs.blocked on shut)
+
+-- the lines of the boxes and of the runs of a free cell
+pub told-boxes : (ls : Layers) (s : Cell) (g : GridData) (b : CellBoxes) (text : List ℕ) → g ≡ query_grid ls s
+    → is_free_ground ls s ≡ true → AreBoxes g s b → text ≡ boxes_text b → IsBoxText ls s text
+told-boxes ls s g b text same free are is = subst (λ (t : List ℕ). IsBoxText ls s t) (sym is)
+    (boxes.told b free (subst (λ (k : GridData). AreBoxes k s b) same are))
+
+pub told-runs : (ls : Layers) (s : Cell) (g : GridData) (row : List Run) (width : ℕ) (text : List ℕ)
+    → g ≡ query_grid ls s → is_free_ground ls s ≡ true → IsRow g s row → width ≡ g.width
+    → text ≡ runs_text width row → IsRunText ls s text
+told-runs ls s g row width text same free is w e =
+    subst (λ (t : List ℕ). IsRunText ls s t) (sym e)
+    (subst (λ (k : ℕ). IsRunText ls s (runs_text k row)) (sym w)
+    (subst (λ (k : GridData). IsRunText ls s (runs_text k.width row)) (sym same)
+    (runs.told row free (subst (λ (k : GridData). IsRow k s row) same is))))
+
+-- the layers of a map of at most 2^14 cells are small
+pub small-layers : (set : Settings) (m : Map) (ls : Layers) → AreLayersOf set m ls → takes Small m ≡ true
+    → AreSmall ls
+small-layers set m ls is few = subst (λ (k : Layers). AreSmall k) (sym is)
+    (record { land = grind (arith, nat_tests); water = grind (arith, nat_tests) })
+
+pub few-cells : (ls : Layers) (s : Cell) (g : GridData) → g ≡ query_grid ls s → AreSmall ls
+    → g.height * g.width ≤ 16384
+few-cells ls s g same small = subst (λ (k : GridData). k.height * k.width ≤ 16384) (sym same)
+    (by_test (is_free ls.water s))
+  where
+    by_test : (b : Bool) → let k : GridData = if b then ls.water else ls.land in k.height * k.width ≤ 16384
+    by_test true = small.water
+    by_test false = small.land

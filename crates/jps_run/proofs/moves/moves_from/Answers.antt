@@ -1,0 +1,12 @@
+use Rattle.jps_run.proofs.Cells.{few-cells, told-runs}
+use Rattle.jps_run.proofs.moves.moves_from.Goals as goal
+
+pub of-requires-clause-few : goal.of-requires-clause-few
+of-requires-clause-few c =
+    few-cells c.args.layers.now c.args.from c.query_grid-grid.result.now c.query_grid-grid.ensures c.requires.few
+
+pub returns : goal.returns
+returns c =
+    told-runs c.args.layers.now c.args.from c.query_grid-grid.result.now c.in_ok-row.row c.width-3.result
+    c.put_runs.new.out.items c.query_grid-grid.ensures c.requires.free c.in_ok-row.ensures.row c.width-3.ensures.is
+    c.in_ok-put_runs.ensures
