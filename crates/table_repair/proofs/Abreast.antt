@@ -66,8 +66,8 @@ or_either true b h = inl refl
 or_either false b h = inr h
 
 -- The walks that stand, after n changes: each at an entry that is right, and what waits for them alone waits.
-pub record Abreast (h : GridData) (d : Dir) (starts : Cell → Bool) (old now : TablesData) (walks : List Walk) (n : ℕ)
-    : Type 0 where
+pub record Abreast (h : GridData) (d : Dir) (starts : Cell → Bool) (old now : TablesData) (walks : List Walk)
+    (n : ℕ) : Type 0 where
   pub ready : AreReady h now d
   pub inside : (w : Cell) → is_at_one walks w ≡ true → is_inside h w ≡ true
   pub mended : (w : Cell) → is_at_one walks w ≡ true → IsMended h now d starts n w
@@ -185,7 +185,8 @@ module _ (h : GridData) (d : Dir) (starts : Cell → Bool) (old now : TablesData
       either_one w k = or_either (is_at_one rest w) (is_at_one (option_to_list on) w)
           (sym (at_both rest (option_to_list on) w) ∙ k)
 
-      narrower : (w : Cell) (later : Cell → Bool) → (is_at_one (rest ++ option_to_list on) w || later w) ≡ false
+      narrower : (w : Cell) (later : Cell → Bool)
+          → (is_at_one (rest ++ option_to_list on) w || later w) ≡ false
           → (is_at_one (option_to_list on) w || (is_at_one rest w || later w)) ≡ false
       narrower w later k =
           regroup (is_at_one (rest ++ option_to_list on) w) (is_at_one rest w)
@@ -224,11 +225,13 @@ module _ (h : GridData) (d : Dir) (starts : Cell → Bool) (old now : TablesData
             few = let b = first_mended.few in omega arith;
             start = first_mended.start;
             starts_there = first_mended.starts_there;
-            reaches = after_before d first_mended.moves w v.at first_mended.start k.behind first_mended.reaches;
+            reaches = after_before d first_mended.moves w v.at first_mended.start k.behind
+                first_mended.reaches;
           }
 
 -- no walk is left
-pub abreast_ends : (h : GridData) (d : Dir) (starts : Cell → Bool) (old now : TablesData) (walks : List Walk) (n : ℕ)
+pub abreast_ends : (h : GridData) (d : Dir) (starts : Cell → Bool) (old now : TablesData)
+    (walks : List Walk) (n : ℕ)
     → Abreast h d starts old now walks n → walks ≡ [] → Sweeps h d starts old now
 abreast_ends h d starts old now walks n abreast e later f =
     follow_more h now d (either (is_at_one walks) later) later
@@ -326,8 +329,8 @@ pub record Round (h : GridData) (d : Dir) (starts : Cell → Bool) (old now : Ta
   pub less : i + room_of h d (drop i here ++ onward) ≤ room_of h d here
   pub short : length onward ≤ i
 
-pub round_begins : (h : GridData) (d : Dir) (starts : Cell → Bool) (old now : TablesData) (first steps all : ℕ)
-    (walks here onward : List Walk) (n : ℕ) → Queued h d starts old now first steps all walks n
+pub round_begins : (h : GridData) (d : Dir) (starts : Cell → Bool) (old now : TablesData)
+    (first steps all : ℕ) (walks here onward : List Walk) (n : ℕ) → Queued h d starts old now first steps all walks n
     → here ≡ walks → onward ≡ [] → Round h d starts old now first steps all here onward 0 n
 round_begins h d starts old now first steps all walks here onward n q e f =
     let same : here ++ onward ≡ walks = rw f (append-nil here ∙ e) in
@@ -371,9 +374,11 @@ module _ (h : GridData) (d : Dir) (starts : Cell → Bool) (old now : TablesData
       → Round h d starts old new first counted all here more (i + 1) m
   round_next new counted on k mends follows onward_is c later more e m f = record {
     queued = rw (queue_on, f) (record {
-      abreast = abreast_next h d starts old now its_walk others n queue.abreast new on mends follows onward_is;
+      abreast = abreast_next h d starts old now its_walk others n queue.abreast new on mends follows
+          onward_is;
       few = let few = queue.few in let a = room.1 in omega arith;
-      counted = let counted = queue.counted in let a = length-append others (option_to_list on) in omega arith;
+      counted = let counted = queue.counted in
+          let a = length-append others (option_to_list on) in omega arith;
       later = let a = queue.later in omega arith;
     });
     less = rw queue_on (let less = round_less in let a = room.0 in omega arith);
@@ -420,7 +425,8 @@ pub none_counted : (on : Option Walk) (m n : ℕ) → on ≡ None → m ≡ n �
 none_counted on m n e f = rw e (omega arith)
 
 -- a round with a walk in it leaves less room
-pub room_left : (h : GridData) (d : Dir) (here walks onward : List Walk) (i : ℕ) → here ≡ walks → length here ≤ i
+pub room_left : (h : GridData) (d : Dir) (here walks onward : List Walk) (i : ℕ) → here ≡ walks
+    → length here ≤ i
     → (length walks ≡ 0 → ⊥) → i + room_of h d onward ≤ room_of h d here
     → room_of h d onward < room_of h d walks
 room_left h d here walks onward i same done some less = rw (← same) left

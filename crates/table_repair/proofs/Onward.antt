@@ -23,7 +23,8 @@ module _ (h : GridData) (d : Dir) (v : Cell) (t : TablesData) (ready : AreReady 
   begun = walked_none h d v t ready inside right
 
   -- there is no cell behind
-  pub follows_end : behind_on h d v ≡ None → (later : Cell → Bool) → FollowBut h t d (λ w. is_same w v || later w)
+  pub follows_end : behind_on h d v ≡ None → (later : Cell → Bool)
+      → FollowBut h t d (λ w. is_same w v || later w)
       → FollowBut h t d (either (is_at_one []) later)
   follows_end none later f = walk_ends h d v t t v 0 begun none later f
 

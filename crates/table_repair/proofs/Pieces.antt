@@ -35,7 +35,12 @@ sweeps_same h d one other same old new sweeps later f =
     either_way : (a b c : Bool) → a ≡ b → (a || c) ≡ false → (b || c) ≡ false
     either_way a b c e k = rw (← e) k
 
-row_parts : (y : ℕ) (s : Span) (w : Cell) → is_in_row y s w ≡ true → (w.y ≡ y) × ((s.first ≤ w.x) × (w.x < s.end))
+-- the columns from one on, and below another
+abbrev pub part : ℕ → ℕ → Span
+part first end = record { first = first; end = end }
+
+row_parts : (y : ℕ) (s : Span) (w : Cell) → is_in_row y s w ≡ true
+    → (w.y ≡ y) × ((s.first ≤ w.x) × (w.x < s.end))
 row_parts y s w i =
     let p = and_both (nat_eq w.y y) (is_among s w.x) i in
     (same w.y y p.0, among_parts s w.x p.1)
@@ -58,16 +63,16 @@ row_on_map h y s w low narrow i =
     is_inside-from h w (omega arith) (omega arith)
 
 -- no walk stands in an empty piece
-pub none_there : (y n : ℕ) (w : Cell) → is_at_one [] w ≡ is_in_row y (record { first = n; end = n }) w
-none_there y n w = sym (not_true (is_in_row y (record { first = n; end = n }) w)
-    (λ i. let p = row_parts y (record { first = n; end = n }) w i in
+pub none_there : (y n : ℕ) (w : Cell) → is_at_one [] w ≡ is_in_row y (part n n) w
+none_there y n w = sym (not_true (is_in_row y (part n n) w)
+    (λ i. let p = row_parts y (part n n) w i in
     let l = p.1.0 in let m = p.1.1 in absurd (omega arith)))
 
 -- one more walk, at the next column
 pub one_more_there : (y first x : ℕ) (walks : List Walk) (w : Cell) → first ≤ x
-    → is_at_one walks w ≡ is_in_row y (record { first = first; end = x }) w
+    → is_at_one walks w ≡ is_in_row y (part first x) w
     → is_at_one (walks ++ record { at = record { x = x; y = y } } ∷ []) w
-    ≡ is_in_row y (record { first = first; end = x + 1 }) w
+    ≡ is_in_row y (part first (x + 1)) w
 one_more_there y first x walks w l e =
     at_both walks (record { at = record { x = x; y = y } } ∷ []) w
     ∙ rw e (joined w.x w.y)
@@ -79,11 +84,11 @@ one_more_there y first x walks w l e =
 
 module _ (h : GridData) (d : Dir) (y : ℕ) (columns : Span) (first : ℕ) (old now : TablesData) (n : ℕ)
     (diagonal : is_diagonal d ≡ true) (begun : columns.first ≤ first)
-    (swept : Swept h d (is_in_row y columns) (is_in_row y (record { first = first; end = columns.end })) old now n)
+    (swept : Swept h d (is_in_row y columns) (is_in_row y (part first columns.end)) old now n)
     (end : ℕ) (some : first ≤ end) (within : end ≤ columns.end) where
-  of_row : (w : Cell) → is_in_row y (record { first = first; end = end }) w ≡ true → is_in_row y columns w ≡ true
+  of_row : (w : Cell) → is_in_row y (part first end) w ≡ true → is_in_row y columns w ≡ true
   of_row w i =
-      let p = row_parts y (record { first = first; end = end }) w i in
+      let p = row_parts y (part first end) w i in
       let l = p.1.0 in
       let m = p.1.1 in
       row_from y columns w p.0 (omega arith) (omega arith)
@@ -103,48 +108,48 @@ module _ (h : GridData) (d : Dir) (y : ℕ) (columns : Span) (first : ℕ) (old 
 
   -- each of its entries is right, since no cell ahead waits
   pub piece_right : y < h.height → columns.end ≤ h.width → CanSweep h old d (is_in_row y columns)
-      → (w : Cell) → is_in_row y (record { first = first; end = end }) w ≡ true → IsRight h now w d
+      → (w : Cell) → is_in_row y (part first end) w ≡ true → IsRight h now w d
   piece_right low narrow can w i =
-      let left : Span = record { first = first; end = columns.end } in
+      let left : Span = part first columns.end in
       right_ahead h now d (either (is_in_row y left) can.later) (swept.follows can.later can.follow) w
       (row_on_map h y columns w low narrow (of_row w i))
       (λ u k r. false_or (is_in_row y left u) (can.later u)
-      (off_row k w u left (row_parts y (record { first = first; end = end }) w i).0 (after_moved d (suc k) w u r))
+      (off_row k w u left (row_parts y (part first end) w i).0 (after_moved d (suc k) w u r))
       (can.none_ahead w u k (of_row w i) r))
 
-  pub piece_next : (new : TablesData) (m : ℕ) → Mends h d (is_in_row y (record { first = first; end = end })) now new m
-      → Sweeps h d (is_in_row y (record { first = first; end = end })) now new
-      → Swept h d (is_in_row y columns) (is_in_row y (record { first = end; end = columns.end })) old new (n + m)
+  pub piece_next : (new : TablesData) (m : ℕ) → Mends h d (is_in_row y (part first end)) now new m
+      → Sweeps h d (is_in_row y (part first end)) now new
+      → Swept h d (is_in_row y columns) (is_in_row y (part end columns.end)) old new (n + m)
   piece_next new m mends sweeps = swept_more h d (is_in_row y columns)
-      (is_in_row y (record { first = first; end = columns.end })) (is_in_row y (record { first = first; end = end }))
-      (is_in_row y (record { first = end; end = columns.end })) old now new n m swept split of_row mends sweeps
+      (is_in_row y (part first columns.end)) (is_in_row y (part first end))
+      (is_in_row y (part end columns.end)) old now new n m swept split of_row mends sweeps
     where
       before_or_not : (a b : ℕ) → (a < b) ⊎ (b ≤ a)
       before_or_not a b = grind arith
 
-      split : (w : Cell) → is_in_row y (record { first = first; end = end }) w ≡ false
-          → is_in_row y (record { first = end; end = columns.end }) w ≡ false
-          → is_in_row y (record { first = first; end = columns.end }) w ≡ false
-      split w s r = not_true (is_in_row y (record { first = first; end = columns.end }) w) (λ i.
-          let p = row_parts y (record { first = first; end = columns.end }) w i in
+      split : (w : Cell) → is_in_row y (part first end) w ≡ false
+          → is_in_row y (part end columns.end) w ≡ false
+          → is_in_row y (part first columns.end) w ≡ false
+      split w s r = not_true (is_in_row y (part first columns.end) w) (λ i.
+          let p = row_parts y (part first columns.end) w i in
           elim (before_or_not w.x end) [
-            | inl a ↦ let t = row_from y (record { first = first; end = end }) w p.0 p.1.0 a in absurd (cc)
-            | inr a ↦ let t = row_from y (record { first = end; end = columns.end }) w p.0 a p.1.1 in absurd (cc)
+            | inl a ↦ let t = row_from y (part first end) w p.0 p.1.0 a in absurd (cc)
+            | inr a ↦ let t = row_from y (part end columns.end) w p.0 a p.1.1 in absurd (cc)
           ])
 
 -- no column is left
 pub pieces_done : (h : GridData) (d : Dir) (y : ℕ) (columns : Span) (first : ℕ) (old now : TablesData) (n : ℕ)
-    → Swept h d (is_in_row y columns) (is_in_row y (record { first = first; end = columns.end })) old now n
+    → Swept h d (is_in_row y columns) (is_in_row y (part first columns.end)) old now n
     → columns.end ≤ first → Sweeps h d (is_in_row y columns) old now
 pieces_done h d y columns first old now n swept l =
-    swept_all h d (is_in_row y columns) (is_in_row y (record { first = first; end = columns.end })) old now n swept
-    (λ w. not_true (is_in_row y (record { first = first; end = columns.end }) w)
-    (λ i. let p = row_parts y (record { first = first; end = columns.end }) w i in
+    swept_all h d (is_in_row y columns) (is_in_row y (part first columns.end)) old now n swept
+    (λ w. not_true (is_in_row y (part first columns.end) w)
+    (λ i. let p = row_parts y (part first columns.end) w i in
     let a = p.1.0 in let b = p.1.1 in absurd (omega arith)))
 
 -- the last column is reached
 pub last_column : (y : ℕ) (s : Span) (x : ℕ) (w : Cell) → x ≤ s.end → s.end ≤ x
-    → is_in_row y (record { first = s.first; end = x }) w ≡ is_in_row y s w
+    → is_in_row y (part s.first x) w ≡ is_in_row y s w
 last_column y s x w l m = let e : x ≡ s.end = omega arith in rw e refl
 
 -- the counts, piece by piece

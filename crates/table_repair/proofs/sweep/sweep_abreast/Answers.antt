@@ -21,8 +21,8 @@ mend_abreast-changed-requires-clause-right g c =
     let i = c.piece.invariant in
     let e = c.min-end.ensures in
     let l = c.piece-test.true in
-    piece_right c.args.grid.now c.args.d c.args.y c.args.columns c.piece.first c.args.tables.now c.piece.tables
-    c.piece.changed c.requires.diagonal i.begun i.swept c.min-end.result (omega arith) (omega arith)
+    piece_right c.args.grid.now c.args.d c.args.y c.args.columns c.piece.first c.args.tables.now
+    c.piece.tables c.piece.changed c.requires.diagonal i.begun i.swept c.min-end.result (omega arith) (omega arith)
     c.requires.row c.requires.columns c.requires.waits
 
 pub piece-preserved : goal.piece-preserved

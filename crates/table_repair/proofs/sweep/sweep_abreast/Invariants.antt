@@ -6,7 +6,8 @@ use Rattle.table_repair.proofs.sweep.sweep_abreast.Given as goal
 
 abbrev pub invariant-piece : goal.invariant-piece
 invariant-piece g l = record {
-  swept : Swept l.grid l.d (is_in_row l.y l.columns) (is_in_row l.y (record { first = l.first; end = l.columns.end }))
+  swept : Swept l.grid l.d (is_in_row l.y l.columns)
+      (is_in_row l.y (record { first = l.first; end = l.columns.end }))
       l.fn.tables l.tables l.changed;
   begun : l.columns.first ≤ l.first;
   few : l.changed + 4096 * (l.columns.end - l.first) ≤ 4096 * span_length l.columns;

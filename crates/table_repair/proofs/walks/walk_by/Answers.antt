@@ -51,7 +51,8 @@ loop-walk-preserved g c = elim c.match-walk_on.branch [
       c.walk_on.new.tables c.walk_on.new.steps c.walk_on.result c.requires.diagonal c.walk_on.ensures.mends
       c.walk_on.ensures.follows c.walk_on.ensures.onward c.walk_on.ensures.step c.walk_on.ensures.later
       c.match-walk_on.onward.items
-      (some_on c.walk_on.result w.in-Some.next c.loop-walk.onward.items c.match-walk_on.onward.items w.in-Some.is
+      (some_on c.walk_on.result w.in-Some.next c.loop-walk.onward.items c.match-walk_on.onward.items
+      w.in-Some.is
       (ap (λ (v : ArrayVec Walk). v.items) w.onward-is ∙ w.push.ensures.items))
       c.match-walk_on.changed (one_on c.walk_on.result w.in-Some.next _ _ w.in-Some.is w.changed-is)
   | in_default w ↦ round_next _ _ _ _ _ _ _ _ _ _ _ _ nowhere c.loop-walk.invariant c.loop-walk-test.true

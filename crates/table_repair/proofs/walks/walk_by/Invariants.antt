@@ -12,5 +12,5 @@ abbrev pub decreases-round : goal.decreases-round
 decreases-round g l = room_of l.grid l.d l.walks.items
 
 abbrev pub invariant-loop-walk : goal.invariant-loop-walk
-invariant-loop-walk g l = Round l.grid l.d (is_at_one l.fn.starts.items) l.fn.tables l.tables l.fn.steps l.steps
-    (length l.fn.starts.items) l.here l.onward.items l.walk-index l.changed
+invariant-loop-walk g l = Round l.grid l.d (is_at_one l.fn.starts.items) l.fn.tables l.tables l.fn.steps
+    l.steps (length l.fn.starts.items) l.here l.onward.items l.walk-index l.changed

@@ -18,15 +18,16 @@ push-requires c =
 
 pub loop-x-preserved : goal.loop-x-preserved
 loop-x-preserved c = record {
-  there = λ w. rw c.push.ensures.items (one_more_there c.args.y c.args.columns.first c.loop-x.x c.loop-x.walks.items
-      w c.loop-x.auto.x (c.loop-x.invariant.there w));
+  there = λ w. rw c.push.ensures.items (one_more_there c.args.y c.args.columns.first c.loop-x.x
+      c.loop-x.walks.items w c.loop-x.auto.x (c.loop-x.invariant.there w));
   many = let many = c.loop-x.invariant.many in let len = c.push.ensures.len in omega arith;
 }
 
 pub returns-clause-there : goal.returns-clause-there
 returns-clause-there c = λ w.
     c.loop-x.invariant.there w
-    ∙ last_column c.args.y c.args.columns c.loop-x.x w (c.loop-x.auto.x-end c.requires.some) c.loop-x-test.false
+    ∙ last_column c.args.y c.args.columns c.loop-x.x w (c.loop-x.auto.x-end c.requires.some)
+    c.loop-x-test.false
 
 pub returns-clause-length : goal.returns-clause-length
 returns-clause-length c =

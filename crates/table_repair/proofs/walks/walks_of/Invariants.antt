@@ -7,6 +7,7 @@ use Rattle.table_repair.proofs.walks.walks_of.Given as goal
 
 abbrev pub invariant-loop-x : goal.invariant-loop-x
 invariant-loop-x l = record {
-  there : (w : Cell) → is_at_one l.walks.items w ≡ is_in_row l.y (record { first = l.fn.columns.first; end = l.x }) w;
+  there : (w : Cell) → is_at_one l.walks.items w
+      ≡ is_in_row l.y (record { first = l.fn.columns.first; end = l.x }) w;
   many : l.fn.columns.first + length l.walks.items ≡ l.x;
 }
