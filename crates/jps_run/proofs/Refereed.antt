@@ -21,6 +21,9 @@ use Rattle.walk_judge.proofs.Judgements.{none_to_blocked, stands_costs}
 use Rattle.scen_text.specs.declared.entry.Entry.{Entry}
 use Rattle.walk_judge.specs.declared.telling.Told.{Told}
 use Rattle.jps_run.specs.Reading.{AreFit}
+use Rattle.jps_run.specs.Opened.{HasRisen}
+use Rattle.jps_run.specs.declared.work.Work.{Work}
+use Rattle.jps_run.specs.declared.work.Work.TheVariants as work
 use Rattle.jps_run.specs.Refereeing.{IsReady, CanGoOn, HasRefereed, IsRefereed, cost_in, counts_of, sum_text}
 use Rattle.jps_run.specs.Rulings.{IsRuling, with_told, scale, outside, blocked, judged, goal_of, start_of, has_sides, is_refused, judge_status, ruling_line, ruling_lines, rulings_line}
 use Rattle.jps_run.specs.Turns.{AreInTurn}
@@ -308,3 +311,9 @@ status_some c all e some = by_count (count_by is_refused all) (ap (λ (c : Count
     by_count (suc n) is =
         let off : nat_eq (suc n) 0 ≡ false = grind (arith, nat_tests) in
         ap (λ (b : Bool). if b then 0 else 1) (sym off)
+
+-- nothing is promised of the counter
+pub uncounted : {T E : Type 0} (result : Result T E) (w : Work) (job : Referee) (entries : Vec Entry Global)
+    (old new : ℕ) → w ≡ work.Referee job entries → OnOk result (HasRisen w old new)
+uncounted (Err error) w job entries old new is = tt
+uncounted (Ok done) w job entries old new is = subst (λ (w : Work). HasRisen w old new) (sym is) tt
