@@ -108,7 +108,7 @@ row_exists d s entry = by_sides (has_sides d entry) refl
         (record { x = entry.gx; y = entry.gy }) in
         (row_of entry.length p.0, replied p.0 e p.1 refl)
 
-not-empty : (lines : List (List ℕ)) (line : List ℕ) → lines ++ line ∷ [] ≢ []
+pub not-empty : (lines : List (List ℕ)) (line : List ℕ) → lines ++ line ∷ [] ≢ []
 not-empty [] line = λ e. (let never : line ∷ [] ≡ [] = e in cc)
 not-empty (l ∷ lines) line = λ e. (let never : l ∷ (lines ++ line ∷ []) ≡ [] = e in cc)
 

@@ -2,6 +2,7 @@
 use Rattle.std.proofs.Common.{◌≡◌, refl, sym, ap, ◌∙◌, subst, List, [], ◌∷◌, ◌++◌, append_assoc, ℕ, zero, suc, ◌+◌, ◌^◌, ◌<◌, ◌≤◌, ◌&&◌, ◌||◌, length, length-append, drop, inl, inr, arith, true, false, Bool}
 use Rattle.std.specs.Prelude.{Option, Some, None, Result, Ok, Err, OnOk, Vec, slice_get, if◌then◌else◌, nat_eq, count_by}
 use Rattle.std.specs.Global.{Global}
+use Rattle.std.proofs.lemmas.Bool.Decides.{nat_tests}
 use Rattle.std.proofs.lemmas.List.{append-nil}
 use Rattle.grid_moves.specs.declared.Cell.{Cell}
 use Rattle.grid_moves.specs.Grid.{GridData, is_free}
@@ -14,11 +15,15 @@ use Rattle.edit_replay.specs.declared.reply.Reply.{Reply}
 use Rattle.edit_replay.specs.declared.reply.Reply.TheVariants as reply
 use Rattle.plain_search.specs.Costs.{IsCostTo}
 use Rattle.walk_judge.specs.declared.judging.Judged.{Judged}
+use Rattle.walk_judge.specs.Judgement.{IsJudgement}
 use Rattle.walk_judge.proofs.Existing.{judgement_exists}
 use Rattle.walk_judge.proofs.Judgements.{none_to_blocked, stands_costs}
 use Rattle.scen_text.specs.declared.entry.Entry.{Entry}
 use Rattle.walk_judge.specs.declared.telling.Told.{Told}
 use Rattle.jps_run.specs.Reading.{AreFit}
+use Rattle.jps_run.specs.Opened.{HasRisen}
+use Rattle.jps_run.specs.declared.work.Work.{Work}
+use Rattle.jps_run.specs.declared.work.Work.TheVariants as work
 use Rattle.jps_run.specs.Refereeing.{IsReady, CanGoOn, HasRefereed, IsRefereed, cost_in, counts_of, sum_text}
 use Rattle.jps_run.specs.Rulings.{IsRuling, with_told, scale, outside, blocked, judged, goal_of, start_of, has_sides, is_refused, judge_status, ruling_line, ruling_lines, rulings_line}
 use Rattle.jps_run.specs.Turns.{AreInTurn}
@@ -67,6 +72,18 @@ right-costs ls s t (reply.None taken) on free right = elim right.1 [
 ]
 right-costs ls s t (reply.Walk points cost taken) on free right =
     stands_costs (query_grid ls s) s t points cost right.1
+
+-- what is told between free cells is judged, and its row says how
+pub ruled-so : (ls : Layers) (entry : Entry) (told : Told) (how : Judged) (from to : Cell) (g : GridData)
+    → has_sides ls entry ≡ true → from ≡ start_of entry → to ≡ goal_of entry → are_free_ends ls from to ≡ true
+    → g ≡ query_grid ls from → IsJudgement g from to told how → IsRuling ls entry told (ruling.Judged how)
+ruled-so ls entry told how from to g sides f t free e j =
+    judged how sides
+    (ap (λ (c : Cell). are_free_ends ls c (goal_of entry)) (sym f)
+    ∙ ap (λ (c : Cell). are_free_ends ls from c) (sym t) ∙ free)
+    (subst (λ (c : Cell). IsJudgement (query_grid ls c) c (goal_of entry) told how) f
+    (subst (λ (c : Cell). IsJudgement (query_grid ls from) from c told how) t
+    (subst (λ (q : GridData). IsJudgement q from to told how) e j))) refl
 
 abbrev Both : Type 0
 Both = Entry × Told
@@ -286,6 +303,17 @@ pub status_some : (c : Counts) (all : List Ruling) → c ≡ counts_of all → (
     → 1 ≡ judge_status all
 status_some c all e some = by_count (count_by is_refused all) (ap (λ (c : Counts). c.refused) e)
   where
-    by_count : (n : ℕ) → c.refused ≡ n → 1 ≡ (if nat_eq n 0 then 0 else 1)
+    status_by : ℕ → ℕ
+    status_by n = if nat_eq n 0 then 0 else 1
+
+    by_count : (n : ℕ) → c.refused ≡ n → 1 ≡ status_by n
     by_count zero is = absurd (some is)
-    by_count (suc n) is = refl
+    by_count (suc n) is =
+        let off : nat_eq (suc n) 0 ≡ false = grind (arith, nat_tests) in
+        ap (λ (b : Bool). if b then 0 else 1) (sym off)
+
+-- nothing is promised of the counter
+pub uncounted : {T E : Type 0} (result : Result T E) (w : Work) (job : Referee) (entries : Vec Entry Global)
+    (old new : ℕ) → w ≡ work.Referee job entries → OnOk result (HasRisen w old new)
+uncounted (Err error) w job entries old new is = tt
+uncounted (Ok done) w job entries old new is = subst (λ (w : Work). HasRisen w old new) (sym is) tt

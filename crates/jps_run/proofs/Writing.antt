@@ -1,5 +1,6 @@
 -- Texts written one after the other.
 use Rattle.std.proofs.Common.{◌≡◌, ap, sym, ◌∙◌, List, [], ◌∷◌, ◌++◌, append_assoc, ℕ, suc, ◌+◌, ◌<◌, take, length, arith, get_or}
+use Rattle.std.specs.Prelude.{Result, Ok, Err, OnOk}
 use Rattle.std.proofs.Math.Seq.{take-suc}
 use Rattle.std.proofs.lemmas.List.{append-nil}
 use Rattle.jps_run.specs.Lines.{texts_of}
@@ -20,3 +21,11 @@ module _ {X : Type 0} (text : X → List ℕ) where
       ∙ ap (λ (t : List ℕ). before ++ t) (sym (texts-added (take i xs) (get_or xs i d))
       ∙ ap (λ (l : List X). texts_of text l) (sym (take-suc xs i d h))
       ∙ ap (λ n. texts_of text (take n xs)) (let e : suc i ≡ i + 1 = omega arith in e))
+
+-- two texts one after the other
+pub and-then : {T E : Type 0} (result : Result T E) (before mid after first second : List ℕ)
+    → mid ≡ before ++ first → OnOk result (after ≡ mid ++ second)
+    → OnOk result (after ≡ before ++ (first ++ second))
+and-then (Err error) before mid after first second begun w = tt
+and-then (Ok done) before mid after first second begun w =
+    w ∙ ap (λ (l : List ℕ). l ++ second) begun ∙ append_assoc before first second

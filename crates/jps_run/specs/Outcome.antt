@@ -1,5 +1,5 @@
 -- What a request comes to, where nothing outside fails and memory is there.
-use Rattle.std.specs.Prelude.{◌≡◌, ℕ, List, [], ◌∷◌, Option, Some, None, Ok}
+use Rattle.std.specs.Prelude.{◌≡◌, ℕ, List, [], ◌∷◌, length, Option, Some, None, Ok}
 use Rattle.grid_moves.specs.Layers.{layers_of, query_grid}
 use Rattle.io_edge.specs.Told.{Held}
 use Rattle.map_text.specs.Map.{Map}

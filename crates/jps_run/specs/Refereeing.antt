@@ -56,12 +56,12 @@ pub record IsCourtOf (set : Settings) (m : Map) (court : Court) : Type 0 where
   pub session : court.session ≡ record { engine = Block; layers = court.layers }
 
 -- the files hold a map, a scenario behind it and behind both what is told of each entry, which were read so
-pub record IsCaseOf (set : Settings) (holds : List ℕ → Held) (map scen walks : List ℕ) (case : Case) : Type 0 where
+pub record IsCaseOf (set : Settings) (holds : List ℕ → Held) (map scen told : List ℕ) (case : Case) : Type 0 where
   pub text : List ℕ
   pub second : List ℕ
   pub third : List ℕ
   pub accepted : AreAccepted holds []
-      (file_of kinds.Map map ∷ file_of kinds.Scen scen ∷ file_of kinds.Walks walks ∷ [])
+      (file_of kinds.Map map ∷ file_of kinds.Scen scen ∷ file_of kinds.Walks told ∷ [])
       (text ∷ second ∷ third ∷ [])
   pub court : IsMade (IsCourtOf set) text case.court
   pub entries : SpellsScen second case.entries

@@ -39,10 +39,10 @@ pub data IsRuling (ls : Layers) (entry : Entry) (told : Told) (r : Ruling) : Typ
       → r ≡ ruling.Outside → IsRuling ls entry told r
   blocked : has_sides ls entry ≡ true → IsRight ls (start_of entry) (goal_of entry) answer.blocked
       → r ≡ ruling.Blocked → IsRuling ls entry told r
-  judged : (judged : Judged) → has_sides ls entry ≡ true
+  judged : (how : Judged) → has_sides ls entry ≡ true
       → are_free_ends ls (start_of entry) (goal_of entry) ≡ true
-      → IsJudgement (query_grid ls (start_of entry)) (start_of entry) (goal_of entry) told judged
-      → r ≡ ruling.Judged judged → IsRuling ls entry told r
+      → IsJudgement (query_grid ls (start_of entry)) (start_of entry) (goal_of entry) told how
+      → r ≡ ruling.Judged how → IsRuling ls entry told r
 
 -- one row for each entry, by what is told of it
 abbrev pub AreRulings : Layers → List Entry → List Told → List Ruling → Type 0
@@ -54,12 +54,16 @@ AreRulings ls entries walks rulings =
 abbrev pub pair_text : Cost → List ℕ
 pair_text cost = codes " " ++ decimal cost.a ++ codes " " ++ decimal cost.b
 
+-- that a told walk is refused by its first bad point
+abbrev pub bad_text : ℕ → List ℕ
+bad_text bad = codes "refused walk " ++ decimal bad
+
 -- how what is told is judged
 abbrev pub judged_text : Judged → List ℕ
 judged_text NoWalk = codes "accepted none"
 judged_text (Least cost) = codes "accepted" ++ pair_text cost
 judged_text (Exists least) = codes "refused none" ++ pair_text least
-judged_text (BadWalk bad) = codes "refused walk " ++ decimal bad
+judged_text (BadWalk bad) = bad_text bad
 judged_text (Longer paid least) = codes "refused longer" ++ pair_text paid ++ pair_text least
 
 -- what a row says behind its number
@@ -67,7 +71,7 @@ abbrev pub ruling_text : Ruling → List ℕ
 ruling_text ruling.Scale = codes "scale"
 ruling_text ruling.Outside = codes "outside"
 ruling_text ruling.Blocked = codes "blocked"
-ruling_text (ruling.Judged judged) = judged_text judged
+ruling_text (ruling.Judged how) = judged_text how
 
 -- the line of the row with this number
 abbrev pub ruling_line : ℕ → Ruling → List ℕ
@@ -93,7 +97,7 @@ is_refused _ = false
 
 -- nothing is judged
 abbrev pub is_unjudged : Ruling → Bool
-is_unjudged (ruling.Judged judged) = false
+is_unjudged (ruling.Judged how) = false
 is_unjudged _ = true
 
 -- the last line, which counts the rows

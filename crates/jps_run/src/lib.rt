@@ -17,6 +17,8 @@ mod faults;
 mod files;
 mod job;
 mod judge;
+#[cfg(test)]
+mod judge_tests;
 mod kind;
 mod layers;
 mod lines;

@@ -32,6 +32,14 @@ fn put_pair(out: &mut Vec<u8>, cost: Cost) -> Result<(), NoMemory>
     put_number(out, u64::from(cost.b))
 }
 
+// Appends the number that tells the first bad point.
+fn put_bad(out: &mut Vec<u8>, bad: u32) -> Result<(), NoMemory>
+    ensures { OnOk result (out.new.items ≡ out.old.items ++ spec.bad_text bad) }
+{
+    put(out, b"refused walk ")?;
+    put_number(out, u64::from(bad))
+}
+
 // Appends how what is told is judged.
 fn put_judged(out: &mut Vec<u8>, judged: Judged) -> Result<(), NoMemory>
     ensures { OnOk result (out.new.items ≡ out.old.items ++ spec.judged_text judged) }
@@ -46,10 +54,7 @@ fn put_judged(out: &mut Vec<u8>, judged: Judged) -> Result<(), NoMemory>
             put(out, b"refused none")?;
             put_pair(out, least)
         }
-        Judged::BadWalk(bad) => {
-            put(out, b"refused walk ")?;
-            put_number(out, u64::from(bad))
-        }
+        Judged::BadWalk(bad) => put_bad(out, bad),
         Judged::Longer(paid, least) => {
             put(out, b"refused longer")?;
             put_pair(out, paid)?;

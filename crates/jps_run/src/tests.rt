@@ -99,9 +99,32 @@ pub(crate) fn check(
     output: &[u8],
     line: &[u8],
 ) -> Result<(), Fail> {
-    let words = strings(alloc, made.words)?;
-    let mut files = two_files(alloc, made.map, made.second, made.failing_read)?;
-    let mut out = stream(alloc, made.failing_write)?;
+    let files = two_files(alloc, made.map, made.second, made.failing_read)?;
+    check_files(
+        alloc,
+        rt,
+        made.words,
+        files,
+        made.failing_write,
+        status,
+        output,
+        line,
+    )
+}
+
+// A call of these words on these files has this status, this output and this line.
+pub(crate) fn check_files(
+    alloc: Global,
+    rt: &impl Abort,
+    words: &[&str],
+    mut files: MemFiles,
+    failing_write: u64,
+    status: u8,
+    output: &[u8],
+    line: &[u8],
+) -> Result<(), Fail> {
+    let words = strings(alloc, words)?;
+    let mut out = stream(alloc, failing_write)?;
     let mut err = stream(alloc, 0)?;
     let answer = call::<Brand>(
         alloc,

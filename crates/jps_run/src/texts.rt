@@ -18,6 +18,8 @@ pub(crate) fn help_text() -> &'static [u8]
   jps scen MAP SCEN [engine=ENGINE] [show=taken] [rule=none|rule=one]
       a row for each entry of the scenario, its length judged by the least cost, and their sum; with show=taken
       also how many states each search took
+  jps judge MAP SCEN WALKS [rule=none|rule=one]
+      a row for each entry: the walk that another program tells of it accepted, or why not, and their sum
   jps prove MAP SX SY GX GY [rule=none|rule=one]
       a certificate that the cost of a least walk is least, or that there is no walk
   jps check MAP CERT [rule=none|rule=one]
@@ -49,13 +51,13 @@ ENGINE is plain, where none is named, jps, block or plus. Walks cost the same by
 cell, block over 512 cells at a time, plus by tables that are made when the map is read.
 With rule=one a diagonal move may pass one blocked cell beside it, with rule=none none.
 
-statuses: 0 done; 1 done, and a row of `scen` is neither agree nor near, `check` refuses, `prove` has
-no free ends on one layer, or `draw` no free ends; 2 the words are refused; 3 a text is refused; 4 a read failed;
+statuses: 0 done; 1 done, and a row of `scen` is neither agree nor near, `judge` or `check` refuses, `prove`
+has no free ends on one layer, or `draw` no free ends; 2 the words are refused; 3 a text is refused; 4 a read failed;
 5 a write of the output failed; 6 memory was refused
 faults, one line on standard error:
   jps: word N            word N is missing, or no call has it there; words are counted from 1
-  jps: TEXT CODE line N  line N of the map, script, scen or cert breaks its form
-  jps: TEXT long         the text is longer than 67108864 bytes, a cert than 1073741824
+  jps: TEXT CODE line N  line N of the map, script, scen, cert or walks breaks its form
+  jps: TEXT long         the text is longer than 67108864 bytes, a cert or walks than 1073741824
   jps: map large         the map has more than 16384 cells, and `boxes` or `moves` was asked for
   jps: read, jps: write, jps: memory
 "

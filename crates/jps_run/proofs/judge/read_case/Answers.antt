@@ -1,13 +1,23 @@
-use Rattle.std.proofs.Common.{◌≡◌, refl, sym, ap, ◌∙◌, List, [], ◌∷◌, ℕ}
+use Rattle.std.proofs.Common.{◌≡◌, ◌≤◌, ◌^◌, refl, sym, ap, ◌∙◌, subst, List, [], ◌∷◌, ℕ, length, arith}
 use Rattle.std.specs.Prelude.{Result}
 use Rattle.io_edge.specs.Told.{Held}
 use Rattle.scen_text.specs.declared.entry.Entry.{Entry}
 use Rattle.scen_text.specs.declared.fault.ScenFault.{ScenFault}
 use Rattle.jps_run.specs.Files.{file_of}
 use Rattle.jps_run.specs.Kinds.{count_in}
+use Rattle.jps_run.specs.Reading.{SpellsWalks}
 use Rattle.jps_run.specs.declared.kind.Kind.TheVariants as kinds
 use Rattle.jps_run.proofs.Opening.{both-accepted, fell-on, next-file, none-fell, reading-stops, third-accepted}
 use Rattle.jps_run.proofs.judge.read_case.Goals as goal
+
+pub overflow_cast-count : goal.overflow_cast-count
+overflow_cast-count g c =
+    let r = c.in_ok-court.ensures.read [] tt in
+    let few : length c.in_ok-entries.entries.items ≤ 2 ^ 26 =
+    (c.in_ok-entries.ensures.read (r.text ∷ []) tt).spelled.2 in
+    let many : c.len.result ≡ length c.in_ok-entries.entries.items =
+    c.len.ensures ∙ c.in_ok-entries.entries.ok.0 in
+    omega arith
 
 pub returns-in_err-court-clause-read : goal.returns-in_err-court-clause-read
 returns-in_err-court-clause-read g c =
@@ -40,7 +50,7 @@ returns-in_err-walks-clause-read g c =
     let s = c.in_ok-entries.ensures.read (r.text ∷ []) tt in
     let both = both-accepted disk.holds held first second r.text s.text r.accepted c.in_ok-court.ensures.unchanged
     s.accepted in
-    let counted = ap (λ (read : Result (List Entry) ScenFault). count_in read) (sym s.spelled.0) in
+    let counted = c.len.ensures ∙ c.in_ok-entries.entries.ok.0 ∙ ap (λ (read : Result (List Entry) ScenFault). count_in read) (sym s.spelled.0) in
     reading-stops disk _ third (next-file disk.holds (first ∷ second ∷ []) third [] (r.text ∷ s.text ∷ []) both)
     (g.F.Files.disk c.read_file.new.files) (g.F.Files.disk c.read_file-2.new.files)
     (c.in_ok-entries.ensures.unchanged ∙ c.in_ok-court.ensures.unchanged)
@@ -54,7 +64,7 @@ returns-clause-read g c =
     let held = (g.F.Files.disk c.read_map_file.new.files).holds in
     let r = c.in_ok-court.ensures.read [] tt in
     let s = c.in_ok-entries.ensures.read (r.text ∷ []) tt in
-    let counted = ap (λ (read : Result (List Entry) ScenFault). count_in read) (sym s.spelled.0) in
+    let counted = c.len.ensures ∙ c.in_ok-entries.entries.ok.0 ∙ ap (λ (read : Result (List Entry) ScenFault). count_in read) (sym s.spelled.0) in
     let w = c.in_ok-walks.ensures.read (r.text ∷ s.text ∷ []) counted in
     record {
       text = r.text;
@@ -66,5 +76,6 @@ returns-clause-read g c =
           s.accepted (c.in_ok-entries.ensures.unchanged ∙ c.in_ok-court.ensures.unchanged) w.accepted;
       court = r.spelled;
       entries = s.spelled;
-      walks = w.spelled;
+      walks = subst (λ n. SpellsWalks n w.text c.in_ok-walks.walks)
+          (c.len.ensures ∙ c.in_ok-entries.entries.ok.0) w.spelled;
     }
