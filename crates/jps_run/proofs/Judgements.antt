@@ -6,7 +6,8 @@ use Rattle.scen_text.specs.declared.entry.Entry.{Entry}
 use Rattle.jps_run.specs.Judging.{HasJudged, HasRoom, IsJudged}
 use Rattle.jps_run.specs.Rows.{has_sides, row_of, IsRow, scale, replied, row_line, row_lines, scen_status, sum_line}
 use Rattle.edit_replay.specs.Session.{SessionData}
-use Rattle.jps_run.specs.Tally.{tally_of, sum_text}
+use Rattle.word_list.specs.declared.request.Show.{Show}
+use Rattle.jps_run.specs.Tally.{IsSmall, tally_of, sum_text}
 use Rattle.jps_run.specs.Working.{Adds, CanComplete, HasRoomForOne}
 use Rattle.jps_run.specs.declared.row.Row.{Row}
 use Rattle.jps_run.specs.declared.row.Row.TheVariants as row
@@ -21,74 +22,79 @@ Stands d s entry r = IsRow d entry r
 abbrev stays : Unit {0} → Entry → Unit {0}
 stays s entry = s
 
-row_lines-append : (number : ℕ) (some others : List Row)
-    → row_lines number (some ++ others) ≡ row_lines number some ++ row_lines (number + length some) others
-row_lines-append number [] others =
-    ap (λ n. row_lines n others) (let e : number ≡ number + 0 = omega arith in e)
-row_lines-append number (r ∷ some) others =
-    ap (λ (l : List (List ℕ)). row_line number r ∷ l)
-    (row_lines-append (number + 1) some others
-    ∙ ap (λ n. row_lines (number + 1) some ++ row_lines n others)
+row_lines-append : (show : Show) (number : ℕ) (some others : List Row)
+    → row_lines show number (some ++ others)
+    ≡ row_lines show number some ++ row_lines show (number + length some) others
+row_lines-append show number [] others =
+    ap (λ n. row_lines show n others) (let e : number ≡ number + 0 = omega arith in e)
+row_lines-append show number (r ∷ some) others =
+    ap (λ (l : List (List ℕ)). row_line show number r ∷ l)
+    (row_lines-append show (number + 1) some others
+    ∙ ap (λ n. row_lines show (number + 1) some ++ row_lines show n others)
     (let e : number + 1 + length some ≡ number + suc (length some) = omega arith in e))
 
 -- one row more leaves room for one less
 pub room-more : {T E : Type 0} (result : Result T E) (job now : Judge) (r : Row) (room : HasRoomForOne (HasRoom job))
     → ((rows : List Row) → job.tally ≡ tally_of rows → now.tally ≡ tally_of (rows ++ r ∷ []))
-    → OnOk result ((n : ℕ) → HasRoom job (n + 1) → HasRoom now n)
-room-more (Err error) job now r room counts = tt
-room-more (Ok done) job now r room counts = λ n h.
+    → IsSmall now.tally → OnOk result ((n : ℕ) → HasRoom job (n + 1) → HasRoom now n)
+room-more (Err error) job now r room counts small = tt
+room-more (Ok done) job now r room counts small = λ n h.
     let t = h.counts in
     let one : now.tally ≡ tally_of (t.rows ++ r ∷ []) = counts t.rows t.counted in
     let old : job.tally.rows ≡ length t.rows = ap (λ (t : Tally). t.rows) t.counted in
     let new : now.tally.rows ≡ length (t.rows ++ r ∷ []) = ap (λ (t : Tally). t.rows) one in
     let both : length (t.rows ++ r ∷ []) ≡ length t.rows + 1 = length-append t.rows (r ∷ []) in
     let few : job.tally.rows + (n + 1) < 2 ^ 64 = h.few in
-    record { counts = record { rows = t.rows ++ r ∷ []; counted = one }; few = omega arith }
+    record { counts = record { rows = t.rows ++ r ∷ []; counted = one }; small = small; few = omega arith }
 
 -- one entry more has its row
 pub judged-more : {T E : Type 0} (result : Result T E) (job now : Judge) (entry : Entry) (r : Row)
-    (before after : List ℕ) → IsRow job.session entry r → now.session ≡ job.session
+    (before after : List ℕ) → IsRow job.session entry r → now.session ≡ job.session → now.show ≡ job.show
     → ((rows : List Row) → job.tally ≡ tally_of rows → now.tally ≡ tally_of (rows ++ r ∷ []))
-    → OnOk result (after ≡ before ++ row_line now.tally.rows r)
+    → OnOk result (after ≡ before ++ row_line job.show now.tally.rows r)
     → OnOk result ((first : Judge) (entries : List Entry) (lines : List (List ℕ))
     → HasJudged first job entries lines
     → Adds (HasJudged first now (entries ++ entry ∷ [])) lines before after)
-judged-more (Err error) job now entry r before after is same counts w = tt
-judged-more (Ok done) job now entry r before after is same counts w = λ first entries lines h.
+judged-more (Err error) job now entry r before after is same shown counts w = tt
+judged-more (Ok done) job now entry r before after is same shown counts w = λ first entries lines h.
+    let line : Show → ℕ → List ℕ = λ show k. row_line show k r in
     let one : now.tally.rows ≡ length (h.rows ++ r ∷ []) =
     ap (λ (t : Tally). t.rows) (counts h.rows h.counted) in
     let both : length (h.rows ++ r ∷ []) ≡ length h.rows + 1 = length-append h.rows (r ∷ []) in
     let place : now.tally.rows ≡ 1 + length h.rows = omega arith in
     record {
-      more = row_line now.tally.rows r ∷ [];
+      more = line job.show now.tally.rows ∷ [];
       stand = record {
         rows = h.rows ++ r ∷ [];
         are = turns-more (Stands first.session) stays tt entries h.rows entry r h.are
             (subst (λ (d : SessionData). IsRow d entry r) h.same is);
-        all = ap (λ (l : List (List ℕ)). l ++ row_line now.tally.rows r ∷ []) h.all
-            ∙ ap (λ k. row_lines 1 h.rows ++ row_line k r ∷ []) place
-            ∙ sym (row_lines-append 1 h.rows (r ∷ []));
+        all = ap (λ (l : List (List ℕ)). l ++ line job.show now.tally.rows ∷ []) h.all
+            ∙ ap (λ (show : Show). row_lines first.show 1 h.rows ++ line show now.tally.rows ∷ []) h.shown
+            ∙ ap (λ k. row_lines first.show 1 h.rows ++ line first.show k ∷ []) place
+            ∙ sym (row_lines-append first.show 1 h.rows (r ∷ []));
         counted = counts h.rows h.counted;
         same = same ∙ h.same;
+        shown = shown ∙ h.shown;
       };
-      appended = w ∙ ap (λ (l : List ℕ). before ++ l) (sym (append-nil (row_line now.tally.rows r)));
+      appended = w ∙ ap (λ (l : List ℕ). before ++ l) (sym (append-nil (line job.show now.tally.rows)));
     }
 
 -- the sum closes the rows
-pub judged-all : (job : Judge) (status : ℕ) (before after : List ℕ) → after ≡ before ++ sum_text job.tally
+pub judged-all : (job : Judge) (status : ℕ) (before after : List ℕ) → after ≡ before ++ sum_text job.show job.tally
     → ((rows : List Row) → job.tally ≡ tally_of rows → status ≡ scen_status rows)
     → (first : Judge) (entries : List Entry) (lines : List (List ℕ)) → HasJudged first job entries lines
     → Adds (λ all. IsJudged first entries all status) lines before after
 judged-all job status before after w s first entries lines h = record {
-  more = sum_line h.rows ∷ [];
+  more = sum_line first.show h.rows ∷ [];
   stand = record {
     rows = h.rows;
     are = h.are;
-    all = ap (λ (l : List (List ℕ)). l ++ sum_line h.rows ∷ []) h.all;
+    all = ap (λ (l : List (List ℕ)). l ++ sum_line first.show h.rows ∷ []) h.all;
     same_status = s h.rows h.counted;
   };
-  appended = w ∙ ap (λ (t : Tally). before ++ sum_text t) h.counted
-      ∙ ap (λ (l : List ℕ). before ++ l) (sym (append-nil (sum_line h.rows)));
+  appended = w ∙ ap (λ (t : Tally). before ++ sum_text job.show t) h.counted
+      ∙ ap (λ (show : Show). before ++ sum_line show h.rows) h.shown
+      ∙ ap (λ (l : List ℕ). before ++ l) (sym (append-nil (sum_line first.show h.rows)));
 }
 
 -- every entry has a row
@@ -111,21 +117,22 @@ pub rows-complete : CanComplete HasJudged IsJudged true
 rows-complete first now some others lines h =
     let all = turns-all (Stands first.session) stays (row_exists first.session) tt some others h.rows h.are in
     let rows : List Row = h.rows ++ all.0 in
-    let rest : List (List ℕ) = row_lines (1 + length h.rows) all.0 in
+    let rest : List (List ℕ) = row_lines first.show (1 + length h.rows) all.0 in
+    let sum : List ℕ = sum_line first.show rows in
     record {
-      more = rest ++ sum_line rows ∷ [];
+      more = rest ++ sum ∷ [];
       status = scen_status rows;
       whole = record {
         rows = rows;
         are = all.1;
-        all = sym (append_assoc lines rest (sum_line rows ∷ []))
-            ∙ ap (λ (l : List (List ℕ)). (l ++ rest) ++ sum_line rows ∷ []) h.all
-            ∙ ap (λ (l : List (List ℕ)). l ++ sum_line rows ∷ []) (sym (row_lines-append 1 h.rows all.0));
+        all = sym (append_assoc lines rest (sum ∷ []))
+            ∙ ap (λ (l : List (List ℕ)). (l ++ rest) ++ sum ∷ []) h.all
+            ∙ ap (λ (l : List (List ℕ)). l ++ sum ∷ []) (sym (row_lines-append first.show 1 h.rows all.0));
         same_status = refl;
       };
-      some = λ left. not-empty rest (sum_line rows);
+      some = λ left. not-empty rest sum;
     }
 
 -- nothing is judged yet
 pub judged-none : (job : Judge) → job.tally ≡ tally_of [] → HasJudged job job [] []
-judged-none job e = record { rows = []; are = tt; all = refl; counted = e; same = refl }
+judged-none job e = record { rows = []; are = tt; all = refl; counted = e; same = refl; shown = refl }

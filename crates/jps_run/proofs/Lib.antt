@@ -21,4 +21,5 @@ pub mod Counts
 pub mod Rising
 pub mod Pictured
 pub mod Waved
+pub mod Refereed
 pub mod Cells

@@ -35,6 +35,24 @@ both-accepted holds held first second text other a same b = (
   (subst (λ (k : List ℕ → Held). IsAccepted (text ∷ []) second.kind (k second.name) other) same b, tt),
 )
 
+-- and a third behind both
+pub third-accepted : (holds held kept : List ℕ → Held) (first second third : File) (text other last : List ℕ)
+    → IsAccepted [] first.kind (holds first.name) text → held ≡ holds
+    → IsAccepted (text ∷ []) second.kind (held second.name) other → kept ≡ holds
+    → IsAccepted (text ∷ other ∷ []) third.kind (kept third.name) last
+    → AreAccepted holds [] (first ∷ second ∷ third ∷ []) (text ∷ other ∷ last ∷ [])
+third-accepted holds held kept first second third text other last a same b still d = (
+  a,
+  (
+    subst (λ (k : List ℕ → Held). IsAccepted (text ∷ []) second.kind (k second.name) other) same b,
+    (subst (λ (k : List ℕ → Held). IsAccepted (text ∷ other ∷ []) third.kind (k third.name) last) still d, tt),
+  ),
+)
+
+-- no count fell between, so none did
+pub fell-on : {old mid new : List ℕ → ℕ} → NoneFell old mid → NoneFell mid new → NoneFell old new
+fell-on first then_more = record { later = λ name. omega (arith, first.later name, then_more.later name) }
+
 -- no count fell where nothing was called
 pub none-fell : (faults : List ℕ → ℕ) → NoneFell faults faults
 none-fell faults = record { later = λ name. omega arith }

@@ -41,14 +41,14 @@ all_right [] f o = refl
 all_right (row.Scale ∷ rows) f o = counts is_other row.Scale rows refl o
 all_right (row.Outside ∷ rows) f o = counts is_other row.Outside rows refl o
 all_right (row.Blocked ∷ rows) f o = counts is_other row.Blocked rows refl o
-all_right (row.None ∷ rows) f o = counts is_other row.None rows refl o
-all_right (row.Judged Agree cost ∷ rows) f o =
-    all_right rows (sym (counts-not is_off (row.Judged Agree cost) rows refl) ∙ f)
-    (sym (counts-not is_other (row.Judged Agree cost) rows refl) ∙ o)
-all_right (row.Judged Near cost ∷ rows) f o =
-    all_right rows (sym (counts-not is_off (row.Judged Near cost) rows refl) ∙ f)
-    (sym (counts-not is_other (row.Judged Near cost) rows refl) ∙ o)
-all_right (row.Judged Off cost ∷ rows) f o = counts is_off (row.Judged Off cost) rows refl f
+all_right (row.None taken ∷ rows) f o = counts is_other (row.None taken) rows refl o
+all_right (row.Judged Agree cost taken ∷ rows) f o =
+    all_right rows (sym (counts-not is_off (row.Judged Agree cost taken) rows refl) ∙ f)
+    (sym (counts-not is_other (row.Judged Agree cost taken) rows refl) ∙ o)
+all_right (row.Judged Near cost taken ∷ rows) f o =
+    all_right rows (sym (counts-not is_off (row.Judged Near cost taken) rows refl) ∙ f)
+    (sym (counts-not is_other (row.Judged Near cost taken) rows refl) ∙ o)
+all_right (row.Judged Off cost taken ∷ rows) f o = counts is_off (row.Judged Off cost taken) rows refl f
 
 -- and with one of them some row is neither
 pub some_wrong : (rows : List Row) → list_all is_right rows ≡ true
@@ -57,20 +57,20 @@ some_wrong [] h = (refl, refl)
 some_wrong (row.Scale ∷ rows) h = absurd (cc)
 some_wrong (row.Outside ∷ rows) h = absurd (cc)
 some_wrong (row.Blocked ∷ rows) h = absurd (cc)
-some_wrong (row.None ∷ rows) h = absurd (cc)
-some_wrong (row.Judged Agree cost ∷ rows) h =
+some_wrong (row.None taken ∷ rows) h = absurd (cc)
+some_wrong (row.Judged Agree cost taken ∷ rows) h =
     let none = some_wrong rows h in (
-      counts-not is_off (row.Judged Agree cost) rows refl
+      counts-not is_off (row.Judged Agree cost taken) rows refl
           ∙ none.0,
-      counts-not is_other (row.Judged Agree cost) rows refl ∙ none.1,
+      counts-not is_other (row.Judged Agree cost taken) rows refl ∙ none.1,
     )
-some_wrong (row.Judged Near cost ∷ rows) h =
+some_wrong (row.Judged Near cost taken ∷ rows) h =
     let none = some_wrong rows h in (
-      counts-not is_off (row.Judged Near cost) rows refl
+      counts-not is_off (row.Judged Near cost taken) rows refl
           ∙ none.0,
-      counts-not is_other (row.Judged Near cost) rows refl ∙ none.1,
+      counts-not is_other (row.Judged Near cost taken) rows refl ∙ none.1,
     )
-some_wrong (row.Judged Off cost ∷ rows) h = absurd (cc)
+some_wrong (row.Judged Off cost taken ∷ rows) h = absurd (cc)
 
 -- so the status follows from the counts
 pub status_right : (t : Tally) (rows : List Row) → t ≡ tally_of rows → t.off ≡ 0 → t.other ≡ 0

@@ -1,7 +1,7 @@
 -- A call as data: the files that it reads, and whether it reads the input.
 use Rattle.std.specs.Prelude.{◌≡◌, ℕ, Bool, true, false, List, [], ◌∷◌}
 use Rattle.io_edge.specs.Told.{Held}
-use Rattle.word_list.specs.Request.{Asked, Call, Help, Version, Query, Solve, Live, Scen, Prove, Check, Make, Drill, Draw, Costs, Boxes, Moves}
+use Rattle.word_list.specs.Request.{Asked, Call, Help, Version, Query, Solve, Live, Scen, Judge, Prove, Check, Make, Drill, Draw, Costs, Tables, Boxes, Moves}
 use Rattle.word_list.specs.declared.request.Settings.{Settings}
 use Rattle.jps_run.specs.Files.{AreAccepted, File, file_of}
 use Rattle.jps_run.specs.declared.kind.Kind.TheVariants as kind
@@ -17,12 +17,15 @@ asked_files set Version = []
 asked_files set (Query map sx sy gx gy) = file_of kind.Map map ∷ []
 asked_files set (Solve map script) = file_of kind.Map map ∷ file_of kind.Script script ∷ []
 asked_files set (Live map) = file_of kind.Map map ∷ []
+asked_files set (Judge map scen walks) =
+    file_of kind.Map map ∷ file_of kind.Scen scen ∷ file_of kind.Walks walks ∷ []
 asked_files set (Prove map sx sy gx gy) = file_of kind.Map map ∷ []
 asked_files set (Check map cert) = file_of kind.Map map ∷ file_of kind.Cert cert ∷ []
 asked_files set (Make seed w h percent) = []
 asked_files set (Drill seed) = []
 asked_files set (Draw map sx sy gx gy) = file_of kind.Map map ∷ []
 asked_files set (Costs map x y) = file_of kind.Map map ∷ []
+asked_files set (Tables map) = file_of kind.Map map ∷ []
 asked_files set (Boxes map x y) = file_of kind.SmallMap map ∷ []
 asked_files set (Moves map x y) = file_of kind.SmallMap map ∷ []
 asked_files set (Scen map scen) = file_of kind.Map map ∷ file_of kind.Scen scen ∷ []

@@ -15,7 +15,7 @@ use Rattle.script_text.specs.declared.command.Command.TheVariants as command
 use Rattle.script_text.specs.Faults.{script_of}
 use Rattle.scen_text.specs.declared.entry.Entry.{Entry}
 use Rattle.scen_text.specs.Faults.{scen_of}
-use Rattle.word_list.specs.Request.{Asked, Call, Help, Version, Query, Solve, Live, Scen, Prove, Check, Make, Drill, Draw, Costs, Boxes, Moves}
+use Rattle.word_list.specs.Request.{Asked, Call, Help, Version, Query, Solve, Live, Scen, Judge, Prove, Check, Make, Drill, Draw, Costs, Tables, Boxes, Moves}
 use Rattle.word_list.specs.declared.request.Settings.{Settings}
 use Rattle.jps_run.specs.Answers.{edits_with}
 use Rattle.jps_run.specs.Files.{AreAccepted}
@@ -74,12 +74,14 @@ searches (Query map sx sy gx gy) = true
 searches (Solve map script) = true
 searches (Live map) = true
 searches (Scen map scen) = true
+searches (Judge map scen walks) = false
 searches (Prove map sx sy gx gy) = false
 searches (Check map cert) = false
 searches (Make seed w h percent) = false
 searches (Drill seed) = true
 searches (Draw map sx sy gx gy) = true
 searches (Costs map x y) = false
+searches (Tables map) = false
 searches (Boxes map x y) = false
 searches (Moves map x y) = false
 

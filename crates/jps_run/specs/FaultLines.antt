@@ -8,6 +8,8 @@ use Rattle.script_text.specs.declared.fault.ScriptFault.{ScriptFault}
 use Rattle.script_text.specs.declared.fault.ScriptFault.TheVariants as script
 use Rattle.potential_check.specs.declared.fault.CertFault.{CertFault}
 use Rattle.potential_check.specs.declared.fault.CertFault.TheVariants as cert
+use Rattle.walk_judge.specs.declared.fault.WalkFault.{WalkFault}
+use Rattle.walk_judge.specs.declared.fault.WalkFault.TheVariants as walks
 
 -- the line of a refused list of words
 abbrev pub word_line : ℕ → List ℕ
@@ -60,3 +62,9 @@ abbrev pub cert_line : CertFault → List ℕ
 cert_line (cert.Line number) = fault_line (codes "cert") (codes "P1") number
 cert_line (cert.Order number) = fault_line (codes "cert") (codes "P2") number
 cert_line cert.NoMemory = no_fault
+
+-- the line of walks that are refused
+abbrev pub walks_line : WalkFault → List ℕ
+walks_line (walks.Line number) = fault_line (codes "walks") (codes "K1") number
+walks_line (walks.Count number) = fault_line (codes "walks") (codes "K2") number
+walks_line walks.NoMemory = no_fault

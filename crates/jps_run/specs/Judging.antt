@@ -5,7 +5,7 @@ use Rattle.edit_replay.specs.Session.{SessionData}
 use Rattle.scen_text.specs.declared.entry.Entry.{Entry}
 use Rattle.jps_run.specs.Counting.{EntriesTake, EntryTakes, RoseBy}
 use Rattle.jps_run.specs.Rows.{AreRows, row_lines, scen_lines, scen_status}
-use Rattle.jps_run.specs.Tally.{IsTally, tally_of}
+use Rattle.jps_run.specs.Tally.{IsSmall, IsTally, tally_of}
 use Rattle.jps_run.specs.declared.row.Row.{Row}
 use Rattle.jps_run.specs.declared.scenario.Judge.{Judge}
 
@@ -13,13 +13,15 @@ use Rattle.jps_run.specs.declared.scenario.Judge.{Judge}
 pub record HasJudged (first now : Judge) (entries : List Entry) (lines : List (List ℕ)) : Type 0 where
   pub rows : List Row
   pub are : AreRows first.session entries rows
-  pub all : lines ≡ row_lines 1 rows
+  pub all : lines ≡ row_lines first.show 1 rows
   pub counted : now.tally ≡ tally_of rows
   pub same : now.session ≡ first.session
+  pub shown : now.show ≡ first.show
 
 -- the rows are counted, and there is room for so many more
 pub record HasRoom (job : Judge) (more : ℕ) : Type 0 where
   pub counts : IsTally job.tally
+  pub small : IsSmall job.tally
   pub few : job.tally.rows + more < 2 ^ 64
 
 -- the counter rose by at least the fewest steps of the engine for each state that the entry takes
@@ -37,5 +39,5 @@ pub record HaveTaken (first now : Judge) (entries : List Entry) (old new : ℕ) 
 pub record IsJudged (first : Judge) (entries : List Entry) (lines : List (List ℕ)) (status : ℕ) : Type 0 where
   pub rows : List Row
   pub are : AreRows first.session entries rows
-  pub all : lines ≡ scen_lines rows
+  pub all : lines ≡ scen_lines first.show rows
   pub same_status : status ≡ scen_status rows

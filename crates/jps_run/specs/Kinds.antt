@@ -1,16 +1,19 @@
 -- The kinds of texts that a request reads.
-use Rattle.std.specs.Prelude.{ℕ, ◌^◌, ◌*◌, nat_le, Bool, true, if◌then◌else◌, List, codes, Result, Ok, Err, Option, Some, None}
+use Rattle.std.specs.Prelude.{ℕ, ◌^◌, List, ◌∷◌, length, codes, Result, Ok, Err, Option, Some, None, ◌*◌, nat_le, Bool, true, if◌then◌else◌}
 use Rattle.map_text.specs.Faults.{map_of}
 use Rattle.map_text.specs.Map as maps
 use Rattle.map_text.specs.declared.fault.MapFault.{MapFault}
 use Rattle.script_text.specs.Faults.{script_of}
 use Rattle.scen_text.specs.Faults.{scen_of}
 use Rattle.potential_check.specs.Text.{certificate_of}
-use Rattle.jps_run.specs.FaultLines.{cert_line, large_line, map_line, script_line, scen_line}
+use Rattle.scen_text.specs.declared.entry.Entry.{Entry}
+use Rattle.scen_text.specs.declared.fault.ScenFault.{ScenFault}
+use Rattle.walk_judge.specs.Walks.{walks_of}
+use Rattle.jps_run.specs.FaultLines.{cert_line, map_line, script_line, scen_line, walks_line, large_line}
+use Rattle.jps_run.specs.declared.kind.Kind.{Kind}
+use Rattle.jps_run.specs.declared.kind.Kind.TheVariants.{Map, Script, Scen, Cert, Walks, SmallMap}
 use Rattle.jps_run.specs.declared.kind.Extent.{Extent}
 use Rattle.jps_run.specs.declared.kind.Extent.TheVariants.{Any, Small}
-use Rattle.jps_run.specs.declared.kind.Kind.{Kind}
-use Rattle.jps_run.specs.declared.kind.Kind.TheVariants.{Map, SmallMap, Script, Scen, Cert}
 
 -- the word of a kind in fault lines
 abbrev pub kind_word : Kind → List ℕ
@@ -19,6 +22,7 @@ kind_word SmallMap = codes "map"
 kind_word Script = codes "script"
 kind_word Scen = codes "scen"
 kind_word Cert = codes "cert"
+kind_word Walks = codes "walks"
 
 -- the longest text of a kind, in bytes
 abbrev pub limit_of : Kind → ℕ
@@ -27,12 +31,22 @@ limit_of SmallMap = 2 ^ 26
 limit_of Script = 2 ^ 26
 limit_of Scen = 2 ^ 26
 limit_of Cert = 2 ^ 30
+limit_of Walks = 2 ^ 30
 
 -- the line of a text that is read as a fault
 abbrev pub fault_in : {V F : Type 0} → (F → List ℕ) → Result V F → Option (List ℕ)
 fault_in line_of (Ok value) = None
 fault_in line_of (Err fault) = Some (line_of fault)
 
+-- how many entries a scenario has, none where it is refused
+abbrev pub count_in : Result (List Entry) ScenFault → ℕ
+count_in (Ok entries) = length entries
+count_in (Err fault) = 0
+
+-- how many entries the scenario has that stands second among the texts before
+abbrev pub entries_in : List (List ℕ) → ℕ
+entries_in (map ∷ scen ∷ others) = count_in (scen_of scen)
+entries_in others = 0
 -- the kind of the maps that a call takes
 abbrev pub kind_for : Extent → Kind
 kind_for Any = Map
@@ -55,3 +69,4 @@ refusal_of SmallMap earlier text = small_refusal (map_of text)
 refusal_of Script earlier text = fault_in script_line (script_of text)
 refusal_of Scen earlier text = fault_in scen_line (scen_of text)
 refusal_of Cert earlier text = fault_in cert_line (certificate_of text)
+refusal_of Walks earlier text = fault_in walks_line (walks_of text (entries_in earlier))

@@ -28,7 +28,10 @@ pub mod Calls
 pub mod Certificates
 pub mod Pictures
 pub mod Distances
+pub mod Tabled
 pub mod Telling
 pub mod Costing
+pub mod Rulings
+pub mod Refereeing
 pub mod BoxLines
 pub mod RunLines

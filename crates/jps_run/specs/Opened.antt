@@ -14,6 +14,7 @@ use Rattle.jps_run.specs.Calls.{files_of, reads_input}
 use Rattle.jps_run.specs.Outcome.{IsAnswered}
 use Rattle.jps_run.specs.Pictures.{IsPictured}
 use Rattle.jps_run.specs.Reading.{AreKept}
+use Rattle.jps_run.specs.Refereeing.{IsReady, IsRefereed}
 use Rattle.jps_run.specs.Sending.{IsText}
 use Rattle.jps_run.specs.Stops.{Stops, Ends}
 use Rattle.jps_run.specs.Tally.{tally_of}
@@ -28,7 +29,9 @@ use Rattle.jps_run.specs.declared.work.Work.TheVariants as work
 -- the whole output of the work, and the status
 abbrev pub IsWhole : Work → List (List ℕ) → ℕ → Type 0
 IsWhole (work.Answer job commands) = IsSolved job commands.items
-IsWhole (work.Judge session entries) = IsJudged (record { session = session; tally = tally_of [] }) entries.items
+IsWhole (work.Judge session show entries) =
+    IsJudged (record { session = session; show = show; tally = tally_of [] }) entries.items
+IsWhole (work.Referee job entries) = IsRefereed job entries.items
 IsWhole (work.Drill session commands) = IsDrilled (record { session = session; sums = sums_of [] }) commands.items
 IsWhole (work.Draw canvas ends show) =
     IsPictured canvas (record { x = ends.sx; y = ends.sy }) (record { x = ends.gx; y = ends.gy }) show
@@ -39,7 +42,8 @@ IsWhole (work.Say text) = IsText text.now 0
 -- the counter rose as the searches of the work make it
 abbrev pub HasRisen : Work → ℕ → ℕ → Type 0
 HasRisen (work.Answer job commands) old new = RoseBy job.session (CommandsTake job.session commands.items) old new
-HasRisen (work.Judge session entries) old new = RoseBy session (EntriesTake session entries.items) old new
+HasRisen (work.Judge session show entries) old new = RoseBy session (EntriesTake session entries.items) old new
+HasRisen (work.Referee job entries) old new = ⊤
 HasRisen (work.Drill session commands) old new = RoseBy session (CommandsTake session commands.items) old new
 HasRisen (work.Draw canvas ends show) old new = RoseBy canvas.session
     (CommandsTake canvas.session (command.Query ends.sx ends.sy ends.gx ends.gy ∷ [])) old new
@@ -50,7 +54,8 @@ HasRisen (work.Say text) old new = ⊤
 -- the work can be done: the lengths of entries can be judged, and the sums of a drill have room
 abbrev pub CanPerform : Work → Type 0
 CanPerform (work.Answer job commands) = ⊤
-CanPerform (work.Judge session entries) = AreKept entries.items
+CanPerform (work.Judge session show entries) = AreKept entries.items
+CanPerform (work.Referee job entries) = IsReady job (length entries.items)
 CanPerform (work.Drill session commands) = length commands.items ≤ 2 ^ 32
 CanPerform (work.Draw canvas ends show) = ⊤
 CanPerform (work.Tell job rows) = ⊤

@@ -11,10 +11,12 @@ use Rattle.script_text.specs.declared.command.Command.TheVariants as command
 use Rattle.script_text.specs.Faults.{script_of}
 use Rattle.scen_text.specs.declared.entry.Entry.{Entry}
 use Rattle.scen_text.specs.Faults.{scen_of}
+use Rattle.walk_judge.specs.declared.telling.Told.{Told}
+use Rattle.walk_judge.specs.Walks.{walks_of}
 use Rattle.potential_check.specs.Text.{certificate_of, plain}
 use Rattle.potential_check.specs.declared.certificate.Certificate.{Certificate}
 use Rattle.word_list.specs.Calls.{call_of, is_call}
-use Rattle.word_list.specs.Request.{Call, Help, Version, Query, Solve, Live, Scen, Prove, Check, Make, Drill, Draw, Costs, Boxes, Moves}
+use Rattle.word_list.specs.Request.{Call, Help, Version, Query, Solve, Live, Scen, Judge, Prove, Check, Make, Drill, Draw, Costs, Tables, Boxes, Moves}
 use Rattle.word_list.specs.Rule.{IsBadWord}
 use Rattle.word_list.specs.declared.request.Settings.{Settings}
 use Rattle.jps_run.specs.Answers.{AreAnswers}
@@ -29,10 +31,13 @@ use Rattle.jps_run.specs.Files.{AreAccepted, HasRefused}
 use Rattle.jps_run.specs.Heard.{AreHeard}
 use Rattle.jps_run.specs.Pictures.{IsDrawing}
 use Rattle.jps_run.specs.Rows.{AreRows, scen_lines, scen_status}
+use Rattle.jps_run.specs.Rulings.{AreRulings, judge_lines, judge_status}
 use Rattle.jps_run.specs.RunLines.{IsRunText}
 use Rattle.jps_run.specs.Session.{corner_of, session_on}
+use Rattle.jps_run.specs.Tabled.{tables_text}
 use Rattle.jps_run.specs.Texts.{help_text, version_text}
 use Rattle.jps_run.specs.declared.row.Row.{Row}
+use Rattle.jps_run.specs.declared.ruling.Ruling.{Ruling}
 
 -- the words spell the call
 abbrev pub Spell : List (List ℕ) → Call → Type 0
@@ -53,7 +58,14 @@ pub data IsAnswered : Call → List (List ℕ) → List (List ℕ) → ℕ → T
       → IsAnswered (call_with (Solve map script) set) (text ∷ second ∷ []) lines 0
   judged : (map scen text second : List ℕ) (set : Settings) (m : Map) (entries : List Entry) (rows : List Row)
       → map_of text ≡ Ok m → scen_of second ≡ Ok entries → AreRows (session_on set m) entries rows
-      → IsAnswered (call_with (Scen map scen) set) (text ∷ second ∷ []) (scen_lines rows) (scen_status rows)
+      → IsAnswered (call_with (Scen map scen) set) (text ∷ second ∷ [])
+      (scen_lines set.show rows) (scen_status rows)
+  refereed : (map scen walks text second third : List ℕ) (set : Settings) (m : Map) (entries : List Entry)
+      (told : List Told) (rulings : List Ruling)
+      → map_of text ≡ Ok m → scen_of second ≡ Ok entries → walks_of third (length entries) ≡ Ok told
+      → AreRulings (layers_of (corner_of set.one) m.width m.height m.cells) entries told rulings
+      → IsAnswered (call_with (Judge map scen walks) set) (text ∷ second ∷ third ∷ [])
+      (judge_lines rulings) (judge_status rulings)
   proved : (map text : List ℕ) (sx sy gx gy : ℕ) (set : Settings) (m : Map) (printed : List ℕ) (status : ℕ)
       → map_of text ≡ Ok m
       → IsProof (layers_of (corner_of set.one) m.width m.height m.cells) (record { x = sx; y = sy })
@@ -78,6 +90,8 @@ pub data IsAnswered : Call → List (List ℕ) → List (List ℕ) → ℕ → T
       → map_of text ≡ Ok m
       → AreCosts (layers_of (corner_of set.one) m.width m.height m.cells) (record { x = x; y = y }) lines
       → IsAnswered (call_with (Costs map x y) set) (text ∷ []) lines 0
+  tabled : (map text : List ℕ) (set : Settings) (m : Map) → map_of text ≡ Ok m
+      → IsAnswered (call_with (Tables map) set) (text ∷ []) (tables_text (corner_of set.one) m ∷ []) 0
   boxed : (map text : List ℕ) (x y : ℕ) (set : Settings) (m : Map) (printed : List ℕ)
       → map_of text ≡ Ok m
       → IsBoxText (layers_of (corner_of set.one) m.width m.height m.cells) (record { x = x; y = y }) printed

@@ -1,5 +1,5 @@
 -- What texts are read as, and how their reading may stop. No public clause cites this module.
-use Rattle.std.specs.Prelude.{◌≡◌, true, ◌≤◌, ◌*◌, ℕ, List, [], ◌∷◌, Ok, Some, slice_get}
+use Rattle.std.specs.Prelude.{◌≡◌, ℕ, ◌≤◌, ◌^◌, List, [], ◌∷◌, length, Ok, Some, slice_get, true, ◌*◌}
 use Rattle.std.specs.Global.{Vec}
 use Rattle.map_text.specs.Map.{Map}
 use Rattle.map_text.specs.Faults.{map_of, plain}
@@ -13,6 +13,9 @@ use Rattle.edit_replay.specs.Session.{SessionData}
 use Rattle.potential_check.specs.Text.{certificate_of, plain as claimed_by}
 use Rattle.potential_check.specs.declared.certificate.Certificate.{Certificate}
 use Rattle.grid_moves.specs.Layers.{Layers, layers_of}
+use Rattle.walk_judge.specs.Telling.{IsFit}
+use Rattle.walk_judge.specs.Walks.{walks_of}
+use Rattle.walk_judge.specs.declared.telling.Told.{Told}
 use Rattle.word_list.specs.declared.request.Settings.{Settings}
 use Rattle.jps_run.specs.Session.{corner_of, session_on}
 use Rattle.std.specs.Prelude.{None, ⊤, Result}
@@ -105,10 +108,19 @@ AreKept entries = (k : ℕ) (entry : Entry) → slice_get entries k ≡ Some ent
 abbrev pub SpellsScript : List ℕ → Vec Command → Type 0
 SpellsScript text commands = script_of text ≡ Ok commands.items
 
--- the text spells these entries, and their lengths can be judged
+-- the text spells these entries, and their lengths can be judged; they are no more than bytes
 abbrev pub SpellsScen : List ℕ → Vec Entry → Type 0
-SpellsScen text entries = (scen_of text ≡ Ok entries.items) × AreKept entries.items
+SpellsScen text entries = (scen_of text ≡ Ok entries.items) × AreKept entries.items × (length entries.items ≤ 2 ^ 26)
 
 -- the text spells this certificate
 abbrev pub SpellsCert : List ℕ → Certificate → Type 0
 SpellsCert text c = certificate_of text ≡ Ok (claimed_by c)
+
+-- each told walk can be judged
+abbrev pub AreFit : List Told → Type 0
+AreFit walks = (k : ℕ) (told : Told) → slice_get walks k ≡ Some told → IsFit told
+
+-- the text tells these walks, one for each of so many entries, and they can be judged
+abbrev pub SpellsWalks : ℕ → List ℕ → Vec Told → Type 0
+SpellsWalks entries text walks =
+    (walks_of text entries ≡ Ok walks.items) × AreFit walks.items × (length walks.items ≡ entries)

@@ -5,6 +5,7 @@ ghost use Rattle.map_text.specs.declared.fault.MapFault.TheVariants.{NoMemory as
 ghost use Rattle.scen_text.specs.declared.fault.ScenFault.TheVariants.{NoMemory as no_scen_memory};
 ghost use Rattle.script_text.specs.declared.fault.ScriptFault.TheVariants.{NoMemory as no_script_memory};
 ghost use Rattle.potential_check.specs.declared.fault.CertFault.TheVariants.{NoMemory as no_cert_memory};
+ghost use Rattle.walk_judge.specs.declared.fault.WalkFault.TheVariants.{NoMemory as no_walks_memory};
 ghost use Rattle.jps_run.specs.FaultLines as spec;
 
 use crate::NoMemory;
@@ -14,6 +15,7 @@ use scen_text::ScenFault;
 use script_text::ScriptFault;
 use std::alloc::Global;
 use text_line::{put, put_number};
+use walk_judge::WalkFault;
 
 /// The line of a refused list of words.
 pub(crate) fn word_line(alloc: Global, number: u32) -> Result<Vec<u8>, NoMemory>
@@ -122,5 +124,16 @@ pub(crate) fn cert_line(alloc: Global, fault: CertFault) -> Result<Vec<u8>, NoMe
         CertFault::Line { line } => fault_line(alloc, b"cert", b"P1", line),
         CertFault::Order { line } => fault_line(alloc, b"cert", b"P2", line),
         CertFault::NoMemory => Err(NoMemory),
+    }
+}
+
+/// The line of refused walks.
+pub(crate) fn walks_line(alloc: Global, fault: WalkFault) -> Result<Vec<u8>, NoMemory>
+    ensures { IfOk result (λ line. (fault ≢ no_walks_memory) × (line.items ≡ spec.walks_line fault)) }
+{
+    match fault {
+        WalkFault::Line { line } => fault_line(alloc, b"walks", b"K1", line),
+        WalkFault::Count { line } => fault_line(alloc, b"walks", b"K2", line),
+        WalkFault::NoMemory => Err(NoMemory),
     }
 }

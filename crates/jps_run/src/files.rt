@@ -13,7 +13,7 @@ ghost use Rattle.map_text.specs.Faults.{plain};
 ghost use Rattle.jps_run.specs.Stops.{Ends};
 
 use crate::NoMemory;
-use crate::faults::{cert_line, large_line, long_line, map_line, scen_line, script_line};
+use crate::faults::{cert_line, large_line, long_line, map_line, scen_line, script_line, walks_line};
 use crate::kind::{Extent, Kind};
 use crate::stop::Stop;
 use edit_replay::{Engine, Session};
@@ -24,6 +24,7 @@ use potential_check::{Certificate, read_certificate};
 use scen_text::{Entry, read_scen};
 use script_text::{Command, read_script};
 use std::alloc::Global;
+use walk_judge::{Told, read_walks};
 use word_list::{Pick, Settings};
 
 /// What a text is read as.
@@ -150,6 +151,33 @@ impl Text for Certificate {
         match read_certificate(alloc, text) {
             Ok(certificate) => Ok(certificate),
             Err(fault) => Err(Stop::Text(cert_line(alloc, fault)?)),
+        }
+    }
+}
+
+impl Text for Vec<Told> {
+    ghost use Rattle.std.specs.Prelude.{◌≡◌};
+    ghost use Rattle.jps_run.specs.Kinds.{entries_in};
+    ghost use Rattle.jps_run.specs.Reading.{SpellsWalks};
+    ghost use Rattle.jps_run.specs.declared.kind.Kind.TheVariants.{Walks};
+
+    // how many entries the scenario has
+    type Context = u32;
+
+    ghost kind_of_text = { λ _. Walks };
+
+    ghost is_behind = { λ entries earlier. entries ≡ entries_in earlier };
+
+    ghost spells = { SpellsWalks };
+
+    fn kind(_context: &u32) -> Kind {
+        Kind::Walks
+    }
+
+    fn of_text(alloc: Global, text: &[u8], context: &u32) -> Result<Vec<Told>, Stop> {
+        match read_walks(alloc, text, *context) {
+            Ok(walks) => Ok(walks),
+            Err(fault) => Err(Stop::Text(walks_line(alloc, fault)?)),
         }
     }
 }

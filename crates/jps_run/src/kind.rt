@@ -15,6 +15,7 @@ pub(crate) enum Kind {
     Script,
     Scen,
     Cert,
+    Walks,
 }
 
 /// Which maps a call takes.
@@ -57,6 +58,7 @@ impl Kind {
             Kind::Script => b"script",
             Kind::Scen => b"scen",
             Kind::Cert => b"cert",
+            Kind::Walks => b"walks",
         }
     }
 
@@ -66,7 +68,7 @@ impl Kind {
     {
         match self {
             Kind::Map | Kind::SmallMap | Kind::Script | Kind::Scen => 1 << 26,
-            Kind::Cert => 1 << 30,
+            Kind::Cert | Kind::Walks => 1 << 30,
         }
     }
 }

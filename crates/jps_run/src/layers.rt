@@ -77,6 +77,20 @@ impl OfMap for SmallLayers {
 }
 
 impl Layers {
+    /// The land grid.
+    pub(crate) fn land(&self) -> &Grid
+        ensures { result.now ≡ self.now.land }
+    {
+        &self.land
+    }
+
+    /// The water grid.
+    pub(crate) fn water(&self) -> &Grid
+        ensures { result.now ≡ self.now.water }
+    {
+        &self.water
+    }
+
     /// The cell of this column and row, where it lies on the map.
     pub(crate) fn cell_at(&self, x: u32, y: u32) -> Option<Cell>
         ensures { MatchOption result (spec.is_on_map self.now (record { x = x; y = y }) ≡ false)

@@ -16,6 +16,7 @@ mod drill;
 mod faults;
 mod files;
 mod job;
+mod judge;
 mod kind;
 mod layers;
 mod lines;
@@ -26,12 +27,17 @@ mod make;
 mod moves;
 mod prove;
 mod query;
+mod referee;
 mod row;
+mod ruling;
 mod scen;
 mod scenario;
 mod sending;
 mod solve;
 mod stop;
+mod tables;
+#[cfg(test)]
+mod tables_tests;
 #[cfg(test)]
 mod tests;
 mod texts;

@@ -3,11 +3,13 @@
 ghost use Rattle.std.specs.Prelude.{◌≡◌, ℕ, ◌<◌, ◌+◌, ◌^◌, ◌++◌, ◌∷◌, [], List, OnOk, length};
 ghost use Rattle.root2_cost.specs.declared.lengths.Verdict.TheVariants as verdict;
 ghost use Rattle.jps_run.specs.Rows as spec;
-ghost use Rattle.jps_run.specs.Tally.{tally_of, sum_text, IsTally};
+ghost use Rattle.jps_run.specs.Tally.{tally_of, sum_end, sum_text, IsSmall, IsTally};
 
 use crate::NoMemory;
+use itoa::Buffer;
 use root2_cost::{Cost, Verdict};
 use text_line::{put, put_number};
+use word_list::Show;
 
 /// What becomes of a scenario's entry.
 #[derive(Clone, Copy, Debug, PartialEq, Eq)]
@@ -18,10 +20,16 @@ pub(crate) enum Row {
     Outside,
     /// An end is blocked.
     Blocked,
-    /// No walk exists.
-    None,
-    /// The listed length against the least cost.
-    Judged(Verdict, Cost),
+    /// No walk exists; so many states were taken.
+    None {
+        taken: u64,
+    },
+    /// The listed length against the least cost; so many states were taken.
+    Judged {
+        verdict: Verdict,
+        cost: Cost,
+        taken: u64,
+    },
 }
 
 // The word of a verdict.
@@ -35,42 +43,81 @@ fn verdict_text(verdict: Verdict) -> &'static [u8]
     }
 }
 
+// Appends how many states were taken, where this is shown.
+fn put_count(out: &mut Vec<u8>, show: Show, count: u128) -> Result<(), NoMemory>
+    ensures { OnOk result (out.new.items ≡ out.old.items ++ spec.count_text show count) }
+{
+    match show {
+        Show::Points | Show::Cells | Show::Trace => Ok(()),
+        Show::Taken => {
+            let mut buffer = Buffer::new();
+            put(out, b" taken ")?;
+            put(out, buffer.format(count).as_bytes())
+        }
+    }
+}
+
 // Appends what a verdict's row says behind its number.
-fn put_verdict(out: &mut Vec<u8>, verdict: Verdict, cost: Cost) -> Result<(), NoMemory>
-    ensures { OnOk result (out.new.items ≡ out.old.items ++ spec.row_text (Row.Judged verdict cost)) }
+fn put_verdict(
+    out: &mut Vec<u8>,
+    show: Show,
+    verdict: Verdict,
+    cost: Cost,
+    taken: u64,
+) -> Result<(), NoMemory>
+    ensures { OnOk result
+        (out.new.items ≡ out.old.items ++ spec.row_text show (Row.Judged verdict cost taken)) }
 {
     put(out, verdict_text(verdict))?;
     put(out, b" ")?;
     put_number(out, u64::from(cost.a))?;
     put(out, b" ")?;
-    put_number(out, u64::from(cost.b))
+    put_number(out, u64::from(cost.b))?;
+    put_count(out, show, u128::from(taken))
 }
 
 // Appends what a row says behind its number.
-fn put_row_text(out: &mut Vec<u8>, row: Row) -> Result<(), NoMemory>
-    ensures { OnOk result (out.new.items ≡ out.old.items ++ spec.row_text row) }
+fn put_row_text(out: &mut Vec<u8>, show: Show, row: Row) -> Result<(), NoMemory>
+    ensures { OnOk result (out.new.items ≡ out.old.items ++ spec.row_text show row) }
 {
     match row {
         Row::Scale => put(out, b"scale"),
         Row::Outside => put(out, b"outside"),
         Row::Blocked => put(out, b"blocked"),
-        Row::None => put(out, b"none"),
-        Row::Judged(verdict, cost) => put_verdict(out, verdict, cost),
+        Row::None { taken } => {
+            put(out, b"none")?;
+            put_count(out, show, u128::from(taken))
+        }
+        Row::Judged {
+            verdict,
+            cost,
+            taken,
+        } => put_verdict(out, show, verdict, cost, taken),
     }
 }
 
-/// Appends the line of the row with this number.
-pub(crate) fn put_row(out: &mut Vec<u8>, number: u64, row: Row) -> Result<(), NoMemory>
-    ensures { OnOk result (out.new.items ≡ out.old.items ++ spec.row_line number row) }
+/// Appends the line of the row with this number, and how many states were taken where this is shown.
+pub(crate) fn put_row(out: &mut Vec<u8>, show: Show, number: u64, row: Row) -> Result<(), NoMemory>
+    ensures { OnOk result (out.new.items ≡ out.old.items ++ spec.row_line show number row) }
 {
     put(out, b"row ")?;
     put_number(out, number)?;
     put(out, b" ")?;
-    put_row_text(out, row)?;
+    put_row_text(out, show, row)?;
     put(out, b"\n")
 }
 
-/// How many rows there are, and how many of each kind.
+// How many states were taken for the row.
+fn states_in(row: Row) -> u64
+    ensures { result ≡ spec.states_in row }
+{
+    match row {
+        Row::None { taken } | Row::Judged { taken, .. } => taken,
+        Row::Scale | Row::Outside | Row::Blocked => 0,
+    }
+}
+
+/// How many rows there are, how many of each kind, and how many states were taken for them.
 #[derive(Clone, Copy, Debug)]
 pub(crate) struct Tally {
     pub rows: u64,
@@ -79,6 +126,8 @@ pub(crate) struct Tally {
     pub off: u64,
     /// Those without a verdict.
     pub other: u64,
+    /// The taken states: fewer than 2^64 for each row, of which there are fewer than 2^64.
+    pub taken: u128,
 }
 
 impl Tally {
@@ -92,6 +141,7 @@ impl Tally {
             near: 0,
             off: 0,
             other: 0,
+            taken: 0,
         }
     }
 
@@ -99,14 +149,27 @@ impl Tally {
     pub(crate) fn count(&mut self, row: Row)
         requires counts { IsTally self.old }
         requires few { self.old.rows + 1 < 2 ^ 64 }
-        ensures { (rows : List Row) → self.old ≡ tally_of rows → self.new ≡ tally_of (rows ++ row ∷ []) }
+        requires small { IsSmall self.old }
+        ensures counted { (rows : List Row) → self.old ≡ tally_of rows
+            → self.new ≡ tally_of (rows ++ row ∷ []) }
+        ensures small { IsSmall self.new }
     {
         self.rows += 1;
+        self.taken += u128::from(states_in(row));
         match row {
-            Row::Judged(Verdict::Agree, _) => self.agree += 1,
-            Row::Judged(Verdict::Near, _) => self.near += 1,
-            Row::Judged(Verdict::Off, _) => self.off += 1,
-            Row::Scale | Row::Outside | Row::Blocked | Row::None => self.other += 1,
+            Row::Judged {
+                verdict: Verdict::Agree,
+                ..
+            } => self.agree += 1,
+            Row::Judged {
+                verdict: Verdict::Near,
+                ..
+            } => self.near += 1,
+            Row::Judged {
+                verdict: Verdict::Off,
+                ..
+            } => self.off += 1,
+            Row::Scale | Row::Outside | Row::Blocked | Row::None { .. } => self.other += 1,
         }
     }
 
@@ -121,9 +184,9 @@ impl Tally {
         }
     }
 
-    /// Appends the last line.
-    pub(crate) fn put(&self, out: &mut Vec<u8>) -> Result<(), NoMemory>
-        ensures { OnOk result (out.new.items ≡ out.old.items ++ sum_text self.now) }
+    /// Appends the last line, and how many states were taken where this is shown.
+    pub(crate) fn put(&self, out: &mut Vec<u8>, show: Show) -> Result<(), NoMemory>
+        ensures { OnOk result (out.new.items ≡ out.old.items ++ sum_text show self.now) }
     {
         put(out, b"sum ")?;
         put_number(out, self.rows)?;
@@ -131,10 +194,18 @@ impl Tally {
         put_number(out, self.agree)?;
         put(out, b" near ")?;
         put_number(out, self.near)?;
+        self.put_end(out, show)
+    }
+
+    // Appends its end, behind the rows that are agree or near.
+    fn put_end(&self, out: &mut Vec<u8>, show: Show) -> Result<(), NoMemory>
+        ensures { OnOk result (out.new.items ≡ out.old.items ++ sum_end show self.now) }
+    {
         put(out, b" off ")?;
         put_number(out, self.off)?;
         put(out, b" other ")?;
         put_number(out, self.other)?;
+        put_count(out, show, self.taken)?;
         put(out, b"\n")
     }
 }

@@ -28,5 +28,9 @@ pub(crate) fn scen<F: Files>(
 {
     let both: (Session, Vec<Entry>) = open_two(alloc, files, map, settings, name, &())?;
     let (session, entries) = both;
-    Ok(Work::Judge { session, entries })
+    Ok(Work::Judge {
+        session,
+        show: settings.show,
+        entries,
+    })
 }

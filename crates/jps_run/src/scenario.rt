@@ -21,11 +21,13 @@ use scen_text::Entry;
 use std::alloc::Global;
 use std::sync::ledger::Ledger;
 use steps::Steps;
+use word_list::Show;
 
 /// A session that judges a scenario's entries in order, and the counts of their rows.
 #[derive(Drop)]
 pub(crate) struct Judge {
     pub session: Session,
+    pub show: Show,
     pub tally: Tally,
 }
 
@@ -57,17 +59,17 @@ impl Job for Judge {
     ) -> Result<(), NoMemory> {
         let row = row_of(alloc, &mut self.session, item, steps)?;
         self.tally.count(row);
-        put_row(lines, self.tally.rows, row)
+        put_row(lines, self.show, self.tally.rows, row)
     }
 
     fn close(&self, lines: &mut Vec<u8>) -> Result<u8, NoMemory> {
-        self.tally.put(lines)?;
+        self.tally.put(lines, self.show)?;
         Ok(self.tally.status())
     }
 }
 
-// Whether the entry is meant for a map of the session's sides.
-fn has_sides(session: &Session, entry: Entry) -> bool
+/// Whether the entry is meant for a map of the session's sides.
+pub(crate) fn has_sides(session: &Session, entry: Entry) -> bool
     ensures { result ≡ rows.has_sides session.now entry }
 {
     entry.w == u32::from(session.width()) && entry.h == u32::from(session.height())
@@ -82,8 +84,14 @@ fn row_of_reply(listed: Decimal, reply: &Reply) -> Row
     match reply {
         Reply::Outside => Row::Outside,
         Reply::Blocked => Row::Blocked,
-        Reply::None { .. } => Row::None,
-        Reply::Walk { cost, .. } => Row::Judged(judge(listed, *cost), *cost),
+        Reply::None { taken } => Row::None {
+            taken: taken.as_slice().len() as u64,
+        },
+        Reply::Walk { cost, taken, .. } => Row::Judged {
+            verdict: judge(listed, *cost),
+            cost: *cost,
+            taken: taken.as_slice().len() as u64,
+        },
     }
 }
 
@@ -106,22 +114,25 @@ fn row_of<L: Ledger>(
     Ok(row_of_reply(entry.length, &reply))
 }
 
-/// Judges the entries in order by the session, and sums their rows up.
+/// Judges the entries in order by the session, and sums their rows up; `show` tells whether they count
+/// the taken states.
 pub(crate) fn write_rows<O: Sink, L: Ledger>(
     alloc: Global,
     session: Session,
+    show: Show,
     entries: &[Entry],
     out: &mut O,
     steps: &mut Steps<L>,
 ) -> Result<u8, Stop>
     requires { AreKept entries.now }
-    ensures sent { SendsWhole (IsJudged (record { session = session; tally = tally_of [] }) entries.now)
+    ensures sent { SendsWhole (IsJudged (record { session = session; show = show; tally = tally_of [] }) entries.now)
         (O.outflow out.old)
         (O.outflow out.new) result }
     ensures counted { OnOk result (RoseBy session (EntriesTake session entries.now) steps.old steps.new) }
 {
     let mut job = Judge {
         session,
+        show,
         tally: Tally::new(),
     };
     work_items(alloc, &mut job, entries, out, steps)

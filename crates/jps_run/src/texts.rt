@@ -15,8 +15,9 @@ pub(crate) fn help_text() -> &'static [u8]
       one line for each command of the script: edits of the map, and queries
   jps live MAP [engine=ENGINE] [show=points|show=cells|show=trace] [rule=none|rule=one]
       the same for a script on standard input, each command answered as it comes
-  jps scen MAP SCEN [engine=ENGINE] [rule=none|rule=one]
-      one row for each entry of the scenario, its length judged by the least cost, and their sum
+  jps scen MAP SCEN [engine=ENGINE] [show=taken] [rule=none|rule=one]
+      a row for each entry of the scenario, its length judged by the least cost, and their sum; with show=taken
+      also how many states each search took
   jps prove MAP SX SY GX GY [rule=none|rule=one]
       a certificate that the cost of a least walk is least, or that there is no walk
   jps check MAP CERT [rule=none|rule=one]
@@ -29,6 +30,8 @@ pub(crate) fn help_text() -> &'static [u8]
       a picture (SVG) of the map and of a least walk, and with show=trace of the cells of the taken states
   jps costs MAP X Y [rule=none|rule=one]
       the least cost from the cell (X,Y) to each cell, a line for each row: `A,B`, or `-` where no walk leads
+  jps tables MAP [rule=none|rule=one]
+      the tables of the engine plus as bytes, for other programs
   jps boxes MAP X Y [rule=none|rule=one]
       for each direction the least box of cells to which some least walk from the cell (X,Y) begins so
   jps moves MAP X Y [rule=none|rule=one]

@@ -16,6 +16,7 @@ use crate::costs::costs;
 use crate::draw::draw;
 use crate::drill::drill;
 use crate::faults::word_line;
+use crate::judge::judge;
 use crate::live::{hear, live};
 use crate::make::make;
 use crate::moves::moves;
@@ -24,6 +25,7 @@ use crate::query::{Ends, query};
 use crate::scen::scen;
 use crate::solve::solve;
 use crate::stop::Stop;
+use crate::tables::tables;
 use crate::texts::{help_text, version_text};
 use crate::work::{Opened, Work, perform};
 use io_edge::{Files, Sink, Source, write_whole};
@@ -74,6 +76,7 @@ fn open_work<F: Files>(
         Request::Solve { map, script } => solve(alloc, files, map, script, settings),
         Request::Live { .. } => unreachable!(),
         Request::Scen { map, scen: name } => scen(alloc, files, map, name, settings),
+        Request::Judge { map, scen, walks } => judge(alloc, files, map, scen, walks, settings),
         Request::Prove {
             map,
             sx,
@@ -97,6 +100,7 @@ fn open_work<F: Files>(
             gy,
         } => draw(alloc, files, map, Ends { sx, sy, gx, gy }, settings),
         Request::Costs { map, x, y } => costs(alloc, files, map, x, y, settings),
+        Request::Tables { map } => tables(alloc, files, map, settings),
         Request::Boxes { map, x, y } => boxes(alloc, files, map, x, y, settings),
         Request::Moves { map, x, y } => moves(alloc, files, map, x, y, settings),
     }
@@ -170,8 +174,8 @@ fn refuse_word<E: Sink>(alloc: Global, number: u32, err: &mut E) -> u8
 /// that comes in from `input`; `out` gets the output and `err` the line of a refusal or a fault.
 /// `steps` counts what the session counts.
 ///
-/// Statuses: 0 done; 1 done, and a scenario has a row that is neither agree nor near, or `check`
-/// refuses, or `prove` has no ends that are free and on one layer of the map, or `draw` none that are free; 2 the words
+/// Statuses: 0 done; 1 done, and a scenario has a row that is neither agree nor near, or `judge` or
+/// `check` refuses, or `prove` has no ends that are free and on one layer of the map, or `draw` none that are free; 2 the words
 /// are refused; 3 a text is refused; 4 a read failed; 5 a write of the output failed; 6 memory was
 /// refused, the one answer that is free.
 pub fn run<F: Files, I: Source, O: Sink, E: Sink, L: Ledger>(

@@ -13,6 +13,7 @@ use crate::costs::{Distances, write_costs};
 use crate::draw::{Canvas, write_drawing};
 use crate::drill::write_sums;
 use crate::query::Ends;
+use crate::referee::{Referee, write_rulings};
 use crate::scenario::write_rows;
 use crate::sending::send_text;
 use crate::stop::Stop;
@@ -36,6 +37,12 @@ pub(crate) enum Work {
     /// The session judges the entries of a scenario, a row each, and their sum.
     Judge {
         session: Session,
+        show: Show,
+        entries: Vec<Entry>,
+    },
+    /// What another program tells of the entries of a scenario is judged, a row each, and their sum.
+    Referee {
+        job: Referee,
         entries: Vec<Entry>,
     },
     /// What the commands come to is summed up in one line.
@@ -86,8 +93,13 @@ pub(crate) fn perform<O: Sink, L: Ledger>(
         Work::Answer { mut job, commands } => {
             write_answers(alloc, &mut job, commands.as_slice(), out, steps)
         }
-        Work::Judge { session, entries } => {
-            write_rows(alloc, session, entries.as_slice(), out, steps)
+        Work::Judge {
+            session,
+            show,
+            entries,
+        } => write_rows(alloc, session, show, entries.as_slice(), out, steps),
+        Work::Referee { mut job, entries } => {
+            write_rulings(alloc, &mut job, entries.as_slice(), out, steps)
         }
         Work::Drill { session, commands } => {
             write_sums(alloc, session, commands.as_slice(), out, steps)

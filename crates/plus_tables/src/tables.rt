@@ -205,6 +205,7 @@ impl Tables {
     }
 
     // The same; each direction has code of its own, in which it is a constant.
+    #[inline(always)]
     fn told<T: Terrain>(&self, t: &T, c: Cell, d: Dir) -> i16
         requires whole { IsGrid (T.grid t.now) }
         requires sized { AreSized self.now (T.grid t.now) }
@@ -292,6 +293,7 @@ impl Tables {
     /// be right. All others stay. Whether the entry changed; one step.
     ///
     /// The grid has the sides and the corner rule of the tables.
+    #[inline(always)]
     pub fn refresh<T: Terrain, L: Ledger>(
         &mut self,
         t: &T,

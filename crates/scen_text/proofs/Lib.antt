@@ -3,3 +3,4 @@ pub mod Split
 pub mod Lines
 pub mod Laws
 pub mod Kept
+pub mod Few

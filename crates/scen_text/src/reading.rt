@@ -31,6 +31,8 @@ pub fn read_scen(alloc: Global, text: &[u8]) -> Result<Vec<Entry>, ScenFault>
     // Each length has at most 18 digits, at most ten of them behind the point.
     ensures kept { IfOk result (λ read. (k : ℕ) (entry : Entry) → slice_get read.items k ≡ Some entry
         → IsKept entry.length) }
+    // There are no more entries than bytes.
+    ensures few { IfOk result (λ read. length read.items ≤ 2 ^ 26) }
     // What is spelled so is read, unless memory runs out.
     ensures only { (spelled : List Entry) → Spells text.now spelled → Tells result (Ok spelled) }
     // A fault is that of the first line that breaks the grammar.

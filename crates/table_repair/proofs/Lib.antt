@@ -5,7 +5,10 @@ pub mod Lines
 pub mod Mends
 pub mod Walking
 pub mod Sweeping
+pub mod Onward
+pub mod Abreast
 pub mod Rows
+pub mod Pieces
 pub mod Totals
 pub mod Directions
 pub mod Reach

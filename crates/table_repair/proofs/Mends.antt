@@ -78,7 +78,7 @@ module _ (h : GridData) (d : Dir) (starts : Cell → Bool) where
     beside = beside_stay old new n m r.beside;
   }
 
-  wider_reach : (new : TablesData) (m n : ℕ) (u : Cell) → m ≤ n → IsMended h new d starts m u
+  pub wider_reach : (new : TablesData) (m n : ℕ) (u : Cell) → m ≤ n → IsMended h new d starts m u
       → IsMended h new d starts n u
   wider_reach new m n u l a = record {
     right = a.right;
@@ -89,7 +89,7 @@ module _ (h : GridData) (d : Dir) (starts : Cell → Bool) where
     reaches = a.reaches;
   }
 
-  with_right : (t new : TablesData) (n : ℕ) (u : Cell) → IsRight h new u d → IsMended h t d starts n u
+  pub with_right : (t new : TablesData) (n : ℕ) (u : Cell) → IsRight h new u d → IsMended h t d starts n u
       → IsMended h new d starts n u
   with_right t new n u r a = record {
     right = r;

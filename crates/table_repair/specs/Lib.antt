@@ -2,3 +2,4 @@ pub mod Differ
 pub mod Counted
 pub mod Mending
 pub mod Repaired
+pub mod Abreast

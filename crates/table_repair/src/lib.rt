@@ -14,6 +14,7 @@ mod repair;
 mod repairer;
 mod span;
 mod sweep;
+mod walks;
 
 pub use repairer::Repairer;
 

@@ -11,8 +11,9 @@ use plus_tables::Tables;
 use std::sync::ledger::Ledger;
 use steps::Steps;
 
-// The cell behind, if it lies on the map.
-fn cell_before(grid: &Grid, d: Dir, v: Cell) -> Option<Cell>
+/// The cell behind, if it lies on the map.
+#[inline(always)]
+pub fn cell_before(grid: &Grid, d: Dir, v: Cell) -> Option<Cell>
     requires { is_inside grid.now v ≡ true }
     ensures { result ≡ behind_on grid.now d v }
 {

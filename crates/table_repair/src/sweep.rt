@@ -3,13 +3,16 @@
 ghost use Rattle.std.specs.Prelude.{◌≡◌, ◌+◌, ◌*◌, ◌<◌, ◌≤◌, true};
 ghost use Rattle.grid_moves.specs.Grid.{is_inside};
 ghost use Rattle.grid_moves.specs.Move.{is_same};
+ghost use Rattle.pruning.specs.Turns as turns;
 ghost use Rattle.table_repair.specs.Mending as spec;
 ghost use Rattle.table_repair.specs.Mending.{AreReady, CanSweep, Mends, Sweeps, is_in, is_in_row, span_length};
 
 use crate::mend::mend;
 use crate::span::{Span, take_far};
+use crate::walks::mend_abreast;
 use grid_moves::{Cell, Dir, Grid, Terrain};
 use plus_tables::Tables;
+use pruning::is_diagonal;
 use std::sync::ledger::Ledger;
 use steps::Steps;
 
@@ -27,9 +30,9 @@ pub fn goes_down(d: Dir) -> bool
     matches!(d, Dir::SE | Dir::S | Dir::SW)
 }
 
-// Makes the entries for `d` right that wait for the cells of this row and these columns; says how many
-// changed.
-fn sweep_row<L: Ledger>(
+// Makes the entries for `d` right that wait for the cells of this row and these columns, one column after the
+// other; says how many changed.
+fn sweep_one_by_one<L: Ledger>(
     tables: &mut Tables,
     grid: &Grid,
     y: u16,
@@ -53,6 +56,63 @@ fn sweep_row<L: Ledger>(
         changed += mend(tables, grid, Cell { x, y }, d, steps);
     }
     changed
+}
+
+// The same for a diagonal direction, along which no two cells of a row lie: many columns at the same time.
+fn sweep_abreast<L: Ledger>(
+    tables: &mut Tables,
+    grid: &Grid,
+    y: u16,
+    columns: Span,
+    d: Dir,
+    steps: &mut Steps<L>,
+) -> u64
+    requires ready { AreReady grid.now tables.old d }
+    requires diagonal { turns.is_diagonal d ≡ true }
+    requires row { y < grid.now.height }
+    requires columns { columns.end ≤ grid.now.width }
+    requires waits { CanSweep grid.now tables.old d (is_in_row y columns) }
+    ensures mends { Mends grid.now d (is_in_row y columns) tables.old tables.new result }
+    ensures sweeps { Sweeps grid.now d (is_in_row y columns) tables.old tables.new }
+    ensures few { result ≤ 4096 * span_length columns }
+    ensures steps { steps.new ≤ steps.old + result + span_length columns }
+    ensures later { steps.old ≤ steps.new }
+{
+    let mut first = columns.first;
+    let mut changed = 0;
+    'piece: while first < columns.end {
+        let end = columns.end.min(first + 64);
+        changed += mend_abreast(tables, grid, y, Span { first, end }, d, steps);
+        first = end;
+    }
+    changed
+}
+
+// Makes the entries for `d` right that wait for the cells of this row and these columns; says how many
+// changed.
+fn sweep_row<L: Ledger>(
+    tables: &mut Tables,
+    grid: &Grid,
+    y: u16,
+    columns: Span,
+    d: Dir,
+    steps: &mut Steps<L>,
+) -> u64
+    requires ready { AreReady grid.now tables.old d }
+    requires row { y < grid.now.height }
+    requires columns { columns.end ≤ grid.now.width }
+    requires waits { CanSweep grid.now tables.old d (is_in_row y columns) }
+    ensures mends { Mends grid.now d (is_in_row y columns) tables.old tables.new result }
+    ensures sweeps { Sweeps grid.now d (is_in_row y columns) tables.old tables.new }
+    ensures few { result ≤ 4096 * span_length columns }
+    ensures steps { steps.new ≤ steps.old + result + span_length columns }
+    ensures later { steps.old ≤ steps.new }
+{
+    if is_diagonal(d) {
+        sweep_abreast(tables, grid, y, columns, d, steps)
+    } else {
+        sweep_one_by_one(tables, grid, y, columns, d, steps)
+    }
 }
 
 /// Makes the entries for `d` right that wait for the cells of these rows and columns; says how many

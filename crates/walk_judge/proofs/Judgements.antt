@@ -28,7 +28,7 @@ use Rattle.walk_judge.specs.Judgement.{IsBadPoint, elsewhere, broken, short_of, 
 use Rattle.walk_judge.proofs.Simple.{least_is_short}
 
 -- points stand for a walk, or have a first bad one
-has_verdict : (g : GridData) (points : List Cell) → (answer : Result Cost BadAt) × IsVerdict g points answer
+pub has_verdict : (g : GridData) (points : List Cell) → (answer : Result Cost BadAt) × IsVerdict g points answer
 has_verdict g [] = (Err (record { 0 = 0 }), verdict_at_start g [] refl)
 has_verdict g (u ∷ points) = by_free (is_free g u) refl
   where

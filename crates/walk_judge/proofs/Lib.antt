@@ -5,3 +5,4 @@ pub mod Laws
 pub mod Fit
 pub mod Simple
 pub mod Judgements
+pub mod Existing

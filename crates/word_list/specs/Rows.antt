@@ -9,7 +9,7 @@ use Rattle.word_list.specs.declared.rows.Kind.TheVariants.{File, Number, Seed, S
 use Rattle.word_list.specs.declared.rows.Row as declared
 use Rattle.word_list.specs.declared.settings.Family.{Family}
 use Rattle.word_list.specs.declared.settings.Family.TheVariants.{Engine, SmallMap, Show, Drawing, Counts, Rule}
-use Rattle.word_list.specs.Request.{Asked, Help, Version, Query, Solve, Live, Scen, Prove, Check, Make, Drill, Draw, Costs, Boxes, Moves}
+use Rattle.word_list.specs.Request.{Asked, Help, Version, Query, Solve, Live, Scen, Judge, Prove, Check, Make, Drill, Draw, Costs, Tables, Boxes, Moves}
 
 -- a command, the kinds of the words that it takes, and the settings that it allows after them
 pub record Row : Type 0 where
@@ -40,6 +40,8 @@ row_of name =
       takes = File ∷ File ∷ [];
       allows = Engine ∷ SmallMap ∷ Counts ∷ Rule ∷ [];
     })
+    else if bytes_eq name (codes "judge") then
+    Some (record { command = command.Judge; takes = File ∷ File ∷ File ∷ []; allows = Rule ∷ [] })
     else if bytes_eq name (codes "prove") then
     Some (record {
       command = command.Prove;
@@ -60,6 +62,8 @@ row_of name =
     })
     else if bytes_eq name (codes "costs") then
     Some (record { command = command.Costs; takes = File ∷ Number ∷ Number ∷ []; allows = Rule ∷ [] })
+    else if bytes_eq name (codes "tables") then
+    Some (record { command = command.Tables; takes = File ∷ []; allows = Rule ∷ [] })
     else if bytes_eq name (codes "boxes") then
     Some (record { command = command.Boxes; takes = File ∷ Number ∷ Number ∷ []; allows = Rule ∷ [] })
     else if bytes_eq name (codes "moves") then
@@ -114,6 +118,7 @@ asked_by command.Query words =
 asked_by command.Solve words = Solve (word_at words 0) (word_at words 1)
 asked_by command.Live words = Live (word_at words 0)
 asked_by command.Scen words = Scen (word_at words 0) (word_at words 1)
+asked_by command.Judge words = Judge (word_at words 0) (word_at words 1) (word_at words 2)
 asked_by command.Prove words =
     Prove (word_at words 0) (number_at words 1) (number_at words 2) (number_at words 3) (number_at words 4)
 asked_by command.Check words = Check (word_at words 0) (word_at words 1)
@@ -122,6 +127,7 @@ asked_by command.Drill words = Drill (seed_at words 0)
 asked_by command.Draw words =
     Draw (word_at words 0) (number_at words 1) (number_at words 2) (number_at words 3) (number_at words 4)
 asked_by command.Costs words = Costs (word_at words 0) (number_at words 1) (number_at words 2)
+asked_by command.Tables words = Tables (word_at words 0)
 asked_by command.Boxes words = Boxes (word_at words 0) (number_at words 1) (number_at words 2)
 asked_by command.Moves words = Moves (word_at words 0) (number_at words 1) (number_at words 2)
 

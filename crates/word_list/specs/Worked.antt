@@ -5,7 +5,7 @@ use Rattle.text_line.specs.Numbers.{number_of}
 use Rattle.word_list.specs.declared.request.Pick.TheVariants.{Plain, Jps, Boxes, Moves}
 use Rattle.word_list.specs.declared.request.Show.{Show}
 use Rattle.word_list.specs.declared.request.Show.TheVariants.{Points, Cells, Trace, Taken}
-use Rattle.word_list.specs.Request.{Call, Help, Query, Solve, Scen, Make}
+use Rattle.word_list.specs.Request.{Call, Help, Query, Solve, Scen, Judge, Make}
 use Rattle.word_list.specs.Settings.{default_settings}
 use Rattle.word_list.specs.Calls.{call_of}
 
@@ -102,6 +102,14 @@ pub setting_for_name : call_of (codes "scen" ∷ codes "m" ∷ codes "rule=one" 
   settings = default_settings;
 })
 setting_for_name = refl
+
+-- a judge is asked with three files
+pub three_files : call_of (codes "judge" ∷ codes "m" ∷ codes "s" ∷ codes "w" ∷ codes "rule=one" ∷ [])
+    ≡ Some (record {
+      request = Judge (codes "m") (codes "s") (codes "w");
+      settings = record { pick = Plain; show = Points; one = true };
+    })
+three_files = refl
 
 -- rows may tell counts, and nothing else is shown of them; no answer tells counts, and first moves have none
 pub counted_rows : call_of (codes "scen" ∷ codes "m" ∷ codes "s" ∷ codes "show=taken" ∷ []) ≡ Some (record {

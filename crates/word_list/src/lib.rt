@@ -10,12 +10,14 @@
 //! solve MAP SCRIPT [engine=ENGINE] [show=points|show=cells|show=trace] [rule=none|rule=one]
 //! live MAP [engine=ENGINE] [show=points|show=cells|show=trace] [rule=none|rule=one]
 //! scen MAP SCEN [engine=ENGINE|engine=SMALL] [show=taken] [rule=none|rule=one]
+//! judge MAP SCEN WALKS [rule=none|rule=one]
 //! prove MAP SX SY GX GY [rule=none|rule=one]
 //! check MAP CERT [rule=none|rule=one]
 //! make SEED W H P
 //! drill SEED [engine=ENGINE] [rule=none|rule=one]
 //! draw MAP SX SY GX GY [engine=ENGINE] [show=points|show=trace] [rule=none|rule=one]
 //! costs MAP X Y [rule=none|rule=one]
+//! tables MAP [rule=none|rule=one]
 //! boxes MAP X Y [rule=none|rule=one]
 //! moves MAP X Y [rule=none|rule=one]
 //! ```

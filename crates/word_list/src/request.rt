@@ -31,6 +31,13 @@ pub enum Request<'a> {
         map: &'a str,
         scen: &'a str,
     },
+    /// How the walks that another program tells for the scenario are judged by the least ones on the
+    /// map.
+    Judge {
+        map: &'a str,
+        scen: &'a str,
+        walks: &'a str,
+    },
     /// A certificate of the least cost of the walks on the map between two cells, or that there is
     /// none.
     Prove {
@@ -69,6 +76,10 @@ pub enum Request<'a> {
         map: &'a str,
         x: u32,
         y: u32,
+    },
+    /// The tables of the map's two grids, as bytes.
+    Tables {
+        map: &'a str,
     },
     /// The goal boxes of a cell, one for each direction.
     Boxes {

@@ -19,12 +19,14 @@ pub enum Command {
     Solve,
     Live,
     Scen,
+    Judge,
     Prove,
     Check,
     Make,
     Drill,
     Draw,
     Costs,
+    Tables,
     Boxes,
     Moves,
 }
@@ -120,6 +122,7 @@ pub fn row_named(name: &str) -> Option<Row>
             &[File, File],
             &[Engine, SmallMap, Counts, Rule],
         ),
+        "judge" => (Command::Judge, &[File, File, File], &[Rule]),
         "prove" => (
             Command::Prove,
             &[File, Number, Number, Number, Number],
@@ -134,6 +137,7 @@ pub fn row_named(name: &str) -> Option<Row>
             &[Engine, Drawing, Rule],
         ),
         "costs" => (Command::Costs, &[File, Number, Number], &[Rule]),
+        "tables" => (Command::Tables, &[File], &[Rule]),
         "boxes" => (Command::Boxes, &[File, Number, Number], &[Rule]),
         "moves" => (Command::Moves, &[File, Number, Number], &[Rule]),
         _ => return None,
@@ -171,6 +175,11 @@ pub fn request<'a>(command: Command, words: &'a [String]) -> Request<'a>
             map: name_at(words, 0),
             scen: name_at(words, 1),
         },
+        Command::Judge => Request::Judge {
+            map: name_at(words, 0),
+            scen: name_at(words, 1),
+            walks: name_at(words, 2),
+        },
         Command::Prove => Request::Prove {
             map: name_at(words, 0),
             sx: number_at(words, 1),
@@ -202,6 +211,9 @@ pub fn request<'a>(command: Command, words: &'a [String]) -> Request<'a>
             map: name_at(words, 0),
             x: number_at(words, 1),
             y: number_at(words, 2),
+        },
+        Command::Tables => Request::Tables {
+            map: name_at(words, 0),
         },
         Command::Boxes => Request::Boxes {
             map: name_at(words, 0),

@@ -13,7 +13,7 @@ fn words_of(alloc: Global, line: &str) -> Result<Vec<String>, AllocError> {
 // Counted by hand, from the table of commands.
 #[test]
 fn the_first_word_of_no_call_is_named(rt: HostRuntime) -> Result<(), Fail> {
-    let lists: [(&str, u32); 42] = [
+    let lists: [(&str, u32); 45] = [
         ("mkae", 1),
         ("make", 2),
         ("make 7 0 2 0", 3),
@@ -39,6 +39,7 @@ fn the_first_word_of_no_call_is_named(rt: HostRuntime) -> Result<(), Fail> {
         ("draw m 0 0 2 2 show=cells", 7),
         ("draw m 0 0 2 2 show=trace show=points", 8),
         ("costs m 0 0 engine=plain", 5),
+        ("tables m engine=plus", 3),
         ("boxes m 0", 4),
         ("moves m 0 0 rule=one show=trace", 6),
         ("solve m s engine=", 4),
@@ -48,6 +49,8 @@ fn the_first_word_of_no_call_is_named(rt: HostRuntime) -> Result<(), Fail> {
         ("prove m 0 0 1 1 engine=plain", 7),
         ("check m", 3),
         ("check m c show=cells", 4),
+        ("judge m s", 4),
+        ("judge m s w engine=block", 5),
         ("scen m", 3),
         ("scen m s show=points engine=plain", 4),
         ("scen m s show=taken show=taken", 5),

@@ -1,4 +1,4 @@
-use Rattle.std.proofs.Common.{◌+◌, ◌<◌, ◌^◌, arith}
+use Rattle.std.proofs.Common.{refl, ◌+◌, ◌<◌, ◌^◌, arith}
 use Rattle.jps_run.proofs.Counts.{judged-entry}
 use Rattle.jps_run.proofs.Judgements.{judged-more, room-more}
 use Rattle.jps_run.proofs.scenario.JudgeJob.answer.Goals as goal
@@ -6,6 +6,7 @@ use Rattle.jps_run.proofs.scenario.JudgeJob.answer.Goals as goal
 pub count-requires : goal.count-requires
 count-requires g c = record {
   counts = c.requires.room.1.counts;
+  small = c.requires.room.1.small;
   few = (let h : c.args.self.now.tally.rows + (c.requires.room.0 + 1) < 2 ^ 64 = c.requires.room.1.few in
       omega arith);
 }
@@ -13,18 +14,18 @@ count-requires g c = record {
 pub returns-clause-worked : goal.returns-clause-worked
 returns-clause-worked g c =
     judged-more c.put_row.result c.args.self.now
-    (record { session = c.row_of.new.session; tally = c.count.new.self }) c.args.item c.in_ok-row.row
+    (record { session = c.row_of.new.session; show = c.args.self.now.show; tally = c.count.new.self }) c.args.item c.in_ok-row.row
     c.args.lines.now.items c.put_row.new.out.items c.in_ok-row.ensures.row
-    c.row_of.ensures.grid c.count.ensures c.put_row.ensures
+    c.row_of.ensures.grid refl c.count.ensures.counted c.put_row.ensures
 
 pub returns-clause-room : goal.returns-clause-room
 returns-clause-room g c =
     room-more c.put_row.result c.args.self.now
-    (record { session = c.row_of.new.session; tally = c.count.new.self }) c.in_ok-row.row c.requires.room
-    c.count.ensures
+    (record { session = c.row_of.new.session; show = c.args.self.now.show; tally = c.count.new.self }) c.in_ok-row.row c.requires.room
+    c.count.ensures.counted c.count.ensures.small
 
 pub returns-clause-counted : goal.returns-clause-counted
 returns-clause-counted g c =
     judged-entry c.put_row.result c.args.self.now
-    (record { session = c.row_of.new.session; tally = c.count.new.self }) c.args.item c.args.steps.now
+    (record { session = c.row_of.new.session; show = c.args.self.now.show; tally = c.count.new.self }) c.args.item c.args.steps.now
     c.row_of.new.steps c.row_of.ensures.grid c.in_ok-row.ensures.counted

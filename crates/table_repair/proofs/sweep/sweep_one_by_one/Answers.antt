@@ -4,7 +4,7 @@ use Rattle.table_repair.specs.Mending.{goes_right}
 use Rattle.table_repair.proofs.Sweeping.{taken_told, none_taken}
 use Rattle.table_repair.proofs.Rows.{row_inside, row_right, row_next, row_done}
 use Rattle.table_repair.proofs.Totals.{few_more, counted_more, later_on}
-use Rattle.table_repair.proofs.sweep.sweep_row.Goals as goal
+use Rattle.table_repair.proofs.sweep.sweep_one_by_one.Goals as goal
 
 pub mend-changed-requires-clause-inside : goal.mend-changed-requires-clause-inside
 mend-changed-requires-clause-inside g c =

@@ -2,7 +2,7 @@
 use Rattle.std.proofs.Common.{◌≡◌, ◌+◌, ◌*◌, ◌≤◌, ℕ, true}
 use Rattle.table_repair.specs.Mending.{span_length, is_in_row, is_among}
 use Rattle.table_repair.proofs.Sweeping.{Swept}
-use Rattle.table_repair.proofs.sweep.sweep_row.Given as goal
+use Rattle.table_repair.proofs.sweep.sweep_one_by_one.Given as goal
 
 abbrev pub invariant-loop-x : goal.invariant-loop-x
 invariant-loop-x g l = record {

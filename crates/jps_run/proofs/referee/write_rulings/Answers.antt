@@ -1,0 +1,6 @@
+use Rattle.std.proofs.Common.{length}
+use Rattle.jps_run.proofs.Refereed.{all-left, refereed-none, rulings-complete}
+use Rattle.jps_run.proofs.referee.write_rulings.Goals as goal
+
+pub work_items-requires-clause-completes : goal.work_items-requires-clause-completes
+work_items-requires-clause-completes g c = rulings-complete

@@ -1,0 +1,42 @@
+-- The entry behind is refreshed, and the walk goes on or ends.
+use Rattle.std.proofs.Common.{sym, ◌∙◌}
+use Rattle.table_repair.proofs.Lines.{behind_on-is}
+use Rattle.table_repair.proofs.Walking.{rests_right}
+use Rattle.table_repair.proofs.Onward.{follows_end, follows_stay, mends_one, follows_on, onward_told}
+use Rattle.table_repair.proofs.walks.walk_on.Goals as goal
+
+pub refresh-requires-clause-rests : goal.refresh-requires-clause-rests
+refresh-requires-clause-rests g c =
+    let l = behind_on-is c.args.grid.now c.args.d c.in-Some.before c.args.walk.at
+    (sym c.cell_before.ensures ∙ c.in-Some.is) in
+    rests_right c.args.grid.now c.args.tables.now c.args.d c.in-Some.before c.args.walk.at l.0
+    c.requires.inside c.requires.right c.requires.ready.beside
+
+pub returns-then-refresh-clause-mends : goal.returns-then-refresh-clause-mends
+returns-then-refresh-clause-mends g c =
+    mends_one c.args.grid.now c.args.d c.args.walk.at c.args.tables.now c.requires.ready c.requires.inside
+    c.requires.right c.in-Some.before (sym c.cell_before.ensures ∙ c.in-Some.is) c.refresh.new.self
+    c.refresh.ensures.is (c.refresh.ensures.changed c.if-refresh.true)
+
+pub returns-then-refresh-clause-follows : goal.returns-then-refresh-clause-follows
+returns-then-refresh-clause-follows g c =
+    follows_on c.args.grid.now c.args.d c.args.walk.at c.args.tables.now c.requires.ready c.requires.inside
+    c.requires.right c.in-Some.before (sym c.cell_before.ensures ∙ c.in-Some.is) c.refresh.new.self
+    c.refresh.ensures.is (c.refresh.ensures.changed c.if-refresh.true)
+
+pub returns-then-refresh-clause-onward : goal.returns-then-refresh-clause-onward
+returns-then-refresh-clause-onward g c =
+    onward_told c.args.grid.now c.args.d c.args.walk.at c.args.tables.now c.requires.ready c.requires.inside
+    c.requires.right c.in-Some.before (sym c.cell_before.ensures ∙ c.in-Some.is) c.refresh.new.self
+    c.refresh.ensures.is (c.refresh.ensures.changed c.if-refresh.true)
+
+pub returns-else-refresh-clause-follows : goal.returns-else-refresh-clause-follows
+returns-else-refresh-clause-follows g c =
+    follows_stay c.args.grid.now c.args.d c.args.walk.at c.args.tables.now c.requires.ready c.requires.inside
+    c.requires.right c.in-Some.before (sym c.cell_before.ensures ∙ c.in-Some.is) c.refresh.new.self
+    c.refresh.ensures.is (c.refresh.ensures.stayed c.if-refresh.false)
+
+pub returns-in_default-clause-follows : goal.returns-in_default-clause-follows
+returns-in_default-clause-follows g c =
+    follows_end c.args.grid.now c.args.d c.args.walk.at c.args.tables.now c.requires.ready c.requires.inside
+    c.requires.right (sym c.cell_before.ensures ∙ c.in_default.is)

@@ -1,0 +1,170 @@
+//! Walks back along diagonals side by side, a move for each in turn.
+//!
+//! Cells beside each other in a row lie on diagonals beside each other, and their entries lie side by side in
+//! memory. One walk alone takes another line of memory for each entry. Walks that keep abreast take each line
+//! once, and in order. No walk rests on another, so the same entries are refreshed whatever their order.
+
+ghost use Rattle.std.specs.Prelude.{◌≡◌, ◌+◌, ◌*◌, ◌<◌, ◌≤◌, Bool, true, ◌||◌, Some, length};
+ghost use Rattle.std.specs.Option.{option_to_list};
+ghost use Rattle.arrayvec.specs.ArrayVec.{array_vec_len};
+ghost use Rattle.grid_moves.specs.declared.Cell.{Cell};
+ghost use Rattle.grid_moves.specs.Grid.{is_inside};
+ghost use Rattle.grid_moves.specs.Move.{is_same};
+ghost use Rattle.pruning.specs.Turns.{is_diagonal};
+ghost use Rattle.table_repair.specs.Mending.{IsRight, AreReady, FollowBut, Mends, Sweeps, either, is_in_row, span_length};
+ghost use Rattle.table_repair.specs.Abreast.{IsOnward, is_at_one};
+
+use crate::mend::cell_before;
+use crate::span::Span;
+use arrayvec::ArrayVec;
+use grid_moves::{Cell, Dir, Grid};
+use plus_tables::Tables;
+use std::sync::ledger::Ledger;
+use steps::Steps;
+
+/// A walk back, which stands at a cell whose entry is right.
+#[derive(Clone, Copy, Debug)]
+pub struct Walk {
+    pub at: Cell,
+}
+
+impl Default for Walk {
+    fn default() -> Walk {
+        Walk {
+            at: Cell { x: 0, y: 0 },
+        }
+    }
+}
+
+// Makes the entry for `d` at the cell behind a walk right; the walk from there, if the entry changed.
+#[inline(always)]
+fn walk_on<L: Ledger>(
+    tables: &mut Tables,
+    grid: &Grid,
+    walk: Walk,
+    d: Dir,
+    steps: &mut Steps<L>,
+) -> Option<Walk>
+    requires ready { AreReady grid.now tables.old d }
+    requires inside { is_inside grid.now walk.at ≡ true }
+    requires right { IsRight grid.now tables.old walk.at d }
+    ensures mends { Mends grid.now d (λ w. is_same w walk.at) tables.old tables.new
+        (length (option_to_list result)) }
+    ensures follows { (later : Cell → Bool)
+        → FollowBut grid.now tables.old d (λ w. is_same w walk.at || later w)
+        → FollowBut grid.now tables.new d (either (is_at_one (option_to_list result)) later) }
+    ensures onward { (next : Walk) → result ≡ Some next → IsOnward grid.now tables.new d walk.at next.at }
+    ensures step { steps.new ≤ steps.old + 1 }
+    ensures later { steps.old ≤ steps.new }
+{
+    if let Some(before) = cell_before(grid, d, walk.at) {
+        if tables.refresh(grid, before, d, steps) {
+            return Some(Walk { at: before });
+        }
+    }
+    None
+}
+
+// Walks back from all these cells, each as long as entries change; says how many did.
+#[inline(always)]
+fn walk_by<L: Ledger>(
+    tables: &mut Tables,
+    grid: &Grid,
+    starts: ArrayVec<Walk, 64>,
+    d: Dir,
+    steps: &mut Steps<L>,
+) -> u64
+    requires ready { AreReady grid.now tables.old d }
+    requires diagonal { is_diagonal d ≡ true }
+    requires short { length starts.items ≤ 64 }
+    requires inside { (w : Cell) → is_at_one starts.items w ≡ true → is_inside grid.now w ≡ true }
+    requires right { (w : Cell) → is_at_one starts.items w ≡ true → IsRight grid.now tables.old w d }
+    ensures mends { Mends grid.now d (is_at_one starts.items) tables.old tables.new result }
+    ensures sweeps { Sweeps grid.now d (is_at_one starts.items) tables.old tables.new }
+    ensures few { result ≤ 4096 * length starts.items }
+    ensures steps { steps.new ≤ steps.old + result + length starts.items }
+    ensures later { steps.old ≤ steps.new }
+{
+    let mut changed = 0;
+    let mut walks = starts;
+    'round: while !walks.is_empty() {
+        let mut onward = ArrayVec::<Walk, 64>::new();
+        let here = walks.as_slice();
+        for walk in here {
+            if let Some(next) = walk_on(tables, grid, *walk, d, steps) {
+                onward.push(next);
+                changed += 1;
+            }
+        }
+        walks = onward;
+    }
+    changed
+}
+
+// The same; each diagonal direction has code of its own, in which it is a constant.
+fn walk_abreast<L: Ledger>(
+    tables: &mut Tables,
+    grid: &Grid,
+    starts: ArrayVec<Walk, 64>,
+    d: Dir,
+    steps: &mut Steps<L>,
+) -> u64
+    requires ready { AreReady grid.now tables.old d }
+    requires diagonal { is_diagonal d ≡ true }
+    requires short { length starts.items ≤ 64 }
+    requires inside { (w : Cell) → is_at_one starts.items w ≡ true → is_inside grid.now w ≡ true }
+    requires right { (w : Cell) → is_at_one starts.items w ≡ true → IsRight grid.now tables.old w d }
+    ensures mends { Mends grid.now d (is_at_one starts.items) tables.old tables.new result }
+    ensures sweeps { Sweeps grid.now d (is_at_one starts.items) tables.old tables.new }
+    ensures few { result ≤ 4096 * length starts.items }
+    ensures steps { steps.new ≤ steps.old + result + length starts.items }
+    ensures later { steps.old ≤ steps.new }
+{
+    match d {
+        Dir::NE => walk_by(tables, grid, starts, Dir::NE, steps),
+        Dir::SE => walk_by(tables, grid, starts, Dir::SE, steps),
+        Dir::SW => walk_by(tables, grid, starts, Dir::SW, steps),
+        Dir::NW => walk_by(tables, grid, starts, Dir::NW, steps),
+        _ => walk_by(tables, grid, starts, d, steps),
+    }
+}
+
+// A walk at each cell of a row's piece.
+fn walks_of(y: u16, columns: Span) -> ArrayVec<Walk, 64>
+    requires some { columns.first ≤ columns.end }
+    requires few { span_length columns ≤ 64 }
+    ensures there { (w : Cell) → is_at_one result.items w ≡ is_in_row y columns w }
+    ensures length { length result.items ≡ span_length columns }
+{
+    let mut walks = ArrayVec::<Walk, 64>::new();
+    for x in columns.first..columns.end {
+        walks.push(Walk { at: Cell { x, y } });
+    }
+    walks
+}
+
+/// Makes the entries for a diagonal direction right that wait for the cells of this piece of a row, which are
+/// right; says how many changed. The piece has at most 64 columns.
+pub fn mend_abreast<L: Ledger>(
+    tables: &mut Tables,
+    grid: &Grid,
+    y: u16,
+    columns: Span,
+    d: Dir,
+    steps: &mut Steps<L>,
+) -> u64
+    requires ready { AreReady grid.now tables.old d }
+    requires diagonal { is_diagonal d ≡ true }
+    requires some { columns.first ≤ columns.end }
+    requires short { span_length columns ≤ 64 }
+    requires row { y < grid.now.height }
+    requires columns { columns.end ≤ grid.now.width }
+    requires right { (w : Cell) → is_in_row y columns w ≡ true → IsRight grid.now tables.old w d }
+    ensures mends { Mends grid.now d (is_in_row y columns) tables.old tables.new result }
+    ensures sweeps { Sweeps grid.now d (is_in_row y columns) tables.old tables.new }
+    ensures few { result ≤ 4096 * span_length columns }
+    ensures steps { steps.new ≤ steps.old + result + span_length columns }
+    ensures later { steps.old ≤ steps.new }
+{
+    walk_abreast(tables, grid, walks_of(y, columns), d, steps)
+}
