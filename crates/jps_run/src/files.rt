@@ -13,7 +13,9 @@ ghost use Rattle.map_text.specs.Faults.{plain};
 ghost use Rattle.jps_run.specs.Stops.{Ends};
 
 use crate::NoMemory;
-use crate::faults::{cert_line, large_line, long_line, map_line, scen_line, script_line, walks_line};
+use crate::faults::{
+    cert_line, large_line, long_line, map_line, scen_line, script_line, walks_line,
+};
 use crate::kind::{Extent, Kind};
 use crate::stop::Stop;
 use edit_replay::{Engine, Session};
