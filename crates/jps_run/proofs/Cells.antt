@@ -42,16 +42,16 @@ pub blocked-runs : (ls : Layers) (c s : Cell) → c ≡ s → is_on_map ls c ≡
 blocked-runs ls c s e on shut = subst (λ (k : Cell). IsRunText ls k (codes "blocked\n")) e (runs.blocked on shut)
 
 -- the lines of the boxes and of the runs of a free cell
-pub told-boxes : (ls : Layers) (s : Cell) (g : GridData) (b : CellBoxes) (text : List ℕ) → g ≡ query_grid ls s
-    → is_free_ground ls s ≡ true → AreBoxes g s b → text ≡ boxes_text b → IsBoxText ls s text
-told-boxes ls s g b text same free are is = subst (λ (t : List ℕ). IsBoxText ls s t) (sym is)
+pub told-boxes : {E : Type 0} (result : Result (Vec ℕ) E) (ls : Layers) (s : Cell) (g : GridData) (b : CellBoxes)
+    → g ≡ query_grid ls s → is_free_ground ls s ≡ true → AreBoxes g s b
+    → IfOk result (λ t. t.items ≡ boxes_text b) → IfOk result (λ t. IsBoxText ls s t.items)
+told-boxes result ls s g b same free are is = if_line result (IsBoxText ls s) (boxes_text b) is
     (boxes.told b free (subst (λ (k : GridData). AreBoxes k s b) same are))
 
-pub told-runs : (ls : Layers) (s : Cell) (g : GridData) (row : List Run) (width : ℕ) (text : List ℕ)
-    → g ≡ query_grid ls s → is_free_ground ls s ≡ true → IsRow g s row → width ≡ g.width
-    → text ≡ runs_text width row → IsRunText ls s text
-told-runs ls s g row width text same free is w e =
-    subst (λ (t : List ℕ). IsRunText ls s t) (sym e)
+pub told-runs : {E : Type 0} (result : Result (Vec ℕ) E) (ls : Layers) (s : Cell) (g : GridData) (row : List Run)
+    (width : ℕ) → g ≡ query_grid ls s → is_free_ground ls s ≡ true → IsRow g s row → width ≡ g.width
+    → IfOk result (λ t. t.items ≡ runs_text width row) → IfOk result (λ t. IsRunText ls s t.items)
+told-runs result ls s g row width same free is w e = if_line result (IsRunText ls s) (runs_text width row) e
     (subst (λ (k : ℕ). IsRunText ls s (runs_text k row)) (sym w)
     (subst (λ (k : GridData). IsRunText ls s (runs_text k.width row)) (sym same)
     (runs.told row free (subst (λ (k : GridData). IsRow k s row) same is))))

@@ -47,6 +47,7 @@ count_in (Err fault) = 0
 abbrev pub entries_in : List (List ℕ) → ℕ
 entries_in (map ∷ scen ∷ others) = count_in (scen_of scen)
 entries_in others = 0
+
 -- the kind of the maps that a call takes
 abbrev pub kind_for : Extent → Kind
 kind_for Any = Map

@@ -33,9 +33,9 @@ pub data IsRunText (ls : Layers) (s : Cell) : List ℕ → Type 0 where
 
 -- on a map of three columns, the runs that begin at the cells with the numbers 0 and 5
 pub nothing_leads : run_line 3 (record { start = 0; first = None })
-    ≡ codes "run " ++ decimal 0 ++ codes "," ++ decimal 0 ++ codes " -\n"
+    ≡ codes "run " ++ decimal 0 ++ codes "," ++ decimal 0 ++ codes " " ++ codes "-" ++ codes "\n"
 nothing_leads = refl
 
 pub east_leads : run_line 3 (record { start = 5; first = Some E })
-    ≡ codes "run " ++ decimal 2 ++ codes "," ++ decimal 1 ++ codes " E\n"
+    ≡ codes "run " ++ decimal 2 ++ codes "," ++ decimal 1 ++ codes " " ++ codes "E" ++ codes "\n"
 east_leads = refl

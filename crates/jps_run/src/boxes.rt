@@ -62,15 +62,22 @@ fn put_boxes(out: &mut Vec<u8>, boxes: CellBoxes, dirs: &[Dir]) -> Result<(), No
     Ok(())
 }
 
+// The lines of all eight boxes.
+fn lines_of(alloc: Global, boxes: CellBoxes) -> Result<Vec<u8>, NoMemory>
+    ensures { IfOk result (λ text. text.items ≡ spec.boxes_text boxes) }
+{
+    let mut text = Vec::new(alloc);
+    put_boxes(&mut text, boxes, &ALL_DIRS)?;
+    Ok(text)
+}
+
 // The lines of the boxes of a free cell, by one pass.
 fn boxes_from(alloc: Global, layers: &Layers, from: Cell) -> Result<Vec<u8>, NoMemory>
     requires { is_free_ground layers.now from ≡ true }
     ensures { IfOk result (λ text. spec.IsBoxText layers.now from text.items) }
 {
     let boxes = boxes_of(alloc, layers.query_grid(from), from)?;
-    let mut text = Vec::new(alloc);
-    put_boxes(&mut text, boxes, &ALL_DIRS)?;
-    Ok(text)
+    lines_of(alloc, boxes)
 }
 
 // What is printed of the boxes of the cell of this column and row.

@@ -1,6 +1,6 @@
 //! The texts that files hold, and the sessions on maps.
 
-ghost use Rattle.std.specs.Prelude.{◌≡◌, ◌≤◌, ℕ, List, [], ◌∷◌, Ok, IfOk, length};
+ghost use Rattle.std.specs.Prelude.{true, ◌≡◌, ◌≤◌, ℕ, List, [], ◌∷◌, Ok, IfOk, length};
 ghost use Rattle.io_edge.specs.Causes.{NoneFell};
 ghost use Rattle.io_edge.specs.Whole.{IsWhole, IsLonger};
 ghost use Rattle.jps_run.specs.FaultLines.{long_line as line_of_long};
@@ -13,7 +13,9 @@ ghost use Rattle.map_text.specs.Faults.{plain};
 ghost use Rattle.jps_run.specs.Stops.{Ends};
 
 use crate::NoMemory;
-use crate::faults::{cert_line, large_line, long_line, map_line, scen_line, script_line, walks_line};
+use crate::faults::{
+    cert_line, large_line, long_line, map_line, scen_line, script_line, walks_line,
+};
 use crate::kind::{Extent, Kind};
 use crate::stop::Stop;
 use edit_replay::{Engine, Session};

@@ -61,6 +61,16 @@ fn put_runs(out: &mut Vec<u8>, width: u16, row: &Row) -> Result<(), NoMemory>
     Ok(())
 }
 
+// The lines of all runs of a row, on a map of this width.
+fn lines_of(alloc: Global, width: u16, row: &Row) -> Result<Vec<u8>, NoMemory>
+    requires { 0 < width }
+    ensures { IfOk result (λ text. text.items ≡ spec.runs_text width row.now) }
+{
+    let mut text = Vec::new(alloc);
+    put_runs(&mut text, width, row)?;
+    Ok(text)
+}
+
 // The lines of the first moves from a free cell, by one pass.
 fn moves_from(alloc: Global, layers: &Layers, from: Cell) -> Result<Vec<u8>, NoMemory>
     requires free { is_free_ground layers.now from ≡ true }
@@ -70,9 +80,7 @@ fn moves_from(alloc: Global, layers: &Layers, from: Cell) -> Result<Vec<u8>, NoM
     let grid = layers.query_grid(from);
     let mut waves = CostWaves::new(alloc, grid.width(), grid.height())?;
     let row = Row::of(alloc, &mut waves, grid, from)?;
-    let mut text = Vec::new(alloc);
-    put_runs(&mut text, grid.width(), &row)?;
-    Ok(text)
+    lines_of(alloc, grid.width(), &row)
 }
 
 // What is printed of the first moves from the cell of this column and row.

@@ -13,6 +13,7 @@ ghost use Rattle.jps_run.specs.Sending.{SendsWhole};
 use crate::NoMemory;
 use crate::files::{OfMap, corner_of};
 use crate::job::{Job, work_items};
+use crate::kind::Extent;
 use crate::layers::Layers;
 use crate::ruling::{Counts, Ruling, put_ruling};
 use crate::scenario::has_sides;
@@ -39,8 +40,15 @@ pub(crate) struct Court {
 
 impl OfMap for Court {
     ghost use Rattle.jps_run.specs.Refereeing.{IsCourtOf};
+    ghost use Rattle.jps_run.specs.declared.kind.Extent.TheVariants.{Any};
+
+    ghost extent_of = { λ _. Any };
 
     ghost is_of_map = { IsCourtOf };
+
+    fn extent(_settings: Settings) -> Extent {
+        Extent::Any
+    }
 
     fn of_map(alloc: Global, map: MapText, settings: Settings) -> Result<Court, NoMemory> {
         let session = Session::new(alloc, &map, Engine::Block, corner_of(settings.one))?;

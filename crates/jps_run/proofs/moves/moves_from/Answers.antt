@@ -7,6 +7,6 @@ of-requires-clause-few c =
 
 pub returns : goal.returns
 returns c =
-    told-runs c.args.layers.now c.args.from c.query_grid-grid.result.now c.in_ok-row.row c.width-3.result
-    c.put_runs.new.out.items c.query_grid-grid.ensures c.requires.free c.in_ok-row.ensures.row c.width-3.ensures.is
-    c.in_ok-put_runs.ensures
+    told-runs c.lines_of.result c.args.layers.now c.args.from c.query_grid-grid.result.now c.in_ok-row.row
+    c.width-2.result c.query_grid-grid.ensures c.requires.free c.in_ok-row.ensures.row c.width-2.ensures.is
+    c.lines_of.ensures
