@@ -89,7 +89,7 @@ fn sweep_abreast<L: Ledger>(
 }
 
 // Makes the entries for `d` right that wait for the cells of this row and these columns; says how many
-// changed.
+// changed. Fewer than eight walks share too few lines of memory to be led side by side.
 fn sweep_row<L: Ledger>(
     tables: &mut Tables,
     grid: &Grid,
@@ -108,7 +108,8 @@ fn sweep_row<L: Ledger>(
     ensures steps { steps.new ≤ steps.old + result + span_length columns }
     ensures later { steps.old ≤ steps.new }
 {
-    if is_diagonal(d) {
+    let many = columns.end >= 8 && columns.first <= columns.end - 8;
+    if is_diagonal(d) && many {
         sweep_abreast(tables, grid, y, columns, d, steps)
     } else {
         sweep_one_by_one(tables, grid, y, columns, d, steps)
