@@ -1,12 +1,17 @@
-use Rattle.std.proofs.Common.{subst}
+use Rattle.std.proofs.Common.{◌≡◌, true, [], subst}
 use Rattle.map_text.specs.Faults.{plain}
 use Rattle.jps_run.specs.Files.{IsAccepted, IsRefused}
-use Rattle.jps_run.specs.Kinds.{kind_for}
+use Rattle.jps_run.specs.Kinds.{kind_for, takes}
 use Rattle.jps_run.specs.Reading.{IsMade, IsRead, read_stops}
 use Rattle.jps_run.specs.Stops.{StopsSo}
 use Rattle.jps_run.specs.declared.kind.Extent.{Extent}
 use Rattle.jps_run.proofs.Stopping.{passed, follow-same}
 use Rattle.jps_run.proofs.files.read_map_file.Goals as goal
+
+pub of_map-requires : goal.of_map-requires
+of_map-requires g c =
+    subst (λ (e : Extent). takes e (plain c.in_ok-map.map) ≡ true) c.extent-extent.ensures
+    (c.in_ok-map.ensures.read [] tt).spelled.1
 
 pub returns-in_err-map-clause-read : goal.returns-in_err-map-clause-read
 returns-in_err-map-clause-read g c = λ earlier behind.
