@@ -5,6 +5,8 @@
 mod ample_tests;
 mod answers;
 mod boxes;
+#[cfg(test)]
+mod cells_tests;
 mod check;
 mod costs;
 #[cfg(test)]
