@@ -2,7 +2,7 @@
 use Rattle.std.specs.Prelude.{◌≡◌, ℕ, Bool, true, false, List, [], ◌∷◌, codes, refl, Option, Some, None}
 use Rattle.text_line.specs.LongNumbers.{long_number_of}
 use Rattle.text_line.specs.Numbers.{number_of}
-use Rattle.word_list.specs.declared.request.Pick.TheVariants.{Plain, Jps, Boxes, Moves}
+use Rattle.word_list.specs.declared.request.Pick.TheVariants.{Plain, Jps}
 use Rattle.word_list.specs.declared.request.Show.{Show}
 use Rattle.word_list.specs.declared.request.Show.TheVariants.{Points, Cells, Trace, Taken}
 use Rattle.word_list.specs.Request.{Call, Help, Query, Solve, Scen, Judge, Make}
@@ -36,20 +36,10 @@ pub no_engine : query_with (codes "engine=jsp" ∷ []) ≡ None
 unfolding number_of
 no_engine = refl
 
--- engines of small maps: for one query or a scenario, without edits; first moves have no trace, in either order
-pub boxed : query_with (codes "show=trace" ∷ codes "engine=boxes" ∷ []) ≡ Some (record {
-  request = Query (codes "m") 0 0 2 2;
-  settings = record { pick = Boxes; show = Trace; one = false };
-})
+-- no command takes an engine of small maps yet
+pub boxed : query_with (codes "engine=boxes" ∷ []) ≡ None
 unfolding number_of
 boxed = refl
-
-pub followed : call_of (codes "scen" ∷ codes "m" ∷ codes "s" ∷ codes "engine=moves" ∷ codes "rule=one" ∷ [])
-    ≡ Some (record {
-      request = Scen (codes "m") (codes "s");
-      settings = record { pick = Moves; show = Points; one = true };
-    })
-followed = refl
 
 pub boxed_edits : call_of (codes "solve" ∷ codes "m" ∷ codes "s" ∷ codes "engine=boxes" ∷ []) ≡ None
 boxed_edits = refl

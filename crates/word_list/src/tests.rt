@@ -28,10 +28,10 @@ fn the_first_word_of_no_call_is_named(rt: HostRuntime) -> Result<(), Fail> {
         ("query m 0 0 2 2 engine=jps engine=plain", 8),
         ("query m 0 0 2 2 engine=plain show=cells engine=plain", 9),
         ("query m engine=plain 0 0 2 2", 3),
-        ("query m 0 0 1 1 engine=moves show=trace", 8),
+        ("query m 0 0 1 1 engine=moves show=trace", 7),
         ("query m 0 0 1 1 show=trace engine=moves", 8),
         ("query m 0 0 1 1 show=trace rule=one engine=moves", 9),
-        ("query m 0 0 1 1 engine=boxes engine=moves", 8),
+        ("query m 0 0 1 1 engine=boxes engine=moves", 7),
         ("draw m 0 0 2 2 engine=boxes", 7),
         ("solve m s engine=moves", 4),
         ("live m engine=boxes", 3),
@@ -54,7 +54,7 @@ fn the_first_word_of_no_call_is_named(rt: HostRuntime) -> Result<(), Fail> {
         ("scen m", 3),
         ("scen m s show=points engine=plain", 4),
         ("scen m s show=taken show=taken", 5),
-        ("scen m s engine=moves show=taken", 5),
+        ("scen m s engine=moves show=taken", 4),
         ("scen m s show=taken rule=one engine=moves", 6),
         ("query m 0 0 2 2 show=taken", 7),
         ("draw m 0 0 2 2 show=taken", 7),
@@ -140,23 +140,8 @@ fn a_map_stands_before_its_script_or_scenario(rt: HostRuntime) -> Result<(), Fai
 }
 
 #[test]
-fn a_query_or_a_scenario_may_pick_an_engine_of_small_maps(rt: HostRuntime) -> Result<(), Fail> {
-    let words = words_of(rt.alloc(), "query m 0 0 3 1 engine=boxes show=trace")?;
-    let boxed = read_words(&words);
-    assert!(rt;
-        matches!(
-            boxed,
-            Ok((
-                Request::Query { gx: 3, gy: 1, .. },
-                Settings {
-                    pick: Pick::Boxes,
-                    show: Show::Trace,
-                    ..
-                }
-            ))
-        )
-    );
-    let words = words_of(rt.alloc(), "scen m s engine=boxes show=taken")?;
+fn rows_may_tell_counts(rt: HostRuntime) -> Result<(), Fail> {
+    let words = words_of(rt.alloc(), "scen m s engine=jps show=taken")?;
     let scen = read_words(&words);
     assert!(rt;
         matches!(
@@ -164,7 +149,7 @@ fn a_query_or_a_scenario_may_pick_an_engine_of_small_maps(rt: HostRuntime) -> Re
             Ok((
                 Request::Scen { .. },
                 Settings {
-                    pick: Pick::Boxes,
+                    pick: Pick::Jps,
                     show: Show::Taken,
                     ..
                 }
