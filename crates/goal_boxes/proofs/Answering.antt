@@ -14,13 +14,13 @@ use Rattle.best_first.specs.State.{start_at}
 use Rattle.best_first.specs.Progress.{numbers_of}
 use Rattle.best_first.proofs.Ending.{has_ended_run}
 use Rattle.goal_boxes.specs.Answer.{IsFound, IsExhausted, cells_to}
+use Rattle.goal_boxes.specs.Box.{BoxTeller, TellsBoxes}
 use Rattle.goal_boxes.specs.Existence.{HasAnswer}
 use Rattle.goal_boxes.specs.Rule.{boxed_links, boxed_rule}
-use Rattle.goal_boxes.specs.Stored.{BoxData, HoldsBoxes}
 use Rattle.goal_boxes.proofs.Moves.{boxed_are_links, boxed_move}
 use Rattle.goal_boxes.proofs.Right.{exhausted_none, found_least}
 
-module _ (g : GridData) (b : BoxData) (s t : Cell) where
+module _ (g : GridData) (b : BoxTeller) (s t : Cell) where
   -- a run that took a goal has it last
   goal_last : (x : Taken State) (earlier : List (Taken State))
       → IsRun (boxed_rule g b t) (start_at s) (x ∷ earlier) → has_goal (boxed_rule g b t) (x ∷ earlier) ≡ true
@@ -46,7 +46,7 @@ module _ (g : GridData) (b : BoxData) (s t : Cell) where
           (record { cost = x.cost; from = x.parent }) is.2.offered in
           (boxed_move g b t f.by.state x.state f.offered.step f.offered.linked).plain
 
-  module _ (boxes : HoldsBoxes g b) (free : is_free g s ≡ true) where
+  module _ (boxes : TellsBoxes g b) (free : is_free g s ≡ true) where
     -- the answer of a run that took the goal
     answer_found : (x : Taken State) (earlier : List (Taken State))
         → IsRun (boxed_rule g b t) (start_at s) (x ∷ earlier) → has_goal (boxed_rule g b t) (x ∷ earlier) ≡ true
@@ -91,7 +91,7 @@ module _ (g : GridData) (b : BoxData) (s t : Cell) where
     by_end (x ∷ earlier) is (inr none) false h = answer_none (x ∷ earlier) is h none
 
 -- the run from a free cell ends, and so there is an answer
-pub has_answer : (g : GridData) (b : BoxData) (s t : Cell) → HoldsBoxes g b → is_free g s ≡ true
+pub has_answer : (g : GridData) (b : BoxTeller) (s t : Cell) → TellsBoxes g b → is_free g s ≡ true
     → HasAnswer g b s t
 has_answer g b s t boxes free =
     let e : HasEndedRun (boxed_rule g b t) (start_at s) =

@@ -22,15 +22,15 @@ use Rattle.best_first.proofs.Progress.{has_begun, next_taken, exhausted, taken_f
 use Rattle.best_first.proofs.Ways.{offers_after}
 use Rattle.plain_search.specs.Room.{IsReady}
 use Rattle.goal_boxes.specs.Answer.{IsFound, IsExhausted}
+use Rattle.goal_boxes.specs.Box.{BoxTeller}
 use Rattle.goal_boxes.specs.Offers.{ways_over, MayExpand, HasExpanded}
 use Rattle.goal_boxes.specs.Progress.{HasTaken}
 use Rattle.goal_boxes.specs.Rule.{boxed_rule, boxed_links}
-use Rattle.goal_boxes.specs.Stored.{BoxData}
 use Rattle.goal_boxes.proofs.Offering.{may_expand, all_over, are_links, enough}
 use Rattle.goal_boxes.proofs.Posed.{fit, run_free}
 use Rattle.std.proofs.Common.{inl}
 
-module _ (g : GridData) (b : BoxData) (s t : Cell) (whole : IsGrid g) (from : is_free g s ≡ true)
+module _ (g : GridData) (b : BoxTeller) (s t : Cell) (whole : IsGrid g) (from : is_free g s ≡ true)
     (to : is_free g t ≡ true) where
   -- at the start
   pub begins : (k : Table) (taken : List ℕ) → k ≡ begun t s → taken ≡ state_number g.width (start_at s) ∷ []
