@@ -3,13 +3,14 @@ use Rattle.std.specs.Prelude.{◌≡◌, Bool, false, nat_eq, ◌&&◌, Option, 
 use Rattle.cost_waves.specs.Told.{WaveData, Tells, cost_at}
 use Rattle.grid_moves.specs.declared.Cell.{Cell}
 use Rattle.grid_moves.specs.declared.Dir.{Dir}
-use Rattle.grid_moves.specs.Grid.{GridData}
+use Rattle.grid_moves.specs.Grid.{GridData, AreSides}
 use Rattle.grid_moves.specs.Move.{legal_ahead, move_cost}
 use Rattle.root2_cost.specs.declared.Cost.{Cost}
 use Rattle.root2_cost.specs.Sums.{add_costs}
 
 -- what waves keep of a pass from the goal
 pub record IsPassFrom (g : GridData) (goal : Cell) (w : WaveData) : Type 0 where
+  pub sides : AreSides g.width g.height
   pub width : w.width ≡ g.width
   pub height : w.height ≡ g.height
   pub tells : Tells g goal w

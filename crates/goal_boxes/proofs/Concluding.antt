@@ -54,6 +54,13 @@ module _ (g : GridData) (b : BoxTeller) (s t : Cell) (whole : IsGrid g) (from : 
     cell : h.last.state.cell ≡ node_cell h.searching.node
     cell = ap (λ (u : State). u.cell) (sym h.searching.state)
 
+    -- which is a free cell's
+    pub taken_free : (n : Node) → slice_get k.nodes at ≡ Some n → is_free g (node_cell n) ≡ true
+    taken_free n read =
+        let one : h.searching.node ≡ n = some_node h.searching.node n (sym h.searching.node_is ∙ read) in
+        ap (λ (m : Node). is_free g (node_cell m)) (sym one) ∙ ap (λ (u : Cell). is_free g u) (sym cell)
+        ∙ (run_free g b s t whole from to (h.last ∷ h.earlier) h.searching.run h.last (here h.earlier)).0
+
     -- after the offers
     module _ (later : Table) (open_ended : (n : Node) → slice_get k.nodes at ≡ Some n
         → is_same (node_cell n) t ≡ false) (expanded : (n : Node) → slice_get k.nodes at ≡ Some n

@@ -43,7 +43,7 @@ box_holds g u t d None none w = absurd (none t w)
 box_holds g u t d (Some a) box w = box.all t w
 
 -- after its first move a least walk goes on as one
-rest_is_least : (g : GridData) (u v t : Cell) (cells : List Cell) → IsLeastWalk g u t (v ∷ cells)
+pub rest_is_least : (g : GridData) (u v t : Cell) (cells : List Cell) → IsLeastWalk g u t (v ∷ cells)
     → IsLeastWalk g v t cells
 rest_is_least g u v t cells w =
     let parts = and_both (is_legal g u v) (is_walk g (v ∷ cells)) w.walk.legal in
@@ -79,11 +79,11 @@ record HasWay (g : GridData) (b : BoxTeller) (t s : Cell) (run : List (Taken Sta
   pub goes : Goes g s v.cell cells cost
 
 -- least costs of walks are no matter of the run: where a walk leads, a least one does
-data HasLeastWalk (g : GridData) (s t : Cell) : Type 0 where
+pub data HasLeastWalk (g : GridData) (s t : Cell) : Type 0 where
   by_walk : (cells : List Cell) → IsLeastWalk g s t cells → HasLeastWalk g s t
   by_none : NoWalk g s t → HasLeastWalk g s t
 
-least_or_none : (g : GridData) (s t : Cell) → is_free g s ≡ true → HasLeastWalk g s t
+pub least_or_none : (g : GridData) (s t : Cell) → is_free g s ≡ true → HasLeastWalk g s t
 least_or_none g s t free = let a = has_answer g s t free in by_answer a.answer a.least
   where
     by_answer : (p : Plain) → IsLeast g s t p → HasLeastWalk g s t

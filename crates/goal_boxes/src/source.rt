@@ -43,6 +43,7 @@ pub(crate) trait BoxSource {
 }
 
 /// Boxes that are kept for all cells. No pass is made.
+#[derive(Drop)]
 pub(crate) struct Kept<'a> {
     pub(crate) boxes: &'a Boxes,
 }

@@ -8,7 +8,7 @@ use Rattle.goal_boxes.proofs.boxed.run.Goals as goal
 pub taking-smaller : goal.taking-smaller
 taking-smaller g c =
     let grid = g.T.Terrain.grid c.args.t.now in
-    let b = c.args.b.now in
+    let b = g.K.Meant.boxes in
     let taken = subst (λ (o : Option ℕ). GoesOn grid b c.args.ends.from c.args.ends.to c.advance.new.space.table
     c.advance.new.taken o) c.in-Some.is c.in_ok-next.ensures.goes_on in
     let most = fits grid b c.args.ends.from c.args.ends.to c.begin.ensures.whole c.requires.from c.requires.to
@@ -21,7 +21,7 @@ taking-smaller g c =
 pub returns-in-None-clause-least : goal.returns-in-None-clause-least
 returns-in-None-clause-least g c =
     let grid = g.T.Terrain.grid c.args.t.now in
-    let b = c.args.b.now in
+    let b = g.K.Meant.boxes in
     exhausted_none grid b c.args.ends.to c.requires.boxes c.args.ends.from c.requires.from c.advance.new.taken
     (subst (λ (o : Option ℕ). GoesOn grid b c.args.ends.from c.args.ends.to c.advance.new.space.table
     c.advance.new.taken o) c.in-None.is c.in_ok-next.ensures.goes_on)
