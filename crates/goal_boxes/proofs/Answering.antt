@@ -23,7 +23,7 @@ use Rattle.goal_boxes.proofs.Moves.{boxed_are_links, boxed_move}
 use Rattle.goal_boxes.proofs.Right.{exhausted_none, found_least}
 
 -- an answer that is right and that of the run by these boxes
-record HasRunBy (g : GridData) (b : BoxTeller) (s t : Cell) : Type 0 where
+pub record HasRunBy (g : GridData) (b : BoxTeller) (s t : Cell) : Type 0 where
   pub answer : Boxed
   pub run : IsRunBy g b s t answer
   pub least : IsLeast g s t answer

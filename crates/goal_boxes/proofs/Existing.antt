@@ -1,19 +1,21 @@
 -- Each free cell has its boxes, apart from the code that finds them.
-use Rattle.std.proofs.Common.{◌≡◌, ◌≤◌, ◌<◌, ◌+◌, ◌⊎◌, inl, inr, ℕ, zero, suc, Bool, true, false, refl, ap, sym, ◌∙◌, subst, arith, List, [], ◌∷◌}
-use Rattle.std.specs.Prelude.{nat_lt, Option, Some, None}
-use Rattle.std.proofs.lemmas.Bool.Decides.{nat_tests}
+use Rattle.std.proofs.Common.{◌≡◌, ◌≤◌, ◌<◌, ◌+◌, ◌⊎◌, inl, inr, ℕ, zero, suc, Bool, true, false, refl, ap, sym, ◌∙◌, subst, arith, List, ◌∷◌}
+use Rattle.std.specs.Prelude.{Option, Some, None, IfOk, Ok, Err}
+use Rattle.std.specs.declared.result.Result.{Result}
 use Rattle.root2_cost.proofs.AtMost.{IsAtMost-or_more, IsAtMost-not_more, IsAtMost-trans}
 use Rattle.root2_cost.proofs.Sums.{IsAtMost-add_left}
 use Rattle.grid_moves.specs.declared.Cell.{Cell}
 use Rattle.grid_moves.specs.declared.Dir.{Dir}
-use Rattle.grid_moves.specs.Grid.{GridData, is_free, is_inside}
-use Rattle.grid_moves.specs.Move.{is_legal, legal_ahead, move_cost}
-use Rattle.grid_moves.specs.Walk.{IsLeastWalk, NoWalk, cost_of}
+use Rattle.grid_moves.specs.Grid.{GridData, is_free}
+use Rattle.grid_moves.specs.Move.{legal_ahead, move_cost}
+use Rattle.grid_moves.specs.Walk.{IsLeastWalk, cost_of}
 use Rattle.grid_moves.proofs.Ahead.{legal_ahead-is}
 use Rattle.grid_moves.proofs.Legal.{free_inside, legal_is}
 use Rattle.cost_waves.specs.Begin.{Begins}
 use Rattle.goal_boxes.specs.declared.area.Area.{Area}
 use Rattle.goal_boxes.specs.declared.around.CellBoxes.{CellBoxes}
+use Rattle.goal_boxes.specs.declared.boxed.Boxed.{Boxed}
+use Rattle.goal_boxes.specs.Answer.{IsRunBy, IsBoxedRunOn}
 use Rattle.goal_boxes.specs.Box.{IsWithin, IsAreaOf, IsBox, AreBoxes, BoxTeller, TellsBoxes, box_in}
 use Rattle.goal_boxes.specs.Offers.{Agree}
 use Rattle.goal_boxes.specs.Stored.{BoxData, box_at, HoldsBoxes}
@@ -58,12 +60,12 @@ begins_or_not g u d free t = by_ahead (legal_ahead g u d) refl
             };
           })
           | inr more ↦ inr (λ b.
-            let o = goes_over g u v t d e b in
-            IsAtMost-not_more (cost_of (u ∷ v ∷ rest)) (cost_of (u ∷ cells))
-            (IsAtMost-trans (cost_of (u ∷ v ∷ rest)) (cost_of (u ∷ v ∷ o.cells)) (cost_of (u ∷ cells))
-            (IsAtMost-add_left (move_cost u v) (cost_of (v ∷ rest)) (cost_of (v ∷ o.cells))
-            (m.least o.cells (rest_is_least g u v t o.cells o.least).walk))
-            (o.least.least cells l.walk)) more)
+              let o = goes_over g u v t d e b in
+              IsAtMost-not_more (cost_of (u ∷ v ∷ rest)) (cost_of (u ∷ cells))
+              (IsAtMost-trans (cost_of (u ∷ v ∷ rest)) (cost_of (u ∷ v ∷ o.cells)) (cost_of (u ∷ cells))
+              (IsAtMost-add_left (move_cost u v) (cost_of (v ∷ rest)) (cost_of (v ∷ o.cells))
+              (m.least o.cells (rest_is_least g u v t o.cells o.least).walk))
+              (o.least.least cells l.walk)) more)
         ]
 
     by_ahead : (o : Option Cell) → legal_ahead g u d ≡ o → (Begins g u t d) ⊎ (Begins g u t d → ⊥)
@@ -162,3 +164,9 @@ agree g box tells u free boxes are =
 -- boxes that are kept tell those of the grid
 pub kept_tell : (g : GridData) (b : BoxData) → HoldsBoxes g b → TellsBoxes g (box_at b)
 kept_tell g b h = record { boxes = λ c f d. h.boxes c f d }
+
+-- and a run by such boxes is the grid's
+pub ran_on_grid : {E : Type 0} (g : GridData) (box : BoxTeller) (s t : Cell) (r : Result Boxed E) → TellsBoxes g box
+    → IfOk r (IsRunBy g box s t) → IfOk r (IsBoxedRunOn g s t)
+ran_on_grid g box s t (Ok found) tells run = record { box = box; tells = tells; run = run }
+ran_on_grid g box s t (Err fault) tells run = tt

@@ -88,7 +88,17 @@ fn moves_away_from_the_goal_are_left_out(rt: HostRuntime) -> Result<(), Fail> {
     let points = [cell(0, 0), cell(0, 2), cell(3, 2), cell(3, 1)];
     let walk = Some((points.as_slice(), Cost { a: 6, b: 0 }));
     let states = [8, 44, 80, 89, 98, 107, 71];
-    assert!(rt; is_answer::<Brand>(rt.alloc(), &grid, cell(0, 0), cell(3, 1), walk, &states, Blank::new(1))?);
+    assert!(rt;
+        is_answer::<Brand>(
+            rt.alloc(),
+            &grid,
+            cell(0, 0),
+            cell(3, 1),
+            walk,
+            &states,
+            Blank::new(1)
+        )?
+    );
     Ok(())
 }
 
@@ -100,6 +110,16 @@ fn no_walk_leads_past_two_corners(rt: HostRuntime) -> Result<(), Fail> {
     assert!(rt; boxes.width() == 2);
     assert!(rt; boxes.height() == 2);
     assert!(rt; boxes.area(Cell { x: 0, y: 0 }, Dir::SE) == None);
-    assert!(rt; is_answer::<Brand>(rt.alloc(), &grid, cell(0, 0), cell(1, 1), None, &[8], Blank::new(1))?);
+    assert!(rt;
+        is_answer::<Brand>(
+            rt.alloc(),
+            &grid,
+            cell(0, 0),
+            cell(1, 1),
+            None,
+            &[8],
+            Blank::new(1)
+        )?
+    );
     Ok(())
 }
