@@ -1,4 +1,4 @@
-use Rattle.std.proofs.Common.{◌≡◌, ◌≤◌, ◌<◌, ◌+◌, ◌-◌, ◌∙◌, List, ℕ, drop, flat_map, length, subst, take, arith}
+use Rattle.std.proofs.Common.{◌≡◌, ◌<◌, ◌+◌, ◌-◌, ◌∙◌, List, ℕ, drop, flat_map, length, subst, take, arith}
 use Rattle.std.specs.Prelude.{min}
 use Rattle.table_file.specs.Encoding.{entry_bytes}
 use Rattle.jps_run.specs.Encoded.{IsWritten}

@@ -1,5 +1,4 @@
-use Rattle.std.proofs.Common.{◌≡◌, ◌++◌, refl, sym, ◌∙◌, subst, flat_map, List, [], ◌∷◌, ℕ}
-use Rattle.std.specs.List.{concat}
+use Rattle.std.proofs.Common.{◌≡◌, ◌++◌, refl, sym, subst, flat_map, List, [], ◌∷◌, ℕ}
 use Rattle.std.proofs.lemmas.List.{append-nil}
 use Rattle.io_edge.specs.Told.{Outflow}
 use Rattle.io_edge.specs.Whole.{AppendsSome}

@@ -1,5 +1,4 @@
 use Rattle.std.proofs.Common.{◌≡◌, refl, sym, ap, ◌∙◌, subst, inl, List, [], ◌∷◌, ℕ, ◌≤◌, arith}
-use Rattle.grid_moves.specs.Grid.{GridData}
 use Rattle.grid_moves.specs.Layers.{Layers, layers_of}
 use Rattle.map_text.specs.Faults.{map_of}
 use Rattle.map_text.specs.Map.{Map}
