@@ -23,3 +23,4 @@ pub mod Pictured
 pub mod Waved
 pub mod Refereed
 pub mod Cells
+pub mod Encoding

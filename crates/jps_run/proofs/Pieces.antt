@@ -36,7 +36,7 @@ take-all x y =
     ∙ append-nil x
 
 -- a part of the first bytes is a part of them all
-part-more : (a b : Option (List ℕ)) (x y : List ℕ) → AppendsSome a b x → AppendsSome a b (x ++ y)
+pub part-more : (a b : Option (List ℕ)) (x y : List ℕ) → AppendsSome a b x → AppendsSome a b (x ++ y)
 part-more a b x y s = (
   s.0,
   (let e : length (x ++ y) ≡ length x + length y = length-append x y in let h : s.0 ≤ length x = s.1 in
@@ -44,7 +44,7 @@ part-more a b x y s = (
   subst (λ (l : List ℕ). Appends a b l) (sym (take-append-le s.0 x y s.1)) s.2,
 )
 
-appends-part : (a b c : Option (List ℕ)) (x y : List ℕ) → Appends a b x → AppendsSome b c y
+pub appends-part : (a b c : Option (List ℕ)) (x y : List ℕ) → Appends a b x → AppendsSome b c y
     → AppendsSome a c (x ++ y)
 appends-part a b c x y f s = (
   length x + s.0,

@@ -35,3 +35,4 @@ pub mod Rulings
 pub mod Refereeing
 pub mod BoxLines
 pub mod RunLines
+pub mod Encoded

@@ -7,6 +7,7 @@ use Rattle.word_list.specs.Request.{Call}
 use Rattle.jps_run.specs.Answering.{IsSolved}
 use Rattle.jps_run.specs.Counting.{CommandsTake, EntriesTake, RoseBy, RoseFor, searches}
 use Rattle.jps_run.specs.Drilling.{IsDrilled, sums_of}
+use Rattle.jps_run.specs.Encoded.{IsEncoded}
 use Rattle.jps_run.specs.Files.{AreAccepted, File, FileRose, HasRefused}
 use Rattle.jps_run.specs.Heard.{OnLive}
 use Rattle.jps_run.specs.Judging.{IsJudged}
@@ -36,6 +37,7 @@ IsWhole (work.Drill session commands) = IsDrilled (record { session = session; s
 IsWhole (work.Draw canvas ends show) =
     IsPictured canvas (record { x = ends.sx; y = ends.sy }) (record { x = ends.gx; y = ends.gy }) show
 IsWhole (work.Tell job rows) = AreTold job rows.items
+IsWhole (work.Encode file) = IsEncoded file
 IsWhole (work.Print text status) = IsText text.items status
 IsWhole (work.Say text) = IsText text.now 0
 
@@ -48,10 +50,12 @@ HasRisen (work.Drill session commands) old new = RoseBy session (CommandsTake se
 HasRisen (work.Draw canvas ends show) old new = RoseBy canvas.session
     (CommandsTake canvas.session (command.Query ends.sx ends.sy ends.gx ends.gy ∷ [])) old new
 HasRisen (work.Tell job rows) old new = ⊤
+HasRisen (work.Encode file) old new = ⊤
 HasRisen (work.Print text status) old new = ⊤
 HasRisen (work.Say text) old new = ⊤
 
--- the work can be done: the lengths of entries can be judged, and the sums of a drill have room
+-- the work can be done: the lengths of entries can be judged, the sums of a drill have room, and so has a piece of a
+-- table file
 abbrev pub CanPerform : Work → Type 0
 CanPerform (work.Answer job commands) = ⊤
 CanPerform (work.Judge session show entries) = AreKept entries.items
@@ -59,6 +63,7 @@ CanPerform (work.Referee job entries) = IsReady job (length entries.items)
 CanPerform (work.Drill session commands) = length commands.items ≤ 2 ^ 32
 CanPerform (work.Draw canvas ends show) = ⊤
 CanPerform (work.Tell job rows) = ⊤
+CanPerform (work.Encode file) = length file.room.items ≡ 65536
 CanPerform (work.Print text status) = ⊤
 CanPerform (work.Say text) = ⊤
 

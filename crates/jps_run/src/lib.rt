@@ -15,6 +15,7 @@ mod draw;
 #[cfg(test)]
 mod draw_tests;
 mod drill;
+mod encoded;
 mod faults;
 mod files;
 mod job;

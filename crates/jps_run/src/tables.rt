@@ -1,12 +1,13 @@
 //! The command `tables`: the tables of a map as bytes, for other programs.
 
-ghost use Rattle.std.specs.Prelude.{◌≡◌, IfOk};
-ghost use Rattle.table_file.specs.Encoding.{AreOfOneMap, encoding};
+ghost use Rattle.std.specs.Prelude.{◌≡◌, IfOk, length};
+ghost use Rattle.plus_tables.specs.Tables.{AreTablesOf};
 ghost use Rattle.word_list.specs.Request as asked;
 ghost use Rattle.jps_run.specs.Calls.{call_with};
 ghost use Rattle.jps_run.specs.Opened.{OpensWork};
 
 use crate::NoMemory;
+use crate::encoded::{ROOM, TableFile};
 use crate::files::open_one;
 use crate::layers::Layers;
 use crate::stop::Stop;
@@ -15,23 +16,24 @@ use grid_moves::Terrain;
 use io_edge::Files;
 use plus_tables::Tables;
 use std::alloc::Global;
-use table_file::write_tables;
 use word_list::Settings;
 
-// The table file of two grids of one map. Of a map of 4096 by 4096 it and the tables take 1.1 GB.
-fn table_text(alloc: Global, layers: &Layers) -> Result<Vec<u8>, NoMemory>
-    requires { AreOfOneMap layers.now.land layers.now.water }
-    ensures { IfOk result (λ text.
-        text.items ≡ encoding layers.now.land.corner layers.now.land layers.now.water) }
+// The tables of two grids, and room for a piece of their file. Of a map of 4096 by 4096 they take 0.54 GB.
+fn file_of(alloc: Global, layers: &Layers) -> Result<TableFile, NoMemory>
+    ensures land { IfOk result (λ file. AreTablesOf file.land layers.now.land) }
+    ensures water { IfOk result (λ file. AreTablesOf file.water layers.now.water) }
+    ensures corner { IfOk result (λ file. file.corner ≡ layers.now.land.corner) }
+    ensures room { IfOk result (λ file. length file.room.items ≡ 65536) }
 {
-    let land = Tables::build(alloc, layers.land())?;
-    let water = Tables::build(alloc, layers.water())?;
-    let mut text = Vec::new(alloc);
-    write_tables(&land, &water, layers.land().corner(), &mut text)?;
-    Ok(text)
+    Ok(TableFile {
+        land: Tables::build(alloc, layers.land())?,
+        water: Tables::build(alloc, layers.water())?,
+        corner: layers.land().corner(),
+        room: vec![in alloc; 0u8; ROOM]?,
+    })
 }
 
-/// Makes the table file of a map.
+/// Makes the tables of a map, and opens their file.
 pub(crate) fn tables<F: Files>(
     alloc: Global,
     files: &mut F,
@@ -43,6 +45,6 @@ pub(crate) fn tables<F: Files>(
     ensures unchanged { (F.disk files.new).holds ≡ (F.disk files.old).holds }
 {
     let layers: Layers = open_one(alloc, files, map, settings)?;
-    let text = table_text(alloc, &layers)?;
-    Ok(Work::Print { text, status: 0 })
+    let file = file_of(alloc, &layers)?;
+    Ok(Work::Encode(file))
 }

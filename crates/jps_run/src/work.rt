@@ -12,6 +12,7 @@ use crate::answers::{Answers, write_answers};
 use crate::costs::{Distances, write_costs};
 use crate::draw::{Canvas, write_drawing};
 use crate::drill::write_sums;
+use crate::encoded::{TableFile, write_file};
 use crate::query::Ends;
 use crate::referee::{Referee, write_rulings};
 use crate::scenario::write_rows;
@@ -61,6 +62,8 @@ pub(crate) enum Work {
         job: Distances,
         rows: Vec<u16>,
     },
+    /// The tables of a map are told as a table file.
+    Encode(TableFile),
     /// A text that was made whole, and the status.
     Print {
         text: Vec<u8>,
@@ -110,6 +113,7 @@ pub(crate) fn perform<O: Sink, L: Ledger>(
             show,
         } => write_drawing(alloc, &mut canvas, ends, show, out, steps),
         Work::Tell { mut job, rows } => write_costs(alloc, &mut job, rows.as_slice(), out, steps),
+        Work::Encode(mut file) => write_file(&mut file, out),
         Work::Print { text, status } => send_text(out, text.as_slice(), status),
         Work::Say(text) => send_text(out, text, 0),
     }

@@ -34,7 +34,7 @@ pub(crate) fn entry_bytes(entry: i16) -> [u8; 2]
 }
 
 /// The first bytes of a file: its name, the corner rule and the sides.
-pub(crate) fn head_bytes(corner: Corner, width: u16, height: u16) -> [u8; 13]
+pub fn head_bytes(corner: Corner, width: u16, height: u16) -> [u8; 13]
     ensures { result ≡ spec.head_bytes corner width height }
 {
     let rule = corner_byte(corner);

@@ -21,10 +21,11 @@ mod fault;
 mod loading;
 mod writing;
 
+pub use encoding::head_bytes;
 pub use fault::TableFault;
 pub use loading::load;
 pub use std::alloc::AllocError as NoMemory;
-pub use writing::write_tables;
+pub use writing::{fill_entries, write_tables};
 
 #[cfg(test)]
 mod tests;

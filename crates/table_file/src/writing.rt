@@ -96,10 +96,20 @@ fn cell_bytes(cell: &[i16]) -> [u8; 16]
     ensures { result ≡ flat_map spec.entry_bytes cell.now }
 {
     let mut bytes = [0; 16];
-    for (at, entry) in cell.iter().enumerate() {
+    fill_entries(cell, &mut bytes[..]);
+    bytes
+}
+
+/// Fills the bytes with those of the entries, two for each: for who writes a file in pieces. A file is its head
+/// (`head_bytes`), the entries of the land grid's tables, and those of the water grid's.
+#[inline(always)]
+pub fn fill_entries(entries: &[i16], bytes: &mut [u8])
+    requires { length bytes.old ≡ 2 * length entries.now }
+    ensures { bytes.new ≡ flat_map spec.entry_bytes entries.now }
+{
+    for (at, entry) in entries.iter().enumerate() {
         let [low, high] = entry_bytes(*entry);
         bytes[2 * at] = low;
         bytes[2 * at + 1] = high;
     }
-    bytes
 }

@@ -1,31 +1,60 @@
-use Rattle.std.proofs.Common.{◌≡◌, refl, sym, ap, ◌∙◌, subst, inl, List, [], ◌∷◌, ℕ, arith}
-use Rattle.grid_moves.specs.Layers.{Layers}
+use Rattle.std.proofs.Common.{◌≡◌, refl, sym, ap, ◌∙◌, subst, inl, List, [], ◌∷◌, ℕ, ◌≤◌, arith}
+use Rattle.grid_moves.specs.Layers.{Layers, layers_of}
+use Rattle.map_text.specs.Faults.{map_of}
+use Rattle.map_text.specs.Map.{Map}
+use Rattle.plus_tables.specs.Tables.{AreTablesOf}
+use Rattle.std.specs.Prelude.{Ok}
+use Rattle.table_file.proofs.Laws.{file_is}
 use Rattle.table_file.specs.Encoding.{encoding}
+use Rattle.table_file.specs.Written.{file_of}
 use Rattle.word_list.specs.Request.{Tables}
+use Rattle.word_list.specs.declared.request.Settings.{Settings}
 use Rattle.jps_run.specs.Calls.{call_with}
+use Rattle.jps_run.specs.Encoded.{IsEncoded}
 use Rattle.jps_run.specs.Outcome.{IsAnswered, tabled}
+use Rattle.jps_run.specs.Reading.{AreLayersOf}
 use Rattle.jps_run.specs.Session.{corner_of}
 use Rattle.jps_run.specs.Tabled.{tables_text}
+use Rattle.jps_run.specs.declared.encoded.TableFile.{TableFile}
 use Rattle.jps_run.proofs.Opening.{text-right}
 use Rattle.jps_run.proofs.tables.tables.Goals as goal
+
+module _ (set : Settings) (m : Map) (ls : Layers) (are : AreLayersOf set m ls) (file : TableFile)
+    (land : AreTablesOf file.land ls.land) (water : AreTablesOf file.water ls.water)
+    (corner : file.corner ≡ ls.land.corner) where
+  -- what is written is the table file of the map
+  encodes : (lines : List (List ℕ)) (status : ℕ) → IsEncoded file lines status
+      → file_of file.corner file.land file.water ≡ tables_text (corner_of set.one) m
+  encodes lines status whole =
+      let of_map = layers_of (corner_of set.one) m.width m.height m.cells in
+      let on_land = subst (λ (l : Layers). AreTablesOf file.land l.land) are land in
+      let on_water = subst (λ (l : Layers). AreTablesOf file.water l.water) are water in
+      let rule : file.corner ≡ corner_of set.one = corner ∙ ap (λ (l : Layers). l.land.corner) are in
+      file_is of_map.land of_map.water file.corner file.land file.water
+      (record { width = refl; height = refl; corner = refl }) on_land on_water whole.land whole.water
+      ∙ ap (λ rule. encoding rule of_map.land of_map.water) rule
+
+  module _ (map text : List ℕ) (spelled : map_of text ≡ Ok m) where
+    encoded-right : (lines : List (List ℕ)) (status : ℕ) → IsEncoded file lines status
+        → (status ≤ 1) × IsAnswered (call_with (Tables map) set) (text ∷ []) lines status
+    encoded-right lines status whole =
+        let call = call_with (Tables map) set in
+        let written = file_of file.corner file.land file.water in
+        text-right call (text ∷ []) written 0
+        (subst (λ (t : List ℕ). IsAnswered call (text ∷ []) (t ∷ []) 0) (sym (encodes lines status whole))
+        (tabled map text set m spelled)) (omega arith) lines status whole.text
 
 pub returns-clause-opened : goal.returns-clause-opened
 returns-clause-opened g c =
     let set = c.args.settings in
     let r = c.in_ok-layers.ensures.read in
-    let map = c.args.map.now in
-    let call = call_with (Tables map) set in
-    let text = c.in_ok-text.text.items in
-    let is : text ≡ tables_text (corner_of set.one) r.spelled.map
-    = c.in_ok-text.ensures ∙ ap (λ (ls : Layers). encoding ls.land.corner ls.land ls.water) r.spelled.is in
     record {
       texts = r.text ∷ [];
       accepted = (r.accepted, tt);
       is = record {
-        can = tt;
-        right = text-right call (r.text ∷ []) text 0
-            (subst (λ (t : List ℕ). IsAnswered call (r.text ∷ []) (t ∷ []) 0) (sym is)
-            (tabled map r.text set r.spelled.map r.spelled.spelled)) (omega arith);
+        can = c.in_ok-file.ensures.room;
+        right = encoded-right set r.spelled.map c.in_ok-layers.layers r.spelled.is c.in_ok-file.file c.in_ok-file.ensures.land
+            c.in_ok-file.ensures.water c.in_ok-file.ensures.corner c.args.map.now r.text r.spelled.spelled;
         counted = λ old new rose. inl refl;
       };
     }
