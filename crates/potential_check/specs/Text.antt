@@ -1,6 +1,7 @@
 -- The grammar of certificates: which lines may follow which.
 use Rattle.std.specs.Prelude.{◌≡◌, ℕ, ◌+◌, ◌^◌, ◌≤◌, Bool, true, nat_le, ◌&&◌, if◌then◌else◌, List, [], ◌∷◌, ◌++◌, length, take, slice_get, codes, Option, Some, None, Result, Ok, Err}
 use Rattle.std.specs.List.{list_all}
+use Rattle.std.specs.Option.{option_and_then}
 use Rattle.std.specs.Str.{bytes_eq}
 use Rattle.root2_cost.specs.declared.Cost.{Cost}
 use Rattle.grid_moves.specs.declared.Cell.{Cell}
@@ -8,6 +9,7 @@ use Rattle.grid_moves.specs.Grid.{cell_number}
 use Rattle.text_line.specs.Fields.{is_nothing}
 use Rattle.text_line.specs.Left.{Left}
 use Rattle.text_line.specs.Lines.{lines_of}
+use Rattle.text_line.specs.Reading as reading
 use Rattle.potential_check.specs.declared.certificate.Claim.{Claim}
 use Rattle.potential_check.specs.declared.certificate.Claim.TheVariants.{Least, NoWalk}
 use Rattle.potential_check.specs.declared.certificate.Certificate.{Certificate}
@@ -124,15 +126,14 @@ abbrev pub fault_after : State → ℕ → Option (List ℕ) → Option CertFaul
 fault_after state number None = absent_fault state number
 fault_after state number (Some line) = step_fault (next state line) number
 
--- the first line that breaks the grammar stands at this place, from 0: the lines before it may follow one
--- another, and
--- it breaks the grammar so
-pub record BreaksFirst (lines : List (List ℕ)) (fault : CertFault) : Type 0 where
-  pub place : ℕ
-  pub inside : place ≤ length lines
-  pub state : State
-  pub before : state_after at_version (take place lines) ≡ Some state
-  pub breaks : fault_after state (place + 1) (slice_get lines place) ≡ Some fault
+-- how the line at a place, from 0, breaks the grammar after the lines before it, where these may follow one another
+abbrev pub fault_at : List (List ℕ) → ℕ → Option CertFault
+fault_at lines place = option_and_then (λ state. fault_after state (place + 1) (slice_get lines place))
+    (state_after at_version (take place lines))
+
+-- the first line that breaks the grammar breaks it so
+abbrev pub BreaksFirst : List (List ℕ) → CertFault → Type 0
+BreaksFirst lines fault = reading.BreaksFirst (fault_at lines) fault
 
 -- a certificate without where it lies in memory
 abbrev pub plain : Certificate → Plain
