@@ -70,11 +70,6 @@ IsRightOn g s t (None taken) = ((is_free g s && is_free g t) ≡ false) ⊎ NoWa
 IsRightOn g s t Outside = ⊥
 IsRightOn g s t Blocked = ⊥
 
--- the cell is the one of this column and row, which lies inside
-pub record IsEnd (g : GridData) (x y : ℕ) (c : Cell) : Type 0 where
-  pub cell : c ≡ record { x = x; y = y }
-  pub inside : is_inside g c ≡ true
-
 -- the edit of a cell is answered so, and leaves these layers
 abbrev pub EditsSo : Layers → Cell → Ground → Layers → EditReply → Type 0
 EditsSo ls c to after replied.Outside = (is_on_map ls c ≡ false) × (after ≡ ls)

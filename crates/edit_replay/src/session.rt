@@ -1,20 +1,20 @@
 //! The session.
 
-ghost use Rattle.std.specs.Prelude.{◌≡◌, ◌≢◌, ◌<◌, ◌≤◌, IfOk, MatchOption, true, false};
-ghost use Rattle.grid_moves.specs.Grid.{IsGrid, is_inside, layer_of};
+ghost use Rattle.std.specs.Prelude.{◌≡◌, ◌≢◌, ◌<◌, ◌≤◌, IfOk};
+ghost use Rattle.grid_moves.specs.Grid.{layer_of};
 ghost use Rattle.grid_moves.specs.Layers as spec;
 ghost use Rattle.grid_moves.specs.Reply.{IsRight};
 ghost use Rattle.plus_tables.specs.Tables.{AreTablesOf};
 ghost use Rattle.edit_replay.specs.Counting.{RoseByStates, RoseWithin, fewest_of, most_of};
 ghost use Rattle.edit_replay.specs.Edited.{edit_at, edit_reply};
 ghost use Rattle.edit_replay.specs.Mended.{IsEditCounted};
-ghost use Rattle.edit_replay.specs.Replies.{answer_of, AddsEdit, EditsSo, IsEnd, IsRunReply, IsShort};
+ghost use Rattle.edit_replay.specs.Replies.{answer_of, AddsEdit, EditsSo, IsRunReply, IsShort};
 
 use crate::beside::Beside;
 use crate::layer::Layer;
 use crate::memory::Memory;
 use crate::{EditReply, Engine, NoMemory, Reply};
-use grid_moves::{Cell, Corner, Grid, Ground, Terrain};
+use grid_moves::{Corner, Grid, Ground, Terrain, cell_at, ground_at, is_free_ground};
 use map_text::MapText;
 use plus_tables::Tables;
 use std::alloc::Global;
@@ -42,42 +42,6 @@ impl Model for Session {
     } };
 
     ghost invariant = { λ s. AreKept s.land s.water s.memory };
-}
-
-// The cell of a queried column and row, where it lies inside.
-fn cell_at<T: Terrain>(t: &T, x: u32, y: u32) -> Option<Cell>
-    ensures cell { MatchOption result (is_inside (T.grid t.now) (record { x = x; y = y }) ≡ false)
-        (IsEnd (T.grid t.now) x y) }
-    ensures whole { IsGrid (T.grid t.now) }
-{
-    if x < u32::from(t.width()) && y < u32::from(t.height()) {
-        Some(Cell {
-            x: x as u16,
-            y: y as u16,
-        })
-    } else {
-        None
-    }
-}
-
-// The ground of a cell.
-fn ground_at(land: &Grid, water: &Grid, c: Cell) -> Ground
-    ensures { result ≡ spec.ground_at (record { land = land.now; water = water.now }) c }
-{
-    if water.free(c) {
-        Ground::Water
-    } else if land.free(c) {
-        Ground::Land
-    } else {
-        Ground::Blocked
-    }
-}
-
-// Whether a cell is land or water.
-fn is_free_ground(land: &Grid, water: &Grid, c: Cell) -> bool
-    ensures { result ≡ spec.is_free_ground (record { land = land.now; water = water.now }) c }
-{
-    land.free(c) || water.free(c)
 }
 
 impl Session {

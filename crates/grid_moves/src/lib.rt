@@ -10,11 +10,13 @@
 mod around;
 mod grid;
 pub mod laws;
+mod layers;
 mod moves;
 mod terrain;
 
 pub use around::Around;
 pub use grid::{Grid, ground_of};
+pub use layers::{Layers, cell_at, ground_at, is_free_ground};
 pub use moves::{cell_ahead, cell_behind, dir_number, estimate, move_cost, opposite};
 pub use std::alloc::AllocError as NoMemory;
 pub use terrain::{Terrain, is_legal, is_open, is_passable, number_of, step};

@@ -9,11 +9,10 @@ ghost use Rattle.jps_run.specs.Calls.{call_with};
 
 use crate::NoMemory;
 use crate::files::open_two;
-use crate::layers::Layers;
 use crate::prove::Printed;
 use crate::stop::Stop;
 use crate::work::Work;
-use grid_moves::{Cell, Grid};
+use grid_moves::{Cell, Grid, Layers};
 use io_edge::Files;
 use potential_check::{Certificate, Proof, Reject};
 use std::alloc::Global;

@@ -9,11 +9,10 @@ ghost use Rattle.jps_run.specs.Calls.{call_with};
 
 use crate::NoMemory;
 use crate::files::open_one;
-use crate::layers::Layers;
 use crate::query::Ends;
 use crate::stop::Stop;
 use crate::work::Work;
-use grid_moves::Cell;
+use grid_moves::{Cell, Layers};
 use io_edge::Files;
 use potential_make::certificate;
 use std::alloc::Global;
