@@ -14,16 +14,16 @@ use Rattle.jps_run.specs.FaultLines.{long_line, script_line}
 use Rattle.jps_run.specs.Kinds.{limit_of}
 use Rattle.jps_run.specs.declared.kind.Kind.TheVariants as kind
 use Rattle.jps_run.specs.Heard.{AnswerHeard, AnswerTaken, AnswerPending, WroteAll, WroteLines, counted, so_far, at_end}
-use Rattle.jps_run.specs.Hearing.{HasWritten, known_stops, HasHeard, HearsEnd, IsHearing, Hears}
+use Rattle.jps_run.specs.Hearing.{AllIsHeard, HasWritten, known_stops, hear_stops, HasHeard, IsHearing, Hears}
 use Rattle.io_edge.specs.Told.{Inflow, Outflow}
-use Rattle.jps_run.specs.Stops.{StopsSo}
+use Rattle.jps_run.specs.Stops.{StopsSo, Ends}
 use Rattle.jps_run.specs.declared.answers.Answers.{Answers}
 use Rattle.jps_run.specs.declared.stop.Stop.{Stop}
 use Rattle.jps_run.specs.declared.stop.Stop.TheVariants as stop
 use Rattle.jps_run.proofs.Listening.{consumes-both, consumes-none, consumes-keeps, counted-more, refused-heard, long-heard, all-heard, pending-heard, part-heard, lines-heard, written-heard}
 use Rattle.jps_run.proofs.Pieces.{nothing, rose-since}
 use Rattle.jps_run.proofs.Solving.{answered-none}
-use Rattle.jps_run.proofs.Stopping.{passed, ends-on, no_stops, only_memory}
+use Rattle.jps_run.proofs.Stopping.{passed, no_stops, only_memory}
 
 -- nothing is answered yet
 written-none : (first : Answers) (before : Outflow) → HasWritten first first (commands_so_far []) before before
@@ -77,40 +77,45 @@ module _ (first job : Answers) (feeder : LineFeeder) (input mid now : Inflow) (b
   )
 
   -- nothing more came in
-  pub input-ended : (bytes : List ℕ) → Consumes mid.left now.left (take 0 bytes) → IsAtEnd now.left
-      → (new : Answers) (after : Outflow) (result : Result ℕ Stop) → HearsEnd job new feeder at after result
-      → Hears first input now before after result
-  input-ended bytes read ended new after result e =
-      ends-on (λ status. (status ≡ 0) × (fault_of h.text ≡ None)
-      × HasWritten first new (commands_of h.text) before after) _
-      (known_stops first new (commands_of h.text) (fault_of h.text) before after) _ result
-      (λ status d. (
-        d.0,
-        all-heard first input.left now.left h.text before after consumed new None ended few
-            (sym (ap (option_map script_line) d.1)) d.2,
-      ))
-      (record {
-        refused = λ line k.
-            all-heard first input.left now.left h.text before after consumed new (Some line) ended few
-            (sym k.0) k.1;
-        read = λ no. absurd no;
-        write = λ k. (
-          k.0,
-          part-heard first input.left now.left h.text before after consumed (commands_of h.text)
-              (at_end ended few refl) k.1,
-        );
-        memory = λ k.
-            lines-heard first input.left now.left h.text before after consumed (commands_of h.text)
-            (at_end ended few refl) k;
-      })
-      (e first h.text before h.heard)
-    where
-      consumed : Consumes input.left now.left h.text
-      consumed = subst (λ (t : List ℕ). Consumes input.left now.left t) (append-nil h.text)
-          (consumes-both input.left mid.left now.left h.text [] h.consumed read)
+  module _ (bytes : List ℕ) (read : Consumes mid.left now.left (take 0 bytes)) (ended : IsAtEnd now.left)
+      (new : Answers) (after : Outflow) where
+    all_consumed : Consumes input.left now.left h.text
+    all_consumed = subst (λ (t : List ℕ). Consumes input.left now.left t) (append-nil h.text)
+        (consumes-both input.left mid.left now.left h.text [] h.consumed read)
 
-      few : length h.text ≤ limit_of kind.Script
-      few = let e : length h.text ≡ feeder.taken = h.counted in let f : feeder.taken ≤ 2 ^ 26 = h.few in omega arith
+    few : length h.text ≤ limit_of kind.Script
+    few = let e : length h.text ≡ feeder.taken = h.counted in let f : feeder.taken ≤ 2 ^ 26 = h.few in omega arith
+
+    -- and the command of the last line is answered too
+    pub end-heard : (status : ℕ)
+        → (status ≡ 0) × (fault_of h.text ≡ None) × HasWritten first new (commands_of h.text) before after
+        → AllIsHeard first input before after status
+    end-heard status d = (
+      d.0,
+      all-heard first input.left now.left h.text before after all_consumed new None ended few
+          (sym (ap (option_map script_line) d.1)) d.2,
+    )
+
+    -- or that stopped
+    pub end-stopped : {X : Type 0} (Done : X → Type 0) (result : Result X Stop) (stop : Stop)
+        → StopsSo (known_stops first new (commands_of h.text) (fault_of h.text) before after) stop
+        → IsErrAnd result (λ s. s ≡ stop) → Ends Done (hear_stops first input now before after) result
+    end-stopped Done result stop k m =
+        passed Done (known_stops first new (commands_of h.text) (fault_of h.text) before after) _ result stop m k
+        (record {
+          refused = λ line k.
+              all-heard first input.left now.left h.text before after all_consumed new (Some line) ended few
+              (sym k.0) k.1;
+          read = λ no. absurd no;
+          write = λ k. (
+            k.0,
+            part-heard first input.left now.left h.text before after all_consumed (commands_of h.text)
+                (at_end ended few refl) k.1,
+          );
+          memory = λ k.
+              lines-heard first input.left now.left h.text before after all_consumed (commands_of h.text)
+              (at_end ended few refl) k;
+        })
 
   -- a piece came in
   module _ (count room : ℕ) (bytes piece : List ℕ) (read : Consumes mid.left now.left (take count bytes))
@@ -127,12 +132,13 @@ module _ (first job : Answers) (feeder : LineFeeder) (input mid now : Inflow) (b
         ∙ ap (λ (l : List ℕ). h.text ++ l) (sym is)
 
     -- its answers stopped
-    pub piece-stopped : (new : Answers) (after : Outflow) (result : Result ℕ Stop) (stop : Stop)
+    pub piece-stopped : (new : Answers) (after : Outflow) {X : Type 0} (Done : X → Type 0) (result : Result X Stop)
+        (stop : Stop)
         → StopsSo (known_stops first new (commands_so_far (h.text ++ piece)) (fault_so_far (h.text ++ piece)) before after)
         stop
-        → IsErrAnd result (λ s. s ≡ stop) → Hears first input now before after result
-    piece-stopped new after result stop k m =
-        passed _ (known_stops first new (commands_so_far (h.text ++ piece)) (fault_so_far (h.text ++ piece)) before after)
+        → IsErrAnd result (λ s. s ≡ stop) → Ends Done (hear_stops first input now before after) result
+    piece-stopped new after Done result stop k m =
+        passed Done (known_stops first new (commands_so_far (h.text ++ piece)) (fault_so_far (h.text ++ piece)) before after)
         _ result stop m k (record {
           refused = λ line k.
               refused-heard first input.left now.left (h.text ++ take count bytes) before after consumed new line
@@ -166,10 +172,10 @@ module _ (first job : Answers) (feeder : LineFeeder) (input mid now : Inflow) (b
           (subst (λ (t : List ℕ). HasWritten first new (commands_so_far t) before after) (sym same) heard.written)
 
       -- or memory for that line was refused
-      pub long-starved : (result : Result ℕ Stop) → IsErrAnd result (λ s. s ≡ stop.Memory)
-          → Hears first input now before after result
-      long-starved result m =
-          passed _ (no_stops (WroteLines (AnswerTaken first.session first.show input.left now.left) before after)) _
+      pub long-starved : {X : Type 0} (Done : X → Type 0) (result : Result X Stop)
+          → IsErrAnd result (λ s. s ≡ stop.Memory) → Ends Done (hear_stops first input now before after) result
+      long-starved Done result m =
+          passed Done (no_stops (WroteLines (AnswerTaken first.session first.show input.left now.left) before after)) _
           result stop.Memory m
           (written-heard first input.left now.left (h.text ++ take count bytes) before after consumed
           (commands_so_far (h.text ++ piece)) (so_far (ap commands_so_far (sym same))) new heard.written)

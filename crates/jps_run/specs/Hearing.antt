@@ -1,5 +1,5 @@
 -- How far the answers to what comes in have come. No public clause cites this module.
-use Rattle.std.specs.Prelude.{◌≡◌, ◌≢◌, ℕ, ◌+◌, ◌<◌, ◌≤◌, ◌^◌, ⊤, ◌++◌, List, [], length, Option, Some, None, Result, Ok, Err}
+use Rattle.std.specs.Prelude.{◌≡◌, ◌≢◌, ℕ, ◌+◌, ◌<◌, ◌≤◌, ◌^◌, ⊤, ◌++◌, List, [], length, MatchOption, Option, Some, None, Result, Ok, Err}
 use Rattle.std.specs.List.{concat}
 use Rattle.std.specs.Option.{option_map}
 use Rattle.std.specs.Io.KnownBytes.{Consumes}
@@ -93,15 +93,32 @@ pub record IsHearing (first now : Answers) (feeder : LineFeeder) (input input_no
   pub later : input.faults ≤ input_now.faults
   pub room : 0 < length buffer
 
+-- what is known where it stops
+abbrev pub hear_stops : Answers → Inflow → Inflow → Outflow → Outflow → Stops
+hear_stops first input input_now before now = record {
+  Refused = λ line. WroteAll (AnswerHeard first.session first.show input.left (Some line)) before now;
+  Read = Rose input.faults input_now.faults
+      × WroteAll (AnswerPending first.session first.show input.left input_now.left) before now;
+  Write = Rose before.faults now.faults
+      × WroteFirst (AnswerTaken first.session first.show input.left input_now.left) before now;
+  Memory = WroteLines (AnswerTaken first.session first.show input.left input_now.left) before now;
+}
+
+-- all that came in is answered, with this status
+abbrev pub AllIsHeard : Answers → Inflow → Outflow → Outflow → ℕ → Type 0
+AllIsHeard first input before now status =
+    (status ≡ 0) × WroteAll (AnswerHeard first.session first.show input.left None) before now
+
 -- all that came in is answered, or that stops
 abbrev pub Hears : Answers → Inflow → Inflow → Outflow → Outflow → Result ℕ Stop → Type 0
-Hears first input input_now before now result = Ends
-    (λ status. (status ≡ 0) × WroteAll (AnswerHeard first.session first.show input.left None) before now)
-    (record {
-      Refused = λ line. WroteAll (AnswerHeard first.session first.show input.left (Some line)) before now;
-      Read = Rose input.faults input_now.faults
-          × WroteAll (AnswerPending first.session first.show input.left input_now.left) before now;
-      Write = Rose before.faults now.faults
-          × WroteFirst (AnswerTaken first.session first.show input.left input_now.left) before now;
-      Memory = WroteLines (AnswerTaken first.session first.show input.left input_now.left) before now;
-    }) result
+Hears first input input_now before now result =
+    Ends (AllIsHeard first input before now) (hear_stops first input input_now before now) result
+
+-- behind turns in which some came in, what came in this turn is answered too, and more may be read; or nothing more came
+-- in, and all is answered; or that stops
+abbrev pub HearsTurn : Answers → Answers → LineFeeder → LineFeeder → Inflow → Inflow → List ℕ → List ℕ → Outflow
+    → Outflow → Result (Option ℕ) Stop → Type 0
+HearsTurn old new feeder feeder_now mid input_now buffer buffer_now at now result =
+    (first : Answers) (input : Inflow) (before : Outflow) → IsHearing first old feeder input mid buffer before at
+    → Ends (λ ended. MatchOption ended (IsHearing first new feeder_now input input_now buffer_now before now)
+    (AllIsHeard first input before now)) (hear_stops first input input_now before now) result

@@ -1,11 +1,12 @@
 -- How far the counter rose for what comes in. No public clause cites this module.
-use Rattle.std.specs.Prelude.{◌≡◌, ℕ, ◌++◌, List, length, Option, None}
+use Rattle.std.specs.Prelude.{◌≡◌, ℕ, ◌++◌, List, length, MatchOption, Option, None}
 use Rattle.std.specs.Io.KnownBytes.{Consumes}
 use Rattle.script_text.specs.declared.command.Command.{Command}
 use Rattle.script_text.specs.declared.feeder.LineFeeder.{LineFeeder}
 use Rattle.script_text.specs.Fed.{HasTaken}
 use Rattle.script_text.specs.Feeding.{commands_so_far, commands_of, fault_of}
 use Rattle.jps_run.specs.Answering.{HaveTaken}
+use Rattle.jps_run.specs.Counting.{RoseHeard}
 use Rattle.jps_run.specs.declared.answers.Answers.{Answers}
 
 -- one piece more came in, and the counter rose for its whole commands
@@ -28,3 +29,12 @@ pub record IsRising (first now : Answers) (feeder : LineFeeder) (input left : Op
   pub counted : length text ≡ feeder.taken
   pub fed : HasTaken feeder text
   pub taken : HaveTaken first now (commands_so_far text) start count
+
+-- behind turns in which some came in, the counter rose for what came in this turn too; or nothing more came in, and it
+-- rose for all
+abbrev pub RiseTurn : Answers → Answers → LineFeeder → LineFeeder → Option (List ℕ) → Option (List ℕ) → ℕ → ℕ
+    → Option ℕ → Type 0
+RiseTurn old new feeder feeder_now mid left at now ended = (first : Answers) (input : Option (List ℕ)) (start : ℕ)
+    → IsRising first old feeder input mid start at
+    → MatchOption ended (IsRising first new feeder_now input left start now)
+    (λ status. RoseHeard first.session input start now)

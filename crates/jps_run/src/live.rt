@@ -1,14 +1,14 @@
 //! The command `live`: the answers to a script that comes in.
 
-ghost use Rattle.std.specs.Prelude.{◌≡◌, [], ◌∷◌, ◌+◌, ◌<◌, ◌≤◌, ◌^◌, length, IfOk, OnOk};
+ghost use Rattle.std.specs.Prelude.{◌≡◌, [], ◌∷◌, ◌+◌, ◌<◌, ◌≤◌, ◌^◌, length, IfOk, None, OnOk};
 ghost use Rattle.std.specs.Io.KnownBytes.{ReadConsumes};
 ghost use Rattle.io_edge.specs.Causes.{HasCause};
 ghost use Rattle.word_list.specs.Request as asked;
 ghost use Rattle.jps_run.specs.Counting.{RoseHeard};
 ghost use Rattle.jps_run.specs.Files.{file_of};
-ghost use Rattle.jps_run.specs.Hearing.{AnswersKnown, Refuses, Hears, HearsPiece, HearsEnd};
+ghost use Rattle.jps_run.specs.Hearing.{AnswersKnown, Refuses, Hears, HearsPiece, HearsEnd, HearsTurn};
 ghost use Rattle.jps_run.specs.Calls.{call_with};
-ghost use Rattle.jps_run.specs.Rising.{RiseEnd, RisePiece};
+ghost use Rattle.jps_run.specs.Rising.{RiseEnd, RisePiece, RiseTurn};
 ghost use Rattle.jps_run.specs.Opened.{IsListener, open_stops};
 ghost use Rattle.jps_run.specs.Answering.{HaveTaken};
 ghost use Rattle.jps_run.specs.Stops.{Ends};
@@ -54,6 +54,16 @@ pub(crate) fn live<F: Files>(
 }
 
 /// Answers the commands that come in, those of each read before the next one.
+///
+/// ```text
+/// what came in:  block 3 4 ⏎ query 0 0 9 9 ⏎ free 3     not read yet
+///                |--------- taken ------------------|
+///                |-- whole: answered, -----||waits:-|
+///                |   their lines written   ||feeder |
+/// ```
+///
+/// A turn takes some bytes more. What they complete is answered and written before the next turn, so between turns no
+/// whole line waits. Where nothing more comes in, what waits is the last line.
 pub(crate) fn hear<I: Source, O: Sink, L: Ledger>(
     alloc: Global,
     job: &mut Answers,
@@ -68,19 +78,49 @@ pub(crate) fn hear<I: Source, O: Sink, L: Ledger>(
 {
     let mut buffer = blank(alloc, PIECE)?;
     let mut feeder = LineFeeder::new();
-    'pieces: loop {
-        let room = MOST - feeder.taken() as usize;
-        match read_into(input, &mut buffer) {
-            Ok(0) => return hear_end(alloc, job, &mut feeder, out, steps),
-            Ok(count) => {
-                let piece = &buffer[..count.min(room)];
-                hear_piece(alloc, job, &mut feeder, piece, out, steps)?;
-                if room < count {
-                    return Err(Stop::Text(long_line(alloc, b"script")?));
-                }
-            }
-            Err(_) => return Err(Stop::Read),
+    'turns: loop {
+        match turn(alloc, job, &mut feeder, &mut buffer, input, out, steps)? {
+            Some(status) => return Ok(status),
+            None => (),
         }
+    }
+}
+
+// One turn: reads once, and answers what is whole with the bytes that came in. The status, where nothing more came in.
+fn turn<I: Source, O: Sink, L: Ledger>(
+    alloc: Global,
+    job: &mut Answers,
+    feeder: &mut LineFeeder,
+    buffer: &mut Vec<u8>,
+    input: &mut I,
+    out: &mut O,
+    steps: &mut Steps<L>,
+) -> Result<Option<u8>, Stop>
+    requires few { feeder.old.taken ≤ 2 ^ 26 }
+    requires room { 0 < length buffer.old.items }
+    // All that was taken so far is answered, but for a line that is not whole; or all of it, at the end; or that stops.
+    ensures heard { HearsTurn job.old job.new feeder.old feeder.new (I.inflow input.old) (I.inflow input.new)
+        buffer.old.items buffer.new.items (O.outflow out.old) (O.outflow out.new) result }
+    ensures rose { IfOk result (RiseTurn job.old job.new feeder.old feeder.new (I.inflow input.old).left
+        (I.inflow input.new).left steps.old steps.new) }
+    // Where more may come, some bytes more were taken.
+    ensures onward { IfOk result (λ ended. ended ≡ None → feeder.old.taken < feeder.new.taken) }
+{
+    let room = MOST - feeder.taken() as usize;
+    match read_into(input, buffer) {
+        Ok(0) => {
+            let status = hear_end(alloc, job, feeder, out, steps)?;
+            Ok(Some(status))
+        }
+        Ok(count) => {
+            let piece = &buffer[..count.min(room)];
+            hear_piece(alloc, job, feeder, piece, out, steps)?;
+            if room < count {
+                return Err(Stop::Text(long_line(alloc, b"script")?));
+            }
+            Ok(None)
+        }
+        Err(_) => Err(Stop::Read),
     }
 }
 

@@ -5,8 +5,8 @@ use Rattle.jps_run.specs.Rising.{IsRising}
 use Rattle.jps_run.proofs.live.hear.Given as goal
 
 -- the whole commands so far are answered, and the counter rose for them
-abbrev pub invariant-pieces : goal.invariant-pieces
-invariant-pieces g l = record {
+abbrev pub invariant-turns : goal.invariant-turns
+invariant-turns g l = record {
   hearing : IsHearing l.fn.job l.job l.feeder
       (g.I.Source.inflow l.fn.input)
       (g.I.Source.inflow l.input) l.buffer.items
@@ -15,5 +15,5 @@ invariant-pieces g l = record {
   rising : IsRising l.fn.job l.job l.feeder (g.I.Source.inflow l.fn.input).left (g.I.Source.inflow l.input).left l.fn.steps l.steps;
 }
 
-abbrev pub decreases-pieces : goal.decreases-pieces
-decreases-pieces g l = 2 ^ 26 - l.feeder.taken
+abbrev pub decreases-turns : goal.decreases-turns
+decreases-turns g l = 2 ^ 26 - l.feeder.taken
