@@ -143,11 +143,13 @@ module _ (width : ℕ) (P : Cell → Type 0) where
   ]
     where
       by_test : c.y ≡ y → c.x < x + 1 → (b : Bool) → nat_lt c.x x ≡ b → (Scanned width P y x c) ⊎ (c ≡ cell y x)
-      by_test e h true t = inl (record { column = s.column; kind = s.kind; before = inr (e, grind (arith, nat_tests)) })
+      by_test e h true t =
+          inl (record { column = s.column; kind = s.kind; before = inr (e, grind (arith, nat_tests)) })
       by_test e h false t = inr (same_cell c (cell y x) (let k : x ≤ c.x = grind (arith, nat_tests) in omega arith) e)
 
   pub one_of_kind : (y x : ℕ) → x < width → P (cell y x) → (found : Option Area)
-      → IsAreaOf (Scanned width P y x) found → IsAreaOf (Scanned width P y (x + 1)) (Some (widened found (cell y x)))
+      → IsAreaOf (Scanned width P y x) found
+      → IsAreaOf (Scanned width P y (x + 1)) (Some (widened found (cell y x)))
   one_of_kind y x h t = grown (Scanned width P y x) (Scanned width P y (x + 1)) (more_scanned y x) (cell y x)
       (record { column = h; kind = t; before = inr (refl, omega arith) }) (met_or_here y x)
 

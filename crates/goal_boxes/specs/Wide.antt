@@ -19,8 +19,8 @@ abbrev pub widened : Option Area → Cell → Area
 widened None c = record { x0 = c.x; y0 = c.y; x1 = c.x; y1 = c.y }
 widened (Some a) c = with_cell a c
 
--- a cell of a kind that a scan over rows of this width has met: it lies in a row before y, or in that row before
--- column x
+-- a cell of a kind that a scan over rows of this width has met: it lies in a row before y, or in that row
+-- before column x
 pub record Scanned (width : ℕ) (P : Cell → Type 0) (y x : ℕ) (c : Cell) : Type 0 where
   pub column : c.x < width
   pub kind : P c
