@@ -57,7 +57,8 @@ module _ (g : GridData) (goal : Cell) (w : WaveData) (p : IsPassFrom g goal w) w
   cost_from c i = cost_to_back g goal c (cost_at w c) (p.tells.costs c i)
 
   -- which is few moves
-  pub small : (c : Cell) (cost : Cost) → is_inside g c ≡ true → cost_at w c ≡ Some cost → cost.a + cost.b < 16777216
+  pub small : (c : Cell) (cost : Cost) → is_inside g c ≡ true → cost_at w c ≡ Some cost
+      → cost.a + cost.b < 16777216
   small c cost i e =
       let l : IsLeastCost g c goal cost = subst (λ (o : Option Cost). IsCostTo g c goal o) e (cost_from c i) in
       let steps = least_steps g c goal l.cells l.least in
@@ -102,7 +103,10 @@ module _ (g : GridData) (goal : Cell) (w : WaveData) (p : IsPassFrom g goal w) w
             ahead = e;
             cells = m.cells;
             least = record {
-              walk = record { legal = rw (legal_ahead-is g c v d e, m.least.walk.legal) refl; ends = m.least.walk.ends };
+              walk = record {
+                legal = rw (legal_ahead-is g c v d e, m.least.walk.legal) refl;
+                ends = m.least.walk.ends;
+              };
               least = λ others o. subst (λ (x : Cost). IsAtMost x (cost_of (c ∷ others))) (sym total)
                   (l.least.least others o);
             };
@@ -114,9 +118,11 @@ module _ (g : GridData) (goal : Cell) (w : WaveData) (p : IsPassFrom g goal w) w
           by_costs v e (cost_at w c) (cost_at w v) (cost_from c i) (cost_from v (inside_ahead g c v d e)) s
 
   -- so the first of these directions is the first move
-  pub first_inward : (c : Cell) → is_inside g c ≡ true → IsFirstMove g c goal (first_where (leads g w c) all_dirs)
+  pub first_inward : (c : Cell) → is_inside g c ≡ true
+      → IsFirstMove g c goal (first_where (leads g w c) all_dirs)
   first_inward c i =
-      first_is g c goal (leads g w c) (λ d. (leads_begins c d i, begins_leads c d i)) (cost_at w c) (cost_from c i)
+      first_is g c goal (leads g w c) (λ d. (leads_begins c d i, begins_leads c d i)) (cost_at w c)
+      (cost_from c i)
 
   -- told by what the code has
   pub inward_some : (c : Cell) (d : Dir) (o : Option Dir) (r : Option Cell) → is_inside g c ≡ true

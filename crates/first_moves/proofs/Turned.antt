@@ -41,8 +41,14 @@ nat_eq-turned m n = by_tests (nat_eq m n) (nat_eq n m) refl refl
     by_tests : (a b : Bool) → nat_eq m n ≡ a → nat_eq n m ≡ b → nat_eq m n ≡ nat_eq n m
     by_tests true true p q = p ∙ sym q
     by_tests false false p q = p ∙ sym q
-    by_tests true false p q = absurd (let e : m ≡ n = grind (arith, nat_tests) in let t : nat_eq n m ≡ true = grind (arith, nat_tests) in cc)
-    by_tests false true p q = absurd (let e : n ≡ m = grind (arith, nat_tests) in let t : nat_eq m n ≡ true = grind (arith, nat_tests) in cc)
+    by_tests true false p q =
+        let e : m ≡ n = grind (arith, nat_tests) in
+        let t : nat_eq n m ≡ true = grind (arith, nat_tests) in
+        absurd (cc)
+    by_tests false true p q =
+        let e : n ≡ m = grind (arith, nat_tests) in
+        let t : nat_eq m n ≡ true = grind (arith, nat_tests) in
+        absurd (cc)
 
 cost_back : (u v : Cell) → move_cost v u ≡ move_cost u v
 cost_back u v = rw (nat_eq-turned v.x u.x, nat_eq-turned v.y u.y) refl
@@ -55,11 +61,13 @@ back_onto s (v ∷ cells) done = back_onto v cells (s ∷ done)
 record IsTurned (g : GridData) (s : Cell) (cells done : List Cell) : Type 0 where
   pub legal : is_walk g (last_of s cells ∷ back_onto s cells done) ≡ true
   pub ends : last_of (last_of s cells) (back_onto s cells done) ≡ last_of s done
-  pub priced : cost_of (last_of s cells ∷ back_onto s cells done) ≡ add_costs (cost_of (s ∷ cells)) (cost_of (s ∷ done))
+  pub priced : cost_of (last_of s cells ∷ back_onto s cells done)
+      ≡ add_costs (cost_of (s ∷ cells)) (cost_of (s ∷ done))
 
 turned : (g : GridData) (s : Cell) (cells done : List Cell) → is_walk g (s ∷ cells) ≡ true
     → is_walk g (s ∷ done) ≡ true → IsTurned g s cells done
-turned g s [] done w d = record { legal = d; ends = refl; priced = sym (add_costs-no_cost_left (cost_of (s ∷ done))) }
+turned g s [] done w d =
+    record { legal = d; ends = refl; priced = sym (add_costs-no_cost_left (cost_of (s ∷ done))) }
 turned g s (v ∷ cells) done w d =
     let parts = and_both (is_legal g s v) (is_walk g (v ∷ cells)) w in
     let rest = turned g v cells (s ∷ done) parts.1 (rw (legal_back g s v parts.0, d) refl) in

@@ -1,7 +1,7 @@
-//! Who tells the next cell on the way to a goal: rows of first moves that are kept, or one pass from the goal.
+//! Who tells the next cell on the way to a goal: rows of first moves that are kept, or a pass from the goal.
 //!
-//! Moves are symmetric, so a pass from the goal tells what the goal costs from each cell. A legal move begins a
-//! least walk exactly where the goal costs less from the cell ahead, by what the move costs.
+//! Moves are symmetric, so a pass from the goal tells what the goal costs from each cell. A legal move begins
+//! a least walk exactly where the goal costs less from the cell ahead, by what the move costs.
 
 ghost use Rattle.std.specs.Prelude.{◌≡◌, ◌+◌, ◌<◌, ◌^◌, [], ◌∷◌, ℕ, true, IfSome};
 ghost use Rattle.cost_waves.specs.Told.{cost_at};

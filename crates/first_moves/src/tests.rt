@@ -53,8 +53,8 @@ fn is_wanted(found: &Option<(Points, Cost)>, wanted: Option<(&[Cell], Cost)>) ->
     }
 }
 
-// Whether following first moves leads over these points at this cost, or nowhere: those that are kept, and those
-// that one pass tells.
+// Whether following first moves leads over these points at this cost, or nowhere: those that are kept, and
+// those that one pass tells.
 fn leads_over<L: Ledger>(
     alloc: Global,
     grid: &Grid,

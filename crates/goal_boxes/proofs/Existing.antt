@@ -31,7 +31,8 @@ record GoesOver (g : GridData) (u v t : Cell) : Type 0 where
   cells : List Cell
   least : IsLeastWalk g u t (v ∷ cells)
 
-goes_over : (g : GridData) (u v t : Cell) (d : Dir) → legal_ahead g u d ≡ Some v → Begins g u t d → GoesOver g u v t
+goes_over : (g : GridData) (u v t : Cell) (d : Dir) → legal_ahead g u d ≡ Some v → Begins g u t d
+    → GoesOver g u v t
 goes_over g u v t d e b =
     let same : b.next ≡ v = some_cell b.next v (sym b.ahead ∙ e) in
     record { cells = b.cells; least = subst (λ (c : Cell). IsLeastWalk g u t (c ∷ b.cells)) same b.least }
@@ -55,8 +56,8 @@ begins_or_not g u d free t = by_ahead (legal_ahead g u d) refl
             cells = rest;
             least = record {
               walk = record { legal = rw (legal_ahead-is g u v d e, m.walk.legal) refl; ends = m.walk.ends };
-              least = λ others o. IsAtMost-trans (cost_of (u ∷ v ∷ rest)) (cost_of (u ∷ cells)) (cost_of (u ∷ others)) a
-                  (l.least others o);
+              least = λ others o. IsAtMost-trans (cost_of (u ∷ v ∷ rest)) (cost_of (u ∷ cells))
+                  (cost_of (u ∷ others)) a (l.least others o);
             };
           })
           | inr more ↦ inr (λ b.
@@ -145,7 +146,8 @@ one_area a b p q =
     by_sides a.x0 a.y0 a.x1 a.y1 b.x0 b.y0 b.x1 b.y1 (omega arith) (omega arith) (omega arith) (omega arith)
   where
     by_sides : (x0 y0 x1 y1 u0 v0 u1 v1 : ℕ) → x0 ≡ u0 → y0 ≡ v0 → x1 ≡ u1 → y1 ≡ v1
-        → ◌≡◌ {A = Area} (record { x0 = x0; y0 = y0; x1 = x1; y1 = y1 }) (record { x0 = u0; y0 = v0; x1 = u1; y1 = v1 })
+        → ◌≡◌ {A = Area} (record { x0 = x0; y0 = y0; x1 = x1; y1 = y1 })
+        (record { x0 = u0; y0 = v0; x1 = u1; y1 = v1 })
     by_sides x0 y0 x1 y1 u0 v0 u1 v1 e f h i = rw (e, f, h, i) refl
 
 one_box : (P : Cell → Type 0) (a b : Option Area) → IsAreaOf P a → IsAreaOf P b → a ≡ b
@@ -156,8 +158,8 @@ one_box P (Some a) (Some b) p q =
     ap (λ (x : Area). Some x) (one_area a b (p.least b (λ c i. q.all c i)) (q.least a (λ c i. p.all c i)))
 
 -- so boxes of a cell are those that are told of it
-pub agree : (g : GridData) (box : BoxTeller) → TellsBoxes g box → (u : Cell) → is_free g u ≡ true → (boxes : CellBoxes)
-    → AreBoxes g u boxes → Agree boxes box u
+pub agree : (g : GridData) (box : BoxTeller) → TellsBoxes g box → (u : Cell) → is_free g u ≡ true
+    → (boxes : CellBoxes) → AreBoxes g u boxes → Agree boxes box u
 agree g box tells u free boxes are =
     λ d. one_box (λ t. Begins g u t d) (box_in boxes d) (box u d) (are d) (tells.boxes u free d)
 
@@ -166,7 +168,7 @@ pub kept_tell : (g : GridData) (b : BoxData) → HoldsBoxes g b → TellsBoxes g
 kept_tell g b h = record { boxes = λ c f d. h.boxes c f d }
 
 -- and a run by such boxes is the grid's
-pub ran_on_grid : {E : Type 0} (g : GridData) (box : BoxTeller) (s t : Cell) (r : Result Boxed E) → TellsBoxes g box
-    → IfOk r (IsRunBy g box s t) → IfOk r (IsBoxedRunOn g s t)
+pub ran_on_grid : {E : Type 0} (g : GridData) (box : BoxTeller) (s t : Cell) (r : Result Boxed E)
+    → TellsBoxes g box → IfOk r (IsRunBy g box s t) → IfOk r (IsBoxedRunOn g s t)
 ran_on_grid g box s t (Ok found) tells run = record { box = box; tells = tells; run = run }
 ran_on_grid g box s t (Err fault) tells run = tt

@@ -1,5 +1,5 @@
 -- A rectangle grows by one cell, and a scan by one place.
-use Rattle.std.proofs.Common.{◌≡◌, ◌≤◌, ◌<◌, ◌+◌, ◌⊎◌, inl, inr, ℕ, Bool, true, false, refl, sym, subst, arith, List, [], ◌∷◌}
+use Rattle.std.proofs.Common.{◌≡◌, ◌≤◌, ◌<◌, ◌+◌, ◌-◌, ◌⊎◌, inl, inr, ℕ, Bool, true, false, refl, ap, sym, ◌∙◌, subst, arith, List, [], ◌∷◌}
 use Rattle.std.specs.Prelude.{nat_lt, Option, Some, None, if◌then◌else◌}
 use Rattle.std.proofs.lemmas.Bool.Decides.{nat_tests}
 use Rattle.grid_moves.specs.declared.Cell.{Cell}
@@ -13,8 +13,8 @@ use Rattle.cost_waves.specs.Begin.{Begins}
 use Rattle.cost_waves.specs.Told.{WaveData, begins_with, Tells}
 use Rattle.goal_boxes.specs.declared.area.Area.{Area}
 use Rattle.goal_boxes.specs.declared.around.CellBoxes.{CellBoxes}
-use Rattle.goal_boxes.specs.Box.{holds, IsAreaOf, IsBox, box_in}
-use Rattle.goal_boxes.specs.Wide.{with_cell, widened, Scanned, IsTold, Seen}
+use Rattle.goal_boxes.specs.Box.{holds, IsLeastArea, IsAreaOf, IsBox, box_in}
+use Rattle.goal_boxes.specs.Wide.{with_cell, widened, Scanned, IsTold, Seen, NoneTold, IsFirstTold, IsLastTold}
 
 -- what it is to lie in a rectangle
 pub record LiesIn (a : Area) (c : Cell) : Type 0 where
@@ -143,11 +143,13 @@ module _ (width : ℕ) (P : Cell → Type 0) where
   ]
     where
       by_test : c.y ≡ y → c.x < x + 1 → (b : Bool) → nat_lt c.x x ≡ b → (Scanned width P y x c) ⊎ (c ≡ cell y x)
-      by_test e h true t = inl (record { column = s.column; kind = s.kind; before = inr (e, grind (arith, nat_tests)) })
+      by_test e h true t =
+          inl (record { column = s.column; kind = s.kind; before = inr (e, grind (arith, nat_tests)) })
       by_test e h false t = inr (same_cell c (cell y x) (let k : x ≤ c.x = grind (arith, nat_tests) in omega arith) e)
 
   pub one_of_kind : (y x : ℕ) → x < width → P (cell y x) → (found : Option Area)
-      → IsAreaOf (Scanned width P y x) found → IsAreaOf (Scanned width P y (x + 1)) (Some (widened found (cell y x)))
+      → IsAreaOf (Scanned width P y x) found
+      → IsAreaOf (Scanned width P y (x + 1)) (Some (widened found (cell y x)))
   one_of_kind y x h t = grown (Scanned width P y x) (Scanned width P y (x + 1)) (more_scanned y x) (cell y x)
       (record { column = h; kind = t; before = inr (refl, omega arith) }) (met_or_here y x)
 
@@ -186,15 +188,142 @@ module _ (width : ℕ) (P : Cell → Type 0) where
   pub none_scanned : IsAreaOf (Scanned width P 0 0) None
   none_scanned c s = elim s.before [ inl h ↦ omega arith | inr h ↦ (let l = h.1 in omega arith) ]
 
--- of which the direction is told, or not
-pub told_here : (w : WaveData) (d : Dir) (y x : ℕ) → x < w.width → begins_with w (record { x = x; y = y }) d ≡ true
-    → (found : Option Area) → IsAreaOf (Seen w d y x) found
-    → IsAreaOf (Seen w d y (x + 1)) (Some (widened found (record { x = x; y = y })))
-told_here w d = one_of_kind w.width (IsTold w d)
+module _ (w : WaveData) (d : Dir) where
+  told_at : (y : ℕ) (c : Cell) → c.y ≡ y → IsTold w d c → begins_with w (record { x = c.x; y = y }) d ≡ true
+  told_at y c e t = ap (λ (n : ℕ). begins_with w (record { x = c.x; y = n }) d) (sym e) ∙ t
 
-pub untold_here : (w : WaveData) (d : Dir) (y x : ℕ) → begins_with w (record { x = x; y = y }) d ≡ false
-    → (found : Option Area) → IsAreaOf (Seen w d y x) found → IsAreaOf (Seen w d y (x + 1)) found
-untold_here w d y x f = one_of_other w.width (IsTold w d) y x (λ t. absurd (cc))
+  -- a row of which the direction is not told adds nothing
+  pub row_untold : (y : ℕ) → NoneTold w d y 0 w.width → (found : Option Area) → IsAreaOf (Seen w d y 0) found
+      → IsAreaOf (Seen w d (y + 1) 0) found
+  row_untold y none = same_area (Seen w d y 0) (Seen w d (y + 1) 0)
+      (λ c s. record {
+        column = s.column;
+        kind = s.kind;
+        before = inl (elim s.before [ inl h ↦ omega arith | inr h ↦ absurd (let l = h.1 in omega arith) ]);
+      })
+      (λ c s. record {
+        column = s.column;
+        kind = s.kind;
+        before = elim s.before [
+          | inl h ↦ by_test c s.column s.kind h (nat_lt c.y y) refl
+          | inr h ↦ absurd (let l = h.1 in omega arith)
+        ];
+      })
+    where
+      by_test : (c : Cell) → c.x < w.width → IsTold w d c → c.y < y + 1 → (b : Bool) → nat_lt c.y y ≡ b
+          → (c.y < y) ⊎ ((c.y ≡ y) × (c.x < 0))
+      by_test c l k h true t = inl (grind (arith, nat_tests))
+      by_test c l k h false t =
+          let e : c.y ≡ y = (let m : y ≤ c.y = grind (arith, nat_tests) in omega arith) in
+          let told = told_at y c e k in
+          let untold = none c.x (omega arith) l in
+          absurd (cc)
+
+  -- of another one its first cell and its last cell are enough
+  module _ (y first last : ℕ) (f : IsFirstTold w d y first) (l : IsLastTold w d y first last) where
+    abbrev at_first : Cell
+    at_first = record { x = first; y = y }
+
+    abbrev at_last : Cell
+    at_last = record { x = last; y = y }
+
+    -- seen before, or one of these two
+    abbrev With : Cell → Type 0
+    With c = (Seen w d y 0 c) ⊎ (c ≡ at_first)
+
+    abbrev WithBoth : Cell → Type 0
+    WithBoth c = With c ⊎ (c ≡ at_last)
+
+    seen_later : (c : Cell) → Seen w d y 0 c → Seen w d (y + 1) 0 c
+    seen_later c s = record {
+      column = s.column;
+      kind = s.kind;
+      before = inl (elim s.before [ inl h ↦ omega arith | inr h ↦ absurd (let k = h.1 in omega arith) ]);
+    }
+
+    first_seen : Seen w d (y + 1) 0 at_first
+    first_seen = record { column = f.within; kind = f.told; before = inl (omega arith) }
+
+    last_seen : Seen w d (y + 1) 0 at_last
+    last_seen = record { column = l.within; kind = l.told; before = inl (omega arith) }
+
+    -- the cells of the row lie between the two
+    between : (c : Cell) → c.y ≡ y → c.x < w.width → IsTold w d c → (first ≤ c.x) × (c.x ≤ last)
+    between c e n k = (by_first (nat_lt c.x first) refl, by_last (nat_lt last c.x) refl)
+      where
+        by_first : (b : Bool) → nat_lt c.x first ≡ b → first ≤ c.x
+        by_first true t =
+            let told = told_at y c e k in
+            let untold = f.none_before c.x (omega arith) (grind (arith, nat_tests)) in
+            absurd (cc)
+        by_first false t = grind (arith, nat_tests)
+
+        by_last : (b : Bool) → nat_lt last c.x ≡ b → c.x ≤ last
+        by_last true t =
+            let told = told_at y c e k in
+            let after : last + 1 ≤ c.x = (let m : last < c.x = grind (arith, nat_tests) in omega arith) in
+            let untold = l.none_after c.x after n in
+            absurd (cc)
+        by_last false t = grind (arith, nat_tests)
+
+    pub row_told : (found : Option Area) → IsAreaOf (Seen w d y 0) found
+        → IsAreaOf (Seen w d (y + 1) 0) (Some (with_cell (widened found at_first) at_last))
+    row_told found area =
+        let one = grown (Seen w d y 0) With (λ c s. inl s) at_first (inr refl) (λ c h. h) found area in
+        let a : Area = with_cell (widened found at_first) at_last in
+        let two : IsLeastArea WithBoth a =
+        grown With WithBoth (λ c s. inl s) at_last (inr refl) (λ c h. h) (Some (widened found at_first)) one in
+        record {
+          some = at_last;
+          is_one = last_seen;
+          all = λ c s. elim s.before [
+            | inl h ↦ by_row a two c s h (nat_lt c.y y) refl
+            | inr h ↦ absurd (let k = h.1 in omega arith)
+          ];
+          least = λ b held. two.least b (λ c h. elim h [
+            | inl (inl s) ↦ held c (seen_later c s)
+            | inl (inr e) ↦ subst (λ (k : Cell). holds b k ≡ true) (sym e) (held at_first first_seen)
+            | inr e ↦ subst (λ (k : Cell). holds b k ≡ true) (sym e) (held at_last last_seen)
+          ]);
+        }
+      where
+        by_row : (a : Area) → IsLeastArea WithBoth a → (c : Cell) → Seen w d (y + 1) 0 c → c.y < y + 1 → (b : Bool)
+            → nat_lt c.y y ≡ b → holds a c ≡ true
+        by_row a two c s h true t =
+            two.all c (inl (inl (record { column = s.column; kind = s.kind; before = inl (grind (arith, nat_tests)) })))
+        by_row a two c s h false t =
+            let e : c.y ≡ y = (let m : y ≤ c.y = grind (arith, nat_tests) in omega arith) in
+            let p = between c e s.column s.kind in
+            let low = p.0 in
+            let high = p.1 in
+            let u = lies_in a at_first (two.all at_first (inl (inr refl))) in
+            let v = lies_in a at_last (two.all at_last (inr refl)) in
+            let left = u.left in
+            let right = v.right in
+            let above = u.above in
+            let below = u.below in
+            is_held a c (record { left = omega arith; right = omega arith; above = omega arith; below = omega arith })
+
+-- a column more of which it is not told
+pub none_more : (w : WaveData) (d : Dir) (y high : ℕ) → NoneTold w d y 0 high
+    → begins_with w (record { x = high; y = y }) d ≡ false → NoneTold w d y 0 (high + 1)
+none_more w d y high none f x low h = by_test (nat_lt x high) refl
+  where
+    by_test : (b : Bool) → nat_lt x high ≡ b → begins_with w (record { x = x; y = y }) d ≡ false
+    by_test true t = none x low (grind (arith, nat_tests))
+    by_test false t =
+        let e : x ≡ high = (let m : high ≤ x = grind (arith, nat_tests) in omega arith) in
+        ap (λ (n : ℕ). begins_with w (record { x = n; y = y }) d) e ∙ f
+
+pub none_earlier : (w : WaveData) (d : Dir) (y low : ℕ) → 0 < low → NoneTold w d y (low + 1) w.width
+    → begins_with w (record { x = low; y = y }) d ≡ false → NoneTold w d y (low - 1 + 1) w.width
+none_earlier w d y low p none f x l h = by_test (nat_lt low x) refl
+  where
+    by_test : (b : Bool) → nat_lt low x ≡ b → begins_with w (record { x = x; y = y }) d ≡ false
+    by_test true t = none x (let m : low < x = grind (arith, nat_tests) in omega arith) h
+    by_test false t =
+        let e : x ≡ low = (let m : x ≤ low = grind (arith, nat_tests) in omega arith) in
+        ap (λ (n : ℕ). begins_with w (record { x = n; y = y }) d) e ∙ f
 
 -- where some least walk ends lies on the map
 end_free : (g : GridData) (u : Cell) (cells : List Cell) → is_walk g (u ∷ cells) ≡ true

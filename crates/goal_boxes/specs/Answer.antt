@@ -43,8 +43,8 @@ IsRunBy g box s t r =
 abbrev pub IsBoxedRun : GridData → BoxData → Cell → Cell → Boxed → Type 0
 IsBoxedRun g b s t r = IsRunBy g (box_at b) s t r
 
--- the answer and the taken states are those of the boxed run from s to t: the one that goes by the boxes of the
--- grid, whether they are kept or not
+-- the answer and the taken states are those of the boxed run from s to t: the one that goes by the boxes of
+-- the grid, whether they are kept or not
 pub record IsBoxedRunOn (g : GridData) (s t : Cell) (r : Boxed) : Type 0 where
   pub box : BoxTeller
   pub tells : TellsBoxes g box

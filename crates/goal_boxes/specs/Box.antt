@@ -56,7 +56,8 @@ AreBoxes g u b = (d : Dir) → IsBox g u d (box_in b d)
 abbrev pub BoxTeller : Type 0
 BoxTeller = Cell → Dir → Option Area
 
--- it tells the boxes of the grid's free cells. As a least rectangle is one, all that do so tell the same of these
+-- it tells the boxes of the grid's free cells. There is one least rectangle, so all that do so tell the same
+-- of these
 pub record TellsBoxes (g : GridData) (box : BoxTeller) : Type 0 where
   pub boxes : (c : Cell) → is_free g c ≡ true → (d : Dir) → IsBox g c d (box c d)
 

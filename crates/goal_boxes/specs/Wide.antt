@@ -1,5 +1,5 @@
 -- Rectangles that grow by a cell, and the cells that a scan has seen. No public clause cites this module.
-use Rattle.std.specs.Prelude.{◌≡◌, ◌<◌, ◌⊎◌, ℕ, true, nat_lt, if◌then◌else◌, Option, Some, None}
+use Rattle.std.specs.Prelude.{◌≡◌, ◌+◌, ◌<◌, ◌≤◌, ◌⊎◌, ℕ, true, false, nat_lt, if◌then◌else◌, Option, Some, None}
 use Rattle.grid_moves.specs.declared.Cell.{Cell}
 use Rattle.grid_moves.specs.declared.Dir.{Dir}
 use Rattle.cost_waves.specs.Told.{WaveData, begins_with}
@@ -19,8 +19,8 @@ abbrev pub widened : Option Area → Cell → Area
 widened None c = record { x0 = c.x; y0 = c.y; x1 = c.x; y1 = c.y }
 widened (Some a) c = with_cell a c
 
--- a cell of a kind that a scan over rows of this width has met: it lies in a row before y, or in that row before
--- column x
+-- a cell of a kind that a scan over rows of this width has met: it lies in a row before y, or in that row
+-- before column x
 pub record Scanned (width : ℕ) (P : Cell → Type 0) (y x : ℕ) (c : Cell) : Type 0 where
   pub column : c.x < width
   pub kind : P c
@@ -33,3 +33,20 @@ IsTold w d c = begins_with w c d ≡ true
 -- and a scan has met it
 abbrev pub Seen : WaveData → Dir → ℕ → ℕ → Cell → Type 0
 Seen w d y x c = Scanned w.width (IsTold w d) y x c
+
+-- the direction is told of no cell of row y from column `low` on and before column `high`
+abbrev pub NoneTold : WaveData → Dir → ℕ → ℕ → ℕ → Type 0
+NoneTold w d y low high = (x : ℕ) → low ≤ x → x < high → begins_with w (record { x = x; y = y }) d ≡ false
+
+-- the first column of row y of which it is told
+pub record IsFirstTold (w : WaveData) (d : Dir) (y first : ℕ) : Type 0 where
+  pub within : first < w.width
+  pub told : IsTold w d (record { x = first; y = y })
+  pub none_before : NoneTold w d y 0 first
+
+-- and the last one
+pub record IsLastTold (w : WaveData) (d : Dir) (y first last : ℕ) : Type 0 where
+  pub within : last < w.width
+  pub ordered : first ≤ last
+  pub told : IsTold w d (record { x = last; y = y })
+  pub none_after : NoneTold w d y (last + 1) w.width

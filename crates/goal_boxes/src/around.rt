@@ -1,10 +1,10 @@
 //! The eight boxes of one cell, from one pass from it.
 
-ghost use Rattle.std.specs.Prelude.{◌≡◌, ◌+◌, ◌<◌, true, OnOk, IfOk};
+ghost use Rattle.std.specs.Prelude.{◌≡◌, ◌+◌, ◌<◌, true, MatchOption, OnOk, IfOk};
 ghost use Rattle.grid_moves.specs.Grid.{is_free};
 ghost use Rattle.cost_waves.specs.Told.{begins_with};
 ghost use Rattle.goal_boxes.specs.Box.{IsAreaOf, AreBoxes, box_in};
-ghost use Rattle.goal_boxes.specs.Wide.{Seen};
+ghost use Rattle.goal_boxes.specs.Wide.{Seen, NoneTold, IsFirstTold, IsLastTold};
 
 use crate::area::widened;
 use crate::{Area, NoMemory};
@@ -54,20 +54,47 @@ fn belongs(waves: &CostWaves, c: Cell, d: Dir) -> bool
     waves.begins(c, d)
 }
 
-// Goes on over one row.
+// The first column of a row that belongs in the box.
+#[inline(always)]
+fn first_told(waves: &CostWaves, d: Dir, y: u16) -> Option<u16>
+    requires row { y < waves.now.height }
+    ensures { MatchOption result (NoneTold waves.now d y 0 waves.now.width) (IsFirstTold waves.now d y) }
+{
+    for x in 0..waves.width() {
+        if belongs(waves, Cell { x, y }, d) {
+            return Some(x);
+        }
+    }
+    None
+}
+
+// The last column of the row that does, told the first one.
+#[inline(always)]
+fn last_told(waves: &CostWaves, d: Dir, y: u16, first: u16) -> u16
+    requires row { y < waves.now.height }
+    requires first { IsFirstTold waves.now d y first }
+    ensures { IsLastTold waves.now d y first result }
+{
+    let mut last = waves.width() - 1;
+    while last != first && !belongs(waves, Cell { x: last, y }, d) {
+        last -= 1;
+    }
+    last
+}
+
+// Goes on over one row: all its cells that belong in the box lie between two of them.
 #[inline(always)]
 fn over_row(waves: &CostWaves, d: Dir, y: u16, before: Option<Area>) -> Option<Area>
     requires row { y < waves.now.height }
     ensures { IsAreaOf (Seen waves.now d y 0) before → IsAreaOf (Seen waves.now d (y + 1) 0) result }
 {
-    let mut found = before;
-    for x in 0..waves.width() {
-        let c = Cell { x, y };
-        if belongs(waves, c, d) {
-            found = widened(found, c);
+    match first_told(waves, d, y) {
+        None => before,
+        Some(first) => {
+            let last = last_told(waves, d, y, first);
+            widened(widened(before, Cell { x: first, y }), Cell { x: last, y })
         }
     }
-    found
 }
 
 // The least rectangle that holds each cell of which the direction is told.

@@ -100,7 +100,8 @@ fn advance<K: Meant, T: Terrain, L: Ledger>(
     requires taken { HasTaken (T.grid t.now) K.boxes ends.from ends.to at space.old.table taken.old }
     requires open_ended { (n : _) → slice_get space.old.table.nodes at ≡ Some n
         → is_same (node_cell n) ends.to ≡ false }
-    ensures goes_on { IfOk result (GoesOn (T.grid t.now) K.boxes ends.from ends.to space.new.table taken.new) }
+    ensures goes_on { IfOk result
+        (GoesOn (T.grid t.now) K.boxes ends.from ends.to space.new.table taken.new) }
     ensures one_more { IfOk result (λ next. IfSome next (λ id. length taken.new ≡ length taken.old + 1)) }
     ensures no_more { IfOk result (λ next. IfNone next (taken.new ≡ taken.old)) }
     ensures ready { IsReady (T.grid t.now) space.new }
@@ -254,12 +255,12 @@ pub fn boxed_search<T: Terrain>(
     run_kept::<Brand, T, Brand>(alloc, t, b, ends, Blank::new(1))
 }
 
-/// The boxed run from one free cell to another without any boxes at hand: those of a cell are found by one pass
-/// from it when its moves are offered. So at most one pass is made for each taken state, and each is counted as
-/// a step.
+/// The boxed run from one free cell to another without any boxes at hand: those of a cell are found by one
+/// pass from it when its moves are offered. So at most one pass is made for each taken state, and each is
+/// counted as a step.
 ///
-/// For one query this is cheaper than `Boxes::build`, which makes a pass from each free cell. The memory is that
-/// of a plain search and of one pass: an entry for each cell is filled.
+/// For one query this is cheaper than `Boxes::build`, which makes a pass from each free cell. The memory is
+/// that of a plain search and of one pass: an entry for each cell is filled.
 pub fn boxed_query<T: Terrain, L: Ledger>(
     alloc: Global,
     t: &T,

@@ -13,8 +13,8 @@ use std::marker::Brand;
 use std::sync::ledger::Ledger;
 use steps::Steps;
 
-/// The boxes of a grid as contracts speak of them, for proofs alone: as a free cell has one box or none in each
-/// direction, who keeps or finds it does not matter.
+/// The boxes of a grid as contracts speak of them, for proofs alone: as a free cell has one box or none in
+/// each direction, who keeps or finds it does not matter.
 pub(crate) trait Meant {
     ghost boxes: { BoxTeller };
 }

@@ -6,7 +6,8 @@ use Rattle.first_moves.proofs.guide.leads.Goals as goal
 pub cost-requires-in-Some-clause-column : goal.cost-requires-in-Some-clause-column
 cost-requires-in-Some-clause-column g c =
     subst (λ (n : ℕ). c.in-Some.v.x < n) (sym c.requires.pass.pass.width)
-    (ahead_column (g.T.Terrain.grid c.args.t.now) c.args.c c.in-Some.v c.args.d (sym c.step.ensures.legal ∙ c.in-Some.is))
+    (ahead_column (g.T.Terrain.grid c.args.t.now) c.args.c c.in-Some.v c.args.d
+    (sym c.step.ensures.legal ∙ c.in-Some.is))
 
 pub add-requires-clause-straight : goal.add-requires-clause-straight
 add-requires-clause-straight g c =

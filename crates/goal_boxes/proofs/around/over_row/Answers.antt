@@ -1,30 +1,23 @@
-use Rattle.std.proofs.Common.{◌≡◌, ◌∙◌, ◌+◌, sym, subst, ℕ, arith}
-use Rattle.std.specs.Prelude.{Option}
+use Rattle.std.proofs.Common.{◌∙◌, ◌+◌, ap, sym, subst}
+use Rattle.std.specs.Prelude.{Option, Some}
 use Rattle.goal_boxes.specs.declared.area.Area.{Area}
 use Rattle.goal_boxes.specs.Box.{IsAreaOf}
-use Rattle.goal_boxes.specs.Wide.{IsTold, Seen}
-use Rattle.goal_boxes.proofs.Growing.{told_here, untold_here, row_scanned}
+use Rattle.goal_boxes.specs.Wide as wide
+use Rattle.goal_boxes.specs.Wide.{Seen}
+use Rattle.goal_boxes.proofs.Growing.{row_untold, row_told}
 use Rattle.goal_boxes.proofs.around.over_row.Goals as goal
-use Rattle.goal_boxes.proofs.around.over_row.Goals.{then-belongs, else-belongs}
 
-pub loop-x-preserved : goal.loop-x-preserved
-loop-x-preserved c = λ before.
+pub returns-in-None : goal.returns-in-None
+returns-in-None c = row_untold c.args.waves.now c.args.d c.args.y c.in-None.ensures c.args.before
+
+pub returns-in-Some : goal.returns-in-Some
+returns-in-Some c = λ before.
     let w = c.args.waves.now in
     let d = c.args.d in
-    let was = c.loop-x.invariant before in
-    elim c.if-belongs.branch [
-      | then-belongs b ↦ subst (λ (o : Option Area). IsAreaOf (Seen w d c.args.y (c.loop-x.x + 1)) o)
-          (sym (b.found-is ∙ b.widened-found.ensures))
-          (told_here w d c.args.y c.loop-x.x (omega arith) (sym c.belongs.ensures ∙ b.if-belongs.true) c.loop-x.found was)
-      | else-belongs b ↦ subst (λ (o : Option Area). IsAreaOf (Seen w d c.args.y (c.loop-x.x + 1)) o)
-          (sym b.found-is)
-          (untold_here w d c.args.y c.loop-x.x (sym c.belongs.ensures ∙ b.if-belongs.false) c.loop-x.found was)
-    ]
-
-pub returns : goal.returns
-returns c = λ before.
-    let w = c.args.waves.now in
-    let d = c.args.d in
-    let done : c.loop-x.x ≡ w.width = omega arith in
-    row_scanned w.width (IsTold w d) c.args.y c.loop-x.found
-    (subst (λ (x : ℕ). IsAreaOf (Seen w d c.args.y x) c.loop-x.found) done (c.loop-x.invariant before))
+    let y = c.args.y in
+    subst (λ (o : Option Area). IsAreaOf (Seen w d (y + 1) 0) o)
+    (sym (c.widened-in-Some.ensures
+    ∙ ap (λ (o : Option Area). Some (wide.widened o (record { x = c.last_told-last.result; y = y })))
+    c.widened.ensures))
+    (row_told w d y c.in-Some.first c.last_told-last.result c.in-Some.ensures c.last_told-last.ensures
+    c.args.before before)

@@ -7,4 +7,5 @@ run_alone-requires-clause-boxes g c = all_told (g.T.Terrain.grid c.args.t.now)
 pub returns-clause-run : goal.returns-clause-run
 returns-clause-run g c =
     let grid = g.T.Terrain.grid c.args.t.now in
-    ran_on_grid grid (all_boxes grid) c.args.from c.args.to c.run_alone.result (all_told grid) c.run_alone.ensures.run
+    ran_on_grid grid (all_boxes grid) c.args.from c.args.to c.run_alone.result (all_told grid)
+    c.run_alone.ensures.run

@@ -23,7 +23,8 @@ boxes_of-requires-clause-free g c =
 pub advance-requires-clause-boxes : goal.advance-requires-clause-boxes
 advance-requires-clause-boxes g c = λ n read.
     let grid = g.T.Terrain.grid c.args.t.now in
-    let free : is_free grid c.cell-in-taking.result ≡ true = ap (λ (u : Cell). is_free grid u) c.cell-in-taking.ensures
+    let free : is_free grid c.cell-in-taking.result ≡ true =
+    ap (λ (u : Cell). is_free grid u) c.cell-in-taking.ensures
     ∙ taken_free grid g.K.Meant.boxes c.args.ends.from c.args.ends.to c.begin.ensures.whole c.requires.from
     c.requires.to c.taking.at c.taking.space.table c.taking.taken c.taking.invariant.taken c.node-in-taking.result
     c.node-in-taking.ensures in

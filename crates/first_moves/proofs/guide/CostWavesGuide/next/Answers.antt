@@ -7,8 +7,9 @@ first_leading-requires-clause-pass g c = record { goal = c.args._to; pass = c.re
 
 pub returns-in-Some-clause-next : goal.returns-in-Some-clause-next
 returns-in-Some-clause-next g c =
-    inward_some (g.T.Terrain.grid c.args.t.now) c.args._to c.args.self.now c.requires.stands c.args.from c.in-Some.d
-    c.first_leading.result c.step.result c.requires.from c.first_leading.ensures c.in-Some.is c.step.ensures.legal
+    inward_some (g.T.Terrain.grid c.args.t.now) c.args._to c.args.self.now c.requires.stands c.args.from
+    c.in-Some.d c.first_leading.result c.step.result c.requires.from c.first_leading.ensures c.in-Some.is
+    c.step.ensures.legal
 
 pub returns-in-Some-clause-inside : goal.returns-in-Some-clause-inside
 returns-in-Some-clause-inside g c =
