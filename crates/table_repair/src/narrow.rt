@@ -12,7 +12,7 @@ ghost use Rattle.table_repair.specs.Mending.{IsRight, AreReady, CanSweep, Mends,
 ghost use Rattle.table_repair.specs.Abreast.{IsBehindOne, KeepAbreast, is_at_one, no_cell};
 
 use crate::span::{Span, take_far};
-use crate::sweep::goes_down;
+use crate::sweep::{goes_down, sweep};
 use crate::walks::{Walks, enter, lead_on, lead_out};
 use grid_moves::{Dir, Grid};
 use plus_tables::Tables;
@@ -83,9 +83,9 @@ fn enter_row<L: Ledger>(
     led_out + walks.len() as u64
 }
 
-/// Makes the entries for a diagonal direction right that wait for the cells of these rows and columns, at
-/// most three; says how many changed. Walks begin as the rows come.
-pub fn sweep_narrow<L: Ledger>(
+// Makes the entries for a diagonal direction right that wait for the cells of these rows and columns, at
+// most three; says how many changed. Walks begin as the rows come.
+fn sweep_entering<L: Ledger>(
     tables: &mut Tables,
     grid: &Grid,
     rows: Span,
@@ -113,4 +113,35 @@ pub fn sweep_narrow<L: Ledger>(
         changed += enter_row(tables, grid, &mut walks, y, columns, d, steps);
     }
     changed + lead_out(tables, grid, &mut walks, d, steps)
+}
+
+/// The same. From fewer than 64 rows walks are led one after the other, since rounds of few walks cost more
+/// than they save.
+pub fn sweep_narrow<L: Ledger>(
+    tables: &mut Tables,
+    grid: &Grid,
+    rows: Span,
+    columns: Span,
+    d: Dir,
+    steps: &mut Steps<L>,
+) -> u64
+    requires ready { AreReady grid.now tables.old d }
+    requires diagonal { is_diagonal d ≡ true }
+    requires rows { rows.end ≤ grid.now.height }
+    requires some { columns.first ≤ columns.end }
+    requires narrow { span_length columns ≤ 3 }
+    requires columns { columns.end ≤ grid.now.width }
+    requires waits { CanSweep grid.now tables.old d (is_in rows columns) }
+    ensures mends { Mends grid.now d (is_in rows columns) tables.old tables.new result }
+    ensures sweeps { Sweeps grid.now d (is_in rows columns) tables.old tables.new }
+    ensures few { result ≤ 16777216 * span_length rows + 2097152 }
+    ensures steps { steps.new ≤ steps.old + result + 3 * span_length rows }
+    ensures later { steps.old ≤ steps.new }
+{
+    let many = rows.end >= 64 && rows.first <= rows.end - 64;
+    if many {
+        sweep_entering(tables, grid, rows, columns, d, steps)
+    } else {
+        sweep(tables, grid, rows, columns, d, steps)
+    }
 }

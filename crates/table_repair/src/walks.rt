@@ -67,9 +67,8 @@ fn walk_on<L: Ledger>(
     None
 }
 
-// Leads each walk one move back; those whose entry changed go on, the others end.
-#[inline(always)]
-fn lead_by<L: Ledger>(
+/// Leads each walk one move back; those whose entry changed go on, the others end.
+pub fn lead_on<L: Ledger>(
     tables: &mut Tables,
     grid: &Grid,
     walks: &mut Walks,
@@ -99,38 +98,6 @@ fn lead_by<L: Ledger>(
         }
     }
     *walks = onward;
-}
-
-/// The same; each diagonal direction has code of its own, in which it is a constant.
-pub fn lead_on<L: Ledger>(
-    tables: &mut Tables,
-    grid: &Grid,
-    walks: &mut Walks,
-    d: Dir,
-    steps: &mut Steps<L>,
-)
-    requires ready { AreReady grid.now tables.old d }
-    requires diagonal { is_diagonal d ≡ true }
-    requires inside { (w : Cell) → is_at_one walks.old.items w ≡ true → is_inside grid.now w ≡ true }
-    requires right { (w : Cell) → is_at_one walks.old.items w ≡ true → IsRight grid.now tables.old w d }
-    ensures abreast { KeepAbreast grid.now d (is_at_one walks.old.items) tables.old tables.new
-        walks.new.items no_cell (length walks.new.items) }
-    ensures behind { (w : Cell) → is_at_one walks.new.items w ≡ true
-        → IsBehindOne d (is_at_one walks.old.items) w }
-    ensures room { length walks.new.items + room_of grid.now d walks.new.items
-        ≤ room_of grid.now d walks.old.items }
-    ensures fewer { length walks.new.items ≤ length walks.old.items }
-    ensures short { length walks.new.items ≤ 512 }
-    ensures steps { steps.new ≤ steps.old + length walks.old.items }
-    ensures later { steps.old ≤ steps.new }
-{
-    match d {
-        Dir::NE => lead_by(tables, grid, walks, Dir::NE, steps),
-        Dir::SE => lead_by(tables, grid, walks, Dir::SE, steps),
-        Dir::SW => lead_by(tables, grid, walks, Dir::SW, steps),
-        Dir::NW => lead_by(tables, grid, walks, Dir::NW, steps),
-        _ => lead_by(tables, grid, walks, d, steps),
-    }
 }
 
 /// Leads all walks back, each as long as entries change; says how many did.

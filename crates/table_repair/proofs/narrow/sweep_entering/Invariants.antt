@@ -4,7 +4,7 @@ use Rattle.grid_moves.specs.declared.Cell.{Cell}
 use Rattle.table_repair.specs.Abreast.{KeepAbreast, is_at_one}
 use Rattle.table_repair.specs.Mending.{span_length, is_in, is_among, goes_down}
 use Rattle.table_repair.proofs.Entering.{IsPast}
-use Rattle.table_repair.proofs.narrow.sweep_narrow.Given as goal
+use Rattle.table_repair.proofs.narrow.sweep_entering.Given as goal
 
 abbrev pub invariant-loop-y : goal.invariant-loop-y
 invariant-loop-y g l = record {

@@ -7,7 +7,7 @@ use Rattle.table_repair.proofs.Pieces.{row_on_map}
 use Rattle.table_repair.proofs.Abreast.{abreast_ends}
 use Rattle.table_repair.proofs.Entering.{row_below, enter_none, past_none, enter_right, enter_past, enter_next, enter_ends}
 use Rattle.table_repair.proofs.Totals.{later_on, few_entered, counted_entered}
-use Rattle.table_repair.proofs.narrow.sweep_narrow.Goals as goal
+use Rattle.table_repair.proofs.narrow.sweep_entering.Goals as goal
 
 pub loop-y-init : goal.loop-y-init
 loop-y-init g c = record {
