@@ -40,7 +40,7 @@ fn make_room<L: Ledger>(
     ensures steps { steps.new + length walks.new.items ≤ steps.old + result + length walks.old.items }
     ensures later { steps.old ≤ steps.new }
 {
-    if walks.len() > 509 {
+    if walks.remaining_capacity() < 3 {
         lead_out(tables, grid, walks, d, steps)
     } else {
         0
