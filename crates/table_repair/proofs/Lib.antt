@@ -7,8 +7,10 @@ pub mod Walking
 pub mod Sweeping
 pub mod Onward
 pub mod Abreast
+pub mod Rounds
 pub mod Rows
 pub mod Pieces
+pub mod Entering
 pub mod Totals
 pub mod Directions
 pub mod Reach

@@ -1,5 +1,5 @@
 -- A row is swept piece by piece along a diagonal direction, which leads from no cell of it to another.
-use Rattle.std.proofs.Common.{◌≡◌, ℕ, suc, ◌+◌, ◌*◌, ◌-◌, ◌<◌, ◌≤◌, ◌⊎◌, inl, inr, arith, Bool, true, false, refl, sym, ◌∙◌, ◌&&◌, ◌||◌, List, [], ◌∷◌, ◌++◌}
+use Rattle.std.proofs.Common.{◌≡◌, ℕ, suc, ◌+◌, ◌*◌, ◌-◌, ◌<◌, ◌≤◌, ◌⊎◌, inl, inr, arith, Bool, true, false, refl, sym, ◌∙◌, ◌&&◌, ◌||◌, List, [], ◌∷◌, ◌++◌, length}
 use Rattle.std.specs.Prelude.{nat_eq, nat_le, nat_lt}
 use Rattle.std.proofs.lemmas.Bool.Decides.{nat_tests}
 use Rattle.grid_moves.specs.declared.Cell.{Cell}
@@ -62,25 +62,33 @@ row_on_map h y s w low narrow i =
     let l = p.1.1 in
     is_inside-from h w (omega arith) (omega arith)
 
--- no walk stands in an empty piece
-pub none_there : (y n : ℕ) (w : Cell) → is_at_one [] w ≡ is_in_row y (part n n) w
-none_there y n w = sym (not_true (is_in_row y (part n n) w)
+-- an empty piece adds no walk
+pub none_there : (y n : ℕ) (before : List Walk) (w : Cell)
+    → is_at_one before w ≡ (is_at_one before w || is_in_row y (part n n) w)
+none_there y n before w = or_not (is_at_one before w) (is_in_row y (part n n) w)
+    (not_true (is_in_row y (part n n) w)
     (λ i. let p = row_parts y (part n n) w i in
     let l = p.1.0 in let m = p.1.1 in absurd (omega arith)))
+  where
+    or_not : (a b : Bool) → b ≡ false → a ≡ (a || b)
+    or_not a b e = grind arith
 
 -- one more walk, at the next column
-pub one_more_there : (y first x : ℕ) (walks : List Walk) (w : Cell) → first ≤ x
-    → is_at_one walks w ≡ is_in_row y (part first x) w
+pub one_more_there : (y first x : ℕ) (before walks : List Walk) (w : Cell) → first ≤ x
+    → is_at_one walks w ≡ (is_at_one before w || is_in_row y (part first x) w)
     → is_at_one (walks ++ record { at = record { x = x; y = y } } ∷ []) w
-    ≡ is_in_row y (part first (x + 1)) w
-one_more_there y first x walks w l e =
+    ≡ (is_at_one before w || is_in_row y (part first (x + 1)) w)
+one_more_there y first x before walks w l e =
     at_both walks (record { at = record { x = x; y = y } } ∷ []) w
-    ∙ rw e (joined w.x w.y)
+    ∙ rw e (regroup (is_at_one before w) _ _ _ (joined w.x w.y))
   where
     joined : (a b : ℕ)
         → ((nat_eq b y && (nat_le first a && nat_lt a x)) || ((nat_eq a x && nat_eq b y) || false))
         ≡ (nat_eq b y && (nat_le first a && nat_lt a (x + 1)))
     joined a b = grind (arith, nat_tests)
+
+    regroup : (p a b c : Bool) → (a || b) ≡ c → ((p || a) || b) ≡ (p || c)
+    regroup p a b c e = grind arith
 
 module _ (h : GridData) (d : Dir) (y : ℕ) (columns : Span) (first : ℕ) (old now : TablesData) (n : ℕ)
     (diagonal : is_diagonal d ≡ true) (begun : columns.first ≤ first)
@@ -148,9 +156,14 @@ pieces_done h d y columns first old now n swept l =
     let a = p.1.0 in let b = p.1.1 in absurd (omega arith)))
 
 -- the last column is reached
-pub last_column : (y : ℕ) (s : Span) (x : ℕ) (w : Cell) → x ≤ s.end → s.end ≤ x
-    → is_in_row y (part s.first x) w ≡ is_in_row y s w
-last_column y s x w l m = let e : x ≡ s.end = omega arith in rw e refl
+pub last_column : (y : ℕ) (s : Span) (x : ℕ) (before : List Walk) (w : Cell) → x ≤ s.end → s.end ≤ x
+    → (is_at_one before w || is_in_row y (part s.first x) w) ≡ (is_at_one before w || is_in_row y s w)
+last_column y s x before w l m = let e : x ≡ s.end = omega arith in rw e refl
+
+-- the walks of a piece stand at its cells
+pub piece_there : (y : ℕ) (s : Span) (walks before : List Walk) (w : Cell) → before ≡ []
+    → is_at_one walks w ≡ (is_at_one before w || is_in_row y s w) → is_at_one walks w ≡ is_in_row y s w
+piece_there y s walks before w e there = there ∙ rw e refl
 
 -- the counts, piece by piece
 pub piece_few : (changed one first next end all : ℕ) → first ≤ next → next ≤ end
@@ -162,3 +175,10 @@ pub piece_counted : (steps now start changed one first next end all : ℕ) → f
     → steps + (end - first) ≤ start + changed + all → now ≤ steps + one + (next - first)
     → now + (end - next) ≤ start + (changed + one) + all
 piece_counted steps now start changed one first next end all l m h k = omega arith
+
+pub piece_short : (walks before : List Walk) (n : ℕ) → before ≡ [] → length walks ≡ length before + n → n ≤ 512
+    → length walks ≤ 512
+piece_short walks before n e long short = of_none (length before) (rw e refl) long
+  where
+    of_none : (m : ℕ) → m ≡ 0 → length walks ≡ m + n → length walks ≤ 512
+    of_none m f long = omega arith

@@ -72,25 +72,37 @@ module _ (h : GridData) (d : Dir) (y : ℕ) (columns left rest : Span) (x : ℕ)
       inner : (w : Cell) → is_same w v ≡ true → is_in_row y columns w ≡ true
       inner w s = rw (is_same-cell w v s) v_there
 
-module _ (h : GridData) (d : Dir) (rows columns left rest : Span) (y : ℕ) (old now : TablesData) (n : ℕ)
-    (swept : Swept h d (is_in rows columns) (is_in left columns) old now n)
+module _ (down : Bool) (rows columns left rest : Span) (y : ℕ)
     (within : (k : ℕ) → is_among left k ≡ true → is_among rows k ≡ true)
-    (taken : IsTaken (goes_down d) left y rest) where
-  of_rows : (w : Cell) → is_in_row y columns w ≡ true → is_in rows columns w ≡ true
-  of_rows w i =
+    (taken : IsTaken down left y rest) where
+  -- a row that is taken is the block's
+  pub row_of_block : (w : Cell) → is_in_row y columns w ≡ true → is_in rows columns w ≡ true
+  row_of_block w i =
       let p = and_both (nat_eq w.y y) (is_among columns w.x) i in
       and_true (is_among rows w.y) (is_among columns w.x)
       (rw (number_same w.y y p.0) (within y taken.member)) p.1
 
-  split : (w : Cell) → is_in_row y columns w ≡ false → is_in rest columns w ≡ false
+  -- what was left is in that row, or in those that are left
+  pub row_or_rest : (w : Cell) → is_in_row y columns w ≡ false → is_in rest columns w ≡ false
       → is_in left columns w ≡ false
-  split w s r = not_true (is_in left columns w) (λ i.
+  row_or_rest w s r = not_true (is_in left columns w) (λ i.
       let p = and_both (is_among left w.y) (is_among columns w.x) i in
       elim (taken.rest w.y p.0) [
         | inl e ↦ true_false (is_in_row y columns w)
             (and_true (nat_eq w.y y) (is_among columns w.x) (rw e (same_number y)) p.1) s
         | inr a ↦ true_false (is_in rest columns w) (and_true (is_among rest w.y) (is_among columns w.x) a p.1) r
       ])
+
+module _ (h : GridData) (d : Dir) (rows columns left rest : Span) (y : ℕ) (old now : TablesData) (n : ℕ)
+    (swept : Swept h d (is_in rows columns) (is_in left columns) old now n)
+    (within : (k : ℕ) → is_among left k ≡ true → is_among rows k ≡ true)
+    (taken : IsTaken (goes_down d) left y rest) where
+  of_rows : (w : Cell) → is_in_row y columns w ≡ true → is_in rows columns w ≡ true
+  of_rows w i = row_of_block (goes_down d) rows columns left rest y within taken w i
+
+  split : (w : Cell) → is_in_row y columns w ≡ false → is_in rest columns w ≡ false
+      → is_in left columns w ≡ false
+  split w s r = row_or_rest (goes_down d) rows columns left rest y within taken w s r
 
   -- what waits in the rows that are left waits later
   pub block_waits : CanSweep h old d (is_in rows columns) → CanSweep h now d (is_in_row y columns)
@@ -126,6 +138,12 @@ module _ (h : GridData) (d : Dir) (rows columns left rest : Span) (y : ℕ) (old
   block_next new m mends sweeps = swept_more h d (is_in rows columns) (is_in left columns)
       (is_in_row y columns) (is_in rest columns) old now new n m swept split of_rows mends sweeps
 
+-- no cell of an empty block
+pub none_left : (left columns : Span) → ((k : ℕ) → is_among left k ≡ false) → (w : Cell)
+    → is_in left columns w ≡ false
+none_left left columns none w = not_true (is_in left columns w)
+    (λ i. true_false (is_among left w.y) (and_both (is_among left w.y) (is_among columns w.x) i).0 (none w.y))
+
 -- nothing is left
 pub row_done : (h : GridData) (d : Dir) (y : ℕ) (columns left : Span) (old now : TablesData) (n : ℕ)
     → Swept h d (is_in_row y columns) (is_in_row y left) old now n
@@ -139,6 +157,4 @@ pub block_done : (h : GridData) (d : Dir) (rows columns left : Span) (old now : 
     → Swept h d (is_in rows columns) (is_in left columns) old now n
     → ((k : ℕ) → is_among left k ≡ false) → Sweeps h d (is_in rows columns) old now
 block_done h d rows columns left old now n swept none =
-    swept_all h d (is_in rows columns) (is_in left columns) old now n swept
-    (λ w. not_true (is_in left columns w)
-    (λ i. true_false (is_among left w.y) (and_both (is_among left w.y) (is_among columns w.x) i).0 (none w.y)))
+    swept_all h d (is_in rows columns) (is_in left columns) old now n swept (none_left left columns none)

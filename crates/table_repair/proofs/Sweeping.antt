@@ -19,12 +19,18 @@ abbrev IsNearer : Bool → ℕ → ℕ → Type 0
 IsNearer true n k = k < n
 IsNearer false n k = n < k
 
+-- it was the last or the first of the old span, and the new one ends or begins there
+abbrev pub IsEdge : Bool → Span → ℕ → Span → Type 0
+IsEdge true old n new = (old.end ≡ n + 1) × (new.end ≡ n)
+IsEdge false old n new = (old.first ≡ n) × (new.first ≡ n + 1)
+
 -- a number taken from the far end of a span
 pub record IsTaken (from_end : Bool) (old : Span) (n : ℕ) (new : Span) : Type 0 where
   pub member : is_among old n ≡ true
   pub rest : (k : ℕ) → is_among old k ≡ true → (k ≡ n) ⊎ (is_among new k ≡ true)
   pub within : (k : ℕ) → is_among new k ≡ true → is_among old k ≡ true
   pub nearer : (k : ℕ) → is_among new k ≡ true → IsNearer from_end n k
+  pub edge : IsEdge from_end old n new
   pub shorter : span_length old ≡ span_length new + 1
 
 pub among_parts : (s : Span) (k : ℕ) → is_among s k ≡ true → (s.first ≤ k) × (k < s.end)
@@ -44,6 +50,7 @@ taken_last first end n l e = record {
   within = λ k h. let p = among_parts (record { first = first; end = end - 1 }) k h in
       among_from (record { first = first; end = end }) k p.0 (omega arith);
   nearer = λ k h. let p = among_parts (record { first = first; end = end - 1 }) k h in omega arith;
+  edge = (omega arith, omega arith);
   shorter = omega arith;
 }
   where
@@ -65,6 +72,7 @@ taken_first first end n l e = record {
   within = λ k h. let p = among_parts (record { first = first + 1; end = end }) k h in
       among_from (record { first = first; end = end }) k (omega arith) p.1;
   nearer = λ k h. let p = among_parts (record { first = first + 1; end = end }) k h in omega arith;
+  edge = (omega arith, omega arith);
   shorter = omega arith;
 }
   where

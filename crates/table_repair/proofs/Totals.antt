@@ -35,3 +35,14 @@ short first end side h k = omega arith
 -- a counter that never fell
 pub later_on : {old mid new : ℕ} → old ≤ mid → mid ≤ new → old ≤ new
 later_on first more = omega arith
+
+-- in each row some walks are led out, and others begin
+pub few_entered : (changed one left rest all : ℕ) → left ≡ rest + 1
+    → changed + 2097664 * left ≤ 2097664 * all → one ≤ 2097664
+    → changed + one + 2097664 * rest ≤ 2097664 * all
+few_entered changed one left rest all e few h = omega arith
+
+pub counted_entered : (steps now first changed one walks onward left rest all : ℕ) → left ≡ rest + 1
+    → steps + walks + 3 * left ≤ first + changed + 3 * all → now + onward ≤ steps + one + walks + 3
+    → now + onward + 3 * rest ≤ first + (changed + one) + 3 * all
+counted_entered steps now first changed one walks onward left rest all e counted h = omega arith

@@ -1,12 +1,12 @@
 -- Walks back that keep abreast.
-use Rattle.std.specs.Prelude.{◌≡◌, Bool, true, false, ◌||◌, Some, List, [], ◌∷◌}
+use Rattle.std.specs.Prelude.{◌≡◌, ℕ, suc, ◌+◌, ◌-◌, Bool, true, false, ◌||◌, Some, List, [], ◌∷◌, if◌then◌else◌}
 use Rattle.grid_moves.specs.declared.Cell.{Cell}
 use Rattle.grid_moves.specs.declared.Dir.{Dir}
 use Rattle.grid_moves.specs.Grid.{GridData, is_inside}
 use Rattle.grid_moves.specs.Move.{ahead, is_same}
 use Rattle.plus_tables.specs.Tables.{TablesData}
 use Rattle.table_repair.specs.declared.walks.Walk.{Walk}
-use Rattle.table_repair.specs.Mending.{IsRight}
+use Rattle.table_repair.specs.Mending.{IsRight, AreReady, FollowBut, IsMended, Mends, either, goes_down}
 
 -- one of the walks stands at the cell
 abbrev pub is_at_one : List Walk → Cell → Bool
@@ -18,3 +18,33 @@ pub record IsOnward (h : GridData) (t : TablesData) (d : Dir) (from u : Cell) : 
   pub inside : is_inside h u ≡ true
   pub right : IsRight h t u d
   pub behind : ahead d u ≡ Some from
+
+-- the cell lies one move behind one of these
+pub record IsBehindOne (d : Dir) (there : Cell → Bool) (u : Cell) : Type 0 where
+  pub from : Cell
+  pub stood : there from ≡ true
+  pub behind : ahead d u ≡ Some from
+
+-- no cell
+abbrev pub no_cell : Cell → Bool
+no_cell v = false
+
+-- The walks that stand, after n entries were made right behind the cells where they begin: each at an entry
+-- that is right. Of what waited for those cells only what is left and what waits for the walks waits still.
+pub record KeepAbreast (h : GridData) (d : Dir) (starts : Cell → Bool) (old now : TablesData)
+    (walks : List Walk) (left : Cell → Bool) (n : ℕ) : Type 0 where
+  pub ready : AreReady h now d
+  pub inside : (w : Cell) → is_at_one walks w ≡ true → is_inside h w ≡ true
+  pub mended : (w : Cell) → is_at_one walks w ≡ true → IsMended h now d starts n w
+  pub mends : Mends h d starts old now n
+  pub follows : (later : Cell → Bool) → FollowBut h old d (either starts later)
+      → FollowBut h now d (either (is_at_one walks) (either left later))
+
+-- how many rows lie behind a cell, itself among them
+abbrev pub back_room : GridData → Dir → Cell → ℕ
+back_room h d w = suc (if goes_down d then w.y else h.height - suc w.y)
+
+-- and behind all walks
+unfoldable pub room_of : GridData → Dir → List Walk → ℕ
+room_of h d [] = 0
+room_of h d (v ∷ vs) = back_room h d v.at + room_of h d vs

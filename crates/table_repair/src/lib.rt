@@ -10,6 +10,7 @@
 
 pub mod laws;
 mod mend;
+mod narrow;
 mod repair;
 mod repairer;
 mod span;

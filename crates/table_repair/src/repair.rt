@@ -7,6 +7,7 @@ ghost use Rattle.table_repair.specs.Mending as spec;
 ghost use Rattle.table_repair.specs.Mending.{AreReady, AreRight, AreSound, FollowBut, IsBlock, Mends, MendsKind};
 ghost use Rattle.table_repair.specs.Mending.{any_cell, is_in, is_in_reach, is_listed, is_straight, span_length};
 
+use crate::narrow::sweep_narrow;
 use crate::span::{Span, span_next, widened};
 use crate::sweep::{goes_down, goes_right, sweep};
 use grid_moves::{Dir, Grid, Terrain};
@@ -87,7 +88,7 @@ fn sweep_diagonal<L: Ledger>(
     let wide = columns_in_reach(grid, columns, by, d);
     let rear = rows_behind(grid, rows, by, d);
     let changed = sweep(tables, grid, rows, wide, d, steps);
-    changed + sweep(tables, grid, rear, columns, d, steps)
+    changed + sweep_narrow(tables, grid, rear, columns, d, steps)
 }
 
 /// Makes the entries for these diagonal directions right that wait in reach of the block; says how many

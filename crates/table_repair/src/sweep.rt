@@ -81,7 +81,7 @@ fn sweep_abreast<L: Ledger>(
     let mut first = columns.first;
     let mut changed = 0;
     'piece: while first < columns.end {
-        let end = columns.end.min(first + 64);
+        let end = columns.end.min(first + 512);
         changed += mend_abreast(tables, grid, y, Span { first, end }, d, steps);
         first = end;
     }

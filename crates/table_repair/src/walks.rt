@@ -4,15 +4,14 @@
 //! memory. One walk alone takes another line of memory for each entry. Walks that keep abreast take each line
 //! once, and in order. No walk rests on another, so the same entries are refreshed whatever their order.
 
-ghost use Rattle.std.specs.Prelude.{◌≡◌, ◌+◌, ◌*◌, ◌<◌, ◌≤◌, Bool, true, ◌||◌, Some, length};
+ghost use Rattle.std.specs.Prelude.{◌≡◌, ◌+◌, ◌*◌, ◌<◌, ◌≤◌, Bool, true, ◌||◌, Some, [], length};
 ghost use Rattle.std.specs.Option.{option_to_list};
-ghost use Rattle.arrayvec.specs.ArrayVec.{array_vec_len};
 ghost use Rattle.grid_moves.specs.declared.Cell.{Cell};
 ghost use Rattle.grid_moves.specs.Grid.{is_inside};
 ghost use Rattle.grid_moves.specs.Move.{is_same};
 ghost use Rattle.pruning.specs.Turns.{is_diagonal};
 ghost use Rattle.table_repair.specs.Mending.{IsRight, AreReady, FollowBut, Mends, Sweeps, either, is_in_row, span_length};
-ghost use Rattle.table_repair.specs.Abreast.{IsOnward, is_at_one};
+ghost use Rattle.table_repair.specs.Abreast.{IsBehindOne, IsOnward, KeepAbreast, is_at_one, no_cell, room_of};
 
 use crate::mend::cell_before;
 use crate::span::Span;
@@ -35,6 +34,9 @@ impl Default for Walk {
         }
     }
 }
+
+/// Walks that keep abreast, at most 512.
+pub type Walks = ArrayVec<Walk, 512>;
 
 // Makes the entry for `d` at the cell behind a walk right; the walk from there, if the entry changed.
 #[inline(always)]
@@ -65,86 +67,82 @@ fn walk_on<L: Ledger>(
     None
 }
 
-// Walks back from all these cells, each as long as entries change; says how many did.
-#[inline(always)]
-fn walk_by<L: Ledger>(
+/// Leads each walk one move back; those whose entry changed go on, the others end.
+pub fn lead_on<L: Ledger>(
     tables: &mut Tables,
     grid: &Grid,
-    starts: ArrayVec<Walk, 64>,
+    walks: &mut Walks,
+    d: Dir,
+    steps: &mut Steps<L>,
+)
+    requires ready { AreReady grid.now tables.old d }
+    requires diagonal { is_diagonal d ≡ true }
+    requires inside { (w : Cell) → is_at_one walks.old.items w ≡ true → is_inside grid.now w ≡ true }
+    requires right { (w : Cell) → is_at_one walks.old.items w ≡ true → IsRight grid.now tables.old w d }
+    ensures abreast { KeepAbreast grid.now d (is_at_one walks.old.items) tables.old tables.new
+        walks.new.items no_cell (length walks.new.items) }
+    ensures behind { (w : Cell) → is_at_one walks.new.items w ≡ true
+        → IsBehindOne d (is_at_one walks.old.items) w }
+    ensures room { length walks.new.items + room_of grid.now d walks.new.items
+        ≤ room_of grid.now d walks.old.items }
+    ensures fewer { length walks.new.items ≤ length walks.old.items }
+    ensures short { length walks.new.items ≤ 512 }
+    ensures steps { steps.new ≤ steps.old + length walks.old.items }
+    ensures later { steps.old ≤ steps.new }
+{
+    let mut onward = Walks::new();
+    let here = walks.as_slice();
+    for walk in here {
+        if let Some(next) = walk_on(tables, grid, *walk, d, steps) {
+            onward.push(next);
+        }
+    }
+    *walks = onward;
+}
+
+/// Leads all walks back, each as long as entries change; says how many did.
+pub fn lead_out<L: Ledger>(
+    tables: &mut Tables,
+    grid: &Grid,
+    walks: &mut Walks,
     d: Dir,
     steps: &mut Steps<L>,
 ) -> u64
     requires ready { AreReady grid.now tables.old d }
     requires diagonal { is_diagonal d ≡ true }
-    requires short { length starts.items ≤ 64 }
-    requires inside { (w : Cell) → is_at_one starts.items w ≡ true → is_inside grid.now w ≡ true }
-    requires right { (w : Cell) → is_at_one starts.items w ≡ true → IsRight grid.now tables.old w d }
-    ensures mends { Mends grid.now d (is_at_one starts.items) tables.old tables.new result }
-    ensures sweeps { Sweeps grid.now d (is_at_one starts.items) tables.old tables.new }
-    ensures few { result ≤ 4096 * length starts.items }
-    ensures steps { steps.new ≤ steps.old + result + length starts.items }
+    requires short { length walks.old.items ≤ 512 }
+    requires inside { (w : Cell) → is_at_one walks.old.items w ≡ true → is_inside grid.now w ≡ true }
+    requires right { (w : Cell) → is_at_one walks.old.items w ≡ true → IsRight grid.now tables.old w d }
+    ensures abreast { KeepAbreast grid.now d (is_at_one walks.old.items) tables.old tables.new
+        walks.new.items no_cell result }
+    ensures none { walks.new.items ≡ [] }
+    ensures few { result ≤ 4096 * length walks.old.items }
+    ensures steps { steps.new ≤ steps.old + result + length walks.old.items }
     ensures later { steps.old ≤ steps.new }
 {
     let mut changed = 0;
-    let mut walks = starts;
     'round: while !walks.is_empty() {
-        let mut onward = ArrayVec::<Walk, 64>::new();
-        let here = walks.as_slice();
-        for walk in here {
-            if let Some(next) = walk_on(tables, grid, *walk, d, steps) {
-                onward.push(next);
-                changed += 1;
-            }
-        }
-        walks = onward;
+        lead_on(tables, grid, walks, d, steps);
+        changed += walks.len() as u64;
     }
     changed
 }
 
-// The same; each diagonal direction has code of its own, in which it is a constant.
-fn walk_abreast<L: Ledger>(
-    tables: &mut Tables,
-    grid: &Grid,
-    starts: ArrayVec<Walk, 64>,
-    d: Dir,
-    steps: &mut Steps<L>,
-) -> u64
-    requires ready { AreReady grid.now tables.old d }
-    requires diagonal { is_diagonal d ≡ true }
-    requires short { length starts.items ≤ 64 }
-    requires inside { (w : Cell) → is_at_one starts.items w ≡ true → is_inside grid.now w ≡ true }
-    requires right { (w : Cell) → is_at_one starts.items w ≡ true → IsRight grid.now tables.old w d }
-    ensures mends { Mends grid.now d (is_at_one starts.items) tables.old tables.new result }
-    ensures sweeps { Sweeps grid.now d (is_at_one starts.items) tables.old tables.new }
-    ensures few { result ≤ 4096 * length starts.items }
-    ensures steps { steps.new ≤ steps.old + result + length starts.items }
-    ensures later { steps.old ≤ steps.new }
-{
-    match d {
-        Dir::NE => walk_by(tables, grid, starts, Dir::NE, steps),
-        Dir::SE => walk_by(tables, grid, starts, Dir::SE, steps),
-        Dir::SW => walk_by(tables, grid, starts, Dir::SW, steps),
-        Dir::NW => walk_by(tables, grid, starts, Dir::NW, steps),
-        _ => walk_by(tables, grid, starts, d, steps),
-    }
-}
-
-// A walk at each cell of a row's piece.
-fn walks_of(y: u16, columns: Span) -> ArrayVec<Walk, 64>
+/// A walk more at each cell of a row's piece.
+pub fn enter(walks: &mut Walks, y: u16, columns: Span)
     requires some { columns.first ≤ columns.end }
-    requires few { span_length columns ≤ 64 }
-    ensures there { (w : Cell) → is_at_one result.items w ≡ is_in_row y columns w }
-    ensures length { length result.items ≡ span_length columns }
+    requires few { length walks.old.items + span_length columns ≤ 512 }
+    ensures there { (w : Cell) → is_at_one walks.new.items w
+        ≡ (is_at_one walks.old.items w || is_in_row y columns w) }
+    ensures length { length walks.new.items ≡ length walks.old.items + span_length columns }
 {
-    let mut walks = ArrayVec::<Walk, 64>::new();
     for x in columns.first..columns.end {
         walks.push(Walk { at: Cell { x, y } });
     }
-    walks
 }
 
 /// Makes the entries for a diagonal direction right that wait for the cells of this piece of a row, which are
-/// right; says how many changed. The piece has at most 64 columns.
+/// right; says how many changed. The piece has at most 512 columns.
 pub fn mend_abreast<L: Ledger>(
     tables: &mut Tables,
     grid: &Grid,
@@ -156,7 +154,7 @@ pub fn mend_abreast<L: Ledger>(
     requires ready { AreReady grid.now tables.old d }
     requires diagonal { is_diagonal d ≡ true }
     requires some { columns.first ≤ columns.end }
-    requires short { span_length columns ≤ 64 }
+    requires short { span_length columns ≤ 512 }
     requires row { y < grid.now.height }
     requires columns { columns.end ≤ grid.now.width }
     requires right { (w : Cell) → is_in_row y columns w ≡ true → IsRight grid.now tables.old w d }
@@ -166,5 +164,7 @@ pub fn mend_abreast<L: Ledger>(
     ensures steps { steps.new ≤ steps.old + result + span_length columns }
     ensures later { steps.old ≤ steps.new }
 {
-    walk_abreast(tables, grid, walks_of(y, columns), d, steps)
+    let mut walks = Walks::new();
+    enter(&mut walks, y, columns);
+    lead_out(tables, grid, &mut walks, d, steps)
 }

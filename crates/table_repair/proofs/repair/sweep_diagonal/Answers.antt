@@ -18,21 +18,21 @@ sweep-changed-requires-clause-waits g c =
     c.requires.diagonal c.columns_in_reach-wide.ensures
     c.rows_behind-rear.ensures a.tables.now c.requires.waits
 
-pub sweep-requires-clause-ready : goal.sweep-requires-clause-ready
-sweep-requires-clause-ready g c =
+pub sweep_narrow-requires-clause-ready : goal.sweep_narrow-requires-clause-ready
+sweep_narrow-requires-clause-ready g c =
     let a = c.args in
     ready_stays a.grid.now a.d (is_in a.rows c.columns_in_reach-wide.result) a.tables.now c.sweep-changed.new.tables
     c.sweep-changed.result c.sweep-changed.ensures.mends c.requires.ready
 
-pub sweep-requires-clause-rows : goal.sweep-requires-clause-rows
-sweep-requires-clause-rows g c =
+pub sweep_narrow-requires-clause-rows : goal.sweep_narrow-requires-clause-rows
+sweep_narrow-requires-clause-rows g c =
     let a = c.args in
     rear_within a.grid.now a.rows a.columns c.columns_in_reach-wide.result c.rows_behind-rear.result a.by a.d
     c.requires.diagonal c.columns_in_reach-wide.ensures
     c.rows_behind-rear.ensures c.requires.block
 
-pub sweep-requires-clause-waits : goal.sweep-requires-clause-waits
-sweep-requires-clause-waits g c =
+pub sweep_narrow-requires-clause-waits : goal.sweep_narrow-requires-clause-waits
+sweep_narrow-requires-clause-waits g c =
     let a = c.args in
     second_waits a.grid.now a.rows a.columns c.columns_in_reach-wide.result c.rows_behind-rear.result a.by a.d
     c.requires.diagonal c.columns_in_reach-wide.ensures
@@ -44,22 +44,22 @@ returns-clause-mends g c =
     let a = c.args in
     both_mend a.grid.now a.rows a.columns c.columns_in_reach-wide.result c.rows_behind-rear.result a.by a.d
     c.requires.diagonal c.columns_in_reach-wide.ensures
-    c.rows_behind-rear.ensures a.tables.now c.sweep-changed.new.tables c.sweep.new.tables
-    c.sweep-changed.result c.sweep.result c.sweep-changed.ensures.mends c.sweep.ensures.mends
+    c.rows_behind-rear.ensures a.tables.now c.sweep-changed.new.tables c.sweep_narrow.new.tables
+    c.sweep-changed.result c.sweep_narrow.result c.sweep-changed.ensures.mends c.sweep_narrow.ensures.mends
 
 pub returns-clause-right : goal.returns-clause-right
 returns-clause-right g c =
     let a = c.args in
     both_right a.grid.now a.rows a.columns c.columns_in_reach-wide.result c.rows_behind-rear.result a.by a.d
     c.requires.diagonal c.columns_in_reach-wide.ensures
-    c.rows_behind-rear.ensures a.tables.now c.sweep-changed.new.tables c.sweep.new.tables
-    c.requires.waits c.sweep-changed.ensures.sweeps c.sweep.ensures.sweeps
+    c.rows_behind-rear.ensures a.tables.now c.sweep-changed.new.tables c.sweep_narrow.new.tables
+    c.requires.waits c.sweep-changed.ensures.sweeps c.sweep_narrow.ensures.sweeps
 
 pub returns-clause-steps : goal.returns-clause-steps
 returns-clause-steps g c =
     let a = c.args in
-    steps_both a.steps.now c.sweep-changed.new.steps c.sweep.new.steps c.sweep-changed.result c.sweep.result
-    _ _ _ c.sweep-changed.ensures.steps c.sweep.ensures.steps
+    steps_both a.steps.now c.sweep-changed.new.steps c.sweep_narrow.new.steps c.sweep-changed.result c.sweep_narrow.result
+    _ _ _ c.sweep-changed.ensures.steps c.sweep_narrow.ensures.steps
     (cells_few a.grid.now a.rows a.columns c.columns_in_reach-wide.result c.rows_behind-rear.result a.by a.d
     c.requires.diagonal c.columns_in_reach-wide.ensures
     c.rows_behind-rear.ensures c.requires.block)

@@ -1,12 +1,12 @@
 -- Each column adds a walk.
 use Rattle.std.proofs.Common.{arith, ◌∙◌}
 use Rattle.table_repair.proofs.Pieces.{none_there, one_more_there, last_column}
-use Rattle.table_repair.proofs.walks.walks_of.Goals as goal
+use Rattle.table_repair.proofs.walks.enter.Goals as goal
 
 pub loop-x-init : goal.loop-x-init
 loop-x-init c = record {
-  there = λ w. rw c.new-walks.ensures (none_there c.args.y c.args.columns.first w);
-  many = rw c.new-walks.ensures (omega arith);
+  there = λ w. none_there c.args.y c.args.columns.first c.args.walks.now.items w;
+  many = omega arith;
 }
 
 pub push-requires : goal.push-requires
@@ -19,15 +19,15 @@ push-requires c =
 pub loop-x-preserved : goal.loop-x-preserved
 loop-x-preserved c = record {
   there = λ w. rw c.push.ensures.items (one_more_there c.args.y c.args.columns.first c.loop-x.x
-      c.loop-x.walks.items w c.loop-x.auto.x (c.loop-x.invariant.there w));
+      c.args.walks.now.items c.loop-x.walks.items w c.loop-x.auto.x (c.loop-x.invariant.there w));
   many = let many = c.loop-x.invariant.many in let len = c.push.ensures.len in omega arith;
 }
 
 pub returns-clause-there : goal.returns-clause-there
 returns-clause-there c = λ w.
     c.loop-x.invariant.there w
-    ∙ last_column c.args.y c.args.columns c.loop-x.x w (c.loop-x.auto.x-end c.requires.some)
-    c.loop-x-test.false
+    ∙ last_column c.args.y c.args.columns c.loop-x.x c.args.walks.now.items w
+    (c.loop-x.auto.x-end c.requires.some) c.loop-x-test.false
 
 pub returns-clause-length : goal.returns-clause-length
 returns-clause-length c =

@@ -1,0 +1,1 @@
+-- All walks are led out, or all stay.
