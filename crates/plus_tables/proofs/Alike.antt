@@ -1,6 +1,6 @@
 -- Rows that lie between the same rows have the same entries along them.
-use Rattle.std.proofs.Common.{◌≡◌, ℕ, zero, suc, ◌+◌, ◌-◌, ◌<◌, ◌≤◌, arith, Bool, true, false, ◌&&◌, ◌||◌, List, length, refl, ap, sym, ◌∙◌}
-use Rattle.std.specs.Prelude.{ℤ, Some, nat_lt}
+use Rattle.std.proofs.Common.{◌≡◌, ℕ, zero, suc, ◌+◌, ◌-◌, ◌<◌, arith, Bool, true, false, ◌||◌, List, length, refl, ap, sym, ◌∙◌}
+use Rattle.std.specs.Prelude.{ℤ, Some}
 use Rattle.std.proofs.lemmas.Bool.Decides.{nat_tests}
 use Rattle.grid_moves.specs.declared.Cell.{Cell}
 use Rattle.grid_moves.specs.declared.Dir.{Dir}
@@ -17,7 +17,7 @@ use Rattle.plus_tables.specs.declared.lines.Band.{Band}
 use Rattle.plus_tables.specs.declared.lines.Line.{Line}
 use Rattle.plus_tables.specs.Entry.{table_entry}
 use Rattle.plus_tables.specs.Local.{is_mark_by}
-use Rattle.plus_tables.specs.Rows.{flag, AreSame, IsFlagRow, IsEntryRow, IsRowAt, AreRowsAround}
+use Rattle.plus_tables.specs.Rows.{AreSame, IsFlagRow, IsEntryRow, IsRowAt, AreRowsAround}
 use Rattle.plus_tables.specs.Lines.{AreAlike, IsReady}
 use Rattle.plus_tables.proofs.Rowing.{row_legal, ring_forced_on, told_is, next_left, next_right, none_left}
 
