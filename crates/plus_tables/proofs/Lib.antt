@@ -12,3 +12,4 @@ pub mod Turning
 pub mod Growing
 pub mod Rowing
 pub mod Lining
+pub mod Alike

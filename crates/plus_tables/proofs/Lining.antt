@@ -128,10 +128,10 @@ module _ (g : GridData) (d : Dir) (y n : ℕ) (band same : Band) (last : Line) (
       }
 
 -- the row and the two beside it
-pub around_up : (g : GridData) (y : ℕ) (band : Band) (last : Line) → IsReady g N y band last
-    → IsFlagRow g (y + 1) band.back.items
-    → AreRowsAround g y band.next.items band.here.items band.back.items
-around_up g y band last ready is = record {
+pub around_up : (g : GridData) (y : ℕ) (band : Band) (last : Line) (behind : List Bool)
+    → IsReady g N y band last → IsFlagRow g (y + 1) behind
+    → AreRowsAround g y band.next.items band.here.items behind
+around_up g y band last behind ready is = record {
   upper = ready.rows.ahead;
   lower = y + 1;
   upper_is = ready.rows.ahead_is;
@@ -141,10 +141,10 @@ around_up g y band last ready is = record {
   below_is = is;
 }
 
-pub around_down : (g : GridData) (y n : ℕ) (band : Band) (last : Line) → IsReady g S y band last
-    → IsBefore y n → IsFlagRow g n band.back.items
-    → AreRowsAround g y band.back.items band.here.items band.next.items
-around_down g y n band last ready before is = record {
+pub around_down : (g : GridData) (y n : ℕ) (band : Band) (last : Line) (behind : List Bool)
+    → IsReady g S y band last → IsBefore y n → IsFlagRow g n behind
+    → AreRowsAround g y behind band.here.items band.next.items
+around_down g y n band last behind ready before is = record {
   upper = n;
   lower = ready.rows.ahead;
   upper_is = row_before y n before;
@@ -155,15 +155,15 @@ around_down g y n band last ready before is = record {
 }
 
 -- on to the next row: downwards
-module _ (g : GridData) (y n : ℕ) (d : Dir) (band : Band) (last this : Line) (rows : Rows)
-    (ready : IsReady g d y band last) (is : IsFlagRow g n band.back.items) (told : IsLine g d y this)
+module _ (g : GridData) (y n : ℕ) (d : Dir) (band : Band) (last this : Line) (behind : List Bool) (rows : Rows)
+    (ready : IsReady g d y band last) (is : IsFlagRow g n behind) (told : IsLine g d y this)
     (long : IsLong g this) (far : rows.band.far.items ≡ band.next.items)
-    (next : rows.band.next.items ≡ band.here.items) (here : rows.band.here.items ≡ band.back.items)
+    (next : rows.band.next.items ≡ band.here.items) (here : rows.band.here.items ≡ behind)
     (back : rows.band.back.items ≡ band.far.items) (kept : rows.last ≡ this) (room : IsLong g rows.this)
     (forced : length rows.forced.items ≡ g.width + 2) where
   kept_on : IsRowAt (row_ahead d n) y
-      → (d ≡ N → AreRowsAround g y band.next.items band.here.items band.back.items)
-      → (d ≡ S → AreRowsAround g y band.back.items band.here.items band.next.items) → IsKept g d n rows
+      → (d ≡ N → AreRowsAround g y band.next.items band.here.items behind)
+      → (d ≡ S → AreRowsAround g y behind band.here.items band.next.items) → IsKept g d n rows
   kept_on lies up down = record {
     ready = record {
       rows = record {
@@ -173,11 +173,11 @@ module _ (g : GridData) (y n : ℕ) (d : Dir) (band : Band) (last this : Line) (
         ahead_is = lies;
         far_is = flags_as g ready.rows.ahead band.next.items rows.band.far.items far ready.rows.next_is;
         next_is = flags_as g y band.here.items rows.band.next.items next ready.rows.here_is;
-        here_is = flags_as g n band.back.items rows.band.here.items here is;
+        here_is = flags_as g n behind rows.band.here.items here is;
         back_is = flags_as g ready.rows.far_row band.far.items rows.band.back.items back ready.rows.far_is;
-        up = λ e on. around_as g y band.next.items band.here.items band.back.items rows.band.far.items
+        up = λ e on. around_as g y band.next.items band.here.items behind rows.band.far.items
             rows.band.next.items rows.band.here.items far next here (up e);
-        down = λ e on. around_as g y band.back.items band.here.items band.next.items rows.band.here.items
+        down = λ e on. around_as g y behind band.here.items band.next.items rows.band.here.items
             rows.band.next.items rows.band.far.items here next far (down e);
       };
       long = subst (λ (l : Line). IsLong g l) (sym kept) long;
@@ -190,27 +190,27 @@ module _ (g : GridData) (y n : ℕ) (d : Dir) (band : Band) (last this : Line) (
 other_way : N ≡ S → ⊥
 other_way e = cc
 
-pub kept_up : (g : GridData) (y : ℕ) (band : Band) (last this : Line) (rows : Rows) → IsReady g N y band last
-    → IsFlagRow g (y + 1) band.back.items → IsLine g N y this → IsLong g this
+pub kept_up : (g : GridData) (y : ℕ) (band : Band) (last this : Line) (behind : List Bool) (rows : Rows)
+    → IsReady g N y band last → IsFlagRow g (y + 1) behind → IsLine g N y this → IsLong g this
     → rows.band.far.items ≡ band.next.items → rows.band.next.items ≡ band.here.items
-    → rows.band.here.items ≡ band.back.items → rows.band.back.items ≡ band.far.items → rows.last ≡ this
+    → rows.band.here.items ≡ behind → rows.band.back.items ≡ band.far.items → rows.last ≡ this
     → IsLong g rows.this → length rows.forced.items ≡ g.width + 2 → IsKept g N (y + 1) rows
-kept_up g y band last this rows ready is told long far next here back kept room forced =
-    kept_on g y (y + 1) N band last this rows ready is told long far next here back kept room forced
-    (row_over (y + 1) y (omega arith)) (λ e. around_up g y band last ready is) (λ e. absurd (other_way e))
+kept_up g y band last this behind rows ready is told long far next here back kept room forced =
+    kept_on g y (y + 1) N band last this behind rows ready is told long far next here back kept room forced
+    (row_over (y + 1) y (omega arith)) (λ e. around_up g y band last behind ready is) (λ e. absurd (other_way e))
 
-pub kept_down : (g : GridData) (y n : ℕ) (band : Band) (last this : Line) (rows : Rows) → 0 < y
-    → IsBefore y n → IsReady g S y band last → IsFlagRow g n band.back.items → IsLine g S y this → IsLong g
+pub kept_down : (g : GridData) (y n : ℕ) (band : Band) (last this : Line) (behind : List Bool) (rows : Rows)
+    → 0 < y → IsBefore y n → IsReady g S y band last → IsFlagRow g n behind → IsLine g S y this → IsLong g
     this
     → rows.band.far.items ≡ band.next.items → rows.band.next.items ≡ band.here.items
-    → rows.band.here.items ≡ band.back.items → rows.band.back.items ≡ band.far.items → rows.last ≡ this
+    → rows.band.here.items ≡ behind → rows.band.back.items ≡ band.far.items → rows.last ≡ this
     → IsLong g rows.this → length rows.forced.items ≡ g.width + 2 → IsKept g S (y - 1) rows
-kept_down g y n band last this rows some before ready is told long far next here back kept room forced =
+kept_down g y n band last this behind rows some before ready is told long far next here back kept room forced =
     let e = before.some some in
     let same : n ≡ y - 1 = omega arith in
     subst (λ (m : ℕ). IsKept g S m rows) same
-    (kept_on g y n S band last this rows ready is told long far next here back kept room forced
-    (row_under n y e) (λ e. absurd (other_way (sym e))) (λ e. around_down g y n band last ready before is))
+    (kept_on g y n S band last this behind rows ready is told long far next here back kept room forced
+    (row_under n y e) (λ e. absurd (other_way (sym e))) (λ e. around_down g y n band last behind ready before is))
 
 -- before the first row
 nothing : (g : GridData) → IsGrid g → (d : Dir) (row : List ℤ) (n : ℕ) → g.height ≤ n → IsEntryRow g n d row

@@ -92,7 +92,7 @@ module _ (g : GridData) (whole : IsGrid g) where
         (λ h. rw (h, ring_open x d) (sym (can_move-straight g (record { x = x; y = y }) d f h)))
 
     -- and where a neighbour is forced
-    ring_forced_on : (x : ℕ) (d : Dir) (s : Side) → is_free g (record { x = x; y = y }) ≡ true
+    pub ring_forced_on : (x : ℕ) (d : Dir) (s : Side) → is_free g (record { x = x; y = y }) ≡ true
         → forced_on g.corner (ring_of above here below x) d s
         ≡ is_forced_on g.corner (is_blocked g (record { x = x; y = y }))
         (can_move g (record { x = x; y = y })) d s
@@ -287,6 +287,27 @@ module _ (g : GridData) (whole : IsGrid g) (y m : ℕ) (d : Dir) (lies : IsRowAt
       left_at : is_diagonal d ≡ true → IsEntryRow g m (turn Left d) left
       left_at h = subst (λ (k : Dir). IsEntryRow g m k left) (parts h).1 left_is
 
+-- the next cell along a row
+pub next_left : (g : GridData) (y k : ℕ) (w : Cell) → legal_ahead g (record { x = suc k; y = y }) W ≡ Some w
+    → record { x = k; y = y } ≡ w
+next_left g y k w e =
+    let l = legal_leads g (record { x = suc k; y = y }) w W e in
+    let parts = parts_of (Some k) (Some y) w l.ahead_is in
+    same_cell (record { x = k; y = y }) w (value_is k w.x parts.0) (value_is y w.y parts.1)
+
+pub next_right : (g : GridData) (y x : ℕ) (w : Cell) → legal_ahead g (record { x = x; y = y }) E ≡ Some w
+    → record { x = x + 1; y = y } ≡ w
+next_right g y x w e =
+    let l = legal_leads g (record { x = x; y = y }) w E e in
+    let parts = parts_of (Some (x + 1)) (Some y) w l.ahead_is in
+    same_cell (record { x = x + 1; y = y }) w (value_is (x + 1) w.x parts.0) (value_is y w.y parts.1)
+
+pub none_left : (g : GridData) (y : ℕ) (w : Cell) → legal_ahead g (record { x = zero; y = y }) W ≡ Some w → ⊥
+none_left g y w e =
+    let l = legal_leads g (record { x = zero; y = y }) w W e in
+    let parts = parts_of None (Some y) w l.ahead_is in
+    let none = parts.0 in cc
+
 -- along a row, told from the end
 module _ (g : GridData) (whole : IsGrid g) (y : ℕ) (above here below forced : List Bool) (out : List ℤ)
     (around : AreRowsAround g y above here below) where
@@ -346,21 +367,13 @@ module _ (g : GridData) (whole : IsGrid g) (y : ℕ) (above here below forced : 
   module _ (forced_is : IsForcedRow g y W forced) (long : length out ≡ g.width + 2)
       (are_told : (x : ℕ) → x < length out - 2 → IsToldAlong here forced W out x) where
     -- to the left each column rests on the one before
-    next_left : (k : ℕ) (w : Cell) → legal_ahead g (record { x = suc k; y = y }) W ≡ Some w
-        → record { x = k; y = y } ≡ w
-    next_left k w e =
-        let l = legal_leads g (record { x = suc k; y = y }) w W e in
-        let parts = parts_of (Some k) (Some y) w l.ahead_is in
-        same_cell (record { x = k; y = y }) w (value_is k w.x parts.0) (value_is y w.y parts.1)
-
     west_column : (x : ℕ) → x < g.width → number out (x + 1) ≡ table_entry g (record { x = x; y = y }) W
     west_column zero within = at_column W refl (λ n. refl) forced_is long are_told (λ x. refl) zero within
-        (λ w e. absurd (let l = legal_leads g (record { x = zero; y = y }) w W e in
-        let parts = parts_of None (Some y) w l.ahead_is in let none = parts.0 in cc))
+        (λ w e. absurd (none_left g y w e))
     west_column (suc k) within = at_column W refl (λ n. refl) forced_is long are_told (λ x. refl) (suc k)
         within
         (λ w e. ap (λ (n : ℕ). number out n) (let m : suc k ≡ k + 1 = omega arith in m)
-        ∙ west_column k (omega arith) ∙ ap (λ (v : Cell). table_entry g v W) (next_left k w e))
+        ∙ west_column k (omega arith) ∙ ap (λ (v : Cell). table_entry g v W) (next_left g y k w e))
 
     pub west_row : IsEntryRow g y W out
     west_row = whole_entries W west_column
@@ -368,22 +381,15 @@ module _ (g : GridData) (whole : IsGrid g) (y : ℕ) (above here below forced : 
   module _ (forced_is : IsForcedRow g y E forced) (long : length out ≡ g.width + 2)
       (are_told : (x : ℕ) → x < length out - 2 → IsToldAlong here forced E out x) where
     -- and to the right on the one behind
-    next_right : (x : ℕ) (w : Cell) → legal_ahead g (record { x = x; y = y }) E ≡ Some w
-        → record { x = x + 1; y = y } ≡ w
-    next_right x w e =
-        let l = legal_leads g (record { x = x; y = y }) w E e in
-        let parts = parts_of (Some (x + 1)) (Some y) w l.ahead_is in
-        same_cell (record { x = x + 1; y = y }) w (value_is (x + 1) w.x parts.0) (value_is y w.y parts.1)
-
     east_column : (n x : ℕ) → x + suc n ≡ g.width
         → number out (x + 1) ≡ table_entry g (record { x = x; y = y }) E
     east_column zero x e = at_column E refl (λ n. refl) forced_is long are_told (λ x. refl) x (omega arith)
         (λ w k. absurd (let l = legal_leads g (record { x = x; y = y }) w E k in
         let there = free_inside g w (legal_is g (record { x = x; y = y }) w l.legal).target in
-        let column : x + 1 ≡ w.x = ap (λ (v : Cell). v.x) (next_right x w k) in omega (arith, there.0)))
+        let column : x + 1 ≡ w.x = ap (λ (v : Cell). v.x) (next_right g y x w k) in omega (arith, there.0)))
     east_column (suc n) x e = at_column E refl (λ n. refl) forced_is long are_told (λ x. refl) x (omega arith)
         (λ w k. ap (λ (n : ℕ). number out n) (let m : x + 2 ≡ x + 1 + 1 = omega arith in m)
-        ∙ east_column n (x + 1) (omega arith) ∙ ap (λ (v : Cell). table_entry g v E) (next_right x w k))
+        ∙ east_column n (x + 1) (omega arith) ∙ ap (λ (v : Cell). table_entry g v E) (next_right g y x w k))
 
     pub east_row : IsEntryRow g y E out
     east_row = whole_entries E (λ x within. east_column (g.width - suc x) x (omega arith))

@@ -10,7 +10,7 @@ use Rattle.pruning.specs.Turns.{turn}
 use Rattle.plus_tables.specs.declared.lines.Line.{Line}
 use Rattle.plus_tables.specs.declared.lines.Band.{Band}
 use Rattle.plus_tables.specs.declared.lines.Rows.{Rows}
-use Rattle.plus_tables.specs.Rows.{IsFlagRow, IsEntryRow, IsRowAt, AreRowsAround}
+use Rattle.plus_tables.specs.Rows.{AreSame, IsFlagRow, IsEntryRow, IsRowAt, AreRowsAround}
 use Rattle.plus_tables.specs.Sweep.{is_row, is_upward}
 
 -- each of the five rows has one entry for each column, one before and one after
@@ -42,6 +42,12 @@ pub record IsBand (g : GridData) (d : Dir) (y : ℕ) (band : Band) : Type 0 wher
   pub back_is : IsFlagRow g back_row band.back.items
   pub up : d ≡ N → ahead < 4096 → AreRowsAround g ahead band.far.items band.next.items band.here.items
   pub down : d ≡ S → ahead < 4096 → AreRowsAround g ahead band.here.items band.next.items band.far.items
+
+-- the four rows of flags are the same
+pub record AreAlike (band : Band) : Type 0 where
+  pub far : AreSame band.far.items band.next.items
+  pub next : AreSame band.next.items band.here.items
+  pub here : AreSame band.here.items band.back.items
 
 -- the entries of a row for the directions that lead up or along it, and those for the others
 abbrev pub upward_row : ℕ → Cell → Dir → Bool

@@ -86,6 +86,10 @@ abbrev pub mark_by : List Bool → List ℤ → List ℤ → Dir → ℕ → Boo
 mark_by forced right left d at =
     flag forced at || (is_diagonal d && (tells_mark (number right at) || tells_mark (number left at)))
 
+-- the flags of two rows are the same
+abbrev pub AreSame : List Bool → List Bool → Type 0
+AreSame one other = (k : ℕ) → flag one k ≡ flag other k
+
 -- for each cell of a row whether it is free
 pub record IsFlagRow (g : GridData) (y : ℕ) (row : List Bool) : Type 0 where
   pub long : length row ≡ g.width + 2

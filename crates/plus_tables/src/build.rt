@@ -53,7 +53,14 @@ impl Tables {
         ensures kept { IsKept (T.grid t.now) Dir.N (y + 1) rows.new }
     {
         read_row(t, y + 1, &mut rows.band.back);
-        tell_up(t, &rows.band, &rows.last, &mut rows.forced, &mut rows.this);
+        tell_up(
+            t,
+            y,
+            &rows.band,
+            &rows.last,
+            &mut rows.forced,
+            &mut rows.this,
+        );
         self.lay_up(t, y, &rows.this);
         rows.go_on();
     }
@@ -69,7 +76,14 @@ impl Tables {
     {
         read_row(t, before(y), &mut rows.band.back);
         tell_down(t, &rows.band, &rows.last, &mut rows.forced, &mut rows.this);
-        self.take_along(y, &mut rows.this.east, &mut rows.this.west);
+        self.bring_along(
+            t,
+            y,
+            &rows.band,
+            &rows.last,
+            &mut rows.this.east,
+            &mut rows.this.west,
+        );
         self.lay_down(t, y, &rows.this);
         rows.go_on();
     }

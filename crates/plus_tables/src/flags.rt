@@ -3,7 +3,7 @@
 //! What belongs to column `x` stands at `x + 1`, so that each column has one before and one after it. No loop has
 //! a branch, and each direction and corner rule has code of its own, which the compiler turns into vector code.
 
-ghost use Rattle.std.specs.Prelude.{◌≡◌, ℕ, ◌+◌, ◌-◌, ◌<◌, ◌≤◌, false, length};
+ghost use Rattle.std.specs.Prelude.{◌≡◌, ℕ, ◌+◌, ◌-◌, ◌<◌, ◌≤◌, false, true, length};
 ghost use Rattle.grid_moves.specs.Move as moves;
 ghost use Rattle.plus_tables.specs.Rows as spec;
 
@@ -203,4 +203,17 @@ pub fn read_row<T: Terrain>(t: &T, y: u16, row: &mut [bool])
     for x in 0..t.width() {
         row[x as usize + 1] = t.free(Cell { x, y });
     }
+}
+
+/// Whether two rows have the same flags.
+#[inline(never)]
+pub fn are_same(one: &[bool], other: &[bool]) -> bool
+    requires { length other.now ≡ length one.now }
+    ensures { result ≡ true → spec.AreSame one.now other.now }
+{
+    let mut differ = false;
+    for k in 0..one.len() {
+        differ = differ | (one[k] ^ other[k]);
+    }
+    !differ
 }

@@ -7,7 +7,7 @@ ghost use Rattle.pruning.specs.Turns.{turn, is_diagonal};
 ghost use Rattle.plus_tables.specs.Rows as spec;
 ghost use Rattle.plus_tables.specs.Lines as lines;
 
-use crate::flags::{force, read_row};
+use crate::flags::{are_same, force, read_row};
 use crate::rows::{Ahead, Three, across, east, west};
 use grid_moves::{Dir, NoMemory, Terrain};
 use pruning::Side;
@@ -74,6 +74,18 @@ impl Line {
             west: numbers(alloc, width)?,
         })
     }
+
+    /// Copies the entries along the row.
+    #[inline(always)]
+    pub fn copy_along(&self, east: &mut [i16], west: &mut [i16])
+        requires east { length self.now.east.items ≡ length east.old }
+        requires west { length self.now.west.items ≡ length west.old }
+        ensures east { east.new ≡ self.now.east.items }
+        ensures west { west.new ≡ self.now.west.items }
+    {
+        east.copy_from_slice(&self.east);
+        west.copy_from_slice(&self.west);
+    }
 }
 
 impl Band {
@@ -91,6 +103,19 @@ impl Band {
             here: blocked(alloc, width)?,
             back: blocked(alloc, width)?,
         })
+    }
+
+    /// Whether the four rows are the same. Then the row that was swept last lies between the same rows as this
+    /// one, and has the same entries along it.
+    pub fn are_alike(&self) -> bool
+        requires next { length self.now.next.items ≡ length self.now.far.items }
+        requires here { length self.now.here.items ≡ length self.now.next.items }
+        requires back { length self.now.back.items ≡ length self.now.here.items }
+        ensures { result ≡ true → lines.AreAlike self.now }
+    {
+        are_same(&self.far, &self.next)
+            && are_same(&self.next, &self.here)
+            && are_same(&self.here, &self.back)
     }
 }
 
@@ -208,17 +233,58 @@ fn tell_west<T: Terrain>(t: &T, rows: Three, forced: &mut [bool], out: &mut [i16
     west(rows.here, forced, out);
 }
 
+// The entries of a row for E and W: those of the row above, where both lie between the same rows.
+fn tell_along<T: Terrain>(
+    t: &T,
+    y: u16,
+    band: &Band,
+    last: &Line,
+    forced: &mut [bool],
+    east: &mut [i16],
+    west: &mut [i16],
+)
+    requires whole { IsGrid (T.grid t.now) }
+    requires inside { y < (T.grid t.now).height }
+    requires ready { lines.IsReady (T.grid t.now) Dir.N y band.now last.now }
+    requires around { spec.AreRowsAround (T.grid t.now) y band.now.next.items band.now.here.items
+        band.now.back.items }
+    requires forced { length forced.old ≡ (T.grid t.now).width + 2 }
+    requires east { length east.old ≡ (T.grid t.now).width + 2 }
+    requires west { length west.old ≡ (T.grid t.now).width + 2 }
+    ensures east { spec.IsEntryRow (T.grid t.now) y Dir.E east.new }
+    ensures west { spec.IsEntryRow (T.grid t.now) y Dir.W west.new }
+{
+    if 0 < y && band.are_alike() {
+        last.copy_along(east, west);
+    } else {
+        let rows = Three {
+            above: &band.next,
+            here: &band.here,
+            below: &band.back,
+        };
+        tell_east(t, rows, forced, east);
+        tell_west(t, rows, forced, west);
+    }
+}
+
 /// The entries of a row for all directions that lead up or along it, told by those of the row above.
 #[inline(never)]
-pub fn tell_up<T: Terrain>(t: &T, band: &Band, last: &Line, forced: &mut [bool], this: &mut Line)
+pub fn tell_up<T: Terrain>(
+    t: &T,
+    y: u16,
+    band: &Band,
+    last: &Line,
+    forced: &mut [bool],
+    this: &mut Line,
+)
     requires whole { IsGrid (T.grid t.now) }
-    requires ready { (y : ℕ) × lines.IsReady (T.grid t.now) Dir.N y band.now last.now
-        × spec.AreRowsAround (T.grid t.now) y band.now.next.items band.now.here.items band.now.back.items }
+    requires inside { y < (T.grid t.now).height }
+    requires ready { lines.IsReady (T.grid t.now) Dir.N y band.now last.now }
+    requires around { spec.AreRowsAround (T.grid t.now) y band.now.next.items band.now.here.items
+        band.now.back.items }
     requires forced { length forced.old ≡ (T.grid t.now).width + 2 }
     requires long { lines.IsLong (T.grid t.now) this.old }
-    ensures told { (y : ℕ) → lines.IsReady (T.grid t.now) Dir.N y band.now last.now
-        → spec.AreRowsAround (T.grid t.now) y band.now.next.items band.now.here.items band.now.back.items
-        → lines.IsLine (T.grid t.now) Dir.N y this.new }
+    ensures told { lines.IsLine (T.grid t.now) Dir.N y this.new }
     ensures long { lines.IsLong (T.grid t.now) this.new }
 {
     let beyond = Three {
@@ -249,8 +315,7 @@ pub fn tell_up<T: Terrain>(t: &T, band: &Band, last: &Line, forced: &mut [bool],
     tell_across(t, beyond, rows, up, Dir::N, forced, &mut this.straight);
     tell_across(t, beyond, rows, right, Dir::NE, forced, &mut this.right);
     tell_across(t, beyond, rows, left, Dir::NW, forced, &mut this.left);
-    tell_east(t, rows, forced, &mut this.east);
-    tell_west(t, rows, forced, &mut this.west);
+    tell_along(t, y, band, last, forced, &mut this.east, &mut this.west);
 }
 
 /// The entries of a row for all directions that lead down, told by those of the row below.

@@ -5,7 +5,7 @@ ghost use Rattle.grid_moves.specs.Grid.{IsGrid, is_free};
 ghost use Rattle.plus_tables.specs.Tables as spec;
 ghost use Rattle.plus_tables.specs.Local as local;
 
-use crate::lines::Line;
+use crate::lines::{Band, Line};
 use crate::onward::{is_forced_next, next};
 use crate::rows::from_before;
 use grid_moves::{Cell, Corner, Dir, NoMemory, Terrain, dir_number};
@@ -76,9 +76,9 @@ impl Tables {
     ghost use Rattle.plus_tables.specs.Entry.{table_entry};
     ghost use Rattle.grid_moves.specs.Move.{legal_ahead};
     ghost use Rattle.plus_tables.specs.Local.{is_mark_by};
-    ghost use Rattle.plus_tables.specs.Sweep.{AreSwept};
-    ghost use Rattle.plus_tables.specs.Rows.{number};
-    ghost use Rattle.plus_tables.specs.Lines.{AreBelow, IsLine, IsLong, downward_row, upward_row};
+    ghost use Rattle.plus_tables.specs.Sweep.{AreRight, AreSwept, from_row};
+    ghost use Rattle.plus_tables.specs.Rows.{AreRowsAround, IsEntryRow, number};
+    ghost use Rattle.plus_tables.specs.Lines.{AreBelow, IsLine, IsLong, IsReady, downward_row, upward_row};
     ghost use Rattle.plus_tables.specs.Tables.{AreSized, IsWhole, RestsRight, entry_at, is_on, is_place, tables_with};
     ghost use Rattle.plus_tables.specs.Laid.{with_down, with_up};
 
@@ -257,6 +257,37 @@ impl Tables {
             let c = Cell { x, y };
             east[x as usize + 1] = self.get(c, Dir::E);
             west[x as usize + 1] = self.get(c, Dir::W);
+        }
+    }
+
+    // The entries of a row for E and W: those of the row below, where both lie between the same rows, else they
+    // are read back.
+    pub(crate) fn bring_along<T: Terrain>(
+        &self,
+        t: &T,
+        y: u16,
+        band: &Band,
+        last: &Line,
+        east: &mut [i16],
+        west: &mut [i16],
+    )
+        requires whole { IsGrid (T.grid t.now) }
+        requires inside { y < self.now.height }
+        requires right { AreRight self.now (T.grid t.now) (from_row (y + 1)) }
+        requires ready { IsReady (T.grid t.now) Dir.S y band.now last.now }
+        requires around { AreRowsAround (T.grid t.now) y band.now.back.items band.now.here.items
+            band.now.next.items }
+        requires east { length east.old ≡ (T.grid t.now).width + 2 }
+        requires west { length west.old ≡ (T.grid t.now).width + 2 }
+        ensures east { IsEntryRow (T.grid t.now) y Dir.E east.new }
+        ensures west { IsEntryRow (T.grid t.now) y Dir.W west.new }
+        ensures east_long { length east.new ≡ (T.grid t.now).width + 2 }
+        ensures west_long { length west.new ≡ (T.grid t.now).width + 2 }
+    {
+        if y + 1 < self.height && band.are_alike() {
+            last.copy_along(east, west);
+        } else {
+            self.take_along(y, east, west);
         }
     }
 

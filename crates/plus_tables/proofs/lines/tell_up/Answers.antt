@@ -6,14 +6,16 @@ use Rattle.plus_tables.proofs.Lining.{around_as, entries_as}
 use Rattle.plus_tables.proofs.lines.tell_up.Goals as goal
 
 pub returns-clause-told : goal.returns-clause-told
-returns-clause-told g c = λ y ready around.
+returns-clause-told g c =
     let grid : GridData = g.T.Terrain.grid c.args.t.now in
+    let y = c.args.y in
+    let ready = c.requires.ready in
     let band = c.args.band.now in
     let last = c.args.last.now in
     let m = ready.rows.ahead in
     let here = around_as grid y band.next.items band.here.items band.back.items c.deref-4.result.now
     c.deref-5.result.now c.deref-6.result.now c.deref-4.ensures.value c.deref-5.ensures.value
-    c.deref-6.ensures.value around in
+    c.deref-6.ensures.value c.requires.around in
     record {
       straight = entries_as grid y N c.tell_across.new.out _
           (with_items_is c.args.this.now.straight c.tell_across.new.out (omega arith))
@@ -52,8 +54,8 @@ returns-clause-told g c = λ y ready around.
           ready.told.straight)
           (entries_as grid m W last.west.items c.deref-15.result.now c.deref-15.ensures.value ready.told.west)
           (λ h. (refl, refl)));
-      east = entries_as grid y E c.tell_east.new.out _
-          (with_items_is c.args.this.now.east c.tell_east.new.out (omega arith)) (c.tell_east.ensures y here);
-      west = entries_as grid y W c.tell_west.new.out _
-          (with_items_is c.args.this.now.west c.tell_west.new.out (omega arith)) (c.tell_west.ensures y here);
+      east = entries_as grid y E c.tell_along.new.east _
+          (with_items_is c.args.this.now.east c.tell_along.new.east (omega arith)) c.tell_along.ensures.east;
+      west = entries_as grid y W c.tell_along.new.west _
+          (with_items_is c.args.this.now.west c.tell_along.new.west (omega arith)) c.tell_along.ensures.west;
     }

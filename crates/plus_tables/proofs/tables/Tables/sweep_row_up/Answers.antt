@@ -15,21 +15,15 @@ tell_up-requires-clause-ready g c =
     let rows = c.args.rows.now in
     let back = flags_as grid (c.args.y + 1) c.read_row.new.row _
     (with_items_is rows.band.back c.read_row.new.row (omega arith)) c.read_row.ensures in
-    let ready = ready_back grid _ c.args.y (c.args.y + 1) rows.band _ rows.last c.requires.kept.ready refl
-    refl refl
-    back in
-    (c.args.y, ready, around_up grid c.args.y _ rows.last ready back)
+    ready_back grid _ c.args.y (c.args.y + 1) rows.band _ rows.last c.requires.kept.ready refl refl refl back
 
-pub lay_up-requires-clause-told : goal.lay_up-requires-clause-told
-lay_up-requires-clause-told g c =
+pub tell_up-requires-clause-around : goal.tell_up-requires-clause-around
+tell_up-requires-clause-around g c =
     let grid : GridData = g.T.Terrain.grid c.args.t.now in
     let rows = c.args.rows.now in
     let back = flags_as grid (c.args.y + 1) c.read_row.new.row _
     (with_items_is rows.band.back c.read_row.new.row (omega arith)) c.read_row.ensures in
-    let ready = ready_back grid _ c.args.y (c.args.y + 1) rows.band _ rows.last c.requires.kept.ready refl
-    refl refl
-    back in
-    c.tell_up.ensures.told c.args.y ready (around_up grid c.args.y _ rows.last ready back)
+    around_up grid c.args.y rows.band rows.last _ c.requires.kept.ready back
 
 pub returns-clause-right : goal.returns-clause-right
 returns-clause-right g c =
@@ -43,14 +37,10 @@ returns-clause-kept g c =
     let rows = c.args.rows.now in
     let back = flags_as grid (c.args.y + 1) c.read_row.new.row _
     (with_items_is rows.band.back c.read_row.new.row (omega arith)) c.read_row.ensures in
-    let ready = ready_back grid _ c.args.y (c.args.y + 1) rows.band _ rows.last c.requires.kept.ready refl
-    refl refl
-    back in
     let same = with_items_is rows.forced c.tell_up.new.forced (omega arith) in
     let room : length c.tell_up.new.forced ≡ grid.width + 2 = omega (arith, c.requires.kept.forced) in
-    kept_up grid c.args.y _ rows.last c.tell_up.new.this c.go_on.new.self ready back
-    (c.tell_up.ensures.told c.args.y ready (around_up grid c.args.y _ rows.last ready back))
-    c.tell_up.ensures.long
+    kept_up grid c.args.y rows.band rows.last c.tell_up.new.this _ c.go_on.new.self c.requires.kept.ready back
+    c.tell_up.ensures.told c.tell_up.ensures.long
     c.go_on.ensures.far c.go_on.ensures.next c.go_on.ensures.here c.go_on.ensures.back c.go_on.ensures.last
     (subst (λ (l : Line). IsLong grid l) (sym c.go_on.ensures.this) c.requires.kept.ready.long)
     (ap (λ (r : List Bool). length r) (c.go_on.ensures.forced ∙ same) ∙ room)

@@ -1,0 +1,166 @@
+-- Rows that lie between the same rows have the same entries along them.
+use Rattle.std.proofs.Common.{◌≡◌, ℕ, zero, suc, ◌+◌, ◌-◌, ◌<◌, arith, Bool, true, false, ◌||◌, List, length, refl, ap, sym, ◌∙◌}
+use Rattle.std.specs.Prelude.{ℤ, Some}
+use Rattle.std.proofs.lemmas.Bool.Decides.{nat_tests}
+use Rattle.grid_moves.specs.declared.Cell.{Cell}
+use Rattle.grid_moves.specs.declared.Dir.{Dir}
+use Rattle.grid_moves.specs.declared.Dir.TheVariants.{N, E, S, W}
+use Rattle.grid_moves.specs.Grid.{GridData, IsGrid, is_free, is_inside}
+use Rattle.grid_moves.specs.Move.{row_ahead, legal_ahead}
+use Rattle.grid_moves.proofs.Legal.{free_inside, legal_is}
+use Rattle.pruning.specs.declared.turns.Side.TheVariants.{Right, Left}
+use Rattle.pruning.specs.Turns.{is_diagonal}
+use Rattle.pruning.specs.Allowed.{can_move}
+use Rattle.pruning.specs.Marked.{is_forced}
+use Rattle.pruning.proofs.Bridging.{legal_leads}
+use Rattle.plus_tables.specs.declared.lines.Band.{Band}
+use Rattle.plus_tables.specs.declared.lines.Line.{Line}
+use Rattle.plus_tables.specs.Entry.{table_entry}
+use Rattle.plus_tables.specs.Local.{is_mark_by}
+use Rattle.plus_tables.specs.Rows.{AreSame, IsFlagRow, IsEntryRow, IsRowAt, AreRowsAround}
+use Rattle.plus_tables.specs.Lines.{AreAlike, IsReady}
+use Rattle.plus_tables.proofs.Rowing.{row_legal, ring_forced_on, told_is, next_left, next_right, none_left}
+
+-- rows with the same flags
+flags_same : (g : GridData) (n : ℕ) (row same : List Bool) → AreSame row same → length same ≡ g.width + 2
+    → IsFlagRow g n row → IsFlagRow g n same
+flags_same g n row same e long is = record {
+  long = long;
+  border = sym (e 0) ∙ is.border;
+  cells = λ x. sym (e (x + 1)) ∙ is.cells x;
+}
+
+around_same : (g : GridData) (n : ℕ) (a b c p q r : List Bool) → AreSame a p → AreSame b q → AreSame c r
+    → length p ≡ g.width + 2 → length q ≡ g.width + 2 → length r ≡ g.width + 2 → AreRowsAround g n a b c
+    → AreRowsAround g n p q r
+around_same g n a b c p q r i j k long wide broad is = record {
+  upper = is.upper;
+  lower = is.lower;
+  upper_is = is.upper_is;
+  lower_is = is.lower_is;
+  above_is = flags_same g is.upper a p i long is.above_is;
+  here_is = flags_same g n b q j wide is.here_is;
+  below_is = flags_same g is.lower c r k broad is.below_is;
+}
+
+module _ (g : GridData) (whole : IsGrid g) (y m : ℕ) (above here below : List Bool)
+    (one : AreRowsAround g y above here below) (other : AreRowsAround g m above here below) where
+  same_free : (x : ℕ) → is_free g (record { x = x; y = y }) ≡ is_free g (record { x = x; y = m })
+  same_free x = sym (one.here_is.cells x) ∙ other.here_is.cells x
+
+  same_move : (x : ℕ) (d : Dir)
+      → can_move g (record { x = x; y = y }) d ≡ can_move g (record { x = x; y = m }) d
+  same_move x d = sym (row_legal g whole y above here below one d g.corner refl (record { x = x; y = y }) refl)
+      ∙ row_legal g whole m above here below other d g.corner refl (record { x = x; y = m }) refl
+
+  same_forced : (x : ℕ) (d : Dir) → is_free g (record { x = x; y = m }) ≡ true
+      → is_forced g (record { x = x; y = y }) d ≡ is_forced g (record { x = x; y = m }) d
+  same_forced x d f =
+      let here_free = same_free x ∙ f in
+      both _ _ _ _
+      (sym (ring_forced_on g whole y above here below one x d Right here_free)
+      ∙ ring_forced_on g whole m above here below other x d Right f)
+      (sym (ring_forced_on g whole y above here below one x d Left here_free)
+      ∙ ring_forced_on g whole m above here below other x d Left f)
+    where
+      both : (a b p q : Bool) → a ≡ p → b ≡ q → (a || b) ≡ (p || q)
+      both a b p q e f = rw (e, f) refl
+
+  -- an entry is the same where that of the next cell is
+  same_by_next : (d : Dir) → is_diagonal d ≡ false → (x k : ℕ)
+      → ((n : ℕ) (w : Cell) → legal_ahead g (record { x = x; y = n }) d ≡ Some w
+      → record { x = k; y = n } ≡ w)
+      → ((w : Cell) → legal_ahead g (record { x = x; y = m }) d ≡ Some w
+      → table_entry g (record { x = k; y = y }) d ≡ table_entry g (record { x = k; y = m }) d)
+      → table_entry g (record { x = x; y = y }) d ≡ table_entry g (record { x = x; y = m }) d
+  same_by_next d straight x k leads next =
+      sym (told_is g (record { x = x; y = y }) d (can_move g (record { x = x; y = y }) d)
+      (is_forced g (record { x = k; y = y }) d) (table_entry g (record { x = k; y = y }) d) refl
+      (λ w e. ap (λ (v : Cell). is_forced g v d) (leads y w e) ∙ marked w)
+      (λ w e. ap (λ (v : Cell). table_entry g v d) (leads y w e)))
+      ∙ told_is g (record { x = x; y = m }) d (can_move g (record { x = x; y = y }) d)
+      (is_forced g (record { x = k; y = y }) d) (table_entry g (record { x = k; y = y }) d) (same_move x d)
+      (λ w e. same_forced k d (free_next w e) ∙ ap (λ (v : Cell). is_forced g v d) (leads m w e) ∙ marked w)
+      (λ w e. next w e ∙ ap (λ (v : Cell). table_entry g v d) (leads m w e))
+    where
+      or_false : (b : Bool) → b ≡ (b || false)
+      or_false true = refl
+      or_false false = refl
+
+      marked : (w : Cell) → is_forced g w d ≡ is_mark_by g (table_entry g) d w
+      marked w = rw straight (or_false (is_forced g w d))
+
+      free_next : (w : Cell) → legal_ahead g (record { x = x; y = m }) d ≡ Some w
+          → is_free g (record { x = k; y = m }) ≡ true
+      free_next w e =
+          let l = legal_leads g (record { x = x; y = m }) w d e in
+          ap (λ (v : Cell). is_free g v) (leads m w e)
+          ∙ (legal_is g (record { x = x; y = m }) w l.legal).target
+
+  same_west : (x : ℕ)
+      → table_entry g (record { x = x; y = y }) W ≡ table_entry g (record { x = x; y = m }) W
+  same_west zero = same_by_next W refl zero zero (λ n w e. absurd (none_left g n w e))
+      (λ w e. absurd (none_left g m w e))
+  same_west (suc k) = same_by_next W refl (suc k) k (λ n w e. next_left g n k w e) (λ w e. same_west k)
+
+  -- past the last column nothing is free
+  same_past : (x : ℕ) (d : Dir) → x ≡ g.width
+      → table_entry g (record { x = x; y = y }) d ≡ table_entry g (record { x = x; y = m }) d
+  same_past x d e = rw (blocked y, blocked m) refl
+    where
+      by_test : (n : ℕ) (b : Bool) → is_free g (record { x = x; y = n }) ≡ b
+          → is_free g (record { x = x; y = n }) ≡ false
+      by_test n false f = f
+      by_test n true f =
+          absurd (let inside = free_inside g (record { x = x; y = n }) f in omega (arith, inside.0))
+
+      blocked : (n : ℕ) → is_free g (record { x = x; y = n }) ≡ false
+      blocked n = by_test n (is_free g (record { x = x; y = n })) refl
+
+  same_east : (n x : ℕ) → x + n ≡ g.width
+      → table_entry g (record { x = x; y = y }) E ≡ table_entry g (record { x = x; y = m }) E
+  same_east zero x e = same_past x E (omega arith)
+  same_east (suc n) x e = same_by_next E refl x (x + 1) (λ k w h. next_right g k x w h)
+      (λ w h. same_east n (x + 1) (omega arith))
+
+  module _ (on : m < g.height) (row : List ℤ) where
+    same_row : (d : Dir)
+        → ((x : ℕ) → x < g.width
+        → table_entry g (record { x = x; y = y }) d ≡ table_entry g (record { x = x; y = m }) d)
+        → IsEntryRow g m d row → IsEntryRow g y d row
+    same_row d same is v at inside =
+        let within : v.x < g.width = grind (arith, nat_tests) in
+        let there : is_inside g (record { x = v.x; y = m }) ≡ true = grind (arith, nat_tests) in
+        is (record { x = v.x; y = m }) refl there ∙ sym (same v.x within)
+        ∙ ap (λ (n : ℕ). table_entry g (record { x = v.x; y = n }) d) (sym at)
+
+    pub east_again : IsEntryRow g m E row → IsEntryRow g y E row
+    east_again = same_row E (λ x within. same_east (g.width - x) x (omega arith))
+
+    pub west_again : IsEntryRow g m W row → IsEntryRow g y W row
+    west_again = same_row W (λ x within. same_west x)
+
+-- the row that was swept last lies on the map
+pub row_above : (y m h : ℕ) → IsRowAt (row_ahead N y) m → 0 < y → y < h → m < h
+row_above zero m h is some below = absurd (omega (arith, some))
+row_above (suc k) m h is some below = let e = is.some k refl in omega arith
+
+pub row_below : (y m h : ℕ) → IsRowAt (row_ahead S y) m → y + 1 < h → m < h
+row_below y m h is below = let e = is.some (y + 1) refl in omega arith
+
+-- and between the same rows as this one
+module _ (g : GridData) (y : ℕ) (band : Band) (last : Line) (alike : AreAlike band) where
+  pub alike_up : (ready : IsReady g N y band last) → ready.rows.ahead < 4096
+      → AreRowsAround g ready.rows.ahead band.next.items band.here.items band.back.items
+  alike_up ready on =
+      around_same g ready.rows.ahead band.far.items band.next.items band.here.items band.next.items
+      band.here.items band.back.items alike.far alike.next alike.here ready.rows.next_is.long
+      ready.rows.here_is.long ready.rows.back_is.long (ready.rows.up refl on)
+
+  pub alike_down : (ready : IsReady g S y band last) → ready.rows.ahead < 4096
+      → AreRowsAround g ready.rows.ahead band.back.items band.here.items band.next.items
+  alike_down ready on =
+      around_same g ready.rows.ahead band.here.items band.next.items band.far.items band.back.items
+      band.here.items band.next.items alike.here (λ k. alike.next k)
+      (λ k. alike.far k) ready.rows.back_is.long ready.rows.here_is.long ready.rows.next_is.long
+      (ready.rows.down refl on)
