@@ -23,7 +23,7 @@ impl Model for Layers {
 
     ghost view = { λ ls. record { land = ls.land; water = ls.water } };
 
-    ghost invariant = { λ ls. Unit {0} };
+    ghost invariant = { λ ls. spec.AreLayers (record { land = ls.land; water = ls.water }) };
 }
 
 /// The cell of this column and row, both counted from 0, where it lies inside.
@@ -79,6 +79,15 @@ impl Layers {
         let land = Grid::of_layer(alloc, width, height, cells, corner, Ground::Land)?;
         let water = Grid::of_layer(alloc, width, height, cells, corner, Ground::Water)?;
         Ok(Layers { land, water })
+    }
+
+    /// The land grid and the water grid: they have the same sides and corner rule, and no cell is free in both.
+    pub fn both(&self) -> (&Grid, &Grid)
+        ensures land { result.0.now ≡ self.now.land }
+        ensures water { result.1.now ≡ self.now.water }
+        ensures layers { spec.AreLayers self.now }
+    {
+        (&self.land, &self.water)
     }
 
     /// The land grid.
