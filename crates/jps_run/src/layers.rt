@@ -1,17 +1,21 @@
 //! The two grids of a map.
 
-ghost use Rattle.std.specs.Prelude.{◌≡◌, MatchOption, true, false};
+ghost use Rattle.std.specs.Prelude.{◌≡◌, IfOk, MatchOption, true, false};
 ghost use Rattle.grid_moves.specs.Grid.{is_inside};
 ghost use Rattle.grid_moves.specs.Layers as spec;
 ghost use Rattle.grid_moves.specs.Reply as replies;
+ghost use Rattle.plus_tables.specs.Tables.{AreTablesOf};
+ghost use Rattle.table_file.specs.Faults.{Tells, table_fault_of};
 
 use crate::NoMemory;
 use crate::files::{OfMap, corner_of};
 use crate::kind::Extent;
-use grid_moves::{Cell, Grid, Ground, Terrain};
+use grid_moves::{Cell, Corner, Grid, Ground, Terrain};
 use map_text::MapText;
+use plus_tables::Tables;
 use std::alloc::Global;
 use std::marker::Model;
+use table_file::{TableFault, load};
 use word_list::Settings;
 
 /// The land grid and the water grid of a map.
@@ -23,12 +27,13 @@ pub(crate) struct Layers {
 
 impl Model for Layers {
     ghost use Rattle.grid_moves.specs.Layers as spec;
+    ghost use Rattle.table_file.specs.Encoding.{AreOfOneMap};
 
     ghost Value = { spec.Layers };
 
     ghost view = { λ ls. record { land = ls.land; water = ls.water } };
 
-    ghost invariant = { λ ls. Unit {0} };
+    ghost invariant = { λ ls. AreOfOneMap ls.land ls.water };
 }
 
 impl OfMap for Layers {
@@ -44,11 +49,7 @@ impl OfMap for Layers {
     }
 
     fn of_map(alloc: Global, map: MapText, settings: Settings) -> Result<Layers, NoMemory> {
-        let cells = map.cells.as_slice();
-        let corner = corner_of(settings.one);
-        let land = Grid::of_layer(alloc, map.width, map.height, cells, corner, Ground::Land)?;
-        let water = Grid::of_layer(alloc, map.width, map.height, cells, corner, Ground::Water)?;
-        Ok(Layers { land, water })
+        Layers::new(alloc, &map, corner_of(settings.one))
     }
 }
 
@@ -77,6 +78,25 @@ impl OfMap for SmallLayers {
 }
 
 impl Layers {
+    /// The grids of a map, which get this corner rule.
+    pub(crate) fn new(alloc: Global, map: &MapText, corner: Corner) -> Result<Layers, NoMemory>
+        ensures { IfOk result (λ ls. ls ≡ spec.layers_of corner map.now.width map.now.height map.now.cells) }
+    {
+        let cells = map.cells.as_slice();
+        let land = Grid::of_layer(alloc, map.width, map.height, cells, corner, Ground::Land)?;
+        let water = Grid::of_layer(alloc, map.width, map.height, cells, corner, Ground::Water)?;
+        Ok(Layers { land, water })
+    }
+
+    /// The tables of both grids, where the text is their encoding, or else how it differs.
+    pub(crate) fn load(&self, alloc: Global, text: &[u8]) -> Result<(Tables, Tables), TableFault>
+        ensures land { IfOk result (λ tables. AreTablesOf tables.0 self.now.land) }
+        ensures water { IfOk result (λ tables. AreTablesOf tables.1 self.now.water) }
+        ensures exact { Tells result (table_fault_of self.now.land self.now.water text.now) }
+    {
+        load(alloc, text, &self.land, &self.water)
+    }
+
     /// The land grid.
     pub(crate) fn land(&self) -> &Grid
         ensures { result.now ≡ self.now.land }
