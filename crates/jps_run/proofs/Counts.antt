@@ -1,9 +1,7 @@
 -- The steps that searches count.
-use Rattle.std.proofs.Common.{◌≡◌, refl, sym, ap, ◌∙◌, subst, List, [], ◌∷◌, ◌++◌, ℕ, suc, ◌+◌, ◌*◌, ◌<◌, ◌≤◌, length, take, arith}
-use Rattle.std.specs.Prelude.{Result, Ok, Err, OnOk, slice_index_or, sum}
+use Rattle.std.proofs.Common.{◌≡◌, refl, sym, ap, ◌∙◌, subst, List, [], ◌∷◌, ◌++◌, ℕ, ◌+◌, ◌*◌, ◌≤◌, arith}
+use Rattle.std.specs.Prelude.{Option, Result, Ok, Err, OnOk, sum}
 use Rattle.std.specs.List.{fold}
-use Rattle.std.proofs.Math.Seq.{take-suc}
-use Rattle.std.proofs.lemmas.List.{take_all}
 use Rattle.std.proofs.lemmas.List.Sums.{sum_by_push}
 use Rattle.edit_replay.specs.Counting.{fewest_of, states_away}
 use Rattle.edit_replay.specs.Edited.{Edit}
@@ -137,27 +135,28 @@ drill-counted set seed d commands old new begun e rose =
     (subst (λ (some : List Command). RoseBy first (CommandsTake first some) old new) e
     (subst (λ (s : SessionData). RoseBy s (CommandsTake s commands) old new) begun rose))
 
-pub query-counted : (map text : List ℕ) (sx sy gx gy : ℕ) (set : Settings) (d : SessionData) (old new : ℕ)
+pub query-counted : (map text : List ℕ) (tables : Option (List ℕ)) (loaded : List (List ℕ)) (sx sy gx gy : ℕ)
+    (set : Settings) (d : SessionData) (old new : ℕ)
     → IsMade (IsSessionOn set) text d → RoseBy d (CommandsTake d (Query sx sy gx gy ∷ [])) old new
-    → RoseFor (call_with (asked.Query map sx sy gx gy) set) (text ∷ []) old new
-query-counted map text sx sy gx gy set d old new spelled rose =
-    replied map text sx sy gx gy set spelled.map old new spelled.spelled
+    → RoseFor (call_with (asked.Query map tables sx sy gx gy) set) (text ∷ loaded) old new
+query-counted map text tables loaded sx sy gx gy set d old new spelled rose =
+    replied map text tables loaded sx sy gx gy set spelled.map old new spelled.spelled
     (subst (λ (s : SessionData). RoseBy s (CommandsTake s (Query sx sy gx gy ∷ [])) old new) spelled.is rose)
 
-pub solve-counted : (map script text second : List ℕ) (set : Settings) (d : SessionData)
-    (commands some : List Command) (old new : ℕ) → IsMade (IsSessionOn set) text d → script_of second ≡ Ok commands
+pub solve-counted : (map script text second : List ℕ) (tables : Option (List ℕ)) (loaded : List (List ℕ))
+    (set : Settings) (d : SessionData) (commands some : List Command) (old new : ℕ) → IsMade (IsSessionOn set) text d → script_of second ≡ Ok commands
     → some ≡ commands → RoseBy d (CommandsTake d some) old new
-    → RoseFor (call_with (Solve map script) set) (text ∷ second ∷ []) old new
-solve-counted map script text second set d commands some old new spelled script_spelled e rose =
-    solved map script text second set spelled.map commands old new spelled.spelled script_spelled
+    → RoseFor (call_with (Solve map tables script) set) (text ∷ (loaded ++ second ∷ [])) old new
+solve-counted map script text second tables loaded set d commands some old new spelled script_spelled e rose =
+    solved map script text second tables loaded set spelled.map commands old new spelled.spelled script_spelled
     (subst (λ (s : SessionData). RoseBy s (CommandsTake s commands) old new) spelled.is
     (subst (λ (all : List Command). RoseBy d (CommandsTake d all) old new) e rose))
 
-pub scen-counted : (map scen text second : List ℕ) (set : Settings) (d : SessionData)
-    (entries some : List Entry) (old new : ℕ) → IsMade (IsSessionOn set) text d → scen_of second ≡ Ok entries
+pub scen-counted : (map scen text second : List ℕ) (tables : Option (List ℕ)) (loaded : List (List ℕ))
+    (set : Settings) (d : SessionData) (entries some : List Entry) (old new : ℕ) → IsMade (IsSessionOn set) text d → scen_of second ≡ Ok entries
     → some ≡ entries → RoseBy d (EntriesTake d some) old new
-    → RoseFor (call_with (Scen map scen) set) (text ∷ second ∷ []) old new
-scen-counted map scen text second set d entries some old new spelled scen_spelled e rose =
-    judged map scen text second set spelled.map entries old new spelled.spelled scen_spelled
+    → RoseFor (call_with (Scen map tables scen) set) (text ∷ (loaded ++ second ∷ [])) old new
+scen-counted map scen text second tables loaded set d entries some old new spelled scen_spelled e rose =
+    judged map scen text second tables loaded set spelled.map entries old new spelled.spelled scen_spelled
     (subst (λ (s : SessionData). RoseBy s (EntriesTake s entries) old new) spelled.is
     (subst (λ (all : List Entry). RoseBy d (EntriesTake d all) old new) e rose))

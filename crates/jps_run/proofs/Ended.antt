@@ -34,6 +34,7 @@ module _ (words : List (List ℕ)) (holds : List ℕ → Held) (input : Option (
         → AreHeard call holds input h.known.lines refusal
     heard-by call h = record {
       map = h.map;
+      tables = h.tables;
       settings = h.settings;
       is = h.is;
       text = h.text;

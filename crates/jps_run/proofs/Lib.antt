@@ -10,6 +10,7 @@ pub mod Solving
 pub mod Judgements
 pub mod Opening
 pub mod Readings
+pub mod Loading
 pub mod Writing
 pub mod Hearing
 pub mod Listening

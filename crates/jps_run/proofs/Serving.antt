@@ -1,5 +1,5 @@
 -- The work on a call, from its files to its output.
-use Rattle.std.proofs.Common.{◌≡◌, refl, subst, ◌≤◌, ◌⊎◌, inl, inr, List, [], ◌∷◌, ℕ, true, arith}
+use Rattle.std.proofs.Common.{◌≡◌, subst, inl, inr, List, ◌∷◌, ℕ, arith}
 use Rattle.std.specs.Prelude.{None, Some, Option, Result, IsErrAnd}
 use Rattle.io_edge.specs.Told.{Disk, Held, Inflow, Outflow}
 use Rattle.edit_replay.specs.Session.{SessionData}
@@ -26,6 +26,7 @@ pub on-live : (call : Call) (holds : List ℕ → Held) (job : Answers) → IsLi
     → (Known : SessionData → Show → Type 0) → Known job.session job.show → OnLive call holds Known
 on-live call holds job l Known k = record {
   map = l.on.map;
+  tables = l.on.tables;
   settings = l.on.settings;
   is = l.on.is;
   text = l.on.text;

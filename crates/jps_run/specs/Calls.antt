@@ -1,22 +1,28 @@
 -- A call as data: the files that it reads, and whether it reads the input.
-use Rattle.std.specs.Prelude.{◌≡◌, ℕ, Bool, true, false, List, [], ◌∷◌}
+use Rattle.std.specs.Prelude.{◌≡◌, ℕ, Bool, true, false, List, [], ◌∷◌, ◌++◌, Option, Some, None}
 use Rattle.io_edge.specs.Told.{Held}
 use Rattle.word_list.specs.Request.{Asked, Call, Help, Version, Query, Solve, Live, Scen, Judge, Prove, Check, Make, Drill, Draw, Costs, Tables, Boxes, Moves}
 use Rattle.word_list.specs.declared.request.Settings.{Settings}
 use Rattle.jps_run.specs.Files.{AreAccepted, File, file_of}
+use Rattle.jps_run.specs.Session.{corner_of}
 use Rattle.jps_run.specs.declared.kind.Kind.TheVariants as kind
 
 -- a call by what is asked for and how
 abbrev pub call_with : Asked → Settings → Call
 call_with asked set = record { request = asked; settings = set }
 
+-- the files of a session: that of its map, and the table file where one is named
+abbrev pub session_files : Settings → List ℕ → Option (List ℕ) → List File
+session_files set map None = file_of kind.Map map ∷ []
+session_files set map (Some tables) = file_of kind.Map map ∷ file_of (kind.Tables (corner_of set.one)) tables ∷ []
+
 -- the files of what is asked for, as the settings ask, in the order in which they are read
 abbrev asked_files : Settings → Asked → List File
 asked_files set Help = []
 asked_files set Version = []
-asked_files set (Query map sx sy gx gy) = file_of kind.Map map ∷ []
-asked_files set (Solve map script) = file_of kind.Map map ∷ file_of kind.Script script ∷ []
-asked_files set (Live map) = file_of kind.Map map ∷ []
+asked_files set (Query map tables sx sy gx gy) = session_files set map tables
+asked_files set (Solve map tables script) = session_files set map tables ++ file_of kind.Script script ∷ []
+asked_files set (Live map tables) = session_files set map tables
 asked_files set (Judge map scen walks) =
     file_of kind.Map map ∷ file_of kind.Scen scen ∷ file_of kind.Walks walks ∷ []
 asked_files set (Prove map sx sy gx gy) = file_of kind.Map map ∷ []
@@ -28,7 +34,7 @@ asked_files set (Costs map x y) = file_of kind.Map map ∷ []
 asked_files set (Tables map) = file_of kind.Map map ∷ []
 asked_files set (Boxes map x y) = file_of kind.SmallMap map ∷ []
 asked_files set (Moves map x y) = file_of kind.SmallMap map ∷ []
-asked_files set (Scen map scen) = file_of kind.Map map ∷ file_of kind.Scen scen ∷ []
+asked_files set (Scen map tables scen) = session_files set map tables ++ file_of kind.Scen scen ∷ []
 
 -- the files of a call
 abbrev pub files_of : Call → List File
@@ -36,7 +42,7 @@ files_of call = asked_files call.settings call.request
 
 -- whether what is asked for is read from the input
 abbrev pub reads_input : Asked → Bool
-reads_input (Live map) = true
+reads_input (Live map tables) = true
 reads_input other = false
 
 -- the input may be read for the call: it asks for it, and each of its files is accepted

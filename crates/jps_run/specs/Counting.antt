@@ -1,5 +1,5 @@
 -- How many steps a call counts at least: so many for each state that its searches take away from their goals.
-use Rattle.std.specs.Prelude.{◌≡◌, ℕ, ◌+◌, ◌*◌, ◌≤◌, Bool, true, false, List, [], ◌∷◌, sum, Option, None, Ok}
+use Rattle.std.specs.Prelude.{◌≡◌, ℕ, ◌+◌, ◌*◌, ◌≤◌, Bool, true, false, List, [], ◌∷◌, ◌++◌, sum, Option, None, Ok}
 use Rattle.io_edge.specs.Told.{Held}
 use Rattle.grid_moves.specs.declared.Cell.{Cell}
 use Rattle.map_text.specs.Map.{Map}
@@ -70,10 +70,10 @@ pub record RoseBy (d : SessionData) (Takes : List ℕ → Type 0) (old new : ℕ
 abbrev pub searches : Asked → Bool
 searches Help = false
 searches Version = false
-searches (Query map sx sy gx gy) = true
-searches (Solve map script) = true
-searches (Live map) = true
-searches (Scen map scen) = true
+searches (Query map tables sx sy gx gy) = true
+searches (Solve map tables script) = true
+searches (Live map tables) = true
+searches (Scen map tables scen) = true
 searches (Judge map scen walks) = false
 searches (Prove map sx sy gx gy) = false
 searches (Check map cert) = false
@@ -85,21 +85,24 @@ searches (Tables map) = false
 searches (Boxes map x y) = false
 searches (Moves map x y) = false
 
--- the counter rose as the searches of a call make it, on the texts of its files
+-- the counter rose as the searches of a call make it, on the texts of its files; `loaded` is that of the table file, where
+-- one is named
 pub data RoseFor : Call → List (List ℕ) → ℕ → ℕ → Type 0 where
-  replied : (map text : List ℕ) (sx sy gx gy : ℕ) (set : Settings) (m : Map) (old new : ℕ)
+  replied : (map text : List ℕ) (tables : Option (List ℕ)) (loaded : List (List ℕ)) (sx sy gx gy : ℕ) (set : Settings)
+      (m : Map) (old new : ℕ)
       → map_of text ≡ Ok m
       → RoseBy (session_on set m) (CommandsTake (session_on set m) (command.Query sx sy gx gy ∷ [])) old new
-      → RoseFor (call_with (Query map sx sy gx gy) set) (text ∷ []) old new
-  solved : (map script text second : List ℕ) (set : Settings) (m : Map) (commands : List Command)
-      (old new : ℕ)
+      → RoseFor (call_with (Query map tables sx sy gx gy) set) (text ∷ loaded) old new
+  solved : (map script text second : List ℕ) (tables : Option (List ℕ)) (loaded : List (List ℕ)) (set : Settings)
+      (m : Map) (commands : List Command) (old new : ℕ)
       → map_of text ≡ Ok m → script_of second ≡ Ok commands
       → RoseBy (session_on set m) (CommandsTake (session_on set m) commands) old new
-      → RoseFor (call_with (Solve map script) set) (text ∷ second ∷ []) old new
-  judged : (map scen text second : List ℕ) (set : Settings) (m : Map) (entries : List Entry) (old new : ℕ)
+      → RoseFor (call_with (Solve map tables script) set) (text ∷ (loaded ++ second ∷ [])) old new
+  judged : (map scen text second : List ℕ) (tables : Option (List ℕ)) (loaded : List (List ℕ)) (set : Settings)
+      (m : Map) (entries : List Entry) (old new : ℕ)
       → map_of text ≡ Ok m → scen_of second ≡ Ok entries
       → RoseBy (session_on set m) (EntriesTake (session_on set m) entries) old new
-      → RoseFor (call_with (Scen map scen) set) (text ∷ second ∷ []) old new
+      → RoseFor (call_with (Scen map tables scen) set) (text ∷ (loaded ++ second ∷ [])) old new
   drilled : (seed : ℕ) (set : Settings) (old new : ℕ)
       → RoseBy (session_on set (made_map seed 256 256 25))
       (CommandsTake (session_on set (made_map seed 256 256 25)) (drill_commands seed)) old new

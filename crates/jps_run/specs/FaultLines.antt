@@ -1,5 +1,7 @@
 -- The lines of refused words and texts.
 use Rattle.std.specs.Prelude.{ℕ, List, ◌++◌, codes, decimal}
+use Rattle.grid_moves.specs.declared.Ground.{Ground}
+use Rattle.grid_moves.specs.declared.Ground.TheVariants.{Blocked, Land, Water}
 use Rattle.map_text.specs.declared.fault.MapFault.{MapFault}
 use Rattle.map_text.specs.declared.fault.MapFault.TheVariants as map
 use Rattle.scen_text.specs.declared.fault.ScenFault.{ScenFault}
@@ -8,8 +10,11 @@ use Rattle.script_text.specs.declared.fault.ScriptFault.{ScriptFault}
 use Rattle.script_text.specs.declared.fault.ScriptFault.TheVariants as script
 use Rattle.potential_check.specs.declared.fault.CertFault.{CertFault}
 use Rattle.potential_check.specs.declared.fault.CertFault.TheVariants as cert
+use Rattle.table_file.specs.declared.fault.TableFault.{TableFault}
+use Rattle.table_file.specs.declared.fault.TableFault.TheVariants as tables
 use Rattle.walk_judge.specs.declared.fault.WalkFault.{WalkFault}
 use Rattle.walk_judge.specs.declared.fault.WalkFault.TheVariants as walks
+use Rattle.jps_run.specs.BoxLines.{dir_text}
 
 -- the line of a refused list of words
 abbrev pub word_line : ℕ → List ℕ
@@ -62,6 +67,21 @@ abbrev pub cert_line : CertFault → List ℕ
 cert_line (cert.Line number) = fault_line (codes "cert") (codes "P1") number
 cert_line (cert.Order number) = fault_line (codes "cert") (codes "P2") number
 cert_line cert.NoMemory = no_fault
+
+-- the name of a grid
+abbrev pub layer_text : Ground → List ℕ
+layer_text Land = codes "land"
+layer_text Water = codes "water"
+layer_text Blocked = codes "blocked"
+
+-- the line of a table file that is refused
+abbrev pub tables_line : TableFault → List ℕ
+tables_line tables.Head = codes "jps: tables F1\n"
+tables_line tables.Length = codes "jps: tables F2\n"
+tables_line (tables.Entry layer cell dir) =
+    codes "jps: tables F3 " ++ layer_text layer ++ codes " " ++ decimal cell.x ++ codes "," ++ decimal cell.y
+    ++ codes " " ++ dir_text dir ++ codes "\n"
+tables_line tables.NoMemory = no_fault
 
 -- the line of walks that are refused
 abbrev pub walks_line : WalkFault → List ℕ

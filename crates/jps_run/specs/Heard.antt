@@ -94,8 +94,9 @@ pub record WroteLines (Stand : List (List ℕ) → Type 0) (before now : Outflow
 -- the call answers what comes in: each of its files is accepted, the map first, and of the session on the map this is known
 pub record OnLive (call : Call) (holds : List ℕ → Held) (Known : SessionData → Show → Type 0) : Type 0 where
   pub map : List ℕ
+  pub tables : Option (List ℕ)
   pub settings : Settings
-  pub is : call ≡ record { request = Live map; settings = settings }
+  pub is : call ≡ record { request = Live map tables; settings = settings }
   pub text : List ℕ
   pub behind : List (List ℕ)
   pub accepted : AreAccepted holds [] (files_of call) (text ∷ behind)

@@ -1,5 +1,9 @@
 -- The kinds of texts that a request reads.
-use Rattle.std.specs.Prelude.{ℕ, ◌^◌, List, ◌∷◌, length, codes, Result, Ok, Err, Option, Some, None, ◌*◌, nat_le, Bool, true, if◌then◌else◌}
+use Rattle.std.specs.Prelude.{ℕ, ◌^◌, List, [], ◌∷◌, length, codes, Result, Ok, Err, Option, Some, None, ◌*◌, nat_le, Bool, true, if◌then◌else◌}
+use Rattle.std.specs.Option.{option_map}
+use Rattle.grid_moves.specs.declared.Corner.{Corner}
+use Rattle.grid_moves.specs.declared.Ground.TheVariants.{Land, Water}
+use Rattle.grid_moves.specs.Grid.{layer_of}
 use Rattle.map_text.specs.Faults.{map_of}
 use Rattle.map_text.specs.Map as maps
 use Rattle.map_text.specs.declared.fault.MapFault.{MapFault}
@@ -8,10 +12,11 @@ use Rattle.scen_text.specs.Faults.{scen_of}
 use Rattle.potential_check.specs.Text.{certificate_of}
 use Rattle.scen_text.specs.declared.entry.Entry.{Entry}
 use Rattle.scen_text.specs.declared.fault.ScenFault.{ScenFault}
+use Rattle.table_file.specs.Faults.{table_fault_of}
 use Rattle.walk_judge.specs.Walks.{walks_of}
-use Rattle.jps_run.specs.FaultLines.{cert_line, map_line, script_line, scen_line, walks_line, large_line}
+use Rattle.jps_run.specs.FaultLines.{cert_line, map_line, script_line, scen_line, walks_line, large_line, tables_line}
 use Rattle.jps_run.specs.declared.kind.Kind.{Kind}
-use Rattle.jps_run.specs.declared.kind.Kind.TheVariants.{Map, Script, Scen, Cert, Walks, SmallMap}
+use Rattle.jps_run.specs.declared.kind.Kind.TheVariants.{Map, Script, Scen, Cert, Walks, SmallMap, Tables}
 use Rattle.jps_run.specs.declared.kind.Extent.{Extent}
 use Rattle.jps_run.specs.declared.kind.Extent.TheVariants.{Any, Small}
 
@@ -23,6 +28,7 @@ kind_word Script = codes "script"
 kind_word Scen = codes "scen"
 kind_word Cert = codes "cert"
 kind_word Walks = codes "walks"
+kind_word (Tables corner) = codes "tables"
 
 -- the longest text of a kind, in bytes
 abbrev pub limit_of : Kind → ℕ
@@ -32,6 +38,7 @@ limit_of Script = 2 ^ 26
 limit_of Scen = 2 ^ 26
 limit_of Cert = 2 ^ 30
 limit_of Walks = 2 ^ 30
+limit_of (Tables corner) = 2 ^ 30
 
 -- the line of a text that is read as a fault
 abbrev pub fault_in : {V F : Type 0} → (F → List ℕ) → Result V F → Option (List ℕ)
@@ -63,6 +70,17 @@ abbrev pub small_refusal : Result maps.Map MapFault → Option (List ℕ)
 small_refusal (Ok m) = if takes Small m then None else Some large_line
 small_refusal (Err fault) = Some (map_line fault)
 
+-- the first of the texts
+abbrev pub first_text : List (List ℕ) → List ℕ
+first_text [] = []
+first_text (text ∷ others) = text
+
+-- the line of a text that is not the encoding of the tables of the map's two grids under a corner rule
+abbrev pub tables_refusal : Corner → Result maps.Map MapFault → List ℕ → Option (List ℕ)
+tables_refusal corner (Ok m) text = option_map tables_line
+    (table_fault_of (layer_of Land corner m.width m.height m.cells) (layer_of Water corner m.width m.height m.cells) text)
+tables_refusal corner (Err fault) text = None
+
 -- the line with which a text is refused behind the texts before it, if it is
 abbrev pub refusal_of : Kind → List (List ℕ) → List ℕ → Option (List ℕ)
 refusal_of Map earlier text = fault_in map_line (map_of text)
@@ -70,4 +88,5 @@ refusal_of SmallMap earlier text = small_refusal (map_of text)
 refusal_of Script earlier text = fault_in script_line (script_of text)
 refusal_of Scen earlier text = fault_in scen_line (scen_of text)
 refusal_of Cert earlier text = fault_in cert_line (certificate_of text)
+refusal_of (Tables corner) earlier text = tables_refusal corner (map_of (first_text earlier)) text
 refusal_of Walks earlier text = fault_in walks_line (walks_of text (entries_in earlier))

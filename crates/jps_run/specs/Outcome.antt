@@ -1,5 +1,5 @@
 -- What a request comes to, where nothing outside fails and memory is there.
-use Rattle.std.specs.Prelude.{◌≡◌, ℕ, List, [], ◌∷◌, length, Option, Some, None, Ok}
+use Rattle.std.specs.Prelude.{◌≡◌, ℕ, List, [], ◌∷◌, ◌++◌, length, Option, Some, None, Ok}
 use Rattle.grid_moves.specs.Layers.{layers_of, query_grid}
 use Rattle.io_edge.specs.Told.{Held}
 use Rattle.map_text.specs.Map.{Map}
@@ -16,7 +16,7 @@ use Rattle.walk_judge.specs.Walks.{walks_of}
 use Rattle.potential_check.specs.Text.{certificate_of, plain}
 use Rattle.potential_check.specs.declared.certificate.Certificate.{Certificate}
 use Rattle.word_list.specs.Calls.{call_of, is_call}
-use Rattle.word_list.specs.Request.{Call, Help, Version, Query, Solve, Live, Scen, Judge, Prove, Check, Make, Drill, Draw, Costs, Tables, Boxes, Moves}
+use Rattle.word_list.specs.Request.{Call, Help, Version, Query, Solve, Scen, Judge, Prove, Check, Make, Drill, Draw, Costs, Tables, Boxes, Moves}
 use Rattle.word_list.specs.Rule.{IsBadWord}
 use Rattle.word_list.specs.declared.request.Settings.{Settings}
 use Rattle.jps_run.specs.Answers.{AreAnswers}
@@ -43,22 +43,25 @@ use Rattle.jps_run.specs.declared.ruling.Ruling.{Ruling}
 abbrev pub Spell : List (List ℕ) → Call → Type 0
 Spell words call = call_of words ≡ Some call
 
--- the lines and the status of a call, on the texts of its files; a query is a script of one command
+-- the lines and the status of a call, on the texts of its files; a query is a script of one command. `loaded` is the text
+-- of the table file, where one is named: a session that begins with it is that on the map
 pub data IsAnswered : Call → List (List ℕ) → List (List ℕ) → ℕ → Type 0 where
   help : (set : Settings) → IsAnswered (call_with Help set) [] (help_text ∷ []) 0
   version : (set : Settings) → IsAnswered (call_with Version set) [] (version_text ∷ []) 0
-  replied : (map text : List ℕ) (sx sy gx gy : ℕ) (set : Settings) (m : Map) (lines : List (List ℕ))
+  replied : (map text : List ℕ) (tables : Option (List ℕ)) (loaded : List (List ℕ)) (sx sy gx gy : ℕ) (set : Settings)
+      (m : Map) (lines : List (List ℕ))
       → map_of text ≡ Ok m
       → AreAnswers (session_on set m) set.show (command.Query sx sy gx gy ∷ []) lines
-      → IsAnswered (call_with (Query map sx sy gx gy) set) (text ∷ []) lines 0
-  solved : (map script text second : List ℕ) (set : Settings) (m : Map) (commands : List Command)
-      (lines : List (List ℕ))
+      → IsAnswered (call_with (Query map tables sx sy gx gy) set) (text ∷ loaded) lines 0
+  solved : (map script text second : List ℕ) (tables : Option (List ℕ)) (loaded : List (List ℕ)) (set : Settings)
+      (m : Map) (commands : List Command) (lines : List (List ℕ))
       → map_of text ≡ Ok m → script_of second ≡ Ok commands
       → AreAnswers (session_on set m) set.show commands lines
-      → IsAnswered (call_with (Solve map script) set) (text ∷ second ∷ []) lines 0
-  judged : (map scen text second : List ℕ) (set : Settings) (m : Map) (entries : List Entry) (rows : List Row)
+      → IsAnswered (call_with (Solve map tables script) set) (text ∷ (loaded ++ second ∷ [])) lines 0
+  judged : (map scen text second : List ℕ) (tables : Option (List ℕ)) (loaded : List (List ℕ)) (set : Settings)
+      (m : Map) (entries : List Entry) (rows : List Row)
       → map_of text ≡ Ok m → scen_of second ≡ Ok entries → AreRows (session_on set m) entries rows
-      → IsAnswered (call_with (Scen map scen) set) (text ∷ second ∷ [])
+      → IsAnswered (call_with (Scen map tables scen) set) (text ∷ (loaded ++ second ∷ []))
       (scen_lines set.show rows) (scen_status rows)
   refereed : (map scen walks text second third : List ℕ) (set : Settings) (m : Map) (entries : List Entry)
       (told : List Told) (rulings : List Ruling)

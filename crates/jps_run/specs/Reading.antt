@@ -1,5 +1,5 @@
 -- What texts are read as, and how their reading may stop. No public clause cites this module.
-use Rattle.std.specs.Prelude.{◌≡◌, ℕ, ◌≤◌, ◌^◌, List, [], ◌∷◌, length, Ok, Some, slice_get, true, ◌*◌}
+use Rattle.std.specs.Prelude.{◌≡◌, ℕ, ◌≤◌, ◌^◌, List, [], ◌∷◌, ◌++◌, length, Ok, Some, slice_get, true, ◌*◌}
 use Rattle.std.specs.Global.{Vec}
 use Rattle.map_text.specs.Map.{Map}
 use Rattle.map_text.specs.Faults.{map_of, plain}
@@ -22,11 +22,14 @@ use Rattle.std.specs.Prelude.{None, ⊤, Result}
 use Rattle.io_edge.specs.Causes.{Rose}
 use Rattle.io_edge.specs.Told.{Held}
 use Rattle.jps_run.specs.Files.{AreAccepted, File, IsAccepted, IsRefused}
-use Rattle.jps_run.specs.Kinds.{refusal_of, takes}
+use Rattle.jps_run.specs.Kinds.{first_text, refusal_of, takes}
 use Rattle.jps_run.specs.Stops.{Stops, Ends}
 use Rattle.jps_run.specs.declared.kind.Extent.{Extent}
+use Rattle.grid_moves.specs.declared.Corner.{Corner}
+use Rattle.plus_tables.specs.Tables.{AreTablesOf}
 use Rattle.jps_run.specs.declared.kind.Kind.{Kind}
 use Rattle.jps_run.specs.declared.layers.SmallLayers.{SmallLayers}
+use Rattle.jps_run.specs.declared.sessions.MapTables.{MapTables}
 use Rattle.jps_run.specs.declared.stop.Stop.{Stop}
 
 -- a text was read as this value: the held bytes spell it, and are accepted behind the texts before it
@@ -91,6 +94,42 @@ pub record AreSmall (ls : Layers) : Type 0 where
 pub record AreSmallLayersOf (set : Settings) (m : Map) (small : SmallLayers) : Type 0 where
   pub layers : AreLayersOf set m small.layers
   pub few : AreSmall small.layers
+
+-- the first of the texts before is that of a map, whose layers under their own corner rule these are
+pub record AreBehindMap (ls : Layers) (earlier : List (List ℕ)) : Type 0 where
+  pub map : Map
+  pub spelled : map_of (first_text earlier) ≡ Ok map
+  pub are : ls ≡ layers_of ls.land.corner map.width map.height map.cells
+
+-- the first of the texts before is that of this map
+abbrev pub IsBehind : Map → List (List ℕ) → Type 0
+IsBehind map earlier = map_of (first_text earlier) ≡ Ok map
+
+-- these are the tables of two layers
+pub record AreTablesOn (ls : Layers) (tables : MapTables) : Type 0 where
+  pub land : AreTablesOf tables.land ls.land
+  pub water : AreTablesOf tables.water ls.water
+
+-- these are the tables of a map's layers under a corner rule
+abbrev pub AreMapTables : Corner → Map → MapTables → Type 0
+AreMapTables corner map tables = AreTablesOn (layers_of corner map.width map.height map.cells) tables
+
+-- the files hold the texts of a map and, where one is named, of its table file, and this is the session on the map
+pub record IsSessionOf (set : Settings) (holds : List ℕ → Held) (files : List File) (d : SessionData) : Type 0 where
+  pub text : List ℕ
+  pub loaded : List (List ℕ)
+  pub accepted : AreAccepted holds [] files (text ∷ loaded)
+  pub made : IsMade (IsSessionOn set) text d
+
+-- so they do, and one file more was read as a value: it holds a text that is accepted behind these
+pub record IsSessionAnd {Y : Type 0} (set : Settings) (SpellsMore : List ℕ → Y → Type 0) (holds : List ℕ → Held)
+    (files : List File) (second : File) (values : SessionData × Y) : Type 0 where
+  pub text : List ℕ
+  pub loaded : List (List ℕ)
+  pub more : List ℕ
+  pub accepted : AreAccepted holds [] (files ++ second ∷ []) (text ∷ (loaded ++ more ∷ []))
+  pub made : IsMade (IsSessionOn set) text values.0
+  pub spelled_more : SpellsMore more values.1
 
 -- the map and one file more were read as these values: the files hold these texts, the second one accepted behind the first
 pub record AreBothRead {X Y : Type 0} (Spells : List ℕ → X → Type 0) (SpellsMore : List ℕ → Y → Type 0)

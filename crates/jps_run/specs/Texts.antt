@@ -5,13 +5,13 @@ use Rattle.std.specs.Prelude.{ℕ, List, codes, ◌++◌}
 unfoldable pub help_text : List ℕ
 help_text =
     codes "usage: jps COMMAND ...\n"
-    ++ codes "  jps query MAP SX SY GX GY [engine=ENGINE] [show=points|show=cells|show=trace] [rule=none|rule=one]\n"
+    ++ codes "  jps query MAP SX SY GX GY [engine=ENGINE] [tables=FILE] [show=points|show=cells|show=trace] [rule=none|rule=one]\n"
     ++ codes "      a least walk from the cell (SX,SY) to the cell (GX,GY) on the map\n"
-    ++ codes "  jps solve MAP SCRIPT [engine=ENGINE] [show=points|show=cells|show=trace] [rule=none|rule=one]\n"
+    ++ codes "  jps solve MAP SCRIPT [engine=ENGINE] [tables=FILE] [show=points|show=cells|show=trace] [rule=none|rule=one]\n"
     ++ codes "      one line for each command of the script: edits of the map, and queries\n"
-    ++ codes "  jps live MAP [engine=ENGINE] [show=points|show=cells|show=trace] [rule=none|rule=one]\n"
+    ++ codes "  jps live MAP [engine=ENGINE] [tables=FILE] [show=points|show=cells|show=trace] [rule=none|rule=one]\n"
     ++ codes "      the same for a script on standard input, each command answered as it comes\n"
-    ++ codes "  jps scen MAP SCEN [engine=ENGINE] [show=taken] [rule=none|rule=one]\n"
+    ++ codes "  jps scen MAP SCEN [engine=ENGINE] [tables=FILE] [show=taken] [rule=none|rule=one]\n"
     ++ codes "      a row for each entry of the scenario, its length judged by the least cost, and their sum; with show=taken\n"
     ++ codes "      also how many states each search took\n"
     ++ codes "  jps judge MAP SCEN WALKS [rule=none|rule=one]\n"
@@ -45,6 +45,8 @@ help_text =
     ++ codes "its cells, show=trace each state that the search took as well: a cell, and how it was come to.\n"
     ++ codes "ENGINE is plain, where none is named, jps, block or plus. Walks cost the same by each: jps jumps cell by\n"
     ++ codes "cell, block over 512 cells at a time, plus by tables that are made when the map is read.\n"
+    ++ codes "tables=FILE beside engine=plus takes the tables that `jps tables` wrote to FILE; those of another map, of\n"
+    ++ codes "another rule, or with a wrong entry are refused.\n"
     ++ codes "With rule=one a diagonal move may pass one blocked cell beside it, with rule=none none.\n"
     ++ codes "\n"
     ++ codes "statuses: 0 done; 1 done, and a row of `scen` is neither agree nor near, `judge` or `check` refuses, `prove`\n"
@@ -53,8 +55,10 @@ help_text =
     ++ codes "faults, one line on standard error:\n"
     ++ codes "  jps: word N            word N is missing, or no call has it there; words are counted from 1\n"
     ++ codes "  jps: TEXT CODE line N  line N of the map, script, scen, cert or walks breaks its form\n"
-    ++ codes "  jps: TEXT long         the text is longer than 67108864 bytes, a cert or walks than 1073741824\n"
+    ++ codes "  jps: TEXT long         the text is longer than 67108864 bytes, a cert, walks or tables than 1073741824\n"
     ++ codes "  jps: map large         the map has more than 16384 cells, and `boxes` or `moves` was asked for\n"
+    ++ codes "  jps: tables F1         FILE begins with another head than the map's tables under the rule; F2: it has another length\n"
+    ++ codes "  jps: tables F3 LAYER X,Y D  this is the first entry in FILE that is another: for this layer, cell and direction\n"
     ++ codes "  jps: read, jps: write, jps: memory\n"
 
 -- what `--version` prints

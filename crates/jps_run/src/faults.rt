@@ -5,15 +5,19 @@ ghost use Rattle.map_text.specs.declared.fault.MapFault.TheVariants.{NoMemory as
 ghost use Rattle.scen_text.specs.declared.fault.ScenFault.TheVariants.{NoMemory as no_scen_memory};
 ghost use Rattle.script_text.specs.declared.fault.ScriptFault.TheVariants.{NoMemory as no_script_memory};
 ghost use Rattle.potential_check.specs.declared.fault.CertFault.TheVariants.{NoMemory as no_cert_memory};
+ghost use Rattle.table_file.specs.declared.fault.TableFault.TheVariants.{Entry, NoMemory as no_tables_memory};
 ghost use Rattle.walk_judge.specs.declared.fault.WalkFault.TheVariants.{NoMemory as no_walks_memory};
 ghost use Rattle.jps_run.specs.FaultLines as spec;
 
 use crate::NoMemory;
+use crate::lines::dir_text;
+use grid_moves::{Cell, Dir, Ground};
 use map_text::MapFault;
 use potential_check::CertFault;
 use scen_text::ScenFault;
 use script_text::ScriptFault;
 use std::alloc::Global;
+use table_file::TableFault;
 use text_line::{put, put_number};
 use walk_judge::WalkFault;
 
@@ -124,6 +128,55 @@ pub(crate) fn cert_line(alloc: Global, fault: CertFault) -> Result<Vec<u8>, NoMe
         CertFault::Line { line } => fault_line(alloc, b"cert", b"P1", line),
         CertFault::Order { line } => fault_line(alloc, b"cert", b"P2", line),
         CertFault::NoMemory => Err(NoMemory),
+    }
+}
+
+// The name of a grid.
+fn layer_text(layer: Ground) -> &'static [u8]
+    ensures { result.now ≡ spec.layer_text layer }
+{
+    match layer {
+        Ground::Land => b"land",
+        Ground::Water => b"water",
+        Ground::Blocked => b"blocked",
+    }
+}
+
+// The line of a table file's entry that is another.
+fn entry_line(alloc: Global, layer: Ground, cell: Cell, dir: Dir) -> Result<Vec<u8>, NoMemory>
+    ensures { IfOk result (λ line. line.items ≡ spec.tables_line (Entry layer cell dir)) }
+{
+    let mut line = Vec::new(alloc);
+    put(&mut line, b"jps: tables F3 ")?;
+    put(&mut line, layer_text(layer))?;
+    put(&mut line, b" ")?;
+    put_number(&mut line, u64::from(cell.x))?;
+    put(&mut line, b",")?;
+    put_number(&mut line, u64::from(cell.y))?;
+    put(&mut line, b" ")?;
+    put(&mut line, dir_text(dir))?;
+    put(&mut line, b"\n")?;
+    Ok(line)
+}
+
+// A line of the program's own.
+fn line_of(alloc: Global, text: &[u8]) -> Result<Vec<u8>, NoMemory>
+    ensures { IfOk result (λ line. line.items ≡ text.now) }
+{
+    let mut line = Vec::new(alloc);
+    put(&mut line, text)?;
+    Ok(line)
+}
+
+/// The line of a refused table file.
+pub(crate) fn tables_line(alloc: Global, fault: TableFault) -> Result<Vec<u8>, NoMemory>
+    ensures { IfOk result (λ line. (fault ≢ no_tables_memory) × (line.items ≡ spec.tables_line fault)) }
+{
+    match fault {
+        TableFault::Head => line_of(alloc, b"jps: tables F1\n"),
+        TableFault::Length => line_of(alloc, b"jps: tables F2\n"),
+        TableFault::Entry { ground, cell, dir } => entry_line(alloc, ground, cell, dir),
+        TableFault::NoMemory => Err(NoMemory),
     }
 }
 

@@ -319,6 +319,7 @@ pub(crate) fn open_one<F: Files, M: OfMap>(
         (open_stops (F.disk files.old) (F.disk files.new) (file_of (kind_for (M.extent_of settings)) map.now ∷ []))
         result }
     ensures unchanged { (F.disk files.new).holds ≡ (F.disk files.old).holds }
+    ensures later { NoneFell (F.disk files.old).faults (F.disk files.new).faults }
 {
     read_map_file(alloc, files, map, settings)
 }

@@ -4,6 +4,7 @@ ghost use Rattle.std.specs.Prelude.{◌≡◌};
 ghost use Rattle.map_text.specs.Faults.{plain};
 ghost use Rattle.jps_run.specs.Kinds.{kind_for, kind_word, limit_of, takes};
 
+use grid_moves::Corner;
 use map_text::MapText;
 
 /// A kind of text.
@@ -16,6 +17,8 @@ pub(crate) enum Kind {
     Scen,
     Cert,
     Walks,
+    /// A table file of the map before it, under this corner rule.
+    Tables(Corner),
 }
 
 /// Which maps a call takes.
@@ -59,6 +62,7 @@ impl Kind {
             Kind::Scen => b"scen",
             Kind::Cert => b"cert",
             Kind::Walks => b"walks",
+            Kind::Tables(_) => b"tables",
         }
     }
 
@@ -68,7 +72,7 @@ impl Kind {
     {
         match self {
             Kind::Map | Kind::SmallMap | Kind::Script | Kind::Scen => 1 << 26,
-            Kind::Cert | Kind::Walks => 1 << 30,
+            Kind::Cert | Kind::Walks | Kind::Tables(_) => 1 << 30,
         }
     }
 }

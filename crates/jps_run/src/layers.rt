@@ -1,12 +1,40 @@
 //! The two grids of a map, made as the settings ask.
 
+ghost use Rattle.std.specs.Prelude.{◌≡◌, IfOk};
+ghost use Rattle.grid_moves.specs.Layers as spec;
+ghost use Rattle.plus_tables.specs.Tables.{AreTablesOf};
+ghost use Rattle.table_file.specs.Faults.{Tells, table_fault_of};
+
 use crate::NoMemory;
 use crate::files::{OfMap, corner_of};
 use crate::kind::Extent;
-use grid_moves::Layers;
+use grid_moves::{Corner, Layers};
 use map_text::MapText;
+use plus_tables::Tables;
 use std::alloc::Global;
+use table_file::{TableFault, load};
 use word_list::Settings;
+
+/// The grids of a map, which get this corner rule.
+pub(crate) fn layers_of(alloc: Global, map: &MapText, corner: Corner) -> Result<Layers, NoMemory>
+    ensures { IfOk result (λ ls. ls ≡ spec.layers_of corner map.now.width map.now.height map.now.cells) }
+{
+    Layers::of_cells(alloc, map.width, map.height, map.cells.as_slice(), corner)
+}
+
+/// The tables of both grids, where the text is their encoding, or else how it differs.
+pub(crate) fn load_tables(
+    alloc: Global,
+    layers: &Layers,
+    text: &[u8],
+) -> Result<(Tables, Tables), TableFault>
+    ensures land { IfOk result (λ tables. AreTablesOf tables.0 layers.now.land) }
+    ensures water { IfOk result (λ tables. AreTablesOf tables.1 layers.now.water) }
+    ensures exact { Tells result (table_fault_of layers.now.land layers.now.water text.now) }
+{
+    let (land, water) = layers.both();
+    load(alloc, text, land, water)
+}
 
 impl OfMap for Layers {
     ghost use Rattle.jps_run.specs.Reading.{AreLayersOf};
@@ -21,9 +49,7 @@ impl OfMap for Layers {
     }
 
     fn of_map(alloc: Global, map: MapText, settings: Settings) -> Result<Layers, NoMemory> {
-        let cells = map.cells.as_slice();
-        let corner = corner_of(settings.one);
-        Layers::of_cells(alloc, map.width, map.height, cells, corner)
+        layers_of(alloc, &map, corner_of(settings.one))
     }
 }
 

@@ -38,6 +38,9 @@ mod ruling;
 mod scen;
 mod scenario;
 mod sending;
+mod sessions;
+#[cfg(test)]
+mod sessions_tests;
 mod solve;
 mod stop;
 mod tables;

@@ -1,27 +1,26 @@
 //! The command `live`: the answers to a script that comes in.
 
-ghost use Rattle.std.specs.Prelude.{◌≡◌, [], ◌∷◌, ◌+◌, ◌<◌, ◌≤◌, ◌^◌, length, IfOk, None, OnOk};
+ghost use Rattle.std.specs.Prelude.{◌≡◌, ◌+◌, ◌<◌, ◌≤◌, ◌^◌, true, length, IfOk, None, OnOk};
+ghost use Rattle.std.specs.Option.{option_copied};
 ghost use Rattle.std.specs.Io.KnownBytes.{ReadConsumes};
 ghost use Rattle.io_edge.specs.Causes.{HasCause};
 ghost use Rattle.word_list.specs.Request as asked;
+ghost use Rattle.word_list.specs.Settings as words;
 ghost use Rattle.jps_run.specs.Counting.{RoseHeard};
-ghost use Rattle.jps_run.specs.Files.{file_of};
 ghost use Rattle.jps_run.specs.Hearing.{AnswersKnown, Refuses, Hears, HearsPiece, HearsEnd, HearsTurn};
-ghost use Rattle.jps_run.specs.Calls.{call_with};
+ghost use Rattle.jps_run.specs.Calls.{call_with, session_files};
 ghost use Rattle.jps_run.specs.Rising.{RiseEnd, RisePiece, RiseTurn};
 ghost use Rattle.jps_run.specs.Opened.{IsListener, open_stops};
 ghost use Rattle.jps_run.specs.Answering.{HaveTaken};
 ghost use Rattle.jps_run.specs.Stops.{Ends};
 ghost use Rattle.jps_run.specs.Working.{CountsMore};
-ghost use Rattle.jps_run.specs.declared.kind.Kind.TheVariants as kinds;
 
 use crate::NoMemory;
 use crate::answers::Answers;
 use crate::faults::{long_line, script_line};
-use crate::files::open_one;
 use crate::job::work_more;
+use crate::sessions::open_session;
 use crate::stop::Stop;
-use edit_replay::Session;
 use io_edge::{Failed, Files, Sink, Source};
 use script_text::{Command, LineFeeder, ScriptFault};
 use std::alloc::Global;
@@ -40,13 +39,17 @@ pub(crate) fn live<F: Files>(
     alloc: Global,
     files: &mut F,
     map: &str,
+    tables: Option<&str>,
     settings: Settings,
 ) -> Result<Answers, Stop>
-    ensures opened { Ends (IsListener (call_with (asked.Live map.now) settings) (F.disk files.old).holds)
-        (open_stops (F.disk files.old) (F.disk files.new) (file_of kinds.Map map.now ∷ [])) result }
+    requires loads { words.can_load (option_copied tables) settings ≡ true }
+    ensures opened { Ends (IsListener (call_with (asked.Live map.now (option_copied tables.entry)) settings)
+        (F.disk files.old).holds)
+        (open_stops (F.disk files.old) (F.disk files.new)
+        (session_files settings map.now (option_copied tables.entry))) result }
     ensures unchanged { (F.disk files.new).holds ≡ (F.disk files.old).holds }
 {
-    let session: Session = open_one(alloc, files, map, settings)?;
+    let session = open_session(alloc, files, map, tables, settings)?;
     Ok(Answers {
         session,
         show: settings.show,

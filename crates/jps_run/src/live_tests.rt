@@ -275,6 +275,36 @@ fn each_engine_answers(rt: HostRuntime) -> Result<(), Fail> {
     Ok(())
 }
 
+// A table file that is refused, or whose one read fails, ends the call before the input is looked at.
+#[test]
+fn a_table_file_is_judged_before_the_input(rt: HostRuntime) -> Result<(), Fail> {
+    let alloc = rt.alloc();
+    let words: [&str; 4] = ["live", "m", "engine=plus", "tables=s"];
+    let cases: [(u64, u8, &[u8]); 2] = [(0, 3, b"jps: tables F1\n"), (5, 4, b"jps: read\n")];
+    for (failing, status, line) in cases {
+        let reads = Cell::new(0);
+        let mut input = Spoken {
+            text: SCRIPT,
+            reads: &reads,
+        };
+        let mut out = stream(alloc, 0)?;
+        let answer = call::<_, _, Brand>(
+            alloc,
+            &rt,
+            &words,
+            failing,
+            &mut input,
+            &mut out,
+            line,
+            Blank::new(1),
+        )?;
+        assert_eq!(rt; answer, status);
+        assert_eq!(rt; out.bytes().len(), 0);
+        assert_eq!(rt; reads.get(), 0);
+    }
+    Ok(())
+}
+
 // Each of the four reads of the map failing, nothing is taken from the input and nothing is written.
 #[test]
 fn a_map_that_fails_ends_the_call(rt: HostRuntime) -> Result<(), Fail> {

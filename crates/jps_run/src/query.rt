@@ -1,17 +1,18 @@
 //! The command `query`: a script of one command.
 
-ghost use Rattle.std.specs.Prelude.{◌≡◌, [], ◌∷◌, IfOk};
+ghost use Rattle.std.specs.Prelude.{◌≡◌, [], ◌∷◌, true, IfOk};
+ghost use Rattle.std.specs.Option.{option_copied};
 ghost use Rattle.script_text.specs.declared.command.Command.TheVariants.{Query};
 ghost use Rattle.word_list.specs.Request as asked;
+ghost use Rattle.word_list.specs.Settings as words;
 ghost use Rattle.jps_run.specs.Opened.{OpensWork};
 ghost use Rattle.jps_run.specs.Calls.{call_with};
 
 use crate::NoMemory;
 use crate::answers::Answers;
-use crate::files::open_one;
+use crate::sessions::open_session;
 use crate::stop::Stop;
 use crate::work::Work;
-use edit_replay::Session;
 use io_edge::Files;
 use script_text::Command;
 use std::alloc::Global;
@@ -41,14 +42,17 @@ pub(crate) fn query<F: Files>(
     alloc: Global,
     files: &mut F,
     map: &str,
+    tables: Option<&str>,
     ends: Ends,
     settings: Settings,
 ) -> Result<Work, Stop>
-    ensures opened { OpensWork (call_with (asked.Query map.now ends.sx ends.sy ends.gx ends.gy) settings)
+    requires loads { words.can_load (option_copied tables) settings ≡ true }
+    ensures opened { OpensWork (call_with
+        (asked.Query map.now (option_copied tables.entry) ends.sx ends.sy ends.gx ends.gy) settings)
         (F.disk files.old) (F.disk files.new) result }
     ensures unchanged { (F.disk files.new).holds ≡ (F.disk files.old).holds }
 {
-    let session: Session = open_one(alloc, files, map, settings)?;
+    let session = open_session(alloc, files, map, tables, settings)?;
     let commands = commands_of(alloc, ends)?;
     let job = Answers {
         session,

@@ -1,11 +1,13 @@
 //! The command `scen`: the rows that judge a scenario, and their sum.
 
-ghost use Rattle.std.specs.Prelude.{◌≡◌};
+ghost use Rattle.std.specs.Prelude.{◌≡◌, true};
+ghost use Rattle.std.specs.Option.{option_copied};
 ghost use Rattle.word_list.specs.Request as asked;
+ghost use Rattle.word_list.specs.Settings as words;
 ghost use Rattle.jps_run.specs.Opened.{OpensWork};
 ghost use Rattle.jps_run.specs.Calls.{call_with};
 
-use crate::files::open_two;
+use crate::sessions::open_session_and;
 use crate::stop::Stop;
 use crate::work::Work;
 use edit_replay::Session;
@@ -19,14 +21,24 @@ pub(crate) fn scen<F: Files>(
     alloc: Global,
     files: &mut F,
     map: &str,
+    tables: Option<&str>,
     name: &str,
     settings: Settings,
 ) -> Result<Work, Stop>
-    ensures opened { OpensWork (call_with (asked.Scen map.now name.now) settings)
+    requires loads { words.can_load (option_copied tables) settings ≡ true }
+    ensures opened { OpensWork (call_with (asked.Scen map.now (option_copied tables.entry) name.now) settings)
         (F.disk files.old) (F.disk files.new) result }
     ensures unchanged { (F.disk files.new).holds ≡ (F.disk files.old).holds }
 {
-    let both: (Session, Vec<Entry>) = open_two(alloc, files, map, settings, name, &())?;
+    let both: (Session, Vec<Entry>) = open_session_and(
+        alloc,
+        files,
+        map,
+        tables,
+        settings,
+        name,
+        &(),
+    )?;
     let (session, entries) = both;
     Ok(Work::Judge {
         session,

@@ -1,12 +1,14 @@
 //! The command `solve`: the answers to a script.
 
-ghost use Rattle.std.specs.Prelude.{◌≡◌};
+ghost use Rattle.std.specs.Prelude.{◌≡◌, true};
+ghost use Rattle.std.specs.Option.{option_copied};
 ghost use Rattle.word_list.specs.Request as asked;
+ghost use Rattle.word_list.specs.Settings as words;
 ghost use Rattle.jps_run.specs.Opened.{OpensWork};
 ghost use Rattle.jps_run.specs.Calls.{call_with};
 
 use crate::answers::Answers;
-use crate::files::open_two;
+use crate::sessions::open_session_and;
 use crate::stop::Stop;
 use crate::work::Work;
 use edit_replay::Session;
@@ -20,14 +22,24 @@ pub(crate) fn solve<F: Files>(
     alloc: Global,
     files: &mut F,
     map: &str,
+    tables: Option<&str>,
     script: &str,
     settings: Settings,
 ) -> Result<Work, Stop>
-    ensures opened { OpensWork (call_with (asked.Solve map.now script.now) settings)
+    requires loads { words.can_load (option_copied tables) settings ≡ true }
+    ensures opened { OpensWork (call_with (asked.Solve map.now (option_copied tables.entry) script.now) settings)
         (F.disk files.old) (F.disk files.new) result }
     ensures unchanged { (F.disk files.new).holds ≡ (F.disk files.old).holds }
 {
-    let both: (Session, Vec<Command>) = open_two(alloc, files, map, settings, script, &())?;
+    let both: (Session, Vec<Command>) = open_session_and(
+        alloc,
+        files,
+        map,
+        tables,
+        settings,
+        script,
+        &(),
+    )?;
     let (session, commands) = both;
     let job = Answers {
         session,

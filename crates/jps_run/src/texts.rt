@@ -9,13 +9,13 @@ pub(crate) fn help_text() -> &'static [u8]
     ensures { result.now ≡ spec.help_text }
 {
     b"usage: jps COMMAND ...
-  jps query MAP SX SY GX GY [engine=ENGINE] [show=points|show=cells|show=trace] [rule=none|rule=one]
+  jps query MAP SX SY GX GY [engine=ENGINE] [tables=FILE] [show=points|show=cells|show=trace] [rule=none|rule=one]
       a least walk from the cell (SX,SY) to the cell (GX,GY) on the map
-  jps solve MAP SCRIPT [engine=ENGINE] [show=points|show=cells|show=trace] [rule=none|rule=one]
+  jps solve MAP SCRIPT [engine=ENGINE] [tables=FILE] [show=points|show=cells|show=trace] [rule=none|rule=one]
       one line for each command of the script: edits of the map, and queries
-  jps live MAP [engine=ENGINE] [show=points|show=cells|show=trace] [rule=none|rule=one]
+  jps live MAP [engine=ENGINE] [tables=FILE] [show=points|show=cells|show=trace] [rule=none|rule=one]
       the same for a script on standard input, each command answered as it comes
-  jps scen MAP SCEN [engine=ENGINE] [show=taken] [rule=none|rule=one]
+  jps scen MAP SCEN [engine=ENGINE] [tables=FILE] [show=taken] [rule=none|rule=one]
       a row for each entry of the scenario, its length judged by the least cost, and their sum; with show=taken
       also how many states each search took
   jps judge MAP SCEN WALKS [rule=none|rule=one]
@@ -49,6 +49,8 @@ which it turns, or by an engine that jumps each cell at which a jump stopped. sh
 its cells, show=trace each state that the search took as well: a cell, and how it was come to.
 ENGINE is plain, where none is named, jps, block or plus. Walks cost the same by each: jps jumps cell by
 cell, block over 512 cells at a time, plus by tables that are made when the map is read.
+tables=FILE beside engine=plus takes the tables that `jps tables` wrote to FILE; those of another map, of
+another rule, or with a wrong entry are refused.
 With rule=one a diagonal move may pass one blocked cell beside it, with rule=none none.
 
 statuses: 0 done; 1 done, and a row of `scen` is neither agree nor near, `judge` or `check` refuses, `prove`
@@ -57,8 +59,10 @@ has no free ends on one layer, or `draw` no free ends; 2 the words are refused; 
 faults, one line on standard error:
   jps: word N            word N is missing, or no call has it there; words are counted from 1
   jps: TEXT CODE line N  line N of the map, script, scen, cert or walks breaks its form
-  jps: TEXT long         the text is longer than 67108864 bytes, a cert or walks than 1073741824
+  jps: TEXT long         the text is longer than 67108864 bytes, a cert, walks or tables than 1073741824
   jps: map large         the map has more than 16384 cells, and `boxes` or `moves` was asked for
+  jps: tables F1         FILE begins with another head than the map's tables under the rule; F2: it has another length
+  jps: tables F3 LAYER X,Y D  this is the first entry in FILE that is another: for this layer, cell and direction
   jps: read, jps: write, jps: memory
 "
 }

@@ -2,7 +2,7 @@
 
 ghost use Rattle.std.specs.Prelude.{◌≡◌, ◌≤◌, ◌⊎◌, false, OnOk, map, string_bytes};
 ghost use Rattle.io_edge.specs.Causes.{Rose};
-ghost use Rattle.word_list.specs.Request.{HasSides, asked, called};
+ghost use Rattle.word_list.specs.Request.{IsSound, asked, called};
 ghost use Rattle.jps_run.specs.Counting.{RoseAsCalled, RoseForCall};
 ghost use Rattle.jps_run.specs.Ending.{Comes, Gets, HasFailed, HasLines, CanHear, HasPart, InputRose, NamedRose, Names, ending_line};
 ghost use Rattle.jps_run.specs.Opened.{Opens, OpensWork};
@@ -41,12 +41,12 @@ fn open<F: Files>(
     settings: Settings,
     files: &mut F,
 ) -> Result<Opened, Stop>
-    requires sides { HasSides request }
+    requires sound { IsSound request settings }
     ensures opened { Opens (called request.entry settings) (F.disk files.old) (F.disk files.new) result }
     ensures unchanged { (F.disk files.new).holds ≡ (F.disk files.old).holds }
 {
-    if let Request::Live { map } = request {
-        return Ok(Opened::Listener(live(alloc, files, map, settings)?));
+    if let Request::Live { map, tables } = request {
+        return Ok(Opened::Listener(live(alloc, files, map, tables, settings)?));
     }
     Ok(Opened::Work(open_work(alloc, request, settings, files)?))
 }
@@ -58,7 +58,7 @@ fn open_work<F: Files>(
     settings: Settings,
     files: &mut F,
 ) -> Result<Work, Stop>
-    requires sides { HasSides request }
+    requires sound { IsSound request settings }
     requires apart { reads_input (asked request) ≡ false }
     ensures opened { OpensWork (called request.entry settings) (F.disk files.old) (F.disk files.new) result }
     ensures unchanged { (F.disk files.new).holds ≡ (F.disk files.old).holds }
@@ -68,14 +68,23 @@ fn open_work<F: Files>(
         Request::Version => Ok(Work::Say(version_text())),
         Request::Query {
             map,
+            tables,
             sx,
             sy,
             gx,
             gy,
-        } => query(alloc, files, map, Ends { sx, sy, gx, gy }, settings),
-        Request::Solve { map, script } => solve(alloc, files, map, script, settings),
+        } => query(alloc, files, map, tables, Ends { sx, sy, gx, gy }, settings),
+        Request::Solve {
+            map,
+            tables,
+            script,
+        } => solve(alloc, files, map, tables, script, settings),
         Request::Live { .. } => unreachable!(),
-        Request::Scen { map, scen: name } => scen(alloc, files, map, name, settings),
+        Request::Scen {
+            map,
+            tables,
+            scen: name,
+        } => scen(alloc, files, map, tables, name, settings),
         Request::Judge { map, scen, walks } => judge(alloc, files, map, scen, walks, settings),
         Request::Prove {
             map,
@@ -116,7 +125,7 @@ fn serve<F: Files, I: Source, O: Sink, L: Ledger>(
     out: &mut O,
     steps: &mut Steps<L>,
 ) -> Result<u8, Stop>
-    requires sides { HasSides request }
+    requires sound { IsSound request settings }
     ensures served { HasServed (called request.entry settings) (F.disk files.old) (F.disk files.new)
         (I.inflow input.old) (I.inflow input.new) (O.outflow out.old) (O.outflow out.new) result }
     ensures counted { OnOk result (RoseForCall (called request.entry settings) (F.disk files.old).holds

@@ -1,19 +1,21 @@
 -- A call and a bad word, from what the steps of the reading say.
-use Rattle.std.proofs.Common.{◌≡◌, ℕ, suc, ◌+◌, ◌-◌, ◌<◌, ◌≤◌, Bool, true, false, List, [], ◌∷◌, length, take, drop, map, string_bytes, get_or, refl, sym, ap, ◌∙◌, subst, add-one, arith}
-use Rattle.std.specs.Prelude.{codes, String, is_some, Some, None, Result, Ok, Err, MatchResult, IsOkAnd, IsErrAnd, if◌then◌else◌}
+use Rattle.std.proofs.Common.{◌≡◌, ℕ, suc, ◌+◌, ◌-◌, ◌<◌, ◌≤◌, Bool, true, false, List, [], ◌∷◌, length, take, drop, map, string_bytes, get_or, refl, sym, ap, ◌∙◌, subst, add-one, ◌⊎◌, inl, inr, arith}
+use Rattle.std.specs.Prelude.{codes, String, is_some, Option, Some, None, Result, Ok, Err, MatchResult, IsOkAnd, IsErrAnd, if◌then◌else◌}
 use Rattle.std.specs.Global.{Global}
 use Rattle.std.proofs.Math.Seq.{take-length}
+use Rattle.std.proofs.lemmas.Bool.{and_right}
 use Rattle.std.proofs.lemmas.List.{append-nil, take_rest}
 use Rattle.word_list.specs.declared.request.Settings.{Settings}
 use Rattle.word_list.specs.declared.request.BadWord.{BadWord}
 use Rattle.word_list.specs.Request.{Asked, Call}
-use Rattle.word_list.specs.Settings.{all_follow, settings_of}
+use Rattle.word_list.specs.Settings.{are_settings, can_load, is_complete, settings_of, tables_of}
 use Rattle.word_list.specs.Rows.{Row, row_of, asked_by}
 use Rattle.word_list.specs.Calls.{fits, call_of, is_call}
 use Rattle.word_list.specs.Rule.{Begins, EndsAfter, StopsAt, IsBadWord}
 use Rattle.word_list.specs.Steps.{AreOf, AreSettled}
 use Rattle.word_list.proofs.Rules.{one_stop, stops_behind, ends_at_once, ends_later}
-use Rattle.word_list.proofs.Settled.{settles}
+use Rattle.word_list.proofs.Completed.{nothing_stands}
+use Rattle.word_list.proofs.Settled.{Settles, settles}
 use Rattle.word_list.proofs.Fitted.{taken_part, taken_whole}
 
 some_call : Begins is_call []
@@ -39,6 +41,11 @@ names_first name words none = record {
 
 abbrev call_with : Asked → Settings → Call
 call_with request settings = record { request = request; settings = settings }
+
+-- what is told of the table file and the settings of some words is told of these words
+pub told_by : {tables named : Option (List ℕ)} {set chosen : Settings} {b : Bool} → tables ≡ named → set ≡ chosen
+    → b ≡ can_load tables set → can_load named chosen ≡ b
+told_by same also is = rw (← same, ← also, is) refl
 
 -- the name of a command, and words of which so many are of its kinds
 module _ (name : List ℕ) (words : List (List ℕ)) (row : Row) (is_row : row_of name ≡ Some row) (taken : ℕ)
@@ -73,22 +80,34 @@ module _ (name : List ℕ) (words : List (List ℕ)) (row : Row) (is_row : row_o
     apart : rest ≡ drop (length row.takes) words
     apart = is_rest ∙ ap (λ (n : ℕ). drop n words) exact
 
-    pub names_setting : more < length rest → IsBadWord is_call (name ∷ words) (taken + more + 2)
-    names_setting below =
-        let whole = taken_whole row.allows row.takes words (subst (AreOf row.takes words) exact are) in
-        let rest_settles = settles row.allows [] rest more settled in
-        names (taken + more) (whole.0 ∙ ap (all_follow row.allows []) (sym apart) ∙ rest_settles.wrong below)
-        (whole.1 more (taken + more) (omega (arith, exact))
-        (subst (λ (rest : List (List ℕ)). EndsAfter (all_follow row.allows []) rest more) apart rest_settles.ends))
+    rest_settles : Settles row.allows [] rest more
+    rest_settles = settles row.allows [] rest more (nothing_stands row.allows) settled
 
-    pub calls : length rest ≤ more → (request : Asked) (settings : Settings) → request ≡ asked_by row.command words
-        → settings ≡ settings_of rest → call_of (name ∷ words) ≡ Some (call_with request settings)
-    calls all request settings is chosen =
+    refuses : fits row.takes row.allows words ≡ are_settings row.allows rest
+    refuses = (taken_whole row.allows row.takes words (subst (AreOf row.takes words) exact are)).0
+        ∙ ap (are_settings row.allows) (sym apart)
+
+    -- one is wrong, or one is missing behind them
+    pub names_setting : (more < length rest) ⊎ (is_complete rest ≡ false)
+        → IsBadWord is_call (name ∷ words) (taken + more + 2)
+    names_setting why =
         let whole = taken_whole row.allows row.takes words (subst (AreOf row.takes words) exact are) in
-        let right : fits row.takes row.allows words ≡ true =
-        whole.0 ∙ ap (all_follow row.allows []) (sym apart) ∙ (settles row.allows [] rest more settled).right all in
+        names (taken + more) (refuses ∙ wrong why)
+        (whole.1 more (taken + more) (omega (arith, exact))
+        (subst (λ (rest : List (List ℕ)). EndsAfter (are_settings row.allows) rest more) apart rest_settles.ends))
+      where
+        wrong : (more < length rest) ⊎ (is_complete rest ≡ false) → are_settings row.allows rest ≡ false
+        wrong (inl below) = rest_settles.wrong below
+        wrong (inr missing) = and_right _ (is_complete rest) missing
+
+    pub calls : length rest ≤ more → is_complete rest ≡ true → (request : Asked) (settings : Settings)
+        → request ≡ asked_by row.command words (tables_of rest)
+        → settings ≡ settings_of rest → call_of (name ∷ words) ≡ Some (call_with request settings)
+    calls all complete request settings is chosen =
+        let right : fits row.takes row.allows words ≡ true = refuses ∙ rest_settles.right all ∙ complete in
         rw (is_row, right) (ap (λ (call : Call). Some call)
-        (ap (λ (r : Asked). call_with r (settings_of (drop (length row.takes) words))) (sym is)
+        (ap (λ (r : Asked). call_with r (settings_of (drop (length row.takes) words)))
+        (ap (λ (rest : List (List ℕ)). asked_by row.command words (tables_of rest)) (sym apart) ∙ sym is)
         ∙ ap (call_with request) (ap settings_of (sym apart) ∙ sym chosen)))
 
 -- all words of a call begin one

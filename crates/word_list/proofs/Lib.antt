@@ -1,4 +1,5 @@
 pub mod Rules
+pub mod Completed
 pub mod Settled
 pub mod Fitted
 pub mod Calls

@@ -1,8 +1,9 @@
 -- Lists of settings: where they stop, and how many they are at most.
-use Rattle.std.proofs.Common.{◌≡◌, ℕ, zero, suc, ◌+◌, ◌<◌, ◌≤◌, Bool, true, false, not, ◌||◌, List, [], ◌∷◌, ◌++◌, refl, sym, ap, ◌∙◌, length, take, get_or, map, append_assoc, append-nil, string_bytes, arith}
+use Rattle.std.proofs.Common.{◌≡◌, ℕ, zero, suc, ◌+◌, ◌<◌, ◌≤◌, Bool, true, false, not, ◌||◌, List, [], ◌∷◌, ◌++◌, refl, sym, ap, ◌∙◌, length, take, drop, get_or, map, append_assoc, append-nil, string_bytes, add-one, arith}
 use Rattle.std.specs.Prelude.{String, Option, Some, None, if◌then◌else◌}
 use Rattle.std.specs.Global.{Global}
 use Rattle.std.specs.List.{list_any}
+use Rattle.std.specs.Option.{option_or}
 use Rattle.std.proofs.lemmas.Bool.{and_parts, or_parts, or_left, false_from_ne_true, true≢false}
 use Rattle.std.proofs.lemmas.List.{length-map, get_or-map, take_more}
 use Rattle.std.proofs.lemmas.List.Sums.{fold-append}
@@ -12,9 +13,10 @@ use Rattle.word_list.specs.declared.settings.Setting.TheVariants as setting
 use Rattle.word_list.specs.declared.settings.Choice.{Choice}
 use Rattle.word_list.specs.declared.settings.Choice.TheVariants as choice
 use Rattle.word_list.specs.declared.settings.Family.{Family}
-use Rattle.word_list.specs.Settings.{setting_of, choice_of, is_same, excludes, is_clash, are_clashing, is_allowed, may_follow, all_follow, settings_with, default_settings, settings_of}
+use Rattle.word_list.specs.Settings.{setting_of, choice_of, is_same, excludes, is_clash, are_clashing, is_allowed, may_follow, settings_with, default_settings, settings_of, tables_in, tables_of, is_complete}
 use Rattle.word_list.specs.Rule.{EndsAfter}
 use Rattle.word_list.specs.Steps.{AreSettled}
+use Rattle.word_list.proofs.Completed.{Stand, completed, can_complete, stand_on}
 use Rattle.word_list.proofs.Rules.{ends_at_once, ends_later}
 
 -- the bytes of a word at its place
@@ -36,11 +38,11 @@ module _ {A : Type 0} (test : A → Bool) (xs : List A) (place : ℕ) (x : A) (i
       → list_any test (take (place + 1) xs) ≡ false
   none_yet unmet none = list_any_more test xs place x inside ∙ rw (none, at, unmet) refl
 
--- a list of settings ends after so many words, and is one where these are all
+-- behind settings, a list of settings ends after so many words; where these are all, it is one if no word is missing
 pub record Settles (allows : List Family) (before words : List (List ℕ)) (count : ℕ) : Type 0 where
-  pub ends : EndsAfter (all_follow allows before) words count
-  pub wrong : count < length words → all_follow allows before words ≡ false
-  pub right : length words ≤ count → all_follow allows before words ≡ true
+  pub ends : EndsAfter (completed allows before) words count
+  pub wrong : count < length words → completed allows before words ≡ false
+  pub right : length words ≤ count → completed allows before words ≡ is_complete (before ++ words)
 
 module _ (allows : List Family) where
   later : {before : List (List ℕ)} {word : List ℕ} {words : List (List ℕ)} {count : ℕ}
@@ -52,32 +54,34 @@ module _ (allows : List Family) where
     next = rw (append_assoc before (word ∷ []) (take count words)) are.next;
   }
 
-  pub settles : (before words : List (List ℕ)) (count : ℕ) → AreSettled allows before words count
-      → Settles allows before words count
-  settles before [] zero are = record {
-    ends = ends_at_once (all_follow allows before) [] ([], refl) (λ inside. absurd (omega arith));
+  pub settles : (before words : List (List ℕ)) (count : ℕ) → Stand allows before
+      → AreSettled allows before words count → Settles allows before words count
+  settles before [] zero stand are = record {
+    ends = ends_at_once (completed allows before) [] (can_complete allows before stand) (λ inside. absurd (omega arith));
     wrong = λ below. absurd (omega arith);
     right = λ above. refl;
   }
-  settles before [] (suc count) are = absurd (omega (arith, are.within))
-  settles before (word ∷ words) zero are =
+  settles before [] (suc count) stand are = absurd (omega (arith, are.within))
+  settles before (word ∷ words) zero stand are =
       let wrong : may_follow allows before word ≡ false = rw append-nil at are.next in
       record {
-        ends = ends_at_once (all_follow allows before) (word ∷ words) ([], refl)
+        ends = ends_at_once (completed allows before) (word ∷ words) (can_complete allows before stand)
             (λ inside found. let no = rw wrong at found.1 in cc (no));
         wrong = λ below. rw wrong refl;
         right = λ above. absurd (omega arith);
       }
-  settles before (word ∷ words) (suc count) are =
+  settles before (word ∷ words) (suc count) stand are =
       let first : may_follow allows before word ≡ true = rw append-nil at (are.first 0 (omega arith)) in
-      let goes_on : (more : List (List ℕ)) → all_follow allows before (word ∷ more)
-      ≡ all_follow allows (before ++ word ∷ []) more = λ more. rw first refl in
-      let rest = settles (before ++ word ∷ []) words count (later are) in
+      let goes_on : (more : List (List ℕ)) → completed allows before (word ∷ more)
+      ≡ completed allows (before ++ word ∷ []) more =
+      λ more. rw (first, append_assoc before (word ∷ []) more) refl in
+      let rest = settles (before ++ word ∷ []) words count (stand_on allows before word stand first) (later are) in
       record {
-        ends = ends_later (all_follow allows before) (all_follow allows (before ++ word ∷ [])) word words count
+        ends = ends_later (completed allows before) (completed allows (before ++ word ∷ [])) word words count
             goes_on rest.ends;
         wrong = λ below. goes_on words ∙ rest.wrong (omega arith);
-        right = λ above. goes_on words ∙ rest.right (omega arith);
+        right = λ above. goes_on words ∙ rest.right (omega arith)
+            ∙ ap is_complete (append_assoc before (word ∷ []) words);
       }
 
 -- whether a word makes a choice
@@ -91,14 +95,15 @@ made choice words = if list_any (λ word. is_made choice (setting_of word)) word
 
 -- how many choices the words make
 abbrev all_made : List (List ℕ) → ℕ
-all_made words = made choice.Engine words + made choice.Show words + made choice.Rule words
+all_made words = made choice.Engine words + made choice.Show words + made choice.Rule words + made choice.TableFile words
 
-few_made : (words : List (List ℕ)) → all_made words ≤ 3
+few_made : (words : List (List ℕ)) → all_made words ≤ 4
 few_made words = omega (
   arith,
   one (list_any (λ word. is_made choice.Engine (setting_of word)) words),
   one (list_any (λ word. is_made choice.Show (setting_of word)) words),
   one (list_any (λ word. is_made choice.Rule (setting_of word)) words),
+  one (list_any (λ word. is_made choice.TableFile (setting_of word)) words),
 )
   where
     one : (b : Bool) → (if b then 1 else 0) ≤ 1
@@ -154,6 +159,7 @@ module _ (allows : List Family) (before : List (List ℕ)) (word : List ℕ) whe
       itself choice.Engine = refl
       itself choice.Show = refl
       itself choice.Rule = refl
+      itself choice.TableFile = refl
 
   one_more : may_follow allows before word ≡ true → all_made before + 1 ≤ all_made (before ++ word ∷ [])
   one_more follows =
@@ -162,11 +168,13 @@ module _ (allows : List Family) (before : List (List ℕ)) (word : List ℕ) whe
       let engine = kept choice.Engine in
       let show = kept choice.Show in
       let rule = kept choice.Rule in
+      let file = kept choice.TableFile in
       elim (setting_of word) as (λ s. setting_of word ≡ s → all_made before + 1 ≤ all_made (before ++ word ∷ [])) [
         | None ↦ λ is. let no = rw is at parts.0 in cc (no)
-        | Some (setting.Engine pick) ↦ λ is. omega (arith, grown (setting.Engine pick) is none, show, rule)
-        | Some (setting.Show what) ↦ λ is. omega (arith, grown (setting.Show what) is none, engine, rule)
-        | Some (setting.Rule one) ↦ λ is. omega (arith, grown (setting.Rule one) is none, engine, show)
+        | Some (setting.Engine pick) ↦ λ is. omega (arith, grown (setting.Engine pick) is none, show, rule, file)
+        | Some (setting.Show what) ↦ λ is. omega (arith, grown (setting.Show what) is none, engine, rule, file)
+        | Some (setting.Rule one) ↦ λ is. omega (arith, grown (setting.Rule one) is none, engine, show, file)
+        | Some setting.TableFile ↦ λ is. omega (arith, grown setting.TableFile is none, engine, show, rule)
       ] refl
     where
       is_not : (b : Bool) → not b ≡ true → b ≡ false
@@ -174,7 +182,7 @@ module _ (allows : List Family) (before : List (List ℕ)) (word : List ℕ) whe
       is_not false is = refl
 
 pub few_settled : (allows : List Family) (before words : List (List ℕ)) (count : ℕ)
-    → AreSettled allows before words count → all_made before + count ≤ 3
+    → AreSettled allows before words count → all_made before + count ≤ 4
 few_settled allows before words zero are = omega (arith, few_made before)
 few_settled allows before [] (suc count) are = absurd (omega (arith, are.within))
 few_settled allows before (word ∷ words) (suc count) are =
@@ -189,3 +197,16 @@ pub chosen_more : (words : List (List ℕ)) (place : ℕ) (word : List ℕ) → 
 chosen_more words place word inside at =
     ap settings_of (take_more words place word inside ∙ ap (λ (w : List ℕ). take place words ++ w ∷ []) at)
     ∙ fold-append (λ set word. settings_with set (setting_of word)) default_settings (take place words) (word ∷ [])
+
+-- the table file that words tell, by what the next of them tells
+pub tables_ahead : (words : List (List ℕ)) (place : ℕ) (word : List ℕ) (told : Option (List ℕ)) → place < length words
+    → get_or words place word ≡ word → told ≡ tables_in word
+    → tables_of (drop place words) ≡ option_or told (tables_of (drop (place + 1) words))
+tables_ahead words place word told inside at is = rw add-one (ahead words place inside at)
+  where
+    ahead : (words : List (List ℕ)) (place : ℕ) → place < length words → get_or words place word ≡ word
+        → tables_of (drop place words) ≡ option_or told (tables_of (drop (suc place) words))
+    ahead [] place inside at = absurd (omega arith)
+    ahead (first ∷ words) zero inside at =
+        ap (λ (t : Option (List ℕ)). option_or t (tables_of words)) (ap tables_in at ∙ sym is)
+    ahead (first ∷ words) (suc place) inside at = ahead words place (omega arith) at

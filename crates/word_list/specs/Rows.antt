@@ -8,7 +8,7 @@ use Rattle.word_list.specs.declared.rows.Kind.{Kind}
 use Rattle.word_list.specs.declared.rows.Kind.TheVariants.{File, Number, Seed, Side, Percent}
 use Rattle.word_list.specs.declared.rows.Row as declared
 use Rattle.word_list.specs.declared.settings.Family.{Family}
-use Rattle.word_list.specs.declared.settings.Family.TheVariants.{Engine, Show, Drawing, Counts, Rule}
+use Rattle.word_list.specs.declared.settings.Family.TheVariants.{Engine, Show, Drawing, Counts, Rule, TableFile}
 use Rattle.word_list.specs.Request.{Asked, Help, Version, Query, Solve, Live, Scen, Judge, Prove, Check, Make, Drill, Draw, Costs, Tables, Boxes, Moves}
 
 -- a command, the kinds of the words that it takes, and the settings that it allows after them
@@ -28,17 +28,25 @@ row_of name =
     Some (record {
       command = command.Query;
       takes = File ∷ Number ∷ Number ∷ Number ∷ Number ∷ [];
-      allows = Engine ∷ Show ∷ Rule ∷ [];
+      allows = Engine ∷ TableFile ∷ Show ∷ Rule ∷ [];
     })
     else if bytes_eq name (codes "solve") then
-    Some (record { command = command.Solve; takes = File ∷ File ∷ []; allows = Engine ∷ Show ∷ Rule ∷ [] })
+    Some (record {
+      command = command.Solve;
+      takes = File ∷ File ∷ [];
+      allows = Engine ∷ TableFile ∷ Show ∷ Rule ∷ [];
+    })
     else if bytes_eq name (codes "live") then
-    Some (record { command = command.Live; takes = File ∷ []; allows = Engine ∷ Show ∷ Rule ∷ [] })
+    Some (record {
+      command = command.Live;
+      takes = File ∷ [];
+      allows = Engine ∷ TableFile ∷ Show ∷ Rule ∷ [];
+    })
     else if bytes_eq name (codes "scen") then
     Some (record {
       command = command.Scen;
       takes = File ∷ File ∷ [];
-      allows = Engine ∷ Counts ∷ Rule ∷ [];
+      allows = Engine ∷ TableFile ∷ Counts ∷ Rule ∷ [];
     })
     else if bytes_eq name (codes "judge") then
     Some (record { command = command.Judge; takes = File ∷ File ∷ File ∷ []; allows = Rule ∷ [] })
@@ -109,27 +117,28 @@ side_at words place = unwrap_or (side_of (word_at words place)) 1
 abbrev pub percent_at : List (List ℕ) → ℕ → ℕ
 percent_at words place = unwrap_or (percent_of (word_at words place)) 0
 
--- what a command asks for by the words after its name, which are of its kinds
-abbrev pub asked_by : Command → List (List ℕ) → Asked
-asked_by command.Help words = Help
-asked_by command.Version words = Version
-asked_by command.Query words =
-    Query (word_at words 0) (number_at words 1) (number_at words 2) (number_at words 3) (number_at words 4)
-asked_by command.Solve words = Solve (word_at words 0) (word_at words 1)
-asked_by command.Live words = Live (word_at words 0)
-asked_by command.Scen words = Scen (word_at words 0) (word_at words 1)
-asked_by command.Judge words = Judge (word_at words 0) (word_at words 1) (word_at words 2)
-asked_by command.Prove words =
+-- what a command asks for by the words after its name, which are of its kinds, and by the name of the table file that its
+-- settings tell
+abbrev pub asked_by : Command → List (List ℕ) → Option (List ℕ) → Asked
+asked_by command.Help words tables = Help
+asked_by command.Version words tables = Version
+asked_by command.Query words tables =
+    Query (word_at words 0) tables (number_at words 1) (number_at words 2) (number_at words 3) (number_at words 4)
+asked_by command.Solve words tables = Solve (word_at words 0) tables (word_at words 1)
+asked_by command.Live words tables = Live (word_at words 0) tables
+asked_by command.Scen words tables = Scen (word_at words 0) tables (word_at words 1)
+asked_by command.Judge words tables = Judge (word_at words 0) (word_at words 1) (word_at words 2)
+asked_by command.Prove words tables =
     Prove (word_at words 0) (number_at words 1) (number_at words 2) (number_at words 3) (number_at words 4)
-asked_by command.Check words = Check (word_at words 0) (word_at words 1)
-asked_by command.Make words = Make (seed_at words 0) (side_at words 1) (side_at words 2) (percent_at words 3)
-asked_by command.Drill words = Drill (seed_at words 0)
-asked_by command.Draw words =
+asked_by command.Check words tables = Check (word_at words 0) (word_at words 1)
+asked_by command.Make words tables = Make (seed_at words 0) (side_at words 1) (side_at words 2) (percent_at words 3)
+asked_by command.Drill words tables = Drill (seed_at words 0)
+asked_by command.Draw words tables =
     Draw (word_at words 0) (number_at words 1) (number_at words 2) (number_at words 3) (number_at words 4)
-asked_by command.Costs words = Costs (word_at words 0) (number_at words 1) (number_at words 2)
-asked_by command.Tables words = Tables (word_at words 0)
-asked_by command.Boxes words = Boxes (word_at words 0) (number_at words 1) (number_at words 2)
-asked_by command.Moves words = Moves (word_at words 0) (number_at words 1) (number_at words 2)
+asked_by command.Costs words tables = Costs (word_at words 0) (number_at words 1) (number_at words 2)
+asked_by command.Tables words tables = Tables (word_at words 0)
+asked_by command.Boxes words tables = Boxes (word_at words 0) (number_at words 1) (number_at words 2)
+asked_by command.Moves words tables = Moves (word_at words 0) (number_at words 1) (number_at words 2)
 
 -- a row of the code
 abbrev pub row_data : declared.Row → Row

@@ -1,6 +1,7 @@
 -- The settings that may follow a command's other words.
-use Rattle.std.specs.Prelude.{ℕ, Bool, true, false, List, [], ◌∷◌, ◌++◌, not, ◌&&◌, ◌||◌, if◌then◌else◌, bytes_eq, codes, Option, Some, None}
-use Rattle.std.specs.List.{list_any, fold}
+use Rattle.std.specs.Prelude.{ℕ, Bool, true, false, List, [], ◌∷◌, ◌++◌, not, ◌&&◌, ◌||◌, if◌then◌else◌, nat_eq, nat_lt, bytes_eq, codes, length, drop, is_some, is_none, Option, Some, None}
+use Rattle.std.specs.List.{list_any, fold, starts_with}
+use Rattle.std.specs.Option.{option_or}
 use Rattle.word_list.specs.declared.request.Pick.{Pick}
 use Rattle.word_list.specs.declared.request.Pick.TheVariants.{Plain, Jps, Block, Plus, Boxes, Moves}
 use Rattle.word_list.specs.declared.request.Show.TheVariants.{Points, Cells, Trace, Taken}
@@ -12,10 +13,15 @@ use Rattle.word_list.specs.declared.settings.Choice.TheVariants as choice
 use Rattle.word_list.specs.declared.settings.Family.{Family}
 use Rattle.word_list.specs.declared.settings.Family.TheVariants as family
 
+-- the name of the table file that a word tells, if it tells one: all behind the first `=`, at least one byte
+unfoldable pub tables_in : List ℕ → Option (List ℕ)
+tables_in word = if starts_with nat_eq word (codes "tables=") && nat_lt 7 (length word) then Some (drop 7 word) else None
+
 -- the setting that a word spells, if it spells one
 abbrev pub setting_of : List ℕ → Option Setting
 setting_of word =
-    if bytes_eq word (codes "engine=plain") then Some (setting.Engine Plain)
+    if is_some (tables_in word) then Some setting.TableFile
+    else if bytes_eq word (codes "engine=plain") then Some (setting.Engine Plain)
     else if bytes_eq word (codes "engine=jps") then Some (setting.Engine Jps)
     else if bytes_eq word (codes "engine=block") then Some (setting.Engine Block)
     else if bytes_eq word (codes "engine=plus") then Some (setting.Engine Plus)
@@ -34,19 +40,27 @@ abbrev pub choice_of : Setting → Choice
 choice_of (setting.Engine pick) = choice.Engine
 choice_of (setting.Show show) = choice.Show
 choice_of (setting.Rule one) = choice.Rule
+choice_of setting.TableFile = choice.TableFile
 
 -- whether two choices are the same
 abbrev pub is_same : Choice → Choice → Bool
 is_same choice.Engine choice.Engine = true
 is_same choice.Show choice.Show = true
 is_same choice.Rule choice.Rule = true
+is_same choice.TableFile choice.TableFile = true
 is_same one other = false
 
+-- whether an engine searches by tables
+abbrev pub has_tables : Pick → Bool
+has_tables Plus = true
+has_tables other = false
+
 -- whether a setting can't stand beside this one, which makes another choice: first moves take no states, which a
--- trace could list or a row could count
+-- trace could list or a row could count, and tables serve one engine alone
 abbrev pub excludes : Setting → Setting → Bool
 excludes (setting.Engine Moves) (setting.Show Trace) = true
 excludes (setting.Engine Moves) (setting.Show Taken) = true
+excludes setting.TableFile (setting.Engine pick) = not (has_tables pick)
 excludes one other = false
 
 -- whether two settings can't stand together, in whatever order
@@ -65,7 +79,7 @@ is_for_small_maps Moves = true
 is_for_small_maps other = false
 
 -- whether a setting is of a family; a picture shows the points, and the states that the search took; rows count
--- these states
+-- these states; a table file stands beside the engine that searches by tables
 abbrev pub has : Family → Setting → Bool
 has family.Engine (setting.Engine pick) = not (is_for_small_maps pick)
 has family.SmallMap (setting.Engine pick) = is_for_small_maps pick
@@ -76,6 +90,8 @@ has family.Drawing (setting.Show Points) = true
 has family.Drawing (setting.Show Trace) = true
 has family.Counts (setting.Show Taken) = true
 has family.Rule (setting.Rule one) = true
+has family.TableFile setting.TableFile = true
+has family.TableFile (setting.Engine pick) = has_tables pick
 has other setting = false
 
 -- whether a word is a setting of one of these families
@@ -94,15 +110,12 @@ all_follow allows before [] = true
 all_follow allows before (word ∷ words) =
     may_follow allows before word && all_follow allows (before ++ word ∷ []) words
 
--- whether the words are settings that are allowed, no two of which clash
-abbrev pub are_settings : List Family → List (List ℕ) → Bool
-are_settings allows words = all_follow allows [] words
-
 -- the settings with one more word
 abbrev pub settings_with : Settings → Option Setting → Settings
 settings_with set (Some (setting.Engine pick)) = record { pick = pick; show = set.show; one = set.one }
 settings_with set (Some (setting.Show show)) = record { pick = set.pick; show = show; one = set.one }
 settings_with set (Some (setting.Rule one)) = record { pick = set.pick; show = set.show; one = one }
+settings_with set (Some setting.TableFile) = set
 settings_with set None = set
 
 -- the settings of a call that is silent on them
@@ -112,3 +125,20 @@ default_settings = record { pick = Plain; show = Points; one = false }
 -- what the words choose
 abbrev pub settings_of : List (List ℕ) → Settings
 settings_of words = fold (λ set word. settings_with set (setting_of word)) default_settings words
+
+-- the name of the table file that the words tell, if one does
+abbrev pub tables_of : List (List ℕ) → Option (List ℕ)
+tables_of [] = None
+tables_of (word ∷ words) = option_or (tables_in word) (tables_of words)
+
+-- whether the engine is picked that searches by tables, where a table file of this name is to be loaded
+abbrev pub can_load : Option (List ℕ) → Settings → Bool
+can_load tables set = is_none tables || has_tables set.pick
+
+-- whether no word is missing: where one tells a table file, another picks the engine for it
+abbrev pub is_complete : List (List ℕ) → Bool
+is_complete words = can_load (tables_of words) (settings_of words)
+
+-- whether the words are settings that are allowed, no two of which clash, and none is missing
+abbrev pub are_settings : List Family → List (List ℕ) → Bool
+are_settings allows words = all_follow allows [] words && is_complete words

@@ -2,11 +2,11 @@
 use Rattle.std.specs.Prelude.{◌≡◌, ℕ, Bool, true, false, List, [], ◌∷◌, codes, refl, Option, Some, None}
 use Rattle.text_line.specs.LongNumbers.{long_number_of}
 use Rattle.text_line.specs.Numbers.{number_of}
-use Rattle.word_list.specs.declared.request.Pick.TheVariants.{Plain, Jps}
+use Rattle.word_list.specs.declared.request.Pick.TheVariants.{Plain, Jps, Plus}
 use Rattle.word_list.specs.declared.request.Show.{Show}
 use Rattle.word_list.specs.declared.request.Show.TheVariants.{Points, Cells, Trace, Taken}
 use Rattle.word_list.specs.Request.{Call, Help, Query, Solve, Scen, Judge, Make}
-use Rattle.word_list.specs.Settings.{default_settings}
+use Rattle.word_list.specs.Settings.{default_settings, tables_in}
 use Rattle.word_list.specs.Calls.{call_of}
 
 -- what the words after `query m 0 0 2 2` make of it
@@ -16,82 +16,125 @@ query_with words = call_of (codes "query" ∷ codes "m" ∷ codes "0" ∷ codes 
 -- the query from (0,0) to (2,2) with these settings
 abbrev query_of : Show → Bool → Option Call
 query_of show one = Some (record {
-  request = Query (codes "m") 0 0 2 2;
+  request = Query (codes "m") None 0 0 2 2;
   settings = record { pick = Plain; show = show; one = one };
 })
 
 pub defaults : query_with [] ≡ query_of Points false
-unfolding number_of
+unfolding number_of tables_in
 defaults = refl
 
 -- another engine, and a word that is none
 pub jumping : query_with (codes "engine=jps" ∷ []) ≡ Some (record {
-  request = Query (codes "m") 0 0 2 2;
+  request = Query (codes "m") None 0 0 2 2;
   settings = record { pick = Jps; show = Points; one = false };
 })
-unfolding number_of
+unfolding number_of tables_in
 jumping = refl
 
 pub no_engine : query_with (codes "engine=jsp" ∷ []) ≡ None
-unfolding number_of
+unfolding number_of tables_in
 no_engine = refl
 
 -- no command takes an engine of small maps yet
 pub boxed : query_with (codes "engine=boxes" ∷ []) ≡ None
-unfolding number_of
+unfolding number_of tables_in
 boxed = refl
 
 pub boxed_edits : call_of (codes "solve" ∷ codes "m" ∷ codes "s" ∷ codes "engine=boxes" ∷ []) ≡ None
+unfolding tables_in
 boxed_edits = refl
 
 pub moves_before_trace : query_with (codes "engine=moves" ∷ codes "show=trace" ∷ []) ≡ None
-unfolding number_of
+unfolding number_of tables_in
 moves_before_trace = refl
 
 pub trace_before_moves : query_with (codes "show=trace" ∷ codes "engine=moves" ∷ []) ≡ None
-unfolding number_of
+unfolding number_of tables_in
 trace_before_moves = refl
 
 -- settings in any order
 pub show_before_rule : query_with (codes "show=cells" ∷ codes "rule=one" ∷ []) ≡ query_of Cells true
-unfolding number_of
+unfolding number_of tables_in
 show_before_rule = refl
 
 pub rule_before_show : query_with (codes "rule=none" ∷ codes "engine=plain" ∷ codes "show=trace" ∷ [])
     ≡ query_of Trace false
-unfolding number_of
+unfolding number_of tables_in
 rule_before_show = refl
 
 -- one choice is made twice, be it the same
 pub engine_twice : query_with (codes "engine=plain" ∷ codes "engine=plain" ∷ []) ≡ None
-unfolding number_of
+unfolding number_of tables_in
 engine_twice = refl
 
 -- a word in a file's place is its name, whatever it begins with; leading zeros are digits
 pub any_name : call_of (codes "query" ∷ codes "--help" ∷ codes "000000001" ∷ codes "1" ∷ codes "1" ∷ codes "1"
-    ∷ []) ≡ Some (record { request = Query (codes "--help") 1 1 1 1; settings = default_settings })
-unfolding number_of
+    ∷ []) ≡ Some (record { request = Query (codes "--help") None 1 1 1 1; settings = default_settings })
+unfolding number_of tables_in
 any_name = refl
 
 -- ten digits are no number
 pub ten_digits : call_of (codes "query" ∷ codes "m" ∷ codes "0000000001" ∷ codes "1" ∷ codes "1" ∷ codes "1"
     ∷ []) ≡ None
-unfolding number_of
+unfolding number_of tables_in
 ten_digits = refl
 
 -- the empty word is a file's name
 pub empty_names : call_of (codes "solve" ∷ [] ∷ [] ∷ []) ≡ Some (record {
-  request = Solve [] [];
+  request = Solve [] None [];
   settings = default_settings;
 })
+unfolding tables_in
 empty_names = refl
 
 -- so is a setting that stands in a file's place
 pub setting_for_name : call_of (codes "scen" ∷ codes "m" ∷ codes "rule=one" ∷ []) ≡ Some (record {
-  request = Scen (codes "m") (codes "rule=one");
+  request = Scen (codes "m") None (codes "rule=one");
   settings = default_settings;
 })
+unfolding tables_in
 setting_for_name = refl
+
+-- a table file stands beside the engine for it, before it or behind it, and its name is all behind the first `=`
+abbrev loaded_query : Option Call
+loaded_query = Some (record {
+  request = Query (codes "m") (Some (codes "t=x")) 0 0 2 2;
+  settings = record { pick = Plus; show = Points; one = false };
+})
+
+pub file_behind_engine : query_with (codes "engine=plus" ∷ codes "tables=t=x" ∷ []) ≡ loaded_query
+unfolding number_of tables_in
+file_behind_engine = refl
+
+pub file_before_engine : query_with (codes "tables=t=x" ∷ codes "engine=plus" ∷ []) ≡ loaded_query
+unfolding number_of tables_in
+file_before_engine = refl
+
+pub file_alone : query_with (codes "tables=t" ∷ []) ≡ None
+unfolding number_of tables_in
+file_alone = refl
+
+pub file_for_another : query_with (codes "tables=t" ∷ codes "engine=block" ∷ []) ≡ None
+unfolding number_of tables_in
+file_for_another = refl
+
+pub file_behind_another : query_with (codes "engine=plain" ∷ codes "tables=t" ∷ []) ≡ None
+unfolding number_of tables_in
+file_behind_another = refl
+
+pub two_files : query_with (codes "engine=plus" ∷ codes "tables=t" ∷ codes "tables=t" ∷ []) ≡ None
+unfolding number_of tables_in
+two_files = refl
+
+pub nameless_file : query_with (codes "engine=plus" ∷ codes "tables=" ∷ []) ≡ None
+unfolding number_of tables_in
+nameless_file = refl
+
+pub drawn_by_file : call_of (codes "draw" ∷ codes "m" ∷ codes "0" ∷ codes "0" ∷ codes "2" ∷ codes "2"
+    ∷ codes "engine=plus" ∷ codes "tables=t" ∷ []) ≡ None
+unfolding number_of tables_in
+drawn_by_file = refl
 
 -- a judge is asked with three files
 pub three_files : call_of (codes "judge" ∷ codes "m" ∷ codes "s" ∷ codes "w" ∷ codes "rule=one" ∷ [])
@@ -99,36 +142,43 @@ pub three_files : call_of (codes "judge" ∷ codes "m" ∷ codes "s" ∷ codes "
       request = Judge (codes "m") (codes "s") (codes "w");
       settings = record { pick = Plain; show = Points; one = true };
     })
+unfolding tables_in
 three_files = refl
 
 -- rows may tell counts, and nothing else is shown of them; no answer tells counts, and first moves have none
 pub counted_rows : call_of (codes "scen" ∷ codes "m" ∷ codes "s" ∷ codes "show=taken" ∷ []) ≡ Some (record {
-  request = Scen (codes "m") (codes "s");
+  request = Scen (codes "m") None (codes "s");
   settings = record { pick = Plain; show = Taken; one = false };
 })
+unfolding tables_in
 counted_rows = refl
 
 pub counted_answer : query_with (codes "show=taken" ∷ []) ≡ None
-unfolding number_of
+unfolding number_of tables_in
 counted_answer = refl
 
 pub counts_before_moves : call_of (codes "scen" ∷ codes "m" ∷ codes "s" ∷ codes "show=taken" ∷ codes "engine=moves"
     ∷ []) ≡ None
+unfolding tables_in
 counts_before_moves = refl
 
 pub shown_rows : call_of (codes "scen" ∷ codes "m" ∷ codes "s" ∷ codes "show=cells" ∷ []) ≡ None
+unfolding tables_in
 shown_rows = refl
 
 pub no_scenario : call_of (codes "scen" ∷ codes "m" ∷ []) ≡ None
+unfolding tables_in
 no_scenario = refl
 
 pub help_alone : call_of (codes "--help" ∷ []) ≡ Some (record {
   request = Help;
   settings = default_settings;
 })
+unfolding tables_in
 help_alone = refl
 
 pub help_with_more : call_of (codes "--help" ∷ codes "rule=none" ∷ []) ≡ None
+unfolding tables_in
 help_with_more = refl
 
 -- a seed, two sides and a percentage
@@ -137,14 +187,14 @@ pub map_of_a_seed : call_of (codes "make" ∷ codes "18446744073709551615" ∷ c
       request = Make 18446744073709551615 4096 1 100;
       settings = default_settings;
     })
-unfolding number_of long_number_of
+unfolding number_of long_number_of tables_in
 map_of_a_seed = refl
 
 -- no side is 0, and no percentage above 100
 pub side_of_nothing : call_of (codes "make" ∷ codes "7" ∷ codes "0" ∷ codes "2" ∷ codes "0" ∷ []) ≡ None
-unfolding number_of long_number_of
+unfolding number_of long_number_of tables_in
 side_of_nothing = refl
 
 pub more_than_all : call_of (codes "make" ∷ codes "7" ∷ codes "2" ∷ codes "2" ∷ codes "101" ∷ []) ≡ None
-unfolding number_of long_number_of
+unfolding number_of long_number_of tables_in
 more_than_all = refl

@@ -6,26 +6,28 @@
 //! ```text
 //! --help
 //! --version
-//! query MAP SX SY GX GY [engine=ENGINE] [show=points|show=cells|show=trace] [rule=none|rule=one]
-//! solve MAP SCRIPT [engine=ENGINE] [show=points|show=cells|show=trace] [rule=none|rule=one]
-//! live MAP [engine=ENGINE] [show=points|show=cells|show=trace] [rule=none|rule=one]
-//! scen MAP SCEN [engine=ENGINE] [show=taken] [rule=none|rule=one]
-//! judge MAP SCEN WALKS [rule=none|rule=one]
-//! prove MAP SX SY GX GY [rule=none|rule=one]
-//! check MAP CERT [rule=none|rule=one]
+//! query MAP SX SY GX GY [engine=ENGINE] [tables=FILE] [show=points|show=cells|show=trace] [rule=RULE]
+//! solve MAP SCRIPT [engine=ENGINE] [tables=FILE] [show=points|show=cells|show=trace] [rule=RULE]
+//! live MAP [engine=ENGINE] [tables=FILE] [show=points|show=cells|show=trace] [rule=RULE]
+//! scen MAP SCEN [engine=ENGINE] [tables=FILE] [show=taken] [rule=RULE]
+//! judge MAP SCEN WALKS [rule=RULE]
+//! prove MAP SX SY GX GY [rule=RULE]
+//! check MAP CERT [rule=RULE]
 //! make SEED W H P
-//! drill SEED [engine=ENGINE] [rule=none|rule=one]
-//! draw MAP SX SY GX GY [engine=ENGINE] [show=points|show=trace] [rule=none|rule=one]
-//! costs MAP X Y [rule=none|rule=one]
-//! tables MAP [rule=none|rule=one]
-//! boxes MAP X Y [rule=none|rule=one]
-//! moves MAP X Y [rule=none|rule=one]
+//! drill SEED [engine=ENGINE] [rule=RULE]
+//! draw MAP SX SY GX GY [engine=ENGINE] [show=points|show=trace] [rule=RULE]
+//! costs MAP X Y [rule=RULE]
+//! tables MAP [rule=RULE]
+//! boxes MAP X Y [rule=RULE]
+//! moves MAP X Y [rule=RULE]
 //! ```
 //!
-//! ENGINE is `plain`, `jps`, `block` or `plus`. Names of files are any words; numbers are 1 to 9 decimal
-//! digits, and a seed 1 to 20. Two settings clash that choose the same. The settings `engine=boxes` and
-//! `engine=moves`, of engines for small maps, are spelled, but no command allows them yet. A list that is no
-//! call is refused at its first word with which no call can begin, or one word behind its end where only
+//! ENGINE is `plain`, `jps`, `block` or `plus`, RULE `none` or `one`. Names of files are any words; numbers
+//! are 1 to 9 decimal digits, and a seed 1 to 20. FILE is all behind the first `=`, at least one byte. Two
+//! settings clash that choose the same. A table file stands beside `engine=plus` alone: it clashes with
+//! every other engine, and where no engine is named a word is missing. The settings `engine=boxes` and
+//! `engine=moves`, of engines for small maps, are spelled, but no command allows them yet. A list that is
+//! no call is refused at its first word with which no call can begin, or one word behind its end where only
 //! words are missing.
 //!
 //! A command has a row in `rows.rt`, a setting one in `settings.rt`.

@@ -1,14 +1,14 @@
 //! Reading a call from the words.
 
 ghost use Rattle.std.specs.Prelude.{◌≡◌, ℕ, ◌≤◌, ◌∷◌, map, string_bytes, length, Some, IfOk, IfErr, IsOkAnd, IsErrAnd, OnOk, MatchResult};
-ghost use Rattle.word_list.specs.Request.{Call, HasSides, called};
+ghost use Rattle.word_list.specs.Request.{Call, IsSound, called};
 ghost use Rattle.word_list.specs.Calls.{call_of, is_call};
 ghost use Rattle.word_list.specs.Rule.{IsBadWord, StopsAt};
 ghost use Rattle.word_list.specs.Steps.{AreOf};
 
 use crate::request::{BadWord, Request, Settings};
 use crate::rows::{Kind, request, row_named};
-use crate::settings::{chosen, settled};
+use crate::settings::{can_load, chosen, settled, table_file};
 
 /// The call that the words spell, or the number of the word that no call has there.
 pub fn read_words(words: &[String]) -> Result<(Request<'_>, Settings), BadWord>
@@ -18,8 +18,9 @@ pub fn read_words(words: &[String]) -> Result<(Request<'_>, Settings), BadWord>
     // What is spelled so is read.
     ensures only { (call : Call) → call_of (map string_bytes words.now) ≡ Some call
         → IsOkAnd result (λ read. called read.0 read.1 ≡ call) }
-    // The sides of a map that is to be made are sides of a map.
-    ensures sides { IfOk result (λ read. HasSides read.0) }
+    // The sides of a map that is to be made are sides of a map, and a table file is named beside the engine
+    // that searches by tables alone.
+    ensures sound { IfOk result (λ read. IsSound read.0 read.1) }
     // A refusal names the bad word.
     ensures refused { IfErr result (λ bad. IsBadWord is_call (map string_bytes words.now) bad.0) }
     // A list with a bad word is refused by its number.
@@ -42,8 +43,8 @@ pub fn first_bad(words: &[String]) -> u32
 
 /// The call that the words spell, or the number of the bad word.
 fn read(words: &[String]) -> Result<(Request<'_>, Settings), BadWord>
-    ensures few { OnOk result (length words.now ≤ 12) }
-    ensures sides { IfOk result (λ read. HasSides read.0) }
+    ensures few { OnOk result (length words.now ≤ 13) }
+    ensures sound { IfOk result (λ read. IsSound read.0 read.1) }
     ensures told { MatchResult result
         (λ read. call_of (map string_bytes words.now) ≡ Some (called read.0 read.1))
         (λ bad. IsBadWord is_call (map string_bytes words.now) bad.0) }
@@ -56,8 +57,8 @@ fn read(words: &[String]) -> Result<(Request<'_>, Settings), BadWord>
 
 /// The same of a command's name and the words after it.
 fn read_after<'a>(name: &str, words: &'a [String]) -> Result<(Request<'a>, Settings), BadWord>
-    ensures few { OnOk result (length words.now ≤ 11) }
-    ensures sides { IfOk result (λ read. HasSides read.0) }
+    ensures few { OnOk result (length words.now ≤ 12) }
+    ensures sound { IfOk result (λ read. IsSound read.0 read.1) }
     ensures told { MatchResult result
         (λ read. call_of (name.now ∷ map string_bytes words.now) ≡ Some (called read.0 read.1))
         (λ bad. IsBadWord is_call (name.now ∷ map string_bytes words.now) bad.0) }
@@ -71,10 +72,12 @@ fn read_after<'a>(name: &str, words: &'a [String]) -> Result<(Request<'a>, Setti
     }
     let rest = &words[taken..];
     let more = settled(row.allows, rest);
-    if more < rest.len() {
+    let tables = table_file(rest);
+    let settings = chosen(rest);
+    if more < rest.len() || !can_load(tables, settings) {
         return Err(BadWord((taken + more) as u32 + 2));
     }
-    Ok((request(row.command, words), chosen(rest)))
+    Ok((request(row.command, words, tables), settings))
 }
 
 /// How many of the words are of these kinds, one after the other.

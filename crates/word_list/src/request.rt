@@ -2,7 +2,8 @@
 
 use thiserror::Error;
 
-/// A request, with the names of files as they stand among the words.
+/// A request, with the names of files as they stand among the words. Where a request may name a table file,
+/// `tables` is its name: the session then begins with the tables of that file.
 #[derive(Clone, Copy, Debug)]
 pub enum Request<'a> {
     /// How the program is called.
@@ -12,6 +13,7 @@ pub enum Request<'a> {
     /// A least walk on the map between two cells, each by its column and its row from 0.
     Query {
         map: &'a str,
+        tables: Option<&'a str>,
         sx: u32,
         sy: u32,
         gx: u32,
@@ -20,15 +22,18 @@ pub enum Request<'a> {
     /// What each command of the script does on the map.
     Solve {
         map: &'a str,
+        tables: Option<&'a str>,
         script: &'a str,
     },
     /// What each command of a script that comes in does on the map.
     Live {
         map: &'a str,
+        tables: Option<&'a str>,
     },
     /// How the listed lengths of the scenario agree with the least ones on the map.
     Scen {
         map: &'a str,
+        tables: Option<&'a str>,
         scen: &'a str,
     },
     /// How the walks that another program tells for the scenario are judged by the least ones on the

@@ -1,8 +1,10 @@
 //! The table of commands.
 
-ghost use Rattle.std.specs.Prelude.{◌≡◌, ◌≤◌, length, map, string_bytes, Some, IfSome, slice_get};
-ghost use Rattle.std.specs.Option.{option_map};
-ghost use Rattle.word_list.specs.Request.{HasSides, asked};
+ghost use Rattle.std.specs.Prelude.{◌≡◌, ◌≤◌, true, length, map, string_bytes, Some, IfSome, slice_get};
+ghost use Rattle.std.specs.Option.{option_copied, option_map};
+ghost use Rattle.word_list.specs.declared.request.Settings.{Settings};
+ghost use Rattle.word_list.specs.Request.{IsSound, asked};
+ghost use Rattle.word_list.specs.Settings.{can_load};
 ghost use Rattle.word_list.specs.Steps.{is_one_of};
 ghost use Rattle.word_list.specs.Rows.{row_of, row_data, is_of, word_at, number_at as spelled_at, seed_at as spelled_seed_at, side_of as spelled_side, side_at as spelled_side_at, percent_of as spelled_percent, percent_at as spelled_percent_at, asked_by};
 
@@ -105,7 +107,7 @@ pub fn row_named(name: &str) -> Option<Row>
     ensures row { option_map row_data result ≡ row_of name.now }
     ensures few { IfSome result (λ row. length row.takes.now ≤ 8) }
 {
-    use Family::{Counts, Drawing, Engine, Rule, Show};
+    use Family::{Counts, Drawing, Engine, Rule, Show, TableFile};
     use Kind::{File, Number, Percent, Seed, Side};
     let (command, takes, allows): (Command, &[Kind], &[Family]) = match name {
         "--help" => (Command::Help, &[], &[]),
@@ -113,11 +115,19 @@ pub fn row_named(name: &str) -> Option<Row>
         "query" => (
             Command::Query,
             &[File, Number, Number, Number, Number],
-            &[Engine, Show, Rule],
+            &[Engine, TableFile, Show, Rule],
         ),
-        "solve" => (Command::Solve, &[File, File], &[Engine, Show, Rule]),
-        "live" => (Command::Live, &[File], &[Engine, Show, Rule]),
-        "scen" => (Command::Scen, &[File, File], &[Engine, Counts, Rule]),
+        "solve" => (
+            Command::Solve,
+            &[File, File],
+            &[Engine, TableFile, Show, Rule],
+        ),
+        "live" => (Command::Live, &[File], &[Engine, TableFile, Show, Rule]),
+        "scen" => (
+            Command::Scen,
+            &[File, File],
+            &[Engine, TableFile, Counts, Rule],
+        ),
         "judge" => (Command::Judge, &[File, File, File], &[Rule]),
         "prove" => (
             Command::Prove,
@@ -145,16 +155,18 @@ pub fn row_named(name: &str) -> Option<Row>
     })
 }
 
-/// What the command asks for by the words after its name, which are of its kinds.
-pub fn request<'a>(command: Command, words: &'a [String]) -> Request<'a>
-    ensures asked { asked result ≡ asked_by command (map string_bytes words.now) }
-    ensures sides { HasSides result }
+/// What the command asks for by the words after its name, which are of its kinds, and by the name of the
+/// table file that its settings tell.
+pub fn request<'a>(command: Command, words: &'a [String], tables: Option<&'a str>) -> Request<'a>
+    ensures asked { asked result ≡ asked_by command (map string_bytes words.now) (option_copied tables.entry) }
+    ensures sound { (set : Settings) → can_load (option_copied tables.entry) set ≡ true → IsSound result set }
 {
     match command {
         Command::Help => Request::Help,
         Command::Version => Request::Version,
         Command::Query => Request::Query {
             map: name_at(words, 0),
+            tables,
             sx: number_at(words, 1),
             sy: number_at(words, 2),
             gx: number_at(words, 3),
@@ -162,13 +174,16 @@ pub fn request<'a>(command: Command, words: &'a [String]) -> Request<'a>
         },
         Command::Solve => Request::Solve {
             map: name_at(words, 0),
+            tables,
             script: name_at(words, 1),
         },
         Command::Live => Request::Live {
             map: name_at(words, 0),
+            tables,
         },
         Command::Scen => Request::Scen {
             map: name_at(words, 0),
+            tables,
             scen: name_at(words, 1),
         },
         Command::Judge => Request::Judge {

@@ -2,7 +2,9 @@
 
 ghost use Rattle.std.specs.Prelude.{◌≡◌, ◌≤◌, [], take, slice_get, map, string_bytes, Some};
 ghost use Rattle.std.specs.List.{list_any};
-ghost use Rattle.word_list.specs.Settings.{setting_of, choice_of, has as member, is_allowed, is_for_small_maps, excludes, is_clash, are_clashing, may_follow, settings_with, settings_of};
+ghost use Rattle.std.specs.Option.{option_copied};
+ghost use Rattle.word_list.specs.Settings.{setting_of, choice_of, has as member, has_tables, is_allowed, is_for_small_maps, excludes, is_clash, are_clashing, may_follow, settings_with, settings_of, tables_in, tables_of};
+ghost use Rattle.word_list.specs.Settings as spec;
 ghost use Rattle.word_list.specs.Steps.{AreSettled, one_follows};
 
 use crate::request::{Pick, Settings, Show};
@@ -14,6 +16,8 @@ pub enum Setting {
     Show(Show),
     /// Whether a diagonal move may pass one blocked cell beside it.
     Rule(bool),
+    /// From which file the tables are loaded; its name stands in the word.
+    TableFile,
 }
 
 /// What a setting chooses. No choice is made twice.
@@ -25,6 +29,8 @@ enum Choice {
     Show,
     /// Whether walks may pass corners.
     Rule,
+    /// From which file the tables are loaded.
+    TableFile,
 }
 
 /// Settings that a command allows, all of them or none.
@@ -42,6 +48,8 @@ pub enum Family {
     Counts,
     /// Whether walks may pass corners.
     Rule,
+    /// From which file the tables are loaded, and the engine that searches by them.
+    TableFile,
 }
 
 impl Family {
@@ -59,6 +67,8 @@ impl Family {
             (Family::Drawing, Setting::Show(Show::Trace)) => true,
             (Family::Counts, Setting::Show(Show::Taken)) => true,
             (Family::Rule, Setting::Rule(_)) => true,
+            (Family::TableFile, Setting::TableFile) => true,
+            (Family::TableFile, Setting::Engine(pick)) => pick.has_tables(),
             _ => false,
         }
     }
@@ -75,6 +85,16 @@ impl Pick {
             _ => false,
         }
     }
+
+    /// Whether the engine searches by tables.
+    fn has_tables(self) -> bool
+        ensures { result ≡ has_tables self }
+    {
+        match self {
+            Pick::Plus => true,
+            _ => false,
+        }
+    }
 }
 
 impl Setting {
@@ -82,6 +102,9 @@ impl Setting {
     fn spelled(word: &str) -> Option<Setting>
         ensures { result ≡ setting_of word.now }
     {
+        if table_file_in(word).is_some() {
+            return Some(Setting::TableFile);
+        }
         match word {
             "engine=plain" => Some(Setting::Engine(Pick::Plain)),
             "engine=jps" => Some(Setting::Engine(Pick::Jps)),
@@ -107,6 +130,7 @@ impl Setting {
             Setting::Engine(_) => Choice::Engine,
             Setting::Show(_) => Choice::Show,
             Setting::Rule(_) => Choice::Rule,
+            Setting::TableFile => Choice::TableFile,
         }
     }
 
@@ -118,13 +142,14 @@ impl Setting {
     }
 
     /// Whether it can't stand beside this setting, which makes another choice: first moves take no
-    /// states, which a trace could list or a row could count.
+    /// states, which a trace could list or a row could count, and tables serve one engine alone.
     fn excludes(self, other: Setting) -> bool
         ensures { result ≡ excludes self other }
     {
         match (self, other) {
             (Setting::Engine(Pick::Moves), Setting::Show(Show::Trace)) => true,
             (Setting::Engine(Pick::Moves), Setting::Show(Show::Taken)) => true,
+            (Setting::TableFile, Setting::Engine(pick)) => !pick.has_tables(),
             _ => false,
         }
     }
@@ -156,15 +181,46 @@ fn with_word(settings: Settings, word: &str) -> Settings
         Some(Setting::Engine(pick)) => Settings { pick, ..settings },
         Some(Setting::Show(show)) => Settings { show, ..settings },
         Some(Setting::Rule(one)) => Settings { one, ..settings },
+        Some(Setting::TableFile) => settings,
         None => settings,
     }
+}
+
+/// The name of the table file that the word tells, if it tells one.
+#[tactic(auto, unfolding(crate::specs::Settings::tables_in))]
+fn table_file_in(word: &str) -> Option<&str>
+    ensures { option_copied result ≡ tables_in word.now }
+{
+    match word.strip_prefix("tables=") {
+        Some(name) if !name.is_empty() => Some(name),
+        _ => None,
+    }
+}
+
+/// The name of the table file that the words tell, if one does.
+pub fn table_file(words: &[String]) -> Option<&str>
+    ensures { option_copied result ≡ tables_of (map string_bytes words.now) }
+{
+    for word in words {
+        if let Some(name) = table_file_in(word.as_str()) {
+            return Some(name);
+        }
+    }
+    None
+}
+
+/// Whether the engine is picked that searches by tables, where a table file of this name is to be loaded.
+pub fn can_load(tables: Option<&str>, settings: Settings) -> bool
+    ensures { result ≡ spec.can_load (option_copied tables.entry) settings }
+{
+    tables.is_none() || settings.pick.has_tables()
 }
 
 /// How many of the words, from the first on, are settings that are allowed and clash with none of
 /// the words before them.
 pub fn settled(allows: &[Family], words: &[String]) -> usize
     ensures count { AreSettled allows.now [] (map string_bytes words.now) result }
-    ensures few { result ≤ 3 }
+    ensures few { result ≤ 4 }
 {
     count_settled(allows, words)
 }

@@ -13,7 +13,7 @@ fn words_of(alloc: Global, line: &str) -> Result<Vec<String>, AllocError> {
 // Counted by hand, from the table of commands.
 #[test]
 fn the_first_word_of_no_call_is_named(rt: HostRuntime) -> Result<(), Fail> {
-    let lists: [(&str, u32); 45] = [
+    let lists: [(&str, u32); 58] = [
         ("mkae", 1),
         ("make", 2),
         ("make 7 0 2 0", 3),
@@ -59,6 +59,19 @@ fn the_first_word_of_no_call_is_named(rt: HostRuntime) -> Result<(), Fail> {
         ("query m 0 0 2 2 show=taken", 7),
         ("draw m 0 0 2 2 show=taken", 7),
         ("scen m s rule=one rule=none rule=one", 5),
+        ("query m 0 0 2 0 tables=f", 8),
+        ("query m 0 0 2 0 tables=f rule=one", 9),
+        ("query m 0 0 2 0 tables=", 7),
+        ("query m 0 0 2 0 engine=plus tables=", 8),
+        ("query m 0 0 2 0 engine=jps tables=f", 8),
+        ("query m 0 0 2 0 tables=f show=cells engine=plain", 9),
+        ("query m 0 0 2 0 tables=f engine=boxes", 8),
+        ("solve m s engine=plus tables=f tables=g", 6),
+        ("live m tables=f", 4),
+        ("scen m s tables=f show=taken", 6),
+        ("drill 1 tables=f", 3),
+        ("draw m 0 0 2 2 engine=plus tables=f", 8),
+        ("judge m s w tables=f", 5),
     ];
     for (line, number) in lists {
         let words = words_of(rt.alloc(), line)?;
@@ -84,6 +97,7 @@ fn a_query_is_read_with_its_settings(rt: HostRuntime) -> Result<(), Fail> {
             (
                 Request::Query {
                     map,
+                    tables,
                     sx,
                     sy,
                     gx,
@@ -93,6 +107,7 @@ fn a_query_is_read_with_its_settings(rt: HostRuntime) -> Result<(), Fail> {
             ),
         ) => {
             assert_eq!(rt; map, "");
+            assert!(rt; tables.is_none());
             assert_eq!(rt; (sx, sy, gx, gy), (7, 1, 2, 3));
             assert_eq!(rt; settings.pick, Pick::Jps);
             assert_eq!(rt; settings.show, Show::Trace);
@@ -113,6 +128,7 @@ fn a_map_stands_before_its_script_or_scenario(rt: HostRuntime) -> Result<(), Fai
             Ok((
                 Request::Solve {
                     map: "m",
+                    tables: None,
                     script: "s"
                 },
                 Settings {
@@ -130,9 +146,79 @@ fn a_map_stands_before_its_script_or_scenario(rt: HostRuntime) -> Result<(), Fai
             Ok((
                 Request::Scen {
                     map: "m",
+                    tables: None,
                     scen: "s"
                 },
                 Settings { one: false, .. }
+            ))
+        )
+    );
+    Ok(())
+}
+
+// The name is all behind the first `=`; the engine may stand before it or behind it.
+#[test]
+fn a_table_file_stands_beside_its_engine(rt: HostRuntime) -> Result<(), Fail> {
+    for line in [
+        "live m tables=a=b engine=plus",
+        "live m engine=plus rule=one tables=a=b",
+    ] {
+        let words = words_of(rt.alloc(), line)?;
+        assert!(rt;
+            matches!(
+                read_words(&words),
+                Ok((
+                    Request::Live {
+                        map: "m",
+                        tables: Some("a=b")
+                    },
+                    Settings {
+                        pick: Pick::Plus,
+                        ..
+                    }
+                ))
+            ),
+            "{line}"
+        );
+    }
+    let words = words_of(rt.alloc(), "query m 0 0 1 1 tables=t engine=plus")?;
+    assert!(rt;
+        matches!(
+            read_words(&words),
+            Ok((
+                Request::Query {
+                    tables: Some("t"),
+                    ..
+                },
+                _
+            ))
+        )
+    );
+    let words = words_of(rt.alloc(), "solve m s engine=plus tables=t")?;
+    assert!(rt;
+        matches!(
+            read_words(&words),
+            Ok((
+                Request::Solve {
+                    tables: Some("t"),
+                    script: "s",
+                    ..
+                },
+                _
+            ))
+        )
+    );
+    let words = words_of(rt.alloc(), "scen m s tables=t show=taken engine=plus")?;
+    assert!(rt;
+        matches!(
+            read_words(&words),
+            Ok((
+                Request::Scen {
+                    tables: Some("t"),
+                    scen: "s",
+                    ..
+                },
+                _
             ))
         )
     );

@@ -1,4 +1,5 @@
-use Rattle.std.proofs.Common.{refl, []}
+use Rattle.std.proofs.Common.{refl}
+use Rattle.std.specs.Option.{option_copied}
 use Rattle.jps_run.proofs.live.live.Goals as goal
 
 pub returns-clause-opened : goal.returns-clause-opened
@@ -8,13 +9,14 @@ returns-clause-opened g c =
       reads = refl;
       on = record {
         map = c.args.map.now;
+        tables = option_copied c.args.tables;
         settings = c.args.settings;
         is = refl;
         text = r.text;
-        behind = [];
-        accepted = (r.accepted, tt);
-        read = r.spelled.map;
-        spelled = r.spelled.spelled;
-        known = (r.spelled.is, refl);
+        behind = r.loaded;
+        accepted = r.accepted;
+        read = r.made.map;
+        spelled = r.made.spelled;
+        known = (r.made.is, refl);
       };
     }

@@ -1,4 +1,5 @@
-use Rattle.std.proofs.Common.{◌≤◌, refl, sym, subst, inr, List, [], ◌∷◌, ℕ}
+use Rattle.std.proofs.Common.{◌≤◌, refl, sym, subst, inr, List, [], ◌∷◌, ◌++◌, ℕ}
+use Rattle.std.specs.Option.{option_copied}
 use Rattle.edit_replay.specs.Session.{SessionData}
 use Rattle.word_list.specs.Request.{Scen}
 use Rattle.jps_run.specs.Calls.{call_with}
@@ -16,8 +17,9 @@ returns-clause-opened g c =
     let entries = c.in_ok-both.both.1.items in
     let map = c.args.map.now in
     let name = c.args.name.now in
-    let call = call_with (Scen map name) set in
-    let texts : List (List ℕ) = r.text ∷ r.more ∷ [] in
+    let tables = option_copied c.args.tables in
+    let call = call_with (Scen map tables name) set in
+    let texts : List (List ℕ) = r.text ∷ (r.loaded ++ r.more ∷ []) in
     record {
       texts = texts;
       accepted = r.accepted;
@@ -27,11 +29,11 @@ returns-clause-opened g c =
           subst (λ n. n ≤ 1) (sym w.same_status) (small_status w.rows),
           subst (λ (n : ℕ). IsAnswered call texts lines n) (sym w.same_status)
               (subst (λ (all : List (List ℕ)). IsAnswered call texts all (scen_status w.rows)) (sym w.all)
-              (judged map name r.text r.more set r.spelled.map entries w.rows r.spelled.spelled r.spelled_more.0
-              (subst (λ (d : SessionData). AreRows d entries w.rows) r.spelled.is w.are))),
+              (judged map name r.text r.more tables r.loaded set r.made.map entries w.rows r.made.spelled r.spelled_more.0
+              (subst (λ (d : SessionData). AreRows d entries w.rows) r.made.is w.are))),
         );
         counted = λ old new rose. inr
-            (scen-counted map name r.text r.more set session entries entries old new r.spelled r.spelled_more.0
+            (scen-counted map name r.text r.more tables r.loaded set session entries entries old new r.made r.spelled_more.0
             refl rose);
       };
     }

@@ -1,4 +1,5 @@
-use Rattle.std.proofs.Common.{refl, subst, inr, [], ◌∷◌}
+use Rattle.std.proofs.Common.{refl, subst, inr, List, [], ◌∷◌, ◌++◌, ℕ}
+use Rattle.std.specs.Option.{option_copied}
 use Rattle.edit_replay.specs.Session.{SessionData}
 use Rattle.word_list.specs.Request.{Solve}
 use Rattle.jps_run.specs.Answers.{AreAnswers}
@@ -16,17 +17,19 @@ returns-clause-opened g c =
     let commands = c.in_ok-both.both.1.items in
     let map = c.args.map.now in
     let script = c.args.script.now in
+    let tables = option_copied c.args.tables in
+    let texts : List (List ℕ) = r.text ∷ (r.loaded ++ r.more ∷ []) in
     record {
-      texts = r.text ∷ r.more ∷ [];
+      texts = texts;
       accepted = r.accepted;
       is = record {
         can = tt;
-        right = solved-right (call_with (Solve map script) set) (r.text ∷ r.more ∷ [])
+        right = solved-right (call_with (Solve map tables script) set) texts
             (record { session = session; show = set.show }) commands (λ lines a.
-            solved map script r.text r.more set r.spelled.map commands lines r.spelled.spelled r.spelled_more
-            (subst (λ (d : SessionData). AreAnswers d set.show commands lines) r.spelled.is a));
+            solved map script r.text r.more tables r.loaded set r.made.map commands lines r.made.spelled r.spelled_more
+            (subst (λ (d : SessionData). AreAnswers d set.show commands lines) r.made.is a));
         counted = λ old new rose. inr
-            (solve-counted map script r.text r.more set session commands commands old new r.spelled r.spelled_more
+            (solve-counted map script r.text r.more tables r.loaded set session commands commands old new r.made r.spelled_more
             refl rose);
       };
     }

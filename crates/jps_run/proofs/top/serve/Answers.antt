@@ -4,8 +4,26 @@ use Rattle.jps_run.specs.Opened.{IsOpenedAs}
 use Rattle.jps_run.specs.declared.work.Opened.{Opened}
 use Rattle.jps_run.specs.Counting.{RoseHeard, heard}
 use Rattle.jps_run.proofs.Counts.{on_ok}
-use Rattle.jps_run.proofs.Serving.{may-hear, on-live, work-counted}
+use Rattle.jps_run.proofs.Serving.{may-hear, on-live, unopened-served, work-counted, work-served}
 use Rattle.jps_run.proofs.top.serve.Goals as goal
+
+pub returns-in_err-opened-clause-served : goal.returns-in_err-opened-clause-served
+returns-in_err-opened-clause-served g c =
+    let input = g.I.Source.inflow c.args.input.now in
+    let out = g.O.Sink.outflow c.args.out.now in
+    unopened-served (called c.args.request c.args.settings) (g.F.Files.disk c.args.files.now)
+    (g.F.Files.disk c.open.new.files) input input out out c.from_residual.result c.in_err-opened.field-0.0
+    c.in_err-opened.ensures.opened c.from_residual.ensures.1
+
+pub returns-in-Work-clause-served : goal.returns-in-Work-clause-served
+returns-in-Work-clause-served g c =
+    let call = called c.args.request c.args.settings in
+    let disk = g.F.Files.disk c.args.files.now in
+    let input = g.I.Source.inflow c.args.input.now in
+    work-served call disk (g.F.Files.disk c.open.new.files) input input (g.O.Sink.outflow c.args.out.now)
+    (g.O.Sink.outflow c.perform.new.out) c.perform.result c.in-Work.work
+    (subst (λ (o : Opened). IsOpenedAs call disk.holds o) c.in-Work.is c.in_ok-opened.ensures.opened)
+    c.perform.ensures.sent
 
 pub returns-in-Work-clause-counted : goal.returns-in-Work-clause-counted
 returns-in-Work-clause-counted g c = on_ok c.perform.result (λ rose.

@@ -1,8 +1,9 @@
-use Rattle.std.proofs.Common.{refl, sym, ap, ◌∙◌}
+use Rattle.std.proofs.Common.{refl, sym, ap, ◌∙◌, inl, inr}
 use Rattle.std.specs.Option.{option_map}
 use Rattle.std.proofs.lemmas.List.{drop-map, take_rest, length-map}
-use Rattle.word_list.specs.Rows.{row_data}
-use Rattle.word_list.proofs.Calls.{names_first, names_taken, names_setting, calls}
+use Rattle.word_list.specs.Rows.{asked_by, row_data}
+use Rattle.word_list.proofs.Calls.{names_first, names_taken, names_setting, calls, told_by}
+use Rattle.word_list.proofs.reading.read_after.Goals.{then-more-rest-via-then-more-rest, then-more-rest-via-else-more-rest+then-not-can_load}
 use Rattle.word_list.proofs.reading.read_after.Goals as goal
 
 pub returns-in_default-clause-told : goal.returns-in_default-clause-told
@@ -16,12 +17,20 @@ returns-then-taken-row-clause-told c =
 
 pub returns-then-more-rest-clause-told : goal.returns-then-more-rest-clause-told
 returns-then-more-rest-clause-told c =
-    names_setting c.args.name.now _ (row_data c.in-Some.row) (sym c.in-Some.ensures.row) c.fitting-taken.result
-    c.fitting-taken.ensures.count c.if-taken-row.false _ (rw (take_rest, drop-map) refl) c.settled-more.result
-    c.settled-more.ensures.count (rw length-map c.if-more-rest.true)
+    let named = names_setting c.args.name.now _ (row_data c.in-Some.row) (sym c.in-Some.ensures.row)
+    c.fitting-taken.result c.fitting-taken.ensures.count c.if-taken-row.false _ (rw (take_rest, drop-map) refl)
+    c.settled-more.result c.settled-more.ensures.count in
+    elim c.then-more-rest.branch [
+      | then-more-rest-via-then-more-rest w ↦ named (inl (rw length-map w.if-more-rest.true))
+      | then-more-rest-via-else-more-rest+then-not-can_load w ↦ named
+          (inr (told_by c.table_file-tables.ensures c.chosen-settings.ensures w.can_load.ensures
+          ∙ w.if-not-can_load.true))
+    ]
 
 pub returns-clause-told : goal.returns-clause-told
 returns-clause-told c =
     calls c.args.name.now _ (row_data c.in-Some.row) (sym c.in-Some.ensures.row) c.fitting-taken.result
     c.fitting-taken.ensures.count c.if-taken-row.false _ (rw (take_rest, drop-map) refl) c.settled-more.result
-    c.settled-more.ensures.count (rw length-map c.if-more-rest.false) _ _ c.request.ensures.asked c.chosen.ensures
+    c.settled-more.ensures.count (rw length-map c.if-more-rest.false)
+    (told_by c.table_file-tables.ensures c.chosen-settings.ensures c.can_load.ensures ∙ c.if-not-can_load.false) _ _
+    (c.request.ensures.asked ∙ ap (asked_by _ _) c.table_file-tables.ensures) c.chosen-settings.ensures

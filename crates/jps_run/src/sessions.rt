@@ -1,0 +1,166 @@
+//! The sessions on maps: the tables of one are built, or loaded from a file where one is named.
+//!
+//! A table file is read behind the map and before all other files. Its text is given back as soon as it is
+//! judged, before the session's own memory is taken.
+
+ghost use Rattle.std.specs.Prelude.{◌≡◌, ◌++◌, ◌∷◌, [], true, ℕ, List, IfOk};
+ghost use Rattle.std.specs.Option.{option_copied};
+ghost use Rattle.io_edge.specs.Causes.{NoneFell};
+ghost use Rattle.map_text.specs.Faults.{plain};
+ghost use Rattle.word_list.specs.Settings as words;
+ghost use Rattle.jps_run.specs.Calls.{session_files};
+ghost use Rattle.jps_run.specs.Files.{file_of};
+ghost use Rattle.jps_run.specs.Opened.{open_stops};
+ghost use Rattle.jps_run.specs.Reading.{AreMapTables, IsBehind, IsSessionAnd, IsSessionOf, IsSessionOn, Reads};
+ghost use Rattle.jps_run.specs.Session as spec;
+ghost use Rattle.jps_run.specs.Stops.{Ends};
+ghost use Rattle.jps_run.specs.declared.kind.Kind.TheVariants as kinds;
+
+use crate::NoMemory;
+use crate::faults::tables_line;
+use crate::files::{Text, corner_of, open_one, read_file};
+use crate::kind::{Extent, Kind};
+use crate::layers::{layers_of, load_tables};
+use crate::stop::Stop;
+use edit_replay::Session;
+use grid_moves::{Layers, Terrain};
+use io_edge::Files;
+use map_text::MapText;
+use plus_tables::Tables;
+use std::alloc::Global;
+use word_list::Settings;
+
+/// The tables of a map's land grid and of its water grid.
+#[derive(Drop)]
+pub(crate) struct MapTables {
+    pub land: Tables,
+    pub water: Tables,
+}
+
+impl Text for MapTables {
+    ghost use Rattle.jps_run.specs.Reading.{AreBehindMap, AreTablesOn};
+    ghost use Rattle.jps_run.specs.declared.kind.Kind.TheVariants as kinds;
+
+    /// The map's two grids.
+    type Context = Layers;
+
+    ghost kind_of_text = { λ ls. kinds.Tables ls.land.corner };
+
+    ghost is_behind = { AreBehindMap };
+
+    ghost spells = { λ ls _. AreTablesOn ls };
+
+    fn kind(context: &Layers) -> Kind {
+        Kind::Tables(context.land().corner())
+    }
+
+    fn of_text(alloc: Global, text: &[u8], context: &Layers) -> Result<MapTables, Stop> {
+        match load_tables(alloc, context, text) {
+            Ok((land, water)) => Ok(MapTables { land, water }),
+            Err(fault) => Err(Stop::Text(tables_line(alloc, fault)?)),
+        }
+    }
+}
+
+// The tables of a map that the file of this name holds. The map's grids are given back.
+fn read_tables<F: Files>(
+    alloc: Global,
+    files: &mut F,
+    name: &str,
+    map: &MapText,
+    settings: Settings,
+) -> Result<MapTables, Stop>
+    ensures read { Reads (IsBehind (plain map.now)) (λ _. AreMapTables (spec.corner_of settings.one) (plain map.now))
+        (kinds.Tables (spec.corner_of settings.one)) ((F.disk files.old).holds name.now)
+        ((F.disk files.old).faults name.now) ((F.disk files.new).faults name.now) result }
+    ensures unchanged { (F.disk files.new).holds ≡ (F.disk files.old).holds }
+    ensures later { NoneFell (F.disk files.old).faults (F.disk files.new).faults }
+{
+    let layers = layers_of(alloc, map, corner_of(settings.one))?;
+    read_file(alloc, files, name, &layers)
+}
+
+// The session on a map with tables of it, where the settings pick the engine for them.
+fn session_with(
+    alloc: Global,
+    map: &MapText,
+    tables: MapTables,
+    settings: Settings,
+) -> Result<Session, NoMemory>
+    requires plus { words.has_tables settings.pick ≡ true }
+    requires tables { AreMapTables (spec.corner_of settings.one) (plain map.now) tables }
+    ensures { IfOk result (IsSessionOn settings (plain map.now)) }
+{
+    let MapTables { land, water } = tables;
+    Session::with_tables(alloc, map, corner_of(settings.one), land, water)
+}
+
+// The session on the map of the first file, with the tables of the second one.
+fn open_loaded<F: Files>(
+    alloc: Global,
+    files: &mut F,
+    map: &str,
+    name: &str,
+    settings: Settings,
+) -> Result<Session, Stop>
+    requires plus { words.has_tables settings.pick ≡ true }
+    ensures read { Ends (IsSessionOf settings (F.disk files.old).holds
+        (file_of kinds.Map map.now ∷ file_of (kinds.Tables (spec.corner_of settings.one)) name.now ∷ []))
+        (open_stops (F.disk files.old) (F.disk files.new)
+        (file_of kinds.Map map.now ∷ file_of (kinds.Tables (spec.corner_of settings.one)) name.now ∷ [])) result }
+    ensures unchanged { (F.disk files.new).holds ≡ (F.disk files.old).holds }
+    ensures later { NoneFell (F.disk files.old).faults (F.disk files.new).faults }
+{
+    let map: MapText = read_file(alloc, files, map, &Extent::Any)?;
+    let tables = read_tables(alloc, files, name, &map, settings)?;
+    let session = session_with(alloc, &map, tables, settings)?;
+    Ok(session)
+}
+
+/// The session on the map of the first file, for a call with this file and, where one is named, with a table
+/// file behind it.
+pub(crate) fn open_session<F: Files>(
+    alloc: Global,
+    files: &mut F,
+    map: &str,
+    tables: Option<&str>,
+    settings: Settings,
+) -> Result<Session, Stop>
+    requires loads { words.can_load (option_copied tables) settings ≡ true }
+    ensures read { Ends (IsSessionOf settings (F.disk files.old).holds
+        (session_files settings map.now (option_copied tables.entry)))
+        (open_stops (F.disk files.old) (F.disk files.new)
+        (session_files settings map.now (option_copied tables.entry))) result }
+    ensures unchanged { (F.disk files.new).holds ≡ (F.disk files.old).holds }
+    ensures later { NoneFell (F.disk files.old).faults (F.disk files.new).faults }
+{
+    match tables {
+        None => open_one(alloc, files, map, settings),
+        Some(name) => open_loaded(alloc, files, map, name, settings),
+    }
+}
+
+/// The session on the map of the first file, and what the last file is read as, for a call with these files
+/// and, where one is named, with a table file between them. The last one is read only where those before it
+/// are accepted; `context` says what it is judged by.
+pub(crate) fn open_session_and<F: Files, T: Text>(
+    alloc: Global,
+    files: &mut F,
+    map: &str,
+    tables: Option<&str>,
+    settings: Settings,
+    last: &str,
+    context: &T::Context,
+) -> Result<(Session, T), Stop>
+    requires loads { words.can_load (option_copied tables) settings ≡ true }
+    requires behind { (earlier : List (List ℕ)) → T.is_behind context.now earlier }
+    ensures read { Ends (IsSessionAnd settings (T.spells context.now) (F.disk files.old).holds
+        (session_files settings map.now (option_copied tables.entry)) (file_of (T.kind_of_text context.now) last.now))
+        (open_stops (F.disk files.old) (F.disk files.new) (session_files settings map.now (option_copied tables.entry)
+        ++ file_of (T.kind_of_text context.now) last.now ∷ [])) result }
+    ensures unchanged { (F.disk files.new).holds ≡ (F.disk files.old).holds }
+{
+    let session = open_session(alloc, files, map, tables, settings)?;
+    let text: T = read_file(alloc, files, last, context)?;
+    Ok((session, text))
+}
