@@ -4,17 +4,23 @@ use Rattle.io_edge.specs.Told.{Held}
 use Rattle.word_list.specs.Request.{Asked, Call, Help, Version, Query, Solve, Live, Scen, Judge, Prove, Check, Make, Drill, Draw, Costs, Tables, Boxes, Moves}
 use Rattle.word_list.specs.declared.request.Settings.{Settings}
 use Rattle.jps_run.specs.Files.{AreAccepted, File, file_of}
+use Rattle.jps_run.specs.Kinds.{extent_for, kind_for}
+use Rattle.jps_run.specs.declared.kind.Kind.{Kind}
 use Rattle.jps_run.specs.declared.kind.Kind.TheVariants as kind
 
 -- a call by what is asked for and how
 abbrev pub call_with : Asked → Settings → Call
 call_with asked set = record { request = asked; settings = set }
 
+-- the kind of the map where an engine of small maps may be picked
+abbrev pub map_kind : Settings → Kind
+map_kind set = kind_for (extent_for set.pick)
+
 -- the files of what is asked for, as the settings ask, in the order in which they are read
 abbrev asked_files : Settings → Asked → List File
 asked_files set Help = []
 asked_files set Version = []
-asked_files set (Query map sx sy gx gy) = file_of kind.Map map ∷ []
+asked_files set (Query map sx sy gx gy) = file_of (map_kind set) map ∷ []
 asked_files set (Solve map script) = file_of kind.Map map ∷ file_of kind.Script script ∷ []
 asked_files set (Live map) = file_of kind.Map map ∷ []
 asked_files set (Judge map scen walks) =
@@ -28,7 +34,7 @@ asked_files set (Costs map x y) = file_of kind.Map map ∷ []
 asked_files set (Tables map) = file_of kind.Map map ∷ []
 asked_files set (Boxes map x y) = file_of kind.SmallMap map ∷ []
 asked_files set (Moves map x y) = file_of kind.SmallMap map ∷ []
-asked_files set (Scen map scen) = file_of kind.Map map ∷ file_of kind.Scen scen ∷ []
+asked_files set (Scen map scen) = file_of (map_kind set) map ∷ file_of kind.Scen scen ∷ []
 
 -- the files of a call
 abbrev pub files_of : Call → List File

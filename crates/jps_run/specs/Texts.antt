@@ -45,6 +45,8 @@ help_text =
     ++ codes "its cells, show=trace each state that the search took as well: a cell, and how it was come to.\n"
     ++ codes "ENGINE is plain, where none is named, jps, block or plus. Walks cost the same by each: jps jumps cell by\n"
     ++ codes "cell, block over 512 cells at a time, plus by tables that are made when the map is read.\n"
+    ++ codes "For query and scen, on maps of at most 16384 cells, it may also be boxes, whose search leaves out moves by\n"
+    ++ codes "goal boxes, or moves, which follows first moves and takes no states (no show=trace, no show=taken).\n"
     ++ codes "With rule=one a diagonal move may pass one blocked cell beside it, with rule=none none.\n"
     ++ codes "\n"
     ++ codes "statuses: 0 done; 1 done, and a row of `scen` is neither agree nor near, `judge` or `check` refuses, `prove`\n"
@@ -54,7 +56,7 @@ help_text =
     ++ codes "  jps: word N            word N is missing, or no call has it there; words are counted from 1\n"
     ++ codes "  jps: TEXT CODE line N  line N of the map, script, scen, cert or walks breaks its form\n"
     ++ codes "  jps: TEXT long         the text is longer than 67108864 bytes, a cert or walks than 1073741824\n"
-    ++ codes "  jps: map large         the map has more than 16384 cells, and `boxes` or `moves` was asked for\n"
+    ++ codes "  jps: map large         the map has more than 16384 cells, and boxes or moves was asked for\n"
     ++ codes "  jps: read, jps: write, jps: memory\n"
 
 -- what `--version` prints

@@ -3,6 +3,7 @@
 
 #[cfg(test)]
 mod ample_tests;
+mod answerer;
 mod answers;
 mod boxes;
 #[cfg(test)]
@@ -37,6 +38,9 @@ mod ruling;
 mod scen;
 mod scenario;
 mod sending;
+mod small;
+#[cfg(test)]
+mod small_tests;
 mod solve;
 mod stop;
 mod tables;

@@ -9,6 +9,7 @@ ghost use Rattle.jps_run.specs.Files.{file_of};
 ghost use Rattle.jps_run.specs.Hearing.{AnswersKnown, Refuses, Hears, HearsPiece, HearsEnd};
 ghost use Rattle.jps_run.specs.Calls.{call_with};
 ghost use Rattle.jps_run.specs.Rising.{RiseEnd, RisePiece};
+ghost use Rattle.jps_run.specs.Session.{PicksSession};
 ghost use Rattle.jps_run.specs.Opened.{IsListener, open_stops};
 ghost use Rattle.jps_run.specs.Answering.{HaveTaken};
 ghost use Rattle.jps_run.specs.Stops.{Ends};
@@ -42,6 +43,7 @@ pub(crate) fn live<F: Files>(
     map: &str,
     settings: Settings,
 ) -> Result<Answers, Stop>
+    requires { PicksSession settings }
     ensures opened { Ends (IsListener (call_with (asked.Live map.now) settings) (F.disk files.old).holds)
         (open_stops (F.disk files.old) (F.disk files.new) (file_of kinds.Map map.now ∷ [])) result }
     ensures unchanged { (F.disk files.new).holds ≡ (F.disk files.old).holds }

@@ -4,6 +4,7 @@ ghost use Rattle.std.specs.Prelude.{◌≡◌};
 ghost use Rattle.word_list.specs.Request as asked;
 ghost use Rattle.jps_run.specs.Opened.{OpensWork};
 ghost use Rattle.jps_run.specs.Calls.{call_with};
+ghost use Rattle.jps_run.specs.Session.{PicksSession};
 
 use crate::answers::Answers;
 use crate::files::open_two;
@@ -23,6 +24,7 @@ pub(crate) fn solve<F: Files>(
     script: &str,
     settings: Settings,
 ) -> Result<Work, Stop>
+    requires { PicksSession settings }
     ensures opened { OpensWork (call_with (asked.Solve map.now script.now) settings)
         (F.disk files.old) (F.disk files.new) result }
     ensures unchanged { (F.disk files.new).holds ≡ (F.disk files.old).holds }

@@ -2,3 +2,4 @@ pub mod Rules
 pub mod Settled
 pub mod Fitted
 pub mod Calls
+pub mod Serving

@@ -105,7 +105,7 @@ pub fn row_named(name: &str) -> Option<Row>
     ensures row { option_map row_data result ≡ row_of name.now }
     ensures few { IfSome result (λ row. length row.takes.now ≤ 8) }
 {
-    use Family::{Counts, Drawing, Engine, Rule, Show};
+    use Family::{Counts, Drawing, Engine, Rule, Show, SmallMap};
     use Kind::{File, Number, Percent, Seed, Side};
     let (command, takes, allows): (Command, &[Kind], &[Family]) = match name {
         "--help" => (Command::Help, &[], &[]),
@@ -113,11 +113,15 @@ pub fn row_named(name: &str) -> Option<Row>
         "query" => (
             Command::Query,
             &[File, Number, Number, Number, Number],
-            &[Engine, Show, Rule],
+            &[Engine, SmallMap, Show, Rule],
         ),
         "solve" => (Command::Solve, &[File, File], &[Engine, Show, Rule]),
         "live" => (Command::Live, &[File], &[Engine, Show, Rule]),
-        "scen" => (Command::Scen, &[File, File], &[Engine, Counts, Rule]),
+        "scen" => (
+            Command::Scen,
+            &[File, File],
+            &[Engine, SmallMap, Counts, Rule],
+        ),
         "judge" => (Command::Judge, &[File, File, File], &[Rule]),
         "prove" => (
             Command::Prove,

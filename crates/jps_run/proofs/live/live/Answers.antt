@@ -15,6 +15,8 @@ returns-clause-opened g c =
         accepted = (r.accepted, tt);
         read = r.spelled.map;
         spelled = r.spelled.spelled;
-        known = (r.spelled.is, refl);
+        session = c.in_ok-session.session;
+        answers = r.spelled.is;
+        known = (refl, refl);
       };
     }

@@ -1,9 +1,11 @@
-use Rattle.std.proofs.Common.{◌≤◌, refl, sym, subst, inr, List, [], ◌∷◌, ℕ}
-use Rattle.edit_replay.specs.Session.{SessionData}
+use Rattle.std.proofs.Common.{◌≡◌, ◌∙◌, ◌≤◌, refl, sym, subst, inr, List, [], ◌∷◌, ℕ}
 use Rattle.word_list.specs.Request.{Scen}
 use Rattle.jps_run.specs.Calls.{call_with}
 use Rattle.jps_run.specs.Outcome.{IsAnswered, judged}
+use Rattle.jps_run.specs.Answerers.{who_of}
 use Rattle.jps_run.specs.Rows.{AreRows, scen_status}
+use Rattle.jps_run.specs.Session.{who_on}
+use Rattle.jps_run.specs.Who.{Who}
 use Rattle.jps_run.proofs.Counts.{scen-counted}
 use Rattle.jps_run.proofs.Tallies.{small_status}
 use Rattle.jps_run.proofs.scen.scen.Goals as goal
@@ -12,7 +14,9 @@ pub returns-clause-opened : goal.returns-clause-opened
 returns-clause-opened g c =
     let set = c.args.settings in
     let r = c.in_ok-both.ensures.read in
-    let session = c.in_ok-both.both.0 in
+    let basis = c.in_ok-both.both.0 in
+    let answerer = c.in_ok-answerer.answerer in
+    let is : who_of answerer ≡ who_on set r.spelled.map = c.in_ok-answerer.ensures.who ∙ r.spelled.is.0 in
     let entries = c.in_ok-both.both.1.items in
     let map = c.args.map.now in
     let name = c.args.name.now in
@@ -22,16 +26,16 @@ returns-clause-opened g c =
       texts = texts;
       accepted = r.accepted;
       is = record {
-        can = r.spelled_more.1;
+        can = (c.in_ok-answerer.ensures.ready, r.spelled_more.1);
         right = λ lines status w. (
           subst (λ n. n ≤ 1) (sym w.same_status) (small_status w.rows),
           subst (λ (n : ℕ). IsAnswered call texts lines n) (sym w.same_status)
               (subst (λ (all : List (List ℕ)). IsAnswered call texts all (scen_status w.rows)) (sym w.all)
               (judged map name r.text r.more set r.spelled.map entries w.rows r.spelled.spelled r.spelled_more.0
-              (subst (λ (d : SessionData). AreRows d entries w.rows) r.spelled.is w.are))),
+              (subst (λ (by : Who). AreRows by entries w.rows) is w.are))),
         );
         counted = λ old new rose. inr
-            (scen-counted map name r.text r.more set session entries entries old new r.spelled r.spelled_more.0
-            refl rose);
+            (scen-counted map name r.text r.more set r.spelled.map (who_of answerer) entries old new r.spelled.spelled
+            r.spelled_more.0 is rose);
       };
     }

@@ -1,7 +1,5 @@
-use Rattle.std.proofs.Common.{refl, subst, inr, [], ◌∷◌}
-use Rattle.edit_replay.specs.Session.{SessionData}
+use Rattle.std.proofs.Common.{refl, inr, [], ◌∷◌}
 use Rattle.word_list.specs.Request.{Solve}
-use Rattle.jps_run.specs.Answers.{AreAnswers}
 use Rattle.jps_run.specs.Calls.{call_with}
 use Rattle.jps_run.specs.Outcome.{solved}
 use Rattle.jps_run.proofs.Counts.{solve-counted}
@@ -24,7 +22,7 @@ returns-clause-opened g c =
         right = solved-right (call_with (Solve map script) set) (r.text ∷ r.more ∷ [])
             (record { session = session; show = set.show }) commands (λ lines a.
             solved map script r.text r.more set r.spelled.map commands lines r.spelled.spelled r.spelled_more
-            (subst (λ (d : SessionData). AreAnswers d set.show commands lines) r.spelled.is a));
+            (record { session = session; is = r.spelled.is; known = a }));
         counted = λ old new rose. inr
             (solve-counted map script r.text r.more set session commands commands old new r.spelled r.spelled_more
             refl rose);
