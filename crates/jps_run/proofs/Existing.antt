@@ -21,7 +21,7 @@ use Rattle.first_moves.specs.Follow.{IsFollowed}
 use Rattle.first_moves.specs.Row.{AreMoves, MovesData}
 use Rattle.first_moves.proofs.Following.{stands}
 use Rattle.first_moves.proofs.Leading.{has_followed}
-use Rattle.jps_run.specs.Answerers.{IsReady, IsUnsearched, who_of}
+use Rattle.jps_run.specs.Answerers.{CanAnswer, IsUnsearched, who_of}
 use Rattle.jps_run.specs.Session.{IsReply}
 use Rattle.jps_run.specs.Who.{By, IsReplyBy, IsReplyOn, by_boxes, by_moves}
 use Rattle.jps_run.specs.declared.answerer.Answerer.{Answerer}
@@ -109,7 +109,7 @@ moves_on ls land water on off s = by_test (is_free ls.water s)
     by_test false = (land, on)
 
 -- whoever is ready has a reply
-pub answer_exists : (a : Answerer) → IsReady a → (s t : Cell) → (reply : Reply) × IsReplyBy (who_of a) s t reply
+pub answer_exists : (a : Answerer) → CanAnswer a → (s t : Cell) → (reply : Reply) × IsReplyBy (who_of a) s t reply
 answer_exists (answerer.Session d) ready s t = reply_exists d s t
 answer_exists (answerer.Boxes library) ready s t =
     let ls = library.layers in

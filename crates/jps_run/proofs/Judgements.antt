@@ -3,7 +3,7 @@ use Rattle.std.proofs.Common.{◌≡◌, refl, sym, ap, ◌∙◌, subst, List, 
 use Rattle.std.specs.Prelude.{◌≢◌, Result, Ok, Err, OnOk}
 use Rattle.std.proofs.lemmas.List.{append-nil}
 use Rattle.scen_text.specs.declared.entry.Entry.{Entry}
-use Rattle.jps_run.specs.Answerers.{IsReady, who_of}
+use Rattle.jps_run.specs.Answerers.{CanAnswer, who_of}
 use Rattle.jps_run.specs.Judging.{HasJudged, HasRoom, IsJudged}
 use Rattle.jps_run.specs.Rows.{has_sides, row_of, IsRow, scale, replied, row_line, row_lines, scen_status, sum_line}
 use Rattle.word_list.specs.declared.request.Show.{Show}
@@ -48,7 +48,7 @@ room-more (Ok done) job now r room counts small same = λ n h.
     let both : length (t.rows ++ r ∷ []) ≡ length t.rows + 1 = length-append t.rows (r ∷ []) in
     let few : job.tally.rows + (n + 1) < 2 ^ 64 = h.few in
     record {
-      ready = subst (λ (a : Answerer). IsReady a) (sym same) h.ready;
+      ready = subst (λ (a : Answerer). CanAnswer a) (sym same) h.ready;
       counts = record { rows = t.rows ++ r ∷ []; counted = one };
       small = small;
       few = omega arith;
@@ -107,7 +107,7 @@ judged-all job status before after w s first entries lines h = record {
 }
 
 -- every entry has a row
-row_exists : (a : Answerer) → IsReady a → (s : Unit {0}) (entry : Entry) → (r : Row) × Stands (who_of a) s entry r
+row_exists : (a : Answerer) → CanAnswer a → (s : Unit {0}) (entry : Entry) → (r : Row) × Stands (who_of a) s entry r
 row_exists a ready s entry = by_sides (has_sides (who_of a).layers entry) refl
   where
     by_sides : (b : Bool) → has_sides (who_of a).layers entry ≡ b → (r : Row) × IsRow (who_of a) entry r
@@ -144,6 +144,6 @@ rows-complete first now some others lines h =
     }
 
 -- nothing is judged yet
-pub judged-none : (job : Judge) → IsReady job.answerer → job.tally ≡ tally_of [] → HasJudged job job [] []
+pub judged-none : (job : Judge) → CanAnswer job.answerer → job.tally ≡ tally_of [] → HasJudged job job [] []
 judged-none job ready e =
     record { rows = []; ready = ready; are = tt; all = refl; counted = e; same = refl; shown = refl }

@@ -80,3 +80,8 @@ small-short ls s t (Walk points cost taken) small right =
     = least_steps (query_grid ls s) s t right.1.cells right.1.least in
     let few : (query_grid ls s).height * (query_grid ls s).width ≤ 16384 = few-on ls s small in
     omega arith)
+
+pub result-short : {E : Type 0} (result : Result Reply E) (ls : Layers) (by : By) (s t : Cell) → AreSmall ls
+    → IfOk result (IsReplyBy (record { layers = ls; by = by }) s t) → IfOk result (λ r. IsShort (answer_of r))
+result-short (Err error) ls by s t small is = tt
+result-short (Ok reply) ls by s t small is = small-short ls s t reply small is.right

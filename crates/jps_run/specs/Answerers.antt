@@ -40,12 +40,12 @@ who_of (answerer.Session session) = who_is session
 who_of (answerer.Boxes library) = record { layers = library.layers; by = by_boxes }
 who_of (answerer.Moves library) = record { layers = library.layers; by = by_moves }
 
--- what is kept are the boxes, and the first moves, of both grids
-abbrev pub IsReady : Answerer → Type 0
-IsReady (answerer.Session session) = ⊤
-IsReady (answerer.Boxes library) = AreSmall library.layers × HoldsBoxes library.layers.land library.land
+-- queries can be answered: what is kept are the boxes, or the first moves, of both grids
+abbrev pub CanAnswer : Answerer → Type 0
+CanAnswer (answerer.Session session) = ⊤
+CanAnswer (answerer.Boxes library) = AreSmall library.layers × HoldsBoxes library.layers.land library.land
     × HoldsBoxes library.layers.water library.water
-IsReady (answerer.Moves library) = AreSmall library.layers × AreMoves library.layers.land library.land
+CanAnswer (answerer.Moves library) = AreSmall library.layers × AreMoves library.layers.land library.land
     × AreMoves library.layers.water library.water
 
 -- two cells are the ends of a query, and both are free on its grid

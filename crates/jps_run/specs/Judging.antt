@@ -1,7 +1,7 @@
 -- How far the rows of a scenario have come. No public clause cites this module.
 use Rattle.std.specs.Prelude.{◌≡◌, ℕ, ◌+◌, ◌*◌, ◌^◌, ◌<◌, ◌≤◌, List}
 use Rattle.scen_text.specs.declared.entry.Entry.{Entry}
-use Rattle.jps_run.specs.Answerers.{IsReady, who_of}
+use Rattle.jps_run.specs.Answerers.{CanAnswer, who_of}
 use Rattle.jps_run.specs.Counting.{EntriesTake, EntryTakes, RoseAtLeast}
 use Rattle.jps_run.specs.Rows.{AreRows, row_lines, scen_lines, scen_status}
 use Rattle.jps_run.specs.Tally.{IsSmall, IsTally, tally_of}
@@ -12,7 +12,7 @@ use Rattle.jps_run.specs.declared.scenario.Judge.{Judge}
 -- the entries have their rows with these lines, by one who can answer, and the rows are counted
 pub record HasJudged (first now : Judge) (entries : List Entry) (lines : List (List ℕ)) : Type 0 where
   pub rows : List Row
-  pub ready : IsReady first.answerer
+  pub ready : CanAnswer first.answerer
   pub are : AreRows (who_of first.answerer) entries rows
   pub all : lines ≡ row_lines first.show 1 rows
   pub counted : now.tally ≡ tally_of rows
@@ -21,7 +21,7 @@ pub record HasJudged (first now : Judge) (entries : List Entry) (lines : List (L
 
 -- the rows are counted, there is room for so many more, and they can be answered
 pub record HasRoom (job : Judge) (more : ℕ) : Type 0 where
-  pub ready : IsReady job.answerer
+  pub ready : CanAnswer job.answerer
   pub counts : IsTally job.tally
   pub small : IsSmall job.tally
   pub few : job.tally.rows + more < 2 ^ 64

@@ -4,7 +4,7 @@ use Rattle.io_edge.specs.Causes.{Rose}
 use Rattle.io_edge.specs.Told.{Disk, Held}
 use Rattle.script_text.specs.declared.command.Command.TheVariants as command
 use Rattle.word_list.specs.Request.{Call}
-use Rattle.jps_run.specs.Answerers.{IsReady, who_of}
+use Rattle.jps_run.specs.Answerers.{CanAnswer, who_of}
 use Rattle.jps_run.specs.Answering.{IsSolved}
 use Rattle.jps_run.specs.Counting.{CommandsTake, RoseBy, RoseFor, searches}
 use Rattle.jps_run.specs.Drilling.{IsDrilled, sums_of}
@@ -55,7 +55,7 @@ HasRisen (work.Say text) old new = ⊤
 -- the work can be done: queries can be answered, the lengths of entries can be judged, and the sums of a drill have room
 abbrev pub CanPerform : Work → Type 0
 CanPerform (work.Answer job commands) = ⊤
-CanPerform (work.Judge answerer show entries) = IsReady answerer × AreKept entries.items
+CanPerform (work.Judge answerer show entries) = CanAnswer answerer × AreKept entries.items
 CanPerform (work.Referee job entries) = IsReady job (length entries.items)
 CanPerform (work.Drill session commands) = length commands.items ≤ 2 ^ 32
 CanPerform (work.Draw canvas ends show) = ⊤

@@ -9,7 +9,7 @@ ghost use Rattle.edit_replay.specs.Replies.{IsRightOn, IsShort, answer_of};
 ghost use Rattle.first_moves.specs.Row.{AreMoves};
 ghost use Rattle.goal_boxes.specs.Stored.{HoldsBoxes};
 ghost use Rattle.grid_moves.specs.Layers.{in_one_layer, query_grid};
-ghost use Rattle.jps_run.specs.Answerers.{IsBasisOn, IsFit, IsReady, who_from, who_of};
+ghost use Rattle.jps_run.specs.Answerers.{IsBasisOn, IsFit, CanAnswer, who_from, who_of};
 ghost use Rattle.jps_run.specs.Reading.{AreSmall};
 ghost use Rattle.jps_run.specs.Who.{IsBoxedReply, IsLedReply, IsReplyBy, fewest_by};
 
@@ -92,7 +92,7 @@ pub(crate) enum Answerer {
 impl BoxLibrary {
     // The reply to a query.
     fn query(&self, alloc: Global, ends: Ends) -> Result<Reply, NoMemory>
-        requires ready { IsReady (Answerer.Boxes self.now) }
+        requires ready { CanAnswer (Answerer.Boxes self.now) }
         ensures reply { IfOk result (IsReplyBy (who_of (Answerer.Boxes self.now))
             (record { x = ends.sx; y = ends.sy }) (record { x = ends.gx; y = ends.gy })) }
     {
@@ -126,7 +126,7 @@ impl MoveLibrary {
         ends: Ends,
         steps: &mut Steps<L>,
     ) -> Result<Reply, NoMemory>
-        requires ready { IsReady (Answerer.Moves self.now) }
+        requires ready { CanAnswer (Answerer.Moves self.now) }
         ensures reply { IfOk result (IsReplyBy (who_of (Answerer.Moves self.now))
             (record { x = ends.sx; y = ends.sy }) (record { x = ends.gx; y = ends.gy })) }
         ensures later { OnOk result (steps.old ≤ steps.new) }
@@ -166,7 +166,7 @@ impl Answerer {
     pub(crate) fn new(alloc: Global, basis: Basis) -> Result<Answerer, NoMemory>
         requires fit { IsFit basis }
         ensures who { IfOk result (λ a. who_of a ≡ who_from basis) }
-        ensures ready { IfOk result IsReady }
+        ensures ready { IfOk result CanAnswer }
     {
         match basis {
             Basis::Session(session) => Ok(Answerer::Session(session)),
@@ -220,7 +220,7 @@ impl Answerer {
         ends: Ends,
         steps: &mut Steps<L>,
     ) -> Result<Reply, NoMemory>
-        requires ready { IsReady self.old }
+        requires ready { CanAnswer self.old }
         ensures reply { IfOk result (IsReplyBy (who_of self.old)
             (record { x = ends.sx; y = ends.sy }) (record { x = ends.gx; y = ends.gy })) }
         ensures short { IfOk result (λ reply. IsShort (answer_of reply)) }

@@ -77,7 +77,8 @@ fn rows_that_need_no_walk_are_told(rt: HostRuntime) -> Result<(), Fail> {
     let entries = b"version 1\n0 m 3 3 0 0 2 1 1\n0 m 3 2 0 0 3 0 1\n0 m 3 2 0 0 2 1 1\n\
         0 m 3 2 1 0 0 0 1\n0 m 3 2 0 0 1 0 1\n";
     let told = b"none\n0,0 1,0\n0,0 2,1\nnone\n0,0 1,0\n";
-    let rows = b"row 1 scale\nrow 2 outside\nrow 3 blocked\nrow 4 accepted none\nrow 5 refused walk 1\n\
+    let rows =
+        b"row 1 scale\nrow 2 outside\nrow 3 blocked\nrow 4 accepted none\nrow 5 refused walk 1\n\
         sum 5 accepted 1 refused 1 other 3\n";
     let words: [&str; 4] = ["judge", "m", "s", "w"];
     let files = three_files(alloc, cove, entries, told)?;

@@ -59,12 +59,7 @@ fn line_of(alloc: Global, reply: &Reply, width: u16, show: Show) -> Result<Vec<u
 }
 
 // The work of a session on one query.
-fn by_session(
-    alloc: Global,
-    session: Session,
-    ends: Ends,
-    show: Show,
-) -> Result<Work, NoMemory>
+fn by_session(alloc: Global, session: Session, ends: Ends, show: Show) -> Result<Work, NoMemory>
     ensures { IfOk result (IsQueryWork (who_is session) show
         (record { x = ends.sx; y = ends.sy }) (record { x = ends.gx; y = ends.gy })) }
 {
@@ -74,12 +69,7 @@ fn by_session(
 }
 
 // The line of the reply by the boxed run.
-fn by_boxes(
-    alloc: Global,
-    layers: &Layers,
-    ends: Ends,
-    show: Show,
-) -> Result<Work, NoMemory>
+fn by_boxes(alloc: Global, layers: &Layers, ends: Ends, show: Show) -> Result<Work, NoMemory>
     ensures { IfOk result (IsQueryWork (who_from (Basis.Boxes layers.now)) show
         (record { x = ends.sx; y = ends.sy }) (record { x = ends.gx; y = ends.gy })) }
 {
@@ -89,12 +79,7 @@ fn by_boxes(
 }
 
 // The line of the reply by the walk of first moves.
-fn by_moves(
-    alloc: Global,
-    layers: &Layers,
-    ends: Ends,
-    show: Show,
-) -> Result<Work, NoMemory>
+fn by_moves(alloc: Global, layers: &Layers, ends: Ends, show: Show) -> Result<Work, NoMemory>
     requires { AreSmall layers.now }
     ensures { IfOk result (IsQueryWork (who_from (Basis.Moves layers.now)) show
         (record { x = ends.sx; y = ends.sy }) (record { x = ends.gx; y = ends.gy })) }

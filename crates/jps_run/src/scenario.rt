@@ -3,7 +3,7 @@
 ghost use Rattle.std.specs.Prelude.{◌≡◌, nat_eq, ◌&&◌, [], IfOk, OnOk};
 ghost use Rattle.scen_text.specs.Lengths.{IsKept};
 ghost use Rattle.edit_replay.specs.Replies.{IsShort, answer_of};
-ghost use Rattle.jps_run.specs.Answerers.{IsReady, who_of};
+ghost use Rattle.jps_run.specs.Answerers.{CanAnswer, who_of};
 ghost use Rattle.jps_run.specs.Judging.{IsJudged, RoseForEntries, TakesFor};
 ghost use Rattle.jps_run.specs.Rows as rows;
 ghost use Rattle.jps_run.specs.Sending.{SendsWhole};
@@ -105,7 +105,7 @@ fn row_of<L: Ledger>(
     steps: &mut Steps<L>,
 ) -> Result<Row, NoMemory>
     requires kept { IsKept entry.length }
-    requires ready { IsReady answerer.old }
+    requires ready { CanAnswer answerer.old }
     ensures row { IfOk result (rows.IsRow (who_of answerer.old) entry) }
     ensures same { answerer.new ≡ answerer.old }
     ensures counted { OnOk result (TakesFor (who_of answerer.old) entry steps.old steps.new) }
@@ -113,20 +113,14 @@ fn row_of<L: Ledger>(
     if !has_sides(answerer.width(), answerer.height(), entry) {
         return Ok(Row::Scale);
     }
-    let reply = answerer.query(alloc, ends_of(entry), steps)?;
-    Ok(row_of_reply(entry.length, &reply))
-}
-
-// The ends of an entry's query.
-fn ends_of(entry: Entry) -> Ends
-    ensures { result ≡ record { sx = entry.sx; sy = entry.sy; gx = entry.gx; gy = entry.gy } }
-{
-    Ends {
+    let ends = Ends {
         sx: entry.sx,
         sy: entry.sy,
         gx: entry.gx,
         gy: entry.gy,
-    }
+    };
+    let reply = answerer.query(alloc, ends, steps)?;
+    Ok(row_of_reply(entry.length, &reply))
 }
 
 /// Judges the entries in order by the one who answers, and sums their rows up; `show` tells whether they
@@ -139,7 +133,7 @@ pub(crate) fn write_rows<O: Sink, L: Ledger>(
     out: &mut O,
     steps: &mut Steps<L>,
 ) -> Result<u8, Stop>
-    requires ready { IsReady answerer }
+    requires ready { CanAnswer answerer }
     requires kept { AreKept entries.now }
     ensures sent { SendsWhole (IsJudged (record { answerer = answerer; show = show; tally = tally_of [] }) entries.now)
         (O.outflow out.old)

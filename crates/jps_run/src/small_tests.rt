@@ -63,13 +63,7 @@ fn boxes_answer_a_query(rt: HostRuntime) -> Result<(), Fail> {
             trace,
             b"none taken 0,0:-\n",
         ),
-        (
-            TOUCHING,
-            ["1", "0", "0", "0"],
-            boxes,
-            trace,
-            b"blocked\n",
-        ),
+        (TOUCHING, ["1", "0", "0", "0"], boxes, trace, b"blocked\n"),
         (
             ONE,
             ["0", "0", "0", "0"],
@@ -85,13 +79,7 @@ fn boxes_answer_a_query(rt: HostRuntime) -> Result<(), Fail> {
             trace,
             b"walk 0 1 1,0 2,1 taken 1,0:- 2,1:-\n",
         ),
-        (
-            SHORE,
-            ["0", "0", "1", "0"],
-            boxes,
-            trace,
-            b"none taken\n",
-        ),
+        (SHORE, ["0", "0", "1", "0"], boxes, trace, b"none taken\n"),
     ];
     for row in table {
         check_row(rt.alloc(), &rt, row)?;
@@ -118,13 +106,7 @@ fn first_moves_answer_a_query(rt: HostRuntime) -> Result<(), Fail> {
             b"walk 0 2 0,0 1,1 2,2\n",
         ),
         (TOUCHING, ["0", "0", "1", "1"], moves, points, b"none\n"),
-        (
-            TOUCHING,
-            ["0", "0", "1", "0"],
-            moves,
-            points,
-            b"blocked\n",
-        ),
+        (TOUCHING, ["0", "0", "1", "0"], moves, points, b"blocked\n"),
         (ONE, ["0", "0", "0", "0"], moves, points, b"walk 0 0 0,0\n"),
         (ONE, ["0", "0", "1", "0"], moves, points, b"outside\n"),
         (
@@ -147,11 +129,29 @@ fn first_moves_answer_a_query(rt: HostRuntime) -> Result<(), Fail> {
 fn words_for_small_maps_are_named(rt: HostRuntime) -> Result<(), Fail> {
     let table: [(&[&str], &[u8]); 6] = [
         (
-            &["query", "m", "0", "0", "1", "1", "engine=moves", "show=trace"],
+            &[
+                "query",
+                "m",
+                "0",
+                "0",
+                "1",
+                "1",
+                "engine=moves",
+                "show=trace",
+            ],
             b"jps: word 8\n",
         ),
         (
-            &["query", "m", "0", "0", "1", "1", "show=trace", "engine=moves"],
+            &[
+                "query",
+                "m",
+                "0",
+                "0",
+                "1",
+                "1",
+                "show=trace",
+                "engine=moves",
+            ],
             b"jps: word 8\n",
         ),
         (
@@ -224,7 +224,8 @@ fn scenarios_are_judged_on_small_maps(rt: HostRuntime) -> Result<(), Fail> {
     let moves: [&str; 4] = ["scen", "m", "s", "engine=moves"];
     let counted: [&str; 5] = ["scen", "m", "s", "engine=boxes", "show=taken"];
     let none: &[u8] = b"version 1\n0 m 2 2 0 0 1 1 1\n0 m 2 2 1 0 1 1 1\n";
-    let none_rows: &[u8] = b"row 1 none taken 1\nrow 2 blocked\nsum 2 agree 0 near 0 off 0 other 2 taken 1\n";
+    let none_rows: &[u8] =
+        b"row 1 none taken 1\nrow 2 blocked\nsum 2 agree 0 near 0 off 0 other 2 taken 1\n";
     let table: [(&[&str], &[u8], &[u8], &[u8]); 7] = [
         (&boxes, TWO_ROWS, LENGTHS, ROWS),
         (&moves, TWO_ROWS, LENGTHS, ROWS),
@@ -272,7 +273,14 @@ fn large_maps_are_refused(rt: HostRuntime) -> Result<(), Fail> {
     for words in calls {
         let made = on_map(words, map.as_slice());
         check(alloc, &rt, made, 3, b"", b"jps: map large\n")?;
-        check(alloc, &rt, on_map(words, b""), 3, b"", b"jps: map M1 line 1\n")?;
+        check(
+            alloc,
+            &rt,
+            on_map(words, b""),
+            3,
+            b"",
+            b"jps: map M1 line 1\n",
+        )?;
     }
     let plain: [&str; 6] = ["query", "m", "0", "0", "1", "1"];
     let made = on_map(&plain, map.as_slice());

@@ -1,5 +1,5 @@
 -- A call picks an engine of small maps only where its command's row allows one.
-use Rattle.std.proofs.Common.{◌≡◌, ℕ, Bool, true, false, List, [], ◌∷◌, ◌++◌, length, drop, refl, sym, ap, subst}
+use Rattle.std.proofs.Common.{◌≡◌, ℕ, Bool, true, false, List, [], ◌∷◌, ◌++◌, length, drop, refl, ap, subst}
 use Rattle.std.specs.Prelude.{Option, Some, None, unwrap_or, option_and_then, bytes_eq, codes, if◌then◌else◌}
 use Rattle.std.specs.List.{fold}
 use Rattle.std.proofs.lemmas.Bool.{and_parts}

@@ -11,8 +11,8 @@ count-requires g c = record {
       omega arith);
 }
 
-pub row_of-row-requires-clause-ready : goal.row_of-row-requires-clause-ready
-row_of-row-requires-clause-ready g c = c.requires.room.1.ready
+pub row_of-requires-clause-ready : goal.row_of-requires-clause-ready
+row_of-requires-clause-ready g c = c.requires.room.1.ready
 
 pub returns-clause-worked : goal.returns-clause-worked
 returns-clause-worked g c =
