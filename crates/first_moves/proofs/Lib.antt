@@ -4,3 +4,5 @@ pub mod Rows
 pub mod Short
 pub mod Following
 pub mod Leading
+pub mod Turned
+pub mod Inward

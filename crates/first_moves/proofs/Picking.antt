@@ -1,4 +1,4 @@
--- The least direction of a byte.
+-- The first of the directions that begin least walks.
 use Rattle.std.proofs.Common.{◌≡◌, ℕ, suc, ◌*◌, ◌<◌, ◌≤◌, arith, refl, ap, sym, ◌∙◌, subst, Bool, true, false, inl, inr, List, [], ◌∷◌, length, get_or, map}
 use Rattle.std.specs.Prelude.{Option, Some, None, nat_eq, nat_lt, if◌then◌else◌, IsTrue, ◌↔◌}
 use Rattle.std.proofs.lemmas.Bool.Decides.{nat_tests}
@@ -7,13 +7,13 @@ use Rattle.grid_moves.specs.declared.Cell.{Cell}
 use Rattle.grid_moves.specs.declared.Dir.{Dir}
 use Rattle.grid_moves.specs.declared.Dir.TheVariants.{N, NE, E, SE, S, SW, W, NW}
 use Rattle.grid_moves.specs.Grid.{GridData, cell_number, is_inside}
-use Rattle.grid_moves.specs.Move.{dir_number, is_legal}
+use Rattle.grid_moves.specs.Move.{all_dirs, dir_number, is_legal}
 use Rattle.grid_moves.specs.Walk.{IsLeastWalk, is_walk}
 use Rattle.grid_moves.proofs.Ahead.{legal_ahead-of}
 use Rattle.root2_cost.specs.declared.Cost.{Cost}
 use Rattle.cost_waves.specs.Begin.{Begins, IsCostTo}
 use Rattle.cost_waves.specs.Told.{WaveData, Tells, cost_at}
-use Rattle.first_moves.specs.First.{IsFirstMove, has_dir, first_in}
+use Rattle.first_moves.specs.First.{IsFirstMove, has_dir, first_in, first_where}
 use Rattle.first_moves.specs.declared.row.Run.{Run}
 use Rattle.first_moves.specs.Row.{IsRow}
 use Rattle.first_moves.specs.Runs.{runs_of}
@@ -50,36 +50,36 @@ few_dirs SW = omega arith
 few_dirs W = omega arith
 few_dirs NW = omega arith
 
--- the byte has none of the directions of lesser number
-abbrev NoneBefore : ℕ → ℕ → Type 0
-NoneBefore byte k = (e : Dir) → dir_number e < k → has_dir byte e ≡ false
+-- no direction of lesser number has the property
+abbrev NoneBefore : (Dir → Bool) → ℕ → Type 0
+NoneBefore has k = (e : Dir) → dir_number e < k → has e ≡ false
 
-none_more : (byte k : ℕ) (d : Dir) → dir_number d ≡ k → has_dir byte d ≡ false → NoneBefore byte k
-    → NoneBefore byte (suc k)
-none_more byte k d n f before e h = by_test (nat_eq (dir_number e) k) refl
+none_more : (has : Dir → Bool) (k : ℕ) (d : Dir) → dir_number d ≡ k → has d ≡ false → NoneBefore has k
+    → NoneBefore has (suc k)
+none_more has k d n f before e h = by_test (nat_eq (dir_number e) k) refl
   where
-    by_test : (b : Bool) → nat_eq (dir_number e) k ≡ b → has_dir byte e ≡ false
+    by_test : (b : Bool) → nat_eq (dir_number e) k ≡ b → has e ≡ false
     by_test true t =
         let same : e ≡ d = same_dir e d (let is : dir_number e ≡ k = grind (arith, nat_tests) in is ∙ sym n) in
-        subst (λ (c : Dir). has_dir byte c ≡ false) (sym same) f
+        subst (λ (c : Dir). has c ≡ false) (sym same) f
     by_test false t = before e (grind (arith, nat_tests))
 
--- of the directions that the byte has, one before which there is none is the first move
-found : (g : GridData) (s t : Cell) (byte : ℕ) → ((d : Dir) → IsTrue (has_dir byte d) ↔ Begins g s t d)
-    → (d : Dir) → has_dir byte d ≡ true → NoneBefore byte (dir_number d) → IsFirstMove g s t (Some d)
-found g s t byte told d h before = ((told d).0 h, λ e b. by_test e ((told e).1 b) (nat_lt (dir_number e) (dir_number d)) refl)
+-- of the directions with the property, one before which there is none is the first move
+found : (g : GridData) (s t : Cell) (has : Dir → Bool) → ((d : Dir) → IsTrue (has d) ↔ Begins g s t d)
+    → (d : Dir) → has d ≡ true → NoneBefore has (dir_number d) → IsFirstMove g s t (Some d)
+found g s t has told d h before = ((told d).0 h, λ e b. by_test e ((told e).1 b) (nat_lt (dir_number e) (dir_number d)) refl)
   where
-    by_test : (e : Dir) → has_dir byte e ≡ true → (b : Bool) → nat_lt (dir_number e) (dir_number d) ≡ b
+    by_test : (e : Dir) → has e ≡ true → (b : Bool) → nat_lt (dir_number e) (dir_number d) ≡ b
         → dir_number d ≤ dir_number e
     by_test e k true l =
         let none = before e (grind (arith, nat_tests)) in absurd (cc)
     by_test e k false l = grind (arith, nat_tests)
 
 -- where there is none at all, there is no first move
-not_found : (g : GridData) (s t : Cell) (byte : ℕ) → ((d : Dir) → IsTrue (has_dir byte d) ↔ Begins g s t d)
-    → (o : Option Cost) → IsCostTo g s t o → NoneBefore byte 8 → IsFirstMove g s t None
-not_found g s t byte told None cost none = inr cost
-not_found g s t byte told (Some c) cost none = by_cells cost.cells cost.least
+not_found : (g : GridData) (s t : Cell) (has : Dir → Bool) → ((d : Dir) → IsTrue (has d) ↔ Begins g s t d)
+    → (o : Option Cost) → IsCostTo g s t o → NoneBefore has 8 → IsFirstMove g s t None
+not_found g s t has told None cost none = inr cost
+not_found g s t has told (Some c) cost none = by_cells cost.cells cost.least
   where
     by_cells : (cells : List Cell) → IsLeastWalk g s t cells → IsFirstMove g s t None
     by_cells [] l = inl l.walk.ends
@@ -87,65 +87,65 @@ not_found g s t byte told (Some c) cost none = by_cells cost.cells cost.least
         let parts = and_both (is_legal g s v) (is_walk g (v ∷ cells)) l.walk.legal in
         let a = legal_ahead-of g s v parts.0 in
         let not = none a.0 (few_dirs a.0) in
-        let is : has_dir byte a.0 ≡ true = (told a.0).1 (record { next = v; ahead = a.1; cells = cells; least = l }) in
+        let is : has a.0 ≡ true = (told a.0).1 (record { next = v; ahead = a.1; cells = cells; least = l }) in
         absurd (cc)
 
--- the least direction of the byte is the first move, where the byte has all that begin least walks
-pub first_is : (g : GridData) (s t : Cell) (byte : ℕ) → ((d : Dir) → IsTrue (has_dir byte d) ↔ Begins g s t d)
-    → (o : Option Cost) → IsCostTo g s t o → IsFirstMove g s t (first_in byte)
-first_is g s t byte told o cost = by_n (has_dir byte N) refl
+-- the first direction with the property is the first move, where those that have it begin least walks
+pub first_is : (g : GridData) (s t : Cell) (has : Dir → Bool) → ((d : Dir) → IsTrue (has d) ↔ Begins g s t d)
+    → (o : Option Cost) → IsCostTo g s t o → IsFirstMove g s t (first_where has all_dirs)
+first_is g s t has told o cost = by_n (has N) refl
   where
-    by_nw : NoneBefore byte 7 → (b : Bool) → has_dir byte NW ≡ b → IsFirstMove g s t (if b then Some NW else None)
-    by_nw before true h = found g s t byte told NW h before
-    by_nw before false h = not_found g s t byte told o cost (none_more byte 7 NW refl h before)
+    by_nw : NoneBefore has 7 → (b : Bool) → has NW ≡ b → IsFirstMove g s t (if b then Some NW else None)
+    by_nw before true h = found g s t has told NW h before
+    by_nw before false h = not_found g s t has told o cost (none_more has 7 NW refl h before)
 
-    by_w : NoneBefore byte 6 → (b : Bool) → has_dir byte W ≡ b
-        → IsFirstMove g s t (if b then Some W else if has_dir byte NW then Some NW else None)
-    by_w before true h = found g s t byte told W h before
-    by_w before false h = by_nw (none_more byte 6 W refl h before) (has_dir byte NW) refl
+    by_w : NoneBefore has 6 → (b : Bool) → has W ≡ b
+        → IsFirstMove g s t (if b then Some W else if has NW then Some NW else None)
+    by_w before true h = found g s t has told W h before
+    by_w before false h = by_nw (none_more has 6 W refl h before) (has NW) refl
 
-    by_sw : NoneBefore byte 5 → (b : Bool) → has_dir byte SW ≡ b
-        → IsFirstMove g s t (if b then Some SW else if has_dir byte W then Some W
-        else if has_dir byte NW then Some NW else None)
-    by_sw before true h = found g s t byte told SW h before
-    by_sw before false h = by_w (none_more byte 5 SW refl h before) (has_dir byte W) refl
+    by_sw : NoneBefore has 5 → (b : Bool) → has SW ≡ b
+        → IsFirstMove g s t (if b then Some SW else if has W then Some W
+        else if has NW then Some NW else None)
+    by_sw before true h = found g s t has told SW h before
+    by_sw before false h = by_w (none_more has 5 SW refl h before) (has W) refl
 
-    by_s : NoneBefore byte 4 → (b : Bool) → has_dir byte S ≡ b
-        → IsFirstMove g s t (if b then Some S else if has_dir byte SW then Some SW
-        else if has_dir byte W then Some W else if has_dir byte NW then Some NW else None)
-    by_s before true h = found g s t byte told S h before
-    by_s before false h = by_sw (none_more byte 4 S refl h before) (has_dir byte SW) refl
+    by_s : NoneBefore has 4 → (b : Bool) → has S ≡ b
+        → IsFirstMove g s t (if b then Some S else if has SW then Some SW
+        else if has W then Some W else if has NW then Some NW else None)
+    by_s before true h = found g s t has told S h before
+    by_s before false h = by_sw (none_more has 4 S refl h before) (has SW) refl
 
-    by_se : NoneBefore byte 3 → (b : Bool) → has_dir byte SE ≡ b
-        → IsFirstMove g s t (if b then Some SE else if has_dir byte S then Some S
-        else if has_dir byte SW then Some SW else if has_dir byte W then Some W
-        else if has_dir byte NW then Some NW else None)
-    by_se before true h = found g s t byte told SE h before
-    by_se before false h = by_s (none_more byte 3 SE refl h before) (has_dir byte S) refl
+    by_se : NoneBefore has 3 → (b : Bool) → has SE ≡ b
+        → IsFirstMove g s t (if b then Some SE else if has S then Some S
+        else if has SW then Some SW else if has W then Some W
+        else if has NW then Some NW else None)
+    by_se before true h = found g s t has told SE h before
+    by_se before false h = by_s (none_more has 3 SE refl h before) (has S) refl
 
-    by_e : NoneBefore byte 2 → (b : Bool) → has_dir byte E ≡ b
-        → IsFirstMove g s t (if b then Some E else if has_dir byte SE then Some SE
-        else if has_dir byte S then Some S else if has_dir byte SW then Some SW
-        else if has_dir byte W then Some W else if has_dir byte NW then Some NW else None)
-    by_e before true h = found g s t byte told E h before
-    by_e before false h = by_se (none_more byte 2 E refl h before) (has_dir byte SE) refl
+    by_e : NoneBefore has 2 → (b : Bool) → has E ≡ b
+        → IsFirstMove g s t (if b then Some E else if has SE then Some SE
+        else if has S then Some S else if has SW then Some SW
+        else if has W then Some W else if has NW then Some NW else None)
+    by_e before true h = found g s t has told E h before
+    by_e before false h = by_se (none_more has 2 E refl h before) (has SE) refl
 
-    by_ne : NoneBefore byte 1 → (b : Bool) → has_dir byte NE ≡ b
-        → IsFirstMove g s t (if b then Some NE else if has_dir byte E then Some E
-        else if has_dir byte SE then Some SE else if has_dir byte S then Some S
-        else if has_dir byte SW then Some SW else if has_dir byte W then Some W
-        else if has_dir byte NW then Some NW else None)
-    by_ne before true h = found g s t byte told NE h before
-    by_ne before false h = by_e (none_more byte 1 NE refl h before) (has_dir byte E) refl
+    by_ne : NoneBefore has 1 → (b : Bool) → has NE ≡ b
+        → IsFirstMove g s t (if b then Some NE else if has E then Some E
+        else if has SE then Some SE else if has S then Some S
+        else if has SW then Some SW else if has W then Some W
+        else if has NW then Some NW else None)
+    by_ne before true h = found g s t has told NE h before
+    by_ne before false h = by_e (none_more has 1 NE refl h before) (has E) refl
 
-    by_n : (b : Bool) → has_dir byte N ≡ b
-        → IsFirstMove g s t (if b then Some N else if has_dir byte NE then Some NE
-        else if has_dir byte E then Some E
-        else if has_dir byte SE then Some SE else if has_dir byte S then Some S
-        else if has_dir byte SW then Some SW else if has_dir byte W then Some W
-        else if has_dir byte NW then Some NW else None)
-    by_n true h = found g s t byte told N h (λ e l. absurd (omega arith))
-    by_n false h = by_ne (none_more byte 0 N refl h (λ e l. absurd (omega arith))) (has_dir byte NE) refl
+    by_n : (b : Bool) → has N ≡ b
+        → IsFirstMove g s t (if b then Some N else if has NE then Some NE
+        else if has E then Some E
+        else if has SE then Some SE else if has S then Some S
+        else if has SW then Some SW else if has W then Some W
+        else if has NW then Some NW else None)
+    by_n true h = found g s t has told N h (λ e l. absurd (omega arith))
+    by_n false h = by_ne (none_more has 0 N refl h (λ e l. absurd (omega arith))) (has NE) refl
 
 pub same_size : {k m n h w : ℕ} → m ≡ h → n ≡ w → k ≡ m * n → k ≡ h * w
 same_size {k = k} {m = m} {n = n} {h = h} {w = w} p q e = e ∙ ap (λ (j : ℕ). j * n) p ∙ ap (λ (j : ℕ). h * j) q
@@ -178,5 +178,5 @@ row_of g s w runs wide whole tells cut = record {
         get_or-map first_in w.firsts (cell_number g.width t) 0 None within
         ∙ ap (λ (n : ℕ). first_in (get_or w.firsts (cell_number n t) 0)) (sym wide) in
         subst (λ (o : Option Dir). IsFirstMove g s t o) (sym is)
-        (first_is g s t (get_or w.firsts (cell_number w.width t) 0) (λ d. tells.firsts t d i)
+        (first_is g s t (has_dir (get_or w.firsts (cell_number w.width t) 0)) (λ d. tells.firsts t d i)
         (cost_at w t) (tells.costs t i))

@@ -1,5 +1,5 @@
 -- First moves of least walks.
-use Rattle.std.specs.Prelude.{◌≡◌, ℕ, ◌≤◌, ◌⊎◌, Bool, if◌then◌else◌, Option, Some, None, refl}
+use Rattle.std.specs.Prelude.{◌≡◌, ℕ, ◌≤◌, ◌⊎◌, Bool, if◌then◌else◌, Option, Some, None, List, [], ◌∷◌, refl}
 use Rattle.grid_moves.specs.declared.Cell.{Cell}
 use Rattle.grid_moves.specs.declared.Dir.{Dir}
 use Rattle.grid_moves.specs.declared.Dir.TheVariants.{N, NE, E, SE, S, SW, W, NW}
@@ -14,6 +14,11 @@ use Rattle.cost_waves.specs.Told as told
 abbrev pub IsFirstMove : GridData → Cell → Cell → Option Dir → Type 0
 IsFirstMove g s t None = (s ≡ t) ⊎ NoWalk g s t
 IsFirstMove g s t (Some d) = Begins g s t d × ((e : Dir) → Begins g s t e → dir_number d ≤ dir_number e)
+
+-- the first of these directions with a property
+abbrev pub first_where : (Dir → Bool) → List Dir → Option Dir
+first_where has [] = None
+first_where has (d ∷ dirs) = if has d then Some d else first_where has dirs
 
 -- the byte has the direction: the bit of its number, from the lowest, is set
 abbrev pub has_dir : ℕ → Dir → Bool

@@ -3,4 +3,5 @@ pub mod Runs
 pub mod Row
 pub mod Kept
 pub mod Follow
+pub mod Inward
 pub mod Existence

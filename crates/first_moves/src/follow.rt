@@ -2,15 +2,17 @@
 
 ghost use Rattle.std.specs.Prelude.{◌≡◌, ◌+◌, ◌*◌, ◌<◌, ◌≤◌, ◌++◌, ◌∷◌, [], ℕ, true, MatchOption, IfOk, IfSome, OnOk, OnSome, if◌then◌else◌};
 ghost use Rattle.grid_moves.specs.declared.Cell.{Cell};
-ghost use Rattle.grid_moves.specs.Grid.{is_free, is_inside};
+ghost use Rattle.grid_moves.specs.Grid.{is_free};
 ghost use Rattle.grid_moves.specs.Reply.{StandsForLeast};
 ghost use Rattle.grid_moves.specs.Walk.{NoWalk};
 ghost use Rattle.path_points.specs.Corners as corners;
 ghost use Rattle.first_moves.specs.Row.{AreMoves};
-ghost use Rattle.first_moves.specs.Follow.{IsNext, IsFollowed};
+ghost use Rattle.first_moves.specs.Follow.{IsFollowed};
 
+use crate::guide::Guide;
 use crate::{Moves, NoMemory};
-use grid_moves::{Cell, Terrain, move_cost, step};
+use cost_waves::CostWaves;
+use grid_moves::{Cell, Terrain, move_cost};
 use path_points::Points;
 use root2_cost::Cost;
 use std::alloc::Global;
@@ -37,28 +39,49 @@ fn push_turn(points: &mut Points, before: Cell, at: Cell, next: Cell) -> Result<
     }
 }
 
-impl Moves {
-    // The cell to which the first move leads.
-    fn next<T: Terrain, L: Ledger>(
-        &self,
-        t: &T,
-        from: Cell,
-        to: Cell,
-        steps: &mut Steps<L>,
-    ) -> Option<Cell>
-        requires moves { AreMoves (T.grid t.now) self.now }
-        requires from { is_inside (T.grid t.now) from ≡ true }
-        requires to { is_inside (T.grid t.now) to ≡ true }
-        ensures next { IsNext (T.grid t.now) from to result }
-        ensures inside { IfSome result (λ v. is_inside (T.grid t.now) v ≡ true) }
-        ensures steps { steps.new ≡ steps.old + 1 }
-    {
-        match self.first(from, to, steps) {
-            Some(d) => step(t, from, d),
-            None => None,
-        }
+// The walk from one free cell to another over the cells that a guide tells one after another.
+fn walk_by<G: Guide, T: Terrain, L: Ledger>(
+    alloc: Global,
+    guide: &G,
+    t: &T,
+    from: Cell,
+    to: Cell,
+    steps: &mut Steps<L>,
+) -> Result<Option<(Points, Cost)>, NoMemory>
+    requires guide { G.StandsFor guide.now (T.grid t.now) to }
+    requires few { (T.grid t.now).height * (T.grid t.now).width ≤ 16777216 }
+    requires from { is_free (T.grid t.now) from ≡ true }
+    requires to { is_free (T.grid t.now) to ≡ true }
+    ensures walk { IfOk result (λ o. MatchOption o (NoWalk (T.grid t.now) from to)
+        (λ w. IsFollowed (T.grid t.now) from to w.0 w.1)) }
+    ensures stands { IfOk result (λ o. IfSome o (λ w. StandsForLeast (T.grid t.now) from to w.0 w.1)) }
+    ensures steps { IfOk result (λ o. MatchOption o (steps.new ≡ steps.old + 1)
+        (λ w. steps.new ≡ steps.old + (w.1.a + w.1.b))) }
+{
+    let mut points = Points::new(alloc);
+    points.push(from)?;
+    if from == to {
+        return Ok(Some((points, Cost { a: 0, b: 0 })));
     }
+    let Some(mut at) = guide.next(t, from, to, steps) else {
+        return Ok(None);
+    };
+    let mut before = from;
+    let mut cost = move_cost(from, at);
+    while at != to {
+        let Some(next) = guide.next(t, at, to, steps) else {
+            unreachable!()
+        };
+        push_turn(&mut points, before, at, next)?;
+        cost = cost.add(move_cost(at, next));
+        before = at;
+        at = next;
+    }
+    points.push(at)?;
+    Ok(Some((points, cost)))
+}
 
+impl Moves {
     /// The walk from one free cell to another in which each move is the first move from its cell to the goal, and
     /// its cost. It is a least walk. Its points are its first cell, its last cell and its turns. `None` exactly where
     /// no walk leads to the goal.
@@ -82,26 +105,30 @@ impl Moves {
         ensures steps { IfOk result (λ o. MatchOption o (steps.new ≡ steps.old + 1)
             (λ w. steps.new ≡ steps.old + (w.1.a + w.1.b))) }
     {
-        let mut points = Points::new(alloc);
-        points.push(from)?;
-        if from == to {
-            return Ok(Some((points, Cost { a: 0, b: 0 })));
-        }
-        let Some(mut at) = self.next(t, from, to, steps) else {
-            return Ok(None);
-        };
-        let mut before = from;
-        let mut cost = move_cost(from, at);
-        while at != to {
-            let Some(next) = self.next(t, at, to, steps) else {
-                unreachable!()
-            };
-            push_turn(&mut points, before, at, next)?;
-            cost = cost.add(move_cost(at, next));
-            before = at;
-            at = next;
-        }
-        points.push(at)?;
-        Ok(Some((points, cost)))
+        walk_by(alloc, self, t, from, to, steps)
     }
+}
+
+/// The same walk with no first moves at hand: one pass from the goal tells them, on a map of any size.
+///
+/// For one query this is cheaper than `Moves::build`, which makes a pass from each free cell. The memory is that
+/// of a pass, nine bytes for each cell.
+pub fn follow_by_pass<T: Terrain, L: Ledger>(
+    alloc: Global,
+    t: &T,
+    from: Cell,
+    to: Cell,
+    steps: &mut Steps<L>,
+) -> Result<Option<(Points, Cost)>, NoMemory>
+    requires from { is_free (T.grid t.now) from ≡ true }
+    requires to { is_free (T.grid t.now) to ≡ true }
+    ensures walk { IfOk result (λ o. MatchOption o (NoWalk (T.grid t.now) from to)
+        (λ w. IsFollowed (T.grid t.now) from to w.0 w.1)) }
+    ensures stands { IfOk result (λ o. IfSome o (λ w. StandsForLeast (T.grid t.now) from to w.0 w.1)) }
+    ensures steps { IfOk result (λ o. MatchOption o (steps.new ≡ steps.old + 1)
+        (λ w. steps.new ≡ steps.old + (w.1.a + w.1.b))) }
+{
+    let mut waves = CostWaves::new(alloc, t.width(), t.height())?;
+    waves.pass(t, to)?;
+    walk_by(alloc, &waves, t, from, to, steps)
 }

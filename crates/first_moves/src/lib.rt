@@ -7,9 +7,11 @@
 #![tactic(auto)]
 
 mod follow;
+mod guide;
 mod moves;
 mod row;
 
+pub use follow::follow_by_pass;
 pub use moves::Moves;
 pub use row::{Row, Run};
 pub use std::alloc::AllocError as NoMemory;

@@ -2,9 +2,10 @@
 
 ghost use Rattle.std.specs.Prelude.{◌≡◌, ◌<◌, ◌*◌, nat_le};
 
-use crate::{Moves, NoMemory, Row, Run};
+use crate::{Moves, NoMemory, Row, Run, follow_by_pass};
 use cost_waves::CostWaves;
 use grid_moves::{Cell, Corner, Dir, Grid, Terrain};
+use path_points::Points;
 use root2_cost::Cost;
 use std::alloc::Global;
 use std::marker::Brand;
@@ -42,7 +43,18 @@ fn has_runs(
     Ok(row.runs() as usize == runs.len())
 }
 
-// Whether following first moves leads over these points at this cost, or nowhere.
+// Whether this was found: points and their cost, or nothing.
+fn is_wanted(found: &Option<(Points, Cost)>, wanted: Option<(&[Cell], Cost)>) -> bool {
+    match (found, wanted) {
+        (Some((points, cost)), Some((cells, price))) => points.as_slice() == cells
+            && *cost == price,
+        (None, None) => true,
+        _ => false,
+    }
+}
+
+// Whether following first moves leads over these points at this cost, or nowhere: those that are kept, and those
+// that one pass tells.
 fn leads_over<L: Ledger>(
     alloc: Global,
     grid: &Grid,
@@ -61,13 +73,8 @@ fn leads_over<L: Ledger>(
     let mut steps = Steps::<L>::new(blank);
     let moves = Moves::build(alloc, grid)?;
     let found = moves.follow(alloc, grid, from, to, &mut steps)?;
-    match (found, wanted) {
-        (Some((points, cost)), Some((cells, price))) => Ok(
-            points.as_slice() == cells && cost == price,
-        ),
-        (None, None) => Ok(true),
-        _ => Ok(false),
-    }
+    let by_pass = follow_by_pass(alloc, grid, from, to, &mut steps)?;
+    Ok(is_wanted(&found, wanted) && is_wanted(&by_pass, wanted))
 }
 
 // From the upper left of an open map; and where two blocked cells touch, no move leads anywhere.

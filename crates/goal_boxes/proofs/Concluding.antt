@@ -22,15 +22,15 @@ use Rattle.best_first.proofs.Progress.{has_begun, next_taken, exhausted, taken_f
 use Rattle.best_first.proofs.Ways.{offers_after}
 use Rattle.plain_search.specs.Room.{IsReady}
 use Rattle.goal_boxes.specs.Answer.{IsFound, IsExhausted}
+use Rattle.goal_boxes.specs.Box.{BoxTeller}
 use Rattle.goal_boxes.specs.Offers.{ways_over, MayExpand, HasExpanded}
 use Rattle.goal_boxes.specs.Progress.{HasTaken}
 use Rattle.goal_boxes.specs.Rule.{boxed_rule, boxed_links}
-use Rattle.goal_boxes.specs.Stored.{BoxData}
 use Rattle.goal_boxes.proofs.Offering.{may_expand, all_over, are_links, enough}
 use Rattle.goal_boxes.proofs.Posed.{fit, run_free}
 use Rattle.std.proofs.Common.{inl}
 
-module _ (g : GridData) (b : BoxData) (s t : Cell) (whole : IsGrid g) (from : is_free g s ≡ true)
+module _ (g : GridData) (b : BoxTeller) (s t : Cell) (whole : IsGrid g) (from : is_free g s ≡ true)
     (to : is_free g t ≡ true) where
   -- at the start
   pub begins : (k : Table) (taken : List ℕ) → k ≡ begun t s → taken ≡ state_number g.width (start_at s) ∷ []
@@ -53,6 +53,13 @@ module _ (g : GridData) (b : BoxData) (s t : Cell) (whole : IsGrid g) (from : is
 
     cell : h.last.state.cell ≡ node_cell h.searching.node
     cell = ap (λ (u : State). u.cell) (sym h.searching.state)
+
+    -- which is a free cell's
+    pub taken_free : (n : Node) → slice_get k.nodes at ≡ Some n → is_free g (node_cell n) ≡ true
+    taken_free n read =
+        let one : h.searching.node ≡ n = some_node h.searching.node n (sym h.searching.node_is ∙ read) in
+        ap (λ (m : Node). is_free g (node_cell m)) (sym one) ∙ ap (λ (u : Cell). is_free g u) (sym cell)
+        ∙ (run_free g b s t whole from to (h.last ∷ h.earlier) h.searching.run h.last (here h.earlier)).0
 
     -- after the offers
     module _ (later : Table) (open_ended : (n : Node) → slice_get k.nodes at ≡ Some n

@@ -14,7 +14,7 @@ use Rattle.cost_waves.specs.Told.{WaveData, begins_with, Tells}
 use Rattle.goal_boxes.specs.declared.area.Area.{Area}
 use Rattle.goal_boxes.specs.declared.around.CellBoxes.{CellBoxes}
 use Rattle.goal_boxes.specs.Box.{holds, IsAreaOf, IsBox, box_in}
-use Rattle.goal_boxes.specs.Wide.{with_cell, widened, Seen}
+use Rattle.goal_boxes.specs.Wide.{with_cell, widened, Scanned, IsTold, Seen}
 
 -- what it is to lie in a rectangle
 pub record LiesIn (a : Area) (c : Cell) : Type 0 where
@@ -123,68 +123,78 @@ same_area P Q to back (Some a) area = record {
   least = λ b held. area.least b (λ c p. held c (to c p));
 }
 
-module _ (w : WaveData) (d : Dir) where
-  -- one place more: a cell of which the direction is told, or not
-  abbrev cell : ℕ → ℕ → Cell
+module _ (width : ℕ) (P : Cell → Type 0) where
+  -- one place more: a cell of the kind, or of another
+  abbrev pub cell : ℕ → ℕ → Cell
   cell y x = record { x = x; y = y }
 
-  more_seen : (y x : ℕ) (c : Cell) → Seen w d y x c → Seen w d y (x + 1) c
-  more_seen y x c s = record {
+  more_scanned : (y x : ℕ) (c : Cell) → Scanned width P y x c → Scanned width P y (x + 1) c
+  more_scanned y x c s = record {
     column = s.column;
-    told = s.told;
+    kind = s.kind;
     before = elim s.before [ inl h ↦ inl h | inr h ↦ inr (h.0, (let l = h.1 in omega arith)) ];
   }
 
-  -- what is seen at one place more was seen, or is the cell there
-  seen_or_here : (y x : ℕ) (c : Cell) → Seen w d y (x + 1) c → (Seen w d y x c) ⊎ (c ≡ cell y x)
-  seen_or_here y x c s = elim s.before [
-    | inl h ↦ inl (record { column = s.column; told = s.told; before = inl h })
+  -- what is met at one place more was met, or is the cell there
+  met_or_here : (y x : ℕ) (c : Cell) → Scanned width P y (x + 1) c → (Scanned width P y x c) ⊎ (c ≡ cell y x)
+  met_or_here y x c s = elim s.before [
+    | inl h ↦ inl (record { column = s.column; kind = s.kind; before = inl h })
     | inr h ↦ by_test h.0 h.1 (nat_lt c.x x) refl
   ]
     where
-      by_test : c.y ≡ y → c.x < x + 1 → (b : Bool) → nat_lt c.x x ≡ b → (Seen w d y x c) ⊎ (c ≡ cell y x)
-      by_test e h true t = inl (record { column = s.column; told = s.told; before = inr (e, grind (arith, nat_tests)) })
+      by_test : c.y ≡ y → c.x < x + 1 → (b : Bool) → nat_lt c.x x ≡ b → (Scanned width P y x c) ⊎ (c ≡ cell y x)
+      by_test e h true t = inl (record { column = s.column; kind = s.kind; before = inr (e, grind (arith, nat_tests)) })
       by_test e h false t = inr (same_cell c (cell y x) (let k : x ≤ c.x = grind (arith, nat_tests) in omega arith) e)
 
-  pub seen_told : (y x : ℕ) → x < w.width → begins_with w (cell y x) d ≡ true → (found : Option Area)
-      → IsAreaOf (Seen w d y x) found → IsAreaOf (Seen w d y (x + 1)) (Some (widened found (cell y x)))
-  seen_told y x h t = grown (Seen w d y x) (Seen w d y (x + 1)) (more_seen y x) (cell y x)
-      (record { column = h; told = t; before = inr (refl, omega arith) }) (seen_or_here y x)
+  pub one_of_kind : (y x : ℕ) → x < width → P (cell y x) → (found : Option Area)
+      → IsAreaOf (Scanned width P y x) found → IsAreaOf (Scanned width P y (x + 1)) (Some (widened found (cell y x)))
+  one_of_kind y x h t = grown (Scanned width P y x) (Scanned width P y (x + 1)) (more_scanned y x) (cell y x)
+      (record { column = h; kind = t; before = inr (refl, omega arith) }) (met_or_here y x)
 
-  pub seen_untold : (y x : ℕ) → begins_with w (cell y x) d ≡ false → (found : Option Area)
-      → IsAreaOf (Seen w d y x) found → IsAreaOf (Seen w d y (x + 1)) found
-  seen_untold y x f = same_area (Seen w d y x) (Seen w d y (x + 1)) (more_seen y x)
-      (λ c s. elim (seen_or_here y x c s) [
+  pub one_of_other : (y x : ℕ) → (P (cell y x) → ⊥) → (found : Option Area)
+      → IsAreaOf (Scanned width P y x) found → IsAreaOf (Scanned width P y (x + 1)) found
+  one_of_other y x f = same_area (Scanned width P y x) (Scanned width P y (x + 1)) (more_scanned y x)
+      (λ c s. elim (met_or_here y x c s) [
         | inl p ↦ p
-        | inr e ↦ absurd (let t : begins_with w (cell y x) d ≡ true = subst (λ (k : Cell). begins_with w k d ≡ true) e s.told in cc)
+        | inr e ↦ absurd (f (subst (λ (k : Cell). P k) e s.kind))
       ])
 
   -- a whole row
-  pub row_seen : (y : ℕ) (found : Option Area) → IsAreaOf (Seen w d y w.width) found
-      → IsAreaOf (Seen w d (y + 1) 0) found
-  row_seen y = same_area (Seen w d y w.width) (Seen w d (y + 1) 0)
+  pub row_scanned : (y : ℕ) (found : Option Area) → IsAreaOf (Scanned width P y width) found
+      → IsAreaOf (Scanned width P (y + 1) 0) found
+  row_scanned y = same_area (Scanned width P y width) (Scanned width P (y + 1) 0)
       (λ c s. record {
         column = s.column;
-        told = s.told;
+        kind = s.kind;
         before = inl (elim s.before [ inl h ↦ omega arith | inr h ↦ (let e = h.0 in omega arith) ]);
       })
       (λ c s. record {
         column = s.column;
-        told = s.told;
+        kind = s.kind;
         before = elim s.before [
           | inl h ↦ by_test s.column h (nat_lt c.y y) refl
           | inr h ↦ absurd (let l = h.1 in omega arith)
         ];
       })
     where
-      by_test : {c : Cell} → c.x < w.width → c.y < y + 1 → (b : Bool) → nat_lt c.y y ≡ b
-          → (c.y < y) ⊎ ((c.y ≡ y) × (c.x < w.width))
+      by_test : {c : Cell} → c.x < width → c.y < y + 1 → (b : Bool) → nat_lt c.y y ≡ b
+          → (c.y < y) ⊎ ((c.y ≡ y) × (c.x < width))
       by_test {c} l h true t = inl (grind (arith, nat_tests))
       by_test {c} l h false t = inr ((let k : y ≤ c.y = grind (arith, nat_tests) in omega arith), l)
 
   -- before any row
-  pub none_seen : IsAreaOf (Seen w d 0 0) None
-  none_seen c s = elim s.before [ inl h ↦ omega arith | inr h ↦ (let l = h.1 in omega arith) ]
+  pub none_scanned : IsAreaOf (Scanned width P 0 0) None
+  none_scanned c s = elim s.before [ inl h ↦ omega arith | inr h ↦ (let l = h.1 in omega arith) ]
+
+-- of which the direction is told, or not
+pub told_here : (w : WaveData) (d : Dir) (y x : ℕ) → x < w.width → begins_with w (record { x = x; y = y }) d ≡ true
+    → (found : Option Area) → IsAreaOf (Seen w d y x) found
+    → IsAreaOf (Seen w d y (x + 1)) (Some (widened found (record { x = x; y = y })))
+told_here w d = one_of_kind w.width (IsTold w d)
+
+pub untold_here : (w : WaveData) (d : Dir) (y x : ℕ) → begins_with w (record { x = x; y = y }) d ≡ false
+    → (found : Option Area) → IsAreaOf (Seen w d y x) found → IsAreaOf (Seen w d y (x + 1)) found
+untold_here w d y x f = one_of_other w.width (IsTold w d) y x (λ t. absurd (cc))
 
 -- where some least walk ends lies on the map
 end_free : (g : GridData) (u : Cell) (cells : List Cell) → is_walk g (u ∷ cells) ≡ true
@@ -192,7 +202,7 @@ end_free : (g : GridData) (u : Cell) (cells : List Cell) → is_walk g (u ∷ ce
 end_free g u [] w = w
 end_free g u (v ∷ cells) w = end_free g v cells (and_both (is_legal g u v) (is_walk g (v ∷ cells)) w).1
 
-end_of_walk : (g : GridData) (u t : Cell) (d : Dir) → Begins g u t d → is_free g t ≡ true
+pub end_of_walk : (g : GridData) (u t : Cell) (d : Dir) → Begins g u t d → is_free g t ≡ true
 end_of_walk g u t d b =
     let w = b.least.walk in
     subst (λ (v : Cell). is_free g v ≡ true) w.ends (end_free g u (b.next ∷ b.cells) w.legal)
@@ -201,14 +211,14 @@ end_of_walk g u t d b =
 pub all_seen : (g : GridData) (u : Cell) (w : WaveData) → w.width ≡ g.width → w.height ≡ g.height → Tells g u w
     → (d : Dir) (found : Option Area) → IsAreaOf (Seen w d w.height 0) found → IsBox g u d found
 all_seen g u w wide high tells d = same_area (Seen w d w.height 0) (λ t. Begins g u t d)
-    (λ c s. (tells.firsts c d (inside c s)).0 s.told)
+    (λ c s. (tells.firsts c d (inside c s)).0 s.kind)
     (λ c b.
     let i = free_inside g c (end_of_walk g u c d b) in
     let x = i.0 in
     let y = i.1 in
     record {
       column = omega arith;
-      told = (tells.firsts c d (on_map c x y)).1 b;
+      kind = (tells.firsts c d (on_map c x y)).1 b;
       before = inl (omega arith);
     })
   where

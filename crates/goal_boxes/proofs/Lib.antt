@@ -6,4 +6,5 @@ mod Shapes
 mod Offering
 mod Right
 mod Concluding
+mod Existing
 pub mod Answering

@@ -19,9 +19,9 @@ use Rattle.plain_search.specs.Rule.{plain_links, is_led}
 use Rattle.plain_search.proofs.Dropping.{LeadsTo, leads}
 use Rattle.plain_search.proofs.Offering.{ahead_cost}
 use Rattle.plain_search.proofs.Walks.{IsMove, link_move, legal_link, plain_are_links}
+use Rattle.goal_boxes.specs.Box.{BoxTeller}
 use Rattle.goal_boxes.specs.Offers.{toward}
 use Rattle.goal_boxes.specs.Rule.{is_toward, leads_toward, is_toward_by, boxed_step, boxed_links, boxed_rule}
-use Rattle.goal_boxes.specs.Stored.{BoxData, box_at}
 
 or_late : (p q : Bool) → q ≡ true → (p || q) ≡ true
 or_late true q e = refl
@@ -52,7 +52,7 @@ one_of_all W = there_is _ _ (there_is _ _ (there_is _ _ (there_is _ _ (there_is 
 one_of_all NW = there_is _ _ (there_is _ _ (there_is _ _ (there_is _ _ (there_is _ _ (there_is _ _
     (there_is _ _ (here_is _)))))))
 
-module _ (g : GridData) (b : BoxData) (t : Cell) where
+module _ (g : GridData) (b : BoxTeller) (t : Cell) where
   -- one direction is among all
   by_list : (u v : Cell) (d : Dir) → leads_toward b t u v d ≡ true → (dirs : List Dir) → IsOneOf d dirs
       → is_toward_by b t u v dirs ≡ true
@@ -102,12 +102,12 @@ module _ (g : GridData) (b : BoxData) (t : Cell) where
   -- a move toward the goal
   pub record IsToward (c : Cell) (d : Dir) (v : Cell) : Type 0 where
     pub leads : LeadsTo g c d v
-    pub held : is_toward t (box_at b c d) ≡ true
+    pub held : is_toward t (b c d) ≡ true
 
   pub toward_is : (c : Cell) (d : Dir) (v : Cell) → toward g b t c d ≡ Some v → IsToward c d v
-  toward_is c d v e = by_test (is_toward t (box_at b c d)) refl e
+  toward_is c d v e = by_test (is_toward t (b c d)) refl e
     where
-      by_test : (p : Bool) → is_toward t (box_at b c d) ≡ p → (if p then legal_ahead g c d else None) ≡ Some v
+      by_test : (p : Bool) → is_toward t (b c d) ≡ p → (if p then legal_ahead g c d else None) ≡ Some v
           → IsToward c d v
       by_test true f e = record { leads = leads g c d v e; held = f }
       by_test false f e = absurd (cc)
@@ -123,13 +123,13 @@ module _ (g : GridData) (b : BoxData) (t : Cell) where
       → boxed_step g b t (start_at c) (start_at v) ≡ Some (cost_to d)
   toward_link c d v w =
       let by : is_toward_by b t c v all_dirs ≡ true =
-      one_toward c v d (both (is_toward t (box_at b c d)) (is_led c v (Some d)) w.held (toward_led c d v w)) in
+      one_toward c v d (both (is_toward t (b c d)) (is_led c v (Some d)) w.held (toward_led c d v w)) in
       let plain : (plain_links g).step (start_at c) (start_at v) ≡ Some (cost_to d) =
       legal_link g c v w.leads.legal ∙ ap (λ (e : Cost). Some e) (ahead_cost d c v w.leads.ahead_is) in
       rw by plain
 
   -- and so is each move with a box that holds the goal
-  pub held_link : (c : Cell) (d : Dir) (v : Cell) → legal_ahead g c d ≡ Some v → is_toward t (box_at b c d) ≡ true
+  pub held_link : (c : Cell) (d : Dir) (v : Cell) → legal_ahead g c d ≡ Some v → is_toward t (b c d) ≡ true
       → boxed_step g b t (start_at c) (start_at v) ≡ Some (move_cost c v)
   held_link c d v e h =
       let l = leads g c d v e in
@@ -143,7 +143,7 @@ module _ (g : GridData) (b : BoxData) (t : Cell) where
 
   pub leads_is : (c v : Cell) (d : Dir) → is_legal g c v ≡ true → leads_toward b t c v d ≡ true → IsTowardBy c v d
   leads_is c v d l h =
-      let p = and_both (is_toward t (box_at b c d)) (is_led c v (Some d)) h in
+      let p = and_both (is_toward t (b c d)) (is_led c v (Some d)) h in
       let on : ahead d c ≡ Some v = by_cell (ahead d c) refl p.1 in
       let legal : legal_ahead g c d ≡ Some v = rw (on, l) refl in
       record { to = rw p.0 legal; priced = ahead_cost d c v on }

@@ -27,13 +27,13 @@ use Rattle.best_first.proofs.Mirrors.{some_node}
 use Rattle.best_first.proofs.Searching.{one_more, node_stays, key_rises, closed_below, taken_key}
 use Rattle.plain_search.specs.Offers.{cost_to, offer_to}
 use Rattle.plain_search.specs.Rule.{is_led}
+use Rattle.goal_boxes.specs.Box.{BoxTeller}
 use Rattle.goal_boxes.specs.Offers.{toward, offered_over, all_offered, with_way, ways_over, MayExpand}
 use Rattle.goal_boxes.specs.Rule.{leads_toward, is_toward_by, boxed_step, boxed_links}
-use Rattle.goal_boxes.specs.Stored.{BoxData}
 use Rattle.goal_boxes.proofs.Moves.{IsToward, toward_is, toward_led, toward_link, boxed_move, step_toward, leads_is}
 use Rattle.goal_boxes.proofs.Posed.{fit, run_free}
 
-module _ (g : GridData) (b : BoxData) (s t : Cell) (whole : IsGrid g) (from : is_free g s ≡ true)
+module _ (g : GridData) (b : BoxTeller) (s t : Cell) (whole : IsGrid g) (from : is_free g s ≡ true)
     (to : is_free g t ≡ true) (x : Taken State) (earlier : List (Taken State)) (at : ℕ) where
   module _ (best : Offers) (k : Table)
       (i : IsSearching ByCell g.width t (boxed_links g b t) s x earlier at best k) where
@@ -181,7 +181,7 @@ module _ (g : GridData) (b : BoxData) (s t : Cell) (whole : IsGrid g) (from : is
           (is_link best k i d v (toward_is g b t (node_cell i.node) d v h)) again q
 
 -- what leads toward the goal is among the ways
-module _ (g : GridData) (b : BoxData) (t c v : Cell) where
+module _ (g : GridData) (b : BoxTeller) (t c v : Cell) where
   among : (cost : Cost) → (e : (d : Dir) → leads_toward b t c v d ≡ true
       → (toward g b t c d ≡ Some v) × (cost_to d ≡ cost)) → (dirs : List Dir) → is_toward_by b t c v dirs ≡ true
       → IsAmong (record { to = start_at v; cost = cost }) (ways_over g b t c dirs)
@@ -207,7 +207,7 @@ module _ (g : GridData) (b : BoxData) (t c v : Cell) where
       by_test false f again h = by_move (toward g b t c d) (again h)
 
 -- each link is among the ways
-pub enough : (g : GridData) (b : BoxData) (t : Cell) (u v : State) (c : Cost) → boxed_step g b t u v ≡ Some c
+pub enough : (g : GridData) (b : BoxTeller) (t : Cell) (u v : State) (c : Cost) → boxed_step g b t u v ≡ Some c
     → IsAmong (record { to = v; cost = c }) (ways_over g b t u.cell all_dirs)
 enough g b t u v c l =
     let m = boxed_move g b t u v c l in

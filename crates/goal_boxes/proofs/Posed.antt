@@ -13,11 +13,11 @@ use Rattle.best_first.specs.State.{start_at}
 use Rattle.best_first.specs.Rule.{IsPosed, IsSearch}
 use Rattle.best_first.proofs.Bounds.{few_taken}
 use Rattle.plain_search.proofs.Posed.{cells_fit, free_near}
+use Rattle.goal_boxes.specs.Box.{BoxTeller}
 use Rattle.goal_boxes.specs.Rule.{boxed_rule, boxed_links}
-use Rattle.goal_boxes.specs.Stored.{BoxData}
 use Rattle.goal_boxes.proofs.Moves.{boxed_move, boxed_are_links}
 
-module _ (g : GridData) (b : BoxData) (s t : Cell) (whole : IsGrid g) (from : is_free g s ≡ true)
+module _ (g : GridData) (b : BoxTeller) (s t : Cell) (whole : IsGrid g) (from : is_free g s ≡ true)
     (to : is_free g t ≡ true) where
   pub posed : IsPosed g.width g.height s t (boxed_links g b t)
   posed = record {

@@ -31,9 +31,8 @@ use Rattle.plain_search.proofs.Right.{cells_of}
 use Rattle.plain_search.proofs.Walks.{Goes, goes_nowhere, one_more}
 use Rattle.goal_boxes.specs.declared.area.Area.{Area}
 use Rattle.goal_boxes.specs.Answer.{IsFound, IsExhausted, cells_to}
-use Rattle.goal_boxes.specs.Box.{IsBox}
+use Rattle.goal_boxes.specs.Box.{BoxTeller, TellsBoxes, IsBox}
 use Rattle.goal_boxes.specs.Rule.{is_toward, boxed_rule}
-use Rattle.goal_boxes.specs.Stored.{BoxData, box_at, HoldsBoxes}
 use Rattle.cost_waves.specs.Begin.{Begins}
 use Rattle.goal_boxes.proofs.Moves.{boxed_move, boxed_consistent, held_link}
 
@@ -44,7 +43,7 @@ box_holds g u t d None none w = absurd (none t w)
 box_holds g u t d (Some a) box w = box.all t w
 
 -- after its first move a least walk goes on as one
-rest_is_least : (g : GridData) (u v t : Cell) (cells : List Cell) → IsLeastWalk g u t (v ∷ cells)
+pub rest_is_least : (g : GridData) (u v t : Cell) (cells : List Cell) → IsLeastWalk g u t (v ∷ cells)
     → IsLeastWalk g v t cells
 rest_is_least g u v t cells w =
     let parts = and_both (is_legal g u v) (is_walk g (v ∷ cells)) w.walk.legal in
@@ -56,15 +55,15 @@ rest_is_least g u v t cells w =
     }
 
 -- so a least walk to t is a chain of its cost
-pub least_chain : (g : GridData) (b : BoxData) (t : Cell) → HoldsBoxes g b → (u : Cell) (cells : List Cell)
+pub least_chain : (g : GridData) (b : BoxTeller) (t : Cell) → TellsBoxes g b → (u : Cell) (cells : List Cell)
     → IsLeastWalk g u t cells → Chain (boxed_rule g b t) (start_at u) (start_at (last_of u cells)) (cost_of (u ∷ cells))
 least_chain g b t boxes u [] w = stays (start_at u)
 least_chain g b t boxes u (v ∷ cells) w =
     let parts = and_both (is_legal g u v) (is_walk g (v ∷ cells)) w.walk.legal in
     let d = legal_ahead-of g u v parts.0 in
     let begins : Begins g u t d.0 = record { next = v; ahead = d.1; cells = cells; least = w } in
-    let held : is_toward t (box_at b u d.0) ≡ true =
-    box_holds g u t d.0 (box_at b u d.0) (boxes.boxes u (legal_is g u v parts.0).source d.0) begins in
+    let held : is_toward t (b u d.0) ≡ true =
+    box_holds g u t d.0 (b u d.0) (boxes.boxes u (legal_is g u v parts.0).source d.0) begins in
     goes_on (start_at u) (start_at v) (start_at (last_of v cells)) (move_cost u v) (cost_of (v ∷ cells))
     (held_link g b t u d.0 v d.1 held) (least_chain g b t boxes v cells (rest_is_least g u v t cells w))
 
@@ -73,25 +72,25 @@ cells-last [] s = refl
 cells-last (u ∷ way) s = ap (λ (cs : List Cell). u.cell ∷ cs) (cells-last way s)
 
 -- the way to a taken state is a walk of the cost at which it was taken
-record HasWay (g : GridData) (b : BoxData) (t s : Cell) (run : List (Taken State)) (v : State) (cost : Cost)
+record HasWay (g : GridData) (b : BoxTeller) (t s : Cell) (run : List (Taken State)) (v : State) (cost : Cost)
     : Type 0 where
   pub cells : List Cell
   pub is_way : cells_of (way_to (boxed_rule g b t) run v) ≡ s ∷ cells
   pub goes : Goes g s v.cell cells cost
 
 -- least costs of walks are no matter of the run: where a walk leads, a least one does
-data HasLeastWalk (g : GridData) (s t : Cell) : Type 0 where
+pub data HasLeastWalk (g : GridData) (s t : Cell) : Type 0 where
   by_walk : (cells : List Cell) → IsLeastWalk g s t cells → HasLeastWalk g s t
   by_none : NoWalk g s t → HasLeastWalk g s t
 
-least_or_none : (g : GridData) (s t : Cell) → is_free g s ≡ true → HasLeastWalk g s t
+pub least_or_none : (g : GridData) (s t : Cell) → is_free g s ≡ true → HasLeastWalk g s t
 least_or_none g s t free = let a = has_answer g s t free in by_answer a.answer a.least
   where
     by_answer : (p : Plain) → IsLeast g s t p → HasLeastWalk g s t
     by_answer (plain.Found points cost taken) l = by_walk l.cells l.least
     by_answer (plain.None taken) l = by_none l
 
-module _ (g : GridData) (b : BoxData) (t : Cell) where
+module _ (g : GridData) (b : BoxTeller) (t : Cell) where
   -- the way of an earlier state stays the same
   way_stays : (x : Taken State) (earlier : List (Taken State)) (v : State)
       → is_taken (boxed_rule g b t) earlier x.state ≡ false → is_taken (boxed_rule g b t) earlier v ≡ true
@@ -141,7 +140,7 @@ module _ (g : GridData) (b : BoxData) (t : Cell) where
       record { cells = before.cells; is_way = rw other before.is_way; goes = before.goes }
 
   -- the cost at which the goal is taken is at most that of each walk to it
-  at_most_walks : HoldsBoxes g b → (s : Cell) (x : Taken State) (earlier : List (Taken State)) → is_free g s ≡ true
+  at_most_walks : TellsBoxes g b → (s : Cell) (x : Taken State) (earlier : List (Taken State)) → is_free g s ≡ true
       → IsRun (boxed_rule g b t) (start_at s) (x ∷ earlier) → is_same x.state.cell t ≡ true → (others : List Cell)
       → IsWalk g s t others → IsAtMost x.cost (cost_of (s ∷ others))
   at_most_walks boxes s x earlier f is at_goal others o = by_least (least_or_none g s t f)
@@ -156,7 +155,7 @@ module _ (g : GridData) (b : BoxData) (t : Cell) where
           (cost_of (s ∷ cells)) is at_goal (least_chain g b t boxes s cells w) at_t).is (w.least others o)
 
   -- where the run ends without the goal no walk leads there
-  pub exhausted_none : HoldsBoxes g b → (s : Cell) → is_free g s ≡ true → (taken : List ℕ)
+  pub exhausted_none : TellsBoxes g b → (s : Cell) → is_free g s ≡ true → (taken : List ℕ)
       → IsExhausted g b s t taken → NoWalk g s t
   exhausted_none boxes s f taken x = by_least (least_or_none g s t f)
     where
@@ -169,7 +168,7 @@ module _ (g : GridData) (b : BoxData) (t : Cell) where
           x.run (cost_of (s ∷ cells)) x.is_run x.none_waits x.no_goal (least_chain g b t boxes s cells w) at_t)
 
 -- what the run found stands for a least walk
-pub found_least : (g : GridData) (b : BoxData) → HoldsBoxes g b → (s t : Cell) (points : List Cell) (cost : Cost)
+pub found_least : (g : GridData) (b : BoxTeller) → TellsBoxes g b → (s t : Cell) (points : List Cell) (cost : Cost)
     (taken : List ℕ) → is_free g s ≡ true → IsFound g b s t points cost taken → StandsForLeast g s t points cost
 found_least g b boxes s t points cost taken free f =
     let w = way g b t s (f.last ∷ f.earlier) free f.run f.last (here f.earlier) in

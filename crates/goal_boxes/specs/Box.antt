@@ -3,7 +3,7 @@ use Rattle.std.specs.Prelude.{◌≡◌, ◌≤◌, Bool, true, false, nat_le, �
 use Rattle.grid_moves.specs.declared.Cell.{Cell}
 use Rattle.grid_moves.specs.declared.Dir.{Dir}
 use Rattle.grid_moves.specs.declared.Dir.TheVariants.{N, NE, E, SE, S, SW, W, NW}
-use Rattle.grid_moves.specs.Grid.{GridData}
+use Rattle.grid_moves.specs.Grid.{GridData, is_free}
 use Rattle.cost_waves.specs.Begin.{Begins}
 use Rattle.goal_boxes.specs.declared.area.Area.{Area}
 use Rattle.goal_boxes.specs.declared.around.CellBoxes.{CellBoxes}
@@ -51,6 +51,14 @@ box_in b NW = b.nw
 -- these are the boxes of u
 abbrev pub AreBoxes : GridData → Cell → CellBoxes → Type 0
 AreBoxes g u b = (d : Dir) → IsBox g u d (box_in b d)
+
+-- what tells a box, or none, for each cell and direction
+abbrev pub BoxTeller : Type 0
+BoxTeller = Cell → Dir → Option Area
+
+-- it tells the boxes of the grid's free cells. As a least rectangle is one, all that do so tell the same of these
+pub record TellsBoxes (g : GridData) (box : BoxTeller) : Type 0 where
+  pub boxes : (c : Cell) → is_free g c ≡ true → (d : Dir) → IsBox g c d (box c d)
 
 -- a rectangle holds its corners, and no cell beyond
 pub corner_held : holds (record { x0 = 1; y0 = 0; x1 = 2; y1 = 1 }) (record { x = 2; y = 1 }) ≡ true

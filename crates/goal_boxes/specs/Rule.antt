@@ -11,8 +11,7 @@ use Rattle.best_first.specs.declared.state.State.{State}
 use Rattle.best_first.specs.Rule.{Links, search_rule}
 use Rattle.plain_search.specs.Rule.{plain_links, is_led}
 use Rattle.goal_boxes.specs.declared.area.Area.{Area}
-use Rattle.goal_boxes.specs.Box.{holds}
-use Rattle.goal_boxes.specs.Stored.{BoxData, box_at}
+use Rattle.goal_boxes.specs.Box.{BoxTeller, holds}
 
 -- there is a box, and it holds the cell
 abbrev pub is_toward : Cell → Option Area → Bool
@@ -20,21 +19,21 @@ is_toward t None = false
 is_toward t (Some a) = holds a t
 
 -- v lies ahead of u in this direction, and the box of u in it holds t
-abbrev pub leads_toward : BoxData → Cell → Cell → Cell → Dir → Bool
-leads_toward b t u v d = is_toward t (box_at b u d) && is_led u v (Some d)
+abbrev pub leads_toward : BoxTeller → Cell → Cell → Cell → Dir → Bool
+leads_toward box t u v d = is_toward t (box u d) && is_led u v (Some d)
 
 -- that is so for one of these directions
-abbrev pub is_toward_by : BoxData → Cell → Cell → Cell → List Dir → Bool
-is_toward_by b t u v [] = false
-is_toward_by b t u v (d ∷ dirs) = leads_toward b t u v d || is_toward_by b t u v dirs
+abbrev pub is_toward_by : BoxTeller → Cell → Cell → Cell → List Dir → Bool
+is_toward_by box t u v [] = false
+is_toward_by box t u v (d ∷ dirs) = leads_toward box t u v d || is_toward_by box t u v dirs
 
 -- a link of the plain engine, where the box of the move's direction holds t
-abbrev pub boxed_step : GridData → BoxData → Cell → State → State → Option Cost
-boxed_step g b t u v = if is_toward_by b t u.cell v.cell all_dirs then (plain_links g).step u v else None
+abbrev pub boxed_step : GridData → BoxTeller → Cell → State → State → Option Cost
+boxed_step g box t u v = if is_toward_by box t u.cell v.cell all_dirs then (plain_links g).step u v else None
 
-abbrev pub boxed_links : GridData → BoxData → Cell → Links
-boxed_links g b t = record { step = λ u v. boxed_step g b t u v; led = (plain_links g).led }
+abbrev pub boxed_links : GridData → BoxTeller → Cell → Links
+boxed_links g box t = record { step = λ u v. boxed_step g box t u v; led = (plain_links g).led }
 
 -- the rule of a search for t
-abbrev pub boxed_rule : GridData → BoxData → Cell → Rule State
-boxed_rule g b t = search_rule g.width t (boxed_links g b t)
+abbrev pub boxed_rule : GridData → BoxTeller → Cell → Rule State
+boxed_rule g box t = search_rule g.width t (boxed_links g box t)

@@ -19,8 +19,17 @@ abbrev pub widened : Option Area → Cell → Area
 widened None c = record { x0 = c.x; y0 = c.y; x1 = c.x; y1 = c.y }
 widened (Some a) c = with_cell a c
 
--- the direction is told of the cell, which lies in a row before y, or in that row before column x
-pub record Seen (w : WaveData) (d : Dir) (y x : ℕ) (c : Cell) : Type 0 where
-  pub column : c.x < w.width
-  pub told : begins_with w c d ≡ true
+-- a cell of a kind that a scan over rows of this width has met: it lies in a row before y, or in that row before
+-- column x
+pub record Scanned (width : ℕ) (P : Cell → Type 0) (y x : ℕ) (c : Cell) : Type 0 where
+  pub column : c.x < width
+  pub kind : P c
   pub before : (c.y < y) ⊎ ((c.y ≡ y) × (c.x < x))
+
+-- the direction is told of the cell
+abbrev pub IsTold : WaveData → Dir → Cell → Type 0
+IsTold w d c = begins_with w c d ≡ true
+
+-- and a scan has met it
+abbrev pub Seen : WaveData → Dir → ℕ → ℕ → Cell → Type 0
+Seen w d y x c = Scanned w.width (IsTold w d) y x c

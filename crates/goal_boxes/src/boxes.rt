@@ -3,7 +3,7 @@
 ghost use Rattle.std.specs.Prelude.{◌≡◌, ◌+◌, ◌*◌, ◌<◌, ◌++◌, ◌∷◌, [], true, IfOk, OnOk};
 ghost use Rattle.grid_moves.specs.Grid.{IsGrid, is_free};
 ghost use Rattle.goal_boxes.specs.Box.{AreBoxes};
-ghost use Rattle.goal_boxes.specs.Stored.{box_at, HoldsBoxes, AreBefore};
+ghost use Rattle.goal_boxes.specs.Stored.{box_at, boxes_at, HoldsBoxes, AreBefore};
 
 use crate::around::{CellBoxes, boxes_by};
 use crate::{Area, NoMemory};
@@ -125,6 +125,16 @@ impl Boxes {
         self.height
     }
 
+    /// The boxes of a cell.
+    #[inline(always)]
+    pub fn of_cell(&self, c: Cell) -> CellBoxes
+        requires column { c.x < self.now.width }
+        requires row { c.y < self.now.height }
+        ensures { result ≡ boxes_at self.now c }
+    {
+        self.cells[number_of(self.width, c) as usize]
+    }
+
     /// The box of a cell in a direction, `None` where there is none.
     #[inline(always)]
     pub fn area(&self, c: Cell, d: Dir) -> Option<Area>
@@ -132,6 +142,6 @@ impl Boxes {
         requires row { c.y < self.now.height }
         ensures { result ≡ box_at self.now c d }
     {
-        self.cells[number_of(self.width, c) as usize].toward(d)
+        self.of_cell(c).toward(d)
     }
 }

@@ -11,12 +11,13 @@ mod around;
 mod boxed;
 mod boxes;
 mod offers;
+mod source;
 mod turns;
 
 pub use area::Area;
 pub use around::{CellBoxes, boxes_by, boxes_of};
 pub use best_first::Taken;
-pub use boxed::{Boxed, boxed_search};
+pub use boxed::{Boxed, boxed_query, boxed_search};
 pub use boxes::Boxes;
 pub use std::alloc::AllocError as NoMemory;
 

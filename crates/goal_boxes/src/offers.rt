@@ -3,14 +3,15 @@
 ghost use Rattle.std.specs.Prelude.{◌≡◌, ◌+◌, ◌<◌, ◌≤◌, ◌^◌, ◌∷◌, [], true, length, slice_get, Some};
 ghost use Rattle.best_first.specs.Space.{IsPlaced, KeepsShape};
 ghost use Rattle.best_first.specs.Table.{node_for, ClosedBelow};
-ghost use Rattle.grid_moves.specs.Grid.{IsGrid, is_free};
+ghost use Rattle.best_first.specs.Trace.{node_cell};
 ghost use Rattle.grid_moves.specs.Move.{all_dirs};
 ghost use Rattle.plain_search.specs.Offers.{cost_to, offer_to};
-ghost use Rattle.goal_boxes.specs.Offers.{toward, offered_over, all_offered, MayOffer, MayExpand, HasExpanded};
+ghost use Rattle.goal_boxes.specs.Box.{box_in};
+ghost use Rattle.goal_boxes.specs.Offers.{Agree, toward, offered_over, all_offered, MayOffer, MayExpand, HasExpanded};
 ghost use Rattle.goal_boxes.specs.Rule.{is_toward};
-ghost use Rattle.goal_boxes.specs.Stored.{HoldsBoxes, box_at};
 
-use crate::Boxes;
+use crate::around::CellBoxes;
+use crate::source::Meant;
 use best_first::{Layout, Offer, Space, State};
 use grid_moves::{ALL_DIRS, Cell, Dir, Terrain, step};
 use root2_cost::Cost;
@@ -55,14 +56,12 @@ fn offer_to(from: Source, to: Cell, d: Dir) -> Offer
     }
 }
 
-// Whether the box of a cell in a direction holds the goal.
+// Whether the box in a direction holds the goal.
 #[inline(always)]
-fn is_toward(b: &Boxes, c: Cell, d: Dir, goal: Cell) -> bool
-    requires column { c.x < b.now.width }
-    requires row { c.y < b.now.height }
-    ensures { result ≡ is_toward goal (box_at b.now c d) }
+fn is_toward(boxes: CellBoxes, d: Dir, goal: Cell) -> bool
+    ensures { result ≡ is_toward goal (box_in boxes d) }
 {
-    match b.area(c, d) {
+    match boxes.toward(d) {
         Some(area) => area.holds(goal),
         None => false,
     }
@@ -70,12 +69,17 @@ fn is_toward(b: &Boxes, c: Cell, d: Dir, goal: Cell) -> bool
 
 // Where the move in a direction leads, if it is legal and its box holds the goal.
 #[inline(always)]
-fn toward<T: Terrain>(t: &T, b: &Boxes, c: Cell, d: Dir, goal: Cell) -> Option<Cell>
-    requires column { c.x < b.now.width }
-    requires row { c.y < b.now.height }
-    ensures { result ≡ toward (T.grid t.now) b.now goal c d }
+fn toward<K: Meant, T: Terrain>(
+    t: &T,
+    boxes: CellBoxes,
+    c: Cell,
+    d: Dir,
+    goal: Cell,
+) -> Option<Cell>
+    requires { box_in boxes d ≡ K.boxes c d }
+    ensures { result ≡ toward (T.grid t.now) K.boxes goal c d }
 {
-    if is_toward(b, c, d, goal) {
+    if is_toward(boxes, d, goal) {
         step(t, c, d)
     } else {
         None
@@ -109,51 +113,51 @@ fn offer_over<L: Ledger>(
 }
 
 // Makes the offers in these directions, in their order.
-fn offer_in<T: Terrain, L: Ledger>(
+fn offer_in<K: Meant, T: Terrain, L: Ledger>(
     t: &T,
-    b: &Boxes,
+    boxes: CellBoxes,
     from: Source,
     dirs: &[Dir],
     space: &mut Space,
     steps: &mut Steps<L>,
 )
-    requires column { from.cell.x < b.now.width }
-    requires row { from.cell.y < b.now.height }
+    requires boxes { Agree boxes K.boxes from.cell }
     requires layout { space.old.layout ≡ Layout.ByCell }
     requires narrow { space.old.width ≤ 4096 }
     requires short { from.rank < 2 ^ 62 }
-    requires may { MayOffer (T.grid t.now) b.now from.goal from.id from.key from.rank from.cell space.old }
+    requires may { MayOffer (T.grid t.now) K.boxes from.goal from.id from.key from.rank from.cell space.old }
     requires closed { ClosedBelow from.key space.old.table }
     requires room { length dirs.now ≤ space.old.spare }
     ensures table { space.new.table
-        ≡ all_offered (T.grid t.now) b.now from.goal from.id from.rank from.cell dirs.now space.old.table }
+        ≡ all_offered (T.grid t.now) K.boxes from.goal from.id from.rank from.cell dirs.now space.old.table }
     ensures shape { KeepsShape space.old space.new }
 {
     for d in dirs {
-        let to = toward(t, b, from.cell, *d, from.goal);
+        let to = toward::<K, T>(t, boxes, from.cell, *d, from.goal);
         offer_over(space, from, to, *d, steps);
     }
 }
 
 /// Offers the legal moves from the node of that number whose boxes hold the goal, in increasing order of
 /// direction. There is room for them.
-pub(crate) fn offer_all<T: Terrain, L: Ledger>(
+pub(crate) fn offer_all<K: Meant, T: Terrain, L: Ledger>(
     t: &T,
-    b: &Boxes,
+    boxes: CellBoxes,
     goal: Cell,
     at: u32,
     space: &mut Space,
     steps: &mut Steps<L>,
 )
-    requires boxes { HoldsBoxes (T.grid t.now) b.now }
+    requires boxes { (n : _) → slice_get space.old.table.nodes at ≡ Some n
+        → Agree boxes K.boxes (node_cell n) }
     requires known { at < length space.old.table.nodes }
     requires layout { space.old.layout ≡ Layout.ByCell }
     requires narrow { space.old.width ≤ 4096 }
     requires room { 8 ≤ space.old.spare }
     requires may { (n : _) → slice_get space.old.table.nodes at ≡ Some n
-        → MayExpand (T.grid t.now) b.now goal at n space.old }
+        → MayExpand (T.grid t.now) K.boxes goal at n space.old }
     ensures expanded { (n : _) → slice_get space.old.table.nodes at ≡ Some n
-        → HasExpanded (T.grid t.now) b.now goal at n space.old.table space.new.table }
+        → HasExpanded (T.grid t.now) K.boxes goal at n space.old.table space.new.table }
     ensures shape { KeepsShape space.old space.new }
 {
     let node = space.node(at);
@@ -164,5 +168,5 @@ pub(crate) fn offer_all<T: Terrain, L: Ledger>(
         cell: node.place.cell(),
         goal,
     };
-    offer_in(t, b, from, &ALL_DIRS, space, steps);
+    offer_in::<K, T, L>(t, boxes, from, &ALL_DIRS, space, steps);
 }

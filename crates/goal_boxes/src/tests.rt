@@ -1,13 +1,16 @@
 //! Boxes and runs on small maps, by hand.
 
-ghost use Rattle.std.specs.Prelude.{◌≡◌, true};
+ghost use Rattle.std.specs.Prelude.{◌≡◌, ◌<◌, true};
 ghost use Rattle.grid_moves.specs.Grid.{AreCells};
 
-use crate::{Area, Boxes, CellBoxes, NoMemory, boxed_search, boxes_of};
+use crate::{Area, Boxed, Boxes, CellBoxes, NoMemory, boxed_query, boxed_search, boxes_of};
 use grid_moves::{Cell, Corner, Dir, Grid, Terrain};
 use root2_cost::Cost;
 use std::alloc::Global;
+use std::marker::Brand;
+use std::sync::ledger::{Blank, Ledger};
 use std::test::Fail;
+use steps::Steps;
 
 fn cell(x: u16, y: u16) -> Cell {
     Cell { x, y }
@@ -25,25 +28,37 @@ fn are_boxes(alloc: Global, grid: &Grid, c: Cell, boxes: CellBoxes) -> Result<bo
     Ok(boxes_of(alloc, grid, c)? == boxes)
 }
 
-// Whether the search finds this: points and cost, or no walk, and the taken states.
-fn is_answer(
+// Whether this was found: points and cost, or no walk, and the taken states.
+fn is_wanted(found: &Boxed, walk: Option<(&[Cell], Cost)>, states: &[u32]) -> bool {
+    let same = match &found.answer {
+        Some((points, cost)) => walk == Some((points.as_slice(), *cost)),
+        None => walk.is_none(),
+    };
+    same && found.taken.as_slice() == states
+}
+
+// Whether the search finds this by kept boxes, and by passes.
+fn is_answer<L: Ledger>(
     alloc: Global,
     grid: &Grid,
     from: Cell,
     to: Cell,
     walk: Option<(&[Cell], Cost)>,
     states: &[u32],
-) -> Result<bool, NoMemory> {
+    blank: Blank,
+) -> Result<bool, NoMemory>
+    requires name { blank.name ≡ L.name }
+    requires parts { blank.parts ≡ L.parts }
+    requires some { 0 < L.parts }
+{
     if !grid.free(from) || !grid.free(to) {
         return Ok(false);
     }
     let boxes = Boxes::build(alloc, grid)?;
-    let found = boxed_search(alloc, grid, &boxes, from, to)?;
-    let same = match &found.answer {
-        Some((points, cost)) => walk == Some((points.as_slice(), *cost)),
-        None => walk.is_none(),
-    };
-    Ok(same && found.taken.as_slice() == states)
+    let kept = boxed_search(alloc, grid, &boxes, from, to)?;
+    let mut passes = Steps::<L>::new(blank);
+    let by_passes = boxed_query(alloc, grid, from, to, &mut passes)?;
+    Ok(is_wanted(&kept, walk, states) && is_wanted(&by_passes, walk, states))
 }
 
 // From the upper left of the open map of three by three cells. To (2,1) and to (1,2) least walks begin both
@@ -73,7 +88,17 @@ fn moves_away_from_the_goal_are_left_out(rt: HostRuntime) -> Result<(), Fail> {
     let points = [cell(0, 0), cell(0, 2), cell(3, 2), cell(3, 1)];
     let walk = Some((points.as_slice(), Cost { a: 6, b: 0 }));
     let states = [8, 44, 80, 89, 98, 107, 71];
-    assert!(rt; is_answer(rt.alloc(), &grid, cell(0, 0), cell(3, 1), walk, &states)?);
+    assert!(rt;
+        is_answer::<Brand>(
+            rt.alloc(),
+            &grid,
+            cell(0, 0),
+            cell(3, 1),
+            walk,
+            &states,
+            Blank::new(1)
+        )?
+    );
     Ok(())
 }
 
@@ -85,6 +110,16 @@ fn no_walk_leads_past_two_corners(rt: HostRuntime) -> Result<(), Fail> {
     assert!(rt; boxes.width() == 2);
     assert!(rt; boxes.height() == 2);
     assert!(rt; boxes.area(Cell { x: 0, y: 0 }, Dir::SE) == None);
-    assert!(rt; is_answer(rt.alloc(), &grid, cell(0, 0), cell(1, 1), None, &[8])?);
+    assert!(rt;
+        is_answer::<Brand>(
+            rt.alloc(),
+            &grid,
+            cell(0, 0),
+            cell(1, 1),
+            None,
+            &[8],
+            Blank::new(1)
+        )?
+    );
     Ok(())
 }

@@ -16,10 +16,14 @@ pub offer_all-requires-clause-may : goal.offer_all-requires-clause-may
 offer_all-requires-clause-may g c = λ n h.
     let grid = g.T.Terrain.grid c.args.t.now in
     let k = c.args.space.now.table in
-    may_go_on grid c.args.b.now c.args.ends.from c.args.ends.to c.requires.whole c.requires.from c.requires.to c.args.at k
+    may_go_on grid g.K.Meant.boxes c.args.ends.from c.args.ends.to c.requires.whole c.requires.from c.requires.to c.args.at k
     c.args.taken.now c.requires.taken c.reserve.new.self c.reserve.ensures.table
     (ready_on {a = c.args.space.now} {b = c.reserve.new.self} grid c.requires.ready c.reserve.ensures.shape) n
     (ap (λ (l : Table). slice_get l.nodes c.args.at) (sym c.reserve.ensures.table) ∙ h)
+
+pub offer_all-requires-clause-boxes : goal.offer_all-requires-clause-boxes
+offer_all-requires-clause-boxes g c = λ n h.
+    c.requires.boxes n (ap (λ (l : Table). slice_get l.nodes c.args.at) (sym c.reserve.ensures.table) ∙ h)
 
 pub node-requires : goal.node-requires
 node-requires g c =
@@ -31,12 +35,12 @@ pub state_at-requires : goal.state_at-requires
 state_at-requires g c =
     let grid = g.T.Terrain.grid c.args.t.now in
     let k = c.reserve.new.self.table in
-    let taken = subst (λ (l : Table). HasTaken grid c.args.b.now c.args.ends.from c.args.ends.to c.args.at l c.args.taken.now)
+    let taken = subst (λ (l : Table). HasTaken grid g.K.Meant.boxes c.args.ends.from c.args.ends.to c.args.at l c.args.taken.now)
     (sym c.reserve.ensures.table) c.requires.taken in
     let read = ap (λ (ns : List Node). slice_get ns c.in-Some.next) (sym c.take_next.ensures.nodes)
     ∙ c.node.ensures in
     ap (λ (u : Cell). is_free grid u) c.cell.ensures
-    ∙ next_free grid c.args.b.now c.args.ends.from c.args.ends.to c.requires.whole c.requires.from c.requires.to c.args.at k
+    ∙ next_free grid g.K.Meant.boxes c.args.ends.from c.args.ends.to c.requires.whole c.requires.from c.requires.to c.args.at k
     c.args.taken.now taken c.offer_all.new.space.table
     (λ n h. c.requires.open_ended n (ap (λ (l : Table). slice_get l.nodes c.args.at)
     (sym c.reserve.ensures.table) ∙ h)) c.offer_all.ensures.expanded c.in-Some.next c.node.result
@@ -46,9 +50,9 @@ pub returns-in-None-clause-goes_on : goal.returns-in-None-clause-goes_on
 returns-in-None-clause-goes_on g c =
     let grid = g.T.Terrain.grid c.args.t.now in
     let k = c.reserve.new.self.table in
-    let taken = subst (λ (l : Table). HasTaken grid c.args.b.now c.args.ends.from c.args.ends.to c.args.at l c.args.taken.now)
+    let taken = subst (λ (l : Table). HasTaken grid g.K.Meant.boxes c.args.ends.from c.args.ends.to c.args.at l c.args.taken.now)
     (sym c.reserve.ensures.table) c.requires.taken in
-    has_stopped grid c.args.b.now c.args.ends.from c.args.ends.to c.requires.whole c.requires.from c.requires.to c.args.at k
+    has_stopped grid g.K.Meant.boxes c.args.ends.from c.args.ends.to c.requires.whole c.requires.from c.requires.to c.args.at k
     c.args.taken.now taken c.offer_all.new.space.table
     (λ n h. c.requires.open_ended n (ap (λ (l : Table). slice_get l.nodes c.args.at)
     (sym c.reserve.ensures.table) ∙ h)) c.offer_all.ensures.expanded c.in-None.ensures.none
@@ -57,11 +61,11 @@ pub returns-in_ok-push-in-Some-clause-goes_on : goal.returns-in_ok-push-in-Some-
 returns-in_ok-push-in-Some-clause-goes_on g c =
     let grid = g.T.Terrain.grid c.args.t.now in
     let k = c.reserve.new.self.table in
-    let taken = subst (λ (l : Table). HasTaken grid c.args.b.now c.args.ends.from c.args.ends.to c.args.at l c.args.taken.now)
+    let taken = subst (λ (l : Table). HasTaken grid g.K.Meant.boxes c.args.ends.from c.args.ends.to c.args.at l c.args.taken.now)
     (sym c.reserve.ensures.table) c.requires.taken in
     let read = ap (λ (ns : List Node). slice_get ns c.in-Some.next) (sym c.take_next.ensures.nodes)
     ∙ c.node.ensures in
-    let on = goes_on grid c.args.b.now c.args.ends.from c.args.ends.to c.requires.whole c.requires.from c.requires.to c.args.at
+    let on = goes_on grid g.K.Meant.boxes c.args.ends.from c.args.ends.to c.requires.whole c.requires.from c.requires.to c.args.at
     k c.args.taken.now taken c.offer_all.new.space.table
     (λ n h. c.requires.open_ended n (ap (λ (l : Table). slice_get l.nodes c.args.at)
     (sym c.reserve.ensures.table) ∙ h)) c.offer_all.ensures.expanded c.in-Some.next c.node.result
@@ -71,7 +75,7 @@ returns-in_ok-push-in-Some-clause-goes_on g c =
     = c.in_ok-push-in-Some.ensures.pushed
     ∙ ap (λ (i : ℕ). c.args.taken.now ++ i ∷ []) (c.state_at.ensures
     ∙ ap (λ (u : Cell). state_number grid.width (start_at u)) c.cell.ensures) in
-    subst (λ (l : Table). HasTaken grid c.args.b.now c.args.ends.from c.args.ends.to c.in-Some.next l c.push.new.self)
+    subst (λ (l : Table). HasTaken grid g.K.Meant.boxes c.args.ends.from c.args.ends.to c.in-Some.next l c.push.new.self)
     (sym c.in-Some.ensures.closed)
-    (subst (λ (ns : List ℕ). HasTaken grid c.args.b.now c.args.ends.from c.args.ends.to c.in-Some.next
+    (subst (λ (ns : List ℕ). HasTaken grid g.K.Meant.boxes c.args.ends.from c.args.ends.to c.in-Some.next
     (closed_at c.in-Some.next c.offer_all.new.space.table) ns) (sym pushed) on)

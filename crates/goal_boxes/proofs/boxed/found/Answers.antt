@@ -1,4 +1,4 @@
-use Rattle.std.proofs.Common.{◌∙◌, ap}
+use Rattle.std.proofs.Common.{◌∙◌, ap, refl}
 use Rattle.path_points.specs.Corners.{corners}
 use Rattle.goal_boxes.proofs.Concluding.{leads_back, is_found}
 use Rattle.goal_boxes.proofs.Right.{found_least}
@@ -6,18 +6,19 @@ use Rattle.goal_boxes.proofs.boxed.found.Goals as goal
 
 pub way_to-requires : goal.way_to-requires
 way_to-requires g c =
-    leads_back (g.T.Terrain.grid c.args.t.now) c.args.b.now c.args.ends.from c.args.ends.to c.requires.whole
+    leads_back (g.T.Terrain.grid c.args.t.now) g.K.Meant.boxes c.args.ends.from c.args.ends.to c.requires.whole
     c.requires.from c.requires.to c.args.at c.args.space.now.table c.args.taken c.requires.taken
 
 pub returns : goal.returns
 returns g c =
     let grid = g.T.Terrain.grid c.args.t.now in
-    let run = is_found grid c.args.b.now c.args.ends.from c.args.ends.to c.requires.whole c.requires.from
+    let run = is_found grid g.K.Meant.boxes c.args.ends.from c.args.ends.to c.requires.whole c.requires.from
     c.requires.to c.args.at c.args.space.now.table c.args.taken c.requires.taken c.in_ok-points.points
     c.in_ok-way.way.points c.in_ok-way.way.cost c.requires.goal c.in_ok-way.ensures
     (c.in_ok-points.ensures ∙ ap corners c.as_slice.ensures) in
     record {
       run = run;
-      least = found_least grid c.args.b.now c.requires.boxes c.args.ends.from c.args.ends.to c.in_ok-points.points
+      least = found_least grid g.K.Meant.boxes c.requires.boxes c.args.ends.from c.args.ends.to c.in_ok-points.points
           c.in_ok-way.way.cost c.args.taken c.requires.from run;
+      taken = refl;
     }

@@ -6,3 +6,6 @@ pub offer_over-requires-clause-may : goal.offer_over-requires-clause-may
 offer_over-requires-clause-may g c = λ v e.
     let p = c.requires.may _ v (sym c.toward-to.ensures ∙ e) in
     (placed_on {a = c.args.space.now} {b = c.loop-d.space} c.loop-d.invariant.shape v p.0, p.1)
+
+pub toward-to-requires : goal.toward-to-requires
+toward-to-requires g c = c.requires.boxes _

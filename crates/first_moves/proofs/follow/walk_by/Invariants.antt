@@ -1,7 +1,7 @@
 use Rattle.std.proofs.Common.{◌≡◌, ◌+◌, ◌*◌, ◌-◌, true}
 use Rattle.grid_moves.specs.Grid.{is_inside}
 use Rattle.first_moves.proofs.Following.{IsUnderWay}
-use Rattle.first_moves.proofs.moves.Moves.follow.Given as goal
+use Rattle.first_moves.proofs.follow.walk_by.Given as goal
 
 -- each move so far was a first move, and counted
 abbrev pub invariant-loop-to : goal.invariant-loop-to

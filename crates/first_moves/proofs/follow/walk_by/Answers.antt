@@ -1,7 +1,7 @@
 use Rattle.std.proofs.Common.{arith, ◌∙◌, sym}
 use Rattle.grid_moves.proofs.Legal.{is_same-cell}
 use Rattle.first_moves.proofs.Following.{set_out_by, one_on_by, counts_one, counts_more, few_moves, no_move_by, arrived, stands, apart_by, same_by}
-use Rattle.first_moves.proofs.moves.Moves.follow.Goals as goal
+use Rattle.first_moves.proofs.follow.walk_by.Goals as goal
 
 pub returns-then-eq-clause-walk : goal.returns-then-eq-clause-walk
 returns-then-eq-clause-walk g c =

@@ -1,0 +1,109 @@
+-- A walk turned round is a walk of the same cost, so what a least walk costs is the same both ways.
+use Rattle.std.proofs.Common.{◌≡◌, ℕ, arith, refl, ap, sym, ◌∙◌, subst, Bool, true, false, List, [], ◌∷◌}
+use Rattle.std.specs.Prelude.{Option, Some, None, nat_eq}
+use Rattle.std.proofs.lemmas.Bool.Decides.{nat_tests}
+use Rattle.root2_cost.specs.declared.Cost.{Cost}
+use Rattle.root2_cost.specs.Order.{IsAtMost}
+use Rattle.root2_cost.specs.Sums.{add_costs}
+use Rattle.root2_cost.proofs.Sums.{add_costs-assoc, add_costs-comm, add_costs-no_cost_left, add_costs-no_cost_right}
+use Rattle.grid_moves.specs.declared.Cell.{Cell}
+use Rattle.grid_moves.specs.declared.Corner.{Corner}
+use Rattle.grid_moves.specs.declared.Corner.TheVariants.{Never, One}
+use Rattle.grid_moves.specs.Grid.{GridData, is_free}
+use Rattle.grid_moves.specs.Move.{is_legal, is_passable, corner_of, move_cost}
+use Rattle.grid_moves.specs.Walk.{IsWalk, is_walk, cost_of, last_of}
+use Rattle.grid_moves.proofs.Legal.{and_both, legal_is, is_legal-from}
+use Rattle.path_points.proofs.Joined.{walk_free}
+use Rattle.cost_waves.specs.Begin.{IsLeastCost, IsCostTo}
+
+-- the two cells beside a move are alike
+passable-turned : (r : Corner) (a b : Bool) → is_passable r a b ≡ is_passable r b a
+passable-turned Never a b = grind arith
+passable-turned One a b = grind arith
+
+legal_back : (g : GridData) (u v : Cell) → is_legal g u v ≡ true → is_legal g v u ≡ true
+legal_back g u v h =
+    let l = legal_is g u v h in
+    is_legal-from g v u (record {
+      source = l.target;
+      target = l.source;
+      passes = passable-turned g.corner (is_free g (corner_of v u)) (is_free g (corner_of u v)) ∙ l.passes;
+      x_low = l.x_high;
+      x_high = l.x_low;
+      y_low = l.y_high;
+      y_high = l.y_low;
+      differ = λ e f. l.differ (sym e) (sym f);
+    })
+
+nat_eq-turned : (m n : ℕ) → nat_eq m n ≡ nat_eq n m
+nat_eq-turned m n = by_tests (nat_eq m n) (nat_eq n m) refl refl
+  where
+    by_tests : (a b : Bool) → nat_eq m n ≡ a → nat_eq n m ≡ b → nat_eq m n ≡ nat_eq n m
+    by_tests true true p q = p ∙ sym q
+    by_tests false false p q = p ∙ sym q
+    by_tests true false p q = absurd (let e : m ≡ n = grind (arith, nat_tests) in let t : nat_eq n m ≡ true = grind (arith, nat_tests) in cc)
+    by_tests false true p q = absurd (let e : n ≡ m = grind (arith, nat_tests) in let t : nat_eq m n ≡ true = grind (arith, nat_tests) in cc)
+
+cost_back : (u v : Cell) → move_cost v u ≡ move_cost u v
+cost_back u v = rw (nat_eq-turned v.x u.x, nat_eq-turned v.y u.y) refl
+
+-- the cells of a way to s, and those of a way that went on from there, in the order of the way back
+abbrev back_onto : Cell → List Cell → List Cell → List Cell
+back_onto s [] done = done
+back_onto s (v ∷ cells) done = back_onto v cells (s ∷ done)
+
+record IsTurned (g : GridData) (s : Cell) (cells done : List Cell) : Type 0 where
+  pub legal : is_walk g (last_of s cells ∷ back_onto s cells done) ≡ true
+  pub ends : last_of (last_of s cells) (back_onto s cells done) ≡ last_of s done
+  pub priced : cost_of (last_of s cells ∷ back_onto s cells done) ≡ add_costs (cost_of (s ∷ cells)) (cost_of (s ∷ done))
+
+turned : (g : GridData) (s : Cell) (cells done : List Cell) → is_walk g (s ∷ cells) ≡ true
+    → is_walk g (s ∷ done) ≡ true → IsTurned g s cells done
+turned g s [] done w d = record { legal = d; ends = refl; priced = sym (add_costs-no_cost_left (cost_of (s ∷ done))) }
+turned g s (v ∷ cells) done w d =
+    let parts = and_both (is_legal g s v) (is_walk g (v ∷ cells)) w in
+    let rest = turned g v cells (s ∷ done) parts.1 (rw (legal_back g s v parts.0, d) refl) in
+    let on = cost_of (v ∷ cells) in
+    let before = cost_of (s ∷ done) in
+    record {
+      legal = rest.legal;
+      ends = rest.ends;
+      priced = rest.priced ∙ sym (add_costs-assoc on (move_cost v s) before)
+          ∙ ap (λ (c : Cost). add_costs c before) (add_costs-comm on (move_cost v s)
+          ∙ ap (λ (c : Cost). add_costs c on) (cost_back s v));
+    }
+
+-- the walk back from t to s
+pub record HasBack (g : GridData) (s : Cell) (cells : List Cell) (t : Cell) : Type 0 where
+  pub back : List Cell
+  pub walk : IsWalk g t s back
+  pub priced : cost_of (t ∷ back) ≡ cost_of (s ∷ cells)
+
+pub walk_back : (g : GridData) (s t : Cell) (cells : List Cell) → IsWalk g s t cells → HasBack g s cells t
+walk_back g s t cells w =
+    let r = turned g s cells [] w.legal (walk_free g s cells w.legal) in
+    subst (λ (e : Cell). HasBack g s cells e) w.ends (record {
+      back = back_onto s cells [];
+      walk = record { legal = r.legal; ends = r.ends };
+      priced = r.priced ∙ add_costs-no_cost_right (cost_of (s ∷ cells));
+    })
+
+least_back : (g : GridData) (s t : Cell) (cost : Cost) → IsLeastCost g s t cost → IsLeastCost g t s cost
+least_back g s t cost l =
+    let b = walk_back g s t l.cells l.least.walk in
+    record {
+      cells = b.back;
+      least = record {
+        walk = b.walk;
+        least = λ others o.
+            let a = walk_back g t s others o in
+            subst (λ (p : Cost). IsAtMost p (cost_of (t ∷ others))) (sym b.priced)
+            (subst (λ (p : Cost). IsAtMost (cost_of (s ∷ l.cells)) p) a.priced (l.least.least a.back a.walk));
+      };
+      priced = b.priced ∙ l.priced;
+    }
+
+-- what is told of the way there is right of the way back
+pub cost_to_back : (g : GridData) (s t : Cell) (o : Option Cost) → IsCostTo g s t o → IsCostTo g t s o
+cost_to_back g s t None none = λ cells w. let a = walk_back g t s cells w in none a.back a.walk
+cost_to_back g s t (Some cost) l = least_back g s t cost l
