@@ -14,8 +14,7 @@ use Rattle.edit_replay.specs.Session.{SessionData}
 use Rattle.edit_replay.specs.declared.reply.Reply.{Reply}
 use Rattle.edit_replay.specs.declared.reply.Reply.TheVariants.{Walk, None, Outside, Blocked}
 use Rattle.edit_replay.proofs.Replying.{has_reply}
-use Rattle.goal_boxes.specs.Answer.{IsBoxedRun, IsLeast}
-use Rattle.goal_boxes.specs.Stored.{BoxData, HoldsBoxes}
+use Rattle.goal_boxes.specs.Answer.{IsBoxedRunOn, IsLeast}
 use Rattle.goal_boxes.proofs.Answering as boxed
 use Rattle.first_moves.specs.Follow.{IsFollowed}
 use Rattle.first_moves.specs.Row.{AreMoves, MovesData}
@@ -38,24 +37,17 @@ record HasReplyOn (by : By) (g : GridData) (s t : Cell) : Type 0 where
   run : IsReplyOn by g s t reply
 
 module _ (g : GridData) (s t : Cell) (free : (is_free g s && is_free g t) ≡ true) where
-  boxed_told : (b : BoxData) → HoldsBoxes g b → (answer : Option (List Cell × Cost)) (taken : List ℕ)
-      → IsBoxedRun g b s t (record { answer = answer; taken = taken })
+  boxed_told : (answer : Option (List Cell × Cost)) (taken : List ℕ)
+      → IsBoxedRunOn g s t (record { answer = answer; taken = taken })
       → IsLeast g s t (record { answer = answer; taken = taken }) → HasReplyOn by_boxes g s t
-  boxed_told b holds (option.Some told) taken run least = record {
-    reply = Walk told.0 told.1 taken;
-    right = (free, least);
-    run = record { boxes = b; hold = holds; run = run };
-  }
-  boxed_told b holds option.None taken run least = record {
-    reply = None taken;
-    right = inr least;
-    run = rw free (record { boxes = b; hold = holds; run = run });
-  }
+  boxed_told (option.Some told) taken run least =
+      record { reply = Walk told.0 told.1 taken; right = (free, least); run = run }
+  boxed_told option.None taken run least = record { reply = None taken; right = inr least; run = rw free run }
 
-  boxed_reply : (b : BoxData) → HoldsBoxes g b → HasReplyOn by_boxes g s t
-  boxed_reply b holds =
-      let h = boxed.has_answer g b s t holds (and_parts (is_free g s) (is_free g t) free).0 in
-      boxed_told b holds h.answer.answer h.answer.taken h.run h.least
+  boxed_reply : HasReplyOn by_boxes g s t
+  boxed_reply =
+      let h = boxed.has_answer g s t (and_parts (is_free g s) (is_free g t) free).0 in
+      boxed_told h.answer.answer h.answer.taken h.run h.least
 
   led_told : (answer : Option (List Cell × Cost))
       → MatchOption answer (NoWalk g s t) (λ w. IsFollowed g s t w.0 w.1) → HasReplyOn by_moves g s t
@@ -91,15 +83,7 @@ module _ (ls : Layers) (by : By) (s t : Cell)
   exists : Exists
   exists = by_map (is_on_map ls s && is_on_map ls t) refl
 
--- what is kept of the grid of a query
-boxes_on : (ls : Layers) (land water : BoxData) → HoldsBoxes ls.land land → HoldsBoxes ls.water water → (s : Cell)
-    → (b : BoxData) × HoldsBoxes (query_grid ls s) b
-boxes_on ls land water on off s = by_test (is_free ls.water s)
-  where
-    by_test : (w : Bool) → (b : BoxData) × HoldsBoxes (if w then ls.water else ls.land) b
-    by_test true = (water, off)
-    by_test false = (land, on)
-
+-- the first moves that are kept of the grid of a query
 moves_on : (ls : Layers) (land water : MovesData) → AreMoves ls.land land → AreMoves ls.water water → (s : Cell)
     → (m : MovesData) × AreMoves (query_grid ls s) m
 moves_on ls land water on off s = by_test (is_free ls.water s)
@@ -113,8 +97,7 @@ pub answer_exists : (a : Answerer) → CanAnswer a → (s t : Cell) → (reply :
 answer_exists (answerer.Session d) ready s t = reply_exists d s t
 answer_exists (answerer.Boxes library) ready s t =
     let ls = library.layers in
-    let b = boxes_on ls library.land library.water ready.1 ready.2 s in
-    exists ls by_boxes s t (unsearched-boxed ls s t) (λ one. boxed_reply (query_grid ls s) s t one b.0 b.1)
+    exists ls by_boxes s t (unsearched-boxed ls s t) (λ one. boxed_reply (query_grid ls s) s t one)
 answer_exists (answerer.Moves library) ready s t =
     let ls = library.layers in
     let m = moves_on ls library.land library.water ready.1 ready.2 s in

@@ -1,7 +1,6 @@
 -- The work on one query.
 use Rattle.std.proofs.Common.{◌≡◌, ◌≤◌, ◌+◌, ◌*◌, ◌∙◌, ℕ, refl, sym, ap, subst, List, [], ◌∷◌, ◌++◌, arith}
 use Rattle.std.specs.Prelude.{sum}
-use Rattle.std.proofs.lemmas.List.Sums.{sum_by_push}
 use Rattle.grid_moves.specs.declared.Cell.{Cell}
 use Rattle.edit_replay.specs.Counting.{fewest_of, states_away}
 use Rattle.edit_replay.specs.Session.{SessionData}
@@ -41,7 +40,7 @@ module _ (d : SessionData) (show : Show) (sx sy gx gy : ℕ) where
           → old + sum counts * fewest_of d.engine ≤ new → RoseForQuery (who_is d) start goal old new
       by_counts [] takes rose = absurd takes
       by_counts (n ∷ []) takes rose =
-          let all : sum (n ∷ []) ≡ n = sum_by_push (λ x. x) [] n in record {
+          let all : sum (n ∷ []) ≡ n = omega arith in record {
             count = n;
             takes = subst (λ (k : SessionData). QueryTakes (who_is k) start goal n) (sym (nothing_edited d)) takes.0;
             rose = subst (λ (m : ℕ). old + m * fewest_of d.engine ≤ new) all rose;

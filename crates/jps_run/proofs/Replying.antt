@@ -43,6 +43,15 @@ result-on-map (Ok reply) ls by g s t from to e f same free right run =
     on : from ≡ s → query_grid ls from ≡ query_grid ls s
     on same_cell = subst (λ (c : Cell). query_grid ls from ≡ query_grid ls c) same_cell refl
 
+-- both ends are free there
+pub goal-free : (ls : Layers) (g : GridData) (s t from to : Cell) → from ≡ s → to ≡ t → g ≡ query_grid ls from
+    → in_one_layer ls s t ≡ true → is_free g to ≡ true
+goal-free ls g s t from to e f same one =
+    subst (λ (k : GridData). is_free k to ≡ true) (sym same)
+    (subst (λ (c : Cell). is_free (query_grid ls c) to ≡ true) (sym e)
+    (subst (λ (c : Cell). is_free (query_grid ls s) c ≡ true) (sym f)
+    (and_parts (is_free (query_grid ls s) s) (is_free (query_grid ls s) t) one).1))
+
 -- where nothing is searched, the reply is that of a boxed run, and that of first moves
 pub unsearched-boxed : (ls : Layers) (s t : Cell) (reply : Reply) → IsUnsearched ls s t reply
     → IsReplyBy (record { layers = ls; by = by_boxes }) s t reply

@@ -11,9 +11,7 @@ use Rattle.edit_replay.specs.Session.{SessionData}
 use Rattle.edit_replay.specs.declared.engine.Engine.{Engine}
 use Rattle.edit_replay.specs.declared.reply.Reply.{Reply}
 use Rattle.edit_replay.specs.declared.reply.Reply.TheVariants.{Walk, None, Outside, Blocked}
-use Rattle.goal_boxes.specs.Answer.{IsBoxedRun}
-use Rattle.goal_boxes.specs.Stored.{BoxData, HoldsBoxes}
-use Rattle.goal_boxes.specs.declared.boxed.Boxed.{Boxed}
+use Rattle.goal_boxes.specs.Answer.{IsBoxedRunOn}
 use Rattle.first_moves.specs.Follow.{IsFollowed}
 
 -- how a query is answered: by the search of a session's engine, by the search that goes by goal boxes, or by the walk
@@ -31,12 +29,6 @@ pub record Who : Type 0 where
 -- a session answers by its engine
 abbrev pub who_is : SessionData → Who
 who_is d = record { layers = d.layers; by = by_session d.engine }
-
--- the answer and the taken states are those of the boxed run from s to t, by the boxes of the grid
-pub record IsBoxedRunOn (g : GridData) (s t : Cell) (r : Boxed) : Type 0 where
-  pub boxes : BoxData
-  pub hold : HoldsBoxes g boxes
-  pub run : IsBoxedRun g boxes s t r
 
 -- points, cost and taken states are those of the boxed run on this grid; where an end is not free on it nothing is
 -- searched, and no state is taken

@@ -4,12 +4,11 @@
 ghost use Rattle.std.specs.Prelude.{◌≡◌, ◌<◌, [], ◌∷◌, IfOk};
 ghost use Rattle.script_text.specs.declared.command.Command.TheVariants.{Query};
 ghost use Rattle.word_list.specs.Request as asked;
-ghost use Rattle.jps_run.specs.Answerers.{IsFit, who_from};
+ghost use Rattle.jps_run.specs.Answerers.{who_from};
 ghost use Rattle.jps_run.specs.Calls.{call_with};
 ghost use Rattle.jps_run.specs.Lines.{Unfolds, reply_line};
 ghost use Rattle.jps_run.specs.Opened.{OpensWork};
 ghost use Rattle.jps_run.specs.Querying.{IsQueryWork};
-ghost use Rattle.jps_run.specs.Reading.{AreSmall};
 ghost use Rattle.jps_run.specs.Who.{who_is};
 
 use crate::NoMemory;
@@ -80,7 +79,6 @@ fn by_boxes(alloc: Global, layers: &Layers, ends: Ends, show: Show) -> Result<Wo
 
 // The line of the reply by the walk of first moves.
 fn by_moves(alloc: Global, layers: &Layers, ends: Ends, show: Show) -> Result<Work, NoMemory>
-    requires { AreSmall layers.now }
     ensures { IfOk result (IsQueryWork (who_from (Basis.Moves layers.now)) show
         (record { x = ends.sx; y = ends.sy }) (record { x = ends.gx; y = ends.gy })) }
 {
@@ -91,7 +89,6 @@ fn by_moves(alloc: Global, layers: &Layers, ends: Ends, show: Show) -> Result<Wo
 
 // The work on one query.
 fn work_on(alloc: Global, basis: Basis, ends: Ends, show: Show) -> Result<Work, NoMemory>
-    requires { IsFit basis }
     ensures { IfOk result (IsQueryWork (who_from basis) show
         (record { x = ends.sx; y = ends.sy }) (record { x = ends.gx; y = ends.gy })) }
 {

@@ -6,15 +6,14 @@ ghost use Rattle.first_moves.specs.Row.{AreMoves};
 ghost use Rattle.goal_boxes.specs.Stored.{HoldsBoxes};
 ghost use Rattle.grid_moves.specs.Grid.{is_free};
 ghost use Rattle.jps_run.specs.Answerers.{AreEndsOn, IsUnsearched};
-ghost use Rattle.jps_run.specs.Reading.{AreSmall};
 ghost use Rattle.jps_run.specs.Who.{IsBoxedReply, IsLedReply, IsReplyBy, by_boxes, by_moves};
 
 use crate::NoMemory;
 use crate::layers::Layers;
 use crate::query::Ends;
 use edit_replay::Reply;
-use first_moves::Moves;
-use goal_boxes::{Boxed, Boxes, boxed_search};
+use first_moves::{Moves, follow_by_pass};
+use goal_boxes::{Boxed, Boxes, boxed_query, boxed_search};
 use grid_moves::{Cell, Grid};
 use plain_search::Taken;
 use std::alloc::Global;
@@ -98,18 +97,35 @@ pub(crate) fn follow_moves<L: Ledger>(
     }
 }
 
-// The reply of the boxed run for one query alone.
-fn search_alone(alloc: Global, grid: &Grid, from: Cell, to: Cell) -> Result<Reply, NoMemory>
+// The reply of the boxed run with no boxes at hand: a pass for each taken cell, at most.
+fn search_alone<L: Ledger>(
+    alloc: Global,
+    grid: &Grid,
+    from: Cell,
+    to: Cell,
+    blank: Blank,
+) -> Result<Reply, NoMemory>
+    requires name { blank.name ≡ L.name }
+    requires parts { blank.parts ≡ L.parts }
+    requires some { 0 < L.parts }
     requires from { is_free grid.now from ≡ true }
     requires to { is_free grid.now to ≡ true }
     ensures right { IfOk result (IsRightOn grid.now from to) }
     ensures run { IfOk result (IsBoxedReply grid.now from to) }
 {
-    let boxes = Boxes::build(alloc, grid)?;
-    search_boxed(alloc, grid, &boxes, from, to)
+    let mut passes = Steps::<L>::new(blank);
+    let Boxed { answer, taken } = boxed_query(alloc, grid, from, to, &mut passes)?;
+    match answer {
+        Some((points, cost)) => Ok(Reply::Walk {
+            points,
+            cost,
+            taken,
+        }),
+        None => Ok(Reply::None { taken }),
+    }
 }
 
-// The reply of the walk of first moves for one query alone.
+// The reply of the walk of first moves with none of them at hand: one pass, from the goal.
 fn follow_alone<L: Ledger>(
     alloc: Global,
     grid: &Grid,
@@ -120,18 +136,24 @@ fn follow_alone<L: Ledger>(
     requires name { blank.name ≡ L.name }
     requires parts { blank.parts ≡ L.parts }
     requires some { 0 < L.parts }
-    requires few { grid.now.height * grid.now.width ≤ 16384 }
     requires from { is_free grid.now from ≡ true }
     requires to { is_free grid.now to ≡ true }
     ensures right { IfOk result (IsRightOn grid.now from to) }
     ensures run { IfOk result (IsLedReply grid.now from to) }
 {
     let mut steps = Steps::<L>::new(blank);
-    let moves = Moves::build(alloc, grid)?;
-    follow_moves(alloc, grid, &moves, from, to, &mut steps)
+    let taken = Taken::new(alloc);
+    match follow_by_pass(alloc, grid, from, to, &mut steps)? {
+        Some((points, cost)) => Ok(Reply::Walk {
+            points,
+            cost,
+            taken,
+        }),
+        None => Ok(Reply::None { taken }),
+    }
 }
 
-/// The reply to one query by the boxed run.
+/// The reply to one query by the boxed run. No more boxes are found than it asks for.
 pub(crate) fn boxed_reply(alloc: Global, layers: &Layers, ends: Ends) -> Result<Reply, NoMemory>
     ensures { IfOk result (IsReplyBy (record { layers = layers.now; by = by_boxes })
         (record { x = ends.sx; y = ends.sy }) (record { x = ends.gx; y = ends.gy })) }
@@ -140,12 +162,11 @@ pub(crate) fn boxed_reply(alloc: Global, layers: &Layers, ends: Ends) -> Result<
         Ok(both) => both,
         Err(reply) => return Ok(reply),
     };
-    search_alone(alloc, layers.query_grid(from), from, to)
+    search_alone::<Brand>(alloc, layers.query_grid(from), from, to, Blank::new(1))
 }
 
-/// The reply to one query on a small map by the walk of first moves.
+/// The reply to one query by the walk of first moves. No more of them are found than it asks for.
 pub(crate) fn led_reply(alloc: Global, layers: &Layers, ends: Ends) -> Result<Reply, NoMemory>
-    requires { AreSmall layers.now }
     ensures { IfOk result (IsReplyBy (record { layers = layers.now; by = by_moves })
         (record { x = ends.sx; y = ends.sy }) (record { x = ends.gx; y = ends.gy })) }
 {

@@ -8,9 +8,6 @@ use Rattle.jps_run.specs.Who.{Who}
 use Rattle.jps_run.proofs.Counts.{query-counted}
 use Rattle.jps_run.proofs.query.query.Goals as goal
 
-pub work_on-work-requires : goal.work_on-work-requires
-work_on-work-requires g c = c.in_ok-basis.ensures.read.spelled.is.1
-
 pub returns-clause-opened : goal.returns-clause-opened
 returns-clause-opened g c =
     let e = c.args.ends in

@@ -1,6 +1,6 @@
 use Rattle.std.proofs.Common.{sym, ◌∙◌, ◌≡◌, subst, true}
 use Rattle.grid_moves.specs.Layers.{Layers}
-use Rattle.jps_run.specs.Rulings.{has_sides}
+use Rattle.jps_run.specs.Rows.{has_sides}
 use Rattle.jps_run.proofs.Refereed.{ruled-so}
 use Rattle.jps_run.proofs.referee.ruling_on.Goals as goal
 
