@@ -15,11 +15,10 @@ use Rattle.word_list.specs.declared.request.Settings.{Settings}
 use Rattle.jps_run.specs.BoxLines as boxes
 use Rattle.jps_run.specs.BoxLines.{IsBoxText, boxes_text}
 use Rattle.jps_run.specs.Kinds.{takes}
-use Rattle.jps_run.specs.Reading.{AreLayersOf, AreSmall, AreSmallLayersOf}
+use Rattle.jps_run.specs.Reading.{AreLayersOf, AreSmall}
 use Rattle.jps_run.specs.RunLines as runs
 use Rattle.jps_run.specs.RunLines.{IsRunText, runs_text}
 use Rattle.jps_run.specs.declared.kind.Extent.TheVariants.{Small}
-use Rattle.jps_run.specs.declared.layers.SmallLayers.{SmallLayers}
 
 -- a text that is this line
 pub if_line : {E : Type 0} (result : Result (Vec ℕ) E) (Right : List ℕ → Type 0) (line : List ℕ)

@@ -1,9 +1,7 @@
 -- The steps that searches count.
-use Rattle.std.proofs.Common.{◌≡◌, refl, sym, ap, ◌∙◌, subst, List, [], ◌∷◌, ◌++◌, ℕ, suc, ◌+◌, ◌*◌, ◌<◌, ◌≤◌, length, take, arith}
-use Rattle.std.specs.Prelude.{Result, Ok, Err, OnOk, slice_index_or, sum}
+use Rattle.std.proofs.Common.{◌≡◌, refl, sym, ap, ◌∙◌, subst, List, [], ◌∷◌, ◌++◌, ℕ, ◌+◌, ◌*◌, ◌≤◌, arith}
+use Rattle.std.specs.Prelude.{Result, Ok, Err, OnOk, sum}
 use Rattle.std.specs.List.{fold}
-use Rattle.std.proofs.Math.Seq.{take-suc}
-use Rattle.std.proofs.lemmas.List.{take_all}
 use Rattle.std.proofs.lemmas.List.Sums.{sum_by_push}
 use Rattle.edit_replay.specs.Counting.{fewest_of, states_away}
 use Rattle.edit_replay.specs.Edited.{Edit}

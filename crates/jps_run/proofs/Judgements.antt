@@ -1,6 +1,7 @@
 -- The rows of entries.
 use Rattle.std.proofs.Common.{◌≡◌, refl, sym, ap, ◌∙◌, subst, List, [], ◌∷◌, ◌++◌, append_assoc, ℕ, suc, ◌+◌, ◌^◌, ◌<◌, length, length-append, arith, true, false, Bool}
-use Rattle.std.specs.Prelude.{◌≢◌, Result, Ok, Err, OnOk}
+use Rattle.std.specs.Prelude.{◌≢◌, ◌&&◌, nat_eq, Result, Ok, Err, OnOk}
+use Rattle.grid_moves.specs.Layers.{Layers}
 use Rattle.std.proofs.lemmas.List.{append-nil}
 use Rattle.scen_text.specs.declared.entry.Entry.{Entry}
 use Rattle.jps_run.specs.Answerers.{CanAnswer, who_of}
@@ -23,6 +24,14 @@ Stands who s entry r = IsRow who entry r
 
 abbrev stays : Unit {0} → Entry → Unit {0}
 stays s entry = s
+
+-- the sides were compared, and are the map's
+pub has-sides : (ls : Layers) (entry : Entry) (width height : ℕ) (same : Bool) → width ≡ ls.land.width
+    → height ≡ ls.land.height → same ≡ (nat_eq entry.w width && nat_eq entry.h height) → same ≡ true
+    → has_sides ls entry ≡ true
+has-sides ls entry width height same wide high is so =
+    subst (λ (n : ℕ). (nat_eq entry.w n && nat_eq entry.h ls.land.height) ≡ true) wide
+    (subst (λ (n : ℕ). (nat_eq entry.w width && nat_eq entry.h n) ≡ true) high (sym is ∙ so))
 
 row_lines-append : (show : Show) (number : ℕ) (some others : List Row)
     → row_lines show number (some ++ others)

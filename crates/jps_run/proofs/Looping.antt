@@ -1,13 +1,13 @@
 -- The work on items, one after the other.
-use Rattle.std.proofs.Common.{◌≡◌, refl, sym, ap, ◌∙◌, subst, List, [], ◌∷◌, ◌++◌, append_assoc, ℕ, zero, suc, ◌+◌, ◌<◌, ◌≤◌, ◌⊎◌, inl, inr, Bool, true, length, take, drop, get_or, arith}
-use Rattle.std.specs.Prelude.{◌≢◌, Result, Ok, Err, IsErrAnd, OnErr}
+use Rattle.std.proofs.Common.{◌≡◌, sym, ap, ◌∙◌, subst, List, [], ◌∷◌, ◌++◌, append_assoc, ℕ, zero, suc, ◌+◌, ◌<◌, ◌≤◌, ◌⊎◌, inl, inr, Bool, true, length, take, drop, get_or, arith}
+use Rattle.std.specs.Prelude.{◌≢◌, Result, IsErrAnd}
 use Rattle.std.specs.List.{concat}
 use Rattle.std.proofs.Math.Seq.{take-suc}
 use Rattle.std.proofs.lemmas.List.{take_all, take-append-drop, append-nil}
 use Rattle.io_edge.specs.Told.{Outflow}
 use Rattle.jps_run.specs.Sending.{Wrote, WroteSome, IsAll, SendsWhole, AreSent, AreLines, Sends, work_stops, write_stops}
 use Rattle.jps_run.specs.Stops.{StopsSo, Ends}
-use Rattle.jps_run.specs.Working.{Adds, CanComplete, Completes, CountsMore, HaveWorked, IsLeft, IsWorking, WorksMore}
+use Rattle.jps_run.specs.Working.{Adds, CanComplete, Completes, CountsMore, HaveWorked, IsLeft, IsWorking}
 use Rattle.jps_run.specs.declared.stop.Stop.{Stop}
 use Rattle.jps_run.specs.declared.stop.Stop.TheVariants as stop
 use Rattle.jps_run.proofs.Pieces.{all-sent, nothing, sent-more, sent-whole, sent-on, part-sent, lines-sent}

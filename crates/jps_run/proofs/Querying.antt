@@ -1,5 +1,5 @@
 -- The work on one query.
-use Rattle.std.proofs.Common.{◌≡◌, ◌≤◌, ◌+◌, ◌*◌, ◌∙◌, ℕ, refl, sym, ap, subst, List, [], ◌∷◌, ◌++◌, arith}
+use Rattle.std.proofs.Common.{◌≡◌, ◌≤◌, ◌+◌, ◌*◌, ◌∙◌, ℕ, refl, sym, ap, subst, List, [], ◌∷◌, arith}
 use Rattle.std.specs.Prelude.{sum}
 use Rattle.grid_moves.specs.declared.Cell.{Cell}
 use Rattle.edit_replay.specs.Counting.{fewest_of, states_away}
@@ -8,7 +8,7 @@ use Rattle.edit_replay.specs.declared.reply.Reply.{Reply}
 use Rattle.script_text.specs.declared.command.Command.TheVariants.{Query}
 use Rattle.word_list.specs.declared.request.Show.{Show}
 use Rattle.jps_run.specs.Answers.{AreAnswers, IsReplyLine}
-use Rattle.jps_run.specs.Counting.{CommandsTake, QueryTakes, RoseAtLeast, RoseBy, RoseForQuery}
+use Rattle.jps_run.specs.Counting.{CommandsTake, QueryTakes, RoseBy, RoseForQuery}
 use Rattle.jps_run.specs.Lines.{reply_line}
 use Rattle.jps_run.specs.Querying.{IsOneReply}
 use Rattle.jps_run.specs.Who.{Who, IsReplyBy, fewest_by, who_is}

@@ -1,6 +1,6 @@
 -- The rows of told walks.
 use Rattle.std.proofs.Common.{◌≡◌, refl, sym, ap, ◌∙◌, subst, List, [], ◌∷◌, ◌++◌, append_assoc, ℕ, zero, suc, ◌+◌, ◌^◌, ◌<◌, ◌≤◌, ◌&&◌, ◌||◌, length, length-append, drop, inl, inr, arith, true, false, Bool}
-use Rattle.std.specs.Prelude.{Option, Some, None, Result, Ok, Err, OnOk, Vec, slice_get, if◌then◌else◌, nat_eq, count_by}
+use Rattle.std.specs.Prelude.{Some, Result, Ok, Err, OnOk, Vec, slice_get, if◌then◌else◌, nat_eq, count_by}
 use Rattle.std.specs.Global.{Global}
 use Rattle.std.proofs.lemmas.Bool.Decides.{nat_tests}
 use Rattle.std.proofs.lemmas.List.{append-nil}

@@ -1,5 +1,5 @@
 -- The work on a call, from its files to its output.
-use Rattle.std.proofs.Common.{◌≡◌, refl, subst, ◌≤◌, ◌⊎◌, inl, inr, List, [], ◌∷◌, ℕ, true, arith}
+use Rattle.std.proofs.Common.{◌≡◌, subst, inl, inr, List, ◌∷◌, ℕ, arith}
 use Rattle.std.specs.Prelude.{None, Some, Option, Result, IsErrAnd}
 use Rattle.io_edge.specs.Told.{Disk, Held, Inflow, Outflow}
 use Rattle.edit_replay.specs.Session.{SessionData}

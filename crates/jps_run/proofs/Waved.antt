@@ -1,6 +1,6 @@
 -- The lines of costs.
 use Rattle.std.proofs.Common.{◌≡◌, ◌≤◌, ◌<◌, ◌+◌, zero, suc, refl, sym, ap, ◌∙◌, subst, List, [], ◌∷◌, ◌++◌, ℕ, Bool, true, false, inl, inr, map, append-nil, append_assoc, arith}
-use Rattle.std.specs.Prelude.{◌≢◌, ◌||◌, ◌&&◌, nat_lt, if◌then◌else◌, codes, OnOk, Option, None, Result, Ok, Err}
+use Rattle.std.specs.Prelude.{◌≢◌, ◌&&◌, nat_lt, if◌then◌else◌, codes, OnOk, Option, None, Result, Ok, Err}
 use Rattle.std.specs.Global.{Vec}
 use Rattle.std.proofs.lemmas.Bool.Decides.{nat_tests}
 use Rattle.std.proofs.lemmas.List.{map-append}
@@ -8,11 +8,11 @@ use Rattle.root2_cost.specs.declared.Cost.{Cost}
 use Rattle.cost_waves.specs.Begin.{IsCostTo}
 use Rattle.cost_waves.specs.Told.{Tells, WaveData, cost_at}
 use Rattle.grid_moves.specs.declared.Cell.{Cell}
-use Rattle.grid_moves.specs.Grid.{GridData, is_inside}
+use Rattle.grid_moves.specs.Grid.{GridData}
 use Rattle.grid_moves.specs.Layers.{Layers, is_free_ground, is_on_map, query_grid}
 use Rattle.jps_run.specs.Costing.{IsCostWork}
 use Rattle.jps_run.specs.Distances.{AreCostLines, AreCosts, IsCostLine, blocked, cost_field, costs_line, fields_to, more, none, told}
-use Rattle.jps_run.specs.Telling.{AreTold, HaveTold, cost_within, numbers_below, row_costs, told_line}
+use Rattle.jps_run.specs.Telling.{AreTold, HaveTold, numbers_below, row_costs, told_line}
 use Rattle.jps_run.specs.Working.{Adds, CanComplete, IsLeft}
 use Rattle.jps_run.specs.declared.costs.Distances.{Distances}
 use Rattle.jps_run.specs.declared.work.Work.TheVariants as work

@@ -1,5 +1,5 @@
 -- How those who answer are kept. No public clause cites this module.
-use Rattle.std.specs.Prelude.{◌≡◌, true, false, ⊤, List, []}
+use Rattle.std.specs.Prelude.{◌≡◌, true, false, ⊤, []}
 use Rattle.grid_moves.specs.declared.Cell.{Cell}
 use Rattle.grid_moves.specs.Layers.{Layers, in_one_layer}
 use Rattle.grid_moves.specs.Reply.{IsRight, are_free_ends}

@@ -1,5 +1,5 @@
 -- What `costs` prints.
-use Rattle.std.specs.Prelude.{◌≡◌, ℕ, zero, suc, ◌-◌, ◌<◌, ◌||◌, true, false, List, [], ◌∷◌, ◌++◌, codes, decimal, Option, Some, None, refl}
+use Rattle.std.specs.Prelude.{◌≡◌, ℕ, zero, suc, ◌-◌, ◌<◌, true, false, List, [], ◌∷◌, ◌++◌, codes, decimal, Option, Some, None, refl}
 use Rattle.root2_cost.specs.declared.Cost.{Cost}
 use Rattle.cost_waves.specs.Begin.{IsCostTo}
 use Rattle.grid_moves.specs.declared.Cell.{Cell}

@@ -4,7 +4,7 @@ use Rattle.root2_cost.specs.declared.Cost.{Cost}
 use Rattle.edit_replay.specs.declared.engine.Engine.TheVariants.{Block}
 use Rattle.edit_replay.specs.declared.reply.Reply.{Reply}
 use Rattle.edit_replay.specs.declared.reply.Reply.TheVariants as reply
-use Rattle.grid_moves.specs.Layers.{Layers, layers_of}
+use Rattle.grid_moves.specs.Layers.{layers_of}
 use Rattle.map_text.specs.Map.{Map}
 use Rattle.scen_text.specs.declared.entry.Entry.{Entry}
 use Rattle.word_list.specs.declared.request.Settings.{Settings}

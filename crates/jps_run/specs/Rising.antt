@@ -1,7 +1,6 @@
 -- How far the counter rose for what comes in. No public clause cites this module.
 use Rattle.std.specs.Prelude.{◌≡◌, ℕ, ◌++◌, List, length, Option, None}
 use Rattle.std.specs.Io.KnownBytes.{Consumes}
-use Rattle.script_text.specs.declared.command.Command.{Command}
 use Rattle.script_text.specs.declared.feeder.LineFeeder.{LineFeeder}
 use Rattle.script_text.specs.Fed.{HasTaken}
 use Rattle.script_text.specs.Feeding.{commands_so_far, commands_of, fault_of}

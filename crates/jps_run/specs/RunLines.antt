@@ -1,5 +1,5 @@
 -- What `moves` prints.
-use Rattle.std.specs.Prelude.{◌≡◌, ◌%◌, ◌/◌, true, false, ℕ, List, [], ◌∷◌, ◌++◌, codes, decimal, Option, Some, None, refl}
+use Rattle.std.specs.Prelude.{◌≡◌, ◌%◌, ◌/◌, true, false, ℕ, List, ◌++◌, codes, decimal, Option, Some, None, refl}
 use Rattle.first_moves.specs.declared.row.Run.{Run}
 use Rattle.first_moves.specs.Row.{IsRow}
 use Rattle.grid_moves.specs.declared.Cell.{Cell}

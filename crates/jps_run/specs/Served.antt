@@ -1,5 +1,5 @@
 -- How the work on a call ends. No public clause cites this module.
-use Rattle.std.specs.Prelude.{◌≡◌, ℕ, ◌≤◌, ◌⊎◌, true, List, [], None, Some, Result}
+use Rattle.std.specs.Prelude.{◌≡◌, ℕ, ◌≤◌, ◌⊎◌, true, [], None, Some, Result}
 use Rattle.io_edge.specs.Causes.{Rose}
 use Rattle.io_edge.specs.Told.{Disk, Inflow, Outflow}
 use Rattle.word_list.specs.Request.{Call}

@@ -3,8 +3,7 @@ use Rattle.std.specs.Prelude.{◌≡◌, ℕ, zero, suc, nat_lt, ◌&&◌, if◌
 use Rattle.root2_cost.specs.declared.Cost.{Cost}
 use Rattle.cost_waves.specs.Told.{WaveData, cost_at}
 use Rattle.grid_moves.specs.declared.Cell.{Cell}
-use Rattle.grid_moves.specs.Layers.{Layers}
-use Rattle.jps_run.specs.Distances.{AreCosts, costs_line}
+use Rattle.jps_run.specs.Distances.{costs_line}
 use Rattle.jps_run.specs.declared.costs.Distances.{Distances}
 
 -- the cost that is told of a cell, where it lies inside

@@ -1,4 +1,4 @@
-use Rattle.std.proofs.Common.{refl, subst, inl, [], ◌∷◌, ◌≤◌, arith}
+use Rattle.std.proofs.Common.{refl, subst, inl, [], ◌∷◌, arith}
 use Rattle.grid_moves.specs.Layers.{Layers}
 use Rattle.word_list.specs.Request.{Boxes}
 use Rattle.jps_run.specs.Calls.{call_with}

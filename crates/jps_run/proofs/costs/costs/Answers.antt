@@ -1,4 +1,4 @@
-use Rattle.std.proofs.Common.{refl, sym, subst, inl, List, [], ◌∷◌, ℕ, ◌≤◌, arith}
+use Rattle.std.proofs.Common.{refl, sym, subst, inl, [], ◌∷◌, ℕ, ◌≤◌, arith}
 use Rattle.grid_moves.specs.Layers.{Layers}
 use Rattle.word_list.specs.Request.{Costs}
 use Rattle.jps_run.specs.Distances.{AreCosts}

@@ -1,5 +1,4 @@
-use Rattle.std.proofs.Common.{length}
-use Rattle.jps_run.proofs.Refereed.{all-left, refereed-none, rulings-complete}
+use Rattle.jps_run.proofs.Refereed.{rulings-complete}
 use Rattle.jps_run.proofs.referee.write_rulings.Goals as goal
 
 pub work_items-requires-clause-completes : goal.work_items-requires-clause-completes

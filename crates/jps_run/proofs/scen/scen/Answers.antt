@@ -1,4 +1,4 @@
-use Rattle.std.proofs.Common.{◌≡◌, ◌∙◌, ◌≤◌, refl, sym, subst, inr, List, [], ◌∷◌, ℕ}
+use Rattle.std.proofs.Common.{◌≡◌, ◌∙◌, ◌≤◌, sym, subst, inr, List, [], ◌∷◌, ℕ}
 use Rattle.word_list.specs.Request.{Scen}
 use Rattle.jps_run.specs.Calls.{call_with}
 use Rattle.jps_run.specs.Outcome.{IsAnswered, judged}
