@@ -258,6 +258,13 @@ fn large(alloc: Global) -> Result<Vec<u8>, AllocError> {
 }
 
 // A large map is refused before anything of a second file, and a faulty one as such.
+fn check_large(alloc: Global, rt: &impl Abort, words: &[&str], map: &[u8]) -> Result<(), Fail> {
+    let large = on_map(words, map);
+    check(alloc, rt, large, 3, b"", b"jps: map large\n")?;
+    let faulty = on_map(words, b"");
+    check(alloc, rt, faulty, 3, b"", b"jps: map M1 line 1\n")
+}
+
 #[test]
 fn large_maps_are_refused(rt: HostRuntime) -> Result<(), Fail> {
     let alloc = rt.alloc();
@@ -271,16 +278,7 @@ fn large_maps_are_refused(rt: HostRuntime) -> Result<(), Fail> {
         &["moves", "m", "0", "0"],
     ];
     for words in calls {
-        let made = on_map(words, map.as_slice());
-        check(alloc, &rt, made, 3, b"", b"jps: map large\n")?;
-        check(
-            alloc,
-            &rt,
-            on_map(words, b""),
-            3,
-            b"",
-            b"jps: map M1 line 1\n",
-        )?;
+        check_large(alloc, &rt, words, map.as_slice())?;
     }
     let plain: [&str; 6] = ["query", "m", "0", "0", "1", "1"];
     let made = on_map(&plain, map.as_slice());
