@@ -20,11 +20,17 @@ use Rattle.word_list.specs.declared.request.Settings.{Settings}
 use Rattle.jps_run.specs.Answering as answering
 use Rattle.jps_run.specs.Answering.{GoesOn}
 use Rattle.jps_run.specs.Answers.{edits_with}
-use Rattle.jps_run.specs.Counting.{CommandTakes, CommandsTake, EntriesTake, EntryTakes, RoseBy, RoseFor, TakesAfter, drilled, judged, replied, solved}
+use Rattle.jps_run.specs.Answerers.{who_of}
+use Rattle.jps_run.specs.Counting.{CommandTakes, CommandsTake, EntryTakes, RoseAtLeast, RoseBy, RoseFor, RoseForQuery, TakesAfter, drilled, judged, replied, solved}
 use Rattle.jps_run.specs.Calls.{call_with}
-use Rattle.jps_run.specs.Reading.{IsMade, IsSessionOn}
+use Rattle.jps_run.specs.Reading.{IsMade}
 use Rattle.jps_run.specs.Judging as judging
-use Rattle.jps_run.specs.Session.{IsReply, session_after, session_on}
+use Rattle.jps_run.specs.Judging.{RoseForEntries}
+use Rattle.jps_run.specs.Session.{IsReply, IsSessionOn, session_after, who_on}
+use Rattle.jps_run.specs.Who.{Who, fewest_by}
+use Rattle.jps_run.specs.declared.answerer.Answerer.{Answerer}
+use Rattle.map_text.specs.Map.{Map}
+use Rattle.map_text.specs.Faults.{map_of}
 use Rattle.jps_run.specs.declared.answers.Answers.{Answers}
 use Rattle.jps_run.specs.declared.scenario.Judge.{Judge}
 use Rattle.jps_run.proofs.Solving.{after-more, nothing_edited}
@@ -43,8 +49,9 @@ rise start old new f counts n first then_more =
     rw all (omega arith)
 
 -- nothing is counted yet
-pub rose-none : (d : SessionData) (Takes : List ℕ → Type 0) (start : ℕ) → Takes [] → RoseBy d Takes start start
-rose-none d Takes start takes = record { counts = []; takes = takes; rose = omega arith }
+pub rose-none : (fewest : ℕ) (Takes : List ℕ → Type 0) (start : ℕ) → Takes []
+    → RoseAtLeast fewest Takes start start
+rose-none fewest Takes start takes = record { counts = []; takes = takes; rose = omega arith }
 
 -- one command more
 pub rose-more : (first now : SessionData) (commands : List Command) (command : Command) (start old new : ℕ)
@@ -64,14 +71,14 @@ rose-more first now commands command start old new session rose more =
     }
 
 -- one entry more
-pub rose-entry : (d : SessionData) (entries : List Entry) (entry : Entry) (start old new : ℕ)
-    → RoseBy d (EntriesTake d entries) start old → judging.TakesFor d entry old new
-    → RoseBy d (EntriesTake d (entries ++ entry ∷ [])) start new
-rose-entry d entries entry start old new rose more = record {
+pub rose-entry : (who : Who) (entries : List Entry) (entry : Entry) (start old new : ℕ)
+    → RoseForEntries who entries start old → judging.TakesFor who entry old new
+    → RoseForEntries who (entries ++ entry ∷ []) start new
+rose-entry who entries entry start old new rose more = record {
   counts = rose.counts ++ more.count ∷ [];
-  takes = turns-more {S = Unit {0}} (λ _ e n. EntryTakes d e n) (λ s _. s) tt entries rose.counts entry more.count
+  takes = turns-more {S = Unit {0}} (λ _ e n. EntryTakes who e n) (λ s _. s) tt entries rose.counts entry more.count
       rose.takes more.takes;
-  rose = rise start old new (fewest_of d.engine) rose.counts more.count rose.rose more.rose;
+  rose = rise start old new (fewest_by who.by) rose.counts more.count rose.rose more.rose;
 }
 
 -- an edit counts nothing
@@ -94,7 +101,7 @@ query-takes d command sx sy gx gy old new reply is right rose = record {
 -- of commands that answers are given to
 pub taken-none : (job : Answers) (start : ℕ) → answering.HaveTaken job job [] start start
 taken-none job start = record {
-  rose = rose-none job.session (CommandsTake job.session []) start tt;
+  rose = rose-none (fewest_of job.session.engine) (CommandsTake job.session []) start tt;
   session = nothing_edited job.session;
 }
 
@@ -114,49 +121,52 @@ taken-more (Ok done) job now command old new on more = λ first commands start h
 
 -- of entries that are judged
 pub judged-entry : {T E : Type 0} (result : Result T E) (job now : Judge) (entry : Entry) (old new : ℕ)
-    → now.session ≡ job.session → judging.TakesFor job.session entry old new
+    → now.answerer ≡ job.answerer → judging.TakesFor (who_of job.answerer) entry old new
     → OnOk result ((first : Judge) (entries : List Entry) (start : ℕ)
     → judging.HaveTaken first job entries start old
     → judging.HaveTaken first now (entries ++ entry ∷ []) start new)
 judged-entry (Err error) job now entry old new same more = tt
 judged-entry (Ok done) job now entry old new same more = λ first entries start h. record {
-  rose = rose-entry first.session entries entry start old new h.rose
-      (subst (λ (d : SessionData). judging.TakesFor d entry old new) h.same more);
+  rose = rose-entry (who_of first.answerer) entries entry start old new h.rose
+      (subst (λ (a : Answerer). judging.TakesFor (who_of a) entry old new) h.same more);
   same = same ∙ h.same;
 }
 
 -- the searches of a call, on the session that its words ask for
 pub drill-counted : (set : Settings) (seed : ℕ) (d : SessionData) (commands : List Command) (old new : ℕ)
-    → d ≡ session_on set (made_map seed 256 256 25) → commands ≡ drill_commands seed
+    → IsSessionOn set (made_map seed 256 256 25) d → commands ≡ drill_commands seed
     → RoseBy d (CommandsTake d commands) old new → RoseFor (call_with (Drill seed) set) [] old new
 drill-counted set seed d commands old new begun e rose =
-    let first : SessionData = session_on set (made_map seed 256 256 25) in
-    drilled seed set old new
-    (subst (λ (some : List Command). RoseBy first (CommandsTake first some) old new) e
-    (subst (λ (s : SessionData). RoseBy s (CommandsTake s commands) old new) begun rose))
+    drilled seed set old new (record {
+      session = d;
+      is = begun;
+      known = subst (λ (some : List Command). RoseBy d (CommandsTake d some) old new) e rose;
+    })
 
 pub query-counted : (map text : List ℕ) (tables : Option (List ℕ)) (loaded : List (List ℕ)) (sx sy gx gy : ℕ)
-    (set : Settings) (d : SessionData) (old new : ℕ)
-    → IsMade (IsSessionOn set) text d → RoseBy d (CommandsTake d (Query sx sy gx gy ∷ [])) old new
+    (set : Settings) (m : Map) (who : Who) (old new : ℕ)
+    → map_of text ≡ Ok m → who ≡ who_on set m
+    → RoseForQuery who (record { x = sx; y = sy }) (record { x = gx; y = gy }) old new
     → RoseFor (call_with (asked.Query map tables sx sy gx gy) set) (text ∷ loaded) old new
-query-counted map text tables loaded sx sy gx gy set d old new spelled rose =
-    replied map text tables loaded sx sy gx gy set spelled.map old new spelled.spelled
-    (subst (λ (s : SessionData). RoseBy s (CommandsTake s (Query sx sy gx gy ∷ [])) old new) spelled.is rose)
+query-counted map text tables loaded sx sy gx gy set m who old new spelled is rose =
+    replied map text tables loaded sx sy gx gy set m old new spelled
+    (subst (λ (w : Who). RoseForQuery w (record { x = sx; y = sy }) (record { x = gx; y = gy }) old new) is rose)
 
 pub solve-counted : (map script text second : List ℕ) (tables : Option (List ℕ)) (loaded : List (List ℕ))
     (set : Settings) (d : SessionData) (commands some : List Command) (old new : ℕ) → IsMade (IsSessionOn set) text d → script_of second ≡ Ok commands
     → some ≡ commands → RoseBy d (CommandsTake d some) old new
     → RoseFor (call_with (Solve map tables script) set) (text ∷ (loaded ++ second ∷ [])) old new
 solve-counted map script text second tables loaded set d commands some old new spelled script_spelled e rose =
-    solved map script text second tables loaded set spelled.map commands old new spelled.spelled script_spelled
-    (subst (λ (s : SessionData). RoseBy s (CommandsTake s commands) old new) spelled.is
-    (subst (λ (all : List Command). RoseBy d (CommandsTake d all) old new) e rose))
+    solved map script text second tables loaded set spelled.map commands old new spelled.spelled script_spelled (record {
+      session = d;
+      is = spelled.is;
+      known = subst (λ (all : List Command). RoseBy d (CommandsTake d all) old new) e rose;
+    })
 
 pub scen-counted : (map scen text second : List ℕ) (tables : Option (List ℕ)) (loaded : List (List ℕ))
-    (set : Settings) (d : SessionData) (entries some : List Entry) (old new : ℕ) → IsMade (IsSessionOn set) text d → scen_of second ≡ Ok entries
-    → some ≡ entries → RoseBy d (EntriesTake d some) old new
+    (set : Settings) (m : Map) (who : Who) (entries : List Entry) (old new : ℕ) → map_of text ≡ Ok m
+    → scen_of second ≡ Ok entries → who ≡ who_on set m → RoseForEntries who entries old new
     → RoseFor (call_with (Scen map tables scen) set) (text ∷ (loaded ++ second ∷ [])) old new
-scen-counted map scen text second tables loaded set d entries some old new spelled scen_spelled e rose =
-    judged map scen text second tables loaded set spelled.map entries old new spelled.spelled scen_spelled
-    (subst (λ (s : SessionData). RoseBy s (EntriesTake s entries) old new) spelled.is
-    (subst (λ (all : List Entry). RoseBy d (EntriesTake d all) old new) e rose))
+scen-counted map scen text second tables loaded set m who entries old new spelled scen_spelled is rose =
+    judged map scen text second tables loaded set m entries old new spelled scen_spelled
+    (subst (λ (w : Who). RoseForEntries w entries old new) is rose)

@@ -5,6 +5,7 @@ use Rattle.std.specs.List.{All, fold, sum_by}
 use Rattle.std.proofs.lemmas.List.{append-nil}
 use Rattle.std.proofs.lemmas.List.Elements.{All-push}
 use Rattle.std.proofs.lemmas.List.Sums.{count_by-le-length, sum_by-le}
+use Rattle.edit_replay.specs.Counting.{fewest_of}
 use Rattle.edit_replay.specs.Edited.{Edit, edit_at}
 use Rattle.edit_replay.specs.Session.{SessionData}
 use Rattle.map_maker.specs.Drill.{commands_of, drill_commands, words_in}
@@ -22,7 +23,7 @@ use Rattle.jps_run.specs.Drilling.{HasDrilled, HasRoom, HaveTaken, IsDrilled, Le
 use Rattle.jps_run.specs.Counting.{CommandsTake}
 use Rattle.jps_run.specs.Calls.{call_with}
 use Rattle.jps_run.specs.Outcome.{IsAnswered, drilled}
-use Rattle.jps_run.specs.Session.{reply_to_edit, session_after, session_on}
+use Rattle.jps_run.specs.Session.{IsSessionOn, reply_to_edit, session_after}
 use Rattle.jps_run.specs.Working.{Adds, CanComplete, HasRoomForOne}
 use Rattle.jps_run.specs.declared.drill.Finding.{Finding}
 use Rattle.jps_run.specs.declared.drill.Finding.TheVariants as finding
@@ -123,7 +124,7 @@ drilled-none job e = record { found = []; are = tt; summed = e; session = nothin
 
 pub taken-none : (job : Summary) (start : ℕ) → HaveTaken job job [] start start
 taken-none job start = record {
-  rose = rose-none job.session (CommandsTake job.session []) start tt;
+  rose = rose-none (fewest_of job.session.engine) (CommandsTake job.session []) start tt;
   session = nothing_edited job.session;
 }
 
@@ -196,14 +197,16 @@ few-commands seed commands e =
 
 -- the line of a drill is a right output of its call
 pub drill-right : (set : Settings) (seed : ℕ) (job : Summary) (commands : List Command)
-    → job.session ≡ session_on set (made_map seed 256 256 25) → commands ≡ drill_commands seed
+    → IsSessionOn set (made_map seed 256 256 25) job.session → commands ≡ drill_commands seed
     → (lines : List (List ℕ)) (status : ℕ) → IsDrilled job commands lines status
     → (status ≤ 1) × IsAnswered (call_with (asked.Drill seed) set) [] lines status
 drill-right set seed job commands begun e lines status h = (
   (let good : status ≡ 0 = h.good in omega arith),
   subst (λ (n : ℕ). IsAnswered (call_with (asked.Drill seed) set) [] lines n) (sym h.good)
       (subst (λ (l : List (List ℕ)). IsAnswered (call_with (asked.Drill seed) set) [] l 0) (sym h.all)
-      (drilled seed set h.found
-      (subst (λ (some : List Command). AreFindings (session_on set (made_map seed 256 256 25)) some h.found) e
-      (subst (λ (s : SessionData). AreFindings s commands h.found) begun h.are)))),
+      (drilled seed set h.found (record {
+        session = job.session;
+        is = begun;
+        known = subst (λ (some : List Command). AreFindings job.session some h.found) e h.are;
+      }))),
 )

@@ -42,6 +42,8 @@ module _ (words : List (List ℕ)) (holds : List ℕ → Held) (input : Option (
       accepted = h.accepted;
       read = h.read;
       spelled = h.spelled;
+      session = h.session;
+      answers = h.answers;
       known = h.known.stand;
     }
 

@@ -1,26 +1,37 @@
 -- The rows of entries.
 use Rattle.std.proofs.Common.{◌≡◌, refl, sym, ap, ◌∙◌, subst, List, [], ◌∷◌, ◌++◌, append_assoc, ℕ, suc, ◌+◌, ◌^◌, ◌<◌, length, length-append, arith, true, false, Bool}
-use Rattle.std.specs.Prelude.{◌≢◌, Result, Ok, Err, OnOk}
+use Rattle.std.specs.Prelude.{◌≢◌, ◌&&◌, nat_eq, Result, Ok, Err, OnOk}
+use Rattle.grid_moves.specs.Layers.{Layers}
 use Rattle.std.proofs.lemmas.List.{append-nil}
 use Rattle.scen_text.specs.declared.entry.Entry.{Entry}
+use Rattle.jps_run.specs.Answerers.{CanAnswer, who_of}
 use Rattle.jps_run.specs.Judging.{HasJudged, HasRoom, IsJudged}
 use Rattle.jps_run.specs.Rows.{has_sides, row_of, IsRow, scale, replied, row_line, row_lines, scen_status, sum_line}
-use Rattle.edit_replay.specs.Session.{SessionData}
 use Rattle.word_list.specs.declared.request.Show.{Show}
 use Rattle.jps_run.specs.Tally.{IsSmall, tally_of, sum_text}
+use Rattle.jps_run.specs.Who.{Who}
 use Rattle.jps_run.specs.Working.{Adds, CanComplete, HasRoomForOne}
+use Rattle.jps_run.specs.declared.answerer.Answerer.{Answerer}
 use Rattle.jps_run.specs.declared.row.Row.{Row}
 use Rattle.jps_run.specs.declared.row.Row.TheVariants as row
 use Rattle.jps_run.specs.declared.row.Tally.{Tally}
 use Rattle.jps_run.specs.declared.scenario.Judge.{Judge}
-use Rattle.jps_run.proofs.Existing.{reply_exists}
+use Rattle.jps_run.proofs.Existing.{answer_exists}
 use Rattle.jps_run.proofs.Turns.{turns-more, turns-all}
 
-abbrev Stands : SessionData → Unit {0} → Entry → Row → Type 0
-Stands d s entry r = IsRow d entry r
+abbrev Stands : Who → Unit {0} → Entry → Row → Type 0
+Stands who s entry r = IsRow who entry r
 
 abbrev stays : Unit {0} → Entry → Unit {0}
 stays s entry = s
+
+-- the sides were compared, and are the map's
+pub has-sides : (ls : Layers) (entry : Entry) (width height : ℕ) (same : Bool) → width ≡ ls.land.width
+    → height ≡ ls.land.height → same ≡ (nat_eq entry.w width && nat_eq entry.h height) → same ≡ true
+    → has_sides ls entry ≡ true
+has-sides ls entry width height same wide high is so =
+    subst (λ (n : ℕ). (nat_eq entry.w n && nat_eq entry.h ls.land.height) ≡ true) wide
+    (subst (λ (n : ℕ). (nat_eq entry.w width && nat_eq entry.h n) ≡ true) high (sym is ∙ so))
 
 row_lines-append : (show : Show) (number : ℕ) (some others : List Row)
     → row_lines show number (some ++ others)
@@ -36,20 +47,26 @@ row_lines-append show number (r ∷ some) others =
 -- one row more leaves room for one less
 pub room-more : {T E : Type 0} (result : Result T E) (job now : Judge) (r : Row) (room : HasRoomForOne (HasRoom job))
     → ((rows : List Row) → job.tally ≡ tally_of rows → now.tally ≡ tally_of (rows ++ r ∷ []))
-    → IsSmall now.tally → OnOk result ((n : ℕ) → HasRoom job (n + 1) → HasRoom now n)
-room-more (Err error) job now r room counts small = tt
-room-more (Ok done) job now r room counts small = λ n h.
+    → IsSmall now.tally → now.answerer ≡ job.answerer → OnOk result ((n : ℕ) → HasRoom job (n + 1) → HasRoom now n)
+room-more (Err error) job now r room counts small same = tt
+room-more (Ok done) job now r room counts small same = λ n h.
     let t = h.counts in
     let one : now.tally ≡ tally_of (t.rows ++ r ∷ []) = counts t.rows t.counted in
     let old : job.tally.rows ≡ length t.rows = ap (λ (t : Tally). t.rows) t.counted in
     let new : now.tally.rows ≡ length (t.rows ++ r ∷ []) = ap (λ (t : Tally). t.rows) one in
     let both : length (t.rows ++ r ∷ []) ≡ length t.rows + 1 = length-append t.rows (r ∷ []) in
     let few : job.tally.rows + (n + 1) < 2 ^ 64 = h.few in
-    record { counts = record { rows = t.rows ++ r ∷ []; counted = one }; small = small; few = omega arith }
+    record {
+      ready = subst (λ (a : Answerer). CanAnswer a) (sym same) h.ready;
+      counts = record { rows = t.rows ++ r ∷ []; counted = one };
+      small = small;
+      few = omega arith;
+    }
 
 -- one entry more has its row
 pub judged-more : {T E : Type 0} (result : Result T E) (job now : Judge) (entry : Entry) (r : Row)
-    (before after : List ℕ) → IsRow job.session entry r → now.session ≡ job.session → now.show ≡ job.show
+    (before after : List ℕ) → IsRow (who_of job.answerer) entry r → now.answerer ≡ job.answerer
+    → now.show ≡ job.show
     → ((rows : List Row) → job.tally ≡ tally_of rows → now.tally ≡ tally_of (rows ++ r ∷ []))
     → OnOk result (after ≡ before ++ row_line job.show now.tally.rows r)
     → OnOk result ((first : Judge) (entries : List Entry) (lines : List (List ℕ))
@@ -66,8 +83,9 @@ judged-more (Ok done) job now entry r before after is same shown counts w = λ f
       more = line job.show now.tally.rows ∷ [];
       stand = record {
         rows = h.rows ++ r ∷ [];
-        are = turns-more (Stands first.session) stays tt entries h.rows entry r h.are
-            (subst (λ (d : SessionData). IsRow d entry r) h.same is);
+        ready = h.ready;
+        are = turns-more (Stands (who_of first.answerer)) stays tt entries h.rows entry r h.are
+            (subst (λ (a : Answerer). IsRow (who_of a) entry r) h.same is);
         all = ap (λ (l : List (List ℕ)). l ++ line job.show now.tally.rows ∷ []) h.all
             ∙ ap (λ (show : Show). row_lines first.show 1 h.rows ++ line show now.tally.rows ∷ []) h.shown
             ∙ ap (λ k. row_lines first.show 1 h.rows ++ line first.show k ∷ []) place
@@ -98,13 +116,13 @@ judged-all job status before after w s first entries lines h = record {
 }
 
 -- every entry has a row
-row_exists : (d : SessionData) (s : Unit {0}) (entry : Entry) → (r : Row) × Stands d s entry r
-row_exists d s entry = by_sides (has_sides d entry) refl
+row_exists : (a : Answerer) → CanAnswer a → (s : Unit {0}) (entry : Entry) → (r : Row) × Stands (who_of a) s entry r
+row_exists a ready s entry = by_sides (has_sides (who_of a).layers entry) refl
   where
-    by_sides : (b : Bool) → has_sides d entry ≡ b → (r : Row) × IsRow d entry r
+    by_sides : (b : Bool) → has_sides (who_of a).layers entry ≡ b → (r : Row) × IsRow (who_of a) entry r
     by_sides false e = (row.Scale, scale e refl)
     by_sides true e =
-        let p = reply_exists d (record { x = entry.sx; y = entry.sy })
+        let p = answer_exists a ready (record { x = entry.sx; y = entry.sy })
         (record { x = entry.gx; y = entry.gy }) in
         (row_of entry.length p.0, replied p.0 e p.1 refl)
 
@@ -115,7 +133,8 @@ not-empty (l ∷ lines) line = λ e. (let never : l ∷ (lines ++ line ∷ []) �
 -- so the first rows can be completed
 pub rows-complete : CanComplete HasJudged IsJudged true
 rows-complete first now some others lines h =
-    let all = turns-all (Stands first.session) stays (row_exists first.session) tt some others h.rows h.are in
+    let all = turns-all (Stands (who_of first.answerer)) stays (row_exists first.answerer h.ready) tt some others h.rows
+    h.are in
     let rows : List Row = h.rows ++ all.0 in
     let rest : List (List ℕ) = row_lines first.show (1 + length h.rows) all.0 in
     let sum : List ℕ = sum_line first.show rows in
@@ -134,5 +153,6 @@ rows-complete first now some others lines h =
     }
 
 -- nothing is judged yet
-pub judged-none : (job : Judge) → job.tally ≡ tally_of [] → HasJudged job job [] []
-judged-none job e = record { rows = []; are = tt; all = refl; counted = e; same = refl; shown = refl }
+pub judged-none : (job : Judge) → CanAnswer job.answerer → job.tally ≡ tally_of [] → HasJudged job job [] []
+judged-none job ready e =
+    record { rows = []; ready = ready; are = tt; all = refl; counted = e; same = refl; shown = refl }

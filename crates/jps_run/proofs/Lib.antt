@@ -5,7 +5,9 @@ pub mod Turns
 pub mod Looping
 pub mod Drilling
 pub mod Unfolding
+pub mod Replying
 pub mod Existing
+pub mod Querying
 pub mod Solving
 pub mod Judgements
 pub mod Opening

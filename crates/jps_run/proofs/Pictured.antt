@@ -6,6 +6,7 @@ use Rattle.grid_moves.specs.declared.Cell.{Cell}
 use Rattle.grid_moves.specs.Layers.{is_on_map}
 use Rattle.map_text.specs.Map.{Map}
 use Rattle.map_text.specs.Faults.{plain}
+use Rattle.edit_replay.specs.Counting.{fewest_of}
 use Rattle.edit_replay.specs.Session.{SessionData}
 use Rattle.edit_replay.specs.declared.reply.Reply.{Reply}
 use Rattle.edit_replay.specs.declared.reply.Reply.TheVariants as reply
@@ -57,7 +58,7 @@ pub one_counted : {T E : Type 0} (result : Result T E) (d : SessionData) (comman
     → TakesFor d command old new → OnOk result (RoseBy d (CommandsTake d (command ∷ [])) old new)
 one_counted (Err error) d command old new takes = tt
 one_counted (Ok done) d command old new takes =
-    rose-more d d [] command old old new (nothing_edited d) (rose-none d (CommandsTake d []) old tt) takes
+    rose-more d d [] command old old new (nothing_edited d) (rose-none (fewest_of d.engine) (CommandsTake d []) old tt) takes
 
 -- for want of memory nothing of a picture was written
 pub nothing_drawn : (canvas : Canvas) (s t : Cell) (show : Show) (out : Outflow)
@@ -84,4 +85,4 @@ pub draw_counted : (map text : List ℕ) (sx sy gx gy : ℕ) (set : Settings) (c
     → RoseFor (call_with (asked.Draw map sx sy gx gy) set) (text ∷ []) old new
 draw_counted map text sx sy gx gy set canvas old new spelled rose =
     drawn map text sx sy gx gy set spelled.map old new spelled.spelled
-    (subst (λ (d : SessionData). RoseBy d (CommandsTake d (command.Query sx sy gx gy ∷ [])) old new) spelled.is.1 rose)
+    (record { session = canvas.session; is = spelled.is.1; known = rose })

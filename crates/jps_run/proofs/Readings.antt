@@ -9,7 +9,8 @@ use Rattle.map_text.specs.Map.{Map}
 use Rattle.edit_replay.specs.Session.{SessionData}
 use Rattle.edit_replay.specs.declared.engine.Engine.{Engine}
 use Rattle.word_list.specs.declared.request.Settings.{Settings}
-use Rattle.jps_run.specs.Session.{corner_of, engine_of, session_on}
+use Rattle.jps_run.specs.Session.{IsSessionOn, by_of, corner_of}
+use Rattle.jps_run.specs.Who.{By, Who, by_session, who_is}
 use Rattle.jps_run.specs.Files.{faulty}
 use Rattle.jps_run.specs.FaultLines.{large_line, map_line}
 use Rattle.jps_run.specs.Reading.{Reads, ReadsText, SpellsWithin}
@@ -41,17 +42,17 @@ file-read IsBehind Spells kind held text faults faults_now (Err stop.Memory) w r
 -- the session is that of the picked engine under the picked rule
 pub session-made : (d : SessionData) (set : Settings) (m : Map) (engine : Engine) (corner : Corner)
     → d ≡ record { engine = engine; layers = layers_of corner m.width m.height m.cells }
-    → engine ≡ engine_of set.pick → corner ≡ corner_of set.one → d ≡ session_on set m
+    → by_session engine ≡ by_of set.pick → corner ≡ corner_of set.one → IsSessionOn set m d
 session-made d set m engine corner is e k =
-    is
-    ∙ ap (λ (it : Engine). let s : SessionData = record {
-      engine = it;
+    ap who_is is
+    ∙ ap (λ (it : By). let w : Who = record {
       layers = layers_of corner m.width m.height m.cells;
-    } in s) e
-    ∙ ap (λ (it : Corner). let s : SessionData = record {
-      engine = engine_of set.pick;
+      by = it;
+    } in w) e
+    ∙ ap (λ (it : Corner). let w : Who = record {
       layers = layers_of it m.width m.height m.cells;
-    } in s) k
+      by = by_of set.pick;
+    } in w) k
 
 -- a map that is taken, one that is not, and a text that spells none
 pub map-taken : (extent : Extent) (text : List ℕ) (m : MapText) → map_of text ≡ Ok (plain m)

@@ -25,7 +25,8 @@ use Rattle.jps_run.specs.Opened.{HasRisen}
 use Rattle.jps_run.specs.declared.work.Work.{Work}
 use Rattle.jps_run.specs.declared.work.Work.TheVariants as work
 use Rattle.jps_run.specs.Refereeing.{IsReady, CanGoOn, HasRefereed, IsRefereed, cost_in, counts_of, sum_text}
-use Rattle.jps_run.specs.Rulings.{IsRuling, with_told, scale, outside, blocked, judged, goal_of, start_of, has_sides, is_refused, judge_status, ruling_line, ruling_lines, rulings_line}
+use Rattle.jps_run.specs.Rows.{has_sides}
+use Rattle.jps_run.specs.Rulings.{IsRuling, with_told, scale, outside, blocked, judged, goal_of, start_of, is_refused, judge_status, ruling_line, ruling_lines, rulings_line}
 use Rattle.jps_run.specs.Turns.{AreInTurn}
 use Rattle.jps_run.specs.Working.{Adds, CanComplete, HasRoomForOne}
 use Rattle.jps_run.specs.declared.referee.Court.{Court}

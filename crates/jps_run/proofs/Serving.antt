@@ -6,7 +6,6 @@ use Rattle.edit_replay.specs.Session.{SessionData}
 use Rattle.word_list.specs.Request.{Call}
 use Rattle.word_list.specs.declared.request.Show.{Show}
 use Rattle.jps_run.specs.Counting.{RoseForCall, none, read, some}
-use Rattle.jps_run.specs.Session.{session_on}
 use Rattle.jps_run.specs.Heard.{OnLive, WroteAll, WroteFirst, WroteLines, AnswerHeard, AnswerPending, AnswerTaken}
 use Rattle.jps_run.specs.Hearing.{Hears}
 use Rattle.jps_run.specs.Opened.{HasRisen, IsCounted, IsListener, IsWhole, IsWorkOn, open_stops}
@@ -34,7 +33,9 @@ on-live call holds job l Known k = record {
   accepted = l.on.accepted;
   read = l.on.read;
   spelled = l.on.spelled;
-  known = subst (λ (show : Show). Known (session_on l.on.settings l.on.read) show) l.on.known.1
+  session = l.on.session;
+  answers = l.on.answers;
+  known = subst (λ (show : Show). Known l.on.session show) l.on.known.1
       (subst (λ (d : SessionData). Known d job.show) l.on.known.0 k);
 }
 

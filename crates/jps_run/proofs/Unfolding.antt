@@ -6,8 +6,7 @@ use Rattle.grid_moves.specs.Points.{are_lined, is_lined, segment, steps_between,
 use Rattle.edit_replay.specs.declared.reply.Reply.{Reply}
 use Rattle.edit_replay.specs.declared.reply.Reply.TheVariants as reply
 use Rattle.jps_run.specs.Lines.{Unfolds}
-use Rattle.edit_replay.specs.Session.{SessionData}
-use Rattle.jps_run.specs.Session.{IsReply}
+use Rattle.jps_run.specs.Who.{Who, IsReplyBy}
 
 lined_from : (p : Cell) (points : List Cell) (cells : List Cell) → unfolded_from p points ≡ Some cells
     → is_lined (p ∷ points) ≡ true
@@ -38,9 +37,9 @@ lined (p ∷ points) cells h = by_rest (unfolded_from p points) refl h
     by_rest (Some cs) e h = lined_from p points cs e
 
 -- the points of a right reply unfold
-pub replied_unfolds : (d : SessionData) (s t : Cell) (r : Reply) → IsReply d s t r → Unfolds r
-replied_unfolds d s t reply.Outside is = tt
-replied_unfolds d s t reply.Blocked is = tt
-replied_unfolds d s t (reply.None taken) is = tt
-replied_unfolds d s t (reply.Walk points cost taken) is =
+pub replied_unfolds : (who : Who) (s t : Cell) (r : Reply) → IsReplyBy who s t r → Unfolds r
+replied_unfolds who s t reply.Outside is = tt
+replied_unfolds who s t reply.Blocked is = tt
+replied_unfolds who s t (reply.None taken) is = tt
+replied_unfolds who s t (reply.Walk points cost taken) is =
     lined points (s ∷ is.right.1.cells) is.right.1.unfolds

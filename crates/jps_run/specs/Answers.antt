@@ -9,8 +9,9 @@ use Rattle.script_text.specs.declared.command.Command.{Command}
 use Rattle.script_text.specs.declared.command.Command.TheVariants.{Block, Free, Flood, Query}
 use Rattle.word_list.specs.declared.request.Show.{Show}
 use Rattle.jps_run.specs.Lines.{reply_line, edit_line}
-use Rattle.jps_run.specs.Session.{IsReply, session_after, reply_to_edit, width_of}
+use Rattle.jps_run.specs.Session.{session_after, reply_to_edit}
 use Rattle.jps_run.specs.Turns.{AreInTurn}
+use Rattle.jps_run.specs.Who.{Who, who_is, IsReplyBy}
 
 -- the edits that a command makes
 abbrev pub edits_of : Command → List Edit
@@ -19,11 +20,11 @@ edits_of (Free x y) = edit_at x y Land ∷ []
 edits_of (Flood x y) = edit_at x y Water ∷ []
 edits_of (Query sx sy gx gy) = []
 
--- the line is that of a right reply to the query, which is that of the engine's run
-pub record IsReplyLine (d : SessionData) (show : Show) (s t : Cell) (line : List ℕ) : Type 0 where
+-- the line is that of a right reply to the query, which is come to as the one who answers does
+pub record IsReplyLine (who : Who) (show : Show) (s t : Cell) (line : List ℕ) : Type 0 where
   pub reply : Reply
-  pub is_reply : IsReply d s t reply
-  pub shown : line ≡ reply_line (width_of d) show reply
+  pub is_reply : IsReplyBy who s t reply
+  pub shown : line ≡ reply_line who.layers.land.width show reply
 
 -- the line answers the command
 abbrev pub IsAnswerLine : SessionData → Show → Command → List ℕ → Type 0
@@ -31,7 +32,7 @@ IsAnswerLine d show (Block x y) line = line ≡ edit_line (reply_to_edit d (edit
 IsAnswerLine d show (Free x y) line = line ≡ edit_line (reply_to_edit d (edit_at x y Land))
 IsAnswerLine d show (Flood x y) line = line ≡ edit_line (reply_to_edit d (edit_at x y Water))
 IsAnswerLine d show (Query sx sy gx gy) line =
-    IsReplyLine d show (record { x = sx; y = sy }) (record { x = gx; y = gy }) line
+    IsReplyLine (who_is d) show (record { x = sx; y = sy }) (record { x = gx; y = gy }) line
 
 -- the line answers the command on the map's session as these edits leave it
 abbrev pub AnswersAfter : SessionData → Show → List Edit → Command → List ℕ → Type 0

@@ -5,24 +5,30 @@ use Rattle.word_list.specs.Request.{Asked, Call, Help, Version, Query, Solve, Li
 use Rattle.word_list.specs.declared.request.Settings.{Settings}
 use Rattle.jps_run.specs.Files.{AreAccepted, File, file_of}
 use Rattle.jps_run.specs.Session.{corner_of}
+use Rattle.jps_run.specs.Kinds.{extent_for, kind_for}
+use Rattle.jps_run.specs.declared.kind.Kind.{Kind}
 use Rattle.jps_run.specs.declared.kind.Kind.TheVariants as kind
 
 -- a call by what is asked for and how
 abbrev pub call_with : Asked → Settings → Call
 call_with asked set = record { request = asked; settings = set }
 
--- the files of a session: that of its map, and the table file where one is named
-abbrev pub session_files : Settings → List ℕ → Option (List ℕ) → List File
-session_files set map None = file_of kind.Map map ∷ []
-session_files set map (Some tables) = file_of kind.Map map ∷ file_of (kind.Tables (corner_of set.one)) tables ∷ []
+-- the kind of the map where an engine of small maps may be picked
+abbrev pub map_kind : Settings → Kind
+map_kind set = kind_for (extent_for set.pick)
+
+-- the files that are read for whoever answers: that of the map, and the table file where one is named
+abbrev pub map_files : Settings → List ℕ → Option (List ℕ) → List File
+map_files set map None = file_of (map_kind set) map ∷ []
+map_files set map (Some tables) = file_of kind.Map map ∷ file_of (kind.Tables (corner_of set.one)) tables ∷ []
 
 -- the files of what is asked for, as the settings ask, in the order in which they are read
 abbrev asked_files : Settings → Asked → List File
 asked_files set Help = []
 asked_files set Version = []
-asked_files set (Query map tables sx sy gx gy) = session_files set map tables
-asked_files set (Solve map tables script) = session_files set map tables ++ file_of kind.Script script ∷ []
-asked_files set (Live map tables) = session_files set map tables
+asked_files set (Query map tables sx sy gx gy) = map_files set map tables
+asked_files set (Solve map tables script) = map_files set map tables ++ file_of kind.Script script ∷ []
+asked_files set (Live map tables) = map_files set map tables
 asked_files set (Judge map scen walks) =
     file_of kind.Map map ∷ file_of kind.Scen scen ∷ file_of kind.Walks walks ∷ []
 asked_files set (Prove map sx sy gx gy) = file_of kind.Map map ∷ []
@@ -34,7 +40,7 @@ asked_files set (Costs map x y) = file_of kind.Map map ∷ []
 asked_files set (Tables map) = file_of kind.Map map ∷ []
 asked_files set (Boxes map x y) = file_of kind.SmallMap map ∷ []
 asked_files set (Moves map x y) = file_of kind.SmallMap map ∷ []
-asked_files set (Scen map tables scen) = session_files set map tables ++ file_of kind.Scen scen ∷ []
+asked_files set (Scen map tables scen) = map_files set map tables ++ file_of kind.Scen scen ∷ []
 
 -- the files of a call
 abbrev pub files_of : Call → List File

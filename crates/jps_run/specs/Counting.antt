@@ -23,13 +23,14 @@ use Rattle.jps_run.specs.Heard.{IsHeard, IsTold, OnLive}
 use Rattle.jps_run.specs.Calls.{call_with, files_of}
 use Rattle.jps_run.specs.Outcome.{Spell}
 use Rattle.jps_run.specs.Rows.{has_sides}
-use Rattle.jps_run.specs.Session.{IsReply, session_after, session_on}
+use Rattle.jps_run.specs.Session.{OnSession, by_of, session_after, who_on}
 use Rattle.jps_run.specs.Turns.{AreInTurn}
+use Rattle.jps_run.specs.Who.{Who, who_is, IsReplyBy, fewest_by}
 
--- the search for a right reply to the query, by the engine's run, takes so many states away from the goal
-pub record QueryTakes (d : SessionData) (s t : Cell) (n : ℕ) : Type 0 where
+-- what comes to a right reply to the query takes so many states away from the goal
+pub record QueryTakes (who : Who) (s t : Cell) (n : ℕ) : Type 0 where
   pub reply : Reply
-  pub is_reply : IsReply d s t reply
+  pub is_reply : IsReplyBy who s t reply
   pub away : n ≡ states_away reply
 
 -- so many are taken for a command: for an edit none
@@ -38,7 +39,7 @@ CommandTakes d (command.Block x y) n = n ≡ 0
 CommandTakes d (command.Free x y) n = n ≡ 0
 CommandTakes d (command.Flood x y) n = n ≡ 0
 CommandTakes d (command.Query sx sy gx gy) n =
-    QueryTakes d (record { x = sx; y = sy }) (record { x = gx; y = gy }) n
+    QueryTakes (who_is d) (record { x = sx; y = sy }) (record { x = gx; y = gy }) n
 
 -- on the map's session as these edits leave it
 abbrev pub TakesAfter : SessionData → List Edit → Command → ℕ → Type 0
@@ -49,22 +50,32 @@ abbrev pub CommandsTake : SessionData → List Command → List ℕ → Type 0
 CommandsTake d commands counts = AreInTurn (TakesAfter d) edits_with [] commands counts
 
 -- for an entry of a scenario: none where it is not searched
-pub data EntryTakes (d : SessionData) (entry : Entry) (n : ℕ) : Type 0 where
-  unsearched : has_sides d entry ≡ false → n ≡ 0 → EntryTakes d entry n
-  searched : has_sides d entry ≡ true
-      → QueryTakes d (record { x = entry.sx; y = entry.sy }) (record { x = entry.gx; y = entry.gy }) n
-      → EntryTakes d entry n
+pub data EntryTakes (who : Who) (entry : Entry) (n : ℕ) : Type 0 where
+  unsearched : has_sides who.layers entry ≡ false → n ≡ 0 → EntryTakes who entry n
+  searched : has_sides who.layers entry ≡ true
+      → QueryTakes who (record { x = entry.sx; y = entry.sy }) (record { x = entry.gx; y = entry.gy }) n
+      → EntryTakes who entry n
 
 -- for each of the entries
-abbrev pub EntriesTake : SessionData → List Entry → List ℕ → Type 0
-EntriesTake d entries counts =
-    AreInTurn {S = Unit {0}} (λ _ entry n. EntryTakes d entry n) (λ s _. s) tt entries counts
+abbrev pub EntriesTake : Who → List Entry → List ℕ → Type 0
+EntriesTake who entries counts =
+    AreInTurn {S = Unit {0}} (λ _ entry n. EntryTakes who entry n) (λ s _. s) tt entries counts
 
--- the counter rose by at least the fewest steps of the session's engine for each state of these counts
-pub record RoseBy (d : SessionData) (Takes : List ℕ → Type 0) (old new : ℕ) : Type 0 where
+-- the counter rose by at least so many steps for each state of these counts
+pub record RoseAtLeast (fewest : ℕ) (Takes : List ℕ → Type 0) (old new : ℕ) : Type 0 where
   pub counts : List ℕ
   pub takes : Takes counts
-  pub rose : old + sum counts * fewest_of d.engine ≤ new
+  pub rose : old + sum counts * fewest ≤ new
+
+-- the counter rose by at least the fewest steps of the session's engine for each state of these counts
+abbrev pub RoseBy : SessionData → (List ℕ → Type 0) → ℕ → ℕ → Type 0
+RoseBy d Takes old new = RoseAtLeast (fewest_of d.engine) Takes old new
+
+-- the counter rose by at least the fewest steps of the one who answers for each state that the query takes
+pub record RoseForQuery (who : Who) (s t : Cell) (old new : ℕ) : Type 0 where
+  pub count : ℕ
+  pub takes : QueryTakes who s t count
+  pub rose : old + count * fewest_by who.by ≤ new
 
 -- whether anything is searched for what is asked
 abbrev pub searches : Asked → Bool
@@ -91,25 +102,24 @@ pub data RoseFor : Call → List (List ℕ) → ℕ → ℕ → Type 0 where
   replied : (map text : List ℕ) (tables : Option (List ℕ)) (loaded : List (List ℕ)) (sx sy gx gy : ℕ) (set : Settings)
       (m : Map) (old new : ℕ)
       → map_of text ≡ Ok m
-      → RoseBy (session_on set m) (CommandsTake (session_on set m) (command.Query sx sy gx gy ∷ [])) old new
+      → RoseForQuery (who_on set m) (record { x = sx; y = sy }) (record { x = gx; y = gy }) old new
       → RoseFor (call_with (Query map tables sx sy gx gy) set) (text ∷ loaded) old new
   solved : (map script text second : List ℕ) (tables : Option (List ℕ)) (loaded : List (List ℕ)) (set : Settings)
       (m : Map) (commands : List Command) (old new : ℕ)
       → map_of text ≡ Ok m → script_of second ≡ Ok commands
-      → RoseBy (session_on set m) (CommandsTake (session_on set m) commands) old new
+      → OnSession set m (λ d. RoseBy d (CommandsTake d commands) old new)
       → RoseFor (call_with (Solve map tables script) set) (text ∷ (loaded ++ second ∷ [])) old new
   judged : (map scen text second : List ℕ) (tables : Option (List ℕ)) (loaded : List (List ℕ)) (set : Settings)
       (m : Map) (entries : List Entry) (old new : ℕ)
       → map_of text ≡ Ok m → scen_of second ≡ Ok entries
-      → RoseBy (session_on set m) (EntriesTake (session_on set m) entries) old new
+      → RoseAtLeast (fewest_by (by_of set.pick)) (EntriesTake (who_on set m) entries) old new
       → RoseFor (call_with (Scen map tables scen) set) (text ∷ (loaded ++ second ∷ [])) old new
   drilled : (seed : ℕ) (set : Settings) (old new : ℕ)
-      → RoseBy (session_on set (made_map seed 256 256 25))
-      (CommandsTake (session_on set (made_map seed 256 256 25)) (drill_commands seed)) old new
+      → OnSession set (made_map seed 256 256 25) (λ d. RoseBy d (CommandsTake d (drill_commands seed)) old new)
       → RoseFor (call_with (Drill seed) set) [] old new
   drawn : (map text : List ℕ) (sx sy gx gy : ℕ) (set : Settings) (m : Map) (old new : ℕ)
       → map_of text ≡ Ok m
-      → RoseBy (session_on set m) (CommandsTake (session_on set m) (command.Query sx sy gx gy ∷ [])) old new
+      → OnSession set m (λ d. RoseBy d (CommandsTake d (command.Query sx sy gx gy ∷ [])) old new)
       → RoseFor (call_with (Draw map sx sy gx gy) set) (text ∷ []) old new
 
 -- it rose as the commands of the script make it that came in

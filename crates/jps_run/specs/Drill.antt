@@ -15,7 +15,7 @@ use Rattle.script_text.specs.declared.command.Command.{Command}
 use Rattle.script_text.specs.declared.command.Command.TheVariants.{Block, Free, Flood, Query}
 use Rattle.word_list.specs.declared.request.Settings.{Settings}
 use Rattle.jps_run.specs.Answers.{edits_with}
-use Rattle.jps_run.specs.Session.{IsReply, reply_to_edit, session_after, session_on}
+use Rattle.jps_run.specs.Session.{IsReply, OnSession, reply_to_edit, session_after}
 use Rattle.jps_run.specs.Turns.{AreInTurn}
 use Rattle.jps_run.specs.declared.drill.Finding.{Finding}
 use Rattle.jps_run.specs.declared.drill.Finding.TheVariants as finding
@@ -115,4 +115,5 @@ drill_line found =
 
 -- the commands of the seed come to these, on the map of the seed: 256 by 256, a quarter of it blocked
 abbrev pub AreDrilled : Settings → ℕ → List Finding → Type 0
-AreDrilled set seed found = AreFindings (session_on set (made_map seed 256 256 25)) (drill_commands seed) found
+AreDrilled set seed found =
+    OnSession set (made_map seed 256 256 25) (λ d. AreFindings d (drill_commands seed) found)

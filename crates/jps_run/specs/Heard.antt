@@ -19,7 +19,7 @@ use Rattle.jps_run.specs.Calls.{files_of}
 use Rattle.jps_run.specs.Files.{AreAccepted}
 use Rattle.jps_run.specs.Kinds.{limit_of}
 use Rattle.jps_run.specs.Sending.{Wrote}
-use Rattle.jps_run.specs.Session.{session_on}
+use Rattle.jps_run.specs.Session.{IsSessionOn}
 use Rattle.jps_run.specs.declared.kind.Kind.TheVariants as kind
 
 -- what is left to come in is this text, where it is told
@@ -91,7 +91,7 @@ pub record WroteLines (Stand : List (List ℕ) → Type 0) (before now : Outflow
   pub count : ℕ
   pub wrote : Wrote before now (concat (take count lines))
 
--- the call answers what comes in: each of its files is accepted, the map first, and of the session on the map this is known
+-- the call answers what comes in: each of its files is accepted, the map first, and of the session on it this is known
 pub record OnLive (call : Call) (holds : List ℕ → Held) (Known : SessionData → Show → Type 0) : Type 0 where
   pub map : List ℕ
   pub tables : Option (List ℕ)
@@ -102,7 +102,9 @@ pub record OnLive (call : Call) (holds : List ℕ → Held) (Known : SessionData
   pub accepted : AreAccepted holds [] (files_of call) (text ∷ behind)
   pub read : Map
   pub spelled : map_of text ≡ Ok read
-  pub known : Known (session_on settings read) settings.show
+  pub session : SessionData
+  pub answers : IsSessionOn settings read session
+  pub known : Known session settings.show
 
 -- the lines are the output of a call that answers what comes in, and this is the line of its refusal, if it is refused
 abbrev pub AreHeard : Call → (List ℕ → Held) → Option (List ℕ) → List (List ℕ) → Option (List ℕ) → Type 0

@@ -14,6 +14,8 @@ use Rattle.scen_text.specs.declared.entry.Entry.{Entry}
 use Rattle.scen_text.specs.declared.fault.ScenFault.{ScenFault}
 use Rattle.table_file.specs.Faults.{table_fault_of}
 use Rattle.walk_judge.specs.Walks.{walks_of}
+use Rattle.word_list.specs.declared.request.Pick.{Pick}
+use Rattle.word_list.specs.Settings.{is_for_small_maps}
 use Rattle.jps_run.specs.FaultLines.{cert_line, map_line, script_line, scen_line, walks_line, large_line, tables_line}
 use Rattle.jps_run.specs.declared.kind.Kind.{Kind}
 use Rattle.jps_run.specs.declared.kind.Kind.TheVariants.{Map, Script, Scen, Cert, Walks, SmallMap, Tables}
@@ -59,6 +61,10 @@ entries_in others = 0
 abbrev pub kind_for : Extent → Kind
 kind_for Any = Map
 kind_for Small = SmallMap
+
+-- the maps that the picked engine takes
+abbrev pub extent_for : Pick → Extent
+extent_for pick = if is_for_small_maps pick then Small else Any
 
 -- whether a map is one of them: the small ones have at most 2^14 cells
 abbrev pub takes : Extent → maps.Map → Bool

@@ -4,6 +4,7 @@ pub mod Turns
 pub mod FaultLines
 pub mod Kinds
 pub mod Files
+pub mod Who
 pub mod Session
 pub mod Reading
 pub mod Lines
@@ -18,6 +19,8 @@ pub mod Ending
 pub mod Opened
 pub mod Served
 pub mod Hearing
+pub mod Answerers
+pub mod Querying
 pub mod Working
 pub mod Answering
 pub mod Rising

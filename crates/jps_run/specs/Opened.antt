@@ -3,13 +3,14 @@ use Rattle.std.specs.Prelude.{◌≡◌, ℕ, ◌≤◌, ◌^◌, ◌⊎◌, tru
 use Rattle.io_edge.specs.Told.{Disk, Held}
 use Rattle.script_text.specs.declared.command.Command.TheVariants as command
 use Rattle.word_list.specs.Request.{Call}
+use Rattle.jps_run.specs.Answerers.{CanAnswer, who_of}
 use Rattle.jps_run.specs.Answering.{IsSolved}
-use Rattle.jps_run.specs.Counting.{CommandsTake, EntriesTake, RoseBy, RoseFor, searches}
+use Rattle.jps_run.specs.Counting.{CommandsTake, RoseBy, RoseFor, searches}
 use Rattle.jps_run.specs.Drilling.{IsDrilled, sums_of}
 use Rattle.jps_run.specs.Encoded.{IsEncoded}
 use Rattle.jps_run.specs.Files.{AreAccepted, File, FileRose, HasRefused}
 use Rattle.jps_run.specs.Heard.{OnLive}
-use Rattle.jps_run.specs.Judging.{IsJudged}
+use Rattle.jps_run.specs.Judging.{IsJudged, RoseForEntries}
 use Rattle.jps_run.specs.Calls.{files_of, reads_input}
 use Rattle.jps_run.specs.Outcome.{IsAnswered}
 use Rattle.jps_run.specs.Pictures.{IsPictured}
@@ -29,8 +30,8 @@ use Rattle.jps_run.specs.declared.work.Work.TheVariants as work
 -- the whole output of the work, and the status
 abbrev pub IsWhole : Work → List (List ℕ) → ℕ → Type 0
 IsWhole (work.Answer job commands) = IsSolved job commands.items
-IsWhole (work.Judge session show entries) =
-    IsJudged (record { session = session; show = show; tally = tally_of [] }) entries.items
+IsWhole (work.Judge answerer show entries) =
+    IsJudged (record { answerer = answerer; show = show; tally = tally_of [] }) entries.items
 IsWhole (work.Referee job entries) = IsRefereed job entries.items
 IsWhole (work.Drill session commands) = IsDrilled (record { session = session; sums = sums_of [] }) commands.items
 IsWhole (work.Draw canvas ends show) =
@@ -43,21 +44,21 @@ IsWhole (work.Say text) = IsText text.now 0
 -- the counter rose as the searches of the work make it
 abbrev pub HasRisen : Work → ℕ → ℕ → Type 0
 HasRisen (work.Answer job commands) old new = RoseBy job.session (CommandsTake job.session commands.items) old new
-HasRisen (work.Judge session show entries) old new = RoseBy session (EntriesTake session entries.items) old new
+HasRisen (work.Judge answerer show entries) old new = RoseForEntries (who_of answerer) entries.items old new
 HasRisen (work.Referee job entries) old new = ⊤
 HasRisen (work.Drill session commands) old new = RoseBy session (CommandsTake session commands.items) old new
 HasRisen (work.Draw canvas ends show) old new = RoseBy canvas.session
     (CommandsTake canvas.session (command.Query ends.sx ends.sy ends.gx ends.gy ∷ [])) old new
 HasRisen (work.Tell job rows) old new = ⊤
 HasRisen (work.Encode file) old new = ⊤
-HasRisen (work.Print text status) old new = ⊤
+HasRisen (work.Print text status) old new = old ≤ new
 HasRisen (work.Say text) old new = ⊤
 
--- the work can be done: the lengths of entries can be judged, the sums of a drill have room, and so has a piece of a
--- table file
+-- the work can be done: queries can be answered, the lengths of entries can be judged, the sums of a drill have room, and
+-- so has a piece of a table file
 abbrev pub CanPerform : Work → Type 0
 CanPerform (work.Answer job commands) = ⊤
-CanPerform (work.Judge session show entries) = AreKept entries.items
+CanPerform (work.Judge answerer show entries) = CanAnswer answerer × AreKept entries.items
 CanPerform (work.Referee job entries) = IsReady job (length entries.items)
 CanPerform (work.Drill session commands) = length commands.items ≤ 2 ^ 32
 CanPerform (work.Draw canvas ends show) = ⊤

@@ -10,7 +10,7 @@ use Rattle.picture.specs.Picture.{picture_of}
 use Rattle.word_list.specs.declared.request.Settings.{Settings}
 use Rattle.word_list.specs.declared.request.Show.{Show}
 use Rattle.word_list.specs.declared.request.Show.TheVariants.{Points, Cells, Trace, Taken}
-use Rattle.jps_run.specs.Session.{IsReply, session_on}
+use Rattle.jps_run.specs.Session.{IsReply, IsSessionOn}
 use Rattle.jps_run.specs.declared.draw.Canvas.{Canvas}
 
 -- the states that a search took, where a picture shows them
@@ -52,4 +52,4 @@ pub record IsPictured (canvas : Canvas) (s t : Cell) (show : Show) (lines : List
 
 -- a map, and the session on it, as the settings ask
 abbrev pub IsCanvasOf : Settings → Map → Canvas → Type 0
-IsCanvasOf set m canvas = (plain canvas.map ≡ m) × (canvas.session ≡ session_on set m)
+IsCanvasOf set m canvas = (plain canvas.map ≡ m) × IsSessionOn set m canvas.session

@@ -9,15 +9,14 @@ use Rattle.script_text.specs.declared.command.Command.{Command}
 use Rattle.scen_text.specs.Faults.{scen_of}
 use Rattle.scen_text.specs.Lengths.{IsKept}
 use Rattle.scen_text.specs.declared.entry.Entry.{Entry}
-use Rattle.edit_replay.specs.Session.{SessionData}
 use Rattle.potential_check.specs.Text.{certificate_of, plain as claimed_by}
 use Rattle.potential_check.specs.declared.certificate.Certificate.{Certificate}
-use Rattle.grid_moves.specs.Layers.{Layers, layers_of}
+use Rattle.grid_moves.specs.Layers.{Layers}
 use Rattle.walk_judge.specs.Telling.{IsFit}
 use Rattle.walk_judge.specs.Walks.{walks_of}
 use Rattle.walk_judge.specs.declared.telling.Told.{Told}
 use Rattle.word_list.specs.declared.request.Settings.{Settings}
-use Rattle.jps_run.specs.Session.{corner_of, session_on}
+use Rattle.jps_run.specs.Session.{layers_on}
 use Rattle.std.specs.Prelude.{None, ⊤, Result}
 use Rattle.io_edge.specs.Causes.{Rose}
 use Rattle.io_edge.specs.Told.{Held}
@@ -77,13 +76,9 @@ pub record IsMade {X : Type 0} (IsOf : Map → X → Type 0) (text : List ℕ) (
   pub spelled : map_of text ≡ Ok map
   pub is : IsOf map made
 
--- the session on a map, as the settings ask
-abbrev pub IsSessionOn : Settings → Map → SessionData → Type 0
-IsSessionOn set m d = d ≡ session_on set m
-
 -- the layers of a map under the rule of the settings
 abbrev pub AreLayersOf : Settings → Map → Layers → Type 0
-AreLayersOf set m ls = ls ≡ layers_of (corner_of set.one) m.width m.height m.cells
+AreLayersOf set m ls = ls ≡ layers_on set m
 
 -- both grids have at most 2^14 cells
 pub record AreSmall (ls : Layers) : Type 0 where
@@ -114,21 +109,22 @@ pub record AreTablesOn (ls : Layers) (tables : MapTables) : Type 0 where
 abbrev pub AreMapTables : Corner → Map → MapTables → Type 0
 AreMapTables corner map tables = AreTablesOn (layers_of corner map.width map.height map.cells) tables
 
--- the files hold the texts of a map and, where one is named, of its table file, and this is the session on the map
-pub record IsSessionOf (set : Settings) (holds : List ℕ → Held) (files : List File) (d : SessionData) : Type 0 where
+-- the files hold the texts of a map and, where one is named, of its table file, and this was made of the map
+pub record IsMadeOf {X : Type 0} (IsOf : Map → X → Type 0) (holds : List ℕ → Held) (files : List File) (made : X)
+    : Type 0 where
   pub text : List ℕ
   pub loaded : List (List ℕ)
   pub accepted : AreAccepted holds [] files (text ∷ loaded)
-  pub made : IsMade (IsSessionOn set) text d
+  pub is : IsMade IsOf text made
 
 -- so they do, and one file more was read as a value: it holds a text that is accepted behind these
-pub record IsSessionAnd {Y : Type 0} (set : Settings) (SpellsMore : List ℕ → Y → Type 0) (holds : List ℕ → Held)
-    (files : List File) (second : File) (values : SessionData × Y) : Type 0 where
+pub record IsMadeAnd {X Y : Type 0} (IsOf : Map → X → Type 0) (SpellsMore : List ℕ → Y → Type 0)
+    (holds : List ℕ → Held) (files : List File) (second : File) (values : X × Y) : Type 0 where
   pub text : List ℕ
   pub loaded : List (List ℕ)
   pub more : List ℕ
   pub accepted : AreAccepted holds [] (files ++ second ∷ []) (text ∷ (loaded ++ more ∷ []))
-  pub made : IsMade (IsSessionOn set) text values.0
+  pub is : IsMade IsOf text values.0
   pub spelled_more : SpellsMore more values.1
 
 -- the map and one file more were read as these values: the files hold these texts, the second one accepted behind the first

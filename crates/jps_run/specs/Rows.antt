@@ -10,15 +10,15 @@ use Rattle.edit_replay.specs.declared.reply.Reply.TheVariants as reply
 use Rattle.scen_text.specs.declared.entry.Entry.{Entry}
 use Rattle.word_list.specs.declared.request.Show.{Show}
 use Rattle.word_list.specs.declared.request.Show.TheVariants.{Points, Cells, Trace, Taken}
-use Rattle.edit_replay.specs.Session.{SessionData}
-use Rattle.jps_run.specs.Session.{IsReply, width_of, height_of}
+use Rattle.grid_moves.specs.Layers.{Layers}
 use Rattle.jps_run.specs.Turns.{AreInTurn}
+use Rattle.jps_run.specs.Who.{Who, IsReplyBy}
 use Rattle.jps_run.specs.declared.row.Row.{Row}
 use Rattle.jps_run.specs.declared.row.Row.TheVariants as row
 
 -- the entry is meant for a map of these sides
-abbrev pub has_sides : SessionData → Entry → Bool
-has_sides d entry = nat_eq entry.w (width_of d) && nat_eq entry.h (height_of d)
+abbrev pub has_sides : Layers → Entry → Bool
+has_sides ls entry = nat_eq entry.w ls.land.width && nat_eq entry.h ls.land.height
 
 -- what a reply makes of an entry with this length
 abbrev pub row_of : Decimal → Reply → Row
@@ -28,15 +28,15 @@ row_of listed (reply.None taken) = row.None (length taken)
 row_of listed (reply.Walk points cost taken) = row.Judged (verdict_of listed cost) cost (length taken)
 
 -- the row of an entry: of another size, or what a right reply to its query makes of it
-pub data IsRow (d : SessionData) (entry : Entry) (r : Row) : Type 0 where
-  scale : has_sides d entry ≡ false → r ≡ row.Scale → IsRow d entry r
-  replied : (reply : Reply) → has_sides d entry ≡ true
-      → IsReply d (record { x = entry.sx; y = entry.sy }) (record { x = entry.gx; y = entry.gy }) reply
-      → r ≡ row_of entry.length reply → IsRow d entry r
+pub data IsRow (who : Who) (entry : Entry) (r : Row) : Type 0 where
+  scale : has_sides who.layers entry ≡ false → r ≡ row.Scale → IsRow who entry r
+  replied : (reply : Reply) → has_sides who.layers entry ≡ true
+      → IsReplyBy who (record { x = entry.sx; y = entry.sy }) (record { x = entry.gx; y = entry.gy }) reply
+      → r ≡ row_of entry.length reply → IsRow who entry r
 
--- one row for each entry
-abbrev pub AreRows : SessionData → List Entry → List Row → Type 0
-AreRows d entries rows = AreInTurn {S = Unit {0}} (λ _ entry r. IsRow d entry r) (λ s _. s) tt entries rows
+-- one row for each entry, by the one who answers
+abbrev pub AreRows : Who → List Entry → List Row → Type 0
+AreRows who entries rows = AreInTurn {S = Unit {0}} (λ _ entry r. IsRow who entry r) (λ s _. s) tt entries rows
 
 -- a verdict's word
 abbrev pub verdict_text : Verdict → List ℕ

@@ -1,5 +1,5 @@
 -- The rows that judge what another program tells of a scenario's entries.
-use Rattle.std.specs.Prelude.{◌≡◌, ℕ, ◌+◌, Bool, true, false, nat_eq, ◌&&◌, if◌then◌else◌, List, [], ◌∷◌, ◌++◌, length, codes, decimal, count_by}
+use Rattle.std.specs.Prelude.{◌≡◌, ℕ, ◌+◌, Bool, true, false, nat_eq, if◌then◌else◌, List, [], ◌∷◌, ◌++◌, length, codes, decimal, count_by}
 use Rattle.root2_cost.specs.declared.Cost.{Cost}
 use Rattle.grid_moves.specs.declared.Cell.{Cell}
 use Rattle.grid_moves.specs.Layers.{Layers, query_grid}
@@ -10,6 +10,7 @@ use Rattle.walk_judge.specs.declared.judging.Judged.{Judged}
 use Rattle.walk_judge.specs.declared.judging.Judged.TheVariants.{Least, NoWalk, BadWalk, Longer, Exists}
 use Rattle.walk_judge.specs.declared.telling.Told.{Told}
 use Rattle.walk_judge.specs.Judgement.{IsJudgement}
+use Rattle.jps_run.specs.Rows.{has_sides}
 use Rattle.jps_run.specs.Turns.{AreInTurn}
 use Rattle.jps_run.specs.declared.ruling.Ruling.{Ruling}
 use Rattle.jps_run.specs.declared.ruling.Ruling.TheVariants as ruling
@@ -26,10 +27,6 @@ start_of entry = record { x = entry.sx; y = entry.sy }
 
 abbrev pub goal_of : Entry → Cell
 goal_of entry = record { x = entry.gx; y = entry.gy }
-
--- the entry is meant for a map of these sides
-abbrev pub has_sides : Layers → Entry → Bool
-has_sides ls entry = nat_eq entry.w ls.land.width && nat_eq entry.h ls.land.height
 
 -- the row of an entry and of what is told of it: the entry is meant for another size; or an end lies outside, or
 -- is blocked; else what is told is judged so on the grid of the query

@@ -13,6 +13,7 @@ ghost use Rattle.jps_run.specs.Opened.{OpensWork};
 ghost use Rattle.jps_run.specs.Calls.{call_with};
 ghost use Rattle.jps_run.specs.Pictures as spec;
 ghost use Rattle.jps_run.specs.Sending.{SendsWhole};
+ghost use Rattle.jps_run.specs.Session.{PicksSession};
 
 use crate::NoMemory;
 use crate::files::{OfMap, corner_of, engine_of, open_one};
@@ -41,9 +42,12 @@ pub(crate) struct Canvas {
 
 impl OfMap for Canvas {
     ghost use Rattle.jps_run.specs.Pictures.{IsCanvasOf};
+    ghost use Rattle.jps_run.specs.Session.{PicksSession};
     ghost use Rattle.jps_run.specs.declared.kind.Extent.TheVariants.{Any};
 
     ghost extent_of = { λ _. Any };
+
+    ghost serves = { PicksSession };
 
     ghost is_of_map = { IsCanvasOf };
 
@@ -185,6 +189,7 @@ pub(crate) fn draw<F: Files>(
     ends: Ends,
     settings: Settings,
 ) -> Result<Work, Stop>
+    requires { PicksSession settings }
     ensures opened { OpensWork (call_with (asked.Draw map.now ends.sx ends.sy ends.gx ends.gy) settings)
         (F.disk files.old) (F.disk files.new) result }
     ensures unchanged { (F.disk files.new).holds ≡ (F.disk files.old).holds }

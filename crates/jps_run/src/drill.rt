@@ -12,6 +12,7 @@ ghost use Rattle.jps_run.specs.Drilling.{HasRoom, IsDrilled, sums_of, sums_text}
 ghost use Rattle.jps_run.specs.Opened.{IsWorkOf};
 ghost use Rattle.jps_run.specs.Calls.{call_with};
 ghost use Rattle.jps_run.specs.Sending.{SendsWhole};
+ghost use Rattle.jps_run.specs.Session.{PicksSession};
 
 use crate::NoMemory;
 use crate::files::OfMap;
@@ -262,6 +263,7 @@ pub(crate) fn write_sums<O: Sink, L: Ledger>(
 
 /// Makes the session and the commands of a seed.
 pub(crate) fn drill(alloc: Global, seed: u64, settings: Settings) -> Result<Work, NoMemory>
+    requires { PicksSession settings }
     ensures { IfOk result (IsWorkOf (call_with (asked.Drill seed) settings) []) }
 {
     let map = map_maker::make(alloc, seed, SIDE, SIDE, PERCENT)?;

@@ -1,12 +1,14 @@
 //! The texts that files hold, and the sessions on maps.
 
-ghost use Rattle.std.specs.Prelude.{true, ◌≡◌, ◌≤◌, ℕ, List, [], ◌∷◌, Ok, IfOk, length};
+ghost use Rattle.std.specs.Prelude.{true, false, ◌≡◌, ◌≤◌, ℕ, List, [], ◌∷◌, Ok, IfOk, length};
 ghost use Rattle.io_edge.specs.Causes.{NoneFell};
 ghost use Rattle.io_edge.specs.Whole.{IsWhole, IsLonger};
 ghost use Rattle.jps_run.specs.FaultLines.{long_line as line_of_long};
 ghost use Rattle.jps_run.specs.Reading.{AreBothRead, IsFirst, IsMade, IsRead, Reads, ReadsText, read_stops};
 ghost use Rattle.jps_run.specs.Kinds.{kind_for, kind_word, limit_of};
 ghost use Rattle.jps_run.specs.Session as spec;
+ghost use Rattle.jps_run.specs.Who.{by_session};
+ghost use Rattle.word_list.specs.Settings.{is_for_small_maps};
 ghost use Rattle.jps_run.specs.Files.{file_of};
 ghost use Rattle.jps_run.specs.Opened.{open_stops};
 ghost use Rattle.map_text.specs.Faults.{plain};
@@ -223,18 +225,17 @@ pub(crate) fn read_file<F: Files, T: Text>(
     T::of_text(alloc, text.as_slice(), context)
 }
 
-/// The engine that is picked.
+/// The picked engine, where sessions have it.
 pub(crate) fn engine_of(pick: Pick) -> Engine
-    ensures { result ≡ spec.engine_of pick }
+    requires { is_for_small_maps pick ≡ false }
+    ensures { by_session result ≡ spec.by_of pick }
 {
     match pick {
         Pick::Plain => Engine::Plain,
         Pick::Jps => Engine::Jps,
         Pick::Block => Engine::Block,
         Pick::Plus => Engine::Plus,
-        // No session meets these: they answer by no search of its kind.
-        Pick::Boxes => Engine::Plain,
-        Pick::Moves => Engine::Plain,
+        Pick::Boxes | Pick::Moves => unreachable!(),
     }
 }
 
@@ -255,6 +256,9 @@ pub(crate) trait OfMap: Drop + Sized {
     // the maps of which it is made
     ghost extent_of: { Settings → Extent };
 
+    // it can be made as the settings ask
+    ghost serves: { Settings → Type 0 };
+
     ghost is_of_map: { Settings → Map → Self → Type 0 };
 
     /// The maps of which it is made, as the settings ask.
@@ -263,15 +267,18 @@ pub(crate) trait OfMap: Drop + Sized {
 
     /// The value of the map.
     fn of_map(alloc: Global, map: MapText, settings: Settings) -> Result<Self, NoMemory>
-        requires { takes (extent_of settings) (plain map) ≡ true }
+        requires serves { serves settings }
+        requires taken { takes (extent_of settings) (plain map) ≡ true }
         ensures { IfOk result (is_of_map settings (plain map)) };
 }
 
 impl OfMap for Session {
-    ghost use Rattle.jps_run.specs.Reading.{IsSessionOn};
+    ghost use Rattle.jps_run.specs.Session.{IsSessionOn, PicksSession};
     ghost use Rattle.jps_run.specs.declared.kind.Extent.TheVariants.{Any};
 
     ghost extent_of = { λ _. Any };
+
+    ghost serves = { PicksSession };
 
     ghost is_of_map = { IsSessionOn };
 
@@ -296,6 +303,7 @@ pub(crate) fn read_map_file<F: Files, M: OfMap>(
     name: &str,
     settings: Settings,
 ) -> Result<M, Stop>
+    requires { M.serves settings }
     ensures read { Reads IsFirst (IsMade (M.is_of_map settings)) (kind_for (M.extent_of settings)) ((F.disk files.old).holds name.now)
         ((F.disk files.old).faults name.now) ((F.disk files.new).faults name.now) result }
     ensures unchanged { (F.disk files.new).holds ≡ (F.disk files.old).holds }
@@ -314,6 +322,7 @@ pub(crate) fn open_one<F: Files, M: OfMap>(
     map: &str,
     settings: Settings,
 ) -> Result<M, Stop>
+    requires { M.serves settings }
     ensures read { Ends (IsRead (IsMade (M.is_of_map settings)) [] (kind_for (M.extent_of settings))
         ((F.disk files.old).holds map.now))
         (open_stops (F.disk files.old) (F.disk files.new) (file_of (kind_for (M.extent_of settings)) map.now ∷ []))
@@ -335,6 +344,7 @@ pub(crate) fn open_two<F: Files, M: OfMap, T: Text>(
     second: &str,
     context: &T::Context,
 ) -> Result<(M, T), Stop>
+    requires serves { M.serves settings }
     requires behind { (text : List ℕ) → T.is_behind context.now (text ∷ []) }
     ensures read { Ends (AreBothRead (IsMade (M.is_of_map settings)) (T.spells context.now) (F.disk files.old).holds
         (file_of (kind_for (M.extent_of settings)) map.now) (file_of (T.kind_of_text context.now) second.now))

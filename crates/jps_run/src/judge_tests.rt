@@ -68,6 +68,23 @@ fn told_walks_are_judged_row_by_row(rt: HostRuntime) -> Result<(), Fail> {
     check_told(alloc, &rt, misspelt, 3, b"", b"jps: walks K1 line 3\n")
 }
 
+// On the map `.WW/.W@`: entries of another size, with an end outside, with a blocked end, with ends apart, and with
+// a told walk between ends apart.
+#[test]
+fn rows_that_need_no_walk_are_told(rt: HostRuntime) -> Result<(), Fail> {
+    let alloc = rt.alloc();
+    let cove = b"type octile\nheight 2\nwidth 3\nmap\n.WW\n.W@\n";
+    let entries = b"version 1\n0 m 3 3 0 0 2 1 1\n0 m 3 2 0 0 3 0 1\n0 m 3 2 0 0 2 1 1\n\
+        0 m 3 2 1 0 0 0 1\n0 m 3 2 0 0 1 0 1\n";
+    let told = b"none\n0,0 1,0\n0,0 2,1\nnone\n0,0 1,0\n";
+    let rows =
+        b"row 1 scale\nrow 2 outside\nrow 3 blocked\nrow 4 accepted none\nrow 5 refused walk 1\n\
+        sum 5 accepted 1 refused 1 other 3\n";
+    let words: [&str; 4] = ["judge", "m", "s", "w"];
+    let files = three_files(alloc, cove, entries, told)?;
+    check_files(alloc, &rt, &words, files, 0, 1, rows, b"")
+}
+
 // The entry that is searched takes the start, both far corners and the goal; the other is for another map.
 #[test]
 fn rows_count_the_taken_states(rt: HostRuntime) -> Result<(), Fail> {
@@ -79,5 +96,13 @@ fn rows_count_the_taken_states(rt: HostRuntime) -> Result<(), Fail> {
     };
     let rows =
         b"row 1 agree 4 0 taken 4\nrow 2 scale\nsum 2 agree 1 near 0 off 0 other 1 taken 4\n";
+    check(alloc, &rt, made, 1, rows, b"")?;
+    let words: [&str; 4] = ["scen", "m", "s", "show=taken"];
+    let touching = b"type octile\nheight 2\nwidth 2\nmap\n.@\n@.\n";
+    let made = Request {
+        second: b"version 1\n0 m 2 2 0 0 1 1 1\n",
+        ..on_map(&words, touching)
+    };
+    let rows = b"row 1 none taken 1\nsum 1 agree 0 near 0 off 0 other 1 taken 1\n";
     check(alloc, &rt, made, 1, rows, b"")
 }

@@ -2,10 +2,11 @@
 
 ghost use Rattle.std.specs.Prelude.{◌≡◌};
 ghost use Rattle.map_text.specs.Faults.{plain};
-ghost use Rattle.jps_run.specs.Kinds.{kind_for, kind_word, limit_of, takes};
+ghost use Rattle.jps_run.specs.Kinds.{extent_for, kind_for, kind_word, limit_of, takes};
 
 use grid_moves::Corner;
 use map_text::MapText;
+use word_list::Pick;
 
 /// A kind of text.
 #[derive(Clone, Copy, Debug)]
@@ -30,6 +31,16 @@ pub(crate) enum Extent {
 }
 
 impl Extent {
+    /// The maps that the picked engine takes.
+    pub(crate) fn of(pick: Pick) -> Extent
+        ensures { result ≡ extent_for pick }
+    {
+        match pick {
+            Pick::Boxes | Pick::Moves => Extent::Small,
+            Pick::Plain | Pick::Jps | Pick::Block | Pick::Plus => Extent::Any,
+        }
+    }
+
     /// The kind of these maps.
     pub(crate) fn kind(self) -> Kind
         ensures { result ≡ kind_for self }

@@ -37,10 +37,13 @@ pub(crate) fn load_tables(
 }
 
 impl OfMap for Layers {
+    ghost use Rattle.std.specs.Prelude.{⊤};
     ghost use Rattle.jps_run.specs.Reading.{AreLayersOf};
     ghost use Rattle.jps_run.specs.declared.kind.Extent.TheVariants.{Any};
 
     ghost extent_of = { λ _. Any };
+
+    ghost serves = { λ _. ⊤ };
 
     ghost is_of_map = { AreLayersOf };
 
@@ -60,10 +63,13 @@ pub(crate) struct SmallLayers {
 }
 
 impl OfMap for SmallLayers {
+    ghost use Rattle.std.specs.Prelude.{⊤};
     ghost use Rattle.jps_run.specs.Reading.{AreSmallLayersOf};
     ghost use Rattle.jps_run.specs.declared.kind.Extent.TheVariants.{Small};
 
     ghost extent_of = { λ _. Small };
+
+    ghost serves = { λ _. ⊤ };
 
     ghost is_of_map = { AreSmallLayersOf };
 

@@ -3,6 +3,7 @@
 
 #[cfg(test)]
 mod ample_tests;
+mod answerer;
 mod answers;
 mod boxes;
 #[cfg(test)]
@@ -41,6 +42,9 @@ mod sending;
 mod sessions;
 #[cfg(test)]
 mod sessions_tests;
+mod small;
+#[cfg(test)]
+mod small_tests;
 mod solve;
 mod stop;
 mod tables;

@@ -8,8 +8,9 @@ ghost use Rattle.word_list.specs.Request as asked;
 ghost use Rattle.word_list.specs.Settings as words;
 ghost use Rattle.jps_run.specs.Counting.{RoseHeard};
 ghost use Rattle.jps_run.specs.Hearing.{AnswersKnown, Refuses, Hears, HearsPiece, HearsEnd, HearsTurn};
-ghost use Rattle.jps_run.specs.Calls.{call_with, session_files};
+ghost use Rattle.jps_run.specs.Calls.{call_with, map_files};
 ghost use Rattle.jps_run.specs.Rising.{RiseEnd, RisePiece, RiseTurn};
+ghost use Rattle.jps_run.specs.Session.{PicksSession};
 ghost use Rattle.jps_run.specs.Opened.{IsListener, open_stops};
 ghost use Rattle.jps_run.specs.Answering.{HaveTaken};
 ghost use Rattle.jps_run.specs.Stops.{Ends};
@@ -19,7 +20,7 @@ use crate::NoMemory;
 use crate::answers::Answers;
 use crate::faults::{long_line, script_line};
 use crate::job::work_more;
-use crate::sessions::open_session;
+use crate::sessions::{open_basis, session_of};
 use crate::stop::Stop;
 use io_edge::{Failed, Files, Sink, Source};
 use script_text::{Command, LineFeeder, ScriptFault};
@@ -43,15 +44,16 @@ pub(crate) fn live<F: Files>(
     settings: Settings,
 ) -> Result<Answers, Stop>
     requires loads { words.can_load (option_copied tables) settings ≡ true }
+    requires session { PicksSession settings }
     ensures opened { Ends (IsListener (call_with (asked.Live map.now (option_copied tables.entry)) settings)
         (F.disk files.old).holds)
         (open_stops (F.disk files.old) (F.disk files.new)
-        (session_files settings map.now (option_copied tables.entry))) result }
+        (map_files settings map.now (option_copied tables.entry))) result }
     ensures unchanged { (F.disk files.new).holds ≡ (F.disk files.old).holds }
 {
-    let session = open_session(alloc, files, map, tables, settings)?;
+    let basis = open_basis(alloc, files, map, tables, settings)?;
     Ok(Answers {
-        session,
+        session: session_of(basis),
         show: settings.show,
     })
 }

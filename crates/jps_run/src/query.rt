@@ -1,22 +1,32 @@
-//! The command `query`: a script of one command.
+//! The command `query`: one reply. A session gives it as to a script of one command; by boxes or first moves it is
+//! made when the call is opened, with no more than it asks for.
 
-ghost use Rattle.std.specs.Prelude.{◌≡◌, [], ◌∷◌, true, IfOk};
+ghost use Rattle.std.specs.Prelude.{◌≡◌, ◌<◌, [], ◌∷◌, true, IfOk};
 ghost use Rattle.std.specs.Option.{option_copied};
 ghost use Rattle.script_text.specs.declared.command.Command.TheVariants.{Query};
 ghost use Rattle.word_list.specs.Request as asked;
 ghost use Rattle.word_list.specs.Settings as words;
-ghost use Rattle.jps_run.specs.Opened.{OpensWork};
+ghost use Rattle.jps_run.specs.Answerers.{who_from};
 ghost use Rattle.jps_run.specs.Calls.{call_with};
+ghost use Rattle.jps_run.specs.Lines.{Unfolds, reply_line};
+ghost use Rattle.jps_run.specs.Opened.{OpensWork};
+ghost use Rattle.jps_run.specs.Querying.{IsQueryWork};
+ghost use Rattle.jps_run.specs.Who.{who_is};
 
 use crate::NoMemory;
+use crate::answerer::Basis;
 use crate::answers::Answers;
-use crate::sessions::open_session;
+use crate::lines::put_reply;
+use crate::sessions::open_basis;
+use crate::small::{boxed_reply, led_reply};
 use crate::stop::Stop;
 use crate::work::Work;
+use edit_replay::{Reply, Session};
+use grid_moves::{Layers, Terrain};
 use io_edge::Files;
 use script_text::Command;
 use std::alloc::Global;
-use word_list::Settings;
+use word_list::{Settings, Show};
 
 /// The ends of a query, each by its column and its row.
 #[derive(Clone, Copy, Debug)]
@@ -37,6 +47,59 @@ fn commands_of(alloc: Global, ends: Ends) -> Result<Vec<Command>, NoMemory>
     Ok(commands)
 }
 
+// The line of a reply, on a map of this width.
+fn line_of(alloc: Global, reply: &Reply, width: u16, show: Show) -> Result<Vec<u8>, NoMemory>
+    requires unfolds { Unfolds reply.now }
+    requires some { 0 < width }
+    ensures { IfOk result (λ text. text.items ≡ reply_line width show reply.now) }
+{
+    let mut line = Vec::new(alloc);
+    put_reply(alloc, &mut line, reply, width, show)?;
+    Ok(line)
+}
+
+// The work of a session on one query.
+fn by_session(alloc: Global, session: Session, ends: Ends, show: Show) -> Result<Work, NoMemory>
+    ensures { IfOk result (IsQueryWork (who_is session) show
+        (record { x = ends.sx; y = ends.sy }) (record { x = ends.gx; y = ends.gy })) }
+{
+    let commands = commands_of(alloc, ends)?;
+    let job = Answers { session, show };
+    Ok(Work::Answer { job, commands })
+}
+
+// The line of the reply by the boxed run.
+fn by_boxes(alloc: Global, layers: &Layers, ends: Ends, show: Show) -> Result<Work, NoMemory>
+    ensures { IfOk result (IsQueryWork (who_from (Basis.Boxes layers.now)) show
+        (record { x = ends.sx; y = ends.sy }) (record { x = ends.gx; y = ends.gy })) }
+{
+    let reply = boxed_reply(alloc, layers, ends)?;
+    let text = line_of(alloc, &reply, layers.land().width(), show)?;
+    Ok(Work::Print { text, status: 0 })
+}
+
+// The line of the reply by the walk of first moves.
+fn by_moves(alloc: Global, layers: &Layers, ends: Ends, show: Show) -> Result<Work, NoMemory>
+    ensures { IfOk result (IsQueryWork (who_from (Basis.Moves layers.now)) show
+        (record { x = ends.sx; y = ends.sy }) (record { x = ends.gx; y = ends.gy })) }
+{
+    let reply = led_reply(alloc, layers, ends)?;
+    let text = line_of(alloc, &reply, layers.land().width(), show)?;
+    Ok(Work::Print { text, status: 0 })
+}
+
+// The work on one query.
+fn work_on(alloc: Global, basis: Basis, ends: Ends, show: Show) -> Result<Work, NoMemory>
+    ensures { IfOk result (IsQueryWork (who_from basis) show
+        (record { x = ends.sx; y = ends.sy }) (record { x = ends.gx; y = ends.gy })) }
+{
+    match basis {
+        Basis::Session(session) => by_session(alloc, session, ends, show),
+        Basis::Boxes(layers) => by_boxes(alloc, &layers, ends, show),
+        Basis::Moves(layers) => by_moves(alloc, &layers, ends, show),
+    }
+}
+
 /// Opens one query.
 pub(crate) fn query<F: Files>(
     alloc: Global,
@@ -52,11 +115,7 @@ pub(crate) fn query<F: Files>(
         (F.disk files.old) (F.disk files.new) result }
     ensures unchanged { (F.disk files.new).holds ≡ (F.disk files.old).holds }
 {
-    let session = open_session(alloc, files, map, tables, settings)?;
-    let commands = commands_of(alloc, ends)?;
-    let job = Answers {
-        session,
-        show: settings.show,
-    };
-    Ok(Work::Answer { job, commands })
+    let basis = open_basis(alloc, files, map, tables, settings)?;
+    let work = work_on(alloc, basis, ends, settings.show)?;
+    Ok(work)
 }

@@ -39,10 +39,13 @@ pub(crate) struct Court {
 }
 
 impl OfMap for Court {
+    ghost use Rattle.std.specs.Prelude.{⊤};
     ghost use Rattle.jps_run.specs.Refereeing.{IsCourtOf};
     ghost use Rattle.jps_run.specs.declared.kind.Extent.TheVariants.{Any};
 
     ghost extent_of = { λ _. Any };
+
+    ghost serves = { λ _. ⊤ };
 
     ghost is_of_map = { IsCourtOf };
 
@@ -144,7 +147,7 @@ fn ruling_on<L: Ledger>(
     ensures ruling { IfOk result (IsRuling court.old.layers entry told.now) }
     ensures unchanged { court.new ≡ court.old }
 {
-    if !has_sides(&court.session, entry) {
+    if !has_sides(court.session.width(), court.session.height(), entry) {
         return Ok(Ruling::Scale);
     }
     let Some(from) = court.layers.cell_at(entry.sx, entry.sy) else {

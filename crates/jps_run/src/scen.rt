@@ -7,16 +7,16 @@ ghost use Rattle.word_list.specs.Settings as words;
 ghost use Rattle.jps_run.specs.Opened.{OpensWork};
 ghost use Rattle.jps_run.specs.Calls.{call_with};
 
-use crate::sessions::open_session_and;
+use crate::answerer::{Answerer, Basis};
+use crate::sessions::open_basis_and;
 use crate::stop::Stop;
 use crate::work::Work;
-use edit_replay::Session;
 use io_edge::Files;
 use scen_text::Entry;
 use std::alloc::Global;
 use word_list::Settings;
 
-/// Opens a scenario.
+/// Opens a scenario. On a small map all boxes or first moves are made once, behind both files.
 pub(crate) fn scen<F: Files>(
     alloc: Global,
     files: &mut F,
@@ -30,7 +30,7 @@ pub(crate) fn scen<F: Files>(
         (F.disk files.old) (F.disk files.new) result }
     ensures unchanged { (F.disk files.new).holds ≡ (F.disk files.old).holds }
 {
-    let both: (Session, Vec<Entry>) = open_session_and(
+    let both: (Basis, Vec<Entry>) = open_basis_and(
         alloc,
         files,
         map,
@@ -39,9 +39,10 @@ pub(crate) fn scen<F: Files>(
         name,
         &(),
     )?;
-    let (session, entries) = both;
+    let (basis, entries) = both;
+    let answerer = Answerer::new(alloc, basis)?;
     Ok(Work::Judge {
-        session,
+        answerer,
         show: settings.show,
         entries,
     })

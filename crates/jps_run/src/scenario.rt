@@ -1,20 +1,22 @@
 //! The rows that judge a scenario.
 
-ghost use Rattle.std.specs.Prelude.{◌≡◌, [], IfOk, OnOk};
+ghost use Rattle.std.specs.Prelude.{◌≡◌, nat_eq, ◌&&◌, [], IfOk, OnOk};
 ghost use Rattle.scen_text.specs.Lengths.{IsKept};
 ghost use Rattle.edit_replay.specs.Replies.{IsShort, answer_of};
-ghost use Rattle.jps_run.specs.Counting.{EntriesTake, RoseBy};
-ghost use Rattle.jps_run.specs.Judging.{IsJudged, TakesFor};
+ghost use Rattle.jps_run.specs.Answerers.{CanAnswer, who_of};
+ghost use Rattle.jps_run.specs.Judging.{IsJudged, RoseForEntries, TakesFor};
 ghost use Rattle.jps_run.specs.Rows as rows;
 ghost use Rattle.jps_run.specs.Sending.{SendsWhole};
 ghost use Rattle.jps_run.specs.Reading.{AreKept};
 ghost use Rattle.jps_run.specs.Tally.{tally_of};
 
 use crate::NoMemory;
+use crate::answerer::Answerer;
 use crate::job::{Job, work_items};
+use crate::query::Ends;
 use crate::row::{Row, Tally, put_row};
 use crate::stop::Stop;
-use edit_replay::{Reply, Session};
+use edit_replay::Reply;
 use io_edge::Sink;
 use root2_cost::{Decimal, judge};
 use scen_text::Entry;
@@ -23,10 +25,10 @@ use std::sync::ledger::Ledger;
 use steps::Steps;
 use word_list::Show;
 
-/// A session that judges a scenario's entries in order, and the counts of their rows.
+/// What judges a scenario's entries in order by the one who answers, and the counts of their rows.
 #[derive(Drop)]
 pub(crate) struct Judge {
-    pub session: Session,
+    pub answerer: Answerer,
     pub show: Show,
     pub tally: Tally,
 }
@@ -57,7 +59,7 @@ impl Job for Judge {
         lines: &mut Vec<u8>,
         steps: &mut Steps<L>,
     ) -> Result<(), NoMemory> {
-        let row = row_of(alloc, &mut self.session, item, steps)?;
+        let row = row_of(alloc, &mut self.answerer, item, steps)?;
         self.tally.count(row);
         put_row(lines, self.show, self.tally.rows, row)
     }
@@ -68,11 +70,11 @@ impl Job for Judge {
     }
 }
 
-/// Whether the entry is meant for a map of the session's sides.
-pub(crate) fn has_sides(session: &Session, entry: Entry) -> bool
-    ensures { result ≡ rows.has_sides session.now entry }
+/// Whether the entry is meant for a map of these sides.
+pub(crate) fn has_sides(width: u16, height: u16, entry: Entry) -> bool
+    ensures { result ≡ (nat_eq entry.w width && nat_eq entry.h height) }
 {
-    entry.w == u32::from(session.width()) && entry.h == u32::from(session.height())
+    entry.w == u32::from(width) && entry.h == u32::from(height)
 }
 
 // What the reply makes of an entry with this length.
@@ -95,43 +97,51 @@ fn row_of_reply(listed: Decimal, reply: &Reply) -> Row
     }
 }
 
-// The row of an entry, by the session.
+// The row of an entry, by the one who answers.
 fn row_of<L: Ledger>(
     alloc: Global,
-    session: &mut Session,
+    answerer: &mut Answerer,
     entry: Entry,
     steps: &mut Steps<L>,
 ) -> Result<Row, NoMemory>
-    requires { IsKept entry.length }
-    ensures row { IfOk result (rows.IsRow session.old entry) }
-    ensures grid { session.new ≡ session.old }
-    ensures counted { OnOk result (TakesFor session.old entry steps.old steps.new) }
+    requires kept { IsKept entry.length }
+    requires ready { CanAnswer answerer.old }
+    ensures row { IfOk result (rows.IsRow (who_of answerer.old) entry) }
+    ensures same { answerer.new ≡ answerer.old }
+    ensures counted { OnOk result (TakesFor (who_of answerer.old) entry steps.old steps.new) }
 {
-    if !has_sides(session, entry) {
+    if !has_sides(answerer.width(), answerer.height(), entry) {
         return Ok(Row::Scale);
     }
-    let reply = session.query(alloc, entry.sx, entry.sy, entry.gx, entry.gy, steps)?;
+    let ends = Ends {
+        sx: entry.sx,
+        sy: entry.sy,
+        gx: entry.gx,
+        gy: entry.gy,
+    };
+    let reply = answerer.query(alloc, ends, steps)?;
     Ok(row_of_reply(entry.length, &reply))
 }
 
-/// Judges the entries in order by the session, and sums their rows up; `show` tells whether they count
-/// the taken states.
+/// Judges the entries in order by the one who answers, and sums their rows up; `show` tells whether they
+/// count the taken states.
 pub(crate) fn write_rows<O: Sink, L: Ledger>(
     alloc: Global,
-    session: Session,
+    answerer: Answerer,
     show: Show,
     entries: &[Entry],
     out: &mut O,
     steps: &mut Steps<L>,
 ) -> Result<u8, Stop>
-    requires { AreKept entries.now }
-    ensures sent { SendsWhole (IsJudged (record { session = session; show = show; tally = tally_of [] }) entries.now)
+    requires ready { CanAnswer answerer }
+    requires kept { AreKept entries.now }
+    ensures sent { SendsWhole (IsJudged (record { answerer = answerer; show = show; tally = tally_of [] }) entries.now)
         (O.outflow out.old)
         (O.outflow out.new) result }
-    ensures counted { OnOk result (RoseBy session (EntriesTake session entries.now) steps.old steps.new) }
+    ensures counted { OnOk result (RoseForEntries (who_of answerer) entries.now steps.old steps.new) }
 {
     let mut job = Judge {
-        session,
+        answerer,
         show,
         tally: Tally::new(),
     };

@@ -1,4 +1,5 @@
-//! The sessions on maps: the tables of one are built, or loaded from a file where one is named.
+//! What answers begin with: what is made of a map for the picked engine. The tables of a session are built, or loaded
+//! from a file where one is named.
 //!
 //! A table file is read behind the map and before all other files. Its text is given back as soon as it is
 //! judged, before the session's own memory is taken.
@@ -8,15 +9,18 @@ ghost use Rattle.std.specs.Option.{option_copied};
 ghost use Rattle.io_edge.specs.Causes.{NoneFell};
 ghost use Rattle.map_text.specs.Faults.{plain};
 ghost use Rattle.word_list.specs.Settings as words;
-ghost use Rattle.jps_run.specs.Calls.{session_files};
+ghost use Rattle.jps_run.specs.Answerers.{HasSession, IsBasisOn, who_from};
+ghost use Rattle.jps_run.specs.Calls.{map_files};
 ghost use Rattle.jps_run.specs.Files.{file_of};
 ghost use Rattle.jps_run.specs.Opened.{open_stops};
-ghost use Rattle.jps_run.specs.Reading.{AreMapTables, IsBehind, IsSessionAnd, IsSessionOf, IsSessionOn, Reads};
+ghost use Rattle.jps_run.specs.Reading.{AreMapTables, IsBehind, IsMadeAnd, IsMadeOf, Reads};
 ghost use Rattle.jps_run.specs.Session as spec;
 ghost use Rattle.jps_run.specs.Stops.{Ends};
+ghost use Rattle.jps_run.specs.Who.{who_is};
 ghost use Rattle.jps_run.specs.declared.kind.Kind.TheVariants as kinds;
 
 use crate::NoMemory;
+use crate::answerer::Basis;
 use crate::faults::tables_line;
 use crate::files::{Text, corner_of, open_one, read_file};
 use crate::kind::{Extent, Kind};
@@ -89,7 +93,7 @@ fn session_with(
 ) -> Result<Session, NoMemory>
     requires plus { words.has_tables settings.pick ≡ true }
     requires tables { AreMapTables (spec.corner_of settings.one) (plain map.now) tables }
-    ensures { IfOk result (IsSessionOn settings (plain map.now)) }
+    ensures { IfOk result (spec.IsSessionOn settings (plain map.now)) }
 {
     let MapTables { land, water } = tables;
     Session::with_tables(alloc, map, corner_of(settings.one), land, water)
@@ -104,7 +108,7 @@ fn open_loaded<F: Files>(
     settings: Settings,
 ) -> Result<Session, Stop>
     requires plus { words.has_tables settings.pick ≡ true }
-    ensures read { Ends (IsSessionOf settings (F.disk files.old).holds
+    ensures read { Ends (IsMadeOf (spec.IsSessionOn settings) (F.disk files.old).holds
         (file_of kinds.Map map.now ∷ file_of (kinds.Tables (spec.corner_of settings.one)) name.now ∷ []))
         (open_stops (F.disk files.old) (F.disk files.new)
         (file_of kinds.Map map.now ∷ file_of (kinds.Tables (spec.corner_of settings.one)) name.now ∷ [])) result }
@@ -117,33 +121,35 @@ fn open_loaded<F: Files>(
     Ok(session)
 }
 
-/// The session on the map of the first file, for a call with this file and, where one is named, with a table
-/// file behind it.
-pub(crate) fn open_session<F: Files>(
+/// What a call begins with, made of the map of the first file, for a call with this file and, where one is named, with
+/// a table file behind it.
+pub(crate) fn open_basis<F: Files>(
     alloc: Global,
     files: &mut F,
     map: &str,
     tables: Option<&str>,
     settings: Settings,
-) -> Result<Session, Stop>
+) -> Result<Basis, Stop>
     requires loads { words.can_load (option_copied tables) settings ≡ true }
-    ensures read { Ends (IsSessionOf settings (F.disk files.old).holds
-        (session_files settings map.now (option_copied tables.entry)))
+    ensures read { Ends (IsMadeOf (IsBasisOn settings) (F.disk files.old).holds
+        (map_files settings map.now (option_copied tables.entry)))
         (open_stops (F.disk files.old) (F.disk files.new)
-        (session_files settings map.now (option_copied tables.entry))) result }
+        (map_files settings map.now (option_copied tables.entry))) result }
     ensures unchanged { (F.disk files.new).holds ≡ (F.disk files.old).holds }
     ensures later { NoneFell (F.disk files.old).faults (F.disk files.new).faults }
 {
     match tables {
         None => open_one(alloc, files, map, settings),
-        Some(name) => open_loaded(alloc, files, map, name, settings),
+        Some(name) => {
+            let session = open_loaded(alloc, files, map, name, settings)?;
+            Ok(Basis::Session(session))
+        }
     }
 }
 
-/// The session on the map of the first file, and what the last file is read as, for a call with these files
-/// and, where one is named, with a table file between them. The last one is read only where those before it
-/// are accepted; `context` says what it is judged by.
-pub(crate) fn open_session_and<F: Files, T: Text>(
+/// The same, and what the last file is read as, for a call with these files and this one. The last one is read only
+/// where those before it are accepted; `context` says what it is judged by.
+pub(crate) fn open_basis_and<F: Files, T: Text>(
     alloc: Global,
     files: &mut F,
     map: &str,
@@ -151,16 +157,27 @@ pub(crate) fn open_session_and<F: Files, T: Text>(
     settings: Settings,
     last: &str,
     context: &T::Context,
-) -> Result<(Session, T), Stop>
+) -> Result<(Basis, T), Stop>
     requires loads { words.can_load (option_copied tables) settings ≡ true }
     requires behind { (earlier : List (List ℕ)) → T.is_behind context.now earlier }
-    ensures read { Ends (IsSessionAnd settings (T.spells context.now) (F.disk files.old).holds
-        (session_files settings map.now (option_copied tables.entry)) (file_of (T.kind_of_text context.now) last.now))
-        (open_stops (F.disk files.old) (F.disk files.new) (session_files settings map.now (option_copied tables.entry)
+    ensures read { Ends (IsMadeAnd (IsBasisOn settings) (T.spells context.now) (F.disk files.old).holds
+        (map_files settings map.now (option_copied tables.entry)) (file_of (T.kind_of_text context.now) last.now))
+        (open_stops (F.disk files.old) (F.disk files.new) (map_files settings map.now (option_copied tables.entry)
         ++ file_of (T.kind_of_text context.now) last.now ∷ [])) result }
     ensures unchanged { (F.disk files.new).holds ≡ (F.disk files.old).holds }
 {
-    let session = open_session(alloc, files, map, tables, settings)?;
+    let basis = open_basis(alloc, files, map, tables, settings)?;
     let text: T = read_file(alloc, files, last, context)?;
-    Ok((session, text))
+    Ok((basis, text))
+}
+
+/// The session that was made, where no engine of small maps is picked.
+pub(crate) fn session_of(basis: Basis) -> Session
+    requires { HasSession basis }
+    ensures { who_is result ≡ who_from basis }
+{
+    match basis {
+        Basis::Session(session) => session,
+        Basis::Boxes(_) | Basis::Moves(_) => unreachable!(),
+    }
 }

@@ -6,12 +6,13 @@ ghost use Rattle.word_list.specs.Request as asked;
 ghost use Rattle.word_list.specs.Settings as words;
 ghost use Rattle.jps_run.specs.Opened.{OpensWork};
 ghost use Rattle.jps_run.specs.Calls.{call_with};
+ghost use Rattle.jps_run.specs.Session.{PicksSession};
 
+use crate::answerer::Basis;
 use crate::answers::Answers;
-use crate::sessions::open_session_and;
+use crate::sessions::{open_basis_and, session_of};
 use crate::stop::Stop;
 use crate::work::Work;
-use edit_replay::Session;
 use io_edge::Files;
 use script_text::Command;
 use std::alloc::Global;
@@ -27,11 +28,12 @@ pub(crate) fn solve<F: Files>(
     settings: Settings,
 ) -> Result<Work, Stop>
     requires loads { words.can_load (option_copied tables) settings ≡ true }
+    requires session { PicksSession settings }
     ensures opened { OpensWork (call_with (asked.Solve map.now (option_copied tables.entry) script.now) settings)
         (F.disk files.old) (F.disk files.new) result }
     ensures unchanged { (F.disk files.new).holds ≡ (F.disk files.old).holds }
 {
-    let both: (Session, Vec<Command>) = open_session_and(
+    let both: (Basis, Vec<Command>) = open_basis_and(
         alloc,
         files,
         map,
@@ -40,9 +42,9 @@ pub(crate) fn solve<F: Files>(
         script,
         &(),
     )?;
-    let (session, commands) = both;
+    let (basis, commands) = both;
     let job = Answers {
-        session,
+        session: session_of(basis),
         show: settings.show,
     };
     Ok(Work::Answer { job, commands })

@@ -51,6 +51,8 @@ ENGINE is plain, where none is named, jps, block or plus. Walks cost the same by
 cell, block over 512 cells at a time, plus by tables that are made when the map is read.
 tables=FILE beside engine=plus takes the tables that `jps tables` wrote to FILE; those of another map, of
 another rule, or with a wrong entry are refused.
+For query and scen, on maps of at most 16384 cells, it may also be boxes, whose search leaves out moves by
+goal boxes, or moves, which follows first moves and takes no states (no show=trace, no show=taken).
 With rule=one a diagonal move may pass one blocked cell beside it, with rule=none none.
 
 statuses: 0 done; 1 done, and a row of `scen` is neither agree nor near, `judge` or `check` refuses, `prove`
@@ -60,7 +62,7 @@ faults, one line on standard error:
   jps: word N            word N is missing, or no call has it there; words are counted from 1
   jps: TEXT CODE line N  line N of the map, script, scen, cert or walks breaks its form
   jps: TEXT long         the text is longer than 67108864 bytes, a cert, walks or tables than 1073741824
-  jps: map large         the map has more than 16384 cells, and `boxes` or `moves` was asked for
+  jps: map large         the map has more than 16384 cells, and boxes or moves was asked for
   jps: tables F1         FILE begins with another head than the map's tables under the rule; F2: it has another length
   jps: tables F3 LAYER X,Y D  this is the first entry in FILE that is another: for this layer, cell and direction
   jps: read, jps: write, jps: memory

@@ -3,6 +3,7 @@
 ghost use Rattle.std.specs.Prelude.{◌≡◌, ◌≤◌, ◌⊎◌, false, OnOk, map, string_bytes};
 ghost use Rattle.io_edge.specs.Causes.{Rose};
 ghost use Rattle.word_list.specs.Request.{IsSound, asked, called};
+ghost use Rattle.word_list.specs.Serving.{IsServed};
 ghost use Rattle.jps_run.specs.Counting.{RoseAsCalled, RoseForCall};
 ghost use Rattle.jps_run.specs.Ending.{Comes, Gets, HasFailed, HasLines, CanHear, HasPart, InputRose, NamedRose, Names, ending_line};
 ghost use Rattle.jps_run.specs.Opened.{Opens, OpensWork};
@@ -42,6 +43,7 @@ fn open<F: Files>(
     files: &mut F,
 ) -> Result<Opened, Stop>
     requires sound { IsSound request settings }
+    requires served { IsServed (asked request) settings }
     ensures opened { Opens (called request.entry settings) (F.disk files.old) (F.disk files.new) result }
     ensures unchanged { (F.disk files.new).holds ≡ (F.disk files.old).holds }
 {
@@ -59,6 +61,7 @@ fn open_work<F: Files>(
     files: &mut F,
 ) -> Result<Work, Stop>
     requires sound { IsSound request settings }
+    requires served { IsServed (asked request) settings }
     requires apart { reads_input (asked request) ≡ false }
     ensures opened { OpensWork (called request.entry settings) (F.disk files.old) (F.disk files.new) result }
     ensures unchanged { (F.disk files.new).holds ≡ (F.disk files.old).holds }
@@ -126,6 +129,7 @@ fn serve<F: Files, I: Source, O: Sink, L: Ledger>(
     steps: &mut Steps<L>,
 ) -> Result<u8, Stop>
     requires sound { IsSound request settings }
+    requires served { IsServed (asked request) settings }
     ensures served { HasServed (called request.entry settings) (F.disk files.old) (F.disk files.new)
         (I.inflow input.old) (I.inflow input.new) (O.outflow out.old) (O.outflow out.new) result }
     ensures counted { OnOk result (RoseForCall (called request.entry settings) (F.disk files.old).holds

@@ -8,6 +8,7 @@ ghost use Rattle.std.specs.Prelude.{OnOk};
 ghost use Rattle.jps_run.specs.Opened.{CanPerform, HasRisen, IsWhole};
 ghost use Rattle.jps_run.specs.Sending.{SendsWhole};
 
+use crate::answerer::Answerer;
 use crate::answers::{Answers, write_answers};
 use crate::costs::{Distances, write_costs};
 use crate::draw::{Canvas, write_drawing};
@@ -35,9 +36,9 @@ pub(crate) enum Work {
         job: Answers,
         commands: Vec<Command>,
     },
-    /// The session judges the entries of a scenario, a row each, and their sum.
+    /// The entries of a scenario are judged by the one who answers, a row each, and their sum.
     Judge {
-        session: Session,
+        answerer: Answerer,
         show: Show,
         entries: Vec<Entry>,
     },
@@ -97,10 +98,10 @@ pub(crate) fn perform<O: Sink, L: Ledger>(
             write_answers(alloc, &mut job, commands.as_slice(), out, steps)
         }
         Work::Judge {
-            session,
+            answerer,
             show,
             entries,
-        } => write_rows(alloc, session, show, entries.as_slice(), out, steps),
+        } => write_rows(alloc, answerer, show, entries.as_slice(), out, steps),
         Work::Referee { mut job, entries } => {
             write_rulings(alloc, &mut job, entries.as_slice(), out, steps)
         }

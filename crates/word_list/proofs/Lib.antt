@@ -3,3 +3,4 @@ pub mod Completed
 pub mod Settled
 pub mod Fitted
 pub mod Calls
+pub mod Serving

@@ -8,7 +8,7 @@ use Rattle.word_list.specs.declared.rows.Kind.{Kind}
 use Rattle.word_list.specs.declared.rows.Kind.TheVariants.{File, Number, Seed, Side, Percent}
 use Rattle.word_list.specs.declared.rows.Row as declared
 use Rattle.word_list.specs.declared.settings.Family.{Family}
-use Rattle.word_list.specs.declared.settings.Family.TheVariants.{Engine, Show, Drawing, Counts, Rule, TableFile}
+use Rattle.word_list.specs.declared.settings.Family.TheVariants.{Engine, SmallMap, Show, Drawing, Counts, Rule, TableFile}
 use Rattle.word_list.specs.Request.{Asked, Help, Version, Query, Solve, Live, Scen, Judge, Prove, Check, Make, Drill, Draw, Costs, Tables, Boxes, Moves}
 
 -- a command, the kinds of the words that it takes, and the settings that it allows after them
@@ -28,7 +28,7 @@ row_of name =
     Some (record {
       command = command.Query;
       takes = File ∷ Number ∷ Number ∷ Number ∷ Number ∷ [];
-      allows = Engine ∷ TableFile ∷ Show ∷ Rule ∷ [];
+      allows = Engine ∷ SmallMap ∷ TableFile ∷ Show ∷ Rule ∷ [];
     })
     else if bytes_eq name (codes "solve") then
     Some (record {
@@ -46,7 +46,7 @@ row_of name =
     Some (record {
       command = command.Scen;
       takes = File ∷ File ∷ [];
-      allows = Engine ∷ TableFile ∷ Counts ∷ Rule ∷ [];
+      allows = Engine ∷ SmallMap ∷ TableFile ∷ Counts ∷ Rule ∷ [];
     })
     else if bytes_eq name (codes "judge") then
     Some (record { command = command.Judge; takes = File ∷ File ∷ File ∷ []; allows = Rule ∷ [] })

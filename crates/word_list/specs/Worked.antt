@@ -2,7 +2,7 @@
 use Rattle.std.specs.Prelude.{◌≡◌, ℕ, Bool, true, false, List, [], ◌∷◌, codes, refl, Option, Some, None}
 use Rattle.text_line.specs.LongNumbers.{long_number_of}
 use Rattle.text_line.specs.Numbers.{number_of}
-use Rattle.word_list.specs.declared.request.Pick.TheVariants.{Plain, Jps, Plus}
+use Rattle.word_list.specs.declared.request.Pick.TheVariants.{Plain, Jps, Plus, Boxes}
 use Rattle.word_list.specs.declared.request.Show.{Show}
 use Rattle.word_list.specs.declared.request.Show.TheVariants.{Points, Cells, Trace, Taken}
 use Rattle.word_list.specs.Request.{Call, Help, Query, Solve, Scen, Judge, Make}
@@ -36,8 +36,11 @@ pub no_engine : query_with (codes "engine=jsp" ∷ []) ≡ None
 unfolding number_of tables_in
 no_engine = refl
 
--- no command takes an engine of small maps yet
-pub boxed : query_with (codes "engine=boxes" ∷ []) ≡ None
+-- an engine of small maps, and a call for edits, which takes none
+pub boxed : query_with (codes "engine=boxes" ∷ []) ≡ Some (record {
+  request = Query (codes "m") None 0 0 2 2;
+  settings = record { pick = Boxes; show = Points; one = false };
+})
 unfolding number_of tables_in
 boxed = refl
 

@@ -107,7 +107,7 @@ pub fn row_named(name: &str) -> Option<Row>
     ensures row { option_map row_data result ≡ row_of name.now }
     ensures few { IfSome result (λ row. length row.takes.now ≤ 8) }
 {
-    use Family::{Counts, Drawing, Engine, Rule, Show, TableFile};
+    use Family::{Counts, Drawing, Engine, Rule, Show, SmallMap, TableFile};
     use Kind::{File, Number, Percent, Seed, Side};
     let (command, takes, allows): (Command, &[Kind], &[Family]) = match name {
         "--help" => (Command::Help, &[], &[]),
@@ -115,7 +115,7 @@ pub fn row_named(name: &str) -> Option<Row>
         "query" => (
             Command::Query,
             &[File, Number, Number, Number, Number],
-            &[Engine, TableFile, Show, Rule],
+            &[Engine, SmallMap, TableFile, Show, Rule],
         ),
         "solve" => (
             Command::Solve,
@@ -126,7 +126,7 @@ pub fn row_named(name: &str) -> Option<Row>
         "scen" => (
             Command::Scen,
             &[File, File],
-            &[Engine, TableFile, Counts, Rule],
+            &[Engine, SmallMap, TableFile, Counts, Rule],
         ),
         "judge" => (Command::Judge, &[File, File, File], &[Rule]),
         "prove" => (

@@ -38,7 +38,7 @@ enum Choice {
 pub enum Family {
     /// An engine that serves maps of any size, and edits.
     Engine,
-    /// An engine that serves small maps, without edits. No command allows these yet.
+    /// An engine that serves small maps, without edits.
     SmallMap,
     /// What an answer shows.
     Show,

@@ -1,3 +1,4 @@
+use Rattle.jps_run.specs.Who.{who_is}
 use Rattle.jps_run.proofs.Solving.{query-goes-on}
 use Rattle.jps_run.proofs.Unfolding.{replied_unfolds}
 use Rattle.jps_run.proofs.answers.put_answer.Goals as goal
@@ -5,7 +6,7 @@ use Rattle.jps_run.proofs.answers.put_answer.Goals as goal
 pub put_reply-requires-clause-unfolds : goal.put_reply-requires-clause-unfolds
 put_reply-requires-clause-unfolds g c =
     let q = c.in-Query in
-    replied_unfolds c.args.session.now (record { x = q.sx; y = q.sy }) (record { x = q.gx; y = q.gy })
+    replied_unfolds (who_is c.args.session.now) (record { x = q.sx; y = q.sy }) (record { x = q.gx; y = q.gy })
     c.in_ok-reply-in-Query.reply
     (record { right = c.in_ok-reply-in-Query.ensures.right; run = c.in_ok-reply-in-Query.ensures.run })
 

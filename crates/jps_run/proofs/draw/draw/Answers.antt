@@ -1,12 +1,9 @@
 use Rattle.std.proofs.Common.{refl, subst, inr, [], ◌∷◌}
 use Rattle.map_text.specs.Map.{Map}
-use Rattle.map_text.specs.Faults.{plain}
-use Rattle.edit_replay.specs.Session.{SessionData}
 use Rattle.word_list.specs.Request.{Draw}
 use Rattle.jps_run.specs.Calls.{call_with}
 use Rattle.jps_run.specs.Outcome.{drawn}
 use Rattle.jps_run.specs.Pictures.{IsDrawing}
-use Rattle.jps_run.specs.Session.{session_on}
 use Rattle.jps_run.proofs.Opening.{text-right}
 use Rattle.jps_run.proofs.Pictured.{draw_counted, small_drawing}
 use Rattle.jps_run.proofs.draw.draw.Goals as goal
@@ -26,10 +23,12 @@ returns-clause-opened g c =
         right = λ lines status w.
             text-right (call_with (Draw map e.sx e.sy e.gx e.gy) set) (r.text ∷ []) w.text status
             (drawn map r.text e.sx e.sy e.gx e.gy set r.spelled.map w.text status r.spelled.spelled
-            (subst (λ (m : Map). IsDrawing (session_on set r.spelled.map) m (record { x = e.sx; y = e.sy })
-            (record { x = e.gx; y = e.gy }) set.show w.text status) r.spelled.is.0
-            (subst (λ (d : SessionData). IsDrawing d (plain canvas.map) (record { x = e.sx; y = e.sy })
-            (record { x = e.gx; y = e.gy }) set.show w.text status) r.spelled.is.1 w.is)))
+            (record {
+              session = canvas.session;
+              is = r.spelled.is.1;
+              known = subst (λ (m : Map). IsDrawing canvas.session m (record { x = e.sx; y = e.sy })
+                  (record { x = e.gx; y = e.gy }) set.show w.text status) r.spelled.is.0 w.is;
+            }))
             (small_drawing w.is) lines status (w.all, refl);
         counted = λ old new rose. inr
             (draw_counted map r.text e.sx e.sy e.gx e.gy set canvas old new r.spelled rose);

@@ -1,6 +1,8 @@
 use Rattle.std.proofs.Common.{refl, []}
 use Rattle.jps_run.proofs.Counts.{on_ok, rose-none}
+use Rattle.jps_run.specs.Answerers.{who_of}
 use Rattle.jps_run.specs.Counting.{EntriesTake}
+use Rattle.jps_run.specs.Who.{fewest_by}
 use Rattle.jps_run.proofs.Judgements.{rows-complete}
 use Rattle.jps_run.proofs.scenario.write_rows.Goals as goal
 
@@ -9,7 +11,7 @@ work_items-requires-clause-completes g c = rows-complete
 
 pub work_items-requires-clause-counts : goal.work_items-requires-clause-counts
 work_items-requires-clause-counts g c = record {
-  rose = rose-none c.args.session (EntriesTake c.args.session []) c.args.steps.now tt;
+  rose = rose-none (fewest_by (who_of c.args.answerer).by) (EntriesTake (who_of c.args.answerer) []) c.args.steps.now tt;
   same = refl;
 }
 

@@ -43,5 +43,5 @@ returns-clause-read g c =
       loaded = s.text ∷ [];
       accepted = both-accepted disk.holds (g.F.Files.disk c.read_file.new.files).holds first second r.text s.text
           r.accepted c.in_ok-map.ensures.unchanged s.accepted;
-      made = record { map = plain c.in_ok-map.map; spelled = r.spelled.0; is = c.in_ok-session.ensures };
+      is = record { map = plain c.in_ok-map.map; spelled = r.spelled.0; is = c.in_ok-session.ensures };
     }

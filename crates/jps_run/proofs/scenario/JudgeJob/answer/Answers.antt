@@ -11,21 +11,24 @@ count-requires g c = record {
       omega arith);
 }
 
+pub row_of-requires-clause-ready : goal.row_of-requires-clause-ready
+row_of-requires-clause-ready g c = c.requires.room.1.ready
+
 pub returns-clause-worked : goal.returns-clause-worked
 returns-clause-worked g c =
     judged-more c.put_row.result c.args.self.now
-    (record { session = c.row_of.new.session; show = c.args.self.now.show; tally = c.count.new.self }) c.args.item c.in_ok-row.row
+    (record { answerer = c.row_of.new.answerer; show = c.args.self.now.show; tally = c.count.new.self }) c.args.item c.in_ok-row.row
     c.args.lines.now.items c.put_row.new.out.items c.in_ok-row.ensures.row
-    c.row_of.ensures.grid refl c.count.ensures.counted c.put_row.ensures
+    c.row_of.ensures.same refl c.count.ensures.counted c.put_row.ensures
 
 pub returns-clause-room : goal.returns-clause-room
 returns-clause-room g c =
     room-more c.put_row.result c.args.self.now
-    (record { session = c.row_of.new.session; show = c.args.self.now.show; tally = c.count.new.self }) c.in_ok-row.row c.requires.room
-    c.count.ensures.counted c.count.ensures.small
+    (record { answerer = c.row_of.new.answerer; show = c.args.self.now.show; tally = c.count.new.self }) c.in_ok-row.row c.requires.room
+    c.count.ensures.counted c.count.ensures.small c.row_of.ensures.same
 
 pub returns-clause-counted : goal.returns-clause-counted
 returns-clause-counted g c =
     judged-entry c.put_row.result c.args.self.now
-    (record { session = c.row_of.new.session; show = c.args.self.now.show; tally = c.count.new.self }) c.args.item c.args.steps.now
-    c.row_of.new.steps c.row_of.ensures.grid c.in_ok-row.ensures.counted
+    (record { answerer = c.row_of.new.answerer; show = c.args.self.now.show; tally = c.count.new.self }) c.args.item c.args.steps.now
+    c.row_of.new.steps c.row_of.ensures.same c.in_ok-row.ensures.counted

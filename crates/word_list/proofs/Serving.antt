@@ -1,0 +1,119 @@
+-- A call picks an engine of small maps only where its command's row allows one.
+use Rattle.std.proofs.Common.{◌≡◌, ℕ, Bool, true, false, List, [], ◌∷◌, ◌++◌, length, drop, refl, ap, subst}
+use Rattle.std.specs.Prelude.{Option, Some, None, unwrap_or, option_and_then, bytes_eq, codes, if◌then◌else◌}
+use Rattle.std.specs.List.{fold}
+use Rattle.std.proofs.lemmas.Bool.{and_parts}
+use Rattle.word_list.specs.declared.request.Pick.{Pick}
+use Rattle.word_list.specs.declared.request.Pick.TheVariants.{Plain, Jps, Block, Plus, Boxes, Moves}
+use Rattle.word_list.specs.declared.request.Settings.{Settings}
+use Rattle.word_list.specs.declared.rows.Kind.{Kind}
+use Rattle.word_list.specs.declared.settings.Family.{Family}
+use Rattle.word_list.specs.declared.settings.Setting.{Setting}
+use Rattle.word_list.specs.declared.settings.Setting.TheVariants as setting
+use Rattle.word_list.specs.Calls.{fits, call_of}
+use Rattle.word_list.specs.Request.{Call}
+use Rattle.word_list.specs.Rows.{Row, row_of, is_of, asked_by}
+use Rattle.word_list.specs.Serving.{IsServed, takes_small_maps}
+use Rattle.word_list.specs.Settings.{setting_of, is_for_small_maps, is_allowed, may_follow, all_follow, are_settings, settings_with, default_settings}
+
+-- families that allow no engine of small maps
+abbrev BarSmall : List Family → Type 0
+BarSmall allows = (pick : Pick) → is_allowed allows (Some (setting.Engine pick)) ≡ true → is_for_small_maps pick ≡ false
+
+bars : (allows : List Family) → is_allowed allows (Some (setting.Engine Boxes)) ≡ false
+    → is_allowed allows (Some (setting.Engine Moves)) ≡ false → BarSmall allows
+bars allows boxes moves Plain may = refl
+bars allows boxes moves Jps may = refl
+bars allows boxes moves Block may = refl
+bars allows boxes moves Plus may = refl
+bars allows boxes moves Boxes may = absurd (cc)
+bars allows boxes moves Moves may = absurd (cc)
+
+module _ (allows : List Family) (bar : BarSmall allows) where
+  with_one : (set : Settings) (s : Option Setting) → is_allowed allows s ≡ true → is_for_small_maps set.pick ≡ false
+      → is_for_small_maps (settings_with set s).pick ≡ false
+  with_one set None may large = large
+  with_one set (Some (setting.Engine pick)) may large = bar pick may
+  with_one set (Some (setting.Show show)) may large = large
+  with_one set (Some (setting.Rule one)) may large = large
+
+  -- no word of such settings picks one
+  with_all : (before words : List (List ℕ)) (set : Settings) → all_follow allows before words ≡ true
+      → is_for_small_maps set.pick ≡ false
+      → is_for_small_maps (fold (λ all word. settings_with all (setting_of word)) set words).pick ≡ false
+  with_all before [] set follow large = large
+  with_all before (word ∷ words) set follow large =
+      let parts = and_parts (may_follow allows before word) (all_follow allows (before ++ word ∷ []) words) follow in
+      with_all (before ++ word ∷ []) words (settings_with set (setting_of word)) parts.1
+      (with_one set (setting_of word) (and_parts (is_allowed allows (setting_of word)) _ parts.0).0 large)
+
+-- behind the words that a command takes stand its settings
+settings_behind : (takes : List Kind) (allows : List Family) (words : List (List ℕ)) → fits takes allows words ≡ true
+    → are_settings allows (drop (length takes) words) ≡ true
+settings_behind [] allows words fit = fit
+settings_behind (kind ∷ takes) allows [] fit = absurd (cc)
+settings_behind (kind ∷ takes) allows (word ∷ words) fit =
+    settings_behind takes allows words (and_parts (is_of kind word) (fits takes allows words) fit).1
+
+-- a row allows them only for a command that they may serve
+record IsServing (row : Row) : Type 0 where
+  bar : (words : List (List ℕ)) → takes_small_maps (asked_by row.command words) ≡ false → BarSmall row.allows
+
+-- the row of a name is this one, or one behind it
+either : (b : Bool) (row : Row) (others : Option Row) (one : Row) → IsServing row
+    → (others ≡ Some one → IsServing one) → (if b then Some row else others) ≡ Some one → IsServing one
+either true row others one here behind e = subst (λ (r : Row). IsServing r) (ap (λ (o : Option Row). unwrap_or o row) e) here
+either false row others one here behind e = behind e
+
+barred : (row : Row) → is_allowed row.allows (Some (setting.Engine Boxes)) ≡ false
+    → is_allowed row.allows (Some (setting.Engine Moves)) ≡ false → IsServing row
+barred row boxes moves = record { bar = λ words no. bars row.allows boxes moves }
+
+row_serves : (name : List ℕ) (row : Row) → row_of name ≡ Some row → IsServing row
+row_serves name row e =
+    either (bytes_eq name (codes "--help")) _ _ row (barred _ refl refl)
+    (either (bytes_eq name (codes "--version")) _ _ row (barred _ refl refl)
+    (either (bytes_eq name (codes "query")) _ _ row (record { bar = λ words no. absurd (cc) })
+    (either (bytes_eq name (codes "solve")) _ _ row (barred _ refl refl)
+    (either (bytes_eq name (codes "live")) _ _ row (barred _ refl refl)
+    (either (bytes_eq name (codes "scen")) _ _ row (record { bar = λ words no. absurd (cc) })
+    (either (bytes_eq name (codes "judge")) _ _ row (barred _ refl refl)
+    (either (bytes_eq name (codes "prove")) _ _ row (barred _ refl refl)
+    (either (bytes_eq name (codes "check")) _ _ row (barred _ refl refl)
+    (either (bytes_eq name (codes "make")) _ _ row (barred _ refl refl)
+    (either (bytes_eq name (codes "drill")) _ _ row (barred _ refl refl)
+    (either (bytes_eq name (codes "draw")) _ _ row (barred _ refl refl)
+    (either (bytes_eq name (codes "costs")) _ _ row (barred _ refl refl)
+    (either (bytes_eq name (codes "tables")) _ _ row (barred _ refl refl)
+    (either (bytes_eq name (codes "boxes")) _ _ row (barred _ refl refl)
+    (either (bytes_eq name (codes "moves")) _ _ row (barred _ refl refl)
+    (λ no. absurd (cc))))))))))))))))) e
+
+same_call : (one other : Call) → Some one ≡ Some other → one ≡ other
+same_call one other e = ap (λ (o : Option Call). unwrap_or o one) e
+
+-- so the engine of a call may serve what it asks for
+pub served : (words : List (List ℕ)) (call : Call) → call_of words ≡ Some call → IsServed call.request call.settings
+served [] call e = absurd (cc)
+served (name ∷ words) call e = by_row (row_of name) refl e
+  where
+    by_fit : (row : Row) → IsServing row → (b : Bool) → fits row.takes row.allows words ≡ b
+        → (let told : Call = record {
+          request = asked_by row.command words;
+          settings = fold (λ set word. settings_with set (setting_of word)) default_settings
+              (drop (length row.takes) words);
+        } in (if b then Some told else None) ≡ Some call) → IsServed call.request call.settings
+    by_fit row is true fit e =
+        subst (λ (k : Call). IsServed k.request k.settings) (same_call _ call e)
+        (λ no. with_all row.allows (is.bar words no) [] (drop (length row.takes) words) default_settings
+        (settings_behind row.takes row.allows words fit) refl)
+    by_fit row is false fit e = absurd (cc)
+
+    by_row : (o : Option Row) → row_of name ≡ o → option_and_then
+        (λ row. if fits row.takes row.allows words then Some (record {
+          request = asked_by row.command words;
+          settings = fold (λ set word. settings_with set (setting_of word)) default_settings
+              (drop (length row.takes) words);
+        }) else None) o ≡ Some call → IsServed call.request call.settings
+    by_row None is e = absurd (cc)
+    by_row (Some row) is e = by_fit row (row_serves name row is) (fits row.takes row.allows words) refl e
