@@ -16,13 +16,12 @@ ghost use Rattle.jps_run.specs.Who.{IsBoxedReply, IsLedReply, IsReplyBy, fewest_
 use crate::NoMemory;
 use crate::files::OfMap;
 use crate::kind::Extent;
-use crate::layers::Layers;
 use crate::query::Ends;
 use crate::small::{ends_on, follow_moves, search_boxed};
 use edit_replay::{Reply, Session};
 use first_moves::Moves;
 use goal_boxes::Boxes;
-use grid_moves::{Cell, Terrain};
+use grid_moves::{Cell, Layers, Terrain};
 use map_text::MapText;
 use std::alloc::Global;
 use std::sync::ledger::Ledger;

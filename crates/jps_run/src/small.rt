@@ -9,12 +9,11 @@ ghost use Rattle.jps_run.specs.Answerers.{AreEndsOn, IsUnsearched};
 ghost use Rattle.jps_run.specs.Who.{IsBoxedReply, IsLedReply, IsReplyBy, by_boxes, by_moves};
 
 use crate::NoMemory;
-use crate::layers::Layers;
 use crate::query::Ends;
 use edit_replay::Reply;
 use first_moves::{Moves, follow_by_pass};
 use goal_boxes::{Boxed, Boxes, boxed_query, boxed_search};
-use grid_moves::{Cell, Grid};
+use grid_moves::{Cell, Grid, Layers};
 use plain_search::Taken;
 use std::alloc::Global;
 use std::marker::Brand;
