@@ -11,7 +11,7 @@ use Rattle.scen_text.specs.Lengths.{IsKept}
 use Rattle.scen_text.specs.declared.entry.Entry.{Entry}
 use Rattle.potential_check.specs.Text.{certificate_of, plain as claimed_by}
 use Rattle.potential_check.specs.declared.certificate.Certificate.{Certificate}
-use Rattle.grid_moves.specs.Layers.{Layers}
+use Rattle.grid_moves.specs.Layers.{Layers, layers_of}
 use Rattle.walk_judge.specs.Telling.{IsFit}
 use Rattle.walk_judge.specs.Walks.{walks_of}
 use Rattle.walk_judge.specs.declared.telling.Told.{Told}

@@ -14,7 +14,7 @@ use Rattle.word_list.specs.Calls.{fits, call_of}
 use Rattle.word_list.specs.Request.{Call}
 use Rattle.word_list.specs.Rows.{Row, row_of, is_of, asked_by}
 use Rattle.word_list.specs.Serving.{IsServed, takes_small_maps}
-use Rattle.word_list.specs.Settings.{setting_of, is_for_small_maps, is_allowed, may_follow, all_follow, are_settings, settings_with, default_settings}
+use Rattle.word_list.specs.Settings.{setting_of, is_for_small_maps, is_allowed, may_follow, all_follow, are_settings, settings_with, tables_of, default_settings}
 
 -- families that allow no engine of small maps
 abbrev BarSmall : List Family → Type 0
@@ -36,6 +36,7 @@ module _ (allows : List Family) (bar : BarSmall allows) where
   with_one set (Some (setting.Engine pick)) may large = bar pick may
   with_one set (Some (setting.Show show)) may large = large
   with_one set (Some (setting.Rule one)) may large = large
+  with_one set (Some setting.TableFile) may large = large
 
   -- no word of such settings picks one
   with_all : (before words : List (List ℕ)) (set : Settings) → all_follow allows before words ≡ true
@@ -57,7 +58,8 @@ settings_behind (kind ∷ takes) allows (word ∷ words) fit =
 
 -- a row allows them only for a command that they may serve
 record IsServing (row : Row) : Type 0 where
-  bar : (words : List (List ℕ)) → takes_small_maps (asked_by row.command words) ≡ false → BarSmall row.allows
+  bar : (words : List (List ℕ)) (tables : Option (List ℕ)) → takes_small_maps (asked_by row.command words tables) ≡ false
+      → BarSmall row.allows
 
 -- the row of a name is this one, or one behind it
 either : (b : Bool) (row : Row) (others : Option Row) (one : Row) → IsServing row
@@ -67,16 +69,16 @@ either false row others one here behind e = behind e
 
 barred : (row : Row) → is_allowed row.allows (Some (setting.Engine Boxes)) ≡ false
     → is_allowed row.allows (Some (setting.Engine Moves)) ≡ false → IsServing row
-barred row boxes moves = record { bar = λ words no. bars row.allows boxes moves }
+barred row boxes moves = record { bar = λ words tables no. bars row.allows boxes moves }
 
 row_serves : (name : List ℕ) (row : Row) → row_of name ≡ Some row → IsServing row
 row_serves name row e =
     either (bytes_eq name (codes "--help")) _ _ row (barred _ refl refl)
     (either (bytes_eq name (codes "--version")) _ _ row (barred _ refl refl)
-    (either (bytes_eq name (codes "query")) _ _ row (record { bar = λ words no. absurd (cc) })
+    (either (bytes_eq name (codes "query")) _ _ row (record { bar = λ words tables no. absurd (cc) })
     (either (bytes_eq name (codes "solve")) _ _ row (barred _ refl refl)
     (either (bytes_eq name (codes "live")) _ _ row (barred _ refl refl)
-    (either (bytes_eq name (codes "scen")) _ _ row (record { bar = λ words no. absurd (cc) })
+    (either (bytes_eq name (codes "scen")) _ _ row (record { bar = λ words tables no. absurd (cc) })
     (either (bytes_eq name (codes "judge")) _ _ row (barred _ refl refl)
     (either (bytes_eq name (codes "prove")) _ _ row (barred _ refl refl)
     (either (bytes_eq name (codes "check")) _ _ row (barred _ refl refl)
@@ -99,19 +101,20 @@ served (name ∷ words) call e = by_row (row_of name) refl e
   where
     by_fit : (row : Row) → IsServing row → (b : Bool) → fits row.takes row.allows words ≡ b
         → (let told : Call = record {
-          request = asked_by row.command words;
+          request = asked_by row.command words (tables_of (drop (length row.takes) words));
           settings = fold (λ set word. settings_with set (setting_of word)) default_settings
               (drop (length row.takes) words);
         } in (if b then Some told else None) ≡ Some call) → IsServed call.request call.settings
     by_fit row is true fit e =
         subst (λ (k : Call). IsServed k.request k.settings) (same_call _ call e)
-        (λ no. with_all row.allows (is.bar words no) [] (drop (length row.takes) words) default_settings
-        (settings_behind row.takes row.allows words fit) refl)
+        (λ no. with_all row.allows (is.bar words (tables_of (drop (length row.takes) words)) no) [] (drop (length row.takes) words) default_settings
+        (and_parts (all_follow row.allows [] (drop (length row.takes) words)) _
+        (settings_behind row.takes row.allows words fit)).0 refl)
     by_fit row is false fit e = absurd (cc)
 
     by_row : (o : Option Row) → row_of name ≡ o → option_and_then
         (λ row. if fits row.takes row.allows words then Some (record {
-          request = asked_by row.command words;
+          request = asked_by row.command words (tables_of (drop (length row.takes) words));
           settings = fold (λ set word. settings_with set (setting_of word)) default_settings
               (drop (length row.takes) words);
         }) else None) o ≡ Some call → IsServed call.request call.settings
