@@ -89,7 +89,7 @@ fn sweep_abreast<L: Ledger>(
 }
 
 // Makes the entries for `d` right that wait for the cells of this row and these columns; says how many
-// changed. Fewer than eight walks share too few lines of memory to be led side by side.
+// changed. Fewer than 64 walks share too few lines of memory to be led side by side.
 fn sweep_row<L: Ledger>(
     tables: &mut Tables,
     grid: &Grid,
@@ -108,7 +108,7 @@ fn sweep_row<L: Ledger>(
     ensures steps { steps.new ≤ steps.old + result + span_length columns }
     ensures later { steps.old ≤ steps.new }
 {
-    let many = columns.end >= 8 && columns.first <= columns.end - 8;
+    let many = columns.end >= 64 && columns.first <= columns.end - 64;
     if is_diagonal(d) && many {
         sweep_abreast(tables, grid, y, columns, d, steps)
     } else {

@@ -98,13 +98,18 @@ fn next_word(state: &mut u64) -> u32 {
     (*state >> 33) as u32
 }
 
-// So many cells, about a quarter of them blocked.
-fn mixed_cells(alloc: Global, count: usize, state: &mut u64) -> Result<Vec<u8>, NoMemory>
+// So many cells, about so many of a hundred blocked.
+fn mixed_cells(
+    alloc: Global,
+    count: usize,
+    percent: u32,
+    state: &mut u64,
+) -> Result<Vec<u8>, NoMemory>
     ensures { IfOk result (λ cells. length cells.items ≡ count) }
 {
     let mut cells = Vec::new(alloc);
     for _ in 0..count {
-        cells.push(if next_word(state) % 4 == 0 {
+        cells.push(if next_word(state) % 100 < percent {
             b'@'
         } else {
             b'.'
@@ -140,6 +145,7 @@ fn places_apart(one: &[i16], other: &[i16]) -> usize {
 fn edits_agree<L: Ledger>(
     alloc: Global,
     side: u16,
+    percent: u32,
     edits: u32,
     corner: Corner,
     blank: Blank,
@@ -152,7 +158,7 @@ fn edits_agree<L: Ledger>(
 {
     let mut steps = Steps::<L>::new(blank);
     let mut state = 18;
-    let cells = mixed_cells(alloc, side as usize * side as usize, &mut state)?;
+    let cells = mixed_cells(alloc, side as usize * side as usize, percent, &mut state)?;
     let mut grid = Grid::of_cells(alloc, side, side, &cells, corner)?;
     let mut tables = Tables::build(alloc, &grid)?;
     let mut before = entries_of(alloc, &tables, &mut steps)?;
@@ -178,7 +184,16 @@ fn edits_agree<L: Ledger>(
 #[test]
 fn five_hundred_edits(rt: HostRuntime) -> Result<(), Fail> {
     for corner in [Corner::Never, Corner::One] {
-        assert!(rt; edits_agree::<Brand>(rt.alloc(), 64, 500, corner, Blank::new(1))?);
+        assert!(rt; edits_agree::<Brand>(rt.alloc(), 64, 25, 500, corner, Blank::new(1))?);
+    }
+    Ok(())
+}
+
+// In an open map changes spread over more than 64 rows, whose walks keep abreast.
+#[test]
+fn edits_of_an_open_map(rt: HostRuntime) -> Result<(), Fail> {
+    for corner in [Corner::Never, Corner::One] {
+        assert!(rt; edits_agree::<Brand>(rt.alloc(), 200, 0, 20, corner, Blank::new(1))?);
     }
     Ok(())
 }
