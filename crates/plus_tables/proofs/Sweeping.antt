@@ -227,15 +227,12 @@ module _ (g : GridData) (x y : ℕ) where
       (is_dir i NW)))
 
 -- what is read of a row of entries is the entry
-pub row_value : (g : GridData) → IsGrid g → (x y : ℕ) (d : Dir) (row : List ℤ) (value : ℤ) (k : ℕ) → k ≡ x + 1
-    → k < length row → value ≡ slice_index_or row k value → IsEntryRow g y d row
+pub row_number : (g : GridData) → IsGrid g → (x y : ℕ) (d : Dir) (row : List ℤ) → IsEntryRow g y d row
     → is_inside g (record { x = x; y = y }) ≡ true
-    → to_z w16 (of_z w16 value) ≡ table_entry g (record { x = x; y = y }) d
-row_value g whole x y d row value k same below read is inside =
-    same_value (table_entry g (record { x = x; y = y }) d) value
-    (table_entry-short g whole (record { x = x; y = y }) d)
-    (get_or_read row k value below read (pos 0) ∙ ap (λ (n : ℕ). number row n) same
-    ∙ is (record { x = x; y = y }) refl inside)
+    → to_z w16 (of_z w16 (number row (x + 1))) ≡ table_entry g (record { x = x; y = y }) d
+row_number g whole x y d row is inside =
+    same_value (table_entry g (record { x = x; y = y }) d) (number row (x + 1))
+    (table_entry-short g whole (record { x = x; y = y }) d) (is (record { x = x; y = y }) refl inside)
 
 -- and what was right stays right
 pub right_swept : (t u : TablesData) (g : GridData) (done before after : Cell → Dir → Bool)

@@ -234,11 +234,13 @@ impl Tables {
         requires told { IsLine (T.grid t.now) Dir.N y line.now }
         ensures { AreSwept (T.grid t.now) (upward_row y) self.old self.new }
     {
+        let (straight, right) = (line.straight.as_slice(), line.right.as_slice());
+        let left = line.left.as_slice();
+        let (east, west) = (line.east.as_slice(), line.west.as_slice());
         for x in 0..self.width {
             let c = Cell { x, y };
             let at = x as usize + 1;
-            let (n, ne, nw) = (line.straight[at], line.right[at], line.left[at]);
-            self.put_up(c, n, ne, line.east[at], line.west[at], nw);
+            self.put_up(c, straight[at], right[at], east[at], west[at], left[at]);
         }
     }
 
@@ -301,10 +303,12 @@ impl Tables {
         requires told { AreBelow (T.grid t.now) y line.now }
         ensures { AreSwept (T.grid t.now) (downward_row y) self.old self.new }
     {
+        let straight = line.straight.as_slice();
+        let (right, left) = (line.right.as_slice(), line.left.as_slice());
         for x in 0..self.width {
             let c = Cell { x, y };
             let at = x as usize + 1;
-            self.put_down(c, line.straight[at], line.left[at], line.right[at]);
+            self.put_down(c, straight[at], left[at], right[at]);
         }
     }
 

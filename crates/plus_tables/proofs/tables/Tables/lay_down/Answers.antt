@@ -1,10 +1,11 @@
-use Rattle.std.proofs.Common.{◌≡◌, ◌+◌, ◌<◌, true, arith, refl, ap, w16, to_z, of_z}
+use Rattle.std.proofs.Common.{◌≡◌, ◌+◌, ◌<◌, true, arith, ap}
 use Rattle.std.proofs.lemmas.Bool.Decides.{nat_tests}
 use Rattle.grid_moves.specs.declared.Cell.{Cell}
 use Rattle.grid_moves.specs.declared.Dir.TheVariants.{S, SE, SW}
 use Rattle.grid_moves.specs.Grid.{GridData, is_inside}
 use Rattle.plus_tables.specs.Tables.{TablesData, is_on}
-use Rattle.plus_tables.proofs.Sweeping.{row_value, laid_down, laid_row, is_downward}
+use Rattle.plus_tables.proofs.Sweeping.{row_number, laid_down, laid_row, is_downward}
+use Rattle.plus_tables.proofs.Lining.{entries_as}
 use Rattle.plus_tables.proofs.tables.Tables.lay_down.Goals as goal
 
 pub loop-x-preserved : goal.loop-x-preserved
@@ -24,17 +25,15 @@ loop-x-preserved g c =
     let on : is_on c.loop-x.self at ≡ true = grind (arith, nat_tests) in
     let inside_column : x < grid.width = grind (arith, nat_tests) in
     let inside : is_inside grid at ≡ true = grind (arith, nat_tests) in
-    laid_down grid x y c.args.self.now c.loop-x.self c.put_down.new.self
-    (to_z w16 (of_z w16 c.index.result.now)) (to_z w16 (of_z w16 c.index-in-loop-x.result.now))
-    (to_z w16 (of_z w16 c.index-in-loop-x-2.result.now))
+    laid_down grid x y c.args.self.now c.loop-x.self c.put_down.new.self _ _ _
     c.loop-x.invariant on c.put_down.ensures
-    (row_value grid c.requires.whole x y S line.straight.items c.index.result.now (x + 1) refl
-    (omega (arith, c.requires.long.straight, inside_column)) c.index.ensures c.requires.told.straight inside)
-    (row_value grid c.requires.whole x y SE line.left.items c.index-in-loop-x.result.now (x + 1) refl
-    (omega (arith, c.requires.long.left, inside_column)) c.index-in-loop-x.ensures c.requires.told.left
-    inside)
-    (row_value grid c.requires.whole x y SW line.right.items c.index-in-loop-x-2.result.now (x + 1) refl
-    (omega (arith, c.requires.long.right, inside_column)) c.index-in-loop-x-2.ensures c.requires.told.right
+    (row_number grid c.requires.whole x y S c.as_slice-straight.result.now (entries_as grid y S
+    line.straight.items c.as_slice-straight.result.now c.as_slice-straight.ensures.value
+    c.requires.told.straight) inside)
+    (row_number grid c.requires.whole x y SE c.as_slice-left.result.now (entries_as grid y SE
+    line.left.items c.as_slice-left.result.now c.as_slice-left.ensures.value c.requires.told.left) inside)
+    (row_number grid c.requires.whole x y SW c.as_slice-right.result.now (entries_as grid y SW
+    line.right.items c.as_slice-right.result.now c.as_slice-right.ensures.value c.requires.told.right)
     inside)
 
 pub returns : goal.returns

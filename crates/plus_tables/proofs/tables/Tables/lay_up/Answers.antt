@@ -1,11 +1,12 @@
-use Rattle.std.proofs.Common.{◌≡◌, ◌+◌, ◌<◌, true, arith, refl, ap, w16, to_z, of_z}
+use Rattle.std.proofs.Common.{◌≡◌, ◌+◌, ◌<◌, true, arith, ap}
 use Rattle.std.proofs.lemmas.Bool.Decides.{nat_tests}
 use Rattle.grid_moves.specs.declared.Cell.{Cell}
 use Rattle.grid_moves.specs.declared.Dir.TheVariants.{N, NE, E, W, NW}
 use Rattle.grid_moves.specs.Grid.{GridData, is_inside}
 use Rattle.plus_tables.specs.Tables.{TablesData, is_on}
 use Rattle.plus_tables.specs.Sweep.{is_upward}
-use Rattle.plus_tables.proofs.Sweeping.{row_value, laid_up, laid_row}
+use Rattle.plus_tables.proofs.Sweeping.{row_number, laid_up, laid_row}
+use Rattle.plus_tables.proofs.Lining.{entries_as}
 use Rattle.plus_tables.proofs.tables.Tables.lay_up.Goals as goal
 
 pub loop-x-preserved : goal.loop-x-preserved
@@ -25,25 +26,18 @@ loop-x-preserved g c =
     let on : is_on c.loop-x.self at ≡ true = grind (arith, nat_tests) in
     let inside_column : x < grid.width = grind (arith, nat_tests) in
     let inside : is_inside grid at ≡ true = grind (arith, nat_tests) in
-    laid_up grid x y c.args.self.now c.loop-x.self c.put_up.new.self
-    (to_z w16 (of_z w16 c.index.result.now)) (to_z w16 (of_z w16 c.index-in-loop-x.result.now))
-    (to_z w16 (of_z w16 c.index-in-loop-x-3.result.now))
-    (to_z w16 (of_z w16 c.index-in-loop-x-4.result.now)) (to_z w16 (of_z w16 c.index-in-loop-x-2.result.now))
+    laid_up grid x y c.args.self.now c.loop-x.self c.put_up.new.self _ _ _ _ _
     c.loop-x.invariant on c.put_up.ensures
-    (row_value grid c.requires.whole x y N line.straight.items c.index.result.now (x + 1) refl
-    (omega (arith, c.requires.long.straight, inside_column)) c.index.ensures c.requires.told.straight inside)
-    (row_value grid c.requires.whole x y NE line.right.items c.index-in-loop-x.result.now (x + 1) refl
-    (omega (arith, c.requires.long.right, inside_column)) c.index-in-loop-x.ensures c.requires.told.right
-    inside)
-    (row_value grid c.requires.whole x y E line.east.items c.index-in-loop-x-3.result.now (x + 1) refl
-    (omega (arith, c.requires.long.east, inside_column)) c.index-in-loop-x-3.ensures c.requires.told.east
-    inside)
-    (row_value grid c.requires.whole x y W line.west.items c.index-in-loop-x-4.result.now (x + 1) refl
-    (omega (arith, c.requires.long.west, inside_column)) c.index-in-loop-x-4.ensures c.requires.told.west
-    inside)
-    (row_value grid c.requires.whole x y NW line.left.items c.index-in-loop-x-2.result.now (x + 1) refl
-    (omega (arith, c.requires.long.left, inside_column)) c.index-in-loop-x-2.ensures c.requires.told.left
-    inside)
+    (row_number grid c.requires.whole x y N c.as_slice-straight.result.now (entries_as grid y N line.straight.items
+    c.as_slice-straight.result.now c.as_slice-straight.ensures.value c.requires.told.straight) inside)
+    (row_number grid c.requires.whole x y NE c.as_slice-right.result.now (entries_as grid y NE line.right.items
+    c.as_slice-right.result.now c.as_slice-right.ensures.value c.requires.told.right) inside)
+    (row_number grid c.requires.whole x y E c.as_slice-east.result.now (entries_as grid y E line.east.items
+    c.as_slice-east.result.now c.as_slice-east.ensures.value c.requires.told.east) inside)
+    (row_number grid c.requires.whole x y W c.as_slice-west.result.now (entries_as grid y W line.west.items
+    c.as_slice-west.result.now c.as_slice-west.ensures.value c.requires.told.west) inside)
+    (row_number grid c.requires.whole x y NW c.as_slice-left.result.now (entries_as grid y NW line.left.items
+    c.as_slice-left.result.now c.as_slice-left.ensures.value c.requires.told.left) inside)
 
 pub returns : goal.returns
 returns g c =
