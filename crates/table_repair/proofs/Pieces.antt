@@ -176,8 +176,8 @@ pub piece_counted : (steps now start changed one first next end all : ℕ) → f
     → now + (end - next) ≤ start + (changed + one) + all
 piece_counted steps now start changed one first next end all l m h k = omega arith
 
-pub piece_short : (walks before : List Walk) (n : ℕ) → before ≡ [] → length walks ≡ length before + n → n ≤ 512
-    → length walks ≤ 512
+pub piece_short : (walks before : List Walk) (n : ℕ) → before ≡ [] → length walks ≡ length before + n
+    → n ≤ 512 → length walks ≤ 512
 piece_short walks before n e long short = of_none (length before) (rw e refl) long
   where
     of_none : (m : ℕ) → m ≡ 0 → length walks ≡ m + n → length walks ≤ 512

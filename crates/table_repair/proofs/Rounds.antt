@@ -202,8 +202,8 @@ pub round_done : (h : GridData) (d : Dir) (old now : TablesData) (first steps : 
     (i : ℕ) → Round h d old now first steps here onward i → length here ≤ i
     → Queued h d (is_at_one here) old now first steps (length here) (room_of h d here) onward (length onward)
 round_done h d old now first steps here onward i round l =
-    subst (λ (vs : List Walk). Queued h d (is_at_one here) old now first steps (length here) (room_of h d here)
-    vs (length onward)) none round.queued
+    subst (λ (vs : List Walk). Queued h d (is_at_one here) old now first steps (length here)
+    (room_of h d here) vs (length onward)) none round.queued
   where
     none : drop i here ++ onward ≡ onward
     none = rw (drop_all i here l) refl
@@ -220,7 +220,8 @@ pub rounds_more : (h : GridData) (d : Dir) (starts : Cell → Bool) (old now new
     (first steps counted all room : ℕ) (walks onward : List Walk) (n : ℕ)
     → Queued h d starts old now first steps all room walks n
     → KeepAbreast h d (is_at_one walks) now new onward no_cell (length onward)
-    → length onward + room_of h d onward ≤ room_of h d walks → counted ≤ steps + length walks → steps ≤ counted
+    → length onward + room_of h d onward ≤ room_of h d walks → counted ≤ steps + length walks
+    → steps ≤ counted
     → Queued h d starts old new first counted all room onward (n + length onward)
 rounds_more h d starts old now new first steps counted all room walks onward n queued abreast less c later =
     record {
@@ -252,7 +253,8 @@ room_left h d walks (v ∷ vs) some less = omega arith
 pub round_told : (h : GridData) (d : Dir) (old now : TablesData) (first steps : ℕ)
     (walks here onward : List Walk) (i : ℕ) → Round h d old now first steps here onward i → here ≡ walks
     → length here ≤ i
-    → Queued h d (is_at_one walks) old now first steps (length walks) (room_of h d walks) onward (length onward)
+    → Queued h d (is_at_one walks) old now first steps (length walks) (room_of h d walks) onward
+    (length onward)
 round_told h d old now first steps walks here onward i round e l =
     rw (← e) (round_done h d old now first steps here onward i round l)
 

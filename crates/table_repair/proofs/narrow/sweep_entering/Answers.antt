@@ -49,9 +49,9 @@ enter_row-changed-requires-clause-row_right g c =
     c.take_far.ensures.rest in
     let low = row_below c.args.grid.now c.args.rows c.in-Some.y (i.within c.in-Some.y taken.member)
     c.requires.rows in
-    enter_right c.args.grid.now c.args.d c.args.rows c.args.columns c.loop-y.left c.take_far.new.span c.in-Some.y
-    c.args.tables.now c.loop-y.tables c.loop-y.walks.items c.loop-y.changed c.requires.diagonal i.abreast i.past
-    i.within taken c.requires.waits
+    enter_right c.args.grid.now c.args.d c.args.rows c.args.columns c.loop-y.left
+    c.take_far.new.span c.in-Some.y c.args.tables.now c.loop-y.tables c.loop-y.walks.items
+    c.loop-y.changed c.requires.diagonal i.abreast i.past i.within taken c.requires.waits
     (λ v k. row_on_map c.args.grid.now c.in-Some.y c.args.columns v low c.requires.columns k)
 
 pub loop-y-preserved : goal.loop-y-preserved
@@ -63,18 +63,18 @@ loop-y-preserved g c =
     let low = row_below c.args.grid.now c.args.rows c.in-Some.y (i.within c.in-Some.y taken.member)
     c.requires.rows in
     record {
-      abreast = enter_next c.args.grid.now c.args.d c.args.rows c.args.columns c.loop-y.left c.take_far.new.span c.in-Some.y
-          c.args.tables.now c.loop-y.tables c.loop-y.walks.items c.loop-y.changed c.requires.diagonal i.abreast i.past
-          i.within taken
+      abreast = enter_next c.args.grid.now c.args.d c.args.rows c.args.columns c.loop-y.left
+          c.take_far.new.span c.in-Some.y c.args.tables.now c.loop-y.tables c.loop-y.walks.items
+          c.loop-y.changed c.requires.diagonal i.abreast i.past i.within taken
           c.enter_row-changed.new.tables c.enter_row-changed.new.walks.items c.enter_row-changed.result
-          (enter_right c.args.grid.now c.args.d c.args.rows c.args.columns c.loop-y.left c.take_far.new.span c.in-Some.y
-          c.args.tables.now c.loop-y.tables c.loop-y.walks.items c.loop-y.changed c.requires.diagonal i.abreast i.past
-          i.within taken c.requires.waits
+          (enter_right c.args.grid.now c.args.d c.args.rows c.args.columns c.loop-y.left
+          c.take_far.new.span c.in-Some.y c.args.tables.now c.loop-y.tables c.loop-y.walks.items
+          c.loop-y.changed c.requires.diagonal i.abreast i.past i.within taken c.requires.waits
           (λ v k. row_on_map c.args.grid.now c.in-Some.y c.args.columns v low c.requires.columns k))
           c.enter_row-changed.ensures.abreast;
-      past = λ w k. enter_past c.args.grid.now c.args.d c.args.rows c.args.columns c.loop-y.left c.take_far.new.span c.in-Some.y
-          c.args.tables.now c.loop-y.tables c.loop-y.walks.items c.loop-y.changed c.requires.diagonal i.abreast i.past
-          i.within taken w
+      past = λ w k. enter_past c.args.grid.now c.args.d c.args.rows c.args.columns c.loop-y.left
+          c.take_far.new.span c.in-Some.y c.args.tables.now c.loop-y.tables c.loop-y.walks.items
+          c.loop-y.changed c.requires.diagonal i.abreast i.past i.within taken w
           (c.enter_row-changed.ensures.behind w k);
       within = λ k h. i.within k (taken.within k h);
       short = c.enter_row-changed.ensures.short;
@@ -99,7 +99,8 @@ pub returns-clause-mends : goal.returns-clause-mends
 returns-clause-mends g c =
     let none = none_left c.loop-y.left c.args.columns (none_taken c.goes_down.result c.loop-y.left
     (sym c.take_far.ensures.taken ∙ c.in_default.is)) in
-    (enter_ends c.args.grid.now c.args.d (is_in c.args.rows c.args.columns) (is_in c.loop-y.left c.args.columns)
+    (enter_ends c.args.grid.now c.args.d (is_in c.args.rows c.args.columns)
+    (is_in c.loop-y.left c.args.columns)
     c.args.tables.now c.loop-y.tables c.lead_out.new.tables c.loop-y.walks.items c.lead_out.new.walks.items
     c.loop-y.changed c.lead_out.result c.loop-y.invariant.abreast none c.lead_out.ensures.abreast).mends
 
@@ -109,7 +110,8 @@ returns-clause-sweeps g c =
     (sym c.take_far.ensures.taken ∙ c.in_default.is)) in
     abreast_ends c.args.grid.now c.args.d (is_in c.args.rows c.args.columns) c.args.tables.now
     c.lead_out.new.tables c.lead_out.new.walks.items (c.loop-y.changed + c.lead_out.result)
-    (enter_ends c.args.grid.now c.args.d (is_in c.args.rows c.args.columns) (is_in c.loop-y.left c.args.columns)
+    (enter_ends c.args.grid.now c.args.d (is_in c.args.rows c.args.columns)
+    (is_in c.loop-y.left c.args.columns)
     c.args.tables.now c.loop-y.tables c.lead_out.new.tables c.loop-y.walks.items c.lead_out.new.walks.items
     c.loop-y.changed c.lead_out.result c.loop-y.invariant.abreast none c.lead_out.ensures.abreast)
     c.lead_out.ensures.none

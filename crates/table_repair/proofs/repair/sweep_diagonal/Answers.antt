@@ -21,7 +21,8 @@ sweep-changed-requires-clause-waits g c =
 pub sweep_narrow-requires-clause-ready : goal.sweep_narrow-requires-clause-ready
 sweep_narrow-requires-clause-ready g c =
     let a = c.args in
-    ready_stays a.grid.now a.d (is_in a.rows c.columns_in_reach-wide.result) a.tables.now c.sweep-changed.new.tables
+    ready_stays a.grid.now a.d (is_in a.rows c.columns_in_reach-wide.result) a.tables.now
+    c.sweep-changed.new.tables
     c.sweep-changed.result c.sweep-changed.ensures.mends c.requires.ready
 
 pub sweep_narrow-requires-clause-rows : goal.sweep_narrow-requires-clause-rows
@@ -58,7 +59,8 @@ returns-clause-right g c =
 pub returns-clause-steps : goal.returns-clause-steps
 returns-clause-steps g c =
     let a = c.args in
-    steps_both a.steps.now c.sweep-changed.new.steps c.sweep_narrow.new.steps c.sweep-changed.result c.sweep_narrow.result
+    steps_both a.steps.now c.sweep-changed.new.steps c.sweep_narrow.new.steps c.sweep-changed.result
+    c.sweep_narrow.result
     _ _ _ c.sweep-changed.ensures.steps c.sweep_narrow.ensures.steps
     (cells_few a.grid.now a.rows a.columns c.columns_in_reach-wide.result c.rows_behind-rear.result a.by a.d
     c.requires.diagonal c.columns_in_reach-wide.ensures

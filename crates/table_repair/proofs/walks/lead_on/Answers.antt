@@ -11,7 +11,8 @@ nowhere = record { at = record { x = 0; y = 0 } }
 
 pub loop-walk-init : goal.loop-walk-init
 loop-walk-init g c = round_begins c.args.grid.now c.args.d c.args.tables.now c.args.steps.now
-    c.args.walks.now.items c.as_slice-here.result.now c.new-onward.result.items c.requires.ready c.requires.inside
+    c.args.walks.now.items c.as_slice-here.result.now c.new-onward.result.items c.requires.ready
+    c.requires.inside
     c.requires.right c.as_slice-here.ensures.value c.new-onward.ensures
 
 pub walk_on-requires-clause-ready : goal.walk_on-requires-clause-ready
@@ -52,7 +53,8 @@ loop-walk-preserved g c = elim c.match-walk_on.branch [
 
 pub returns-clause-abreast : goal.returns-clause-abreast
 returns-clause-abreast g c =
-    (round_told c.args.grid.now c.args.d c.args.tables.now c.loop-walk.tables c.args.steps.now c.loop-walk.steps
+    (round_told c.args.grid.now c.args.d c.args.tables.now c.loop-walk.tables c.args.steps.now
+    c.loop-walk.steps
     c.args.walks.now.items c.as_slice-here.result.now c.loop-walk.onward.items c.loop-walk.walk-index
     c.loop-walk.invariant c.as_slice-here.ensures.value c.loop-walk-test.false).abreast
 
@@ -62,19 +64,23 @@ returns-clause-behind g c = behind_told c.args.d c.args.walks.now.items c.as_sli
 
 pub returns-clause-room : goal.returns-clause-room
 returns-clause-room g c =
-    (round_told c.args.grid.now c.args.d c.args.tables.now c.loop-walk.tables c.args.steps.now c.loop-walk.steps
+    (round_told c.args.grid.now c.args.d c.args.tables.now c.loop-walk.tables c.args.steps.now
+    c.loop-walk.steps
     c.args.walks.now.items c.as_slice-here.result.now c.loop-walk.onward.items c.loop-walk.walk-index
     c.loop-walk.invariant c.as_slice-here.ensures.value c.loop-walk-test.false).few
 
 pub returns-clause-fewer : goal.returns-clause-fewer
-returns-clause-fewer g c = fewer_told c.args.walks.now.items c.as_slice-here.result.now c.loop-walk.onward.items
-    c.loop-walk.walk-index c.as_slice-here.ensures.value c.loop-walk.invariant.fewer c.loop-walk.invariant.within
+returns-clause-fewer g c = fewer_told c.args.walks.now.items c.as_slice-here.result.now
+    c.loop-walk.onward.items
+    c.loop-walk.walk-index c.as_slice-here.ensures.value c.loop-walk.invariant.fewer
+    c.loop-walk.invariant.within
 
 pub returns-clause-steps : goal.returns-clause-steps
 returns-clause-steps g c =
     let q = (round_told c.args.grid.now c.args.d c.args.tables.now c.loop-walk.tables c.args.steps.now
     c.loop-walk.steps c.args.walks.now.items c.as_slice-here.result.now c.loop-walk.onward.items
-    c.loop-walk.walk-index c.loop-walk.invariant c.as_slice-here.ensures.value c.loop-walk-test.false).counted in
+    c.loop-walk.walk-index c.loop-walk.invariant c.as_slice-here.ensures.value
+    c.loop-walk-test.false).counted in
     omega arith
 
 pub returns-clause-later : goal.returns-clause-later

@@ -6,7 +6,8 @@ use Rattle.table_repair.proofs.Rounds.{queued_none, rounds_more, room_few, room_
 use Rattle.table_repair.proofs.walks.lead_out.Goals as goal
 
 pub round-init : goal.round-init
-round-init g c = queued_none c.args.grid.now c.args.d c.args.tables.now c.args.steps.now c.args.walks.now.items
+round-init g c = queued_none c.args.grid.now c.args.d c.args.tables.now c.args.steps.now
+    c.args.walks.now.items
     c.requires.ready c.requires.inside c.requires.right
 
 pub lead_on-requires-clause-ready : goal.lead_on-requires-clause-ready
@@ -21,7 +22,8 @@ lead_on-requires-clause-right g c = λ w k. (c.round.invariant.abreast.mended w 
 pub overflow_add-changed : goal.overflow_add-changed
 overflow_add-changed g c =
     let few = c.round.invariant.few in
-    let room = room_few c.args.grid.now c.args.d c.args.walks.now.items c.requires.ready.grid c.requires.inside in
+    let room = room_few c.args.grid.now c.args.d c.args.walks.now.items c.requires.ready.grid
+    c.requires.inside in
     let short = c.requires.short in
     let less = c.lead_on.ensures.room in
     let len = c.len.ensures.value in
@@ -46,7 +48,8 @@ returns-clause-none g c = nil_from_length c.round.walks.items
 pub returns-clause-few : goal.returns-clause-few
 returns-clause-few g c =
     let few = c.round.invariant.few in
-    let room = room_few c.args.grid.now c.args.d c.args.walks.now.items c.requires.ready.grid c.requires.inside in
+    let room = room_few c.args.grid.now c.args.d c.args.walks.now.items c.requires.ready.grid
+    c.requires.inside in
     omega arith
 
 pub returns-clause-steps : goal.returns-clause-steps
