@@ -50,7 +50,8 @@ module _ (g : GridData) (whole : IsGrid g) (y m : ℕ) (above here below : List 
 
   same_move : (x : ℕ) (d : Dir)
       → can_move g (record { x = x; y = y }) d ≡ can_move g (record { x = x; y = m }) d
-  same_move x d = sym (row_legal g whole y above here below one d g.corner refl (record { x = x; y = y }) refl)
+  same_move x d =
+      sym (row_legal g whole y above here below one d g.corner refl (record { x = x; y = y }) refl)
       ∙ row_legal g whole m above here below other d g.corner refl (record { x = x; y = m }) refl
 
   same_forced : (x : ℕ) (d : Dir) → is_free g (record { x = x; y = m }) ≡ true

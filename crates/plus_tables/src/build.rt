@@ -3,7 +3,8 @@
 //! Each entry is told by those at the next cell, so a direction is swept from where its runs end: the five
 //! directions that lead up or along a row go row by row downwards, the three others upwards after them. A
 //! diagonal entry looks at both its components at the next cell, so a sweep keeps the entries of the row before,
-//! and for the second sweep those along a row are read back.
+//! and for the second sweep those along a row are read back. Where rows repeat, as on open ground, so do the
+//! entries along them: these are copied from the row before.
 
 ghost use Rattle.std.specs.Prelude.{◌≡◌, false};
 ghost use Rattle.grid_moves.specs.Grid.{is_free};

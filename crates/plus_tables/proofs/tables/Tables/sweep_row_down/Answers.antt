@@ -19,8 +19,12 @@ tell_down-requires-clause-ready g c =
     (with_items_is rows.band.back c.read_row.new.row (omega arith)) c.read_row.ensures in
     let ready = ready_back grid _ c.args.y c.before-2.result rows.band _ rows.last c.requires.kept.ready
     refl refl refl
-    back in
-    (c.args.y, ready, around_down grid c.args.y c.before-2.result rows.band rows.last _ c.requires.kept.ready c.before-2.ensures back)
+    back in (
+      c.args.y,
+      ready,
+      around_down grid c.args.y c.before-2.result rows.band rows.last _
+          c.requires.kept.ready c.before-2.ensures back,
+    )
 
 pub bring_along-requires-clause-ready : goal.bring_along-requires-clause-ready
 bring_along-requires-clause-ready g c =
@@ -37,7 +41,8 @@ bring_along-requires-clause-around g c =
     let rows = c.args.rows.now in
     let back = flags_as grid c.before-2.result c.read_row.new.row _
     (with_items_is rows.band.back c.read_row.new.row (omega arith)) c.read_row.ensures in
-    around_down grid c.args.y c.before-2.result rows.band rows.last _ c.requires.kept.ready c.before-2.ensures back
+    around_down grid c.args.y c.before-2.result rows.band rows.last _ c.requires.kept.ready
+    c.before-2.ensures back
 
 pub lay_down-requires-clause-told : goal.lay_down-requires-clause-told
 lay_down-requires-clause-told g c =
