@@ -30,15 +30,7 @@ pub(crate) fn scen<F: Files>(
         (F.disk files.old) (F.disk files.new) result }
     ensures unchanged { (F.disk files.new).holds ≡ (F.disk files.old).holds }
 {
-    let both: (Basis, Vec<Entry>) = open_basis_and(
-        alloc,
-        files,
-        map,
-        tables,
-        settings,
-        name,
-        &(),
-    )?;
+    let both: (Basis, Vec<Entry>) = open_basis_and(alloc, files, map, tables, settings, name, &())?;
     let (basis, entries) = both;
     let answerer = Answerer::new(alloc, basis)?;
     Ok(Work::Judge {
