@@ -8,6 +8,12 @@ use grid_moves::Corner;
 use map_text::MapText;
 use word_list::Pick;
 
+/// The longest map, script or scenario, in bytes.
+pub(crate) const LONGEST: u32 = 1 << 26;
+
+/// The longest certificate, walks file or table file, in bytes.
+const LONGEST_MADE: u32 = 1 << 30;
+
 /// A kind of text.
 #[derive(Clone, Copy, Debug)]
 pub(crate) enum Kind {
@@ -82,8 +88,8 @@ impl Kind {
         ensures { result ≡ limit_of self }
     {
         match self {
-            Kind::Map | Kind::SmallMap | Kind::Script | Kind::Scen => 1 << 26,
-            Kind::Cert | Kind::Walks | Kind::Tables(_) => 1 << 30,
+            Kind::Map | Kind::SmallMap | Kind::Script | Kind::Scen => LONGEST,
+            Kind::Cert | Kind::Walks | Kind::Tables(_) => LONGEST_MADE,
         }
     }
 }

@@ -20,6 +20,7 @@ use crate::NoMemory;
 use crate::answers::Answers;
 use crate::faults::{long_line, script_line};
 use crate::job::work_more;
+use crate::kind::LONGEST;
 use crate::sessions::{open_basis, session_of};
 use crate::stop::Stop;
 use io_edge::{Failed, Files, Sink, Source};
@@ -30,7 +31,7 @@ use steps::Steps;
 use word_list::Settings;
 
 /// The longest script, in bytes.
-const MOST: usize = 1 << 26;
+const MOST: usize = LONGEST as usize;
 
 /// At most so many bytes are read at once.
 const PIECE: usize = 1 << 16;
