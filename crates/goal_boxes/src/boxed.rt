@@ -256,8 +256,7 @@ pub fn boxed_search<T: Terrain>(
 }
 
 /// The boxed run from one free cell to another without any boxes at hand: those of a cell are found by one
-/// pass from it when its moves are offered. So at most one pass is made for each taken state, and each is
-/// counted as a step.
+/// pass from it when its moves are offered, which is counted as a step: at most one for each taken state.
 ///
 /// For one query this is cheaper than `Boxes::build`, which makes a pass from each free cell. The memory is
 /// that of a plain search and of one pass: an entry for each cell is filled.

@@ -16,7 +16,7 @@ use scen_text::Entry;
 use std::alloc::Global;
 use word_list::Settings;
 
-/// Opens a scenario. On a small map all boxes or first moves are made once, behind both files.
+/// Opens a scenario. By an engine for small maps all boxes or first moves are made once, behind both files.
 pub(crate) fn scen<F: Files>(
     alloc: Global,
     files: &mut F,

@@ -1,6 +1,6 @@
 //! Table files by whole calls, counted on squared paper.
 
-use crate::tests::{check, on_map};
+use crate::tests::{check, check_reads, check_writes, on_map};
 use std::test::Fail;
 
 // Two moves lead to the east, one to each side, two to the west; there is no water.
@@ -19,4 +19,13 @@ fn tables_are_written_byte_by_byte(rt: HostRuntime) -> Result<(), Fail> {
     let alloc = rt.alloc();
     let words: [&str; 2] = ["tables", "m"];
     check(alloc, &rt, on_map(&words, LINE), 0, THREE_CELLS, b"")
+}
+
+// The head goes out by itself, and the entries behind it; the map of 37 bytes is read in three reads of at most 16.
+#[test]
+fn a_failing_read_or_write_ends_the_tables(rt: HostRuntime) -> Result<(), Fail> {
+    let alloc = rt.alloc();
+    let words: [&str; 2] = ["tables", "m"];
+    check_reads(alloc, &rt, on_map(&words, LINE), 4)?;
+    check_writes(alloc, &rt, on_map(&words, LINE), THREE_CELLS)
 }

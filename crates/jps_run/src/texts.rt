@@ -51,8 +51,8 @@ ENGINE is plain, where none is named, jps, block or plus. Walks cost the same by
 cell, block over 512 cells at a time, plus by tables that are made when the map is read.
 tables=FILE beside engine=plus takes the tables that `jps tables` wrote to FILE; those of another map, of
 another rule, or with a wrong entry are refused.
-For query and scen, on maps of at most 16384 cells, it may also be boxes, whose search leaves out moves by
-goal boxes, or moves, which follows first moves and takes no states (no show=trace, no show=taken).
+For query and scen, on maps of at most 16384 cells, ENGINE may also be boxes, whose search leaves out moves
+by goal boxes, or moves, which follows first moves and takes no states (no show=trace, no show=taken).
 With rule=one a diagonal move may pass one blocked cell beside it, with rule=none none.
 
 statuses: 0 done; 1 done, and a row of `scen` is neither agree nor near, `judge` or `check` refuses, `prove`
