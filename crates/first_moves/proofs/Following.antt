@@ -15,14 +15,13 @@ use Rattle.grid_moves.specs.Reply.{StandsForLeast}
 use Rattle.grid_moves.specs.Walk.{IsLeastWalk, cost_of}
 use Rattle.grid_moves.proofs.Ahead.{legal_ahead-is}
 use Rattle.grid_moves.proofs.Legal.{and_both, is_same-cell, is_same-itself, legal_is}
+use Rattle.grid_moves.proofs.Short.{least_rest, least_steps, move_counts}
 use Rattle.path_points.specs.Corners.{corners, goes_straight, turns_after}
 use Rattle.path_points.proofs.Corners.{corners_unfold}
 use Rattle.path_points.proofs.Joined.{cost_counts}
-use Rattle.path_points.proofs.Running.{move_counts}
 use Rattle.cost_waves.specs.Begin.{Begins}
 use Rattle.first_moves.specs.First.{IsFirstMove}
 use Rattle.first_moves.specs.Follow.{LeadsTo, IsNext, AreFirst, IsFollowed}
-use Rattle.first_moves.proofs.Short.{least_rest, least_steps}
 
 -- the next cell, where there is a first move
 pub next_some : (g : GridData) (s t : Cell) (d : Dir) (r : Option Cell) → IsFirstMove g s t (Some d)

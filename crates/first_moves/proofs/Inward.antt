@@ -14,6 +14,7 @@ use Rattle.grid_moves.specs.Move.{all_dirs, legal_ahead, move_cost}
 use Rattle.grid_moves.specs.Walk.{IsLeastWalk, cost_of}
 use Rattle.grid_moves.proofs.Ahead.{legal_ahead-is}
 use Rattle.grid_moves.proofs.Legal.{and_both, free_inside, legal_is}
+use Rattle.grid_moves.proofs.Short.{least_rest, least_steps}
 use Rattle.path_points.proofs.Joined.{cost_counts}
 use Rattle.cost_waves.specs.Begin.{Begins, IsCostTo, IsLeastCost}
 use Rattle.cost_waves.specs.Told.{WaveData, cost_at}
@@ -22,7 +23,6 @@ use Rattle.first_moves.specs.Follow.{IsNext}
 use Rattle.first_moves.specs.Inward.{IsPassFrom, is_same_cost, is_saved, leads, leads_to}
 use Rattle.first_moves.proofs.Following.{next_some}
 use Rattle.first_moves.proofs.Picking.{first_is}
-use Rattle.first_moves.proofs.Short.{least_rest, least_steps}
 use Rattle.first_moves.proofs.Turned.{cost_to_back}
 
 same_cost : (p q : Cost) → is_same_cost p q ≡ true → p ≡ q

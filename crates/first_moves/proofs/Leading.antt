@@ -8,14 +8,14 @@ use Rattle.grid_moves.specs.declared.Dir.{Dir}
 use Rattle.grid_moves.specs.Grid.{GridData, cell_number, is_free, is_inside}
 use Rattle.grid_moves.specs.Walk.{IsLeastWalk, cost_of}
 use Rattle.grid_moves.proofs.Legal.{and_both}
+use Rattle.grid_moves.proofs.Short.{least_rest, walk_free}
 use Rattle.path_points.specs.Corners.{corners}
-use Rattle.path_points.proofs.Joined.{cost_counts, walk_free}
+use Rattle.path_points.proofs.Joined.{cost_counts}
 use Rattle.first_moves.specs.Existence.{HasFollowed}
 use Rattle.first_moves.specs.First.{IsFirstMove}
 use Rattle.first_moves.specs.Follow.{AreFirst, LeadsTo}
 use Rattle.first_moves.specs.Row.{AreMoves, MovesData}
 use Rattle.first_moves.proofs.Following.{no_move, over_first}
-use Rattle.first_moves.proofs.Short.{least_rest}
 
 -- a walk of first moves that is least
 record IsLed (g : GridData) (s t : Cell) : Type 0 where

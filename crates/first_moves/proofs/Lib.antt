@@ -1,7 +1,6 @@
 pub mod Picking
 pub mod Cutting
 pub mod Rows
-pub mod Short
 pub mod Following
 pub mod Leading
 pub mod Turned

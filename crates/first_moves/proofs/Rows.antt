@@ -11,7 +11,7 @@ use Rattle.grid_moves.specs.declared.Dir.{Dir}
 use Rattle.grid_moves.specs.Grid.{GridData, cell_number, is_free, is_inside}
 use Rattle.grid_moves.proofs.Legal.{and_both}
 use Rattle.grid_moves.proofs.Places.{one_cell}
-use Rattle.path_points.proofs.Joined.{walk_free}
+use Rattle.grid_moves.proofs.Short.{walk_free}
 use Rattle.first_moves.specs.declared.row.Run.{Run}
 use Rattle.first_moves.specs.First.{IsFirstMove}
 use Rattle.first_moves.specs.Kept.{AreRows}

@@ -13,7 +13,7 @@ use Rattle.grid_moves.specs.Grid.{GridData, is_free}
 use Rattle.grid_moves.specs.Move.{is_legal, is_passable, corner_of, move_cost}
 use Rattle.grid_moves.specs.Walk.{IsWalk, is_walk, cost_of, last_of}
 use Rattle.grid_moves.proofs.Legal.{and_both, legal_is, is_legal-from}
-use Rattle.path_points.proofs.Joined.{walk_free}
+use Rattle.grid_moves.proofs.Short.{walk_free}
 use Rattle.cost_waves.specs.Begin.{IsLeastCost, IsCostTo}
 
 -- the two cells beside a move are alike

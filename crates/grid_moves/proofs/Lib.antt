@@ -5,3 +5,4 @@ pub mod Ahead
 pub mod Edited
 pub mod Besides
 pub mod Layering
+pub mod Short

@@ -150,4 +150,12 @@ impl Terrain for Grid {
         (c.x < self.width) & (c.y < self.height)
             && self.cells[c.y as usize * self.width as usize + c.x as usize]
     }
+
+    fn read_row(&self, y: u16, row: &mut [bool]) {
+        if y < self.height {
+            row.copy_from_slice(self.row(y));
+        } else {
+            row.fill(false);
+        }
+    }
 }

@@ -1,6 +1,6 @@
 //! What a search asks of a grid, and the legal moves on it.
 
-ghost use Rattle.std.specs.Prelude.{◌≡◌, ◌+◌, ◌*◌, ◌<◌, ◌≤◌, IfSome};
+ghost use Rattle.std.specs.Prelude.{◌≡◌, ℕ, ◌+◌, ◌*◌, ◌<◌, ◌≤◌, IfSome, false, length, slice_index_or};
 ghost use Rattle.grid_moves.specs.Grid.{GridData, IsGrid, is_free, cell_number};
 ghost use Rattle.grid_moves.specs.Move as spec;
 
@@ -28,6 +28,19 @@ pub trait Terrain {
     /// Whether the cell is free; none outside is.
     fn free(&self, c: Cell) -> bool
         ensures { result ≡ is_free (grid self.now) c };
+
+    /// Reads the cells of a row, from the left: for each column `true` where the cell is free. None of a row outside
+    /// is.
+    fn read_row(&self, y: u16, row: &mut [bool])
+        requires wide { length row.old ≡ (grid self.now).width }
+        ensures wide { length row.new ≡ (grid self.now).width }
+        ensures flags { (x : ℕ) → x < (grid self.now).width
+            → slice_index_or row.new x false ≡ is_free (grid self.now) (record { x = x; y = y }) }
+    {
+        for x in 0..self.width() {
+            row[x as usize] = self.free(Cell { x, y });
+        }
+    }
 }
 
 /// The number of a cell on a map of this width: row by row from the upper left, from 0.

@@ -11,10 +11,11 @@ use Rattle.grid_moves.specs.Grid.{GridData, is_free}
 use Rattle.grid_moves.specs.Points.{steps_between, are_lined, unfolded_from}
 use Rattle.grid_moves.specs.Least.{IsLeast}
 use Rattle.grid_moves.specs.Walk.{is_walk, cost_of}
+use Rattle.grid_moves.proofs.Short.{walk_free}
 use Rattle.path_points.specs.declared.checking.BadAt.{BadAt}
 use Rattle.path_points.specs.Checked.{most_steps, run, good_cost, is_legal_run, is_good_run, starts_free, breaks_after, is_bad_at, IsFirstBad, IsShortWalk}
 use Rattle.path_points.proofs.Filling.{and_both, segment-length}
-use Rattle.path_points.proofs.Joined.{walk_free, run_joined, run_parts, run_free, run_cost_joined, run_counts}
+use Rattle.path_points.proofs.Joined.{run_joined, run_parts, run_free, run_cost_joined, run_counts}
 use Rattle.path_points.proofs.Running.{le_true}
 
 abbrev pub steps_of : Cost → ℕ

@@ -8,18 +8,11 @@ use Rattle.grid_moves.specs.Grid.{GridData, is_free}
 use Rattle.grid_moves.specs.Move.{is_legal, move_cost}
 use Rattle.grid_moves.specs.Points.{steps_between}
 use Rattle.grid_moves.specs.Walk.{is_walk, cost_of, last_of}
-use Rattle.grid_moves.proofs.Legal.{legal_is}
+use Rattle.grid_moves.proofs.Short.{move_counts, walk_free}
 use Rattle.path_points.specs.Checked.{run}
 use Rattle.path_points.proofs.Filling.{and_both, segment-length, segment_last}
-use Rattle.path_points.proofs.Running.{move_counts}
 
--- a walk begins on a free cell
-pub walk_free :
-    (g : GridData) (u : Cell) (cells : List Cell) → is_walk g (u ∷ cells) ≡ true → is_free g u ≡ true
-walk_free g u [] h = h
-walk_free g u (v ∷ cells) h = (legal_is g u v (and_both (is_legal g u v) (is_walk g (v ∷ cells)) h).0).source
-
--- and ends on one
+-- a walk ends on a free cell
 walk_last_free :
     (g : GridData) (u : Cell) (cells : List Cell) → is_walk g (u ∷ cells) ≡ true
     → is_free g (last_of u cells) ≡ true

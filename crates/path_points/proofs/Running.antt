@@ -1,6 +1,6 @@
 -- Runs cell by cell: what is left of a run decides whether it is legal, and what it costs.
-use Rattle.std.proofs.Common.{◌≡◌, ℕ, ◌+◌, ◌-◌, ◌<◌, ◌≤◌, arith, Bool, true, false, ◌&&◌, ◌||◌, ◌⊎◌, inl, inr, refl, ap, ◌∙◌, ◌∷◌}
-use Rattle.std.specs.Prelude.{nat_eq, nat_le, Some, None, if◌then◌else◌}
+use Rattle.std.proofs.Common.{◌≡◌, ℕ, ◌+◌, ◌-◌, ◌<◌, ◌≤◌, arith, Bool, true, false, ◌&&◌, ◌⊎◌, inl, inr, refl, ap, ◌∙◌, ◌∷◌}
+use Rattle.std.specs.Prelude.{nat_le, Some, None, if◌then◌else◌}
 use Rattle.std.proofs.lemmas.Bool.Decides.{nat_tests}
 use Rattle.root2_cost.specs.declared.Cost.{Cost}
 use Rattle.root2_cost.specs.Sums.{add_costs}
@@ -10,6 +10,7 @@ use Rattle.grid_moves.specs.Grid.{GridData, is_free}
 use Rattle.grid_moves.specs.Move.{is_legal, move_cost}
 use Rattle.grid_moves.specs.Points.{steps_between, step_toward, segment}
 use Rattle.grid_moves.specs.Walk.{is_walk, cost_of}
+use Rattle.grid_moves.proofs.Short.{move_counts}
 use Rattle.path_points.proofs.Filling.{segment_next, step_nearer}
 
 -- after a legal move the rest decides
@@ -45,16 +46,6 @@ run_paid cost paid n i u next v h e p =
     rw (segment_next n i u next v h e)
     (ap (λ (c : Cost). add_costs c (cost_of (next ∷ segment (n - (i + 1)) next v))) p
     ∙ add_costs-assoc cost (move_cost u next) (cost_of (next ∷ segment (n - (i + 1)) next v)))
-
--- a move is one step
-pub move_counts : (u v : Cell) → (move_cost u v).a + (move_cost u v).b ≡ 1
-move_counts u v = by_test (nat_eq u.x v.x || nat_eq u.y v.y)
-  where
-    by_test :
-        (b : Bool)
-        → (let c : Cost = if b then record { a = 1; b = 0 } else record { a = 0; b = 1 } in c.a + c.b) ≡ 1
-    by_test true = refl
-    by_test false = refl
 
 pub run_counted :
     (cost paid : Cost) (i : ℕ) (u next : Cell) → paid ≡ add_costs cost (move_cost u next)

@@ -25,7 +25,7 @@ use Rattle.walk_judge.specs.declared.judging.Judged.TheVariants.{Least, NoWalk a
 use Rattle.walk_judge.specs.declared.telling.Told.{Told}
 use Rattle.walk_judge.specs.declared.telling.Told.TheVariants as told
 use Rattle.walk_judge.specs.Judgement.{IsBadPoint, elsewhere, broken, short_of, IsJudgement}
-use Rattle.walk_judge.proofs.Simple.{least_is_short}
+use Rattle.grid_moves.proofs.Short.{least_is_short}
 
 -- points stand for a walk, or have a first bad one
 pub has_verdict : (g : GridData) (points : List Cell) → (answer : Result Cost BadAt) × IsVerdict g points answer

@@ -14,20 +14,39 @@ use Rattle.grid_moves.specs.declared.Cell.{Cell}
 use Rattle.grid_moves.specs.Grid.{GridData, IsGrid, cell_number, is_free}
 use Rattle.grid_moves.specs.Move.{is_legal, move_cost}
 use Rattle.grid_moves.specs.Walk.{IsLeastWalk, IsWalk, cost_of, is_walk}
-use Rattle.grid_moves.proofs.Legal.{and_both, free_inside}
+use Rattle.grid_moves.proofs.Legal.{and_both, free_inside, legal_is}
 use Rattle.grid_moves.proofs.Places.{number_below, one_cell}
-use Rattle.path_points.proofs.Joined.{walk_free}
+
+-- a move is one step, straight or diagonal
+pub move_counts : (u v : Cell) → (move_cost u v).a + (move_cost u v).b ≡ 1
+move_counts u v = by_test (nat_eq u.x v.x || nat_eq u.y v.y)
+  where
+    by_test : (straight : Bool)
+        → (let c : Cost = if straight then record { a = 1; b = 0 } else record { a = 0; b = 1 } in
+        c.a + c.b) ≡ 1
+    by_test true = refl
+    by_test false = refl
+
+-- a walk's steps are the cells after its first one
+pub steps-cost_of : (s : Cell) (cells : List Cell)
+    → (cost_of (s ∷ cells)).a + (cost_of (s ∷ cells)).b ≡ length cells
+steps-cost_of s [] = refl
+steps-cost_of s (v ∷ cells) =
+    sum (move_cost s v) (cost_of (v ∷ cells)) (length cells) (move_counts s v) (steps-cost_of v cells)
+  where
+    sum : (p q : Cost) (n : ℕ) → p.a + p.b ≡ 1 → q.a + q.b ≡ n → (p.a + q.a) + (p.b + q.b) ≡ suc n
+    sum p q n e f = omega arith
 
 -- a walk costs more than what is left of it after its first move
 more_left : (s v : Cell) (cells : List Cell) → IsLess (cost_of (v ∷ cells)) (cost_of (s ∷ v ∷ cells))
-more_left s v cells = IsLess-more_left (move_cost s v) (cost_of (v ∷ cells))
-    (one_step (nat_eq s.x v.x || nat_eq s.y v.y))
-  where
-    one_step : (straight : Bool)
-        → (let c : Cost = if straight then record { a = 1; b = 0 } else record { a = 0; b = 1 } in
-        0 < c.a + c.b)
-    one_step true = omega arith
-    one_step false = omega arith
+more_left s v cells =
+    let one : (move_cost s v).a + (move_cost s v).b ≡ 1 = move_counts s v in
+    IsLess-more_left (move_cost s v) (cost_of (v ∷ cells)) (omega arith)
+
+pub walk_free : (g : GridData) (s : Cell) (cells : List Cell) → is_walk g (s ∷ cells) ≡ true
+    → is_free g s ≡ true
+walk_free g s [] w = w
+walk_free g s (v ∷ cells) w = (legal_is g s v (and_both (is_legal g s v) (is_walk g (v ∷ cells)) w).0).source
 
 differ : (m n : ℕ) → (m ≡ n → ⊥) → eqb m n ≡ false
 differ m n h = by_test (eqb m n) refl
@@ -68,7 +87,7 @@ all_apart g s t v (d ∷ cells) free w none_from = (
 )
 
 -- what is left of a least walk after its first move is least
-least_rest : (g : GridData) (s t v : Cell) (cells : List Cell) → IsLeastWalk g s t (v ∷ cells)
+pub least_rest : (g : GridData) (s t v : Cell) (cells : List Cell) → IsLeastWalk g s t (v ∷ cells)
     → IsLeastWalk g v t cells
 least_rest g s t v cells l =
     let parts = and_both (is_legal g s v) (is_walk g (v ∷ cells)) l.walk.legal in
@@ -79,7 +98,7 @@ least_rest g s t v cells l =
     }
 
 -- a least walk comes to no cell twice
-least_distinct : (g : GridData) (s t : Cell) (cells : List Cell) → IsLeastWalk g s t cells
+pub least_distinct : (g : GridData) (s t : Cell) (cells : List Cell) → IsLeastWalk g s t cells
     → IsDistinct eqb (map (cell_number g.width) (s ∷ cells))
 unfolding IsDistinct NoneFrom
 least_distinct g s t [] l = (tt, tt)
@@ -118,14 +137,27 @@ length-map : {X : Type 0} (f : X → ℕ) (xs : List X) → length (map f xs) �
 length-map f [] = refl
 length-map f (x ∷ xs) = ap (λ n. suc n) (length-map f xs)
 
--- so a least walk has fewer than 2^24 steps
-pub least_is_short : (g : GridData) (s t : Cell) (cells : List Cell) → IsGrid g → IsLeastWalk g s t cells
-    → length cells < 2 ^ 24
-least_is_short g s t cells grid l =
-    let numbers : length (map (cell_number g.width) (s ∷ cells)) ≤ g.height * g.width
+-- a least walk has fewer steps than the map has cells
+pub least_steps : (g : GridData) (s t : Cell) (cells : List Cell) → IsLeastWalk g s t cells
+    → length cells < g.height * g.width
+least_steps g s t cells l =
+    let most : length (map (cell_number g.width) (s ∷ cells)) ≤ g.height * g.width
     = length-le_from_distinct_below (map (cell_number g.width) (s ∷ cells)) (g.height * g.width)
     (least_distinct g s t cells l) (numbers_below g s cells l.walk.legal) in
     let same : length (map (cell_number g.width) (s ∷ cells)) ≡ suc (length cells)
     = length-map (cell_number g.width) (s ∷ cells) in
+    omega arith
+
+-- a map has at most 2^24 cells
+pub few_cells : (g : GridData) → IsGrid g → g.height * g.width ≤ 2 ^ 24
+few_cells g grid =
     let most : g.height * g.width ≤ 4096 * 4096 = mul-le-mul grid.sides.low grid.sides.narrow in
+    omega arith
+
+-- so a least walk has fewer than 2^24 steps
+pub least_is_short : (g : GridData) (s t : Cell) (cells : List Cell) → IsGrid g → IsLeastWalk g s t cells
+    → length cells < 2 ^ 24
+least_is_short g s t cells grid l =
+    let fewer : length cells < g.height * g.width = least_steps g s t cells l in
+    let few : g.height * g.width ≤ 2 ^ 24 = few_cells g grid in
     omega arith
