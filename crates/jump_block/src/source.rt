@@ -13,7 +13,7 @@ use crate::patch::{MIDDLE, Patch};
 use crate::straight::Bits;
 use arrayvec::ArrayVec;
 use bit_grid::{Columns, Rows};
-use grid_moves::{Cell, Corner, Dir, Terrain};
+use grid_moves::{Cell, Corner, Dir};
 use pruning::{Arrival, JumpSource, Packed, allowed, allowed_word};
 use std::sync::ledger::Ledger;
 use steps::Steps;
@@ -192,7 +192,6 @@ impl<'a> Bits<'a> {
         ensures fewest { steps.old + 3 ≤ steps.new }
     {
         let around = Patch::read(self.rows, self.corner, at, steps);
-        let _whole = around.width();
         allowed(&around, MIDDLE, by)
     }
 
@@ -206,7 +205,6 @@ impl<'a> Bits<'a> {
         ensures fewest { steps.old + 3 ≤ steps.new }
     {
         let around = Patch::read(self.rows, self.corner, at, steps);
-        let _whole = around.width();
         allowed_word(&around, MIDDLE, by)
     }
 }
