@@ -6,12 +6,12 @@
 ghost use Rattle.std.specs.Prelude.{◌≡◌, ◌<◌};
 ghost use Rattle.io_edge.specs.Told.{untold};
 
-use jps_run::run;
 use crate::calls::{
     CERTIFICATE, ENGINES, OPEN, PILLAR, RULES, Request, check, check_reads, check_writes, on_map,
     query, scenario, script, stream, strings,
 };
 use io_edge::{Failed, Files, MemSink, SureSource};
+use jps_run::run;
 use std::alloc::Global;
 use std::marker::Brand;
 use std::process::Abort;

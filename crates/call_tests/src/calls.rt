@@ -3,8 +3,8 @@
 
 ghost use Rattle.std.specs.Prelude.{◌≡◌, ◌<◌};
 
-use jps_run::{refuse, run};
 use io_edge::{MemFiles, MemSink, SureSource};
+use jps_run::{refuse, run};
 use std::alloc::{AllocError, Global};
 use std::marker::Brand;
 use std::process::Abort;

@@ -4,10 +4,10 @@ ghost use Rattle.std.specs.Prelude.{◌≡◌, ◌<◌, ◌≤◌, length, IfOk,
 ghost use Rattle.std.specs.Io.KnownBytes.{ReadConsumes, WriteAppends};
 ghost use Rattle.io_edge.specs.Causes.{HasCause};
 
-use jps_run::run;
 use crate::calls::{ENGINES, RULES, stream, strings, two_files};
 use arrayvec::ArrayVec;
 use io_edge::{Failed, MemSource, Sink, Source};
+use jps_run::run;
 use std::alloc::Global;
 use std::cell::Cell;
 use std::marker::Brand;

@@ -2,10 +2,10 @@
 
 ghost use Rattle.std.specs.Prelude.{◌≡◌, ◌<◌};
 
-use jps_run::run;
-use crate::tables::{LINE, THREE_CELLS};
 use crate::calls::{stream, strings};
+use crate::tables::{LINE, THREE_CELLS};
 use io_edge::{MemFiles, SureSource};
+use jps_run::run;
 use std::alloc::{AllocError, Global};
 use std::marker::Brand;
 use std::process::Abort;

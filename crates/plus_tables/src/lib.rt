@@ -18,6 +18,3 @@ mod turns;
 
 pub use source::PlusJumps;
 pub use tables::Tables;
-
-#[cfg(test)]
-mod tests;
