@@ -18,6 +18,8 @@ mod judge;
 #[cfg(test)]
 mod live;
 #[cfg(test)]
+mod readme;
+#[cfg(test)]
 mod sessions;
 #[cfg(test)]
 mod small;
