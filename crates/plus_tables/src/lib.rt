@@ -9,6 +9,7 @@
 mod build;
 mod flags;
 mod jumps;
+pub mod laws;
 mod lines;
 mod onward;
 mod rows;
