@@ -4,7 +4,7 @@ use Rattle.grid_moves.specs.declared.Dir.{Dir}
 use Rattle.grid_moves.specs.Grid.{cell_number}
 use Rattle.first_moves.specs.First.{IsFirstMove}
 use Rattle.first_moves.proofs.Picking.{below_all}
-use Rattle.first_moves.proofs.row.Row.first.Goals as goal
+use Rattle.first_moves.proofs.row.Row.first_near.Goals as goal
 
 pub returns : goal.returns
 returns c = λ g s t row inside number.
