@@ -9,6 +9,7 @@ pub mod Stops
 pub mod Goals
 pub mod Told
 pub mod Turning
+pub mod Parts
 pub mod Growing
 pub mod Rowing
 pub mod Lining
