@@ -11,6 +11,7 @@ pub mod Told
 pub mod Turning
 pub mod Parts
 pub mod Growing
+pub mod Laying
 pub mod Rowing
 pub mod Lining
 pub mod Alike
