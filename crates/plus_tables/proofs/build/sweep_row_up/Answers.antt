@@ -1,13 +1,10 @@
 use Rattle.std.proofs.Common.{◌≡◌, ◌+◌, Bool, List, length, refl, arith, ap, sym, ◌∙◌, subst}
-use Rattle.std.proofs.lemmas.Bool.Decides.{nat_tests}
 use Rattle.std.proofs.lemmas.List.{with_items_is}
 use Rattle.grid_moves.specs.Grid.{GridData}
 use Rattle.plus_tables.specs.declared.lines.Line.{Line}
-use Rattle.plus_tables.specs.Sweep.{above}
-use Rattle.plus_tables.specs.Lines.{IsLong, upward_row}
-use Rattle.plus_tables.proofs.Sweeping.{right_swept}
+use Rattle.plus_tables.specs.Lines.{IsLong}
 use Rattle.plus_tables.proofs.Lining.{flags_as, ready_back, around_up, kept_up}
-use Rattle.plus_tables.proofs.tables.Tables.sweep_row_up.Goals as goal
+use Rattle.plus_tables.proofs.build.sweep_row_up.Goals as goal
 
 pub tell_up-requires-clause-ready : goal.tell_up-requires-clause-ready
 tell_up-requires-clause-ready g c =
@@ -25,11 +22,8 @@ tell_up-requires-clause-around g c =
     (with_items_is rows.band.back c.read_row.new.row (omega arith)) c.read_row.ensures in
     around_up grid c.args.y rows.band rows.last _ c.requires.kept.ready back
 
-pub returns-clause-right : goal.returns-clause-right
-returns-clause-right g c =
-    right_swept c.args.self.now c.lay_up.new.self (g.T.Terrain.grid c.args.t.now) (upward_row c.args.y)
-    (above c.args.y) (above (c.args.y + 1)) c.requires.above c.lay_up.ensures
-    (λ v e inside h. grind (arith, nat_tests))
+pub returns-clause-grown : goal.returns-clause-grown
+returns-clause-grown g c = c.in_ok-append.ensures c.args.y c.requires.grown c.tell_up.ensures.told
 
 pub returns-clause-kept : goal.returns-clause-kept
 returns-clause-kept g c =
