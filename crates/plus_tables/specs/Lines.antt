@@ -1,6 +1,5 @@
 -- What the sweeps keep from row to row.
-use Rattle.std.specs.Prelude.{◌≡◌, ℕ, ◌+◌, ◌<◌, Bool, false, ◌&&◌, not, length, replicate}
-use Rattle.grid_moves.specs.declared.Cell.{Cell}
+use Rattle.std.specs.Prelude.{◌≡◌, ℕ, ◌+◌, ◌<◌, false, length, replicate}
 use Rattle.grid_moves.specs.declared.Dir.{Dir}
 use Rattle.grid_moves.specs.declared.Dir.TheVariants.{N, E, SE, S, SW, W}
 use Rattle.grid_moves.specs.Grid.{GridData}
@@ -11,7 +10,6 @@ use Rattle.plus_tables.specs.declared.lines.Line.{Line}
 use Rattle.plus_tables.specs.declared.lines.Band.{Band}
 use Rattle.plus_tables.specs.declared.lines.Rows.{Rows}
 use Rattle.plus_tables.specs.Rows.{AreSame, IsFlagRow, IsEntryRow, IsRowAt, AreRowsAround}
-use Rattle.plus_tables.specs.Sweep.{is_row, is_upward}
 
 -- each of the five rows has one entry for each column, one before and one after
 pub record IsLong (g : GridData) (line : Line) : Type 0 where
@@ -48,13 +46,6 @@ pub record AreAlike (band : Band) : Type 0 where
   pub far : AreSame band.far.items band.next.items
   pub next : AreSame band.next.items band.here.items
   pub here : AreSame band.here.items band.back.items
-
--- the entries of a row for the directions that lead up or along it, and those for the others
-abbrev pub upward_row : ℕ → Cell → Dir → Bool
-upward_row y c e = is_row y c && is_upward e
-
-abbrev pub downward_row : ℕ → Cell → Dir → Bool
-downward_row y c e = is_row y c && not (is_upward e)
 
 -- before row y is swept for d and the directions beside it: the rows of flags around it and around the next row, and
 -- the entries of the next row

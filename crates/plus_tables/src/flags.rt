@@ -7,7 +7,7 @@ ghost use Rattle.std.specs.Prelude.{◌≡◌, ℕ, ◌+◌, ◌-◌, ◌<◌, �
 ghost use Rattle.grid_moves.specs.Move as moves;
 ghost use Rattle.plus_tables.specs.Rows as spec;
 
-use grid_moves::{Cell, Corner, Dir, Terrain};
+use grid_moves::{Corner, Dir, Terrain};
 use pruning::{Side, is_diagonal, quarter, rear, turn};
 
 /// Which cells around a cell are free.
@@ -200,9 +200,8 @@ pub fn read_row<T: Terrain>(t: &T, y: u16, row: &mut [bool])
     requires last { spec.flag row.old ((T.grid t.now).width + 1) ≡ false }
     ensures { spec.IsFlagRow (T.grid t.now) y row.new }
 {
-    for x in 0..t.width() {
-        row[x as usize + 1] = t.free(Cell { x, y });
-    }
+    let end = t.width() as usize + 1;
+    t.read_row(y, &mut row[1..end]);
 }
 
 /// Whether two rows have the same flags.

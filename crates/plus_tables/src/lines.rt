@@ -1,11 +1,13 @@
 //! What a sweep keeps from row to row: rows of flags, and the entries of the row that was swept last.
 
-ghost use Rattle.std.specs.Prelude.{◌≡◌, ℕ, ◌+◌, ◌<◌, ◌≤◌, IfOk, length, replicate, true, false};
+ghost use Rattle.std.specs.Prelude.{◌≡◌, ℕ, ◌+◌, ◌*◌, ◌<◌, ◌≤◌, IfOk, length, replicate, true, false};
 ghost use Rattle.grid_moves.specs.Grid.{IsGrid};
 ghost use Rattle.grid_moves.specs.Move as moves;
 ghost use Rattle.pruning.specs.Turns.{turn, is_diagonal};
 ghost use Rattle.plus_tables.specs.Rows as spec;
 ghost use Rattle.plus_tables.specs.Lines as lines;
+ghost use Rattle.plus_tables.specs.Laid as laid;
+ghost use Rattle.plus_tables.specs.Sweep.{is_downward, is_upward};
 
 use crate::flags::{are_same, force, read_row};
 use crate::rows::{Ahead, Three, across, east, west};
@@ -86,6 +88,71 @@ impl Line {
         east.copy_from_slice(&self.east);
         west.copy_from_slice(&self.west);
     }
+
+    /// Writes the entries for all directions that lead up or along the row, eight being kept for each cell.
+    #[inline(never)]
+    pub fn lay_up<T: Terrain>(&self, t: &T, row: &mut [i16])
+        requires long { lines.IsLong (T.grid t.now) self.now }
+        requires wide { length row.old ≡ (T.grid t.now).width * 8 }
+        ensures { laid.AreLaid is_upward (laid.upward_part self.now) (T.grid t.now).width row.old row.new }
+    {
+        let (straight, right) = (self.straight.as_slice(), self.right.as_slice());
+        let left = self.left.as_slice();
+        let (east, west) = (self.east.as_slice(), self.west.as_slice());
+        for x in 0..t.width() as usize {
+            let at = x + 1;
+            put_up(
+                row,
+                x,
+                straight[at],
+                right[at],
+                east[at],
+                west[at],
+                left[at],
+            );
+        }
+    }
+
+    /// Writes those for all directions that lead down.
+    #[inline(never)]
+    pub fn lay_down<T: Terrain>(&self, t: &T, row: &mut [i16])
+        requires long { lines.IsLong (T.grid t.now) self.now }
+        requires wide { length row.old ≡ (T.grid t.now).width * 8 }
+        ensures { laid.AreLaid is_downward (laid.downward_part self.now) (T.grid t.now).width row.old row.new }
+    {
+        let straight = self.straight.as_slice();
+        let (right, left) = (self.right.as_slice(), self.left.as_slice());
+        for x in 0..t.width() as usize {
+            let at = x + 1;
+            put_down(row, x, left[at], straight[at], right[at]);
+        }
+    }
+}
+
+// Changes the entries of cell `x` of a row for all directions that lead up or along it.
+#[inline(always)]
+fn put_up(row: &mut [i16], x: usize, n: i16, ne: i16, e: i16, w: i16, nw: i16)
+    requires { x * 8 + 7 < length row.old }
+    ensures { row.new ≡ laid.with_up row.old x n ne e w nw }
+{
+    let cell = x * 8;
+    row[cell] = n;
+    row[cell + 1] = ne;
+    row[cell + 2] = e;
+    row[cell + 6] = w;
+    row[cell + 7] = nw;
+}
+
+// Changes those for all directions that lead down.
+#[inline(always)]
+fn put_down(row: &mut [i16], x: usize, se: i16, s: i16, sw: i16)
+    requires { x * 8 + 7 < length row.old }
+    ensures { row.new ≡ laid.with_down row.old x se s sw }
+{
+    let cell = x * 8;
+    row[cell + 3] = se;
+    row[cell + 4] = s;
+    row[cell + 5] = sw;
 }
 
 impl Band {

@@ -1,13 +1,10 @@
 use Rattle.std.proofs.Common.{◌≡◌, ◌+◌, Bool, List, length, refl, arith, ap, sym, ◌∙◌, subst}
-use Rattle.std.proofs.lemmas.Bool.Decides.{nat_tests}
 use Rattle.std.proofs.lemmas.List.{with_items_is}
 use Rattle.std.specs.Prelude.{ℤ}
 use Rattle.grid_moves.specs.declared.Dir.TheVariants.{E, W}
 use Rattle.grid_moves.specs.Grid.{GridData}
 use Rattle.plus_tables.specs.declared.lines.Line.{Line}
-use Rattle.plus_tables.specs.Sweep.{from_row}
-use Rattle.plus_tables.specs.Lines.{IsLong, downward_row}
-use Rattle.plus_tables.proofs.Sweeping.{right_swept}
+use Rattle.plus_tables.specs.Lines.{IsLong}
 use Rattle.plus_tables.proofs.Lining.{flags_as, entries_as, ready_back, around_down, kept_down}
 use Rattle.plus_tables.proofs.tables.Tables.sweep_row_down.Goals as goal
 
@@ -57,12 +54,6 @@ lay_down-requires-clause-told g c =
     (around_down grid c.args.y c.before-2.result rows.band rows.last _ c.requires.kept.ready
     c.before-2.ensures back) in
     record { straight = told.straight; right = told.right; left = told.left }
-
-pub returns-clause-right : goal.returns-clause-right
-returns-clause-right g c =
-    right_swept c.args.self.now c.lay_down.new.self (g.T.Terrain.grid c.args.t.now) (downward_row c.args.y)
-    (from_row (c.args.y + 1)) (from_row c.args.y) c.requires.below c.lay_down.ensures
-    (λ v e inside h. grind (arith, nat_tests))
 
 pub returns-clause-kept : goal.returns-clause-kept
 returns-clause-kept g c =
