@@ -16,6 +16,3 @@ mod waves;
 
 pub use std::alloc::AllocError as NoMemory;
 pub use waves::CostWaves;
-
-#[cfg(test)]
-mod tests;

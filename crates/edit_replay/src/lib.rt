@@ -11,8 +11,6 @@ mod layer;
 mod memory;
 mod reply;
 mod session;
-#[cfg(test)]
-mod tests;
 
 pub use engine::Engine;
 pub use plain_search::Taken;

@@ -1,7 +1,7 @@
 -- The walk of first moves.
 use Rattle.std.proofs.Common.{◌≡◌, ◌+◌, ◌*◌, ◌<◌, inl, inr, arith, refl, ap, sym, ◌∙◌, subst, Bool, true, false, List, [], ◌∷◌, ◌++◌}
 use Rattle.std.proofs.lemmas.List.{append_assoc}
-use Rattle.std.specs.Prelude.{Option, Some, None, not, if◌then◌else◌, IfSome}
+use Rattle.std.specs.Prelude.{Option, Some, None, not, if◌then◌else◌, IfSome, option_and_then}
 use Rattle.root2_cost.specs.declared.Cost.{Cost}
 use Rattle.root2_cost.specs.Sums.{add_costs, no_cost}
 use Rattle.root2_cost.proofs.AtMost.{IsAtMost-trans}
@@ -9,7 +9,7 @@ use Rattle.root2_cost.proofs.Sums.{add_costs-assoc, add_costs-no_cost_right, IsA
 use Rattle.grid_moves.specs.declared.Cell.{Cell}
 use Rattle.grid_moves.specs.declared.Dir.{Dir}
 use Rattle.grid_moves.specs.Grid.{GridData, is_free, is_inside}
-use Rattle.grid_moves.specs.Move.{is_same, legal_ahead, move_cost}
+use Rattle.grid_moves.specs.Move.{ahead, is_legal, is_same, legal_ahead, move_cost}
 use Rattle.grid_moves.specs.Points.{unfolding_of}
 use Rattle.grid_moves.specs.Reply.{StandsForLeast}
 use Rattle.grid_moves.specs.Walk.{IsLeastWalk, cost_of}
@@ -30,12 +30,37 @@ next_some g s t d r f e =
     subst (λ (o : Option Cell). IsNext g s t o) (sym (e ∙ f.0.ahead))
     (record { dir = d; first = f; ahead = f.0.ahead })
 
+-- the cell ahead is that of the legal move
+ahead_is : (g : GridData) (u v : Cell) (d : Dir) → legal_ahead g u d ≡ Some v → ahead d u ≡ Some v
+ahead_is g u v d h = by_cell (ahead d u) h
+  where
+    by_test : (c : Cell) (b : Bool) → (if b then Some c else None) ≡ Some v → Some c ≡ Some v
+    by_test c true s = s
+    by_test c false s = absurd (cc)
+
+    by_cell : (o : Option Cell) → option_and_then (λ c. if is_legal g u c then Some c else None) o ≡ Some v
+        → o ≡ Some v
+    by_cell None s = absurd (cc)
+    by_cell (Some c) s = by_test c (is_legal g u c) s
+
+-- so a first move leads to the cell ahead
+pub next_ahead : (g : GridData) (s t : Cell) (d : Dir) (r : Option Cell) → IsFirstMove g s t (Some d)
+    → r ≡ ahead d s → IsNext g s t r
+next_ahead g s t d r f e =
+    next_some g s t d r f (e ∙ ahead_is g s f.0.next d f.0.ahead ∙ sym f.0.ahead)
+
 -- it lies on the map
 pub next_inside : (g : GridData) (s : Cell) (d : Dir) (r : Option Cell) → r ≡ legal_ahead g s d
     → IfSome r (λ v. is_inside g v ≡ true)
 next_inside g s d None e = tt
 next_inside g s d (Some v) e =
     (and_both (is_inside g v) _ (legal_is g s v (legal_ahead-is g s v d (sym e))).target).0
+
+-- and so does the next cell
+pub inside_next : (g : GridData) (s t : Cell) (r : Option Cell) → IsNext g s t r
+    → IfSome r (λ v. is_inside g v ≡ true)
+inside_next g s t None n = tt
+inside_next g s t (Some v) n = next_inside g s n.dir (Some v) (sym n.ahead)
 
 -- a least walk from s to t over v
 record LeastOver (g : GridData) (s t v : Cell) : Type 0 where

@@ -15,6 +15,3 @@ pub use follow::follow_by_pass;
 pub use moves::Moves;
 pub use row::{Row, Run};
 pub use std::alloc::AllocError as NoMemory;
-
-#[cfg(test)]
-mod tests;

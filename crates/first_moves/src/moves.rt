@@ -4,13 +4,14 @@ ghost use Rattle.std.specs.Prelude.{◌≡◌, ◌+◌, ◌*◌, ◌<◌, ◌≤
 ghost use Rattle.grid_moves.specs.declared.Cell.{Cell};
 ghost use Rattle.grid_moves.specs.Grid.{GridData, is_inside};
 ghost use Rattle.first_moves.specs.First.{IsFirstMove};
+ghost use Rattle.first_moves.specs.Follow.{IsNext};
 ghost use Rattle.first_moves.specs.Row.{IsRow, AreMoves, row_at};
 ghost use Rattle.first_moves.specs.Kept.{AreRows};
 
 use crate::NoMemory;
 use crate::row::Row;
 use cost_waves::CostWaves;
-use grid_moves::{Cell, Dir, Terrain, number_of};
+use grid_moves::{Cell, Dir, Terrain, cell_ahead, number_of};
 use std::alloc::Global;
 use std::marker::Model;
 use std::sync::ledger::Ledger;
@@ -134,7 +135,52 @@ impl Moves {
         ensures first { (g : GridData) → AreMoves g self.now → IsFirstMove g s t result }
         ensures steps { steps.new ≡ steps.old + 1 }
     {
+        self.first_near(s, t, None, steps).0
+    }
+
+    // The same, looked for from a run on, if one is told, and the run in which it is found.
+    #[inline(always)]
+    fn first_near<L: Ledger>(
+        &self,
+        s: Cell,
+        t: Cell,
+        near: Option<usize>,
+        steps: &mut Steps<L>,
+    ) -> (Option<Dir>, usize)
+        requires column { s.x < self.now.width }
+        requires row { s.y < self.now.height }
+        requires goal_column { t.x < self.now.width }
+        requires goal_row { t.y < self.now.height }
+        ensures first { (g : GridData) → AreMoves g self.now → IsFirstMove g s t result.0 }
+        ensures narrow { s.x < 4096 }
+        ensures low { s.y < 4096 }
+        ensures steps { steps.new ≡ steps.old + 1 }
+    {
         steps.tick();
-        self.row(s).first(number_of(self.width, t))
+        self.row(s).first_near(number_of(self.width, t), near)
+    }
+
+    /// The cell to which the first move leads. It is looked for from run `near` on, if one is told, and `near` is
+    /// then the run in which it was found: in rows of cells nearby a goal stands in runs nearby.
+    pub(crate) fn next_near<L: Ledger>(
+        &self,
+        s: Cell,
+        t: Cell,
+        near: &mut Option<usize>,
+        steps: &mut Steps<L>,
+    ) -> Option<Cell>
+        requires column { s.x < self.now.width }
+        requires row { s.y < self.now.height }
+        requires goal_column { t.x < self.now.width }
+        requires goal_row { t.y < self.now.height }
+        ensures next { (g : GridData) → AreMoves g self.now → IsNext g s t result }
+        ensures steps { steps.new ≡ steps.old + 1 }
+    {
+        let (first, run) = self.first_near(s, t, *near, steps);
+        *near = Some(run);
+        match first {
+            Some(d) => cell_ahead(d, s),
+            None => None,
+        }
     }
 }

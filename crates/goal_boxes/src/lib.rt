@@ -20,6 +20,3 @@ pub use best_first::Taken;
 pub use boxed::{Boxed, boxed_query, boxed_search};
 pub use boxes::Boxes;
 pub use std::alloc::AllocError as NoMemory;
-
-#[cfg(test)]
-mod tests;

@@ -12,7 +12,7 @@ use Rattle.edit_replay.specs.Replies.{IsRightOn, IsShort, answer_of}
 use Rattle.edit_replay.specs.declared.reply.Reply.{Reply}
 use Rattle.edit_replay.specs.declared.reply.Reply.TheVariants.{Walk, None, Outside, Blocked}
 use Rattle.edit_replay.proofs.Answering.{result_on_grid}
-use Rattle.edit_replay.proofs.Simple.{least_steps, steps-cost_of}
+use Rattle.grid_moves.proofs.Short.{least_steps, steps-cost_of}
 use Rattle.jps_run.specs.Answerers.{IsUnsearched}
 use Rattle.jps_run.specs.Reading.{AreSmall}
 use Rattle.jps_run.specs.Who.{By, IsReplyBy, IsReplyOn, by_boxes, by_moves}

@@ -16,6 +16,3 @@ mod straight;
 mod word;
 
 pub use source::BlockJumps;
-
-#[cfg(test)]
-mod tests;

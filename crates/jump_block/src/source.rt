@@ -4,6 +4,7 @@ ghost use Rattle.std.specs.Prelude.{◌≡◌, ℕ, ◌+◌, ◌≤◌, false, t
 ghost use Rattle.grid_moves.specs.Grid.{GridData, is_free};
 ghost use Rattle.pruning.specs.Allowed.{allowed_dirs};
 ghost use Rattle.pruning.specs.First as first;
+ghost use Rattle.pruning.specs.Source.{IsWithin};
 ghost use Rattle.pruning.specs.Stop.{IsFirstStop};
 ghost use Rattle.pruning.specs.Turns.{is_diagonal};
 ghost use Rattle.jump_block.specs.Scan.{most_lanes};
@@ -13,7 +14,7 @@ use crate::patch::{MIDDLE, Patch};
 use crate::straight::Bits;
 use arrayvec::ArrayVec;
 use bit_grid::{Columns, Rows};
-use grid_moves::{Cell, Corner, Dir, Terrain};
+use grid_moves::{Cell, Corner, Dir};
 use pruning::{Arrival, JumpSource, Packed, allowed, allowed_word};
 use std::sync::ledger::Ledger;
 use steps::Steps;
@@ -162,8 +163,7 @@ impl<'a> Bits<'a> {
         }
     }
 
-    // After how many moves a jump stops. A straight one reads at most `3·(k/512 + 2)` blocks: `k` is that
-    // number, or, where there is no stop, the length of the legal run and one.
+    // After how many moves a jump stops.
     #[inline(always)]
     fn stop<L: Ledger>(&self, at: Cell, d: Dir, goal: Cell, steps: &mut Steps<L>) -> Option<u16>
         requires stands { (g : GridData) × AreItsBits self.now.rows.now self.now.columns.now self.now.corner g
@@ -192,7 +192,6 @@ impl<'a> Bits<'a> {
         ensures fewest { steps.old + 3 ≤ steps.new }
     {
         let around = Patch::read(self.rows, self.corner, at, steps);
-        let _whole = around.width();
         allowed(&around, MIDDLE, by)
     }
 
@@ -206,7 +205,6 @@ impl<'a> Bits<'a> {
         ensures fewest { steps.old + 3 ≤ steps.new }
     {
         let around = Patch::read(self.rows, self.corner, at, steps);
-        let _whole = around.width();
         allowed_word(&around, MIDDLE, by)
     }
 }
@@ -229,7 +227,7 @@ impl<'a> BlockJumps<'a> {
     /// After how many moves a jump to the east or to the south stops: the first stop.
     ///
     /// Let `k` be that number, or, where there is no stop, the length of the legal run and one. It reads at
-    /// most `3·(k/512 + 2)` blocks.
+    /// most `3·(k/512 + 2)` blocks, as `stop` does.
     pub fn scan_forward<L: Ledger>(
         &self,
         at: Cell,
@@ -248,13 +246,13 @@ impl<'a> BlockJumps<'a> {
             → steps.new ≤ steps.old + most_lanes (scanned g at d result) }
         ensures fewest { steps.old + 3 ≤ steps.new }
     {
-        self.bits().stop(at, d, goal, steps)
+        self.stop(at, d, goal, steps)
     }
 
     /// After how many moves a jump to the west or to the north stops: the first stop.
     ///
     /// Let `k` be that number, or, where there is no stop, the length of the legal run and one. It reads at
-    /// most `3·(k/512 + 2)` blocks.
+    /// most `3·(k/512 + 2)` blocks, as `stop` does.
     pub fn scan_back<L: Ledger>(
         &self,
         at: Cell,
@@ -273,7 +271,7 @@ impl<'a> BlockJumps<'a> {
             → steps.new ≤ steps.old + most_lanes (scanned g at d result) }
         ensures fewest { steps.old + 3 ≤ steps.new }
     {
-        self.bits().stop(at, d, goal, steps)
+        self.stop(at, d, goal, steps)
     }
 }
 
@@ -292,7 +290,20 @@ impl<'a> JumpSource for BlockJumps<'a> {
         self.height
     }
 
-    fn stop<L: Ledger>(&self, at: Cell, d: Dir, goal: Cell, steps: &mut Steps<L>) -> Option<u16> {
+    /// A straight jump reads at most `3·(k/512 + 2)` blocks. Let `k` be the number of moves to the stop, or,
+    /// where there is no stop, the length of the legal run and one.
+    fn stop<L: Ledger>(&self, at: Cell, d: Dir, goal: Cell, steps: &mut Steps<L>) -> Option<u16>
+        requires { (g : GridData) × AreJumpsOn self.now.rows.now self.now.columns.now self.now.width
+            self.now.height self.now.corner g × IsTrue (is_free g at) × IsTrue (is_free g goal) }
+        ensures first { (g : GridData) → AreJumpsOn self.now.rows.now self.now.columns.now self.now.width
+            self.now.height self.now.corner g → IsTrue (is_free g at) → IsTrue (is_free g goal)
+            → IsFirstStop g goal at d result }
+        ensures most { IsWithin None (λ told. told.stop) steps.old steps.new }
+        ensures straight { is_diagonal d ≡ false → (g : GridData) → AreJumpsOn self.now.rows.now
+            self.now.columns.now self.now.width self.now.height self.now.corner g → IsTrue (is_free g at)
+            → IsTrue (is_free g goal) → steps.new ≤ steps.old + most_lanes (scanned g at d result) }
+        ensures fewest { steps.old + 3 ≤ steps.new }
+    {
         self.bits().stop(at, d, goal, steps)
     }
 

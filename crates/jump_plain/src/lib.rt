@@ -13,6 +13,3 @@ mod scan;
 mod source;
 
 pub use source::PlainJumps;
-
-#[cfg(test)]
-mod tests;

@@ -8,8 +8,6 @@ mod checking;
 mod costs;
 mod points;
 mod segments;
-#[cfg(test)]
-mod tests;
 mod unfolding;
 
 pub use checking::{BadAt, check_walk};

@@ -16,6 +16,3 @@ pub use search::{Plain, least, least_in};
 pub use std::alloc::AllocError as NoMemory;
 pub use to_all::least_to_all;
 pub use workspace::Workspace;
-
-#[cfg(test)]
-mod tests;

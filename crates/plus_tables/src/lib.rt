@@ -9,6 +9,7 @@
 mod build;
 mod flags;
 mod jumps;
+pub mod laws;
 mod lines;
 mod onward;
 mod rows;
@@ -18,6 +19,3 @@ mod turns;
 
 pub use source::PlusJumps;
 pub use tables::Tables;
-
-#[cfg(test)]
-mod tests;

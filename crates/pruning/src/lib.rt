@@ -28,6 +28,3 @@ pub enum Arrival {
     /// By a move in this direction.
     By(Dir),
 }
-
-#[cfg(test)]
-mod tests;

@@ -15,6 +15,3 @@ mod searching;
 pub use best_first::{NoMemory, Taken};
 pub use found::Found;
 pub use searching::{search, search_in};
-
-#[cfg(test)]
-mod tests;

@@ -4,7 +4,7 @@ use Rattle.root2_cost.specs.declared.Cost.{Cost}
 use Rattle.root2_cost.specs.Order.{IsLess, IsAtMost}
 use Rattle.root2_cost.specs.Sums.{add_costs}
 use Rattle.search_run.specs.Run.{Rule, Taken, IsIn, IsRun, NoneWaits, has_goal, is_taken, least_offer, sum_at}
-use Rattle.search_run.specs.Ended.{IsEnded}
+use Rattle.search_run.specs.Ended.{IsEnded, HasEndedRun, IsCovered}
 use Rattle.search_run.specs.Chain.{Chain, IsConsistent}
 
 -- numbers tell apart the states that links lead to
@@ -59,3 +59,10 @@ abbrev pub EndedRunsAreOne : Type 0 → Type 0
 EndedRunsAreOne S =
     (r : Rule S) → NumbersTellStates r → (start : S) (one other : List (Taken S)) → IsRun r start one
     → IsRun r start other → IsEnded r one → IsEnded r other → one ≡ other
+
+-- where states are the same exactly if they are equal, and links lead to finitely many of them, a run that ends
+-- exists
+abbrev pub EndedRunsExist : Type 0 → Type 0
+EndedRunsExist S =
+    (r : Rule S) → ((u v : S) → r.is_same u v ≡ true → u ≡ v) → ((s : S) → r.is_same s s ≡ true) → (start : S)
+    (all : List S) → IsCovered r all → HasEndedRun r start

@@ -1,9 +1,9 @@
 //! Laws of runs: each is the contract of a call that does nothing, for states of any type.
 //!
-//! All but the last two ask that the estimate is consistent: over a link it falls by at most what
+//! All but the last three ask that the estimate is consistent: over a link it falls by at most what
 //! the link costs, and at a goal it is nothing.
 
-ghost use Rattle.search_run.specs.Laws.{GoalsAreLeast, TakenAreLeast, LesserSumsAreTaken, EndedRunsMissNone, TakenAreNotBettered, ParentsOffersStand, EndedRunsAreOne};
+ghost use Rattle.search_run.specs.Laws.{GoalsAreLeast, TakenAreLeast, LesserSumsAreTaken, EndedRunsMissNone, TakenAreNotBettered, ParentsOffersStand, EndedRunsAreOne, EndedRunsExist};
 
 /// A goal is taken at a cost that no chain of links to a goal undercuts.
 pub fn goals_are_least<S>()
@@ -39,4 +39,9 @@ pub fn parents_offers_stand<S>()
 /// Two runs of one rule from one start that have ended are equal, where numbers tell states apart.
 pub fn ended_runs_are_one<S>()
     ensures { EndedRunsAreOne S }
+{}
+
+/// A run that ends exists from each start, where links lead to finitely many states.
+pub fn ended_runs_exist<S>()
+    ensures { EndedRunsExist S }
 {}

@@ -26,6 +26,3 @@ pub use fault::TableFault;
 pub use loading::load;
 pub use std::alloc::AllocError as NoMemory;
 pub use writing::{fill_entries, write_tables};
-
-#[cfg(test)]
-mod tests;

@@ -18,6 +18,3 @@ mod sweep;
 mod walks;
 
 pub use repairer::Repairer;
-
-#[cfg(test)]
-mod tests;

@@ -5,8 +5,8 @@ use Rattle.first_moves.proofs.row.search.Goals as goal
 
 pub returns : goal.returns
 returns c = λ members e h.
-    let low = c.loop-high.invariant.low in
-    let high = c.loop-high.invariant.high in
+    let apart = c.loop-high.invariant.apart in
+    let high = c.loop-high.invariant.within in
     let next : c.loop-high.high ≡ suc c.loop-high.low = omega arith in
     told c.args.runs.now members c.args.number c.loop-high.low (record { start = 0; first = None }) e h (record {
       within = omega arith;

@@ -1,0 +1,27 @@
+//! Tests of `run` by whole calls, over files and streams in memory.
+//!
+//! They stand apart from `jps_run`, as a crate is proved once more with the tests that stand in it.
+#![tactic(auto)]
+
+#[cfg(test)]
+mod ample;
+#[cfg(test)]
+mod calls;
+#[cfg(test)]
+mod cells;
+#[cfg(test)]
+mod costs;
+#[cfg(test)]
+mod draw;
+#[cfg(test)]
+mod judge;
+#[cfg(test)]
+mod live;
+#[cfg(test)]
+mod readme;
+#[cfg(test)]
+mod sessions;
+#[cfg(test)]
+mod small;
+#[cfg(test)]
+mod tables;

@@ -1,5 +1,0 @@
-use Rattle.jump_plain.proofs.tests.stops_so.Given as goal
-
--- the ledger of the blank that the test makes
-abbrev pub ghosts-stop_of : goal.ghosts-stop_of
-ghosts-stop_of a = record { name = a.blank.name; parts = a.blank.parts }

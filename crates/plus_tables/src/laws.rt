@@ -1,0 +1,8 @@
+//! Laws of tables, as contracts of calls.
+
+ghost use Rattle.plus_tables.specs.Local.{EntriesFollow};
+
+/// Each entry follows from those at the next cell.
+pub fn entries_follow()
+    ensures { EntriesFollow }
+{}

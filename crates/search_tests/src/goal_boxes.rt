@@ -1,0 +1,125 @@
+//! Boxes and runs on small maps, by hand.
+
+ghost use Rattle.std.specs.Prelude.{◌≡◌, ◌<◌, true};
+ghost use Rattle.grid_moves.specs.Grid.{AreCells};
+
+use goal_boxes::{Area, Boxed, Boxes, CellBoxes, NoMemory, boxed_query, boxed_search, boxes_of};
+use grid_moves::{Cell, Corner, Dir, Grid, Terrain};
+use root2_cost::Cost;
+use std::alloc::Global;
+use std::marker::Brand;
+use std::sync::ledger::{Blank, Ledger};
+use std::test::Fail;
+use steps::Steps;
+
+fn cell(x: u16, y: u16) -> Cell {
+    Cell { x, y }
+}
+
+fn area(x0: u16, y0: u16, x1: u16, y1: u16) -> Option<Area> {
+    Some(Area { x0, y0, x1, y1 })
+}
+
+// Whether these are the boxes of a cell.
+fn are_boxes(alloc: Global, grid: &Grid, c: Cell, boxes: CellBoxes) -> Result<bool, NoMemory> {
+    if !grid.free(c) {
+        return Ok(false);
+    }
+    Ok(boxes_of(alloc, grid, c)? == boxes)
+}
+
+// Whether this was found: points and cost, or no walk, and the taken states.
+fn is_wanted(found: &Boxed, walk: Option<(&[Cell], Cost)>, states: &[u32]) -> bool {
+    let same = match &found.answer {
+        Some((points, cost)) => walk == Some((points.as_slice(), *cost)),
+        None => walk.is_none(),
+    };
+    same && found.taken.as_slice() == states
+}
+
+// Whether the search finds this by kept boxes, and by passes.
+fn is_answer<L: Ledger>(
+    alloc: Global,
+    grid: &Grid,
+    from: Cell,
+    to: Cell,
+    walk: Option<(&[Cell], Cost)>,
+    states: &[u32],
+    blank: Blank,
+) -> Result<bool, NoMemory>
+    requires name { blank.name ≡ L.name }
+    requires parts { blank.parts ≡ L.parts }
+    requires some { 0 < L.parts }
+{
+    if !grid.free(from) || !grid.free(to) {
+        return Ok(false);
+    }
+    let boxes = Boxes::build(alloc, grid)?;
+    let kept = boxed_search(alloc, grid, &boxes, from, to)?;
+    let mut passes = Steps::<L>::new(blank);
+    let by_passes = boxed_query(alloc, grid, from, to, &mut passes)?;
+    Ok(is_wanted(&kept, walk, states) && is_wanted(&by_passes, walk, states))
+}
+
+// From the upper left of the open map of three by three cells. To (2,1) and to (1,2) least walks begin both
+// ways, so each of them lies in two boxes.
+#[test]
+fn boxes_of_a_corner_overlap(rt: HostRuntime) -> Result<(), Fail> {
+    let grid = Grid::of_cells(rt.alloc(), 3, 3, b".........", Corner::Never)?;
+    let boxes = CellBoxes {
+        n: None,
+        ne: None,
+        e: area(1, 0, 2, 1),
+        se: area(1, 1, 2, 2),
+        s: area(0, 1, 1, 2),
+        sw: None,
+        w: None,
+        nw: None,
+    };
+    assert!(rt; are_boxes(rt.alloc(), &grid, cell(0, 0), boxes)?);
+    Ok(())
+}
+
+// On `...@/.@@./....` the goal lies in the box downwards alone: the run goes round, and the cells to the right
+// of the start are never offered.
+#[test]
+fn moves_away_from_the_goal_are_left_out(rt: HostRuntime) -> Result<(), Fail> {
+    let grid = Grid::of_cells(rt.alloc(), 4, 3, b"...@.@@.....", Corner::Never)?;
+    let points = [cell(0, 0), cell(0, 2), cell(3, 2), cell(3, 1)];
+    let walk = Some((points.as_slice(), Cost { a: 6, b: 0 }));
+    let states = [8, 44, 80, 89, 98, 107, 71];
+    assert!(rt;
+        is_answer::<Brand>(
+            rt.alloc(),
+            &grid,
+            cell(0, 0),
+            cell(3, 1),
+            walk,
+            &states,
+            Blank::new(1)
+        )?
+    );
+    Ok(())
+}
+
+// Two cells that touch at a corner have no boxes, and no walk.
+#[test]
+fn no_walk_leads_past_two_corners(rt: HostRuntime) -> Result<(), Fail> {
+    let grid = Grid::of_cells(rt.alloc(), 2, 2, b".@@.", Corner::One)?;
+    let boxes = Boxes::build(rt.alloc(), &grid)?;
+    assert!(rt; boxes.width() == 2);
+    assert!(rt; boxes.height() == 2);
+    assert!(rt; boxes.area(Cell { x: 0, y: 0 }, Dir::SE) == None);
+    assert!(rt;
+        is_answer::<Brand>(
+            rt.alloc(),
+            &grid,
+            cell(0, 0),
+            cell(1, 1),
+            None,
+            &[8],
+            Blank::new(1)
+        )?
+    );
+    Ok(())
+}

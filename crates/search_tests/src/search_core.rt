@@ -1,0 +1,91 @@
+//! Searches over plain jumps on maps on squared paper.
+
+ghost use Rattle.std.specs.Prelude.{◌≡◌, ◌<◌};
+
+use grid_moves::{Cell, Corner, Grid, Terrain};
+use jump_plain::PlainJumps;
+use root2_cost::Cost;
+use search_core::{NoMemory, search};
+use std::alloc::Global;
+use std::marker::Brand;
+use std::sync::ledger::{Blank, Ledger};
+use std::test::Fail;
+use steps::Steps;
+
+fn cell(x: u16, y: u16) -> Cell {
+    Cell { x, y }
+}
+
+// Whether the search finds this, with a counter of its own.
+fn is_told<L: Ledger>(
+    alloc: Global,
+    grid: &Grid,
+    to: Cell,
+    walk: Option<(&[Cell], Cost)>,
+    states: &[u32],
+    blank: Blank,
+) -> Result<bool, NoMemory>
+    requires name { blank.name ≡ L.name }
+    requires parts { blank.parts ≡ L.parts }
+    requires some { 0 < L.parts }
+{
+    let from = cell(0, 0);
+    if !grid.free(from) || !grid.free(to) {
+        return Ok(false);
+    }
+    let mut steps = Steps::<L>::new(blank);
+    let found = search(alloc, &PlainJumps { terrain: grid }, from, to, &mut steps)?;
+    let same = match &found.answer {
+        Some((points, cost)) => walk == Some((points.as_slice(), *cost)),
+        None => walk.is_none(),
+    };
+    Ok(same && found.taken.as_slice() == states)
+}
+
+// Whether the search from the upper left cell finds this: points, cost and the numbers of the taken
+// states, or no walk and these numbers.
+fn is_answer(
+    alloc: Global,
+    grid: &Grid,
+    to: Cell,
+    walk: Option<(&[Cell], Cost)>,
+    states: &[u32],
+) -> Result<bool, NoMemory> {
+    is_told::<Brand>(alloc, grid, to, walk, states, Blank::new(1))
+}
+
+// Round the pillar in the middle. The state that offers the goal first is (2,0), but (0,2) is taken
+// before the goal, whose arrival from there has the lesser number.
+#[test]
+fn the_pillar_is_passed(rt: HostRuntime) -> Result<(), Fail> {
+    let grid = Grid::of_cells(rt.alloc(), 3, 3, b"....@....", Corner::Never)?;
+    let points = [cell(0, 0), cell(0, 2), cell(2, 2)];
+    let walk = Some((points.as_slice(), Cost { a: 4, b: 0 }));
+    assert!(rt; is_answer(rt.alloc(), &grid, cell(2, 2), walk, &[8, 20, 58, 74])?);
+    let grid = Grid::of_cells(rt.alloc(), 3, 3, b"....@....", Corner::One)?;
+    let points = [cell(0, 0), cell(0, 1), cell(1, 2), cell(2, 2)];
+    let walk = Some((points.as_slice(), Cost { a: 2, b: 1 }));
+    let states = [8, 11, 31, 48, 66, 74];
+    assert!(rt; is_answer(rt.alloc(), &grid, cell(2, 2), walk, &states)?);
+    Ok(())
+}
+
+// On `.../.@./.../@@.` two states at (2,2) offer the goal at one cost. The one that came from (0,2) was
+// taken first, and a later equal offer does not replace its own.
+#[test]
+fn the_earlier_of_equal_offers_stands(rt: HostRuntime) -> Result<(), Fail> {
+    let grid = Grid::of_cells(rt.alloc(), 3, 4, b"....@....@@.", Corner::Never)?;
+    let points = [cell(0, 0), cell(0, 2), cell(2, 2), cell(2, 3)];
+    let walk = Some((points.as_slice(), Cost { a: 5, b: 0 }));
+    let states = [8, 58, 20, 74, 76, 103];
+    assert!(rt; is_answer(rt.alloc(), &grid, cell(2, 3), walk, &states)?);
+    Ok(())
+}
+
+// Two cells that touch at a corner.
+#[test]
+fn no_jump_leads_past_two_corners(rt: HostRuntime) -> Result<(), Fail> {
+    let grid = Grid::of_cells(rt.alloc(), 2, 2, b".@@.", Corner::One)?;
+    assert!(rt; is_answer(rt.alloc(), &grid, cell(1, 1), None, &[8])?);
+    Ok(())
+}

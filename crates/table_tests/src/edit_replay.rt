@@ -1,0 +1,172 @@
+//! Scripts on small maps, by values counted by hand.
+
+ghost use Rattle.std.specs.Prelude.{◌≡◌, ◌<◌};
+
+use edit_replay::{EditReply, Engine, NoMemory, Reply, Session, Taken};
+use grid_moves::{Corner, Grid, Ground};
+use map_text::read_map;
+use plus_tables::Tables;
+use std::alloc::Global;
+use std::marker::Brand;
+use std::process::Abort;
+use std::sync::ledger::{Blank, Ledger};
+use std::test::*;
+use steps::Steps;
+
+// Four numbers: the columns and rows of two ends, or what is told of a reply.
+type Four = (u32, u32, u32, u32);
+
+// A line of a script with its reply: of a query the ends, and what is told of its reply; of an edit
+// the cell and its ground.
+#[derive(Clone, Copy)]
+enum Line {
+    Query(Four, Four),
+    Edit(u32, u32, Ground, EditReply),
+}
+
+// How many states were taken.
+fn count(taken: &Taken) -> u32 {
+    u32::try_from(taken.as_slice().len()).unwrap_or(u32::MAX)
+}
+
+// What kind of reply it is, the straight and diagonal moves, and the number of taken states.
+fn told_of(reply: &Reply) -> Four {
+    match reply {
+        Reply::Outside => (0, 0, 0, 0),
+        Reply::Blocked => (1, 0, 0, 0),
+        Reply::None { taken } => (2, 0, 0, count(taken)),
+        Reply::Walk {
+            points: _,
+            cost,
+            taken,
+        } => (3, cost.a, cost.b, count(taken)),
+    }
+}
+
+// Each line is answered on the grids that the lines before it left.
+fn answer_all<L: Ledger>(
+    alloc: Global,
+    rt: &impl Abort,
+    session: &mut Session,
+    lines: &[Line],
+    blank: Blank,
+) -> Result<(), NoMemory>
+    requires name { blank.name ≡ L.name }
+    requires parts { blank.parts ≡ L.parts }
+    requires some { 0 < L.parts }
+{
+    let mut steps = Steps::<L>::new(blank);
+    for (i, line) in lines.iter().enumerate() {
+        match *line {
+            Line::Query(ends, told) => {
+                let (sx, sy, gx, gy) = ends;
+                let reply = session.query(alloc, sx, sy, gx, gy, &mut steps)?;
+                assert_eq!(rt; told_of(&reply), told, "line {i}");
+            }
+            Line::Edit(x, y, to, told) => {
+                let reply = session.edit(x, y, to, &mut steps);
+                assert_eq!(rt; reply, told, "line {i}");
+            }
+        }
+    }
+    Ok(())
+}
+
+// The script's lines on the map of this text.
+fn check_script(
+    alloc: Global,
+    rt: &impl Abort,
+    text: &[u8],
+    engine: Engine,
+    corner: Corner,
+    lines: &[Line],
+) -> Result<(), Fail> {
+    assert!(rt; text.len() < 100);
+    let map = read_map(alloc, text)?;
+    let mut session = Session::new(alloc, &map, engine, corner)?;
+    answer_all::<Brand>(alloc, rt, &mut session, lines, Blank::new(1))?;
+    Ok(())
+}
+
+// The same of a session with tables that were built before.
+fn check_tables(
+    alloc: Global,
+    rt: &impl Abort,
+    text: &[u8],
+    corner: Corner,
+    lines: &[Line],
+) -> Result<(), Fail> {
+    assert!(rt; text.len() < 100);
+    let map = read_map(alloc, text)?;
+    let cells = map.cells.as_slice();
+    let land = Grid::of_layer(alloc, map.width, map.height, cells, corner, Ground::Land)?;
+    let water = Grid::of_layer(alloc, map.width, map.height, cells, corner, Ground::Water)?;
+    let (first, second) = (Tables::build(alloc, &land)?, Tables::build(alloc, &water)?);
+    let mut session = Session::with_tables(alloc, &map, corner, first, second)?;
+    answer_all::<Brand>(alloc, rt, &mut session, lines, Blank::new(1))?;
+    Ok(())
+}
+
+// On the map `.@./.../.@.` the middle is blocked and freed.
+#[test]
+fn a_script_is_answered_in_turn(rt: HostRuntime) -> Result<(), Fail> {
+    let text = b"type octile\nheight 3\nwidth 3\nmap\n.@.\n...\n.@.\n";
+    let across = Line::Query((0, 1, 2, 1), (3, 2, 0, 3));
+    let lines = [
+        across,
+        Line::Edit(1, 1, Ground::Blocked, EditReply::Done),
+        Line::Query((0, 1, 2, 1), (2, 0, 0, 3)),
+        Line::Edit(1, 1, Ground::Land, EditReply::Done),
+        Line::Edit(1, 1, Ground::Land, EditReply::Same),
+        across,
+        Line::Edit(3, 0, Ground::Blocked, EditReply::Outside),
+    ];
+    check_script(rt.alloc(), &rt, text, Engine::Plain, Corner::Never, &lines)
+}
+
+// The same, by jumps and by tables: two states are taken on the way across, and one where the middle is
+// blocked, as none of its jumps stops.
+#[test]
+fn a_script_is_answered_by_jumps(rt: HostRuntime) -> Result<(), Fail> {
+    let text = b"type octile\nheight 3\nwidth 3\nmap\n.@.\n...\n.@.\n";
+    let across = Line::Query((0, 1, 2, 1), (3, 2, 0, 2));
+    let lines = [
+        across,
+        Line::Edit(1, 1, Ground::Blocked, EditReply::Done),
+        Line::Query((0, 1, 2, 1), (2, 0, 0, 1)),
+        Line::Edit(1, 1, Ground::Land, EditReply::Done),
+        across,
+        Line::Query((1, 0, 2, 1), (1, 0, 0, 0)),
+    ];
+    check_script(rt.alloc(), &rt, text, Engine::Jps, Corner::Never, &lines)?;
+    check_tables(rt.alloc(), &rt, text, Corner::Never, &lines)
+}
+
+// On the map `.WW/.WW` queries run among water cells or among land cells, and edits move the shore.
+#[test]
+fn water_is_a_layer_of_its_own(rt: HostRuntime) -> Result<(), Fail> {
+    let text = b"type octile\nheight 2\nwidth 3\nmap\n.WW\n.WW\n";
+    let lines = [
+        Line::Query((1, 0, 2, 1), (3, 0, 1, 2)),
+        Line::Query((0, 0, 1, 0), (2, 0, 0, 0)),
+        Line::Edit(0, 0, Ground::Water, EditReply::Done),
+        Line::Query((0, 0, 1, 0), (3, 1, 0, 2)),
+        Line::Edit(0, 0, Ground::Water, EditReply::Same),
+        Line::Query((0, 0, 0, 1), (2, 0, 0, 0)),
+        Line::Edit(1, 0, Ground::Land, EditReply::Done),
+        Line::Query((0, 0, 2, 0), (2, 0, 0, 1)),
+        Line::Edit(2, 0, Ground::Blocked, EditReply::Done),
+        Line::Query((2, 0, 0, 0), (1, 0, 0, 0)),
+    ];
+    check_script(rt.alloc(), &rt, text, Engine::Plain, Corner::Never, &lines)
+}
+
+// On the map `.../.@./...` the corner is passed under one rule alone.
+#[test]
+fn a_corner_is_passed(rt: HostRuntime) -> Result<(), Fail> {
+    let text = b"type octile\nheight 3\nwidth 3\nmap\n...\n.@.\n...\n";
+    let round = [Line::Query((0, 0, 2, 2), (3, 4, 0, 8))];
+    check_script(rt.alloc(), &rt, text, Engine::Plain, Corner::Never, &round)?;
+    let past = [Line::Query((0, 0, 2, 2), (3, 2, 1, 6))];
+    check_script(rt.alloc(), &rt, text, Engine::Plain, Corner::One, &past)
+}

@@ -1,0 +1,13 @@
+//! Tests of the crates that keep JPS+ tables, mend them, and write and read them, and of the sessions over them.
+//!
+//! They stand apart from those crates, as a crate is proved once more with the tests that stand in it.
+#![tactic(auto)]
+
+#[cfg(test)]
+mod edit_replay;
+#[cfg(test)]
+mod plus_tables;
+#[cfg(test)]
+mod table_file;
+#[cfg(test)]
+mod table_repair;
