@@ -13,8 +13,8 @@ use Rattle.plus_tables.specs.declared.lines.Line.{Line}
 use Rattle.plus_tables.specs.Entry.{table_entry}
 use Rattle.plus_tables.specs.Tables.{IsShort, TablesData, entry_place}
 use Rattle.plus_tables.specs.Sweep.{AreRight, above, from_row, is_upward, is_downward}
-use Rattle.plus_tables.specs.Rows.{number, IsEntryRow}
-use Rattle.plus_tables.specs.Lines.{AreBelow, IsLine}
+use Rattle.plus_tables.specs.Rows.{number, upwards, downwards, IsEntryRow}
+use Rattle.plus_tables.specs.Lines.{AreAhead, AreAlong}
 use Rattle.plus_tables.specs.Laid.{with_up, with_down, upward_part, downward_part, as_tables, AreLaid, AreGrown}
 use Rattle.plus_tables.proofs.Growing.{number_stays}
 use Rattle.plus_tables.proofs.Short.{same_value, table_entry-short}
@@ -325,25 +325,25 @@ module _ (g : GridData) (whole : IsGrid g) (y start k : ℕ) (t : TablesData) (a
           by_dir same false is = kept_here c e on same is ∙ was c e on (here c e h same is)
 
 -- the rows of a line are the entries of their directions
-pub up_parts : (g : GridData) (y : ℕ) (line : Line) → IsLine g N y line → (e : Dir) → is_upward e ≡ true
-    → IsEntryRow g y e (upward_part line e)
-up_parts g y line told N h = told.straight
-up_parts g y line told NE h = told.right
-up_parts g y line told E h = told.east
-up_parts g y line told SE h = absurd (cc)
-up_parts g y line told S h = absurd (cc)
-up_parts g y line told SW h = absurd (cc)
-up_parts g y line told W h = told.west
-up_parts g y line told NW h = told.left
+up_parts : (g : GridData) (y : ℕ) (line : Line) → AreAhead g upwards y line → AreAlong g y line → (e : Dir)
+    → is_upward e ≡ true → IsEntryRow g y e (upward_part line e)
+up_parts g y line told along N h = told.ahead
+up_parts g y line told along NE h = told.ahead_east
+up_parts g y line told along E h = along.east
+up_parts g y line told along SE h = absurd (cc)
+up_parts g y line told along S h = absurd (cc)
+up_parts g y line told along SW h = absurd (cc)
+up_parts g y line told along W h = along.west
+up_parts g y line told along NW h = told.ahead_west
 
-pub down_parts : (g : GridData) (y : ℕ) (line : Line) → AreBelow g y line → (e : Dir) → is_downward e ≡ true
-    → IsEntryRow g y e (downward_part line e)
+pub down_parts : (g : GridData) (y : ℕ) (line : Line) → AreAhead g downwards y line → (e : Dir)
+    → is_downward e ≡ true → IsEntryRow g y e (downward_part line e)
 down_parts g y line told N h = absurd (cc)
 down_parts g y line told NE h = absurd (cc)
 down_parts g y line told E h = absurd (cc)
-down_parts g y line told SE h = told.left
-down_parts g y line told S h = told.straight
-down_parts g y line told SW h = told.right
+down_parts g y line told SE h = told.ahead_east
+down_parts g y line told S h = told.ahead
+down_parts g y line told SW h = told.ahead_west
 down_parts g y line told W h = absurd (cc)
 down_parts g y line told NW h = absurd (cc)
 
@@ -351,12 +351,12 @@ down_parts g y line told NW h = absurd (cc)
 pub grown_on : (g : GridData) → IsGrid g → (y start k : ℕ) (old all row : List ℤ) (line : Line)
     → AreGrown g y old → ((i : ℕ) → i < length old → number all i ≡ number old i)
     → length all ≡ length old + g.width * 8 → start ≡ length old → k ≡ g.width * 8
-    → AreLaid is_upward (upward_part line) g.width (mid_of start k all) row → IsLine g N y line
-    → AreGrown g (y + 1) (put_mid start k all row)
-grown_on g whole y start k old all row line grown same long begins wide laid told = record {
+    → AreLaid is_upward (upward_part line) g.width (mid_of start k all) row → AreAhead g upwards y line
+    → AreAlong g y line → AreGrown g (y + 1) (put_mid start k all row)
+grown_on g whole y start k old all row line grown same long begins wide laid told along = record {
   long = whole_length ∙ rows;
   right = right_laid g whole y start k (as_tables g all) is_upward (upward_part line) row (omega (arith, grown.long))
-      wide room laid (up_parts g y line told) (above y) (above (y + 1)) (record {
+      wide room laid (up_parts g y line told along) (above y) (above (y + 1)) (record {
         sized = record { width = refl; height = refl; corner = refl };
         right = λ c e on h. still c e on h ∙ grown.right.right c e on h;
       }) (λ c e h at is. absurd (on_row c e h is))

@@ -13,5 +13,6 @@ pub mod Parts
 pub mod Growing
 pub mod Laying
 pub mod Rowing
+pub mod Mirror
 pub mod Lining
 pub mod Alike

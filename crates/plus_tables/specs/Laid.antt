@@ -9,25 +9,25 @@ use Rattle.plus_tables.specs.Rows.{number}
 use Rattle.plus_tables.specs.Tables.{IsShort, TablesData}
 use Rattle.plus_tables.specs.Sweep.{AreRight, above}
 
--- the row of a line for a direction that leads up or along it
+-- the row of a line for a direction that leads up or along it, in a sweep that heads up
 abbrev pub upward_part : Line → Dir → List ℤ
-upward_part line N = line.straight.items
-upward_part line NE = line.right.items
+upward_part line N = line.ahead.items
+upward_part line NE = line.ahead_east.items
 upward_part line E = line.east.items
 upward_part line SE = []
 upward_part line S = []
 upward_part line SW = []
 upward_part line W = line.west.items
-upward_part line NW = line.left.items
+upward_part line NW = line.ahead_west.items
 
--- and for one that leads down
+-- and for one that leads down, in a sweep that heads down
 abbrev pub downward_part : Line → Dir → List ℤ
 downward_part line N = []
 downward_part line NE = []
 downward_part line E = []
-downward_part line SE = line.left.items
-downward_part line S = line.straight.items
-downward_part line SW = line.right.items
+downward_part line SE = line.ahead_east.items
+downward_part line S = line.ahead.items
+downward_part line SW = line.ahead_west.items
 downward_part line W = []
 downward_part line NW = []
 

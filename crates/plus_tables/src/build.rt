@@ -9,14 +9,15 @@
 ghost use Rattle.std.specs.Prelude.{◌≡◌, ℕ, ◌+◌, ◌<◌, false, IfOk, OnOk};
 ghost use Rattle.grid_moves.specs.Grid.{IsGrid};
 ghost use Rattle.plus_tables.specs.Laid.{AreGrown};
-ghost use Rattle.plus_tables.specs.Lines.{IsBlank, IsKept, IsLine, IsLong};
+ghost use Rattle.plus_tables.specs.Lines.{AreAhead, AreAlong, IsBlank, IsKept, IsLong};
+ghost use Rattle.plus_tables.specs.Rows.{upwards};
 ghost use Rattle.grid_moves.specs.Grid.{is_free};
 ghost use Rattle.grid_moves.specs.Around.{IsBefore};
 
 use crate::flags::read_row;
-use crate::lines::{Line, Rows, tell_down, tell_up};
+use crate::lines::{Line, Rows, tell, tell_along};
 use crate::tables::Tables;
-use grid_moves::{Cell, Dir, NoMemory, Terrain};
+use grid_moves::{Cell, NoMemory, Terrain};
 use std::alloc::Global;
 
 // Whether any cell is free.
@@ -44,8 +45,8 @@ fn before(y: u16) -> u16
 fn append<T: Terrain>(t: &T, line: &Line, entries: &mut Vec<i16>) -> Result<(), NoMemory>
     requires whole { IsGrid (T.grid t.now) }
     requires long { IsLong (T.grid t.now) line.now }
-    ensures { (y : ℕ) → AreGrown (T.grid t.now) y entries.old.items → IsLine (T.grid t.now) Dir.N y line.now
-        → OnOk result (AreGrown (T.grid t.now) (y + 1) entries.new.items) }
+    ensures { (y : ℕ) → AreGrown (T.grid t.now) y entries.old.items → AreAhead (T.grid t.now) upwards y line.now
+        → AreAlong (T.grid t.now) y line.now → OnOk result (AreGrown (T.grid t.now) (y + 1) entries.new.items) }
 {
     let start = entries.len();
     entries.resize(start + t.width() as usize * 8, 0)?;
@@ -63,18 +64,20 @@ fn sweep_row_up<T: Terrain>(
     requires whole { IsGrid (T.grid t.now) }
     requires inside { y < (T.grid t.now).height }
     requires grown { AreGrown (T.grid t.now) y entries.old.items }
-    requires kept { IsKept (T.grid t.now) Dir.N y rows.old }
+    requires kept { IsKept (T.grid t.now) upwards y rows.old }
     ensures grown { OnOk result (AreGrown (T.grid t.now) (y + 1) entries.new.items) }
-    ensures kept { OnOk result (IsKept (T.grid t.now) Dir.N (y + 1) rows.new) }
+    ensures kept { OnOk result (IsKept (T.grid t.now) upwards (y + 1) rows.new) }
 {
     read_row(t, y + 1, &mut rows.band.back);
-    tell_up(
+    tell(t, &rows.band, &rows.last, &mut rows.forced, &mut rows.this);
+    tell_along(
         t,
         y,
         &rows.band,
         &rows.last,
         &mut rows.forced,
-        &mut rows.this,
+        &mut rows.this.east,
+        &mut rows.this.west,
     );
     append(t, &rows.this, entries)?;
     rows.go_on();
@@ -102,18 +105,19 @@ impl Tables {
     ghost use Rattle.plus_tables.specs.Tables.{AreTablesOf};
     ghost use Rattle.plus_tables.specs.Sweep.{AreRight, above, from_row};
     ghost use Rattle.plus_tables.specs.Lines.{IsBlank, IsKept};
+    ghost use Rattle.plus_tables.specs.Rows.{downwards};
 
     // Sweeps a row for all directions that lead down.
     fn sweep_row_down<T: Terrain>(&mut self, t: &T, y: u16, rows: &mut Rows)
         requires whole { IsGrid (T.grid t.now) }
         requires inside { y < self.old.height }
         requires below { AreRight self.old (T.grid t.now) (from_row (y + 1)) }
-        requires kept { IsKept (T.grid t.now) Dir.S y rows.old }
+        requires kept { IsKept (T.grid t.now) downwards y rows.old }
         ensures right { AreRight self.new (T.grid t.now) (from_row y) }
-        ensures kept { 0 < y → IsKept (T.grid t.now) Dir.S (y - 1) rows.new }
+        ensures kept { 0 < y → IsKept (T.grid t.now) downwards (y - 1) rows.new }
     {
         read_row(t, before(y), &mut rows.band.back);
-        tell_down(t, &rows.band, &rows.last, &mut rows.forced, &mut rows.this);
+        tell(t, &rows.band, &rows.last, &mut rows.forced, &mut rows.this);
         self.bring_along(
             t,
             y,

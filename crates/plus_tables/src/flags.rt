@@ -128,7 +128,7 @@ fn force_by(
     }
 }
 
-// The same where no corner is cut; each direction has code of its own, in which it is a constant.
+// The same where no corner is cut; each direction that a sweep takes has code of its own, in which it is a constant.
 #[inline(never)]
 fn force_uncut(above: &[bool], here: &[bool], below: &[bool], d: Dir, forced: &mut [bool])
     requires some { 2 ≤ length forced.old }
@@ -141,11 +141,9 @@ fn force_uncut(above: &[bool], here: &[bool], below: &[bool], d: Dir, forced: &m
         Dir::N => force_by(Corner::Never, above, here, below, Dir::N, forced),
         Dir::NE => force_by(Corner::Never, above, here, below, Dir::NE, forced),
         Dir::E => force_by(Corner::Never, above, here, below, Dir::E, forced),
-        Dir::SE => force_by(Corner::Never, above, here, below, Dir::SE, forced),
-        Dir::S => force_by(Corner::Never, above, here, below, Dir::S, forced),
-        Dir::SW => force_by(Corner::Never, above, here, below, Dir::SW, forced),
         Dir::W => force_by(Corner::Never, above, here, below, Dir::W, forced),
         Dir::NW => force_by(Corner::Never, above, here, below, Dir::NW, forced),
+        _ => force_by(Corner::Never, above, here, below, d, forced),
     }
 }
 
@@ -162,11 +160,9 @@ fn force_cut(above: &[bool], here: &[bool], below: &[bool], d: Dir, forced: &mut
         Dir::N => force_by(Corner::One, above, here, below, Dir::N, forced),
         Dir::NE => force_by(Corner::One, above, here, below, Dir::NE, forced),
         Dir::E => force_by(Corner::One, above, here, below, Dir::E, forced),
-        Dir::SE => force_by(Corner::One, above, here, below, Dir::SE, forced),
-        Dir::S => force_by(Corner::One, above, here, below, Dir::S, forced),
-        Dir::SW => force_by(Corner::One, above, here, below, Dir::SW, forced),
         Dir::W => force_by(Corner::One, above, here, below, Dir::W, forced),
         Dir::NW => force_by(Corner::One, above, here, below, Dir::NW, forced),
+        _ => force_by(Corner::One, above, here, below, d, forced),
     }
 }
 

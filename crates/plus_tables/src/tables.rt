@@ -77,8 +77,8 @@ impl Tables {
     ghost use Rattle.grid_moves.specs.Move.{legal_ahead};
     ghost use Rattle.plus_tables.specs.Local.{is_mark_by};
     ghost use Rattle.plus_tables.specs.Sweep.{AreRight, above, from_row};
-    ghost use Rattle.plus_tables.specs.Rows.{AreRowsAround, IsEntryRow, number};
-    ghost use Rattle.plus_tables.specs.Lines.{AreBelow, IsLong, IsReady};
+    ghost use Rattle.plus_tables.specs.Rows.{AreRowsAround, downwards, IsEntryRow, number};
+    ghost use Rattle.plus_tables.specs.Lines.{AreAhead, IsLong, IsReady};
     ghost use Rattle.plus_tables.specs.Tables.{AreSized, IsWhole, RestsRight, entry_at, is_on, is_place, tables_with};
     ghost use Rattle.plus_tables.specs.Laid.{AreGrown};
 
@@ -241,7 +241,7 @@ impl Tables {
         requires whole { IsGrid (T.grid t.now) }
         requires inside { y < self.now.height }
         requires right { AreRight self.now (T.grid t.now) (from_row (y + 1)) }
-        requires ready { IsReady (T.grid t.now) Dir.S y band.now last.now }
+        requires ready { IsReady (T.grid t.now) downwards y band.now last.now }
         requires around { AreRowsAround (T.grid t.now) y band.now.back.items band.now.here.items
             band.now.next.items }
         requires east { length east.old ≡ (T.grid t.now).width + 2 }
@@ -263,7 +263,7 @@ impl Tables {
         requires whole { IsGrid (T.grid t.now) }
         requires inside { y < self.old.height }
         requires long { IsLong (T.grid t.now) line.now }
-        requires told { AreBelow (T.grid t.now) y line.now }
+        requires told { AreAhead (T.grid t.now) downwards y line.now }
         requires right { AreRight self.old (T.grid t.now) (from_row (y + 1)) }
         ensures { AreRight self.new (T.grid t.now) (from_row y) }
     {

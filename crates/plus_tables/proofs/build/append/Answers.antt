@@ -9,7 +9,7 @@ use Rattle.plus_tables.proofs.build.append.Goals as goal
 use borrow.Rule.Slice.PartMut.{put_mid}
 
 pub returns : goal.returns
-returns g c = λ y grown told.
+returns g c = λ y grown told along.
     let grid : GridData = g.T.Terrain.grid c.args.t.now in
     let all = c.deref_mut.result.now in
     let start = c.len-start.result in
@@ -23,4 +23,4 @@ returns g c = λ y grown told.
     (grown_on grid c.requires.whole y start (length all - start) before all c.lay_up.new.row c.args.line.now grown
     (λ i h. ap (λ (es : List ℤ). number es i) c.deref_mut.ensures.value
     ∙ c.in_ok-resize.ensures.by_index.0 i (pos 0) (omega arith) (omega arith))
-    (omega (arith, long, begins, wide)) begins (omega (arith, long, begins, wide)) c.lay_up.ensures told)
+    (omega (arith, long, begins, wide)) begins (omega (arith, long, begins, wide)) c.lay_up.ensures told along)

@@ -6,6 +6,6 @@ use Rattle.plus_tables.proofs.lines.Line.lay_down.Goals as goal
 pub loop-x-preserved : goal.loop-x-preserved
 loop-x-preserved g c =
     laid_down c.loop-x.row c.loop-x.x (omega arith) (downward_part c.args.self.now) c.args.row.now
-    c.put_down.new.row c.as_slice-left.result.now c.as_slice-straight.result.now c.as_slice-right.result.now
-    c.loop-x.invariant c.as_slice-left.ensures.value c.as_slice-straight.ensures.value
-    c.as_slice-right.ensures.value c.put_down.ensures
+    c.put_down.new.row c.as_slice-se.result.now c.as_slice-s.result.now c.as_slice-sw.result.now
+    c.loop-x.invariant c.as_slice-se.ensures.value c.as_slice-s.ensures.value
+    c.as_slice-sw.ensures.value c.put_down.ensures
