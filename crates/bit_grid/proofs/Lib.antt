@@ -1,5 +1,5 @@
 pub mod Words
 mod Lanes
 mod Packing
-mod Showing
+pub mod Showing
 mod Turning

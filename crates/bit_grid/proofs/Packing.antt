@@ -1,5 +1,5 @@
 -- Words of bits, one after the other.
-use Rattle.std.proofs.Common.{◌≡◌, ◌≢◌, ℕ, zero, suc, ◌+◌, ◌*◌, ◌/◌, ◌%◌, ◌<◌, ◌≤◌, ◌⊎◌, inl, inr, arith, Bool, false, refl, ap, sym, ◌∙◌, List, [], ◌∷◌, ◌++◌, length, length-append, slice_index_or, slice_set, get_or-set_same, get_or-set_other}
+use Rattle.std.proofs.Common.{◌≡◌, ◌≢◌, ℕ, zero, suc, ◌+◌, ◌*◌, ◌/◌, ◌%◌, ◌<◌, ◌≤◌, ◌⊎◌, inl, inr, arith, Bool, false, refl, ap, sym, ◌∙◌, subst, List, [], ◌∷◌, ◌++◌, length, length-append, slice_index_or, slice_set, get_or-set_same, get_or-set_other}
 use mir.Val.{bool_byte}
 use Rattle.std.proofs.lemmas.Bool.Decides.{nat_tests}
 use Rattle.grid_moves.specs.Grid.{GridData, is_free, is_inside}
@@ -7,7 +7,7 @@ use Rattle.std.proofs.lemmas.List.{get_or_append_left}
 use Rattle.std.proofs.Math.Seq.{get_or-append_seam}
 use Rattle.std.proofs.lemmas.Nat.{div-mul-add, mod-mul-add, mul-add-lt}
 use Rattle.std.proofs.lemmas.Bool.{cases_lt}
-use Rattle.bit_grid.specs.Bits.{is_set, is_free_from_one}
+use Rattle.bit_grid.specs.Bits.{LineData, Shows, AreRowsOf, AreColumnsOf, HasRoom, is_set, is_free_from_one}
 use Rattle.bit_grid.specs.Pack.{is_free_in, IsBordered, AreFlags}
 use Rattle.bit_grid.specs.Turn.{ArePackedSoFar}
 use Rattle.bit_grid.proofs.Words.{set_flag, set_none}
@@ -81,6 +81,30 @@ beyond_rows g (suc line) (suc place) h =
     outside : (x y : ℕ) → is_inside g (record { x = x; y = y }) ≡ false
         → is_free g (record { x = x; y = y }) ≡ false
     outside x y e = rw e refl
+
+-- columns that are turned from a grid's rows are the grid's
+pub columns_turned : (g : GridData) (rows columns : LineData) (wide high : ℕ) → wide ≡ g.width → high ≡ g.height
+    → AreRowsOf rows g
+    → ((free : ℕ → ℕ → Bool) → Shows rows high wide free
+    → ((line place : ℕ) → high + 2 ≤ line → free line place ≡ false)
+    → Shows columns wide high (λ line place. free place line))
+    → AreColumnsOf columns g
+columns_turned g rows columns wide high w h are turned =
+    let shown = subst (λ (n : ℕ). Shows rows n wide (is_free_in g)) (sym h)
+    (subst (λ (n : ℕ). Shows rows g.height n (is_free_in g)) (sym w) are) in
+    let shows = turned (is_free_in g) shown (λ line place k. beyond_rows g line place (omega (arith, h, k))) in
+    subst (λ (n : ℕ). Shows columns n g.height (is_free_from_one g)) w
+    (subst (λ (n : ℕ). Shows columns wide n (is_free_from_one g)) h shows)
+
+-- a grid's rows have a bit for each column, and its columns one for each row
+pub has_room : (g : GridData) (rows columns : LineData) → AreRowsOf rows g → AreColumnsOf columns g
+    → HasRoom rows columns
+has_room g rows columns are also =
+    let lines = are.bordered in
+    let long = are.ample in
+    let other_lines = also.bordered in
+    let high = also.ample in
+    record { in_rows = omega (arith, other_lines, long); in_columns = omega (arith, lines, high) }
 
 pub end_blocked : (g : GridData) (line p : ℕ) → g.height < line → is_free_in g line p ≡ false
 end_blocked g line p h = beyond_rows g line p (omega arith)

@@ -7,7 +7,7 @@ use Rattle.std.proofs.lemmas.Bool.Decides.{nat_tests}
 use Rattle.grid_moves.specs.declared.Cell.{Cell}
 use Rattle.grid_moves.specs.Grid.{GridData, IsGrid, is_free, is_inside, grid_with}
 use Rattle.grid_moves.proofs.Edited.{is_free-with_same, is_free-with_other}
-use Rattle.bit_grid.specs.Bits.{LineData, Shows, is_set, with_cell, is_free_from_one}
+use Rattle.bit_grid.specs.Bits.{LineData, BitData, Shows, AreBitsOf, IsOnMap, is_set, with_cell, is_free_from_one}
 
 -- eight words from the start of a block on
 pub lane_shown : (l : LineData) (line index lines positions : ℕ) (free : ℕ → ℕ → Bool)
@@ -111,6 +111,15 @@ shows_alike l lines positions free now same shows = record {
   tight = shows.tight;
   bits = λ line w j a b c. shows.bits line w j a b c ∙ same line (w * 64 + j);
 }
+
+-- a cell of a grid whose bits these are lies on their map
+pub on_map : (b : BitData) (g : GridData) (c : Cell) → AreBitsOf b g → is_inside g c ≡ true → IsOnMap b c
+on_map b g c are inside =
+    let columns : b.columns.lines ≡ g.width + 2 = are.columns.bordered in
+    let rows : b.rows.lines ≡ g.height + 2 = are.rows.bordered in
+    let column : c.x < g.width = grind (arith, nat_tests) in
+    let row : c.y < g.height = grind (arith, nat_tests) in
+    record { column = omega (arith, columns, column); row = omega (arith, rows, row) }
 
 -- the edited grid, cell by cell
 pub is_free-edited : (g : GridData) (c : Cell) (free : Bool) → IsGrid g → is_inside g c ≡ true → (x y : ℕ)

@@ -1,6 +1,7 @@
 -- Bits of a map: lines of words, with a border of blocked cells on every side.
 use Rattle.std.specs.Prelude.{◌≡◌, ℕ, zero, suc, ◌+◌, ◌*◌, ◌<◌, ◌≤◌, Bool, true, false, ◌&&◌, nat_eq, if◌then◌else◌, refl, List, [], ◌∷◌, slice_index_or}
 use Rattle.std.specs.Int.{bit_at}
+use Rattle.grid_moves.specs.declared.Cell.{Cell}
 use Rattle.grid_moves.specs.declared.Corner.TheVariants.{Never}
 use Rattle.grid_moves.specs.Grid.{GridData, IsGrid, is_free}
 use Rattle.grid_moves.specs.Examples.{notch}
@@ -53,6 +54,16 @@ pub record AreBitsOf (b : BitData) (g : GridData) : Type 0 where
   pub whole : IsGrid g
   pub rows : AreRowsOf b.rows g
   pub columns : AreColumnsOf b.columns g
+
+-- each row has a bit for each of the columns, and each column one for each of the rows
+pub record HasRoom (rows columns : LineData) : Type 0 where
+  pub in_rows : columns.lines ≤ rows.blocks * 512
+  pub in_columns : rows.lines ≤ columns.blocks * 512
+
+-- the cell lies on the map, which has two columns and two rows less than there are with the border's
+pub record IsOnMap (b : BitData) (c : Cell) : Type 0 where
+  pub column : c.x + 2 < b.columns.lines
+  pub row : c.y + 2 < b.rows.lines
 
 -- a cell is made free or blocked, and all others stay
 abbrev pub with_cell : (ℕ → ℕ → Bool) → ℕ → ℕ → Bool → ℕ → ℕ → Bool

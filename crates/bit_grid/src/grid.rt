@@ -21,14 +21,18 @@ impl Model for BitGrid {
 
     ghost Value = { BitData };
 
+    ghost use Rattle.bit_grid.specs.Bits.{HasRoom};
+
     ghost view = { λ b. record {
       rows = b.rows;
       columns = b.columns;
     } };
+
+    ghost invariant = { λ b. HasRoom b.rows b.columns };
 }
 
 impl BitGrid {
-    ghost use Rattle.bit_grid.specs.Bits.{AreBitsOf, AreColumnsOf, AreRowsOf};
+    ghost use Rattle.bit_grid.specs.Bits.{AreBitsOf, AreColumnsOf, AreRowsOf, IsOnMap};
 
     /// The bits of a grid: 9 blocks for each of 4098 rows and as many columns at most, 4.7 MB.
     pub fn of_grid(alloc: Global, grid: &Grid) -> Result<BitGrid, NoMemory>
@@ -41,7 +45,7 @@ impl BitGrid {
 
     /// Makes a cell of the map free, or blocked, in its row and in its column; all other bits stay.
     pub fn set(&mut self, c: Cell, free: bool)
-        requires inside { (g : GridData) × AreBitsOf self.old g × IsTrue (is_inside g c) }
+        requires inside { IsOnMap self.old c }
         ensures edited { (g : GridData) → AreBitsOf self.old g → IsTrue (is_inside g c)
             → AreBitsOf self.new (grid_with g c free) }
     {

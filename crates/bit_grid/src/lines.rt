@@ -110,8 +110,10 @@ impl Lines {
     pub(crate) fn set(&mut self, line: u32, position: u32, free: bool)
         requires line { line < self.old.lines }
         requires position { position < self.old.blocks * 512 }
-        ensures { (lines positions : ℕ) (shown : ℕ → ℕ → Bool) → Shows self.old lines positions shown
+        ensures edited { (lines positions : ℕ) (shown : ℕ → ℕ → Bool) → Shows self.old lines positions shown
             → Shows self.new lines positions (with_cell shown line position free) }
+        ensures lines { self.new.lines ≡ self.old.lines }
+        ensures blocks { self.new.blocks ≡ self.old.blocks }
     {
         let place = line as usize * self.blocks as usize * 8 + position as usize / 64;
         self.words[place] = with_bit(self.words[place], position % 64, free);

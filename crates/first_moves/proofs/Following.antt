@@ -1,15 +1,14 @@
 -- The walk of first moves.
 use Rattle.std.proofs.Common.{◌≡◌, ◌+◌, ◌*◌, ◌<◌, inl, inr, arith, refl, ap, sym, ◌∙◌, subst, Bool, true, false, List, [], ◌∷◌, ◌++◌}
 use Rattle.std.proofs.lemmas.List.{append_assoc}
-use Rattle.std.specs.Prelude.{Option, Some, None, not, if◌then◌else◌, IfSome}
+use Rattle.std.specs.Prelude.{Option, Some, None, not, if◌then◌else◌, IfSome, option_and_then}
 use Rattle.root2_cost.specs.declared.Cost.{Cost}
 use Rattle.root2_cost.specs.Sums.{add_costs, no_cost}
-use Rattle.root2_cost.proofs.AtMost.{IsAtMost-trans}
-use Rattle.root2_cost.proofs.Sums.{add_costs-assoc, add_costs-no_cost_right, IsAtMost-add_left, no_cost_at_most}
+use Rattle.root2_cost.proofs.Sums.{add_costs-assoc, add_costs-no_cost_right, no_cost_at_most}
 use Rattle.grid_moves.specs.declared.Cell.{Cell}
 use Rattle.grid_moves.specs.declared.Dir.{Dir}
 use Rattle.grid_moves.specs.Grid.{GridData, is_free, is_inside}
-use Rattle.grid_moves.specs.Move.{is_same, legal_ahead, move_cost}
+use Rattle.grid_moves.specs.Move.{ahead, is_legal, is_same, legal_ahead, move_cost}
 use Rattle.grid_moves.specs.Points.{unfolding_of}
 use Rattle.grid_moves.specs.Reply.{StandsForLeast}
 use Rattle.grid_moves.specs.Walk.{IsLeastWalk, cost_of}
@@ -19,7 +18,7 @@ use Rattle.grid_moves.proofs.Short.{least_rest, least_steps, move_counts}
 use Rattle.path_points.specs.Corners.{corners, goes_straight, turns_after}
 use Rattle.path_points.proofs.Corners.{corners_unfold}
 use Rattle.path_points.proofs.Joined.{cost_counts}
-use Rattle.cost_waves.specs.Begin.{Begins}
+use Rattle.cost_waves.proofs.Falling.{goes_over, least_on}
 use Rattle.first_moves.specs.First.{IsFirstMove}
 use Rattle.first_moves.specs.Follow.{LeadsTo, IsNext, AreFirst, IsFollowed}
 
@@ -30,6 +29,25 @@ next_some g s t d r f e =
     subst (λ (o : Option Cell). IsNext g s t o) (sym (e ∙ f.0.ahead))
     (record { dir = d; first = f; ahead = f.0.ahead })
 
+-- the cell ahead is that of the legal move
+ahead_is : (g : GridData) (u v : Cell) (d : Dir) → legal_ahead g u d ≡ Some v → ahead d u ≡ Some v
+ahead_is g u v d h = by_cell (ahead d u) h
+  where
+    by_test : (c : Cell) (b : Bool) → (if b then Some c else None) ≡ Some v → Some c ≡ Some v
+    by_test c true s = s
+    by_test c false s = absurd (cc)
+
+    by_cell : (o : Option Cell) → option_and_then (λ c. if is_legal g u c then Some c else None) o ≡ Some v
+        → o ≡ Some v
+    by_cell None s = absurd (cc)
+    by_cell (Some c) s = by_test c (is_legal g u c) s
+
+-- so a first move leads to the cell ahead
+pub next_ahead : (g : GridData) (s t : Cell) (d : Dir) (r : Option Cell) → IsFirstMove g s t (Some d)
+    → r ≡ ahead d s → IsNext g s t r
+next_ahead g s t d r f e =
+    next_some g s t d r f (e ∙ ahead_is g s f.0.next d f.0.ahead ∙ sym f.0.ahead)
+
 -- it lies on the map
 pub next_inside : (g : GridData) (s : Cell) (d : Dir) (r : Option Cell) → r ≡ legal_ahead g s d
     → IfSome r (λ v. is_inside g v ≡ true)
@@ -37,34 +55,16 @@ next_inside g s d None e = tt
 next_inside g s d (Some v) e =
     (and_both (is_inside g v) _ (legal_is g s v (legal_ahead-is g s v d (sym e))).target).0
 
--- a least walk from s to t over v
-record LeastOver (g : GridData) (s t v : Cell) : Type 0 where
-  cells : List Cell
-  least : IsLeastWalk g s t (v ∷ cells)
-
-some_cell : (u v : Cell) → Some u ≡ Some v → u ≡ v
-some_cell u v e = ap (λ (o : Option Cell). elim o as (λ _. Cell) [ Some c ↦ c | None ↦ u ]) e
-
-least_over : (g : GridData) (s t v : Cell) → LeadsTo g s t v → LeastOver g s t v
-least_over g s t v l =
-    let b : Begins g s t l.dir = l.first.0 in
-    let same : b.next ≡ v = some_cell b.next v (sym b.ahead ∙ l.ahead) in
-    record { cells = b.cells; least = subst (λ (c : Cell). IsLeastWalk g s t (c ∷ b.cells)) same b.least }
+-- and so does the next cell
+pub inside_next : (g : GridData) (s t : Cell) (r : Option Cell) → IsNext g s t r
+    → IfSome r (λ v. is_inside g v ≡ true)
+inside_next g s t None n = tt
+inside_next g s t (Some v) n = next_inside g s n.dir (Some v) (sym n.ahead)
 
 -- a first move goes on over any least walk from its end
 pub over_first : (g : GridData) (s t v : Cell) → LeadsTo g s t v → (rest : List Cell) → IsLeastWalk g v t rest
     → IsLeastWalk g s t (v ∷ rest)
-over_first g s t v l rest w =
-    let legal = legal_ahead-is g s v l.dir l.ahead in
-    let first = least_over g s t v l in
-    record {
-      walk = record { legal = rw (legal, w.walk.legal) refl; ends = w.walk.ends };
-      least = λ others o. IsAtMost-trans (cost_of (s ∷ v ∷ rest)) (cost_of (s ∷ v ∷ first.cells))
-          (cost_of (s ∷ others))
-          (IsAtMost-add_left (move_cost s v) (cost_of (v ∷ rest)) (cost_of (v ∷ first.cells))
-          (w.least first.cells (least_rest g s t v first.cells first.least).walk))
-          (first.least.least others o);
-    }
+over_first g s t v l rest w = least_on g s v t l.dir rest l.ahead l.first.0 w
 
 -- On the way of first moves from s to t, after at least one move: what any cells that follow make of it.
 pub record IsUnderWay (g : GridData) (s t before at : Cell) (points : List Cell) (cost : Cost) : Type 0 where
@@ -80,7 +80,7 @@ pub record IsUnderWay (g : GridData) (s t before at : Cell) (points : List Cell)
 pub set_out : (g : GridData) (s t v : Cell) → LeadsTo g s t v
     → IsUnderWay g s t s v (s ∷ []) (move_cost s v)
 set_out g s t v l =
-    let over = least_over g s t v l in
+    let over = goes_over g s v t l.dir l.ahead l.first.0 in
     record {
       way = v ∷ [];
       first = λ rest f. (l, f);
@@ -97,7 +97,7 @@ pub one_on : (g : GridData) (s t before at v : Cell) (points points1 : List Cell
     → points1 ≡ (if goes_straight before at v then points else points ++ (at ∷ []))
     → IsUnderWay g s t at v points1 (add_costs cost (move_cost at v))
 one_on g s t before at v points points1 cost w l e =
-    let over = least_over g at t v l in
+    let over = goes_over g at v t l.dir l.ahead l.first.0 in
     record {
       way = w.way ++ (v ∷ []);
       first = λ rest f. subst (λ (c : List Cell). AreFirst g t s c) (sym (joined rest)) (w.first (v ∷ rest) (l, f));

@@ -25,12 +25,14 @@ pub(crate) trait Guide {
     /// The grids and the goals for which it stands.
     ghost StandsFor: { Self → GridData → Cell → Type 0 };
 
-    /// The cell to which the first move leads, `None` where there is none. It counts one step.
+    /// The cell to which the first move leads, `None` where there is none. It counts one step. `part` is
+    /// what a guide remembers along a walk.
     fn next<T: Terrain, L: Ledger>(
         &self,
         t: &T,
         from: Cell,
         to: Cell,
+        part: &mut Option<u32>,
         steps: &mut Steps<L>,
     ) -> Option<Cell>
         requires stands { StandsFor self.now (T.grid t.now) to }
@@ -47,15 +49,13 @@ impl Guide for Moves {
 
     fn next<T: Terrain, L: Ledger>(
         &self,
-        t: &T,
+        _t: &T,
         from: Cell,
         to: Cell,
+        part: &mut Option<u32>,
         steps: &mut Steps<L>,
     ) -> Option<Cell> {
-        match self.first(from, to, steps) {
-            Some(d) => step(t, from, d),
-            None => None,
-        }
+        self.next_near(from, to, part, steps)
     }
 }
 
@@ -97,6 +97,7 @@ impl Guide for CostWaves {
         t: &T,
         from: Cell,
         _to: Cell,
+        _part: &mut Option<u32>,
         steps: &mut Steps<L>,
     ) -> Option<Cell> {
         steps.tick();

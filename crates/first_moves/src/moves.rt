@@ -4,13 +4,14 @@ ghost use Rattle.std.specs.Prelude.{◌≡◌, ◌+◌, ◌*◌, ◌<◌, ◌≤
 ghost use Rattle.grid_moves.specs.declared.Cell.{Cell};
 ghost use Rattle.grid_moves.specs.Grid.{GridData, is_inside};
 ghost use Rattle.first_moves.specs.First.{IsFirstMove};
+ghost use Rattle.first_moves.specs.Follow.{IsNext};
 ghost use Rattle.first_moves.specs.Row.{IsRow, AreMoves, row_at};
 ghost use Rattle.first_moves.specs.Kept.{AreRows};
 
 use crate::NoMemory;
 use crate::row::Row;
 use cost_waves::CostWaves;
-use grid_moves::{Cell, Dir, Terrain, number_of};
+use grid_moves::{Cell, Dir, Terrain, cell_ahead, number_of};
 use std::alloc::Global;
 use std::marker::Model;
 use std::sync::ledger::Ledger;
@@ -134,7 +135,50 @@ impl Moves {
         ensures first { (g : GridData) → AreMoves g self.now → IsFirstMove g s t result }
         ensures steps { steps.new ≡ steps.old + 1 }
     {
+        self.first_near(s, t, &mut None, steps)
+    }
+
+    // The same for one cell after another, by the part of the runs that is known since the first one.
+    #[inline(always)]
+    fn first_near<L: Ledger>(
+        &self,
+        s: Cell,
+        t: Cell,
+        part: &mut Option<u32>,
+        steps: &mut Steps<L>,
+    ) -> Option<Dir>
+        requires column { s.x < self.now.width }
+        requires row { s.y < self.now.height }
+        requires goal_column { t.x < self.now.width }
+        requires goal_row { t.y < self.now.height }
+        ensures first { (g : GridData) → AreMoves g self.now → IsFirstMove g s t result }
+        ensures narrow { s.x < 4096 }
+        ensures low { s.y < 4096 }
+        ensures steps { steps.new ≡ steps.old + 1 }
+    {
         steps.tick();
-        self.row(s).first(number_of(self.width, t))
+        self.row(s).first_near(number_of(self.width, t), part)
+    }
+
+    /// The cell to which the first move leads, asked for one cell of a walk after another: `part` is none at first,
+    /// and then it tells where in a row the goal's run is to be looked for.
+    pub(crate) fn next_near<L: Ledger>(
+        &self,
+        s: Cell,
+        t: Cell,
+        part: &mut Option<u32>,
+        steps: &mut Steps<L>,
+    ) -> Option<Cell>
+        requires column { s.x < self.now.width }
+        requires row { s.y < self.now.height }
+        requires goal_column { t.x < self.now.width }
+        requires goal_row { t.y < self.now.height }
+        ensures next { (g : GridData) → AreMoves g self.now → IsNext g s t result }
+        ensures steps { steps.new ≡ steps.old + 1 }
+    {
+        match self.first_near(s, t, part, steps) {
+            Some(d) => cell_ahead(d, s),
+            None => None,
+        }
     }
 }

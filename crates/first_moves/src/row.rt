@@ -8,12 +8,20 @@ ghost use Rattle.first_moves.specs.First as spec;
 ghost use Rattle.first_moves.specs.First.{IsFirstMove};
 ghost use Rattle.first_moves.specs.Runs.{runs_of, is_same_move};
 ghost use Rattle.first_moves.specs.Row.{IsRow};
+ghost use Rattle.first_moves.specs.Span.{IsSpan};
+ghost use Rattle.first_moves.specs.declared.row.Run.{Run};
 
 use crate::NoMemory;
 use cost_waves::CostWaves;
 use grid_moves::{Cell, Dir, Terrain, dir_number};
 use std::alloc::Global;
 use std::marker::Model;
+
+// How far a search looks at first, in runs.
+const FIRST_REACH: usize = 8;
+
+// The parts of a row's runs in which the place of a run is told.
+const PARTS: usize = 65536;
 
 /// A run of equal first moves. It takes four bytes.
 #[derive(Clone, Copy, Debug, PartialEq, Eq)]
@@ -112,16 +120,69 @@ fn fill(runs: &mut Vec<Run>, bytes: &[u8]) -> Result<(), NoMemory>
     Ok(())
 }
 
-// The first move to the cell of this number: that of the last run which begins at or before it.
-fn search(runs: &[Run], number: u32) -> Option<Dir>
-    ensures { (members : List (Option Dir)) → runs.now ≡ runs_of members → number < length members
-        → result ≡ slice_index_or members number None }
+// Looks forward from a run that begins at or before the number, or is the first one, twice as far each time.
+fn reach_forward(runs: &[Run], number: u32, near: usize) -> (usize, usize)
+    requires within { near < length runs.now }
+    requires begun { (d : Run) → 0 < near → (slice_index_or runs.now near d).start ≤ number }
+    ensures { IsSpan runs.now number result.0 result.1 }
 {
-    let mut low: usize = 0;
-    let mut high = runs.len();
-    if high == 0 {
-        return None;
+    let mut low = near;
+    let mut reach = FIRST_REACH;
+    'reaching: while reach < runs.len() - low {
+        if number < u32::from(runs[low + reach].start) {
+            return (low, low + reach);
+        }
+        low += reach;
+        reach *= 2;
     }
+    (low, runs.len())
+}
+
+// Looks back from a run that begins after the number.
+fn reach_back(runs: &[Run], number: u32, near: usize) -> (usize, usize)
+    requires within { near < length runs.now }
+    requires later { 0 < near }
+    requires after { (d : Run) → number < (slice_index_or runs.now near d).start }
+    ensures { IsSpan runs.now number result.0 result.1 }
+{
+    let mut high = near;
+    let mut reach = FIRST_REACH;
+    'reaching: while reach < high {
+        if u32::from(runs[high - reach].start) <= number {
+            return (high - reach, high);
+        }
+        high -= reach;
+        reach *= 2;
+    }
+    (0, high)
+}
+
+// Two runs between which that of the number stands, looked for from a run on, if one is told.
+fn span_near(runs: &[Run], number: u32, near: Option<usize>) -> (usize, usize)
+    requires { 0 < length runs.now }
+    ensures { IsSpan runs.now number result.0 result.1 }
+{
+    let Some(near) = near else {
+        return (0, runs.len());
+    };
+    let near = near.min(runs.len() - 1);
+    if near == 0 || u32::from(runs[near].start) <= number {
+        reach_forward(runs, number, near)
+    } else {
+        reach_back(runs, number, near)
+    }
+}
+
+// The first move to the cell of this number: that of the last run which begins at or before it. With it this run.
+fn search(runs: &[Run], number: u32, near: Option<usize>) -> (Option<Dir>, usize)
+    ensures run { result.1 ≤ length runs.now }
+    ensures first { (members : List (Option Dir)) → runs.now ≡ runs_of members → number < length members
+        → result.0 ≡ slice_index_or members number None }
+{
+    if runs.is_empty() {
+        return (None, 0);
+    }
+    let (mut low, mut high) = span_near(runs, number, near);
     while 1 < high - low {
         let middle = low + (high - low) / 2;
         if u32::from(runs[middle].start) <= number {
@@ -130,7 +191,7 @@ fn search(runs: &[Run], number: u32) -> Option<Dir>
             high = middle;
         }
     }
-    runs[low].first
+    (runs[low].first, low)
 }
 
 /// The first moves from one cell to all cells of a map, cut into longest runs of equal ones in the order of cell
@@ -250,6 +311,35 @@ impl Row {
         ensures { (g : GridData) (s t : Cell) → IsRow g s self.now → is_inside g t ≡ true
             → number ≡ cell_number g.width t → IsFirstMove g s t result }
     {
-        search(self.runs.as_slice(), number)
+        self.find(number, None).0
+    }
+
+    // The same, looked for from a run on, if one is told, and the run in which it is found.
+    #[inline(always)]
+    fn find(&self, number: u32, near: Option<usize>) -> (Option<Dir>, usize)
+        ensures first { (g : GridData) (s t : Cell) → IsRow g s self.now → is_inside g t ≡ true
+            → number ≡ cell_number g.width t → IsFirstMove g s t result.0 }
+        ensures run { result.1 ≤ length self.now }
+    {
+        search(self.runs.as_slice(), number, near)
+    }
+
+    // The same for one row after another. In rows of cells nearby the run of a goal stands after much the same part
+    // of all runs: `part` is this part, once it is known. It stays that of the first row, so that the processor need
+    // not wait for one row before it reads the next.
+    #[inline(always)]
+    pub(crate) fn first_near(&self, number: u32, part: &mut Option<u32>) -> Option<Dir>
+        ensures { (g : GridData) (s t : Cell) → IsRow g s self.now → is_inside g t ≡ true
+            → number ≡ cell_number g.width t → IsFirstMove g s t result }
+    {
+        let runs = self.runs.len();
+        match *part {
+            Some(known) => self.find(number, Some(known as usize * runs / PARTS)).0,
+            None => {
+                let (first, run) = self.find(number, None);
+                *part = Some((run * PARTS / runs.max(1)) as u32);
+                first
+            }
+        }
     }
 }

@@ -148,7 +148,6 @@ fn diagonal_ahead<T: Terrain>(t: &T, at: Cell, d: Dir, beside: Components) -> Op
 #[inline(always)]
 fn is_forced_at<T: Terrain>(t: &T, next: Next, d: Dir) -> bool
     requires free { is_free (T.grid t.now) next.cell ≡ true }
-    requires whole { IsGrid (T.grid t.now) }
     requires clear { next.clear ≡ true → is_forced (T.grid t.now) next.cell d ≡ false }
     ensures { result ≡ is_forced (T.grid t.now) next.cell d }
 {

@@ -36,12 +36,10 @@ impl<'a, T: Terrain> JumpSource for PlainJumps<'a, T> {
     }
 
     fn allowed<L: Ledger>(&self, at: Cell, by: Arrival, _steps: &mut Steps<L>) -> ArrayVec<Dir, 8> {
-        let _whole = self.terrain.width();
         allowed(self.terrain, at, by)
     }
 
     fn allowed_word<L: Ledger>(&self, at: Cell, by: Arrival, _steps: &mut Steps<L>) -> Packed {
-        let _whole = self.terrain.width();
         allowed_word(self.terrain, at, by)
     }
 }

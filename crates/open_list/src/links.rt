@@ -24,13 +24,21 @@ fn adopt<N>(entries: &mut [Entry<N>], parent: u32, child: u32, next: u32)
     set_child_and_next(entries, parent, child, next);
 }
 
-// Whether the node of `a` is before that of `b`.
-fn is_before<N: Ranked>(entries: &[Entry<N>], a: u32, b: u32) -> bool
+// Whether the node of `a` is before that of `b`. No other function of this crate asks for the order,
+// and this one asks once and counts it: so the steps of a call are its comparisons.
+fn is_before<N: Ranked, L: Ledger>(
+    entries: &[Entry<N>],
+    a: u32,
+    b: u32,
+    steps: &mut Steps<L>,
+) -> bool
     requires a_in { a < length entries.now }
     requires b_in { b < length entries.now }
-    ensures { (x : _) (y : _) → slice_get entries.now a ≡ Some x → slice_get entries.now b ≡ Some y
+    ensures compared { (x : _) (y : _) → slice_get entries.now a ≡ Some x → slice_get entries.now b ≡ Some y
         → result ≡ N.before x.node y.node }
+    ensures counted { steps.new ≡ steps.old + 1 }
 {
+    steps.tick();
     entries[a as usize].node.before(&entries[b as usize].node)
 }
 
@@ -49,8 +57,7 @@ pub(crate) fn join<N: Ranked + Copy, L: Ledger>(
     ensures steps { steps.new ≡ steps.old + 1 }
 {
     let next = next_of(entries, a);
-    steps.tick();
-    let (winner, loser) = if is_before(entries, b, a) {
+    let (winner, loser) = if is_before(entries, b, a, steps) {
         (b, a)
     } else {
         (a, b)

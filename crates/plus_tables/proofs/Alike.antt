@@ -17,8 +17,8 @@ use Rattle.plus_tables.specs.declared.lines.Band.{Band}
 use Rattle.plus_tables.specs.declared.lines.Line.{Line}
 use Rattle.plus_tables.specs.Entry.{table_entry}
 use Rattle.plus_tables.specs.Local.{is_mark_by}
-use Rattle.plus_tables.specs.Rows.{AreSame, IsFlagRow, IsEntryRow, IsRowAt, AreRowsAround}
-use Rattle.plus_tables.specs.Lines.{AreAlike, IsReady}
+use Rattle.plus_tables.specs.Rows.{AreSame, IsFlagRow, IsEntryRow, IsRowAt, AreRowsAround, Heading, upwards, downwards, AreRowsSeen}
+use Rattle.plus_tables.specs.Lines.{AreAlike, AreAlong, IsReady}
 use Rattle.plus_tables.proofs.Rowing.{row_legal, ring_forced_on, told_is, next_left, next_right, none_left}
 
 -- rows with the same flags
@@ -135,10 +135,10 @@ module _ (g : GridData) (whole : IsGrid g) (y m : ℕ) (above here below : List 
         is (record { x = v.x; y = m }) refl there ∙ sym (same v.x within)
         ∙ ap (λ (n : ℕ). table_entry g (record { x = v.x; y = n }) d) (sym at)
 
-    pub east_again : IsEntryRow g m E row → IsEntryRow g y E row
+    east_again : IsEntryRow g m E row → IsEntryRow g y E row
     east_again = same_row E (λ x within. same_east (g.width - x) x (omega arith))
 
-    pub west_again : IsEntryRow g m W row → IsEntryRow g y W row
+    west_again : IsEntryRow g m W row → IsEntryRow g y W row
     west_again = same_row W (λ x within. same_west x)
 
 -- the row that was swept last lies on the map
@@ -149,19 +149,28 @@ row_above (suc k) m h is some below = let e = is.some k refl in omega arith
 pub row_below : (y m h : ℕ) → IsRowAt (row_ahead S y) m → y + 1 < h → m < h
 row_below y m h is below = let e = is.some (y + 1) refl in omega arith
 
--- and between the same rows as this one
-module _ (g : GridData) (y : ℕ) (band : Band) (last : Line) (alike : AreAlike band) where
-  pub alike_up : (ready : IsReady g N y band last) → ready.rows.ahead < 4096
-      → AreRowsAround g ready.rows.ahead band.next.items band.here.items band.back.items
-  alike_up ready on =
-      around_same g ready.rows.ahead band.far.items band.next.items band.here.items band.next.items
-      band.here.items band.back.items alike.far alike.next alike.here ready.rows.next_is.long
-      ready.rows.here_is.long ready.rows.back_is.long (ready.rows.up refl on)
+-- and between the same rows as this one, so that it has the same entries along it
+module _ (g : GridData) (whole : IsGrid g) (y : ℕ) (band : Band) (last : Line) (alike : AreAlike band) where
+  along_again : (m : ℕ) (above here below : List Bool) → AreRowsAround g y above here below
+      → AreRowsAround g m above here below → m < g.height → AreAlong g m last → AreAlong g y last
+  along_again m above here below one same on along = record {
+    east = east_again g whole y m above here below one same on last.east.items along.east;
+    west = west_again g whole y m above here below one same on last.west.items along.west;
+  }
 
-  pub alike_down : (ready : IsReady g S y band last) → ready.rows.ahead < 4096
-      → AreRowsAround g ready.rows.ahead band.back.items band.here.items band.next.items
-  alike_down ready on =
-      around_same g ready.rows.ahead band.here.items band.next.items band.far.items band.back.items
-      band.here.items band.next.items alike.here (λ k. alike.next k)
-      (λ k. alike.far k) ready.rows.back_is.long ready.rows.here_is.long ready.rows.next_is.long
-      (ready.rows.down refl on)
+  pub alike_along : (h : Heading) (ready : IsReady g h y band last)
+      → AreRowsSeen g h y band.next.items band.here.items band.back.items → ready.rows.ahead < g.height
+      → AreAlong g y last
+  alike_along upwards ready around on =
+      let m = ready.rows.ahead in
+      along_again m band.next.items band.here.items band.back.items around
+      (around_same g m band.far.items band.next.items band.here.items band.next.items band.here.items
+      band.back.items alike.far alike.next alike.here ready.rows.next_is.long ready.rows.here_is.long
+      ready.rows.back_is.long (ready.rows.around_next (omega (arith, whole.sides.low)))) on ready.along
+  alike_along downwards ready around on =
+      let m = ready.rows.ahead in
+      along_again m band.back.items band.here.items band.next.items around
+      (around_same g m band.here.items band.next.items band.far.items band.back.items band.here.items
+      band.next.items alike.here (λ k. alike.next k) (λ k. alike.far k) ready.rows.back_is.long
+      ready.rows.here_is.long ready.rows.next_is.long
+      (ready.rows.around_next (omega (arith, whole.sides.low)))) on ready.along

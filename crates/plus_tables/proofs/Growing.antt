@@ -1,5 +1,5 @@
 -- Rows that a loop fills, column by column.
-use Rattle.std.proofs.Common.{◌≡◌, ◌≢◌, ℕ, suc, ◌+◌, ◌<◌, ◌≤◌, arith, Bool, true, false, ◌&&◌, ◌||◌, List, length, refl, ap, sym, ◌∙◌, below_more, get_or-set_other, get_or-set_same, zero, subst, w16, to_z, of_z}
+use Rattle.std.proofs.Common.{◌≡◌, ◌≢◌, ℕ, suc, ◌+◌, ◌-◌, ◌<◌, ◌≤◌, arith, Bool, true, false, ◌&&◌, ◌||◌, List, length, refl, ap, sym, ◌∙◌, below_more, get_or-set_other, get_or-set_same, zero, subst, w16, to_z, of_z}
 use Rattle.std.specs.Prelude.{ℤ, pos, negsuc, slice_set, nat_lt}
 use Rattle.std.proofs.lemmas.List.{get_or_past}
 use Rattle.std.proofs.lemmas.Int.{ints}
@@ -9,7 +9,9 @@ use Rattle.grid_moves.proofs.Legal.{free_inside}
 use Rattle.plus_tables.specs.Tables.{IsShort}
 use Rattle.plus_tables.specs.Local.{tells_mark}
 use Rattle.plus_tables.specs.Rows.{flag, number, told, AreShort, IsFlagRow}
+use borrow.Rule.Slice.PartMut.{put_mid}
 use Rattle.plus_tables.proofs.Short.{same_value}
+use Rattle.plus_tables.proofs.Parts.{long_with, read_before, read_behind, read_within}
 
 -- one more flag to the right
 pub flag_more : (row : List Bool) (x : ℕ) (b : Bool) (P : ℕ → Bool) → x + 1 < length row
@@ -48,6 +50,22 @@ whole_row g y n row long all first last read =
     by_test x true e = let below : x < n = grind (arith, nat_tests) in read x below
     by_test x false e = let past : g.width ≤ x = grind (arith, nat_tests) in
         beyond x past (nat_lt x (g.width + 1)) refl ∙ sym (outside x past)
+
+-- a row whose cells are read at once
+pub row_read : (g : GridData) (y e : ℕ) (row cells : List Bool) → e ≡ g.width + 1 → length row ≡ g.width + 2
+    → length cells ≡ g.width → flag row 0 ≡ false → flag row (g.width + 1) ≡ false
+    → ((x : ℕ) → x < g.width → flag cells x ≡ is_free g (record { x = x; y = y }))
+    → IsFlagRow g y (put_mid 1 (e - 1) row cells)
+row_read g y e row cells end long wide first last read =
+    whole_row g y g.width (put_mid 1 (e - 1) row cells)
+    (long_with 1 e row cells (omega arith) (omega arith) (omega arith) ∙ long) refl
+    (read_before 1 (e - 1) row cells false (omega arith) 0 (omega arith) ∙ first)
+    (read_behind 1 (e - 1) row cells false (omega arith) (g.width + 1) (omega arith) (omega arith) ∙ last)
+    (λ k h. ap (λ (n : ℕ). flag (put_mid 1 (e - 1) row cells) n) (one_more k)
+    ∙ read_within 1 (e - 1) row cells false (omega arith) k (omega arith) ∙ read k h)
+  where
+    one_more : (k : ℕ) → k + 1 ≡ 1 + k
+    one_more k = omega arith
 
 -- a told entry fits its type
 pub told_fits : (legal mark : Bool) (next r : ℤ)

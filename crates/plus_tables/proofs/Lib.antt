@@ -9,7 +9,10 @@ pub mod Stops
 pub mod Goals
 pub mod Told
 pub mod Turning
+pub mod Parts
 pub mod Growing
+pub mod Laying
 pub mod Rowing
+pub mod Mirror
 pub mod Lining
 pub mod Alike

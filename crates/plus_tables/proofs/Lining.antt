@@ -1,30 +1,32 @@
 -- Rows as code hands them over, and from one row to the next.
-use Rattle.std.proofs.Common.{◌≡◌, ℕ, zero, suc, ◌+◌, ◌-◌, ◌<◌, ◌≤◌, arith, Bool, true, false, List, length, refl, ap, sym, ◌∙◌, subst}
+use Rattle.std.proofs.Common.{◌≡◌, ℕ, zero, suc, ◌+◌, ◌<◌, ◌≤◌, arith, Bool, true, false, List, length, refl, ap, sym, ◌∙◌, subst}
 use Rattle.std.specs.Prelude.{ℤ, Some, replicate, nat_lt}
 use Rattle.std.proofs.lemmas.Bool.Decides.{nat_tests}
 use Rattle.std.proofs.lemmas.List.{get_or-replicate, length-replicate, get_or_past}
 use Rattle.grid_moves.specs.declared.Dir.{Dir}
-use Rattle.grid_moves.specs.declared.Dir.TheVariants.{N, E, S, W}
+use Rattle.grid_moves.specs.declared.Dir.TheVariants.{N, NE, E, S, W, NW}
 use Rattle.grid_moves.specs.Around.{IsBefore}
 use Rattle.grid_moves.specs.Grid.{GridData, IsGrid, is_free, is_inside}
 use Rattle.grid_moves.specs.Move.{row_ahead}
 use Rattle.grid_moves.proofs.Legal.{and_both, free_inside}
-use Rattle.pruning.specs.declared.turns.Side.TheVariants.{Right, Left}
-use Rattle.pruning.specs.Turns.{turn}
 use Rattle.plus_tables.specs.declared.lines.Line.{Line}
 use Rattle.plus_tables.specs.declared.lines.Band.{Band}
 use Rattle.plus_tables.specs.declared.lines.Rows.{Rows}
 use Rattle.plus_tables.specs.Entry.{table_entry}
 use Rattle.plus_tables.specs.Tables.{TablesData, entry_at}
 use Rattle.plus_tables.specs.Sweep.{AreRight, is_upward, from_row}
-use Rattle.plus_tables.specs.Rows.{flag, number, IsEntryRow, IsFlagRow, IsRowAt, AreRowsAround}
-use Rattle.plus_tables.specs.Lines.{IsLong, IsLine, IsReady, IsKept, IsBlank}
+use Rattle.plus_tables.specs.Rows.{flag, number, IsEntryRow, IsFlagRow, IsRowAt, AreRowsAround, Heading, upwards, downwards, seen, AreRowsSeen}
+use Rattle.plus_tables.specs.Lines.{AreAhead, AreAlong, IsLong, IsReady, IsKept, IsBlank}
 use Rattle.plus_tables.proofs.Rowing.{value_is}
 
 -- the same rows by other names
 pub around_as : (g : GridData) (y : ℕ) (a b c p q r : List Bool) → p ≡ a → q ≡ b → r ≡ c
     → AreRowsAround g y a b c → AreRowsAround g y p q r
 around_as g y a b c p q r e f h is = rw (e, f, h) is
+
+pub seen_as : (g : GridData) (h : Heading) (y : ℕ) (a b c p q r : List Bool) → p ≡ a → q ≡ b → r ≡ c
+    → AreRowsSeen g h y a b c → AreRowsSeen g h y p q r
+seen_as g h y a b c p q r e f k is = rw (e, f, k) is
 
 pub entries_as : (g : GridData) (m : ℕ) (d : Dir) (row same : List ℤ) → same ≡ row → IsEntryRow g m d row
     → IsEntryRow g m d same
@@ -87,6 +89,18 @@ row_before zero n is = record {
 }
 row_before (suc m) n is = row_over (suc m) n (let e : suc m ≡ n + 1 = is.some (omega arith) in omega arith)
 
+-- all that leads ahead leads to one row
+pub leads_ahead : (h : Heading) (y m : ℕ) → IsRowAt (row_ahead (seen h N) y) m
+    → IsRowAt (row_ahead (seen h NE) y) m × IsRowAt (row_ahead (seen h NW) y) m
+leads_ahead upwards y m lies = (lies, lies)
+leads_ahead downwards y m lies = (lies, lies)
+
+-- E and W are E and W on both maps
+pub along_seen : (g : GridData) (h : Heading) (m : ℕ) {line : Line} → AreAlong g m line
+    → IsEntryRow g m (seen h E) line.east.items × IsEntryRow g m (seen h W) line.west.items
+along_seen g upwards m along = (along.east, along.west)
+along_seen g downwards m along = (along.east, along.west)
+
 -- the entries along a row, as they are read back
 pub taken : (g : GridData) (t : TablesData) (y : ℕ) (d : Dir) (row : List ℤ) → AreRight t g (from_row (y + 1))
     → is_upward d ≡ true
@@ -102,10 +116,10 @@ taken g t y d row known h read v same inside =
     ∙ ap (λ (n : ℕ). table_entry g (record { x = v.x; y = n }) d) (sym same)
 
 -- another row behind
-module _ (g : GridData) (d : Dir) (y n : ℕ) (band same : Band) (last : Line) (ready : IsReady g d y band last)
+module _ (g : GridData) (h : Heading) (y n : ℕ) (band same : Band) (last : Line) (ready : IsReady g h y band last)
     (far : same.far.items ≡ band.far.items) (next : same.next.items ≡ band.next.items)
     (here : same.here.items ≡ band.here.items) (is : IsFlagRow g n same.back.items) where
-  pub ready_back : IsReady g d y same last
+  pub ready_back : IsReady g h y same last
   ready_back =
       let m = ready.rows.ahead in
       record {
@@ -118,99 +132,67 @@ module _ (g : GridData) (d : Dir) (y n : ℕ) (band same : Band) (last : Line) (
           next_is = flags_as g m band.next.items same.next.items next ready.rows.next_is;
           here_is = flags_as g y band.here.items same.here.items here ready.rows.here_is;
           back_is = is;
-          up = λ e on. around_as g m band.far.items band.next.items band.here.items same.far.items
-              same.next.items same.here.items far next here (ready.rows.up e on);
-          down = λ e on. around_as g m band.here.items band.next.items band.far.items same.here.items
-              same.next.items same.far.items here next far (ready.rows.down e on);
+          around_next = λ on. seen_as g h m band.far.items band.next.items band.here.items same.far.items
+              same.next.items same.here.items far next here (ready.rows.around_next on);
         };
         long = ready.long;
         told = ready.told;
+        along = ready.along;
       }
 
 -- the row and the two beside it
-pub around_up : (g : GridData) (y : ℕ) (band : Band) (last : Line) (behind : List Bool)
-    → IsReady g N y band last → IsFlagRow g (y + 1) behind
-    → AreRowsAround g y band.next.items band.here.items behind
-around_up g y band last behind ready is = record {
+pub around_row : (g : GridData) (h : Heading) (y n : ℕ) (band : Band) (last : Line) (behind : List Bool)
+    → IsReady g h y band last → IsRowAt (row_ahead (seen h S) y) n → IsFlagRow g n behind
+    → AreRowsSeen g h y band.next.items band.here.items behind
+around_row g upwards y n band last behind ready lies is = record {
   upper = ready.rows.ahead;
-  lower = y + 1;
+  lower = n;
   upper_is = ready.rows.ahead_is;
-  lower_is = row_itself (y + 1);
+  lower_is = lies;
   above_is = ready.rows.next_is;
   here_is = ready.rows.here_is;
   below_is = is;
 }
-
-pub around_down : (g : GridData) (y n : ℕ) (band : Band) (last : Line) (behind : List Bool)
-    → IsReady g S y band last → IsBefore y n → IsFlagRow g n behind
-    → AreRowsAround g y behind band.here.items band.next.items
-around_down g y n band last behind ready before is = record {
+around_row g downwards y n band last behind ready lies is = record {
   upper = n;
   lower = ready.rows.ahead;
-  upper_is = row_before y n before;
+  upper_is = lies;
   lower_is = ready.rows.ahead_is;
   above_is = is;
   here_is = ready.rows.here_is;
   below_is = ready.rows.next_is;
 }
 
--- on to the next row: downwards
-module _ (g : GridData) (y n : ℕ) (d : Dir) (band : Band) (last this : Line) (behind : List Bool) (rows : Rows)
-    (ready : IsReady g d y band last) (is : IsFlagRow g n behind) (told : IsLine g d y this)
-    (long : IsLong g this) (far : rows.band.far.items ≡ band.next.items)
-    (next : rows.band.next.items ≡ band.here.items) (here : rows.band.here.items ≡ behind)
-    (back : rows.band.back.items ≡ band.far.items) (kept : rows.last ≡ this) (room : IsLong g rows.this)
-    (forced : length rows.forced.items ≡ g.width + 2) where
-  kept_on : IsRowAt (row_ahead d n) y
-      → (d ≡ N → AreRowsAround g y band.next.items band.here.items behind)
-      → (d ≡ S → AreRowsAround g y behind band.here.items band.next.items) → IsKept g d n rows
-  kept_on lies up down = record {
-    ready = record {
-      rows = record {
-        ahead = y;
-        far_row = ready.rows.ahead;
-        back_row = ready.rows.far_row;
-        ahead_is = lies;
-        far_is = flags_as g ready.rows.ahead band.next.items rows.band.far.items far ready.rows.next_is;
-        next_is = flags_as g y band.here.items rows.band.next.items next ready.rows.here_is;
-        here_is = flags_as g n behind rows.band.here.items here is;
-        back_is = flags_as g ready.rows.far_row band.far.items rows.band.back.items back ready.rows.far_is;
-        up = λ e on. around_as g y band.next.items band.here.items behind rows.band.far.items
-            rows.band.next.items rows.band.here.items far next here (up e);
-        down = λ e on. around_as g y behind band.here.items band.next.items rows.band.here.items
-            rows.band.next.items rows.band.far.items here next far (down e);
+-- on to the next row
+pub kept_on : (g : GridData) (h : Heading) (y n : ℕ) (band : Band) (last this : Line) (behind : List Bool)
+    (rows : Rows) → IsReady g h y band last → IsRowAt (row_ahead (seen h S) y) n
+    → IsRowAt (row_ahead (seen h N) n) y → IsFlagRow g n behind → AreAhead g h y this → AreAlong g y this
+    → IsLong g this → rows.band.far.items ≡ band.next.items → rows.band.next.items ≡ band.here.items
+    → rows.band.here.items ≡ behind → rows.band.back.items ≡ band.far.items → rows.last ≡ this
+    → IsLong g rows.this → length rows.forced.items ≡ g.width + 2 → IsKept g h n rows
+kept_on g h y n band last this behind rows ready lies back is told along long far next here beyond kept room
+    forced = record {
+      ready = record {
+        rows = record {
+          ahead = y;
+          far_row = ready.rows.ahead;
+          back_row = ready.rows.far_row;
+          ahead_is = back;
+          far_is = flags_as g ready.rows.ahead band.next.items rows.band.far.items far ready.rows.next_is;
+          next_is = flags_as g y band.here.items rows.band.next.items next ready.rows.here_is;
+          here_is = flags_as g n behind rows.band.here.items here is;
+          back_is = flags_as g ready.rows.far_row band.far.items rows.band.back.items beyond ready.rows.far_is;
+          around_next = λ on. seen_as g h y band.next.items band.here.items behind rows.band.far.items
+              rows.band.next.items rows.band.here.items far next here
+              (around_row g h y n band last behind ready lies is);
+        };
+        long = subst (λ (l : Line). IsLong g l) (sym kept) long;
+        told = subst (λ (l : Line). AreAhead g h y l) (sym kept) told;
+        along = subst (λ (l : Line). AreAlong g y l) (sym kept) along;
       };
-      long = subst (λ (l : Line). IsLong g l) (sym kept) long;
-      told = subst (λ (l : Line). IsLine g d y l) (sym kept) told;
-    };
-    long = room;
-    forced = forced;
-  }
-
-other_way : N ≡ S → ⊥
-other_way e = cc
-
-pub kept_up : (g : GridData) (y : ℕ) (band : Band) (last this : Line) (behind : List Bool) (rows : Rows)
-    → IsReady g N y band last → IsFlagRow g (y + 1) behind → IsLine g N y this → IsLong g this
-    → rows.band.far.items ≡ band.next.items → rows.band.next.items ≡ band.here.items
-    → rows.band.here.items ≡ behind → rows.band.back.items ≡ band.far.items → rows.last ≡ this
-    → IsLong g rows.this → length rows.forced.items ≡ g.width + 2 → IsKept g N (y + 1) rows
-kept_up g y band last this behind rows ready is told long far next here back kept room forced =
-    kept_on g y (y + 1) N band last this behind rows ready is told long far next here back kept room forced
-    (row_over (y + 1) y (omega arith)) (λ e. around_up g y band last behind ready is) (λ e. absurd (other_way e))
-
-pub kept_down : (g : GridData) (y n : ℕ) (band : Band) (last this : Line) (behind : List Bool) (rows : Rows)
-    → 0 < y → IsBefore y n → IsReady g S y band last → IsFlagRow g n behind → IsLine g S y this → IsLong g
-    this
-    → rows.band.far.items ≡ band.next.items → rows.band.next.items ≡ band.here.items
-    → rows.band.here.items ≡ behind → rows.band.back.items ≡ band.far.items → rows.last ≡ this
-    → IsLong g rows.this → length rows.forced.items ≡ g.width + 2 → IsKept g S (y - 1) rows
-kept_down g y n band last this behind rows some before ready is told long far next here back kept room forced =
-    let e = before.some some in
-    let same : n ≡ y - 1 = omega arith in
-    subst (λ (m : ℕ). IsKept g S m rows) same
-    (kept_on g y n S band last this behind rows ready is told long far next here back kept room forced
-    (row_under n y e) (λ e. absurd (other_way (sym e))) (λ e. around_down g y n band last behind ready before is))
+      long = room;
+      forced = forced;
+    }
 
 -- before the first row
 nothing : (g : GridData) → IsGrid g → (d : Dir) (row : List ℤ) (n : ℕ) → g.height ≤ n → IsEntryRow g n d row
@@ -221,27 +203,15 @@ nothing g whole d row n far v e inside =
     below : (m n : ℕ) → nat_lt m n ≡ true → m < n
     below m n h = grind (arith, nat_tests)
 
-no_line : (g : GridData) → IsGrid g → (d : Dir) (n : ℕ) (line : Line) → g.height ≤ n → IsLine g d n line
-no_line g whole d n line far = record {
-  straight = nothing g whole d line.straight.items n far;
-  right = nothing g whole (turn Right d) line.right.items n far;
-  left = nothing g whole (turn Left d) line.left.items n far;
-  east = nothing g whole E line.east.items n far;
-  west = nothing g whole W line.west.items n far;
-}
-
 module _ (g : GridData) (whole : IsGrid g) (rows begun : Rows) (blank : IsBlank g rows)
     (far : begun.band.far.items ≡ rows.band.far.items) (next : begun.band.next.items ≡ rows.band.next.items)
     (back : begun.band.back.items ≡ rows.band.back.items) (last : begun.last ≡ rows.last)
     (this : begun.this ≡ rows.this) (forced : begun.forced.items ≡ rows.forced.items) where
-  begun_at : (d : Dir) (y n m : ℕ) → g.height ≤ n → g.height ≤ m → IsRowAt (row_ahead d y) n
+  begun_at : (h : Heading) (y n m : ℕ) → g.height ≤ n → g.height ≤ m → IsRowAt (row_ahead (seen h N) y) n
       → IsFlagRow g y begun.band.here.items
-      → (d ≡ N → n < 4096 → AreRowsAround g n begun.band.far.items begun.band.next.items
-      begun.band.here.items)
-      → (d ≡ S → n < 4096 → AreRowsAround g n begun.band.here.items begun.band.next.items
-      begun.band.far.items)
-      → IsKept g d y begun
-  begun_at d y n m high higher lies is up down = record {
+      → (n < 4096 → AreRowsSeen g h n begun.band.far.items begun.band.next.items begun.band.here.items)
+      → IsKept g h y begun
+  begun_at h y n m high higher lies is around = record {
     ready = record {
       rows = record {
         ahead = n;
@@ -252,11 +222,18 @@ module _ (g : GridData) (whole : IsGrid g) (rows begun : Rows) (blank : IsBlank 
         next_is = blank_row g n begun.band.next.items (next ∙ blank.next) high;
         here_is = is;
         back_is = blank_row g m begun.band.back.items (back ∙ blank.back) higher;
-        up = up;
-        down = down;
+        around_next = around;
       };
       long = subst (λ (l : Line). IsLong g l) (sym last) blank.last;
-      told = no_line g whole d n begun.last high;
+      told = record {
+        ahead = nothing g whole (seen h N) begun.last.ahead.items n high;
+        ahead_east = nothing g whole (seen h NE) begun.last.ahead_east.items n high;
+        ahead_west = nothing g whole (seen h NW) begun.last.ahead_west.items n high;
+      };
+      along = record {
+        east = nothing g whole E begun.last.east.items n high;
+        west = nothing g whole W begun.last.west.items n high;
+      };
     };
     long = subst (λ (l : Line). IsLong g l) (sym this) blank.this;
     forced = ap (λ (r : List Bool). length r) forced ∙ blank.forced;
@@ -265,14 +242,13 @@ module _ (g : GridData) (whole : IsGrid g) (rows begun : Rows) (blank : IsBlank 
   low : g.height ≤ 4096
   low = whole.sides.low
 
-  pub begun_up : IsFlagRow g 0 begun.band.here.items → IsKept g N 0 begun
-  begun_up is = begun_at N 0 4096 4096 low low
-      (record { some = λ k e. absurd (cc); none = λ e. omega arith }) is
-      (λ e on. absurd (omega (arith, on))) (λ e. absurd (other_way e))
+  pub begun_up : IsFlagRow g 0 begun.band.here.items → IsKept g upwards 0 begun
+  begun_up is = begun_at upwards 0 4096 4096 low low
+      (record { some = λ k e. absurd (cc); none = λ e. omega arith }) is (λ on. absurd (omega (arith, on)))
 
-  pub begun_down : (y : ℕ) → y + 1 ≡ g.height → IsFlagRow g y begun.band.here.items → IsKept g S y begun
-  begun_down y e is = begun_at S y g.height (g.height + 1) (omega arith) (omega arith)
-      (row_under y g.height (sym e)) is (λ i. absurd (other_way (sym i))) (λ i on. record {
+  pub begun_down : (y : ℕ) → y + 1 ≡ g.height → IsFlagRow g y begun.band.here.items → IsKept g downwards y begun
+  begun_down y e is = begun_at downwards y g.height (g.height + 1) (omega arith) (omega arith)
+      (row_under y g.height (sym e)) is (λ on. record {
         upper = y;
         lower = g.height + 1;
         upper_is = row_over g.height y (omega arith);

@@ -21,7 +21,7 @@ use Rattle.pruning.proofs.Bridging.{legal_leads, leads_from, leads_legal, one_of
 use Rattle.plus_tables.specs.Entry.{table_entry}
 use Rattle.plus_tables.specs.Local.{is_mark_by, entry_by_next}
 use Rattle.plus_tables.specs.Tables.{IsShort}
-use Rattle.plus_tables.specs.Rows.{flag, number, ring_of, open_in, can_by, forced_on, forced_by, place_after, told, legal_by, mark_by, IsFlagRow, IsForcedRow, IsEntryRow, IsRowAt, AreRowsAround, AreForced, AreShort, AreToldBelow, IsToldAlong}
+use Rattle.plus_tables.specs.Rows.{flag, number, ring_of, open_in, can_by, forced_on, forced_by, place_after, told, legal_by, mark_by, is_along, IsFlagRow, IsForcedRow, IsEntryRow, IsRowAt, AreRowsAround, AreForced, AreShort, AreToldBelow, IsToldAlong}
 use Rattle.plus_tables.proofs.Following.{entries_follow}
 use Rattle.plus_tables.proofs.Short.{table_entry-short}
 
@@ -375,7 +375,7 @@ module _ (g : GridData) (whole : IsGrid g) (y : ℕ) (above here below forced : 
         (λ w e. ap (λ (n : ℕ). number out n) (let m : suc k ≡ k + 1 = omega arith in m)
         ∙ west_column k (omega arith) ∙ ap (λ (v : Cell). table_entry g v W) (next_left g y k w e))
 
-    pub west_row : IsEntryRow g y W out
+    west_row : IsEntryRow g y W out
     west_row = whole_entries W west_column
 
   module _ (forced_is : IsForcedRow g y E forced) (long : length out ≡ g.width + 2)
@@ -391,8 +391,19 @@ module _ (g : GridData) (whole : IsGrid g) (y : ℕ) (above here below forced : 
         (λ w k. ap (λ (n : ℕ). number out n) (let m : x + 2 ≡ x + 1 + 1 = omega arith in m)
         ∙ east_column n (x + 1) (omega arith) ∙ ap (λ (v : Cell). table_entry g v E) (next_right g y x w k))
 
-    pub east_row : IsEntryRow g y E out
+    east_row : IsEntryRow g y E out
     east_row = whole_entries E (λ x within. east_column (g.width - suc x) x (omega arith))
+
+  pub along_row : (d : Dir) → is_along d ≡ true → IsForcedRow g y d forced → length out ≡ g.width + 2
+      → ((x : ℕ) → x < length out - 2 → IsToldAlong here forced d out x) → IsEntryRow g y d out
+  along_row N h forced_is long are = absurd (cc)
+  along_row NE h forced_is long are = absurd (cc)
+  along_row E h forced_is long are = east_row forced_is long are
+  along_row SE h forced_is long are = absurd (cc)
+  along_row S h forced_is long are = absurd (cc)
+  along_row SW h forced_is long are = absurd (cc)
+  along_row W h forced_is long are = west_row forced_is long are
+  along_row NW h forced_is long are = absurd (cc)
 
 -- where a neighbour is forced in a row that may lie off the map
 pub forced_if : (g : GridData) → IsGrid g → (m : ℕ) (above here below : List Bool)

@@ -126,6 +126,17 @@ abbrev pub AreToldBelow : Corner → List Bool → List Bool → List Bool → L
 AreToldBelow corner above here below forced ahead right left d out n =
     (x : ℕ) → x < n → IsToldAt corner above here below forced ahead right left d out x
 
+-- the direction leads along a row
+abbrev pub is_along : Dir → Bool
+is_along N = false
+is_along NE = false
+is_along E = true
+is_along SE = false
+is_along S = false
+is_along SW = false
+is_along W = true
+is_along NW = false
+
 -- the entry of one column for E or W is told by the cells of its row, the places where a neighbour is forced, and
 -- the entry of the next column
 abbrev pub IsToldAlong : List Bool → List Bool → Dir → List ℤ → ℕ → Type 0
@@ -148,6 +159,32 @@ pub record AreRowsAround (g : GridData) (y : ℕ) (above here below : List Bool)
   pub above_is : IsFlagRow g upper above
   pub here_is : IsFlagRow g y here
   pub below_is : IsFlagRow g lower below
+
+-- a sweep goes from the row that was swept last to the next one: it heads back to the last one, up or down
+pub data Heading : Type 0 where
+  upwards : Heading
+  downwards : Heading
+
+-- a direction on a map that is turned upside down
+abbrev pub flipped : Dir → Dir
+flipped N = S
+flipped NE = SE
+flipped E = E
+flipped SE = NE
+flipped S = N
+flipped SW = NW
+flipped W = W
+flipped NW = SW
+
+-- a sweep that heads down sees the map upside down: what it takes for N is S
+abbrev pub seen : Heading → Dir → Dir
+seen upwards d = d
+seen downwards d = flipped d
+
+-- the flags of a row, of the one ahead of it and of the one behind it
+abbrev pub AreRowsSeen : GridData → Heading → ℕ → List Bool → List Bool → List Bool → Type 0
+AreRowsSeen g upwards y ahead here behind = AreRowsAround g y ahead here behind
+AreRowsSeen g downwards y ahead here behind = AreRowsAround g y behind here ahead
 
 -- what loops that read all columns of a row tell
 abbrev pub AreForced : Corner → List Bool → List Bool → List Bool → Dir → List Bool → Type 0

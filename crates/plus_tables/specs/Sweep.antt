@@ -1,11 +1,11 @@
 -- What sweeps leave behind.
-use Rattle.std.specs.Prelude.{◌≡◌, ℕ, Bool, true, false, ◌&&◌, ◌||◌, nat_lt, nat_le, nat_eq}
+use Rattle.std.specs.Prelude.{◌≡◌, ℕ, Bool, true, false, not, ◌&&◌, ◌||◌, nat_lt, nat_le, nat_eq}
 use Rattle.grid_moves.specs.declared.Cell.{Cell}
 use Rattle.grid_moves.specs.declared.Dir.{Dir}
 use Rattle.grid_moves.specs.declared.Dir.TheVariants.{N, NE, E, SE, S, SW, W, NW}
 use Rattle.grid_moves.specs.Grid.{GridData, is_inside}
 use Rattle.plus_tables.specs.Entry.{table_entry}
-use Rattle.plus_tables.specs.Tables.{TablesData, IsWhole, AreSized, entry_at}
+use Rattle.plus_tables.specs.Tables.{TablesData, AreSized, entry_at}
 
 -- the cells of a row
 abbrev pub is_row : ℕ → Cell → Bool
@@ -28,6 +28,10 @@ is_upward SW = false
 is_upward W = true
 is_upward NW = true
 
+-- and down
+abbrev pub is_downward : Dir → Bool
+is_downward e = not (is_upward e)
+
 -- those that lead up or along a row, in the rows above this one
 abbrev pub above : ℕ → Cell → Dir → Bool
 above y c d = is_upward d && nat_lt c.y y
@@ -35,11 +39,3 @@ above y c d = is_upward d && nat_lt c.y y
 -- all of these, and those that lead down in the rows from this one on
 abbrev pub from_row : ℕ → Cell → Dir → Bool
 from_row y c d = is_upward d || nat_le y c.y
-
--- these entries are now the grid's, and every other entry is as before
-pub record AreSwept (g : GridData) (done : Cell → Dir → Bool) (old new : TablesData) : Type 0 where
-  pub sized : AreSized new g
-  pub whole : IsWhole new
-  pub right : (c : Cell) (d : Dir) → is_inside g c ≡ true → done c d ≡ true
-      → entry_at new c d ≡ table_entry g c d
-  pub others : (c : Cell) (d : Dir) → is_inside g c ≡ true → done c d ≡ false → entry_at new c d ≡ entry_at old c d

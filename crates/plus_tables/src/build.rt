@@ -6,14 +6,18 @@
 //! and for the second sweep those along a row are read back. Where rows repeat, as on open ground, so do the
 //! entries along them: these are copied from the row before.
 
-ghost use Rattle.std.specs.Prelude.{◌≡◌, false};
+ghost use Rattle.std.specs.Prelude.{◌≡◌, ℕ, ◌+◌, ◌<◌, false, IfOk, OnOk};
+ghost use Rattle.grid_moves.specs.Grid.{IsGrid};
+ghost use Rattle.plus_tables.specs.Laid.{AreGrown};
+ghost use Rattle.plus_tables.specs.Lines.{AreAhead, AreAlong, IsBlank, IsKept, IsLong};
+ghost use Rattle.plus_tables.specs.Rows.{upwards};
 ghost use Rattle.grid_moves.specs.Grid.{is_free};
 ghost use Rattle.grid_moves.specs.Around.{IsBefore};
 
 use crate::flags::read_row;
-use crate::lines::{Rows, tell_down, tell_up};
+use crate::lines::{Line, Rows, tell, tell_along};
 use crate::tables::Tables;
-use grid_moves::{Cell, Dir, NoMemory, Terrain};
+use grid_moves::{Cell, NoMemory, Terrain};
 use std::alloc::Global;
 
 // Whether any cell is free.
@@ -37,46 +41,83 @@ fn before(y: u16) -> u16
     y.wrapping_sub(1)
 }
 
+// Appends the entries of a row, for all directions that lead up or along it.
+fn append<T: Terrain>(t: &T, line: &Line, entries: &mut Vec<i16>) -> Result<(), NoMemory>
+    requires whole { IsGrid (T.grid t.now) }
+    requires long { IsLong (T.grid t.now) line.now }
+    ensures { (y : ℕ) → AreGrown (T.grid t.now) y entries.old.items → AreAhead (T.grid t.now) upwards y line.now
+        → AreAlong (T.grid t.now) y line.now → OnOk result (AreGrown (T.grid t.now) (y + 1) entries.new.items) }
+{
+    let start = entries.len();
+    entries.resize(start + t.width() as usize * 8, 0)?;
+    line.lay_up(t, &mut entries[start..]);
+    Ok(())
+}
+
+// Sweeps a row for all directions that lead up or along it, whose entries follow those of the rows above.
+fn sweep_row_up<T: Terrain>(
+    t: &T,
+    y: u16,
+    rows: &mut Rows,
+    entries: &mut Vec<i16>,
+) -> Result<(), NoMemory>
+    requires whole { IsGrid (T.grid t.now) }
+    requires inside { y < (T.grid t.now).height }
+    requires grown { AreGrown (T.grid t.now) y entries.old.items }
+    requires kept { IsKept (T.grid t.now) upwards y rows.old }
+    ensures grown { OnOk result (AreGrown (T.grid t.now) (y + 1) entries.new.items) }
+    ensures kept { OnOk result (IsKept (T.grid t.now) upwards (y + 1) rows.new) }
+{
+    read_row(t, y + 1, &mut rows.band.back);
+    tell(t, &rows.band, &rows.last, &mut rows.forced, &mut rows.this);
+    tell_along(
+        t,
+        y,
+        &rows.band,
+        &rows.last,
+        &mut rows.forced,
+        &mut rows.this.east,
+        &mut rows.this.west,
+    );
+    append(t, &rows.this, entries)?;
+    rows.go_on();
+    Ok(())
+}
+
+// Sweeps all rows for all directions that lead up or along them. Memory is written row by row, each at once after
+// it is touched first.
+fn sweep_up<T: Terrain>(alloc: Global, t: &T, rows: &mut Rows) -> Result<Vec<i16>, NoMemory>
+    requires whole { IsGrid (T.grid t.now) }
+    requires blank { IsBlank (T.grid t.now) rows.old }
+    ensures { IfOk result (λ entries. AreGrown (T.grid t.now) (T.grid t.now).height entries.items) }
+{
+    let mut entries = Vec::with_capacity(alloc, t.height() as usize * t.width() as usize * 8)?;
+    read_row(t, 0, &mut rows.band.here);
+    for y in 0..t.height() {
+        sweep_row_up(t, y, rows, &mut entries)?;
+    }
+    Ok(entries)
+}
+
 impl Tables {
     ghost use Rattle.std.specs.Prelude.{◌<◌, ◌+◌, ◌-◌, IfOk};
     ghost use Rattle.grid_moves.specs.Grid.{IsGrid};
-    ghost use Rattle.plus_tables.specs.Tables.{AreSized, AreTablesOf};
+    ghost use Rattle.plus_tables.specs.Tables.{AreTablesOf};
     ghost use Rattle.plus_tables.specs.Sweep.{AreRight, above, from_row};
     ghost use Rattle.plus_tables.specs.Lines.{IsBlank, IsKept};
-
-    // Sweeps a row for all directions that lead up or along it.
-    fn sweep_row_up<T: Terrain>(&mut self, t: &T, y: u16, rows: &mut Rows)
-        requires whole { IsGrid (T.grid t.now) }
-        requires inside { y < self.old.height }
-        requires above { AreRight self.old (T.grid t.now) (above y) }
-        requires kept { IsKept (T.grid t.now) Dir.N y rows.old }
-        ensures right { AreRight self.new (T.grid t.now) (above (y + 1)) }
-        ensures kept { IsKept (T.grid t.now) Dir.N (y + 1) rows.new }
-    {
-        read_row(t, y + 1, &mut rows.band.back);
-        tell_up(
-            t,
-            y,
-            &rows.band,
-            &rows.last,
-            &mut rows.forced,
-            &mut rows.this,
-        );
-        self.lay_up(t, y, &rows.this);
-        rows.go_on();
-    }
+    ghost use Rattle.plus_tables.specs.Rows.{downwards};
 
     // Sweeps a row for all directions that lead down.
     fn sweep_row_down<T: Terrain>(&mut self, t: &T, y: u16, rows: &mut Rows)
         requires whole { IsGrid (T.grid t.now) }
         requires inside { y < self.old.height }
         requires below { AreRight self.old (T.grid t.now) (from_row (y + 1)) }
-        requires kept { IsKept (T.grid t.now) Dir.S y rows.old }
+        requires kept { IsKept (T.grid t.now) downwards y rows.old }
         ensures right { AreRight self.new (T.grid t.now) (from_row y) }
-        ensures kept { 0 < y → IsKept (T.grid t.now) Dir.S (y - 1) rows.new }
+        ensures kept { 0 < y → IsKept (T.grid t.now) downwards (y - 1) rows.new }
     {
         read_row(t, before(y), &mut rows.band.back);
-        tell_down(t, &rows.band, &rows.last, &mut rows.forced, &mut rows.this);
+        tell(t, &rows.band, &rows.last, &mut rows.forced, &mut rows.this);
         self.bring_along(
             t,
             y,
@@ -87,19 +128,6 @@ impl Tables {
         );
         self.lay_down(t, y, &rows.this);
         rows.go_on();
-    }
-
-    // Sweeps all rows for all directions that lead up or along them.
-    fn sweep_up<T: Terrain>(&mut self, t: &T, rows: &mut Rows)
-        requires whole { IsGrid (T.grid t.now) }
-        requires sized { AreSized self.old (T.grid t.now) }
-        requires blank { IsBlank (T.grid t.now) rows.old }
-        ensures { AreRight self.new (T.grid t.now) (above self.new.height) }
-    {
-        read_row(t, 0, &mut rows.band.here);
-        for y in 0..self.height() {
-            self.sweep_row_up(t, y, rows);
-        }
     }
 
     // Sweeps all rows for all directions that lead down.
@@ -121,12 +149,12 @@ impl Tables {
         ensures { IfOk result (λ tables. AreTablesOf tables (T.grid t.now)) }
     {
         let _whole = t.width();
-        let mut tables = Tables::blank(alloc, t)?;
         if !has_cells(t) {
-            return Ok(tables);
+            return Tables::blank(alloc, t);
         }
         let mut up = Rows::blank(alloc, t)?;
-        tables.sweep_up(t, &mut up);
+        let entries = sweep_up(alloc, t, &mut up)?;
+        let mut tables = Tables::of_entries(t, entries);
         let mut down = Rows::blank(alloc, t)?;
         tables.sweep_down(t, &mut down);
         Ok(tables)

@@ -7,7 +7,7 @@ ghost use Rattle.std.specs.Prelude.{◌≡◌, ℕ, ◌+◌, ◌-◌, ◌<◌, �
 ghost use Rattle.grid_moves.specs.Move as moves;
 ghost use Rattle.plus_tables.specs.Rows as spec;
 
-use grid_moves::{Cell, Corner, Dir, Terrain};
+use grid_moves::{Corner, Dir, Terrain};
 use pruning::{Side, is_diagonal, quarter, rear, turn};
 
 /// Which cells around a cell are free.
@@ -128,7 +128,7 @@ fn force_by(
     }
 }
 
-// The same where no corner is cut; each direction has code of its own, in which it is a constant.
+// The same where no corner is cut; each direction that a sweep takes has code of its own, in which it is a constant.
 #[inline(never)]
 fn force_uncut(above: &[bool], here: &[bool], below: &[bool], d: Dir, forced: &mut [bool])
     requires some { 2 ≤ length forced.old }
@@ -141,11 +141,9 @@ fn force_uncut(above: &[bool], here: &[bool], below: &[bool], d: Dir, forced: &m
         Dir::N => force_by(Corner::Never, above, here, below, Dir::N, forced),
         Dir::NE => force_by(Corner::Never, above, here, below, Dir::NE, forced),
         Dir::E => force_by(Corner::Never, above, here, below, Dir::E, forced),
-        Dir::SE => force_by(Corner::Never, above, here, below, Dir::SE, forced),
-        Dir::S => force_by(Corner::Never, above, here, below, Dir::S, forced),
-        Dir::SW => force_by(Corner::Never, above, here, below, Dir::SW, forced),
         Dir::W => force_by(Corner::Never, above, here, below, Dir::W, forced),
         Dir::NW => force_by(Corner::Never, above, here, below, Dir::NW, forced),
+        _ => force_by(Corner::Never, above, here, below, d, forced),
     }
 }
 
@@ -162,11 +160,9 @@ fn force_cut(above: &[bool], here: &[bool], below: &[bool], d: Dir, forced: &mut
         Dir::N => force_by(Corner::One, above, here, below, Dir::N, forced),
         Dir::NE => force_by(Corner::One, above, here, below, Dir::NE, forced),
         Dir::E => force_by(Corner::One, above, here, below, Dir::E, forced),
-        Dir::SE => force_by(Corner::One, above, here, below, Dir::SE, forced),
-        Dir::S => force_by(Corner::One, above, here, below, Dir::S, forced),
-        Dir::SW => force_by(Corner::One, above, here, below, Dir::SW, forced),
         Dir::W => force_by(Corner::One, above, here, below, Dir::W, forced),
         Dir::NW => force_by(Corner::One, above, here, below, Dir::NW, forced),
+        _ => force_by(Corner::One, above, here, below, d, forced),
     }
 }
 
@@ -200,9 +196,8 @@ pub fn read_row<T: Terrain>(t: &T, y: u16, row: &mut [bool])
     requires last { spec.flag row.old ((T.grid t.now).width + 1) ≡ false }
     ensures { spec.IsFlagRow (T.grid t.now) y row.new }
 {
-    for x in 0..t.width() {
-        row[x as usize + 1] = t.free(Cell { x, y });
-    }
+    let end = t.width() as usize + 1;
+    t.read_row(y, &mut row[1..end]);
 }
 
 /// Whether two rows have the same flags.

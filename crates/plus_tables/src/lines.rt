@@ -1,31 +1,34 @@
 //! What a sweep keeps from row to row: rows of flags, and the entries of the row that was swept last.
 
-ghost use Rattle.std.specs.Prelude.{◌≡◌, ℕ, ◌+◌, ◌<◌, ◌≤◌, IfOk, length, replicate, true, false};
+ghost use Rattle.std.specs.Prelude.{◌≡◌, ℕ, ◌+◌, ◌*◌, ◌<◌, ◌≤◌, IfOk, length, replicate, true, false};
 ghost use Rattle.grid_moves.specs.Grid.{IsGrid};
 ghost use Rattle.grid_moves.specs.Move as moves;
 ghost use Rattle.pruning.specs.Turns.{turn, is_diagonal};
 ghost use Rattle.plus_tables.specs.Rows as spec;
 ghost use Rattle.plus_tables.specs.Lines as lines;
+ghost use Rattle.plus_tables.specs.Laid as laid;
+ghost use Rattle.plus_tables.specs.Sweep.{is_downward, is_upward};
 
 use crate::flags::{are_same, force, read_row};
-use crate::rows::{Ahead, Three, across, east, west};
+use crate::rows::{Ahead, Three, across, along};
 use grid_moves::{Dir, NoMemory, Terrain};
 use pruning::Side;
 use std::alloc::Global;
 use std::mem;
 
-/// The entries of a row for a straight direction across rows, for those beside it, and along the row. What
-/// belongs to column `x` stands at `x + 1`.
+/// The entries of a row for the directions that lead ahead, to the row that was swept last, and along the row.
+/// What belongs to column `x` stands at `x + 1`.
 #[derive(Drop)]
 pub struct Line {
-    pub straight: Vec<i16>,
-    pub right: Vec<i16>,
-    pub left: Vec<i16>,
+    pub ahead: Vec<i16>,
+    pub ahead_east: Vec<i16>,
+    pub ahead_west: Vec<i16>,
     pub east: Vec<i16>,
     pub west: Vec<i16>,
 }
 
 /// The rows of flags that a sweep looks at: the row that it sweeps, the two ahead of it, and the one behind.
+/// Ahead of it is what was swept before.
 #[derive(Drop)]
 pub struct Band {
     pub far: Vec<bool>,
@@ -67,9 +70,9 @@ impl Line {
     {
         let width = t.width();
         Ok(Line {
-            straight: numbers(alloc, width)?,
-            right: numbers(alloc, width)?,
-            left: numbers(alloc, width)?,
+            ahead: numbers(alloc, width)?,
+            ahead_east: numbers(alloc, width)?,
+            ahead_west: numbers(alloc, width)?,
             east: numbers(alloc, width)?,
             west: numbers(alloc, width)?,
         })
@@ -86,6 +89,63 @@ impl Line {
         east.copy_from_slice(&self.east);
         west.copy_from_slice(&self.west);
     }
+
+    /// Writes the entries of a sweep that heads up, eight being kept for each cell.
+    #[inline(never)]
+    pub fn lay_up<T: Terrain>(&self, t: &T, row: &mut [i16])
+        requires long { lines.IsLong (T.grid t.now) self.now }
+        requires wide { length row.old ≡ (T.grid t.now).width * 8 }
+        ensures { laid.AreLaid is_upward (laid.upward_part self.now) (T.grid t.now).width row.old row.new }
+    {
+        let n = self.ahead.as_slice();
+        let (ne, nw) = (self.ahead_east.as_slice(), self.ahead_west.as_slice());
+        let (e, w) = (self.east.as_slice(), self.west.as_slice());
+        for x in 0..t.width() as usize {
+            let at = x + 1;
+            put_up(row, x, n[at], ne[at], e[at], w[at], nw[at]);
+        }
+    }
+
+    /// Writes those of a sweep that heads down, but for those along the row.
+    #[inline(never)]
+    pub fn lay_down<T: Terrain>(&self, t: &T, row: &mut [i16])
+        requires long { lines.IsLong (T.grid t.now) self.now }
+        requires wide { length row.old ≡ (T.grid t.now).width * 8 }
+        ensures { laid.AreLaid is_downward (laid.downward_part self.now) (T.grid t.now).width row.old row.new }
+    {
+        let s = self.ahead.as_slice();
+        let (se, sw) = (self.ahead_east.as_slice(), self.ahead_west.as_slice());
+        for x in 0..t.width() as usize {
+            let at = x + 1;
+            put_down(row, x, se[at], s[at], sw[at]);
+        }
+    }
+}
+
+// Changes the entries of cell `x` of a row for all directions that lead up or along it.
+#[inline(always)]
+fn put_up(row: &mut [i16], x: usize, n: i16, ne: i16, e: i16, w: i16, nw: i16)
+    requires { x * 8 + 7 < length row.old }
+    ensures { row.new ≡ laid.with_up row.old x n ne e w nw }
+{
+    let cell = x * 8;
+    row[cell] = n;
+    row[cell + 1] = ne;
+    row[cell + 2] = e;
+    row[cell + 6] = w;
+    row[cell + 7] = nw;
+}
+
+// Changes those for all directions that lead down.
+#[inline(always)]
+fn put_down(row: &mut [i16], x: usize, se: i16, s: i16, sw: i16)
+    requires { x * 8 + 7 < length row.old }
+    ensures { row.new ≡ laid.with_down row.old x se s sw }
+{
+    let cell = x * 8;
+    row[cell + 3] = se;
+    row[cell + 4] = s;
+    row[cell + 5] = sw;
 }
 
 impl Band {
@@ -150,10 +210,10 @@ impl Rows {
     }
 }
 
-// The entries of a row for one direction across rows, told by the next row. `beyond` are the rows around that
+// The entries of a row for one direction that leads ahead, told by the next row. `beyond` are the rows around that
 // one.
 #[inline(never)]
-fn tell_across<T: Terrain>(
+fn tell_ahead<T: Terrain>(
     t: &T,
     beyond: Three,
     rows: Three,
@@ -165,76 +225,50 @@ fn tell_across<T: Terrain>(
     requires whole { IsGrid (T.grid t.now) }
     requires forced { length forced.old ≡ (T.grid t.now).width + 2 }
     requires out { length out.old ≡ (T.grid t.now).width + 2 }
-    requires beyond { length beyond.above.now ≡ (T.grid t.now).width + 2 }
+    requires beyond { length beyond.ahead.now ≡ (T.grid t.now).width + 2 }
     requires beyond_here { length beyond.here.now ≡ (T.grid t.now).width + 2 }
-    requires beyond_below { length beyond.below.now ≡ (T.grid t.now).width + 2 }
-    requires above { length rows.above.now ≡ (T.grid t.now).width + 2 }
+    requires beyond_behind { length beyond.behind.now ≡ (T.grid t.now).width + 2 }
+    requires rows { length rows.ahead.now ≡ (T.grid t.now).width + 2 }
     requires here { length rows.here.now ≡ (T.grid t.now).width + 2 }
-    requires below { length rows.below.now ≡ (T.grid t.now).width + 2 }
+    requires behind { length rows.behind.now ≡ (T.grid t.now).width + 2 }
     requires ahead { length next.ahead.now ≡ (T.grid t.now).width + 2 }
     requires right { length next.right.now ≡ (T.grid t.now).width + 2 }
     requires left { length next.left.now ≡ (T.grid t.now).width + 2 }
-    ensures { (y m : ℕ) (e f : _) → spec.IsRowAt (moves.row_ahead d y) m
-        → spec.AreRowsAround (T.grid t.now) y rows.entry.above.now rows.entry.here.now rows.entry.below.now
-        → (m < 4096 → spec.AreRowsAround (T.grid t.now) m beyond.entry.above.now beyond.entry.here.now
-        beyond.entry.below.now)
-        → spec.IsEntryRow (T.grid t.now) m d next.entry.ahead.now
+    ensures { (h : spec.Heading) (y m : ℕ) (e f : _) → spec.IsRowAt (moves.row_ahead (spec.seen h d) y) m
+        → spec.AreRowsSeen (T.grid t.now) h y rows.entry.ahead.now rows.entry.here.now rows.entry.behind.now
+        → (m < 4096 → spec.AreRowsSeen (T.grid t.now) h m beyond.entry.ahead.now beyond.entry.here.now
+        beyond.entry.behind.now)
+        → spec.IsEntryRow (T.grid t.now) m (spec.seen h d) next.entry.ahead.now
         → spec.IsEntryRow (T.grid t.now) m e next.entry.right.now
         → spec.IsEntryRow (T.grid t.now) m f next.entry.left.now
-        → (is_diagonal d ≡ true → (e ≡ turn Side.Right d) × (f ≡ turn Side.Left d))
-        → spec.IsEntryRow (T.grid t.now) y d out.new }
+        → (is_diagonal d ≡ true
+        → (e ≡ spec.seen h (turn Side.Right d)) × (f ≡ spec.seen h (turn Side.Left d)))
+        → spec.IsEntryRow (T.grid t.now) y (spec.seen h d) out.new }
 {
     let corner = t.corner();
-    force(corner, beyond.above, beyond.here, beyond.below, d, forced);
+    force(corner, beyond.ahead, beyond.here, beyond.behind, d, forced);
     across(corner, rows, forced, next, d, out);
 }
 
-// The entries of a row for E.
-fn tell_east<T: Terrain>(t: &T, rows: Three, forced: &mut [bool], out: &mut [i16])
+// The entries of a row for E or W.
+fn tell_one_along<T: Terrain>(t: &T, rows: Three, d: Dir, forced: &mut [bool], out: &mut [i16])
     requires whole { IsGrid (T.grid t.now) }
+    requires along { spec.is_along d ≡ true }
     requires forced { length forced.old ≡ (T.grid t.now).width + 2 }
     requires out { length out.old ≡ (T.grid t.now).width + 2 }
-    requires above { length rows.above.now ≡ (T.grid t.now).width + 2 }
+    requires ahead { length rows.ahead.now ≡ (T.grid t.now).width + 2 }
     requires here { length rows.here.now ≡ (T.grid t.now).width + 2 }
-    requires below { length rows.below.now ≡ (T.grid t.now).width + 2 }
-    ensures { (y : ℕ) → spec.AreRowsAround (T.grid t.now) y rows.entry.above.now rows.entry.here.now
-        rows.entry.below.now → spec.IsEntryRow (T.grid t.now) y Dir.E out.new }
+    requires behind { length rows.behind.now ≡ (T.grid t.now).width + 2 }
+    ensures { (y : ℕ) → spec.AreRowsAround (T.grid t.now) y rows.entry.ahead.now rows.entry.here.now
+        rows.entry.behind.now → spec.IsEntryRow (T.grid t.now) y d out.new }
 {
-    force(
-        t.corner(),
-        rows.above,
-        rows.here,
-        rows.below,
-        Dir::E,
-        forced,
-    );
-    east(rows.here, forced, out);
+    force(t.corner(), rows.ahead, rows.here, rows.behind, d, forced);
+    along(rows.here, forced, d, out);
 }
 
-// The entries of a row for W.
-fn tell_west<T: Terrain>(t: &T, rows: Three, forced: &mut [bool], out: &mut [i16])
-    requires whole { IsGrid (T.grid t.now) }
-    requires forced { length forced.old ≡ (T.grid t.now).width + 2 }
-    requires out { length out.old ≡ (T.grid t.now).width + 2 }
-    requires above { length rows.above.now ≡ (T.grid t.now).width + 2 }
-    requires here { length rows.here.now ≡ (T.grid t.now).width + 2 }
-    requires below { length rows.below.now ≡ (T.grid t.now).width + 2 }
-    ensures { (y : ℕ) → spec.AreRowsAround (T.grid t.now) y rows.entry.above.now rows.entry.here.now
-        rows.entry.below.now → spec.IsEntryRow (T.grid t.now) y Dir.W out.new }
-{
-    force(
-        t.corner(),
-        rows.above,
-        rows.here,
-        rows.below,
-        Dir::W,
-        forced,
-    );
-    west(rows.here, forced, out);
-}
-
-// The entries of a row for E and W: those of the row above, where both lie between the same rows.
-fn tell_along<T: Terrain>(
+/// The entries of a row for E and W, in a sweep that heads up: those of the row above, where both lie between the
+/// same rows.
+pub fn tell_along<T: Terrain>(
     t: &T,
     y: u16,
     band: &Band,
@@ -245,7 +279,7 @@ fn tell_along<T: Terrain>(
 )
     requires whole { IsGrid (T.grid t.now) }
     requires inside { y < (T.grid t.now).height }
-    requires ready { lines.IsReady (T.grid t.now) Dir.N y band.now last.now }
+    requires ready { lines.IsReady (T.grid t.now) spec.upwards y band.now last.now }
     requires around { spec.AreRowsAround (T.grid t.now) y band.now.next.items band.now.here.items
         band.now.back.items }
     requires forced { length forced.old ≡ (T.grid t.now).width + 2 }
@@ -258,105 +292,57 @@ fn tell_along<T: Terrain>(
         last.copy_along(east, west);
     } else {
         let rows = Three {
-            above: &band.next,
+            ahead: &band.next,
             here: &band.here,
-            below: &band.back,
+            behind: &band.back,
         };
-        tell_east(t, rows, forced, east);
-        tell_west(t, rows, forced, west);
+        tell_one_along(t, rows, Dir::E, forced, east);
+        tell_one_along(t, rows, Dir::W, forced, west);
     }
 }
 
-/// The entries of a row for all directions that lead up or along it, told by those of the row above.
+/// The entries of a row for all directions that lead ahead, told by those of the row that was swept last.
+///
+/// A sweep that heads down sees the map upside down: what is ahead of it counts as above, and its E and W stay.
+/// No move and no forced neighbour is another one so.
 #[inline(never)]
-pub fn tell_up<T: Terrain>(
-    t: &T,
-    y: u16,
-    band: &Band,
-    last: &Line,
-    forced: &mut [bool],
-    this: &mut Line,
-)
+pub fn tell<T: Terrain>(t: &T, band: &Band, last: &Line, forced: &mut [bool], this: &mut Line)
     requires whole { IsGrid (T.grid t.now) }
-    requires inside { y < (T.grid t.now).height }
-    requires ready { lines.IsReady (T.grid t.now) Dir.N y band.now last.now }
-    requires around { spec.AreRowsAround (T.grid t.now) y band.now.next.items band.now.here.items
-        band.now.back.items }
+    requires ready { (h : spec.Heading) × (y : ℕ) × lines.IsReady (T.grid t.now) h y band.now last.now
+        × spec.AreRowsSeen (T.grid t.now) h y band.now.next.items band.now.here.items band.now.back.items }
     requires forced { length forced.old ≡ (T.grid t.now).width + 2 }
     requires long { lines.IsLong (T.grid t.now) this.old }
-    ensures told { lines.IsLine (T.grid t.now) Dir.N y this.new }
+    ensures told { (h : spec.Heading) (y : ℕ) → lines.IsReady (T.grid t.now) h y band.now last.now
+        → spec.AreRowsSeen (T.grid t.now) h y band.now.next.items band.now.here.items band.now.back.items
+        → lines.AreAhead (T.grid t.now) h y this.new }
     ensures long { lines.IsLong (T.grid t.now) this.new }
 {
     let beyond = Three {
-        above: &band.far,
+        ahead: &band.far,
         here: &band.next,
-        below: &band.here,
+        behind: &band.here,
     };
     let rows = Three {
-        above: &band.next,
+        ahead: &band.next,
         here: &band.here,
-        below: &band.back,
+        behind: &band.back,
     };
-    let up = Ahead {
-        ahead: &last.straight,
-        right: &last.straight,
-        left: &last.straight,
+    let ahead = Ahead {
+        ahead: &last.ahead,
+        right: &last.ahead,
+        left: &last.ahead,
     };
-    let right = Ahead {
-        ahead: &last.right,
+    let east = Ahead {
+        ahead: &last.ahead_east,
         right: &last.east,
-        left: &last.straight,
+        left: &last.ahead,
     };
-    let left = Ahead {
-        ahead: &last.left,
-        right: &last.straight,
+    let west = Ahead {
+        ahead: &last.ahead_west,
+        right: &last.ahead,
         left: &last.west,
     };
-    tell_across(t, beyond, rows, up, Dir::N, forced, &mut this.straight);
-    tell_across(t, beyond, rows, right, Dir::NE, forced, &mut this.right);
-    tell_across(t, beyond, rows, left, Dir::NW, forced, &mut this.left);
-    tell_along(t, y, band, last, forced, &mut this.east, &mut this.west);
-}
-
-/// The entries of a row for all directions that lead down, told by those of the row below.
-#[inline(never)]
-pub fn tell_down<T: Terrain>(t: &T, band: &Band, last: &Line, forced: &mut [bool], this: &mut Line)
-    requires whole { IsGrid (T.grid t.now) }
-    requires ready { (y : ℕ) × lines.IsReady (T.grid t.now) Dir.S y band.now last.now
-        × spec.AreRowsAround (T.grid t.now) y band.now.back.items band.now.here.items band.now.next.items }
-    requires forced { length forced.old ≡ (T.grid t.now).width + 2 }
-    requires long { lines.IsLong (T.grid t.now) this.old }
-    ensures told { (y : ℕ) → lines.IsReady (T.grid t.now) Dir.S y band.now last.now
-        → spec.AreRowsAround (T.grid t.now) y band.now.back.items band.now.here.items band.now.next.items
-        → lines.AreBelow (T.grid t.now) y this.new }
-    ensures long { lines.IsLong (T.grid t.now) this.new }
-{
-    let beyond = Three {
-        above: &band.here,
-        here: &band.next,
-        below: &band.far,
-    };
-    let rows = Three {
-        above: &band.back,
-        here: &band.here,
-        below: &band.next,
-    };
-    let down = Ahead {
-        ahead: &last.straight,
-        right: &last.straight,
-        left: &last.straight,
-    };
-    let right = Ahead {
-        ahead: &last.right,
-        right: &last.west,
-        left: &last.straight,
-    };
-    let left = Ahead {
-        ahead: &last.left,
-        right: &last.straight,
-        left: &last.east,
-    };
-    tell_across(t, beyond, rows, down, Dir::S, forced, &mut this.straight);
-    tell_across(t, beyond, rows, right, Dir::SW, forced, &mut this.right);
-    tell_across(t, beyond, rows, left, Dir::SE, forced, &mut this.left);
+    tell_ahead(t, beyond, rows, ahead, Dir::N, forced, &mut this.ahead);
+    tell_ahead(t, beyond, rows, east, Dir::NE, forced, &mut this.ahead_east);
+    tell_ahead(t, beyond, rows, west, Dir::NW, forced, &mut this.ahead_west);
 }

@@ -50,12 +50,12 @@ fn place_after(d: Dir, x: usize) -> usize
     }
 }
 
-/// Three rows of flags: a row and the two beside it.
+/// Three rows of flags: a row, the one ahead of it, which counts as above, and the one behind it.
 #[derive(Clone, Copy)]
 pub struct Three<'a> {
-    pub above: &'a [bool],
+    pub ahead: &'a [bool],
     pub here: &'a [bool],
-    pub below: &'a [bool],
+    pub behind: &'a [bool],
 }
 
 /// The entries of the next row for a direction and for those beside it.
@@ -71,19 +71,19 @@ pub struct Ahead<'a> {
 fn across_by(corner: Corner, rows: Three, forced: &[bool], next: Ahead, d: Dir, out: &mut [i16])
     requires some { 2 ≤ length out.old }
     requires few { length out.old < 65536 }
-    requires above { length rows.above.now ≡ length out.old }
+    requires rows { length rows.ahead.now ≡ length out.old }
     requires here { length rows.here.now ≡ length out.old }
-    requires below { length rows.below.now ≡ length out.old }
+    requires behind { length rows.behind.now ≡ length out.old }
     requires forced { length forced.now ≡ length out.old }
     requires ahead { length next.ahead.now ≡ length out.old }
     requires right { length next.right.now ≡ length out.old }
     requires left { length next.left.now ≡ length out.old }
-    ensures { spec.AreToldBelow corner rows.entry.above.now rows.entry.here.now rows.entry.below.now
+    ensures { spec.AreToldBelow corner rows.entry.ahead.now rows.entry.here.now rows.entry.behind.now
         forced.now next.entry.ahead.now next.entry.right.now next.entry.left.now d out.new
         (length out.new - 2) }
 {
     for x in 0..out.len() - 2 {
-        let ring = ring_at(rows.above, rows.here, rows.below, x);
+        let ring = ring_at(rows.ahead, rows.here, rows.behind, x);
         let legal = rows.here[x + 1] & can_move(corner, ring, d);
         let at = place_after(d, x);
         let aside = tells_mark(next.right[at]) | tells_mark(next.left[at]);
@@ -92,46 +92,43 @@ fn across_by(corner: Corner, rows: Three, forced: &[bool], next: Ahead, d: Dir, 
     }
 }
 
-// The same; each direction that leads to another row has code of its own, in which it is a constant.
+// The same; each direction that leads ahead has code of its own, in which it is a constant.
 #[inline(always)]
 fn across_told(corner: Corner, rows: Three, forced: &[bool], next: Ahead, d: Dir, out: &mut [i16])
     requires some { 2 ≤ length out.old }
     requires few { length out.old < 65536 }
-    requires above { length rows.above.now ≡ length out.old }
+    requires rows { length rows.ahead.now ≡ length out.old }
     requires here { length rows.here.now ≡ length out.old }
-    requires below { length rows.below.now ≡ length out.old }
+    requires behind { length rows.behind.now ≡ length out.old }
     requires forced { length forced.now ≡ length out.old }
     requires ahead { length next.ahead.now ≡ length out.old }
     requires right { length next.right.now ≡ length out.old }
     requires left { length next.left.now ≡ length out.old }
-    ensures { spec.AreToldBelow corner rows.entry.above.now rows.entry.here.now rows.entry.below.now
+    ensures { spec.AreToldBelow corner rows.entry.ahead.now rows.entry.here.now rows.entry.behind.now
         forced.now next.entry.ahead.now next.entry.right.now next.entry.left.now d out.new
         (length out.new - 2) }
 {
     match d {
         Dir::N => across_by(corner, rows, forced, next, Dir::N, out),
         Dir::NE => across_by(corner, rows, forced, next, Dir::NE, out),
-        Dir::SE => across_by(corner, rows, forced, next, Dir::SE, out),
-        Dir::S => across_by(corner, rows, forced, next, Dir::S, out),
-        Dir::SW => across_by(corner, rows, forced, next, Dir::SW, out),
         Dir::NW => across_by(corner, rows, forced, next, Dir::NW, out),
         _ => across_by(corner, rows, forced, next, d, out),
     }
 }
 
-/// The entries of a row for a direction that leads to another, told by those of the next row.
+/// The entries of a row for a direction that leads ahead, told by those of the next row.
 #[inline(never)]
 pub fn across(corner: Corner, rows: Three, forced: &[bool], next: Ahead, d: Dir, out: &mut [i16])
     requires some { 2 ≤ length out.old }
     requires few { length out.old < 65536 }
-    requires above { length rows.above.now ≡ length out.old }
+    requires rows { length rows.ahead.now ≡ length out.old }
     requires here { length rows.here.now ≡ length out.old }
-    requires below { length rows.below.now ≡ length out.old }
+    requires behind { length rows.behind.now ≡ length out.old }
     requires forced { length forced.now ≡ length out.old }
     requires ahead { length next.ahead.now ≡ length out.old }
     requires right { length next.right.now ≡ length out.old }
     requires left { length next.left.now ≡ length out.old }
-    ensures { spec.AreToldBelow corner rows.entry.above.now rows.entry.here.now rows.entry.below.now
+    ensures { spec.AreToldBelow corner rows.entry.ahead.now rows.entry.here.now rows.entry.behind.now
         forced.now next.entry.ahead.now next.entry.right.now next.entry.left.now d out.new
         (length out.new - 2) }
 {
@@ -141,9 +138,8 @@ pub fn across(corner: Corner, rows: Three, forced: &[bool], next: Ahead, d: Dir,
     }
 }
 
-/// The entries of a row for E, told from its right end.
-#[inline(never)]
-pub fn east(here: &[bool], forced: &[bool], out: &mut [i16])
+// The entries of a row for E, told from its right end.
+fn east(here: &[bool], forced: &[bool], out: &mut [i16])
     requires some { 2 ≤ length out.old }
     requires few { length out.old < 65536 }
     requires here { length here.now ≡ length out.old }
@@ -155,9 +151,8 @@ pub fn east(here: &[bool], forced: &[bool], out: &mut [i16])
     }
 }
 
-/// The entries of a row for W, told from its left end.
-#[inline(never)]
-pub fn west(here: &[bool], forced: &[bool], out: &mut [i16])
+// The entries of a row for W, told from its left end.
+fn west(here: &[bool], forced: &[bool], out: &mut [i16])
     requires some { 2 ≤ length out.old }
     requires few { length out.old < 65536 }
     requires here { length here.now ≡ length out.old }
@@ -166,5 +161,21 @@ pub fn west(here: &[bool], forced: &[bool], out: &mut [i16])
 {
     for x in 0..out.len() - 2 {
         out[x + 1] = told(here[x + 1] & here[x], forced[x], out[x]);
+    }
+}
+
+/// The entries of a row for E or W.
+#[inline(never)]
+pub fn along(here: &[bool], forced: &[bool], d: Dir, out: &mut [i16])
+    requires along { spec.is_along d ≡ true }
+    requires some { 2 ≤ length out.old }
+    requires few { length out.old < 65536 }
+    requires here { length here.now ≡ length out.old }
+    requires forced { length forced.now ≡ length out.old }
+    ensures { (x : ℕ) → x < length out.new - 2 → spec.IsToldAlong here.now forced.now d out.new x }
+{
+    match d {
+        Dir::E => east(here, forced, out),
+        _ => west(here, forced, out),
     }
 }

@@ -76,11 +76,11 @@ impl Tables {
     ghost use Rattle.plus_tables.specs.Entry.{table_entry};
     ghost use Rattle.grid_moves.specs.Move.{legal_ahead};
     ghost use Rattle.plus_tables.specs.Local.{is_mark_by};
-    ghost use Rattle.plus_tables.specs.Sweep.{AreRight, AreSwept, from_row};
-    ghost use Rattle.plus_tables.specs.Rows.{AreRowsAround, IsEntryRow, number};
-    ghost use Rattle.plus_tables.specs.Lines.{AreBelow, IsLine, IsLong, IsReady, downward_row, upward_row};
+    ghost use Rattle.plus_tables.specs.Sweep.{AreRight, above, from_row};
+    ghost use Rattle.plus_tables.specs.Rows.{AreRowsAround, downwards, IsEntryRow, number};
+    ghost use Rattle.plus_tables.specs.Lines.{AreAhead, IsLong, IsReady};
     ghost use Rattle.plus_tables.specs.Tables.{AreSized, IsWhole, RestsRight, entry_at, is_on, is_place, tables_with};
-    ghost use Rattle.plus_tables.specs.Laid.{with_down, with_up};
+    ghost use Rattle.plus_tables.specs.Laid.{AreGrown};
 
     /// The number of columns.
     pub fn width(&self) -> u16
@@ -128,6 +128,19 @@ impl Tables {
         })
     }
 
+    // The tables of a grid that have these entries.
+    pub(crate) fn of_entries<T: Terrain>(t: &T, entries: Vec<i16>) -> Tables
+        requires { AreGrown (T.grid t.now) (T.grid t.now).height entries.items }
+        ensures { AreRight result (T.grid t.now) (above result.height) }
+    {
+        Tables {
+            width: t.width(),
+            height: t.height(),
+            corner: t.corner(),
+            entries,
+        }
+    }
+
     // The entry for a cell of the map and a direction.
     #[inline(always)]
     fn get(&self, c: Cell, d: Dir) -> i16
@@ -145,34 +158,6 @@ impl Tables {
     {
         let place = entry_place(self.width, c, d);
         self.entries[place] = entry;
-    }
-
-    // Changes the entries of a cell for all directions that lead up or along its row.
-    #[inline(always)]
-    fn put_up(&mut self, c: Cell, n: i16, ne: i16, e: i16, w: i16, nw: i16)
-        requires { is_on self.old c ≡ true }
-        ensures { self.new ≡ with_up self.old c n ne e w nw }
-    {
-        let place = entry_place(self.width, c, Dir::N);
-        let entries = self.entries.as_mut_slice();
-        entries[place] = n;
-        entries[place + 1] = ne;
-        entries[place + 2] = e;
-        entries[place + 6] = w;
-        entries[place + 7] = nw;
-    }
-
-    // Changes those for all directions that lead down.
-    #[inline(always)]
-    fn put_down(&mut self, c: Cell, s: i16, se: i16, sw: i16)
-        requires { is_on self.old c ≡ true }
-        ensures { self.new ≡ with_down self.old c s se sw }
-    {
-        let place = entry_place(self.width, c, Dir::N);
-        let entries = self.entries.as_mut_slice();
-        entries[place + 3] = se;
-        entries[place + 4] = s;
-        entries[place + 5] = sw;
     }
 
     // Whether the next cell is marked for a direction, told by its entries.
@@ -224,26 +209,6 @@ impl Tables {
         }
     }
 
-    // Writes the entries of a row for all directions that lead up or along it.
-    #[inline(never)]
-    pub(crate) fn lay_up<T: Terrain>(&mut self, t: &T, y: u16, line: &Line)
-        requires whole { IsGrid (T.grid t.now) }
-        requires sized { AreSized self.old (T.grid t.now) }
-        requires inside { y < self.old.height }
-        requires long { IsLong (T.grid t.now) line.now }
-        requires told { IsLine (T.grid t.now) Dir.N y line.now }
-        ensures { AreSwept (T.grid t.now) (upward_row y) self.old self.new }
-    {
-        let (straight, right) = (line.straight.as_slice(), line.right.as_slice());
-        let left = line.left.as_slice();
-        let (east, west) = (line.east.as_slice(), line.west.as_slice());
-        for x in 0..self.width {
-            let c = Cell { x, y };
-            let at = x as usize + 1;
-            self.put_up(c, straight[at], right[at], east[at], west[at], left[at]);
-        }
-    }
-
     // Reads the entries of a row for E and W.
     #[inline(never)]
     pub(crate) fn take_along(&self, y: u16, east: &mut [i16], west: &mut [i16])
@@ -276,7 +241,7 @@ impl Tables {
         requires whole { IsGrid (T.grid t.now) }
         requires inside { y < self.now.height }
         requires right { AreRight self.now (T.grid t.now) (from_row (y + 1)) }
-        requires ready { IsReady (T.grid t.now) Dir.S y band.now last.now }
+        requires ready { IsReady (T.grid t.now) downwards y band.now last.now }
         requires around { AreRowsAround (T.grid t.now) y band.now.back.items band.now.here.items
             band.now.next.items }
         requires east { length east.old ≡ (T.grid t.now).width + 2 }
@@ -294,22 +259,17 @@ impl Tables {
     }
 
     // Writes the entries of a row for all directions that lead down.
-    #[inline(never)]
     pub(crate) fn lay_down<T: Terrain>(&mut self, t: &T, y: u16, line: &Line)
         requires whole { IsGrid (T.grid t.now) }
-        requires sized { AreSized self.old (T.grid t.now) }
         requires inside { y < self.old.height }
         requires long { IsLong (T.grid t.now) line.now }
-        requires told { AreBelow (T.grid t.now) y line.now }
-        ensures { AreSwept (T.grid t.now) (downward_row y) self.old self.new }
+        requires told { AreAhead (T.grid t.now) downwards y line.now }
+        requires right { AreRight self.old (T.grid t.now) (from_row (y + 1)) }
+        ensures { AreRight self.new (T.grid t.now) (from_row y) }
     {
-        let straight = line.straight.as_slice();
-        let (right, left) = (line.right.as_slice(), line.left.as_slice());
-        for x in 0..self.width {
-            let c = Cell { x, y };
-            let at = x as usize + 1;
-            self.put_down(c, straight[at], left[at], right[at]);
-        }
+        let wide = self.width as usize * 8;
+        let start = y as usize * wide;
+        line.lay_down(t, &mut self.entries[start..start + wide]);
     }
 
     /// The table entry for a cell of the map and a direction: above 0, the number of moves to the first

@@ -61,7 +61,8 @@ pub fn ring_of<T: Terrain>(t: &T, at: Cell) -> Ring
 /// Whether a cell lies on the map.
 #[inline(always)]
 pub fn is_inside<T: Terrain>(t: &T, x: u16, y: u16) -> bool
-    ensures { result ≡ spec.is_inside (T.grid t.now) x y }
+    ensures is { result ≡ spec.is_inside (T.grid t.now) x y }
+    ensures whole { IsGrid (T.grid t.now) }
 {
     x < t.width() && y < t.height()
 }

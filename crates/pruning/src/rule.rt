@@ -285,7 +285,6 @@ fn allowed_on_border<T: Terrain>(t: &T, at: Cell, by: Arrival) -> Packed
 /// the move is legal.
 pub fn allowed<T: Terrain>(t: &T, at: Cell, by: Arrival) -> ArrayVec<Dir, 8>
     requires free { IsTrue (is_free (T.grid t.now) at) }
-    requires whole { IsGrid (T.grid t.now) }
     ensures rule { result.items ≡ spec.allowed_dirs (T.grid t.now) at by }
 {
     allowed_word(t, at, by).to_list()
@@ -294,7 +293,6 @@ pub fn allowed<T: Terrain>(t: &T, at: Cell, by: Arrival) -> ArrayVec<Dir, 8>
 /// The same in one word. Where the cells around lie on the map, the compiler knows that each of them does.
 pub fn allowed_word<T: Terrain>(t: &T, at: Cell, by: Arrival) -> Packed
     requires free { IsTrue (is_free (T.grid t.now) at) }
-    requires whole { IsGrid (T.grid t.now) }
     ensures rule { result ≡ spec.allowed_dirs (T.grid t.now) at by }
 {
     let (left, up) = (at.x.wrapping_sub(1), at.y.wrapping_sub(1));
@@ -338,9 +336,9 @@ fn is_forced_on<T: Terrain>(t: &T, at: Cell, d: Dir, side: Side) -> bool
 /// a straight `d` that is: whether the cell is marked for it.
 pub fn forced<T: Terrain>(t: &T, at: Cell, d: Dir) -> bool
     requires free { IsTrue (is_free (T.grid t.now) at) }
-    requires whole { IsGrid (T.grid t.now) }
     ensures forces { result ≡ marks.is_forced (T.grid t.now) at d }
     ensures marked { turns.is_diagonal d ≡ false → result ≡ first.is_marked (T.grid t.now) at d }
 {
+    let _whole = t.width();
     is_forced_on(t, at, d, Side::Right) || is_forced_on(t, at, d, Side::Left)
 }

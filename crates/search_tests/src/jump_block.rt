@@ -114,6 +114,7 @@ fn are_alike(grid: &Grid, bits: &BitGrid, cells: &[Cell], goal: Cell) -> bool
 }
 
 // Whether they are while one cell is blocked.
+#[tactic(auto, using(bit_grid::proofs::Showing::on_map))]
 fn are_alike_at_wall(
     grid: &mut Grid,
     bits: &mut BitGrid,

@@ -3,10 +3,10 @@ use Rattle.std.specs.Prelude.{None}
 use Rattle.first_moves.proofs.Cutting.{told}
 use Rattle.first_moves.proofs.row.search.Goals as goal
 
-pub returns : goal.returns
-returns c = λ members e h.
-    let low = c.loop-high.invariant.low in
-    let high = c.loop-high.invariant.high in
+pub returns-clause-first : goal.returns-clause-first
+returns-clause-first c = λ members e h.
+    let apart = c.loop-high.invariant.apart in
+    let high = c.loop-high.invariant.within in
     let next : c.loop-high.high ≡ suc c.loop-high.low = omega arith in
     told c.args.runs.now members c.args.number c.loop-high.low (record { start = 0; first = None }) e h (record {
       within = omega arith;

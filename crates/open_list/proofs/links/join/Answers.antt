@@ -10,9 +10,9 @@ returns-clause-joined g c =
       | then-is_before w ↦
           rw (c.adopt.ensures, w.winner-is, c.next_of-next.ensures)
           (other_wins before es _ _ c.requires.lists c.requires.one_in c.requires.other_in
-          g.met.N.Ranked.order _ c.is_before.ensures w.if-is_before.true)
+          g.met.N.Ranked.order _ c.is_before.ensures.compared w.if-is_before.true)
       | else-is_before w ↦
           rw (c.adopt.ensures, w.winner-is, c.next_of-next.ensures)
           (one_wins before es _ _ c.requires.lists c.requires.one_in c.requires.other_in
-          _ c.is_before.ensures w.if-is_before.false)
+          _ c.is_before.ensures.compared w.if-is_before.false)
     ]

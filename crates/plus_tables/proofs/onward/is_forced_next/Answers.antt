@@ -10,10 +10,13 @@ of-requires-in-Never-2-clause-free g c =
     let grid : GridData = g.T.Terrain.grid c.args.t.now in
     (legal_is grid c.args.at c.args.next (legal_leads grid c.args.at c.args.next c.args.d c.requires.legal).legal).target
 
-pub forced-requires-clause-free : goal.forced-requires-clause-free
-forced-requires-clause-free g c =
+pub forced-requires : goal.forced-requires
+forced-requires g c =
     let grid : GridData = g.T.Terrain.grid c.args.t.now in
-    (legal_is grid c.args.at c.args.next (legal_leads grid c.args.at c.args.next c.args.d c.requires.legal).legal).target
+    record {
+      free = (legal_is grid c.args.at c.args.next
+          (legal_leads grid c.args.at c.args.next c.args.d c.requires.legal).legal).target;
+    }
 
 pub returns-in-Never-2 : goal.returns-in-Never-2
 returns-in-Never-2 g c =

@@ -14,23 +14,23 @@ loop-x-preserved c =
     let at = c.place_after-at.result in
     let long : x + 1 < length c.loop-x.out = omega arith in
     number_more c.loop-x.out x (to_z w16 (of_z w16 c.told.result))
-    (λ k (z : ℤ). (spec.legal_by c.args.corner rows.above.now rows.here.now rows.below.now c.args.d k ≡ true
+    (λ k (z : ℤ). (spec.legal_by c.args.corner rows.ahead.now rows.here.now rows.behind.now c.args.d k ≡ true
     → spec.AreShort (spec.number next.ahead.now (spec.place_after c.args.d k))
     (spec.number next.right.now (spec.place_after c.args.d k))
     (spec.number next.left.now (spec.place_after c.args.d k)))
-    → z ≡ spec.told (spec.legal_by c.args.corner rows.above.now rows.here.now rows.below.now c.args.d k)
+    → z ≡ spec.told (spec.legal_by c.args.corner rows.ahead.now rows.here.now rows.behind.now c.args.d k)
     (spec.mark_by c.args.forced.now next.right.now next.left.now c.args.d (spec.place_after c.args.d k))
     (spec.number next.ahead.now (spec.place_after c.args.d k)))
     long c.loop-x.invariant
-    (subst (λ (n : ℕ). (spec.legal_by c.args.corner rows.above.now rows.here.now rows.below.now c.args.d x ≡
+    (subst (λ (n : ℕ). (spec.legal_by c.args.corner rows.ahead.now rows.here.now rows.behind.now c.args.d x ≡
     true
     → spec.AreShort (spec.number next.ahead.now n) (spec.number next.right.now n)
     (spec.number next.left.now n))
     → to_z w16 (of_z w16 c.told.result)
-    ≡ spec.told (spec.legal_by c.args.corner rows.above.now rows.here.now rows.below.now c.args.d x)
+    ≡ spec.told (spec.legal_by c.args.corner rows.ahead.now rows.here.now rows.behind.now c.args.d x)
     (spec.mark_by c.args.forced.now next.right.now next.left.now c.args.d n) (spec.number next.ahead.now n))
     c.place_after-at.ensures.is
-    (told_across (spec.legal_by c.args.corner rows.above.now rows.here.now rows.below.now c.args.d x)
+    (told_across (spec.legal_by c.args.corner rows.ahead.now rows.here.now rows.behind.now c.args.d x)
     (spec.flag rows.here.now (x + 1) && c.can_move.result)
     (spec.flag c.args.forced.now at || (c.is_diagonal.result &&
     (c.tells_mark.result || c.tells_mark-in-loop-x.result)))

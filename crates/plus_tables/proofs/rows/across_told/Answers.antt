@@ -3,22 +3,12 @@ use Rattle.grid_moves.specs.declared.Dir.{Dir}
 use Rattle.plus_tables.specs.Rows as spec
 use Rattle.plus_tables.proofs.rows.across_told.Goals as goal
 
-pub returns-in-SW : goal.returns-in-SW
-returns-in-SW c =
-    let rows = c.args.rows in
-    let next = c.args.next in
-    let out = c.across_by-in-SW.new.out in
-    subst (λ (d : Dir). spec.AreToldBelow c.args.corner rows.above.now rows.here.now rows.below.now
-    c.args.forced.now
-    next.ahead.now next.right.now next.left.now d out (length out - 2)) (sym c.in-SW.is)
-    c.across_by-in-SW.ensures
-
 pub returns-in-NW : goal.returns-in-NW
 returns-in-NW c =
     let rows = c.args.rows in
     let next = c.args.next in
     let out = c.across_by-in-NW.new.out in
-    subst (λ (d : Dir). spec.AreToldBelow c.args.corner rows.above.now rows.here.now rows.below.now
+    subst (λ (d : Dir). spec.AreToldBelow c.args.corner rows.ahead.now rows.here.now rows.behind.now
     c.args.forced.now
     next.ahead.now next.right.now next.left.now d out (length out - 2)) (sym c.in-NW.is)
     c.across_by-in-NW.ensures

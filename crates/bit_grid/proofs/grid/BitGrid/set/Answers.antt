@@ -13,10 +13,10 @@ returns c = record {
         rows = shows_alike c.set.new.self _ _ _ _
             (λ line position. rw (c.from.ensures, c.from-2.ensures)
             (is_free-edited g c.args.c c.args.free before.whole inside position line))
-            (c.set.ensures _ _ _ before.rows);
+            (c.set.ensures.edited _ _ _ before.rows);
         columns = shows_alike c.set-2.new.self _ _ _ _
             (λ line position. rw (c.from.ensures, c.from-2.ensures)
             (is_free-edited_turned g c.args.c c.args.free before.whole inside line position))
-            (c.set-2.ensures _ _ _ before.columns);
+            (c.set-2.ensures.edited _ _ _ before.columns);
       };
 }

@@ -5,8 +5,8 @@ use Rattle.bit_grid.specs.Bits.{LineData, Shows, is_set}
 use Rattle.bit_grid.proofs.Showing.{set_shown, place_below}
 use Rattle.bit_grid.proofs.lines.Lines.set.Goals as goal
 
-pub returns : goal.returns
-returns c = λ lines positions shown shows.
+pub returns-clause-edited : goal.returns-clause-edited
+returns-clause-edited c = λ lines positions shown shows.
     let place : ℕ = c.args.line * c.self.inside.blocks * 8 + c.args.position / 64 in
     let lines_are : c.self.inside.lines ≡ c.args.self.now.lines =
     ap (λ (l : LineData). l.lines) c.self.view_is in

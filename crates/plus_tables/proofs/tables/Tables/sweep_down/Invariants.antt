@@ -1,5 +1,5 @@
 use Rattle.std.proofs.Common.{◌<◌, ◌-◌}
-use Rattle.grid_moves.specs.declared.Dir.TheVariants.{S}
+use Rattle.plus_tables.specs.Rows.{downwards}
 use Rattle.plus_tables.specs.Sweep.{AreRight, from_row}
 use Rattle.plus_tables.specs.Lines.{IsKept}
 use Rattle.plus_tables.proofs.tables.Tables.sweep_down.Given as goal
@@ -8,5 +8,5 @@ use Rattle.plus_tables.proofs.tables.Tables.sweep_down.Given as goal
 abbrev pub invariant-loop-y : goal.invariant-loop-y
 invariant-loop-y g l = record {
   right : AreRight l.self (g.T.Terrain.grid l.t) (from_row l.y);
-  kept : 0 < l.y → IsKept (g.T.Terrain.grid l.t) S (l.y - 1) l.rows;
+  kept : 0 < l.y → IsKept (g.T.Terrain.grid l.t) downwards (l.y - 1) l.rows;
 }

@@ -1,0 +1,197 @@
+-- A map that is turned upside down: moves, forced neighbours and entries are those of the directions turned so.
+use Rattle.std.proofs.Common.{◌≡◌, ℕ, ◌+◌, ◌-◌, ◌<◌, Bool, true, false, not, ◌&&◌, ◌||◌, List, length, refl, ap, sym, ◌∙◌, subst}
+use Rattle.std.specs.Prelude.{ℤ}
+use Rattle.grid_moves.specs.declared.Corner.{Corner}
+use Rattle.grid_moves.specs.declared.Corner.TheVariants.{Never, One}
+use Rattle.grid_moves.specs.declared.Dir.{Dir}
+use Rattle.grid_moves.specs.declared.Dir.TheVariants.{N, NE, E, SE, S, SW, W, NW}
+use Rattle.grid_moves.specs.Grid.{GridData, IsGrid}
+use Rattle.grid_moves.specs.Move.{is_passable, row_ahead}
+use Rattle.pruning.specs.declared.turns.Side.{Side}
+use Rattle.pruning.specs.declared.turns.Side.TheVariants.{Right, Left}
+use Rattle.pruning.specs.Turns.{turn, quarter, rear, is_diagonal}
+use Rattle.pruning.specs.Marked.{is_forced_on}
+use Rattle.plus_tables.specs.Local.{tells_mark}
+use Rattle.plus_tables.specs.Rows.{flag, number, ring_of, open_in, can_by, forced_on, forced_by, place_after, told, legal_by, mark_by, IsRowAt, IsEntryRow, IsForcedRow, AreForced, AreShort, AreToldBelow, Heading, upwards, downwards, flipped, seen, AreRowsSeen}
+use Rattle.plus_tables.proofs.Rowing.{forced_if, told_row}
+
+abbrev other : Side → Side
+other Right = Left
+other Left = Right
+
+turn_flipped : (s : Side) (d : Dir) → turn s (flipped d) ≡ flipped (turn (other s) d)
+turn_flipped Right N = refl
+turn_flipped Right NE = refl
+turn_flipped Right E = refl
+turn_flipped Right SE = refl
+turn_flipped Right S = refl
+turn_flipped Right SW = refl
+turn_flipped Right W = refl
+turn_flipped Right NW = refl
+turn_flipped Left N = refl
+turn_flipped Left NE = refl
+turn_flipped Left E = refl
+turn_flipped Left SE = refl
+turn_flipped Left S = refl
+turn_flipped Left SW = refl
+turn_flipped Left W = refl
+turn_flipped Left NW = refl
+
+quarter_flipped : (s : Side) (d : Dir) → quarter s (flipped d) ≡ flipped (quarter (other s) d)
+quarter_flipped s d = ap (λ (e : Dir). turn s e) (turn_flipped s d) ∙ turn_flipped s (turn (other s) d)
+
+rear_flipped : (s : Side) (d : Dir) → rear s (flipped d) ≡ flipped (rear (other s) d)
+rear_flipped s d = ap (λ (e : Dir). turn s e) (quarter_flipped s d) ∙ turn_flipped s (quarter (other s) d)
+
+diagonal_flipped : (d : Dir) → is_diagonal (flipped d) ≡ is_diagonal d
+diagonal_flipped N = refl
+diagonal_flipped NE = refl
+diagonal_flipped E = refl
+diagonal_flipped SE = refl
+diagonal_flipped S = refl
+diagonal_flipped SW = refl
+diagonal_flipped W = refl
+diagonal_flipped NW = refl
+
+place_flipped : (d : Dir) (x : ℕ) → place_after d x ≡ place_after (flipped d) x
+place_flipped N x = refl
+place_flipped NE x = refl
+place_flipped E x = refl
+place_flipped SE x = refl
+place_flipped S x = refl
+place_flipped SW x = refl
+place_flipped W x = refl
+place_flipped NW x = refl
+
+either_way : (a b : Bool) → (a || b) ≡ (b || a)
+either_way true true = refl
+either_way true false = refl
+either_way false true = refl
+either_way false false = refl
+
+both_ways : (r : Corner) (a b : Bool) → is_passable r a b ≡ is_passable r b a
+both_ways Never true true = refl
+both_ways Never true false = refl
+both_ways Never false true = refl
+both_ways Never false false = refl
+both_ways One a b = either_way a b
+
+module _ (r : Corner) (a h b : List Bool) (x : ℕ) where
+  open_flipped : (d : Dir) → open_in (ring_of b h a x) (flipped d) ≡ open_in (ring_of a h b x) d
+  open_flipped N = refl
+  open_flipped NE = refl
+  open_flipped E = refl
+  open_flipped SE = refl
+  open_flipped S = refl
+  open_flipped SW = refl
+  open_flipped W = refl
+  open_flipped NW = refl
+
+  beside : (s : Side) (d : Dir)
+      → open_in (ring_of b h a x) (turn s (flipped d)) ≡ open_in (ring_of a h b x) (turn (other s) d)
+  beside s d = ap (λ (e : Dir). open_in (ring_of b h a x) e) (turn_flipped s d) ∙ open_flipped (turn (other s) d)
+
+  can_flipped : (d : Dir) → can_by r (ring_of b h a x) (flipped d) ≡ can_by r (ring_of a h b x) d
+  can_flipped d = rw (
+    diagonal_flipped d,
+    open_flipped d,
+    beside Left d,
+    beside Right d,
+    both_ways r (open_in (ring_of a h b x) (turn Right d)) (open_in (ring_of a h b x) (turn Left d)),
+  ) refl
+
+  legal_flipped : (d : Dir) → legal_by r a h b d x ≡ legal_by r b h a (flipped d) x
+  legal_flipped d = ap (λ (k : Bool). flag h (x + 1) && k) (sym (can_flipped d))
+
+  forced_on_flipped : (d : Dir) (s : Side)
+      → forced_on r (ring_of b h a x) (flipped d) s ≡ forced_on r (ring_of a h b x) d (other s)
+  forced_on_flipped d s = by_rule r (λ e. not (open_in (ring_of b h a x) e)) (λ e. can_by r (ring_of b h a x) e)
+      (λ e. not (open_in (ring_of a h b x) e)) (λ e. can_by r (ring_of a h b x) e)
+      (λ e. ap not (open_flipped e)) can_flipped
+    where
+      by_rule : (r : Corner) (i p j q : Dir → Bool) → ((e : Dir) → i (flipped e) ≡ j e)
+          → ((e : Dir) → p (flipped e) ≡ q e) → is_forced_on r i p (flipped d) s ≡ is_forced_on r j q d (other s)
+      by_rule Never i p j q same too = rw (
+        diagonal_flipped d,
+        rear_flipped s d,
+        quarter_flipped s d,
+        same (rear (other s) d),
+        too (quarter (other s) d),
+      ) refl
+      by_rule One i p j q same too = rw (
+        diagonal_flipped d,
+        rear_flipped s d,
+        quarter_flipped s d,
+        turn_flipped s d,
+        same (rear (other s) d),
+        same (quarter (other s) d),
+        too (quarter (other s) d),
+        too (turn (other s) d),
+      ) refl
+
+  forced_flipped : (d : Dir) → forced_by r (ring_of a h b x) d ≡ forced_by r (ring_of b h a x) (flipped d)
+  forced_flipped d =
+      either_way (forced_on r (ring_of a h b x) d Right) (forced_on r (ring_of a h b x) d Left)
+      ∙ both _ _ _ _ (sym (forced_on_flipped d Right)) (sym (forced_on_flipped d Left))
+    where
+      both : (a b p q : Bool) → a ≡ p → b ≡ q → (a || b) ≡ (p || q)
+      both a b p q e f = rw (e, f) refl
+
+mark_flipped : (forced : List Bool) (right left : List ℤ) (d : Dir) (at : ℕ)
+    → mark_by forced right left d at ≡ mark_by forced left right (flipped d) at
+mark_flipped forced right left d at =
+    rw (diagonal_flipped d, either_way (tells_mark (number right at)) (tells_mark (number left at))) refl
+
+-- the entry of one column
+told_flipped : (legal same mark alike : Bool) (out next right left : ℤ) → legal ≡ same → mark ≡ alike
+    → ((legal ≡ true → AreShort next right left) → out ≡ told legal mark next)
+    → (same ≡ true → AreShort next left right) → out ≡ told same alike next
+told_flipped legal same mark alike out next right left e m is short =
+    is (λ h. let three = short (sym e ∙ h) in record {
+      ahead_is = three.ahead_is;
+      right_is = three.left_is;
+      left_is = three.right_is;
+    })
+    ∙ ap (λ (b : Bool). told b mark next) e ∙ ap (λ (b : Bool). told same b next) m
+
+module _ (g : GridData) (whole : IsGrid g) where
+  -- where a neighbour is forced
+  pub forced_seen : (h : Heading) (m : ℕ) (ahead here behind : List Bool)
+      → (m < 4096 → AreRowsSeen g h m ahead here behind) → (d : Dir) (corner : Corner) (forced : List Bool)
+      → corner ≡ g.corner → length forced ≡ g.width + 2 → AreForced corner ahead here behind d forced
+      → IsForcedRow g m (seen h d) forced
+  forced_seen upwards m ahead here behind around d corner forced rule long are =
+      forced_if g whole m ahead here behind around d corner forced rule long are
+  forced_seen downwards m ahead here behind around d corner forced rule long are =
+      forced_if g whole m behind here ahead around (flipped d) corner forced rule long
+      (λ x below. are x below ∙ forced_flipped corner ahead here behind x d)
+
+  -- the entries of a row, told by those of the next
+  pub told_seen : (h : Heading) (y m : ℕ) (d : Dir) → IsRowAt (row_ahead (seen h d) y) m → (corner : Corner)
+      → corner ≡ g.corner → (ahead here behind forced : List Bool) (next right left out : List ℤ) (e f : Dir)
+      → AreRowsSeen g h y ahead here behind → IsForcedRow g m (seen h d) forced
+      → IsEntryRow g m (seen h d) next → IsEntryRow g m e right → IsEntryRow g m f left
+      → (is_diagonal d ≡ true → (e ≡ seen h (turn Right d)) × (f ≡ seen h (turn Left d)))
+      → length out ≡ g.width + 2
+      → AreToldBelow corner ahead here behind forced next right left d out (length out - 2)
+      → IsEntryRow g y (seen h d) out
+  told_seen upwards y m d lies corner rule ahead here behind forced next right left out e f around forced_is
+      next_is right_is left_is parts long are =
+      told_row g whole y m d lies corner rule ahead here behind forced next right left out e f around forced_is
+      next_is right_is left_is parts long are
+  told_seen downwards y m d lies corner rule ahead here behind forced next right left out e f around forced_is
+      next_is right_is left_is parts long are =
+      told_row g whole y m (flipped d) lies corner rule behind here ahead forced next left right out f e around
+      forced_is next_is left_is right_is
+      (λ k. let both = parts (sym (diagonal_flipped d) ∙ k) in
+      (both.1 ∙ sym (turn_flipped Right d), both.0 ∙ sym (turn_flipped Left d)))
+      long
+      (λ x below. subst (λ (at : ℕ). (legal_by corner behind here ahead (flipped d) x ≡ true
+      → AreShort (number next at) (number left at) (number right at))
+      → number out (x + 1) ≡ told (legal_by corner behind here ahead (flipped d) x)
+      (mark_by forced left right (flipped d) at) (number next at)) (place_flipped d x)
+      (told_flipped (legal_by corner ahead here behind d x) (legal_by corner behind here ahead (flipped d) x)
+      (mark_by forced right left d (place_after d x)) (mark_by forced left right (flipped d) (place_after d x))
+      (number out (x + 1)) (number next (place_after d x)) (number right (place_after d x))
+      (number left (place_after d x)) (legal_flipped corner ahead here behind x d)
+      (mark_flipped forced right left d (place_after d x)) (are x below)))
