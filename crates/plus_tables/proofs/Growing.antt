@@ -21,10 +21,6 @@ flag_more row x b P below known is = below_more (λ k. flag (slice_set row (x + 
     (λ k h. get_or-set_other row (x + 1) (k + 1) b false (λ same. omega arith) ∙ known k h)
     (get_or-set_same row (x + 1) b false below ∙ is)
 
--- a flag elsewhere stays
-pub flag_stays : (row : List Bool) (x k : ℕ) (b : Bool) → k ≢ x → flag (slice_set row x b) k ≡ flag row k
-flag_stays row x k b other = get_or-set_other row x k b false other
-
 -- what has been read of a row is the row
 pub whole_row : (g : GridData) (y n : ℕ) (row : List Bool) → length row ≡ g.width + 2 → n ≡ g.width
     → flag row 0 ≡ false → flag row (g.width + 1) ≡ false

@@ -191,13 +191,6 @@ module _ (row : List ℤ) (x : ℕ) (room : x * 8 + 7 < length row) where
       (not_downward k x 3 d h (omega arith) (omega arith)) (not_downward k x 4 d h (omega arith) (omega arith))
       (not_downward k x 5 d h (omega arith) (omega arith))))
 
-pub laid_none : (among : Dir → Bool) (part : Dir → List ℤ) (row : List ℤ) → AreLaid among part 0 row row
-laid_none among part row = record {
-  long = refl;
-  told = λ x e h is short. absurd (omega (arith, h));
-  others = λ x e is. refl;
-}
-
 -- where the entries of a cell stand
 earlier : (m n k s : ℕ) → m < n → k < 8 → s ≡ n * 8 → m * 8 + k < s
 earlier m n k s h few e = omega arith

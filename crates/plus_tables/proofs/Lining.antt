@@ -2,7 +2,8 @@
 use Rattle.std.proofs.Common.{◌≡◌, ℕ, zero, suc, ◌+◌, ◌<◌, ◌≤◌, arith, Bool, true, false, List, length, refl, ap, sym, ◌∙◌, subst}
 use Rattle.std.specs.Prelude.{ℤ, Some, replicate, nat_lt}
 use Rattle.std.proofs.lemmas.Bool.Decides.{nat_tests}
-use Rattle.std.proofs.lemmas.List.{get_or-replicate, length-replicate, get_or_past}
+use Rattle.std.proofs.lemmas.List.{get_or-replicate, length-replicate, get_or_past, with_items_is}
+use Rattle.std.specs.Vec.{with_items}
 use Rattle.grid_moves.specs.declared.Dir.{Dir}
 use Rattle.grid_moves.specs.declared.Dir.TheVariants.{N, NE, E, S, W, NW}
 use Rattle.grid_moves.specs.Around.{IsBefore}
@@ -15,15 +16,11 @@ use Rattle.plus_tables.specs.declared.lines.Rows.{Rows}
 use Rattle.plus_tables.specs.Entry.{table_entry}
 use Rattle.plus_tables.specs.Tables.{TablesData, entry_at}
 use Rattle.plus_tables.specs.Sweep.{AreRight, is_upward, from_row}
-use Rattle.plus_tables.specs.Rows.{flag, number, IsEntryRow, IsFlagRow, IsRowAt, AreRowsAround, Heading, upwards, downwards, seen, AreRowsSeen}
+use Rattle.plus_tables.specs.Rows.{flag, number, IsEntryRow, IsFlagRow, IsRowAt, Heading, upwards, downwards, seen, AreRowsSeen}
 use Rattle.plus_tables.specs.Lines.{AreAhead, AreAlong, IsLong, IsReady, IsKept, IsBlank}
 use Rattle.plus_tables.proofs.Rowing.{value_is}
 
 -- the same rows by other names
-pub around_as : (g : GridData) (y : ℕ) (a b c p q r : List Bool) → p ≡ a → q ≡ b → r ≡ c
-    → AreRowsAround g y a b c → AreRowsAround g y p q r
-around_as g y a b c p q r e f h is = rw (e, f, h) is
-
 pub seen_as : (g : GridData) (h : Heading) (y : ℕ) (a b c p q r : List Bool) → p ≡ a → q ≡ b → r ≡ c
     → AreRowsSeen g h y a b c → AreRowsSeen g h y p q r
 seen_as g h y a b c p q r e f k is = rw (e, f, k) is
@@ -35,16 +32,6 @@ entries_as g m d row same e is = rw e is
 pub flags_as : (g : GridData) (n : ℕ) (row same : List Bool) → same ≡ row → IsFlagRow g n row → IsFlagRow g
     n same
 flags_as g n row same e is = rw e is
-
--- past the last column no flag is set
-pub last_flag : (g : GridData) (n : ℕ) (row : List Bool) → IsFlagRow g n row → flag row (g.width + 1) ≡ false
-last_flag g n row is = is.cells g.width ∙ by_test (is_free g (record { x = g.width; y = n })) refl
-  where
-    by_test : (b : Bool) → is_free g (record { x = g.width; y = n }) ≡ b
-        → is_free g (record { x = g.width; y = n }) ≡ false
-    by_test false e = e
-    by_test true e =
-        absurd (let i = free_inside g (record { x = g.width; y = n }) e in omega (arith, i.0))
 
 -- a row in which none is set is one below the map
 pub blank_row : (g : GridData) (n : ℕ) (row : List Bool) → row ≡ replicate (g.width + 2) false → g.height ≤ n
@@ -115,63 +102,111 @@ taken g t y d row known h read v same inside =
     ∙ known.right (record { x = v.x; y = y }) d here (rw h refl)
     ∙ ap (λ (n : ℕ). table_entry g (record { x = v.x; y = n }) d) (sym same)
 
--- another row behind
-module _ (g : GridData) (h : Heading) (y n : ℕ) (band same : Band) (last : Line) (ready : IsReady g h y band last)
-    (far : same.far.items ≡ band.far.items) (next : same.next.items ≡ band.next.items)
-    (here : same.here.items ≡ band.here.items) (is : IsFlagRow g n same.back.items) where
-  pub ready_back : IsReady g h y same last
-  ready_back =
-      let m = ready.rows.ahead in
-      record {
-        rows = record {
-          ahead = m;
-          far_row = ready.rows.far_row;
-          back_row = n;
-          ahead_is = ready.rows.ahead_is;
-          far_is = flags_as g ready.rows.far_row band.far.items same.far.items far ready.rows.far_is;
-          next_is = flags_as g m band.next.items same.next.items next ready.rows.next_is;
-          here_is = flags_as g y band.here.items same.here.items here ready.rows.here_is;
-          back_is = is;
-          around_next = λ on. seen_as g h m band.far.items band.next.items band.here.items same.far.items
-              same.next.items same.here.items far next here (ready.rows.around_next on);
-        };
-        long = ready.long;
-        told = ready.told;
-        along = ready.along;
+-- rows of flags with another one behind
+abbrev pub with_back : Band → List Bool → Band
+with_back band row = record {
+  far = band.far;
+  next = band.next;
+  here = band.here;
+  back = with_items band.back row;
+}
+
+-- a line with other entries along the row
+abbrev pub with_along : Line → List ℤ → List ℤ → Line
+with_along line east west = record {
+  ahead = line.ahead;
+  ahead_east = line.ahead_east;
+  ahead_west = line.ahead_west;
+  east = with_items line.east east;
+  west = with_items line.west west;
+}
+
+pub lines_told : (g : GridData) (h : Heading) (y : ℕ) (this : Line) (east west : List ℤ) → AreAhead g h y this
+    → IsEntryRow g y E east → IsEntryRow g y W west → length east ≡ this.east.len → length west ≡ this.west.len
+    → AreAhead g h y (with_along this east west) × AreAlong g y (with_along this east west)
+lines_told g h y this east west told east_is west_is east_fits west_fits = (
+  record { ahead = told.ahead; ahead_east = told.ahead_east; ahead_west = told.ahead_west },
+  record {
+    east = entries_as g y E east _ (with_items_is this.east east east_fits) east_is;
+    west = entries_as g y W west _ (with_items_is this.west west west_fits) west_is;
+  },
+)
+
+-- once the row behind is read
+module _ (g : GridData) (h : Heading) (y n : ℕ) (band : Band) (last : Line) (row : List Bool)
+    (ready : IsReady g h y band last) (fits : length row ≡ band.back.len) (is : IsFlagRow g n row)
+    (lies : IsRowAt (row_ahead (seen h S) y) n) where
+  behind_is : IsFlagRow g n (with_items band.back row).items
+  behind_is = flags_as g n row _ (with_items_is band.back row fits) is
+
+  pub ready_back : IsReady g h y (with_back band row) last
+  ready_back = record {
+    rows = record {
+      ahead = ready.rows.ahead;
+      far_row = ready.rows.far_row;
+      back_row = n;
+      ahead_is = ready.rows.ahead_is;
+      far_is = ready.rows.far_is;
+      next_is = ready.rows.next_is;
+      here_is = ready.rows.here_is;
+      back_is = behind_is;
+      around_next = ready.rows.around_next;
+    };
+    long = ready.long;
+    told = ready.told;
+    along = ready.along;
+  }
+
+  -- the row and the two beside it
+  pub around_row : AreRowsSeen g h y band.next.items band.here.items (with_items band.back row).items
+  around_row = by_heading h ready.rows.ahead_is lies
+    where
+      by_heading : (h : Heading) → IsRowAt (row_ahead (seen h N) y) ready.rows.ahead
+          → IsRowAt (row_ahead (seen h S) y) n
+          → AreRowsSeen g h y band.next.items band.here.items (with_items band.back row).items
+      by_heading upwards ahead behind = record {
+        upper = ready.rows.ahead;
+        lower = n;
+        upper_is = ahead;
+        lower_is = behind;
+        above_is = ready.rows.next_is;
+        here_is = ready.rows.here_is;
+        below_is = behind_is;
+      }
+      by_heading downwards ahead behind = record {
+        upper = n;
+        lower = ready.rows.ahead;
+        upper_is = behind;
+        lower_is = ahead;
+        above_is = behind_is;
+        here_is = ready.rows.here_is;
+        below_is = ready.rows.next_is;
       }
 
--- the row and the two beside it
-pub around_row : (g : GridData) (h : Heading) (y n : ℕ) (band : Band) (last : Line) (behind : List Bool)
-    → IsReady g h y band last → IsRowAt (row_ahead (seen h S) y) n → IsFlagRow g n behind
-    → AreRowsSeen g h y band.next.items band.here.items behind
-around_row g upwards y n band last behind ready lies is = record {
-  upper = ready.rows.ahead;
-  lower = n;
-  upper_is = ready.rows.ahead_is;
-  lower_is = lies;
-  above_is = ready.rows.next_is;
-  here_is = ready.rows.here_is;
-  below_is = is;
-}
-around_row g downwards y n band last behind ready lies is = record {
-  upper = n;
-  lower = ready.rows.ahead;
-  upper_is = lies;
-  lower_is = ready.rows.ahead_is;
-  above_is = is;
-  here_is = ready.rows.here_is;
-  below_is = ready.rows.next_is;
-}
+  -- on to the next row
+  module _ (this : Line) (east west : List ℤ) (rows : Rows) (back : IsRowAt (row_ahead (seen h N) n) y)
+      (told : AreAhead g h y this) (east_is : IsEntryRow g y E east) (west_is : IsEntryRow g y W west)
+      (long : IsLong g this) (east_fits : length east ≡ this.east.len) (west_fits : length west ≡ this.west.len)
+      (far : rows.band.far.items ≡ band.next.items) (next : rows.band.next.items ≡ band.here.items)
+      (here : rows.band.here.items ≡ (with_items band.back row).items)
+      (beyond : rows.band.back.items ≡ band.far.items) (kept : rows.last ≡ with_along this east west)
+      (other : rows.this ≡ last) (forced : length rows.forced.items ≡ g.width + 2) where
+    line : AreAhead g h y (with_along this east west) × AreAlong g y (with_along this east west)
+    line = lines_told g h y this east west told east_is west_is east_fits west_fits
 
--- on to the next row
-pub kept_on : (g : GridData) (h : Heading) (y n : ℕ) (band : Band) (last this : Line) (behind : List Bool)
-    (rows : Rows) → IsReady g h y band last → IsRowAt (row_ahead (seen h S) y) n
-    → IsRowAt (row_ahead (seen h N) n) y → IsFlagRow g n behind → AreAhead g h y this → AreAlong g y this
-    → IsLong g this → rows.band.far.items ≡ band.next.items → rows.band.next.items ≡ band.here.items
-    → rows.band.here.items ≡ behind → rows.band.back.items ≡ band.far.items → rows.last ≡ this
-    → IsLong g rows.this → length rows.forced.items ≡ g.width + 2 → IsKept g h n rows
-kept_on g h y n band last this behind rows ready lies back is told along long far next here beyond kept room
-    forced = record {
+    long_on : IsLong g (with_along this east west)
+    long_on = record {
+      ahead = long.ahead;
+      ahead_east = long.ahead_east;
+      ahead_west = long.ahead_west;
+      east = ap (λ (r : List ℤ). length r) (with_items_is this.east east east_fits)
+          ∙ omega (arith, long.east, this.east.ok.0);
+      west = ap (λ (r : List ℤ). length r) (with_items_is this.west west west_fits)
+          ∙ omega (arith, long.west, this.west.ok.0);
+    }
+
+    pub kept_on : IsKept g h n rows
+    kept_on = record {
       ready = record {
         rows = record {
           ahead = y;
@@ -180,17 +215,16 @@ kept_on g h y n band last this behind rows ready lies back is told along long fa
           ahead_is = back;
           far_is = flags_as g ready.rows.ahead band.next.items rows.band.far.items far ready.rows.next_is;
           next_is = flags_as g y band.here.items rows.band.next.items next ready.rows.here_is;
-          here_is = flags_as g n behind rows.band.here.items here is;
+          here_is = flags_as g n _ rows.band.here.items here behind_is;
           back_is = flags_as g ready.rows.far_row band.far.items rows.band.back.items beyond ready.rows.far_is;
-          around_next = λ on. seen_as g h y band.next.items band.here.items behind rows.band.far.items
-              rows.band.next.items rows.band.here.items far next here
-              (around_row g h y n band last behind ready lies is);
+          around_next = λ on. seen_as g h y band.next.items band.here.items _ rows.band.far.items
+              rows.band.next.items rows.band.here.items far next here around_row;
         };
-        long = subst (λ (l : Line). IsLong g l) (sym kept) long;
-        told = subst (λ (l : Line). AreAhead g h y l) (sym kept) told;
-        along = subst (λ (l : Line). AreAlong g y l) (sym kept) along;
+        long = subst (λ (l : Line). IsLong g l) (sym kept) long_on;
+        told = subst (λ (l : Line). AreAhead g h y l) (sym kept) line.0;
+        along = subst (λ (l : Line). AreAlong g y l) (sym kept) line.1;
       };
-      long = room;
+      long = subst (λ (l : Line). IsLong g l) (sym other) ready.long;
       forced = forced;
     }
 

@@ -6,11 +6,12 @@ use Rattle.grid_moves.specs.declared.Corner.TheVariants.{Never, One}
 use Rattle.grid_moves.specs.declared.Dir.{Dir}
 use Rattle.grid_moves.specs.declared.Dir.TheVariants.{N, NE, E, SE, S, SW, W, NW}
 use Rattle.grid_moves.specs.Grid.{GridData, IsGrid}
-use Rattle.grid_moves.specs.Move.{is_passable, row_ahead}
+use Rattle.grid_moves.specs.Move.{is_dir, is_passable, row_ahead}
 use Rattle.pruning.specs.declared.turns.Side.{Side}
 use Rattle.pruning.specs.declared.turns.Side.TheVariants.{Right, Left}
 use Rattle.pruning.specs.Turns.{turn, quarter, rear, is_diagonal}
 use Rattle.pruning.specs.Marked.{is_forced_on}
+use Rattle.pruning.proofs.Table.{at_both, at_dir, same_bool, same_bool-is, same_dir}
 use Rattle.plus_tables.specs.Local.{tells_mark}
 use Rattle.plus_tables.specs.Rows.{flag, number, ring_of, open_in, can_by, forced_on, forced_by, place_after, told, legal_by, mark_by, IsRowAt, IsEntryRow, IsForcedRow, AreForced, AreShort, AreToldBelow, Heading, upwards, downwards, flipped, seen, AreRowsSeen}
 use Rattle.plus_tables.proofs.Rowing.{forced_if, told_row}
@@ -20,22 +21,8 @@ other Right = Left
 other Left = Right
 
 turn_flipped : (s : Side) (d : Dir) → turn s (flipped d) ≡ flipped (turn (other s) d)
-turn_flipped Right N = refl
-turn_flipped Right NE = refl
-turn_flipped Right E = refl
-turn_flipped Right SE = refl
-turn_flipped Right S = refl
-turn_flipped Right SW = refl
-turn_flipped Right W = refl
-turn_flipped Right NW = refl
-turn_flipped Left N = refl
-turn_flipped Left NE = refl
-turn_flipped Left E = refl
-turn_flipped Left SE = refl
-turn_flipped Left S = refl
-turn_flipped Left SW = refl
-turn_flipped Left W = refl
-turn_flipped Left NW = refl
+turn_flipped s d =
+    same_dir _ _ (at_both (λ s d. is_dir (turn s (flipped d)) (flipped (turn (other s) d))) refl s d)
 
 quarter_flipped : (s : Side) (d : Dir) → quarter s (flipped d) ≡ flipped (quarter (other s) d)
 quarter_flipped s d = ap (λ (e : Dir). turn s e) (turn_flipped s d) ∙ turn_flipped s (turn (other s) d)
@@ -44,14 +31,7 @@ rear_flipped : (s : Side) (d : Dir) → rear s (flipped d) ≡ flipped (rear (ot
 rear_flipped s d = ap (λ (e : Dir). turn s e) (quarter_flipped s d) ∙ turn_flipped s (quarter (other s) d)
 
 diagonal_flipped : (d : Dir) → is_diagonal (flipped d) ≡ is_diagonal d
-diagonal_flipped N = refl
-diagonal_flipped NE = refl
-diagonal_flipped E = refl
-diagonal_flipped SE = refl
-diagonal_flipped S = refl
-diagonal_flipped SW = refl
-diagonal_flipped W = refl
-diagonal_flipped NW = refl
+diagonal_flipped d = same_bool-is _ _ (at_dir (λ d. same_bool (is_diagonal (flipped d)) (is_diagonal d)) refl d)
 
 place_flipped : (d : Dir) (x : ℕ) → place_after d x ≡ place_after (flipped d) x
 place_flipped N x = refl

@@ -1,5 +1,5 @@
 -- Where entries stand, and tables with one entry changed.
-use Rattle.std.proofs.Common.{◌≡◌, ℕ, ◌+◌, ◌*◌, ◌<◌, arith, List, length, true, false, refl, ap, ◌∙◌, get_or-set_other, get_or-set_same, length-set}
+use Rattle.std.proofs.Common.{◌≡◌, ℕ, ◌+◌, ◌*◌, ◌<◌, arith, List, length, true, false, refl, ap, ◌∙◌, get_or-set_other, get_or-set_same}
 use Rattle.std.specs.Prelude.{ℤ, pos, nat_eq, slice_index_or}
 use Rattle.std.proofs.lemmas.List.{get_or_read}
 use Rattle.std.proofs.lemmas.Bool.Decides.{nat_tests}
@@ -68,13 +68,6 @@ pub entry_at-with_other : (t : TablesData) (b c : Cell) (d e : Dir) (entry : ℤ
 entry_at-with_other t b c d e entry on on_too other =
     get_or-set_other t.entries (entry_place t.width c d) (entry_place t.width b e) entry (pos 0)
     (λ same. let one = one_place t b c d e on on_too same in absurd (cc))
-
-pub is_whole-with : (t : TablesData) (c : Cell) (d : Dir) (entry : ℤ) → IsWhole t
-    → IsWhole (tables_with t c d entry)
-is_whole-with t c d entry whole = record {
-  sides = whole.sides;
-  whole = length-set t.entries (entry_place t.width c d) entry ∙ whole.whole;
-}
 
 -- the same as code sees it: the tables, as they are seen from outside, have the place that was computed
 pub place_in : (t now : TablesData) (c : Cell) (d : Dir) → t ≡ now → IsWhole t → is_on now c ≡ true

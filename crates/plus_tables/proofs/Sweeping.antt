@@ -1,26 +1,17 @@
 -- Sweeps, and what they leave.
-use Rattle.std.proofs.Common.{◌≡◌, ℕ, arith, Bool, true, false, ◌&&◌, ◌||◌, List, length, refl, sym, ◌∙◌}
-use Rattle.std.specs.Prelude.{ℤ, pos, nat_lt, nat_le}
+use Rattle.std.proofs.Common.{◌≡◌, ℕ, arith, Bool, true, false, ◌&&◌, ◌||◌, List, length, refl, ◌∙◌}
+use Rattle.std.specs.Prelude.{ℤ, nat_lt, nat_le}
 use Rattle.std.proofs.lemmas.Bool.Decides.{nat_tests}
 use Rattle.grid_moves.specs.declared.Cell.{Cell}
 use Rattle.grid_moves.specs.declared.Dir.{Dir}
-use Rattle.grid_moves.specs.Grid.{GridData, IsGrid, is_inside, is_free}
+use Rattle.grid_moves.specs.Grid.{GridData, is_inside}
 use Rattle.grid_moves.proofs.Legal.{and_both}
-use Rattle.plus_tables.specs.Tables.{TablesData, AreSized, AreTablesOf, entry_at, is_on}
+use Rattle.plus_tables.specs.Tables.{TablesData, AreSized, is_on}
 use Rattle.plus_tables.specs.Sweep.{AreRight, is_upward, above, from_row}
 use Rattle.plus_tables.specs.Laid.{AreGrown}
 
 pub on_inside : (t : TablesData) (g : GridData) (c : Cell) → AreSized t g → is_on t c ≡ is_inside g c
 on_inside t g c sized = rw (sized.width, sized.height) refl
-
--- where no cell is free all entries are 0
-pub right_blank : (t : TablesData) (g : GridData) → IsGrid g → AreSized t g
-    → ((c : Cell) (d : Dir) → entry_at t c d ≡ pos 0) → ((c : Cell) → is_free g c ≡ false) → AreTablesOf t g
-right_blank t g whole sized blank none = record {
-  sized = sized;
-  whole = whole;
-  right = λ c d inside. blank c d ∙ sym (rw (none c) refl);
-}
 
 -- before the first row nothing has to be right, and after the last all that leads up or along a row is
 pub grown_none : (g : GridData) (entries : List ℤ) → length entries ≡ 0 → AreGrown g 0 entries
