@@ -39,6 +39,7 @@ impl Beside {
     }
 
     /// Follows an edit of the grid: this cell became free, or is so no more.
+    #[tactic(auto, using(bit_grid::proofs::Showing::on_map))]
     pub(crate) fn follow<L: Ledger>(&mut self, grid: &Grid, c: Cell, steps: &mut Steps<L>)
         requires was { (g : GridData) × (free : _) × IsOf g self.old × (is_inside g c ≡ true)
             × (grid.now ≡ grid_with g c free) }

@@ -4,8 +4,7 @@ use Rattle.std.proofs.lemmas.List.{append_assoc}
 use Rattle.std.specs.Prelude.{Option, Some, None, not, if◌then◌else◌, IfSome, option_and_then}
 use Rattle.root2_cost.specs.declared.Cost.{Cost}
 use Rattle.root2_cost.specs.Sums.{add_costs, no_cost}
-use Rattle.root2_cost.proofs.AtMost.{IsAtMost-trans}
-use Rattle.root2_cost.proofs.Sums.{add_costs-assoc, add_costs-no_cost_right, IsAtMost-add_left, no_cost_at_most}
+use Rattle.root2_cost.proofs.Sums.{add_costs-assoc, add_costs-no_cost_right, no_cost_at_most}
 use Rattle.grid_moves.specs.declared.Cell.{Cell}
 use Rattle.grid_moves.specs.declared.Dir.{Dir}
 use Rattle.grid_moves.specs.Grid.{GridData, is_free, is_inside}
@@ -19,7 +18,7 @@ use Rattle.grid_moves.proofs.Short.{least_rest, least_steps, move_counts}
 use Rattle.path_points.specs.Corners.{corners, goes_straight, turns_after}
 use Rattle.path_points.proofs.Corners.{corners_unfold}
 use Rattle.path_points.proofs.Joined.{cost_counts}
-use Rattle.cost_waves.specs.Begin.{Begins}
+use Rattle.cost_waves.proofs.Falling.{goes_over, least_on}
 use Rattle.first_moves.specs.First.{IsFirstMove}
 use Rattle.first_moves.specs.Follow.{LeadsTo, IsNext, AreFirst, IsFollowed}
 
@@ -62,34 +61,10 @@ pub inside_next : (g : GridData) (s t : Cell) (r : Option Cell) → IsNext g s t
 inside_next g s t None n = tt
 inside_next g s t (Some v) n = next_inside g s n.dir (Some v) (sym n.ahead)
 
--- a least walk from s to t over v
-record LeastOver (g : GridData) (s t v : Cell) : Type 0 where
-  cells : List Cell
-  least : IsLeastWalk g s t (v ∷ cells)
-
-some_cell : (u v : Cell) → Some u ≡ Some v → u ≡ v
-some_cell u v e = ap (λ (o : Option Cell). elim o as (λ _. Cell) [ Some c ↦ c | None ↦ u ]) e
-
-least_over : (g : GridData) (s t v : Cell) → LeadsTo g s t v → LeastOver g s t v
-least_over g s t v l =
-    let b : Begins g s t l.dir = l.first.0 in
-    let same : b.next ≡ v = some_cell b.next v (sym b.ahead ∙ l.ahead) in
-    record { cells = b.cells; least = subst (λ (c : Cell). IsLeastWalk g s t (c ∷ b.cells)) same b.least }
-
 -- a first move goes on over any least walk from its end
 pub over_first : (g : GridData) (s t v : Cell) → LeadsTo g s t v → (rest : List Cell) → IsLeastWalk g v t rest
     → IsLeastWalk g s t (v ∷ rest)
-over_first g s t v l rest w =
-    let legal = legal_ahead-is g s v l.dir l.ahead in
-    let first = least_over g s t v l in
-    record {
-      walk = record { legal = rw (legal, w.walk.legal) refl; ends = w.walk.ends };
-      least = λ others o. IsAtMost-trans (cost_of (s ∷ v ∷ rest)) (cost_of (s ∷ v ∷ first.cells))
-          (cost_of (s ∷ others))
-          (IsAtMost-add_left (move_cost s v) (cost_of (v ∷ rest)) (cost_of (v ∷ first.cells))
-          (w.least first.cells (least_rest g s t v first.cells first.least).walk))
-          (first.least.least others o);
-    }
+over_first g s t v l rest w = least_on g s v t l.dir rest l.ahead l.first.0 w
 
 -- On the way of first moves from s to t, after at least one move: what any cells that follow make of it.
 pub record IsUnderWay (g : GridData) (s t before at : Cell) (points : List Cell) (cost : Cost) : Type 0 where
@@ -105,7 +80,7 @@ pub record IsUnderWay (g : GridData) (s t before at : Cell) (points : List Cell)
 pub set_out : (g : GridData) (s t v : Cell) → LeadsTo g s t v
     → IsUnderWay g s t s v (s ∷ []) (move_cost s v)
 set_out g s t v l =
-    let over = least_over g s t v l in
+    let over = goes_over g s v t l.dir l.ahead l.first.0 in
     record {
       way = v ∷ [];
       first = λ rest f. (l, f);
@@ -122,7 +97,7 @@ pub one_on : (g : GridData) (s t before at v : Cell) (points points1 : List Cell
     → points1 ≡ (if goes_straight before at v then points else points ++ (at ∷ []))
     → IsUnderWay g s t at v points1 (add_costs cost (move_cost at v))
 one_on g s t before at v points points1 cost w l e =
-    let over = least_over g at t v l in
+    let over = goes_over g at v t l.dir l.ahead l.first.0 in
     record {
       way = w.way ++ (v ∷ []);
       first = λ rest f. subst (λ (c : List Cell). AreFirst g t s c) (sym (joined rest)) (w.first (v ∷ rest) (l, f));

@@ -5,7 +5,7 @@ use Rattle.std.proofs.lemmas.Bool.Decides.{nat_tests}
 use Rattle.root2_cost.specs.declared.Cost.{Cost}
 use Rattle.root2_cost.specs.Order.{IsAtMost}
 use Rattle.root2_cost.specs.Sums.{add_costs}
-use Rattle.root2_cost.proofs.AtMost.{IsAtMost-antisymmetric}
+use Rattle.root2_cost.proofs.AtMost.{IsAtMost-antisymmetric, IsAtMost-refl}
 use Rattle.root2_cost.proofs.Sums.{add_costs-comm}
 use Rattle.grid_moves.specs.declared.Cell.{Cell}
 use Rattle.grid_moves.specs.declared.Dir.{Dir}
@@ -18,6 +18,7 @@ use Rattle.grid_moves.proofs.Short.{least_rest, least_steps}
 use Rattle.path_points.proofs.Joined.{cost_counts}
 use Rattle.cost_waves.specs.Begin.{Begins, IsCostTo, IsLeastCost}
 use Rattle.cost_waves.specs.Told.{WaveData, cost_at}
+use Rattle.cost_waves.proofs.Falling.{least_by_move}
 use Rattle.first_moves.specs.First.{IsFirstMove, first_where}
 use Rattle.first_moves.specs.Follow.{IsNext}
 use Rattle.first_moves.specs.Inward.{IsPassFrom, is_same_cost, is_saved, leads, leads_to}
@@ -102,14 +103,9 @@ module _ (g : GridData) (goal : Cell) (w : WaveData) (p : IsPassFrom g goal w) w
             next = v;
             ahead = e;
             cells = m.cells;
-            least = record {
-              walk = record {
-                legal = rw (legal_ahead-is g c v d e, m.least.walk.legal) refl;
-                ends = m.least.walk.ends;
-              };
-              least = λ others o. subst (λ (x : Cost). IsAtMost x (cost_of (c ∷ others))) (sym total)
-                  (l.least.least others o);
-            };
+            least = least_by_move g c v goal d l.cells m.cells e l.least m.least.walk
+                (subst (λ (x : Cost). IsAtMost x (cost_of (c ∷ l.cells))) (sym total)
+                (IsAtMost-refl (cost_of (c ∷ l.cells))));
           }
 
       by_ahead : (o : Option Cell) → legal_ahead g c d ≡ o → leads_to w c o ≡ true → Begins g c goal d

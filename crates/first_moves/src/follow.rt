@@ -63,14 +63,14 @@ fn walk_by<G: Guide, T: Terrain, L: Ledger>(
     if from == to {
         return Ok(Some((points, Cost { a: 0, b: 0 })));
     }
-    let mut near = None;
-    let Some(mut at) = guide.next(t, from, to, &mut near, steps) else {
+    let mut part = None;
+    let Some(mut at) = guide.next(t, from, to, &mut part, steps) else {
         return Ok(None);
     };
     let mut before = from;
     let mut cost = move_cost(from, at);
     while at != to {
-        let Some(next) = guide.next(t, at, to, &mut near, steps) else {
+        let Some(next) = guide.next(t, at, to, &mut part, steps) else {
             unreachable!()
         };
         push_turn(&mut points, before, at, next)?;

@@ -25,14 +25,14 @@ pub(crate) trait Guide {
     /// The grids and the goals for which it stands.
     ghost StandsFor: { Self → GridData → Cell → Type 0 };
 
-    /// The cell to which the first move leads, `None` where there is none. It counts one step. `near` is for what
-    /// the guide found last on this walk.
+    /// The cell to which the first move leads, `None` where there is none. It counts one step. `part` is
+    /// what a guide remembers along a walk.
     fn next<T: Terrain, L: Ledger>(
         &self,
         t: &T,
         from: Cell,
         to: Cell,
-        near: &mut Option<usize>,
+        part: &mut Option<u32>,
         steps: &mut Steps<L>,
     ) -> Option<Cell>
         requires stands { StandsFor self.now (T.grid t.now) to }
@@ -52,10 +52,10 @@ impl Guide for Moves {
         _t: &T,
         from: Cell,
         to: Cell,
-        near: &mut Option<usize>,
+        part: &mut Option<u32>,
         steps: &mut Steps<L>,
     ) -> Option<Cell> {
-        self.next_near(from, to, near, steps)
+        self.next_near(from, to, part, steps)
     }
 }
 
@@ -97,7 +97,7 @@ impl Guide for CostWaves {
         t: &T,
         from: Cell,
         _to: Cell,
-        _near: &mut Option<usize>,
+        _part: &mut Option<u32>,
         steps: &mut Steps<L>,
     ) -> Option<Cell> {
         steps.tick();

@@ -135,38 +135,38 @@ impl Moves {
         ensures first { (g : GridData) → AreMoves g self.now → IsFirstMove g s t result }
         ensures steps { steps.new ≡ steps.old + 1 }
     {
-        self.first_near(s, t, None, steps).0
+        self.first_near(s, t, &mut None, steps)
     }
 
-    // The same, looked for from a run on, if one is told, and the run in which it is found.
+    // The same for one cell after another, by the part of the runs that is known since the first one.
     #[inline(always)]
     fn first_near<L: Ledger>(
         &self,
         s: Cell,
         t: Cell,
-        near: Option<usize>,
+        part: &mut Option<u32>,
         steps: &mut Steps<L>,
-    ) -> (Option<Dir>, usize)
+    ) -> Option<Dir>
         requires column { s.x < self.now.width }
         requires row { s.y < self.now.height }
         requires goal_column { t.x < self.now.width }
         requires goal_row { t.y < self.now.height }
-        ensures first { (g : GridData) → AreMoves g self.now → IsFirstMove g s t result.0 }
+        ensures first { (g : GridData) → AreMoves g self.now → IsFirstMove g s t result }
         ensures narrow { s.x < 4096 }
         ensures low { s.y < 4096 }
         ensures steps { steps.new ≡ steps.old + 1 }
     {
         steps.tick();
-        self.row(s).first_near(number_of(self.width, t), near)
+        self.row(s).first_near(number_of(self.width, t), part)
     }
 
-    /// The cell to which the first move leads. It is looked for from run `near` on, if one is told, and `near` is
-    /// then the run in which it was found: in rows of cells nearby a goal stands in runs nearby.
+    /// The cell to which the first move leads, asked for one cell of a walk after another: `part` is none at first,
+    /// and then it tells where in a row the goal's run is to be looked for.
     pub(crate) fn next_near<L: Ledger>(
         &self,
         s: Cell,
         t: Cell,
-        near: &mut Option<usize>,
+        part: &mut Option<u32>,
         steps: &mut Steps<L>,
     ) -> Option<Cell>
         requires column { s.x < self.now.width }
@@ -176,9 +176,7 @@ impl Moves {
         ensures next { (g : GridData) → AreMoves g self.now → IsNext g s t result }
         ensures steps { steps.new ≡ steps.old + 1 }
     {
-        let (first, run) = self.first_near(s, t, *near, steps);
-        *near = Some(run);
-        match first {
+        match self.first_near(s, t, part, steps) {
             Some(d) => cell_ahead(d, s),
             None => None,
         }

@@ -17,8 +17,11 @@ use grid_moves::{Cell, Dir, Terrain, dir_number};
 use std::alloc::Global;
 use std::marker::Model;
 
-// How far a search looks at first, in runs: those of a line of memory.
-const FIRST_REACH: usize = 16;
+// How far a search looks at first, in runs.
+const FIRST_REACH: usize = 8;
+
+// The parts of a row's runs in which the place of a run is told.
+const PARTS: usize = 65536;
 
 /// A run of equal first moves. It takes four bytes.
 #[derive(Clone, Copy, Debug, PartialEq, Eq)]
@@ -170,10 +173,10 @@ fn span_near(runs: &[Run], number: u32, near: Option<usize>) -> (usize, usize)
     }
 }
 
-// The first move to the cell of this number: that of the last run which begins at or before it. With it the place
-// of this run, near which that in the row of a cell nearby is found soon.
+// The first move to the cell of this number: that of the last run which begins at or before it. With it this run.
 fn search(runs: &[Run], number: u32, near: Option<usize>) -> (Option<Dir>, usize)
-    ensures { (members : List (Option Dir)) → runs.now ≡ runs_of members → number < length members
+    ensures run { result.1 ≤ length runs.now }
+    ensures first { (members : List (Option Dir)) → runs.now ≡ runs_of members → number < length members
         → result.0 ≡ slice_index_or members number None }
 {
     if runs.is_empty() {
@@ -308,15 +311,35 @@ impl Row {
         ensures { (g : GridData) (s t : Cell) → IsRow g s self.now → is_inside g t ≡ true
             → number ≡ cell_number g.width t → IsFirstMove g s t result }
     {
-        self.first_near(number, None).0
+        self.find(number, None).0
     }
 
-    // The same, looked for from a run on, if one is told, and the place of the run in which it is found.
+    // The same, looked for from a run on, if one is told, and the run in which it is found.
     #[inline(always)]
-    pub(crate) fn first_near(&self, number: u32, near: Option<usize>) -> (Option<Dir>, usize)
-        ensures { (g : GridData) (s t : Cell) → IsRow g s self.now → is_inside g t ≡ true
+    fn find(&self, number: u32, near: Option<usize>) -> (Option<Dir>, usize)
+        ensures first { (g : GridData) (s t : Cell) → IsRow g s self.now → is_inside g t ≡ true
             → number ≡ cell_number g.width t → IsFirstMove g s t result.0 }
+        ensures run { result.1 ≤ length self.now }
     {
         search(self.runs.as_slice(), number, near)
+    }
+
+    // The same for one row after another. In rows of cells nearby the run of a goal stands after much the same part
+    // of all runs: `part` is this part, once it is known. It stays that of the first row, so that the processor need
+    // not wait for one row before it reads the next.
+    #[inline(always)]
+    pub(crate) fn first_near(&self, number: u32, part: &mut Option<u32>) -> Option<Dir>
+        ensures { (g : GridData) (s t : Cell) → IsRow g s self.now → is_inside g t ≡ true
+            → number ≡ cell_number g.width t → IsFirstMove g s t result }
+    {
+        let runs = self.runs.len();
+        match *part {
+            Some(known) => self.find(number, Some(known as usize * runs / PARTS)).0,
+            None => {
+                let (first, run) = self.find(number, None);
+                *part = Some((run * PARTS / runs.max(1)) as u32);
+                first
+            }
+        }
     }
 }

@@ -1,17 +1,18 @@
 -- Each free cell has its boxes, apart from the code that finds them.
-use Rattle.std.proofs.Common.{◌≡◌, ◌≤◌, ◌<◌, ◌+◌, ◌⊎◌, inl, inr, ℕ, zero, suc, Bool, true, false, refl, ap, sym, ◌∙◌, subst, arith, List, ◌∷◌}
+use Rattle.std.proofs.Common.{◌≡◌, ◌≤◌, ◌<◌, ◌+◌, ◌⊎◌, inl, inr, ℕ, zero, suc, Bool, true, false, refl, ap, sym, ◌∙◌, subst, arith, ◌∷◌}
 use Rattle.std.specs.Prelude.{Option, Some, None, IfOk, Ok, Err}
 use Rattle.std.specs.declared.result.Result.{Result}
-use Rattle.root2_cost.proofs.AtMost.{IsAtMost-or_more, IsAtMost-not_more, IsAtMost-trans}
-use Rattle.root2_cost.proofs.Sums.{IsAtMost-add_left}
+use Rattle.root2_cost.proofs.AtMost.{IsAtMost-or_more, IsAtMost-not_more}
 use Rattle.grid_moves.specs.declared.Cell.{Cell}
 use Rattle.grid_moves.specs.declared.Dir.{Dir}
 use Rattle.grid_moves.specs.Grid.{GridData, is_free}
-use Rattle.grid_moves.specs.Move.{legal_ahead, move_cost}
-use Rattle.grid_moves.specs.Walk.{IsLeastWalk, cost_of}
+use Rattle.grid_moves.specs.Move.{legal_ahead}
+use Rattle.grid_moves.specs.Walk.{cost_of}
 use Rattle.grid_moves.proofs.Ahead.{legal_ahead-is}
 use Rattle.grid_moves.proofs.Legal.{free_inside, legal_is}
+use Rattle.grid_moves.proofs.Short.{least_rest}
 use Rattle.cost_waves.specs.Begin.{Begins}
+use Rattle.cost_waves.proofs.Falling.{goes_over, least_by_move, least_on}
 use Rattle.goal_boxes.specs.declared.area.Area.{Area}
 use Rattle.goal_boxes.specs.declared.around.CellBoxes.{CellBoxes}
 use Rattle.goal_boxes.specs.declared.boxed.Boxed.{Boxed}
@@ -21,21 +22,7 @@ use Rattle.goal_boxes.specs.Offers.{Agree}
 use Rattle.goal_boxes.specs.Stored.{BoxData, box_at, HoldsBoxes}
 use Rattle.goal_boxes.specs.Wide.{widened, Scanned}
 use Rattle.goal_boxes.proofs.Growing.{cell, one_of_kind, one_of_other, row_scanned, none_scanned, same_area, end_of_walk}
-use Rattle.goal_boxes.proofs.Right.{HasLeastWalk, by_walk, by_none, least_or_none, rest_is_least}
-
-some_cell : (u v : Cell) → Some u ≡ Some v → u ≡ v
-some_cell u v e = ap (λ (o : Option Cell). elim o as (λ _. Cell) [ Some c ↦ c | None ↦ u ]) e
-
--- the rest of a least walk that begins with this move
-record GoesOver (g : GridData) (u v t : Cell) : Type 0 where
-  cells : List Cell
-  least : IsLeastWalk g u t (v ∷ cells)
-
-goes_over : (g : GridData) (u v t : Cell) (d : Dir) → legal_ahead g u d ≡ Some v → Begins g u t d
-    → GoesOver g u v t
-goes_over g u v t d e b =
-    let same : b.next ≡ v = some_cell b.next v (sym b.ahead ∙ e) in
-    record { cells = b.cells; least = subst (λ (c : Cell). IsLeastWalk g u t (c ∷ b.cells)) same b.least }
+use Rattle.goal_boxes.proofs.Right.{HasLeastWalk, by_walk, by_none, least_or_none}
 
 -- a move begins a least walk, or it does not
 begins_or_not : (g : GridData) (u : Cell) (d : Dir) → is_free g u ≡ true → (t : Cell)
@@ -47,26 +34,17 @@ begins_or_not g u d free t = by_ahead (legal_ahead g u d) refl
     by_walks v e (by_none none) other = inr (λ b. none (b.next ∷ b.cells) b.least.walk)
     by_walks v e (by_walk cells l) (by_none none) = inr (λ b.
         let o = goes_over g u v t d e b in
-        none o.cells (rest_is_least g u v t o.cells o.least).walk)
+        none o.cells (least_rest g u t v o.cells o.least).walk)
     by_walks v e (by_walk cells l) (by_walk rest m) =
         elim (IsAtMost-or_more (cost_of (u ∷ v ∷ rest)) (cost_of (u ∷ cells))) [
           | inl a ↦ inl (record {
             next = v;
             ahead = e;
             cells = rest;
-            least = record {
-              walk = record { legal = rw (legal_ahead-is g u v d e, m.walk.legal) refl; ends = m.walk.ends };
-              least = λ others o. IsAtMost-trans (cost_of (u ∷ v ∷ rest)) (cost_of (u ∷ cells))
-                  (cost_of (u ∷ others)) a (l.least others o);
-            };
+            least = least_by_move g u v t d cells rest e l m.walk a;
           })
-          | inr more ↦ inr (λ b.
-              let o = goes_over g u v t d e b in
-              IsAtMost-not_more (cost_of (u ∷ v ∷ rest)) (cost_of (u ∷ cells))
-              (IsAtMost-trans (cost_of (u ∷ v ∷ rest)) (cost_of (u ∷ v ∷ o.cells)) (cost_of (u ∷ cells))
-              (IsAtMost-add_left (move_cost u v) (cost_of (v ∷ rest)) (cost_of (v ∷ o.cells))
-              (m.least o.cells (rest_is_least g u v t o.cells o.least).walk))
-              (o.least.least cells l.walk)) more)
+          | inr more ↦ inr (λ b. IsAtMost-not_more (cost_of (u ∷ v ∷ rest)) (cost_of (u ∷ cells))
+              ((least_on g u v t d rest e b m).least cells l.walk) more)
         ]
 
     by_ahead : (o : Option Cell) → legal_ahead g u d ≡ o → (Begins g u t d) ⊎ (Begins g u t d → ⊥)

@@ -5,7 +5,6 @@ use Rattle.root2_cost.specs.declared.Cost.{Cost}
 use Rattle.root2_cost.specs.Order.{IsAtMost}
 use Rattle.root2_cost.specs.Sums.{add_costs}
 use Rattle.root2_cost.proofs.AtMost.{IsAtMost-trans}
-use Rattle.root2_cost.proofs.Sums.{IsAtMost-cancel_left}
 use Rattle.grid_moves.specs.declared.Cell.{Cell}
 use Rattle.grid_moves.specs.declared.Dir.{Dir}
 use Rattle.grid_moves.specs.Grid.{GridData, is_free}
@@ -15,6 +14,7 @@ use Rattle.grid_moves.specs.Reply.{StandsForLeast}
 use Rattle.grid_moves.specs.Walk.{is_walk, cost_of, last_of, IsWalk, IsLeastWalk, NoWalk}
 use Rattle.grid_moves.proofs.Ahead.{legal_ahead-of}
 use Rattle.grid_moves.proofs.Legal.{and_both, legal_is, is_same-itself}
+use Rattle.grid_moves.proofs.Short.{least_rest}
 use Rattle.path_points.specs.Corners.{corners}
 use Rattle.path_points.proofs.Corners.{corners_unfold}
 use Rattle.search_run.specs.Chain.{Chain, stays, goes_on}
@@ -42,18 +42,6 @@ box_holds : (g : GridData) (u t : Cell) (d : Dir) (o : Option Area) → IsBox g 
 box_holds g u t d None none w = absurd (none t w)
 box_holds g u t d (Some a) box w = box.all t w
 
--- after its first move a least walk goes on as one
-pub rest_is_least : (g : GridData) (u v t : Cell) (cells : List Cell) → IsLeastWalk g u t (v ∷ cells)
-    → IsLeastWalk g v t cells
-rest_is_least g u v t cells w =
-    let parts = and_both (is_legal g u v) (is_walk g (v ∷ cells)) w.walk.legal in
-    record {
-      walk = record { legal = parts.1; ends = w.walk.ends };
-      least = λ others o.
-          IsAtMost-cancel_left (move_cost u v) (cost_of (v ∷ cells)) (cost_of (v ∷ others))
-          (w.least (v ∷ others) (record { legal = rw (parts.0, o.legal) refl; ends = o.ends }));
-    }
-
 -- so a least walk to t is a chain of its cost
 pub least_chain : (g : GridData) (b : BoxTeller) (t : Cell) → TellsBoxes g b → (u : Cell) (cells : List Cell)
     → IsLeastWalk g u t cells → Chain (boxed_rule g b t) (start_at u) (start_at (last_of u cells)) (cost_of (u ∷ cells))
@@ -65,7 +53,7 @@ least_chain g b t boxes u (v ∷ cells) w =
     let held : is_toward t (b u d.0) ≡ true =
     box_holds g u t d.0 (b u d.0) (boxes.boxes u (legal_is g u v parts.0).source d.0) begins in
     goes_on (start_at u) (start_at v) (start_at (last_of v cells)) (move_cost u v) (cost_of (v ∷ cells))
-    (held_link g b t u d.0 v d.1 held) (least_chain g b t boxes v cells (rest_is_least g u v t cells w))
+    (held_link g b t u d.0 v d.1 held) (least_chain g b t boxes v cells (least_rest g u t v cells w))
 
 cells-last : (way : List State) (s : State) → cells_of (way ++ s ∷ []) ≡ cells_of way ++ s.cell ∷ []
 cells-last [] s = refl

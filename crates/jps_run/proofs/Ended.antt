@@ -7,13 +7,13 @@ use Rattle.word_list.specs.Calls.{is_call}
 use Rattle.word_list.specs.Request.{Call}
 use Rattle.word_list.specs.Rule.{IsBadWord}
 use Rattle.jps_run.specs.Ending.{Comes, Gets, HasFailed, HasLines, HasPart, of_file, of_input, of_all, of_taken, none, some, first}
-use Rattle.jps_run.specs.FaultLines.{word_line}
-use Rattle.jps_run.specs.Files.{HasRefused, FileRose}
-use Rattle.jps_run.specs.Heard.{AreHeard, WroteHeard, WrotePending, WroteSomeTaken, WroteLinesTaken}
+use Rattle.call_files.specs.FaultLines.{word_line}
+use Rattle.call_files.specs.Files.{HasRefused, FileRose}
+use Rattle.jps_run.specs.Live.{AreHeard, WroteHeard, WrotePending, WroteSomeTaken, WroteLinesTaken}
 use Rattle.jps_run.specs.Calls.{files_of, reads_input}
 use Rattle.jps_run.specs.Outcome.{Spell, IsOutput, answered, bad_line, bad_word, bad_text, done}
-use Rattle.jps_run.specs.Sending.{IsAll, IsPart, AreLines, Wrote}
-use Rattle.jps_run.proofs.Pieces.{nothing}
+use Rattle.line_work.specs.Sending.{IsAll, IsPart, AreLines, Wrote}
+use Rattle.line_work.proofs.Pieces.{nothing}
 
 module _ (words : List (List ℕ)) (holds : List ℕ → Held) (input : Option (List ℕ)) (out out_now err err_now : Outflow)
   where

@@ -7,12 +7,13 @@ use Rattle.edit_replay.specs.Session.{SessionData}
 use Rattle.edit_replay.specs.declared.reply.Reply.{Reply}
 use Rattle.script_text.specs.declared.command.Command.TheVariants.{Query}
 use Rattle.word_list.specs.declared.request.Show.{Show}
-use Rattle.jps_run.specs.Answers.{AreAnswers, IsReplyLine}
-use Rattle.jps_run.specs.Counting.{CommandsTake, QueryTakes, RoseBy, RoseForQuery}
-use Rattle.jps_run.specs.Lines.{reply_line}
+use Rattle.session_lines.specs.Answers.{AreAnswers, IsReplyLine}
+use Rattle.who_answers.specs.Taking.{QueryTakes, RoseBy, RoseForQuery}
+use Rattle.session_lines.specs.Counts.{CommandsTake}
+use Rattle.session_lines.specs.Lines.{reply_line}
 use Rattle.jps_run.specs.Querying.{IsOneReply}
-use Rattle.jps_run.specs.Who.{Who, IsReplyBy, fewest_by, who_is}
-use Rattle.jps_run.proofs.Solving.{nothing_edited}
+use Rattle.who_answers.specs.Who.{Who, IsReplyBy, fewest_by, who_is}
+use Rattle.session_lines.proofs.Solving.{nothing_edited}
 
 -- a session that is asked one query as its script
 module _ (d : SessionData) (show : Show) (sx sy gx gy : ℕ) where

@@ -3,24 +3,16 @@ use Rattle.std.specs.Prelude.{◌≡◌, ℕ, Bool, true, false, List, [], ◌�
 use Rattle.io_edge.specs.Told.{Held}
 use Rattle.word_list.specs.Request.{Asked, Call, Help, Version, Query, Solve, Live, Scen, Judge, Prove, Check, Make, Drill, Draw, Costs, Tables, Boxes, Moves}
 use Rattle.word_list.specs.declared.request.Settings.{Settings}
-use Rattle.jps_run.specs.Files.{AreAccepted, File, file_of}
-use Rattle.jps_run.specs.Session.{corner_of}
-use Rattle.jps_run.specs.Kinds.{extent_for, kind_for}
-use Rattle.jps_run.specs.declared.kind.Kind.{Kind}
-use Rattle.jps_run.specs.declared.kind.Kind.TheVariants as kind
+use Rattle.call_files.specs.Files.{AreAccepted, File, file_of}
+use Rattle.call_files.specs.Layered.{corner_of}
+use Rattle.call_files.specs.Kinds.{extent_for, kind_for}
+use Rattle.call_files.specs.declared.kind.Kind.{Kind}
+use Rattle.call_files.specs.declared.kind.Kind.TheVariants as kind
+use Rattle.call_files.specs.MapFiles.{map_files}
 
 -- a call by what is asked for and how
 abbrev pub call_with : Asked → Settings → Call
 call_with asked set = record { request = asked; settings = set }
-
--- the kind of the map where an engine of small maps may be picked
-abbrev pub map_kind : Settings → Kind
-map_kind set = kind_for (extent_for set.pick)
-
--- the files that are read for whoever answers: that of the map, and the table file where one is named
-abbrev pub map_files : Settings → List ℕ → Option (List ℕ) → List File
-map_files set map None = file_of (map_kind set) map ∷ []
-map_files set map (Some tables) = file_of kind.Map map ∷ file_of (kind.Tables (corner_of set.one)) tables ∷ []
 
 -- the files of what is asked for, as the settings ask, in the order in which they are read
 abbrev asked_files : Settings → Asked → List File

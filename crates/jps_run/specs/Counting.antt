@@ -1,15 +1,11 @@
 -- How many steps a call counts at least: so many for each state that its searches take away from their goals.
 use Rattle.std.specs.Prelude.{◌≡◌, ℕ, ◌+◌, ◌*◌, ◌≤◌, Bool, true, false, List, [], ◌∷◌, ◌++◌, sum, Option, None, Ok}
 use Rattle.io_edge.specs.Told.{Held}
-use Rattle.grid_moves.specs.declared.Cell.{Cell}
 use Rattle.map_text.specs.Map.{Map}
 use Rattle.map_text.specs.Faults.{map_of}
 use Rattle.map_maker.specs.Drill.{drill_commands}
 use Rattle.map_maker.specs.Making.{made_map}
-use Rattle.edit_replay.specs.Counting.{fewest_of, states_away}
-use Rattle.edit_replay.specs.Edited.{Edit}
-use Rattle.edit_replay.specs.Session.{SessionData}
-use Rattle.edit_replay.specs.declared.reply.Reply.{Reply}
+use Rattle.edit_replay.specs.Counting.{fewest_of}
 use Rattle.script_text.specs.declared.command.Command.{Command}
 use Rattle.script_text.specs.declared.command.Command.TheVariants as command
 use Rattle.script_text.specs.Faults.{script_of}
@@ -17,65 +13,16 @@ use Rattle.scen_text.specs.declared.entry.Entry.{Entry}
 use Rattle.scen_text.specs.Faults.{scen_of}
 use Rattle.word_list.specs.Request.{Asked, Call, Help, Version, Query, Solve, Live, Scen, Judge, Prove, Check, Make, Drill, Draw, Costs, Tables, Boxes, Moves}
 use Rattle.word_list.specs.declared.request.Settings.{Settings}
-use Rattle.jps_run.specs.Answers.{edits_with}
-use Rattle.jps_run.specs.Files.{AreAccepted}
-use Rattle.jps_run.specs.Heard.{IsHeard, IsTold, OnLive}
+use Rattle.call_files.specs.Files.{AreAccepted}
+use Rattle.live_lines.specs.Heard.{RoseHeard}
+use Rattle.jps_run.specs.Live.{OnLive}
 use Rattle.jps_run.specs.Calls.{call_with, files_of}
 use Rattle.jps_run.specs.Outcome.{Spell}
-use Rattle.jps_run.specs.Rows.{has_sides}
-use Rattle.jps_run.specs.Session.{OnSession, by_of, session_after, who_on}
-use Rattle.jps_run.specs.Turns.{AreInTurn}
-use Rattle.jps_run.specs.Who.{Who, who_is, IsReplyBy, fewest_by}
-
--- what comes to a right reply to the query takes so many states away from the goal
-pub record QueryTakes (who : Who) (s t : Cell) (n : ℕ) : Type 0 where
-  pub reply : Reply
-  pub is_reply : IsReplyBy who s t reply
-  pub away : n ≡ states_away reply
-
--- so many are taken for a command: for an edit none
-abbrev pub CommandTakes : SessionData → Command → ℕ → Type 0
-CommandTakes d (command.Block x y) n = n ≡ 0
-CommandTakes d (command.Free x y) n = n ≡ 0
-CommandTakes d (command.Flood x y) n = n ≡ 0
-CommandTakes d (command.Query sx sy gx gy) n =
-    QueryTakes (who_is d) (record { x = sx; y = sy }) (record { x = gx; y = gy }) n
-
--- on the map's session as these edits leave it
-abbrev pub TakesAfter : SessionData → List Edit → Command → ℕ → Type 0
-TakesAfter d edits c n = CommandTakes (session_after d edits) c n
-
--- for each of the commands in turn
-abbrev pub CommandsTake : SessionData → List Command → List ℕ → Type 0
-CommandsTake d commands counts = AreInTurn (TakesAfter d) edits_with [] commands counts
-
--- for an entry of a scenario: none where it is not searched
-pub data EntryTakes (who : Who) (entry : Entry) (n : ℕ) : Type 0 where
-  unsearched : has_sides who.layers entry ≡ false → n ≡ 0 → EntryTakes who entry n
-  searched : has_sides who.layers entry ≡ true
-      → QueryTakes who (record { x = entry.sx; y = entry.sy }) (record { x = entry.gx; y = entry.gy }) n
-      → EntryTakes who entry n
-
--- for each of the entries
-abbrev pub EntriesTake : Who → List Entry → List ℕ → Type 0
-EntriesTake who entries counts =
-    AreInTurn {S = Unit {0}} (λ _ entry n. EntryTakes who entry n) (λ s _. s) tt entries counts
-
--- the counter rose by at least so many steps for each state of these counts
-pub record RoseAtLeast (fewest : ℕ) (Takes : List ℕ → Type 0) (old new : ℕ) : Type 0 where
-  pub counts : List ℕ
-  pub takes : Takes counts
-  pub rose : old + sum counts * fewest ≤ new
-
--- the counter rose by at least the fewest steps of the session's engine for each state of these counts
-abbrev pub RoseBy : SessionData → (List ℕ → Type 0) → ℕ → ℕ → Type 0
-RoseBy d Takes old new = RoseAtLeast (fewest_of d.engine) Takes old new
-
--- the counter rose by at least the fewest steps of the one who answers for each state that the query takes
-pub record RoseForQuery (who : Who) (s t : Cell) (old new : ℕ) : Type 0 where
-  pub count : ℕ
-  pub takes : QueryTakes who s t count
-  pub rose : old + count * fewest_by who.by ≤ new
+use Rattle.who_answers.specs.Session.{OnSession, by_of, who_on}
+use Rattle.who_answers.specs.Taking.{RoseAtLeast, RoseBy, RoseForQuery}
+use Rattle.who_answers.specs.Who.{fewest_by}
+use Rattle.scenario_rows.specs.Entries.{EntriesTake}
+use Rattle.session_lines.specs.Counts.{CommandsTake}
 
 -- whether anything is searched for what is asked
 abbrev pub searches : Asked → Bool
@@ -121,14 +68,6 @@ pub data RoseFor : Call → List (List ℕ) → ℕ → ℕ → Type 0 where
       → map_of text ≡ Ok m
       → OnSession set m (λ d. RoseBy d (CommandsTake d (command.Query sx sy gx gy ∷ [])) old new)
       → RoseFor (call_with (Draw map sx sy gx gy) set) (text ∷ []) old new
-
--- it rose as the commands of the script make it that came in
-pub record RoseHeard (d : SessionData) (input : Option (List ℕ)) (old new : ℕ) : Type 0 where
-  pub script : List ℕ
-  pub told : IsTold input script
-  pub commands : List Command
-  pub heard : IsHeard script commands None
-  pub rose : RoseBy d (CommandsTake d commands) old new
 
 -- the counter rose as the files make it that are held, or nothing is searched for the call
 pub data HasCounted (call : Call) (holds : List ℕ → Held) (old new : ℕ) : Type 0 where

@@ -5,13 +5,13 @@ use Rattle.io_edge.specs.Causes.{Rose}
 use Rattle.word_list.specs.Calls.{is_call}
 use Rattle.word_list.specs.Request.{Call}
 use Rattle.word_list.specs.Rule.{StopsAt}
-use Rattle.jps_run.specs.FaultLines.{word_line}
-use Rattle.jps_run.specs.Files.{FileRose}
+use Rattle.call_files.specs.FaultLines.{word_line}
+use Rattle.call_files.specs.Files.{FileRose}
 use Rattle.jps_run.specs.Calls.{MayHear, files_of, reads_input}
 use Rattle.jps_run.specs.Outcome.{Spell, Outcome, IsOutcome, IsOutput}
-use Rattle.jps_run.specs.Heard.{WrotePending, WroteSomeTaken, WroteLinesTaken}
+use Rattle.jps_run.specs.Live.{WrotePending, WroteSomeTaken, WroteLinesTaken}
 use Rattle.io_edge.specs.Told.{Disk, Held, Inflow, Outflow}
-use Rattle.jps_run.specs.Sending.{Wrote, WroteSome, IsPart, AreLines}
+use Rattle.line_work.specs.Sending.{Wrote, WroteSome, IsPart, AreLines}
 
 -- what `err` gets in place of an outcome's line: where a read failed, where a write failed, for want of memory
 abbrev pub read_line : List ℕ

@@ -3,25 +3,27 @@ use Rattle.std.specs.Prelude.{◌≡◌, ℕ, ◌≤◌, ◌^◌, ◌⊎◌, tru
 use Rattle.io_edge.specs.Told.{Disk, Held}
 use Rattle.script_text.specs.declared.command.Command.TheVariants as command
 use Rattle.word_list.specs.Request.{Call}
-use Rattle.jps_run.specs.Answerers.{CanAnswer, who_of}
-use Rattle.jps_run.specs.Answering.{IsSolved}
-use Rattle.jps_run.specs.Counting.{CommandsTake, RoseBy, RoseFor, searches}
-use Rattle.jps_run.specs.Drilling.{IsDrilled, sums_of}
-use Rattle.jps_run.specs.Encoded.{IsEncoded}
-use Rattle.jps_run.specs.Files.{AreAccepted, File, FileRose, HasRefused}
-use Rattle.jps_run.specs.Heard.{OnLive}
-use Rattle.jps_run.specs.Judging.{IsJudged, RoseForEntries}
+use Rattle.answerers.specs.Answerers.{CanAnswer, who_of}
+use Rattle.session_lines.specs.Answering.{IsSolved}
+use Rattle.who_answers.specs.Taking.{RoseBy}
+use Rattle.session_lines.specs.Counts.{CommandsTake}
+use Rattle.jps_run.specs.Counting.{RoseFor, searches}
+use Rattle.session_lines.specs.Drilling.{IsDrilled, sums_of}
+use Rattle.grid_answers.specs.Encoded.{IsEncoded}
+use Rattle.call_files.specs.Files.{AreAccepted}
+use Rattle.jps_run.specs.Live.{OnLive}
+use Rattle.scenario_rows.specs.Judging.{IsJudged, RoseForEntries}
 use Rattle.jps_run.specs.Calls.{files_of, reads_input}
 use Rattle.jps_run.specs.Outcome.{IsAnswered}
-use Rattle.jps_run.specs.Pictures.{IsPictured}
-use Rattle.jps_run.specs.Reading.{AreKept}
-use Rattle.jps_run.specs.Refereeing.{IsReady, IsRefereed}
-use Rattle.jps_run.specs.Sending.{IsText}
-use Rattle.jps_run.specs.Stops.{Stops, Ends}
-use Rattle.jps_run.specs.Tally.{tally_of}
-use Rattle.jps_run.specs.Telling.{AreTold}
-use Rattle.jps_run.specs.declared.answers.Answers.{Answers}
-use Rattle.jps_run.specs.declared.stop.Stop.{Stop}
+use Rattle.session_lines.specs.Pictures.{IsPictured}
+use Rattle.call_files.specs.Reading.{AreKept, open_stops}
+use Rattle.scenario_rows.specs.Refereeing.{IsReady, IsRefereed}
+use Rattle.line_work.specs.Sending.{IsText}
+use Rattle.line_work.specs.Stops.{Ends}
+use Rattle.scenario_rows.specs.Tally.{tally_of}
+use Rattle.grid_answers.specs.Telling.{AreWritten}
+use Rattle.session_lines.specs.declared.answers.Answers.{Answers}
+use Rattle.line_work.specs.declared.stop.Stop.{Stop}
 use Rattle.jps_run.specs.declared.work.Opened.{Opened}
 use Rattle.jps_run.specs.declared.work.Opened.TheVariants as opened
 use Rattle.jps_run.specs.declared.work.Work.{Work}
@@ -36,7 +38,7 @@ IsWhole (work.Referee job entries) = IsRefereed job entries.items
 IsWhole (work.Drill session commands) = IsDrilled (record { session = session; sums = sums_of [] }) commands.items
 IsWhole (work.Draw canvas ends show) =
     IsPictured canvas (record { x = ends.sx; y = ends.sy }) (record { x = ends.gx; y = ends.gy }) show
-IsWhole (work.Tell job rows) = AreTold job rows.items
+IsWhole (work.Tell lines) = AreWritten lines
 IsWhole (work.Encode file) = IsEncoded file
 IsWhole (work.Print text status) = IsText text.items status
 IsWhole (work.Say text) = IsText text.now 0
@@ -49,7 +51,7 @@ HasRisen (work.Referee job entries) old new = ⊤
 HasRisen (work.Drill session commands) old new = RoseBy session (CommandsTake session commands.items) old new
 HasRisen (work.Draw canvas ends show) old new = RoseBy canvas.session
     (CommandsTake canvas.session (command.Query ends.sx ends.sy ends.gx ends.gy ∷ [])) old new
-HasRisen (work.Tell job rows) old new = ⊤
+HasRisen (work.Tell lines) old new = ⊤
 HasRisen (work.Encode file) old new = ⊤
 HasRisen (work.Print text status) old new = old ≤ new
 HasRisen (work.Say text) old new = ⊤
@@ -62,7 +64,7 @@ CanPerform (work.Judge answerer show entries) = CanAnswer answerer × AreKept en
 CanPerform (work.Referee job entries) = IsReady job (length entries.items)
 CanPerform (work.Drill session commands) = length commands.items ≤ 2 ^ 32
 CanPerform (work.Draw canvas ends show) = ⊤
-CanPerform (work.Tell job rows) = ⊤
+CanPerform (work.Tell lines) = ⊤
 CanPerform (work.Encode file) = length file.room.items ≡ 65536
 CanPerform (work.Print text status) = ⊤
 CanPerform (work.Say text) = ⊤
@@ -93,16 +95,6 @@ pub record IsListener (call : Call) (holds : List ℕ → Held) (job : Answers) 
 abbrev pub IsOpenedAs : Call → (List ℕ → Held) → Opened → Type 0
 IsOpenedAs call holds (opened.Work work) = IsWorkOn call holds work
 IsOpenedAs call holds (opened.Listener job) = IsListener call holds job
-
--- what is known where the reading of these files stops: the first refused one, or the count of one that there was reason
--- to read
-abbrev pub open_stops : Disk → Disk → List File → Stops
-open_stops disk disk_now files = record {
-  Refused = HasRefused disk.holds files;
-  Read = FileRose files disk disk_now;
-  Write = ⊥;
-  Memory = ⊤;
-}
 
 -- work was opened for the call, or that stopped
 abbrev pub OpensWork : Call → Disk → Disk → Result Work Stop → Type 0

@@ -2,10 +2,10 @@
 use Rattle.std.specs.Prelude.{◌≡◌, ℕ, List, [], ◌∷◌}
 use Rattle.grid_moves.specs.declared.Cell.{Cell}
 use Rattle.word_list.specs.declared.request.Show.{Show}
-use Rattle.jps_run.specs.Answers.{IsReplyLine}
-use Rattle.jps_run.specs.Counting.{RoseForQuery}
+use Rattle.session_lines.specs.Answers.{IsReplyLine}
+use Rattle.who_answers.specs.Taking.{RoseForQuery}
 use Rattle.jps_run.specs.Opened.{CanPerform, HasRisen, IsWhole}
-use Rattle.jps_run.specs.Who.{Who}
+use Rattle.who_answers.specs.Who.{Who}
 use Rattle.jps_run.specs.declared.work.Work.{Work}
 
 -- the lines are one line, that of a right reply

@@ -3,13 +3,13 @@ use Rattle.std.specs.Prelude.{◌≡◌, ℕ, ◌≤◌, ◌⊎◌, true, [], No
 use Rattle.io_edge.specs.Causes.{Rose}
 use Rattle.io_edge.specs.Told.{Disk, Inflow, Outflow}
 use Rattle.word_list.specs.Request.{Call}
-use Rattle.jps_run.specs.Files.{HasRefused, FileRose}
-use Rattle.jps_run.specs.Heard.{WroteHeard, WrotePending, WroteSomeTaken, WroteLinesTaken}
+use Rattle.call_files.specs.Files.{HasRefused, FileRose}
+use Rattle.jps_run.specs.Live.{WroteHeard, WrotePending, WroteSomeTaken, WroteLinesTaken}
 use Rattle.jps_run.specs.Calls.{files_of, reads_input}
 use Rattle.jps_run.specs.Outcome.{IsOutput}
-use Rattle.jps_run.specs.Sending.{IsAll, IsPart, AreLines, Wrote}
-use Rattle.jps_run.specs.Stops.{Stops, Ends}
-use Rattle.jps_run.specs.declared.stop.Stop.{Stop}
+use Rattle.line_work.specs.Sending.{IsAll, IsPart, AreLines, Wrote}
+use Rattle.line_work.specs.Stops.{Stops, Ends}
+use Rattle.line_work.specs.declared.stop.Stop.{Stop}
 
 -- what is known where the work on a call stops
 abbrev pub served_stops : Call → Disk → Disk → Inflow → Inflow → Outflow → Outflow → Stops

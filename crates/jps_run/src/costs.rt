@@ -1,175 +1,18 @@
 //! The command `costs`: the least cost from one cell to each cell.
 
-ghost use Rattle.std.specs.Prelude.{◌≡◌, ◌++◌, ◌-◌, true, IfOk, OnOk};
-ghost use Rattle.grid_moves.specs.Layers.{is_free_ground, is_on_map};
+ghost use Rattle.std.specs.Prelude.{◌≡◌};
 ghost use Rattle.word_list.specs.Request as asked;
-ghost use Rattle.jps_run.specs.Costing.{IsCostWork};
-ghost use Rattle.jps_run.specs.Distances as spec;
-ghost use Rattle.jps_run.specs.Opened.{OpensWork};
 ghost use Rattle.jps_run.specs.Calls.{call_with};
-ghost use Rattle.jps_run.specs.Sending.{SendsWhole};
-ghost use Rattle.jps_run.specs.Telling as telling;
+ghost use Rattle.jps_run.specs.Opened.{OpensWork};
 
-use crate::NoMemory;
-use crate::files::open_one;
-use crate::job::{Job, work_items};
-use crate::stop::Stop;
 use crate::work::Work;
-use cost_waves::CostWaves;
-use grid_moves::{Cell, Layers, Terrain};
-use io_edge::{Files, Sink};
-use root2_cost::Cost;
+use call_files::open_one;
+use grid_answers::costs_at;
+use grid_moves::Layers;
+use io_edge::Files;
+use line_work::Stop;
 use std::alloc::Global;
-use std::sync::ledger::Ledger;
-use steps::Steps;
-use text_line::{put, put_number};
 use word_list::Settings;
-
-/// The least costs from a cell, which are told row by row.
-#[derive(Drop)]
-pub(crate) struct Distances {
-    pub waves: CostWaves,
-}
-
-impl Job for Distances {
-    ghost use Rattle.std.specs.Prelude.{⊤, false};
-    ghost use Rattle.jps_run.specs.Telling.{AreTold, HaveTold};
-
-    type Item = u16;
-
-    ghost can_work = { λ _. ⊤ };
-
-    ghost has_room = { λ _ _. ⊤ };
-
-    ghost has_worked = { HaveTold };
-
-    ghost closes = { false };
-
-    ghost is_whole = { AreTold };
-
-    ghost has_counted = { λ _ _ _ _ _. ⊤ };
-
-    fn answer<L: Ledger>(
-        &mut self,
-        _alloc: Global,
-        item: u16,
-        lines: &mut Vec<u8>,
-        _steps: &mut Steps<L>,
-    ) -> Result<(), NoMemory> {
-        put_costs(lines, &self.waves, item)
-    }
-
-    fn close(&self, _lines: &mut Vec<u8>) -> Result<u8, NoMemory> {
-        Ok(0)
-    }
-}
-
-// The cost that is told of a cell, where it lies inside.
-fn cost_within(waves: &CostWaves, c: Cell) -> Option<Cost>
-    ensures { result ≡ telling.cost_within waves.now c }
-{
-    if c.x < waves.width() && c.y < waves.height() {
-        waves.cost(c)
-    } else {
-        None
-    }
-}
-
-// Appends a cost, or that there is none.
-fn put_field(out: &mut Vec<u8>, cost: Option<Cost>) -> Result<(), NoMemory>
-    ensures { OnOk result (out.new.items ≡ out.old.items ++ spec.cost_field cost) }
-{
-    match cost {
-        None => put(out, b"-"),
-        Some(cost) => {
-            put_number(out, u64::from(cost.a))?;
-            put(out, b",")?;
-            put_number(out, u64::from(cost.b))
-        }
-    }
-}
-
-// Appends the fields of a row.
-fn put_fields(out: &mut Vec<u8>, waves: &CostWaves, y: u16) -> Result<(), NoMemory>
-    ensures { OnOk result (out.new.items ≡
-        out.old.items ++ spec.fields_to (telling.row_costs waves.now y) (waves.now.width - 1)) }
-{
-    put_field(out, cost_within(waves, Cell { x: 0, y }))?;
-    for x in 0..waves.width().saturating_sub(1) {
-        put(out, b" ")?;
-        put_field(out, cost_within(waves, Cell { x: x + 1, y }))?;
-    }
-    Ok(())
-}
-
-// Appends the line of a row.
-fn put_costs(out: &mut Vec<u8>, waves: &CostWaves, y: u16) -> Result<(), NoMemory>
-    ensures { OnOk result (out.new.items ≡ out.old.items ++ telling.told_line waves.now y) }
-{
-    put_fields(out, waves, y)?;
-    put(out, b"\n")
-}
-
-/// Writes the line of each of these rows.
-pub(crate) fn write_costs<O: Sink, L: Ledger>(
-    alloc: Global,
-    job: &mut Distances,
-    rows: &[u16],
-    out: &mut O,
-    steps: &mut Steps<L>,
-) -> Result<u8, Stop>
-    ensures { SendsWhole (telling.AreTold job.old rows.now) (O.outflow out.old) (O.outflow out.new) result }
-{
-    work_items(alloc, job, rows, out, steps)
-}
-
-// The numbers of so many rows.
-fn numbers_below(alloc: Global, height: u16) -> Result<Vec<u16>, NoMemory>
-    ensures { IfOk result (λ rows. rows.items ≡ telling.numbers_below height) }
-{
-    let mut rows = Vec::new(alloc);
-    for y in 0..height {
-        rows.push(y)?;
-    }
-    Ok(rows)
-}
-
-// One pass from a free cell.
-fn costs_from(alloc: Global, layers: &Layers, from: Cell) -> Result<Work, NoMemory>
-    requires { is_free_ground layers.now from ≡ true }
-    ensures { IfOk result (IsCostWork layers.now from) }
-{
-    let grid = layers.query_grid(from);
-    let mut waves = CostWaves::new(alloc, grid.width(), grid.height())?;
-    waves.pass(grid, from)?;
-    let rows = numbers_below(alloc, grid.height())?;
-    let job = Distances { waves };
-    Ok(Work::Tell { job, rows })
-}
-
-/// A line alone.
-pub(crate) fn line_alone(alloc: Global, line: &[u8]) -> Result<Vec<u8>, NoMemory>
-    ensures { IfOk result (λ text. text.items ≡ line.now) }
-{
-    let mut text = Vec::new(alloc);
-    put(&mut text, line)?;
-    Ok(text)
-}
-
-// The costs from the cell of this column and row.
-fn costs_at(alloc: Global, layers: &Layers, x: u32, y: u32) -> Result<Work, NoMemory>
-    ensures { IfOk result (IsCostWork layers.now (record { x = x; y = y })) }
-{
-    let Some(from) = layers.cell_at(x, y) else {
-        let text = line_alone(alloc, b"outside\n")?;
-        return Ok(Work::Print { text, status: 0 });
-    };
-    if !layers.is_free_ground(from) {
-        let text = line_alone(alloc, b"blocked\n")?;
-        return Ok(Work::Print { text, status: 0 });
-    }
-    costs_from(alloc, layers, from)
-}
 
 /// Makes one pass over the map, and opens the lines of what it found.
 pub(crate) fn costs<F: Files>(
@@ -185,6 +28,6 @@ pub(crate) fn costs<F: Files>(
     ensures unchanged { (F.disk files.new).holds ≡ (F.disk files.old).holds }
 {
     let layers: Layers = open_one(alloc, files, map, settings)?;
-    let work = costs_at(alloc, &layers, x, y)?;
-    Ok(work)
+    let lines = costs_at(alloc, &layers, x, y)?;
+    Ok(Work::Tell(lines))
 }

@@ -3,19 +3,19 @@
 ghost use Rattle.std.specs.Prelude.{◌≡◌, ◌∷◌, []};
 ghost use Rattle.word_list.specs.Request as asked;
 ghost use Rattle.jps_run.specs.Calls.{call_with};
-ghost use Rattle.jps_run.specs.Files.{file_of};
-ghost use Rattle.jps_run.specs.Opened.{OpensWork, open_stops};
-ghost use Rattle.jps_run.specs.Refereeing.{IsCaseOf};
-ghost use Rattle.jps_run.specs.Stops.{Ends};
-ghost use Rattle.jps_run.specs.declared.kind.Kind.TheVariants as kinds;
+ghost use Rattle.call_files.specs.Files.{file_of};
+ghost use Rattle.call_files.specs.Reading.{open_stops};
+ghost use Rattle.jps_run.specs.Opened.{OpensWork};
+ghost use Rattle.jps_run.specs.Cases.{IsCaseOf};
+ghost use Rattle.line_work.specs.Stops.{Ends};
+ghost use Rattle.call_files.specs.declared.kind.Kind.TheVariants as kinds;
 
-use crate::files::{read_file, read_map_file};
-use crate::referee::{Court, Referee};
-use crate::ruling::Counts;
-use crate::stop::Stop;
 use crate::work::Work;
+use call_files::{read_file, read_map_file};
 use io_edge::Files;
+use line_work::Stop;
 use scen_text::Entry;
+use scenario_rows::{Counts, Court, Referee};
 use std::alloc::Global;
 use walk_judge::Told;
 use word_list::Settings;

@@ -6,36 +6,25 @@ ghost use Rattle.std.specs.Option.{option_copied};
 ghost use Rattle.script_text.specs.declared.command.Command.TheVariants.{Query};
 ghost use Rattle.word_list.specs.Request as asked;
 ghost use Rattle.word_list.specs.Settings as words;
-ghost use Rattle.jps_run.specs.Answerers.{who_from};
+ghost use Rattle.answerers.specs.Answerers.{who_from};
 ghost use Rattle.jps_run.specs.Calls.{call_with};
-ghost use Rattle.jps_run.specs.Lines.{Unfolds, reply_line};
+ghost use Rattle.session_lines.specs.Lines.{Unfolds, reply_line};
 ghost use Rattle.jps_run.specs.Opened.{OpensWork};
 ghost use Rattle.jps_run.specs.Querying.{IsQueryWork};
-ghost use Rattle.jps_run.specs.Who.{who_is};
+ghost use Rattle.who_answers.specs.Who.{who_is};
 
 use crate::NoMemory;
-use crate::answerer::Basis;
-use crate::answers::Answers;
-use crate::lines::put_reply;
-use crate::sessions::open_basis;
-use crate::small::{boxed_reply, led_reply};
-use crate::stop::Stop;
 use crate::work::Work;
+use answerers::{Basis, boxed_reply, led_reply, open_basis};
 use edit_replay::{Reply, Session};
+use grid_answers::Ends;
 use grid_moves::{Layers, Terrain};
 use io_edge::Files;
+use line_work::Stop;
 use script_text::Command;
+use session_lines::{Answers, put_reply};
 use std::alloc::Global;
 use word_list::{Settings, Show};
-
-/// The ends of a query, each by its column and its row.
-#[derive(Clone, Copy, Debug)]
-pub(crate) struct Ends {
-    pub sx: u32,
-    pub sy: u32,
-    pub gx: u32,
-    pub gy: u32,
-}
 
 // The query as the commands of a script.
 fn commands_of(alloc: Global, ends: Ends) -> Result<Vec<Command>, NoMemory>

@@ -7,11 +7,10 @@ ghost use Rattle.word_list.specs.Settings as words;
 ghost use Rattle.jps_run.specs.Opened.{OpensWork};
 ghost use Rattle.jps_run.specs.Calls.{call_with};
 
-use crate::answerer::{Answerer, Basis};
-use crate::sessions::open_basis_and;
-use crate::stop::Stop;
 use crate::work::Work;
+use answerers::{Answerer, Basis, open_basis_and};
 use io_edge::Files;
+use line_work::Stop;
 use scen_text::Entry;
 use std::alloc::Global;
 use word_list::Settings;

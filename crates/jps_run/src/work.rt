@@ -6,23 +6,17 @@
 
 ghost use Rattle.std.specs.Prelude.{OnOk};
 ghost use Rattle.jps_run.specs.Opened.{CanPerform, HasRisen, IsWhole};
-ghost use Rattle.jps_run.specs.Sending.{SendsWhole};
+ghost use Rattle.line_work.specs.Sending.{SendsWhole};
 
-use crate::answerer::Answerer;
-use crate::answers::{Answers, write_answers};
-use crate::costs::{Distances, write_costs};
-use crate::draw::{Canvas, write_drawing};
-use crate::drill::write_sums;
-use crate::encoded::{TableFile, write_file};
-use crate::query::Ends;
-use crate::referee::{Referee, write_rulings};
-use crate::scenario::write_rows;
-use crate::sending::send_text;
-use crate::stop::Stop;
+use answerers::Answerer;
 use edit_replay::Session;
+use grid_answers::{CostLines, Ends, TableFile, write_costs, write_file};
 use io_edge::Sink;
+use line_work::{Stop, send_text};
 use scen_text::Entry;
+use scenario_rows::{Referee, write_rows, write_rulings};
 use script_text::Command;
+use session_lines::{Answers, Canvas, write_answers, write_drawing, write_sums};
 use std::alloc::Global;
 use std::sync::ledger::Ledger;
 use steps::Steps;
@@ -58,11 +52,8 @@ pub(crate) enum Work {
         ends: Ends,
         show: Show,
     },
-    /// The least costs from a cell are told, a line for each of these rows of the map.
-    Tell {
-        job: Distances,
-        rows: Vec<u16>,
-    },
+    /// The least costs from a cell are told.
+    Tell(CostLines),
     /// The tables of a map are told as a table file.
     Encode(TableFile),
     /// A text that was made whole, and the status.
@@ -113,7 +104,7 @@ pub(crate) fn perform<O: Sink, L: Ledger>(
             ends,
             show,
         } => write_drawing(alloc, &mut canvas, ends, show, out, steps),
-        Work::Tell { mut job, rows } => write_costs(alloc, &mut job, rows.as_slice(), out, steps),
+        Work::Tell(lines) => write_costs(alloc, lines, out, steps),
         Work::Encode(mut file) => write_file(&mut file, out),
         Work::Print { text, status } => send_text(out, text.as_slice(), status),
         Work::Say(text) => send_text(out, text, 0),

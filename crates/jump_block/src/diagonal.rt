@@ -43,6 +43,30 @@ fn column_way(d: Dir) -> Way
     }
 }
 
+// The direction of a way along a row.
+#[inline(always)]
+fn row_dir(way: Way) -> Dir
+    ensures is { result ≡ spec.row_dir way }
+    ensures straight { is_diagonal result ≡ false }
+{
+    match way {
+        Way::Forward => Dir::E,
+        Way::Back => Dir::W,
+    }
+}
+
+// The direction of a way along a column.
+#[inline(always)]
+fn column_dir(way: Way) -> Dir
+    ensures is { result ≡ spec.column_dir way }
+    ensures straight { is_diagonal result ≡ false }
+{
+    match way {
+        Way::Forward => Dir::S,
+        Way::Back => Dir::N,
+    }
+}
+
 /// The cell that lies ahead. Before the first column or row it has the column or row 65535, at which no
 /// cell is free.
 #[inline(always)]
@@ -177,8 +201,8 @@ impl<'a> Bits<'a> {
     {
         at == goal
             || self.forces(at, d, steps)
-            || self.finds_on_row(at, row_way(d), goal, steps)
-            || self.finds_on_column(at, column_way(d), goal, steps)
+            || self.finds(at, row_dir(row_way(d)), goal, steps)
+            || self.finds(at, column_dir(column_way(d)), goal, steps)
     }
 
     // Whether a diagonal jump stops at a cell. Only in the goal's row or column is the goal looked for; at all

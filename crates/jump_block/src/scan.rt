@@ -94,34 +94,20 @@ fn scan_on<L: Ledger>(
     None
 }
 
-// The same forward, out of line. Each way has a loop of its own, in which it is a constant.
-#[inline(never)]
-fn scan_on_forward<L: Ledger>(
-    rule: Corner,
-    lines: &Lines,
-    line: u32,
-    place: u32,
-    to_goal: u32,
-    last: Words,
-    steps: &mut Steps<L>,
-) -> Option<Halt>
-    requires starts { (free : ℕ → ℕ → Bool) × IsStart lines.now free line place }
-    requires few { lines.now.lines < 65536 }
-    requires short { lines.now.blocks ≤ 128 }
-    requires passed { (free : ℕ → ℕ → Bool) → IsStart lines.now free line place
-        → HasPassed (begun rule (trail_on free Way.Forward line place)) Way.Forward place
-        (spec.edge_before Way.Forward (place / 512 * 512) 8) last }
-    ensures finds { (free : ℕ → ℕ → Bool) → IsStart lines.now free line place
-        → Finds (begun rule (trail_on free Way.Forward line place)) to_goal result }
-    ensures most { steps.new + 3 ≤ steps.old + most_lanes (looked to_goal result) }
-    ensures more { steps.old ≤ steps.new }
+// The way of this number, so that it can be a constant of a function, which has code of its own for each.
+#[inline(always)]
+fn way_of(number: usize) -> Way
+    ensures { result ≡ spec.way_of number }
 {
-    scan_on(Way::Forward, rule, lines, line, place, to_goal, last, steps)
+    match number {
+        0 => Way::Forward,
+        _ => Way::Back,
+    }
 }
 
-// The same back.
+// The same out of line, on a way that the compiler knows: each has a loop of its own.
 #[inline(never)]
-fn scan_on_back<L: Ledger>(
+fn scan_on_by<const WAY: usize, L: Ledger>(
     rule: Corner,
     lines: &Lines,
     line: u32,
@@ -134,14 +120,14 @@ fn scan_on_back<L: Ledger>(
     requires few { lines.now.lines < 65536 }
     requires short { lines.now.blocks ≤ 128 }
     requires passed { (free : ℕ → ℕ → Bool) → IsStart lines.now free line place
-        → HasPassed (begun rule (trail_on free Way.Back line place)) Way.Back place
-        (spec.edge_before Way.Back (place / 512 * 512) 8) last }
+        → HasPassed (begun rule (trail_on free (spec.way_of WAY) line place)) (spec.way_of WAY) place
+        (spec.edge_before (spec.way_of WAY) (place / 512 * 512) 8) last }
     ensures finds { (free : ℕ → ℕ → Bool) → IsStart lines.now free line place
-        → Finds (begun rule (trail_on free Way.Back line place)) to_goal result }
+        → Finds (begun rule (trail_on free (spec.way_of WAY) line place)) to_goal result }
     ensures most { steps.new + 3 ≤ steps.old + most_lanes (looked to_goal result) }
     ensures more { steps.old ≤ steps.new }
 {
-    scan_on(Way::Back, rule, lines, line, place, to_goal, last, steps)
+    scan_on(way_of(WAY), rule, lines, line, place, to_goal, last, steps)
 }
 
 /// Scans along a line from a free cell: finds where the scan halts, or `None` where the goal is met before.
@@ -174,8 +160,10 @@ pub(crate) fn scan<L: Ledger>(
                 to_goal,
             } = start;
             match way {
-                Way::Forward => { scan_on_forward(rule, lines, line, place, to_goal, words, steps) }
-                Way::Back => scan_on_back(rule, lines, line, place, to_goal, words, steps),
+                Way::Forward => {
+                    scan_on_by::<0, L>(rule, lines, line, place, to_goal, words, steps)
+                }
+                Way::Back => scan_on_by::<1, L>(rule, lines, line, place, to_goal, words, steps),
             }
         }
     }

@@ -4,6 +4,7 @@ ghost use Rattle.std.specs.Prelude.{◌≡◌, ℕ, ◌+◌, ◌≤◌, false, t
 ghost use Rattle.grid_moves.specs.Grid.{GridData, is_free};
 ghost use Rattle.pruning.specs.Allowed.{allowed_dirs};
 ghost use Rattle.pruning.specs.First as first;
+ghost use Rattle.pruning.specs.Numbered as numbered;
 ghost use Rattle.pruning.specs.Source.{IsWithin};
 ghost use Rattle.pruning.specs.Stop.{IsFirstStop};
 ghost use Rattle.pruning.specs.Turns.{is_diagonal};
@@ -30,18 +31,29 @@ pub struct BlockJumps<'a> {
     pub corner: Corner,
 }
 
+// The rule of this number, so that it can be a constant of a function, which has code of its own for each.
+#[inline(always)]
+fn corner_of(number: usize) -> Corner
+    ensures { result ≡ numbered.corner_of number }
+{
+    match number {
+        0 => Corner::Never,
+        _ => Corner::One,
+    }
+}
+
 impl<'a> Bits<'a> {
-    // A diagonal jump where no corner is cut. It is a function of its own, so that straight jumps, which are
-    // short, keep clear of its many registers.
+    // A diagonal jump, under a rule that the compiler knows. It is a function of its own, so that straight
+    // jumps, which are short, keep clear of its many registers.
     #[inline(never)]
-    fn diagonal_by_never<L: Ledger>(
+    fn diagonal_by<const RULE: usize, L: Ledger>(
         &self,
         at: Cell,
         d: Dir,
         goal: Cell,
         steps: &mut Steps<L>,
     ) -> Option<u16>
-        requires rule { self.now.corner ≡ Corner.Never }
+        requires rule { self.now.corner ≡ numbered.corner_of RULE }
         requires diagonal { is_diagonal d ≡ true }
         requires stands { (g : GridData) × AreItsBits self.now.rows.now self.now.columns.now self.now.corner g
             × (is_free g at ≡ true) }
@@ -53,7 +65,7 @@ impl<'a> Bits<'a> {
         let bits = Bits {
             rows: self.rows,
             columns: self.columns,
-            corner: Corner::Never,
+            corner: corner_of(RULE),
         };
         match d {
             Dir::NE => bits.diagonal(at, Dir::NE, goal, steps),
@@ -63,48 +75,17 @@ impl<'a> Bits<'a> {
         }
     }
 
-    // The same where a corner may be cut past one blocked cell.
+    // After how many moves a jump stops, under such a rule. Each direction has loops of its own, in which it
+    // is a constant too.
     #[inline(never)]
-    fn diagonal_by_one<L: Ledger>(
+    fn stop_by<const RULE: usize, L: Ledger>(
         &self,
         at: Cell,
         d: Dir,
         goal: Cell,
         steps: &mut Steps<L>,
     ) -> Option<u16>
-        requires rule { self.now.corner ≡ Corner.One }
-        requires diagonal { is_diagonal d ≡ true }
-        requires stands { (g : GridData) × AreItsBits self.now.rows.now self.now.columns.now self.now.corner g
-            × (is_free g at ≡ true) }
-        ensures first { (g : GridData)
-            → AreItsBits self.now.rows.now self.now.columns.now self.now.corner g → is_free g at ≡ true
-            → result ≡ first.first_stop g goal at d }
-        ensures fewest { steps.old + 3 ≤ steps.new }
-    {
-        let bits = Bits {
-            rows: self.rows,
-            columns: self.columns,
-            corner: Corner::One,
-        };
-        match d {
-            Dir::NE => bits.diagonal(at, Dir::NE, goal, steps),
-            Dir::SE => bits.diagonal(at, Dir::SE, goal, steps),
-            Dir::SW => bits.diagonal(at, Dir::SW, goal, steps),
-            _ => bits.diagonal(at, Dir::NW, goal, steps),
-        }
-    }
-
-    // After how many moves a jump stops, where no corner is cut. Each direction has loops of its own, in
-    // which it is a constant, and so is the rule.
-    #[inline(never)]
-    fn stop_by_never<L: Ledger>(
-        &self,
-        at: Cell,
-        d: Dir,
-        goal: Cell,
-        steps: &mut Steps<L>,
-    ) -> Option<u16>
-        requires rule { self.now.corner ≡ Corner.Never }
+        requires rule { self.now.corner ≡ numbered.corner_of RULE }
         requires stands { (g : GridData) × AreItsBits self.now.rows.now self.now.columns.now self.now.corner g
             × (is_free g at ≡ true) }
         ensures first { (g : GridData)
@@ -118,48 +99,16 @@ impl<'a> Bits<'a> {
         let bits = Bits {
             rows: self.rows,
             columns: self.columns,
-            corner: Corner::Never,
+            corner: corner_of(RULE),
         };
         match d {
             Dir::N => bits.straight(at, Dir::N, goal, steps),
             Dir::E => bits.straight(at, Dir::E, goal, steps),
             Dir::S => bits.straight(at, Dir::S, goal, steps),
             Dir::W => bits.straight(at, Dir::W, goal, steps),
-            Dir::NE | Dir::SE | Dir::SW | Dir::NW => self.diagonal_by_never(at, d, goal, steps),
-        }
-    }
-
-    // The same where a corner may be cut past one blocked cell.
-    #[inline(never)]
-    fn stop_by_one<L: Ledger>(
-        &self,
-        at: Cell,
-        d: Dir,
-        goal: Cell,
-        steps: &mut Steps<L>,
-    ) -> Option<u16>
-        requires rule { self.now.corner ≡ Corner.One }
-        requires stands { (g : GridData) × AreItsBits self.now.rows.now self.now.columns.now self.now.corner g
-            × (is_free g at ≡ true) }
-        ensures first { (g : GridData)
-            → AreItsBits self.now.rows.now self.now.columns.now self.now.corner g → is_free g at ≡ true
-            → result ≡ first.first_stop g goal at d }
-        ensures most { is_diagonal d ≡ false → (g : GridData)
-            → AreItsBits self.now.rows.now self.now.columns.now self.now.corner g → is_free g at ≡ true
-            → steps.new ≤ steps.old + most_lanes (scanned g at d result) }
-        ensures fewest { steps.old + 3 ≤ steps.new }
-    {
-        let bits = Bits {
-            rows: self.rows,
-            columns: self.columns,
-            corner: Corner::One,
-        };
-        match d {
-            Dir::N => bits.straight(at, Dir::N, goal, steps),
-            Dir::E => bits.straight(at, Dir::E, goal, steps),
-            Dir::S => bits.straight(at, Dir::S, goal, steps),
-            Dir::W => bits.straight(at, Dir::W, goal, steps),
-            Dir::NE | Dir::SE | Dir::SW | Dir::NW => self.diagonal_by_one(at, d, goal, steps),
+            Dir::NE | Dir::SE | Dir::SW | Dir::NW => {
+                self.diagonal_by::<RULE, L>(at, d, goal, steps)
+            }
         }
     }
 
@@ -177,8 +126,8 @@ impl<'a> Bits<'a> {
         ensures fewest { steps.old + 3 ≤ steps.new }
     {
         match self.corner {
-            Corner::Never => self.stop_by_never(at, d, goal, steps),
-            Corner::One => self.stop_by_one(at, d, goal, steps),
+            Corner::Never => self.stop_by::<0, L>(at, d, goal, steps),
+            Corner::One => self.stop_by::<1, L>(at, d, goal, steps),
         }
     }
 

@@ -32,28 +32,6 @@ fn moves_to(d: Dir, from: Cell, to: Cell) -> u16
     }
 }
 
-// The direction of a way along a row.
-#[inline(always)]
-fn row_dir(way: Way) -> Dir
-    ensures { result ≡ spec.row_dir way }
-{
-    match way {
-        Way::Forward => Dir::E,
-        Way::Back => Dir::W,
-    }
-}
-
-// The direction of a way along a column.
-#[inline(always)]
-fn column_dir(way: Way) -> Dir
-    ensures { result ≡ spec.column_dir way }
-{
-    match way {
-        Way::Forward => Dir::S,
-        Way::Back => Dir::N,
-    }
-}
-
 // The first stop, told where the scan halts: the goal where it is met before, else the mark, if there is one.
 // Where no corner is cut the mark is the next cell's, and else that of the cell where the scan halts.
 #[inline(always)]
@@ -157,48 +135,6 @@ impl<'a> Bits<'a> {
         }
     }
 
-    /// Whether a straight jump along the row finds a stop.
-    #[inline(always)]
-    pub(crate) fn finds_on_row<L: Ledger>(
-        &self,
-        at: Cell,
-        way: Way,
-        goal: Cell,
-        steps: &mut Steps<L>,
-    ) -> bool
-        requires stands { (g : GridData) × AreItsBits self.now.rows.now self.now.columns.now self.now.corner g
-            × (is_free g at ≡ true) }
-        ensures finds { (g : GridData)
-            → AreItsBits self.now.rows.now self.now.columns.now self.now.corner g → is_free g at ≡ true
-            → result ≡ is_some (first.first_stop g goal at (spec.row_dir way)) }
-        ensures more { steps.old ≤ steps.new }
-    {
-        let to_goal = moves_to(row_dir(way), at, goal);
-        let found = self.halt_on_row(at, way, to_goal, steps);
-        stop_of(self.corner, found, to_goal).is_some()
-    }
-
-    /// Whether one along the column does.
-    #[inline(always)]
-    pub(crate) fn finds_on_column<L: Ledger>(
-        &self,
-        at: Cell,
-        way: Way,
-        goal: Cell,
-        steps: &mut Steps<L>,
-    ) -> bool
-        requires stands { (g : GridData) × AreItsBits self.now.rows.now self.now.columns.now self.now.corner g
-            × (is_free g at ≡ true) }
-        ensures finds { (g : GridData)
-            → AreItsBits self.now.rows.now self.now.columns.now self.now.corner g → is_free g at ≡ true
-            → result ≡ is_some (first.first_stop g goal at (spec.column_dir way)) }
-        ensures more { steps.old ≤ steps.new }
-    {
-        let to_goal = moves_to(column_dir(way), at, goal);
-        let found = self.halt_on_column(at, way, to_goal, steps);
-        stop_of(self.corner, found, to_goal).is_some()
-    }
-
     /// Whether a straight jump along the row finds a stop, for a goal that is not on the row.
     #[inline(always)]
     pub(crate) fn finds_mark_on_row<L: Ledger>(
@@ -262,5 +198,25 @@ impl<'a> Bits<'a> {
         let to_goal = moves_to(d, at, goal);
         let found = self.halt(at, d, to_goal, steps);
         stop_of(self.corner, found, to_goal)
+    }
+
+    /// Whether a straight jump finds a stop.
+    #[inline(always)]
+    pub(crate) fn finds<L: Ledger>(
+        &self,
+        at: Cell,
+        d: Dir,
+        goal: Cell,
+        steps: &mut Steps<L>,
+    ) -> bool
+        requires stands { (g : GridData) × AreItsBits self.now.rows.now self.now.columns.now self.now.corner g
+            × (is_free g at ≡ true) }
+        requires straight { is_diagonal d ≡ false }
+        ensures finds { (g : GridData)
+            → AreItsBits self.now.rows.now self.now.columns.now self.now.corner g → is_free g at ≡ true
+            → result ≡ is_some (first.first_stop g goal at d) }
+        ensures more { steps.old ≤ steps.new }
+    {
+        self.straight(at, d, goal, steps).is_some()
     }
 }

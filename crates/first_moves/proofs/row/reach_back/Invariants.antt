@@ -1,4 +1,4 @@
-use Rattle.std.proofs.Common.{◌<◌, ◌≤◌, length, get_or}
+use Rattle.std.proofs.Common.{◌<◌, length, get_or}
 use Rattle.first_moves.specs.declared.row.Run.{Run}
 use Rattle.first_moves.proofs.row.reach_back.Given as goal
 

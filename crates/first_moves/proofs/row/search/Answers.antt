@@ -3,8 +3,8 @@ use Rattle.std.specs.Prelude.{None}
 use Rattle.first_moves.proofs.Cutting.{told}
 use Rattle.first_moves.proofs.row.search.Goals as goal
 
-pub returns : goal.returns
-returns c = λ members e h.
+pub returns-clause-first : goal.returns-clause-first
+returns-clause-first c = λ members e h.
     let apart = c.loop-high.invariant.apart in
     let high = c.loop-high.invariant.within in
     let next : c.loop-high.high ≡ suc c.loop-high.low = omega arith in

@@ -3,7 +3,7 @@ use Rattle.grid_moves.specs.Layers.{Layers}
 use Rattle.word_list.specs.Request.{Boxes}
 use Rattle.jps_run.specs.Calls.{call_with}
 use Rattle.jps_run.specs.Outcome.{boxed}
-use Rattle.jps_run.specs.BoxLines.{IsBoxText}
+use Rattle.grid_answers.specs.BoxLines.{IsBoxText}
 use Rattle.jps_run.proofs.Opening.{text-right}
 use Rattle.jps_run.proofs.boxes.boxes.Goals as goal
 

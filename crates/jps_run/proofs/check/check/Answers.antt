@@ -2,11 +2,11 @@ use Rattle.std.proofs.Common.{refl, ap, ◌∙◌, subst, inl, [], ◌∷◌}
 use Rattle.grid_moves.specs.Grid.{GridData}
 use Rattle.grid_moves.specs.Layers.{Layers, query_grid}
 use Rattle.word_list.specs.Request.{Check}
-use Rattle.jps_run.specs.Certificates.{IsVerdict}
+use Rattle.grid_answers.specs.Certificates.{IsVerdict}
 use Rattle.jps_run.specs.Calls.{call_with}
 use Rattle.jps_run.specs.Outcome.{checked}
 use Rattle.jps_run.proofs.Opening.{text-right}
-use Rattle.jps_run.proofs.Printing.{small_verdict}
+use Rattle.grid_answers.proofs.Printing.{small_verdict}
 use Rattle.jps_run.proofs.check.check.Goals as goal
 
 pub returns-clause-opened : goal.returns-clause-opened

@@ -1,7 +1,7 @@
 use Rattle.std.proofs.Common.{refl, sym, subst, inl, [], ◌∷◌, ℕ, ◌≤◌, arith}
 use Rattle.grid_moves.specs.Layers.{Layers}
 use Rattle.word_list.specs.Request.{Costs}
-use Rattle.jps_run.specs.Distances.{AreCosts}
+use Rattle.grid_answers.specs.Distances.{AreCosts}
 use Rattle.jps_run.specs.Calls.{call_with}
 use Rattle.jps_run.specs.Outcome.{IsAnswered, costed}
 use Rattle.jps_run.proofs.costs.costs.Goals as goal
@@ -14,14 +14,13 @@ returns-clause-opened g c =
     let x = c.args.x in
     let y = c.args.y in
     let call = call_with (Costs map x y) set in
-    let work = c.in_ok-work.ensures in
     record {
       texts = r.text ∷ [];
       accepted = (r.accepted, tt);
       is = record {
-        can = work.can;
+        can = tt;
         right = λ lines status w.
-            let are = work.right lines status w in (
+            let are = c.in_ok-lines.ensures lines status w in (
               subst (λ n. n ≤ 1) (sym are.0) (omega arith),
               subst (λ (n : ℕ). IsAnswered call (r.text ∷ []) lines n) (sym are.0)
                   (costed map r.text x y set r.spelled.map lines r.spelled.spelled

@@ -2,11 +2,11 @@ use Rattle.std.proofs.Common.{◌≡◌, ◌≤◌, ◌^◌, refl, sym, ap, ◌�
 use Rattle.std.specs.Prelude.{Result}
 use Rattle.scen_text.specs.declared.entry.Entry.{Entry}
 use Rattle.scen_text.specs.declared.fault.ScenFault.{ScenFault}
-use Rattle.jps_run.specs.Files.{file_of}
-use Rattle.jps_run.specs.Kinds.{count_in}
-use Rattle.jps_run.specs.Reading.{SpellsWalks}
-use Rattle.jps_run.specs.declared.kind.Kind.TheVariants as kinds
-use Rattle.jps_run.proofs.Opening.{both-accepted, fell-on, next-file, none-fell, reading-stops, third-accepted}
+use Rattle.call_files.specs.Files.{file_of}
+use Rattle.call_files.specs.Kinds.{count_in}
+use Rattle.call_files.specs.Reading.{SpellsWalks}
+use Rattle.call_files.specs.declared.kind.Kind.TheVariants as kinds
+use Rattle.call_files.proofs.Opening.{both-accepted, fell-on, next-file, none-fell, reading-stops, third-accepted}
 use Rattle.jps_run.proofs.judge.read_case.Goals as goal
 
 pub overflow_cast-count : goal.overflow_cast-count

@@ -3,7 +3,7 @@ use Rattle.grid_moves.specs.Layers.{Layers}
 use Rattle.word_list.specs.Request.{Moves}
 use Rattle.jps_run.specs.Calls.{call_with}
 use Rattle.jps_run.specs.Outcome.{moved}
-use Rattle.jps_run.specs.RunLines.{IsRunText}
+use Rattle.grid_answers.specs.RunLines.{IsRunText}
 use Rattle.jps_run.proofs.Opening.{text-right}
 use Rattle.jps_run.proofs.moves.moves.Goals as goal
 

@@ -1,11 +1,11 @@
 use Rattle.std.proofs.Common.{refl, subst, inl, [], ◌∷◌}
 use Rattle.grid_moves.specs.Layers.{Layers}
 use Rattle.word_list.specs.Request.{Prove}
-use Rattle.jps_run.specs.Certificates.{IsProof}
+use Rattle.grid_answers.specs.Certificates.{IsProof}
 use Rattle.jps_run.specs.Calls.{call_with}
 use Rattle.jps_run.specs.Outcome.{proved}
 use Rattle.jps_run.proofs.Opening.{text-right}
-use Rattle.jps_run.proofs.Printing.{small_proof}
+use Rattle.grid_answers.proofs.Printing.{small_proof}
 use Rattle.jps_run.proofs.prove.prove.Goals as goal
 
 pub returns-clause-opened : goal.returns-clause-opened

@@ -1,7 +1,8 @@
 use Rattle.std.proofs.Common.{subst, List}
 use Rattle.script_text.specs.declared.command.Command.{Command}
-use Rattle.jps_run.specs.Answers.{AreAnswers}
-use Rattle.jps_run.specs.Counting.{CommandsTake, RoseBy}
+use Rattle.session_lines.specs.Answers.{AreAnswers}
+use Rattle.who_answers.specs.Taking.{RoseBy}
+use Rattle.session_lines.specs.Counts.{CommandsTake}
 use Rattle.jps_run.proofs.Querying.{one-line, one-rose}
 use Rattle.jps_run.proofs.query.by_session.Goals as goal
 

@@ -10,12 +10,12 @@ use Rattle.table_file.specs.Written.{file_of}
 use Rattle.word_list.specs.Request.{Tables}
 use Rattle.word_list.specs.declared.request.Settings.{Settings}
 use Rattle.jps_run.specs.Calls.{call_with}
-use Rattle.jps_run.specs.Encoded.{IsEncoded}
+use Rattle.grid_answers.specs.Encoded.{IsEncoded}
 use Rattle.jps_run.specs.Outcome.{IsAnswered, tabled}
-use Rattle.jps_run.specs.Reading.{AreLayersOf}
-use Rattle.jps_run.specs.Session.{corner_of}
+use Rattle.call_files.specs.Reading.{AreLayersOf}
+use Rattle.call_files.specs.Layered.{corner_of}
 use Rattle.jps_run.specs.Tabled.{tables_text}
-use Rattle.jps_run.specs.declared.encoded.TableFile.{TableFile}
+use Rattle.grid_answers.specs.declared.encoded.TableFile.{TableFile}
 use Rattle.jps_run.proofs.Opening.{text-right}
 use Rattle.jps_run.proofs.tables.tables.Goals as goal
 

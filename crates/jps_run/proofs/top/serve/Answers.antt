@@ -2,8 +2,9 @@ use Rattle.std.proofs.Common.{subst}
 use Rattle.word_list.specs.Request.{called}
 use Rattle.jps_run.specs.Opened.{IsOpenedAs}
 use Rattle.jps_run.specs.declared.work.Opened.{Opened}
-use Rattle.jps_run.specs.Counting.{RoseHeard, heard}
-use Rattle.jps_run.proofs.Counts.{on_ok}
+use Rattle.live_lines.specs.Heard.{RoseHeard}
+use Rattle.jps_run.specs.Counting.{heard}
+use Rattle.who_answers.proofs.Rising.{on_ok}
 use Rattle.jps_run.proofs.Serving.{may-hear, on-live, unopened-served, work-counted, work-served}
 use Rattle.jps_run.proofs.top.serve.Goals as goal
 

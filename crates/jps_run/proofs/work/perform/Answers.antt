@@ -1,4 +1,4 @@
-use Rattle.jps_run.proofs.Refereed.{uncounted}
+use Rattle.jps_run.proofs.Serving.{uncounted}
 use Rattle.jps_run.proofs.work.perform.Goals as goal
 
 pub returns-in-Referee-clause-counted : goal.returns-in-Referee-clause-counted

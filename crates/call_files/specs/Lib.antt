@@ -1,0 +1,6 @@
+pub mod FaultLines
+pub mod Kinds
+pub mod Files
+pub mod Layered
+pub mod MapFiles
+pub mod Reading

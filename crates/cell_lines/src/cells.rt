@@ -1,0 +1,67 @@
+//! Cells, directions and states, each by its text.
+
+ghost use Rattle.std.specs.Prelude.{◌≡◌, ◌<◌, ◌++◌, OnOk};
+ghost use Rattle.cell_lines.specs.Cells as spec;
+
+use crate::NoMemory;
+use grid_moves::{Cell, Dir, dir_number};
+use text_line::{put, put_number};
+
+// Appends a blank and the cell.
+fn put_point(out: &mut Vec<u8>, c: Cell) -> Result<(), NoMemory>
+    ensures { OnOk result (out.new.items ≡ out.old.items ++ spec.point_text c) }
+{
+    put(out, b" ")?;
+    put_number(out, u64::from(c.x))?;
+    put(out, b",")?;
+    put_number(out, u64::from(c.y))
+}
+
+/// Appends each cell after a blank.
+pub fn put_points(out: &mut Vec<u8>, cells: &[Cell]) -> Result<(), NoMemory>
+    ensures { OnOk result (out.new.items ≡ out.old.items ++ spec.texts_of spec.point_text cells.now) }
+{
+    for c in cells {
+        put_point(out, *c)?;
+    }
+    Ok(())
+}
+
+// The name of the direction in which a state was reached, by its number.
+fn arrival_text(arrival: u32) -> &'static [u8]
+    ensures { result.now ≡ spec.arrival_text arrival }
+{
+    match arrival {
+        0 => b"N",
+        1 => b"NE",
+        2 => b"E",
+        3 => b"SE",
+        4 => b"S",
+        5 => b"SW",
+        6 => b"W",
+        7 => b"NW",
+        _ => b"-",
+    }
+}
+
+/// The name of a direction.
+pub fn dir_text(d: Dir) -> &'static [u8]
+    ensures { result.now ≡ spec.dir_text d }
+{
+    arrival_text(u32::from(dir_number(d)))
+}
+
+/// Appends a blank and the state of this number, on a map of this width: its cell, and how it was come to.
+pub fn put_state(out: &mut Vec<u8>, width: u16, state: u32) -> Result<(), NoMemory>
+    requires { 0 < width }
+    ensures { OnOk result (out.new.items ≡ out.old.items ++ spec.state_text width state) }
+{
+    let cell = state / 9;
+    let width = u32::from(width);
+    put(out, b" ")?;
+    put_number(out, u64::from(cell % width))?;
+    put(out, b",")?;
+    put_number(out, u64::from(cell / width))?;
+    put(out, b":")?;
+    put(out, arrival_text(state % 9))
+}

@@ -1,0 +1,4 @@
+pub mod Cells
+pub mod Waved
+pub mod Printing
+pub mod Encoding

@@ -1,0 +1,52 @@
+-- What `boxes` prints.
+use Rattle.std.specs.Prelude.{◌≡◌, true, false, ℕ, List, ◌++◌, codes, decimal, Option, Some, None, refl}
+use Rattle.goal_boxes.specs.declared.area.Area.{Area}
+use Rattle.goal_boxes.specs.declared.around.CellBoxes.{CellBoxes}
+use Rattle.goal_boxes.specs.Box.{AreBoxes, box_in}
+use Rattle.grid_moves.specs.declared.Cell.{Cell}
+use Rattle.grid_moves.specs.declared.Dir.{Dir}
+use Rattle.grid_moves.specs.declared.Dir.TheVariants.{SE, NW}
+use Rattle.grid_moves.specs.Layers.{Layers, is_free_ground, is_on_map, query_grid}
+use Rattle.grid_moves.specs.Move.{all_dirs}
+use Rattle.cell_lines.specs.Cells.{dir_text, texts_of}
+
+-- a box by its least column and row and its greatest column and row, or that there is none
+abbrev pub area_text : Option Area → List ℕ
+area_text None = codes "none"
+area_text (Some a) = decimal a.x0 ++ codes " " ++ decimal a.y0 ++ codes " " ++ decimal a.x1 ++ codes " " ++ decimal a.y1
+
+-- the line of the box in a direction
+abbrev pub box_line : CellBoxes → Dir → List ℕ
+box_line b d = codes "box " ++ dir_text d ++ codes " " ++ area_text (box_in b d) ++ codes "\n"
+
+-- eight lines, in the order of the directions' numbers
+abbrev pub boxes_text : CellBoxes → List ℕ
+boxes_text b = texts_of (box_line b) all_dirs
+
+-- what is printed of the boxes of s: those on the grid of the cell, or why there are none
+pub data IsBoxText (ls : Layers) (s : Cell) : List ℕ → Type 0 where
+  outside : is_on_map ls s ≡ false → IsBoxText ls s (codes "outside\n")
+  blocked : is_on_map ls s ≡ true → is_free_ground ls s ≡ false → IsBoxText ls s (codes "blocked\n")
+  told : (b : CellBoxes) → is_free_ground ls s ≡ true → AreBoxes (query_grid ls s) s b
+      → IsBoxText ls s (boxes_text b)
+
+-- the box to the lower right of the upper left cell of an open map of three columns and three rows
+abbrev corner_boxes : CellBoxes
+corner_boxes = record {
+  n = None;
+  ne = None;
+  e = None;
+  se = Some (record { x0 = 1; y0 = 1; x1 = 2; y1 = 2 });
+  s = None;
+  sw = None;
+  w = None;
+  nw = None;
+}
+
+pub lower_right : box_line corner_boxes SE
+    ≡ codes "box SE " ++ decimal 1 ++ codes " " ++ decimal 1 ++ codes " " ++ decimal 2 ++ codes " " ++ decimal 2
+    ++ codes "\n"
+lower_right = refl
+
+pub no_box : box_line corner_boxes NW ≡ codes "box NW none\n"
+no_box = refl

@@ -1,0 +1,6 @@
+pub mod BoxLines
+pub mod RunLines
+pub mod Distances
+pub mod Telling
+pub mod Certificates
+pub mod Encoded

@@ -1,0 +1,101 @@
+//! The line of what a certificate proves, or of the first clause that it fails.
+
+ghost use Rattle.std.specs.Prelude.{◌≡◌, ◌++◌, IfOk, OnOk, codes, decimal};
+ghost use Rattle.grid_answers.specs.Certificates as spec;
+ghost use Rattle.grid_answers.specs.Certificates.{IsVerdict};
+
+use crate::NoMemory;
+use crate::prove::Printed;
+use grid_moves::{Cell, Grid};
+use potential_check::{Certificate, Proof, Reject};
+use std::alloc::Global;
+use text_line::{put, put_number};
+
+// Appends two cells, parted by a space.
+fn put_move(out: &mut Vec<u8>, u: Cell, v: Cell) -> Result<(), NoMemory>
+    ensures { OnOk result (out.new.items ≡ out.old.items ++ spec.move_text u v) }
+{
+    put_cell(out, u)?;
+    put(out, b" ")?;
+    put_cell(out, v)
+}
+
+// Appends a cell.
+fn put_cell(out: &mut Vec<u8>, c: Cell) -> Result<(), NoMemory>
+    ensures { OnOk result (out.new.items ≡ out.old.items ++ spec.cell_text c) }
+{
+    put_number(out, u64::from(c.x))?;
+    put(out, b",")?;
+    put_number(out, u64::from(c.y))
+}
+
+// The line of what is proved.
+fn proof_line(alloc: Global, proof: Proof) -> Result<Vec<u8>, NoMemory>
+    ensures { IfOk result (λ line. line.items ≡ spec.proof_line proof) }
+{
+    let mut line = Vec::new(alloc);
+    match proof {
+        Proof::Least(cost) => {
+            put(&mut line, b"accepted least ")?;
+            put_number(&mut line, u64::from(cost.a))?;
+            put(&mut line, b" ")?;
+            put_number(&mut line, u64::from(cost.b))?;
+            put(&mut line, b"\n")?;
+        }
+        Proof::NoWalk => put(&mut line, b"accepted none\n")?,
+    }
+    Ok(line)
+}
+
+// The line of a clause that names two cells.
+fn move_line(alloc: Global, words: &[u8], u: Cell, v: Cell) -> Result<Vec<u8>, NoMemory>
+    ensures { IfOk result (λ line. line.items ≡ words.now ++ spec.move_text u v ++ codes "\n") }
+{
+    let mut line = Vec::new(alloc);
+    put(&mut line, words)?;
+    put_move(&mut line, u, v)?;
+    put(&mut line, b"\n")?;
+    Ok(line)
+}
+
+// The line of a clause that names a number.
+fn walk_line(alloc: Global, i: u32) -> Result<Vec<u8>, NoMemory>
+    ensures { IfOk result (λ line. line.items ≡ codes "refused walk " ++ decimal i ++ codes "\n") }
+{
+    let mut line = Vec::new(alloc);
+    put(&mut line, b"refused walk ")?;
+    put_number(&mut line, u64::from(i))?;
+    put(&mut line, b"\n")?;
+    Ok(line)
+}
+
+// The line of the first clause that fails.
+fn reject_line(alloc: Global, reject: Reject) -> Result<Vec<u8>, NoMemory>
+    ensures { IfOk result (λ line. line.items ≡ spec.reject_line reject) }
+{
+    match reject {
+        Reject::Size => Vec::from_slice(alloc, b"refused size\n"),
+        Reject::Ends => Vec::from_slice(alloc, b"refused ends\n"),
+        Reject::Walk(i) => walk_line(alloc, i),
+        Reject::Start => Vec::from_slice(alloc, b"refused start\n"),
+        Reject::Goal => Vec::from_slice(alloc, b"refused goal\n"),
+        Reject::Move(u, v) => move_line(alloc, b"refused move ", u, v),
+        Reject::Open(u, v) => move_line(alloc, b"refused open ", u, v),
+    }
+}
+
+/// The line of a certificate on a grid, and the status.
+pub fn verdict(alloc: Global, grid: &Grid, certificate: &Certificate) -> Result<Printed, NoMemory>
+    ensures { IfOk result (λ p. IsVerdict grid.now certificate.now p.text.items p.status) }
+{
+    match potential_check::check(grid, certificate) {
+        Ok(proof) => Ok(Printed {
+            text: proof_line(alloc, proof)?,
+            status: 0,
+        }),
+        Err(reject) => Ok(Printed {
+            text: reject_line(alloc, reject)?,
+            status: 1,
+        }),
+    }
+}

@@ -1,0 +1,64 @@
+//! The text of a certificate of the least cost, or that no walk exists.
+
+ghost use Rattle.std.specs.Prelude.{◌≡◌, ◌&&◌, true, IfOk};
+ghost use Rattle.grid_moves.specs.Layers.{is_on_map};
+ghost use Rattle.grid_answers.specs.Certificates.{IsProof};
+
+use crate::NoMemory;
+use grid_moves::{Cell, Layers};
+use potential_make::certificate;
+use std::alloc::Global;
+
+/// The ends of a query, each by its column and its row.
+#[derive(Clone, Copy, Debug)]
+pub struct Ends {
+    pub sx: u32,
+    pub sy: u32,
+    pub gx: u32,
+    pub gy: u32,
+}
+
+/// A text to be printed, and the status after it.
+#[derive(Drop)]
+pub struct Printed {
+    pub text: Vec<u8>,
+    pub status: u8,
+}
+
+/// A line in place of what was asked for, with status 1.
+pub fn said(alloc: Global, line: &[u8]) -> Result<Printed, NoMemory>
+    ensures text { IfOk result (λ p. p.text.items ≡ line.now) }
+    ensures status { IfOk result (λ p. p.status ≡ 1) }
+{
+    let text = Vec::from_slice(alloc, line)?;
+    Ok(Printed { text, status: 1 })
+}
+
+// What is printed for a query between two cells of the map.
+fn proof_between(alloc: Global, layers: &Layers, from: Cell, to: Cell) -> Result<Printed, NoMemory>
+    requires on { (is_on_map layers.now from && is_on_map layers.now to) ≡ true }
+    ensures { IfOk result (λ p. IsProof layers.now from to p.text.items p.status) }
+{
+    if !layers.are_free_ends(from, to) {
+        return said(alloc, b"blocked\n");
+    }
+    if !layers.in_one_layer(from, to) {
+        return said(alloc, b"apart\n");
+    }
+    let text = certificate(alloc, layers.query_grid(from), from, to)?;
+    Ok(Printed { text, status: 0 })
+}
+
+/// What is printed for a query: the certificate, or the line that says why there is none.
+pub fn proof_of(alloc: Global, layers: &Layers, ends: Ends) -> Result<Printed, NoMemory>
+    ensures { IfOk result (λ p. IsProof layers.now (record { x = ends.sx; y = ends.sy })
+        (record { x = ends.gx; y = ends.gy }) p.text.items p.status) }
+{
+    let Some(from) = layers.cell_at(ends.sx, ends.sy) else {
+        return said(alloc, b"outside\n");
+    };
+    let Some(to) = layers.cell_at(ends.gx, ends.gy) else {
+        return said(alloc, b"outside\n");
+    };
+    proof_between(alloc, layers, from, to)
+}

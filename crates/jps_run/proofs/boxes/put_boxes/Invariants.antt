@@ -1,7 +1,0 @@
-use Rattle.std.proofs.Common.{◌≡◌, ◌++◌, take}
-use Rattle.jps_run.specs.BoxLines.{box_line}
-use Rattle.jps_run.specs.Lines.{texts_of}
-use Rattle.jps_run.proofs.boxes.put_boxes.Given as goal
-
-abbrev pub invariant-loop-d : goal.invariant-loop-d
-invariant-loop-d l = l.out.items ≡ l.fn.out.items ++ texts_of (box_line l.boxes) (take l.d-index l.dirs)

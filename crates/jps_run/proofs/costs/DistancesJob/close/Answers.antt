@@ -1,5 +1,0 @@
-use Rattle.jps_run.proofs.Waved.{told-all}
-use Rattle.jps_run.proofs.costs.DistancesJob.close.Goals as goal
-
-pub returns-clause-closed : goal.returns-clause-closed
-returns-clause-closed c = told-all c.args.self.now c.args._lines.now.items

@@ -1,7 +1,0 @@
-use Rattle.std.proofs.Common.{◌≡◌}
-use Rattle.jps_run.specs.Telling.{numbers_below}
-use Rattle.jps_run.proofs.costs.numbers_below.Given as goal
-
--- the numbers below this one
-abbrev pub invariant-loop-y : goal.invariant-loop-y
-invariant-loop-y l = l.rows.items ≡ numbers_below l.y

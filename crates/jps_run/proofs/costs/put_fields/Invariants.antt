@@ -1,8 +1,0 @@
-use Rattle.std.proofs.Common.{◌≡◌, ◌++◌}
-use Rattle.jps_run.specs.Distances.{fields_to}
-use Rattle.jps_run.specs.Telling.{row_costs}
-use Rattle.jps_run.proofs.costs.put_fields.Given as goal
-
--- the fields up to this column are written
-abbrev pub invariant-loop-x : goal.invariant-loop-x
-invariant-loop-x l = l.out.items ≡ l.fn.out.items ++ fields_to (row_costs l.waves l.y) l.x

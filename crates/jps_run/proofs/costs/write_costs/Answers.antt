@@ -1,5 +1,0 @@
-use Rattle.jps_run.proofs.Waved.{told-complete}
-use Rattle.jps_run.proofs.costs.write_costs.Goals as goal
-
-pub work_items-requires-clause-completes : goal.work_items-requires-clause-completes
-work_items-requires-clause-completes g c = told-complete

@@ -1,7 +1,0 @@
-use Rattle.std.proofs.Common.{◌≡◌, ◌++◌, take}
-use Rattle.jps_run.specs.Lines.{texts_of}
-use Rattle.jps_run.specs.RunLines.{run_line}
-use Rattle.jps_run.proofs.moves.put_runs.Given as goal
-
-abbrev pub invariant-loop-i : goal.invariant-loop-i
-invariant-loop-i l = l.out.items ≡ l.fn.out.items ++ texts_of (run_line l.width) (take l.i l.row)

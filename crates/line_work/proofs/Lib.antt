@@ -1,0 +1,4 @@
+pub mod Turns
+pub mod Stopping
+pub mod Pieces
+pub mod Looping

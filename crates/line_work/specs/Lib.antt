@@ -1,0 +1,4 @@
+pub mod Stops
+pub mod Sending
+pub mod Working
+pub mod Turns

@@ -1,0 +1,4 @@
+pub mod Hearing
+pub mod Listening
+pub mod Incomings
+pub mod Rising

@@ -1,0 +1,4 @@
+pub mod Tallies
+pub mod Judgements
+pub mod Refereed
+pub mod Counting

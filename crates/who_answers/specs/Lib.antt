@@ -1,0 +1,3 @@
+pub mod Who
+pub mod Session
+pub mod Taking
