@@ -139,7 +139,7 @@ module _ (g : GridData) (h : Heading) (y n : ℕ) (band : Band) (last : Line) (r
   behind_is : IsFlagRow g n (with_items band.back row).items
   behind_is = flags_as g n row _ (with_items_is band.back row fits) is
 
-  pub ready_back : IsReady g h y (with_back band row) last
+  ready_back : IsReady g h y (with_back band row) last
   ready_back = record {
     rows = record {
       ahead = ready.rows.ahead;
@@ -158,7 +158,7 @@ module _ (g : GridData) (h : Heading) (y n : ℕ) (band : Band) (last : Line) (r
   }
 
   -- the row and the two beside it
-  pub around_row : AreRowsSeen g h y band.next.items band.here.items (with_items band.back row).items
+  around_row : AreRowsSeen g h y band.next.items band.here.items (with_items band.back row).items
   around_row = by_heading h ready.rows.ahead_is lies
     where
       by_heading : (h : Heading) → IsRowAt (row_ahead (seen h N) y) ready.rows.ahead
@@ -182,6 +182,10 @@ module _ (g : GridData) (h : Heading) (y n : ℕ) (band : Band) (last : Line) (r
         here_is = ready.rows.here_is;
         below_is = ready.rows.next_is;
       }
+
+  pub read_behind : IsReady g h y (with_back band row) last
+      × AreRowsSeen g h y band.next.items band.here.items (with_items band.back row).items
+  read_behind = (ready_back, around_row)
 
   -- on to the next row
   module _ (this : Line) (east west : List ℤ) (rows : Rows) (back : IsRowAt (row_ahead (seen h N) n) y)

@@ -23,22 +23,31 @@ returns-clause-told g c = λ h y ready around.
       ahead = entries_as grid y (seen h N) c.tell_ahead.new.out _
           (with_items_is c.args.this.now.ahead c.tell_ahead.new.out (omega arith))
           (c.tell_ahead.ensures h y m (seen h N) (seen h N) ready.rows.ahead_is here beyond
-          (entries_as grid m (seen h N) last.ahead.items c.deref-7.result.now c.deref-7.ensures.value ready.told.ahead)
-          (entries_as grid m (seen h N) last.ahead.items c.deref-8.result.now c.deref-8.ensures.value ready.told.ahead)
-          (entries_as grid m (seen h N) last.ahead.items c.deref-9.result.now c.deref-9.ensures.value ready.told.ahead)
+          (entries_as grid m (seen h N) last.ahead.items c.deref-7.result.now c.deref-7.ensures.value
+          ready.told.ahead)
+          (entries_as grid m (seen h N) last.ahead.items c.deref-8.result.now c.deref-8.ensures.value
+          ready.told.ahead)
+          (entries_as grid m (seen h N) last.ahead.items c.deref-9.result.now c.deref-9.ensures.value
+          ready.told.ahead)
           (λ k. absurd (cc)));
       ahead_east = entries_as grid y (seen h NE) c.tell_ahead-2.new.out _
           (with_items_is c.args.this.now.ahead_east c.tell_ahead-2.new.out (omega arith))
           (c.tell_ahead-2.ensures h y m (seen h E) (seen h N) lies.0 here beyond
-          (entries_as grid m (seen h NE) last.ahead_east.items c.deref-10.result.now c.deref-10.ensures.value ready.told.ahead_east)
-          (entries_as grid m (seen h E) last.east.items c.deref-11.result.now c.deref-11.ensures.value (along_seen grid h m ready.along).0)
-          (entries_as grid m (seen h N) last.ahead.items c.deref-12.result.now c.deref-12.ensures.value ready.told.ahead)
+          (entries_as grid m (seen h NE) last.ahead_east.items c.deref-10.result.now c.deref-10.ensures.value
+          ready.told.ahead_east)
+          (entries_as grid m (seen h E) last.east.items c.deref-11.result.now c.deref-11.ensures.value
+          (along_seen grid h m ready.along).0)
+          (entries_as grid m (seen h N) last.ahead.items c.deref-12.result.now c.deref-12.ensures.value
+          ready.told.ahead)
           (λ k. (refl, refl)));
       ahead_west = entries_as grid y (seen h NW) c.tell_ahead-3.new.out _
           (with_items_is c.args.this.now.ahead_west c.tell_ahead-3.new.out (omega arith))
           (c.tell_ahead-3.ensures h y m (seen h N) (seen h W) lies.1 here beyond
-          (entries_as grid m (seen h NW) last.ahead_west.items c.deref-13.result.now c.deref-13.ensures.value ready.told.ahead_west)
-          (entries_as grid m (seen h N) last.ahead.items c.deref-14.result.now c.deref-14.ensures.value ready.told.ahead)
-          (entries_as grid m (seen h W) last.west.items c.deref-15.result.now c.deref-15.ensures.value (along_seen grid h m ready.along).1)
+          (entries_as grid m (seen h NW) last.ahead_west.items c.deref-13.result.now c.deref-13.ensures.value
+          ready.told.ahead_west)
+          (entries_as grid m (seen h N) last.ahead.items c.deref-14.result.now c.deref-14.ensures.value
+          ready.told.ahead)
+          (entries_as grid m (seen h W) last.west.items c.deref-15.result.now c.deref-15.ensures.value
+          (along_seen grid h m ready.along).1)
           (λ k. (refl, refl)));
     }
