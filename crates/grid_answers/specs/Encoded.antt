@@ -1,4 +1,4 @@
--- The table file of a map, as it is written. No public clause cites this module.
+-- The table file of a map, as it is written.
 use Rattle.std.specs.Prelude.{◌≡◌, ℕ, ◌≤◌, List, ◌++◌}
 use Rattle.io_edge.specs.Told.{Outflow}
 use Rattle.plus_tables.specs.Tables.{IsWhole}

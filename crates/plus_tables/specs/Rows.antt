@@ -160,7 +160,7 @@ pub record AreRowsAround (g : GridData) (y : ℕ) (above here below : List Bool)
   pub here_is : IsFlagRow g y here
   pub below_is : IsFlagRow g lower below
 
--- a sweep goes from the row that was swept last to the next one: it heads back to the last one, up or down
+-- where the row lies that was swept last: above the one that is swept now, or below it
 pub data Heading : Type 0 where
   upwards : Heading
   downwards : Heading

@@ -1,4 +1,4 @@
--- How far the answers to commands have come. No public clause cites this module.
+-- How far the answers to commands have come.
 use Rattle.std.specs.Prelude.{◌≡◌, ℕ, ◌+◌, ◌*◌, ◌≤◌, List, [], ◌++◌}
 use Rattle.std.specs.List.{fold}
 use Rattle.grid_moves.specs.Layers.{Layers}

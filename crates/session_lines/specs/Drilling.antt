@@ -1,4 +1,4 @@
--- How far a drill has come. No public clause cites this module.
+-- How far a drill has come.
 use Rattle.std.specs.Prelude.{◌≡◌, ℕ, ◌+◌, ◌<◌, ◌≤◌, ◌^◌, List, [], ◌∷◌, ◌++◌, length, count_by}
 use Rattle.std.specs.List.{All, fold, sum_by}
 use Rattle.script_text.specs.declared.command.Command.{Command}
