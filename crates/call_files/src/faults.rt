@@ -21,7 +21,7 @@ use table_file::TableFault;
 use text_line::{put, put_number};
 use walk_judge::WalkFault;
 
-/// The line of a refused list of words.
+/// The line of a refused list of words, by the number of its bad word, counted from 1.
 pub fn word_line(alloc: Global, number: u32) -> Result<Vec<u8>, NoMemory>
     ensures { IfOk result (λ line. line.items ≡ spec.word_line number) }
 {

@@ -35,11 +35,13 @@ pub trait Text: Drop + Sized {
     /// What these texts are judged by: what the call asks of them, and what was read before them.
     type Context;
 
+    /// The kind of these texts, by their context.
     ghost kind_of_text: { Self.Context → Kind };
 
-    // the context tells what these texts before say
+    /// The context tells what these texts before say.
     ghost is_behind: { Self.Context → List (List ℕ) → Type 0 };
 
+    /// The text spells the value, under the context.
     ghost spells: { Self.Context → List ℕ → Self → Type 0 };
 
     /// The kind of these texts.
@@ -204,7 +206,8 @@ fn read_text<F: Files>(
     }
 }
 
-/// What the file of this name is read as.
+/// What the file of this name is read as. It stops where a read fails, where memory is refused, and where the text is
+/// refused, with the line that says so.
 pub fn read_file<F: Files, T: Text>(
     alloc: Global,
     files: &mut F,
@@ -235,12 +238,13 @@ pub trait OfMap: Drop + Sized {
     ghost use Rattle.call_files.specs.Kinds.{takes};
     ghost use Rattle.call_files.specs.declared.kind.Extent.{Extent};
 
-    // the maps of which it is made
+    /// The maps of which it is made.
     ghost extent_of: { Settings → Extent };
 
-    // it can be made as the settings ask
+    /// It can be made as the settings ask.
     ghost serves: { Settings → Type 0 };
 
+    /// It is what the settings ask to be made of the map.
     ghost is_of_map: { Settings → Map → Self → Type 0 };
 
     /// The maps of which it is made, as the settings ask.

@@ -17,12 +17,17 @@ const LONGEST_MADE: u32 = 1 << 30;
 /// A kind of text.
 #[derive(Clone, Copy, Debug)]
 pub enum Kind {
+    /// A map of any size.
     Map,
     /// A map of at most 2^14 cells.
     SmallMap,
+    /// A script of edits and queries.
     Script,
+    /// A scenario.
     Scen,
+    /// A certificate.
     Cert,
+    /// The walks that another program tells of the scenario before it.
     Walks,
     /// A table file of the map before it, under this corner rule.
     Tables(Corner),
@@ -31,6 +36,7 @@ pub enum Kind {
 /// Which maps a call takes.
 #[derive(Clone, Copy, Debug)]
 pub enum Extent {
+    /// All maps.
     Any,
     /// Maps of at most 2^14 cells.
     Small,

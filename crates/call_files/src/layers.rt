@@ -59,6 +59,7 @@ impl OfMap for Layers {
 /// The land grid and the water grid of a map of at most 2^14 cells.
 #[derive(Drop)]
 pub struct SmallLayers {
+    /// The two grids.
     pub layers: Layers,
 }
 

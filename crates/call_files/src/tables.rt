@@ -22,7 +22,9 @@ use word_list::Settings;
 /// The tables of a map's land grid and of its water grid.
 #[derive(Drop)]
 pub struct MapTables {
+    /// Those of the land grid.
     pub land: Tables,
+    /// Those of the water grid.
     pub water: Tables,
 }
 

@@ -14,24 +14,25 @@ use steps::Steps;
 
 /// What a command does with its items, one after the other.
 pub trait Job {
+    /// What is worked.
     type Item;
 
-    // the item may be worked
+    /// The item may be worked.
     ghost can_work: { Self.Item → Type 0 };
 
-    // there is room for so many items more
+    /// There is room for so many items more.
     ghost has_room: { Self → ℕ → Type 0 };
 
-    // the first job became the other by working these items, which have these lines
+    /// The first job became the other by working these items, which have these lines.
     ghost has_worked: { Self → Self → List Self.Item → List (List ℕ) → Type 0 };
 
-    // whether a line closes the output
+    /// Whether a line closes the output.
     ghost closes: { Bool };
 
-    // the job's whole output for these items has these lines and this status
+    /// The job's whole output for these items has these lines and this status.
     ghost is_whole: { Self → List Self.Item → List (List ℕ) → ℕ → Type 0 };
 
-    // the first job became the other by working these items, and the counter rose as it has to
+    /// The first job became the other by working these items, and the counter rose as it has to.
     ghost has_counted: { Self → Self → List Self.Item → ℕ → ℕ → Type 0 };
 
     /// Works the next item, and appends its lines.

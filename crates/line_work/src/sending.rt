@@ -9,7 +9,7 @@ use io_edge::{Sink, write_whole};
 /// Lines wait until they are at least this many bytes, but for the last ones.
 const PIECE: usize = 1 << 16;
 
-/// Writes the bytes.
+/// Writes the bytes. It stops where a write fails.
 pub fn send<O: Sink>(out: &mut O, bytes: &[u8]) -> Result<(), Stop>
     ensures sent { Sends (O.outflow out.old)
         (O.outflow out.new) bytes.now result }
@@ -21,7 +21,7 @@ pub fn send<O: Sink>(out: &mut O, bytes: &[u8]) -> Result<(), Stop>
     }
 }
 
-/// Writes the lines that wait, once they are many.
+/// Writes the lines that wait, once they are at least 64 KiB. It stops where a write fails.
 pub fn send_full<O: Sink>(out: &mut O, waiting: &mut Vec<u8>) -> Result<(), Stop>
     ensures sent { SendsFull (O.outflow out.old)
         (O.outflow out.new) waiting.old.items waiting.new.items result }
