@@ -1,12 +1,7 @@
 -- The steps that searches count.
-use Rattle.std.proofs.Common.{◌≡◌, refl, sym, ap, ◌∙◌, subst, List, [], ◌∷◌, ◌++◌, ℕ, ◌+◌, ◌*◌, ◌≤◌, arith}
-use Rattle.std.specs.Prelude.{Option, Result, Ok, Err, OnOk, sum}
-use Rattle.std.specs.List.{fold}
-use Rattle.std.proofs.lemmas.List.Sums.{sum_by_push}
-use Rattle.edit_replay.specs.Counting.{fewest_of, states_away}
-use Rattle.edit_replay.specs.Edited.{Edit}
+use Rattle.std.proofs.Common.{◌≡◌, subst, List, [], ◌∷◌, ◌++◌, ℕ, ◌+◌}
+use Rattle.std.specs.Prelude.{Option, Ok}
 use Rattle.edit_replay.specs.Session.{SessionData}
-use Rattle.edit_replay.specs.declared.reply.Reply.{Reply}
 use Rattle.script_text.specs.declared.command.Command.{Command}
 use Rattle.script_text.specs.declared.command.Command.TheVariants as command
 use Rattle.scen_text.specs.declared.entry.Entry.{Entry}
@@ -17,29 +12,18 @@ use Rattle.map_maker.specs.Making.{made_map}
 use Rattle.word_list.specs.Request.{Drill, Scen, Solve}
 use Rattle.word_list.specs.Request as asked
 use Rattle.word_list.specs.declared.request.Settings.{Settings}
-use Rattle.session_lines.specs.Answering as answering
-use Rattle.session_lines.specs.Answering.{GoesOn}
-use Rattle.session_lines.specs.Answers.{edits_with}
-use Rattle.answerers.specs.Answerers.{who_of}
-use Rattle.who_answers.specs.Taking.{RoseAtLeast, RoseBy, RoseForQuery}
-use Rattle.session_lines.specs.Counts.{CommandTakes, CommandsTake, TakesAfter}
-use Rattle.scenario_rows.specs.Entries.{EntryTakes}
+use Rattle.who_answers.specs.Taking.{RoseBy, RoseForQuery}
+use Rattle.session_lines.specs.Counts.{CommandsTake}
 use Rattle.jps_run.specs.Counting.{RoseFor, drilled, drawn, judged, replied, solved}
 use Rattle.jps_run.specs.Calls.{call_with}
 use Rattle.call_files.specs.Reading.{IsMade}
 use Rattle.session_lines.specs.Pictures.{IsCanvasOf}
 use Rattle.session_lines.specs.declared.draw.Canvas.{Canvas}
-use Rattle.scenario_rows.specs.Judging as judging
 use Rattle.scenario_rows.specs.Judging.{RoseForEntries}
-use Rattle.who_answers.specs.Session.{IsReply, IsSessionOn, session_after, who_on}
-use Rattle.who_answers.specs.Who.{Who, fewest_by}
-use Rattle.answerers.specs.declared.answerer.Answerer.{Answerer}
+use Rattle.who_answers.specs.Session.{IsSessionOn, who_on}
+use Rattle.who_answers.specs.Who.{Who}
 use Rattle.map_text.specs.Map.{Map}
 use Rattle.map_text.specs.Faults.{map_of}
-use Rattle.session_lines.specs.declared.answers.Answers.{Answers}
-use Rattle.scenario_rows.specs.declared.scenario.Judge.{Judge}
-use Rattle.session_lines.proofs.Solving.{after-more, nothing_edited}
-use Rattle.line_work.proofs.Turns.{turns-more, fold-more}
 
 -- the searches of a call, on the session that its words ask for
 pub drill-counted : (set : Settings) (seed : ℕ) (d : SessionData) (commands : List Command) (old new : ℕ)

@@ -1,4 +1,3 @@
-pub mod Querying
 pub mod Opening
 pub mod Ended
 pub mod Serving

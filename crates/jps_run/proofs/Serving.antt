@@ -1,6 +1,6 @@
 -- The work on a call, from its files to its output.
-use Rattle.std.proofs.Common.{◌≡◌, sym, subst, inl, inr, List, ◌∷◌, ℕ, arith}
-use Rattle.std.specs.Prelude.{None, Some, Option, OnOk, Result, Ok, Err, IsErrAnd, Vec}
+use Rattle.std.proofs.Common.{◌≡◌, subst, inl, inr, List, ◌∷◌, ℕ, arith}
+use Rattle.std.specs.Prelude.{None, Some, Option, Result, IsErrAnd}
 use Rattle.io_edge.specs.Told.{Disk, Held, Inflow, Outflow}
 use Rattle.edit_replay.specs.Session.{SessionData}
 use Rattle.word_list.specs.Request.{Call}
@@ -10,7 +10,8 @@ use Rattle.live_lines.specs.Heard.{WroteAll, WroteFirst, WroteLines, AnswerHeard
 use Rattle.jps_run.specs.Live.{OnLive}
 use Rattle.live_lines.specs.Hearing.{Hears}
 use Rattle.call_files.specs.Reading.{open_stops}
-use Rattle.jps_run.specs.Opened.{HasRisen, IsCounted, IsListener, IsWhole, IsWorkOn}
+use Rattle.call_work.specs.Works.{HasRisen, IsWhole}
+use Rattle.jps_run.specs.Opened.{IsCounted, IsListener, IsWorkOn}
 use Rattle.jps_run.specs.Calls.{MayHear, files_of}
 use Rattle.jps_run.specs.Outcome.{IsOutput}
 use Rattle.line_work.specs.Sending.{IsAll, SendsWhole, work_stops}
@@ -18,13 +19,9 @@ use Rattle.jps_run.specs.Served.{HasServed, served_stops}
 use Rattle.line_work.specs.Stops.{StopsSo}
 use Rattle.session_lines.specs.declared.answers.Answers.{Answers}
 use Rattle.line_work.specs.declared.stop.Stop.{Stop}
-use Rattle.jps_run.specs.declared.work.Work.{Work}
-use Rattle.jps_run.specs.declared.work.Work.TheVariants as work
+use Rattle.call_work.specs.declared.work.Work.{Work}
 use Rattle.line_work.proofs.Pieces.{nothing}
 use Rattle.line_work.proofs.Stopping.{passed, ends-on}
-use Rattle.scen_text.specs.declared.entry.Entry.{Entry}
-use Rattle.scenario_rows.specs.declared.referee.Referee.{Referee}
-use Rattle.std.specs.Global.{Global}
 
 -- what is known of the session is known of the call
 pub on-live : (call : Call) (holds : List ℕ → Held) (job : Answers) → IsListener call holds job
@@ -134,9 +131,3 @@ module _ (call : Call) (disk disk_now : Disk) (input input_now : Inflow) (out ou
         memory = λ w. inr
             (inr (on-live call disk.holds job l (λ d show. WroteLines (AnswerTaken d show input.left input_now.left) out out_now) w));
       }) h
-
--- nothing is promised of the counter
-pub uncounted : {T E : Type 0} (result : Result T E) (w : Work) (job : Referee) (entries : Vec Entry Global)
-    (old new : ℕ) → w ≡ work.Referee job entries → OnOk result (HasRisen w old new)
-uncounted (Err error) w job entries old new is = tt
-uncounted (Ok done) w job entries old new is = subst (λ (w : Work). HasRisen w old new) (sym is) tt

@@ -1,11 +1,10 @@
 -- How many steps a call counts at least: so many for each state that its searches take away from their goals.
-use Rattle.std.specs.Prelude.{◌≡◌, ℕ, ◌+◌, ◌*◌, ◌≤◌, Bool, true, false, List, [], ◌∷◌, ◌++◌, sum, Option, None, Ok}
+use Rattle.std.specs.Prelude.{◌≡◌, ℕ, ◌+◌, Bool, true, false, List, [], ◌∷◌, ◌++◌, Option, Ok}
 use Rattle.io_edge.specs.Told.{Held}
 use Rattle.map_text.specs.Map.{Map}
 use Rattle.map_text.specs.Faults.{map_of}
 use Rattle.map_maker.specs.Drill.{drill_commands}
 use Rattle.map_maker.specs.Making.{made_map}
-use Rattle.edit_replay.specs.Counting.{fewest_of}
 use Rattle.script_text.specs.declared.command.Command.{Command}
 use Rattle.script_text.specs.declared.command.Command.TheVariants as command
 use Rattle.script_text.specs.Faults.{script_of}

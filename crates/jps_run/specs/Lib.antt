@@ -5,7 +5,5 @@ pub mod Outcome
 pub mod Ending
 pub mod Opened
 pub mod Served
-pub mod Querying
 pub mod Calls
 pub mod Tabled
-pub mod Cases

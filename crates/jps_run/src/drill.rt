@@ -8,7 +8,7 @@ ghost use Rattle.jps_run.specs.Opened.{IsWorkOf};
 ghost use Rattle.who_answers.specs.Session.{PicksSession};
 
 use crate::NoMemory;
-use crate::work::Work;
+use call_work::Work;
 use map_maker::drill_script;
 use std::alloc::Global;
 use who_answers::session_on;

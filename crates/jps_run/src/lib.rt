@@ -17,7 +17,6 @@ mod solve;
 mod tables;
 mod texts;
 mod top;
-mod work;
 
 pub use std::alloc::AllocError as NoMemory;
 pub use top::{refuse, run, starve};

@@ -26,16 +26,25 @@ use crate::scen::scen;
 use crate::solve::solve;
 use crate::tables::tables;
 use crate::texts::{help_text, version_text};
-use crate::work::{Opened, Work, perform};
 use call_files::word_line;
+use call_work::{Work, perform};
 use grid_answers::Ends;
 use io_edge::{Files, Sink, Source, write_whole};
 use line_work::Stop;
 use live_lines::hear;
+use session_lines::Answers;
 use std::alloc::Global;
 use std::sync::ledger::Ledger;
 use steps::Steps;
 use word_list::{Request, Settings, first_bad, read_words};
+
+// A call whose files are read: its command made work of what was read, or a session that answers what comes in.
+#[derive(Drop)]
+enum Opened {
+    Work(Work),
+    // A session that answers what comes in.
+    Listener(Answers),
+}
 
 // Reads the files of what is asked for, and makes what is to be done with them.
 fn open<F: Files>(

@@ -4,3 +4,4 @@ pub mod Judging
 pub mod Rulings
 pub mod Refereeing
 pub mod Entries
+pub mod Cases

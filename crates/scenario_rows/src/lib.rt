@@ -2,11 +2,13 @@
 //! them; and the lines that sum them up.
 #![tactic(auto)]
 
+mod case;
 mod referee;
 mod row;
 mod ruling;
 mod scenario;
 
+pub use case::{Case, read_case};
 pub use referee::{Court, Referee, write_rulings};
 pub use row::{Row, Tally};
 pub use ruling::{Counts, Ruling};

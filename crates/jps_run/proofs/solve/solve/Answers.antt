@@ -1,4 +1,4 @@
-use Rattle.std.proofs.Common.{◌≡◌, ◌∙◌, refl, inr, List, [], ◌∷◌, ◌++◌, ℕ}
+use Rattle.std.proofs.Common.{◌∙◌, refl, inr, List, [], ◌∷◌, ◌++◌, ℕ}
 use Rattle.std.specs.Option.{option_copied}
 use Rattle.word_list.specs.Request.{Solve}
 use Rattle.jps_run.specs.Calls.{call_with}

@@ -11,7 +11,7 @@ use Rattle.session_lines.specs.Answers.{AreAnswers, IsReplyLine}
 use Rattle.who_answers.specs.Taking.{QueryTakes, RoseBy, RoseForQuery}
 use Rattle.session_lines.specs.Counts.{CommandsTake}
 use Rattle.session_lines.specs.Lines.{reply_line}
-use Rattle.jps_run.specs.Querying.{IsOneReply}
+use Rattle.call_work.specs.Querying.{IsOneReply}
 use Rattle.who_answers.specs.Who.{Who, IsReplyBy, fewest_by, who_is}
 use Rattle.session_lines.proofs.Solving.{nothing_edited}
 

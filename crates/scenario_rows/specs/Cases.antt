@@ -1,10 +1,10 @@
--- What `judge` reads. No public clause cites this module.
+-- What is to be judged, as files hold it.
 use Rattle.std.specs.Prelude.{ℕ, List, [], ◌∷◌, length}
 use Rattle.io_edge.specs.Told.{Held}
 use Rattle.call_files.specs.Files.{AreAccepted, file_of}
 use Rattle.call_files.specs.Reading.{IsMade, SpellsScen, SpellsWalks}
 use Rattle.call_files.specs.declared.kind.Kind.TheVariants as kinds
-use Rattle.jps_run.specs.declared.judge.Case.{Case}
+use Rattle.scenario_rows.specs.declared.case.Case.{Case}
 use Rattle.scenario_rows.specs.Refereeing.{IsCourtOf}
 use Rattle.word_list.specs.declared.request.Settings.{Settings}
 

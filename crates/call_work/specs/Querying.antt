@@ -4,9 +4,9 @@ use Rattle.grid_moves.specs.declared.Cell.{Cell}
 use Rattle.word_list.specs.declared.request.Show.{Show}
 use Rattle.session_lines.specs.Answers.{IsReplyLine}
 use Rattle.who_answers.specs.Taking.{RoseForQuery}
-use Rattle.jps_run.specs.Opened.{CanPerform, HasRisen, IsWhole}
+use Rattle.call_work.specs.Works.{CanPerform, HasRisen, IsWhole}
 use Rattle.who_answers.specs.Who.{Who}
-use Rattle.jps_run.specs.declared.work.Work.{Work}
+use Rattle.call_work.specs.declared.work.Work.{Work}
 
 -- the lines are one line, that of a right reply
 pub record IsOneReply (who : Who) (show : Show) (s t : Cell) (lines : List (List ℕ)) : Type 0 where

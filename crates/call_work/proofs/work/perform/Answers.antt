@@ -1,5 +1,5 @@
-use Rattle.jps_run.proofs.Serving.{uncounted}
-use Rattle.jps_run.proofs.work.perform.Goals as goal
+use Rattle.call_work.proofs.Performing.{uncounted}
+use Rattle.call_work.proofs.work.perform.Goals as goal
 
 pub returns-in-Referee-clause-counted : goal.returns-in-Referee-clause-counted
 returns-in-Referee-clause-counted g c =

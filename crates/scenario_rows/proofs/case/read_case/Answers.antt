@@ -7,7 +7,7 @@ use Rattle.call_files.specs.Kinds.{count_in}
 use Rattle.call_files.specs.Reading.{SpellsWalks}
 use Rattle.call_files.specs.declared.kind.Kind.TheVariants as kinds
 use Rattle.call_files.proofs.Opening.{both-accepted, fell-on, next-file, none-fell, reading-stops, third-accepted}
-use Rattle.jps_run.proofs.judge.read_case.Goals as goal
+use Rattle.scenario_rows.proofs.case.read_case.Goals as goal
 
 pub overflow_cast-count : goal.overflow_cast-count
 overflow_cast-count g c =

@@ -3,8 +3,8 @@ use Rattle.script_text.specs.declared.command.Command.{Command}
 use Rattle.session_lines.specs.Answers.{AreAnswers}
 use Rattle.who_answers.specs.Taking.{RoseBy}
 use Rattle.session_lines.specs.Counts.{CommandsTake}
-use Rattle.jps_run.proofs.Querying.{one-line, one-rose}
-use Rattle.jps_run.proofs.query.by_session.Goals as goal
+use Rattle.call_work.proofs.Querying.{one-line, one-rose}
+use Rattle.call_work.proofs.query.by_session.Goals as goal
 
 pub returns : goal.returns
 returns c =

@@ -1,11 +1,7 @@
-//! What a call is opened as, and the one place that performs it.
-//!
-//! A command reads its files and makes a value: work on what was read, or a session that answers
-//! what comes in. It promises that the output of that work answers the call. How outputs are
-//! written, and what stands where a write fails or memory is refused, is known here alone.
+//! Work on what was read, and the one place that does it.
 
 ghost use Rattle.std.specs.Prelude.{OnOk};
-ghost use Rattle.jps_run.specs.Opened.{CanPerform, HasRisen, IsWhole};
+ghost use Rattle.call_work.specs.Works.{CanPerform, HasRisen, IsWhole};
 ghost use Rattle.line_work.specs.Sending.{SendsWhole};
 
 use answerers::Answerer;
@@ -24,7 +20,7 @@ use word_list::Show;
 
 /// Work whose output is settled by what was read.
 #[derive(Drop)]
-pub(crate) enum Work {
+pub enum Work {
     /// The session answers the commands, a line each.
     Answer {
         job: Answers,
@@ -65,16 +61,8 @@ pub(crate) enum Work {
     Say(&'static [u8]),
 }
 
-/// A call whose files are read.
-#[derive(Drop)]
-pub(crate) enum Opened {
-    Work(Work),
-    /// A session that answers what comes in.
-    Listener(Answers),
-}
-
 /// Does the work, and gives the status.
-pub(crate) fn perform<O: Sink, L: Ledger>(
+pub fn perform<O: Sink, L: Ledger>(
     alloc: Global,
     work: Work,
     out: &mut O,
