@@ -1,4 +1,4 @@
--- What the work on one query comes to. No public clause cites this module.
+-- What the work on one query comes to.
 use Rattle.std.specs.Prelude.{◌≡◌, ℕ, List, [], ◌∷◌}
 use Rattle.grid_moves.specs.declared.Cell.{Cell}
 use Rattle.word_list.specs.declared.request.Show.{Show}

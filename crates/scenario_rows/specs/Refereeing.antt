@@ -1,5 +1,5 @@
 -- How far the judging of told walks has come.
-use Rattle.std.specs.Prelude.{◌≡◌, ℕ, ◌+◌, ◌^◌, ◌<◌, ◌≤◌, ◌++◌, List, [], ◌∷◌, length, count_by, codes, decimal, Option, Some, None}
+use Rattle.std.specs.Prelude.{◌≡◌, ℕ, ◌+◌, ◌^◌, ◌<◌, ◌≤◌, ◌++◌, List, [], length, count_by, codes, decimal, Option, Some, None}
 use Rattle.root2_cost.specs.declared.Cost.{Cost}
 use Rattle.edit_replay.specs.declared.engine.Engine.TheVariants.{Block}
 use Rattle.edit_replay.specs.declared.reply.Reply.{Reply}
