@@ -4,20 +4,20 @@
 #![tactic(auto)]
 
 #[cfg(test)]
-mod cost_waves;
+mod cost_waves_tests;
 #[cfg(test)]
-mod first_moves;
+mod first_moves_tests;
 #[cfg(test)]
-mod goal_boxes;
+mod goal_boxes_tests;
 #[cfg(test)]
-mod jump_block;
+mod jump_block_tests;
 #[cfg(test)]
-mod jump_plain;
+mod jump_plain_tests;
 #[cfg(test)]
-mod path_points;
+mod path_points_tests;
 #[cfg(test)]
-mod plain_search;
+mod plain_search_tests;
 #[cfg(test)]
-mod pruning;
+mod pruning_tests;
 #[cfg(test)]
-mod search_core;
+mod search_core_tests;

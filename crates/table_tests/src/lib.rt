@@ -4,10 +4,10 @@
 #![tactic(auto)]
 
 #[cfg(test)]
-mod edit_replay;
+mod edit_replay_tests;
 #[cfg(test)]
-mod plus_tables;
+mod plus_tables_tests;
 #[cfg(test)]
-mod table_file;
+mod table_file_tests;
 #[cfg(test)]
-mod table_repair;
+mod table_repair_tests;

@@ -1,5 +1,0 @@
-use Rattle.search_tests.proofs.first_moves.first_moves_lead_along_least_walks.Given as goal
-
--- the ledger of the blank that the test makes
-abbrev pub ghosts-leads_over : goal.ghosts-leads_over
-ghosts-leads_over g a = record { name = a.blank.name; parts = a.blank.parts }

@@ -1,5 +1,0 @@
-use Rattle.search_tests.proofs.jump_plain.out_of_a_corner.Given as goal
-
--- the ledger of the blank that the test makes
-abbrev pub ghosts-directions_from : goal.ghosts-directions_from
-ghosts-directions_from g a = record { name = a.blank.name; parts = a.blank.parts }

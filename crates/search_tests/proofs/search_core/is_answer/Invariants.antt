@@ -1,5 +1,0 @@
-use Rattle.search_tests.proofs.search_core.is_answer.Given as goal
-
--- the ledger of the blank that the test makes
-abbrev pub ghosts-is_told : goal.ghosts-is_told
-ghosts-is_told a = record { name = a.blank.name; parts = a.blank.parts }
