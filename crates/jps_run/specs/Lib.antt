@@ -7,3 +7,4 @@ pub mod Opened
 pub mod Served
 pub mod Calls
 pub mod Tabled
+pub mod Laws

@@ -7,6 +7,7 @@ mod costs;
 mod draw;
 mod drill;
 mod judge;
+pub mod laws;
 mod live;
 mod make;
 mod moves;

@@ -1,0 +1,61 @@
+-- That the outcome of a call is the only one, and which engines print the same.
+use Rattle.std.specs.Prelude.{◌≡◌, ◌≢◌, ⊤, ⊥, ◌⊎◌, ℕ, Bool, true, false, List, Some}
+use Rattle.io_edge.specs.Told.{Held}
+use Rattle.word_list.specs.Request.{Asked, Call, Scen, Drill}
+use Rattle.word_list.specs.Settings.{is_for_small_maps}
+use Rattle.word_list.specs.declared.request.Pick.{Pick}
+use Rattle.word_list.specs.declared.request.Pick.TheVariants as pick
+use Rattle.word_list.specs.declared.request.Show.{Show}
+use Rattle.word_list.specs.declared.request.Show.TheVariants as show
+use Rattle.answer_laws.specs.Files.{AreTold}
+use Rattle.jps_run.specs.Calls.{files_of}
+use Rattle.jps_run.specs.Outcome.{IsOutcome, Outcome, Spell}
+
+-- of each file that the words name it is told what stands under its name
+abbrev pub FilesAreTold : List (List ℕ) → (List ℕ → Held) → Type 0
+FilesAreTold words holds = (call : Call) → Spell words call → AreTold holds (files_of call)
+
+-- Where the files and the input are told, words come to one outcome: one status, one output and one line.
+abbrev pub OutcomesAreOne : Type 0
+OutcomesAreOne = (words : List (List ℕ)) (holds : List ℕ → Held) (script : List ℕ) (one other : Outcome)
+    → FilesAreTold words holds → IsOutcome words holds (Some script) one → IsOutcome words holds (Some script) other
+    → one ≡ other
+
+-- the engines that jump
+abbrev pub is_jump : Pick → Bool
+is_jump pick.Plain = false
+is_jump pick.Jps = true
+is_jump pick.Block = true
+is_jump pick.Plus = true
+is_jump pick.Boxes = false
+is_jump pick.Moves = false
+
+-- two calls ask for the same, but that each may pick an engine of its own
+pub record DifferInEngine (call other : Call) : Type 0 where
+  pub request : call.request ≡ other.request
+  pub show : call.settings.show ≡ other.settings.show
+  pub rule : call.settings.one ≡ other.settings.one
+
+-- Calls that differ in which of the engines `jps`, `block` and `plus` they pick come to the same outcome.
+abbrev pub JumpEnginesPrintTheSame : Type 0
+JumpEnginesPrintTheSame = (words others : List (List ℕ)) (call like : Call) (holds : List ℕ → Held)
+    (script : List ℕ) (one other : Outcome) → AreTold holds (files_of call)
+    → Spell words call → Spell others like → DifferInEngine call like
+    → is_jump call.settings.pick ≡ true → is_jump like.settings.pick ≡ true
+    → IsOutcome words holds (Some script) one → IsOutcome others holds (Some script) other → one ≡ other
+
+-- a scenario is judged without its counts of taken states, or a drill is asked for
+abbrev pub AsksForCosts : Asked → Show → Type 0
+AsksForCosts (Scen map tables scen) shown = shown ≢ show.Taken
+AsksForCosts (Drill seed) shown = ⊤
+AsksForCosts other shown = ⊥
+
+-- Of calls that ask for costs alone this is so for all engines, where these take the same maps, or neither call is refused.
+abbrev pub EnginesPrintTheSameCosts : Type 0
+EnginesPrintTheSameCosts = (words others : List (List ℕ)) (call like : Call) (holds : List ℕ → Held)
+    (script : List ℕ) (one other : Outcome) → AreTold holds (files_of call)
+    → Spell words call → Spell others like → DifferInEngine call like
+    → AsksForCosts call.request call.settings.show
+    → (is_for_small_maps call.settings.pick ≡ is_for_small_maps like.settings.pick)
+    ⊎ ((one.status ≢ 3) × (other.status ≢ 3))
+    → IsOutcome words holds (Some script) one → IsOutcome others holds (Some script) other → one ≡ other

@@ -1,0 +1,21 @@
+//! Laws of outcomes: each is the contract of a call that does nothing.
+
+ghost use Rattle.jps_run.specs.Laws.{OutcomesAreOne, JumpEnginesPrintTheSame, EnginesPrintTheSameCosts};
+
+/// Words come to one outcome, where the files that they name and the input are told: one status, one output, and
+/// one line on `err`.
+pub fn outcomes_are_one()
+    ensures { OutcomesAreOne }
+{}
+
+/// Two calls that differ in which of the engines `jps`, `block` and `plus` they pick come to the same outcome, for every
+/// command and whatever they show.
+pub fn jump_engines_print_the_same()
+    ensures { JumpEnginesPrintTheSame }
+{}
+
+/// Two calls of `scen` that don't show counts of taken states, or two of `drill`, come to the same outcome whatever
+/// engines they pick, if these take the same maps (`boxes` and `moves` take small ones alone).
+pub fn engines_print_the_same_costs()
+    ensures { EnginesPrintTheSameCosts }
+{}
