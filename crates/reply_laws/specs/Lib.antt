@@ -1,0 +1,3 @@
+pub mod Oneness
+pub mod Costs
+pub mod Layers
