@@ -25,6 +25,13 @@ not_longer (holding bytes) limit text told is longer =
     let same : length text ≡ length bytes = ap (λ (t : List ℕ). length t) is.0 in
     omega (arith, is.1, longer)
 
+-- the line of a refusal
+abbrev with_line : List ℕ → Option (List ℕ)
+with_line line = Some line
+
+same_line : (one other : List ℕ) → with_line one ≡ with_line other → one ≡ other
+same_line one other e = cc
+
 module _ (earlier : List (List ℕ)) (kind : Kind) (held : Held) (told : held ≢ untold) where
   same_accepted : (one other : List ℕ) → IsAccepted earlier kind held one → IsAccepted earlier kind held other
       → one ≡ other
@@ -50,11 +57,7 @@ module _ (earlier : List (List ℕ)) (kind : Kind) (held : Held) (told : held �
       let same = same_whole held (limit_of kind) text more told whole also in
       let both : refusal_of kind earlier text ≡ refusal_of kind earlier more =
       ap (λ (t : List ℕ). refusal_of kind earlier t) same in
-      let lines : some_line one ≡ some_line other = sym fault ∙ both ∙ wrong in
-      cc
-    where
-      some_line : List ℕ → Option (List ℕ)
-      some_line line = Some line
+      same_line one other (sym fault ∙ both ∙ wrong)
 
 -- files that are accepted in turn up to one that is refused
 abbrev ComesToRefusal : (List ℕ → Held) → List (List ℕ) → List File → List ℕ → Type 0

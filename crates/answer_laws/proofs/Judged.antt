@@ -1,5 +1,5 @@
 -- Each claim on a grid is judged: it is accepted, or one clause refuses it.
-use Rattle.std.proofs.Common.{◌≡◌, ℕ, refl, Bool, true, false, ◌&&◌, List}
+use Rattle.std.proofs.Common.{◌≡◌, ℕ, refl, Bool, true, false, ◌&&◌, List, length}
 use Rattle.std.specs.Prelude.{Option, Some, None, Result, Ok, Err}
 use Rattle.root2_cost.specs.declared.Cost.{Cost}
 use Rattle.grid_moves.specs.declared.Cell.{Cell}
@@ -34,7 +34,7 @@ module _ (g : GridData) (s t : Cell) (cost : Cost) (points : List Cell) where
       by_ends paid begins told true e =
           let p = and_both (ends_at t points) (is_cost paid cost) e in
           (None, judged_right g s t cost points paid begins told p.0 p.1)
-      by_ends paid begins told false e = (Some _, judged_other g s t cost points paid begins told e)
+      by_ends paid begins told false e = (Some (length points), judged_other g s t cost points paid begins told e)
 
       by_answer : begins_at s points ≡ true → (answer : Result Cost BadAt) → IsVerdict g points answer
           → (bad : Option ℕ) × JudgesWalk g s t cost points bad

@@ -19,22 +19,22 @@ module _ (ls : Layers) (are : AreLayers ls) where
     not_scale : {A : Type 0} → has_sides ls entry ≡ true → has_sides ls entry ≡ false → A
     not_scale fits other = not_both (has_sides ls entry) fits other
 
-    abbrev are_on : Type 0
-    are_on = (is_on_map ls (start_of entry) && is_on_map ls (goal_of entry)) ≡ true
+    abbrev AreOn : Type 0
+    AreOn = (is_on_map ls (start_of entry) && is_on_map ls (goal_of entry)) ≡ true
 
-    abbrev are_off : Type 0
-    are_off = (is_on_map ls (start_of entry) && is_on_map ls (goal_of entry)) ≡ false
+    abbrev AreOff : Type 0
+    AreOff = (is_on_map ls (start_of entry) && is_on_map ls (goal_of entry)) ≡ false
 
-    abbrev are_free : Type 0
-    are_free = are_free_ends ls (start_of entry) (goal_of entry) ≡ true
+    abbrev AreFree : Type 0
+    AreFree = are_free_ends ls (start_of entry) (goal_of entry) ≡ true
 
-    not_outside : {A : Type 0} → are_on → are_off → A
+    not_outside : {A : Type 0} → AreOn → AreOff → A
     not_outside on off = not_both (is_on_map ls (start_of entry) && is_on_map ls (goal_of entry)) on off
 
-    free_on : are_free → are_on
+    free_on : AreFree → AreOn
     free_on free = ends_on ls are (start_of entry) (goal_of entry) free
 
-    not_blocked : {A : Type 0} → are_free → are_free_ends ls (start_of entry) (goal_of entry) ≡ false → A
+    not_blocked : {A : Type 0} → AreFree → are_free_ends ls (start_of entry) (goal_of entry) ≡ false → A
     not_blocked free shut = not_both (are_free_ends ls (start_of entry) (goal_of entry)) free shut
 
     pub one_ruling : (one other : Ruling) → IsRuling ls entry told one → IsRuling ls entry told other → one ≡ other
@@ -61,5 +61,5 @@ module _ (ls : Layers) (are : AreLayers ls) where
 pub one_list : (ls : Layers) (entries : List Entry) (walks : List Told) (one other : List Ruling) → AreLayers ls
     → AreRulings ls entries walks one → AreRulings ls entries walks other → one ≡ other
 one_list ls entries walks one other are is also =
-    one_turn {S = Unit {0}} (λ _ both r. IsRuling ls both.0 both.1 r) (λ s _. s)
+    one_turn {S = Unit {0}} {X = Entry × Told} {Y = Ruling} (λ _ both r. IsRuling ls both.0 both.1 r) (λ s _. s)
     (λ s both y z. one_ruling ls are both.0 both.1 y z) tt (with_told entries walks) one other is also

@@ -1,7 +1,7 @@
 -- The text of the first moves from a cell is one.
 use Rattle.std.proofs.Common.{◌≡◌, ℕ, zero, suc, ◌+◌, ◌*◌, ◌/◌, ◌%◌, ◌<◌, ◌≤◌, inl, inr, arith, refl, ap, sym, ◌∙◌, subst, Bool, true, false, ◌&&◌, List, [], ◌∷◌, length, get_or}
 use Rattle.std.specs.Prelude.{Option, Some, None, nat_lt}
-use Rattle.std.proofs.Math.Nat.{div-add-mod}
+use Rattle.std.proofs.Math.Nat.{div-add-mod, div-lt_iff_lt-mul, mod-lt}
 use Rattle.std.proofs.lemmas.Bool.Decides.{nat_tests}
 use Rattle.std.proofs.lemmas.List.{get_or_default, same_lists}
 use Rattle.root2_cost.specs.declared.Cost.{Cost}
@@ -23,6 +23,9 @@ use Rattle.grid_moves.specs.Walk.{cost_of}
 use Rattle.path_points.proofs.Joined.{cost_counts}
 use Rattle.grid_answers.specs.RunLines.{IsRunText, blocked, outside, runs_text, told}
 use Rattle.answer_laws.proofs.Ground.{and_true, ground_on, not_both, query_free, query_whole}
+
+lt_true : (m n : ℕ) → m < n → nat_lt m n ≡ true
+lt_true m n h = grind (arith, nat_tests)
 
 module _ (g : GridData) (s : Cell) (free : is_free g s ≡ true) where
   -- no least walk from a cell to itself begins with a move
@@ -50,29 +53,23 @@ module _ (g : GridData) (s : Cell) (free : is_free g s ≡ true) where
       ap (λ (c : Dir). Some c) (same_dir d e (omega arith))
 
   -- the cell of a number below that of cells
-  numbered : ℕ → Cell
+  abbrev numbered : ℕ → Cell
   numbered n = record { x = n % g.width; y = n / g.width }
 
   module _ (whole : IsGrid g) where
     number_is : (n : ℕ) → cell_number g.width (numbered n) ≡ n
-    unfolding numbered
     number_is n = by_sum (n / g.width) (n % g.width) g.width (div-add-mod n g.width)
       where
         by_sum : (y x width : ℕ) → width * y + x ≡ n → y * width + x ≡ n
         by_sum y x width e = omega arith
 
     lies_inside : (n : ℕ) → n < g.height * g.width → is_inside g (numbered n) ≡ true
-    unfolding numbered
     lies_inside n below =
         let wide = whole.sides.wide in
-        let column : n % g.width < g.width = omega arith in
-        let row : n / g.width < g.height =
-        by_rows (n / g.width) (n % g.width) g.width g.height (div-add-mod n g.width) in
-        and_true (nat_lt (n % g.width) g.width) (nat_lt (n / g.width) g.height) (grind (arith, nat_tests))
-        (grind (arith, nat_tests))
-      where
-        by_rows : (y x width height : ℕ) → width * y + x ≡ n → y < height
-        by_rows y x width height e = grind arith
+        let some : 0 < g.width = omega arith in
+        and_true (nat_lt (n % g.width) g.width) (nat_lt (n / g.width) g.height)
+        (lt_true (n % g.width) g.width (mod-lt n some))
+        (lt_true (n / g.width) g.height ((div-lt_iff_lt-mul some).1 below))
 
     same_members : (ms ns : List (Option Dir)) → length ms ≡ g.height * g.width → length ns ≡ g.height * g.width
         → ((t : Cell) → is_inside g t ≡ true → IsFirstMove g s t (get_or ms (cell_number g.width t) None))
