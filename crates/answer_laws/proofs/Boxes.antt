@@ -1,12 +1,11 @@
 -- The text of a cell's boxes is one.
-use Rattle.std.proofs.Common.{◌≡◌, ℕ, arith, refl, ap, sym, ◌∙◌, true, false, List, [], ◌∷◌, ◌++◌}
+use Rattle.std.proofs.Common.{◌≡◌, ℕ, arith, refl, ap, ◌∙◌, List, [], ◌∷◌, ◌++◌}
 use Rattle.std.specs.Prelude.{Option, Some, None, codes}
 use Rattle.cost_waves.specs.Begin.{Begins}
 use Rattle.goal_boxes.specs.declared.area.Area.{Area}
 use Rattle.goal_boxes.specs.declared.around.CellBoxes.{CellBoxes}
 use Rattle.goal_boxes.specs.Box.{AreBoxes, IsAreaOf, IsWithin, box_in}
 use Rattle.grid_moves.specs.declared.Cell.{Cell}
-use Rattle.grid_moves.specs.declared.Dir.{Dir}
 use Rattle.grid_moves.specs.Grid.{GridData}
 use Rattle.grid_moves.specs.Layers.{AreLayers, Layers, is_free_ground, is_on_map, query_grid}
 use Rattle.grid_moves.specs.Move.{all_dirs}

@@ -1,5 +1,5 @@
 -- The certificate of a query on a grid is one text.
-use Rattle.std.proofs.Common.{◌≡◌, ℕ, refl, ap, sym, ◌∙◌, subst, List, map}
+use Rattle.std.proofs.Common.{◌≡◌, ℕ, ap, sym, ◌∙◌, subst, List}
 use Rattle.std.specs.List.{Contains}
 use Rattle.root2_cost.specs.declared.Cost.{Cost}
 use Rattle.grid_moves.specs.declared.Cell.{Cell}
@@ -7,8 +7,7 @@ use Rattle.grid_moves.specs.Grid.{GridData, cell_number}
 use Rattle.plain_search.specs.Lists.{AreClosed, AreLists, AreReached, plain_of}
 use Rattle.plain_search.specs.declared.lists.Listed.{Listed}
 use Rattle.plain_search.specs.declared.lists.Listed.TheVariants as listed
-use Rattle.plain_search.specs.declared.search.Plain.{Plain}
-use Rattle.plain_search.specs.declared.search.Plain.TheVariants.{Found, None}
+use Rattle.plain_search.specs.declared.search.Plain.TheVariants.{Found}
 use Rattle.plain_search.proofs.Oneness.{one_answer}
 use Rattle.potential_check.specs.declared.certificate.Claim.{Claim}
 use Rattle.potential_check.specs.declared.certificate.Claim.TheVariants as claim

@@ -1,5 +1,5 @@
 -- The lines of least costs from a cell are one list.
-use Rattle.std.proofs.Common.{◌≡◌, ℕ, zero, suc, ◌-◌, ◌<◌, ◌≤◌, arith, refl, ap, sym, ◌∙◌, subst, true, false, List, [], ◌∷◌, ◌++◌}
+use Rattle.std.proofs.Common.{◌≡◌, ℕ, zero, suc, ◌-◌, ◌≤◌, arith, refl, ap, sym, ◌∙◌, subst, List, [], ◌∷◌, ◌++◌}
 use Rattle.std.specs.Prelude.{Option, codes}
 use Rattle.root2_cost.specs.declared.Cost.{Cost}
 use Rattle.grid_moves.specs.declared.Cell.{Cell}
@@ -46,8 +46,8 @@ module _ (g : GridData) (s : Cell) where
     one_line y one other is also =
         is.is
         ∙ ap (λ (f : List ℕ). f ++ codes "\n") (fields_same is.costs also.costs (g.width - 1) (λ x below.
-            one_cost g s (record { x = x; y = y }) (is.costs x) (also.costs x)
-            (is.right x (omega arith)) (also.right x (omega arith))))
+        one_cost g s (record { x = x; y = y }) (is.costs x) (also.costs x)
+        (is.right x (omega arith)) (also.right x (omega arith))))
         ∙ sym also.is
 
     one_list : (n : ℕ) (one other : List (List ℕ)) → AreCostLines g s n one → AreCostLines g s n other

@@ -2,7 +2,7 @@
 use Rattle.std.proofs.Common.{◌≡◌, ◌⊎◌, inl, inr, refl, sym, ◌∙◌, Bool, true, false, ◌&&◌, ◌||◌}
 use Rattle.std.specs.Prelude.{if◌then◌else◌}
 use Rattle.grid_moves.specs.declared.Cell.{Cell}
-use Rattle.grid_moves.specs.Grid.{GridData, IsGrid, is_free, is_inside}
+use Rattle.grid_moves.specs.Grid.{IsGrid, is_free, is_inside}
 use Rattle.grid_moves.specs.Layers.{AreLayers, Layers, in_one_layer, is_free_ground, is_on_map, query_grid}
 use Rattle.grid_moves.specs.Reply.{are_free_ends}
 use Rattle.grid_moves.proofs.Layering.{is_inside-water}

@@ -1,6 +1,5 @@
 -- Entries and what is told of each have one list of rows.
 use Rattle.std.proofs.Common.{◌≡◌, ap, sym, ◌∙◌, true, false, ◌&&◌, List}
-use Rattle.grid_moves.specs.declared.Cell.{Cell}
 use Rattle.grid_moves.specs.Layers.{AreLayers, Layers, is_on_map, query_grid}
 use Rattle.grid_moves.specs.Reply.{are_free_ends}
 use Rattle.scen_text.specs.declared.entry.Entry.{Entry}

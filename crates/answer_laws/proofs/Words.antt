@@ -1,5 +1,5 @@
 -- One word of a refused list is named.
-use Rattle.std.proofs.Common.{◌≡◌, ℕ, ap, sym, ◌∙◌, Bool, true, false, List}
+use Rattle.std.proofs.Common.{◌≡◌, ℕ, ap, Bool, true, false, List}
 use Rattle.std.specs.Prelude.{is_some, Option, Some}
 use Rattle.word_list.specs.Calls.{call_of, is_call}
 use Rattle.word_list.specs.Request.{Call}
