@@ -4,6 +4,7 @@ use Rattle.grid_moves.specs.declared.Cell.{Cell}
 use Rattle.grid_moves.specs.Grid.{GridData}
 use Rattle.grid_moves.specs.Layers.{AreLayers, Layers}
 use Rattle.potential_check.specs.Accepted.{Refuses}
+use Rattle.potential_check.specs.Text.{plain}
 use Rattle.potential_check.specs.declared.certificate.Certificate.{Certificate}
 use Rattle.potential_check.specs.declared.verdict.Reject.{Reject}
 use Rattle.potential_make.specs.Certified.{IsCertificate}
@@ -19,12 +20,12 @@ abbrev pub ProofsAreOne : Type 0
 ProofsAreOne = (ls : Layers) (s t : Cell) (one other : List ℕ) (status code : ℕ) → AreLayers ls
     → IsProof ls s t one status → IsProof ls s t other code → (one ≡ other) × (status ≡ code)
 
--- a certificate is refused by one clause
+-- certificates of one text are refused by one clause
 abbrev pub RefusalsAreOne : Type 0
-RefusalsAreOne = (g : GridData) (c : Certificate) (one other : Reject)
-    → Refuses g c one → Refuses g c other → one ≡ other
+RefusalsAreOne = (g : GridData) (c d : Certificate) (one other : Reject) → plain c ≡ plain d
+    → Refuses g c one → Refuses g d other → one ≡ other
 
--- the verdict on a certificate is one line with one status
+-- the verdict on certificates of one text is one line with one status
 abbrev pub VerdictsAreOne : Type 0
-VerdictsAreOne = (g : GridData) (c : Certificate) (one other : List ℕ) (status code : ℕ)
-    → IsVerdict g c one status → IsVerdict g c other code → (one ≡ other) × (status ≡ code)
+VerdictsAreOne = (g : GridData) (c d : Certificate) (one other : List ℕ) (status code : ℕ) → plain c ≡ plain d
+    → IsVerdict g c one status → IsVerdict g d other code → (one ≡ other) × (status ≡ code)

@@ -56,12 +56,12 @@ pub fn proofs_are_one()
     ensures { ProofsAreOne }
 {}
 
-/// A refused certificate is refused by one clause.
+/// Certificates of one text are refused by one clause.
 pub fn refusals_are_one()
     ensures { RefusalsAreOne }
 {}
 
-/// The verdict on a certificate is one line with one status: it is accepted or refused, not both.
+/// The verdict on certificates of one text is one line with one status: accepted or refused, not both.
 pub fn verdicts_are_one()
     ensures { VerdictsAreOne }
 {}
