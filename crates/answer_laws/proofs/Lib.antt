@@ -1,0 +1,14 @@
+pub mod Words
+pub mod Files
+pub mod Ground
+pub mod Least
+pub mod Costs
+pub mod Boxes
+pub mod Runs
+pub mod Ascending
+pub mod Certificates
+pub mod Proving
+pub mod Judged
+pub mod Verdicts
+pub mod Turns
+pub mod Rulings

@@ -1,0 +1,5 @@
+pub mod Words
+pub mod Files
+pub mod Texts
+pub mod Certificates
+pub mod Rulings
