@@ -1,7 +1,6 @@
 -- An answer to a request is the only one, and engines that come to answers in one way give the same.
 use Rattle.std.proofs.Common.{◌≡◌, ◌∙◌, ⊥, refl, ap, sym, subst, ℕ, Bool, true, false, List, [], ◌∷◌, ◌++◌, length}
-use mathlib.Core.Bool.{Bool-set}
-use Rattle.std.specs.Prelude.{IsTrue, Ok, Err}
+use Rattle.std.specs.Prelude.{Ok, Err}
 use Rattle.std.specs.declared.result.Result.{Result}
 use Rattle.root2_cost.specs.declared.Cost.{Cost}
 use Rattle.grid_moves.specs.declared.Cell.{Cell}
@@ -15,8 +14,7 @@ use Rattle.scen_text.specs.declared.entry.Entry.{Entry}
 use Rattle.scen_text.specs.Faults.{scen_of}
 use Rattle.walk_judge.specs.declared.telling.Told.{Told}
 use Rattle.walk_judge.specs.Walks.{walks_of}
-use Rattle.potential_check.specs.Limits.{is_certificate}
-use Rattle.potential_check.specs.Text.{Plain, certificate_of, plain}
+use Rattle.potential_check.specs.Text.{certificate_of, plain}
 use Rattle.potential_check.specs.declared.certificate.Certificate.{Certificate}
 use Rattle.word_list.specs.Request.{Asked, Call, Help, Version, Query, Solve, Live, Scen, Judge, Prove, Check, Make, Drill, Draw, Costs, Tables, Boxes, Moves}
 use Rattle.word_list.specs.declared.request.Settings.{Settings}
@@ -43,7 +41,7 @@ use Rattle.answer_laws.proofs.Costs as costs
 use Rattle.answer_laws.proofs.Boxes as boxes
 use Rattle.answer_laws.proofs.Runs as runs
 use Rattle.answer_laws.proofs.Proving.{one_proof}
-use Rattle.answer_laws.proofs.Verdicts.{one_verdict}
+use Rattle.answer_laws.proofs.Verdicts as verdicts
 use Rattle.answer_laws.proofs.Rulings as rulings
 use Rattle.jps_run.specs.Laws.{AsksForCosts}
 use Rattle.jps_run.specs.Tabled.{tables_text}
@@ -107,27 +105,6 @@ same_last e one other =
     ∙ ap (λ (texts : List (List ℕ)). last [] texts) (sym one.is ∙ e ∙ other.is)
     ∙ last_append [] other.before other.last
 
--- a certificate is what it shows
-is_whole : Plain → Bool
-is_whole p = is_certificate p.head.width p.head.height p.head.start p.head.goal p.claim
-
-kept_as : (p : Plain) → IsTrue (is_whole p) → Certificate
-unfolding is_whole
-kept_as p whole = record {
-  width = p.head.width;
-  height = p.head.height;
-  start = p.head.start;
-  goal = p.head.goal;
-  claim = p.claim;
-  whole = whole;
-}
-
-same_certificate : (c d : Certificate) → plain c ≡ plain d → c ≡ d
-unfolding is_whole kept_as
-same_certificate c d e =
-    subst (λ (p : Plain). (w : IsTrue (is_whole p)) → c ≡ kept_as p w) e
-    (λ w. ap (kept_as (plain c)) (Bool-set (is_whole (plain c)) true c.whole w)) d.whole
-
 -- lines of one line
 one_line : {K L : List ℕ → Type 0} {lines same : List (List ℕ)} (one : OneLine lines K) (other : OneLine same L)
     → one.line ≡ other.line → lines ≡ same
@@ -189,12 +166,11 @@ module _ (set other : Settings) (rule : set.one ≡ other.one) where
           × OneLine same (λ line. IsVerdict (query_grid (layers_on other q.map) c.start) c line code))
           → (lines ≡ same) × (status ≡ code)
       by_text (c, e, one) (d, f, two) =
-          let read : c ≡ d = same_certificate c d (ok_same (plain c) (plain d) (certificate_of p.known.last) e
-          (ap certificate_of (same_last (same_map p q).behind p.known q.known) ∙ f)) in
-          let v = one_verdict (query_grid (layers_on set p.map) c.start) c one.line two.line status code one.known
-          (subst (λ (k : Certificate). IsVerdict (query_grid (layers_on set p.map) k.start) k two.line code) (sym read)
+          let read : plain c ≡ plain d = ok_same (plain c) (plain d) (certificate_of p.known.last) e
+          (ap certificate_of (same_last (same_map p q).behind p.known q.known) ∙ f) in
+          let v = verdicts.one_checked (layers_on set p.map) c d one.line two.line status code read one.known
           (on_layers (λ ls. IsVerdict (query_grid ls d.start) d two.line code) p.map q.map (same_map p q).map
-          two.known)) in
+          two.known) in
           (one_line one two v.0, v.1)
 
   module _ (shown : set.show ≡ other.show) (way : way_of (by_of set.pick) ≡ way_of (by_of other.pick)) where
