@@ -23,7 +23,7 @@ use Rattle.plain_search.proofs.Walks.{link_move}
 use Rattle.cost_waves.specs.Begin.{Begins}
 use Rattle.goal_boxes.specs.declared.area.Area.{Area}
 use Rattle.goal_boxes.specs.declared.boxed.Boxed.{Boxed}
-use Rattle.goal_boxes.specs.Answer.{IsBoxedRunOn, IsExhausted, IsFound, IsRunBy}
+use Rattle.goal_boxes.specs.Answer.{IsBoxedRunOn, IsExhausted, IsFound}
 use Rattle.goal_boxes.specs.Box.{BoxTeller, IsAreaOf, IsWithin, TellsBoxes}
 use Rattle.goal_boxes.specs.Rule.{boxed_links, boxed_rule, boxed_step, is_toward, is_toward_by, leads_toward}
 

@@ -8,7 +8,7 @@ use Rattle.std.proofs.lemmas.List.FromFn.{length-enumerate_from}
 use Rattle.grid_moves.specs.declared.Cell.{Cell}
 use Rattle.grid_moves.specs.declared.Ground.{Ground}
 use Rattle.grid_moves.specs.declared.Ground.TheVariants.{Blocked, Land, Water}
-use Rattle.grid_moves.specs.Grid.{AreCells, AreSides, GridData, IsGrid, is_free, is_ground, is_inside}
+use Rattle.grid_moves.specs.Grid.{AreSides, GridData, IsGrid, is_free, is_ground, is_inside}
 use Rattle.grid_moves.specs.Layers.{AreLayers, Layers}
 use Rattle.grid_moves.specs.Move.{is_same}
 use Rattle.grid_moves.proofs.Layering.{are_layers-of, is_inside-water}

@@ -1,12 +1,12 @@
 -- The walk of first moves is one.
-use Rattle.std.proofs.Common.{◌≡◌, ℕ, suc, ◌+◌, ◌⊎◌, inl, inr, arith, refl, ap, sym, ◌∙◌, subst, List, [], ◌∷◌, length}
+use Rattle.std.proofs.Common.{◌≡◌, suc, ◌+◌, inl, inr, arith, refl, ap, sym, ◌∙◌, subst, List, [], ◌∷◌, length}
 use Rattle.std.specs.Prelude.{Option, Some, None}
 use Rattle.root2_cost.specs.declared.Cost.{Cost}
 use Rattle.root2_cost.proofs.AtMost.{IsAtMost-antisymmetric}
 use Rattle.grid_moves.specs.declared.Cell.{Cell}
 use Rattle.grid_moves.specs.declared.Dir.{Dir}
-use Rattle.grid_moves.specs.Grid.{GridData, is_free}
-use Rattle.grid_moves.specs.Move.{dir_number, legal_ahead}
+use Rattle.grid_moves.specs.Grid.{GridData}
+use Rattle.grid_moves.specs.Move.{legal_ahead}
 use Rattle.grid_moves.specs.Walk.{IsLeastWalk, cost_of}
 use Rattle.grid_moves.proofs.Short.{least_rest, walk_free}
 use Rattle.path_points.specs.Corners.{corners}
@@ -22,7 +22,8 @@ same_moves : (g : GridData) (s t : Cell) (cells others : List Cell) → IsLeastW
     → IsLeastWalk g s t others → length cells ≡ length others
 same_moves g s t cells others l m =
     let same : cost_of (s ∷ cells) ≡ cost_of (s ∷ others) =
-    IsAtMost-antisymmetric (cost_of (s ∷ cells)) (cost_of (s ∷ others)) (l.least others m.walk) (m.least cells l.walk) in
+    IsAtMost-antisymmetric (cost_of (s ∷ cells)) (cost_of (s ∷ others)) (l.least others m.walk)
+    (m.least cells l.walk) in
     sym (cost_counts s cells) ∙ ap (λ (c : Cost). c.a + c.b) same ∙ cost_counts s others
 
 -- where no move is needed none begins a least walk, and where no walk leads there none does
@@ -53,7 +54,8 @@ some_cell u v e = ap (λ (o : Option Cell). elim o as (λ _. Cell) [ Some c ↦ 
 -- so it leads to one cell
 one_next : (g : GridData) (s t u v : Cell) → LeadsTo g s t u → LeadsTo g s t v → u ≡ v
 one_next g s t u v l m =
-    some_cell u v (sym l.ahead ∙ ap (λ (d : Dir). legal_ahead g s d) (one_dir g s t l.dir m.dir l.first m.first) ∙ m.ahead)
+    some_cell u v (sym l.ahead ∙ ap (λ (d : Dir). legal_ahead g s d) (one_dir g s t l.dir m.dir l.first m.first)
+    ∙ m.ahead)
 
 -- and on over one way
 one_way : (g : GridData) (t s : Cell) (cells others : List Cell) → AreFirst g t s cells → AreFirst g t s others

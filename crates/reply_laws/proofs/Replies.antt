@@ -1,6 +1,6 @@
 -- Replies of whoever answers are one, those of engines that jump are the same, and all cost the same.
 use Rattle.std.proofs.Common.{◌≡◌, ℕ, refl, ap, sym, ◌∙◌, subst, Bool, true, false, ◌&&◌, List, []}
-use Rattle.std.specs.Prelude.{MatchBool, not}
+use Rattle.std.specs.Prelude.{MatchBool, Option, not}
 use Rattle.std.specs.Prelude as option
 use Rattle.root2_cost.specs.declared.Cost.{Cost}
 use Rattle.grid_moves.specs.declared.Cell.{Cell}
@@ -8,12 +8,11 @@ use Rattle.grid_moves.specs.Grid.{GridData, is_free}
 use Rattle.grid_moves.specs.Layers.{AreLayers, Layers, query_grid}
 use Rattle.grid_moves.specs.Reply.{IsRight}
 use Rattle.edit_replay.specs.Kept.{is_plain}
-use Rattle.edit_replay.specs.Oneness.{IsReplyOf}
 use Rattle.edit_replay.specs.Replies.{answer_of, IsRunOn}
 use Rattle.edit_replay.specs.Session.{SessionData}
 use Rattle.edit_replay.specs.declared.engine.Engine.{Engine}
 use Rattle.edit_replay.specs.declared.reply.Reply.{Reply}
-use Rattle.edit_replay.specs.declared.reply.Reply.TheVariants.{Walk, None, Outside, Blocked}
+use Rattle.edit_replay.specs.declared.reply.Reply.TheVariants.{Walk, None}
 use Rattle.edit_replay.proofs.Oneness.{one_run_reply}
 use Rattle.goal_boxes.specs.declared.boxed.Boxed.{Boxed}
 use Rattle.goal_boxes.specs.Answer.{IsBoxedRunOn}
@@ -43,10 +42,10 @@ module _ (g : GridData) (s t : Cell) where
   boxed_is_one : (one other : Reply) → AreAlike one other → IsBoxedReply g s t one → IsBoxedReply g s t other
       → one ≡ other
   unfolding of_answer of_boxed
-  boxed_is_one (Walk ps c ms) (Walk qs d ns) (walks _ _ _ _ _ _ _) is also =
+  boxed_is_one one other (walks ps qs c d ms ns _) is also =
       ap of_answer (one_boxed g s t (record { answer = option.Some (ps, c); taken = ms })
       (record { answer = option.Some (qs, d); taken = ns }) is also)
-  boxed_is_one (None ms) (None ns) (nones _ _) is also =
+  boxed_is_one one other (nones ms ns) is also =
       ap (λ (taken : List ℕ). None taken) (by_test (is_free g s && is_free g t) is also)
     where
       by_test : (b : Bool)
@@ -56,17 +55,17 @@ module _ (g : GridData) (s t : Cell) where
           (one_boxed g s t (record { answer = option.None; taken = ms }) (record { answer = option.None; taken = ns })
           is also)
       by_test false is also = is ∙ sym also
-  boxed_is_one Outside Outside outsides is also = refl
-  boxed_is_one Blocked Blocked blockeds is also = refl
+  boxed_is_one one other outsides is also = refl
+  boxed_is_one one other blockeds is also = refl
 
   -- by first moves
   led_is_one : (one other : Reply) → AreAlike one other → IsLedReply g s t one → IsLedReply g s t other → one ≡ other
-  led_is_one (Walk ps c ms) (Walk qs d ns) (walks _ _ _ _ _ _ _) is also =
+  led_is_one one other (walks ps qs c d ms ns _) is also =
       let same = one_followed g s t ps qs c d is.0 also.0 in
       same_walk ps qs c d ms ns same.0 same.1 (is.1 ∙ sym also.1)
-  led_is_one (None ms) (None ns) (nones _ _) is also = ap (λ (taken : List ℕ). None taken) (is ∙ sym also)
-  led_is_one Outside Outside outsides is also = refl
-  led_is_one Blocked Blocked blockeds is also = refl
+  led_is_one one other (nones ms ns) is also = ap (λ (taken : List ℕ). None taken) (is ∙ sym also)
+  led_is_one one other outsides is also = refl
+  led_is_one one other blockeds is also = refl
 
 -- engines that both jump are alike
 plainness : (d e : Engine) → not (is_plain d) ≡ true → not (is_plain e) ≡ true → is_plain d ≡ is_plain e
@@ -106,10 +105,10 @@ module _ (ls : Layers) (are : AreLayers ls) (s t : Cell) (one other : Reply) (ri
 
 -- replies of one kind that cost the same come to the same
 same_gist : (one other : Reply) → AreAlike one other → gist_of one ≡ gist_of other
-same_gist (Walk ps c ms) (Walk qs d ns) (walks _ _ _ _ _ _ e) = ap (λ (cost : Cost). gist.walk cost) e
-same_gist (None ms) (None ns) (nones _ _) = refl
-same_gist Outside Outside outsides = refl
-same_gist Blocked Blocked blockeds = refl
+same_gist one other (walks ps qs c d ms ns e) = ap (λ (cost : Cost). gist.walk cost) e
+same_gist one other (nones ms ns) = refl
+same_gist one other outsides = refl
+same_gist one other blockeds = refl
 
 pub one_reply : (who : Who) (s t : Cell) (one other : Reply) → AreLayers who.layers → IsReplyBy who s t one
     → IsReplyBy who s t other → one ≡ other
