@@ -1,5 +1,5 @@
 -- Who answers alike.
-use Rattle.std.specs.Prelude.{◌≡◌, refl}
+use Rattle.std.specs.Prelude.{◌≡◌, refl, ℕ, List, ◌++◌}
 use Rattle.edit_replay.specs.declared.engine.Engine.TheVariants as engine
 use Rattle.who_answers.specs.Who.{By, Who, by_session, by_boxes, by_moves}
 
@@ -16,6 +16,10 @@ way_of by_moves = by_moves
 pub record AnswerAlike (who other : Who) : Type 0 where
   pub layers : who.layers ≡ other.layers
   pub way : way_of who.by ≡ way_of other.by
+
+-- all these lines begin with the first ones
+abbrev pub BeginWith : List (List ℕ) → List (List ℕ) → Type 0
+BeginWith all first = (more : List (List ℕ)) × (all ≡ first ++ more)
 
 -- the engines that jump answer alike
 pub jps_like_plus : way_of (by_session engine.Jps) ≡ way_of (by_session engine.Plus)

@@ -1,5 +1,5 @@
 -- Rows that differ in their counts of taken states alone.
-use Rattle.std.specs.Prelude.{◌≡◌, ◌≢◌, ℕ, List, map}
+use Rattle.std.specs.Prelude.{◌≡◌, ◌≢◌, List, map}
 use Rattle.word_list.specs.declared.request.Show.{Show}
 use Rattle.word_list.specs.declared.request.Show.TheVariants.{Taken}
 use Rattle.scenario_rows.specs.Rows.{scen_lines, scen_status}

@@ -14,10 +14,10 @@ use Rattle.session_lines.specs.Answers.{AreAnswers, IsReplyLine}
 use Rattle.session_lines.specs.Drill.{AreDrilled, AreFindings}
 use Rattle.session_lines.specs.Pictures.{IsDrawing}
 use Rattle.session_lines.specs.declared.drill.Finding.{Finding}
-use Rattle.live_lines.specs.Heard.{AnswerHeard}
+use Rattle.live_lines.specs.Heard.{AnswerHeard, AnswerTaken}
 use Rattle.scenario_rows.specs.Rows.{AreRows}
 use Rattle.scenario_rows.specs.declared.row.Row.{Row}
-use Rattle.line_laws.specs.Alike.{AnswerAlike}
+use Rattle.line_laws.specs.Alike.{AnswerAlike, BeginWith}
 use Rattle.line_laws.specs.Forgetting.{DifferInTaken}
 
 -- the line of a query, by two who answer alike
@@ -44,6 +44,13 @@ HeardIsOne = (d e : SessionData) (show : Show) (script : List ℕ) (refusal also
     (lines same : List (List ℕ)) → AreLayers d.layers → AnswerAlike (who_is d) (who_is e)
     → AnswerHeard d show (Some script) refusal lines → AnswerHeard e show (Some script) also same
     → (refusal ≡ also) × (lines ≡ same)
+
+-- the lines for the bytes of a told script that were taken begin those of the whole script
+abbrev pub TakenBeginsHeard : Type 0
+TakenBeginsHeard = (d e : SessionData) (show : Show) (script : List ℕ) (left refusal : Option (List ℕ))
+    (lines all : List (List ℕ)) → AreLayers d.layers → AnswerAlike (who_is d) (who_is e)
+    → AnswerTaken d show (Some script) left lines → AnswerHeard e show (Some script) refusal all
+    → BeginWith all lines
 
 -- the rows of entries
 abbrev pub RowsAreOne : Type 0

@@ -1,8 +1,8 @@
 //! Laws of lines: each is the contract of a call that does nothing, and speaks of two who answer on the layers of one
 //! map. One who answers is like himself, so each law also says that what is printed is the only such thing.
 
-ghost use Rattle.line_laws.specs.Laws.{ReplyLinesAreOne, AnswersAreOne, DrawingsAreOne, HeardIsOne, RowsAreOne};
-ghost use Rattle.line_laws.specs.Laws.{FindingsAreOne, DrillsAreOne, RowsDifferInTaken};
+ghost use Rattle.line_laws.specs.Laws.{ReplyLinesAreOne, AnswersAreOne, DrawingsAreOne, HeardIsOne, TakenBeginsHeard};
+ghost use Rattle.line_laws.specs.Laws.{RowsAreOne, FindingsAreOne, DrillsAreOne, RowsDifferInTaken};
 
 /// Two who answer alike print one line for a query: one engine, or two that both jump (`jps`, `block`, `plus`).
 pub fn reply_lines_are_one()
@@ -22,6 +22,11 @@ pub fn drawings_are_one()
 /// Of a told script that comes in, two sessions that answer alike print the same lines and the same line of a refusal.
 pub fn heard_is_one()
     ensures { HeardIsOne }
+{}
+
+/// What was written for a first part of a told script, at whatever stop, begins what the whole script is answered.
+pub fn taken_begins_heard()
+    ensures { TakenBeginsHeard }
 {}
 
 /// Two who answer alike make the same rows of the same entries, counts of taken states too.
