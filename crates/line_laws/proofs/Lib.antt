@@ -1,0 +1,9 @@
+pub mod Turns
+pub mod Same
+pub mod Lines
+pub mod Rows
+pub mod Forgetting
+pub mod Heard
+pub mod Taken
+pub mod Sessions
+pub mod Printed
