@@ -1,8 +1,7 @@
 -- An answer to a request is the only one, and engines that come to answers in one way give the same.
-use Rattle.std.proofs.Common.{◌≡◌, ◌∙◌, ⊥, refl, ap, sym, subst, ℕ, Bool, true, false, List, [], ◌∷◌, ◌++◌, length}
+use Rattle.std.proofs.Common.{◌≡◌, ◌∙◌, refl, ap, sym, subst, ℕ, Bool, true, false, List, [], ◌∷◌, ◌++◌, length}
 use Rattle.std.specs.Prelude.{Ok, Err}
 use Rattle.std.specs.declared.result.Result.{Result}
-use Rattle.root2_cost.specs.declared.Cost.{Cost}
 use Rattle.grid_moves.specs.declared.Cell.{Cell}
 use Rattle.grid_moves.specs.Layers.{AreLayers, Layers, layers_of, query_grid}
 use Rattle.map_text.specs.Map.{Map}
@@ -65,13 +64,13 @@ unfolding last
 last_append d [] text = refl
 last_append d (x ∷ texts) text = last_append x texts text
 
-pub same_first : (a b : List ℕ) (as bs : List (List ℕ)) → a ∷ as ≡ b ∷ bs → a ≡ b
+pub same_first : (a b : List ℕ) (xs ys : List (List ℕ)) → a ∷ xs ≡ b ∷ ys → a ≡ b
 unfolding first
-same_first a b as bs e = ap first e
+same_first a b xs ys e = ap first e
 
-pub same_others : (a b : List ℕ) (as bs : List (List ℕ)) → a ∷ as ≡ b ∷ bs → as ≡ bs
+pub same_others : (a b : List ℕ) (xs ys : List (List ℕ)) → a ∷ xs ≡ b ∷ ys → xs ≡ ys
 unfolding others
-same_others a b as bs e = ap others e
+same_others a b xs ys e = ap others e
 
 -- two readings of one text
 value_or : {V F : Type 0} → V → Result V F → V
@@ -151,8 +150,8 @@ module _ (set other : Settings) (rule : set.one ≡ other.one) where
           (sym entries) (subst (λ (ts : List Told). AreRulings (layers_on set p.map) two.value ts two.known.known.from)
           (sym told) (on_layers (λ ls. AreRulings ls two.value two.known.value two.known.known.from) p.map q.map
           (same_map p q).map two.known.known.known))) in
-          (one.known.known.lines ∙ ap judge_lines rows ∙ sym two.known.known.lines,
-          one.known.known.status ∙ ap judge_status rows ∙ sym two.known.known.status)
+          (one.known.known.all ∙ ap judge_lines rows ∙ sym two.known.known.all,
+          one.known.known.code ∙ ap judge_status rows ∙ sym two.known.known.code)
 
   one_checked : (texts lines same : List (List ℕ)) (status code : ℕ) (map cert : List ℕ)
       → Answers (Check map cert) set texts lines status → Answers (Check map cert) other texts same code
@@ -260,9 +259,9 @@ module _ (set other : Settings) (rule : set.one ≡ other.one) where
       one_rows (who_on set p.map) (who_on other q.map) p.known.known.value one.from two.from
       (are_layers-text set p.text p.map p.read) (alike shown way p.map q.map (same_map p q).map) one.known
       (subst (λ (es : List Entry). AreRows (who_on other q.map) es two.from) (sym (same_entries p q)) two.known) in
-      (one.lines ∙ ap (λ (show : Show). scen_lines show one.from) shown
-      ∙ ap (λ (rs : List Row). scen_lines other.show rs) rows ∙ sym two.lines,
-      one.status ∙ ap scen_status rows ∙ sym two.status)
+      (one.all ∙ ap (λ (show : Show). scen_lines show one.from) shown
+      ∙ ap (λ (rs : List Row). scen_lines other.show rs) rows ∙ sym two.all,
+      one.code ∙ ap scen_status rows ∙ sym two.code)
   one_answer (Judge map scen walks) texts lines same status code shown way p q =
       one_judged texts lines same status code map scen walks p q
   one_answer (Prove map sx sy gx gy) texts lines same status code shown way p q =
@@ -276,8 +275,8 @@ module _ (set other : Settings) (rule : set.one ≡ other.one) where
       one_checked texts lines same status code map cert p q
   one_answer (Make seed w h percent) texts lines same status code shown way p q = (p.0 ∙ sym q.0, p.1 ∙ sym q.1)
   one_answer (Drill seed) texts lines same status code shown way p q =
-      (p.lines ∙ ap (λ (found : List Finding). drill_line found ∷ [])
-      (one_drill set other seed p.from q.from rule p.known q.known) ∙ sym q.lines, p.status ∙ sym q.status)
+      (p.all ∙ ap (λ (found : List Finding). drill_line found ∷ [])
+      (one_drill set other seed p.from q.from rule p.known q.known) ∙ sym q.all, p.code ∙ sym q.code)
   one_answer (Draw map sx sy gx gy) texts lines same status code shown way p q =
       one_drawn shown way texts lines same status code (record { x = sx; y = sy }) (record { x = gx; y = gy }) p q
   one_answer (Costs map x y) texts lines same status code shown way p q =
@@ -311,11 +310,11 @@ module _ (set other : Settings) (rule : set.one ≡ other.one) where
       let rows = rows_alike (who_on set p.map) (who_on other q.map) p.known.known.value one.from two.from
       (are_layers-text set p.text p.map p.read) (same_layers p.map q.map (same_map p q).map) one.known
       (subst (λ (es : List Entry). AreRows (who_on other q.map) es two.from) (sym (same_entries p q)) two.known) in
-      (one.lines ∙ rows.lines set.show costs ∙ ap (λ (show : Show). scen_lines show two.from) shown ∙ sym two.lines,
-      one.status ∙ rows.status ∙ sym two.status)
+      (one.all ∙ rows.lines set.show costs ∙ ap (λ (show : Show). scen_lines show two.from) shown ∙ sym two.all,
+      one.code ∙ rows.status ∙ sym two.code)
   one_cost_answer (Drill seed) texts lines same status code shown costs p q =
-      (p.lines ∙ ap (λ (found : List Finding). drill_line found ∷ [])
-      (one_drill set other seed p.from q.from rule p.known q.known) ∙ sym q.lines, p.status ∙ sym q.status)
+      (p.all ∙ ap (λ (found : List Finding). drill_line found ∷ [])
+      (one_drill set other seed p.from q.from rule p.known q.known) ∙ sym q.all, p.code ∙ sym q.code)
   one_cost_answer Help texts lines same status code shown costs p q = absurd (costs)
   one_cost_answer Version texts lines same status code shown costs p q = absurd (costs)
   one_cost_answer (Query map tables sx sy gx gy) texts lines same status code shown costs p q = absurd (costs)

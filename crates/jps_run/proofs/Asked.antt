@@ -1,5 +1,5 @@
 -- What an answer to each kind of request is, by the texts of its files.
-use Rattle.std.proofs.Common.{◌≡◌, ⊥, refl, ℕ, List, [], ◌∷◌, ◌++◌, length}
+use Rattle.std.proofs.Common.{◌≡◌, refl, ℕ, List, [], ◌∷◌, ◌++◌, length}
 use Rattle.std.specs.Prelude.{Ok}
 use Rattle.std.specs.declared.result.Result.{Result}
 use Rattle.grid_moves.specs.Layers.{query_grid}
@@ -67,12 +67,12 @@ pub record OneLine (lines : List (List ℕ)) (Known : List ℕ → Type 0) : Typ
 pub record MadeOf {X : Type 0} (lines : List (List ℕ)) (status : ℕ) (lines_of : X → List (List ℕ))
     (status_of : X → ℕ) (Known : X → Type 0) : Type 0 where
   pub from : X
-  pub lines : lines ≡ lines_of from
-  pub status : status ≡ status_of from
+  pub all : lines ≡ lines_of from
+  pub code : status ≡ status_of from
   pub known : Known from
 
 -- lines and status of a request, on the texts of its files
-pub Answers : Asked → Settings → List (List ℕ) → List (List ℕ) → ℕ → Type 0
+unfoldable pub Answers : Asked → Settings → List (List ℕ) → List (List ℕ) → ℕ → Type 0
 Answers Help set texts lines status = (lines ≡ help_text ∷ []) × (status ≡ 0)
 Answers Version set texts lines status = (lines ≡ version_text ∷ []) × (status ≡ 0)
 Answers (Query map tables sx sy gx gy) set texts lines status =
@@ -121,18 +121,19 @@ on text behind m is read known =
 -- an answer by the kind of its request
 pub asked_so : (call : Call) (texts lines : List (List ℕ)) (status : ℕ) → IsAnswered call texts lines status
     → Answers call.request call.settings texts lines status
-asked_so call texts lines status (help set) = (refl, refl)
-asked_so call texts lines status (version set) = (refl, refl)
-asked_so call texts lines status (replied map text tables loaded sx sy gx gy set m line read is) =
+unfolding Answers
+asked_so _ _ _ _ (help set) = (refl, refl)
+asked_so _ _ _ _ (version set) = (refl, refl)
+asked_so _ _ _ _ (replied map text tables loaded sx sy gx gy set m line read is) =
     (on text loaded m refl read (record { line = line; all = refl; known = is }), refl)
-asked_so call texts lines status (solved map script text second tables loaded set m commands lines read spelled is) =
+asked_so _ _ _ _ (solved map script text second tables loaded set m commands lines read spelled is) =
     (on text (loaded ++ second ∷ []) m refl read (record {
       before = loaded;
       last = second;
       is = refl;
       known = record { value = commands; is = spelled; known = is };
     }), refl)
-asked_so call texts lines status (judged map scen text second tables loaded set m entries rows read spelled is) =
+asked_so _ _ _ _ (judged map scen text second tables loaded set m entries rows read spelled is) =
     on text (loaded ++ second ∷ []) m refl read (record {
       before = loaded;
       last = second;
@@ -140,10 +141,10 @@ asked_so call texts lines status (judged map scen text second tables loaded set 
       known = record {
         value = entries;
         is = spelled;
-        known = record { from = rows; lines = refl; status = refl; known = is };
+        known = record { from = rows; all = refl; code = refl; known = is };
       };
     })
-asked_so call texts lines status (refereed map scen walks text second third set m entries told rulings read spelled
+asked_so _ _ _ _ (refereed map scen walks text second third set m entries told rulings read spelled
     heard is) =
     on text (second ∷ third ∷ []) m refl read (second, third, refl, record {
       value = entries;
@@ -151,26 +152,26 @@ asked_so call texts lines status (refereed map scen walks text second third set 
       known = record {
         value = told;
         is = heard;
-        known = record { from = rulings; lines = refl; status = refl; known = is };
+        known = record { from = rulings; all = refl; code = refl; known = is };
       };
     })
-asked_so call texts lines status (proved map text sx sy gx gy set m printed status read is) =
+asked_so _ _ _ _ (proved map text sx sy gx gy set m printed status read is) =
     on text [] m refl read (record { line = printed; all = refl; known = is })
-asked_so call texts lines status (checked map cert text second set m c line status read spelled is) =
+asked_so _ _ _ _ (checked map cert text second set m c line status read spelled is) =
     on text (second ∷ []) m refl read (record {
       before = [];
       last = second;
       is = refl;
       known = (c, spelled, record { line = line; all = refl; known = is });
     })
-asked_so call texts lines status (made seed w h percent set) = (refl, refl)
-asked_so call texts lines status (drilled seed set found is) =
-    record { from = found; lines = refl; status = refl; known = is }
-asked_so call texts lines status (drawn map text sx sy gx gy set m printed status read is) =
+asked_so _ _ _ _ (made seed w h percent set) = (refl, refl)
+asked_so _ _ _ _ (drilled seed set found is) =
+    record { from = found; all = refl; code = refl; known = is }
+asked_so _ _ _ _ (drawn map text sx sy gx gy set m printed status read is) =
     on text [] m refl read (record { line = printed; all = refl; known = is })
-asked_so call texts lines status (costed map text x y set m lines read is) = (on text [] m refl read is, refl)
-asked_so call texts lines status (tabled map text set m read) = (on text [] m refl read refl, refl)
-asked_so call texts lines status (boxed map text x y set m printed read is) =
+asked_so _ _ _ _ (costed map text x y set m lines read is) = (on text [] m refl read is, refl)
+asked_so _ _ _ _ (tabled map text set m read) = (on text [] m refl read refl, refl)
+asked_so _ _ _ _ (boxed map text x y set m printed read is) =
     (on text [] m refl read (record { line = printed; all = refl; known = is }), refl)
-asked_so call texts lines status (moved map text x y set m printed read is) =
+asked_so _ _ _ _ (moved map text x y set m printed read is) =
     (on text [] m refl read (record { line = printed; all = refl; known = is }), refl)

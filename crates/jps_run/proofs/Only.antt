@@ -1,5 +1,5 @@
 -- Outcomes are the only ones, and those of calls that ask alike are the same.
-use Rattle.std.proofs.Common.{◌≡◌, ◌∙◌, ⊥, refl, ap, sym, subst, ℕ, Bool, true, false, List, [], ◌∷◌, ◌++◌}
+use Rattle.std.proofs.Common.{◌≡◌, ◌∙◌, refl, ap, sym, subst, ℕ, Bool, true, false, List, [], ◌∷◌, ◌++◌}
 use Rattle.std.specs.Prelude.{Option, Some, None, ◌≢◌, ◌⊎◌}
 use Rattle.std.proofs.Common.{inl, inr}
 use Rattle.io_edge.specs.Told.{Held, holding, absent, untold}
@@ -21,8 +21,8 @@ use Rattle.call_files.specs.Files.{AreAccepted, File, HasRefused, IsAccepted, fi
 use Rattle.call_files.specs.Kinds.{extent_for, kind_for}
 use Rattle.call_files.specs.Layered.{corner_of}
 use Rattle.call_files.specs.MapFiles.{map_files}
-use Rattle.call_files.specs.declared.extent.Extent.{Extent}
-use Rattle.call_files.specs.declared.extent.Extent.TheVariants as extent
+use Rattle.call_files.specs.declared.kind.Extent.{Extent}
+use Rattle.call_files.specs.declared.kind.Extent.TheVariants as extent
 use Rattle.call_files.specs.declared.kind.Kind.{Kind}
 use Rattle.call_files.specs.declared.kind.Kind.TheVariants as kind
 use Rattle.live_lines.specs.Heard.{AnswerHeard}
@@ -63,17 +63,17 @@ same_call words call other one two = ap (call_or call) (sym one ∙ two)
 -- an outcome of words that spell a call
 call_comes : (words : List (List ℕ)) (holds : List ℕ → Held) (script : List ℕ) (call : Call) (outcome : Outcome)
     → Spell words call → IsOutcome words holds (Some script) outcome → CallComes call holds script outcome
-call_comes words holds script call outcome spelled (bad_word number bad) =
+call_comes words holds script call _ spelled (bad_word number bad) =
     absurd (none_of_calls words call number spelled bad)
-call_comes words holds script call outcome spelled (bad_text other line also is) =
+call_comes words holds script call _ spelled (bad_text other line also is) =
     refused line (subst (λ (c : Call). HasRefused holds (files_of c) line) (same_call words other call also spelled) is)
-call_comes words holds script call outcome spelled (done other lines status also is) =
+call_comes words holds script call _ spelled (done other lines status also is) =
     finished lines status
     (subst (λ (c : Call). IsOutput c holds lines status) (same_call words other call also spelled) is)
-call_comes words holds script call outcome spelled (answered other lines also is) =
+call_comes words holds script call _ spelled (answered other lines also is) =
     replied lines
     (subst (λ (c : Call). AreHeard c holds (Some script) lines None) (same_call words other call also spelled) is)
-call_comes words holds script call outcome spelled (bad_line other lines line also is) =
+call_comes words holds script call _ spelled (bad_line other lines line also is) =
     broken lines line
     (subst (λ (c : Call). AreHeard c holds (Some script) lines (Some line)) (same_call words other call also spelled)
     is)
@@ -123,11 +123,11 @@ same_map_names set other map (Some tables) = refl
 
 names_with : (files others : List File) (file : File) → names files ≡ names others
     → names (files ++ file ∷ []) ≡ names (others ++ file ∷ [])
+unfolding names
 names_with files others file e = names_append files file ∙ ap (λ (ns : List (List ℕ)). ns ++ file.name ∷ []) e
     ∙ sym (names_append others file)
   where
     names_append : (files : List File) (file : File) → names (files ++ file ∷ []) ≡ names files ++ file.name ∷ []
-    unfolding names
     names_append [] file = refl
     names_append (x ∷ files) file = ap (λ (ns : List (List ℕ)). x.name ∷ ns) (names_append files file)
 
@@ -241,58 +241,58 @@ module _ (holds : List ℕ → Held) (script : List ℕ) (call like : Call) (ali
   live_call : {A : Type 0} {K : SessionData → Show → Type 0} (c : Call) → c.request ≡ call.request
       → OnLive c holds K → (d : Call) → d.request ≡ call.request → (lines : List (List ℕ)) (status : ℕ)
       → IsOutput d holds lines status → A
+  unfolding Answers
   live_call c e p d f lines status q = absurd (none
       (subst (λ (asked : Asked). Answers asked d.settings q.texts lines status)
       (f ∙ sym e ∙ ap (λ (k : Call). k.request) p.is) (asked_so d q.texts lines status q.answered)))
     where
       none : Answers (Live p.map p.tables) d.settings q.texts lines status → ⊥
-      unfolding Answers
       none h = h
 
   both_same : files_of call ≡ files_of like → Same → HeardSame → (one other : Outcome)
       → CallComes call holds script one → CallComes like holds script other → one ≡ other
   unfolding HeardSame
-  both_same files same heard one other (refused a p) (refused b q) =
+  both_same files same heard _ _ (refused a p) (refused b q) =
       ap (λ (line : List ℕ). record { status = 3; out = []; line = line })
       (one_line holds (files_of call) a b told p
       (subst (λ (fs : List File). HasRefused holds fs b) (sym files) q))
-  both_same files same heard one other (refused a p) (finished lines status q) =
+  both_same files same heard _ _ (refused a p) (finished lines status q) =
       absurd (not_both holds (files_of call) q.texts a told
       (subst (λ (fs : List File). AreAccepted holds [] fs q.texts) (sym files) q.accepted) p)
-  both_same files same heard one other (refused a p) (replied lines q) =
+  both_same files same heard _ _ (refused a p) (replied lines q) =
       absurd (not_both holds (files_of call) (q.text ∷ q.behind) a told
       (subst (λ (fs : List File). AreAccepted holds [] fs (q.text ∷ q.behind)) (sym files) q.accepted) p)
-  both_same files same heard one other (refused a p) (broken lines line q) =
+  both_same files same heard _ _ (refused a p) (broken lines line q) =
       absurd (not_both holds (files_of call) (q.text ∷ q.behind) a told
       (subst (λ (fs : List File). AreAccepted holds [] fs (q.text ∷ q.behind)) (sym files) q.accepted) p)
-  both_same files same heard one other (finished lines status p) (refused b q) =
+  both_same files same heard _ _ (finished lines status p) (refused b q) =
       absurd (not_both holds (files_of call) p.texts b told p.accepted
       (subst (λ (fs : List File). HasRefused holds fs b) (sym files) q))
-  both_same files same heard one other (finished lines status p) (finished others code q) =
+  both_same files same heard _ _ (finished lines status p) (finished others code q) =
       let e = both_finished same lines others status code p q in
       ap (λ (n : ℕ). record { status = n; out = lines; line = [] }) e.1
       ∙ ap (λ (ls : List (List ℕ)). record { status = code; out = ls; line = [] }) e.0
-  both_same files same heard one other (finished lines status p) (replied others q) =
+  both_same files same heard _ _ (finished lines status p) (replied others q) =
       live_call like (sym alike.request) q call refl lines status p
-  both_same files same heard one other (finished lines status p) (broken others line q) =
+  both_same files same heard _ _ (finished lines status p) (broken others line q) =
       live_call like (sym alike.request) q call refl lines status p
-  both_same files same heard one other (replied lines p) (refused b q) =
+  both_same files same heard _ _ (replied lines p) (refused b q) =
       absurd (not_both holds (files_of call) (p.text ∷ p.behind) b told p.accepted
       (subst (λ (fs : List File). HasRefused holds fs b) (sym files) q))
-  both_same files same heard one other (replied lines p) (finished others code q) =
+  both_same files same heard _ _ (replied lines p) (finished others code q) =
       live_call call refl p like (sym alike.request) others code q
-  both_same files same heard one other (replied lines p) (replied others q) =
+  both_same files same heard _ _ (replied lines p) (replied others q) =
       ap (λ (ls : List (List ℕ)). record { status = 0; out = ls; line = [] }) (heard None None lines others p q).1
-  both_same files same heard one other (replied lines p) (broken others line q) =
+  both_same files same heard _ _ (replied lines p) (broken others line q) =
       absurd (let e : None ≡ Some line = (heard None (Some line) lines others p q).0 in cc)
-  both_same files same heard one other (broken lines line p) (refused b q) =
+  both_same files same heard _ _ (broken lines line p) (refused b q) =
       absurd (not_both holds (files_of call) (p.text ∷ p.behind) b told p.accepted
       (subst (λ (fs : List File). HasRefused holds fs b) (sym files) q))
-  both_same files same heard one other (broken lines line p) (finished others code q) =
+  both_same files same heard _ _ (broken lines line p) (finished others code q) =
       live_call call refl p like (sym alike.request) others code q
-  both_same files same heard one other (broken lines line p) (replied others q) =
+  both_same files same heard _ _ (broken lines line p) (replied others q) =
       absurd (let e : Some line ≡ None = (heard (Some line) None lines others p q).0 in cc)
-  both_same files same heard one other (broken lines line p) (broken others also q) =
+  both_same files same heard _ _ (broken lines line p) (broken others also q) =
       let e = heard (Some line) (Some also) lines others p q in
       ap (λ (o : Option (List ℕ)). record { status = 3; out = lines; line = line_or o }) e.0
       ∙ ap (λ (ls : List (List ℕ)). record { status = 3; out = ls; line = also }) e.1
@@ -373,13 +373,13 @@ module _ (holds : List ℕ → Held) (script : List ℕ) (call like : Call) (ali
       where
         by_ends : (one other : Outcome) → (one.status ≢ 3) × (other.status ≢ 3) → CallComes call holds script one
             → CallComes like holds script other → one ≡ other
-        by_ends one other done (refused a p) q = absurd (done.0 refl)
-        by_ends one other done (broken lines line p) q = absurd (done.0 refl)
-        by_ends one other done (replied lines p) q = not_live call refl p
-        by_ends one other done (finished lines status p) (refused b q) = absurd (done.1 refl)
-        by_ends one other done (finished lines status p) (broken others line q) = absurd (done.1 refl)
-        by_ends one other done (finished lines status p) (replied others q) = not_live like (sym alike.request) q
-        by_ends one other done (finished lines status p) (finished others code q) =
+        by_ends _ _ done (refused a p) q = absurd (done.0 refl)
+        by_ends _ _ done (broken lines line p) q = absurd (done.0 refl)
+        by_ends _ _ done (replied lines p) q = not_live call refl p
+        by_ends _ _ done (finished lines status p) (refused b q) = absurd (done.1 refl)
+        by_ends _ _ done (finished lines status p) (broken others line q) = absurd (done.1 refl)
+        by_ends _ _ done (finished lines status p) (replied others q) = not_live like (sym alike.request) q
+        by_ends _ _ done (finished lines status p) (finished others code q) =
             let e = both_finished one_cost lines others status code p q in
             ap (λ (n : ℕ). record { status = n; out = lines; line = [] }) e.1
             ∙ ap (λ (ls : List (List ℕ)). record { status = code; out = ls; line = [] }) e.0
@@ -393,12 +393,12 @@ record IsBadIn (words : List (List ℕ)) (outcome : Outcome) : Type 0 where
 -- two outcomes of the same words
 words_or_call : (words : List (List ℕ)) (holds : List ℕ → Held) (script : List ℕ) (one : Outcome)
     → IsOutcome words holds (Some script) one → IsBadIn words one ⊎ ((call : Call) × Spell words call)
-words_or_call words holds script one (bad_word number bad) =
+words_or_call words holds script _ (bad_word number bad) =
     inl (record { number = number; bad = bad; is = refl })
-words_or_call words holds script one (bad_text call line spelled is) = inr (call, spelled)
-words_or_call words holds script one (done call lines status spelled is) = inr (call, spelled)
-words_or_call words holds script one (answered call lines spelled is) = inr (call, spelled)
-words_or_call words holds script one (bad_line call lines line spelled is) = inr (call, spelled)
+words_or_call words holds script _ (bad_text call line spelled is) = inr (call, spelled)
+words_or_call words holds script _ (done call lines status spelled is) = inr (call, spelled)
+words_or_call words holds script _ (answered call lines spelled is) = inr (call, spelled)
+words_or_call words holds script _ (bad_line call lines line spelled is) = inr (call, spelled)
 
 module _ (words : List (List ℕ)) (holds : List ℕ → Held) (script : List ℕ) (one other : Outcome)
     (told : FilesAreTold words holds) (p : IsOutcome words holds (Some script) one)

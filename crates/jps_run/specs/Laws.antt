@@ -1,5 +1,5 @@
 -- That the outcome of a call is the only one, and which engines print the same.
-use Rattle.std.specs.Prelude.{◌≡◌, ◌≢◌, ⊤, ⊥, ◌⊎◌, ℕ, Bool, true, false, List, Some}
+use Rattle.std.specs.Prelude.{◌≡◌, ◌≢◌, ⊤, ◌⊎◌, ℕ, Bool, true, false, List, Some}
 use Rattle.io_edge.specs.Told.{Held}
 use Rattle.word_list.specs.Request.{Asked, Call, Scen, Drill}
 use Rattle.word_list.specs.Settings.{is_for_small_maps}
