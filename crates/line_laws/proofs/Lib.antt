@@ -7,3 +7,4 @@ pub mod Heard
 pub mod Taken
 pub mod Sessions
 pub mod Printed
+pub mod OnMap
