@@ -35,7 +35,7 @@ use Rattle.who_answers.specs.Session.{IsSessionOn, OnSession, by_of, who_on}
 use Rattle.who_answers.specs.Who.{By, Who, who_is}
 use Rattle.reply_laws.proofs.Kept.{are_layers-text}
 use Rattle.line_laws.specs.Alike.{AnswerAlike, way_of}
-use Rattle.line_laws.proofs.Laws.{one_reply_line, one_answers, one_drawing, one_rows, one_drill, rows_alike}
+use Rattle.line_laws.proofs.Printed.{one_reply_line, one_answers, one_drawing, one_rows, one_drill, alike_rows}
 use Rattle.answer_laws.proofs.Costs as costs
 use Rattle.answer_laws.proofs.Boxes as boxes
 use Rattle.answer_laws.proofs.Runs as runs
@@ -149,9 +149,10 @@ module _ (set other : Settings) (rule : set.one ≡ other.one) where
           (subst (λ (es : List Entry). AreRulings (layers_on set p.map) es one.known.value two.known.known.from)
           (sym entries) (subst (λ (ts : List Told). AreRulings (layers_on set p.map) two.value ts two.known.known.from)
           (sym told) (on_layers (λ ls. AreRulings ls two.value two.known.value two.known.known.from) p.map q.map
-          (same_map p q).map two.known.known.known))) in
-          (one.known.known.all ∙ ap judge_lines rows ∙ sym two.known.known.all,
-          one.known.known.code ∙ ap judge_status rows ∙ sym two.known.known.code)
+          (same_map p q).map two.known.known.known))) in (
+            one.known.known.all ∙ ap judge_lines rows ∙ sym two.known.known.all,
+            one.known.known.code ∙ ap judge_status rows ∙ sym two.known.known.code,
+          )
 
   one_checked : (texts lines same : List (List ℕ)) (status code : ℕ) (map cert : List ℕ)
       → Answers (Check map cert) set texts lines status → Answers (Check map cert) other texts same code
@@ -231,9 +232,9 @@ module _ (set other : Settings) (rule : set.one ≡ other.one) where
         (subst (λ (show : Show). IsDrawing two.session q.map s t show q.known.line code) (sym shown) two.known)) in
         (one_line p.known q.known drawn.0, drawn.1)
 
-  same_entries : {K L : List Entry → Type 0} {texts : List (List ℕ)}
-      → (p : OnMap texts (λ m behind. OnLast behind (λ second. Reads (scen_of second) K)))
-      → (q : OnMap texts (λ m behind. OnLast behind (λ second. Reads (scen_of second) L)))
+  same_entries : {K L : Map → List Entry → Type 0} {texts : List (List ℕ)}
+      → (p : OnMap texts (λ m behind. OnLast behind (λ second. Reads (scen_of second) (K m))))
+      → (q : OnMap texts (λ m behind. OnLast behind (λ second. Reads (scen_of second) (L m))))
       → p.known.known.value ≡ q.known.known.value
   same_entries p q =
       ok_same p.known.known.value q.known.known.value (scen_of p.known.last) p.known.known.is
@@ -246,9 +247,10 @@ module _ (set other : Settings) (rule : set.one ≡ other.one) where
   unfolding Answers
   one_answer Help texts lines same status code shown way p q = (p.0 ∙ sym q.0, p.1 ∙ sym q.1)
   one_answer Version texts lines same status code shown way p q = (p.0 ∙ sym q.0, p.1 ∙ sym q.1)
-  one_answer (Query map tables sx sy gx gy) texts lines same status code shown way p q =
-      (one_replied shown way texts lines same (record { x = sx; y = sy }) (record { x = gx; y = gy }) p.0 q.0,
-      p.1 ∙ sym q.1)
+  one_answer (Query map tables sx sy gx gy) texts lines same status code shown way p q = (
+    one_replied shown way texts lines same (record { x = sx; y = sy }) (record { x = gx; y = gy }) p.0 q.0,
+    p.1 ∙ sym q.1,
+  )
   one_answer (Solve map tables script) texts lines same status code shown way p q =
       (one_solved shown way texts lines same p.0 q.0, p.1 ∙ sym q.1)
   one_answer (Live map tables) texts lines same status code shown way p q = absurd (p)
@@ -258,10 +260,11 @@ module _ (set other : Settings) (rule : set.one ≡ other.one) where
       let rows : one.from ≡ two.from =
       one_rows (who_on set p.map) (who_on other q.map) p.known.known.value one.from two.from
       (are_layers-text set p.text p.map p.read) (alike shown way p.map q.map (same_map p q).map) one.known
-      (subst (λ (es : List Entry). AreRows (who_on other q.map) es two.from) (sym (same_entries p q)) two.known) in
-      (one.all ∙ ap (λ (show : Show). scen_lines show one.from) shown
-      ∙ ap (λ (rs : List Row). scen_lines other.show rs) rows ∙ sym two.all,
-      one.code ∙ ap scen_status rows ∙ sym two.code)
+      (subst (λ (es : List Entry). AreRows (who_on other q.map) es two.from) (sym (same_entries p q)) two.known) in (
+        one.all ∙ ap (λ (show : Show). scen_lines show one.from) shown
+            ∙ ap (λ (rs : List Row). scen_lines other.show rs) rows ∙ sym two.all,
+        one.code ∙ ap scen_status rows ∙ sym two.code,
+      )
   one_answer (Judge map scen walks) texts lines same status code shown way p q =
       one_judged texts lines same status code map scen walks p q
   one_answer (Prove map sx sy gx gy) texts lines same status code shown way p q =
@@ -274,30 +277,38 @@ module _ (set other : Settings) (rule : set.one ≡ other.one) where
   one_answer (Check map cert) texts lines same status code shown way p q =
       one_checked texts lines same status code map cert p q
   one_answer (Make seed w h percent) texts lines same status code shown way p q = (p.0 ∙ sym q.0, p.1 ∙ sym q.1)
-  one_answer (Drill seed) texts lines same status code shown way p q =
-      (p.all ∙ ap (λ (found : List Finding). drill_line found ∷ [])
-      (one_drill set other seed p.from q.from rule p.known q.known) ∙ sym q.all, p.code ∙ sym q.code)
+  one_answer (Drill seed) texts lines same status code shown way p q = (
+    p.all ∙ ap (λ (found : List Finding). drill_line found ∷ [])
+        (one_drill set other seed p.from q.from rule p.known q.known) ∙ sym q.all,
+    p.code ∙ sym q.code,
+  )
   one_answer (Draw map sx sy gx gy) texts lines same status code shown way p q =
       one_drawn shown way texts lines same status code (record { x = sx; y = sy }) (record { x = gx; y = gy }) p q
-  one_answer (Costs map x y) texts lines same status code shown way p q =
-      (costs.one_costs (layers_on set p.0.map) (record { x = x; y = y }) lines same
-      (are_layers-text set p.0.text p.0.map p.0.read) p.0.known
-      (on_layers (λ ls. AreCosts ls (record { x = x; y = y }) same) p.0.map q.0.map (same_map p.0 q.0).map q.0.known),
-      p.1 ∙ sym q.1)
-  one_answer (Tables map) texts lines same status code shown way p q =
-      (p.0.known ∙ ap (λ (one : Bool). tables_text (corner_of one) p.0.map ∷ []) rule
-      ∙ ap (λ (m : Map). tables_text (corner_of other.one) m ∷ []) (same_map p.0 q.0).map ∙ sym q.0.known,
-      p.1 ∙ sym q.1)
-  one_answer (Boxes map x y) texts lines same status code shown way p q =
-      (one_line p.0.known q.0.known (boxes.one_text (layers_on set p.0.map) (record { x = x; y = y })
-      p.0.known.line q.0.known.line (are_layers-text set p.0.text p.0.map p.0.read) p.0.known.known
-      (on_layers (λ ls. IsBoxText ls (record { x = x; y = y }) q.0.known.line) p.0.map q.0.map
-      (same_map p.0 q.0).map q.0.known.known)), p.1 ∙ sym q.1)
-  one_answer (Moves map x y) texts lines same status code shown way p q =
-      (one_line p.0.known q.0.known (runs.one_text (layers_on set p.0.map) (record { x = x; y = y })
-      p.0.known.line q.0.known.line (are_layers-text set p.0.text p.0.map p.0.read) p.0.known.known
-      (on_layers (λ ls. IsRunText ls (record { x = x; y = y }) q.0.known.line) p.0.map q.0.map
-      (same_map p.0 q.0).map q.0.known.known)), p.1 ∙ sym q.1)
+  one_answer (Costs map x y) texts lines same status code shown way p q = (
+    costs.one_costs (layers_on set p.0.map) (record { x = x; y = y }) lines same
+        (are_layers-text set p.0.text p.0.map p.0.read) p.0.known
+        (on_layers (λ ls. AreCosts ls (record { x = x; y = y }) same) p.0.map q.0.map (same_map p.0 q.0).map q.0.known),
+    p.1 ∙ sym q.1,
+  )
+  one_answer (Tables map) texts lines same status code shown way p q = (
+    p.0.known ∙ ap (λ (one : Bool). tables_text (corner_of one) p.0.map ∷ []) rule
+        ∙ ap (λ (m : Map). tables_text (corner_of other.one) m ∷ []) (same_map p.0 q.0).map ∙ sym q.0.known,
+    p.1 ∙ sym q.1,
+  )
+  one_answer (Boxes map x y) texts lines same status code shown way p q = (
+    one_line p.0.known q.0.known (boxes.one_text (layers_on set p.0.map) (record { x = x; y = y })
+        p.0.known.line q.0.known.line (are_layers-text set p.0.text p.0.map p.0.read) p.0.known.known
+        (on_layers (λ ls. IsBoxText ls (record { x = x; y = y }) q.0.known.line) p.0.map q.0.map
+        (same_map p.0 q.0).map q.0.known.known)),
+    p.1 ∙ sym q.1,
+  )
+  one_answer (Moves map x y) texts lines same status code shown way p q = (
+    one_line p.0.known q.0.known (runs.one_text (layers_on set p.0.map) (record { x = x; y = y })
+        p.0.known.line q.0.known.line (are_layers-text set p.0.text p.0.map p.0.read) p.0.known.known
+        (on_layers (λ ls. IsRunText ls (record { x = x; y = y }) q.0.known.line) p.0.map q.0.map
+        (same_map p.0 q.0).map q.0.known.known)),
+    p.1 ∙ sym q.1,
+  )
 
   -- where costs alone are asked for, whatever the engines
   pub one_cost_answer : (asked : Asked) (texts lines same : List (List ℕ)) (status code : ℕ) → set.show ≡ other.show
@@ -307,14 +318,17 @@ module _ (set other : Settings) (rule : set.one ≡ other.one) where
   one_cost_answer (Scen map tables scen) texts lines same status code shown costs p q =
       let one = p.known.known.known in
       let two = q.known.known.known in
-      let rows = rows_alike (who_on set p.map) (who_on other q.map) p.known.known.value one.from two.from
+      let rows = alike_rows (who_on set p.map) (who_on other q.map) p.known.known.value one.from two.from
       (are_layers-text set p.text p.map p.read) (same_layers p.map q.map (same_map p q).map) one.known
-      (subst (λ (es : List Entry). AreRows (who_on other q.map) es two.from) (sym (same_entries p q)) two.known) in
-      (one.all ∙ rows.lines set.show costs ∙ ap (λ (show : Show). scen_lines show two.from) shown ∙ sym two.all,
-      one.code ∙ rows.status ∙ sym two.code)
-  one_cost_answer (Drill seed) texts lines same status code shown costs p q =
-      (p.all ∙ ap (λ (found : List Finding). drill_line found ∷ [])
-      (one_drill set other seed p.from q.from rule p.known q.known) ∙ sym q.all, p.code ∙ sym q.code)
+      (subst (λ (es : List Entry). AreRows (who_on other q.map) es two.from) (sym (same_entries p q)) two.known) in (
+        one.all ∙ rows.lines set.show costs ∙ ap (λ (show : Show). scen_lines show two.from) shown ∙ sym two.all,
+        one.code ∙ rows.status ∙ sym two.code,
+      )
+  one_cost_answer (Drill seed) texts lines same status code shown costs p q = (
+    p.all ∙ ap (λ (found : List Finding). drill_line found ∷ [])
+        (one_drill set other seed p.from q.from rule p.known q.known) ∙ sym q.all,
+    p.code ∙ sym q.code,
+  )
   one_cost_answer Help texts lines same status code shown costs p q = absurd (costs)
   one_cost_answer Version texts lines same status code shown costs p q = absurd (costs)
   one_cost_answer (Query map tables sx sy gx gy) texts lines same status code shown costs p q = absurd (costs)

@@ -126,13 +126,15 @@ asked_so _ _ _ _ (help set) = (refl, refl)
 asked_so _ _ _ _ (version set) = (refl, refl)
 asked_so _ _ _ _ (replied map text tables loaded sx sy gx gy set m line read is) =
     (on text loaded m refl read (record { line = line; all = refl; known = is }), refl)
-asked_so _ _ _ _ (solved map script text second tables loaded set m commands lines read spelled is) =
-    (on text (loaded ++ second ∷ []) m refl read (record {
-      before = loaded;
-      last = second;
-      is = refl;
-      known = record { value = commands; is = spelled; known = is };
-    }), refl)
+asked_so _ _ _ _ (solved map script text second tables loaded set m commands lines read spelled is) = (
+  on text (loaded ++ second ∷ []) m refl read (record {
+    before = loaded;
+    last = second;
+    is = refl;
+    known = record { value = commands; is = spelled; known = is };
+  }),
+  refl,
+)
 asked_so _ _ _ _ (judged map scen text second tables loaded set m entries rows read spelled is) =
     on text (loaded ++ second ∷ []) m refl read (record {
       before = loaded;
@@ -146,15 +148,20 @@ asked_so _ _ _ _ (judged map scen text second tables loaded set m entries rows r
     })
 asked_so _ _ _ _ (refereed map scen walks text second third set m entries told rulings read spelled
     heard is) =
-    on text (second ∷ third ∷ []) m refl read (second, third, refl, record {
-      value = entries;
-      is = spelled;
-      known = record {
-        value = told;
-        is = heard;
-        known = record { from = rulings; all = refl; code = refl; known = is };
-      };
-    })
+    on text (second ∷ third ∷ []) m refl read (
+      second,
+      third,
+      refl,
+      record {
+        value = entries;
+        is = spelled;
+        known = record {
+          value = told;
+          is = heard;
+          known = record { from = rulings; all = refl; code = refl; known = is };
+        };
+      },
+    )
 asked_so _ _ _ _ (proved map text sx sy gx gy set m printed status read is) =
     on text [] m refl read (record { line = printed; all = refl; known = is })
 asked_so _ _ _ _ (checked map cert text second set m c line status read spelled is) =

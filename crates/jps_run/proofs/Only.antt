@@ -1,6 +1,6 @@
 -- Outcomes are the only ones, and those of calls that ask alike are the same.
 use Rattle.std.proofs.Common.{◌≡◌, ◌∙◌, refl, ap, sym, subst, ℕ, Bool, true, false, List, [], ◌∷◌, ◌++◌}
-use Rattle.std.specs.Prelude.{Option, Some, None, ◌≢◌, ◌⊎◌}
+use Rattle.std.specs.Prelude.{Option, Some, None, ◌≢◌, ◌⊎◌, if◌then◌else◌}
 use Rattle.std.proofs.Common.{inl, inr}
 use Rattle.io_edge.specs.Told.{Held, holding, absent, untold}
 use Rattle.io_edge.specs.Whole.{IsWhole}
@@ -18,7 +18,7 @@ use Rattle.word_list.specs.declared.request.Settings.{Settings}
 use Rattle.word_list.specs.declared.request.Show.{Show}
 use Rattle.call_files.specs.FaultLines.{word_line}
 use Rattle.call_files.specs.Files.{AreAccepted, File, HasRefused, IsAccepted, file_of}
-use Rattle.call_files.specs.Kinds.{extent_for, kind_for}
+use Rattle.call_files.specs.Kinds.{extent_for, kind_for, limit_of}
 use Rattle.call_files.specs.Layered.{corner_of}
 use Rattle.call_files.specs.MapFiles.{map_files}
 use Rattle.call_files.specs.declared.kind.Extent.{Extent}
@@ -29,7 +29,7 @@ use Rattle.live_lines.specs.Heard.{AnswerHeard}
 use Rattle.who_answers.specs.Session.{by_of}
 use Rattle.who_answers.specs.Who.{By, by_session, by_boxes, by_moves}
 use Rattle.line_laws.specs.Alike.{way_of}
-use Rattle.line_laws.proofs.Laws.{one_heard}
+use Rattle.line_laws.proofs.Printed.{one_heard}
 use Rattle.answer_laws.specs.Files.{AreTold}
 use Rattle.answer_laws.proofs.Files.{one_line, not_both}
 use Rattle.answer_laws.proofs.Words.{one_bad_word, none_of_calls}
@@ -84,11 +84,11 @@ names [] = []
 names (file ∷ files) = file.name ∷ names files
 
 -- a told file holds one text
-same_held : (held : Held) (x y : List ℕ) {limit also : ℕ} → held ≢ untold → IsWhole held limit x → IsWhole held also y
+same_held : (held : Held) (x y : List ℕ) (limit also : ℕ) → held ≢ untold → IsWhole held limit x → IsWhole held also y
     → x ≡ y
-same_held untold x y told p q = absurd (told refl)
-same_held absent x y told p q = absurd (p)
-same_held (holding bytes) x y told p q = p.0 ∙ sym q.0
+same_held untold x y limit also told p q = absurd (told refl)
+same_held absent x y limit also told p q = absurd (p)
+same_held (holding bytes) x y limit also told p q = p.0 ∙ sym q.0
 
 both : (x y : List ℕ) (one two : List (List ℕ)) → x ≡ y → one ≡ two → x ∷ one ≡ y ∷ two
 both x y one two e f =
@@ -109,7 +109,7 @@ same_texts holds (file ∷ files) (other ∷ others) earlier before one [] told 
 same_texts holds (file ∷ files) (other ∷ others) earlier before (x ∷ one) (y ∷ two) told e p q =
     let name : file.name ≡ other.name = same_first file.name other.name (names files) (names others) e in
     let rest : names files ≡ names others = same_others file.name other.name (names files) (names others) e in
-    let here : x ≡ y = same_held (holds file.name) x y told.0 p.0.0
+    let here : x ≡ y = same_held (holds file.name) x y (limit_of file.kind) (limit_of other.kind) told.0 p.0.0
     (subst (λ (n : List ℕ). IsAccepted before other.kind (holds n) y) (sym name) q.0).0 in
     both x y one two here (same_texts holds files others (earlier ++ x ∷ []) (before ++ y ∷ []) one two told.1 rest
     p.1 q.1)
@@ -369,17 +369,17 @@ module _ (holds : List ℕ → Held) (script : List ℕ) (call like : Call) (ali
         both_same (same_files call.settings like.settings alike.rule small call.request
         ∙ ap (λ (asked : Asked). files_of (call_with asked like.settings)) alike.request) one_cost heard_none one other
         p q
-    one_cost_outcome one other (inr done) p q = by_ends one other done p q
+    one_cost_outcome one other (inr few) p q = by_ends one other few p q
       where
         by_ends : (one other : Outcome) → (one.status ≢ 3) × (other.status ≢ 3) → CallComes call holds script one
             → CallComes like holds script other → one ≡ other
-        by_ends _ _ done (refused a p) q = absurd (done.0 refl)
-        by_ends _ _ done (broken lines line p) q = absurd (done.0 refl)
-        by_ends _ _ done (replied lines p) q = not_live call refl p
-        by_ends _ _ done (finished lines status p) (refused b q) = absurd (done.1 refl)
-        by_ends _ _ done (finished lines status p) (broken others line q) = absurd (done.1 refl)
-        by_ends _ _ done (finished lines status p) (replied others q) = not_live like (sym alike.request) q
-        by_ends _ _ done (finished lines status p) (finished others code q) =
+        by_ends _ _ few (refused a p) q = absurd (few.0 refl)
+        by_ends _ _ few (broken lines line p) q = absurd (few.0 refl)
+        by_ends _ _ few (replied lines p) q = not_live call refl p
+        by_ends _ _ few (finished lines status p) (refused b q) = absurd (few.1 refl)
+        by_ends _ _ few (finished lines status p) (broken others line q) = absurd (few.1 refl)
+        by_ends _ _ few (finished lines status p) (replied others q) = not_live like (sym alike.request) q
+        by_ends _ _ few (finished lines status p) (finished others code q) =
             let e = both_finished one_cost lines others status code p q in
             ap (λ (n : ℕ). record { status = n; out = lines; line = [] }) e.1
             ∙ ap (λ (ls : List (List ℕ)). record { status = code; out = ls; line = [] }) e.0
