@@ -5,3 +5,4 @@ pub mod Counts
 pub mod Asked
 pub mod Alike
 pub mod Only
+pub mod Begun

@@ -42,7 +42,7 @@ use Rattle.jps_run.proofs.Alike.{one_answer, one_cost_answer, ok_same, same_firs
 use Rattle.jps_run.proofs.Asked.{Answers, asked_so}
 
 -- what a call comes to, where its words are not refused
-data CallComes (call : Call) (holds : List ℕ → Held) (script : List ℕ) : Outcome → Type 0 where
+pub data CallComes (call : Call) (holds : List ℕ → Held) (script : List ℕ) : Outcome → Type 0 where
   refused : (line : List ℕ) → HasRefused holds (files_of call) line
       → CallComes call holds script (record { status = 3; out = []; line = line })
   finished : (lines : List (List ℕ)) (status : ℕ) → IsOutput call holds lines status
@@ -61,7 +61,7 @@ unfolding call_or
 same_call words call other one two = ap (call_or call) (sym one ∙ two)
 
 -- an outcome of words that spell a call
-call_comes : (words : List (List ℕ)) (holds : List ℕ → Held) (script : List ℕ) (call : Call) (outcome : Outcome)
+pub call_comes : (words : List (List ℕ)) (holds : List ℕ → Held) (script : List ℕ) (call : Call) (outcome : Outcome)
     → Spell words call → IsOutcome words holds (Some script) outcome → CallComes call holds script outcome
 call_comes words holds script call _ spelled (bad_word number bad) =
     absurd (none_of_calls words call number spelled bad)
@@ -212,7 +212,7 @@ jump_way pick.Moves e = absurd (cc)
 
 module _ (holds : List ℕ → Held) (script : List ℕ) (call like : Call) (alike : DifferInEngine call like)
     (told : AreTold holds (files_of call)) where
-  one_list : (one two : List (List ℕ)) → AreAccepted holds [] (files_of call) one
+  pub one_list : (one two : List (List ℕ)) → AreAccepted holds [] (files_of call) one
       → AreAccepted holds [] (files_of like) two → one ≡ two
   one_list one two p q = same_texts holds (files_of call) (files_of like) [] [] one two told
       (same_names call.request call.settings like.settings
@@ -238,7 +238,7 @@ module _ (holds : List ℕ → Held) (script : List ℕ) (call like : Call) (ali
       (sym (one_list p.texts q.texts p.accepted q.accepted)) (asked_so like q.texts same code q.answered)))
 
   -- a call that reads the input has no answer by its files alone
-  live_call : {A : Type 0} {K : SessionData → Show → Type 0} (c : Call) → c.request ≡ call.request
+  pub live_call : {A : Type 0} {K : SessionData → Show → Type 0} (c : Call) → c.request ≡ call.request
       → OnLive c holds K → (d : Call) → d.request ≡ call.request → (lines : List (List ℕ)) (status : ℕ)
       → IsOutput d holds lines status → A
   unfolding Answers

@@ -1,6 +1,8 @@
--- That the outcome of a call is the only one, and which engines print the same.
+-- That the outcome of a call is the only one, which engines print the same, and what is written where a call stops.
 use Rattle.std.specs.Prelude.{◌≡◌, ◌≢◌, ⊤, ◌⊎◌, ℕ, Bool, true, false, List, Some}
-use Rattle.io_edge.specs.Told.{Held}
+use Rattle.std.specs.List.{concat}
+use Rattle.io_edge.specs.Told.{Disk, Held, Inflow, Outflow}
+use Rattle.io_edge.specs.Whole.{AppendsSome}
 use Rattle.word_list.specs.Request.{Asked, Call, Scen, Drill}
 use Rattle.word_list.specs.Settings.{is_for_small_maps}
 use Rattle.word_list.specs.declared.request.Pick.{Pick}
@@ -9,6 +11,7 @@ use Rattle.word_list.specs.declared.request.Show.{Show}
 use Rattle.word_list.specs.declared.request.Show.TheVariants as show
 use Rattle.answer_laws.specs.Files.{AreTold}
 use Rattle.jps_run.specs.Calls.{files_of}
+use Rattle.jps_run.specs.Ending.{HasFailed, HasLines, HasPart}
 use Rattle.jps_run.specs.Outcome.{IsOutcome, Outcome, Spell}
 
 -- of each file that the words name it is told what stands under its name
@@ -59,3 +62,14 @@ EnginesPrintTheSameCosts = (words others : List (List ℕ)) (call like : Call) (
     → (is_for_small_maps call.settings.pick ≡ is_for_small_maps like.settings.pick)
     ⊎ ((one.status ≢ 3) × (other.status ≢ 3))
     → IsOutcome words holds (Some script) one → IsOutcome others holds (Some script) other → one ≡ other
+
+-- Where a call stops with no outcome, for a read or a write that failed or for want of memory, what it wrote is a first
+-- part of the output of the outcome that its words come to.
+abbrev pub WrittenBeginsTheOutput : Type 0
+WrittenBeginsTheOutput = (words : List (List ℕ)) (disk disk_now : Disk) (input input_now : Inflow)
+    (out out_now : Outflow) (script : List ℕ) (outcome : Outcome) → FilesAreTold words disk.holds
+    → input.left ≡ Some script → IsOutcome words disk.holds (Some script) outcome
+    → HasFailed words disk disk_now input input_now out out_now
+    ⊎ (HasPart words disk.holds input input_now out out_now
+    ⊎ HasLines words disk.holds input input_now out out_now)
+    → AppendsSome out.written out_now.written (concat outcome.out)

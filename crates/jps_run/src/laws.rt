@@ -1,6 +1,6 @@
 //! Laws of outcomes: each is the contract of a call that does nothing.
 
-ghost use Rattle.jps_run.specs.Laws.{OutcomesAreOne, JumpEnginesPrintTheSame, EnginesPrintTheSameCosts};
+ghost use Rattle.jps_run.specs.Laws.{OutcomesAreOne, JumpEnginesPrintTheSame, EnginesPrintTheSameCosts, WrittenBeginsTheOutput};
 
 /// Words come to one outcome, where the files that they name and the input are told: one status, one output, and
 /// one line on `err`.
@@ -18,4 +18,10 @@ pub fn jump_engines_print_the_same()
 /// engines they pick, if these take the same maps (`boxes` and `moves` take small ones alone).
 pub fn engines_print_the_same_costs()
     ensures { EnginesPrintTheSameCosts }
+{}
+
+/// What a call wrote that stopped with no outcome is a first part of the output that its words come to: where a read
+/// failed, where a write failed, and for want of memory.
+pub fn written_begins_the_output()
+    ensures { WrittenBeginsTheOutput }
 {}
