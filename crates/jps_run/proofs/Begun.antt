@@ -1,10 +1,9 @@
 -- What a call wrote that stopped with no outcome begins the one output.
-use Rattle.std.proofs.Common.{◌≡◌, ◌∙◌, refl, ap, sym, subst, ℕ, ◌≤◌, List, [], ◌∷◌, ◌⊎◌, inl, inr}
-use Rattle.std.proofs.Common.{length, take, drop, arith}
+use Rattle.std.proofs.Common.{◌≡◌, ◌∙◌, refl, ap, sym, subst, ℕ, ◌≤◌, ◌⊎◌, inl, inr, arith}
+use Rattle.std.proofs.Common.{List, [], ◌∷◌, ◌++◌, append_assoc, length, take, drop}
 use Rattle.std.specs.Prelude.{Option, Some, None}
 use Rattle.std.specs.List.{concat}
-use Rattle.std.specs.Io.KnownBytes.{Appends}
-use Rattle.std.proofs.Math.Seq.{take-length}
+use Rattle.std.proofs.Math.Seq.{take-append_seam, take-length}
 use Rattle.std.proofs.lemmas.List.{take-append-drop}
 use Rattle.std.proofs.lemmas.List.Folds.{concat-append}
 use Rattle.io_edge.specs.Told.{Disk, Held, Inflow, Outflow}
@@ -14,6 +13,7 @@ use Rattle.edit_replay.specs.Session.{SessionData}
 use Rattle.word_list.specs.Request.{Call}
 use Rattle.word_list.specs.declared.request.Settings.{Settings}
 use Rattle.word_list.specs.declared.request.Show.{Show}
+use Rattle.line_work.specs.Sending.{Wrote}
 use Rattle.line_work.proofs.Pieces.{part-more}
 use Rattle.who_answers.specs.Session.{by_of}
 use Rattle.live_lines.specs.Heard.{AnswerHeard, AnswerTaken}
@@ -24,38 +24,52 @@ use Rattle.answer_laws.specs.Files.{AreTold}
 use Rattle.answer_laws.proofs.Files.{not_both}
 use Rattle.jps_run.specs.Calls.{files_of}
 use Rattle.jps_run.specs.Ending.{HasFailed, HasLines, HasPart, first, none, of_all, of_file, of_input, of_taken, some}
-use Rattle.jps_run.specs.Laws.{DifferInEngine, FilesAreTold}
+use Rattle.jps_run.specs.Laws.{DifferInEngine, FilesAreTold, WrittenBeginsTheOutput, WroteLinesOf}
 use Rattle.jps_run.specs.Live.{AreHeard, OnLive}
 use Rattle.jps_run.specs.Outcome.{IsOutcome, IsOutput, Outcome, Spell, done}
 use Rattle.jps_run.proofs.Alike.{ok_same, same_first, session_layers, sessions_alike}
 use Rattle.jps_run.proofs.Only.{CallComes, broken, finished, refused, replied}
 use Rattle.jps_run.proofs.Only.{call_comes, live_call, one_list, outcomes_one}
 
--- what was written is a first part of these bytes
-module _ (before now : Option (List ℕ)) where
-  part-none : (bytes : List ℕ) → Appends before now [] → AppendsSome before now bytes
-  part-none bytes h = part-more before now [] bytes (0, (let e : 0 ≤ 0 = omega arith in e), h)
+-- the first ones of these lines begin them
+begin-by : (count : ℕ) (lines : List (List ℕ)) → BeginWith lines (take count lines)
+begin-by count lines = (drop count lines, sym (take-append-drop count lines))
 
-  part-all : (bytes : List ℕ) → Appends before now bytes → AppendsSome before now bytes
+begin-then : (all lines few : List (List ℕ)) → BeginWith all lines → BeginWith lines few → BeginWith all few
+begin-then all lines few p q =
+    (q.0 ++ p.0, p.1 ∙ ap (λ (l : List (List ℕ)). l ++ p.0) q.1 ∙ append_assoc few q.0 p.0)
+
+module _ (before now : Outflow) where
+  -- lines that begin all of these were written
+  Begun : List (List ℕ) → Type 0
+  Begun all = (lines : List (List ℕ)) × BeginWith all lines × Wrote before now (concat lines)
+
+  part-begun : (all lines : List (List ℕ)) → BeginWith all lines
+      → AppendsSome before.written now.written (concat lines) → AppendsSome before.written now.written (concat all)
+  part-begun all lines begun h =
+      subst (λ (l : List ℕ). AppendsSome before.written now.written l)
+      (sym (ap concat begun.1 ∙ concat-append lines begun.0))
+      (part-more before.written now.written (concat lines) (concat begun.0) h)
+
+  part-all : (bytes : List ℕ) → Wrote before now bytes → AppendsSome before.written now.written bytes
   part-all bytes h = (
     length bytes,
     (let e : length bytes ≤ length bytes = omega arith in e),
-    subst (λ (l : List ℕ). Appends before now l) (sym (take-length bytes)) h,
+    subst (λ (l : List ℕ). Wrote before now l) (sym (take-length bytes)) h,
   )
 
-  part-lines : (count : ℕ) (lines : List (List ℕ)) → Appends before now (concat (take count lines))
-      → AppendsSome before now (concat lines)
-  part-lines count lines h =
-      subst (λ (l : List ℕ). AppendsSome before now l)
-      (sym (concat-append (take count lines) (drop count lines)) ∙ ap concat (take-append-drop count lines))
-      (part-more before now (concat (take count lines)) (concat (drop count lines))
-      (part-all (concat (take count lines)) h))
-
-  part-begun : (all lines : List (List ℕ)) → BeginWith all lines → AppendsSome before now (concat lines)
-      → AppendsSome before now (concat all)
-  part-begun all lines begun h =
-      subst (λ (l : List ℕ). AppendsSome before now l) (sym (ap concat begun.1 ∙ concat-append lines begun.0))
-      (part-more before now (concat lines) (concat begun.0) h)
+  -- so what was written is a first part of all, and their first lines
+  so_begun : (all : List (List ℕ)) → Begun all
+      → AppendsSome before.written now.written (concat all) × WroteLinesOf all before now
+  unfolding Begun
+  so_begun all (lines, begun, h) = (
+    part-begun all lines begun (part-all (concat lines) h),
+    (
+      length lines,
+      subst (λ (ls : List (List ℕ)). Wrote before now (concat ls))
+          (sym (ap (λ (ls : List (List ℕ)). take (length lines) ls) begun.1 ∙ take-append_seam lines begun.0)) h,
+    ),
+  )
 
 -- what a call was answered that reads the input begins all that it is answered
 module _ (holds : List ℕ → Held) (script : List ℕ) (call : Call) (told : AreTold holds (files_of call))
@@ -117,47 +131,55 @@ module _ (words : List (List ℕ)) (holds : List ℕ → Held) (input input_now 
       (subst (λ (text : Option (List ℕ)). AnswerTaken p.session p.settings.show text input_now.left lines) comes_in
       taken) outcome (call_comes words holds script call outcome spelled is)
 
-  Begins : Type 0
-  Begins = AppendsSome out.written out_now.written (concat outcome.out)
-
-  part_begins : HasPart words holds input input_now out out_now → Begins
-  unfolding Begins
+  part_begins : HasPart words holds input input_now out out_now
+      → AppendsSome out.written out_now.written (concat outcome.out)
   part_begins (of_all call spelled p) =
       subst (λ (lines : List (List ℕ)). AppendsSome out.written out_now.written (concat lines))
       (output_one call spelled p.lines p.status p.whole) p.wrote
   part_begins (of_taken call spelled p) =
-      part-begun out.written out_now.written outcome.out p.known.lines
-      (taken_begins call spelled p p.known.lines p.known.stand) p.known.wrote
+      part-begun out out_now outcome.out p.known.lines (taken_begins call spelled p p.known.lines p.known.stand)
+      p.known.wrote
 
-  lines_begin : HasLines words holds input input_now out out_now → Begins
-  unfolding Begins
-  lines_begin (none h) = part-none out.written out_now.written (concat outcome.out) h
-  lines_begin (some call spelled p) =
-      subst (λ (lines : List (List ℕ)). AppendsSome out.written out_now.written (concat lines))
-      (output_one call spelled p.lines p.status p.whole)
-      (part-lines out.written out_now.written p.count p.lines p.wrote)
-  lines_begin (first call spelled p) =
-      part-begun out.written out_now.written outcome.out p.known.lines
-      (taken_begins call spelled p p.known.lines p.known.stand)
-      (part-lines out.written out_now.written p.known.count p.known.lines p.known.wrote)
+  lines_begin : HasLines words holds input input_now out out_now → Begun out out_now outcome.out
+  unfolding Begun
+  lines_begin (none h) = ([], (outcome.out, refl), h)
+  lines_begin (some call spelled p) = (
+    take p.count p.lines,
+    subst (λ (lines : List (List ℕ)). BeginWith lines (take p.count p.lines))
+        (output_one call spelled p.lines p.status p.whole) (begin-by p.count p.lines),
+    p.wrote,
+  )
+  lines_begin (first call spelled p) = (
+    take p.known.count p.known.lines,
+    begin-then outcome.out p.known.lines (take p.known.count p.known.lines)
+        (taken_begins call spelled p p.known.lines p.known.stand) (begin-by p.known.count p.known.lines),
+    p.known.wrote,
+  )
 
-pub written_begins : (words : List (List ℕ)) (disk disk_now : Disk) (input input_now : Inflow)
-    (out out_now : Outflow) (script : List ℕ) (outcome : Outcome) → FilesAreTold words disk.holds
-    → input.left ≡ Some script → IsOutcome words disk.holds (Some script) outcome
-    → HasFailed words disk disk_now input input_now out out_now
-    ⊎ (HasPart words disk.holds input input_now out out_now
-    ⊎ HasLines words disk.holds input input_now out out_now)
-    → AppendsSome out.written out_now.written (concat outcome.out)
-unfolding Begins
-written_begins words disk disk_now input input_now out out_now script outcome told comes_in is (inl (of_file rose h)) =
-    part-none out.written out_now.written (concat outcome.out) h
-written_begins words disk disk_now input input_now out out_now script outcome told comes_in is
-    (inl (of_input rose p)) =
-    part-begun out.written out_now.written outcome.out p.known.lines
-    (taken_begins words disk.holds input input_now out out_now script outcome told comes_in is rose.call rose.spelled p
-    p.known.lines (pending_taken p.session p.settings.show input.left input_now.left p.known.lines p.known.stand))
-    (part-all out.written out_now.written (concat p.known.lines) p.known.wrote)
-written_begins words disk disk_now input input_now out out_now script outcome told comes_in is (inr (inl p)) =
-    part_begins words disk.holds input input_now out out_now script outcome told comes_in is p
-written_begins words disk disk_now input input_now out out_now script outcome told comes_in is (inr (inr p)) =
-    lines_begin words disk.holds input input_now out out_now script outcome told comes_in is p
+-- so do the lines of a call of which a read failed
+module _ (words : List (List ℕ)) (disk disk_now : Disk) (input input_now : Inflow) (out out_now : Outflow)
+    (script : List ℕ) (outcome : Outcome) (told : FilesAreTold words disk.holds) (comes_in : input.left ≡ Some script)
+    (is : IsOutcome words disk.holds (Some script) outcome) where
+  failed_begins : HasFailed words disk disk_now input input_now out out_now → Begun out out_now outcome.out
+  unfolding Begun
+  failed_begins (of_file rose h) = ([], (outcome.out, refl), h)
+  failed_begins (of_input rose p) = (
+    p.known.lines,
+    taken_begins words disk.holds input input_now out out_now script outcome told comes_in is rose.call rose.spelled p
+        p.known.lines
+        (pending_taken p.session p.settings.show input.left input_now.left p.known.lines p.known.stand),
+    p.known.wrote,
+  )
+
+  first_lines : HasFailed words disk disk_now input input_now out out_now
+      ⊎ HasLines words disk.holds input input_now out out_now → Begun out out_now outcome.out
+  first_lines (inl failed) = failed_begins failed
+  first_lines (inr lines) =
+      lines_begin words disk.holds input input_now out out_now script outcome told comes_in is lines
+
+pub written_begins : WrittenBeginsTheOutput
+written_begins words disk disk_now input input_now out out_now script outcome told comes_in is = (
+  part_begins words disk.holds input input_now out out_now script outcome told comes_in is,
+  λ stopped. so_begun out out_now outcome.out
+      (first_lines words disk disk_now input input_now out out_now script outcome told comes_in is stopped),
+)

@@ -1,5 +1,5 @@
 -- That the outcome of a call is the only one, which engines print the same, and what is written where a call stops.
-use Rattle.std.specs.Prelude.{◌≡◌, ◌≢◌, ⊤, ◌⊎◌, ℕ, Bool, true, false, List, Some}
+use Rattle.std.specs.Prelude.{◌≡◌, ◌≢◌, ⊤, ◌⊎◌, ℕ, Bool, true, false, List, take, Some}
 use Rattle.std.specs.List.{concat}
 use Rattle.io_edge.specs.Told.{Disk, Held, Inflow, Outflow}
 use Rattle.io_edge.specs.Whole.{AppendsSome}
@@ -9,6 +9,7 @@ use Rattle.word_list.specs.declared.request.Pick.{Pick}
 use Rattle.word_list.specs.declared.request.Pick.TheVariants as pick
 use Rattle.word_list.specs.declared.request.Show.{Show}
 use Rattle.word_list.specs.declared.request.Show.TheVariants as show
+use Rattle.line_work.specs.Sending.{Wrote}
 use Rattle.answer_laws.specs.Files.{AreTold}
 use Rattle.jps_run.specs.Calls.{files_of}
 use Rattle.jps_run.specs.Ending.{HasFailed, HasLines, HasPart}
@@ -63,13 +64,18 @@ EnginesPrintTheSameCosts = (words others : List (List ℕ)) (call like : Call) (
     ⊎ ((one.status ≢ 3) × (other.status ≢ 3))
     → IsOutcome words holds (Some script) one → IsOutcome others holds (Some script) other → one ≡ other
 
--- Where a call stops with no outcome, for a read or a write that failed or for want of memory, what it wrote is a first
--- part of the output of the outcome that its words come to.
+-- the first ones of these lines were written, each whole
+abbrev pub WroteLinesOf : List (List ℕ) → Outflow → Outflow → Type 0
+WroteLinesOf lines before now = (count : ℕ) × Wrote before now (concat (take count lines))
+
+-- Where a call stops with no outcome, what it wrote is a first part of the output that its words come to: of its bytes
+-- where a write failed; of its lines, each whole, where a read failed or for want of memory.
 abbrev pub WrittenBeginsTheOutput : Type 0
 WrittenBeginsTheOutput = (words : List (List ℕ)) (disk disk_now : Disk) (input input_now : Inflow)
     (out out_now : Outflow) (script : List ℕ) (outcome : Outcome) → FilesAreTold words disk.holds
     → input.left ≡ Some script → IsOutcome words disk.holds (Some script) outcome
-    → HasFailed words disk disk_now input input_now out out_now
-    ⊎ (HasPart words disk.holds input input_now out out_now
-    ⊎ HasLines words disk.holds input input_now out out_now)
-    → AppendsSome out.written out_now.written (concat outcome.out)
+    → (HasPart words disk.holds input input_now out out_now
+    → AppendsSome out.written out_now.written (concat outcome.out))
+    × (HasFailed words disk disk_now input input_now out out_now
+    ⊎ HasLines words disk.holds input input_now out out_now
+    → AppendsSome out.written out_now.written (concat outcome.out) × WroteLinesOf outcome.out out out_now)

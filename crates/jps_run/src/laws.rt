@@ -20,8 +20,8 @@ pub fn engines_print_the_same_costs()
     ensures { EnginesPrintTheSameCosts }
 {}
 
-/// What a call wrote that stopped with no outcome is a first part of the output that its words come to: where a read
-/// failed, where a write failed, and for want of memory.
+/// What a call wrote that stopped with no outcome is a first part of the one output that its words come to: some of its
+/// bytes where a write failed, and some of its lines, each whole, where a read failed or for want of memory.
 pub fn written_begins_the_output()
     ensures { WrittenBeginsTheOutput }
 {}
