@@ -3,15 +3,15 @@
 //! A session answers by its engine. On a small map what is kept of all its cells answers too: goal boxes, by a
 //! search that goes by them, or first moves, by following them.
 
-ghost use Rattle.std.specs.Prelude.{◌≡◌, ◌+◌, ◌*◌, ◌≤◌, ◌<◌, IfOk, OnOk, true};
-ghost use Rattle.edit_replay.specs.Counting.{states_away};
+ghost use Rattle.std.specs.Prelude.{◌≡◌, ◌≤◌, ◌<◌, IfOk, OnOk, true};
+ghost use Rattle.edit_replay.specs.Counting.{RoseByStates, RoseWithin};
 ghost use Rattle.edit_replay.specs.Replies.{IsRightOn, IsShort, answer_of};
 ghost use Rattle.first_moves.specs.Row.{AreMoves};
 ghost use Rattle.goal_boxes.specs.Stored.{HoldsBoxes};
 ghost use Rattle.grid_moves.specs.Layers.{in_one_layer, query_grid};
 ghost use Rattle.answerers.specs.Answerers.{IsBasisOn, IsFit, CanAnswer, who_from, who_of};
 ghost use Rattle.call_files.specs.Reading.{AreSmall};
-ghost use Rattle.who_answers.specs.Who.{IsBoxedReply, IsLedReply, IsReplyBy, fewest_by};
+ghost use Rattle.who_answers.specs.Who.{IsBoxedReply, IsLedReply, IsReplyBy, fewest_by, most_by};
 
 use crate::NoMemory;
 use crate::small::{ends_on, follow_moves, search_boxed};
@@ -224,8 +224,8 @@ impl Answerer {
             (record { x = ends.sx; y = ends.sy }) (record { x = ends.gx; y = ends.gy })) }
         ensures short { IfOk result (λ reply. IsShort (answer_of reply)) }
         ensures unchanged { self.new ≡ self.old }
-        ensures counted { IfOk result (λ reply.
-            steps.old + states_away reply * fewest_by (who_of self.old).by ≤ steps.new) }
+        ensures fewest { IfOk result (RoseByStates (fewest_by (who_of self.old).by) steps.old steps.new) }
+        ensures most { IfOk result (RoseWithin (most_by (who_of self.old).by) steps.old steps.new) }
     {
         match self {
             Answerer::Session(session) => {

@@ -1,18 +1,18 @@
 -- The work on one query.
-use Rattle.std.proofs.Common.{◌≡◌, ◌≤◌, ◌+◌, ◌*◌, ◌∙◌, ℕ, refl, sym, ap, subst, List, [], ◌∷◌, arith}
-use Rattle.std.specs.Prelude.{sum}
+use Rattle.std.proofs.Common.{◌≡◌, ◌≤◌, ◌*◌, ◌∙◌, ℕ, refl, sym, ap, subst, List, [], ◌∷◌, arith}
+use Rattle.std.specs.Prelude.{None}
 use Rattle.grid_moves.specs.declared.Cell.{Cell}
-use Rattle.edit_replay.specs.Counting.{fewest_of, states_away}
+use Rattle.edit_replay.specs.Counting.{states_away}
 use Rattle.edit_replay.specs.Session.{SessionData}
 use Rattle.edit_replay.specs.declared.reply.Reply.{Reply}
 use Rattle.script_text.specs.declared.command.Command.TheVariants.{Query}
 use Rattle.word_list.specs.declared.request.Show.{Show}
 use Rattle.session_lines.specs.Answers.{AreAnswers, IsReplyLine}
-use Rattle.who_answers.specs.Taking.{QueryTakes, RoseBy, RoseForQuery}
-use Rattle.session_lines.specs.Counts.{CommandsTake}
+use Rattle.who_answers.specs.Rising.{RoseForQuery}
+use Rattle.session_lines.specs.Counts.{RoseForCommands}
 use Rattle.session_lines.specs.Lines.{reply_line}
 use Rattle.call_work.specs.Querying.{IsOneReply}
-use Rattle.who_answers.specs.Who.{Who, IsReplyBy, fewest_by, who_is}
+use Rattle.who_answers.specs.Who.{Who, IsReplyBy, fewest_by, most_by, who_is}
 use Rattle.session_lines.proofs.Solving.{nothing_edited}
 
 -- a session that is asked one query as its script
@@ -33,28 +33,21 @@ module _ (d : SessionData) (show : Show) (sx sy gx gy : ℕ) where
   }
   one-line (line ∷ other ∷ lines) a = absurd a.1
 
-  pub one-rose : (old new : ℕ) → RoseBy d (CommandsTake d (Query sx sy gx gy ∷ [])) old new
+  pub one-rose : (old new : ℕ) → RoseForCommands d (Query sx sy gx gy ∷ []) old new
       → RoseForQuery (who_is d) start goal old new
-  one-rose old new r = by_counts r.counts r.takes r.rose
-    where
-      by_counts : (counts : List ℕ) → CommandsTake d (Query sx sy gx gy ∷ []) counts
-          → old + sum counts * fewest_of d.engine ≤ new → RoseForQuery (who_is d) start goal old new
-      by_counts [] takes rose = absurd takes
-      by_counts (n ∷ []) takes rose =
-          let all : sum (n ∷ []) ≡ n = omega arith in record {
-            count = n;
-            takes = subst (λ (k : SessionData). QueryTakes (who_is k) start goal n) (sym (nothing_edited d)) takes.0;
-            rose = subst (λ (m : ℕ). old + m * fewest_of d.engine ≤ new) all rose;
-          }
-      by_counts (n ∷ m ∷ counts) takes rose = absurd takes.1
+  one-rose old new r =
+      let rose : RoseForQuery (who_is d) start goal old r.0 =
+      subst (λ (k : SessionData). RoseForQuery (who_is k) start goal old r.0) (sym (nothing_edited d)) r.1 in
+      subst (λ (n : ℕ). RoseForQuery (who_is d) start goal old n) (sym r.2) rose
 
--- one reply that counts nothing
+-- one reply of which no most is told, and that counts nothing here
 pub told-rose : (who : Who) (s t : Cell) (reply : Reply) (old new : ℕ) → IsReplyBy who s t reply
-    → fewest_by who.by ≡ 0 → old ≤ new → RoseForQuery who s t old new
-told-rose who s t reply old new is none later = record {
-  count = states_away reply;
-  takes = record { reply = reply; is_reply = is; away = refl };
-  rose = rw none (let least : states_away reply * 0 ≡ 0 = omega arith in omega arith);
+    → fewest_by who.by ≡ 0 → most_by who.by ≡ None → old ≤ new → RoseForQuery who s t old new
+told-rose who s t reply old new is none untold later = record {
+  reply = reply;
+  is_reply = is;
+  fewest = rw none (let least : states_away reply * 0 ≡ 0 = omega arith in omega arith);
+  most = rw untold tt;
 }
 
 -- the line of one reply

@@ -3,7 +3,7 @@ use Rattle.std.specs.Prelude.{◌≡◌, ℕ, List, [], ◌∷◌}
 use Rattle.grid_moves.specs.declared.Cell.{Cell}
 use Rattle.word_list.specs.declared.request.Show.{Show}
 use Rattle.session_lines.specs.Answers.{IsReplyLine}
-use Rattle.who_answers.specs.Taking.{RoseForQuery}
+use Rattle.who_answers.specs.Rising.{RoseForQuery}
 use Rattle.call_work.specs.Works.{CanPerform, HasRisen, IsWhole}
 use Rattle.who_answers.specs.Who.{Who}
 use Rattle.call_work.specs.declared.work.Work.{Work}

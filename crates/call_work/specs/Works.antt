@@ -1,6 +1,5 @@
 -- The work of a call: what it prints, how far the counter rises for it, and what it needs.
-use Rattle.std.specs.Prelude.{◌≡◌, ℕ, ◌≤◌, ◌^◌, ⊤, List, [], ◌∷◌, length}
-use Rattle.script_text.specs.declared.command.Command.TheVariants as command
+use Rattle.std.specs.Prelude.{◌≡◌, ℕ, ◌≤◌, ◌^◌, ⊤, List, [], length}
 use Rattle.answerers.specs.Answerers.{CanAnswer, who_of}
 use Rattle.call_files.specs.Reading.{AreKept}
 use Rattle.call_work.specs.declared.work.Work.{Work}
@@ -8,14 +7,16 @@ use Rattle.call_work.specs.declared.work.Work.TheVariants as work
 use Rattle.grid_answers.specs.Encoded.{IsEncoded}
 use Rattle.grid_answers.specs.Telling.{AreWritten}
 use Rattle.line_work.specs.Sending.{IsText}
-use Rattle.scenario_rows.specs.Judging.{IsJudged, RoseForEntries}
+use Rattle.scenario_rows.specs.Entries.{RoseForEntries}
+use Rattle.scenario_rows.specs.Judging.{IsJudged}
 use Rattle.scenario_rows.specs.Refereeing.{IsReady, IsRefereed}
 use Rattle.scenario_rows.specs.Tally.{tally_of}
 use Rattle.session_lines.specs.Answering.{IsSolved}
-use Rattle.session_lines.specs.Counts.{CommandsTake}
+use Rattle.session_lines.specs.Counts.{RoseForCommands}
 use Rattle.session_lines.specs.Drilling.{IsDrilled, sums_of}
 use Rattle.session_lines.specs.Pictures.{IsPictured}
-use Rattle.who_answers.specs.Taking.{RoseBy}
+use Rattle.who_answers.specs.Rising.{RoseForQuery}
+use Rattle.who_answers.specs.Who.{who_is}
 
 -- the whole output of the work, and the status
 abbrev pub IsWhole : Work → List (List ℕ) → ℕ → Type 0
@@ -33,12 +34,12 @@ IsWhole (work.Say text) = IsText text.now 0
 
 -- the counter rose as the searches of the work make it
 abbrev pub HasRisen : Work → ℕ → ℕ → Type 0
-HasRisen (work.Answer job commands) old new = RoseBy job.session (CommandsTake job.session commands.items) old new
+HasRisen (work.Answer job commands) old new = RoseForCommands job.session commands.items old new
 HasRisen (work.Judge answerer show entries) old new = RoseForEntries (who_of answerer) entries.items old new
 HasRisen (work.Referee job entries) old new = ⊤
-HasRisen (work.Drill session commands) old new = RoseBy session (CommandsTake session commands.items) old new
-HasRisen (work.Draw canvas ends show) old new = RoseBy canvas.session
-    (CommandsTake canvas.session (command.Query ends.sx ends.sy ends.gx ends.gy ∷ [])) old new
+HasRisen (work.Drill session commands) old new = RoseForCommands session commands.items old new
+HasRisen (work.Draw canvas ends show) old new = RoseForQuery (who_is canvas.session)
+    (record { x = ends.sx; y = ends.sy }) (record { x = ends.gx; y = ends.gy }) old new
 HasRisen (work.Tell lines) old new = ⊤
 HasRisen (work.Encode file) old new = ⊤
 HasRisen (work.Print text status) old new = old ≤ new

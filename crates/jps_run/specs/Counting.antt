@@ -1,12 +1,12 @@
--- How many steps a call counts at least: so many for each state that its searches take away from their goals.
-use Rattle.std.specs.Prelude.{◌≡◌, ℕ, ◌+◌, Bool, true, false, List, [], ◌∷◌, ◌++◌, Option, Ok}
+-- How many steps a call counts, at least and at most: so many for each state that its searches take, and so many for
+-- its edits.
+use Rattle.std.specs.Prelude.{◌≡◌, ℕ, Bool, true, false, List, [], ◌∷◌, ◌++◌, Option, Ok}
 use Rattle.io_edge.specs.Told.{Held}
 use Rattle.map_text.specs.Map.{Map}
 use Rattle.map_text.specs.Faults.{map_of}
 use Rattle.map_maker.specs.Drill.{drill_commands}
 use Rattle.map_maker.specs.Making.{made_map}
 use Rattle.script_text.specs.declared.command.Command.{Command}
-use Rattle.script_text.specs.declared.command.Command.TheVariants as command
 use Rattle.script_text.specs.Faults.{script_of}
 use Rattle.scen_text.specs.declared.entry.Entry.{Entry}
 use Rattle.scen_text.specs.Faults.{scen_of}
@@ -17,11 +17,11 @@ use Rattle.live_lines.specs.Heard.{RoseHeard}
 use Rattle.jps_run.specs.Live.{OnLive}
 use Rattle.jps_run.specs.Calls.{call_with, files_of}
 use Rattle.jps_run.specs.Outcome.{Spell}
-use Rattle.who_answers.specs.Session.{OnSession, by_of, who_on}
-use Rattle.who_answers.specs.Taking.{RoseAtLeast, RoseBy, RoseForQuery}
-use Rattle.who_answers.specs.Who.{fewest_by}
-use Rattle.scenario_rows.specs.Entries.{EntriesTake}
-use Rattle.session_lines.specs.Counts.{CommandsTake}
+use Rattle.who_answers.specs.Rising.{RoseForQuery}
+use Rattle.who_answers.specs.Session.{OnSession, who_on}
+use Rattle.who_answers.specs.Who.{who_is}
+use Rattle.scenario_rows.specs.Entries.{RoseForEntries}
+use Rattle.session_lines.specs.Counts.{RoseForCommands}
 
 -- whether anything is searched for what is asked
 abbrev pub searches : Asked → Bool
@@ -53,19 +53,20 @@ pub data RoseFor : Call → List (List ℕ) → ℕ → ℕ → Type 0 where
   solved : (map script text second : List ℕ) (tables : Option (List ℕ)) (loaded : List (List ℕ)) (set : Settings)
       (m : Map) (commands : List Command) (old new : ℕ)
       → map_of text ≡ Ok m → script_of second ≡ Ok commands
-      → OnSession set m (λ d. RoseBy d (CommandsTake d commands) old new)
+      → OnSession set m (λ d. RoseForCommands d commands old new)
       → RoseFor (call_with (Solve map tables script) set) (text ∷ (loaded ++ second ∷ [])) old new
   judged : (map scen text second : List ℕ) (tables : Option (List ℕ)) (loaded : List (List ℕ)) (set : Settings)
       (m : Map) (entries : List Entry) (old new : ℕ)
       → map_of text ≡ Ok m → scen_of second ≡ Ok entries
-      → RoseAtLeast (fewest_by (by_of set.pick)) (EntriesTake (who_on set m) entries) old new
+      → RoseForEntries (who_on set m) entries old new
       → RoseFor (call_with (Scen map tables scen) set) (text ∷ (loaded ++ second ∷ [])) old new
   drilled : (seed : ℕ) (set : Settings) (old new : ℕ)
-      → OnSession set (made_map seed 256 256 25) (λ d. RoseBy d (CommandsTake d (drill_commands seed)) old new)
+      → OnSession set (made_map seed 256 256 25) (λ d. RoseForCommands d (drill_commands seed) old new)
       → RoseFor (call_with (Drill seed) set) [] old new
   drawn : (map text : List ℕ) (sx sy gx gy : ℕ) (set : Settings) (m : Map) (old new : ℕ)
       → map_of text ≡ Ok m
-      → OnSession set m (λ d. RoseBy d (CommandsTake d (command.Query sx sy gx gy ∷ [])) old new)
+      → OnSession set m (λ d. RoseForQuery (who_is d) (record { x = sx; y = sy }) (record { x = gx; y = gy })
+      old new)
       → RoseFor (call_with (Draw map sx sy gx gy) set) (text ∷ []) old new
 
 -- the counter rose as the files make it that are held, or nothing is searched for the call

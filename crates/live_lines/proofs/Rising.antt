@@ -12,7 +12,7 @@ use Rattle.script_text.specs.Fed.{HasTaken, HasFed, HasEnded}
 use Rattle.script_text.specs.Feeding.{commands_so_far, commands_of, fault_of, Appended}
 use Rattle.script_text.specs.Feeding as known
 use Rattle.script_text.proofs.Feeding.{begun-known}
-use Rattle.session_lines.specs.Answering.{HaveTaken}
+use Rattle.session_lines.specs.Answering.{HaveCounted}
 use Rattle.live_lines.specs.Heard.{RoseHeard}
 use Rattle.call_files.specs.FaultLines.{script_line}
 use Rattle.live_lines.specs.Heard.{whole}
@@ -40,25 +40,25 @@ module _ (old new : Answers) (feeder feeder_now : LineFeeder) (before got slice 
   pub rise-piece : (piece : List ℕ) (result : Result (Unit {0}) Stop)
       → (answer ≢ Err NoMemory → (text : List ℕ) → HasTaken feeder text
       → HasFed text (text ++ piece) feeder_now before got answer)
-      → OnOk result (answer ≡ Ok tt) → OnOk result (CountsMore HaveTaken old new slice at now)
+      → OnOk result (answer ≡ Ok tt) → OnOk result (CountsMore HaveCounted old new slice at now)
       → OnOk result (RisePiece old new feeder feeder_now piece at now)
   rise-piece piece (Err error) fed ok rise = tt
   rise-piece piece (Ok done) fed ok rise = λ first text start h t.
       let f = fed (not-starved answer ok) text h in (
         f.taken,
-        subst (λ (all : List Command). HaveTaken first new all start now)
+        subst (λ (all : List Command). HaveCounted first new all start now)
             (all-known (commands_so_far text) (commands_so_far (text ++ piece)) before got slice empty same
             f.commands) (rise first (commands_so_far text) start t),
       )
 
   -- and those of the end of a script
   pub rise-end : (answer ≢ Err NoMemory → (text : List ℕ) → HasTaken feeder text
-      → HasEnded text feeder_now before got answer) → answer ≡ Ok tt → CountsMore HaveTaken old new slice at now
+      → HasEnded text feeder_now before got answer) → answer ≡ Ok tt → CountsMore HaveCounted old new slice at now
       → RiseEnd old new feeder at now
   rise-end ended ok rise = λ first text start h t.
       let f = ended (not-starved answer ok) text h in (
         subst (λ (a : Result (Unit {0}) ScriptFault). known.Answers a (fault_of text)) ok f.answer,
-        subst (λ (all : List Command). HaveTaken first new all start now)
+        subst (λ (all : List Command). HaveCounted first new all start now)
             (all-known (commands_so_far text) (commands_of text) before got slice empty same f.commands)
             (rise first (commands_so_far text) start t),
       )
@@ -71,7 +71,7 @@ rising-begun first feeder input start begun none = record {
   consumed = consumes-none input;
   counted = sym none;
   fed = begun;
-  taken = subst (λ (commands : List Command). HaveTaken first first commands start start) (sym begun-known.1)
+  taken = subst (λ (commands : List Command). HaveCounted first first commands start start) (sym begun-known.1)
       (taken-none first start);
 }
 

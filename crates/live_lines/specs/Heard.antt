@@ -14,8 +14,7 @@ use Rattle.call_files.specs.Kinds.{limit_of}
 use Rattle.call_files.specs.declared.kind.Kind.TheVariants as kind
 use Rattle.line_work.specs.Sending.{Wrote}
 use Rattle.session_lines.specs.Answers.{AreAnswers}
-use Rattle.session_lines.specs.Counts.{CommandsTake}
-use Rattle.who_answers.specs.Taking.{RoseBy}
+use Rattle.session_lines.specs.Counts.{RoseForCommands}
 
 -- what is left to come in is this text, where it is told
 abbrev pub IsTold : Option (List ℕ) → List ℕ → Type 0
@@ -92,4 +91,4 @@ pub record RoseHeard (d : SessionData) (input : Option (List ℕ)) (old new : �
   pub told : IsTold input script
   pub commands : List Command
   pub heard : IsHeard script commands None
-  pub rose : RoseBy d (CommandsTake d commands) old new
+  pub rose : RoseForCommands d commands old new

@@ -6,7 +6,7 @@ ghost use Rattle.io_edge.specs.Causes.{HasCause};
 ghost use Rattle.live_lines.specs.Heard.{RoseHeard};
 ghost use Rattle.live_lines.specs.Hearing.{AnswersKnown, Refuses, Hears, HearsPiece, HearsEnd, HearsTurn};
 ghost use Rattle.live_lines.specs.Rising.{RiseEnd, RisePiece, RiseTurn};
-ghost use Rattle.session_lines.specs.Answering.{HaveTaken};
+ghost use Rattle.session_lines.specs.Answering.{HaveCounted};
 ghost use Rattle.line_work.specs.Working.{CountsMore};
 
 use crate::NoMemory;
@@ -165,7 +165,7 @@ fn answer_known<O: Sink, L: Ledger>(
     ensures known { AnswersKnown job.old job.new known got.now (O.outflow out.old)
         (O.outflow out.new) result }
     ensures all { OnOk result (known ≡ Ok tt) }
-    ensures rose { OnOk result (CountsMore HaveTaken job.old job.new got.now steps.old steps.new) }
+    ensures rose { OnOk result (CountsMore HaveCounted job.old job.new got.now steps.old steps.new) }
 {
     work_more(alloc, job, got, out, steps)?;
     refuse(alloc, known)

@@ -1,12 +1,10 @@
 -- How far the rows of a scenario have come.
-use Rattle.std.specs.Prelude.{◌≡◌, ℕ, ◌+◌, ◌*◌, ◌^◌, ◌<◌, ◌≤◌, List}
+use Rattle.std.specs.Prelude.{◌≡◌, ℕ, ◌+◌, ◌^◌, ◌<◌, List}
 use Rattle.scen_text.specs.declared.entry.Entry.{Entry}
 use Rattle.answerers.specs.Answerers.{CanAnswer, who_of}
-use Rattle.who_answers.specs.Taking.{RoseAtLeast}
-use Rattle.scenario_rows.specs.Entries.{EntriesTake, EntryTakes}
+use Rattle.scenario_rows.specs.Entries.{RoseForEntries}
 use Rattle.scenario_rows.specs.Rows.{AreRows, row_lines, scen_lines, scen_status}
 use Rattle.scenario_rows.specs.Tally.{IsSmall, IsTally, tally_of}
-use Rattle.who_answers.specs.Who.{Who, fewest_by}
 use Rattle.scenario_rows.specs.declared.row.Row.{Row}
 use Rattle.scenario_rows.specs.declared.scenario.Judge.{Judge}
 
@@ -27,18 +25,8 @@ pub record HasRoom (job : Judge) (more : ℕ) : Type 0 where
   pub small : IsSmall job.tally
   pub few : job.tally.rows + more < 2 ^ 64
 
--- the counter rose by at least the fewest steps of the one who answers for each state that the entry takes
-pub record TakesFor (who : Who) (entry : Entry) (old new : ℕ) : Type 0 where
-  pub count : ℕ
-  pub takes : EntryTakes who entry count
-  pub rose : old + count * fewest_by who.by ≤ new
-
--- it did so for these entries
-abbrev pub RoseForEntries : Who → List Entry → ℕ → ℕ → Type 0
-RoseForEntries who entries old new = RoseAtLeast (fewest_by who.by) (EntriesTake who entries) old new
-
--- the same by a job that goes on
-pub record HaveTaken (first now : Judge) (entries : List Entry) (old new : ℕ) : Type 0 where
+-- the counter rose for these entries, by a job that goes on
+pub record HaveCounted (first now : Judge) (entries : List Entry) (old new : ℕ) : Type 0 where
   pub rose : RoseForEntries (who_of first.answerer) entries old new
   pub same : now.answerer ≡ first.answerer
 

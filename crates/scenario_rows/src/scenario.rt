@@ -4,7 +4,8 @@ ghost use Rattle.std.specs.Prelude.{◌≡◌, nat_eq, ◌&&◌, [], IfOk, OnOk}
 ghost use Rattle.scen_text.specs.Lengths.{IsKept};
 ghost use Rattle.edit_replay.specs.Replies.{IsShort, answer_of};
 ghost use Rattle.answerers.specs.Answerers.{CanAnswer, who_of};
-ghost use Rattle.scenario_rows.specs.Judging.{IsJudged, RoseForEntries, TakesFor};
+ghost use Rattle.scenario_rows.specs.Entries.{RoseForEntries, RoseForEntry};
+ghost use Rattle.scenario_rows.specs.Judging.{IsJudged};
 ghost use Rattle.scenario_rows.specs.Rows as rows;
 ghost use Rattle.line_work.specs.Sending.{SendsWhole};
 ghost use Rattle.call_files.specs.Reading.{AreKept};
@@ -35,7 +36,7 @@ pub struct Judge {
 impl Job for Judge {
     ghost use Rattle.std.specs.Prelude.{true};
     ghost use Rattle.scen_text.specs.Lengths.{IsKept};
-    ghost use Rattle.scenario_rows.specs.Judging.{HasJudged, HasRoom, HaveTaken, IsJudged};
+    ghost use Rattle.scenario_rows.specs.Judging.{HasJudged, HasRoom, HaveCounted, IsJudged};
 
     type Item = Entry;
 
@@ -49,7 +50,7 @@ impl Job for Judge {
 
     ghost is_whole = { IsJudged };
 
-    ghost has_counted = { HaveTaken };
+    ghost has_counted = { HaveCounted };
 
     fn answer<L: Ledger>(
         &mut self,
@@ -107,7 +108,7 @@ fn row_of<L: Ledger>(
     requires ready { CanAnswer answerer.old }
     ensures row { IfOk result (rows.IsRow (who_of answerer.old) entry) }
     ensures same { answerer.new ≡ answerer.old }
-    ensures counted { OnOk result (TakesFor (who_of answerer.old) entry steps.old steps.new) }
+    ensures counted { OnOk result (RoseForEntry (who_of answerer.old) entry steps.old steps.new) }
 {
     if !has_sides(answerer.width(), answerer.height(), entry) {
         return Ok(Row::Scale);

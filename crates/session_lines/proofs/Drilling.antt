@@ -1,11 +1,10 @@
 -- The sums of what commands come to.
 use Rattle.std.proofs.Common.{◌≡◌, refl, sym, ap, ◌∙◌, subst, List, [], ◌∷◌, ◌++◌, ℕ, zero, suc, ◌+◌, ◌*◌, ◌≤◌, ◌<◌, ◌^◌, length, length-append, drop, true, arith}
 use Rattle.std.specs.Prelude.{bit_xor}
-use Rattle.std.specs.List.{All, fold, sum_by}
+use Rattle.std.specs.List.{All, sum_by}
 use Rattle.std.proofs.lemmas.List.{append-nil}
 use Rattle.std.proofs.lemmas.List.Elements.{All-push}
 use Rattle.std.proofs.lemmas.List.Sums.{count_by-le-length, sum_by-le}
-use Rattle.edit_replay.specs.Counting.{fewest_of}
 use Rattle.edit_replay.specs.Edited.{Edit, edit_at}
 use Rattle.edit_replay.specs.Session.{SessionData}
 use Rattle.map_maker.specs.Drill.{commands_of, drill_commands, words_in}
@@ -13,21 +12,20 @@ use Rattle.map_maker.specs.Words.{words_of}
 use Rattle.script_text.specs.declared.command.Command.{Command}
 use Rattle.grid_moves.specs.declared.Ground.TheVariants.{Blocked, Land, Water}
 use Rattle.script_text.specs.declared.command.Command.TheVariants.{Block, Free, Flood, Query}
-use Rattle.session_lines.specs.Answering.{GoesOn, TakesFor}
+use Rattle.session_lines.specs.Answering.{GoesOn}
 use Rattle.session_lines.specs.Answers.{edits_with}
-use Rattle.session_lines.specs.Drill.{AreFindings, FindsAfter, IsFinding, drill_line, finding_of, finding_of_edit, IsShortFinding, is_walk, is_none, is_blocked, is_done, is_same, straight_in, diagonal_in}
-use Rattle.session_lines.specs.Drilling.{HasDrilled, HasRoom, HaveTaken, IsDrilled, LeavesRoom, sums_of, sums_text}
-use Rattle.session_lines.specs.Counts.{CommandsTake}
+use Rattle.session_lines.specs.Drill.{FindsAfter, IsFinding, drill_line, finding_of, finding_of_edit, IsShortFinding, is_walk, is_none, is_blocked, is_done, is_same, straight_in, diagonal_in}
+use Rattle.session_lines.specs.Drilling.{HasDrilled, HasRoom, HaveCounted, IsDrilled, LeavesRoom, sums_of, sums_text}
+use Rattle.session_lines.specs.Counts.{RoseForCommand}
 use Rattle.who_answers.specs.Session.{reply_to_edit, session_after}
 use Rattle.line_work.specs.Working.{Adds, CanComplete, HasRoomForOne}
 use Rattle.session_lines.specs.declared.drill.Finding.{Finding}
 use Rattle.session_lines.specs.declared.drill.Finding.TheVariants as finding
 use Rattle.session_lines.specs.declared.drill.Summary.{Summary}
-use Rattle.who_answers.proofs.Rising.{rose-none}
 use Rattle.session_lines.proofs.Counting.{rose-more}
 use Rattle.who_answers.proofs.Existing.{reply_exists}
-use Rattle.session_lines.proofs.Solving.{after-more, nothing_edited}
-use Rattle.line_work.proofs.Turns.{turns-more, turns-all, fold-more}
+use Rattle.session_lines.proofs.Solving.{nothing_edited, session-more}
+use Rattle.line_work.proofs.Turns.{turns-more, turns-all}
 
 -- a walk's moves are few
 few_straight : (found : Finding) → IsShortFinding found → straight_in found ≤ 2 ^ 24
@@ -96,33 +94,27 @@ module _ (job now : Summary) (command : Command) (found : Finding) (is : IsFindi
       are = turns-more (FindsAfter first.session) edits_with [] commands h.found command found h.are
           (subst (λ (s : SessionData). IsFinding s command found) h.session is);
       summed = counts h.found h.summed;
-      session = after-more first.session job.session now.session (fold edits_with [] commands) command on h.session
-          ∙ ap (λ (made : List Edit). session_after first.session made)
-          (sym (fold-more (FindsAfter first.session) edits_with [] commands command));
+      session = session-more first.session job.session now.session commands command h.session on;
       none = append-nil so_far ∙ h.none;
     };
     appended = sym (append-nil lines);
   }
 
   -- and the counter rose for it
-  pub taken-more : (old new : ℕ) → TakesFor job.session command old new → (first : Summary) (commands : List Command)
-      (start : ℕ) → HaveTaken first job commands start old → HaveTaken first now (commands ++ command ∷ []) start new
+  pub taken-more : (old new : ℕ) → RoseForCommand job.session now.session command old new → (first : Summary)
+      (commands : List Command) (start : ℕ) → HaveCounted first job commands start old
+      → HaveCounted first now (commands ++ command ∷ []) start new
   taken-more old new more first commands start h = record {
-    rose = rose-more first.session job.session commands command start old new h.session h.rose more;
-    session = after-more first.session job.session now.session (fold edits_with [] commands) command on h.session
-        ∙ ap (λ (made : List Edit). session_after first.session made)
-        (sym (fold-more (FindsAfter first.session) edits_with [] commands command));
+    rose = rose-more first.session job.session now.session commands command start old new h.session on h.rose more;
+    session = session-more first.session job.session now.session commands command h.session on;
   }
 
 -- nothing was worked yet
 pub drilled-none : (job : Summary) → job.sums ≡ sums_of [] → HasDrilled job job [] []
 drilled-none job e = record { found = []; are = tt; summed = e; session = nothing_edited job.session; none = refl }
 
-pub taken-none : (job : Summary) (start : ℕ) → HaveTaken job job [] start start
-taken-none job start = record {
-  rose = rose-none (fewest_of job.session.engine) (CommandsTake job.session []) start tt;
-  session = nothing_edited job.session;
-}
+pub taken-none : (job : Summary) (start : ℕ) → HaveCounted job job [] start start
+taken-none job start = record { rose = refl; session = nothing_edited job.session }
 
 -- there is room for all commands of a drill
 pub all-fit : (job : Summary) (count : ℕ) → job.sums ≡ sums_of [] → count ≤ 2 ^ 32 → LeavesRoom job count

@@ -1,6 +1,6 @@
 -- The answers to commands.
 use Rattle.std.proofs.Common.{◌≡◌, refl, sym, ap, ◌∙◌, subst, List, [], ◌∷◌, ◌++◌, ℕ, inl, inr, true, false, length, arith}
-use Rattle.std.specs.Prelude.{◌≢◌, Result, Ok, Err, OnOk}
+use Rattle.std.specs.Prelude.{◌≢◌, ⊤, Result, Ok, Err, OnOk}
 use Rattle.std.specs.List.{fold}
 use Rattle.std.proofs.lemmas.List.{append-nil}
 use Rattle.grid_moves.specs.Layers.{Layers}
@@ -44,6 +44,15 @@ after-more d old new edits command on e =
     (on.engine ∙ ap (λ (k : SessionData). k.engine) e)
     (on.layers d.layers edits (ap (λ (k : SessionData). k.layers) e))
 
+-- and so from commands to one command more
+pub session-more : (d old new : SessionData) (commands : List Command) (command : Command)
+    → old ≡ session_after d (fold edits_with [] commands) → GoesOn old command new
+    → new ≡ session_after d (fold edits_with [] (commands ++ command ∷ []))
+session-more d old new commands command e on =
+    after-more d old new (fold edits_with [] commands) command on e
+    ∙ ap (λ (all : List Edit). session_after d all)
+    (sym (fold-more {Y = ℕ} (λ _ _ _. ⊤) edits_with [] commands command))
+
 -- one command more is answered
 pub answered-more : {T E : Type 0} (result : Result T E) (job now : Answers) (command : Command)
     (before after : List ℕ) → now.show ≡ job.show
@@ -62,9 +71,7 @@ answered-more (Ok done) job now command before after same p on = λ first comman
             p.line h.answers
             (subst (λ (show : Show). IsAnswerLine (session_after first.session edits) show command p.line)
             h.show (subst (λ (d : SessionData). IsAnswerLine d job.show command p.line) h.session p.answers));
-        session = after-more first.session job.session now.session edits command on h.session
-            ∙ ap (λ (all : List Edit). session_after first.session all)
-            (sym (fold-more (AnswersAfter first.session first.show) edits_with [] commands command));
+        session = session-more first.session job.session now.session commands command h.session on;
         show = same ∙ h.show;
       };
       appended = p.appended ∙ ap (λ (l : List ℕ). before ++ l) (sym (append-nil p.line));

@@ -1,15 +1,13 @@
 -- How far the answers to commands have come.
-use Rattle.std.specs.Prelude.{◌≡◌, ℕ, ◌+◌, ◌*◌, ◌≤◌, List, [], ◌++◌}
+use Rattle.std.specs.Prelude.{◌≡◌, ℕ, List, [], ◌++◌}
 use Rattle.std.specs.List.{fold}
 use Rattle.grid_moves.specs.Layers.{Layers}
 use Rattle.edit_replay.specs.Edited.{Edit, edited}
 use Rattle.edit_replay.specs.Session.{SessionData}
-use Rattle.edit_replay.specs.Counting.{fewest_of}
 use Rattle.script_text.specs.declared.command.Command.{Command}
 use Rattle.word_list.specs.declared.request.Show.{Show}
 use Rattle.session_lines.specs.Answers.{IsAnswerLine, AreAnswers, edits_with}
-use Rattle.who_answers.specs.Taking.{RoseBy}
-use Rattle.session_lines.specs.Counts.{CommandTakes, CommandsTake}
+use Rattle.session_lines.specs.Counts.{RoseForCommands}
 use Rattle.who_answers.specs.Session.{session_after}
 use Rattle.session_lines.specs.declared.answers.Answers.{Answers}
 
@@ -25,15 +23,9 @@ pub record GoesOn (old : SessionData) (command : Command) (new : SessionData) : 
   pub layers : (m : Layers) (edits : List Edit) → old.layers ≡ edited m edits
       → new.layers ≡ edited m (edits_with edits command)
 
--- the counter rose by at least the fewest steps of the engine for each state that the command takes
-pub record TakesFor (d : SessionData) (command : Command) (old new : ℕ) : Type 0 where
-  pub count : ℕ
-  pub takes : CommandTakes d command count
-  pub rose : old + count * fewest_of d.engine ≤ new
-
--- it did so for these commands, and their edits were made
-pub record HaveTaken (first now : Answers) (commands : List Command) (old new : ℕ) : Type 0 where
-  pub rose : RoseBy first.session (CommandsTake first.session commands) old new
+-- the counter rose for these commands, and their edits were made
+pub record HaveCounted (first now : Answers) (commands : List Command) (old new : ℕ) : Type 0 where
+  pub rose : RoseForCommands first.session commands old new
   pub session : now.session ≡ session_after first.session (fold edits_with [] commands)
 
 -- the commands have these lines, and their edits were made

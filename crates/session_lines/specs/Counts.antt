@@ -1,27 +1,33 @@
--- How many states commands take away from the goals of their queries.
-use Rattle.std.specs.Prelude.{◌≡◌, ℕ, List, []}
+-- How far the counter of steps rises for commands.
+use Rattle.std.specs.Prelude.{ℕ, ◌≤◌, List, []}
 use Rattle.edit_replay.specs.Edited.{Edit}
+use Rattle.edit_replay.specs.Mended.{IsEditCounted}
 use Rattle.edit_replay.specs.Session.{SessionData}
 use Rattle.script_text.specs.declared.command.Command.{Command}
 use Rattle.script_text.specs.declared.command.Command.TheVariants as command
-use Rattle.line_work.specs.Turns.{AreInTurn}
 use Rattle.session_lines.specs.Answers.{edits_with}
+use Rattle.who_answers.specs.Rising.{RoseForQuery, RoseInTurn}
 use Rattle.who_answers.specs.Session.{session_after}
-use Rattle.who_answers.specs.Taking.{QueryTakes}
 use Rattle.who_answers.specs.Who.{who_is}
 
--- so many are taken for a command: for an edit none
-abbrev pub CommandTakes : SessionData → Command → ℕ → Type 0
-CommandTakes d (command.Block x y) n = n ≡ 0
-CommandTakes d (command.Free x y) n = n ≡ 0
-CommandTakes d (command.Flood x y) n = n ≡ 0
-CommandTakes d (command.Query sx sy gx gy) n =
-    QueryTakes (who_is d) (record { x = sx; y = sy }) (record { x = gx; y = gy }) n
+-- it rose for an edit that led from one session to another, as the engine counts one
+pub record RoseForEdit (before after : SessionData) (old new : ℕ) : Type 0 where
+  pub later : old ≤ new
+  pub counted : IsEditCounted before.engine before.layers after.layers old new
 
--- on the map's session as these edits leave it
-abbrev pub TakesAfter : SessionData → List Edit → Command → ℕ → Type 0
-TakesAfter d edits c n = CommandTakes (session_after d edits) c n
+-- it rose for a command that did
+abbrev pub RoseForCommand : SessionData → SessionData → Command → ℕ → ℕ → Type 0
+RoseForCommand before after (command.Block x y) old new = RoseForEdit before after old new
+RoseForCommand before after (command.Free x y) old new = RoseForEdit before after old new
+RoseForCommand before after (command.Flood x y) old new = RoseForEdit before after old new
+RoseForCommand before after (command.Query sx sy gx gy) old new =
+    RoseForQuery (who_is before) (record { x = sx; y = sy }) (record { x = gx; y = gy }) old new
 
--- for each of the commands in turn
-abbrev pub CommandsTake : SessionData → List Command → List ℕ → Type 0
-CommandsTake d commands counts = AreInTurn (TakesAfter d) edits_with [] commands counts
+-- it rose for a command on the map's session as these edits leave it
+abbrev pub RoseAfter : SessionData → List Edit → Command → ℕ → ℕ → Type 0
+RoseAfter d edits c old new =
+    RoseForCommand (session_after d edits) (session_after d (edits_with edits c)) c old new
+
+-- it rose for each of the commands in turn
+abbrev pub RoseForCommands : SessionData → List Command → ℕ → ℕ → Type 0
+RoseForCommands d commands old new = RoseInTurn (RoseAfter d) edits_with [] commands old new

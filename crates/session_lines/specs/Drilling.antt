@@ -3,8 +3,7 @@ use Rattle.std.specs.Prelude.{◌≡◌, ℕ, ◌+◌, ◌<◌, ◌≤◌, ◌^�
 use Rattle.std.specs.List.{All, fold, sum_by}
 use Rattle.script_text.specs.declared.command.Command.{Command}
 use Rattle.session_lines.specs.Answers.{edits_with}
-use Rattle.who_answers.specs.Taking.{RoseBy}
-use Rattle.session_lines.specs.Counts.{CommandsTake}
+use Rattle.session_lines.specs.Counts.{RoseForCommands}
 use Rattle.session_lines.specs.Drill.{AreFindings, IsShortFinding, drill_line, queries_text, edits_text, costs_text, is_walk, is_none, is_blocked, is_done, is_same, straight_in, diagonal_in}
 use Rattle.who_answers.specs.Session.{session_after}
 use Rattle.session_lines.specs.declared.drill.Summary.{Summary}
@@ -55,8 +54,8 @@ pub record HasDrilled (first now : Summary) (commands : List Command) (lines : L
   pub none : lines ≡ []
 
 -- the counter rose for these commands, and their edits were made
-pub record HaveTaken (first now : Summary) (commands : List Command) (old new : ℕ) : Type 0 where
-  pub rose : RoseBy first.session (CommandsTake first.session commands) old new
+pub record HaveCounted (first now : Summary) (commands : List Command) (old new : ℕ) : Type 0 where
+  pub rose : RoseForCommands first.session commands old new
   pub session : now.session ≡ session_after first.session (fold edits_with [] commands)
 
 -- one line sums up what the commands come to, with status 0

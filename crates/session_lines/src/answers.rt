@@ -1,9 +1,8 @@
 //! The answers to commands: edits and queries of a session.
 
 ghost use Rattle.std.specs.Prelude.{OnOk};
-ghost use Rattle.session_lines.specs.Answering.{PutsAnswer, GoesOn, IsSolved, TakesFor};
-ghost use Rattle.who_answers.specs.Taking.{RoseBy};
-ghost use Rattle.session_lines.specs.Counts.{CommandsTake};
+ghost use Rattle.session_lines.specs.Answering.{PutsAnswer, GoesOn, IsSolved};
+ghost use Rattle.session_lines.specs.Counts.{RoseForCommand, RoseForCommands};
 ghost use Rattle.line_work.specs.Sending.{SendsWhole};
 
 use crate::NoMemory;
@@ -27,7 +26,7 @@ pub struct Answers {
 
 impl Job for Answers {
     ghost use Rattle.std.specs.Prelude.{⊤, false};
-    ghost use Rattle.session_lines.specs.Answering.{HasAnswered, HaveTaken, IsSolved};
+    ghost use Rattle.session_lines.specs.Answering.{HasAnswered, HaveCounted, IsSolved};
 
     type Item = Command;
 
@@ -41,7 +40,7 @@ impl Job for Answers {
 
     ghost is_whole = { IsSolved };
 
-    ghost has_counted = { HaveTaken };
+    ghost has_counted = { HaveCounted };
 
     fn answer<L: Ledger>(
         &mut self,
@@ -69,7 +68,7 @@ fn put_answer<L: Ledger>(
 ) -> Result<(), NoMemory>
     ensures answered { OnOk result (PutsAnswer session.old show command lines.old.items lines.new.items) }
     ensures edited { OnOk result (GoesOn session.old command session.new) }
-    ensures counted { OnOk result (TakesFor session.old command steps.old steps.new) }
+    ensures counted { OnOk result (RoseForCommand session.old session.new command steps.old steps.new) }
 {
     match command {
         Command::Block { x, y } => put_edit_reply(
@@ -94,8 +93,7 @@ pub fn write_answers<O: Sink, L: Ledger>(
     steps: &mut Steps<L>,
 ) -> Result<u8, Stop>
     ensures sent { SendsWhole (IsSolved job.old commands.now) (O.outflow out.old) (O.outflow out.new) result }
-    ensures counted { OnOk result
-        (RoseBy job.old.session (CommandsTake job.old.session commands.now) steps.old steps.new) }
+    ensures counted { OnOk result (RoseForCommands job.old.session commands.now steps.old steps.new) }
 {
     work_items(alloc, job, commands, out, steps)
 }

@@ -1,16 +1,14 @@
 //! A picture of a query.
 
-ghost use Rattle.std.specs.Prelude.{◌≡◌, false, [], ◌∷◌, IfOk, MatchOption, OnOk};
+ghost use Rattle.std.specs.Prelude.{◌≡◌, false, IfOk, MatchOption, OnOk};
 ghost use Rattle.std.specs.Option.{option_map};
 ghost use Rattle.grid_moves.specs.Layers.{is_on_map};
 ghost use Rattle.map_text.specs.Faults.{plain};
 ghost use Rattle.picture.specs.Picture as pictures;
-ghost use Rattle.script_text.specs.declared.command.Command.TheVariants.{Query};
-ghost use Rattle.session_lines.specs.Answering.{TakesFor};
-ghost use Rattle.who_answers.specs.Taking.{RoseBy};
-ghost use Rattle.session_lines.specs.Counts.{CommandsTake};
 ghost use Rattle.session_lines.specs.Pictures as spec;
 ghost use Rattle.line_work.specs.Sending.{SendsWhole};
+ghost use Rattle.who_answers.specs.Rising.{RoseForQuery};
+ghost use Rattle.who_answers.specs.Who.{who_is};
 
 use crate::NoMemory;
 use call_files::{Extent, OfMap};
@@ -137,8 +135,8 @@ fn drawn<L: Ledger>(
 ) -> Result<Printed, NoMemory>
     ensures drawn { IfOk result (λ p. spec.IsDrawing session.old (plain map.now)
         (record { x = ends.sx; y = ends.sy }) (record { x = ends.gx; y = ends.gy }) show p.text.items p.status) }
-    ensures counted { OnOk result
-        (TakesFor session.old (Query ends.sx ends.sy ends.gx ends.gy) steps.old steps.new) }
+    ensures counted { OnOk result (RoseForQuery (who_is session.old) (record { x = ends.sx; y = ends.sy })
+        (record { x = ends.gx; y = ends.gy }) steps.old steps.new) }
 {
     let Some(from) = end_at(session, ends.sx, ends.sy) else {
         return said(alloc, b"outside\n");
@@ -161,8 +159,8 @@ pub fn write_drawing<O: Sink, L: Ledger>(
 ) -> Result<u8, Stop>
     ensures sent { SendsWhole (spec.IsPictured canvas.old (record { x = ends.sx; y = ends.sy })
         (record { x = ends.gx; y = ends.gy }) show) (O.outflow out.old) (O.outflow out.new) result }
-    ensures counted { OnOk result (RoseBy canvas.old.session
-        (CommandsTake canvas.old.session (Query ends.sx ends.sy ends.gx ends.gy ∷ [])) steps.old steps.new) }
+    ensures counted { OnOk result (RoseForQuery (who_is canvas.old.session) (record { x = ends.sx; y = ends.sy })
+        (record { x = ends.gx; y = ends.gy }) steps.old steps.new) }
 {
     match drawn(alloc, &canvas.map, &mut canvas.session, ends, show, steps) {
         Ok(printed) => send_text(out, printed.text.as_slice(), printed.status),

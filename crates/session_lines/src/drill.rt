@@ -2,9 +2,8 @@
 
 ghost use Rattle.std.specs.Prelude.{◌≡◌, ◌≤◌, ◌^◌, ◌++◌, ◌∷◌, [], List, OnOk, IfOk, length};
 ghost use Rattle.edit_replay.specs.Replies.{IsShort, answer_of};
-ghost use Rattle.session_lines.specs.Answering.{GoesOn, TakesFor};
-ghost use Rattle.who_answers.specs.Taking.{RoseBy};
-ghost use Rattle.session_lines.specs.Counts.{CommandsTake};
+ghost use Rattle.session_lines.specs.Answering.{GoesOn};
+ghost use Rattle.session_lines.specs.Counts.{RoseForCommand, RoseForCommands};
 ghost use Rattle.session_lines.specs.Drill as spec;
 ghost use Rattle.session_lines.specs.Drill.{IsFinding, IsShortFinding};
 ghost use Rattle.session_lines.specs.Drilling.{HasRoom, IsDrilled, sums_of, sums_text};
@@ -60,7 +59,7 @@ pub struct Summary {
 
 impl Job for Summary {
     ghost use Rattle.std.specs.Prelude.{⊤, true};
-    ghost use Rattle.session_lines.specs.Drilling.{HasDrilled, HaveTaken, IsDrilled, LeavesRoom};
+    ghost use Rattle.session_lines.specs.Drilling.{HasDrilled, HaveCounted, IsDrilled, LeavesRoom};
 
     type Item = Command;
 
@@ -74,7 +73,7 @@ impl Job for Summary {
 
     ghost is_whole = { IsDrilled };
 
-    ghost has_counted = { HaveTaken };
+    ghost has_counted = { HaveCounted };
 
     fn answer<L: Ledger>(
         &mut self,
@@ -213,7 +212,7 @@ fn find<L: Ledger>(
     ensures found { IfOk result (IsFinding session.old command) }
     ensures short { IfOk result (λ found. IsShortFinding found) }
     ensures edited { OnOk result (GoesOn session.old command session.new) }
-    ensures counted { OnOk result (TakesFor session.old command steps.old steps.new) }
+    ensures counted { OnOk result (RoseForCommand session.old session.new command steps.old steps.new) }
 {
     match command {
         Command::Block { x, y } => Ok(finding_of_edit(session.edit(x, y, Ground::Blocked, steps))),
@@ -237,7 +236,7 @@ pub fn write_sums<O: Sink, L: Ledger>(
     requires few { length commands.now ≤ 2 ^ 32 }
     ensures sent { SendsWhole (IsDrilled (record { session = session; sums = sums_of [] }) commands.now)
         (O.outflow out.old) (O.outflow out.new) result }
-    ensures counted { OnOk result (RoseBy session (CommandsTake session commands.now) steps.old steps.new) }
+    ensures counted { OnOk result (RoseForCommands session commands.now steps.old steps.new) }
 {
     let mut job = Summary {
         session,

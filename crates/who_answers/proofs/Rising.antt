@@ -1,23 +1,17 @@
--- The steps that searches count.
-use Rattle.std.proofs.Common.{◌≡◌, List, [], ◌∷◌, ◌++◌, ℕ, ◌+◌, ◌*◌, ◌≤◌, arith}
-use Rattle.std.specs.Prelude.{Result, Ok, Err, OnOk, sum}
-use Rattle.std.proofs.lemmas.List.Sums.{sum_by_push}
-use Rattle.who_answers.specs.Taking.{RoseAtLeast}
+-- The steps that are counted.
+use Rattle.std.proofs.Common.{◌≡◌, refl, subst, List, [], ◌∷◌, ◌++◌, ℕ}
+use Rattle.std.specs.Prelude.{Result, Ok, Err, OnOk}
+use Rattle.std.specs.List.{fold}
+use Rattle.who_answers.specs.Rising.{RoseInTurn}
 
 -- what holds where it is done, holds of more
 pub on_ok : {T E : Type 0} {P Q : Type 0} (result : Result T E) → (P → Q) → OnOk result P → OnOk result Q
 on_ok (Ok done) more p = more p
 on_ok (Err error) more p = tt
 
--- what rose, and then more
-pub rise : (start old new f : ℕ) (counts : List ℕ) (n : ℕ) → start + sum counts * f ≤ old → old + n * f ≤ new
-    → start + sum (counts ++ n ∷ []) * f ≤ new
-rise start old new f counts n first then_more =
-    let both : (sum counts + n) * f ≡ sum counts * f + n * f = grind arith in
-    let all : sum (counts ++ n ∷ []) ≡ sum counts + n = sum_by_push (λ x. x) counts n in
-    rw all (omega arith)
-
--- nothing is counted yet
-pub rose-none : (fewest : ℕ) (Takes : List ℕ → Type 0) (start : ℕ) → Takes []
-    → RoseAtLeast fewest Takes start start
-rose-none fewest Takes start takes = record { counts = []; takes = takes; rose = omega arith }
+module _ {S X : Type 0} (Rose : S → X → ℕ → ℕ → Type 0) (next : S → X → S) where
+  -- one item more
+  pub turns-rise : (s : S) (xs : List X) (x : X) (start old new : ℕ) → RoseInTurn Rose next s xs start old
+      → Rose (fold next s xs) x old new → RoseInTurn Rose next s (xs ++ x ∷ []) start new
+  turns-rise s [] x start old new t h = (new, subst (λ (n : ℕ). Rose s x n new) t h, refl)
+  turns-rise s (u ∷ xs) x start old new t h = (t.0, t.1, turns-rise (next s u) xs x t.0 old new t.2 h)

@@ -1,3 +1,3 @@
 pub mod Who
 pub mod Session
-pub mod Taking
+pub mod Rising

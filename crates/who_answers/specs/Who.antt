@@ -1,11 +1,11 @@
 -- Who answers a query, and what an answer is: right, and come to as the one who answers does.
-use Rattle.std.specs.Prelude.{◌≡◌, ◌&&◌, ⊤, MatchBool, ℕ, List, []}
+use Rattle.std.specs.Prelude.{◌≡◌, ◌&&◌, ⊤, MatchBool, ℕ, List, [], Option}
 use Rattle.std.specs.Prelude as option
 use Rattle.grid_moves.specs.declared.Cell.{Cell}
 use Rattle.grid_moves.specs.Grid.{GridData, is_free}
 use Rattle.grid_moves.specs.Layers.{Layers, query_grid}
 use Rattle.grid_moves.specs.Reply.{IsRight}
-use Rattle.edit_replay.specs.Counting.{fewest_of}
+use Rattle.edit_replay.specs.Counting.{fewest_of, most_of}
 use Rattle.edit_replay.specs.Replies.{IsRunOn, answer_of}
 use Rattle.edit_replay.specs.Session.{SessionData}
 use Rattle.edit_replay.specs.declared.engine.Engine.{Engine}
@@ -63,3 +63,9 @@ abbrev pub fewest_by : By → ℕ
 fewest_by (by_session engine) = fewest_of engine
 fewest_by by_boxes = 0
 fewest_by by_moves = 0
+
+-- the most steps that are counted for a state that is taken, where this is told; of boxes and first moves it is not
+abbrev pub most_by : By → Option ℕ
+most_by (by_session engine) = most_of engine
+most_by by_boxes = option.None
+most_by by_moves = option.None

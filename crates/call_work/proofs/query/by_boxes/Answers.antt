@@ -24,5 +24,5 @@ returns c = record {
   );
   counted = λ old new rose.
       told-rose (record { layers = c.args.layers.now; by = by_boxes }) _ _ c.in_ok-reply.reply old new c.in_ok-reply.ensures
-      refl rose;
+      refl refl rose;
 }

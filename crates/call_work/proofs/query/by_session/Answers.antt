@@ -1,8 +1,7 @@
 use Rattle.std.proofs.Common.{subst, List}
 use Rattle.script_text.specs.declared.command.Command.{Command}
 use Rattle.session_lines.specs.Answers.{AreAnswers}
-use Rattle.who_answers.specs.Taking.{RoseBy}
-use Rattle.session_lines.specs.Counts.{CommandsTake}
+use Rattle.session_lines.specs.Counts.{RoseForCommands}
 use Rattle.call_work.proofs.Querying.{one-line, one-rose}
 use Rattle.call_work.proofs.query.by_session.Goals as goal
 
@@ -18,5 +17,5 @@ returns c =
             (subst (λ (all : List Command). AreAnswers d c.args.show all lines) c.in_ok-commands.ensures w.answers),
       );
       counted = λ old new rose. one-rose d c.args.show e.sx e.sy e.gx e.gy old new
-          (subst (λ (all : List Command). RoseBy d (CommandsTake d all) old new) c.in_ok-commands.ensures rose);
+          (subst (λ (all : List Command). RoseForCommands d all old new) c.in_ok-commands.ensures rose);
     }

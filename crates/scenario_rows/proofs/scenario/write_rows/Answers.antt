@@ -1,8 +1,5 @@
-use Rattle.std.proofs.Common.{refl, []}
-use Rattle.who_answers.proofs.Rising.{on_ok, rose-none}
-use Rattle.answerers.specs.Answerers.{who_of}
-use Rattle.scenario_rows.specs.Entries.{EntriesTake}
-use Rattle.who_answers.specs.Who.{fewest_by}
+use Rattle.std.proofs.Common.{refl}
+use Rattle.who_answers.proofs.Rising.{on_ok}
 use Rattle.scenario_rows.proofs.Judgements.{rows-complete}
 use Rattle.scenario_rows.proofs.scenario.write_rows.Goals as goal
 
@@ -10,10 +7,7 @@ pub work_items-requires-clause-completes : goal.work_items-requires-clause-compl
 work_items-requires-clause-completes g c = rows-complete
 
 pub work_items-requires-clause-counts : goal.work_items-requires-clause-counts
-work_items-requires-clause-counts g c = record {
-  rose = rose-none (fewest_by (who_of c.args.answerer).by) (EntriesTake (who_of c.args.answerer) []) c.args.steps.now tt;
-  same = refl;
-}
+work_items-requires-clause-counts g c = record { rose = refl; same = refl }
 
 pub returns-clause-counted : goal.returns-clause-counted
 returns-clause-counted g c = on_ok c.work_items.result (λ taken. taken.rose) c.work_items.ensures.counted

@@ -1,4 +1,5 @@
 use Rattle.std.proofs.Common.{◌≡◌, Bool, true, false, ◌&&◌, refl}
+use Rattle.grid_moves.specs.declared.Cell.{Cell}
 use Rattle.grid_moves.specs.Layers.{is_on_map}
 use Rattle.session_lines.proofs.Pictured.{outside_counted}
 use Rattle.session_lines.proofs.draw.drawn.Goals as goal
@@ -14,11 +15,17 @@ second false b e = refl
 pub returns-in_default-clause-counted : goal.returns-in_default-clause-counted
 returns-in_default-clause-counted g c =
     let e = c.args.ends in
-    outside_counted c.said.result c.args.session.now e.sx e.sy e.gx e.gy c.args.steps.now c.args.steps.now
-    (first (is_on_map c.args.session.now.layers (record { x = e.sx; y = e.sy })) _ c.in_default.ensures) refl
+    let s : Cell = record { x = e.sx; y = e.sy } in
+    let t : Cell = record { x = e.gx; y = e.gy } in
+    let d = c.args.session.now in
+    outside_counted c.said.result d s t c.args.steps.now
+    (first (is_on_map d.layers s) (is_on_map d.layers t) c.in_default.ensures)
 
 pub returns-in_default-end_at-clause-counted : goal.returns-in_default-end_at-clause-counted
 returns-in_default-end_at-clause-counted g c =
     let e = c.args.ends in
-    outside_counted c.said-in_default-end_at.result c.args.session.now e.sx e.sy e.gx e.gy c.args.steps.now
-    c.args.steps.now (second _ _ c.in_default-end_at.ensures) refl
+    let s : Cell = record { x = e.sx; y = e.sy } in
+    let t : Cell = record { x = e.gx; y = e.gy } in
+    let d = c.args.session.now in
+    outside_counted c.said-in_default-end_at.result d s t c.args.steps.now
+    (second (is_on_map d.layers s) (is_on_map d.layers t) c.in_default-end_at.ensures)
