@@ -13,11 +13,10 @@ use cost_waves::CostWaves;
 use first_moves::{Moves, Row, Run};
 use goal_boxes::{Boxes, CellBoxes, boxes_told};
 use grid_moves::{Cell, Terrain};
+pub use std::alloc::AllocError as NoMemory;
 use std::alloc::Global;
 use std::sync::ledger::Ledger;
 use steps::Steps;
-
-pub use std::alloc::AllocError as NoMemory;
 
 /// The boxes of a blocked cell: none.
 const NO_BOXES: CellBoxes = CellBoxes {
@@ -56,17 +55,19 @@ fn both_at<T: Terrain, L: Ledger>(
     ensures height { lent.new.waves.height ≡ lent.old.waves.height }
     ensures passes { passes.new ≤ passes.old + 1 }
 {
-    if !t.free(c) {
-        return Ok((NO_BOXES, Row::without_moves(alloc)?));
+    if t.free(c) {
+        passes.tick();
+        lent.waves.pass(t, c)?;
+        let row = Row::told(alloc, &mut lent.runs, &lent.waves)?;
+        Ok((boxes_told(&lent.waves), row))
+    } else {
+        let row = Row::without_moves(alloc)?;
+        Ok((NO_BOXES, row))
     }
-    passes.tick();
-    lent.waves.pass(t, c)?;
-    let row = Row::told(alloc, &mut lent.runs, &lent.waves)?;
-    Ok((boxes_told(&lent.waves), row))
 }
 
 // Appends an item.
-fn push<V>(items: &mut Vec<V>, item: V) -> Result<(), NoMemory>
+fn push<V: Drop>(items: &mut Vec<V>, item: V) -> Result<(), NoMemory>
     ensures { OnOk result (items.new.items ≡ items.old.items ++ item ∷ []) }
 {
     match items.push(item) {

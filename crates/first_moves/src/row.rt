@@ -259,11 +259,7 @@ impl Row {
 
     /// The first moves from the cell from which the last pass over a map of at most 2^14 cells went, by what that
     /// pass told. `scratch` is memory for runs that is used again; the row takes as much memory as it needs.
-    pub fn told(
-        alloc: Global,
-        scratch: &mut Vec<Run>,
-        waves: &CostWaves,
-    ) -> Result<Row, NoMemory>
+    pub fn told(alloc: Global, scratch: &mut Vec<Run>, waves: &CostWaves) -> Result<Row, NoMemory>
         requires few { waves.now.height * waves.now.width ≤ 16384 }
         ensures { IfOk result (λ row. (g : GridData) (s : Cell) → waves.now.width ≡ g.width
             → waves.now.height ≡ g.height → Tells g s waves.now → IsRow g s row) }
