@@ -2,7 +2,7 @@
 
 ghost use Rattle.std.specs.Prelude.{◌≡◌, ◌+◌, ◌*◌, ◌<◌, ◌≤◌, ◌++◌, ◌∷◌, [], ℕ, true, List, length, slice_get, Some, IfOk, OnOk};
 ghost use Rattle.grid_moves.specs.declared.Cell.{Cell};
-ghost use Rattle.grid_moves.specs.Grid.{GridData, is_inside};
+ghost use Rattle.grid_moves.specs.Grid.{AreSides, GridData, is_inside};
 ghost use Rattle.first_moves.specs.First.{IsFirstMove};
 ghost use Rattle.first_moves.specs.Follow.{IsNext};
 ghost use Rattle.first_moves.specs.Row.{IsRow, AreMoves, row_at};
@@ -76,11 +76,22 @@ impl Moves {
         ensures { IfOk result (λ moves. AreMoves (T.grid t.now) moves) }
     {
         let rows = all_rows(alloc, t)?;
-        Ok(Moves {
-            width: t.width(),
-            height: t.height(),
+        Ok(Moves::of_rows(t.width(), t.height(), rows))
+    }
+
+    /// The first moves between all cells of a map of these sides, by the row of each cell in the order of numbers.
+    pub fn of_rows(width: u16, height: u16, rows: Vec<Row>) -> Moves
+        requires sides { AreSides width height }
+        requires whole { length rows.items ≡ height * width }
+        ensures width { result.width ≡ width }
+        ensures height { result.height ≡ height }
+        ensures rows { result.rows ≡ rows.items }
+    {
+        Moves {
+            width,
+            height,
             rows,
-        })
+        }
     }
 
     /// The number of columns.

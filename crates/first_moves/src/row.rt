@@ -4,6 +4,7 @@ ghost use Rattle.std.specs.Prelude.{◌≡◌, ◌+◌, ◌*◌, ◌<◌, ◌≤
 ghost use Rattle.grid_moves.specs.declared.Cell.{Cell};
 ghost use Rattle.grid_moves.specs.declared.Dir.{Dir};
 ghost use Rattle.grid_moves.specs.Grid.{GridData, cell_number, is_free, is_inside};
+ghost use Rattle.cost_waves.specs.Told.{Tells};
 ghost use Rattle.first_moves.specs.First as spec;
 ghost use Rattle.first_moves.specs.First.{IsFirstMove};
 ghost use Rattle.first_moves.specs.Runs.{runs_of, is_same_move};
@@ -236,7 +237,7 @@ impl Row {
         Row::by_pass(alloc, &mut scratch, waves, t, s)
     }
 
-    // The same, with memory for runs that is used again. The row takes as much memory as it needs.
+    // The same, with memory for runs that is used again.
     fn by_pass<T: Terrain>(
         alloc: Global,
         scratch: &mut Vec<Run>,
@@ -253,13 +254,23 @@ impl Row {
         ensures height { waves.new.height ≡ waves.old.height }
     {
         waves.pass(t, s)?;
+        Row::told(alloc, scratch, waves)
+    }
+
+    /// The first moves from the cell from which the last pass over a map of at most 2^14 cells went, by what that
+    /// pass told. `scratch` is memory for runs that is used again; the row takes as much memory as it needs.
+    pub fn told(alloc: Global, scratch: &mut Vec<Run>, waves: &CostWaves) -> Result<Row, NoMemory>
+        requires few { waves.now.height * waves.now.width ≤ 16384 }
+        ensures { IfOk result (λ row. (g : GridData) (s : Cell) → waves.now.width ≡ g.width
+            → waves.now.height ≡ g.height → Tells g s waves.now → IsRow g s row) }
+    {
         fill(scratch, waves.all_first_dirs())?;
         let runs = Vec::from_slice(alloc, scratch.as_slice())?;
         Ok(Row { runs })
     }
 
-    // The row of a cell that is not free: no move leads from there.
-    fn without_moves(alloc: Global) -> Result<Row, NoMemory>
+    /// The row of a cell of the map that is not free: no move leads from there.
+    pub fn without_moves(alloc: Global) -> Result<Row, NoMemory>
         ensures { IfOk result (λ row. row ≡ record { start = 0; first = None } ∷ []) }
     {
         let mut runs = Vec::with_capacity(alloc, 1)?;

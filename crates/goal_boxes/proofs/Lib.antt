@@ -1,5 +1,5 @@
 mod Growing
-mod Storing
+pub mod Storing
 mod Moves
 mod Posed
 mod Shapes

@@ -1,8 +1,9 @@
 //! The eight boxes of one cell, from one pass from it.
 
 ghost use Rattle.std.specs.Prelude.{◌≡◌, ◌+◌, ◌<◌, true, MatchOption, OnOk, IfOk};
-ghost use Rattle.grid_moves.specs.Grid.{is_free};
-ghost use Rattle.cost_waves.specs.Told.{begins_with};
+ghost use Rattle.grid_moves.specs.declared.Cell.{Cell};
+ghost use Rattle.grid_moves.specs.Grid.{GridData, is_free};
+ghost use Rattle.cost_waves.specs.Told.{Tells, begins_with};
 ghost use Rattle.goal_boxes.specs.Box.{IsAreaOf, AreBoxes, box_in};
 ghost use Rattle.goal_boxes.specs.Wide.{Seen, NoneTold, IsFirstTold, IsLastTold};
 
@@ -108,6 +109,23 @@ fn box_toward(waves: &CostWaves, d: Dir) -> Option<Area>
     found
 }
 
+/// The boxes of the cell from which the last pass over a map of these sides went, by what that pass told.
+pub fn boxes_told(waves: &CostWaves) -> CellBoxes
+    ensures { (g : GridData) (u : Cell) → waves.now.width ≡ g.width → waves.now.height ≡ g.height
+        → Tells g u waves.now → AreBoxes g u result }
+{
+    CellBoxes {
+        n: box_toward(waves, Dir::N),
+        ne: box_toward(waves, Dir::NE),
+        e: box_toward(waves, Dir::E),
+        se: box_toward(waves, Dir::SE),
+        s: box_toward(waves, Dir::S),
+        sw: box_toward(waves, Dir::SW),
+        w: box_toward(waves, Dir::W),
+        nw: box_toward(waves, Dir::NW),
+    }
+}
+
 /// The boxes of a free cell, by memory that is lent: it has to be made for maps of these sides, and is used
 /// again as often as wanted.
 pub fn boxes_by<T: Terrain>(waves: &mut CostWaves, t: &T, u: Cell) -> Result<CellBoxes, NoMemory>
@@ -119,16 +137,7 @@ pub fn boxes_by<T: Terrain>(waves: &mut CostWaves, t: &T, u: Cell) -> Result<Cel
     ensures height { waves.new.height ≡ waves.old.height }
 {
     waves.pass(t, u)?;
-    Ok(CellBoxes {
-        n: box_toward(waves, Dir::N),
-        ne: box_toward(waves, Dir::NE),
-        e: box_toward(waves, Dir::E),
-        se: box_toward(waves, Dir::SE),
-        s: box_toward(waves, Dir::S),
-        sw: box_toward(waves, Dir::SW),
-        w: box_toward(waves, Dir::W),
-        nw: box_toward(waves, Dir::NW),
-    })
+    Ok(boxes_told(waves))
 }
 
 /// The boxes of a free cell: in each direction the least rectangle that holds every cell to which some least

@@ -1,7 +1,7 @@
 //! The boxes of all cells of a grid.
 
-ghost use Rattle.std.specs.Prelude.{◌≡◌, ◌+◌, ◌*◌, ◌<◌, ◌++◌, ◌∷◌, [], true, IfOk, OnOk};
-ghost use Rattle.grid_moves.specs.Grid.{IsGrid, is_free};
+ghost use Rattle.std.specs.Prelude.{◌≡◌, ◌+◌, ◌*◌, ◌<◌, ◌++◌, ◌∷◌, [], true, length, IfOk, OnOk};
+ghost use Rattle.grid_moves.specs.Grid.{AreSides, IsGrid, is_free};
 ghost use Rattle.goal_boxes.specs.Box.{AreBoxes};
 ghost use Rattle.goal_boxes.specs.Stored.{box_at, boxes_at, HoldsBoxes, AreBefore};
 
@@ -104,11 +104,22 @@ impl Boxes {
         for y in 0..height {
             add_row(t, y, &mut waves, &mut cells)?;
         }
-        Ok(Boxes {
+        Ok(Boxes::of_cells(width, height, cells))
+    }
+
+    /// The boxes of all cells of a map of these sides, by cell number.
+    pub fn of_cells(width: u16, height: u16, cells: Vec<CellBoxes>) -> Boxes
+        requires sides { AreSides width height }
+        requires whole { length cells.items ≡ height * width }
+        ensures width { result.width ≡ width }
+        ensures height { result.height ≡ height }
+        ensures cells { result.cells ≡ cells.items }
+    {
+        Boxes {
             width,
             height,
             cells,
-        })
+        }
     }
 
     /// The number of columns.

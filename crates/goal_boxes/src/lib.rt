@@ -15,7 +15,7 @@ mod source;
 mod turns;
 
 pub use area::Area;
-pub use around::{CellBoxes, boxes_by, boxes_of};
+pub use around::{CellBoxes, boxes_by, boxes_of, boxes_told};
 pub use best_first::Taken;
 pub use boxed::{Boxed, boxed_query, boxed_search};
 pub use boxes::Boxes;

@@ -30,7 +30,7 @@ pub trait Terrain {
         ensures { result ≡ is_free (grid self.now) c };
 
     /// Reads the cells of a row, from the left: for each column `true` where the cell is free. None of a row outside
-    /// is.
+    /// is. `row` has exactly a place for each column.
     fn read_row(&self, y: u16, row: &mut [bool])
         requires wide { length row.old ≡ (grid self.now).width }
         ensures wide { length row.new ≡ (grid self.now).width }

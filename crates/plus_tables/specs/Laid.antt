@@ -41,8 +41,8 @@ with_up row x n ne e w nw =
 abbrev pub with_down : List ℤ → ℕ → ℤ → ℤ → ℤ → List ℤ
 with_down row x se s sw = slice_set (slice_set (slice_set row (x * 8 + 3) se) (x * 8 + 4) s) (x * 8 + 5) sw
 
--- in the first n cells of a row the entries for some directions are now those of the parts, if they are short; all
--- others stay
+-- in the first n cells of a row the entries for some directions are now those of the parts, if they are short; those for
+-- the other directions stay
 pub record AreLaid (among : Dir → Bool) (part : Dir → List ℤ) (n : ℕ) (old new : List ℤ) : Type 0 where
   pub long : length new ≡ length old
   pub told : (x : ℕ) (e : Dir) → x < n → among e ≡ true → IsShort (number (part e) (x + 1))

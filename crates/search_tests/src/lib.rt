@@ -4,6 +4,8 @@
 #![tactic(auto)]
 
 #[cfg(test)]
+mod all_pairs_tests;
+#[cfg(test)]
 mod cost_waves_tests;
 #[cfg(test)]
 mod first_moves_tests;
