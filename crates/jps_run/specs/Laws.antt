@@ -54,7 +54,8 @@ AsksForCosts (Scen map tables scen) shown = shown ≢ show.Taken
 AsksForCosts (Drill seed) shown = ⊤
 AsksForCosts other shown = ⊥
 
--- Of calls that ask for costs alone this is so for all engines, where these take the same maps, or neither call is refused.
+-- Of calls that ask for costs alone this is so for all engines, where these take the same maps, or neither call is
+-- refused.
 abbrev pub EnginesPrintTheSameCosts : Type 0
 EnginesPrintTheSameCosts = (words others : List (List ℕ)) (call like : Call) (holds : List ℕ → Held)
     (script : List ℕ) (one other : Outcome) → AreTold holds (files_of call)
