@@ -18,7 +18,7 @@ use std::alloc::Global;
 use std::sync::ledger::Ledger;
 use steps::Steps;
 
-/// The boxes of a blocked cell: none.
+/// The boxes of a cell that is not free: none.
 const NO_BOXES: CellBoxes = CellBoxes {
     n: None,
     ne: None,

@@ -16,12 +16,12 @@ pub fn calls_have_none()
     ensures { CallsHaveNone }
 {}
 
-/// Files that are told hold one list of texts that are accepted in turn.
+/// Files that are told hold at most one list of texts that are accepted in turn.
 pub fn accepted_texts_are_one()
     ensures { AcceptedTextsAreOne }
 {}
 
-/// Files that are told come to one line of the first refused one.
+/// Files that are told come to at most one line of the first refused one.
 pub fn refused_lines_are_one()
     ensures { RefusedLinesAreOne }
 {}

@@ -19,7 +19,7 @@ use Rattle.jps_run.specs.Outcome.{IsOutcome, Outcome, Spell}
 abbrev pub FilesAreTold : List (List ℕ) → (List ℕ → Held) → Type 0
 FilesAreTold words holds = (call : Call) → Spell words call → AreTold holds (files_of call)
 
--- Where the files and the input are told, words come to one outcome: one status, one output and one line.
+-- Where the files and the input are told, words come to at most one outcome: one status, one output and one line.
 abbrev pub OutcomesAreOne : Type 0
 OutcomesAreOne = (words : List (List ℕ)) (holds : List ℕ → Held) (script : List ℕ) (one other : Outcome)
     → FilesAreTold words holds → IsOutcome words holds (Some script) one → IsOutcome words holds (Some script) other

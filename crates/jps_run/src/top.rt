@@ -237,7 +237,8 @@ pub fn run<F: Files, I: Source, O: Sink, E: Sink, L: Ledger>(
     ensures unchanged { (F.disk files.new).holds ≡ (F.disk files.old).holds }
     // A call of `query`, `solve`, `live`, `scen`, `drill` or `draw` that comes to its end counts, for each
     // state that its searches took away from their goals, at least the fewest steps of its engine, and for
-    // each that they took no more than the most, where one is told; and for an edit what its engine counts.
+    // each that they took no more than the most, where one is told; and for an edit no more than mending its
+    // tables may take.
     ensures counted { result ≤ 1 → RoseAsCalled (map string_bytes words.now) (F.disk files.old).holds
         (I.inflow input.old).left steps.old steps.new }
     // Nothing is taken from an input that the words do not ask for, or before each of their files is accepted.

@@ -1,0 +1,159 @@
+#!/usr/bin/env python3
+"""Proves the crates below a program side by side, each once those that it uses are done.
+
+    tools/prove_below.py TOP PROGRAM LOG LANES
+
+rt takes the folders of a crate and of all crates below it for itself, and proves with one processor each where it
+proves several. So each crate is proved in a tree of links to what it needs, with as many jobs as processors are free,
+the crates with the longest chain of others behind them first. What rt keeps of it (`out`) is then put beside the
+crate's sources. What stands there already is looked at again by rt, which takes a few seconds a crate.
+"""
+import os
+import shutil
+import subprocess
+import sys
+import threading
+import time
+
+# A check gains little by more jobs than this.
+MOST_JOBS = 4
+
+
+def read_crates(top):
+    """The lines of the crates by name, and of each crate those of the repository that it uses."""
+    lines, uses = {}, {}
+    with open(f"{top}/crates.txt", encoding="utf-8") as file:
+        for line in file:
+            name, colon, deps = line.partition("#")[0].partition(":")
+            if colon:
+                lines[name.split()[0]], uses[name.split()[0]] = line, deps.split()
+    return lines, {name: [dep for dep in deps if dep in uses] for name, deps in uses.items()}
+
+
+def all_below(uses, name):
+    """All crates that a crate stands on, lowest first, without itself."""
+    found = []
+    for dep in uses[name]:
+        found += [it for it in [*all_below(uses, dep), dep] if it not in found]
+    return found
+
+
+def lines_of(folder):
+    """How many lines of code, definitions and proofs a crate has."""
+    count = 0
+    for part in ("src", "specs", "proofs"):
+        for at, _, names in os.walk(f"{folder}/{part}"):
+            for name in names:
+                with open(f"{at}/{name}", "rb") as file:
+                    count += file.read().count(b"\n")
+    return count
+
+
+def link_crate(crate, to, with_rlib):
+    """Links a crate's sources, and the library that was built of it, into another tree."""
+    parts = ["src", "specs", "proofs"] + (["out/rlib"] if with_rlib else [])
+    for part in parts:
+        if os.path.isdir(f"{crate}/{part}"):
+            shutil.copytree(f"{crate}/{part}", f"{to}/{part}", copy_function=os.link)
+
+
+class Build:
+    """What is done, what runs, and what waits."""
+
+    def __init__(self, top, program, log, lanes):
+        self.top, self.log, self.lanes = top, log, lanes
+        self.lines, self.uses = read_crates(top)
+        self.names = all_below(self.uses, program)
+        self.trees = f"{top}/crates/{program}/out/trees"
+        self.chain = self.chains()
+        self.waiting, self.running, self.done = list(self.names), {}, set()
+        self.failed = None
+        self.changed = threading.Condition()
+
+    def chains(self):
+        """For each crate the lines of the longest chain that begins with it."""
+        chain = {name: 0 for name in self.names}
+        for name in reversed(self.names):
+            chain[name] += lines_of(f"{self.top}/crates/{name}")
+            for dep in self.uses[name]:
+                chain[dep] = max(chain[dep], chain[name])
+        return chain
+
+    def prove(self, name, jobs):
+        """Proves one crate in a tree of its own. Returns whether it went well."""
+        tree, crate = f"{self.trees}/{name}", f"{self.top}/crates/{name}"
+        below = all_below(self.uses, name)
+        for it in below:
+            link_crate(f"{self.top}/crates/{it}", f"{tree}/crates/{it}", True)
+        link_crate(crate, f"{tree}/crates/{name}", False)
+        if os.path.isdir(f"{crate}/out"):
+            shutil.move(f"{crate}/out", f"{tree}/crates/{name}/out")
+        with open(f"{tree}/crates.txt", "w", encoding="utf-8") as file:
+            file.writelines(self.lines[it] for it in [*below, name])
+        shutil.copy(f"{self.top}/HANDLES", tree)
+        ran = subprocess.run(
+            ["rt", "lib", "--jobs", str(jobs)],
+            cwd=f"{tree}/crates/{name}",
+            stdin=subprocess.DEVNULL,
+            stdout=subprocess.PIPE,
+            stderr=subprocess.STDOUT,
+            check=False,
+        )
+        if os.path.isdir(f"{tree}/crates/{name}/out"):
+            shutil.move(f"{tree}/crates/{name}/out", f"{crate}/out")
+        shutil.rmtree(tree)
+        with self.changed:
+            with open(self.log, "ab") as log:
+                log.write(f"== {name}\n".encode() + ran.stdout)
+        return ran.returncode == 0
+
+    def work(self, name, jobs):
+        """Proves one crate, and tells how many are done."""
+        went_well = False
+        try:
+            went_well = self.prove(name, jobs)
+        finally:
+            with self.changed:
+                del self.running[name]
+                if went_well:
+                    self.done.add(name)
+                    self.tell()
+                else:
+                    self.failed = self.failed or name
+                self.changed.notify()
+
+    def tell(self):
+        """Tells on standard error how far it is: on a terminal over the line before."""
+        begin, end = ("\r", " ") if sys.stderr.isatty() else ("", "\n")
+        sys.stderr.write(f"{begin}jps: {len(self.done)} of {len(self.names)} crates{end}")
+        sys.stderr.flush()
+
+    def start(self):
+        """Starts what can be started on the processors that are free."""
+        ready = [it for it in self.waiting if self.done.issuperset(self.uses[it])]
+        ready.sort(key=lambda it: -self.chain[it])
+        while ready and (free := self.lanes - sum(self.running.values())) > 0:
+            name = ready.pop(0)
+            jobs = min(MOST_JOBS, max(1, free - len(ready)))
+            self.waiting.remove(name)
+            self.running[name] = jobs
+            threading.Thread(target=self.work, args=(name, jobs)).start()
+
+    def run(self):
+        """Proves all. Returns whether it went well."""
+        shutil.rmtree(self.trees, ignore_errors=True)
+        with self.changed:
+            while not self.failed and (self.waiting or self.running):
+                self.start()
+                self.changed.wait()
+            while self.running:
+                self.changed.wait()
+        shutil.rmtree(self.trees, ignore_errors=True)
+        if sys.stderr.isatty():
+            sys.stderr.write("\n")
+        return not self.failed
+
+
+if __name__ == "__main__":
+    TOP, PROGRAM, LOG, LANES = sys.argv[1:]
+    sys.exit(0 if Build(TOP, PROGRAM, LOG, int(LANES)).run() else 1)
