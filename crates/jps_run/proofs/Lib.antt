@@ -4,5 +4,6 @@ pub mod Serving
 pub mod Counts
 pub mod Asked
 pub mod Alike
+pub mod SmallMaps
 pub mod Only
 pub mod Begun

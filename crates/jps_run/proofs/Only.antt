@@ -35,11 +35,12 @@ use Rattle.answer_laws.proofs.Files.{one_line, not_both}
 use Rattle.answer_laws.proofs.Words.{one_bad_word, none_of_calls}
 use Rattle.edit_replay.specs.declared.engine.Engine.TheVariants as engine
 use Rattle.jps_run.specs.Calls.{call_with, files_of}
-use Rattle.jps_run.specs.Laws.{AsksForCosts, DifferInEngine, FilesAreTold, is_jump}
+use Rattle.jps_run.specs.Laws.{AsksForCosts, DifferInEngine, FilesAreTold, HasSmallMap, is_jump}
 use Rattle.jps_run.specs.Live.{AreHeard, OnLive}
 use Rattle.jps_run.specs.Outcome.{IsAnswered, IsOutcome, IsOutput, Outcome, Spell, answered, bad_line, bad_text, bad_word, done}
 use Rattle.jps_run.proofs.Alike.{one_answer, one_cost_answer, ok_same, same_first, same_others, session_layers, sessions_alike}
 use Rattle.jps_run.proofs.Asked.{Answers, asked_so}
+use Rattle.jps_run.proofs.SmallMaps.{AreAlike, same_alike, small_alike}
 
 -- what a call comes to, where its words are not refused
 pub data CallComes (call : Call) (holds : List ℕ → Held) (script : List ℕ) : Outcome → Type 0 where
@@ -249,25 +250,22 @@ module _ (holds : List ℕ → Held) (script : List ℕ) (call like : Call) (ali
       none : Answers (Live p.map p.tables) d.settings q.texts lines status → ⊥
       none h = h
 
-  both_same : files_of call ≡ files_of like → Same → HeardSame → (one other : Outcome)
+  both_same : AreAlike holds (files_of call) (files_of like) → Same → HeardSame → (one other : Outcome)
       → CallComes call holds script one → CallComes like holds script other → one ≡ other
   unfolding HeardSame
   both_same files same heard _ _ (refused a p) (refused b q) =
       ap (λ (line : List ℕ). record { status = 3; out = []; line = line })
-      (one_line holds (files_of call) a b told p
-      (subst (λ (fs : List File). HasRefused holds fs b) (sym files) q))
+      (one_line holds (files_of call) a b told p (files.refused b q))
   both_same files same heard _ _ (refused a p) (finished lines status q) =
-      absurd (not_both holds (files_of call) q.texts a told
-      (subst (λ (fs : List File). AreAccepted holds [] fs q.texts) (sym files) q.accepted) p)
+      absurd (not_both holds (files_of call) q.texts a told (files.accepted q.texts q.accepted) p)
   both_same files same heard _ _ (refused a p) (replied lines q) =
       absurd (not_both holds (files_of call) (q.text ∷ q.behind) a told
-      (subst (λ (fs : List File). AreAccepted holds [] fs (q.text ∷ q.behind)) (sym files) q.accepted) p)
+      (files.accepted (q.text ∷ q.behind) q.accepted) p)
   both_same files same heard _ _ (refused a p) (broken lines line q) =
       absurd (not_both holds (files_of call) (q.text ∷ q.behind) a told
-      (subst (λ (fs : List File). AreAccepted holds [] fs (q.text ∷ q.behind)) (sym files) q.accepted) p)
+      (files.accepted (q.text ∷ q.behind) q.accepted) p)
   both_same files same heard _ _ (finished lines status p) (refused b q) =
-      absurd (not_both holds (files_of call) p.texts b told p.accepted
-      (subst (λ (fs : List File). HasRefused holds fs b) (sym files) q))
+      absurd (not_both holds (files_of call) p.texts b told p.accepted (files.refused b q))
   both_same files same heard _ _ (finished lines status p) (finished others code q) =
       let e = both_finished same lines others status code p q in
       ap (λ (n : ℕ). record { status = n; out = lines; line = [] }) e.1
@@ -277,8 +275,7 @@ module _ (holds : List ℕ → Held) (script : List ℕ) (call like : Call) (ali
   both_same files same heard _ _ (finished lines status p) (broken others line q) =
       live_call like (sym alike.request) q call refl lines status p
   both_same files same heard _ _ (replied lines p) (refused b q) =
-      absurd (not_both holds (files_of call) (p.text ∷ p.behind) b told p.accepted
-      (subst (λ (fs : List File). HasRefused holds fs b) (sym files) q))
+      absurd (not_both holds (files_of call) (p.text ∷ p.behind) b told p.accepted (files.refused b q))
   both_same files same heard _ _ (replied lines p) (finished others code q) =
       live_call call refl p like (sym alike.request) others code q
   both_same files same heard _ _ (replied lines p) (replied others q) =
@@ -286,8 +283,7 @@ module _ (holds : List ℕ → Held) (script : List ℕ) (call like : Call) (ali
   both_same files same heard _ _ (replied lines p) (broken others line q) =
       absurd (let e : None ≡ Some line = (heard None (Some line) lines others p q).0 in cc)
   both_same files same heard _ _ (broken lines line p) (refused b q) =
-      absurd (not_both holds (files_of call) (p.text ∷ p.behind) b told p.accepted
-      (subst (λ (fs : List File). HasRefused holds fs b) (sym files) q))
+      absurd (not_both holds (files_of call) (p.text ∷ p.behind) b told p.accepted (files.refused b q))
   both_same files same heard _ _ (broken lines line p) (finished others code q) =
       live_call call refl p like (sym alike.request) others code q
   both_same files same heard _ _ (broken lines line p) (replied others q) =
@@ -339,7 +335,7 @@ module _ (holds : List ℕ → Held) (script : List ℕ) (call like : Call) (ali
 
     one_outcome : (one other : Outcome) → CallComes call holds script one → CallComes like holds script other
         → one ≡ other
-    one_outcome = both_same files_one_way one_way heard_one_way
+    one_outcome = both_same (same_alike holds (files_of call) (files_of like) files_one_way) one_way heard_one_way
 
   -- where costs alone are asked for
   module _ (costs : AsksForCosts call.request call.settings.show) where
@@ -363,13 +359,17 @@ module _ (holds : List ℕ → Held) (script : List ℕ) (call like : Call) (ali
 
     one_cost_outcome : (one other : Outcome)
         → (is_for_small_maps call.settings.pick ≡ is_for_small_maps like.settings.pick)
-        ⊎ ((one.status ≢ 3) × (other.status ≢ 3))
+        ⊎ ((one.status ≢ 3) × (other.status ≢ 3)) ⊎ HasSmallMap holds call.request
         → CallComes call holds script one → CallComes like holds script other → one ≡ other
     one_cost_outcome one other (inl small) p q =
-        both_same (same_files call.settings like.settings alike.rule small call.request
-        ∙ ap (λ (asked : Asked). files_of (call_with asked like.settings)) alike.request) one_cost heard_none one other
-        p q
-    one_cost_outcome one other (inr few) p q = by_ends one other few p q
+        both_same (same_alike holds (files_of call) (files_of like) (same_files call.settings like.settings alike.rule
+        small call.request ∙ ap (λ (asked : Asked). files_of (call_with asked like.settings)) alike.request)) one_cost
+        heard_none one other p q
+    one_cost_outcome one other (inr (inr small)) p q =
+        both_same (subst (λ (asked : Asked). AreAlike holds (files_of call) (files_of (call_with asked like.settings)))
+        alike.request (small_alike holds call.settings like.settings alike.rule call.request told small)) one_cost
+        heard_none one other p q
+    one_cost_outcome one other (inr (inl few)) p q = by_ends one other few p q
       where
         by_ends : (one other : Outcome) → (one.status ≢ 3) × (other.status ≢ 3) → CallComes call holds script one
             → CallComes like holds script other → one ≡ other
@@ -437,7 +437,7 @@ pub costs_same : (words others : List (List ℕ)) (call like : Call) (holds : Li
     (one other : Outcome) → AreTold holds (files_of call) → Spell words call → Spell others like
     → DifferInEngine call like → AsksForCosts call.request call.settings.show
     → (is_for_small_maps call.settings.pick ≡ is_for_small_maps like.settings.pick)
-    ⊎ ((one.status ≢ 3) × (other.status ≢ 3))
+    ⊎ ((one.status ≢ 3) × (other.status ≢ 3)) ⊎ HasSmallMap holds call.request
     → IsOutcome words holds (Some script) one → IsOutcome others holds (Some script) other → one ≡ other
 costs_same words others call like holds script one other told spelled also alike costs maps p q =
     one_cost_outcome holds script call like alike told costs one other maps

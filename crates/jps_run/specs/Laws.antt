@@ -1,8 +1,10 @@
 -- That the outcome of a call is the only one, which engines print the same, and what is written where a call stops.
-use Rattle.std.specs.Prelude.{◌≡◌, ◌≢◌, ⊤, ◌⊎◌, ℕ, Bool, true, false, List, take, Some}
+use Rattle.std.specs.Prelude.{◌≡◌, ◌≢◌, ⊤, ◌⊎◌, ℕ, Bool, true, false, List, take, Ok, Some}
 use Rattle.std.specs.List.{concat}
-use Rattle.io_edge.specs.Told.{Disk, Held, Inflow, Outflow}
+use Rattle.io_edge.specs.Told.{Disk, Held, Inflow, Outflow, holding}
 use Rattle.io_edge.specs.Whole.{AppendsSome}
+use Rattle.map_text.specs.Map.{Map}
+use Rattle.map_text.specs.Faults.{map_of}
 use Rattle.word_list.specs.Request.{Asked, Call, Scen, Drill}
 use Rattle.word_list.specs.Settings.{is_for_small_maps}
 use Rattle.word_list.specs.declared.request.Pick.{Pick}
@@ -10,6 +12,8 @@ use Rattle.word_list.specs.declared.request.Pick.TheVariants as pick
 use Rattle.word_list.specs.declared.request.Show.{Show}
 use Rattle.word_list.specs.declared.request.Show.TheVariants as show
 use Rattle.line_work.specs.Sending.{Wrote}
+use Rattle.call_files.specs.Kinds.{takes}
+use Rattle.call_files.specs.declared.kind.Extent.TheVariants.{Small}
 use Rattle.answer_laws.specs.Files.{AreTold}
 use Rattle.jps_run.specs.Calls.{files_of}
 use Rattle.jps_run.specs.Ending.{HasFailed, HasLines, HasPart}
@@ -54,15 +58,24 @@ AsksForCosts (Scen map tables scen) shown = shown ≢ show.Taken
 AsksForCosts (Drill seed) shown = ⊤
 AsksForCosts other shown = ⊥
 
+-- the text that is held is that of a small map, or of none
+abbrev pub HoldsSmallMap : Held → Type 0
+HoldsSmallMap held = (text : List ℕ) (m : Map) → held ≡ holding text → map_of text ≡ Ok m → takes Small m ≡ true
+
+-- so is the text under the name of the map, by a call of `scen`
+abbrev pub HasSmallMap : (List ℕ → Held) → Asked → Type 0
+HasSmallMap holds (Scen map tables scen) = HoldsSmallMap (holds map)
+HasSmallMap holds other = ⊥
+
 -- Of calls that ask for costs alone this is so for all engines, where these take the same maps, or neither call is
--- refused.
+-- refused, or the text for the map is that of a small one, or of none.
 abbrev pub EnginesPrintTheSameCosts : Type 0
 EnginesPrintTheSameCosts = (words others : List (List ℕ)) (call like : Call) (holds : List ℕ → Held)
     (script : List ℕ) (one other : Outcome) → AreTold holds (files_of call)
     → Spell words call → Spell others like → DifferInEngine call like
     → AsksForCosts call.request call.settings.show
     → (is_for_small_maps call.settings.pick ≡ is_for_small_maps like.settings.pick)
-    ⊎ ((one.status ≢ 3) × (other.status ≢ 3))
+    ⊎ ((one.status ≢ 3) × (other.status ≢ 3)) ⊎ HasSmallMap holds call.request
     → IsOutcome words holds (Some script) one → IsOutcome others holds (Some script) other → one ≡ other
 
 -- the first ones of these lines were written, each whole

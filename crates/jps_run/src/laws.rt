@@ -16,8 +16,9 @@ pub fn jump_engines_print_the_same()
 {}
 
 /// Two calls of `scen` that don't show counts of taken states, or two of `drill`, come to the same outcome whatever
-/// engines they pick, if these take the same maps (`boxes` and `moves` take small ones alone) or neither call is
-/// refused, and where the files and the input are told.
+/// engines they pick, where the files and the input are told, and if these engines take the same maps (`boxes` and
+/// `moves` take small ones alone), or neither call is refused, or the text for the map of `scen` is that of a small
+/// one, or of none.
 pub fn engines_print_the_same_costs()
     ensures { EnginesPrintTheSameCosts }
 {}
