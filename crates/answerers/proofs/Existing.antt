@@ -13,7 +13,7 @@ use Rattle.edit_replay.specs.Replies.{IsRightOn}
 use Rattle.edit_replay.specs.Session.{SessionData}
 use Rattle.edit_replay.specs.declared.reply.Reply.{Reply}
 use Rattle.edit_replay.specs.declared.reply.Reply.TheVariants.{Walk, None, Outside, Blocked}
-use Rattle.who_answers.proofs.Existing.{reply_exists}
+use Rattle.answerers.proofs.SessionReply.{reply_exists}
 use Rattle.goal_boxes.specs.Answer.{IsBoxedRunOn, IsLeast}
 use Rattle.goal_boxes.proofs.Answering as boxed
 use Rattle.first_moves.specs.Follow.{IsFollowed}
@@ -21,8 +21,8 @@ use Rattle.first_moves.specs.Row.{AreMoves, MovesData}
 use Rattle.first_moves.proofs.Following.{stands}
 use Rattle.first_moves.proofs.Leading.{has_followed}
 use Rattle.answerers.specs.Answerers.{CanAnswer, IsUnsearched, who_of}
-use Rattle.who_answers.specs.Session.{IsReply}
-use Rattle.who_answers.specs.Who.{By, IsReplyBy, IsReplyOn, by_boxes, by_moves}
+use Rattle.answerers.specs.Session.{IsReply}
+use Rattle.answerers.specs.Who.{By, IsReplyBy, IsReplyOn, by_boxes, by_moves}
 use Rattle.answerers.specs.declared.answerer.Answerer.{Answerer}
 use Rattle.answerers.specs.declared.answerer.Answerer.TheVariants as answerer
 use Rattle.answerers.proofs.Replying.{reply-on-map, unsearched-boxed, unsearched-led}

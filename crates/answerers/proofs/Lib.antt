@@ -1,3 +1,5 @@
+pub mod SessionReply
+pub mod Rising
 pub mod Replying
 pub mod Existing
 pub mod Loading

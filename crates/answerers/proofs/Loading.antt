@@ -14,8 +14,8 @@ use Rattle.call_files.specs.Files.{File, IsAccepted, AreAccepted, ComesTo}
 use Rattle.call_files.specs.Reading.{open_stops}
 use Rattle.call_files.specs.Reading.{AreBehindMap, AreMapTables, AreTablesOn, IsBehind, Reads}
 use Rattle.answerers.specs.Answerers.{HasSession, IsBasisOn}
-use Rattle.who_answers.specs.Session.{PicksSession, by_of}
-use Rattle.who_answers.specs.Who.{Who, by_boxes, by_moves, by_session}
+use Rattle.answerers.specs.Session.{PicksSession, by_of}
+use Rattle.answerers.specs.Who.{Who, by_boxes, by_moves, by_session}
 use Rattle.answerers.specs.declared.answerer.Basis.{Basis}
 use Rattle.answerers.specs.declared.answerer.Basis.TheVariants as basis
 use Rattle.call_files.specs.declared.kind.Kind.TheVariants as kind

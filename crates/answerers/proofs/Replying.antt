@@ -15,7 +15,7 @@ use Rattle.edit_replay.proofs.Answering.{result_on_grid}
 use Rattle.grid_moves.proofs.Short.{least_steps, steps-cost_of}
 use Rattle.answerers.specs.Answerers.{IsUnsearched}
 use Rattle.call_files.specs.Reading.{AreSmall}
-use Rattle.who_answers.specs.Who.{By, IsReplyBy, IsReplyOn, by_boxes, by_moves}
+use Rattle.answerers.specs.Who.{By, IsReplyBy, IsReplyOn, by_boxes, by_moves}
 
 -- a reply on the grid of the query is one on the map
 pub reply-on-map : (ls : Layers) (by : By) (s t : Cell) (reply : Reply) → are_free_ends ls s t ≡ true

@@ -11,8 +11,8 @@ use Rattle.goal_boxes.specs.Stored.{HoldsBoxes}
 use Rattle.first_moves.specs.Row.{AreMoves}
 use Rattle.word_list.specs.declared.request.Settings.{Settings}
 use Rattle.call_files.specs.Reading.{AreSmall}
-use Rattle.who_answers.specs.Session.{who_on}
-use Rattle.who_answers.specs.Who.{Who, by_boxes, by_moves, who_is}
+use Rattle.answerers.specs.Session.{who_on}
+use Rattle.answerers.specs.Who.{Who, by_boxes, by_moves, who_is}
 use Rattle.answerers.specs.declared.answerer.Answerer.{Answerer}
 use Rattle.answerers.specs.declared.answerer.Answerer.TheVariants as answerer
 use Rattle.answerers.specs.declared.answerer.Basis.{Basis}

@@ -1,1 +1,4 @@
+pub mod Who
+pub mod Session
+pub mod Rising
 pub mod Answerers

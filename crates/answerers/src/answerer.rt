@@ -11,7 +11,7 @@ ghost use Rattle.goal_boxes.specs.Stored.{HoldsBoxes};
 ghost use Rattle.grid_moves.specs.Layers.{in_one_layer, query_grid};
 ghost use Rattle.answerers.specs.Answerers.{IsBasisOn, IsFit, CanAnswer, who_from, who_of};
 ghost use Rattle.call_files.specs.Reading.{AreSmall};
-ghost use Rattle.who_answers.specs.Who.{IsBoxedReply, IsLedReply, IsReplyBy, fewest_by, most_by};
+ghost use Rattle.answerers.specs.Who.{IsBoxedReply, IsLedReply, IsReplyBy, fewest_by, most_by};
 
 use crate::NoMemory;
 use crate::small::{ends_on, follow_moves, search_boxed};
@@ -25,7 +25,7 @@ use map_text::MapText;
 use std::alloc::Global;
 use std::sync::ledger::Ledger;
 use steps::Steps;
-use who_answers::session_on;
+use crate::session_on;
 use word_list::{Pick, Settings};
 
 /// What is made of a map for the picked engine at once: a session, or the grids of a small map.

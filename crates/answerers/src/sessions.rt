@@ -14,9 +14,9 @@ ghost use Rattle.call_files.specs.MapFiles.{map_files};
 ghost use Rattle.call_files.specs.Files.{file_of};
 ghost use Rattle.call_files.specs.Layered.{corner_of as spec_corner};
 ghost use Rattle.call_files.specs.Reading.{AreMapTables, IsMadeAnd, IsMadeOf, open_stops};
-ghost use Rattle.who_answers.specs.Session as spec;
+ghost use Rattle.answerers.specs.Session as spec;
 ghost use Rattle.line_work.specs.Stops.{Ends};
-ghost use Rattle.who_answers.specs.Who.{who_is};
+ghost use Rattle.answerers.specs.Who.{who_is};
 ghost use Rattle.call_files.specs.declared.kind.Kind.TheVariants as kinds;
 
 use crate::NoMemory;

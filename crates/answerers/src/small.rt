@@ -6,7 +6,7 @@ ghost use Rattle.first_moves.specs.Row.{AreMoves};
 ghost use Rattle.goal_boxes.specs.Stored.{HoldsBoxes};
 ghost use Rattle.grid_moves.specs.Grid.{is_free};
 ghost use Rattle.answerers.specs.Answerers.{AreEndsOn, IsUnsearched};
-ghost use Rattle.who_answers.specs.Who.{IsBoxedReply, IsLedReply, IsReplyBy, by_boxes, by_moves};
+ghost use Rattle.answerers.specs.Who.{IsBoxedReply, IsLedReply, IsReplyBy, by_boxes, by_moves};
 
 use crate::NoMemory;
 use edit_replay::Reply;

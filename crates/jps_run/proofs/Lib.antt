@@ -1,9 +1,6 @@
+pub mod Querying
+pub mod Performing
 pub mod Opening
 pub mod Ended
 pub mod Serving
 pub mod Counts
-pub mod Asked
-pub mod Alike
-pub mod SmallMaps
-pub mod Only
-pub mod Begun

@@ -13,7 +13,7 @@ use Rattle.word_list.specs.declared.request.Settings.{Settings}
 use Rattle.jps_run.specs.Calls.{call_with}
 use Rattle.session_lines.specs.Drill.{AreFindings}
 use Rattle.session_lines.specs.Drilling.{IsDrilled}
-use Rattle.who_answers.specs.Session.{IsSessionOn}
+use Rattle.answerers.specs.Session.{IsSessionOn}
 use Rattle.session_lines.specs.declared.drill.Summary.{Summary}
 use Rattle.session_lines.specs.declared.answers.Answers.{Answers}
 

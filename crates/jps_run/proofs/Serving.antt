@@ -10,7 +10,7 @@ use Rattle.live_lines.specs.Heard.{WroteAll, WroteFirst, WroteLines, AnswerHeard
 use Rattle.jps_run.specs.Live.{OnLive}
 use Rattle.live_lines.specs.Hearing.{Hears}
 use Rattle.call_files.specs.Reading.{open_stops}
-use Rattle.call_work.specs.Works.{HasRisen, IsWhole}
+use Rattle.jps_run.specs.Works.{HasRisen, IsWhole}
 use Rattle.jps_run.specs.Opened.{IsCounted, IsListener, IsWorkOn}
 use Rattle.jps_run.specs.Calls.{MayHear, files_of}
 use Rattle.jps_run.specs.Outcome.{IsOutput}
@@ -19,7 +19,7 @@ use Rattle.jps_run.specs.Served.{HasServed, served_stops}
 use Rattle.line_work.specs.Stops.{StopsSo}
 use Rattle.session_lines.specs.declared.answers.Answers.{Answers}
 use Rattle.line_work.specs.declared.stop.Stop.{Stop}
-use Rattle.call_work.specs.declared.work.Work.{Work}
+use Rattle.jps_run.specs.declared.work.Work.{Work}
 use Rattle.line_work.proofs.Pieces.{nothing}
 use Rattle.line_work.proofs.Stopping.{passed, ends-on}
 

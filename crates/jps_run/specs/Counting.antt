@@ -17,9 +17,9 @@ use Rattle.live_lines.specs.Heard.{RoseHeard}
 use Rattle.jps_run.specs.Live.{OnLive}
 use Rattle.jps_run.specs.Calls.{call_with, files_of}
 use Rattle.jps_run.specs.Outcome.{Spell}
-use Rattle.who_answers.specs.Rising.{RoseForQuery}
-use Rattle.who_answers.specs.Session.{OnSession, who_on}
-use Rattle.who_answers.specs.Who.{who_is}
+use Rattle.answerers.specs.Rising.{RoseForQuery}
+use Rattle.answerers.specs.Session.{OnSession, who_on}
+use Rattle.answerers.specs.Who.{who_is}
 use Rattle.scenario_rows.specs.Entries.{RoseForEntries}
 use Rattle.session_lines.specs.Counts.{RoseForCommands}
 

@@ -1,3 +1,5 @@
+pub mod Works
+pub mod Querying
 pub mod Texts
 pub mod Live
 pub mod Counting
@@ -7,4 +9,3 @@ pub mod Opened
 pub mod Served
 pub mod Calls
 pub mod Tabled
-pub mod Laws

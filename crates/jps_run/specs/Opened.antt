@@ -13,8 +13,8 @@ use Rattle.session_lines.specs.declared.answers.Answers.{Answers}
 use Rattle.line_work.specs.declared.stop.Stop.{Stop}
 use Rattle.jps_run.specs.declared.top.Opened.{Opened}
 use Rattle.jps_run.specs.declared.top.Opened.TheVariants as opened
-use Rattle.call_work.specs.Works.{CanPerform, HasRisen, IsWhole}
-use Rattle.call_work.specs.declared.work.Work.{Work}
+use Rattle.jps_run.specs.Works.{CanPerform, HasRisen, IsWhole}
+use Rattle.jps_run.specs.declared.work.Work.{Work}
 
 -- nothing is searched for the call, or the counter rose as the searches on the texts of its files make it
 abbrev pub IsCounted : Call → List (List ℕ) → ℕ → ℕ → Type 0

@@ -33,7 +33,7 @@ use Rattle.scenario_rows.specs.Rows.{AreRows, scen_lines, scen_status}
 use Rattle.scenario_rows.specs.Rulings.{AreRulings, judge_lines, judge_status}
 use Rattle.grid_answers.specs.RunLines.{IsRunText}
 use Rattle.call_files.specs.Layered.{corner_of, layers_on}
-use Rattle.who_answers.specs.Session.{OnSession, who_on}
+use Rattle.answerers.specs.Session.{OnSession, who_on}
 use Rattle.jps_run.specs.Tabled.{tables_text}
 use Rattle.jps_run.specs.Texts.{help_text, version_text}
 use Rattle.scenario_rows.specs.declared.row.Row.{Row}

@@ -6,7 +6,7 @@ ghost use Rattle.jps_run.specs.Calls.{call_with};
 ghost use Rattle.jps_run.specs.Opened.{OpensWork};
 
 use call_files::open_one;
-use call_work::Work;
+use crate::work::Work;
 use grid_answers::costs_at;
 use grid_moves::Layers;
 use io_edge::Files;

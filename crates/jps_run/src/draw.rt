@@ -4,10 +4,10 @@ ghost use Rattle.std.specs.Prelude.{◌≡◌};
 ghost use Rattle.word_list.specs.Request as asked;
 ghost use Rattle.jps_run.specs.Calls.{call_with};
 ghost use Rattle.jps_run.specs.Opened.{OpensWork};
-ghost use Rattle.who_answers.specs.Session.{PicksSession};
+ghost use Rattle.answerers.specs.Session.{PicksSession};
 
 use call_files::open_one;
-use call_work::Work;
+use crate::work::Work;
 use grid_answers::Ends;
 use io_edge::Files;
 use line_work::Stop;

@@ -5,13 +5,13 @@ ghost use Rattle.std.specs.Prelude.{[], IfOk};
 ghost use Rattle.word_list.specs.Request as asked;
 ghost use Rattle.jps_run.specs.Calls.{call_with};
 ghost use Rattle.jps_run.specs.Opened.{IsWorkOf};
-ghost use Rattle.who_answers.specs.Session.{PicksSession};
+ghost use Rattle.answerers.specs.Session.{PicksSession};
 
 use crate::NoMemory;
-use call_work::Work;
+use crate::work::Work;
 use map_maker::drill_script;
 use std::alloc::Global;
-use who_answers::session_on;
+use answerers::session_on;
 use word_list::Settings;
 
 /// The side of a drill's map, in cells.

@@ -5,7 +5,7 @@ ghost use Rattle.word_list.specs.Request as asked;
 ghost use Rattle.jps_run.specs.Calls.{call_with};
 ghost use Rattle.jps_run.specs.Opened.{OpensWork};
 
-use call_work::Work;
+use crate::work::Work;
 use io_edge::Files;
 use line_work::Stop;
 use scenario_rows::{Case, Counts, Referee, read_case};

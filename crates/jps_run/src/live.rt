@@ -9,7 +9,7 @@ ghost use Rattle.word_list.specs.Request as asked;
 ghost use Rattle.word_list.specs.Settings as words;
 ghost use Rattle.jps_run.specs.Calls.{call_with};
 ghost use Rattle.jps_run.specs.Opened.{IsListener};
-ghost use Rattle.who_answers.specs.Session.{PicksSession};
+ghost use Rattle.answerers.specs.Session.{PicksSession};
 
 use answerers::{open_basis, session_of};
 use io_edge::Files;

@@ -6,7 +6,7 @@ ghost use Rattle.jps_run.specs.Opened.{IsWorkOf};
 ghost use Rattle.jps_run.specs.Calls.{call_with};
 
 use crate::NoMemory;
-use call_work::Work;
+use crate::work::Work;
 use map_text::write_map;
 use std::alloc::Global;
 use word_list::Settings;

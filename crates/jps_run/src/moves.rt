@@ -6,7 +6,7 @@ ghost use Rattle.jps_run.specs.Calls.{call_with};
 ghost use Rattle.jps_run.specs.Opened.{OpensWork};
 
 use call_files::{SmallLayers, open_one};
-use call_work::Work;
+use crate::work::Work;
 use grid_answers::moves_at;
 use io_edge::Files;
 use line_work::Stop;

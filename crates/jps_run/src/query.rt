@@ -8,7 +8,8 @@ ghost use Rattle.jps_run.specs.Calls.{call_with};
 ghost use Rattle.jps_run.specs.Opened.{OpensWork};
 
 use answerers::open_basis;
-use call_work::{Work, work_on};
+use crate::query_work::work_on;
+use crate::work::Work;
 use grid_answers::Ends;
 use io_edge::Files;
 use line_work::Stop;

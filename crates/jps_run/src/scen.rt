@@ -8,7 +8,7 @@ ghost use Rattle.jps_run.specs.Opened.{OpensWork};
 ghost use Rattle.jps_run.specs.Calls.{call_with};
 
 use answerers::{Answerer, Basis, open_basis_and};
-use call_work::Work;
+use crate::work::Work;
 use io_edge::Files;
 use line_work::Stop;
 use scen_text::Entry;

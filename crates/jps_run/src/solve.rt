@@ -6,10 +6,10 @@ ghost use Rattle.word_list.specs.Request as asked;
 ghost use Rattle.word_list.specs.Settings as words;
 ghost use Rattle.jps_run.specs.Opened.{OpensWork};
 ghost use Rattle.jps_run.specs.Calls.{call_with};
-ghost use Rattle.who_answers.specs.Session.{PicksSession};
+ghost use Rattle.answerers.specs.Session.{PicksSession};
 
 use answerers::{Basis, open_basis_and, session_of};
-use call_work::Work;
+use crate::work::Work;
 use io_edge::Files;
 use line_work::Stop;
 use script_text::Command;

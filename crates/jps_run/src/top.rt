@@ -27,7 +27,7 @@ use crate::solve::solve;
 use crate::tables::tables;
 use crate::texts::{help_text, version_text};
 use call_files::word_line;
-use call_work::{Work, perform};
+use crate::work::{Work, perform};
 use grid_answers::Ends;
 use io_edge::{Files, Sink, Source, write_whole};
 use line_work::Stop;

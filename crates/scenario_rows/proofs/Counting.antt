@@ -7,7 +7,7 @@ use Rattle.scen_text.specs.declared.entry.Entry.{Entry}
 use Rattle.scenario_rows.specs.Entries.{RoseForEntry}
 use Rattle.scenario_rows.specs.Judging.{HaveCounted}
 use Rattle.scenario_rows.specs.declared.scenario.Judge.{Judge}
-use Rattle.who_answers.proofs.Rising.{turns-rise}
+use Rattle.answerers.proofs.Rising.{turns-rise}
 
 -- one entry more that is judged
 pub judged-entry : {T E : Type 0} (result : Result T E) (job now : Judge) (entry : Entry) (old new : ℕ)

@@ -9,7 +9,7 @@ use Rattle.scenario_rows.specs.Judging.{HasJudged, HasRoom, IsJudged}
 use Rattle.scenario_rows.specs.Rows.{has_sides, row_of, IsRow, scale, replied, row_line, row_lines, scen_status, sum_line}
 use Rattle.word_list.specs.declared.request.Show.{Show}
 use Rattle.scenario_rows.specs.Tally.{IsSmall, tally_of, sum_text}
-use Rattle.who_answers.specs.Who.{Who}
+use Rattle.answerers.specs.Who.{Who}
 use Rattle.line_work.specs.Working.{Adds, CanComplete, HasRoomForOne}
 use Rattle.answerers.specs.declared.answerer.Answerer.{Answerer}
 use Rattle.scenario_rows.specs.declared.row.Row.{Row}

@@ -31,7 +31,7 @@ use Rattle.scenario_rows.specs.declared.referee.Referee.{Referee}
 use Rattle.scenario_rows.specs.declared.ruling.Counts.{Counts}
 use Rattle.scenario_rows.specs.declared.ruling.Ruling.{Ruling}
 use Rattle.scenario_rows.specs.declared.ruling.Ruling.TheVariants as ruling
-use Rattle.who_answers.proofs.Existing.{reply_exists}
+use Rattle.answerers.proofs.SessionReply.{reply_exists}
 use Rattle.scenario_rows.proofs.Judgements.{not-empty}
 use Rattle.line_work.proofs.Turns.{turns-more, turns-all}
 

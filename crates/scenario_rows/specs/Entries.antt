@@ -2,8 +2,8 @@
 use Rattle.std.specs.Prelude.{◌≡◌, ℕ, true, false, List}
 use Rattle.scen_text.specs.declared.entry.Entry.{Entry}
 use Rattle.scenario_rows.specs.Rows.{has_sides}
-use Rattle.who_answers.specs.Rising.{RoseForQuery, RoseInTurn}
-use Rattle.who_answers.specs.Who.{Who}
+use Rattle.answerers.specs.Rising.{RoseForQuery, RoseInTurn}
+use Rattle.answerers.specs.Who.{Who}
 
 -- it rose for an entry: not at all where it is not searched
 pub data RoseForEntry (who : Who) (entry : Entry) (old new : ℕ) : Type 0 where

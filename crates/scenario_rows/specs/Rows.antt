@@ -12,7 +12,7 @@ use Rattle.word_list.specs.declared.request.Show.{Show}
 use Rattle.word_list.specs.declared.request.Show.TheVariants.{Points, Cells, Trace, Taken}
 use Rattle.grid_moves.specs.Layers.{Layers}
 use Rattle.line_work.specs.Turns.{AreInTurn}
-use Rattle.who_answers.specs.Who.{Who, IsReplyBy}
+use Rattle.answerers.specs.Who.{Who, IsReplyBy}
 use Rattle.scenario_rows.specs.declared.row.Row.{Row}
 use Rattle.scenario_rows.specs.declared.row.Row.TheVariants as row
 

@@ -10,8 +10,8 @@ use Rattle.session_lines.specs.Answers.{edits_with}
 use Rattle.session_lines.specs.Counts.{RoseAfter, RoseForCommand, RoseForCommands}
 use Rattle.session_lines.specs.declared.answers.Answers.{Answers}
 use Rattle.session_lines.proofs.Solving.{after-more, nothing_edited, session-more}
-use Rattle.who_answers.proofs.Rising.{turns-rise}
-use Rattle.who_answers.specs.Session.{session_after}
+use Rattle.answerers.proofs.Rising.{turns-rise}
+use Rattle.answerers.specs.Session.{session_after}
 
 -- one command more, on the session as the earlier ones leave it
 pub rose-more : (first old_job new_job : SessionData) (commands : List Command) (command : Command)

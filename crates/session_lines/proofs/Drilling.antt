@@ -17,13 +17,13 @@ use Rattle.session_lines.specs.Answers.{edits_with}
 use Rattle.session_lines.specs.Drill.{FindsAfter, IsFinding, drill_line, finding_of, finding_of_edit, IsShortFinding, is_walk, is_none, is_blocked, is_done, is_same, straight_in, diagonal_in}
 use Rattle.session_lines.specs.Drilling.{HasDrilled, HasRoom, HaveCounted, IsDrilled, LeavesRoom, sums_of, sums_text}
 use Rattle.session_lines.specs.Counts.{RoseForCommand}
-use Rattle.who_answers.specs.Session.{reply_to_edit, session_after}
+use Rattle.answerers.specs.Session.{reply_to_edit, session_after}
 use Rattle.line_work.specs.Working.{Adds, CanComplete, HasRoomForOne}
 use Rattle.session_lines.specs.declared.drill.Finding.{Finding}
 use Rattle.session_lines.specs.declared.drill.Finding.TheVariants as finding
 use Rattle.session_lines.specs.declared.drill.Summary.{Summary}
 use Rattle.session_lines.proofs.Counting.{rose-more}
-use Rattle.who_answers.proofs.Existing.{reply_exists}
+use Rattle.answerers.proofs.SessionReply.{reply_exists}
 use Rattle.session_lines.proofs.Solving.{nothing_edited, session-more}
 use Rattle.line_work.proofs.Turns.{turns-more, turns-all}
 

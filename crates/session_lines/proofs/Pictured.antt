@@ -13,11 +13,11 @@ use Rattle.edit_replay.specs.declared.reply.Reply.TheVariants as reply
 use Rattle.word_list.specs.declared.request.Show.{Show}
 use Rattle.session_lines.specs.Pictures.{IsDrawing, IsPictured, drawing_of, drawing_status}
 use Rattle.line_work.specs.Sending.{AreLines}
-use Rattle.who_answers.specs.Rising.{RoseForQuery}
-use Rattle.who_answers.specs.Session.{IsReply}
-use Rattle.who_answers.specs.Who.{who_is}
+use Rattle.answerers.specs.Rising.{RoseForQuery}
+use Rattle.answerers.specs.Session.{IsReply}
+use Rattle.answerers.specs.Who.{who_is}
 use Rattle.session_lines.specs.declared.draw.Canvas.{Canvas}
-use Rattle.who_answers.proofs.Existing.{reply_exists}
+use Rattle.answerers.proofs.SessionReply.{reply_exists}
 use Rattle.line_work.proofs.Pieces.{nothing}
 
 -- the statuses are 0 and 1

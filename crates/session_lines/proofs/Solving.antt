@@ -15,10 +15,10 @@ use Rattle.word_list.specs.declared.request.Show.{Show}
 use Rattle.session_lines.specs.Answers.{IsAnswerLine, AnswersAfter, edits_of, edits_with}
 use Rattle.session_lines.specs.Answering.{PutsAnswer, GoesOn, HasAnswered, IsSolved}
 use Rattle.session_lines.specs.Lines.{reply_line, edit_line}
-use Rattle.who_answers.specs.Session.{session_after, reply_to_edit, width_of}
+use Rattle.answerers.specs.Session.{session_after, reply_to_edit, width_of}
 use Rattle.line_work.specs.Working.{Adds, CanComplete, IsLeft}
 use Rattle.session_lines.specs.declared.answers.Answers.{Answers}
-use Rattle.who_answers.proofs.Existing.{reply_exists}
+use Rattle.answerers.proofs.SessionReply.{reply_exists}
 use Rattle.line_work.proofs.Turns.{turns-more, turns-all, turns-left, fold-more}
 
 -- a query leaves the session as it is

@@ -6,7 +6,7 @@ use Rattle.grid_moves.specs.Points.{are_lined, is_lined, segment, steps_between,
 use Rattle.edit_replay.specs.declared.reply.Reply.{Reply}
 use Rattle.edit_replay.specs.declared.reply.Reply.TheVariants as reply
 use Rattle.session_lines.specs.Lines.{Unfolds}
-use Rattle.who_answers.specs.Who.{Who, IsReplyBy}
+use Rattle.answerers.specs.Who.{Who, IsReplyBy}
 
 lined_from : (p : Cell) (points : List Cell) (cells : List Cell) → unfolded_from p points ≡ Some cells
     → is_lined (p ∷ points) ≡ true

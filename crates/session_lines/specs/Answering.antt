@@ -8,7 +8,7 @@ use Rattle.script_text.specs.declared.command.Command.{Command}
 use Rattle.word_list.specs.declared.request.Show.{Show}
 use Rattle.session_lines.specs.Answers.{IsAnswerLine, AreAnswers, edits_with}
 use Rattle.session_lines.specs.Counts.{RoseForCommands}
-use Rattle.who_answers.specs.Session.{session_after}
+use Rattle.answerers.specs.Session.{session_after}
 use Rattle.session_lines.specs.declared.answers.Answers.{Answers}
 
 -- a line that answers the command was appended

@@ -9,9 +9,9 @@ use Rattle.script_text.specs.declared.command.Command.{Command}
 use Rattle.script_text.specs.declared.command.Command.TheVariants.{Block, Free, Flood, Query}
 use Rattle.word_list.specs.declared.request.Show.{Show}
 use Rattle.session_lines.specs.Lines.{reply_line, edit_line}
-use Rattle.who_answers.specs.Session.{session_after, reply_to_edit}
+use Rattle.answerers.specs.Session.{session_after, reply_to_edit}
 use Rattle.line_work.specs.Turns.{AreInTurn}
-use Rattle.who_answers.specs.Who.{Who, who_is, IsReplyBy}
+use Rattle.answerers.specs.Who.{Who, who_is, IsReplyBy}
 
 -- the edits that a command makes
 abbrev pub edits_of : Command → List Edit

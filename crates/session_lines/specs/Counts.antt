@@ -6,9 +6,9 @@ use Rattle.edit_replay.specs.Session.{SessionData}
 use Rattle.script_text.specs.declared.command.Command.{Command}
 use Rattle.script_text.specs.declared.command.Command.TheVariants as command
 use Rattle.session_lines.specs.Answers.{edits_with}
-use Rattle.who_answers.specs.Rising.{RoseForQuery, RoseInTurn}
-use Rattle.who_answers.specs.Session.{session_after}
-use Rattle.who_answers.specs.Who.{who_is}
+use Rattle.answerers.specs.Rising.{RoseForQuery, RoseInTurn}
+use Rattle.answerers.specs.Session.{session_after}
+use Rattle.answerers.specs.Who.{who_is}
 
 -- it rose for an edit that led from one session to another, as the engine counts one
 pub record RoseForEdit (before after : SessionData) (old new : ℕ) : Type 0 where

@@ -15,7 +15,7 @@ use Rattle.script_text.specs.declared.command.Command.{Command}
 use Rattle.script_text.specs.declared.command.Command.TheVariants.{Block, Free, Flood, Query}
 use Rattle.word_list.specs.declared.request.Settings.{Settings}
 use Rattle.session_lines.specs.Answers.{edits_with}
-use Rattle.who_answers.specs.Session.{IsReply, OnSession, reply_to_edit, session_after}
+use Rattle.answerers.specs.Session.{IsReply, OnSession, reply_to_edit, session_after}
 use Rattle.line_work.specs.Turns.{AreInTurn}
 use Rattle.session_lines.specs.declared.drill.Finding.{Finding}
 use Rattle.session_lines.specs.declared.drill.Finding.TheVariants as finding

@@ -5,7 +5,7 @@ use Rattle.script_text.specs.declared.command.Command.{Command}
 use Rattle.session_lines.specs.Answers.{edits_with}
 use Rattle.session_lines.specs.Counts.{RoseForCommands}
 use Rattle.session_lines.specs.Drill.{AreFindings, IsShortFinding, drill_line, queries_text, edits_text, costs_text, is_walk, is_none, is_blocked, is_done, is_same, straight_in, diagonal_in}
-use Rattle.who_answers.specs.Session.{session_after}
+use Rattle.answerers.specs.Session.{session_after}
 use Rattle.session_lines.specs.declared.drill.Summary.{Summary}
 use Rattle.session_lines.specs.declared.drill.Finding.{Finding}
 use Rattle.session_lines.specs.declared.drill.Sums.{Sums}

@@ -10,7 +10,7 @@ use Rattle.picture.specs.Picture.{picture_of}
 use Rattle.word_list.specs.declared.request.Settings.{Settings}
 use Rattle.word_list.specs.declared.request.Show.{Show}
 use Rattle.word_list.specs.declared.request.Show.TheVariants.{Points, Cells, Trace, Taken}
-use Rattle.who_answers.specs.Session.{IsReply, IsSessionOn}
+use Rattle.answerers.specs.Session.{IsReply, IsSessionOn}
 use Rattle.session_lines.specs.declared.draw.Canvas.{Canvas}
 
 -- the states that a search took, where a picture shows them

@@ -7,8 +7,8 @@ ghost use Rattle.map_text.specs.Faults.{plain};
 ghost use Rattle.picture.specs.Picture as pictures;
 ghost use Rattle.session_lines.specs.Pictures as spec;
 ghost use Rattle.line_work.specs.Sending.{SendsWhole};
-ghost use Rattle.who_answers.specs.Rising.{RoseForQuery};
-ghost use Rattle.who_answers.specs.Who.{who_is};
+ghost use Rattle.answerers.specs.Rising.{RoseForQuery};
+ghost use Rattle.answerers.specs.Who.{who_is};
 
 use crate::NoMemory;
 use call_files::{Extent, OfMap};
@@ -22,7 +22,7 @@ use picture::Walk;
 use std::alloc::Global;
 use std::sync::ledger::Ledger;
 use steps::Steps;
-use who_answers::session_on;
+use answerers::session_on;
 use word_list::{Settings, Show};
 
 /// A map, and a session on it.
@@ -34,7 +34,7 @@ pub struct Canvas {
 
 impl OfMap for Canvas {
     ghost use Rattle.session_lines.specs.Pictures.{IsCanvasOf};
-    ghost use Rattle.who_answers.specs.Session.{PicksSession};
+    ghost use Rattle.answerers.specs.Session.{PicksSession};
     ghost use Rattle.call_files.specs.declared.kind.Extent.TheVariants.{Any};
 
     ghost extent_of = { λ _. Any };

@@ -1,4 +1,4 @@
-use Rattle.who_answers.specs.Who.{by_boxes}
+use Rattle.answerers.specs.Who.{by_boxes}
 use Rattle.answerers.proofs.Replying.{goal-free, result-on-map}
 use Rattle.answerers.proofs.small.boxed_reply.Goals as goal
 

@@ -1,7 +1,7 @@
 use Rattle.std.proofs.Common.{subst, inr}
 use Rattle.map_text.specs.Map.{Map}
 use Rattle.map_maker.specs.Making.{made_map}
-use Rattle.who_answers.specs.Session.{IsSessionOn}
+use Rattle.answerers.specs.Session.{IsSessionOn}
 use Rattle.jps_run.proofs.Counts.{drill-counted}
 use Rattle.jps_run.proofs.Opening.{drill-right}
 use Rattle.session_lines.proofs.Drilling.{few-commands}

@@ -5,7 +5,7 @@ use Rattle.answerers.specs.Answerers.{who_from}
 use Rattle.session_lines.specs.Answers.{IsReplyLine}
 use Rattle.jps_run.specs.Calls.{call_with}
 use Rattle.jps_run.specs.Outcome.{IsAnswered, replied}
-use Rattle.who_answers.specs.Who.{Who}
+use Rattle.answerers.specs.Who.{Who}
 use Rattle.jps_run.proofs.Counts.{query-counted}
 use Rattle.jps_run.proofs.query.query.Goals as goal
 

@@ -5,8 +5,8 @@ use Rattle.jps_run.specs.Calls.{call_with}
 use Rattle.jps_run.specs.Outcome.{IsAnswered, judged}
 use Rattle.answerers.specs.Answerers.{who_of}
 use Rattle.scenario_rows.specs.Rows.{AreRows, scen_status}
-use Rattle.who_answers.specs.Session.{who_on}
-use Rattle.who_answers.specs.Who.{Who}
+use Rattle.answerers.specs.Session.{who_on}
+use Rattle.answerers.specs.Who.{Who}
 use Rattle.jps_run.proofs.Counts.{scen-counted}
 use Rattle.scenario_rows.proofs.Tallies.{small_status}
 use Rattle.jps_run.proofs.scen.scen.Goals as goal

@@ -3,7 +3,7 @@ use Rattle.std.specs.Option.{option_copied}
 use Rattle.word_list.specs.Request.{Solve}
 use Rattle.jps_run.specs.Calls.{call_with}
 use Rattle.jps_run.specs.Outcome.{solved}
-use Rattle.who_answers.specs.Session.{IsSessionOn}
+use Rattle.answerers.specs.Session.{IsSessionOn}
 use Rattle.jps_run.proofs.Counts.{solve-counted}
 use Rattle.answerers.proofs.Loading.{session-made}
 use Rattle.jps_run.proofs.Opening.{solved-right}

@@ -4,7 +4,7 @@ use Rattle.word_list.specs.declared.request.Request.{Request}
 use Rattle.jps_run.specs.Opened.{IsWorkOn}
 use Rattle.jps_run.specs.Calls.{call_with}
 use Rattle.jps_run.specs.Outcome.{IsAnswered, help, version}
-use Rattle.call_work.specs.declared.work.Work.TheVariants as work
+use Rattle.jps_run.specs.declared.work.Work.TheVariants as work
 use Rattle.jps_run.proofs.Opening.{text-right}
 use Rattle.jps_run.proofs.top.open_work.Goals as goal
 

@@ -4,7 +4,7 @@ use Rattle.jps_run.specs.Opened.{IsOpenedAs}
 use Rattle.jps_run.specs.declared.top.Opened.{Opened}
 use Rattle.live_lines.specs.Heard.{RoseHeard}
 use Rattle.jps_run.specs.Counting.{heard}
-use Rattle.who_answers.proofs.Rising.{on_ok}
+use Rattle.answerers.proofs.Rising.{on_ok}
 use Rattle.jps_run.proofs.Serving.{may-hear, on-live, unopened-served, work-counted, work-served}
 use Rattle.jps_run.proofs.top.serve.Goals as goal
 

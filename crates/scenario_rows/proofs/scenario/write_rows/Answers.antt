@@ -1,5 +1,5 @@
 use Rattle.std.proofs.Common.{refl}
-use Rattle.who_answers.proofs.Rising.{on_ok}
+use Rattle.answerers.proofs.Rising.{on_ok}
 use Rattle.scenario_rows.proofs.Judgements.{rows-complete}
 use Rattle.scenario_rows.proofs.scenario.write_rows.Goals as goal
 

@@ -1,4 +1,4 @@
-use Rattle.who_answers.specs.Who.{who_is}
+use Rattle.answerers.specs.Who.{who_is}
 use Rattle.session_lines.proofs.Solving.{query-goes-on}
 use Rattle.session_lines.proofs.Unfolding.{replied_unfolds}
 use Rattle.session_lines.proofs.answers.put_answer.Goals as goal

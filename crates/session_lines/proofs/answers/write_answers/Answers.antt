@@ -1,4 +1,4 @@
-use Rattle.who_answers.proofs.Rising.{on_ok}
+use Rattle.answerers.proofs.Rising.{on_ok}
 use Rattle.session_lines.proofs.Counting.{taken-none}
 use Rattle.session_lines.proofs.Solving.{answered-none, answers-complete}
 use Rattle.session_lines.proofs.answers.write_answers.Goals as goal

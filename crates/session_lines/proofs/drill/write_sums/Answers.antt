@@ -1,5 +1,5 @@
 use Rattle.std.proofs.Common.{length}
-use Rattle.who_answers.proofs.Rising.{on_ok}
+use Rattle.answerers.proofs.Rising.{on_ok}
 use Rattle.session_lines.proofs.Drilling.{all-fit, drill-complete, drilled-none, taken-none}
 use Rattle.session_lines.proofs.drill.write_sums.Goals as goal
 

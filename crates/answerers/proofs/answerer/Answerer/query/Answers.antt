@@ -1,6 +1,6 @@
 use Rattle.std.proofs.Common.{subst}
 use Rattle.answerers.specs.Answerers.{CanAnswer}
-use Rattle.who_answers.specs.Who.{by_boxes, by_moves}
+use Rattle.answerers.specs.Who.{by_boxes, by_moves}
 use Rattle.answerers.specs.declared.answerer.Answerer.{Answerer}
 use Rattle.answerers.proofs.Replying.{result-short}
 use Rattle.answerers.proofs.answerer.Answerer.query.Goals as goal

@@ -1,5 +1,0 @@
-use Rattle.answer_laws.proofs.Words.{one_bad_word}
-use Rattle.answer_laws.proofs.laws.bad_words_are_one.Goals as goal
-
-pub returns : goal.returns
-returns c = one_bad_word

@@ -1,6 +1,0 @@
-use Rattle.call_work.proofs.Performing.{uncounted}
-use Rattle.call_work.proofs.work.perform.Goals as goal
-
-pub returns-in-Referee-clause-counted : goal.returns-in-Referee-clause-counted
-returns-in-Referee-clause-counted g c =
-    uncounted c.write_rulings.result c.args.work _ _ c.args.steps.now c.write_rulings.new.steps c.in-Referee.is

@@ -1,0 +1,59 @@
+-- The work of a call: what it prints, how far the counter rises for it, and what it needs.
+use Rattle.std.specs.Prelude.{◌≡◌, ℕ, ◌≤◌, ◌^◌, ⊤, List, [], length}
+use Rattle.answerers.specs.Answerers.{CanAnswer, who_of}
+use Rattle.call_files.specs.Reading.{AreKept}
+use Rattle.jps_run.specs.declared.work.Work.{Work}
+use Rattle.jps_run.specs.declared.work.Work.TheVariants as work
+use Rattle.grid_answers.specs.Encoded.{IsEncoded}
+use Rattle.grid_answers.specs.Telling.{AreWritten}
+use Rattle.line_work.specs.Sending.{IsText}
+use Rattle.scenario_rows.specs.Entries.{RoseForEntries}
+use Rattle.scenario_rows.specs.Judging.{IsJudged}
+use Rattle.scenario_rows.specs.Refereeing.{IsReady, IsRefereed}
+use Rattle.scenario_rows.specs.Tally.{tally_of}
+use Rattle.session_lines.specs.Answering.{IsSolved}
+use Rattle.session_lines.specs.Counts.{RoseForCommands}
+use Rattle.session_lines.specs.Drilling.{IsDrilled, sums_of}
+use Rattle.session_lines.specs.Pictures.{IsPictured}
+use Rattle.answerers.specs.Rising.{RoseForQuery}
+use Rattle.answerers.specs.Who.{who_is}
+
+-- the whole output of the work, and the status
+abbrev pub IsWhole : Work → List (List ℕ) → ℕ → Type 0
+IsWhole (work.Answer job commands) = IsSolved job commands.items
+IsWhole (work.Judge answerer show entries) =
+    IsJudged (record { answerer = answerer; show = show; tally = tally_of [] }) entries.items
+IsWhole (work.Referee job entries) = IsRefereed job entries.items
+IsWhole (work.Drill session commands) = IsDrilled (record { session = session; sums = sums_of [] }) commands.items
+IsWhole (work.Draw canvas ends show) =
+    IsPictured canvas (record { x = ends.sx; y = ends.sy }) (record { x = ends.gx; y = ends.gy }) show
+IsWhole (work.Tell lines) = AreWritten lines
+IsWhole (work.Encode file) = IsEncoded file
+IsWhole (work.Print text status) = IsText text.items status
+IsWhole (work.Say text) = IsText text.now 0
+
+-- the counter rose as the searches of the work make it
+abbrev pub HasRisen : Work → ℕ → ℕ → Type 0
+HasRisen (work.Answer job commands) old new = RoseForCommands job.session commands.items old new
+HasRisen (work.Judge answerer show entries) old new = RoseForEntries (who_of answerer) entries.items old new
+HasRisen (work.Referee job entries) old new = ⊤
+HasRisen (work.Drill session commands) old new = RoseForCommands session commands.items old new
+HasRisen (work.Draw canvas ends show) old new = RoseForQuery (who_is canvas.session)
+    (record { x = ends.sx; y = ends.sy }) (record { x = ends.gx; y = ends.gy }) old new
+HasRisen (work.Tell lines) old new = ⊤
+HasRisen (work.Encode file) old new = ⊤
+HasRisen (work.Print text status) old new = old ≤ new
+HasRisen (work.Say text) old new = ⊤
+
+-- the work can be done: queries can be answered, the lengths of entries can be judged, the sums of a drill have room, and
+-- so has a piece of a table file
+abbrev pub CanPerform : Work → Type 0
+CanPerform (work.Answer job commands) = ⊤
+CanPerform (work.Judge answerer show entries) = CanAnswer answerer × AreKept entries.items
+CanPerform (work.Referee job entries) = IsReady job (length entries.items)
+CanPerform (work.Drill session commands) = length commands.items ≤ 2 ^ 32
+CanPerform (work.Draw canvas ends show) = ⊤
+CanPerform (work.Tell lines) = ⊤
+CanPerform (work.Encode file) = length file.room.items ≡ 65536
+CanPerform (work.Print text status) = ⊤
+CanPerform (work.Say text) = ⊤

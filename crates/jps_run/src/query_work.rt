@@ -1,0 +1,83 @@
+//! The work on one query. A session answers it as a script of one command; by boxes or first moves the reply is made at
+//! once, with no more than it asks for.
+
+ghost use Rattle.std.specs.Prelude.{◌≡◌, ◌<◌, [], ◌∷◌, IfOk};
+ghost use Rattle.script_text.specs.declared.command.Command.TheVariants.{Query};
+ghost use Rattle.answerers.specs.Answerers.{who_from};
+ghost use Rattle.session_lines.specs.Lines.{Unfolds, reply_line};
+ghost use Rattle.jps_run.specs.Querying.{IsQueryWork};
+ghost use Rattle.answerers.specs.Who.{who_is};
+
+use crate::NoMemory;
+use crate::work::Work;
+use answerers::{Basis, boxed_reply, led_reply};
+use edit_replay::{Reply, Session};
+use grid_answers::Ends;
+use grid_moves::{Layers, Terrain};
+use script_text::Command;
+use session_lines::{Answers, put_reply};
+use std::alloc::Global;
+use word_list::Show;
+
+// The query as the commands of a script.
+fn commands_of(alloc: Global, ends: Ends) -> Result<Vec<Command>, NoMemory>
+    ensures { IfOk result (λ commands. commands.items ≡ Query ends.sx ends.sy ends.gx ends.gy ∷ []) }
+{
+    let Ends { sx, sy, gx, gy } = ends;
+    let mut commands = Vec::new(alloc);
+    commands.push(Command::Query { sx, sy, gx, gy })?;
+    Ok(commands)
+}
+
+// The line of a reply, on a map of this width.
+fn line_of(alloc: Global, reply: &Reply, width: u16, show: Show) -> Result<Vec<u8>, NoMemory>
+    requires unfolds { Unfolds reply.now }
+    requires some { 0 < width }
+    ensures { IfOk result (λ text. text.items ≡ reply_line width show reply.now) }
+{
+    let mut line = Vec::new(alloc);
+    put_reply(alloc, &mut line, reply, width, show)?;
+    Ok(line)
+}
+
+// The work of a session on one query.
+fn by_session(alloc: Global, session: Session, ends: Ends, show: Show) -> Result<Work, NoMemory>
+    ensures { IfOk result (IsQueryWork (who_is session) show
+        (record { x = ends.sx; y = ends.sy }) (record { x = ends.gx; y = ends.gy })) }
+{
+    let commands = commands_of(alloc, ends)?;
+    let job = Answers { session, show };
+    Ok(Work::Answer { job, commands })
+}
+
+// The line of the reply by the boxed run.
+fn by_boxes(alloc: Global, layers: &Layers, ends: Ends, show: Show) -> Result<Work, NoMemory>
+    ensures { IfOk result (IsQueryWork (who_from (Basis.Boxes layers.now)) show
+        (record { x = ends.sx; y = ends.sy }) (record { x = ends.gx; y = ends.gy })) }
+{
+    let reply = boxed_reply(alloc, layers, ends)?;
+    let text = line_of(alloc, &reply, layers.land().width(), show)?;
+    Ok(Work::Print { text, status: 0 })
+}
+
+// The line of the reply by the walk of first moves.
+fn by_moves(alloc: Global, layers: &Layers, ends: Ends, show: Show) -> Result<Work, NoMemory>
+    ensures { IfOk result (IsQueryWork (who_from (Basis.Moves layers.now)) show
+        (record { x = ends.sx; y = ends.sy }) (record { x = ends.gx; y = ends.gy })) }
+{
+    let reply = led_reply(alloc, layers, ends)?;
+    let text = line_of(alloc, &reply, layers.land().width(), show)?;
+    Ok(Work::Print { text, status: 0 })
+}
+
+/// The work on one query, by what was made of a map.
+pub fn work_on(alloc: Global, basis: Basis, ends: Ends, show: Show) -> Result<Work, NoMemory>
+    ensures { IfOk result (IsQueryWork (who_from basis) show
+        (record { x = ends.sx; y = ends.sy }) (record { x = ends.gx; y = ends.gy })) }
+{
+    match basis {
+        Basis::Session(session) => by_session(alloc, session, ends, show),
+        Basis::Boxes(layers) => by_boxes(alloc, &layers, ends, show),
+        Basis::Moves(layers) => by_moves(alloc, &layers, ends, show),
+    }
+}

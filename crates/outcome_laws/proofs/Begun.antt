@@ -1,0 +1,185 @@
+-- What a call wrote that stopped with no outcome begins the one output.
+use Rattle.std.proofs.Common.{◌≡◌, ◌∙◌, refl, ap, sym, subst, ℕ, ◌≤◌, ◌⊎◌, inl, inr, arith}
+use Rattle.std.proofs.Common.{List, [], ◌∷◌, ◌++◌, append_assoc, length, take, drop}
+use Rattle.std.specs.Prelude.{Option, Some, None}
+use Rattle.std.specs.List.{concat}
+use Rattle.std.proofs.Math.Seq.{take-append_seam, take-length}
+use Rattle.std.proofs.lemmas.List.{take-append-drop}
+use Rattle.std.proofs.lemmas.List.Folds.{concat-append}
+use Rattle.io_edge.specs.Told.{Disk, Held, Inflow, Outflow}
+use Rattle.io_edge.specs.Whole.{AppendsSome}
+use Rattle.map_text.specs.Faults.{map_of}
+use Rattle.edit_replay.specs.Session.{SessionData}
+use Rattle.word_list.specs.Request.{Call}
+use Rattle.word_list.specs.declared.request.Settings.{Settings}
+use Rattle.word_list.specs.declared.request.Show.{Show}
+use Rattle.line_work.specs.Sending.{Wrote}
+use Rattle.line_work.proofs.Pieces.{part-more}
+use Rattle.answerers.specs.Session.{by_of}
+use Rattle.live_lines.specs.Heard.{AnswerHeard, AnswerTaken}
+use Rattle.outcome_laws.specs.Alike.{BeginWith, way_of}
+use Rattle.outcome_laws.proofs.Printed.{one_start}
+use Rattle.outcome_laws.proofs.Taken.{pending_taken}
+use Rattle.outcome_laws.specs.Files.{AreTold}
+use Rattle.outcome_laws.proofs.Files.{not_both}
+use Rattle.jps_run.specs.Calls.{files_of}
+use Rattle.jps_run.specs.Ending.{HasFailed, HasLines, HasPart, first, none, of_all, of_file, of_input, of_taken, some}
+use Rattle.outcome_laws.specs.Outcomes.{DifferInEngine, FilesAreTold, WrittenBeginsTheOutput, WroteLinesOf}
+use Rattle.jps_run.specs.Live.{AreHeard, OnLive}
+use Rattle.jps_run.specs.Outcome.{IsOutcome, IsOutput, Outcome, Spell, done}
+use Rattle.outcome_laws.proofs.Alike.{ok_same, same_first, session_layers, sessions_alike}
+use Rattle.outcome_laws.proofs.Only.{CallComes, broken, finished, refused, replied}
+use Rattle.outcome_laws.proofs.Only.{call_comes, live_call, one_list, outcomes_one}
+
+-- the first ones of these lines begin them
+begin-by : (count : ℕ) (lines : List (List ℕ)) → BeginWith lines (take count lines)
+begin-by count lines = (drop count lines, sym (take-append-drop count lines))
+
+begin-then : (all lines few : List (List ℕ)) → BeginWith all lines → BeginWith lines few → BeginWith all few
+begin-then all lines few p q =
+    (q.0 ++ p.0, p.1 ∙ ap (λ (l : List (List ℕ)). l ++ p.0) q.1 ∙ append_assoc few q.0 p.0)
+
+module _ (before now : Outflow) where
+  -- lines that begin all of these were written
+  Begun : List (List ℕ) → Type 0
+  Begun all = (lines : List (List ℕ)) × BeginWith all lines × Wrote before now (concat lines)
+
+  part-begun : (all lines : List (List ℕ)) → BeginWith all lines
+      → AppendsSome before.written now.written (concat lines) → AppendsSome before.written now.written (concat all)
+  part-begun all lines begun h =
+      subst (λ (l : List ℕ). AppendsSome before.written now.written l)
+      (sym (ap concat begun.1 ∙ concat-append lines begun.0))
+      (part-more before.written now.written (concat lines) (concat begun.0) h)
+
+  part-all : (bytes : List ℕ) → Wrote before now bytes → AppendsSome before.written now.written bytes
+  part-all bytes h = (
+    length bytes,
+    (let e : length bytes ≤ length bytes = omega arith in e),
+    subst (λ (l : List ℕ). Wrote before now l) (sym (take-length bytes)) h,
+  )
+
+  -- so what was written is a first part of all, and their first lines
+  so_begun : (all : List (List ℕ)) → Begun all
+      → AppendsSome before.written now.written (concat all) × WroteLinesOf all before now
+  unfolding Begun
+  so_begun all (lines, begun, h) = (
+    part-begun all lines begun (part-all (concat lines) h),
+    (
+      length lines,
+      subst (λ (ls : List (List ℕ)). Wrote before now (concat ls))
+          (sym (ap (λ (ls : List (List ℕ)). take (length lines) ls) begun.1 ∙ take-append_seam lines begun.0)) h,
+    ),
+  )
+
+-- what a call was answered that reads the input begins all that it is answered
+module _ (holds : List ℕ → Held) (script : List ℕ) (call : Call) (told : AreTold holds (files_of call))
+    {Known : SessionData → Show → Type 0} (p : OnLive call holds Known) (left : Option (List ℕ))
+    (lines : List (List ℕ)) (taken : AnswerTaken p.session p.settings.show (Some script) left lines) where
+  itself : DifferInEngine call call
+  itself = record { request = refl; show = refl; rule = refl }
+
+  heard_begins : (refusal : Option (List ℕ)) (all : List (List ℕ)) → AreHeard call holds (Some script) all refusal
+      → BeginWith all lines
+  heard_begins refusal all q =
+      one_start p.session q.session p.settings.show script left refusal lines all
+      (session_layers p.settings q.settings rule shown ways p.text p.read p.spelled p.session p.answers)
+      (sessions_alike p.settings q.settings rule shown ways p.read q.read one_map p.session q.session p.answers
+      q.answers) taken
+      (subst (λ (show : Show). AnswerHeard q.session show (Some script) refusal all) (sym shown) q.known)
+    where
+      same : p.settings ≡ q.settings
+      same = ap (λ (c : Call). c.settings) (sym p.is ∙ q.is)
+
+      rule : p.settings.one ≡ q.settings.one
+      rule = ap (λ (set : Settings). set.one) same
+
+      shown : p.settings.show ≡ q.settings.show
+      shown = ap (λ (set : Settings). set.show) same
+
+      ways : way_of (by_of p.settings.pick) ≡ way_of (by_of q.settings.pick)
+      ways = ap (λ (set : Settings). way_of (by_of set.pick)) same
+
+      one_map : p.read ≡ q.read
+      one_map = ok_same p.read q.read (map_of p.text) p.spelled
+          (ap map_of (same_first p.text q.text p.behind q.behind
+          (one_list holds script call call itself told (p.text ∷ p.behind) (q.text ∷ q.behind) p.accepted q.accepted))
+          ∙ q.spelled)
+
+  call_begins : (outcome : Outcome) → CallComes call holds script outcome → BeginWith outcome.out lines
+  call_begins _ (refused line r) =
+      absurd (not_both holds (files_of call) (p.text ∷ p.behind) line told p.accepted r)
+  call_begins _ (finished all status q) =
+      live_call holds script call call itself told call refl p call refl all status q
+  call_begins _ (replied all q) = heard_begins None all q
+  call_begins _ (broken all line q) = heard_begins (Some line) all q
+
+module _ (words : List (List ℕ)) (holds : List ℕ → Held) (input input_now : Inflow) (out out_now : Outflow)
+    (script : List ℕ) (outcome : Outcome) (told : FilesAreTold words holds) (comes_in : input.left ≡ Some script)
+    (is : IsOutcome words holds (Some script) outcome) where
+  -- the output of a call by its files alone is that of the outcome
+  output_one : (call : Call) → Spell words call → (lines : List (List ℕ)) (status : ℕ)
+      → IsOutput call holds lines status → lines ≡ outcome.out
+  output_one call spelled lines status right =
+      ap (λ (o : Outcome). o.out) (outcomes_one words holds script (record { status = status; out = lines; line = [] })
+      outcome told (done call lines status spelled right) is)
+
+  taken_begins : {Known : SessionData → Show → Type 0} (call : Call) → Spell words call
+      → (p : OnLive call holds Known) → (lines : List (List ℕ))
+      → AnswerTaken p.session p.settings.show input.left input_now.left lines → BeginWith outcome.out lines
+  taken_begins call spelled p lines taken =
+      call_begins holds script call (told call spelled) p input_now.left lines
+      (subst (λ (text : Option (List ℕ)). AnswerTaken p.session p.settings.show text input_now.left lines) comes_in
+      taken) outcome (call_comes words holds script call outcome spelled is)
+
+  part_begins : HasPart words holds input input_now out out_now
+      → AppendsSome out.written out_now.written (concat outcome.out)
+  part_begins (of_all call spelled p) =
+      subst (λ (lines : List (List ℕ)). AppendsSome out.written out_now.written (concat lines))
+      (output_one call spelled p.lines p.status p.whole) p.wrote
+  part_begins (of_taken call spelled p) =
+      part-begun out out_now outcome.out p.known.lines (taken_begins call spelled p p.known.lines p.known.stand)
+      p.known.wrote
+
+  lines_begin : HasLines words holds input input_now out out_now → Begun out out_now outcome.out
+  unfolding Begun
+  lines_begin (none h) = ([], (outcome.out, refl), h)
+  lines_begin (some call spelled p) = (
+    take p.count p.lines,
+    subst (λ (lines : List (List ℕ)). BeginWith lines (take p.count p.lines))
+        (output_one call spelled p.lines p.status p.whole) (begin-by p.count p.lines),
+    p.wrote,
+  )
+  lines_begin (first call spelled p) = (
+    take p.known.count p.known.lines,
+    begin-then outcome.out p.known.lines (take p.known.count p.known.lines)
+        (taken_begins call spelled p p.known.lines p.known.stand) (begin-by p.known.count p.known.lines),
+    p.known.wrote,
+  )
+
+-- so do the lines of a call of which a read failed
+module _ (words : List (List ℕ)) (disk disk_now : Disk) (input input_now : Inflow) (out out_now : Outflow)
+    (script : List ℕ) (outcome : Outcome) (told : FilesAreTold words disk.holds) (comes_in : input.left ≡ Some script)
+    (is : IsOutcome words disk.holds (Some script) outcome) where
+  failed_begins : HasFailed words disk disk_now input input_now out out_now → Begun out out_now outcome.out
+  unfolding Begun
+  failed_begins (of_file rose h) = ([], (outcome.out, refl), h)
+  failed_begins (of_input rose p) = (
+    p.known.lines,
+    taken_begins words disk.holds input input_now out out_now script outcome told comes_in is rose.call rose.spelled p
+        p.known.lines
+        (pending_taken p.session p.settings.show input.left input_now.left p.known.lines p.known.stand),
+    p.known.wrote,
+  )
+
+  first_lines : HasFailed words disk disk_now input input_now out out_now
+      ⊎ HasLines words disk.holds input input_now out out_now → Begun out out_now outcome.out
+  first_lines (inl failed) = failed_begins failed
+  first_lines (inr lines) =
+      lines_begin words disk.holds input input_now out out_now script outcome told comes_in is lines
+
+pub written_begins : WrittenBeginsTheOutput
+written_begins words disk disk_now input input_now out out_now script outcome told comes_in is = (
+  part_begins words disk.holds input input_now out out_now script outcome told comes_in is,
+  λ stopped. so_begun out out_now outcome.out
+      (first_lines words disk disk_now input input_now out out_now script outcome told comes_in is stopped),
+)

@@ -1,0 +1,65 @@
+-- The text of a cell's boxes is one.
+use Rattle.std.proofs.Common.{◌≡◌, ℕ, arith, refl, ap, ◌∙◌, List, [], ◌∷◌, ◌++◌}
+use Rattle.std.specs.Prelude.{Option, Some, None, codes}
+use Rattle.cost_waves.specs.Begin.{Begins}
+use Rattle.goal_boxes.specs.declared.area.Area.{Area}
+use Rattle.goal_boxes.specs.declared.around.CellBoxes.{CellBoxes}
+use Rattle.goal_boxes.specs.Box.{AreBoxes, IsAreaOf, IsWithin, box_in}
+use Rattle.grid_moves.specs.declared.Cell.{Cell}
+use Rattle.grid_moves.specs.Grid.{GridData}
+use Rattle.grid_moves.specs.Layers.{AreLayers, Layers, is_free_ground, is_on_map, query_grid}
+use Rattle.grid_moves.specs.Move.{all_dirs}
+use Rattle.cell_lines.specs.Cells.{dir_text, texts_of}
+use Rattle.grid_answers.specs.BoxLines.{IsBoxText, area_text, blocked, box_line, boxes_text, outside, told}
+use Rattle.outcome_laws.proofs.Ground.{ground_on, not_both}
+
+-- two rectangles within each other are one
+one_area : (a b : Area) → IsWithin a b → IsWithin b a → a ≡ b
+one_area a b p q =
+    let left = p.left in
+    let above = p.above in
+    let right = p.right in
+    let below = p.below in
+    let left' = q.left in
+    let above' = q.above in
+    let right' = q.right in
+    let below' = q.below in
+    by_sides a.x0 a.y0 a.x1 a.y1 b.x0 b.y0 b.x1 b.y1 (omega arith) (omega arith) (omega arith) (omega arith)
+  where
+    by_sides : (x0 y0 x1 y1 u0 v0 u1 v1 : ℕ) → x0 ≡ u0 → y0 ≡ v0 → x1 ≡ u1 → y1 ≡ v1
+        → ◌≡◌ {A = Area} (record { x0 = x0; y0 = y0; x1 = x1; y1 = y1 })
+        (record { x0 = u0; y0 = v0; x1 = u1; y1 = v1 })
+    by_sides x0 y0 x1 y1 u0 v0 u1 v1 e f h i = rw (e, f, h, i) refl
+
+-- the least rectangle of a kind of cells is one, or there is none
+pub one_box : (P : Cell → Type 0) (a b : Option Area) → IsAreaOf P a → IsAreaOf P b → a ≡ b
+one_box P None None p q = refl
+one_box P None (Some b) p q = absurd (p q.some q.is_one)
+one_box P (Some a) None p q = absurd (q p.some p.is_one)
+one_box P (Some a) (Some b) p q =
+    ap (λ (x : Area). Some x) (one_area a b (p.least b (λ c i. q.all c i)) (q.least a (λ c i. p.all c i)))
+
+-- texts of each member are those of the list
+pub texts_same : {X : Type 0} (p q : X → List ℕ) (xs : List X) → ((x : X) → p x ≡ q x)
+    → texts_of p xs ≡ texts_of q xs
+texts_same p q [] same = refl
+texts_same p q (x ∷ xs) same =
+    ap (λ (l : List ℕ). l ++ texts_of p xs) (same x) ∙ ap (λ (l : List ℕ). q x ++ l) (texts_same p q xs same)
+
+same_boxes : (g : GridData) (s : Cell) (b c : CellBoxes) → AreBoxes g s b → AreBoxes g s c
+    → boxes_text b ≡ boxes_text c
+same_boxes g s b c are also = texts_same (box_line b) (box_line c) all_dirs (λ d.
+    ap (λ (a : Option Area). codes "box " ++ dir_text d ++ codes " " ++ area_text a ++ codes "\n")
+    (one_box (λ t. Begins g s t d) (box_in b d) (box_in c d) (are d) (also d)))
+
+pub one_text : (ls : Layers) (s : Cell) (one other : List ℕ) → AreLayers ls
+    → IsBoxText ls s one → IsBoxText ls s other → one ≡ other
+one_text ls s _ _ are (outside off) (outside away) = refl
+one_text ls s _ _ are (outside off) (blocked on shut) = not_both (is_on_map ls s) on off
+one_text ls s _ _ are (outside off) (told b free is) = not_both (is_on_map ls s) (ground_on ls are s free) off
+one_text ls s _ _ are (blocked on shut) (outside off) = not_both (is_on_map ls s) on off
+one_text ls s _ _ are (blocked on shut) (blocked too bare) = refl
+one_text ls s _ _ are (blocked on shut) (told b free is) = not_both (is_free_ground ls s) free shut
+one_text ls s _ _ are (told b free is) (outside off) = not_both (is_on_map ls s) (ground_on ls are s free) off
+one_text ls s _ _ are (told b free is) (blocked on shut) = not_both (is_free_ground ls s) free shut
+one_text ls s _ _ are (told b free is) (told c too also) = same_boxes (query_grid ls s) s b c is also

@@ -1,0 +1,72 @@
+-- What two calls print on one map, by settings with one corner rule whose engines answer alike.
+use Rattle.std.proofs.Common.{◌≡◌, List, ℕ}
+use Rattle.std.specs.Prelude.{Option, Some}
+use Rattle.grid_moves.specs.declared.Cell.{Cell}
+use Rattle.grid_moves.specs.Layers.{AreLayers}
+use Rattle.map_text.specs.Map.{Map}
+use Rattle.edit_replay.specs.Session.{SessionData}
+use Rattle.script_text.specs.declared.command.Command.{Command}
+use Rattle.scen_text.specs.declared.entry.Entry.{Entry}
+use Rattle.word_list.specs.declared.request.Settings.{Settings}
+use Rattle.word_list.specs.declared.request.Show.{Show}
+use Rattle.call_files.specs.Layered.{layers_on}
+use Rattle.answerers.specs.Session.{IsSessionOn, OnSession, by_of, who_on}
+use Rattle.session_lines.specs.Answers.{AreAnswers, IsReplyLine}
+use Rattle.session_lines.specs.Pictures.{IsDrawing}
+use Rattle.live_lines.specs.Heard.{AnswerHeard, AnswerTaken}
+use Rattle.scenario_rows.specs.Rows.{AreRows}
+use Rattle.scenario_rows.specs.declared.row.Row.{Row}
+use Rattle.outcome_laws.specs.Alike.{BeginWith, way_of}
+use Rattle.outcome_laws.specs.Forgetting.{DifferInTaken}
+use Rattle.outcome_laws.proofs.Printed.{alike_rows, one_answers, one_drawing, one_heard, one_reply_line, one_rows, one_start}
+use Rattle.outcome_laws.proofs.Sessions.{layers_alike, session_layers, sessions_alike, who_alike}
+
+module _ (set other : Settings) (m : Map) (rule : set.one ≡ other.one) (are : AreLayers (layers_on set m)) where
+  -- rows by whatever engines
+  pub alike_rows_on : (entries : List Entry) (rows others : List Row) → AreRows (who_on set m) entries rows
+      → AreRows (who_on other m) entries others → DifferInTaken rows others
+  alike_rows_on entries rows others =
+      alike_rows (who_on set m) (who_on other m) entries rows others are (layers_alike set other m rule)
+
+  module _ (way : way_of (by_of set.pick) ≡ way_of (by_of other.pick)) where
+    pub one_line_on : (show : Show) (s t : Cell) (line same : List ℕ) → IsReplyLine (who_on set m) show s t line
+        → IsReplyLine (who_on other m) show s t same → line ≡ same
+    one_line_on show s t line same =
+        one_reply_line (who_on set m) (who_on other m) show s t line same are (who_alike set other m rule way)
+
+    pub one_rows_on : (entries : List Entry) (rows same : List Row) → AreRows (who_on set m) entries rows
+        → AreRows (who_on other m) entries same → rows ≡ same
+    one_rows_on entries rows same =
+        one_rows (who_on set m) (who_on other m) entries rows same are (who_alike set other m rule way)
+
+    pub one_answers_on : (show : Show) (commands : List Command) (lines same : List (List ℕ))
+        → OnSession set m (λ d. AreAnswers d show commands lines)
+        → OnSession other m (λ d. AreAnswers d show commands same) → lines ≡ same
+    one_answers_on show commands lines same p q =
+        one_answers p.session q.session show commands lines same (session_layers set m p.session are p.is)
+        (sessions_alike set other m rule p.session q.session p.is q.is way) p.known q.known
+
+    pub one_drawing_on : (s t : Cell) (show : Show) (text same : List ℕ) (status also : ℕ)
+        → OnSession set m (λ d. IsDrawing d m s t show text status)
+        → OnSession other m (λ d. IsDrawing d m s t show same also) → (text ≡ same) × (status ≡ also)
+    one_drawing_on s t show text same status also p q =
+        one_drawing p.session q.session m s t show text same status also
+        (session_layers set m p.session are p.is)
+        (sessions_alike set other m rule p.session q.session p.is q.is way) p.known q.known
+
+    -- of what comes in, by the sessions that answer it
+    module _ (d e : SessionData) (is : IsSessionOn set m d) (too : IsSessionOn other m e) (show : Show)
+        (script : List ℕ) where
+      pub one_heard_on : (refusal also : Option (List ℕ)) (lines same : List (List ℕ))
+          → AnswerHeard d show (Some script) refusal lines → AnswerHeard e show (Some script) also same
+          → (refusal ≡ also) × (lines ≡ same)
+      one_heard_on refusal also lines same =
+          one_heard d e show script refusal also lines same (session_layers set m d are is)
+          (sessions_alike set other m rule d e is too way)
+
+      pub one_start_on : (left refusal : Option (List ℕ)) (lines all : List (List ℕ))
+          → AnswerTaken d show (Some script) left lines → AnswerHeard e show (Some script) refusal all
+          → BeginWith all lines
+      one_start_on left refusal lines all =
+          one_start d e show script left refusal lines all (session_layers set m d are is)
+          (sessions_alike set other m rule d e is too way)

@@ -1,0 +1,444 @@
+-- Outcomes are the only ones, and those of calls that ask alike are the same.
+use Rattle.std.proofs.Common.{◌≡◌, ◌∙◌, refl, ap, sym, subst, ℕ, Bool, true, false, List, [], ◌∷◌, ◌++◌}
+use Rattle.std.specs.Prelude.{Option, Some, None, ◌≢◌, ◌⊎◌, if◌then◌else◌}
+use Rattle.std.proofs.Common.{inl, inr}
+use Rattle.io_edge.specs.Told.{Held, holding, absent, untold}
+use Rattle.io_edge.specs.Whole.{IsWhole}
+use Rattle.map_text.specs.Map.{Map}
+use Rattle.map_text.specs.Faults.{map_of}
+use Rattle.grid_moves.specs.Layers.{AreLayers, Layers}
+use Rattle.edit_replay.specs.Session.{SessionData}
+use Rattle.word_list.specs.Calls.{call_of, is_call}
+use Rattle.word_list.specs.Request.{Asked, Call, Help, Version, Query, Solve, Live, Scen, Judge, Prove, Check, Make, Drill, Draw, Costs, Tables, Boxes, Moves}
+use Rattle.word_list.specs.Rule.{IsBadWord}
+use Rattle.word_list.specs.Settings.{is_for_small_maps}
+use Rattle.word_list.specs.declared.request.Pick.{Pick}
+use Rattle.word_list.specs.declared.request.Pick.TheVariants as pick
+use Rattle.word_list.specs.declared.request.Settings.{Settings}
+use Rattle.word_list.specs.declared.request.Show.{Show}
+use Rattle.call_files.specs.FaultLines.{word_line}
+use Rattle.call_files.specs.Files.{AreAccepted, File, HasRefused, IsAccepted, file_of}
+use Rattle.call_files.specs.Kinds.{extent_for, kind_for, limit_of}
+use Rattle.call_files.specs.Layered.{corner_of}
+use Rattle.call_files.specs.MapFiles.{map_files}
+use Rattle.call_files.specs.declared.kind.Extent.{Extent}
+use Rattle.call_files.specs.declared.kind.Extent.TheVariants as extent
+use Rattle.call_files.specs.declared.kind.Kind.{Kind}
+use Rattle.call_files.specs.declared.kind.Kind.TheVariants as kind
+use Rattle.live_lines.specs.Heard.{AnswerHeard}
+use Rattle.answerers.specs.Session.{by_of}
+use Rattle.answerers.specs.Who.{By, by_session, by_boxes, by_moves}
+use Rattle.outcome_laws.specs.Alike.{way_of}
+use Rattle.outcome_laws.proofs.Printed.{one_heard}
+use Rattle.outcome_laws.specs.Files.{AreTold}
+use Rattle.outcome_laws.proofs.Files.{one_line, not_both}
+use Rattle.outcome_laws.proofs.Words.{one_bad_word, none_of_calls}
+use Rattle.edit_replay.specs.declared.engine.Engine.TheVariants as engine
+use Rattle.jps_run.specs.Calls.{call_with, files_of}
+use Rattle.outcome_laws.specs.Outcomes.{AsksForCosts, DifferInEngine, FilesAreTold, HasSmallMap, is_jump}
+use Rattle.jps_run.specs.Live.{AreHeard, OnLive}
+use Rattle.jps_run.specs.Outcome.{IsAnswered, IsOutcome, IsOutput, Outcome, Spell, answered, bad_line, bad_text, bad_word, done}
+use Rattle.outcome_laws.proofs.Alike.{one_answer, one_cost_answer, ok_same, same_first, same_others, session_layers, sessions_alike}
+use Rattle.outcome_laws.proofs.Asked.{Answers, asked_so}
+use Rattle.outcome_laws.proofs.SmallMaps.{AreAlike, same_alike, small_alike}
+
+-- what a call comes to, where its words are not refused
+pub data CallComes (call : Call) (holds : List ℕ → Held) (script : List ℕ) : Outcome → Type 0 where
+  refused : (line : List ℕ) → HasRefused holds (files_of call) line
+      → CallComes call holds script (record { status = 3; out = []; line = line })
+  finished : (lines : List (List ℕ)) (status : ℕ) → IsOutput call holds lines status
+      → CallComes call holds script (record { status = status; out = lines; line = [] })
+  replied : (lines : List (List ℕ)) → AreHeard call holds (Some script) lines None
+      → CallComes call holds script (record { status = 0; out = lines; line = [] })
+  broken : (lines : List (List ℕ)) (line : List ℕ) → AreHeard call holds (Some script) lines (Some line)
+      → CallComes call holds script (record { status = 3; out = lines; line = line })
+
+call_or : Call → Option Call → Call
+call_or d None = d
+call_or d (Some call) = call
+
+same_call : (words : List (List ℕ)) (call other : Call) → Spell words call → Spell words other → call ≡ other
+unfolding call_or
+same_call words call other one two = ap (call_or call) (sym one ∙ two)
+
+-- an outcome of words that spell a call
+pub call_comes : (words : List (List ℕ)) (holds : List ℕ → Held) (script : List ℕ) (call : Call) (outcome : Outcome)
+    → Spell words call → IsOutcome words holds (Some script) outcome → CallComes call holds script outcome
+call_comes words holds script call _ spelled (bad_word number bad) =
+    absurd (none_of_calls words call number spelled bad)
+call_comes words holds script call _ spelled (bad_text other line also is) =
+    refused line (subst (λ (c : Call). HasRefused holds (files_of c) line) (same_call words other call also spelled) is)
+call_comes words holds script call _ spelled (done other lines status also is) =
+    finished lines status
+    (subst (λ (c : Call). IsOutput c holds lines status) (same_call words other call also spelled) is)
+call_comes words holds script call _ spelled (answered other lines also is) =
+    replied lines
+    (subst (λ (c : Call). AreHeard c holds (Some script) lines None) (same_call words other call also spelled) is)
+call_comes words holds script call _ spelled (bad_line other lines line also is) =
+    broken lines line
+    (subst (λ (c : Call). AreHeard c holds (Some script) lines (Some line)) (same_call words other call also spelled)
+    is)
+
+-- the names of files
+names : List File → List (List ℕ)
+names [] = []
+names (file ∷ files) = file.name ∷ names files
+
+-- a told file holds one text
+same_held : (held : Held) (x y : List ℕ) (limit also : ℕ) → held ≢ untold → IsWhole held limit x → IsWhole held also y
+    → x ≡ y
+same_held untold x y limit also told p q = absurd (told refl)
+same_held absent x y limit also told p q = absurd (p)
+same_held (holding bytes) x y limit also told p q = p.0 ∙ sym q.0
+
+both : (x y : List ℕ) (one two : List (List ℕ)) → x ≡ y → one ≡ two → x ∷ one ≡ y ∷ two
+both x y one two e f =
+    ap (λ (text : List ℕ). text ∷ one) e ∙ ap (λ (texts : List (List ℕ)). y ∷ texts) f
+
+-- told files of the same names hold the same texts
+same_texts : (holds : List ℕ → Held) (files others : List File) (earlier before one two : List (List ℕ))
+    → AreTold holds files → names files ≡ names others → AreAccepted holds earlier files one
+    → AreAccepted holds before others two → one ≡ two
+unfolding names
+same_texts holds [] [] earlier before [] [] told e p q = refl
+same_texts holds [] [] earlier before (x ∷ one) two told e p q = absurd (p)
+same_texts holds [] [] earlier before one (y ∷ two) told e p q = absurd (q)
+same_texts holds [] (file ∷ others) earlier before one two told e p q = absurd (cc)
+same_texts holds (file ∷ files) [] earlier before one two told e p q = absurd (cc)
+same_texts holds (file ∷ files) (other ∷ others) earlier before [] two told e p q = absurd (p)
+same_texts holds (file ∷ files) (other ∷ others) earlier before one [] told e p q = absurd (q)
+same_texts holds (file ∷ files) (other ∷ others) earlier before (x ∷ one) (y ∷ two) told e p q =
+    let name : file.name ≡ other.name = same_first file.name other.name (names files) (names others) e in
+    let rest : names files ≡ names others = same_others file.name other.name (names files) (names others) e in
+    let here : x ≡ y = same_held (holds file.name) x y (limit_of file.kind) (limit_of other.kind) told.0 p.0.0
+    (subst (λ (n : List ℕ). IsAccepted before other.kind (holds n) y) (sym name) q.0).0 in
+    both x y one two here (same_texts holds files others (earlier ++ x ∷ []) (before ++ y ∷ []) one two told.1 rest
+    p.1 q.1)
+
+-- the engine is no matter for the names of a call's files
+same_map_names : (set other : Settings) (map : List ℕ) (tables : Option (List ℕ))
+    → names (map_files set map tables) ≡ names (map_files other map tables)
+unfolding names
+same_map_names set other map None = refl
+same_map_names set other map (Some tables) = refl
+
+names_with : (files others : List File) (file : File) → names files ≡ names others
+    → names (files ++ file ∷ []) ≡ names (others ++ file ∷ [])
+unfolding names
+names_with files others file e = names_append files file ∙ ap (λ (ns : List (List ℕ)). ns ++ file.name ∷ []) e
+    ∙ sym (names_append others file)
+  where
+    names_append : (files : List File) (file : File) → names (files ++ file ∷ []) ≡ names files ++ file.name ∷ []
+    names_append [] file = refl
+    names_append (x ∷ files) file = ap (λ (ns : List (List ℕ)). x.name ∷ ns) (names_append files file)
+
+same_names : (asked : Asked) (set other : Settings)
+    → names (files_of (call_with asked set)) ≡ names (files_of (call_with asked other))
+same_names Help set other = refl
+same_names Version set other = refl
+same_names (Query map tables sx sy gx gy) set other = same_map_names set other map tables
+same_names (Solve map tables script) set other =
+    names_with (map_files set map tables) (map_files other map tables) (file_of kind.Script script)
+    (same_map_names set other map tables)
+same_names (Live map tables) set other = same_map_names set other map tables
+same_names (Scen map tables scen) set other =
+    names_with (map_files set map tables) (map_files other map tables) (file_of kind.Scen scen)
+    (same_map_names set other map tables)
+same_names (Judge map scen walks) set other = refl
+same_names (Prove map sx sy gx gy) set other = refl
+same_names (Check map cert) set other = refl
+same_names (Make seed w h percent) set other = refl
+same_names (Drill seed) set other = refl
+same_names (Draw map sx sy gx gy) set other = refl
+same_names (Costs map x y) set other = refl
+same_names (Tables map) set other = refl
+same_names (Boxes map x y) set other = refl
+same_names (Moves map x y) set other = refl
+
+-- nor for the files themselves, where engines take the same maps
+module _ (set other : Settings) (rule : set.one ≡ other.one)
+    (small : is_for_small_maps set.pick ≡ is_for_small_maps other.pick) where
+  same_map_files : (map : List ℕ) (tables : Option (List ℕ)) → map_files set map tables ≡ map_files other map tables
+  same_map_files map None =
+      ap (λ (b : Bool). file_of (kind_for (if b then extent.Small else extent.Any)) map ∷ []) small
+  same_map_files map (Some tables) =
+      ap (λ (b : Bool). file_of kind.Map map ∷ file_of (kind.Tables (corner_of b)) tables ∷ []) rule
+
+  same_files : (asked : Asked) → files_of (call_with asked set) ≡ files_of (call_with asked other)
+  same_files Help = refl
+  same_files Version = refl
+  same_files (Query map tables sx sy gx gy) = same_map_files map tables
+  same_files (Solve map tables script) =
+      ap (λ (files : List File). files ++ file_of kind.Script script ∷ []) (same_map_files map tables)
+  same_files (Live map tables) = same_map_files map tables
+  same_files (Scen map tables scen) =
+      ap (λ (files : List File). files ++ file_of kind.Scen scen ∷ []) (same_map_files map tables)
+  same_files (Judge map scen walks) = refl
+  same_files (Prove map sx sy gx gy) = refl
+  same_files (Check map cert) = refl
+  same_files (Make seed w h percent) = refl
+  same_files (Drill seed) = refl
+  same_files (Draw map sx sy gx gy) = refl
+  same_files (Costs map x y) = refl
+  same_files (Tables map) = refl
+  same_files (Boxes map x y) = refl
+  same_files (Moves map x y) = refl
+
+-- engines that come to answers in one way take the same maps
+is_small : By → Bool
+is_small (by_session engine) = false
+is_small by_boxes = true
+is_small by_moves = true
+
+small_by : (p : Pick) → is_for_small_maps p ≡ is_small (way_of (by_of p))
+unfolding is_small
+small_by pick.Plain = refl
+small_by pick.Jps = refl
+small_by pick.Block = refl
+small_by pick.Plus = refl
+small_by pick.Boxes = refl
+small_by pick.Moves = refl
+
+same_small : (p q : Pick) → way_of (by_of p) ≡ way_of (by_of q) → is_for_small_maps p ≡ is_for_small_maps q
+same_small p q way = small_by p ∙ ap is_small way ∙ sym (small_by q)
+
+-- those that jump do
+jump_way : (p : Pick) → is_jump p ≡ true → way_of (by_of p) ≡ by_session engine.Jps
+jump_way pick.Plain e = absurd (cc)
+jump_way pick.Jps e = refl
+jump_way pick.Block e = refl
+jump_way pick.Plus e = refl
+jump_way pick.Boxes e = absurd (cc)
+jump_way pick.Moves e = absurd (cc)
+
+module _ (holds : List ℕ → Held) (script : List ℕ) (call like : Call) (alike : DifferInEngine call like)
+    (told : AreTold holds (files_of call)) where
+  pub one_list : (one two : List (List ℕ)) → AreAccepted holds [] (files_of call) one
+      → AreAccepted holds [] (files_of like) two → one ≡ two
+  one_list one two p q = same_texts holds (files_of call) (files_of like) [] [] one two told
+      (same_names call.request call.settings like.settings
+      ∙ ap (λ (asked : Asked). names (files_of (call_with asked like.settings))) alike.request) p q
+
+  -- the answers of both calls on the same texts
+  Same : Type 0
+  Same = (texts lines same : List (List ℕ)) (status code : ℕ) → Answers call.request call.settings texts lines status
+      → Answers call.request like.settings texts same code → (lines ≡ same) × (status ≡ code)
+
+  HeardSame : Type 0
+  HeardSame = (refusal also : Option (List ℕ)) (lines same : List (List ℕ))
+      → AreHeard call holds (Some script) lines refusal → AreHeard like holds (Some script) same also
+      → (refusal ≡ also) × (lines ≡ same)
+
+  both_finished : Same → (lines same : List (List ℕ)) (status code : ℕ) → IsOutput call holds lines status
+      → IsOutput like holds same code → (lines ≡ same) × (status ≡ code)
+  unfolding Same
+  both_finished one lines same status code p q =
+      one p.texts lines same status code (asked_so call p.texts lines status p.answered)
+      (subst (λ (asked : Asked). Answers asked like.settings p.texts same code) (sym alike.request)
+      (subst (λ (texts : List (List ℕ)). Answers like.request like.settings texts same code)
+      (sym (one_list p.texts q.texts p.accepted q.accepted)) (asked_so like q.texts same code q.answered)))
+
+  -- a call that reads the input has no answer by its files alone
+  pub live_call : {A : Type 0} {K : SessionData → Show → Type 0} (c : Call) → c.request ≡ call.request
+      → OnLive c holds K → (d : Call) → d.request ≡ call.request → (lines : List (List ℕ)) (status : ℕ)
+      → IsOutput d holds lines status → A
+  unfolding Answers
+  live_call c e p d f lines status q = absurd (none
+      (subst (λ (asked : Asked). Answers asked d.settings q.texts lines status)
+      (f ∙ sym e ∙ ap (λ (k : Call). k.request) p.is) (asked_so d q.texts lines status q.answered)))
+    where
+      none : Answers (Live p.map p.tables) d.settings q.texts lines status → ⊥
+      none h = h
+
+  both_same : AreAlike holds (files_of call) (files_of like) → Same → HeardSame → (one other : Outcome)
+      → CallComes call holds script one → CallComes like holds script other → one ≡ other
+  unfolding HeardSame
+  both_same files same heard _ _ (refused a p) (refused b q) =
+      ap (λ (line : List ℕ). record { status = 3; out = []; line = line })
+      (one_line holds (files_of call) a b told p (files.refused b q))
+  both_same files same heard _ _ (refused a p) (finished lines status q) =
+      absurd (not_both holds (files_of call) q.texts a told (files.accepted q.texts q.accepted) p)
+  both_same files same heard _ _ (refused a p) (replied lines q) =
+      absurd (not_both holds (files_of call) (q.text ∷ q.behind) a told
+      (files.accepted (q.text ∷ q.behind) q.accepted) p)
+  both_same files same heard _ _ (refused a p) (broken lines line q) =
+      absurd (not_both holds (files_of call) (q.text ∷ q.behind) a told
+      (files.accepted (q.text ∷ q.behind) q.accepted) p)
+  both_same files same heard _ _ (finished lines status p) (refused b q) =
+      absurd (not_both holds (files_of call) p.texts b told p.accepted (files.refused b q))
+  both_same files same heard _ _ (finished lines status p) (finished others code q) =
+      let e = both_finished same lines others status code p q in
+      ap (λ (n : ℕ). record { status = n; out = lines; line = [] }) e.1
+      ∙ ap (λ (ls : List (List ℕ)). record { status = code; out = ls; line = [] }) e.0
+  both_same files same heard _ _ (finished lines status p) (replied others q) =
+      live_call like (sym alike.request) q call refl lines status p
+  both_same files same heard _ _ (finished lines status p) (broken others line q) =
+      live_call like (sym alike.request) q call refl lines status p
+  both_same files same heard _ _ (replied lines p) (refused b q) =
+      absurd (not_both holds (files_of call) (p.text ∷ p.behind) b told p.accepted (files.refused b q))
+  both_same files same heard _ _ (replied lines p) (finished others code q) =
+      live_call call refl p like (sym alike.request) others code q
+  both_same files same heard _ _ (replied lines p) (replied others q) =
+      ap (λ (ls : List (List ℕ)). record { status = 0; out = ls; line = [] }) (heard None None lines others p q).1
+  both_same files same heard _ _ (replied lines p) (broken others line q) =
+      absurd (let e : None ≡ Some line = (heard None (Some line) lines others p q).0 in cc)
+  both_same files same heard _ _ (broken lines line p) (refused b q) =
+      absurd (not_both holds (files_of call) (p.text ∷ p.behind) b told p.accepted (files.refused b q))
+  both_same files same heard _ _ (broken lines line p) (finished others code q) =
+      live_call call refl p like (sym alike.request) others code q
+  both_same files same heard _ _ (broken lines line p) (replied others q) =
+      absurd (let e : Some line ≡ None = (heard (Some line) None lines others p q).0 in cc)
+  both_same files same heard _ _ (broken lines line p) (broken others also q) =
+      let e = heard (Some line) (Some also) lines others p q in
+      ap (λ (o : Option (List ℕ)). record { status = 3; out = lines; line = line_or o }) e.0
+      ∙ ap (λ (ls : List (List ℕ)). record { status = 3; out = ls; line = also }) e.1
+    where
+      line_or : Option (List ℕ) → List ℕ
+      line_or None = []
+      line_or (Some text) = text
+
+  -- where engines come to answers in one way
+  module _ (way : way_of (by_of call.settings.pick) ≡ way_of (by_of like.settings.pick)) where
+    one_way : Same
+    unfolding Same
+    one_way texts lines same status code p q =
+        one_answer call.settings like.settings alike.rule call.request texts lines same status code alike.show way p q
+
+    heard_one_way : HeardSame
+    unfolding HeardSame
+    heard_one_way refusal also lines same p q =
+        one_heard p.session q.session p.settings.show script refusal also lines same
+        (session_layers p.settings q.settings rule shown ways p.text p.read p.spelled p.session p.answers)
+        (sessions_alike p.settings q.settings rule shown ways p.read q.read one_map p.session q.session p.answers
+        q.answers) p.known
+        (subst (λ (show : Show). AnswerHeard q.session show (Some script) also same) (sym shown) q.known)
+      where
+        rule : p.settings.one ≡ q.settings.one
+        rule = ap (λ (c : Call). c.settings.one) (sym p.is) ∙ alike.rule ∙ ap (λ (c : Call). c.settings.one) q.is
+
+        shown : p.settings.show ≡ q.settings.show
+        shown = ap (λ (c : Call). c.settings.show) (sym p.is) ∙ alike.show ∙ ap (λ (c : Call). c.settings.show) q.is
+
+        ways : way_of (by_of p.settings.pick) ≡ way_of (by_of q.settings.pick)
+        ways = ap (λ (c : Call). way_of (by_of c.settings.pick)) (sym p.is) ∙ way
+            ∙ ap (λ (c : Call). way_of (by_of c.settings.pick)) q.is
+
+        one_map : p.read ≡ q.read
+        one_map = ok_same p.read q.read (map_of p.text) p.spelled
+            (ap map_of (same_first p.text q.text p.behind q.behind
+            (one_list (p.text ∷ p.behind) (q.text ∷ q.behind) p.accepted q.accepted)) ∙ q.spelled)
+
+    files_one_way : files_of call ≡ files_of like
+    files_one_way =
+        same_files call.settings like.settings alike.rule (same_small call.settings.pick like.settings.pick way)
+        call.request ∙ ap (λ (asked : Asked). files_of (call_with asked like.settings)) alike.request
+
+    one_outcome : (one other : Outcome) → CallComes call holds script one → CallComes like holds script other
+        → one ≡ other
+    one_outcome = both_same (same_alike holds (files_of call) (files_of like) files_one_way) one_way heard_one_way
+
+  -- where costs alone are asked for
+  module _ (costs : AsksForCosts call.request call.settings.show) where
+    one_cost : Same
+    unfolding Same
+    one_cost texts lines same status code p q =
+        one_cost_answer call.settings like.settings alike.rule call.request texts lines same status code alike.show
+        costs p q
+
+    not_live : {A : Type 0} {K : SessionData → Show → Type 0} (c : Call) → c.request ≡ call.request
+        → OnLive c holds K → A
+    not_live c e p = absurd (none (subst (λ (asked : Asked). AsksForCosts asked call.settings.show)
+        (sym e ∙ ap (λ (k : Call). k.request) p.is) costs))
+      where
+        none : AsksForCosts (Live p.map p.tables) call.settings.show → ⊥
+        none h = h
+
+    heard_none : HeardSame
+    unfolding HeardSame
+    heard_none refusal also lines same p q = not_live call refl p
+
+    one_cost_outcome : (one other : Outcome)
+        → (is_for_small_maps call.settings.pick ≡ is_for_small_maps like.settings.pick)
+        ⊎ ((one.status ≢ 3) × (other.status ≢ 3)) ⊎ HasSmallMap holds call.request
+        → CallComes call holds script one → CallComes like holds script other → one ≡ other
+    one_cost_outcome one other (inl small) p q =
+        both_same (same_alike holds (files_of call) (files_of like) (same_files call.settings like.settings alike.rule
+        small call.request ∙ ap (λ (asked : Asked). files_of (call_with asked like.settings)) alike.request)) one_cost
+        heard_none one other p q
+    one_cost_outcome one other (inr (inr small)) p q =
+        both_same (subst (λ (asked : Asked). AreAlike holds (files_of call) (files_of (call_with asked like.settings)))
+        alike.request (small_alike holds call.settings like.settings alike.rule call.request told small)) one_cost
+        heard_none one other p q
+    one_cost_outcome one other (inr (inl few)) p q = by_ends one other few p q
+      where
+        by_ends : (one other : Outcome) → (one.status ≢ 3) × (other.status ≢ 3) → CallComes call holds script one
+            → CallComes like holds script other → one ≡ other
+        by_ends _ _ few (refused a p) q = absurd (few.0 refl)
+        by_ends _ _ few (broken lines line p) q = absurd (few.0 refl)
+        by_ends _ _ few (replied lines p) q = not_live call refl p
+        by_ends _ _ few (finished lines status p) (refused b q) = absurd (few.1 refl)
+        by_ends _ _ few (finished lines status p) (broken others line q) = absurd (few.1 refl)
+        by_ends _ _ few (finished lines status p) (replied others q) = not_live like (sym alike.request) q
+        by_ends _ _ few (finished lines status p) (finished others code q) =
+            let e = both_finished one_cost lines others status code p q in
+            ap (λ (n : ℕ). record { status = n; out = lines; line = [] }) e.1
+            ∙ ap (λ (ls : List (List ℕ)). record { status = code; out = ls; line = [] }) e.0
+
+-- the words are refused, and this comes of it
+record IsBadIn (words : List (List ℕ)) (outcome : Outcome) : Type 0 where
+  number : ℕ
+  bad : IsBadWord is_call words number
+  is : outcome ≡ record { status = 2; out = []; line = word_line number }
+
+-- two outcomes of the same words
+words_or_call : (words : List (List ℕ)) (holds : List ℕ → Held) (script : List ℕ) (one : Outcome)
+    → IsOutcome words holds (Some script) one → IsBadIn words one ⊎ ((call : Call) × Spell words call)
+words_or_call words holds script _ (bad_word number bad) =
+    inl (record { number = number; bad = bad; is = refl })
+words_or_call words holds script _ (bad_text call line spelled is) = inr (call, spelled)
+words_or_call words holds script _ (done call lines status spelled is) = inr (call, spelled)
+words_or_call words holds script _ (answered call lines spelled is) = inr (call, spelled)
+words_or_call words holds script _ (bad_line call lines line spelled is) = inr (call, spelled)
+
+module _ (words : List (List ℕ)) (holds : List ℕ → Held) (script : List ℕ) (one other : Outcome)
+    (told : FilesAreTold words holds) (p : IsOutcome words holds (Some script) one)
+    (q : IsOutcome words holds (Some script) other) where
+  spelled_one : (call : Call) → Spell words call → one ≡ other
+  spelled_one call spelled =
+      one_outcome holds script call call (record { request = refl; show = refl; rule = refl }) (told call spelled) refl
+      one other (call_comes words holds script call one spelled p)
+      (call_comes words holds script call other spelled q)
+
+  by_words : IsBadIn words one ⊎ ((call : Call) × Spell words call)
+      → IsBadIn words other ⊎ ((call : Call) × Spell words call) → one ≡ other
+  by_words (inr (call, spelled)) _ = spelled_one call spelled
+  by_words (inl _) (inr (call, spelled)) = spelled_one call spelled
+  by_words (inl a) (inl b) =
+      a.is ∙ ap (λ (n : ℕ). record { status = 2; out = []; line = word_line n })
+      (one_bad_word is_call words a.number b.number a.bad b.bad) ∙ sym b.is
+
+pub outcomes_one : (words : List (List ℕ)) (holds : List ℕ → Held) (script : List ℕ) (one other : Outcome)
+    → FilesAreTold words holds → IsOutcome words holds (Some script) one → IsOutcome words holds (Some script) other
+    → one ≡ other
+outcomes_one words holds script one other told p q =
+    by_words words holds script one other told p q (words_or_call words holds script one p)
+    (words_or_call words holds script other q)
+
+pub jumps_same : (words others : List (List ℕ)) (call like : Call) (holds : List ℕ → Held) (script : List ℕ)
+    (one other : Outcome) → AreTold holds (files_of call) → Spell words call → Spell others like
+    → DifferInEngine call like → is_jump call.settings.pick ≡ true → is_jump like.settings.pick ≡ true
+    → IsOutcome words holds (Some script) one → IsOutcome others holds (Some script) other → one ≡ other
+jumps_same words others call like holds script one other told spelled also alike jump jumps p q =
+    one_outcome holds script call like alike told
+    (jump_way call.settings.pick jump ∙ sym (jump_way like.settings.pick jumps)) one other
+    (call_comes words holds script call one spelled p) (call_comes others holds script like other also q)
+
+pub costs_same : (words others : List (List ℕ)) (call like : Call) (holds : List ℕ → Held) (script : List ℕ)
+    (one other : Outcome) → AreTold holds (files_of call) → Spell words call → Spell others like
+    → DifferInEngine call like → AsksForCosts call.request call.settings.show
+    → (is_for_small_maps call.settings.pick ≡ is_for_small_maps like.settings.pick)
+    ⊎ ((one.status ≢ 3) × (other.status ≢ 3)) ⊎ HasSmallMap holds call.request
+    → IsOutcome words holds (Some script) one → IsOutcome others holds (Some script) other → one ≡ other
+costs_same words others call like holds script one other told spelled also alike costs maps p q =
+    one_cost_outcome holds script call like alike told costs one other maps
+    (call_comes words holds script call one spelled p) (call_comes others holds script like other also q)

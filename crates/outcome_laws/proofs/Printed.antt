@@ -1,0 +1,97 @@
+-- What is printed is one.
+use Rattle.std.proofs.Common.{◌≡◌, List, ℕ, arith}
+use Rattle.std.specs.Prelude.{Option, Some}
+use Rattle.grid_moves.specs.declared.Cell.{Cell}
+use Rattle.grid_moves.specs.Grid.{AreSides}
+use Rattle.grid_moves.specs.Layers.{AreLayers}
+use Rattle.map_text.specs.Map.{Map}
+use Rattle.map_maker.specs.Drill.{drill_commands}
+use Rattle.map_maker.specs.Making.{made_map}
+use Rattle.edit_replay.specs.Session.{SessionData}
+use Rattle.script_text.specs.declared.command.Command.{Command}
+use Rattle.scen_text.specs.declared.entry.Entry.{Entry}
+use Rattle.word_list.specs.declared.request.Settings.{Settings}
+use Rattle.word_list.specs.declared.request.Show.{Show}
+use Rattle.call_files.specs.Layered.{layers_on}
+use Rattle.answerers.specs.Session.{OnSession}
+use Rattle.answerers.specs.Who.{Who, who_is}
+use Rattle.session_lines.specs.Answers.{AreAnswers, IsReplyLine}
+use Rattle.session_lines.specs.Drill.{AreDrilled, AreFindings}
+use Rattle.session_lines.specs.Pictures.{IsDrawing}
+use Rattle.session_lines.specs.declared.drill.Finding.{Finding}
+use Rattle.live_lines.specs.Heard.{AnswerHeard, AnswerTaken}
+use Rattle.scenario_rows.specs.Rows.{AreRows}
+use Rattle.scenario_rows.specs.declared.row.Row.{Row}
+use Rattle.outcome_laws.proofs.Kept.{are_layers-seed}
+use Rattle.outcome_laws.specs.Alike.{AnswerAlike, BeginWith}
+use Rattle.outcome_laws.specs.Forgetting.{DifferInTaken}
+use Rattle.outcome_laws.proofs.Forgetting.{differ_in_taken}
+use Rattle.outcome_laws.proofs.Heard.{heard_same}
+use Rattle.outcome_laws.proofs.Lines.{answers_same, drawing_same, findings_same, reply_line_same}
+use Rattle.outcome_laws.proofs.Rows.{rows_alike, rows_same}
+use Rattle.outcome_laws.proofs.Same.{find_same, reply_same}
+use Rattle.outcome_laws.proofs.Taken.{taken_begins}
+use Rattle.outcome_laws.proofs.Sessions.{session_layers, sessions_layers}
+
+pub one_reply_line : (who other : Who) (show : Show) (s t : Cell) (line same : List ℕ)
+    → AreLayers who.layers → AnswerAlike who other
+    → IsReplyLine who show s t line → IsReplyLine other show s t same → line ≡ same
+one_reply_line who other show s t line same are alike =
+    reply_line_same who other alike.layers (reply_same who other are alike) show s t line same
+
+pub one_answers : (d e : SessionData) (show : Show) (commands : List Command) (lines same : List (List ℕ))
+    → AreLayers d.layers → AnswerAlike (who_is d) (who_is e)
+    → AreAnswers d show commands lines → AreAnswers e show commands same → lines ≡ same
+one_answers = answers_same
+
+pub one_drawing : (d e : SessionData) (m : Map) (s t : Cell) (show : Show) (text same : List ℕ) (status also : ℕ)
+    → AreLayers d.layers → AnswerAlike (who_is d) (who_is e)
+    → IsDrawing d m s t show text status → IsDrawing e m s t show same also → (text ≡ same) × (status ≡ also)
+one_drawing d e m s t show text same status also are alike =
+    drawing_same d e (reply_same (who_is d) (who_is e) are alike) m s t show text same status also
+
+pub one_heard : (d e : SessionData) (show : Show) (script : List ℕ) (refusal also : Option (List ℕ))
+    (lines same : List (List ℕ)) → AreLayers d.layers → AnswerAlike (who_is d) (who_is e)
+    → AnswerHeard d show (Some script) refusal lines → AnswerHeard e show (Some script) also same
+    → (refusal ≡ also) × (lines ≡ same)
+one_heard = heard_same
+
+pub one_start : (d e : SessionData) (show : Show) (script : List ℕ) (left refusal : Option (List ℕ))
+    (lines all : List (List ℕ)) → AreLayers d.layers → AnswerAlike (who_is d) (who_is e)
+    → AnswerTaken d show (Some script) left lines → AnswerHeard e show (Some script) refusal all
+    → BeginWith all lines
+one_start = taken_begins
+
+pub one_rows : (who other : Who) (entries : List Entry) (rows same : List Row)
+    → AreLayers who.layers → AnswerAlike who other
+    → AreRows who entries rows → AreRows other entries same → rows ≡ same
+one_rows who other entries rows same are alike =
+    rows_same who other alike.layers (reply_same who other are alike) entries rows same
+
+pub one_findings : (d e : SessionData) (commands : List Command) (found same : List Finding)
+    → AreLayers d.layers → d.layers ≡ e.layers
+    → AreFindings d commands found → AreFindings e commands same → found ≡ same
+one_findings = findings_same
+
+-- on one map, whatever engines two settings pick
+found_on_map : (set other : Settings) (m : Map) (commands : List Command) (found same : List Finding)
+    → set.one ≡ other.one → AreLayers (layers_on set m) → OnSession set m (λ d. AreFindings d commands found)
+    → OnSession other m (λ d. AreFindings d commands same) → found ≡ same
+found_on_map set other m commands found same rule are p q =
+    findings_same p.session q.session commands found same (session_layers set m p.session are p.is)
+    (sessions_layers set other m rule p.session q.session p.is q.is) p.known q.known
+
+sides_of_drill : AreSides 256 256
+sides_of_drill = record { wide = omega arith; narrow = omega arith; high = omega arith; low = omega arith }
+
+pub one_drill : (set other : Settings) (seed : ℕ) (found same : List Finding) → set.one ≡ other.one
+    → AreDrilled set seed found → AreDrilled other seed same → found ≡ same
+one_drill set other seed found same rule =
+    found_on_map set other (made_map seed 256 256 25) (drill_commands seed) found same rule
+    (are_layers-seed set seed 256 256 25 sides_of_drill)
+
+pub alike_rows : (who other : Who) (entries : List Entry) (rows others : List Row)
+    → AreLayers who.layers → who.layers ≡ other.layers
+    → AreRows who entries rows → AreRows other entries others → DifferInTaken rows others
+alike_rows who other entries rows others are layers p q =
+    differ_in_taken rows others (rows_alike who other layers (find_same who other are layers) entries rows others p q)

@@ -1,0 +1,83 @@
+-- Rows of two who answer.
+use Rattle.std.proofs.Common.{◌≡◌, refl, sym, ap, ◌∙◌, List, map, Bool, true, false}
+use Rattle.root2_cost.specs.declared.lengths.Decimal.{Decimal}
+use Rattle.root2_cost.specs.Verdict.{verdict_of}
+use Rattle.grid_moves.specs.Layers.{Layers}
+use Rattle.edit_replay.specs.declared.reply.Reply.{Reply}
+use Rattle.edit_replay.specs.declared.reply.Reply.TheVariants as reply
+use Rattle.scen_text.specs.declared.entry.Entry.{Entry}
+use Rattle.answerers.specs.Who.{Who}
+use Rattle.session_lines.specs.Drill.{finding_of}
+use Rattle.session_lines.specs.declared.drill.Finding.{Finding}
+use Rattle.session_lines.specs.declared.drill.Finding.TheVariants as finding
+use Rattle.scenario_rows.specs.Rows.{AreRows, IsRow, scale, replied, has_sides, row_of}
+use Rattle.scenario_rows.specs.declared.row.Row.{Row}
+use Rattle.scenario_rows.specs.declared.row.Row.TheVariants as row
+use Rattle.outcome_laws.specs.Forgetting.{without_taken}
+use Rattle.outcome_laws.proofs.Same.{FindTheSame, ReplyTheSame}
+use Rattle.outcome_laws.proofs.Turns.{turns-alike, turns-same}
+
+-- the row without its count, by what the reply comes to
+row_found : Decimal → Finding → Row
+row_found listed (finding.Walk cost) = row.Judged (verdict_of listed cost) cost 0
+row_found listed finding.None = row.None 0
+row_found listed finding.Outside = row.Outside
+row_found listed finding.Blocked = row.Blocked
+row_found listed finding.Done = row.Scale
+row_found listed finding.Same = row.Scale
+
+row-found : (listed : Decimal) (r : Reply) → without_taken (row_of listed r) ≡ row_found listed (finding_of r)
+unfolding row_found
+row-found listed reply.Outside = refl
+row-found listed reply.Blocked = refl
+row-found listed (reply.None taken) = refl
+row-found listed (reply.Walk points cost taken) = refl
+
+not_both : {A : Type 0} (a b : Bool) → a ≡ b → a ≡ true → b ≡ false → A
+not_both a b same e f = let h : true ≡ false = sym e ∙ same ∙ f in absurd (cc)
+
+module _ (who other : Who) (layers : who.layers ≡ other.layers) where
+  -- an entry is meant for both maps or for neither
+  sided : {A : Type 0} (entry : Entry) → has_sides who.layers entry ≡ true
+      → has_sides other.layers entry ≡ false → A
+  sided entry = not_both (has_sides who.layers entry) (has_sides other.layers entry)
+      (ap (λ (ls : Layers). has_sides ls entry) layers)
+
+  unsided : {A : Type 0} (entry : Entry) → has_sides who.layers entry ≡ false
+      → has_sides other.layers entry ≡ true → A
+  unsided entry e f = not_both (has_sides other.layers entry) (has_sides who.layers entry)
+      (ap (λ (ls : Layers). has_sides ls entry) (sym layers)) f e
+
+  row_same : ReplyTheSame who other → (entry : Entry) (a b : Row) → IsRow who entry a → IsRow other entry b
+      → a ≡ b
+  row_same one entry a b (scale n e) (scale m f) = e ∙ sym f
+  row_same one entry a b (scale n e) (replied r m is f) = unsided entry n m
+  row_same one entry a b (replied r n is e) (scale m f) = sided entry n m
+  row_same one entry a b (replied r n is e) (replied q m also f) =
+      e ∙ ap (λ (r : Reply). row_of entry.length r)
+      (one (record { x = entry.sx; y = entry.sy }) (record { x = entry.gx; y = entry.gy }) r q is also)
+      ∙ sym f
+
+  row_alike : FindTheSame who other → (entry : Entry) (a b : Row) → IsRow who entry a → IsRow other entry b
+      → without_taken a ≡ without_taken b
+  row_alike one entry a b (scale n e) (scale m f) = ap (λ (r : Row). without_taken r) (e ∙ sym f)
+  row_alike one entry a b (scale n e) (replied r m is f) = unsided entry n m
+  row_alike one entry a b (replied r n is e) (scale m f) = sided entry n m
+  row_alike one entry a b (replied r n is e) (replied q m also f) =
+      ap (λ (r : Row). without_taken r) e ∙ row-found entry.length r
+      ∙ ap (λ (found : Finding). row_found entry.length found)
+      (one (record { x = entry.sx; y = entry.sy }) (record { x = entry.gx; y = entry.gy }) r q is also)
+      ∙ sym (row-found entry.length q) ∙ ap (λ (r : Row). without_taken r) (sym f)
+
+  pub rows_same : ReplyTheSame who other → (entries : List Entry) (rows same : List Row)
+      → AreRows who entries rows → AreRows other entries same → rows ≡ same
+  rows_same one entries rows same =
+      turns-same {S = Unit {0}} (λ _ entry r. IsRow who entry r) (λ _ entry r. IsRow other entry r) (λ s _. s)
+      (λ _ entry a b. row_same one entry a b) tt entries rows same
+
+  pub rows_alike : FindTheSame who other → (entries : List Entry) (rows others : List Row)
+      → AreRows who entries rows → AreRows other entries others
+      → map without_taken rows ≡ map without_taken others
+  rows_alike one entries rows others =
+      turns-alike {S = Unit {0}} (λ _ entry r. IsRow who entry r) (λ _ entry r. IsRow other entry r) (λ s _. s)
+      without_taken (λ _ entry a b. row_alike one entry a b) tt entries rows others

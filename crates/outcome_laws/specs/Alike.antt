@@ -1,0 +1,29 @@
+-- Who answers alike.
+use Rattle.std.specs.Prelude.{◌≡◌, refl, ℕ, List, ◌++◌}
+use Rattle.edit_replay.specs.declared.engine.Engine.TheVariants as engine
+use Rattle.answerers.specs.Who.{By, Who, by_session, by_boxes, by_moves}
+
+-- the way in which replies are come to, where all engines that jump have one
+abbrev pub way_of : By → By
+way_of (by_session engine.Plain) = by_session engine.Plain
+way_of (by_session engine.Jps) = by_session engine.Jps
+way_of (by_session engine.Block) = by_session engine.Jps
+way_of (by_session engine.Plus) = by_session engine.Jps
+way_of by_boxes = by_boxes
+way_of by_moves = by_moves
+
+-- two answer on the same grids, and in one way
+pub record AnswerAlike (who other : Who) : Type 0 where
+  pub layers : who.layers ≡ other.layers
+  pub way : way_of who.by ≡ way_of other.by
+
+-- all these lines begin with the first ones
+abbrev pub BeginWith : List (List ℕ) → List (List ℕ) → Type 0
+BeginWith all first = (more : List (List ℕ)) × (all ≡ first ++ more)
+
+-- the engines that jump answer alike
+pub jps_like_plus : way_of (by_session engine.Jps) ≡ way_of (by_session engine.Plus)
+jps_like_plus = refl
+
+pub block_like_plus : way_of (by_session engine.Block) ≡ way_of (by_session engine.Plus)
+block_like_plus = refl

@@ -1,0 +1,12 @@
+pub mod Oneness
+pub mod Costs
+pub mod Layers
+pub mod Words
+pub mod Files
+pub mod Texts
+pub mod Certificates
+pub mod Rulings
+pub mod Alike
+pub mod Forgetting
+pub mod Lines
+pub mod Outcomes

@@ -1,0 +1,95 @@
+-- That the outcome of a call is the only one, which engines print the same, and what is written where a call stops.
+use Rattle.std.specs.Prelude.{◌≡◌, ◌≢◌, ⊤, ◌⊎◌, ℕ, Bool, true, false, List, take, Ok, Some}
+use Rattle.std.specs.List.{concat}
+use Rattle.io_edge.specs.Told.{Disk, Held, Inflow, Outflow, holding}
+use Rattle.io_edge.specs.Whole.{AppendsSome}
+use Rattle.map_text.specs.Map.{Map}
+use Rattle.map_text.specs.Faults.{map_of}
+use Rattle.word_list.specs.Request.{Asked, Call, Scen, Drill}
+use Rattle.word_list.specs.Settings.{is_for_small_maps}
+use Rattle.word_list.specs.declared.request.Pick.{Pick}
+use Rattle.word_list.specs.declared.request.Pick.TheVariants as pick
+use Rattle.word_list.specs.declared.request.Show.{Show}
+use Rattle.word_list.specs.declared.request.Show.TheVariants as show
+use Rattle.line_work.specs.Sending.{Wrote}
+use Rattle.call_files.specs.Kinds.{takes}
+use Rattle.call_files.specs.declared.kind.Extent.TheVariants.{Small}
+use Rattle.outcome_laws.specs.Files.{AreTold}
+use Rattle.jps_run.specs.Calls.{files_of}
+use Rattle.jps_run.specs.Ending.{HasFailed, HasLines, HasPart}
+use Rattle.jps_run.specs.Outcome.{IsOutcome, Outcome, Spell}
+
+-- of each file that the words name it is told what stands under its name
+abbrev pub FilesAreTold : List (List ℕ) → (List ℕ → Held) → Type 0
+FilesAreTold words holds = (call : Call) → Spell words call → AreTold holds (files_of call)
+
+-- Where the files and the input are told, words come to at most one outcome: one status, one output and one line.
+abbrev pub OutcomesAreOne : Type 0
+OutcomesAreOne = (words : List (List ℕ)) (holds : List ℕ → Held) (script : List ℕ) (one other : Outcome)
+    → FilesAreTold words holds → IsOutcome words holds (Some script) one → IsOutcome words holds (Some script) other
+    → one ≡ other
+
+-- the engines that jump
+abbrev pub is_jump : Pick → Bool
+is_jump pick.Plain = false
+is_jump pick.Jps = true
+is_jump pick.Block = true
+is_jump pick.Plus = true
+is_jump pick.Boxes = false
+is_jump pick.Moves = false
+
+-- two calls ask for the same, but that each may pick an engine of its own
+pub record DifferInEngine (call other : Call) : Type 0 where
+  pub request : call.request ≡ other.request
+  pub show : call.settings.show ≡ other.settings.show
+  pub rule : call.settings.one ≡ other.settings.one
+
+-- Calls that differ in which of the engines `jps`, `block` and `plus` they pick come to the same outcome.
+abbrev pub JumpEnginesPrintTheSame : Type 0
+JumpEnginesPrintTheSame = (words others : List (List ℕ)) (call like : Call) (holds : List ℕ → Held)
+    (script : List ℕ) (one other : Outcome) → AreTold holds (files_of call)
+    → Spell words call → Spell others like → DifferInEngine call like
+    → is_jump call.settings.pick ≡ true → is_jump like.settings.pick ≡ true
+    → IsOutcome words holds (Some script) one → IsOutcome others holds (Some script) other → one ≡ other
+
+-- a scenario is judged without its counts of taken states, or a drill is asked for
+abbrev pub AsksForCosts : Asked → Show → Type 0
+AsksForCosts (Scen map tables scen) shown = shown ≢ show.Taken
+AsksForCosts (Drill seed) shown = ⊤
+AsksForCosts other shown = ⊥
+
+-- the text that is held is that of a small map, or of none
+abbrev pub HoldsSmallMap : Held → Type 0
+HoldsSmallMap held = (text : List ℕ) (m : Map) → held ≡ holding text → map_of text ≡ Ok m → takes Small m ≡ true
+
+-- so is the text under the name of the map, by a call of `scen`
+abbrev pub HasSmallMap : (List ℕ → Held) → Asked → Type 0
+HasSmallMap holds (Scen map tables scen) = HoldsSmallMap (holds map)
+HasSmallMap holds other = ⊥
+
+-- Of calls that ask for costs alone this is so for all engines, where these take the same maps, or neither call is
+-- refused, or the text for the map is that of a small one, or of none.
+abbrev pub EnginesPrintTheSameCosts : Type 0
+EnginesPrintTheSameCosts = (words others : List (List ℕ)) (call like : Call) (holds : List ℕ → Held)
+    (script : List ℕ) (one other : Outcome) → AreTold holds (files_of call)
+    → Spell words call → Spell others like → DifferInEngine call like
+    → AsksForCosts call.request call.settings.show
+    → (is_for_small_maps call.settings.pick ≡ is_for_small_maps like.settings.pick)
+    ⊎ ((one.status ≢ 3) × (other.status ≢ 3)) ⊎ HasSmallMap holds call.request
+    → IsOutcome words holds (Some script) one → IsOutcome others holds (Some script) other → one ≡ other
+
+-- the first ones of these lines were written, each whole
+abbrev pub WroteLinesOf : List (List ℕ) → Outflow → Outflow → Type 0
+WroteLinesOf lines before now = (count : ℕ) × Wrote before now (concat (take count lines))
+
+-- Where a call stops with no outcome, what it wrote is a first part of the output that its words come to: of its bytes
+-- where a write failed; of its lines, each whole, where a read failed or for want of memory.
+abbrev pub WrittenBeginsTheOutput : Type 0
+WrittenBeginsTheOutput = (words : List (List ℕ)) (disk disk_now : Disk) (input input_now : Inflow)
+    (out out_now : Outflow) (script : List ℕ) (outcome : Outcome) → FilesAreTold words disk.holds
+    → input.left ≡ Some script → IsOutcome words disk.holds (Some script) outcome
+    → (HasPart words disk.holds input input_now out out_now
+    → AppendsSome out.written out_now.written (concat outcome.out))
+    × (HasFailed words disk disk_now input input_now out out_now
+    ⊎ HasLines words disk.holds input input_now out out_now
+    → AppendsSome out.written out_now.written (concat outcome.out) × WroteLinesOf outcome.out out out_now)

@@ -1,0 +1,15 @@
+//! Laws of whole calls: a call comes to at most one outcome, and which engine it picks changes nothing but what engines
+//! count. Below them the laws of replies, of what is read and printed, and of lines.
+//!
+//! This crate has no code that runs: its specs have the statements, and each law is the contract of a call that does
+//! nothing. The program doesn't use it.
+#![tactic(auto)]
+
+pub mod of_answers;
+pub mod of_lines;
+pub mod of_outcomes;
+pub mod of_replies;
+
+pub use of_outcomes::{
+    engines_print_the_same_costs, jump_engines_print_the_same, outcomes_are_one, written_begins_the_output,
+};

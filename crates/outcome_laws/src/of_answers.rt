@@ -1,0 +1,77 @@
+//! Laws of words, files and printed texts: each is the contract of a call that does nothing.
+
+ghost use Rattle.outcome_laws.specs.Certificates.{CertificatesAreOne, ProofsAreOne, RefusalsAreOne, VerdictsAreOne};
+ghost use Rattle.outcome_laws.specs.Files.{AcceptedTextsAreOne, RefusedLinesAreOne, AcceptedOrRefused};
+ghost use Rattle.outcome_laws.specs.Rulings.{JudgementsAreOne, RulingsAreOne};
+ghost use Rattle.outcome_laws.specs.Texts.{BoxTextsAreOne, CostsAreOne, RunTextsAreOne};
+ghost use Rattle.outcome_laws.specs.Words.{BadWordsAreOne, CallsHaveNone};
+
+/// Of refused words at most one is named.
+pub fn bad_words_are_one()
+    ensures { BadWordsAreOne }
+{}
+
+/// Words that spell a call have no bad word.
+pub fn calls_have_none()
+    ensures { CallsHaveNone }
+{}
+
+/// Files that are told hold at most one list of texts that are accepted in turn.
+pub fn accepted_texts_are_one()
+    ensures { AcceptedTextsAreOne }
+{}
+
+/// Files that are told come to at most one line of the first refused one.
+pub fn refused_lines_are_one()
+    ensures { RefusedLinesAreOne }
+{}
+
+/// Files that are told do not hold accepted texts alone and a refused one.
+pub fn accepted_or_refused()
+    ensures { AcceptedOrRefused }
+{}
+
+/// The lines of least costs from a cell are one.
+pub fn costs_are_one()
+    ensures { CostsAreOne }
+{}
+
+/// The text of a cell's boxes is one.
+pub fn box_texts_are_one()
+    ensures { BoxTextsAreOne }
+{}
+
+/// The text of the first moves from a cell is one.
+pub fn run_texts_are_one()
+    ensures { RunTextsAreOne }
+{}
+
+/// The certificate of a query on a grid is one text.
+pub fn certificates_are_one()
+    ensures { CertificatesAreOne }
+{}
+
+/// What is printed for a query that asks for a certificate is one, with one status.
+pub fn proofs_are_one()
+    ensures { ProofsAreOne }
+{}
+
+/// Certificates of one text are refused by one clause.
+pub fn refusals_are_one()
+    ensures { RefusalsAreOne }
+{}
+
+/// The verdict on certificates of one text is at most one line with one status: accepted or refused, not both.
+pub fn verdicts_are_one()
+    ensures { VerdictsAreOne }
+{}
+
+/// What is told of the walks between two cells has one judgement.
+pub fn judgements_are_one()
+    ensures { JudgementsAreOne }
+{}
+
+/// The entries of a scenario, with what is told of each, have at most one list of rows.
+pub fn rulings_are_one()
+    ensures { RulingsAreOne }
+{}

@@ -1,3 +1,0 @@
-pub mod Oneness
-pub mod Costs
-pub mod Layers

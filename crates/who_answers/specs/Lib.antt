@@ -1,3 +1,0 @@
-pub mod Who
-pub mod Session
-pub mod Rising
