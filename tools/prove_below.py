@@ -4,9 +4,11 @@
     tools/prove_below.py TOP PROGRAM LOG LANES
 
 rt takes the folders of a crate and of all crates below it for itself, and proves with one processor each where it
-proves several. So each crate is proved in a tree of links to what it needs, with as many jobs as processors are free,
-the crates with the longest chain of others behind them first. What rt keeps of it (`out`) is then put beside the
-crate's sources. What stands there already is looked at again by rt, which takes a few seconds a crate.
+proves several. So each crate is proved in a tree of links to what it needs. What rt keeps of it (`out`) is then put
+beside the crate's sources. What stands there already is looked at again by rt, which takes a few seconds a crate.
+
+The crate with the longest chain of others behind it comes first: it waits for no lane, gives way to none, and gets the
+processors that are free. All others get one each, since several jobs of one check take half as much time again.
 """
 import os
 import shutil
@@ -17,6 +19,12 @@ import time
 
 # A check gains little by more jobs than this.
 MOST_JOBS = 4
+
+# What a check takes whatever stands in the crate, in lines whose check takes as long.
+LINES_OF_ANY = 1500
+
+# The priorities of the check with the longest chain behind it, and of the others.
+FIRST_NICE, OTHER_NICE = 0, 10
 
 
 def read_crates(top):
@@ -66,7 +74,7 @@ class Build:
         self.names = all_below(self.uses, program)
         self.trees = f"{top}/crates/{program}/out/trees"
         self.chain = self.chains()
-        self.waiting, self.running, self.done = list(self.names), {}, set()
+        self.waiting, self.running, self.done = list(self.names), set(), set()
         self.failed = None
         self.changed = threading.Condition()
 
@@ -74,12 +82,12 @@ class Build:
         """For each crate the lines of the longest chain that begins with it."""
         chain = {name: 0 for name in self.names}
         for name in reversed(self.names):
-            chain[name] += lines_of(f"{self.top}/crates/{name}")
+            chain[name] += LINES_OF_ANY + lines_of(f"{self.top}/crates/{name}")
             for dep in self.uses[name]:
                 chain[dep] = max(chain[dep], chain[name])
         return chain
 
-    def prove(self, name, jobs):
+    def prove(self, name, jobs, nice):
         """Proves one crate in a tree of its own. Returns whether it went well."""
         tree, crate = f"{self.trees}/{name}", f"{self.top}/crates/{name}"
         below = all_below(self.uses, name)
@@ -92,7 +100,7 @@ class Build:
             file.writelines(self.lines[it] for it in [*below, name])
         shutil.copy(f"{self.top}/HANDLES", tree)
         ran = subprocess.run(
-            ["rt", "lib", "--jobs", str(jobs)],
+            ["nice", "-n", str(nice), "rt", "lib", "--jobs", str(jobs)],
             cwd=f"{tree}/crates/{name}",
             stdin=subprocess.DEVNULL,
             stdout=subprocess.PIPE,
@@ -107,14 +115,14 @@ class Build:
                 log.write(f"== {name}\n".encode() + ran.stdout)
         return ran.returncode == 0
 
-    def work(self, name, jobs):
+    def work(self, name, jobs, nice):
         """Proves one crate, and tells how many are done."""
         went_well = False
         try:
-            went_well = self.prove(name, jobs)
+            went_well = self.prove(name, jobs, nice)
         finally:
             with self.changed:
-                del self.running[name]
+                self.running.discard(name)
                 if went_well:
                     self.done.add(name)
                     self.tell()
@@ -129,15 +137,19 @@ class Build:
         sys.stderr.flush()
 
     def start(self):
-        """Starts what can be started on the processors that are free."""
+        """Starts what can be started: one crate a lane, and the one with the longest chain behind it at once."""
         ready = [it for it in self.waiting if self.done.issuperset(self.uses[it])]
         ready.sort(key=lambda it: -self.chain[it])
-        while ready and (free := self.lanes - sum(self.running.values())) > 0:
-            name = ready.pop(0)
-            jobs = min(MOST_JOBS, max(1, free - len(ready)))
+        for at, name in enumerate(ready):
+            is_first = all(self.chain[it] <= self.chain[name] for it in [*self.running, *ready])
+            if len(self.running) >= self.lanes and not is_first:
+                break
+            free = self.lanes - len(self.running) - len(ready[at:]) + 1
+            jobs = max(2 if is_first else 1, min(MOST_JOBS, free))
             self.waiting.remove(name)
-            self.running[name] = jobs
-            threading.Thread(target=self.work, args=(name, jobs)).start()
+            self.running.add(name)
+            nice = FIRST_NICE if is_first else OTHER_NICE
+            threading.Thread(target=self.work, args=(name, jobs, nice)).start()
 
     def run(self):
         """Proves all. Returns whether it went well."""

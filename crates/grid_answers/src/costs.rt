@@ -114,16 +114,14 @@ fn put_costs(out: &mut Vec<u8>, waves: &CostWaves, y: u16) -> Result<(), NoMemor
 /// Writes the lines.
 pub fn write_costs<O: Sink, L: Ledger>(
     alloc: Global,
-    lines: CostLines,
+    lines: &mut CostLines,
     out: &mut O,
     steps: &mut Steps<L>,
 ) -> Result<u8, Stop>
-    ensures { SendsWhole (telling.AreWritten lines) (O.outflow out.old) (O.outflow out.new) result }
+    ensures { SendsWhole (telling.AreWritten lines.old) (O.outflow out.old) (O.outflow out.new) result }
 {
     match lines {
-        CostLines::Rows { mut job, rows } => {
-            work_items(alloc, &mut job, rows.as_slice(), out, steps)
-        }
+        CostLines::Rows { job, rows } => work_items(alloc, job, rows.as_slice(), out, steps),
         CostLines::Line(text) => send_text(out, text.as_slice(), 0),
     }
 }

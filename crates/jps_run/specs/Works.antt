@@ -21,10 +21,9 @@ use Rattle.answerers.specs.Who.{who_is}
 -- the whole output of the work, and the status
 abbrev pub IsWhole : Work → List (List ℕ) → ℕ → Type 0
 IsWhole (work.Answer job commands) = IsSolved job commands.items
-IsWhole (work.Judge answerer show entries) =
-    IsJudged (record { answerer = answerer; show = show; tally = tally_of [] }) entries.items
+IsWhole (work.Judge job entries) = IsJudged job entries.items
 IsWhole (work.Referee job entries) = IsRefereed job entries.items
-IsWhole (work.Drill session commands) = IsDrilled (record { session = session; sums = sums_of [] }) commands.items
+IsWhole (work.Drill job commands) = IsDrilled job commands.items
 IsWhole (work.Draw canvas ends show) =
     IsPictured canvas (record { x = ends.sx; y = ends.sy }) (record { x = ends.gx; y = ends.gy }) show
 IsWhole (work.Tell lines) = AreWritten lines
@@ -35,9 +34,9 @@ IsWhole (work.Say text) = IsText text.now 0
 -- the counter rose as the searches of the work make it
 abbrev pub HasRisen : Work → ℕ → ℕ → Type 0
 HasRisen (work.Answer job commands) old new = RoseForCommands job.session commands.items old new
-HasRisen (work.Judge answerer show entries) old new = RoseForEntries (who_of answerer) entries.items old new
+HasRisen (work.Judge job entries) old new = RoseForEntries (who_of job.answerer) entries.items old new
 HasRisen (work.Referee job entries) old new = ⊤
-HasRisen (work.Drill session commands) old new = RoseForCommands session commands.items old new
+HasRisen (work.Drill job commands) old new = RoseForCommands job.session commands.items old new
 HasRisen (work.Draw canvas ends show) old new = RoseForQuery (who_is canvas.session)
     (record { x = ends.sx; y = ends.sy }) (record { x = ends.gx; y = ends.gy }) old new
 HasRisen (work.Tell lines) old new = ⊤
@@ -45,13 +44,13 @@ HasRisen (work.Encode file) old new = ⊤
 HasRisen (work.Print text status) old new = old ≤ new
 HasRisen (work.Say text) old new = ⊤
 
--- the work can be done: queries can be answered, the lengths of entries can be judged, the sums of a drill have room, and
--- so has a piece of a table file
+-- the work can be done: queries can be answered, the lengths of entries can be judged, nothing is summed up yet, the sums
+-- of a drill have room, and so has a piece of a table file
 abbrev pub CanPerform : Work → Type 0
 CanPerform (work.Answer job commands) = ⊤
-CanPerform (work.Judge answerer show entries) = CanAnswer answerer × AreKept entries.items
+CanPerform (work.Judge job entries) = CanAnswer job.answerer × AreKept entries.items × (job.tally ≡ tally_of [])
 CanPerform (work.Referee job entries) = IsReady job (length entries.items)
-CanPerform (work.Drill session commands) = length commands.items ≤ 2 ^ 32
+CanPerform (work.Drill job commands) = (length commands.items ≤ 2 ^ 32) × (job.sums ≡ sums_of [])
 CanPerform (work.Draw canvas ends show) = ⊤
 CanPerform (work.Tell lines) = ⊤
 CanPerform (work.Encode file) = length file.room.items ≡ 65536

@@ -10,6 +10,7 @@ ghost use Rattle.answerers.specs.Session.{PicksSession};
 use crate::NoMemory;
 use crate::work::Work;
 use map_maker::drill_script;
+use session_lines::{Summary, Sums};
 use std::alloc::Global;
 use answerers::session_on;
 use word_list::Settings;
@@ -28,5 +29,9 @@ pub(crate) fn drill(alloc: Global, seed: u64, settings: Settings) -> Result<Work
     let map = map_maker::make(alloc, seed, SIDE, SIDE, PERCENT)?;
     let session = session_on(alloc, &map, settings)?;
     let commands = drill_script(alloc, seed)?;
-    Ok(Work::Drill { session, commands })
+    let job = Summary {
+        session,
+        sums: Sums::new(),
+    };
+    Ok(Work::Drill { job, commands })
 }

@@ -12,6 +12,7 @@ use crate::work::Work;
 use io_edge::Files;
 use line_work::Stop;
 use scen_text::Entry;
+use scenario_rows::{Judge, Tally};
 use std::alloc::Global;
 use word_list::Settings;
 
@@ -32,9 +33,10 @@ pub(crate) fn scen<F: Files>(
     let both: (Basis, Vec<Entry>) = open_basis_and(alloc, files, map, tables, settings, name, &())?;
     let (basis, entries) = both;
     let answerer = Answerer::new(alloc, basis)?;
-    Ok(Work::Judge {
+    let job = Judge {
         answerer,
         show: settings.show,
-        entries,
-    })
+        tally: Tally::new(),
+    };
+    Ok(Work::Judge { job, entries })
 }

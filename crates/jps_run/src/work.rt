@@ -4,15 +4,13 @@ ghost use Rattle.std.specs.Prelude.{OnOk};
 ghost use Rattle.jps_run.specs.Works.{CanPerform, HasRisen, IsWhole};
 ghost use Rattle.line_work.specs.Sending.{SendsWhole};
 
-use answerers::Answerer;
-use edit_replay::Session;
 use grid_answers::{CostLines, Ends, TableFile, write_costs, write_file};
 use io_edge::Sink;
 use line_work::{Stop, send_text};
 use scen_text::Entry;
-use scenario_rows::{Referee, write_rows, write_rulings};
+use scenario_rows::{Judge, Referee, write_rows, write_rulings};
 use script_text::Command;
-use session_lines::{Answers, Canvas, write_answers, write_drawing, write_sums};
+use session_lines::{Answers, Canvas, Summary, write_answers, write_drawing, write_sums};
 use std::alloc::Global;
 use std::sync::ledger::Ledger;
 use steps::Steps;
@@ -28,8 +26,7 @@ pub enum Work {
     },
     /// The entries of a scenario are judged by the one who answers, a row each, and their sum.
     Judge {
-        answerer: Answerer,
-        show: Show,
+        job: Judge,
         entries: Vec<Entry>,
     },
     /// What another program tells of the entries of a scenario is judged, a row each, and their sum.
@@ -39,7 +36,7 @@ pub enum Work {
     },
     /// What the commands come to is summed up in one line.
     Drill {
-        session: Session,
+        job: Summary,
         commands: Vec<Command>,
     },
     /// The session searches a query, and a picture of it and of the map is drawn.
@@ -64,37 +61,29 @@ pub enum Work {
 /// Does the work, and gives the status.
 pub fn perform<O: Sink, L: Ledger>(
     alloc: Global,
-    work: Work,
+    work: &mut Work,
     out: &mut O,
     steps: &mut Steps<L>,
 ) -> Result<u8, Stop>
-    requires { CanPerform work }
-    ensures sent { SendsWhole (IsWhole work) (O.outflow out.old) (O.outflow out.new) result }
-    ensures counted { OnOk result (HasRisen work steps.old steps.new) }
+    requires { CanPerform work.now }
+    ensures sent { SendsWhole (IsWhole work.old) (O.outflow out.old) (O.outflow out.new) result }
+    ensures counted { OnOk result (HasRisen work.old steps.old steps.new) }
 {
     match work {
-        Work::Answer { mut job, commands } => {
-            write_answers(alloc, &mut job, commands.as_slice(), out, steps)
+        Work::Answer { job, commands } => {
+            write_answers(alloc, job, commands.as_slice(), out, steps)
         }
-        Work::Judge {
-            answerer,
-            show,
-            entries,
-        } => write_rows(alloc, answerer, show, entries.as_slice(), out, steps),
-        Work::Referee { mut job, entries } => {
-            write_rulings(alloc, &mut job, entries.as_slice(), out, steps)
+        Work::Judge { job, entries } => write_rows(alloc, job, entries.as_slice(), out, steps),
+        Work::Referee { job, entries } => {
+            write_rulings(alloc, job, entries.as_slice(), out, steps)
         }
-        Work::Drill { session, commands } => {
-            write_sums(alloc, session, commands.as_slice(), out, steps)
+        Work::Drill { job, commands } => write_sums(alloc, job, commands.as_slice(), out, steps),
+        Work::Draw { canvas, ends, show } => {
+            write_drawing(alloc, canvas, *ends, *show, out, steps)
         }
-        Work::Draw {
-            mut canvas,
-            ends,
-            show,
-        } => write_drawing(alloc, &mut canvas, ends, show, out, steps),
         Work::Tell(lines) => write_costs(alloc, lines, out, steps),
-        Work::Encode(mut file) => write_file(&mut file, out),
-        Work::Print { text, status } => send_text(out, text.as_slice(), status),
+        Work::Encode(file) => write_file(file, out),
+        Work::Print { text, status } => send_text(out, text.as_slice(), *status),
         Work::Say(text) => send_text(out, text, 0),
     }
 }

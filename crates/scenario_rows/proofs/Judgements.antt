@@ -25,6 +25,16 @@ Stands who s entry r = IsRow who entry r
 abbrev stays : Unit {0} → Entry → Unit {0}
 stays s entry = s
 
+-- where nothing is counted yet there is room for a list's entries
+pub new-room : (job : Judge) (count : ℕ) → CanAnswer job.answerer → job.tally ≡ tally_of [] → count < 2 ^ 64
+    → HasRoom job count
+new-room job count ready e few = record {
+  ready = ready;
+  counts = record { rows = []; counted = e };
+  small = subst (λ (tally : Tally). IsSmall tally) (sym e) (omega arith);
+  few = subst (λ (tally : Tally). tally.rows + count < 2 ^ 64) (sym e) few;
+}
+
 -- the sides were compared, and are the map's
 pub has-sides : (ls : Layers) (entry : Entry) (width height : ℕ) (same : Bool) → width ≡ ls.land.width
     → height ≡ ls.land.height → same ≡ (nat_eq entry.w width && nat_eq entry.h height) → same ≡ true

@@ -123,27 +123,19 @@ fn row_of<L: Ledger>(
     Ok(row_of_reply(entry.length, &reply))
 }
 
-/// Judges the entries in order by the one who answers, and sums their rows up; `show` tells whether they
-/// count the taken states.
+/// Judges the entries in order by a judge who has judged none yet, and sums their rows up.
 pub fn write_rows<O: Sink, L: Ledger>(
     alloc: Global,
-    answerer: Answerer,
-    show: Show,
+    job: &mut Judge,
     entries: &[Entry],
     out: &mut O,
     steps: &mut Steps<L>,
 ) -> Result<u8, Stop>
-    requires ready { CanAnswer answerer }
+    requires ready { CanAnswer job.answerer }
+    requires new { job.tally ≡ tally_of [] }
     requires kept { AreKept entries.now }
-    ensures sent { SendsWhole (IsJudged (record { answerer = answerer; show = show; tally = tally_of [] }) entries.now)
-        (O.outflow out.old)
-        (O.outflow out.new) result }
-    ensures counted { OnOk result (RoseForEntries (who_of answerer) entries.now steps.old steps.new) }
+    ensures sent { SendsWhole (IsJudged job.old entries.now) (O.outflow out.old) (O.outflow out.new) result }
+    ensures counted { OnOk result (RoseForEntries (who_of job.old.answerer) entries.now steps.old steps.new) }
 {
-    let mut job = Judge {
-        answerer,
-        show,
-        tally: Tally::new(),
-    };
-    work_items(alloc, &mut job, entries, out, steps)
+    work_items(alloc, job, entries, out, steps)
 }

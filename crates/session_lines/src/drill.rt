@@ -94,8 +94,8 @@ impl Job for Summary {
 }
 
 impl Sums {
-    // The sums before the first finding.
-    fn new() -> Sums
+    /// The sums before the first finding.
+    pub fn new() -> Sums
         ensures { result ≡ sums_of [] }
     {
         Sums {
@@ -225,22 +225,18 @@ fn find<L: Ledger>(
     }
 }
 
-/// Sums up what the commands come to, in order, by the session.
+/// Sums up what the commands come to, in order, where none is summed up yet.
 pub fn write_sums<O: Sink, L: Ledger>(
     alloc: Global,
-    session: Session,
+    job: &mut Summary,
     commands: &[Command],
     out: &mut O,
     steps: &mut Steps<L>,
 ) -> Result<u8, Stop>
+    requires new { job.sums ≡ sums_of [] }
     requires few { length commands.now ≤ 2 ^ 32 }
-    ensures sent { SendsWhole (IsDrilled (record { session = session; sums = sums_of [] }) commands.now)
-        (O.outflow out.old) (O.outflow out.new) result }
-    ensures counted { OnOk result (RoseForCommands session commands.now steps.old steps.new) }
+    ensures sent { SendsWhole (IsDrilled job.old commands.now) (O.outflow out.old) (O.outflow out.new) result }
+    ensures counted { OnOk result (RoseForCommands job.old.session commands.now steps.old steps.new) }
 {
-    let mut job = Summary {
-        session,
-        sums: Sums::new(),
-    };
-    work_items(alloc, &mut job, commands, out, steps)
+    work_items(alloc, job, commands, out, steps)
 }
