@@ -149,10 +149,10 @@ fn serve<F: Files, I: Source, O: Sink, L: Ledger>(
     ensures input_stays { ¬ MayHear (called request.entry settings) (F.disk files.old).holds
         → (I.inflow input.new).left ≡ (I.inflow input.old).left }
 {
-    let mut opened = open(alloc, request, settings, files)?;
-    match &mut opened {
+    let opened = open(alloc, request, settings, files)?;
+    match opened {
         Opened::Work(work) => perform(alloc, work, out, steps),
-        Opened::Listener(job) => hear(alloc, job, input, out, steps),
+        Opened::Listener(mut job) => hear(alloc, &mut job, input, out, steps),
     }
 }
 

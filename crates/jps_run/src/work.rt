@@ -61,29 +61,35 @@ pub enum Work {
 /// Does the work, and gives the status.
 pub fn perform<O: Sink, L: Ledger>(
     alloc: Global,
-    work: &mut Work,
+    work: Work,
     out: &mut O,
     steps: &mut Steps<L>,
 ) -> Result<u8, Stop>
-    requires { CanPerform work.now }
-    ensures sent { SendsWhole (IsWhole work.old) (O.outflow out.old) (O.outflow out.new) result }
-    ensures counted { OnOk result (HasRisen work.old steps.old steps.new) }
+    requires { CanPerform work }
+    ensures sent { SendsWhole (IsWhole work) (O.outflow out.old) (O.outflow out.new) result }
+    ensures counted { OnOk result (HasRisen work steps.old steps.new) }
 {
     match work {
-        Work::Answer { job, commands } => {
-            write_answers(alloc, job, commands.as_slice(), out, steps)
+        Work::Answer { mut job, commands } => {
+            write_answers(alloc, &mut job, commands.as_slice(), out, steps)
         }
-        Work::Judge { job, entries } => write_rows(alloc, job, entries.as_slice(), out, steps),
-        Work::Referee { job, entries } => {
-            write_rulings(alloc, job, entries.as_slice(), out, steps)
+        Work::Judge { mut job, entries } => {
+            write_rows(alloc, &mut job, entries.as_slice(), out, steps)
         }
-        Work::Drill { job, commands } => write_sums(alloc, job, commands.as_slice(), out, steps),
-        Work::Draw { canvas, ends, show } => {
-            write_drawing(alloc, canvas, *ends, *show, out, steps)
+        Work::Referee { mut job, entries } => {
+            write_rulings(alloc, &mut job, entries.as_slice(), out, steps)
         }
-        Work::Tell(lines) => write_costs(alloc, lines, out, steps),
-        Work::Encode(file) => write_file(file, out),
-        Work::Print { text, status } => send_text(out, text.as_slice(), *status),
+        Work::Drill { mut job, commands } => {
+            write_sums(alloc, &mut job, commands.as_slice(), out, steps)
+        }
+        Work::Draw {
+            mut canvas,
+            ends,
+            show,
+        } => write_drawing(alloc, &mut canvas, ends, show, out, steps),
+        Work::Tell(mut lines) => write_costs(alloc, &mut lines, out, steps),
+        Work::Encode(mut file) => write_file(&mut file, out),
+        Work::Print { text, status } => send_text(out, text.as_slice(), status),
         Work::Say(text) => send_text(out, text, 0),
     }
 }

@@ -32,7 +32,7 @@ new-room job count ready e few = record {
   ready = ready;
   counts = record { rows = []; counted = e };
   small = subst (λ (tally : Tally). IsSmall tally) (sym e) (omega arith);
-  few = subst (λ (tally : Tally). tally.rows + count < 2 ^ 64) (sym e) few;
+  few = subst (λ (tally : Tally). tally.rows + count < 2 ^ 64) (sym e) (let small : 0 + count < 2 ^ 64 = omega arith in small);
 }
 
 -- the sides were compared, and are the map's

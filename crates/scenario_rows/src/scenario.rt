@@ -131,8 +131,8 @@ pub fn write_rows<O: Sink, L: Ledger>(
     out: &mut O,
     steps: &mut Steps<L>,
 ) -> Result<u8, Stop>
-    requires ready { CanAnswer job.answerer }
-    requires new { job.tally ≡ tally_of [] }
+    requires ready { CanAnswer job.old.answerer }
+    requires new { job.old.tally ≡ tally_of [] }
     requires kept { AreKept entries.now }
     ensures sent { SendsWhole (IsJudged job.old entries.now) (O.outflow out.old) (O.outflow out.new) result }
     ensures counted { OnOk result (RoseForEntries (who_of job.old.answerer) entries.now steps.old steps.new) }

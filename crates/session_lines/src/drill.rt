@@ -233,7 +233,7 @@ pub fn write_sums<O: Sink, L: Ledger>(
     out: &mut O,
     steps: &mut Steps<L>,
 ) -> Result<u8, Stop>
-    requires new { job.sums ≡ sums_of [] }
+    requires new { job.old.sums ≡ sums_of [] }
     requires few { length commands.now ≤ 2 ^ 32 }
     ensures sent { SendsWhole (IsDrilled job.old commands.now) (O.outflow out.old) (O.outflow out.new) result }
     ensures counted { OnOk result (RoseForCommands job.old.session commands.now steps.old steps.new) }

@@ -28,7 +28,7 @@ returns-clause-opened g c =
       texts = texts;
       accepted = r.accepted;
       is = record {
-        can = (c.in_ok-answerer.ensures.ready, r.spelled_more.1, c.new.ensures);
+        can = (c.in_ok-answerer.ensures.ready, r.spelled_more.1, c.new-2.ensures);
         right = λ lines status w. (
           subst (λ n. n ≤ 1) (sym w.same_status) (small_status w.rows),
           subst (λ (n : ℕ). IsAnswered call texts lines n) (sym w.same_status)

@@ -1,4 +1,4 @@
-use Rattle.std.proofs.Common.{refl}
+use Rattle.std.proofs.Common.{refl, [], arith}
 use Rattle.answerers.proofs.Rising.{on_ok}
 use Rattle.scenario_rows.proofs.Judgements.{new-room, rows-complete}
 use Rattle.scenario_rows.proofs.scenario.write_rows.Goals as goal
