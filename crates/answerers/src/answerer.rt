@@ -13,8 +13,8 @@ ghost use Rattle.answerers.specs.Answerers.{IsBasisOn, IsFit, CanAnswer, who_fro
 ghost use Rattle.call_files.specs.Reading.{AreSmall};
 ghost use Rattle.answerers.specs.Who.{IsBoxedReply, IsLedReply, IsReplyBy, fewest_by, most_by};
 
-use crate::NoMemory;
 use crate::small::{ends_on, follow_moves, search_boxed};
+use crate::{NoMemory, session_on};
 use call_files::{Extent, OfMap};
 use edit_replay::{Reply, Session};
 use first_moves::Moves;
@@ -25,7 +25,6 @@ use map_text::MapText;
 use std::alloc::Global;
 use std::sync::ledger::Ledger;
 use steps::Steps;
-use crate::session_on;
 use word_list::{Pick, Settings};
 
 /// What is made of a map for the picked engine at once: a session, or the grids of a small map.

@@ -5,8 +5,8 @@ ghost use Rattle.word_list.specs.Request as asked;
 ghost use Rattle.jps_run.specs.Calls.{call_with};
 ghost use Rattle.jps_run.specs.Opened.{OpensWork};
 
-use call_files::open_two;
 use crate::work::Work;
+use call_files::open_two;
 use grid_answers::{Printed, verdict};
 use grid_moves::Layers;
 use io_edge::Files;

@@ -6,8 +6,8 @@ ghost use Rattle.jps_run.specs.Calls.{call_with};
 ghost use Rattle.jps_run.specs.Opened.{OpensWork};
 ghost use Rattle.answerers.specs.Session.{PicksSession};
 
-use call_files::open_one;
 use crate::work::Work;
+use call_files::open_one;
 use grid_answers::Ends;
 use io_edge::Files;
 use line_work::Stop;

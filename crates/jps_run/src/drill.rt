@@ -9,10 +9,10 @@ ghost use Rattle.answerers.specs.Session.{PicksSession};
 
 use crate::NoMemory;
 use crate::work::Work;
+use answerers::session_on;
 use map_maker::drill_script;
 use session_lines::{Summary, Sums};
 use std::alloc::Global;
-use answerers::session_on;
 use word_list::Settings;
 
 /// The side of a drill's map, in cells.

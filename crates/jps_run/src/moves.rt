@@ -5,8 +5,8 @@ ghost use Rattle.word_list.specs.Request as asked;
 ghost use Rattle.jps_run.specs.Calls.{call_with};
 ghost use Rattle.jps_run.specs.Opened.{OpensWork};
 
-use call_files::{SmallLayers, open_one};
 use crate::work::Work;
+use call_files::{SmallLayers, open_one};
 use grid_answers::moves_at;
 use io_edge::Files;
 use line_work::Stop;

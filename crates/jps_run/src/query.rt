@@ -7,9 +7,9 @@ ghost use Rattle.word_list.specs.Settings as words;
 ghost use Rattle.jps_run.specs.Calls.{call_with};
 ghost use Rattle.jps_run.specs.Opened.{OpensWork};
 
-use answerers::open_basis;
 use crate::query_work::work_on;
 use crate::work::Work;
+use answerers::open_basis;
 use grid_answers::Ends;
 use io_edge::Files;
 use line_work::Stop;

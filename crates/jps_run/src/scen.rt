@@ -7,8 +7,8 @@ ghost use Rattle.word_list.specs.Settings as words;
 ghost use Rattle.jps_run.specs.Opened.{OpensWork};
 ghost use Rattle.jps_run.specs.Calls.{call_with};
 
-use answerers::{Answerer, Basis, open_basis_and};
 use crate::work::Work;
+use answerers::{Answerer, Basis, open_basis_and};
 use io_edge::Files;
 use line_work::Stop;
 use scen_text::Entry;

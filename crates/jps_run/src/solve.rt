@@ -8,8 +8,8 @@ ghost use Rattle.jps_run.specs.Opened.{OpensWork};
 ghost use Rattle.jps_run.specs.Calls.{call_with};
 ghost use Rattle.answerers.specs.Session.{PicksSession};
 
-use answerers::{Basis, open_basis_and, session_of};
 use crate::work::Work;
+use answerers::{Basis, open_basis_and, session_of};
 use io_edge::Files;
 use line_work::Stop;
 use script_text::Command;

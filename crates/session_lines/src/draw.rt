@@ -11,6 +11,7 @@ ghost use Rattle.answerers.specs.Rising.{RoseForQuery};
 ghost use Rattle.answerers.specs.Who.{who_is};
 
 use crate::NoMemory;
+use answerers::session_on;
 use call_files::{Extent, OfMap};
 use edit_replay::{Reply, Session};
 use grid_answers::{Ends, Printed, said};
@@ -22,7 +23,6 @@ use picture::Walk;
 use std::alloc::Global;
 use std::sync::ledger::Ledger;
 use steps::Steps;
-use answerers::session_on;
 use word_list::{Settings, Show};
 
 /// A map, and a session on it.
