@@ -9,7 +9,7 @@ use Rattle.grid_moves.specs.declared.Cell.{Cell}
 use Rattle.grid_moves.specs.Grid.{GridData, IsGrid, is_inside}
 use Rattle.grid_moves.specs.Move.{all_dirs}
 use Rattle.cost_waves.specs.Front.{Front, spread}
-use Rattle.cost_waves.specs.Wave.{rank_at, known_count, Waits, AllWait, Held, before, in_now, in_next, in_after, Keeps, IsSettled, IsReady, IsMidway, IsSwept, settled, source_at}
+use Rattle.cost_waves.specs.Wave.{rank_at, known_count, Waits, AllWait, Held, before, in_now, in_next, in_after, Keeps, IsSettled, IsReady, IsMidway, settled, source_at}
 use Rattle.cost_waves.proofs.Keeping.{is_on, free_on, on_inside, Follows, few, some_cell}
 use Rattle.cost_waves.proofs.Lists.{count_low}
 use Rattle.cost_waves.proofs.Settling.{IsSource, has_spread, settled_on, in_all}
@@ -155,21 +155,6 @@ floor_low g s whole floor now f r t = by_lists now f.next f.after r.keeps.wait_n
     by_lists [] [] (z ∷ zs) p q w t = let h = (w 0 z refl).reached in omega arith
     by_lists [] [] [] p q w t = absurd (cc)
 
--- when none does, the pass is over
-pub swept : (g : GridData) (s : Cell) (floor : ℕ) (now : List Cell) (f : Front) → IsReady g s floor now f
-    → (nat_eq (length now) 0 && nat_eq (length f.next) 0 && nat_eq (length f.after) 0) ≡ true
-    → IsSwept g s f.ranks f.firsts
-swept g s floor now f r t = by_lists now f.next f.after r t
-  where
-    by_lists : (xs ys zs : List Cell)
-        → IsReady g s floor xs (record { ranks = f.ranks; firsts = f.firsts; next = ys; after = zs })
-        → (nat_eq (length xs) 0 && nat_eq (length ys) 0 && nat_eq (length zs) 0) ≡ true
-        → IsSwept g s f.ranks f.firsts
-    by_lists [] [] [] r t = record { floor = floor; ready = r }
-    by_lists (x ∷ xs) ys zs r t = absurd (grind (arith, nat_tests))
-    by_lists [] (y ∷ ys) zs r t = absurd (grind (arith, nat_tests))
-    by_lists [] [] (z ∷ zs) r t = absurd (grind (arith, nat_tests))
-
 -- the bound on the wave in one number
 pub floor_small : (g : GridData) (s : Cell) → IsGrid g → (floor : ℕ) (now : List Cell) (f : Front)
     → IsReady g s floor now f → (nat_eq (length now) 0 && nat_eq (length f.next) 0 && nat_eq
@@ -186,13 +171,7 @@ pub ready_by : (g : GridData) (s : Cell) (floor : ℕ) (ranks firsts : List ℕ)
     → IsReady g s floor now (record { ranks = ranks; firsts = firsts; next = next; after = after })
     → (now' next' after' : List Cell) → now' ≡ now → next' ≡ next → after' ≡ after
     → IsReady g s floor now' (record { ranks = ranks; firsts = firsts; next = next'; after = after' })
-ready_by g s floor ranks firsts now next after r now' next' after' p q t =
-    subst (λ (zs : List Cell). IsReady g s floor now'
-    (record { ranks = ranks; firsts = firsts; next = next'; after = zs })) (sym t)
-    (subst (λ (ys : List Cell). IsReady g s floor now'
-    (record { ranks = ranks; firsts = firsts; next = ys; after = after })) (sym q)
-    (subst (λ (xs : List Cell). IsReady g s floor xs
-    (record { ranks = ranks; firsts = firsts; next = next; after = after })) (sym p) r))
+ready_by g s floor ranks firsts now next after r now' next' after' p q t = rw (p, q, t) r
 
 -- a wave and the turn after it
 pub wave_turned : (g : GridData) (s : Cell) (floor : ℕ) (now now1 : List Cell) (f0 f : Front) → floor < 2 ^ 61

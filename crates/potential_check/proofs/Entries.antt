@@ -24,9 +24,6 @@ lt_is m n h = grind (arith, nat_tests)
 pub lt_not : (m n : ℕ) → nat_lt m n ≡ false → n ≤ m
 lt_not m n h = grind (arith, nat_tests)
 
-pub lt_true : (m n : ℕ) → m < n → nat_lt m n ≡ true
-lt_true m n h = grind (arith, nat_tests)
-
 pub lt_false : (m n : ℕ) → n ≤ m → nat_lt m n ≡ false
 lt_false m n h = grind (arith, nat_tests)
 
@@ -75,7 +72,8 @@ module _ (w : ℕ) (floor : Cell → ℤ) (c : Cell) where
       let parts = and_parts _ _ a in
       let most = le_is (cell_number w c) (cell_number w e.0) parts.0 in
       elim (tested (is_same e.0 c)) [
-        | inl same ↦ rw same (ap (λ n. ascend_from w (n + 1) (cells_in entries)) (sym (same_number w e.0 c same))
+        | inl same ↦ rw same (ap (λ n. ascend_from w (n + 1) (cells_in entries))
+            (sym (same_number w e.0 c same))
             ∙ parts.1)
         | inr other ↦
             (let within = and_parts _ _ all in

@@ -56,7 +56,8 @@ module _ (g : GridData) (fails : Cell → Cell → Bool) where
       → failing_move fails u (legal_ahead g u d) ≡ None → fails u v ≡ false
   none_of u v d e f = by_test (fails u v) (sym (ap (failing_move fails u) e) ∙ f)
     where
-      by_test : (b : Bool) → (let found : Option (Cell × Cell) = if b then Some (u, v) else None in found) ≡ None → b ≡ false
+      by_test : (b : Bool) → (let found : Option (Cell × Cell) = if b then Some (u, v) else None in found)
+          ≡ None → b ≡ false
       by_test true e = absurd (cc)
       by_test false e = refl
 

@@ -1,16 +1,10 @@
 -- The answers of a check, by the first clause that fails.
-use Rattle.std.proofs.Common.{◌≡◌, ℕ, zero, suc, ◌+◌, ◌^◌, ◌<◌, ◌≤◌, arith, refl, ap, sym, ◌∙◌, subst, Bool, true, false, List, [], ◌∷◌, length}
-use Rattle.std.specs.Prelude.{Option, Some, None, Result, Ok, Err, ◌&&◌, nat_le, nat_lt, IfOk}
-use Rattle.std.specs.Prelude.{if◌then◌else◌}
-use Rattle.std.specs.Option.{option_or}
+use Rattle.std.proofs.Common.{◌≡◌, ℕ, ◌<◌, ◌≤◌, arith, refl, ap, sym, ◌∙◌, subst, Bool, true, false, List}
+use Rattle.std.specs.Prelude.{Option, Some, None, Result, Ok, Err, ◌&&◌, IfOk}
 use Rattle.std.specs.List.{list_all}
-use Rattle.std.proofs.lemmas.Bool.{and_parts}
 use Rattle.root2_cost.specs.declared.Cost.{Cost}
 use Rattle.grid_moves.specs.declared.Cell.{Cell}
 use Rattle.grid_moves.specs.Grid.{GridData, IsGrid}
-use Rattle.grid_moves.specs.declared.Dir.{Dir}
-use Rattle.grid_moves.specs.Move.{all_dirs, is_legal, legal_ahead}
-use Rattle.grid_moves.proofs.Ahead.{legal_ahead-is}
 use Rattle.grid_moves.specs.Walk.{last_of}
 use Rattle.grid_moves.proofs.Legal.{free_inside, legal_is}
 use Rattle.potential_check.specs.declared.certificate.Claim.{Claim}
@@ -19,13 +13,12 @@ use Rattle.potential_check.specs.declared.verdict.Proof.{Proof}
 use Rattle.potential_check.specs.declared.verdict.Proof.TheVariants as proof
 use Rattle.potential_check.specs.declared.verdict.Reject.{Reject}
 use Rattle.potential_check.specs.declared.verdict.Reject.TheVariants.{Size, Ends, Walk, Start, Goal, Move, Open}
-use Rattle.potential_check.specs.Certificate.{are_listed, are_points, cells_of, is_claim, is_short, is_small}
+use Rattle.potential_check.specs.Certificate.{is_short, is_small}
 use Rattle.potential_check.specs.Potential.{is_listed, potential_of, rises}
-use Rattle.potential_check.specs.Moves.{failing_move, first_ahead, first_failing, first_in_row, first_in_rows}
+use Rattle.potential_check.specs.Moves.{first_failing}
 use Rattle.potential_check.specs.Accepted.{AcceptsClaim, AcceptsLeast, AcceptsNone, Holds, RefusesClaim, RefusesLeast, RefusesNone, claimed, ends_at_cost, leaves, starts_at_nothing}
 use Rattle.potential_check.specs.Judged.{JudgesClaim, JudgesWalk}
 use Rattle.potential_check.specs.Rising.{climbs, height_of}
-use Rattle.potential_check.proofs.Entries.{lt_is}
 use Rattle.potential_check.proofs.Feasible.{first_failing-same, kept_inside, none_cheaper, none_fails, none_found}
 use Rattle.potential_check.proofs.Ranked.{climbs-leaves, climbs-rises, members, out_of_reach, rank_below, ranked}
 
@@ -51,7 +44,8 @@ module _ (g : GridData) (s t : Cell) (claim : Claim) (told : Result Proof Reject
     refuses = λ other q. sym (accepted a) ∙ only other q;
   }
 
--- the answer for a claim of least cost, by the walk, the values of start and goal, and the first move that fails
+-- the answer for a claim of least cost, by the walk, the values of start and goal, and the first move that
+-- fails
 abbrev least_answer : Cost → Option ℕ → Bool → Bool → Option (Cell × Cell) → Result Proof Reject
 least_answer cost (Some i) start goal found = Err (Walk i)
 least_answer cost None false goal found = Err Start
@@ -85,7 +79,8 @@ module _ (g : GridData) (s t : Cell) (cost : Cost) (points : List Cell) (values 
 
   pub judged_walk : (i : ℕ) → JudgesWalk g s t cost points (Some i) → JudgesClaim g s t least (Err (Walk i))
   judged_walk i walk =
-      refused g s t least (told (Some i) walk) (only (Some i) walk) (accepted (Some i) walk) (Walk i) walk.wrong
+      refused g s t least (told (Some i) walk) (only (Some i) walk) (accepted (Some i) walk)
+      (Walk i) walk.wrong
 
   module _ (walk : JudgesWalk g s t cost points None) where
     refused_so : (reject : Reject) → RefusesLeast g s t cost points values reject
@@ -105,12 +100,13 @@ module _ (g : GridData) (s t : Cell) (cost : Cost) (points : List Cell) (values 
         judged_move u v found = refused_so (Move u v) (walk.right, start, goal, found)
 
         pub judged_least : first_failing g fails ≡ None → JudgesClaim g s t least (Ok (proof.Least cost))
-        judged_least none = allowed g s t least (told None walk) (only None walk) (accepted None walk) (record {
-          walk = walk.right;
-          start = start;
-          goal = goal;
-          moves = none_found g fails none;
-        })
+        judged_least none = allowed g s t least (told None walk) (only None walk)
+            (accepted None walk) (record {
+              walk = walk.right;
+              start = start;
+              goal = goal;
+              moves = none_found g fails none;
+            })
 
 -- the answer for a claim that no walk exists, by start and goal, and the first move that fails
 abbrev none_answer : Bool → Bool → Option (Cell × Cell) → Result Proof Reject

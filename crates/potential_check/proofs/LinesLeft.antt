@@ -1,5 +1,5 @@
 -- What is left to read, before a line and after it.
-use Rattle.std.proofs.Common.{◌≡◌, ℕ, suc, ◌+◌, ◌^◌, ◌≤◌, ◌⊎◌, inl, inr, arith, refl, ap, sym, ◌∙◌, subst, Bool, true, false, List, [], ◌∷◌, ◌++◌, length, Some, None, Result, Ok, Err}
+use Rattle.std.proofs.Common.{◌≡◌, ℕ, suc, ◌+◌, ◌^◌, ◌≤◌, ◌⊎◌, inl, inr, arith, refl, ap, sym, ◌∙◌, subst, Bool, true, false, List, [], ◌∷◌, ◌++◌, length, Some, None, Result, Err}
 use Rattle.std.specs.Prelude.{nat_le, ◌&&◌, if◌then◌else◌, map}
 use Rattle.std.specs.List.{list_all, onto_first}
 use Rattle.std.proofs.lemmas.Bool.{and_parts}

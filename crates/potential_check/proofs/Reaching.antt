@@ -46,8 +46,10 @@ module _ (hills : Hills) (are : AreHills hills) where
     takes.is ∙ first_is w (floor old) c (entries old) stands.ascend ∙ stands.same c (omega arith),
     record {
       inside = rw takes.rest (rest_inside w (floor old) c h (entries old) stands.inside);
-      ascend = rw takes.rest (rest_ascends w (floor old) c h (entries old) inside stands.inside stands.ascend);
-      same = λ d later. rw (takes.rest, takes.floor_is) (rest_heights w (floor old) c d (entries old) (omega arith)
+      ascend = rw takes.rest (rest_ascends w (floor old) c h
+          (entries old) inside stands.inside stands.ascend);
+      same = λ d later. rw (takes.rest, takes.floor_is)
+          (rest_heights w (floor old) c d (entries old) (omega arith)
           ∙ stands.same d (omega arith));
       floor_is = takes.floor_is ∙ stands.floor_is;
       low = takes.low;

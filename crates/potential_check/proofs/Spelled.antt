@@ -1,6 +1,6 @@
 -- A text is read as a certificate exactly where it spells it.
 use Rattle.std.proofs.Common.{◌≡◌, ℕ, ◌+◌, refl, ap, sym, ◌∙◌, subst, inl, inr, Bool, true, false, List, [], ◌∷◌, ◌++◌, append_assoc, Option, Some, None, Result, Ok, Err}
-use Rattle.std.specs.Prelude.{IfOk, codes, nat_le, ◌&&◌, if◌then◌else◌, map}
+use Rattle.std.specs.Prelude.{IfOk, codes, nat_le, if◌then◌else◌, map}
 use Rattle.std.specs.List.{AllByRecursion, list_all}
 use Rattle.std.specs.Str.{bytes_eq}
 use Rattle.std.proofs.lemmas.Bool.{and_parts, and_from}
@@ -74,7 +74,8 @@ list_step form cell head make done least before line =
     (λ e. listed head least (cell e) (make (cell_number head.width (cell e) + 1) (before ++ e ∷ [])))
 
 -- the lines of a list, its last line, and empty lines
-record ListSpelled {E : Type 0} (form : List ℕ → Option E) (cell : E → Cell) (head : Head) (done : List E → Plain)
+record ListSpelled {E : Type 0} (form : List ℕ → Option E) (cell : E → Cell) (head : Head)
+    (done : List E → Plain)
     (lines : List (List ℕ)) (least : ℕ) (before : List E) (p : Plain) : Type 0 where
   items : List E
   body : List (List ℕ)
@@ -169,7 +170,12 @@ module _ {E : Type 0} (form : List ℕ → Option E) (cell : E → Cell) (head :
       (ascend_from head.width (cell_number head.width (cell e) + 1) (map cell items)) ascend in
       let step : next (make least before) line
       ≡ goes (make (cell_number head.width (cell e) + 1) (before ++ e ∷ [])) =
-      steps least before line ∙ rw (differs form end_word none line e spell.0, spell.0, within.0, order.0) refl in
+      steps least before line ∙ rw (
+        differs form end_word none line e spell.0,
+        spell.0,
+        within.0,
+        order.0,
+      ) refl in
       ap (λ (s : Step). after_step s n (λ after. read_from after (n + 1) (body ++ end_word ∷ others))) step
       ∙ only_list body others (n + 1) (cell_number head.width (cell e) + 1) (before ++ e ∷ []) items spell.1
       within.1 order.1 nothing
@@ -310,7 +316,8 @@ only_claim head (Least cost points values) first body others n s nothing =
     ∙ only_values head cost points s.list others (n + 1 + 1) values s.values_are s.listed nothing
 only_claim head (NoWalk cells) first body others n s nothing =
     let same : bytes_eq first (codes "none") ≡ true =
-    ap (λ (l : List ℕ). bytes_eq l (codes "none")) s.none_is ∙ (bytes_eq-Decides (codes "none") (codes "none")).1 refl in
+    ap (λ (l : List ℕ). bytes_eq l (codes "none")) s.none_is
+    ∙ (bytes_eq-Decides (codes "none") (codes "none")).1 refl in
     let step : next (at_claim head) first ≡ goes (in_cells head 0 []) = rw same refl in
     ap (λ (t : Step). after_step t n (λ after. read_from after (n + 1) (body ++ end_word ∷ others))) step
     ∙ only_cells head body others (n + 1) cells s.cells_are s.listed nothing
@@ -367,7 +374,8 @@ unfolding certificate_of
 certificate_of_spelled text p s =
     let rest : List (List ℕ) = s.body ++ end_word ∷ s.others in
     let same : bytes_eq s.version (codes "jps-cert 1") ≡ true =
-    ap (λ (l : List ℕ). bytes_eq l (codes "jps-cert 1")) s.version_is ∙ (bytes_eq-Decides (codes "jps-cert 1") (codes "jps-cert 1")).1 refl in
+    ap (λ (l : List ℕ). bytes_eq l (codes "jps-cert 1")) s.version_is
+    ∙ (bytes_eq-Decides (codes "jps-cert 1") (codes "jps-cert 1")).1 refl in
     let first : next at_version s.version ≡ goes at_size = rw same refl in
     let second : next at_size s.size ≡ goes (at_ends p.head.width p.head.height) = rw s.size_is refl in
     let third : next (at_ends p.head.width p.head.height) s.ends

@@ -46,7 +46,8 @@ pub record AreHills (hills : Hills) : Type 0 where
 
 -- these are the heights of the hills from number n on: the entries lie inside and ascend from it on
 pub record StandAt (hills : Hills) (n : ℕ) (heights : Heights) : Type 0 where
-  pub inside : list_all (lies_inside hills.grid.now.width hills.grid.now.height) (cells_in (entries heights)) ≡ true
+  pub inside : list_all (lies_inside hills.grid.now.width hills.grid.now.height)
+      (cells_in (entries heights)) ≡ true
   pub ascend : ascend_from hills.grid.now.width n (cells_in (entries heights)) ≡ true
   pub same : (c : Cell) → n ≤ cell_number hills.grid.now.width c
       → height_of (floor heights) (entries heights) c ≡ height_at hills c

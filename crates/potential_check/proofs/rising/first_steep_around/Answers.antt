@@ -35,4 +35,12 @@ returns c =
     let nw : c.steep_move-8.result ≡ to NW =
     passed u from (height NW) _ (ahead NW) _ fits (search rules) c.steep_move-8.ensures is.nw in
     let all = eight (to N) (to NE) (to E) (to SE) (to S) (to SW) (to W) (to NW) in
-    cc (c.or.ensures, c.or-2.ensures, c.or-3.ensures, c.or-4.ensures, c.or-5.ensures, c.or-6.ensures, c.or-7.ensures)
+    cc (
+      c.or.ensures,
+      c.or-2.ensures,
+      c.or-3.ensures,
+      c.or-4.ensures,
+      c.or-5.ensures,
+      c.or-6.ensures,
+      c.or-7.ensures,
+    )
