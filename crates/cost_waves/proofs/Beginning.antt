@@ -1,6 +1,6 @@
 -- The start of a pass: its own wave.
 use Rattle.std.proofs.Common.{◌≡◌, ◌≢◌, ℕ, zero, suc, ◌+◌, ◌*◌, ◌^◌, ◌<◌, ◌≤◌, inl, inr, arith, refl, ap, sym, ◌∙◌, subst, Bool, true, false, List, [], ◌∷◌, length, get_or, set, length-set}
-use Rattle.std.specs.Prelude.{Option, Some, None, slice_get, nat_eq, if◌then◌else◌}
+use Rattle.std.specs.Prelude.{Some, slice_get, nat_eq, if◌then◌else◌}
 use Rattle.std.proofs.lemmas.Bool.Decides.{nat_tests}
 use Rattle.std.proofs.lemmas.List.{get_or-set_same, get_or-set_other}
 use Rattle.std.proofs.lemmas.Nat.Bits.{bit_at-pow_same, bit_at-pow_other, bit_at-zero}
@@ -17,7 +17,7 @@ use Rattle.cost_waves.specs.Front.{Front, spread, dir_rank}
 use Rattle.cost_waves.specs.Rank.{far, rank_limit}
 use Rattle.cost_waves.specs.Told.{has_dir}
 use Rattle.cost_waves.specs.Wave.{rank_at, dirs_at, known_count, Way, WayBy, Waits, AllWait, Held, in_now, Keeps, IsSettled, IsReady}
-use Rattle.cost_waves.proofs.Keeping.{IsOn, is_on, free_on, same_or_apart}
+use Rattle.cost_waves.proofs.Keeping.{some_cell, IsOn, is_on, free_on, same_or_apart}
 use Rattle.cost_waves.proofs.Lists.{count_new}
 use Rattle.cost_waves.proofs.Settling.{IsSource, HasSpread, has_spread, in_all}
 use Rattle.cost_waves.proofs.Walks.{way_nowhere, way_by_one}
@@ -48,7 +48,7 @@ dir_of-number SW = refl
 dir_of-number W = refl
 dir_of-number NW = refl
 
-same_dir : (d e : Dir) → dir_number d ≡ dir_number e → d ≡ e
+pub same_dir : (d e : Dir) → dir_number d ≡ dir_number e → d ≡ e
 same_dir d e h = sym (dir_of-number d) ∙ ap (λ (n : ℕ). dir_of n) h ∙ dir_of-number e
 
 only_dir : (d b : Dir) → has_dir (2 ^ dir_number d) b ≡ true → d ≡ b
@@ -67,9 +67,6 @@ module _ (g : GridData) (s : Cell) (whole : IsGrid g) (free : is_free g s ≡ tr
     (all_far : (k : ℕ) → get_or ranks k far ≡ far) (none : (k : ℕ) → get_or firsts k 0 ≡ 0) where
   abbrev at : ℕ
   at = cell_number g.width s
-
-  some_cell : (u v : Cell) → Some u ≡ Some v → u ≡ v
-  some_cell u v e = ap (λ (o : Option Cell). elim o as (λ _. Cell) [ Some c ↦ c | None ↦ u ]) e
 
   abbrev only : List Cell
   only = s ∷ []
@@ -186,12 +183,6 @@ module _ (g : GridData) (s : Cell) (whole : IsGrid g) (free : is_free g s ≡ tr
             after';
       })
   begun_by f place next after e n a made now' next' after' p q t =
-      let same : f ≡ spread g (2 * straight_rank) source all_dirs f0 = made
-      ∙ ap (λ (k : ℕ). spread g (2 * straight_rank) source all_dirs
-      (record { ranks = set ranks k 0; firsts = firsts; next = next; after = after })) e
-      ∙ ap (λ (ys : List Cell). spread g (2 * straight_rank) source all_dirs
-      (record { ranks = set ranks at 0; firsts = firsts; next = ys; after = after })) n
-      ∙ ap (λ (zs : List Cell). spread g (2 * straight_rank) source all_dirs
-      (record { ranks = set ranks at 0; firsts = firsts; next = []; after = zs })) a in
+      let same : f ≡ spread g (2 * straight_rank) source all_dirs f0 = made ∙ rw (e, n, a) refl in
       ready_by g s straight_rank f.ranks f.firsts f.next f.after []
       (begun_ready f same) now' next' after' p q t

@@ -1,6 +1,7 @@
 -- One offer keeps what holds in a wave.
 use Rattle.std.proofs.Common.{◌≡◌, ◌≢◌, ℕ, ◌+◌, ◌*◌, ◌<◌, ◌≤◌, inl, inr, arith, refl, ap, sym, ◌∙◌, subst, Bool, true, false, List, [], ◌∷◌, ◌++◌, length, get_or, length-set}
 use Rattle.std.specs.Prelude.{nat_lt, nat_le, bit_or, ◌&&◌, if◌then◌else◌}
+use Rattle.std.proofs.lemmas.Bool.{cases_lt}
 use Rattle.std.proofs.lemmas.Bool.Decides.{nat_tests}
 use Rattle.std.proofs.lemmas.List.{get_or-set_same, get_or-set_other}
 use Rattle.root2_cost.specs.Rank.{straight_rank, diagonal_rank}
@@ -12,7 +13,7 @@ use Rattle.cost_waves.specs.Front.{Front, entered}
 use Rattle.cost_waves.specs.Rank.{far, rank_limit}
 use Rattle.cost_waves.specs.Told.{has_dir}
 use Rattle.cost_waves.specs.Wave.{rank_at, dirs_at, known_count, Way, WayBy, Among, Waits, AllWait, Held, before, in_now, in_next, in_after, Keeps}
-use Rattle.cost_waves.proofs.Keeping.{lowered, joined, Effect, lowers, joins, passes, effect, IsOn, is_on, free_on, same_or_apart, IsOffer, Follows, few}
+use Rattle.cost_waves.proofs.Keeping.{lowered, joined, Effect, lowers, joins, passes, effect, IsOn, follows_nothing, is_on, on_inside, free_on, same_or_apart, IsOffer, Follows, few}
 use Rattle.cost_waves.proofs.Lists.{among_more, among_last, from_more, count_new, count_old, or_left, or_right, or_either}
 
 module _ (g : GridData) (s : Cell) (whole : IsGrid g) (floor : ℕ) (now : List Cell) (f : Front)
@@ -65,12 +66,9 @@ module _ (g : GridData) (s : Cell) (whole : IsGrid g) (floor : ℕ) (now : List 
     joined_way : (d : Dir) → has_dir (dirs_at g with_dirs.firsts to) d ≡ true → WayBy g s to d old
     joined_way d e = elim (or_either (dirs_at g f.firsts to) first d (ap (λ (n : ℕ). has_dir n d)
         (sym dirs_here) ∙ e)) [
-          | inl h ↦ k.begins to d (inside_to) h
+          | inl h ↦ k.begins to d ((on_inside g to on)) h
           | inr h ↦ subst (λ (r : ℕ). WayBy g s to d r) same (o.sound d h)
         ]
-      where
-        inside_to : is_inside g to ≡ true
-        inside_to = let x = on.column in let y = on.row in grind (arith, nat_tests)
 
     joined_begins : (c : Cell) (d : Dir) → is_inside g c ≡ true
         → has_dir (dirs_at g with_dirs.firsts c) d ≡ true
@@ -182,13 +180,10 @@ module _ (g : GridData) (s : Cell) (whole : IsGrid g) (floor : ℕ) (now : List 
       as_before : old < rank_limit → known_count with_rank.ranks ≡ known_count f.ranks → Counts
 
     counts : Counts
-    counts = by_test (nat_lt old rank_limit) refl
-      where
-        by_test : (b : Bool) → nat_lt old rank_limit ≡ b → Counts
-        by_test true e = let h : old < rank_limit = grind (arith, nat_tests) in
-            as_before h (count_old f.ranks at rank far ranked short h)
-        by_test false e = let h : rank_limit ≤ old = grind (arith, nat_tests) in
-            new h (count_new f.ranks at rank far ranked short h)
+    counts = elim (cases_lt old rank_limit) [
+      | inl h ↦ as_before h (count_old f.ranks at rank far ranked short h)
+      | inr h ↦ new h (count_new f.ranks at rank far ranked short h)
+    ]
 
     more : known_count f.ranks ≤ known_count with_rank.ranks
     more = elim counts [ new h e ↦ omega arith | as_before h e ↦ omega arith ]
@@ -196,37 +191,31 @@ module _ (g : GridData) (s : Cell) (whole : IsGrid g) (floor : ℕ) (now : List 
     bounded_to : rank + diagonal_rank ≤ diagonal_rank * known_count with_rank.ranks
     bounded_to = elim counts [
       | new h e ↦ let b = o.bounded in omega arith
-      | as_before h e ↦ let b = k.bounded to inside_to h in omega arith
+      | as_before h e ↦ let b = k.bounded to (on_inside g to on) h in omega arith
     ]
-      where
-        inside_to : is_inside g to ≡ true
-        inside_to = let x = on.column in let y = on.row in grind (arith, nat_tests)
 
-    -- the lists
-    next_has : (c : Cell) → Among f.next c → Among with_rank.next c
-    next_has c a = by_test (nat_lt rank limit && nat_le limit old)
-      where
-        by_test : (b : Bool) → Among (if b then f.next ++ (to ∷ []) else f.next) c
-        by_test true = among_more f.next to c a
-        by_test false = a
+    -- a list to which the cell is added, where a test holds
+    abbrev with_to : Bool → List Cell → List Cell
+    with_to b cells = if b then cells ++ (to ∷ []) else cells
 
-    after_has : (c : Cell) → Among f.after c → Among with_rank.after c
-    after_has c a = by_test (nat_le limit rank && nat_le (limit + straight_rank) old)
-      where
-        by_test : (b : Bool) → Among (if b then f.after ++ (to ∷ []) else f.after) c
-        by_test true = among_more f.after to c a
-        by_test false = a
+    stays_in : (b : Bool) (cells : List Cell) (c : Cell) → Among cells c → Among (with_to b cells) c
+    stays_in true cells c a = among_more cells to c a
+    stays_in false cells c a = a
+
+    stands_in : (b : Bool) (cells : List Cell) → (b ≡ false → Among cells to) → Among (with_to b cells) to
+    stands_in true cells stood = among_last cells to
+    stands_in false cells stood = stood refl
 
     held_on : (c : Cell) (r : ℕ) → Held floor now f.next f.after c r
         → Held floor now with_rank.next with_rank.after c r
     held_on c r (before h) = before h
     held_on c r (in_now h a) = in_now h a
-    held_on c r (in_next l h a) = in_next l h (next_has c a)
-    held_on c r (in_after l h a) = in_after l h (after_has c a)
+    held_on c r (in_next l h a) = in_next l h (stays_in _ f.next c a)
+    held_on c r (in_after l h a) = in_after l h (stays_in _ f.after c a)
 
     -- the cell stands in the list of its new wave: it is put there, or it stood there
     old_held : old < rank_limit → Held floor now f.next f.after to old
-    old_held h = k.held to (let x = on.column in let y = on.row in grind (arith, nat_tests)) h
+    old_held h = k.held to (on_inside g to on) h
 
     below_limit : old < limit + straight_rank → old < rank_limit
     below_limit h = let m = few g whole f k.ranked in let b = o.bounded in let l = o.low in omega arith
@@ -250,32 +239,18 @@ module _ (g : GridData) (s : Cell) (whole : IsGrid g) (floor : ℕ) (now : List 
         by_held (in_after p q a) = a
 
     next_to : rank < limit → Among with_rank.next to
-    next_to h = by_test (nat_lt rank limit) (nat_le limit old) (grind (arith, nat_tests)) refl
-      where
-        by_test : (a b : Bool) → a ≡ true → nat_le limit old ≡ b
-            → Among (if a && b then f.next ++ (to ∷ []) else f.next) to
-        by_test true true e p = among_last f.next to
-        by_test true false e p = stood_next (grind (arith, nat_tests))
-        by_test false b e p = absurd (cc)
+    next_to h = stands_in (nat_lt rank limit && nat_le limit old) f.next
+        (λ e. stood_next (grind (arith, nat_tests)))
 
     after_to : limit ≤ rank → Among with_rank.after to
-    after_to h = by_test (nat_le limit rank) (nat_le (limit + straight_rank) old) (grind
-        (arith, nat_tests)) refl
-      where
-        by_test : (a b : Bool) → a ≡ true → nat_le (limit + straight_rank) old ≡ b
-            → Among (if a && b then f.after ++ (to ∷ []) else f.after) to
-        by_test true true e p = among_last f.after to
-        by_test true false e p = stood_after h (grind (arith, nat_tests))
-        by_test false b e p = absurd (cc)
+    after_to h = stands_in (nat_le limit rank && nat_le (limit + straight_rank) old) f.after
+        (λ e. stood_after h (grind (arith, nat_tests)))
 
     held_to : Held floor now with_rank.next with_rank.after to rank
-    held_to = by_test (nat_lt rank limit) refl
-      where
-        by_test : (b : Bool) → nat_lt rank limit ≡ b → Held floor now with_rank.next with_rank.after to rank
-        by_test true e = let h : rank < limit = grind (arith, nat_tests) in in_next o.low (omega arith)
-            (next_to h)
-        by_test false e = let h : limit ≤ rank = grind (arith, nat_tests) in
-            in_after (omega arith) o.high (after_to h)
+    held_to = elim (cases_lt rank limit) [
+      | inl h ↦ in_next o.low (omega arith) (next_to h)
+      | inr h ↦ in_after (omega arith) o.high (after_to h)
+    ]
 
     -- those that wait
     waits_on : (low : ℕ) (c : Cell) → Waits g low f.ranks c → Waits g low with_rank.ranks c
@@ -301,28 +276,19 @@ module _ (g : GridData) (s : Cell) (whole : IsGrid g) (floor : ℕ) (now : List 
           record { free = o.free; below = omega arith; reached = omega arith })
     ]
 
+    waits_with : (b : Bool) (low : ℕ) (cells : List Cell) → AllWait g low f.ranks cells
+        → (b ≡ true → (low ≤ rank) × (rank < low + straight_rank))
+        → AllWait g low with_rank.ranks (with_to b cells)
+    waits_with true low cells w p = let h = p refl in one_more_waits low cells w h.0 h.1
+    waits_with false low cells w p = all_wait low cells w
+
     wait_next : AllWait g (floor + straight_rank) with_rank.ranks with_rank.next
-    wait_next = by_test (nat_lt rank limit) (nat_le limit old) refl
-      where
-        by_test : (a b : Bool) → nat_lt rank limit ≡ a → AllWait g (floor + straight_rank) with_rank.ranks
-            (if a && b then f.next ++ (to ∷ []) else f.next)
-        by_test true true e =
-            let h : rank < limit = grind (arith, nat_tests) in
-            one_more_waits (floor + straight_rank) f.next k.wait_next o.low (omega arith)
-        by_test true false e = all_wait (floor + straight_rank) f.next k.wait_next
-        by_test false b e = all_wait (floor + straight_rank) f.next k.wait_next
+    wait_next = waits_with (nat_lt rank limit && nat_le limit old) (floor + straight_rank) f.next k.wait_next
+        (λ e. (o.low, grind (arith, nat_tests)))
 
     wait_after : AllWait g (floor + straight_rank + straight_rank) with_rank.ranks with_rank.after
-    wait_after = by_test (nat_le limit rank) (nat_le (limit + straight_rank) old) refl
-      where
-        by_test : (a b : Bool) → nat_le limit rank ≡ a
-            → AllWait g (floor + straight_rank + straight_rank) with_rank.ranks
-            (if a && b then f.after ++ (to ∷ []) else f.after)
-        by_test true true e =
-            let h : limit ≤ rank = grind (arith, nat_tests) in
-            one_more_waits (floor + straight_rank + straight_rank) f.after k.wait_after (omega arith) o.high
-        by_test true false e = all_wait (floor + straight_rank + straight_rank) f.after k.wait_after
-        by_test false b e = all_wait (floor + straight_rank + straight_rank) f.after k.wait_after
+    wait_after = waits_with (nat_le limit rank && nat_le (limit + straight_rank) old)
+        (floor + straight_rank + straight_rank) f.after k.wait_after (λ e. (grind (arith, nat_tests), o.high))
 
     pub lowered_keeps : Keeps g s floor now with_rank
     lowered_keeps = record {
@@ -425,14 +391,7 @@ has_entered g s whole floor now f k to rank first o limit is =
     by_effect f' (passes more e) = subst (λ (h : Front). HasEntered g s floor now f h to rank first)
         (sym e) (record {
           keeps = k;
-          follows = record {
-            lower = λ c i. omega arith;
-            rank = λ c i h. refl;
-            back = λ c i h. refl;
-            dirs = λ c i h. refl;
-            grows = λ c d i p h. h;
-            more = omega arith;
-          };
+          follows = follows_nothing g floor f;
           low = omega arith;
           dirs = λ d q h. absurd (omega arith);
         })

@@ -1,6 +1,6 @@
 -- A move begins a least walk where the cost to the goal falls by what the move costs.
-use Rattle.std.proofs.Common.{◌≡◌, refl, ap, sym, ◌∙◌, subst, List, ◌∷◌}
-use Rattle.std.specs.Prelude.{Option, Some, None}
+use Rattle.std.proofs.Common.{◌≡◌, refl, sym, ◌∙◌, subst, List, ◌∷◌}
+use Rattle.std.specs.Prelude.{Some}
 use Rattle.root2_cost.specs.Order.{IsAtMost}
 use Rattle.root2_cost.proofs.AtMost.{IsAtMost-trans}
 use Rattle.root2_cost.proofs.Sums.{IsAtMost-add_left}
@@ -12,9 +12,7 @@ use Rattle.grid_moves.specs.Walk.{IsLeastWalk, IsWalk, cost_of}
 use Rattle.grid_moves.proofs.Ahead.{legal_ahead-is}
 use Rattle.grid_moves.proofs.Short.{least_rest}
 use Rattle.cost_waves.specs.Begin.{Begins}
-
-some_cell : (u v : Cell) → Some u ≡ Some v → u ≡ v
-some_cell u v e = ap (λ (o : Option Cell). elim o as (λ _. Cell) [ Some c ↦ c | None ↦ u ]) e
+use Rattle.cost_waves.proofs.Keeping.{some_cell}
 
 -- a least walk from u to t over v
 pub record GoesOver (g : GridData) (u v t : Cell) : Type 0 where
@@ -29,12 +27,14 @@ goes_over g u v t d e b =
     record { cells = b.cells; least = subst (λ (c : Cell). IsLeastWalk g u t (c ∷ b.cells)) same b.least }
 
 -- a walk that goes on from the move's end is least, where it costs no more than a least one
-pub least_by_move : (g : GridData) (u v t : Cell) (d : Dir) (cells rest : List Cell) → legal_ahead g u d ≡ Some v
+pub least_by_move : (g : GridData) (u v t : Cell) (d : Dir) (cells rest : List Cell)
+    → legal_ahead g u d ≡ Some v
     → IsLeastWalk g u t cells → IsWalk g v t rest → IsAtMost (cost_of (u ∷ v ∷ rest)) (cost_of (u ∷ cells))
     → IsLeastWalk g u t (v ∷ rest)
 least_by_move g u v t d cells rest e l w most = record {
   walk = record { legal = rw (legal_ahead-is g u v d e, w.legal) refl; ends = w.ends };
-  least = λ others o. IsAtMost-trans (cost_of (u ∷ v ∷ rest)) (cost_of (u ∷ cells)) (cost_of (u ∷ others)) most
+  least = λ others o. IsAtMost-trans (cost_of (u ∷ v ∷ rest)) (cost_of (u ∷ cells))
+      (cost_of (u ∷ others)) most
       (l.least others o);
 }
 

@@ -1,6 +1,6 @@
 -- What one offer keeps.
 use Rattle.std.proofs.Common.{◌≡◌, ◌≢◌, ℕ, ◌+◌, ◌*◌, ◌<◌, ◌≤◌, ◌⊎◌, inl, inr, arith, refl, ap, sym, ◌∙◌, Bool, true, false, length, get_or, set, mul-le-mul}
-use Rattle.std.specs.Prelude.{nat_lt, nat_eq, bit_or, if◌then◌else◌}
+use Rattle.std.specs.Prelude.{nat_lt, nat_eq, bit_or, if◌then◌else◌, Some}
 use Rattle.std.proofs.lemmas.Bool.Decides.{nat_tests}
 use Rattle.root2_cost.specs.Rank.{straight_rank, diagonal_rank}
 use Rattle.grid_moves.specs.declared.Cell.{Cell}
@@ -101,6 +101,19 @@ pub record Follows (g : GridData) (floor : ℕ) (f f' : Front) : Type 0 where
   pub grows : (c : Cell) (d : Dir) → IsOn g c → rank_at g f'.ranks c ≡ rank_at g f.ranks c
       → has_dir (dirs_at g f.firsts c) d ≡ true → has_dir (dirs_at g f'.firsts c) d ≡ true
   pub more : known_count f.ranks ≤ known_count f'.ranks
+
+pub follows_nothing : (g : GridData) (floor : ℕ) (f : Front) → Follows g floor f f
+follows_nothing g floor f = record {
+  lower = λ c i. omega arith;
+  rank = λ c i h. refl;
+  back = λ c i h. refl;
+  dirs = λ c i h. refl;
+  grows = λ c d i p h. h;
+  more = omega arith;
+}
+
+pub some_cell : (u v : Cell) → Some u ≡ Some v → u ≡ v
+some_cell u v e = cc
 
 -- all known ranks are far below the limit
 pub few : (g : GridData) → IsGrid g → (f : Front) → length f.ranks ≡ g.height * g.width

@@ -1,6 +1,7 @@
 -- When no cell waits, known ranks are those of least walks, and told directions those of their first moves.
 use Rattle.std.proofs.Common.{◌≡◌, ℕ, ◌+◌, ◌*◌, ◌^◌, ◌<◌, ◌≤◌, inl, inr, arith, refl, ap, sym, ◌∙◌, subst, Bool, true, false, List, [], ◌∷◌}
 use Rattle.std.specs.Prelude.{Some, None, nat_lt, if◌then◌else◌}
+use Rattle.std.proofs.lemmas.Bool.{cases_lt}
 use Rattle.std.proofs.lemmas.Bool.Decides.{nat_tests}
 use Rattle.std.proofs.lemmas.Option.{slice_get_within}
 use Rattle.root2_cost.specs.declared.Cost.{Cost}
@@ -31,15 +32,10 @@ short_by_rank c h = record { straight = omega arith; diagonal = omega arith }
 
 -- a cost that is less than one of a small rank has few moves too
 short_below : (p q : Cost) → rank_of q < 2 ^ 58 → IsLess p q → HasShortParts p
-short_below p q h l = by_test (nat_lt (p.a + p.b) (2 * (q.a + q.b))) refl
-  where
-    by_test : (b : Bool) → nat_lt (p.a + p.b) (2 * (q.a + q.b)) ≡ b → HasShortParts p
-    by_test true t =
-        let m : p.a + p.b < 2 * (q.a + q.b) = grind (arith, nat_tests) in
-        record { straight = omega arith; diagonal = omega arith }
-    by_test false t =
-        let m : 2 * (q.a + q.b) ≤ p.a + p.b = grind (arith, nat_tests) in
-        absurd (IsAtMost-not_more q p (at_most_by_counts q p (omega arith) (omega arith)) l)
+short_below p q h l = elim (cases_lt (p.a + p.b) (2 * (q.a + q.b))) [
+  | inl few ↦ record { straight = omega arith; diagonal = omega arith }
+  | inr many ↦ absurd (IsAtMost-not_more q p (at_most_by_counts q p (omega arith) (omega arith)) l)
+]
 
 -- of ranks and costs of which one is small
 at_most_by_rank : (p q : Cost) → rank_of p < 2 ^ 58 → rank_of p ≤ rank_of q → IsAtMost p q

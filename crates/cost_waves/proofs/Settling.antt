@@ -15,7 +15,7 @@ use Rattle.cost_waves.specs.Rank.{rank_limit}
 use Rattle.cost_waves.specs.Told.{has_dir}
 use Rattle.cost_waves.specs.Wave.{rank_at, dirs_at, Way, WayBy, Keeps, IsRelaxed, IsSettled}
 use Rattle.cost_waves.proofs.Entering.{HasEntered, has_entered}
-use Rattle.cost_waves.proofs.Keeping.{IsOn, free_on, on_inside, IsOffer, Follows}
+use Rattle.cost_waves.proofs.Keeping.{IsOn, free_on, on_inside, IsOffer, Follows, follows_nothing, some_cell}
 use Rattle.cost_waves.proofs.Walks.{way_more, rank_low, rank_high}
 
 -- where a legal move leads
@@ -26,16 +26,6 @@ pub ahead_from : (g : GridData) (u v : Cell) (d : Dir) → legal_ahead g u d ≡
 ahead_from g u v d e = (legal_is g u v (legal_ahead-is g u v d e)).source
 
 module _ (g : GridData) (floor : ℕ) where
-  pub follows_nothing : (f : Front) → Follows g floor f f
-  follows_nothing f = record {
-    lower = λ c i. omega arith;
-    rank = λ c i h. refl;
-    back = λ c i h. refl;
-    dirs = λ c i h. refl;
-    grows = λ c d i p h. h;
-    more = omega arith;
-  }
-
   pub follows_then : (f f1 f2 : Front) → Follows g floor f f1 → Follows g floor f1 f2 → Follows g floor f f2
   follows_then f f1 f2 a b = record {
     lower = λ c i. (let p = a.lower c i in let q = b.lower c i in omega arith);
@@ -114,9 +104,6 @@ module _ (g : GridData) (s : Cell) (whole : IsGrid g) (floor : ℕ) (now : List 
     pub keeps : Keeps g s floor now f'
     pub follows : Follows g floor f f'
     pub relaxed : (v : Cell) → legal_ahead g from.cell d ≡ Some v → IsRelaxed g s f' from.cell d v
-
-  some_cell : (u v : Cell) → Some u ≡ Some v → u ≡ v
-  some_cell u v e = ap (λ (o : Option Cell). elim o as (λ _. Cell) [ Some c ↦ c | None ↦ u ]) e
 
   module _ (f : Front) (k : Keeps g s floor now f) (o : IsSource g s floor f from) where
     on : IsOn g from.cell

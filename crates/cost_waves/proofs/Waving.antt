@@ -1,6 +1,7 @@
 -- A wave, cell by cell, and one wave after another.
-use Rattle.std.proofs.Common.{◌≡◌, ℕ, ◌+◌, ◌*◌, ◌^◌, ◌<◌, ◌≤◌, arith, refl, ap, sym, ◌∙◌, subst, Bool, true, false, List, [], ◌∷◌, length}
-use Rattle.std.specs.Prelude.{Option, Some, None, slice_get, nat_lt, nat_eq, ◌&&◌, if◌then◌else◌}
+use Rattle.std.proofs.Common.{◌≡◌, ℕ, ◌+◌, ◌*◌, ◌^◌, ◌<◌, ◌≤◌, inl, inr, arith, refl, ap, sym, ◌∙◌, subst, Bool, true, false, List, [], ◌∷◌, length}
+use Rattle.std.specs.Prelude.{Some, slice_get, nat_lt, nat_eq, ◌&&◌, if◌then◌else◌}
+use Rattle.std.proofs.lemmas.Bool.{cases_lt}
 use Rattle.std.proofs.lemmas.Bool.Decides.{nat_tests}
 use Rattle.std.proofs.lemmas.Option.{slice_get_within}
 use Rattle.root2_cost.specs.Rank.{straight_rank, diagonal_rank}
@@ -8,22 +9,13 @@ use Rattle.grid_moves.specs.declared.Cell.{Cell}
 use Rattle.grid_moves.specs.Grid.{GridData, IsGrid, is_inside}
 use Rattle.grid_moves.specs.Move.{all_dirs}
 use Rattle.cost_waves.specs.Front.{Front, spread}
-use Rattle.cost_waves.specs.Wave.{rank_at, known_count, Waits, AllWait, Held, before, in_now, in_next, in_after, Keeps, IsSettled, IsReady, IsMidway, IsSwept, settled, source_at}
-use Rattle.cost_waves.proofs.Keeping.{is_on, free_on, on_inside, Follows, few}
+use Rattle.cost_waves.specs.Wave.{rank_at, known_count, Waits, AllWait, Held, before, in_now, in_next, in_after, Keeps, IsSettled, IsReady, IsMidway, settled, source_at}
+use Rattle.cost_waves.proofs.Keeping.{is_on, free_on, on_inside, Follows, few, some_cell}
 use Rattle.cost_waves.proofs.Lists.{count_low}
 use Rattle.cost_waves.proofs.Settling.{IsSource, has_spread, settled_on, in_all}
 use Rattle.cost_waves.proofs.Walks.{way_by_more}
 
--- before any cell of the list
-pub midway_none : (g : GridData) (s : Cell) (floor : ℕ) (now : List Cell) (f : Front)
-    → IsReady g s floor now f
-    → IsMidway g s floor now 0 f
-midway_none g s floor now f r = record { ready = r; settled = λ j u h. absurd (omega arith) }
-
 module _ (g : GridData) (s : Cell) (whole : IsGrid g) (floor : ℕ) (now : List Cell) where
-  some_cell : (u v : Cell) → Some u ≡ Some v → u ≡ v
-  some_cell u v e = ap (λ (o : Option Cell). elim o as (λ _. Cell) [ Some c ↦ c | None ↦ u ]) e
-
   -- offers of a cell leave the wave ready
   still_ready : (f f' : Front) → Keeps g s floor now f' → Follows g floor f f' → IsReady g s floor now f
       → IsReady g s floor now f'
@@ -71,15 +63,13 @@ module _ (g : GridData) (s : Cell) (whole : IsGrid g) (floor : ℕ) (now : List 
       up_to : (f' : Front) → ((j : ℕ) (u : Cell) → j < i → slice_get now j ≡ Some u → IsSettled g s f' u)
           → IsSettled g s f' c → (j : ℕ) (u : Cell) → j < i + 1 → slice_get now j ≡ Some u
           → IsSettled g s f' u
-      up_to f' old new j u h p = by_place (nat_lt j i) refl
-        where
-          last : nat_lt j i ≡ false → j ≡ i
-          last t = grind (arith, nat_tests)
-
-          by_place : (b : Bool) → nat_lt j i ≡ b → IsSettled g s f' u
-          by_place true t = old j u (grind (arith, nat_tests)) p
-          by_place false t = subst (λ (v : Cell). IsSettled g s f' v)
-              (some_cell c u (sym e ∙ ap (λ (n : ℕ). slice_get now n) (sym (last t)) ∙ p)) new
+      up_to f' old new j u h p = elim (cases_lt j i) [
+        | inl less ↦ old j u less p
+        | inr more ↦
+            let last : i ≡ j = omega arith in
+            subst (λ (v : Cell). IsSettled g s f' v)
+            (some_cell c u (sym e ∙ ap (λ (n : ℕ). slice_get now n) last ∙ p)) new
+      ]
 
       by_test : (b : Bool) → nat_lt (rank_at g f.ranks c) floor ≡ b → IsMidway g s floor now (i + 1)
           (if b then f else spread g (floor + 2 * straight_rank) (source_at g c f) all_dirs f)
@@ -165,21 +155,6 @@ floor_low g s whole floor now f r t = by_lists now f.next f.after r.keeps.wait_n
     by_lists [] [] (z ∷ zs) p q w t = let h = (w 0 z refl).reached in omega arith
     by_lists [] [] [] p q w t = absurd (cc)
 
--- when none does, the pass is over
-pub swept : (g : GridData) (s : Cell) (floor : ℕ) (now : List Cell) (f : Front) → IsReady g s floor now f
-    → (nat_eq (length now) 0 && nat_eq (length f.next) 0 && nat_eq (length f.after) 0) ≡ true
-    → IsSwept g s f.ranks f.firsts
-swept g s floor now f r t = by_lists now f.next f.after r t
-  where
-    by_lists : (xs ys zs : List Cell)
-        → IsReady g s floor xs (record { ranks = f.ranks; firsts = f.firsts; next = ys; after = zs })
-        → (nat_eq (length xs) 0 && nat_eq (length ys) 0 && nat_eq (length zs) 0) ≡ true
-        → IsSwept g s f.ranks f.firsts
-    by_lists [] [] [] r t = record { floor = floor; ready = r }
-    by_lists (x ∷ xs) ys zs r t = absurd (grind (arith, nat_tests))
-    by_lists [] (y ∷ ys) zs r t = absurd (grind (arith, nat_tests))
-    by_lists [] [] (z ∷ zs) r t = absurd (grind (arith, nat_tests))
-
 -- the bound on the wave in one number
 pub floor_small : (g : GridData) (s : Cell) → IsGrid g → (floor : ℕ) (now : List Cell) (f : Front)
     → IsReady g s floor now f → (nat_eq (length now) 0 && nat_eq (length f.next) 0 && nat_eq
@@ -196,13 +171,7 @@ pub ready_by : (g : GridData) (s : Cell) (floor : ℕ) (ranks firsts : List ℕ)
     → IsReady g s floor now (record { ranks = ranks; firsts = firsts; next = next; after = after })
     → (now' next' after' : List Cell) → now' ≡ now → next' ≡ next → after' ≡ after
     → IsReady g s floor now' (record { ranks = ranks; firsts = firsts; next = next'; after = after' })
-ready_by g s floor ranks firsts now next after r now' next' after' p q t =
-    subst (λ (zs : List Cell). IsReady g s floor now'
-    (record { ranks = ranks; firsts = firsts; next = next'; after = zs })) (sym t)
-    (subst (λ (ys : List Cell). IsReady g s floor now'
-    (record { ranks = ranks; firsts = firsts; next = ys; after = after })) (sym q)
-    (subst (λ (xs : List Cell). IsReady g s floor xs
-    (record { ranks = ranks; firsts = firsts; next = next; after = after })) (sym p) r))
+ready_by g s floor ranks firsts now next after r now' next' after' p q t = rw (p, q, t) r
 
 -- a wave and the turn after it
 pub wave_turned : (g : GridData) (s : Cell) (floor : ℕ) (now now1 : List Cell) (f0 f : Front) → floor < 2 ^ 61

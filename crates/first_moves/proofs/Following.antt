@@ -1,5 +1,5 @@
 -- The walk of first moves.
-use Rattle.std.proofs.Common.{◌≡◌, ◌+◌, ◌*◌, ◌<◌, inl, inr, arith, refl, ap, sym, ◌∙◌, subst, Bool, true, false, List, [], ◌∷◌, ◌++◌}
+use Rattle.std.proofs.Common.{◌≡◌, ◌+◌, ◌*◌, ◌<◌, arith, refl, ap, sym, ◌∙◌, subst, Bool, true, false, List, [], ◌∷◌, ◌++◌}
 use Rattle.std.proofs.lemmas.List.{append_assoc}
 use Rattle.std.specs.Prelude.{Option, Some, None, not, if◌then◌else◌, IfSome, option_and_then}
 use Rattle.root2_cost.specs.declared.Cost.{Cost}
@@ -100,7 +100,8 @@ one_on g s t before at v points points1 cost w l e =
     let over = goes_over g at v t l.dir l.ahead l.first.0 in
     record {
       way = w.way ++ (v ∷ []);
-      first = λ rest f. subst (λ (c : List Cell). AreFirst g t s c) (sym (joined rest)) (w.first (v ∷ rest) (l, f));
+      first = λ rest f. subst (λ (c : List Cell). AreFirst g t s c) (sym (joined rest))
+          (w.first (v ∷ rest) (l, f));
       least = λ rest f. subst (λ (c : List Cell). IsLeastWalk g s t c) (sym (joined rest))
           (w.least (v ∷ rest) (over_first g at t v l rest f));
       turns = λ rest. ap (λ (c : List Cell). corners (s ∷ c)) (joined rest) ∙ w.turns (v ∷ rest)
@@ -136,12 +137,6 @@ few_moves g s t before at points cost w apart = by_left w.left w.goes_on
         let sum = rw (w.paid (v ∷ left)) at all in
         omega (arith, short, sum, rest)
 
--- there is a next cell
-pub goes_further : (g : GridData) (s t before at : Cell) (points : List Cell) (cost : Cost)
-    → IsUnderWay g s t before at points cost → (at ≡ t → ⊥) → IsNext g at t None → ⊥
-goes_further g s t before at points cost w apart (inl e) = apart e
-goes_further g s t before at points cost w apart (inr none) = none w.left w.goes_on.walk
-
 -- where s is t, no move is needed
 nowhere : (g : GridData) (s t : Cell) → is_free g s ≡ true → s ≡ t → IsLeastWalk g s t []
 nowhere g s t free e = record {
@@ -170,7 +165,8 @@ pub stands : (g : GridData) (s t : Cell) (points : List Cell) (cost : Cost) → 
     → StandsForLeast g s t points cost
 stands g s t points cost f = record {
   cells = f.cells;
-  unfolds = ap (λ (p : List Cell). unfolding_of p) f.turns ∙ corners_unfold g (s ∷ f.cells) f.least.walk.legal;
+  unfolds = ap (λ (p : List Cell). unfolding_of p) f.turns
+      ∙ corners_unfold g (s ∷ f.cells) f.least.walk.legal;
   least = f.least;
   priced = f.priced;
 }
@@ -179,7 +175,8 @@ stands g s t points cost f = record {
 pub counts_one : (u v : Cell) (cost : Cost) → cost ≡ move_cost u v → cost.a + cost.b ≡ 1
 counts_one u v cost e = subst (λ (c : Cost). c.a + c.b ≡ 1) (sym e) (move_counts u v)
 
-pub set_out_by : (g : GridData) (s t v : Cell) (none points : List Cell) (cost : Cost) → LeadsTo g s t v → none ≡ []
+pub set_out_by : (g : GridData) (s t v : Cell) (none points : List Cell) (cost : Cost)
+    → LeadsTo g s t v → none ≡ []
     → points ≡ none ++ (s ∷ []) → cost ≡ move_cost s v → IsUnderWay g s t s v points cost
 set_out_by g s t v none points cost l n p c =
     let is : points ≡ s ∷ [] = p ∙ ap (λ (q : List Cell). q ++ (s ∷ [])) n in
@@ -200,7 +197,8 @@ counts_more u v cost move cost1 m c =
     let one = counts_one u v move m in
     subst (λ (k : Cost). k.a + k.b ≡ cost.a + cost.b + 1) (sym c) (omega (arith, one))
 
-pub no_move_by : (g : GridData) (s t : Cell) (none points : List Cell) → is_free g s ≡ true → s ≡ t → none ≡ []
+pub no_move_by : (g : GridData) (s t : Cell) (none points : List Cell) → is_free g s ≡ true → s
+    ≡ t → none ≡ []
     → points ≡ none ++ (s ∷ []) → IsFollowed g s t points no_cost
 no_move_by g s t none points free e n p =
     let is : points ≡ s ∷ [] = p ∙ ap (λ (q : List Cell). q ++ (s ∷ [])) n in

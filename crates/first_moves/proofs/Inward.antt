@@ -1,11 +1,12 @@
 -- A pass from the goal tells the first moves to it.
-use Rattle.std.proofs.Common.{◌≡◌, ℕ, ◌+◌, ◌*◌, ◌<◌, ◌≤◌, arith, refl, ap, sym, ◌∙◌, subst, true, List, ◌∷◌, mul-le-mul}
+use Rattle.std.proofs.Common.{◌≡◌, ◌+◌, ◌*◌, ◌<◌, ◌≤◌, arith, refl, ap, sym, ◌∙◌, subst, true, List, ◌∷◌, mul-le-mul}
 use Rattle.std.specs.Prelude.{Option, Some, None}
 use Rattle.std.proofs.lemmas.Bool.Decides.{nat_tests}
 use Rattle.root2_cost.specs.declared.Cost.{Cost}
 use Rattle.root2_cost.specs.Order.{IsAtMost}
 use Rattle.root2_cost.specs.Sums.{add_costs}
 use Rattle.root2_cost.proofs.AtMost.{IsAtMost-antisymmetric, IsAtMost-refl}
+use Rattle.root2_cost.proofs.Less.{same_cost as same_parts}
 use Rattle.root2_cost.proofs.Sums.{add_costs-comm}
 use Rattle.grid_moves.specs.declared.Cell.{Cell}
 use Rattle.grid_moves.specs.declared.Dir.{Dir}
@@ -27,11 +28,7 @@ use Rattle.first_moves.proofs.Picking.{first_is}
 use Rattle.first_moves.proofs.Turned.{cost_to_back}
 
 same_cost : (p q : Cost) → is_same_cost p q ≡ true → p ≡ q
-same_cost p q h =
-    let a : p.a ≡ q.a = grind (arith, nat_tests) in
-    let b : p.b ≡ q.b = grind (arith, nat_tests) in
-    ap (λ (n : ℕ). let c : Cost = record { a = n; b = p.b } in c) a
-    ∙ ap (λ (n : ℕ). let c : Cost = record { a = q.a; b = n } in c) b
+same_cost p q h = same_parts p q (grind (arith, nat_tests)) (grind (arith, nat_tests))
 
 cost_itself : (p q : Cost) → p ≡ q → is_same_cost p q ≡ true
 cost_itself p q e = subst (λ (c : Cost). is_same_cost p c ≡ true) e (grind (arith, nat_tests))
@@ -61,7 +58,8 @@ module _ (g : GridData) (goal : Cell) (w : WaveData) (p : IsPassFrom g goal w) w
   pub small : (c : Cell) (cost : Cost) → is_inside g c ≡ true → cost_at w c ≡ Some cost
       → cost.a + cost.b < 16777216
   small c cost i e =
-      let l : IsLeastCost g c goal cost = subst (λ (o : Option Cost). IsCostTo g c goal o) e (cost_from c i) in
+      let l : IsLeastCost g c goal cost =
+      subst (λ (o : Option Cost). IsCostTo g c goal o) e (cost_from c i) in
       let steps = least_steps g c goal l.cells l.least in
       let counts = cost_counts c l.cells in
       let few = few_cells g p.sides in
@@ -84,7 +82,8 @@ module _ (g : GridData) (goal : Cell) (w : WaveData) (p : IsPassFrom g goal w) w
       by_costs (Some h) (Some k) l m =
           cost_itself (add_costs k (move_cost c b.next)) h
           (add_costs-comm k (move_cost c b.next)
-          ∙ ap (λ (x : Cost). add_costs (move_cost c b.next) x) (sym (one_cost g b.next goal k b.cells m rest))
+          ∙ ap (λ (x : Cost). add_costs (move_cost c b.next) x)
+          (sym (one_cost g b.next goal k b.cells m rest))
           ∙ one_cost g c goal h (b.next ∷ b.cells) l b.least)
 
   -- and one that saves it begins one

@@ -19,7 +19,6 @@ use Rattle.goal_boxes.specs.declared.boxed.Boxed.{Boxed}
 use Rattle.goal_boxes.specs.Answer.{IsRunBy, IsBoxedRunOn}
 use Rattle.goal_boxes.specs.Box.{IsWithin, IsAreaOf, IsBox, AreBoxes, BoxTeller, TellsBoxes, box_in}
 use Rattle.goal_boxes.specs.Offers.{Agree}
-use Rattle.goal_boxes.specs.Stored.{BoxData, box_at, HoldsBoxes}
 use Rattle.goal_boxes.specs.Wide.{widened, Scanned}
 use Rattle.goal_boxes.proofs.Growing.{cell, one_of_kind, one_of_other, row_scanned, none_scanned, same_area, end_of_walk}
 use Rattle.goal_boxes.proofs.Right.{HasLeastWalk, by_walk, by_none, least_or_none}
@@ -140,10 +139,6 @@ pub agree : (g : GridData) (box : BoxTeller) → TellsBoxes g box → (u : Cell)
     → (boxes : CellBoxes) → AreBoxes g u boxes → Agree boxes box u
 agree g box tells u free boxes are =
     λ d. one_box (λ t. Begins g u t d) (box_in boxes d) (box u d) (are d) (tells.boxes u free d)
-
--- boxes that are kept tell those of the grid
-pub kept_tell : (g : GridData) (b : BoxData) → HoldsBoxes g b → TellsBoxes g (box_at b)
-kept_tell g b h = record { boxes = λ c f d. h.boxes c f d }
 
 -- and a run by such boxes is the grid's
 pub ran_on_grid : {E : Type 0} (g : GridData) (box : BoxTeller) (s t : Cell) (r : Result Boxed E)

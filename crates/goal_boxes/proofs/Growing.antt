@@ -1,6 +1,7 @@
 -- A rectangle grows by one cell, and a scan by one place.
-use Rattle.std.proofs.Common.{◌≡◌, ◌≤◌, ◌<◌, ◌+◌, ◌-◌, ◌⊎◌, inl, inr, ℕ, Bool, true, false, refl, ap, sym, ◌∙◌, subst, arith, List, [], ◌∷◌}
+use Rattle.std.proofs.Common.{◌≡◌, ◌≤◌, ◌<◌, ◌+◌, ◌⊎◌, inl, inr, ℕ, true, refl, ap, sym, ◌∙◌, subst, arith, List, [], ◌∷◌}
 use Rattle.std.specs.Prelude.{nat_lt, Option, Some, None, if◌then◌else◌}
+use Rattle.std.proofs.lemmas.Bool.{cases_lt}
 use Rattle.std.proofs.lemmas.Bool.Decides.{nat_tests}
 use Rattle.grid_moves.specs.declared.Cell.{Cell}
 use Rattle.grid_moves.specs.declared.Dir.{Dir}
@@ -51,18 +52,21 @@ record IsGreater (m n k : ℕ) : Type 0 where
   pub least : (l : ℕ) → m ≤ l → n ≤ l → k ≤ l
 
 lesser : (m n : ℕ) → IsLesser m n (if nat_lt m n then m else n)
-lesser m n = by_test (nat_lt m n) refl
-  where
-    by_test : (b : Bool) → nat_lt m n ≡ b → IsLesser m n (if b then m else n)
-    by_test true e = record { first = omega arith; second = (let h : m < n = grind (arith, nat_tests) in omega arith); greatest = λ l p q. p }
-    by_test false e = record { first = (let h : n ≤ m = grind (arith, nat_tests) in h); second = omega arith; greatest = λ l p q. q }
+lesser m n = record {
+  first = grind (arith, nat_tests);
+  second = grind (arith, nat_tests);
+  greatest = λ l p q. grind (arith, nat_tests);
+}
 
 greater : (m n : ℕ) → IsGreater m n (if nat_lt m n then n else m)
-greater m n = by_test (nat_lt m n) refl
-  where
-    by_test : (b : Bool) → nat_lt m n ≡ b → IsGreater m n (if b then n else m)
-    by_test true e = record { first = (let h : m < n = grind (arith, nat_tests) in omega arith); second = omega arith; least = λ l p q. q }
-    by_test false e = record { first = omega arith; second = (let h : n ≤ m = grind (arith, nat_tests) in h); least = λ l p q. p }
+greater m n = record {
+  first = grind (arith, nat_tests);
+  second = grind (arith, nat_tests);
+  least = λ l p q. grind (arith, nat_tests);
+}
+
+less_or_same : (m n : ℕ) → m < n + 1 → (m < n) ⊎ (m ≡ n)
+less_or_same m n h = elim (cases_lt m n) [ inl less ↦ inl less | inr more ↦ inr (omega arith) ]
 
 module _ (P Q : Cell → Type 0) (more : (c : Cell) → P c → Q c) (new : Cell) (is_new : Q new)
     (either : (c : Cell) → Q c → (P c) ⊎ (c ≡ new)) where
@@ -139,13 +143,11 @@ module _ (width : ℕ) (P : Cell → Type 0) where
   met_or_here : (y x : ℕ) (c : Cell) → Scanned width P y (x + 1) c → (Scanned width P y x c) ⊎ (c ≡ cell y x)
   met_or_here y x c s = elim s.before [
     | inl h ↦ inl (record { column = s.column; kind = s.kind; before = inl h })
-    | inr h ↦ by_test h.0 h.1 (nat_lt c.x x) refl
+    | inr h ↦ elim (less_or_same c.x x h.1) [
+      | inl less ↦ inl (record { column = s.column; kind = s.kind; before = inr (h.0, less) })
+      | inr same ↦ inr (same_cell c (cell y x) same h.0)
+    ]
   ]
-    where
-      by_test : c.y ≡ y → c.x < x + 1 → (b : Bool) → nat_lt c.x x ≡ b → (Scanned width P y x c) ⊎ (c ≡ cell y x)
-      by_test e h true t =
-          inl (record { column = s.column; kind = s.kind; before = inr (e, grind (arith, nat_tests)) })
-      by_test e h false t = inr (same_cell c (cell y x) (let k : x ≤ c.x = grind (arith, nat_tests) in omega arith) e)
 
   pub one_of_kind : (y x : ℕ) → x < width → P (cell y x) → (found : Option Area)
       → IsAreaOf (Scanned width P y x) found
@@ -162,27 +164,28 @@ module _ (width : ℕ) (P : Cell → Type 0) where
       ])
 
   -- a whole row
+  next_row : (y x : ℕ) (c : Cell) → Scanned width P y x c → Scanned width P (y + 1) 0 c
+  next_row y x c s = record {
+    column = s.column;
+    kind = s.kind;
+    before = inl (elim s.before [ inl h ↦ omega arith | inr h ↦ (let e = h.0 in omega arith) ]);
+  }
+
+  -- what is met in a row more was met, or it lies in the row
+  met_or_in_row : (y : ℕ) (c : Cell) → Scanned width P (y + 1) 0 c → (c.y < y) ⊎ (c.y ≡ y)
+  met_or_in_row y c s = elim s.before [
+    | inl h ↦ less_or_same c.y y h
+    | inr h ↦ absurd (let l = h.1 in omega arith)
+  ]
+
   pub row_scanned : (y : ℕ) (found : Option Area) → IsAreaOf (Scanned width P y width) found
       → IsAreaOf (Scanned width P (y + 1) 0) found
-  row_scanned y = same_area (Scanned width P y width) (Scanned width P (y + 1) 0)
+  row_scanned y = same_area (Scanned width P y width) (Scanned width P (y + 1) 0) (next_row y width)
       (λ c s. record {
         column = s.column;
         kind = s.kind;
-        before = inl (elim s.before [ inl h ↦ omega arith | inr h ↦ (let e = h.0 in omega arith) ]);
+        before = elim (met_or_in_row y c s) [ inl less ↦ inl less | inr same ↦ inr (same, s.column) ];
       })
-      (λ c s. record {
-        column = s.column;
-        kind = s.kind;
-        before = elim s.before [
-          | inl h ↦ by_test s.column h (nat_lt c.y y) refl
-          | inr h ↦ absurd (let l = h.1 in omega arith)
-        ];
-      })
-    where
-      by_test : {c : Cell} → c.x < width → c.y < y + 1 → (b : Bool) → nat_lt c.y y ≡ b
-          → (c.y < y) ⊎ ((c.y ≡ y) × (c.x < width))
-      by_test {c} l h true t = inl (grind (arith, nat_tests))
-      by_test {c} l h false t = inr ((let k : y ≤ c.y = grind (arith, nat_tests) in omega arith), l)
 
   -- before any row
   pub none_scanned : IsAreaOf (Scanned width P 0 0) None
@@ -195,29 +198,18 @@ module _ (w : WaveData) (d : Dir) where
   -- a row of which the direction is not told adds nothing
   pub row_untold : (y : ℕ) → NoneTold w d y 0 w.width → (found : Option Area) → IsAreaOf (Seen w d y 0) found
       → IsAreaOf (Seen w d (y + 1) 0) found
-  row_untold y none = same_area (Seen w d y 0) (Seen w d (y + 1) 0)
+  row_untold y none = same_area (Seen w d y 0) (Seen w d (y + 1) 0) (next_row w.width (IsTold w d) y 0)
       (λ c s. record {
         column = s.column;
         kind = s.kind;
-        before = inl (elim s.before [ inl h ↦ omega arith | inr h ↦ absurd (let l = h.1 in omega arith) ]);
-      })
-      (λ c s. record {
-        column = s.column;
-        kind = s.kind;
-        before = elim s.before [
-          | inl h ↦ by_test c s.column s.kind h (nat_lt c.y y) refl
-          | inr h ↦ absurd (let l = h.1 in omega arith)
+        before = elim (met_or_in_row w.width (IsTold w d) y c s) [
+          | inl less ↦ inl less
+          | inr same ↦ absurd (
+              let told = told_at y c same s.kind in
+              let untold = none c.x (omega arith) s.column in
+              cc)
         ];
       })
-    where
-      by_test : (c : Cell) → c.x < w.width → IsTold w d c → c.y < y + 1 → (b : Bool) → nat_lt c.y y ≡ b
-          → (c.y < y) ⊎ ((c.y ≡ y) × (c.x < 0))
-      by_test c l k h true t = inl (grind (arith, nat_tests))
-      by_test c l k h false t =
-          let e : c.y ≡ y = (let m : y ≤ c.y = grind (arith, nat_tests) in omega arith) in
-          let told = told_at y c e k in
-          let untold = none c.x (omega arith) l in
-          absurd (cc)
 
   -- of another one its first cell and its last cell are enough
   module _ (y first last : ℕ) (f : IsFirstTold w d y first) (l : IsLastTold w d y first last) where
@@ -234,13 +226,6 @@ module _ (w : WaveData) (d : Dir) where
     abbrev WithBoth : Cell → Type 0
     WithBoth c = With c ⊎ (c ≡ at_last)
 
-    seen_later : (c : Cell) → Seen w d y 0 c → Seen w d (y + 1) 0 c
-    seen_later c s = record {
-      column = s.column;
-      kind = s.kind;
-      before = inl (elim s.before [ inl h ↦ omega arith | inr h ↦ absurd (let k = h.1 in omega arith) ]);
-    }
-
     first_seen : Seen w d (y + 1) 0 at_first
     first_seen = record { column = f.within; kind = f.told; before = inl (omega arith) }
 
@@ -249,22 +234,22 @@ module _ (w : WaveData) (d : Dir) where
 
     -- the cells of the row lie between the two
     between : (c : Cell) → c.y ≡ y → c.x < w.width → IsTold w d c → (first ≤ c.x) × (c.x ≤ last)
-    between c e n k = (by_first (nat_lt c.x first) refl, by_last (nat_lt last c.x) refl)
-      where
-        by_first : (b : Bool) → nat_lt c.x first ≡ b → first ≤ c.x
-        by_first true t =
+    between c e n k = (
+      elim (cases_lt c.x first) [
+        | inl less ↦ absurd (
             let told = told_at y c e k in
-            let untold = f.none_before c.x (omega arith) (grind (arith, nat_tests)) in
-            absurd (cc)
-        by_first false t = grind (arith, nat_tests)
-
-        by_last : (b : Bool) → nat_lt last c.x ≡ b → c.x ≤ last
-        by_last true t =
+            let untold = f.none_before c.x (omega arith) less in
+            cc)
+        | inr low ↦ low
+      ],
+      elim (cases_lt last c.x) [
+        | inl more ↦ absurd (
             let told = told_at y c e k in
-            let after : last + 1 ≤ c.x = (let m : last < c.x = grind (arith, nat_tests) in omega arith) in
-            let untold = l.none_after c.x after n in
-            absurd (cc)
-        by_last false t = grind (arith, nat_tests)
+            let untold = l.none_after c.x (omega arith) n in
+            cc)
+        | inr high ↦ high
+      ],
+    )
 
     pub row_told : (found : Option Area) → IsAreaOf (Seen w d y 0) found
         → IsAreaOf (Seen w d (y + 1) 0) (Some (with_cell (widened found at_first) at_last))
@@ -272,27 +257,26 @@ module _ (w : WaveData) (d : Dir) where
         let one = grown (Seen w d y 0) With (λ c s. inl s) at_first (inr refl) (λ c h. h) found area in
         let a : Area = with_cell (widened found at_first) at_last in
         let two : IsLeastArea WithBoth a =
-        grown With WithBoth (λ c s. inl s) at_last (inr refl) (λ c h. h) (Some (widened found at_first)) one in
+        grown With WithBoth (λ c s. inl s) at_last (inr refl) (λ c h. h)
+        (Some (widened found at_first)) one in
         record {
           some = at_last;
           is_one = last_seen;
-          all = λ c s. elim s.before [
-            | inl h ↦ by_row a two c s h (nat_lt c.y y) refl
-            | inr h ↦ absurd (let k = h.1 in omega arith)
+          all = λ c s. elim (met_or_in_row w.width (IsTold w d) y c s) [
+            | inl less ↦ two.all c (inl
+                (inl (record { column = s.column; kind = s.kind; before = inl less })))
+            | inr same ↦ in_row a two c s same
           ];
           least = λ b held. two.least b (λ c h. elim h [
-            | inl (inl s) ↦ held c (seen_later c s)
+            | inl (inl s) ↦ held c (next_row w.width (IsTold w d) y 0 c s)
             | inl (inr e) ↦ subst (λ (k : Cell). holds b k ≡ true) (sym e) (held at_first first_seen)
             | inr e ↦ subst (λ (k : Cell). holds b k ≡ true) (sym e) (held at_last last_seen)
           ]);
         }
       where
-        by_row : (a : Area) → IsLeastArea WithBoth a → (c : Cell) → Seen w d (y + 1) 0 c → c.y < y + 1 → (b : Bool)
-            → nat_lt c.y y ≡ b → holds a c ≡ true
-        by_row a two c s h true t =
-            two.all c (inl (inl (record { column = s.column; kind = s.kind; before = inl (grind (arith, nat_tests)) })))
-        by_row a two c s h false t =
-            let e : c.y ≡ y = (let m : y ≤ c.y = grind (arith, nat_tests) in omega arith) in
+        in_row : (a : Area) → IsLeastArea WithBoth a → (c : Cell) → Seen w d (y + 1) 0 c → c.y ≡ y
+            → holds a c ≡ true
+        in_row a two c s e =
             let p = between c e s.column s.kind in
             let low = p.0 in
             let high = p.1 in
@@ -302,28 +286,13 @@ module _ (w : WaveData) (d : Dir) where
             let right = v.right in
             let above = u.above in
             let below = u.below in
-            is_held a c (record { left = omega arith; right = omega arith; above = omega arith; below = omega arith })
-
--- a column more of which it is not told
-pub none_more : (w : WaveData) (d : Dir) (y high : ℕ) → NoneTold w d y 0 high
-    → begins_with w (record { x = high; y = y }) d ≡ false → NoneTold w d y 0 (high + 1)
-none_more w d y high none f x low h = by_test (nat_lt x high) refl
-  where
-    by_test : (b : Bool) → nat_lt x high ≡ b → begins_with w (record { x = x; y = y }) d ≡ false
-    by_test true t = none x low (grind (arith, nat_tests))
-    by_test false t =
-        let e : x ≡ high = (let m : high ≤ x = grind (arith, nat_tests) in omega arith) in
-        ap (λ (n : ℕ). begins_with w (record { x = n; y = y }) d) e ∙ f
-
-pub none_earlier : (w : WaveData) (d : Dir) (y low : ℕ) → 0 < low → NoneTold w d y (low + 1) w.width
-    → begins_with w (record { x = low; y = y }) d ≡ false → NoneTold w d y (low - 1 + 1) w.width
-none_earlier w d y low p none f x l h = by_test (nat_lt low x) refl
-  where
-    by_test : (b : Bool) → nat_lt low x ≡ b → begins_with w (record { x = x; y = y }) d ≡ false
-    by_test true t = none x (let m : low < x = grind (arith, nat_tests) in omega arith) h
-    by_test false t =
-        let e : x ≡ low = (let m : x ≤ low = grind (arith, nat_tests) in omega arith) in
-        ap (λ (n : ℕ). begins_with w (record { x = n; y = y }) d) e ∙ f
+            is_held a c (record {
+              left = omega arith;
+              right = omega arith;
+              above = omega arith;
+              below =
+                  omega arith;
+            })
 
 -- where some least walk ends lies on the map
 end_free : (g : GridData) (u : Cell) (cells : List Cell) → is_walk g (u ∷ cells) ≡ true
@@ -337,7 +306,8 @@ end_of_walk g u t d b =
     subst (λ (v : Cell). is_free g v ≡ true) w.ends (end_free g u (b.next ∷ b.cells) w.legal)
 
 -- what was seen when all rows were is what begins so
-pub all_seen : (g : GridData) (u : Cell) (w : WaveData) → w.width ≡ g.width → w.height ≡ g.height → Tells g u w
+pub all_seen : (g : GridData) (u : Cell) (w : WaveData) → w.width ≡ g.width → w.height ≡ g.height
+    → Tells g u w
     → (d : Dir) (found : Option Area) → IsAreaOf (Seen w d w.height 0) found → IsBox g u d found
 all_seen g u w wide high tells d = same_area (Seen w d w.height 0) (λ t. Begins g u t d)
     (λ c s. (tells.firsts c d (inside c s)).0 s.kind)
@@ -357,7 +327,11 @@ all_seen g u w wide high tells d = same_area (Seen w d w.height 0) (λ t. Begins
     inside : (c : Cell) → Seen w d w.height 0 c → is_inside g c ≡ true
     inside c s =
         let x = s.column in
-        on_map c (omega arith) (elim s.before [ inl h ↦ omega arith | inr h ↦ absurd (let l = h.1 in omega arith) ])
+        on_map c (omega arith) (elim s.before [
+          | inl h ↦ omega arith
+          | inr h ↦
+              absurd (let l = h.1 in omega arith)
+        ])
 
 -- a box for each direction
 pub each_dir : (P : Dir → Option Area → Type 0) (b : CellBoxes) → P N b.n → P NE b.ne → P E b.e → P SE b.se

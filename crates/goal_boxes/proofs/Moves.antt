@@ -1,11 +1,11 @@
 -- The links of the boxed search: legal moves whose boxes hold the goal.
-use Rattle.std.proofs.Common.{◌≡◌, refl, ap, sym, ◌∙◌, Bool, true, false, ◌&&◌, ◌||◌, List, [], ◌∷◌}
+use Rattle.std.proofs.Common.{◌≡◌, refl, ap, sym, ◌∙◌, Bool, true, false, ◌||◌, List, [], ◌∷◌}
 use Rattle.std.specs.Prelude.{Option, Some, None, if◌then◌else◌}
 use Rattle.std.specs.Option.{option_map_or}
 use Rattle.root2_cost.specs.declared.Cost.{Cost}
+use Rattle.std.proofs.lemmas.Bool.{and_from}
 use Rattle.grid_moves.specs.declared.Cell.{Cell}
 use Rattle.grid_moves.specs.declared.Dir.{Dir}
-use Rattle.grid_moves.specs.declared.Dir.TheVariants.{N, NE, E, SE, S, SW, W, NW}
 use Rattle.grid_moves.specs.Grid.{GridData}
 use Rattle.grid_moves.specs.Move.{is_legal, is_same, move_cost, ahead, all_dirs, legal_ahead}
 use Rattle.grid_moves.proofs.Legal.{is_same-cell, is_same-itself, and_both}
@@ -19,6 +19,7 @@ use Rattle.plain_search.specs.Rule.{plain_links, is_led}
 use Rattle.plain_search.proofs.Dropping.{LeadsTo, leads}
 use Rattle.plain_search.proofs.Offering.{ahead_cost}
 use Rattle.plain_search.proofs.Walks.{IsMove, link_move, legal_link, plain_are_links}
+use Rattle.cost_waves.proofs.Settling.{In, first, later, in_all}
 use Rattle.goal_boxes.specs.Box.{BoxTeller}
 use Rattle.goal_boxes.specs.Offers.{toward}
 use Rattle.goal_boxes.specs.Rule.{is_toward, leads_toward, is_toward_by, boxed_step, boxed_links, boxed_rule}
@@ -27,60 +28,33 @@ or_late : (p q : Bool) → q ≡ true → (p || q) ≡ true
 or_late true q e = refl
 or_late false q e = e
 
-or_first : (p q : Bool) → p ≡ true → (p || q) ≡ true
-or_first true q e = refl
-or_first false q e = absurd (cc)
-
-both : (p q : Bool) → p ≡ true → q ≡ true → (p && q) ≡ true
-both true q e f = f
-both false q e f = absurd (cc)
-
--- the direction is among these
-data IsOneOf (d : Dir) : List Dir → Type 0 where
-  here_is : (dirs : List Dir) → IsOneOf d (d ∷ dirs)
-  there_is : (e : Dir) (dirs : List Dir) → IsOneOf d dirs → IsOneOf d (e ∷ dirs)
-
-one_of_all : (d : Dir) → IsOneOf d all_dirs
-one_of_all N = here_is _
-one_of_all NE = there_is _ _ (here_is _)
-one_of_all E = there_is _ _ (there_is _ _ (here_is _))
-one_of_all SE = there_is _ _ (there_is _ _ (there_is _ _ (here_is _)))
-one_of_all S = there_is _ _ (there_is _ _ (there_is _ _ (there_is _ _ (here_is _))))
-one_of_all SW = there_is _ _ (there_is _ _ (there_is _ _ (there_is _ _ (there_is _ _ (here_is _)))))
-one_of_all W = there_is _ _ (there_is _ _ (there_is _ _ (there_is _ _ (there_is _ _ (there_is _ _
-    (here_is _))))))
-one_of_all NW = there_is _ _ (there_is _ _ (there_is _ _ (there_is _ _ (there_is _ _ (there_is _ _
-    (there_is _ _ (here_is _)))))))
+if_some : {A : Type 0} (p : Bool) (x : Option A) (a : A) → (if p then x else None) ≡ Some a
+    → (p ≡ true) × (x ≡ Some a)
+if_some true x a e = (refl, e)
+if_some false x a e = absurd (cc)
 
 module _ (g : GridData) (b : BoxTeller) (t : Cell) where
   -- one direction is among all
-  by_list : (u v : Cell) (d : Dir) → leads_toward b t u v d ≡ true → (dirs : List Dir) → IsOneOf d dirs
+  by_list : (u v : Cell) (d : Dir) → leads_toward b t u v d ≡ true → (dirs : List Dir) → In d dirs
       → is_toward_by b t u v dirs ≡ true
   by_list u v d h [] m = elim m [ ]
-  by_list u v d h (e ∷ dirs) (here_is z) = or_first (leads_toward b t u v d) (is_toward_by b t u v dirs) h
-  by_list u v d h (e ∷ dirs) (there_is z w m) =
+  by_list u v d h (e ∷ dirs) (first z) = rw h refl
+  by_list u v d h (e ∷ dirs) (later z w m) =
       or_late (leads_toward b t u v e) (is_toward_by b t u v dirs) (by_list u v d h dirs m)
 
   one_toward : (u v : Cell) (d : Dir) → leads_toward b t u v d ≡ true → is_toward_by b t u v all_dirs ≡ true
-  one_toward u v d h = by_list u v d h all_dirs (one_of_all d)
+  one_toward u v d h = by_list u v d h all_dirs (in_all d)
 
   -- a link is one of the plain engine, toward the goal
-  pub plain_step : (u v : State) (c : Cost) → boxed_step g b t u v ≡ Some c → (plain_links g).step u v ≡ Some c
-  plain_step u v c e = by_test (is_toward_by b t u.cell v.cell all_dirs) e
-    where
-      by_test : (p : Bool) → (if p then (plain_links g).step u v else None) ≡ Some c
-          → (plain_links g).step u v ≡ Some c
-      by_test true e = e
-      by_test false e = absurd (cc)
+  pub plain_step : (u v : State) (c : Cost) → boxed_step g b t u v ≡ Some c
+      → (plain_links g).step u v ≡ Some c
+  plain_step u v c e =
+      (if_some (is_toward_by b t u.cell v.cell all_dirs) ((plain_links g).step u v) c e).1
 
   pub step_toward : (u v : State) (c : Cost) → boxed_step g b t u v ≡ Some c
       → is_toward_by b t u.cell v.cell all_dirs ≡ true
-  step_toward u v c e = by_test (is_toward_by b t u.cell v.cell all_dirs) refl e
-    where
-      by_test : (p : Bool) → is_toward_by b t u.cell v.cell all_dirs ≡ p
-          → (if p then (plain_links g).step u v else None) ≡ Some c → is_toward_by b t u.cell v.cell all_dirs ≡ true
-      by_test true f e = f
-      by_test false f e = absurd (cc)
+  step_toward u v c e =
+      (if_some (is_toward_by b t u.cell v.cell all_dirs) ((plain_links g).step u v) c e).0
 
   pub boxed_move : (u v : State) (c : Cost) → boxed_step g b t u v ≡ Some c → IsMove g u v c
   boxed_move u v c e = link_move g u v c (plain_step u v c e)
@@ -105,15 +79,13 @@ module _ (g : GridData) (b : BoxTeller) (t : Cell) where
     pub held : is_toward t (b c d) ≡ true
 
   pub toward_is : (c : Cell) (d : Dir) (v : Cell) → toward g b t c d ≡ Some v → IsToward c d v
-  toward_is c d v e = by_test (is_toward t (b c d)) refl e
-    where
-      by_test : (p : Bool) → is_toward t (b c d) ≡ p → (if p then legal_ahead g c d else None) ≡ Some v
-          → IsToward c d v
-      by_test true f e = record { leads = leads g c d v e; held = f }
-      by_test false f e = absurd (cc)
+  toward_is c d v e =
+      let p = if_some (is_toward t (b c d)) (legal_ahead g c d) v e in
+      record { leads = leads g c d v p.1; held = p.0 }
 
   led : (c : Cell) (d : Dir) (v : Cell) → ahead d c ≡ Some v → is_led c v (Some d) ≡ true
-  led c d v e = ap (λ (o : Option Cell). option_map_or (λ (w : Cell). is_same w v) o false) e ∙ is_same-itself v
+  led c d v e = ap (λ (o : Option Cell). option_map_or (λ (w : Cell). is_same w v) o false) e
+      ∙ is_same-itself v
 
   pub toward_led : (c : Cell) (d : Dir) (v : Cell) → IsToward c d v → is_led c v (Some d) ≡ true
   toward_led c d v w = led c d v w.leads.ahead_is
@@ -123,7 +95,7 @@ module _ (g : GridData) (b : BoxTeller) (t : Cell) where
       → boxed_step g b t (start_at c) (start_at v) ≡ Some (cost_to d)
   toward_link c d v w =
       let by : is_toward_by b t c v all_dirs ≡ true =
-      one_toward c v d (both (is_toward t (b c d)) (is_led c v (Some d)) w.held (toward_led c d v w)) in
+      one_toward c v d (and_from (is_toward t (b c d)) (is_led c v (Some d)) w.held (toward_led c d v w)) in
       let plain : (plain_links g).step (start_at c) (start_at v) ≡ Some (cost_to d) =
       legal_link g c v w.leads.legal ∙ ap (λ (e : Cost). Some e) (ahead_cost d c v w.leads.ahead_is) in
       rw by plain
@@ -141,7 +113,8 @@ module _ (g : GridData) (b : BoxTeller) (t : Cell) where
     pub to : toward g b t c d ≡ Some v
     pub priced : move_cost c v ≡ cost_to d
 
-  pub leads_is : (c v : Cell) (d : Dir) → is_legal g c v ≡ true → leads_toward b t c v d ≡ true → IsTowardBy c v d
+  pub leads_is : (c v : Cell) (d : Dir) → is_legal g c v ≡ true → leads_toward b t c v d ≡ true
+      → IsTowardBy c v d
   leads_is c v d l h =
       let p = and_both (is_toward t (b c d)) (is_led c v (Some d)) h in
       let on : ahead d c ≡ Some v = by_cell (ahead d c) refl p.1 in

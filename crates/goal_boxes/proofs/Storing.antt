@@ -17,9 +17,6 @@ length-one_more [] b = refl
 length-one_more (x ∷ cells) b = let e = length-one_more cells b in omega arith
 
 module _ (g : GridData) where
-  pub none_before : AreBefore g [] 0
-  none_before = record { count = refl; boxes = λ c f h. absurd (omega arith) }
-
   -- one cell more
   pub one_before : (cells : List CellBoxes) (n : ℕ) (u : Cell) (b : CellBoxes) → u.x < g.width
       → cell_number g.width u ≡ n → (is_free g u ≡ true → AreBoxes g u b) → AreBefore g cells n
@@ -37,7 +34,8 @@ module _ (g : GridData) where
           let there : get_or (cells ++ b ∷ []) (cell_number g.width c) no_boxes ≡ b =
           ap (λ (m : ℕ). get_or (cells ++ b ∷ []) m no_boxes) at ∙ get_or-append_seam cells b [] no_boxes in
           subst (λ (x : CellBoxes). AreBoxes g c x) (sym there)
-          (subst (λ (v : Cell). AreBoxes g v b) (sym same) (new (ap (λ (v : Cell). is_free g v) (sym same) ∙ f)))
+          (subst (λ (v : Cell). AreBoxes g v b) (sym same)
+          (new (ap (λ (v : Cell). is_free g v) (sym same) ∙ f)))
 
       by_test : (c : Cell) → is_free g c ≡ true → cell_number g.width c < n + 1 → (t : Bool)
           → nat_lt (cell_number g.width c) n ≡ t
@@ -62,6 +60,7 @@ module _ (g : GridData) where
     boxes = λ c f.
         let i = free_inside g c f in
         let below = number_below g.width g.height c i.0 i.1 in
-        subst (λ (n : ℕ). AreBoxes g c (boxes_at (record { width = n; height = height; cells = cells }) c)) (sym wide)
+        subst (λ (n : ℕ). AreBoxes g c
+        (boxes_at (record { width = n; height = height; cells = cells }) c)) (sym wide)
         (k.boxes c f below);
   }

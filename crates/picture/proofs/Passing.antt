@@ -1,5 +1,5 @@
 -- A row that is passed over from the left.
-use Rattle.std.proofs.Common.{◌≡◌, ℕ, zero, suc, ◌+◌, ◌-◌, ◌<◌, ◌≤◌, Bool, true, false, List, [], ◌∷◌, ◌++◌, length, map, get_or, drop, Result, Ok, Err, refl, sym, ap, ◌∙◌, append_assoc, drop-cons, arith}
+use Rattle.std.proofs.Common.{◌≡◌, ℕ, zero, suc, ◌+◌, ◌-◌, ◌<◌, ◌≤◌, Bool, true, false, List, [], ◌∷◌, ◌++◌, length, map, get_or, drop, Result, Ok, Err, sym, ap, ◌∙◌, append_assoc, drop-cons, arith}
 use Rattle.std.specs.Prelude.{OnOk}
 use Rattle.std.specs.List.{list_any}
 use Rattle.std.proofs.lemmas.List.{append-nil, drop_all}
@@ -19,7 +19,8 @@ left_of_row kind number row x long =
 abbrev pub strokes_of_row : Ground → List ℕ → List ℕ → List ℕ
 strokes_of_row kind number row = texts_of (stroke_over number) (runs_of kind row)
 
--- what is written and the strokes that are left are those of the row; the cells of the run under way lie behind
+-- what is written and the strokes that are left are those of the row; the cells of the run under way lie
+-- behind
 pub record HasPassed (kind : Ground) (number old row : List ℕ) (x long : ℕ) (new : List ℕ) : Type 0 where
   pub short : long ≤ x
   pub text : new ++ left_of_row kind number row x long ≡ old ++ strokes_of_row kind number row
@@ -36,9 +37,6 @@ run_written number x (suc n) marks halts short =
     ∙ ap (λ (k : ℕ). run_before number x (suc n) ++ texts_of (stroke_over number) (runs_from k marks)) back)
 
 module _ (kind : Ground) (number old row : List ℕ) where
-  pub none_passed : HasPassed kind number old row 0 0 old
-  none_passed = record { short = omega arith; text = refl }
-
   -- a row without a cell of the ground
   pub nothing_drawn : list_any (is_of kind) row ≡ false → old ≡ old ++ strokes_of_row kind number row
   nothing_drawn none = sym (append-nil old)

@@ -1,6 +1,6 @@
 -- Rows that are drawn, one after another.
-use Rattle.std.proofs.Common.{◌≡◌, ℕ, suc, ◌+◌, ◌-◌, ◌*◌, ◌<◌, ◌≤◌, List, ◌++◌, length, take, drop, refl, sym, ap, ◌∙◌, append_assoc, arith}
-use Rattle.std.proofs.lemmas.List.{append-nil, length-drop}
+use Rattle.std.proofs.Common.{◌≡◌, ℕ, suc, ◌+◌, ◌-◌, ◌*◌, ◌<◌, List, ◌++◌, length, take, drop, sym, ap, ◌∙◌, append_assoc, arith}
+use Rattle.std.proofs.lemmas.List.{length-drop}
 use Rattle.map_text.specs.Writing.{rows_of}
 use Rattle.picture.specs.declared.kinds.Ground.{Ground}
 use Rattle.picture.specs.Picture.{row_strokes, strokes_from}
@@ -16,20 +16,8 @@ one_less : (n width long : ℕ) → long ≡ suc n * width → long - width ≡ 
 one_less n width long is = omega arith
 
 module _ (kind : Ground) (old : List ℕ) (height width : ℕ) (cells : List ℕ) where
-  pub none_drawn : length cells ≡ height * width → AreDrawn kind old height width cells cells 0 old
-  none_drawn long =
-      let all : height - 0 ≡ height = omega arith in
-      record { long = rw all long; text = rw all refl }
-
   module _ (left : List ℕ) (y : ℕ) (new : List ℕ)
       (drawn : AreDrawn kind old height width cells left y new) where
-    pub room_for_row : y < height → width ≤ length left
-    room_for_row more =
-        let some : height - y ≡ suc (height - (y + 1)) = omega arith in
-        let long : length left ≡ suc (height - (y + 1)) * width =
-        drawn.long ∙ ap (λ (n : ℕ). n * width) some in
-        omega arith
-
     pub row_drawn : (now : List ℕ) → y < height → now ≡ new ++ row_strokes kind y (take width left)
         → AreDrawn kind old height width cells (drop width left) (y + 1) now
     row_drawn now more written =
@@ -42,9 +30,3 @@ module _ (kind : Ground) (old : List ℕ) (height width : ℕ) (cells : List ℕ
               ∙ append_assoc new (row_strokes kind y (take width left)) after
               ∙ ap (λ (n : ℕ). new ++ strokes_from kind y (rows_of n width left)) (sym some) ∙ drawn.text;
         }
-
-    pub all_drawn : height ≤ y → new ≡ old ++ strokes_from kind 0 (rows_of height width cells)
-    all_drawn end =
-        let none : height - y ≡ 0 = omega arith in
-        sym (append-nil new)
-        ∙ ap (λ (n : ℕ). new ++ strokes_from kind y (rows_of n width left)) (sym none) ∙ drawn.text

@@ -11,6 +11,7 @@ use Rattle.grid_moves.specs.Move.{all_dirs, ahead, is_legal, legal_ahead, move_c
 use Rattle.grid_moves.specs.Around.{IsBefore}
 use Rattle.potential_check.specs.declared.rising.Column.{Column}
 use Rattle.potential_check.specs.declared.rising.Hills.{Hills}
+use Rattle.grid_moves.proofs.Ahead.{legal_ahead-is}
 use Rattle.grid_moves.proofs.Legal.{legal_is}
 use Rattle.potential_check.specs.Moves.{failing_move, first_ahead, first_in_row, first_in_rows}
 use Rattle.potential_check.specs.Rising.{climbs, is_steep, steep_move, first_steep, towards, height_at, IsColumn}
@@ -43,13 +44,8 @@ module _ (g : GridData) (u : Cell) (height : Cell → ℤ) (from : ℤ) (to : Di
   one_move : (d : Dir) (o : Option Cell) → legal_ahead g u d ≡ o
       → with_source u (steep_move u from (to d) o) ≡ failing_move (climbs height) u o
   one_move d None e = refl
-  one_move d (Some v) e =
-      let f : to d ≡ height v = right d v (ahead_is g u v d e) in
-      ap (λ (n : ℤ). with_source u (if is_steep n (rank_of (move_cost u v)) (to d) then Some v else None))
-      source
-      ∙ ap (λ (n : ℤ). with_source u (if is_steep (height u) (rank_of (move_cost u v)) n then Some v else
-      None)) f
-      ∙ by_test (is_steep (height u) (rank_of (move_cost u v)) (height v))
+  one_move d (Some v) e = rw (source, right d v (ahead_is g u v d e))
+      (by_test (is_steep (height u) (rank_of (move_cost u v)) (height v)))
     where
       by_test : (b : Bool) → with_source u (if b then Some v else None) ≡ (if b then Some (u, v) else None)
       by_test true = refl
@@ -60,9 +56,7 @@ module _ (g : GridData) (u : Cell) (height : Cell → ℤ) (from : ℤ) (to : Di
   steep_ahead [] = refl
   steep_ahead (d ∷ dirs) =
       with_source-or u (steep_move u from (to d) (legal_ahead g u d)) (first_steep g u from to dirs)
-      ∙ ap (λ o. option_or o (with_source u (first_steep g u from to dirs))) (one_move d (legal_ahead g u
-      d) refl)
-      ∙ ap (λ o. option_or (failing_move (climbs height) u (legal_ahead g u d)) o) (steep_ahead dirs)
+      ∙ rw (one_move d (legal_ahead g u d) refl, steep_ahead dirs) refl
 
 -- the three columns around a cell have the heights ahead of it
 module _ (hills : Hills) (left middle right : Column) where
@@ -107,15 +101,11 @@ no_climb g fails u [] none = refl
 no_climb g fails u (d ∷ dirs) none = rw (none d) (no_climb g fails u dirs none)
 
 pub no_move : (g : GridData) (u : Cell) (d : Dir) → is_free g u ≡ false → legal_ahead g u d ≡ None
-no_move g u d blocked = by_cell (ahead d u)
+no_move g u d blocked = by_cell (legal_ahead g u d) refl
   where
-    by_test : (v : Cell) (b : Bool) → is_legal g u v ≡ b → (if b then Some v else None) ≡ None
-    by_test v true e = absurd (let l = legal_is g u v e in let s = l.source in cc)
-    by_test v false e = refl
-
-    by_cell : (o : Option Cell) → option_and_then (λ c. if is_legal g u c then Some c else None) o ≡ None
-    by_cell None = refl
-    by_cell (Some v) = by_test v (is_legal g u v) refl
+    by_cell : (o : Option Cell) → legal_ahead g u d ≡ o → o ≡ None
+    by_cell None e = refl
+    by_cell (Some v) e = absurd (let s = (legal_is g u v (legal_ahead-is g u v d e)).source in cc)
 
 -- the cells of a row one after the other
 pub row_step : (g : GridData) (fails : Cell → Cell → Bool) (y x width : ℕ) → x < width

@@ -1,16 +1,10 @@
 -- The answers of a check, by the first clause that fails.
-use Rattle.std.proofs.Common.{◌≡◌, ℕ, zero, suc, ◌+◌, ◌^◌, ◌<◌, ◌≤◌, arith, refl, ap, sym, ◌∙◌, subst, Bool, true, false, List, [], ◌∷◌, length}
-use Rattle.std.specs.Prelude.{Option, Some, None, Result, Ok, Err, ◌&&◌, nat_le, nat_lt, IfOk}
-use Rattle.std.specs.Prelude.{if◌then◌else◌}
-use Rattle.std.specs.Option.{option_or}
+use Rattle.std.proofs.Common.{◌≡◌, ℕ, ◌<◌, ◌≤◌, arith, refl, ap, sym, ◌∙◌, subst, Bool, true, false, List}
+use Rattle.std.specs.Prelude.{Option, Some, None, Result, Ok, Err, ◌&&◌, IfOk}
 use Rattle.std.specs.List.{list_all}
-use Rattle.std.proofs.lemmas.Bool.{and_parts}
 use Rattle.root2_cost.specs.declared.Cost.{Cost}
 use Rattle.grid_moves.specs.declared.Cell.{Cell}
 use Rattle.grid_moves.specs.Grid.{GridData, IsGrid}
-use Rattle.grid_moves.specs.declared.Dir.{Dir}
-use Rattle.grid_moves.specs.Move.{all_dirs, is_legal, legal_ahead}
-use Rattle.grid_moves.proofs.Ahead.{legal_ahead-is}
 use Rattle.grid_moves.specs.Walk.{last_of}
 use Rattle.grid_moves.proofs.Legal.{free_inside, legal_is}
 use Rattle.potential_check.specs.declared.certificate.Claim.{Claim}
@@ -19,285 +13,144 @@ use Rattle.potential_check.specs.declared.verdict.Proof.{Proof}
 use Rattle.potential_check.specs.declared.verdict.Proof.TheVariants as proof
 use Rattle.potential_check.specs.declared.verdict.Reject.{Reject}
 use Rattle.potential_check.specs.declared.verdict.Reject.TheVariants.{Size, Ends, Walk, Start, Goal, Move, Open}
-use Rattle.potential_check.specs.Certificate.{are_listed, are_points, cells_of, is_claim, is_short, is_small}
+use Rattle.potential_check.specs.Certificate.{is_short, is_small}
 use Rattle.potential_check.specs.Potential.{is_listed, potential_of, rises}
-use Rattle.potential_check.specs.Moves.{failing_move, first_ahead, first_failing, first_in_row, first_in_rows}
-use Rattle.potential_check.specs.Accepted.{AcceptsClaim, Holds, RefusesLeast, RefusesNone, claimed, ends_at_cost, leaves, starts_at_nothing}
+use Rattle.potential_check.specs.Moves.{first_failing}
+use Rattle.potential_check.specs.Accepted.{AcceptsClaim, AcceptsLeast, AcceptsNone, Holds, RefusesClaim, RefusesLeast, RefusesNone, claimed, ends_at_cost, leaves, starts_at_nothing}
 use Rattle.potential_check.specs.Judged.{JudgesClaim, JudgesWalk}
 use Rattle.potential_check.specs.Rising.{climbs, height_of}
-use Rattle.potential_check.proofs.Entries.{lt_is}
-use Rattle.potential_check.proofs.Feasible.{kept_inside, none_cheaper, none_fails, none_found}
+use Rattle.potential_check.proofs.Feasible.{first_failing-same, kept_inside, none_cheaper, none_fails, none_found}
 use Rattle.potential_check.proofs.Ranked.{climbs-leaves, climbs-rises, members, out_of_reach, rank_below, ranked}
 
--- answers
-abbrev refused : Reject → Result Proof Reject
-refused reject = Err reject
+-- where a claim has one answer that every refusal and every acceptance leads to, it is judged by any of them
+module _ (g : GridData) (s t : Cell) (claim : Claim) (told : Result Proof Reject)
+    (only : (reject : Reject) → RefusesClaim g s t claim reject → told ≡ Err reject)
+    (accepted : AcceptsClaim g s t claim → told ≡ Ok (claimed claim)) where
+  refused : (reject : Reject) → RefusesClaim g s t claim reject → JudgesClaim g s t claim (Err reject)
+  refused reject r = record {
+    ok = tt;
+    proof = tt;
+    accepts = λ a. sym (only reject r) ∙ accepted a;
+    err = r;
+    refuses = λ other q. sym (only reject r) ∙ only other q;
+  }
 
-same_number : (i j : ℕ) → Some i ≡ Some j → refused (Walk i) ≡ refused (Walk j)
-same_number i j e = let f : i ≡ j = cc in ap (λ (n : ℕ). refused (Walk n)) f
+  allowed : AcceptsClaim g s t claim → JudgesClaim g s t claim (Ok (claimed claim))
+  allowed a = record {
+    ok = a;
+    proof = refl;
+    accepts = λ b. refl;
+    err = tt;
+    refuses = λ other q. sym (accepted a) ∙ only other q;
+  }
 
-abbrev found_pair : Cell → Cell → Option (Cell × Cell)
-found_pair u v = Some (u, v)
-
-same_pair : (m n : Cell × Cell) → Some m ≡ Some n → m ≡ n
-same_pair m n e = cc
-
-same_move : (u v x y : Cell) → found_pair u v ≡ found_pair x y → refused (Move u v) ≡ refused (Move x y)
-same_move u v x y e =
-    let f = same_pair (u, v) (x, y) e in
-    ap (λ (m : Cell × Cell). refused (Move m.0 m.1)) f
-
-same_way_out : (u v x y : Cell) → found_pair u v ≡ found_pair x y → refused (Open u v) ≡ refused (Open x y)
-same_way_out u v x y e =
-    let f = same_pair (u, v) (x, y) e in
-    ap (λ (m : Cell × Cell). refused (Open m.0 m.1)) f
+-- the answer for a claim of least cost, by the walk, the values of start and goal, and the first move that
+-- fails
+abbrev least_answer : Cost → Option ℕ → Bool → Bool → Option (Cell × Cell) → Result Proof Reject
+least_answer cost (Some i) start goal found = Err (Walk i)
+least_answer cost None false goal found = Err Start
+least_answer cost None true false found = Err Goal
+least_answer cost None true true (Some m) = Err (Move m.0 m.1)
+least_answer cost None true true None = Ok (proof.Least cost)
 
 module _ (g : GridData) (s t : Cell) (cost : Cost) (points : List Cell) (values : List (Cell × Cost)) where
+  abbrev least : Claim
+  least = Least cost points values
+
   abbrev fails : Cell → Cell → Bool
   fails = rises (potential_of cost t values)
 
-  pub judged_walk : (i : ℕ) → JudgesWalk g s t cost points (Some i)
-      → JudgesClaim g s t (Least cost points values) (Err (Walk i))
-  judged_walk i walk = record {
-    ok = tt;
-    proof = tt;
-    accepts = λ a. absurd (let n = walk.none a.walk in cc);
-    err = walk.wrong;
-    refuses = only;
-  }
-    where
-      only : (reject : Reject) → RefusesLeast g s t cost points values reject → refused (Walk i)
-          ≡ refused reject
-      only (Walk j) r = same_number i j (walk.some j r)
-      only Start r = absurd (let n = walk.none r.0 in cc)
-      only Goal r = absurd (let n = walk.none r.0 in cc)
-      only (Move u v) r = absurd (let n = walk.none r.0 in cc)
-      only Size r = absurd r
-      only Ends r = absurd r
-      only (Open u v) r = absurd r
+  module _ (bad : Option ℕ) (walk : JudgesWalk g s t cost points bad) where
+    abbrev told : Result Proof Reject
+    told = least_answer cost bad (starts_at_nothing s t cost values) (ends_at_cost t cost values)
+        (first_failing g fails)
+
+    only : (reject : Reject) → RefusesLeast g s t cost points values reject → told ≡ Err reject
+    only (Walk j) r = rw (walk.some j r) refl
+    only Start r = rw (walk.none r.0, r.1) refl
+    only Goal r = rw (walk.none r.0, r.1, r.2) refl
+    only (Move u v) r = rw (walk.none r.0, r.1, r.2, r.3) refl
+    only Size r = absurd r
+    only Ends r = absurd r
+    only (Open u v) r = absurd r
+
+    accepted : AcceptsLeast g s t cost points values → told ≡ Ok (proof.Least cost)
+    accepted a = rw (walk.none a.walk, a.start, a.goal, none_fails g fails a.moves) refl
+
+  pub judged_walk : (i : ℕ) → JudgesWalk g s t cost points (Some i) → JudgesClaim g s t least (Err (Walk i))
+  judged_walk i walk =
+      refused g s t least (told (Some i) walk) (only (Some i) walk) (accepted (Some i) walk)
+      (Walk i) walk.wrong
 
   module _ (walk : JudgesWalk g s t cost points None) where
-    no_bad_walk : {X : Type 0} (i : ℕ) → RefusesLeast g s t cost points values (Walk i) → X
-    no_bad_walk i r = absurd (let e = walk.some i r in cc)
+    refused_so : (reject : Reject) → RefusesLeast g s t cost points values reject
+        → JudgesClaim g s t least (Err reject)
+    refused_so = refused g s t least (told None walk) (only None walk) (accepted None walk)
 
-    pub judged_start : starts_at_nothing s t cost values ≡ false
-        → JudgesClaim g s t (Least cost points values) (Err Start)
-    judged_start off = record {
-      ok = tt;
-      proof = tt;
-      accepts = λ a. absurd (let e = a.start in cc);
-      err = (walk.right, off);
-      refuses = only;
-    }
-      where
-        only : (reject : Reject) → RefusesLeast g s t cost points values reject → refused Start
-            ≡ refused reject
-        only (Walk j) r = no_bad_walk j r
-        only Start r = refl
-        only Goal r = absurd (let e = r.1 in cc)
-        only (Move u v) r = absurd (let e = r.1 in cc)
-        only Size r = absurd r
-        only Ends r = absurd r
-        only (Open u v) r = absurd r
+    pub judged_start : starts_at_nothing s t cost values ≡ false → JudgesClaim g s t least (Err Start)
+    judged_start off = refused_so Start (walk.right, off)
 
     module _ (start : starts_at_nothing s t cost values ≡ true) where
-      pub judged_goal : ends_at_cost t cost values ≡ false
-          → JudgesClaim g s t (Least cost points values) (Err Goal)
-      judged_goal off = record {
-        ok = tt;
-        proof = tt;
-        accepts = λ a. absurd (let e = a.goal in cc);
-        err = (walk.right, start, off);
-        refuses = only;
-      }
-        where
-          only : (reject : Reject) → RefusesLeast g s t cost points values reject
-              → refused Goal ≡ refused reject
-          only (Walk j) r = no_bad_walk j r
-          only Start r = absurd (let e = r.1 in cc)
-          only Goal r = refl
-          only (Move u v) r = absurd (let e = r.2 in cc)
-          only Size r = absurd r
-          only Ends r = absurd r
-          only (Open u v) r = absurd r
+      pub judged_goal : ends_at_cost t cost values ≡ false → JudgesClaim g s t least (Err Goal)
+      judged_goal off = refused_so Goal (walk.right, start, off)
 
       module _ (goal : ends_at_cost t cost values ≡ true) where
         pub judged_move : (u v : Cell) → first_failing g fails ≡ Some (u, v)
-            → JudgesClaim g s t (Least cost points values) (Err (Move u v))
-        judged_move u v found = record {
-          ok = tt;
-          proof = tt;
-          accepts = λ a. absurd (none_fails g fails a.moves (u, v) found);
-          err = (walk.right, start, goal, found);
-          refuses = only;
-        }
-          where
-            only : (reject : Reject) → RefusesLeast g s t cost points values reject
-                → refused (Move u v) ≡ refused reject
-            only (Walk j) r = no_bad_walk j r
-            only Start r = absurd (let e = r.1 in cc)
-            only Goal r = absurd (let e = r.2 in cc)
-            only (Move x y) r = same_move u v x y (sym found ∙ r.3)
-            only Size r = absurd r
-            only Ends r = absurd r
-            only (Open x y) r = absurd r
+            → JudgesClaim g s t least (Err (Move u v))
+        judged_move u v found = refused_so (Move u v) (walk.right, start, goal, found)
 
-        pub judged_least : first_failing g fails ≡ None
-            → JudgesClaim g s t (Least cost points values) (Ok (proof.Least cost))
-        judged_least none = record {
-          ok = record { walk = walk.right; start = start; goal = goal; moves = none_found g fails none };
-          proof = refl;
-          accepts = λ a. refl;
-          err = tt;
-          refuses = only;
-        }
-          where
-            only : (reject : Reject) → RefusesLeast g s t cost points values reject
-                → Ok (proof.Least cost) ≡ refused reject
-            only (Walk j) r = no_bad_walk j r
-            only Start r = absurd (let e = r.1 in cc)
-            only Goal r = absurd (let e = r.2 in cc)
-            only (Move x y) r = absurd (let e = r.3 in cc)
-            only Size r = absurd r
-            only Ends r = absurd r
-            only (Open x y) r = absurd r
+        pub judged_least : first_failing g fails ≡ None → JudgesClaim g s t least (Ok (proof.Least cost))
+        judged_least none = allowed g s t least (told None walk) (only None walk)
+            (accepted None walk) (record {
+              walk = walk.right;
+              start = start;
+              goal = goal;
+              moves = none_found g fails none;
+            })
+
+-- the answer for a claim that no walk exists, by start and goal, and the first move that fails
+abbrev none_answer : Bool → Bool → Option (Cell × Cell) → Result Proof Reject
+none_answer false goal found = Err Start
+none_answer true true found = Err Goal
+none_answer true false (Some m) = Err (Open m.0 m.1)
+none_answer true false None = Ok proof.NoWalk
 
 module _ (g : GridData) (s t : Cell) (cells : List Cell) where
+  abbrev none_told : Result Proof Reject
+  none_told = none_answer (is_listed cells s) (is_listed cells t) (first_failing g (leaves cells))
+
+  only_none : (reject : Reject) → RefusesNone g s t cells reject → none_told ≡ Err reject
+  only_none Start r = rw r refl
+  only_none Goal r = rw (r.0, r.1) refl
+  only_none (Open u v) r = rw (r.0, r.1, r.2) refl
+  only_none Size r = absurd r
+  only_none Ends r = absurd r
+  only_none (Walk i) r = absurd r
+  only_none (Move u v) r = absurd r
+
+  accepted_none : AcceptsNone g s t cells → none_told ≡ Ok proof.NoWalk
+  accepted_none a = rw (a.start, a.goal, none_fails g (leaves cells) a.moves) refl
+
+  none_refused : (reject : Reject) → RefusesNone g s t cells reject
+      → JudgesClaim g s t (NoWalk cells) (Err reject)
+  none_refused = refused g s t (NoWalk cells) none_told only_none accepted_none
+
   pub judged_unlisted : is_listed cells s ≡ false → JudgesClaim g s t (NoWalk cells) (Err Start)
-  judged_unlisted off = record {
-    ok = tt;
-    proof = tt;
-    accepts = λ a. absurd (let e = a.start in cc);
-    err = off;
-    refuses = only;
-  }
-    where
-      only : (reject : Reject) → RefusesNone g s t cells reject → refused Start ≡ refused reject
-      only Start r = refl
-      only Goal r = absurd (let e = r.0 in cc)
-      only (Open u v) r = absurd (let e = r.0 in cc)
-      only Size r = absurd r
-      only Ends r = absurd r
-      only (Walk i) r = absurd r
-      only (Move u v) r = absurd r
+  judged_unlisted off = none_refused Start off
 
   module _ (start : is_listed cells s ≡ true) where
     pub judged_listed : is_listed cells t ≡ true → JudgesClaim g s t (NoWalk cells) (Err Goal)
-    judged_listed off = record {
-      ok = tt;
-      proof = tt;
-      accepts = λ a. absurd (let e = a.goal in cc);
-      err = (start, off);
-      refuses = only;
-    }
-      where
-        only : (reject : Reject) → RefusesNone g s t cells reject → refused Goal ≡ refused reject
-        only Start r = absurd (cc)
-        only Goal r = refl
-        only (Open u v) r = absurd (let e = r.1 in cc)
-        only Size r = absurd r
-        only Ends r = absurd r
-        only (Walk i) r = absurd r
-        only (Move u v) r = absurd r
+    judged_listed off = none_refused Goal (start, off)
 
     module _ (goal : is_listed cells t ≡ false) where
       pub judged_open : (u v : Cell) → first_failing g (leaves cells) ≡ Some (u, v)
           → JudgesClaim g s t (NoWalk cells) (Err (Open u v))
-      judged_open u v found = record {
-        ok = tt;
-        proof = tt;
-        accepts = λ a. absurd (none_fails g (leaves cells) a.moves (u, v) found);
-        err = (start, goal, found);
-        refuses = only;
-      }
-        where
-          only : (reject : Reject) → RefusesNone g s t cells reject → refused (Open u v) ≡ refused reject
-          only Start r = absurd (cc)
-          only Goal r = absurd (let e = r.1 in cc)
-          only (Open x y) r = same_way_out u v x y (sym found ∙ r.2)
-          only Size r = absurd r
-          only Ends r = absurd r
-          only (Walk i) r = absurd r
-          only (Move x y) r = absurd r
+      judged_open u v found = none_refused (Open u v) (start, goal, found)
 
       pub judged_none : first_failing g (leaves cells) ≡ None
           → JudgesClaim g s t (NoWalk cells) (Ok proof.NoWalk)
-      judged_none none = record {
-        ok = record { start = start; goal = goal; moves = none_found g (leaves cells) none };
-        proof = refl;
-        accepts = λ a. refl;
-        err = tt;
-        refuses = only;
-      }
-        where
-          only : (reject : Reject) → RefusesNone g s t cells reject → Ok proof.NoWalk ≡ refused reject
-          only Start r = absurd (cc)
-          only Goal r = absurd (let e = r.1 in cc)
-          only (Open x y) r = absurd (let e = r.2 in cc)
-          only Size r = absurd r
-          only Ends r = absurd r
-          only (Walk i) r = absurd r
-          only (Move x y) r = absurd r
-
--- the first move with a property is that with another one, where legal moves have both or neither
-module _ (g : GridData) (one other : Cell → Cell → Bool)
-    (same : (u v : Cell) → is_legal g u v ≡ true → one u v ≡ other u v) where
-  move_same : (u : Cell) (d : Dir) (o : Option Cell) → legal_ahead g u d ≡ o
-      → failing_move one u o ≡ failing_move other u o
-  move_same u d None e = refl
-  move_same u d (Some v) e =
-      ap (λ (b : Bool). let found : Option (Cell × Cell) = Some (u, v) in if b then found else None)
-      (same u v (legal_ahead-is g u v d e))
-
-  ahead_same : (u : Cell) (dirs : List Dir) → first_ahead g one u dirs ≡ first_ahead g other u dirs
-  ahead_same u [] = refl
-  ahead_same u (d ∷ dirs) =
-      ap (λ o. option_or o (first_ahead g one u dirs)) (move_same u d (legal_ahead g u d) refl)
-      ∙ ap (λ o. option_or (failing_move other u (legal_ahead g u d)) o) (ahead_same u dirs)
-
-  row_same : (y x count : ℕ) → first_in_row g one y x count ≡ first_in_row g other y x count
-  row_same y x zero = refl
-  row_same y x (suc count) =
-      ap (λ o. option_or o (first_in_row g one y (x + 1) count)) (ahead_same (record { x = x; y = y })
-      all_dirs)
-      ∙ ap (λ o. option_or (first_ahead g other (record { x = x; y = y }) all_dirs) o) (row_same y (x + 1)
-      count)
-
-  rows_same : (y count : ℕ) → first_in_rows g one y count ≡ first_in_rows g other y count
-  rows_same y zero = refl
-  rows_same y (suc count) =
-      ap (λ o. option_or o (first_in_rows g one (y + 1) count)) (row_same y 0 g.width)
-      ∙ ap (λ o. option_or (first_in_row g other y 0 g.width) o) (rows_same (y + 1) count)
-
-  pub first_failing-same : first_failing g one ≡ first_failing g other
-  first_failing-same = rows_same 0 g.height
-
--- what a claim of least cost may hold, part by part
-pub record LeastParts (width height : ℕ) (cost : Cost) (points : List Cell) (values : List (Cell × Cost)) :
-    Type 0
-  where
-    pub small : is_small cost ≡ true
-    pub few : length points < 2 ^ 30
-    pub low : list_all (λ entry. is_small entry.1) values ≡ true
-    pub listed : are_listed width height (cells_of values) ≡ true
-
-pub least_parts : (width height : ℕ) (cost : Cost) (points : List Cell) (values : List (Cell × Cost))
-    → is_claim width height (Least cost points values) ≡ true → LeastParts width height cost points values
-least_parts width height cost points values h =
-    let three = and_parts (is_small cost && are_points points && list_all (λ entry. is_small entry.1) values)
-    (are_listed width height (cells_of values)) h in
-    let two = and_parts (is_small cost && are_points points) (list_all (λ entry. is_small entry.1) values)
-    three.0 in
-    let one = and_parts (is_small cost) (are_points points) two.0 in
-    let number = and_parts (nat_le 1 (length points) && nat_lt (length points) (2 ^ 30)) (list_all is_short
-    points) one.1 in
-    let most = and_parts (nat_le 1 (length points)) (nat_lt (length points) (2 ^ 30)) number.0 in
-    record {
-      small = one.0;
-      few = lt_is (length points) (2 ^ 30) most.1;
-      low = two.1;
-      listed = three.1;
-    }
+      judged_none none = allowed g s t (NoWalk cells) none_told only_none accepted_none
+          (record { start = start; goal = goal; moves = none_found g (leaves cells) none })
 
 -- between free cells an accepted claim holds of all walks
 pub claim_holds : (g : GridData) (s t : Cell) (claim : Claim) → AcceptsClaim g s t claim

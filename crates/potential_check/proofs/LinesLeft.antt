@@ -1,8 +1,9 @@
 -- What is left to read, before a line and after it.
-use Rattle.std.proofs.Common.{◌≡◌, ℕ, suc, ◌+◌, ◌^◌, ◌≤◌, arith, refl, ap, sym, ◌∙◌, subst, Bool, true, false, List, [], ◌∷◌, ◌++◌, length, Some, None, Result, Ok, Err}
+use Rattle.std.proofs.Common.{◌≡◌, ℕ, suc, ◌+◌, ◌^◌, ◌≤◌, ◌⊎◌, inl, inr, arith, refl, ap, sym, ◌∙◌, subst, Bool, true, false, List, [], ◌∷◌, ◌++◌, length, Some, None, Result, Err}
 use Rattle.std.specs.Prelude.{nat_le, ◌&&◌, if◌then◌else◌, map}
 use Rattle.std.specs.List.{list_all, onto_first}
 use Rattle.std.proofs.lemmas.Bool.{and_parts}
+use Rattle.std.proofs.lemmas.List.{length-map}
 use Rattle.text_line.specs.declared.lines.Line.{Line}
 use Rattle.text_line.specs.Left.{Left, GivesNext}
 use Rattle.text_line.specs.Lines.{is_line_feed, lines_of, pieces_of, without_cr}
@@ -11,6 +12,7 @@ use Rattle.grid_moves.specs.declared.Cell.{Cell}
 use Rattle.grid_moves.specs.Grid.{cell_number}
 use Rattle.potential_check.specs.declared.certificate.Certificate.{Certificate}
 use Rattle.potential_check.specs.declared.fault.CertFault.{CertFault}
+use Rattle.potential_check.specs.declared.fault.CertFault.TheVariants as fault
 use Rattle.potential_check.specs.Certificate.{ascend_from}
 use Rattle.potential_check.specs.Text.{AreShort, Plain, State, Step, Tells, absent_fault, after_step, at_claim, at_ends, at_points, at_size, at_version, certificate_of, closed, ended, goes, in_cells, in_values, misspelt, next, read_from, read_left, step_fault, unordered}
 use Rattle.potential_check.proofs.Entries.{le_is, le_true}
@@ -35,39 +37,30 @@ reads_fault state old new line fault gives e =
     by_step : (s : Step) → step_fault s old.number ≡ Some fault
         → after_step s old.number (λ following. read_from following (old.number + 1) new.lines) ≡ Err fault
     by_step (goes after) f = absurd (cc)
-    by_step misspelt f = ap (λ (k : CertFault). let r : Result Plain CertFault = Err k in r) (same _ fault f)
-      where
-        same : (a b : CertFault) → Some a ≡ Some b → a ≡ b
-        same a b e = cc
-    by_step unordered f = ap (λ (k : CertFault). let r : Result Plain CertFault = Err k in r) (same _ fault f)
-      where
-        same : (a b : CertFault) → Some a ≡ Some b → a ≡ b
-        same a b e = cc
+    by_step misspelt f = cc
+    by_step unordered f = cc
+
+-- a state needs a further line, or the certificate has ended
+pub needs : (s : State) → ((p : Plain) × (s ≡ ended p))
+    ⊎ ((n : ℕ) → (closed s n ≡ Err (fault.Line n)) × (absent_fault s n ≡ Some (fault.Line n)))
+needs at_version = inr (λ n. (refl, refl))
+needs at_size = inr (λ n. (refl, refl))
+needs (at_ends w h) = inr (λ n. (refl, refl))
+needs (at_claim head) = inr (λ n. (refl, refl))
+needs (at_points head cost) = inr (λ n. (refl, refl))
+needs (in_values head cost points least values) = inr (λ n. (refl, refl))
+needs (in_cells head least cells) = inr (λ n. (refl, refl))
+needs (ended p) = inl (p, refl)
 
 -- no line, where one is needed
 pub reads_absent : (state : State) (old new : Left) (fault : CertFault) → GivesNext old None new
     → absent_fault state old.number ≡ Some fault → read_left state old ≡ Err fault
 reads_absent state old new fault gives e =
-    ap (λ (ls : List (List ℕ)). read_from state old.number ls) gives.0 ∙ by_state state e
-  where
-    by_fault : (f : CertFault) → Some f ≡ Some fault → (let r : Result Plain CertFault = Err f in r)
-        ≡ Err fault
-    by_fault f g = let same : f ≡ fault = cc in ap (λ (k : CertFault). let r : Result Plain CertFault = Err
-        k in r) same
-
-    by_state : (s : State) → absent_fault s old.number ≡ Some fault → closed s old.number ≡ Err fault
-    by_state at_version f = by_fault _ f
-    by_state at_size f = by_fault _ f
-    by_state (at_ends w h) f = by_fault _ f
-    by_state (at_claim head) f = by_fault _ f
-    by_state (at_points head cost) f = by_fault _ f
-    by_state (in_values head cost points least values) f = by_fault _ f
-    by_state (in_cells head least cells) f = by_fault _ f
-    by_state (ended p) f = absurd (cc)
-
--- no line, where none is needed
-pub reads_closed : (p : Plain) (old new : Left) → GivesNext old None new → read_left (ended p) old ≡ Ok p
-reads_closed p old new gives = ap (λ (ls : List (List ℕ)). read_from (ended p) old.number ls) gives.0
+    ap (λ (ls : List (List ℕ)). read_from state old.number ls) gives.0
+    ∙ elim (needs state) [
+      | inl over ↦ absurd (let none = rw over.1 at e in cc)
+      | inr lacks ↦ let parts = lacks old.number in cc
+    ]
 
 -- an answer tells what is read, told what is left to read
 pub tells_on : (answer : Result Certificate CertFault) (read more : Result Plain CertFault) → read ≡ more
@@ -137,13 +130,9 @@ lines_within n (p ∷ pieces) w =
     let less = length-without_cr p in
     let later = lines_within n pieces (record { few = omega (arith, w.few); short = parts.1 }) in
     record {
-      few = omega (arith, w.few, count without_cr pieces);
+      few = omega (arith, w.few, length-map pieces without_cr);
       short = rw (le_true (length (without_cr p)) n (omega arith), later.short) refl;
     }
-  where
-    count : (f : List ℕ → List ℕ) (ps : List (List ℕ)) → length (map f ps) ≡ length ps
-    count f [] = refl
-    count f (p ∷ ps) = ap suc (count f ps)
 
 pub short_text : (text : List ℕ) → length text ≤ 2 ^ 30 → AreShort (record {
   lines = lines_of text;

@@ -13,6 +13,7 @@ use Rattle.potential_check.specs.declared.reading.Head.{Head}
 use Rattle.potential_check.specs.Certificate.{are_listed, are_points, cells_of, is_small, lies_inside}
 use Rattle.potential_check.specs.Forms.{member_on, value_on}
 use Rattle.potential_check.specs.Text.{Places, Plain, State, Step, Tells, at_size, at_version, ended, goes, in_cells, in_values, is_end, listed, next, spelled, step_fault}
+use Rattle.std.proofs.lemmas.List.{map-append}
 use Rattle.potential_check.proofs.Entries.{le_true}
 use Rattle.potential_check.proofs.LinesLeft.{ascend_to, ascend_to-ascend}
 
@@ -103,8 +104,7 @@ err_tells NoMemory read e = tt
 -- the cells of entries and one more
 pub cells_of-pushed : (values : List (Cell × Cost)) (entry : Cell × Cost)
     → cells_of (values ++ entry ∷ []) ≡ cells_of values ++ entry.0 ∷ []
-cells_of-pushed [] entry = refl
-cells_of-pushed (e ∷ values) entry = ap (λ (l : List Cell). e.0 ∷ l) (cells_of-pushed values entry)
+cells_of-pushed values entry = map-append (λ (e : Cell × Cost). e.0) values (entry ∷ [])
 
 pub listed_is : (width height least : ℕ) (cells : List Cell) → list_all (lies_inside width height) cells
     ≡ true
@@ -119,12 +119,7 @@ pub claim_is : (width height least : ℕ) (cost : Cost) (points : List Cell) (va
     → (is_small cost && are_points points && list_all (λ entry. is_small entry.1) values
     && are_listed width height (cells_of values)) ≡ true
 claim_is width height least cost points values small may low inside ascend =
-    all_four (is_small cost) (are_points points) (list_all (λ entry. is_small entry.1) values)
-    (are_listed width height (cells_of values)) small may low
-    (listed_is width height least (cells_of values) inside ascend)
-  where
-    all_four : (a b c d : Bool) → a ≡ true → b ≡ true → c ≡ true → d ≡ true → (a && b && c && d) ≡ true
-    all_four a b c d e f g h = rw (e, f, g, h) refl
+    rw (small, may, low, listed_is width height least (cells_of values) inside ascend) refl
 
 pub line_number : (m n : ℕ) → m ≡ n → Some (Line m) ≡ Some (Line n)
 line_number m n e = ap (λ (k : ℕ). let o : Option CertFault = Some (Line k) in o) e

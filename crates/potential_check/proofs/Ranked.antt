@@ -195,19 +195,11 @@ height-members (d ∷ cells) c = elim (tested (is_same d c)) [
 pub climbs-leaves : (cells : List Cell) (u v : Cell)
     → climbs (height_of out_of_reach (members cells)) u v ≡ leaves cells u v
 climbs-leaves cells u v =
-    ap (λ (z : ℤ). is_steep z (rank_of (move_cost u v)) (height_of out_of_reach (members cells) v))
-    (height-members cells u)
-    ∙ ap (λ (z : ℤ). is_steep (if is_listed cells u then pos 0 else pos (2 ^ 62)) (rank_of (move_cost u v)) z)
-    (height-members cells v)
-    ∙ by_tests (is_listed cells u) (is_listed cells v) (rank_of (move_cost u v)) few
+    rw (height-members cells u, height-members cells v)
+    (by_tests (is_listed cells u) (is_listed cells v) (rank_of (move_cost u v)) few)
   where
     few : rank_of (move_cost u v) < 2 ^ 40
-    few = by_test (nat_eq u.x v.x || nat_eq u.y v.y)
-      where
-        by_test : (b : Bool)
-            → rank_of (if b then record { a = 1; b = 0 } else record { a = 0; b = 1 }) < 2 ^ 40
-        by_test true = omega arith
-        by_test false = omega arith
+    few = let m = one_move u v in omega (arith, m.0, m.1)
 
     by_tests : (a b : Bool) (n : ℕ) → n < 2 ^ 40
         → is_steep (if a then pos 0 else pos (2 ^ 62)) n (if b then pos 0 else pos (2 ^ 62)) ≡ (a && not b)

@@ -11,9 +11,10 @@ use Rattle.potential_check.specs.declared.rising.Column.{Column}
 use Rattle.potential_check.specs.declared.rising.Rows.{Rows}
 use Rattle.potential_check.specs.declared.rising.Hills.{Hills}
 use Rattle.potential_check.specs.Certificate.{lies_inside, ascend_from}
-use Rattle.potential_check.specs.Heights.{entries, floor, are_low, first_height, rest_after}
-use Rattle.potential_check.specs.Rising.{height_at, cells_in, entries_from, AreHills, StandAt, Reach, RowsReach, Takes, IsColumn}
-use Rattle.potential_check.proofs.Entries.{tested, lt_is, lt_not, lt_false, first_is, rest_is, height_of-later, height_of-outside, entries_from-later, ascend_later, inside_later, none_past, none_left_out}
+use Rattle.potential_check.specs.Heights.{entries, floor, are_low}
+use Rattle.potential_check.specs.Rising.{height_at, cells_in, AreHills, StandAt, Reach, RowsReach, Takes, IsColumn}
+use Rattle.grid_moves.proofs.Places.{number_below}
+use Rattle.potential_check.proofs.Entries.{tested, lt_is, lt_not, lt_false, first_is, height_of-outside, rest_ascends, rest_heights, rest_inside}
 
 -- the number before n is one, and the same
 pub before_one : (n m : ℕ) → IsBefore (n + 1) m → m ≡ n
@@ -22,8 +23,8 @@ before_one n m b = let e = b.some (omega arith) in omega arith
 pub is_before : (n : ℕ) → IsBefore (suc n) n
 is_before n = record { some = λ h. omega arith; none = λ h. absurd (omega arith) }
 
-pub is_before_next : (n : ℕ) → IsBefore (n + 1) n
-is_before_next n = record { some = λ h. omega arith; none = λ h. absurd (omega arith) }
+rows_below : (r m n : ℕ) → m ≤ r → m * n ≤ r * n + min 0 n
+rows_below r m n k = grind arith
 
 module _ (hills : Hills) (are : AreHills hills) where
   abbrev w : ℕ
@@ -38,45 +39,35 @@ module _ (hills : Hills) (are : AreHills hills) where
   parts : (list_all (lies_inside w h) (cells_in all) ≡ true) × (ascend_from w 0 (cells_in all) ≡ true)
   parts = and_parts (list_all (lies_inside w h) (cells_in all)) (ascend_from w 0 (cells_in all)) are.listed
 
-  abbrev from : ℕ → List (Cell × ℤ)
-  from n = entries_from w n all
-
   -- taken at the number where the hand stands
   taken_at : (c : Cell) (height : ℤ) (old new : Heights) → c.x < w → StandAt hills (cell_number w c) old
       → Takes old c height new → (height ≡ height_at hills c) × StandAt hills (cell_number w c + 1) new
-  taken_at c height old new inside stands takes =
-      let n = cell_number w c in
-      let within = inside_later w h n all parts.0 in
-      let ascends = ascend_later w 0 n all parts.1 in
-      let most : n ≤ n = omega arith in
-      let more : n ≤ n + 1 = omega arith in (
-        takes.is
-            ∙ ap (λ (f : Cell → ℤ). first_height f (entries old) c) stands.floor_is
-            ∙ ap (λ (es : List (Cell × ℤ)). first_height (floor hills.heights) es c) stands.rest
-            ∙ first_is w (floor hills.heights) c h (from n) inside within ascends
-            ∙ height_of-later w (floor hills.heights) c n all most,
-        record {
-          rest = takes.rest ∙ ap (λ (es : List (Cell × ℤ)). rest_after es c) stands.rest
-              ∙ rest_is w (floor hills.heights) c h (from n) inside within ascends
-              ∙ entries_from-later w (n + 1) n all more;
-          floor_is = takes.floor_is ∙ stands.floor_is;
-          low = takes.low;
-        },
-      )
+  taken_at c height old new inside stands takes = (
+    takes.is ∙ first_is w (floor old) c (entries old) stands.ascend ∙ stands.same c (omega arith),
+    record {
+      inside = rw takes.rest (rest_inside w (floor old) c h (entries old) stands.inside);
+      ascend = rw takes.rest (rest_ascends w (floor old) c h
+          (entries old) inside stands.inside stands.ascend);
+      same = λ d later. rw (takes.rest, takes.floor_is)
+          (rest_heights w (floor old) c d (entries old) (omega arith)
+          ∙ stands.same d (omega arith));
+      floor_is = takes.floor_is ∙ stands.floor_is;
+      low = takes.low;
+    },
+  )
 
   -- taken outside, where nothing is listed
   taken_outside : (n : ℕ) (c : Cell) (height : ℤ) (old new : Heights) → lies_inside w h c ≡ false
       → StandAt hills n old → Takes old c height new → (height ≡ height_at hills c) × StandAt hills n new
   taken_outside n c height old new off stands takes =
+      let none = height_of-outside w (floor old) c h (entries old) off stands.inside in
       let whole = height_of-outside w (floor hills.heights) c h all off parts.0 in
-      let later = height_of-outside w (floor hills.heights) c h (from n) off (inside_later w h n all
-      parts.0) in (
-        takes.is
-            ∙ ap (λ (f : Cell → ℤ). first_height f (entries old) c) stands.floor_is
-            ∙ ap (λ (es : List (Cell × ℤ)). first_height (floor hills.heights) es c) stands.rest
-            ∙ later.1 ∙ sym whole.0,
+      let left : entries new ≡ entries old = takes.rest ∙ none.2 in (
+        takes.is ∙ none.1 ∙ ap (λ (f : Cell → ℤ). f c) stands.floor_is ∙ sym whole.0,
         record {
-          rest = takes.rest ∙ ap (λ (es : List (Cell × ℤ)). rest_after es c) stands.rest ∙ later.2;
+          inside = rw left stands.inside;
+          ascend = rw left stands.ascend;
+          same = λ d later. rw (left, takes.floor_is) (stands.same d later);
           floor_is = takes.floor_is ∙ stands.floor_is;
           low = takes.low;
         },
@@ -141,12 +132,13 @@ module _ (hills : Hills) (are : AreHills hills) where
 
   -- at the beginning
   pub reach_begin : Reach hills 0 0 hills.heights
-  reach_begin = record {
-    rest = sym (none_left_out w (0 * w + min 0 w) all
-        (subst (λ (n : ℕ). ascend_from w n (cells_in all) ≡ true) (nothing w) parts.1));
+  reach_begin = stand_same 0 _ hills.heights (nothing w) (record {
+    inside = parts.0;
+    ascend = parts.1;
+    same = λ c later. refl;
     floor_is = refl;
     low = are.low;
-  }
+  })
     where
       nothing : (n : ℕ) → 0 ≡ 0 * n + min 0 n
       nothing n = omega arith
@@ -155,13 +147,22 @@ module _ (hills : Hills) (are : AreHills hills) where
   pub reach_past : (row : ℕ) (heights : Heights) → 4096 ≤ row → entries heights ≡ []
       → floor heights ≡ floor hills.heights → IsTrue (are_low heights) → Reach hills row 0 heights
   reach_past row heights past none same low = record {
-    rest = none ∙ sym (none_past w h _ all (below row h w (omega (arith, are.grid.sides.low))) parts.0);
+    inside = rw none refl;
+    ascend = rw none refl;
+    same = λ c later. rw (none, same) (sym (height_of-outside w (floor hills.heights) c h all
+        (off c (rows_below row h w (omega (arith, are.grid.sides.low))) later) parts.0).0);
     floor_is = same;
     low = low;
   }
     where
-      below : (r m n : ℕ) → m ≤ r → m * n ≤ r * n + min 0 n
-      below r m n k = grind arith
+      off : (c : Cell) → h * w ≤ row * w + min 0 w → row * w + min 0 w ≤ cell_number w c
+          → lies_inside w h c ≡ false
+      off c more later = elim (tested (lies_inside w h c)) [
+        | inl inside ↦
+            (let column = and_parts (nat_lt c.x w) (nat_lt c.y h) inside in
+            absurd (omega (arith, number_below w h c (lt_is c.x w column.0) (lt_is c.y h column.1))))
+        | inr not ↦ not
+      ]
 
   -- a column of three rows is taken
   pub rows_taken : (y column : ℕ) (old new : Rows) (heights : Column)

@@ -1,9 +1,10 @@
 -- A text is read as a certificate exactly where it spells it.
 use Rattle.std.proofs.Common.{◌≡◌, ℕ, ◌+◌, refl, ap, sym, ◌∙◌, subst, inl, inr, Bool, true, false, List, [], ◌∷◌, ◌++◌, append_assoc, Option, Some, None, Result, Ok, Err}
-use Rattle.std.specs.Prelude.{IfOk, codes, nat_eq, nat_le, ◌&&◌, if◌then◌else◌, map}
+use Rattle.std.specs.Prelude.{IfOk, codes, nat_le, if◌then◌else◌, map}
 use Rattle.std.specs.List.{AllByRecursion, list_all}
 use Rattle.std.specs.Str.{bytes_eq}
-use Rattle.std.proofs.lemmas.Bool.{and_parts, eq-eqb, eqb-true}
+use Rattle.std.proofs.lemmas.Bool.{and_parts, and_from}
+use Rattle.std.proofs.lemmas.Slice.Eq.{bytes_eq-Decides}
 use Rattle.std.proofs.lemmas.List.{append-nil}
 use Rattle.root2_cost.specs.declared.Cost.{Cost}
 use Rattle.grid_moves.specs.declared.Cell.{Cell}
@@ -20,28 +21,9 @@ use Rattle.potential_check.specs.Text.{Plain, State, Step, Tells, after_step, at
 use Rattle.potential_check.specs.Spelling.{SpellInOrder, Spells, SpellsClaim}
 use Rattle.potential_check.proofs.Entries.{tested}
 
--- bytes that are a word's
-bytes_are : (xs ys : List ℕ) → bytes_eq xs ys ≡ true → xs ≡ ys
-bytes_are [] [] e = refl
-bytes_are [] (y ∷ ys) e = absurd (cc)
-bytes_are (x ∷ xs) [] e = absurd (cc)
-bytes_are (x ∷ xs) (y ∷ ys) e =
-    let parts = and_parts (nat_eq x y) (bytes_eq xs ys) e in
-    ap (λ (n : ℕ). n ∷ xs) (eqb-true x y parts.0) ∙ ap (λ (l : List ℕ). y ∷ l) (bytes_are xs ys parts.1)
-
-bytes_same : (xs : List ℕ) → bytes_eq xs xs ≡ true
-bytes_same [] = refl
-bytes_same (x ∷ xs) = rw (eq-eqb x x refl, bytes_same xs) refl
-
-both : (a b : Bool) → a ≡ true → b ≡ true → (a && b) ≡ true
-both a b e f = rw (e, f) refl
-
 -- answers
 abbrev reading : Plain → Result Plain CertFault
 reading p = Ok p
-
-same_plain : (p q : Plain) → reading p ≡ reading q → p ≡ q
-same_plain p q e = cc
 
 -- where a line's step leads to an answer, it may follow
 module _ (n : ℕ) (more : State → Result Plain CertFault) (p : Plain) where
@@ -69,7 +51,7 @@ module _ (n : ℕ) (more : State → Result Plain CertFault) (p : Plain) where
 -- behind the last line of the list
 found_end : (lines : List (List ℕ)) (n : ℕ) (q p : Plain) → read_from (ended q) n lines ≡ Ok p
     → (q ≡ p) × AllByRecursion (λ line. line ≡ []) lines
-found_end [] n q p e = (same_plain q p e, tt)
+found_end [] n q p e = (cc, tt)
 found_end ([] ∷ lines) n q p e = let later = found_end lines (n + 1) q p e in (later.0, (refl, later.1))
 found_end ((b ∷ line) ∷ lines) n q p e = absurd (cc)
 
@@ -91,26 +73,39 @@ list_step form cell head make done least before line =
     else spelled (form line)
     (λ e. listed head least (cell e) (make (cell_number head.width (cell e) + 1) (before ++ e ∷ [])))
 
+-- the lines of a list, its last line, and empty lines
+record ListSpelled {E : Type 0} (form : List ℕ → Option E) (cell : E → Cell) (head : Head)
+    (done : List E → Plain)
+    (lines : List (List ℕ)) (least : ℕ) (before : List E) (p : Plain) : Type 0 where
+  items : List E
+  body : List (List ℕ)
+  others : List (List ℕ)
+  are : lines ≡ body ++ end_word ∷ others
+  spell : SpellInOrder form body items
+  inside : list_all (lies_inside head.width head.height) (map cell items) ≡ true
+  ascend : ascend_from head.width least (map cell items) ≡ true
+  nothing : AllByRecursion (λ line. line ≡ []) others
+  is : done (before ++ items) ≡ p
+
+-- a line of a form that a word has not is another one
+differs : {E : Type 0} (form : List ℕ → Option E) (word : List ℕ) → form word ≡ None → (line : List ℕ) (e : E)
+    → form line ≡ Some e → bytes_eq line word ≡ false
+differs form word none line e h = elim (tested (bytes_eq line word)) [
+  | inl same ↦ absurd (let k = ap form (sym ((bytes_eq-Decides line word).0 same)) ∙ h in cc)
+  | inr other ↦ other
+]
+
 module _ {E : Type 0} (form : List ℕ → Option E) (cell : E → Cell) (head : Head) (make : ℕ → List E → State)
     (done : List E → Plain)
     (steps : (least : ℕ) (before : List E) (line : List ℕ)
     → next (make least before) line ≡ list_step form cell head make done least before line)
     (unfinished : (least : ℕ) (before : List E) (n : ℕ) (p : Plain) → closed (make least before) n ≡ Ok p → ⊥)
-    (differs : (line : List ℕ) (e : E) → form line ≡ Some e → is_end line ≡ false) where
-  -- the lines of a list, its last line, and empty lines
-  record ListSpelled (lines : List (List ℕ)) (least : ℕ) (before : List E) (p : Plain) : Type 0 where
-    items : List E
-    body : List (List ℕ)
-    others : List (List ℕ)
-    are : lines ≡ body ++ end_word ∷ others
-    spell : SpellInOrder form body items
-    inside : list_all (lies_inside head.width head.height) (map cell items) ≡ true
-    ascend : ascend_from head.width least (map cell items) ≡ true
-    nothing : AllByRecursion (λ line. line ≡ []) others
-    is : done (before ++ items) ≡ p
+    (none : form end_word ≡ None) where
+  abbrev Spelled : List (List ℕ) → ℕ → List E → Plain → Type 0
+  Spelled = ListSpelled form cell head done
 
   found_list : (lines : List (List ℕ)) (n least : ℕ) (before : List E) (p : Plain)
-      → read_from (make least before) n lines ≡ Ok p → ListSpelled lines least before p
+      → read_from (make least before) n lines ≡ Ok p → Spelled lines least before p
   found_list [] n least before p e = absurd (unfinished least before n p e)
   found_list (line ∷ lines) n least before p e =
       by_test (is_end line) refl
@@ -120,19 +115,17 @@ module _ {E : Type 0} (form : List ℕ → Option E) (cell : E → Cell) (head :
     where
       by_test : (b : Bool) → is_end line ≡ b
           → after_step (if b then goes (ended (done before)) else spelled (form line) (λ e. listed head
-          least (cell e)
-          (make (cell_number head.width (cell e) + 1) (before ++ e ∷ [])))) n (λ after. read_from after (n
-          + 1) lines)
-          ≡ Ok p
+          least (cell e) (make (cell_number head.width (cell e) + 1) (before ++ e ∷ [])))) n
+          (λ after. read_from after (n + 1) lines) ≡ Ok p
           → ((later_least : ℕ) (later : List E) → read_from (make later_least later) (n + 1) lines ≡ Ok p
-          → ListSpelled lines later_least later p) → ListSpelled (line ∷ lines) least before p
+          → Spelled lines later_least later p) → Spelled (line ∷ lines) least before p
       by_test true is read more =
           let end = found_end lines (n + 1) (done before) p read in
           record {
             items = [];
             body = [];
             others = lines;
-            are = ap (λ (l : List ℕ). l ∷ lines) (bytes_are line end_word is);
+            are = ap (λ (l : List ℕ). l ∷ lines) ((bytes_eq-Decides line end_word).0 is);
             spell = tt;
             inside = refl;
             ascend = refl;
@@ -152,8 +145,8 @@ module _ {E : Type 0} (form : List ℕ → Option E) (cell : E → Cell) (head :
             others = later.others;
             are = ap (λ (l : List (List ℕ)). line ∷ l) later.are;
             spell = (some.1, later.spell);
-            inside = both _ _ in_place.0 later.inside;
-            ascend = both _ _ in_place.1 later.ascend;
+            inside = and_from _ _ in_place.0 later.inside;
+            ascend = and_from _ _ in_place.1 later.ascend;
             nothing = later.nothing;
             is = ap done (sym (append_assoc before (some.0 ∷ []) later.items)) ∙ later.is;
           }
@@ -177,31 +170,16 @@ module _ {E : Type 0} (form : List ℕ → Option E) (cell : E → Cell) (head :
       (ascend_from head.width (cell_number head.width (cell e) + 1) (map cell items)) ascend in
       let step : next (make least before) line
       ≡ goes (make (cell_number head.width (cell e) + 1) (before ++ e ∷ [])) =
-      steps least before line ∙ rw (differs line e spell.0, spell.0, within.0, order.0) refl in
+      steps least before line ∙ rw (
+        differs form end_word none line e spell.0,
+        spell.0,
+        within.0,
+        order.0,
+      ) refl in
       ap (λ (s : Step). after_step s n (λ after. read_from after (n + 1) (body ++ end_word ∷ others))) step
       ∙ only_list body others (n + 1) (cell_number head.width (cell e) + 1) (before ++ e ∷ []) items spell.1
       within.1 order.1 nothing
       ∙ ap (λ (l : List E). reading (done l)) (append_assoc before (e ∷ []) items)
-
--- a line of another form is not the last one
-value_differs : (line : List ℕ) (e : Cell × Cost) → value_on line ≡ Some e → is_end line ≡ false
-value_differs line e h = elim (tested (is_end line)) [
-  | inl last ↦ absurd (let k = ap value_on (sym (bytes_are line end_word last)) ∙ h in cc)
-  | inr other ↦ other
-]
-
-member_differs : (line : List ℕ) (c : Cell) → member_on line ≡ Some c → is_end line ≡ false
-member_differs line c h = elim (tested (is_end line)) [
-  | inl last ↦ absurd (let k = ap member_on (sym (bytes_are line end_word last)) ∙ h in cc)
-  | inr other ↦ other
-]
-
-least_differs : (line : List ℕ) (cost : Cost) → least_on line ≡ Some cost → bytes_eq line (codes "none")
-    ≡ false
-least_differs line cost h = elim (tested (bytes_eq line (codes "none"))) [
-  | inl none ↦ absurd (let k = ap least_on (sym (bytes_are line (codes "none") none)) ∙ h in cc)
-  | inr other ↦ other
-]
 
 map-itself : (cells : List Cell) → map (λ c. c) cells ≡ cells
 map-itself [] = refl
@@ -215,15 +193,11 @@ module _ (head : Head) (cost : Cost) (points : List Cell) where
   abbrev value_cell : Cell × Cost → Cell
   value_cell entry = entry.0
 
-  abbrev ValuesSpelled : List (List ℕ) → ℕ → List (Cell × Cost) → Plain → Type 0
-  ValuesSpelled = ListSpelled value_on value_cell head (in_values head cost points) with_values
-      (λ least before line. refl) (λ least before n p e. cc) value_differs
-
   found_values : (lines : List (List ℕ)) (n : ℕ) (p : Plain)
       → read_from (in_values head cost points 0 []) n lines ≡ Ok p
-      → ValuesSpelled lines 0 [] p
+      → ListSpelled value_on value_cell head with_values lines 0 [] p
   found_values lines n p e = found_list value_on value_cell head (in_values head cost points) with_values
-      (λ least before line. refl) (λ least before n p e. cc) value_differs lines n 0 [] p e
+      (λ least before line. refl) (λ least before n p e. cc) refl lines n 0 [] p e
 
   only_values : (body others : List (List ℕ)) (n : ℕ) (values : List (Cell × Cost))
       → SpellInOrder value_on body values → are_listed head.width head.height (cells_of values) ≡ true
@@ -233,7 +207,7 @@ module _ (head : Head) (cost : Cost) (points : List Cell) where
       let parts = and_parts (list_all (lies_inside head.width head.height) (cells_of values))
       (ascend_from head.width 0 (cells_of values)) may in
       only_list value_on value_cell head (in_values head cost points) with_values (λ least before line. refl)
-      (λ least before n p e. cc) value_differs body others n 0 [] values spell parts.0 parts.1 nothing
+      (λ least before n p e. cc) refl body others n 0 [] values spell parts.0 parts.1 nothing
 
 module _ (head : Head) where
   abbrev with_cells : List Cell → Plain
@@ -242,14 +216,10 @@ module _ (head : Head) where
   abbrev itself : Cell → Cell
   itself c = c
 
-  abbrev CellsSpelled : List (List ℕ) → ℕ → List Cell → Plain → Type 0
-  CellsSpelled = ListSpelled member_on itself head (in_cells head) with_cells
-      (λ least before line. refl) (λ least before n p e. cc) member_differs
-
   found_cells : (lines : List (List ℕ)) (n : ℕ) (p : Plain) → read_from (in_cells head 0 []) n lines ≡ Ok p
-      → CellsSpelled lines 0 [] p
+      → ListSpelled member_on itself head with_cells lines 0 [] p
   found_cells lines n p e = found_list member_on itself head (in_cells head) with_cells
-      (λ least before line. refl) (λ least before n p e. cc) member_differs lines n 0 [] p e
+      (λ least before line. refl) (λ least before n p e. cc) refl lines n 0 [] p e
 
   only_cells : (body others : List (List ℕ)) (n : ℕ) (cells : List Cell) → SpellInOrder member_on body cells
       → are_listed head.width head.height cells ≡ true → AllByRecursion (λ line. line ≡ []) others
@@ -258,7 +228,7 @@ module _ (head : Head) where
       let parts = and_parts (list_all (lies_inside head.width head.height) cells)
       (ascend_from head.width 0 cells) may in
       only_list member_on itself head (in_cells head) with_cells (λ least before line. refl)
-      (λ least before n p e. cc) member_differs body others n 0 [] cells spell
+      (λ least before n p e. cc) refl body others n 0 [] cells spell
       (ap (λ (l : List Cell). list_all (lies_inside head.width head.height) l) (map-itself cells) ∙ parts.0)
       (ap (λ (l : List Cell). ascend_from head.width 0 l) (map-itself cells) ∙ parts.1) nothing
 
@@ -292,7 +262,7 @@ found_points head cost first (second ∷ list) n p c e =
         cost_is = c;
         points_is = points.1;
         values_are = values.spell;
-        listed = both _ _ values.inside values.ascend;
+        listed = and_from _ _ values.inside values.ascend;
       };
       nothing = values.nothing;
     })
@@ -316,9 +286,9 @@ found_claim head (first ∷ lines) n p e = by_test (bytes_eq first (codes "none"
           are = ap (λ (l : List (List ℕ)). first ∷ l) cells.are;
           head_is = refl;
           spells = record {
-            none_is = bytes_are first (codes "none") is;
+            none_is = (bytes_eq-Decides first (codes "none")).0 is;
             cells_are = cells.spell;
-            listed = both _ _
+            listed = and_from _ _
                 (ap (λ (l : List Cell). list_all (lies_inside head.width head.height) l) (sym (map-itself
                 cells.items)) ∙ cells.inside)
                 (ap (λ (l : List Cell). ascend_from head.width 0 l) (sym (map-itself cells.items))
@@ -336,7 +306,7 @@ only_claim : (head : Head) (claim : Claim) (first : List ℕ) (body others : Lis
     ≡ Ok (record { head = head; claim = claim })
 only_claim head (Least cost points values) first body others n s nothing =
     let step : next (at_claim head) first ≡ goes (at_points head cost) =
-    rw (least_differs first cost s.cost_is, s.cost_is) refl in
+    rw (differs least_on (codes "none") refl first cost s.cost_is, s.cost_is) refl in
     let second : next (at_points head cost) s.second ≡ goes (in_values head cost points 0 []) =
     rw s.points_is refl in
     ap (λ (t : Step). after_step t n (λ after. read_from after (n + 1) (body ++ end_word ∷ others))) step
@@ -346,7 +316,8 @@ only_claim head (Least cost points values) first body others n s nothing =
     ∙ only_values head cost points s.list others (n + 1 + 1) values s.values_are s.listed nothing
 only_claim head (NoWalk cells) first body others n s nothing =
     let same : bytes_eq first (codes "none") ≡ true =
-    ap (λ (l : List ℕ). bytes_eq l (codes "none")) s.none_is ∙ bytes_same (codes "none") in
+    ap (λ (l : List ℕ). bytes_eq l (codes "none")) s.none_is
+    ∙ (bytes_eq-Decides (codes "none") (codes "none")).1 refl in
     let step : next (at_claim head) first ≡ goes (in_cells head 0 []) = rw same refl in
     ap (λ (t : Step). after_step t n (λ after. read_from after (n + 1) (body ++ end_word ∷ others))) step
     ∙ only_cells head body others (n + 1) cells s.cells_are s.listed nothing
@@ -384,7 +355,7 @@ found_lines text (version ∷ size ∷ ends ∷ lines) p are e =
       body = claim.body;
       others = claim.others;
       lines = are ∙ ap (λ (l : List (List ℕ)). version ∷ size ∷ ends ∷ l) claim.are;
-      version_is = bytes_are version (codes "jps-cert 1") first.0;
+      version_is = (bytes_eq-Decides version (codes "jps-cert 1")).0 first.0;
       size_is = second.1 ∙ ap (λ (h : Head). let o : Option (ℕ × ℕ) = Some (h.width, h.height) in o) (sym
           claim.head_is);
       ends_is = third.1 ∙ ap (λ (h : Head). let o : Option (Cell × Cell) = Some (h.start, h.goal) in o)
@@ -403,7 +374,8 @@ unfolding certificate_of
 certificate_of_spelled text p s =
     let rest : List (List ℕ) = s.body ++ end_word ∷ s.others in
     let same : bytes_eq s.version (codes "jps-cert 1") ≡ true =
-    ap (λ (l : List ℕ). bytes_eq l (codes "jps-cert 1")) s.version_is ∙ bytes_same (codes "jps-cert 1") in
+    ap (λ (l : List ℕ). bytes_eq l (codes "jps-cert 1")) s.version_is
+    ∙ (bytes_eq-Decides (codes "jps-cert 1") (codes "jps-cert 1")).1 refl in
     let first : next at_version s.version ≡ goes at_size = rw same refl in
     let second : next at_size s.size ≡ goes (at_ends p.head.width p.head.height) = rw s.size_is refl in
     let third : next (at_ends p.head.width p.head.height) s.ends

@@ -96,13 +96,6 @@ is_cost-same p q h = same_cost p q (grind (arith, nat_tests)) (grind (arith, nat
 is_cost-itself : (p : Cost) → is_cost p p ≡ true
 is_cost-itself p = grind (arith, nat_tests)
 
--- the answers of a check of points
-abbrev failing : BadAt → Result Cost BadAt
-failing bad = Err bad
-
-abbrev paying : Cost → Result Cost BadAt
-paying cost = Ok cost
-
 module _ (g : GridData) (s t : Cell) (cost : Cost) (points : List Cell) where
   -- a right walk is a short one of the cost
   pub right_short : IsRightWalk g s t cost points → IsShortWalk g points cost
@@ -145,8 +138,11 @@ module _ (g : GridData) (s t : Cell) (cost : Cost) (points : List Cell) where
     pub bad : IfErr answer (λ bad. IsFirstBad g points bad.0)
     pub err : (i : ℕ) → IsFirstBad g points i → answer ≡ Err (record { 0 = i })
 
-  bad_number : (a b : BadAt) → failing a ≡ failing b → a.0 ≡ b.0
-  bad_number a b e = let f : a ≡ b = cc in ap (λ (k : BadAt). k.0) f
+  -- the number that is told, by the first point and the answer
+  abbrev number : Bool → Result Cost BadAt → Option ℕ
+  number false answer = Some 0
+  number true (Err bad) = Some bad.0
+  number true (Ok paid) = if ends_at t points && is_cost paid cost then None else Some (length points)
 
   -- the first point is not the start
   pub judged_elsewhere : begins_at s points ≡ false → JudgesWalk g s t cost points (Some 0)
@@ -162,65 +158,48 @@ module _ (g : GridData) (s t : Cell) (cost : Cost) (points : List Cell) where
       only i (broken e first) = absurd (cc)
       only i (other paid e w o) = absurd (cc)
 
+  module _ (answer : Result Cost BadAt) (tells : Tells answer) where
+    abbrev told : Option ℕ
+    told = number (begins_at s points) answer
+
+    only : (i : ℕ) → IsBadWalk g s t cost points i → told ≡ Some i
+    only i (elsewhere e) = rw e refl
+    only i (broken e first) = rw (e, tells.err i first) refl
+    only i (other paid e w off) = rw (e, tells.ok paid w, off) refl
+
+    rightly : IsRightWalk g s t cost points → told ≡ None
+    rightly r = rw (right_begins r, tells.ok cost (right_short r), right_ends r, is_cost-itself cost) refl
+
+    judged_bad : (i : ℕ) → IsBadWalk g s t cost points i → JudgesWalk g s t cost points (Some i)
+    judged_bad i bad = record {
+      right = tt;
+      none = λ r. sym (only i bad) ∙ rightly r;
+      wrong = bad;
+      some = λ j also. sym (only i bad) ∙ only j also;
+    }
+
   -- a point is bad
   pub judged_broken : (bad : BadAt) → begins_at s points ≡ true → Tells (Err bad)
       → JudgesWalk g s t cost points (Some bad.0)
-  judged_broken bad begins tells = record {
-    right = tt;
-    none = λ r. absurd (let o = tells.ok cost (right_short r) in cc);
-    wrong = broken begins tells.bad;
-    some = only;
-  }
-    where
-      only : (i : ℕ) → IsBadWalk g s t cost points i → Some bad.0 ≡ Some i
-      only i (elsewhere e) = absurd (cc)
-      only i (broken e first) = ap (λ (n : ℕ). let o : Option ℕ = Some n in o)
-          (bad_number bad (record { 0 = i }) (tells.err i first))
-      only i (other paid e w o) = absurd (let p = tells.ok paid w in cc)
-
-  ok_cost : (p q : Cost) → paying p ≡ paying q → p ≡ q
-  ok_cost p q e = cc
+  judged_broken bad begins tells = judged_bad (Err bad) tells bad.0 (broken begins tells.bad)
 
   -- the walk ends elsewhere, or costs something else
   pub judged_other : (paid : Cost) → begins_at s points ≡ true → Tells (Ok paid)
       → (ends_at t points && is_cost paid cost) ≡ false → JudgesWalk g s t cost points (Some (length points))
-  judged_other paid begins tells off = record {
-    right = tt;
-    none = λ r. absurd (
-        let same = ok_cost paid cost (tells.ok cost (right_short r)) in
-        let both : (ends_at t points && is_cost paid cost) ≡ true = rw (
-          right_ends r,
-          same,
-          is_cost-itself
-              cost,
-        ) refl in
-        cc);
-    wrong = other paid begins tells.walk off;
-    some = only;
-  }
-    where
-      only : (i : ℕ) → IsBadWalk g s t cost points i → Some (length points) ≡ Some i
-      only i (elsewhere e) = absurd (cc)
-      only i (broken e first) = absurd (let p = tells.err i first in cc)
-      only i (other paid e w o) = refl
+  judged_other paid begins tells off =
+      judged_bad (Ok paid) tells (length points) (other paid begins tells.walk off)
 
   -- it is right
   pub judged_right : (paid : Cost) → begins_at s points ≡ true → Tells (Ok paid) → ends_at t points ≡ true
       → is_cost paid cost ≡ true → JudgesWalk g s t cost points None
-  judged_right paid begins tells ends priced = record {
-    right = short_right paid tells.walk begins ends priced;
-    none = λ r. refl;
-    wrong = tt;
-    some = λ i bad. absurd (no_bad i bad);
-  }
-    where
-      no_bad : (i : ℕ) → IsBadWalk g s t cost points i → ⊥
-      no_bad i (elsewhere e) = cc
-      no_bad i (broken e first) = let p = tells.err i first in cc
-      no_bad i (other more e w off) =
-          let same = ok_cost paid more (tells.ok more w) in
-          let both : (ends_at t points && is_cost more cost) ≡ true = rw (ends, ← same, priced) refl in
-          cc
+  judged_right paid begins tells ends priced =
+      let right = short_right paid tells.walk begins ends priced in
+      record {
+        right = right;
+        none = λ r. refl;
+        wrong = tt;
+        some = λ i bad. sym (rightly (Ok paid) tells right) ∙ only (Ok paid) tells i bad;
+      }
 
 -- of two tests that do not both hold
 pub and_false_left : (a b : Bool) → a ≡ false → (a && b) ≡ false

@@ -1,15 +1,13 @@
 -- The words of a line that is cut at each space, and numbers at its beginning.
-use Rattle.std.proofs.Common.{◌≡◌, ℕ, zero, suc, ◌+◌, ◌-◌, ◌<◌, ◌≤◌, arith, refl, ap, sym, ◌∙◌, Bool, true, false, List, [], ◌∷◌, ◌++◌, append_assoc, length, take, drop, get_or}
-use Rattle.std.specs.Prelude.{Option, Some, None, option_map, option_and_then, position, ◌&&◌, if◌then◌else◌, nat_le}
+use Rattle.std.proofs.Common.{◌≡◌, ℕ, zero, suc, ◌+◌, ◌-◌, ◌<◌, arith, refl, ap, sym, ◌∙◌, Bool, true, false, List, [], ◌∷◌, ◌++◌, length, take, drop, get_or}
+use Rattle.std.specs.Prelude.{Option, Some, None, option_map, position}
 use Rattle.std.specs.List.{list_all, slice_split}
-use Rattle.std.specs.Str.{bytes_eq}
-use Rattle.std.proofs.lemmas.Bool.{and_parts}
-use Rattle.std.proofs.lemmas.List.{length-drop}
+use Rattle.std.proofs.lemmas.List.{length-drop, take_all}
+use Rattle.std.proofs.lemmas.List.Folds.{list_all-append}
 use Rattle.std.proofs.lemmas.List.Quantifiers.{position-Some}
 use Rattle.text_line.proofs.Parts.{position-None}
 use Rattle.grid_moves.specs.declared.Cell.{Cell}
-use Rattle.potential_check.specs.Forms.{after_word, cell_in, is_space, points_in, points_on}
-use Rattle.potential_check.proofs.Entries.{le_is}
+use Rattle.potential_check.specs.Forms.{is_space}
 
 split_cut : (line : List ℕ) (end : ℕ) → end < length line
     → ((k : ℕ) → k < end → is_space (get_or line k 0) ≡ false) → is_space (get_or line end 0) ≡ true
@@ -27,12 +25,6 @@ split_one (b ∷ bytes) filled =
     let later = split_one bytes (λ k lt. filled (suc k) (omega arith)) in
     rw (filled 0 (omega arith), later) refl
 
-take_most : (n : ℕ) (xs : List ℕ) → length xs ≤ n → take n xs ≡ xs
-take_most zero [] h = refl
-take_most (suc n) [] h = refl
-take_most zero (x ∷ xs) h = absurd (omega arith)
-take_most (suc n) (x ∷ xs) h = ap (λ (l : List ℕ). x ∷ l) (take_most n xs (omega arith))
-
 -- the first word ends at the first space
 pub words_cut : (line : List ℕ) (end : ℕ) → position is_space line ≡ Some end
     → slice_split is_space line ≡ take end line ∷ slice_split is_space
@@ -41,7 +33,7 @@ words_cut line end at =
     let found = position-Some is_space line end 0 at in
     let next : suc end ≡ end + 1 = omega arith in
     let rest : take (length line - (end + 1)) (drop (end + 1) line) ≡ drop (end + 1) line =
-    take_most (length line - (end + 1)) (drop (end + 1) line) (omega (arith, length-drop (end + 1) line)) in
+    take_all (length line - (end + 1)) (drop (end + 1) line) (omega (arith, length-drop (end + 1) line)) in
     split_cut line end found.0 found.2 found.1
     ∙ ap (λ (n : ℕ). take end line ∷ slice_split is_space (drop n line)) next
     ∙ ap (λ (l : List ℕ). take end line ∷ slice_split is_space l) (sym rest)
@@ -50,72 +42,11 @@ words_cut line end at =
 pub words_one : (line : List ℕ) → position is_space line ≡ None → slice_split is_space line ≡ line ∷ []
 words_one line none = split_one line (position-None is_space line none)
 
--- what stands after a word is shorter by it
-pub after_word-shorter : (word line rest : List ℕ) → after_word word line ≡ Some rest
-    → length rest + length word ≡ length line
-after_word-shorter word line rest is =
-    by_test (nat_le (length word) (length line) && bytes_eq (take (length word) line) word) refl is
-  where
-    by_test : (b : Bool) → (nat_le (length word) (length line) && bytes_eq (take (length word) line) word) ≡ b
-        → (if b then Some (drop (length word) line) else None) ≡ Some rest
-        → length rest + length word ≡ length line
-    by_test false t e = absurd (cc)
-    by_test true t e =
-        let parts = and_parts (nat_le (length word) (length line)) (bytes_eq (take (length word) line)
-        word) t in
-        let fits = le_is (length word) (length line) parts.0 in
-        let same : drop (length word) line ≡ rest = cc in
-        omega (arith, length-drop (length word) line, ap length same)
-
 -- with these points before
 abbrev pub with_points : List Cell → Option (List Cell) → Option (List Cell)
 with_points points more = option_map (λ later. points ++ later) more
 
-pub points_begun : (line rest : List ℕ) → after_word (112 ∷ 111 ∷ 105 ∷ 110 ∷ 116 ∷ 115 ∷ 32 ∷ []) line
-    ≡ Some rest
-    → points_on line ≡ with_points [] (points_in (slice_split is_space rest))
-points_begun line rest is = rw is (none_before (points_in (slice_split is_space rest)))
-  where
-    none_before : (o : Option (List Cell)) → o ≡ with_points [] o
-    none_before None = refl
-    none_before (Some points) = refl
-
--- a further point
-pub points_more : (points more : List Cell) (words behind : List (List ℕ)) (word : List ℕ) (p : Cell)
-    → words ≡ word ∷ behind → cell_in 44 word ≡ Some p → more ≡ points ++ p ∷ []
-    → with_points points (points_in words) ≡ with_points more (points_in behind)
-points_more points more words behind word p cut is grown =
-    ap (λ (w : List (List ℕ)). with_points points (points_in w)) cut
-    ∙ ap (λ (o : Option Cell). with_points points (option_and_then (λ p. option_map (λ later. p ∷ later)
-    (points_in behind)) o)) is
-    ∙ by_rest (points_in behind)
-  where
-    by_rest : (o : Option (List Cell)) → with_points points (option_map (λ later. p ∷ later) o)
-        ≡ with_points more o
-    by_rest None = refl
-    by_rest (Some later) =
-        ap (λ (l : List Cell). let o : Option (List Cell) = Some l in o)
-        (sym (append_assoc points (p ∷ []) later) ∙ ap (λ (l : List Cell). l ++ later) (sym grown))
-
-pub points_ended : (points : List Cell) → with_points points (points_in []) ≡ Some points
-points_ended points = ap (λ (l : List Cell). let o : Option (List Cell) = Some l in o) (append_none points)
-  where
-    append_none : (l : List Cell) → l ++ [] ≡ l
-    append_none [] = refl
-    append_none (c ∷ l) = ap (λ (m : List Cell). c ∷ m) (append_none l)
-
--- a word that is no point
-pub points_broken : (points : List Cell) (words behind : List (List ℕ)) (word : List ℕ) → words
-    ≡ word ∷ behind
-    → cell_in 44 word ≡ None → with_points points (points_in words) ≡ None
-points_broken points words behind word cut none =
-    ap (λ (w : List (List ℕ)). with_points points (points_in w)) cut
-    ∙ ap (λ (o : Option Cell). with_points points (option_and_then (λ p. option_map (λ later. p ∷ later)
-    (points_in behind)) o)) none
-
 -- all of a list and one more
 pub all_pushed : {X : Type 0} (p : X → Bool) (xs : List X) (x : X) → list_all p xs ≡ true → p x ≡ true
     → list_all p (xs ++ x ∷ []) ≡ true
-all_pushed p [] x all one = rw one refl
-all_pushed p (y ∷ xs) x all one =
-    let parts = and_parts (p y) (list_all p xs) all in rw (parts.0, all_pushed p xs x parts.1 one) refl
+all_pushed p xs x all one = rw (list_all-append p xs (x ∷ []), all, one) refl

@@ -1,5 +1,6 @@
 -- Moves that rise by more than their cost, over heights of cells that are told by a list.
-use Rattle.std.specs.Prelude.{◌≡◌, ℕ, ◌+◌, ◌*◌, Bool, true, nat_lt, IsTrue, Option, Some, None, if◌then◌else◌, List, [], ◌∷◌, map, min, ℤ, pos, ◌+ℤ◌}
+use Rattle.std.specs.Prelude.{◌≡◌, ℕ, ◌+◌, ◌*◌, ◌≤◌, Bool, true, IsTrue, Option, Some, None, if◌then◌else◌, List, [], ◌∷◌, map, min, ℤ, pos, ◌+ℤ◌}
+use Rattle.std.specs.List.{list_all}
 use Rattle.std.specs.Option.{option_or}
 use Rattle.std.specs.Int.Signed.{lt_z}
 use Rattle.root2_cost.specs.Rank.{rank_of}
@@ -13,7 +14,7 @@ use Rattle.potential_check.specs.declared.heights.Heights.{Heights}
 use Rattle.potential_check.specs.declared.rising.Column.{Column}
 use Rattle.potential_check.specs.declared.rising.Rows.{Rows}
 use Rattle.potential_check.specs.declared.rising.Hills.{Hills}
-use Rattle.potential_check.specs.Certificate.{are_listed}
+use Rattle.potential_check.specs.Certificate.{are_listed, ascend_from, lies_inside}
 use Rattle.potential_check.specs.Heights.{entries, floor, are_low, first_height, rest_after}
 
 -- the height of a cell
@@ -29,12 +30,6 @@ is_steep from cost to = lt_z (from +ℤ pos cost) to
 abbrev pub climbs : (Cell → ℤ) → Cell → Cell → Bool
 climbs height u v = is_steep (height u) (rank_of (move_cost u v)) (height v)
 
--- the entries of cells from number n on
-abbrev pub entries_from : ℕ → ℕ → List (Cell × ℤ) → List (Cell × ℤ)
-entries_from width n [] = []
-entries_from width n (entry ∷ entries) =
-    if nat_lt (cell_number width entry.0) n then entries_from width n entries else entry ∷ entries
-
 -- the cells of entries
 abbrev pub cells_in : List (Cell × ℤ) → List Cell
 cells_in entries = map (λ entry. entry.0) entries
@@ -49,9 +44,13 @@ pub record AreHills (hills : Hills) : Type 0 where
   pub listed : are_listed hills.grid.now.width hills.grid.now.height (cells_in (entries hills.heights)) ≡ true
   pub low : IsTrue (are_low hills.heights)
 
--- these are the heights of the hills with the entries from number n on
+-- these are the heights of the hills from number n on: the entries lie inside and ascend from it on
 pub record StandAt (hills : Hills) (n : ℕ) (heights : Heights) : Type 0 where
-  pub rest : entries heights ≡ entries_from hills.grid.now.width n (entries hills.heights)
+  pub inside : list_all (lies_inside hills.grid.now.width hills.grid.now.height)
+      (cells_in (entries heights)) ≡ true
+  pub ascend : ascend_from hills.grid.now.width n (cells_in (entries heights)) ≡ true
+  pub same : (c : Cell) → n ≤ cell_number hills.grid.now.width c
+      → height_of (floor heights) (entries heights) c ≡ height_at hills c
   pub floor_is : floor heights ≡ floor hills.heights
   pub low : IsTrue (are_low heights)
 

@@ -126,7 +126,8 @@ abbrev pub fault_after : State → ℕ → Option (List ℕ) → Option CertFaul
 fault_after state number None = absent_fault state number
 fault_after state number (Some line) = step_fault (next state line) number
 
--- how the line at a place, from 0, breaks the grammar after the lines before it, where these may follow one another
+-- how the line at a place, from 0, breaks the grammar after the lines before it, where these may follow one
+-- another
 abbrev pub fault_at : List (List ℕ) → ℕ → Option CertFault
 fault_at lines place = option_and_then (λ state. fault_after state (place + 1) (slice_get lines place))
     (state_after at_version (take place lines))

@@ -1,9 +1,8 @@
 -- How long the text of a certificate is.
-use Rattle.std.proofs.Common.{◌≡◌, ℕ, suc, ◌+◌, ◌*◌, ◌^◌, ◌<◌, ◌≤◌, Bool, true, false, List, [], ◌∷◌, ◌++◌, length, refl, arith}
+use Rattle.std.proofs.Common.{◌≡◌, ℕ, ◌+◌, ◌*◌, ◌^◌, ◌<◌, ◌≤◌, Bool, true, false, List, [], ◌∷◌, ◌++◌, length, refl, arith}
 use Rattle.std.specs.Prelude.{codes, decimal, nat_le, nat_lt}
 use Rattle.std.specs.List.{list_all}
 use Rattle.std.proofs.lemmas.Bool.{and_parts}
-use Rattle.std.proofs.lemmas.Bool.Decides.{nat_tests}
 use Rattle.std.proofs.lemmas.List.{length-append, length-map}
 use Rattle.root2_cost.specs.declared.Cost.{Cost}
 use Rattle.grid_moves.specs.declared.Cell.{Cell}
@@ -13,8 +12,10 @@ use Rattle.path_points.specs.Corners.{goes_straight, turns_after}
 use Rattle.potential_check.specs.declared.certificate.Claim.{Claim}
 use Rattle.potential_check.specs.declared.certificate.Claim.TheVariants.{Least, NoWalk}
 use Rattle.potential_check.specs.Certificate.{are_listed, ascend_from, cells_of, is_short, is_small, lies_inside}
+use Rattle.potential_check.proofs.Entries.{le_is, lt_is}
 use Rattle.potential_make.specs.Written.{certificate_text, claim_text, head_text, least_text, member_text, point_text, texts_of, value_text}
 use Rattle.potential_make.proofs.Digits.{are_digits}
+use Rattle.potential_make.proofs.Few.{few_cells}
 use Rattle.potential_make.proofs.Spelled.{Fits, short_is, small_is}
 
 -- digits of coordinates and of the parts of costs
@@ -27,7 +28,8 @@ part_digits n low = (are_digits 9 n (omega arith) (omega arith) low low).few
 cell_digits : (c : Cell) → is_short c ≡ true → (length (decimal c.x) ≤ 4) × (length (decimal c.y) ≤ 4)
 cell_digits c p = let s = short_is c p in (coordinate_digits c.x s.0, coordinate_digits c.y s.1)
 
-cost_digits : (cost : Cost) → is_small cost ≡ true → (length (decimal cost.a) ≤ 9) × (length (decimal cost.b) ≤ 9)
+cost_digits : (cost : Cost) → is_small cost ≡ true → (length (decimal cost.a) ≤ 9)
+    × (length (decimal cost.b) ≤ 9)
 cost_digits cost p = let s = small_is cost p in (part_digits cost.a s.0, part_digits cost.b s.1)
 
 -- pieces of a text
@@ -85,37 +87,24 @@ ascending_few : (width height n : ℕ) (cells : List Cell) → list_all (lies_in
     → ascend_from width n cells ≡ true → n ≤ height * width → n + length cells ≤ height * width
 ascending_few width height n [] inside up low = omega arith
 ascending_few width height n (c ∷ cells) inside up low =
-    let in_parts = and_parts (lies_inside width height c) (list_all (lies_inside width height) cells) inside in
-    let up_parts = and_parts (nat_le n (cell_number width c)) (ascend_from width (cell_number width c + 1) cells) up in
+    let in_parts = and_parts (lies_inside width height c)
+    (list_all (lies_inside width height) cells) inside in
+    let up_parts = and_parts (nat_le n (cell_number width c))
+    (ascend_from width (cell_number width c + 1) cells) up in
     let place = and_parts (nat_lt c.x width) (nat_lt c.y height) in_parts.0 in
-    let below = number_below width height c (is_less c.x width place.0) (is_less c.y height place.1) in
-    let first = is_most n (cell_number width c) up_parts.0 in
+    let below = number_below width height c (lt_is c.x width place.0) (lt_is c.y height place.1) in
+    let first = le_is n (cell_number width c) up_parts.0 in
     let more = ascending_few width height (cell_number width c + 1) cells in_parts.1 up_parts.1
-    (next (cell_number width c) (height * width) below) in
-    one_more n (cell_number width c) (length cells) (height * width) first more
-  where
-    is_less : (m n : ℕ) → nat_lt m n ≡ true → m < n
-    is_less m n e = grind (arith, nat_tests)
-
-    is_most : (m n : ℕ) → nat_le m n ≡ true → m ≤ n
-    is_most m n e = grind (arith, nat_tests)
-
-    next : (m n : ℕ) → m < n → m + 1 ≤ n
-    next m n h = omega arith
-
-    one_more : (n at count all : ℕ) → n ≤ at → (at + 1) + count ≤ all → n + suc count ≤ all
-    one_more n at count all h more = omega arith
+    (omega arith) in
+    omega arith
 
 listed_few : (width height : ℕ) (cells : List Cell) → width ≤ 4096 → height ≤ 4096
     → are_listed width height cells ≡ true → length cells ≤ 16777216
 listed_few width height cells w h listed =
     let parts = and_parts (list_all (lies_inside width height) cells) (ascend_from width 0 cells) listed in
     within (length cells) (height * width) (ascending_few width height 0 cells parts.0 parts.1 (omega arith))
-    (area height width h w)
+    (few_cells height width h w)
   where
-    area : (h w : ℕ) → h ≤ 4096 → w ≤ 4096 → h * w ≤ 16777216
-    area h w a b = grind arith
-
     within : (count most : ℕ) → 0 + count ≤ most → most ≤ 16777216 → count ≤ 16777216
     within count most a b = omega arith
 
@@ -171,7 +160,8 @@ pub text_length : (width height : ℕ) (s t : Cell) (claim : Claim) → width �
     → is_short s ≡ true → is_short t ≡ true → Fits width height claim → HasFewPoints claim
     → length (certificate_text width height s t claim) ≤ 2 ^ 30
 text_length width height s t claim w h p q f few =
-    together (head_text width height s t) (claim_text claim) (codes "end\n") (head_length width height s t w h p q)
+    together (head_text width height s t) (claim_text claim) (codes "end\n")
+    (head_length width height s t w h p q)
     (claim_length width height claim w h f few) (omega arith)
   where
     together : (head body last : List ℕ) → length head ≤ 60 → length body ≤ 800000000 → length last ≤ 4

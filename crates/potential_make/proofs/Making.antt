@@ -7,6 +7,7 @@ use Rattle.std.specs.Ordering.{int_eq}
 use Rattle.std.proofs.lemmas.Bool.{and_parts, and_from}
 use Rattle.std.proofs.lemmas.Bool.Decides.{nat_tests}
 use Rattle.std.proofs.lemmas.Int.{ints}
+use Rattle.std.proofs.lemmas.Simd.{map-map}
 use Rattle.root2_cost.specs.declared.Cost.{Cost}
 use Rattle.root2_cost.specs.declared.Signed.{Signed}
 use Rattle.root2_cost.specs.Order.{is_less, IsAtMost}
@@ -21,10 +22,10 @@ use Rattle.grid_moves.specs.Points.{estimate}
 use Rattle.grid_moves.specs.Reply.{StandsForLeast}
 use Rattle.grid_moves.specs.Walk.{NoWalk, is_walk, cost_of, last_of}
 use Rattle.grid_moves.proofs.Legal.{and_both, free_inside, is_same-cell, is_same-itself, legal_is}
+use Rattle.grid_moves.proofs.Short.{least_steps}
 use Rattle.path_points.specs.Corners.{corners, goes_straight, turns_after}
 use Rattle.best_first.specs.State.{start_at}
 use Rattle.search_run.proofs.Leastness.{estimate_along}
-use Rattle.plain_search.proofs.Posed.{free_near}
 use Rattle.plain_search.specs.Answer.{IsPlainRun, IsLeast}
 use Rattle.plain_search.specs.Found.{IsFound}
 use Rattle.plain_search.specs.Lists.{AreClosed, AreLists, AreReached, IsLeastCost, plain_of}
@@ -40,7 +41,7 @@ use Rattle.potential_check.specs.Spelling.{Spells}
 use Rattle.potential_check.proofs.Spelled.{certificate_of_spelled}
 use Rattle.potential_make.specs.Certified.{HasItsPotential, IsAcceptedText, stated}
 use Rattle.potential_make.specs.Written.{certificate_text, claim_of}
-use Rattle.potential_make.proofs.Few.{few_found, few_least, moves_counted}
+use Rattle.potential_make.proofs.Few.{few_cells, few_least}
 use Rattle.potential_make.proofs.Lengths.{HasFewPoints, text_length, turns_few}
 use Rattle.potential_make.proofs.Potentials.{feasible, has_potential}
 use Rattle.potential_make.proofs.Spelled.{Fits, text_spells}
@@ -69,7 +70,8 @@ contained_any (d ∷ cells) c m = by_place (contained_any cells c) m.0 m.1 m.2
 
     by_place : (Contains cells c → is_listed cells c ≡ true) → (k : ℕ) → k < length (d ∷ cells)
         → slice_index_or (d ∷ cells) k c ≡ c → is_listed (d ∷ cells) c ≡ true
-    by_place again zero h e = let yes : is_same d c ≡ true = ap (λ (x : Cell). is_same x c) e ∙ is_same-itself c in
+    by_place again zero h e = let yes : is_same d c ≡ true = ap (λ (x : Cell). is_same x c) e
+        ∙ is_same-itself c in
         rw yes refl
     by_place again (suc k) h e = or_late (is_same d c) (is_listed cells c) (again (k, omega arith, e))
 
@@ -95,21 +97,14 @@ ascends width n [] up low = refl
 ascends width n (c ∷ cells) up low =
     and_from (nat_le n (cell_number width c)) (ascend_from width (cell_number width c + 1) cells)
     (le_true n (cell_number width c) (low (omega arith)))
-    (ascends width (cell_number width c + 1) cells (tail_up (cell_number width c) (map (λ d. cell_number width d) cells) up)
+    (ascends width (cell_number width c + 1) cells
+    (tail_up (cell_number width c) (map (λ d. cell_number width d) cells) up)
     (next cells up))
   where
     next : (cells : List Cell) → IsStrictlyIncreasing (map (λ c. cell_number width c) (c ∷ cells))
         → 0 < length cells → cell_number width c + 1 ≤ slice_index (map (λ c. cell_number width c) cells) 0
     next [] up h = absurd (omega arith)
     next (d ∷ cells) up h = let less = up 0 (omega arith) in omega arith
-
-map-map : {X Y Z : Type 0} (f : Y → Z) (h : X → Y) (xs : List X) → map f (map h xs) ≡ map (λ x. f (h x)) xs
-map-map f h [] = refl
-map-map f h (x ∷ xs) = ap (λ (ys : List _). f (h x) ∷ ys) (map-map f h xs)
-
-list_all-map : {X Y : Type 0} (p : Y → Bool) (h : X → Y) (xs : List X) → list_all p (map h xs) ≡ list_all (λ x. p (h x)) xs
-list_all-map p h [] = refl
-list_all-map p h (x ∷ xs) = ap (λ (b : Bool). p (h x) && b) (list_all-map p h xs)
 
 -- what a free cell fits
 module _ (g : GridData) (whole : IsGrid g) where
@@ -130,12 +125,9 @@ module _ (g : GridData) (whole : IsGrid g) where
 
   few_small : (cost : Cost) → cost.a + cost.b ≤ g.height * g.width → is_small cost ≡ true
   few_small cost h =
-      let most : g.height * g.width ≤ 16777216 = cells_fit g.height g.width whole.sides.low whole.sides.narrow in
+      let most = few_cells g.height g.width whole.sides.low whole.sides.narrow in
       and_from (nat_lt cost.a (10 ^ 9)) (nat_lt cost.b (10 ^ 9)) (lt_true cost.a (10 ^ 9) (omega arith))
       (lt_true cost.b (10 ^ 9) (omega arith))
-    where
-      cells_fit : (h w : ℕ) → h ≤ 4096 → w ≤ 4096 → h * w ≤ 16777216
-      cells_fit h w a b = grind arith
 
   -- the cells of a walk are free
   walk_short : (cells : List Cell) → is_walk g cells ≡ true → list_all is_short cells ≡ true
@@ -146,7 +138,8 @@ module _ (g : GridData) (whole : IsGrid g) where
       and_from (is_short c) (list_all is_short (d ∷ cells)) (free_short c (legal_is g c d parts.0).source)
       (walk_short (d ∷ cells) parts.1)
 
-  end_free : (s : Cell) (cells : List Cell) → is_walk g (s ∷ cells) ≡ true → is_free g (last_of s cells) ≡ true
+  end_free : (s : Cell) (cells : List Cell) → is_walk g (s ∷ cells) ≡ true
+      → is_free g (last_of s cells) ≡ true
   end_free s [] w = w
   end_free s (d ∷ cells) w = end_free d cells (and_both (is_legal g s d) (is_walk g (d ∷ cells)) w).1
 
@@ -155,11 +148,13 @@ module _ (g : GridData) (whole : IsGrid g) where
       let s = whole.sides in
       and_from (nat_le 1 g.width && nat_le g.width 4096 && nat_le 1 g.height) (nat_le g.height 4096)
       (and_from (nat_le 1 g.width && nat_le g.width 4096) (nat_le 1 g.height)
-      (and_from (nat_le 1 g.width) (nat_le g.width 4096) (le_true 1 g.width s.wide) (le_true g.width 4096 s.narrow))
+      (and_from (nat_le 1 g.width) (nat_le g.width 4096) (le_true 1 g.width s.wide)
+      (le_true g.width 4096 s.narrow))
       (le_true 1 g.height s.high)) (le_true g.height 4096 s.low)
 
   listed_cells : (cells : List Cell) → ((c : Cell) → Contains cells c → is_free g c ≡ true)
-      → IsStrictlyIncreasing (map (λ c. cell_number g.width c) cells) → are_listed g.width g.height cells ≡ true
+      → IsStrictlyIncreasing (map (λ c. cell_number g.width c) cells)
+      → are_listed g.width g.height cells ≡ true
   listed_cells cells free up =
       and_from (list_all (lies_inside g.width g.height) cells) (ascend_from g.width 0 cells)
       (all_contained (lies_inside g.width g.height) cells (λ c m. free_lies c (free c m)))
@@ -176,20 +171,20 @@ turns_short u (v ∷ w ∷ cells) all =
     by_test : is_short v ≡ true → list_all is_short (turns_after v (w ∷ cells)) ≡ true → (b : Bool)
         → goes_straight u v w ≡ b → list_all is_short (turns_after u (v ∷ w ∷ cells)) ≡ true
     by_test first rest true e = rw e rest
-    by_test first rest false e = rw e (and_from (is_short v) (list_all is_short (turns_after v (w ∷ cells))) first rest)
+    by_test first rest false e =
+        rw e (and_from (is_short v) (list_all is_short (turns_after v (w ∷ cells))) first rest)
 
 int_same : (n : ℕ) → int_eq (pos n) (pos n) ≡ true
 int_same n = grind (arith, nat_tests)
 
 value_is : (v : Signed) (c : Cost) → v ≡ signed_of c → is_value v c ≡ true
-value_is v c e = rw e (and_from (int_eq (pos c.a) (pos c.a)) (int_eq (pos c.b) (pos c.b)) (int_same c.a) (int_same c.b))
+value_is v c e = rw e (and_from (int_eq (pos c.a) (pos c.a)) (int_eq (pos c.b) (pos c.b)) (int_same c.a)
+    (int_same c.b))
 
-module _ (g : GridData) (s t : Cell) (whole : IsGrid g) (from : is_free g s ≡ true) (to : is_free g t ≡ true) where
+module _ (g : GridData) (s t : Cell) (whole : IsGrid g) (from : is_free g s ≡ true)
+    (to : is_free g t ≡ true) where
   cells_few : g.height * g.width ≤ 16777216
-  cells_few = by_sides g.height g.width whole.sides.low whole.sides.narrow
-    where
-      by_sides : (h w : ℕ) → h ≤ 4096 → w ≤ 4096 → h * w ≤ 16777216
-      by_sides h w a b = grind arith
+  cells_few = few_cells g.height g.width whole.sides.low whole.sides.narrow
 
   -- a claim of least cost
   module _ (points : List Cell) (cost : Cost) (taken : List ℕ) (closed : List (Cell × Cost))
@@ -199,23 +194,26 @@ module _ (g : GridData) (s t : Cell) (whole : IsGrid g) (from : is_free g s ≡ 
     least_cost = record { cells = least.cells; least = least.least; priced = least.priced }
 
     few : cost.a + cost.b ≤ g.height * g.width
-    few = few_least g s t cost whole from to least_cost
+    few = few_least g s t cost least_cost
 
     cell_free : (e : Cell × Cost) → Contains closed e → is_free g e.0 ≡ true
     cell_free e m =
         let o = (lists.only e.0 e.1 m).0 in
-        subst (λ (c : Cell). is_free g c ≡ true) o.least.walk.ends (end_free g whole s o.cells o.least.walk.legal)
+        subst (λ (c : Cell). is_free g c ≡ true) o.least.walk.ends
+        (end_free g whole s o.cells o.least.walk.legal)
 
     cost_small : (e : Cell × Cost) → Contains closed e → is_small e.1 ≡ true
-    cost_small e m = few_small g whole e.1
-        (few_least g s e.0 e.1 whole from (cell_free e m) (lists.only e.0 e.1 m).0)
+    cost_small e m = few_small g whole e.1 (few_least g s e.0 e.1 (lists.only e.0 e.1 m).0)
 
     up : IsStrictlyIncreasing (map (λ c. cell_number g.width c) (cells_of closed))
-    up = subst IsStrictlyIncreasing (sym (map-map (λ c. cell_number g.width c) (λ (e : Cell × Cost). e.0) closed))
+    up = subst IsStrictlyIncreasing
+        (sym (map-map (λ c. cell_number g.width c) (λ (e : Cell × Cost). e.0) closed))
         lists.ascend
 
-    points_are : points ≡ s ∷ turns_after s (way_is_least g t s run.last run.earlier from run.run run.at_goal).cells
-    points_are = run.joined ∙ ap corners (way_is_least g t s run.last run.earlier from run.run run.at_goal).is_way
+    points_are : points ≡ s ∷ turns_after s
+        (way_is_least g t s run.last run.earlier from run.run run.at_goal).cells
+    points_are = run.joined ∙ ap corners
+        (way_is_least g t s run.last run.earlier from run.run run.at_goal).is_way
 
     points_short : list_all is_short points ≡ true
     points_short =
@@ -231,11 +229,14 @@ module _ (g : GridData) (s t : Cell) (whole : IsGrid g) (from : is_free g s ≡ 
         by_list : (es : List (Cell × Cost)) → ((e : Cell × Cost) → Contains es e → is_free g e.0 ≡ true)
             → Contains (cells_of es) c → is_free g c ≡ true
         by_list [] free m = absurd (omega (arith, m.1))
-        by_list (e ∷ es) free m = by_place (by_list es (λ d n. free d (suc n.0, omega (arith, n.1), n.2))) m.0 m.1 m.2
+        by_list (e ∷ es) free m = by_place
+            (by_list es (λ d n. free d (suc n.0, omega (arith, n.1), n.2))) m.0 m.1 m.2
           where
             by_place : (Contains (cells_of es) c → is_free g c ≡ true) → (k : ℕ)
-                → k < length (cells_of (e ∷ es)) → slice_index_or (cells_of (e ∷ es)) k c ≡ c → is_free g c ≡ true
-            by_place again zero h q = subst (λ (d : Cell). is_free g d ≡ true) q (free e (0, omega arith, refl))
+                → k < length (cells_of (e ∷ es)) → slice_index_or (cells_of (e ∷ es)) k c ≡ c
+                → is_free g c ≡ true
+            by_place again zero h q = subst (λ (d : Cell). is_free g d ≡ true) q
+                (free e (0, omega arith, refl))
             by_place again (suc k) h q = again (k, omega arith, q)
 
     pub fits_least : Fits g.width g.height (claim_of (Found points cost closed taken))
@@ -298,7 +299,8 @@ module _ (g : GridData) (s t : Cell) (whole : IsGrid g) (from : is_free g s ≡ 
             subst (λ (c : Cost). IsAtMost cost c) (add_costs-no_cost_left (estimate s t)) e in
             value_is (potential_of cost t closed s) no_cost
             ((has_potential g s t cost closed lists).far s no_cost start_least e
-            ∙ same_cost_nothing cost (estimate s t) (IsAtMost-antisymmetric cost (estimate s t) most estimate_most))
+            ∙ same_cost_nothing cost (estimate s t)
+            (IsAtMost-antisymmetric cost (estimate s t) most estimate_most))
 
     goal_value : is_value (potential_of cost t closed t) cost ≡ true
     goal_value =
@@ -315,7 +317,8 @@ module _ (g : GridData) (s t : Cell) (whole : IsGrid g) (from : is_free g s ≡ 
         less_nothing n = omega (arith, ints)
 
         whole_cost : (c : Cost) → cost_difference c no_cost ≡ signed_of c
-        whole_cost c = ap (λ (x : ℤ). let v : Signed = record { a = x; b = pos c.b -ℤ pos 0 } in v) (less_nothing c.a)
+        whole_cost c = ap (λ (x : ℤ). let v : Signed = record { a = x; b = pos c.b -ℤ pos 0 } in v)
+            (less_nothing c.a)
             ∙ ap (λ (x : ℤ). let v : Signed = record { a = pos c.a; b = x } in v) (less_nothing c.b)
 
     pub accepts_least : AcceptsLeast g s t cost points closed
@@ -325,9 +328,7 @@ module _ (g : GridData) (s t : Cell) (whole : IsGrid g) (from : is_free g s ≡ 
         unfolds = least.unfolds;
         walk = least.least.walk;
         short =
-            let count : cost.a + cost.b ≡ length least.cells =
-            ap (λ (c : Cost). c.a + c.b) (sym least.priced) ∙ moves_counted s least.cells in
-            let f = few in
+            let n = least_steps g s t least.cells least.least in
             let m = cells_few in
             omega arith;
         priced = least.priced;
@@ -377,7 +378,8 @@ module _ (g : GridData) (s t : Cell) (whole : IsGrid g) (from : is_free g s ≡ 
 
   found_fits : (found : Listed) → IsPlainRun g s t (plain_of found) → IsLeast g s t (plain_of found)
       → AreLists g s t found → Fits g.width g.height (claim_of found)
-  found_fits (Found points cost closed taken) run least lists = fits_least points cost taken closed run least lists
+  found_fits (Found points cost closed taken) run least lists =
+      fits_least points cost taken closed run least lists
   found_fits (None reached taken) run least lists = fits_none reached least lists
 
   few_points : (found : Listed) → IsPlainRun g s t (plain_of found) → HasFewPoints (claim_of found)
@@ -387,10 +389,7 @@ module _ (g : GridData) (s t : Cell) (whole : IsGrid g) (from : is_free g s ≡ 
       let are : length points ≡ suc (length (turns_after s w.cells)) =
       ap length (run.joined ∙ ap corners w.is_way) in
       let turns = turns_few s w.cells in
-      let moves = moves_counted s w.cells in
-      let paid : (cost_of (s ∷ w.cells)).a + (cost_of (s ∷ w.cells)).b ≡ cost.a + cost.b =
-      ap (λ (c : Cost). c.a + c.b) (w.priced ∙ sym run.priced) in
-      let few = few_found g s t whole from (free_near g t to) points cost taken run in
+      let few = least_steps g s t w.cells w.least in
       let most = cells_few in
       omega arith
 
@@ -400,10 +399,12 @@ module _ (g : GridData) (s t : Cell) (whole : IsGrid g) (from : is_free g s ≡ 
       (written : text ≡ certificate_text g.width g.height s t (claim_of found)) where
     spelled_text : Spells text (stated g s t (claim_of found))
     spelled_text = rw written (text_spells g.width g.height s t (claim_of found) sides_small.0 sides_small.1
-        (sides_are g whole) (free_short g whole s from) (free_short g whole t to) (found_fits found run least lists))
+        (sides_are g whole) (free_short g whole s from) (free_short g whole t to)
+        (found_fits found run least lists))
 
     pub short_text : length text ≤ 2 ^ 30
-    short_text = rw written (text_length g.width g.height s t (claim_of found) whole.sides.narrow whole.sides.low
+    short_text = rw written (text_length g.width g.height s t
+        (claim_of found) whole.sides.narrow whole.sides.low
         (free_short g whole s from) (free_short g whole t to) (found_fits found run least lists)
         (few_points found run))
 

@@ -17,6 +17,7 @@ use Rattle.potential_check.specs.declared.certificate.Claim.TheVariants.{Least, 
 use Rattle.potential_check.specs.Certificate.{are_listed, are_sides, cells_of, is_short, is_small}
 use Rattle.potential_check.specs.Forms.{ends_on, is_space, least_on, member_on, points_in, points_on, size_on, value_on}
 use Rattle.potential_check.specs.Spelling.{SpellInOrder, Spells, SpellsClaim}
+use Rattle.potential_check.proofs.Entries.{lt_is}
 use Rattle.potential_make.specs.Written.{certificate_text, claim_text, member_text, pair_text, point_text, texts_of, value_text}
 use Rattle.potential_make.proofs.Digits.{are_digits, cell_read, cell_then, pair_read, word_read}
 
@@ -45,20 +46,27 @@ without_cr_plain (b ∷ c ∷ line) plain =
     ap (λ (rest : List ℕ). b ∷ rest) (without_cr_plain (c ∷ line) parts.1)
 
 -- a line and what follows it
-lines_then : (line rest : List ℕ) → list_all is_plain line ≡ true → lines_of (line ++ 10 ∷ rest) ≡ line ∷ lines_of rest
+lines_then : (line rest : List ℕ) → list_all is_plain line ≡ true → lines_of (line ++ 10 ∷ rest)
+    ≡ line ∷ lines_of rest
 lines_then line rest plain =
     rw (pieces_then line rest plain) (ap (λ (l : List ℕ). l ∷ lines_of rest) (without_cr_plain line plain))
 
 plain_both : (xs ys : List ℕ) → list_all is_plain xs ≡ true → list_all is_plain ys ≡ true
     → list_all is_plain (xs ++ ys) ≡ true
-plain_both xs ys p q = list_all-append is_plain xs ys ∙ and_from (list_all is_plain xs) (list_all is_plain ys) p q
+plain_both xs ys p q = list_all-append is_plain xs ys
+    ∙ and_from (list_all is_plain xs) (list_all is_plain ys) p q
+
+-- all digits have a property
+each_digit : (p : ℕ → Bool) → ((byte : ℕ) → is_ascii_digit byte ≡ true → p byte ≡ true) → (digits : List ℕ)
+    → list_all is_ascii_digit digits ≡ true → list_all p digits ≡ true
+each_digit p has [] all = refl
+each_digit p has (d ∷ digits) all =
+    let parts = and_parts (is_ascii_digit d) (list_all is_ascii_digit digits) all in
+    rw (has d parts.0, each_digit p has digits parts.1) refl
 
 plain_digits : (digits : List ℕ) → list_all is_ascii_digit digits ≡ true → list_all is_plain digits ≡ true
 unfolding is_plain
-plain_digits [] all = refl
-plain_digits (d ∷ digits) all =
-    let parts = and_parts (is_ascii_digit d) (list_all is_ascii_digit digits) all in
-    and_from (is_plain d) (list_all is_plain digits) (plain_digit d parts.0) (plain_digits digits parts.1)
+plain_digits = each_digit is_plain plain_digit
   where
     plain_digit : (byte : ℕ) → is_ascii_digit byte ≡ true → is_plain byte ≡ true
     plain_digit byte digit = grind (arith, nat_tests)
@@ -75,17 +83,13 @@ plain_pair m n small low =
 -- what is short or small
 pub short_is : (c : Cell) → is_short c ≡ true → (c.x < 10000) × (c.y < 10000)
 short_is c e =
-    let parts = and_parts (nat_lt c.x 10000) (nat_lt c.y 10000) e in (less c.x parts.0, less c.y parts.1)
-  where
-    less : (n : ℕ) → nat_lt n 10000 ≡ true → n < 10000
-    less n e = grind (arith, nat_tests)
+    let parts = and_parts (nat_lt c.x 10000) (nat_lt c.y 10000) e in
+    (lt_is c.x 10000 parts.0, lt_is c.y 10000 parts.1)
 
 pub small_is : (c : Cost) → is_small c ≡ true → (c.a < 10 ^ 9) × (c.b < 10 ^ 9)
 small_is c e =
-    let parts = and_parts (nat_lt c.a (10 ^ 9)) (nat_lt c.b (10 ^ 9)) e in (less c.a parts.0, less c.b parts.1)
-  where
-    less : (n : ℕ) → nat_lt n (10 ^ 9) ≡ true → n < 10 ^ 9
-    less n e = grind (arith, nat_tests)
+    let parts = and_parts (nat_lt c.a (10 ^ 9)) (nat_lt c.b (10 ^ 9)) e in
+    (lt_is c.a (10 ^ 9) parts.0, lt_is c.b (10 ^ 9) parts.1)
 
 plain_cell : (c : Cell) → is_short c ≡ true → list_all is_plain (pair_text c.x c.y) ≡ true
 plain_cell c e = let s = short_is c e in
@@ -123,7 +127,12 @@ ends_spells s t p q =
     let rest : List ℕ = decimal t.x ++ 32 ∷ decimal t.y in
     let line : List ℕ = decimal s.x ++ 32 ∷ (decimal s.y ++ 32 ∷ rest) in
     let is : ends_line s t ≡ codes "ends " ++ line = simp append_assoc in
-    ap ends_on is ∙ rw (word_read (codes "ends ") line, cell_then s rest a.0 a.1, cell_read 32 t refl b.0 b.1) refl
+    ap ends_on is ∙ rw (
+      word_read
+          (codes "ends ") line,
+      cell_then s rest a.0 a.1,
+      cell_read 32 t refl b.0 b.1,
+    ) refl
 
 least_spells : (cost : Cost) → is_small cost ≡ true → least_on (least_line cost) ≡ Some cost
 least_spells cost e =
@@ -157,10 +166,7 @@ is_filled byte = not (is_space byte)
 
 filled_digits : (digits : List ℕ) → list_all is_ascii_digit digits ≡ true → list_all is_filled digits ≡ true
 unfolding is_filled
-filled_digits [] all = refl
-filled_digits (d ∷ digits) all =
-    let parts = and_parts (is_ascii_digit d) (list_all is_ascii_digit digits) all in
-    and_from (is_filled d) (list_all is_filled digits) (filled_digit d parts.0) (filled_digits digits parts.1)
+filled_digits = each_digit is_filled filled_digit
   where
     filled_digit : (byte : ℕ) → is_ascii_digit byte ≡ true → is_filled byte ≡ true
     filled_digit byte digit = grind (arith, nat_tests)
@@ -180,9 +186,11 @@ unfolding is_filled
 point_filled c e =
     let s = short_is c e in
     let x = filled_digits (decimal c.x)
-    (are_digits 4 c.x (omega arith) (omega arith) (let h = s.0 in omega arith) (let h = s.0 in omega arith)).all in
+    (are_digits 4 c.x (omega arith) (omega arith) (let h = s.0 in omega arith)
+    (let h = s.0 in omega arith)).all in
     let y = filled_digits (decimal c.y)
-    (are_digits 4 c.y (omega arith) (omega arith) (let h = s.1 in omega arith) (let h = s.1 in omega arith)).all in
+    (are_digits 4 c.y (omega arith) (omega arith) (let h = s.1 in omega arith)
+    (let h = s.1 in omega arith)).all in
     no_spaces (point_word c) (list_all-append is_filled (decimal c.x) (44 ∷ decimal c.y)
     ∙ and_from (list_all is_filled (decimal c.x)) (list_all is_filled (44 ∷ decimal c.y)) x y)
 
@@ -199,11 +207,13 @@ words_split c [] all =
 words_split c (d ∷ points) all =
     let parts = and_parts (is_short c) (list_all is_short (d ∷ points)) all in
     ap (λ (l : List ℕ). slice_split is_space (point_word c ++ l)) (texts_first d points)
-    ∙ slice_split_at is_space (point_word c) 32 (point_word d ++ texts_of point_text points) (point_filled c parts.0)
+    ∙ slice_split_at is_space (point_word c) 32 (point_word d ++ texts_of point_text points)
+    (point_filled c parts.0)
     refl
     ∙ ap (λ (l : List (List ℕ)). point_word c ∷ l) (words_split d points parts.1)
 
-words_spell : (points : List Cell) → list_all is_short points ≡ true → points_in (map point_word points) ≡ Some points
+words_spell : (points : List Cell) → list_all is_short points ≡ true → points_in (map point_word points)
+    ≡ Some points
 words_spell [] all = refl
 words_spell (c ∷ points) all =
     let parts = and_parts (is_short c) (list_all is_short points) all in
@@ -247,7 +257,8 @@ plain_value c cost p q =
     let b = small_is cost q in
     plain_both (codes "value " ++ pair_text c.x c.y ++ codes " ") (pair_text cost.a cost.b)
     (plain_both (codes "value " ++ pair_text c.x c.y) (codes " ")
-    (plain_both (codes "value ") (pair_text c.x c.y) refl (plain_cell c p)) refl) (plain_pair cost.a cost.b b.0 b.1)
+    (plain_both (codes "value ") (pair_text c.x c.y) refl (plain_cell c p)) refl)
+    (plain_pair cost.a cost.b b.0 b.1)
 
 -- the lines of a list, and the last one
 end_lines : lines_of (codes "end\n") ≡ codes "end" ∷ []
@@ -263,7 +274,8 @@ value_lines (e ∷ values) p q =
     let is : texts_of value_text (e ∷ values) ++ codes "end\n"
     ≡ value_line e ++ 10 ∷ (texts_of value_text values ++ codes "end\n") = simp append_assoc in
     ap lines_of is
-    ∙ lines_then (value_line e) (texts_of value_text values ++ codes "end\n") (plain_value e.0 e.1 short.0 small.0)
+    ∙ lines_then (value_line e) (texts_of value_text values ++ codes "end\n")
+    (plain_value e.0 e.1 short.0 small.0)
     ∙ ap (λ (l : List (List ℕ)). value_line e ∷ l) (value_lines values short.1 small.1)
 
 values_spell : (values : List (Cell × Cost)) → list_all (λ e. is_short e.0) values ≡ true
@@ -295,7 +307,8 @@ members_spell (c ∷ cells) p =
     (member_spells c short.0, members_spell cells short.1)
 
 -- a claim that fits: its numbers are short enough for their lines, and its list ascends
-pub record FitsLeast (width height : ℕ) (cost : Cost) (points : List Cell) (values : List (Cell × Cost)) : Type 0 where
+pub record FitsLeast (width height : ℕ) (cost : Cost) (points : List Cell)
+    (values : List (Cell × Cost)) : Type 0 where
   pub cost_small : is_small cost ≡ true
   pub first : Cell
   pub more : List Cell
@@ -337,7 +350,8 @@ claim_lines width height s t (Least cost points values) f = record {
       ∙ ap (λ (l : List (List ℕ)). least_line cost ∷ l)
       (lines_then (points_line points) rest
       (plain_both (codes "points") (texts_of point_text points) refl (plain_points points f.points_short))
-      ∙ ap (λ (l : List (List ℕ)). points_line points ∷ l) (value_lines values f.values_short f.values_small));
+      ∙ ap (λ (l : List (List ℕ)). points_line points ∷ l)
+      (value_lines values f.values_short f.values_small));
   spells = record {
     second = points_line points;
     list = map value_line values;

@@ -1,9 +1,9 @@
 -- The first entry that differs.
-use Rattle.std.proofs.Common.{◌≡◌, ℕ, suc, ◌+◌, ◌*◌, ◌<◌, ◌≤◌, Bool, true, false, List, [], ◌∷◌, ◌++◌, length, take, drop, refl, ap, sym, ◌∙◌, arith}
-use Rattle.std.specs.Prelude.{ℤ, pos, Option, Some, None, option_map, map, flat_map, slice_index_or, if◌then◌else◌}
+use Rattle.std.proofs.Common.{◌≡◌, ℕ, suc, ◌+◌, ◌*◌, Bool, true, false, List, [], ◌∷◌, ◌++◌, length, take, drop, refl, ap, sym, ◌∙◌, arith}
+use Rattle.std.specs.Prelude.{ℤ, Option, Some, None, option_map, map, flat_map, if◌then◌else◌}
 use Rattle.std.specs.Option.{option_or}
 use Rattle.std.specs.Str.{bytes_eq}
-use Rattle.std.proofs.lemmas.List.{drop_more, drop-drop, length-drop, nil_from_length, take-append-drop}
+use Rattle.std.proofs.lemmas.List.{drop-drop, length-drop, nil_from_length, take-append-drop}
 use Rattle.std.proofs.lemmas.Slice.Eq.{bytes_eq-Decides}
 use Rattle.table_file.specs.Encoding.{entry_bytes}
 use Rattle.table_file.specs.Faults.{first_wrong}
@@ -77,53 +77,3 @@ none_wrong entry (s ∷ spots) =
     if_right (bytes_eq (entry_bytes (entry s)) (entry_bytes (entry s))) s
     (first_wrong entry spots (flat_map (λ t. entry_bytes (entry t)) spots))
     ((bytes_eq-Decides (entry_bytes (entry s)) (entry_bytes (entry s))).1 refl) (none_wrong entry spots)
-
-if_other : {A : Type 0} (b : Bool) (x y : A) → b ≡ true → (if b then x else y) ≡ x
-if_other true x y is = refl
-if_other false x y is = absurd (cc)
-
-if_same : {A : Type 0} (b : Bool) (x y : A) → b ≡ false → (if b then x else y) ≡ y
-if_same true x y is = absurd (cc)
-if_same false x y is = refl
-
--- the next two bytes
-next_two : (bytes : List ℕ) (k : ℕ) → k + 1 < length bytes
-    → take 2 (drop k bytes) ≡ slice_index_or bytes k 0 ∷ slice_index_or bytes (k + 1) 0 ∷ []
-next_two bytes k inside =
-    let one : k < length bytes = omega arith in
-    ap (take 2) (drop_more bytes k 0 one
-    ∙ ap (λ (l : List ℕ). slice_index_or bytes k 0 ∷ l) (drop_more bytes (k + 1) 0 inside))
-
-module _ (entries : List ℤ) (bytes : List ℕ) (place : ℕ) (inside : place < length entries)
-    (long : 2 * length entries ≤ length bytes) where
-  at_place : first_other place (drop place entries) (drop (2 * place) bytes)
-      ≡ (if bytes_eq (slice_index_or bytes (2 * place) 0 ∷ slice_index_or bytes (2 * place + 1) 0 ∷ [])
-      (entry_bytes (slice_index_or entries place (pos 0)))
-      then first_other (place + 1) (drop (place + 1) entries) (drop (2 * (place + 1)) bytes) else Some place)
-  at_place =
-      ap (λ (l : List ℤ). first_other place l (drop (2 * place) bytes)) (drop_more entries place (pos 0)
-      inside)
-      ∙ ap (λ (l : List ℕ). if bytes_eq l (entry_bytes (slice_index_or entries place (pos 0)))
-      then first_other (place + 1) (drop (place + 1) entries) (drop 2 (drop (2 * place) bytes)) else Some
-      place)
-      (next_two bytes (2 * place) (omega arith))
-      ∙ ap (λ (l : List ℕ). if bytes_eq (slice_index_or bytes (2 * place) 0
-      ∷ slice_index_or bytes (2 * place + 1) 0 ∷ []) (entry_bytes (slice_index_or entries place (pos 0)))
-      then first_other (place + 1) (drop (place + 1) entries) l else Some place)
-      (drop-drop 2 (2 * place) bytes ∙ ap (λ (n : ℕ). drop n bytes) two_more)
-    where
-      two_more : 2 * place + 2 ≡ 2 * (place + 1)
-      two_more = omega arith
-
-  -- an entry whose bytes are the next two is passed
-  pub passed : entry_bytes (slice_index_or entries place (pos 0))
-      ≡ slice_index_or bytes (2 * place) 0 ∷ slice_index_or bytes (2 * place + 1) 0 ∷ []
-      → first_other (place + 1) (drop (place + 1) entries) (drop (2 * (place + 1)) bytes)
-      ≡ first_other place (drop place entries) (drop (2 * place) bytes)
-  passed same = sym (at_place ∙ if_other _ _ _ ((bytes_eq-Decides _ _).1 (sym same)))
-
-  -- one whose bytes are others is found
-  pub found : bytes_eq (slice_index_or bytes (2 * place) 0 ∷ slice_index_or bytes (2 * place + 1) 0 ∷ [])
-      (entry_bytes (slice_index_or entries place (pos 0))) ≡ false
-      → first_other place (drop place entries) (drop (2 * place) bytes) ≡ Some place
-  found other = at_place ∙ if_same _ _ _ other

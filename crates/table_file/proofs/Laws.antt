@@ -18,10 +18,8 @@ use Rattle.table_file.specs.Order.{Spot, cells_from, spots_of, spots_on}
 use Rattle.table_file.specs.Written.{file_of}
 use Rattle.table_file.proofs.Finding.{all_right, none_wrong}
 use Rattle.table_file.proofs.Numbering.{entries_listed, length-spots}
-use Rattle.table_file.proofs.Putting.{flat_map-append, flat_map-map}
-
-pub length-head : (corner : Corner) (width height : ℕ) → length (head_bytes corner width height) ≡ 13
-length-head corner width height = refl
+use Rattle.std.proofs.lemmas.Grind.{flat_map-append}
+use Rattle.std.proofs.lemmas.List.Folds.{flat_map-map}
 
 length-spots_of : (width height : ℕ) → 2 * length (spots_of width height) ≡ 32 * (height * width)
 length-spots_of width height =

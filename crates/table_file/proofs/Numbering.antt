@@ -50,32 +50,16 @@ one_spot layer width n place d is few named =
 
 spots_at-numbered : (layer : Ground) (width n place : ℕ) → place ≡ n * 8
     → AreNumbered (spot_of layer width) place (spots_at layer (cell_of width n))
-spots_at-numbered layer width n place is = (
-  one_spot layer width n place N (omega arith) (omega arith) refl,
-  (
-    one_spot layer width n (place + 1) NE (omega arith) (omega arith) refl,
-    (
-      one_spot layer width n (place + 1 + 1) E (omega arith) (omega arith) refl,
-      (
-        one_spot layer width n (place + 1 + 1 + 1) SE (omega arith) (omega arith) refl,
-        (
-          one_spot layer width n (place + 1 + 1 + 1 + 1) S (omega arith) (omega arith) refl,
-          (
-            one_spot layer width n (place + 1 + 1 + 1 + 1 + 1) SW (omega arith) (omega arith) refl,
-            (
-              one_spot layer width n (place + 1 + 1 + 1 + 1 + 1 + 1) W (omega arith) (omega arith) refl,
-              (
-                one_spot layer width n (place + 1 + 1 + 1 + 1 + 1 + 1 + 1) NW (omega arith) (omega arith)
-                    refl,
-                tt,
-              ),
-            ),
-          ),
-        ),
-      ),
-    ),
-  ),
-)
+spots_at-numbered layer width n place is =
+    let north = one_spot layer width n place N (omega arith) (omega arith) refl in
+    let ne = one_spot layer width n (place + 1) NE (omega arith) (omega arith) refl in
+    let east = one_spot layer width n (place + 1 + 1) E (omega arith) (omega arith) refl in
+    let se = one_spot layer width n (place + 1 + 1 + 1) SE (omega arith) (omega arith) refl in
+    let south = one_spot layer width n (place + 1 + 1 + 1 + 1) S (omega arith) (omega arith) refl in
+    let sw = one_spot layer width n (place + 1 + 1 + 1 + 1 + 1) SW (omega arith) (omega arith) refl in
+    let west = one_spot layer width n (place + 1 + 1 + 1 + 1 + 1 + 1) W (omega arith) (omega arith) refl in
+    let nw = one_spot layer width n (place + 1 + 1 + 1 + 1 + 1 + 1 + 1) NW (omega arith) (omega arith) refl in
+    (north, (ne, (east, (se, (south, (sw, (west, (nw, tt))))))))
 
 pub spots-numbered : (layer : Ground) (width n place count : ℕ) → place ≡ n * 8
     → AreNumbered (spot_of layer width) place (spots_on layer (cells_from width n count))

@@ -1,4 +1,3 @@
-pub mod Pointing
 pub mod Fields
 pub mod Progress
 pub mod Laws

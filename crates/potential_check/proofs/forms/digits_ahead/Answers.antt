@@ -29,7 +29,8 @@ pub returns-then-count-most-clause-number : goal.returns-then-count-most-clause-
 returns-then-count-most-clause-number c =
     let same : c.loop-count.count ≡ c.args.most = omega arith in
     let digit = sym c.is_ascii_digit.ensures.value ∙ c.if-not-is_ascii_digit.false in
-    let more = digits_more c.loop-count.count c.args.line.now (omega arith) c.loop-count.invariant.digits digit in
+    let more = digits_more c.loop-count.count c.args.line.now
+    (omega arith) c.loop-count.invariant.digits digit in
     subst (λ (n : ℕ). number_ahead n c.args.line.now ≡ None) same
     (too_many c.loop-count.count c.args.line.now (omega arith) more)
 
@@ -57,7 +58,8 @@ loop-count-preserved c =
     let digit = sym c.is_ascii_digit.ensures.value ∙ c.if-not-is_ascii_digit.false in
     let value = value_more c.loop-count.count c.args.line.now (omega arith) digit in
     record {
-      digits = digits_more c.loop-count.count c.args.line.now (omega arith) c.loop-count.invariant.digits digit;
+      digits = digits_more c.loop-count.count c.args.line.now
+          (omega arith) c.loop-count.invariant.digits digit;
       few = omega arith;
       value = omega (arith, value, c.loop-count.invariant.value, c.from.ensures);
     }
@@ -70,7 +72,8 @@ pub returns-else-all-eq0-clause-number : goal.returns-else-all-eq0-clause-number
 returns-else-all-eq0-clause-number c =
     let all : c.loop-count.count ≡ length c.args.line.now = omega arith in
     let read = number_read c.args.most c.loop-count.count c.args.line.now (omega arith)
-    c.loop-count.invariant.few c.requires (omega arith) c.loop-count.invariant.digits (λ h. absurd (omega arith)) in
+    c.loop-count.invariant.few c.requires (omega arith) c.loop-count.invariant.digits
+    (λ h. absurd (omega arith)) in
     rw c.loop-count.invariant.value (subst (λ (n : ℕ). number_ahead c.args.most c.args.line.now
     ≡ Some (value_of (take c.loop-count.count c.args.line.now), drop n c.args.line.now)) all read)
 

@@ -24,16 +24,20 @@ returns c = λ g none.
     (flat_ahead g u N u.x c.before-north.result from (to N) (inl refl) north
     (flat_passed _ from (to N) c.would_climb-n.result fits (search rules) c.would_climb-n.ensures but_ne.0))
     (flat_ahead g u NE (u.x + 1) c.before-north.result from (to NE) (inl refl) north
-    (flat_passed _ from (to NE) c.would_climb-ne.result fits (search rules) c.would_climb-ne.ensures but_ne.1))
+    (flat_passed _ from (to NE) c.would_climb-ne.result fits
+    (search rules) c.would_climb-ne.ensures but_ne.1))
     (flat_ahead g u E (u.x + 1) u.y from (to E) (inl refl) (inl refl)
     (flat_passed _ from (to E) c.would_climb-e.result fits (search rules) c.would_climb-e.ensures but_e.1))
     (flat_ahead g u SE (u.x + 1) (u.y + 1) from (to SE) (inl refl) (inl refl)
-    (flat_passed _ from (to SE) c.would_climb-se.result fits (search rules) c.would_climb-se.ensures but_se.1))
+    (flat_passed _ from (to SE) c.would_climb-se.result fits
+    (search rules) c.would_climb-se.ensures but_se.1))
     (flat_ahead g u S u.x (u.y + 1) from (to S) (inl refl) (inl refl)
     (flat_passed _ from (to S) c.would_climb-s.result fits (search rules) c.would_climb-s.ensures but_s.1))
     (flat_ahead g u SW c.before-west.result (u.y + 1) from (to SW) west (inl refl)
-    (flat_passed _ from (to SW) c.would_climb-sw.result fits (search rules) c.would_climb-sw.ensures but_sw.1))
+    (flat_passed _ from (to SW) c.would_climb-sw.result fits
+    (search rules) c.would_climb-sw.ensures but_sw.1))
     (flat_ahead g u W c.before-west.result u.y from (to W) west (inl refl)
     (flat_passed _ from (to W) c.would_climb-w.result fits (search rules) c.would_climb-w.ensures but_w.1))
     (flat_ahead g u NW c.before-west.result c.before-north.result from (to NW) west north
-    (flat_passed _ from (to NW) c.would_climb-nw.result fits (search rules) c.would_climb-nw.ensures but_nw.1))
+    (flat_passed _ from (to NW) c.would_climb-nw.result fits
+    (search rules) c.would_climb-nw.ensures but_nw.1))

@@ -1,7 +1,7 @@
 use Rattle.std.proofs.Common.{◌≡◌}
 use Rattle.text_line.specs.Fields.{fields_of}
 use Rattle.walk_judge.specs.Telling.{points_in}
-use Rattle.walk_judge.proofs.Pointing.{with_points}
+use Rattle.potential_check.proofs.Words.{with_points}
 use Rattle.walk_judge.proofs.point.points_on.Given as goal
 
 -- the points so far, and those of the fields left, are the line's
