@@ -7,12 +7,12 @@ use Rattle.grid_moves.specs.declared.Dir.{Dir}
 use Rattle.grid_moves.specs.Grid.{GridData, is_inside}
 use Rattle.grid_moves.specs.Move.{ahead, is_same}
 use Rattle.grid_moves.proofs.Legal.{is_same-cell, is_same-itself}
-use Rattle.plus_tables.specs.Tables.{TablesData, entry_at}
+use Rattle.plus_tables.specs.Tables.{TablesData}
 use Rattle.table_repair.specs.declared.walks.Walk.{Walk}
 use Rattle.table_repair.specs.Abreast.{is_at_one, no_cell, IsOnward, KeepAbreast}
 use Rattle.table_repair.specs.Mending.{IsRight, AreReady, IsMended, Mends, FollowBut, Sweeps, either, cell_after}
 use Rattle.table_repair.proofs.Lines.{after_before}
-use Rattle.table_repair.proofs.Mends.{mends_none, mends_wider, right_stays, with_right, wider_reach, ready_stays, follow_more}
+use Rattle.table_repair.proofs.Mends.{mends_none, mends_wider, mends_then, still_mended, right_stays, ready_stays, follow_more}
 use Rattle.table_repair.proofs.Walking.{or_false, false_or}
 
 -- so many moves, and then so many more
@@ -85,29 +85,9 @@ mended_further h d starts piece now new n m reached u k =
 mends_through : (h : GridData) (d : Dir) (starts piece : Cell → Bool) (old now new : TablesData) (n m : ℕ)
     → Mends h d starts old now n → ((w : Cell) → piece w ≡ true → IsMended h now d starts n w)
     → Mends h d piece now new m → Mends h d starts old new (n + m)
-mends_through h d starts piece old now new n m first reached mends = record {
-  width = mends.width ∙ first.width;
-  height = mends.height ∙ first.height;
-  corner = mends.corner ∙ first.corner;
-  length_kept = mends.length_kept ∙ first.length_kept;
-  others = λ u e k i. mends.others u e k i ∙ first.others u e k i;
-  along = along;
-  count = λ r w k. regroup _ _ _ (first.count r w k) (mends.count r w k);
-}
-  where
-    regroup : (x y z : ℕ) → x ≡ y + n → y ≡ z + m → x ≡ z + (n + m)
-    regroup x y z e f = omega arith
-
-    along : (u : Cell) → is_inside h u ≡ true
-        → (entry_at new u d ≡ entry_at old u d) ⊎ IsMended h new d starts (n + m) u
-    along u i = elim (mends.along u i) [
-      | inr k ↦ inr (mended_further h d starts piece now new n m reached u k)
-      | inl e ↦ elim (first.along u i) [
-        | inl f ↦ inl (e ∙ f)
-        | inr k ↦ inr (with_right h d starts now new (n + m) u (e ∙ k.right)
-            (wider_reach h d starts now n (n + m) u (omega arith) k))
-      ]
-    ]
+mends_through h d starts piece old now new n m first reached mends =
+    mends_then h d starts piece old now new n m first mends
+    (λ u k. mended_further h d starts piece now new n m reached u k)
 
 pub abreast_none : (h : GridData) (d : Dir) (t : TablesData) (walks : List Walk) → AreReady h t d
     → ((w : Cell) → is_at_one walks w ≡ true → is_inside h w ≡ true)
@@ -147,9 +127,8 @@ module _ (h : GridData) (d : Dir) (starts : Cell → Bool) (old now : TablesData
 
     others_mended : (w : Cell) → is_inside h w ≡ true → IsMended h now d starts n w
         → IsMended h new d starts (n + m) w
-    others_mended w i k = with_right h d starts now new (n + m) w
-        (right_stays h d (λ w. is_same w v.at) now new m mends w d i k.right)
-        (wider_reach h d starts now n (n + m) w (omega arith) k)
+    others_mended w i k = still_mended (λ w j. j)
+        (right_stays h d (λ w. is_same w v.at) now new m mends w d i k.right) (omega arith) k
 
   -- the first walk goes on, behind all others, or ends
   pub abreast_next : (new : TablesData) (on : Option Walk)
@@ -267,14 +246,8 @@ pub abreast_beside : (h : GridData) (d : Dir) (starts row : Cell → Bool) (old 
 abreast_beside h d starts row old now walks n first = record {
   ready = first.ready;
   inside = first.inside;
-  mended = λ w k. let a = first.mended w k in record {
-    right = a.right;
-    moves = a.moves;
-    few = a.few;
-    start = a.start;
-    starts_there = or_true (starts a.start) (row a.start) a.starts_there;
-    reaches = a.reaches;
-  };
+  mended = λ w k. let a = first.mended w k in
+      still_mended (λ v j. or_true (starts v) (row v) j) a.right (omega arith) a;
   mends = mends_wider h d starts (either starts row) (λ w k. or_true (starts w) (row w) k) old now n
       first.mends;
   follows = λ later f. first.follows (either row later)

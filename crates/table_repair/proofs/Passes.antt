@@ -1,6 +1,7 @@
 -- Passes over the directions of one kind.
 use Rattle.std.proofs.Common.{◌≡◌, ℕ, zero, suc, ◌+◌, ◌*◌, ◌<◌, ◌≤◌, ◌⊎◌, inl, inr, arith, Bool, true, false, refl, ap, ◌∙◌, ◌||◌, List, [], ◌∷◌, length, take, get_or}
 use Rattle.std.specs.Prelude.{not}
+use Rattle.std.proofs.lemmas.Bool.{cases_Bool}
 use Rattle.std.proofs.lemmas.Bool.Decides.{nat_tests}
 use Rattle.grid_moves.specs.declared.Cell.{Cell}
 use Rattle.grid_moves.specs.declared.Dir.{Dir}
@@ -13,7 +14,7 @@ use Rattle.plus_tables.specs.Tables.{TablesData}
 use Rattle.table_repair.specs.Mending.{AreRight, AreReady, AreSound, CanSweep, FollowBut, Mends, MendsKind, Sweeps, is_listed, is_straight, either}
 use Rattle.table_repair.proofs.Mends.{all_stay, follow_more}
 use Rattle.table_repair.proofs.Walking.{or_false}
-use Rattle.table_repair.proofs.Directions.{kind_none, kind_more, none_waits, right_follows, follow_stays, ready_from}
+use Rattle.table_repair.proofs.Directions.{kind_more, none_waits, right_follows, follow_stays, ready_from}
 
 itself : (d : Dir) → is_dir d d ≡ true
 itself d = grind (arith, nat_tests)
@@ -26,12 +27,6 @@ pub record Passed (h : GridData) (kind : Dir → Bool) (starts : Cell → Bool) 
   pub follows : (d : Dir) → kind d ≡ true → FollowBut h now d (waits d)
 
 module _ (h : GridData) (kind : Dir → Bool) (starts : Cell → Bool) (waits : Dir → Cell → Bool) where
-  pub passed_none : (t : TablesData) → AreSound h t
-      → ((d : Dir) → kind d ≡ true → FollowBut h t d (waits d))
-      → Passed h kind starts waits (is_listed []) t t 0
-  passed_none t s f =
-      record { mends = kind_none h kind starts t s; right = λ d k. absurd (cc); follows = f }
-
   pub passed_more : (done more : Dir → Bool) (old now new : TablesData) (m n : ℕ) (d : Dir)
       → Passed h kind starts waits done old now m → kind d ≡ true → Mends h d starts now new n
       → AreRight h new d
@@ -43,17 +38,11 @@ module _ (h : GridData) (kind : Dir → Bool) (starts : Cell → Bool) (waits : 
       | inl s ↦ (let same = same_dir e d s in rw same right)
       | inr l ↦ all_stay h d starts now new n mends e (passed.right e l)
     ];
-    follows = follows;
+    follows = λ e k. elim (cases_Bool (is_dir e d)) [
+      | inl s ↦ (let same = same_dir e d s in right_follows h new e (waits e) (rw same right))
+      | inr s ↦ follow_stays h now new e (waits e) (λ u i. mends.others u e s i) (passed.follows e k)
+    ];
   }
-    where
-      follows : (e : Dir) → kind e ≡ true → FollowBut h new e (waits e)
-      follows e k = by_dir (is_dir e d) refl
-        where
-          by_dir : (b : Bool) → is_dir e d ≡ b → FollowBut h new e (waits e)
-          by_dir true s = let same = same_dir e d s in
-              right_follows h new e (waits e) (rw same right)
-          by_dir false s =
-              follow_stays h now new e (waits e) (λ u i. mends.others u e s i) (passed.follows e k)
 
 -- lists of directions
 pub listed_at : (dirs : List Dir) (i : ℕ) (x : Dir) → i < length dirs → is_listed dirs (get_or dirs i x) ≡ true

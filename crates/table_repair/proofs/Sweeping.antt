@@ -1,6 +1,7 @@
 -- A sweep, piece by piece, from the far end.
 use Rattle.std.proofs.Common.{◌≡◌, ℕ, suc, ◌+◌, ◌-◌, ◌<◌, ◌≤◌, ◌⊎◌, inl, inr, arith, Bool, true, false, refl, sym, ◌∙◌, ◌||◌}
 use Rattle.std.specs.Prelude.{Option, Some, None, if◌then◌else◌, nat_lt, nat_eq}
+use Rattle.std.proofs.lemmas.Bool.{cases_Bool}
 use Rattle.std.proofs.lemmas.Bool.Decides.{nat_tests}
 use Rattle.grid_moves.specs.declared.Cell.{Cell}
 use Rattle.grid_moves.specs.declared.Dir.{Dir}
@@ -45,46 +46,24 @@ some_number n m h = cc
 taken_last : (first end n : ℕ) → first < end → n ≡ end - 1
     → IsTaken true (record { first = first; end = end }) n (record { first = first; end = end - 1 })
 taken_last first end n l e = record {
-  member = among_from (record { first = first; end = end }) n (omega arith) (omega arith);
-  rest = λ k h. split k (among_parts (record { first = first; end = end }) k h);
-  within = λ k h. let p = among_parts (record { first = first; end = end - 1 }) k h in
-      among_from (record { first = first; end = end }) k p.0 (omega arith);
-  nearer = λ k h. let p = among_parts (record { first = first; end = end - 1 }) k h in omega arith;
+  member = grind (arith, nat_tests);
+  rest = λ k h. grind (arith, nat_tests);
+  within = λ k h. grind (arith, nat_tests);
+  nearer = λ k h. grind (arith, nat_tests);
   edge = (omega arith, omega arith);
   shorter = omega arith;
 }
-  where
-    either_way : (k : ℕ) → k < end → (k ≡ n) ⊎ (k < end - 1)
-    either_way k h = grind arith
-
-    split : (k : ℕ) → (first ≤ k) × (k < end)
-        → (k ≡ n) ⊎ (is_among (record { first = first; end = end - 1 }) k ≡ true)
-    split k p = elim (either_way k p.1) [
-      | inl s ↦ inl s
-      | inr s ↦ inr (among_from (record { first = first; end = end - 1 }) k p.0 s)
-    ]
 
 taken_first : (first end n : ℕ) → first < end → n ≡ first
     → IsTaken false (record { first = first; end = end }) n (record { first = first + 1; end = end })
 taken_first first end n l e = record {
-  member = among_from (record { first = first; end = end }) n (omega arith) (omega arith);
-  rest = λ k h. split k (among_parts (record { first = first; end = end }) k h);
-  within = λ k h. let p = among_parts (record { first = first + 1; end = end }) k h in
-      among_from (record { first = first; end = end }) k (omega arith) p.1;
-  nearer = λ k h. let p = among_parts (record { first = first + 1; end = end }) k h in omega arith;
+  member = grind (arith, nat_tests);
+  rest = λ k h. grind (arith, nat_tests);
+  within = λ k h. grind (arith, nat_tests);
+  nearer = λ k h. grind (arith, nat_tests);
   edge = (omega arith, omega arith);
   shorter = omega arith;
 }
-  where
-    either_way : (k : ℕ) → first ≤ k → (k ≡ n) ⊎ (first + 1 ≤ k)
-    either_way k h = grind arith
-
-    split : (k : ℕ) → (first ≤ k) × (k < end)
-        → (k ≡ n) ⊎ (is_among (record { first = first + 1; end = end }) k ≡ true)
-    split k p = elim (either_way k p.0) [
-      | inl s ↦ inl s
-      | inr s ↦ inr (among_from (record { first = first + 1; end = end }) k s p.1)
-    ]
 
 pub is_taken : (from_end : Bool) (old new : Span) (n : ℕ) → far_number from_end old ≡ Some n
     → new ≡ without_far from_end old → IsTaken from_end old n new
@@ -154,8 +133,16 @@ swept_all h d all left old now n swept none later f =
 -- no cell ahead of the one taken from a row is left there
 pub row_ahead : (d : Dir) (k : ℕ) (v w : Cell) (y : ℕ) (old rest : Span) → IsTaken (goes_right d) old v.x rest
     → v.y ≡ y → AreMoved d (suc k) v w → is_in_row y old w ≡ false
-row_ahead d k v w y old rest t e m = by_test (is_in_row y old w) refl
+row_ahead d k v w y old rest t e m = elim (cases_Bool (is_in_row y old w)) [
+  | inr i ↦ i
+  | inl i ↦
+      let p = and_both (nat_eq w.y y) (is_among old w.x) i in
+      absurd (not_left d m (row w.y p.0 ∙ sym e) t.nearer (t.rest w.x p.1))
+]
   where
+    row : (n : ℕ) → nat_eq n y ≡ true → n ≡ y
+    row n i = grind (arith, nat_tests)
+
     not_left : (d : Dir) → AreMoved d (suc k) v w → w.y ≡ v.y
         → ((n : ℕ) → is_among rest n ≡ true → IsNearer (goes_right d) v.x n)
         → (w.x ≡ v.x) ⊎ (is_among rest w.x ≡ true) → ⊥
@@ -170,17 +157,13 @@ row_ahead d k v w y old rest t e m = by_test (is_in_row y old w) refl
     not_left W m e t (inl l) = let a = m.0 in omega arith
     not_left W m e t (inr l) = let a = m.0 in let b = t w.x l in omega arith
 
-    by_test : (b : Bool) → is_in_row y old w ≡ b → is_in_row y old w ≡ false
-    by_test false i = i
-    by_test true i =
-        let p = and_both (nat_eq w.y y) (is_among old w.x) i in
-        let r : w.y ≡ y = grind (arith, nat_tests) in
-        absurd (not_left d m (r ∙ sym e) t.nearer (t.rest w.x p.1))
-
 -- no cell ahead of a row that is taken lies in those that are left
 pub rows_ahead : (d : Dir) (k : ℕ) (v w : Cell) (old rest columns : Span) → IsTaken (goes_down d) old v.y rest
     → AreMoved d (suc k) v w → is_in rest columns w ≡ false
-rows_ahead d k v w old rest columns t m = by_test (is_in rest columns w) refl
+rows_ahead d k v w old rest columns t m = elim (cases_Bool (is_in rest columns w)) [
+  | inr i ↦ i
+  | inl i ↦ absurd (not_left d m t.nearer (and_both (is_among rest w.y) (is_among columns w.x) i).0)
+]
   where
     not_left : (d : Dir) → AreMoved d (suc k) v w
         → ((n : ℕ) → is_among rest n ≡ true → IsNearer (goes_down d) v.y n)
@@ -193,12 +176,6 @@ rows_ahead d k v w old rest columns t m = by_test (is_in rest columns w) refl
     not_left SW m t l = let a = m.1 in let b = t w.y l in omega arith
     not_left W m t l = let a = m.1 in let b = t w.y l in omega arith
     not_left NW m t l = let a = m.1 in let b = t w.y l in omega arith
-
-    by_test : (b : Bool) → is_in rest columns w ≡ b → is_in rest columns w ≡ false
-    by_test false i = i
-    by_test true i =
-        let p = and_both (is_among rest w.y) (is_among columns w.x) i in
-        absurd (not_left d m t.nearer p.0)
 
 -- the same, as code tells it
 pub taken_told : (from_end side : Bool) → from_end ≡ side → (old new : Span) (n : ℕ) (answer : Option ℕ)

@@ -1,6 +1,7 @@
 -- One walk back from a cell, as long as entries change.
 use Rattle.std.proofs.Common.{◌≡◌, ◌≢◌, ℕ, suc, ◌+◌, ◌<◌, ◌⊎◌, inl, inr, arith, Bool, true, false, refl, ap, sym, ◌∙◌, ◌||◌, length, length-set, get_or}
 use Rattle.std.specs.Prelude.{ℤ, pos, Some, None}
+use Rattle.std.proofs.lemmas.Bool.{cases_Bool}
 use Rattle.std.proofs.lemmas.Bool.Decides.{nat_tests}
 use Rattle.grid_moves.specs.declared.Cell.{Cell}
 use Rattle.grid_moves.specs.declared.Dir.{Dir}
@@ -16,7 +17,7 @@ use Rattle.table_repair.specs.Counted.{places_differing}
 use Rattle.table_repair.specs.Mending.{IsRight, AreBesideRight, AreReady, IsMended, Mends, FollowBut, cell_after, behind_on}
 use Rattle.table_repair.proofs.Counting.{entry-with, entry-with_other, count-with, with_itself}
 use Rattle.table_repair.proofs.Lines.{behind_on-from, one_behind, after_before, after_moved, inside_parts}
-use Rattle.table_repair.proofs.Mends.{mends_none, on_inside, ready_stays}
+use Rattle.table_repair.proofs.Mends.{mends_none, still_mended, on_inside, ready_stays}
 
 -- what waits for this cell, and for those that wait later
 abbrev pub or_later : Cell → (Cell → Bool) → Cell → Bool
@@ -44,13 +45,6 @@ walked_none h d v t s i r = record {
   follows = λ later f. f;
 }
 
-same_test : (w v : Cell) → (is_same w v ≡ true → ⊥) → is_same w v ≡ false
-same_test w v h = by_test (is_same w v) refl
-  where
-    by_test : (b : Bool) → is_same w v ≡ b → is_same w v ≡ false
-    by_test true e = absurd (h e)
-    by_test false e = e
-
 pub or_false : (a b : Bool) → (a || b) ≡ false → (a ≡ false) × (b ≡ false)
 or_false a b h = (grind arith, grind arith)
 
@@ -68,24 +62,29 @@ rests_right h t d u v e i r beside = record {
     there : (w : Cell) → legal_ahead h u d ≡ Some w → v ≡ w
     there w l = one_of v w (sym e ∙ (legal_leads h u w d l).ahead_is)
 
+-- two cells that are told apart are two
+apart : (w u : Cell) → is_same w u ≡ false → w ≡ u → ⊥
+apart w u s k = let t : is_same w u ≡ true = rw k (is_same-itself u) in absurd (cc)
+
+-- none waits for a cell any more, where the entries behind it are right
+passed : (h : GridData) (d : Dir) (t : TablesData) (at_cell : Cell) (later : Cell → Bool)
+    → FollowBut h t d (or_later at_cell later)
+    → ((p : Cell) → is_inside h p ≡ true → ahead d p ≡ Some at_cell → IsRight h t p d) → FollowBut h t d later
+passed h d t at_cell later g right = record {
+  next = λ p w j k l m q. elim (cases_Bool (is_same w at_cell)) [
+    | inl s ↦ right p j (rw (← is_same-cell w at_cell s) k)
+    | inr s ↦ g.next p w j k l (false_or (is_same w at_cell) (later w) s m) q
+  ];
+  last = g.last;
+}
+
 module _ (h : GridData) (d : Dir) (v : Cell) (old now : TablesData) (at_cell u : Cell) (n : ℕ)
     (walked : Walked h d v old now at_cell n) (e : ahead d u ≡ Some at_cell) (i : is_inside h u ≡ true) where
   -- the entry behind is refreshed, and was right
   pub walk_stops : IsRight h now u d → (later : Cell → Bool) → FollowBut h old d (or_later v later)
       → FollowBut h now d later
-  walk_stops r later f = record { next = next; last = g.last }
-    where
-      g : FollowBut h now d (or_later at_cell later)
-      g = walked.follows later f
-
-      next : (p w : Cell) → is_inside h p ≡ true → ahead d p ≡ Some w → is_inside h w ≡ true
-          → later w ≡ false → IsRight h now w d → IsRight h now p d
-      next p w j k l m q = by_test (is_same w at_cell) refl
-        where
-          by_test : (b : Bool) → is_same w at_cell ≡ b → IsRight h now p d
-          by_test true s =
-              let same = one_behind d p u at_cell (rw (← is_same-cell w at_cell s) k) e in rw same r
-          by_test false s = g.next p w j k l (false_or (is_same w at_cell) (later w) s m) q
+  walk_stops r later f = passed h d now at_cell later (walked.follows later f)
+      (λ p j k. let same = one_behind d p u at_cell k e in rw same r)
 
   module _ (new : TablesData) (is : new ≡ tables_with now u d (table_entry h u d)) where
     whole : IsWhole now
@@ -103,14 +102,10 @@ module _ (h : GridData) (d : Dir) (v : Cell) (old now : TablesData) (at_cell u :
         (on_inside now h walked.ready.sized w j) other)
 
     right_kept : (w : Cell) → is_inside h w ≡ true → IsRight h now w d → IsRight h new w d
-    right_kept w j r = by_test (is_same w u) refl
-      where
-        by_test : (b : Bool) → is_same w u ≡ b → IsRight h new w d
-        by_test true s = let same = is_same-cell w u s in rw same set_right
-        by_test false s = stays w d j (λ k l. absurd (differ k)) ∙ r
-          where
-            differ : w ≡ u → ⊥
-            differ k = let t : is_same w u ≡ true = rw k (is_same-itself u) in absurd (cc)
+    right_kept w j r = elim (cases_Bool (is_same w u)) [
+      | inl s ↦ (let same = is_same-cell w u s in rw same set_right)
+      | inr s ↦ stays w d j (λ k l. apart w u s k) ∙ r
+    ]
 
     pub walk_goes_on : AreReady h old d → entry_at now u d ≢ table_entry h u d → Walked h d v old new u (n + 1)
     walk_goes_on first changed = record {
@@ -128,32 +123,22 @@ module _ (h : GridData) (d : Dir) (v : Cell) (old now : TablesData) (at_cell u :
 
         along : (w : Cell) → is_inside h w ≡ true
             → (entry_at new w d ≡ entry_at old w d) ⊎ IsMended h new d (λ w. is_same w v) (n + 1) w
-        along w j = by_test (is_same w u) refl
-          where
-            by_test : (b : Bool) → is_same w u ≡ b
-                → (entry_at new w d ≡ entry_at old w d) ⊎ IsMended h new d (λ w. is_same w v) (n + 1) w
-            by_test true s = let same = is_same-cell w u s in rw same (inr (record {
-              right = set_right;
-              moves = n + 1;
-              few = omega arith;
-              start = v;
-              starts_there = is_same-itself v;
-              reaches = reaches;
-            }))
-            by_test false s =
-                let kept = stays w d j (λ k l.
-                let t : is_same w u ≡ true = rw k (is_same-itself u) in absurd (cc)) in
-                elim (walked.mends.along w j) [
-                  | inl f ↦ inl (kept ∙ f)
-                  | inr a ↦ inr (record {
-                    right = kept ∙ a.right;
-                    moves = a.moves;
-                    few = let few = a.few in omega arith;
-                    start = a.start;
-                    starts_there = a.starts_there;
-                    reaches = a.reaches;
-                  })
-                ]
+        along w j = elim (cases_Bool (is_same w u)) [
+          | inl s ↦ (let same = is_same-cell w u s in rw same (inr (record {
+            right = set_right;
+            moves = n + 1;
+            few = omega arith;
+            start = v;
+            starts_there = is_same-itself v;
+            reaches = reaches;
+          })))
+          | inr s ↦
+              let kept = stays w d j (λ k l. apart w u s k) in
+              elim (walked.mends.along w j) [
+                | inl f ↦ inl (kept ∙ f)
+                | inr a ↦ inr (still_mended (λ w k. k) (kept ∙ a.right) (omega arith) a)
+              ]
+        ]
 
         count : (r : TablesData) → IsWhole r → AreTablesOf r h
             → places_differing old.entries r.entries ≡ places_differing new.entries r.entries + (n + 1)
@@ -207,36 +192,23 @@ module _ (h : GridData) (d : Dir) (v : Cell) (old now : TablesData) (at_cell u :
 
             next : (p w : Cell) → is_inside h p ≡ true → ahead d p ≡ Some w → is_inside h w ≡ true
                 → or_later u later w ≡ false → IsRight h new w d → IsRight h new p d
-            next p w j k l m q = by_test (is_same w at_cell) refl
-              where
-                by_test : (b : Bool) → is_same w at_cell ≡ b → IsRight h new p d
-                by_test true s =
-                    let same = one_behind d p u at_cell (rw (← is_same-cell w at_cell s) k) e in
-                    rw same set_right
-                by_test false s =
-                    let both = or_false (is_same w u) (later w) m in
-                    let before : IsRight h now w d = sym (stays w d l (λ x y.
-                    let t : is_same w u ≡ true = rw x (is_same-itself u) in absurd (cc))) ∙ q in
-                    right_kept p j
-                    (g.next p w j k l (false_or (is_same w at_cell) (later w) s both.1) before)
+            next p w j k l m q = elim (cases_Bool (is_same w at_cell)) [
+              | inl s ↦
+                  let same = one_behind d p u at_cell (rw (← is_same-cell w at_cell s) k) e in
+                  rw same set_right
+              | inr s ↦
+                  let both = or_false (is_same w u) (later w) m in
+                  right_kept p j
+                  (g.next p w j k l (false_or (is_same w at_cell) (later w) s both.1)
+                  (sym (stays w d l (λ x y. apart w u both.0 x)) ∙ q))
+            ]
 
 -- there is no cell behind
 pub walk_ends : (h : GridData) (d : Dir) (v : Cell) (old now : TablesData) (at_cell : Cell) (n : ℕ)
     → Walked h d v old now at_cell n → behind_on h d at_cell ≡ None → (later : Cell → Bool)
     → FollowBut h old d (or_later v later) → FollowBut h now d later
-walk_ends h d v old now at_cell n walked none later f = record { next = next; last = g.last }
-  where
-    g : FollowBut h now d (or_later at_cell later)
-    g = walked.follows later f
-
-    next : (p w : Cell) → is_inside h p ≡ true → ahead d p ≡ Some w → is_inside h w ≡ true
-        → later w ≡ false → IsRight h now w d → IsRight h now p d
-    next p w j k l m q = by_test (is_same w at_cell) refl
-      where
-        by_test : (b : Bool) → is_same w at_cell ≡ b → IsRight h now p d
-        by_test true s =
-            let there = behind_on-from h d p at_cell (rw (← is_same-cell w at_cell s) k) j in absurd (cc)
-        by_test false s = g.next p w j k l (false_or (is_same w at_cell) (later w) s m) q
+walk_ends h d v old now at_cell n walked none later f = passed h d now at_cell later (walked.follows later f)
+    (λ p j k. let there = behind_on-from h d p at_cell k j in absurd (cc))
 
 -- a walk is shorter than the map
 pub walk_short : (h : GridData) (d : Dir) (v u : Cell) (n : ℕ) → IsGrid h → is_inside h v ≡ true
