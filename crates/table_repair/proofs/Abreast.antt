@@ -67,10 +67,10 @@ or_either true b h = inl refl
 or_either false b h = inr h
 
 -- what lies behind a cell that was reached lies behind its start
-mended_further : (h : GridData) (d : Dir) (starts piece : Cell → Bool) (now new : TablesData) (n m : ℕ)
+mended_further : {h : GridData} {d : Dir} {starts piece : Cell → Bool} {now new : TablesData} {n m : ℕ}
     → ((w : Cell) → piece w ≡ true → IsMended h now d starts n w) → (u : Cell)
     → IsMended h new d piece m u → IsMended h new d starts (n + m) u
-mended_further h d starts piece now new n m reached u k =
+mended_further {d = d} reached u k =
     let first = reached k.start k.starts_there in
     record {
       right = k.right;
@@ -82,18 +82,17 @@ mended_further h d starts piece now new n m reached u k =
     }
 
 -- first what lies behind those cells, and then what lies behind cells that were reached
-mends_through : (h : GridData) (d : Dir) (starts piece : Cell → Bool) (old now new : TablesData) (n m : ℕ)
+mends_through : {h : GridData} {d : Dir} {starts piece : Cell → Bool} {old now new : TablesData} {n m : ℕ}
     → Mends h d starts old now n → ((w : Cell) → piece w ≡ true → IsMended h now d starts n w)
     → Mends h d piece now new m → Mends h d starts old new (n + m)
-mends_through h d starts piece old now new n m first reached mends =
-    mends_then h d starts piece old now new n m first mends
-    (λ u k. mended_further h d starts piece now new n m reached u k)
+mends_through first reached mends =
+    mends_then first mends (λ u k. mended_further reached u k)
 
-pub abreast_none : (h : GridData) (d : Dir) (t : TablesData) (walks : List Walk) → AreReady h t d
+pub abreast_none : {h : GridData} {d : Dir} {t : TablesData} {walks : List Walk} → AreReady h t d
     → ((w : Cell) → is_at_one walks w ≡ true → is_inside h w ≡ true)
     → ((w : Cell) → is_at_one walks w ≡ true → IsRight h t w d)
     → KeepAbreast h d (is_at_one walks) t t walks no_cell 0
-abreast_none h d t walks ready i r = record {
+abreast_none {t = t} ready i r = record {
   ready = ready;
   inside = i;
   mended = λ w k. record {
@@ -104,12 +103,12 @@ abreast_none h d t walks ready i r = record {
     starts_there = k;
     reaches = refl;
   };
-  mends = mends_none h d (is_at_one walks) t;
+  mends = mends_none t;
   follows = λ later f. f;
 }
 
-module _ (h : GridData) (d : Dir) (starts : Cell → Bool) (old now : TablesData) (v : Walk) (rest : List Walk)
-    (n : ℕ) (abreast : KeepAbreast h d starts old now (v ∷ rest) no_cell n) where
+module _ {h : GridData} {d : Dir} {starts : Cell → Bool} {old now : TablesData} {v : Walk} {rest : List Walk}
+    {n : ℕ} (abreast : KeepAbreast h d starts old now (v ∷ rest) no_cell n) where
   pub first_inside : is_inside h v.at ≡ true
   first_inside = abreast.inside v.at (at_first v rest)
 
@@ -122,13 +121,13 @@ module _ (h : GridData) (d : Dir) (starts : Cell → Bool) (old now : TablesData
   module _ (new : TablesData) (m : ℕ) (mends : Mends h d (λ w. is_same w v.at) now new m) where
     -- what was made right behind the first walk lies behind its start
     mends_on : Mends h d starts old new (n + m)
-    mends_on = mends_through h d starts (λ w. is_same w v.at) old now new n m abreast.mends
+    mends_on = mends_through abreast.mends
         (λ w k. let same = is_same-cell w v.at k in rw same first_mended) mends
 
     others_mended : (w : Cell) → is_inside h w ≡ true → IsMended h now d starts n w
         → IsMended h new d starts (n + m) w
     others_mended w i k = still_mended (λ w j. j)
-        (right_stays h d (λ w. is_same w v.at) now new m mends w d i k.right) (omega arith) k
+        (right_stays mends w d i k.right) (omega arith) k
 
   -- the first walk goes on, behind all others, or ends
   pub abreast_next : (new : TablesData) (on : Option Walk)
@@ -138,7 +137,7 @@ module _ (h : GridData) (d : Dir) (starts : Cell → Bool) (old now : TablesData
       → ((next : Walk) → on ≡ Some next → IsOnward h new d v.at next.at)
       → KeepAbreast h d starts old new (rest ++ option_to_list on) no_cell (n + length (option_to_list on))
   abreast_next new on mends follows onward = record {
-    ready = ready_stays h d (λ w. is_same w v.at) now new (length (option_to_list on)) mends abreast.ready;
+    ready = ready_stays mends abreast.ready;
     inside = λ w k. elim (either_one w k) [
       | inl r ↦ abreast.inside w (at_others v rest w r)
       | inr a ↦ (of_next on onward w a).inside
@@ -149,14 +148,8 @@ module _ (h : GridData) (d : Dir) (starts : Cell → Bool) (old now : TablesData
       | inr a ↦ next_mended on onward w a
     ];
     mends = mends_on new (length (option_to_list on)) mends;
-    follows = λ later f. follow_more h new d
-        (either (is_at_one (option_to_list on)) (either (is_at_one rest) later))
-        (either (is_at_one (rest ++ option_to_list on)) later)
-        (λ w k. narrower w later k)
-        (follows (either (is_at_one rest) later)
-        (follow_more h now d (either (is_at_one (v ∷ rest)) later)
-        (λ w. is_same w v.at || (is_at_one rest w || later w))
-        (λ w k. wider w later k) (abreast.follows later f)));
+    follows = λ later f. follow_more (λ w k. narrower w later k) (follows (either (is_at_one rest) later)
+        (follow_more (λ w k. wider w later k) (abreast.follows later f)));
   }
     where
       either_one : (w : Cell) → is_at_one (rest ++ option_to_list on) w ≡ true
@@ -203,32 +196,30 @@ module _ (h : GridData) (d : Dir) (starts : Cell → Bool) (old now : TablesData
           }
 
 -- no walk is left
-pub abreast_ends : (h : GridData) (d : Dir) (starts : Cell → Bool) (old now : TablesData)
-    (walks : List Walk) (n : ℕ)
+pub abreast_ends : {h : GridData} {d : Dir} {starts : Cell → Bool} {old now : TablesData}
+    {walks : List Walk} {n : ℕ}
     → KeepAbreast h d starts old now walks no_cell n → walks ≡ [] → Sweeps h d starts old now
-abreast_ends h d starts old now walks n abreast e later f =
-    follow_more h now d (either (is_at_one walks) later) later
-    (λ w k. false_or (is_at_one walks w) (later w) (none w) k) (abreast.follows later f)
+abreast_ends {walks = walks} abreast e later f =
+    follow_more (λ w k. false_or (is_at_one walks w) (later w) (none w) k) (abreast.follows later f)
   where
     none : (w : Cell) → is_at_one walks w ≡ false
     none w = rw e refl
 
 -- So the changes of two stretches add up: the second begins at cells that the first has reached, or that were
 -- left, and what the first left waits for these or is left still.
-pub abreast_then : (h : GridData) (d : Dir) (starts : Cell → Bool) (old now new : TablesData)
-    (walks onward : List Walk) (left piece rest : Cell → Bool) (n m : ℕ)
+pub abreast_then : {h : GridData} {d : Dir} {starts : Cell → Bool} {old now new : TablesData}
+    {walks onward : List Walk} {left piece rest : Cell → Bool} {n m : ℕ}
     → KeepAbreast h d starts old now walks left n
     → ((w : Cell) → piece w ≡ true → IsMended h now d starts n w)
     → ((w : Cell) → piece w ≡ false → rest w ≡ false → (is_at_one walks w || left w) ≡ false)
     → KeepAbreast h d piece now new onward no_cell m → KeepAbreast h d starts old new onward rest (n + m)
-abreast_then h d starts old now new walks onward left piece rest n m first reached split second = record {
+abreast_then {walks = walks} {left = left} {piece = piece} {rest = rest} first reached split second = record {
   ready = second.ready;
   inside = second.inside;
-  mended = λ w k. mended_further h d starts piece now new n m reached w (second.mended w k);
-  mends = mends_through h d starts piece old now new n m first.mends reached second.mends;
+  mended = λ w k. mended_further reached w (second.mended w k);
+  mends = mends_through first.mends reached second.mends;
   follows = λ later f. second.follows (either rest later)
-      (follow_more h now d (either (is_at_one walks) (either left later)) (either piece (either rest later))
-      (λ w k. wider w later k) (first.follows later f));
+      (follow_more (λ w k. wider w later k) (first.follows later f));
 }
   where
     wider : (w : Cell) (later : Cell → Bool) → (piece w || (rest w || later w)) ≡ false
@@ -240,19 +231,17 @@ abreast_then h d starts old now new walks onward left piece rest n m first reach
         false_or (is_at_one walks w) (left w || later w) r.0 (false_or (left w) (later w) r.1 q.1)
 
 -- a stretch beside which other cells wait
-pub abreast_beside : (h : GridData) (d : Dir) (starts row : Cell → Bool) (old now : TablesData)
-    (walks : List Walk) (n : ℕ) → KeepAbreast h d starts old now walks no_cell n
+pub abreast_beside : {h : GridData} {d : Dir} {starts : Cell → Bool} (row : Cell → Bool) {old now : TablesData}
+    {walks : List Walk} {n : ℕ} → KeepAbreast h d starts old now walks no_cell n
     → KeepAbreast h d (either starts row) old now walks row n
-abreast_beside h d starts row old now walks n first = record {
+abreast_beside {starts = starts} row first = record {
   ready = first.ready;
   inside = first.inside;
   mended = λ w k. let a = first.mended w k in
       still_mended (λ v j. or_true (starts v) (row v) j) a.right (omega arith) a;
-  mends = mends_wider h d starts (either starts row) (λ w k. or_true (starts w) (row w) k) old now n
-      first.mends;
+  mends = mends_wider (λ w k. or_true (starts w) (row w) k) first.mends;
   follows = λ later f. first.follows (either row later)
-      (follow_more h old d (either (either starts row) later) (either starts (either row later))
-      (λ w k. regroup (starts w) (row w) (later w) k) f);
+      (follow_more (λ w k. regroup (starts w) (row w) (later w) k) f);
 }
   where
     or_true : (a b : Bool) → a ≡ true → (a || b) ≡ true
@@ -262,13 +251,13 @@ abreast_beside h d starts row old now walks n first = record {
     regroup a b c k = grind arith
 
 -- walks begin at cells that were left, whose entries are right
-pub abreast_enter : (h : GridData) (d : Dir) (starts row : Cell → Bool) (old now : TablesData)
-    (walks more : List Walk) (n : ℕ) → KeepAbreast h d starts old now walks row n
+pub abreast_enter : {h : GridData} {d : Dir} {starts row : Cell → Bool} {old now : TablesData}
+    {walks more : List Walk} {n : ℕ} → KeepAbreast h d starts old now walks row n
     → ((w : Cell) → is_at_one more w ≡ (is_at_one walks w || row w))
     → ((w : Cell) → row w ≡ true → is_inside h w ≡ true)
     → ((w : Cell) → row w ≡ true → IsRight h now w d) → ((w : Cell) → row w ≡ true → starts w ≡ true)
     → KeepAbreast h d starts old now more no_cell n
-abreast_enter h d starts row old now walks more n first there inside right starts_there = record {
+abreast_enter {row = row} {walks = walks} {more = more} first there inside right starts_there = record {
   ready = first.ready;
   inside = λ w k. elim (one_of_both w k) [
     | inl a ↦ first.inside w a
@@ -286,8 +275,7 @@ abreast_enter h d starts row old now walks more n first there inside right start
     }
   ];
   mends = first.mends;
-  follows = λ later f. follow_more h now d (either (is_at_one walks) (either row later))
-      (either (is_at_one more) later)
+  follows = λ later f. follow_more
       (λ w k. regroup (is_at_one more w) (is_at_one walks w) (row w) (later w) (there w) k)
       (first.follows later f);
 }

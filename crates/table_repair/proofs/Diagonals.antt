@@ -30,8 +30,7 @@ module _ (h : GridData) (rows columns wide rear : Span) (by : ℕ) (d : Dir) (di
       → Sweeps h d (is_in rows wide) t now → CanSweep h now d (is_in rear columns)
   second_waits t now f sweeps = record {
     later = λ w. false;
-    follow = follow_more h now d (is_in rear columns) (either (is_in rear columns) (λ w. false))
-        (λ w k. (or_false (is_in rear columns w) false k).0)
+    follow = follow_more (λ w k. (or_false (is_in rear columns w) false k).0)
         (sweeps (is_in rear columns) (both_parts t f));
     none_ahead = λ v w k here r. refl;
   }
@@ -39,15 +38,12 @@ module _ (h : GridData) (rows columns wide rear : Span) (by : ℕ) (d : Dir) (di
   pub both_right : (t now new : TablesData) → FollowBut h t d (is_in_reach h rows columns by d)
       → Sweeps h d (is_in rows wide) t now → Sweeps h d (is_in rear columns) now new → AreRight h new d
   both_right t now new f first second = none_waits h new d (λ w. false) (λ w. refl)
-      (second (λ w. false) (follow_more h now d (is_in rear columns) (either (is_in rear columns) (λ w. false))
-      (λ w k. (or_false (is_in rear columns w) false k).0)
+      (second (λ w. false) (follow_more (λ w k. (or_false (is_in rear columns w) false k).0)
       (first (is_in rear columns) (both_parts t f))))
 
   pub both_mend : (t now new : TablesData) (m n : ℕ) → Mends h d (is_in rows wide) t now m
       → Mends h d (is_in rear columns) now new n → Mends h d any_cell t new (m + n)
-  both_mend t now new m n a b = mends_both h d any_cell t now new m n
-      (mends_wider h d (is_in rows wide) any_cell (λ w k. refl) t now m a)
-      (mends_wider h d (is_in rear columns) any_cell (λ w k. refl) now new n b)
+  both_mend t now new m n a b = mends_both (mends_wider (λ w k. refl) a) (mends_wider (λ w k. refl) b)
 
   -- they lie on the map
   wide_end : (before : Bool) → IsBlock h rows columns → (widened before columns by h.width).end ≤ h.width

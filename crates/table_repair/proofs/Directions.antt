@@ -14,11 +14,11 @@ use Rattle.table_repair.proofs.Lines.{right_ahead}
 pub ready_from : (h : GridData) (t : TablesData) (d : Dir) → AreSound h t → AreBesideRight h t d → AreReady h t d
 ready_from h t d s b = record { grid = s.grid; sized = s.sized; whole = s.whole; beside = b }
 
-pub sound_stays : (h : GridData) (d : Dir) (starts : Cell → Bool) (old new : TablesData) (n : ℕ)
+pub sound_stays : {h : GridData} {d : Dir} {starts : Cell → Bool} {old new : TablesData} {n : ℕ}
     → Mends h d starts old new n → AreSound h old → AreSound h new
-sound_stays h d starts old new n m s = record {
+sound_stays m s = record {
   grid = s.grid;
-  sized = sized_kept h d starts old new n m s.sized;
+  sized = sized_kept m s.sized;
   whole = record {
     sides = rw (m.width, m.height) s.whole.sides;
     whole = rw (m.width, m.height) (m.length_kept ∙ s.whole.whole);
@@ -35,12 +35,12 @@ apart kind d e h k = elim (cases_Bool (is_dir e d)) [
       absurd (cc)
 ]
 
-module _ (h : GridData) (kind : Dir → Bool) (starts : Cell → Bool) where
+module _ {h : GridData} {kind : Dir → Bool} {starts : Cell → Bool} where
   -- one direction more
-  pub kind_more : (s t u : TablesData) (m n : ℕ) (d : Dir) → kind d ≡ true → MendsKind h kind starts s t m
+  pub kind_more : {s t u : TablesData} {m n : ℕ} {d : Dir} → kind d ≡ true → MendsKind h kind starts s t m
       → Mends h d starts t u n → MendsKind h kind starts s u (m + n)
-  kind_more s t u m n d of_kind a b = record {
-    sound = sound_stays h d starts t u n b a.sound;
+  kind_more {s = s} {t = t} {u = u} {m = m} {n = n} {d = d} of_kind a b = record {
+    sound = sound_stays b a.sound;
     others = λ v e k i. b.others v e (apart kind d e of_kind k) i ∙ a.others v e k i;
     along = along;
     count = λ r w k. regroup _ _ _ (a.count r w k) (b.count r w k);

@@ -36,13 +36,13 @@ pub row_below : (h : GridData) (rows : Span) (y : ℕ) → is_among rows y ≡ t
 row_below h rows y i low = let p = among_parts rows y i in let l = p.1 in omega arith
 
 -- nothing has begun
-pub enter_none : (h : GridData) (d : Dir) (all : Cell → Bool) (t : TablesData) (walks : List Walk)
+pub enter_none : {h : GridData} {d : Dir} {all : Cell → Bool} {t : TablesData} {walks : List Walk}
     → AreReady h t d → walks ≡ [] → KeepAbreast h d all t t walks all 0
-enter_none h d all t walks ready e = rw e (record {
+enter_none {t = t} ready e = rw e (record {
   ready = ready;
   inside = λ w k. absurd (cc);
   mended = λ w k. absurd (cc);
-  mends = mends_none h d all t;
+  mends = mends_none t;
   follows = λ later f. f;
 })
 
@@ -54,14 +54,14 @@ past_none down left walks e w k = absurd (nobody walks e k)
     nobody [] e k = absurd (cc)
     nobody (v ∷ vs) e k = absurd (cc)
 
-module _ (h : GridData) (d : Dir) (rows columns left rest : Span) (y : ℕ) (old now : TablesData)
-    (walks : List Walk) (n : ℕ) (diagonal : is_diagonal d ≡ true)
+module _ {h : GridData} {d : Dir} (rows columns : Span) {left rest : Span} {y : ℕ} {old now : TablesData}
+    {walks : List Walk} {n : ℕ} (diagonal : is_diagonal d ≡ true)
     (abreast : KeepAbreast h d (is_in rows columns) old now walks (is_in left columns) n)
     (past : (w : Cell) → is_at_one walks w ≡ true → IsPast (goes_down d) left w.y)
     (within : (k : ℕ) → is_among left k ≡ true → is_among rows k ≡ true)
     (taken : IsTaken (goes_down d) left y rest) where
   of_block : (w : Cell) → is_in_row y columns w ≡ true → is_in rows columns w ≡ true
-  of_block w i = row_of_block (goes_down d) rows columns left rest y within taken w i
+  of_block w i = row_of_block rows columns within taken w i
 
   -- what lies ahead of the row is not past
   ahead_past : (k : ℕ) (v w : Cell) → v.y ≡ y → AreMoved d (suc k) v w → IsPast (goes_down d) left w.y → ⊥
@@ -127,8 +127,7 @@ module _ (h : GridData) (d : Dir) (rows columns left rest : Span) (y : ℕ) (old
       → KeepAbreast h d (either (is_at_one walks) (is_in_row y columns)) now new onward no_cell m
       → KeepAbreast h d (is_in rows columns) old new onward (is_in rest columns) (n + m)
   enter_next new onward m right second =
-      abreast_then h d (is_in rows columns) old now new walks onward (is_in left columns)
-      (either (is_at_one walks) (is_in_row y columns)) (is_in rest columns) n m abreast reached split second
+      abreast_then abreast reached split second
     where
       reached : (w : Cell) → (is_at_one walks w || is_in_row y columns w) ≡ true
           → IsMended h now d (is_in rows columns) n w
@@ -149,16 +148,15 @@ module _ (h : GridData) (d : Dir) (rows columns left rest : Span) (y : ℕ) (old
       split w k r =
           let p = or_false (is_at_one walks w) (is_in_row y columns w) k in
           false_or (is_at_one walks w) (is_in left columns w) p.0
-          (row_or_rest (goes_down d) rows columns left rest y within taken w p.1 r)
+          (row_or_rest rows columns within taken w p.1 r)
 
 -- no row is left, and the walks are led out
-pub enter_ends : (h : GridData) (d : Dir) (all left : Cell → Bool) (old now new : TablesData)
-    (walks onward : List Walk) (n m : ℕ) → KeepAbreast h d all old now walks left n
+pub enter_ends : {h : GridData} {d : Dir} {all left : Cell → Bool} {old now new : TablesData}
+    {walks onward : List Walk} {n m : ℕ} → KeepAbreast h d all old now walks left n
     → ((w : Cell) → left w ≡ false) → KeepAbreast h d (is_at_one walks) now new onward no_cell m
     → KeepAbreast h d all old new onward no_cell (n + m)
-enter_ends h d all left old now new walks onward n m first none second =
-    abreast_then h d all old now new walks onward left (is_at_one walks) no_cell n m first first.mended
-    (λ w k l. false_or (is_at_one walks w) (left w) k (none w)) second
+enter_ends {left = left} {walks = walks} first none second =
+    abreast_then first first.mended (λ w k l. false_or (is_at_one walks w) (left w) k (none w)) second
 
 -- One row: some walks were led out or none, others begin in the row, and all go one move on or end.
 module _ (h : GridData) (d : Dir) (row : Cell → Bool) (old mid : TablesData) (walks kept all : List Walk)
@@ -168,9 +166,8 @@ module _ (h : GridData) (d : Dir) (row : Cell → Bool) (old mid : TablesData) (
     (inside : (w : Cell) → row w ≡ true → is_inside h w ≡ true)
     (right : (w : Cell) → row w ≡ true → IsRight h old w d) where
   pub entered : KeepAbreast h d (either (is_at_one walks) row) old mid all no_cell n
-  entered = abreast_enter h d (either (is_at_one walks) row) row old mid kept all n
-      (abreast_beside h d (is_at_one walks) row old mid kept n first) there inside
-      (λ w k. right_stays h d (is_at_one walks) old mid n first.mends w d (inside w k) (right w k))
+  entered = abreast_enter (abreast_beside row first) there inside
+      (λ w k. right_stays first.mends w d (inside w k) (right w k))
       (λ w k. or_right (is_at_one walks w) (row w) k)
     where
       or_right : (a b : Bool) → b ≡ true → (a || b) ≡ true
@@ -180,8 +177,7 @@ module _ (h : GridData) (d : Dir) (row : Cell → Bool) (old mid : TablesData) (
       → KeepAbreast h d (is_at_one all) mid new onward no_cell m
       → KeepAbreast h d (either (is_at_one walks) row) old new onward no_cell (n + m)
   entered_next new onward m second =
-      enter_ends h d (either (is_at_one walks) row) no_cell old mid new all onward n m entered
-      (λ w. refl) second
+      enter_ends entered (λ w. refl) second
 
 pub entered_behind : (d : Dir) (row : Cell → Bool) (walks kept all onward : List Walk)
     → ((w : Cell) → is_at_one kept w ≡ true → is_at_one walks w ≡ true)

@@ -11,7 +11,7 @@ use Rattle.pruning.specs.declared.turns.Side.{Side}
 use Rattle.pruning.specs.Turns.{turn, is_diagonal}
 use Rattle.pruning.proofs.Table.{same_dir, turn_parity}
 use Rattle.plus_tables.specs.Tables.{TablesData}
-use Rattle.table_repair.specs.Mending.{AreRight, AreReady, AreSound, CanSweep, FollowBut, Mends, MendsKind, Sweeps, is_listed, is_straight, either}
+use Rattle.table_repair.specs.Mending.{AreRight, AreReady, AreSound, CanSweep, FollowBut, Mends, MendsKind, Sweeps, is_listed, is_straight}
 use Rattle.table_repair.proofs.Mends.{all_stay, follow_more}
 use Rattle.table_repair.proofs.Walking.{or_false}
 use Rattle.table_repair.proofs.Directions.{kind_more, none_waits, right_follows, follow_stays, ready_from}
@@ -26,17 +26,17 @@ pub record Passed (h : GridData) (kind : Dir → Bool) (starts : Cell → Bool) 
   pub right : (d : Dir) → done d ≡ true → AreRight h now d
   pub follows : (d : Dir) → kind d ≡ true → FollowBut h now d (waits d)
 
-module _ (h : GridData) (kind : Dir → Bool) (starts : Cell → Bool) (waits : Dir → Cell → Bool) where
-  pub passed_more : (done more : Dir → Bool) (old now new : TablesData) (m n : ℕ) (d : Dir)
+module _ {h : GridData} {kind : Dir → Bool} {starts : Cell → Bool} (waits : Dir → Cell → Bool) where
+  pub passed_more : {done more : Dir → Bool} {old now new : TablesData} {m n : ℕ} {d : Dir}
       → Passed h kind starts waits done old now m → kind d ≡ true → Mends h d starts now new n
       → AreRight h new d
       → ((e : Dir) → more e ≡ true → (is_dir e d ≡ true) ⊎ (done e ≡ true))
       → Passed h kind starts waits more old new (m + n)
-  passed_more done more old now new m n d passed of_kind mends right split = record {
-    mends = kind_more h kind starts old now new m n d of_kind passed.mends mends;
+  passed_more {now = now} {new = new} {d = d} passed of_kind mends right split = record {
+    mends = kind_more of_kind passed.mends mends;
     right = λ e k. elim (split e k) [
       | inl s ↦ (let same = same_dir e d s in rw same right)
-      | inr l ↦ all_stay h d starts now new n mends e (passed.right e l)
+      | inr l ↦ all_stay mends e (passed.right e l)
     ];
     follows = λ e k. elim (cases_Bool (is_dir e d)) [
       | inl s ↦ (let same = same_dir e d s in right_follows h new e (waits e) (rw same right))
@@ -98,7 +98,7 @@ pub nothing_later : (h : GridData) (t : TablesData) (d : Dir) (here : Cell → B
     → CanSweep h t d here
 nothing_later h t d here f = record {
   later = λ w. false;
-  follow = follow_more h t d here (either here (λ w. false)) (λ w k. (or_false (here w) false k).0) f;
+  follow = follow_more (λ w k. (or_false (here w) false k).0) f;
   none_ahead = λ v w k i r. refl;
 }
 

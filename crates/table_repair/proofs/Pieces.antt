@@ -24,13 +24,12 @@ use Rattle.table_repair.proofs.Walking.{false_or}
 -- what is told of one test, told of another that answers the same
 pub mends_same : (h : GridData) (d : Dir) (one other : Cell → Bool) → ((w : Cell) → one w ≡ other w)
     → (old new : TablesData) (n : ℕ) → Mends h d one old new n → Mends h d other old new n
-mends_same h d one other same old new n m = mends_wider h d one other (λ w k. sym (same w) ∙ k) old new n m
+mends_same h d one other same old new n m = mends_wider (λ w k. sym (same w) ∙ k) m
 
 pub sweeps_same : (h : GridData) (d : Dir) (one other : Cell → Bool) → ((w : Cell) → one w ≡ other w)
     → (old new : TablesData) → Sweeps h d one old new → Sweeps h d other old new
 sweeps_same h d one other same old new sweeps later f =
-    sweeps later (follow_more h old d (either other later) (either one later)
-    (λ w k. either_way (one w) (other w) (later w) (same w) k) f)
+    sweeps later (follow_more (λ w k. either_way (one w) (other w) (later w) (same w) k) f)
   where
     either_way : (a b c : Bool) → a ≡ b → (a || c) ≡ false → (b || c) ≡ false
     either_way a b c e k = rw (← e) k
@@ -90,7 +89,7 @@ one_more_there y first x before walks w l e =
     regroup : (p a b c : Bool) → (a || b) ≡ c → ((p || a) || b) ≡ (p || c)
     regroup p a b c e = grind arith
 
-module _ (h : GridData) (d : Dir) (y : ℕ) (columns : Span) (first : ℕ) (old now : TablesData) (n : ℕ)
+module _ {h : GridData} {d : Dir} (y : ℕ) (columns : Span) (first : ℕ) {old now : TablesData} {n : ℕ}
     (diagonal : is_diagonal d ≡ true) (begun : columns.first ≤ first)
     (swept : Swept h d (is_in_row y columns) (is_in_row y (part first columns.end)) old now n)
     (end : ℕ) (some : first ≤ end) (within : end ≤ columns.end) where
@@ -128,9 +127,7 @@ module _ (h : GridData) (d : Dir) (y : ℕ) (columns : Span) (first : ℕ) (old 
   pub piece_next : (new : TablesData) (m : ℕ) → Mends h d (is_in_row y (part first end)) now new m
       → Sweeps h d (is_in_row y (part first end)) now new
       → Swept h d (is_in_row y columns) (is_in_row y (part end columns.end)) old new (n + m)
-  piece_next new m mends sweeps = swept_more h d (is_in_row y columns)
-      (is_in_row y (part first columns.end)) (is_in_row y (part first end))
-      (is_in_row y (part end columns.end)) old now new n m swept split of_row mends sweeps
+  piece_next new m mends sweeps = swept_more swept split of_row mends sweeps
     where
       before_or_not : (a b : ℕ) → (a < b) ⊎ (b ≤ a)
       before_or_not a b = grind arith
@@ -146,12 +143,11 @@ module _ (h : GridData) (d : Dir) (y : ℕ) (columns : Span) (first : ℕ) (old 
           ])
 
 -- no column is left
-pub pieces_done : (h : GridData) (d : Dir) (y : ℕ) (columns : Span) (first : ℕ) (old now : TablesData) (n : ℕ)
+pub pieces_done : {h : GridData} {d : Dir} (y : ℕ) (columns : Span) (first : ℕ) {old now : TablesData} {n : ℕ}
     → Swept h d (is_in_row y columns) (is_in_row y (part first columns.end)) old now n
     → columns.end ≤ first → Sweeps h d (is_in_row y columns) old now
-pieces_done h d y columns first old now n swept l =
-    swept_all h d (is_in_row y columns) (is_in_row y (part first columns.end)) old now n swept
-    (λ w. not_true (is_in_row y (part first columns.end) w)
+pieces_done y columns first swept l =
+    swept_all swept (λ w. not_true (is_in_row y (part first columns.end) w)
     (λ i. let p = row_parts y (part first columns.end) w i in
     let a = p.1.0 in let b = p.1.1 in absurd (omega arith)))
 

@@ -85,12 +85,12 @@ pub record Queued (h : GridData) (d : Dir) (starts : Cell → Bool) (old now : T
   pub counted : steps + length walks ≤ first + n + all
   pub later : first ≤ steps
 
-pub queued_none : (h : GridData) (d : Dir) (t : TablesData) (steps : ℕ) (walks : List Walk) → AreReady h t d
+pub queued_none : {h : GridData} {d : Dir} {t : TablesData} {steps : ℕ} {walks : List Walk} → AreReady h t d
     → ((w : Cell) → is_at_one walks w ≡ true → is_inside h w ≡ true)
     → ((w : Cell) → is_at_one walks w ≡ true → IsRight h t w d)
     → Queued h d (is_at_one walks) t t steps steps (length walks) (room_of h d walks) walks 0
-queued_none h d t steps walks ready i r = record {
-  abreast = abreast_none h d t walks ready i r;
+queued_none ready i r = record {
+  abreast = abreast_none ready i r;
   few = omega arith;
   counted = omega arith;
   later = omega arith;
@@ -105,13 +105,13 @@ pub record Round (h : GridData) (d : Dir) (old now : TablesData) (first steps : 
   pub within : i ≤ length here
   pub behind : (w : Cell) → is_at_one onward w ≡ true → IsBehindOne d (is_at_one here) w
 
-pub round_begins : (h : GridData) (d : Dir) (t : TablesData) (steps : ℕ) (walks here onward : List Walk)
+pub round_begins : {h : GridData} {d : Dir} {t : TablesData} {steps : ℕ} {walks here onward : List Walk}
     → AreReady h t d
     → ((w : Cell) → is_at_one walks w ≡ true → is_inside h w ≡ true)
     → ((w : Cell) → is_at_one walks w ≡ true → IsRight h t w d)
     → here ≡ walks → onward ≡ [] → Round h d t t steps steps here onward 0
-round_begins h d t steps walks here onward ready i r e f = rw (e, f) (record {
-  queued = rw (append-nil walks) (queued_none h d t steps walks ready i r);
+round_begins {walks = walks} ready i r e f = rw (e, f) (record {
+  queued = rw (append-nil walks) (queued_none ready i r);
   fewer = omega arith;
   within = omega arith;
   behind = λ w k. absurd (cc);
@@ -123,7 +123,7 @@ at_index [] i v l = absurd (omega arith)
 at_index (x ∷ xs) zero v l = at_first x xs
 at_index (x ∷ xs) (suc i) v l = at_others x xs (get_or xs i v).at (at_index xs i v (omega arith))
 
-module _ (h : GridData) (d : Dir) (old now : TablesData) (first steps : ℕ) (here onward : List Walk) (i : ℕ)
+module _ {h : GridData} {d : Dir} {old now : TablesData} {first steps : ℕ} {here onward : List Walk} {i : ℕ}
     (v : Walk) (round : Round h d old now first steps here onward i) (l : i < length here) where
   abbrev its_walk : Walk
   its_walk = get_or here i v
@@ -142,10 +142,10 @@ module _ (h : GridData) (d : Dir) (old now : TablesData) (first steps : ℕ) (he
   walk_ready = queue.abreast.ready
 
   pub walk_inside : is_inside h (get_or here i v).at ≡ true
-  walk_inside = first_inside h d (is_at_one here) old now its_walk others (length onward) queue.abreast
+  walk_inside = first_inside queue.abreast
 
   pub walk_right : IsRight h now (get_or here i v).at d
-  walk_right = first_right h d (is_at_one here) old now its_walk others (length onward) queue.abreast
+  walk_right = first_right queue.abreast
 
   pub round_next : (new : TablesData) (counted : ℕ) (on : Option Walk) → is_diagonal d ≡ true
       → Mends h d (λ w. is_same w (get_or here i v).at) now new (length (option_to_list on))
@@ -156,8 +156,7 @@ module _ (h : GridData) (d : Dir) (old now : TablesData) (first steps : ℕ) (he
       → Round h d old new first counted here more (i + 1)
   round_next new counted on k mends follows onward_is c later more e = record {
     queued = rw (queue_on, longer) (record {
-      abreast = abreast_next h d (is_at_one here) old now its_walk others (length onward) queue.abreast new
-          on mends follows onward_is;
+      abreast = abreast_next queue.abreast new on mends follows onward_is;
       few = let few = queue.few in let a = room in omega arith;
       counted = let counted = queue.counted in
           let a = length-append others (option_to_list on) in omega arith;
@@ -198,10 +197,10 @@ module _ (h : GridData) (d : Dir) (old now : TablesData) (first steps : ℕ) (he
           })
 
 -- the walks that went on are those of the next round
-pub round_done : (h : GridData) (d : Dir) (old now : TablesData) (first steps : ℕ) (here onward : List Walk)
-    (i : ℕ) → Round h d old now first steps here onward i → length here ≤ i
+pub round_done : {h : GridData} {d : Dir} {old now : TablesData} {first steps : ℕ} {here onward : List Walk}
+    {i : ℕ} → Round h d old now first steps here onward i → length here ≤ i
     → Queued h d (is_at_one here) old now first steps (length here) (room_of h d here) onward (length onward)
-round_done h d old now first steps here onward i round l =
+round_done {h = h} {d = d} {old = old} {now = now} {first = first} {steps = steps} {here = here} {onward = onward} {i = i} round l =
     subst (λ (vs : List Walk). Queued h d (is_at_one here) old now first steps (length here)
     (room_of h d here) vs (length onward)) none round.queued
   where
@@ -216,17 +215,16 @@ pub none_on : (on : Option Walk) (xs ys : List Walk) → on ≡ None → ys ≡ 
 none_on on xs ys e f = rw e (f ∙ sym (append-nil xs))
 
 -- one round more, of all walks that stand
-pub rounds_more : (h : GridData) (d : Dir) (starts : Cell → Bool) (old now new : TablesData)
-    (first steps counted all room : ℕ) (walks onward : List Walk) (n : ℕ)
+pub rounds_more : {h : GridData} {d : Dir} {starts : Cell → Bool} {old now new : TablesData}
+    {first steps counted all room : ℕ} {walks onward : List Walk} {n : ℕ}
     → Queued h d starts old now first steps all room walks n
     → KeepAbreast h d (is_at_one walks) now new onward no_cell (length onward)
     → length onward + room_of h d onward ≤ room_of h d walks → counted ≤ steps + length walks
     → steps ≤ counted
     → Queued h d starts old new first counted all room onward (n + length onward)
-rounds_more h d starts old now new first steps counted all room walks onward n queued abreast less c later =
+rounds_more {counted = counted} {walks = walks} queued abreast less c later =
     record {
-      abreast = abreast_then h d starts old now new walks onward no_cell (is_at_one walks) no_cell n
-          (length onward) queued.abreast queued.abreast.mended (λ w k l. false_of (is_at_one walks w) k)
+      abreast = abreast_then queued.abreast queued.abreast.mended (λ w k l. false_of (is_at_one walks w) k)
           abreast;
       few = let few = queued.few in omega arith;
       counted = let counted = queued.counted in omega arith;
@@ -250,13 +248,13 @@ room_left h d walks [] some less =
 room_left h d walks (v ∷ vs) some less = omega arith
 
 -- the same, told of the walks that the round began with
-pub round_told : (h : GridData) (d : Dir) (old now : TablesData) (first steps : ℕ)
-    (walks here onward : List Walk) (i : ℕ) → Round h d old now first steps here onward i → here ≡ walks
+pub round_told : {h : GridData} {d : Dir} {old now : TablesData} {first steps : ℕ}
+    {walks here onward : List Walk} {i : ℕ} → Round h d old now first steps here onward i → here ≡ walks
     → length here ≤ i
     → Queued h d (is_at_one walks) old now first steps (length walks) (room_of h d walks) onward
     (length onward)
-round_told h d old now first steps walks here onward i round e l =
-    rw (← e) (round_done h d old now first steps here onward i round l)
+round_told round e l =
+    rw (← e) (round_done round l)
 
 pub behind_told : (d : Dir) (walks here onward : List Walk) → here ≡ walks
     → ((w : Cell) → is_at_one onward w ≡ true → IsBehindOne d (is_at_one here) w) → (w : Cell)

@@ -30,7 +30,7 @@ not_true false h = refl
 pub true_false : (b : Bool) → b ≡ true → b ≡ false → ⊥
 true_false b h k = cc
 
-module _ (h : GridData) (d : Dir) (y : ℕ) (columns left rest : Span) (x : ℕ) (old now : TablesData) (n : ℕ)
+module _ {h : GridData} {d : Dir} (y : ℕ) (columns : Span) {left rest : Span} {x : ℕ} {old now : TablesData} {n : ℕ}
     (swept : Swept h d (is_in_row y columns) (is_in_row y left) old now n)
     (within : (k : ℕ) → is_among left k ≡ true → is_among columns k ≡ true)
     (taken : IsTaken (goes_right d) left x rest) where
@@ -49,16 +49,14 @@ module _ (h : GridData) (d : Dir) (y : ℕ) (columns left rest : Span) (x : ℕ)
       → IsRight h now v d
   row_right low narrow can =
       right_ahead h now d (either (is_in_row y left) can.later) (swept.follows can.later can.follow) v
-      (row_inside low narrow)
-      (λ w k r. false_or (is_in_row y left w) (can.later w)
+      (row_inside low narrow) (λ w k r. false_or (is_in_row y left w) (can.later w)
       (row_ahead d k v w y left rest taken refl (after_moved d (suc k) v w r))
       (can.none_ahead v w k v_there r))
 
   pub row_next : (new : TablesData) (m : ℕ) → Mends h d (λ w. is_same w v) now new m
       → Sweeps h d (λ w. is_same w v) now new
       → Swept h d (is_in_row y columns) (is_in_row y rest) old new (n + m)
-  row_next new m mends sweeps = swept_more h d (is_in_row y columns) (is_in_row y left) (λ w. is_same w v)
-      (is_in_row y rest) old now new n m swept split inner mends sweeps
+  row_next new m mends sweeps = swept_more swept split inner mends sweeps
     where
       split : (w : Cell) → is_same w v ≡ false → is_in_row y rest w ≡ false → is_in_row y left w ≡ false
       split w s r = not_true (is_in_row y left w) (λ i.
@@ -72,7 +70,7 @@ module _ (h : GridData) (d : Dir) (y : ℕ) (columns left rest : Span) (x : ℕ)
       inner : (w : Cell) → is_same w v ≡ true → is_in_row y columns w ≡ true
       inner w s = rw (is_same-cell w v s) v_there
 
-module _ (down : Bool) (rows columns left rest : Span) (y : ℕ)
+module _ {down : Bool} (rows columns : Span) {left rest : Span} {y : ℕ}
     (within : (k : ℕ) → is_among left k ≡ true → is_among rows k ≡ true)
     (taken : IsTaken down left y rest) where
   -- a row that is taken is the block's
@@ -93,16 +91,16 @@ module _ (down : Bool) (rows columns left rest : Span) (y : ℕ)
         | inr a ↦ true_false (is_in rest columns w) (and_true (is_among rest w.y) (is_among columns w.x) a p.1) r
       ])
 
-module _ (h : GridData) (d : Dir) (rows columns left rest : Span) (y : ℕ) (old now : TablesData) (n : ℕ)
+module _ {h : GridData} {d : Dir} (rows columns : Span) {left rest : Span} {y : ℕ} {old now : TablesData} {n : ℕ}
     (swept : Swept h d (is_in rows columns) (is_in left columns) old now n)
     (within : (k : ℕ) → is_among left k ≡ true → is_among rows k ≡ true)
     (taken : IsTaken (goes_down d) left y rest) where
   of_rows : (w : Cell) → is_in_row y columns w ≡ true → is_in rows columns w ≡ true
-  of_rows w i = row_of_block (goes_down d) rows columns left rest y within taken w i
+  of_rows w i = row_of_block rows columns within taken w i
 
   split : (w : Cell) → is_in_row y columns w ≡ false → is_in rest columns w ≡ false
       → is_in left columns w ≡ false
-  split w s r = row_or_rest (goes_down d) rows columns left rest y within taken w s r
+  split w s r = row_or_rest rows columns within taken w s r
 
   -- what waits in the rows that are left waits later
   pub block_waits : CanSweep h old d (is_in rows columns) → CanSweep h now d (is_in_row y columns)
@@ -135,8 +133,7 @@ module _ (h : GridData) (d : Dir) (rows columns left rest : Span) (y : ℕ) (old
   pub block_next : (new : TablesData) (m : ℕ) → Mends h d (is_in_row y columns) now new m
       → Sweeps h d (is_in_row y columns) now new
       → Swept h d (is_in rows columns) (is_in rest columns) old new (n + m)
-  block_next new m mends sweeps = swept_more h d (is_in rows columns) (is_in left columns)
-      (is_in_row y columns) (is_in rest columns) old now new n m swept split of_rows mends sweeps
+  block_next new m mends sweeps = swept_more swept split of_rows mends sweeps
 
 -- no cell of an empty block
 pub none_left : (left columns : Span) → ((k : ℕ) → is_among left k ≡ false) → (w : Cell)
@@ -145,16 +142,15 @@ none_left left columns none w = not_true (is_in left columns w)
     (λ i. true_false (is_among left w.y) (and_both (is_among left w.y) (is_among columns w.x) i).0 (none w.y))
 
 -- nothing is left
-pub row_done : (h : GridData) (d : Dir) (y : ℕ) (columns left : Span) (old now : TablesData) (n : ℕ)
+pub row_done : {h : GridData} {d : Dir} (y : ℕ) (columns left : Span) {old now : TablesData} {n : ℕ}
     → Swept h d (is_in_row y columns) (is_in_row y left) old now n
     → ((k : ℕ) → is_among left k ≡ false) → Sweeps h d (is_in_row y columns) old now
-row_done h d y columns left old now n swept none =
-    swept_all h d (is_in_row y columns) (is_in_row y left) old now n swept
-    (λ w. not_true (is_in_row y left w)
+row_done y columns left swept none =
+    swept_all swept (λ w. not_true (is_in_row y left w)
     (λ i. true_false (is_among left w.x) (and_both (nat_eq w.y y) (is_among left w.x) i).1 (none w.x)))
 
-pub block_done : (h : GridData) (d : Dir) (rows columns left : Span) (old now : TablesData) (n : ℕ)
+pub block_done : {h : GridData} {d : Dir} (rows columns left : Span) {old now : TablesData} {n : ℕ}
     → Swept h d (is_in rows columns) (is_in left columns) old now n
     → ((k : ℕ) → is_among left k ≡ false) → Sweeps h d (is_in rows columns) old now
-block_done h d rows columns left old now n swept none =
-    swept_all h d (is_in rows columns) (is_in left columns) old now n swept (none_left left columns none)
+block_done rows columns left swept none =
+    swept_all swept (none_left left columns none)

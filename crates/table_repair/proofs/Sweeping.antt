@@ -98,21 +98,19 @@ pub record Swept (h : GridData) (d : Dir) (all left : Cell → Bool) (old now : 
   pub mends : Mends h d all old now n
   pub follows : (later : Cell → Bool) → FollowBut h old d (either all later) → FollowBut h now d (either left later)
 
-pub swept_none : (h : GridData) (d : Dir) (all : Cell → Bool) (t : TablesData) → AreReady h t d
+pub swept_none : {h : GridData} {d : Dir} {all : Cell → Bool} {t : TablesData} → AreReady h t d
     → Swept h d all all t t 0
-swept_none h d all t r = record { ready = r; mends = mends_none h d all t; follows = λ later f. f }
+swept_none {t = t} r = record { ready = r; mends = mends_none t; follows = λ later f. f }
 
-pub swept_more : (h : GridData) (d : Dir) (all left piece rest : Cell → Bool) (old now new : TablesData)
-    (n m : ℕ) → Swept h d all left old now n
+pub swept_more : {h : GridData} {d : Dir} {all left piece rest : Cell → Bool} {old now new : TablesData}
+    {n m : ℕ} → Swept h d all left old now n
     → ((w : Cell) → piece w ≡ false → rest w ≡ false → left w ≡ false)
     → ((w : Cell) → piece w ≡ true → all w ≡ true)
     → Mends h d piece now new m → Sweeps h d piece now new → Swept h d all rest old new (n + m)
-swept_more h d all left piece rest old now new n m swept split within mends sweeps = record {
-  ready = ready_stays h d piece now new m mends swept.ready;
-  mends = mends_both h d all old now new n m swept.mends
-      (mends_wider h d piece all within now new m mends);
-  follows = λ later f. sweeps (either rest later) (follow_more h now d (either left later)
-      (either piece (either rest later))
+swept_more {left = left} {piece = piece} {rest = rest} swept split within mends sweeps = record {
+  ready = ready_stays mends swept.ready;
+  mends = mends_both swept.mends (mends_wider within mends);
+  follows = λ later f. sweeps (either rest later) (follow_more
       (λ w k. wider w later k) (swept.follows later f));
 }
   where
@@ -124,11 +122,10 @@ swept_more h d all left piece rest old now new n m swept split within mends swee
         false_or (left w) (later w) (split w p.0 q.0) q.1
 
 -- where nothing is left
-pub swept_all : (h : GridData) (d : Dir) (all left : Cell → Bool) (old now : TablesData) (n : ℕ)
+pub swept_all : {h : GridData} {d : Dir} {all left : Cell → Bool} {old now : TablesData} {n : ℕ}
     → Swept h d all left old now n → ((w : Cell) → left w ≡ false) → Sweeps h d all old now
-swept_all h d all left old now n swept none later f =
-    follow_more h now d (either left later) later
-    (λ w k. false_or (left w) (later w) (none w) k) (swept.follows later f)
+swept_all {left = left} swept none later f =
+    follow_more (λ w k. false_or (left w) (later w) (none w) k) (swept.follows later f)
 
 -- no cell ahead of the one taken from a row is left there
 pub row_ahead : (d : Dir) (k : ℕ) (v w : Cell) (y : ℕ) (old rest : Span) → IsTaken (goes_right d) old v.x rest
@@ -178,8 +175,8 @@ rows_ahead d k v w old rest columns t m = elim (cases_Bool (is_in rest columns w
     not_left NW m t l = let a = m.1 in let b = t w.y l in omega arith
 
 -- the same, as code tells it
-pub taken_told : (from_end side : Bool) → from_end ≡ side → (old new : Span) (n : ℕ) (answer : Option ℕ)
+pub taken_told : {from_end side : Bool} → from_end ≡ side → (old : Span) {new : Span} {n : ℕ} {answer : Option ℕ}
     → answer ≡ Some n → answer ≡ far_number from_end old → new ≡ without_far from_end old
     → IsTaken side old n new
-taken_told from_end side e old new n answer is told rest =
+taken_told {from_end = from_end} e old {new = new} {n = n} is told rest =
     rw (← e) (is_taken from_end old new n (sym told ∙ is) rest)

@@ -34,14 +34,14 @@ pub record Walked (h : GridData) (d : Dir) (v : Cell) (old now : TablesData) (at
   pub follows : (later : Cell → Bool) → FollowBut h old d (or_later v later)
       → FollowBut h now d (or_later at_cell later)
 
-pub walked_none : (h : GridData) (d : Dir) (v : Cell) (t : TablesData) → AreReady h t d → is_inside h v ≡ true
+pub walked_none : {h : GridData} {d : Dir} {v : Cell} {t : TablesData} → AreReady h t d → is_inside h v ≡ true
     → IsRight h t v d → Walked h d v t t v 0
-walked_none h d v t s i r = record {
+walked_none {t = t} s i r = record {
   ready = s;
   reaches = refl;
   inside = i;
   right = r;
-  mends = mends_none h d (λ w. is_same w v) t;
+  mends = mends_none t;
   follows = λ later f. f;
 }
 
@@ -78,7 +78,7 @@ passed h d t at_cell later g right = record {
   last = g.last;
 }
 
-module _ (h : GridData) (d : Dir) (v : Cell) (old now : TablesData) (at_cell u : Cell) (n : ℕ)
+module _ {h : GridData} {d : Dir} {v : Cell} {old now : TablesData} {at_cell : Cell} (u : Cell) {n : ℕ}
     (walked : Walked h d v old now at_cell n) (e : ahead d u ≡ Some at_cell) (i : is_inside h u ≡ true) where
   -- the entry behind is refreshed, and was right
   pub walk_stops : IsRight h now u d → (later : Cell → Bool) → FollowBut h old d (or_later v later)
@@ -109,7 +109,7 @@ module _ (h : GridData) (d : Dir) (v : Cell) (old now : TablesData) (at_cell u :
 
     pub walk_goes_on : AreReady h old d → entry_at now u d ≢ table_entry h u d → Walked h d v old new u (n + 1)
     walk_goes_on first changed = record {
-      ready = ready_stays h d (λ w. is_same w v) old new (n + 1) mends first;
+      ready = ready_stays mends first;
       reaches = reaches;
       inside = i;
       right = set_right;
@@ -204,10 +204,10 @@ module _ (h : GridData) (d : Dir) (v : Cell) (old now : TablesData) (at_cell u :
             ]
 
 -- there is no cell behind
-pub walk_ends : (h : GridData) (d : Dir) (v : Cell) (old now : TablesData) (at_cell : Cell) (n : ℕ)
+pub walk_ends : {h : GridData} {d : Dir} {v : Cell} {old now : TablesData} {at_cell : Cell} {n : ℕ}
     → Walked h d v old now at_cell n → behind_on h d at_cell ≡ None → (later : Cell → Bool)
     → FollowBut h old d (or_later v later) → FollowBut h now d later
-walk_ends h d v old now at_cell n walked none later f = passed h d now at_cell later (walked.follows later f)
+walk_ends {h = h} {d = d} {now = now} {at_cell = at_cell} walked none later f = passed h d now at_cell later (walked.follows later f)
     (λ p j k. let there = behind_on-from h d p at_cell k j in absurd (cc))
 
 -- a walk is shorter than the map

@@ -1,5 +1,4 @@
 -- First the block's rows, and then what lies behind it in its columns.
-use Rattle.table_repair.specs.Mending.{is_in}
 use Rattle.table_repair.proofs.Mends.{ready_stays}
 use Rattle.table_repair.proofs.Diagonals.{first_waits, second_waits, both_right, both_mend, wide_within, rear_within, cells_few, steps_both}
 use Rattle.table_repair.proofs.repair.sweep_diagonal.Goals as goal
@@ -21,9 +20,7 @@ sweep-changed-requires-clause-waits g c =
 pub sweep_narrow-requires-clause-ready : goal.sweep_narrow-requires-clause-ready
 sweep_narrow-requires-clause-ready g c =
     let a = c.args in
-    ready_stays a.grid.now a.d (is_in a.rows c.columns_in_reach-wide.result) a.tables.now
-    c.sweep-changed.new.tables
-    c.sweep-changed.result c.sweep-changed.ensures.mends c.requires.ready
+    ready_stays c.sweep-changed.ensures.mends c.requires.ready
 
 pub sweep_narrow-requires-clause-rows : goal.sweep_narrow-requires-clause-rows
 sweep_narrow-requires-clause-rows g c =

@@ -2,7 +2,6 @@
 use Rattle.std.proofs.Common.{arith, add-one, get_or}
 use Rattle.grid_moves.specs.declared.Dir.{Dir}
 use Rattle.grid_moves.specs.declared.Dir.TheVariants.{N}
-use Rattle.pruning.specs.Turns.{is_diagonal}
 use Rattle.table_repair.specs.Mending.{any_cell, is_in_reach}
 use Rattle.table_repair.proofs.Passes.{passed_more, listed_at, listed_take, listed_all, diagonal_ready, counted_pass}
 use Rattle.table_repair.proofs.Totals.{later_on}
@@ -35,10 +34,8 @@ loop-d-preserved g c =
     let few = i.few in
     let one = c.sweep_diagonal-changed.ensures.few in
     record {
-      passed = rw add-one (passed_more c.args.grid.now is_diagonal any_cell
-          (is_in_reach c.args.grid.now c.args.rows c.args.columns c.args.by) _ _
-          c.args.tables.now c.loop-d.tables c.sweep_diagonal-changed.new.tables c.loop-d.changed
-          c.sweep_diagonal-changed.result d i.passed diagonal c.sweep_diagonal-changed.ensures.mends
+      passed = rw add-one (passed_more
+          (is_in_reach c.args.grid.now c.args.rows c.args.columns c.args.by) i.passed diagonal c.sweep_diagonal-changed.ensures.mends
           c.sweep_diagonal-changed.ensures.right
           (λ e k. listed_take c.args.dirs.now c.loop-d.d-index N e c.loop-d-test.true k));
       few = omega arith;

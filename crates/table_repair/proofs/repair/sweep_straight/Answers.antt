@@ -2,7 +2,7 @@
 use Rattle.std.proofs.Common.{arith, add-one, get_or}
 use Rattle.grid_moves.specs.declared.Dir.{Dir}
 use Rattle.grid_moves.specs.declared.Dir.TheVariants.{N}
-use Rattle.table_repair.specs.Mending.{is_in, is_straight}
+use Rattle.table_repair.specs.Mending.{is_in}
 use Rattle.table_repair.proofs.Passes.{passed_more, listed_at, listed_take, listed_all, straight_ready, nothing_later, swept_right, counted_pass}
 use Rattle.table_repair.proofs.Totals.{later_on}
 use Rattle.table_repair.proofs.repair.sweep_straight.Goals as goal
@@ -32,10 +32,8 @@ loop-d-preserved g c =
     let low = block.low in
     let high = c.requires.sound.grid.sides.low in
     record {
-      passed = rw add-one (passed_more c.args.grid.now is_straight (is_in c.args.rows c.args.columns)
-          (λ e. is_in c.args.rows c.args.columns) _ _
-          c.args.tables.now c.loop-d.tables c.sweep-changed.new.tables c.loop-d.changed
-          c.sweep-changed.result d i.passed straight c.sweep-changed.ensures.mends
+      passed = rw add-one (passed_more
+          (λ e. is_in c.args.rows c.args.columns) i.passed straight c.sweep-changed.ensures.mends
           (swept_right c.args.grid.now c.loop-d.tables c.sweep-changed.new.tables d
           (is_in c.args.rows c.args.columns) (i.passed.follows d straight) c.sweep-changed.ensures.sweeps)
           (λ e k. listed_take c.args.dirs.now c.loop-d.d-index N e c.loop-d-test.true k));

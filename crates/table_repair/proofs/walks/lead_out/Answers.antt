@@ -6,9 +6,7 @@ use Rattle.table_repair.proofs.Rounds.{queued_none, rounds_more, room_few, room_
 use Rattle.table_repair.proofs.walks.lead_out.Goals as goal
 
 pub round-init : goal.round-init
-round-init g c = queued_none c.args.grid.now c.args.d c.args.tables.now c.args.steps.now
-    c.args.walks.now.items
-    c.requires.ready c.requires.inside c.requires.right
+round-init g c = queued_none c.requires.ready c.requires.inside c.requires.right
 
 pub lead_on-requires-clause-ready : goal.lead_on-requires-clause-ready
 lead_on-requires-clause-ready g c = c.round.invariant.abreast.ready
@@ -35,7 +33,7 @@ round-smaller g c = room_left c.args.grid.now c.args.d c.round.walks.items c.lea
     c.lead_on.ensures.room
 
 pub round-preserved : goal.round-preserved
-round-preserved g c = rw c.len.ensures.value (rounds_more _ _ _ _ _ _ _ _ _ _ _ _ _ _ c.round.invariant
+round-preserved g c = rw c.len.ensures.value (rounds_more c.round.invariant
     c.lead_on.ensures.abreast c.lead_on.ensures.room c.lead_on.ensures.steps c.lead_on.ensures.later)
 
 pub returns-clause-abreast : goal.returns-clause-abreast

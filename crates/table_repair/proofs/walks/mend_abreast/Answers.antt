@@ -39,6 +39,4 @@ returns-clause-sweeps g c = sweeps_same c.args.grid.now c.args.d (is_at_one c.en
     (λ w. piece_there c.args.y c.args.columns c.enter.new.walks.items c.new-walks.result.items w
     c.new-walks.ensures (c.enter.ensures.there w))
     c.args.tables.now c.lead_out.new.tables
-    (abreast_ends c.args.grid.now c.args.d (is_at_one c.enter.new.walks.items) c.args.tables.now
-    c.lead_out.new.tables c.lead_out.new.walks.items c.lead_out.result c.lead_out.ensures.abreast
-    c.lead_out.ensures.none)
+    (abreast_ends c.lead_out.ensures.abreast c.lead_out.ensures.none)
