@@ -118,7 +118,7 @@ module _ {h : GridData} {d : Dir} {starts : Cell → Bool} {old now : TablesData
   pub first_right : IsRight h now v.at d
   first_right = first_mended.right
 
-  module _ (new : TablesData) (m : ℕ) (mends : Mends h d (λ w. is_same w v.at) now new m) where
+  module _ {new : TablesData} {m : ℕ} (mends : Mends h d (λ w. is_same w v.at) now new m) where
     -- what was made right behind the first walk lies behind its start
     mends_on : Mends h d starts old new (n + m)
     mends_on = mends_through abreast.mends
@@ -126,28 +126,27 @@ module _ {h : GridData} {d : Dir} {starts : Cell → Bool} {old now : TablesData
 
     others_mended : (w : Cell) → is_inside h w ≡ true → IsMended h now d starts n w
         → IsMended h new d starts (n + m) w
-    others_mended w i k = still_mended (λ w j. j)
-        (right_stays mends w d i k.right) (omega arith) k
+    others_mended w i k = still_mended (λ w j. j) (right_stays mends w d i k.right) (omega arith) k
 
   -- the first walk goes on, behind all others, or ends
-  pub abreast_next : (new : TablesData) (on : Option Walk)
+  pub abreast_next : {new : TablesData} {on : Option Walk}
       → Mends h d (λ w. is_same w v.at) now new (length (option_to_list on))
       → ((later : Cell → Bool) → FollowBut h now d (λ w. is_same w v.at || later w)
       → FollowBut h new d (either (is_at_one (option_to_list on)) later))
       → ((next : Walk) → on ≡ Some next → IsOnward h new d v.at next.at)
       → KeepAbreast h d starts old new (rest ++ option_to_list on) no_cell (n + length (option_to_list on))
-  abreast_next new on mends follows onward = record {
+  abreast_next {new = new} {on = on} mends follows onward = record {
     ready = ready_stays mends abreast.ready;
     inside = λ w k. elim (either_one w k) [
       | inl r ↦ abreast.inside w (at_others v rest w r)
       | inr a ↦ (of_next on onward w a).inside
     ];
     mended = λ w k. elim (either_one w k) [
-      | inl r ↦ others_mended new (length (option_to_list on)) mends w
+      | inl r ↦ others_mended mends w
           (abreast.inside w (at_others v rest w r)) (abreast.mended w (at_others v rest w r))
       | inr a ↦ next_mended on onward w a
     ];
-    mends = mends_on new (length (option_to_list on)) mends;
+    mends = mends_on mends;
     follows = λ later f. follow_more (λ w k. narrower w later k) (follows (either (is_at_one rest) later)
         (follow_more (λ w k. wider w later k) (abreast.follows later f)));
   }

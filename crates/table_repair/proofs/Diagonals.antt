@@ -41,9 +41,9 @@ module _ (h : GridData) (rows columns wide rear : Span) (by : ℕ) (d : Dir) (di
       (second (λ w. false) (follow_more (λ w k. (or_false (is_in rear columns w) false k).0)
       (first (is_in rear columns) (both_parts t f))))
 
-  pub both_mend : (t now new : TablesData) (m n : ℕ) → Mends h d (is_in rows wide) t now m
+  pub both_mend : {t now new : TablesData} {m n : ℕ} → Mends h d (is_in rows wide) t now m
       → Mends h d (is_in rear columns) now new n → Mends h d any_cell t new (m + n)
-  both_mend t now new m n a b = mends_both (mends_wider (λ w k. refl) a) (mends_wider (λ w k. refl) b)
+  both_mend a b = mends_both (mends_wider (λ w k. refl) a) (mends_wider (λ w k. refl) b)
 
   -- they lie on the map
   wide_end : (before : Bool) → IsBlock h rows columns → (widened before columns by h.width).end ≤ h.width

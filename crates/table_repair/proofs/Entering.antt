@@ -122,11 +122,11 @@ module _ {h : GridData} {d : Dir} (rows columns : Span) {left rest : Span} {y : 
       by_dir W q m i p = absurd (cc)
       by_dir NW q m i p = let a = m.1 in let b = i.0 in let c = i.1 in omega arith
 
-  pub enter_next : (new : TablesData) (onward : List Walk) (m : ℕ)
+  pub enter_next : {new : TablesData} {onward : List Walk} {m : ℕ}
       → ((v : Cell) → is_in_row y columns v ≡ true → IsRight h now v d)
       → KeepAbreast h d (either (is_at_one walks) (is_in_row y columns)) now new onward no_cell m
       → KeepAbreast h d (is_in rows columns) old new onward (is_in rest columns) (n + m)
-  enter_next new onward m right second =
+  enter_next right second =
       abreast_then abreast reached split second
     where
       reached : (w : Cell) → (is_at_one walks w || is_in_row y columns w) ≡ true
@@ -173,10 +173,10 @@ module _ (h : GridData) (d : Dir) (row : Cell → Bool) (old mid : TablesData) (
       or_right : (a b : Bool) → b ≡ true → (a || b) ≡ true
       or_right a b k = grind arith
 
-  pub entered_next : (new : TablesData) (onward : List Walk) (m : ℕ)
+  pub entered_next : {new : TablesData} {onward : List Walk} {m : ℕ}
       → KeepAbreast h d (is_at_one all) mid new onward no_cell m
       → KeepAbreast h d (either (is_at_one walks) row) old new onward no_cell (n + m)
-  entered_next new onward m second =
+  entered_next second =
       enter_ends entered (λ w. refl) second
 
 pub entered_behind : (d : Dir) (row : Cell → Bool) (walks kept all onward : List Walk)

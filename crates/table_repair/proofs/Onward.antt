@@ -28,7 +28,7 @@ module _ {h : GridData} {d : Dir} (v : Cell) {t : TablesData} (ready : AreReady 
       → FollowBut h t d (either (is_at_one []) later)
   follows_end none later f = walk_ends begun none later f
 
-  module _ (u : Cell) (behind : behind_on h d v ≡ Some u) (new : TablesData)
+  module _ (u : Cell) (behind : behind_on h d v ≡ Some u) {new : TablesData}
       (is : new ≡ tables_with t u d (table_entry h u d)) where
     there : (ahead d u ≡ Some v) × (is_inside h u ≡ true)
     there = behind_on-is h d u v behind
@@ -42,7 +42,7 @@ module _ {h : GridData} {d : Dir} (v : Cell) {t : TablesData} (ready : AreReady 
 
     module _ (changed : entry_at t u d ≢ table_entry h u d) where
       gone_on : Walked h d v t new u 1
-      gone_on = walk_goes_on u begun there.0 there.1 new is ready changed
+      gone_on = walk_goes_on u begun there.0 there.1 is ready changed
 
       pub mends_one : Mends h d (λ w. is_same w v) t new 1
       mends_one = gone_on.mends

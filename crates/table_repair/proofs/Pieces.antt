@@ -22,9 +22,9 @@ use Rattle.table_repair.proofs.Sweeping.{Swept, swept_more, swept_all, among_par
 use Rattle.table_repair.proofs.Walking.{false_or}
 
 -- what is told of one test, told of another that answers the same
-pub mends_same : (h : GridData) (d : Dir) (one other : Cell → Bool) → ((w : Cell) → one w ≡ other w)
-    → (old new : TablesData) (n : ℕ) → Mends h d one old new n → Mends h d other old new n
-mends_same h d one other same old new n m = mends_wider (λ w k. sym (same w) ∙ k) m
+pub mends_same : {h : GridData} {d : Dir} {one other : Cell → Bool} → ((w : Cell) → one w ≡ other w)
+    → {old new : TablesData} {n : ℕ} → Mends h d one old new n → Mends h d other old new n
+mends_same same m = mends_wider (λ w k. sym (same w) ∙ k) m
 
 pub sweeps_same : (h : GridData) (d : Dir) (one other : Cell → Bool) → ((w : Cell) → one w ≡ other w)
     → (old new : TablesData) → Sweeps h d one old new → Sweeps h d other old new
@@ -124,10 +124,10 @@ module _ {h : GridData} {d : Dir} (y : ℕ) (columns : Span) (first : ℕ) {old 
       (off_row k w u left (row_parts y (part first end) w i).0 (after_moved d (suc k) w u r))
       (can.none_ahead w u k (of_row w i) r))
 
-  pub piece_next : (new : TablesData) (m : ℕ) → Mends h d (is_in_row y (part first end)) now new m
+  pub piece_next : {new : TablesData} {m : ℕ} → Mends h d (is_in_row y (part first end)) now new m
       → Sweeps h d (is_in_row y (part first end)) now new
       → Swept h d (is_in_row y columns) (is_in_row y (part end columns.end)) old new (n + m)
-  piece_next new m mends sweeps = swept_more swept split of_row mends sweeps
+  piece_next mends sweeps = swept_more swept split of_row mends sweeps
     where
       before_or_not : (a b : ℕ) → (a < b) ⊎ (b ≤ a)
       before_or_not a b = grind arith

@@ -147,16 +147,16 @@ module _ {h : GridData} {d : Dir} {old now : TablesData} {first steps : ℕ} {he
   pub walk_right : IsRight h now (get_or here i v).at d
   walk_right = first_right queue.abreast
 
-  pub round_next : (new : TablesData) (counted : ℕ) (on : Option Walk) → is_diagonal d ≡ true
+  pub round_next : {new : TablesData} {counted : ℕ} {on : Option Walk} → is_diagonal d ≡ true
       → Mends h d (λ w. is_same w (get_or here i v).at) now new (length (option_to_list on))
       → ((later : Cell → Bool) → FollowBut h now d (λ w. is_same w (get_or here i v).at || later w)
       → FollowBut h new d (either (is_at_one (option_to_list on)) later))
       → ((next : Walk) → on ≡ Some next → IsOnward h new d (get_or here i v).at next.at)
-      → counted ≤ steps + 1 → steps ≤ counted → (more : List Walk) → more ≡ onward ++ option_to_list on
+      → counted ≤ steps + 1 → steps ≤ counted → {more : List Walk} → more ≡ onward ++ option_to_list on
       → Round h d old new first counted here more (i + 1)
-  round_next new counted on k mends follows onward_is c later more e = record {
+  round_next {new = new} {on = on} k mends follows onward_is c later {more = more} e = record {
     queued = rw (queue_on, longer) (record {
-      abreast = abreast_next queue.abreast new on mends follows onward_is;
+      abreast = abreast_next queue.abreast mends follows onward_is;
       few = let few = queue.few in let a = room in omega arith;
       counted = let counted = queue.counted in
           let a = length-append others (option_to_list on) in omega arith;
@@ -207,12 +207,12 @@ round_done {h = h} {d = d} {old = old} {now = now} {first = first} {steps = step
     none : drop i here ++ onward ≡ onward
     none = rw (drop_all i here l) refl
 
-pub some_on : (on : Option Walk) (next : Walk) (xs ys : List Walk) → on ≡ Some next → ys ≡ xs ++ next ∷ []
+pub some_on : {on : Option Walk} {next : Walk} (xs : List Walk) {ys : List Walk} → on ≡ Some next → ys ≡ xs ++ next ∷ []
     → ys ≡ xs ++ option_to_list on
-some_on on next xs ys e f = rw e f
+some_on xs e f = rw e f
 
-pub none_on : (on : Option Walk) (xs ys : List Walk) → on ≡ None → ys ≡ xs → ys ≡ xs ++ option_to_list on
-none_on on xs ys e f = rw e (f ∙ sym (append-nil xs))
+pub none_on : {on : Option Walk} {xs ys : List Walk} → on ≡ None → ys ≡ xs → ys ≡ xs ++ option_to_list on
+none_on {xs = xs} e f = rw e (f ∙ sym (append-nil xs))
 
 -- one round more, of all walks that stand
 pub rounds_more : {h : GridData} {d : Dir} {starts : Cell → Bool} {old now new : TablesData}

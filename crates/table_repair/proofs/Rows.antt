@@ -53,10 +53,10 @@ module _ {h : GridData} {d : Dir} (y : ℕ) (columns : Span) {left rest : Span} 
       (row_ahead d k v w y left rest taken refl (after_moved d (suc k) v w r))
       (can.none_ahead v w k v_there r))
 
-  pub row_next : (new : TablesData) (m : ℕ) → Mends h d (λ w. is_same w v) now new m
+  pub row_next : {new : TablesData} {m : ℕ} → Mends h d (λ w. is_same w v) now new m
       → Sweeps h d (λ w. is_same w v) now new
       → Swept h d (is_in_row y columns) (is_in_row y rest) old new (n + m)
-  row_next new m mends sweeps = swept_more swept split inner mends sweeps
+  row_next mends sweeps = swept_more swept split inner mends sweeps
     where
       split : (w : Cell) → is_same w v ≡ false → is_in_row y rest w ≡ false → is_in_row y left w ≡ false
       split w s r = not_true (is_in_row y left w) (λ i.
@@ -130,10 +130,10 @@ module _ {h : GridData} {d : Dir} (rows columns : Span) {left rest : Span} {y : 
           let p = and_both (nat_eq v.y y) (is_among columns v.x) here in
           rw (number_same v.y y p.0) taken
 
-  pub block_next : (new : TablesData) (m : ℕ) → Mends h d (is_in_row y columns) now new m
+  pub block_next : {new : TablesData} {m : ℕ} → Mends h d (is_in_row y columns) now new m
       → Sweeps h d (is_in_row y columns) now new
       → Swept h d (is_in rows columns) (is_in rest columns) old new (n + m)
-  block_next new m mends sweeps = swept_more swept split of_rows mends sweeps
+  block_next mends sweeps = swept_more swept split of_rows mends sweeps
 
 -- no cell of an empty block
 pub none_left : (left columns : Span) → ((k : ℕ) → is_among left k ≡ false) → (w : Cell)

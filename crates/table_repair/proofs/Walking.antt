@@ -67,10 +67,10 @@ apart : (w u : Cell) → is_same w u ≡ false → w ≡ u → ⊥
 apart w u s k = let t : is_same w u ≡ true = rw k (is_same-itself u) in absurd (cc)
 
 -- none waits for a cell any more, where the entries behind it are right
-passed : (h : GridData) (d : Dir) (t : TablesData) (at_cell : Cell) (later : Cell → Bool)
+passed : {h : GridData} {d : Dir} {t : TablesData} {at_cell : Cell} (later : Cell → Bool)
     → FollowBut h t d (or_later at_cell later)
     → ((p : Cell) → is_inside h p ≡ true → ahead d p ≡ Some at_cell → IsRight h t p d) → FollowBut h t d later
-passed h d t at_cell later g right = record {
+passed {at_cell = at_cell} later g right = record {
   next = λ p w j k l m q. elim (cases_Bool (is_same w at_cell)) [
     | inl s ↦ right p j (rw (← is_same-cell w at_cell s) k)
     | inr s ↦ g.next p w j k l (false_or (is_same w at_cell) (later w) s m) q
@@ -83,10 +83,10 @@ module _ {h : GridData} {d : Dir} {v : Cell} {old now : TablesData} {at_cell : C
   -- the entry behind is refreshed, and was right
   pub walk_stops : IsRight h now u d → (later : Cell → Bool) → FollowBut h old d (or_later v later)
       → FollowBut h now d later
-  walk_stops r later f = passed h d now at_cell later (walked.follows later f)
+  walk_stops r later f = passed later (walked.follows later f)
       (λ p j k. let same = one_behind d p u at_cell k e in rw same r)
 
-  module _ (new : TablesData) (is : new ≡ tables_with now u d (table_entry h u d)) where
+  module _ {new : TablesData} (is : new ≡ tables_with now u d (table_entry h u d)) where
     whole : IsWhole now
     whole = walked.ready.whole
 
@@ -207,7 +207,7 @@ module _ {h : GridData} {d : Dir} {v : Cell} {old now : TablesData} {at_cell : C
 pub walk_ends : {h : GridData} {d : Dir} {v : Cell} {old now : TablesData} {at_cell : Cell} {n : ℕ}
     → Walked h d v old now at_cell n → behind_on h d at_cell ≡ None → (later : Cell → Bool)
     → FollowBut h old d (or_later v later) → FollowBut h now d later
-walk_ends {h = h} {d = d} {now = now} {at_cell = at_cell} walked none later f = passed h d now at_cell later (walked.follows later f)
+walk_ends {h = h} {d = d} {at_cell = at_cell} walked none later f = passed later (walked.follows later f)
     (λ p j k. let there = behind_on-from h d p at_cell k j in absurd (cc))
 
 -- a walk is shorter than the map

@@ -74,8 +74,7 @@ loop-before-preserved g c =
     let l = behind_on-is c.args.grid.now c.args.d c.in-Some.before c.loop-before.at
     (sym c.cell_before.ensures ∙ c.in-Some.is) in
     record {
-      walked = walk_goes_on c.in-Some.before w l.0 l.1 c.refresh.new.self
-          c.refresh.ensures.is c.requires.ready
+      walked = walk_goes_on c.in-Some.before w l.0 l.1 c.refresh.ensures.is c.requires.ready
           (c.refresh.ensures.changed c.if-not-refresh.false);
       counted = let n = c.loop-before.invariant.counted in omega arith;
     }

@@ -32,7 +32,7 @@ returns-clause-abreast g c = rw c.len.ensures.value (
     c.enter.new.walks.items c.make_room-led_out.result c.make_room-led_out.ensures.abreast
     c.enter.ensures.there
     (λ w k. row_on_map c.args.grid.now c.args.y c.args.columns w c.requires.row c.requires.columns k)
-    c.requires.row_right c.lead_on.new.tables c.lead_on.new.walks.items _ c.lead_on.ensures.abreast)
+    c.requires.row_right c.lead_on.ensures.abreast)
 
 pub returns-clause-behind : goal.returns-clause-behind
 returns-clause-behind g c = entered_behind c.args.d (is_in_row c.args.y c.args.columns) c.args.walks.now.items

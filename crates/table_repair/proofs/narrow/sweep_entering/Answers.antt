@@ -58,7 +58,6 @@ loop-y-preserved g c =
     c.requires.rows in
     record {
       abreast = enter_next c.args.rows c.args.columns c.requires.diagonal i.abreast i.past i.within taken
-          c.enter_row-changed.new.tables c.enter_row-changed.new.walks.items c.enter_row-changed.result
           (enter_right c.args.rows c.args.columns c.requires.diagonal i.abreast i.past i.within taken c.requires.waits
           (λ v k. row_on_map c.args.grid.now c.in-Some.y c.args.columns v low c.requires.columns k))
           c.enter_row-changed.ensures.abreast;

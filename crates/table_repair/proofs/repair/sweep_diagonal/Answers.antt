@@ -7,8 +7,7 @@ pub sweep-changed-requires-clause-columns : goal.sweep-changed-requires-clause-c
 sweep-changed-requires-clause-columns g c =
     let a = c.args in
     wide_within a.grid.now a.rows a.columns c.columns_in_reach-wide.result c.rows_behind-rear.result a.by a.d
-    c.requires.diagonal c.columns_in_reach-wide.ensures
-    c.rows_behind-rear.ensures c.requires.block
+    c.requires.diagonal c.columns_in_reach-wide.ensures c.rows_behind-rear.ensures c.requires.block
 
 pub sweep-changed-requires-clause-waits : goal.sweep-changed-requires-clause-waits
 sweep-changed-requires-clause-waits g c =
@@ -26,24 +25,21 @@ pub sweep_narrow-requires-clause-rows : goal.sweep_narrow-requires-clause-rows
 sweep_narrow-requires-clause-rows g c =
     let a = c.args in
     rear_within a.grid.now a.rows a.columns c.columns_in_reach-wide.result c.rows_behind-rear.result a.by a.d
-    c.requires.diagonal c.columns_in_reach-wide.ensures
-    c.rows_behind-rear.ensures c.requires.block
+    c.requires.diagonal c.columns_in_reach-wide.ensures c.rows_behind-rear.ensures c.requires.block
 
 pub sweep_narrow-requires-clause-waits : goal.sweep_narrow-requires-clause-waits
 sweep_narrow-requires-clause-waits g c =
     let a = c.args in
     second_waits a.grid.now a.rows a.columns c.columns_in_reach-wide.result c.rows_behind-rear.result a.by a.d
-    c.requires.diagonal c.columns_in_reach-wide.ensures
-    c.rows_behind-rear.ensures a.tables.now c.sweep-changed.new.tables c.requires.waits
-    c.sweep-changed.ensures.sweeps
+    c.requires.diagonal c.columns_in_reach-wide.ensures c.rows_behind-rear.ensures a.tables.now
+    c.sweep-changed.new.tables c.requires.waits c.sweep-changed.ensures.sweeps
 
 pub returns-clause-mends : goal.returns-clause-mends
 returns-clause-mends g c =
     let a = c.args in
     both_mend a.grid.now a.rows a.columns c.columns_in_reach-wide.result c.rows_behind-rear.result a.by a.d
     c.requires.diagonal c.columns_in_reach-wide.ensures
-    c.rows_behind-rear.ensures a.tables.now c.sweep-changed.new.tables c.sweep_narrow.new.tables
-    c.sweep-changed.result c.sweep_narrow.result c.sweep-changed.ensures.mends c.sweep_narrow.ensures.mends
+    c.rows_behind-rear.ensures c.sweep-changed.ensures.mends c.sweep_narrow.ensures.mends
 
 pub returns-clause-right : goal.returns-clause-right
 returns-clause-right g c =

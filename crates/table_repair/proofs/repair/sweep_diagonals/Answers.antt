@@ -29,8 +29,7 @@ pub loop-d-preserved : goal.loop-d-preserved
 loop-d-preserved g c =
     let d : Dir = get_or c.args.dirs.now c.loop-d.d-index N in
     let i = c.loop-d.invariant in
-    let diagonal = c.requires.diagonal d
-    (listed_at c.args.dirs.now c.loop-d.d-index N c.loop-d-test.true) in
+    let diagonal = c.requires.diagonal d (listed_at c.args.dirs.now c.loop-d.d-index N c.loop-d-test.true) in
     let few = i.few in
     let one = c.sweep_diagonal-changed.ensures.few in
     record {
@@ -40,12 +39,10 @@ loop-d-preserved g c =
           (λ e k. listed_take c.args.dirs.now c.loop-d.d-index N e c.loop-d-test.true k));
       few = omega arith;
       counted = counted_pass c.args.steps.now c.loop-d.steps _ c.loop-d.changed
-          c.sweep_diagonal-changed.result c.loop-d.d-index _ i.counted
-          c.sweep_diagonal-changed.ensures.steps;
+          c.sweep_diagonal-changed.result c.loop-d.d-index _ i.counted c.sweep_diagonal-changed.ensures.steps;
       later = later_on i.later c.sweep_diagonal-changed.ensures.later;
     }
 
 pub returns-clause-right : goal.returns-clause-right
 returns-clause-right g c = λ d k.
-    c.loop-d.invariant.passed.right d
-    (listed_all c.args.dirs.now c.loop-d.d-index d c.loop-d-test.false k)
+    c.loop-d.invariant.passed.right d (listed_all c.args.dirs.now c.loop-d.d-index d c.loop-d-test.false k)

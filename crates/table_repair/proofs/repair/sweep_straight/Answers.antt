@@ -24,8 +24,7 @@ pub loop-d-preserved : goal.loop-d-preserved
 loop-d-preserved g c =
     let d : Dir = get_or c.args.dirs.now c.loop-d.d-index N in
     let i = c.loop-d.invariant in
-    let straight = c.requires.straight d
-    (listed_at c.args.dirs.now c.loop-d.d-index N c.loop-d-test.true) in
+    let straight = c.requires.straight d (listed_at c.args.dirs.now c.loop-d.d-index N c.loop-d-test.true) in
     let few = i.few in
     let one = c.sweep-changed.ensures.few in
     let block = c.requires.block in
@@ -45,5 +44,4 @@ loop-d-preserved g c =
 
 pub returns-clause-right : goal.returns-clause-right
 returns-clause-right g c = λ d k.
-    c.loop-d.invariant.passed.right d
-    (listed_all c.args.dirs.now c.loop-d.d-index d c.loop-d-test.false k)
+    c.loop-d.invariant.passed.right d (listed_all c.args.dirs.now c.loop-d.d-index d c.loop-d-test.false k)

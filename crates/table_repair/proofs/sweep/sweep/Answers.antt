@@ -31,8 +31,7 @@ loop-y-preserved g c =
     let columns = c.requires.columns in
     let wide : span_length c.args.columns ≤ 4096 = short _ _ _ columns narrow in
     record {
-      swept = block_next c.args.rows c.args.columns i.swept i.within taken
-          c.sweep_row-changed.new.tables c.sweep_row-changed.result c.sweep_row-changed.ensures.mends
+      swept = block_next c.args.rows c.args.columns i.swept i.within taken c.sweep_row-changed.ensures.mends
           c.sweep_row-changed.ensures.sweeps;
       within = λ k h. i.within k (taken.within k h);
       few = few_rows _ _ _ _ _ _ taken.shorter wide i.few c.sweep_row-changed.ensures.few;

@@ -31,8 +31,7 @@ piece-preserved g c =
     let within : c.min-end.result ≤ c.args.columns.end = omega arith in
     record {
       swept = piece_next c.args.y c.args.columns c.piece.first c.requires.diagonal i.begun i.swept c.min-end.result some within
-          c.mend_abreast-changed.new.tables c.mend_abreast-changed.result c.mend_abreast-changed.ensures.mends
-          c.mend_abreast-changed.ensures.sweeps;
+          c.mend_abreast-changed.ensures.mends c.mend_abreast-changed.ensures.sweeps;
       begun = let b = i.begun in omega arith;
       few = piece_few _ _ _ _ _ _ some within i.few c.mend_abreast-changed.ensures.few;
       counted = piece_counted _ _ _ _ _ _ _ _ _ some within i.counted c.mend_abreast-changed.ensures.steps;

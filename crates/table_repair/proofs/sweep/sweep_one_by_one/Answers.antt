@@ -32,8 +32,7 @@ loop-x-preserved g c =
     let few = i.few in
     let counted = i.counted in
     record {
-      swept = row_next c.args.y c.args.columns i.swept i.within taken
-          c.mend-changed.new.tables c.mend-changed.result c.mend-changed.ensures.mends
+      swept = row_next c.args.y c.args.columns i.swept i.within taken c.mend-changed.ensures.mends
           c.mend-changed.ensures.follows;
       within = λ k h. i.within k (taken.within k h);
       few = few_more _ _ _ _ _ shorter few one;

@@ -35,18 +35,14 @@ push-requires g c =
 pub loop-walk-preserved : goal.loop-walk-preserved
 loop-walk-preserved g c = elim c.match-walk_on.branch [
   | in-Some w ↦ round_next nowhere c.loop-walk.invariant c.loop-walk-test.true
-      c.walk_on.new.tables c.walk_on.new.steps c.walk_on.result c.requires.diagonal c.walk_on.ensures.mends
+      c.requires.diagonal c.walk_on.ensures.mends
       c.walk_on.ensures.follows c.walk_on.ensures.onward c.walk_on.ensures.step c.walk_on.ensures.later
-      c.match-walk_on.onward.items
-      (some_on c.walk_on.result w.in-Some.next c.loop-walk.onward.items c.match-walk_on.onward.items
-      w.in-Some.is
+      (some_on c.loop-walk.onward.items w.in-Some.is
       (ap (λ (v : ArrayVec Walk). v.items) w.onward-is ∙ w.push.ensures.items))
   | in_default w ↦ round_next nowhere c.loop-walk.invariant c.loop-walk-test.true
-      c.walk_on.new.tables c.walk_on.new.steps c.walk_on.result c.requires.diagonal c.walk_on.ensures.mends
+      c.requires.diagonal c.walk_on.ensures.mends
       c.walk_on.ensures.follows c.walk_on.ensures.onward c.walk_on.ensures.step c.walk_on.ensures.later
-      c.match-walk_on.onward.items
-      (none_on c.walk_on.result c.loop-walk.onward.items c.match-walk_on.onward.items w.in_default.is
-      (ap (λ (v : ArrayVec Walk). v.items) w.onward-is))
+      (none_on w.in_default.is (ap (λ (v : ArrayVec Walk). v.items) w.onward-is))
 ]
 
 pub returns-clause-abreast : goal.returns-clause-abreast
@@ -63,8 +59,7 @@ returns-clause-room g c =
 
 pub returns-clause-fewer : goal.returns-clause-fewer
 returns-clause-fewer g c = fewer_told c.args.walks.now.items c.as_slice-here.result.now
-    c.loop-walk.onward.items
-    c.loop-walk.walk-index c.as_slice-here.ensures.value c.loop-walk.invariant.fewer
+    c.loop-walk.onward.items c.loop-walk.walk-index c.as_slice-here.ensures.value c.loop-walk.invariant.fewer
     c.loop-walk.invariant.within
 
 pub returns-clause-steps : goal.returns-clause-steps

@@ -27,16 +27,13 @@ lead_out-requires-clause-right g c = λ w k. c.requires.right w
     c.new-walks.ensures (c.enter.ensures.there w)) ∙ k)
 
 pub returns-clause-mends : goal.returns-clause-mends
-returns-clause-mends g c = mends_same c.args.grid.now c.args.d (is_at_one c.enter.new.walks.items)
-    (is_in_row c.args.y c.args.columns)
+returns-clause-mends g c = mends_same
     (λ w. piece_there c.args.y c.args.columns c.enter.new.walks.items c.new-walks.result.items w
-    c.new-walks.ensures (c.enter.ensures.there w))
-    c.args.tables.now c.lead_out.new.tables c.lead_out.result c.lead_out.ensures.abreast.mends
+    c.new-walks.ensures (c.enter.ensures.there w)) c.lead_out.ensures.abreast.mends
 
 pub returns-clause-sweeps : goal.returns-clause-sweeps
 returns-clause-sweeps g c = sweeps_same c.args.grid.now c.args.d (is_at_one c.enter.new.walks.items)
     (is_in_row c.args.y c.args.columns)
     (λ w. piece_there c.args.y c.args.columns c.enter.new.walks.items c.new-walks.result.items w
     c.new-walks.ensures (c.enter.ensures.there w))
-    c.args.tables.now c.lead_out.new.tables
-    (abreast_ends c.lead_out.ensures.abreast c.lead_out.ensures.none)
+    c.args.tables.now c.lead_out.new.tables (abreast_ends c.lead_out.ensures.abreast c.lead_out.ensures.none)

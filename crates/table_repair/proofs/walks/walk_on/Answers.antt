@@ -15,25 +15,25 @@ refresh-requires-clause-rests g c =
 pub returns-then-refresh-clause-mends : goal.returns-then-refresh-clause-mends
 returns-then-refresh-clause-mends g c =
     mends_one c.args.walk.at c.requires.ready c.requires.inside
-    c.requires.right c.in-Some.before (sym c.cell_before.ensures ∙ c.in-Some.is) c.refresh.new.self
+    c.requires.right c.in-Some.before (sym c.cell_before.ensures ∙ c.in-Some.is)
     c.refresh.ensures.is (c.refresh.ensures.changed c.if-refresh.true)
 
 pub returns-then-refresh-clause-follows : goal.returns-then-refresh-clause-follows
 returns-then-refresh-clause-follows g c =
     follows_on c.args.walk.at c.requires.ready c.requires.inside
-    c.requires.right c.in-Some.before (sym c.cell_before.ensures ∙ c.in-Some.is) c.refresh.new.self
+    c.requires.right c.in-Some.before (sym c.cell_before.ensures ∙ c.in-Some.is)
     c.refresh.ensures.is (c.refresh.ensures.changed c.if-refresh.true)
 
 pub returns-then-refresh-clause-onward : goal.returns-then-refresh-clause-onward
 returns-then-refresh-clause-onward g c =
     onward_told c.args.walk.at c.requires.ready c.requires.inside
-    c.requires.right c.in-Some.before (sym c.cell_before.ensures ∙ c.in-Some.is) c.refresh.new.self
+    c.requires.right c.in-Some.before (sym c.cell_before.ensures ∙ c.in-Some.is)
     c.refresh.ensures.is (c.refresh.ensures.changed c.if-refresh.true)
 
 pub returns-else-refresh-clause-follows : goal.returns-else-refresh-clause-follows
 returns-else-refresh-clause-follows g c =
     follows_stay c.args.walk.at c.requires.ready c.requires.inside
-    c.requires.right c.in-Some.before (sym c.cell_before.ensures ∙ c.in-Some.is) c.refresh.new.self
+    c.requires.right c.in-Some.before (sym c.cell_before.ensures ∙ c.in-Some.is)
     c.refresh.ensures.is (c.refresh.ensures.stayed c.if-refresh.false)
 
 pub returns-in_default-clause-follows : goal.returns-in_default-clause-follows
