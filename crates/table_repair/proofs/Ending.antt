@@ -37,30 +37,30 @@ all_diagonal S k = absurd (cc)
 all_diagonal W k = absurd (cc)
 
 -- the rows or columns, as code tells them
-pub beside_told : (s : Span) (n given side side_of : ℕ) → s ≡ span_beside n given → given ≡ side
+pub beside_told : {s : Span} (n : ℕ) {given side side_of : ℕ} → s ≡ span_beside n given → given ≡ side
     → side ≡ side_of → s ≡ span_beside n side_of
-beside_told s n given side side_of e f g = rw (← g, ← f) e
+beside_told n e f g = rw (← g, ← f) e
 
-pub straight_starts : (h : GridData) (c : Cell) (t : TablesData) (rows columns : Span) → AreTablesBut t h c
+pub straight_starts : {h : GridData} {c : Cell} {t : TablesData} {rows columns : Span} → AreTablesBut t h c
     → rows ≡ span_beside c.y h.height → columns ≡ span_beside c.x h.width → (d : Dir) → is_straight d ≡ true
     → FollowBut h t d (is_in rows columns)
-straight_starts h c t rows columns but r s d k =
+straight_starts {h} {c} {t} {rows} {columns} but r s d k =
     straight_begins c but.before h but.differ t d rows columns r s (not_diagonal (is_diagonal d) k) but.tables
   where
     not_diagonal : (b : Bool) → not b ≡ true → b ≡ false
     not_diagonal true k = absurd (cc)
     not_diagonal false k = refl
 
-pub diagonal_starts : (h : GridData) (c : Cell) (t now : TablesData) (n by : ℕ) (rows columns : Span)
+pub diagonal_starts : {h : GridData} {c : Cell} {t now : TablesData} {n by : ℕ} {rows columns : Span}
     → AreTablesBut t h c → rows ≡ span_beside c.y h.height → columns ≡ span_beside c.x h.width → IsGrid h
     → by ≡ min n 4096 → MendsKind h is_straight (is_in rows columns) t now n
     → ((d : Dir) → is_listed (N ∷ E ∷ S ∷ W ∷ []) d ≡ true → AreRight h now d) → (d : Dir)
     → is_diagonal d ≡ true → FollowBut h now d (is_in_reach h rows columns by d)
-diagonal_starts h c t now n by rows columns but r s grid is_by mends right d k =
+diagonal_starts {h} {c} {t} {now} {n} {by} {rows} {columns} but r s grid is_by mends right d k =
     diagonal_begins c but.before h but.differ t now n by d rows columns r s grid
     (λ m few short. omega arith) but.tables mends (λ e l. right e (all_straight e l)) k
 
-module _ (h : GridData) (starts : Cell → Bool) (t now new : TablesData) (m n : ℕ)
+module _ {h : GridData} {starts : Cell → Bool} {t now new : TablesData} {m n : ℕ}
     (straight : MendsKind h is_straight starts t now m) (diagonal : MendsKind h is_diagonal any_cell now new n)
     (straight_right : (d : Dir) → is_listed (N ∷ E ∷ S ∷ W ∷ []) d ≡ true → AreRight h now d)
     (diagonal_right : (d : Dir) → is_listed (NE ∷ SE ∷ SW ∷ NW ∷ []) d ≡ true → AreRight h new d) where

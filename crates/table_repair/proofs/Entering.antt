@@ -159,8 +159,8 @@ enter_ends {left = left} {walks = walks} first none second =
     abreast_then first first.mended (λ w k l. false_or (is_at_one walks w) (left w) k (none w)) second
 
 -- One row: some walks were led out or none, others begin in the row, and all go one move on or end.
-module _ (h : GridData) (d : Dir) (row : Cell → Bool) (old mid : TablesData) (walks kept all : List Walk)
-    (n : ℕ)
+module _ {h : GridData} {d : Dir} (row : Cell → Bool) {old mid : TablesData} (walks : List Walk)
+    {kept : List Walk} (all : List Walk) {n : ℕ}
     (first : KeepAbreast h d (is_at_one walks) old mid kept no_cell n)
     (there : (w : Cell) → is_at_one all w ≡ (is_at_one kept w || row w))
     (inside : (w : Cell) → row w ≡ true → is_inside h w ≡ true)

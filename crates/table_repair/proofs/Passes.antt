@@ -78,35 +78,35 @@ listed_take (d ∷ ds) (suc i) x e l k = by_test (is_dir e d) refl (λ r. listed
     ]
 
 -- what a sweep for a direction asks, and what it gives
-pub straight_ready : (h : GridData) (t : TablesData) (d : Dir) → AreSound h t → is_straight d ≡ true
+pub straight_ready : {h : GridData} {t : TablesData} {d : Dir} → AreSound h t → is_straight d ≡ true
     → AreReady h t d
-straight_ready h t d s k = ready_from h t d s (λ l. absurd (both (is_diagonal d) l k))
+straight_ready {h = h} {t = t} {d = d} s k = ready_from h t d s (λ l. absurd (both (is_diagonal d) l k))
   where
     both : (b : Bool) → b ≡ true → not b ≡ true → ⊥
     both b l k = cc
 
-pub diagonal_ready : (h : GridData) (starts : Cell → Bool) (old now : TablesData) (n : ℕ) (d : Dir)
+pub diagonal_ready : {h : GridData} {starts : Cell → Bool} {old now : TablesData} {n : ℕ} {d : Dir}
     → MendsKind h is_diagonal starts old now n → ((e : Dir) → is_straight e ≡ true → AreRight h old e)
     → is_diagonal d ≡ true → AreReady h now d
-diagonal_ready h starts old now n d mends right k = ready_from h now d mends.sound
+diagonal_ready {h = h} {now = now} {d = d} mends right k = ready_from h now d mends.sound
     (λ l s u i. mends.others u (turn s d) (turned s) i ∙ right (turn s d) (rw (turned s) refl) u i)
   where
     turned : (s : Side) → is_diagonal (turn s d) ≡ false
     turned s = turn_parity s d ∙ ap not k
 
-pub nothing_later : (h : GridData) (t : TablesData) (d : Dir) (here : Cell → Bool) → FollowBut h t d here
+pub nothing_later : {h : GridData} {t : TablesData} {d : Dir} {here : Cell → Bool} → FollowBut h t d here
     → CanSweep h t d here
-nothing_later h t d here f = record {
+nothing_later {here = here} f = record {
   later = λ w. false;
   follow = follow_more (λ w k. (or_false (here w) false k).0) f;
   none_ahead = λ v w k i r. refl;
 }
 
-pub swept_right : (h : GridData) (t new : TablesData) (d : Dir) (here : Cell → Bool) → FollowBut h t d here
+pub swept_right : {h : GridData} {t new : TablesData} {d : Dir} {here : Cell → Bool} → FollowBut h t d here
     → Sweeps h d here t new → AreRight h new d
 unfolding nothing_later
-swept_right h t new d here f sweeps =
-    none_waits h new d (λ w. false) (λ w. refl) (sweeps (λ w. false) (nothing_later h t d here f).follow)
+swept_right {h = h} {new = new} {d = d} f sweeps =
+    none_waits h new d (λ w. false) (λ w. refl) (sweeps (λ w. false) (nothing_later f).follow)
 
 -- after the last direction
 pub listed_all : (dirs : List Dir) (i : ℕ) (d : Dir) → length dirs ≤ i → is_listed dirs d ≡ true

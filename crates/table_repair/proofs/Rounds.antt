@@ -200,7 +200,7 @@ module _ {h : GridData} {d : Dir} {old now : TablesData} {first steps : ℕ} {he
 pub round_done : {h : GridData} {d : Dir} {old now : TablesData} {first steps : ℕ} {here onward : List Walk}
     {i : ℕ} → Round h d old now first steps here onward i → length here ≤ i
     → Queued h d (is_at_one here) old now first steps (length here) (room_of h d here) onward (length onward)
-round_done {h = h} {d = d} {old = old} {now = now} {first = first} {steps = steps} {here = here} {onward = onward} {i = i} round l =
+round_done {h} {d} {old} {now} {first} {steps} {here} {onward} {i} round l =
     subst (λ (vs : List Walk). Queued h d (is_at_one here) old now first steps (length here)
     (room_of h d here) vs (length onward)) none round.queued
   where

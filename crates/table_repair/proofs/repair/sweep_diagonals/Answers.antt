@@ -2,7 +2,7 @@
 use Rattle.std.proofs.Common.{arith, add-one, get_or}
 use Rattle.grid_moves.specs.declared.Dir.{Dir}
 use Rattle.grid_moves.specs.declared.Dir.TheVariants.{N}
-use Rattle.table_repair.specs.Mending.{any_cell, is_in_reach}
+use Rattle.table_repair.specs.Mending.{is_in_reach}
 use Rattle.table_repair.proofs.Passes.{passed_more, listed_at, listed_take, listed_all, diagonal_ready, counted_pass}
 use Rattle.table_repair.proofs.Totals.{later_on}
 use Rattle.table_repair.proofs.repair.sweep_diagonals.Goals as goal
@@ -10,8 +10,7 @@ use Rattle.table_repair.proofs.repair.sweep_diagonals.Goals as goal
 pub sweep_diagonal-changed-requires-clause-ready : goal.sweep_diagonal-changed-requires-clause-ready
 sweep_diagonal-changed-requires-clause-ready g c =
     let d : Dir = get_or c.args.dirs.now c.loop-d.d-index N in
-    diagonal_ready c.args.grid.now any_cell c.args.tables.now c.loop-d.tables c.loop-d.changed d
-    c.loop-d.invariant.passed.mends c.requires.beside
+    diagonal_ready c.loop-d.invariant.passed.mends c.requires.beside
     (c.requires.diagonal d (listed_at c.args.dirs.now c.loop-d.d-index N c.loop-d-test.true))
 
 pub sweep_diagonal-changed-requires-clause-diagonal : goal.sweep_diagonal-changed-requires-clause-diagonal

@@ -10,14 +10,13 @@ use Rattle.table_repair.proofs.repair.sweep_straight.Goals as goal
 pub sweep-changed-requires-clause-ready : goal.sweep-changed-requires-clause-ready
 sweep-changed-requires-clause-ready g c =
     let d : Dir = get_or c.args.dirs.now c.loop-d.d-index N in
-    straight_ready c.args.grid.now c.loop-d.tables d c.loop-d.invariant.passed.mends.sound
+    straight_ready c.loop-d.invariant.passed.mends.sound
     (c.requires.straight d (listed_at c.args.dirs.now c.loop-d.d-index N c.loop-d-test.true))
 
 pub sweep-changed-requires-clause-waits : goal.sweep-changed-requires-clause-waits
 sweep-changed-requires-clause-waits g c =
     let d : Dir = get_or c.args.dirs.now c.loop-d.d-index N in
-    nothing_later c.args.grid.now c.loop-d.tables d (is_in c.args.rows c.args.columns)
-    (c.loop-d.invariant.passed.follows d
+    nothing_later (c.loop-d.invariant.passed.follows d
     (c.requires.straight d (listed_at c.args.dirs.now c.loop-d.d-index N c.loop-d-test.true)))
 
 pub loop-d-preserved : goal.loop-d-preserved
@@ -33,8 +32,7 @@ loop-d-preserved g c =
     record {
       passed = rw add-one (passed_more
           (λ e. is_in c.args.rows c.args.columns) i.passed straight c.sweep-changed.ensures.mends
-          (swept_right c.args.grid.now c.loop-d.tables c.sweep-changed.new.tables d
-          (is_in c.args.rows c.args.columns) (i.passed.follows d straight) c.sweep-changed.ensures.sweeps)
+          (swept_right (i.passed.follows d straight) c.sweep-changed.ensures.sweeps)
           (λ e k. listed_take c.args.dirs.now c.loop-d.d-index N e c.loop-d-test.true k));
       few = omega arith;
       counted = counted_pass c.args.steps.now c.loop-d.steps _ c.loop-d.changed c.sweep-changed.result
