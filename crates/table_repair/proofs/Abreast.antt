@@ -13,7 +13,7 @@ use Rattle.table_repair.specs.Abreast.{is_at_one, no_cell, IsOnward, KeepAbreast
 use Rattle.table_repair.specs.Mending.{IsRight, AreReady, IsMended, Mends, FollowBut, Sweeps, either, cell_after}
 use Rattle.table_repair.proofs.Lines.{after_before}
 use Rattle.table_repair.proofs.Mends.{mends_none, mends_wider, mends_then, still_mended, right_stays, ready_stays, follow_more}
-use Rattle.table_repair.proofs.Walking.{or_false, false_or}
+use Rattle.table_repair.proofs.Walking.{or_false, false_or, or_left, or_right}
 
 -- so many moves, and then so many more
 pub after_further : (d : Dir) (j k : ℕ) (u v w : Cell) → cell_after d j u ≡ Some v → cell_after d k v ≡ Some w
@@ -42,10 +42,7 @@ pub at_first : (v : Walk) (vs : List Walk) → is_at_one (v ∷ vs) v.at ≡ tru
 at_first v vs = let s : is_same v.at v.at ≡ true = is_same-itself v.at in grind arith
 
 pub at_others : (v : Walk) (vs : List Walk) (w : Cell) → is_at_one vs w ≡ true → is_at_one (v ∷ vs) w ≡ true
-at_others v vs w h = or_true (is_same w v.at) (is_at_one vs w) h
-  where
-    or_true : (a b : Bool) → b ≡ true → (a || b) ≡ true
-    or_true a b h = grind arith
+at_others v vs w h = or_right (is_same w v.at) (is_at_one vs w) h
 
 pub at_both : (xs ys : List Walk) (w : Cell) → is_at_one (xs ++ ys) w ≡ (is_at_one xs w || is_at_one ys w)
 at_both [] ys w = refl
@@ -230,22 +227,20 @@ abreast_then {walks = walks} {left = left} {piece = piece} {rest = rest} first r
         false_or (is_at_one walks w) (left w || later w) r.0 (false_or (left w) (later w) r.1 q.1)
 
 -- a stretch beside which other cells wait
-pub abreast_beside : {h : GridData} {d : Dir} {starts : Cell → Bool} (row : Cell → Bool) {old now : TablesData}
+pub abreast_beside : {h : GridData} {d : Dir} {starts : Cell → Bool} (row : Cell → Bool)
+    {old now : TablesData}
     {walks : List Walk} {n : ℕ} → KeepAbreast h d starts old now walks no_cell n
     → KeepAbreast h d (either starts row) old now walks row n
 abreast_beside {starts = starts} row first = record {
   ready = first.ready;
   inside = first.inside;
   mended = λ w k. let a = first.mended w k in
-      still_mended (λ v j. or_true (starts v) (row v) j) a.right (omega arith) a;
-  mends = mends_wider (λ w k. or_true (starts w) (row w) k) first.mends;
+      still_mended (λ v j. or_left (starts v) (row v) j) a.right (omega arith) a;
+  mends = mends_wider (λ w k. or_left (starts w) (row w) k) first.mends;
   follows = λ later f. first.follows (either row later)
       (follow_more (λ w k. regroup (starts w) (row w) (later w) k) f);
 }
   where
-    or_true : (a b : Bool) → a ≡ true → (a || b) ≡ true
-    or_true a b k = grind arith
-
     regroup : (a b c : Bool) → (a || (b || c)) ≡ false → ((a || b) || c) ≡ false
     regroup a b c k = grind arith
 

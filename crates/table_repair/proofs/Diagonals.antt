@@ -11,7 +11,8 @@ use Rattle.table_repair.proofs.Walking.{or_false}
 use Rattle.table_repair.proofs.Directions.{none_waits}
 use Rattle.table_repair.proofs.Reach.{rear_behind}
 
-module _ (h : GridData) (rows columns : Span) {wide rear : Span} (by : ℕ) (d : Dir) (diagonal : is_diagonal d ≡ true)
+module _ (h : GridData) (rows columns : Span) {wide rear : Span} (by : ℕ) (d : Dir)
+    (diagonal : is_diagonal d ≡ true)
     (is_wide : wide ≡ widened (goes_right d) columns by h.width)
     (is_rear : rear ≡ span_next (goes_down d) rows by h.height) where
   both_parts : {t : TablesData} → FollowBut h t d (is_in_reach h rows columns by d)

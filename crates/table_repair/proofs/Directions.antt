@@ -11,7 +11,8 @@ use Rattle.table_repair.specs.Mending.{AreRight, AreBesideRight, AreReady, AreSo
 use Rattle.table_repair.proofs.Mends.{sized_kept, still_mended}
 use Rattle.table_repair.proofs.Lines.{right_ahead}
 
-pub ready_from : (h : GridData) (t : TablesData) (d : Dir) → AreSound h t → AreBesideRight h t d → AreReady h t d
+pub ready_from : (h : GridData) (t : TablesData) (d : Dir) → AreSound h t → AreBesideRight h t d
+    → AreReady h t d
 ready_from h t d s b = record { grid = s.grid; sized = s.sized; whole = s.whole; beside = b }
 
 pub sound_stays : {h : GridData} {d : Dir} {starts : Cell → Bool} {old new : TablesData} {n : ℕ}
@@ -43,12 +44,9 @@ module _ {h : GridData} {kind : Dir → Bool} {starts : Cell → Bool} where
     sound = sound_stays b a.sound;
     others = λ v e k i. b.others v e (apart kind d e of_kind k) i ∙ a.others v e k i;
     along = along;
-    count = λ r w k. regroup _ _ _ (a.count r w k) (b.count r w k);
+    count = λ r w k. omega (arith, a.count r w k, b.count r w k);
   }
     where
-      regroup : (x y z : ℕ) → x ≡ y + m → y ≡ z + n → x ≡ z + (m + n)
-      regroup x y z e f = omega arith
-
       before : (v : Cell) (e : Dir) → kind e ≡ true → is_inside h v ≡ true
           → entry_at u v e ≡ entry_at t v e
           → (entry_at u v e ≡ entry_at s v e) ⊎ IsMended h u e starts (m + n) v

@@ -61,7 +61,8 @@ diagonal_starts {h} {c} {t} {now} {n} {by} {rows} {columns} but r s grid is_by m
     (λ m few short. omega arith) but.tables mends (λ e l. right e (all_straight e l)) k
 
 module _ {h : GridData} {starts : Cell → Bool} {t now new : TablesData} {m n : ℕ}
-    (straight : MendsKind h is_straight starts t now m) (diagonal : MendsKind h is_diagonal any_cell now new n)
+    (straight : MendsKind h is_straight starts t now m)
+    (diagonal : MendsKind h is_diagonal any_cell now new n)
     (straight_right : (d : Dir) → is_listed (N ∷ E ∷ S ∷ W ∷ []) d ≡ true → AreRight h now d)
     (diagonal_right : (d : Dir) → is_listed (NE ∷ SE ∷ SW ∷ NW ∷ []) d ≡ true → AreRight h new d) where
   pub all_right : AreTablesOf new h

@@ -1,7 +1,6 @@
 -- A narrow block is swept row by row: in each row walks begin beside those that have come to it.
 use Rattle.std.proofs.Common.{◌≡◌, ℕ, suc, ◌+◌, ◌<◌, ◌≤◌, inl, inr, arith, Bool, true, false, refl, sym, ◌∙◌, ◌||◌, List, [], ◌∷◌}
 use Rattle.std.specs.Prelude.{nat_eq}
-use Rattle.std.proofs.lemmas.Bool.Decides.{nat_tests}
 use Rattle.grid_moves.specs.declared.Cell.{Cell}
 use Rattle.grid_moves.specs.declared.Dir.{Dir}
 use Rattle.grid_moves.specs.declared.Dir.TheVariants.{N, NE, E, SE, S, SW, W, NW}
@@ -19,8 +18,8 @@ use Rattle.table_repair.proofs.Lines.{after_moved, right_ahead}
 use Rattle.table_repair.proofs.Mends.{mends_none, right_stays}
 use Rattle.table_repair.proofs.Moving.{ahead_moved}
 use Rattle.table_repair.proofs.Rows.{not_true, row_of_block, row_or_rest}
-use Rattle.table_repair.proofs.Sweeping.{IsEdge, IsTaken, among_parts}
-use Rattle.table_repair.proofs.Walking.{or_false, false_or}
+use Rattle.table_repair.proofs.Sweeping.{IsEdge, IsTaken, among_parts, number_same}
+use Rattle.table_repair.proofs.Walking.{or_false, false_or, or_left, or_right}
 
 -- the row is one of those that are left, or lies behind them
 abbrev pub IsPast : Bool → Span → ℕ → Type 0
@@ -79,10 +78,7 @@ module _ {h : GridData} {d : Dir} (rows columns : Span) {left rest : Span} {y : 
       by_dir NW q m i p = let a = m.1 in let b = i.0 in omega arith
 
   row_is : (v : Cell) → is_in_row y columns v ≡ true → v.y ≡ y
-  row_is v i = same v.y y (and_both (nat_eq v.y y) (is_among columns v.x) i).0
-    where
-      same : (m n : ℕ) → nat_eq m n ≡ true → m ≡ n
-      same m n e = grind (arith, nat_tests)
+  row_is v i = number_same v.y y (and_both (nat_eq v.y y) (is_among columns v.x) i).0
 
   -- the row's entries are right, since no cell ahead waits
   pub enter_right : CanSweep h old d (is_in rows columns)
@@ -169,9 +165,6 @@ module _ {h : GridData} {d : Dir} (row : Cell → Bool) {old mid : TablesData} (
   entered = abreast_enter (abreast_beside row first) there inside
       (λ w k. right_stays first.mends w d (inside w k) (right w k))
       (λ w k. or_right (is_at_one walks w) (row w) k)
-    where
-      or_right : (a b : Bool) → b ≡ true → (a || b) ≡ true
-      or_right a b k = grind arith
 
   pub entered_next : {new : TablesData} {onward : List Walk} {m : ℕ}
       → KeepAbreast h d (is_at_one all) mid new onward no_cell m
@@ -188,12 +181,6 @@ entered_behind d row walks kept all onward same there behind w k =
     let b = behind w k in
     record { from = b.from; stood = stood b.from b.stood; behind = b.behind }
   where
-    or_left : (a b : Bool) → a ≡ true → (a || b) ≡ true
-    or_left a b k = grind arith
-
-    or_right : (a b : Bool) → b ≡ true → (a || b) ≡ true
-    or_right a b k = grind arith
-
     stood : (v : Cell) → is_at_one all v ≡ true → (is_at_one walks v || row v) ≡ true
     stood v a = elim (or_either (is_at_one kept v) (row v) (sym (there v) ∙ a)) [
       | inl i ↦ or_left (is_at_one walks v) (row v) (same v i)

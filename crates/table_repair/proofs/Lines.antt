@@ -91,13 +91,17 @@ less_room : (h : GridData) (d : Dir) (u v : Cell) → AreMoved d 1 u v → v.x <
     → room h d v < room h d u
 unfolding room
 less_room h N u v m i j = omega (arith, no_more level h.width u.x v.x m.0, less_falling h.height u.y v.y m.1)
-less_room h NE u v m i j = omega (arith, no_more rising h.width u.x v.x m.0, less_falling h.height u.y v.y m.1)
+less_room h NE u v m i j = omega
+    (arith, no_more rising h.width u.x v.x m.0, less_falling h.height u.y v.y m.1)
 less_room h E u v m i j = omega (arith, less_rising h.width u.x v.x m.0 i, no_more level h.height u.y v.y m.1)
-less_room h SE u v m i j = omega (arith, less_rising h.width u.x v.x m.0 i, no_more rising h.height u.y v.y m.1)
+less_room h SE u v m i j = omega
+    (arith, less_rising h.width u.x v.x m.0 i, no_more rising h.height u.y v.y m.1)
 less_room h S u v m i j = omega (arith, no_more level h.width u.x v.x m.0, less_rising h.height u.y v.y m.1 j)
-less_room h SW u v m i j = omega (arith, less_falling h.width u.x v.x m.0, no_more rising h.height u.y v.y m.1)
+less_room h SW u v m i j = omega
+    (arith, less_falling h.width u.x v.x m.0, no_more rising h.height u.y v.y m.1)
 less_room h W u v m i j = omega (arith, less_falling h.width u.x v.x m.0, no_more level h.height u.y v.y m.1)
-less_room h NW u v m i j = omega (arith, less_falling h.width u.x v.x m.0, no_more falling h.height u.y v.y m.1)
+less_room h NW u v m i j = omega
+    (arith, less_falling h.width u.x v.x m.0, no_more falling h.height u.y v.y m.1)
 
 module _ (h : GridData) (t : TablesData) (d : Dir) where
   -- where no cell ahead waits, the entry is right

@@ -67,7 +67,8 @@ module _ {h : GridData} {d : Dir} {starts : Cell → Bool} where
   }
 
 -- an entry that was made right, and still is, told of more cells to start from and more changes
-pub still_mended : {h : GridData} {d : Dir} {few more : Cell → Bool} {old new : TablesData} {m n : ℕ} {u : Cell}
+pub still_mended : {h : GridData} {d : Dir} {few more : Cell → Bool} {old new : TablesData} {m n : ℕ}
+    {u : Cell}
     → ((w : Cell) → few w ≡ true → more w ≡ true) → IsRight h new u d → m ≤ n → IsMended h old d few m u
     → IsMended h new d more n u
 still_mended wider r l a = record {
@@ -97,11 +98,8 @@ mends_then {m = m} {n = n} a b reached = record {
       | inr k ↦ inr (still_mended (λ w j. j) (e ∙ k.right) (omega arith) k)
     ]
   ];
-  count = λ r w k. regroup _ _ _ (a.count r w k) (b.count r w k);
+  count = λ r w k. omega (arith, a.count r w k, b.count r w k);
 }
-  where
-    regroup : (x y z : ℕ) → x ≡ y + m → y ≡ z + n → x ≡ z + (m + n)
-    regroup x y z e f = omega arith
 
 pub mends_both : {h : GridData} {d : Dir} {starts : Cell → Bool} {s t u : TablesData} {m n : ℕ}
     → Mends h d starts s t m → Mends h d starts t u n → Mends h d starts s u (m + n)

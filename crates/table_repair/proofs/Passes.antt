@@ -13,7 +13,7 @@ use Rattle.pruning.proofs.Table.{same_dir, turn_parity}
 use Rattle.plus_tables.specs.Tables.{TablesData}
 use Rattle.table_repair.specs.Mending.{AreRight, AreReady, AreSound, CanSweep, FollowBut, Mends, MendsKind, Sweeps, is_listed, is_straight}
 use Rattle.table_repair.proofs.Mends.{all_stay, follow_more}
-use Rattle.table_repair.proofs.Walking.{or_false}
+use Rattle.table_repair.proofs.Walking.{or_false, or_right}
 use Rattle.table_repair.proofs.Directions.{kind_more, none_waits, right_follows, follow_stays, ready_from}
 
 itself : (d : Dir) → is_dir d d ≡ true
@@ -45,13 +45,11 @@ module _ {h : GridData} {kind : Dir → Bool} {starts : Cell → Bool} (waits : 
   }
 
 -- lists of directions
-pub listed_at : (dirs : List Dir) (i : ℕ) (x : Dir) → i < length dirs → is_listed dirs (get_or dirs i x) ≡ true
+pub listed_at : (dirs : List Dir) (i : ℕ) (x : Dir) → i < length dirs
+    → is_listed dirs (get_or dirs i x) ≡ true
 listed_at [] i x l = absurd (omega arith)
 listed_at (e ∷ es) zero x l = rw (itself e) refl
-listed_at (e ∷ es) (suc i) x l = or_true _ _ (listed_at es i x (omega arith))
-  where
-    or_true : (a b : Bool) → b ≡ true → (a || b) ≡ true
-    or_true a b h = grind arith
+listed_at (e ∷ es) (suc i) x l = or_right _ _ (listed_at es i x (omega arith))
 
 pub listed_take : (dirs : List Dir) (i : ℕ) (x e : Dir) → i < length dirs
     → is_listed (take (suc i) dirs) e ≡ true
@@ -63,9 +61,6 @@ listed_take (d ∷ ds) zero x e l k = inl (first (is_dir e d) k)
     first a h = grind arith
 listed_take (d ∷ ds) (suc i) x e l k = by_test (is_dir e d) refl (λ r. listed_take ds i x e (omega arith) r) k
   where
-    or_true : (a b : Bool) → b ≡ true → (a || b) ≡ true
-    or_true a b h = grind arith
-
     by_test : (b : Bool) → is_dir e d ≡ b
         → (is_listed (take (suc i) ds) e ≡ true
         → (is_dir e (get_or ds i x) ≡ true) ⊎ (is_listed (take i ds) e ≡ true))
@@ -74,7 +69,7 @@ listed_take (d ∷ ds) (suc i) x e l k = by_test (is_dir e d) refl (λ r. listed
     by_test true s rest k = inr (rw s refl)
     by_test false s rest k = elim (rest k) [
       | inl a ↦ inl a
-      | inr a ↦ inr (or_true (is_dir e d) _ a)
+      | inr a ↦ inr (or_right (is_dir e d) _ a)
     ]
 
 -- what a sweep for a direction asks, and what it gives

@@ -18,7 +18,7 @@ use Rattle.table_repair.proofs.Abreast.{at_both}
 use Rattle.table_repair.proofs.Lines.{after_moved, right_ahead, is_inside-from}
 use Rattle.table_repair.proofs.Mends.{mends_wider, follow_more}
 use Rattle.table_repair.proofs.Rows.{and_true, not_true}
-use Rattle.table_repair.proofs.Sweeping.{Swept, swept_more, swept_all, among_parts, among_from}
+use Rattle.table_repair.proofs.Sweeping.{Swept, swept_more, swept_all, among_parts, among_from, number_same}
 use Rattle.table_repair.proofs.Walking.{false_or}
 
 -- what is told of one test, told of another that answers the same
@@ -42,10 +42,7 @@ row_parts : (y : ℕ) (s : Span) (w : Cell) → is_in_row y s w ≡ true
     → (w.y ≡ y) × ((s.first ≤ w.x) × (w.x < s.end))
 row_parts y s w i =
     let p = and_both (nat_eq w.y y) (is_among s w.x) i in
-    (same w.y y p.0, among_parts s w.x p.1)
-  where
-    same : (m n : ℕ) → nat_eq m n ≡ true → m ≡ n
-    same m n h = grind (arith, nat_tests)
+    (number_same w.y y p.0, among_parts s w.x p.1)
 
 row_from : (y : ℕ) (s : Span) (w : Cell) → w.y ≡ y → s.first ≤ w.x → w.x < s.end → is_in_row y s w ≡ true
 row_from y s w e l m = and_true (nat_eq w.y y) (is_among s w.x) (same w.y y e) (among_from s w.x l m)

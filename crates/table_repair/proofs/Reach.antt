@@ -1,5 +1,5 @@
 -- Straight entries that changed lie in reach of the diagonal sweeps.
-use Rattle.std.proofs.Common.{◌≡◌, ℕ, ◌+◌, ◌<◌, ◌≤◌, ◌⊎◌, inl, inr, arith, Bool, true, false, subst, ◌||◌}
+use Rattle.std.proofs.Common.{◌≡◌, ℕ, ◌+◌, ◌<◌, ◌≤◌, ◌⊎◌, inl, inr, arith, Bool, true, false, subst}
 use Rattle.std.specs.Prelude.{suc}
 use Rattle.grid_moves.specs.declared.Cell.{Cell}
 use Rattle.grid_moves.specs.declared.Dir.{Dir}
@@ -17,6 +17,7 @@ use Rattle.table_repair.proofs.Moving.{is_near-parts}
 use Rattle.table_repair.proofs.Lines.{inside_parts, is_inside-from, after_moved}
 use Rattle.table_repair.proofs.Sweeping.{among_parts, among_from}
 use Rattle.table_repair.proofs.Rows.{and_true, not_true}
+use Rattle.table_repair.proofs.Walking.{or_left, or_right}
 
 wide_before : (s : Span) (by side a b k : ℕ) → is_among s b ≡ true → b ≡ a + k → k ≤ by
     → is_among (widened true s by side) a ≡ true
@@ -55,12 +56,6 @@ next_behind s by side a b k i m l j =
       | inl h ↦ inr (among_from (span_next false s by side) a h (omega arith))
       | inr h ↦ inl (among_from s a (omega arith) h)
     ]
-
-or_left : (a b : Bool) → a ≡ true → (a || b) ≡ true
-or_left a b h = grind arith
-
-or_right : (a b : Bool) → b ≡ true → (a || b) ≡ true
-or_right a b h = grind arith
 
 module _ (h : GridData) (rows columns : Span) (by : ℕ) (d : Dir) (v : Cell) (i : is_inside h v ≡ true) where
   in_row : is_among rows v.y ≡ true → is_among (widened (goes_right d) columns by h.width) v.x ≡ true

@@ -207,7 +207,8 @@ round_done {h} {d} {old} {now} {first} {steps} {here} {onward} {i} round l =
     none : drop i here ++ onward ≡ onward
     none = rw (drop_all i here l) refl
 
-pub some_on : {on : Option Walk} {next : Walk} (xs : List Walk) {ys : List Walk} → on ≡ Some next → ys ≡ xs ++ next ∷ []
+pub some_on : {on : Option Walk} {next : Walk} (xs : List Walk) {ys : List Walk} → on ≡ Some next
+    → ys ≡ xs ++ next ∷ []
     → ys ≡ xs ++ option_to_list on
 some_on xs e f = rw e f
 

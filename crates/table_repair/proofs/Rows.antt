@@ -1,7 +1,6 @@
 -- A row is swept column by column, and a block row by row.
 use Rattle.std.proofs.Common.{◌≡◌, ℕ, suc, ◌+◌, ◌<◌, ◌≤◌, inl, inr, arith, Bool, true, false, refl, ◌&&◌, ◌||◌}
 use Rattle.std.specs.Prelude.{nat_eq}
-use Rattle.std.proofs.lemmas.Bool.Decides.{nat_tests}
 use Rattle.grid_moves.specs.declared.Cell.{Cell}
 use Rattle.grid_moves.specs.declared.Dir.{Dir}
 use Rattle.grid_moves.specs.Grid.{GridData, is_inside}
@@ -12,16 +11,10 @@ use Rattle.table_repair.specs.declared.span.Span.{Span}
 use Rattle.table_repair.specs.Mending.{IsRight, FollowBut, Mends, CanSweep, Sweeps, either, is_among, is_in_row, is_in, goes_right, goes_down}
 use Rattle.table_repair.proofs.Lines.{after_moved, right_ahead, is_inside-from}
 use Rattle.table_repair.proofs.Walking.{or_false, false_or}
-use Rattle.table_repair.proofs.Sweeping.{IsTaken, Swept, swept_more, swept_all, row_ahead, rows_ahead, among_parts}
+use Rattle.table_repair.proofs.Sweeping.{IsTaken, Swept, swept_more, swept_all, row_ahead, rows_ahead, among_parts, same_number, number_same}
 
 pub and_true : (a b : Bool) → a ≡ true → b ≡ true → (a && b) ≡ true
 and_true a b h k = grind arith
-
-same_number : (n : ℕ) → nat_eq n n ≡ true
-same_number n = grind (arith, nat_tests)
-
-number_same : (m n : ℕ) → nat_eq m n ≡ true → m ≡ n
-number_same m n h = grind (arith, nat_tests)
 
 pub not_true : (b : Bool) → (b ≡ true → ⊥) → b ≡ false
 not_true true h = absurd (h refl)
@@ -30,7 +23,8 @@ not_true false h = refl
 pub true_false : (b : Bool) → b ≡ true → b ≡ false → ⊥
 true_false b h k = cc
 
-module _ {h : GridData} {d : Dir} (y : ℕ) (columns : Span) {left rest : Span} {x : ℕ} {old now : TablesData} {n : ℕ}
+module _ {h : GridData} {d : Dir} (y : ℕ) (columns : Span) {left rest : Span} {x : ℕ} {old now : TablesData}
+    {n : ℕ}
     (swept : Swept h d (is_in_row y columns) (is_in_row y left) old now n)
     (within : (k : ℕ) → is_among left k ≡ true → is_among columns k ≡ true)
     (taken : IsTaken (goes_right d) left x rest) where
@@ -88,10 +82,12 @@ module _ {down : Bool} (rows columns : Span) {left rest : Span} {y : ℕ}
       elim (taken.rest w.y p.0) [
         | inl e ↦ true_false (is_in_row y columns w)
             (and_true (nat_eq w.y y) (is_among columns w.x) (rw e (same_number y)) p.1) s
-        | inr a ↦ true_false (is_in rest columns w) (and_true (is_among rest w.y) (is_among columns w.x) a p.1) r
+        | inr a ↦ true_false (is_in rest columns w)
+            (and_true (is_among rest w.y) (is_among columns w.x) a p.1) r
       ])
 
-module _ {h : GridData} {d : Dir} (rows columns : Span) {left rest : Span} {y : ℕ} {old now : TablesData} {n : ℕ}
+module _ {h : GridData} {d : Dir} (rows columns : Span) {left rest : Span} {y : ℕ} {old now : TablesData}
+    {n : ℕ}
     (swept : Swept h d (is_in rows columns) (is_in left columns) old now n)
     (within : (k : ℕ) → is_among left k ≡ true → is_among rows k ≡ true)
     (taken : IsTaken (goes_down d) left y rest) where

@@ -34,6 +34,12 @@ pub record IsTaken (from_end : Bool) (old : Span) (n : ℕ) (new : Span) : Type 
   pub edge : IsEdge from_end old n new
   pub shorter : span_length old ≡ span_length new + 1
 
+pub same_number : (n : ℕ) → nat_eq n n ≡ true
+same_number n = grind (arith, nat_tests)
+
+pub number_same : (m n : ℕ) → nat_eq m n ≡ true → m ≡ n
+number_same m n h = grind (arith, nat_tests)
+
 pub among_parts : (s : Span) (k : ℕ) → is_among s k ≡ true → (s.first ≤ k) × (k < s.end)
 among_parts s k h = (grind (arith, nat_tests), grind (arith, nat_tests))
 
@@ -93,10 +99,12 @@ none_taken from_end s t k = by_test (nat_lt s.first s.end) refl t
     by_test false e t = grind (arith, nat_tests)
 
 -- how far a sweep has come: what is left waits
-pub record Swept (h : GridData) (d : Dir) (all left : Cell → Bool) (old now : TablesData) (n : ℕ) : Type 0 where
+pub record Swept (h : GridData) (d : Dir) (all left : Cell → Bool) (old now : TablesData)
+    (n : ℕ) : Type 0 where
   pub ready : AreReady h now d
   pub mends : Mends h d all old now n
-  pub follows : (later : Cell → Bool) → FollowBut h old d (either all later) → FollowBut h now d (either left later)
+  pub follows : (later : Cell → Bool) → FollowBut h old d (either all later)
+      → FollowBut h now d (either left later)
 
 pub swept_none : {h : GridData} {d : Dir} {all : Cell → Bool} {t : TablesData} → AreReady h t d
     → Swept h d all all t t 0
@@ -134,12 +142,9 @@ row_ahead d k v w y old rest t e m = elim (cases_Bool (is_in_row y old w)) [
   | inr i ↦ i
   | inl i ↦
       let p = and_both (nat_eq w.y y) (is_among old w.x) i in
-      absurd (not_left d m (row w.y p.0 ∙ sym e) t.nearer (t.rest w.x p.1))
+      absurd (not_left d m (number_same w.y y p.0 ∙ sym e) t.nearer (t.rest w.x p.1))
 ]
   where
-    row : (n : ℕ) → nat_eq n y ≡ true → n ≡ y
-    row n i = grind (arith, nat_tests)
-
     not_left : (d : Dir) → AreMoved d (suc k) v w → w.y ≡ v.y
         → ((n : ℕ) → is_among rest n ≡ true → IsNearer (goes_right d) v.x n)
         → (w.x ≡ v.x) ⊎ (is_among rest w.x ≡ true) → ⊥
@@ -175,7 +180,8 @@ rows_ahead d k v w old rest columns t m = elim (cases_Bool (is_in rest columns w
     not_left NW m t l = let a = m.1 in let b = t w.y l in omega arith
 
 -- the same, as code tells it
-pub taken_told : {from_end side : Bool} → from_end ≡ side → (old : Span) {new : Span} {n : ℕ} {answer : Option ℕ}
+pub taken_told : {from_end side : Bool} → from_end ≡ side → (old : Span) {new : Span} {n : ℕ}
+    {answer : Option ℕ}
     → answer ≡ Some n → answer ≡ far_number from_end old → new ≡ without_far from_end old
     → IsTaken side old n new
 taken_told {from_end = from_end} e old {new = new} {n = n} is told rest =

@@ -48,6 +48,12 @@ walked_none {t = t} s i r = record {
 pub or_false : (a b : Bool) → (a || b) ≡ false → (a ≡ false) × (b ≡ false)
 or_false a b h = (grind arith, grind arith)
 
+pub or_left : (a b : Bool) → a ≡ true → (a || b) ≡ true
+or_left a b h = grind arith
+
+pub or_right : (a b : Bool) → b ≡ true → (a || b) ≡ true
+or_right a b h = grind arith
+
 pub false_or : (a b : Bool) → a ≡ false → b ≡ false → (a || b) ≡ false
 false_or a b h k = grind arith
 
@@ -107,7 +113,8 @@ module _ {h : GridData} {d : Dir} {v : Cell} {old now : TablesData} {at_cell : C
       | inr s ↦ stays w d j (λ k l. apart w u s k) ∙ r
     ]
 
-    pub walk_goes_on : AreReady h old d → entry_at now u d ≢ table_entry h u d → Walked h d v old new u (n + 1)
+    pub walk_goes_on : AreReady h old d → entry_at now u d ≢ table_entry h u d
+        → Walked h d v old new u (n + 1)
     walk_goes_on first changed = record {
       ready = ready_stays mends first;
       reaches = reaches;

@@ -46,7 +46,8 @@ enter_row-changed-requires-clause-row_right g c =
     c.take_far.ensures.rest in
     let low = row_below c.args.grid.now c.args.rows c.in-Some.y (i.within c.in-Some.y taken.member)
     c.requires.rows in
-    enter_right c.args.rows c.args.columns c.requires.diagonal i.abreast i.past i.within taken c.requires.waits
+    enter_right c.args.rows c.args.columns c.requires.diagonal i.abreast i.past i.within taken
+    c.requires.waits
     (λ v k. row_on_map c.args.grid.now c.in-Some.y c.args.columns v low c.requires.columns k)
 
 pub loop-y-preserved : goal.loop-y-preserved
@@ -58,10 +59,12 @@ loop-y-preserved g c =
     c.requires.rows in
     record {
       abreast = enter_next c.args.rows c.args.columns c.requires.diagonal i.abreast i.past i.within taken
-          (enter_right c.args.rows c.args.columns c.requires.diagonal i.abreast i.past i.within taken c.requires.waits
+          (enter_right c.args.rows c.args.columns c.requires.diagonal i.abreast i.past i.within taken
+          c.requires.waits
           (λ v k. row_on_map c.args.grid.now c.in-Some.y c.args.columns v low c.requires.columns k))
           c.enter_row-changed.ensures.abreast;
-      past = λ w k. enter_past c.args.rows c.args.columns c.requires.diagonal i.abreast i.past i.within taken w
+      past = λ w k. enter_past c.args.rows c.args.columns c.requires.diagonal i.abreast i.past i.within taken
+          w
           (c.enter_row-changed.ensures.behind w k);
       within = λ k h. i.within k (taken.within k h);
       short = c.enter_row-changed.ensures.short;

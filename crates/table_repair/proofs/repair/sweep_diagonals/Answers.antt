@@ -33,7 +33,8 @@ loop-d-preserved g c =
     let one = c.sweep_diagonal-changed.ensures.few in
     record {
       passed = rw add-one (passed_more
-          (is_in_reach c.args.grid.now c.args.rows c.args.columns c.args.by) i.passed diagonal c.sweep_diagonal-changed.ensures.mends
+          (is_in_reach c.args.grid.now c.args.rows c.args.columns c.args.by) i.passed diagonal
+          c.sweep_diagonal-changed.ensures.mends
           c.sweep_diagonal-changed.ensures.right
           (λ e k. listed_take c.args.dirs.now c.loop-d.d-index N e c.loop-d-test.true k));
       few = omega arith;

@@ -19,7 +19,8 @@ mend_abreast-changed-requires-clause-right g c =
     let i = c.piece.invariant in
     let e = c.min-end.ensures in
     let l = c.piece-test.true in
-    piece_right c.args.y c.args.columns c.piece.first c.requires.diagonal i.begun i.swept c.min-end.result (omega arith) (omega arith)
+    piece_right c.args.y c.args.columns c.piece.first c.requires.diagonal i.begun i.swept c.min-end.result
+    (omega arith) (omega arith)
     c.requires.row c.requires.columns c.requires.waits
 
 pub piece-preserved : goal.piece-preserved
@@ -30,7 +31,8 @@ piece-preserved g c =
     let some : c.piece.first ≤ c.min-end.result = omega arith in
     let within : c.min-end.result ≤ c.args.columns.end = omega arith in
     record {
-      swept = piece_next c.args.y c.args.columns c.piece.first c.requires.diagonal i.begun i.swept c.min-end.result some within
+      swept = piece_next c.args.y c.args.columns c.piece.first c.requires.diagonal i.begun i.swept
+          c.min-end.result some within
           c.mend_abreast-changed.ensures.mends c.mend_abreast-changed.ensures.sweeps;
       begun = let b = i.begun in omega arith;
       few = piece_few _ _ _ _ _ _ some within i.few c.mend_abreast-changed.ensures.few;
@@ -39,4 +41,5 @@ piece-preserved g c =
     }
 
 pub returns-clause-sweeps : goal.returns-clause-sweeps
-returns-clause-sweeps g c = pieces_done c.args.y c.args.columns c.piece.first c.piece.invariant.swept c.piece-test.false
+returns-clause-sweeps g c = pieces_done c.args.y c.args.columns c.piece.first c.piece.invariant.swept
+    c.piece-test.false
