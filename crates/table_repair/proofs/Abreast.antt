@@ -18,13 +18,7 @@ use Rattle.table_repair.proofs.Walking.{or_false, false_or, or_left, or_right}
 -- so many moves, and then so many more
 pub after_further : (d : Dir) (j k : ℕ) (u v w : Cell) → cell_after d j u ≡ Some v → cell_after d k v ≡ Some w
     → cell_after d (j + k) u ≡ Some w
-after_further d zero k u v w e f =
-    let s = some_cell u v e in
-    let z : zero + k ≡ k = omega arith in
-    rw (s, z) f
-  where
-    some_cell : (u v : Cell) → Some u ≡ Some v → u ≡ v
-    some_cell u v h = cc
+after_further d zero k u v w e f = grind arith
 after_further d (suc j) k u v w e f = by_cell (ahead d u) refl e
     (λ p g. after_further d j k p v w g f)
   where
@@ -46,18 +40,10 @@ at_others v vs w h = or_right (is_same w v.at) (is_at_one vs w) h
 
 pub at_both : (xs ys : List Walk) (w : Cell) → is_at_one (xs ++ ys) w ≡ (is_at_one xs w || is_at_one ys w)
 at_both [] ys w = refl
-at_both (x ∷ xs) ys w =
-    let e = at_both xs ys w in
-    regroup (is_same w x.at) (is_at_one xs w) (is_at_one ys w) (is_at_one (xs ++ ys) w) e
-  where
-    regroup : (a b c z : Bool) → z ≡ (b || c) → (a || z) ≡ ((a || b) || c)
-    regroup a b c z e = grind arith
+at_both (x ∷ xs) ys w = grind (arith, at_both xs ys w)
 
 pub at_next : (next : Walk) (w : Cell) → is_at_one (next ∷ []) w ≡ true → w ≡ next.at
-at_next next w a = is_same-cell w next.at (only (is_same w next.at) a)
-  where
-    only : (b : Bool) → (b || false) ≡ true → b ≡ true
-    only b h = grind arith
+at_next next w a = grind (arith, is_same-cell)
 
 pub or_either : (a b : Bool) → (a || b) ≡ true → (a ≡ true) ⊎ (b ≡ true)
 or_either true b h = inl refl

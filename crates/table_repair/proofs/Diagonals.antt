@@ -74,16 +74,7 @@ module _ (h : GridData) (rows columns : Span) {wide rear : Span} (by : ℕ) (d :
   -- how many cells that are, at most three of them in each row behind the block
   pub cells_few : IsBlock h rows columns
       → span_length rows * span_length wide + 3 * span_length rear ≤ 3 * (h.width + h.height)
-  cells_few b =
-      let w : span_length wide ≤ h.width = rw is_wide (wide_short (goes_right d) b) in
-      let r : span_length rear ≤ h.height = rw is_rear (rear_short (goes_down d) b) in
-      total (span_length rows) (span_length wide) (span_length rear)
-      (let m = b.three_rows in omega arith) w r
-    where
-      total : (a b c : ℕ) → a ≤ 3 → b ≤ h.width → c ≤ h.height → a * b + 3 * c ≤ 3 * (h.width + h.height)
-      total a b c i j k =
-          let one : a * b ≤ 3 * h.width = mul-le-mul i j in
-          omega arith
+  cells_few b = grind (arith, wide_short, rear_short, mul-le-mul)
 
 pub steps_both : (start now new m n cells more limit : ℕ) → now ≤ start + m + cells → new ≤ now + n + more
     → cells + more ≤ limit → new ≤ start + (m + n) + limit

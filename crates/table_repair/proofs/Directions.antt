@@ -81,7 +81,4 @@ right_follows h t d waits r = record { next = λ u v i e j w s. r u i; last = λ
 pub follow_stays : (h : GridData) (old new : TablesData) (d : Dir) (waits : Cell → Bool)
     → ((u : Cell) → is_inside h u ≡ true → entry_at new u d ≡ entry_at old u d) → FollowBut h old d waits
     → FollowBut h new d waits
-follow_stays h old new d waits same f = record {
-  next = λ u v i e j w r. same u i ∙ f.next u v i e j w (sym (same v j) ∙ r);
-  last = λ u i l. same u i ∙ f.last u i l;
-}
+follow_stays h old new d waits same f = grind arith

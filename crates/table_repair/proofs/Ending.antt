@@ -88,14 +88,7 @@ module _ {h : GridData} {starts : Cell → Bool} {t now new : TablesData} {m n :
 pub all_steps : (start now new m n w h rows columns : ℕ) → rows ≤ 3 → columns ≤ 3 → rows ≤ h → columns ≤ w
     → now ≤ start + m + 4 * (rows * columns) → new ≤ now + n + 4 * (3 * (w + h))
     → new ≤ start + 18 * (w + h) + (m + n)
-all_steps start now new m n w h rows columns a b c e f g =
-    let one : rows * columns ≤ 3 * w = mul-le-mul a e in
-    let other : rows * columns ≤ h * 3 = mul-le-mul c b in
-    total (rows * columns) one other f
-  where
-    total : (cells : ℕ) → cells ≤ 3 * w → cells ≤ h * 3 → now ≤ start + m + 4 * cells
-        → new ≤ start + 18 * (w + h) + (m + n)
-    total cells i j k = omega arith
+all_steps start now new m n w h rows columns a b c e f g = grind (arith, mul-le-mul)
 
 pub three_beside : (n side : ℕ) → span_length (span_beside n side) ≤ 3
 three_beside n side = omega arith

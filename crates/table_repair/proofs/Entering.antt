@@ -1,9 +1,8 @@
 -- A narrow block is swept row by row: in each row walks begin beside those that have come to it.
-use Rattle.std.proofs.Common.{◌≡◌, ℕ, suc, ◌+◌, ◌<◌, ◌≤◌, inl, inr, arith, Bool, true, false, refl, sym, ◌∙◌, ◌||◌, List, [], ◌∷◌}
+use Rattle.std.proofs.Common.{◌≡◌, ℕ, suc, ◌+◌, ◌<◌, ◌≤◌, inl, inr, arith, Bool, true, false, refl, sym, ◌∙◌, ◌||◌, List, []}
 use Rattle.std.specs.Prelude.{nat_eq}
 use Rattle.grid_moves.specs.declared.Cell.{Cell}
 use Rattle.grid_moves.specs.declared.Dir.{Dir}
-use Rattle.grid_moves.specs.declared.Dir.TheVariants.{N, NE, E, SE, S, SW, W, NW}
 use Rattle.grid_moves.specs.Grid.{GridData, is_inside}
 use Rattle.grid_moves.proofs.Legal.{and_both}
 use Rattle.pruning.specs.Turns.{is_diagonal}
@@ -18,7 +17,7 @@ use Rattle.table_repair.proofs.Lines.{after_moved, right_ahead}
 use Rattle.table_repair.proofs.Mends.{mends_none, right_stays}
 use Rattle.table_repair.proofs.Moving.{ahead_moved}
 use Rattle.table_repair.proofs.Rows.{not_true, row_of_block, row_or_rest}
-use Rattle.table_repair.proofs.Sweeping.{IsEdge, IsTaken, among_parts, number_same}
+use Rattle.table_repair.proofs.Sweeping.{IsTaken, among_parts, number_same}
 use Rattle.table_repair.proofs.Walking.{or_false, false_or, or_left, or_right}
 
 -- the row is one of those that are left, or lies behind them
@@ -47,11 +46,7 @@ enter_none {t = t} ready e = rw e (record {
 
 pub past_none : (down : Bool) (left : Span) (walks : List Walk) → walks ≡ [] → (w : Cell)
     → is_at_one walks w ≡ true → IsPast down left w.y
-past_none down left walks e w k = absurd (nobody walks e k)
-  where
-    nobody : (walks : List Walk) → walks ≡ [] → is_at_one walks w ≡ true → ⊥
-    nobody [] e k = absurd (cc)
-    nobody (v ∷ vs) e k = absurd (cc)
+past_none down left walks e w k = grind arith
 
 module _ {h : GridData} {d : Dir} (rows columns : Span) {left rest : Span} {y : ℕ} {old now : TablesData}
     {walks : List Walk} {n : ℕ} (diagonal : is_diagonal d ≡ true)
@@ -64,18 +59,7 @@ module _ {h : GridData} {d : Dir} (rows columns : Span) {left rest : Span} {y : 
 
   -- what lies ahead of the row is not past
   ahead_past : (k : ℕ) (v w : Cell) → v.y ≡ y → AreMoved d (suc k) v w → IsPast (goes_down d) left w.y → ⊥
-  ahead_past k v w e m p = by_dir d diagonal m taken.edge p
-    where
-      by_dir : (d : Dir) → is_diagonal d ≡ true → AreMoved d (suc k) v w → IsEdge (goes_down d) left y rest
-          → IsPast (goes_down d) left w.y → ⊥
-      by_dir N q m i p = absurd (cc)
-      by_dir NE q m i p = let a = m.1 in let b = i.0 in omega arith
-      by_dir E q m i p = absurd (cc)
-      by_dir SE q m i p = let a = m.1 in let b = i.0 in omega arith
-      by_dir S q m i p = absurd (cc)
-      by_dir SW q m i p = let a = m.1 in let b = i.0 in omega arith
-      by_dir W q m i p = absurd (cc)
-      by_dir NW q m i p = let a = m.1 in let b = i.0 in omega arith
+  ahead_past k v w e m p = grind arith
 
   row_is : (v : Cell) → is_in_row y columns v ≡ true → v.y ≡ y
   row_is v i = number_same v.y y (and_both (nat_eq v.y y) (is_among columns v.x) i).0
@@ -99,24 +83,7 @@ module _ {h : GridData} {d : Dir} (rows columns : Span) {left rest : Span} {y : 
   -- walks that have left the row are past those that are left
   pub enter_past : (w : Cell) → IsBehindOne d (either (is_at_one walks) (is_in_row y columns)) w
       → IsPast (goes_down d) rest w.y
-  enter_past w b = by_dir d diagonal (ahead_moved d w b.from b.behind) taken.edge from_past
-    where
-      from_past : IsPast (goes_down d) left b.from.y
-      from_past = elim (or_either (is_at_one walks b.from) (is_in_row y columns b.from) b.stood) [
-        | inl i ↦ past b.from i
-        | inr i ↦ rw (row_is b.from i) (among_past (goes_down d) left y taken.member)
-      ]
-
-      by_dir : (d : Dir) → is_diagonal d ≡ true → AreMoved d 1 w b.from → IsEdge (goes_down d) left y rest
-          → IsPast (goes_down d) left b.from.y → IsPast (goes_down d) rest w.y
-      by_dir N q m i p = absurd (cc)
-      by_dir NE q m i p = let a = m.1 in let b = i.0 in let c = i.1 in omega arith
-      by_dir E q m i p = absurd (cc)
-      by_dir SE q m i p = let a = m.1 in let b = i.0 in let c = i.1 in omega arith
-      by_dir S q m i p = absurd (cc)
-      by_dir SW q m i p = let a = m.1 in let b = i.0 in let c = i.1 in omega arith
-      by_dir W q m i p = absurd (cc)
-      by_dir NW q m i p = let a = m.1 in let b = i.0 in let c = i.1 in omega arith
+  enter_past w b = grind (arith, ahead_moved, or_either, row_is, among_past)
 
   pub enter_next : {new : TablesData} {onward : List Walk} {m : ℕ}
       → ((v : Cell) → is_in_row y columns v ≡ true → IsRight h now v d)

@@ -55,10 +55,7 @@ pub listed_take : (dirs : List Dir) (i : ℕ) (x e : Dir) → i < length dirs
     → is_listed (take (suc i) dirs) e ≡ true
     → (is_dir e (get_or dirs i x) ≡ true) ⊎ (is_listed (take i dirs) e ≡ true)
 listed_take [] i x e l k = absurd (omega arith)
-listed_take (d ∷ ds) zero x e l k = inl (first (is_dir e d) k)
-  where
-    first : (a : Bool) → (a || false) ≡ true → a ≡ true
-    first a h = grind arith
+listed_take (d ∷ ds) zero x e l k = grind arith
 listed_take (d ∷ ds) (suc i) x e l k = by_test (is_dir e d) refl (λ r. listed_take ds i x e (omega arith) r) k
   where
     by_test : (b : Bool) → is_dir e d ≡ b

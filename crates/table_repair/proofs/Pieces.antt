@@ -1,10 +1,8 @@
 -- A row is swept piece by piece along a diagonal direction, which leads from no cell of it to another.
-use Rattle.std.proofs.Common.{◌≡◌, ℕ, suc, ◌+◌, ◌*◌, ◌-◌, ◌<◌, ◌≤◌, ◌⊎◌, inl, inr, arith, Bool, true, false, refl, sym, ◌∙◌, ◌&&◌, ◌||◌, List, [], ◌∷◌, ◌++◌, length}
-use Rattle.std.specs.Prelude.{nat_eq, nat_le, nat_lt}
-use Rattle.std.proofs.lemmas.Bool.Decides.{nat_tests}
+use Rattle.std.proofs.Common.{◌≡◌, ℕ, suc, ◌+◌, ◌*◌, ◌-◌, ◌<◌, ◌≤◌, ◌⊎◌, inl, inr, arith, Bool, true, false, refl, sym, ◌∙◌, ◌||◌, List, [], ◌∷◌, ◌++◌, length}
+use Rattle.std.specs.Prelude.{nat_eq}
 use Rattle.grid_moves.specs.declared.Cell.{Cell}
 use Rattle.grid_moves.specs.declared.Dir.{Dir}
-use Rattle.grid_moves.specs.declared.Dir.TheVariants.{N, NE, E, SE, S, SW, W, NW}
 use Rattle.grid_moves.specs.Grid.{GridData, is_inside}
 use Rattle.grid_moves.proofs.Legal.{and_both}
 use Rattle.pruning.specs.Turns.{is_diagonal}
@@ -45,70 +43,33 @@ row_parts y s w i =
     (number_same w.y y p.0, among_parts s w.x p.1)
 
 row_from : (y : ℕ) (s : Span) (w : Cell) → w.y ≡ y → s.first ≤ w.x → w.x < s.end → is_in_row y s w ≡ true
-row_from y s w e l m = and_true (nat_eq w.y y) (is_among s w.x) (same w.y y e) (among_from s w.x l m)
-  where
-    same : (m n : ℕ) → m ≡ n → nat_eq m n ≡ true
-    same m n h = grind (arith, nat_tests)
+row_from y s w e l m = grind (arith, and_true, among_from)
 
 pub row_on_map : (h : GridData) (y : ℕ) (s : Span) (w : Cell) → y < h.height → s.end ≤ h.width
     → is_in_row y s w ≡ true → is_inside h w ≡ true
-row_on_map h y s w low narrow i =
-    let p = row_parts y s w i in
-    let e = p.0 in
-    let l = p.1.1 in
-    is_inside-from h w (omega arith) (omega arith)
+row_on_map h y s w low narrow i = grind (arith, row_parts, is_inside-from)
 
 -- an empty piece adds no walk
 pub none_there : (y n : ℕ) (before : List Walk) (w : Cell)
     → is_at_one before w ≡ (is_at_one before w || is_in_row y (part n n) w)
-none_there y n before w = or_not (is_at_one before w) (is_in_row y (part n n) w)
-    (not_true (is_in_row y (part n n) w)
-    (λ i. let p = row_parts y (part n n) w i in
-    let l = p.1.0 in let m = p.1.1 in absurd (omega arith)))
-  where
-    or_not : (a b : Bool) → b ≡ false → a ≡ (a || b)
-    or_not a b e = grind arith
+none_there y n before w = grind (arith, not_true, row_parts)
 
 -- one more walk, at the next column
 pub one_more_there : (y first x : ℕ) (before walks : List Walk) (w : Cell) → first ≤ x
     → is_at_one walks w ≡ (is_at_one before w || is_in_row y (part first x) w)
     → is_at_one (walks ++ record { at = record { x = x; y = y } } ∷ []) w
     ≡ (is_at_one before w || is_in_row y (part first (x + 1)) w)
-one_more_there y first x before walks w l e =
-    at_both walks (record { at = record { x = x; y = y } } ∷ []) w
-    ∙ rw e (regroup (is_at_one before w) _ _ _ (joined w.x w.y))
-  where
-    joined : (a b : ℕ)
-        → ((nat_eq b y && (nat_le first a && nat_lt a x)) || ((nat_eq a x && nat_eq b y) || false))
-        ≡ (nat_eq b y && (nat_le first a && nat_lt a (x + 1)))
-    joined a b = grind (arith, nat_tests)
-
-    regroup : (p a b c : Bool) → (a || b) ≡ c → ((p || a) || b) ≡ (p || c)
-    regroup p a b c e = grind arith
+one_more_there y first x before walks w l e = grind (arith, at_both)
 
 module _ {h : GridData} {d : Dir} (y : ℕ) (columns : Span) (first : ℕ) {old now : TablesData} {n : ℕ}
     (diagonal : is_diagonal d ≡ true) (begun : columns.first ≤ first)
     (swept : Swept h d (is_in_row y columns) (is_in_row y (part first columns.end)) old now n)
     (end : ℕ) (some : first ≤ end) (within : end ≤ columns.end) where
   of_row : (w : Cell) → is_in_row y (part first end) w ≡ true → is_in_row y columns w ≡ true
-  of_row w i =
-      let p = row_parts y (part first end) w i in
-      let l = p.1.0 in
-      let m = p.1.1 in
-      row_from y columns w p.0 (omega arith) (omega arith)
+  of_row w i = grind (arith, row_parts, row_from)
 
   off_row : (k : ℕ) (v w : Cell) (s : Span) → v.y ≡ y → AreMoved d (suc k) v w → is_in_row y s w ≡ false
-  off_row k v w s e m = not_true (is_in_row y s w) (λ i. by_dir d diagonal m (row_parts y s w i).0)
-    where
-      by_dir : (d : Dir) → is_diagonal d ≡ true → AreMoved d (suc k) v w → w.y ≡ y → ⊥
-      by_dir N k m f = absurd (cc)
-      by_dir NE k m f = let a = m.1 in omega arith
-      by_dir E k m f = absurd (cc)
-      by_dir SE k m f = let a = m.1 in omega arith
-      by_dir S k m f = absurd (cc)
-      by_dir SW k m f = let a = m.1 in omega arith
-      by_dir W k m f = absurd (cc)
-      by_dir NW k m f = let a = m.1 in omega arith
+  off_row k v w s e m = grind (arith, not_true, row_parts)
 
   -- each of its entries is right, since no cell ahead waits
   pub piece_right : y < h.height → columns.end ≤ h.width → CanSweep h old d (is_in_row y columns)
@@ -171,7 +132,4 @@ piece_counted steps now start changed one first next end all l m h k = omega ari
 
 pub piece_short : (walks before : List Walk) (n : ℕ) → before ≡ [] → length walks ≡ length before + n
     → n ≤ 512 → length walks ≤ 512
-piece_short walks before n e long short = of_none (length before) (rw e refl) long
-  where
-    of_none : (m : ℕ) → m ≡ 0 → length walks ≡ m + n → length walks ≤ 512
-    of_none m f long = omega arith
+piece_short walks before n e long short = grind arith

@@ -5,11 +5,9 @@ use Rattle.std.specs.Prelude.{Option, Some, None, if◌then◌else◌}
 use Rattle.std.specs.Option.{option_to_list}
 use Rattle.grid_moves.specs.declared.Cell.{Cell}
 use Rattle.grid_moves.specs.declared.Dir.{Dir}
-use Rattle.grid_moves.specs.declared.Dir.TheVariants.{N, NE, E, SE, S, SW, W, NW}
 use Rattle.grid_moves.specs.Grid.{GridData, IsGrid, is_inside}
 use Rattle.grid_moves.specs.Move.{ahead, is_same}
 use Rattle.pruning.specs.Turns.{is_diagonal}
-use Rattle.pruning.proofs.Running.{AreMoved}
 use Rattle.plus_tables.specs.Tables.{TablesData}
 use Rattle.table_repair.specs.declared.walks.Walk.{Walk}
 use Rattle.table_repair.specs.Abreast.{is_at_one, no_cell, IsBehindOne, IsOnward, KeepAbreast, back_room, room_of}
@@ -26,20 +24,7 @@ room_both h d (x ∷ xs) ys = let e = room_both h d xs ys in omega arith
 
 room_behind : (h : GridData) (d : Dir) (u v : Cell) → is_diagonal d ≡ true → is_inside h u ≡ true
     → ahead d u ≡ Some v → back_room h d v ≡ back_room h d u + 1
-room_behind h d u v k i e =
-    let p = inside_parts h u i in
-    by_dir d k (ahead_moved d u v e) p.1
-  where
-    by_dir : (d : Dir) → is_diagonal d ≡ true → AreMoved d 1 u v → u.y < h.height
-        → back_room h d v ≡ back_room h d u + 1
-    by_dir N k m l = absurd (cc)
-    by_dir NE k m l = let a = m.1 in omega arith
-    by_dir E k m l = absurd (cc)
-    by_dir SE k m l = let a = m.1 in omega arith
-    by_dir S k m l = absurd (cc)
-    by_dir SW k m l = let a = m.1 in omega arith
-    by_dir W k m l = absurd (cc)
-    by_dir NW k m l = let a = m.1 in omega arith
+room_behind h d u v k i e = grind (arith, inside_parts, ahead_moved)
 
 -- a walk that goes on or ends has less room behind it
 room_next : (h : GridData) (d : Dir) (v : Walk) (rest : List Walk) (t : TablesData) (on : Option Walk)
@@ -48,11 +33,7 @@ room_next : (h : GridData) (d : Dir) (v : Walk) (rest : List Walk) (t : TablesDa
 unfolding room_of
 room_next h d v rest t None k onward =
     let e = room_both h d rest [] in omega arith
-room_next h d v rest t (Some next) k onward =
-    let e = room_both h d rest (next ∷ []) in
-    let o = onward next refl in
-    let r = room_behind h d next.at v.at k o.inside o.behind in
-    omega arith
+room_next h d v rest t (Some next) k onward = grind (arith, room_both, room_behind)
 
 pub room_few : (h : GridData) (d : Dir) (walks : List Walk) → IsGrid h
     → ((w : Cell) → is_at_one walks w ≡ true → is_inside h w ≡ true)
@@ -242,10 +223,7 @@ room_nil h d = refl
 -- a round with a walk in it leaves less room
 pub room_left : (h : GridData) (d : Dir) (walks onward : List Walk) → 0 < length walks
     → length onward + room_of h d onward ≤ room_of h d walks → room_of h d onward < room_of h d walks
-room_left h d walks [] some less =
-    let none = room_nil h d in
-    let more = room_some h d walks in
-    omega arith
+room_left h d walks [] some less = grind (arith, room_nil, room_some)
 room_left h d walks (v ∷ vs) some less = omega arith
 
 -- the same, told of the walks that the round began with

@@ -35,9 +35,7 @@ module _ {h : GridData} {d : Dir} (y : ℕ) (columns : Span) {left rest : Span} 
   v_there = and_true (nat_eq y y) (is_among columns x) (same_number y) (within x taken.member)
 
   pub row_inside : y < h.height → columns.end ≤ h.width → is_inside h v ≡ true
-  row_inside low narrow =
-      let p = among_parts columns x (within x taken.member) in
-      is_inside-from h v (omega arith) low
+  row_inside low narrow = grind (arith, among_parts, is_inside-from)
 
   pub row_right : y < h.height → columns.end ≤ h.width → CanSweep h old d (is_in_row y columns)
       → IsRight h now v d
@@ -69,10 +67,7 @@ module _ {down : Bool} (rows columns : Span) {left rest : Span} {y : ℕ}
     (taken : IsTaken down left y rest) where
   -- a row that is taken is the block's
   pub row_of_block : (w : Cell) → is_in_row y columns w ≡ true → is_in rows columns w ≡ true
-  row_of_block w i =
-      let p = and_both (nat_eq w.y y) (is_among columns w.x) i in
-      and_true (is_among rows w.y) (is_among columns w.x)
-      (rw (number_same w.y y p.0) (within y taken.member)) p.1
+  row_of_block w i = grind (arith, and_both, and_true, number_same)
 
   -- what was left is in that row, or in those that are left
   pub row_or_rest : (w : Cell) → is_in_row y columns w ≡ false → is_in rest columns w ≡ false

@@ -90,13 +90,7 @@ is_taken from_end old new n t w = by_test from_end (nat_lt old.first old.end) re
 
 -- nothing is left
 pub none_taken : (from_end : Bool) (s : Span) → far_number from_end s ≡ None → (k : ℕ) → is_among s k ≡ false
-none_taken from_end s t k = by_test (nat_lt s.first s.end) refl t
-  where
-    by_test : (b : Bool) → nat_lt s.first s.end ≡ b
-        → (if b then Some (if from_end then s.end - 1 else s.first) else None) ≡ None
-        → is_among s k ≡ false
-    by_test true e t = absurd (cc)
-    by_test false e t = grind (arith, nat_tests)
+none_taken from_end s t k = grind arith
 
 -- how far a sweep has come: what is left waits
 pub record Swept (h : GridData) (d : Dir) (all left : Cell → Bool) (old now : TablesData)

@@ -1,18 +1,17 @@
 -- One walk back from a cell, as long as entries change.
-use Rattle.std.proofs.Common.{◌≡◌, ◌≢◌, ℕ, suc, ◌+◌, ◌<◌, ◌⊎◌, inl, inr, arith, Bool, true, false, refl, ap, sym, ◌∙◌, ◌||◌, length, length-set, get_or}
-use Rattle.std.specs.Prelude.{ℤ, pos, Some, None}
+use Rattle.std.proofs.Common.{◌≡◌, ◌≢◌, ℕ, suc, ◌+◌, ◌<◌, ◌⊎◌, inl, inr, arith, Bool, true, false, refl, sym, ◌∙◌, ◌||◌, length-set}
+use Rattle.std.specs.Prelude.{Some, None}
 use Rattle.std.proofs.lemmas.Bool.{cases_Bool}
-use Rattle.std.proofs.lemmas.Bool.Decides.{nat_tests}
 use Rattle.grid_moves.specs.declared.Cell.{Cell}
 use Rattle.grid_moves.specs.declared.Dir.{Dir}
 use Rattle.grid_moves.specs.Grid.{GridData, IsGrid, is_inside}
-use Rattle.grid_moves.specs.Move.{ahead, is_dir, is_same, legal_ahead}
+use Rattle.grid_moves.specs.Move.{ahead, is_same, legal_ahead}
 use Rattle.grid_moves.proofs.Legal.{is_same-cell, is_same-itself}
 use Rattle.pruning.proofs.Bridging.{one_of, legal_leads}
 use Rattle.pruning.proofs.Running.{IsMoved, column_trend, row_trend}
 use Rattle.grid_moves.specs.declared.Dir.TheVariants.{N, NE, E, SE, S, SW, W, NW}
 use Rattle.plus_tables.specs.Entry.{table_entry}
-use Rattle.plus_tables.specs.Tables.{TablesData, IsWhole, AreTablesOf, RestsRight, is_on, entry_at, entry_place, tables_with}
+use Rattle.plus_tables.specs.Tables.{TablesData, IsWhole, AreTablesOf, RestsRight, is_on, entry_at, tables_with}
 use Rattle.table_repair.specs.Counted.{places_differing}
 use Rattle.table_repair.specs.Mending.{IsRight, AreBesideRight, AreReady, IsMended, Mends, FollowBut, cell_after, behind_on}
 use Rattle.table_repair.proofs.Counting.{entry-with, entry-with_other, count-with, with_itself}
@@ -149,46 +148,10 @@ module _ {h : GridData} {d : Dir} {v : Cell} {old now : TablesData} {at_cell : C
 
         count : (r : TablesData) → IsWhole r → AreTablesOf r h
             → places_differing old.entries r.entries ≡ places_differing new.entries r.entries + (n + 1)
-        count r w a = total _ _ _ (walked.mends.count r w a) one_changed
-          where
-            same_width : now.width ≡ r.width
-            same_width = walked.ready.sized.width ∙ sym a.sized.width
-
-            same_height : now.height ≡ r.height
-            same_height = walked.ready.sized.height ∙ sym a.sized.height
-
-            same_length : length now.entries ≡ length r.entries
-            same_length = whole.whole ∙ rw (same_width, same_height) (sym w.whole)
-
-            its_own : table_entry h u d ≡ get_or r.entries (entry_place now.width u d) (pos 0)
-            its_own = rw same_width (sym (a.right u d i))
-
-            one_changed : places_differing now.entries r.entries
-                ≡ places_differing new.entries r.entries + 1
-            one_changed = rw is
-                (count-with now whole u on d (table_entry h u d) r.entries same_length its_own changed)
-
-            total : (x y z : ℕ) → x ≡ y + n → y ≡ z + 1 → x ≡ z + (n + 1)
-            total x y z e f = omega arith
+        count r w a = grind (arith, count-with, whole, on)
 
         mends : Mends h d (λ w. is_same w v) old new (n + 1)
-        mends = record {
-          width = ap (λ (t : TablesData). t.width) is ∙ walked.mends.width;
-          height = ap (λ (t : TablesData). t.height) is ∙ walked.mends.height;
-          corner = ap (λ (t : TablesData). t.corner) is ∙ walked.mends.corner;
-          length_kept = ap (λ (t : TablesData). length t.entries) is
-              ∙ length-set now.entries (entry_place now.width u d) (table_entry h u d)
-              ∙ walked.mends.length_kept;
-          others = λ w f k j. stays w f j (λ s t. other f k t) ∙ walked.mends.others w f k j;
-          along = along;
-          count = count;
-        }
-          where
-            other : (f : Dir) → is_dir f d ≡ false → f ≡ d → ⊥
-            other f k s = let t : is_dir f d ≡ true = rw s (itself d) in absurd (cc)
-              where
-                itself : (d : Dir) → is_dir d d ≡ true
-                itself d = grind (arith, nat_tests)
+        mends = grind (arith, length-set, stays, along, count)
 
         follows : (later : Cell → Bool) → FollowBut h old d (or_later v later)
             → FollowBut h new d (or_later u later)
@@ -243,6 +206,4 @@ walk_short h d v u n grid i j r =
 pub nothing_set : (h : GridData) (t new : TablesData) (u : Cell) (d : Dir) → AreReady h t d
     → is_inside h u ≡ true → new ≡ tables_with t u d (table_entry h u d) → entry_at t u d ≡ table_entry h u d
     → new ≡ t
-nothing_set h t new u d ready i is right =
-    is ∙ ap (λ (x : ℤ). tables_with t u d x) (sym right)
-    ∙ with_itself t ready.whole u (on_inside t h ready.sized u i) d
+nothing_set h t new u d ready i is right = grind (arith, with_itself, on_inside)

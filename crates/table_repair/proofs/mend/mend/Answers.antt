@@ -62,11 +62,7 @@ overflow_add-changed g c =
     omega arith
 
 pub loop-before-smaller : goal.loop-before-smaller
-loop-before-smaller g c =
-    let w = c.loop-before.invariant.walked in
-    let few = walk_short c.args.grid.now c.args.d c.args.from c.loop-before.at c.loop-before.changed
-    c.requires.ready.grid c.requires.inside w.inside w.reaches in
-    omega arith
+loop-before-smaller g c = grind (arith, walk_short)
 
 pub loop-before-preserved : goal.loop-before-preserved
 loop-before-preserved g c =
@@ -84,7 +80,4 @@ returns-clause-follows g c =
     walk_ends c.loop-before.invariant.walked (sym c.cell_before.ensures ∙ c.in_default.is)
 
 pub returns-clause-few : goal.returns-clause-few
-returns-clause-few g c =
-    let w = c.loop-before.invariant.walked in
-    walk_short c.args.grid.now c.args.d c.args.from c.loop-before.at c.loop-before.changed
-    c.requires.ready.grid c.requires.inside w.inside w.reaches
+returns-clause-few g c = grind (arith, walk_short)

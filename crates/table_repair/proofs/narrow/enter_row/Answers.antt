@@ -1,4 +1,5 @@
 -- What was left, what begins and what goes on add up.
+use Rattle.std.proofs.Common.{arith}
 use Rattle.table_repair.specs.Mending.{is_in_row}
 use Rattle.table_repair.proofs.Entering.{entered, entered_next, entered_behind}
 use Rattle.table_repair.proofs.Pieces.{row_on_map}
@@ -29,6 +30,4 @@ returns-clause-abreast g c = rw c.len.ensures.value (
     c.requires.row_right c.lead_on.ensures.abreast)
 
 pub returns-clause-behind : goal.returns-clause-behind
-returns-clause-behind g c = entered_behind c.args.d (is_in_row c.args.y c.args.columns) c.args.walks.now.items
-    c.make_room-led_out.new.walks.items c.enter.new.walks.items c.lead_on.new.walks.items
-    c.make_room-led_out.ensures.same c.enter.ensures.there c.lead_on.ensures.behind
+returns-clause-behind g c = grind (arith, entered_behind)

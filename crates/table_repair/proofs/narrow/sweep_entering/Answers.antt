@@ -99,15 +99,7 @@ returns-clause-sweeps g c =
     c.lead_out.ensures.none
 
 pub returns-clause-few : goal.returns-clause-few
-returns-clause-few g c =
-    let i = c.loop-y.invariant in
-    let few = i.few in
-    let short = i.short in
-    let more = c.lead_out.ensures.few in
-    omega arith
+returns-clause-few g c = grind arith
 
 pub returns-clause-steps : goal.returns-clause-steps
-returns-clause-steps g c =
-    let counted = c.loop-y.invariant.counted in
-    let more = c.lead_out.ensures.steps in
-    omega arith
+returns-clause-steps g c = grind arith

@@ -14,15 +14,10 @@ sweep_diagonal-changed-requires-clause-ready g c =
     (c.requires.diagonal d (listed_at c.args.dirs.now c.loop-d.d-index N c.loop-d-test.true))
 
 pub sweep_diagonal-changed-requires-clause-diagonal : goal.sweep_diagonal-changed-requires-clause-diagonal
-sweep_diagonal-changed-requires-clause-diagonal g c =
-    let d : Dir = get_or c.args.dirs.now c.loop-d.d-index N in
-    c.requires.diagonal d (listed_at c.args.dirs.now c.loop-d.d-index N c.loop-d-test.true)
+sweep_diagonal-changed-requires-clause-diagonal g c = grind (arith, listed_at)
 
 pub sweep_diagonal-changed-requires-clause-waits : goal.sweep_diagonal-changed-requires-clause-waits
-sweep_diagonal-changed-requires-clause-waits g c =
-    let d : Dir = get_or c.args.dirs.now c.loop-d.d-index N in
-    c.loop-d.invariant.passed.follows d
-    (c.requires.diagonal d (listed_at c.args.dirs.now c.loop-d.d-index N c.loop-d-test.true))
+sweep_diagonal-changed-requires-clause-waits g c = grind (arith, listed_at)
 
 pub loop-d-preserved : goal.loop-d-preserved
 loop-d-preserved g c =

@@ -26,11 +26,7 @@ walk_on-requires-clause-right g c =
     walk_right nowhere c.loop-walk.invariant c.loop-walk-test.true
 
 pub push-requires : goal.push-requires
-push-requires g c =
-    let fits = c.as_slice-here.ensures.fits in
-    let fewer = c.loop-walk.invariant.fewer in
-    let l = c.loop-walk-test.true in
-    (omega arith, omega arith)
+push-requires g c = grind arith
 
 pub loop-walk-preserved : goal.loop-walk-preserved
 loop-walk-preserved g c = elim c.match-walk_on.branch [

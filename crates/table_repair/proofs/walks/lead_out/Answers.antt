@@ -28,9 +28,7 @@ overflow_add-changed g c =
     omega arith
 
 pub round-smaller : goal.round-smaller
-round-smaller g c = room_left c.args.grid.now c.args.d c.round.walks.items c.lead_on.new.walks.items
-    (let t = c.round-test.true in let f = c.is_empty.ensures in grind (arith, nat_tests))
-    c.lead_on.ensures.room
+round-smaller g c = grind (arith, room_left)
 
 pub round-preserved : goal.round-preserved
 round-preserved g c = rw c.len.ensures.value (rounds_more c.round.invariant
