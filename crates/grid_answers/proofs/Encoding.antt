@@ -1,7 +1,7 @@
 -- A text that is written part by part.
 use Rattle.std.proofs.Common.{◌≡◌, refl, sym, ap, ◌∙◌, subst, List, [], ◌++◌, append_assoc, ℕ, ◌+◌, ◌≤◌, take, drop, arith}
 use Rattle.std.specs.Prelude.{ℤ, flat_map}
-use Rattle.std.proofs.lemmas.List.{append-nil, drop-drop, take-append-drop}
+use Rattle.std.proofs.lemmas.List.{drop-drop, take-append-drop}
 use Rattle.io_edge.specs.Told.{Outflow}
 use Rattle.io_edge.specs.Whole.{AppendsSome}
 use Rattle.table_file.specs.Encoding.{entry_bytes}
@@ -40,11 +40,6 @@ module _ (before : Outflow) where
         (part-more before.written now.written (w.front ++ part) left
         (appends-part before.written mid.written now.written w.front part w.wrote some.1)),
   )
-
-  -- all of it
-  pub all_written : (now : Outflow) (text : List ℕ) → IsWritten before now text [] → Wrote before now text
-  all_written now text w =
-      subst (λ (l : List ℕ). Wrote before now l) (sym (w.all ∙ append-nil w.front)) w.wrote
 
   -- the last part
   pub last_written : (mid now : Outflow) (text part : List ℕ) → IsWritten before mid text part

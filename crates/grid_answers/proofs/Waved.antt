@@ -33,9 +33,6 @@ fields-more costs x start at blank now cost a b put is =
     ∙ ap (λ (o : Option Cost). start ++ (fields_to costs x ++ codes " " ++ cost_field o)) is
     ∙ ap (λ (l : List ℕ). start ++ l) (sym (field-next costs x))
 
-pub number-next : (y : ℕ) → numbers_below (y + 1) ≡ numbers_below y ++ y ∷ []
-number-next y = subst (λ (k : ℕ). numbers_below k ≡ numbers_below y ++ y ∷ []) {x = suc y} {y = y + 1} (omega arith) refl
-
 -- one row more is told
 pub told-more : {T E : Type 0} (result : Result T E) (job : Distances) (row : ℕ) (before after : List ℕ)
     → OnOk result (after ≡ before ++ told_line job.waves row)

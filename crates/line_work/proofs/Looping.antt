@@ -171,10 +171,7 @@ module _ {Job Item : Type 0} (Worked : Job → Job → List Item → List (List 
   pub worked-stops : {X : Type 0} (Done : X → Type 0) (now : Outflow) (result : Result X Stop)
       (stop : Stop) → StopsSo (work_stops (Whole first ([] ++ (items ++ []))) before now) stop
       → IsErrAnd result (λ s. s ≡ stop) → Ends Done (work_stops (Whole first items) before now) result
-  worked-stops Done now result stop k m =
-      passed Done (work_stops (Whole first items) before now) _ result stop m
-      (subst (λ (all : List Item). StopsSo (work_stops (Whole first all) before now) stop) (append-nil items) k)
-      (record { refused = λ line k. k; read = λ k. k; write = λ k. k; memory = λ k. k })
+  worked-stops Done now result stop k m = grind (arith, passed, append-nil)
 
   -- memory was refused before the line that closes the output
   pub closing-starved : HaveWorked Worked first job ([] ++ items) before at → closes ≡ true

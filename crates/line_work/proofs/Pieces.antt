@@ -37,12 +37,7 @@ take-all x y =
 
 -- a part of the first bytes is a part of them all
 pub part-more : (a b : Option (List ℕ)) (x y : List ℕ) → AppendsSome a b x → AppendsSome a b (x ++ y)
-part-more a b x y s = (
-  s.0,
-  (let e : length (x ++ y) ≡ length x + length y = length-append x y in let h : s.0 ≤ length x = s.1 in
-      omega arith),
-  subst (λ (l : List ℕ). Appends a b l) (sym (take-append-le s.0 x y s.1)) s.2,
-)
+part-more a b x y s = grind (arith, length-append, take-append-le)
 
 pub appends-part : (a b c : Option (List ℕ)) (x y : List ℕ) → Appends a b x → AppendsSome b c y
     → AppendsSome a c (x ++ y)
@@ -58,28 +53,10 @@ pub rose-since : (first before now : ℕ) → first ≤ before → Rose before n
 rose-since first before now l r = omega arith
 
 module _ (before : Outflow) where
-  -- no line yet
-  pub sent-none : (waiting : List ℕ) → waiting ≡ [] → AreSent before before waiting []
-  sent-none waiting e = record {
-    written = [];
-    others = [];
-    all = refl;
-    wrote = nothing before.written;
-    wait = e;
-    later = omega arith;
-  }
-
   -- all lines were written, and none waits
   pub all-sent : (now : Outflow) (lines : List (List ℕ)) → Wrote before now (concat lines)
       → before.faults ≤ now.faults → AreSent before now [] lines
-  all-sent now lines wrote later = record {
-    written = lines;
-    others = [];
-    all = sym (append-nil lines);
-    wrote = wrote;
-    wait = refl;
-    later = later;
-  }
+  all-sent now lines wrote later = grind (arith, append-nil)
 
   -- more lines wait
   pub sent-more : (now : Outflow) (waiting waiting_now : List ℕ) (lines more : List (List ℕ))

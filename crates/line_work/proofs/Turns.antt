@@ -34,12 +34,7 @@ module _ {S X Y : Type 0} (Stands : S → X → Y → Type 0) (next : S → X �
   -- and as many more as items are left
   pub turns-left : (s : S) (xs others : List X) (ys more : List Y) → AreInTurn Stands next s xs ys
       → AreInTurn Stands next s (xs ++ others) (ys ++ more) → length more ≡ length others
-  turns-left s xs others ys more t all =
-      let a : length ys ≡ length xs = turns-count s xs ys t in
-      let b : length (ys ++ more) ≡ length (xs ++ others) = turns-count s (xs ++ others) (ys ++ more) all in
-      let c : length (ys ++ more) ≡ length ys + length more = length-append ys more in
-      let d : length (xs ++ others) ≡ length xs + length others = length-append xs others in
-      omega arith
+  turns-left s xs others ys more t all = grind (arith, turns-count, length-append)
 
   pub fold-more : (s : S) (xs : List X) (x : X) → fold next s (xs ++ x ∷ []) ≡ next (fold next s xs) x
   fold-more s [] x = refl

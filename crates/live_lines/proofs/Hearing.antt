@@ -1,5 +1,5 @@
 -- Scripts that come in: pieces, their answers, and how they end.
-use Rattle.std.proofs.Common.{◌≡◌, ◌≢◌, refl, sym, ap, ◌∙◌, subst, List, [], ◌++◌, append_assoc, ℕ, length}
+use Rattle.std.proofs.Common.{◌≡◌, ◌≢◌, sym, ap, ◌∙◌, subst, List, [], ◌++◌, append_assoc, ℕ, length, arith}
 use Rattle.std.specs.Prelude.{Option, Some, None, Result, Ok, Err, IsErrAnd}
 use Rattle.std.specs.Option.{option_map}
 use Rattle.std.proofs.lemmas.List.{append-nil}
@@ -92,27 +92,7 @@ known-by : (answer : Result (Unit {0}) ScriptFault) (earlier got all : List Comm
     → (answer ≢ Err NoMemory → Appended earlier all [] got × known.Answers answer f)
     → (answer ≡ Err NoMemory → (got ≡ []) × ((k : List Command) × (all ≡ earlier ++ k)))
     → AreKnown answer earlier got all f
-known-by answer earlier got all f fed starved = by_answer answer refl
-  where
-    fine : answer ≢ Err NoMemory → AreKnown answer earlier got all f
-    fine other =
-        let a = fed other in record {
-          others = [];
-          are = a.0.known ∙ ap (λ (l : List Command). earlier ++ l)
-              (sym a.0.appended ∙ sym (append-nil got));
-          exact = λ other. (refl, a.1);
-        }
-
-    by_answer : (r : Result (Unit {0}) ScriptFault) → answer ≡ r → AreKnown answer earlier got all f
-    by_answer (Ok tt) is = fine (λ no. (let e : Ok tt ≡ Err NoMemory = sym is ∙ no in cc))
-    by_answer (Err (fault.Line n)) is = fine (λ no. (let e : Err (fault.Line n) ≡ Err NoMemory = sym is ∙ no in cc))
-    by_answer (Err (fault.Long n)) is = fine (λ no. (let e : Err (fault.Long n) ≡ Err NoMemory = sym is ∙ no in cc))
-    by_answer (Err fault.NoMemory) is =
-        let s = starved is in record {
-          others = s.1.0;
-          are = s.1.1 ∙ ap (λ (l : List Command). earlier ++ (l ++ s.1.0)) (sym s.0);
-          exact = λ other. absurd (other is);
-        }
+known-by answer earlier got all f fed starved = grind (arith, append-nil)
 
 -- a piece was fed, or memory for it was refused
 pub piece-known : (feeder now : LineFeeder) (text piece : List ℕ) (got : List Command)
@@ -132,10 +112,7 @@ pub end-known : (feeder now : LineFeeder) (text : List ℕ) (got : List Command)
     → (answer ≢ Err NoMemory → (text : List ℕ) → HasTaken feeder text → HasEnded text now [] got answer)
     → (answer ≡ Err NoMemory → (now ≡ feeder) × (got ≡ []))
     → AreKnown answer (commands_so_far text) got (commands_of text) (fault_of text)
-end-known feeder now text got answer h ended starved =
-    known-by answer (commands_so_far text) got _ _
-    (λ other. let f = ended other text h in (f.commands, f.answer))
-    (λ is. ((starved is).1, commands-end text))
+end-known feeder now text got answer h ended starved = grind (arith, known-by, commands-end)
 
 -- so a piece is heard
 pub piece-heard : (old new : Answers) (feeder feeder_now : LineFeeder) (piece : List ℕ)

@@ -2,9 +2,8 @@
 use Rattle.std.proofs.Common.{◌≡◌, refl, sym, ap, ◌∙◌, subst, List, [], ◌++◌, ℕ, ◌+◌, ◌<◌, ◌≤◌, length, length-append, take, min, arith}
 use Rattle.std.specs.Prelude.{Some, None, Result, IsErrAnd, ◌^◌, codes}
 use Rattle.std.specs.Option.{option_map}
-use Rattle.std.specs.Io.KnownBytes.{Consumes, IsAtEnd, Keeps}
+use Rattle.std.specs.Io.KnownBytes.{Consumes, IsAtEnd}
 use Rattle.std.proofs.lemmas.List.{append-nil, take_all, length-take}
-use Rattle.io_edge.specs.Causes.{Rose}
 use Rattle.script_text.specs.declared.feeder.LineFeeder.{LineFeeder}
 use Rattle.script_text.specs.Fed.{HasTaken}
 use Rattle.script_text.specs.Feeding.{commands_so_far, commands_of, fault_so_far, fault_of}
@@ -13,15 +12,15 @@ use Rattle.session_lines.specs.Answering.{HasAnswered}
 use Rattle.call_files.specs.FaultLines.{long_line, script_line}
 use Rattle.call_files.specs.Kinds.{limit_of}
 use Rattle.call_files.specs.declared.kind.Kind.TheVariants as kind
-use Rattle.live_lines.specs.Heard.{AnswerHeard, AnswerTaken, AnswerPending, WroteAll, WroteLines, counted, so_far, at_end}
+use Rattle.live_lines.specs.Heard.{AnswerHeard, AnswerTaken, WroteAll, WroteLines, counted, so_far, at_end}
 use Rattle.live_lines.specs.Hearing.{AllIsHeard, HasWritten, known_stops, hear_stops, HasHeard, IsHearing, Hears}
 use Rattle.io_edge.specs.Told.{Inflow, Outflow}
 use Rattle.line_work.specs.Stops.{StopsSo, Ends}
 use Rattle.session_lines.specs.declared.answers.Answers.{Answers}
 use Rattle.line_work.specs.declared.stop.Stop.{Stop}
 use Rattle.line_work.specs.declared.stop.Stop.TheVariants as stop
-use Rattle.live_lines.proofs.Listening.{consumes-both, consumes-none, consumes-keeps, counted-more, refused-heard, long-heard, all-heard, pending-heard, part-heard, lines-heard, written-heard}
-use Rattle.line_work.proofs.Pieces.{nothing, rose-since}
+use Rattle.live_lines.proofs.Listening.{consumes-both, consumes-none, counted-more, refused-heard, long-heard, all-heard, part-heard, lines-heard, written-heard}
+use Rattle.line_work.proofs.Pieces.{nothing}
 use Rattle.session_lines.proofs.Solving.{answered-none}
 use Rattle.line_work.proofs.Stopping.{passed, no_stops, only_memory}
 
@@ -64,18 +63,6 @@ hearing-begun first feeder input buffer before begun none room = record {
 
 module _ (first job : Answers) (feeder : LineFeeder) (input mid now : Inflow) (buffer : List ℕ)
     (before at : Outflow) (h : IsHearing first job feeder input mid buffer before at) where
-  -- the input failed
-  pub input-failed : Keeps mid.left now.left → Rose mid.faults now.faults
-      → Rose input.faults now.faults
-      × WroteAll (AnswerPending first.session first.show input.left now.left) before at
-  input-failed keeps rose = (
-    rose-since input.faults mid.faults now.faults h.later rose,
-    pending-heard first input.left now.left h.text before at
-        (consumes-keeps input.left mid.left now.left h.text h.consumed keeps) job
-        (let e : length h.text ≡ feeder.taken = h.counted in let f : feeder.taken ≤ 2 ^ 26 = h.few in omega arith)
-        h.heard.clean h.heard.written,
-  )
-
   -- nothing more came in
   module _ (bytes : List ℕ) (read : Consumes mid.left now.left (take 0 bytes)) (ended : IsAtEnd now.left)
       (new : Answers) (after : Outflow) where
@@ -127,9 +114,7 @@ module _ (first job : Answers) (feeder : LineFeeder) (input mid now : Inflow) (b
     consumed = consumes-both input.left mid.left now.left h.text (take count bytes) h.consumed read
 
     same : counted (h.text ++ take count bytes) ≡ h.text ++ piece
-    same = counted-more h.text bytes count room
-        (let e : length h.text ≡ feeder.taken = h.counted in let f : feeder.taken + room ≡ 2 ^ 26 = rest in omega arith)
-        ∙ ap (λ (l : List ℕ). h.text ++ l) (sym is)
+    same = grind (arith, counted-more)
 
     -- its answers stopped
     pub piece-stopped : (new : Answers) (after : Outflow) {X : Type 0} (Done : X → Type 0) (result : Result X Stop)

@@ -3,7 +3,7 @@ use Rattle.std.proofs.Common.{◌≡◌, refl, sym, ap, ◌∙◌, subst, List, 
 use Rattle.std.specs.Prelude.{Option, Some, None, codes}
 use Rattle.std.specs.List.{concat}
 use Rattle.std.specs.Option.{option_map, option_map_or}
-use Rattle.std.specs.Io.KnownBytes.{Consumes, IsAtEnd, Keeps}
+use Rattle.std.specs.Io.KnownBytes.{Consumes, IsAtEnd}
 use Rattle.std.proofs.lemmas.List.{append-nil, take_all, take-append-le, length-take}
 use Rattle.std.proofs.lemmas.List.{take-take}
 use Rattle.std.proofs.Math.Seq.{take-append-add}
@@ -16,7 +16,7 @@ use Rattle.session_lines.specs.Answers.{AreAnswers}
 use Rattle.call_files.specs.FaultLines.{long_line, script_line}
 use Rattle.call_files.specs.Kinds.{limit_of}
 use Rattle.call_files.specs.declared.kind.Kind.TheVariants as kind
-use Rattle.live_lines.specs.Heard.{AnswerHeard, AnswerTaken, AnswerPending, AreWhole, IsHeard, IsTold, WroteAll, WroteFirst, WroteLines, counted, whole, too_long}
+use Rattle.live_lines.specs.Heard.{AnswerHeard, AnswerTaken, AreWhole, IsHeard, IsTold, WroteAll, WroteFirst, WroteLines, counted, whole, too_long}
 use Rattle.live_lines.specs.Hearing.{HasWritten}
 use Rattle.io_edge.specs.Told.{Outflow}
 use Rattle.line_work.specs.Sending.{Wrote, IsPart}
@@ -34,12 +34,6 @@ consumes-both (Some xs) (Some ys) (Some zs) x y f s =
 pub consumes-none : (a : Option (List ℕ)) → Consumes a a []
 consumes-none None = tt
 consumes-none (Some xs) = refl
-
-pub consumes-keeps : (a b c : Option (List ℕ)) (x : List ℕ) → Consumes a b x → Keeps b c → Consumes a c x
-consumes-keeps None b c x f k = tt
-consumes-keeps (Some xs) None c x f k = absurd f
-consumes-keeps (Some xs) (Some ys) None x f k = absurd k
-consumes-keeps (Some xs) (Some ys) (Some zs) x f k = f ∙ ap (λ (l : List ℕ). x ++ l) (sym k)
 
 -- what was taken begins what was left
 told-more : (input left : Option (List ℕ)) (text : List ℕ) → Consumes input left text
@@ -69,14 +63,7 @@ at-most (suc n) zero = inr (omega arith)
 at-most (suc n) (suc m) = elim (at-most n m) [ inl h ↦ inl (omega arith) | inr h ↦ inr (omega arith) ]
 
 take-twice : {X : Type 0} (n m : ℕ) (xs : List X) → take n (take m xs) ≡ take (min m n) xs
-take-twice n m xs = elim (at-most n m) [
-  | inl h ↦ take-take n m xs h ∙ ap (λ k. take k xs) (let e : n ≡ min m n = omega arith in e)
-  | inr h ↦
-      take_all n (take m xs)
-      (let l : length (take m xs) ≡ min m (length xs) = length-take m xs in
-      let short : length (take m xs) ≤ n = omega arith in short)
-      ∙ ap (λ k. take k xs) (let e : m ≡ min m n = omega arith in e)
-]
+take-twice n m xs = grind (arith, at-most, take-take, take_all, length-take)
 
 -- of what was taken these bytes count
 pub counted-more : (text bytes : List ℕ) (count room : ℕ) → length text + room ≡ limit_of kind.Script
@@ -167,28 +154,7 @@ module _ (first : Answers) (input left : Option (List ℕ)) (full : List ℕ) (b
       → length full ≤ limit_of kind.Script → refusal ≡ option_map script_line (fault_of full)
       → HasWritten first new (commands_of full) before now
       → WroteAll (AnswerHeard first.session first.show input refusal) before now
-  all-heard new refusal ended few named w = record {
-    lines = w.lines;
-    stand = record {
-      script = full;
-      told = told-all input left full consumed ended;
-      commands = commands_of full;
-      heard = whole few refl named;
-      answers = w.worked.answers;
-    };
-    wrote = w.wrote;
-  }
-
-  -- no line of it is refused, and the input failed
-  pub pending-heard : (new : Answers) → length full ≤ limit_of kind.Script → fault_so_far full ≡ None
-      → HasWritten first new (commands_so_far full) before now
-      → WroteAll (AnswerPending first.session first.show input left) before now
-  pending-heard new few clean w = record {
-    lines = w.lines;
-    stand =
-        record { taken = full; consumed = consumed; few = few; clean = clean; answers = w.worked.answers };
-    wrote = w.wrote;
-  }
+  all-heard new refusal ended few named w = grind (arith, told-all)
 
   module _ (commands : List Command) (are : AreWhole left full commands) where
     -- a first part of the lines was written

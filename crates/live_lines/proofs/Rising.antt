@@ -1,7 +1,6 @@
 -- The steps that the commands count which come in.
-use Rattle.std.proofs.Common.{◌≡◌, refl, sym, ap, ◌∙◌, subst, List, [], ◌++◌, ℕ, ◌+◌, ◌≤◌, length, length-append, take, min, arith}
+use Rattle.std.proofs.Common.{◌≡◌, sym, ap, ◌∙◌, subst, List, [], ◌++◌, ℕ, ◌+◌, ◌≤◌, length, length-append, take, min, arith}
 use Rattle.std.specs.Prelude.{◌≢◌, ◌^◌, Option, Result, Ok, Err, OnOk}
-use Rattle.std.specs.Option.{option_map}
 use Rattle.std.specs.Io.KnownBytes.{Consumes, IsAtEnd}
 use Rattle.std.proofs.lemmas.List.{append-nil}
 use Rattle.script_text.specs.declared.command.Command.{Command}
@@ -14,8 +13,6 @@ use Rattle.script_text.specs.Feeding as known
 use Rattle.script_text.proofs.Feeding.{begun-known}
 use Rattle.session_lines.specs.Answering.{HaveCounted}
 use Rattle.live_lines.specs.Heard.{RoseHeard}
-use Rattle.call_files.specs.FaultLines.{script_line}
-use Rattle.live_lines.specs.Heard.{whole}
 use Rattle.live_lines.specs.Rising.{IsRising, RiseEnd, RisePiece}
 use Rattle.line_work.specs.Working.{CountsMore}
 use Rattle.session_lines.specs.declared.answers.Answers.{Answers}
@@ -83,35 +80,11 @@ module _ (first job new : Answers) (feeder : LineFeeder) (input mid left : Optio
       → feeder_now.taken ≡ feeder.taken + length piece → RisePiece job new feeder feeder_now piece at now
       → IsRising first new feeder_now input left start now
   rising-more feeder_now count room bytes piece read is fits counted rise =
-      let all : piece ≡ take count bytes
-      = is ∙ ap (λ n. take n bytes) (let e : min count room ≡ count = omega arith in e) in
-      let p = rise first r.text start r.fed r.taken in
-      record {
-        text = r.text ++ piece;
-        consumed = subst (λ (l : List ℕ). Consumes input left (r.text ++ l)) (sym all)
-            (consumes-both input mid left r.text (take count bytes) r.consumed read);
-        counted = length-append r.text piece
-            ∙ (let e : length r.text ≡ feeder.taken = r.counted in
-            let s : length r.text + length piece ≡ feeder_now.taken = omega (arith, counted) in s);
-        fed = p.0;
-        taken = p.1;
-      }
+      grind (arith, consumes-both, length-append)
 
   -- nothing more came in
   pub rising-ended : (bytes : List ℕ) → Consumes mid left (take 0 bytes) → IsAtEnd left → feeder.taken ≤ 2 ^ 26
       → (result : Result ℕ Stop) → OnOk result (RiseEnd job new feeder at now)
       → OnOk result (RoseHeard first.session input start now)
   rising-ended bytes read ended few (Err error) rise = tt
-  rising-ended bytes read ended few (Ok status) rise =
-      let e = rise first r.text start r.fed r.taken in
-      record {
-        script = r.text;
-        told = told-all input left r.text
-            (subst (λ (t : List ℕ). Consumes input left t) (append-nil r.text)
-            (consumes-both input mid left r.text [] r.consumed read)) ended;
-        commands = commands_of r.text;
-        heard = whole (let l : length r.text ≡ feeder.taken = r.counted in
-            let h : length r.text ≤ 2 ^ 26 = omega arith in h) refl
-            (sym (ap (λ (f : Option ScriptFault). option_map script_line f) e.0));
-        rose = e.1.rose;
-      }
+  rising-ended bytes read ended few (Ok status) rise = grind (arith, told-all, append-nil, consumes-both)

@@ -25,9 +25,7 @@ module _ (lines : List (List ℕ)) (row : ℕ) where
       (same_width : width ≡ width_of lines) (inside : row < height) (stands : Stands lines (place_of row) old)
       (gives : GivesNext old line new) where
     judges : fault_at lines (place_of row) ≡ row_fault (row + 5) width (slice_get lines (place_of row))
-    judges =
-        let lt : row < height_of lines = omega arith in
-        rw (lt-ltb row (height_of lines) lt, same_width) refl
+    judges = grind (arith, lt-ltb)
 
     -- a right row is passed
     pub row_passed : row_fault (row + 5) width (bytes_of line) ≡ None → Stands lines (place_of (row + 1)) new

@@ -35,10 +35,7 @@ pieces_of_line (b ∷ line) rest plain =
 without_cr_plain : (line : List ℕ) → list_all is_plain line ≡ true → without_cr line ≡ line
 unfolding is_plain
 without_cr_plain [] plain = refl
-without_cr_plain (b ∷ []) plain =
-    let parts = and_parts (is_plain b) true plain in
-    let none : eqb b 13 ≡ false = grind (arith, nat_tests) in
-    rw none refl
+without_cr_plain (b ∷ []) plain = grind (arith, and_parts)
 without_cr_plain (b ∷ c ∷ line) plain =
     let parts = and_parts (is_plain b) (list_all is_plain (c ∷ line)) plain in
     ap (λ (rest : List ℕ). b ∷ rest) (without_cr_plain (c ∷ line) parts.1)
@@ -48,8 +45,7 @@ lines_of_text : (lines : List (List ℕ)) → AllByRecursion (λ line. list_all 
     → lines_of (text_of lines) ≡ lines
 lines_of_text [] plain = refl
 lines_of_text (line ∷ lines) plain =
-    rw (pieces_of_line line (text_of lines) plain.0, without_cr_plain line plain.0)
-    (ap (λ (rest : List (List ℕ)). line ∷ rest) (lines_of_text lines plain.1))
+    grind (arith, pieces_of_line, without_cr_plain, lines_of_text lines plain.1)
 
 -- terrain and digits end no line
 all_weaker : (p q : ℕ → Bool) → ((byte : ℕ) → p byte ≡ true → q byte ≡ true) → (bytes : List ℕ)
@@ -82,8 +78,7 @@ digit_is byte small = grind (arith, nat_tests)
 
 all_digits : (digits : List ℕ) → AllDigits 10 digits → list_all is_ascii_digit digits ≡ true
 all_digits [] all = refl
-all_digits (d ∷ digits) all =
-    and_from (is_ascii_digit d) (list_all is_ascii_digit digits) (digit_is d all.0) (all_digits digits all.1)
+all_digits (d ∷ digits) all = grind (arith, and_from, digit_is, all_digits digits all.1)
 
 are_digits : (side : ℕ) → side ≤ 4096 → AreDigits side (decimal side)
 are_digits side low =
@@ -97,8 +92,7 @@ are_digits side low =
 
 number_of_digits : (side : ℕ) (digits : List ℕ) → AreDigits side digits → number_of digits ≡ Some side
 unfolding number_of
-number_of_digits side digits are =
-    rw (le-leb 1 (length digits) are.least, le-leb (length digits) 9 are.most, are.decimal, are.value) refl
+number_of_digits side digits are = grind (arith, le-leb)
 
 fields_of_digits : (side : ℕ) (digits : List ℕ) → AreDigits side digits → fields_of digits ≡ digits ∷ []
 fields_of_digits side [] are = absurd (omega (arith, are.least))
@@ -109,19 +103,11 @@ fields_of_digits side (d ∷ digits) are =
 
 height_named : (side : ℕ) (digits : List ℕ) → AreDigits side digits
     → NamesSide (codes "height") side (codes "height " ++ digits)
-height_named side digits are = (
-  digits,
-  ap (λ (fields : List (List ℕ)). codes "height" ∷ fields) (fields_of_digits side digits are),
-  number_of_digits side digits are,
-)
+height_named side digits are = search (arith, fields_of_digits, number_of_digits)
 
 width_named : (side : ℕ) (digits : List ℕ) → AreDigits side digits
     → NamesSide (codes "width") side (codes "width " ++ digits)
-width_named side digits are = (
-  digits,
-  ap (λ (fields : List (List ℕ)). codes "width" ∷ fields) (fields_of_digits side digits are),
-  number_of_digits side digits are,
-)
+width_named side digits are = search (arith, fields_of_digits, number_of_digits)
 
 plain_digits : (side : ℕ) (digits : List ℕ) → AreDigits side digits → list_all is_plain digits ≡ true
 plain_digits side digits are = all_weaker is_ascii_digit is_plain plain_digit digits are.decimal
@@ -224,18 +210,4 @@ small_product height width low narrow = mul-le-mul low narrow
 pub length-canonical : (map : Map) → IsMap map.width map.height map.cells
     → length (canonical_text map) ≤ 2 ^ 26
 unfolding canonical_text
-length-canonical map is =
-    let high = are_digits map.height is.low in
-    let wide = are_digits map.width is.narrow in
-    let rows = text_of (rows_of map.height map.width map.cells) in
-    let after : List ℕ = 10 ∷ (codes "map" ++ 10 ∷ rows) in
-    omega (
-      arith,
-      high.most,
-      wide.most,
-      is.low,
-      small_product map.height map.width is.low is.narrow,
-      length-text_of map.height map.width map.cells is.whole,
-      length-append (decimal map.width) after,
-      length-append (decimal map.height) (10 ∷ (codes "width " ++ (decimal map.width ++ after))),
-    )
+length-canonical map is = grind (arith, are_digits, small_product, length-text_of, length-append)

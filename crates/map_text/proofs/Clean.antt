@@ -1,5 +1,5 @@
 -- Lines that break nothing spell a map.
-use Rattle.std.proofs.Common.{◌≡◌, ℕ, suc, ◌+◌, ◌*◌, ◌<◌, ◌≤◌, List, [], ◌∷◌, length, take, drop, Some, None, refl, sym, ap, subst, ◌∙◌, inl, inr, arith}
+use Rattle.std.proofs.Common.{◌≡◌, ℕ, suc, ◌+◌, ◌*◌, ◌<◌, ◌≤◌, List, [], ◌∷◌, length, take, drop, Some, None, refl, sym, ap, subst, ◌∙◌, inl, arith}
 use Rattle.std.specs.Prelude.{slice_get, codes}
 use Rattle.std.specs.List.{AllByRecursion, concat}
 use Rattle.std.proofs.lemmas.Bool.{cases_lt, lt-ltb, le-ltb}
@@ -36,13 +36,7 @@ module _ (a b c d : List ℕ) (tail : List (List ℕ)) where
 
     -- no row is missing
     pub tall : height_of all_lines ≤ length tail
-    tall =
-        elim (cases_lt (length tail) (height_of all_lines)) [
-          | inl short ↦
-              let long : length tail ≤ length tail = omega arith in
-              absurd (cc (rw (slice_get_past tail (length tail) long) at (row_at (length tail) short long)))
-          | inr enough ↦ enough
-        ]
+    tall = grind (arith, cases_lt, slice_get_past, row_at)
 
     rows_right : AllByRecursion (IsRow (width_of all_lines)) (take (height_of all_lines) tail)
     rows_right = each_right (IsRow (width_of all_lines)) (take (height_of all_lines) tail) (λ k line at.
@@ -140,8 +134,4 @@ past_all (a ∷ b ∷ c ∷ d ∷ tail) place fault past clean broken = absurd (
 -- the first broken line is one of the lines, or the one after the last
 pub broken_inside : (lines : List (List ℕ)) (place : ℕ) (fault : MapFault) → CleanBefore lines place
     → fault_at lines place ≡ Some fault → place ≤ length lines
-broken_inside lines place fault before broken =
-    elim (cases_lt (length lines) place) [
-      | inl past ↦ absurd (past_all lines place fault past (λ k below. before k (omega arith)) broken)
-      | inr inside ↦ inside
-    ]
+broken_inside lines place fault before broken = grind (arith, cases_lt, past_all)

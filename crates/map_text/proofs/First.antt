@@ -10,8 +10,7 @@ pub first_fault_none : (lines : List (List ℕ)) (place count : ℕ) → CleanBe
     → first_fault lines place count ≡ None
 first_fault_none lines place zero clean = refl
 first_fault_none lines place (suc count) clean =
-    rw (clean place (omega arith)) (first_fault_none lines (place + 1) count
-    (λ k below. clean k (omega arith)))
+    grind (arith, first_fault_none lines (place + 1) count (λ k below. clean k (omega arith)))
 
 -- where a place has one and none before it does, its fault is the first
 pub first_fault_found : (lines : List (List ℕ)) (place count at : ℕ) (fault : MapFault)

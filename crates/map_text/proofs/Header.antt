@@ -1,5 +1,5 @@
 -- The four lines of the header.
-use Rattle.std.proofs.Common.{◌≡◌, ℕ, suc, true, false, List, Option, Some, None, refl, sym, ap, ◌∙◌, arith}
+use Rattle.std.proofs.Common.{◌≡◌, ℕ, suc, true, false, List, Option, Some, None, sym, ap, arith}
 use Rattle.std.specs.Prelude.{slice_get, unwrap_or}
 use Rattle.text_line.specs.declared.lines.Line.{Line}
 use Rattle.text_line.specs.Left.{Left, GivesNext}
@@ -11,8 +11,7 @@ use Rattle.map_text.proofs.Search.{line_taken, judged_right, judged_wrong}
 
 -- before the first line nothing is broken
 pub stands_first : (left : Left) → left.number ≡ 1 → Stands left.lines 0 left
-stands_first left number =
-    record { clean = λ k below. absurd (omega arith); rest = refl; number = omega arith }
+stands_first left number = grind (arith)
 
 module _ (lines : List (List ℕ)) (place : ℕ) (old new : Left) (line : Option Line)
     (stands : Stands lines place old) (gives : GivesNext old line new) where
@@ -40,6 +39,4 @@ module _ (lines : List (List ℕ)) (place : ℕ) (old new : Left) (line : Option
   -- what the line names
   pub side_named : (word : List ℕ) (side : ℕ) → side_on word (bytes_of line) ≡ Some side
       → side ≡ unwrap_or (side_on word (slice_get lines place)) 0
-  side_named word side named = sym (ap (λ (there : Option (List ℕ)). unwrap_or (side_on word there) 0)
-      (sym (line_taken lines place old new line stands gives))
-      ∙ ap (λ (found : Option ℕ). unwrap_or found 0) named)
+  side_named word side named = grind (arith, line_taken)

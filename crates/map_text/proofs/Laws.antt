@@ -25,10 +25,7 @@ map_of_broken text fault first =
 -- one that breaks it nowhere is read as the map on its lines
 pub map_of_clean : (text : List ℕ) → Clean (lines_of text) → map_of text ≡ Ok (map_on (lines_of text))
 unfolding map_of
-map_of_clean text clean =
-    let lines = lines_of text in
-    ap (λ (found : Option MapFault). reading found (map_on lines))
-    (first_fault_none lines 0 (length lines + 1) (λ k below. clean k (omega arith)))
+map_of_clean text clean = grind (arith, first_fault_none)
 
 -- what is read as a map spells it
 map_of_ok : (text : List ℕ) (map : Map) → map_of text ≡ Ok map → Spells text map
@@ -43,10 +40,7 @@ map_of_ok text map read =
 map_of_err : (text : List ℕ) (fault : MapFault) → map_of text ≡ Err fault
     → BreaksFirst (lines_of text) fault
 unfolding map_of
-map_of_err text fault read =
-    let lines = lines_of text in
-    first_fault_breaks lines 0 (length lines + 1) fault (λ k below. absurd (omega arith))
-    (reading_err (first_fault lines 0 (length lines + 1)) (map_on lines) fault read)
+map_of_err text fault read = grind (arith, first_fault_breaks, reading_err)
 
 -- what spells a map is read as it
 map_of_spelled : (text : List ℕ) (map : Map) → Spells text map → map_of text ≡ Ok map
@@ -58,12 +52,7 @@ map_of_spelled text map s =
     ∙ ap (λ (on : Map). let read : Result Map MapFault = Ok on in read) (spelled_map text map s)
 
 pub map_read : (text : List ℕ) → Reads (Spells text) (BreaksFirst (lines_of text)) (map_of text)
-map_read text = record {
-  found = map_of_ok text;
-  only = map_of_spelled text;
-  first = map_of_err text;
-  broken = map_of_broken text;
-}
+map_read text = search (arith, map_of_ok, map_of_spelled, map_of_err, map_of_broken)
 
 -- a text that breaks the grammar is answered by its first fault
 pub broken_tells : (text : List ℕ) (lines : List (List ℕ)) (fault : MapFault) → lines ≡ lines_of text

@@ -1,5 +1,5 @@
 -- Rows that break nothing, and their bytes in order.
-use Rattle.std.proofs.Common.{◌≡◌, ℕ, zero, suc, ◌+◌, ◌*◌, ◌<◌, ◌≤◌, Bool, true, false, not, eqb, List, [], ◌∷◌, ◌++◌, length, get_or, take, drop, Option, Some, None, refl, sym, ap, subst, ◌∙◌, inl, inr, arith}
+use Rattle.std.proofs.Common.{◌≡◌, ℕ, zero, suc, ◌+◌, ◌*◌, ◌<◌, ◌≤◌, Bool, true, false, not, eqb, List, [], ◌∷◌, ◌++◌, length, get_or, take, drop, Option, Some, None, refl, ap, subst, inl, inr, arith}
 use Rattle.std.specs.Prelude.{slice_get, position}
 use Rattle.std.specs.List.{list_all, list_any, AllByRecursion, concat}
 use Rattle.std.proofs.lemmas.Bool.{cases_Bool, and_from, eq-eqb, eqb-true, le-ltb, not-false, not_from_true, or_parts}
@@ -15,9 +15,6 @@ use Rattle.map_text.specs.Faults.{row_fault, byte_fault, after_fault}
 pub record IsRow (width : ℕ) (row : List ℕ) : Type 0 where
   pub long : length row ≡ width
   pub terrain : list_all is_terrain row ≡ true
-
-is_strange : ℕ → Bool
-is_strange byte = not (is_terrain byte)
 
 no_stranger : (place : Option ℕ) (number : ℕ) → byte_fault number place ≡ None → place ≡ None
 no_stranger None number none = refl
@@ -88,21 +85,18 @@ right_at P (first ∷ lines) (suc k) line all at = right_at P lines k line all.1
 pub terrain_of_rows : (width : ℕ) (rows : List (List ℕ)) → AllByRecursion (IsRow width) rows
     → list_all is_terrain (concat rows) ≡ true
 terrain_of_rows width [] all = refl
-terrain_of_rows width (row ∷ rows) all = list_all-append is_terrain row (concat rows)
-    ∙ and_from (list_all is_terrain row) (list_all is_terrain (concat rows)) all.0.terrain
-    (terrain_of_rows width rows all.1)
+terrain_of_rows width (row ∷ rows) all =
+    grind (arith, list_all-append, and_from, terrain_of_rows width rows all.1)
 
 pub length_of_rows : (width : ℕ) (rows : List (List ℕ)) → AllByRecursion (IsRow width) rows
     → length (concat rows) ≡ length rows * width
 length_of_rows width [] all = omega arith
-length_of_rows width (row ∷ rows) all =
-    grind (arith, length-append row (concat rows), length_of_rows width rows all.1, all.0.long)
+length_of_rows width (row ∷ rows) all = grind (arith, length-append, length_of_rows width rows all.1)
 
 -- one row more
 pub concat_push : (rows : List (List ℕ)) (row : List ℕ) → concat (rows ++ row ∷ []) ≡ concat rows ++ row
 concat_push [] row = append-nil row
-concat_push (first ∷ rows) row = ap (λ (bytes : List ℕ). first ++ bytes) (concat_push rows row)
-    ∙ sym (append_assoc first (concat rows) row)
+concat_push (first ∷ rows) row = grind (arith, append_assoc, concat_push rows row)
 
 -- the line at a place of a part of the lines
 pub slice_get-take : (n k : ℕ) (lines : List (List ℕ)) (line : List ℕ)
@@ -110,13 +104,9 @@ pub slice_get-take : (n k : ℕ) (lines : List (List ℕ)) (line : List ℕ)
 slice_get-take zero k lines line at = absurd cc
 slice_get-take (suc n) k [] line at = absurd cc
 slice_get-take (suc n) zero (first ∷ lines) line at = (omega arith, at)
-slice_get-take (suc n) (suc k) (first ∷ lines) line at =
-    let later = slice_get-take n k lines line at in
-    (omega (arith, later.0), later.1)
+slice_get-take (suc n) (suc k) (first ∷ lines) line at = grind (arith, slice_get-take n k lines line at)
 
 pub slice_get-drop : (n k : ℕ) (lines : List (List ℕ)) → slice_get (drop n lines) k ≡ slice_get lines (n + k)
 slice_get-drop zero k lines = ap (slice_get lines) (omega arith)
 slice_get-drop (suc n) k [] = refl
-slice_get-drop (suc n) k (first ∷ lines) =
-    let next : suc n + k ≡ suc (n + k) = omega arith in
-    rw next (slice_get-drop n k lines)
+slice_get-drop (suc n) k (first ∷ lines) = grind (arith, slice_get-drop n k lines)

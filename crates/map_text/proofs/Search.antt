@@ -1,5 +1,5 @@
 -- From one line to the next.
-use Rattle.std.proofs.Common.{◌≡◌, ℕ, zero, suc, ◌+◌, List, [], ◌∷◌, drop, Option, Some, None, refl, sym, ap, ◌∙◌, inl, inr, arith}
+use Rattle.std.proofs.Common.{◌≡◌, ℕ, zero, suc, ◌+◌, List, [], ◌∷◌, drop, Option, Some, None, refl, sym, ap, ◌∙◌, inl, arith}
 use Rattle.std.specs.Prelude.{slice_get}
 use Rattle.std.proofs.lemmas.Bool.{cases_eq}
 use Rattle.std.proofs.lemmas.List.{drop-drop}
@@ -22,16 +22,11 @@ first_taken old new (Some line) gives = rw gives.0 refl
 -- the line that a call of `next` gives is that of the place
 pub line_taken : (lines : List (List ℕ)) (place : ℕ) (old new : Left) (line : Option Line)
     → Stands lines place old → GivesNext old line new → bytes_of line ≡ slice_get lines place
-line_taken lines place old new line stands gives = first_taken old new line gives
-    ∙ ap (λ (left : List (List ℕ)). slice_get left 0) stands.rest ∙ sym (slice_get_first lines place)
+line_taken lines place old new line stands gives = grind (arith, first_taken, slice_get_first)
 
 pub clean_more : (lines : List (List ℕ)) (place : ℕ) → CleanBefore lines place → fault_at lines place ≡ None
     → CleanBefore lines (suc place)
-clean_more lines place before here k below =
-    elim (cases_eq k place) [
-      | inl same ↦ ap (fault_at lines) same ∙ here
-      | inr other ↦ before k (omega arith)
-    ]
+clean_more lines place before here k below = grind (arith, cases_eq)
 
 -- a line that breaks nothing is passed
 pub stands_more : (lines : List (List ℕ)) (place : ℕ) (old new : Left) (line : Line) → Stands lines place old
@@ -59,8 +54,4 @@ module _ (lines : List (List ℕ)) (place : ℕ) (judge : Option (List ℕ) → 
   -- one that the judge finds wrong is the first that breaks the grammar
   pub judged_wrong : (old new : Left) (line : Option Line) (fault : MapFault) → Stands lines place old
       → GivesNext old line new → judge (bytes_of line) ≡ Some fault → BreaksFirst lines fault
-  judged_wrong old new line fault stands gives wrong = record {
-    place = place;
-    breaks = judges ∙ ap judge (sym (line_taken lines place old new line stands gives)) ∙ wrong;
-    before = stands.clean;
-  }
+  judged_wrong old new line fault stands gives wrong = grind (arith, line_taken)

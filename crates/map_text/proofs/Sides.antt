@@ -1,5 +1,5 @@
 -- What a line of the header says.
-use Rattle.std.proofs.Common.{◌≡◌, ℕ, ◌≤◌, Bool, true, false, ◌&&◌, cond, leb, List, [], ◌∷◌, Option, Some, None, refl, ap, inl, inr}
+use Rattle.std.proofs.Common.{◌≡◌, ℕ, ◌≤◌, Bool, true, false, ◌&&◌, cond, leb, List, [], ◌∷◌, Option, Some, None, refl, ap, inl, inr, arith}
 use Rattle.std.specs.Prelude.{unwrap_or}
 use Rattle.std.specs.Str.{bytes_eq}
 use Rattle.std.specs.Cmp.Lexicographic.{pointwise}
@@ -11,12 +11,7 @@ use Rattle.map_text.specs.Faults.{words_fault, side_in, side_fault}
 
 -- a line with these words has these fields
 pub same_words : (fields words : List (List ℕ)) → pointwise bytes_eq fields words ≡ true → fields ≡ words
-same_words fields words same =
-    (slice_eq-Decides bytes_eq-Decides fields words (pointwise bytes_eq fields words) refl).0 same
-
-pub words_same : (words : List (List ℕ)) → pointwise bytes_eq words words ≡ true
-words_same words =
-    (slice_eq-Decides bytes_eq-Decides words words (pointwise bytes_eq words words) refl).1 refl
+same_words fields words same = grind (arith, slice_eq-Decides, bytes_eq-Decides)
 
 -- a header line that breaks nothing has its words
 pub words_right : (number : ℕ) (right : Bool) → words_fault number right ≡ None → right ≡ true
@@ -69,5 +64,4 @@ pub side_named : (word digits : List ℕ) (side : ℕ) → number_of digits ≡ 
 side_named word digits side value = rw ((bytes_eq-Decides word word).1 refl) value
 
 pub side_fault_none : (number side : ℕ) → 1 ≤ side → side ≤ 4096 → side_fault number (Some side) ≡ None
-side_fault_none number side least most =
-    rw (and_from (leb 1 side) (leb side 4096) (le-leb 1 side least) (le-leb side 4096 most)) refl
+side_fault_none number side least most = grind (arith, and_from, le-leb)

@@ -1,5 +1,5 @@
 -- The lines of a text that spells a map break nothing.
-use Rattle.std.proofs.Common.{◌≡◌, ℕ, zero, suc, ◌+◌, ◌-◌, ◌<◌, ◌≤◌, true, List, [], ◌∷◌, ◌++◌, length, get_or, take, Option, Some, None, refl, sym, ap, ◌∙◌, inl, inr, arith}
+use Rattle.std.proofs.Common.{◌≡◌, ℕ, zero, suc, ◌+◌, ◌-◌, ◌<◌, ◌≤◌, true, List, [], ◌∷◌, ◌++◌, length, get_or, Option, Some, None, refl, sym, ap, ◌∙◌, inl, arith}
 use Rattle.std.specs.Prelude.{slice_get, codes, unwrap_or}
 use Rattle.std.specs.List.{list_all, AllByRecursion, concat}
 use Rattle.std.proofs.lemmas.Bool.{cases_lt, lt-ltb, le-ltb, and_parts}
@@ -43,23 +43,17 @@ slice_get-append_right k (suc n) (row ∷ rows) others place =
 -- maps with the same sides and cells are one
 pub same_map : (map : Map) (width height : ℕ) (cells : List ℕ) → width ≡ map.width → height ≡ map.height
     → cells ≡ map.cells → record { width = width; height = height; cells = cells } ≡ map
-same_map map width height cells w h c =
-    ap (λ (n : ℕ). let m : Map = record { width = n; height = height; cells = cells } in m) w
-    ∙ ap (λ (n : ℕ). let m : Map = record { width = map.width; height = n; cells = cells } in m) h
-    ∙ ap (λ (bytes : List ℕ). let m : Map = record
-    { width = map.width; height = map.height; cells = bytes } in m) c
+same_map map width height cells w h c = grind (arith)
 
 module _ (text : List ℕ) (map : Map) (s : Spells text map) where
   abbrev spelled_lines : List (List ℕ)
   spelled_lines = s.first ∷ s.second ∷ s.third ∷ s.fourth ∷ (s.rows ++ s.others)
 
   height_named : side_in (codes "height") (fields_of s.second) ≡ Some map.height
-  height_named =
-      ap (side_in (codes "height")) s.height.1 ∙ side_named (codes "height") s.height.0 map.height s.height.2
+  height_named = grind (arith, side_named)
 
   width_named : side_in (codes "width") (fields_of s.third) ≡ Some map.width
-  width_named =
-      ap (side_in (codes "width")) s.width.1 ∙ side_named (codes "width") s.width.0 map.width s.width.2
+  width_named = grind (arith, side_named)
 
   height_is : height_of spelled_lines ≡ map.height
   height_is = ap (λ (side : Option ℕ). unwrap_or side 0) height_named
@@ -92,16 +86,7 @@ module _ (text : List ℕ) (map : Map) (s : Spells text map) where
   spelled_clean (suc zero) = rw height_named (side_fault_none 2 map.height s.is_map.high s.is_map.low)
   spelled_clean (suc (suc zero)) = rw width_named (side_fault_none 3 map.width s.is_map.wide s.is_map.narrow)
   spelled_clean (suc (suc (suc zero))) = rw s.begins refl
-  spelled_clean (suc (suc (suc (suc row)))) =
-      elim (cases_lt row (height_of spelled_lines)) [
-        | inl inside ↦ rw (lt-ltb row (height_of spelled_lines) inside) (row_clean row inside)
-        | inr after ↦ rw (le-ltb row (height_of spelled_lines) after) (after_clean row after)
-      ]
+  spelled_clean (suc (suc (suc (suc row)))) = grind (arith, cases_lt, lt-ltb, row_clean, le-ltb, after_clean)
 
   pub spelled_map : map_on spelled_lines ≡ map
-  spelled_map =
-      let rows : take (height_of spelled_lines) (s.rows ++ s.others) ≡ s.rows =
-      take_at s.rows s.others (height_of spelled_lines) (s.count ∙ sym height_is) in
-      same_map map (width_of spelled_lines) (height_of spelled_lines)
-      (concat (take (height_of spelled_lines) (s.rows ++ s.others))) width_is height_is
-      (ap concat rows ∙ s.cells)
+  spelled_map = grind (arith, take_at, height_is, same_map, width_is)

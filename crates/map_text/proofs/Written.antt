@@ -1,10 +1,7 @@
 -- Lines that are written, one after another.
-use Rattle.std.proofs.Common.{◌≡◌, ℕ, suc, ◌+◌, ◌-◌, ◌*◌, ◌<◌, ◌≤◌, List, [], ◌∷◌, ◌++◌, length, take, drop, refl, ap, sym, ◌∙◌, arith}
-use Rattle.std.proofs.lemmas.List.{append_assoc, append-nil, length-drop}
+use Rattle.std.proofs.Common.{◌≡◌, ℕ, suc, ◌+◌, ◌-◌, ◌*◌, ◌<◌, List, [], ◌∷◌, ◌++◌, length, take, drop, ap, sym, ◌∙◌, arith}
+use Rattle.std.proofs.lemmas.List.{append_assoc, length-drop}
 use Rattle.map_text.specs.Writing.{text_of, rows_of, Begins}
-
-pub begins_itself : (text : List ℕ) → Begins text text
-begins_itself text = ([], sym (append-nil text))
 
 pub begins_more : (old new added : List ℕ) → Begins old new → Begins old (new ++ added)
 begins_more old new added begins =
@@ -25,20 +22,8 @@ one_less : (n width long : ℕ) → long ≡ suc n * width → long - width ≡ 
 one_less n width long is = omega arith
 
 module _ (old : List ℕ) (height width : ℕ) (cells : List ℕ) where
-  pub none_written : length cells ≡ height * width → AreWritten old height width cells cells 0 old
-  none_written long =
-      let all : height - 0 ≡ height = omega arith in
-      record { long = rw all long; text = rw all refl; kept = begins_itself old }
-
   module _ (left : List ℕ) (done : ℕ) (new : List ℕ)
       (written : AreWritten old height width cells left done new) where
-    pub room_for_row : done < height → width ≤ length left
-    room_for_row more =
-        let some : height - done ≡ suc (height - (done + 1)) = omega arith in
-        let long : length left ≡ suc (height - (done + 1)) * width =
-        written.long ∙ ap (λ (n : ℕ). n * width) some in
-        omega arith
-
     pub row_written : done < height
         → AreWritten old height width cells (drop width left) (done + 1) ((new ++ take width left) ++ 10 ∷ [])
     row_written more =
@@ -52,8 +37,3 @@ module _ (old : List ℕ) (height width : ℕ) (cells : List ℕ) where
           kept = begins_more old (new ++ take width left) (10 ∷ [])
               (begins_more old new (take width left) written.kept);
         }
-
-    pub all_written : height ≤ done → new ≡ old ++ text_of (rows_of height width cells)
-    all_written end =
-        let none : height - done ≡ 0 = omega arith in
-        sym (append-nil new) ∙ ap (λ (n : ℕ). new ++ text_of (rows_of n width left)) (sym none) ∙ written.text

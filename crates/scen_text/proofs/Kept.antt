@@ -1,5 +1,5 @@
 -- Lengths that texts spell have few digits.
-use Rattle.std.proofs.Common.{◌≡◌, ℕ, zero, suc, ◌+◌, ◌≤◌, true, ◌&&◌, List, [], ◌∷◌, length, take, drop, Option, Some, None, Result, Ok, Err, refl, subst, sym, inl, inr, arith}
+use Rattle.std.proofs.Common.{◌≡◌, ℕ, zero, suc, ◌+◌, true, ◌&&◌, List, [], ◌∷◌, length, take, drop, Option, Some, None, Result, Ok, Err, refl, subst, sym, inl, inr, arith}
 use Rattle.std.specs.Prelude.{slice_get, position, IfOk, Vec}
 use Rattle.std.specs.List.{list_all}
 use Rattle.std.specs.Char.{is_ascii_digit}
@@ -19,11 +19,7 @@ use Rattle.scen_text.proofs.Values.{joined-lt}
 
 decimal_kept : (whole decimals : List ℕ) → is_number 8 whole ≡ true
     → list_all is_ascii_digit decimals ≡ true → IsKept (decimal_of whole decimals)
-decimal_kept whole decimals front back =
-    let number = short_number 8 whole front in
-    let few : length (take 10 decimals) ≤ 10 = omega (arith, length-take 10 decimals) in
-    let kept = digits_part decimals 10 back in
-    record { digits = joined-lt whole (take 10 decimals) number.1 number.0 kept few; places = few }
+decimal_kept whole decimals front back = grind (arith, short_number, length-take, digits_part, joined-lt)
 
 parted_kept : (word : List ℕ) (point : Option ℕ) (listed : Decimal)
     → length_parted word point ≡ Some listed → IsKept listed
@@ -59,9 +55,7 @@ none_kept (suc k) entry found = absurd cc
 
 one_more_kept : (first : Entry) (later : List Entry) → IsKept first.length → AllKept later
     → (k : ℕ) (entry : Entry) → slice_get (first ∷ later) k ≡ Some entry → IsKept entry.length
-one_more_kept first later here there zero entry found =
-    let same : first ≡ entry = cc in
-    subst (λ (is : Entry). IsKept is.length) same here
+one_more_kept first later here there zero entry found = grind arith
 one_more_kept first later here there (suc k) entry found = there k entry found
 
 spelled_kept : (lines : List LineAt) (entries : List Entry) → SpellInOrder IsBlank IsEntry lines entries

@@ -1,8 +1,7 @@
 -- What a text is read as, what it spells and how it breaks the grammar.
-use Rattle.std.proofs.Common.{◌≡◌, ℕ, zero, suc, ◌<◌, ◌≤◌, true, false, ◌||◌, cond, ltb, List, [], ◌∷◌, ◌++◌, length, Option, Some, None, Ok, Err, refl, ap, subst, ◌∙◌, ◌⊎◌, inl, inr, arith}
+use Rattle.std.proofs.Common.{◌≡◌, ℕ, zero, suc, ◌<◌, ◌≤◌, true, false, cond, ltb, List, [], ◌∷◌, ◌++◌, length, Option, Some, None, Ok, Err, refl, ap, subst, ◌∙◌, ◌⊎◌, inl, inr, arith}
 use Rattle.std.specs.Prelude.{codes, unwrap_or, if◌then◌else◌}
 use Rattle.std.specs.Option.{option_or, is_some}
-use Rattle.std.specs.Str.{bytes_eq}
 use Rattle.std.proofs.lemmas.Bool.{cases_Bool, and_parts, ltb-false}
 use Rattle.std.proofs.lemmas.Slice.Eq.{bytes_eq-Decides}
 use Rattle.text_line.specs.Fields.{fields_of}
@@ -12,12 +11,11 @@ use Rattle.text_line.proofs.Reading.{Reads, Judges, lines_read}
 use Rattle.text_line.specs.Numbers.{number_of}
 use Rattle.text_line.specs.Places.{Placed, LineAt, fields_from, lines_at}
 use Rattle.scen_text.specs.declared.fault.ScenFault.{ScenFault}
-use Rattle.scen_text.specs.declared.fault.ScenFault.TheVariants.{Version, Fields, Number, Length}
+use Rattle.scen_text.specs.declared.fault.ScenFault.TheVariants.{Version, Fields, Number}
 use Rattle.scen_text.specs.declared.entry.Entry.{Entry}
-use Rattle.scen_text.specs.Lengths.{length_of}
 use Rattle.scen_text.specs.Words.{Words, words_of}
 use Rattle.scen_text.specs.Spelling.{HasWords, IsEntry, IsBlank, IsVersion, SpellsLines, Spells}
-use Rattle.scen_text.specs.Faults.{names_version, number_fault, length_fault, words_fault, fields_read, line_read, fault_at, entry_in, first_of, all_read, scen_of, BreaksFirst}
+use Rattle.scen_text.specs.Faults.{names_version, number_fault, words_fault, fields_read, line_read, fault_at, entry_in, first_of, all_read, scen_of, BreaksFirst}
 use Rattle.scen_text.proofs.Split.{words_there}
 use Rattle.scen_text.proofs.Lines.{line_words}
 
@@ -28,16 +26,7 @@ or_parts (Some fault) b none = absurd cc
 
 all_none : (a b c d e f g h : Option ScenFault) → first_of (a ∷ b ∷ c ∷ d ∷ e ∷ f ∷ g ∷ h ∷ []) ≡ None
     → (a ≡ None) × (b ≡ None) × (c ≡ None) × (d ≡ None) × (e ≡ None) × (f ≡ None) × (g ≡ None) × (h ≡ None)
-all_none a b c d e f g h none =
-    let first = or_parts a (first_of (b ∷ c ∷ d ∷ e ∷ f ∷ g ∷ h ∷ [])) none in
-    let second = or_parts b (first_of (c ∷ d ∷ e ∷ f ∷ g ∷ h ∷ [])) first.1 in
-    let third = or_parts c (first_of (d ∷ e ∷ f ∷ g ∷ h ∷ [])) second.1 in
-    let fourth = or_parts d (first_of (e ∷ f ∷ g ∷ h ∷ [])) third.1 in
-    let fifth = or_parts e (first_of (f ∷ g ∷ h ∷ [])) fourth.1 in
-    let sixth = or_parts f (first_of (g ∷ h ∷ [])) fifth.1 in
-    let seventh = or_parts g (first_of (h ∷ [])) sixth.1 in
-    let eighth = or_parts h None seventh.1 in
-    (first.0, second.0, third.0, fourth.0, fifth.0, sixth.0, seventh.0, eighth.0)
+all_none a b c d e f g h none = grind (arith, or_parts)
 
 -- a word that breaks nothing spells something
 spells_some : (A : Type 0) (word : Option A) (fault : ScenFault) (other : A)
@@ -52,27 +41,7 @@ number_right line word none = spells_some ℕ (number_of word) (Number line) 0 n
 -- words that break nothing spell an entry
 words_spell : (line : LineAt) (words : Words) → HasWords (fields_from line.place line.bytes) words
     → words_fault line.number words ≡ None → IsEntry line (entry_in line.number words)
-words_spell line words has none =
-    let n = line.number in
-    let right = all_none (number_fault n words.bucket.bytes) (number_fault n words.w.bytes)
-    (number_fault n words.h.bytes) (number_fault n words.sx.bytes) (number_fault n words.sy.bytes)
-    (number_fault n words.gx.bytes) (number_fault n words.gy.bytes)
-    (length_fault n words.listed.bytes) none in
-    record {
-      words = words;
-      has = has;
-      number = refl;
-      bucket = number_right n words.bucket.bytes right.0;
-      name = refl;
-      w = number_right n words.w.bytes right.1;
-      h = number_right n words.h.bytes right.2;
-      sx = number_right n words.sx.bytes right.3;
-      sy = number_right n words.sy.bytes right.4;
-      gx = number_right n words.gx.bytes right.5;
-      gy = number_right n words.gy.bytes right.6;
-      listed =
-          spells_some _ (length_of words.listed.bytes) (Length n) (record { digits = 0; places = 0 }) right.7;
-    }
+words_spell line words has none = grind (arith, all_none, number_right, spells_some)
 
 -- what a line after the first is read as, by its fields
 fields_blank : (line : ℕ) (fields : List Placed) → fields_read line fields ≡ Ok None → fields ≡ []
@@ -133,27 +102,11 @@ version_is : (fields : List (List ℕ)) → names_version fields ≡ true
     → (fields ≡ codes "version" ∷ codes "1" ∷ []) ⊎ (fields ≡ codes "version" ∷ codes "1.0" ∷ [])
 version_is [] right = absurd cc
 version_is (word ∷ []) right = absurd cc
-version_is (word ∷ version ∷ []) right =
-    let parts = and_parts (bytes_eq word (codes "version"))
-    (bytes_eq version (codes "1") || bytes_eq version (codes "1.0")) right in
-    let first : word ≡ codes "version" = (bytes_eq-Decides word (codes "version")).0 parts.0 in
-    elim (cases_Bool (bytes_eq version (codes "1"))) [
-      | inl one ↦
-          let second : version ≡ codes "1" = (bytes_eq-Decides version (codes "1")).0 one in
-          inl (rw (first, second) refl)
-      | inr other ↦
-          let second : version ≡ codes "1.0" =
-          (bytes_eq-Decides version (codes "1.0")).0 (rw other at parts.1) in
-          inr (rw (first, second) refl)
-    ]
+version_is (word ∷ version ∷ []) right = grind (arith, and_parts, bytes_eq-Decides, cases_Bool)
 version_is (word ∷ version ∷ more ∷ fields) right = absurd cc
 
 version_named : (line : List ℕ) → IsVersion line → names_version (fields_of line) ≡ true
-version_named line is =
-    elim is [
-      | inl one ↦ ap names_version one
-      | inr other ↦ ap names_version other
-    ]
+version_named line is = grind arith
 
 -- all lines are read as what they spell, or as their first fault
 no_line : {fault : ScenFault} (place : ℕ) → fault_at [] place ≡ Some fault → Version 1 ≡ fault

@@ -1,8 +1,8 @@
 -- What the lines of a text are read as, one after another.
-use Rattle.std.proofs.Common.{◌≡◌, ℕ, true, false, List, [], ◌∷◌, length, drop, Option, Some, None, Ok, Err, refl, sym, ap, ◌∙◌}
+use Rattle.std.proofs.Common.{◌≡◌, ℕ, true, false, List, [], ◌∷◌, length, drop, Option, Some, None, Ok, Err, refl, sym, ap, ◌∙◌, arith}
 use Rattle.std.specs.Prelude.{slice_get}
 use Rattle.std.proofs.lemmas.Bool.{le-ltb}
-use Rattle.text_line.specs.Reading.{reading, read_lines, read_behind}
+use Rattle.text_line.specs.Reading.{reading, read_behind}
 use Rattle.text_line.specs.declared.places.PlacedLine.{PlacedLine}
 use Rattle.text_line.specs.Places.{Placed, LineAt, fields_from, lines_at, GivesLine}
 use Rattle.scen_text.specs.declared.fault.ScenFault.{ScenFault}
@@ -10,7 +10,7 @@ use Rattle.scen_text.specs.declared.fault.ScenFault.TheVariants.{Version}
 use Rattle.scen_text.specs.declared.entry.Entry.{Entry}
 use Rattle.scen_text.specs.Words.{Words}
 use Rattle.scen_text.specs.Spelling.{HasWords}
-use Rattle.scen_text.specs.Faults.{has_version, words_fault, entry_in, fields_read, line_read, all_read, scen_of}
+use Rattle.scen_text.specs.Faults.{has_version, words_fault, entry_in, fields_read, line_read, scen_of}
 use Rattle.scen_text.specs.Progress.{line_given}
 use Rattle.scen_text.proofs.Split.{words_are, nine_fields}
 
@@ -48,13 +48,9 @@ module _ (text : List ℕ) (old new : List LineAt) (line : Option PlacedLine) (a
   -- it names the version, and the others are left
   pub version_right : true ≡ has_version (line_given line) → scen_of text ≡ read_behind line_read [] new
   unfolding scen_of
-  version_right right =
-      let given = first_given old new line gives in
-      ap all_read (sym all) ∙ rw (given.0, ← right) (ap (read_lines line_read) given.1)
+  version_right right = grind (arith, first_given)
 
   -- it does not
   pub version_wrong : false ≡ has_version (line_given line) → scen_of text ≡ Err (Version 1)
   unfolding scen_of
-  version_wrong wrong =
-      let given = first_given old new line gives in
-      ap all_read (sym all) ∙ rw (given.0, ← wrong) refl
+  version_wrong wrong = grind (arith, first_given)

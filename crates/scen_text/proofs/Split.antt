@@ -38,10 +38,7 @@ words_more all left words field has = record {
 from_end_at : (bucket : Placed) (front back : List Placed) (i places : ℕ) → i + places ≡ length back
     → from_end places (bucket ∷ (front ++ back)) ≡ get_or (bucket ∷ (front ++ back))
     (suc (length front + i)) nothing
-from_end_at bucket front back i places is =
-    let place : suc (length (front ++ back)) - places ≡ suc (length front + i) =
-    omega (arith, length-append front back) in
-    ap (λ (n : ℕ). get_or (bucket ∷ (front ++ back)) n nothing) place
+from_end_at bucket front back i places is = grind (arith, length-append)
 
 from_end_is : (bucket : Placed) (front back : List Placed) (i places : ℕ) → i + places ≡ length back
     → from_end places (bucket ∷ (front ++ back)) ≡ get_or back i nothing
@@ -113,10 +110,7 @@ words_are fields words has = ap words_of has.are ∙ split_words words has.name 
 
 -- and there are nine fields or more
 pub nine_fields : (fields : List Placed) (words : Words) → HasWords fields words → 9 ≤ length fields
-nine_fields fields words has =
-    let long : length fields ≡ suc (length (has.name ++ seven words [])) = ap length has.are in
-    let some : length has.name ≡ suc (length has.spans.later) = ap length has.spans.begins in
-    omega (arith, long, some, length-append has.name (seven words []))
+nine_fields fields words has = grind (arith, length-append)
 
 -- a list with an element has a last one
 snoc_of : (x : Placed) (xs : List Placed)

@@ -1,7 +1,7 @@
 -- A line that spells a command is read as it, and the other way round.
-use Rattle.std.proofs.Common.{◌≡◌, ℕ, Bool, true, false, List, [], ◌∷◌, length, map, Option, Some, None, Result, Ok, Err, refl, ap, subst, ◌∙◌, inl, inr}
-use Rattle.std.specs.Prelude.{codes, if◌then◌else◌}
-use Rattle.std.specs.Option.{option_map, option_map_or, option_and_then}
+use Rattle.std.proofs.Common.{◌≡◌, ℕ, Bool, true, false, List, [], ◌∷◌, length, map, Option, Some, None, Result, Ok, Err, refl, ap, subst, ◌∙◌, inl, arith}
+use Rattle.std.specs.Prelude.{if◌then◌else◌}
+use Rattle.std.specs.Option.{option_map, option_map_or}
 use Rattle.std.specs.Str.{bytes_eq}
 use Rattle.std.proofs.lemmas.Bool.{cases_Bool, le-ltb, ltb-false}
 use Rattle.std.proofs.lemmas.Slice.Eq.{bytes_eq-Decides}
@@ -20,50 +20,27 @@ two_of : (digits : List (List ℕ)) (x y : ℕ) → map number_of digits ≡ Som
     → two_numbers digits ≡ Some (x, y)
 two_of [] x y values = absurd cc
 two_of (a ∷ []) x y values = absurd cc
-two_of (a ∷ b ∷ []) x y values =
-    let first : number_of a ≡ Some x = cc in
-    let second : number_of b ≡ Some y = cc in
-    rw (first, second) refl
+two_of (a ∷ b ∷ []) x y values = grind arith
 two_of (a ∷ b ∷ c ∷ digits) x y values = absurd cc
 
 four_of : (digits : List (List ℕ)) (x y z t : ℕ)
     → map number_of digits ≡ Some x ∷ Some y ∷ Some z ∷ Some t ∷ [] → four_numbers digits ≡ Some (x, y, z, t)
 four_of [] x y z t values = absurd cc
 four_of (a ∷ []) x y z t values = absurd cc
-four_of (a ∷ b ∷ digits) x y z t values =
-    let first : number_of a ≡ Some x = cc in
-    let second : number_of b ≡ Some y = cc in
-    let others : map number_of digits ≡ Some z ∷ Some t ∷ [] = cc in
-    rw (first, second, two_of digits z t others) refl
+four_of (a ∷ b ∷ digits) x y z t values = grind (arith, two_of)
 
 two_named : (digits : List (List ℕ)) (p : ℕ × ℕ) → two_numbers digits ≡ Some p
     → map number_of digits ≡ Some p.0 ∷ Some p.1 ∷ []
 two_named [] p is = absurd cc
 two_named (a ∷ []) p is = absurd cc
-two_named (a ∷ b ∷ []) p is = by_values (number_of a) (number_of b) is
-  where
-    by_values : (m n : Option ℕ) → option_and_then (λ x. option_map (λ y. (x, y)) n) m ≡ Some p
-        → m ∷ n ∷ [] ≡ Some p.0 ∷ Some p.1 ∷ []
-    by_values None n same = absurd cc
-    by_values (Some x) None same = absurd cc
-    by_values (Some x) (Some y) same = let pair : (x, y) ≡ p = cc in rw (← pair) refl
+two_named (a ∷ b ∷ []) p is = grind arith
 two_named (a ∷ b ∷ c ∷ digits) p is = absurd cc
 
 four_named : (digits : List (List ℕ)) (p : ℕ × ℕ × ℕ × ℕ) → four_numbers digits ≡ Some p
     → map number_of digits ≡ Some p.0 ∷ Some p.1 ∷ Some p.2 ∷ Some p.3 ∷ []
 four_named [] p is = absurd cc
 four_named (a ∷ []) p is = absurd cc
-four_named (a ∷ b ∷ digits) p is = by_values (number_of a) (number_of b) (two_numbers digits) refl is
-  where
-    by_values : (m n : Option ℕ) (others : Option (ℕ × ℕ)) → two_numbers digits ≡ others
-        → option_and_then (λ x. option_and_then (λ y. option_map (λ q. (x, y, q.0, q.1)) others) n) m ≡ Some p
-        → m ∷ n ∷ map number_of digits ≡ Some p.0 ∷ Some p.1 ∷ Some p.2 ∷ Some p.3 ∷ []
-    by_values None n others are same = absurd cc
-    by_values (Some x) None others are same = absurd cc
-    by_values (Some x) (Some y) None are same = absurd cc
-    by_values (Some x) (Some y) (Some q) are same =
-        let four : (x, y, q.0, q.1) ≡ p = cc in
-        rw (← four, two_named digits q are) refl
+four_named (a ∷ b ∷ digits) p is = grind (arith, two_named)
 
 made : {X : Type 0} → (f : X → Command) (numbers : Option X) (command : Command)
     → option_map f numbers ≡ Some command → (x : X) × (numbers ≡ Some x) × (f x ≡ command)
@@ -93,50 +70,11 @@ module _ (line word : List ℕ) (digits : List (List ℕ)) (are : fields_of line
       (record { digits = digits; fields = named name same; values = two_named digits p.0 p.1 }))
 
   read_command : (command : Command) → command_in (word ∷ digits) ≡ Some command → SpellsCommand line command
-  read_command command is = elim (cases_Bool (bytes_eq word (codes "block"))) [
-    | inl same ↦ two_read (codes "block") same Block (λ x y names. names) command (rw same at is)
-    | inr other ↦ no_block (rw other at is)
-  ]
-    where
-      no_flood : (if bytes_eq word (codes "query")
-          then option_map (λ p. Query p.0 p.1 p.2 p.3) (four_numbers digits) else None) ≡ Some command
-          → SpellsCommand line command
-      no_flood is = elim (cases_Bool (bytes_eq word (codes "query"))) [
-        | inl query ↦
-            let p = made (λ (p : ℕ × ℕ × ℕ × ℕ). Query p.0 p.1 p.2 p.3) (four_numbers digits) command
-            (rw query at is) in
-            subst (SpellsCommand line) p.2
-            (record { digits = digits; fields = named (codes "query") query; values = four_named digits p.0 p.1 })
-        | inr other ↦ absurd (cc (rw other at is))
-      ]
-
-      no_free : (if bytes_eq word (codes "flood") then option_map (λ p. Flood p.0 p.1) (two_numbers digits)
-          else if bytes_eq word (codes "query") then
-          option_map (λ p. Query p.0 p.1 p.2 p.3) (four_numbers digits) else None) ≡ Some command
-          → SpellsCommand line command
-      no_free is = elim (cases_Bool (bytes_eq word (codes "flood"))) [
-        | inl same ↦ two_read (codes "flood") same Flood (λ x y names. names) command (rw same at is)
-        | inr other ↦ no_flood (rw other at is)
-      ]
-
-      no_block : (if bytes_eq word (codes "free") then option_map (λ p. Free p.0 p.1) (two_numbers digits)
-          else if bytes_eq word (codes "flood") then option_map (λ p. Flood p.0 p.1) (two_numbers digits)
-          else if bytes_eq word (codes "query") then
-          option_map (λ p. Query p.0 p.1 p.2 p.3) (four_numbers digits) else None) ≡ Some command
-          → SpellsCommand line command
-      no_block is = elim (cases_Bool (bytes_eq word (codes "free"))) [
-        | inl same ↦ two_read (codes "free") same Free (λ x y names. names) command (rw same at is)
-        | inr other ↦ no_free (rw other at is)
-      ]
+  read_command command is = grind (arith, cases_Bool, two_read, made, named, four_named)
 
 pub command_spelled : (line : List ℕ) (command : Command) → command_in (fields_of line) ≡ Some command
     → SpellsCommand line command
-command_spelled line command is = of_fields (fields_of line) refl is
-  where
-    of_fields : (fields : List (List ℕ)) → fields_of line ≡ fields → command_in fields ≡ Some command
-        → SpellsCommand line command
-    of_fields [] are is = absurd cc
-    of_fields (word ∷ digits) are is = read_command line word digits are command is
+command_spelled line command is = grind (arith, read_command)
 
 -- a line that spells a command is not blank
 not_blank : (line : List ℕ) (command : Command) → SpellsCommand line command → is_blank line ≡ false

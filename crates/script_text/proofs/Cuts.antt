@@ -4,7 +4,7 @@ use Rattle.std.specs.Prelude.{if◌then◌else◌}
 use Rattle.std.specs.List.{onto_first}
 use Rattle.std.specs.Option.{option_or}
 use Rattle.std.proofs.lemmas.Bool.{cases_Bool}
-use Rattle.text_line.specs.Left.{Numbered, numbered_from, numbered_pieces}
+use Rattle.text_line.specs.Left.{Numbered, numbered_from}
 use Rattle.text_line.specs.Lines.{is_line_feed, pieces_of}
 use Rattle.text_line.specs.Reading.{first_fault, fault_in, values_in, values_on, reading}
 use Rattle.script_text.specs.declared.command.Command.{Command}
@@ -22,14 +22,8 @@ with_last c byte = if is_line_feed byte then record { lines = c.lines ++ c.rest 
 apart : (x y : ℕ) (lines : List (List ℕ)) (rest : List ℕ)
     → with_first x (with_last (record { lines = lines; rest = rest }) y)
     ≡ with_last (with_first x (record { lines = lines; rest = rest })) y
-apart x y [] rest = elim (cases_Bool (is_line_feed x)) [
-  | inl e ↦ elim (cases_Bool (is_line_feed y)) [ inl f ↦ rw (e, f) refl | inr f ↦ rw (e, f) refl ]
-  | inr e ↦ elim (cases_Bool (is_line_feed y)) [ inl f ↦ rw (e, f) refl | inr f ↦ rw (e, f) refl ]
-]
-apart x y (line ∷ lines) rest = elim (cases_Bool (is_line_feed x)) [
-  | inl e ↦ elim (cases_Bool (is_line_feed y)) [ inl f ↦ rw (e, f) refl | inr f ↦ rw (e, f) refl ]
-  | inr e ↦ elim (cases_Bool (is_line_feed y)) [ inl f ↦ rw (e, f) refl | inr f ↦ rw (e, f) refl ]
-]
+apart x y [] rest = grind (arith, cases_Bool)
+apart x y (line ∷ lines) rest = grind (arith, cases_Bool)
 
 -- a text is cut byte by byte from its front, too
 pub cut-more : (text : List ℕ) (byte : ℕ) → cut (text ++ byte ∷ []) ≡ with_last (cut text) byte
@@ -54,10 +48,7 @@ onto x (line ∷ lines) rest = refl
 pub pieces-cut : (text : List ℕ) → pieces_of text ≡ (cut text).lines ++ last_line (cut text).rest
 unfolding cut
 pieces-cut [] = refl
-pieces-cut (x ∷ text) = elim (cases_Bool (is_line_feed x)) [
-  | inl e ↦ rw e (ap (λ (l : List (List ℕ)). [] ∷ l) (pieces-cut text))
-  | inr e ↦ rw e (ap (onto_first x) (pieces-cut text) ∙ onto x (cut text).lines (cut text).rest)
-]
+pieces-cut (x ∷ text) = grind (arith, cases_Bool, onto, pieces-cut text)
 
 -- lines are numbered on
 pub numbered-more : (number : ℕ) (lines more : List (List ℕ)) → numbered_from number (lines ++ more)
@@ -74,12 +65,7 @@ numbered-more number (line ∷ lines) more =
 pub fault-append : (xs ys : List Numbered)
     → first_fault piece_read (xs ++ ys) ≡ option_or (first_fault piece_read xs) (first_fault piece_read ys)
 fault-append [] ys = refl
-fault-append (x ∷ xs) ys = ap (option_or (fault_in (piece_read x))) (fault-append xs ys)
-    ∙ grouped (fault_in (piece_read x)) (first_fault piece_read xs) (first_fault piece_read ys)
-  where
-    grouped : (a b c : Option ScriptFault) → option_or a (option_or b c) ≡ option_or (option_or a b) c
-    grouped None b c = refl
-    grouped (Some a) b c = refl
+fault-append (x ∷ xs) ys = grind (arith, fault-append xs ys)
 
 pub or-none : (a b : Option ScriptFault) → option_or a b ≡ None → (a ≡ None) × (b ≡ None)
 or-none None b none = (refl, none)
@@ -116,19 +102,10 @@ commands-stay (x ∷ xs) ys fault some =
 
 -- one line alone
 pub fault-one : (x : Numbered) → first_fault piece_read (x ∷ []) ≡ fault_in (piece_read x)
-fault-one x = alone (fault_in (piece_read x))
-  where
-    alone : (f : Option ScriptFault) → option_or f None ≡ f
-    alone None = refl
-    alone (Some fault) = refl
+fault-one x = grind arith
 
 pub commands-one : (x : Numbered) → commands_on (x ∷ []) ≡ values_in (piece_read x)
-commands-one x = alone (piece_read x)
-  where
-    alone : (r : Result (Option Command) ScriptFault) → with_command r [] ≡ values_in r
-    alone (Ok None) = refl
-    alone (Ok (Some command)) = refl
-    alone (Err fault) = refl
+commands-one x = grind arith
 
 -- lines without fault are read as their commands
 pub commands-clean : (xs : List Numbered) → first_fault piece_read xs ≡ None
@@ -148,9 +125,4 @@ commands-clean (x ∷ xs) none =
 -- a text is read as its commands or its first fault
 pub script-by : (text : List ℕ) → script_of text ≡ reading (fault_of text) (commands_of text)
 unfolding script_of fault_of commands_of
-script-by text = by_fault (first_fault piece_read (numbered_pieces text)) refl
-  where
-    by_fault : (f : Option ScriptFault) → first_fault piece_read (numbered_pieces text) ≡ f
-        → reading f (values_on piece_read (numbered_pieces text)) ≡ reading f (commands_on (numbered_pieces text))
-    by_fault None is = ap Ok (commands-clean (numbered_pieces text) is)
-    by_fault (Some fault) is = refl
+script-by text = grind (arith, commands-clean)

@@ -1,6 +1,6 @@
 -- What is known of a script by its first bytes, and what a feeder keeps of it.
-use Rattle.std.proofs.Common.{take, drop, get_or, ◌≡◌, ◌≢◌, ℕ, ◌+◌, ◌<◌, ◌≤◌, Bool, true, false, List, [], ◌∷◌, ◌++◌, append_assoc, length, length-append, refl, sym, ap, ◌∙◌, subst, inl, inr, arith, rules}
-use Rattle.std.specs.Prelude.{Option, Some, None, Result, Ok, Err, nat_lt, if◌then◌else◌, OnOk, IfErr, IsErrAnd}
+use Rattle.std.proofs.Common.{take, drop, get_or, ◌≡◌, ◌≢◌, ℕ, ◌+◌, ◌<◌, ◌≤◌, true, false, List, [], ◌∷◌, ◌++◌, append_assoc, length, length-append, refl, sym, ap, ◌∙◌, subst, inl, inr, arith, rules}
+use Rattle.std.specs.Prelude.{Option, Some, None, Result, Ok, Err, nat_lt, OnOk, IfErr, IsErrAnd}
 use Rattle.std.specs.Option.{option_or}
 use Rattle.std.proofs.lemmas.Bool.{cases_Bool, le-ltb}
 use Rattle.std.proofs.lemmas.List.{append-nil, take-append-drop, take_more}
@@ -32,17 +32,12 @@ lines-more c = numbered-more 1 c.lines (c.rest ∷ [])
 -- all lines, the last one among them, where no fault is known
 fault-next : (c : Cut) → first_fault piece_read (whole_lines c) ≡ None
     → first_fault piece_read (numbered_from 1 (c.lines ++ c.rest ∷ [])) ≡ fault_in (piece_read (next_line c))
-fault-next c clean =
-    ap (first_fault piece_read) (lines-more c) ∙ fault-append (whole_lines c) (next_line c ∷ [])
-    ∙ ap (λ (f : Option ScriptFault). option_or f (first_fault piece_read (next_line c ∷ []))) clean
-    ∙ fault-one (next_line c)
+fault-next c clean = grind (arith, lines-more, fault-append, fault-one)
 
 commands-next : (c : Cut) → first_fault piece_read (whole_lines c) ≡ None
     → commands_on (numbered_from 1 (c.lines ++ c.rest ∷ []))
     ≡ commands_on (whole_lines c) ++ values_in (piece_read (next_line c))
-commands-next c clean =
-    ap commands_on (lines-more c) ∙ commands-append (whole_lines c) (next_line c ∷ []) clean
-    ∙ ap (λ (l : List Command). commands_on (whole_lines c) ++ l) (commands-one (next_line c))
+commands-next c clean = grind (arith, lines-more, commands-append, commands-one)
 
 or-nothing : (f : Option ScriptFault) → option_or f None ≡ f
 or-nothing None = refl
@@ -60,19 +55,7 @@ data Known (c : Cut) (fault : ScriptFault) : Type 0 where
       → fault ≡ Long (length c.lines + 1) → Known c fault
 
 known : (c : Cut) (fault : ScriptFault) → known_fault c ≡ Some fault → Known c fault
-known c fault is = by_lines (first_fault piece_read (whole_lines c)) refl is
-  where
-    by_length : (b : Bool) → nat_lt 128 (length c.rest) ≡ b → first_fault piece_read (whole_lines c) ≡ None
-        → (if b then Some (Long (length c.lines + 1)) else None) ≡ Some fault → Known c fault
-    by_length true long none is =
-        in_rest none (let h : 128 < length c.rest = grind (arith, long) in h)
-        (let e : Long (length c.lines + 1) ≡ fault = cc in sym e)
-    by_length false long none is = absurd cc
-
-    by_lines : (f : Option ScriptFault) → first_fault piece_read (whole_lines c) ≡ f
-        → option_or f (length_fault (length c.lines + 1) c.rest) ≡ Some fault → Known c fault
-    by_lines (Some named) are is = in_line (are ∙ is)
-    by_lines None are is = by_length (nat_lt 128 (length c.rest)) refl are is
+known c fault is = grind arith
 
 long-read : (c : Cut) → 128 < length c.rest → piece_read (next_line c) ≡ Err (Long (length c.lines + 1))
 long-read c long = let t : nat_lt 128 (length c.rest) ≡ true = search (rules, long) in rw t refl
@@ -81,37 +64,21 @@ long-read c long = let t : nat_lt 128 (length c.rest) ≡ true = search (rules, 
 known-stays : (c : Cut) (byte : ℕ) (fault : ScriptFault) → known_fault c ≡ Some fault
     → (known_fault (with_last c byte) ≡ Some fault)
     × (commands_on (whole_lines (with_last c byte)) ≡ commands_on (whole_lines c))
-known-stays c byte fault is = elim (cases_Bool (is_line_feed byte)) [
-  | inl e ↦ rw e (fed (known c fault is))
-  | inr e ↦ rw e (longer (known c fault is), refl)
-]
-  where
-    fed : Known c fault → (known_fault (record { lines = c.lines ++ c.rest ∷ []; rest = [] }) ≡ Some fault)
-        × (commands_on (numbered_from 1 (c.lines ++ c.rest ∷ [])) ≡ commands_on (whole_lines c))
-    fed (in_line some) = (
-      or-nothing _ ∙ ap (first_fault piece_read) (lines-more c)
-          ∙ fault-append (whole_lines c) (next_line c ∷ [])
-          ∙ ap (λ (f : Option ScriptFault). option_or f (first_fault piece_read (next_line c ∷ []))) some,
-      ap commands_on (lines-more c) ∙ commands-stay (whole_lines c) (next_line c ∷ []) fault some,
+known-stays c byte fault is =
+    grind (
+      arith,
+      cases_Bool,
+      known,
+      or-nothing,
+      lines-more,
+      fault-append,
+      commands-stay,
+      fault-next,
+      long-read,
+      commands-next,
+      append-nil,
+      length-append,
     )
-    fed (in_rest none long named) = (
-      or-nothing _ ∙ fault-next c none
-          ∙ ap (λ (r : Result (Option Command) ScriptFault). fault_in r) (long-read c long)
-          ∙ ap (λ (f : ScriptFault). Some f) (sym named),
-      commands-next c none
-          ∙ ap (λ (r : Result (Option Command) ScriptFault). commands_on (whole_lines c) ++ values_in r)
-          (long-read c long)
-          ∙ append-nil (commands_on (whole_lines c)),
-    )
-
-    longer : Known c fault
-        → known_fault (record { lines = c.lines; rest = c.rest ++ byte ∷ [] }) ≡ Some fault
-    longer (in_line some) = rw some refl
-    longer (in_rest none long named) =
-        let sum : length (c.rest ++ byte ∷ []) ≡ length c.rest + 1 = length-append c.rest (byte ∷ []) in
-        let more : 128 < length (c.rest ++ byte ∷ []) = omega arith in
-        let t : nat_lt 128 (length (c.rest ++ byte ∷ [])) ≡ true = search (rules, more) in
-        rw (none, t) (ap (λ (f : ScriptFault). Some f) (sym named))
 
 -- a text with a fault keeps it, and its commands
 pub fault-stays : (text more : List ℕ) (fault : ScriptFault) → fault_so_far text ≡ Some fault
@@ -232,38 +199,11 @@ module _ (feeder : LineFeeder) (text : List ℕ) (byte : ℕ) (none : feeder.fau
       → now.line.items ≡ feeder.line.items ++ byte ∷ [] → now.fault ≡ None
       → HasTakenByte text byte now (Ok None)
   byte-taken now room number line clean =
-      let short : length ((cut text).rest ++ byte ∷ []) ≤ 128
-      = (let m : length ((cut text).rest ++ byte ∷ []) ≡ length feeder.line.items + 1 = length-more in omega arith) in
-      let still : fault_so_far (text ++ byte ∷ []) ≡ None = by-length ∙ short-fault _ _ short in
-      record {
-        taken = record {
-          kept = clean ∙ sym still;
-          next = λ no. record {
-            counted = number ∙ (h.next pending).counted
-                ∙ ap (λ (c : Cut). length c.lines + 1) (sym extended);
-            bytes = line ∙ ap (λ (l : List ℕ). l ++ byte ∷ []) (h.next pending).bytes
-                ∙ ap (λ (c : Cut). c.rest) (sym extended);
-          };
-        };
-        commands = same-commands;
-        answer = still;
-      }
+      grind (arith, length-more, by-length, short-fault, pending, extended, same-commands)
 
   pub byte-refused : (now : LineFeeder) → 128 ≤ length feeder.line.items
       → now.fault ≡ Some (Long feeder.number) → HasTakenByte text byte now (Err (Long feeder.number))
-  byte-refused now full kept =
-      let long : 128 < length ((cut text).rest ++ byte ∷ [])
-      = (let m : length ((cut text).rest ++ byte ∷ []) ≡ length feeder.line.items + 1 = length-more in omega arith) in
-      let is : fault_so_far (text ++ byte ∷ []) ≡ Some (Long feeder.number)
-      = by-length ∙ long-fault _ _ long ∙ ap (λ n. Some (Long n)) (sym (h.next pending).counted) in
-      record {
-        taken = record {
-          kept = kept ∙ sym is;
-          next = λ no. absurd (let e : Some (Long feeder.number) ≡ None = sym is ∙ no in cc);
-        };
-        commands = same-commands;
-        answer = is;
-      }
+  byte-refused now full kept = grind (arith, length-more, by-length, long-fault, pending, same-commands)
 
 -- a whole text, whose last line needs no line feed
 pieces-known : (text : List ℕ)
@@ -274,47 +214,26 @@ pieces-known text = ap (numbered_from 1) (pieces-cut text)
 pub whole-refused : (text : List ℕ) (fault : ScriptFault) → fault_so_far text ≡ Some fault
     → (fault_of text ≡ Some fault) × (commands_of text ≡ commands_so_far text)
 unfolding fault_so_far commands_so_far fault_of commands_of
-whole-refused text fault is = rw (pieces-known text) (by_known (known (cut text) fault is))
-  where
-    all : (c : Cut) → List Numbered
-    all c = numbered_from 1 (c.lines ++ last_line c.rest)
-
-    by_known : Known (cut text) fault
-        → (first_fault piece_read (numbered_from 1 ((cut text).lines ++ last_line (cut text).rest)) ≡ Some fault)
-        × (commands_on (numbered_from 1 ((cut text).lines ++ last_line (cut text).rest))
-        ≡ commands_on (whole_lines (cut text)))
-    by_known (in_line some) =
-        let c = cut text in
-        let more = numbered_from (1 + length c.lines) (last_line c.rest) in (
-          ap (first_fault piece_read) (numbered-more 1 c.lines (last_line c.rest))
-              ∙ fault-append (whole_lines c) more
-              ∙ ap (λ (f : Option ScriptFault). option_or f (first_fault piece_read more)) some,
-          ap commands_on (numbered-more 1 c.lines (last_line c.rest))
-              ∙ commands-stay (whole_lines c) more fault some,
-        )
-    by_known (in_rest none long named) =
-        let c = cut text in
-        rw (last-of c.rest (let h : 128 < length c.rest = long in omega arith)) (
-          fault-next c none ∙ ap (λ (r : Result (Option Command) ScriptFault). fault_in r) (long-read c long)
-              ∙ ap (λ (f : ScriptFault). Some f) (sym named),
-          commands-next c none
-              ∙ ap (λ (r : Result (Option Command) ScriptFault). commands_on (whole_lines c) ++ values_in r)
-              (long-read c long)
-              ∙ append-nil (commands_on (whole_lines c)),
-        )
-      where
-        last-of : (rest : List ℕ) → 0 < length rest → last_line rest ≡ rest ∷ []
-        last-of [] some = absurd (omega arith)
-        last-of (b ∷ bytes) some = refl
+whole-refused text fault is =
+    grind (
+      arith,
+      pieces-known,
+      known,
+      last_line,
+      numbered-more,
+      fault-append,
+      commands-stay,
+      fault-next,
+      long-read,
+      commands-next,
+      append-nil,
+    )
 
 -- one without is all right but for its last line
 pub whole-clean : (text : List ℕ) → fault_so_far text ≡ None → (cut text).rest ≡ []
     → (fault_of text ≡ None) × (commands_of text ≡ commands_so_far text)
 unfolding fault_so_far commands_so_far fault_of commands_of
-whole-clean text clean empty =
-    let e : (cut text).lines ++ last_line (cut text).rest ≡ (cut text).lines
-    = rw empty (append-nil (cut text).lines) in
-    rw (pieces-known text, e) ((or-none _ _ clean).0, refl)
+whole-clean text clean empty = grind (arith, last_line, append-nil, pieces-known, or-none)
 
 -- its last line is judged where it has bytes
 pub whole-next : (text : List ℕ) (byte : ℕ) (bytes : List ℕ) → fault_so_far text ≡ None
@@ -323,10 +242,7 @@ pub whole-next : (text : List ℕ) (byte : ℕ) (bytes : List ℕ) → fault_so_
     × (commands_of text ≡ commands_so_far text ++ values_in (piece_read (next_line (cut text))))
 unfolding fault_so_far commands_so_far fault_of commands_of
 whole-next text byte bytes clean some =
-    let e : (cut text).lines ++ last_line (cut text).rest ≡ (cut text).lines ++ (cut text).rest ∷ []
-    = rw some refl in
-    rw (pieces-known text, e)
-    (fault-next (cut text) (or-none _ _ clean).0, commands-next (cut text) (or-none _ _ clean).0)
+    grind (arith, last_line, pieces-known, fault-next, or-none, commands-next)
 
 -- nothing came yet
 pub begun-taken : (now : LineFeeder) → now.fault ≡ None → now.number ≡ 1 → now.line.items ≡ [] → HasTaken now []

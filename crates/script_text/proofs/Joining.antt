@@ -46,33 +46,7 @@ module _ (pieces : List (Vec ℕ)) (place : ℕ) (piece : Vec ℕ) (inside : pla
       → HasFed [] (text_of (take place pieces)) feeder before got (Ok tt)
       → HasFed (text_of (take place pieces)) (text_of (take place pieces) ++ piece.items) now got after result
       → HasFed [] (text_of (take (place + 1) pieces)) now before after result
-  fed-on feeder now before got after result f t =
-      rw (text-more pieces place piece inside is) (record {
-        taken = t.taken;
-        commands = record {
-          more = f.commands.more ++ t.commands.more;
-          known = t.commands.known ∙ ap (λ (l : List Command). l ++ t.commands.more) f.commands.known
-              ∙ append_assoc (commands_so_far []) f.commands.more t.commands.more;
-          appended = t.commands.appended ∙ ap (λ (l : List Command). l ++ t.commands.more) f.commands.appended
-              ∙ append_assoc before f.commands.more t.commands.more;
-        };
-        answer = t.answer;
-      })
-
-  -- it was fed
-  pub reading-more : (feeder now : LineFeeder) (before got after : List Command)
-      → IsReading feeder pieces place before got
-      → ((text : List ℕ) → HasTaken feeder text → HasFed text (text ++ piece.items) now got after (Ok tt))
-      → now.taken ≡ feeder.taken + length piece.items → IsReading now pieces (place + 1) before after
-  reading-more feeder now before got after r fed counted = record {
-    counted = (let c : feeder.taken ≡ length (text_of (take place pieces)) = r.counted in
-        let m : length (text_of (take (place + 1) pieces))
-        ≡ length (text_of (take place pieces)) + length piece.items
-        = ap (λ (l : List ℕ). length l) (text-more pieces place piece inside is)
-        ∙ length-append (text_of (take place pieces)) piece.items in
-        let e : now.taken ≡ length (text_of (take (place + 1) pieces)) = omega (arith, counted) in e);
-    fed = fed-on feeder now before got after (Ok tt) r.fed (fed (text_of (take place pieces)) r.fed.taken);
-  }
+  fed-on feeder now before got after result f t = grind (arith, text-more, append_assoc)
 
   -- or a line of it is refused
   pub reading-stopped : (feeder now : LineFeeder) (before got after : List Command) (fault : ScriptFault)

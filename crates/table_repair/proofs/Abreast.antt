@@ -7,24 +7,18 @@ use Rattle.grid_moves.specs.declared.Dir.{Dir}
 use Rattle.grid_moves.specs.Grid.{GridData, is_inside}
 use Rattle.grid_moves.specs.Move.{ahead, is_same}
 use Rattle.grid_moves.proofs.Legal.{is_same-cell, is_same-itself}
-use Rattle.plus_tables.specs.Tables.{TablesData, entry_at}
+use Rattle.plus_tables.specs.Tables.{TablesData}
 use Rattle.table_repair.specs.declared.walks.Walk.{Walk}
 use Rattle.table_repair.specs.Abreast.{is_at_one, no_cell, IsOnward, KeepAbreast}
 use Rattle.table_repair.specs.Mending.{IsRight, AreReady, IsMended, Mends, FollowBut, Sweeps, either, cell_after}
 use Rattle.table_repair.proofs.Lines.{after_before}
-use Rattle.table_repair.proofs.Mends.{mends_none, mends_wider, right_stays, with_right, wider_reach, ready_stays, follow_more}
-use Rattle.table_repair.proofs.Walking.{or_false, false_or}
+use Rattle.table_repair.proofs.Mends.{mends_none, mends_wider, mends_then, still_mended, right_stays, ready_stays, follow_more}
+use Rattle.table_repair.proofs.Walking.{or_false, false_or, or_left, or_right}
 
 -- so many moves, and then so many more
 pub after_further : (d : Dir) (j k : ℕ) (u v w : Cell) → cell_after d j u ≡ Some v → cell_after d k v ≡ Some w
     → cell_after d (j + k) u ≡ Some w
-after_further d zero k u v w e f =
-    let s = some_cell u v e in
-    let z : zero + k ≡ k = omega arith in
-    rw (s, z) f
-  where
-    some_cell : (u v : Cell) → Some u ≡ Some v → u ≡ v
-    some_cell u v h = cc
+after_further d zero k u v w e f = grind arith
 after_further d (suc j) k u v w e f = by_cell (ahead d u) refl e
     (λ p g. after_further d j k p v w g f)
   where
@@ -42,35 +36,24 @@ pub at_first : (v : Walk) (vs : List Walk) → is_at_one (v ∷ vs) v.at ≡ tru
 at_first v vs = let s : is_same v.at v.at ≡ true = is_same-itself v.at in grind arith
 
 pub at_others : (v : Walk) (vs : List Walk) (w : Cell) → is_at_one vs w ≡ true → is_at_one (v ∷ vs) w ≡ true
-at_others v vs w h = or_true (is_same w v.at) (is_at_one vs w) h
-  where
-    or_true : (a b : Bool) → b ≡ true → (a || b) ≡ true
-    or_true a b h = grind arith
+at_others v vs w h = or_right (is_same w v.at) (is_at_one vs w) h
 
 pub at_both : (xs ys : List Walk) (w : Cell) → is_at_one (xs ++ ys) w ≡ (is_at_one xs w || is_at_one ys w)
 at_both [] ys w = refl
-at_both (x ∷ xs) ys w =
-    let e = at_both xs ys w in
-    regroup (is_same w x.at) (is_at_one xs w) (is_at_one ys w) (is_at_one (xs ++ ys) w) e
-  where
-    regroup : (a b c z : Bool) → z ≡ (b || c) → (a || z) ≡ ((a || b) || c)
-    regroup a b c z e = grind arith
+at_both (x ∷ xs) ys w = grind (arith, at_both xs ys w)
 
 pub at_next : (next : Walk) (w : Cell) → is_at_one (next ∷ []) w ≡ true → w ≡ next.at
-at_next next w a = is_same-cell w next.at (only (is_same w next.at) a)
-  where
-    only : (b : Bool) → (b || false) ≡ true → b ≡ true
-    only b h = grind arith
+at_next next w a = grind (arith, is_same-cell)
 
 pub or_either : (a b : Bool) → (a || b) ≡ true → (a ≡ true) ⊎ (b ≡ true)
 or_either true b h = inl refl
 or_either false b h = inr h
 
 -- what lies behind a cell that was reached lies behind its start
-mended_further : (h : GridData) (d : Dir) (starts piece : Cell → Bool) (now new : TablesData) (n m : ℕ)
+mended_further : {h : GridData} {d : Dir} {starts piece : Cell → Bool} {now new : TablesData} {n m : ℕ}
     → ((w : Cell) → piece w ≡ true → IsMended h now d starts n w) → (u : Cell)
     → IsMended h new d piece m u → IsMended h new d starts (n + m) u
-mended_further h d starts piece now new n m reached u k =
+mended_further {d = d} reached u k =
     let first = reached k.start k.starts_there in
     record {
       right = k.right;
@@ -82,38 +65,17 @@ mended_further h d starts piece now new n m reached u k =
     }
 
 -- first what lies behind those cells, and then what lies behind cells that were reached
-mends_through : (h : GridData) (d : Dir) (starts piece : Cell → Bool) (old now new : TablesData) (n m : ℕ)
+mends_through : {h : GridData} {d : Dir} {starts piece : Cell → Bool} {old now new : TablesData} {n m : ℕ}
     → Mends h d starts old now n → ((w : Cell) → piece w ≡ true → IsMended h now d starts n w)
     → Mends h d piece now new m → Mends h d starts old new (n + m)
-mends_through h d starts piece old now new n m first reached mends = record {
-  width = mends.width ∙ first.width;
-  height = mends.height ∙ first.height;
-  corner = mends.corner ∙ first.corner;
-  length_kept = mends.length_kept ∙ first.length_kept;
-  others = λ u e k i. mends.others u e k i ∙ first.others u e k i;
-  along = along;
-  count = λ r w k. regroup _ _ _ (first.count r w k) (mends.count r w k);
-}
-  where
-    regroup : (x y z : ℕ) → x ≡ y + n → y ≡ z + m → x ≡ z + (n + m)
-    regroup x y z e f = omega arith
+mends_through first reached mends =
+    mends_then first mends (λ u k. mended_further reached u k)
 
-    along : (u : Cell) → is_inside h u ≡ true
-        → (entry_at new u d ≡ entry_at old u d) ⊎ IsMended h new d starts (n + m) u
-    along u i = elim (mends.along u i) [
-      | inr k ↦ inr (mended_further h d starts piece now new n m reached u k)
-      | inl e ↦ elim (first.along u i) [
-        | inl f ↦ inl (e ∙ f)
-        | inr k ↦ inr (with_right h d starts now new (n + m) u (e ∙ k.right)
-            (wider_reach h d starts now n (n + m) u (omega arith) k))
-      ]
-    ]
-
-pub abreast_none : (h : GridData) (d : Dir) (t : TablesData) (walks : List Walk) → AreReady h t d
+pub abreast_none : {h : GridData} {d : Dir} {t : TablesData} {walks : List Walk} → AreReady h t d
     → ((w : Cell) → is_at_one walks w ≡ true → is_inside h w ≡ true)
     → ((w : Cell) → is_at_one walks w ≡ true → IsRight h t w d)
     → KeepAbreast h d (is_at_one walks) t t walks no_cell 0
-abreast_none h d t walks ready i r = record {
+abreast_none {t = t} ready i r = record {
   ready = ready;
   inside = i;
   mended = λ w k. record {
@@ -124,12 +86,12 @@ abreast_none h d t walks ready i r = record {
     starts_there = k;
     reaches = refl;
   };
-  mends = mends_none h d (is_at_one walks) t;
+  mends = mends_none t;
   follows = λ later f. f;
 }
 
-module _ (h : GridData) (d : Dir) (starts : Cell → Bool) (old now : TablesData) (v : Walk) (rest : List Walk)
-    (n : ℕ) (abreast : KeepAbreast h d starts old now (v ∷ rest) no_cell n) where
+module _ {h : GridData} {d : Dir} {starts : Cell → Bool} {old now : TablesData} {v : Walk} {rest : List Walk}
+    {n : ℕ} (abreast : KeepAbreast h d starts old now (v ∷ rest) no_cell n) where
   pub first_inside : is_inside h v.at ≡ true
   first_inside = abreast.inside v.at (at_first v rest)
 
@@ -139,45 +101,37 @@ module _ (h : GridData) (d : Dir) (starts : Cell → Bool) (old now : TablesData
   pub first_right : IsRight h now v.at d
   first_right = first_mended.right
 
-  module _ (new : TablesData) (m : ℕ) (mends : Mends h d (λ w. is_same w v.at) now new m) where
+  module _ {new : TablesData} {m : ℕ} (mends : Mends h d (λ w. is_same w v.at) now new m) where
     -- what was made right behind the first walk lies behind its start
     mends_on : Mends h d starts old new (n + m)
-    mends_on = mends_through h d starts (λ w. is_same w v.at) old now new n m abreast.mends
+    mends_on = mends_through abreast.mends
         (λ w k. let same = is_same-cell w v.at k in rw same first_mended) mends
 
     others_mended : (w : Cell) → is_inside h w ≡ true → IsMended h now d starts n w
         → IsMended h new d starts (n + m) w
-    others_mended w i k = with_right h d starts now new (n + m) w
-        (right_stays h d (λ w. is_same w v.at) now new m mends w d i k.right)
-        (wider_reach h d starts now n (n + m) w (omega arith) k)
+    others_mended w i k = still_mended (λ w j. j) (right_stays mends w d i k.right) (omega arith) k
 
   -- the first walk goes on, behind all others, or ends
-  pub abreast_next : (new : TablesData) (on : Option Walk)
+  pub abreast_next : {new : TablesData} {on : Option Walk}
       → Mends h d (λ w. is_same w v.at) now new (length (option_to_list on))
       → ((later : Cell → Bool) → FollowBut h now d (λ w. is_same w v.at || later w)
       → FollowBut h new d (either (is_at_one (option_to_list on)) later))
       → ((next : Walk) → on ≡ Some next → IsOnward h new d v.at next.at)
       → KeepAbreast h d starts old new (rest ++ option_to_list on) no_cell (n + length (option_to_list on))
-  abreast_next new on mends follows onward = record {
-    ready = ready_stays h d (λ w. is_same w v.at) now new (length (option_to_list on)) mends abreast.ready;
+  abreast_next {new = new} {on = on} mends follows onward = record {
+    ready = ready_stays mends abreast.ready;
     inside = λ w k. elim (either_one w k) [
       | inl r ↦ abreast.inside w (at_others v rest w r)
       | inr a ↦ (of_next on onward w a).inside
     ];
     mended = λ w k. elim (either_one w k) [
-      | inl r ↦ others_mended new (length (option_to_list on)) mends w
+      | inl r ↦ others_mended mends w
           (abreast.inside w (at_others v rest w r)) (abreast.mended w (at_others v rest w r))
       | inr a ↦ next_mended on onward w a
     ];
-    mends = mends_on new (length (option_to_list on)) mends;
-    follows = λ later f. follow_more h new d
-        (either (is_at_one (option_to_list on)) (either (is_at_one rest) later))
-        (either (is_at_one (rest ++ option_to_list on)) later)
-        (λ w k. narrower w later k)
-        (follows (either (is_at_one rest) later)
-        (follow_more h now d (either (is_at_one (v ∷ rest)) later)
-        (λ w. is_same w v.at || (is_at_one rest w || later w))
-        (λ w k. wider w later k) (abreast.follows later f)));
+    mends = mends_on mends;
+    follows = λ later f. follow_more (λ w k. narrower w later k) (follows (either (is_at_one rest) later)
+        (follow_more (λ w k. wider w later k) (abreast.follows later f)));
   }
     where
       either_one : (w : Cell) → is_at_one (rest ++ option_to_list on) w ≡ true
@@ -224,32 +178,30 @@ module _ (h : GridData) (d : Dir) (starts : Cell → Bool) (old now : TablesData
           }
 
 -- no walk is left
-pub abreast_ends : (h : GridData) (d : Dir) (starts : Cell → Bool) (old now : TablesData)
-    (walks : List Walk) (n : ℕ)
+pub abreast_ends : {h : GridData} {d : Dir} {starts : Cell → Bool} {old now : TablesData}
+    {walks : List Walk} {n : ℕ}
     → KeepAbreast h d starts old now walks no_cell n → walks ≡ [] → Sweeps h d starts old now
-abreast_ends h d starts old now walks n abreast e later f =
-    follow_more h now d (either (is_at_one walks) later) later
-    (λ w k. false_or (is_at_one walks w) (later w) (none w) k) (abreast.follows later f)
+abreast_ends {walks = walks} abreast e later f =
+    follow_more (λ w k. false_or (is_at_one walks w) (later w) (none w) k) (abreast.follows later f)
   where
     none : (w : Cell) → is_at_one walks w ≡ false
     none w = rw e refl
 
 -- So the changes of two stretches add up: the second begins at cells that the first has reached, or that were
 -- left, and what the first left waits for these or is left still.
-pub abreast_then : (h : GridData) (d : Dir) (starts : Cell → Bool) (old now new : TablesData)
-    (walks onward : List Walk) (left piece rest : Cell → Bool) (n m : ℕ)
+pub abreast_then : {h : GridData} {d : Dir} {starts : Cell → Bool} {old now new : TablesData}
+    {walks onward : List Walk} {left piece rest : Cell → Bool} {n m : ℕ}
     → KeepAbreast h d starts old now walks left n
     → ((w : Cell) → piece w ≡ true → IsMended h now d starts n w)
     → ((w : Cell) → piece w ≡ false → rest w ≡ false → (is_at_one walks w || left w) ≡ false)
     → KeepAbreast h d piece now new onward no_cell m → KeepAbreast h d starts old new onward rest (n + m)
-abreast_then h d starts old now new walks onward left piece rest n m first reached split second = record {
+abreast_then {walks = walks} {left = left} {piece = piece} {rest = rest} first reached split second = record {
   ready = second.ready;
   inside = second.inside;
-  mended = λ w k. mended_further h d starts piece now new n m reached w (second.mended w k);
-  mends = mends_through h d starts piece old now new n m first.mends reached second.mends;
+  mended = λ w k. mended_further reached w (second.mended w k);
+  mends = mends_through first.mends reached second.mends;
   follows = λ later f. second.follows (either rest later)
-      (follow_more h now d (either (is_at_one walks) (either left later)) (either piece (either rest later))
-      (λ w k. wider w later k) (first.follows later f));
+      (follow_more (λ w k. wider w later k) (first.follows later f));
 }
   where
     wider : (w : Cell) (later : Cell → Bool) → (piece w || (rest w || later w)) ≡ false
@@ -261,41 +213,31 @@ abreast_then h d starts old now new walks onward left piece rest n m first reach
         false_or (is_at_one walks w) (left w || later w) r.0 (false_or (left w) (later w) r.1 q.1)
 
 -- a stretch beside which other cells wait
-pub abreast_beside : (h : GridData) (d : Dir) (starts row : Cell → Bool) (old now : TablesData)
-    (walks : List Walk) (n : ℕ) → KeepAbreast h d starts old now walks no_cell n
+pub abreast_beside : {h : GridData} {d : Dir} {starts : Cell → Bool} (row : Cell → Bool)
+    {old now : TablesData}
+    {walks : List Walk} {n : ℕ} → KeepAbreast h d starts old now walks no_cell n
     → KeepAbreast h d (either starts row) old now walks row n
-abreast_beside h d starts row old now walks n first = record {
+abreast_beside {starts = starts} row first = record {
   ready = first.ready;
   inside = first.inside;
-  mended = λ w k. let a = first.mended w k in record {
-    right = a.right;
-    moves = a.moves;
-    few = a.few;
-    start = a.start;
-    starts_there = or_true (starts a.start) (row a.start) a.starts_there;
-    reaches = a.reaches;
-  };
-  mends = mends_wider h d starts (either starts row) (λ w k. or_true (starts w) (row w) k) old now n
-      first.mends;
+  mended = λ w k. let a = first.mended w k in
+      still_mended (λ v j. or_left (starts v) (row v) j) a.right (omega arith) a;
+  mends = mends_wider (λ w k. or_left (starts w) (row w) k) first.mends;
   follows = λ later f. first.follows (either row later)
-      (follow_more h old d (either (either starts row) later) (either starts (either row later))
-      (λ w k. regroup (starts w) (row w) (later w) k) f);
+      (follow_more (λ w k. regroup (starts w) (row w) (later w) k) f);
 }
   where
-    or_true : (a b : Bool) → a ≡ true → (a || b) ≡ true
-    or_true a b k = grind arith
-
     regroup : (a b c : Bool) → (a || (b || c)) ≡ false → ((a || b) || c) ≡ false
     regroup a b c k = grind arith
 
 -- walks begin at cells that were left, whose entries are right
-pub abreast_enter : (h : GridData) (d : Dir) (starts row : Cell → Bool) (old now : TablesData)
-    (walks more : List Walk) (n : ℕ) → KeepAbreast h d starts old now walks row n
+pub abreast_enter : {h : GridData} {d : Dir} {starts row : Cell → Bool} {old now : TablesData}
+    {walks more : List Walk} {n : ℕ} → KeepAbreast h d starts old now walks row n
     → ((w : Cell) → is_at_one more w ≡ (is_at_one walks w || row w))
     → ((w : Cell) → row w ≡ true → is_inside h w ≡ true)
     → ((w : Cell) → row w ≡ true → IsRight h now w d) → ((w : Cell) → row w ≡ true → starts w ≡ true)
     → KeepAbreast h d starts old now more no_cell n
-abreast_enter h d starts row old now walks more n first there inside right starts_there = record {
+abreast_enter {row = row} {walks = walks} {more = more} first there inside right starts_there = record {
   ready = first.ready;
   inside = λ w k. elim (one_of_both w k) [
     | inl a ↦ first.inside w a
@@ -313,8 +255,7 @@ abreast_enter h d starts row old now walks more n first there inside right start
     }
   ];
   mends = first.mends;
-  follows = λ later f. follow_more h now d (either (is_at_one walks) (either row later))
-      (either (is_at_one more) later)
+  follows = λ later f. follow_more
       (λ w k. regroup (is_at_one more w) (is_at_one walks w) (row w) (later w) (there w) k)
       (first.follows later f);
 }

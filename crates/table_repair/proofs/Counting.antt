@@ -1,13 +1,12 @@
 -- How many places differ, as one is set right.
-use Rattle.std.proofs.Common.{◌≡◌, ◌≢◌, ℕ, ◌+◌, ◌*◌, ◌<◌, zero, suc, arith, Bool, true, false, refl, ap, List, [], ◌∷◌, length, get_or, set, get_or-set_same, get_or-set_other}
-use Rattle.std.specs.Prelude.{ℤ, pos, if◌then◌else◌}
+use Rattle.std.proofs.Common.{◌≡◌, ◌≢◌, ℕ, ◌+◌, ◌<◌, zero, suc, arith, true, false, refl, List, [], ◌∷◌, length, get_or, set, get_or-set_same, get_or-set_other}
+use Rattle.std.specs.Prelude.{ℤ, pos}
 use Rattle.std.specs.Ordering.{int_eq}
 use Rattle.std.proofs.lemmas.Bool.Decides.{nat_tests, Decides-int_eq}
 use Rattle.std.proofs.lemmas.List.{set-get_or}
 use Rattle.grid_moves.specs.declared.Cell.{Cell}
 use Rattle.grid_moves.specs.declared.Dir.{Dir}
 use Rattle.grid_moves.specs.declared.Dir.TheVariants.{N, NE, E, SE, S, SW, W, NW}
-use Rattle.grid_moves.specs.Grid.{cell_number}
 use Rattle.grid_moves.specs.Move.{dir_number}
 use Rattle.grid_moves.proofs.Places.{one_place, one_cell, number_below}
 use Rattle.pruning.proofs.Table.{same_dir}
@@ -18,11 +17,7 @@ int_eq-itself : (x : ℤ) → int_eq x x ≡ true
 int_eq-itself x = (Decides-int_eq x x).1 refl
 
 int_eq-apart : (x y : ℤ) → x ≢ y → int_eq x y ≡ false
-int_eq-apart x y h = by_test (int_eq x y) refl
-  where
-    by_test : (b : Bool) → int_eq x y ≡ b → int_eq x y ≡ false
-    by_test true e = absurd (h ((Decides-int_eq x y).0 e))
-    by_test false e = e
+int_eq-apart x y h = grind arith
 
 pub none_differing : (xs : List ℤ) → places_differing xs xs ≡ 0
 none_differing [] = refl
@@ -35,12 +30,7 @@ pub one_less : (xs ys : List ℤ) (i : ℕ) → i < length xs → length xs ≡ 
 one_less [] ys i h e n = absurd (omega arith)
 one_less (x ∷ xs) [] i h e n = absurd (omega arith)
 one_less (x ∷ xs) (y ∷ ys) zero h e n = rw (int_eq-apart x y n, int_eq-itself y) (omega arith)
-one_less (x ∷ xs) (y ∷ ys) (suc i) h e n =
-    let rest = one_less xs ys i (omega arith) (omega arith) n in
-    regroup (if int_eq x y then 0 else 1) _ _ rest
-  where
-    regroup : (a b c : ℕ) → b ≡ c + 1 → a + b ≡ a + c + 1
-    regroup a b c h = omega arith
+one_less (x ∷ xs) (y ∷ ys) (suc i) h e n = grind (arith, one_less xs ys i (omega arith) (omega arith) n)
 
 dir_below : (d : Dir) → dir_number d < 8
 dir_below N = omega arith
@@ -57,11 +47,7 @@ one_dir d e h = same_dir d e (grind (arith, nat_tests))
 
 module _ (t : TablesData) (whole : IsWhole t) (u : Cell) (on : is_on t u ≡ true) where
   place_within : (d : Dir) → entry_place t.width u d < length t.entries
-  place_within d = rw whole.whole (within (number_below t.width t.height u (grind (arith, nat_tests))
-      (grind (arith, nat_tests))) (dir_below d))
-    where
-      within : {c n k : ℕ} → c < n → k < 8 → c * 8 + k < n * 8
-      within h e = omega arith
+  place_within d = grind (arith, number_below, dir_below)
 
   pub entry-with : (d : Dir) (x : ℤ) → entry_at (tables_with t u d x) u d ≡ x
   entry-with d x = get_or-set_same t.entries (entry_place t.width u d) x (pos 0) (place_within d)
@@ -69,14 +55,7 @@ module _ (t : TablesData) (whole : IsWhole t) (u : Cell) (on : is_on t u ≡ tru
   pub entry-with_other : (d e : Dir) (w : Cell) (x : ℤ) → is_on t w ≡ true → (w ≡ u → e ≡ d → ⊥)
       → entry_at (tables_with t u d x) w e ≡ entry_at t w e
   entry-with_other d e w x on_too other =
-      get_or-set_other t.entries (entry_place t.width u d) (entry_place t.width w e) x (pos 0) apart
-    where
-      apart : entry_place t.width w e ≢ entry_place t.width u d
-      apart same =
-          let p = one_place 8 (dir_number e) (cell_number t.width w) (dir_number d) (cell_number t.width u)
-          (dir_below e) (dir_below d) same in
-          other (one_cell t.width w u (grind (arith, nat_tests)) (grind (arith, nat_tests)) p.0)
-          (one_dir e d p.1)
+      grind (arith, get_or-set_other, one_place, dir_below, one_cell, one_dir)
 
   pub count-with : (d : Dir) (x : ℤ) (r : List ℤ) → length t.entries ≡ length r
       → x ≡ get_or r (entry_place t.width u d) (pos 0) → entry_at t u d ≢ x
@@ -85,7 +64,4 @@ module _ (t : TablesData) (whole : IsWhole t) (u : Cell) (on : is_on t u ≡ tru
       rw s (one_less t.entries r (entry_place t.width u d) (place_within d) e (rw (← s) n))
 
   pub with_itself : (d : Dir) → tables_with t u d (entry_at t u d) ≡ t
-  with_itself d = ap
-      (λ (es : List ℤ). let s : TablesData =
-      record { width = t.width; height = t.height; corner = t.corner; entries = es } in s)
-      (set-get_or t.entries (entry_place t.width u d) (pos 0))
+  with_itself d = grind (arith, set-get_or)

@@ -11,43 +11,40 @@ use Rattle.table_repair.proofs.Walking.{or_false}
 use Rattle.table_repair.proofs.Directions.{none_waits}
 use Rattle.table_repair.proofs.Reach.{rear_behind}
 
-module _ (h : GridData) (rows columns wide rear : Span) (by : ℕ) (d : Dir) (diagonal : is_diagonal d ≡ true)
+module _ (h : GridData) (rows columns : Span) {wide rear : Span} (by : ℕ) (d : Dir)
+    (diagonal : is_diagonal d ≡ true)
     (is_wide : wide ≡ widened (goes_right d) columns by h.width)
     (is_rear : rear ≡ span_next (goes_down d) rows by h.height) where
-  both_parts : (t : TablesData) → FollowBut h t d (is_in_reach h rows columns by d)
+  both_parts : {t : TablesData} → FollowBut h t d (is_in_reach h rows columns by d)
       → FollowBut h t d (either (is_in rows wide) (is_in rear columns))
-  both_parts t f = rw (is_wide, is_rear) f
+  both_parts f = rw (is_wide, is_rear) f
 
-  pub first_waits : (t : TablesData) → FollowBut h t d (is_in_reach h rows columns by d)
+  pub first_waits : {t : TablesData} → FollowBut h t d (is_in_reach h rows columns by d)
       → CanSweep h t d (is_in rows wide)
-  first_waits t f = record {
+  first_waits f = record {
     later = is_in rear columns;
-    follow = both_parts t f;
+    follow = both_parts f;
     none_ahead = rw is_rear (rear_behind d rows columns wide by h.height diagonal);
   }
 
-  pub second_waits : (t now : TablesData) → FollowBut h t d (is_in_reach h rows columns by d)
+  pub second_waits : {t now : TablesData} → FollowBut h t d (is_in_reach h rows columns by d)
       → Sweeps h d (is_in rows wide) t now → CanSweep h now d (is_in rear columns)
-  second_waits t now f sweeps = record {
+  second_waits f sweeps = record {
     later = λ w. false;
-    follow = follow_more h now d (is_in rear columns) (either (is_in rear columns) (λ w. false))
-        (λ w k. (or_false (is_in rear columns w) false k).0)
-        (sweeps (is_in rear columns) (both_parts t f));
+    follow = follow_more (λ w k. (or_false (is_in rear columns w) false k).0)
+        (sweeps (is_in rear columns) (both_parts f));
     none_ahead = λ v w k here r. refl;
   }
 
-  pub both_right : (t now new : TablesData) → FollowBut h t d (is_in_reach h rows columns by d)
+  pub both_right : {t now new : TablesData} → FollowBut h t d (is_in_reach h rows columns by d)
       → Sweeps h d (is_in rows wide) t now → Sweeps h d (is_in rear columns) now new → AreRight h new d
-  both_right t now new f first second = none_waits h new d (λ w. false) (λ w. refl)
-      (second (λ w. false) (follow_more h now d (is_in rear columns) (either (is_in rear columns) (λ w. false))
-      (λ w k. (or_false (is_in rear columns w) false k).0)
-      (first (is_in rear columns) (both_parts t f))))
+  both_right {new = new} f first second = none_waits h new d (λ w. false) (λ w. refl)
+      (second (λ w. false) (follow_more (λ w k. (or_false (is_in rear columns w) false k).0)
+      (first (is_in rear columns) (both_parts f))))
 
-  pub both_mend : (t now new : TablesData) (m n : ℕ) → Mends h d (is_in rows wide) t now m
+  pub both_mend : {t now new : TablesData} {m n : ℕ} → Mends h d (is_in rows wide) t now m
       → Mends h d (is_in rear columns) now new n → Mends h d any_cell t new (m + n)
-  both_mend t now new m n a b = mends_both h d any_cell t now new m n
-      (mends_wider h d (is_in rows wide) any_cell (λ w k. refl) t now m a)
-      (mends_wider h d (is_in rear columns) any_cell (λ w k. refl) now new n b)
+  both_mend a b = mends_both (mends_wider (λ w k. refl) a) (mends_wider (λ w k. refl) b)
 
   -- they lie on the map
   wide_end : (before : Bool) → IsBlock h rows columns → (widened before columns by h.width).end ≤ h.width
@@ -77,16 +74,7 @@ module _ (h : GridData) (rows columns wide rear : Span) (by : ℕ) (d : Dir) (di
   -- how many cells that are, at most three of them in each row behind the block
   pub cells_few : IsBlock h rows columns
       → span_length rows * span_length wide + 3 * span_length rear ≤ 3 * (h.width + h.height)
-  cells_few b =
-      let w : span_length wide ≤ h.width = rw is_wide (wide_short (goes_right d) b) in
-      let r : span_length rear ≤ h.height = rw is_rear (rear_short (goes_down d) b) in
-      total (span_length rows) (span_length wide) (span_length rear)
-      (let m = b.three_rows in omega arith) w r
-    where
-      total : (a b c : ℕ) → a ≤ 3 → b ≤ h.width → c ≤ h.height → a * b + 3 * c ≤ 3 * (h.width + h.height)
-      total a b c i j k =
-          let one : a * b ≤ 3 * h.width = mul-le-mul i j in
-          omega arith
+  cells_few b = grind (arith, wide_short, rear_short, mul-le-mul)
 
 pub steps_both : (start now new m n cells more limit : ℕ) → now ≤ start + m + cells → new ≤ now + n + more
     → cells + more ≤ limit → new ≤ start + (m + n) + limit

@@ -1,5 +1,6 @@
 -- Sweeps for directions of one kind, one after the other.
-use Rattle.std.proofs.Common.{◌≡◌, ℕ, ◌+◌, ◌≤◌, ◌⊎◌, inl, inr, arith, Bool, true, false, refl, ap, sym, ◌∙◌}
+use Rattle.std.proofs.Common.{◌≡◌, ℕ, ◌+◌, ◌⊎◌, inl, inr, arith, Bool, true, false, ap, sym, ◌∙◌}
+use Rattle.std.proofs.lemmas.Bool.{cases_Bool}
 use Rattle.grid_moves.specs.declared.Cell.{Cell}
 use Rattle.grid_moves.specs.declared.Dir.{Dir}
 use Rattle.grid_moves.specs.Grid.{GridData, is_inside}
@@ -7,20 +8,18 @@ use Rattle.grid_moves.specs.Move.{is_dir}
 use Rattle.pruning.proofs.Table.{same_dir}
 use Rattle.plus_tables.specs.Tables.{TablesData, entry_at}
 use Rattle.table_repair.specs.Mending.{AreRight, AreBesideRight, AreReady, AreSound, FollowBut, IsMended, Mends, MendsKind}
-use Rattle.table_repair.proofs.Mends.{sized_kept}
+use Rattle.table_repair.proofs.Mends.{sized_kept, still_mended}
 use Rattle.table_repair.proofs.Lines.{right_ahead}
 
-pub ready_from : (h : GridData) (t : TablesData) (d : Dir) → AreSound h t → AreBesideRight h t d → AreReady h t d
+pub ready_from : (h : GridData) (t : TablesData) (d : Dir) → AreSound h t → AreBesideRight h t d
+    → AreReady h t d
 ready_from h t d s b = record { grid = s.grid; sized = s.sized; whole = s.whole; beside = b }
 
-pub sound_from : (h : GridData) (t : TablesData) (d : Dir) → AreReady h t d → AreSound h t
-sound_from h t d r = record { grid = r.grid; sized = r.sized; whole = r.whole }
-
-pub sound_stays : (h : GridData) (d : Dir) (starts : Cell → Bool) (old new : TablesData) (n : ℕ)
+pub sound_stays : {h : GridData} {d : Dir} {starts : Cell → Bool} {old new : TablesData} {n : ℕ}
     → Mends h d starts old new n → AreSound h old → AreSound h new
-sound_stays h d starts old new n m s = record {
+sound_stays m s = record {
   grid = s.grid;
-  sized = sized_kept h d starts old new n m s.sized;
+  sized = sized_kept m s.sized;
   whole = record {
     sides = rw (m.width, m.height) s.whole.sides;
     whole = rw (m.width, m.height) (m.length_kept ∙ s.whole.whole);
@@ -29,79 +28,44 @@ sound_stays h d starts old new n m s = record {
 
 -- a direction is another one
 apart : (kind : Dir → Bool) (d e : Dir) → kind d ≡ true → kind e ≡ false → is_dir e d ≡ false
-apart kind d e h k = by_test (is_dir e d) refl
-  where
-    by_test : (b : Bool) → is_dir e d ≡ b → is_dir e d ≡ false
-    by_test false i = i
-    by_test true i =
-        let same : kind e ≡ kind d = ap kind (same_dir e d i) in
-        let t : true ≡ false = sym h ∙ sym same ∙ k in
-        absurd (cc)
+apart kind d e h k = elim (cases_Bool (is_dir e d)) [
+  | inr i ↦ i
+  | inl i ↦
+      let same : kind e ≡ kind d = ap kind (same_dir e d i) in
+      let t : true ≡ false = sym h ∙ sym same ∙ k in
+      absurd (cc)
+]
 
-module _ (h : GridData) (kind : Dir → Bool) (starts : Cell → Bool) where
-  pub kind_none : (t : TablesData) → AreSound h t → MendsKind h kind starts t t 0
-  kind_none t s = record {
-    sound = s;
-    others = λ u e k i. refl;
-    along = λ u e k i. inl refl;
-    count = λ r w a. omega arith;
-  }
-
+module _ {h : GridData} {kind : Dir → Bool} {starts : Cell → Bool} where
   -- one direction more
-  pub kind_more : (s t u : TablesData) (m n : ℕ) (d : Dir) → kind d ≡ true → MendsKind h kind starts s t m
+  pub kind_more : {s t u : TablesData} {m n : ℕ} {d : Dir} → kind d ≡ true → MendsKind h kind starts s t m
       → Mends h d starts t u n → MendsKind h kind starts s u (m + n)
-  kind_more s t u m n d of_kind a b = record {
-    sound = sound_stays h d starts t u n b a.sound;
+  kind_more {s = s} {t = t} {u = u} {m = m} {n = n} {d = d} of_kind a b = record {
+    sound = sound_stays b a.sound;
     others = λ v e k i. b.others v e (apart kind d e of_kind k) i ∙ a.others v e k i;
     along = along;
-    count = λ r w k. regroup _ _ _ (a.count r w k) (b.count r w k);
+    count = λ r w k. omega (arith, a.count r w k, b.count r w k);
   }
     where
-      regroup : (x y z : ℕ) → x ≡ y + m → y ≡ z + n → x ≡ z + (m + n)
-      regroup x y z e f = omega arith
-
-      carried : (v : Cell) (e : Dir) (l : ℕ) → l ≤ m + n → entry_at u v e ≡ entry_at t v e
-          → IsMended h t e starts l v → IsMended h u e starts (m + n) v
-      carried v e l few same k = record {
-        right = same ∙ k.right;
-        moves = k.moves;
-        few = let less = k.few in omega arith;
-        start = k.start;
-        starts_there = k.starts_there;
-        reaches = k.reaches;
-      }
-
       before : (v : Cell) (e : Dir) → kind e ≡ true → is_inside h v ≡ true
           → entry_at u v e ≡ entry_at t v e
           → (entry_at u v e ≡ entry_at s v e) ⊎ IsMended h u e starts (m + n) v
       before v e k i same = elim (a.along v e k i) [
         | inl f ↦ inl (same ∙ f)
-        | inr l ↦ inr (carried v e m (omega arith) same l)
+        | inr l ↦ inr (still_mended (λ w j. j) (same ∙ l.right) (omega arith) l)
       ]
 
       along : (v : Cell) (e : Dir) → kind e ≡ true → is_inside h v ≡ true
           → (entry_at u v e ≡ entry_at s v e) ⊎ IsMended h u e starts (m + n) v
-      along v e k i = by_dir (is_dir e d) refl
-        where
-          by_dir : (b : Bool) → is_dir e d ≡ b
-              → (entry_at u v e ≡ entry_at s v e) ⊎ IsMended h u e starts (m + n) v
-          by_dir false j = before v e k i (b.others v e j i)
-          by_dir true j =
-              let same = same_dir e d j in
-              elim (b.along v i) [
-                | inl f ↦ before v e k i (rw same f)
-                | inr l ↦ rw same (inr (carried_on l))
-              ]
-            where
-              carried_on : IsMended h u d starts n v → IsMended h u d starts (m + n) v
-              carried_on l = record {
-                right = l.right;
-                moves = l.moves;
-                few = let less = l.few in omega arith;
-                start = l.start;
-                starts_there = l.starts_there;
-                reaches = l.reaches;
-              }
+      along v e k i = elim (cases_Bool (is_dir e d)) [
+        | inr j ↦ before v e k i (b.others v e j i)
+        | inl j ↦
+            let same = same_dir e d j in
+            elim (b.along v i) [
+              | inl f ↦ before v e k i (rw same f)
+              | inr l ↦ rw same (inr (still_mended (λ w j. j) l.right (omega arith) l))
+            ]
+      ]
 
 -- where no cell waits all entries are right
 pub none_waits : (h : GridData) (t : TablesData) (d : Dir) (waits : Cell → Bool)
@@ -117,7 +81,4 @@ right_follows h t d waits r = record { next = λ u v i e j w s. r u i; last = λ
 pub follow_stays : (h : GridData) (old new : TablesData) (d : Dir) (waits : Cell → Bool)
     → ((u : Cell) → is_inside h u ≡ true → entry_at new u d ≡ entry_at old u d) → FollowBut h old d waits
     → FollowBut h new d waits
-follow_stays h old new d waits same f = record {
-  next = λ u v i e j w r. same u i ∙ f.next u v i e j w (sym (same v j) ∙ r);
-  last = λ u i l. same u i ∙ f.last u i l;
-}
+follow_stays h old new d waits same f = grind arith

@@ -1,5 +1,5 @@
 -- An edit of a grid leaves its tables those of a grid that differs at one cell.
-use Rattle.std.proofs.Common.{◌≡◌, ◌≢◌}
+use Rattle.std.proofs.Common.{◌≡◌, ◌≢◌, arith}
 use Rattle.grid_moves.specs.declared.Cell.{Cell}
 use Rattle.grid_moves.specs.Grid.{GridData, is_free}
 use Rattle.plus_tables.specs.Tables.{TablesData, AreTablesOf}
@@ -8,8 +8,4 @@ use Rattle.table_repair.specs.Repaired.{AreTablesBut}
 pub tables_but : (t : TablesData) (g h : GridData) (c : Cell) → AreTablesOf t g → h.width ≡ g.width
     → h.height ≡ g.height → h.corner ≡ g.corner → ((u : Cell) → u ≢ c → is_free h u ≡ is_free g u)
     → AreTablesBut t h c
-tables_but t g h c tables width height corner others = record {
-  before = g;
-  tables = tables;
-  differ = record { width = width; height = height; corner = corner; others = others };
-}
+tables_but t g h c tables width height corner others = grind arith

@@ -37,31 +37,32 @@ all_diagonal S k = absurd (cc)
 all_diagonal W k = absurd (cc)
 
 -- the rows or columns, as code tells them
-pub beside_told : (s : Span) (n given side side_of : ℕ) → s ≡ span_beside n given → given ≡ side
+pub beside_told : {s : Span} (n : ℕ) {given side side_of : ℕ} → s ≡ span_beside n given → given ≡ side
     → side ≡ side_of → s ≡ span_beside n side_of
-beside_told s n given side side_of e f g = rw (← g, ← f) e
+beside_told n e f g = rw (← g, ← f) e
 
-pub straight_starts : (h : GridData) (c : Cell) (t : TablesData) (rows columns : Span) → AreTablesBut t h c
+pub straight_starts : {h : GridData} {c : Cell} {t : TablesData} {rows columns : Span} → AreTablesBut t h c
     → rows ≡ span_beside c.y h.height → columns ≡ span_beside c.x h.width → (d : Dir) → is_straight d ≡ true
     → FollowBut h t d (is_in rows columns)
-straight_starts h c t rows columns but r s d k =
+straight_starts {h} {c} {t} {rows} {columns} but r s d k =
     straight_begins c but.before h but.differ t d rows columns r s (not_diagonal (is_diagonal d) k) but.tables
   where
     not_diagonal : (b : Bool) → not b ≡ true → b ≡ false
     not_diagonal true k = absurd (cc)
     not_diagonal false k = refl
 
-pub diagonal_starts : (h : GridData) (c : Cell) (t now : TablesData) (n by : ℕ) (rows columns : Span)
+pub diagonal_starts : {h : GridData} {c : Cell} {t now : TablesData} {n by : ℕ} {rows columns : Span}
     → AreTablesBut t h c → rows ≡ span_beside c.y h.height → columns ≡ span_beside c.x h.width → IsGrid h
     → by ≡ min n 4096 → MendsKind h is_straight (is_in rows columns) t now n
     → ((d : Dir) → is_listed (N ∷ E ∷ S ∷ W ∷ []) d ≡ true → AreRight h now d) → (d : Dir)
     → is_diagonal d ≡ true → FollowBut h now d (is_in_reach h rows columns by d)
-diagonal_starts h c t now n by rows columns but r s grid is_by mends right d k =
+diagonal_starts {h} {c} {t} {now} {n} {by} {rows} {columns} but r s grid is_by mends right d k =
     diagonal_begins c but.before h but.differ t now n by d rows columns r s grid
     (λ m few short. omega arith) but.tables mends (λ e l. right e (all_straight e l)) k
 
-module _ (h : GridData) (starts : Cell → Bool) (t now new : TablesData) (m n : ℕ)
-    (straight : MendsKind h is_straight starts t now m) (diagonal : MendsKind h is_diagonal any_cell now new n)
+module _ {h : GridData} {starts : Cell → Bool} {t now new : TablesData} {m n : ℕ}
+    (straight : MendsKind h is_straight starts t now m)
+    (diagonal : MendsKind h is_diagonal any_cell now new n)
     (straight_right : (d : Dir) → is_listed (N ∷ E ∷ S ∷ W ∷ []) d ≡ true → AreRight h now d)
     (diagonal_right : (d : Dir) → is_listed (NE ∷ SE ∷ SW ∷ NW ∷ []) d ≡ true → AreRight h new d) where
   pub all_right : AreTablesOf new h
@@ -87,14 +88,7 @@ module _ (h : GridData) (starts : Cell → Bool) (t now new : TablesData) (m n :
 pub all_steps : (start now new m n w h rows columns : ℕ) → rows ≤ 3 → columns ≤ 3 → rows ≤ h → columns ≤ w
     → now ≤ start + m + 4 * (rows * columns) → new ≤ now + n + 4 * (3 * (w + h))
     → new ≤ start + 18 * (w + h) + (m + n)
-all_steps start now new m n w h rows columns a b c e f g =
-    let one : rows * columns ≤ 3 * w = mul-le-mul a e in
-    let other : rows * columns ≤ h * 3 = mul-le-mul c b in
-    total (rows * columns) one other f
-  where
-    total : (cells : ℕ) → cells ≤ 3 * w → cells ≤ h * 3 → now ≤ start + m + 4 * cells
-        → new ≤ start + 18 * (w + h) + (m + n)
-    total cells i j k = omega arith
+all_steps start now new m n w h rows columns a b c e f g = grind (arith, mul-le-mul)
 
 pub three_beside : (n side : ℕ) → span_length (span_beside n side) ≤ 3
 three_beside n side = omega arith

@@ -1,10 +1,8 @@
 -- A narrow block is swept row by row: in each row walks begin beside those that have come to it.
-use Rattle.std.proofs.Common.{◌≡◌, ℕ, suc, ◌+◌, ◌<◌, ◌≤◌, inl, inr, arith, Bool, true, false, refl, sym, ◌∙◌, ◌||◌, List, [], ◌∷◌}
+use Rattle.std.proofs.Common.{◌≡◌, ℕ, suc, ◌+◌, ◌<◌, ◌≤◌, inl, inr, arith, Bool, true, false, refl, sym, ◌∙◌, ◌||◌, List, []}
 use Rattle.std.specs.Prelude.{nat_eq}
-use Rattle.std.proofs.lemmas.Bool.Decides.{nat_tests}
 use Rattle.grid_moves.specs.declared.Cell.{Cell}
 use Rattle.grid_moves.specs.declared.Dir.{Dir}
-use Rattle.grid_moves.specs.declared.Dir.TheVariants.{N, NE, E, SE, S, SW, W, NW}
 use Rattle.grid_moves.specs.Grid.{GridData, is_inside}
 use Rattle.grid_moves.proofs.Legal.{and_both}
 use Rattle.pruning.specs.Turns.{is_diagonal}
@@ -19,8 +17,8 @@ use Rattle.table_repair.proofs.Lines.{after_moved, right_ahead}
 use Rattle.table_repair.proofs.Mends.{mends_none, right_stays}
 use Rattle.table_repair.proofs.Moving.{ahead_moved}
 use Rattle.table_repair.proofs.Rows.{not_true, row_of_block, row_or_rest}
-use Rattle.table_repair.proofs.Sweeping.{IsEdge, IsTaken, among_parts}
-use Rattle.table_repair.proofs.Walking.{or_false, false_or}
+use Rattle.table_repair.proofs.Sweeping.{IsTaken, among_parts, number_same}
+use Rattle.table_repair.proofs.Walking.{or_false, false_or, or_left, or_right}
 
 -- the row is one of those that are left, or lies behind them
 abbrev pub IsPast : Bool → Span → ℕ → Type 0
@@ -36,53 +34,35 @@ pub row_below : (h : GridData) (rows : Span) (y : ℕ) → is_among rows y ≡ t
 row_below h rows y i low = let p = among_parts rows y i in let l = p.1 in omega arith
 
 -- nothing has begun
-pub enter_none : (h : GridData) (d : Dir) (all : Cell → Bool) (t : TablesData) (walks : List Walk)
+pub enter_none : {h : GridData} {d : Dir} {all : Cell → Bool} {t : TablesData} {walks : List Walk}
     → AreReady h t d → walks ≡ [] → KeepAbreast h d all t t walks all 0
-enter_none h d all t walks ready e = rw e (record {
+enter_none {t = t} ready e = rw e (record {
   ready = ready;
   inside = λ w k. absurd (cc);
   mended = λ w k. absurd (cc);
-  mends = mends_none h d all t;
+  mends = mends_none t;
   follows = λ later f. f;
 })
 
 pub past_none : (down : Bool) (left : Span) (walks : List Walk) → walks ≡ [] → (w : Cell)
     → is_at_one walks w ≡ true → IsPast down left w.y
-past_none down left walks e w k = absurd (nobody walks e k)
-  where
-    nobody : (walks : List Walk) → walks ≡ [] → is_at_one walks w ≡ true → ⊥
-    nobody [] e k = absurd (cc)
-    nobody (v ∷ vs) e k = absurd (cc)
+past_none down left walks e w k = grind arith
 
-module _ (h : GridData) (d : Dir) (rows columns left rest : Span) (y : ℕ) (old now : TablesData)
-    (walks : List Walk) (n : ℕ) (diagonal : is_diagonal d ≡ true)
+module _ {h : GridData} {d : Dir} (rows columns : Span) {left rest : Span} {y : ℕ} {old now : TablesData}
+    {walks : List Walk} {n : ℕ} (diagonal : is_diagonal d ≡ true)
     (abreast : KeepAbreast h d (is_in rows columns) old now walks (is_in left columns) n)
     (past : (w : Cell) → is_at_one walks w ≡ true → IsPast (goes_down d) left w.y)
     (within : (k : ℕ) → is_among left k ≡ true → is_among rows k ≡ true)
     (taken : IsTaken (goes_down d) left y rest) where
   of_block : (w : Cell) → is_in_row y columns w ≡ true → is_in rows columns w ≡ true
-  of_block w i = row_of_block (goes_down d) rows columns left rest y within taken w i
+  of_block w i = row_of_block rows columns within taken w i
 
   -- what lies ahead of the row is not past
   ahead_past : (k : ℕ) (v w : Cell) → v.y ≡ y → AreMoved d (suc k) v w → IsPast (goes_down d) left w.y → ⊥
-  ahead_past k v w e m p = by_dir d diagonal m taken.edge p
-    where
-      by_dir : (d : Dir) → is_diagonal d ≡ true → AreMoved d (suc k) v w → IsEdge (goes_down d) left y rest
-          → IsPast (goes_down d) left w.y → ⊥
-      by_dir N q m i p = absurd (cc)
-      by_dir NE q m i p = let a = m.1 in let b = i.0 in omega arith
-      by_dir E q m i p = absurd (cc)
-      by_dir SE q m i p = let a = m.1 in let b = i.0 in omega arith
-      by_dir S q m i p = absurd (cc)
-      by_dir SW q m i p = let a = m.1 in let b = i.0 in omega arith
-      by_dir W q m i p = absurd (cc)
-      by_dir NW q m i p = let a = m.1 in let b = i.0 in omega arith
+  ahead_past k v w e m p = grind arith
 
   row_is : (v : Cell) → is_in_row y columns v ≡ true → v.y ≡ y
-  row_is v i = same v.y y (and_both (nat_eq v.y y) (is_among columns v.x) i).0
-    where
-      same : (m n : ℕ) → nat_eq m n ≡ true → m ≡ n
-      same m n e = grind (arith, nat_tests)
+  row_is v i = number_same v.y y (and_both (nat_eq v.y y) (is_among columns v.x) i).0
 
   -- the row's entries are right, since no cell ahead waits
   pub enter_right : CanSweep h old d (is_in rows columns)
@@ -103,32 +83,14 @@ module _ (h : GridData) (d : Dir) (rows columns left rest : Span) (y : ℕ) (old
   -- walks that have left the row are past those that are left
   pub enter_past : (w : Cell) → IsBehindOne d (either (is_at_one walks) (is_in_row y columns)) w
       → IsPast (goes_down d) rest w.y
-  enter_past w b = by_dir d diagonal (ahead_moved d w b.from b.behind) taken.edge from_past
-    where
-      from_past : IsPast (goes_down d) left b.from.y
-      from_past = elim (or_either (is_at_one walks b.from) (is_in_row y columns b.from) b.stood) [
-        | inl i ↦ past b.from i
-        | inr i ↦ rw (row_is b.from i) (among_past (goes_down d) left y taken.member)
-      ]
+  enter_past w b = grind (arith, ahead_moved, or_either, row_is, among_past)
 
-      by_dir : (d : Dir) → is_diagonal d ≡ true → AreMoved d 1 w b.from → IsEdge (goes_down d) left y rest
-          → IsPast (goes_down d) left b.from.y → IsPast (goes_down d) rest w.y
-      by_dir N q m i p = absurd (cc)
-      by_dir NE q m i p = let a = m.1 in let b = i.0 in let c = i.1 in omega arith
-      by_dir E q m i p = absurd (cc)
-      by_dir SE q m i p = let a = m.1 in let b = i.0 in let c = i.1 in omega arith
-      by_dir S q m i p = absurd (cc)
-      by_dir SW q m i p = let a = m.1 in let b = i.0 in let c = i.1 in omega arith
-      by_dir W q m i p = absurd (cc)
-      by_dir NW q m i p = let a = m.1 in let b = i.0 in let c = i.1 in omega arith
-
-  pub enter_next : (new : TablesData) (onward : List Walk) (m : ℕ)
+  pub enter_next : {new : TablesData} {onward : List Walk} {m : ℕ}
       → ((v : Cell) → is_in_row y columns v ≡ true → IsRight h now v d)
       → KeepAbreast h d (either (is_at_one walks) (is_in_row y columns)) now new onward no_cell m
       → KeepAbreast h d (is_in rows columns) old new onward (is_in rest columns) (n + m)
-  enter_next new onward m right second =
-      abreast_then h d (is_in rows columns) old now new walks onward (is_in left columns)
-      (either (is_at_one walks) (is_in_row y columns)) (is_in rest columns) n m abreast reached split second
+  enter_next right second =
+      abreast_then abreast reached split second
     where
       reached : (w : Cell) → (is_at_one walks w || is_in_row y columns w) ≡ true
           → IsMended h now d (is_in rows columns) n w
@@ -149,39 +111,33 @@ module _ (h : GridData) (d : Dir) (rows columns left rest : Span) (y : ℕ) (old
       split w k r =
           let p = or_false (is_at_one walks w) (is_in_row y columns w) k in
           false_or (is_at_one walks w) (is_in left columns w) p.0
-          (row_or_rest (goes_down d) rows columns left rest y within taken w p.1 r)
+          (row_or_rest rows columns within taken w p.1 r)
 
 -- no row is left, and the walks are led out
-pub enter_ends : (h : GridData) (d : Dir) (all left : Cell → Bool) (old now new : TablesData)
-    (walks onward : List Walk) (n m : ℕ) → KeepAbreast h d all old now walks left n
+pub enter_ends : {h : GridData} {d : Dir} {all left : Cell → Bool} {old now new : TablesData}
+    {walks onward : List Walk} {n m : ℕ} → KeepAbreast h d all old now walks left n
     → ((w : Cell) → left w ≡ false) → KeepAbreast h d (is_at_one walks) now new onward no_cell m
     → KeepAbreast h d all old new onward no_cell (n + m)
-enter_ends h d all left old now new walks onward n m first none second =
-    abreast_then h d all old now new walks onward left (is_at_one walks) no_cell n m first first.mended
-    (λ w k l. false_or (is_at_one walks w) (left w) k (none w)) second
+enter_ends {left = left} {walks = walks} first none second =
+    abreast_then first first.mended (λ w k l. false_or (is_at_one walks w) (left w) k (none w)) second
 
 -- One row: some walks were led out or none, others begin in the row, and all go one move on or end.
-module _ (h : GridData) (d : Dir) (row : Cell → Bool) (old mid : TablesData) (walks kept all : List Walk)
-    (n : ℕ)
+module _ {h : GridData} {d : Dir} (row : Cell → Bool) {old mid : TablesData} (walks : List Walk)
+    {kept : List Walk} (all : List Walk) {n : ℕ}
     (first : KeepAbreast h d (is_at_one walks) old mid kept no_cell n)
     (there : (w : Cell) → is_at_one all w ≡ (is_at_one kept w || row w))
     (inside : (w : Cell) → row w ≡ true → is_inside h w ≡ true)
     (right : (w : Cell) → row w ≡ true → IsRight h old w d) where
   pub entered : KeepAbreast h d (either (is_at_one walks) row) old mid all no_cell n
-  entered = abreast_enter h d (either (is_at_one walks) row) row old mid kept all n
-      (abreast_beside h d (is_at_one walks) row old mid kept n first) there inside
-      (λ w k. right_stays h d (is_at_one walks) old mid n first.mends w d (inside w k) (right w k))
+  entered = abreast_enter (abreast_beside row first) there inside
+      (λ w k. right_stays first.mends w d (inside w k) (right w k))
       (λ w k. or_right (is_at_one walks w) (row w) k)
-    where
-      or_right : (a b : Bool) → b ≡ true → (a || b) ≡ true
-      or_right a b k = grind arith
 
-  pub entered_next : (new : TablesData) (onward : List Walk) (m : ℕ)
+  pub entered_next : {new : TablesData} {onward : List Walk} {m : ℕ}
       → KeepAbreast h d (is_at_one all) mid new onward no_cell m
       → KeepAbreast h d (either (is_at_one walks) row) old new onward no_cell (n + m)
-  entered_next new onward m second =
-      enter_ends h d (either (is_at_one walks) row) no_cell old mid new all onward n m entered
-      (λ w. refl) second
+  entered_next second =
+      enter_ends entered (λ w. refl) second
 
 pub entered_behind : (d : Dir) (row : Cell → Bool) (walks kept all onward : List Walk)
     → ((w : Cell) → is_at_one kept w ≡ true → is_at_one walks w ≡ true)
@@ -192,12 +148,6 @@ entered_behind d row walks kept all onward same there behind w k =
     let b = behind w k in
     record { from = b.from; stood = stood b.from b.stood; behind = b.behind }
   where
-    or_left : (a b : Bool) → a ≡ true → (a || b) ≡ true
-    or_left a b k = grind arith
-
-    or_right : (a b : Bool) → b ≡ true → (a || b) ≡ true
-    or_right a b k = grind arith
-
     stood : (v : Cell) → is_at_one all v ≡ true → (is_at_one walks v || row v) ≡ true
     stood v a = elim (or_either (is_at_one kept v) (row v) (sym (there v) ∙ a)) [
       | inl i ↦ or_left (is_at_one walks v) (row v) (same v i)

@@ -1,12 +1,12 @@
 -- What lies ahead on a line.
 use Rattle.std.proofs.Common.{◌≡◌, ℕ, zero, suc, ◌+◌, ◌-◌, ◌<◌, ◌≤◌, arith, Bool, true, false, refl, sym, ◌∙◌}
-use Rattle.std.specs.Prelude.{Option, Some, None, option_and_then, if◌then◌else◌}
+use Rattle.std.specs.Prelude.{Option, Some, None, option_and_then}
 use Rattle.std.proofs.lemmas.Bool.Decides.{nat_tests}
 use Rattle.grid_moves.specs.declared.Cell.{Cell}
 use Rattle.grid_moves.specs.declared.Dir.{Dir}
 use Rattle.grid_moves.specs.declared.Dir.TheVariants.{N, NE, E, SE, S, SW, W, NW}
 use Rattle.grid_moves.specs.Grid.{GridData, is_inside}
-use Rattle.grid_moves.specs.Move.{ahead, opposite}
+use Rattle.grid_moves.specs.Move.{ahead}
 use Rattle.pruning.proofs.Bridging.{one_of}
 use Rattle.pruning.proofs.Running.{Trend, rising, level, falling, column_trend, row_trend, IsMoved, AreMoved}
 use Rattle.plus_tables.specs.Tables.{TablesData}
@@ -41,19 +41,7 @@ after_before d k u v w e f = rw e f
 -- a cell on the map whose move leads there is the one behind
 pub behind_on-is : (h : GridData) (d : Dir) (u v : Cell) → behind_on h d v ≡ Some u
     → (ahead d u ≡ Some v) × (is_inside h u ≡ true)
-behind_on-is h d u v e = by_cell (ahead (opposite d) v) refl e
-  where
-    by_inside : (w : Cell) → ahead (opposite d) v ≡ Some w → (b : Bool) → is_inside h w ≡ b
-        → (if b then Some w else None) ≡ Some u → (ahead d u ≡ Some v) × (is_inside h u ≡ true)
-    by_inside w l true i e =
-        let s = one_of w u e in (behind_ahead d u v (rw (← s) l), rw (← s) i)
-    by_inside w l false i e = absurd (cc)
-
-    by_cell : (o : Option Cell) → ahead (opposite d) v ≡ o
-        → option_and_then (λ u. if is_inside h u then Some u else None) o ≡ Some u
-        → (ahead d u ≡ Some v) × (is_inside h u ≡ true)
-    by_cell None l e = absurd (cc)
-    by_cell (Some w) l e = by_inside w l (is_inside h w) refl e
+behind_on-is h d u v e = grind (arith, one_of, behind_ahead)
 
 pub behind_on-from : (h : GridData) (d : Dir) (u v : Cell) → ahead d u ≡ Some v → is_inside h u ≡ true
     → behind_on h d v ≡ Some u
@@ -91,13 +79,17 @@ less_room : (h : GridData) (d : Dir) (u v : Cell) → AreMoved d 1 u v → v.x <
     → room h d v < room h d u
 unfolding room
 less_room h N u v m i j = omega (arith, no_more level h.width u.x v.x m.0, less_falling h.height u.y v.y m.1)
-less_room h NE u v m i j = omega (arith, no_more rising h.width u.x v.x m.0, less_falling h.height u.y v.y m.1)
+less_room h NE u v m i j = omega
+    (arith, no_more rising h.width u.x v.x m.0, less_falling h.height u.y v.y m.1)
 less_room h E u v m i j = omega (arith, less_rising h.width u.x v.x m.0 i, no_more level h.height u.y v.y m.1)
-less_room h SE u v m i j = omega (arith, less_rising h.width u.x v.x m.0 i, no_more rising h.height u.y v.y m.1)
+less_room h SE u v m i j = omega
+    (arith, less_rising h.width u.x v.x m.0 i, no_more rising h.height u.y v.y m.1)
 less_room h S u v m i j = omega (arith, no_more level h.width u.x v.x m.0, less_rising h.height u.y v.y m.1 j)
-less_room h SW u v m i j = omega (arith, less_falling h.width u.x v.x m.0, no_more rising h.height u.y v.y m.1)
+less_room h SW u v m i j = omega
+    (arith, less_falling h.width u.x v.x m.0, no_more rising h.height u.y v.y m.1)
 less_room h W u v m i j = omega (arith, less_falling h.width u.x v.x m.0, no_more level h.height u.y v.y m.1)
-less_room h NW u v m i j = omega (arith, less_falling h.width u.x v.x m.0, no_more falling h.height u.y v.y m.1)
+less_room h NW u v m i j = omega
+    (arith, less_falling h.width u.x v.x m.0, no_more falling h.height u.y v.y m.1)
 
 module _ (h : GridData) (t : TablesData) (d : Dir) where
   -- where no cell ahead waits, the entry is right

@@ -92,18 +92,10 @@ further falling k a z b p q = omega arith
 
 pub moved_further : (d : Dir) (k : ℕ) (u v w : Cell) → AreMoved d 1 u v → AreMoved d k v w
     → AreMoved d (k + 1) u w
-moved_further d k u v w p q = (
-  further (column_trend d) k u.x v.x w.x p.0 q.0,
-  further (row_trend d) k u.y v.y w.y p.1 q.1,
-)
+moved_further d k u v w p q = grind (arith, further, column_trend, row_trend)
 
 pub moved_nowhere : (d : Dir) (u : Cell) → AreMoved d 0 u u
-moved_nowhere d u = (still (column_trend d) u.x, still (row_trend d) u.y)
-  where
-    still : (t : Trend) (a : ℕ) → IsMoved t 0 a a
-    still rising a = omega arith
-    still level a = refl
-    still falling a = omega arith
+moved_nowhere d u = grind (arith, column_trend, row_trend, rising, level, falling)
 
 -- a cell is near the one ahead of it
 near_moved : (t : Trend) (a b : ℕ) → IsMoved t 1 a b → (a ≤ b + 1) × (b ≤ a + 1)
@@ -117,19 +109,10 @@ is_near-from u v a b c d = grind (arith, nat_tests)
 
 pub is_near-parts : (u v : Cell) → is_near u v ≡ true
     → (u.x ≤ v.x + 1) × (v.x ≤ u.x + 1) × (u.y ≤ v.y + 1) × (v.y ≤ u.y + 1)
-is_near-parts u v h = (
-  grind (arith, nat_tests),
-  grind (arith, nat_tests),
-  grind (arith, nat_tests),
-  grind (arith, nat_tests),
-)
+is_near-parts u v h = grind arith
 
 pub near_ahead : (d : Dir) (u v : Cell) → ahead d u ≡ Some v → is_near u v ≡ true
-near_ahead d u v h =
-    let m = ahead_moved d u v h in
-    let x = near_moved (column_trend d) u.x v.x m.0 in
-    let y = near_moved (row_trend d) u.y v.y m.1 in
-    is_near-from u v x.0 x.1 y.0 y.1
+near_ahead d u v h = grind (arith, ahead_moved, near_moved, column_trend, row_trend, is_near-from)
 
 pub near_back : (u v : Cell) → is_near u v ≡ true → is_near v u ≡ true
 near_back u v h = let p = is_near-parts u v h in is_near-from v u p.1 p.0 p.3 p.2

@@ -1,10 +1,8 @@
 -- A row is swept piece by piece along a diagonal direction, which leads from no cell of it to another.
-use Rattle.std.proofs.Common.{◌≡◌, ℕ, suc, ◌+◌, ◌*◌, ◌-◌, ◌<◌, ◌≤◌, ◌⊎◌, inl, inr, arith, Bool, true, false, refl, sym, ◌∙◌, ◌&&◌, ◌||◌, List, [], ◌∷◌, ◌++◌, length}
-use Rattle.std.specs.Prelude.{nat_eq, nat_le, nat_lt}
-use Rattle.std.proofs.lemmas.Bool.Decides.{nat_tests}
+use Rattle.std.proofs.Common.{◌≡◌, ℕ, suc, ◌+◌, ◌*◌, ◌-◌, ◌<◌, ◌≤◌, ◌⊎◌, inl, inr, arith, Bool, true, false, refl, sym, ◌∙◌, ◌||◌, List, [], ◌∷◌, ◌++◌, length}
+use Rattle.std.specs.Prelude.{nat_eq}
 use Rattle.grid_moves.specs.declared.Cell.{Cell}
 use Rattle.grid_moves.specs.declared.Dir.{Dir}
-use Rattle.grid_moves.specs.declared.Dir.TheVariants.{N, NE, E, SE, S, SW, W, NW}
 use Rattle.grid_moves.specs.Grid.{GridData, is_inside}
 use Rattle.grid_moves.proofs.Legal.{and_both}
 use Rattle.pruning.specs.Turns.{is_diagonal}
@@ -18,19 +16,18 @@ use Rattle.table_repair.proofs.Abreast.{at_both}
 use Rattle.table_repair.proofs.Lines.{after_moved, right_ahead, is_inside-from}
 use Rattle.table_repair.proofs.Mends.{mends_wider, follow_more}
 use Rattle.table_repair.proofs.Rows.{and_true, not_true}
-use Rattle.table_repair.proofs.Sweeping.{Swept, swept_more, swept_all, among_parts, among_from}
+use Rattle.table_repair.proofs.Sweeping.{Swept, swept_more, swept_all, among_parts, among_from, number_same}
 use Rattle.table_repair.proofs.Walking.{false_or}
 
 -- what is told of one test, told of another that answers the same
-pub mends_same : (h : GridData) (d : Dir) (one other : Cell → Bool) → ((w : Cell) → one w ≡ other w)
-    → (old new : TablesData) (n : ℕ) → Mends h d one old new n → Mends h d other old new n
-mends_same h d one other same old new n m = mends_wider h d one other (λ w k. sym (same w) ∙ k) old new n m
+pub mends_same : {h : GridData} {d : Dir} {one other : Cell → Bool} → ((w : Cell) → one w ≡ other w)
+    → {old new : TablesData} {n : ℕ} → Mends h d one old new n → Mends h d other old new n
+mends_same same m = mends_wider (λ w k. sym (same w) ∙ k) m
 
 pub sweeps_same : (h : GridData) (d : Dir) (one other : Cell → Bool) → ((w : Cell) → one w ≡ other w)
     → (old new : TablesData) → Sweeps h d one old new → Sweeps h d other old new
 sweeps_same h d one other same old new sweeps later f =
-    sweeps later (follow_more h old d (either other later) (either one later)
-    (λ w k. either_way (one w) (other w) (later w) (same w) k) f)
+    sweeps later (follow_more (λ w k. either_way (one w) (other w) (later w) (same w) k) f)
   where
     either_way : (a b c : Bool) → a ≡ b → (a || c) ≡ false → (b || c) ≡ false
     either_way a b c e k = rw (← e) k
@@ -43,76 +40,36 @@ row_parts : (y : ℕ) (s : Span) (w : Cell) → is_in_row y s w ≡ true
     → (w.y ≡ y) × ((s.first ≤ w.x) × (w.x < s.end))
 row_parts y s w i =
     let p = and_both (nat_eq w.y y) (is_among s w.x) i in
-    (same w.y y p.0, among_parts s w.x p.1)
-  where
-    same : (m n : ℕ) → nat_eq m n ≡ true → m ≡ n
-    same m n h = grind (arith, nat_tests)
+    (number_same w.y y p.0, among_parts s w.x p.1)
 
 row_from : (y : ℕ) (s : Span) (w : Cell) → w.y ≡ y → s.first ≤ w.x → w.x < s.end → is_in_row y s w ≡ true
-row_from y s w e l m = and_true (nat_eq w.y y) (is_among s w.x) (same w.y y e) (among_from s w.x l m)
-  where
-    same : (m n : ℕ) → m ≡ n → nat_eq m n ≡ true
-    same m n h = grind (arith, nat_tests)
+row_from y s w e l m = grind (arith, and_true, among_from)
 
 pub row_on_map : (h : GridData) (y : ℕ) (s : Span) (w : Cell) → y < h.height → s.end ≤ h.width
     → is_in_row y s w ≡ true → is_inside h w ≡ true
-row_on_map h y s w low narrow i =
-    let p = row_parts y s w i in
-    let e = p.0 in
-    let l = p.1.1 in
-    is_inside-from h w (omega arith) (omega arith)
+row_on_map h y s w low narrow i = grind (arith, row_parts, is_inside-from)
 
 -- an empty piece adds no walk
 pub none_there : (y n : ℕ) (before : List Walk) (w : Cell)
     → is_at_one before w ≡ (is_at_one before w || is_in_row y (part n n) w)
-none_there y n before w = or_not (is_at_one before w) (is_in_row y (part n n) w)
-    (not_true (is_in_row y (part n n) w)
-    (λ i. let p = row_parts y (part n n) w i in
-    let l = p.1.0 in let m = p.1.1 in absurd (omega arith)))
-  where
-    or_not : (a b : Bool) → b ≡ false → a ≡ (a || b)
-    or_not a b e = grind arith
+none_there y n before w = grind (arith, not_true, row_parts)
 
 -- one more walk, at the next column
 pub one_more_there : (y first x : ℕ) (before walks : List Walk) (w : Cell) → first ≤ x
     → is_at_one walks w ≡ (is_at_one before w || is_in_row y (part first x) w)
     → is_at_one (walks ++ record { at = record { x = x; y = y } } ∷ []) w
     ≡ (is_at_one before w || is_in_row y (part first (x + 1)) w)
-one_more_there y first x before walks w l e =
-    at_both walks (record { at = record { x = x; y = y } } ∷ []) w
-    ∙ rw e (regroup (is_at_one before w) _ _ _ (joined w.x w.y))
-  where
-    joined : (a b : ℕ)
-        → ((nat_eq b y && (nat_le first a && nat_lt a x)) || ((nat_eq a x && nat_eq b y) || false))
-        ≡ (nat_eq b y && (nat_le first a && nat_lt a (x + 1)))
-    joined a b = grind (arith, nat_tests)
+one_more_there y first x before walks w l e = grind (arith, at_both)
 
-    regroup : (p a b c : Bool) → (a || b) ≡ c → ((p || a) || b) ≡ (p || c)
-    regroup p a b c e = grind arith
-
-module _ (h : GridData) (d : Dir) (y : ℕ) (columns : Span) (first : ℕ) (old now : TablesData) (n : ℕ)
+module _ {h : GridData} {d : Dir} (y : ℕ) (columns : Span) (first : ℕ) {old now : TablesData} {n : ℕ}
     (diagonal : is_diagonal d ≡ true) (begun : columns.first ≤ first)
     (swept : Swept h d (is_in_row y columns) (is_in_row y (part first columns.end)) old now n)
     (end : ℕ) (some : first ≤ end) (within : end ≤ columns.end) where
   of_row : (w : Cell) → is_in_row y (part first end) w ≡ true → is_in_row y columns w ≡ true
-  of_row w i =
-      let p = row_parts y (part first end) w i in
-      let l = p.1.0 in
-      let m = p.1.1 in
-      row_from y columns w p.0 (omega arith) (omega arith)
+  of_row w i = grind (arith, row_parts, row_from)
 
   off_row : (k : ℕ) (v w : Cell) (s : Span) → v.y ≡ y → AreMoved d (suc k) v w → is_in_row y s w ≡ false
-  off_row k v w s e m = not_true (is_in_row y s w) (λ i. by_dir d diagonal m (row_parts y s w i).0)
-    where
-      by_dir : (d : Dir) → is_diagonal d ≡ true → AreMoved d (suc k) v w → w.y ≡ y → ⊥
-      by_dir N k m f = absurd (cc)
-      by_dir NE k m f = let a = m.1 in omega arith
-      by_dir E k m f = absurd (cc)
-      by_dir SE k m f = let a = m.1 in omega arith
-      by_dir S k m f = absurd (cc)
-      by_dir SW k m f = let a = m.1 in omega arith
-      by_dir W k m f = absurd (cc)
-      by_dir NW k m f = let a = m.1 in omega arith
+  off_row k v w s e m = grind (arith, not_true, row_parts)
 
   -- each of its entries is right, since no cell ahead waits
   pub piece_right : y < h.height → columns.end ≤ h.width → CanSweep h old d (is_in_row y columns)
@@ -125,12 +82,10 @@ module _ (h : GridData) (d : Dir) (y : ℕ) (columns : Span) (first : ℕ) (old 
       (off_row k w u left (row_parts y (part first end) w i).0 (after_moved d (suc k) w u r))
       (can.none_ahead w u k (of_row w i) r))
 
-  pub piece_next : (new : TablesData) (m : ℕ) → Mends h d (is_in_row y (part first end)) now new m
+  pub piece_next : {new : TablesData} {m : ℕ} → Mends h d (is_in_row y (part first end)) now new m
       → Sweeps h d (is_in_row y (part first end)) now new
       → Swept h d (is_in_row y columns) (is_in_row y (part end columns.end)) old new (n + m)
-  piece_next new m mends sweeps = swept_more h d (is_in_row y columns)
-      (is_in_row y (part first columns.end)) (is_in_row y (part first end))
-      (is_in_row y (part end columns.end)) old now new n m swept split of_row mends sweeps
+  piece_next mends sweeps = swept_more swept split of_row mends sweeps
     where
       before_or_not : (a b : ℕ) → (a < b) ⊎ (b ≤ a)
       before_or_not a b = grind arith
@@ -146,12 +101,11 @@ module _ (h : GridData) (d : Dir) (y : ℕ) (columns : Span) (first : ℕ) (old 
           ])
 
 -- no column is left
-pub pieces_done : (h : GridData) (d : Dir) (y : ℕ) (columns : Span) (first : ℕ) (old now : TablesData) (n : ℕ)
+pub pieces_done : {h : GridData} {d : Dir} (y : ℕ) (columns : Span) (first : ℕ) {old now : TablesData} {n : ℕ}
     → Swept h d (is_in_row y columns) (is_in_row y (part first columns.end)) old now n
     → columns.end ≤ first → Sweeps h d (is_in_row y columns) old now
-pieces_done h d y columns first old now n swept l =
-    swept_all h d (is_in_row y columns) (is_in_row y (part first columns.end)) old now n swept
-    (λ w. not_true (is_in_row y (part first columns.end) w)
+pieces_done y columns first swept l =
+    swept_all swept (λ w. not_true (is_in_row y (part first columns.end) w)
     (λ i. let p = row_parts y (part first columns.end) w i in
     let a = p.1.0 in let b = p.1.1 in absurd (omega arith)))
 
@@ -178,7 +132,4 @@ piece_counted steps now start changed one first next end all l m h k = omega ari
 
 pub piece_short : (walks before : List Walk) (n : ℕ) → before ≡ [] → length walks ≡ length before + n
     → n ≤ 512 → length walks ≤ 512
-piece_short walks before n e long short = of_none (length before) (rw e refl) long
-  where
-    of_none : (m : ℕ) → m ≡ 0 → length walks ≡ m + n → length walks ≤ 512
-    of_none m f long = omega arith
+piece_short walks before n e long short = grind arith

@@ -1,5 +1,5 @@
 -- Straight entries that changed lie in reach of the diagonal sweeps.
-use Rattle.std.proofs.Common.{◌≡◌, ℕ, ◌+◌, ◌<◌, ◌≤◌, ◌⊎◌, inl, inr, arith, Bool, true, false, subst, ◌||◌}
+use Rattle.std.proofs.Common.{◌≡◌, ℕ, ◌+◌, ◌<◌, ◌≤◌, ◌⊎◌, inl, inr, arith, Bool, true, false}
 use Rattle.std.specs.Prelude.{suc}
 use Rattle.grid_moves.specs.declared.Cell.{Cell}
 use Rattle.grid_moves.specs.declared.Dir.{Dir}
@@ -17,6 +17,7 @@ use Rattle.table_repair.proofs.Moving.{is_near-parts}
 use Rattle.table_repair.proofs.Lines.{inside_parts, is_inside-from, after_moved}
 use Rattle.table_repair.proofs.Sweeping.{among_parts, among_from}
 use Rattle.table_repair.proofs.Rows.{and_true, not_true}
+use Rattle.table_repair.proofs.Walking.{or_left, or_right}
 
 wide_before : (s : Span) (by side a b k : ℕ) → is_among s b ≡ true → b ≡ a + k → k ≤ by
     → is_among (widened true s by side) a ≡ true
@@ -40,27 +41,11 @@ below_or a b = grind arith
 
 next_before : (s : Span) (by side a b k : ℕ) → is_among s b ≡ true → b ≡ a + k → k ≤ by
     → (is_among s a ≡ true) ⊎ (is_among (span_next true s by side) a ≡ true)
-next_before s by side a b k i m l =
-    let p = among_parts s b i in
-    elim (below_or s.first a) [
-      | inl h ↦ inl (among_from s a h (omega arith))
-      | inr h ↦ inr (among_from (span_next true s by side) a (omega arith) h)
-    ]
+next_before s by side a b k i m l = grind (arith, among_parts, below_or, among_from)
 
 next_behind : (s : Span) (by side a b k : ℕ) → is_among s b ≡ true → a ≡ b + k → k ≤ by → a < side
     → (is_among s a ≡ true) ⊎ (is_among (span_next false s by side) a ≡ true)
-next_behind s by side a b k i m l j =
-    let p = among_parts s b i in
-    elim (below_or s.end a) [
-      | inl h ↦ inr (among_from (span_next false s by side) a h (omega arith))
-      | inr h ↦ inl (among_from s a (omega arith) h)
-    ]
-
-or_left : (a b : Bool) → a ≡ true → (a || b) ≡ true
-or_left a b h = grind arith
-
-or_right : (a b : Bool) → b ≡ true → (a || b) ≡ true
-or_right a b h = grind arith
+next_behind s by side a b k i m l j = grind (arith, among_parts, below_or, among_from)
 
 module _ (h : GridData) (rows columns : Span) (by : ℕ) (d : Dir) (v : Cell) (i : is_inside h v ≡ true) where
   in_row : is_among rows v.y ≡ true → is_among (widened (goes_right d) columns by h.width) v.x ≡ true
@@ -70,9 +55,7 @@ module _ (h : GridData) (rows columns : Span) (by : ℕ) (d : Dir) (v : Cell) (i
 
   -- the block is in reach
   pub block_reached : is_in rows columns v ≡ true → is_in_reach h rows columns by d v ≡ true
-  block_reached j =
-      let p = and_both (is_among rows v.y) (is_among columns v.x) j in
-      in_row p.0 (wide_still (goes_right d) columns by h.width v.x p.1 (inside_parts h v i).0)
+  block_reached j = grind (arith, and_both, in_row, wide_still, inside_parts)
 
   in_column : is_among columns v.x ≡ true
       → (is_among rows v.y ≡ true) ⊎ (is_among (span_next (goes_down d) rows by h.height) v.y ≡ true)
@@ -160,10 +143,4 @@ rear_behind d rows columns wide by side diagonal v w k here r =
 -- the block lies on the map
 pub block_inside : (h : GridData) (c : Cell) (rows columns : Span) → rows ≡ span_beside c.y h.height
     → columns ≡ span_beside c.x h.width → (v : Cell) → is_in rows columns v ≡ true → is_inside h v ≡ true
-block_inside h c rows columns r s v i =
-    let p = and_both (is_among rows v.y) (is_among columns v.x) i in
-    let y = among_parts (span_beside c.y h.height) v.y
-    (subst (λ (t : Span). is_among t v.y ≡ true) r p.0) in
-    let x = among_parts (span_beside c.x h.width) v.x
-    (subst (λ (t : Span). is_among t v.x ≡ true) s p.1) in
-    is_inside-from h v (omega arith) (omega arith)
+block_inside h c rows columns r s v i = grind (arith, and_both, among_parts, is_inside-from)

@@ -5,11 +5,9 @@ use Rattle.std.specs.Prelude.{Option, Some, None, if◌then◌else◌}
 use Rattle.std.specs.Option.{option_to_list}
 use Rattle.grid_moves.specs.declared.Cell.{Cell}
 use Rattle.grid_moves.specs.declared.Dir.{Dir}
-use Rattle.grid_moves.specs.declared.Dir.TheVariants.{N, NE, E, SE, S, SW, W, NW}
 use Rattle.grid_moves.specs.Grid.{GridData, IsGrid, is_inside}
 use Rattle.grid_moves.specs.Move.{ahead, is_same}
 use Rattle.pruning.specs.Turns.{is_diagonal}
-use Rattle.pruning.proofs.Running.{AreMoved}
 use Rattle.plus_tables.specs.Tables.{TablesData}
 use Rattle.table_repair.specs.declared.walks.Walk.{Walk}
 use Rattle.table_repair.specs.Abreast.{is_at_one, no_cell, IsBehindOne, IsOnward, KeepAbreast, back_room, room_of}
@@ -26,20 +24,7 @@ room_both h d (x ∷ xs) ys = let e = room_both h d xs ys in omega arith
 
 room_behind : (h : GridData) (d : Dir) (u v : Cell) → is_diagonal d ≡ true → is_inside h u ≡ true
     → ahead d u ≡ Some v → back_room h d v ≡ back_room h d u + 1
-room_behind h d u v k i e =
-    let p = inside_parts h u i in
-    by_dir d k (ahead_moved d u v e) p.1
-  where
-    by_dir : (d : Dir) → is_diagonal d ≡ true → AreMoved d 1 u v → u.y < h.height
-        → back_room h d v ≡ back_room h d u + 1
-    by_dir N k m l = absurd (cc)
-    by_dir NE k m l = let a = m.1 in omega arith
-    by_dir E k m l = absurd (cc)
-    by_dir SE k m l = let a = m.1 in omega arith
-    by_dir S k m l = absurd (cc)
-    by_dir SW k m l = let a = m.1 in omega arith
-    by_dir W k m l = absurd (cc)
-    by_dir NW k m l = let a = m.1 in omega arith
+room_behind h d u v k i e = grind (arith, inside_parts, ahead_moved)
 
 -- a walk that goes on or ends has less room behind it
 room_next : (h : GridData) (d : Dir) (v : Walk) (rest : List Walk) (t : TablesData) (on : Option Walk)
@@ -48,11 +33,7 @@ room_next : (h : GridData) (d : Dir) (v : Walk) (rest : List Walk) (t : TablesDa
 unfolding room_of
 room_next h d v rest t None k onward =
     let e = room_both h d rest [] in omega arith
-room_next h d v rest t (Some next) k onward =
-    let e = room_both h d rest (next ∷ []) in
-    let o = onward next refl in
-    let r = room_behind h d next.at v.at k o.inside o.behind in
-    omega arith
+room_next h d v rest t (Some next) k onward = grind (arith, room_both, room_behind)
 
 pub room_few : (h : GridData) (d : Dir) (walks : List Walk) → IsGrid h
     → ((w : Cell) → is_at_one walks w ≡ true → is_inside h w ≡ true)
@@ -85,12 +66,12 @@ pub record Queued (h : GridData) (d : Dir) (starts : Cell → Bool) (old now : T
   pub counted : steps + length walks ≤ first + n + all
   pub later : first ≤ steps
 
-pub queued_none : (h : GridData) (d : Dir) (t : TablesData) (steps : ℕ) (walks : List Walk) → AreReady h t d
+pub queued_none : {h : GridData} {d : Dir} {t : TablesData} {steps : ℕ} {walks : List Walk} → AreReady h t d
     → ((w : Cell) → is_at_one walks w ≡ true → is_inside h w ≡ true)
     → ((w : Cell) → is_at_one walks w ≡ true → IsRight h t w d)
     → Queued h d (is_at_one walks) t t steps steps (length walks) (room_of h d walks) walks 0
-queued_none h d t steps walks ready i r = record {
-  abreast = abreast_none h d t walks ready i r;
+queued_none ready i r = record {
+  abreast = abreast_none ready i r;
   few = omega arith;
   counted = omega arith;
   later = omega arith;
@@ -105,13 +86,13 @@ pub record Round (h : GridData) (d : Dir) (old now : TablesData) (first steps : 
   pub within : i ≤ length here
   pub behind : (w : Cell) → is_at_one onward w ≡ true → IsBehindOne d (is_at_one here) w
 
-pub round_begins : (h : GridData) (d : Dir) (t : TablesData) (steps : ℕ) (walks here onward : List Walk)
+pub round_begins : {h : GridData} {d : Dir} {t : TablesData} {steps : ℕ} {walks here onward : List Walk}
     → AreReady h t d
     → ((w : Cell) → is_at_one walks w ≡ true → is_inside h w ≡ true)
     → ((w : Cell) → is_at_one walks w ≡ true → IsRight h t w d)
     → here ≡ walks → onward ≡ [] → Round h d t t steps steps here onward 0
-round_begins h d t steps walks here onward ready i r e f = rw (e, f) (record {
-  queued = rw (append-nil walks) (queued_none h d t steps walks ready i r);
+round_begins {walks = walks} ready i r e f = rw (e, f) (record {
+  queued = rw (append-nil walks) (queued_none ready i r);
   fewer = omega arith;
   within = omega arith;
   behind = λ w k. absurd (cc);
@@ -123,7 +104,7 @@ at_index [] i v l = absurd (omega arith)
 at_index (x ∷ xs) zero v l = at_first x xs
 at_index (x ∷ xs) (suc i) v l = at_others x xs (get_or xs i v).at (at_index xs i v (omega arith))
 
-module _ (h : GridData) (d : Dir) (old now : TablesData) (first steps : ℕ) (here onward : List Walk) (i : ℕ)
+module _ {h : GridData} {d : Dir} {old now : TablesData} {first steps : ℕ} {here onward : List Walk} {i : ℕ}
     (v : Walk) (round : Round h d old now first steps here onward i) (l : i < length here) where
   abbrev its_walk : Walk
   its_walk = get_or here i v
@@ -142,22 +123,21 @@ module _ (h : GridData) (d : Dir) (old now : TablesData) (first steps : ℕ) (he
   walk_ready = queue.abreast.ready
 
   pub walk_inside : is_inside h (get_or here i v).at ≡ true
-  walk_inside = first_inside h d (is_at_one here) old now its_walk others (length onward) queue.abreast
+  walk_inside = first_inside queue.abreast
 
   pub walk_right : IsRight h now (get_or here i v).at d
-  walk_right = first_right h d (is_at_one here) old now its_walk others (length onward) queue.abreast
+  walk_right = first_right queue.abreast
 
-  pub round_next : (new : TablesData) (counted : ℕ) (on : Option Walk) → is_diagonal d ≡ true
+  pub round_next : {new : TablesData} {counted : ℕ} {on : Option Walk} → is_diagonal d ≡ true
       → Mends h d (λ w. is_same w (get_or here i v).at) now new (length (option_to_list on))
       → ((later : Cell → Bool) → FollowBut h now d (λ w. is_same w (get_or here i v).at || later w)
       → FollowBut h new d (either (is_at_one (option_to_list on)) later))
       → ((next : Walk) → on ≡ Some next → IsOnward h new d (get_or here i v).at next.at)
-      → counted ≤ steps + 1 → steps ≤ counted → (more : List Walk) → more ≡ onward ++ option_to_list on
+      → counted ≤ steps + 1 → steps ≤ counted → {more : List Walk} → more ≡ onward ++ option_to_list on
       → Round h d old new first counted here more (i + 1)
-  round_next new counted on k mends follows onward_is c later more e = record {
+  round_next {new = new} {on = on} k mends follows onward_is c later {more = more} e = record {
     queued = rw (queue_on, longer) (record {
-      abreast = abreast_next h d (is_at_one here) old now its_walk others (length onward) queue.abreast new
-          on mends follows onward_is;
+      abreast = abreast_next queue.abreast mends follows onward_is;
       few = let few = queue.few in let a = room in omega arith;
       counted = let counted = queue.counted in
           let a = length-append others (option_to_list on) in omega arith;
@@ -198,35 +178,35 @@ module _ (h : GridData) (d : Dir) (old now : TablesData) (first steps : ℕ) (he
           })
 
 -- the walks that went on are those of the next round
-pub round_done : (h : GridData) (d : Dir) (old now : TablesData) (first steps : ℕ) (here onward : List Walk)
-    (i : ℕ) → Round h d old now first steps here onward i → length here ≤ i
+pub round_done : {h : GridData} {d : Dir} {old now : TablesData} {first steps : ℕ} {here onward : List Walk}
+    {i : ℕ} → Round h d old now first steps here onward i → length here ≤ i
     → Queued h d (is_at_one here) old now first steps (length here) (room_of h d here) onward (length onward)
-round_done h d old now first steps here onward i round l =
+round_done {h} {d} {old} {now} {first} {steps} {here} {onward} {i} round l =
     subst (λ (vs : List Walk). Queued h d (is_at_one here) old now first steps (length here)
     (room_of h d here) vs (length onward)) none round.queued
   where
     none : drop i here ++ onward ≡ onward
     none = rw (drop_all i here l) refl
 
-pub some_on : (on : Option Walk) (next : Walk) (xs ys : List Walk) → on ≡ Some next → ys ≡ xs ++ next ∷ []
+pub some_on : {on : Option Walk} {next : Walk} (xs : List Walk) {ys : List Walk} → on ≡ Some next
+    → ys ≡ xs ++ next ∷ []
     → ys ≡ xs ++ option_to_list on
-some_on on next xs ys e f = rw e f
+some_on xs e f = rw e f
 
-pub none_on : (on : Option Walk) (xs ys : List Walk) → on ≡ None → ys ≡ xs → ys ≡ xs ++ option_to_list on
-none_on on xs ys e f = rw e (f ∙ sym (append-nil xs))
+pub none_on : {on : Option Walk} {xs ys : List Walk} → on ≡ None → ys ≡ xs → ys ≡ xs ++ option_to_list on
+none_on {xs = xs} e f = rw e (f ∙ sym (append-nil xs))
 
 -- one round more, of all walks that stand
-pub rounds_more : (h : GridData) (d : Dir) (starts : Cell → Bool) (old now new : TablesData)
-    (first steps counted all room : ℕ) (walks onward : List Walk) (n : ℕ)
+pub rounds_more : {h : GridData} {d : Dir} {starts : Cell → Bool} {old now new : TablesData}
+    {first steps counted all room : ℕ} {walks onward : List Walk} {n : ℕ}
     → Queued h d starts old now first steps all room walks n
     → KeepAbreast h d (is_at_one walks) now new onward no_cell (length onward)
     → length onward + room_of h d onward ≤ room_of h d walks → counted ≤ steps + length walks
     → steps ≤ counted
     → Queued h d starts old new first counted all room onward (n + length onward)
-rounds_more h d starts old now new first steps counted all room walks onward n queued abreast less c later =
+rounds_more {counted = counted} {walks = walks} queued abreast less c later =
     record {
-      abreast = abreast_then h d starts old now new walks onward no_cell (is_at_one walks) no_cell n
-          (length onward) queued.abreast queued.abreast.mended (λ w k l. false_of (is_at_one walks w) k)
+      abreast = abreast_then queued.abreast queued.abreast.mended (λ w k l. false_of (is_at_one walks w) k)
           abreast;
       few = let few = queued.few in omega arith;
       counted = let counted = queued.counted in omega arith;
@@ -243,20 +223,17 @@ room_nil h d = refl
 -- a round with a walk in it leaves less room
 pub room_left : (h : GridData) (d : Dir) (walks onward : List Walk) → 0 < length walks
     → length onward + room_of h d onward ≤ room_of h d walks → room_of h d onward < room_of h d walks
-room_left h d walks [] some less =
-    let none = room_nil h d in
-    let more = room_some h d walks in
-    omega arith
+room_left h d walks [] some less = grind (arith, room_nil, room_some)
 room_left h d walks (v ∷ vs) some less = omega arith
 
 -- the same, told of the walks that the round began with
-pub round_told : (h : GridData) (d : Dir) (old now : TablesData) (first steps : ℕ)
-    (walks here onward : List Walk) (i : ℕ) → Round h d old now first steps here onward i → here ≡ walks
+pub round_told : {h : GridData} {d : Dir} {old now : TablesData} {first steps : ℕ}
+    {walks here onward : List Walk} {i : ℕ} → Round h d old now first steps here onward i → here ≡ walks
     → length here ≤ i
     → Queued h d (is_at_one walks) old now first steps (length walks) (room_of h d walks) onward
     (length onward)
-round_told h d old now first steps walks here onward i round e l =
-    rw (← e) (round_done h d old now first steps here onward i round l)
+round_told round e l =
+    rw (← e) (round_done round l)
 
 pub behind_told : (d : Dir) (walks here onward : List Walk) → here ≡ walks
     → ((w : Cell) → is_at_one onward w ≡ true → IsBehindOne d (is_at_one here) w) → (w : Cell)

@@ -1,7 +1,6 @@
 -- A row is swept column by column, and a block row by row.
 use Rattle.std.proofs.Common.{◌≡◌, ℕ, suc, ◌+◌, ◌<◌, ◌≤◌, inl, inr, arith, Bool, true, false, refl, ◌&&◌, ◌||◌}
 use Rattle.std.specs.Prelude.{nat_eq}
-use Rattle.std.proofs.lemmas.Bool.Decides.{nat_tests}
 use Rattle.grid_moves.specs.declared.Cell.{Cell}
 use Rattle.grid_moves.specs.declared.Dir.{Dir}
 use Rattle.grid_moves.specs.Grid.{GridData, is_inside}
@@ -12,16 +11,10 @@ use Rattle.table_repair.specs.declared.span.Span.{Span}
 use Rattle.table_repair.specs.Mending.{IsRight, FollowBut, Mends, CanSweep, Sweeps, either, is_among, is_in_row, is_in, goes_right, goes_down}
 use Rattle.table_repair.proofs.Lines.{after_moved, right_ahead, is_inside-from}
 use Rattle.table_repair.proofs.Walking.{or_false, false_or}
-use Rattle.table_repair.proofs.Sweeping.{IsTaken, Swept, swept_more, swept_all, row_ahead, rows_ahead, among_parts}
+use Rattle.table_repair.proofs.Sweeping.{IsTaken, Swept, swept_more, swept_all, row_ahead, rows_ahead, among_parts, same_number, number_same}
 
 pub and_true : (a b : Bool) → a ≡ true → b ≡ true → (a && b) ≡ true
 and_true a b h k = grind arith
-
-same_number : (n : ℕ) → nat_eq n n ≡ true
-same_number n = grind (arith, nat_tests)
-
-number_same : (m n : ℕ) → nat_eq m n ≡ true → m ≡ n
-number_same m n h = grind (arith, nat_tests)
 
 pub not_true : (b : Bool) → (b ≡ true → ⊥) → b ≡ false
 not_true true h = absurd (h refl)
@@ -30,7 +23,8 @@ not_true false h = refl
 pub true_false : (b : Bool) → b ≡ true → b ≡ false → ⊥
 true_false b h k = cc
 
-module _ (h : GridData) (d : Dir) (y : ℕ) (columns left rest : Span) (x : ℕ) (old now : TablesData) (n : ℕ)
+module _ {h : GridData} {d : Dir} (y : ℕ) (columns : Span) {left rest : Span} {x : ℕ} {old now : TablesData}
+    {n : ℕ}
     (swept : Swept h d (is_in_row y columns) (is_in_row y left) old now n)
     (within : (k : ℕ) → is_among left k ≡ true → is_among columns k ≡ true)
     (taken : IsTaken (goes_right d) left x rest) where
@@ -41,24 +35,20 @@ module _ (h : GridData) (d : Dir) (y : ℕ) (columns left rest : Span) (x : ℕ)
   v_there = and_true (nat_eq y y) (is_among columns x) (same_number y) (within x taken.member)
 
   pub row_inside : y < h.height → columns.end ≤ h.width → is_inside h v ≡ true
-  row_inside low narrow =
-      let p = among_parts columns x (within x taken.member) in
-      is_inside-from h v (omega arith) low
+  row_inside low narrow = grind (arith, among_parts, is_inside-from)
 
   pub row_right : y < h.height → columns.end ≤ h.width → CanSweep h old d (is_in_row y columns)
       → IsRight h now v d
   row_right low narrow can =
       right_ahead h now d (either (is_in_row y left) can.later) (swept.follows can.later can.follow) v
-      (row_inside low narrow)
-      (λ w k r. false_or (is_in_row y left w) (can.later w)
+      (row_inside low narrow) (λ w k r. false_or (is_in_row y left w) (can.later w)
       (row_ahead d k v w y left rest taken refl (after_moved d (suc k) v w r))
       (can.none_ahead v w k v_there r))
 
-  pub row_next : (new : TablesData) (m : ℕ) → Mends h d (λ w. is_same w v) now new m
+  pub row_next : {new : TablesData} {m : ℕ} → Mends h d (λ w. is_same w v) now new m
       → Sweeps h d (λ w. is_same w v) now new
       → Swept h d (is_in_row y columns) (is_in_row y rest) old new (n + m)
-  row_next new m mends sweeps = swept_more h d (is_in_row y columns) (is_in_row y left) (λ w. is_same w v)
-      (is_in_row y rest) old now new n m swept split inner mends sweeps
+  row_next mends sweeps = swept_more swept split inner mends sweeps
     where
       split : (w : Cell) → is_same w v ≡ false → is_in_row y rest w ≡ false → is_in_row y left w ≡ false
       split w s r = not_true (is_in_row y left w) (λ i.
@@ -72,15 +62,12 @@ module _ (h : GridData) (d : Dir) (y : ℕ) (columns left rest : Span) (x : ℕ)
       inner : (w : Cell) → is_same w v ≡ true → is_in_row y columns w ≡ true
       inner w s = rw (is_same-cell w v s) v_there
 
-module _ (down : Bool) (rows columns left rest : Span) (y : ℕ)
+module _ {down : Bool} (rows columns : Span) {left rest : Span} {y : ℕ}
     (within : (k : ℕ) → is_among left k ≡ true → is_among rows k ≡ true)
     (taken : IsTaken down left y rest) where
   -- a row that is taken is the block's
   pub row_of_block : (w : Cell) → is_in_row y columns w ≡ true → is_in rows columns w ≡ true
-  row_of_block w i =
-      let p = and_both (nat_eq w.y y) (is_among columns w.x) i in
-      and_true (is_among rows w.y) (is_among columns w.x)
-      (rw (number_same w.y y p.0) (within y taken.member)) p.1
+  row_of_block w i = grind (arith, and_both, and_true, number_same)
 
   -- what was left is in that row, or in those that are left
   pub row_or_rest : (w : Cell) → is_in_row y columns w ≡ false → is_in rest columns w ≡ false
@@ -90,19 +77,21 @@ module _ (down : Bool) (rows columns left rest : Span) (y : ℕ)
       elim (taken.rest w.y p.0) [
         | inl e ↦ true_false (is_in_row y columns w)
             (and_true (nat_eq w.y y) (is_among columns w.x) (rw e (same_number y)) p.1) s
-        | inr a ↦ true_false (is_in rest columns w) (and_true (is_among rest w.y) (is_among columns w.x) a p.1) r
+        | inr a ↦ true_false (is_in rest columns w)
+            (and_true (is_among rest w.y) (is_among columns w.x) a p.1) r
       ])
 
-module _ (h : GridData) (d : Dir) (rows columns left rest : Span) (y : ℕ) (old now : TablesData) (n : ℕ)
+module _ {h : GridData} {d : Dir} (rows columns : Span) {left rest : Span} {y : ℕ} {old now : TablesData}
+    {n : ℕ}
     (swept : Swept h d (is_in rows columns) (is_in left columns) old now n)
     (within : (k : ℕ) → is_among left k ≡ true → is_among rows k ≡ true)
     (taken : IsTaken (goes_down d) left y rest) where
   of_rows : (w : Cell) → is_in_row y columns w ≡ true → is_in rows columns w ≡ true
-  of_rows w i = row_of_block (goes_down d) rows columns left rest y within taken w i
+  of_rows w i = row_of_block rows columns within taken w i
 
   split : (w : Cell) → is_in_row y columns w ≡ false → is_in rest columns w ≡ false
       → is_in left columns w ≡ false
-  split w s r = row_or_rest (goes_down d) rows columns left rest y within taken w s r
+  split w s r = row_or_rest rows columns within taken w s r
 
   -- what waits in the rows that are left waits later
   pub block_waits : CanSweep h old d (is_in rows columns) → CanSweep h now d (is_in_row y columns)
@@ -132,11 +121,10 @@ module _ (h : GridData) (d : Dir) (rows columns left rest : Span) (y : ℕ) (old
           let p = and_both (nat_eq v.y y) (is_among columns v.x) here in
           rw (number_same v.y y p.0) taken
 
-  pub block_next : (new : TablesData) (m : ℕ) → Mends h d (is_in_row y columns) now new m
+  pub block_next : {new : TablesData} {m : ℕ} → Mends h d (is_in_row y columns) now new m
       → Sweeps h d (is_in_row y columns) now new
       → Swept h d (is_in rows columns) (is_in rest columns) old new (n + m)
-  block_next new m mends sweeps = swept_more h d (is_in rows columns) (is_in left columns)
-      (is_in_row y columns) (is_in rest columns) old now new n m swept split of_rows mends sweeps
+  block_next mends sweeps = swept_more swept split of_rows mends sweeps
 
 -- no cell of an empty block
 pub none_left : (left columns : Span) → ((k : ℕ) → is_among left k ≡ false) → (w : Cell)
@@ -145,16 +133,15 @@ none_left left columns none w = not_true (is_in left columns w)
     (λ i. true_false (is_among left w.y) (and_both (is_among left w.y) (is_among columns w.x) i).0 (none w.y))
 
 -- nothing is left
-pub row_done : (h : GridData) (d : Dir) (y : ℕ) (columns left : Span) (old now : TablesData) (n : ℕ)
+pub row_done : {h : GridData} {d : Dir} (y : ℕ) (columns left : Span) {old now : TablesData} {n : ℕ}
     → Swept h d (is_in_row y columns) (is_in_row y left) old now n
     → ((k : ℕ) → is_among left k ≡ false) → Sweeps h d (is_in_row y columns) old now
-row_done h d y columns left old now n swept none =
-    swept_all h d (is_in_row y columns) (is_in_row y left) old now n swept
-    (λ w. not_true (is_in_row y left w)
+row_done y columns left swept none =
+    swept_all swept (λ w. not_true (is_in_row y left w)
     (λ i. true_false (is_among left w.x) (and_both (nat_eq w.y y) (is_among left w.x) i).1 (none w.x)))
 
-pub block_done : (h : GridData) (d : Dir) (rows columns left : Span) (old now : TablesData) (n : ℕ)
+pub block_done : {h : GridData} {d : Dir} (rows columns left : Span) {old now : TablesData} {n : ℕ}
     → Swept h d (is_in rows columns) (is_in left columns) old now n
     → ((k : ℕ) → is_among left k ≡ false) → Sweeps h d (is_in rows columns) old now
-block_done h d rows columns left old now n swept none =
-    swept_all h d (is_in rows columns) (is_in left columns) old now n swept (none_left left columns none)
+block_done rows columns left swept none =
+    swept_all swept (none_left left columns none)

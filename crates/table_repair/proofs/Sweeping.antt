@@ -1,6 +1,7 @@
 -- A sweep, piece by piece, from the far end.
 use Rattle.std.proofs.Common.{◌≡◌, ℕ, suc, ◌+◌, ◌-◌, ◌<◌, ◌≤◌, ◌⊎◌, inl, inr, arith, Bool, true, false, refl, sym, ◌∙◌, ◌||◌}
 use Rattle.std.specs.Prelude.{Option, Some, None, if◌then◌else◌, nat_lt, nat_eq}
+use Rattle.std.proofs.lemmas.Bool.{cases_Bool}
 use Rattle.std.proofs.lemmas.Bool.Decides.{nat_tests}
 use Rattle.grid_moves.specs.declared.Cell.{Cell}
 use Rattle.grid_moves.specs.declared.Dir.{Dir}
@@ -33,6 +34,12 @@ pub record IsTaken (from_end : Bool) (old : Span) (n : ℕ) (new : Span) : Type 
   pub edge : IsEdge from_end old n new
   pub shorter : span_length old ≡ span_length new + 1
 
+pub same_number : (n : ℕ) → nat_eq n n ≡ true
+same_number n = grind (arith, nat_tests)
+
+pub number_same : (m n : ℕ) → nat_eq m n ≡ true → m ≡ n
+number_same m n h = grind (arith, nat_tests)
+
 pub among_parts : (s : Span) (k : ℕ) → is_among s k ≡ true → (s.first ≤ k) × (k < s.end)
 among_parts s k h = (grind (arith, nat_tests), grind (arith, nat_tests))
 
@@ -45,46 +52,24 @@ some_number n m h = cc
 taken_last : (first end n : ℕ) → first < end → n ≡ end - 1
     → IsTaken true (record { first = first; end = end }) n (record { first = first; end = end - 1 })
 taken_last first end n l e = record {
-  member = among_from (record { first = first; end = end }) n (omega arith) (omega arith);
-  rest = λ k h. split k (among_parts (record { first = first; end = end }) k h);
-  within = λ k h. let p = among_parts (record { first = first; end = end - 1 }) k h in
-      among_from (record { first = first; end = end }) k p.0 (omega arith);
-  nearer = λ k h. let p = among_parts (record { first = first; end = end - 1 }) k h in omega arith;
+  member = grind (arith, nat_tests);
+  rest = λ k h. grind (arith, nat_tests);
+  within = λ k h. grind (arith, nat_tests);
+  nearer = λ k h. grind (arith, nat_tests);
   edge = (omega arith, omega arith);
   shorter = omega arith;
 }
-  where
-    either_way : (k : ℕ) → k < end → (k ≡ n) ⊎ (k < end - 1)
-    either_way k h = grind arith
-
-    split : (k : ℕ) → (first ≤ k) × (k < end)
-        → (k ≡ n) ⊎ (is_among (record { first = first; end = end - 1 }) k ≡ true)
-    split k p = elim (either_way k p.1) [
-      | inl s ↦ inl s
-      | inr s ↦ inr (among_from (record { first = first; end = end - 1 }) k p.0 s)
-    ]
 
 taken_first : (first end n : ℕ) → first < end → n ≡ first
     → IsTaken false (record { first = first; end = end }) n (record { first = first + 1; end = end })
 taken_first first end n l e = record {
-  member = among_from (record { first = first; end = end }) n (omega arith) (omega arith);
-  rest = λ k h. split k (among_parts (record { first = first; end = end }) k h);
-  within = λ k h. let p = among_parts (record { first = first + 1; end = end }) k h in
-      among_from (record { first = first; end = end }) k (omega arith) p.1;
-  nearer = λ k h. let p = among_parts (record { first = first + 1; end = end }) k h in omega arith;
+  member = grind (arith, nat_tests);
+  rest = λ k h. grind (arith, nat_tests);
+  within = λ k h. grind (arith, nat_tests);
+  nearer = λ k h. grind (arith, nat_tests);
   edge = (omega arith, omega arith);
   shorter = omega arith;
 }
-  where
-    either_way : (k : ℕ) → first ≤ k → (k ≡ n) ⊎ (first + 1 ≤ k)
-    either_way k h = grind arith
-
-    split : (k : ℕ) → (first ≤ k) × (k < end)
-        → (k ≡ n) ⊎ (is_among (record { first = first + 1; end = end }) k ≡ true)
-    split k p = elim (either_way k p.0) [
-      | inl s ↦ inl s
-      | inr s ↦ inr (among_from (record { first = first + 1; end = end }) k s p.1)
-    ]
 
 pub is_taken : (from_end : Bool) (old new : Span) (n : ℕ) → far_number from_end old ≡ Some n
     → new ≡ without_far from_end old → IsTaken from_end old n new
@@ -105,35 +90,29 @@ is_taken from_end old new n t w = by_test from_end (nat_lt old.first old.end) re
 
 -- nothing is left
 pub none_taken : (from_end : Bool) (s : Span) → far_number from_end s ≡ None → (k : ℕ) → is_among s k ≡ false
-none_taken from_end s t k = by_test (nat_lt s.first s.end) refl t
-  where
-    by_test : (b : Bool) → nat_lt s.first s.end ≡ b
-        → (if b then Some (if from_end then s.end - 1 else s.first) else None) ≡ None
-        → is_among s k ≡ false
-    by_test true e t = absurd (cc)
-    by_test false e t = grind (arith, nat_tests)
+none_taken from_end s t k = grind arith
 
 -- how far a sweep has come: what is left waits
-pub record Swept (h : GridData) (d : Dir) (all left : Cell → Bool) (old now : TablesData) (n : ℕ) : Type 0 where
+pub record Swept (h : GridData) (d : Dir) (all left : Cell → Bool) (old now : TablesData)
+    (n : ℕ) : Type 0 where
   pub ready : AreReady h now d
   pub mends : Mends h d all old now n
-  pub follows : (later : Cell → Bool) → FollowBut h old d (either all later) → FollowBut h now d (either left later)
+  pub follows : (later : Cell → Bool) → FollowBut h old d (either all later)
+      → FollowBut h now d (either left later)
 
-pub swept_none : (h : GridData) (d : Dir) (all : Cell → Bool) (t : TablesData) → AreReady h t d
+pub swept_none : {h : GridData} {d : Dir} {all : Cell → Bool} {t : TablesData} → AreReady h t d
     → Swept h d all all t t 0
-swept_none h d all t r = record { ready = r; mends = mends_none h d all t; follows = λ later f. f }
+swept_none {t = t} r = record { ready = r; mends = mends_none t; follows = λ later f. f }
 
-pub swept_more : (h : GridData) (d : Dir) (all left piece rest : Cell → Bool) (old now new : TablesData)
-    (n m : ℕ) → Swept h d all left old now n
+pub swept_more : {h : GridData} {d : Dir} {all left piece rest : Cell → Bool} {old now new : TablesData}
+    {n m : ℕ} → Swept h d all left old now n
     → ((w : Cell) → piece w ≡ false → rest w ≡ false → left w ≡ false)
     → ((w : Cell) → piece w ≡ true → all w ≡ true)
     → Mends h d piece now new m → Sweeps h d piece now new → Swept h d all rest old new (n + m)
-swept_more h d all left piece rest old now new n m swept split within mends sweeps = record {
-  ready = ready_stays h d piece now new m mends swept.ready;
-  mends = mends_both h d all old now new n m swept.mends
-      (mends_wider h d piece all within now new m mends);
-  follows = λ later f. sweeps (either rest later) (follow_more h now d (either left later)
-      (either piece (either rest later))
+swept_more {left = left} {piece = piece} {rest = rest} swept split within mends sweeps = record {
+  ready = ready_stays mends swept.ready;
+  mends = mends_both swept.mends (mends_wider within mends);
+  follows = λ later f. sweeps (either rest later) (follow_more
       (λ w k. wider w later k) (swept.follows later f));
 }
   where
@@ -145,16 +124,20 @@ swept_more h d all left piece rest old now new n m swept split within mends swee
         false_or (left w) (later w) (split w p.0 q.0) q.1
 
 -- where nothing is left
-pub swept_all : (h : GridData) (d : Dir) (all left : Cell → Bool) (old now : TablesData) (n : ℕ)
+pub swept_all : {h : GridData} {d : Dir} {all left : Cell → Bool} {old now : TablesData} {n : ℕ}
     → Swept h d all left old now n → ((w : Cell) → left w ≡ false) → Sweeps h d all old now
-swept_all h d all left old now n swept none later f =
-    follow_more h now d (either left later) later
-    (λ w k. false_or (left w) (later w) (none w) k) (swept.follows later f)
+swept_all {left = left} swept none later f =
+    follow_more (λ w k. false_or (left w) (later w) (none w) k) (swept.follows later f)
 
 -- no cell ahead of the one taken from a row is left there
 pub row_ahead : (d : Dir) (k : ℕ) (v w : Cell) (y : ℕ) (old rest : Span) → IsTaken (goes_right d) old v.x rest
     → v.y ≡ y → AreMoved d (suc k) v w → is_in_row y old w ≡ false
-row_ahead d k v w y old rest t e m = by_test (is_in_row y old w) refl
+row_ahead d k v w y old rest t e m = elim (cases_Bool (is_in_row y old w)) [
+  | inr i ↦ i
+  | inl i ↦
+      let p = and_both (nat_eq w.y y) (is_among old w.x) i in
+      absurd (not_left d m (number_same w.y y p.0 ∙ sym e) t.nearer (t.rest w.x p.1))
+]
   where
     not_left : (d : Dir) → AreMoved d (suc k) v w → w.y ≡ v.y
         → ((n : ℕ) → is_among rest n ≡ true → IsNearer (goes_right d) v.x n)
@@ -170,17 +153,13 @@ row_ahead d k v w y old rest t e m = by_test (is_in_row y old w) refl
     not_left W m e t (inl l) = let a = m.0 in omega arith
     not_left W m e t (inr l) = let a = m.0 in let b = t w.x l in omega arith
 
-    by_test : (b : Bool) → is_in_row y old w ≡ b → is_in_row y old w ≡ false
-    by_test false i = i
-    by_test true i =
-        let p = and_both (nat_eq w.y y) (is_among old w.x) i in
-        let r : w.y ≡ y = grind (arith, nat_tests) in
-        absurd (not_left d m (r ∙ sym e) t.nearer (t.rest w.x p.1))
-
 -- no cell ahead of a row that is taken lies in those that are left
 pub rows_ahead : (d : Dir) (k : ℕ) (v w : Cell) (old rest columns : Span) → IsTaken (goes_down d) old v.y rest
     → AreMoved d (suc k) v w → is_in rest columns w ≡ false
-rows_ahead d k v w old rest columns t m = by_test (is_in rest columns w) refl
+rows_ahead d k v w old rest columns t m = elim (cases_Bool (is_in rest columns w)) [
+  | inr i ↦ i
+  | inl i ↦ absurd (not_left d m t.nearer (and_both (is_among rest w.y) (is_among columns w.x) i).0)
+]
   where
     not_left : (d : Dir) → AreMoved d (suc k) v w
         → ((n : ℕ) → is_among rest n ≡ true → IsNearer (goes_down d) v.y n)
@@ -194,15 +173,10 @@ rows_ahead d k v w old rest columns t m = by_test (is_in rest columns w) refl
     not_left W m t l = let a = m.1 in let b = t w.y l in omega arith
     not_left NW m t l = let a = m.1 in let b = t w.y l in omega arith
 
-    by_test : (b : Bool) → is_in rest columns w ≡ b → is_in rest columns w ≡ false
-    by_test false i = i
-    by_test true i =
-        let p = and_both (is_among rest w.y) (is_among columns w.x) i in
-        absurd (not_left d m t.nearer p.0)
-
 -- the same, as code tells it
-pub taken_told : (from_end side : Bool) → from_end ≡ side → (old new : Span) (n : ℕ) (answer : Option ℕ)
+pub taken_told : {from_end side : Bool} → from_end ≡ side → (old : Span) {new : Span} {n : ℕ}
+    {answer : Option ℕ}
     → answer ≡ Some n → answer ≡ far_number from_end old → new ≡ without_far from_end old
     → IsTaken side old n new
-taken_told from_end side e old new n answer is told rest =
+taken_told {from_end = from_end} e old {new = new} {n = n} is told rest =
     rw (← e) (is_taken from_end old new n (sym told ∙ is) rest)

@@ -19,15 +19,7 @@ few_rows changed row left rest all wide e h few r = omega arith
 pub counted_rows : (steps now first changed row left rest all wide : ℕ) → left ≡ rest + 1
     → steps + left * wide ≤ first + changed + all * wide → now ≤ steps + row + wide
     → now + rest * wide ≤ first + (changed + row) + all * wide
-counted_rows steps now first changed row left rest all wide e counted h = rest_of (left * wide) (rest * wide)
-    (product left rest wide e) counted
-  where
-    product : (left rest wide : ℕ) → left ≡ rest + 1 → left * wide ≡ rest * wide + wide
-    product left rest wide e = rw e (omega arith)
-
-    rest_of : (a b : ℕ) → a ≡ b + wide → steps + a ≤ first + changed + all * wide
-        → now + b ≤ first + (changed + row) + all * wide
-    rest_of a b f counted = omega arith
+counted_rows steps now first changed row left rest all wide e counted h = grind arith
 
 pub short : (first end side : ℕ) → end ≤ side → side ≤ 4096 → end - first ≤ 4096
 short first end side h k = omega arith

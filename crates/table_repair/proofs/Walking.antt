@@ -1,22 +1,22 @@
 -- One walk back from a cell, as long as entries change.
-use Rattle.std.proofs.Common.{◌≡◌, ◌≢◌, ℕ, suc, ◌+◌, ◌<◌, ◌⊎◌, inl, inr, arith, Bool, true, false, refl, ap, sym, ◌∙◌, ◌||◌, length, length-set, get_or}
-use Rattle.std.specs.Prelude.{ℤ, pos, Some, None}
-use Rattle.std.proofs.lemmas.Bool.Decides.{nat_tests}
+use Rattle.std.proofs.Common.{◌≡◌, ◌≢◌, ℕ, suc, ◌+◌, ◌<◌, ◌⊎◌, inl, inr, arith, Bool, true, false, refl, sym, ◌∙◌, ◌||◌, length-set}
+use Rattle.std.specs.Prelude.{Some, None}
+use Rattle.std.proofs.lemmas.Bool.{cases_Bool}
 use Rattle.grid_moves.specs.declared.Cell.{Cell}
 use Rattle.grid_moves.specs.declared.Dir.{Dir}
 use Rattle.grid_moves.specs.Grid.{GridData, IsGrid, is_inside}
-use Rattle.grid_moves.specs.Move.{ahead, is_dir, is_same, legal_ahead}
+use Rattle.grid_moves.specs.Move.{ahead, is_same, legal_ahead}
 use Rattle.grid_moves.proofs.Legal.{is_same-cell, is_same-itself}
 use Rattle.pruning.proofs.Bridging.{one_of, legal_leads}
 use Rattle.pruning.proofs.Running.{IsMoved, column_trend, row_trend}
 use Rattle.grid_moves.specs.declared.Dir.TheVariants.{N, NE, E, SE, S, SW, W, NW}
 use Rattle.plus_tables.specs.Entry.{table_entry}
-use Rattle.plus_tables.specs.Tables.{TablesData, IsWhole, AreTablesOf, RestsRight, is_on, entry_at, entry_place, tables_with}
+use Rattle.plus_tables.specs.Tables.{TablesData, IsWhole, AreTablesOf, RestsRight, is_on, entry_at, tables_with}
 use Rattle.table_repair.specs.Counted.{places_differing}
 use Rattle.table_repair.specs.Mending.{IsRight, AreBesideRight, AreReady, IsMended, Mends, FollowBut, cell_after, behind_on}
 use Rattle.table_repair.proofs.Counting.{entry-with, entry-with_other, count-with, with_itself}
 use Rattle.table_repair.proofs.Lines.{behind_on-from, one_behind, after_before, after_moved, inside_parts}
-use Rattle.table_repair.proofs.Mends.{mends_none, on_inside, ready_stays}
+use Rattle.table_repair.proofs.Mends.{mends_none, still_mended, on_inside, ready_stays}
 
 -- what waits for this cell, and for those that wait later
 abbrev pub or_later : Cell → (Cell → Bool) → Cell → Bool
@@ -33,26 +33,25 @@ pub record Walked (h : GridData) (d : Dir) (v : Cell) (old now : TablesData) (at
   pub follows : (later : Cell → Bool) → FollowBut h old d (or_later v later)
       → FollowBut h now d (or_later at_cell later)
 
-pub walked_none : (h : GridData) (d : Dir) (v : Cell) (t : TablesData) → AreReady h t d → is_inside h v ≡ true
+pub walked_none : {h : GridData} {d : Dir} {v : Cell} {t : TablesData} → AreReady h t d → is_inside h v ≡ true
     → IsRight h t v d → Walked h d v t t v 0
-walked_none h d v t s i r = record {
+walked_none {t = t} s i r = record {
   ready = s;
   reaches = refl;
   inside = i;
   right = r;
-  mends = mends_none h d (λ w. is_same w v) t;
+  mends = mends_none t;
   follows = λ later f. f;
 }
 
-same_test : (w v : Cell) → (is_same w v ≡ true → ⊥) → is_same w v ≡ false
-same_test w v h = by_test (is_same w v) refl
-  where
-    by_test : (b : Bool) → is_same w v ≡ b → is_same w v ≡ false
-    by_test true e = absurd (h e)
-    by_test false e = e
-
 pub or_false : (a b : Bool) → (a || b) ≡ false → (a ≡ false) × (b ≡ false)
 or_false a b h = (grind arith, grind arith)
+
+pub or_left : (a b : Bool) → a ≡ true → (a || b) ≡ true
+or_left a b h = grind arith
+
+pub or_right : (a b : Bool) → b ≡ true → (a || b) ≡ true
+or_right a b h = grind arith
 
 pub false_or : (a b : Bool) → a ≡ false → b ≡ false → (a || b) ≡ false
 false_or a b h k = grind arith
@@ -68,26 +67,31 @@ rests_right h t d u v e i r beside = record {
     there : (w : Cell) → legal_ahead h u d ≡ Some w → v ≡ w
     there w l = one_of v w (sym e ∙ (legal_leads h u w d l).ahead_is)
 
-module _ (h : GridData) (d : Dir) (v : Cell) (old now : TablesData) (at_cell u : Cell) (n : ℕ)
+-- two cells that are told apart are two
+apart : (w u : Cell) → is_same w u ≡ false → w ≡ u → ⊥
+apart w u s k = let t : is_same w u ≡ true = rw k (is_same-itself u) in absurd (cc)
+
+-- none waits for a cell any more, where the entries behind it are right
+passed : {h : GridData} {d : Dir} {t : TablesData} {at_cell : Cell} (later : Cell → Bool)
+    → FollowBut h t d (or_later at_cell later)
+    → ((p : Cell) → is_inside h p ≡ true → ahead d p ≡ Some at_cell → IsRight h t p d) → FollowBut h t d later
+passed {at_cell = at_cell} later g right = record {
+  next = λ p w j k l m q. elim (cases_Bool (is_same w at_cell)) [
+    | inl s ↦ right p j (rw (← is_same-cell w at_cell s) k)
+    | inr s ↦ g.next p w j k l (false_or (is_same w at_cell) (later w) s m) q
+  ];
+  last = g.last;
+}
+
+module _ {h : GridData} {d : Dir} {v : Cell} {old now : TablesData} {at_cell : Cell} (u : Cell) {n : ℕ}
     (walked : Walked h d v old now at_cell n) (e : ahead d u ≡ Some at_cell) (i : is_inside h u ≡ true) where
   -- the entry behind is refreshed, and was right
   pub walk_stops : IsRight h now u d → (later : Cell → Bool) → FollowBut h old d (or_later v later)
       → FollowBut h now d later
-  walk_stops r later f = record { next = next; last = g.last }
-    where
-      g : FollowBut h now d (or_later at_cell later)
-      g = walked.follows later f
+  walk_stops r later f = passed later (walked.follows later f)
+      (λ p j k. let same = one_behind d p u at_cell k e in rw same r)
 
-      next : (p w : Cell) → is_inside h p ≡ true → ahead d p ≡ Some w → is_inside h w ≡ true
-          → later w ≡ false → IsRight h now w d → IsRight h now p d
-      next p w j k l m q = by_test (is_same w at_cell) refl
-        where
-          by_test : (b : Bool) → is_same w at_cell ≡ b → IsRight h now p d
-          by_test true s =
-              let same = one_behind d p u at_cell (rw (← is_same-cell w at_cell s) k) e in rw same r
-          by_test false s = g.next p w j k l (false_or (is_same w at_cell) (later w) s m) q
-
-  module _ (new : TablesData) (is : new ≡ tables_with now u d (table_entry h u d)) where
+  module _ {new : TablesData} (is : new ≡ tables_with now u d (table_entry h u d)) where
     whole : IsWhole now
     whole = walked.ready.whole
 
@@ -103,18 +107,15 @@ module _ (h : GridData) (d : Dir) (v : Cell) (old now : TablesData) (at_cell u :
         (on_inside now h walked.ready.sized w j) other)
 
     right_kept : (w : Cell) → is_inside h w ≡ true → IsRight h now w d → IsRight h new w d
-    right_kept w j r = by_test (is_same w u) refl
-      where
-        by_test : (b : Bool) → is_same w u ≡ b → IsRight h new w d
-        by_test true s = let same = is_same-cell w u s in rw same set_right
-        by_test false s = stays w d j (λ k l. absurd (differ k)) ∙ r
-          where
-            differ : w ≡ u → ⊥
-            differ k = let t : is_same w u ≡ true = rw k (is_same-itself u) in absurd (cc)
+    right_kept w j r = elim (cases_Bool (is_same w u)) [
+      | inl s ↦ (let same = is_same-cell w u s in rw same set_right)
+      | inr s ↦ stays w d j (λ k l. apart w u s k) ∙ r
+    ]
 
-    pub walk_goes_on : AreReady h old d → entry_at now u d ≢ table_entry h u d → Walked h d v old new u (n + 1)
+    pub walk_goes_on : AreReady h old d → entry_at now u d ≢ table_entry h u d
+        → Walked h d v old new u (n + 1)
     walk_goes_on first changed = record {
-      ready = ready_stays h d (λ w. is_same w v) old new (n + 1) mends first;
+      ready = ready_stays mends first;
       reaches = reaches;
       inside = i;
       right = set_right;
@@ -128,75 +129,29 @@ module _ (h : GridData) (d : Dir) (v : Cell) (old now : TablesData) (at_cell u :
 
         along : (w : Cell) → is_inside h w ≡ true
             → (entry_at new w d ≡ entry_at old w d) ⊎ IsMended h new d (λ w. is_same w v) (n + 1) w
-        along w j = by_test (is_same w u) refl
-          where
-            by_test : (b : Bool) → is_same w u ≡ b
-                → (entry_at new w d ≡ entry_at old w d) ⊎ IsMended h new d (λ w. is_same w v) (n + 1) w
-            by_test true s = let same = is_same-cell w u s in rw same (inr (record {
-              right = set_right;
-              moves = n + 1;
-              few = omega arith;
-              start = v;
-              starts_there = is_same-itself v;
-              reaches = reaches;
-            }))
-            by_test false s =
-                let kept = stays w d j (λ k l.
-                let t : is_same w u ≡ true = rw k (is_same-itself u) in absurd (cc)) in
-                elim (walked.mends.along w j) [
-                  | inl f ↦ inl (kept ∙ f)
-                  | inr a ↦ inr (record {
-                    right = kept ∙ a.right;
-                    moves = a.moves;
-                    few = let few = a.few in omega arith;
-                    start = a.start;
-                    starts_there = a.starts_there;
-                    reaches = a.reaches;
-                  })
-                ]
+        along w j = elim (cases_Bool (is_same w u)) [
+          | inl s ↦ (let same = is_same-cell w u s in rw same (inr (record {
+            right = set_right;
+            moves = n + 1;
+            few = omega arith;
+            start = v;
+            starts_there = is_same-itself v;
+            reaches = reaches;
+          })))
+          | inr s ↦
+              let kept = stays w d j (λ k l. apart w u s k) in
+              elim (walked.mends.along w j) [
+                | inl f ↦ inl (kept ∙ f)
+                | inr a ↦ inr (still_mended (λ w k. k) (kept ∙ a.right) (omega arith) a)
+              ]
+        ]
 
         count : (r : TablesData) → IsWhole r → AreTablesOf r h
             → places_differing old.entries r.entries ≡ places_differing new.entries r.entries + (n + 1)
-        count r w a = total _ _ _ (walked.mends.count r w a) one_changed
-          where
-            same_width : now.width ≡ r.width
-            same_width = walked.ready.sized.width ∙ sym a.sized.width
-
-            same_height : now.height ≡ r.height
-            same_height = walked.ready.sized.height ∙ sym a.sized.height
-
-            same_length : length now.entries ≡ length r.entries
-            same_length = whole.whole ∙ rw (same_width, same_height) (sym w.whole)
-
-            its_own : table_entry h u d ≡ get_or r.entries (entry_place now.width u d) (pos 0)
-            its_own = rw same_width (sym (a.right u d i))
-
-            one_changed : places_differing now.entries r.entries
-                ≡ places_differing new.entries r.entries + 1
-            one_changed = rw is
-                (count-with now whole u on d (table_entry h u d) r.entries same_length its_own changed)
-
-            total : (x y z : ℕ) → x ≡ y + n → y ≡ z + 1 → x ≡ z + (n + 1)
-            total x y z e f = omega arith
+        count r w a = grind (arith, count-with, whole, on)
 
         mends : Mends h d (λ w. is_same w v) old new (n + 1)
-        mends = record {
-          width = ap (λ (t : TablesData). t.width) is ∙ walked.mends.width;
-          height = ap (λ (t : TablesData). t.height) is ∙ walked.mends.height;
-          corner = ap (λ (t : TablesData). t.corner) is ∙ walked.mends.corner;
-          length_kept = ap (λ (t : TablesData). length t.entries) is
-              ∙ length-set now.entries (entry_place now.width u d) (table_entry h u d)
-              ∙ walked.mends.length_kept;
-          others = λ w f k j. stays w f j (λ s t. other f k t) ∙ walked.mends.others w f k j;
-          along = along;
-          count = count;
-        }
-          where
-            other : (f : Dir) → is_dir f d ≡ false → f ≡ d → ⊥
-            other f k s = let t : is_dir f d ≡ true = rw s (itself d) in absurd (cc)
-              where
-                itself : (d : Dir) → is_dir d d ≡ true
-                itself d = grind (arith, nat_tests)
+        mends = grind (arith, length-set, stays, along, count)
 
         follows : (later : Cell → Bool) → FollowBut h old d (or_later v later)
             → FollowBut h new d (or_later u later)
@@ -207,36 +162,23 @@ module _ (h : GridData) (d : Dir) (v : Cell) (old now : TablesData) (at_cell u :
 
             next : (p w : Cell) → is_inside h p ≡ true → ahead d p ≡ Some w → is_inside h w ≡ true
                 → or_later u later w ≡ false → IsRight h new w d → IsRight h new p d
-            next p w j k l m q = by_test (is_same w at_cell) refl
-              where
-                by_test : (b : Bool) → is_same w at_cell ≡ b → IsRight h new p d
-                by_test true s =
-                    let same = one_behind d p u at_cell (rw (← is_same-cell w at_cell s) k) e in
-                    rw same set_right
-                by_test false s =
-                    let both = or_false (is_same w u) (later w) m in
-                    let before : IsRight h now w d = sym (stays w d l (λ x y.
-                    let t : is_same w u ≡ true = rw x (is_same-itself u) in absurd (cc))) ∙ q in
-                    right_kept p j
-                    (g.next p w j k l (false_or (is_same w at_cell) (later w) s both.1) before)
+            next p w j k l m q = elim (cases_Bool (is_same w at_cell)) [
+              | inl s ↦
+                  let same = one_behind d p u at_cell (rw (← is_same-cell w at_cell s) k) e in
+                  rw same set_right
+              | inr s ↦
+                  let both = or_false (is_same w u) (later w) m in
+                  right_kept p j
+                  (g.next p w j k l (false_or (is_same w at_cell) (later w) s both.1)
+                  (sym (stays w d l (λ x y. apart w u both.0 x)) ∙ q))
+            ]
 
 -- there is no cell behind
-pub walk_ends : (h : GridData) (d : Dir) (v : Cell) (old now : TablesData) (at_cell : Cell) (n : ℕ)
+pub walk_ends : {h : GridData} {d : Dir} {v : Cell} {old now : TablesData} {at_cell : Cell} {n : ℕ}
     → Walked h d v old now at_cell n → behind_on h d at_cell ≡ None → (later : Cell → Bool)
     → FollowBut h old d (or_later v later) → FollowBut h now d later
-walk_ends h d v old now at_cell n walked none later f = record { next = next; last = g.last }
-  where
-    g : FollowBut h now d (or_later at_cell later)
-    g = walked.follows later f
-
-    next : (p w : Cell) → is_inside h p ≡ true → ahead d p ≡ Some w → is_inside h w ≡ true
-        → later w ≡ false → IsRight h now w d → IsRight h now p d
-    next p w j k l m q = by_test (is_same w at_cell) refl
-      where
-        by_test : (b : Bool) → is_same w at_cell ≡ b → IsRight h now p d
-        by_test true s =
-            let there = behind_on-from h d p at_cell (rw (← is_same-cell w at_cell s) k) j in absurd (cc)
-        by_test false s = g.next p w j k l (false_or (is_same w at_cell) (later w) s m) q
+walk_ends {h = h} {d = d} {at_cell = at_cell} walked none later f = passed later (walked.follows later f)
+    (λ p j k. let there = behind_on-from h d p at_cell k j in absurd (cc))
 
 -- a walk is shorter than the map
 pub walk_short : (h : GridData) (d : Dir) (v u : Cell) (n : ℕ) → IsGrid h → is_inside h v ≡ true
@@ -264,6 +206,4 @@ walk_short h d v u n grid i j r =
 pub nothing_set : (h : GridData) (t new : TablesData) (u : Cell) (d : Dir) → AreReady h t d
     → is_inside h u ≡ true → new ≡ tables_with t u d (table_entry h u d) → entry_at t u d ≡ table_entry h u d
     → new ≡ t
-nothing_set h t new u d ready i is right =
-    is ∙ ap (λ (x : ℤ). tables_with t u d x) (sym right)
-    ∙ with_itself t ready.whole u (on_inside t h ready.sized u i) d
+nothing_set h t new u d ready i is right = grind (arith, with_itself, on_inside)

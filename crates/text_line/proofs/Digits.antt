@@ -1,5 +1,5 @@
 -- The value of decimal digits.
-use Rattle.std.proofs.Common.{◌≡◌, ℕ, ◌+◌, ◌-◌, ◌*◌, ◌^◌, ◌<◌, ◌≤◌, zero, true, ◌&&◌, leb, List, [], ◌∷◌, ◌++◌, length, get_or, take, drop, refl, sym, ap, ◌∙◌, arith}
+use Rattle.std.proofs.Common.{◌≡◌, ℕ, ◌+◌, ◌-◌, ◌*◌, ◌^◌, ◌<◌, ◌≤◌, true, List, [], ◌∷◌, ◌++◌, length, get_or, take, drop, refl, sym, ap, ◌∙◌, arith}
 use Rattle.std.specs.List.{list_all}
 use Rattle.std.specs.Char.{is_ascii_digit, digit_value}
 use Rattle.std.specs.Str.Parse.{AllDigits, digits_value_after}
@@ -24,9 +24,7 @@ all_digits (d ∷ ds) digits =
 -- the value of at most n digits has at most n
 pub value_of-lt : (n : ℕ) (ds : List ℕ) → list_all is_ascii_digit ds ≡ true → length ds ≤ n
     → value_of ds < 10 ^ n
-value_of-lt n ds digits short =
-    let ten : zero < 10 = omega arith in
-    omega (arith, digits_value-lt 10 ds (all_digits ds digits), pow-le-pow_right ten short)
+value_of-lt n ds digits short = grind (arith, digits_value-lt, all_digits, pow-le-pow_right)
 
 -- digits after digits
 pub after_append : (n : ℕ) (xs ys : List ℕ)
@@ -67,10 +65,7 @@ digits_part ds i digits =
 -- the digits of a word
 pub short_number : (most : ℕ) (word : List ℕ) → is_number most word ≡ true
     → (length word ≤ most) × (list_all is_ascii_digit word ≡ true)
-short_number most word is =
-    let parts = and_parts (leb 1 (length word) && leb (length word) most) (list_all is_ascii_digit word) is in
-    let sizes = and_parts (leb 1 (length word)) (leb (length word) most) parts.0 in
-    (leb-true (length word) most sizes.1, parts.1)
+short_number most word is = grind (arith, and_parts, leb-true)
 
 -- the same from no number on
 pub value_of_more : (ds : List ℕ) (i : ℕ) → list_all is_ascii_digit ds ≡ true → i < length ds

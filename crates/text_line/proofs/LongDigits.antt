@@ -1,5 +1,5 @@
 -- The value of long numbers, digit by digit.
-use Rattle.std.proofs.Common.{◌≡◌, ℕ, ◌+◌, ◌-◌, ◌*◌, ◌^◌, ◌<◌, ◌≤◌, true, List, length, get_or, take, Some, None, refl, ap, ◌∙◌, arith}
+use Rattle.std.proofs.Common.{◌≡◌, ℕ, ◌+◌, ◌-◌, ◌*◌, ◌^◌, ◌<◌, ◌≤◌, true, List, length, get_or, take, Some, None, refl, arith}
 use Rattle.std.specs.List.{list_all}
 use Rattle.std.specs.Char.{is_ascii_digit}
 use Rattle.std.proofs.lemmas.Bool.{le-ltb, lt-ltb}
@@ -20,7 +20,4 @@ too_great ds i value digits inside is great =
 -- where all digits are read, their value is told
 pub all_read : (ds : List ℕ) (i value : ℕ) → length ds ≤ i → value ≡ value_of (take i ds) → value < 2 ^ 64
     → Some value ≡ value_below ds
-all_read ds i value past is small =
-    let whole = is ∙ ap value_of (take_all i ds past) in
-    let fits : value_of ds < 2 ^ 64 = omega (arith, whole) in
-    rw (lt-ltb (value_of ds) (2 ^ 64) fits, whole) refl
+all_read ds i value past is small = grind (arith, take_all, lt-ltb)

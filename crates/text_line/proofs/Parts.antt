@@ -1,7 +1,7 @@
 -- The first field of a line.
-use Rattle.std.proofs.Common.{◌≡◌, ℕ, zero, suc, ◌<◌, Bool, true, false, not, cond, ltb, List, [], ◌∷◌, length, get_or, take, drop, Some, None, refl, sym, ap, ◌∙◌, inl, inr, add-zero, arith}
+use Rattle.std.proofs.Common.{◌≡◌, ℕ, zero, suc, ◌<◌, Bool, true, false, not, List, [], ◌∷◌, length, get_or, take, drop, Some, None, refl, sym, ap, ◌∙◌, inl, add-zero, arith}
 use Rattle.std.specs.Prelude.{filter, position}
-use Rattle.std.specs.List.{slice_split, position_or_len}
+use Rattle.std.specs.List.{slice_split}
 use Rattle.std.proofs.lemmas.Bool.{cases_Bool, ltb-false, not-false}
 use Rattle.std.proofs.lemmas.List.{drop_all, get_or-drop, length-drop}
 use Rattle.std.proofs.Math.Seq.{drop-cons}
@@ -12,12 +12,7 @@ use Rattle.text_line.specs.Fields.{is_blank_byte, is_something, fields_of}
 -- where no place passes, none does
 pub position-None : (p : ℕ → Bool) (xs : List ℕ) → position p xs ≡ None → (k : ℕ) → k < length xs
     → p (get_or xs k 0) ≡ false
-position-None p xs none k lt =
-    elim (cases_Bool (ltb (position_or_len p xs) (length xs))) [
-      | inl less ↦ absurd (cc (ap (λ (b : Bool). cond b (Some (position_or_len p xs)) None) less))
-      | inr least ↦ fails_before_first p xs k 0
-          (omega (arith, ltb-false (position_or_len p xs) (length xs) least))
-    ]
+position-None p xs none k lt = grind (arith, cases_Bool, fails_before_first, ltb-false)
 
 -- whether a byte belongs to a field
 abbrev pub is_filled : ℕ → Bool
@@ -58,9 +53,7 @@ parts_of_one (b ∷ bytes) filled =
 fields_of_cut : (line : List ℕ) (end : ℕ) → is_filled (get_or line 0 0) ≡ true
     → position is_blank_byte line ≡ Some end → fields_of line ≡ take end line ∷ fields_of (drop end line)
 fields_of_cut [] end filled at = absurd cc
-fields_of_cut (b ∷ bytes) zero filled at =
-    let found = position-Some is_blank_byte (b ∷ bytes) zero 0 at in
-    absurd (cc (filled, found.1))
+fields_of_cut (b ∷ bytes) zero filled at = grind (arith, position-Some)
 fields_of_cut (b ∷ bytes) (suc end) filled at =
     let found = position-Some is_blank_byte (b ∷ bytes) (suc end) 0 at in
     let parts = ap (filter is_something) (parts_of_cut (b ∷ bytes) (suc end) found.0 found.2 found.1) in
@@ -82,10 +75,7 @@ pub fields_of_first : (line : List ℕ) (start end : ℕ) → position is_filled
     → position is_blank_byte (drop start line) ≡ Some end
     → fields_of line ≡ take end (drop start line) ∷ fields_of (drop end (drop start line))
 fields_of_first line start end from at =
-    let found = position-Some is_filled line start 0 from in
-    let filled : is_filled (get_or (drop start line) 0 0) ≡ true =
-    rw (get_or-drop start line 0 0, add-zero) found.1 in
-    fields_of_skipped line start found.2 ∙ fields_of_cut (drop start line) end filled at
+    grind (arith, position-Some, get_or-drop, add-zero, fields_of_skipped, fields_of_cut)
 
 pub fields_of_last : (line : List ℕ) (start : ℕ) → position is_filled line ≡ Some start
     → position is_blank_byte (drop start line) ≡ None → fields_of line ≡ drop start line ∷ fields_of []

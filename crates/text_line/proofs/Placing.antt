@@ -1,12 +1,12 @@
 -- The places of lines and fields.
-use Rattle.std.proofs.Common.{◌≡◌, ℕ, zero, suc, ◌+◌, ◌^◌, ◌<◌, ◌≤◌, true, false, eqb, List, [], ◌∷◌, length, get_or, take, drop, Some, None, refl, sym, ap, ◌∙◌, inl, inr, add-zero, arith}
+use Rattle.std.proofs.Common.{◌≡◌, ℕ, zero, suc, ◌+◌, ◌^◌, ◌<◌, ◌≤◌, true, false, List, [], ◌∷◌, length, get_or, take, drop, Some, None, refl, sym, ap, ◌∙◌, inl, add-zero, arith}
 use Rattle.std.specs.Prelude.{filter, map, position}
 use Rattle.std.specs.List.{slice_split, onto_first}
 use Rattle.std.proofs.lemmas.Bool.{cases_Bool, not-false}
 use Rattle.std.proofs.lemmas.List.{drop_all, get_or-drop, length-drop, length-take-le}
 use Rattle.std.proofs.Math.Seq.{drop-cons}
 use Rattle.std.proofs.lemmas.List.Quantifiers.{position-Some}
-use Rattle.text_line.specs.Lines.{is_line_feed, pieces_of, without_cr}
+use Rattle.text_line.specs.Lines.{pieces_of, without_cr}
 use Rattle.text_line.specs.Fields.{is_blank_byte, is_something, fields_of}
 use Rattle.text_line.specs.Places.{Placed, placed_from, fields_from, lines_from, room_of}
 use Rattle.text_line.specs.declared.lines.Line.{Line}
@@ -41,20 +41,12 @@ room_onto b n (piece ∷ pieces) small = omega arith
 -- the pieces of a text take no more than the text and one line feed
 pub room_of_pieces : (text : List ℕ) → room_of (pieces_of text) ≤ length text + 1
 room_of_pieces [] = omega arith
-room_of_pieces (b ∷ bytes) =
-    elim (cases_Bool (is_line_feed b)) [
-      | inl feed ↦ rw feed (omega (arith, room_of_pieces bytes))
-      | inr other ↦ rw other (room_onto b (length bytes) (pieces_of bytes) (room_of_pieces bytes))
-    ]
+room_of_pieces (b ∷ bytes) = grind (arith, cases_Bool, room_onto, room_of_pieces bytes)
 
 -- a line is no longer than its piece
 pub length-without_cr : (piece : List ℕ) → length (without_cr piece) ≤ length piece
 length-without_cr [] = omega arith
-length-without_cr (b ∷ []) =
-    elim (cases_Bool (eqb b 13)) [
-      | inl return ↦ rw return (omega arith)
-      | inr other ↦ rw other (omega arith)
-    ]
+length-without_cr (b ∷ []) = grind (arith, cases_Bool)
 length-without_cr (b ∷ next ∷ bytes) = omega (arith, length-without_cr (next ∷ bytes))
 
 -- blanks at the front are read over
@@ -83,9 +75,7 @@ fields_from_cut : (place : ℕ) (line : List ℕ) (end : ℕ) → is_filled (get
     → fields_from place line ≡ record { start = place; end = place + end; bytes = take end line } ∷
     fields_from (place + end) (drop end line)
 fields_from_cut place [] end filled at = absurd cc
-fields_from_cut place (b ∷ bytes) zero filled at =
-    let found = position-Some is_blank_byte (b ∷ bytes) zero 0 at in
-    absurd (cc (filled, found.1))
+fields_from_cut place (b ∷ bytes) zero filled at = grind (arith, position-Some)
 fields_from_cut place (b ∷ bytes) (suc end) filled at =
     let found = position-Some is_blank_byte (b ∷ bytes) (suc end) 0 at in
     let parts = ap (λ (all : List (List ℕ)). filter (λ field. is_something field.bytes)
@@ -122,11 +112,7 @@ pub fields_from_first : (place : ℕ) (line : List ℕ) (start end : ℕ) → po
           (drop start line);
     } ∷ fields_from (place + start + end) (drop end (drop start line))
 fields_from_first place line start end from at =
-    let found = position-Some is_filled line start 0 from in
-    let filled : is_filled (get_or (drop start line) 0 0) ≡ true =
-    rw (get_or-drop start line 0 0, add-zero) found.1 in
-    fields_from_skipped place line start (omega (arith, found.0)) found.2
-    ∙ fields_from_cut (place + start) (drop start line) end filled at
+    grind (arith, position-Some, get_or-drop, add-zero, fields_from_skipped, fields_from_cut)
 
 pub fields_from_last : (place : ℕ) (line : List ℕ) (start : ℕ) → position is_filled line ≡ Some start
     → position is_blank_byte (drop start line) ≡ None
@@ -146,8 +132,4 @@ pub line_given : (old new : Left) (line : Line) (place : ℕ) (bytes : List ℕ)
     → bytes ≡ without_cr line.bytes.now → place + room_of old.lines ≤ 2 ^ 30 + 1
     → (lines_from old.number place old.lines ≡ record { number = line.number; place = place; bytes = bytes } ∷
     lines_from new.number (place + (length line.bytes.now + 1)) new.lines) × (place + length bytes ≤ 2 ^ 30)
-line_given old new line place bytes gives is fits =
-    let next : place + length line.bytes.now + 1 ≡ place + (length line.bytes.now + 1) = omega arith in
-    let room : room_of old.lines ≡ length line.bytes.now + 1 + room_of new.lines = ap room_of gives.0 in
-    let short : length bytes ≤ length line.bytes.now = rw is (length-without_cr line.bytes.now) in
-    (rw (gives.0, is, gives.1, gives.2, next) refl, omega arith)
+line_given old new line place bytes gives is fits = grind (arith, length-without_cr)

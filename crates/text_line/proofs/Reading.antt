@@ -54,11 +54,7 @@ module _ {L V F : Type 0} (judge : L → Result (Option V) F) where
   -- a first line with a fault, or without one
   fault_first : (line : L) (lines : List L) → ((fault : F) × (fault_in (judge line) ≡ Some fault))
       ⊎ (fault_in (judge line) ≡ None)
-  fault_first line lines = cases (fault_in (judge line))
-    where
-      cases : (here : Option F) → ((fault : F) × (here ≡ Some fault)) ⊎ (here ≡ None)
-      cases None = inr refl
-      cases (Some fault) = inl (fault, refl)
+  fault_first line lines = grind (arith)
 
   found_breaks : (lines : List L) (fault : F) → first_fault judge lines ≡ Some fault
       → BreaksFirst (fault_on judge lines) fault

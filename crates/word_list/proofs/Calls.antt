@@ -1,10 +1,9 @@
 -- A call and a bad word, from what the steps of the reading say.
-use Rattle.std.proofs.Common.{◌≡◌, ℕ, suc, ◌+◌, ◌-◌, ◌<◌, ◌≤◌, Bool, true, false, List, [], ◌∷◌, length, take, drop, map, string_bytes, get_or, refl, sym, ap, ◌∙◌, subst, add-one, ◌⊎◌, inl, inr, arith}
-use Rattle.std.specs.Prelude.{codes, String, is_some, Option, Some, None, Result, Ok, Err, MatchResult, IsOkAnd, IsErrAnd, if◌then◌else◌}
-use Rattle.std.specs.Global.{Global}
+use Rattle.std.proofs.Common.{◌≡◌, ℕ, suc, ◌+◌, ◌-◌, ◌<◌, ◌≤◌, Bool, true, false, List, [], ◌∷◌, length, drop, refl, sym, ap, ◌∙◌, subst, add-one, ◌⊎◌, inl, inr, arith}
+use Rattle.std.specs.Prelude.{codes, Option, Some, None, Result, Ok, Err, MatchResult, IsOkAnd, IsErrAnd}
 use Rattle.std.proofs.Math.Seq.{take-length}
 use Rattle.std.proofs.lemmas.Bool.{and_right}
-use Rattle.std.proofs.lemmas.List.{append-nil, take_rest}
+use Rattle.std.proofs.lemmas.List.{append-nil}
 use Rattle.word_list.specs.declared.request.Settings.{Settings}
 use Rattle.word_list.specs.declared.request.BadWord.{BadWord}
 use Rattle.word_list.specs.Request.{Asked, Call}
@@ -52,11 +51,7 @@ module _ (name : List ℕ) (words : List (List ℕ)) (row : Row) (is_row : row_o
     (are : AreOf row.takes words taken) where
   goes_on : (more : List (List ℕ)) → is_call (name ∷ more) ≡ fits row.takes row.allows more
   unfolding is_call
-  goes_on more = rw is_row (some (fits row.takes row.allows more) _)
-    where
-      some : (b : Bool) (call : Call) → is_some (if b then Some call else None) ≡ b
-      some true call = refl
-      some false call = refl
+  goes_on more = grind arith
 
   names : (count : ℕ) → fits row.takes row.allows words ≡ false
       → EndsAfter (fits row.takes row.allows) words count → IsBadWord is_call (name ∷ words) (count + 2)
@@ -119,13 +114,6 @@ stops_at_end words call is = rw add-one (stops_behind is_call words (length word
   within = omega arith;
   ends = λ inside. absurd (omega arith);
 }))
-
--- the first word, and the others as a slice
-pub words_apart : (words : List (String Global)) (name : String Global) (bytes : List ℕ) → 1 ≤ length words
-    → name ≡ get_or words 0 name → bytes ≡ string_bytes name
-    → map string_bytes words ≡ bytes ∷ map string_bytes (take (length words - 1) (drop 1 words))
-words_apart [] name bytes some at spelled = absurd (omega arith)
-words_apart (word ∷ words) name bytes some at spelled = rw (take_rest, spelled, at) refl
 
 -- what words spell is read, and a bad word is named, by an answer that tells the call or the bad word
 module _ (words : List (List ℕ)) {A : Type 0} (view : A → Call) where

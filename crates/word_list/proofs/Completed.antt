@@ -1,5 +1,5 @@
 -- Settings of which one is missing: where a table file is named, the engine for it can still be picked.
-use Rattle.std.proofs.Common.{◌≡◌, ℕ, Bool, true, false, not, ◌&&◌, ◌||◌, List, [], ◌∷◌, ◌++◌, append-nil, ⊎_elim, inl, inr, ◌⊎◌, refl, sym, ap, ◌∙◌}
+use Rattle.std.proofs.Common.{◌≡◌, ℕ, Bool, true, false, not, ◌&&◌, ◌||◌, List, [], ◌∷◌, ◌++◌, append-nil, ⊎_elim, inl, inr, ◌⊎◌, refl, sym, ap, ◌∙◌, arith}
 use Rattle.std.specs.Prelude.{codes, is_none, Option, Some, None}
 use Rattle.std.specs.List.{list_any, fold}
 use Rattle.std.specs.Option.{option_or}
@@ -176,11 +176,7 @@ module _ (allows : List Family) (before : List (List ℕ)) (word : List ℕ) whe
     other_word none other = untold (none_named before word none (unnamed word (rw is other)))
 
     still_waits : Waits allows before → picks (Some s) ≡ false → Stand allows now
-    still_waits w other = waits (record {
-      allowed = w.allowed;
-      named = tells_now ∙ or_left (any_file before) (tells (Some s) || false) w.named;
-      free = picks_now ∙ rw (w.free, other) refl;
-    })
+    still_waits w other = grind (arith, tells_now, or_left, picks_now)
 
     still_loaded : has_tables (settings_of before).pick ≡ true
         → (settings_with (settings_of before) (Some s)).pick ≡ (settings_of before).pick → Stand allows now
@@ -189,9 +185,7 @@ module _ (allows : List Family) (before : List (List ℕ)) (word : List ℕ) whe
   -- an engine behind one that is picked clashes
   picked_twice : (pick : Pick) → any_clash (setting.Engine pick) before ≡ false
       → has_tables (settings_of before).pick ≡ true → ⊥
-  picked_twice pick clear has = true≢false (sym has ∙ ap has_tables
-      (kept_pick before default_settings (none_from (λ w. picks (setting_of w))
-      (λ w. are_clashing (setting_of w) (Some (setting.Engine pick))) (λ w. pick_clash pick (setting_of w)) before clear)))
+  picked_twice pick clear has = grind (arith, true≢false, kept_pick, none_from, pick_clash)
 
   -- an engine behind a table file is the one for it
   loads : (pick : Pick) → any_clash (setting.Engine pick) before ≡ false → any_file before ≡ true

@@ -11,10 +11,7 @@ not_below accepts words one other is also below =
 
 pub one_stop : (accepts : List (List ℕ) → Bool) (words : List (List ℕ)) (one other : ℕ)
     → StopsAt accepts words one → StopsAt accepts words other → one ≡ other
-one_stop accepts words one other is also =
-    let over = not_below accepts words one other is also in
-    let under = not_below accepts words other one also is in
-    omega (arith, over, under)
+one_stop accepts words one other is also = grind (arith, not_below)
 
 module _ (accepts : List (List ℕ) → Bool) where
   -- with fewer words too

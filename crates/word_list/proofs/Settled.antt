@@ -13,7 +13,7 @@ use Rattle.word_list.specs.declared.settings.Setting.TheVariants as setting
 use Rattle.word_list.specs.declared.settings.Choice.{Choice}
 use Rattle.word_list.specs.declared.settings.Choice.TheVariants as choice
 use Rattle.word_list.specs.declared.settings.Family.{Family}
-use Rattle.word_list.specs.Settings.{setting_of, choice_of, is_same, excludes, is_clash, are_clashing, is_allowed, may_follow, settings_with, default_settings, settings_of, tables_in, tables_of, is_complete}
+use Rattle.word_list.specs.Settings.{setting_of, choice_of, is_same, is_clash, are_clashing, is_allowed, may_follow, settings_with, default_settings, settings_of, tables_in, tables_of, is_complete}
 use Rattle.word_list.specs.Rule.{EndsAfter}
 use Rattle.word_list.specs.Steps.{AreSettled}
 use Rattle.word_list.proofs.Completed.{Stand, completed, can_complete, stand_on}
@@ -23,10 +23,7 @@ use Rattle.word_list.proofs.Rules.{ends_at_once, ends_later}
 pub bytes_at : (words : List (String Global)) (place : ℕ) (word : String Global) (bytes : List ℕ)
     → place < length words → word ≡ get_or words place word → bytes ≡ string_bytes word
     → (place < length (map string_bytes words)) × (get_or (map string_bytes words) place bytes ≡ bytes)
-bytes_at words place word bytes inside at spelled = (
-  omega (arith, length-map words string_bytes),
-  get_or-map string_bytes words place word bytes inside ∙ ap string_bytes (sym at) ∙ sym spelled,
-)
+bytes_at words place word bytes inside at spelled = grind (arith, length-map, string_bytes, get_or-map)
 
 -- a test of the element at a place, after those before it failed
 module _ {A : Type 0} (test : A → Bool) (xs : List A) (place : ℕ) (x : A) (inside : place < length xs)
@@ -63,13 +60,7 @@ module _ (allows : List Family) where
   }
   settles before [] (suc count) stand are = absurd (omega (arith, are.within))
   settles before (word ∷ words) zero stand are =
-      let wrong : may_follow allows before word ≡ false = rw append-nil at are.next in
-      record {
-        ends = ends_at_once (completed allows before) (word ∷ words) (can_complete allows before stand)
-            (λ inside found. let no = rw wrong at found.1 in cc (no));
-        wrong = λ below. rw wrong refl;
-        right = λ above. absurd (omega arith);
-      }
+      grind (arith, append-nil, ends_at_once, completed, can_complete)
   settles before (word ∷ words) (suc count) stand are =
       let first : may_follow allows before word ≡ true = rw append-nil at (are.first 0 (omega arith)) in
       let goes_on : (more : List (List ℕ)) → completed allows before (word ∷ more)
@@ -98,23 +89,11 @@ abbrev all_made : List (List ℕ) → ℕ
 all_made words = made choice.Engine words + made choice.Show words + made choice.Rule words + made choice.TableFile words
 
 few_made : (words : List (List ℕ)) → all_made words ≤ 4
-few_made words = omega (
-  arith,
-  one (list_any (λ word. is_made choice.Engine (setting_of word)) words),
-  one (list_any (λ word. is_made choice.Show (setting_of word)) words),
-  one (list_any (λ word. is_made choice.Rule (setting_of word)) words),
-  one (list_any (λ word. is_made choice.TableFile (setting_of word)) words),
-)
-  where
-    one : (b : Bool) → (if b then 1 else 0) ≤ 1
-    one true = omega arith
-    one false = omega arith
+few_made words = grind arith
 
 -- what makes the same choice clashes
 equal_clash : (one other : Setting) → is_same (choice_of one) (choice_of other) ≡ true → is_clash one other ≡ true
-equal_clash one other same =
-    or_left (is_same (choice_of one) (choice_of other) || excludes one other) (excludes other one)
-    (or_left (is_same (choice_of one) (choice_of other)) (excludes one other) same)
+equal_clash one other same = grind (arith, or_left)
 
 -- a word that may follow makes a choice that is not made yet
 module _ (allows : List Family) (before : List (List ℕ)) (word : List ℕ) where

@@ -1,4 +1,4 @@
-use Rattle.std.proofs.Common.{◌≡◌, ◌<◌, Option, Some, None, subst, arith}
+use Rattle.std.proofs.Common.{◌≡◌, Option, Some, None, arith}
 use Rattle.std.specs.Prelude.{MatchOption}
 use Rattle.live_lines.proofs.Incomings.{starved-first, hearing-begun}
 use Rattle.live_lines.proofs.Rising.{rising-begun}
@@ -7,21 +7,10 @@ use Rattle.live_lines.specs.Hearing.{AllIsHeard, hear_stops}
 use Rattle.live_lines.proofs.live.hear.Goals as goal
 
 pub returns-in_err-buffer-clause-heard : goal.returns-in_err-buffer-clause-heard
-returns-in_err-buffer-clause-heard g c =
-    starved-first c.args.job.now (g.I.Source.inflow c.args.input.now)
-    (g.O.Sink.outflow c.args.out.now) c.from_residual.result
-    c.from_residual.ensures.1
+returns-in_err-buffer-clause-heard g c = grind (arith, starved-first)
 
 pub turns-init : goal.turns-init
-turns-init g c = record {
-  hearing =
-      hearing-begun c.args.job.now c.new-feeder.result
-      (g.I.Source.inflow c.args.input.now) c.in_ok-buffer.buffer.items
-      (g.O.Sink.outflow c.args.out.now) c.new-feeder.ensures.begun
-      c.new-feeder.ensures.nothing (omega (arith, c.in_ok-buffer.ensures));
-  rising = rising-begun c.args.job.now c.new-feeder.result (g.I.Source.inflow c.args.input.now).left c.args.steps.now
-      c.new-feeder.ensures.begun c.new-feeder.ensures.nothing;
-}
+turns-init g c = grind (arith, hearing-begun, rising-begun)
 
 pub returns-in_err-status-clause-heard : goal.returns-in_err-status-clause-heard
 returns-in_err-status-clause-heard g c =
@@ -35,10 +24,7 @@ returns-in_err-status-clause-heard g c =
 
 some_matched : {T : Type 0} (P : Type 0) (Q : T → Type 0) (o : Option T) (x : T) → o ≡ Some x → MatchOption o P Q
     → Q x
-some_matched P Q (Some y) x is m = subst Q (some_same y x is) m
-  where
-    some_same : {A : Type 0} (y x : A) → Some y ≡ Some x → y ≡ x
-    some_same y x e = cc
+some_matched P Q (Some y) x is m = grind arith
 some_matched P Q None x is m = absurd (cc)
 
 pub returns-in-Some-clause-heard : goal.returns-in-Some-clause-heard

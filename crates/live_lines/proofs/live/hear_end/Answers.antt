@@ -1,4 +1,4 @@
-use Rattle.std.proofs.Common.{refl}
+use Rattle.std.proofs.Common.{refl, arith}
 use Rattle.std.specs.Prelude.{Ok, Err}
 use Rattle.live_lines.proofs.Hearing.{end-heard}
 use Rattle.live_lines.proofs.Rising.{rise-end}
@@ -28,8 +28,4 @@ returns-clause-ended g c = λ first text before h.
     (refl, e.1, e.2)
 
 pub returns-clause-rose : goal.returns-clause-rose
-returns-clause-rose g c =
-    rise-end c.args.job.now c.answer_known.new.job c.args.feeder.now c.end-ended.new.self c.new-got.result.items
-    c.end-ended.new.got.items c.as_slice.result.now c.end-ended.result c.args.steps.now c.answer_known.new.steps
-    c.new-got.ensures.items c.as_slice.ensures.value c.end-ended.ensures.ended c.in_ok-answer_known.ensures.all
-    c.in_ok-answer_known.ensures.rose
+returns-clause-rose g c = grind (arith, rise-end)

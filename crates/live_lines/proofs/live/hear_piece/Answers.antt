@@ -1,3 +1,4 @@
+use Rattle.std.proofs.Common.{arith}
 use Rattle.live_lines.proofs.Hearing.{piece-heard}
 use Rattle.live_lines.proofs.Rising.{rise-piece}
 use Rattle.live_lines.proofs.live.hear_piece.Goals as goal
@@ -12,8 +13,4 @@ returns-clause-heard g c =
     c.feed-fed.ensures.memory c.answer_known.ensures.known
 
 pub returns-clause-rose : goal.returns-clause-rose
-returns-clause-rose g c =
-    rise-piece c.args.job.now c.answer_known.new.job c.args.feeder.now c.feed-fed.new.self c.new-got.result.items
-    c.feed-fed.new.got.items c.as_slice.result.now c.feed-fed.result c.args.steps.now c.answer_known.new.steps
-    c.new-got.ensures.items c.as_slice.ensures.value c.args.piece.now c.answer_known.result c.feed-fed.ensures.fed
-    c.answer_known.ensures.all c.answer_known.ensures.rose
+returns-clause-rose g c = grind (arith, rise-piece)

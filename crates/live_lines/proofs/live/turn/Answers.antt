@@ -1,7 +1,6 @@
 use Rattle.std.proofs.Common.{◌≡◌, ◌+◌, ◌-◌, ◌<◌, ◌≤◌, ◌∙◌, ap, subst, length, take, min, List, ℕ, arith}
-use Rattle.std.specs.Prelude.{MatchOption, Ok}
+use Rattle.std.specs.Prelude.{Ok}
 use Rattle.std.specs.Io.KnownBytes.{Consumes}
-use Rattle.live_lines.specs.Hearing.{AllIsHeard, IsHearing}
 use Rattle.live_lines.proofs.Incomings.{end-heard, end-stopped, piece-stopped, long-refused, long-starved, hearing-more}
 use Rattle.live_lines.proofs.Rising.{rising-more, rising-ended}
 use Rattle.live_lines.proofs.live.turn.Goals as goal

@@ -1,3 +1,4 @@
+use Rattle.std.proofs.Common.{arith}
 use Rattle.scen_text.proofs.Lines.{version_right, version_wrong}
 use Rattle.scen_text.proofs.reading.read.Goals as goal
 
@@ -6,7 +7,4 @@ returns-then-not-is_version c = λ other. version_wrong c.args.text.now c.of-lin
     c.next.result c.of-lines.ensures.lines c.next.ensures.steps c.if-not-is_version.ensures
 
 pub loop-line-init : goal.loop-line-init
-loop-line-init c =
-    rw (c.new-entries.ensures.items, c.into_iter-line-iterator.ensures.into_iter_gives)
-    (version_right c.args.text.now c.of-lines.result c.next.new.self c.next.result
-    c.of-lines.ensures.lines c.next.ensures.steps c.if-not-is_version.ensures)
+loop-line-init c = grind (arith, version_right)

@@ -7,8 +7,7 @@ use Rattle.table_repair.proofs.mend.mend.Goals as goal
 
 pub loop-before-init : goal.loop-before-init
 loop-before-init g c = record {
-  walked = walked_none c.args.grid.now c.args.d c.args.from c.args.tables.now c.requires.ready
-      c.requires.inside c.requires.right;
+  walked = walked_none c.requires.ready c.requires.inside c.requires.right;
   counted = omega arith;
 }
 
@@ -47,8 +46,7 @@ returns-then-not-refresh-clause-follows g c = λ later f.
     let right = c.refresh.ensures.stayed c.if-not-refresh.true in
     let same = nothing_set c.args.grid.now c.loop-before.tables c.refresh.new.self c.in-Some.before c.args.d
     w.ready l.1 c.refresh.ensures.is right in
-    rw same (walk_stops c.args.grid.now c.args.d c.args.from c.args.tables.now c.loop-before.tables
-    c.loop-before.at c.in-Some.before c.loop-before.changed w l.0 l.1 right later f)
+    rw same (walk_stops c.in-Some.before w l.0 l.1 right later f)
 
 pub returns-then-not-refresh-clause-few : goal.returns-then-not-refresh-clause-few
 returns-then-not-refresh-clause-few g c =
@@ -64,11 +62,7 @@ overflow_add-changed g c =
     omega arith
 
 pub loop-before-smaller : goal.loop-before-smaller
-loop-before-smaller g c =
-    let w = c.loop-before.invariant.walked in
-    let few = walk_short c.args.grid.now c.args.d c.args.from c.loop-before.at c.loop-before.changed
-    c.requires.ready.grid c.requires.inside w.inside w.reaches in
-    omega arith
+loop-before-smaller g c = grind (arith, walk_short)
 
 pub loop-before-preserved : goal.loop-before-preserved
 loop-before-preserved g c =
@@ -76,21 +70,14 @@ loop-before-preserved g c =
     let l = behind_on-is c.args.grid.now c.args.d c.in-Some.before c.loop-before.at
     (sym c.cell_before.ensures ∙ c.in-Some.is) in
     record {
-      walked = walk_goes_on c.args.grid.now c.args.d c.args.from c.args.tables.now c.loop-before.tables
-          c.loop-before.at c.in-Some.before c.loop-before.changed w l.0 l.1 c.refresh.new.self
-          c.refresh.ensures.is c.requires.ready
+      walked = walk_goes_on c.in-Some.before w l.0 l.1 c.refresh.ensures.is c.requires.ready
           (c.refresh.ensures.changed c.if-not-refresh.false);
       counted = let n = c.loop-before.invariant.counted in omega arith;
     }
 
 pub returns-clause-follows : goal.returns-clause-follows
 returns-clause-follows g c =
-    walk_ends c.args.grid.now c.args.d c.args.from c.args.tables.now c.loop-before.tables
-    c.loop-before.at c.loop-before.changed c.loop-before.invariant.walked
-    (sym c.cell_before.ensures ∙ c.in_default.is)
+    walk_ends c.loop-before.invariant.walked (sym c.cell_before.ensures ∙ c.in_default.is)
 
 pub returns-clause-few : goal.returns-clause-few
-returns-clause-few g c =
-    let w = c.loop-before.invariant.walked in
-    walk_short c.args.grid.now c.args.d c.args.from c.loop-before.at c.loop-before.changed
-    c.requires.ready.grid c.requires.inside w.inside w.reaches
+returns-clause-few g c = grind (arith, walk_short)

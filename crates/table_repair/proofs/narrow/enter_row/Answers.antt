@@ -1,4 +1,5 @@
 -- What was left, what begins and what goes on add up.
+use Rattle.std.proofs.Common.{arith}
 use Rattle.table_repair.specs.Mending.{is_in_row}
 use Rattle.table_repair.proofs.Entering.{entered, entered_next, entered_behind}
 use Rattle.table_repair.proofs.Pieces.{row_on_map}
@@ -9,32 +10,24 @@ lead_on-requires-clause-ready g c = c.make_room-led_out.ensures.abreast.ready
 
 pub lead_on-requires-clause-inside : goal.lead_on-requires-clause-inside
 lead_on-requires-clause-inside g c =
-    (entered c.args.grid.now c.args.d (is_in_row c.args.y c.args.columns) c.args.tables.now
-    c.make_room-led_out.new.tables c.args.walks.now.items c.make_room-led_out.new.walks.items
-    c.enter.new.walks.items c.make_room-led_out.result c.make_room-led_out.ensures.abreast
-    c.enter.ensures.there
+    (entered (is_in_row c.args.y c.args.columns) c.args.walks.now.items
+    c.enter.new.walks.items c.make_room-led_out.ensures.abreast c.enter.ensures.there
     (λ w k. row_on_map c.args.grid.now c.args.y c.args.columns w c.requires.row c.requires.columns k)
     c.requires.row_right).inside
 
 pub lead_on-requires-clause-right : goal.lead_on-requires-clause-right
 lead_on-requires-clause-right g c = λ w k.
-    ((entered c.args.grid.now c.args.d (is_in_row c.args.y c.args.columns) c.args.tables.now
-    c.make_room-led_out.new.tables c.args.walks.now.items c.make_room-led_out.new.walks.items
-    c.enter.new.walks.items c.make_room-led_out.result c.make_room-led_out.ensures.abreast
-    c.enter.ensures.there
+    ((entered (is_in_row c.args.y c.args.columns) c.args.walks.now.items
+    c.enter.new.walks.items c.make_room-led_out.ensures.abreast c.enter.ensures.there
     (λ w k. row_on_map c.args.grid.now c.args.y c.args.columns w c.requires.row c.requires.columns k)
     c.requires.row_right).mended w k).right
 
 pub returns-clause-abreast : goal.returns-clause-abreast
 returns-clause-abreast g c = rw c.len.ensures.value (
-    entered_next c.args.grid.now c.args.d (is_in_row c.args.y c.args.columns) c.args.tables.now
-    c.make_room-led_out.new.tables c.args.walks.now.items c.make_room-led_out.new.walks.items
-    c.enter.new.walks.items c.make_room-led_out.result c.make_room-led_out.ensures.abreast
-    c.enter.ensures.there
+    entered_next (is_in_row c.args.y c.args.columns) c.args.walks.now.items c.enter.new.walks.items
+    c.make_room-led_out.ensures.abreast c.enter.ensures.there
     (λ w k. row_on_map c.args.grid.now c.args.y c.args.columns w c.requires.row c.requires.columns k)
-    c.requires.row_right c.lead_on.new.tables c.lead_on.new.walks.items _ c.lead_on.ensures.abreast)
+    c.requires.row_right c.lead_on.ensures.abreast)
 
 pub returns-clause-behind : goal.returns-clause-behind
-returns-clause-behind g c = entered_behind c.args.d (is_in_row c.args.y c.args.columns) c.args.walks.now.items
-    c.make_room-led_out.new.walks.items c.enter.new.walks.items c.lead_on.new.walks.items
-    c.make_room-led_out.ensures.same c.enter.ensures.there c.lead_on.ensures.behind
+returns-clause-behind g c = grind (arith, entered_behind)

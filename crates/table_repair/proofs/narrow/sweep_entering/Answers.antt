@@ -1,6 +1,6 @@
 -- Each row taken is one row more in which walks begin.
-use Rattle.std.proofs.Common.{◌+◌, arith, sym, ◌∙◌}
-use Rattle.table_repair.specs.Mending.{goes_down, is_in}
+use Rattle.std.proofs.Common.{arith, sym, ◌∙◌}
+use Rattle.table_repair.specs.Mending.{goes_down}
 use Rattle.table_repair.proofs.Sweeping.{taken_told, none_taken}
 use Rattle.table_repair.proofs.Rows.{none_left}
 use Rattle.table_repair.proofs.Pieces.{row_on_map}
@@ -11,8 +11,7 @@ use Rattle.table_repair.proofs.narrow.sweep_entering.Goals as goal
 
 pub loop-y-init : goal.loop-y-init
 loop-y-init g c = record {
-  abreast = enter_none c.args.grid.now c.args.d (is_in c.args.rows c.args.columns) c.args.tables.now
-      c.new-walks.result.items c.requires.ready c.new-walks.ensures;
+  abreast = enter_none c.requires.ready c.new-walks.ensures;
   past = past_none (goes_down c.args.d) c.args.rows c.new-walks.result.items c.new-walks.ensures;
   within = λ k h. h;
   short = rw c.new-walks.ensures (omega arith);
@@ -36,45 +35,36 @@ enter_row-changed-requires-clause-right g c = λ w k. (c.loop-y.invariant.abreas
 pub enter_row-changed-requires-clause-row : goal.enter_row-changed-requires-clause-row
 enter_row-changed-requires-clause-row g c =
     let i = c.loop-y.invariant in
-    let taken = taken_told c.goes_down.result (goes_down c.args.d) c.goes_down.ensures c.loop-y.left
-    c.take_far.new.span c.in-Some.y c.take_far.result c.in-Some.is c.take_far.ensures.taken
+    let taken = taken_told c.goes_down.ensures c.loop-y.left c.in-Some.is c.take_far.ensures.taken
     c.take_far.ensures.rest in
     row_below c.args.grid.now c.args.rows c.in-Some.y (i.within c.in-Some.y taken.member) c.requires.rows
 
 pub enter_row-changed-requires-clause-row_right : goal.enter_row-changed-requires-clause-row_right
 enter_row-changed-requires-clause-row_right g c =
     let i = c.loop-y.invariant in
-    let taken = taken_told c.goes_down.result (goes_down c.args.d) c.goes_down.ensures c.loop-y.left
-    c.take_far.new.span c.in-Some.y c.take_far.result c.in-Some.is c.take_far.ensures.taken
+    let taken = taken_told c.goes_down.ensures c.loop-y.left c.in-Some.is c.take_far.ensures.taken
     c.take_far.ensures.rest in
     let low = row_below c.args.grid.now c.args.rows c.in-Some.y (i.within c.in-Some.y taken.member)
     c.requires.rows in
-    enter_right c.args.grid.now c.args.d c.args.rows c.args.columns c.loop-y.left
-    c.take_far.new.span c.in-Some.y c.args.tables.now c.loop-y.tables c.loop-y.walks.items
-    c.loop-y.changed c.requires.diagonal i.abreast i.past i.within taken c.requires.waits
+    enter_right c.args.rows c.args.columns c.requires.diagonal i.abreast i.past i.within taken
+    c.requires.waits
     (λ v k. row_on_map c.args.grid.now c.in-Some.y c.args.columns v low c.requires.columns k)
 
 pub loop-y-preserved : goal.loop-y-preserved
 loop-y-preserved g c =
     let i = c.loop-y.invariant in
-    let taken = taken_told c.goes_down.result (goes_down c.args.d) c.goes_down.ensures c.loop-y.left
-    c.take_far.new.span c.in-Some.y c.take_far.result c.in-Some.is c.take_far.ensures.taken
+    let taken = taken_told c.goes_down.ensures c.loop-y.left c.in-Some.is c.take_far.ensures.taken
     c.take_far.ensures.rest in
     let low = row_below c.args.grid.now c.args.rows c.in-Some.y (i.within c.in-Some.y taken.member)
     c.requires.rows in
     record {
-      abreast = enter_next c.args.grid.now c.args.d c.args.rows c.args.columns c.loop-y.left
-          c.take_far.new.span c.in-Some.y c.args.tables.now c.loop-y.tables c.loop-y.walks.items
-          c.loop-y.changed c.requires.diagonal i.abreast i.past i.within taken
-          c.enter_row-changed.new.tables c.enter_row-changed.new.walks.items c.enter_row-changed.result
-          (enter_right c.args.grid.now c.args.d c.args.rows c.args.columns c.loop-y.left
-          c.take_far.new.span c.in-Some.y c.args.tables.now c.loop-y.tables c.loop-y.walks.items
-          c.loop-y.changed c.requires.diagonal i.abreast i.past i.within taken c.requires.waits
+      abreast = enter_next c.args.rows c.args.columns c.requires.diagonal i.abreast i.past i.within taken
+          (enter_right c.args.rows c.args.columns c.requires.diagonal i.abreast i.past i.within taken
+          c.requires.waits
           (λ v k. row_on_map c.args.grid.now c.in-Some.y c.args.columns v low c.requires.columns k))
           c.enter_row-changed.ensures.abreast;
-      past = λ w k. enter_past c.args.grid.now c.args.d c.args.rows c.args.columns c.loop-y.left
-          c.take_far.new.span c.in-Some.y c.args.tables.now c.loop-y.tables c.loop-y.walks.items
-          c.loop-y.changed c.requires.diagonal i.abreast i.past i.within taken w
+      past = λ w k. enter_past c.args.rows c.args.columns c.requires.diagonal i.abreast i.past i.within taken
+          w
           (c.enter_row-changed.ensures.behind w k);
       within = λ k h. i.within k (taken.within k h);
       short = c.enter_row-changed.ensures.short;
@@ -99,33 +89,17 @@ pub returns-clause-mends : goal.returns-clause-mends
 returns-clause-mends g c =
     let none = none_left c.loop-y.left c.args.columns (none_taken c.goes_down.result c.loop-y.left
     (sym c.take_far.ensures.taken ∙ c.in_default.is)) in
-    (enter_ends c.args.grid.now c.args.d (is_in c.args.rows c.args.columns)
-    (is_in c.loop-y.left c.args.columns)
-    c.args.tables.now c.loop-y.tables c.lead_out.new.tables c.loop-y.walks.items c.lead_out.new.walks.items
-    c.loop-y.changed c.lead_out.result c.loop-y.invariant.abreast none c.lead_out.ensures.abreast).mends
+    (enter_ends c.loop-y.invariant.abreast none c.lead_out.ensures.abreast).mends
 
 pub returns-clause-sweeps : goal.returns-clause-sweeps
 returns-clause-sweeps g c =
     let none = none_left c.loop-y.left c.args.columns (none_taken c.goes_down.result c.loop-y.left
     (sym c.take_far.ensures.taken ∙ c.in_default.is)) in
-    abreast_ends c.args.grid.now c.args.d (is_in c.args.rows c.args.columns) c.args.tables.now
-    c.lead_out.new.tables c.lead_out.new.walks.items (c.loop-y.changed + c.lead_out.result)
-    (enter_ends c.args.grid.now c.args.d (is_in c.args.rows c.args.columns)
-    (is_in c.loop-y.left c.args.columns)
-    c.args.tables.now c.loop-y.tables c.lead_out.new.tables c.loop-y.walks.items c.lead_out.new.walks.items
-    c.loop-y.changed c.lead_out.result c.loop-y.invariant.abreast none c.lead_out.ensures.abreast)
+    abreast_ends (enter_ends c.loop-y.invariant.abreast none c.lead_out.ensures.abreast)
     c.lead_out.ensures.none
 
 pub returns-clause-few : goal.returns-clause-few
-returns-clause-few g c =
-    let i = c.loop-y.invariant in
-    let few = i.few in
-    let short = i.short in
-    let more = c.lead_out.ensures.few in
-    omega arith
+returns-clause-few g c = grind arith
 
 pub returns-clause-steps : goal.returns-clause-steps
-returns-clause-steps g c =
-    let counted = c.loop-y.invariant.counted in
-    let more = c.lead_out.ensures.steps in
-    omega arith
+returns-clause-steps g c = grind arith

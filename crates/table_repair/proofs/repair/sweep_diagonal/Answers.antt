@@ -1,5 +1,4 @@
 -- First the block's rows, and then what lies behind it in its columns.
-use Rattle.table_repair.specs.Mending.{is_in}
 use Rattle.table_repair.proofs.Mends.{ready_stays}
 use Rattle.table_repair.proofs.Diagonals.{first_waits, second_waits, both_right, both_mend, wide_within, rear_within, cells_few, steps_both}
 use Rattle.table_repair.proofs.repair.sweep_diagonal.Goals as goal
@@ -7,54 +6,42 @@ use Rattle.table_repair.proofs.repair.sweep_diagonal.Goals as goal
 pub sweep-changed-requires-clause-columns : goal.sweep-changed-requires-clause-columns
 sweep-changed-requires-clause-columns g c =
     let a = c.args in
-    wide_within a.grid.now a.rows a.columns c.columns_in_reach-wide.result c.rows_behind-rear.result a.by a.d
-    c.requires.diagonal c.columns_in_reach-wide.ensures
-    c.rows_behind-rear.ensures c.requires.block
+    wide_within a.grid.now a.rows a.columns a.by a.d
+    c.requires.diagonal c.columns_in_reach-wide.ensures c.rows_behind-rear.ensures c.requires.block
 
 pub sweep-changed-requires-clause-waits : goal.sweep-changed-requires-clause-waits
 sweep-changed-requires-clause-waits g c =
     let a = c.args in
-    first_waits a.grid.now a.rows a.columns c.columns_in_reach-wide.result c.rows_behind-rear.result a.by a.d
-    c.requires.diagonal c.columns_in_reach-wide.ensures
-    c.rows_behind-rear.ensures a.tables.now c.requires.waits
+    first_waits a.grid.now a.rows a.columns a.by a.d c.requires.diagonal c.columns_in_reach-wide.ensures
+    c.rows_behind-rear.ensures c.requires.waits
 
 pub sweep_narrow-requires-clause-ready : goal.sweep_narrow-requires-clause-ready
 sweep_narrow-requires-clause-ready g c =
-    let a = c.args in
-    ready_stays a.grid.now a.d (is_in a.rows c.columns_in_reach-wide.result) a.tables.now
-    c.sweep-changed.new.tables
-    c.sweep-changed.result c.sweep-changed.ensures.mends c.requires.ready
+    ready_stays c.sweep-changed.ensures.mends c.requires.ready
 
 pub sweep_narrow-requires-clause-rows : goal.sweep_narrow-requires-clause-rows
 sweep_narrow-requires-clause-rows g c =
     let a = c.args in
-    rear_within a.grid.now a.rows a.columns c.columns_in_reach-wide.result c.rows_behind-rear.result a.by a.d
-    c.requires.diagonal c.columns_in_reach-wide.ensures
-    c.rows_behind-rear.ensures c.requires.block
+    rear_within a.grid.now a.rows a.columns a.by a.d
+    c.requires.diagonal c.columns_in_reach-wide.ensures c.rows_behind-rear.ensures c.requires.block
 
 pub sweep_narrow-requires-clause-waits : goal.sweep_narrow-requires-clause-waits
 sweep_narrow-requires-clause-waits g c =
     let a = c.args in
-    second_waits a.grid.now a.rows a.columns c.columns_in_reach-wide.result c.rows_behind-rear.result a.by a.d
-    c.requires.diagonal c.columns_in_reach-wide.ensures
-    c.rows_behind-rear.ensures a.tables.now c.sweep-changed.new.tables c.requires.waits
-    c.sweep-changed.ensures.sweeps
+    second_waits a.grid.now a.rows a.columns a.by a.d c.requires.diagonal c.columns_in_reach-wide.ensures
+    c.rows_behind-rear.ensures c.requires.waits c.sweep-changed.ensures.sweeps
 
 pub returns-clause-mends : goal.returns-clause-mends
 returns-clause-mends g c =
     let a = c.args in
-    both_mend a.grid.now a.rows a.columns c.columns_in_reach-wide.result c.rows_behind-rear.result a.by a.d
-    c.requires.diagonal c.columns_in_reach-wide.ensures
-    c.rows_behind-rear.ensures a.tables.now c.sweep-changed.new.tables c.sweep_narrow.new.tables
-    c.sweep-changed.result c.sweep_narrow.result c.sweep-changed.ensures.mends c.sweep_narrow.ensures.mends
+    both_mend a.grid.now a.rows a.columns a.by a.d c.requires.diagonal c.columns_in_reach-wide.ensures
+    c.rows_behind-rear.ensures c.sweep-changed.ensures.mends c.sweep_narrow.ensures.mends
 
 pub returns-clause-right : goal.returns-clause-right
 returns-clause-right g c =
     let a = c.args in
-    both_right a.grid.now a.rows a.columns c.columns_in_reach-wide.result c.rows_behind-rear.result a.by a.d
-    c.requires.diagonal c.columns_in_reach-wide.ensures
-    c.rows_behind-rear.ensures a.tables.now c.sweep-changed.new.tables c.sweep_narrow.new.tables
-    c.requires.waits c.sweep-changed.ensures.sweeps c.sweep_narrow.ensures.sweeps
+    both_right a.grid.now a.rows a.columns a.by a.d c.requires.diagonal c.columns_in_reach-wide.ensures
+    c.rows_behind-rear.ensures c.requires.waits c.sweep-changed.ensures.sweeps c.sweep_narrow.ensures.sweeps
 
 pub returns-clause-steps : goal.returns-clause-steps
 returns-clause-steps g c =
@@ -62,6 +49,5 @@ returns-clause-steps g c =
     steps_both a.steps.now c.sweep-changed.new.steps c.sweep_narrow.new.steps c.sweep-changed.result
     c.sweep_narrow.result
     _ _ _ c.sweep-changed.ensures.steps c.sweep_narrow.ensures.steps
-    (cells_few a.grid.now a.rows a.columns c.columns_in_reach-wide.result c.rows_behind-rear.result a.by a.d
-    c.requires.diagonal c.columns_in_reach-wide.ensures
+    (cells_few a.grid.now a.rows a.columns a.by a.d c.requires.diagonal c.columns_in_reach-wide.ensures
     c.rows_behind-rear.ensures c.requires.block)

@@ -9,8 +9,7 @@ use Rattle.table_repair.proofs.sweep.sweep.Goals as goal
 pub sweep_row-changed-requires-clause-row : goal.sweep_row-changed-requires-clause-row
 sweep_row-changed-requires-clause-row g c =
     let i = c.loop-y.invariant in
-    let taken = taken_told c.goes_down.result (goes_down c.args.d) c.goes_down.ensures c.loop-y.left
-    c.take_far.new.span c.in-Some.y c.take_far.result c.in-Some.is c.take_far.ensures.taken
+    let taken = taken_told c.goes_down.ensures c.loop-y.left c.in-Some.is c.take_far.ensures.taken
     c.take_far.ensures.rest in
     let there = among_parts c.args.rows c.in-Some.y (i.within c.in-Some.y taken.member) in
     let below = c.requires.rows in
@@ -19,25 +18,20 @@ sweep_row-changed-requires-clause-row g c =
 pub sweep_row-changed-requires-clause-waits : goal.sweep_row-changed-requires-clause-waits
 sweep_row-changed-requires-clause-waits g c =
     let i = c.loop-y.invariant in
-    let taken = taken_told c.goes_down.result (goes_down c.args.d) c.goes_down.ensures c.loop-y.left
-    c.take_far.new.span c.in-Some.y c.take_far.result c.in-Some.is c.take_far.ensures.taken
+    let taken = taken_told c.goes_down.ensures c.loop-y.left c.in-Some.is c.take_far.ensures.taken
     c.take_far.ensures.rest in
-    block_waits c.args.grid.now c.args.d c.args.rows c.args.columns c.loop-y.left c.take_far.new.span
-    c.in-Some.y c.args.tables.now c.loop-y.tables c.loop-y.changed i.swept i.within taken c.requires.waits
+    block_waits c.args.rows c.args.columns i.swept i.within taken c.requires.waits
 
 pub loop-y-preserved : goal.loop-y-preserved
 loop-y-preserved g c =
     let i = c.loop-y.invariant in
-    let taken = taken_told c.goes_down.result (goes_down c.args.d) c.goes_down.ensures c.loop-y.left
-    c.take_far.new.span c.in-Some.y c.take_far.result c.in-Some.is c.take_far.ensures.taken
+    let taken = taken_told c.goes_down.ensures c.loop-y.left c.in-Some.is c.take_far.ensures.taken
     c.take_far.ensures.rest in
     let narrow = c.requires.ready.grid.sides.narrow in
     let columns = c.requires.columns in
     let wide : span_length c.args.columns ≤ 4096 = short _ _ _ columns narrow in
     record {
-      swept = block_next c.args.grid.now c.args.d c.args.rows c.args.columns c.loop-y.left c.take_far.new.span
-          c.in-Some.y c.args.tables.now c.loop-y.tables c.loop-y.changed i.swept i.within taken
-          c.sweep_row-changed.new.tables c.sweep_row-changed.result c.sweep_row-changed.ensures.mends
+      swept = block_next c.args.rows c.args.columns i.swept i.within taken c.sweep_row-changed.ensures.mends
           c.sweep_row-changed.ensures.sweeps;
       within = λ k h. i.within k (taken.within k h);
       few = few_rows _ _ _ _ _ _ taken.shorter wide i.few c.sweep_row-changed.ensures.few;
@@ -48,6 +42,5 @@ loop-y-preserved g c =
 pub returns-clause-sweeps : goal.returns-clause-sweeps
 returns-clause-sweeps g c =
     let i = c.loop-y.invariant in
-    block_done c.args.grid.now c.args.d c.args.rows c.args.columns c.loop-y.left c.args.tables.now
-    c.loop-y.tables c.loop-y.changed i.swept (none_taken c.goes_down.result c.loop-y.left
+    block_done c.args.rows c.args.columns c.loop-y.left i.swept (none_taken c.goes_down.result c.loop-y.left
     (sym c.take_far.ensures.taken ∙ c.in_default.is))

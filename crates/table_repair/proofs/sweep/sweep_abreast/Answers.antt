@@ -1,6 +1,5 @@
 -- Each piece is swept in its turn.
 use Rattle.std.proofs.Common.{◌≤◌, arith}
-use Rattle.table_repair.specs.Mending.{is_in_row}
 use Rattle.table_repair.proofs.Sweeping.{swept_none}
 use Rattle.table_repair.proofs.Pieces.{piece_right, piece_next, pieces_done, piece_few, piece_counted}
 use Rattle.table_repair.proofs.Totals.{later_on}
@@ -8,8 +7,7 @@ use Rattle.table_repair.proofs.sweep.sweep_abreast.Goals as goal
 
 pub piece-init : goal.piece-init
 piece-init g c = record {
-  swept = swept_none c.args.grid.now c.args.d (is_in_row c.args.y c.args.columns) c.args.tables.now
-      c.requires.ready;
+  swept = swept_none c.requires.ready;
   begun = omega arith;
   few = omega arith;
   counted = omega arith;
@@ -21,8 +19,8 @@ mend_abreast-changed-requires-clause-right g c =
     let i = c.piece.invariant in
     let e = c.min-end.ensures in
     let l = c.piece-test.true in
-    piece_right c.args.grid.now c.args.d c.args.y c.args.columns c.piece.first c.args.tables.now
-    c.piece.tables c.piece.changed c.requires.diagonal i.begun i.swept c.min-end.result (omega arith) (omega arith)
+    piece_right c.args.y c.args.columns c.piece.first c.requires.diagonal i.begun i.swept c.min-end.result
+    (omega arith) (omega arith)
     c.requires.row c.requires.columns c.requires.waits
 
 pub piece-preserved : goal.piece-preserved
@@ -33,10 +31,9 @@ piece-preserved g c =
     let some : c.piece.first ≤ c.min-end.result = omega arith in
     let within : c.min-end.result ≤ c.args.columns.end = omega arith in
     record {
-      swept = piece_next c.args.grid.now c.args.d c.args.y c.args.columns c.piece.first c.args.tables.now
-          c.piece.tables c.piece.changed c.requires.diagonal i.begun i.swept c.min-end.result some within
-          c.mend_abreast-changed.new.tables c.mend_abreast-changed.result c.mend_abreast-changed.ensures.mends
-          c.mend_abreast-changed.ensures.sweeps;
+      swept = piece_next c.args.y c.args.columns c.piece.first c.requires.diagonal i.begun i.swept
+          c.min-end.result some within
+          c.mend_abreast-changed.ensures.mends c.mend_abreast-changed.ensures.sweeps;
       begun = let b = i.begun in omega arith;
       few = piece_few _ _ _ _ _ _ some within i.few c.mend_abreast-changed.ensures.few;
       counted = piece_counted _ _ _ _ _ _ _ _ _ some within i.counted c.mend_abreast-changed.ensures.steps;
@@ -44,5 +41,5 @@ piece-preserved g c =
     }
 
 pub returns-clause-sweeps : goal.returns-clause-sweeps
-returns-clause-sweeps g c = pieces_done c.args.grid.now c.args.d c.args.y c.args.columns c.piece.first
-    c.args.tables.now c.piece.tables c.piece.changed c.piece.invariant.swept c.piece-test.false
+returns-clause-sweeps g c = pieces_done c.args.y c.args.columns c.piece.first c.piece.invariant.swept
+    c.piece-test.false

@@ -9,28 +9,22 @@ use Rattle.table_repair.proofs.sweep.sweep_one_by_one.Goals as goal
 pub mend-changed-requires-clause-inside : goal.mend-changed-requires-clause-inside
 mend-changed-requires-clause-inside g c =
     let i = c.loop-x.invariant in
-    let taken = taken_told c.goes_right.result (goes_right c.args.d) c.goes_right.ensures c.loop-x.left
-    c.take_far.new.span c.in-Some.x c.take_far.result c.in-Some.is c.take_far.ensures.taken
+    let taken = taken_told c.goes_right.ensures c.loop-x.left c.in-Some.is c.take_far.ensures.taken
     c.take_far.ensures.rest in
-    row_inside c.args.grid.now c.args.d c.args.y c.args.columns c.loop-x.left c.take_far.new.span c.in-Some.x
-    c.args.tables.now c.loop-x.tables c.loop-x.changed i.swept i.within taken c.requires.row
-    c.requires.columns
+    row_inside c.args.y c.args.columns i.swept i.within taken c.requires.row c.requires.columns
 
 pub mend-changed-requires-clause-right : goal.mend-changed-requires-clause-right
 mend-changed-requires-clause-right g c =
     let i = c.loop-x.invariant in
-    let taken = taken_told c.goes_right.result (goes_right c.args.d) c.goes_right.ensures c.loop-x.left
-    c.take_far.new.span c.in-Some.x c.take_far.result c.in-Some.is c.take_far.ensures.taken
+    let taken = taken_told c.goes_right.ensures c.loop-x.left c.in-Some.is c.take_far.ensures.taken
     c.take_far.ensures.rest in
-    row_right c.args.grid.now c.args.d c.args.y c.args.columns c.loop-x.left c.take_far.new.span c.in-Some.x
-    c.args.tables.now c.loop-x.tables c.loop-x.changed i.swept i.within taken c.requires.row
+    row_right c.args.y c.args.columns i.swept i.within taken c.requires.row
     c.requires.columns c.requires.waits
 
 pub loop-x-preserved : goal.loop-x-preserved
 loop-x-preserved g c =
     let i = c.loop-x.invariant in
-    let taken = taken_told c.goes_right.result (goes_right c.args.d) c.goes_right.ensures c.loop-x.left
-    c.take_far.new.span c.in-Some.x c.take_far.result c.in-Some.is c.take_far.ensures.taken
+    let taken = taken_told c.goes_right.ensures c.loop-x.left c.in-Some.is c.take_far.ensures.taken
     c.take_far.ensures.rest in
     let shorter = taken.shorter in
     let one = c.mend-changed.ensures.few in
@@ -38,9 +32,7 @@ loop-x-preserved g c =
     let few = i.few in
     let counted = i.counted in
     record {
-      swept = row_next c.args.grid.now c.args.d c.args.y c.args.columns c.loop-x.left c.take_far.new.span
-          c.in-Some.x c.args.tables.now c.loop-x.tables c.loop-x.changed i.swept i.within taken
-          c.mend-changed.new.tables c.mend-changed.result c.mend-changed.ensures.mends
+      swept = row_next c.args.y c.args.columns i.swept i.within taken c.mend-changed.ensures.mends
           c.mend-changed.ensures.follows;
       within = λ k h. i.within k (taken.within k h);
       few = few_more _ _ _ _ _ shorter few one;
@@ -51,6 +43,5 @@ loop-x-preserved g c =
 pub returns-clause-sweeps : goal.returns-clause-sweeps
 returns-clause-sweeps g c =
     let i = c.loop-x.invariant in
-    row_done c.args.grid.now c.args.d c.args.y c.args.columns c.loop-x.left c.args.tables.now c.loop-x.tables
-    c.loop-x.changed i.swept (none_taken c.goes_right.result c.loop-x.left
+    row_done c.args.y c.args.columns c.loop-x.left i.swept (none_taken c.goes_right.result c.loop-x.left
     (sym c.take_far.ensures.taken ∙ c.in_default.is))

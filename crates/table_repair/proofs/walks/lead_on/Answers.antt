@@ -10,53 +10,40 @@ abbrev nowhere : Walk
 nowhere = record { at = record { x = 0; y = 0 } }
 
 pub loop-walk-init : goal.loop-walk-init
-loop-walk-init g c = round_begins c.args.grid.now c.args.d c.args.tables.now c.args.steps.now
-    c.args.walks.now.items c.as_slice-here.result.now c.new-onward.result.items c.requires.ready
-    c.requires.inside
+loop-walk-init g c = round_begins c.requires.ready c.requires.inside
     c.requires.right c.as_slice-here.ensures.value c.new-onward.ensures
 
 pub walk_on-requires-clause-ready : goal.walk_on-requires-clause-ready
 walk_on-requires-clause-ready g c =
-    walk_ready _ _ _ _ _ _ _ _ _ nowhere c.loop-walk.invariant c.loop-walk-test.true
+    walk_ready nowhere c.loop-walk.invariant c.loop-walk-test.true
 
 pub walk_on-requires-clause-inside : goal.walk_on-requires-clause-inside
 walk_on-requires-clause-inside g c =
-    walk_inside _ _ _ _ _ _ _ _ _ nowhere c.loop-walk.invariant c.loop-walk-test.true
+    walk_inside nowhere c.loop-walk.invariant c.loop-walk-test.true
 
 pub walk_on-requires-clause-right : goal.walk_on-requires-clause-right
 walk_on-requires-clause-right g c =
-    walk_right _ _ _ _ _ _ _ _ _ nowhere c.loop-walk.invariant c.loop-walk-test.true
+    walk_right nowhere c.loop-walk.invariant c.loop-walk-test.true
 
 pub push-requires : goal.push-requires
-push-requires g c =
-    let fits = c.as_slice-here.ensures.fits in
-    let fewer = c.loop-walk.invariant.fewer in
-    let l = c.loop-walk-test.true in
-    (omega arith, omega arith)
+push-requires g c = grind arith
 
 pub loop-walk-preserved : goal.loop-walk-preserved
 loop-walk-preserved g c = elim c.match-walk_on.branch [
-  | in-Some w ↦ round_next _ _ _ _ _ _ _ _ _ nowhere c.loop-walk.invariant c.loop-walk-test.true
-      c.walk_on.new.tables c.walk_on.new.steps c.walk_on.result c.requires.diagonal c.walk_on.ensures.mends
+  | in-Some w ↦ round_next nowhere c.loop-walk.invariant c.loop-walk-test.true
+      c.requires.diagonal c.walk_on.ensures.mends
       c.walk_on.ensures.follows c.walk_on.ensures.onward c.walk_on.ensures.step c.walk_on.ensures.later
-      c.match-walk_on.onward.items
-      (some_on c.walk_on.result w.in-Some.next c.loop-walk.onward.items c.match-walk_on.onward.items
-      w.in-Some.is
+      (some_on c.loop-walk.onward.items w.in-Some.is
       (ap (λ (v : ArrayVec Walk). v.items) w.onward-is ∙ w.push.ensures.items))
-  | in_default w ↦ round_next _ _ _ _ _ _ _ _ _ nowhere c.loop-walk.invariant c.loop-walk-test.true
-      c.walk_on.new.tables c.walk_on.new.steps c.walk_on.result c.requires.diagonal c.walk_on.ensures.mends
+  | in_default w ↦ round_next nowhere c.loop-walk.invariant c.loop-walk-test.true
+      c.requires.diagonal c.walk_on.ensures.mends
       c.walk_on.ensures.follows c.walk_on.ensures.onward c.walk_on.ensures.step c.walk_on.ensures.later
-      c.match-walk_on.onward.items
-      (none_on c.walk_on.result c.loop-walk.onward.items c.match-walk_on.onward.items w.in_default.is
-      (ap (λ (v : ArrayVec Walk). v.items) w.onward-is))
+      (none_on w.in_default.is (ap (λ (v : ArrayVec Walk). v.items) w.onward-is))
 ]
 
 pub returns-clause-abreast : goal.returns-clause-abreast
 returns-clause-abreast g c =
-    (round_told c.args.grid.now c.args.d c.args.tables.now c.loop-walk.tables c.args.steps.now
-    c.loop-walk.steps
-    c.args.walks.now.items c.as_slice-here.result.now c.loop-walk.onward.items c.loop-walk.walk-index
-    c.loop-walk.invariant c.as_slice-here.ensures.value c.loop-walk-test.false).abreast
+    (round_told c.loop-walk.invariant c.as_slice-here.ensures.value c.loop-walk-test.false).abreast
 
 pub returns-clause-behind : goal.returns-clause-behind
 returns-clause-behind g c = behind_told c.args.d c.args.walks.now.items c.as_slice-here.result.now
@@ -64,23 +51,16 @@ returns-clause-behind g c = behind_told c.args.d c.args.walks.now.items c.as_sli
 
 pub returns-clause-room : goal.returns-clause-room
 returns-clause-room g c =
-    (round_told c.args.grid.now c.args.d c.args.tables.now c.loop-walk.tables c.args.steps.now
-    c.loop-walk.steps
-    c.args.walks.now.items c.as_slice-here.result.now c.loop-walk.onward.items c.loop-walk.walk-index
-    c.loop-walk.invariant c.as_slice-here.ensures.value c.loop-walk-test.false).few
+    (round_told c.loop-walk.invariant c.as_slice-here.ensures.value c.loop-walk-test.false).few
 
 pub returns-clause-fewer : goal.returns-clause-fewer
 returns-clause-fewer g c = fewer_told c.args.walks.now.items c.as_slice-here.result.now
-    c.loop-walk.onward.items
-    c.loop-walk.walk-index c.as_slice-here.ensures.value c.loop-walk.invariant.fewer
+    c.loop-walk.onward.items c.loop-walk.walk-index c.as_slice-here.ensures.value c.loop-walk.invariant.fewer
     c.loop-walk.invariant.within
 
 pub returns-clause-steps : goal.returns-clause-steps
 returns-clause-steps g c =
-    let q = (round_told c.args.grid.now c.args.d c.args.tables.now c.loop-walk.tables c.args.steps.now
-    c.loop-walk.steps c.args.walks.now.items c.as_slice-here.result.now c.loop-walk.onward.items
-    c.loop-walk.walk-index c.loop-walk.invariant c.as_slice-here.ensures.value
-    c.loop-walk-test.false).counted in
+    let q = (round_told c.loop-walk.invariant c.as_slice-here.ensures.value c.loop-walk-test.false).counted in
     omega arith
 
 pub returns-clause-later : goal.returns-clause-later

@@ -6,9 +6,7 @@ use Rattle.table_repair.proofs.Rounds.{queued_none, rounds_more, room_few, room_
 use Rattle.table_repair.proofs.walks.lead_out.Goals as goal
 
 pub round-init : goal.round-init
-round-init g c = queued_none c.args.grid.now c.args.d c.args.tables.now c.args.steps.now
-    c.args.walks.now.items
-    c.requires.ready c.requires.inside c.requires.right
+round-init g c = queued_none c.requires.ready c.requires.inside c.requires.right
 
 pub lead_on-requires-clause-ready : goal.lead_on-requires-clause-ready
 lead_on-requires-clause-ready g c = c.round.invariant.abreast.ready
@@ -30,12 +28,10 @@ overflow_add-changed g c =
     omega arith
 
 pub round-smaller : goal.round-smaller
-round-smaller g c = room_left c.args.grid.now c.args.d c.round.walks.items c.lead_on.new.walks.items
-    (let t = c.round-test.true in let f = c.is_empty.ensures in grind (arith, nat_tests))
-    c.lead_on.ensures.room
+round-smaller g c = grind (arith, room_left)
 
 pub round-preserved : goal.round-preserved
-round-preserved g c = rw c.len.ensures.value (rounds_more _ _ _ _ _ _ _ _ _ _ _ _ _ _ c.round.invariant
+round-preserved g c = rw c.len.ensures.value (rounds_more c.round.invariant
     c.lead_on.ensures.abreast c.lead_on.ensures.room c.lead_on.ensures.steps c.lead_on.ensures.later)
 
 pub returns-clause-abreast : goal.returns-clause-abreast

@@ -14,29 +14,29 @@ refresh-requires-clause-rests g c =
 
 pub returns-then-refresh-clause-mends : goal.returns-then-refresh-clause-mends
 returns-then-refresh-clause-mends g c =
-    mends_one c.args.grid.now c.args.d c.args.walk.at c.args.tables.now c.requires.ready c.requires.inside
-    c.requires.right c.in-Some.before (sym c.cell_before.ensures ∙ c.in-Some.is) c.refresh.new.self
+    mends_one c.args.walk.at c.requires.ready c.requires.inside
+    c.requires.right c.in-Some.before (sym c.cell_before.ensures ∙ c.in-Some.is)
     c.refresh.ensures.is (c.refresh.ensures.changed c.if-refresh.true)
 
 pub returns-then-refresh-clause-follows : goal.returns-then-refresh-clause-follows
 returns-then-refresh-clause-follows g c =
-    follows_on c.args.grid.now c.args.d c.args.walk.at c.args.tables.now c.requires.ready c.requires.inside
-    c.requires.right c.in-Some.before (sym c.cell_before.ensures ∙ c.in-Some.is) c.refresh.new.self
+    follows_on c.args.walk.at c.requires.ready c.requires.inside
+    c.requires.right c.in-Some.before (sym c.cell_before.ensures ∙ c.in-Some.is)
     c.refresh.ensures.is (c.refresh.ensures.changed c.if-refresh.true)
 
 pub returns-then-refresh-clause-onward : goal.returns-then-refresh-clause-onward
 returns-then-refresh-clause-onward g c =
-    onward_told c.args.grid.now c.args.d c.args.walk.at c.args.tables.now c.requires.ready c.requires.inside
-    c.requires.right c.in-Some.before (sym c.cell_before.ensures ∙ c.in-Some.is) c.refresh.new.self
+    onward_told c.args.walk.at c.requires.ready c.requires.inside
+    c.requires.right c.in-Some.before (sym c.cell_before.ensures ∙ c.in-Some.is)
     c.refresh.ensures.is (c.refresh.ensures.changed c.if-refresh.true)
 
 pub returns-else-refresh-clause-follows : goal.returns-else-refresh-clause-follows
 returns-else-refresh-clause-follows g c =
-    follows_stay c.args.grid.now c.args.d c.args.walk.at c.args.tables.now c.requires.ready c.requires.inside
-    c.requires.right c.in-Some.before (sym c.cell_before.ensures ∙ c.in-Some.is) c.refresh.new.self
+    follows_stay c.args.walk.at c.requires.ready c.requires.inside
+    c.requires.right c.in-Some.before (sym c.cell_before.ensures ∙ c.in-Some.is)
     c.refresh.ensures.is (c.refresh.ensures.stayed c.if-refresh.false)
 
 pub returns-in_default-clause-follows : goal.returns-in_default-clause-follows
 returns-in_default-clause-follows g c =
-    follows_end c.args.grid.now c.args.d c.args.walk.at c.args.tables.now c.requires.ready c.requires.inside
+    follows_end c.args.walk.at c.requires.ready c.requires.inside
     c.requires.right (sym c.cell_before.ensures ∙ c.in_default.is)

@@ -15,7 +15,4 @@ overflow_add-value c =
     omega (arith, more, after_part c.args.number c.args.digits.now (c.loop-digit.digit-index + 1))
 
 pub loop-digit-preserved : goal.loop-digit-preserved
-loop-digit-preserved c =
-    let more = after_more c.args.number c.args.digits.now c.loop-digit.digit-index c.requires.digits
-    c.loop-digit-test.true in
-    omega (arith, more)
+loop-digit-preserved c = grind (arith, after_more)

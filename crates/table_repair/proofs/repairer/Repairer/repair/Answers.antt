@@ -1,6 +1,5 @@
 -- The straight pass, then the diagonal one.
 use Rattle.std.proofs.Common.{ap}
-use Rattle.table_repair.specs.Mending.{is_in}
 use Rattle.table_repair.specs.Repaired.{MapSides}
 use Rattle.table_repair.proofs.Ending.{all_straight, beside_told, straight_starts, diagonal_starts, all_right, all_counted, all_steps, three_beside, some_beside, length_told}
 use Rattle.table_repair.proofs.repairer.Repairer.repair.Goals as goal
@@ -8,13 +7,11 @@ use Rattle.table_repair.proofs.repairer.Repairer.repair.Goals as goal
 pub sweep_straight-straight-requires-clause-waits : goal.sweep_straight-straight-requires-clause-waits
 sweep_straight-straight-requires-clause-waits g c =
     let a = c.args in
-    let rows = beside_told c.beside-rows.result a.c.y c.self.inside.height a.self.now.height a.grid.now.height
-    c.beside-rows.ensures (ap (λ (s : MapSides). s.height) c.self.view_is) c.requires.height in
-    let columns = beside_told c.beside-columns.result a.c.x c.self.inside.width a.self.now.width
-    a.grid.now.width c.beside-columns.ensures (ap (λ (s : MapSides). s.width) c.self.view_is)
+    let rows = beside_told a.c.y c.beside-rows.ensures (ap (λ (s : MapSides). s.height) c.self.view_is)
+    c.requires.height in
+    let columns = beside_told a.c.x c.beside-columns.ensures (ap (λ (s : MapSides). s.width) c.self.view_is)
     c.requires.width in
-    λ d k. straight_starts a.grid.now a.c a.tables.now c.beside-rows.result c.beside-columns.result
-    c.requires.but rows columns d k
+    λ d k. straight_starts c.requires.but rows columns d k
 
 pub sweep_diagonals-requires-clause-beside : goal.sweep_diagonals-requires-clause-beside
 sweep_diagonals-requires-clause-beside g c = λ d k u i.
@@ -23,37 +20,29 @@ sweep_diagonals-requires-clause-beside g c = λ d k u i.
 pub sweep_diagonals-requires-clause-waits : goal.sweep_diagonals-requires-clause-waits
 sweep_diagonals-requires-clause-waits g c =
     let a = c.args in
-    let rows = beside_told c.beside-rows.result a.c.y c.self.inside.height a.self.now.height a.grid.now.height
-    c.beside-rows.ensures (ap (λ (s : MapSides). s.height) c.self.view_is) c.requires.height in
-    let columns = beside_told c.beside-columns.result a.c.x c.self.inside.width a.self.now.width
-    a.grid.now.width c.beside-columns.ensures (ap (λ (s : MapSides). s.width) c.self.view_is)
+    let rows = beside_told a.c.y c.beside-rows.ensures (ap (λ (s : MapSides). s.height) c.self.view_is)
+    c.requires.height in
+    let columns = beside_told a.c.x c.beside-columns.ensures (ap (λ (s : MapSides). s.width) c.self.view_is)
     c.requires.width in
-    λ d k. diagonal_starts a.grid.now a.c a.tables.now c.sweep_straight-straight.new.tables
-    c.sweep_straight-straight.result c.min-by.result c.beside-rows.result c.beside-columns.result
-    c.requires.but rows columns c.width-width.ensures.whole c.min-by.ensures
+    λ d k. diagonal_starts c.requires.but rows columns c.width-width.ensures.whole c.min-by.ensures
     c.sweep_straight-straight.ensures.mends c.sweep_straight-straight.ensures.right d k
 
 pub returns-clause-tables : goal.returns-clause-tables
 returns-clause-tables g c =
-    all_right c.args.grid.now (is_in c.beside-rows.result c.beside-columns.result) c.args.tables.now
-    c.sweep_straight-straight.new.tables c.sweep_diagonals.new.tables c.sweep_straight-straight.result
-    c.sweep_diagonals.result c.sweep_straight-straight.ensures.mends c.sweep_diagonals.ensures.mends
+    all_right c.sweep_straight-straight.ensures.mends c.sweep_diagonals.ensures.mends
     c.sweep_straight-straight.ensures.right c.sweep_diagonals.ensures.right
 
 pub returns-clause-changed : goal.returns-clause-changed
 returns-clause-changed g c =
-    all_counted c.args.grid.now (is_in c.beside-rows.result c.beside-columns.result) c.args.tables.now
-    c.sweep_straight-straight.new.tables c.sweep_diagonals.new.tables c.sweep_straight-straight.result
-    c.sweep_diagonals.result c.sweep_straight-straight.ensures.mends c.sweep_diagonals.ensures.mends
+    all_counted c.sweep_straight-straight.ensures.mends c.sweep_diagonals.ensures.mends
     c.sweep_straight-straight.ensures.right c.sweep_diagonals.ensures.right
 
 pub returns-clause-steps : goal.returns-clause-steps
 returns-clause-steps g c =
     let a = c.args in
-    let rows = beside_told c.beside-rows.result a.c.y c.self.inside.height a.self.now.height a.grid.now.height
-    c.beside-rows.ensures (ap (λ (s : MapSides). s.height) c.self.view_is) c.requires.height in
-    let columns = beside_told c.beside-columns.result a.c.x c.self.inside.width a.self.now.width
-    a.grid.now.width c.beside-columns.ensures (ap (λ (s : MapSides). s.width) c.self.view_is)
+    let rows = beside_told a.c.y c.beside-rows.ensures (ap (λ (s : MapSides). s.height) c.self.view_is)
+    c.requires.height in
+    let columns = beside_told a.c.x c.beside-columns.ensures (ap (λ (s : MapSides). s.width) c.self.view_is)
     c.requires.width in
     let y = a.c.y in
     let x = a.c.x in
