@@ -1,12 +1,13 @@
 //! Blocks of 512 places, searched word by word, or passed whole.
 
-ghost use Rattle.std.specs.Prelude.{◌≡◌, ℕ, ◌+◌, ◌*◌, ◌-◌, ◌/◌, ◌<◌, ◌≤◌, Bool, true, length};
+ghost use Rattle.std.specs.Prelude.{◌≡◌, ℕ, ◌+◌, ◌*◌, ◌-◌, ◌/◌, ◌<◌, ◌≤◌, Bool, true, IfSome, length};
 ghost use Rattle.bit_grid.specs.Bits.{Shows};
 ghost use Rattle.jump_block.specs.Trail as trails;
 ghost use Rattle.jump_block.specs.Trail.{Trail, IsClear, begun, trail_on};
 ghost use Rattle.jump_block.specs.Word as spec;
 ghost use Rattle.jump_block.specs.Word.{AreEdgesOf, AreEight, IsBlockOf, IsAhead, edge_before, moves_before, words_of, nth_word};
 ghost use Rattle.jump_block.specs.Seek.{HasPassed, IsSought};
+ghost use Rattle.jump_block.specs.Near.{AreNear};
 
 use crate::eight::{are_none, blocked, changed};
 use crate::word::{Way, Words, begun, first, halts, past};
@@ -87,6 +88,23 @@ fn halt_at(way: Way, middle: u64, found: u64, from: u32, base: u32) -> Halt
         passed: moves_short_of(way, from, base + bit),
         blocked: middle >> bit & 1 == 0,
     }
+}
+
+/// Where a scan halts among the places of the word in which it starts, told the words around its start, or
+/// `None` where it leaves the word.
+#[inline(always)]
+pub(crate) fn halt_near(way: Way, rule: Corner, near: Words, from: u32) -> Option<Halt>
+    requires from { from < 65536 }
+    ensures { (free : ℕ → ℕ → Bool) (line : ℕ) → AreNear free line from near
+        → IfSome result (λ h. trails.Halts (trails.begun rule (trail_on free way line from)) h.passed h.blocked) }
+{
+    let place = from % 64;
+    let words = begun(rule, near, place);
+    let found = halts(way, words, NOTHING) & past(way, place);
+    if found == 0 {
+        return None;
+    }
+    Some(halt_at(way, words.middle, found, from, from / 64 * 64))
 }
 
 impl<'a> Block<'a> {
