@@ -28,3 +28,12 @@ HasNextBit Back place = 0 < place
 abbrev pub next_bit : Way → ℕ → ℕ
 next_bit Forward place = place + 1
 next_bit Back place = place - 1
+
+-- the word next to one on the way, where a line of so many words has it
+abbrev pub HasNextWord : Way → ℕ → ℕ → Type 0
+HasNextWord Forward per_line word = word + 1 < per_line
+HasNextWord Back per_line word = 0 < word
+
+abbrev pub next_word : Way → ℕ → ℕ
+next_word Forward word = word + 1
+next_word Back word = word - 1

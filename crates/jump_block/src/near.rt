@@ -4,7 +4,7 @@ ghost use Rattle.std.specs.Prelude.{◌≡◌, ℕ, ◌+◌, ◌*◌, ◌/◌, �
 ghost use Rattle.grid_moves.specs.Move as moves;
 ghost use Rattle.bit_grid.specs.Bits.{Shows, is_set};
 ghost use Rattle.jump_block.specs.Near as spec;
-ghost use Rattle.jump_block.specs.Near.{AreNear, HasNextBit};
+ghost use Rattle.jump_block.specs.Near.{AreNear, HasNextBit, HasNextWord};
 ghost use Rattle.jump_block.specs.Scan.{IsStart};
 ghost use Rattle.jump_block.specs.Source as source;
 
@@ -16,7 +16,29 @@ use grid_moves::{Corner, Dir};
 use std::sync::ledger::Ledger;
 use steps::Steps;
 
-/// Reads the words of a line and of those beside it that have this place, at which a cell is free.
+/// Reads the words of this number of a line and of those beside it.
+#[inline(always)]
+pub(crate) fn words_beside<L: Ledger>(
+    lines: &Lines,
+    line: u32,
+    word: u32,
+    steps: &mut Steps<L>,
+) -> Words
+    requires starts { (free : ℕ → ℕ → Bool) × (place : ℕ) × IsStart lines.now free line place }
+    requires word { word < lines.now.blocks * 8 }
+    ensures beside { (count positions : ℕ) (free : ℕ → ℕ → Bool) → Shows lines.now count positions free
+        → AreNear free line (word * 64) result }
+    ensures three_steps { steps.new ≡ steps.old + 3 }
+{
+    let three = lines.three(line, word, steps);
+    Words {
+        middle: three.middle,
+        before: three.before,
+        after: three.after,
+    }
+}
+
+/// Reads those that have this place, at which a cell is free.
 #[inline(always)]
 pub(crate) fn words_near<L: Ledger>(
     lines: &Lines,
@@ -29,11 +51,31 @@ pub(crate) fn words_near<L: Ledger>(
     ensures near { (free : ℕ → ℕ → Bool) → IsStart lines.now free line place → AreNear free line place result }
     ensures three_steps { steps.new ≡ steps.old + 3 }
 {
-    let three = lines.three(line, place / 64, steps);
-    Words {
-        middle: three.middle,
-        before: three.before,
-        after: three.after,
+    words_beside(lines, line, place / 64, steps)
+}
+
+/// Whether a line of so many words has the one next to this on the way.
+#[inline(always)]
+pub(crate) fn has_next_word(way: Way, per_line: u32, word: u32) -> bool
+    requires { word < per_line }
+    ensures { result ≡ true → HasNextWord way per_line word }
+{
+    match way {
+        Way::Forward => word + 1 < per_line,
+        Way::Back => 0 < word,
+    }
+}
+
+/// That word's number.
+#[inline(always)]
+pub(crate) fn next_word(way: Way, word: u32) -> u32
+    requires few { word < 65536 }
+    requires more { (per_line : ℕ) × HasNextWord way per_line word }
+    ensures { result ≡ spec.next_word way word }
+{
+    match way {
+        Way::Forward => word + 1,
+        Way::Back => word - 1,
     }
 }
 

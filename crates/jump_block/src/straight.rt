@@ -1,18 +1,18 @@
 //! Straight jumps: a scan along a row or a column, and the first stop that follows from where it halts.
 
-ghost use Rattle.std.specs.Prelude.{◌≡◌, ℕ, ◌+◌, ◌≤◌, Bool, false, true, IsTrue, is_some, nat_eq};
+ghost use Rattle.std.specs.Prelude.{◌≡◌, ℕ, ◌+◌, ◌*◌, ◌/◌, ◌≤◌, Bool, false, true, IsTrue, is_some, nat_eq};
 ghost use Rattle.grid_moves.specs.Grid.{GridData, is_free};
 ghost use Rattle.pruning.specs.Turns.{is_diagonal};
 ghost use Rattle.pruning.specs.First as first;
 ghost use Rattle.jump_plain.specs.Reach as reach;
-ghost use Rattle.jump_block.specs.Trail.{begun};
+ghost use Rattle.jump_block.specs.Trail.{IsClear, begun};
 ghost use Rattle.jump_block.specs.Scan.{Finds, looked, most_lanes};
 ghost use Rattle.jump_block.specs.Near.{AreNear};
 ghost use Rattle.jump_block.specs.Word as ways;
 ghost use Rattle.jump_block.specs.Source as spec;
 ghost use Rattle.jump_block.specs.Source.{AreItsBits, by_rows, by_columns, trail_of, scanned};
 
-use crate::block::{Halt, halt_near};
+use crate::block::{Halt, halt_near, halt_next};
 use crate::near::words_near;
 use crate::scan::{Start, scan, way_of};
 use crate::word::{Way, Words};
@@ -152,7 +152,7 @@ impl<'a> Bits<'a> {
     }
 
     // Whether a straight jump along the row finds a stop, for a goal that is not on the row. It is for the
-    // scans that leave the word in which they start.
+    // scans that leave the next words too.
     #[inline(never)]
     fn finds_far_on_row<const WAY: usize, L: Ledger>(&self, at: Cell, steps: &mut Steps<L>) -> bool
         requires stands { (g : GridData) × AreItsBits self.now.rows.now self.now.columns.now self.now.corner g
@@ -165,6 +165,40 @@ impl<'a> Bits<'a> {
     {
         let found = self.halt_on_row(at, way_of(WAY), 0, steps);
         stop_of(self.corner, found, 0).is_some()
+    }
+
+    // The same, where nothing halts the scan in the words around the cell: the next ones are looked at before.
+    #[inline(never)]
+    fn finds_next_on_row<const WAY: usize, L: Ledger>(
+        &self,
+        at: Cell,
+        near: Words,
+        steps: &mut Steps<L>,
+    ) -> bool
+        requires stands { (g : GridData) × AreItsBits self.now.rows.now self.now.columns.now self.now.corner g
+            × (is_free g at ≡ true) }
+        requires near { (g : GridData)
+            → AreItsBits self.now.rows.now self.now.columns.now self.now.corner g → is_free g at ≡ true
+            → AreNear (by_rows g) (at.y + 1) (at.x + 1) near }
+        requires clear { (g : GridData)
+            → AreItsBits self.now.rows.now self.now.columns.now self.now.corner g → is_free g at ≡ true
+            → IsClear (begun self.now.corner (trail_of g (spec.row_dir (ways.way_of WAY)) at))
+            (ways.moves_before (ways.way_of WAY) (at.x + 1)
+            (ways.far (ways.way_of WAY) ((at.x + 1) / 64 * 64))) }
+        ensures finds { (g : GridData)
+            → AreItsBits self.now.rows.now self.now.columns.now self.now.corner g → is_free g at ≡ true
+            → (goal : Cell) → nat_eq at.y goal.y ≡ false
+            → result ≡ is_some (first.first_stop g goal at (spec.row_dir (ways.way_of WAY))) }
+        ensures more { steps.old ≤ steps.new }
+    {
+        let (line, place) = (u32::from(at.y) + 1, u32::from(at.x) + 1);
+        let way = way_of(WAY);
+        let found = halt_next(way, self.corner, self.rows, line, place, near, steps);
+        if found.is_some() {
+            return stop_of(self.corner, found, 0).is_some();
+        }
+        let bits = *self;
+        bits.finds_far_on_row::<WAY, L>(at, steps)
     }
 
     /// Whether a straight jump along the row finds a stop, for a goal that is not on the row, told the
@@ -194,8 +228,8 @@ impl<'a> Bits<'a> {
         }
         let bits = *self;
         match way {
-            Way::Forward => bits.finds_far_on_row::<0, L>(at, steps),
-            Way::Back => bits.finds_far_on_row::<1, L>(at, steps),
+            Way::Forward => bits.finds_next_on_row::<0, L>(at, near, steps),
+            Way::Back => bits.finds_next_on_row::<1, L>(at, near, steps),
         }
     }
 
@@ -218,7 +252,7 @@ impl<'a> Bits<'a> {
     }
 
     // Whether a straight jump along the column finds a stop, for a goal that is not on the column. It is for the
-    // scans that leave the word in which they start.
+    // scans that leave the next words too.
     #[inline(never)]
     fn finds_far_on_column<const WAY: usize, L: Ledger>(
         &self,
@@ -235,6 +269,40 @@ impl<'a> Bits<'a> {
     {
         let found = self.halt_on_column(at, way_of(WAY), 0, steps);
         stop_of(self.corner, found, 0).is_some()
+    }
+
+    // The same, where nothing halts the scan in the words around the cell: the next ones are looked at before.
+    #[inline(never)]
+    fn finds_next_on_column<const WAY: usize, L: Ledger>(
+        &self,
+        at: Cell,
+        near: Words,
+        steps: &mut Steps<L>,
+    ) -> bool
+        requires stands { (g : GridData) × AreItsBits self.now.rows.now self.now.columns.now self.now.corner g
+            × (is_free g at ≡ true) }
+        requires near { (g : GridData)
+            → AreItsBits self.now.rows.now self.now.columns.now self.now.corner g → is_free g at ≡ true
+            → AreNear (by_columns g) (at.x + 1) (at.y + 1) near }
+        requires clear { (g : GridData)
+            → AreItsBits self.now.rows.now self.now.columns.now self.now.corner g → is_free g at ≡ true
+            → IsClear (begun self.now.corner (trail_of g (spec.column_dir (ways.way_of WAY)) at))
+            (ways.moves_before (ways.way_of WAY) (at.y + 1)
+            (ways.far (ways.way_of WAY) ((at.y + 1) / 64 * 64))) }
+        ensures finds { (g : GridData)
+            → AreItsBits self.now.rows.now self.now.columns.now self.now.corner g → is_free g at ≡ true
+            → (goal : Cell) → nat_eq at.x goal.x ≡ false
+            → result ≡ is_some (first.first_stop g goal at (spec.column_dir (ways.way_of WAY))) }
+        ensures more { steps.old ≤ steps.new }
+    {
+        let (line, place) = (u32::from(at.x) + 1, u32::from(at.y) + 1);
+        let way = way_of(WAY);
+        let found = halt_next(way, self.corner, self.columns, line, place, near, steps);
+        if found.is_some() {
+            return stop_of(self.corner, found, 0).is_some();
+        }
+        let bits = *self;
+        bits.finds_far_on_column::<WAY, L>(at, steps)
     }
 
     /// Whether a straight jump along the column finds a stop, for a goal that is not on the column. The call out
@@ -261,8 +329,8 @@ impl<'a> Bits<'a> {
         }
         let bits = *self;
         match way {
-            Way::Forward => bits.finds_far_on_column::<0, L>(at, steps),
-            Way::Back => bits.finds_far_on_column::<1, L>(at, steps),
+            Way::Forward => bits.finds_next_on_column::<0, L>(at, near, steps),
+            Way::Back => bits.finds_next_on_column::<1, L>(at, near, steps),
         }
     }
 
