@@ -1,5 +1,5 @@
 -- The words around a cell.
-use Rattle.std.proofs.Common.{◌≡◌, ℕ, zero, suc, ◌+◌, ◌-◌, ◌*◌, ◌/◌, ◌%◌, ◌<◌, arith, Bool, false, true, ◌&&◌, ◌||◌, refl, ap, sym, ◌∙◌, subst, bit_and}
+use Rattle.std.proofs.Common.{◌≡◌, ℕ, zero, suc, ◌+◌, ◌-◌, ◌*◌, ◌/◌, ◌%◌, ◌<◌, arith, Bool, false, true, ◌&&◌, refl, ap, sym, ◌∙◌, subst, bit_and}
 use Rattle.std.specs.Prelude.{Option, Some, None, IfSome, is_some}
 use Rattle.grid_moves.specs.declared.Cell.{Cell}
 use Rattle.grid_moves.specs.declared.Corner.{Corner}
@@ -19,7 +19,6 @@ use Rattle.jump_block.specs.declared.block.Halt.{Halt}
 use Rattle.jump_block.specs.Trail.{Trail, IsClear, Halts, halts, begun, trail_on}
 use Rattle.jump_block.specs.Scan.{IsStart, Finds}
 use Rattle.jump_block.specs.Word.{AreWordsOf, AreEdgesOf, IsAhead, IsFound, Meets, far, moves_before, near}
-use Rattle.jump_block.specs.Seek.{HasPassed}
 use Rattle.jump_block.specs.Near.{AreNear, HasNextBit, HasNextWord, next_bit, next_word, side_word}
 use Rattle.jump_block.specs.Source.{by_rows, row_way, column_way}
 use Rattle.jump_block.proofs.Reading.{meets_along}

@@ -1,4 +1,4 @@
-use Rattle.std.proofs.Common.{ℕ, ◌*◌}
+use Rattle.std.proofs.Common.{◌*◌}
 use Rattle.jump_block.specs.Trail.{begun, trail_on}
 use Rattle.jump_block.specs.Word.{moves_before, near}
 use Rattle.jump_block.proofs.Around.{next_found}

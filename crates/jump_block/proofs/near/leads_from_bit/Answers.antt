@@ -1,4 +1,4 @@
-use Rattle.std.proofs.Common.{◌≡◌, ℕ, Bool, ◌&&◌, ap, sym, subst, ◌∙◌}
+use Rattle.std.proofs.Common.{◌≡◌, ℕ, ◌&&◌, ap, sym, subst, ◌∙◌}
 use Rattle.grid_moves.specs.Move.{is_passable}
 use Rattle.bit_grid.specs.Bits.{is_set}
 use Rattle.jump_block.specs.declared.word.Way.{Way}
