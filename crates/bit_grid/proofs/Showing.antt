@@ -1,5 +1,5 @@
 -- Lines that show a map: a block of them, and one bit set.
-use Rattle.std.proofs.Common.{◌≡◌, ◌≢◌, ℕ, zero, suc, ◌+◌, ◌*◌, ◌/◌, ◌%◌, ◌<◌, ◌≤◌, arith, Bool, true, false, ◌&&◌, refl, ap, sym, ◌∙◌, List, length, slice_index_or, slice_set, nat_eq, take, drop, get_or-set_same, get_or-set_other}
+use Rattle.std.proofs.Common.{◌≡◌, ◌≢◌, ℕ, zero, suc, ◌+◌, ◌-◌, ◌*◌, ◌/◌, ◌%◌, ◌<◌, ◌≤◌, arith, Bool, true, false, ◌&&◌, refl, ap, sym, ◌∙◌, List, length, slice_index_or, slice_set, nat_eq, take, drop, get_or-set_same, get_or-set_other}
 use Rattle.std.specs.Prelude.{if◌then◌else◌}
 use Rattle.std.proofs.lemmas.List.{get_or-drop, get_or-take}
 use Rattle.std.proofs.lemmas.Nat.{same_from_place, mul-add-lt}
@@ -25,6 +25,31 @@ lane_shown l line index lines positions free shows a b start n words s m is k j 
     ∙ ap (λ (ws : List ℕ). slice_index_or ws (line * (l.blocks * 8) + (index * 8 + k)) 0) is)
     ∙ shows.bits line (index * 8 + k) j a within i
     ∙ ap (λ (p : ℕ). free line p) position
+
+-- a word of a line
+pub word_inside : (lines blocks line w : ℕ) (words : List ℕ) → length words ≡ lines * (blocks * 8)
+    → line < lines → w < blocks * 8 → line * (blocks * 8) + w < length words
+word_inside lines blocks line w words whole a b =
+    let within : line * (blocks * 8) + w < blocks * 8 * lines = mul-add-lt line (blocks * 8) w lines a b in
+    omega (arith, within, whole)
+
+-- its place in the line before and in the one after
+pub place_before : (line per_line w : ℕ) → 1 ≤ line → line * per_line + w - per_line ≡ (line - 1) * per_line + w
+place_before zero per_line w h = absurd (omega arith)
+place_before (suc n) per_line w h =
+    let more : suc n * per_line ≡ n * per_line + per_line = omega arith in
+    let one_less : suc n - 1 ≡ n = omega arith in
+    rw (one_less, more) (omega arith)
+
+pub place_after : (line per_line w : ℕ) → line * per_line + w + per_line ≡ (line + 1) * per_line + w
+place_after line per_line w = omega arith
+
+pub word_shown : (l : LineData) (lines positions : ℕ) (free : ℕ → ℕ → Bool) → Shows l lines positions free
+    → (line w place value j : ℕ) → line < l.lines → w < l.blocks * 8 → j < 64
+    → place ≡ line * (l.blocks * 8) + w → value ≡ slice_index_or l.words place 0
+    → is_set value j ≡ free line (w * 64 + j)
+word_shown l lines positions free shows line w place value j a b h at is =
+    ap (λ (n : ℕ). is_set n j) (is ∙ ap (λ (p : ℕ). slice_index_or l.words p 0) at) ∙ shows.bits line w j a b h
 
 -- a position's word is one of the line's
 pub place_below : (lines blocks line position : ℕ) (words : List ℕ) → length words ≡ lines * (blocks * 8)

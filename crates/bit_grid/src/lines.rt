@@ -1,6 +1,6 @@
 //! Lines of bits.
 
-ghost use Rattle.std.specs.Prelude.{◌≡◌, ℕ, ◌+◌, ◌*◌, ◌<◌, ◌≤◌, Bool, false, IfOk, length, slice_index_or, nat_eq, if◌then◌else◌};
+ghost use Rattle.std.specs.Prelude.{◌≡◌, ℕ, ◌+◌, ◌-◌, ◌*◌, ◌<◌, ◌≤◌, Bool, false, IfOk, length, slice_index_or, nat_eq, if◌then◌else◌};
 ghost use Rattle.bit_grid.specs.Pack.{is_free_in};
 ghost use Rattle.bit_grid.specs.Bits.{Shows, is_set, with_cell};
 
@@ -32,6 +32,14 @@ pub struct Lines {
     lines: u32,
     blocks: u32,
     words: Vec<u64>,
+}
+
+/// The same word of a line, of the line before it and of the line after it.
+#[derive(Clone, Copy)]
+pub struct Three {
+    pub middle: u64,
+    pub before: u64,
+    pub after: u64,
 }
 
 /// The rows of a grid: line `l` is row `l - 1`, and its bit `p` column `p - 1`.
@@ -134,8 +142,8 @@ impl Lines {
     }
 
     /// A block of a line, both counted from 0: its eight words, where bit `j` of word `k` is the line's bit
-    /// `512·index + 64·k + j`. This is the one way to read bits. It counts one step for each block that it
-    /// hands out, however many of its words are read.
+    /// `512·index + 64·k + j`. It counts one step for each block that it hands out, however many of its words
+    /// are read. Bits are read so, or by `three`.
     #[inline(always)]
     pub fn lane<L: Ledger>(&self, line: u32, index: u32, steps: &mut Steps<L>) -> &[u64]
         requires line { line < self.now.lines }
@@ -149,5 +157,32 @@ impl Lines {
         steps.tick();
         let start = (line as usize * self.blocks as usize + index as usize) * 8;
         &self.words[start..start + 8]
+    }
+
+    /// The words of this number of a line and of the two beside it, where bit `j` is each line's bit
+    /// `64·word + j`. It counts three steps, as the blocks of three lines do.
+    #[inline(always)]
+    pub fn three<L: Ledger>(&self, line: u32, word: u32, steps: &mut Steps<L>) -> Three
+        requires first { 1 ≤ line }
+        requires last { line + 1 < self.now.lines }
+        requires word { word < self.now.blocks * 8 }
+        ensures middle { (lines positions : ℕ) (free : ℕ → ℕ → Bool) → Shows self.now lines positions free
+            → (j : ℕ) → j < 64 → is_set result.middle j ≡ free line (word * 64 + j) }
+        ensures before { (lines positions : ℕ) (free : ℕ → ℕ → Bool) → Shows self.now lines positions free
+            → (j : ℕ) → j < 64 → is_set result.before j ≡ free (line - 1) (word * 64 + j) }
+        ensures after { (lines positions : ℕ) (free : ℕ → ℕ → Bool) → Shows self.now lines positions free
+            → (j : ℕ) → j < 64 → is_set result.after j ≡ free (line + 1) (word * 64 + j) }
+        ensures three_steps { steps.new ≡ steps.old + 3 }
+    {
+        steps.tick();
+        steps.tick();
+        steps.tick();
+        let per_line = self.blocks as usize * 8;
+        let place = line as usize * per_line + word as usize;
+        Three {
+            middle: self.words[place],
+            before: self.words[place - per_line],
+            after: self.words[place + per_line],
+        }
     }
 }

@@ -254,10 +254,20 @@ module _ (t : Trail) (way : Way) (from start : ℕ) (b : Block) (last : Words)
   pub passed_whole : HasPassed t way from (edge_before way start 8) (words_of b (nth_word way 7))
   passed_whole = passed_to 8 (omega arith)
 
--- the block in which a scan starts
-module _ (t : Trail) (rule : Corner) (way : Way) (start place w found halting over : ℕ) (words last : Words)
-    (b : Block) (block : IsBlockOf t way (start + w * 64 + place) start 0 b) (low : place < 64) (high : w < 8)
-    (are : AreWordsOf (begun rule t) way (start + w * 64 + place) (start + w * 64) words)
+-- past its start the sides are the trail's own
+pub own_later : (way : Way) (r : Corner) (side : ℕ → Bool) (from base word : ℕ)
+    → ((j k : ℕ) → j < 64 → Meets way from (base + j) k → (m : ℕ) × (k ≡ suc m))
+    → IsWordOf side way from base word → IsWordOf (at_start r side) way from base word
+own_later way r side from base word later here j k h m =
+    let more = later j k h m in here j k h m ∙ by_rule r more.0 more.1
+  where
+    by_rule : (r : Corner) (n : ℕ) → k ≡ suc n → side k ≡ at_start r side k
+    by_rule Never n e = refl
+    by_rule One n e = rw e refl
+
+-- the word in which a scan starts
+module _ (t : Trail) (rule : Corner) (way : Way) (base place found halting over : ℕ) (words last : Words)
+    (low : place < 64) (are : AreWordsOf (begun rule t) way (base + place) base words)
     (told : (t : Trail) (from base : ℕ) → AreWordsOf t way from base words
     → AreEdgesOf t way from (near way base) last
     → (j k : ℕ) → j < 64 → Meets way from (base + j) (suc k) → is_set halting j ≡ halts t k)
@@ -290,29 +300,34 @@ module _ (t : Trail) (rule : Corner) (way : Way) (start place w found halting ov
   and_true : (a b : Bool) → b ≡ true → (a && b) ≡ a
   and_true a b h = grind arith
 
-  pub start_found : IsFound (begun rule t) way (start + w * 64 + place) (start + w * 64) 0 words.middle found
-  start_found = record {
+  pub word_found : IsFound (begun rule t) way (base + place) base 0 words.middle found
+  word_found = record {
     clear = λ k h. absurd (omega arith);
     shows = are.middle;
-    bits = λ j k h m. set_there j h ∙ and_true _ _ (all_past way (start + w * 64) j k m)
-        ∙ told (begun rule t) (start + w * 64 + place) (start + w * 64) are
-        (no_edges (begun rule t) way (start + w * 64 + place) (start + w * 64) last (omega arith) (omega arith))
-        j k h m;
-    past = λ j h set. moves_past way (start + w * 64) j (and_second _ _ (sym (set_there j h) ∙ set));
-    here = λ k l h. places_past way (start + w * 64) k h;
+    bits = λ j k h m. set_there j h ∙ and_true _ _ (all_past way base j k m)
+        ∙ told (begun rule t) (base + place) base are
+        (no_edges (begun rule t) way (base + place) base last (omega arith) (omega arith)) j k h m;
+    past = λ j h set. moves_past way base j (and_second _ _ (sym (set_there j h) ∙ set));
+    here = λ k l h. places_past way base k h;
   }
 
-  -- the words after it are the trail's own
-  its_own : (r : Corner) (side : ℕ → Bool) (from base word : ℕ)
-      → ((j k : ℕ) → j < 64 → Meets way from (base + j) k → (m : ℕ) × (k ≡ suc m))
-      → IsWordOf side way from base word → IsWordOf (at_start r side) way from base word
-  its_own r side from base word later here j k h m =
-      let more = later j k h m in here j k h m ∙ by_rule r more.0 more.1
-    where
-      by_rule : (r : Corner) (n : ℕ) → k ≡ suc n → side k ≡ at_start r side k
-      by_rule Never n e = refl
-      by_rule One n e = rw e refl
+  pub word_clear : found ≡ 0 → IsClear (begun rule t) (moves_before way (base + place) (far way base))
+  word_clear none = found_none (begun rule t) way (base + place) base 0 words.middle found word_found none
 
+-- the block in which a scan starts
+module _ (t : Trail) (rule : Corner) (way : Way) (start place w found halting over : ℕ) (words last : Words)
+    (b : Block) (block : IsBlockOf t way (start + w * 64 + place) start 0 b) (low : place < 64) (high : w < 8)
+    (are : AreWordsOf (begun rule t) way (start + w * 64 + place) (start + w * 64) words)
+    (told : (t : Trail) (from base : ℕ) → AreWordsOf t way from base words
+    → AreEdgesOf t way from (near way base) last
+    → (j k : ℕ) → j < 64 → Meets way from (base + j) (suc k) → is_set halting j ≡ halts t k)
+    (masked : (j : ℕ) → j < 64 → is_set over j ≡ is_past way place j)
+    (found_is : found ≡ bit_and halting over) where
+  pub start_found : IsFound (begun rule t) way (start + w * 64 + place) (start + w * 64) 0 words.middle found
+  start_found = word_found t rule way (start + w * 64) place found halting over words last low are told masked
+      found_is
+
+  -- the words after it are the trail's own
   later_words : (way : Way) (n : ℕ) → nth_word way w + 1 ≤ n → n < 8 → (j k : ℕ) → j < 64
       → Meets way (start + w * 64 + place) (start + nth_word way n * 64 + j) k → (m : ℕ) × (k ≡ suc m)
   later_words Forward n a b j k h m = (k - 1, omega arith)
@@ -323,9 +338,9 @@ module _ (t : Trail) (rule : Corner) (way : Way) (start place w found halting ov
       let there = block n (omega arith) c in
       record {
         middle = there.middle;
-        before = its_own rule t.before (start + w * 64 + place) (start + nth_word way n * 64) _
+        before = own_later way rule t.before (start + w * 64 + place) (start + nth_word way n * 64) _
             (later_words way n a c) there.before;
-        after = its_own rule t.after (start + w * 64 + place) (start + nth_word way n * 64) _
+        after = own_later way rule t.after (start + w * 64 + place) (start + nth_word way n * 64) _
             (later_words way n a c) there.after;
       }
 
@@ -338,8 +353,8 @@ module _ (t : Trail) (rule : Corner) (way : Way) (start place w found halting ov
       → HasPassed (begun rule t) way (start + w * 64 + place) (edge_before way start (nth_word way w + 1)) words
   start_passed none = rw (← far_edge way) (record {
     edges = edges_of (begun rule t) way (start + w * 64 + place) (start + w * 64) words are;
-    clear = found_none (begun rule t) way (start + w * 64 + place) (start + w * 64) 0 words.middle found
-        start_found none;
+    clear = word_clear t rule way (start + w * 64) place found halting over words last low are told masked
+        found_is none;
   })
 
 -- the edge after the word in which a scan starts lies ahead

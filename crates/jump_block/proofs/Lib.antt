@@ -8,3 +8,4 @@ pub mod Runs
 pub mod Directions
 pub mod Patches
 pub mod Diagonals
+pub mod Around

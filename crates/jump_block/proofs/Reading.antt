@@ -7,7 +7,7 @@ use Rattle.jump_block.specs.Trail.{along, trail_on}
 use Rattle.jump_block.specs.Word.{Meets, IsWordOf, AreWordsOf, nth_word}
 
 -- the place that the way leads to
-meets_along : (way : Way) (from place k : ℕ) → Meets way from place k → place ≡ along way from k
+pub meets_along : (way : Way) (from place k : ℕ) → Meets way from place k → place ≡ along way from k
 meets_along Forward from place k m = omega arith
 meets_along Back from place k m = omega arith
 

@@ -5,3 +5,4 @@ pub mod Seek
 pub mod Scan
 pub mod Source
 pub mod Patch
+pub mod Near

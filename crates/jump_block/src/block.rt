@@ -1,14 +1,17 @@
 //! Blocks of 512 places, searched word by word, or passed whole.
 
-ghost use Rattle.std.specs.Prelude.{◌≡◌, ℕ, ◌+◌, ◌*◌, ◌-◌, ◌/◌, ◌<◌, ◌≤◌, Bool, true, length};
+ghost use Rattle.std.specs.Prelude.{◌≡◌, ℕ, ◌+◌, ◌*◌, ◌-◌, ◌/◌, ◌<◌, ◌≤◌, Bool, false, true, is_some, IfSome, length};
 ghost use Rattle.bit_grid.specs.Bits.{Shows};
 ghost use Rattle.jump_block.specs.Trail as trails;
 ghost use Rattle.jump_block.specs.Trail.{Trail, IsClear, begun, trail_on};
 ghost use Rattle.jump_block.specs.Word as spec;
 ghost use Rattle.jump_block.specs.Word.{AreEdgesOf, AreEight, IsBlockOf, IsAhead, edge_before, moves_before, words_of, nth_word};
 ghost use Rattle.jump_block.specs.Seek.{HasPassed, IsSought};
+ghost use Rattle.jump_block.specs.Near.{AreNear};
+ghost use Rattle.jump_block.specs.Scan.{IsStart};
 
 use crate::eight::{are_none, blocked, changed};
+use crate::near::{has_next_word, next_word, words_beside};
 use crate::word::{Way, Words, begun, first, halts, past};
 use bit_grid::Lines;
 use grid_moves::Corner;
@@ -87,6 +90,59 @@ fn halt_at(way: Way, middle: u64, found: u64, from: u32, base: u32) -> Halt
         passed: moves_short_of(way, from, base + bit),
         blocked: middle >> bit & 1 == 0,
     }
+}
+
+/// Where a scan halts among the places of the word in which it starts, told the words around its start, or
+/// `None` where it leaves the word.
+#[inline(always)]
+pub(crate) fn halt_near(way: Way, rule: Corner, near: Words, from: u32) -> Option<Halt>
+    requires from { from < 65536 }
+    ensures halts { (free : ℕ → ℕ → Bool) (line : ℕ) → AreNear free line from near
+        → IfSome result (λ h. trails.Halts (trails.begun rule (trail_on free way line from)) h.passed h.blocked) }
+    ensures clear { is_some result ≡ false → (free : ℕ → ℕ → Bool) (line : ℕ) → AreNear free line from near
+        → IsClear (trails.begun rule (trail_on free way line from))
+        (moves_before way from (spec.far way (from / 64 * 64))) }
+{
+    let place = from % 64;
+    let words = begun(rule, near, place);
+    let found = halts(way, words, NOTHING) & past(way, place);
+    if found == 0 {
+        return None;
+    }
+    Some(halt_at(way, words.middle, found, from, from / 64 * 64))
+}
+
+/// The same for the next word of a line, if it has one, where nothing halts the scan before.
+#[inline(always)]
+pub(crate) fn halt_next<L: Ledger>(
+    way: Way,
+    rule: Corner,
+    lines: &Lines,
+    line: u32,
+    from: u32,
+    near: Words,
+    steps: &mut Steps<L>,
+) -> Option<Halt>
+    requires starts { (free : ℕ → ℕ → Bool) × IsStart lines.now free line from }
+    requires few { lines.now.lines < 65536 }
+    requires short { lines.now.blocks ≤ 128 }
+    ensures halts { (free : ℕ → ℕ → Bool) → IsStart lines.now free line from → AreNear free line from near
+        → IsClear (trails.begun rule (trail_on free way line from))
+        (moves_before way from (spec.far way (from / 64 * 64)))
+        → IfSome result (λ h. trails.Halts (trails.begun rule (trail_on free way line from)) h.passed h.blocked) }
+    ensures more { steps.old ≤ steps.new }
+{
+    let word = from / 64;
+    if !has_next_word(way, lines.blocks() * 8, word) {
+        return None;
+    }
+    let next = next_word(way, word);
+    let words = words_beside(lines, line, next, steps);
+    let found = halts(way, words, begun(rule, near, from % 64));
+    if found == 0 {
+        return None;
+    }
+    Some(halt_at(way, words.middle, found, from, next * 64))
 }
 
 impl<'a> Block<'a> {

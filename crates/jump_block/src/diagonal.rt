@@ -11,19 +11,21 @@ ghost use Rattle.bit_grid.specs.Bits.{is_free_from_one};
 ghost use Rattle.pruning.specs.First as first;
 ghost use Rattle.jump_plain.specs.Beside.{known};
 ghost use Rattle.jump_block.specs.Source as spec;
-ghost use Rattle.jump_block.specs.Source.{AreItsBits};
+ghost use Rattle.jump_block.specs.Near.{AreNear};
+ghost use Rattle.jump_block.specs.Source.{AreItsBits, by_rows};
 
+use crate::near::{has_next_bit, leads_from_bit};
 use crate::patch::{Patch, bit_of};
 use crate::straight::Bits;
-use crate::word::Way;
+use crate::word::{Way, Words};
 use grid_moves::{Cell, Corner, Dir, is_passable};
 use pruning::{Side, turn};
 use std::sync::ledger::Ledger;
 use steps::Steps;
 
-// Which way along the row a diagonal leads.
+/// Which way along the row a diagonal leads.
 #[inline(always)]
-fn row_way(d: Dir) -> Way
+pub(crate) fn row_way(d: Dir) -> Way
     ensures { result ≡ spec.row_way d }
 {
     match d {
@@ -32,9 +34,9 @@ fn row_way(d: Dir) -> Way
     }
 }
 
-// Which way along the column it leads.
+/// Which way along the column it leads.
 #[inline(always)]
-fn column_way(d: Dir) -> Way
+pub(crate) fn column_way(d: Dir) -> Way
     ensures { result ≡ spec.column_way d }
 {
     match d {
@@ -148,8 +150,8 @@ impl<'a> Bits<'a> {
         bit_of(self.rows, bit.line, bit.place, steps)
     }
 
-    // Whether a diagonal move from a free cell is legal.
-    #[inline(always)]
+    // Whether a diagonal move from a free cell is legal, for the rare cells at the end of a word.
+    #[inline(never)]
     fn leads<L: Ledger>(&self, at: Cell, d: Dir, steps: &mut Steps<L>) -> bool
         requires stands { (g : GridData) × AreItsBits self.now.rows.now self.now.columns.now self.now.corner g
             × (is_free g at ≡ true) }
@@ -163,6 +165,28 @@ impl<'a> Bits<'a> {
         let left = self.is_open(at, turn(Side::Left, d), steps);
         let right = self.is_open(at, turn(Side::Right, d), steps);
         both(ahead, is_passable(self.corner, left, right))
+    }
+
+    // The same, told the words around the cell, in which the cells ahead and beside it mostly are.
+    #[inline(always)]
+    fn leads_near<L: Ledger>(&self, at: Cell, d: Dir, near: Words, steps: &mut Steps<L>) -> bool
+        requires stands { (g : GridData) × AreItsBits self.now.rows.now self.now.columns.now self.now.corner g
+            × (is_free g at ≡ true) }
+        requires near { (g : GridData)
+            → AreItsBits self.now.rows.now self.now.columns.now self.now.corner g → is_free g at ≡ true
+            → AreNear (by_rows g) (at.y + 1) (at.x + 1) near }
+        requires diagonal { is_diagonal d ≡ true }
+        ensures leads { (g : GridData)
+            → AreItsBits self.now.rows.now self.now.columns.now self.now.corner g → is_free g at ≡ true
+            → result ≡ can_move g at d }
+        ensures more { steps.old ≤ steps.new }
+    {
+        let place = (u32::from(at.x) + 1) % 64;
+        if has_next_bit(row_way(d), place) {
+            return leads_from_bit(self.corner, d, near, place);
+        }
+        let bits = *self;
+        bits.leads(at, d, steps)
     }
 
     // Whether, after a diagonal move to a free cell, a neighbour is forced there.
@@ -206,12 +230,22 @@ impl<'a> Bits<'a> {
     }
 
     // Whether a diagonal jump stops at a cell. Only in the goal's row or column is the goal looked for; at all
-    // other cells a component is asked for its mark alone. The call out of line gets a copy of the bits, so
-    // that their own stay in registers here.
+    // other cells a component is asked for its mark alone, told the words around the cell. The call out of line
+    // gets a copy of the bits, so that their own stay in registers here.
     #[inline(always)]
-    fn stops_at<L: Ledger>(&self, at: Cell, d: Dir, goal: Cell, steps: &mut Steps<L>) -> bool
+    fn stops_at<L: Ledger>(
+        &self,
+        at: Cell,
+        d: Dir,
+        goal: Cell,
+        near: Words,
+        steps: &mut Steps<L>,
+    ) -> bool
         requires stands { (g : GridData) × AreItsBits self.now.rows.now self.now.columns.now self.now.corner g
             × (is_free g at ≡ true) }
+        requires near { (g : GridData)
+            → AreItsBits self.now.rows.now self.now.columns.now self.now.corner g → is_free g at ≡ true
+            → AreNear (by_rows g) (at.y + 1) (at.x + 1) near }
         requires diagonal { is_diagonal d ≡ true }
         ensures stops { (g : GridData)
             → AreItsBits self.now.rows.now self.now.columns.now self.now.corner g → is_free g at ≡ true
@@ -225,7 +259,7 @@ impl<'a> Bits<'a> {
             return bits.stops_in_line(at, d, goal, steps);
         }
         self.forces(at, d, steps)
-            || self.finds_mark_on_row(at, row_way(d), steps)
+            || self.finds_mark_on_row(at, row_way(d), near, steps)
             || self.finds_mark_on_column(at, column_way(d), steps)
     }
 
@@ -247,11 +281,13 @@ impl<'a> Bits<'a> {
         ensures fewest { steps.old + 3 ≤ steps.new }
     {
         let mut cell = at;
+        let mut near = self.near_on_row(at, steps);
         let mut moves = 0;
-        'run: while self.leads(cell, d, steps) {
+        'run: while self.leads_near(cell, d, near, steps) {
             let next = beyond(cell, d);
             moves += 1;
-            if self.stops_at(next, d, goal, steps) {
+            near = self.near_on_row(next, steps);
+            if self.stops_at(next, d, goal, near, steps) {
                 return Some(moves);
             }
             cell = next;

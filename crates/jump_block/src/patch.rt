@@ -26,9 +26,9 @@ pub(crate) struct Patch {
     pub(crate) corner: Corner,
 }
 
-// Whether a bit is set.
+/// Whether a bit is set.
 #[inline(always)]
-fn is_set(word: u64, place: u32) -> bool
+pub(crate) fn is_set(word: u64, place: u32) -> bool
     requires { place < 64 }
     ensures { result ≡ is_set word place }
 {

@@ -94,9 +94,9 @@ fn scan_on<L: Ledger>(
     None
 }
 
-// The way of this number, so that it can be a constant of a function, which has code of its own for each.
+/// The way of this number, so that it can be a constant of a function, which has code of its own for each.
 #[inline(always)]
-fn way_of(number: usize) -> Way
+pub(crate) fn way_of(number: usize) -> Way
     ensures { result ≡ spec.way_of number }
 {
     match number {

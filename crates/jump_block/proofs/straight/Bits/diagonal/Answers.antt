@@ -15,8 +15,8 @@ overflow_add-moves g c =
     let are = c.requires.stands.1 in
     let free = c.requires.stands.2 in
     let there = c.run.invariant.there grid are free in
-    let legal = legal_next grid c.run.cell c.beyond-next.result c.args.d c.leads.result
-    (c.leads.ensures.leads grid are there.free) c.run-test.true c.beyond-next.ensures in
+    let legal = legal_next grid c.run.cell c.beyond-next.result c.args.d c.leads_near.result
+    (c.leads_near.ensures.leads grid are there.free) c.run-test.true c.beyond-next.ensures in
     let longer = run_length-next grid c.run.cell c.beyond-next.result c.args.d legal in
     let few = run_length-few grid c.args.at c.args.d in
     let wide = are.whole.sides.narrow in
@@ -24,8 +24,8 @@ overflow_add-moves g c =
     let run = there.run in
     omega arith
 
-pub leads-requires-clause-stands : goal.leads-requires-clause-stands
-leads-requires-clause-stands g c =
+pub leads_near-requires-clause-stands : goal.leads_near-requires-clause-stands
+leads_near-requires-clause-stands g c =
     let grid = c.requires.stands.0 in
     let are = c.requires.stands.1 in
     let free = c.requires.stands.2 in
@@ -37,16 +37,16 @@ stops_at-requires-clause-stands g c =
     let are = c.requires.stands.1 in
     let free = c.requires.stands.2 in
     let there = c.run.invariant.there grid are free in
-    let legal = legal_next grid c.run.cell c.beyond-next.result c.args.d c.leads.result
-    (c.leads.ensures.leads grid are there.free) c.run-test.true c.beyond-next.ensures in
+    let legal = legal_next grid c.run.cell c.beyond-next.result c.args.d c.leads_near.result
+    (c.leads_near.ensures.leads grid are there.free) c.run-test.true c.beyond-next.ensures in
     let next = free_next grid c.run.cell c.beyond-next.result c.args.d legal in
     (grid, are, next)
 
 pub returns-then-stops_at-clause-first : goal.returns-then-stops_at-clause-first
 returns-then-stops_at-clause-first g c = λ grid are free.
     let there = c.run.invariant.there grid are free in
-    let legal = legal_next grid c.run.cell c.beyond-next.result c.args.d c.leads.result
-    (c.leads.ensures.leads grid are there.free) c.run-test.true c.beyond-next.ensures in
+    let legal = legal_next grid c.run.cell c.beyond-next.result c.args.d c.leads_near.result
+    (c.leads_near.ensures.leads grid are there.free) c.run-test.true c.beyond-next.ensures in
     let next = free_next grid c.run.cell c.beyond-next.result c.args.d legal in
     stops_here grid c.args.goal c.run.cell c.args.d c.run.moves
     (first_stop grid c.args.goal c.args.at c.args.d) there.stop c.beyond-next.result legal
@@ -61,8 +61,8 @@ run-smaller g c =
     let are = c.requires.stands.1 in
     let free = c.requires.stands.2 in
     let there = c.run.invariant.there grid are free in
-    let legal = legal_next grid c.run.cell c.beyond-next.result c.args.d c.leads.result
-    (c.leads.ensures.leads grid are there.free) c.run-test.true c.beyond-next.ensures in
+    let legal = legal_next grid c.run.cell c.beyond-next.result c.args.d c.leads_near.result
+    (c.leads_near.ensures.leads grid are there.free) c.run-test.true c.beyond-next.ensures in
     let longer = run_length-next grid c.run.cell c.beyond-next.result c.args.d legal in
     let few = run_length-few grid c.args.at c.args.d in
     let wide = are.whole.sides.narrow in
@@ -70,16 +70,28 @@ run-smaller g c =
     let run = there.run in
     omega arith
 
+pub near_on_row-near-requires-in-run : goal.near_on_row-near-requires-in-run
+near_on_row-near-requires-in-run g c =
+    let grid = c.requires.stands.0 in
+    let are = c.requires.stands.1 in
+    let free = c.requires.stands.2 in
+    let there = c.run.invariant.there grid are free in
+    let legal = legal_next grid c.run.cell c.beyond-next.result c.args.d c.leads_near.result
+    (c.leads_near.ensures.leads grid are there.free) c.run-test.true c.beyond-next.ensures in
+    record { stands = (grid, are, free_next grid c.run.cell c.beyond-next.result c.args.d legal) }
+
 pub run-preserved : goal.run-preserved
 run-preserved g c = record {
   read = let before = c.run.invariant.read in
-      let reads = c.leads.ensures.three_steps in
+      let reads = c.leads_near.ensures.more in
+      let words = c.near_on_row-near-in-run.ensures.three_steps in
       let more = c.stops_at.ensures.more in
       omega arith;
+  near = c.near_on_row-near-in-run.ensures.near;
   there = λ grid are free.
       let there = c.run.invariant.there grid are free in
-      let legal = legal_next grid c.run.cell c.beyond-next.result c.args.d c.leads.result
-      (c.leads.ensures.leads grid are there.free) c.run-test.true c.beyond-next.ensures in
+      let legal = legal_next grid c.run.cell c.beyond-next.result c.args.d c.leads_near.result
+      (c.leads_near.ensures.leads grid are there.free) c.run-test.true c.beyond-next.ensures in
       let next = free_next grid c.run.cell c.beyond-next.result c.args.d legal in
       record {
         free = next;
@@ -101,4 +113,10 @@ returns-clause-first g c = λ grid are free.
     stops_nowhere grid c.args.goal c.run.cell c.args.d c.run.moves
     (first_stop grid c.args.goal c.args.at c.args.d) there.stop
     (beyond_stuck grid c.run.cell c.args.d
-    (sym (c.leads.ensures.leads grid are there.free) ∙ c.run-test.false))
+    (sym (c.leads_near.ensures.leads grid are there.free) ∙ c.run-test.false))
+
+pub leads_near-requires-clause-near : goal.leads_near-requires-clause-near
+leads_near-requires-clause-near g c = c.run.invariant.near
+
+pub stops_at-requires-clause-near : goal.stops_at-requires-clause-near
+stops_at-requires-clause-near g c = c.near_on_row-near-in-run.ensures.near

@@ -1,0 +1,261 @@
+-- The words around a cell.
+use Rattle.std.proofs.Common.{◌≡◌, ℕ, zero, suc, ◌+◌, ◌-◌, ◌*◌, ◌/◌, ◌%◌, ◌<◌, arith, Bool, false, true, ◌&&◌, refl, ap, sym, ◌∙◌, subst, bit_and}
+use Rattle.std.specs.Prelude.{Option, Some, None, IfSome, is_some}
+use Rattle.grid_moves.specs.declared.Cell.{Cell}
+use Rattle.grid_moves.specs.declared.Corner.{Corner}
+use Rattle.grid_moves.specs.declared.Corner.TheVariants.{Never, One}
+use Rattle.grid_moves.specs.declared.Dir.{Dir}
+use Rattle.grid_moves.specs.declared.Dir.TheVariants.{N, NE, E, SE, S, SW, W, NW}
+use Rattle.grid_moves.specs.Grid.{GridData, is_free}
+use Rattle.grid_moves.specs.Move.{is_passable}
+use Rattle.bit_grid.specs.Bits.{LineData, is_set}
+use Rattle.bit_grid.proofs.Words.{set_and, set_raised, set_lowered}
+use Rattle.pruning.specs.Turns.{is_diagonal}
+use Rattle.pruning.specs.Allowed.{can_move}
+use Rattle.jump_block.specs.declared.word.Way.{Way}
+use Rattle.jump_block.specs.declared.word.Way.TheVariants.{Forward, Back}
+use Rattle.jump_block.specs.declared.word.Words.{Words}
+use Rattle.jump_block.specs.declared.block.Halt.{Halt}
+use Rattle.jump_block.specs.Trail.{Trail, IsClear, Halts, halts, begun, trail_on}
+use Rattle.jump_block.specs.Scan.{IsStart, Finds}
+use Rattle.jump_block.specs.Word.{AreWordsOf, AreEdgesOf, IsAhead, IsFound, Meets, far, moves_before, near}
+use Rattle.jump_block.specs.Near.{AreNear, HasNextBit, HasNextWord, next_bit, next_word, side_word}
+use Rattle.jump_block.specs.Source.{by_rows, row_way, column_way}
+use Rattle.jump_block.proofs.Reading.{meets_along}
+use Rattle.jump_block.proofs.Blocks.{edges_of, found_further, own_later}
+use Rattle.jump_block.proofs.Directions.{is_open_there}
+use Rattle.jump_block.proofs.Patches.{leads_by}
+
+-- they are what a trail has there
+pub words_trail : (free : ℕ → ℕ → Bool) (way : Way) (line from place : ℕ) (w : Words) → AreNear free line place w
+    → AreWordsOf (trail_on free way line from) way from (place / 64 * 64) w
+words_trail free way line from place w is = record {
+  middle = λ j k h m. is.middle j h
+      ∙ ap (λ (p : ℕ). free line p) (meets_along way from (place / 64 * 64 + j) k m);
+  before = λ j k h m. is.before j h
+      ∙ ap (λ (p : ℕ). free (line - 1) p) (meets_along way from (place / 64 * 64 + j) k m);
+  after = λ j k h m. is.after j h
+      ∙ ap (λ (p : ℕ). free (line + 1) p) (meets_along way from (place / 64 * 64 + j) k m);
+}
+
+-- words by their number, and by a place that they have
+pub near_read : (free : ℕ → ℕ → Bool) (line word : ℕ) (w : Words)
+    → ((j : ℕ) → j < 64 → is_set w.middle j ≡ free line (word * 64 + j))
+    → ((j : ℕ) → j < 64 → is_set w.before j ≡ free (line - 1) (word * 64 + j))
+    → ((j : ℕ) → j < 64 → is_set w.after j ≡ free (line + 1) (word * 64 + j)) → AreNear free line (word * 64) w
+near_read free line word w middle before after =
+    let same : word * 64 ≡ word * 64 / 64 * 64 = omega arith in
+    record {
+      middle = λ j h. middle j h ∙ ap (λ (p : ℕ). free line (p + j)) same;
+      before = λ j h. before j h ∙ ap (λ (p : ℕ). free (line - 1) (p + j)) same;
+      after = λ j h. after j h ∙ ap (λ (p : ℕ). free (line + 1) (p + j)) same;
+    }
+
+pub near_again : (free : ℕ → ℕ → Bool) (line place : ℕ) (w : Words) → AreNear free line (place / 64 * 64) w
+    → AreNear free line place w
+near_again free line place w is =
+    let same : place / 64 * 64 / 64 * 64 ≡ place / 64 * 64 = omega arith in
+    record {
+      middle = λ j h. is.middle j h ∙ ap (λ (p : ℕ). free line (p + j)) same;
+      before = λ j h. is.before j h ∙ ap (λ (p : ℕ). free (line - 1) (p + j)) same;
+      after = λ j h. is.after j h ∙ ap (λ (p : ℕ). free (line + 1) (p + j)) same;
+    }
+
+-- from the word of the start the way goes on to the next
+edge_there : (way : Way) (word next per_line : ℕ) → HasNextWord way per_line word → next ≡ next_word way word
+    → near way (next * 64) ≡ far way (word * 64)
+edge_there Forward word next per_line more is = omega arith
+edge_there Back word next per_line more is = omega arith
+
+edge_ahead : (way : Way) (from : ℕ) → IsAhead way from (far way (from / 64 * 64))
+edge_ahead Forward from = omega arith
+edge_ahead Back from = omega arith
+
+later_there : (way : Way) (from next per_line : ℕ) → HasNextWord way per_line (from / 64)
+    → next ≡ next_word way (from / 64) → (j k : ℕ) → j < 64 → Meets way from (next * 64 + j) k
+    → (m : ℕ) × (k ≡ suc m)
+later_there Forward from next per_line more is j k h m = (k - 1, omega arith)
+later_there Back from next per_line more is j k h m = (k - 1, omega arith)
+
+module _ (free : ℕ → ℕ → Bool) (way : Way) (rule : Corner) (line from next per_line found : ℕ)
+    (own first words : Words) (is : AreNear free line from own)
+    (begins : (t : Trail) (way : Way) (base : ℕ) → AreWordsOf t way (base + from % 64) base own
+    → AreWordsOf (begun rule t) way (base + from % 64) base first)
+    (are : AreNear free line (next * 64) words) (more : HasNextWord way per_line (from / 64))
+    (follows : next ≡ next_word way (from / 64))
+    (told : (t : Trail) (from base : ℕ) → AreWordsOf t way from base words
+    → AreEdgesOf t way from (near way base) first
+    → (j k : ℕ) → j < 64 → Meets way from (base + j) (suc k) → is_set found j ≡ halts t k)
+    (clear : IsClear (begun rule (trail_on free way line from)) (moves_before way from (far way (from / 64 * 64)))) where
+  first_there : AreWordsOf (begun rule (trail_on free way line from)) way from (from / 64 * 64) first
+  first_there =
+      let same : from / 64 * 64 + from % 64 ≡ from = omega arith in
+      subst (λ (f : ℕ). AreWordsOf (begun rule (trail_on free way line from)) way f (from / 64 * 64) first) same
+      (begins (trail_on free way line from) way (from / 64 * 64)
+      (subst (λ (f : ℕ). AreWordsOf (trail_on free way line from) way f (from / 64 * 64) own) (sym same)
+      (words_trail free way line from from own is)))
+
+  edge_is : near way (next * 64) ≡ far way (from / 64 * 64)
+  edge_is = edge_there way (from / 64) next per_line more follows
+
+  next_there : AreWordsOf (begun rule (trail_on free way line from)) way from (next * 64) words
+  next_there =
+      let same : next * 64 / 64 * 64 ≡ next * 64 = omega arith in
+      let there = subst (λ (b : ℕ). AreWordsOf (trail_on free way line from) way from b words) same
+      (words_trail free way line from (next * 64) words are) in
+      let later = later_there way from next per_line more follows in
+      record {
+        middle = there.middle;
+        before = own_later way rule (trail_on free way line from).before from (next * 64) words.before later there.before;
+        after = own_later way rule (trail_on free way line from).after from (next * 64) words.after later there.after;
+      }
+
+  pub next_found : IsFound (begun rule (trail_on free way line from)) way from (next * 64)
+      (moves_before way from (near way (next * 64))) words.middle found
+  next_found = found_further (begun rule (trail_on free way line from)) way from (next * 64) found words first
+      next_there (rw edge_is (edge_ahead way from)) (record {
+        edges = rw edge_is (edges_of (begun rule (trail_on free way line from)) way from (from / 64 * 64) first
+            first_there);
+        clear = rw edge_is clear;
+      }) told
+
+-- the words that were read around a place, by equal numbers
+pub near_along : (l : LineData) (free : ℕ → ℕ → Bool) (line place line' place' : ℕ) (w : Words) → line ≡ line'
+    → place ≡ place' → IsStart l free line' place'
+    → ((f : ℕ → ℕ → Bool) → IsStart l f line place → AreNear f line place w) → AreNear free line' place' w
+near_along l free line place line' place' w e f start near =
+    subst (λ (n : ℕ). AreNear free line' n w) f (subst (λ (n : ℕ). AreNear free n place w) e
+    (near free (subst (λ (n : ℕ). IsStart l free line n) (sym f)
+    (subst (λ (n : ℕ). IsStart l free n place') (sym e) start))))
+
+found_some : (t : Trail) (found : Option Halt) → is_some found ≡ true
+    → IfSome found (λ h. Halts t h.passed h.blocked) → Finds t 0 found
+found_some t (Some h) some there = there
+found_some t None some there = absurd (cc)
+
+-- where a scan halts in the words around its start
+pub finds_near : (free : ℕ → ℕ → Bool) (way : Way) (rule : Corner) (t : Trail) (line place place' : ℕ) (w : Words)
+    (found : Option Halt) → t ≡ trail_on free way line place' → place ≡ place' → AreNear free line place' w
+    → ((f : ℕ → ℕ → Bool) (l : ℕ) → AreNear f l place w
+    → IfSome found (λ h. Halts (begun rule (trail_on f way l place)) h.passed h.blocked))
+    → is_some found ≡ true → Finds (begun rule t) 0 found
+finds_near free way rule t line place place' w found own same near told some =
+    subst (λ (u : Trail). Finds (begun rule u) 0 found) (sym own)
+    (subst (λ (p : ℕ). Finds (begun rule (trail_on free way line p)) 0 found) same
+    (found_some (begun rule (trail_on free way line place)) found some
+    (told free line (subst (λ (p : ℕ). AreNear free line p w) (sym same) near))))
+
+-- bits moved by one against the way
+pub set_lowered-next : (word j : ℕ) → j < 64 → HasNextBit Forward j
+    → is_set (word / 2) j ≡ is_set word (next_bit Forward j)
+set_lowered-next word j h more =
+    let next : suc j ≡ j + 1 = omega arith in
+    set_lowered word j ∙ ap (λ (n : ℕ). is_set word n) next
+
+pub set_raised-next : (word j : ℕ) → j < 64 → HasNextBit Back j
+    → is_set (word * 2 % 18446744073709551616) j ≡ is_set word (next_bit Back j)
+set_raised-next word zero h more = absurd (omega arith)
+set_raised-next word (suc j) h more =
+    let next : j ≡ suc j - 1 = omega arith in
+    set_raised word j h ∙ ap (λ (n : ℕ). is_set word n) next
+
+-- a bit of them together
+pub bits_lead : (rule : Corner) (way : Way) (place middle side along passes ahead : ℕ) (b : Bool) → place < 64
+    → HasNextBit way place
+    → ((j : ℕ) → j < 64 → HasNextBit way j → is_set along j ≡ is_set middle (next_bit way j))
+    → ((j : ℕ) → is_set passes j ≡ is_passable rule (is_set side j) (is_set along j))
+    → ((j : ℕ) → j < 64 → HasNextBit way j → is_set ahead j ≡ is_set side (next_bit way j))
+    → b ≡ is_set (bit_and ahead passes) place
+    → b ≡ (is_set side (next_bit way place)
+    && is_passable rule (is_set side place) (is_set middle (next_bit way place)))
+bits_lead rule way place middle side along passes ahead b h more a p n told =
+    told ∙ set_and ahead passes place ∙ rw (n place h more, p place, a place h more) refl
+
+-- or nothing halts it there
+pub clear_near : (free : ℕ → ℕ → Bool) (way : Way) (rule : Corner) (t : Trail) (line place place' : ℕ) (w : Words)
+    (found : Option Halt) → t ≡ trail_on free way line place' → place ≡ place' → AreNear free line place' w
+    → (is_some found ≡ false → (f : ℕ → ℕ → Bool) (l : ℕ) → AreNear f l place w
+    → IsClear (begun rule (trail_on f way l place)) (moves_before way place (far way (place / 64 * 64))))
+    → is_some found ≡ false → IsClear (begun rule t) (moves_before way place' (far way (place' / 64 * 64)))
+clear_near free way rule t line place place' w found own same is told none =
+    subst (λ (u : Trail). IsClear (begun rule u) (moves_before way place' (far way (place' / 64 * 64)))) (sym own)
+    (subst (λ (p : ℕ). IsClear (begun rule (trail_on free way line p)) (moves_before way p (far way (p / 64 * 64))))
+    same (told none free line (subst (λ (p : ℕ). AreNear free line p w) (sym same) is)))
+
+-- or in the next word
+abbrev pub IsToldNext : LineData → Way → Corner → Words → Option Halt → ℕ → ℕ → Type 0
+IsToldNext l way rule w found line place = (f : ℕ → ℕ → Bool) → IsStart l f line place → AreNear f line place w
+    → IsClear (begun rule (trail_on f way line place)) (moves_before way place (far way (place / 64 * 64)))
+    → IfSome found (λ h. Halts (begun rule (trail_on f way line place)) h.passed h.blocked)
+
+pub finds_next : (l : LineData) (free : ℕ → ℕ → Bool) (way : Way) (rule : Corner) (t : Trail)
+    (line line' place place' : ℕ) (w : Words) (found : Option Halt) → t ≡ trail_on free way line' place'
+    → line ≡ line' → place ≡ place' → IsStart l free line' place' → AreNear free line' place' w
+    → IsClear (begun rule t) (moves_before way place' (far way (place' / 64 * 64)))
+    → IsToldNext l way rule w found line place → is_some found ≡ true → Finds (begun rule t) 0 found
+finds_next l free way rule t line line' place place' w found own e f start is clear told some =
+    subst (λ (u : Trail). Finds (begun rule u) 0 found) (sym own)
+    (found_some (begun rule (trail_on free way line' place')) found some
+    (subst (λ (p : ℕ). IsToldNext l way rule w found line' p) f
+    (subst (λ (n : ℕ). IsToldNext l way rule w found n place) e told) free start is
+    (subst (λ (u : Trail). IsClear (begun rule u) (moves_before way place' (far way (place' / 64 * 64)))) own
+    clear)))
+
+passable_turned : (r : Corner) (a b : Bool) → is_passable r a b ≡ is_passable r b a
+passable_turned Never a b = grind arith
+passable_turned One a b = grind arith
+
+-- three of their bits tell whether a diagonal move is legal
+module _ (g : GridData) (x : Cell) (free : is_free g x ≡ true) (rule : Corner) (same : rule ≡ g.corner) (w : Words)
+    (is : AreNear (by_rows g) (x.y + 1) (x.x + 1) w) where
+  abbrev told_by_bits : ℕ → Dir → Bool
+  told_by_bits place d = is_set (side_word (column_way d) w) (next_bit (row_way d) place)
+      && is_passable rule (is_set (side_word (column_way d) w) place)
+      (is_set w.middle (next_bit (row_way d) place))
+
+  leads_here : (d : Dir) → is_diagonal d ≡ true → HasNextBit (row_way d) ((x.x + 1) % 64) → (b : Bool)
+      → b ≡ told_by_bits ((x.x + 1) % 64) d → b ≡ can_move g x d
+  leads_here NE diagonal more b told =
+      leads_by g x NE free diagonal rule same (is_set w.before ((x.x + 1) % 64 + 1))
+      (is_set w.before ((x.x + 1) % 64)) (is_set w.middle ((x.x + 1) % 64 + 1)) _ b
+      (is.before ((x.x + 1) % 64 + 1) (omega arith)
+      ∙ is_open_there g NE x.x x.y _ _ (omega arith) (omega arith))
+      (is.before ((x.x + 1) % 64) (omega arith) ∙ is_open_there g N x.x x.y _ _ (omega arith) (omega arith))
+      (is.middle ((x.x + 1) % 64 + 1) (omega arith)
+      ∙ is_open_there g E x.x x.y _ _ (omega arith) (omega arith)) refl told
+  leads_here SE diagonal more b told =
+      leads_by g x SE free diagonal rule same (is_set w.after ((x.x + 1) % 64 + 1))
+      (is_set w.middle ((x.x + 1) % 64 + 1)) (is_set w.after ((x.x + 1) % 64)) _ b
+      (is.after ((x.x + 1) % 64 + 1) (omega arith)
+      ∙ is_open_there g SE x.x x.y _ _ (omega arith) (omega arith))
+      (is.middle ((x.x + 1) % 64 + 1) (omega arith)
+      ∙ is_open_there g E x.x x.y _ _ (omega arith) (omega arith))
+      (is.after ((x.x + 1) % 64) (omega arith) ∙ is_open_there g S x.x x.y _ _ (omega arith) (omega arith))
+      (passable_turned rule (is_set w.after ((x.x + 1) % 64)) (is_set w.middle ((x.x + 1) % 64 + 1))) told
+  leads_here SW diagonal more b told =
+      leads_by g x SW free diagonal rule same (is_set w.after ((x.x + 1) % 64 - 1))
+      (is_set w.after ((x.x + 1) % 64)) (is_set w.middle ((x.x + 1) % 64 - 1)) _ b
+      (is.after ((x.x + 1) % 64 - 1) (omega arith)
+      ∙ is_open_there g SW x.x x.y _ _ (omega arith) (omega arith))
+      (is.after ((x.x + 1) % 64) (omega arith) ∙ is_open_there g S x.x x.y _ _ (omega arith) (omega arith))
+      (is.middle ((x.x + 1) % 64 - 1) (omega arith)
+      ∙ is_open_there g W x.x x.y _ _ (omega arith) (omega arith)) refl told
+  leads_here NW diagonal more b told =
+      leads_by g x NW free diagonal rule same (is_set w.before ((x.x + 1) % 64 - 1))
+      (is_set w.middle ((x.x + 1) % 64 - 1)) (is_set w.before ((x.x + 1) % 64)) _ b
+      (is.before ((x.x + 1) % 64 - 1) (omega arith)
+      ∙ is_open_there g NW x.x x.y _ _ (omega arith) (omega arith))
+      (is.middle ((x.x + 1) % 64 - 1) (omega arith)
+      ∙ is_open_there g W x.x x.y _ _ (omega arith) (omega arith))
+      (is.before ((x.x + 1) % 64) (omega arith) ∙ is_open_there g N x.x x.y _ _ (omega arith) (omega arith))
+      (passable_turned rule (is_set w.before ((x.x + 1) % 64)) (is_set w.middle ((x.x + 1) % 64 - 1))) told
+  leads_here N diagonal more b told = absurd (cc)
+  leads_here E diagonal more b told = absurd (cc)
+  leads_here S diagonal more b told = absurd (cc)
+  leads_here W diagonal more b told = absurd (cc)
+
+  pub leads_near : (d : Dir) → is_diagonal d ≡ true → (place : ℕ) → place ≡ (x.x + 1) % 64
+      → HasNextBit (row_way d) place → (b : Bool) → b ≡ told_by_bits place d → b ≡ can_move g x d
+  leads_near d diagonal place same_place more b told =
+      leads_here d diagonal (subst (λ (p : ℕ). HasNextBit (row_way d) p) same_place more) b
+      (told ∙ ap (λ (p : ℕ). told_by_bits p d) same_place)
