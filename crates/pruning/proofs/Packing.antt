@@ -122,11 +122,6 @@ few_room (_ ∷ _ ∷ _ ∷ _ ∷ _ ∷ _ ∷ _ ∷ _ ∷ ds) h = absurd (omega 
 pub has_place : (ds : List Dir) → length ds ≤ 7 → word_of ds < 2 ^ 28
 has_place ds h = let n = below_room ds in let m = few_room ds h in omega (arith, n, m)
 
--- fewer than eight are there before the last of them is put
-pub few_last : (dirs : List Dir) (i : ℕ) → length dirs ≤ 8 → i < length dirs
-    → length (drop (length dirs - i) dirs) < 8
-few_last dirs i few h = let n = length-drop (length dirs - i) dirs in omega (arith, n, few, h)
-
 -- a test keeps no more than there are
 pub few_kept : (p : Dir → Bool) (ds : List Dir) → length (filter p ds) ≤ length ds
 few_kept p ds = let n = length-filter p ds in let m = count_by-le-length p ds in omega (arith, n, m)
