@@ -16,6 +16,7 @@ use Rattle.pruning.specs.declared.turns.Side.{Side}
 use Rattle.pruning.specs.declared.turns.Side.TheVariants.{Right, Left}
 use Rattle.pruning.specs.Turns.{turn, quarter, rear, is_diagonal}
 use Rattle.pruning.specs.Allowed.{keeps_eighth, keeps_quarter, is_blocked, can_move, is_kept, is_allowed, allowed_dirs}
+use Rattle.pruning.specs.declared.ring.Ring.{Ring}
 use Rattle.pruning.specs.Ring.{ring_told, is_free_on, is_shut, leads_on, is_allowed_on}
 use Rattle.pruning.specs.Source.{CanArrive}
 use Rattle.pruning.proofs.Table.{straight_back, turn_parity, quarter_parity, by_parity, by_test, at_dir, at_both, same_dir}
@@ -24,7 +25,7 @@ use Rattle.pruning.proofs.Moves.{can_move-straight, can_move-diagonal}
 use Rattle.pruning.proofs.Bridging.{place_of, free_place, open_there, leads_there, legal_leads}
 use Rattle.pruning.proofs.Running.{AreMoved, run_walked}
 use Rattle.plus_tables.specs.Tables.{TablesData, AreTablesOf, entry_at, is_on}
-use Rattle.plus_tables.specs.Reading.{is_move, cell_after, free_past, free_told, allowed_by, IsBeforeOn}
+use Rattle.plus_tables.specs.Reading.{is_move, cell_after, asks_behind, free_past, free_told, allowed_by, IsBeforeOn}
 use Rattle.plus_tables.proofs.Clear.{is_move-is}
 use Rattle.plus_tables.proofs.Goals.{moved_to}
 use Rattle.plus_tables.proofs.Refreshing.{on_map}
@@ -72,6 +73,16 @@ rear_not_kept blocked s d = none_of (is_dir (rear s d) d) (is_dir (rear s d) (tu
     || is_dir (rear s d) (turn Left d) || is_dir (rear s d) (quarter Left d))) refl s d))
 
 -- which cells count as free by the moves to them
+pub told_here : (r : Corner) (entry : Cell → Dir → ℤ) (at : Cell) (by : Arrival) (e : Dir)
+    → asks_behind r by ≡ false → free_told r entry at by e ≡ is_move (entry at e)
+told_here Never entry at Start e h = refl
+told_here Never entry at (By d) e h = by_parity d (λ k. rw k refl) (λ k. absurd (let i = rw k at h in cc))
+told_here One entry at by e h = refl
+
+pub told_past : (entry : Cell → Dir → ℤ) (at : Cell) (d e : Dir) → is_diagonal d ≡ false
+    → free_told Never entry at (By d) e ≡ free_past entry at d e
+told_past entry at d e h = rw h refl
+
 by_move : (r : Corner) (entry : Cell → Dir → ℤ) (at : Cell) (d e : Dir)
     → ((s : Side) → r ≡ Never → is_diagonal d ≡ false → is_dir e (rear s d) ≡ false)
     → free_told r entry at (By d) e ≡ is_move (entry at e)
@@ -79,10 +90,22 @@ by_move Never entry at d e off =
     by_parity d (λ h. rw h refl) (λ h. rw (h, off Right refl h, off Left refl h) refl)
 by_move One entry at d e off = refl
 
-by_move_at_start : (r : Corner) (entry : Cell → Dir → ℤ) (at : Cell) (e : Dir)
-    → free_told r entry at Start e ≡ is_move (entry at e)
-by_move_at_start Never entry at e = refl
-by_move_at_start One entry at e = refl
+-- a ring of which each cell was told by another test that agrees
+pub ring_told_by : (test free : Dir → Bool) → ((e : Dir) → test e ≡ free e) → (n ne e se s sw w nw : Bool)
+    → n ≡ test N → ne ≡ test NE → e ≡ test E → se ≡ test SE → s ≡ test S → sw ≡ test SW → w ≡ test W
+    → nw ≡ test NW
+    → (let r : Ring = record { n = n; ne = ne; e = e; se = se; s = s; sw = sw; w = w; nw = nw } in r)
+    ≡ ring_told free
+ring_told_by test free same n ne e se s sw w nw h i j k l m o p = rw (
+  h ∙ same N,
+  i ∙ same NE,
+  j ∙ same E,
+  k ∙ same SE,
+  l ∙ same S,
+  m ∙ same SW,
+  o ∙ same W,
+  p ∙ same NW,
+) refl
 
 -- the cell before
 back_moved : (d : Dir) (u v : Cell) → AreMoved d 1 u v → AreMoved (opposite d) 1 v u
@@ -224,8 +247,12 @@ module _ (t : TablesData) (g : GridData) (right : AreTablesOf t g) where
   started at f = all_told at f Start (free_told g.corner (entry_at t) at Start) (λ e _. told e) (λ e _. told e)
       (λ e. refl)
     where
+      by_corner : (r : Corner) → asks_behind r Start ≡ false
+      by_corner Never = refl
+      by_corner One = refl
+
       told : (e : Dir) → free_told g.corner (entry_at t) at Start e ≡ can_move g at e
-      told e = by_move_at_start g.corner (entry_at t) at e ∙ legal_told at e f
+      told e = told_here g.corner (entry_at t) at Start e (by_corner g.corner) ∙ legal_told at e f
 
   -- by any arrival
   pub allowed_by_tables : (at : Cell) (by : Arrival) → is_free g at ≡ true → CanArrive g at by

@@ -11,6 +11,7 @@ use Rattle.pruning.specs.declared.Arrival.TheVariants.{Start, By}
 use Rattle.pruning.specs.declared.turns.Side.TheVariants.{Right, Left}
 use Rattle.pruning.specs.Turns.{quarter, rear, is_diagonal}
 use Rattle.pruning.specs.Ring.{ring_told, is_allowed_on}
+use Rattle.plus_tables.specs.declared.turns.Seen.{Seen}
 use Rattle.plus_tables.specs.Tables.{TablesData, is_on}
 
 -- the mark that an entry tells of
@@ -131,16 +132,25 @@ stop_told entry u d goal =
 
 -- Which cells around count as free for the rule: those to which a move is legal, as entries tell. Where no corner
 -- is cut, the walls that count after a straight move stand behind: beside the cell before, whose entries tell.
+abbrev pub seen_past : Cell → Dir → Dir → Seen
+seen_past at d e =
+    if is_dir e (rear Right d) then record { from = cell_after (opposite d) 1 at; dir = quarter Right d }
+    else if is_dir e (rear Left d) then record { from = cell_after (opposite d) 1 at; dir = quarter Left d }
+    else record { from = at; dir = e }
+
 abbrev pub free_past : (Cell → Dir → ℤ) → Cell → Dir → Dir → Bool
-free_past entry at d e =
-    if is_dir e (rear Right d) then is_move (entry (cell_after (opposite d) 1 at) (quarter Right d))
-    else if is_dir e (rear Left d) then is_move (entry (cell_after (opposite d) 1 at) (quarter Left d))
-    else is_move (entry at e)
+free_past entry at d e = is_move (entry (seen_past at d e).from (seen_past at d e).dir)
 
 abbrev pub free_told : Corner → (Cell → Dir → ℤ) → Cell → Arrival → Dir → Bool
 free_told Never entry at (By d) e = if is_diagonal d then is_move (entry at e) else free_past entry at d e
 free_told Never entry at Start e = is_move (entry at e)
 free_told One entry at by e = is_move (entry at e)
+
+-- no corner is cut, and the move was straight
+abbrev pub asks_behind : Corner → Arrival → Bool
+asks_behind Never (By d) = not (is_diagonal d)
+asks_behind Never Start = false
+asks_behind One by = false
 
 -- the allowed directions, by entries
 abbrev pub allowed_by : Corner → (Cell → Dir → ℤ) → Cell → Arrival → List Dir

@@ -4,16 +4,17 @@
 //! cells beside it are blocked, as a straight move is legal where its end is free. Where no corner is cut, the
 //! walls that count after a straight move stand behind the cell: the entries at the cell before tell them.
 
-ghost use Rattle.std.specs.Prelude.{◌≡◌, ◌+◌, true};
+ghost use Rattle.std.specs.Prelude.{◌≡◌, ◌+◌, ◌<◌, Bool, false, true};
 ghost use Rattle.grid_moves.specs.Grid.{AreSides};
 ghost use Rattle.grid_moves.specs.Move as moves;
+ghost use Rattle.pruning.specs.Turns.{is_diagonal};
 ghost use Rattle.plus_tables.specs.Reading as spec;
 ghost use Rattle.plus_tables.specs.Tables.{entry_at, is_on};
 
 use crate::jumps::cell_after;
 use crate::tables::Tables;
 use grid_moves::{Cell, Corner, Dir, opposite};
-use pruning::{Arrival, Packed, Ring, Side, allowed_on, is_diagonal, is_dir, quarter, rear};
+use pruning::{Arrival, Packed, Ring, Side, allowed_on, is_dir, quarter, rear};
 use std::sync::ledger::Ledger;
 use steps::Steps;
 
@@ -27,8 +28,40 @@ fn can_move<L: Ledger>(tables: &Tables, at: Cell, d: Dir, steps: &mut Steps<L>) 
     tables.entry(at, d, steps) != 0
 }
 
-// Whether the cell in direction `e` is free, as far as the rule asks after a straight move where no corner is
-// cut: two cells lie behind, each beside the cell before. One step.
+/// A cell and a direction from it, whose entry tells whether the cell there is free.
+#[derive(Clone, Copy)]
+pub struct Seen {
+    pub from: Cell,
+    pub dir: Dir,
+}
+
+// From where the cell in direction `e` is seen after a straight move where no corner is cut: two cells lie
+// behind, each beside the cell before.
+#[inline(always)]
+fn seen_past(at: Cell, d: Dir, e: Dir) -> Seen
+    requires column { spec.column_after (moves.opposite d) 1 at.x < 65536 }
+    requires row { spec.row_after (moves.opposite d) 1 at.y < 65536 }
+    ensures is { result ≡ spec.seen_past at d e }
+    ensures on { (on : Cell → Bool) → on at ≡ true → on (spec.cell_after (moves.opposite d) 1 at) ≡ true
+        → on result.from ≡ true }
+{
+    let before = cell_after(opposite(d), 1, at);
+    if is_dir(e, rear(Side::Right, d)) {
+        Seen {
+            from: before,
+            dir: quarter(Side::Right, d),
+        }
+    } else if is_dir(e, rear(Side::Left, d)) {
+        Seen {
+            from: before,
+            dir: quarter(Side::Left, d),
+        }
+    } else {
+        Seen { from: at, dir: e }
+    }
+}
+
+// Whether the cell in direction `e` is free, as far as the rule asks then. One step.
 #[inline(always)]
 fn is_free_past<L: Ledger>(tables: &Tables, at: Cell, d: Dir, e: Dir, steps: &mut Steps<L>) -> bool
     requires at { is_on tables.now at ≡ true }
@@ -37,41 +70,37 @@ fn is_free_past<L: Ledger>(tables: &Tables, at: Cell, d: Dir, e: Dir, steps: &mu
     ensures is { result ≡ spec.free_past (entry_at tables.now) at d e }
     ensures step { steps.new ≡ steps.old + 1 }
 {
-    let before = cell_after(opposite(d), 1, at);
-    if is_dir(e, rear(Side::Right, d)) {
-        can_move(tables, before, quarter(Side::Right, d), steps)
-    } else if is_dir(e, rear(Side::Left, d)) {
-        can_move(tables, before, quarter(Side::Left, d), steps)
-    } else {
-        can_move(tables, at, e, steps)
-    }
+    let seen = seen_past(at, d, e);
+    can_move(tables, seen.from, seen.dir, steps)
 }
 
-// Whether the cell in direction `e` is free, as far as the rule asks. One step.
+// The allowed directions after a straight move where no corner is cut, in increasing order. Eight steps.
 #[inline(always)]
-fn is_free_told<L: Ledger>(
-    corner: Corner,
-    tables: &Tables,
-    at: Cell,
-    by: Arrival,
-    e: Dir,
-    steps: &mut Steps<L>,
-) -> bool
+fn allowed_past<L: Ledger>(tables: &Tables, at: Cell, d: Dir, steps: &mut Steps<L>) -> Packed
+    requires straight { is_diagonal d ≡ false }
     requires at { is_on tables.now at ≡ true }
-    requires before { spec.IsBeforeOn tables.now at by }
+    requires before { is_on tables.now (spec.cell_after (moves.opposite d) 1 at) ≡ true }
     requires sides { AreSides tables.now.width tables.now.height }
-    ensures is { result ≡ spec.free_told corner (entry_at tables.now) at by e }
-    ensures step { steps.new ≡ steps.old + 1 }
+    ensures is { result ≡ spec.allowed_by Corner.Never (entry_at tables.now) at (Arrival.By d) }
+    ensures steps { steps.new ≡ steps.old + 8 }
 {
-    match (corner, by) {
-        (Corner::Never, Arrival::By(d)) if !is_diagonal(d) => is_free_past(tables, at, d, e, steps),
-        _ => can_move(tables, at, e, steps),
-    }
+    let ring = Ring {
+        n: is_free_past(tables, at, d, Dir::N, steps),
+        ne: is_free_past(tables, at, d, Dir::NE, steps),
+        e: is_free_past(tables, at, d, Dir::E, steps),
+        se: is_free_past(tables, at, d, Dir::SE, steps),
+        s: is_free_past(tables, at, d, Dir::S, steps),
+        sw: is_free_past(tables, at, d, Dir::SW, steps),
+        w: is_free_past(tables, at, d, Dir::W, steps),
+        nw: is_free_past(tables, at, d, Dir::NW, steps),
+    };
+    allowed_on(Corner::Never, ring, Arrival::By(d))
 }
 
-// The allowed directions under a rule, in increasing order. Eight steps.
+// The allowed directions otherwise, in increasing order: each cell counts as free where the move to it is legal.
+// Eight steps.
 #[inline(always)]
-fn allowed_under<L: Ledger>(
+fn allowed_here<L: Ledger>(
     corner: Corner,
     tables: &Tables,
     at: Cell,
@@ -79,36 +108,50 @@ fn allowed_under<L: Ledger>(
     steps: &mut Steps<L>,
 ) -> Packed
     requires at { is_on tables.now at ≡ true }
-    requires before { spec.IsBeforeOn tables.now at by }
-    requires sides { AreSides tables.now.width tables.now.height }
+    requires here { spec.asks_behind corner by ≡ false }
     ensures is { result ≡ spec.allowed_by corner (entry_at tables.now) at by }
     ensures steps { steps.new ≡ steps.old + 8 }
 {
     let ring = Ring {
-        n: is_free_told(corner, tables, at, by, Dir::N, steps),
-        ne: is_free_told(corner, tables, at, by, Dir::NE, steps),
-        e: is_free_told(corner, tables, at, by, Dir::E, steps),
-        se: is_free_told(corner, tables, at, by, Dir::SE, steps),
-        s: is_free_told(corner, tables, at, by, Dir::S, steps),
-        sw: is_free_told(corner, tables, at, by, Dir::SW, steps),
-        w: is_free_told(corner, tables, at, by, Dir::W, steps),
-        nw: is_free_told(corner, tables, at, by, Dir::NW, steps),
+        n: can_move(tables, at, Dir::N, steps),
+        ne: can_move(tables, at, Dir::NE, steps),
+        e: can_move(tables, at, Dir::E, steps),
+        se: can_move(tables, at, Dir::SE, steps),
+        s: can_move(tables, at, Dir::S, steps),
+        sw: can_move(tables, at, Dir::SW, steps),
+        w: can_move(tables, at, Dir::W, steps),
+        nw: can_move(tables, at, Dir::NW, steps),
     };
     allowed_on(corner, ring, by)
 }
 
-// The same under the rule of the tables.
+// The same under the rule of the tables, after a straight move.
 #[inline(always)]
-fn allowed_after<L: Ledger>(tables: &Tables, at: Cell, by: Arrival, steps: &mut Steps<L>) -> Packed
+fn allowed_ahead<L: Ledger>(tables: &Tables, at: Cell, d: Dir, steps: &mut Steps<L>) -> Packed
+    requires straight { is_diagonal d ≡ false }
     requires at { is_on tables.now at ≡ true }
-    requires before { spec.IsBeforeOn tables.now at by }
+    requires before { is_on tables.now (spec.cell_after (moves.opposite d) 1 at) ≡ true }
     requires sides { AreSides tables.now.width tables.now.height }
+    ensures is { result ≡ spec.allowed_by tables.now.corner (entry_at tables.now) at (Arrival.By d) }
+    ensures steps { steps.new ≡ steps.old + 8 }
+{
+    match tables.corner() {
+        Corner::Never => allowed_past(tables, at, d, steps),
+        Corner::One => allowed_here(Corner::One, tables, at, Arrival::By(d), steps),
+    }
+}
+
+// And at the start or after a diagonal move.
+#[inline(always)]
+fn allowed_around<L: Ledger>(tables: &Tables, at: Cell, by: Arrival, steps: &mut Steps<L>) -> Packed
+    requires at { is_on tables.now at ≡ true }
+    requires here { spec.asks_behind Corner.Never by ≡ false }
     ensures is { result ≡ spec.allowed_by tables.now.corner (entry_at tables.now) at by }
     ensures steps { steps.new ≡ steps.old + 8 }
 {
     match tables.corner() {
-        Corner::Never => allowed_under(Corner::Never, tables, at, by, steps),
-        Corner::One => allowed_under(Corner::One, tables, at, by, steps),
+        Corner::Never => allowed_here(Corner::Never, tables, at, by, steps),
+        Corner::One => allowed_here(Corner::One, tables, at, by, steps),
     }
 }
 
@@ -127,14 +170,14 @@ pub fn allowed_told<L: Ledger>(
     ensures steps { steps.new ≡ steps.old + 8 }
 {
     match by {
-        Arrival::Start => allowed_after(tables, at, Arrival::Start, steps),
-        Arrival::By(Dir::N) => allowed_after(tables, at, Arrival::By(Dir::N), steps),
-        Arrival::By(Dir::NE) => allowed_after(tables, at, Arrival::By(Dir::NE), steps),
-        Arrival::By(Dir::E) => allowed_after(tables, at, Arrival::By(Dir::E), steps),
-        Arrival::By(Dir::SE) => allowed_after(tables, at, Arrival::By(Dir::SE), steps),
-        Arrival::By(Dir::S) => allowed_after(tables, at, Arrival::By(Dir::S), steps),
-        Arrival::By(Dir::SW) => allowed_after(tables, at, Arrival::By(Dir::SW), steps),
-        Arrival::By(Dir::W) => allowed_after(tables, at, Arrival::By(Dir::W), steps),
-        Arrival::By(Dir::NW) => allowed_after(tables, at, Arrival::By(Dir::NW), steps),
+        Arrival::Start => allowed_around(tables, at, Arrival::Start, steps),
+        Arrival::By(Dir::N) => allowed_ahead(tables, at, Dir::N, steps),
+        Arrival::By(Dir::NE) => allowed_around(tables, at, Arrival::By(Dir::NE), steps),
+        Arrival::By(Dir::E) => allowed_ahead(tables, at, Dir::E, steps),
+        Arrival::By(Dir::SE) => allowed_around(tables, at, Arrival::By(Dir::SE), steps),
+        Arrival::By(Dir::S) => allowed_ahead(tables, at, Dir::S, steps),
+        Arrival::By(Dir::SW) => allowed_around(tables, at, Arrival::By(Dir::SW), steps),
+        Arrival::By(Dir::W) => allowed_ahead(tables, at, Dir::W, steps),
+        Arrival::By(Dir::NW) => allowed_around(tables, at, Arrival::By(Dir::NW), steps),
     }
 }

@@ -5,7 +5,6 @@ use Rattle.grid_moves.specs.declared.Cell.{Cell}
 use Rattle.grid_moves.specs.declared.Corner.{Corner}
 use Rattle.grid_moves.specs.declared.Corner.TheVariants.{Never, One}
 use Rattle.grid_moves.specs.declared.Dir.{Dir}
-use Rattle.grid_moves.specs.declared.Dir.TheVariants.{N, NE, E, SE, S, SW, W, NW}
 use Rattle.grid_moves.specs.Grid.{GridData, is_free}
 use Rattle.grid_moves.specs.Move.{is_open, all_dirs}
 use Rattle.pruning.specs.declared.Arrival.{Arrival}
@@ -14,7 +13,7 @@ use Rattle.pruning.specs.declared.ring.Ring.{Ring}
 use Rattle.pruning.specs.declared.turns.Side.TheVariants.{Right, Left}
 use Rattle.pruning.specs.Turns.{turn, quarter, rear, is_diagonal}
 use Rattle.pruning.specs.Allowed.{is_blocked, can_move, is_kept, is_allowed, allowed_dirs}
-use Rattle.pruning.specs.Ring.{is_free_on, ring_told, is_shut, leads_on, is_allowed_on}
+use Rattle.pruning.specs.Ring.{is_free_on, is_shut, leads_on, is_allowed_on}
 use Rattle.pruning.proofs.Moves.{can_move-straight, can_move-diagonal}
 
 -- two tests that agree keep the same elements
@@ -29,13 +28,6 @@ same_kept r p q h Start e = refl
 same_kept Never p q h (By d) e = rw (h (rear Right d), h (rear Left d)) refl
 same_kept One p q h (By d) e =
     rw (h (quarter Right d), h (quarter Left d), h (rear Right d), h (rear Left d)) refl
-
--- a ring of which each cell was told
-pub ring_read : (free : Dir → Bool) (n ne e se s sw w nw : Bool) → n ≡ free N → ne ≡ free NE → e ≡ free E
-    → se ≡ free SE → s ≡ free S → sw ≡ free SW → w ≡ free W → nw ≡ free NW
-    → (let r : Ring = record { n = n; ne = ne; e = e; se = se; s = s; sw = sw; w = w; nw = nw } in r)
-    ≡ ring_told free
-ring_read free n ne e se s sw w nw h i j k l m o p = rw (h, i, j, k, l, m, o, p) refl
 
 module _ (g : GridData) (x : Cell) (free : is_free g x ≡ true) (ring : Ring)
     (read : (d : Dir) → is_free_on ring d ≡ is_open g x d) where
