@@ -1,5 +1,5 @@
 -- Rows that lie between the same rows have the same entries along them.
-use Rattle.std.proofs.Common.{◌≡◌, ℕ, zero, suc, ◌+◌, ◌-◌, ◌<◌, arith, Bool, true, false, ◌||◌, List, length, refl, ap, sym, ◌∙◌}
+use Rattle.std.proofs.Common.{◌≡◌, ℕ, zero, suc, ◌+◌, ◌<◌, arith, Bool, true, false, ◌||◌, List, length, refl, ap, sym, ◌∙◌}
 use Rattle.std.specs.Prelude.{ℤ, Option, Some, unwrap_or}
 use Rattle.std.proofs.lemmas.Bool.Decides.{nat_tests}
 use Rattle.grid_moves.specs.declared.Cell.{Cell}
@@ -7,7 +7,7 @@ use Rattle.grid_moves.specs.declared.Dir.{Dir}
 use Rattle.grid_moves.specs.declared.Dir.TheVariants.{N, E, S, W}
 use Rattle.grid_moves.specs.Grid.{GridData, IsGrid, is_free, is_inside}
 use Rattle.grid_moves.specs.Move.{row_ahead, column_ahead, legal_ahead}
-use Rattle.grid_moves.proofs.Legal.{free_inside, legal_is}
+use Rattle.grid_moves.proofs.Legal.{legal_is}
 use Rattle.pruning.specs.declared.turns.Side.TheVariants.{Right, Left}
 use Rattle.pruning.specs.Turns.{is_diagonal}
 use Rattle.pruning.specs.Allowed.{can_move}
@@ -85,12 +85,15 @@ module _ (g : GridData) (whole : IsGrid g) (y m : ℕ) (above here below : List 
     same_by_next : (x : ℕ) → ((k : ℕ) → column_ahead d x ≡ Some k → k < g.width → same_at k) → same_at x
     same_by_next x next =
         sym (told_is g (record { x = x; y = y }) d (can_move g (record { x = x; y = y }) d)
-        (is_forced g (record { x = column_next x; y = y }) d) (table_entry g (record { x = column_next x; y = y }) d) refl
+        (is_forced g (record { x = column_next x; y = y }) d)
+        (table_entry g (record { x = column_next x; y = y }) d) refl
         (λ w e. ap (λ (v : Cell). is_forced g v d) (leads y w e) ∙ marked w)
         (λ w e. ap (λ (v : Cell). table_entry g v d) (leads y w e)))
         ∙ told_is g (record { x = x; y = m }) d (can_move g (record { x = x; y = y }) d)
-        (is_forced g (record { x = column_next x; y = y }) d) (table_entry g (record { x = column_next x; y = y }) d) (same_move x d)
-        (λ w e. same_forced (column_next x) d (free_next w e) ∙ ap (λ (v : Cell). is_forced g v d) (leads m w e) ∙ marked w)
+        (is_forced g (record { x = column_next x; y = y }) d)
+        (table_entry g (record { x = column_next x; y = y }) d) (same_move x d)
+        (λ w e. same_forced (column_next x) d (free_next w e) ∙ ap (λ (v : Cell). is_forced g v d) (leads m w e)
+        ∙ marked w)
         (λ w e. let n = next_along g d along x m w e in
         ap (λ (i : ℕ). table_entry g (record { x = i; y = y }) d) (there m w e) ∙ next w.x n.0 n.1
         ∙ ap (λ (v : Cell). table_entry g v d) n.2)

@@ -92,8 +92,8 @@ module _ (row : List ℤ) (x : ℕ) (room : x * 8 + 7 < length row) where
           ∙ laid.others k e h;
     }
       where
-        by_place : (k : ℕ) (e : Dir) → k < x + 1 → is e ≡ true → IsShort (number (part e) (k + 1)) → (b : Bool)
-            → nat_lt k x ≡ b
+        by_place : (k : ℕ) (e : Dir) → k < x + 1 → is e ≡ true → IsShort (number (part e) (k + 1))
+            → (b : Bool) → nat_lt k x ≡ b
             → number (with_dirs row x told ds) (k * 8 + dir_number e) ≡ number (part e) (k + 1)
         by_place k e h i short true t =
             let below : k < x = grind (arith, nat_tests) in
@@ -116,7 +116,8 @@ module _ (row : List ℤ) (x : ℕ) (room : x * 8 + 7 < length row) where
       subst (λ (r : List ℤ). AreLaid is_upward part (x + 1) old r)
       (sym (made ∙ rw (is_n, is_ne, is_e, is_w, is_nw) refl))
       (laid_dirs is_upward part (NW ∷ W ∷ E ∷ NE ∷ N ∷ [])
-      (λ e. same_bool-is _ _ (at_dir (λ e. same_bool (is_upward e) (among (NW ∷ W ∷ E ∷ NE ∷ N ∷ []) e)) refl e))
+      (λ e. same_bool-is _ _
+      (at_dir (λ e. same_bool (is_upward e) (among (NW ∷ W ∷ E ∷ NE ∷ N ∷ []) e)) refl e))
       old laid)
 
   pub laid_down : (part : Dir → List ℤ) (old new se s sw : List ℤ) → AreLaid is_downward part x old row
@@ -126,7 +127,8 @@ module _ (row : List ℤ) (x : ℕ) (room : x * 8 + 7 < length row) where
   laid_down part old new se s sw laid is_se is_s is_sw made =
       subst (λ (r : List ℤ). AreLaid is_downward part (x + 1) old r) (sym (made ∙ rw (is_se, is_s, is_sw) refl))
       (laid_dirs is_downward part (SW ∷ S ∷ SE ∷ [])
-      (λ e. same_bool-is _ _ (at_dir (λ e. same_bool (is_downward e) (among (SW ∷ S ∷ SE ∷ []) e)) refl e)) old laid)
+      (λ e. same_bool-is _ _
+      (at_dir (λ e. same_bool (is_downward e) (among (SW ∷ S ∷ SE ∷ []) e)) refl e)) old laid)
 
 -- where the entries of a cell stand
 earlier : (m n k s : ℕ) → m < n → k < 8 → s ≡ n * 8 → m * 8 + k < s

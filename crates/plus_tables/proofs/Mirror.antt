@@ -1,12 +1,12 @@
 -- A map that is turned upside down: moves, forced neighbours and entries are those of the directions turned so.
-use Rattle.std.proofs.Common.{◌≡◌, arith, ℕ, ◌+◌, ◌-◌, ◌<◌, Bool, true, false, not, ◌&&◌, ◌||◌, List, length, refl, ap, sym, ◌∙◌, subst}
+use Rattle.std.proofs.Common.{◌≡◌, arith, ℕ, ◌+◌, ◌-◌, ◌<◌, Bool, true, not, ◌&&◌, ◌||◌, List, length, refl, ap, sym, ◌∙◌, subst}
 use Rattle.std.specs.Prelude.{ℤ}
 use Rattle.grid_moves.specs.declared.Corner.{Corner}
 use Rattle.grid_moves.specs.declared.Corner.TheVariants.{Never, One}
 use Rattle.grid_moves.specs.declared.Dir.{Dir}
 use Rattle.grid_moves.specs.declared.Dir.TheVariants.{N, NE, E, SE, S, SW, W, NW}
 use Rattle.grid_moves.specs.Grid.{GridData, IsGrid}
-use Rattle.grid_moves.specs.Move.{is_dir, is_passable, row_ahead}
+use Rattle.grid_moves.specs.Move.{is_dir, row_ahead}
 use Rattle.pruning.specs.declared.turns.Side.{Side}
 use Rattle.pruning.specs.declared.turns.Side.TheVariants.{Right, Left}
 use Rattle.pruning.specs.Turns.{turn, quarter, rear, is_diagonal}
@@ -57,7 +57,8 @@ module _ (r : Corner) (a h b : List Bool) (x : ℕ) where
 
   beside : (s : Side) (d : Dir)
       → is_free_on (ring_of b h a x) (turn s (flipped d)) ≡ is_free_on (ring_of a h b x) (turn (other s) d)
-  beside s d = ap (λ (e : Dir). is_free_on (ring_of b h a x) e) (turn_flipped s d) ∙ open_flipped (turn (other s) d)
+  beside s d =
+      ap (λ (e : Dir). is_free_on (ring_of b h a x) e) (turn_flipped s d) ∙ open_flipped (turn (other s) d)
 
   can_flipped : (d : Dir) → leads_on r (ring_of b h a x) (flipped d) ≡ leads_on r (ring_of a h b x) d
   can_flipped d = rw (
@@ -65,7 +66,8 @@ module _ (r : Corner) (a h b : List Bool) (x : ℕ) where
     open_flipped d,
     beside Left d,
     beside Right d,
-    passable-turned r (is_free_on (ring_of a h b x) (turn Right d)) (is_free_on (ring_of a h b x) (turn Left d)),
+    passable-turned r (is_free_on (ring_of a h b x) (turn Right d))
+        (is_free_on (ring_of a h b x) (turn Left d)),
   ) refl
 
   legal_flipped : (d : Dir) → legal_by r a h b d x ≡ legal_by r b h a (flipped d) x

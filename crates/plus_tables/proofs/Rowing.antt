@@ -123,7 +123,8 @@ module _ (g : GridData) (whole : IsGrid g) where
         → legal_by corner above here below d v.x ≡ can_move g v d
     row_legal d corner rule v row =
         ap (λ (r : Corner). legal_by r above here below d v.x) rule
-        ∙ ap (λ (b : Bool). b && leads_on g.corner (ring_of above here below v.x) d) (around.here_is.cells v.x)
+        ∙ ap (λ (b : Bool). b && leads_on g.corner (ring_of above here below v.x) d)
+        (around.here_is.cells v.x)
         ∙ by_test (is_free g (record { x = v.x; y = y })) refl
         ∙ ap (λ (n : ℕ). can_move g (record { x = v.x; y = n }) d) (sym row)
       where
@@ -301,7 +302,8 @@ along_each E along n P each = λ x within. to_right (n - suc x) x (omega arith)
     to_right zero x e = each x (omega arith)
         (λ k next within. absurd (let there = value_is (x + 1) k next in omega arith))
     to_right (suc m) x e =
-        each x (omega arith) (λ k next _. subst P (value_is (x + 1) k next) (to_right m (x + 1) (omega arith)))
+        each x (omega arith)
+        (λ k next _. subst P (value_is (x + 1) k next) (to_right m (x + 1) (omega arith)))
 along_each N along n P each = absurd (cc)
 along_each NE along n P each = absurd (cc)
 along_each SE along n P each = absurd (cc)

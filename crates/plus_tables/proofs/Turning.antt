@@ -1,5 +1,5 @@
 -- The allowed directions that are told by tables.
-use Rattle.std.proofs.Common.{◌≡◌, arith, Bool, true, false, not, ◌&&◌, ◌||◌, refl, ap, sym, ◌∙◌, subst, List}
+use Rattle.std.proofs.Common.{◌≡◌, arith, Bool, true, false, not, ◌&&◌, ◌||◌, refl, ap, sym, ◌∙◌}
 use Rattle.std.specs.Prelude.{ℤ, Some, filter}
 use Rattle.std.proofs.lemmas.List.Elements.{filter_agree}
 use Rattle.grid_moves.specs.declared.Cell.{Cell}
@@ -8,7 +8,7 @@ use Rattle.grid_moves.specs.declared.Corner.TheVariants.{Never, One}
 use Rattle.grid_moves.specs.declared.Dir.{Dir}
 use Rattle.grid_moves.specs.declared.Dir.TheVariants.{N, NE, E, SE, S, SW, W, NW}
 use Rattle.grid_moves.specs.Grid.{GridData, is_free}
-use Rattle.grid_moves.specs.Move.{all_dirs, is_dir, is_open, is_passable, legal_ahead, opposite}
+use Rattle.grid_moves.specs.Move.{all_dirs, is_dir, is_open, legal_ahead, opposite}
 use Rattle.grid_moves.proofs.Legal.{legal_is}
 use Rattle.pruning.specs.declared.Arrival.{Arrival}
 use Rattle.pruning.specs.declared.Arrival.TheVariants.{Start, By}
@@ -65,7 +65,8 @@ none_of a b c d e k l m n h = grind arith
 
 rear_not_kept : (blocked : Dir → Bool) (s : Side) (d : Dir) → is_kept Never blocked (By d) (rear s d) ≡ false
 rear_not_kept blocked s d = none_of (is_dir (rear s d) d) (is_dir (rear s d) (turn Right d))
-    (is_dir (rear s d) (quarter Right d)) (is_dir (rear s d) (turn Left d)) (is_dir (rear s d) (quarter Left d))
+    (is_dir (rear s d) (quarter Right d)) (is_dir (rear s d) (turn Left d))
+    (is_dir (rear s d) (quarter Left d))
     (keeps_eighth Never blocked d Right) (keeps_quarter Never blocked d Right)
     (keeps_eighth Never blocked d Left) (keeps_quarter Never blocked d Left)
     (if_not _ (at_both (λ s d. not (is_dir (rear s d) d
@@ -141,8 +142,8 @@ module _ (t : TablesData) (g : GridData) (right : AreTablesOf t g) where
       → is_free_on (ring_told free) e ≡ is_open g at e
   straight_open at f free straight e p = told_on free e ∙ straight e p ∙ can_move-straight g at e f p
 
-  -- where cells count as free by the moves to them, but for those behind that are not kept, and walls are told
-  -- right, what is allowed is told right
+  -- where cells count as free by the moves to them, but for those behind that are not kept, and walls are
+  -- told right, what is allowed is told right
   module _ (at : Cell) (f : is_free g at ≡ true) (by : Arrival) (free : Dir → Bool)
       (straight : (e : Dir) → is_diagonal e ≡ false → free e ≡ can_move g at e)
       (moves : (e : Dir) → is_kept g.corner (is_blocked g at) by e ≡ true → free e ≡ can_move g at e)
@@ -167,7 +168,8 @@ module _ (t : TablesData) (g : GridData) (right : AreTablesOf t g) where
         (λ h. rw (kept e, h) refl)
 
     all_told : filter (is_allowed_on g.corner (ring_told free) by) all_dirs ≡ allowed_dirs g at by
-    all_told = filter_agree (is_allowed_on g.corner (ring_told free) by) (is_allowed g at by) each_told all_dirs
+    all_told =
+        filter_agree (is_allowed_on g.corner (ring_told free) by) (is_allowed g at by) each_told all_dirs
 
   module _ (u at : Cell) (d : Dir) (e : legal_ahead g u d ≡ Some at) where
     source : is_free g u ≡ true
@@ -244,8 +246,8 @@ module _ (t : TablesData) (g : GridData) (right : AreTablesOf t g) where
 
   started : (at : Cell) → is_free g at ≡ true
       → allowed_by g.corner (entry_at t) at Start ≡ allowed_dirs g at Start
-  started at f = all_told at f Start (free_told g.corner (entry_at t) at Start) (λ e _. told e) (λ e _. told e)
-      (λ e. refl)
+  started at f = all_told at f Start (free_told g.corner (entry_at t) at Start) (λ e _. told e)
+      (λ e _. told e) (λ e. refl)
     where
       by_corner : (r : Corner) → asks_behind r Start ≡ false
       by_corner Never = refl

@@ -1,5 +1,5 @@
 -- What jumps read off entries.
-use Rattle.std.specs.Prelude.{◌≡◌, ⊤, ℕ, zero, suc, ◌+◌, ◌-◌, ℤ, pos, negsuc, Bool, true, false, ◌&&◌, ◌||◌, not, nat_lt, nat_le, nat_eq, Option, Some, None, min, List, [], ◌∷◌, filter, if◌then◌else◌}
+use Rattle.std.specs.Prelude.{◌≡◌, ⊤, ℕ, zero, suc, ◌+◌, ◌-◌, ℤ, pos, negsuc, Bool, true, false, ◌&&◌, not, nat_lt, nat_le, nat_eq, Option, Some, None, min, List, filter, if◌then◌else◌}
 use Rattle.grid_moves.specs.declared.Cell.{Cell}
 use Rattle.grid_moves.specs.declared.Corner.{Corner}
 use Rattle.grid_moves.specs.declared.Corner.TheVariants.{Never, One}
@@ -130,8 +130,9 @@ abbrev pub stop_told : (Cell → Dir → ℤ) → Cell → Dir → Cell → Opti
 stop_told entry u d goal =
     if is_diagonal d then diagonal_by entry u d goal else stop_by (entry u d) (straight_to d u goal) true
 
--- Which cells around count as free for the rule: those to which a move is legal, as entries tell. Where no corner
--- is cut, the walls that count after a straight move stand behind: beside the cell before, whose entries tell.
+-- Which cells around count as free for the rule: those to which a move is legal, as entries tell. Where no
+-- corner is cut, the walls that count after a straight move stand behind: beside the cell before, whose
+-- entries tell.
 abbrev pub seen_past : Cell → Dir → Dir → Seen
 seen_past at d e =
     if is_dir e (rear Right d) then record { from = cell_after (opposite d) 1 at; dir = quarter Right d }

@@ -1,15 +1,15 @@
 -- Rows of flags and of entries, as the sweeps keep them. What belongs to column x stands at x + 1: one more stands
 -- before the first column and one after the last.
-use Rattle.std.specs.Prelude.{◌≡◌, ℕ, ◌+◌, ◌-◌, ◌<◌, ◌≤◌, ℤ, pos, Bool, true, false, not, ◌&&◌, ◌||◌, Option, Some, None, List, length, slice_index_or, if◌then◌else◌}
+use Rattle.std.specs.Prelude.{◌≡◌, ℕ, ◌+◌, ◌-◌, ◌<◌, ◌≤◌, ℤ, pos, Bool, true, false, ◌&&◌, ◌||◌, Option, Some, None, List, length, slice_index_or, if◌then◌else◌}
 use Rattle.grid_moves.specs.declared.Cell.{Cell}
 use Rattle.grid_moves.specs.declared.Corner.{Corner}
 use Rattle.grid_moves.specs.declared.Dir.{Dir}
 use Rattle.grid_moves.specs.declared.Dir.TheVariants.{N, NE, E, SE, S, SW, W, NW}
 use Rattle.grid_moves.specs.Grid.{GridData, is_free, is_inside}
-use Rattle.grid_moves.specs.Move.{is_passable, row_ahead}
+use Rattle.grid_moves.specs.Move.{row_ahead}
 use Rattle.pruning.specs.declared.turns.Side.{Side}
 use Rattle.pruning.specs.declared.turns.Side.TheVariants.{Right, Left}
-use Rattle.pruning.specs.Turns.{turn, is_diagonal}
+use Rattle.pruning.specs.Turns.{is_diagonal}
 use Rattle.pruning.specs.Marked.{is_forced, is_forced_on}
 use Rattle.pruning.specs.declared.ring.Ring.{Ring}
 use Rattle.pruning.specs.Ring.{is_shut, leads_on}

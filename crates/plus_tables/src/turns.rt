@@ -97,8 +97,8 @@ fn allowed_past<L: Ledger>(tables: &Tables, at: Cell, d: Dir, steps: &mut Steps<
     allowed_on(Corner::Never, ring, Arrival::By(d))
 }
 
-// The allowed directions otherwise, in increasing order: each cell counts as free where the move to it is legal.
-// Eight steps.
+// The allowed directions otherwise, in increasing order: each cell counts as free where the move to it is
+// legal. Eight steps.
 #[inline(always)]
 fn allowed_here<L: Ledger>(
     corner: Corner,
@@ -155,8 +155,8 @@ fn allowed_around<L: Ledger>(tables: &Tables, at: Cell, by: Arrival, steps: &mut
     }
 }
 
-/// The allowed directions, in increasing order. Eight steps. Each arrival has code of its own, in which it is a
-/// constant.
+/// The allowed directions, in increasing order. Eight steps. Each arrival has code of its own, in which it is
+/// a constant; reading what is not asked behind apart from what is keeps it small enough to be inlined.
 pub fn allowed_told<L: Ledger>(
     tables: &Tables,
     at: Cell,

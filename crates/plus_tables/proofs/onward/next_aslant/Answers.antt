@@ -1,6 +1,5 @@
 use Rattle.std.proofs.Common.{◌∙◌, ap, sym}
 use Rattle.std.specs.Prelude.{Option, option_map}
-use Rattle.grid_moves.specs.declared.Cell.{Cell}
 use Rattle.jump_plain.specs.declared.jump.Next.{Next}
 use Rattle.plus_tables.proofs.onward.next_aslant.Goals as goal
 

@@ -13,7 +13,8 @@ returns-clause-is g c = c.allowed_on.ensures
     ∙ ap (λ (r : Ring). filter (is_allowed_on c.args.corner r c.args.by) all_dirs)
     (ring_told_by (λ e. is_move (entry_at c.args.tables.now c.args.at e))
     (free_told c.args.corner (entry_at c.args.tables.now) c.args.at c.args.by)
-    (λ e. sym (told_here c.args.corner (entry_at c.args.tables.now) c.args.at c.args.by e c.requires.here)) _ _ _ _ _ _ _ _
+    (λ e. sym (told_here c.args.corner (entry_at c.args.tables.now) c.args.at c.args.by e c.requires.here))
+    _ _ _ _ _ _ _ _
     c.can_move.ensures.is c.can_move-2.ensures.is c.can_move-3.ensures.is
     c.can_move-4.ensures.is c.can_move-5.ensures.is c.can_move-6.ensures.is
     c.can_move-7.ensures.is c.can_move-8.ensures.is)

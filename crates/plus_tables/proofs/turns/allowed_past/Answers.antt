@@ -15,7 +15,8 @@ returns-clause-is g c = c.allowed_on.ensures
     ∙ ap (λ (r : Ring). filter (is_allowed_on Never r (By c.args.d)) all_dirs)
     (ring_told_by (free_past (entry_at c.args.tables.now) c.args.at c.args.d)
     (free_told Never (entry_at c.args.tables.now) c.args.at (By c.args.d))
-    (λ e. sym (told_past (entry_at c.args.tables.now) c.args.at c.args.d e c.requires.straight)) _ _ _ _ _ _ _ _
+    (λ e. sym (told_past (entry_at c.args.tables.now) c.args.at c.args.d e c.requires.straight))
+    _ _ _ _ _ _ _ _
     c.is_free_past.ensures.is c.is_free_past-2.ensures.is c.is_free_past-3.ensures.is
     c.is_free_past-4.ensures.is c.is_free_past-5.ensures.is c.is_free_past-6.ensures.is
     c.is_free_past-7.ensures.is c.is_free_past-8.ensures.is)
