@@ -17,7 +17,7 @@ use Rattle.jump_plain.specs.declared.beside.Sides.{Sides}
 use Rattle.jump_plain.specs.declared.scan.Reach.{Reach}
 use Rattle.jump_plain.specs.Beside.{sides_of, opens}
 use Rattle.jump_plain.specs.Reach.{reach_of, further, mark_ahead, first_sides, stop_of}
-use Rattle.jump_plain.proofs.Reaching.{run_length-next, run_length-none, run_length-few}
+use Rattle.pruning.proofs.Lengths.{run_length-next, run_length-none, run_length-few}
 use Rattle.jump_plain.proofs.Scanning.{left_with, reach_begun, reached_end, reached_mark, reached_next}
 use Rattle.jump_block.specs.declared.block.Halt.{Halt}
 use Rattle.jump_block.specs.Trail.{Trail, IsClear, Halts, halts}

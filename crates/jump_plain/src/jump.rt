@@ -103,10 +103,10 @@ fn sides_after(rule: Corner, beside: Components, side: Side) -> Sides
 
 /// The next cell of a diagonal run.
 #[derive(Clone, Copy)]
-struct Next {
-    cell: Cell,
-    // Whether both cells beside the move to it are free, so that no neighbour is forced there.
-    clear: bool,
+pub struct Next {
+    pub cell: Cell,
+    /// Whether both cells beside the move to it are free, so that no neighbour is forced there.
+    pub clear: bool,
 }
 
 // Whether a diagonal move is legal: it passes, and the cell that it leads to is free.
@@ -125,9 +125,9 @@ fn both(one: bool, other: bool) -> bool
     one && other
 }
 
-// The next cell of a diagonal run, exactly where the move to it is legal.
+/// The next cell of a diagonal run, exactly where the move to it is legal.
 #[inline(always)]
-fn diagonal_ahead<T: Terrain>(t: &T, at: Cell, d: Dir, beside: Components) -> Option<Next>
+pub fn diagonal_ahead<T: Terrain>(t: &T, at: Cell, d: Dir, beside: Components) -> Option<Next>
     requires diagonal { is_diagonal d ≡ true }
     requires free { is_free (T.grid t.now) at ≡ true }
     requires whole { IsGrid (T.grid t.now) }

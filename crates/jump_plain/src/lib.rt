@@ -8,7 +8,7 @@
 #![tactic(auto)]
 
 pub mod beside;
-mod jump;
+pub mod jump;
 mod scan;
 mod source;
 

@@ -3,9 +3,8 @@
 ghost use Rattle.std.specs.Prelude.{◌≡◌, Some};
 
 use crate::jump::first_stop;
-use arrayvec::ArrayVec;
 use grid_moves::{Cell, Dir, Terrain};
-use pruning::{Arrival, JumpSource, Packed, allowed, allowed_word};
+use pruning::{Arrival, JumpSource, Packed, allowed_word};
 use std::sync::ledger::Ledger;
 use steps::Steps;
 
@@ -33,10 +32,6 @@ impl<'a, T: Terrain> JumpSource for PlainJumps<'a, T> {
     fn stop<L: Ledger>(&self, at: Cell, d: Dir, goal: Cell, _steps: &mut Steps<L>) -> Option<u16> {
         let _whole = self.terrain.width();
         first_stop(self.terrain, at, d, goal)
-    }
-
-    fn allowed<L: Ledger>(&self, at: Cell, by: Arrival, _steps: &mut Steps<L>) -> ArrayVec<Dir, 8> {
-        allowed(self.terrain, at, by)
     }
 
     fn allowed_word<L: Ledger>(&self, at: Cell, by: Arrival, _steps: &mut Steps<L>) -> Packed {

@@ -1,13 +1,13 @@
 -- Rows that lie between the same rows have the same entries along them.
-use Rattle.std.proofs.Common.{◌≡◌, ℕ, zero, suc, ◌+◌, ◌-◌, ◌<◌, arith, Bool, true, false, ◌||◌, List, length, refl, ap, sym, ◌∙◌}
-use Rattle.std.specs.Prelude.{ℤ, Some}
+use Rattle.std.proofs.Common.{◌≡◌, ℕ, zero, suc, ◌+◌, ◌<◌, arith, Bool, true, false, ◌||◌, List, length, refl, ap, sym, ◌∙◌}
+use Rattle.std.specs.Prelude.{ℤ, Option, Some, unwrap_or}
 use Rattle.std.proofs.lemmas.Bool.Decides.{nat_tests}
 use Rattle.grid_moves.specs.declared.Cell.{Cell}
 use Rattle.grid_moves.specs.declared.Dir.{Dir}
 use Rattle.grid_moves.specs.declared.Dir.TheVariants.{N, E, S, W}
 use Rattle.grid_moves.specs.Grid.{GridData, IsGrid, is_free, is_inside}
-use Rattle.grid_moves.specs.Move.{row_ahead, legal_ahead}
-use Rattle.grid_moves.proofs.Legal.{free_inside, legal_is}
+use Rattle.grid_moves.specs.Move.{row_ahead, column_ahead, legal_ahead}
+use Rattle.grid_moves.proofs.Legal.{legal_is}
 use Rattle.pruning.specs.declared.turns.Side.TheVariants.{Right, Left}
 use Rattle.pruning.specs.Turns.{is_diagonal}
 use Rattle.pruning.specs.Allowed.{can_move}
@@ -17,9 +17,9 @@ use Rattle.plus_tables.specs.declared.lines.Band.{Band}
 use Rattle.plus_tables.specs.declared.lines.Line.{Line}
 use Rattle.plus_tables.specs.Entry.{table_entry}
 use Rattle.plus_tables.specs.Local.{is_mark_by}
-use Rattle.plus_tables.specs.Rows.{AreSame, IsFlagRow, IsEntryRow, IsRowAt, AreRowsAround, Heading, upwards, downwards, AreRowsSeen}
+use Rattle.plus_tables.specs.Rows.{is_along, AreSame, IsFlagRow, IsEntryRow, IsRowAt, AreRowsAround, Heading, upwards, downwards, AreRowsSeen}
 use Rattle.plus_tables.specs.Lines.{AreAlike, AreAlong, IsReady}
-use Rattle.plus_tables.proofs.Rowing.{row_legal, ring_forced_on, told_is, next_left, next_right, none_left}
+use Rattle.plus_tables.proofs.Rowing.{row_legal, ring_forced_on, told_is, along_each, next_along}
 
 -- rows with the same flags
 flags_same : (g : GridData) (n : ℕ) (row same : List Bool) → AreSame row same → length same ≡ g.width + 2
@@ -68,78 +68,57 @@ module _ (g : GridData) (whole : IsGrid g) (y m : ℕ) (above here below : List 
       both a b p q e f = rw (e, f) refl
 
   -- an entry is the same where that of the next cell is
-  same_by_next : (d : Dir) → is_diagonal d ≡ false → (x k : ℕ)
-      → ((n : ℕ) (w : Cell) → legal_ahead g (record { x = x; y = n }) d ≡ Some w
-      → record { x = k; y = n } ≡ w)
-      → ((w : Cell) → legal_ahead g (record { x = x; y = m }) d ≡ Some w
-      → table_entry g (record { x = k; y = y }) d ≡ table_entry g (record { x = k; y = m }) d)
-      → table_entry g (record { x = x; y = y }) d ≡ table_entry g (record { x = x; y = m }) d
-  same_by_next d straight x k leads next =
-      sym (told_is g (record { x = x; y = y }) d (can_move g (record { x = x; y = y }) d)
-      (is_forced g (record { x = k; y = y }) d) (table_entry g (record { x = k; y = y }) d) refl
-      (λ w e. ap (λ (v : Cell). is_forced g v d) (leads y w e) ∙ marked w)
-      (λ w e. ap (λ (v : Cell). table_entry g v d) (leads y w e)))
-      ∙ told_is g (record { x = x; y = m }) d (can_move g (record { x = x; y = y }) d)
-      (is_forced g (record { x = k; y = y }) d) (table_entry g (record { x = k; y = y }) d) (same_move x d)
-      (λ w e. same_forced k d (free_next w e) ∙ ap (λ (v : Cell). is_forced g v d) (leads m w e) ∙ marked w)
-      (λ w e. next w e ∙ ap (λ (v : Cell). table_entry g v d) (leads m w e))
-    where
-      or_false : (b : Bool) → b ≡ (b || false)
-      or_false true = refl
-      or_false false = refl
+  module _ (d : Dir) (along : is_along d ≡ true) (straight : is_diagonal d ≡ false) where
+    abbrev same_at : ℕ → Type 0
+    same_at x = table_entry g (record { x = x; y = y }) d ≡ table_entry g (record { x = x; y = m }) d
 
-      marked : (w : Cell) → is_forced g w d ≡ is_mark_by g (table_entry g) d w
-      marked w = rw straight (or_false (is_forced g w d))
+    marked : (w : Cell) → is_forced g w d ≡ is_mark_by g (table_entry g) d w
+    marked w = rw straight (or_false (is_forced g w d))
+      where
+        or_false : (b : Bool) → b ≡ (b || false)
+        or_false true = refl
+        or_false false = refl
 
-      free_next : (w : Cell) → legal_ahead g (record { x = x; y = m }) d ≡ Some w
-          → is_free g (record { x = k; y = m }) ≡ true
-      free_next w e =
-          let l = legal_leads g (record { x = x; y = m }) w d e in
-          ap (λ (v : Cell). is_free g v) (leads m w e)
-          ∙ (legal_is g (record { x = x; y = m }) w l.legal).target
+    abbrev column_next : ℕ → ℕ
+    column_next x = unwrap_or (column_ahead d x) 0
 
-  same_west : (x : ℕ)
-      → table_entry g (record { x = x; y = y }) W ≡ table_entry g (record { x = x; y = m }) W
-  same_west zero = same_by_next W refl zero zero (λ n w e. absurd (none_left g n w e))
-      (λ w e. absurd (none_left g m w e))
-  same_west (suc k) = same_by_next W refl (suc k) k (λ n w e. next_left g n k w e) (λ w e. same_west k)
+    same_by_next : (x : ℕ) → ((k : ℕ) → column_ahead d x ≡ Some k → k < g.width → same_at k) → same_at x
+    same_by_next x next =
+        sym (told_is g (record { x = x; y = y }) d (can_move g (record { x = x; y = y }) d)
+        (is_forced g (record { x = column_next x; y = y }) d)
+        (table_entry g (record { x = column_next x; y = y }) d) refl
+        (λ w e. ap (λ (v : Cell). is_forced g v d) (leads y w e) ∙ marked w)
+        (λ w e. ap (λ (v : Cell). table_entry g v d) (leads y w e)))
+        ∙ told_is g (record { x = x; y = m }) d (can_move g (record { x = x; y = y }) d)
+        (is_forced g (record { x = column_next x; y = y }) d)
+        (table_entry g (record { x = column_next x; y = y }) d) (same_move x d)
+        (λ w e. same_forced (column_next x) d (free_next w e) ∙ ap (λ (v : Cell). is_forced g v d) (leads m w e)
+        ∙ marked w)
+        (λ w e. let n = next_along g d along x m w e in
+        ap (λ (i : ℕ). table_entry g (record { x = i; y = y }) d) (there m w e) ∙ next w.x n.0 n.1
+        ∙ ap (λ (v : Cell). table_entry g v d) n.2)
+      where
+        there : (n : ℕ) (w : Cell) → legal_ahead g (record { x = x; y = n }) d ≡ Some w → column_next x ≡ w.x
+        there n w e = ap (λ (o : Option ℕ). unwrap_or o 0) (next_along g d along x n w e).0
 
-  -- past the last column nothing is free
-  same_past : (x : ℕ) (d : Dir) → x ≡ g.width
-      → table_entry g (record { x = x; y = y }) d ≡ table_entry g (record { x = x; y = m }) d
-  same_past x d e = rw (blocked y, blocked m) refl
-    where
-      by_test : (n : ℕ) (b : Bool) → is_free g (record { x = x; y = n }) ≡ b
-          → is_free g (record { x = x; y = n }) ≡ false
-      by_test n false f = f
-      by_test n true f =
-          absurd (let inside = free_inside g (record { x = x; y = n }) f in omega (arith, inside.0))
+        leads : (n : ℕ) (w : Cell) → legal_ahead g (record { x = x; y = n }) d ≡ Some w
+            → record { x = column_next x; y = n } ≡ w
+        leads n w e = ap (λ (i : ℕ). let v : Cell = record { x = i; y = n } in v) (there n w e)
+            ∙ (next_along g d along x n w e).2
 
-      blocked : (n : ℕ) → is_free g (record { x = x; y = n }) ≡ false
-      blocked n = by_test n (is_free g (record { x = x; y = n })) refl
+        free_next : (w : Cell) → legal_ahead g (record { x = x; y = m }) d ≡ Some w
+            → is_free g (record { x = column_next x; y = m }) ≡ true
+        free_next w e = ap (λ (v : Cell). is_free g v) (leads m w e)
+            ∙ (legal_is g (record { x = x; y = m }) w
+            (legal_leads g (record { x = x; y = m }) w d e).legal).target
 
-  same_east : (n x : ℕ) → x + n ≡ g.width
-      → table_entry g (record { x = x; y = y }) E ≡ table_entry g (record { x = x; y = m }) E
-  same_east zero x e = same_past x E (omega arith)
-  same_east (suc n) x e = same_by_next E refl x (x + 1) (λ k w h. next_right g k x w h)
-      (λ w h. same_east n (x + 1) (omega arith))
-
-  module _ (on : m < g.height) (row : List ℤ) where
-    same_row : (d : Dir)
-        → ((x : ℕ) → x < g.width
-        → table_entry g (record { x = x; y = y }) d ≡ table_entry g (record { x = x; y = m }) d)
-        → IsEntryRow g m d row → IsEntryRow g y d row
-    same_row d same is v at inside =
+    pub row_again : m < g.height → (row : List ℤ) → IsEntryRow g m d row → IsEntryRow g y d row
+    row_again on row is v at inside =
         let within : v.x < g.width = grind (arith, nat_tests) in
         let there : is_inside g (record { x = v.x; y = m }) ≡ true = grind (arith, nat_tests) in
-        is (record { x = v.x; y = m }) refl there ∙ sym (same v.x within)
+        is (record { x = v.x; y = m }) refl there
+        ∙ sym (along_each d along g.width same_at (λ x _ next. same_by_next x next) v.x within)
         ∙ ap (λ (n : ℕ). table_entry g (record { x = v.x; y = n }) d) (sym at)
-
-    east_again : IsEntryRow g m E row → IsEntryRow g y E row
-    east_again = same_row E (λ x within. same_east (g.width - x) x (omega arith))
-
-    west_again : IsEntryRow g m W row → IsEntryRow g y W row
-    west_again = same_row W (λ x within. same_west x)
 
 -- the row that was swept last lies on the map
 pub row_above : (y m h : ℕ) → IsRowAt (row_ahead N y) m → 0 < y → y < h → m < h
@@ -154,8 +133,8 @@ module _ (g : GridData) (whole : IsGrid g) (y : ℕ) (band : Band) (last : Line)
   along_again : (m : ℕ) (above here below : List Bool) → AreRowsAround g y above here below
       → AreRowsAround g m above here below → m < g.height → AreAlong g m last → AreAlong g y last
   along_again m above here below one same on along = record {
-    east = east_again g whole y m above here below one same on last.east.items along.east;
-    west = west_again g whole y m above here below one same on last.west.items along.west;
+    east = row_again g whole y m above here below one same E refl refl on last.east.items along.east;
+    west = row_again g whole y m above here below one same W refl refl on last.west.items along.west;
   }
 
   pub alike_along : (h : Heading) (ready : IsReady g h y band last)

@@ -16,7 +16,7 @@ use Rattle.pruning.proofs.Stopping.{first_mark_is_first}
 use Rattle.plus_tables.specs.Entry.{mark_or_run, table_entry}
 use Rattle.plus_tables.specs.Reading.{mark_of, is_clear, is_move}
 use Rattle.plus_tables.proofs.Following.{table_entry-free}
-use Rattle.plus_tables.proofs.Lengths.{run_length-next, run_length-none}
+use Rattle.pruning.proofs.Lengths.{run_length-next, run_length-none}
 
 -- what a run's first mark and its length say together, whatever the entry looks like
 pub data Tells (g : GridData) (x : Cell) (d : Dir) : ℤ → Type 0 where

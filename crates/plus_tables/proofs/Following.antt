@@ -17,7 +17,7 @@ use Rattle.pruning.proofs.Bridging.{legal_leads}
 use Rattle.pruning.proofs.Firsts.{HoldsAfter, first_on_run-finds, first_on_run-next, first_on_run-none}
 use Rattle.plus_tables.specs.Entry.{mark_or_run, table_entry}
 use Rattle.plus_tables.specs.Local.{tells_mark, from_before, is_mark_by, entry_through, EntriesFollow}
-use Rattle.plus_tables.proofs.Lengths.{run_length-next, run_length-none}
+use Rattle.pruning.proofs.Lengths.{run_length-next, run_length-none}
 
 -- two tests that agree everywhere find the same
 pub first_within-same : (g : GridData) (d : Dir) (one other : Cell → Bool) → ((v : Cell) → one v ≡ other v)

@@ -1,195 +1,134 @@
 -- Lines that are laid into rows of entries.
-use Rattle.std.proofs.Common.{◌≡◌, ◌≢◌, ℕ, ◌+◌, ◌-◌, ◌*◌, ◌<◌, ◌≤◌, arith, Bool, true, false, not, ◌&&◌, ◌||◌, List, length, refl, ap, sym, ◌∙◌, subst, get_or-set_same, length-set, w16, to_z, of_z}
+use Rattle.std.proofs.Common.{◌≡◌, ◌≢◌, ℕ, ◌+◌, ◌-◌, ◌*◌, ◌<◌, ◌≤◌, arith, Bool, true, false, not, ◌&&◌, ◌||◌, List, [], ◌∷◌, length, refl, ap, sym, ◌∙◌, subst, get_or-set_same, length-set, w16, to_z, of_z}
 use Rattle.std.specs.Prelude.{ℤ, pos, nat_lt, nat_le}
 use Rattle.std.proofs.lemmas.Bool.Decides.{nat_tests}
 use Rattle.grid_moves.specs.declared.Cell.{Cell}
 use Rattle.grid_moves.specs.declared.Dir.{Dir}
 use Rattle.grid_moves.specs.declared.Dir.TheVariants.{N, NE, E, SE, S, SW, W, NW}
 use Rattle.grid_moves.specs.Grid.{GridData, IsGrid, cell_number, is_inside}
-use Rattle.grid_moves.specs.Move.{dir_number}
+use Rattle.grid_moves.specs.Move.{dir_number, is_dir}
 use Rattle.grid_moves.proofs.Legal.{and_both}
 use Rattle.grid_moves.proofs.Places.{number_below}
+use Rattle.pruning.proofs.Table.{at_dir, same_dir, same_bool, same_bool-is, by_test}
 use Rattle.plus_tables.specs.declared.lines.Line.{Line}
 use Rattle.plus_tables.specs.Entry.{table_entry}
 use Rattle.plus_tables.specs.Tables.{IsShort, TablesData, entry_place}
 use Rattle.plus_tables.specs.Sweep.{AreRight, above, from_row, is_upward, is_downward}
 use Rattle.plus_tables.specs.Rows.{number, upwards, downwards, IsEntryRow}
 use Rattle.plus_tables.specs.Lines.{AreAhead, AreAlong}
-use Rattle.plus_tables.specs.Laid.{with_up, with_down, upward_part, downward_part, as_tables, AreLaid, AreGrown}
+use Rattle.plus_tables.specs.Laid.{with_entry, with_up, with_down, upward_part, downward_part, as_tables, AreLaid, AreGrown}
 use Rattle.plus_tables.proofs.Growing.{number_stays}
 use Rattle.plus_tables.proofs.Short.{same_value, table_entry-short}
 use Rattle.plus_tables.proofs.Parts.{long_with, read_before, read_within, read_behind, read_part}
 use Rattle.plus_tables.proofs.Placing.{dir_number-few, whole_with}
 use borrow.Rule.Slice.PartMut.{put_mid, mid_of, mid_len}
 
--- the places that stay
-not_upward : (e : Dir) → is_upward e ≡ false → (3 ≤ dir_number e) × (dir_number e ≤ 5)
-not_upward N h = absurd (cc)
-not_upward NE h = absurd (cc)
-not_upward E h = absurd (cc)
-not_upward SE h = (omega arith, omega arith)
-not_upward S h = (omega arith, omega arith)
-not_upward SW h = (omega arith, omega arith)
-not_upward W h = absurd (cc)
-not_upward NW h = absurd (cc)
+-- whether a direction is one of these
+abbrev among : List Dir → Dir → Bool
+among [] e = false
+among (d ∷ ds) e = is_dir e d || among ds e
 
-not_downward : (k x j : ℕ) (e : Dir) → is_downward e ≡ false → 3 ≤ j → j ≤ 5 → k * 8 + dir_number e ≢ x * 8 + j
-not_downward k x j N h low high s = omega arith
-not_downward k x j NE h low high s = omega arith
-not_downward k x j E h low high s = omega arith
-not_downward k x j SE h low high s = absurd (cc)
-not_downward k x j S h low high s = absurd (cc)
-not_downward k x j SW h low high s = absurd (cc)
-not_downward k x j W h low high s = omega arith
-not_downward k x j NW h low high s = omega arith
+-- entries with those of cell x changed for these directions, the last of them first
+abbrev with_dirs : List ℤ → ℕ → (Dir → ℤ) → List Dir → List ℤ
+with_dirs row x told [] = row
+with_dirs row x told (d ∷ ds) = with_entry (with_dirs row x told ds) x d (told d)
+
+itself : (d : Dir) → is_dir d d ≡ true
+itself d = at_dir (λ d. is_dir d d) refl d
+
+-- two entries of a row are one only for one direction
+same_entry : (k x : ℕ) (d e : Dir) → k * 8 + dir_number e ≡ x * 8 + dir_number d → is_dir e d ≡ true
+same_entry k x d e h =
+    let few = dir_number-few d in
+    let less = dir_number-few e in
+    let same : dir_number e ≡ dir_number d = omega arith in
+    grind (arith, nat_tests)
 
 module _ (row : List ℤ) (x : ℕ) (room : x * 8 + 7 < length row) where
-  up_elsewhere : (n ne e w nw : ℤ) (q : ℕ) → q ≢ x * 8 → q ≢ x * 8 + 1 → q ≢ x * 8 + 2 → q ≢ x * 8 + 6
-      → q ≢ x * 8 + 7 → number (with_up row x n ne e w nw) q ≡ number row q
-  up_elsewhere n ne e w nw q h i j k l =
-      number_stays _ (x * 8 + 7) q nw l ∙ number_stays _ (x * 8 + 6) q w k ∙ number_stays _ (x * 8 + 2) q e j
-      ∙ number_stays _ (x * 8 + 1) q ne i ∙ number_stays row (x * 8) q n h
+  module _ (told : Dir → ℤ) where
+    long_dirs : (ds : List Dir) → length (with_dirs row x told ds) ≡ length row
+    long_dirs [] = refl
+    long_dirs (d ∷ ds) = length-set _ (x * 8 + dir_number d) (told d) ∙ long_dirs ds
 
-  down_elsewhere : (se s sw : ℤ) (q : ℕ) → q ≢ x * 8 + 3 → q ≢ x * 8 + 4 → q ≢ x * 8 + 5
-      → number (with_down row x se s sw) q ≡ number row q
-  down_elsewhere se s sw q h i j =
-      number_stays _ (x * 8 + 5) q sw j ∙ number_stays _ (x * 8 + 4) q s i ∙ number_stays row (x * 8 + 3) q se h
+    elsewhere : (ds : List Dir) (q : ℕ) → ((d : Dir) → among ds d ≡ true → q ≢ x * 8 + dir_number d)
+        → number (with_dirs row x told ds) q ≡ number row q
+    elsewhere [] q off = refl
+    elsewhere (d ∷ ds) q off = number_stays _ (x * 8 + dir_number d) q (told d) (off d (rw (itself d) refl))
+        ∙ elsewhere ds q (λ e m. off e (later_one (is_dir e d) m))
+      where
+        later_one : (a : Bool) {b : Bool} → b ≡ true → (a || b) ≡ true
+        later_one true m = refl
+        later_one false m = m
 
-  long_up : (n ne e w nw : ℤ) → length (with_up row x n ne e w nw) ≡ length row
-  long_up n ne e w nw =
-      length-set _ (x * 8 + 7) nw ∙ length-set _ (x * 8 + 6) w ∙ length-set _ (x * 8 + 2) e
-      ∙ length-set _ (x * 8 + 1) ne ∙ length-set row (x * 8) n
-
-  long_down : (se s sw : ℤ) → length (with_down row x se s sw) ≡ length row
-  long_down se s sw =
-      length-set _ (x * 8 + 5) sw ∙ length-set _ (x * 8 + 4) s ∙ length-set row (x * 8 + 3) se
-
-  -- a place that lies in the row still does after other places were changed
-  still : (now : List ℤ) (q : ℕ) → length now ≡ length row → q ≤ x * 8 + 7 → q < length now
-  still now q long h = omega (arith, room)
-
-  first_place : x * 8 + 0 ≡ x * 8
-  first_place = omega arith
-
-  -- what stands at the cell is what was put there
-  up_told : (part : Dir → ℤ) (e : Dir) → is_upward e ≡ true
-      → number (with_up row x (part N) (part NE) (part E) (part W) (part NW)) (x * 8 + dir_number e) ≡ part e
-  up_told part N h =
-      ap (λ (q : ℕ). number (with_up row x (part N) (part NE) (part E) (part W) (part NW)) q) first_place
-      ∙ number_stays _ (x * 8 + 7) (x * 8) (part NW) (λ s. omega arith)
-      ∙ number_stays _ (x * 8 + 6) (x * 8) (part W) (λ s. omega arith)
-      ∙ number_stays _ (x * 8 + 2) (x * 8) (part E) (λ s. omega arith)
-      ∙ number_stays _ (x * 8 + 1) (x * 8) (part NE) (λ s. omega arith)
-      ∙ get_or-set_same row (x * 8) (part N) (pos 0) (omega (arith, room))
-  up_told part NE h =
-      number_stays _ (x * 8 + 7) (x * 8 + 1) (part NW) (λ s. omega arith)
-      ∙ number_stays _ (x * 8 + 6) (x * 8 + 1) (part W) (λ s. omega arith)
-      ∙ number_stays _ (x * 8 + 2) (x * 8 + 1) (part E) (λ s. omega arith)
-      ∙ get_or-set_same _ (x * 8 + 1) (part NE) (pos 0)
-      (still _ (x * 8 + 1) (length-set row (x * 8) (part N)) (omega arith))
-  up_told part E h =
-      number_stays _ (x * 8 + 7) (x * 8 + 2) (part NW) (λ s. omega arith)
-      ∙ number_stays _ (x * 8 + 6) (x * 8 + 2) (part W) (λ s. omega arith)
-      ∙ get_or-set_same _ (x * 8 + 2) (part E) (pos 0)
-      (still _ (x * 8 + 2) (length-set _ (x * 8 + 1) (part NE) ∙ length-set row (x * 8) (part N)) (omega arith))
-  up_told part SE h = absurd (cc)
-  up_told part S h = absurd (cc)
-  up_told part SW h = absurd (cc)
-  up_told part W h =
-      number_stays _ (x * 8 + 7) (x * 8 + 6) (part NW) (λ s. omega arith)
-      ∙ get_or-set_same _ (x * 8 + 6) (part W) (pos 0)
-      (still _ (x * 8 + 6) (length-set _ (x * 8 + 2) (part E) ∙ length-set _ (x * 8 + 1) (part NE)
-      ∙ length-set row (x * 8) (part N)) (omega arith))
-  up_told part NW h = get_or-set_same _ (x * 8 + 7) (part NW) (pos 0)
-      (still _ (x * 8 + 7) (length-set _ (x * 8 + 6) (part W) ∙ length-set _ (x * 8 + 2) (part E)
-      ∙ length-set _ (x * 8 + 1) (part NE) ∙ length-set row (x * 8) (part N)) (omega arith))
-
-  down_told : (part : Dir → ℤ) (e : Dir) → is_downward e ≡ true
-      → number (with_down row x (part SE) (part S) (part SW)) (x * 8 + dir_number e) ≡ part e
-  down_told part N h = absurd (cc)
-  down_told part NE h = absurd (cc)
-  down_told part E h = absurd (cc)
-  down_told part SE h =
-      number_stays _ (x * 8 + 5) (x * 8 + 3) (part SW) (λ s. omega arith)
-      ∙ number_stays _ (x * 8 + 4) (x * 8 + 3) (part S) (λ s. omega arith)
-      ∙ get_or-set_same row (x * 8 + 3) (part SE) (pos 0) (omega (arith, room))
-  down_told part S h =
-      number_stays _ (x * 8 + 5) (x * 8 + 4) (part SW) (λ s. omega arith)
-      ∙ get_or-set_same _ (x * 8 + 4) (part S) (pos 0)
-      (still _ (x * 8 + 4) (length-set row (x * 8 + 3) (part SE)) (omega arith))
-  down_told part SW h = get_or-set_same _ (x * 8 + 5) (part SW) (pos 0)
-      (still _ (x * 8 + 5) (length-set _ (x * 8 + 4) (part S) ∙ length-set row (x * 8 + 3) (part SE)) (omega arith))
-  down_told part W h = absurd (cc)
-  down_told part NW h = absurd (cc)
-
-  -- one cell more is laid down
-  module _ (among : Dir → Bool) (part : Dir → List ℤ) (old new : List ℤ) (laid : AreLaid among part x old row)
-      (long : length new ≡ length row)
-      (there : (e : Dir) → among e ≡ true → IsShort (number (part e) (x + 1))
-      → number new (x * 8 + dir_number e) ≡ number (part e) (x + 1))
-      (before : (q : ℕ) → q < x * 8 → number new q ≡ number row q)
-      (aside : (k : ℕ) (e : Dir) → among e ≡ false → number new (k * 8 + dir_number e) ≡ number row (k * 8 + dir_number e))
-    where
-      laid_with : AreLaid among part (x + 1) old new
-      laid_with = record {
-        long = long ∙ laid.long;
-        told = λ k e h is short. by_test k e h is short (nat_lt k x) refl;
-        others = λ k e is. aside k e is ∙ laid.others k e is;
-      }
-        where
-          by_test : (k : ℕ) (e : Dir) → k < x + 1 → among e ≡ true → IsShort (number (part e) (k + 1)) → (b : Bool)
-              → nat_lt k x ≡ b → number new (k * 8 + dir_number e) ≡ number (part e) (k + 1)
-          by_test k e h is short true t =
-              let below : k < x = grind (arith, nat_tests) in
-              let few = dir_number-few e in
-              before (k * 8 + dir_number e) (omega arith) ∙ laid.told k e below is short
-          by_test k e h is short false t =
-              let same : x ≡ k = grind (arith, nat_tests) in
-              ap (λ (k : ℕ). number new (k * 8 + dir_number e)) (sym same)
-              ∙ there e is (subst (λ (k : ℕ). IsShort (number (part e) (k + 1))) (sym same) short)
-              ∙ ap (λ (k : ℕ). number (part e) (k + 1)) same
+    there : (ds : List Dir) (e : Dir) → among ds e ≡ true
+        → number (with_dirs row x told ds) (x * 8 + dir_number e) ≡ told e
+    there [] e h = absurd (cc)
+    there (d ∷ ds) e h = by_test (is_dir e d)
+        (λ s. ap (λ (i : Dir). number (with_dirs row x told (d ∷ ds)) (x * 8 + dir_number i)) (same_dir e d s)
+        ∙ get_or-set_same _ (x * 8 + dir_number d) (told d) (pos 0)
+        (let few = dir_number-few d in let long = long_dirs ds in omega (arith, room))
+        ∙ ap told (sym (same_dir e d s)))
+        (λ s. number_stays _ (x * 8 + dir_number d) (x * 8 + dir_number e) (told d)
+        (λ same. absurd (let one = same_entry x x d e same in cc))
+        ∙ there ds e (rw s at h))
 
   -- a number of a row as it is stored
-  stored : List ℤ → ℤ
+  abbrev stored : List ℤ → ℤ
   stored numbers = to_z w16 (of_z w16 (number numbers (x + 1)))
+
+  -- one cell more is laid down
+  module _ (is : Dir → Bool) (part : Dir → List ℤ) (ds : List Dir) (are : (e : Dir) → is e ≡ among ds e)
+      (old : List ℤ) (laid : AreLaid is part x old row) where
+    abbrev told : Dir → ℤ
+    told d = stored (part d)
+
+    laid_dirs : AreLaid is part (x + 1) old (with_dirs row x told ds)
+    laid_dirs = record {
+      long = long_dirs told ds ∙ laid.long;
+      told = λ k e h i short. by_place k e h i short (nat_lt k x) refl;
+      others = λ k e h. elsewhere told ds (k * 8 + dir_number e) (λ d m same. absurd (
+          let one = same_dir e d (same_entry k x d e same) in
+          let here : is e ≡ true = are e ∙ ap (λ (i : Dir). among ds i) one ∙ m in cc))
+          ∙ laid.others k e h;
+    }
+      where
+        by_place : (k : ℕ) (e : Dir) → k < x + 1 → is e ≡ true → IsShort (number (part e) (k + 1))
+            → (b : Bool) → nat_lt k x ≡ b
+            → number (with_dirs row x told ds) (k * 8 + dir_number e) ≡ number (part e) (k + 1)
+        by_place k e h i short true t =
+            let below : k < x = grind (arith, nat_tests) in
+            let few = dir_number-few e in
+            elsewhere told ds (k * 8 + dir_number e) (λ d m same. omega arith) ∙ laid.told k e below i short
+        by_place k e h i short false t =
+            let same : x ≡ k = grind (arith, nat_tests) in
+            ap (λ (n : ℕ). number (with_dirs row x told ds) (n * 8 + dir_number e)) (sym same)
+            ∙ there told ds e (sym (are e) ∙ i)
+            ∙ same_value (number (part e) (x + 1)) (number (part e) (x + 1))
+            (subst (λ (n : ℕ). IsShort (number (part e) (n + 1))) (sym same) short) refl
+            ∙ ap (λ (n : ℕ). number (part e) (n + 1)) same
 
   pub laid_up : (part : Dir → List ℤ) (old new n ne e w nw : List ℤ) → AreLaid is_upward part x old row
       → n ≡ part N → ne ≡ part NE → e ≡ part E → w ≡ part W → nw ≡ part NW
       → new ≡ with_up row x (to_z w16 (of_z w16 (number n (x + 1)))) (to_z w16 (of_z w16 (number ne (x + 1))))
       (to_z w16 (of_z w16 (number e (x + 1)))) (to_z w16 (of_z w16 (number w (x + 1))))
       (to_z w16 (of_z w16 (number nw (x + 1)))) → AreLaid is_upward part (x + 1) old new
-  unfolding stored
   laid_up part old new n ne e w nw laid is_n is_ne is_e is_w is_nw made =
       subst (λ (r : List ℤ). AreLaid is_upward part (x + 1) old r)
       (sym (made ∙ rw (is_n, is_ne, is_e, is_w, is_nw) refl))
-      (laid_with is_upward part old
-      (with_up row x (stored (part N)) (stored (part NE)) (stored (part E)) (stored (part W)) (stored (part NW)))
-      laid (long_up _ _ _ _ _)
-      (λ d h short. up_told (λ i. stored (part i)) d h
-      ∙ same_value (number (part d) (x + 1)) (number (part d) (x + 1)) short refl)
-      (λ q h. up_elsewhere _ _ _ _ _ q (λ s. omega arith) (λ s. omega arith) (λ s. omega arith) (λ s. omega arith)
-      (λ s. omega arith))
-      (λ k d h. let among = not_upward d h in
-      up_elsewhere _ _ _ _ _ (k * 8 + dir_number d)
-      (λ s. omega (arith, among.0, among.1)) (λ s. omega (arith, among.0, among.1))
-      (λ s. omega (arith, among.0, among.1)) (λ s. omega (arith, among.0, among.1))
-      (λ s. omega (arith, among.0, among.1))))
+      (laid_dirs is_upward part (NW ∷ W ∷ E ∷ NE ∷ N ∷ [])
+      (λ e. same_bool-is _ _
+      (at_dir (λ e. same_bool (is_upward e) (among (NW ∷ W ∷ E ∷ NE ∷ N ∷ []) e)) refl e))
+      old laid)
 
   pub laid_down : (part : Dir → List ℤ) (old new se s sw : List ℤ) → AreLaid is_downward part x old row
       → se ≡ part SE → s ≡ part S → sw ≡ part SW
       → new ≡ with_down row x (to_z w16 (of_z w16 (number se (x + 1)))) (to_z w16 (of_z w16 (number s (x + 1))))
       (to_z w16 (of_z w16 (number sw (x + 1)))) → AreLaid is_downward part (x + 1) old new
-  unfolding stored
   laid_down part old new se s sw laid is_se is_s is_sw made =
       subst (λ (r : List ℤ). AreLaid is_downward part (x + 1) old r) (sym (made ∙ rw (is_se, is_s, is_sw) refl))
-      (laid_with is_downward part old (with_down row x (stored (part SE)) (stored (part S)) (stored (part SW)))
-      laid (long_down _ _ _)
-      (λ d h short. down_told (λ i. stored (part i)) d h
-      ∙ same_value (number (part d) (x + 1)) (number (part d) (x + 1)) short refl)
-      (λ q h. down_elsewhere _ _ _ q (λ s. omega arith) (λ s. omega arith) (λ s. omega arith))
-      (λ k d h. down_elsewhere _ _ _ (k * 8 + dir_number d)
-      (not_downward k x 3 d h (omega arith) (omega arith)) (not_downward k x 4 d h (omega arith) (omega arith))
-      (not_downward k x 5 d h (omega arith) (omega arith))))
+      (laid_dirs is_downward part (SW ∷ S ∷ SE ∷ [])
+      (λ e. same_bool-is _ _
+      (at_dir (λ e. same_bool (is_downward e) (among (SW ∷ S ∷ SE ∷ []) e)) refl e)) old laid)
 
 -- where the entries of a cell stand
 earlier : (m n k s : ℕ) → m < n → k < 8 → s ≡ n * 8 → m * 8 + k < s

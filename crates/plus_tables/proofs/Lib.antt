@@ -1,4 +1,3 @@
-pub mod Lengths
 pub mod Following
 pub mod Placing
 pub mod Short

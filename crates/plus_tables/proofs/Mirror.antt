@@ -1,24 +1,22 @@
 -- A map that is turned upside down: moves, forced neighbours and entries are those of the directions turned so.
-use Rattle.std.proofs.Common.{◌≡◌, ℕ, ◌+◌, ◌-◌, ◌<◌, Bool, true, false, not, ◌&&◌, ◌||◌, List, length, refl, ap, sym, ◌∙◌, subst}
+use Rattle.std.proofs.Common.{◌≡◌, arith, ℕ, ◌+◌, ◌-◌, ◌<◌, Bool, true, not, ◌&&◌, ◌||◌, List, length, refl, ap, sym, ◌∙◌, subst}
 use Rattle.std.specs.Prelude.{ℤ}
 use Rattle.grid_moves.specs.declared.Corner.{Corner}
 use Rattle.grid_moves.specs.declared.Corner.TheVariants.{Never, One}
 use Rattle.grid_moves.specs.declared.Dir.{Dir}
 use Rattle.grid_moves.specs.declared.Dir.TheVariants.{N, NE, E, SE, S, SW, W, NW}
 use Rattle.grid_moves.specs.Grid.{GridData, IsGrid}
-use Rattle.grid_moves.specs.Move.{is_dir, is_passable, row_ahead}
+use Rattle.grid_moves.specs.Move.{is_dir, row_ahead}
 use Rattle.pruning.specs.declared.turns.Side.{Side}
 use Rattle.pruning.specs.declared.turns.Side.TheVariants.{Right, Left}
 use Rattle.pruning.specs.Turns.{turn, quarter, rear, is_diagonal}
 use Rattle.pruning.specs.Marked.{is_forced_on}
-use Rattle.pruning.proofs.Table.{at_both, at_dir, same_bool, same_bool-is, same_dir}
+use Rattle.pruning.specs.Ring.{is_free_on, is_shut, leads_on}
+use Rattle.pruning.proofs.Moves.{passable-turned}
+use Rattle.pruning.proofs.Table.{other, at_both, at_dir, same_bool, same_bool-is, same_dir}
 use Rattle.plus_tables.specs.Local.{tells_mark}
-use Rattle.plus_tables.specs.Rows.{flag, number, ring_of, open_in, can_by, forced_on, forced_by, place_after, told, legal_by, mark_by, IsRowAt, IsEntryRow, IsForcedRow, AreForced, AreShort, AreToldBelow, Heading, upwards, downwards, flipped, seen, AreRowsSeen}
+use Rattle.plus_tables.specs.Rows.{flag, number, ring_of, forced_on, forced_by, place_after, told, legal_by, mark_by, IsRowAt, IsEntryRow, IsForcedRow, AreForced, AreShort, AreToldBelow, Heading, upwards, downwards, flipped, seen, AreRowsSeen}
 use Rattle.plus_tables.proofs.Rowing.{forced_if, told_row}
-
-abbrev other : Side → Side
-other Right = Left
-other Left = Right
 
 turn_flipped : (s : Side) (d : Dir) → turn s (flipped d) ≡ flipped (turn (other s) d)
 turn_flipped s d =
@@ -44,20 +42,10 @@ place_flipped W x = refl
 place_flipped NW x = refl
 
 either_way : (a b : Bool) → (a || b) ≡ (b || a)
-either_way true true = refl
-either_way true false = refl
-either_way false true = refl
-either_way false false = refl
-
-both_ways : (r : Corner) (a b : Bool) → is_passable r a b ≡ is_passable r b a
-both_ways Never true true = refl
-both_ways Never true false = refl
-both_ways Never false true = refl
-both_ways Never false false = refl
-both_ways One a b = either_way a b
+either_way a b = grind arith
 
 module _ (r : Corner) (a h b : List Bool) (x : ℕ) where
-  open_flipped : (d : Dir) → open_in (ring_of b h a x) (flipped d) ≡ open_in (ring_of a h b x) d
+  open_flipped : (d : Dir) → is_free_on (ring_of b h a x) (flipped d) ≡ is_free_on (ring_of a h b x) d
   open_flipped N = refl
   open_flipped NE = refl
   open_flipped E = refl
@@ -68,16 +56,18 @@ module _ (r : Corner) (a h b : List Bool) (x : ℕ) where
   open_flipped NW = refl
 
   beside : (s : Side) (d : Dir)
-      → open_in (ring_of b h a x) (turn s (flipped d)) ≡ open_in (ring_of a h b x) (turn (other s) d)
-  beside s d = ap (λ (e : Dir). open_in (ring_of b h a x) e) (turn_flipped s d) ∙ open_flipped (turn (other s) d)
+      → is_free_on (ring_of b h a x) (turn s (flipped d)) ≡ is_free_on (ring_of a h b x) (turn (other s) d)
+  beside s d =
+      ap (λ (e : Dir). is_free_on (ring_of b h a x) e) (turn_flipped s d) ∙ open_flipped (turn (other s) d)
 
-  can_flipped : (d : Dir) → can_by r (ring_of b h a x) (flipped d) ≡ can_by r (ring_of a h b x) d
+  can_flipped : (d : Dir) → leads_on r (ring_of b h a x) (flipped d) ≡ leads_on r (ring_of a h b x) d
   can_flipped d = rw (
     diagonal_flipped d,
     open_flipped d,
     beside Left d,
     beside Right d,
-    both_ways r (open_in (ring_of a h b x) (turn Right d)) (open_in (ring_of a h b x) (turn Left d)),
+    passable-turned r (is_free_on (ring_of a h b x) (turn Right d))
+        (is_free_on (ring_of a h b x) (turn Left d)),
   ) refl
 
   legal_flipped : (d : Dir) → legal_by r a h b d x ≡ legal_by r b h a (flipped d) x
@@ -85,8 +75,8 @@ module _ (r : Corner) (a h b : List Bool) (x : ℕ) where
 
   forced_on_flipped : (d : Dir) (s : Side)
       → forced_on r (ring_of b h a x) (flipped d) s ≡ forced_on r (ring_of a h b x) d (other s)
-  forced_on_flipped d s = by_rule r (λ e. not (open_in (ring_of b h a x) e)) (λ e. can_by r (ring_of b h a x) e)
-      (λ e. not (open_in (ring_of a h b x) e)) (λ e. can_by r (ring_of a h b x) e)
+  forced_on_flipped d s = by_rule r (is_shut (ring_of b h a x)) (leads_on r (ring_of b h a x))
+      (is_shut (ring_of a h b x)) (leads_on r (ring_of a h b x))
       (λ e. ap not (open_flipped e)) can_flipped
     where
       by_rule : (r : Corner) (i p j q : Dir → Bool) → ((e : Dir) → i (flipped e) ≡ j e)

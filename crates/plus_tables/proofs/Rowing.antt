@@ -16,12 +16,13 @@ use Rattle.pruning.specs.Turns.{turn, quarter, rear, is_diagonal}
 use Rattle.pruning.specs.Allowed.{is_blocked, can_move}
 use Rattle.pruning.specs.Marked.{is_forced, is_forced_on}
 use Rattle.pruning.proofs.Table.{by_parity}
-use Rattle.pruning.proofs.Moves.{can_move-straight, can_move-diagonal}
+use Rattle.pruning.specs.Ring.{is_free_on, is_shut, leads_on}
+use Rattle.pruning.proofs.Ringing.{moves_on}
 use Rattle.pruning.proofs.Bridging.{legal_leads, leads_from, leads_legal, one_of}
 use Rattle.plus_tables.specs.Entry.{table_entry}
 use Rattle.plus_tables.specs.Local.{is_mark_by, entry_by_next}
 use Rattle.plus_tables.specs.Tables.{IsShort}
-use Rattle.plus_tables.specs.Rows.{flag, number, ring_of, open_in, can_by, forced_on, forced_by, place_after, told, legal_by, mark_by, is_along, IsFlagRow, IsForcedRow, IsEntryRow, IsRowAt, AreRowsAround, AreForced, AreShort, AreToldBelow, IsToldAlong}
+use Rattle.plus_tables.specs.Rows.{flag, number, ring_of, forced_on, forced_by, place_after, told, legal_by, mark_by, is_along, IsFlagRow, IsForcedRow, IsEntryRow, IsRowAt, AreRowsAround, AreForced, AreShort, AreToldBelow, IsToldAlong}
 use Rattle.plus_tables.proofs.Following.{entries_follow}
 use Rattle.plus_tables.proofs.Short.{table_entry-short}
 
@@ -70,7 +71,7 @@ module _ (g : GridData) (whole : IsGrid g) where
   module _ (y : ℕ) (above here below : List Bool) (around : AreRowsAround g y above here below) where
     -- the flags around a column are those of the cells around its cell
     ring_open : (x : ℕ) (d : Dir)
-        → open_in (ring_of above here below x) d ≡ is_open g (record { x = x; y = y }) d
+        → is_free_on (ring_of above here below x) d ≡ is_open g (record { x = x; y = y }) d
     unfolding there
     ring_open x N = flag_there around.upper _ above around.above_is around.upper_is x (x + 1) refl
     ring_open x NE = flag_there around.upper _ above around.above_is around.upper_is (x + 1) (x + 2)
@@ -85,19 +86,16 @@ module _ (g : GridData) (whole : IsGrid g) where
 
     -- so they tell which moves are legal
     ring_can : (x : ℕ) (d : Dir) → is_free g (record { x = x; y = y }) ≡ true
-        → can_by g.corner (ring_of above here below x) d ≡ can_move g (record { x = x; y = y }) d
-    ring_can x d f = by_parity d
-        (λ h. rw (h, ring_open x d, ring_open x (turn Left d), ring_open x (turn Right d))
-        (sym (can_move-diagonal g (record { x = x; y = y }) d f h)))
-        (λ h. rw (h, ring_open x d) (sym (can_move-straight g (record { x = x; y = y }) d f h)))
+        → leads_on g.corner (ring_of above here below x) d ≡ can_move g (record { x = x; y = y }) d
+    ring_can x d f = moves_on g (record { x = x; y = y }) f (ring_of above here below x) (ring_open x) d
 
     -- and where a neighbour is forced
     pub ring_forced_on : (x : ℕ) (d : Dir) (s : Side) → is_free g (record { x = x; y = y }) ≡ true
         → forced_on g.corner (ring_of above here below x) d s
         ≡ is_forced_on g.corner (is_blocked g (record { x = x; y = y }))
         (can_move g (record { x = x; y = y })) d s
-    ring_forced_on x d s f = same_on g.corner (λ e. not (open_in (ring_of above here below x) e))
-        (is_blocked g (record { x = x; y = y })) (λ e. can_by g.corner (ring_of above here below x) e)
+    ring_forced_on x d s f = same_on g.corner (is_shut (ring_of above here below x))
+        (is_blocked g (record { x = x; y = y })) (leads_on g.corner (ring_of above here below x))
         (can_move g (record { x = x; y = y })) (λ e. ap not (ring_open x e)) (λ e. ring_can x e f)
       where
         same_on : (r : Corner) (a b p q : Dir → Bool) → ((e : Dir) → a e ≡ b e) → ((e : Dir) → p e ≡ q e)
@@ -125,7 +123,8 @@ module _ (g : GridData) (whole : IsGrid g) where
         → legal_by corner above here below d v.x ≡ can_move g v d
     row_legal d corner rule v row =
         ap (λ (r : Corner). legal_by r above here below d v.x) rule
-        ∙ ap (λ (b : Bool). b && can_by g.corner (ring_of above here below v.x) d) (around.here_is.cells v.x)
+        ∙ ap (λ (b : Bool). b && leads_on g.corner (ring_of above here below v.x) d)
+        (around.here_is.cells v.x)
         ∙ by_test (is_free g (record { x = v.x; y = y })) refl
         ∙ ap (λ (n : ℕ). can_move g (record { x = v.x; y = n }) d) (sym row)
       where
@@ -137,7 +136,7 @@ module _ (g : GridData) (whole : IsGrid g) where
             let t = (legal_is g (record { x = v.x; y = y }) l.0 l.1.legal).source in cc)
 
         by_test : (b : Bool) → is_free g (record { x = v.x; y = y }) ≡ b
-            → (b && can_by g.corner (ring_of above here below v.x) d)
+            → (b && leads_on g.corner (ring_of above here below v.x) d)
             ≡ can_move g (record { x = v.x; y = y }) d
         by_test true f = ring_can v.x d f
         by_test false f = blocked f (can_move g (record { x = v.x; y = y }) d) refl
@@ -287,26 +286,54 @@ module _ (g : GridData) (whole : IsGrid g) (y m : ℕ) (d : Dir) (lies : IsRowAt
       left_at : is_diagonal d ≡ true → IsEntryRow g m (turn Left d) left
       left_at h = subst (λ (k : Dir). IsEntryRow g m k left) (parts h).1 left_is
 
--- the next cell along a row
-pub next_left : (g : GridData) (y k : ℕ) (w : Cell) → legal_ahead g (record { x = suc k; y = y }) W ≡ Some w
-    → record { x = k; y = y } ≡ w
-next_left g y k w e =
-    let l = legal_leads g (record { x = suc k; y = y }) w W e in
-    let parts = parts_of (Some k) (Some y) w l.ahead_is in
-    same_cell (record { x = k; y = y }) w (value_is k w.x parts.0) (value_is y w.y parts.1)
+-- along a row all columns have what each has where the next one has it
+pub along_each : (d : Dir) → is_along d ≡ true → (n : ℕ) (P : ℕ → Type 0)
+    → ((x : ℕ) → x < n → ((k : ℕ) → column_ahead d x ≡ Some k → k < n → P k) → P x)
+    → (x : ℕ) → x < n → P x
+along_each W along n P each = to_left
+  where
+    to_left : (x : ℕ) → x < n → P x
+    to_left zero within = each zero within (λ k e _. absurd (cc))
+    to_left (suc m) within =
+        each (suc m) within (λ k e _. subst P (value_is m k e) (to_left m (omega arith)))
+along_each E along n P each = λ x within. to_right (n - suc x) x (omega arith)
+  where
+    to_right : (m x : ℕ) → x + suc m ≡ n → P x
+    to_right zero x e = each x (omega arith)
+        (λ k next within. absurd (let there = value_is (x + 1) k next in omega arith))
+    to_right (suc m) x e =
+        each x (omega arith)
+        (λ k next _. subst P (value_is (x + 1) k next) (to_right m (x + 1) (omega arith)))
+along_each N along n P each = absurd (cc)
+along_each NE along n P each = absurd (cc)
+along_each SE along n P each = absurd (cc)
+along_each S along n P each = absurd (cc)
+along_each SW along n P each = absurd (cc)
+along_each NW along n P each = absurd (cc)
 
-pub next_right : (g : GridData) (y x : ℕ) (w : Cell) → legal_ahead g (record { x = x; y = y }) E ≡ Some w
-    → record { x = x + 1; y = y } ≡ w
-next_right g y x w e =
-    let l = legal_leads g (record { x = x; y = y }) w E e in
-    let parts = parts_of (Some (x + 1)) (Some y) w l.ahead_is in
-    same_cell (record { x = x + 1; y = y }) w (value_is (x + 1) w.x parts.0) (value_is y w.y parts.1)
-
-pub none_left : (g : GridData) (y : ℕ) (w : Cell) → legal_ahead g (record { x = zero; y = y }) W ≡ Some w → ⊥
-none_left g y w e =
-    let l = legal_leads g (record { x = zero; y = y }) w W e in
-    let parts = parts_of None (Some y) w l.ahead_is in
-    let none = parts.0 in cc
+-- the next cell along a row lies in the column ahead of the row
+pub next_along : (g : GridData) (d : Dir) → is_along d ≡ true → (x y : ℕ) (w : Cell)
+    → legal_ahead g (record { x = x; y = y }) d ≡ Some w
+    → (column_ahead d x ≡ Some w.x) × (w.x < g.width) × (record { x = w.x; y = y } ≡ w)
+next_along g d along x y w e =
+    let l = legal_leads g (record { x = x; y = y }) w d e in
+    let parts = parts_of (column_ahead d x) (row_ahead d y) w l.ahead_is in
+    let there = free_inside g w (legal_is g (record { x = x; y = y }) w l.legal).target in (
+      parts.0,
+      there.0,
+      same_cell (record { x = w.x; y = y }) w refl
+          (value_is y w.y (sym (same_row d along y) ∙ parts.1)),
+    )
+  where
+    same_row : (d : Dir) → is_along d ≡ true → (y : ℕ) → row_ahead d y ≡ Some y
+    same_row E along y = refl
+    same_row W along y = refl
+    same_row N along y = absurd (cc)
+    same_row NE along y = absurd (cc)
+    same_row SE along y = absurd (cc)
+    same_row S along y = absurd (cc)
+    same_row SW along y = absurd (cc)
+    same_row NW along y = absurd (cc)
 
 -- along a row, told from the end
 module _ (g : GridData) (whole : IsGrid g) (y : ℕ) (above here below forced : List Bool) (out : List ℤ)
@@ -337,72 +364,37 @@ module _ (g : GridData) (whole : IsGrid g) (y : ℕ) (above here below forced : 
           subst (λ (z : ℤ). IsShort z) (sym (next l.0 (leads_legal g v l.0 d l.1)))
           (table_entry-short g whole l.0 d)
 
-  same_row : (d : Dir) → ((n : ℕ) → row_ahead d n ≡ Some n) → (v w : Cell) → v.y ≡ y
-      → legal_ahead g v d ≡ Some w → w.y ≡ y
-  same_row d along v w row e =
-      value_is w.y y (sym (next_row g whole v d w e) ∙ along v.y ∙ ap (λ (n : ℕ). Some n) row)
-
-  module _ (d : Dir) (straight : is_diagonal d ≡ false) (along : (n : ℕ) → row_ahead d n ≡ Some n)
+  -- each column rests on the next
+  module _ (d : Dir) (is_along_it : is_along d ≡ true) (straight : is_diagonal d ≡ false)
       (forced_is : IsForcedRow g y d forced) (long : length out ≡ g.width + 2)
       (are_told : (x : ℕ) → x < length out - 2 → IsToldAlong here forced d out x)
       (same : (x : ℕ) → (flag here (x + 1) && flag here (place_after d x))
-      ≡ legal_by g.corner above here below d x)
-    where
-      at_column : (x : ℕ) → x < g.width → ((w : Cell) → legal_ahead g (record { x = x; y = y }) d ≡ Some w
-          → number out (place_after d x) ≡ table_entry g w d)
-          → number out (x + 1) ≡ table_entry g (record { x = x; y = y }) d
-      at_column x within next =
-          along_one d straight forced_is (record { x = x; y = y }) refl
-          (same x ∙ row_legal g whole y above here below around d g.corner refl (record { x = x; y = y })
-          refl)
-          (λ w e. same_row d along (record { x = x; y = y }) w refl e) next (are_told x (omega arith))
+      ≡ legal_by g.corner above here below d x) where
+    column : (x : ℕ) → x < g.width → number out (x + 1) ≡ table_entry g (record { x = x; y = y }) d
+    column = along_each d is_along_it g.width
+        (λ x. number out (x + 1) ≡ table_entry g (record { x = x; y = y }) d)
+        (λ x within next. along_one d straight forced_is (record { x = x; y = y }) refl
+        (same x ∙ row_legal g whole y above here below around d g.corner refl (record { x = x; y = y }) refl)
+        (λ w e. sym (ap (λ (v : Cell). v.y) (next_along g d is_along_it x y w e).2))
+        (λ w e. let n = next_along g d is_along_it x y w e in
+        ap (λ (k : ℕ). number out k) (place_is d x w.x n.0) ∙ next w.x n.0 n.1
+        ∙ ap (λ (v : Cell). table_entry g v d) n.2)
+        (are_told x (omega arith)))
 
-  whole_entries : (d : Dir)
-      → ((x : ℕ) → x < g.width → number out (x + 1) ≡ table_entry g (record { x = x; y = y }) d)
-      → IsEntryRow g y d out
-  whole_entries d columns v row inside =
-      let within : v.x < g.width = grind (arith, nat_tests) in
-      columns v.x within ∙ ap (λ (n : ℕ). table_entry g (record { x = v.x; y = n }) d) (sym row)
-
-  module _ (forced_is : IsForcedRow g y W forced) (long : length out ≡ g.width + 2)
-      (are_told : (x : ℕ) → x < length out - 2 → IsToldAlong here forced W out x) where
-    -- to the left each column rests on the one before
-    west_column : (x : ℕ) → x < g.width → number out (x + 1) ≡ table_entry g (record { x = x; y = y }) W
-    west_column zero within = at_column W refl (λ n. refl) forced_is long are_told (λ x. refl) zero within
-        (λ w e. absurd (none_left g y w e))
-    west_column (suc k) within = at_column W refl (λ n. refl) forced_is long are_told (λ x. refl) (suc k)
-        within
-        (λ w e. ap (λ (n : ℕ). number out n) (let m : suc k ≡ k + 1 = omega arith in m)
-        ∙ west_column k (omega arith) ∙ ap (λ (v : Cell). table_entry g v W) (next_left g y k w e))
-
-    west_row : IsEntryRow g y W out
-    west_row = whole_entries W west_column
-
-  module _ (forced_is : IsForcedRow g y E forced) (long : length out ≡ g.width + 2)
-      (are_told : (x : ℕ) → x < length out - 2 → IsToldAlong here forced E out x) where
-    -- and to the right on the one behind
-    east_column : (n x : ℕ) → x + suc n ≡ g.width
-        → number out (x + 1) ≡ table_entry g (record { x = x; y = y }) E
-    east_column zero x e = at_column E refl (λ n. refl) forced_is long are_told (λ x. refl) x (omega arith)
-        (λ w k. absurd (let l = legal_leads g (record { x = x; y = y }) w E k in
-        let there = free_inside g w (legal_is g (record { x = x; y = y }) w l.legal).target in
-        let column : x + 1 ≡ w.x = ap (λ (v : Cell). v.x) (next_right g y x w k) in omega (arith, there.0)))
-    east_column (suc n) x e = at_column E refl (λ n. refl) forced_is long are_told (λ x. refl) x (omega arith)
-        (λ w k. ap (λ (n : ℕ). number out n) (let m : x + 2 ≡ x + 1 + 1 = omega arith in m)
-        ∙ east_column n (x + 1) (omega arith) ∙ ap (λ (v : Cell). table_entry g v E) (next_right g y x w k))
-
-    east_row : IsEntryRow g y E out
-    east_row = whole_entries E (λ x within. east_column (g.width - suc x) x (omega arith))
+    entries : IsEntryRow g y d out
+    entries v row inside =
+        let within : v.x < g.width = grind (arith, nat_tests) in
+        column v.x within ∙ ap (λ (n : ℕ). table_entry g (record { x = v.x; y = n }) d) (sym row)
 
   pub along_row : (d : Dir) → is_along d ≡ true → IsForcedRow g y d forced → length out ≡ g.width + 2
       → ((x : ℕ) → x < length out - 2 → IsToldAlong here forced d out x) → IsEntryRow g y d out
   along_row N h forced_is long are = absurd (cc)
   along_row NE h forced_is long are = absurd (cc)
-  along_row E h forced_is long are = east_row forced_is long are
+  along_row E h forced_is long are = entries E refl refl forced_is long are (λ x. refl)
   along_row SE h forced_is long are = absurd (cc)
   along_row S h forced_is long are = absurd (cc)
   along_row SW h forced_is long are = absurd (cc)
-  along_row W h forced_is long are = west_row forced_is long are
+  along_row W h forced_is long are = entries W refl refl forced_is long are (λ x. refl)
   along_row NW h forced_is long are = absurd (cc)
 
 -- where a neighbour is forced in a row that may lie off the map

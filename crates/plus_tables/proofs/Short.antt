@@ -11,7 +11,7 @@ use Rattle.pruning.proofs.Runs.{run_short}
 use Rattle.pruning.proofs.Firsts.{HoldsAfter, first_on_run-finds}
 use Rattle.plus_tables.specs.Entry.{mark_or_run, table_entry}
 use Rattle.plus_tables.specs.Tables.{IsShort}
-use Rattle.plus_tables.proofs.Lengths.{run_length-few}
+use Rattle.pruning.proofs.Lengths.{run_length-few}
 
 -- a first mark lies on the run
 pub first_mark-few : (g : GridData) (x : Cell) (d : Dir) (k : ℕ) → first_mark g x d ≡ Some k

@@ -1,46 +1,112 @@
 -- The allowed directions that are told by tables.
-use Rattle.std.proofs.Common.{◌≡◌, arith, Bool, true, false, not, ◌&&◌, refl, ap, sym, ◌∙◌, subst}
+use Rattle.std.proofs.Common.{◌≡◌, arith, Bool, true, false, not, ◌&&◌, ◌||◌, refl, ap, sym, ◌∙◌}
 use Rattle.std.specs.Prelude.{ℤ, Some, filter}
 use Rattle.std.proofs.lemmas.List.Elements.{filter_agree}
 use Rattle.grid_moves.specs.declared.Cell.{Cell}
 use Rattle.grid_moves.specs.declared.Corner.{Corner}
+use Rattle.grid_moves.specs.declared.Corner.TheVariants.{Never, One}
 use Rattle.grid_moves.specs.declared.Dir.{Dir}
 use Rattle.grid_moves.specs.declared.Dir.TheVariants.{N, NE, E, SE, S, SW, W, NW}
 use Rattle.grid_moves.specs.Grid.{GridData, is_free}
-use Rattle.grid_moves.specs.Move.{all_dirs, is_open, legal_ahead, opposite}
+use Rattle.grid_moves.specs.Move.{all_dirs, is_dir, is_open, legal_ahead, opposite}
 use Rattle.grid_moves.proofs.Legal.{legal_is}
 use Rattle.pruning.specs.declared.Arrival.{Arrival}
 use Rattle.pruning.specs.declared.Arrival.TheVariants.{Start, By}
 use Rattle.pruning.specs.declared.turns.Side.{Side}
 use Rattle.pruning.specs.declared.turns.Side.TheVariants.{Right, Left}
-use Rattle.pruning.specs.Turns.{quarter, rear, is_diagonal}
-use Rattle.pruning.specs.Allowed.{is_blocked, can_move, is_kept, is_allowed, allowed_dirs}
+use Rattle.pruning.specs.Turns.{turn, quarter, rear, is_diagonal}
+use Rattle.pruning.specs.Allowed.{keeps_eighth, keeps_quarter, is_blocked, can_move, is_kept, is_allowed, allowed_dirs}
+use Rattle.pruning.specs.declared.ring.Ring.{Ring}
+use Rattle.pruning.specs.Ring.{ring_told, is_free_on, is_shut, leads_on, is_allowed_on}
 use Rattle.pruning.specs.Source.{CanArrive}
-use Rattle.pruning.proofs.Table.{straight_back, turn_parity, quarter_parity, by_parity}
+use Rattle.pruning.proofs.Table.{straight_back, turn_parity, quarter_parity, by_parity, by_test, at_dir, at_both, same_dir}
 use Rattle.pruning.proofs.Places.{Place, move}
-use Rattle.pruning.proofs.Moves.{can_move-straight}
+use Rattle.pruning.proofs.Moves.{can_move-straight, can_move-diagonal}
 use Rattle.pruning.proofs.Bridging.{place_of, free_place, open_there, leads_there, legal_leads}
-use Rattle.pruning.proofs.Replacing.{by_corner}
 use Rattle.pruning.proofs.Running.{AreMoved, run_walked}
 use Rattle.plus_tables.specs.Tables.{TablesData, AreTablesOf, entry_at, is_on}
-use Rattle.plus_tables.specs.Reading.{is_move, cell_after, is_wall, is_kept_by, fan, allowed_by}
+use Rattle.plus_tables.specs.Reading.{is_move, cell_after, asks_behind, free_past, free_told, allowed_by, IsBeforeOn}
 use Rattle.plus_tables.proofs.Clear.{is_move-is}
 use Rattle.plus_tables.proofs.Goals.{moved_to}
 use Rattle.plus_tables.proofs.Refreshing.{on_map}
 use Rattle.plus_tables.proofs.Told.{free_is_inside}
 
--- pruning keeps no direction but those of the fan
-fan-all : (corner : Corner) (right left : Bool) (legal : Dir → Bool) (d : Dir)
-    → filter (λ e. is_kept_by corner d right left e && legal e) all_dirs
-    ≡ filter (λ e. is_kept_by corner d right left e && legal e) (fan d)
-fan-all corner right left legal N = refl
-fan-all corner right left legal NE = refl
-fan-all corner right left legal E = refl
-fan-all corner right left legal SE = refl
-fan-all corner right left legal S = refl
-fan-all corner right left legal SW = refl
-fan-all corner right left legal W = refl
-fan-all corner right left legal NW = refl
+-- what is kept hangs on the walls that the rule asks for
+kept_alike : (r : Corner) (p q : Dir → Bool) (d : Dir)
+    → ((s : Side) → r ≡ Never → is_diagonal d ≡ false → p (rear s d) ≡ q (rear s d))
+    → ((s : Side) → is_diagonal d ≡ true → p (rear s d) ≡ q (rear s d))
+    → ((s : Side) → is_diagonal d ≡ false → p (quarter s d) ≡ q (quarter s d))
+    → (e : Dir) → is_kept r p (By d) e ≡ is_kept r q (By d) e
+kept_alike Never p q d never rears quarters e = by_parity d
+    (λ h. rw h refl)
+    (λ h. rw (h, never Right refl h, never Left refl h) refl)
+kept_alike One p q d never rears quarters e = by_parity d
+    (λ h. rw (h, rears Right h, rears Left h) refl)
+    (λ h. rw (h, quarters Right h, quarters Left h) refl)
+
+-- what a ring of tests has in a direction
+told_on : (free : Dir → Bool) (e : Dir) → is_free_on (ring_told free) e ≡ free e
+told_on free N = refl
+told_on free NE = refl
+told_on free E = refl
+told_on free SE = refl
+told_on free S = refl
+told_on free SW = refl
+told_on free W = refl
+told_on free NW = refl
+
+if_not : (b : Bool) → not b ≡ true → b ≡ false
+if_not b h = grind arith
+
+-- a direction that is none of these is not kept, and the two behind are none of them
+none_of : (a b c d e k l m n : Bool) → (a || b || c || d || e) ≡ false
+    → (a || ((b && k) || (c && l)) || ((d && m) || (e && n))) ≡ false
+none_of a b c d e k l m n h = grind arith
+
+rear_not_kept : (blocked : Dir → Bool) (s : Side) (d : Dir) → is_kept Never blocked (By d) (rear s d) ≡ false
+rear_not_kept blocked s d = none_of (is_dir (rear s d) d) (is_dir (rear s d) (turn Right d))
+    (is_dir (rear s d) (quarter Right d)) (is_dir (rear s d) (turn Left d))
+    (is_dir (rear s d) (quarter Left d))
+    (keeps_eighth Never blocked d Right) (keeps_quarter Never blocked d Right)
+    (keeps_eighth Never blocked d Left) (keeps_quarter Never blocked d Left)
+    (if_not _ (at_both (λ s d. not (is_dir (rear s d) d
+    || is_dir (rear s d) (turn Right d) || is_dir (rear s d) (quarter Right d)
+    || is_dir (rear s d) (turn Left d) || is_dir (rear s d) (quarter Left d))) refl s d))
+
+-- which cells count as free by the moves to them
+pub told_here : (r : Corner) (entry : Cell → Dir → ℤ) (at : Cell) (by : Arrival) (e : Dir)
+    → asks_behind r by ≡ false → free_told r entry at by e ≡ is_move (entry at e)
+told_here Never entry at Start e h = refl
+told_here Never entry at (By d) e h = by_parity d (λ k. rw k refl) (λ k. absurd (let i = rw k at h in cc))
+told_here One entry at by e h = refl
+
+pub told_past : (entry : Cell → Dir → ℤ) (at : Cell) (d e : Dir) → is_diagonal d ≡ false
+    → free_told Never entry at (By d) e ≡ free_past entry at d e
+told_past entry at d e h = rw h refl
+
+by_move : (r : Corner) (entry : Cell → Dir → ℤ) (at : Cell) (d e : Dir)
+    → ((s : Side) → r ≡ Never → is_diagonal d ≡ false → is_dir e (rear s d) ≡ false)
+    → free_told r entry at (By d) e ≡ is_move (entry at e)
+by_move Never entry at d e off =
+    by_parity d (λ h. rw h refl) (λ h. rw (h, off Right refl h, off Left refl h) refl)
+by_move One entry at d e off = refl
+
+-- a ring of which each cell was told by another test that agrees
+pub ring_told_by : (test free : Dir → Bool) → ((e : Dir) → test e ≡ free e) → (n ne e se s sw w nw : Bool)
+    → n ≡ test N → ne ≡ test NE → e ≡ test E → se ≡ test SE → s ≡ test S → sw ≡ test SW → w ≡ test W
+    → nw ≡ test NW
+    → (let r : Ring = record { n = n; ne = ne; e = e; se = se; s = s; sw = sw; w = w; nw = nw } in r)
+    ≡ ring_told free
+ring_told_by test free same n ne e se s sw w nw h i j k l m o p = rw (
+  h ∙ same N,
+  i ∙ same NE,
+  j ∙ same E,
+  k ∙ same SE,
+  l ∙ same S,
+  m ∙ same SW,
+  o ∙ same W,
+  p ∙ same NW,
+) refl
 
 -- the cell before
 back_moved : (d : Dir) (u v : Cell) → AreMoved d 1 u v → AreMoved (opposite d) 1 v u
@@ -70,10 +136,40 @@ module _ (t : TablesData) (g : GridData) (right : AreTablesOf t g) where
       → not (is_move (entry_at t c d)) ≡ is_blocked g c d
   blocked_told c d f h = ap (λ (b : Bool). not b) (legal_told c d f ∙ can_move-straight g c d f h)
 
-  pub started : (at : Cell) → is_free g at ≡ true
-      → filter (λ e. is_move (entry_at t at e)) all_dirs ≡ allowed_dirs g at Start
-  started at f =
-      filter_agree (λ e. is_move (entry_at t at e)) (is_allowed g at Start) (λ e. legal_told at e f) all_dirs
+  -- where they count as free by the moves to them, straight cells are told right
+  straight_open : (at : Cell) → is_free g at ≡ true → (free : Dir → Bool)
+      → ((e : Dir) → is_diagonal e ≡ false → free e ≡ can_move g at e) → (e : Dir) → is_diagonal e ≡ false
+      → is_free_on (ring_told free) e ≡ is_open g at e
+  straight_open at f free straight e p = told_on free e ∙ straight e p ∙ can_move-straight g at e f p
+
+  -- where cells count as free by the moves to them, but for those behind that are not kept, and walls are
+  -- told right, what is allowed is told right
+  module _ (at : Cell) (f : is_free g at ≡ true) (by : Arrival) (free : Dir → Bool)
+      (straight : (e : Dir) → is_diagonal e ≡ false → free e ≡ can_move g at e)
+      (moves : (e : Dir) → is_kept g.corner (is_blocked g at) by e ≡ true → free e ≡ can_move g at e)
+      (kept : (e : Dir) → is_kept g.corner (is_shut (ring_told free)) by e
+      ≡ is_kept g.corner (is_blocked g at) by e) where
+    beside : (s : Side) (e : Dir) → is_diagonal e ≡ true
+        → is_free_on (ring_told free) (turn s e) ≡ is_open g at (turn s e)
+    beside s e h = straight_open at f free straight (turn s e) (turn_parity s e ∙ ap not h)
+
+    leads_told : (e : Dir) → free e ≡ can_move g at e → leads_on g.corner (ring_told free) e ≡ can_move g at e
+    leads_told e k = by_parity e
+        (λ h. rw (h, told_on free e, k, beside Left e h, beside Right e h, can_move-diagonal g at e f h)
+        (twice (is_open g at e) _))
+        (λ h. rw (h, told_on free e, k) refl)
+      where
+        twice : (a b : Bool) → ((a && b) && b) ≡ (a && b)
+        twice a b = grind arith
+
+    each_told : (e : Dir) → is_allowed_on g.corner (ring_told free) by e ≡ is_allowed g at by e
+    each_told e = by_test (is_kept g.corner (is_blocked g at) by e)
+        (λ h. rw (kept e, h, leads_told e (moves e h)) refl)
+        (λ h. rw (kept e, h) refl)
+
+    all_told : filter (is_allowed_on g.corner (ring_told free) by) all_dirs ≡ allowed_dirs g at by
+    all_told =
+        filter_agree (is_allowed_on g.corner (ring_told free) by) (is_allowed g at by) each_told all_dirs
 
   module _ (u at : Cell) (d : Dir) (e : legal_ahead g u d ≡ Some at) where
     source : is_free g u ≡ true
@@ -100,60 +196,77 @@ module _ (t : TablesData) (g : GridData) (right : AreTablesOf t g) where
         ∙ blocked_told u (quarter s d) source (quarter_parity s d ∙ h)
         ∙ ap not (seen_behind s h)
 
-    kept_told : (to : Dir) → is_kept_by g.corner d (is_wall g.corner (entry_at t) at d Right)
-        (is_wall g.corner (entry_at t) at d Left) to ≡ is_kept g.corner (is_blocked g at) (By d) to
-    kept_told to = by_corner g.corner
-        (λ r. by_parity d
-        (λ h. rw (r, h) refl)
-        (λ h. rw (r, h, wall_behind Right h, wall_behind Left h) refl))
-        (λ r. by_parity d
-        (λ h. rw (
-          r,
-          h,
-          blocked_told at (rear Right d) target (rear_parity Right ∙ ap not h),
-          blocked_told at (rear Left d) target (rear_parity Left ∙ ap not h),
-        ) refl)
-        (λ h. rw (
-          r,
-          h,
-          blocked_told at (quarter Right d) target (quarter_parity Right d ∙ h),
-          blocked_told at (quarter Left d) target (quarter_parity Left d ∙ h),
-        ) refl))
+    abbrev free : Dir → Bool
+    free = free_told g.corner (entry_at t) at (By d)
 
-    abbrev told : Dir → Bool
-    told to = is_kept_by g.corner d (is_wall g.corner (entry_at t) at d Right)
-        (is_wall g.corner (entry_at t) at d Left) to && is_move (entry_at t at to)
-
-    allowed_told : (to : Dir) → told to ≡ is_allowed g at (By d) to
-    allowed_told to = both_same _ _ _ _ (kept_told to) (legal_told at to target)
+    straight : (to : Dir) → is_diagonal to ≡ false → free to ≡ can_move g at to
+    straight to p = by_move g.corner (entry_at t) at d to (λ s r h. not_behind s h) ∙ legal_told at to target
       where
-        both_same : (a b c d : Bool) → a ≡ b → c ≡ d → (a && c) ≡ (b && d)
-        both_same a b c d e f = rw (e, f) refl
+        not_behind : (s : Side) → is_diagonal d ≡ false → is_dir to (rear s d) ≡ false
+        not_behind s h = by_test (is_dir to (rear s d))
+            (λ b. absurd (let i = rear_parity s ∙ ap not h in
+            let j = ap is_diagonal (same_dir to (rear s d) b) in cc))
+            (λ b. b)
 
-    pub arrived : allowed_by t.corner (entry_at t) at d ≡ allowed_dirs g at (By d)
-    arrived = ap (λ (r : Corner). allowed_by r (entry_at t) at d) right.sized.corner
-        ∙ sym (fan-all g.corner (is_wall g.corner (entry_at t) at d Right)
-        (is_wall g.corner (entry_at t) at d Left) (λ to. is_move (entry_at t at to)) d)
-        ∙ filter_agree told (is_allowed g at (By d)) allowed_told all_dirs
+    moves : (to : Dir) → is_kept g.corner (is_blocked g at) (By d) to ≡ true → free to ≡ can_move g at to
+    moves to k = by_move g.corner (entry_at t) at d to (λ s r h. not_behind s r) ∙ legal_told at to target
+      where
+        not_behind : (s : Side) → g.corner ≡ Never → is_dir to (rear s d) ≡ false
+        not_behind s r = by_test (is_dir to (rear s d))
+            (λ b. absurd (let i = rear_not_kept (is_blocked g at) s d in
+            let j : is_kept Never (is_blocked g at) (By d) (rear s d) ≡ true =
+            ap (λ (c : Corner). is_kept c (is_blocked g at) (By d) (rear s d)) (sym r)
+            ∙ ap (λ (e : Dir). is_kept g.corner (is_blocked g at) (By d) e) (sym (same_dir to (rear s d) b))
+            ∙ k in cc))
+            (λ b. b)
+
+    behind_told : (s : Side) → g.corner ≡ Never → is_diagonal d ≡ false
+        → free (rear s d) ≡ is_move (entry_at t (cell_after (opposite d) 1 at) (quarter s d))
+    behind_told Right r h = rw (r, h, at_dir (λ d. is_dir (rear Right d) (rear Right d)) refl d) refl
+    behind_told Left r h = rw (
+      r,
+      h,
+      if_not _ (at_dir (λ d. not (is_dir (rear Left d) (rear Right d))) refl d),
+      at_dir (λ d. is_dir (rear Left d) (rear Left d)) refl d,
+    ) refl
+
+    kept : (to : Dir) → is_kept g.corner (is_shut (ring_told free)) (By d) to
+        ≡ is_kept g.corner (is_blocked g at) (By d) to
+    kept = kept_alike g.corner (is_shut (ring_told free)) (is_blocked g at) d
+        (λ s r h. ap not (told_on free (rear s d) ∙ behind_told s r h) ∙ wall_behind s h)
+        (λ s h. ap not (straight_open at target free straight (rear s d) (rear_parity s ∙ ap not h)))
+        (λ s h. ap not (straight_open at target free straight (quarter s d) (quarter_parity s d ∙ h)))
+
+    pub arrived : allowed_by g.corner (entry_at t) at (By d) ≡ allowed_dirs g at (By d)
+    arrived = all_told at target (By d) free straight moves kept
 
     -- the cell before lies on the map
     pub before_on : is_on t (cell_after (opposite d) 1 at) ≡ true
     before_on = ap (λ (c : Cell). is_on t c) (sym (cell_before g u at d e)) ∙ on_map t g u right.sized source
 
--- the same, by any arrival
-pub allowed_started : (t : TablesData) (g : GridData) → AreTablesOf t g → (at : Cell) (by : Arrival)
-    → is_free g at ≡ true → by ≡ Start → filter (λ e. is_move (entry_at t at e)) all_dirs ≡ allowed_dirs g at by
-allowed_started t g right at by f e =
-    started t g right at f ∙ ap (λ (b : Arrival). allowed_dirs g at b) (sym e)
+  started : (at : Cell) → is_free g at ≡ true
+      → allowed_by g.corner (entry_at t) at Start ≡ allowed_dirs g at Start
+  started at f = all_told at f Start (free_told g.corner (entry_at t) at Start) (λ e _. told e)
+      (λ e _. told e) (λ e. refl)
+    where
+      by_corner : (r : Corner) → asks_behind r Start ≡ false
+      by_corner Never = refl
+      by_corner One = refl
 
-pub allowed_arrived : (t : TablesData) (g : GridData) → AreTablesOf t g → (at : Cell) (by : Arrival) (d : Dir)
-    → CanArrive g at by → by ≡ By d → allowed_by t.corner (entry_at t) at d ≡ allowed_dirs g at by
-allowed_arrived t g right at by d can e =
-    let from : CanArrive g at (By d) = subst (λ (b : Arrival). CanArrive g at b) e can in
-    arrived t g right from.0 at d from.1 ∙ ap (λ (b : Arrival). allowed_dirs g at b) (sym e)
+      told : (e : Dir) → free_told g.corner (entry_at t) at Start e ≡ can_move g at e
+      told e = told_here g.corner (entry_at t) at Start e (by_corner g.corner) ∙ legal_told at e f
 
-pub before_on_map : (t : TablesData) (g : GridData) → AreTablesOf t g → (at : Cell) (by : Arrival) (d : Dir)
-    → CanArrive g at by → by ≡ By d → is_on t (cell_after (opposite d) 1 at) ≡ true
-before_on_map t g right at by d can e =
-    let from : CanArrive g at (By d) = subst (λ (b : Arrival). CanArrive g at b) e can in
-    before_on t g right from.0 at d from.1
+  -- by any arrival
+  pub allowed_by_tables : (at : Cell) (by : Arrival) → is_free g at ≡ true → CanArrive g at by
+      → allowed_by t.corner (entry_at t) at by ≡ allowed_dirs g at by
+  allowed_by_tables at by f can =
+      ap (λ (r : Corner). allowed_by r (entry_at t) at by) right.sized.corner ∙ under_rule by can
+    where
+      under_rule : (by : Arrival) → CanArrive g at by
+          → allowed_by g.corner (entry_at t) at by ≡ allowed_dirs g at by
+      under_rule Start can = started at f
+      under_rule (By d) can = arrived can.0 at d can.1
+
+  pub before_on_map : (at : Cell) (by : Arrival) → CanArrive g at by → IsBeforeOn t at by
+  before_on_map at Start can = tt
+  before_on_map at (By d) can = before_on can.0 at d can.1

@@ -31,15 +31,17 @@ downward_part line SW = line.ahead_west.items
 downward_part line W = []
 downward_part line NW = []
 
--- entries with those of cell x changed for the directions that lead up or along the row
+-- entries with one of cell x changed
+abbrev pub with_entry : List ℤ → ℕ → Dir → ℤ → List ℤ
+with_entry row x d entry = slice_set row (x * 8 + dir_number d) entry
+
+-- those for the directions that lead up or along the row, and those for the others
 abbrev pub with_up : List ℤ → ℕ → ℤ → ℤ → ℤ → ℤ → ℤ → List ℤ
 with_up row x n ne e w nw =
-    slice_set (slice_set (slice_set (slice_set (slice_set row (x * 8) n) (x * 8 + 1) ne) (x * 8 + 2) e)
-    (x * 8 + 6) w) (x * 8 + 7) nw
+    with_entry (with_entry (with_entry (with_entry (with_entry row x N n) x NE ne) x E e) x W w) x NW nw
 
--- and for those that lead down
 abbrev pub with_down : List ℤ → ℕ → ℤ → ℤ → ℤ → List ℤ
-with_down row x se s sw = slice_set (slice_set (slice_set row (x * 8 + 3) se) (x * 8 + 4) s) (x * 8 + 5) sw
+with_down row x se s sw = with_entry (with_entry (with_entry row x SE se) x S s) x SW sw
 
 -- in the first n cells of a row the entries for some directions are now those of the parts, if they are short; those for
 -- the other directions stay

@@ -1,14 +1,18 @@
 -- What jumps read off entries.
-use Rattle.std.specs.Prelude.{ℕ, zero, suc, ◌+◌, ◌-◌, ℤ, pos, negsuc, Bool, true, false, ◌&&◌, ◌||◌, not, nat_lt, nat_le, nat_eq, Option, Some, None, min, List, [], ◌∷◌, filter, if◌then◌else◌}
+use Rattle.std.specs.Prelude.{◌≡◌, ⊤, ℕ, zero, suc, ◌+◌, ◌-◌, ℤ, pos, negsuc, Bool, true, false, ◌&&◌, not, nat_lt, nat_le, nat_eq, Option, Some, None, min, List, filter, if◌then◌else◌}
 use Rattle.grid_moves.specs.declared.Cell.{Cell}
 use Rattle.grid_moves.specs.declared.Corner.{Corner}
 use Rattle.grid_moves.specs.declared.Corner.TheVariants.{Never, One}
 use Rattle.grid_moves.specs.declared.Dir.{Dir}
 use Rattle.grid_moves.specs.declared.Dir.TheVariants.{N, NE, E, SE, S, SW, W, NW}
-use Rattle.grid_moves.specs.Move.{is_dir, opposite}
-use Rattle.pruning.specs.declared.turns.Side.{Side}
+use Rattle.grid_moves.specs.Move.{is_dir, opposite, all_dirs}
+use Rattle.pruning.specs.declared.Arrival.{Arrival}
+use Rattle.pruning.specs.declared.Arrival.TheVariants.{Start, By}
 use Rattle.pruning.specs.declared.turns.Side.TheVariants.{Right, Left}
-use Rattle.pruning.specs.Turns.{turn, quarter, rear, is_diagonal}
+use Rattle.pruning.specs.Turns.{quarter, rear, is_diagonal}
+use Rattle.pruning.specs.Ring.{ring_told, is_allowed_on}
+use Rattle.plus_tables.specs.declared.turns.Seen.{Seen}
+use Rattle.plus_tables.specs.Tables.{TablesData, is_on}
 
 -- the mark that an entry tells of
 abbrev pub mark_of : ℤ → Option ℕ
@@ -126,41 +130,35 @@ abbrev pub stop_told : (Cell → Dir → ℤ) → Cell → Dir → Cell → Opti
 stop_told entry u d goal =
     if is_diagonal d then diagonal_by entry u d goal else stop_by (entry u d) (straight_to d u goal) true
 
--- which of the two sides a wall stands at, that makes a turn to it be kept
--- no corner is cut: after a straight move, behind, as the entry at the cell before tells; after a diagonal
--- nothing is asked. One may be: after a straight move, beside; after a diagonal, behind
-abbrev pub is_wall : Corner → (Cell → Dir → ℤ) → Cell → Dir → Side → Bool
-is_wall Never entry at d s =
-    if is_diagonal d then false else not (is_move (entry (cell_after (opposite d) 1 at) (quarter s d)))
-is_wall One entry at d s = not (is_move (entry at (if is_diagonal d then rear s d else quarter s d)))
+-- Which cells around count as free for the rule: those to which a move is legal, as entries tell. Where no
+-- corner is cut, the walls that count after a straight move stand behind: beside the cell before, whose
+-- entries tell.
+abbrev pub seen_past : Cell → Dir → Dir → Seen
+seen_past at d e =
+    if is_dir e (rear Right d) then record { from = cell_after (opposite d) 1 at; dir = quarter Right d }
+    else if is_dir e (rear Left d) then record { from = cell_after (opposite d) 1 at; dir = quarter Left d }
+    else record { from = at; dir = e }
 
--- a turn by a quarter is kept at all: where no corner is cut after a straight move, else after a diagonal
-abbrev pub turns_far : Corner → Dir → Bool
-turns_far Never d = not (is_diagonal d)
-turns_far One d = is_diagonal d
+abbrev pub free_past : (Cell → Dir → ℤ) → Cell → Dir → Dir → Bool
+free_past entry at d e = is_move (entry (seen_past at d e).from (seen_past at d e).dir)
 
--- e is a turn to that side that is kept
-abbrev pub is_kept_aside : Corner → Dir → Dir → Side → Bool → Bool
-is_kept_aside corner d e s wall = (is_dir e (turn s d) && (is_diagonal d || wall))
-    || (is_dir e (quarter s d) && (turns_far corner d && wall))
+abbrev pub free_told : Corner → (Cell → Dir → ℤ) → Cell → Arrival → Dir → Bool
+free_told Never entry at (By d) e = if is_diagonal d then is_move (entry at e) else free_past entry at d e
+free_told Never entry at Start e = is_move (entry at e)
+free_told One entry at by e = is_move (entry at e)
 
--- the directions that pruning keeps after d, told at which sides a wall stands
-abbrev pub is_kept_by : Corner → Dir → Bool → Bool → Dir → Bool
-is_kept_by corner d right left e =
-    is_dir e d || is_kept_aside corner d e Right right || is_kept_aside corner d e Left left
+-- no corner is cut, and the move was straight
+abbrev pub asks_behind : Corner → Arrival → Bool
+asks_behind Never (By d) = not (is_diagonal d)
+asks_behind Never Start = false
+asks_behind One by = false
 
--- d and the two directions to each side of it, in increasing order: all that pruning may keep
-abbrev pub fan : Dir → List Dir
-fan N = N ∷ NE ∷ E ∷ W ∷ NW ∷ []
-fan NE = N ∷ NE ∷ E ∷ SE ∷ NW ∷ []
-fan E = N ∷ NE ∷ E ∷ SE ∷ S ∷ []
-fan SE = NE ∷ E ∷ SE ∷ S ∷ SW ∷ []
-fan S = E ∷ SE ∷ S ∷ SW ∷ W ∷ []
-fan SW = SE ∷ S ∷ SW ∷ W ∷ NW ∷ []
-fan W = N ∷ S ∷ SW ∷ W ∷ NW ∷ []
-fan NW = N ∷ NE ∷ SW ∷ W ∷ NW ∷ []
+-- the allowed directions, by entries
+abbrev pub allowed_by : Corner → (Cell → Dir → ℤ) → Cell → Arrival → List Dir
+allowed_by corner entry at by =
+    filter (is_allowed_on corner (ring_told (free_told corner entry at by)) by) all_dirs
 
--- the allowed directions after a move in d, by entries
-abbrev pub allowed_by : Corner → (Cell → Dir → ℤ) → Cell → Dir → List Dir
-allowed_by corner entry at d = filter (λ e. is_kept_by corner d (is_wall corner entry at d Right)
-    (is_wall corner entry at d Left) e && is_move (entry at e)) (fan d)
+-- a cell from which a straight move leads here is on the map
+abbrev pub IsBeforeOn : TablesData → Cell → Arrival → Type 0
+IsBeforeOn t at Start = ⊤
+IsBeforeOn t at (By d) = is_on t (cell_after (opposite d) 1 at) ≡ true

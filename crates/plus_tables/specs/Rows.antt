@@ -1,17 +1,18 @@
 -- Rows of flags and of entries, as the sweeps keep them. What belongs to column x stands at x + 1: one more stands
 -- before the first column and one after the last.
-use Rattle.std.specs.Prelude.{◌≡◌, ℕ, ◌+◌, ◌-◌, ◌<◌, ◌≤◌, ℤ, pos, Bool, true, false, not, ◌&&◌, ◌||◌, Option, Some, None, List, length, slice_index_or, if◌then◌else◌}
+use Rattle.std.specs.Prelude.{◌≡◌, ℕ, ◌+◌, ◌-◌, ◌<◌, ◌≤◌, ℤ, pos, Bool, true, false, ◌&&◌, ◌||◌, Option, Some, None, List, length, slice_index_or, if◌then◌else◌}
 use Rattle.grid_moves.specs.declared.Cell.{Cell}
 use Rattle.grid_moves.specs.declared.Corner.{Corner}
 use Rattle.grid_moves.specs.declared.Dir.{Dir}
 use Rattle.grid_moves.specs.declared.Dir.TheVariants.{N, NE, E, SE, S, SW, W, NW}
 use Rattle.grid_moves.specs.Grid.{GridData, is_free, is_inside}
-use Rattle.grid_moves.specs.Move.{is_passable, row_ahead}
+use Rattle.grid_moves.specs.Move.{row_ahead}
 use Rattle.pruning.specs.declared.turns.Side.{Side}
 use Rattle.pruning.specs.declared.turns.Side.TheVariants.{Right, Left}
-use Rattle.pruning.specs.Turns.{turn, is_diagonal}
+use Rattle.pruning.specs.Turns.{is_diagonal}
 use Rattle.pruning.specs.Marked.{is_forced, is_forced_on}
-use Rattle.plus_tables.specs.declared.flags.Ring.{Ring}
+use Rattle.pruning.specs.declared.ring.Ring.{Ring}
+use Rattle.pruning.specs.Ring.{is_shut, leads_on}
 use Rattle.plus_tables.specs.Entry.{table_entry}
 use Rattle.plus_tables.specs.Local.{tells_mark, from_before}
 use Rattle.plus_tables.specs.Tables.{IsShort}
@@ -37,27 +38,9 @@ ring_of above here below x = record {
   nw = flag above x;
 }
 
--- the cell in this direction is free
-abbrev pub open_in : Ring → Dir → Bool
-open_in ring N = ring.n
-open_in ring NE = ring.ne
-open_in ring E = ring.e
-open_in ring SE = ring.se
-open_in ring S = ring.s
-open_in ring SW = ring.sw
-open_in ring W = ring.w
-open_in ring NW = ring.nw
-
--- a move from a free cell is legal, told the cells around it
-abbrev pub can_by : Corner → Ring → Dir → Bool
-can_by corner ring d =
-    if is_diagonal d then open_in ring d
-    && is_passable corner (open_in ring (turn Left d)) (open_in ring (turn Right d))
-    else open_in ring d
-
 -- a neighbour is forced at a free cell, told the cells around it
 abbrev pub forced_on : Corner → Ring → Dir → Side → Bool
-forced_on corner ring d s = is_forced_on corner (λ e. not (open_in ring e)) (λ e. can_by corner ring e) d s
+forced_on corner ring d s = is_forced_on corner (is_shut ring) (leads_on corner ring) d s
 
 abbrev pub forced_by : Corner → Ring → Dir → Bool
 forced_by corner ring d = forced_on corner ring d Right || forced_on corner ring d Left
@@ -79,7 +62,7 @@ told legal mark next = if legal then (if mark then pos 1 else from_before next) 
 
 -- the move from column x is legal
 abbrev pub legal_by : Corner → List Bool → List Bool → List Bool → Dir → ℕ → Bool
-legal_by corner above here below d x = flag here (x + 1) && can_by corner (ring_of above here below x) d
+legal_by corner above here below d x = flag here (x + 1) && leads_on corner (ring_of above here below x) d
 
 -- the cell at this place is marked: a neighbour is forced there, or an entry of a component tells of a mark
 abbrev pub mark_by : List Bool → List ℤ → List ℤ → Dir → ℕ → Bool

@@ -4,23 +4,11 @@
 //! a branch, and each direction and corner rule has code of its own, which the compiler turns into vector code.
 
 ghost use Rattle.std.specs.Prelude.{◌≡◌, ℕ, ◌+◌, ◌-◌, ◌<◌, ◌≤◌, false, true, length};
+ghost use Rattle.pruning.specs.Ring as rings;
 ghost use Rattle.plus_tables.specs.Rows as spec;
 
 use grid_moves::{Corner, Dir, Terrain, is_passable};
-use pruning::{Side, is_diagonal, quarter, rear, turn};
-
-/// Which cells around a cell are free.
-#[derive(Clone, Copy)]
-pub struct Ring {
-    pub n: bool,
-    pub ne: bool,
-    pub e: bool,
-    pub se: bool,
-    pub s: bool,
-    pub sw: bool,
-    pub w: bool,
-    pub nw: bool,
-}
+use pruning::{Ring, Side, is_diagonal, quarter, rear, turn};
 
 // The flags around a column.
 #[inline(always)]
@@ -42,28 +30,11 @@ pub fn ring_at(above: &[bool], here: &[bool], below: &[bool], x: usize) -> Ring
     }
 }
 
-// Whether the cell in this direction is free.
-#[inline(always)]
-fn is_open(ring: Ring, d: Dir) -> bool
-    ensures { result ≡ spec.open_in ring d }
-{
-    match d {
-        Dir::N => ring.n,
-        Dir::NE => ring.ne,
-        Dir::E => ring.e,
-        Dir::SE => ring.se,
-        Dir::S => ring.s,
-        Dir::SW => ring.sw,
-        Dir::W => ring.w,
-        Dir::NW => ring.nw,
-    }
-}
-
 /// Whether a move from a free cell is legal. Of the cells beside a diagonal move the one on the row comes first:
 /// in that order the compiler makes the shorter vector code of it.
 #[inline(always)]
 pub fn can_move(corner: Corner, ring: Ring, d: Dir) -> bool
-    ensures { result ≡ spec.can_by corner ring d }
+    ensures { result ≡ rings.leads_on corner ring d }
 {
     match d {
         Dir::N => ring.n,
@@ -85,9 +56,9 @@ fn is_forced_on(corner: Corner, ring: Ring, d: Dir, s: Side) -> bool
     match corner {
         Corner::Never if is_diagonal(d) => false,
         Corner::One if !is_diagonal(d) => {
-            !is_open(ring, quarter(s, d)) & can_move(corner, ring, turn(s, d))
+            !ring.is_free(quarter(s, d)) & can_move(corner, ring, turn(s, d))
         }
-        _ => !is_open(ring, rear(s, d)) & can_move(corner, ring, quarter(s, d)),
+        _ => !ring.is_free(rear(s, d)) & can_move(corner, ring, quarter(s, d)),
     }
 }
 

@@ -11,7 +11,7 @@ ghost use Rattle.plus_tables.specs.Sweep.{is_downward, is_upward};
 
 use crate::flags::{are_same, force, read_row};
 use crate::rows::{Ahead, Three, across, along};
-use grid_moves::{Dir, NoMemory, Terrain};
+use grid_moves::{Dir, NoMemory, Terrain, dir_number};
 use pruning::Side;
 use std::alloc::Global;
 use std::mem;
@@ -122,18 +122,27 @@ impl Line {
     }
 }
 
-// Changes the entries of cell `x` of a row for all directions that lead up or along it.
+// Changes one entry of cell `x` of a row.
+#[inline(always)]
+fn put(row: &mut [i16], x: usize, d: Dir, entry: i16)
+    requires { x * 8 + 7 < length row.old }
+    ensures is { row.new ≡ laid.with_entry row.old x d entry }
+    ensures long { length row.new ≡ length row.old }
+{
+    row[x * 8 + dir_number(d) as usize] = entry;
+}
+
+// Changes those for all directions that lead up or along the row.
 #[inline(always)]
 fn put_up(row: &mut [i16], x: usize, n: i16, ne: i16, e: i16, w: i16, nw: i16)
     requires { x * 8 + 7 < length row.old }
     ensures { row.new ≡ laid.with_up row.old x n ne e w nw }
 {
-    let cell = x * 8;
-    row[cell] = n;
-    row[cell + 1] = ne;
-    row[cell + 2] = e;
-    row[cell + 6] = w;
-    row[cell + 7] = nw;
+    put(row, x, Dir::N, n);
+    put(row, x, Dir::NE, ne);
+    put(row, x, Dir::E, e);
+    put(row, x, Dir::W, w);
+    put(row, x, Dir::NW, nw);
 }
 
 // Changes those for all directions that lead down.
@@ -142,10 +151,9 @@ fn put_down(row: &mut [i16], x: usize, se: i16, s: i16, sw: i16)
     requires { x * 8 + 7 < length row.old }
     ensures { row.new ≡ laid.with_down row.old x se s sw }
 {
-    let cell = x * 8;
-    row[cell + 3] = se;
-    row[cell + 4] = s;
-    row[cell + 5] = sw;
+    put(row, x, Dir::SE, se);
+    put(row, x, Dir::S, s);
+    put(row, x, Dir::SW, sw);
 }
 
 impl Band {

@@ -1,39 +1,28 @@
 //! The next cell of a run and whether it has a forced neighbour, read so that a direction which the compiler
 //! knows makes all else known.
 
-ghost use Rattle.std.specs.Prelude.{◌≡◌, ◌&&◌, false, true, Some};
+ghost use Rattle.std.specs.Prelude.{◌≡◌, false, true, Some};
 ghost use Rattle.grid_moves.specs.Grid.{IsGrid, is_free};
 ghost use Rattle.grid_moves.specs.Move.{legal_ahead};
 ghost use Rattle.pruning.specs.Turns as turns;
 ghost use Rattle.pruning.specs.Marked.{is_forced};
 
-use grid_moves::{Cell, Corner, Dir, Terrain, is_passable};
-use jump_plain::beside::{Sides, beyond, is_free_beyond, straight_ahead};
-use pruning::{Side, forced, is_diagonal, turn};
-
-// Whether a diagonal move is legal: it passes, and the cell that it leads to is free.
-#[inline(always)]
-fn leads_on<T: Terrain>(t: &T, passes: bool, to: Cell) -> bool
-    ensures { result ≡ (is_free (T.grid t.now) to && passes) }
-{
-    passes && t.free(to)
-}
+use grid_moves::{Cell, Corner, Dir, Terrain};
+use jump_plain::beside::{Sides, straight_ahead};
+use jump_plain::jump::{Components, diagonal_ahead};
+use pruning::{forced, is_diagonal};
 
 // The cell ahead, exactly where the diagonal move to it is legal.
 #[inline(always)]
-fn diagonal_ahead<T: Terrain>(t: &T, at: Cell, d: Dir) -> Option<Cell>
+fn next_aslant<T: Terrain>(t: &T, at: Cell, d: Dir) -> Option<Cell>
     requires diagonal { turns.is_diagonal d ≡ true }
     requires free { is_free (T.grid t.now) at ≡ true }
     requires whole { IsGrid (T.grid t.now) }
     ensures { result ≡ legal_ahead (T.grid t.now) at d }
 {
-    let right = is_free_beyond(t, at, turn(Side::Right, d));
-    let left = is_free_beyond(t, at, turn(Side::Left, d));
-    let cell = beyond(at, d);
-    if leads_on(t, is_passable(t.corner(), left, right), cell) {
-        Some(cell)
-    } else {
-        None
+    match diagonal_ahead(t, at, d, Components::of(t, at, d)) {
+        Some(next) => Some(next.cell),
+        None => None,
     }
 }
 
@@ -46,7 +35,7 @@ pub fn next<T: Terrain>(t: &T, at: Cell, d: Dir) -> Option<Cell>
     if !t.free(at) {
         None
     } else if is_diagonal(d) {
-        diagonal_ahead(t, at, d)
+        next_aslant(t, at, d)
     } else {
         straight_ahead(t, at, d)
     }

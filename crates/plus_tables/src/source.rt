@@ -5,10 +5,9 @@ ghost use Rattle.plus_tables.specs.Tables.{AreTablesOf};
 
 use crate::jumps::stop_told;
 use crate::tables::Tables;
-use crate::turns::{allowed_told, legal_of};
-use arrayvec::ArrayVec;
-use grid_moves::{ALL_DIRS, Cell, Dir};
-use pruning::{Arrival, JumpSource};
+use crate::turns::allowed_told;
+use grid_moves::{Cell, Dir};
+use pruning::{Arrival, JumpSource, Packed};
 use std::sync::ledger::Ledger;
 use steps::Steps;
 
@@ -37,10 +36,7 @@ impl<'a> JumpSource for PlusJumps<'a> {
         stop_told(self.tables, at, d, goal, steps)
     }
 
-    fn allowed<L: Ledger>(&self, at: Cell, by: Arrival, steps: &mut Steps<L>) -> ArrayVec<Dir, 8> {
-        match by {
-            Arrival::Start => legal_of(self.tables, at, &ALL_DIRS, steps),
-            Arrival::By(d) => allowed_told(self.tables, at, d, steps),
-        }
+    fn allowed_word<L: Ledger>(&self, at: Cell, by: Arrival, steps: &mut Steps<L>) -> Packed {
+        allowed_told(self.tables, at, by, steps)
     }
 }

@@ -4,225 +4,180 @@
 //! cells beside it are blocked, as a straight move is legal where its end is free. Where no corner is cut, the
 //! walls that count after a straight move stand behind the cell: the entries at the cell before tell them.
 
-ghost use Rattle.std.specs.Prelude.{◌≡◌, ◌+◌, ◌<◌, ◌≤◌, ◌&&◌, ◌||◌, true, false, filter, length};
+ghost use Rattle.std.specs.Prelude.{◌≡◌, ◌+◌, ◌<◌, Bool, false, true};
 ghost use Rattle.grid_moves.specs.Grid.{AreSides};
 ghost use Rattle.grid_moves.specs.Move as moves;
-ghost use Rattle.pruning.specs.Turns as turns;
+ghost use Rattle.pruning.specs.Turns.{is_diagonal};
 ghost use Rattle.plus_tables.specs.Reading as spec;
 ghost use Rattle.plus_tables.specs.Tables.{entry_at, is_on};
 
 use crate::jumps::cell_after;
 use crate::tables::Tables;
-use arrayvec::ArrayVec;
-use grid_moves::{Cell, Corner, Dir, dir_number, opposite};
-use pruning::{Side, is_diagonal, quarter, rear, turn};
+use grid_moves::{Cell, Corner, Dir, opposite};
+use pruning::{Arrival, Packed, Ring, Side, allowed_on, is_dir, quarter, rear};
 use std::sync::ledger::Ledger;
 use steps::Steps;
 
-// Whether an entry tells of a legal move.
-#[inline(always)]
-fn is_move(entry: i16) -> bool
-    ensures is { result ≡ spec.is_move entry }
-{
-    entry != 0
-}
-
-// Whether a move is legal. One step.
+// Whether a move is legal, which an entry other than 0 tells. One step.
 #[inline(always)]
 fn can_move<L: Ledger>(tables: &Tables, at: Cell, d: Dir, steps: &mut Steps<L>) -> bool
     requires at { is_on tables.now at ≡ true }
     ensures is { result ≡ spec.is_move (entry_at tables.now at d) }
     ensures step { steps.new ≡ steps.old + 1 }
 {
-    is_move(tables.entry(at, d, steps))
+    tables.entry(at, d, steps) != 0
 }
 
-// Whether the directions are one.
-#[inline(always)]
-fn is_dir(d: Dir, e: Dir) -> bool
-    ensures is { result ≡ moves.is_dir d e }
-{
-    dir_number(d) == dir_number(e)
-}
-
-/// At which sides a wall stands that makes a turn be kept.
+/// A cell and a direction from it, whose entry tells whether the cell there is free.
 #[derive(Clone, Copy)]
-pub struct Walls {
-    pub right: bool,
-    pub left: bool,
+pub struct Seen {
+    pub from: Cell,
+    pub dir: Dir,
 }
 
-// Whether a wall stands at this side. At most one step.
+// From where the cell in direction `e` is seen after a straight move where no corner is cut: two cells lie
+// behind, each beside the cell before.
 #[inline(always)]
-fn is_wall<L: Ledger>(tables: &Tables, at: Cell, d: Dir, side: Side, steps: &mut Steps<L>) -> bool
+fn seen_past(at: Cell, d: Dir, e: Dir) -> Seen
+    requires column { spec.column_after (moves.opposite d) 1 at.x < 65536 }
+    requires row { spec.row_after (moves.opposite d) 1 at.y < 65536 }
+    ensures is { result ≡ spec.seen_past at d e }
+    ensures on { (on : Cell → Bool) → on at ≡ true → on (spec.cell_after (moves.opposite d) 1 at) ≡ true
+        → on result.from ≡ true }
+{
+    let before = cell_after(opposite(d), 1, at);
+    if is_dir(e, rear(Side::Right, d)) {
+        Seen {
+            from: before,
+            dir: quarter(Side::Right, d),
+        }
+    } else if is_dir(e, rear(Side::Left, d)) {
+        Seen {
+            from: before,
+            dir: quarter(Side::Left, d),
+        }
+    } else {
+        Seen { from: at, dir: e }
+    }
+}
+
+// Whether the cell in direction `e` is free, as far as the rule asks then. One step.
+#[inline(always)]
+fn is_free_past<L: Ledger>(tables: &Tables, at: Cell, d: Dir, e: Dir, steps: &mut Steps<L>) -> bool
     requires at { is_on tables.now at ≡ true }
-    requires before { turns.is_diagonal d ≡ false
-        → is_on tables.now (spec.cell_after (moves.opposite d) 1 at) ≡ true }
+    requires before { is_on tables.now (spec.cell_after (moves.opposite d) 1 at) ≡ true }
     requires sides { AreSides tables.now.width tables.now.height }
-    ensures is { result ≡ spec.is_wall tables.now.corner (entry_at tables.now) at d side }
-    ensures most { steps.new ≤ steps.old + 1 }
-    ensures fewest { steps.old ≤ steps.new }
+    ensures is { result ≡ spec.free_past (entry_at tables.now) at d e }
+    ensures step { steps.new ≡ steps.old + 1 }
+{
+    let seen = seen_past(at, d, e);
+    can_move(tables, seen.from, seen.dir, steps)
+}
+
+// The allowed directions after a straight move where no corner is cut, in increasing order. Eight steps.
+#[inline(always)]
+fn allowed_past<L: Ledger>(tables: &Tables, at: Cell, d: Dir, steps: &mut Steps<L>) -> Packed
+    requires straight { is_diagonal d ≡ false }
+    requires at { is_on tables.now at ≡ true }
+    requires before { is_on tables.now (spec.cell_after (moves.opposite d) 1 at) ≡ true }
+    requires sides { AreSides tables.now.width tables.now.height }
+    ensures is { result ≡ spec.allowed_by Corner.Never (entry_at tables.now) at (Arrival.By d) }
+    ensures steps { steps.new ≡ steps.old + 8 }
+{
+    let ring = Ring {
+        n: is_free_past(tables, at, d, Dir::N, steps),
+        ne: is_free_past(tables, at, d, Dir::NE, steps),
+        e: is_free_past(tables, at, d, Dir::E, steps),
+        se: is_free_past(tables, at, d, Dir::SE, steps),
+        s: is_free_past(tables, at, d, Dir::S, steps),
+        sw: is_free_past(tables, at, d, Dir::SW, steps),
+        w: is_free_past(tables, at, d, Dir::W, steps),
+        nw: is_free_past(tables, at, d, Dir::NW, steps),
+    };
+    allowed_on(Corner::Never, ring, Arrival::By(d))
+}
+
+// The allowed directions otherwise, in increasing order: each cell counts as free where the move to it is
+// legal. Eight steps.
+#[inline(always)]
+fn allowed_here<L: Ledger>(
+    corner: Corner,
+    tables: &Tables,
+    at: Cell,
+    by: Arrival,
+    steps: &mut Steps<L>,
+) -> Packed
+    requires at { is_on tables.now at ≡ true }
+    requires here { spec.asks_behind corner by ≡ false }
+    ensures is { result ≡ spec.allowed_by corner (entry_at tables.now) at by }
+    ensures steps { steps.new ≡ steps.old + 8 }
+{
+    let ring = Ring {
+        n: can_move(tables, at, Dir::N, steps),
+        ne: can_move(tables, at, Dir::NE, steps),
+        e: can_move(tables, at, Dir::E, steps),
+        se: can_move(tables, at, Dir::SE, steps),
+        s: can_move(tables, at, Dir::S, steps),
+        sw: can_move(tables, at, Dir::SW, steps),
+        w: can_move(tables, at, Dir::W, steps),
+        nw: can_move(tables, at, Dir::NW, steps),
+    };
+    allowed_on(corner, ring, by)
+}
+
+// The same under the rule of the tables, after a straight move.
+#[inline(always)]
+fn allowed_ahead<L: Ledger>(tables: &Tables, at: Cell, d: Dir, steps: &mut Steps<L>) -> Packed
+    requires straight { is_diagonal d ≡ false }
+    requires at { is_on tables.now at ≡ true }
+    requires before { is_on tables.now (spec.cell_after (moves.opposite d) 1 at) ≡ true }
+    requires sides { AreSides tables.now.width tables.now.height }
+    ensures is { result ≡ spec.allowed_by tables.now.corner (entry_at tables.now) at (Arrival.By d) }
+    ensures steps { steps.new ≡ steps.old + 8 }
 {
     match tables.corner() {
-        Corner::Never if is_diagonal(d) => false,
-        Corner::Never => {
-            !can_move(
-                tables,
-                cell_after(opposite(d), 1, at),
-                quarter(side, d),
-                steps,
-            )
-        }
-        Corner::One if is_diagonal(d) => !can_move(tables, at, rear(side, d), steps),
-        Corner::One => !can_move(tables, at, quarter(side, d), steps),
+        Corner::Never => allowed_past(tables, at, d, steps),
+        Corner::One => allowed_here(Corner::One, tables, at, Arrival::By(d), steps),
     }
 }
 
-// Whether a turn by a quarter is kept at all.
+// And at the start or after a diagonal move.
 #[inline(always)]
-fn turns_far(corner: Corner, d: Dir) -> bool
-    ensures is { result ≡ spec.turns_far corner d }
-{
-    match corner {
-        Corner::Never => !is_diagonal(d),
-        Corner::One => is_diagonal(d),
-    }
-}
-
-// Whether a direction is a turn to this side that is kept.
-#[inline(always)]
-fn is_kept_aside(corner: Corner, d: Dir, to: Dir, side: Side, wall: bool) -> bool
-    ensures is { result ≡ spec.is_kept_aside corner d to side wall }
-{
-    (is_dir(to, turn(side, d)) && (is_diagonal(d) || wall))
-        || (is_dir(to, quarter(side, d)) && (turns_far(corner, d) && wall))
-}
-
-// Whether pruning keeps a direction.
-#[inline(always)]
-fn is_kept(corner: Corner, d: Dir, walls: Walls, to: Dir) -> bool
-    ensures is { result ≡ spec.is_kept_by corner d walls.right walls.left to }
-{
-    is_dir(to, d)
-        || is_kept_aside(corner, d, to, Side::Right, walls.right)
-        || is_kept_aside(corner, d, to, Side::Left, walls.left)
-}
-
-// The direction and the two to each side of it, in increasing order.
-#[inline(always)]
-fn fan(d: Dir) -> [Dir; 5]
-    ensures is { result ≡ spec.fan d }
-{
-    match d {
-        Dir::N => [Dir::N, Dir::NE, Dir::E, Dir::W, Dir::NW],
-        Dir::NE => [Dir::N, Dir::NE, Dir::E, Dir::SE, Dir::NW],
-        Dir::E => [Dir::N, Dir::NE, Dir::E, Dir::SE, Dir::S],
-        Dir::SE => [Dir::NE, Dir::E, Dir::SE, Dir::S, Dir::SW],
-        Dir::S => [Dir::E, Dir::SE, Dir::S, Dir::SW, Dir::W],
-        Dir::SW => [Dir::SE, Dir::S, Dir::SW, Dir::W, Dir::NW],
-        Dir::W => [Dir::N, Dir::S, Dir::SW, Dir::W, Dir::NW],
-        Dir::NW => [Dir::N, Dir::NE, Dir::SW, Dir::W, Dir::NW],
-    }
-}
-
-/// Those of these directions in which a move is legal, in order. As many steps as directions.
-#[inline(always)]
-pub fn legal_of<L: Ledger>(
-    tables: &Tables,
-    at: Cell,
-    dirs: &[Dir],
-    steps: &mut Steps<L>,
-) -> ArrayVec<Dir, 8>
+fn allowed_around<L: Ledger>(tables: &Tables, at: Cell, by: Arrival, steps: &mut Steps<L>) -> Packed
     requires at { is_on tables.now at ≡ true }
-    requires few { length dirs.now ≤ 8 }
-    ensures is { result.items ≡ filter (λ e. spec.is_move (entry_at tables.now at e)) dirs.now }
-    ensures steps { steps.new ≡ steps.old + length dirs.now }
+    requires here { spec.asks_behind Corner.Never by ≡ false }
+    ensures is { result ≡ spec.allowed_by tables.now.corner (entry_at tables.now) at by }
+    ensures steps { steps.new ≡ steps.old + 8 }
 {
-    let mut found = ArrayVec::new();
-    for d in dirs {
-        if can_move(tables, at, *d, steps) {
-            found.push(*d);
-        }
+    match tables.corner() {
+        Corner::Never => allowed_here(Corner::Never, tables, at, by, steps),
+        Corner::One => allowed_here(Corner::One, tables, at, by, steps),
     }
-    found
 }
 
-// Those of these directions that pruning keeps and in which a move is legal, in order. As many steps as directions.
-#[inline(always)]
-fn kept_of<L: Ledger>(
-    tables: &Tables,
-    at: Cell,
-    d: Dir,
-    walls: Walls,
-    dirs: &[Dir],
-    steps: &mut Steps<L>,
-) -> ArrayVec<Dir, 8>
-    requires at { is_on tables.now at ≡ true }
-    requires few { length dirs.now ≤ 8 }
-    ensures is { result.items ≡ filter
-        (λ e. spec.is_kept_by tables.now.corner d walls.right walls.left e
-        && spec.is_move (entry_at tables.now at e)) dirs.now }
-    ensures steps { steps.new ≡ steps.old + length dirs.now }
-{
-    let corner = tables.corner();
-    let mut found = ArrayVec::new();
-    for e in dirs {
-        let legal = can_move(tables, at, *e, steps);
-        if is_kept(corner, d, walls, *e) && legal {
-            found.push(*e);
-        }
-    }
-    found
-}
-
-// The allowed directions after a move, in increasing order. At most 7 steps.
-#[inline(always)]
-fn allowed_after<L: Ledger>(
-    tables: &Tables,
-    at: Cell,
-    d: Dir,
-    steps: &mut Steps<L>,
-) -> ArrayVec<Dir, 8>
-    requires at { is_on tables.now at ≡ true }
-    requires before { turns.is_diagonal d ≡ false
-        → is_on tables.now (spec.cell_after (moves.opposite d) 1 at) ≡ true }
-    requires sides { AreSides tables.now.width tables.now.height }
-    ensures is { result.items ≡ spec.allowed_by tables.now.corner (entry_at tables.now) at d }
-    ensures most { steps.new ≤ steps.old + 7 }
-    ensures fewest { steps.old + 1 ≤ steps.new }
-{
-    let walls = Walls {
-        right: is_wall(tables, at, d, Side::Right, steps),
-        left: is_wall(tables, at, d, Side::Left, steps),
-    };
-    let dirs = fan(d);
-    kept_of(tables, at, d, walls, &dirs, steps)
-}
-
-/// The allowed directions after a move, in increasing order. At most 7 steps. Each direction has code of its own, in
-/// which it is a constant.
+/// The allowed directions, in increasing order. Eight steps. Each arrival has code of its own, in which it is
+/// a constant; reading what is not asked behind apart from what is keeps it small enough to be inlined.
 pub fn allowed_told<L: Ledger>(
     tables: &Tables,
     at: Cell,
-    d: Dir,
+    by: Arrival,
     steps: &mut Steps<L>,
-) -> ArrayVec<Dir, 8>
+) -> Packed
     requires at { is_on tables.now at ≡ true }
-    requires before { turns.is_diagonal d ≡ false
-        → is_on tables.now (spec.cell_after (moves.opposite d) 1 at) ≡ true }
+    requires before { spec.IsBeforeOn tables.now at by }
     requires sides { AreSides tables.now.width tables.now.height }
-    ensures is { result.items ≡ spec.allowed_by tables.now.corner (entry_at tables.now) at d }
-    ensures most { steps.new ≤ steps.old + 7 }
-    ensures fewest { steps.old + 1 ≤ steps.new }
+    ensures is { result ≡ spec.allowed_by tables.now.corner (entry_at tables.now) at by }
+    ensures steps { steps.new ≡ steps.old + 8 }
 {
-    match d {
-        Dir::N => allowed_after(tables, at, Dir::N, steps),
-        Dir::NE => allowed_after(tables, at, Dir::NE, steps),
-        Dir::E => allowed_after(tables, at, Dir::E, steps),
-        Dir::SE => allowed_after(tables, at, Dir::SE, steps),
-        Dir::S => allowed_after(tables, at, Dir::S, steps),
-        Dir::SW => allowed_after(tables, at, Dir::SW, steps),
-        Dir::W => allowed_after(tables, at, Dir::W, steps),
-        Dir::NW => allowed_after(tables, at, Dir::NW, steps),
+    match by {
+        Arrival::Start => allowed_around(tables, at, Arrival::Start, steps),
+        Arrival::By(Dir::N) => allowed_ahead(tables, at, Dir::N, steps),
+        Arrival::By(Dir::NE) => allowed_around(tables, at, Arrival::By(Dir::NE), steps),
+        Arrival::By(Dir::E) => allowed_ahead(tables, at, Dir::E, steps),
+        Arrival::By(Dir::SE) => allowed_around(tables, at, Arrival::By(Dir::SE), steps),
+        Arrival::By(Dir::S) => allowed_ahead(tables, at, Dir::S, steps),
+        Arrival::By(Dir::SW) => allowed_around(tables, at, Arrival::By(Dir::SW), steps),
+        Arrival::By(Dir::W) => allowed_ahead(tables, at, Dir::W, steps),
+        Arrival::By(Dir::NW) => allowed_around(tables, at, Arrival::By(Dir::NW), steps),
     }
 }

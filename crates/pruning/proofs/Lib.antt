@@ -11,6 +11,7 @@ pub mod Smallest
 pub mod Law
 pub mod Explaining
 pub mod Runs
+pub mod Lengths
 pub mod Firsts
 pub mod Stopping
 pub mod Chaining

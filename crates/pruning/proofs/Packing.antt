@@ -1,5 +1,5 @@
 -- Words of directions put together and taken apart.
-use Rattle.std.proofs.Common.{◌≡◌, ℕ, zero, suc, ◌+◌, ◌-◌, ◌*◌, ◌/◌, ◌%◌, ◌^◌, ◌<◌, ◌≤◌, List, [], ◌∷◌, Bool, true, false, nat_eq, length, drop, get_or, length-drop, arith, refl, sym, ap, ◌∙◌}
+use Rattle.std.proofs.Common.{◌≡◌, ℕ, zero, suc, ◌+◌, ◌-◌, ◌*◌, ◌/◌, ◌%◌, ◌^◌, ◌<◌, ◌≤◌, List, [], ◌∷◌, Bool, true, false, nat_eq, length, get_or, arith, refl, sym, ap, ◌∙◌}
 use Rattle.std.specs.Prelude.{filter}
 use Rattle.std.proofs.lemmas.Bool.Decides.{nat_tests}
 use Rattle.std.proofs.lemmas.List.Sums.{length-filter, count_by-le-length}
@@ -121,11 +121,6 @@ few_room (_ ∷ _ ∷ _ ∷ _ ∷ _ ∷ _ ∷ _ ∷ _ ∷ ds) h = absurd (omega 
 -- the word of fewer than eight directions leaves room for one more
 pub has_place : (ds : List Dir) → length ds ≤ 7 → word_of ds < 2 ^ 28
 has_place ds h = let n = below_room ds in let m = few_room ds h in omega (arith, n, m)
-
--- fewer than eight are there before the last of them is put
-pub few_last : (dirs : List Dir) (i : ℕ) → length dirs ≤ 8 → i < length dirs
-    → length (drop (length dirs - i) dirs) < 8
-few_last dirs i few h = let n = length-drop (length dirs - i) dirs in omega (arith, n, few, h)
 
 -- a test keeps no more than there are
 pub few_kept : (p : Dir → Bool) (ds : List Dir) → length (filter p ds) ≤ length ds

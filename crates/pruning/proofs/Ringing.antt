@@ -31,7 +31,7 @@ same_kept One p q h (By d) e =
 
 module _ (g : GridData) (x : Cell) (free : is_free g x ≡ true) (ring : Ring)
     (read : (d : Dir) → is_free_on ring d ≡ is_open g x d) where
-  moves_on : (d : Dir) → leads_on g.corner ring d ≡ can_move g x d
+  pub moves_on : (d : Dir) → leads_on g.corner ring d ≡ can_move g x d
   moves_on d = by_kind (is_diagonal d) refl
     where
       by_kind : (b : Bool) → is_diagonal d ≡ b → leads_on g.corner ring d ≡ can_move g x d

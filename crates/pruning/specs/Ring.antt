@@ -27,6 +27,19 @@ is_free_on ring SW = ring.sw
 is_free_on ring W = ring.w
 is_free_on ring NW = ring.nw
 
+-- what is told of each direction
+abbrev pub ring_told : (Dir → Bool) → Ring
+ring_told free = record {
+  n = free N;
+  ne = free NE;
+  e = free E;
+  se = free SE;
+  s = free S;
+  sw = free SW;
+  w = free W;
+  nw = free NW;
+}
+
 abbrev pub is_shut : Ring → Dir → Bool
 is_shut ring d = not (is_free_on ring d)
 

@@ -16,7 +16,8 @@ mod turns;
 
 use grid_moves::Dir;
 pub use packed::{Packed, Split};
-pub use rule::{allowed, allowed_word, forced};
+pub use ring::Ring;
+pub use rule::{allowed, allowed_on, allowed_word, forced, is_dir};
 pub use source::JumpSource;
 pub use turns::{Side, is_diagonal, quarter, rear, turn};
 

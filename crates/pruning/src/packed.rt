@@ -109,16 +109,4 @@ impl Packed {
         }
         found
     }
-
-    /// These directions, in one word.
-    pub fn of_dirs(dirs: &[Dir]) -> Packed
-        requires few { length dirs.now ≤ 8 }
-        ensures { result ≡ dirs.now }
-    {
-        let mut packed = Packed::new();
-        for i in 0..dirs.len() {
-            packed = packed.after(dirs[dirs.len() - 1 - i]);
-        }
-        packed
-    }
 }

@@ -31,9 +31,9 @@ use crate::turns::{Side, is_diagonal, quarter, rear, turn};
 use arrayvec::ArrayVec;
 use grid_moves::{Cell, Corner, Dir, Terrain, dir_number, is_open, is_passable};
 
-// Whether the directions are one.
+/// Whether the directions are one.
 #[inline(always)]
-fn is_dir(d: Dir, e: Dir) -> bool
+pub fn is_dir(d: Dir, e: Dir) -> bool
     ensures { result ≡ moves.is_dir d e }
 {
     dir_number(d) == dir_number(e)
@@ -244,9 +244,10 @@ fn allowed_by<const RULE: usize>(ring: Ring, by: Arrival) -> Packed
     }
 }
 
-// The same, with code of its own for each rule.
+/// All directions that are allowed, told which of the cells around are free: the kept ones in which the move
+/// is legal. Each rule has code of its own.
 #[inline(always)]
-fn allowed_under(rule: Corner, ring: Ring, by: Arrival) -> Packed
+pub fn allowed_on(rule: Corner, ring: Ring, by: Arrival) -> Packed
     ensures { result ≡ filter (rings.is_allowed_on rule ring by) moves.all_dirs }
 {
     match rule {
@@ -263,7 +264,7 @@ fn allowed_around<T: Terrain>(t: &T, at: Cell, by: Arrival) -> Packed
     ensures rule { result ≡ spec.allowed_dirs (T.grid t.now) at by }
 {
     let ring = ring_of(t, at);
-    allowed_under(t.corner(), ring, by)
+    allowed_on(t.corner(), ring, by)
 }
 
 // The same, for the rare cells on the border of the map.

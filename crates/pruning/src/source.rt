@@ -48,22 +48,23 @@ pub trait JumpSource {
         ensures most { IsWithin (most self.now) (λ told. told.stop) steps.old steps.new }
         ensures fewest { steps.old + fewest self.now ≤ steps.new };
 
-    /// The allowed directions at `at`, in increasing order.
-    fn allowed<L: Ledger>(&self, at: Cell, by: Arrival, steps: &mut Steps<L>) -> ArrayVec<Dir, 8>
-        requires { (g : GridData) × StandsFor self.now g × IsTrue (is_free g at) × CanArrive g at by }
-        ensures rule { (g : GridData) → StandsFor self.now g → IsTrue (is_free g at) → CanArrive g at by
-            → result.items ≡ allowed_dirs g at by }
-        ensures most { IsWithin (most self.now) (λ told. told.allowed) steps.old steps.new }
-        ensures fewest { steps.old + fewest self.now ≤ steps.new };
-
-    /// The same in one word, which a search takes apart faster than a list.
+    /// The allowed directions at `at`, in increasing order, in one word, which a search takes apart faster
+    /// than a list.
     fn allowed_word<L: Ledger>(&self, at: Cell, by: Arrival, steps: &mut Steps<L>) -> Packed
         requires { (g : GridData) × StandsFor self.now g × IsTrue (is_free g at) × CanArrive g at by }
         ensures rule { (g : GridData) → StandsFor self.now g → IsTrue (is_free g at) → CanArrive g at by
             → result ≡ allowed_dirs g at by }
         ensures most { IsWithin (most self.now) (λ told. told.allowed) steps.old steps.new }
+        ensures fewest { steps.old + fewest self.now ≤ steps.new };
+
+    /// The same in a list.
+    fn allowed<L: Ledger>(&self, at: Cell, by: Arrival, steps: &mut Steps<L>) -> ArrayVec<Dir, 8>
+        requires { (g : GridData) × StandsFor self.now g × IsTrue (is_free g at) × CanArrive g at by }
+        ensures rule { (g : GridData) → StandsFor self.now g → IsTrue (is_free g at) → CanArrive g at by
+            → result.items ≡ allowed_dirs g at by }
+        ensures most { IsWithin (most self.now) (λ told. told.allowed) steps.old steps.new }
         ensures fewest { steps.old + fewest self.now ≤ steps.new }
     {
-        Packed::of_dirs(self.allowed(at, by, steps).as_slice())
+        self.allowed_word(at, by, steps).to_list()
     }
 }

@@ -2,7 +2,7 @@ use Rattle.std.proofs.Common.{true, false, arith, sym}
 use Rattle.grid_moves.specs.Grid.{GridData}
 use Rattle.pruning.specs.First.{first_stop}
 use Rattle.jump_plain.proofs.Forcing.{ahead_free, sides_known}
-use Rattle.jump_plain.proofs.Reaching.{run_length-next, run_length-few}
+use Rattle.pruning.proofs.Lengths.{run_length-next, run_length-few}
 use Rattle.jump_plain.proofs.Diagonal.{is_stop-read, stops_nowhere, stops_here, stops_later}
 use Rattle.jump_plain.proofs.jump.diagonal_stop.Goals as goal
 

@@ -1,5 +1,5 @@
 use Rattle.std.proofs.Common.{◌+◌, ◌<◌, length, arith, ap, ◌∙◌}
-use Rattle.plus_tables.specs.declared.flags.Ring.{Ring}
+use Rattle.pruning.specs.declared.ring.Ring.{Ring}
 use Rattle.plus_tables.specs.Rows.{forced_by, ring_of}
 use Rattle.plus_tables.proofs.Growing.{flag_more}
 use Rattle.plus_tables.proofs.flags.force_by.Goals as goal

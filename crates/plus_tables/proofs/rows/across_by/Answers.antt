@@ -1,7 +1,8 @@
 use Rattle.std.proofs.Common.{◌≡◌, ℕ, ◌+◌, ◌<◌, Bool, true, ◌&&◌, ◌||◌, length, arith, ap, ◌∙◌, subst, w16, to_z, of_z}
 use Rattle.std.specs.Prelude.{ℤ}
 use Rattle.pruning.specs.Turns.{is_diagonal}
-use Rattle.plus_tables.specs.declared.flags.Ring.{Ring}
+use Rattle.pruning.specs.declared.ring.Ring.{Ring}
+use Rattle.pruning.specs.Ring.{leads_on}
 use Rattle.plus_tables.specs.Rows as spec
 use Rattle.plus_tables.proofs.Growing.{told_across, number_more}
 use Rattle.plus_tables.proofs.rows.across_by.Goals as goal
@@ -39,7 +40,7 @@ loop-x-preserved c =
     c.told.result
     c.told.ensures
     (ap (λ (b : Bool). spec.flag rows.here.now (x + 1) && b)
-    (c.can_move.ensures ∙ ap (λ (r : Ring). spec.can_by c.args.corner r c.args.d) c.ring_at-ring.ensures))
+    (c.can_move.ensures ∙ ap (λ (r : Ring). leads_on c.args.corner r c.args.d) c.ring_at-ring.ensures))
     (ap (λ (b : Bool). spec.flag c.args.forced.now at ||
     (b && (c.tells_mark.result || c.tells_mark-in-loop-x.result)))
     c.is_diagonal.ensures)

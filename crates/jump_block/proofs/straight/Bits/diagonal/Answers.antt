@@ -4,7 +4,7 @@ use Rattle.grid_moves.specs.declared.Dir.{Dir}
 use Rattle.pruning.specs.First.{first_stop}
 use Rattle.jump_block.proofs.Directions.{parts}
 use Rattle.jump_plain.proofs.Besides.{beyond_stuck}
-use Rattle.jump_plain.proofs.Reaching.{run_length-next, run_length-few}
+use Rattle.pruning.proofs.Lengths.{run_length-next, run_length-few}
 use Rattle.jump_plain.proofs.Diagonal.{is_stop-read, stops_nowhere, stops_here, stops_later}
 use Rattle.jump_block.proofs.Diagonals.{legal_next, free_next}
 use Rattle.jump_block.proofs.straight.Bits.diagonal.Goals as goal
