@@ -2,9 +2,10 @@
 //!
 //! The key is one whole number that orders the sums of cost and estimate by their values. Among
 //! equal sums the state of the lesser number goes first, which is that of the lesser place. Two nodes
-//! are compared with no branch, since which of them goes first is seldom foreseen by the processor.
+//! are compared as numbers of two words, key and place: a comparison and one with its borrow, with no
+//! branch, since which of them goes first is seldom foreseen by the processor.
 
-ghost use Rattle.std.specs.Prelude.{◌≡◌, ◌≤◌, ◌<◌, ◌^◌};
+ghost use Rattle.std.specs.Prelude.{◌≡◌, ◌≤◌, ◌<◌, ◌^◌, ◌*◌, ◌+◌};
 ghost use Rattle.best_first.specs.Trace.{node_cell, rank_left};
 ghost use Rattle.grid_moves.specs.Points.{estimate};
 ghost use Rattle.root2_cost.specs.Rank.{rank_of};
@@ -48,11 +49,24 @@ impl Node {
     }
 }
 
+// A number of which the upper word is `high` and the lower one `low`.
+#[inline(always)]
+fn two_words(high: u64, low: u32) -> u128
+    ensures { result ≡ high * 2 ^ 64 + low }
+{
+    u128::from(high) * (1 << 64) + u128::from(low)
+}
+
 impl Ranked for Node {
     ghost before = { λ m n. ranks_before m n };
 
+    #[inline(always)]
     fn before(&self, other: &Node) -> bool {
-        (self.key < other.key) | ((self.key == other.key) & (self.place.bits < other.place.bits))
+        let (one, another) = (
+            two_words(self.key, self.place.bits),
+            two_words(other.key, other.place.bits),
+        );
+        one < another
     }
 
     ghost order = { ranks_order };
