@@ -4,9 +4,8 @@ ghost use Rattle.std.specs.Prelude.{◌≡◌, ◌<◌, IsTrue, Some, codes};
 ghost use Rattle.grid_moves.specs.declared.Corner.TheVariants.{Never};
 ghost use Rattle.grid_moves.specs.Grid.{GridData, grid_of, is_free};
 
-use arrayvec::ArrayVec;
 use grid_moves::{Cell, Corner, Dir, Grid, Terrain};
-use pruning::{Arrival, JumpSource, allowed, forced};
+use pruning::{Arrival, JumpSource, Packed, allowed, forced};
 use std::marker::Brand;
 use std::sync::ledger::{Blank, Ledger};
 use std::test::Fail;
@@ -82,14 +81,9 @@ impl JumpSource for Alone {
         None
     }
 
-    fn allowed<L: Ledger>(
-        &self,
-        _at: Cell,
-        _by: Arrival,
-        steps: &mut Steps<L>,
-    ) -> ArrayVec<Dir, 8> {
+    fn allowed_word<L: Ledger>(&self, _at: Cell, _by: Arrival, steps: &mut Steps<L>) -> Packed {
         steps.tick();
-        ArrayVec::new()
+        Packed::new()
     }
 }
 
