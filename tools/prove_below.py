@@ -8,7 +8,8 @@ proves several. So each crate is proved in a tree of links to what it needs. Wha
 beside the crate's sources. What stands there already is looked at again by rt, which takes a few seconds a crate.
 
 The crate with the longest chain of others behind it comes first: it waits for no lane, gives way to none, and gets the
-processors that are free. All others get one each, since several jobs of one check take half as much time again.
+processors that are free. The others get one each while all processors are busy, since several jobs of one check take
+half as much time again.
 """
 import os
 import shutil
@@ -74,7 +75,7 @@ class Build:
         self.names = all_below(self.uses, program)
         self.trees = f"{top}/crates/{program}/out/trees"
         self.chain = self.chains()
-        self.waiting, self.running, self.done = list(self.names), set(), set()
+        self.waiting, self.running, self.done = list(self.names), {}, set()
         self.failed = None
         self.changed = threading.Condition()
 
@@ -122,7 +123,7 @@ class Build:
             went_well = self.prove(name, jobs, nice)
         finally:
             with self.changed:
-                self.running.discard(name)
+                self.running.pop(name, None)
                 if went_well:
                     self.done.add(name)
                     self.tell()
@@ -144,10 +145,10 @@ class Build:
             is_first = all(self.chain[it] <= self.chain[name] for it in [*self.running, *ready])
             if len(self.running) >= self.lanes and not is_first:
                 break
-            free = self.lanes - len(self.running) - len(ready[at:]) + 1
+            free = self.lanes - sum(self.running.values()) - len(ready[at + 1 :])
             jobs = max(2 if is_first else 1, min(MOST_JOBS, free))
             self.waiting.remove(name)
-            self.running.add(name)
+            self.running[name] = jobs
             nice = FIRST_NICE if is_first else OTHER_NICE
             threading.Thread(target=self.work, args=(name, jobs, nice)).start()
 
