@@ -145,11 +145,13 @@ class Build:
             is_first = all(self.chain[it] <= self.chain[name] for it in [*self.running, *ready])
             if len(self.running) >= self.lanes and not is_first:
                 break
-            free = self.lanes - sum(self.running.values()) - len(ready[at + 1 :])
-            jobs = max(2 if is_first else 1, min(MOST_JOBS, free))
+            free, others = self.lanes - sum(self.running.values()), len(ready[at + 1 :])
+            # Where few are left, they share the processors.
+            share = min(MOST_JOBS, (free + others) // (others + 1))
+            jobs = max(2 if is_first else 1, share)
             self.waiting.remove(name)
             self.running[name] = jobs
-            nice = FIRST_NICE if is_first else OTHER_NICE
+            nice = FIRST_NICE if is_first or share > 1 else OTHER_NICE
             threading.Thread(target=self.work, args=(name, jobs, nice)).start()
 
     def run(self):
