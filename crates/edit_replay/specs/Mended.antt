@@ -4,8 +4,6 @@ use Rattle.grid_moves.specs.Grid.{GridData}
 use Rattle.grid_moves.specs.Layers.{Layers}
 use Rattle.plus_tables.specs.Tables.{TablesData, AreTablesOf, IsWhole}
 use Rattle.table_repair.specs.Counted.{places_differing}
-use Rattle.edit_replay.specs.declared.beside.Beside.{Beside}
-use Rattle.edit_replay.specs.declared.beside.Beside.TheVariants as beside
 use Rattle.edit_replay.specs.declared.engine.Engine.{Engine}
 use Rattle.edit_replay.specs.declared.engine.Engine.TheVariants.{Plain, Jps, Block, Plus}
 
@@ -15,12 +13,6 @@ pub data MendsWithin (g h : GridData) (n : ℕ) : Type 0 where
   nothing : h ≡ g → n ≡ 0 → MendsWithin g h n
   repaired : h ≢ g → (old new : TablesData) → IsWhole old → AreTablesOf old g → AreTablesOf new h
       → n ≡ 18 * (h.width + h.height) + places_differing old.entries new.entries → MendsWithin g h n
-
--- what is kept beside a grid followed it
-abbrev pub Follows : Beside → GridData → GridData → ℕ → ℕ → Type 0
-Follows beside.Nothing g h old new = new ≡ old
-Follows (beside.Bits bits) g h old new = new ≡ old
-Follows (beside.Tables tables) g h old new = (n : ℕ) × MendsWithin g h n × (new ≤ old + n)
 
 -- both layers' tables were mended, those of a layer that stays as it was by no refresh
 pub record AreMended (before after : Layers) (old new : ℕ) : Type 0 where

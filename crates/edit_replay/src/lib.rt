@@ -4,12 +4,12 @@
 //! searches, which is made once and used by each query.
 #![tactic(auto)]
 
-mod beside;
 mod engine;
+mod kept;
 pub mod laws;
-mod layer;
-mod memory;
+mod parts;
 mod reply;
+mod search;
 mod session;
 
 pub use engine::Engine;

@@ -5,14 +5,14 @@ ghost use Rattle.grid_moves.specs.Grid.{layer_of};
 ghost use Rattle.grid_moves.specs.Layers as spec;
 ghost use Rattle.grid_moves.specs.Reply.{IsRight};
 ghost use Rattle.plus_tables.specs.Tables.{AreTablesOf};
+ghost use Rattle.edit_replay.specs.Kept.{as_layers};
 ghost use Rattle.edit_replay.specs.Counting.{RoseByStates, RoseWithin, fewest_of, most_of};
 ghost use Rattle.edit_replay.specs.Edited.{edit_at, edit_reply};
 ghost use Rattle.edit_replay.specs.Mended.{IsEditCounted};
 ghost use Rattle.edit_replay.specs.Replies.{answer_of, AddsEdit, EditsSo, IsRunReply, IsShort};
 
-use crate::beside::Beside;
-use crate::layer::Layer;
-use crate::memory::Memory;
+use crate::kept::{Both, Finder, Kept, space_of};
+use crate::parts::Parts;
 use crate::{EditReply, Engine, NoMemory, Reply};
 use grid_moves::{Corner, Grid, Ground, Terrain, cell_at, ground_at, is_free_ground};
 use map_text::MapText;
@@ -22,26 +22,41 @@ use std::marker::Model;
 use std::sync::ledger::Ledger;
 use steps::Steps;
 
-/// A map's current layers, land and water, and the memory of the searches on both.
+/// A map's current layers, land and water, and what the engine keeps for searches on both.
 #[derive(Drop)]
 pub struct Session {
-    land: Layer,
-    water: Layer,
-    memory: Memory,
+    // Behind a box, so that a session is small for those who hand it on.
+    parts: Box<Parts>,
 }
 
 impl Model for Session {
-    ghost use Rattle.edit_replay.specs.Kept.{AreKept, engine_with};
+    ghost use Rattle.edit_replay.specs.Kept.{AreKept, engine_of, as_layers};
     ghost use Rattle.edit_replay.specs.Session.{SessionData};
 
     ghost Value = { SessionData };
 
     ghost view = { λ s. record {
-      engine = engine_with s.memory s.land.beside;
-      layers = record { land = s.land.grid; water = s.water.grid };
+      engine = engine_of s.parts.value.kept;
+      layers = as_layers s.parts.value.grids;
     } };
 
-    ghost invariant = { λ s. AreKept s.land s.water s.memory };
+    ghost invariant = { λ s. AreKept s.parts.value };
+}
+
+// The land grid and the water grid of a map, which get this corner rule.
+fn grids_of(alloc: Global, map: &MapText, corner: Corner) -> Result<Both<Grid>, NoMemory>
+    ensures land { IfOk result (λ grids. grids.land
+        ≡ layer_of Ground.Land corner map.now.width map.now.height map.now.cells) }
+    ensures water { IfOk result (λ grids. grids.water
+        ≡ layer_of Ground.Water corner map.now.width map.now.height map.now.cells) }
+    ensures layers { IfOk result (λ grids. spec.AreLayers (as_layers grids)) }
+{
+    let (width, height) = (map.width, map.height);
+    let cells = map.cells.as_slice();
+    Ok(Both {
+        land: Grid::of_layer(alloc, width, height, cells, corner, Ground::Land)?,
+        water: Grid::of_layer(alloc, width, height, cells, corner, Ground::Water)?,
+    })
 }
 
 impl Session {
@@ -57,16 +72,10 @@ impl Session {
           layers = spec.layers_of corner map.now.width map.now.height map.now.cells;
         }) }
     {
-        let (width, height) = (map.width, map.height);
-        let cells = map.cells.as_slice();
-        let land = Grid::of_layer(alloc, width, height, cells, corner, Ground::Land)?;
-        let water = Grid::of_layer(alloc, width, height, cells, corner, Ground::Water)?;
-        let memory = Memory::new(alloc, engine, &land)?;
-        Ok(Session {
-            land: Layer::new(alloc, engine, land)?,
-            water: Layer::new(alloc, engine, water)?,
-            memory,
-        })
+        let grids = grids_of(alloc, map, corner)?;
+        let kept = Kept::new(alloc, engine, &grids)?;
+        let parts = Box::new(alloc, Parts { grids, kept })?;
+        Ok(Session { parts })
     }
 
     /// A session of the engine `plus` on a map's layers, which get this corner rule, with tables that are
@@ -87,23 +96,13 @@ impl Session {
           layers = spec.layers_of corner map.now.width map.now.height map.now.cells;
         }) }
     {
-        let cells = map.cells.as_slice();
-        let grid = Grid::of_layer(alloc, map.width, map.height, cells, corner, Ground::Land)?;
-        let sea = Grid::of_layer(alloc, map.width, map.height, cells, corner, Ground::Water)?;
-        let memory = Memory::new(alloc, Engine::Plus, &grid)?;
-        let water = Layer {
-            grid: sea,
-            beside: Beside::Tables(water),
-        };
-        let land = Layer {
-            grid,
-            beside: Beside::Tables(land),
-        };
-        Ok(Session {
-            land,
-            water,
-            memory,
-        })
+        let grids = grids_of(alloc, map, corner)?;
+        let space = space_of(alloc, &grids.land)?;
+        let tables = Both { land, water };
+        let finder = Finder::Tables(tables);
+        let kept = Kept::Jumps { finder, space };
+        let parts = Box::new(alloc, Parts { grids, kept })?;
+        Ok(Session { parts })
     }
 
     /// The map's width, in cells.
@@ -111,14 +110,14 @@ impl Session {
         ensures width { result ≡ self.now.layers.land.width }
         ensures some { 0 < result }
     {
-        self.land.grid.width()
+        self.parts.grids.land.width()
     }
 
     /// The map's height, in cells.
     pub fn height(&self) -> u16
         ensures { result ≡ self.now.layers.land.height }
     {
-        self.land.grid.height()
+        self.parts.grids.land.height()
     }
 
     /// Makes a cell blocked, land or water.
@@ -141,14 +140,14 @@ impl Session {
         ensures unchanged { result ≢ EditReply.Done → steps.new ≡ steps.old }
         ensures later { steps.old ≤ steps.new }
     {
-        let Some(c) = cell_at(&self.land.grid, x, y) else {
+        let parts = &mut *self.parts;
+        let Some(c) = cell_at(&parts.grids.land, x, y) else {
             return EditReply::Outside;
         };
-        if ground_at(&self.land.grid, &self.water.grid, c) == to {
+        if ground_at(&parts.grids.land, &parts.grids.water, c) == to {
             return EditReply::Same;
         }
-        self.land.set(c, to == Ground::Land, steps);
-        self.water.set(c, to == Ground::Water, steps);
+        parts.set(c, to, steps);
         EditReply::Done
     }
 
@@ -181,21 +180,18 @@ impl Session {
         ensures fewest { IfOk result (RoseByStates (fewest_of self.old.engine) steps.old steps.new) }
         ensures uncounted { self.old.engine ≡ Engine.Plain → steps.new ≡ steps.old }
     {
-        let Some(from) = cell_at(&self.land.grid, sx, sy) else {
+        let parts = &mut *self.parts;
+        let Some(from) = cell_at(&parts.grids.land, sx, sy) else {
             return Ok(Reply::Outside);
         };
-        let Some(to) = cell_at(&self.land.grid, gx, gy) else {
+        let Some(to) = cell_at(&parts.grids.land, gx, gy) else {
             return Ok(Reply::Outside);
         };
-        if !is_free_ground(&self.land.grid, &self.water.grid, from)
-            || !is_free_ground(&self.land.grid, &self.water.grid, to)
+        if !is_free_ground(&parts.grids.land, &parts.grids.water, from)
+            || !is_free_ground(&parts.grids.land, &parts.grids.water, to)
         {
             return Ok(Reply::Blocked);
         }
-        if self.water.grid.free(from) {
-            self.water.search(alloc, from, to, &mut self.memory, steps)
-        } else {
-            self.land.search(alloc, from, to, &mut self.memory, steps)
-        }
+        parts.search(alloc, from, to, steps)
     }
 }

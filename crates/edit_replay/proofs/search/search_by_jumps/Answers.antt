@@ -1,5 +1,5 @@
 use Rattle.edit_replay.proofs.Counts.{rose_away}
-use Rattle.edit_replay.proofs.layer.search_by_jumps.Goals as goal
+use Rattle.edit_replay.proofs.search.search_by_jumps.Goals as goal
 
 pub returns-in-Some-clause-fewest : goal.returns-in-Some-clause-fewest
 returns-in-Some-clause-fewest g c =

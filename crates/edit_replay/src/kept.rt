@@ -1,0 +1,81 @@
+//! What an engine keeps for its searches.
+
+ghost use Rattle.std.specs.Prelude.{◌≡◌, if◌then◌else◌, IfOk};
+ghost use Rattle.search_core.specs.Jumping.{HasPlaces};
+ghost use Rattle.edit_replay.specs.Kept.{Serves, engine_of};
+
+use crate::{Engine, NoMemory};
+use best_first::{Layout, Space};
+use bit_grid::BitGrid;
+use grid_moves::{Grid, Terrain};
+use plain_search::Workspace;
+use plus_tables::Tables;
+use std::alloc::Global;
+
+/// One for the land of a map, and one for its water.
+#[derive(Drop)]
+pub(crate) struct Both<T> {
+    pub land: T,
+    pub water: T,
+}
+
+impl<T> Both<T> {
+    /// The one for water, or that for land.
+    pub(crate) fn of(&self, is_water: bool) -> &T
+        ensures { result.now ≡ if is_water then self.now.water else self.now.land }
+    {
+        if is_water { &self.water } else { &self.land }
+    }
+}
+
+/// How an engine that jumps finds the jumps on the grids of a map.
+#[derive(Drop)]
+pub(crate) enum Finder {
+    /// The grids alone are read.
+    Cells,
+    /// By the grids' cells as bits.
+    Bits(Both<BitGrid>),
+    /// By the grids' table entries.
+    Tables(Both<Tables>),
+}
+
+/// What an engine keeps for its searches. The memory serves both grids of a map: it depends on the sides alone.
+#[derive(Drop)]
+pub(crate) enum Kept {
+    /// A state for each cell.
+    Plain(Workspace),
+    /// A state for each cell and direction.
+    Jumps { finder: Finder, space: Space },
+}
+
+/// The memory of an engine that jumps, for maps of the grid's sides.
+pub(crate) fn space_of(alloc: Global, grid: &Grid) -> Result<Space, NoMemory>
+    ensures { IfOk result (HasPlaces grid.now) }
+{
+    let cells = grid.height() as usize * grid.width() as usize;
+    Space::new(alloc, Layout::ByArrival, cells)
+}
+
+impl Kept {
+    /// What this engine keeps for searches on these grids of one map.
+    pub(crate) fn new(alloc: Global, engine: Engine, grids: &Both<Grid>) -> Result<Kept, NoMemory>
+        ensures engine { IfOk result (λ kept. engine_of kept ≡ engine) }
+        ensures serves { IfOk result (Serves grids.now) }
+    {
+        let Both { land, water } = grids;
+        let finder = match engine {
+            Engine::Plain => return Ok(Kept::Plain(Workspace::of_grid(alloc, land)?)),
+            Engine::Jps => Finder::Cells,
+            Engine::Block => Finder::Bits(Both {
+                land: BitGrid::of_grid(alloc, land)?,
+                water: BitGrid::of_grid(alloc, water)?,
+            }),
+            Engine::Plus => Finder::Tables(Both {
+                land: Tables::build(alloc, land)?,
+                water: Tables::build(alloc, water)?,
+            }),
+        };
+        let space = space_of(alloc, land)?;
+        Ok(Kept::Jumps { finder, space })
+    }
+}
