@@ -6,12 +6,9 @@ use Rattle.grid_moves.specs.declared.Cell.{Cell}
 use Rattle.grid_moves.specs.declared.Dir.{Dir}
 use Rattle.grid_moves.specs.Grid.{GridData, is_inside}
 use Rattle.grid_moves.proofs.Legal.{and_both}
-use Rattle.plus_tables.specs.Tables.{TablesData, AreSized, is_on}
+use Rattle.plus_tables.specs.Tables.{TablesData}
 use Rattle.plus_tables.specs.Sweep.{AreRight, is_upward, above, from_row}
 use Rattle.plus_tables.specs.Laid.{AreGrown}
-
-pub on_inside : (t : TablesData) (g : GridData) (c : Cell) → AreSized t g → is_on t c ≡ is_inside g c
-on_inside t g c sized = rw (sized.width, sized.height) refl
 
 -- before the first row nothing has to be right, and after the last all that leads up or along a row is
 pub grown_none : (g : GridData) (entries : List ℤ) → length entries ≡ 0 → AreGrown g 0 entries

@@ -1,15 +1,11 @@
 -- What sweeps leave behind.
-use Rattle.std.specs.Prelude.{◌≡◌, ℕ, Bool, true, false, not, ◌&&◌, ◌||◌, nat_lt, nat_le, nat_eq}
+use Rattle.std.specs.Prelude.{◌≡◌, ℕ, Bool, true, false, not, ◌&&◌, ◌||◌, nat_lt, nat_le}
 use Rattle.grid_moves.specs.declared.Cell.{Cell}
 use Rattle.grid_moves.specs.declared.Dir.{Dir}
 use Rattle.grid_moves.specs.declared.Dir.TheVariants.{N, NE, E, SE, S, SW, W, NW}
 use Rattle.grid_moves.specs.Grid.{GridData, is_inside}
 use Rattle.plus_tables.specs.Entry.{table_entry}
 use Rattle.plus_tables.specs.Tables.{TablesData, AreSized, entry_at}
-
--- the cells of a row
-abbrev pub is_row : ℕ → Cell → Bool
-is_row y b = nat_eq b.y y
 
 -- the entries of some cells and directions are the grid's
 pub record AreRight (t : TablesData) (g : GridData) (done : Cell → Dir → Bool) : Type 0 where
