@@ -1,6 +1,6 @@
 -- Scans on a grid, in each straight direction.
 use Rattle.std.proofs.Common.{◌≡◌, ◌≢◌, ℕ, zero, suc, ◌+◌, ◌-◌, ◌<◌, arith, Bool, true, false, not, ◌||◌, refl, ap, sym, ◌∙◌, subst}
-use Rattle.std.specs.Prelude.{Option, Some, nat_eq}
+use Rattle.std.specs.Prelude.{Option, Some, is_some, nat_eq}
 use Rattle.std.proofs.lemmas.Bool.Decides.{nat_tests}
 use Rattle.grid_moves.specs.declared.Cell.{Cell}
 use Rattle.grid_moves.specs.declared.Corner.{Corner}
@@ -12,16 +12,18 @@ use Rattle.grid_moves.specs.Move.{ahead, is_open}
 use Rattle.grid_moves.proofs.Legal.{free_inside}
 use Rattle.bit_grid.specs.Bits.{LineData, is_free_from_one, AreRowsOf, AreColumnsOf}
 use Rattle.pruning.specs.declared.turns.Side.TheVariants.{Right, Left}
+use Rattle.pruning.specs.First.{first_stop}
 use Rattle.pruning.specs.Turns.{is_diagonal, turn}
 use Rattle.jump_plain.specs.declared.beside.Sides.{Sides}
 use Rattle.jump_plain.specs.Beside.{sides_of}
-use Rattle.jump_plain.specs.Reach.{first_sides, moves_to}
+use Rattle.jump_plain.specs.Reach.{first_sides, moves_to, reach_of, stop_of}
+use Rattle.jump_plain.proofs.Straight.{straight_stop}
 use Rattle.jump_block.proofs.Runs.{IsRay, IsTold, told_by_ray}
 use Rattle.jump_block.specs.declared.word.Way.{Way}
 use Rattle.jump_block.specs.declared.word.Way.TheVariants.{Forward, Back}
 use Rattle.jump_block.specs.Trail.{at_start, begun, opens, trail_on}
-use Rattle.jump_block.specs.declared.block.Halt.{Halt}
-use Rattle.jump_block.specs.Scan.{IsStart, Finds}
+use Rattle.jump_block.specs.Scan.{IsStart, MeetsMark}
+use Rattle.jump_block.specs.Source as block
 use Rattle.jump_block.specs.Source.{by_rows, by_columns, trail_of, row_dir, column_dir, row_way, column_way}
 
 abbrev pub cell : ℕ → ℕ → Cell
@@ -343,18 +345,10 @@ module _ (g : GridData) (x : Cell) (rule : Corner) where
       (λ k. turned (not ((trail_of g N x).free (suc k))) (opens (begun rule (trail_of g N x)).before k)
       (opens (begun rule (trail_of g N x)).after k)) (λ k. refl)
 
--- a scan's finding, by equal numbers
-pub found_along : (free : ℕ → ℕ → Bool) (way : Way) (rule : Corner) (l : LineData) (line place line' place' : ℕ)
-    (goal goal' : ℕ) (found : Option Halt) → line ≡ line' → place ≡ place' → goal ≡ goal'
-    → IsStart l free line' place'
-    → ((f : ℕ → ℕ → Bool) → IsStart l f line place → Finds (begun rule (trail_on f way line place)) goal found)
-    → Finds (begun rule (trail_on free way line' place')) goal' found
-found_along free way rule l line place line' place' goal goal' found e f h start finds =
-    subst (λ (n : ℕ). Finds (begun rule (trail_on free way line' place')) n found) h
-    (subst (λ (n : ℕ). Finds (begun rule (trail_on free way line' n)) goal found) f
-    (subst (λ (n : ℕ). Finds (begun rule (trail_on free way n place)) goal found) e
-    (finds free (subst (λ (n : ℕ). IsStart l free line n) (sym f)
-    (subst (λ (n : ℕ). IsStart l free n place') (sym e) start)))))
+-- a line and a place on it, counted from 1, by equal numbers
+pub one_on : (P : ℕ → ℕ → Type 0) {x y u v : ℕ} → x ≡ u → y ≡ v → P (x + 1) (y + 1) → P (u + 1) (v + 1)
+one_on P {x} {y} {u} {v} e f p =
+    subst (λ (n : ℕ). P (u + 1) (n + 1)) f (subst (λ (n : ℕ). P (n + 1) (y + 1)) e p)
 
 -- the straight direction that is none of three
 pub is_north : (d : Dir) → is_diagonal d ≡ false → d ≢ E → d ≢ W → d ≢ S → d ≡ N
@@ -378,6 +372,19 @@ told_on g x NE rule h r f whole = absurd (cc)
 told_on g x SE rule h r f whole = absurd (cc)
 told_on g x SW rule h r f whole = absurd (cc)
 told_on g x NW rule h r f whole = absurd (cc)
+
+-- and where the goal is not ahead, whether it meets a mark
+pub mark_on : (g : GridData) (x : Cell) (d : Dir) (rule : Corner) → is_diagonal d ≡ false → rule ≡ g.corner
+    → is_free g x ≡ true → IsGrid g → (goal : Cell) → moves_to d x goal ≡ 0 → (marked : Bool)
+    → MeetsMark (begun rule (trail_of g d x)) marked → marked ≡ is_some (first_stop g goal x d)
+mark_on g x d rule h r f whole goal off marked met =
+    met.2 ∙ shown met.0.blocked
+    ∙ ap (λ (o : Option ℕ). is_some o) ((told_on g x d rule h r f whole 0 (Some met.0) met.1).0
+    ∙ ap (λ (n : ℕ). stop_of (reach_of g x d) n) (sym off) ∙ sym (straight_stop g goal x d h))
+  where
+    shown : (b : Bool) → not b ≡ is_some (block.stop_of rule (Some (record { passed = met.0.passed; blocked = b })) 0)
+    shown true = refl
+    shown false = refl
 
 -- the trail by its row or its column
 pub row_trail : (g : GridData) (way : Way) (x : Cell)
