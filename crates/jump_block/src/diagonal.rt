@@ -206,8 +206,9 @@ impl<'a> Bits<'a> {
         requires stands { OnSome self.now.rows.now self.now.columns.now self.now.corner at }
         requires diagonal { is_diagonal d ≡ true }
         ensures stops { OnEach self.now.rows.now self.now.columns.now self.now.corner at
-            (λ g. result ≡ (is_same at goal || is_forced g at d || is_some (first.first_stop g goal at
-            (spec.row_dir (spec.row_way d))) || is_some (first.first_stop g goal at (spec.column_dir (spec.column_way d))))) }
+            (λ g. result ≡ (is_same at goal || is_forced g at d
+            || is_some (first.first_stop g goal at (spec.row_dir (spec.row_way d)))
+            || is_some (first.first_stop g goal at (spec.column_dir (spec.column_way d))))) }
         ensures more { steps.old ≤ steps.new }
     {
         at == goal
@@ -232,8 +233,9 @@ impl<'a> Bits<'a> {
         requires near { AreNearStart self.now.rows.now (at.y + 1) (at.x + 1) near }
         requires diagonal { is_diagonal d ≡ true }
         ensures stops { OnEach self.now.rows.now self.now.columns.now self.now.corner at
-            (λ g. result ≡ (is_same at goal || is_forced g at d || is_some (first.first_stop g goal at
-            (spec.row_dir (spec.row_way d))) || is_some (first.first_stop g goal at (spec.column_dir (spec.column_way d))))) }
+            (λ g. result ≡ (is_same at goal || is_forced g at d
+            || is_some (first.first_stop g goal at (spec.row_dir (spec.row_way d)))
+            || is_some (first.first_stop g goal at (spec.column_dir (spec.column_way d))))) }
         ensures more { steps.old ≤ steps.new }
     {
         if is_in_line(at, goal) {

@@ -1,6 +1,6 @@
 //! Whether a scan along a line halts at a mark, where the goal does not lie on the line.
 
-ghost use Rattle.std.specs.Prelude.{◌≡◌, ℕ, ◌*◌, ◌/◌, ◌<◌, ◌≤◌, Bool};
+ghost use Rattle.std.specs.Prelude.{ℕ, ◌*◌, ◌/◌, ◌<◌, ◌≤◌, Bool};
 ghost use Rattle.jump_block.specs.Trail.{Trail, IsClear, begun, trail_on};
 ghost use Rattle.jump_block.specs.Scan.{Finds, IsStart, MeetsFrom, MeetsMark};
 ghost use Rattle.jump_block.specs.Near.{AreNearStart};

@@ -1,6 +1,6 @@
 //! Bits of a grid as a source of jumps.
 
-ghost use Rattle.std.specs.Prelude.{◌≡◌, ℕ, ◌+◌, ◌≤◌, false, true, IsTrue, None};
+ghost use Rattle.std.specs.Prelude.{◌≡◌, ℕ, ◌+◌, ◌≤◌, false, true, None};
 ghost use Rattle.pruning.specs.Allowed.{allowed_dirs};
 ghost use Rattle.pruning.specs.First as first;
 ghost use Rattle.pruning.specs.Numbered as numbered;
@@ -162,10 +162,10 @@ impl<'a> BlockJumps<'a> {
         requires stands { JumpsOnSome self.now.rows.now self.now.columns.now self.now.width self.now.height
             self.now.corner at goal }
         requires forward { is_forward d ≡ true }
-        ensures first { JumpsOnEach self.now.rows.now self.now.columns.now self.now.width self.now.height self.now.corner at goal
-            (λ g. IsFirstStop g goal at d result) }
-        ensures most { JumpsOnEach self.now.rows.now self.now.columns.now self.now.width self.now.height self.now.corner at goal
-            (λ g. steps.new ≤ steps.old + most_lanes (scanned g at d result)) }
+        ensures first { JumpsOnEach self.now.rows.now self.now.columns.now self.now.width self.now.height
+            self.now.corner at goal (λ g. IsFirstStop g goal at d result) }
+        ensures most { JumpsOnEach self.now.rows.now self.now.columns.now self.now.width self.now.height
+            self.now.corner at goal (λ g. steps.new ≤ steps.old + most_lanes (scanned g at d result)) }
         ensures fewest { steps.old + 3 ≤ steps.new }
     {
         self.stop(at, d, goal, steps)
@@ -185,10 +185,10 @@ impl<'a> BlockJumps<'a> {
         requires stands { JumpsOnSome self.now.rows.now self.now.columns.now self.now.width self.now.height
             self.now.corner at goal }
         requires back { is_back d ≡ true }
-        ensures first { JumpsOnEach self.now.rows.now self.now.columns.now self.now.width self.now.height self.now.corner at goal
-            (λ g. IsFirstStop g goal at d result) }
-        ensures most { JumpsOnEach self.now.rows.now self.now.columns.now self.now.width self.now.height self.now.corner at goal
-            (λ g. steps.new ≤ steps.old + most_lanes (scanned g at d result)) }
+        ensures first { JumpsOnEach self.now.rows.now self.now.columns.now self.now.width self.now.height
+            self.now.corner at goal (λ g. IsFirstStop g goal at d result) }
+        ensures most { JumpsOnEach self.now.rows.now self.now.columns.now self.now.width self.now.height
+            self.now.corner at goal (λ g. steps.new ≤ steps.old + most_lanes (scanned g at d result)) }
         ensures fewest { steps.old + 3 ≤ steps.new }
     {
         self.stop(at, d, goal, steps)
@@ -215,11 +215,11 @@ impl<'a> JumpSource for BlockJumps<'a> {
     fn stop<L: Ledger>(&self, at: Cell, d: Dir, goal: Cell, steps: &mut Steps<L>) -> Option<u16>
         requires { JumpsOnSome self.now.rows.now self.now.columns.now self.now.width self.now.height
             self.now.corner at goal }
-        ensures first { JumpsOnEach self.now.rows.now self.now.columns.now self.now.width self.now.height self.now.corner at goal
-            (λ g. IsFirstStop g goal at d result) }
+        ensures first { JumpsOnEach self.now.rows.now self.now.columns.now self.now.width self.now.height
+            self.now.corner at goal (λ g. IsFirstStop g goal at d result) }
         ensures most { IsWithin None (λ told. told.stop) steps.old steps.new }
-        ensures straight { is_diagonal d ≡ false → JumpsOnEach self.now.rows.now self.now.columns.now self.now.width self.now.height self.now.corner at goal
-            (λ g. steps.new ≤ steps.old + most_lanes (scanned g at d result)) }
+        ensures straight { is_diagonal d ≡ false → JumpsOnEach self.now.rows.now self.now.columns.now self.now.width
+            self.now.height self.now.corner at goal (λ g. steps.new ≤ steps.old + most_lanes (scanned g at d result)) }
         ensures fewest { steps.old + 3 ≤ steps.new }
     {
         self.bits().stop(at, d, goal, steps)

@@ -1,6 +1,6 @@
 //! Straight jumps: a scan along a row or a column, and the first stop that follows from where it halts.
 
-ghost use Rattle.std.specs.Prelude.{◌≡◌, ℕ, ◌+◌, ◌≤◌, Bool, false, true, IsTrue, is_some, nat_eq};
+ghost use Rattle.std.specs.Prelude.{◌≡◌, ℕ, ◌+◌, ◌≤◌, Bool, false, true, is_some, nat_eq};
 ghost use Rattle.pruning.specs.Turns.{is_diagonal};
 ghost use Rattle.pruning.specs.First as first;
 ghost use Rattle.jump_plain.specs.Reach as reach;
