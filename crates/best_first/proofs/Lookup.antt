@@ -80,16 +80,3 @@ module _ (layout : Layout) where
       by_lookup : (o : Option ℕ) → lookup layout nodes s ≡ o → o ≡ None
       by_lookup None l = refl
       by_lookup (Some id) l = absurd (let f = lookup-found nodes s id l in h id f.node f.node_is f.state)
-
-  -- where a state has one node it is found
-  pub lookup-is : (nodes : List Node) (s : State) (id : ℕ) (n : Node) → slice_get nodes id ≡ Some n
-      → state_of layout n ≡ s
-      → ((j : ℕ) (x : Node) → slice_get nodes j ≡ Some x → state_of layout x ≡ s → j ≡ id)
-      → lookup layout nodes s ≡ Some id
-  lookup-is nodes s id n g e only = by_lookup (lookup layout nodes s) refl
-    where
-      by_lookup : (o : Option ℕ) → lookup layout nodes s ≡ o → o ≡ Some id
-      by_lookup None l = absurd (none_found nodes s l id n g e)
-      by_lookup (Some j) l =
-          let f = lookup-found nodes s j l in
-          ap (λ (i : ℕ). Some i) (only j f.node f.node_is f.state)

@@ -1,10 +1,9 @@
 -- Heads and records: what is read of them, and what changes when a record is taken and when an entry is set.
-use Rattle.std.proofs.Common.{◌≡◌, ℕ, zero, suc, ◌<◌, ◌⊎◌, inl, inr, length, List, [], ◌∷◌, ◌++◌, refl, ap, sym, ◌∙◌, subst, true, false, arith}
-use Rattle.std.specs.Prelude.{Option, Some, None, slice_get, slice_set, slice_index_or, nat_eq}
+use Rattle.std.proofs.Common.{◌≡◌, ℕ, zero, suc, ◌<◌, ◌⊎◌, inl, inr, length, List, [], ◌∷◌, ◌++◌, refl, ap, sym, ◌∙◌, subst, arith}
+use Rattle.std.specs.Prelude.{Option, Some, None, slice_get, slice_set, slice_index_or}
 use Rattle.std.specs.Option.{option_map_or}
 use Rattle.std.proofs.lemmas.Option.{get_or_from_slice_get, slice_get_within}
-use Rattle.std.proofs.lemmas.Bool.Decides.{nat_tests}
-use Rattle.best_first.specs.declared.state.Layout.TheVariants.{ByCell, ByArrival}
+use Rattle.best_first.specs.declared.state.Layout.TheVariants.{ByArrival}
 use Rattle.best_first.specs.Index.{entry_of_record, entry_in, HasRecord, AreRecords, IsOpened, IsPut}
 use Rattle.best_first.proofs.Lists.{get-last, get-added, get-set_same, get-set_other, got-set}
 
@@ -56,9 +55,6 @@ read_zeros (suc (suc (suc (suc (suc (suc (suc (suc (suc a))))))))) = refl
 pub entry-read : (records : List (List ℕ)) (r a : ℕ) (entries : List ℕ) → slice_get records r ≡ Some entries
     → entry_of_record (suc r) records a ≡ slice_index_or entries a 0
 entry-read records r a entries e = rw e refl
-
-some_number : (m n : ℕ) → Some m ≡ Some n → m ≡ n
-some_number m n e = ap (λ (o : Option ℕ). elim o as (λ _. ℕ) [ Some v ↦ v | None ↦ m ]) e
 
 -- a cell's head, as it is read
 module _ (heads : List ℕ) (cell : ℕ) where
@@ -273,28 +269,3 @@ put_opened heads later records more after cell b entry o small set =
       as_many = o.as_many;
       heads_stay = o.heads_stay;
     })
-
--- the only entry of a cell is set
-pub put_head : (heads : List ℕ) (records : List (List ℕ)) (cell entry : ℕ) → cell < length heads
-    → IsPut ByCell heads (slice_set heads cell entry) records records cell 8 entry
-put_head heads records cell entry within = record {
-  here = read_set_same heads cell entry within;
-  others = λ c a n. by_arrival c a n (two a 8);
-  heads_are = tt;
-  as_many = length-set heads cell entry;
-  heads_stay = λ c n. get-set_other heads c cell entry n;
-}
-  where
-    two : (i j : ℕ) → (i ≡ j) ⊎ (i ≡ j → ⊥)
-    two i j = grind arith
-
-    not_eight : (a : ℕ) → (a ≡ 8 → ⊥) → nat_eq a 8 ≡ false
-    not_eight a n = grind (arith, nat_tests)
-
-    eight : (a : ℕ) → a ≡ 8 → nat_eq a 8 ≡ true
-    eight a e = grind (arith, nat_tests)
-
-    by_arrival : (c a : ℕ) → ((c ≡ cell) × (a ≡ 8) → ⊥) → (a ≡ 8) ⊎ (a ≡ 8 → ⊥)
-        → entry_in ByCell (slice_set heads cell entry) records c a ≡ entry_in ByCell heads records c a
-    by_arrival c a n (inr m) = rw (not_eight a m) refl
-    by_arrival c a n (inl e) = rw (eight a e) (read_set_other heads cell c entry (λ d. n (d, e)))

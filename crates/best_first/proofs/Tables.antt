@@ -102,16 +102,6 @@ module _ (layout : Layout) (goal : Cell) (o : Offer) (k : Table) where
       by_lookup None = on_added
       by_lookup (Some id) = by_test id (is_bettered k.nodes id new.key) refl
 
--- a greater bound holds too
-pub closed_more : (low high : ℕ) (k : Table) → ClosedBelow low k → low ≤ high → ClosedBelow high k
-closed_more low high k c l = record {
-  flags = c.flags;
-  below = λ id n h shut. chained n.key low high (c.below id n h shut) l;
-}
-  where
-    chained : (m n q : ℕ) → m ≤ n → n ≤ q → m ≤ q
-    chained m n q a b = omega arith
-
 -- a node of a greater key is open
 pub open_of : (key : ℕ) (k : Table) → ClosedBelow key k → (id : ℕ) (n : Node) → slice_get k.nodes id ≡ Some n
     → key < n.key → slice_get k.open_at id ≡ Some true
@@ -131,7 +121,3 @@ entry_some (Some id) e h n = ap (λ (i : ℕ). Some i) (before e id h)
   where
     before : (e id : ℕ) → e ≡ suc id → id ≡ e - 1
     before e id h = omega arith
-
-pub entry_none : (o : Option ℕ) (e : ℕ) → e ≡ entry_for o → e ≡ 0 → o ≡ None
-entry_none None e h n = refl
-entry_none (Some id) e h n = absurd (omega arith)

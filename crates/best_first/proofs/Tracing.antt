@@ -1,5 +1,5 @@
 -- One step on the way back along the parents.
-use Rattle.std.proofs.Common.{◌≡◌, ◌≢◌, ℕ, ◌+◌, ◌<◌, ◌≤◌, ◌^◌, List, [], ◌∷◌, ◌++◌, refl, ap, sym, ◌∙◌, subst, append_assoc, arith, reverse}
+use Rattle.std.proofs.Common.{◌≡◌, ◌≢◌, ℕ, ◌+◌, ◌<◌, List, [], ◌∷◌, ◌++◌, refl, ap, sym, ◌∙◌, subst, append_assoc, arith}
 use Rattle.std.specs.Prelude.{Some, slice_get}
 use Rattle.root2_cost.specs.declared.Cost.{Cost}
 use Rattle.root2_cost.specs.Sums.{add_costs, no_cost}
@@ -7,9 +7,8 @@ use Rattle.root2_cost.proofs.Less.{same_cost}
 use Rattle.grid_moves.specs.declared.Cell.{Cell}
 use Rattle.grid_moves.specs.Points.{estimate}
 use Rattle.best_first.specs.declared.node.Node.{Node}
-use Rattle.best_first.specs.Trace.{node_cell, rank_left, rank_at, IsBack, stops, goes, HasBack, IsOnTheWay, IsWayTo}
+use Rattle.best_first.specs.Trace.{node_cell, rank_left, IsBack, stops, goes, HasBack, IsOnTheWay}
 use Rattle.best_first.proofs.Mirrors.{some_node}
-use Rattle.best_first.proofs.Progress.{reverse-twice}
 
 module _ (goal : Cell) (nodes : List Node) where
   -- elsewhere than at the start the way back goes on with the parent's
@@ -38,13 +37,6 @@ module _ (goal : Cell) (nodes : List Node) where
         cost_is = refl;
       })
 
-  -- the last cell of the way back is the start's
-  pub at_start : (id : ℕ) (n : Node) (cells : List Cell) (cost : Cost) → IsBack goal nodes id cells cost → id ≡ 0
-      → slice_get nodes id ≡ Some n → (cells ≡ node_cell n ∷ []) × (cost ≡ no_cost)
-  at_start id n cells cost (stops i m z g) e h =
-      (ap (λ (x : Node). node_cell x ∷ []) (some_node m n (sym g ∙ h)), refl)
-  at_start id n cells cost (goes i m p rest c nz g l f b) e h = absurd (nz e)
-
   -- a way back leads from a node
   pub has_node : (id : ℕ) (cells : List Cell) (cost : Cost) → IsBack goal nodes id cells cost
       → (n : Node) × (slice_get nodes id ≡ Some n)
@@ -64,23 +56,6 @@ module _ (goal : Cell) (nodes : List Node) where
       joined = refl;
       priced = same_cost (add_costs h.cost no_cost) h.cost (omega arith) (omega arith);
     }
-
-    -- what is counted stays short
-    pub fits_on : (points : List Cell) (cost : Cost) (id : ℕ) (n : Node)
-        → (w : IsOnTheWay goal nodes first points cost id) → (f : Further id n w.rest w.left)
-        → (add_costs cost (estimate (node_cell f.parent) (node_cell n))).a
-        + (add_costs cost (estimate (node_cell f.parent) (node_cell n))).b ≤ 2 ^ 28
-    fits_on points cost id n w f =
-        let left = f.cost_is in
-        let total = w.priced in
-        let a : w.left.a ≡ f.left.a + (estimate (node_cell f.parent) (node_cell n)).a
-        = ap (λ (c : Cost). c.a) left in
-        let b : w.left.b ≡ f.left.b + (estimate (node_cell f.parent) (node_cell n)).b
-        = ap (λ (c : Cost). c.b) left in
-        let d : w.left.a + cost.a ≡ w.total.a = ap (λ (c : Cost). c.a) total in
-        let e : w.left.b + cost.b ≡ w.total.b = ap (λ (c : Cost). c.b) total in
-        let few = w.few in
-        omega arith
 
     -- one cell more
     pub one_back : (points : List Cell) (cost : Cost) (id : ℕ) (n : Node)
@@ -103,27 +78,6 @@ module _ (goal : Cell) (nodes : List Node) where
         moved : (a b c : Cost) → add_costs a (add_costs b c) ≡ add_costs (add_costs a c) b
         moved a b c = same_cost (add_costs a (add_costs b c)) (add_costs (add_costs a c) b) (omega arith)
             (omega arith)
-
-    -- the whole way
-    pub whole_way : (points : List Cell) (cost : Cost) (id : ℕ) (n : Node)
-        → IsOnTheWay goal nodes first points cost id → id ≡ 0 → slice_get nodes id ≡ Some n
-        → IsWayTo goal nodes first (reverse (points ++ node_cell n ∷ [])) cost
-    whole_way points cost id n w z h =
-        let e = at_start id n w.rest w.left w.rest_is_back z h in
-        let cells : points ++ node_cell n ∷ [] ≡ w.cells =
-        ap (λ (cs : List Cell). points ++ cs) (sym e.0) ∙ w.joined in
-        let total : w.total ≡ cost = sym w.priced ∙ ap (λ (c : Cost). add_costs c cost) e.1 ∙ nothing cost in
-        subst (λ (c : Cost). IsBack goal nodes first (reverse (reverse (points ++ node_cell n ∷ []))) c) total
-        (subst (λ (cs : List Cell). IsBack goal nodes first cs w.total)
-        (sym (reverse-twice (points ++ node_cell n ∷ []) ∙ cells)) w.is_back)
-      where
-        nothing : (c : Cost) → add_costs no_cost c ≡ c
-        nothing c = same_cost (add_costs no_cost c) c (omega arith) (omega arith)
-
-    -- the measure falls
-    pub ranks_fall : (id : ℕ) (n : Node) (cells : List Cell) (cost : Cost) → slice_get nodes id ≡ Some n
-        → (f : Further id n cells cost) → rank_at goal nodes n.parent < rank_at goal nodes id
-    ranks_fall id n cells cost h f = rw (f.parent_is, h) f.less
 
     -- one cell more, as it is read
     pub step_back : (points later : List Cell) (cost after : Cost) (id : ℕ) (n p : Node) (cell before : Cell)

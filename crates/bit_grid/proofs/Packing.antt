@@ -1,6 +1,5 @@
 -- Words of bits, one after the other.
-use Rattle.std.proofs.Common.{◌≡◌, ◌≢◌, ℕ, zero, suc, ◌+◌, ◌*◌, ◌/◌, ◌%◌, ◌<◌, ◌≤◌, ◌⊎◌, inl, inr, arith, Bool, false, refl, ap, sym, ◌∙◌, subst, List, [], ◌∷◌, ◌++◌, length, length-append, slice_index_or, slice_set, get_or-set_same, get_or-set_other}
-use mir.Val.{bool_byte}
+use Rattle.std.proofs.Common.{◌≡◌, ℕ, zero, suc, ◌+◌, ◌*◌, ◌/◌, ◌%◌, ◌<◌, ◌≤◌, ◌⊎◌, inl, inr, arith, Bool, false, refl, ap, sym, ◌∙◌, subst, List, [], ◌∷◌, ◌++◌, length, length-append, slice_index_or}
 use Rattle.std.proofs.lemmas.Bool.Decides.{nat_tests}
 use Rattle.grid_moves.specs.Grid.{GridData, is_free, is_inside}
 use Rattle.std.proofs.lemmas.List.{get_or_append_left}
@@ -8,57 +7,14 @@ use Rattle.std.proofs.Math.Seq.{get_or-append_seam}
 use Rattle.std.proofs.lemmas.Nat.{div-mul-add, mod-mul-add, mul-add-lt}
 use Rattle.std.proofs.lemmas.Bool.{cases_lt}
 use Rattle.bit_grid.specs.Bits.{LineData, Shows, AreRowsOf, AreColumnsOf, HasRoom, is_set, is_free_from_one}
-use Rattle.bit_grid.specs.Pack.{is_free_in, IsBordered, AreFlags}
+use Rattle.bit_grid.specs.Pack.{is_free_in, IsBordered}
 use Rattle.bit_grid.specs.Turn.{ArePackedSoFar}
-use Rattle.bit_grid.proofs.Words.{set_flag, set_none}
+use Rattle.bit_grid.proofs.Words.{set_none}
 
 -- the flags of a row's first cells
 abbrev pub AreFirst : GridData → ℕ → ℕ → List ℕ → Type 0
 AreFirst g y cells bytes = (x : ℕ) → x < cells → is_set (slice_index_or bytes (suc x) 0) 0
     ≡ is_free g (record { x = x; y = y })
-
-pub flags_more : (g : GridData) (x y place flag : ℕ) (bytes : List ℕ) → place ≡ x + 1 → place < length bytes
-    → flag ≡ bool_byte (is_free g (record { x = x; y = y })) → AreFirst g y x bytes
-    → AreFirst g y (x + 1) (slice_set bytes place flag)
-flags_more g x y place flag bytes at inside is behind k h = by_place (cases_lt k x)
-  where
-    by_place : (k < x) ⊎ (x ≤ k) → is_set (slice_index_or (slice_set bytes place flag) (suc k) 0) 0
-        ≡ is_free g (record { x = k; y = y })
-    by_place (inl l) =
-        let apart : suc k ≢ place = λ same. omega arith in
-        ap (λ (n : ℕ). is_set n 0) (get_or-set_other bytes place (suc k) flag 0 apart) ∙ behind k l
-    by_place (inr l) =
-        let here : suc k ≡ place = omega arith in
-        let same : x ≡ k = omega arith in
-        ap (λ (n : ℕ). is_set n 0) (ap (λ (p : ℕ). slice_index_or (slice_set bytes place flag) p 0) here
-        ∙ get_or-set_same bytes place flag 0 inside)
-        ∙ set_flag (is_free g (record { x = x; y = y })) flag is
-        ∙ ap (λ (n : ℕ). is_free g (record { x = n; y = y })) same
-
-pub border_stays : (g : GridData) (x place flag : ℕ) (bytes : List ℕ) → place ≡ x + 1 → x < g.width
-    → length (slice_set bytes place flag) ≡ length bytes → IsBordered g bytes
-    → IsBordered g (slice_set bytes place flag)
-border_stays g x place flag bytes at below long border = (
-  (let apart : 0 ≢ place = λ same. omega arith in get_or-set_other bytes place 0 flag 0 apart ∙ border.0),
-  λ p h k. (let apart : p ≢ place = λ same. omega arith in
-      get_or-set_other bytes place p flag 0 apart ∙ border.1 p h (rw (← long) k)),
-)
-
--- all flags of a row, those of the border among them
-pub flags_all : (g : GridData) (y : ℕ) (bytes : List ℕ) → IsBordered g bytes → AreFirst g y g.width bytes
-    → AreFlags g (suc y) bytes
-flags_all g y bytes border behind zero h = ap (λ (n : ℕ). is_set n 0) border.0 ∙ set_none 0
-flags_all g y bytes border behind (suc x) h = by_place (cases_lt x g.width)
-  where
-    by_place : (x < g.width) ⊎ (g.width ≤ x)
-        → is_set (slice_index_or bytes (suc x) 0) 0 ≡ is_free g (record { x = x; y = y })
-    by_place (inl l) = behind x l
-    by_place (inr l) = ap (λ (n : ℕ). is_set n 0) (border.1 (suc x) (omega arith) h) ∙ set_none 0
-        ∙ sym (outside x y (let past = l in grind (arith, nat_tests)))
-      where
-        outside : (x y : ℕ) → is_inside g (record { x = x; y = y }) ≡ false
-            → is_free g (record { x = x; y = y }) ≡ false
-        outside x y e = rw e refl
 
 -- the border's rows
 pub flags_none : (g : GridData) (line : ℕ) (bytes : List ℕ) (n : ℕ)

@@ -3,16 +3,9 @@ use Rattle.std.proofs.Common.{◌≡◌, ℕ, ◌+◌, ◌*◌, ◌/◌, ◌%◌
 use Rattle.std.specs.Prelude.{if◌then◌else◌}
 use Rattle.std.proofs.lemmas.Bool.Decides.{nat_tests}
 use Rattle.bit_grid.specs.Bits.{LineData, Shows, is_set}
-use Rattle.bit_grid.specs.Turn.{AreWordsTo, AreBytesTo, IsStrip, IsWhole, ArePackedSoFar}
+use Rattle.bit_grid.specs.Turn.{IsStrip, IsWhole, ArePackedSoFar}
 use Rattle.bit_grid.proofs.Packing.{packed_lines}
 use Rattle.bit_grid.proofs.Words.{set_none}
-
--- bytes of the words of rows are a strip
-pub strip_of : (strip down words : List ℕ) (lines per_line byte : ℕ) → length strip ≡ length down
-    → AreWordsTo (length down) down words lines per_line (byte / 8)
-    → AreBytesTo (length strip) strip down (byte % 8) → IsStrip strip words lines per_line byte
-strip_of strip down words lines per_line byte alike gathered taken l h k i =
-    taken l h k i ∙ ap (λ (n : ℕ). is_set n (byte % 8 * 8 + k)) (gathered l (rw (← alike) h))
 
 -- a bit of a strip is one of a row
 pub strip_bit : (strip words : List ℕ) (lines per_line byte : ℕ) (free : ℕ → ℕ → Bool)

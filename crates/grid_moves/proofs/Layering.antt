@@ -1,5 +1,5 @@
 -- The two layers of a map stay apart.
-use Rattle.std.proofs.Common.{◌≡◌, ◌≢◌, ℕ, zero, suc, Bool, true, false, ◌&&◌, refl, ap, ◌∙◌}
+use Rattle.std.proofs.Common.{◌≡◌, ℕ, zero, suc, Bool, true, false, ◌&&◌, refl, ◌∙◌}
 use Rattle.std.proofs.Common.{List, [], ◌∷◌, map, get_or}
 use Rattle.std.specs.Prelude.{if◌then◌else◌}
 use Rattle.std.proofs.lemmas.List.{length-map}
@@ -8,11 +8,8 @@ use Rattle.grid_moves.specs.declared.Corner.{Corner}
 use Rattle.grid_moves.specs.declared.Ground.{Ground}
 use Rattle.grid_moves.specs.declared.Ground.TheVariants.{Blocked, Land, Water}
 use Rattle.grid_moves.specs.Grid.{AreCells, IsGrid, cell_number, ground_of, is_free, is_ground}
-use Rattle.grid_moves.specs.Grid.{grid_with, is_inside, layer_of}
-use Rattle.grid_moves.specs.Move.{is_same}
-use Rattle.grid_moves.specs.Layers.{AreLayers, Layers, ground_at, is_on_map, layers_of, layers_with}
-use Rattle.grid_moves.proofs.Edited.{is_free-with_other, is_free-with_same, is_grid-with}
-use Rattle.grid_moves.proofs.Legal.{is_same-cell, is_same-itself}
+use Rattle.grid_moves.specs.Grid.{is_inside, layer_of}
+use Rattle.grid_moves.specs.Layers.{AreLayers, Layers, ground_at, is_on_map, layers_of}
 
 -- no ground is both
 not_both : (ground : Ground) → (is_ground Land ground && is_ground Water ground) ≡ false
@@ -55,41 +52,6 @@ are_layers-of corner width height bytes cells = record {
 -- of two grids of the same sides a cell lies on the one where it lies on the other
 pub is_inside-water : (ls : Layers) → AreLayers ls → (c : Cell) → is_inside ls.water c ≡ is_on_map ls c
 is_inside-water ls are c = rw (are.width, are.height) refl
-
--- and after an edit
-pub are_layers-with : (ls : Layers) (c : Cell) (to : Ground) → AreLayers ls → is_on_map ls c ≡ true
-    → AreLayers (layers_with ls c to)
-are_layers-with ls c to are inside = record {
-  land = is_grid-with ls.land c (is_ground Land to) are.land;
-  water = is_grid-with ls.water c (is_ground Water to) are.water;
-  width = are.width;
-  height = are.height;
-  corner = are.corner;
-  apart = λ d. by_test d (is_same d c) refl;
-}
-  where
-    in_water : is_inside ls.water c ≡ true
-    in_water = is_inside-water ls are c ∙ inside
-
-    by_test : (d : Cell) (test : Bool) → is_same d c ≡ test
-        → (is_free (grid_with ls.land c (is_ground Land to)) d
-        && is_free (grid_with ls.water c (is_ground Water to)) d) ≡ false
-    by_test d true e =
-        ap (λ (v : Cell). is_free (grid_with ls.land c (is_ground Land to)) v
-        && is_free (grid_with ls.water c (is_ground Water to)) v) (is_same-cell d c e)
-        ∙ ap (λ (b : Bool). b && is_free (grid_with ls.water c (is_ground Water to)) c)
-        (is_free-with_same ls.land c (is_ground Land to) are.land inside)
-        ∙ ap (λ (b : Bool). is_ground Land to && b)
-        (is_free-with_same ls.water c (is_ground Water to) are.water in_water)
-        ∙ not_both to
-    by_test d false e =
-        let other : d ≢ c = λ same. (let t : is_same d c ≡ true
-        = ap (λ (v : Cell). is_same v c) same ∙ is_same-itself c in cc) in
-        ap (λ (b : Bool). b && is_free (grid_with ls.water c (is_ground Water to)) d)
-        (is_free-with_other ls.land c d (is_ground Land to) inside other)
-        ∙ ap (λ (b : Bool). is_free ls.land d && b)
-        (is_free-with_other ls.water c d (is_ground Water to) in_water other)
-        ∙ are.apart d
 
 -- of the ground that is there, each layer says so
 by_ground : (land water : Bool) (to : Ground) → (land && water) ≡ false

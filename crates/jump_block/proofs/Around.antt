@@ -1,5 +1,5 @@
 -- The words around a cell.
-use Rattle.std.proofs.Common.{◌≡◌, ℕ, zero, suc, ◌+◌, ◌-◌, ◌*◌, ◌/◌, ◌%◌, ◌<◌, arith, Bool, false, true, ◌&&◌, refl, ap, sym, ◌∙◌, subst, bit_and}
+use Rattle.std.proofs.Common.{◌≡◌, ℕ, zero, suc, ◌+◌, ◌-◌, ◌*◌, ◌/◌, ◌%◌, ◌<◌, arith, Bool, true, ◌&&◌, refl, ap, sym, ◌∙◌, subst, bit_and}
 use Rattle.std.specs.Prelude.{Option, Some, None, IfSome, is_some}
 use Rattle.grid_moves.specs.declared.Cell.{Cell}
 use Rattle.grid_moves.specs.declared.Corner.{Corner}
@@ -8,7 +8,7 @@ use Rattle.grid_moves.specs.declared.Dir.{Dir}
 use Rattle.grid_moves.specs.declared.Dir.TheVariants.{N, NE, E, SE, S, SW, W, NW}
 use Rattle.grid_moves.specs.Grid.{GridData, is_free}
 use Rattle.grid_moves.specs.Move.{is_passable}
-use Rattle.bit_grid.specs.Bits.{LineData, is_set}
+use Rattle.bit_grid.specs.Bits.{is_set}
 use Rattle.bit_grid.proofs.Words.{set_and, set_raised, set_lowered}
 use Rattle.pruning.specs.Turns.{is_diagonal}
 use Rattle.pruning.specs.Allowed.{can_move}
@@ -17,7 +17,7 @@ use Rattle.jump_block.specs.declared.word.Way.TheVariants.{Forward, Back}
 use Rattle.jump_block.specs.declared.word.Words.{Words}
 use Rattle.jump_block.specs.declared.block.Halt.{Halt}
 use Rattle.jump_block.specs.Trail.{Trail, IsClear, Halts, halts, begun, trail_on}
-use Rattle.jump_block.specs.Scan.{IsStart, Finds}
+use Rattle.jump_block.specs.Scan.{Finds}
 use Rattle.jump_block.specs.Word.{AreWordsOf, AreEdgesOf, IsAhead, IsFound, Meets, far, moves_before, near}
 use Rattle.jump_block.specs.Near.{AreNear, HasNextBit, HasNextWord, next_bit, next_word, side_word}
 use Rattle.jump_block.specs.Source.{by_rows, row_way, column_way}
@@ -119,31 +119,11 @@ module _ (free : ℕ → ℕ → Bool) (way : Way) (rule : Corner) (line from ne
         clear = rw edge_is clear;
       }) told
 
--- the words that were read around a place, by equal numbers
-pub near_along : (l : LineData) (free : ℕ → ℕ → Bool) (line place line' place' : ℕ) (w : Words) → line ≡ line'
-    → place ≡ place' → IsStart l free line' place'
-    → ((f : ℕ → ℕ → Bool) → IsStart l f line place → AreNear f line place w) → AreNear free line' place' w
-near_along l free line place line' place' w e f start near =
-    subst (λ (n : ℕ). AreNear free line' n w) f (subst (λ (n : ℕ). AreNear free n place w) e
-    (near free (subst (λ (n : ℕ). IsStart l free line n) (sym f)
-    (subst (λ (n : ℕ). IsStart l free n place') (sym e) start))))
-
-found_some : (t : Trail) (found : Option Halt) → is_some found ≡ true
+-- what was found is where a scan halts
+pub found_some : (t : Trail) (found : Option Halt) → is_some found ≡ true
     → IfSome found (λ h. Halts t h.passed h.blocked) → Finds t 0 found
 found_some t (Some h) some there = there
 found_some t None some there = absurd (cc)
-
--- where a scan halts in the words around its start
-pub finds_near : (free : ℕ → ℕ → Bool) (way : Way) (rule : Corner) (t : Trail) (line place place' : ℕ) (w : Words)
-    (found : Option Halt) → t ≡ trail_on free way line place' → place ≡ place' → AreNear free line place' w
-    → ((f : ℕ → ℕ → Bool) (l : ℕ) → AreNear f l place w
-    → IfSome found (λ h. Halts (begun rule (trail_on f way l place)) h.passed h.blocked))
-    → is_some found ≡ true → Finds (begun rule t) 0 found
-finds_near free way rule t line place place' w found own same near told some =
-    subst (λ (u : Trail). Finds (begun rule u) 0 found) (sym own)
-    (subst (λ (p : ℕ). Finds (begun rule (trail_on free way line p)) 0 found) same
-    (found_some (begun rule (trail_on free way line place)) found some
-    (told free line (subst (λ (p : ℕ). AreNear free line p w) (sym same) near))))
 
 -- bits moved by one against the way
 pub set_lowered-next : (word j : ℕ) → j < 64 → HasNextBit Forward j
@@ -170,36 +150,6 @@ pub bits_lead : (rule : Corner) (way : Way) (place middle side along passes ahea
     && is_passable rule (is_set side place) (is_set middle (next_bit way place)))
 bits_lead rule way place middle side along passes ahead b h more a p n told =
     told ∙ set_and ahead passes place ∙ rw (n place h more, p place, a place h more) refl
-
--- or nothing halts it there
-pub clear_near : (free : ℕ → ℕ → Bool) (way : Way) (rule : Corner) (t : Trail) (line place place' : ℕ) (w : Words)
-    (found : Option Halt) → t ≡ trail_on free way line place' → place ≡ place' → AreNear free line place' w
-    → (is_some found ≡ false → (f : ℕ → ℕ → Bool) (l : ℕ) → AreNear f l place w
-    → IsClear (begun rule (trail_on f way l place)) (moves_before way place (far way (place / 64 * 64))))
-    → is_some found ≡ false → IsClear (begun rule t) (moves_before way place' (far way (place' / 64 * 64)))
-clear_near free way rule t line place place' w found own same is told none =
-    subst (λ (u : Trail). IsClear (begun rule u) (moves_before way place' (far way (place' / 64 * 64)))) (sym own)
-    (subst (λ (p : ℕ). IsClear (begun rule (trail_on free way line p)) (moves_before way p (far way (p / 64 * 64))))
-    same (told none free line (subst (λ (p : ℕ). AreNear free line p w) (sym same) is)))
-
--- or in the next word
-abbrev pub IsToldNext : LineData → Way → Corner → Words → Option Halt → ℕ → ℕ → Type 0
-IsToldNext l way rule w found line place = (f : ℕ → ℕ → Bool) → IsStart l f line place → AreNear f line place w
-    → IsClear (begun rule (trail_on f way line place)) (moves_before way place (far way (place / 64 * 64)))
-    → IfSome found (λ h. Halts (begun rule (trail_on f way line place)) h.passed h.blocked)
-
-pub finds_next : (l : LineData) (free : ℕ → ℕ → Bool) (way : Way) (rule : Corner) (t : Trail)
-    (line line' place place' : ℕ) (w : Words) (found : Option Halt) → t ≡ trail_on free way line' place'
-    → line ≡ line' → place ≡ place' → IsStart l free line' place' → AreNear free line' place' w
-    → IsClear (begun rule t) (moves_before way place' (far way (place' / 64 * 64)))
-    → IsToldNext l way rule w found line place → is_some found ≡ true → Finds (begun rule t) 0 found
-finds_next l free way rule t line line' place place' w found own e f start is clear told some =
-    subst (λ (u : Trail). Finds (begun rule u) 0 found) (sym own)
-    (found_some (begun rule (trail_on free way line' place')) found some
-    (subst (λ (p : ℕ). IsToldNext l way rule w found line' p) f
-    (subst (λ (n : ℕ). IsToldNext l way rule w found n place) e told) free start is
-    (subst (λ (u : Trail). IsClear (begun rule u) (moves_before way place' (far way (place' / 64 * 64)))) own
-    clear)))
 
 passable_turned : (r : Corner) (a b : Bool) → is_passable r a b ≡ is_passable r b a
 passable_turned Never a b = grind arith

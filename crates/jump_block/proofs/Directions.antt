@@ -1,6 +1,6 @@
 -- Scans on a grid, in each straight direction.
 use Rattle.std.proofs.Common.{◌≡◌, ◌≢◌, ℕ, zero, suc, ◌+◌, ◌-◌, ◌<◌, arith, Bool, true, false, not, ◌||◌, refl, ap, sym, ◌∙◌, subst}
-use Rattle.std.specs.Prelude.{Option, Some, nat_eq}
+use Rattle.std.specs.Prelude.{Option, Some, is_some, nat_eq}
 use Rattle.std.proofs.lemmas.Bool.Decides.{nat_tests}
 use Rattle.grid_moves.specs.declared.Cell.{Cell}
 use Rattle.grid_moves.specs.declared.Corner.{Corner}
@@ -12,16 +12,18 @@ use Rattle.grid_moves.specs.Move.{ahead, is_open}
 use Rattle.grid_moves.proofs.Legal.{free_inside}
 use Rattle.bit_grid.specs.Bits.{LineData, is_free_from_one, AreRowsOf, AreColumnsOf}
 use Rattle.pruning.specs.declared.turns.Side.TheVariants.{Right, Left}
-use Rattle.pruning.specs.Turns.{is_diagonal, turn}
+use Rattle.pruning.specs.declared.turns.Side.{Side}
+use Rattle.pruning.specs.First.{first_stop}
+use Rattle.pruning.specs.Turns.{is_diagonal, quarter, turn}
 use Rattle.jump_plain.specs.declared.beside.Sides.{Sides}
-use Rattle.jump_plain.specs.Beside.{sides_of}
-use Rattle.jump_plain.specs.Reach.{first_sides, moves_to}
-use Rattle.jump_block.proofs.Runs.{IsRay, IsTold, told_by_ray}
+use Rattle.jump_plain.specs.Reach.{first_sides, moves_to, reach_of, stop_of}
+use Rattle.jump_plain.proofs.Straight.{straight_stop}
+use Rattle.jump_block.proofs.Runs.{IsTold, told_by_ray}
 use Rattle.jump_block.specs.declared.word.Way.{Way}
 use Rattle.jump_block.specs.declared.word.Way.TheVariants.{Forward, Back}
-use Rattle.jump_block.specs.Trail.{at_start, begun, opens, trail_on}
-use Rattle.jump_block.specs.declared.block.Halt.{Halt}
-use Rattle.jump_block.specs.Scan.{IsStart, Finds}
+use Rattle.jump_block.specs.Trail.{Trail, at_start, begun, halts, opens, trail_on}
+use Rattle.jump_block.specs.Scan.{IsStart, MeetsMark}
+use Rattle.jump_block.specs.Source as block
 use Rattle.jump_block.specs.Source.{by_rows, by_columns, trail_of, row_dir, column_dir, row_way, column_way}
 
 abbrev pub cell : ℕ → ℕ → Cell
@@ -144,8 +146,8 @@ own One side k = refl
 regrouped : (a b c : Bool) → ((a || b) || c) ≡ (a || (b || c))
 regrouped a b c = grind arith
 
-turned : (a b c : Bool) → ((a || b) || c) ≡ (a || (c || b))
-turned a b c = grind arith
+other_side : (a b c : Bool) → ((a || b) || c) ≡ ((a || c) || b)
+other_side a b c = grind arith
 
 -- a side of a cell
 module _ (g : GridData) (d : Dir) (x y p q : ℕ) where
@@ -174,187 +176,91 @@ north_ahead : (g : GridData) (x n m : ℕ) → m ≡ n - 1 → is_open g (cell x
 north_ahead g x zero m e h = absurd (cc)
 north_ahead g x (suc n) m e h = let same : n ≡ m = omega arith in ap (λ (k : ℕ). Some (cell x k)) same
 
-module _ (g : GridData) (x : Cell) (rule : Corner) where
-  abbrev east_sides : ℕ → Sides
-  east_sides k = record {
-    right = (begun rule (trail_of g E x)).after k;
-    left = (begun rule (trail_of g E x)).before k;
-  }
+-- a straight run along a line: where its cells stand, and what lies to their right and left
+module _ (g : GridData) (x : Cell) (d : Dir) (rule : Corner) (straight : is_diagonal d ≡ false) (r : rule ≡ g.corner)
+    (free : is_free g x ≡ true) (whole : IsGrid g) (place : ℕ → Cell) (t : Trail) (right left : ℕ → Bool)
+    (starts : place 0 ≡ x) (begins : t.free 0 ≡ true)
+    (open_is : (k : ℕ) → t.free (suc k) ≡ is_open g (place k) d)
+    (goes : (k : ℕ) → is_open g (place k) d ≡ true → ahead d (place k) ≡ Some (place (suc k)))
+    (right_is : (k : ℕ) → t.free k ≡ true → right k ≡ is_open g (place k) (quarter Right d))
+    (left_is : (k : ℕ) → t.free k ≡ true → left k ≡ is_open g (place k) (quarter Left d))
+    (alike : (k : ℕ) → halts (begun rule t) k ≡ ((not (t.free (suc k)) || opens (at_start rule right) k)
+    || opens (at_start rule left) k)) where
+  abbrev sides_at : ℕ → Sides
+  sides_at k = record { right = at_start rule right k; left = at_start rule left k }
 
-  east_begins : east_sides 0 ≡ first_sides rule g x E
-  east_begins = by_rule rule
+  first : sides_at 0 ≡ first_sides rule g x d
+  first = by_rule rule
     where
+      at : (s : Side) (b : Bool) → b ≡ is_open g (place 0) (quarter s d) → b ≡ is_open g x (quarter s d)
+      at s b e = e ∙ ap (λ (c : Cell). is_open g c (quarter s d)) starts
+
       by_rule : (r : Corner)
-          → (let s : Sides = record { right = at_start r (trail_of g E x).after 0; left = at_start r (trail_of g E x).before 0 } in s)
-          ≡ first_sides r g x E
-      by_rule Never = same_sides _ _ _ _ (is_open_there g S x.x x.y _ _ (omega arith) (omega arith))
-          (is_open_there g N x.x x.y _ _ (omega arith) (omega arith))
+          → (let s : Sides = record { right = at_start r right 0; left = at_start r left 0 } in s)
+          ≡ first_sides r g x d
+      by_rule Never = same_sides _ _ _ _ (at Right (right 0) (right_is 0 begins)) (at Left (left 0) (left_is 0 begins))
       by_rule One = refl
 
-  east_ray : IsRay g x E rule (λ k. cell (x.x + k) x.y) (begun rule (trail_of g E x)).free east_sides
-  east_ray = record {
-    starts = ap (λ (n : ℕ). cell n x.y) (omega arith);
-    begins = east_begins;
-    open_is = λ k. sym (is_open_there g E (x.x + k) x.y _ _ (omega arith) (omega arith));
-    goes = east_goes;
-    sides_are = east_later;
-  }
-    where
-      east_goes : (k : ℕ) → is_open g (cell (x.x + k) x.y) E ≡ true → ahead E (cell (x.x + k) x.y) ≡ Some (cell (x.x + suc k) x.y)
-      east_goes k h = let next : x.x + k + 1 ≡ x.x + suc k = omega arith in
-          ap (λ (n : ℕ). Some (cell n x.y)) next
+  told_line : IsTold g x d rule (begun rule t)
+  told_line = told_by_ray g x d rule straight r free whole place t.free sides_at (record {
+    starts = starts;
+    begins = first;
+    open_is = λ k. sym (open_is k);
+    goes = goes;
+    sides_are = λ k f. same_sides _ _ _ _ (own rule right k ∙ right_is (suc k) f)
+        (own rule left k ∙ left_is (suc k) f);
+  }) (begun rule t) (λ k. alike k ∙ regrouped (not (t.free (suc k)))
+      (opens (at_start rule right) k) (opens (at_start rule left) k)) (λ k. refl)
 
-      east_later : (k : ℕ) → (trail_of g E x).free (suc k) ≡ true → east_sides (suc k) ≡ sides_of g (cell (x.x + suc k) x.y) E
-      east_later k f =
-          same_sides _ _ _ _
-          (own rule (trail_of g E x).after k ∙ is_open_there g S _ _ _ _ (omega arith) (omega arith))
-          (own rule (trail_of g E x).before k ∙ is_open_there g N _ _ _ _ (omega arith) (omega arith))
+module _ (g : GridData) (x : Cell) (rule : Corner) (r : rule ≡ g.corner) (free : is_free g x ≡ true)
+    (whole : IsGrid g) where
+  starts_free : (p q : ℕ) → p ≡ x.x + 1 → q ≡ x.y + 1 → is_free_from_one g p q ≡ true
+  starts_free p q e f = free_from_one g x.x x.y p q e f ∙ free
 
-  pub told_east : rule ≡ g.corner → is_free g x ≡ true → IsGrid g
-      → IsTold g x E rule (begun rule (trail_of g E x))
-  told_east r f whole = told_by_ray g x E rule refl r f whole (λ k. cell (x.x + k) x.y)
-      (begun rule (trail_of g E x)).free east_sides east_ray (begun rule (trail_of g E x))
-      (λ k. turned (not ((trail_of g E x).free (suc k))) (opens (begun rule (trail_of g E x)).before k)
-      (opens (begun rule (trail_of g E x)).after k)) (λ k. refl)
+  told_east : IsTold g x E rule (begun rule (trail_of g E x))
+  told_east = told_line g x E rule refl r free whole (λ k. cell (x.x + k) x.y) (trail_of g E x) (trail_of g E x).after
+      (trail_of g E x).before (ap (λ (n : ℕ). cell n x.y) (omega arith)) (starts_free _ _ (omega arith) (omega arith))
+      (λ k. is_open_there g E (x.x + k) x.y _ _ (omega arith) (omega arith))
+      (λ k h. let next : x.x + k + 1 ≡ x.x + suc k = omega arith in ap (λ (n : ℕ). Some (cell n x.y)) next)
+      (λ k f. is_open_there g S (x.x + k) x.y _ _ (omega arith) (omega arith))
+      (λ k f. is_open_there g N (x.x + k) x.y _ _ (omega arith) (omega arith)) (λ k. other_side (not ((trail_of g E x).free (suc k)))
+      (opens (begun rule (trail_of g E x)).before k) (opens (begun rule (trail_of g E x)).after k))
 
-  abbrev west_sides : ℕ → Sides
-  west_sides k = record {
-    right = (begun rule (trail_of g W x)).before k;
-    left = (begun rule (trail_of g W x)).after k;
-  }
+  told_west : IsTold g x W rule (begun rule (trail_of g W x))
+  told_west = told_line g x W rule refl r free whole (λ k. cell (x.x - k) x.y) (trail_of g W x) (trail_of g W x).before
+      (trail_of g W x).after (ap (λ (n : ℕ). cell n x.y) (omega arith)) (starts_free _ _ (omega arith) (omega arith))
+      (λ k. is_open_there g W (x.x - k) x.y _ _ (omega arith) (omega arith))
+      (λ k h. west_ahead g (x.x - k) (x.x - suc k) x.y (omega arith) h)
+      (λ k f. let on_map = no_border_column g (x.x + 1 - k) (x.y + 1) f in
+      is_open_there g N (x.x - k) x.y _ _ (omega arith) (omega arith))
+      (λ k f. let on_map = no_border_column g (x.x + 1 - k) (x.y + 1) f in
+      is_open_there g S (x.x - k) x.y _ _ (omega arith) (omega arith)) (λ k. refl)
 
-  west_begins : west_sides 0 ≡ first_sides rule g x W
-  west_begins = by_rule rule
-    where
-      by_rule : (r : Corner)
-          → (let s : Sides = record { right = at_start r (trail_of g W x).before 0; left = at_start r (trail_of g W x).after 0 } in s)
-          ≡ first_sides r g x W
-      by_rule Never = same_sides _ _ _ _ (is_open_there g N x.x x.y _ _ (omega arith) (omega arith))
-          (is_open_there g S x.x x.y _ _ (omega arith) (omega arith))
-      by_rule One = refl
+  told_south : IsTold g x S rule (begun rule (trail_of g S x))
+  told_south = told_line g x S rule refl r free whole (λ k. cell x.x (x.y + k)) (trail_of g S x)
+      (trail_of g S x).before (trail_of g S x).after (ap (λ (n : ℕ). cell x.x n) (omega arith))
+      (starts_free _ _ (omega arith) (omega arith))
+      (λ k. is_open_there g S x.x (x.y + k) _ _ (omega arith) (omega arith))
+      (λ k h. let next : x.y + k + 1 ≡ x.y + suc k = omega arith in ap (λ (n : ℕ). Some (cell x.x n)) next)
+      (λ k f. is_open_there g W x.x (x.y + k) _ _ (omega arith) (omega arith))
+      (λ k f. is_open_there g E x.x (x.y + k) _ _ (omega arith) (omega arith)) (λ k. refl)
 
-  west_ray : IsRay g x W rule (λ k. cell (x.x - k) x.y) (begun rule (trail_of g W x)).free west_sides
-  west_ray = record {
-    starts = ap (λ (n : ℕ). cell n x.y) (omega arith);
-    begins = west_begins;
-    open_is = λ k. sym (is_open_there g W (x.x - k) x.y _ _ (omega arith) (omega arith));
-    goes = west_goes;
-    sides_are = west_later;
-  }
-    where
-      west_goes : (k : ℕ) → is_open g (cell (x.x - k) x.y) W ≡ true → ahead W (cell (x.x - k) x.y) ≡ Some (cell (x.x - suc k) x.y)
-      west_goes k h = west_ahead g (x.x - k) (x.x - suc k) x.y (omega arith) h
+  told_north : IsTold g x N rule (begun rule (trail_of g N x))
+  told_north = told_line g x N rule refl r free whole (λ k. cell x.x (x.y - k)) (trail_of g N x)
+      (trail_of g N x).after (trail_of g N x).before (ap (λ (n : ℕ). cell x.x n) (omega arith))
+      (starts_free _ _ (omega arith) (omega arith))
+      (λ k. is_open_there g N x.x (x.y - k) _ _ (omega arith) (omega arith))
+      (λ k h. north_ahead g x.x (x.y - k) (x.y - suc k) (omega arith) h)
+      (λ k f. let on_map = no_border_row g (x.x + 1) (x.y + 1 - k) f in
+      is_open_there g E x.x (x.y - k) _ _ (omega arith) (omega arith))
+      (λ k f. let on_map = no_border_row g (x.x + 1) (x.y + 1 - k) f in
+      is_open_there g W x.x (x.y - k) _ _ (omega arith) (omega arith)) (λ k. other_side (not ((trail_of g N x).free (suc k)))
+      (opens (begun rule (trail_of g N x)).before k) (opens (begun rule (trail_of g N x)).after k))
 
-      west_later : (k : ℕ) → (trail_of g W x).free (suc k) ≡ true → west_sides (suc k) ≡ sides_of g (cell (x.x - suc k) x.y) W
-      west_later k f =
-          let on_map = no_border_column g (x.x + 1 - suc k) (x.y + 1) f in
-          same_sides _ _ _ _
-          (own rule (trail_of g W x).before k ∙ is_open_there g N _ _ _ _ (omega arith) (omega arith))
-          (own rule (trail_of g W x).after k ∙ is_open_there g S _ _ _ _ (omega arith) (omega arith))
-
-  pub told_west : rule ≡ g.corner → is_free g x ≡ true → IsGrid g
-      → IsTold g x W rule (begun rule (trail_of g W x))
-  told_west r f whole = told_by_ray g x W rule refl r f whole (λ k. cell (x.x - k) x.y)
-      (begun rule (trail_of g W x)).free west_sides west_ray (begun rule (trail_of g W x))
-      (λ k. regrouped (not ((trail_of g W x).free (suc k))) (opens (begun rule (trail_of g W x)).before k)
-      (opens (begun rule (trail_of g W x)).after k)) (λ k. refl)
-
-  abbrev south_sides : ℕ → Sides
-  south_sides k = record {
-    right = (begun rule (trail_of g S x)).before k;
-    left = (begun rule (trail_of g S x)).after k;
-  }
-
-  south_begins : south_sides 0 ≡ first_sides rule g x S
-  south_begins = by_rule rule
-    where
-      by_rule : (r : Corner)
-          → (let s : Sides = record { right = at_start r (trail_of g S x).before 0; left = at_start r (trail_of g S x).after 0 } in s)
-          ≡ first_sides r g x S
-      by_rule Never = same_sides _ _ _ _ (is_open_there g W x.x x.y _ _ (omega arith) (omega arith))
-          (is_open_there g E x.x x.y _ _ (omega arith) (omega arith))
-      by_rule One = refl
-
-  south_ray : IsRay g x S rule (λ k. cell x.x (x.y + k)) (begun rule (trail_of g S x)).free south_sides
-  south_ray = record {
-    starts = ap (λ (n : ℕ). cell x.x n) (omega arith);
-    begins = south_begins;
-    open_is = λ k. sym (is_open_there g S x.x (x.y + k) _ _ (omega arith) (omega arith));
-    goes = south_goes;
-    sides_are = south_later;
-  }
-    where
-      south_goes : (k : ℕ) → is_open g (cell x.x (x.y + k)) S ≡ true → ahead S (cell x.x (x.y + k)) ≡ Some (cell x.x (x.y + suc k))
-      south_goes k h = let next : x.y + k + 1 ≡ x.y + suc k = omega arith in
-          ap (λ (n : ℕ). Some (cell x.x n)) next
-
-      south_later : (k : ℕ) → (trail_of g S x).free (suc k) ≡ true → south_sides (suc k) ≡ sides_of g (cell x.x (x.y + suc k)) S
-      south_later k f =
-          same_sides _ _ _ _
-          (own rule (trail_of g S x).before k ∙ is_open_there g W _ _ _ _ (omega arith) (omega arith))
-          (own rule (trail_of g S x).after k ∙ is_open_there g E _ _ _ _ (omega arith) (omega arith))
-
-  pub told_south : rule ≡ g.corner → is_free g x ≡ true → IsGrid g
-      → IsTold g x S rule (begun rule (trail_of g S x))
-  told_south r f whole = told_by_ray g x S rule refl r f whole (λ k. cell x.x (x.y + k))
-      (begun rule (trail_of g S x)).free south_sides south_ray (begun rule (trail_of g S x))
-      (λ k. regrouped (not ((trail_of g S x).free (suc k))) (opens (begun rule (trail_of g S x)).before k)
-      (opens (begun rule (trail_of g S x)).after k)) (λ k. refl)
-
-  abbrev north_sides : ℕ → Sides
-  north_sides k = record {
-    right = (begun rule (trail_of g N x)).after k;
-    left = (begun rule (trail_of g N x)).before k;
-  }
-
-  north_begins : north_sides 0 ≡ first_sides rule g x N
-  north_begins = by_rule rule
-    where
-      by_rule : (r : Corner)
-          → (let s : Sides = record { right = at_start r (trail_of g N x).after 0; left = at_start r (trail_of g N x).before 0 } in s)
-          ≡ first_sides r g x N
-      by_rule Never = same_sides _ _ _ _ (is_open_there g E x.x x.y _ _ (omega arith) (omega arith))
-          (is_open_there g W x.x x.y _ _ (omega arith) (omega arith))
-      by_rule One = refl
-
-  north_ray : IsRay g x N rule (λ k. cell x.x (x.y - k)) (begun rule (trail_of g N x)).free north_sides
-  north_ray = record {
-    starts = ap (λ (n : ℕ). cell x.x n) (omega arith);
-    begins = north_begins;
-    open_is = λ k. sym (is_open_there g N x.x (x.y - k) _ _ (omega arith) (omega arith));
-    goes = north_goes;
-    sides_are = north_later;
-  }
-    where
-      north_goes : (k : ℕ) → is_open g (cell x.x (x.y - k)) N ≡ true → ahead N (cell x.x (x.y - k)) ≡ Some (cell x.x (x.y - suc k))
-      north_goes k h = north_ahead g x.x (x.y - k) (x.y - suc k) (omega arith) h
-
-      north_later : (k : ℕ) → (trail_of g N x).free (suc k) ≡ true → north_sides (suc k) ≡ sides_of g (cell x.x (x.y - suc k)) N
-      north_later k f =
-          let on_map = no_border_row g (x.x + 1) (x.y + 1 - suc k) f in
-          same_sides _ _ _ _
-          (own rule (trail_of g N x).after k ∙ is_open_there g E _ _ _ _ (omega arith) (omega arith))
-          (own rule (trail_of g N x).before k ∙ is_open_there g W _ _ _ _ (omega arith) (omega arith))
-
-  pub told_north : rule ≡ g.corner → is_free g x ≡ true → IsGrid g
-      → IsTold g x N rule (begun rule (trail_of g N x))
-  told_north r f whole = told_by_ray g x N rule refl r f whole (λ k. cell x.x (x.y - k))
-      (begun rule (trail_of g N x)).free north_sides north_ray (begun rule (trail_of g N x))
-      (λ k. turned (not ((trail_of g N x).free (suc k))) (opens (begun rule (trail_of g N x)).before k)
-      (opens (begun rule (trail_of g N x)).after k)) (λ k. refl)
-
--- a scan's finding, by equal numbers
-pub found_along : (free : ℕ → ℕ → Bool) (way : Way) (rule : Corner) (l : LineData) (line place line' place' : ℕ)
-    (goal goal' : ℕ) (found : Option Halt) → line ≡ line' → place ≡ place' → goal ≡ goal'
-    → IsStart l free line' place'
-    → ((f : ℕ → ℕ → Bool) → IsStart l f line place → Finds (begun rule (trail_on f way line place)) goal found)
-    → Finds (begun rule (trail_on free way line' place')) goal' found
-found_along free way rule l line place line' place' goal goal' found e f h start finds =
-    subst (λ (n : ℕ). Finds (begun rule (trail_on free way line' place')) n found) h
-    (subst (λ (n : ℕ). Finds (begun rule (trail_on free way line' n)) goal found) f
-    (subst (λ (n : ℕ). Finds (begun rule (trail_on free way n place)) goal found) e
-    (finds free (subst (λ (n : ℕ). IsStart l free line n) (sym f)
-    (subst (λ (n : ℕ). IsStart l free n place') (sym e) start)))))
+-- a line and a place on it, counted from 1, by equal numbers
+pub one_on : (P : ℕ → ℕ → Type 0) {x y u v : ℕ} → x ≡ u → y ≡ v → P (x + 1) (y + 1) → P (u + 1) (v + 1)
+one_on P {x} {y} {u} {v} e f p =
+    subst (λ (n : ℕ). P (u + 1) (n + 1)) f (subst (λ (n : ℕ). P (n + 1) (y + 1)) e p)
 
 -- the straight direction that is none of three
 pub is_north : (d : Dir) → is_diagonal d ≡ false → d ≢ E → d ≢ W → d ≢ S → d ≡ N
@@ -378,6 +284,19 @@ told_on g x NE rule h r f whole = absurd (cc)
 told_on g x SE rule h r f whole = absurd (cc)
 told_on g x SW rule h r f whole = absurd (cc)
 told_on g x NW rule h r f whole = absurd (cc)
+
+-- and where the goal is not ahead, whether it meets a mark
+pub mark_on : (g : GridData) (x : Cell) (d : Dir) (rule : Corner) → is_diagonal d ≡ false → rule ≡ g.corner
+    → is_free g x ≡ true → IsGrid g → (goal : Cell) → moves_to d x goal ≡ 0 → (marked : Bool)
+    → MeetsMark (begun rule (trail_of g d x)) marked → marked ≡ is_some (first_stop g goal x d)
+mark_on g x d rule h r f whole goal off marked met =
+    met.2 ∙ shown met.0.blocked
+    ∙ ap (λ (o : Option ℕ). is_some o) ((told_on g x d rule h r f whole 0 (Some met.0) met.1).0
+    ∙ ap (λ (n : ℕ). stop_of (reach_of g x d) n) (sym off) ∙ sym (straight_stop g goal x d h))
+  where
+    shown : (b : Bool) → not b ≡ is_some (block.stop_of rule (Some (record { passed = met.0.passed; blocked = b })) 0)
+    shown true = refl
+    shown false = refl
 
 -- the trail by its row or its column
 pub row_trail : (g : GridData) (way : Way) (x : Cell)

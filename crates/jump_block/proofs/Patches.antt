@@ -140,15 +140,6 @@ module _ (g : GridData) (x : Cell) (p : Patch) (around : IsAround g x p) where
         (λ e. both_alike _ _ _ _ (ap (λ (r : Corner). is_kept r (is_blocked (grid_of_patch p) (cell 1 1)) by e)
         around.rule ∙ kept_alike g.corner by e) (patch_moves e)) all_dirs
 
--- where no corner is cut, a diagonal move forces no neighbour
-pub never_forces : (g : GridData) (x : Cell) (d : Dir) → g.corner ≡ Never → is_diagonal d ≡ true
-    → is_forced g x d ≡ false
-never_forces g x d rule diagonal =
-    ap (λ (r : Corner). is_forced_on r (is_blocked g x) (can_move g x) d Right
-    || is_forced_on r (is_blocked g x) (can_move g x) d Left) rule
-    ∙ ap (λ (b : Bool). (if b then false else (is_blocked g x (rear Right d) && can_move g x (quarter Right d)))
-    || (if b then false else (is_blocked g x (rear Left d) && can_move g x (quarter Left d)))) diagonal
-
 -- a diagonal move is told by three cells
 pub leads_by : (g : GridData) (x : Cell) (d : Dir) → is_free g x ≡ true → is_diagonal d ≡ true
     → (rule : Corner) → rule ≡ g.corner → (ahead left right passes both : Bool)

@@ -58,9 +58,6 @@ module _ (l : LineData) (free : ℕ → ℕ → Bool) (line from : ℕ) (start :
       by_place (inl h) = absurd (let never = start.beyond from h in let there = start.starts in cc)
       by_place (inr h) = let ample = start.shows.ample in omega (arith, ample)
 
-  pub line_inside : line + 1 < l.lines
-  line_inside = let all = start.shows.bordered in let above = start.above in omega arith
-
   -- a further block
   module _ (way : Way) (rule : Corner) (index : ℕ) (below : index < l.blocks) (on_way : IsOnWay way from index)
       (clear : IsClear (begun rule (trail_on free way line from))
@@ -170,9 +167,6 @@ within_most to_goal passed blocks a b = by_test (nat_lt 0 to_goal) refl
         let near = b ahead in
         omega arith
     by_test false e = omega arith
-
-pub within_goal : (to_goal blocks : ℕ) → blocks * 512 ≤ to_goal + 512 → 3 * (blocks + 1) ≤ most_lanes to_goal
-within_goal to_goal blocks a = omega arith
 
 -- what the test of the goal says
 pub met : (to_goal n : ℕ) → (nat_lt 0 to_goal && nat_le to_goal n) ≡ true → (0 < to_goal) × (to_goal ≤ n)

@@ -1,9 +1,10 @@
 -- The words around a cell.
 use Rattle.std.specs.Prelude.{◌≡◌, ℕ, ◌+◌, ◌-◌, ◌*◌, ◌/◌, ◌<◌, Bool}
-use Rattle.bit_grid.specs.Bits.{is_set}
+use Rattle.bit_grid.specs.Bits.{LineData, is_set}
 use Rattle.jump_block.specs.declared.word.Way.{Way}
 use Rattle.jump_block.specs.declared.word.Way.TheVariants.{Forward, Back}
 use Rattle.jump_block.specs.declared.word.Words.{Words}
+use Rattle.jump_block.specs.Scan.{IsStart}
 
 -- bit j of the word is what a line has at place j of the word's 64, among which the place is
 abbrev pub HasNear : (ℕ → ℕ → Bool) → ℕ → ℕ → ℕ → Type 0
@@ -14,6 +15,10 @@ pub record AreNear (free : ℕ → ℕ → Bool) (line place : ℕ) (w : Words) 
   pub middle : HasNear free line place w.middle
   pub before : HasNear free (line - 1) place w.before
   pub after : HasNear free (line + 1) place w.after
+
+-- words that were read around the place, at which a scan starts
+abbrev pub AreNearStart : LineData → ℕ → ℕ → Words → Type 0
+AreNearStart l line place w = (free : ℕ → ℕ → Bool) → IsStart l free line place → AreNear free line place w
 
 -- the side to which a way across the lines leads
 abbrev pub side_word : Way → Words → ℕ

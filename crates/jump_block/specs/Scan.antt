@@ -1,8 +1,10 @@
 -- Scans along a line, over as many blocks as it takes.
-use Rattle.std.specs.Prelude.{◌≡◌, ℕ, ◌+◌, ◌*◌, ◌/◌, ◌<◌, ◌≤◌, Bool, true, false, nat_lt, min, if◌then◌else◌, Option, Some, None}
+use Rattle.std.specs.Prelude.{◌≡◌, ℕ, ◌+◌, ◌*◌, ◌/◌, ◌<◌, ◌≤◌, Bool, true, false, not, nat_lt, min, if◌then◌else◌, Option, Some, None}
 use Rattle.bit_grid.specs.Bits.{LineData, Shows}
 use Rattle.jump_block.specs.declared.block.Halt.{Halt}
-use Rattle.jump_block.specs.Trail.{Trail, Halts, IsClear}
+use Rattle.grid_moves.specs.declared.Corner.{Corner}
+use Rattle.jump_block.specs.declared.word.Way.{Way}
+use Rattle.jump_block.specs.Trail.{Trail, Halts, IsClear, begun, trail_on}
 
 -- a scan starts at this place of this line, at a free cell of the map that the lines show
 pub record IsStart (l : LineData) (free : ℕ → ℕ → Bool) (line from : ℕ) : Type 0 where
@@ -32,3 +34,16 @@ Finds t to_goal None = (0 < to_goal) × IsClear t to_goal
 abbrev pub looked : ℕ → Option Halt → ℕ
 looked to_goal (Some h) = nearer to_goal h.passed
 looked to_goal None = to_goal
+
+-- what a scan from there finds on the way
+abbrev pub FindsFrom : LineData → Corner → Way → ℕ → ℕ → ℕ → Option Halt → Type 0
+FindsFrom l rule way to_goal line place found = (free : ℕ → ℕ → Bool) → IsStart l free line place
+    → Finds (begun rule (trail_on free way line place)) to_goal found
+
+-- where a scan halts tells whether a side opens there, which is a mark
+abbrev pub MeetsMark : Trail → Bool → Type 0
+MeetsMark t marked = (h : Halt) × Halts t h.passed h.blocked × (marked ≡ not h.blocked)
+
+abbrev pub MeetsFrom : LineData → Corner → Way → ℕ → ℕ → Bool → Type 0
+MeetsFrom l rule way line place marked = (free : ℕ → ℕ → Bool) → IsStart l free line place
+    → MeetsMark (begun rule (trail_on free way line place)) marked

@@ -1,7 +1,7 @@
 //! Diagonal jumps: cell by cell, with a scan in each component from each cell.
 
 ghost use Rattle.std.specs.Prelude.{◌≡◌, ℕ, ◌+◌, ◌<◌, ◌≤◌, ◌&&◌, ◌||◌, Bool, false, true, is_some, nat_eq};
-ghost use Rattle.grid_moves.specs.Grid.{GridData, is_free};
+ghost use Rattle.grid_moves.specs.Grid.{GridData};
 ghost use Rattle.grid_moves.specs.Move as moves;
 ghost use Rattle.grid_moves.specs.Move.{ahead, is_same};
 ghost use Rattle.pruning.specs.Turns.{is_diagonal};
@@ -11,8 +11,8 @@ ghost use Rattle.bit_grid.specs.Bits.{is_free_from_one};
 ghost use Rattle.pruning.specs.First as first;
 ghost use Rattle.jump_plain.specs.Beside.{known};
 ghost use Rattle.jump_block.specs.Source as spec;
-ghost use Rattle.jump_block.specs.Near.{AreNear};
-ghost use Rattle.jump_block.specs.Source.{AreItsBits, by_rows};
+ghost use Rattle.jump_block.specs.Near.{AreNearStart};
+ghost use Rattle.jump_block.specs.Source.{OnSome, OnEach};
 
 use crate::near::{has_next_bit, leads_from_bit};
 use crate::patch::{Patch, bit_of};
@@ -139,11 +139,9 @@ impl<'a> Bits<'a> {
     // Whether the cell beside a free cell is free.
     #[inline(always)]
     fn is_open<L: Ledger>(&self, at: Cell, d: Dir, steps: &mut Steps<L>) -> bool
-        requires stands { (g : GridData) × AreItsBits self.now.rows.now self.now.columns.now self.now.corner g
-            × (is_free g at ≡ true) }
-        ensures is { (g : GridData)
-            → AreItsBits self.now.rows.now self.now.columns.now self.now.corner g
-            → result ≡ moves.is_open g at d }
+        requires stands { OnSome self.now.rows.now self.now.columns.now self.now.corner at }
+        ensures is { OnEach self.now.rows.now self.now.columns.now self.now.corner at
+            (λ g. result ≡ moves.is_open g at d) }
         ensures one_step { steps.new ≡ steps.old + 1 }
     {
         let bit = bit_beside(at, d);
@@ -153,12 +151,10 @@ impl<'a> Bits<'a> {
     // Whether a diagonal move from a free cell is legal, for the rare cells at the end of a word.
     #[inline(never)]
     fn leads<L: Ledger>(&self, at: Cell, d: Dir, steps: &mut Steps<L>) -> bool
-        requires stands { (g : GridData) × AreItsBits self.now.rows.now self.now.columns.now self.now.corner g
-            × (is_free g at ≡ true) }
+        requires stands { OnSome self.now.rows.now self.now.columns.now self.now.corner at }
         requires diagonal { is_diagonal d ≡ true }
-        ensures leads { (g : GridData)
-            → AreItsBits self.now.rows.now self.now.columns.now self.now.corner g → is_free g at ≡ true
-            → result ≡ can_move g at d }
+        ensures leads { OnEach self.now.rows.now self.now.columns.now self.now.corner at
+            (λ g. result ≡ can_move g at d) }
         ensures three_steps { steps.new ≡ steps.old + 3 }
     {
         let ahead = self.is_open(at, d, steps);
@@ -170,15 +166,11 @@ impl<'a> Bits<'a> {
     // The same, told the words around the cell, in which the cells ahead and beside it mostly are.
     #[inline(always)]
     fn leads_near<L: Ledger>(&self, at: Cell, d: Dir, near: Words, steps: &mut Steps<L>) -> bool
-        requires stands { (g : GridData) × AreItsBits self.now.rows.now self.now.columns.now self.now.corner g
-            × (is_free g at ≡ true) }
-        requires near { (g : GridData)
-            → AreItsBits self.now.rows.now self.now.columns.now self.now.corner g → is_free g at ≡ true
-            → AreNear (by_rows g) (at.y + 1) (at.x + 1) near }
+        requires stands { OnSome self.now.rows.now self.now.columns.now self.now.corner at }
+        requires near { AreNearStart self.now.rows.now (at.y + 1) (at.x + 1) near }
         requires diagonal { is_diagonal d ≡ true }
-        ensures leads { (g : GridData)
-            → AreItsBits self.now.rows.now self.now.columns.now self.now.corner g → is_free g at ≡ true
-            → result ≡ can_move g at d }
+        ensures leads { OnEach self.now.rows.now self.now.columns.now self.now.corner at
+            (λ g. result ≡ can_move g at d) }
         ensures more { steps.old ≤ steps.new }
     {
         let place = (u32::from(at.x) + 1) % 64;
@@ -192,12 +184,10 @@ impl<'a> Bits<'a> {
     // Whether, after a diagonal move to a free cell, a neighbour is forced there.
     #[inline(always)]
     fn forces<L: Ledger>(&self, at: Cell, d: Dir, steps: &mut Steps<L>) -> bool
-        requires stands { (g : GridData) × AreItsBits self.now.rows.now self.now.columns.now self.now.corner g
-            × (is_free g at ≡ true) }
+        requires stands { OnSome self.now.rows.now self.now.columns.now self.now.corner at }
         requires diagonal { is_diagonal d ≡ true }
-        ensures forces { (g : GridData)
-            → AreItsBits self.now.rows.now self.now.columns.now self.now.corner g → is_free g at ≡ true
-            → result ≡ is_forced g at d }
+        ensures forces { OnEach self.now.rows.now self.now.columns.now self.now.corner at
+            (λ g. result ≡ is_forced g at d) }
         ensures more { steps.old ≤ steps.new }
     {
         match self.corner {
@@ -213,14 +203,12 @@ impl<'a> Bits<'a> {
     // jump in a component finds a stop. For the rare cells in the goal's row or column.
     #[inline(never)]
     fn stops_in_line<L: Ledger>(&self, at: Cell, d: Dir, goal: Cell, steps: &mut Steps<L>) -> bool
-        requires stands { (g : GridData) × AreItsBits self.now.rows.now self.now.columns.now self.now.corner g
-            × (is_free g at ≡ true) }
+        requires stands { OnSome self.now.rows.now self.now.columns.now self.now.corner at }
         requires diagonal { is_diagonal d ≡ true }
-        ensures stops { (g : GridData)
-            → AreItsBits self.now.rows.now self.now.columns.now self.now.corner g → is_free g at ≡ true
-            → result ≡ (is_same at goal || is_forced g at d
+        ensures stops { OnEach self.now.rows.now self.now.columns.now self.now.corner at
+            (λ g. result ≡ (is_same at goal || is_forced g at d
             || is_some (first.first_stop g goal at (spec.row_dir (spec.row_way d)))
-            || is_some (first.first_stop g goal at (spec.column_dir (spec.column_way d)))) }
+            || is_some (first.first_stop g goal at (spec.column_dir (spec.column_way d))))) }
         ensures more { steps.old ≤ steps.new }
     {
         at == goal
@@ -241,17 +229,13 @@ impl<'a> Bits<'a> {
         near: Words,
         steps: &mut Steps<L>,
     ) -> bool
-        requires stands { (g : GridData) × AreItsBits self.now.rows.now self.now.columns.now self.now.corner g
-            × (is_free g at ≡ true) }
-        requires near { (g : GridData)
-            → AreItsBits self.now.rows.now self.now.columns.now self.now.corner g → is_free g at ≡ true
-            → AreNear (by_rows g) (at.y + 1) (at.x + 1) near }
+        requires stands { OnSome self.now.rows.now self.now.columns.now self.now.corner at }
+        requires near { AreNearStart self.now.rows.now (at.y + 1) (at.x + 1) near }
         requires diagonal { is_diagonal d ≡ true }
-        ensures stops { (g : GridData)
-            → AreItsBits self.now.rows.now self.now.columns.now self.now.corner g → is_free g at ≡ true
-            → result ≡ (is_same at goal || is_forced g at d
+        ensures stops { OnEach self.now.rows.now self.now.columns.now self.now.corner at
+            (λ g. result ≡ (is_same at goal || is_forced g at d
             || is_some (first.first_stop g goal at (spec.row_dir (spec.row_way d)))
-            || is_some (first.first_stop g goal at (spec.column_dir (spec.column_way d)))) }
+            || is_some (first.first_stop g goal at (spec.column_dir (spec.column_way d))))) }
         ensures more { steps.old ≤ steps.new }
     {
         if is_in_line(at, goal) {
@@ -272,12 +256,10 @@ impl<'a> Bits<'a> {
         goal: Cell,
         steps: &mut Steps<L>,
     ) -> Option<u16>
-        requires stands { (g : GridData) × AreItsBits self.now.rows.now self.now.columns.now self.now.corner g
-            × (is_free g at ≡ true) }
+        requires stands { OnSome self.now.rows.now self.now.columns.now self.now.corner at }
         requires diagonal { is_diagonal d ≡ true }
-        ensures first { (g : GridData)
-            → AreItsBits self.now.rows.now self.now.columns.now self.now.corner g → is_free g at ≡ true
-            → result ≡ first.first_stop g goal at d }
+        ensures first { OnEach self.now.rows.now self.now.columns.now self.now.corner at
+            (λ g. result ≡ first.first_stop g goal at d) }
         ensures fewest { steps.old + 3 ≤ steps.new }
     {
         let mut cell = at;

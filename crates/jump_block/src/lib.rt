@@ -9,6 +9,7 @@
 mod block;
 mod diagonal;
 mod eight;
+mod marks;
 mod near;
 mod patch;
 mod scan;

@@ -4,7 +4,7 @@ ghost use Rattle.std.specs.Prelude.{◌≡◌, ℕ, ◌+◌, ◌*◌, ◌/◌, �
 ghost use Rattle.grid_moves.specs.Move as moves;
 ghost use Rattle.bit_grid.specs.Bits.{Shows, is_set};
 ghost use Rattle.jump_block.specs.Near as spec;
-ghost use Rattle.jump_block.specs.Near.{AreNear, HasNextBit, HasNextWord};
+ghost use Rattle.jump_block.specs.Near.{AreNear, AreNearStart, HasNextBit, HasNextWord};
 ghost use Rattle.jump_block.specs.Scan.{IsStart};
 ghost use Rattle.jump_block.specs.Source as source;
 
@@ -48,7 +48,7 @@ pub(crate) fn words_near<L: Ledger>(
 ) -> Words
     requires starts { (free : ℕ → ℕ → Bool) × IsStart lines.now free line place }
     requires few { lines.now.lines < 65536 }
-    ensures near { (free : ℕ → ℕ → Bool) → IsStart lines.now free line place → AreNear free line place result }
+    ensures near { AreNearStart lines.now line place result }
     ensures three_steps { steps.new ≡ steps.old + 3 }
 {
     words_beside(lines, line, place / 64, steps)

@@ -1,7 +1,6 @@
 //! Bits of a grid as a source of jumps.
 
-ghost use Rattle.std.specs.Prelude.{◌≡◌, ℕ, ◌+◌, ◌≤◌, false, true, IsTrue, None};
-ghost use Rattle.grid_moves.specs.Grid.{GridData, is_free};
+ghost use Rattle.std.specs.Prelude.{◌≡◌, ℕ, ◌+◌, ◌≤◌, false, true, None};
 ghost use Rattle.pruning.specs.Allowed.{allowed_dirs};
 ghost use Rattle.pruning.specs.First as first;
 ghost use Rattle.pruning.specs.Numbered as numbered;
@@ -9,19 +8,18 @@ ghost use Rattle.pruning.specs.Source.{IsWithin};
 ghost use Rattle.pruning.specs.Stop.{IsFirstStop};
 ghost use Rattle.pruning.specs.Turns.{is_diagonal};
 ghost use Rattle.jump_block.specs.Scan.{most_lanes};
-ghost use Rattle.jump_block.specs.Source.{AreItsBits, AreJumpsOn, is_forward, is_back, scanned};
+ghost use Rattle.jump_block.specs.Source.{AreJumpsOn, JumpsOnEach, JumpsOnSome, OnEach, OnSome, is_forward, is_back, scanned};
 
 use crate::patch::{MIDDLE, Patch};
 use crate::straight::Bits;
-use arrayvec::ArrayVec;
 use bit_grid::{Columns, Rows};
 use grid_moves::{Cell, Corner, Dir};
-use pruning::{Arrival, JumpSource, Packed, allowed, allowed_word};
+use pruning::{Arrival, JumpSource, Packed, allowed_word};
 use std::sync::ledger::Ledger;
 use steps::Steps;
 
 /// The jumps on the grid whose bits these are, with the grid's sides and corner rule. A step is the reading
-/// of one block; no memory is taken.
+/// of one block, or of one word of it; no memory is taken.
 #[derive(Clone, Copy)]
 pub struct BlockJumps<'a> {
     pub rows: Rows<'a>,
@@ -55,11 +53,9 @@ impl<'a> Bits<'a> {
     ) -> Option<u16>
         requires rule { self.now.corner ≡ numbered.corner_of RULE }
         requires diagonal { is_diagonal d ≡ true }
-        requires stands { (g : GridData) × AreItsBits self.now.rows.now self.now.columns.now self.now.corner g
-            × (is_free g at ≡ true) }
-        ensures first { (g : GridData)
-            → AreItsBits self.now.rows.now self.now.columns.now self.now.corner g → is_free g at ≡ true
-            → result ≡ first.first_stop g goal at d }
+        requires stands { OnSome self.now.rows.now self.now.columns.now self.now.corner at }
+        ensures first { OnEach self.now.rows.now self.now.columns.now self.now.corner at
+            (λ g. result ≡ first.first_stop g goal at d) }
         ensures fewest { steps.old + 3 ≤ steps.new }
     {
         let bits = Bits {
@@ -86,14 +82,11 @@ impl<'a> Bits<'a> {
         steps: &mut Steps<L>,
     ) -> Option<u16>
         requires rule { self.now.corner ≡ numbered.corner_of RULE }
-        requires stands { (g : GridData) × AreItsBits self.now.rows.now self.now.columns.now self.now.corner g
-            × (is_free g at ≡ true) }
-        ensures first { (g : GridData)
-            → AreItsBits self.now.rows.now self.now.columns.now self.now.corner g → is_free g at ≡ true
-            → result ≡ first.first_stop g goal at d }
-        ensures most { is_diagonal d ≡ false → (g : GridData)
-            → AreItsBits self.now.rows.now self.now.columns.now self.now.corner g → is_free g at ≡ true
-            → steps.new ≤ steps.old + most_lanes (scanned g at d result) }
+        requires stands { OnSome self.now.rows.now self.now.columns.now self.now.corner at }
+        ensures first { OnEach self.now.rows.now self.now.columns.now self.now.corner at
+            (λ g. result ≡ first.first_stop g goal at d) }
+        ensures most { is_diagonal d ≡ false → OnEach self.now.rows.now self.now.columns.now self.now.corner at
+            (λ g. steps.new ≤ steps.old + most_lanes (scanned g at d result)) }
         ensures fewest { steps.old + 3 ≤ steps.new }
     {
         let bits = Bits {
@@ -115,14 +108,11 @@ impl<'a> Bits<'a> {
     // After how many moves a jump stops.
     #[inline(always)]
     fn stop<L: Ledger>(&self, at: Cell, d: Dir, goal: Cell, steps: &mut Steps<L>) -> Option<u16>
-        requires stands { (g : GridData) × AreItsBits self.now.rows.now self.now.columns.now self.now.corner g
-            × (is_free g at ≡ true) }
-        ensures first { (g : GridData)
-            → AreItsBits self.now.rows.now self.now.columns.now self.now.corner g → is_free g at ≡ true
-            → result ≡ first.first_stop g goal at d }
-        ensures most { is_diagonal d ≡ false → (g : GridData)
-            → AreItsBits self.now.rows.now self.now.columns.now self.now.corner g → is_free g at ≡ true
-            → steps.new ≤ steps.old + most_lanes (scanned g at d result) }
+        requires stands { OnSome self.now.rows.now self.now.columns.now self.now.corner at }
+        ensures first { OnEach self.now.rows.now self.now.columns.now self.now.corner at
+            (λ g. result ≡ first.first_stop g goal at d) }
+        ensures most { is_diagonal d ≡ false → OnEach self.now.rows.now self.now.columns.now self.now.corner at
+            (λ g. steps.new ≤ steps.old + most_lanes (scanned g at d result)) }
         ensures fewest { steps.old + 3 ≤ steps.new }
     {
         match self.corner {
@@ -131,26 +121,11 @@ impl<'a> Bits<'a> {
         }
     }
 
-    // The allowed directions.
-    fn allowed<L: Ledger>(&self, at: Cell, by: Arrival, steps: &mut Steps<L>) -> ArrayVec<Dir, 8>
-        requires stands { (g : GridData) × AreItsBits self.now.rows.now self.now.columns.now self.now.corner g
-            × (is_free g at ≡ true) }
-        ensures rule { (g : GridData)
-            → AreItsBits self.now.rows.now self.now.columns.now self.now.corner g → is_free g at ≡ true
-            → result.items ≡ allowed_dirs g at by }
-        ensures fewest { steps.old + 3 ≤ steps.new }
-    {
-        let around = Patch::read(self.rows, self.corner, at, steps);
-        allowed(&around, MIDDLE, by)
-    }
-
-    // The same in one word.
+    // The allowed directions, in one word.
     fn allowed_word<L: Ledger>(&self, at: Cell, by: Arrival, steps: &mut Steps<L>) -> Packed
-        requires stands { (g : GridData) × AreItsBits self.now.rows.now self.now.columns.now self.now.corner g
-            × (is_free g at ≡ true) }
-        ensures rule { (g : GridData)
-            → AreItsBits self.now.rows.now self.now.columns.now self.now.corner g → is_free g at ≡ true
-            → result ≡ allowed_dirs g at by }
+        requires stands { OnSome self.now.rows.now self.now.columns.now self.now.corner at }
+        ensures rule { OnEach self.now.rows.now self.now.columns.now self.now.corner at
+            (λ g. result ≡ allowed_dirs g at by) }
         ensures fewest { steps.old + 3 ≤ steps.new }
     {
         let around = Patch::read(self.rows, self.corner, at, steps);
@@ -184,15 +159,13 @@ impl<'a> BlockJumps<'a> {
         goal: Cell,
         steps: &mut Steps<L>,
     ) -> Option<u16>
-        requires stands { (g : GridData) × AreJumpsOn self.now.rows.now self.now.columns.now self.now.width
-            self.now.height self.now.corner g × IsTrue (is_free g at) × IsTrue (is_free g goal) }
+        requires stands { JumpsOnSome self.now.rows.now self.now.columns.now self.now.width self.now.height
+            self.now.corner at goal }
         requires forward { is_forward d ≡ true }
-        ensures first { (g : GridData) → AreJumpsOn self.now.rows.now self.now.columns.now self.now.width
-            self.now.height self.now.corner g → IsTrue (is_free g at) → IsTrue (is_free g goal)
-            → IsFirstStop g goal at d result }
-        ensures most { (g : GridData) → AreJumpsOn self.now.rows.now self.now.columns.now self.now.width
-            self.now.height self.now.corner g → IsTrue (is_free g at) → IsTrue (is_free g goal)
-            → steps.new ≤ steps.old + most_lanes (scanned g at d result) }
+        ensures first { JumpsOnEach self.now.rows.now self.now.columns.now self.now.width self.now.height
+            self.now.corner at goal (λ g. IsFirstStop g goal at d result) }
+        ensures most { JumpsOnEach self.now.rows.now self.now.columns.now self.now.width self.now.height
+            self.now.corner at goal (λ g. steps.new ≤ steps.old + most_lanes (scanned g at d result)) }
         ensures fewest { steps.old + 3 ≤ steps.new }
     {
         self.stop(at, d, goal, steps)
@@ -209,15 +182,13 @@ impl<'a> BlockJumps<'a> {
         goal: Cell,
         steps: &mut Steps<L>,
     ) -> Option<u16>
-        requires stands { (g : GridData) × AreJumpsOn self.now.rows.now self.now.columns.now self.now.width
-            self.now.height self.now.corner g × IsTrue (is_free g at) × IsTrue (is_free g goal) }
+        requires stands { JumpsOnSome self.now.rows.now self.now.columns.now self.now.width self.now.height
+            self.now.corner at goal }
         requires back { is_back d ≡ true }
-        ensures first { (g : GridData) → AreJumpsOn self.now.rows.now self.now.columns.now self.now.width
-            self.now.height self.now.corner g → IsTrue (is_free g at) → IsTrue (is_free g goal)
-            → IsFirstStop g goal at d result }
-        ensures most { (g : GridData) → AreJumpsOn self.now.rows.now self.now.columns.now self.now.width
-            self.now.height self.now.corner g → IsTrue (is_free g at) → IsTrue (is_free g goal)
-            → steps.new ≤ steps.old + most_lanes (scanned g at d result) }
+        ensures first { JumpsOnEach self.now.rows.now self.now.columns.now self.now.width self.now.height
+            self.now.corner at goal (λ g. IsFirstStop g goal at d result) }
+        ensures most { JumpsOnEach self.now.rows.now self.now.columns.now self.now.width self.now.height
+            self.now.corner at goal (λ g. steps.new ≤ steps.old + most_lanes (scanned g at d result)) }
         ensures fewest { steps.old + 3 ≤ steps.new }
     {
         self.stop(at, d, goal, steps)
@@ -242,22 +213,16 @@ impl<'a> JumpSource for BlockJumps<'a> {
     /// A straight jump reads at most `3·(k/512 + 2)` blocks. Let `k` be the number of moves to the stop, or,
     /// where there is no stop, the length of the legal run and one.
     fn stop<L: Ledger>(&self, at: Cell, d: Dir, goal: Cell, steps: &mut Steps<L>) -> Option<u16>
-        requires { (g : GridData) × AreJumpsOn self.now.rows.now self.now.columns.now self.now.width
-            self.now.height self.now.corner g × IsTrue (is_free g at) × IsTrue (is_free g goal) }
-        ensures first { (g : GridData) → AreJumpsOn self.now.rows.now self.now.columns.now self.now.width
-            self.now.height self.now.corner g → IsTrue (is_free g at) → IsTrue (is_free g goal)
-            → IsFirstStop g goal at d result }
+        requires { JumpsOnSome self.now.rows.now self.now.columns.now self.now.width self.now.height
+            self.now.corner at goal }
+        ensures first { JumpsOnEach self.now.rows.now self.now.columns.now self.now.width self.now.height
+            self.now.corner at goal (λ g. IsFirstStop g goal at d result) }
         ensures most { IsWithin None (λ told. told.stop) steps.old steps.new }
-        ensures straight { is_diagonal d ≡ false → (g : GridData) → AreJumpsOn self.now.rows.now
-            self.now.columns.now self.now.width self.now.height self.now.corner g → IsTrue (is_free g at)
-            → IsTrue (is_free g goal) → steps.new ≤ steps.old + most_lanes (scanned g at d result) }
+        ensures straight { is_diagonal d ≡ false → JumpsOnEach self.now.rows.now self.now.columns.now self.now.width
+            self.now.height self.now.corner at goal (λ g. steps.new ≤ steps.old + most_lanes (scanned g at d result)) }
         ensures fewest { steps.old + 3 ≤ steps.new }
     {
         self.bits().stop(at, d, goal, steps)
-    }
-
-    fn allowed<L: Ledger>(&self, at: Cell, by: Arrival, steps: &mut Steps<L>) -> ArrayVec<Dir, 8> {
-        self.bits().allowed(at, by, steps)
     }
 
     fn allowed_word<L: Ledger>(&self, at: Cell, by: Arrival, steps: &mut Steps<L>) -> Packed {

@@ -1,20 +1,19 @@
 //! Straight jumps: a scan along a row or a column, and the first stop that follows from where it halts.
 
-ghost use Rattle.std.specs.Prelude.{◌≡◌, ℕ, ◌+◌, ◌*◌, ◌/◌, ◌≤◌, Bool, false, true, IsTrue, is_some, nat_eq};
-ghost use Rattle.grid_moves.specs.Grid.{GridData, is_free};
+ghost use Rattle.std.specs.Prelude.{◌≡◌, ℕ, ◌+◌, ◌≤◌, Bool, false, true, is_some, nat_eq};
 ghost use Rattle.pruning.specs.Turns.{is_diagonal};
 ghost use Rattle.pruning.specs.First as first;
 ghost use Rattle.jump_plain.specs.Reach as reach;
-ghost use Rattle.jump_block.specs.Trail.{IsClear, begun};
+ghost use Rattle.jump_block.specs.Trail.{begun};
 ghost use Rattle.jump_block.specs.Scan.{Finds, looked, most_lanes};
-ghost use Rattle.jump_block.specs.Near.{AreNear};
-ghost use Rattle.jump_block.specs.Word as ways;
+ghost use Rattle.jump_block.specs.Near.{AreNearStart};
 ghost use Rattle.jump_block.specs.Source as spec;
-ghost use Rattle.jump_block.specs.Source.{AreItsBits, by_rows, by_columns, trail_of, scanned};
+ghost use Rattle.jump_block.specs.Source.{OnSome, OnEach, trail_of, scanned};
 
-use crate::block::{Halt, halt_near, halt_next};
+use crate::block::Halt;
+use crate::marks::finds_mark;
 use crate::near::words_near;
-use crate::scan::{Start, scan, way_of};
+use crate::scan::{Start, scan};
 use crate::word::{Way, Words};
 use bit_grid::{Columns, Rows};
 use grid_moves::{Cell, Corner, Dir};
@@ -77,11 +76,9 @@ impl<'a> Bits<'a> {
         to_goal: u16,
         steps: &mut Steps<L>,
     ) -> Option<Halt>
-        requires stands { (g : GridData) × AreItsBits self.now.rows.now self.now.columns.now self.now.corner g
-            × (is_free g at ≡ true) }
-        ensures finds { (g : GridData)
-            → AreItsBits self.now.rows.now self.now.columns.now self.now.corner g → is_free g at ≡ true
-            → Finds (begun self.now.corner (trail_of g (spec.row_dir way) at)) to_goal result }
+        requires stands { OnSome self.now.rows.now self.now.columns.now self.now.corner at }
+        ensures finds { OnEach self.now.rows.now self.now.columns.now self.now.corner at
+            (λ g. Finds (begun self.now.corner (trail_of g (spec.row_dir way) at)) to_goal result) }
         ensures most { steps.new ≤ steps.old + most_lanes (looked to_goal result) }
         ensures fewest { steps.old + 3 ≤ steps.new }
     {
@@ -102,11 +99,9 @@ impl<'a> Bits<'a> {
         to_goal: u16,
         steps: &mut Steps<L>,
     ) -> Option<Halt>
-        requires stands { (g : GridData) × AreItsBits self.now.rows.now self.now.columns.now self.now.corner g
-            × (is_free g at ≡ true) }
-        ensures finds { (g : GridData)
-            → AreItsBits self.now.rows.now self.now.columns.now self.now.corner g → is_free g at ≡ true
-            → Finds (begun self.now.corner (trail_of g (spec.column_dir way) at)) to_goal result }
+        requires stands { OnSome self.now.rows.now self.now.columns.now self.now.corner at }
+        ensures finds { OnEach self.now.rows.now self.now.columns.now self.now.corner at
+            (λ g. Finds (begun self.now.corner (trail_of g (spec.column_dir way) at)) to_goal result) }
         ensures most { steps.new ≤ steps.old + most_lanes (looked to_goal result) }
         ensures fewest { steps.old + 3 ≤ steps.new }
     {
@@ -121,12 +116,10 @@ impl<'a> Bits<'a> {
     // Where a straight scan halts, or `None` where the goal, so many moves on, is met before.
     #[inline(always)]
     fn halt<L: Ledger>(&self, at: Cell, d: Dir, to_goal: u16, steps: &mut Steps<L>) -> Option<Halt>
-        requires stands { (g : GridData) × AreItsBits self.now.rows.now self.now.columns.now self.now.corner g
-            × (is_free g at ≡ true) }
+        requires stands { OnSome self.now.rows.now self.now.columns.now self.now.corner at }
         requires straight { is_diagonal d ≡ false }
-        ensures finds { (g : GridData)
-            → AreItsBits self.now.rows.now self.now.columns.now self.now.corner g → is_free g at ≡ true
-            → Finds (begun self.now.corner (trail_of g d at)) to_goal result }
+        ensures finds { OnEach self.now.rows.now self.now.columns.now self.now.corner at
+            (λ g. Finds (begun self.now.corner (trail_of g d at)) to_goal result) }
         ensures most { steps.new ≤ steps.old + most_lanes (looked to_goal result) }
         ensures fewest { steps.old + 3 ≤ steps.new }
     {
@@ -141,68 +134,15 @@ impl<'a> Bits<'a> {
     // The words around a free cell, of its row and of those beside it.
     #[inline(always)]
     pub(crate) fn near_on_row<L: Ledger>(&self, at: Cell, steps: &mut Steps<L>) -> Words
-        requires stands { (g : GridData) × AreItsBits self.now.rows.now self.now.columns.now self.now.corner g
-            × (is_free g at ≡ true) }
-        ensures near { (g : GridData)
-            → AreItsBits self.now.rows.now self.now.columns.now self.now.corner g → is_free g at ≡ true
-            → AreNear (by_rows g) (at.y + 1) (at.x + 1) result }
+        requires stands { OnSome self.now.rows.now self.now.columns.now self.now.corner at }
+        ensures near { AreNearStart self.now.rows.now (at.y + 1) (at.x + 1) result }
         ensures three_steps { steps.new ≡ steps.old + 3 }
     {
         words_near(self.rows, u32::from(at.y) + 1, u32::from(at.x) + 1, steps)
     }
 
-    // Whether a straight jump along the row finds a stop, for a goal that is not on the row. It is for the
-    // scans that leave the next words too.
-    #[inline(never)]
-    fn finds_far_on_row<const WAY: usize, L: Ledger>(&self, at: Cell, steps: &mut Steps<L>) -> bool
-        requires stands { (g : GridData) × AreItsBits self.now.rows.now self.now.columns.now self.now.corner g
-            × (is_free g at ≡ true) }
-        ensures finds { (g : GridData)
-            → AreItsBits self.now.rows.now self.now.columns.now self.now.corner g → is_free g at ≡ true
-            → (goal : Cell) → nat_eq at.y goal.y ≡ false
-            → result ≡ is_some (first.first_stop g goal at (spec.row_dir (ways.way_of WAY))) }
-        ensures more { steps.old ≤ steps.new }
-    {
-        let found = self.halt_on_row(at, way_of(WAY), 0, steps);
-        stop_of(self.corner, found, 0).is_some()
-    }
-
-    // The same, where nothing halts the scan in the words around the cell: the next ones are looked at before.
-    #[inline(never)]
-    fn finds_next_on_row<const WAY: usize, L: Ledger>(
-        &self,
-        at: Cell,
-        near: Words,
-        steps: &mut Steps<L>,
-    ) -> bool
-        requires stands { (g : GridData) × AreItsBits self.now.rows.now self.now.columns.now self.now.corner g
-            × (is_free g at ≡ true) }
-        requires near { (g : GridData)
-            → AreItsBits self.now.rows.now self.now.columns.now self.now.corner g → is_free g at ≡ true
-            → AreNear (by_rows g) (at.y + 1) (at.x + 1) near }
-        requires clear { (g : GridData)
-            → AreItsBits self.now.rows.now self.now.columns.now self.now.corner g → is_free g at ≡ true
-            → IsClear (begun self.now.corner (trail_of g (spec.row_dir (ways.way_of WAY)) at))
-            (ways.moves_before (ways.way_of WAY) (at.x + 1)
-            (ways.far (ways.way_of WAY) ((at.x + 1) / 64 * 64))) }
-        ensures finds { (g : GridData)
-            → AreItsBits self.now.rows.now self.now.columns.now self.now.corner g → is_free g at ≡ true
-            → (goal : Cell) → nat_eq at.y goal.y ≡ false
-            → result ≡ is_some (first.first_stop g goal at (spec.row_dir (ways.way_of WAY))) }
-        ensures more { steps.old ≤ steps.new }
-    {
-        let (line, place) = (u32::from(at.y) + 1, u32::from(at.x) + 1);
-        let way = way_of(WAY);
-        let found = halt_next(way, self.corner, self.rows, line, place, near, steps);
-        if found.is_some() {
-            return stop_of(self.corner, found, 0).is_some();
-        }
-        let bits = *self;
-        bits.finds_far_on_row::<WAY, L>(at, steps)
-    }
-
     /// Whether a straight jump along the row finds a stop, for a goal that is not on the row, told the
-    /// words around the cell. The call out of line gets a copy of the bits, so that their own stay in registers.
+    /// words around the cell.
     #[inline(always)]
     pub(crate) fn finds_mark_on_row<L: Ledger>(
         &self,
@@ -211,102 +151,17 @@ impl<'a> Bits<'a> {
         near: Words,
         steps: &mut Steps<L>,
     ) -> bool
-        requires stands { (g : GridData) × AreItsBits self.now.rows.now self.now.columns.now self.now.corner g
-            × (is_free g at ≡ true) }
-        requires near { (g : GridData)
-            → AreItsBits self.now.rows.now self.now.columns.now self.now.corner g → is_free g at ≡ true
-            → AreNear (by_rows g) (at.y + 1) (at.x + 1) near }
-        ensures finds { (g : GridData)
-            → AreItsBits self.now.rows.now self.now.columns.now self.now.corner g → is_free g at ≡ true
-            → (goal : Cell) → nat_eq at.y goal.y ≡ false
-            → result ≡ is_some (first.first_stop g goal at (spec.row_dir way)) }
+        requires stands { OnSome self.now.rows.now self.now.columns.now self.now.corner at }
+        requires near { AreNearStart self.now.rows.now (at.y + 1) (at.x + 1) near }
+        ensures finds { OnEach self.now.rows.now self.now.columns.now self.now.corner at (λ g. (goal : Cell)
+            → nat_eq at.y goal.y ≡ false → result ≡ is_some (first.first_stop g goal at (spec.row_dir way))) }
         ensures more { steps.old ≤ steps.new }
     {
-        let found = halt_near(way, self.corner, near, u32::from(at.x) + 1);
-        if found.is_some() {
-            return stop_of(self.corner, found, 0).is_some();
-        }
-        let bits = *self;
-        match way {
-            Way::Forward => bits.finds_next_on_row::<0, L>(at, near, steps),
-            Way::Back => bits.finds_next_on_row::<1, L>(at, near, steps),
-        }
+        let (line, place) = (u32::from(at.y) + 1, u32::from(at.x) + 1);
+        finds_mark(way, self.corner, self.rows, line, place, near, steps)
     }
 
-    // The words around a free cell, of its column and of those beside it.
-    #[inline(always)]
-    fn near_on_column<L: Ledger>(&self, at: Cell, steps: &mut Steps<L>) -> Words
-        requires stands { (g : GridData) × AreItsBits self.now.rows.now self.now.columns.now self.now.corner g
-            × (is_free g at ≡ true) }
-        ensures near { (g : GridData)
-            → AreItsBits self.now.rows.now self.now.columns.now self.now.corner g → is_free g at ≡ true
-            → AreNear (by_columns g) (at.x + 1) (at.y + 1) result }
-        ensures three_steps { steps.new ≡ steps.old + 3 }
-    {
-        words_near(
-            self.columns,
-            u32::from(at.x) + 1,
-            u32::from(at.y) + 1,
-            steps,
-        )
-    }
-
-    // Whether a straight jump along the column finds a stop, for a goal that is not on the column. It is for the
-    // scans that leave the next words too.
-    #[inline(never)]
-    fn finds_far_on_column<const WAY: usize, L: Ledger>(
-        &self,
-        at: Cell,
-        steps: &mut Steps<L>,
-    ) -> bool
-        requires stands { (g : GridData) × AreItsBits self.now.rows.now self.now.columns.now self.now.corner g
-            × (is_free g at ≡ true) }
-        ensures finds { (g : GridData)
-            → AreItsBits self.now.rows.now self.now.columns.now self.now.corner g → is_free g at ≡ true
-            → (goal : Cell) → nat_eq at.x goal.x ≡ false
-            → result ≡ is_some (first.first_stop g goal at (spec.column_dir (ways.way_of WAY))) }
-        ensures more { steps.old ≤ steps.new }
-    {
-        let found = self.halt_on_column(at, way_of(WAY), 0, steps);
-        stop_of(self.corner, found, 0).is_some()
-    }
-
-    // The same, where nothing halts the scan in the words around the cell: the next ones are looked at before.
-    #[inline(never)]
-    fn finds_next_on_column<const WAY: usize, L: Ledger>(
-        &self,
-        at: Cell,
-        near: Words,
-        steps: &mut Steps<L>,
-    ) -> bool
-        requires stands { (g : GridData) × AreItsBits self.now.rows.now self.now.columns.now self.now.corner g
-            × (is_free g at ≡ true) }
-        requires near { (g : GridData)
-            → AreItsBits self.now.rows.now self.now.columns.now self.now.corner g → is_free g at ≡ true
-            → AreNear (by_columns g) (at.x + 1) (at.y + 1) near }
-        requires clear { (g : GridData)
-            → AreItsBits self.now.rows.now self.now.columns.now self.now.corner g → is_free g at ≡ true
-            → IsClear (begun self.now.corner (trail_of g (spec.column_dir (ways.way_of WAY)) at))
-            (ways.moves_before (ways.way_of WAY) (at.y + 1)
-            (ways.far (ways.way_of WAY) ((at.y + 1) / 64 * 64))) }
-        ensures finds { (g : GridData)
-            → AreItsBits self.now.rows.now self.now.columns.now self.now.corner g → is_free g at ≡ true
-            → (goal : Cell) → nat_eq at.x goal.x ≡ false
-            → result ≡ is_some (first.first_stop g goal at (spec.column_dir (ways.way_of WAY))) }
-        ensures more { steps.old ≤ steps.new }
-    {
-        let (line, place) = (u32::from(at.x) + 1, u32::from(at.y) + 1);
-        let way = way_of(WAY);
-        let found = halt_next(way, self.corner, self.columns, line, place, near, steps);
-        if found.is_some() {
-            return stop_of(self.corner, found, 0).is_some();
-        }
-        let bits = *self;
-        bits.finds_far_on_column::<WAY, L>(at, steps)
-    }
-
-    /// Whether a straight jump along the column finds a stop, for a goal that is not on the column. The call out
-    /// of line gets a copy of the bits, so that their own stay in registers.
+    /// The same along the column.
     #[inline(always)]
     pub(crate) fn finds_mark_on_column<L: Ledger>(
         &self,
@@ -314,24 +169,14 @@ impl<'a> Bits<'a> {
         way: Way,
         steps: &mut Steps<L>,
     ) -> bool
-        requires stands { (g : GridData) × AreItsBits self.now.rows.now self.now.columns.now self.now.corner g
-            × (is_free g at ≡ true) }
-        ensures finds { (g : GridData)
-            → AreItsBits self.now.rows.now self.now.columns.now self.now.corner g → is_free g at ≡ true
-            → (goal : Cell) → nat_eq at.x goal.x ≡ false
-            → result ≡ is_some (first.first_stop g goal at (spec.column_dir way)) }
+        requires stands { OnSome self.now.rows.now self.now.columns.now self.now.corner at }
+        ensures finds { OnEach self.now.rows.now self.now.columns.now self.now.corner at (λ g. (goal : Cell)
+            → nat_eq at.x goal.x ≡ false → result ≡ is_some (first.first_stop g goal at (spec.column_dir way))) }
         ensures more { steps.old ≤ steps.new }
     {
-        let near = self.near_on_column(at, steps);
-        let found = halt_near(way, self.corner, near, u32::from(at.y) + 1);
-        if found.is_some() {
-            return stop_of(self.corner, found, 0).is_some();
-        }
-        let bits = *self;
-        match way {
-            Way::Forward => bits.finds_next_on_column::<0, L>(at, near, steps),
-            Way::Back => bits.finds_next_on_column::<1, L>(at, near, steps),
-        }
+        let (line, place) = (u32::from(at.x) + 1, u32::from(at.y) + 1);
+        let near = words_near(self.columns, line, place, steps);
+        finds_mark(way, self.corner, self.columns, line, place, near, steps)
     }
 
     /// After how many moves a straight jump stops.
@@ -343,15 +188,12 @@ impl<'a> Bits<'a> {
         goal: Cell,
         steps: &mut Steps<L>,
     ) -> Option<u16>
-        requires stands { (g : GridData) × AreItsBits self.now.rows.now self.now.columns.now self.now.corner g
-            × (is_free g at ≡ true) }
+        requires stands { OnSome self.now.rows.now self.now.columns.now self.now.corner at }
         requires straight { is_diagonal d ≡ false }
-        ensures first { (g : GridData)
-            → AreItsBits self.now.rows.now self.now.columns.now self.now.corner g → is_free g at ≡ true
-            → result ≡ first.first_stop g goal at d }
-        ensures most { (g : GridData)
-            → AreItsBits self.now.rows.now self.now.columns.now self.now.corner g → is_free g at ≡ true
-            → steps.new ≤ steps.old + most_lanes (scanned g at d result) }
+        ensures first { OnEach self.now.rows.now self.now.columns.now self.now.corner at
+            (λ g. result ≡ first.first_stop g goal at d) }
+        ensures most { OnEach self.now.rows.now self.now.columns.now self.now.corner at
+            (λ g. steps.new ≤ steps.old + most_lanes (scanned g at d result)) }
         ensures fewest { steps.old + 3 ≤ steps.new }
     {
         let to_goal = moves_to(d, at, goal);
@@ -368,12 +210,10 @@ impl<'a> Bits<'a> {
         goal: Cell,
         steps: &mut Steps<L>,
     ) -> bool
-        requires stands { (g : GridData) × AreItsBits self.now.rows.now self.now.columns.now self.now.corner g
-            × (is_free g at ≡ true) }
+        requires stands { OnSome self.now.rows.now self.now.columns.now self.now.corner at }
         requires straight { is_diagonal d ≡ false }
-        ensures finds { (g : GridData)
-            → AreItsBits self.now.rows.now self.now.columns.now self.now.corner g → is_free g at ≡ true
-            → result ≡ is_some (first.first_stop g goal at d) }
+        ensures finds { OnEach self.now.rows.now self.now.columns.now self.now.corner at
+            (λ g. result ≡ is_some (first.first_stop g goal at d)) }
         ensures more { steps.old ≤ steps.new }
     {
         self.straight(at, d, goal, steps).is_some()

@@ -11,7 +11,7 @@ use Rattle.grid_moves.proofs.Legal.{free_inside}
 use Rattle.pruning.specs.declared.turns.Side.TheVariants.{Right, Left}
 use Rattle.pruning.specs.Turns.{turn, is_diagonal}
 use Rattle.pruning.specs.Allowed.{can_move}
-use Rattle.pruning.proofs.Moves.{can_move-straight, can_move-diagonal}
+use Rattle.pruning.proofs.Moves.{can_move-diagonal}
 use Rattle.pruning.proofs.Bridging.{leads_from, leads_legal, one_of}
 use Rattle.jump_plain.specs.Beside.{known}
 
@@ -57,11 +57,6 @@ module _ (g : GridData) (whole : IsGrid g) where
   -- it is free exactly where the cell is open in that direction
   pub beyond_open : (c v : Cell) (d : Dir) → known v ≡ ahead d c → is_free g v ≡ is_open g c d
   beyond_open c v d e = known_open v ∙ ap (λ (o : Option Cell). is_free_cell g o) e
-
-  -- a straight move is legal where its end is free
-  pub beyond_straight : (c v : Cell) (d : Dir) → is_free g c ≡ true → is_diagonal d ≡ false
-      → known v ≡ ahead d c → can_move g c d ≡ is_free g v
-  beyond_straight c v d f h e = can_move-straight g c d f h ∙ sym (beyond_open c v d e)
 
   -- a diagonal one is legal where it passes, too; the components are named by other names
   pub beyond_diagonal : (c v : Cell) (d e f : Dir) → is_free g c ≡ true → is_diagonal d ≡ true

@@ -1,9 +1,7 @@
--- The points by which the plain engine prints a walk unfold to it, and read the same from the other end.
-use Rattle.std.proofs.Common.{◌≡◌, ℕ, zero, suc, ◌+◌, ◌-◌, ◌*◌, ◌<◌, ◌≤◌, ◌⊎◌, inl, inr, arith, Bool, true, false, refl, ap, sym, ◌∙◌, List, [], ◌∷◌, ◌++◌, reverse, add_comm}
+-- The points by which the plain engine prints a walk unfold to it.
+use Rattle.std.proofs.Common.{◌≡◌, ℕ, zero, suc, ◌+◌, ◌-◌, ◌*◌, ◌<◌, ◌≤◌, ◌⊎◌, inl, inr, arith, Bool, true, false, refl, ap, sym, ◌∙◌, List, [], ◌∷◌, ◌++◌}
 use Rattle.std.specs.Prelude.{nat_eq, nat_lt, if◌then◌else◌, Option, Some, None, option_map, max}
 use Rattle.std.proofs.lemmas.Bool.Decides.{nat_tests}
-use Rattle.std.proofs.lemmas.List.{append_cancel_right}
-use Rattle.std.proofs.lemmas.Grind.{reverse_onto}
 use Rattle.grid_moves.specs.declared.Cell.{Cell}
 use Rattle.grid_moves.specs.Grid.{GridData, is_free}
 use Rattle.grid_moves.specs.Move.{is_legal}
@@ -234,94 +232,3 @@ corners_unfold g (u ∷ v ∷ cells) h =
     let t = turns_unfold g u v cells h in
     ap (λ (p : List Cell). option_map (λ cells. u ∷ cells) (unfolded_from u p)) t.is
     ∙ ap (λ (o : Option (List Cell)). option_map (λ cells. u ∷ cells) o) t.unfolds
-
--- the corners of cells that end in w and v, and what becomes of them where u follows
-record Grown (p : List Cell → List Cell) (w v : Cell) : Type 0 where
-  kept : List Cell
-  ends : p (w ∷ v ∷ []) ≡ kept ++ (v ∷ [])
-  grows : (u : Cell) → p (w ∷ v ∷ u ∷ []) ≡ kept ++ (if goes_straight w v u then u ∷ [] else v ∷ u ∷ [])
-
-turns_grown : (p : Cell) (cells : List Cell) (w v : Cell) → Grown (λ last. turns_after p (cells ++ last)) w v
-turns_grown p [] w v = by_test (goes_straight p w v) refl
-  where
-    by_test : (b : Bool) → goes_straight p w v ≡ b → Grown (λ last. turns_after p ([] ++ last)) w v
-    by_test true s = record { kept = []; ends = rw s refl; grows = λ u. rw s refl }
-    by_test false s = record { kept = w ∷ []; ends = rw s refl; grows = λ u. rw s refl }
-turns_grown p (y ∷ []) w v = by_test (goes_straight p y w) refl (turns_grown y [] w v)
-  where
-    by_test :
-        (b : Bool) → goes_straight p y w ≡ b → Grown (λ last. turns_after y ([] ++ last)) w v
-        → Grown (λ last. turns_after p ((y ∷ []) ++ last)) w v
-    by_test true s t = record { kept = t.kept; ends = rw s t.ends; grows = λ u. rw s (t.grows u) }
-    by_test false s t =
-        record {
-          kept = y ∷ t.kept;
-          ends = rw s (ap (λ (l : List Cell). y ∷ l) t.ends);
-          grows = λ u. rw s (ap (λ (l : List Cell). y ∷ l) (t.grows u));
-        }
-turns_grown p (y ∷ z ∷ cells) w v = by_test (goes_straight p y z) refl (turns_grown y (z ∷ cells) w v)
-  where
-    by_test :
-        (b : Bool) → goes_straight p y z ≡ b → Grown (λ last. turns_after y ((z ∷ cells) ++ last)) w v
-        → Grown (λ last. turns_after p ((y ∷ z ∷ cells) ++ last)) w v
-    by_test true s t = record { kept = t.kept; ends = rw s t.ends; grows = λ u. rw s (t.grows u) }
-    by_test false s t =
-        record {
-          kept = y ∷ t.kept;
-          ends = rw s (ap (λ (l : List Cell). y ∷ l) t.ends);
-          grows = λ u. rw s (ap (λ (l : List Cell). y ∷ l) (t.grows u));
-        }
-
-corners_grown : (cells : List Cell) (w v : Cell) → Grown (λ last. corners (cells ++ last)) w v
-corners_grown [] w v = record { kept = w ∷ []; ends = refl; grows = λ u. refl }
-corners_grown (p ∷ cells) w v =
-    let t = turns_grown p cells w v in
-    record {
-      kept = p ∷ t.kept;
-      ends = ap (λ (l : List Cell). p ∷ l) t.ends;
-      grows = λ u. ap (λ (l : List Cell). p ∷ l) (t.grows u);
-    }
-
-straight_back : (u v w : Cell) → goes_straight w v u ≡ goes_straight u v w
-straight_back u v w = rw (add_comm w.x u.x, add_comm w.y u.y) refl
-
-one_more-reverse :
-    (u v w : Cell) (cells : List Cell)
-    → corners (reverse (v ∷ w ∷ cells)) ≡ reverse (corners (v ∷ w ∷ cells))
-    → corners (reverse (u ∷ v ∷ w ∷ cells)) ≡ reverse (corners (u ∷ v ∷ w ∷ cells))
-one_more-reverse u v w cells before = by_test (goes_straight u v w) refl
-  where
-    turns : List Cell
-    turns = turns_after v (w ∷ cells)
-
-    grown : Grown (λ last. corners (reverse cells ++ last)) w v
-    grown = corners_grown (reverse cells) w v
-
-    kept : grown.kept ≡ reverse turns
-    kept =
-        let end : corners (reverse cells ++ (w ∷ v ∷ [])) ≡ reverse turns ++ (v ∷ []) =
-        sym (ap (λ (l : List Cell). corners l) (reverse_onto cells w (v ∷ [])))
-        ∙ before
-        ∙ reverse_onto turns v [] in
-        append_cancel_right grown.kept (reverse turns) (v ∷ []) (sym grown.ends ∙ end)
-
-    backwards : corners (reverse (u ∷ v ∷ w ∷ cells)) ≡ reverse turns ++
-        (if goes_straight u v w then u ∷ [] else v ∷ u ∷ [])
-    backwards =
-        ap (λ (l : List Cell). corners l) (reverse_onto cells w (v ∷ u ∷ []))
-        ∙ grown.grows u
-        ∙ ap (λ (l : List Cell). l ++ (if goes_straight w v u then u ∷ [] else v ∷ u ∷ [])) kept
-        ∙ ap (λ (b : Bool). reverse turns ++ (if b then u ∷ [] else v ∷ u ∷ [])) (straight_back u v w)
-
-    by_test :
-        (b : Bool) → goes_straight u v w ≡ b
-        → corners (reverse (u ∷ v ∷ w ∷ cells)) ≡ reverse (corners (u ∷ v ∷ w ∷ cells))
-    by_test true s = rw s (rw s at backwards ∙ sym (reverse_onto turns u []))
-    by_test false s = rw s (rw s at backwards ∙ sym (reverse_onto turns v (u ∷ [])))
-
--- read from the other end, cells have the same corners
-pub corners-reverse : (cells : List Cell) → corners (reverse cells) ≡ reverse (corners cells)
-corners-reverse [] = refl
-corners-reverse (u ∷ []) = refl
-corners-reverse (u ∷ v ∷ []) = refl
-corners-reverse (u ∷ v ∷ w ∷ cells) = one_more-reverse u v w cells (corners-reverse (v ∷ w ∷ cells))

@@ -1,9 +1,8 @@
 -- Segments cell by cell, and unfolding point by point.
-use Rattle.std.proofs.Common.{◌≡◌, ℕ, zero, suc, ◌+◌, ◌-◌, ◌<◌, ◌≤◌, arith, Bool, true, false, ◌&&◌, refl, ap, sym, ◌∙◌, List, [], ◌∷◌, ◌++◌, append_assoc, length}
+use Rattle.std.proofs.Common.{◌≡◌, ℕ, zero, suc, ◌+◌, ◌-◌, ◌<◌, arith, Bool, true, false, ◌&&◌, refl, ap, sym, ◌∙◌, List, [], ◌∷◌, ◌++◌, append_assoc, length}
 use Rattle.std.specs.Prelude.{Option, Some, None, option_map}
 use Rattle.std.proofs.lemmas.Bool.Decides.{nat_tests}
 use Rattle.grid_moves.specs.declared.Cell.{Cell}
-use Rattle.grid_moves.specs.Move.{are_neighbours}
 use Rattle.grid_moves.specs.Points.{apart, steps_between, are_lined, toward, step_toward, segment, unfolded_from}
 use Rattle.grid_moves.specs.Walk.{last_of}
 use Rattle.grid_moves.proofs.Legal.{same_cell}
@@ -15,12 +14,6 @@ and_both false b e = absurd (cc)
 toward_nearer : (m n : ℕ) → apart (toward m n) n ≡ apart m n - 1
 toward_nearer m n = grind (arith, nat_tests)
 
-toward_low : (m n : ℕ) → m ≤ toward m n + 1
-toward_low m n = grind (arith, nat_tests)
-
-toward_high : (m n : ℕ) → toward m n ≤ m + 1
-toward_high m n = grind (arith, nat_tests)
-
 -- each step brings one nearer
 pub step_nearer : (u v : Cell) → steps_between (step_toward u v) v ≡ steps_between u v - 1
 step_nearer u v =
@@ -31,19 +24,6 @@ step_nearer u v =
 -- where no step is left one has arrived
 pub arrived : (u v : Cell) → steps_between u v ≡ 0 → u ≡ v
 arrived u v h = same_cell u v (omega arith) (omega arith)
-
--- a step leads to a neighbour
-pub step_near : (u v : Cell) → 0 < steps_between u v → are_neighbours u (step_toward u v) ≡ true
-step_near u v h =
-    let columns : apart (toward u.x v.x) v.x ≡ apart u.x v.x - 1 = toward_nearer u.x v.x in
-    let rows : apart (toward u.y v.y) v.y ≡ apart u.y v.y - 1 = toward_nearer u.y v.y in
-    near_from (toward u.x v.x) (toward u.y v.y) (toward_low u.x v.x) (toward_high u.x v.x)
-    (toward_low u.y v.y) (toward_high u.y v.y) (λ a b. omega arith)
-  where
-    near_from :
-        (x y : ℕ) → u.x ≤ x + 1 → x ≤ u.x + 1 → u.y ≤ y + 1 → y ≤ u.y + 1 → ((u.x ≡ x) → (u.y ≡ y) → ⊥)
-        → are_neighbours u (record { x = x; y = y }) ≡ true
-    near_from x y a b c d n = grind (arith, nat_tests)
 
 -- the next cell of a segment
 pub segment_next :

@@ -17,7 +17,9 @@ use Rattle.plus_tables.specs.declared.lines.Band.{Band}
 use Rattle.plus_tables.specs.declared.lines.Line.{Line}
 use Rattle.plus_tables.specs.Entry.{table_entry}
 use Rattle.plus_tables.specs.Local.{is_mark_by}
-use Rattle.plus_tables.specs.Rows.{is_along, AreSame, IsFlagRow, IsEntryRow, IsRowAt, AreRowsAround, Heading, upwards, downwards, AreRowsSeen}
+use Rattle.plus_tables.specs.declared.heading.Heading.{Heading}
+use Rattle.plus_tables.specs.declared.heading.Heading.TheVariants.{Upwards, Downwards}
+use Rattle.plus_tables.specs.Rows.{is_along, AreSame, IsFlagRow, IsEntryRow, IsRowAt, AreRowsAround, AreRowsSeen}
 use Rattle.plus_tables.specs.Lines.{AreAlike, AreAlong, IsReady}
 use Rattle.plus_tables.proofs.Rowing.{row_legal, ring_forced_on, told_is, along_each, next_along}
 
@@ -140,13 +142,13 @@ module _ (g : GridData) (whole : IsGrid g) (y : ℕ) (band : Band) (last : Line)
   pub alike_along : (h : Heading) (ready : IsReady g h y band last)
       → AreRowsSeen g h y band.next.items band.here.items band.back.items → ready.rows.ahead < g.height
       → AreAlong g y last
-  alike_along upwards ready around on =
+  alike_along Upwards ready around on =
       let m = ready.rows.ahead in
       along_again m band.next.items band.here.items band.back.items around
       (around_same g m band.far.items band.next.items band.here.items band.next.items band.here.items
       band.back.items alike.far alike.next alike.here ready.rows.next_is.long ready.rows.here_is.long
       ready.rows.back_is.long (ready.rows.around_next (omega (arith, whole.sides.low)))) on ready.along
-  alike_along downwards ready around on =
+  alike_along Downwards ready around on =
       let m = ready.rows.ahead in
       along_again m band.back.items band.here.items band.next.items around
       (around_same g m band.here.items band.next.items band.far.items band.back.items band.here.items

@@ -10,17 +10,20 @@ use Rattle.grid_moves.specs.Move.{dir_number, is_dir}
 use Rattle.grid_moves.proofs.Legal.{and_both}
 use Rattle.grid_moves.proofs.Places.{number_below}
 use Rattle.pruning.proofs.Table.{at_dir, same_dir, same_bool, same_bool-is, by_test}
+use Rattle.plus_tables.specs.declared.heading.Heading.{Heading}
+use Rattle.plus_tables.specs.declared.heading.Heading.TheVariants.{Upwards, Downwards}
 use Rattle.plus_tables.specs.declared.lines.Line.{Line}
-use Rattle.plus_tables.specs.Entry.{table_entry}
-use Rattle.plus_tables.specs.Tables.{IsShort, TablesData, entry_place}
-use Rattle.plus_tables.specs.Sweep.{AreRight, above, from_row, is_upward, is_downward}
-use Rattle.plus_tables.specs.Rows.{number, upwards, downwards, IsEntryRow}
+use Rattle.plus_tables.specs.Tables.{IsShort, entry_place}
+use Rattle.plus_tables.specs.Sweep.{AreRight, is_upward, is_swept, nth_row, swept}
+use Rattle.plus_tables.specs.Rows.{number, flipped, is_along, seen, IsEntryRow}
 use Rattle.plus_tables.specs.Lines.{AreAhead, AreAlong}
-use Rattle.plus_tables.specs.Laid.{with_entry, with_up, with_down, upward_part, downward_part, as_tables, AreLaid, AreGrown}
+use Rattle.plus_tables.specs.Laid.{with_entry, with_cell, seen_part, part, as_tables, rows_there, AreLaid, AreSwept, IsAlongRight, IsRowSwept}
+use Rattle.plus_tables.proofs.Placing.{dir_number-few}
+use Rattle.plus_tables.proofs.Lining.{along_seen}
+use Rattle.plus_tables.specs.Entry.{table_entry}
 use Rattle.plus_tables.proofs.Growing.{number_stays}
 use Rattle.plus_tables.proofs.Short.{same_value, table_entry-short}
 use Rattle.plus_tables.proofs.Parts.{long_with, read_before, read_within, read_behind, read_part}
-use Rattle.plus_tables.proofs.Placing.{dir_number-few, whole_with}
 use borrow.Rule.Slice.PartMut.{put_mid, mid_of, mid_len}
 
 -- whether a direction is one of these
@@ -32,6 +35,17 @@ among (d ∷ ds) e = is_dir e d || among ds e
 abbrev with_dirs : List ℤ → ℕ → (Dir → ℤ) → List Dir → List ℤ
 with_dirs row x told [] = row
 with_dirs row x told (d ∷ ds) = with_entry (with_dirs row x told ds) x d (told d)
+
+-- the directions of a sweep
+abbrev dirs_of : Heading → List Dir
+dirs_of Upwards = W ∷ E ∷ NW ∷ NE ∷ N ∷ []
+dirs_of Downwards = SW ∷ SE ∷ S ∷ []
+
+dirs_are : (h : Heading) (e : Dir) → is_swept h e ≡ among (dirs_of h) e
+dirs_are Upwards e =
+    same_bool-is _ _ (at_dir (λ e. same_bool (is_swept Upwards e) (among (dirs_of Upwards) e)) refl e)
+dirs_are Downwards e =
+    same_bool-is _ _ (at_dir (λ e. same_bool (is_swept Downwards e) (among (dirs_of Downwards) e)) refl e)
 
 itself : (d : Dir) → is_dir d d ≡ true
 itself d = at_dir (λ d. is_dir d d) refl d
@@ -77,58 +91,45 @@ module _ (row : List ℤ) (x : ℕ) (room : x * 8 + 7 < length row) where
   stored numbers = to_z w16 (of_z w16 (number numbers (x + 1)))
 
   -- one cell more is laid down
-  module _ (is : Dir → Bool) (part : Dir → List ℤ) (ds : List Dir) (are : (e : Dir) → is e ≡ among ds e)
-      (old : List ℤ) (laid : AreLaid is part x old row) where
+  module _ (h : Heading) (line : Line) (old : List ℤ) (laid : AreLaid h line x old row) where
     abbrev told : Dir → ℤ
-    told d = stored (part d)
+    told d = stored (part h line d)
 
-    laid_dirs : AreLaid is part (x + 1) old (with_dirs row x told ds)
+    laid_dirs : AreLaid h line (x + 1) old (with_dirs row x told (dirs_of h))
     laid_dirs = record {
-      long = long_dirs told ds ∙ laid.long;
-      told = λ k e h i short. by_place k e h i short (nat_lt k x) refl;
-      others = λ k e h. elsewhere told ds (k * 8 + dir_number e) (λ d m same. absurd (
+      long = long_dirs told (dirs_of h) ∙ laid.long;
+      told = λ k e l i short. by_place k e l i short (nat_lt k x) refl;
+      others = λ k e off. elsewhere told (dirs_of h) (k * 8 + dir_number e) (λ d m same. absurd (
           let one = same_dir e d (same_entry k x d e same) in
-          let here : is e ≡ true = are e ∙ ap (λ (i : Dir). among ds i) one ∙ m in cc))
-          ∙ laid.others k e h;
+          let here : is_swept h e ≡ true = dirs_are h e ∙ ap (λ (i : Dir). among (dirs_of h) i) one ∙ m in cc))
+          ∙ laid.others k e off;
     }
       where
-        by_place : (k : ℕ) (e : Dir) → k < x + 1 → is e ≡ true → IsShort (number (part e) (k + 1))
+        by_place : (k : ℕ) (e : Dir) → k < x + 1 → is_swept h e ≡ true → IsShort (number (part h line e) (k + 1))
             → (b : Bool) → nat_lt k x ≡ b
-            → number (with_dirs row x told ds) (k * 8 + dir_number e) ≡ number (part e) (k + 1)
-        by_place k e h i short true t =
+            → number (with_dirs row x told (dirs_of h)) (k * 8 + dir_number e) ≡ number (part h line e) (k + 1)
+        by_place k e l i short true t =
             let below : k < x = grind (arith, nat_tests) in
             let few = dir_number-few e in
-            elsewhere told ds (k * 8 + dir_number e) (λ d m same. omega arith) ∙ laid.told k e below i short
-        by_place k e h i short false t =
+            elsewhere told (dirs_of h) (k * 8 + dir_number e) (λ d m same. omega arith) ∙ laid.told k e below i short
+        by_place k e l i short false t =
             let same : x ≡ k = grind (arith, nat_tests) in
-            ap (λ (n : ℕ). number (with_dirs row x told ds) (n * 8 + dir_number e)) (sym same)
-            ∙ there told ds e (sym (are e) ∙ i)
-            ∙ same_value (number (part e) (x + 1)) (number (part e) (x + 1))
-            (subst (λ (n : ℕ). IsShort (number (part e) (n + 1))) (sym same) short) refl
-            ∙ ap (λ (n : ℕ). number (part e) (n + 1)) same
+            ap (λ (n : ℕ). number (with_dirs row x told (dirs_of h)) (n * 8 + dir_number e)) (sym same)
+            ∙ there told (dirs_of h) e (sym (dirs_are h e) ∙ i)
+            ∙ same_value (number (part h line e) (x + 1)) (number (part h line e) (x + 1))
+            (subst (λ (n : ℕ). IsShort (number (part h line e) (n + 1))) (sym same) short) refl
+            ∙ ap (λ (n : ℕ). number (part h line e) (n + 1)) same
 
-  pub laid_up : (part : Dir → List ℤ) (old new n ne e w nw : List ℤ) → AreLaid is_upward part x old row
-      → n ≡ part N → ne ≡ part NE → e ≡ part E → w ≡ part W → nw ≡ part NW
-      → new ≡ with_up row x (to_z w16 (of_z w16 (number n (x + 1)))) (to_z w16 (of_z w16 (number ne (x + 1))))
-      (to_z w16 (of_z w16 (number e (x + 1)))) (to_z w16 (of_z w16 (number w (x + 1))))
-      (to_z w16 (of_z w16 (number nw (x + 1)))) → AreLaid is_upward part (x + 1) old new
-  laid_up part old new n ne e w nw laid is_n is_ne is_e is_w is_nw made =
-      subst (λ (r : List ℤ). AreLaid is_upward part (x + 1) old r)
-      (sym (made ∙ rw (is_n, is_ne, is_e, is_w, is_nw) refl))
-      (laid_dirs is_upward part (NW ∷ W ∷ E ∷ NE ∷ N ∷ [])
-      (λ e. same_bool-is _ _
-      (at_dir (λ e. same_bool (is_upward e) (among (NW ∷ W ∷ E ∷ NE ∷ N ∷ []) e)) refl e))
-      old laid)
-
-  pub laid_down : (part : Dir → List ℤ) (old new se s sw : List ℤ) → AreLaid is_downward part x old row
-      → se ≡ part SE → s ≡ part S → sw ≡ part SW
-      → new ≡ with_down row x (to_z w16 (of_z w16 (number se (x + 1)))) (to_z w16 (of_z w16 (number s (x + 1))))
-      (to_z w16 (of_z w16 (number sw (x + 1)))) → AreLaid is_downward part (x + 1) old new
-  laid_down part old new se s sw laid is_se is_s is_sw made =
-      subst (λ (r : List ℤ). AreLaid is_downward part (x + 1) old r) (sym (made ∙ rw (is_se, is_s, is_sw) refl))
-      (laid_dirs is_downward part (SW ∷ S ∷ SE ∷ [])
-      (λ e. same_bool-is _ _
-      (at_dir (λ e. same_bool (is_downward e) (among (SW ∷ S ∷ SE ∷ []) e)) refl e)) old laid)
+  pub laid_more : (h : Heading) (line : Line) (old new n ne nw e w : List ℤ) → AreLaid h line x old row
+      → n ≡ line.ahead.items → ne ≡ line.ahead_east.items → nw ≡ line.ahead_west.items → e ≡ line.east.items
+      → w ≡ line.west.items → new ≡ with_cell h row x (stored n) (stored ne) (stored nw) (stored e) (stored w)
+      → AreLaid h line (x + 1) old new
+  laid_more Upwards line old new n ne nw e w laid is_n is_ne is_nw is_e is_w made =
+      subst (λ (r : List ℤ). AreLaid Upwards line (x + 1) old r)
+      (sym (made ∙ rw (is_n, is_ne, is_nw, is_e, is_w) refl)) (laid_dirs Upwards line old laid)
+  laid_more Downwards line old new n ne nw e w laid is_n is_ne is_nw is_e is_w made =
+      subst (λ (r : List ℤ). AreLaid Downwards line (x + 1) old r)
+      (sym (made ∙ rw (is_n, is_ne, is_nw) refl)) (laid_dirs Downwards line old laid)
 
 -- where the entries of a cell stand
 earlier : (m n k s : ℕ) → m < n → k < 8 → s ≡ n * 8 → m * 8 + k < s
@@ -155,21 +156,61 @@ row_ends y h w n some e =
     below : (r : ℕ) → n ≡ (y + 1 + r) * w * 8 → y * (w * 8) + w * 8 ≤ n
     below r all = omega (arith, all)
 
--- a line is laid into the row of tables to which it belongs
-module _ (g : GridData) (whole : IsGrid g) (y start k : ℕ) (t : TablesData) (among : Dir → Bool) (part : Dir → List ℤ)
-    (row : List ℤ) (begins : start ≡ y * g.width * 8) (wide : k ≡ g.width * 8)
-    (room : start + k ≤ length t.entries)
-    (laid : AreLaid among part g.width (mid_of start k t.entries) row)
-    (parts : (e : Dir) → among e ≡ true → IsEntryRow g y e (part e)) where
-  final : List ℤ
-  final = put_mid start k t.entries row
+-- the rows of a line are the entries of their directions
+seen_parts : (g : GridData) (h : Heading) (y : ℕ) (line : Line) → AreAhead g h y line → AreAlong g y line
+    → (e : Dir) → is_upward e ≡ true → IsEntryRow g y (seen h e) (seen_part line e)
+seen_parts g h y line told along N is = told.ahead
+seen_parts g h y line told along NE is = told.ahead_east
+seen_parts g h y line told along E is = (along_seen g h y along).0
+seen_parts g h y line told along SE is = absurd (cc)
+seen_parts g h y line told along S is = absurd (cc)
+seen_parts g h y line told along SW is = absurd (cc)
+seen_parts g h y line told along W is = (along_seen g h y along).1
+seen_parts g h y line told along NW is = told.ahead_west
 
-  inside : start ≤ length t.entries
+parts : (g : GridData) (h : Heading) (y : ℕ) (line : Line) → AreAhead g h y line → AreAlong g y line → (e : Dir)
+    → is_swept h e ≡ true → IsEntryRow g y e (part h line e)
+parts g Upwards y line told along e is = seen_parts g Upwards y line told along e is
+parts g Downwards y line told along e is =
+    subst (λ (d : Dir). IsEntryRow g y d (seen_part line (flipped e)))
+    (same_dir _ _ (at_dir (λ e. is_dir (flipped (flipped e)) e) refl e))
+    (seen_parts g Downwards y line told along (flipped e)
+    (by_both _ _ (at_dir (λ e. is_upward e || is_upward (flipped e)) refl e) is))
+  where
+    by_both : (a b : Bool) → (a || b) ≡ true → not a ≡ true → b ≡ true
+    by_both true b e f = absurd (cc)
+    by_both false b e f = e
+
+pub row_swept : (g : GridData) → IsGrid g → (h : Heading) (y : ℕ) (line : Line) (old new : List ℤ)
+    → AreAhead g h y line → AreAlong g y line → y < g.height → AreLaid h line g.width old new
+    → IsRowSwept g h y old new
+row_swept g whole h y line old new told along inside laid = record {
+  long = laid.long;
+  told = λ x e column is.
+      let on : is_inside g (record { x = x; y = y }) ≡ true = grind (arith, nat_tests) in
+      let entry = parts g h y line told along e is (record { x = x; y = y }) refl on in
+      laid.told x e column is (subst (λ (z : ℤ). IsShort z) (sym entry)
+      (table_entry-short g whole (record { x = x; y = y }) e)) ∙ entry;
+  others = laid.others;
+}
+
+-- a row of entries that was swept lies among all
+module _ (g : GridData) (h : Heading) (y start k : ℕ) (all row : List ℤ) (begins : start ≡ y * g.width * 8)
+    (wide : k ≡ g.width * 8) (room : start + k ≤ length all)
+    (swept_row : IsRowSwept g h y (mid_of start k all) row) where
+  final : List ℤ
+  final = put_mid start k all row
+
+  inside : start ≤ length all
   inside = omega (arith, room)
 
   filled : length row ≡ k
-  filled = laid.long ∙ ap (λ (n : ℕ). length (mid_of start n t.entries)) (sym (spread start k))
-      ∙ mid_len start (start + k) t.entries room ∙ spread start k
+  filled = swept_row.long ∙ ap (λ (n : ℕ). length (mid_of start n all)) (sym (spread start k))
+      ∙ mid_len start (start + k) all room ∙ spread start k
+
+  as_long : length (put_mid start k all row) ≡ length all
+  as_long = ap (λ (n : ℕ). length (put_mid start n all row)) (sym (spread start k))
+      ∙ long_with start (start + k) all row (omega arith) room (filled ∙ sym (spread start k))
 
   module _ (c : Cell) (e : Dir) (on : is_inside g c ≡ true) where
     place : ℕ
@@ -186,163 +227,160 @@ module _ (g : GridData) (whole : IsGrid g) (y start k : ℕ) (t : TablesData) (a
         let column : c.x < g.width = grind (arith, nat_tests) in
         omega (arith, wide)
 
-    told_here : c.y ≡ y → among e ≡ true → number final place ≡ table_entry g c e
+    told_here : c.y ≡ y → is_swept h e ≡ true → number final place ≡ table_entry g c e
     unfolding final
     told_here same is =
         let column : c.x < g.width = grind (arith, nat_tests) in
         ap (λ (n : ℕ). number final n) (on_row same)
-        ∙ read_within start k t.entries row (pos 0) inside (c.x * 8 + dir_number e) (omega (arith, filled, in_row))
-        ∙ laid.told c.x e column is
-        (subst (λ (z : ℤ). IsShort z) (sym (parts e is c same on)) (table_entry-short g whole c e))
-        ∙ parts e is c same on
+        ∙ read_within start k all row (pos 0) inside (c.x * 8 + dir_number e) (omega (arith, filled, in_row))
+        ∙ swept_row.told c.x e column is
+        ∙ ap (λ (n : ℕ). table_entry g (record { x = c.x; y = n }) e) (sym same)
 
-    kept_here : c.y ≡ y → among e ≡ false → number final place ≡ number t.entries place
+    kept_here : c.y ≡ y → is_swept h e ≡ false → number final place ≡ number all place
     unfolding final
     kept_here same is =
         ap (λ (n : ℕ). number final n) (on_row same)
-        ∙ read_within start k t.entries row (pos 0) inside (c.x * 8 + dir_number e) (omega (arith, filled, in_row))
-        ∙ laid.others c.x e is ∙ read_part start k t.entries (c.x * 8 + dir_number e) (pos 0) in_row
-        ∙ ap (λ (n : ℕ). number t.entries n) (sym (on_row same))
+        ∙ read_within start k all row (pos 0) inside (c.x * 8 + dir_number e) (omega (arith, filled, in_row))
+        ∙ swept_row.others c.x e is ∙ read_part start k all (c.x * 8 + dir_number e) (pos 0) in_row
+        ∙ ap (λ (n : ℕ). number all n) (sym (on_row same))
 
-    kept_above : c.y < y → number final place ≡ number t.entries place
+    kept_above : c.y < y → number final place ≡ number all place
     unfolding final place
     kept_above up =
         let few = dir_number-few e in
         let column : c.x < g.width = grind (arith, nat_tests) in
-        read_before start k t.entries row (pos 0) inside place
+        read_before start k all row (pos 0) inside place
         (earlier (cell_number g.width c) (y * g.width) (dir_number e) start
         (number_below g.width y c column up) few begins)
 
-    kept_below : y < c.y → number final place ≡ number t.entries place
+    kept_below : y < c.y → number final place ≡ number all place
     unfolding final place
     kept_below down =
         let row_is : c.y ≡ y + 1 + (c.y - (y + 1)) = omega arith in
-        read_behind start k t.entries row (pos 0) inside place
+        read_behind start k all row (pos 0) inside place
         (subst (λ (n : ℕ). start + k ≤ (n * g.width + c.x) * 8 + dir_number e) (sym row_is)
         (later y (c.y - (y + 1)) g.width c.x (dir_number e) start k begins wide)) filled
 
-  pub right_laid : (before after : Cell → Dir → Bool) → AreRight t g before
-      → ((c : Cell) (e : Dir) → after c e ≡ true → c.y ≡ y → among e ≡ false → before c e ≡ true)
+  right_swept : (before after : Cell → Dir → Bool)
+      → ((c : Cell) (e : Dir) → is_inside g c ≡ true → before c e ≡ true
+      → number all (entry_place g.width c e) ≡ table_entry g c e)
+      → ((c : Cell) (e : Dir) → after c e ≡ true → c.y ≡ y → is_swept h e ≡ false → before c e ≡ true)
       → ((c : Cell) (e : Dir) → after c e ≡ true → c.y ≢ y → before c e ≡ true)
-      → AreRight (whole_with t (put_mid start k t.entries row)) g after
+      → AreRight (as_tables g (put_mid start k all row)) g after
   unfolding final place
-  right_laid before after known here elsewhere = record {
-    sized = record {
-      width = known.sized.width;
-      height = known.sized.height;
-      corner = known.sized.corner;
-    };
-    right = λ c e on h. ap (λ (w : ℕ). number final (entry_place w c e)) known.sized.width
-        ∙ by_row c e on h (nat_lt c.y y) refl (nat_lt y c.y) refl;
+  right_swept before after was here elsewhere = record {
+    sized = record { width = refl; height = refl; corner = refl };
+    right = λ c e on l. by_row c e on l (nat_lt c.y y) refl (nat_lt y c.y) refl;
   }
     where
-      was : (c : Cell) (e : Dir) (on : is_inside g c ≡ true) → before c e ≡ true
-          → number t.entries (place c e on) ≡ table_entry g c e
-      was c e on h = ap (λ (w : ℕ). number t.entries (entry_place w c e)) (sym known.sized.width)
-          ∙ known.right c e on h
-
       by_row : (c : Cell) (e : Dir) (on : is_inside g c ≡ true) → after c e ≡ true → (a : Bool)
           → nat_lt c.y y ≡ a → (b : Bool) → nat_lt y c.y ≡ b → number final (place c e on) ≡ table_entry g c e
-      by_row c e on h true up b u =
+      by_row c e on l true up b u =
           let row_above : c.y < y = grind (arith, nat_tests) in
-          kept_above c e on row_above ∙ was c e on (elsewhere c e h (λ s. omega arith))
-      by_row c e on h false up true down =
+          kept_above c e on row_above ∙ was c e on (elsewhere c e l (λ s. omega arith))
+      by_row c e on l false up true down =
           let row_below : y < c.y = grind (arith, nat_tests) in
-          kept_below c e on row_below ∙ was c e on (elsewhere c e h (λ s. omega arith))
-      by_row c e on h false up false down =
-          let same : c.y ≡ y = grind (arith, nat_tests) in by_dir same (among e) refl
+          kept_below c e on row_below ∙ was c e on (elsewhere c e l (λ s. omega arith))
+      by_row c e on l false up false down =
+          let same : c.y ≡ y = grind (arith, nat_tests) in by_dir same (is_swept h e) refl
         where
-          by_dir : c.y ≡ y → (b : Bool) → among e ≡ b → number final (place c e on) ≡ table_entry g c e
+          by_dir : c.y ≡ y → (b : Bool) → is_swept h e ≡ b → number final (place c e on) ≡ table_entry g c e
           by_dir same true is = told_here c e on same is
-          by_dir same false is = kept_here c e on same is ∙ was c e on (here c e h same is)
+          by_dir same false is = kept_here c e on same is ∙ was c e on (here c e l same is)
 
--- the rows of a line are the entries of their directions
-up_parts : (g : GridData) (y : ℕ) (line : Line) → AreAhead g upwards y line → AreAlong g y line → (e : Dir)
-    → is_upward e ≡ true → IsEntryRow g y e (upward_part line e)
-up_parts g y line told along N h = told.ahead
-up_parts g y line told along NE h = told.ahead_east
-up_parts g y line told along E h = along.east
-up_parts g y line told along SE h = absurd (cc)
-up_parts g y line told along S h = absurd (cc)
-up_parts g y line told along SW h = absurd (cc)
-up_parts g y line told along W h = along.west
-up_parts g y line told along NW h = told.ahead_west
+-- one more row is swept: what was right stays so, and lies in rows that are there
+module _ (height n : ℕ) (below : n < height) (c : Cell) (e : Dir) where
+  here_before : (h : Heading) → swept h height (n + 1) c e ≡ true → c.y ≡ nth_row h height n
+      → is_swept h e ≡ false → swept h height n c e ≡ true
+  here_before Upwards i at is = absurd (let up = (and_both (is_upward e) (nat_lt c.y (n + 1)) i).0 in cc)
+  here_before Downwards i at is = by_test (is_upward e) is
+    where
+      by_test : (b : Bool) → not b ≡ false → (b || nat_le (height - n) c.y) ≡ true
+      by_test true is = refl
+      by_test false is = absurd (cc)
 
-pub down_parts : (g : GridData) (y : ℕ) (line : Line) → AreAhead g downwards y line → (e : Dir)
-    → is_downward e ≡ true → IsEntryRow g y e (downward_part line e)
-down_parts g y line told N h = absurd (cc)
-down_parts g y line told NE h = absurd (cc)
-down_parts g y line told E h = absurd (cc)
-down_parts g y line told SE h = told.ahead_east
-down_parts g y line told S h = told.ahead
-down_parts g y line told SW h = told.ahead_west
-down_parts g y line told W h = absurd (cc)
-down_parts g y line told NW h = absurd (cc)
+  elsewhere_before : (h : Heading) → swept h height (n + 1) c e ≡ true → c.y ≢ nth_row h height n
+      → swept h height n c e ≡ true
+  elsewhere_before Upwards i off = grind (arith, nat_tests)
+  elsewhere_before Downwards i off = grind (arith, nat_tests)
 
--- one more row of entries
-pub grown_on : (g : GridData) → IsGrid g → (y start k : ℕ) (old all row : List ℤ) (line : Line)
-    → AreGrown g y old → ((i : ℕ) → i < length old → number all i ≡ number old i)
-    → length all ≡ length old + g.width * 8 → start ≡ length old → k ≡ g.width * 8
-    → AreLaid is_upward (upward_part line) g.width (mid_of start k all) row → AreAhead g upwards y line
-    → AreAlong g y line → AreGrown g (y + 1) (put_mid start k all row)
-grown_on g whole y start k old all row line grown same long begins wide laid told along = record {
-  long = whole_length ∙ rows;
-  right = right_laid g whole y start k (as_tables g all) is_upward (upward_part line) row (omega (arith, grown.long))
-      wide room laid (up_parts g y line told along) (above y) (above (y + 1)) (record {
-        sized = record { width = refl; height = refl; corner = refl };
-        right = λ c e on h. still c e on h ∙ grown.right.right c e on h;
-      }) (λ c e h at is. absurd (on_row c e h is))
-      (λ c e h off. higher c e h off);
+  there_before : (h : Heading) → c.y < height → swept h height n c e ≡ true → c.y < rows_there h height n
+  there_before Upwards low i = let up = (and_both (is_upward e) (nat_lt c.y n) i).1 in grind (arith, nat_tests)
+  there_before Downwards low i = low
+
+long_on : (h : Heading) (height w n y start k old all : ℕ) → n < height → y ≡ nth_row h height n
+    → start ≡ y * w * 8 → k ≡ w * 8 → old ≡ rows_there h height n * w * 8 → (old ≤ start + k → all ≡ start + k)
+    → (start + k ≤ old → all ≡ old) → all ≡ rows_there h height (n + 1) * w * 8
+long_on Upwards height w n y start k old all below at begins wide long grown stays =
+    let same : start ≡ old = begins ∙ ap (λ (r : ℕ). r * w * 8) at ∙ sym long in
+    grown (omega (arith, same)) ∙ omega (arith, same, long, wide)
+long_on Downwards height w n y start k old all below at begins wide long grown stays =
+    stays (let ends = row_ends y height w old (omega (arith, at, below)) long in
+    let from = row_begins y w w refl in omega (arith, ends, from, begins, wide)) ∙ long
+
+pub swept_on : (g : GridData) (h : Heading) (n y start k : ℕ) (old all row : List ℤ) → n < g.height
+    → y ≡ nth_row h g.height n → AreSwept g h n old
+    → ((i : ℕ) → i < length old → number all i ≡ number old i) → (length old ≤ start + k → length all ≡ start + k)
+    → (start + k ≤ length old → length all ≡ length old) → start ≡ y * g.width * 8 → k ≡ g.width * 8
+    → start + k ≤ length all → IsRowSwept g h y (mid_of start k all) row
+    → AreSwept g h (n + 1) (put_mid start k all row)
+swept_on g h n y start k old all row below at known same grown stays begins wide room swept_row = record {
+  long = as_long g h y start k all row begins wide room swept_row
+      ∙ long_on h g.height g.width n y start k (length old) (length all) below at begins wide known.long grown stays;
+  right = right_swept g h y start k all row begins wide room swept_row (swept h g.height n)
+      (swept h g.height (n + 1)) (λ c e on l. still c e on l ∙ known.right.right c e on l)
+      (λ c e l same is. here_before g.height n below c e h l (same ∙ at) is)
+      (λ c e l off. elsewhere_before g.height n below c e h l (λ s. off (s ∙ sym at)));
 }
   where
-    room : start + k ≤ length all
-    room = omega arith
-
-    whole_length : length (put_mid start k all row) ≡ length all
-    whole_length = ap (λ (n : ℕ). length (put_mid start n all row)) (sym (spread start k))
-        ∙ long_with start (start + k) all row (omega arith) room
-        (laid.long ∙ ap (λ (n : ℕ). length (mid_of start n all)) (sym (spread start k))
-        ∙ mid_len start (start + k) all room)
-
-    rows : length all ≡ (y + 1) * g.width * 8
-    rows = omega (arith, long, grown.long)
-
-    still : (c : Cell) (e : Dir) → is_inside g c ≡ true → above y c e ≡ true
+    still : (c : Cell) (e : Dir) → is_inside g c ≡ true → swept h g.height n c e ≡ true
         → number all (entry_place g.width c e) ≡ number old (entry_place g.width c e)
-    still c e on h =
+    still c e on l =
         let column : c.x < g.width = grind (arith, nat_tests) in
-        let up : c.y < y = row_of (is_upward e) c.y h in
+        let low : c.y < g.height = grind (arith, nat_tests) in
+        let there = there_before g.height n below c e h low l in
         same (entry_place g.width c e)
-        (earlier (cell_number g.width c) (y * g.width) (dir_number e) (length old)
-        (number_below g.width y c column up) (dir_number-few e) grown.long)
-      where
-        row_of : (b : Bool) (n : ℕ) → (b && nat_lt n y) ≡ true → n < y
-        row_of true n h = grind (arith, nat_tests)
-        row_of false n h = absurd (cc)
+        (earlier (cell_number g.width c) (rows_there h g.height n * g.width) (dir_number e) (length old)
+        (number_below g.width (rows_there h g.height n) c column there) (dir_number-few e) known.long)
 
-    on_row : (c : Cell) (e : Dir) → above (y + 1) c e ≡ true → is_upward e ≡ false → ⊥
-    on_row c e h is = let up = (and_both (is_upward e) (nat_lt c.y (y + 1)) h).0 in cc
-
-    higher : (c : Cell) (e : Dir) → above (y + 1) c e ≡ true → c.y ≢ y → above y c e ≡ true
-    higher c e h off =
-        let both = and_both (is_upward e) (nat_lt c.y (y + 1)) h in
-        let below : nat_lt c.y y ≡ true = lower c.y both.1 off in rw (both.0, below) refl
-      where
-        lower : (n : ℕ) → nat_lt n (y + 1) ≡ true → n ≢ y → nat_lt n y ≡ true
-        lower n h off = grind (arith, nat_tests)
-
--- what was right before a row was laid down
-pub same_row : (y : ℕ) (c : Cell) (e : Dir) → from_row y c e ≡ true → c.y ≡ y → is_downward e ≡ false
-    → from_row (y + 1) c e ≡ true
-same_row y c e h at is = by_dir (is_upward e) is
+-- entries along a row that the sweep does not tell are the grid's before
+pub along_right : (g : GridData) (h : Heading) (n y start k : ℕ) (old all : List ℤ) → n < g.height
+    → y ≡ nth_row h g.height n → AreSwept g h n old → ((i : ℕ) → i < length old → number all i ≡ number old i)
+    → start ≡ y * g.width * 8 → k ≡ g.width * 8 → IsAlongRight g h y (mid_of start k all)
+along_right g Upwards n y start k old all below at known same begins wide x e column along is =
+    absurd (let up = if_so _ _ (at_dir (λ e. not (is_along e) || is_upward e) refl e) along in cc)
   where
-    by_dir : (b : Bool) → not b ≡ false → (b || nat_le (y + 1) c.y) ≡ true
-    by_dir true is = refl
-    by_dir false is = absurd (cc)
-
-pub lower_row : (y : ℕ) (c : Cell) (e : Dir) → from_row y c e ≡ true → c.y ≢ y → from_row (y + 1) c e ≡ true
-lower_row y c e h off = by_dir (is_upward e) h
+    if_so : (a b : Bool) → (not a || b) ≡ true → a ≡ true → b ≡ true
+    if_so true b h is = h
+    if_so false b h is = absurd (cc)
+along_right g Downwards n y start k old all below at known same begins wide x e column along is =
+    let few = dir_number-few e in
+    let on : is_inside g (record { x = x; y = y }) ≡ true =
+    let low : y < g.height = omega (arith, at, below) in grind (arith, nat_tests) in
+    let place = among_these y g.width x (dir_number e) start begins in
+    read_part start k all (x * 8 + dir_number e) (pos 0) (omega (arith, wide))
+    ∙ ap (λ (i : ℕ). number all i) (sym place)
+    ∙ same (entry_place g.width (record { x = x; y = y }) e)
+    (earlier (y * g.width + x) (g.height * g.width) (dir_number e) (length old)
+    (number_below g.width g.height (record { x = x; y = y }) column (omega (arith, at, below))) few known.long)
+    ∙ known.right.right (record { x = x; y = y }) e on (before (is_upward e) is)
   where
-    by_dir : (b : Bool) → (b || nat_le y c.y) ≡ true → (b || nat_le (y + 1) c.y) ≡ true
-    by_dir true h = refl
-    by_dir false h = grind (arith, nat_tests)
+    before : (up : Bool) → not up ≡ false → (up || nat_le (g.height - n) y) ≡ true
+    before true is = refl
+    before false is = absurd (cc)
+
+-- the sweep that heads down begins where the other one ended
+pub swept_up : (g : GridData) (entries : List ℤ) → AreSwept g Upwards g.height entries
+    → AreSwept g Downwards 0 entries
+swept_up g entries up = record {
+  long = up.long;
+  right = record {
+    sized = up.right.sized;
+    right = λ c d inside h. up.right.right c d inside (upward (is_upward d) c inside h);
+  };
+}
+  where
+    upward : (b : Bool) (c : Cell) → is_inside g c ≡ true → (b || nat_le (g.height - 0) c.y) ≡ true
+        → (b && nat_lt c.y g.height) ≡ true
+    upward true c inside h = (and_both (nat_lt c.x g.width) (nat_lt c.y g.height) inside).1
+    upward false c inside h = absurd (grind (arith, nat_tests))

@@ -2,7 +2,6 @@ pub mod Following
 pub mod Placing
 pub mod Short
 pub mod Refreshing
-pub mod Sweeping
 pub mod Clear
 pub mod Stops
 pub mod Goals

@@ -1,5 +1,5 @@
 -- Rows as code hands them over, and from one row to the next.
-use Rattle.std.proofs.Common.{◌≡◌, ℕ, zero, suc, ◌+◌, ◌<◌, ◌≤◌, arith, Bool, true, false, List, length, refl, ap, sym, ◌∙◌, subst}
+use Rattle.std.proofs.Common.{◌≡◌, ℕ, zero, suc, ◌+◌, ◌-◌, ◌*◌, ◌<◌, ◌≤◌, arith, Bool, true, false, List, length, refl, ap, sym, ◌∙◌, subst}
 use Rattle.std.specs.Prelude.{ℤ, Some, replicate, nat_lt}
 use Rattle.std.proofs.lemmas.Bool.Decides.{nat_tests}
 use Rattle.std.proofs.lemmas.List.{get_or-replicate, length-replicate, get_or_past, with_items_is}
@@ -7,16 +7,18 @@ use Rattle.std.specs.Vec.{with_items}
 use Rattle.grid_moves.specs.declared.Dir.{Dir}
 use Rattle.grid_moves.specs.declared.Dir.TheVariants.{N, NE, E, S, W, NW}
 use Rattle.grid_moves.specs.Around.{IsBefore}
-use Rattle.grid_moves.specs.Grid.{GridData, IsGrid, is_free, is_inside}
-use Rattle.grid_moves.specs.Move.{row_ahead}
+use Rattle.grid_moves.specs.Grid.{GridData, IsGrid, is_free}
+use Rattle.grid_moves.specs.Move.{dir_number, row_ahead}
 use Rattle.grid_moves.proofs.Legal.{and_both, free_inside}
 use Rattle.plus_tables.specs.declared.lines.Line.{Line}
 use Rattle.plus_tables.specs.declared.lines.Band.{Band}
 use Rattle.plus_tables.specs.declared.lines.Rows.{Rows}
 use Rattle.plus_tables.specs.Entry.{table_entry}
-use Rattle.plus_tables.specs.Tables.{TablesData, entry_at}
-use Rattle.plus_tables.specs.Sweep.{AreRight, is_upward, from_row}
-use Rattle.plus_tables.specs.Rows.{flag, number, IsEntryRow, IsFlagRow, IsRowAt, Heading, upwards, downwards, seen, AreRowsSeen}
+use Rattle.plus_tables.specs.Sweep.{is_swept, nth_row, IsNext}
+use Rattle.plus_tables.specs.Laid.{IsAlongRight}
+use Rattle.plus_tables.specs.declared.heading.Heading.{Heading}
+use Rattle.plus_tables.specs.declared.heading.Heading.TheVariants.{Upwards, Downwards}
+use Rattle.plus_tables.specs.Rows.{flag, number, IsEntryRow, IsFlagRow, IsRowAt, is_along, seen, AreRowsSeen}
 use Rattle.plus_tables.specs.Lines.{AreAhead, AreAlong, IsLong, IsReady, IsKept, IsBlank}
 use Rattle.plus_tables.proofs.Rowing.{value_is}
 
@@ -76,31 +78,36 @@ row_before zero n is = record {
 }
 row_before (suc m) n is = row_over (suc m) n (let e : suc m ≡ n + 1 = is.some (omega arith) in omega arith)
 
+-- and the row that is swept next sees this one ahead
+pub row_next : (h : Heading) (y n : ℕ) → IsNext h y n → IsRowAt (row_ahead (seen h N) n) y
+row_next Upwards y n next = row_over n y (omega arith)
+row_next Downwards y n next = row_under n y next
+
+pub next_row : (h : Heading) (height n y : ℕ) → n + 1 < height → y ≡ nth_row h height n
+    → IsNext h y (nth_row h height (n + 1))
+next_row Upwards height n y more at = omega arith
+next_row Downwards height n y more at = omega arith
+
 -- all that leads ahead leads to one row
 pub leads_ahead : (h : Heading) (y m : ℕ) → IsRowAt (row_ahead (seen h N) y) m
     → IsRowAt (row_ahead (seen h NE) y) m × IsRowAt (row_ahead (seen h NW) y) m
-leads_ahead upwards y m lies = (lies, lies)
-leads_ahead downwards y m lies = (lies, lies)
+leads_ahead Upwards y m lies = (lies, lies)
+leads_ahead Downwards y m lies = (lies, lies)
 
 -- E and W are E and W on both maps
 pub along_seen : (g : GridData) (h : Heading) (m : ℕ) {line : Line} → AreAlong g m line
     → IsEntryRow g m (seen h E) line.east.items × IsEntryRow g m (seen h W) line.west.items
-along_seen g upwards m along = (along.east, along.west)
-along_seen g downwards m along = (along.east, along.west)
+along_seen g Upwards m along = (along.east, along.west)
+along_seen g Downwards m along = (along.east, along.west)
 
 -- the entries along a row, as they are read back
-pub taken : (g : GridData) (t : TablesData) (y : ℕ) (d : Dir) (row : List ℤ) → AreRight t g (from_row (y + 1))
-    → is_upward d ≡ true
-    → ((x : ℕ) → x < t.width → number row (x + 1) ≡ entry_at t (record { x = x; y = y }) d)
-    → IsEntryRow g y d row
-taken g t y d row known h read v same inside =
-    let wide = known.sized.width in
-    let within : v.x < t.width = grind (arith, nat_tests) in
-    let here : is_inside g (record { x = v.x; y = y }) ≡ true =
-    ap (λ (n : ℕ). is_inside g (record { x = v.x; y = n })) (sym same) ∙ inside in
-    read v.x within
-    ∙ known.right (record { x = v.x; y = y }) d here (rw h refl)
-    ∙ ap (λ (n : ℕ). table_entry g (record { x = v.x; y = n }) d) (sym same)
+pub taken : (g : GridData) (h : Heading) (y : ℕ) (row out : List ℤ) (d : Dir) → is_along d ≡ true
+    → is_swept h d ≡ false → IsAlongRight g h y row
+    → ((x : ℕ) → x < g.width → number out (x + 1) ≡ number row (x * 8 + dir_number d)) → IsEntryRow g y d out
+taken g h y row out d along off right read v at inside =
+    let column : v.x < g.width = grind (arith, nat_tests) in
+    read v.x column ∙ right v.x d column along off
+    ∙ ap (λ (n : ℕ). table_entry g (record { x = v.x; y = n }) d) (sym at)
 
 -- rows of flags with another one behind
 abbrev pub with_back : Band → List Bool → Band
@@ -164,7 +171,7 @@ module _ (g : GridData) (h : Heading) (y n : ℕ) (band : Band) (last : Line) (r
       by_heading : (h : Heading) → IsRowAt (row_ahead (seen h N) y) ready.rows.ahead
           → IsRowAt (row_ahead (seen h S) y) n
           → AreRowsSeen g h y band.next.items band.here.items (with_items band.back row).items
-      by_heading upwards ahead behind = record {
+      by_heading Upwards ahead behind = record {
         upper = ready.rows.ahead;
         lower = n;
         upper_is = ahead;
@@ -173,7 +180,7 @@ module _ (g : GridData) (h : Heading) (y n : ℕ) (band : Band) (last : Line) (r
         here_is = ready.rows.here_is;
         below_is = behind_is;
       }
-      by_heading downwards ahead behind = record {
+      by_heading Downwards ahead behind = record {
         upper = n;
         lower = ready.rows.ahead;
         upper_is = behind;
@@ -280,18 +287,21 @@ module _ (g : GridData) (whole : IsGrid g) (rows begun : Rows) (blank : IsBlank 
   low : g.height ≤ 4096
   low = whole.sides.low
 
-  pub begun_up : IsFlagRow g 0 begun.band.here.items → IsKept g upwards 0 begun
-  begun_up is = begun_at upwards 0 4096 4096 low low
+  -- the first row of a sweep
+  pub begun_by : (h : Heading) → 0 < g.height → IsFlagRow g (nth_row h g.height 0) begun.band.here.items
+      → IsKept g h (nth_row h g.height 0) begun
+  begun_by Upwards some is = begun_at Upwards 0 4096 4096 low low
       (record { some = λ k e. absurd (cc); none = λ e. omega arith }) is (λ on. absurd (omega (arith, on)))
-
-  pub begun_down : (y : ℕ) → y + 1 ≡ g.height → IsFlagRow g y begun.band.here.items → IsKept g downwards y begun
-  begun_down y e is = begun_at downwards y g.height (g.height + 1) (omega arith) (omega arith)
-      (row_under y g.height (sym e)) is (λ on. record {
-        upper = y;
-        lower = g.height + 1;
-        upper_is = row_over g.height y (omega arith);
-        lower_is = row_itself (g.height + 1);
-        above_is = is;
-        here_is = blank_row g g.height begun.band.next.items (next ∙ blank.next) (omega arith);
-        below_is = blank_row g (g.height + 1) begun.band.far.items (far ∙ blank.far) (omega arith);
-      })
+  begun_by Downwards some is = begun_down (g.height - 1) (omega arith) is
+    where
+      begun_down : (y : ℕ) → y + 1 ≡ g.height → IsFlagRow g y begun.band.here.items → IsKept g Downwards y begun
+      begun_down y e is = begun_at Downwards y g.height (g.height + 1) (omega arith) (omega arith)
+          (row_under y g.height (sym e)) is (λ on. record {
+            upper = y;
+            lower = g.height + 1;
+            upper_is = row_over g.height y (omega arith);
+            lower_is = row_itself (g.height + 1);
+            above_is = is;
+            here_is = blank_row g g.height begun.band.next.items (next ∙ blank.next) (omega arith);
+            below_is = blank_row g (g.height + 1) begun.band.far.items (far ∙ blank.far) (omega arith);
+          })

@@ -15,7 +15,9 @@ use Rattle.pruning.specs.Ring.{is_free_on, is_shut, leads_on}
 use Rattle.pruning.proofs.Moves.{passable-turned}
 use Rattle.pruning.proofs.Table.{other, at_both, at_dir, same_bool, same_bool-is, same_dir}
 use Rattle.plus_tables.specs.Local.{tells_mark}
-use Rattle.plus_tables.specs.Rows.{flag, number, ring_of, forced_on, forced_by, place_after, told, legal_by, mark_by, IsRowAt, IsEntryRow, IsForcedRow, AreForced, AreShort, AreToldBelow, Heading, upwards, downwards, flipped, seen, AreRowsSeen}
+use Rattle.plus_tables.specs.declared.heading.Heading.{Heading}
+use Rattle.plus_tables.specs.declared.heading.Heading.TheVariants.{Upwards, Downwards}
+use Rattle.plus_tables.specs.Rows.{flag, number, ring_of, forced_on, forced_by, place_after, told, legal_by, mark_by, IsRowAt, IsEntryRow, IsForcedRow, AreForced, AreShort, AreToldBelow, flipped, seen, AreRowsSeen}
 use Rattle.plus_tables.proofs.Rowing.{forced_if, told_row}
 
 turn_flipped : (s : Side) (d : Dir) → turn s (flipped d) ≡ flipped (turn (other s) d)
@@ -130,9 +132,9 @@ module _ (g : GridData) (whole : IsGrid g) where
       → (m < 4096 → AreRowsSeen g h m ahead here behind) → (d : Dir) (corner : Corner) (forced : List Bool)
       → corner ≡ g.corner → length forced ≡ g.width + 2 → AreForced corner ahead here behind d forced
       → IsForcedRow g m (seen h d) forced
-  forced_seen upwards m ahead here behind around d corner forced rule long are =
+  forced_seen Upwards m ahead here behind around d corner forced rule long are =
       forced_if g whole m ahead here behind around d corner forced rule long are
-  forced_seen downwards m ahead here behind around d corner forced rule long are =
+  forced_seen Downwards m ahead here behind around d corner forced rule long are =
       forced_if g whole m behind here ahead around (flipped d) corner forced rule long
       (λ x below. are x below ∙ forced_flipped corner ahead here behind x d)
 
@@ -145,11 +147,11 @@ module _ (g : GridData) (whole : IsGrid g) where
       → length out ≡ g.width + 2
       → AreToldBelow corner ahead here behind forced next right left d out (length out - 2)
       → IsEntryRow g y (seen h d) out
-  told_seen upwards y m d lies corner rule ahead here behind forced next right left out e f around forced_is
+  told_seen Upwards y m d lies corner rule ahead here behind forced next right left out e f around forced_is
       next_is right_is left_is parts long are =
       told_row g whole y m d lies corner rule ahead here behind forced next right left out e f around forced_is
       next_is right_is left_is parts long are
-  told_seen downwards y m d lies corner rule ahead here behind forced next right left out e f around forced_is
+  told_seen Downwards y m d lies corner rule ahead here behind forced next right left out e f around forced_is
       next_is right_is left_is parts long are =
       told_row g whole y m (flipped d) lies corner rule behind here ahead forced next left right out f e around
       forced_is next_is left_is right_is

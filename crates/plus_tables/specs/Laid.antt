@@ -1,56 +1,66 @@
--- Entries as they lie in memory: those of a row, eight for each cell, into which the rows of a line are laid.
-use Rattle.std.specs.Prelude.{◌≡◌, ℕ, ◌+◌, ◌*◌, ◌<◌, ℤ, Bool, true, false, List, [], length, slice_set}
+-- Entries as they lie in memory, eight for each cell: those of a row, into which the rows of a line are laid, and
+-- all that a sweep has told so far.
+use Rattle.std.specs.Prelude.{◌≡◌, ℕ, ◌+◌, ◌*◌, ◌<◌, ℤ, true, false, List, [], length, slice_set}
 use Rattle.grid_moves.specs.declared.Dir.{Dir}
 use Rattle.grid_moves.specs.declared.Dir.TheVariants.{N, NE, E, SE, S, SW, W, NW}
 use Rattle.grid_moves.specs.Grid.{GridData}
 use Rattle.grid_moves.specs.Move.{dir_number}
+use Rattle.plus_tables.specs.declared.heading.Heading.{Heading}
+use Rattle.plus_tables.specs.declared.heading.Heading.TheVariants.{Upwards, Downwards}
 use Rattle.plus_tables.specs.declared.lines.Line.{Line}
-use Rattle.plus_tables.specs.Rows.{number}
+use Rattle.plus_tables.specs.Entry.{table_entry}
+use Rattle.plus_tables.specs.Rows.{number, is_along, seen}
 use Rattle.plus_tables.specs.Tables.{IsShort, TablesData}
-use Rattle.plus_tables.specs.Sweep.{AreRight, above}
+use Rattle.plus_tables.specs.Sweep.{AreRight, is_swept, swept}
 
--- the row of a line for a direction that leads up or along it, in a sweep that heads up
-abbrev pub upward_part : Line → Dir → List ℤ
-upward_part line N = line.ahead.items
-upward_part line NE = line.ahead_east.items
-upward_part line E = line.east.items
-upward_part line SE = []
-upward_part line S = []
-upward_part line SW = []
-upward_part line W = line.west.items
-upward_part line NW = line.ahead_west.items
+-- the row of a line for a direction as the sweep sees it, which leads up or along a row
+abbrev pub seen_part : Line → Dir → List ℤ
+seen_part line N = line.ahead.items
+seen_part line NE = line.ahead_east.items
+seen_part line E = line.east.items
+seen_part line SE = []
+seen_part line S = []
+seen_part line SW = []
+seen_part line W = line.west.items
+seen_part line NW = line.ahead_west.items
 
--- and for one that leads down, in a sweep that heads down
-abbrev pub downward_part : Line → Dir → List ℤ
-downward_part line N = []
-downward_part line NE = []
-downward_part line E = []
-downward_part line SE = line.ahead_east.items
-downward_part line S = line.ahead.items
-downward_part line SW = line.ahead_west.items
-downward_part line W = []
-downward_part line NW = []
+abbrev pub part : Heading → Line → Dir → List ℤ
+part h line d = seen_part line (seen h d)
 
 -- entries with one of cell x changed
 abbrev pub with_entry : List ℤ → ℕ → Dir → ℤ → List ℤ
 with_entry row x d entry = slice_set row (x * 8 + dir_number d) entry
 
--- those for the directions that lead up or along the row, and those for the others
-abbrev pub with_up : List ℤ → ℕ → ℤ → ℤ → ℤ → ℤ → ℤ → List ℤ
-with_up row x n ne e w nw =
-    with_entry (with_entry (with_entry (with_entry (with_entry row x N n) x NE ne) x E e) x W w) x NW nw
+-- those for the directions that lead ahead, and with them those along the row where the sweep tells them
+abbrev pub with_ahead : Heading → List ℤ → ℕ → ℤ → ℤ → ℤ → List ℤ
+with_ahead h row x n ne nw =
+    with_entry (with_entry (with_entry row x (seen h N) n) x (seen h NE) ne) x (seen h NW) nw
 
-abbrev pub with_down : List ℤ → ℕ → ℤ → ℤ → ℤ → List ℤ
-with_down row x se s sw = with_entry (with_entry (with_entry row x SE se) x S s) x SW sw
+abbrev pub with_cell : Heading → List ℤ → ℕ → ℤ → ℤ → ℤ → ℤ → ℤ → List ℤ
+with_cell Upwards row x n ne nw e w = with_entry (with_entry (with_ahead Upwards row x n ne nw) x E e) x W w
+with_cell Downwards row x n ne nw e w = with_ahead Downwards row x n ne nw
 
--- in the first n cells of a row the entries for some directions are now those of the parts, if they are short; those for
--- the other directions stay
-pub record AreLaid (among : Dir → Bool) (part : Dir → List ℤ) (n : ℕ) (old new : List ℤ) : Type 0 where
+-- in the first n cells of a row the entries that a sweep tells are now those of the line, if they are short; the
+-- others stay
+pub record AreLaid (h : Heading) (line : Line) (n : ℕ) (old new : List ℤ) : Type 0 where
   pub long : length new ≡ length old
-  pub told : (x : ℕ) (e : Dir) → x < n → among e ≡ true → IsShort (number (part e) (x + 1))
-      → number new (x * 8 + dir_number e) ≡ number (part e) (x + 1)
-  pub others : (x : ℕ) (e : Dir) → among e ≡ false
+  pub told : (x : ℕ) (e : Dir) → x < n → is_swept h e ≡ true → IsShort (number (part h line e) (x + 1))
+      → number new (x * 8 + dir_number e) ≡ number (part h line e) (x + 1)
+  pub others : (x : ℕ) (e : Dir) → is_swept h e ≡ false
       → number new (x * 8 + dir_number e) ≡ number old (x * 8 + dir_number e)
+
+-- row y with the entries that a sweep tells, which are the grid's; the others stay
+pub record IsRowSwept (g : GridData) (h : Heading) (y : ℕ) (old new : List ℤ) : Type 0 where
+  pub long : length new ≡ length old
+  pub told : (x : ℕ) (e : Dir) → x < g.width → is_swept h e ≡ true
+      → number new (x * 8 + dir_number e) ≡ table_entry g (record { x = x; y = y }) e
+  pub others : (x : ℕ) (e : Dir) → is_swept h e ≡ false
+      → number new (x * 8 + dir_number e) ≡ number old (x * 8 + dir_number e)
+
+-- those along the row that the sweep does not tell are the grid's before
+abbrev pub IsAlongRight : GridData → Heading → ℕ → List ℤ → Type 0
+IsAlongRight g h y row = (x : ℕ) (e : Dir) → x < g.width → is_along e ≡ true → is_swept h e ≡ false
+    → number row (x * 8 + dir_number e) ≡ table_entry g (record { x = x; y = y }) e
 
 -- entries as tables of a grid; those that are not there yet count as 0
 abbrev pub as_tables : GridData → List ℤ → TablesData
@@ -61,7 +71,12 @@ as_tables g entries = record {
   entries = entries;
 }
 
--- the entries of the rows above y, those for the directions that lead up or along them being the grid's
-pub record AreGrown (g : GridData) (y : ℕ) (entries : List ℤ) : Type 0 where
-  pub long : length entries ≡ y * g.width * 8
-  pub right : AreRight (as_tables g entries) g (above y)
+-- so many rows are there after n are swept: the sweep that heads up, which is the first, appends them
+abbrev pub rows_there : Heading → ℕ → ℕ → ℕ
+rows_there Upwards height n = n
+rows_there Downwards height n = height
+
+-- n rows are swept
+pub record AreSwept (g : GridData) (h : Heading) (n : ℕ) (entries : List ℤ) : Type 0 where
+  pub long : length entries ≡ rows_there h g.height n * g.width * 8
+  pub right : AreRight (as_tables g entries) g (swept h g.height n)

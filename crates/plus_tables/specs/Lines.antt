@@ -6,7 +6,8 @@ use Rattle.grid_moves.specs.Move.{row_ahead}
 use Rattle.plus_tables.specs.declared.lines.Line.{Line}
 use Rattle.plus_tables.specs.declared.lines.Band.{Band}
 use Rattle.plus_tables.specs.declared.lines.Rows.{Rows}
-use Rattle.plus_tables.specs.Rows.{AreSame, IsFlagRow, IsEntryRow, IsRowAt, Heading, seen, AreRowsSeen}
+use Rattle.plus_tables.specs.declared.heading.Heading.{Heading}
+use Rattle.plus_tables.specs.Rows.{AreSame, IsFlagRow, IsEntryRow, IsRowAt, seen, AreRowsSeen}
 
 -- each of the five rows has one entry for each column, one before and one after
 pub record IsLong (g : GridData) (line : Line) : Type 0 where

@@ -13,6 +13,8 @@ use Rattle.pruning.specs.Turns.{is_diagonal}
 use Rattle.pruning.specs.Marked.{is_forced, is_forced_on}
 use Rattle.pruning.specs.declared.ring.Ring.{Ring}
 use Rattle.pruning.specs.Ring.{is_shut, leads_on}
+use Rattle.plus_tables.specs.declared.heading.Heading.{Heading}
+use Rattle.plus_tables.specs.declared.heading.Heading.TheVariants.{Upwards, Downwards}
 use Rattle.plus_tables.specs.Entry.{table_entry}
 use Rattle.plus_tables.specs.Local.{tells_mark, from_before}
 use Rattle.plus_tables.specs.Tables.{IsShort}
@@ -143,11 +145,6 @@ pub record AreRowsAround (g : GridData) (y : ℕ) (above here below : List Bool)
   pub here_is : IsFlagRow g y here
   pub below_is : IsFlagRow g lower below
 
--- where the row lies that was swept last: above the one that is swept now, or below it
-pub data Heading : Type 0 where
-  upwards : Heading
-  downwards : Heading
-
 -- a direction on a map that is turned upside down
 abbrev pub flipped : Dir → Dir
 flipped N = S
@@ -161,13 +158,13 @@ flipped NW = SW
 
 -- a sweep that heads down sees the map upside down: what it takes for N is S
 abbrev pub seen : Heading → Dir → Dir
-seen upwards d = d
-seen downwards d = flipped d
+seen Upwards d = d
+seen Downwards d = flipped d
 
 -- the flags of a row, of the one ahead of it and of the one behind it
 abbrev pub AreRowsSeen : GridData → Heading → ℕ → List Bool → List Bool → List Bool → Type 0
-AreRowsSeen g upwards y ahead here behind = AreRowsAround g y ahead here behind
-AreRowsSeen g downwards y ahead here behind = AreRowsAround g y behind here ahead
+AreRowsSeen g Upwards y ahead here behind = AreRowsAround g y ahead here behind
+AreRowsSeen g Downwards y ahead here behind = AreRowsAround g y behind here ahead
 
 -- what loops that read all columns of a row tell
 abbrev pub AreForced : Corner → List Bool → List Bool → List Bool → Dir → List Bool → Type 0

@@ -6,16 +6,16 @@
 //! and for the second sweep those along a row are read back. Where rows repeat, as on open ground, so do the
 //! entries along them: these are copied from the row before.
 
-ghost use Rattle.std.specs.Prelude.{◌≡◌, ℕ, ◌+◌, ◌<◌, false, IfOk, OnOk};
-ghost use Rattle.grid_moves.specs.Grid.{IsGrid};
-ghost use Rattle.plus_tables.specs.Laid.{AreGrown};
-ghost use Rattle.plus_tables.specs.Lines.{AreAhead, AreAlong, IsBlank, IsKept, IsLong};
-ghost use Rattle.plus_tables.specs.Rows.{upwards};
-ghost use Rattle.grid_moves.specs.Grid.{is_free};
-ghost use Rattle.grid_moves.specs.Around.{IsBefore};
+ghost use Rattle.std.specs.Prelude.{◌≡◌, ℕ, ◌+◌, ◌*◌, ◌<◌, ◌≤◌, false, IfOk, OnOk, length};
+ghost use Rattle.grid_moves.specs.Grid.{IsGrid, is_free};
+ghost use Rattle.plus_tables.specs.Rows.{number};
+ghost use Rattle.plus_tables.specs.Laid.{AreSwept, IsAlongRight, IsRowSwept};
+ghost use Rattle.plus_tables.specs.Lines.{IsBlank, IsKept};
+ghost use Rattle.plus_tables.specs.Sweep as sweeps;
 
 use crate::flags::read_row;
-use crate::lines::{Line, Rows, tell, tell_along};
+use crate::heading::{Heading, behind, nth_row};
+use crate::lines::{Rows, bring_along, tell};
 use crate::tables::Tables;
 use grid_moves::{Cell, NoMemory, Terrain};
 use std::alloc::Global;
@@ -34,129 +34,109 @@ fn has_cells<T: Terrain>(t: &T) -> bool
     false
 }
 
-// The row before this one; before the first it is 65535, which no map has.
-fn before(y: u16) -> u16
-    ensures { IsBefore y result }
+// Makes room for so many entries, where there are fewer.
+fn make_room(entries: &mut Vec<i16>, end: usize) -> Result<(), NoMemory>
+    ensures room { OnOk result (end ≤ length entries.new.items) }
+    ensures grown { OnOk result (length entries.old.items ≤ end → length entries.new.items ≡ end) }
+    ensures stays { OnOk result (end ≤ length entries.old.items
+        → length entries.new.items ≡ length entries.old.items) }
+    ensures kept { OnOk result ((i : ℕ) → i < length entries.old.items
+        → number entries.new.items i ≡ number entries.old.items i) }
 {
-    y.wrapping_sub(1)
-}
-
-// Appends the entries of a row, for all directions that lead up or along it.
-fn append<T: Terrain>(t: &T, line: &Line, entries: &mut Vec<i16>) -> Result<(), NoMemory>
-    requires whole { IsGrid (T.grid t.now) }
-    requires long { IsLong (T.grid t.now) line.now }
-    ensures { (y : ℕ) → AreGrown (T.grid t.now) y entries.old.items → AreAhead (T.grid t.now) upwards y line.now
-        → AreAlong (T.grid t.now) y line.now → OnOk result (AreGrown (T.grid t.now) (y + 1) entries.new.items) }
-{
-    let start = entries.len();
-    entries.resize(start + t.width() as usize * 8, 0)?;
-    line.lay_up(t, &mut entries[start..]);
+    if entries.len() < end {
+        entries.resize(end, 0)?;
+    }
     Ok(())
 }
 
-// Sweeps a row for all directions that lead up or along it, whose entries follow those of the rows above.
-fn sweep_row_up<T: Terrain>(
-    t: &T,
-    y: u16,
-    rows: &mut Rows,
-    entries: &mut Vec<i16>,
-) -> Result<(), NoMemory>
+// Sweeps a row: writes its entries for the directions of the sweep.
+fn sweep_row<T: Terrain>(t: &T, heading: Heading, y: u16, rows: &mut Rows, row: &mut [i16])
     requires whole { IsGrid (T.grid t.now) }
     requires inside { y < (T.grid t.now).height }
-    requires grown { AreGrown (T.grid t.now) y entries.old.items }
-    requires kept { IsKept (T.grid t.now) upwards y rows.old }
-    ensures grown { OnOk result (AreGrown (T.grid t.now) (y + 1) entries.new.items) }
-    ensures kept { OnOk result (IsKept (T.grid t.now) upwards (y + 1) rows.new) }
+    requires kept { IsKept (T.grid t.now) heading y rows.old }
+    requires wide { length row.old ≡ (T.grid t.now).width * 8 }
+    requires along { IsAlongRight (T.grid t.now) heading y row.old }
+    ensures swept { IsRowSwept (T.grid t.now) heading y row.old row.new }
+    ensures kept { (n : ℕ) → sweeps.IsNext heading y n → IsKept (T.grid t.now) heading n rows.new }
 {
-    read_row(t, y + 1, &mut rows.band.back);
+    let _low = t.height();
+    read_row(t, behind(heading, y), &mut rows.band.back);
     tell(t, &rows.band, &rows.last, &mut rows.forced, &mut rows.this);
-    tell_along(
+    bring_along(
         t,
+        heading,
         y,
         &rows.band,
         &rows.last,
+        row,
         &mut rows.forced,
         &mut rows.this.east,
         &mut rows.this.west,
     );
-    append(t, &rows.this, entries)?;
+    rows.this.lay(t, heading, row);
     rows.go_on();
+}
+
+// Sweeps one row more. In the first sweep it is appended: memory is written at once after it is touched first.
+fn sweep_next<T: Terrain>(
+    t: &T,
+    heading: Heading,
+    n: u16,
+    rows: &mut Rows,
+    entries: &mut Vec<i16>,
+) -> Result<(), NoMemory>
+    requires whole { IsGrid (T.grid t.now) }
+    requires inside { n < (T.grid t.now).height }
+    requires swept { AreSwept (T.grid t.now) heading n entries.old.items }
+    requires kept { IsKept (T.grid t.now) heading (sweeps.nth_row heading (T.grid t.now).height n) rows.old }
+    ensures swept { OnOk result (AreSwept (T.grid t.now) heading (n + 1) entries.new.items) }
+    ensures kept { OnOk result (n + 1 < (T.grid t.now).height
+        → IsKept (T.grid t.now) heading (sweeps.nth_row heading (T.grid t.now).height (n + 1)) rows.new) }
+{
+    let y = nth_row(heading, t.height(), n);
+    let wide = t.width() as usize * 8;
+    let start = y as usize * wide;
+    make_room(entries, start + wide)?;
+    sweep_row(t, heading, y, rows, &mut entries[start..start + wide]);
     Ok(())
 }
 
-// Sweeps all rows for all directions that lead up or along them. Memory is written row by row, each at once after
-// it is touched first.
-fn sweep_up<T: Terrain>(alloc: Global, t: &T, rows: &mut Rows) -> Result<Vec<i16>, NoMemory>
+// Sweeps all rows.
+fn sweep<T: Terrain>(
+    t: &T,
+    heading: Heading,
+    rows: &mut Rows,
+    entries: &mut Vec<i16>,
+) -> Result<(), NoMemory>
     requires whole { IsGrid (T.grid t.now) }
     requires blank { IsBlank (T.grid t.now) rows.old }
-    ensures { IfOk result (λ entries. AreGrown (T.grid t.now) (T.grid t.now).height entries.items) }
+    requires none { AreSwept (T.grid t.now) heading 0 entries.old.items }
+    ensures { OnOk result (AreSwept (T.grid t.now) heading (T.grid t.now).height entries.new.items) }
 {
-    let mut entries = Vec::with_capacity(alloc, t.height() as usize * t.width() as usize * 8)?;
-    read_row(t, 0, &mut rows.band.here);
-    for y in 0..t.height() {
-        sweep_row_up(t, y, rows, &mut entries)?;
+    read_row(t, nth_row(heading, t.height(), 0), &mut rows.band.here);
+    for n in 0..t.height() {
+        sweep_next(t, heading, n, rows, entries)?;
     }
-    Ok(entries)
+    Ok(())
 }
 
 impl Tables {
-    ghost use Rattle.std.specs.Prelude.{◌<◌, ◌+◌, ◌-◌, IfOk};
-    ghost use Rattle.grid_moves.specs.Grid.{IsGrid};
+    ghost use Rattle.std.specs.Prelude.{IfOk};
     ghost use Rattle.plus_tables.specs.Tables.{AreTablesOf};
-    ghost use Rattle.plus_tables.specs.Sweep.{AreRight, above, from_row};
-    ghost use Rattle.plus_tables.specs.Lines.{IsBlank, IsKept};
-    ghost use Rattle.plus_tables.specs.Rows.{downwards};
-
-    // Sweeps a row for all directions that lead down.
-    fn sweep_row_down<T: Terrain>(&mut self, t: &T, y: u16, rows: &mut Rows)
-        requires whole { IsGrid (T.grid t.now) }
-        requires inside { y < self.old.height }
-        requires below { AreRight self.old (T.grid t.now) (from_row (y + 1)) }
-        requires kept { IsKept (T.grid t.now) downwards y rows.old }
-        ensures right { AreRight self.new (T.grid t.now) (from_row y) }
-        ensures kept { 0 < y → IsKept (T.grid t.now) downwards (y - 1) rows.new }
-    {
-        read_row(t, before(y), &mut rows.band.back);
-        tell(t, &rows.band, &rows.last, &mut rows.forced, &mut rows.this);
-        self.bring_along(
-            t,
-            y,
-            &rows.band,
-            &rows.last,
-            &mut rows.this.east,
-            &mut rows.this.west,
-        );
-        self.lay_down(t, y, &rows.this);
-        rows.go_on();
-    }
-
-    // Sweeps all rows for all directions that lead down.
-    fn sweep_down<T: Terrain>(&mut self, t: &T, rows: &mut Rows)
-        requires whole { IsGrid (T.grid t.now) }
-        requires up { AreRight self.old (T.grid t.now) (above self.old.height) }
-        requires blank { IsBlank (T.grid t.now) rows.old }
-        ensures { AreTablesOf self.new (T.grid t.now) }
-    {
-        let height = t.height();
-        read_row(t, height - 1, &mut rows.band.here);
-        for y in (0..height).rev() {
-            self.sweep_row_down(t, y, rows);
-        }
-    }
 
     /// The tables of a grid, with its sides and its corner rule.
     pub fn build<T: Terrain>(alloc: Global, t: &T) -> Result<Tables, NoMemory>
         ensures { IfOk result (λ tables. AreTablesOf tables (T.grid t.now)) }
     {
-        let _whole = t.width();
+        let (width, height) = (t.width() as usize, t.height() as usize);
         if !has_cells(t) {
             return Tables::blank(alloc, t);
         }
+        let mut entries = Vec::with_capacity(alloc, height * width * 8)?;
         let mut up = Rows::blank(alloc, t)?;
-        let entries = sweep_up(alloc, t, &mut up)?;
-        let mut tables = Tables::of_entries(t, entries);
+        sweep(t, Heading::Upwards, &mut up, &mut entries)?;
         let mut down = Rows::blank(alloc, t)?;
-        tables.sweep_down(t, &mut down);
-        Ok(tables)
+        sweep(t, Heading::Downwards, &mut down, &mut entries)?;
+        Ok(Tables::of_entries(t, entries))
     }
 }

@@ -8,6 +8,7 @@
 
 mod build;
 mod flags;
+mod heading;
 mod jumps;
 pub mod laws;
 mod lines;

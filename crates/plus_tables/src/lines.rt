@@ -7,9 +7,9 @@ ghost use Rattle.pruning.specs.Turns.{turn, is_diagonal};
 ghost use Rattle.plus_tables.specs.Rows as spec;
 ghost use Rattle.plus_tables.specs.Lines as lines;
 ghost use Rattle.plus_tables.specs.Laid as laid;
-ghost use Rattle.plus_tables.specs.Sweep.{is_downward, is_upward};
 
 use crate::flags::{are_same, force, read_row};
+use crate::heading::{Heading, has_ahead, seen};
 use crate::rows::{Ahead, Three, across, along};
 use grid_moves::{Dir, NoMemory, Terrain, dir_number};
 use pruning::Side;
@@ -90,34 +90,32 @@ impl Line {
         west.copy_from_slice(&self.west);
     }
 
-    /// Writes the entries of a sweep that heads up, eight being kept for each cell.
-    #[inline(never)]
-    pub fn lay_up<T: Terrain>(&self, t: &T, row: &mut [i16])
+    // Writes the entries of a row for the directions of a sweep, eight being kept for each cell.
+    #[inline(always)]
+    fn lay_by<T: Terrain>(&self, t: &T, heading: Heading, row: &mut [i16])
         requires long { lines.IsLong (T.grid t.now) self.now }
         requires wide { length row.old ≡ (T.grid t.now).width * 8 }
-        ensures { laid.AreLaid is_upward (laid.upward_part self.now) (T.grid t.now).width row.old row.new }
+        ensures { laid.AreLaid heading self.now (T.grid t.now).width row.old row.new }
     {
-        let n = self.ahead.as_slice();
-        let (ne, nw) = (self.ahead_east.as_slice(), self.ahead_west.as_slice());
-        let (e, w) = (self.east.as_slice(), self.west.as_slice());
+        let (n, ne) = (self.ahead.as_slice(), self.ahead_east.as_slice());
+        let (nw, e) = (self.ahead_west.as_slice(), self.east.as_slice());
+        let w = self.west.as_slice();
         for x in 0..t.width() as usize {
             let at = x + 1;
-            put_up(row, x, n[at], ne[at], e[at], w[at], nw[at]);
+            put_cell(heading, row, x, n[at], ne[at], nw[at], e[at], w[at]);
         }
     }
 
-    /// Writes those of a sweep that heads down, but for those along the row.
+    /// The same; each heading has code of its own, in which it is a constant.
     #[inline(never)]
-    pub fn lay_down<T: Terrain>(&self, t: &T, row: &mut [i16])
+    pub fn lay<T: Terrain>(&self, t: &T, heading: Heading, row: &mut [i16])
         requires long { lines.IsLong (T.grid t.now) self.now }
         requires wide { length row.old ≡ (T.grid t.now).width * 8 }
-        ensures { laid.AreLaid is_downward (laid.downward_part self.now) (T.grid t.now).width row.old row.new }
+        ensures { laid.AreLaid heading self.now (T.grid t.now).width row.old row.new }
     {
-        let s = self.ahead.as_slice();
-        let (se, sw) = (self.ahead_east.as_slice(), self.ahead_west.as_slice());
-        for x in 0..t.width() as usize {
-            let at = x + 1;
-            put_down(row, x, se[at], s[at], sw[at]);
+        match heading {
+            Heading::Upwards => self.lay_by(t, Heading::Upwards, row),
+            Heading::Downwards => self.lay_by(t, Heading::Downwards, row),
         }
     }
 }
@@ -132,28 +130,41 @@ fn put(row: &mut [i16], x: usize, d: Dir, entry: i16)
     row[x * 8 + dir_number(d) as usize] = entry;
 }
 
-// Changes those for all directions that lead up or along the row.
+// Changes those for the directions that lead ahead.
 #[inline(always)]
-fn put_up(row: &mut [i16], x: usize, n: i16, ne: i16, e: i16, w: i16, nw: i16)
+fn put_ahead(heading: Heading, row: &mut [i16], x: usize, n: i16, ne: i16, nw: i16)
     requires { x * 8 + 7 < length row.old }
-    ensures { row.new ≡ laid.with_up row.old x n ne e w nw }
+    ensures is { row.new ≡ laid.with_ahead heading row.old x n ne nw }
+    ensures long { length row.new ≡ length row.old }
 {
-    put(row, x, Dir::N, n);
-    put(row, x, Dir::NE, ne);
-    put(row, x, Dir::E, e);
-    put(row, x, Dir::W, w);
-    put(row, x, Dir::NW, nw);
+    put(row, x, seen(heading, Dir::N), n);
+    put(row, x, seen(heading, Dir::NE), ne);
+    put(row, x, seen(heading, Dir::NW), nw);
 }
 
-// Changes those for all directions that lead down.
+// Changes those for all directions of a sweep.
 #[inline(always)]
-fn put_down(row: &mut [i16], x: usize, se: i16, s: i16, sw: i16)
+fn put_cell(heading: Heading, row: &mut [i16], x: usize, n: i16, ne: i16, nw: i16, e: i16, w: i16)
     requires { x * 8 + 7 < length row.old }
-    ensures { row.new ≡ laid.with_down row.old x se s sw }
+    ensures { row.new ≡ laid.with_cell heading row.old x n ne nw e w }
 {
-    put(row, x, Dir::SE, se);
-    put(row, x, Dir::S, s);
-    put(row, x, Dir::SW, sw);
+    put_ahead(heading, row, x, n, ne, nw);
+    match heading {
+        Heading::Upwards => {
+            put(row, x, Dir::E, e);
+            put(row, x, Dir::W, w);
+        }
+        Heading::Downwards => {}
+    }
+}
+
+// The entry of cell `x` of a row.
+#[inline(always)]
+fn entry_of(row: &[i16], x: usize, d: Dir) -> i16
+    requires { x * 8 + 7 < length row.now }
+    ensures { result ≡ spec.number row.now (x * 8 + moves.dir_number d) }
+{
+    row[x * 8 + dir_number(d) as usize]
 }
 
 impl Band {
@@ -242,7 +253,7 @@ fn tell_ahead<T: Terrain>(
     requires ahead { length next.ahead.now ≡ (T.grid t.now).width + 2 }
     requires right { length next.right.now ≡ (T.grid t.now).width + 2 }
     requires left { length next.left.now ≡ (T.grid t.now).width + 2 }
-    ensures { (h : spec.Heading) (y m : ℕ) (e f : _) → spec.IsRowAt (moves.row_ahead (spec.seen h d) y) m
+    ensures { (h : Heading) (y m : ℕ) (e f : _) → spec.IsRowAt (moves.row_ahead (spec.seen h d) y) m
         → spec.AreRowsSeen (T.grid t.now) h y rows.entry.ahead.now rows.entry.here.now rows.entry.behind.now
         → (m < 4096 → spec.AreRowsSeen (T.grid t.now) h m beyond.entry.ahead.now beyond.entry.here.now
         beyond.entry.behind.now)
@@ -274,38 +285,61 @@ fn tell_one_along<T: Terrain>(t: &T, rows: Three, d: Dir, forced: &mut [bool], o
     along(rows.here, forced, d, out);
 }
 
-/// The entries of a row for E and W, in a sweep that heads up: those of the row above, where both lie between the
-/// same rows.
-pub fn tell_along<T: Terrain>(
+// Reads the entries of a row for E and W.
+#[inline(never)]
+fn take_along(row: &[i16], east: &mut [i16], west: &mut [i16])
+    requires wide { length row.now + 16 ≡ length east.old * 8 }
+    requires same { length west.old ≡ length east.old }
+    ensures east { (x : ℕ) → x + 2 < length east.old
+        → spec.number east.new (x + 1) ≡ spec.number row.now (x * 8 + moves.dir_number Dir.E) }
+    ensures west { (x : ℕ) → x + 2 < length east.old
+        → spec.number west.new (x + 1) ≡ spec.number row.now (x * 8 + moves.dir_number Dir.W) }
+{
+    for x in 0..east.len() - 2 {
+        east[x + 1] = entry_of(row, x, Dir::E);
+        west[x + 1] = entry_of(row, x, Dir::W);
+    }
+}
+
+/// The entries of a row for E and W: those of the row that was swept last, where both lie between the same rows;
+/// else a sweep that heads up tells them, and one that heads down reads them back.
+pub fn bring_along<T: Terrain>(
     t: &T,
+    heading: Heading,
     y: u16,
     band: &Band,
     last: &Line,
+    row: &[i16],
     forced: &mut [bool],
     east: &mut [i16],
     west: &mut [i16],
 )
     requires whole { IsGrid (T.grid t.now) }
     requires inside { y < (T.grid t.now).height }
-    requires ready { lines.IsReady (T.grid t.now) spec.upwards y band.now last.now }
-    requires around { spec.AreRowsAround (T.grid t.now) y band.now.next.items band.now.here.items
-        band.now.back.items }
+    requires ready { lines.IsReady (T.grid t.now) heading y band.now last.now
+        × spec.AreRowsSeen (T.grid t.now) heading y band.now.next.items band.now.here.items band.now.back.items }
+    requires wide { length row.now ≡ (T.grid t.now).width * 8 }
+    requires right { laid.IsAlongRight (T.grid t.now) heading y row.now }
     requires forced { length forced.old ≡ (T.grid t.now).width + 2 }
     requires east { length east.old ≡ (T.grid t.now).width + 2 }
     requires west { length west.old ≡ (T.grid t.now).width + 2 }
-    ensures east { spec.IsEntryRow (T.grid t.now) y Dir.E east.new }
-    ensures west { spec.IsEntryRow (T.grid t.now) y Dir.W west.new }
+    ensures { spec.IsEntryRow (T.grid t.now) y Dir.E east.new × spec.IsEntryRow (T.grid t.now) y Dir.W west.new }
 {
-    if 0 < y && band.are_alike() {
+    if has_ahead(heading, y, t.height()) && band.are_alike() {
         last.copy_along(east, west);
-    } else {
-        let rows = Three {
-            ahead: &band.next,
-            here: &band.here,
-            behind: &band.back,
-        };
-        tell_one_along(t, rows, Dir::E, forced, east);
-        tell_one_along(t, rows, Dir::W, forced, west);
+        return;
+    }
+    match heading {
+        Heading::Upwards => {
+            let rows = Three {
+                ahead: &band.next,
+                here: &band.here,
+                behind: &band.back,
+            };
+            tell_one_along(t, rows, Dir::E, forced, east);
+            tell_one_along(t, rows, Dir::W, forced, west);
+        }
+        Heading::Downwards => take_along(row, east, west),
     }
 }
 
@@ -316,11 +350,11 @@ pub fn tell_along<T: Terrain>(
 #[inline(never)]
 pub fn tell<T: Terrain>(t: &T, band: &Band, last: &Line, forced: &mut [bool], this: &mut Line)
     requires whole { IsGrid (T.grid t.now) }
-    requires ready { (h : spec.Heading) × (y : ℕ) × lines.IsReady (T.grid t.now) h y band.now last.now
+    requires ready { (h : Heading) × (y : ℕ) × lines.IsReady (T.grid t.now) h y band.now last.now
         × spec.AreRowsSeen (T.grid t.now) h y band.now.next.items band.now.here.items band.now.back.items }
     requires forced { length forced.old ≡ (T.grid t.now).width + 2 }
     requires long { lines.IsLong (T.grid t.now) this.old }
-    ensures told { (h : spec.Heading) (y : ℕ) → lines.IsReady (T.grid t.now) h y band.now last.now
+    ensures told { (h : Heading) (y : ℕ) → lines.IsReady (T.grid t.now) h y band.now last.now
         → spec.AreRowsSeen (T.grid t.now) h y band.now.next.items band.now.here.items band.now.back.items
         → lines.AreAhead (T.grid t.now) h y this.new }
     ensures long { lines.IsLong (T.grid t.now) this.new }

@@ -5,7 +5,7 @@ ghost use Rattle.grid_moves.specs.Grid.{IsGrid, is_free};
 ghost use Rattle.plus_tables.specs.Tables as spec;
 ghost use Rattle.plus_tables.specs.Local as local;
 
-use crate::lines::{Band, Line};
+use crate::heading::Heading;
 use crate::onward::{is_forced_next, next};
 use crate::rows::from_before;
 use grid_moves::{Cell, Corner, Dir, NoMemory, Terrain, dir_number};
@@ -76,11 +76,8 @@ impl Tables {
     ghost use Rattle.plus_tables.specs.Entry.{table_entry};
     ghost use Rattle.grid_moves.specs.Move.{legal_ahead};
     ghost use Rattle.plus_tables.specs.Local.{is_mark_by};
-    ghost use Rattle.plus_tables.specs.Sweep.{AreRight, above, from_row};
-    ghost use Rattle.plus_tables.specs.Rows.{AreRowsAround, downwards, IsEntryRow, number};
-    ghost use Rattle.plus_tables.specs.Lines.{AreAhead, IsLong, IsReady};
-    ghost use Rattle.plus_tables.specs.Tables.{AreSized, IsWhole, RestsRight, entry_at, is_on, is_place, tables_with};
-    ghost use Rattle.plus_tables.specs.Laid.{AreGrown};
+    ghost use Rattle.plus_tables.specs.Tables.{AreSized, AreTablesOf, IsWhole, RestsRight, entry_at, is_on, is_place, tables_with};
+    ghost use Rattle.plus_tables.specs.Laid.{AreSwept};
 
     /// The number of columns.
     pub fn width(&self) -> u16
@@ -128,10 +125,11 @@ impl Tables {
         })
     }
 
-    // The tables of a grid that have these entries.
+    // The tables of a grid, told their entries.
     pub(crate) fn of_entries<T: Terrain>(t: &T, entries: Vec<i16>) -> Tables
-        requires { AreGrown (T.grid t.now) (T.grid t.now).height entries.items }
-        ensures { AreRight result (T.grid t.now) (above result.height) }
+        requires whole { IsGrid (T.grid t.now) }
+        requires swept { AreSwept (T.grid t.now) Heading.Downwards (T.grid t.now).height entries.items }
+        ensures { AreTablesOf result (T.grid t.now) }
     {
         Tables {
             width: t.width(),
@@ -207,69 +205,6 @@ impl Tables {
             Dir::W => self.told_by_next(t, c, Dir::W),
             Dir::NW => self.told_by_next(t, c, Dir::NW),
         }
-    }
-
-    // Reads the entries of a row for E and W.
-    #[inline(never)]
-    pub(crate) fn take_along(&self, y: u16, east: &mut [i16], west: &mut [i16])
-        requires inside { y < self.now.height }
-        requires east { length east.old ≡ self.now.width + 2 }
-        requires west { length west.old ≡ self.now.width + 2 }
-        ensures east { (x : ℕ) → x < self.now.width
-            → number east.new (x + 1) ≡ entry_at self.now (record { x = x; y = y }) Dir.E }
-        ensures west { (x : ℕ) → x < self.now.width
-            → number west.new (x + 1) ≡ entry_at self.now (record { x = x; y = y }) Dir.W }
-    {
-        for x in 0..self.width {
-            let c = Cell { x, y };
-            east[x as usize + 1] = self.get(c, Dir::E);
-            west[x as usize + 1] = self.get(c, Dir::W);
-        }
-    }
-
-    // The entries of a row for E and W: those of the row below, where both lie between the same rows, else they
-    // are read back.
-    pub(crate) fn bring_along<T: Terrain>(
-        &self,
-        t: &T,
-        y: u16,
-        band: &Band,
-        last: &Line,
-        east: &mut [i16],
-        west: &mut [i16],
-    )
-        requires whole { IsGrid (T.grid t.now) }
-        requires inside { y < self.now.height }
-        requires right { AreRight self.now (T.grid t.now) (from_row (y + 1)) }
-        requires ready { IsReady (T.grid t.now) downwards y band.now last.now }
-        requires around { AreRowsAround (T.grid t.now) y band.now.back.items band.now.here.items
-            band.now.next.items }
-        requires east { length east.old ≡ (T.grid t.now).width + 2 }
-        requires west { length west.old ≡ (T.grid t.now).width + 2 }
-        ensures east { IsEntryRow (T.grid t.now) y Dir.E east.new }
-        ensures west { IsEntryRow (T.grid t.now) y Dir.W west.new }
-        ensures east_long { length east.new ≡ (T.grid t.now).width + 2 }
-        ensures west_long { length west.new ≡ (T.grid t.now).width + 2 }
-    {
-        if y + 1 < self.height && band.are_alike() {
-            last.copy_along(east, west);
-        } else {
-            self.take_along(y, east, west);
-        }
-    }
-
-    // Writes the entries of a row for all directions that lead down.
-    pub(crate) fn lay_down<T: Terrain>(&mut self, t: &T, y: u16, line: &Line)
-        requires whole { IsGrid (T.grid t.now) }
-        requires inside { y < self.old.height }
-        requires long { IsLong (T.grid t.now) line.now }
-        requires told { AreAhead (T.grid t.now) downwards y line.now }
-        requires right { AreRight self.old (T.grid t.now) (from_row (y + 1)) }
-        ensures { AreRight self.new (T.grid t.now) (from_row y) }
-    {
-        let wide = self.width as usize * 8;
-        let start = y as usize * wide;
-        line.lay_down(t, &mut self.entries[start..start + wide]);
     }
 
     /// The table entry for a cell of the map and a direction: above 0, the number of moves to the first

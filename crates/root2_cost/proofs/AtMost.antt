@@ -44,12 +44,6 @@ IsAtMost-or_more p q = by_test (is_less q p) refl
 pub IsAtMost-not_more : (p q : Cost) → IsAtMost p q → IsLess q p → ⊥
 IsAtMost-not_more p q g h = absurd (cc)
 
-pub IsAtMost-total : (p q : Cost) → IsAtMost p q ⊎ IsAtMost q p
-IsAtMost-total p q = elim (IsAtMost-or_more p q) [
-  | inl most ↦ inl most
-  | inr more ↦ inr (less_at_most q p more)
-]
-
 pub less_then_at_most : (p q r : Cost) → IsLess p q → IsAtMost q r → IsLess p r
 less_then_at_most p q r g h = elim (IsAtMost-cases q r h) [
   | inl less ↦ IsLess-trans p q r g less

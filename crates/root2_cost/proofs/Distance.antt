@@ -1,17 +1,8 @@
 -- The octile distance: what moves can change of it.
-use Rattle.std.proofs.Common.{◌≡◌, ℕ, ◌+◌, ◌≤◌, arith, refl}
+use Rattle.std.proofs.Common.{ℕ, ◌+◌, ◌≤◌, arith}
 use Rattle.root2_cost.specs.Order.{IsAtMost}
-use Rattle.root2_cost.specs.Sums.{no_cost, add_costs, octile_cost}
-use Rattle.root2_cost.proofs.Less.{same_cost}
+use Rattle.root2_cost.specs.Sums.{add_costs, octile_cost}
 use Rattle.root2_cost.proofs.AtMost.{at_most_by_counts}
-
--- columns and rows count alike
-pub octile_cost-comm : (m n : ℕ) → octile_cost m n ≡ octile_cost n m
-octile_cost-comm m n = same_cost (octile_cost m n) (octile_cost n m) (omega arith) (omega arith)
-
--- at the goal it is nothing
-pub octile_cost-zero : octile_cost 0 0 ≡ no_cost
-octile_cost-zero = refl
 
 -- the distance of the whole is at most that of two parts which together are as wide and as high
 pub octile_triangle : (m n j i k l : ℕ) → m ≤ j + k → n ≤ i + l
@@ -19,11 +10,6 @@ pub octile_triangle : (m n j i k l : ℕ) → m ≤ j + k → n ≤ i + l
 octile_triangle m n j i k l g h =
     at_most_by_counts (octile_cost m n)
     (add_costs (octile_cost j i) (octile_cost k l)) (omega arith) (omega arith)
-
--- more columns and rows cost more
-pub octile_grows : (m n k l : ℕ) → m ≤ k → n ≤ l → IsAtMost (octile_cost m n) (octile_cost k l)
-octile_grows m n k l g h =
-    at_most_by_counts (octile_cost m n) (octile_cost k l) (omega arith) (omega arith)
 
 -- j straight moves change the columns left by at most j
 pub octile_columns : (j m k n : ℕ) → m ≤ k + j

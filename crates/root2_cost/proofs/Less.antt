@@ -81,14 +81,6 @@ IsLess-total p q = elim (Gap-total p.a p.b q.a q.b) [
   | inr (inr (e, f)) ↦ inr (inr (same_cost p q e f))
 ]
 
--- of two costs neither of which is the lesser
-pub same_from_neither : (p q : Cost) → is_less p q ≡ false → is_less q p ≡ false → p ≡ q
-same_from_neither p q g h = elim (IsLess-total p q) [
-  | inl less ↦ absurd (cc)
-  | inr (inl less) ↦ absurd (cc)
-  | inr (inr same) ↦ same
-]
-
 -- of two costs that differ and of which the first isn't the lesser, the second is
 pub less_otherwise : (p q : Cost) → (nat_eq p.a q.a && nat_eq p.b q.b) ≡ false → is_less p q ≡ false
     → IsLess q p

@@ -18,4 +18,3 @@ pub mod Beginning
 pub mod Diagonals
 pub mod Passes
 pub mod Ending
-pub mod Editing

@@ -2,8 +2,8 @@ use Rattle.std.proofs.Common.{◌≡◌, ◌+◌, ◌-◌, ◌≤◌, true}
 use Rattle.grid_moves.specs.Grid.{GridData, is_free}
 use Rattle.pruning.specs.First.{first_stop, run_length}
 use Rattle.jump_plain.proofs.Diagonal.{later}
-use Rattle.jump_block.specs.Near.{AreNear}
-use Rattle.jump_block.specs.Source.{AreItsBits, by_rows}
+use Rattle.jump_block.specs.Near.{AreNearStart}
+use Rattle.jump_block.specs.Source.{AreItsBits}
 use Rattle.jump_block.proofs.straight.Bits.diagonal.Given as goal
 
 -- the cell is so many moves on, the words around it are at hand, and the first stop in all is that from there,
@@ -11,8 +11,7 @@ use Rattle.jump_block.proofs.straight.Bits.diagonal.Given as goal
 abbrev pub invariant-run : goal.invariant-run
 invariant-run g l = record {
   read : l.fn.steps + 3 ≤ l.steps;
-  near : (grid : GridData) → AreItsBits l.self.rows.now l.self.columns.now l.self.corner grid
-      → is_free grid l.cell ≡ true → AreNear (by_rows grid) (l.cell.y + 1) (l.cell.x + 1) l.near;
+  near : AreNearStart l.self.rows.now (l.cell.y + 1) (l.cell.x + 1) l.near;
   there : (grid : GridData) → AreItsBits l.self.rows.now l.self.columns.now l.self.corner grid
       → is_free grid l.fn.at ≡ true → record {
         free : is_free grid l.cell ≡ true;

@@ -1,12 +1,9 @@
-use Rattle.std.proofs.Common.{ℕ, ◌+◌, ap}
-use Rattle.jump_block.specs.Source.{by_rows}
-use Rattle.jump_block.proofs.Directions.{row_start}
-use Rattle.jump_block.proofs.Around.{near_along}
+use Rattle.std.proofs.Common.{ℕ}
+use Rattle.jump_block.specs.Near.{AreNearStart}
+use Rattle.jump_block.proofs.Directions.{one_on}
 use Rattle.jump_block.proofs.straight.Bits.near_on_row.Goals as goal
 
 pub returns-clause-near : goal.returns-clause-near
-returns-clause-near g c = λ grid are free.
-    near_along c.args.self.now.rows.now (by_rows grid) (c.from.result + 1) (c.from-2.result + 1)
-    (c.args.at.y + 1) (c.args.at.x + 1) c.words_near.result (ap (λ (n : ℕ). n + 1) c.from.ensures)
-    (ap (λ (n : ℕ). n + 1) c.from-2.ensures)
-    (row_start grid c.args.at free c.args.self.now.rows.now are.are_rows) c.words_near.ensures.near
+returns-clause-near g c =
+    one_on (λ (line place : ℕ). AreNearStart c.args.self.now.rows.now line place c.words_near.result) c.from.ensures
+    c.from-2.ensures c.words_near.ensures.near

@@ -1,0 +1,104 @@
+//! Whether a scan along a line halts at a mark, where the goal does not lie on the line.
+
+ghost use Rattle.std.specs.Prelude.{ℕ, ◌*◌, ◌/◌, ◌<◌, ◌≤◌, Bool};
+ghost use Rattle.jump_block.specs.Trail.{Trail, IsClear, begun, trail_on};
+ghost use Rattle.jump_block.specs.Scan.{Finds, IsStart, MeetsFrom, MeetsMark};
+ghost use Rattle.jump_block.specs.Near.{AreNearStart};
+ghost use Rattle.jump_block.specs.Word as ways;
+
+use crate::block::{Halt, halt_near, halt_next};
+use crate::scan::{Start, scan, way_of};
+use crate::word::{Way, Words};
+use bit_grid::Lines;
+use grid_moves::Corner;
+use std::sync::ledger::Ledger;
+use steps::Steps;
+
+// Whether a scan halts at a mark: else the next cell is blocked.
+#[inline(always)]
+fn is_mark(found: Option<Halt>) -> bool
+    ensures { (t : Trail) → Finds t 0 found → MeetsMark t result }
+{
+    match found {
+        Some(halt) => !halt.blocked,
+        None => false,
+    }
+}
+
+// Whether a scan halts at a mark. It is for the scans that leave the next words too.
+#[inline(never)]
+fn finds_far<const WAY: usize, L: Ledger>(
+    rule: Corner,
+    lines: &Lines,
+    line: u32,
+    place: u32,
+    steps: &mut Steps<L>,
+) -> bool
+    requires starts { (free : ℕ → ℕ → Bool) × IsStart lines.now free line place }
+    requires few { lines.now.lines < 65536 }
+    requires short { lines.now.blocks ≤ 128 }
+    ensures finds { MeetsFrom lines.now rule (ways.way_of WAY) line place result }
+    ensures more { steps.old ≤ steps.new }
+{
+    let start = Start {
+        line,
+        place,
+        to_goal: 0,
+    };
+    is_mark(scan(way_of(WAY), rule, lines, start, steps))
+}
+
+// The same, where nothing halts the scan in the words around the cell: the next ones are looked at before.
+#[inline(never)]
+fn finds_next<const WAY: usize, L: Ledger>(
+    rule: Corner,
+    lines: &Lines,
+    line: u32,
+    place: u32,
+    near: Words,
+    steps: &mut Steps<L>,
+) -> bool
+    requires starts { (free : ℕ → ℕ → Bool) × IsStart lines.now free line place }
+    requires few { lines.now.lines < 65536 }
+    requires short { lines.now.blocks ≤ 128 }
+    requires near { AreNearStart lines.now line place near }
+    requires clear { (free : ℕ → ℕ → Bool) → IsStart lines.now free line place
+        → IsClear (begun rule (trail_on free (ways.way_of WAY) line place))
+        (ways.moves_before (ways.way_of WAY) place (ways.far (ways.way_of WAY) (place / 64 * 64))) }
+    ensures finds { MeetsFrom lines.now rule (ways.way_of WAY) line place result }
+    ensures more { steps.old ≤ steps.new }
+{
+    let found = halt_next(way_of(WAY), rule, lines, line, place, near, steps);
+    if found.is_some() {
+        return is_mark(found);
+    }
+    finds_far::<WAY, L>(rule, lines, line, place, steps)
+}
+
+/// Whether a scan from a free cell halts at a mark, told the words around the cell.
+#[inline(always)]
+pub(crate) fn finds_mark<L: Ledger>(
+    way: Way,
+    rule: Corner,
+    lines: &Lines,
+    line: u32,
+    place: u32,
+    near: Words,
+    steps: &mut Steps<L>,
+) -> bool
+    requires starts { (free : ℕ → ℕ → Bool) × IsStart lines.now free line place }
+    requires few { lines.now.lines < 65536 }
+    requires short { lines.now.blocks ≤ 128 }
+    requires near { AreNearStart lines.now line place near }
+    ensures finds { MeetsFrom lines.now rule way line place result }
+    ensures more { steps.old ≤ steps.new }
+{
+    let found = halt_near(way, rule, near, place);
+    if found.is_some() {
+        return is_mark(found);
+    }
+    match way {
+        Way::Forward => finds_next::<0, L>(rule, lines, line, place, near, steps),
+        Way::Back => finds_next::<1, L>(rule, lines, line, place, near, steps),
+    }
+}
