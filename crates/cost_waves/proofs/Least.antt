@@ -7,7 +7,7 @@ use Rattle.std.proofs.lemmas.Option.{slice_get_within}
 use Rattle.root2_cost.specs.declared.Cost.{Cost}
 use Rattle.root2_cost.specs.Laws.{HasShortParts}
 use Rattle.root2_cost.specs.Order.{IsLess, IsAtMost}
-use Rattle.root2_cost.specs.Rank.{rank_of}
+use Rattle.root2_cost.specs.Rank.{rank_of, cost_of_rank}
 use Rattle.root2_cost.proofs.AtMost.{IsAtMost-cases, IsAtMost-or_more, IsAtMost-not_more, at_most_by_counts}
 use Rattle.root2_cost.proofs.Ranking.{less_ranks}
 use Rattle.grid_moves.specs.declared.Cell.{Cell}
@@ -19,10 +19,10 @@ use Rattle.grid_moves.proofs.Ahead.{legal_ahead-of, legal_ahead-is}
 use Rattle.grid_moves.proofs.Legal.{and_both, legal_is}
 use Rattle.cost_waves.specs.Begin.{IsCostTo, Begins}
 use Rattle.cost_waves.specs.Front.{Front, dir_rank}
-use Rattle.cost_waves.specs.Rank.{rank_limit, cost_of_rank}
+use Rattle.cost_waves.specs.Rank.{rank_limit}
 use Rattle.cost_waves.specs.Told.{has_dir, Tells}
 use Rattle.cost_waves.specs.Wave.{rank_at, dirs_at, Among, Held, before, in_now, in_next, in_after, Keeps, IsSettled, IsSwept, ended}
-use Rattle.cost_waves.proofs.Decoding.{cost-rank}
+use Rattle.root2_cost.proofs.Decoding.{cost-rank}
 use Rattle.cost_waves.proofs.Keeping.{free_on, on_inside, few}
 use Rattle.cost_waves.proofs.Walks.{rank-add_costs, rank-move, rank_high}
 

@@ -6,7 +6,6 @@ pub mod Entering
 pub mod Settling
 pub mod Waving
 pub mod Beginning
-pub mod Decoding
 pub mod Least
 pub mod Blank
 pub mod Falling

@@ -14,8 +14,8 @@ ghost use Rattle.cost_waves.specs.Shape.{front_of, Fits};
 
 use crate::NoMemory;
 use crate::moves::moves_around;
-use crate::ranks::{DIAGONAL_RANK, STRAIGHT_RANK};
 use grid_moves::{Cell, Dir, Terrain, number_of};
+use root2_cost::{DIAGONAL_RANK, STRAIGHT_RANK};
 
 /// A cell that is settled: its rank, and the directions with which least walks to it begin. From the start of
 /// a pass a move begins with its own direction.

@@ -8,8 +8,8 @@ ghost use Rattle.cost_waves.specs.Wave.{rank_at, settled, IsReady, IsMidway, Has
 
 use crate::NoMemory;
 use crate::front::{Ahead, Source, spread};
-use crate::ranks::STRAIGHT_RANK;
 use grid_moves::{Cell, Terrain, number_of};
+use root2_cost::STRAIGHT_RANK;
 use std::alloc::Global;
 use std::mem;
 

@@ -5,13 +5,13 @@
 #![tactic(auto)]
 
 mod checking;
-mod costs;
 mod points;
 mod segments;
+mod turning;
 mod unfolding;
 
 pub use checking::{BadAt, check_walk};
-pub use costs::Costs;
-pub use points::{Cells, Points};
+pub use points::{Cells, Costs, Items, Points, Walk};
 pub use std::alloc::AllocError as NoMemory;
+pub use turning::{push_turn, turns};
 pub use unfolding::unfold;

@@ -6,60 +6,90 @@ ghost use Rattle.grid_moves.specs.Points.{is_lined};
 use crate::NoMemory;
 use crate::segments::are_lined;
 use grid_moves::Cell;
+use root2_cost::Cost;
 use std::alloc::Global;
 use std::marker::Model;
 
-/// The points that stand for a walk, from its start to its goal.
+/// Items in order; contracts see them as a list.
 #[derive(Debug, Drop)]
-pub struct Points {
-    cells: Vec<Cell>,
+pub struct Items<T> {
+    items: Vec<T>,
 }
 
-impl Model for Points {
+impl<T> Model for Items<T> {
     ghost use Rattle.std.specs.Prelude.{List};
-    ghost use Rattle.grid_moves.specs.declared.Cell.{Cell};
 
-    ghost Value = { List Cell };
+    ghost Value = { List T };
 
-    ghost view = { λ p. p.cells.items };
-
-    ghost invariant = { λ p. Unit {0} };
+    ghost view = { λ l. l.items.items };
 }
 
-impl Points {
-    /// No point yet.
-    pub fn new(alloc: Global) -> Points
+impl<T: Drop> Items<T> {
+    /// No item yet.
+    pub fn new(alloc: Global) -> Items<T>
         ensures { result ≡ [] }
     {
-        Points {
-            cells: Vec::new(alloc),
+        Items {
+            items: Vec::new(alloc),
         }
     }
 
-    /// Appends a point.
-    pub fn push(&mut self, c: Cell) -> Result<(), NoMemory>
-        ensures pushed { OnOk result (self.new ≡ self.old ++ c ∷ []) }
+    /// The items of a vector.
+    pub fn of(items: Vec<T>) -> Items<T>
+        ensures { result ≡ items.items }
+    {
+        Items { items }
+    }
+
+    /// Appends an item.
+    pub fn push(&mut self, item: T) -> Result<(), NoMemory>
+        ensures pushed { OnOk result (self.new ≡ self.old ++ item ∷ []) }
         ensures unchanged { OnErr result (self.new ≡ self.old) }
     {
-        match self.cells.push(c) {
+        match self.items.push(item) {
             Ok(()) => Ok(()),
             Err(failed) => Err(failed.into()),
         }
     }
 
-    /// All points, in order.
-    pub fn as_slice(&self) -> &[Cell]
+    /// All items, in order.
+    pub fn as_slice(&self) -> &[T]
         ensures { result.now ≡ self.now }
     {
-        self.cells.as_slice()
+        self.items.as_slice()
     }
 
+    /// Puts the items into the other order.
+    pub fn reverse(&mut self)
+        ensures { self.new ≡ reverse self.old }
+    {
+        self.items.reverse();
+    }
+}
+
+/// The points that stand for a walk, from its start to its goal.
+pub type Points = Items<Cell>;
+
+/// The cells of a walk, from its start to its goal.
+pub type Cells = Items<Cell>;
+
+/// Cells with a cost each.
+pub type Costs = Items<(Cell, Cost)>;
+
+/// A walk: points that stand for it, and its cost.
+#[derive(Debug, Drop)]
+pub struct Walk {
+    pub points: Points,
+    pub cost: Cost,
+}
+
+impl Items<Cell> {
     /// Whether there is a first point, and each next one differs from the one before it and lies on
     /// one of the eight lines from it.
     pub fn lined(&self) -> bool
         ensures { result ≡ is_lined self.now }
     {
-        let Some((first, others)) = self.cells.as_slice().split_first() else {
+        let Some((first, others)) = self.items.as_slice().split_first() else {
             return false;
         };
         let mut last = *first;
@@ -70,58 +100,5 @@ impl Points {
             last = *next;
         }
         true
-    }
-
-    /// Puts the points into the other order.
-    pub fn reverse(&mut self)
-        ensures { self.new ≡ reverse self.old }
-    {
-        self.cells.reverse();
-    }
-}
-
-/// The cells of a walk, from its start to its goal.
-#[derive(Debug, Drop)]
-pub struct Cells {
-    cells: Vec<Cell>,
-}
-
-impl Model for Cells {
-    ghost use Rattle.std.specs.Prelude.{List};
-    ghost use Rattle.grid_moves.specs.declared.Cell.{Cell};
-
-    ghost Value = { List Cell };
-
-    ghost view = { λ p. p.cells.items };
-
-    ghost invariant = { λ p. Unit {0} };
-}
-
-impl Cells {
-    /// No cell yet.
-    pub fn new(alloc: Global) -> Cells
-        ensures { result ≡ [] }
-    {
-        Cells {
-            cells: Vec::new(alloc),
-        }
-    }
-
-    /// Appends a cell.
-    pub fn push(&mut self, c: Cell) -> Result<(), NoMemory>
-        ensures pushed { OnOk result (self.new ≡ self.old ++ c ∷ []) }
-        ensures unchanged { OnErr result (self.new ≡ self.old) }
-    {
-        match self.cells.push(c) {
-            Ok(()) => Ok(()),
-            Err(failed) => Err(failed.into()),
-        }
-    }
-
-    /// All cells, in order.
-    pub fn as_slice(&self) -> &[Cell]
-        ensures { result.now ≡ self.now }
-    {
-        self.cells.as_slice()
     }
 }

@@ -8,3 +8,4 @@ pub mod Signs
 pub mod Most
 pub mod Ranking
 pub mod Differences
+pub mod Decoding

@@ -1,5 +1,5 @@
 -- The order of costs told by one whole number.
-use Rattle.std.specs.Prelude.{◌≡◌, ℕ, ◌+◌, ◌*◌, nat_lt, true, refl, ℤ, pos, ◌+ℤ◌, ◌*ℤ◌}
+use Rattle.std.specs.Prelude.{◌≡◌, ℕ, ◌+◌, ◌-◌, ◌*◌, ◌/◌, ◌%◌, nat_lt, true, refl, ℤ, pos, ◌+ℤ◌, ◌*ℤ◌}
 use Rattle.root2_cost.specs.declared.Cost.{Cost}
 use Rattle.root2_cost.specs.declared.Signed.{Signed}
 
@@ -14,6 +14,26 @@ diagonal_rank = 4478554083
 -- the rank of a cost
 abbrev pub rank_of : Cost → ℕ
 rank_of c = c.a * straight_rank + c.b * diagonal_rank
+
+-- what a diagonal move counts more than a straight one
+abbrev pub rank_step : ℕ
+rank_step = 1311738121
+
+-- how many diagonal moves a cost of this rank has
+abbrev pub diagonals_of : ℕ → ℕ
+diagonals_of rank = rank % straight_rank * rank_step % straight_rank
+
+-- the cost of this rank
+unfoldable pub cost_of_rank : ℕ → Cost
+cost_of_rank rank = record {
+  a = (rank - diagonals_of rank * diagonal_rank) / straight_rank;
+  b = diagonals_of rank;
+}
+
+-- 5 straight moves and 2 diagonal ones
+pub told_again : cost_of_rank (rank_of (record { a = 5; b = 2 })) ≡ record { a = 5; b = 2 }
+unfolding cost_of_rank
+told_again = refl
 
 -- the rank of a difference of costs
 abbrev pub signed_rank : Signed → ℤ

@@ -19,6 +19,7 @@ mod lengths;
 mod ranks;
 
 pub use lengths::{Decimal, Verdict, judge};
+pub use ranks::{DIAGONAL_RANK, STRAIGHT_RANK};
 
 /// A cost: `a` straight moves and `b` diagonal moves, with the value a + b√2.
 #[derive(Clone, Copy, Debug, PartialEq, Eq)]

@@ -11,15 +11,15 @@
 
 ghost use Rattle.std.specs.Prelude.{◌≡◌, ◌<◌, ◌^◌};
 ghost use Rattle.std.specs.Int.RustNames.{unsigned_abs};
-ghost use Rattle.root2_cost.specs.Rank.{rank_of, signed_rank};
+ghost use Rattle.root2_cost.specs.Rank.{cost_of_rank, rank_of, signed_rank};
 
 use crate::{Cost, Signed};
 
-/// What one straight move counts.
-const STRAIGHT_RANK: u64 = 3_166_815_962;
+/// What one straight move counts in a rank.
+pub const STRAIGHT_RANK: u64 = 3_166_815_962;
 
 /// What one diagonal move counts.
-const DIAGONAL_RANK: u64 = 4_478_554_083;
+pub const DIAGONAL_RANK: u64 = 4_478_554_083;
 
 impl Cost {
     /// The rank of a cost of fewer than 2^31 moves of each kind: of two such costs the lesser has
@@ -30,6 +30,22 @@ impl Cost {
         ensures { result ≡ rank_of self }
     {
         self.a as u64 * STRAIGHT_RANK + self.b as u64 * DIAGONAL_RANK
+    }
+
+    /// The cost of fewer than 2^31 moves of each kind that has this rank, if one has it. As p² is 1 more
+    /// than a multiple of q, p times the rank leaves the diagonal moves modulo q.
+    #[tactic(auto, unfolding(crate::specs::Rank::cost_of_rank))]
+    pub fn of_rank(rank: u64) -> Cost
+        requires fits { (cost_of_rank rank).a < 2 ^ 32 }
+        ensures { result ≡ cost_of_rank rank }
+    {
+        let step = DIAGONAL_RANK - STRAIGHT_RANK;
+        let diagonal = rank % STRAIGHT_RANK * step % STRAIGHT_RANK;
+        let straight = rank.saturating_sub(diagonal * DIAGONAL_RANK) / STRAIGHT_RANK;
+        Cost {
+            a: straight as u32,
+            b: diagonal as u32,
+        }
     }
 }
 

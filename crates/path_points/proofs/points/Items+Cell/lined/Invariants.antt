@@ -1,6 +1,6 @@
 use Rattle.std.proofs.Common.{◌≡◌, ◌∷◌, drop}
 use Rattle.grid_moves.specs.Points.{is_lined}
-use Rattle.path_points.proofs.points.Points.lined.Given as goal
+use Rattle.path_points.proofs.points.Items+Cell.lined.Given as goal
 
 -- what is left decides
 abbrev pub invariant-loop-next : goal.invariant-loop-next
