@@ -16,10 +16,10 @@ ghost use Rattle.answerers.specs.Who.{IsBoxedReply, IsLedReply, IsReplyBy, fewes
 use crate::small::{ends_on, follow_moves, search_boxed};
 use crate::{NoMemory, session_on};
 use call_files::{Extent, OfMap};
+use cell_lines::Ends;
 use edit_replay::{Reply, Session};
 use first_moves::Moves;
 use goal_boxes::Boxes;
-use grid_answers::Ends;
 use grid_moves::{Cell, Layers, Terrain};
 use map_text::MapText;
 use std::alloc::Global;

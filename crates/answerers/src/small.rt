@@ -9,10 +9,10 @@ ghost use Rattle.answerers.specs.Answerers.{AreEndsOn, IsUnsearched};
 ghost use Rattle.answerers.specs.Who.{IsBoxedReply, IsLedReply, IsReplyBy, by_boxes, by_moves};
 
 use crate::NoMemory;
+use cell_lines::Ends;
 use edit_replay::Reply;
 use first_moves::{Moves, follow_by_pass};
 use goal_boxes::{Boxed, Boxes, boxed_query, boxed_search};
-use grid_answers::Ends;
 use grid_moves::{Cell, Grid, Layers};
 use plain_search::Taken;
 use std::alloc::Global;

@@ -9,7 +9,7 @@ use Rattle.potential_check.specs.declared.certificate.Certificate.{Certificate}
 use Rattle.potential_check.specs.declared.verdict.Proof.{Proof}
 use Rattle.potential_check.specs.declared.verdict.Reject.{Reject}
 use Rattle.grid_answers.specs.Certificates.{IsProof, IsVerdict, outside, blocked, apart, certified, accepted, refused, proof_line, reject_line}
-use Rattle.grid_answers.specs.declared.prove.Printed.{Printed}
+use Rattle.line_work.specs.declared.printed.Printed.{Printed}
 
 -- a line with status 1
 pub if_said : {E : Type 0} (result : Result Printed E) (Right : List ℕ → ℕ → Type 0) (line : List ℕ)

@@ -5,8 +5,8 @@ ghost use Rattle.grid_answers.specs.Certificates as spec;
 ghost use Rattle.grid_answers.specs.Certificates.{IsVerdict};
 
 use crate::NoMemory;
-use crate::prove::Printed;
 use grid_moves::{Cell, Grid};
+use line_work::Printed;
 use potential_check::{Certificate, Proof, Reject};
 use std::alloc::Global;
 use text_line::{put, put_number};

@@ -14,5 +14,5 @@ pub use check::verdict;
 pub use costs::{CostLines, Distances, costs_at, write_costs};
 pub use encoded::{TableFile, file_of, write_file};
 pub use moves::moves_at;
-pub use prove::{Ends, Printed, proof_of, said};
+pub use prove::proof_of;
 pub use std::alloc::AllocError as NoMemory;

@@ -5,34 +5,11 @@ ghost use Rattle.grid_moves.specs.Layers.{is_on_map};
 ghost use Rattle.grid_answers.specs.Certificates.{IsProof};
 
 use crate::NoMemory;
+use cell_lines::Ends;
 use grid_moves::{Cell, Layers};
+use line_work::{Printed, said};
 use potential_make::certificate;
 use std::alloc::Global;
-
-/// The ends of a query, each by its column and its row.
-#[derive(Clone, Copy, Debug)]
-pub struct Ends {
-    pub sx: u32,
-    pub sy: u32,
-    pub gx: u32,
-    pub gy: u32,
-}
-
-/// A text to be printed, and the status after it.
-#[derive(Drop)]
-pub struct Printed {
-    pub text: Vec<u8>,
-    pub status: u8,
-}
-
-/// A line in place of what was asked for, with status 1.
-pub fn said(alloc: Global, line: &[u8]) -> Result<Printed, NoMemory>
-    ensures text { IfOk result (λ p. p.text.items ≡ line.now) }
-    ensures status { IfOk result (λ p. p.status ≡ 1) }
-{
-    let text = Vec::from_slice(alloc, line)?;
-    Ok(Printed { text, status: 1 })
-}
 
 // What is printed for a query between two cells of the map.
 fn proof_between(alloc: Global, layers: &Layers, from: Cell, to: Cell) -> Result<Printed, NoMemory>

@@ -7,10 +7,10 @@ ghost use Rattle.jps_run.specs.Opened.{OpensWork};
 
 use crate::work::Work;
 use call_files::open_two;
-use grid_answers::{Printed, verdict};
+use grid_answers::verdict;
 use grid_moves::Layers;
 use io_edge::Files;
-use line_work::Stop;
+use line_work::{Printed, Stop};
 use potential_check::Certificate;
 use std::alloc::Global;
 use word_list::Settings;

@@ -8,7 +8,7 @@ ghost use Rattle.answerers.specs.Session.{PicksSession};
 
 use crate::work::Work;
 use call_files::open_one;
-use grid_answers::Ends;
+use cell_lines::Ends;
 use io_edge::Files;
 use line_work::Stop;
 use session_lines::Canvas;

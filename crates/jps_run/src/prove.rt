@@ -7,10 +7,11 @@ ghost use Rattle.jps_run.specs.Opened.{OpensWork};
 
 use crate::work::Work;
 use call_files::open_one;
-use grid_answers::{Ends, Printed, proof_of};
+use cell_lines::Ends;
+use grid_answers::proof_of;
 use grid_moves::Layers;
 use io_edge::Files;
-use line_work::Stop;
+use line_work::{Printed, Stop};
 use std::alloc::Global;
 use word_list::Settings;
 

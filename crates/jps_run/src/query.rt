@@ -10,7 +10,7 @@ ghost use Rattle.jps_run.specs.Opened.{OpensWork};
 use crate::query_work::work_on;
 use crate::work::Work;
 use answerers::open_basis;
-use grid_answers::Ends;
+use cell_lines::Ends;
 use io_edge::Files;
 use line_work::Stop;
 use std::alloc::Global;

@@ -28,7 +28,7 @@ use crate::tables::tables;
 use crate::texts::{help_text, version_text};
 use crate::work::{Work, perform};
 use call_files::word_line;
-use grid_answers::Ends;
+use cell_lines::Ends;
 use io_edge::{Files, Sink, Source, write_whole};
 use line_work::Stop;
 use live_lines::hear;

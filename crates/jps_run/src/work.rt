@@ -4,7 +4,8 @@ ghost use Rattle.std.specs.Prelude.{OnOk};
 ghost use Rattle.jps_run.specs.Works.{CanPerform, HasRisen, IsWhole};
 ghost use Rattle.line_work.specs.Sending.{SendsWhole};
 
-use grid_answers::{CostLines, Ends, TableFile, write_costs, write_file};
+use cell_lines::Ends;
+use grid_answers::{CostLines, TableFile, write_costs, write_file};
 use io_edge::Sink;
 use line_work::{Stop, send_text};
 use scen_text::Entry;

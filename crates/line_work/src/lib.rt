@@ -6,10 +6,12 @@
 #![tactic(auto)]
 
 mod job;
+mod printed;
 mod sending;
 mod stop;
 
 pub use job::{Job, work_items, work_more};
+pub use printed::{Printed, said};
 pub use sending::{send, send_full, send_text};
 pub use std::alloc::AllocError as NoMemory;
 pub use stop::Stop;
