@@ -49,7 +49,7 @@ along_start : (way : Way) (from : ℕ) → along way from 0 ≡ from
 along_start Forward from = omega arith
 along_start Back from = omega arith
 
-module _ (l : LineData) (free : ℕ → ℕ → Bool) (line from : ℕ) (start : IsStart l free line from) where
+module _ {l : LineData} {free : ℕ → ℕ → Bool} {line from : ℕ} (start : IsStart l free line from) where
   -- the start lies in a block of the line
   pub start_inside : from / 512 < l.blocks
   start_inside = by_place (cases_lt start.positions from)

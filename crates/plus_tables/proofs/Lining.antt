@@ -140,8 +140,8 @@ lines_told g h y this east west told east_is west_is east_fits west_fits = (
 )
 
 -- once the row behind is read
-module _ (g : GridData) (h : Heading) (y n : ℕ) (band : Band) (last : Line) (row : List Bool)
-    (ready : IsReady g h y band last) (fits : length row ≡ band.back.len) (is : IsFlagRow g n row)
+module _ {g : GridData} {h : Heading} {y n : ℕ} {band : Band} {last : Line} {row : List Bool}
+    (ready : IsReady g h y band last) (is : IsFlagRow g n row) (fits : length row ≡ band.back.len)
     (lies : IsRowAt (row_ahead (seen h S) y) n) where
   behind_is : IsFlagRow g n (with_items band.back row).items
   behind_is = flags_as g n row _ (with_items_is band.back row fits) is

@@ -12,35 +12,19 @@ use Rattle.plus_tables.proofs.build.sweep_row.Goals as goal
 
 pub tell-requires-clause-ready : goal.tell-requires-clause-ready
 tell-requires-clause-ready g c =
-    let grid : GridData = g.T.Terrain.grid c.args.t.now in
-    let h = c.args.heading in
-    let y = c.args.y in
-    let n = c.behind.result in
-    let rows = c.args.rows.now in
-    let behind = read_behind grid h y n rows.band rows.last c.read_row.new.row c.requires.kept.ready
-    (omega arith) c.read_row.ensures c.behind.ensures.lies in
-    (h, y, behind.0, behind.1)
+    let behind = read_behind c.requires.kept.ready c.read_row.ensures (omega arith) c.behind.ensures.lies in
+    (c.args.heading, c.args.y, behind.0, behind.1)
 
 pub bring_along-requires-clause-ready : goal.bring_along-requires-clause-ready
 bring_along-requires-clause-ready g c =
-    let grid : GridData = g.T.Terrain.grid c.args.t.now in
-    let h = c.args.heading in
-    let y = c.args.y in
-    let n = c.behind.result in
-    let rows = c.args.rows.now in
-    let behind = read_behind grid h y n rows.band rows.last c.read_row.new.row c.requires.kept.ready
-    (omega arith) c.read_row.ensures c.behind.ensures.lies in
-    behind
+    read_behind c.requires.kept.ready c.read_row.ensures (omega arith) c.behind.ensures.lies
 
 pub returns-clause-swept : goal.returns-clause-swept
 returns-clause-swept g c =
     let grid : GridData = g.T.Terrain.grid c.args.t.now in
     let h = c.args.heading in
     let y = c.args.y in
-    let n = c.behind.result in
-    let rows = c.args.rows.now in
-    let behind = read_behind grid h y n rows.band rows.last c.read_row.new.row c.requires.kept.ready
-    (omega arith) c.read_row.ensures c.behind.ensures.lies in
+    let behind = read_behind c.requires.kept.ready c.read_row.ensures (omega arith) c.behind.ensures.lies in
     let told = c.tell.ensures.told h y behind.0 behind.1 in
     let line = lines_told grid h y c.tell.new.this c.bring_along.new.east c.bring_along.new.west told
     c.bring_along.ensures.0 c.bring_along.ensures.1 (omega arith) (omega arith) in
@@ -52,19 +36,16 @@ returns-clause-kept g c = λ m next.
     let grid : GridData = g.T.Terrain.grid c.args.t.now in
     let h = c.args.heading in
     let y = c.args.y in
-    let n = c.behind.result in
-    let rows = c.args.rows.now in
-    let behind = read_behind grid h y n rows.band rows.last c.read_row.new.row c.requires.kept.ready
-    (omega arith) c.read_row.ensures c.behind.ensures.lies in
+    let behind = read_behind c.requires.kept.ready c.read_row.ensures (omega arith) c.behind.ensures.lies in
     let told = c.tell.ensures.told h y behind.0 behind.1 in
-    let inner = with_items rows.forced c.tell.new.forced in
+    let inner = with_items c.args.rows.now.forced c.tell.new.forced in
     let same = with_items_is inner c.bring_along.new.forced (omega arith) in
     let room : length c.bring_along.new.forced ≡ grid.width + 2 = omega (arith, c.requires.kept.forced) in
     let is = c.behind.ensures.next m next in
     subst (λ (k : ℕ). IsKept grid h k c.go_on.new.self) is
-    (kept_on grid h y n rows.band rows.last c.read_row.new.row c.requires.kept.ready (omega arith)
-    c.read_row.ensures c.behind.ensures.lies c.tell.new.this c.bring_along.new.east c.bring_along.new.west
-    c.go_on.new.self (subst (λ (k : ℕ). IsRowAt (row_ahead (seen h N) k) y) (sym is) (row_next h y m next)) told
+    (kept_on c.requires.kept.ready c.read_row.ensures (omega arith) c.behind.ensures.lies c.tell.new.this
+    c.bring_along.new.east c.bring_along.new.west c.go_on.new.self
+    (subst (λ (k : ℕ). IsRowAt (row_ahead (seen h N) k) y) (sym is) (row_next h y m next)) told
     c.bring_along.ensures.0 c.bring_along.ensures.1 c.tell.ensures.long (omega arith) (omega arith)
     c.go_on.ensures.far c.go_on.ensures.next c.go_on.ensures.here c.go_on.ensures.back c.go_on.ensures.last
     c.go_on.ensures.this (ap (λ (r : List Bool). length r) (c.go_on.ensures.forced ∙ same) ∙ room))
