@@ -217,7 +217,8 @@ fn diagonal_stop<L: Ledger>(
 }
 
 /// After how many moves a jump stops. One step or two. Each direction has code of its own, in which it is a constant.
-#[inline(always)]
+// Not inlined: where it is, the compiler moves the arithmetic of all eight directions before the choice among them.
+#[inline(never)]
 pub fn stop_told<L: Ledger>(
     tables: &Tables,
     at: Cell,
