@@ -21,8 +21,11 @@ import time
 # A check gains little by more jobs than this.
 MOST_JOBS = 4
 
-# What a check takes whatever stands in the crate, in lines whose check takes as long.
-LINES_OF_ANY = 1500
+# The processor seconds that the check of a crate takes, a line each: what the last lines of a log of this tool tell.
+SECONDS = "check_seconds.txt"
+
+# What a check takes whatever stands in the crate, and for each line of its code, where the file has no line for it.
+SECONDS_OF_ANY, SECONDS_OF_LINE = 15, 0.15
 
 # The priorities of the check with the longest chain behind it, and of the others.
 FIRST_NICE, OTHER_NICE = 0, 10
@@ -47,15 +50,25 @@ def all_below(uses, name):
     return found
 
 
-def lines_of(folder):
-    """How many lines of code, definitions and proofs a crate has."""
+def seconds_of(top, names):
+    """About how many seconds the check of each crate takes."""
+    told = {}
+    with open(f"{top}/tools/{SECONDS}", encoding="utf-8") as file:
+        for line in file:
+            name, _, seconds = line.partition("#")[0].partition(" ")
+            if seconds:
+                told[name] = float(seconds)
+    return {name: told[name] if name in told else guessed(f"{top}/crates/{name}") for name in names}
+
+
+def guessed(crate):
+    """About how many seconds the check of a crate takes, by the lines of its code."""
     count = 0
-    for part in ("src", "specs", "proofs"):
-        for at, _, names in os.walk(f"{folder}/{part}"):
-            for name in names:
-                with open(f"{at}/{name}", "rb") as file:
-                    count += file.read().count(b"\n")
-    return count
+    for at, _, names in os.walk(f"{crate}/src"):
+        for name in names:
+            with open(f"{at}/{name}", "rb") as file:
+                count += file.read().count(b"\n")
+    return SECONDS_OF_ANY + SECONDS_OF_LINE * count
 
 
 def link_crate(crate, to, with_rlib):
@@ -76,14 +89,16 @@ class Build:
         self.trees = f"{top}/crates/{program}/out/trees"
         self.chain = self.chains()
         self.waiting, self.running, self.done = list(self.names), {}, set()
+        self.took = {}
         self.failed = None
         self.changed = threading.Condition()
 
     def chains(self):
-        """For each crate the lines of the longest chain that begins with it."""
+        """For each crate the seconds of the longest chain that begins with it."""
+        seconds = seconds_of(self.top, self.names)
         chain = {name: 0 for name in self.names}
         for name in reversed(self.names):
-            chain[name] += LINES_OF_ANY + lines_of(f"{self.top}/crates/{name}")
+            chain[name] += seconds[name]
             for dep in self.uses[name]:
                 chain[dep] = max(chain[dep], chain[name])
         return chain
@@ -100,21 +115,23 @@ class Build:
         with open(f"{tree}/crates.txt", "w", encoding="utf-8") as file:
             file.writelines(self.lines[it] for it in [*below, name])
         shutil.copy(f"{self.top}/HANDLES", tree)
-        ran = subprocess.run(
+        ran = subprocess.Popen(
             ["nice", "-n", str(nice), "rt", "lib", "--jobs", str(jobs)],
             cwd=f"{tree}/crates/{name}",
             stdin=subprocess.DEVNULL,
             stdout=subprocess.PIPE,
             stderr=subprocess.STDOUT,
-            check=False,
         )
+        told = ran.stdout.read()
+        _, status, usage = os.wait4(ran.pid, 0)
         if os.path.isdir(f"{tree}/crates/{name}/out"):
             shutil.move(f"{tree}/crates/{name}/out", f"{crate}/out")
         shutil.rmtree(tree)
         with self.changed:
+            self.took[name] = usage.ru_utime + usage.ru_stime
             with open(self.log, "ab") as log:
-                log.write(f"== {name}\n".encode() + ran.stdout)
-        return ran.returncode == 0
+                log.write(f"== {name}\n".encode() + told)
+        return status == 0
 
     def work(self, name, jobs, nice):
         """Proves one crate, and tells how many are done."""
@@ -164,6 +181,8 @@ class Build:
             while self.running:
                 self.changed.wait()
         shutil.rmtree(self.trees, ignore_errors=True)
+        with open(self.log, "a", encoding="utf-8") as log:
+            log.writelines(f"{name} {round(took)}\n" for name, took in self.took.items())
         if sys.stderr.isatty():
             sys.stderr.write("\n")
         return not self.failed
