@@ -16,7 +16,6 @@ import shutil
 import subprocess
 import sys
 import threading
-import time
 
 # A check gains little by more jobs than this.
 MOST_JOBS = 4
