@@ -1,12 +1,12 @@
 -- Rows that lie between the same rows have the same entries along them.
-use Rattle.std.proofs.Common.{◌≡◌, ℕ, zero, suc, ◌+◌, ◌<◌, arith, Bool, true, false, ◌||◌, List, length, refl, ap, sym, ◌∙◌}
+use Rattle.std.proofs.Common.{◌≡◌, ℕ, ◌+◌, ◌<◌, arith, Bool, true, false, ◌||◌, List, length, refl, ap, sym, ◌∙◌}
 use Rattle.std.specs.Prelude.{ℤ, Option, Some, unwrap_or}
 use Rattle.std.proofs.lemmas.Bool.Decides.{nat_tests}
 use Rattle.grid_moves.specs.declared.Cell.{Cell}
 use Rattle.grid_moves.specs.declared.Dir.{Dir}
-use Rattle.grid_moves.specs.declared.Dir.TheVariants.{N, E, S, W}
+use Rattle.grid_moves.specs.declared.Dir.TheVariants.{E, W}
 use Rattle.grid_moves.specs.Grid.{GridData, IsGrid, is_free, is_inside}
-use Rattle.grid_moves.specs.Move.{row_ahead, column_ahead, legal_ahead}
+use Rattle.grid_moves.specs.Move.{column_ahead, legal_ahead}
 use Rattle.grid_moves.proofs.Legal.{legal_is}
 use Rattle.pruning.specs.declared.turns.Side.TheVariants.{Right, Left}
 use Rattle.pruning.specs.Turns.{is_diagonal}
@@ -19,7 +19,7 @@ use Rattle.plus_tables.specs.Entry.{table_entry}
 use Rattle.plus_tables.specs.Local.{is_mark_by}
 use Rattle.plus_tables.specs.declared.heading.Heading.{Heading}
 use Rattle.plus_tables.specs.declared.heading.Heading.TheVariants.{Upwards, Downwards}
-use Rattle.plus_tables.specs.Rows.{is_along, AreSame, IsFlagRow, IsEntryRow, IsRowAt, AreRowsAround, AreRowsSeen}
+use Rattle.plus_tables.specs.Rows.{is_along, AreSame, IsFlagRow, IsEntryRow, AreRowsAround, AreRowsSeen}
 use Rattle.plus_tables.specs.Lines.{AreAlike, AreAlong, IsReady}
 use Rattle.plus_tables.proofs.Rowing.{row_legal, ring_forced_on, told_is, along_each, next_along}
 
@@ -122,15 +122,7 @@ module _ (g : GridData) (whole : IsGrid g) (y m : ℕ) (above here below : List 
         ∙ sym (along_each d along g.width same_at (λ x _ next. same_by_next x next) v.x within)
         ∙ ap (λ (n : ℕ). table_entry g (record { x = v.x; y = n }) d) (sym at)
 
--- the row that was swept last lies on the map
-pub row_above : (y m h : ℕ) → IsRowAt (row_ahead N y) m → 0 < y → y < h → m < h
-row_above zero m h is some below = absurd (omega (arith, some))
-row_above (suc k) m h is some below = let e = is.some k refl in omega arith
-
-pub row_below : (y m h : ℕ) → IsRowAt (row_ahead S y) m → y + 1 < h → m < h
-row_below y m h is below = let e = is.some (y + 1) refl in omega arith
-
--- and between the same rows as this one, so that it has the same entries along it
+-- the row that was swept last lies between the same rows as this one, so that it has the same entries along it
 module _ (g : GridData) (whole : IsGrid g) (y : ℕ) (band : Band) (last : Line) (alike : AreAlike band) where
   along_again : (m : ℕ) (above here below : List Bool) → AreRowsAround g y above here below
       → AreRowsAround g m above here below → m < g.height → AreAlong g m last → AreAlong g y last

@@ -1,12 +1,11 @@
 -- Rows as code hands them over, and from one row to the next.
-use Rattle.std.proofs.Common.{◌≡◌, ℕ, zero, suc, ◌+◌, ◌-◌, ◌*◌, ◌<◌, ◌≤◌, arith, Bool, true, false, List, length, refl, ap, sym, ◌∙◌, subst}
+use Rattle.std.proofs.Common.{◌≡◌, ℕ, suc, ◌+◌, ◌-◌, ◌*◌, ◌<◌, ◌≤◌, arith, Bool, true, false, List, length, refl, ap, sym, ◌∙◌, subst}
 use Rattle.std.specs.Prelude.{ℤ, Some, replicate, nat_lt}
 use Rattle.std.proofs.lemmas.Bool.Decides.{nat_tests}
 use Rattle.std.proofs.lemmas.List.{get_or-replicate, length-replicate, get_or_past, with_items_is}
 use Rattle.std.specs.Vec.{with_items}
 use Rattle.grid_moves.specs.declared.Dir.{Dir}
 use Rattle.grid_moves.specs.declared.Dir.TheVariants.{N, NE, E, S, W, NW}
-use Rattle.grid_moves.specs.Around.{IsBefore}
 use Rattle.grid_moves.specs.Grid.{GridData, IsGrid, is_free}
 use Rattle.grid_moves.specs.Move.{dir_number, row_ahead}
 use Rattle.grid_moves.proofs.Legal.{and_both, free_inside}
@@ -70,13 +69,6 @@ row_over y n e = subst (λ (m : ℕ). IsRowAt (row_ahead N m) n) (sym e) (row_it
 
 pub row_under : (y n : ℕ) → n ≡ y + 1 → IsRowAt (row_ahead S y) n
 row_under y n e = subst (λ (m : ℕ). IsRowAt (row_ahead S y) m) (sym e) (row_itself (y + 1))
-
-pub row_before : (y n : ℕ) → IsBefore y n → IsRowAt (row_ahead N y) n
-row_before zero n is = record {
-  some = λ k e. absurd (cc);
-  none = λ e. let far : n ≡ 65535 = is.none refl in omega arith;
-}
-row_before (suc m) n is = row_over (suc m) n (let e : suc m ≡ n + 1 = is.some (omega arith) in omega arith)
 
 -- and the row that is swept next sees this one ahead
 pub row_next : (h : Heading) (y n : ℕ) → IsNext h y n → IsRowAt (row_ahead (seen h N) n) y

@@ -1,5 +1,5 @@
 -- Where entries stand, and tables with one entry changed.
-use Rattle.std.proofs.Common.{◌≡◌, ℕ, ◌+◌, ◌*◌, ◌<◌, arith, List, length, true, false, refl, ap, ◌∙◌, get_or-set_other, get_or-set_same}
+use Rattle.std.proofs.Common.{◌≡◌, ℕ, ◌+◌, ◌*◌, ◌<◌, arith, length, true, false, refl, ap, ◌∙◌, get_or-set_other, get_or-set_same}
 use Rattle.std.specs.Prelude.{ℤ, pos, nat_eq, slice_index_or}
 use Rattle.std.proofs.lemmas.List.{get_or_read}
 use Rattle.std.proofs.lemmas.Bool.Decides.{nat_tests}
@@ -84,12 +84,3 @@ read_entry t now c d e whole on place is entry read =
     get_or_read t.entries place entry (rw is below) read (pos 0)
     ∙ ap (λ (n : ℕ). slice_index_or t.entries n (pos 0)) is
     ∙ ap (λ (s : TablesData). entry_at s c d) e
-
--- tables with all entries changed
-abbrev pub whole_with : TablesData → List ℤ → TablesData
-whole_with t entries = record {
-  width = t.width;
-  height = t.height;
-  corner = t.corner;
-  entries = entries;
-}
