@@ -3,18 +3,19 @@ use Rattle.std.proofs.Common.{◌≡◌, ℕ, Bool, true, false, inl, inr, refl,
 use Rattle.std.specs.Prelude.{Option, MatchOption, if◌then◌else◌}
 use Rattle.std.proofs.lemmas.Bool.{and_parts}
 use Rattle.std.specs.Prelude as option
-use Rattle.root2_cost.specs.declared.Cost.{Cost}
 use Rattle.grid_moves.specs.declared.Cell.{Cell}
 use Rattle.grid_moves.specs.Grid.{GridData, is_free}
 use Rattle.grid_moves.specs.Layers.{Layers, in_one_layer, is_on_map, query_grid}
 use Rattle.grid_moves.specs.Reply.{are_free_ends}
 use Rattle.grid_moves.specs.Walk.{NoWalk}
+use Rattle.path_points.specs.declared.points.Walk as points
+use Rattle.path_points.specs.Least.{IsLeastOrNone}
 use Rattle.edit_replay.specs.Replies.{IsRightOn}
 use Rattle.edit_replay.specs.Session.{SessionData}
 use Rattle.edit_replay.specs.declared.reply.Reply.{Reply}
 use Rattle.edit_replay.specs.declared.reply.Reply.TheVariants.{Walk, None, Outside, Blocked}
 use Rattle.answerers.proofs.SessionReply.{reply_exists}
-use Rattle.goal_boxes.specs.Answer.{IsBoxedRunOn, IsLeast}
+use Rattle.goal_boxes.specs.Answer.{IsBoxedRunOn}
 use Rattle.goal_boxes.proofs.Answering as boxed
 use Rattle.first_moves.specs.Follow.{IsFollowed}
 use Rattle.first_moves.specs.Row.{AreMoves, MovesData}
@@ -34,22 +35,22 @@ record HasReplyOn (by : By) (g : GridData) (s t : Cell) : Type 0 where
   run : IsReplyOn by g s t reply
 
 module _ (g : GridData) (s t : Cell) (free : (is_free g s && is_free g t) ≡ true) where
-  boxed_told : (answer : Option (List Cell × Cost)) (taken : List ℕ)
-      → IsBoxedRunOn g s t (record { answer = answer; taken = taken })
-      → IsLeast g s t (record { answer = answer; taken = taken }) → HasReplyOn by_boxes g s t
-  boxed_told (option.Some told) taken run least =
-      record { reply = Walk told.0 told.1 taken; right = (free, least); run = run }
+  boxed_told : (walk : Option points.Walk) (taken : List ℕ)
+      → IsBoxedRunOn g s t (record { walk = walk; taken = taken })
+      → IsLeastOrNone g s t walk → HasReplyOn by_boxes g s t
+  boxed_told (option.Some w) taken run least =
+      record { reply = Walk w.points w.cost taken; right = (free, least); run = run }
   boxed_told option.None taken run least = record { reply = None taken; right = inr least; run = rw free run }
 
   boxed_reply : HasReplyOn by_boxes g s t
   boxed_reply =
       let h = boxed.has_answer g s t (and_parts (is_free g s) (is_free g t) free).0 in
-      boxed_told h.answer.answer h.answer.taken h.run h.least
+      boxed_told h.answer.walk h.answer.taken h.run h.least
 
-  led_told : (answer : Option (List Cell × Cost))
-      → MatchOption answer (NoWalk g s t) (λ w. IsFollowed g s t w.0 w.1) → HasReplyOn by_moves g s t
+  led_told : (walk : Option points.Walk)
+      → MatchOption walk (NoWalk g s t) (λ w. IsFollowed g s t w.points w.cost) → HasReplyOn by_moves g s t
   led_told (option.Some w) f =
-      record { reply = Walk w.0 w.1 []; right = (free, stands g s t w.0 w.1 f); run = (f, refl) }
+      record { reply = Walk w.points w.cost []; right = (free, stands g s t w.points w.cost f); run = (f, refl) }
   led_told option.None none = record { reply = None []; right = inr none; run = refl }
 
   led_reply : (m : MovesData) → AreMoves g m → HasReplyOn by_moves g s t

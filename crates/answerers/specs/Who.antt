@@ -34,9 +34,9 @@ who_is d = record { layers = d.layers; by = by_session d.engine }
 -- searched, and no state is taken
 abbrev pub IsBoxedReply : GridData → Cell → Cell → Reply → Type 0
 IsBoxedReply g s t (Walk points cost taken) =
-    IsBoxedRunOn g s t (record { answer = option.Some (points, cost); taken = taken })
+    IsBoxedRunOn g s t (record { walk = option.Some (record { points = points; cost = cost }); taken = taken })
 IsBoxedReply g s t (None taken) = MatchBool (is_free g s && is_free g t)
-    (IsBoxedRunOn g s t (record { answer = option.None; taken = taken })) (taken ≡ [])
+    (IsBoxedRunOn g s t (record { walk = option.None; taken = taken })) (taken ≡ [])
 IsBoxedReply g s t Outside = ⊤
 IsBoxedReply g s t Blocked = ⊤
 

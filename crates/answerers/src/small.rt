@@ -12,8 +12,9 @@ use crate::NoMemory;
 use cell_lines::Ends;
 use edit_replay::Reply;
 use first_moves::{Moves, follow_by_pass};
-use goal_boxes::{Boxed, Boxes, boxed_query, boxed_search};
+use goal_boxes::{Boxes, Found, boxed_query, boxed_search};
 use grid_moves::{Cell, Grid, Layers};
+use path_points::Walk;
 use plain_search::Taken;
 use std::alloc::Global;
 use std::marker::Brand;
@@ -57,9 +58,9 @@ pub fn search_boxed(
     ensures right { IfOk result (IsRightOn grid.now from to) }
     ensures run { IfOk result (IsBoxedReply grid.now from to) }
 {
-    let Boxed { answer, taken } = boxed_search(alloc, grid, boxes, from, to)?;
-    match answer {
-        Some((points, cost)) => Ok(Reply::Walk {
+    let Found { walk, taken } = boxed_search(alloc, grid, boxes, from, to)?;
+    match walk {
+        Some(Walk { points, cost }) => Ok(Reply::Walk {
             points,
             cost,
             taken,
@@ -87,7 +88,7 @@ pub fn follow_moves<L: Ledger>(
 {
     let taken = Taken::new(alloc);
     match moves.follow(alloc, grid, from, to, steps)? {
-        Some((points, cost)) => Ok(Reply::Walk {
+        Some(Walk { points, cost }) => Ok(Reply::Walk {
             points,
             cost,
             taken,
@@ -113,9 +114,9 @@ fn search_alone<L: Ledger>(
     ensures run { IfOk result (IsBoxedReply grid.now from to) }
 {
     let mut passes = Steps::<L>::new(blank);
-    let Boxed { answer, taken } = boxed_query(alloc, grid, from, to, &mut passes)?;
-    match answer {
-        Some((points, cost)) => Ok(Reply::Walk {
+    let Found { walk, taken } = boxed_query(alloc, grid, from, to, &mut passes)?;
+    match walk {
+        Some(Walk { points, cost }) => Ok(Reply::Walk {
             points,
             cost,
             taken,
@@ -143,7 +144,7 @@ fn follow_alone<L: Ledger>(
     let mut steps = Steps::<L>::new(blank);
     let taken = Taken::new(alloc);
     match follow_by_pass(alloc, grid, from, to, &mut steps)? {
-        Some((points, cost)) => Ok(Reply::Walk {
+        Some(Walk { points, cost }) => Ok(Reply::Walk {
             points,
             cost,
             taken,

@@ -19,3 +19,4 @@ pub mod Parts
 pub mod Ending
 pub mod Tracing
 pub mod Telling
+pub mod Answering

@@ -9,3 +9,4 @@ pub mod Progress
 pub mod Trace
 pub mod Index
 pub mod Space
+pub mod Answer

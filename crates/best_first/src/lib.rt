@@ -9,18 +9,17 @@
 //! looked for, as the estimate is consistent; the index is exact and never cleared as a whole.
 #![tactic(auto)]
 
+mod found;
 mod index;
 mod node;
 mod place;
 mod space;
 mod state;
-mod taken;
 mod way;
 
+pub use found::{Found, Taken};
 pub use node::{Node, Offer};
 pub use place::Place;
 pub use space::Space;
 pub use state::{Layout, State};
 pub use std::alloc::AllocError as NoMemory;
-pub use taken::Taken;
-pub use way::Way;

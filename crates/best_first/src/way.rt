@@ -5,23 +5,14 @@ ghost use Rattle.best_first.specs.Trace.{HasBack, IsWayTo};
 
 use crate::{NoMemory, Space};
 use grid_moves::{Cell, estimate};
-use path_points::Points;
+use path_points::{Points, Walk};
 use root2_cost::Cost;
 use std::alloc::Global;
-
-/// A way from the start of a search.
-#[derive(Debug, Drop)]
-pub struct Way {
-    /// The cells of its states, from the start on.
-    pub points: Points,
-    /// What it costs.
-    pub cost: Cost,
-}
 
 impl Space {
     /// The way from the start to the state of a node, along the parents: the cells of its states, and
     /// the pair of its cost, counted on the way.
-    pub fn way_to(&self, alloc: Global, goal: Cell, at: u32) -> Result<Way, NoMemory>
+    pub fn way_to(&self, alloc: Global, goal: Cell, at: u32) -> Result<Walk, NoMemory>
         requires { HasBack goal self.now.table.nodes at }
         ensures { IfOk result (λ w. IsWayTo goal self.now.table.nodes at w.points w.cost) }
     {
@@ -38,6 +29,6 @@ impl Space {
         }
         points.push(self.node(id).place.cell())?;
         points.reverse();
-        Ok(Way { points, cost })
+        Ok(Walk { points, cost })
     }
 }

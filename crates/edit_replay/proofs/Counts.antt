@@ -5,8 +5,9 @@ use Rattle.std.proofs.lemmas.List.{length-map, length-reverse}
 use Rattle.root2_cost.specs.declared.Cost.{Cost}
 use Rattle.grid_moves.specs.declared.Cell.{Cell}
 use Rattle.grid_moves.specs.Grid.{GridData}
+use Rattle.path_points.specs.declared.points.Walk.{Walk}
 use Rattle.best_first.specs.State.{state_number}
-use Rattle.search_core.specs.Run.{IsFound, IsExhausted}
+use Rattle.search_core.specs.Answer.{IsFound, IsExhausted}
 
 numbered : {A : Type 0} (number : A → ℕ) (x : A) (xs : List A)
     → length (reverse (map number (x ∷ xs))) ≡ suc (length xs)
@@ -29,13 +30,11 @@ but_the_last fewest old new (suc n) some rose =
     let less : suc n - 1 ≡ n = omega arith in
     rw less (omega arith)
 
-pub rose_away : (g : GridData) (s t : Cell) (answer : Option (List Cell × Cost)) (taken : List ℕ)
-    (points : List Cell) (cost : Cost) (fewest old new : ℕ) → answer ≡ Some (points, cost)
-    → MatchOption answer (IsExhausted g s t taken) (λ told. IsFound g s t told.0 told.1 taken)
-    → MatchOption answer (old + length taken * fewest ≤ new)
-    (λ _. old + length taken * fewest ≤ new + fewest)
+pub rose_away : (g : GridData) (s t : Cell) (walk : Option Walk) (taken : List ℕ) (w : Walk) (fewest old new : ℕ)
+    → walk ≡ Some w → MatchOption walk (IsExhausted g s t taken) (λ v. IsFound g s t v.points v.cost taken)
+    → MatchOption walk (old + length taken * fewest ≤ new) (λ _. old + length taken * fewest ≤ new + fewest)
     → old + (length taken - 1) * fewest ≤ new
-rose_away g s t answer taken points cost fewest old new is run rose =
-    let found : IsFound g s t points cost taken = rw is at run in
+rose_away g s t walk taken w fewest old new is run rose =
+    let found : IsFound g s t w.points w.cost taken = rw is at run in
     let all : old + length taken * fewest ≤ new + fewest = rw is at rose in
-    but_the_last fewest old new (length taken) (some_taken g s t points cost taken found) all
+    but_the_last fewest old new (length taken) (some_taken g s t w.points w.cost taken found) all

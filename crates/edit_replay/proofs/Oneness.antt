@@ -1,6 +1,6 @@
 -- Two replies that are right and the runs of engines that both jump, or of the plain engine, are one reply.
 use Rattle.std.proofs.Common.{◌≡◌, ℕ, ◌⊎◌, inl, inr, refl, ap, sym, subst, ◌∙◌, Bool, true, false, ◌&&◌, ◌||◌, List, []}
-use Rattle.std.specs.Prelude.{MatchBool, if◌then◌else◌}
+use Rattle.std.specs.Prelude.{MatchBool, MatchOption, if◌then◌else◌}
 use Rattle.std.proofs.lemmas.Bool.Decides.{when_true}
 use Rattle.std.specs.Prelude as option
 use Rattle.std.specs.declared.option.Option.{Option}
@@ -10,13 +10,12 @@ use Rattle.grid_moves.specs.Grid.{GridData, is_free, is_inside}
 use Rattle.grid_moves.specs.Layers.{AreLayers, Layers, in_one_layer, is_free_ground, is_on_map, query_grid}
 use Rattle.grid_moves.specs.Reply.{IsRight, are_free_ends}
 use Rattle.grid_moves.proofs.Layering.{is_inside-water}
-use Rattle.plain_search.specs.Found as plain
-use Rattle.plain_search.specs.declared.search.Plain.{Plain}
-use Rattle.plain_search.specs.declared.search.Plain.TheVariants as plain_found
-use Rattle.plain_search.proofs.Oneness as plainly
-use Rattle.search_core.specs.Run as jump
-use Rattle.search_core.specs.declared.found.Found.{Found}
-use Rattle.search_core.proofs.Oneness as jumping
+use Rattle.path_points.specs.declared.points.Walk as points
+use Rattle.best_first.specs.declared.found.Found.{Found}
+use Rattle.plain_search.specs.Answer as plain
+use Rattle.plain_search.proofs.Answering as plainly
+use Rattle.search_core.specs.Answer as jump
+use Rattle.search_core.proofs.Answering as jumping
 use Rattle.edit_replay.specs.Kept.{is_plain}
 use Rattle.edit_replay.specs.Replies.{answer_of, Finds, Exhausts, IsRunOn}
 use Rattle.edit_replay.specs.Session.{SessionData}
@@ -27,8 +26,8 @@ use Rattle.edit_replay.specs.declared.reply.Reply.{Reply}
 use Rattle.edit_replay.specs.declared.reply.Reply.TheVariants.{Walk, None, Outside, Blocked}
 
 -- the reply of a search that found a walk, and of one that found none
-told : Option (List Cell × Cost) → List ℕ → Reply
-told (option.Some way) taken = Walk way.0 way.1 taken
+told : Option points.Walk → List ℕ → Reply
+told (option.Some w) taken = Walk w.points w.cost taken
 told option.None taken = None taken
 
 -- runs that find a walk and runs that end without one have one reply between them
@@ -38,14 +37,9 @@ record AreOne (found : List Cell → Cost → List ℕ → Type 0) (exhausted : 
   ends : (ms ns : List ℕ) → exhausted ms → exhausted ns → ms ≡ ns
   apart : (ps : List Cell) (c : Cost) (ms ns : List ℕ) → found ps c ms → exhausted ns → ⊥
 
--- the reply of a plain search
-of_plain : Plain → Reply
-of_plain (plain_found.Found points cost taken) = Walk points cost taken
-of_plain (plain_found.None taken) = None taken
-
--- the reply of a search over jumps
-of_jumps : Found → Reply
-of_jumps f = told f.answer f.taken
+-- the reply of a search
+of_found : Found → Reply
+of_found f = told f.walk f.taken
 
 taken_of : Reply → List ℕ
 taken_of (Walk points cost taken) = taken
@@ -63,29 +57,31 @@ walk_is_none : (ps : List Cell) (c : Cost) (ms ns : List ℕ) → Walk ps c ms �
 unfolding is_walk
 walk_is_none ps c ms ns e = let b : true ≡ false = ap is_walk e in cc
 
+abbrev with_walk : List Cell → Cost → List ℕ → Found
+with_walk ps c ms = record { walk = option.Some (record { points = ps; cost = c }); taken = ms }
+
+abbrev with_none : List ℕ → Found
+with_none ms = record { walk = option.None; taken = ms }
+
+-- a search with a single answer has a single reply
+one_reply_of : (found : List Cell → Cost → List ℕ → Type 0) (exhausted : List ℕ → Type 0)
+    → ((f h : Found) → MatchOption f.walk (exhausted f.taken) (λ w. found w.points w.cost f.taken)
+    → MatchOption h.walk (exhausted h.taken) (λ w. found w.points w.cost h.taken) → f ≡ h)
+    → AreOne found exhausted
+unfolding of_found told taken_of
+one_reply_of found exhausted one = record {
+  walks = λ ps qs c d ms ns is also. ap of_found (one (with_walk ps c ms) (with_walk qs d ns) is also);
+  ends = λ ms ns is also. ap (λ f. taken_of (of_found f)) (one (with_none ms) (with_none ns) is also);
+  apart = λ ps c ms ns is also.
+      walk_is_none ps c ms ns (ap of_found (one (with_walk ps c ms) (with_none ns) is also));
+}
+
 module _ (g : GridData) (s t : Cell) where
   plain_runs : AreOne (plain.IsFound g s t) (plain.IsExhausted g s t)
-  unfolding of_plain taken_of
-  plain_runs = record {
-    walks = λ ps qs c d ms ns is also. ap of_plain (plainly.one_answer g s t (plain_found.Found ps c ms)
-        (plain_found.Found qs d ns) is also);
-    ends = λ ms ns is also. ap (λ p. taken_of (of_plain p)) (plainly.one_answer g s t (plain_found.None ms)
-        (plain_found.None ns) is also);
-    apart = λ ps c ms ns is also. walk_is_none ps c ms ns (ap of_plain (plainly.one_answer g s t
-        (plain_found.Found ps c ms) (plain_found.None ns) is also));
-  }
+  plain_runs = one_reply_of (plain.IsFound g s t) (plain.IsExhausted g s t) (plainly.one_answer g s t)
 
   jump_runs : AreOne (jump.IsFound g s t) (jump.IsExhausted g s t)
-  unfolding of_jumps told taken_of
-  jump_runs = record {
-    walks = λ ps qs c d ms ns is also. ap of_jumps (jumping.one_answer g s t
-        (record { answer = option.Some (ps, c); taken = ms }) (record { answer = option.Some (qs, d); taken = ns })
-        is also);
-    ends = λ ms ns is also. ap (λ f. taken_of (of_jumps f)) (jumping.one_answer g s t
-        (record { answer = option.None; taken = ms }) (record { answer = option.None; taken = ns }) is also);
-    apart = λ ps c ms ns is also. walk_is_none ps c ms ns (ap of_jumps (jumping.one_answer g s t
-        (record { answer = option.Some (ps, c); taken = ms }) (record { answer = option.None; taken = ns }) is also));
-  }
+  jump_runs = one_reply_of (jump.IsFound g s t) (jump.IsExhausted g s t) (jumping.one_answer g s t)
 
   -- the plain engine's run is one, and so is that of all engines that jump
   runs_are_one : (e : Engine) → AreOne (Finds e g s t) (Exhausts e g s t)

@@ -2,18 +2,13 @@
 use Rattle.std.proofs.Common.{◌≡◌, ℕ, Bool, true, false, inr, inl, refl, ◌&&◌, List, []}
 use Rattle.std.specs.Prelude.{Option, MatchOption}
 use Rattle.std.specs.Prelude as option
-use Rattle.root2_cost.specs.declared.Cost.{Cost}
 use Rattle.grid_moves.specs.declared.Cell.{Cell}
 use Rattle.grid_moves.specs.Grid.{is_free}
 use Rattle.grid_moves.specs.Layers.{Layers, in_one_layer, is_on_map, query_grid}
-use Rattle.grid_moves.specs.Reply.{IsRight, StandsForLeast, are_free_ends}
-use Rattle.grid_moves.specs.Walk.{NoWalk}
-use Rattle.plain_search.specs.Answer.{IsPlainRun}
-use Rattle.plain_search.specs.Answer as plain
-use Rattle.plain_search.specs.declared.search.Plain.{Plain}
-use Rattle.plain_search.specs.declared.search.Plain.TheVariants as found
+use Rattle.grid_moves.specs.Reply.{IsRight, are_free_ends}
+use Rattle.path_points.specs.declared.points.Walk as points
+use Rattle.path_points.specs.Least.{IsLeastOrNone}
 use Rattle.plain_search.proofs.Answering as plainly
-use Rattle.search_core.specs.Run as jump
 use Rattle.search_core.proofs.Answering as jumping
 use Rattle.edit_replay.specs.Replies.{answer_of, Exhausts, Finds, IsRunOn}
 use Rattle.edit_replay.specs.Session.{SessionData}
@@ -34,52 +29,31 @@ module _ (ls : Layers) (s t : Cell) where
     right : IsRight ls s t (answer_of reply)
     run : IsRunOn e (query_grid ls s) s t reply
 
-  -- both ends free in one layer: the plain search's answer
-  by_plain : are_free_ends ls s t ≡ true → in_one_layer ls s t ≡ true → (p : Plain)
-      → IsPlainRun (query_grid ls s) s t p → plain.IsLeast (query_grid ls s) s t p
-      → HasReplyBy engine.Plain
-  by_plain free one (found.Found points cost taken) run least =
-      record { reply = Walk points cost taken; right = (one, least); run = run }
-  by_plain free one (found.None taken) run least =
+  -- both ends free in one layer: the answer of the engine's search
+  by_answer : (e : Engine) → are_free_ends ls s t ≡ true → in_one_layer ls s t ≡ true
+      → (walk : Option points.Walk) (taken : List ℕ)
+      → MatchOption walk (Exhausts e (query_grid ls s) s t taken)
+      (λ w. Finds e (query_grid ls s) s t w.points w.cost taken)
+      → IsLeastOrNone (query_grid ls s) s t walk → HasReplyBy e
+  by_answer e free one (option.Some w) taken run least =
+      record { reply = Walk w.points w.cost taken; right = (one, least); run = run }
+  by_answer e free one option.None taken run least =
       record { reply = None taken; right = (free, inr least); run = rw one run }
-
-  -- and that of a search over jumps, for an engine whose run is that one
-  module _ (e : Engine)
-      (finds : (points : List Cell) (cost : Cost) (taken : List ℕ)
-      → jump.IsFound (query_grid ls s) s t points cost taken → Finds e (query_grid ls s) s t points cost taken)
-      (exhausts : (taken : List ℕ) → jump.IsExhausted (query_grid ls s) s t taken
-      → Exhausts e (query_grid ls s) s t taken) where
-    by_answer : are_free_ends ls s t ≡ true → in_one_layer ls s t ≡ true
-        → (answer : Option (List Cell × Cost)) → (taken : List ℕ)
-        → MatchOption answer (jump.IsExhausted (query_grid ls s) s t taken)
-        (λ told. jump.IsFound (query_grid ls s) s t told.0 told.1 taken)
-        → MatchOption answer (NoWalk (query_grid ls s) s t)
-        (λ told. StandsForLeast (query_grid ls s) s t told.0 told.1)
-        → HasReplyBy e
-    by_answer free one (option.Some told) taken run least = record {
-      reply = Walk told.0 told.1 taken;
-      right = (one, least);
-      run = finds told.0 told.1 taken run;
-    }
-    by_answer free one option.None taken run least =
-        record { reply = None taken; right = (free, inr least); run = rw one (exhausts taken run) }
-
-    by_jumps : are_free_ends ls s t ≡ true → in_one_layer ls s t ≡ true
-        → is_free (query_grid ls s) s ≡ true → HasReplyBy e
-    by_jumps free one from =
-        let a = jumping.has_answer (query_grid ls s) s t from in
-        by_answer free one a.answer.answer a.answer.taken a.run a.least
 
   searched : (e : Engine) → are_free_ends ls s t ≡ true → in_one_layer ls s t ≡ true
       → is_free (query_grid ls s) s ≡ true → HasReplyBy e
   searched engine.Plain free one from =
-      let a = plainly.has_answer (query_grid ls s) s t from in by_plain free one a.answer a.run a.least
+      let a = plainly.has_answer (query_grid ls s) s t from in
+      by_answer engine.Plain free one a.answer.walk a.answer.taken a.run a.least
   searched engine.Jps free one from =
-      by_jumps engine.Jps (λ points cost taken found. found) (λ taken ended. ended) free one from
+      let a = jumping.has_answer (query_grid ls s) s t from in
+      by_answer engine.Jps free one a.answer.walk a.answer.taken a.run a.least
   searched engine.Block free one from =
-      by_jumps engine.Block (λ points cost taken found. found) (λ taken ended. ended) free one from
+      let a = jumping.has_answer (query_grid ls s) s t from in
+      by_answer engine.Block free one a.answer.walk a.answer.taken a.run a.least
   searched engine.Plus free one from =
-      by_jumps engine.Plus (λ points cost taken found. found) (λ taken ended. ended) free one from
+      let a = jumping.has_answer (query_grid ls s) s t from in
+      by_answer engine.Plus free one a.answer.walk a.answer.taken a.run a.least
 
   module _ (e : Engine) where
     -- by the layers of two free ends

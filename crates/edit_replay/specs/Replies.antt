@@ -7,8 +7,8 @@ use Rattle.grid_moves.specs.Grid.{GridData, is_free, is_ground, is_inside}
 use Rattle.grid_moves.specs.Layers.{Layers, ground_at, is_on_map, layers_with, query_grid}
 use Rattle.grid_moves.specs.Reply.{Answer, outside, blocked, none, walk, StandsForLeast}
 use Rattle.grid_moves.specs.Walk.{NoWalk}
-use Rattle.plain_search.specs.Found as plain
-use Rattle.search_core.specs.Run as jump
+use Rattle.plain_search.specs.Answer as plain
+use Rattle.search_core.specs.Answer as jump
 use Rattle.edit_replay.specs.Edited.{Edit, edited}
 use Rattle.edit_replay.specs.Session.{SessionData}
 use Rattle.edit_replay.specs.declared.engine.Engine.{Engine}

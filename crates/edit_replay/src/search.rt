@@ -18,10 +18,11 @@ use best_first::Space;
 use grid_moves::{Cell, Grid, Terrain};
 use jump_block::BlockJumps;
 use jump_plain::PlainJumps;
-use plain_search::{Plain, Workspace, least_in};
+use path_points::Walk;
+use plain_search::{Found, Workspace, least_in};
 use plus_tables::PlusJumps;
 use pruning::JumpSource;
-use search_core::{Found, search_in};
+use search_core::search_in;
 use std::alloc::Global;
 use std::sync::ledger::Ledger;
 use steps::Steps;
@@ -41,17 +42,14 @@ pub(crate) fn search_plainly(
     ensures run { IfOk result (IsRunOn Engine.Plain grid.now from to) }
     ensures room { HasRoom grid.now space.new }
 {
-    match least_in(alloc, grid, from, to, space)? {
-        Plain::Found {
-            points,
-            cost,
-            taken,
-        } => Ok(Reply::Walk {
+    let Found { walk, taken } = least_in(alloc, grid, from, to, space)?;
+    match walk {
+        Some(Walk { points, cost }) => Ok(Reply::Walk {
             points,
             cost,
             taken,
         }),
-        Plain::None { taken } => Ok(Reply::None { taken }),
+        None => Ok(Reply::None { taken }),
     }
 }
 
@@ -75,9 +73,9 @@ pub(crate) fn search_by_jumps<J: JumpSource, L: Ledger>(
     ensures fewest { IfOk result (RoseByStates (J.fewest j.now) steps.old steps.new) }
     ensures places { OnEach (J.StandsFor j.now) from to (λ g. HasPlaces g space.new) }
 {
-    let Found { answer, taken } = search_in(alloc, j, from, to, space, steps)?;
-    match answer {
-        Some((points, cost)) => Ok(Reply::Walk {
+    let Found { walk, taken } = search_in(alloc, j, from, to, space, steps)?;
+    match walk {
+        Some(Walk { points, cost }) => Ok(Reply::Walk {
             points,
             cost,
             taken,

@@ -73,7 +73,7 @@ module _ (g : GridData) (m : MovesData) (moves : AreMoves g m) (t : Cell) (to : 
 
   followed : (s : Cell) → IsLed g s t → HasFollowed g s t
   followed s w = record {
-    answer = Some (corners (s ∷ w.cells), cost_of (s ∷ w.cells));
+    answer = Some (record { points = corners (s ∷ w.cells); cost = cost_of (s ∷ w.cells) });
     is = record { cells = w.cells; first = w.first; least = w.least; turns = refl; priced = refl };
   }
 

@@ -17,8 +17,9 @@ use Rattle.best_first.specs.State.{start_at, state_number}
 use Rattle.best_first.specs.Table.{Table, IsFirstNode, NoneOpen, begun, closed_at}
 use Rattle.best_first.specs.Trace.{node_cell, HasBack, IsWayTo}
 use Rattle.best_first.specs.Ways.{Onward, IsAmong, with_all}
+use Rattle.best_first.proofs.Answering.{found_back}
 use Rattle.best_first.proofs.Mirrors.{some_node}
-use Rattle.best_first.proofs.Progress.{has_begun, next_taken, exhausted, taken_fits, has_back, way_is}
+use Rattle.best_first.proofs.Progress.{has_begun, next_taken, exhausted, taken_fits, has_back}
 use Rattle.best_first.proofs.Ways.{offers_after}
 use Rattle.plain_search.specs.Room.{IsReady}
 use Rattle.goal_boxes.specs.Answer.{IsFound, IsExhausted}
@@ -122,18 +123,5 @@ module _ (g : GridData) (b : BoxTeller) (s t : Cell) (whole : IsGrid g) (from : 
     pub is_found : (points way : List Cell) (cost : Cost)
         → ((n : Node) → slice_get k.nodes at ≡ Some n → node_cell n ≡ t) → IsWayTo t k.nodes at way cost
         → points ≡ corners way → IsFound g b s t points cost taken
-    is_found points way cost goal w p =
-        let is = way_is ByCell g.width g.height s t (boxed_links g b t) (fit g b s t whole from to) at k taken h way cost
-        w in
-        let at_goal : h.last.state ≡ start_at t = sym h.searching.state
-        ∙ ap (λ (u : Cell). start_at u) (goal h.searching.node h.searching.node_is) in
-        record {
-          earlier = h.earlier;
-          last = h.last;
-          run = h.searching.run;
-          at_goal = at_goal;
-          priced = is.1;
-          joined = p ∙ ap corners (is.0 ∙ ap (λ (u : State).
-              map (λ (v : State). v.cell) (way_to (boxed_rule g b t) (h.last ∷ h.earlier) u)) at_goal);
-          numbered = h.numbered;
-        }
+    is_found points way cost goal w p = found_back ByCell g.width g.height s t (boxed_links g b t)
+        (fit g b s t whole from to) corners at k taken h goal points way cost w p

@@ -15,7 +15,7 @@ use Rattle.cost_waves.specs.Begin.{Begins}
 use Rattle.cost_waves.proofs.Falling.{goes_over, least_by_move, least_on}
 use Rattle.goal_boxes.specs.declared.area.Area.{Area}
 use Rattle.goal_boxes.specs.declared.around.CellBoxes.{CellBoxes}
-use Rattle.goal_boxes.specs.declared.boxed.Boxed.{Boxed}
+use Rattle.best_first.specs.declared.found.Found.{Found}
 use Rattle.goal_boxes.specs.Answer.{IsRunBy, IsBoxedRunOn}
 use Rattle.goal_boxes.specs.Box.{IsWithin, IsAreaOf, IsBox, AreBoxes, BoxTeller, TellsBoxes, box_in}
 use Rattle.goal_boxes.specs.Offers.{Agree}
@@ -127,7 +127,7 @@ one_area a b p q =
         (record { x0 = u0; y0 = v0; x1 = u1; y1 = v1 })
     by_sides x0 y0 x1 y1 u0 v0 u1 v1 e f h i = rw (e, f, h, i) refl
 
-one_box : (P : Cell → Type 0) (a b : Option Area) → IsAreaOf P a → IsAreaOf P b → a ≡ b
+pub one_box : (P : Cell → Type 0) (a b : Option Area) → IsAreaOf P a → IsAreaOf P b → a ≡ b
 one_box P None None p q = refl
 one_box P None (Some b) p q = absurd (p q.some q.is_one)
 one_box P (Some a) None p q = absurd (q p.some p.is_one)
@@ -141,7 +141,7 @@ agree g box tells u free boxes are =
     λ d. one_box (λ t. Begins g u t d) (box_in boxes d) (box u d) (are d) (tells.boxes u free d)
 
 -- and a run by such boxes is the grid's
-pub ran_on_grid : {E : Type 0} (g : GridData) (box : BoxTeller) (s t : Cell) (r : Result Boxed E)
+pub ran_on_grid : {E : Type 0} (g : GridData) (box : BoxTeller) (s t : Cell) (r : Result Found E)
     → TellsBoxes g box → IfOk r (IsRunBy g box s t) → IfOk r (IsBoxedRunOn g s t)
 ran_on_grid g box s t (Ok found) tells run = record { box = box; tells = tells; run = run }
 ran_on_grid g box s t (Err fault) tells run = tt

@@ -1,10 +1,10 @@
 mod Growing
 pub mod Storing
-mod Moves
+pub mod Moves
 mod Posed
 mod Shapes
 mod Offering
 mod Right
 mod Concluding
-mod Existing
+pub mod Existing
 pub mod Answering

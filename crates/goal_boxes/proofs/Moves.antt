@@ -18,7 +18,7 @@ use Rattle.plain_search.specs.Offers.{cost_to}
 use Rattle.plain_search.specs.Rule.{plain_links, is_led}
 use Rattle.plain_search.proofs.Dropping.{LeadsTo, leads}
 use Rattle.plain_search.proofs.Offering.{ahead_cost}
-use Rattle.plain_search.proofs.Walks.{IsMove, link_move, legal_link, plain_are_links}
+use Rattle.plain_search.proofs.Walks.{AreMoves, IsMove, link_move, legal_link, plain_are_links}
 use Rattle.cost_waves.proofs.Settling.{In, first, later, in_all}
 use Rattle.goal_boxes.specs.Box.{BoxTeller}
 use Rattle.goal_boxes.specs.Offers.{toward}
@@ -68,6 +68,9 @@ module _ (g : GridData) (b : BoxTeller) (t : Cell) where
         starts = p.starts;
         priced = λ u v c e. p.priced u v c (plain_step u v c e);
       }
+
+  pub boxed_are_moves : AreMoves g (boxed_links g b t)
+  boxed_are_moves = record { links = boxed_are_links; moves = boxed_move }
 
   -- the octile estimate is fit for the rule
   pub boxed_consistent : IsConsistent (boxed_rule g b t)

@@ -5,4 +5,3 @@ pub mod Rule
 pub mod Answer
 pub mod Offers
 pub mod Progress
-pub mod Existence

@@ -12,7 +12,8 @@ ghost use Rattle.grid_moves.specs.Move.{is_same};
 ghost use Rattle.best_first.specs.State.{state_number, start_at};
 ghost use Rattle.best_first.specs.Trace.{node_cell};
 ghost use Rattle.plain_search.specs.Room.{HasRoom, IsReady};
-ghost use Rattle.goal_boxes.specs.Answer.{IsRunBy, IsBoxedRun, IsBoxedRunOn, IsLeast};
+ghost use Rattle.path_points.specs.Least.{IsLeastOrNone};
+ghost use Rattle.goal_boxes.specs.Answer.{IsRunBy, IsBoxedRun, IsBoxedRunOn};
 ghost use Rattle.goal_boxes.specs.Box.{TellsBoxes};
 ghost use Rattle.goal_boxes.specs.Offers.{Agree};
 ghost use Rattle.goal_boxes.specs.Progress.{HasTaken, GoesOn};
@@ -21,27 +22,15 @@ ghost use Rattle.goal_boxes.specs.Stored.{HoldsBoxes};
 use crate::around::CellBoxes;
 use crate::offers::offer_all;
 use crate::source::{BoxSource, Kept, Meant};
-use crate::turns::turns;
 use crate::{Boxes, NoMemory, Taken};
-use best_first::{Layout, Space, State};
+use best_first::{Found, Layout, Space, State};
 use cost_waves::CostWaves;
 use grid_moves::{Cell, Terrain};
-use path_points::Points;
-use root2_cost::Cost;
+use path_points::{Walk, turns};
 use std::alloc::Global;
 use std::marker::Brand;
 use std::sync::ledger::{Blank, Ledger};
 use steps::Steps;
-
-/// What a boxed search found.
-#[derive(Drop)]
-pub struct Boxed {
-    /// A least walk, by its points and its cost, or `None` where no walk exists. The points are its ends
-    /// and its turns.
-    pub answer: Option<(Points, Cost)>,
-    /// The states that the search took.
-    pub taken: Taken,
-}
 
 // The ends of a search.
 #[derive(Clone, Copy)]
@@ -125,7 +114,7 @@ fn found<K: Meant, T: Terrain>(
     space: &Space,
     at: u32,
     taken: Taken,
-) -> Result<Boxed, NoMemory>
+) -> Result<Found, NoMemory>
     requires boxes { TellsBoxes (T.grid t.now) K.boxes }
     requires whole { IsGrid (T.grid t.now) }
     requires from { is_free (T.grid t.now) ends.from ≡ true }
@@ -133,13 +122,17 @@ fn found<K: Meant, T: Terrain>(
     requires taken { HasTaken (T.grid t.now) K.boxes ends.from ends.to at space.now.table taken }
     requires goal { (n : _) → slice_get space.now.table.nodes at ≡ Some n → node_cell n ≡ ends.to }
     ensures run { IfOk result (IsRunBy (T.grid t.now) K.boxes ends.from ends.to) }
-    ensures least { IfOk result (IsLeast (T.grid t.now) ends.from ends.to) }
+    ensures least { IfOk result (λ r. IsLeastOrNone (T.grid t.now) ends.from ends.to r.walk) }
     ensures taken { IfOk result (λ r. r.taken ≡ taken) }
 {
     let way = space.way_to(alloc, ends.to, at)?;
     let points = turns(alloc, way.points.as_slice())?;
-    Ok(Boxed {
-        answer: Some((points, way.cost)),
+    let walk = Walk {
+        points,
+        cost: way.cost,
+    };
+    Ok(Found {
+        walk: Some(walk),
         taken,
     })
 }
@@ -153,7 +146,7 @@ fn run<K: Meant, B: BoxSource, T: Terrain, L: Ledger, M: Ledger>(
     space: &mut Space,
     steps: &mut Steps<L>,
     passes: &mut Steps<M>,
-) -> Result<Boxed, NoMemory>
+) -> Result<Found, NoMemory>
     requires boxes { TellsBoxes (T.grid t.now) K.boxes }
     requires stands { B.StandsFor source.old (T.grid t.now) }
     requires from { is_free (T.grid t.now) ends.from ≡ true }
@@ -161,7 +154,7 @@ fn run<K: Meant, B: BoxSource, T: Terrain, L: Ledger, M: Ledger>(
     requires layout { space.old.layout ≡ Layout.ByCell }
     requires room { HasRoom (T.grid t.now) space.old.places }
     ensures run { IfOk result (IsRunBy (T.grid t.now) K.boxes ends.from ends.to) }
-    ensures least { IfOk result (IsLeast (T.grid t.now) ends.from ends.to) }
+    ensures least { IfOk result (λ r. IsLeastOrNone (T.grid t.now) ends.from ends.to r.walk) }
     ensures passes { IfOk result (λ r. passes.new ≤ passes.old + length r.taken) }
 {
     let mut taken = Taken::new(alloc);
@@ -172,10 +165,7 @@ fn run<K: Meant, B: BoxSource, T: Terrain, L: Ledger, M: Ledger>(
         match advance::<K, T, L>(t, boxes, ends, space, at, &mut taken, steps)? {
             Some(next) => at = next,
             None => {
-                return Ok(Boxed {
-                    answer: None,
-                    taken,
-                });
+                return Ok(Found { walk: None, taken });
             }
         }
     }
@@ -190,7 +180,7 @@ fn run_alone<K: Meant, B: BoxSource, T: Terrain, L: Ledger, M: Ledger>(
     ends: Ends,
     passes: &mut Steps<M>,
     blank: Blank,
-) -> Result<Boxed, NoMemory>
+) -> Result<Found, NoMemory>
     requires name { blank.name ≡ L.name }
     requires parts { blank.parts ≡ L.parts }
     requires some { 0 < L.parts }
@@ -199,7 +189,7 @@ fn run_alone<K: Meant, B: BoxSource, T: Terrain, L: Ledger, M: Ledger>(
     requires from { is_free (T.grid t.now) ends.from ≡ true }
     requires to { is_free (T.grid t.now) ends.to ≡ true }
     ensures run { IfOk result (IsRunBy (T.grid t.now) K.boxes ends.from ends.to) }
-    ensures least { IfOk result (IsLeast (T.grid t.now) ends.from ends.to) }
+    ensures least { IfOk result (λ r. IsLeastOrNone (T.grid t.now) ends.from ends.to r.walk) }
     ensures passes { IfOk result (λ r. passes.new ≤ passes.old + length r.taken) }
 {
     let cells = t.height() as usize * t.width() as usize;
@@ -215,7 +205,7 @@ fn run_kept<K: Meant, T: Terrain, M: Ledger>(
     b: &Boxes,
     ends: Ends,
     blank: Blank,
-) -> Result<Boxed, NoMemory>
+) -> Result<Found, NoMemory>
     requires name { blank.name ≡ M.name }
     requires parts { blank.parts ≡ M.parts }
     requires some { 0 < M.parts }
@@ -224,7 +214,7 @@ fn run_kept<K: Meant, T: Terrain, M: Ledger>(
     requires from { is_free (T.grid t.now) ends.from ≡ true }
     requires to { is_free (T.grid t.now) ends.to ≡ true }
     ensures run { IfOk result (IsRunBy (T.grid t.now) K.boxes ends.from ends.to) }
-    ensures least { IfOk result (IsLeast (T.grid t.now) ends.from ends.to) }
+    ensures least { IfOk result (λ r. IsLeastOrNone (T.grid t.now) ends.from ends.to r.walk) }
 {
     let mut passes = Steps::<M>::new(blank);
     let mut source = Kept { boxes: b };
@@ -232,7 +222,7 @@ fn run_kept<K: Meant, T: Terrain, M: Ledger>(
 }
 
 /// The boxed run from one free cell to another: the states that it takes, in order, and a least walk, `None`
-/// exactly where no walk exists. A taken state offers the legal moves whose boxes hold the goal. Among equal
+/// exactly where no walk exists. Its points are its ends and its turns. A taken state offers the legal moves whose boxes hold the goal. Among equal
 /// sums of cost and octile distance the state of the lesser cell number goes first, and of equal offers to a
 /// cell the earlier one stands.
 ///
@@ -243,13 +233,13 @@ pub fn boxed_search<T: Terrain>(
     b: &Boxes,
     from: Cell,
     to: Cell,
-) -> Result<Boxed, NoMemory>
+) -> Result<Found, NoMemory>
     requires boxes { HoldsBoxes (T.grid t.now) b.now }
     requires from { is_free (T.grid t.now) from ≡ true }
     requires to { is_free (T.grid t.now) to ≡ true }
     ensures run { IfOk result (IsBoxedRun (T.grid t.now) b.now from to) }
     ensures on_grid { IfOk result (IsBoxedRunOn (T.grid t.now) from to) }
-    ensures least { IfOk result (IsLeast (T.grid t.now) from to) }
+    ensures least { IfOk result (λ r. IsLeastOrNone (T.grid t.now) from to r.walk) }
 {
     let ends = Ends { from, to };
     run_kept::<Brand, T, Brand>(alloc, t, b, ends, Blank::new(1))
@@ -266,11 +256,11 @@ pub fn boxed_query<T: Terrain, L: Ledger>(
     from: Cell,
     to: Cell,
     passes: &mut Steps<L>,
-) -> Result<Boxed, NoMemory>
+) -> Result<Found, NoMemory>
     requires from { is_free (T.grid t.now) from ≡ true }
     requires to { is_free (T.grid t.now) to ≡ true }
     ensures run { IfOk result (IsBoxedRunOn (T.grid t.now) from to) }
-    ensures least { IfOk result (IsLeast (T.grid t.now) from to) }
+    ensures least { IfOk result (λ r. IsLeastOrNone (T.grid t.now) from to r.walk) }
     ensures passes { IfOk result (λ r. passes.new ≤ passes.old + length r.taken) }
 {
     let mut waves = CostWaves::new(alloc, t.width(), t.height())?;

@@ -12,11 +12,10 @@ mod boxed;
 mod boxes;
 mod offers;
 mod source;
-mod turns;
 
 pub use area::Area;
 pub use around::{CellBoxes, boxes_by, boxes_of, boxes_told};
-pub use best_first::Taken;
-pub use boxed::{Boxed, boxed_query, boxed_search};
+pub use best_first::{Found, Taken};
+pub use boxed::{boxed_query, boxed_search};
 pub use boxes::Boxes;
 pub use std::alloc::AllocError as NoMemory;

@@ -3,13 +3,12 @@
 ghost use Rattle.std.specs.Prelude.{◌≡◌, ℕ, ◌+◌, ◌<◌, ◌≤◌, ◌&&◌, ◌||◌, Bool, false, true, is_some, nat_eq};
 ghost use Rattle.grid_moves.specs.Grid.{GridData};
 ghost use Rattle.grid_moves.specs.Move as moves;
-ghost use Rattle.grid_moves.specs.Move.{ahead, is_same};
+ghost use Rattle.grid_moves.specs.Move.{is_same};
 ghost use Rattle.pruning.specs.Turns.{is_diagonal};
 ghost use Rattle.pruning.specs.Allowed.{can_move};
 ghost use Rattle.pruning.specs.Marked.{is_forced};
 ghost use Rattle.bit_grid.specs.Bits.{is_free_from_one};
 ghost use Rattle.pruning.specs.First as first;
-ghost use Rattle.jump_plain.specs.Beside.{known};
 ghost use Rattle.jump_block.specs.Source as spec;
 ghost use Rattle.jump_block.specs.Near.{AreNearStart};
 ghost use Rattle.jump_block.specs.Source.{OnSome, OnEach};
@@ -19,6 +18,7 @@ use crate::patch::{Patch, bit_of};
 use crate::straight::Bits;
 use crate::word::{Way, Words};
 use grid_moves::{Cell, Corner, Dir, is_passable};
+use jump_plain::beside::beyond;
 use pruning::{Side, turn};
 use std::sync::ledger::Ledger;
 use steps::Steps;
@@ -66,28 +66,6 @@ fn column_dir(way: Way) -> Dir
     match way {
         Way::Forward => Dir::S,
         Way::Back => Dir::N,
-    }
-}
-
-/// The cell that lies ahead. Before the first column or row it has the column or row 65535, at which no
-/// cell is free.
-#[inline(always)]
-fn beyond(c: Cell, d: Dir) -> Cell
-    requires column { c.x < 4096 }
-    requires row { c.y < 4096 }
-    ensures { known result ≡ ahead d c }
-{
-    let (left, right) = (c.x.wrapping_sub(1), c.x + 1);
-    let (up, down) = (c.y.wrapping_sub(1), c.y + 1);
-    match d {
-        Dir::N => Cell { x: c.x, y: up },
-        Dir::NE => Cell { x: right, y: up },
-        Dir::E => Cell { x: right, y: c.y },
-        Dir::SE => Cell { x: right, y: down },
-        Dir::S => Cell { x: c.x, y: down },
-        Dir::SW => Cell { x: left, y: down },
-        Dir::W => Cell { x: left, y: c.y },
-        Dir::NW => Cell { x: left, y: up },
     }
 }
 

@@ -1,19 +1,31 @@
 -- The certificate of a query on a grid is one text.
-use Rattle.std.proofs.Common.{◌≡◌, ℕ, ap, sym, ◌∙◌, subst, List}
+use Rattle.std.proofs.Common.{◌≡◌, ℕ, ap, sym, ◌∙◌, subst, true, false, List, []}
+use Rattle.std.specs.Prelude.{Option, Some, None, is_some}
 use Rattle.std.specs.List.{Contains}
 use Rattle.root2_cost.specs.declared.Cost.{Cost}
+use Rattle.root2_cost.specs.Sums.{no_cost}
 use Rattle.grid_moves.specs.declared.Cell.{Cell}
 use Rattle.grid_moves.specs.Grid.{GridData, cell_number}
+use Rattle.path_points.specs.declared.points.Walk.{Walk}
+use Rattle.best_first.specs.declared.found.Found.{Found}
 use Rattle.plain_search.specs.Lists.{AreClosed, AreLists, AreReached, plain_of}
 use Rattle.plain_search.specs.declared.lists.Listed.{Listed}
 use Rattle.plain_search.specs.declared.lists.Listed.TheVariants as listed
-use Rattle.plain_search.specs.declared.search.Plain.TheVariants.{Found}
-use Rattle.plain_search.proofs.Oneness.{one_answer}
+use Rattle.plain_search.proofs.Answering.{one_answer}
 use Rattle.potential_check.specs.declared.certificate.Claim.{Claim}
 use Rattle.potential_check.specs.declared.certificate.Claim.TheVariants as claim
 use Rattle.potential_make.specs.Certified.{IsCertificate}
 use Rattle.potential_make.specs.Written.{certificate_text, claim_of}
 use Rattle.outcome_laws.proofs.Ascending.{one_list}
+
+-- the points and the cost of a walk, if one is told
+abbrev points_in : Option Walk → List Cell
+points_in (Some w) = w.points
+points_in None = []
+
+abbrev cost_in : Option Walk → Cost
+cost_in (Some w) = w.cost
+cost_in None = no_cost
 
 module _ (g : GridData) (s t : Cell) where
   to_closed : (c : Cost) (closed shut : List (Cell × Cost)) → AreClosed g s t c closed → AreClosed g s t c shut
@@ -41,21 +53,17 @@ module _ (g : GridData) (s t : Cell) where
   same_claim : (one other : Listed) → plain_of one ≡ plain_of other → AreLists g s t one → AreLists g s t other
       → claim_of one ≡ claim_of other
   same_claim (listed.Found points cost closed taken) (listed.Found others paid shut numbers) e are also =
-      let same_points : points ≡ others = points_of e in
-      let same_cost : cost ≡ paid = cost_of e in
+      let same_points : points ≡ others = ap (λ (f : Found). points_in f.walk) e in
+      let same_cost : cost ≡ paid = ap (λ (f : Found). cost_in f.walk) e in
       let lists : closed ≡ shut = same_closed paid closed shut
       (subst (λ (c : Cost). AreClosed g s t c closed) same_cost are) also in
       ap (λ (p : List Cell). let k : Claim = claim.Least cost p closed in k) same_points
       ∙ ap (λ (c : Cost). let k : Claim = claim.Least c others closed in k) same_cost
       ∙ ap (λ (l : List (Cell × Cost)). let k : Claim = claim.Least paid others l in k) lists
-    where
-      points_of : Found points cost taken ≡ Found others paid numbers → points ≡ others
-      points_of e = cc
-
-      cost_of : Found points cost taken ≡ Found others paid numbers → cost ≡ paid
-      cost_of e = cc
-  same_claim (listed.Found points cost closed taken) (listed.None reached numbers) e are also = absurd (cc)
-  same_claim (listed.None reached taken) (listed.Found points cost closed numbers) e are also = absurd (cc)
+  same_claim (listed.Found points cost closed taken) (listed.None reached numbers) e are also =
+      absurd (let b : true ≡ false = ap (λ (f : Found). is_some f.walk) e in cc)
+  same_claim (listed.None reached taken) (listed.Found points cost closed numbers) e are also =
+      absurd (let b : false ≡ true = ap (λ (f : Found). is_some f.walk) e in cc)
   same_claim (listed.None reached taken) (listed.None met numbers) e are also =
       ap (λ (l : List Cell). let k : Claim = claim.NoWalk l in k) (same_reached reached met are also)
 

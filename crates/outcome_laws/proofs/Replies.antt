@@ -7,6 +7,8 @@ use Rattle.grid_moves.specs.declared.Cell.{Cell}
 use Rattle.grid_moves.specs.Grid.{GridData, is_free}
 use Rattle.grid_moves.specs.Layers.{AreLayers, Layers, query_grid}
 use Rattle.grid_moves.specs.Reply.{IsRight}
+use Rattle.path_points.specs.declared.points.Walk as points
+use Rattle.best_first.specs.declared.found.Found.{Found}
 use Rattle.edit_replay.specs.Kept.{is_plain}
 use Rattle.edit_replay.specs.Replies.{answer_of, IsRunOn}
 use Rattle.edit_replay.specs.Session.{SessionData}
@@ -14,7 +16,6 @@ use Rattle.edit_replay.specs.declared.engine.Engine.{Engine}
 use Rattle.edit_replay.specs.declared.reply.Reply.{Reply}
 use Rattle.edit_replay.specs.declared.reply.Reply.TheVariants.{Walk, None}
 use Rattle.edit_replay.proofs.Oneness.{one_run_reply}
-use Rattle.goal_boxes.specs.declared.boxed.Boxed.{Boxed}
 use Rattle.goal_boxes.specs.Answer.{IsBoxedRunOn}
 use Rattle.answerers.specs.Who.{By, Who, by_session, by_boxes, by_moves, IsBoxedReply, IsLedReply, IsReplyBy, IsReplyOn}
 use Rattle.outcome_laws.specs.Costs.{gist_of}
@@ -30,12 +31,12 @@ same_walk ps qs c d ms ns e f h =
     ap (λ (p : List Cell). Walk p c ms) e ∙ ap (λ (b : Cost). Walk qs b ms) f ∙ ap (λ (n : List ℕ). Walk qs d n) h
 
 -- the reply of a boxed answer
-of_boxed : Option (List Cell × Cost) → List ℕ → Reply
-of_boxed (option.Some way) taken = Walk way.0 way.1 taken
+of_boxed : Option points.Walk → List ℕ → Reply
+of_boxed (option.Some w) taken = Walk w.points w.cost taken
 of_boxed option.None taken = None taken
 
-of_answer : Boxed → Reply
-of_answer r = of_boxed r.answer r.taken
+of_answer : Found → Reply
+of_answer r = of_boxed r.walk r.taken
 
 module _ (g : GridData) (s t : Cell) where
   -- by goal boxes
@@ -43,16 +44,17 @@ module _ (g : GridData) (s t : Cell) where
       → one ≡ other
   unfolding of_answer of_boxed
   boxed_is_one one other (walks ps qs c d ms ns _) is also =
-      ap of_answer (one_boxed g s t (record { answer = option.Some (ps, c); taken = ms })
-      (record { answer = option.Some (qs, d); taken = ns }) is also)
+      ap of_answer (one_boxed g s t
+      (record { walk = option.Some (record { points = ps; cost = c }); taken = ms })
+      (record { walk = option.Some (record { points = qs; cost = d }); taken = ns }) is also)
   boxed_is_one one other (nones ms ns) is also =
       ap (λ (taken : List ℕ). None taken) (by_test (is_free g s && is_free g t) is also)
     where
       by_test : (b : Bool)
-          → MatchBool b (IsBoxedRunOn g s t (record { answer = option.None; taken = ms })) (ms ≡ [])
-          → MatchBool b (IsBoxedRunOn g s t (record { answer = option.None; taken = ns })) (ns ≡ []) → ms ≡ ns
-      by_test true is also = ap (λ (r : Boxed). r.taken)
-          (one_boxed g s t (record { answer = option.None; taken = ms }) (record { answer = option.None; taken = ns })
+          → MatchBool b (IsBoxedRunOn g s t (record { walk = option.None; taken = ms })) (ms ≡ [])
+          → MatchBool b (IsBoxedRunOn g s t (record { walk = option.None; taken = ns })) (ns ≡ []) → ms ≡ ns
+      by_test true is also = ap (λ (r : Found). r.taken)
+          (one_boxed g s t (record { walk = option.None; taken = ms }) (record { walk = option.None; taken = ns })
           is also)
       by_test false is also = is ∙ sym also
   boxed_is_one one other outsides is also = refl

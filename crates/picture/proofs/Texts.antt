@@ -1,10 +1,7 @@
 -- Texts written one after the other.
-use Rattle.std.proofs.Common.{◌≡◌, ap, sym, ◌∙◌, refl, List, [], ◌∷◌, ◌++◌, append_assoc, ℕ, suc, ◌+◌, ◌<◌, take, length, arith, get_or, Result, Ok, Err}
+use Rattle.std.proofs.Common.{◌≡◌, ap, sym, ◌∙◌, refl, List, [], ◌∷◌, ◌++◌, append_assoc, ℕ, Result, Ok, Err}
 use Rattle.std.specs.Prelude.{OnOk}
-use Rattle.std.proofs.Math.Seq.{take-suc}
-use Rattle.std.proofs.lemmas.List.{append-nil}
 use Rattle.map_text.specs.Writing.{text_of}
-use Rattle.picture.specs.Picture.{texts_of}
 
 -- two texts more
 pub then : (old mid new x y : List ℕ) → mid ≡ old ++ x → new ≡ mid ++ y → new ≡ old ++ (x ++ y)
@@ -35,23 +32,6 @@ pub lines_then_ok : {T E : Type 0} (answer : Result T E) (lines more : List (Lis
     → OnOk answer (new ≡ old ++ text_of (lines ++ more))
 lines_then_ok (Ok done) lines more old mid new first second = lines_then lines more old mid new first second
 lines_then_ok (Err fault) lines more old mid new first second = tt
-
-module _ {X : Type 0} (text : X → List ℕ) where
-  texts-added : (xs : List X) (x : X) → texts_of text (xs ++ x ∷ []) ≡ texts_of text xs ++ text x
-  texts-added [] x = append-nil (text x)
-  texts-added (y ∷ xs) x = ap (λ (t : List ℕ). text y ++ t) (texts-added xs x)
-      ∙ sym (append_assoc (text y) (texts_of text xs) (text x))
-
-  -- one element more was written behind what stood there
-  pub texts-next : (xs : List X) (i : ℕ) (d : X) (before so_far now : List ℕ) → i < length xs
-      → so_far ≡ before ++ texts_of text (take i xs) → now ≡ so_far ++ text (get_or xs i d)
-      → now ≡ before ++ texts_of text (take (i + 1) xs)
-  texts-next xs i d before so_far now h s w =
-      w ∙ ap (λ (t : List ℕ). t ++ text (get_or xs i d)) s
-      ∙ append_assoc before (texts_of text (take i xs)) (text (get_or xs i d))
-      ∙ ap (λ (t : List ℕ). before ++ t) (sym (texts-added (take i xs) (get_or xs i d))
-      ∙ ap (λ (l : List X). texts_of text l) (sym (take-suc xs i d h))
-      ∙ ap (λ n. texts_of text (take n xs)) (let e : suc i ≡ i + 1 = omega arith in e))
 
 -- the end of a line was written behind its beginning
 pub line_done : {T E : Type 0} (answer : Result T E) (old mid new line end : List ℕ) → mid ≡ old ++ line

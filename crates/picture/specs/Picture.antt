@@ -2,6 +2,8 @@
 use Rattle.std.specs.Prelude.{ℕ, ◌+◌, ◌/◌, ◌%◌, max, List, [], ◌∷◌, ◌++◌, codes, decimal, Option, Some, None}
 use Rattle.root2_cost.specs.declared.Cost.{Cost}
 use Rattle.grid_moves.specs.declared.Cell.{Cell}
+use Rattle.cell_lines.specs.Cells as cells
+pub use Rattle.cell_lines.specs.Cells.{texts_of}
 use Rattle.map_text.specs.Map.{Map}
 use Rattle.map_text.specs.Writing.{rows_of, text_of}
 use Rattle.picture.specs.declared.kinds.Ground.{Ground}
@@ -19,23 +21,14 @@ pub record Walk : Type 0 where
 abbrev pub plain_walk : answer.Walk → Walk
 plain_walk walk = record { points = walk.points.now; cost = walk.cost }
 
--- the texts of all elements, one after the other
-abbrev pub texts_of : {X : Type 0} → (X → List ℕ) → List X → List ℕ
-texts_of text [] = []
-texts_of text (x ∷ xs) = text x ++ texts_of text xs
-
 -- `x,y`
 abbrev pub point_text : Cell → List ℕ
 point_text c = decimal c.x ++ codes "," ++ decimal c.y
 
--- ` x,y`
-abbrev pub next_point : Cell → List ℕ
-next_point c = codes " " ++ point_text c
-
 -- the points, parted by one space
 abbrev pub points_text : List Cell → List ℕ
 points_text [] = []
-points_text (first ∷ points) = point_text first ++ texts_of next_point points
+points_text (first ∷ points) = point_text first ++ texts_of cells.point_text points
 
 -- `Mx yhn`: a stroke over a run of cells of the row whose number is written so
 abbrev pub stroke_over : List ℕ → Run → List ℕ

@@ -19,24 +19,6 @@ pub(crate) fn put_point(out: &mut Vec<u8>, c: Cell) -> Result<(), NoMemory>
     put_number(out, u64::from(c.y))
 }
 
-/// Appends a point behind another one.
-fn put_next_point(out: &mut Vec<u8>, c: Cell) -> Result<(), NoMemory>
-    ensures { OnOk result (out.new.items ≡ out.old.items ++ spec.next_point c) }
-{
-    put(out, b" ")?;
-    put_point(out, c)
-}
-
-/// Appends points behind another one.
-fn put_next_points(out: &mut Vec<u8>, points: &[Cell]) -> Result<(), NoMemory>
-    ensures { OnOk result (out.new.items ≡ out.old.items ++ spec.texts_of spec.next_point points.now) }
-{
-    for c in points {
-        put_next_point(out, *c)?;
-    }
-    Ok(())
-}
-
 /// Appends the points, parted by one space.
 fn put_points(out: &mut Vec<u8>, points: &[Cell]) -> Result<(), NoMemory>
     ensures { OnOk result (out.new.items ≡ out.old.items ++ spec.points_text points.now) }
@@ -45,7 +27,7 @@ fn put_points(out: &mut Vec<u8>, points: &[Cell]) -> Result<(), NoMemory>
         [] => Ok(()),
         [first, others @ ..] => {
             put_point(out, *first)?;
-            put_next_points(out, others)
+            cell_lines::put_points(out, others)
         }
     }
 }

@@ -7,7 +7,7 @@ use Rattle.std.specs.List.{Contains}
 use Rattle.root2_cost.specs.declared.Cost.{Cost}
 use Rattle.root2_cost.specs.Laws.{HasShortParts}
 use Rattle.root2_cost.specs.Order.{is_less, IsLess, IsAtMost}
-use Rattle.root2_cost.specs.Rank.{rank_of}
+use Rattle.root2_cost.specs.Rank.{cost_of_rank, rank_of}
 use Rattle.root2_cost.specs.Sums.{add_costs}
 use Rattle.root2_cost.proofs.AtMost.{IsAtMost-not_more}
 use Rattle.root2_cost.proofs.Less.{IsLess-total}
@@ -31,7 +31,7 @@ use Rattle.best_first.specs.Table.{Table, lookup}
 use Rattle.best_first.specs.Trace.{node_cell, rank_left}
 use Rattle.best_first.proofs.Lookup.{lookup-found}
 use Rattle.plain_search.specs.Lists.{AreClosed, IsLeastCost, IsBelow}
-use Rattle.plain_search.specs.Listing.{cost_of_rank, ArePriced, IsSortedFrom, entry_below, entries_below, place_number}
+use Rattle.plain_search.specs.Listing.{ArePriced, IsSortedFrom, entry_below, entries_below, place_number}
 use Rattle.plain_search.specs.Progress.{HasTaken, IsAtGoal}
 use Rattle.plain_search.specs.Room.{IsNear}
 use Rattle.plain_search.specs.Rule.{plain_rule, plain_links}
@@ -40,14 +40,14 @@ use Rattle.plain_search.proofs.Entries.{made_contained, contained_made}
 use Rattle.plain_search.proofs.Posed.{run_free}
 use Rattle.plain_search.proofs.Pricing.{nodes_priced, node_cost}
 use Rattle.plain_search.proofs.Right.{way}
-use Rattle.plain_search.proofs.Walks.{plain_consistent, walk_chain}
+use Rattle.plain_search.proofs.Walks.{plain_are_moves, plain_consistent, walk_chain}
 
 -- a taken state's cell has the cost at which it was taken as its least
 pub taken_least : (g : GridData) (s t : Cell) (run : List (Taken State)) → is_free g s ≡ true
     → IsRun (plain_rule g t) (start_at s) run → (u : Taken State) → IsIn u run → u.state ≡ start_at u.state.cell
     → IsLeastCost g s u.state.cell u.cost
 taken_least g s t run free is u m plain =
-    let w = way g t s run free is u m in
+    let w = way g t (plain_links g) (plain_are_moves g) s run free is u m in
     record {
       cells = w.cells;
       least = record {

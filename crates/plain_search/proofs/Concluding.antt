@@ -17,28 +17,19 @@ use Rattle.best_first.specs.State.{start_at, state_number, state_told}
 use Rattle.best_first.specs.Table.{Table, IsFirstNode, NoneOpen, begun, closed_at}
 use Rattle.best_first.specs.Trace.{node_cell, HasBack, IsWayTo}
 use Rattle.best_first.specs.Ways.{IsAmong, with_all}
+use Rattle.best_first.proofs.Answering.{found_back}
 use Rattle.best_first.proofs.Mirrors.{some_node}
 use Rattle.best_first.proofs.Offering.{same_best}
-use Rattle.best_first.proofs.Progress.{has_begun, next_taken, taken_fits, has_back, way_is, last_led}
+use Rattle.best_first.proofs.Progress.{has_begun, next_taken, taken_fits, has_back, last_led}
 use Rattle.best_first.proofs.Taking.{none_open}
 use Rattle.best_first.proofs.Ways.{offers_after}
-use Rattle.plain_search.specs.Answer.{IsPlainRun, IsLeast}
-use Rattle.plain_search.specs.Found.{IsFound}
+use Rattle.plain_search.specs.Answer.{IsFound}
 use Rattle.plain_search.specs.Offers.{IsAround, less_offered, sides_of, ways_over, MayExpand, HasExpanded}
 use Rattle.plain_search.specs.Progress.{HasTaken, HasStopped}
 use Rattle.plain_search.specs.Room.{IsNear, IsReady}
 use Rattle.plain_search.specs.Rule.{plain_rule, plain_links, is_led}
 use Rattle.plain_search.proofs.Offering.{may_expand, all_over, are_links, enough}
-use Rattle.plain_search.specs.declared.search.Plain.{Plain}
-use Rattle.plain_search.specs.declared.search.Plain.TheVariants as found
 use Rattle.plain_search.proofs.Posed.{fit, run_free}
-use Rattle.plain_search.proofs.Right.{found_least, exhausted_none}
-
--- a run's answer is least
-pub run_least : (g : GridData) (s t : Cell) (p : Plain) → is_free g s ≡ true → IsPlainRun g s t p
-    → IsLeast g s t p
-run_least g s t (found.Found points cost taken) free r = found_least g s t points cost taken free r
-run_least g s t (found.None taken) free r = exhausted_none g t s taken r
 
 module _ (g : GridData) (s t : Cell) (whole : IsGrid g) (from : is_free g s ≡ true) (to : IsNear g t) where
   -- at the start
@@ -154,17 +145,5 @@ module _ (g : GridData) (s t : Cell) (whole : IsGrid g) (from : is_free g s ≡ 
     pub is_found : (points way : List Cell) (cost : Cost)
         → ((n : Node) → slice_get k.nodes at ≡ Some n → node_cell n ≡ t) → IsWayTo t k.nodes at way cost
         → points ≡ corners way → IsFound g s t points cost taken
-    is_found points way cost goal w p =
-        let is = way_is ByCell g.width g.height s t (plain_links g) (fit g s t whole from to) at k taken h way cost w in
-        let at_goal : h.last.state ≡ start_at t = sym h.searching.state
-        ∙ ap (λ (u : Cell). start_at u) (goal h.searching.node h.searching.node_is) in
-        record {
-          earlier = h.earlier;
-          last = h.last;
-          run = h.searching.run;
-          at_goal = at_goal;
-          priced = is.1;
-          joined = p ∙ ap corners (is.0 ∙ ap (λ (u : State).
-              map (λ (v : State). v.cell) (way_to (plain_rule g t) (h.last ∷ h.earlier) u)) at_goal);
-          numbered = h.numbered;
-        }
+    is_found points way cost goal w p = found_back ByCell g.width g.height s t (plain_links g)
+        (fit g s t whole from to) corners at k taken h goal points way cost w p

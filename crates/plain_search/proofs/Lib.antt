@@ -7,12 +7,10 @@ pub mod Dropping
 pub mod Posed
 pub mod Offering
 pub mod Concluding
-pub mod Answering
-pub mod Decoding
 pub mod Entries
 pub mod Ascending
 pub mod Pricing
 pub mod Closing
 pub mod ToAll
 pub mod Reaching
-pub mod Oneness
+pub mod Answering

@@ -1,4 +1,4 @@
--- A plain search is posed on its grid, and takes few moves.
+-- A search over legal moves is posed on its grid, and takes few moves.
 use Rattle.std.proofs.Common.{◌≡◌, ◌+◌, ◌*◌, ◌≤◌, length, List, [], ◌∷◌, refl, ap, ◌∙◌, true, false, Bool, arith, mul-le-mul, ◌||◌}
 use Rattle.std.specs.Prelude.{nat_eq, if◌then◌else◌}
 use Rattle.root2_cost.specs.declared.Cost.{Cost}
@@ -6,16 +6,16 @@ use Rattle.grid_moves.specs.declared.Cell.{Cell}
 use Rattle.grid_moves.specs.Grid.{GridData, IsGrid, is_free}
 use Rattle.grid_moves.specs.Move.{move_cost}
 use Rattle.grid_moves.proofs.Legal.{free_inside, legal_is}
-use Rattle.search_run.specs.Run.{Taken, IsIn, here, there, IsRun}
+use Rattle.search_run.specs.Run.{Rule, Taken, IsIn, here, there, IsRun}
 use Rattle.search_run.proofs.Leastness.{least_offer-from}
 use Rattle.best_first.specs.declared.state.State.{State}
 use Rattle.best_first.specs.State.{start_at}
-use Rattle.best_first.specs.Rule.{IsPosed, IsSearch}
+use Rattle.best_first.specs.Rule.{IsPosed, IsSearch, Links, search_rule}
 use Rattle.best_first.proofs.Bounds.{few_taken}
 use Rattle.best_first.proofs.Links.{on_near}
 use Rattle.plain_search.specs.Room.{IsNear}
 use Rattle.plain_search.specs.Rule.{plain_rule, plain_links}
-use Rattle.plain_search.proofs.Walks.{link_move, plain_are_links}
+use Rattle.plain_search.proofs.Walks.{AreMoves, plain_are_moves}
 
 -- sides of at most 4096 have at most 2^24 cells
 pub cells_fit : (g : GridData) → IsGrid g → g.height * g.width ≤ 16777216
@@ -25,40 +25,44 @@ cells_fit g i = let a = i.sides.narrow in let b = i.sides.low in mul-le-mul b a
 pub free_near : (g : GridData) (c : Cell) → is_free g c ≡ true → IsNear g c
 free_near g c f = on_near g.width g.height c (free_inside g c f)
 
-module _ (g : GridData) (s t : Cell) (whole : IsGrid g) (from : is_free g s ≡ true) (to : IsNear g t) where
-  pub posed : IsPosed g.width g.height s t (plain_links g)
-  posed = record {
+module _ (g : GridData) (s t : Cell) (link : Links) (are : AreMoves g link) (whole : IsGrid g)
+    (from : is_free g s ≡ true) (to : IsNear g t) where
+  abbrev rule : Rule State
+  rule = search_rule g.width t link
+
+  posed_by : IsPosed g.width g.height s t link
+  posed_by = record {
     narrow = whole.sides.narrow;
     low = whole.sides.low;
     start_on = free_inside g s from;
     goal_near = to;
-    links = plain_are_links g;
+    links = are.links;
   }
 
   -- each taken state is that of a free cell's start
-  pub run_free : (run : List (Taken State)) → IsRun (plain_rule g t) (start_at s) run → (u : Taken State)
+  pub run_free_by : (run : List (Taken State)) → IsRun rule (start_at s) run → (u : Taken State)
       → IsIn u run → (is_free g u.state.cell ≡ true) × (u.state ≡ start_at u.state.cell)
-  run_free [] is u m = absurd is
-  run_free (x ∷ []) is u (here z) = rw is (from, refl)
-  run_free (x ∷ []) is u (there z e m) = elim m [ ]
-  run_free (x ∷ y ∷ earlier) is u (here z) =
-      let f = least_offer-from (plain_rule g t) (y ∷ earlier) x.state
+  run_free_by [] is u m = absurd is
+  run_free_by (x ∷ []) is u (here z) = rw is (from, refl)
+  run_free_by (x ∷ []) is u (there z e m) = elim m [ ]
+  run_free_by (x ∷ y ∷ earlier) is u (here z) =
+      let f = least_offer-from rule (y ∷ earlier) x.state
       (record { cost = x.cost; from = x.parent }) is.2.offered in
-      let m = link_move g f.by.state x.state f.offered.step f.offered.linked in
+      let m = are.moves f.by.state x.state f.offered.step f.offered.linked in
       ((legal_is g f.by.state.cell x.state.cell m.legal).target, m.plain)
-  run_free (x ∷ y ∷ earlier) is u (there z e m) = run_free (y ∷ earlier) is.0 u m
+  run_free_by (x ∷ y ∷ earlier) is u (there z e m) = run_free_by (y ∷ earlier) is.0 u m
 
   -- a move more for each state taken, at most
-  pub moves_within : (run : List (Taken State)) → IsRun (plain_rule g t) (start_at s) run → (u : Taken State)
+  moves_within : (run : List (Taken State)) → IsRun rule (start_at s) run → (u : Taken State)
       → IsIn u run → u.cost.a + u.cost.b ≤ length run
   moves_within [] is u m = absurd is
   moves_within (x ∷ []) is u (here z) = rw is (omega arith)
   moves_within (x ∷ []) is u (there z e m) = elim m [ ]
   moves_within (x ∷ y ∷ earlier) is u (here z) =
-      let f = least_offer-from (plain_rule g t) (y ∷ earlier) x.state
+      let f = least_offer-from rule (y ∷ earlier) x.state
       (record { cost = x.cost; from = x.parent }) is.2.offered in
       let before = moves_within (y ∷ earlier) is.0 f.by f.member in
-      let step = (link_move g f.by.state x.state f.offered.step f.offered.linked).cost in
+      let step = (are.moves f.by.state x.state f.offered.step f.offered.linked).cost in
       let a : x.cost.a ≡ f.by.cost.a + (move_cost f.by.state.cell x.state.cell).a
       = ap (λ (c : Cost). c.a) f.offered.total ∙ ap (λ (c : Cost). f.by.cost.a + c.a) step in
       let b : x.cost.b ≡ f.by.cost.b + (move_cost f.by.state.cell x.state.cell).b
@@ -76,12 +80,24 @@ module _ (g : GridData) (s t : Cell) (whole : IsGrid g) (from : is_free g s ≡ 
   moves_within (x ∷ y ∷ earlier) is u (there z e m) =
       let before = moves_within (y ∷ earlier) is.0 u m in omega arith
 
-  pub fit : IsSearch g.width g.height s t (plain_links g)
-  fit = record {
-    posed = posed;
+  pub fit_by : IsSearch g.width g.height s t link
+  fit_by = record {
+    posed = posed_by;
     few = λ run u is m.
         let n = moves_within run is u m in
-        let k = few_taken g.width g.height s t (plain_links g) posed run is in
+        let k = few_taken g.width g.height s t link posed_by run is in
         let c = cells_fit g whole in
         omega arith;
   }
+
+module _ (g : GridData) (s t : Cell) (whole : IsGrid g) (from : is_free g s ≡ true) (to : IsNear g t) where
+  -- the plain search
+  pub fit : IsSearch g.width g.height s t (plain_links g)
+  fit = fit_by g s t (plain_links g) (plain_are_moves g) whole from to
+
+  pub posed : IsPosed g.width g.height s t (plain_links g)
+  posed = fit.posed
+
+  pub run_free : (run : List (Taken State)) → IsRun (plain_rule g t) (start_at s) run → (u : Taken State)
+      → IsIn u run → (is_free g u.state.cell ≡ true) × (u.state ≡ start_at u.state.cell)
+  run_free = run_free_by g s t (plain_links g) (plain_are_moves g) whole from to

@@ -1,10 +1,11 @@
 -- The costs of the nodes of a table that keeps a run.
-use Rattle.std.proofs.Common.{◌≡◌, ℕ, ◌+◌, ◌-◌, List, ap, ◌∙◌, arith}
+use Rattle.std.proofs.Common.{◌≡◌, ℕ, ◌+◌, ◌-◌, ◌<◌, ◌^◌, List, ap, ◌∙◌, arith}
 use Rattle.std.specs.Prelude.{Some, slice_get}
 use Rattle.root2_cost.specs.declared.Cost.{Cost}
 use Rattle.root2_cost.specs.Laws.{HasShortParts}
-use Rattle.root2_cost.specs.Rank.{rank_of}
+use Rattle.root2_cost.specs.Rank.{cost_of_rank, rank_of}
 use Rattle.root2_cost.specs.Sums.{add_costs}
+use Rattle.root2_cost.proofs.Decoding.{cost-rank}
 use Rattle.grid_moves.specs.declared.Cell.{Cell}
 use Rattle.grid_moves.specs.Grid.{GridData}
 use Rattle.grid_moves.specs.Points.{estimate}
@@ -16,9 +17,8 @@ use Rattle.best_first.specs.Mirror.{Offers, Mirrors}
 use Rattle.best_first.specs.Table.{Table}
 use Rattle.best_first.specs.Trace.{node_cell, rank_left}
 use Rattle.best_first.proofs.Offering.{rank-add_costs}
-use Rattle.plain_search.specs.Listing.{cost_of_rank, ArePriced}
+use Rattle.plain_search.specs.Listing.{ArePriced, IsPriced}
 use Rattle.plain_search.specs.Rule.{plain_links}
-use Rattle.plain_search.proofs.Decoding.{cost-rank}
 
 -- the rank that is left is that of the cost
 pub priced_left : (goal : Cell) (n : Node) (cost : Cost) → HasShortParts cost
@@ -29,6 +29,14 @@ priced_left goal n cost short e =
   where
     left : (k a b : ℕ) → k ≡ a + b → k - b ≡ a
     left k a b h = omega arith
+
+-- it fits
+pub fits_left : (goal : Cell) (n : Node) → IsPriced goal n → (cost_of_rank (rank_left goal n)).a < 2 ^ 32
+fits_left goal n p =
+    let is : (cost_of_rank (rank_left goal n)).a ≡ p.cost.a =
+    ap (λ (c : Cost). c.a) (priced_left goal n p.cost p.short p.key) in
+    let short = p.short.straight in
+    omega arith
 
 short_cost : (p q : Cost) → HasShortParts (add_costs p q) → HasShortParts p
 short_cost p q h = let a = h.straight in let b = h.diagonal in

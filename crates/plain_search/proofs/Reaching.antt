@@ -17,7 +17,7 @@ use Rattle.best_first.specs.declared.state.State.{State}
 use Rattle.best_first.specs.Progress.{numbers_of}
 use Rattle.best_first.specs.State.{start_at, state_number}
 use Rattle.best_first.proofs.Bounds.{state_below, apart_run}
-use Rattle.plain_search.specs.Found.{IsExhausted}
+use Rattle.plain_search.specs.Answer.{IsExhausted}
 use Rattle.plain_search.specs.Lists.{AreReached}
 use Rattle.plain_search.specs.Listing.{AreOn, IsSortedFrom, cell_of, place_number}
 use Rattle.plain_search.specs.Room.{IsNear}
@@ -26,7 +26,7 @@ use Rattle.plain_search.proofs.Ascending.{ascending, distinct_made, filter_map-s
 use Rattle.plain_search.proofs.Entries.{made_contained, contained_made}
 use Rattle.plain_search.proofs.Posed.{posed, run_free}
 use Rattle.plain_search.proofs.Right.{way}
-use Rattle.plain_search.proofs.Walks.{plain_consistent, walk_chain}
+use Rattle.plain_search.proofs.Walks.{plain_are_moves, plain_consistent, walk_chain}
 
 -- a state's printed number tells its cell
 told_cell : (width : ℕ) (c : Cell) → c.x < width → cell_of width (state_number width (start_at c)) ≡ c
@@ -163,7 +163,7 @@ module _ (g : GridData) (s t : Cell) (whole : IsGrid g) (from : is_free g s ≡ 
     are_reached = record {
       only = λ c m.
           let u = source c m in
-          let w = way g t s x.run from x.is_run u.0 u.1 in
+          let w = way g t (plain_links g) (plain_are_moves g) s x.run from x.is_run u.0 u.1 in
           record { cells = w.cells; walk = record { legal = w.goes.legal; ends = w.goes.ends ∙ u.2 } };
       all = λ c cells w.
           let chain = walk_chain g t s cells w.legal in

@@ -15,7 +15,7 @@ use Rattle.grid_moves.proofs.Legal.{IsLegal, and_both, legal_is, is_same-cell, f
 use Rattle.search_run.specs.Chain.{Chain, stays, goes_on, IsConsistent}
 use Rattle.best_first.specs.declared.state.State.{State}
 use Rattle.best_first.specs.State.{start_at}
-use Rattle.best_first.specs.Rule.{AreLinks}
+use Rattle.best_first.specs.Rule.{AreLinks, Links}
 use Rattle.best_first.proofs.Links.{consistent}
 use Rattle.plain_search.specs.Rule.{plain_rule, plain_links, move_link}
 
@@ -131,6 +131,14 @@ plain_are_links g = record {
   starts = λ c. refl;
   priced = λ u v c e. (let m = link_move g u v c e in m.cost ∙ move_cost-estimate g u.cell v.cell m.legal);
 }
+
+-- links that are legal moves
+pub record AreMoves (g : GridData) (link : Links) : Type 0 where
+  pub links : AreLinks g.width g.height link
+  pub moves : (u v : State) (c : Cost) → link.step u v ≡ Some c → IsMove g u v c
+
+pub plain_are_moves : (g : GridData) → AreMoves g (plain_links g)
+plain_are_moves g = record { links = plain_are_links g; moves = link_move g }
 
 -- the octile estimate is fit for the plain rule
 pub plain_consistent : (g : GridData) (t : Cell) → IsConsistent (plain_rule g t)

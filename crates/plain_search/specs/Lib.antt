@@ -1,11 +1,8 @@
 pub mod Rule
-pub mod Found
 pub mod Answer
 pub mod Room
 pub mod Offers
 pub mod Progress
-pub mod Existence
 pub mod Lists
 pub mod Costs
 pub mod Listing
-pub mod Laws

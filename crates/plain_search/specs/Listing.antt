@@ -1,40 +1,14 @@
 -- How the lists of a search are made. No public clause cites this module.
-use Rattle.std.specs.Prelude.{◌≡◌, ℕ, ◌+◌, ◌-◌, ◌*◌, ◌/◌, ◌%◌, ◌<◌, nat_lt, if◌then◌else◌, List, Option, Some, None, slice_get, refl}
+use Rattle.std.specs.Prelude.{◌≡◌, ℕ, ◌+◌, ◌*◌, ◌/◌, ◌%◌, ◌<◌, nat_lt, if◌then◌else◌, List, Option, Some, None, slice_get}
 use Rattle.std.specs.List.{filter_map}
 use Rattle.std.specs.List.Sorted.{IsPermutation, IsNonDecreasingBy}
 use Rattle.root2_cost.specs.declared.Cost.{Cost}
 use Rattle.root2_cost.specs.Laws.{HasShortParts}
-use Rattle.root2_cost.specs.Rank.{rank_of, straight_rank, diagonal_rank}
+use Rattle.root2_cost.specs.Rank.{cost_of_rank, rank_of}
 use Rattle.grid_moves.specs.declared.Cell.{Cell}
 use Rattle.grid_moves.specs.Points.{estimate}
 use Rattle.best_first.specs.declared.node.Node.{Node}
 use Rattle.best_first.specs.Trace.{node_cell, rank_left}
-
--- what a diagonal move counts more than a straight one
-abbrev pub rank_step : ℕ
-rank_step = 1311738121
-
--- how many diagonal moves a cost of this rank has
-abbrev pub diagonals_of : ℕ → ℕ
-diagonals_of rank = rank % straight_rank * rank_step % straight_rank
-
--- the cost of this rank
-unfoldable pub cost_of_rank : ℕ → Cost
-cost_of_rank rank = record {
-  a = (rank - diagonals_of rank * diagonal_rank) / straight_rank;
-  b = diagonals_of rank;
-}
-
--- 5 straight moves and 2 diagonal ones
-pub told_again : cost_of_rank (rank_of (record { a = 5; b = 2 })) ≡ record { a = 5; b = 2 }
-unfolding cost_of_rank
-told_again = refl
-
--- some cost of few moves has the rank
-pub record HasRank (rank : ℕ) : Type 0 where
-  pub cost : Cost
-  pub short : HasShortParts cost
-  pub ranked : rank_of cost ≡ rank
 
 -- the key of the node is the rank of a cost of few moves and of the estimate
 pub record IsPriced (goal : Cell) (n : Node) : Type 0 where

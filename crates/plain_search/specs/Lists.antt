@@ -1,5 +1,5 @@
 -- The lists of a plain search: what it takes to see that its answer is right.
-use Rattle.std.specs.Prelude.{◌≡◌, List, ◌∷◌, map}
+use Rattle.std.specs.Prelude.{◌≡◌, List, ◌∷◌, Some, None, map}
 use Rattle.std.specs.List.{Contains}
 use Rattle.std.specs.List.Sorted.{IsStrictlyIncreasing}
 use Rattle.root2_cost.specs.declared.Cost.{Cost}
@@ -9,10 +9,9 @@ use Rattle.grid_moves.specs.declared.Cell.{Cell}
 use Rattle.grid_moves.specs.Grid.{GridData, cell_number}
 use Rattle.grid_moves.specs.Points.{estimate}
 use Rattle.grid_moves.specs.Walk.{IsWalk, IsLeastWalk, cost_of}
+use Rattle.best_first.specs.declared.found.Found.{Found}
 use Rattle.plain_search.specs.declared.lists.Listed.{Listed}
 use Rattle.plain_search.specs.declared.lists.Listed.TheVariants as listed
-use Rattle.plain_search.specs.declared.search.Plain.{Plain}
-use Rattle.plain_search.specs.declared.search.Plain.TheVariants.{Found, None}
 
 -- what a least walk from s to c costs
 pub record IsLeastCost (g : GridData) (s c : Cell) (cost : Cost) : Type 0 where
@@ -45,9 +44,10 @@ pub record AreReached (g : GridData) (s : Cell) (reached : List Cell) : Type 0 w
   pub ascend : IsStrictlyIncreasing (map (λ c. cell_number g.width c) reached)
 
 -- the answer without its lists
-abbrev pub plain_of : Listed → Plain
-plain_of (listed.Found points cost closed taken) = Found points cost taken
-plain_of (listed.None reached taken) = None taken
+abbrev pub plain_of : Listed → Found
+plain_of (listed.Found points cost closed taken) =
+    record { walk = Some (record { points = points; cost = cost }); taken = taken }
+plain_of (listed.None reached taken) = record { walk = None; taken = taken }
 
 -- the lists of an answer are right
 abbrev pub AreLists : GridData → Cell → Cell → Listed → Type 0

@@ -9,7 +9,7 @@ use Rattle.best_first.specs.Progress as search
 use Rattle.best_first.specs.Table.{Table, NoneOpen}
 use Rattle.best_first.specs.Trace.{node_cell}
 use Rattle.best_first.specs.declared.node.Node.{Node}
-use Rattle.plain_search.specs.Found.{IsExhausted}
+use Rattle.plain_search.specs.Answer.{IsExhausted}
 use Rattle.plain_search.specs.Rule.{plain_rule, plain_links}
 
 -- the search from s for t has taken states of these numbers, the last one with the node of this number

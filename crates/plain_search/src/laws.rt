@@ -1,16 +1,16 @@
 //! Laws of the plain search: each is the contract of a call that does nothing.
 
-ghost use Rattle.plain_search.specs.Existence.{AnswersExist};
-ghost use Rattle.plain_search.specs.Laws.{RunsAreOne};
+ghost use Rattle.best_first.specs.Answer.{AnswersExist, RunsAreOne};
+ghost use Rattle.plain_search.specs.Answer.{IsPlainRun};
 
 /// From each free cell to each cell of a map there is an answer that is right and that of the plain
 /// engine's run: its run from there ends.
 pub fn answers_exist()
-    ensures { AnswersExist }
+    ensures { AnswersExist IsPlainRun }
 {}
 
 /// The plain engine's run from one cell to another is one: two answers that are its run have the same
 /// points, the same cost and the same taken states.
 pub fn runs_are_one()
-    ensures { RunsAreOne }
+    ensures { RunsAreOne IsPlainRun }
 {}

@@ -7,12 +7,11 @@ mod moves;
 mod offers;
 mod search;
 mod to_all;
-mod turns;
 mod workspace;
 
-pub use best_first::Taken;
+pub use best_first::{Found, Taken};
 pub use lists::Listed;
-pub use search::{Plain, least, least_in};
+pub use search::{least, least_in};
 pub use std::alloc::AllocError as NoMemory;
 pub use to_all::least_to_all;
 pub use workspace::Workspace;

@@ -2,13 +2,13 @@
 //!
 //! After a search whose goal was taken, the nodes of a key below the goal's are those of the cells
 //! whose least cost and estimate are together below the least cost: each of them was taken. A node
-//! has the rank of its cost alone; as the rank counts q for a straight move and p for a diagonal
-//! one, and p² is 1 more than a multiple of q, p times the rank leaves the diagonal moves modulo q.
+//! has the rank of its cost alone, and the rank tells the cost.
 
 ghost use Rattle.std.specs.Prelude.{◌≡◌, ◌<◌, ◌≤◌, ◌*◌, IfOk, length, map};
+ghost use Rattle.root2_cost.specs.Rank.{cost_of_rank};
 ghost use Rattle.best_first.specs.Trace.{rank_left};
 ghost use Rattle.plain_search.specs.Listing as spec;
-ghost use Rattle.plain_search.specs.Listing.{ArePriced, HasRank, IsPriced, IsSortedFrom, AreOn, place_number, entries_below, cell_of};
+ghost use Rattle.plain_search.specs.Listing.{ArePriced, IsPriced, IsSortedFrom, AreOn, place_number, entries_below, cell_of};
 
 use crate::{NoMemory, Taken};
 use best_first::{Node, Space};
@@ -37,33 +37,12 @@ pub enum Listed {
     },
 }
 
-/// What one straight move counts in a rank.
-const STRAIGHT_RANK: u64 = 3_166_815_962;
-
-/// What one diagonal move counts.
-const DIAGONAL_RANK: u64 = 4_478_554_083;
-
-// The cost of fewer than 2^31 moves of each kind that has this rank.
-#[tactic(auto, unfolding(crate::specs::Listing::cost_of_rank))]
-fn cost_of_rank(rank: u64) -> Cost
-    requires { HasRank rank }
-    ensures { result ≡ spec.cost_of_rank rank }
-{
-    let step = DIAGONAL_RANK - STRAIGHT_RANK;
-    let diagonal = rank % STRAIGHT_RANK * step % STRAIGHT_RANK;
-    let straight = (rank - diagonal * DIAGONAL_RANK) / STRAIGHT_RANK;
-    Cost {
-        a: straight as u32,
-        b: diagonal as u32,
-    }
-}
-
 // The cost of a node.
 fn cost_of_node(goal: Cell, node: Node) -> Cost
     requires { IsPriced goal node }
-    ensures { result ≡ spec.cost_of_rank (rank_left goal node) }
+    ensures { result ≡ cost_of_rank (rank_left goal node) }
 {
-    cost_of_rank(node.cost_rank(goal))
+    Cost::of_rank(node.cost_rank(goal))
 }
 
 // The cell and the cost of a node, if its key is below this.
@@ -118,28 +97,6 @@ fn sort_cells(cells: &mut Vec<Cell>)
     cells.sort_unstable_by_key(|c| place_number(*c));
 }
 
-// The list of these entries.
-fn costs_of(alloc: Global, entries: &[(Cell, Cost)]) -> Result<Costs, NoMemory>
-    ensures { IfOk result (λ costs. costs ≡ entries.now) }
-{
-    let mut costs = Costs::new(alloc);
-    for entry in entries {
-        costs.push(*entry)?;
-    }
-    Ok(costs)
-}
-
-// The list of these cells.
-fn cells_of(alloc: Global, list: &[Cell]) -> Result<Cells, NoMemory>
-    ensures { IfOk result (λ cells. cells ≡ list.now) }
-{
-    let mut cells = Cells::new(alloc);
-    for cell in list {
-        cells.push(*cell)?;
-    }
-    Ok(cells)
-}
-
 /// The cells of the nodes whose keys are below this, in order, with their costs.
 pub(crate) fn closed_cells(
     alloc: Global,
@@ -152,7 +109,7 @@ pub(crate) fn closed_cells(
 {
     let mut entries = entries_below(alloc, space, goal, limit)?;
     sort_entries(&mut entries);
-    costs_of(alloc, entries.as_slice())
+    Ok(Costs::of(entries))
 }
 
 // The cell of a state's printed number.
@@ -179,5 +136,5 @@ pub(crate) fn reached_cells(alloc: Global, width: u16, states: &[u32]) -> Result
         cells.push(cell_of(width, *state))?;
     }
     sort_cells(&mut cells);
-    cells_of(alloc, cells.as_slice())
+    Ok(Cells::of(cells))
 }

@@ -12,41 +12,24 @@
 ghost use Rattle.std.specs.Prelude.{◌≡◌, ◌+◌, ◌*◌, ◌<◌, ◌++◌, ◌∷◌, [], true, false, length, IfOk, OnOk, OnErr, IfSome, slice_get, Some};
 ghost use Rattle.grid_moves.specs.Grid.{IsGrid, is_free};
 ghost use Rattle.grid_moves.specs.Move.{is_same};
-ghost use Rattle.plain_search.specs.Answer.{IsPlainRun, IsLeast};
+ghost use Rattle.path_points.specs.Least.{IsLeastOrNone};
+ghost use Rattle.plain_search.specs.Answer.{IsExhausted, IsPlainRun};
 ghost use Rattle.best_first.specs.State.{state_number, start_at};
 ghost use Rattle.best_first.specs.Trace.{node_cell};
-ghost use Rattle.plain_search.specs.Found.{IsExhausted};
 ghost use Rattle.plain_search.specs.Lists.{AreLists, plain_of};
 ghost use Rattle.plain_search.specs.Progress.{HasTaken, GoesOn, HasEnded};
 ghost use Rattle.plain_search.specs.Room.{HasRoom, IsNear, IsReady};
 
 use crate::lists::{Listed, closed_cells, reached_cells};
 use crate::offers::offer_all;
-use crate::turns::turns;
 use crate::{NoMemory, Taken, Workspace};
-use best_first::{Layout, Space, State};
+use best_first::{Found, Layout, Space, State};
 use grid_moves::{Cell, Terrain};
-use path_points::Points;
-use root2_cost::Cost;
+use path_points::{Walk, turns};
 use std::alloc::Global;
 use std::marker::Brand;
 use std::sync::ledger::{Blank, Ledger};
 use steps::Steps;
-
-/// What a plain search found.
-#[derive(Drop)]
-pub enum Plain {
-    /// A least walk: its points, its cost, and the states that the search took.
-    Found {
-        points: Points,
-        cost: Cost,
-        taken: Taken,
-    },
-    /// No walk exists; the states that the search took.
-    None {
-        taken: Taken,
-    },
-}
 
 /// The ends of a search. The goal may lie just beyond the map: then it is never met, and the search
 /// takes every state to which moves lead.
@@ -126,31 +109,34 @@ fn found<T: Terrain>(
     space: &Space,
     at: u32,
     taken: Taken,
-) -> Result<Plain, NoMemory>
+) -> Result<Found, NoMemory>
     requires whole { IsGrid (T.grid t.now) }
     requires from { is_free (T.grid t.now) ends.from ≡ true }
     requires to { IsNear (T.grid t.now) ends.to }
     requires taken { HasTaken (T.grid t.now) ends.from ends.to at space.now.table taken }
     requires goal { (n : _) → slice_get space.now.table.nodes at ≡ Some n → node_cell n ≡ ends.to }
     ensures run { IfOk result (IsPlainRun (T.grid t.now) ends.from ends.to) }
-    ensures least { IfOk result (IsLeast (T.grid t.now) ends.from ends.to) }
+    ensures least { IfOk result (λ found. IsLeastOrNone (T.grid t.now) ends.from ends.to found.walk) }
 {
     let way = space.way_to(alloc, ends.to, at)?;
     let points = turns(alloc, way.points.as_slice())?;
-    Ok(Plain::Found {
+    let walk = Walk {
         points,
         cost: way.cost,
+    };
+    Ok(Found {
+        walk: Some(walk),
         taken,
     })
 }
 
 // The answer where the goal was not taken.
-fn exhausted<T: Terrain>(_t: &T, ends: Ends, taken: Taken) -> Plain
+fn exhausted<T: Terrain>(_t: &T, ends: Ends, taken: Taken) -> Found
     requires taken { IsExhausted (T.grid _t.now) ends.from ends.to taken }
     ensures run { IsPlainRun (T.grid _t.now) ends.from ends.to result }
-    ensures least { IsLeast (T.grid _t.now) ends.from ends.to result }
+    ensures least { IsLeastOrNone (T.grid _t.now) ends.from ends.to result.walk }
 {
-    Plain::None { taken }
+    Found { walk: None, taken }
 }
 
 // Takes states until the goal is taken, and gives the number of its node, or until none waits.
@@ -218,12 +204,12 @@ pub fn least_in<T: Terrain>(
     from: Cell,
     to: Cell,
     space: &mut Workspace,
-) -> Result<Plain, NoMemory>
+) -> Result<Found, NoMemory>
     requires from { is_free (T.grid t.now) from ≡ true }
     requires to { is_free (T.grid t.now) to ≡ true }
     requires room { HasRoom (T.grid t.now) space.old }
     ensures run { IfOk result (IsPlainRun (T.grid t.now) from to) }
-    ensures least { IfOk result (IsLeast (T.grid t.now) from to) }
+    ensures least { IfOk result (λ found. IsLeastOrNone (T.grid t.now) from to found.walk) }
     ensures room { HasRoom (T.grid t.now) space.new }
 {
     let ends = Ends { from, to };
@@ -250,7 +236,7 @@ fn found_listed<T: Terrain>(
     requires taken { HasTaken (T.grid t.now) ends.from ends.to at space.now.table taken }
     requires goal { (n : _) → slice_get space.now.table.nodes at ≡ Some n → node_cell n ≡ ends.to }
     ensures run { IfOk result (λ found. IsPlainRun (T.grid t.now) ends.from ends.to (plain_of found)) }
-    ensures least { IfOk result (λ found. IsLeast (T.grid t.now) ends.from ends.to (plain_of found)) }
+    ensures least { IfOk result (λ found. IsLeastOrNone (T.grid t.now) ends.from ends.to (plain_of found).walk) }
     ensures lists { IfOk result (AreLists (T.grid t.now) ends.from ends.to) }
 {
     let way = space.way_to(alloc, ends.to, at)?;
@@ -277,7 +263,7 @@ fn none_listed<T: Terrain>(
     requires to { IsNear (T.grid t.now) ends.to }
     requires taken { IsExhausted (T.grid t.now) ends.from ends.to taken }
     ensures run { IfOk result (λ found. IsPlainRun (T.grid t.now) ends.from ends.to (plain_of found)) }
-    ensures least { IfOk result (λ found. IsLeast (T.grid t.now) ends.from ends.to (plain_of found)) }
+    ensures least { IfOk result (λ found. IsLeastOrNone (T.grid t.now) ends.from ends.to (plain_of found).walk) }
     ensures lists { IfOk result (AreLists (T.grid t.now) ends.from ends.to) }
 {
     let reached = reached_cells(alloc, t.width(), taken.as_slice())?;
@@ -292,7 +278,7 @@ pub fn least<T: Terrain>(alloc: Global, t: &T, from: Cell, to: Cell) -> Result<L
     requires from { is_free (T.grid t.now) from ≡ true }
     requires to { is_free (T.grid t.now) to ≡ true }
     ensures run { IfOk result (λ found. IsPlainRun (T.grid t.now) from to (plain_of found)) }
-    ensures least { IfOk result (λ found. IsLeast (T.grid t.now) from to (plain_of found)) }
+    ensures least { IfOk result (λ found. IsLeastOrNone (T.grid t.now) from to (plain_of found).walk) }
     ensures lists { IfOk result (AreLists (T.grid t.now) from to) }
 {
     let ends = Ends { from, to };

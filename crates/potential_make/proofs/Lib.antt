@@ -1,4 +1,3 @@
-pub mod Texts
 pub mod Few
 pub mod Potentials
 pub mod Digits

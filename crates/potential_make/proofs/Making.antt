@@ -26,8 +26,8 @@ use Rattle.grid_moves.proofs.Short.{least_steps}
 use Rattle.path_points.specs.Corners.{corners, goes_straight, turns_after}
 use Rattle.best_first.specs.State.{start_at}
 use Rattle.search_run.proofs.Leastness.{estimate_along}
-use Rattle.plain_search.specs.Answer.{IsPlainRun, IsLeast}
-use Rattle.plain_search.specs.Found.{IsFound}
+use Rattle.path_points.specs.Least.{IsLeastOrNone}
+use Rattle.plain_search.specs.Answer.{IsFound, IsPlainRun}
 use Rattle.plain_search.specs.Lists.{AreClosed, AreLists, AreReached, IsLeastCost, plain_of}
 use Rattle.plain_search.specs.Rule.{plain_rule}
 use Rattle.plain_search.specs.declared.lists.Listed.{Listed}
@@ -211,13 +211,13 @@ module _ (g : GridData) (s t : Cell) (whole : IsGrid g) (from : is_free g s ≡ 
         lists.ascend
 
     points_are : points ≡ s ∷ turns_after s
-        (way_is_least g t s run.last run.earlier from run.run run.at_goal).cells
-    points_are = run.joined ∙ ap corners
-        (way_is_least g t s run.last run.earlier from run.run run.at_goal).is_way
+        (way_is_least g s t run.last run.earlier from run.run run.at_goal).cells
+    points_are = run.along ∙ ap corners
+        (way_is_least g s t run.last run.earlier from run.run run.at_goal).is_way
 
     points_short : list_all is_short points ≡ true
     points_short =
-        let w = way_is_least g t s run.last run.earlier from run.run run.at_goal in
+        let w = way_is_least g s t run.last run.earlier from run.run run.at_goal in
         let all = walk_short g whole (s ∷ w.cells) w.least.walk.legal in
         let parts = and_parts (is_short s) (list_all is_short w.cells) all in
         rw points_are (and_from (is_short s) (list_all is_short (turns_after s w.cells)) parts.0
@@ -243,7 +243,7 @@ module _ (g : GridData) (s t : Cell) (whole : IsGrid g) (from : is_free g s ≡ 
     fits_least = record {
       cost_small = few_small g whole cost few;
       first = s;
-      more = turns_after s (way_is_least g t s run.last run.earlier from run.run run.at_goal).cells;
+      more = turns_after s (way_is_least g s t run.last run.earlier from run.run run.at_goal).cells;
       points_are = points_are;
       points_short = points_short;
       values_short = all_contained (λ (e : Cell × Cost). is_short e.0) closed
@@ -376,7 +376,7 @@ module _ (g : GridData) (s t : Cell) (whole : IsGrid g) (from : is_free g s ≡ 
   sides_small : (g.width < 10 ^ 9) × (g.height < 10 ^ 9)
   sides_small = let a = whole.sides.narrow in let b = whole.sides.low in (omega arith, omega arith)
 
-  found_fits : (found : Listed) → IsPlainRun g s t (plain_of found) → IsLeast g s t (plain_of found)
+  found_fits : (found : Listed) → IsPlainRun g s t (plain_of found) → IsLeastOrNone g s t (plain_of found).walk
       → AreLists g s t found → Fits g.width g.height (claim_of found)
   found_fits (Found points cost closed taken) run least lists =
       fits_least points cost taken closed run least lists
@@ -385,9 +385,9 @@ module _ (g : GridData) (s t : Cell) (whole : IsGrid g) (from : is_free g s ≡ 
   few_points : (found : Listed) → IsPlainRun g s t (plain_of found) → HasFewPoints (claim_of found)
   few_points (None reached taken) run = tt
   few_points (Found points cost closed taken) run =
-      let w = way_is_least g t s run.last run.earlier from run.run run.at_goal in
+      let w = way_is_least g s t run.last run.earlier from run.run run.at_goal in
       let are : length points ≡ suc (length (turns_after s w.cells)) =
-      ap length (run.joined ∙ ap corners w.is_way) in
+      ap length (run.along ∙ ap corners w.is_way) in
       let turns = turns_few s w.cells in
       let few = least_steps g s t w.cells w.least in
       let most = cells_few in
@@ -395,7 +395,7 @@ module _ (g : GridData) (s t : Cell) (whole : IsGrid g) (from : is_free g s ≡ 
 
   -- the text of what was found
   module _ (found : Listed) (text : List ℕ) (run : IsPlainRun g s t (plain_of found))
-      (least : IsLeast g s t (plain_of found)) (lists : AreLists g s t found)
+      (least : IsLeastOrNone g s t (plain_of found).walk) (lists : AreLists g s t found)
       (written : text ≡ certificate_text g.width g.height s t (claim_of found)) where
     spelled_text : Spells text (stated g s t (claim_of found))
     spelled_text = rw written (text_spells g.width g.height s t (claim_of found) sides_small.0 sides_small.1
@@ -408,14 +408,14 @@ module _ (g : GridData) (s t : Cell) (whole : IsGrid g) (from : is_free g s ≡ 
         (free_short g whole s from) (free_short g whole t to) (found_fits found run least lists)
         (few_points found run))
 
-  accepted_claim : (found : Listed) → IsPlainRun g s t (plain_of found) → IsLeast g s t (plain_of found)
+  accepted_claim : (found : Listed) → IsPlainRun g s t (plain_of found) → IsLeastOrNone g s t (plain_of found).walk
       → AreLists g s t found → AcceptsClaim g s t (claim_of found) × HasItsPotential g s t (claim_of found)
   accepted_claim (Found points cost closed taken) run least lists =
       (accepts_least points cost taken closed run least lists, has_potential g s t cost closed lists)
   accepted_claim (None reached taken) run least lists = (accepts_none reached least lists, tt)
 
   pub accepted_text : (found : Listed) (text : List ℕ) → IsPlainRun g s t (plain_of found)
-      → IsLeast g s t (plain_of found) → AreLists g s t found
+      → IsLeastOrNone g s t (plain_of found).walk → AreLists g s t found
       → text ≡ certificate_text g.width g.height s t (claim_of found) → IsAcceptedText g s t text
   accepted_text found text run least lists e =
       let spelled = spelled_text found text run least lists e in

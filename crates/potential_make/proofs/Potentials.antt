@@ -1,7 +1,7 @@
 -- The potential of a least cost with its closed cells: what it is, and that no legal move raises it by more
 -- than its cost.
 use Rattle.std.proofs.Common.{◌≡◌, ℕ, zero, suc, ◌+◌, ◌<◌, ◌⊎◌, inl, inr, length, List, [], ◌∷◌, ◌++◌, refl, ap, ◌∙◌, subst, arith, Bool, true, false}
-use Rattle.std.specs.Prelude.{pos, ◌+ℤ◌, ◌-ℤ◌, ℤ, slice_index_or}
+use Rattle.std.specs.Prelude.{pos, ◌+ℤ◌, ◌-ℤ◌, ℤ, Option, Some, None, slice_index_or}
 use Rattle.std.specs.List.{Contains}
 use Rattle.std.proofs.lemmas.Int.{ints}
 use Rattle.root2_cost.specs.declared.Cost.{Cost}
@@ -17,12 +17,10 @@ use Rattle.grid_moves.specs.Move.{is_legal, is_same, move_cost}
 use Rattle.grid_moves.specs.Points.{estimate}
 use Rattle.grid_moves.specs.Walk.{NoWalk, cost_of}
 use Rattle.grid_moves.proofs.Legal.{is_same-cell, is_same-itself}
+use Rattle.path_points.specs.declared.points.Walk.{Walk}
+use Rattle.path_points.specs.Least.{IsLeastOrNone}
 use Rattle.best_first.specs.State.{start_at}
-use Rattle.plain_search.specs.Answer.{IsLeast}
-use Rattle.plain_search.specs.Existence.{HasAnswer}
 use Rattle.plain_search.specs.Lists.{AreClosed, IsBelow, IsLeastCost}
-use Rattle.plain_search.specs.declared.search.Plain.{Plain}
-use Rattle.plain_search.specs.declared.search.Plain.TheVariants as found
 use Rattle.plain_search.proofs.Answering.{has_answer}
 use Rattle.plain_search.proofs.Closing.{one_least}
 use Rattle.plain_search.proofs.Walks.{Goes, legal_link, one_more, plain_consistent}
@@ -128,21 +126,18 @@ module _ (g : GridData) (s t : Cell) (cost : Cost) (values : List (Cell × Cost)
 
     module _ (from : is_free g s ≡ true) where
       height_at : (c : Cell) → Height g s t cost values c
-      height_at c = by_answer answer.answer answer.least
+      height_at c = let a = has_answer g s c from in by_answer a.answer.walk a.least
         where
-          answer : HasAnswer g s c
-          answer = has_answer g s c from
-
           by_sum : (paid : Cost) → IsLeastCost g s c paid → (b : Bool)
               → is_less (add_costs paid (estimate c t)) cost ≡ b → Height g s t cost values c
           by_sum paid least true e = near paid least e (has_potential.near c paid least e ∙ signed_is paid)
           by_sum paid least false e = far paid least e (has_potential.far c paid least e)
 
-          by_answer : (p : Plain) → IsLeast g s c p → Height g s t cost values c
-          by_answer (found.Found points paid taken) is =
-              by_sum paid (record { cells = is.cells; least = is.least; priced = is.priced })
-              (is_less (add_costs paid (estimate c t)) cost) refl
-          by_answer (found.None taken) is = beyond is (has_potential.beyond c is)
+          by_answer : (o : Option Walk) → IsLeastOrNone g s c o → Height g s t cost values c
+          by_answer (Some w) is =
+              by_sum w.cost (record { cells = is.cells; least = is.least; priced = is.priced })
+              (is_less (add_costs w.cost (estimate c t)) cost) refl
+          by_answer None is = beyond is (has_potential.beyond c is)
 
       -- over a move the estimate falls by at most its cost
       falls : (u v : Cell) → is_legal g u v ≡ true

@@ -3,6 +3,7 @@ use Rattle.std.specs.Prelude.{◌≡◌, ℕ, List, [], ◌∷◌, ◌++◌, cod
 use Rattle.std.specs.Fmt.{digits}
 use Rattle.root2_cost.specs.declared.Cost.{Cost}
 use Rattle.grid_moves.specs.declared.Cell.{Cell}
+pub use Rattle.cell_lines.specs.Cells.{point_text, texts_of}
 use Rattle.plain_search.specs.declared.lists.Listed.{Listed}
 use Rattle.plain_search.specs.declared.lists.Listed.TheVariants.{Found, None}
 use Rattle.potential_check.specs.declared.certificate.Claim.{Claim}
@@ -12,11 +13,6 @@ use Rattle.potential_check.specs.declared.certificate.Claim.TheVariants.{Least, 
 abbrev pub pair_text : ℕ → ℕ → List ℕ
 pair_text m n = decimal m ++ codes " " ++ decimal n
 
--- the texts of all elements, one after the other
-abbrev pub texts_of : {X : Type 0} → (X → List ℕ) → List X → List ℕ
-texts_of text [] = []
-texts_of text (x ∷ xs) = text x ++ texts_of text xs
-
 -- the end of a line, and the line of start and goal
 abbrev pub ends_text : Cell → Cell → List ℕ
 ends_text s t = codes "\nends " ++ pair_text s.x s.y ++ codes " " ++ pair_text t.x t.y ++ codes "\n"
@@ -24,10 +20,6 @@ ends_text s t = codes "\nends " ++ pair_text s.x s.y ++ codes " " ++ pair_text t
 -- the lines of the version, the sides and the ends
 abbrev pub head_text : ℕ → ℕ → Cell → Cell → List ℕ
 head_text width height s t = codes "jps-cert 1\nsize " ++ pair_text width height ++ ends_text s t
-
--- ` X,Y`
-abbrev pub point_text : Cell → List ℕ
-point_text c = codes " " ++ decimal c.x ++ codes "," ++ decimal c.y
 
 -- the line of the cost, and that of the points
 abbrev pub least_text : Cost → List Cell → List ℕ

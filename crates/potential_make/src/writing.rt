@@ -6,6 +6,7 @@ ghost use Rattle.potential_make.specs.Certified.{IsCertificate, IsAcceptedText, 
 ghost use Rattle.potential_make.specs.Written as spec;
 
 use crate::NoMemory;
+use cell_lines::put_points;
 use grid_moves::{Cell, Grid, Terrain};
 use plain_search::{Listed, least};
 use root2_cost::Cost;
@@ -102,26 +103,6 @@ fn put_least(out: &mut Vec<u8>, cost: Cost, points: &[Cell]) -> Result<(), NoMem
     put(out, b"\npoints")?;
     put_points(out, points)?;
     put(out, b"\n")
-}
-
-// Appends a point, behind a space.
-fn put_point(out: &mut Vec<u8>, c: Cell) -> Result<(), NoMemory>
-    ensures { OnOk result (out.new.items ≡ out.old.items ++ spec.point_text c) }
-{
-    put(out, b" ")?;
-    put_number(out, u64::from(c.x))?;
-    put(out, b",")?;
-    put_number(out, u64::from(c.y))
-}
-
-// Appends the points.
-fn put_points(out: &mut Vec<u8>, points: &[Cell]) -> Result<(), NoMemory>
-    ensures { OnOk result (out.new.items ≡ out.old.items ++ spec.texts_of spec.point_text points.now) }
-{
-    for c in points {
-        put_point(out, *c)?;
-    }
-    Ok(())
 }
 
 // Appends the line of a value.

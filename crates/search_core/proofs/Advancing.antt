@@ -22,7 +22,7 @@ use Rattle.best_first.specs.Trace.{node_cell}
 use Rattle.search_core.specs.Counting.{most_for_state, IsCounted}
 use Rattle.search_core.specs.Jumps.{come_to, jump_links}
 use Rattle.search_core.specs.Jumping.{last_at, jumped, IsOffering, HasReached}
-use Rattle.search_core.specs.Run.{IsExhausted}
+use Rattle.search_core.specs.Answer.{IsExhausted}
 use Rattle.search_core.specs.Serving.{IsServed, OnSome, OnEach}
 use Rattle.search_core.specs.declared.jumping.Last.{Last}
 use Rattle.search_core.proofs.Counting.{within_then}

@@ -3,7 +3,7 @@ use Rattle.std.proofs.Common.{◌≡◌, ℕ, suc, ◌+◌, ◌*◌, ◌≤◌, 
 use Rattle.std.specs.Prelude.{Option, Some, None}
 use Rattle.pruning.specs.Source.{MostSteps, IsWithin}
 use Rattle.search_core.specs.Counting.{most_for_state, IsCounted, IsCountedSoFar, IsWithinTaken}
-use Rattle.search_core.specs.declared.found.Found.{Found}
+use Rattle.best_first.specs.declared.found.Found.{Found}
 
 -- nothing counted
 pub within_none : (m : Option MostSteps) (f : MostSteps → ℕ) (old : ℕ) → IsWithin m f old old

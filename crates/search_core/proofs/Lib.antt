@@ -9,4 +9,3 @@ pub mod Counting
 pub mod Arrivals
 pub mod Standing
 pub mod Advancing
-pub mod Oneness

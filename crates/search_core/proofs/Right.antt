@@ -1,6 +1,6 @@
 -- What the run of jumps answers is right: a least walk, or none exactly where no walk exists.
 use Rattle.std.proofs.Common.{◌≡◌, ℕ, refl, ap, sym, ◌∙◌, subst, true, List, [], ◌∷◌}
-use Rattle.std.specs.Prelude.{Option, Some, None, map, MatchOption}
+use Rattle.std.specs.Prelude.{Option, Some, None, map}
 use Rattle.root2_cost.specs.declared.Cost.{Cost}
 use Rattle.root2_cost.proofs.Most.{Most, Most-then, Most-same}
 use Rattle.grid_moves.specs.declared.Cell.{Cell}
@@ -18,12 +18,13 @@ use Rattle.pruning.proofs.Unfolding.{chains_are_walks}
 use Rattle.search_run.specs.Run.{here}
 use Rattle.search_run.specs.Chain.{Chain}
 use Rattle.search_run.proofs.Leastness.{run_is_least, run_finds_all}
+use Rattle.path_points.specs.declared.points.Walk.{Walk}
+use Rattle.path_points.specs.Least.{IsLeastOrNone}
+use Rattle.best_first.specs.declared.found.Found.{Found}
 use Rattle.best_first.specs.declared.state.State.{State}
 use Rattle.best_first.specs.State.{start_at}
 use Rattle.search_core.specs.Jumps.{jump_rule}
-use Rattle.search_core.specs.Run.{IsFound, IsExhausted}
-use Rattle.search_core.specs.Answer.{IsJumpRun, IsLeast}
-use Rattle.search_core.specs.declared.found.Found.{Found}
+use Rattle.search_core.specs.Answer.{IsFound, IsExhausted, IsJumpRun}
 use Rattle.search_core.proofs.Ways.{stop_of, state_at, jumps_consistent, chain_linked, way}
 
 module _ (g : GridData) (s t : Cell) where
@@ -105,11 +106,10 @@ module _ (g : GridData) (s t : Cell) where
       x.no_goal l.chain l.at_goal
 
   -- so the answer of the run is right
-  pub run_least : (f : Found) → is_free g s ≡ true → IsJumpRun g s t f → IsLeast g s t f
-  run_least f free run = by_answer f.answer run
+  pub run_least : (f : Found) → is_free g s ≡ true → IsJumpRun g s t f → IsLeastOrNone g s t f.walk
+  run_least f free run = by_walk f.walk run
     where
-      by_answer : (o : Option (List Cell × Cost))
-          → MatchOption o (IsExhausted g s t f.taken) (λ told. IsFound g s t told.0 told.1 f.taken)
-          → MatchOption o (NoWalk g s t) (λ told. StandsForLeast g s t told.0 told.1)
-      by_answer None run = exhausted_none f.taken run
-      by_answer (Some told) run = found_least told.0 told.1 f.taken free run
+      by_walk : (o : Option Walk) → IsJumpRun g s t (record { walk = o; taken = f.taken })
+          → IsLeastOrNone g s t o
+      by_walk None run = exhausted_none f.taken run
+      by_walk (Some w) run = found_least w.points w.cost f.taken free run

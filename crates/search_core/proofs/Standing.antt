@@ -1,5 +1,5 @@
 -- From the space of a search to what it answers, on a grid on which the query is served.
-use Rattle.std.proofs.Common.{◌≡◌, ℕ, ◌+◌, ◌-◌, ◌*◌, ◌<◌, ◌≤◌, ap, sym, ◌∙◌, subst, false, List, [], ◌∷◌, ◌++◌, length, arith, mul-le-mul}
+use Rattle.std.proofs.Common.{◌≡◌, ℕ, ◌+◌, ◌-◌, ◌*◌, ◌<◌, ◌≤◌, refl, ap, sym, ◌∙◌, subst, false, List, [], ◌∷◌, ◌++◌, length, arith, mul-le-mul}
 use Rattle.std.specs.Prelude.{Option, Some, None, slice_get}
 use Rattle.root2_cost.specs.declared.Cost.{Cost}
 use Rattle.root2_cost.specs.Rank.{rank_of}
@@ -20,11 +20,12 @@ use Rattle.best_first.specs.State.{state_number, state_told, start_at}
 use Rattle.best_first.specs.Table.{Table, begun, closed_at, IsFirstNode, NoneOpen}
 use Rattle.best_first.specs.Trace.{HasBack, IsWayTo, node_cell}
 use Rattle.best_first.specs.Ways.{with_all}
+use Rattle.best_first.proofs.Answering.{found_back}
 use Rattle.best_first.proofs.Offering.{rank-add_costs}
 use Rattle.best_first.proofs.Searching.{taken_key}
-use Rattle.best_first.proofs.Progress.{has_begun, next_taken, exhausted, taken_fits, has_back, way_is}
+use Rattle.best_first.proofs.Progress.{has_begun, next_taken, exhausted, taken_fits, has_back}
 use Rattle.search_core.specs.Jumps.{come_to, jump_links, jump_rule}
-use Rattle.search_core.specs.Run.{IsFound, IsExhausted}
+use Rattle.search_core.specs.Answer.{IsFound, IsExhausted}
 use Rattle.search_core.specs.Jumping.{IsSpaceOf, last_at, jumped, IsAt, IsOffering, HasReached}
 use Rattle.search_core.specs.Room.{HasPlaces}
 use Rattle.search_core.specs.Serving.{IsServed}
@@ -223,18 +224,8 @@ module _ (Stands : GridData → Type 0) (s t : Cell) (g : GridData) (served : Is
         → (points : List Cell) (cost : Cost) → IsWayTo t space.table.nodes at points cost
         → IsFound g s t points cost taken
     found_at at_goal points cost way =
-        let one = way_is ByArrival g.width g.height s t (jump_links g t)
-        (fit g s t h.of.whole served.from served.to) at space.table taken h.has points cost way in
-        record {
-          earlier = h.has.earlier;
-          last = h.has.last;
-          run = h.has.searching.run;
-          at_goal = ap (λ (u : State). u.cell) (sym h.has.searching.state)
-              ∙ at_goal h.has.searching.node h.has.searching.node_is;
-          priced = one.1;
-          along = one.0;
-          numbered = h.has.numbered;
-        }
+        found_back ByArrival g.width g.height s t (jump_links g t) (fit g s t h.of.whole served.from served.to)
+        (λ cells. cells) at space.table taken h.has at_goal points points cost way refl
 
     -- there are at most nine states for each of 2^24 cells
     pub few_taken : length taken ≤ 150994944

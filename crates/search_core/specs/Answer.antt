@@ -1,17 +1,21 @@
--- The answer of a search over jumps.
-use Rattle.std.specs.Prelude.{MatchOption}
+-- What a search over jumps answers: its run, and the cells of the states along the parents.
+use Rattle.std.specs.Prelude.{ℕ, List}
+use Rattle.root2_cost.specs.declared.Cost.{Cost}
 use Rattle.grid_moves.specs.declared.Cell.{Cell}
 use Rattle.grid_moves.specs.Grid.{GridData}
-use Rattle.grid_moves.specs.Reply.{StandsForLeast}
-use Rattle.grid_moves.specs.Walk.{NoWalk}
-use Rattle.search_core.specs.Run.{IsFound, IsExhausted}
-use Rattle.search_core.specs.declared.found.Found.{Found}
+use Rattle.best_first.specs.declared.found.Found.{Found}
+use Rattle.best_first.specs.Answer as answer
+use Rattle.best_first.specs.Progress as progress
+use Rattle.search_core.specs.Jumps.{jump_links}
+
+-- the run from s takes t last, at this cost; the points are the cells of the states along the parents
+abbrev pub IsFound : GridData → Cell → Cell → List Cell → Cost → List ℕ → Type 0
+IsFound g s t points cost taken = answer.IsFound g.width t (jump_links g t) (λ cells. cells) s points cost taken
+
+-- the run from s takes states of these numbers and ends where no state waits, with t not taken
+abbrev pub IsExhausted : GridData → Cell → Cell → List ℕ → Type 0
+IsExhausted g s t taken = progress.IsExhausted g.width t (jump_links g t) s taken
 
 -- the answer and the taken states are those of the jump engines' run from s to t
 abbrev pub IsJumpRun : GridData → Cell → Cell → Found → Type 0
-IsJumpRun g s t f =
-    MatchOption f.answer (IsExhausted g s t f.taken) (λ told. IsFound g s t told.0 told.1 f.taken)
-
--- the points stand for a least walk of this cost, or no walk exists
-abbrev pub IsLeast : GridData → Cell → Cell → Found → Type 0
-IsLeast g s t f = MatchOption f.answer (NoWalk g s t) (λ told. StandsForLeast g s t told.0 told.1)
+IsJumpRun g s t f = answer.IsAnswer g.width t (jump_links g t) (λ cells. cells) s f

@@ -1,7 +1,7 @@
 -- How many steps of its source a search counts.
 use Rattle.std.specs.Prelude.{◌≡◌, ℕ, suc, ◌+◌, ◌*◌, ◌≤◌, List, length, Option, MatchOption}
 use Rattle.pruning.specs.Source.{MostSteps, IsWithin}
-use Rattle.search_core.specs.declared.found.Found.{Found}
+use Rattle.best_first.specs.declared.found.Found.{Found}
 
 -- the most for one state: a call of `allowed`, and one of `stop` for each of eight directions
 abbrev pub most_for_state : MostSteps → ℕ
@@ -14,7 +14,7 @@ IsWithinTaken most f old new = IsWithin most (λ told. length f.taken * most_for
 -- the counter rose by at least so much for each state that was taken away from the goal: for all of them, or,
 -- where a walk was found, for all but the last
 abbrev pub RoseByTaken : ℕ → Found → ℕ → ℕ → Type 0
-RoseByTaken fewest f old new = MatchOption f.answer (old + length f.taken * fewest ≤ new)
+RoseByTaken fewest f old new = MatchOption f.walk (old + length f.taken * fewest ≤ new)
     (λ _. old + length f.taken * fewest ≤ new + fewest)
 
 -- the counter rose as a search that went on from n states makes it

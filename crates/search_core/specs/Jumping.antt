@@ -23,7 +23,7 @@ use Rattle.best_first.specs.Trace.{rank_left}
 use Rattle.search_core.specs.declared.jumping.Last.{Last}
 use Rattle.search_core.specs.Jumps.{jump_links}
 pub use Rattle.search_core.specs.Room.{HasPlaces}
-use Rattle.search_core.specs.Run.{IsExhausted}
+use Rattle.search_core.specs.Answer.{IsExhausted}
 
 -- the space holds the nodes of a search over jumps on this grid
 pub record IsSpaceOf (g : GridData) (space : SpaceData) : Type 0 where

@@ -1,7 +1,5 @@
 pub mod Jumps
-pub mod Run
 pub mod Answer
-pub mod Existence
 pub mod Laws
 pub mod Serving
 pub mod Room

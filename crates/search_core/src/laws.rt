@@ -1,12 +1,13 @@
 //! Laws of the search over jumps: each is the contract of a call that does nothing.
 
-ghost use Rattle.search_core.specs.Existence.{AnswersExist};
-ghost use Rattle.search_core.specs.Laws.{CostsFit, RunsAreOne, RunsAreRight};
+ghost use Rattle.best_first.specs.Answer.{AnswersExist, RunsAreOne};
+ghost use Rattle.search_core.specs.Answer.{IsJumpRun};
+ghost use Rattle.search_core.specs.Laws.{CostsFit, RunsAreRight};
 
 /// From each free cell to each cell of a map there is an answer that is right and that of the jump
 /// engines' run: its run from there ends.
 pub fn answers_exist()
-    ensures { AnswersExist }
+    ensures { AnswersExist IsJumpRun }
 {}
 
 /// What the run of the jump engines answers is right: a least walk, or none exactly where no walk
@@ -24,5 +25,5 @@ pub fn costs_fit()
 /// The jump engines' run from one cell to another is one: two answers that are their run have the same
 /// points, the same cost and the same taken states, whichever source found the jumps.
 pub fn runs_are_one()
-    ensures { RunsAreOne }
+    ensures { RunsAreOne IsJumpRun }
 {}

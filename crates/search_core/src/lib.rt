@@ -4,14 +4,13 @@
 //! where no corner is cut, SoCS 2012). A state is a cell and the direction in which it was come to; a
 //! state that was taken offers, in each allowed direction, the state of the first stop. Among equal
 //! sums of cost and octile estimate the state of the lesser number goes first, and of equal offers to
-//! one state the earlier one stands. Both ends have to be free.
+//! one state the earlier one stands. Both ends have to be free. The points of an answer are the cells at
+//! which the search stopped on the way; those on one line are not joined.
 #![tactic(auto)]
 
-mod found;
 mod jumping;
 pub mod laws;
 mod searching;
 
-pub use best_first::{NoMemory, Taken};
-pub use found::Found;
+pub use best_first::{Found, NoMemory, Taken};
 pub use searching::{search, search_in};

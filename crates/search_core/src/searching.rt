@@ -16,15 +16,16 @@ ghost use Rattle.pruning.specs.Source.{IsWithin};
 ghost use Rattle.best_first.specs.Space.{KeepsShape};
 ghost use Rattle.best_first.specs.State.{state_number, state_told};
 ghost use Rattle.best_first.specs.Trace.{node_cell};
-ghost use Rattle.search_core.specs.Answer.{IsJumpRun, IsLeast};
+ghost use Rattle.path_points.specs.Least.{IsLeastOrNone};
+ghost use Rattle.search_core.specs.Answer.{IsJumpRun};
 ghost use Rattle.search_core.specs.Counting.{IsCounted, IsCountedSoFar, IsWithinTaken, RoseByTaken};
 ghost use Rattle.search_core.specs.Jumping.{IsSpaceOf, HasReached, GoesOnFrom};
 ghost use Rattle.search_core.specs.Room.{HasPlaces};
 ghost use Rattle.search_core.specs.Serving.{OnSome, OnEach};
 
 use crate::jumping::{Ends, come_to, last_at, offer_jumps};
-use crate::{Found, NoMemory, Taken};
-use best_first::{Layout, Node, Space, State};
+use crate::{NoMemory, Taken};
+use best_first::{Found, Layout, Node, Space, State};
 use grid_moves::Cell;
 use pruning::JumpSource;
 use std::alloc::Global;
@@ -117,12 +118,12 @@ fn found<J: JumpSource>(
     requires goal { (n : _) → slice_get space.now.table.nodes at ≡ Some n → node_cell n ≡ ends.to }
     ensures run { IfOk result (λ f. OnEach (J.StandsFor j.now) ends.from ends.to
         (λ g. IsJumpRun g ends.from ends.to f)) }
-    ensures found { IfOk result (λ f. IsSome f.answer) }
+    ensures found { IfOk result (λ f. IsSome f.walk) }
     ensures taken { IfOk result (λ f. f.taken ≡ taken) }
 {
     let way = space.way_to(alloc, ends.to, at)?;
     Ok(Found {
-        answer: Some((way.points, way.cost)),
+        walk: Some(way),
         taken,
     })
 }
@@ -151,10 +152,7 @@ fn run<J: JumpSource, L: Ledger, M: Ledger>(
         match advance(j, ends, space, at, &mut taken, steps, own)? {
             Some(next) => at = next,
             None => {
-                return Ok(Found {
-                    answer: None,
-                    taken,
-                });
+                return Ok(Found { walk: None, taken });
             }
         }
     }
@@ -178,7 +176,7 @@ fn run_counted<J: JumpSource, L: Ledger, M: Ledger>(
     ensures run { IfOk result (λ f. OnEach (J.StandsFor j.now) ends.from ends.to
         (λ g. IsJumpRun g ends.from ends.to f)) }
     ensures least { IfOk result (λ f. OnEach (J.StandsFor j.now) ends.from ends.to
-        (λ g. IsLeast g ends.from ends.to f)) }
+        (λ g. IsLeastOrNone g ends.from ends.to f.walk)) }
     ensures most { IfOk result (λ f. IsWithinTaken (J.most j.now) f steps.old steps.new) }
     ensures fewest { IfOk result (λ f. RoseByTaken (J.fewest j.now) f steps.old steps.new) }
     ensures places { OnEach (J.StandsFor j.now) ends.from ends.to (λ g. HasPlaces g space.new) }
@@ -204,7 +202,7 @@ pub fn search_in<J: JumpSource, L: Ledger>(
     requires some { OnSome (J.StandsFor j.now) from to }
     requires places { OnEach (J.StandsFor j.now) from to (λ g. HasPlaces g space.old) }
     ensures run { IfOk result (λ f. OnEach (J.StandsFor j.now) from to (λ g. IsJumpRun g from to f)) }
-    ensures least { IfOk result (λ f. OnEach (J.StandsFor j.now) from to (λ g. IsLeast g from to f)) }
+    ensures least { IfOk result (λ f. OnEach (J.StandsFor j.now) from to (λ g. IsLeastOrNone g from to f.walk)) }
     ensures most { IfOk result (λ f. IsWithinTaken (J.most j.now) f steps.old steps.new) }
     ensures fewest { IfOk result (λ f. RoseByTaken (J.fewest j.now) f steps.old steps.new) }
     ensures places { OnEach (J.StandsFor j.now) from to (λ g. HasPlaces g space.new) }
@@ -235,7 +233,7 @@ pub fn search<J: JumpSource, L: Ledger>(
 ) -> Result<Found, NoMemory>
     requires { OnSome (J.StandsFor j.now) from to }
     ensures run { IfOk result (λ f. OnEach (J.StandsFor j.now) from to (λ g. IsJumpRun g from to f)) }
-    ensures least { IfOk result (λ f. OnEach (J.StandsFor j.now) from to (λ g. IsLeast g from to f)) }
+    ensures least { IfOk result (λ f. OnEach (J.StandsFor j.now) from to (λ g. IsLeastOrNone g from to f.walk)) }
     ensures most { IfOk result (λ f. IsWithinTaken (J.most j.now) f steps.old steps.new) }
     ensures fewest { IfOk result (λ f. RoseByTaken (J.fewest j.now) f steps.old steps.new) }
 {

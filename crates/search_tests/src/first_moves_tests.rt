@@ -5,7 +5,7 @@ ghost use Rattle.std.specs.Prelude.{◌≡◌, ◌<◌, ◌*◌, nat_le};
 use cost_waves::CostWaves;
 use first_moves::{Moves, NoMemory, Row, Run, follow_by_pass};
 use grid_moves::{Cell, Corner, Dir, Grid, Terrain};
-use path_points::Points;
+use path_points::Walk;
 use root2_cost::Cost;
 use std::alloc::Global;
 use std::marker::Brand;
@@ -44,10 +44,9 @@ fn has_runs(
 }
 
 // Whether this was found: points and their cost, or nothing.
-fn is_wanted(found: &Option<(Points, Cost)>, wanted: Option<(&[Cell], Cost)>) -> bool {
+fn is_wanted(found: &Option<Walk>, wanted: Option<(&[Cell], Cost)>) -> bool {
     match (found, wanted) {
-        (Some((points, cost)), Some((cells, price))) => points.as_slice() == cells
-            && *cost == price,
+        (Some(walk), Some((cells, cost))) => walk.points.as_slice() == cells && walk.cost == cost,
         (None, None) => true,
         _ => false,
     }

@@ -3,7 +3,7 @@
 ghost use Rattle.std.specs.Prelude.{◌≡◌, ◌<◌, true};
 ghost use Rattle.grid_moves.specs.Grid.{AreCells};
 
-use goal_boxes::{Area, Boxed, Boxes, CellBoxes, NoMemory, boxed_query, boxed_search, boxes_of};
+use goal_boxes::{Area, Boxes, CellBoxes, Found, NoMemory, boxed_query, boxed_search, boxes_of};
 use grid_moves::{Cell, Corner, Dir, Grid, Terrain};
 use root2_cost::Cost;
 use std::alloc::Global;
@@ -29,9 +29,9 @@ fn are_boxes(alloc: Global, grid: &Grid, c: Cell, boxes: CellBoxes) -> Result<bo
 }
 
 // Whether this was found: points and cost, or no walk, and the taken states.
-fn is_wanted(found: &Boxed, walk: Option<(&[Cell], Cost)>, states: &[u32]) -> bool {
-    let same = match &found.answer {
-        Some((points, cost)) => walk == Some((points.as_slice(), *cost)),
+fn is_wanted(found: &Found, walk: Option<(&[Cell], Cost)>, states: &[u32]) -> bool {
+    let same = match &found.walk {
+        Some(told) => walk == Some((told.points.as_slice(), told.cost)),
         None => walk.is_none(),
     };
     same && found.taken.as_slice() == states

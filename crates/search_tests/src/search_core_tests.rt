@@ -35,8 +35,8 @@ fn is_told<L: Ledger>(
     }
     let mut steps = Steps::<L>::new(blank);
     let found = search(alloc, &PlainJumps { terrain: grid }, from, to, &mut steps)?;
-    let same = match &found.answer {
-        Some((points, cost)) => walk == Some((points.as_slice(), *cost)),
+    let same = match &found.walk {
+        Some(told) => walk == Some((told.points.as_slice(), told.cost)),
         None => walk.is_none(),
     };
     Ok(same && found.taken.as_slice() == states)

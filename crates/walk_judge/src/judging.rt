@@ -17,7 +17,7 @@ use crate::NoMemory;
 use crate::telling::Told;
 use grid_moves::{Cell, Terrain};
 use path_points::{Points, check_walk};
-use plain_search::{Plain, Workspace, least_in};
+use plain_search::{Found, Workspace, least_in};
 use root2_cost::Cost;
 use std::alloc::Global;
 
@@ -195,8 +195,9 @@ fn least_cost<T: Terrain>(
         return Ok(None);
     }
     let mut space = Workspace::of_grid(alloc, t)?;
-    match least_in(alloc, t, from, to, &mut space)? {
-        Plain::Found { cost, .. } => Ok(Some(cost)),
-        Plain::None { .. } => Ok(None),
+    let Found { walk, taken: _ } = least_in(alloc, t, from, to, &mut space)?;
+    match walk {
+        Some(walk) => Ok(Some(walk.cost)),
+        None => Ok(None),
     }
 }

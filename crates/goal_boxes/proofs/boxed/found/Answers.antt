@@ -18,7 +18,7 @@ returns g c =
     (c.in_ok-points.ensures ∙ ap corners c.as_slice.ensures) in
     record {
       run = run;
-      least = found_least grid g.K.Meant.boxes c.requires.boxes c.args.ends.from c.args.ends.to c.in_ok-points.points
+      least = found_least grid g.K.Meant.boxes c.args.ends.to c.requires.boxes c.args.ends.from c.in_ok-points.points
           c.in_ok-way.way.cost c.args.taken c.requires.from run;
       taken = refl;
     }

@@ -1,5 +1,5 @@
 use Rattle.picture.specs.Picture.{state_stroke}
-use Rattle.picture.proofs.Texts.{texts-next}
+use Rattle.cell_lines.proofs.Writing.{texts-next}
 use Rattle.picture.proofs.strokes.put_states.Goals as goal
 
 pub loop-state-preserved : goal.loop-state-preserved

@@ -1,7 +1,7 @@
 use Rattle.std.proofs.Common.{◌∙◌, ap}
 use Rattle.path_points.specs.Corners.{corners}
-use Rattle.plain_search.specs.declared.search.Plain.TheVariants.{Found}
-use Rattle.plain_search.proofs.Concluding.{leads_back, is_found, run_least}
+use Rattle.plain_search.proofs.Concluding.{leads_back, is_found}
+use Rattle.plain_search.proofs.Right.{found_least}
 use Rattle.plain_search.proofs.search.found.Goals as goal
 
 pub way_to-requires : goal.way_to-requires
@@ -18,6 +18,6 @@ returns g c =
     (c.in_ok-points.ensures ∙ ap corners c.as_slice.ensures) in
     record {
       run = run;
-      least = run_least grid c.args.ends.from c.args.ends.to
-          (Found c.in_ok-points.points c.in_ok-way.way.cost c.args.taken) c.requires.from run;
+      least = found_least grid c.args.ends.from c.args.ends.to c.in_ok-points.points c.in_ok-way.way.cost
+          c.args.taken c.requires.from run;
     }

@@ -6,12 +6,12 @@ use Rattle.best_first.proofs.Mirrors.{some_node}
 use Rattle.best_first.proofs.Progress.{way_is}
 use Rattle.path_points.specs.Corners.{corners}
 use Rattle.plain_search.specs.Lists.{AreClosed}
-use Rattle.plain_search.specs.declared.search.Plain.TheVariants.{Found}
 use Rattle.plain_search.proofs.Closing.{are_priced, are_closed}
 use Rattle.best_first.specs.declared.state.Layout.TheVariants.{ByCell}
 use Rattle.plain_search.specs.Rule.{plain_links}
 use Rattle.plain_search.proofs.Posed.{fit}
-use Rattle.plain_search.proofs.Concluding.{leads_back, is_found, run_least}
+use Rattle.plain_search.proofs.Concluding.{leads_back, is_found}
+use Rattle.plain_search.proofs.Right.{found_least}
 use Rattle.plain_search.proofs.search.found_listed.Goals as goal
 
 pub way_to-requires : goal.way_to-requires
@@ -45,8 +45,8 @@ returns g c =
     c.in_ok-way.ensures).1 in
     record {
       run = run;
-      least = run_least grid c.args.ends.from c.args.ends.to
-          (Found c.in_ok-points.points c.in_ok-way.way.cost c.args.taken) c.requires.from run;
+      least = found_least grid c.args.ends.from c.args.ends.to c.in_ok-points.points c.in_ok-way.way.cost
+          c.args.taken c.requires.from run;
       lists = subst (λ (d : Cost). AreClosed grid c.args.ends.from c.args.ends.to d c.in_ok-closed.closed)
           (sym paid)
           (are_closed grid c.args.ends.from c.args.ends.to c.requires.whole c.requires.from c.requires.to c.args.at

@@ -13,7 +13,7 @@ reached_cells-requires-clause-on g c =
     (subst (λ (ns : List ℕ). AreOn (g.T.Terrain.grid c.args.t.now).width ns) (sym c.as_slice.ensures) on)
 
 pub returns-clause-least : goal.returns-clause-least
-returns-clause-least g c = exhausted_none (g.T.Terrain.grid c.args.t.now) c.args.ends.to c.args.ends.from c.args.taken
+returns-clause-least g c = exhausted_none (g.T.Terrain.grid c.args.t.now) c.args.ends.from c.args.ends.to c.args.taken
     c.requires.taken
 
 pub returns-clause-lists : goal.returns-clause-lists

@@ -1,6 +1,6 @@
 use Rattle.grid_moves.specs.declared.Cell.{Cell}
 use Rattle.potential_make.specs.Written.{member_text}
-use Rattle.potential_make.proofs.Texts.{texts-next}
+use Rattle.cell_lines.proofs.Writing.{texts-next}
 use Rattle.potential_make.proofs.writing.put_members.Goals as goal
 
 pub loop-c-preserved : goal.loop-c-preserved

@@ -1,7 +1,7 @@
 use Rattle.root2_cost.specs.declared.Cost.{Cost}
 use Rattle.grid_moves.specs.declared.Cell.{Cell}
 use Rattle.potential_make.specs.Written.{value_text}
-use Rattle.potential_make.proofs.Texts.{texts-next}
+use Rattle.cell_lines.proofs.Writing.{texts-next}
 use Rattle.potential_make.proofs.writing.put_values.Goals as goal
 
 pub loop-entry-preserved : goal.loop-entry-preserved

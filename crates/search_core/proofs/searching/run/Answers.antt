@@ -5,7 +5,7 @@ use Rattle.pruning.specs.Source.{MostSteps}
 use Rattle.search_core.specs.Counting.{IsCountedSoFar, IsWithinTaken}
 use Rattle.search_core.specs.Jumping.{GoesOnFrom}
 use Rattle.search_core.specs.Serving.{OnEach}
-use Rattle.search_core.specs.declared.found.Found.{Found}
+use Rattle.best_first.specs.declared.found.Found.{Found}
 use Rattle.search_core.proofs.Counting.{counted_further, within_taken}
 use Rattle.search_core.proofs.Standing.{few_taken}
 use Rattle.search_core.proofs.searching.run.Goals as goal

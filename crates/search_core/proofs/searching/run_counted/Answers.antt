@@ -2,16 +2,17 @@ use Rattle.std.specs.Prelude.{IfOk, Ok, Err}
 use Rattle.std.specs.declared.result.Result.{Result}
 use Rattle.grid_moves.specs.declared.Cell.{Cell}
 use Rattle.grid_moves.specs.Grid.{GridData}
-use Rattle.search_core.specs.Answer.{IsJumpRun, IsLeast}
+use Rattle.path_points.specs.Least.{IsLeastOrNone}
+use Rattle.best_first.specs.declared.found.Found.{Found}
+use Rattle.search_core.specs.Answer.{IsJumpRun}
 use Rattle.search_core.specs.Serving.{OnEach}
-use Rattle.search_core.specs.declared.found.Found.{Found}
 use Rattle.search_core.proofs.Right.{run_least}
 use Rattle.search_core.proofs.searching.run_counted.Goals as goal
 
 -- a run's answer is least
 all_least : {E : Type 0} (Stands : GridData → Type 0) (s t : Cell) (result : Result Found E)
     → IfOk result (λ f. OnEach Stands s t (λ g. IsJumpRun g s t f))
-    → IfOk result (λ f. OnEach Stands s t (λ g. IsLeast g s t f))
+    → IfOk result (λ f. OnEach Stands s t (λ g. IsLeastOrNone g s t f.walk))
 all_least Stands s t (Ok f) run = λ g served. run_least g s t f served.from (run g served)
 all_least Stands s t (Err e) run = tt
 

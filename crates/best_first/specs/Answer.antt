@@ -1,0 +1,44 @@
+-- What a search answers: its run, and its way along the parents.
+use Rattle.std.specs.Prelude.{◌≡◌, ℕ, true, List, ◌∷◌, map, MatchOption}
+use Rattle.root2_cost.specs.declared.Cost.{Cost}
+use Rattle.grid_moves.specs.declared.Cell.{Cell}
+use Rattle.grid_moves.specs.Grid.{GridData, is_free}
+use Rattle.path_points.specs.Least.{IsLeastOrNone}
+use Rattle.search_run.specs.Run.{Taken, IsRun, way_to}
+use Rattle.best_first.specs.declared.found.Found.{Found}
+use Rattle.best_first.specs.declared.state.State.{State}
+use Rattle.best_first.specs.Progress.{IsExhausted, numbers_of}
+use Rattle.best_first.specs.Rule.{Links, search_rule}
+use Rattle.best_first.specs.State.{start_at}
+
+-- a search shows its way by points that this makes of the way's cells
+module _ (width : ℕ) (goal : Cell) (link : Links) (shown : List Cell → List Cell) (start : Cell) where
+  -- the run takes the goal last, at this cost; the points show the way along the parents
+  pub record IsFound (points : List Cell) (cost : Cost) (taken : List ℕ) : Type 0 where
+    pub earlier : List (Taken State)
+    pub last : Taken State
+    pub run : IsRun (search_rule width goal link) (start_at start) (last ∷ earlier)
+    pub at_goal : last.state.cell ≡ goal
+    pub priced : cost ≡ last.cost
+    pub along : points ≡ shown
+        (map (λ u. u.cell) (way_to (search_rule width goal link) (last ∷ earlier) last.state))
+    pub numbered : taken ≡ numbers_of width (last ∷ earlier)
+
+  -- the answer and the taken states are those of the run
+  abbrev pub IsAnswer : Found → Type 0
+  IsAnswer f =
+      MatchOption f.walk (IsExhausted width goal link start f.taken) (λ w. IsFound w.points w.cost f.taken)
+
+-- an answer that is right and that of a run from s to t
+pub record HasAnswer (IsOf : GridData → Cell → Cell → Found → Type 0) (g : GridData) (s t : Cell) : Type 0 where
+  pub answer : Found
+  pub run : IsOf g s t answer
+  pub least : IsLeastOrNone g s t answer.walk
+
+-- from each free cell to each cell there is one
+abbrev pub AnswersExist : (GridData → Cell → Cell → Found → Type 0) → Type 0
+AnswersExist IsOf = (g : GridData) (s t : Cell) → is_free g s ≡ true → HasAnswer IsOf g s t
+
+-- two answers that are the run from s to t are one answer: the same points, cost and taken states
+abbrev pub RunsAreOne : (GridData → Cell → Cell → Found → Type 0) → Type 0
+RunsAreOne IsOf = (g : GridData) (s t : Cell) (one other : Found) → IsOf g s t one → IsOf g s t other → one ≡ other
