@@ -20,7 +20,8 @@ import threading
 # A check gains little by more jobs than this.
 MOST_JOBS = 4
 
-# The processor seconds that the check of a crate takes, a line each: what the last lines of a log of this tool tell.
+# The processor seconds that the check of a crate takes, a line each, as this tool writes them at the end of what it
+# logs: taken from a build from nothing.
 SECONDS = "check_seconds.txt"
 
 # What a check takes whatever stands in the crate, and for each line of its code, where the file has no line for it.
@@ -121,8 +122,11 @@ class Build:
             stdout=subprocess.PIPE,
             stderr=subprocess.STDOUT,
         )
-        told = ran.stdout.read()
+        with ran.stdout as out:
+            told = out.read()
+        # (not ran.wait(), which tells no times)
         _, status, usage = os.wait4(ran.pid, 0)
+        ran.returncode = os.waitstatus_to_exitcode(status)
         if os.path.isdir(f"{tree}/crates/{name}/out"):
             shutil.move(f"{tree}/crates/{name}/out", f"{crate}/out")
         shutil.rmtree(tree)
@@ -130,7 +134,7 @@ class Build:
             self.took[name] = usage.ru_utime + usage.ru_stime
             with open(self.log, "ab") as log:
                 log.write(f"== {name}\n".encode() + told)
-        return status == 0
+        return ran.returncode == 0
 
     def work(self, name, jobs, nice):
         """Proves one crate, and tells how many are done."""
