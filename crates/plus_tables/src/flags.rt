@@ -91,35 +91,46 @@ fn force_by(
     }
 }
 
-// The same; each direction that a sweep takes has code of its own, in which it is a constant.
-#[inline(always)]
-fn force_told(
-    corner: Corner,
-    above: &[bool],
-    here: &[bool],
-    below: &[bool],
-    d: Dir,
-    forced: &mut [bool],
-)
+// The same where no corner is cut; each direction that a sweep takes has code of its own, in which it is a constant.
+#[inline(never)]
+fn force_uncut(above: &[bool], here: &[bool], below: &[bool], d: Dir, forced: &mut [bool])
     requires some { 2 ≤ length forced.old }
     requires above { length above.now ≡ length forced.old }
     requires here { length here.now ≡ length forced.old }
     requires below { length below.now ≡ length forced.old }
-    ensures { spec.AreForced corner above.now here.now below.now d forced.new }
+    ensures { spec.AreForced Corner.Never above.now here.now below.now d forced.new }
 {
     match d {
-        Dir::N => force_by(corner, above, here, below, Dir::N, forced),
-        Dir::NE => force_by(corner, above, here, below, Dir::NE, forced),
-        Dir::E => force_by(corner, above, here, below, Dir::E, forced),
-        Dir::W => force_by(corner, above, here, below, Dir::W, forced),
-        Dir::NW => force_by(corner, above, here, below, Dir::NW, forced),
-        _ => force_by(corner, above, here, below, d, forced),
+        Dir::N => force_by(Corner::Never, above, here, below, Dir::N, forced),
+        Dir::NE => force_by(Corner::Never, above, here, below, Dir::NE, forced),
+        Dir::E => force_by(Corner::Never, above, here, below, Dir::E, forced),
+        Dir::W => force_by(Corner::Never, above, here, below, Dir::W, forced),
+        Dir::NW => force_by(Corner::Never, above, here, below, Dir::NW, forced),
+        _ => force_by(Corner::Never, above, here, below, d, forced),
+    }
+}
+
+// The same where a corner may be cut.
+#[inline(never)]
+fn force_cut(above: &[bool], here: &[bool], below: &[bool], d: Dir, forced: &mut [bool])
+    requires some { 2 ≤ length forced.old }
+    requires above { length above.now ≡ length forced.old }
+    requires here { length here.now ≡ length forced.old }
+    requires below { length below.now ≡ length forced.old }
+    ensures { spec.AreForced Corner.One above.now here.now below.now d forced.new }
+{
+    match d {
+        Dir::N => force_by(Corner::One, above, here, below, Dir::N, forced),
+        Dir::NE => force_by(Corner::One, above, here, below, Dir::NE, forced),
+        Dir::E => force_by(Corner::One, above, here, below, Dir::E, forced),
+        Dir::W => force_by(Corner::One, above, here, below, Dir::W, forced),
+        Dir::NW => force_by(Corner::One, above, here, below, Dir::NW, forced),
+        _ => force_by(Corner::One, above, here, below, d, forced),
     }
 }
 
 /// For each column of a row whether a neighbour is forced there after a move, if the cell is free. `above`,
 /// `here` and `below` are the row and the two beside it.
-#[inline(never)]
 pub fn force(
     corner: Corner,
     above: &[bool],
@@ -135,8 +146,8 @@ pub fn force(
     ensures { spec.AreForced corner above.now here.now below.now d forced.new }
 {
     match corner {
-        Corner::Never => force_told(Corner::Never, above, here, below, d, forced),
-        Corner::One => force_told(Corner::One, above, here, below, d, forced),
+        Corner::Never => force_uncut(above, here, below, d, forced),
+        Corner::One => force_cut(above, here, below, d, forced),
     }
 }
 
