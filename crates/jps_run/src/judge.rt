@@ -8,7 +8,7 @@ ghost use Rattle.jps_run.specs.Opened.{OpensWork};
 use crate::work::Work;
 use io_edge::Files;
 use line_work::Stop;
-use scenario_rows::{Case, Counts, Referee, read_case};
+use reply_lines::{Case, Counts, Referee, read_case};
 use std::alloc::Global;
 use word_list::Settings;
 

@@ -9,10 +9,10 @@ ghost use Rattle.jps_run.specs.Opened.{OpensWork};
 
 use crate::query_work::work_on;
 use crate::work::Work;
-use answerers::open_basis;
 use cell_lines::Ends;
 use io_edge::Files;
 use line_work::Stop;
+use reply_lines::open_basis;
 use std::alloc::Global;
 use word_list::Settings;
 

@@ -8,11 +8,10 @@ ghost use Rattle.jps_run.specs.Opened.{OpensWork};
 ghost use Rattle.jps_run.specs.Calls.{call_with};
 
 use crate::work::Work;
-use answerers::{Answerer, Basis, open_basis_and};
 use io_edge::Files;
 use line_work::Stop;
+use reply_lines::{Answerer, Basis, Judge, Tally, open_basis_and};
 use scen_text::Entry;
-use scenario_rows::{Judge, Tally};
 use std::alloc::Global;
 use word_list::Settings;
 

@@ -6,14 +6,13 @@ ghost use Rattle.word_list.specs.Request as asked;
 ghost use Rattle.word_list.specs.Settings as words;
 ghost use Rattle.jps_run.specs.Opened.{OpensWork};
 ghost use Rattle.jps_run.specs.Calls.{call_with};
-ghost use Rattle.answerers.specs.Session.{PicksSession};
+ghost use Rattle.reply_lines.specs.Session.{PicksSession};
 
 use crate::work::Work;
-use answerers::{Basis, open_basis_and, session_of};
 use io_edge::Files;
 use line_work::Stop;
+use reply_lines::{Answers, Basis, open_basis_and, session_of};
 use script_text::Command;
-use session_lines::Answers;
 use std::alloc::Global;
 use word_list::Settings;
 

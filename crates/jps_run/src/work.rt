@@ -8,10 +8,12 @@ use cell_lines::Ends;
 use grid_answers::{CostLines, TableFile, write_costs, write_file};
 use io_edge::Sink;
 use line_work::{Stop, send_text};
+use reply_lines::{
+    Answers, Canvas, Judge, Referee, Summary, write_answers, write_drawing, write_rows,
+    write_rulings, write_sums,
+};
 use scen_text::Entry;
-use scenario_rows::{Judge, Referee, write_rows, write_rulings};
 use script_text::Command;
-use session_lines::{Answers, Canvas, Summary, write_answers, write_drawing, write_sums};
 use std::alloc::Global;
 use std::sync::ledger::Ledger;
 use steps::Steps;

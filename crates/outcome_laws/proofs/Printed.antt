@@ -13,15 +13,15 @@ use Rattle.scen_text.specs.declared.entry.Entry.{Entry}
 use Rattle.word_list.specs.declared.request.Settings.{Settings}
 use Rattle.word_list.specs.declared.request.Show.{Show}
 use Rattle.call_files.specs.Layered.{layers_on}
-use Rattle.answerers.specs.Session.{OnSession}
-use Rattle.answerers.specs.Who.{Who, who_is}
-use Rattle.session_lines.specs.Answers.{AreAnswers, IsReplyLine}
-use Rattle.session_lines.specs.Drill.{AreDrilled, AreFindings}
-use Rattle.session_lines.specs.Pictures.{IsDrawing}
-use Rattle.session_lines.specs.declared.drill.Finding.{Finding}
-use Rattle.live_lines.specs.Heard.{AnswerHeard, AnswerTaken}
-use Rattle.scenario_rows.specs.Rows.{AreRows}
-use Rattle.scenario_rows.specs.declared.row.Row.{Row}
+use Rattle.reply_lines.specs.Session.{OnSession}
+use Rattle.reply_lines.specs.Who.{Who, who_is}
+use Rattle.reply_lines.specs.Answers.{AreAnswers, IsReplyLine}
+use Rattle.reply_lines.specs.Drill.{AreDrilled, AreFindings}
+use Rattle.reply_lines.specs.Pictures.{IsDrawing}
+use Rattle.reply_lines.specs.declared.drill.Finding.{Finding}
+use Rattle.reply_lines.specs.Heard.{AnswerHeard, AnswerTaken}
+use Rattle.reply_lines.specs.Rows.{AreRows}
+use Rattle.reply_lines.specs.declared.row.Row.{Row}
 use Rattle.outcome_laws.proofs.Kept.{are_layers-seed}
 use Rattle.outcome_laws.specs.Alike.{AnswerAlike, BeginWith}
 use Rattle.outcome_laws.specs.Forgetting.{DifferInTaken}

@@ -7,8 +7,8 @@ use Rattle.scen_text.specs.declared.entry.Entry.{Entry}
 use Rattle.walk_judge.specs.Judgement.{IsJudgement}
 use Rattle.walk_judge.specs.declared.judging.Judged.{Judged}
 use Rattle.walk_judge.specs.declared.telling.Told.{Told}
-use Rattle.scenario_rows.specs.Rulings.{AreRulings}
-use Rattle.scenario_rows.specs.declared.ruling.Ruling.{Ruling}
+use Rattle.reply_lines.specs.Rulings.{AreRulings}
+use Rattle.reply_lines.specs.declared.ruling.Ruling.{Ruling}
 
 -- what is told of the walks between two cells has one judgement
 abbrev pub JudgementsAreOne : Type 0

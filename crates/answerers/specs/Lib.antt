@@ -1,4 +1,0 @@
-pub mod Who
-pub mod Session
-pub mod Rising
-pub mod Answerers

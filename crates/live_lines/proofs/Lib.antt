@@ -1,4 +1,0 @@
-pub mod Hearing
-pub mod Listening
-pub mod Incomings
-pub mod Rising

@@ -1,4 +1,0 @@
-pub mod Tallies
-pub mod Judgements
-pub mod Refereed
-pub mod Counting

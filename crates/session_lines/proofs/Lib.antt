@@ -1,5 +1,0 @@
-pub mod Solving
-pub mod Unfolding
-pub mod Drilling
-pub mod Pictured
-pub mod Counting
