@@ -11,16 +11,16 @@ use Rattle.map_maker.specs.Making.{made_map}
 use Rattle.word_list.specs.Request.{Drill, Scen, Solve}
 use Rattle.word_list.specs.Request as asked
 use Rattle.word_list.specs.declared.request.Settings.{Settings}
-use Rattle.reply_lines.specs.Rising.{RoseForQuery}
-use Rattle.reply_lines.specs.Counts.{RoseForCommands}
+use Rattle.jps_run.specs.Rising.{RoseForQuery}
+use Rattle.jps_run.specs.Counts.{RoseForCommands}
 use Rattle.jps_run.specs.Counting.{RoseFor, drilled, drawn, judged, replied, solved}
 use Rattle.jps_run.specs.Calls.{call_with}
 use Rattle.call_files.specs.Reading.{IsMade}
-use Rattle.reply_lines.specs.Pictures.{IsCanvasOf}
-use Rattle.reply_lines.specs.declared.draw.Canvas.{Canvas}
-use Rattle.reply_lines.specs.Entries.{RoseForEntries}
-use Rattle.reply_lines.specs.Session.{IsSessionOn, who_on}
-use Rattle.reply_lines.specs.Who.{Who, who_is}
+use Rattle.jps_run.specs.Pictures.{IsCanvasOf}
+use Rattle.jps_run.specs.declared.replies.draw.Canvas.{Canvas}
+use Rattle.jps_run.specs.Entries.{RoseForEntries}
+use Rattle.jps_run.specs.Session.{IsSessionOn, who_on}
+use Rattle.jps_run.specs.Who.{Who, who_is}
 use Rattle.map_text.specs.Map.{Map}
 use Rattle.map_text.specs.Faults.{map_of}
 

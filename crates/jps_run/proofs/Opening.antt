@@ -2,8 +2,8 @@
 use Rattle.std.proofs.Common.{◌≡◌, sym, subst, List, [], ◌∷◌, ℕ, ◌≤◌, arith}
 use Rattle.script_text.specs.declared.command.Command.{Command}
 use Rattle.word_list.specs.Request.{Call}
-use Rattle.reply_lines.specs.Answering.{IsSolved}
-use Rattle.reply_lines.specs.Answers.{AreAnswers}
+use Rattle.jps_run.specs.Answering.{IsSolved}
+use Rattle.jps_run.specs.Answers.{AreAnswers}
 use Rattle.jps_run.specs.Outcome.{IsAnswered, drilled}
 use Rattle.line_work.specs.Sending.{IsText}
 use Rattle.map_maker.specs.Drill.{drill_commands}
@@ -11,11 +11,11 @@ use Rattle.map_maker.specs.Making.{made_map}
 use Rattle.word_list.specs.Request as asked
 use Rattle.word_list.specs.declared.request.Settings.{Settings}
 use Rattle.jps_run.specs.Calls.{call_with}
-use Rattle.reply_lines.specs.Drill.{AreFindings}
-use Rattle.reply_lines.specs.Drilling.{IsDrilled}
-use Rattle.reply_lines.specs.Session.{IsSessionOn}
-use Rattle.reply_lines.specs.declared.drill.Summary.{Summary}
-use Rattle.reply_lines.specs.declared.answers.Answers.{Answers}
+use Rattle.jps_run.specs.Drill.{AreFindings}
+use Rattle.jps_run.specs.Drilling.{IsDrilled}
+use Rattle.jps_run.specs.Session.{IsSessionOn}
+use Rattle.jps_run.specs.declared.replies.drill.Summary.{Summary}
+use Rattle.jps_run.specs.declared.replies.answers.Answers.{Answers}
 
 -- a right text is a right output
 pub text-right : (call : Call) (texts : List (List ℕ)) (text : List ℕ) (status : ℕ)

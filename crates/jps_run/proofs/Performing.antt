@@ -6,7 +6,7 @@ use Rattle.jps_run.specs.Works.{HasRisen}
 use Rattle.jps_run.specs.declared.work.Work.{Work}
 use Rattle.jps_run.specs.declared.work.Work.TheVariants as work
 use Rattle.scen_text.specs.declared.entry.Entry.{Entry}
-use Rattle.reply_lines.specs.declared.referee.Referee.{Referee}
+use Rattle.jps_run.specs.declared.replies.referee.Referee.{Referee}
 
 -- nothing is promised of the counter
 pub uncounted : {T E : Type 0} (result : Result T E) (w : Work) (job : Referee) (entries : Vec Entry Global)

@@ -7,13 +7,13 @@ use Rattle.edit_replay.specs.Session.{SessionData}
 use Rattle.edit_replay.specs.declared.reply.Reply.{Reply}
 use Rattle.script_text.specs.declared.command.Command.TheVariants.{Query}
 use Rattle.word_list.specs.declared.request.Show.{Show}
-use Rattle.reply_lines.specs.Answers.{AreAnswers, IsReplyLine}
-use Rattle.reply_lines.specs.Rising.{RoseForQuery}
-use Rattle.reply_lines.specs.Counts.{RoseForCommands}
-use Rattle.reply_lines.specs.Lines.{reply_line}
+use Rattle.jps_run.specs.Answers.{AreAnswers, IsReplyLine}
+use Rattle.jps_run.specs.Rising.{RoseForQuery}
+use Rattle.jps_run.specs.Counts.{RoseForCommands}
+use Rattle.jps_run.specs.Lines.{reply_line}
 use Rattle.jps_run.specs.Querying.{IsOneReply}
-use Rattle.reply_lines.specs.Who.{Who, IsReplyBy, fewest_by, most_by, who_is}
-use Rattle.reply_lines.proofs.Solving.{nothing_edited}
+use Rattle.jps_run.specs.Who.{Who, IsReplyBy, fewest_by, most_by, who_is}
+use Rattle.jps_run.proofs.Solving.{nothing_edited}
 
 -- a session that is asked one query as its script
 module _ (d : SessionData) (show : Show) (sx sy gx gy : ℕ) where

@@ -6,9 +6,9 @@ use Rattle.edit_replay.specs.Session.{SessionData}
 use Rattle.word_list.specs.Request.{Call}
 use Rattle.word_list.specs.declared.request.Show.{Show}
 use Rattle.jps_run.specs.Counting.{RoseForCall, none, read, some}
-use Rattle.reply_lines.specs.Heard.{WroteAll, WroteFirst, WroteLines, AnswerHeard, AnswerPending, AnswerTaken}
+use Rattle.jps_run.specs.Heard.{WroteAll, WroteFirst, WroteLines, AnswerHeard, AnswerPending, AnswerTaken}
 use Rattle.jps_run.specs.Live.{OnLive}
-use Rattle.reply_lines.specs.Hearing.{Hears}
+use Rattle.jps_run.specs.Hearing.{Hears}
 use Rattle.call_files.specs.Reading.{open_stops}
 use Rattle.jps_run.specs.Works.{HasRisen, IsWhole}
 use Rattle.jps_run.specs.Opened.{IsCounted, IsListener, IsWorkOn}
@@ -17,7 +17,7 @@ use Rattle.jps_run.specs.Outcome.{IsOutput}
 use Rattle.line_work.specs.Sending.{IsAll, SendsWhole, work_stops}
 use Rattle.jps_run.specs.Served.{HasServed, served_stops}
 use Rattle.line_work.specs.Stops.{StopsSo}
-use Rattle.reply_lines.specs.declared.answers.Answers.{Answers}
+use Rattle.jps_run.specs.declared.replies.answers.Answers.{Answers}
 use Rattle.line_work.specs.declared.stop.Stop.{Stop}
 use Rattle.jps_run.specs.declared.work.Work.{Work}
 use Rattle.line_work.proofs.Pieces.{nothing}

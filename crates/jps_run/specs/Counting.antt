@@ -13,15 +13,15 @@ use Rattle.scen_text.specs.Faults.{scen_of}
 use Rattle.word_list.specs.Request.{Asked, Call, Help, Version, Query, Solve, Live, Scen, Judge, Prove, Check, Make, Drill, Draw, Costs, Tables, Boxes, Moves}
 use Rattle.word_list.specs.declared.request.Settings.{Settings}
 use Rattle.call_files.specs.Files.{AreAccepted}
-use Rattle.reply_lines.specs.Heard.{RoseHeard}
+use Rattle.jps_run.specs.Heard.{RoseHeard}
 use Rattle.jps_run.specs.Live.{OnLive}
 use Rattle.jps_run.specs.Calls.{call_with, files_of}
 use Rattle.jps_run.specs.Outcome.{Spell}
-use Rattle.reply_lines.specs.Rising.{RoseForQuery}
-use Rattle.reply_lines.specs.Session.{OnSession, who_on}
-use Rattle.reply_lines.specs.Who.{who_is}
-use Rattle.reply_lines.specs.Entries.{RoseForEntries}
-use Rattle.reply_lines.specs.Counts.{RoseForCommands}
+use Rattle.jps_run.specs.Rising.{RoseForQuery}
+use Rattle.jps_run.specs.Session.{OnSession, who_on}
+use Rattle.jps_run.specs.Who.{who_is}
+use Rattle.jps_run.specs.Entries.{RoseForEntries}
+use Rattle.jps_run.specs.Counts.{RoseForCommands}
 
 -- whether anything is searched for what is asked
 abbrev pub searches : Asked → Bool

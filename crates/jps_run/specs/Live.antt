@@ -9,8 +9,8 @@ use Rattle.word_list.specs.declared.request.Settings.{Settings}
 use Rattle.word_list.specs.declared.request.Show.{Show}
 use Rattle.call_files.specs.Files.{AreAccepted}
 use Rattle.jps_run.specs.Calls.{files_of}
-use Rattle.reply_lines.specs.Heard.{AnswerHeard, AnswerPending, AnswerTaken, WroteAll, WroteFirst, WroteLines}
-use Rattle.reply_lines.specs.Session.{IsSessionOn}
+use Rattle.jps_run.specs.Heard.{AnswerHeard, AnswerPending, AnswerTaken, WroteAll, WroteFirst, WroteLines}
+use Rattle.jps_run.specs.Session.{IsSessionOn}
 
 -- the call answers what comes in: each of its files is accepted, the map first, and of the session on it this is known
 pub record OnLive (call : Call) (holds : List ℕ → Held) (Known : SessionData → Show → Type 0) : Type 0 where

@@ -9,7 +9,7 @@ use Rattle.jps_run.specs.Calls.{files_of, reads_input}
 use Rattle.jps_run.specs.Outcome.{IsAnswered}
 use Rattle.call_files.specs.Reading.{open_stops}
 use Rattle.line_work.specs.Stops.{Ends}
-use Rattle.reply_lines.specs.declared.answers.Answers.{Answers}
+use Rattle.jps_run.specs.declared.replies.answers.Answers.{Answers}
 use Rattle.line_work.specs.declared.stop.Stop.{Stop}
 use Rattle.jps_run.specs.declared.top.Opened.{Opened}
 use Rattle.jps_run.specs.declared.top.Opened.TheVariants as opened

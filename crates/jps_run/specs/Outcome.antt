@@ -18,26 +18,26 @@ use Rattle.word_list.specs.Calls.{call_of, is_call}
 use Rattle.word_list.specs.Request.{Call, Help, Version, Query, Solve, Scen, Judge, Prove, Check, Make, Drill, Draw, Costs, Tables, Boxes, Moves}
 use Rattle.word_list.specs.Rule.{IsBadWord}
 use Rattle.word_list.specs.declared.request.Settings.{Settings}
-use Rattle.reply_lines.specs.Answers.{AreAnswers, IsReplyLine}
+use Rattle.jps_run.specs.Answers.{AreAnswers, IsReplyLine}
 use Rattle.grid_answers.specs.BoxLines.{IsBoxText}
 use Rattle.grid_answers.specs.Certificates.{IsProof, IsVerdict}
 use Rattle.grid_answers.specs.Distances.{AreCosts}
-use Rattle.reply_lines.specs.Drill.{AreDrilled, drill_line}
-use Rattle.reply_lines.specs.declared.drill.Finding.{Finding}
+use Rattle.jps_run.specs.Drill.{AreDrilled, drill_line}
+use Rattle.jps_run.specs.declared.replies.drill.Finding.{Finding}
 use Rattle.call_files.specs.FaultLines.{word_line}
 use Rattle.jps_run.specs.Calls.{call_with, files_of}
 use Rattle.call_files.specs.Files.{AreAccepted, HasRefused}
 use Rattle.jps_run.specs.Live.{AreHeard}
-use Rattle.reply_lines.specs.Pictures.{IsDrawing}
-use Rattle.reply_lines.specs.Rows.{AreRows, scen_lines, scen_status}
-use Rattle.reply_lines.specs.Rulings.{AreRulings, judge_lines, judge_status}
+use Rattle.jps_run.specs.Pictures.{IsDrawing}
+use Rattle.jps_run.specs.Rows.{AreRows, scen_lines, scen_status}
+use Rattle.jps_run.specs.Rulings.{AreRulings, judge_lines, judge_status}
 use Rattle.grid_answers.specs.RunLines.{IsRunText}
 use Rattle.call_files.specs.Layered.{corner_of, layers_on}
-use Rattle.reply_lines.specs.Session.{OnSession, who_on}
+use Rattle.jps_run.specs.Session.{OnSession, who_on}
 use Rattle.jps_run.specs.Tabled.{tables_text}
 use Rattle.jps_run.specs.Texts.{help_text, version_text}
-use Rattle.reply_lines.specs.declared.row.Row.{Row}
-use Rattle.reply_lines.specs.declared.ruling.Ruling.{Ruling}
+use Rattle.jps_run.specs.declared.replies.row.Row.{Row}
+use Rattle.jps_run.specs.declared.replies.ruling.Ruling.{Ruling}
 
 -- the words spell the call
 abbrev pub Spell : List (List ℕ) → Call → Type 0

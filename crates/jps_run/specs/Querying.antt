@@ -2,10 +2,10 @@
 use Rattle.std.specs.Prelude.{◌≡◌, ℕ, List, [], ◌∷◌}
 use Rattle.grid_moves.specs.declared.Cell.{Cell}
 use Rattle.word_list.specs.declared.request.Show.{Show}
-use Rattle.reply_lines.specs.Answers.{IsReplyLine}
-use Rattle.reply_lines.specs.Rising.{RoseForQuery}
+use Rattle.jps_run.specs.Answers.{IsReplyLine}
+use Rattle.jps_run.specs.Rising.{RoseForQuery}
 use Rattle.jps_run.specs.Works.{CanPerform, HasRisen, IsWhole}
-use Rattle.reply_lines.specs.Who.{Who}
+use Rattle.jps_run.specs.Who.{Who}
 use Rattle.jps_run.specs.declared.work.Work.{Work}
 
 -- the lines are one line, that of a right reply

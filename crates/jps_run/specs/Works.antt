@@ -1,22 +1,22 @@
 -- The work of a call: what it prints, how far the counter rises for it, and what it needs.
 use Rattle.std.specs.Prelude.{◌≡◌, ℕ, ◌≤◌, ◌^◌, ⊤, List, [], length}
-use Rattle.reply_lines.specs.Answerers.{CanAnswer, who_of}
+use Rattle.jps_run.specs.Answerers.{CanAnswer, who_of}
 use Rattle.call_files.specs.Reading.{AreKept}
 use Rattle.jps_run.specs.declared.work.Work.{Work}
 use Rattle.jps_run.specs.declared.work.Work.TheVariants as work
 use Rattle.grid_answers.specs.Encoded.{IsEncoded}
 use Rattle.grid_answers.specs.Telling.{AreWritten}
 use Rattle.line_work.specs.Sending.{IsText}
-use Rattle.reply_lines.specs.Entries.{RoseForEntries}
-use Rattle.reply_lines.specs.Judging.{IsJudged}
-use Rattle.reply_lines.specs.Refereeing.{IsReady, IsRefereed}
-use Rattle.reply_lines.specs.Tally.{tally_of}
-use Rattle.reply_lines.specs.Answering.{IsSolved}
-use Rattle.reply_lines.specs.Counts.{RoseForCommands}
-use Rattle.reply_lines.specs.Drilling.{IsDrilled, sums_of}
-use Rattle.reply_lines.specs.Pictures.{IsPictured}
-use Rattle.reply_lines.specs.Rising.{RoseForQuery}
-use Rattle.reply_lines.specs.Who.{who_is}
+use Rattle.jps_run.specs.Entries.{RoseForEntries}
+use Rattle.jps_run.specs.Judging.{IsJudged}
+use Rattle.jps_run.specs.Refereeing.{IsReady, IsRefereed}
+use Rattle.jps_run.specs.Tally.{tally_of}
+use Rattle.jps_run.specs.Answering.{IsSolved}
+use Rattle.jps_run.specs.Counts.{RoseForCommands}
+use Rattle.jps_run.specs.Drilling.{IsDrilled, sums_of}
+use Rattle.jps_run.specs.Pictures.{IsPictured}
+use Rattle.jps_run.specs.Rising.{RoseForQuery}
+use Rattle.jps_run.specs.Who.{who_is}
 
 -- the whole output of the work, and the status
 abbrev pub IsWhole : Work → List (List ℕ) → ℕ → Type 0

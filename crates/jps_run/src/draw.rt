@@ -4,14 +4,14 @@ ghost use Rattle.std.specs.Prelude.{◌≡◌};
 ghost use Rattle.word_list.specs.Request as asked;
 ghost use Rattle.jps_run.specs.Calls.{call_with};
 ghost use Rattle.jps_run.specs.Opened.{OpensWork};
-ghost use Rattle.reply_lines.specs.Session.{PicksSession};
+ghost use Rattle.jps_run.specs.Session.{PicksSession};
 
+use crate::replies::Canvas;
 use crate::work::Work;
 use call_files::open_one;
 use cell_lines::Ends;
 use io_edge::Files;
 use line_work::Stop;
-use reply_lines::Canvas;
 use std::alloc::Global;
 use word_list::Settings;
 

@@ -5,12 +5,12 @@ ghost use Rattle.std.specs.Prelude.{[], IfOk};
 ghost use Rattle.word_list.specs.Request as asked;
 ghost use Rattle.jps_run.specs.Calls.{call_with};
 ghost use Rattle.jps_run.specs.Opened.{IsWorkOf};
-ghost use Rattle.reply_lines.specs.Session.{PicksSession};
+ghost use Rattle.jps_run.specs.Session.{PicksSession};
 
 use crate::NoMemory;
+use crate::replies::{Summary, Sums, session_on};
 use crate::work::Work;
 use map_maker::drill_script;
-use reply_lines::{Summary, Sums, session_on};
 use std::alloc::Global;
 use word_list::Settings;
 

@@ -5,10 +5,10 @@ ghost use Rattle.word_list.specs.Request as asked;
 ghost use Rattle.jps_run.specs.Calls.{call_with};
 ghost use Rattle.jps_run.specs.Opened.{OpensWork};
 
+use crate::replies::{Case, Counts, Referee, read_case};
 use crate::work::Work;
 use io_edge::Files;
 use line_work::Stop;
-use reply_lines::{Case, Counts, Referee, read_case};
 use std::alloc::Global;
 use word_list::Settings;
 

@@ -13,6 +13,7 @@ mod moves;
 mod prove;
 mod query;
 mod query_work;
+mod replies;
 mod scen;
 mod solve;
 mod tables;

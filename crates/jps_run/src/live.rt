@@ -9,11 +9,11 @@ ghost use Rattle.word_list.specs.Request as asked;
 ghost use Rattle.word_list.specs.Settings as words;
 ghost use Rattle.jps_run.specs.Calls.{call_with};
 ghost use Rattle.jps_run.specs.Opened.{IsListener};
-ghost use Rattle.reply_lines.specs.Session.{PicksSession};
+ghost use Rattle.jps_run.specs.Session.{PicksSession};
 
+use crate::replies::{Answers, open_basis, session_of};
 use io_edge::Files;
 use line_work::Stop;
-use reply_lines::{Answers, open_basis, session_of};
 use std::alloc::Global;
 use word_list::Settings;
 

@@ -8,11 +8,11 @@ ghost use Rattle.jps_run.specs.Calls.{call_with};
 ghost use Rattle.jps_run.specs.Opened.{OpensWork};
 
 use crate::query_work::work_on;
+use crate::replies::open_basis;
 use crate::work::Work;
 use cell_lines::Ends;
 use io_edge::Files;
 use line_work::Stop;
-use reply_lines::open_basis;
 use std::alloc::Global;
 use word_list::Settings;
 

@@ -3,17 +3,17 @@
 
 ghost use Rattle.std.specs.Prelude.{◌≡◌, ◌<◌, [], ◌∷◌, IfOk};
 ghost use Rattle.script_text.specs.declared.command.Command.TheVariants.{Query};
-ghost use Rattle.reply_lines.specs.Answerers.{who_from};
-ghost use Rattle.reply_lines.specs.Lines.{Unfolds, reply_line};
+ghost use Rattle.jps_run.specs.Answerers.{who_from};
+ghost use Rattle.jps_run.specs.Lines.{Unfolds, reply_line};
 ghost use Rattle.jps_run.specs.Querying.{IsQueryWork};
-ghost use Rattle.reply_lines.specs.Who.{who_is};
+ghost use Rattle.jps_run.specs.Who.{who_is};
 
 use crate::NoMemory;
+use crate::replies::{Answers, Basis, boxed_reply, led_reply, put_reply};
 use crate::work::Work;
 use cell_lines::Ends;
 use edit_replay::{Reply, Session};
 use grid_moves::{Layers, Terrain};
-use reply_lines::{Answers, Basis, boxed_reply, led_reply, put_reply};
 use script_text::Command;
 use std::alloc::Global;
 use word_list::Show;

@@ -7,10 +7,10 @@ ghost use Rattle.word_list.specs.Settings as words;
 ghost use Rattle.jps_run.specs.Opened.{OpensWork};
 ghost use Rattle.jps_run.specs.Calls.{call_with};
 
+use crate::replies::{Answerer, Basis, Judge, Tally, open_basis_and};
 use crate::work::Work;
 use io_edge::Files;
 use line_work::Stop;
-use reply_lines::{Answerer, Basis, Judge, Tally, open_basis_and};
 use scen_text::Entry;
 use std::alloc::Global;
 use word_list::Settings;

@@ -6,12 +6,12 @@ ghost use Rattle.word_list.specs.Request as asked;
 ghost use Rattle.word_list.specs.Settings as words;
 ghost use Rattle.jps_run.specs.Opened.{OpensWork};
 ghost use Rattle.jps_run.specs.Calls.{call_with};
-ghost use Rattle.reply_lines.specs.Session.{PicksSession};
+ghost use Rattle.jps_run.specs.Session.{PicksSession};
 
+use crate::replies::{Answers, Basis, open_basis_and, session_of};
 use crate::work::Work;
 use io_edge::Files;
 use line_work::Stop;
-use reply_lines::{Answers, Basis, open_basis_and, session_of};
 use script_text::Command;
 use std::alloc::Global;
 use word_list::Settings;

@@ -4,14 +4,14 @@ ghost use Rattle.std.specs.Prelude.{OnOk};
 ghost use Rattle.jps_run.specs.Works.{CanPerform, HasRisen, IsWhole};
 ghost use Rattle.line_work.specs.Sending.{SendsWhole};
 
+use crate::replies::{
+    Answers, Canvas, Judge, Referee, Summary, write_answers, write_drawing, write_rows,
+    write_rulings, write_sums,
+};
 use cell_lines::Ends;
 use grid_answers::{CostLines, TableFile, write_costs, write_file};
 use io_edge::Sink;
 use line_work::{Stop, send_text};
-use reply_lines::{
-    Answers, Canvas, Judge, Referee, Summary, write_answers, write_drawing, write_rows,
-    write_rulings, write_sums,
-};
 use scen_text::Entry;
 use script_text::Command;
 use std::alloc::Global;

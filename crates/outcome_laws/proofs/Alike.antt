@@ -18,21 +18,21 @@ use Rattle.potential_check.specs.declared.certificate.Certificate.{Certificate}
 use Rattle.word_list.specs.Request.{Asked, Call, Help, Version, Query, Solve, Live, Scen, Judge, Prove, Check, Make, Drill, Draw, Costs, Tables, Boxes, Moves}
 use Rattle.word_list.specs.declared.request.Settings.{Settings}
 use Rattle.word_list.specs.declared.request.Show.{Show}
-use Rattle.reply_lines.specs.Answers.{AreAnswers, IsReplyLine}
-use Rattle.reply_lines.specs.Drill.{drill_line}
-use Rattle.reply_lines.specs.declared.drill.Finding.{Finding}
-use Rattle.reply_lines.specs.Pictures.{IsDrawing}
+use Rattle.jps_run.specs.Answers.{AreAnswers, IsReplyLine}
+use Rattle.jps_run.specs.Drill.{drill_line}
+use Rattle.jps_run.specs.declared.replies.drill.Finding.{Finding}
+use Rattle.jps_run.specs.Pictures.{IsDrawing}
 use Rattle.grid_answers.specs.BoxLines.{IsBoxText}
 use Rattle.grid_answers.specs.Certificates.{IsProof, IsVerdict}
 use Rattle.grid_answers.specs.Distances.{AreCosts}
 use Rattle.grid_answers.specs.RunLines.{IsRunText}
-use Rattle.reply_lines.specs.Rows.{AreRows, scen_lines, scen_status}
-use Rattle.reply_lines.specs.Rulings.{AreRulings, judge_lines, judge_status}
-use Rattle.reply_lines.specs.declared.row.Row.{Row}
-use Rattle.reply_lines.specs.declared.ruling.Ruling.{Ruling}
+use Rattle.jps_run.specs.Rows.{AreRows, scen_lines, scen_status}
+use Rattle.jps_run.specs.Rulings.{AreRulings, judge_lines, judge_status}
+use Rattle.jps_run.specs.declared.replies.row.Row.{Row}
+use Rattle.jps_run.specs.declared.replies.ruling.Ruling.{Ruling}
 use Rattle.call_files.specs.Layered.{corner_of, layers_on}
-use Rattle.reply_lines.specs.Session.{IsSessionOn, OnSession, by_of, who_on}
-use Rattle.reply_lines.specs.Who.{By, Who, who_is}
+use Rattle.jps_run.specs.Session.{IsSessionOn, OnSession, by_of, who_on}
+use Rattle.jps_run.specs.Who.{By, Who, who_is}
 use Rattle.outcome_laws.proofs.Kept.{are_layers-text}
 use Rattle.outcome_laws.specs.Alike.{AnswerAlike, way_of}
 use Rattle.outcome_laws.proofs.Printed.{one_reply_line, one_answers, one_drawing, one_rows, one_drill, alike_rows}

@@ -15,8 +15,8 @@ use Rattle.word_list.specs.declared.request.Settings.{Settings}
 use Rattle.word_list.specs.declared.request.Show.{Show}
 use Rattle.line_work.specs.Sending.{Wrote}
 use Rattle.line_work.proofs.Pieces.{part-more}
-use Rattle.reply_lines.specs.Session.{by_of}
-use Rattle.reply_lines.specs.Heard.{AnswerHeard, AnswerTaken}
+use Rattle.jps_run.specs.Session.{by_of}
+use Rattle.jps_run.specs.Heard.{AnswerHeard, AnswerTaken}
 use Rattle.outcome_laws.specs.Alike.{BeginWith, way_of}
 use Rattle.outcome_laws.proofs.Printed.{one_start}
 use Rattle.outcome_laws.proofs.Taken.{pending_taken}

@@ -7,9 +7,9 @@ use Rattle.std.proofs.lemmas.List.Sums.{sum_by-cons}
 use Rattle.root2_cost.specs.declared.lengths.Verdict.TheVariants.{Agree, Near, Off}
 use Rattle.word_list.specs.declared.request.Show.{Show}
 use Rattle.word_list.specs.declared.request.Show.TheVariants.{Points, Cells, Trace, Taken}
-use Rattle.reply_lines.specs.Rows.{count_text, is_agree, is_near, is_off, is_other, row_line, row_lines, row_text, scen_lines, scen_status, states_in, sum_line, verdict_text}
-use Rattle.reply_lines.specs.declared.row.Row.{Row}
-use Rattle.reply_lines.specs.declared.row.Row.TheVariants as row
+use Rattle.jps_run.specs.Rows.{count_text, is_agree, is_near, is_off, is_other, row_line, row_lines, row_text, scen_lines, scen_status, states_in, sum_line, verdict_text}
+use Rattle.jps_run.specs.declared.replies.row.Row.{Row}
+use Rattle.jps_run.specs.declared.replies.row.Row.TheVariants as row
 use Rattle.outcome_laws.specs.Forgetting.{DifferInTaken, without_taken}
 
 -- the rows without their counts

@@ -7,9 +7,9 @@ use Rattle.script_text.specs.declared.command.Command.{Command}
 use Rattle.word_list.specs.declared.request.Show.{Show}
 use Rattle.call_files.specs.Kinds.{limit_of}
 use Rattle.call_files.specs.declared.kind.Kind.TheVariants as kind
-use Rattle.reply_lines.specs.Who.{who_is}
-use Rattle.reply_lines.specs.Answers.{AreAnswers}
-use Rattle.reply_lines.specs.Heard.{AnswerHeard, IsHeard, whole, too_long}
+use Rattle.jps_run.specs.Who.{who_is}
+use Rattle.jps_run.specs.Answers.{AreAnswers}
+use Rattle.jps_run.specs.Heard.{AnswerHeard, IsHeard, whole, too_long}
 use Rattle.outcome_laws.specs.Alike.{AnswerAlike}
 use Rattle.outcome_laws.proofs.Lines.{answers_same}
 

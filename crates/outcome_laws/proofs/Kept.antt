@@ -24,8 +24,8 @@ use Rattle.edit_replay.specs.Session.{SessionData}
 use Rattle.edit_replay.proofs.Edits.{is_free-edited, is_inside-edited}
 use Rattle.word_list.specs.declared.request.Settings.{Settings}
 use Rattle.call_files.specs.Layered.{corner_of, layers_on}
-use Rattle.reply_lines.specs.Session.{IsSessionOn, session_after}
-use Rattle.reply_lines.specs.Who.{Who}
+use Rattle.jps_run.specs.Session.{IsSessionOn, session_after}
+use Rattle.jps_run.specs.Who.{Who}
 
 pub are_layers-map : (set : Settings) (m : Map) → IsMap m.width m.height m.cells → AreLayers (layers_on set m)
 are_layers-map set m is = are_layers-of (corner_of set.one) m.width m.height m.cells (record {

@@ -10,13 +10,13 @@ use Rattle.edit_replay.specs.declared.reply.Reply.{Reply}
 use Rattle.script_text.specs.declared.command.Command.{Command}
 use Rattle.script_text.specs.declared.command.Command.TheVariants.{Block, Free, Flood, Query}
 use Rattle.word_list.specs.declared.request.Show.{Show}
-use Rattle.reply_lines.specs.Session.{session_after}
-use Rattle.reply_lines.specs.Who.{Who, who_is}
-use Rattle.reply_lines.specs.Answers.{AnswersAfter, AreAnswers, IsAnswerLine, IsReplyLine, edits_with}
-use Rattle.reply_lines.specs.Drill.{AreFindings, FindsAfter, IsFinding, finding_of_edit}
-use Rattle.reply_lines.specs.Lines.{edit_line, reply_line}
-use Rattle.reply_lines.specs.Pictures.{IsDrawing, drawing_of, drawing_status}
-use Rattle.reply_lines.specs.declared.drill.Finding.{Finding}
+use Rattle.jps_run.specs.Session.{session_after}
+use Rattle.jps_run.specs.Who.{Who, who_is}
+use Rattle.jps_run.specs.Answers.{AnswersAfter, AreAnswers, IsAnswerLine, IsReplyLine, edits_with}
+use Rattle.jps_run.specs.Drill.{AreFindings, FindsAfter, IsFinding, finding_of_edit}
+use Rattle.jps_run.specs.Lines.{edit_line, reply_line}
+use Rattle.jps_run.specs.Pictures.{IsDrawing, drawing_of, drawing_status}
+use Rattle.jps_run.specs.declared.replies.drill.Finding.{Finding}
 use Rattle.outcome_laws.specs.Alike.{AnswerAlike, BeginWith}
 use Rattle.outcome_laws.proofs.Same.{FindTheSame, ReplyTheSame, after_edits, alike_after, find_same, layers_same, reply_same}
 use Rattle.outcome_laws.proofs.Turns.{turns-begin, turns-same}

@@ -10,12 +10,12 @@ use Rattle.scen_text.specs.declared.entry.Entry.{Entry}
 use Rattle.word_list.specs.declared.request.Settings.{Settings}
 use Rattle.word_list.specs.declared.request.Show.{Show}
 use Rattle.call_files.specs.Layered.{layers_on}
-use Rattle.reply_lines.specs.Session.{IsSessionOn, OnSession, by_of, who_on}
-use Rattle.reply_lines.specs.Answers.{AreAnswers, IsReplyLine}
-use Rattle.reply_lines.specs.Pictures.{IsDrawing}
-use Rattle.reply_lines.specs.Heard.{AnswerHeard, AnswerTaken}
-use Rattle.reply_lines.specs.Rows.{AreRows}
-use Rattle.reply_lines.specs.declared.row.Row.{Row}
+use Rattle.jps_run.specs.Session.{IsSessionOn, OnSession, by_of, who_on}
+use Rattle.jps_run.specs.Answers.{AreAnswers, IsReplyLine}
+use Rattle.jps_run.specs.Pictures.{IsDrawing}
+use Rattle.jps_run.specs.Heard.{AnswerHeard, AnswerTaken}
+use Rattle.jps_run.specs.Rows.{AreRows}
+use Rattle.jps_run.specs.declared.replies.row.Row.{Row}
 use Rattle.outcome_laws.specs.Alike.{BeginWith, way_of}
 use Rattle.outcome_laws.specs.Forgetting.{DifferInTaken}
 use Rattle.outcome_laws.proofs.Printed.{alike_rows, one_answers, one_drawing, one_heard, one_reply_line, one_rows, one_start}

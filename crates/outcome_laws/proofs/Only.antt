@@ -25,9 +25,9 @@ use Rattle.call_files.specs.declared.kind.Extent.{Extent}
 use Rattle.call_files.specs.declared.kind.Extent.TheVariants as extent
 use Rattle.call_files.specs.declared.kind.Kind.{Kind}
 use Rattle.call_files.specs.declared.kind.Kind.TheVariants as kind
-use Rattle.reply_lines.specs.Heard.{AnswerHeard}
-use Rattle.reply_lines.specs.Session.{by_of}
-use Rattle.reply_lines.specs.Who.{By, by_session, by_boxes, by_moves}
+use Rattle.jps_run.specs.Heard.{AnswerHeard}
+use Rattle.jps_run.specs.Session.{by_of}
+use Rattle.jps_run.specs.Who.{By, by_session, by_boxes, by_moves}
 use Rattle.outcome_laws.specs.Alike.{way_of}
 use Rattle.outcome_laws.proofs.Printed.{one_heard}
 use Rattle.outcome_laws.specs.Files.{AreTold}

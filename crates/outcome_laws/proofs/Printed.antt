@@ -13,15 +13,15 @@ use Rattle.scen_text.specs.declared.entry.Entry.{Entry}
 use Rattle.word_list.specs.declared.request.Settings.{Settings}
 use Rattle.word_list.specs.declared.request.Show.{Show}
 use Rattle.call_files.specs.Layered.{layers_on}
-use Rattle.reply_lines.specs.Session.{OnSession}
-use Rattle.reply_lines.specs.Who.{Who, who_is}
-use Rattle.reply_lines.specs.Answers.{AreAnswers, IsReplyLine}
-use Rattle.reply_lines.specs.Drill.{AreDrilled, AreFindings}
-use Rattle.reply_lines.specs.Pictures.{IsDrawing}
-use Rattle.reply_lines.specs.declared.drill.Finding.{Finding}
-use Rattle.reply_lines.specs.Heard.{AnswerHeard, AnswerTaken}
-use Rattle.reply_lines.specs.Rows.{AreRows}
-use Rattle.reply_lines.specs.declared.row.Row.{Row}
+use Rattle.jps_run.specs.Session.{OnSession}
+use Rattle.jps_run.specs.Who.{Who, who_is}
+use Rattle.jps_run.specs.Answers.{AreAnswers, IsReplyLine}
+use Rattle.jps_run.specs.Drill.{AreDrilled, AreFindings}
+use Rattle.jps_run.specs.Pictures.{IsDrawing}
+use Rattle.jps_run.specs.declared.replies.drill.Finding.{Finding}
+use Rattle.jps_run.specs.Heard.{AnswerHeard, AnswerTaken}
+use Rattle.jps_run.specs.Rows.{AreRows}
+use Rattle.jps_run.specs.declared.replies.row.Row.{Row}
 use Rattle.outcome_laws.proofs.Kept.{are_layers-seed}
 use Rattle.outcome_laws.specs.Alike.{AnswerAlike, BeginWith}
 use Rattle.outcome_laws.specs.Forgetting.{DifferInTaken}

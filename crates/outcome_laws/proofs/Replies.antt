@@ -17,7 +17,7 @@ use Rattle.edit_replay.specs.declared.reply.Reply.{Reply}
 use Rattle.edit_replay.specs.declared.reply.Reply.TheVariants.{Walk, None}
 use Rattle.edit_replay.proofs.Oneness.{one_run_reply}
 use Rattle.goal_boxes.specs.Answer.{IsBoxedRunOn}
-use Rattle.reply_lines.specs.Who.{By, Who, by_session, by_boxes, by_moves, IsBoxedReply, IsLedReply, IsReplyBy, IsReplyOn}
+use Rattle.jps_run.specs.Who.{By, Who, by_session, by_boxes, by_moves, IsBoxedReply, IsLedReply, IsReplyBy, IsReplyOn}
 use Rattle.outcome_laws.specs.Costs.{gist_of}
 use Rattle.outcome_laws.specs.Costs as gist
 use Rattle.outcome_laws.specs.Oneness.{is_by_jumps}

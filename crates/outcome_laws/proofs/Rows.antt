@@ -6,13 +6,13 @@ use Rattle.grid_moves.specs.Layers.{Layers}
 use Rattle.edit_replay.specs.declared.reply.Reply.{Reply}
 use Rattle.edit_replay.specs.declared.reply.Reply.TheVariants as reply
 use Rattle.scen_text.specs.declared.entry.Entry.{Entry}
-use Rattle.reply_lines.specs.Who.{Who}
-use Rattle.reply_lines.specs.Drill.{finding_of}
-use Rattle.reply_lines.specs.declared.drill.Finding.{Finding}
-use Rattle.reply_lines.specs.declared.drill.Finding.TheVariants as finding
-use Rattle.reply_lines.specs.Rows.{AreRows, IsRow, scale, replied, has_sides, row_of}
-use Rattle.reply_lines.specs.declared.row.Row.{Row}
-use Rattle.reply_lines.specs.declared.row.Row.TheVariants as row
+use Rattle.jps_run.specs.Who.{Who}
+use Rattle.jps_run.specs.Drill.{finding_of}
+use Rattle.jps_run.specs.declared.replies.drill.Finding.{Finding}
+use Rattle.jps_run.specs.declared.replies.drill.Finding.TheVariants as finding
+use Rattle.jps_run.specs.Rows.{AreRows, IsRow, scale, replied, has_sides, row_of}
+use Rattle.jps_run.specs.declared.replies.row.Row.{Row}
+use Rattle.jps_run.specs.declared.replies.row.Row.TheVariants as row
 use Rattle.outcome_laws.specs.Forgetting.{without_taken}
 use Rattle.outcome_laws.proofs.Same.{FindTheSame, ReplyTheSame}
 use Rattle.outcome_laws.proofs.Turns.{turns-alike, turns-same}

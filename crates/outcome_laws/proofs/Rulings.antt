@@ -6,10 +6,10 @@ use Rattle.scen_text.specs.declared.entry.Entry.{Entry}
 use Rattle.walk_judge.specs.declared.judging.Judged.{Judged}
 use Rattle.walk_judge.specs.declared.telling.Told.{Told}
 use Rattle.walk_judge.proofs.Judgements.{one_judgement}
-use Rattle.reply_lines.specs.Rows.{has_sides}
-use Rattle.reply_lines.specs.Rulings.{AreRulings, IsRuling, blocked, goal_of, judged, outside, scale, start_of, with_told}
-use Rattle.reply_lines.specs.declared.ruling.Ruling.{Ruling}
-use Rattle.reply_lines.specs.declared.ruling.Ruling.TheVariants as ruling
+use Rattle.jps_run.specs.Rows.{has_sides}
+use Rattle.jps_run.specs.Rulings.{AreRulings, IsRuling, blocked, goal_of, judged, outside, scale, start_of, with_told}
+use Rattle.jps_run.specs.declared.replies.ruling.Ruling.{Ruling}
+use Rattle.jps_run.specs.declared.replies.ruling.Ruling.TheVariants as ruling
 use Rattle.outcome_laws.proofs.Ground.{ends_on, not_both}
 use Rattle.outcome_laws.proofs.Turns.{turns-same}
 

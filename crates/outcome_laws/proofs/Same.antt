@@ -7,11 +7,11 @@ use Rattle.edit_replay.specs.Session.{SessionData}
 use Rattle.edit_replay.specs.declared.engine.Engine.TheVariants as engine
 use Rattle.edit_replay.specs.declared.reply.Reply.{Reply}
 use Rattle.edit_replay.specs.declared.reply.Reply.TheVariants as reply
-use Rattle.reply_lines.specs.Session.{session_after}
-use Rattle.reply_lines.specs.Who.{By, Who, by_session, by_boxes, by_moves, who_is, IsReplyBy}
-use Rattle.reply_lines.specs.Drill.{finding_of}
-use Rattle.reply_lines.specs.declared.drill.Finding.{Finding}
-use Rattle.reply_lines.specs.declared.drill.Finding.TheVariants as finding
+use Rattle.jps_run.specs.Session.{session_after}
+use Rattle.jps_run.specs.Who.{By, Who, by_session, by_boxes, by_moves, who_is, IsReplyBy}
+use Rattle.jps_run.specs.Drill.{finding_of}
+use Rattle.jps_run.specs.declared.replies.drill.Finding.{Finding}
+use Rattle.jps_run.specs.declared.replies.drill.Finding.TheVariants as finding
 use Rattle.outcome_laws.specs.Costs.{Gist, gist_of}
 use Rattle.outcome_laws.specs.Costs as gist
 use Rattle.outcome_laws.specs.Oneness.{is_by_jumps}

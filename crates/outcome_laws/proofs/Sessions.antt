@@ -5,8 +5,8 @@ use Rattle.map_text.specs.Map.{Map}
 use Rattle.edit_replay.specs.Session.{SessionData}
 use Rattle.word_list.specs.declared.request.Settings.{Settings}
 use Rattle.call_files.specs.Layered.{corner_of, layers_on}
-use Rattle.reply_lines.specs.Session.{IsSessionOn, by_of, who_on}
-use Rattle.reply_lines.specs.Who.{Who, who_is}
+use Rattle.jps_run.specs.Session.{IsSessionOn, by_of, who_on}
+use Rattle.jps_run.specs.Who.{Who, who_is}
 use Rattle.outcome_laws.specs.Alike.{AnswerAlike, way_of}
 
 module _ (set other : Settings) (m : Map) (rule : set.one ≡ other.one) where

@@ -10,9 +10,9 @@ use Rattle.script_text.proofs.Feeding.{commands-end, commands-grow}
 use Rattle.word_list.specs.declared.request.Show.{Show}
 use Rattle.call_files.specs.Kinds.{limit_of}
 use Rattle.call_files.specs.declared.kind.Kind.TheVariants as kind
-use Rattle.reply_lines.specs.Who.{who_is}
-use Rattle.reply_lines.specs.Answers.{AreAnswers}
-use Rattle.reply_lines.specs.Heard.{AnswerHeard, AnswerPending, AnswerTaken, AreWhole, IsHeard, at_end, counted, so_far, too_long, whole}
+use Rattle.jps_run.specs.Who.{who_is}
+use Rattle.jps_run.specs.Answers.{AreAnswers}
+use Rattle.jps_run.specs.Heard.{AnswerHeard, AnswerPending, AnswerTaken, AreWhole, IsHeard, at_end, counted, so_far, too_long, whole}
 use Rattle.outcome_laws.specs.Alike.{AnswerAlike, BeginWith}
 use Rattle.outcome_laws.proofs.Heard.{not_longer}
 use Rattle.outcome_laws.proofs.Lines.{answers_begin}

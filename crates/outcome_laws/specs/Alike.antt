@@ -1,7 +1,7 @@
 -- Who answers alike.
 use Rattle.std.specs.Prelude.{◌≡◌, refl, ℕ, List, ◌++◌}
 use Rattle.edit_replay.specs.declared.engine.Engine.TheVariants as engine
-use Rattle.reply_lines.specs.Who.{By, Who, by_session, by_boxes, by_moves}
+use Rattle.jps_run.specs.Who.{By, Who, by_session, by_boxes, by_moves}
 
 -- the way in which replies are come to, where all engines that jump have one
 abbrev pub way_of : By → By

@@ -5,7 +5,7 @@ use Rattle.grid_moves.specs.declared.Cell.{Cell}
 use Rattle.grid_moves.specs.Layers.{AreLayers}
 use Rattle.edit_replay.specs.declared.reply.Reply.{Reply}
 use Rattle.edit_replay.specs.declared.reply.Reply.TheVariants.{Walk, None, Outside, Blocked}
-use Rattle.reply_lines.specs.Who.{Who, IsReplyBy}
+use Rattle.jps_run.specs.Who.{Who, IsReplyBy}
 
 -- what a reply comes to: an end lies outside, an end is blocked, no walk leads there, or what a walk costs
 pub data Gist : Type 0 where

@@ -2,9 +2,9 @@
 use Rattle.std.specs.Prelude.{◌≡◌, ◌≢◌, List, map}
 use Rattle.word_list.specs.declared.request.Show.{Show}
 use Rattle.word_list.specs.declared.request.Show.TheVariants.{Taken}
-use Rattle.reply_lines.specs.Rows.{scen_lines, scen_status}
-use Rattle.reply_lines.specs.declared.row.Row.{Row}
-use Rattle.reply_lines.specs.declared.row.Row.TheVariants as row
+use Rattle.jps_run.specs.Rows.{scen_lines, scen_status}
+use Rattle.jps_run.specs.declared.replies.row.Row.{Row}
+use Rattle.jps_run.specs.declared.replies.row.Row.TheVariants as row
 
 -- the row with no count of taken states
 abbrev pub without_taken : Row → Row

@@ -4,7 +4,7 @@ use Rattle.grid_moves.specs.declared.Cell.{Cell}
 use Rattle.grid_moves.specs.Layers.{AreLayers}
 use Rattle.edit_replay.specs.Kept.{is_plain}
 use Rattle.edit_replay.specs.declared.reply.Reply.{Reply}
-use Rattle.reply_lines.specs.Who.{By, Who, by_session, by_boxes, by_moves, IsReplyBy}
+use Rattle.jps_run.specs.Who.{By, Who, by_session, by_boxes, by_moves, IsReplyBy}
 
 -- on the layers of one map, two replies of one who answers are one reply: the same points, cost and taken states
 abbrev pub RepliesAreOne : Type 0

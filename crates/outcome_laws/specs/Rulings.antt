@@ -7,8 +7,8 @@ use Rattle.scen_text.specs.declared.entry.Entry.{Entry}
 use Rattle.walk_judge.specs.Judgement.{IsJudgement}
 use Rattle.walk_judge.specs.declared.judging.Judged.{Judged}
 use Rattle.walk_judge.specs.declared.telling.Told.{Told}
-use Rattle.reply_lines.specs.Rulings.{AreRulings}
-use Rattle.reply_lines.specs.declared.ruling.Ruling.{Ruling}
+use Rattle.jps_run.specs.Rulings.{AreRulings}
+use Rattle.jps_run.specs.declared.replies.ruling.Ruling.{Ruling}
 
 -- what is told of the walks between two cells has one judgement
 abbrev pub JudgementsAreOne : Type 0

@@ -3,10 +3,10 @@ use Rattle.map_text.specs.Map.{Map}
 use Rattle.word_list.specs.Request.{Draw}
 use Rattle.jps_run.specs.Calls.{call_with}
 use Rattle.jps_run.specs.Outcome.{drawn}
-use Rattle.reply_lines.specs.Pictures.{IsDrawing}
+use Rattle.jps_run.specs.Pictures.{IsDrawing}
 use Rattle.jps_run.proofs.Opening.{text-right}
 use Rattle.jps_run.proofs.Counts.{draw_counted}
-use Rattle.reply_lines.proofs.Pictured.{small_drawing}
+use Rattle.jps_run.proofs.Pictured.{small_drawing}
 use Rattle.jps_run.proofs.draw.draw.Goals as goal
 
 pub returns-clause-opened : goal.returns-clause-opened

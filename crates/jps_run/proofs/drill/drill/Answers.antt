@@ -1,10 +1,10 @@
 use Rattle.std.proofs.Common.{subst, inr}
 use Rattle.map_text.specs.Map.{Map}
 use Rattle.map_maker.specs.Making.{made_map}
-use Rattle.reply_lines.specs.Session.{IsSessionOn}
+use Rattle.jps_run.specs.Session.{IsSessionOn}
 use Rattle.jps_run.proofs.Counts.{drill-counted}
 use Rattle.jps_run.proofs.Opening.{drill-right}
-use Rattle.reply_lines.proofs.Drilling.{few-commands}
+use Rattle.jps_run.proofs.Drilling.{few-commands}
 use Rattle.jps_run.proofs.drill.drill.Goals as goal
 
 pub returns : goal.returns

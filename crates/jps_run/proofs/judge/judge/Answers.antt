@@ -4,8 +4,8 @@ use Rattle.edit_replay.specs.Session.{SessionData}
 use Rattle.word_list.specs.Request.{Judge}
 use Rattle.jps_run.specs.Calls.{call_with}
 use Rattle.jps_run.specs.Outcome.{IsAnswered, refereed}
-use Rattle.reply_lines.specs.Rulings.{AreRulings, judge_status}
-use Rattle.reply_lines.proofs.Refereed.{small_judge_status}
+use Rattle.jps_run.specs.Rulings.{AreRulings, judge_status}
+use Rattle.jps_run.proofs.Refereed.{small_judge_status}
 use Rattle.jps_run.proofs.judge.judge.Goals as goal
 
 pub returns-clause-opened : goal.returns-clause-opened

@@ -1,6 +1,6 @@
 use Rattle.std.proofs.Common.{refl, ◌∙◌}
 use Rattle.std.specs.Option.{option_copied}
-use Rattle.reply_lines.proofs.Loading.{session-made}
+use Rattle.jps_run.proofs.Loading.{session-made}
 use Rattle.jps_run.proofs.live.live.Goals as goal
 
 pub session_of-requires : goal.session_of-requires

@@ -1,11 +1,11 @@
 use Rattle.std.proofs.Common.{◌≡◌, sym, subst, inr, ℕ, List, [], ◌∷◌, arith}
 use Rattle.std.specs.Option.{option_copied}
 use Rattle.word_list.specs.Request.{Query}
-use Rattle.reply_lines.specs.Answerers.{who_from}
-use Rattle.reply_lines.specs.Answers.{IsReplyLine}
+use Rattle.jps_run.specs.Answerers.{who_from}
+use Rattle.jps_run.specs.Answers.{IsReplyLine}
 use Rattle.jps_run.specs.Calls.{call_with}
 use Rattle.jps_run.specs.Outcome.{IsAnswered, replied}
-use Rattle.reply_lines.specs.Who.{Who}
+use Rattle.jps_run.specs.Who.{Who}
 use Rattle.jps_run.proofs.Counts.{query-counted}
 use Rattle.jps_run.proofs.query.query.Goals as goal
 

@@ -1,8 +1,8 @@
 use Rattle.std.proofs.Common.{refl, ap, ◌∙◌}
 use Rattle.grid_moves.specs.Grid.{GridData}
-use Rattle.reply_lines.specs.Who.{by_boxes}
+use Rattle.jps_run.specs.Who.{by_boxes}
 use Rattle.jps_run.proofs.Querying.{told-line, told-rose}
-use Rattle.reply_lines.proofs.Unfolding.{replied_unfolds}
+use Rattle.jps_run.proofs.Unfolding.{replied_unfolds}
 use Rattle.jps_run.proofs.query_work.by_boxes.Goals as goal
 
 pub line_of-requires-clause-unfolds : goal.line_of-requires-clause-unfolds

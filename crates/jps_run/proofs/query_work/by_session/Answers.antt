@@ -1,7 +1,7 @@
 use Rattle.std.proofs.Common.{subst, List}
 use Rattle.script_text.specs.declared.command.Command.{Command}
-use Rattle.reply_lines.specs.Answers.{AreAnswers}
-use Rattle.reply_lines.specs.Counts.{RoseForCommands}
+use Rattle.jps_run.specs.Answers.{AreAnswers}
+use Rattle.jps_run.specs.Counts.{RoseForCommands}
 use Rattle.jps_run.proofs.Querying.{one-line, one-rose}
 use Rattle.jps_run.proofs.query_work.by_session.Goals as goal
 

@@ -3,12 +3,12 @@ use Rattle.std.specs.Option.{option_copied}
 use Rattle.word_list.specs.Request.{Scen}
 use Rattle.jps_run.specs.Calls.{call_with}
 use Rattle.jps_run.specs.Outcome.{IsAnswered, judged}
-use Rattle.reply_lines.specs.Answerers.{who_of}
-use Rattle.reply_lines.specs.Rows.{AreRows, scen_status}
-use Rattle.reply_lines.specs.Session.{who_on}
-use Rattle.reply_lines.specs.Who.{Who}
+use Rattle.jps_run.specs.Answerers.{who_of}
+use Rattle.jps_run.specs.Rows.{AreRows, scen_status}
+use Rattle.jps_run.specs.Session.{who_on}
+use Rattle.jps_run.specs.Who.{Who}
 use Rattle.jps_run.proofs.Counts.{scen-counted}
-use Rattle.reply_lines.proofs.Tallies.{small_status}
+use Rattle.jps_run.proofs.Tallies.{small_status}
 use Rattle.jps_run.proofs.scen.scen.Goals as goal
 
 pub returns-clause-opened : goal.returns-clause-opened

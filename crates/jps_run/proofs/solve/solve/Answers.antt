@@ -3,9 +3,9 @@ use Rattle.std.specs.Option.{option_copied}
 use Rattle.word_list.specs.Request.{Solve}
 use Rattle.jps_run.specs.Calls.{call_with}
 use Rattle.jps_run.specs.Outcome.{solved}
-use Rattle.reply_lines.specs.Session.{IsSessionOn}
+use Rattle.jps_run.specs.Session.{IsSessionOn}
 use Rattle.jps_run.proofs.Counts.{solve-counted}
-use Rattle.reply_lines.proofs.Loading.{session-made}
+use Rattle.jps_run.proofs.Loading.{session-made}
 use Rattle.jps_run.proofs.Opening.{solved-right}
 use Rattle.jps_run.proofs.solve.solve.Goals as goal
 

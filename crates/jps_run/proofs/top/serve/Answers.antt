@@ -2,9 +2,9 @@ use Rattle.std.proofs.Common.{subst}
 use Rattle.word_list.specs.Request.{called}
 use Rattle.jps_run.specs.Opened.{IsOpenedAs}
 use Rattle.jps_run.specs.declared.top.Opened.{Opened}
-use Rattle.reply_lines.specs.Heard.{RoseHeard}
+use Rattle.jps_run.specs.Heard.{RoseHeard}
 use Rattle.jps_run.specs.Counting.{heard}
-use Rattle.reply_lines.proofs.Rising.{on_ok}
+use Rattle.jps_run.proofs.Rising.{on_ok}
 use Rattle.jps_run.proofs.Serving.{may-hear, on-live, unopened-served, work-counted, work-served}
 use Rattle.jps_run.proofs.top.serve.Goals as goal
 

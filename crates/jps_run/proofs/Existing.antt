@@ -1,0 +1,102 @@
+-- For every query there is a right reply, by whoever answers.
+use Rattle.std.proofs.Common.{◌≡◌, ℕ, Bool, true, false, inl, inr, refl, ◌&&◌, List, []}
+use Rattle.std.specs.Prelude.{Option, MatchOption, if◌then◌else◌}
+use Rattle.std.proofs.lemmas.Bool.{and_parts}
+use Rattle.std.specs.Prelude as option
+use Rattle.grid_moves.specs.declared.Cell.{Cell}
+use Rattle.grid_moves.specs.Grid.{GridData, is_free}
+use Rattle.grid_moves.specs.Layers.{Layers, in_one_layer, is_on_map, query_grid}
+use Rattle.grid_moves.specs.Reply.{are_free_ends}
+use Rattle.grid_moves.specs.Walk.{NoWalk}
+use Rattle.path_points.specs.declared.points.Walk as points
+use Rattle.path_points.specs.Least.{IsLeastOrNone}
+use Rattle.edit_replay.specs.Replies.{IsRightOn}
+use Rattle.edit_replay.specs.Session.{SessionData}
+use Rattle.edit_replay.specs.declared.reply.Reply.{Reply}
+use Rattle.edit_replay.specs.declared.reply.Reply.TheVariants.{Walk, None, Outside, Blocked}
+use Rattle.jps_run.proofs.SessionReply.{reply_exists}
+use Rattle.goal_boxes.specs.Answer.{IsBoxedRunOn}
+use Rattle.goal_boxes.proofs.Answering as boxed
+use Rattle.first_moves.specs.Follow.{IsFollowed}
+use Rattle.first_moves.specs.Row.{AreMoves, MovesData}
+use Rattle.first_moves.proofs.Following.{stands}
+use Rattle.first_moves.proofs.Leading.{has_followed}
+use Rattle.jps_run.specs.Answerers.{CanAnswer, IsUnsearched, who_of}
+use Rattle.jps_run.specs.Session.{IsReply}
+use Rattle.jps_run.specs.Who.{By, IsReplyBy, IsReplyOn, by_boxes, by_moves}
+use Rattle.jps_run.specs.declared.replies.answerer.Answerer.{Answerer}
+use Rattle.jps_run.specs.declared.replies.answerer.Answerer.TheVariants as answerer
+use Rattle.jps_run.proofs.Replying.{reply-on-map, unsearched-boxed, unsearched-led}
+
+-- a reply on one grid, between cells that are free on it
+record HasReplyOn (by : By) (g : GridData) (s t : Cell) : Type 0 where
+  reply : Reply
+  right : IsRightOn g s t reply
+  run : IsReplyOn by g s t reply
+
+module _ (g : GridData) (s t : Cell) (free : (is_free g s && is_free g t) ≡ true) where
+  boxed_told : (walk : Option points.Walk) (taken : List ℕ)
+      → IsBoxedRunOn g s t (record { walk = walk; taken = taken })
+      → IsLeastOrNone g s t walk → HasReplyOn by_boxes g s t
+  boxed_told (option.Some w) taken run least =
+      record { reply = Walk w.points w.cost taken; right = (free, least); run = run }
+  boxed_told option.None taken run least = record { reply = None taken; right = inr least; run = rw free run }
+
+  boxed_reply : HasReplyOn by_boxes g s t
+  boxed_reply =
+      let h = boxed.has_answer g s t (and_parts (is_free g s) (is_free g t) free).0 in
+      boxed_told h.answer.walk h.answer.taken h.run h.least
+
+  led_told : (walk : Option points.Walk)
+      → MatchOption walk (NoWalk g s t) (λ w. IsFollowed g s t w.points w.cost) → HasReplyOn by_moves g s t
+  led_told (option.Some w) f =
+      record { reply = Walk w.points w.cost []; right = (free, stands g s t w.points w.cost f); run = (f, refl) }
+  led_told option.None none = record { reply = None []; right = inr none; run = refl }
+
+  led_reply : (m : MovesData) → AreMoves g m → HasReplyOn by_moves g s t
+  led_reply m moves =
+      let ends = and_parts (is_free g s) (is_free g t) free in
+      let h = has_followed g m moves t ends.1 s ends.0 in led_told h.answer h.is
+
+-- a reply on the map, where there is one between free cells of one grid
+module _ (ls : Layers) (by : By) (s t : Cell)
+    (apart : (reply : Reply) → IsUnsearched ls s t reply → IsReplyBy (record { layers = ls; by = by }) s t reply)
+    (search : in_one_layer ls s t ≡ true → HasReplyOn by (query_grid ls s) s t) where
+  abbrev Exists : Type 0
+  Exists = (reply : Reply) × IsReplyBy (record { layers = ls; by = by }) s t reply
+
+  by_layer : are_free_ends ls s t ≡ true → (b : Bool) → in_one_layer ls s t ≡ b → Exists
+  by_layer free true one =
+      let h = search one in (h.reply, reply-on-map ls by s t h.reply free h.right h.run)
+  by_layer free false two = (None [], apart (None []) (record { right = (free, inl two); none = (two, refl) }))
+
+  by_ends : (is_on_map ls s && is_on_map ls t) ≡ true → (b : Bool) → are_free_ends ls s t ≡ b → Exists
+  by_ends on true free = by_layer free (in_one_layer ls s t) refl
+  by_ends on false free = (Blocked, apart Blocked (record { right = (on, free); none = tt }))
+
+  by_map : (b : Bool) → (is_on_map ls s && is_on_map ls t) ≡ b → Exists
+  by_map true on = by_ends on (are_free_ends ls s t) refl
+  by_map false off = (Outside, apart Outside (record { right = off; none = tt }))
+
+  exists : Exists
+  exists = by_map (is_on_map ls s && is_on_map ls t) refl
+
+-- the first moves that are kept of the grid of a query
+moves_on : (ls : Layers) (land water : MovesData) → AreMoves ls.land land → AreMoves ls.water water → (s : Cell)
+    → (m : MovesData) × AreMoves (query_grid ls s) m
+moves_on ls land water on off s = by_test (is_free ls.water s)
+  where
+    by_test : (w : Bool) → (m : MovesData) × AreMoves (if w then ls.water else ls.land) m
+    by_test true = (water, off)
+    by_test false = (land, on)
+
+-- whoever is ready has a reply
+pub answer_exists : (a : Answerer) → CanAnswer a → (s t : Cell) → (reply : Reply) × IsReplyBy (who_of a) s t reply
+answer_exists (answerer.Session d) ready s t = reply_exists d s t
+answer_exists (answerer.Boxes library) ready s t =
+    let ls = library.layers in
+    exists ls by_boxes s t (unsearched-boxed ls s t) (λ one. boxed_reply (query_grid ls s) s t one)
+answer_exists (answerer.Moves library) ready s t =
+    let ls = library.layers in
+    let m = moves_on ls library.land library.water ready.1 ready.2 s in
+    exists ls by_moves s t (unsearched-led ls s t) (λ one. led_reply (query_grid ls s) s t one m.0 m.1)

@@ -1,0 +1,168 @@
+-- The rows of entries.
+use Rattle.std.proofs.Common.{◌≡◌, refl, sym, ap, ◌∙◌, subst, List, [], ◌∷◌, ◌++◌, append_assoc, ℕ, suc, ◌+◌, ◌^◌, ◌<◌, length, length-append, arith, true, false, Bool}
+use Rattle.std.specs.Prelude.{◌≢◌, ◌&&◌, nat_eq, Result, Ok, Err, OnOk}
+use Rattle.grid_moves.specs.Layers.{Layers}
+use Rattle.std.proofs.lemmas.List.{append-nil}
+use Rattle.scen_text.specs.declared.entry.Entry.{Entry}
+use Rattle.jps_run.specs.Answerers.{CanAnswer, who_of}
+use Rattle.jps_run.specs.Judging.{HasJudged, HasRoom, IsJudged}
+use Rattle.jps_run.specs.Rows.{has_sides, row_of, IsRow, scale, replied, row_line, row_lines, scen_status, sum_line}
+use Rattle.word_list.specs.declared.request.Show.{Show}
+use Rattle.jps_run.specs.Tally.{IsSmall, tally_of, sum_text}
+use Rattle.jps_run.specs.Who.{Who}
+use Rattle.line_work.specs.Working.{Adds, CanComplete, HasRoomForOne}
+use Rattle.jps_run.specs.declared.replies.answerer.Answerer.{Answerer}
+use Rattle.jps_run.specs.declared.replies.row.Row.{Row}
+use Rattle.jps_run.specs.declared.replies.row.Row.TheVariants as row
+use Rattle.jps_run.specs.declared.replies.row.Tally.{Tally}
+use Rattle.jps_run.specs.declared.replies.scenario.Judge.{Judge}
+use Rattle.jps_run.proofs.Existing.{answer_exists}
+use Rattle.line_work.proofs.Turns.{turns-more, turns-all}
+
+abbrev Stands : Who → Unit {0} → Entry → Row → Type 0
+Stands who s entry r = IsRow who entry r
+
+abbrev stays : Unit {0} → Entry → Unit {0}
+stays s entry = s
+
+-- where nothing is counted yet there is room for a list's entries
+pub new-room : (job : Judge) (count : ℕ) → CanAnswer job.answerer → job.tally ≡ tally_of [] → count < 2 ^ 64
+    → HasRoom job count
+new-room job count ready e few = record {
+  ready = ready;
+  counts = record { rows = []; counted = e };
+  small = subst (λ (tally : Tally). IsSmall tally) (sym e) (omega arith);
+  few = subst (λ (tally : Tally). tally.rows + count < 2 ^ 64) (sym e) (let small : 0 + count < 2 ^ 64 = omega arith in small);
+}
+
+-- the sides were compared, and are the map's
+pub has-sides : (ls : Layers) (entry : Entry) (width height : ℕ) (same : Bool) → width ≡ ls.land.width
+    → height ≡ ls.land.height → same ≡ (nat_eq entry.w width && nat_eq entry.h height) → same ≡ true
+    → has_sides ls entry ≡ true
+has-sides ls entry width height same wide high is so =
+    subst (λ (n : ℕ). (nat_eq entry.w n && nat_eq entry.h ls.land.height) ≡ true) wide
+    (subst (λ (n : ℕ). (nat_eq entry.w width && nat_eq entry.h n) ≡ true) high (sym is ∙ so))
+
+row_lines-append : (show : Show) (number : ℕ) (some others : List Row)
+    → row_lines show number (some ++ others)
+    ≡ row_lines show number some ++ row_lines show (number + length some) others
+row_lines-append show number [] others =
+    ap (λ n. row_lines show n others) (let e : number ≡ number + 0 = omega arith in e)
+row_lines-append show number (r ∷ some) others =
+    ap (λ (l : List (List ℕ)). row_line show number r ∷ l)
+    (row_lines-append show (number + 1) some others
+    ∙ ap (λ n. row_lines show (number + 1) some ++ row_lines show n others)
+    (let e : number + 1 + length some ≡ number + suc (length some) = omega arith in e))
+
+-- one row more leaves room for one less
+pub room-more : {T E : Type 0} (result : Result T E) (job now : Judge) (r : Row) (room : HasRoomForOne (HasRoom job))
+    → ((rows : List Row) → job.tally ≡ tally_of rows → now.tally ≡ tally_of (rows ++ r ∷ []))
+    → IsSmall now.tally → now.answerer ≡ job.answerer → OnOk result ((n : ℕ) → HasRoom job (n + 1) → HasRoom now n)
+room-more (Err error) job now r room counts small same = tt
+room-more (Ok done) job now r room counts small same = λ n h.
+    let t = h.counts in
+    let one : now.tally ≡ tally_of (t.rows ++ r ∷ []) = counts t.rows t.counted in
+    let old : job.tally.rows ≡ length t.rows = ap (λ (t : Tally). t.rows) t.counted in
+    let new : now.tally.rows ≡ length (t.rows ++ r ∷ []) = ap (λ (t : Tally). t.rows) one in
+    let both : length (t.rows ++ r ∷ []) ≡ length t.rows + 1 = length-append t.rows (r ∷ []) in
+    let few : job.tally.rows + (n + 1) < 2 ^ 64 = h.few in
+    record {
+      ready = subst (λ (a : Answerer). CanAnswer a) (sym same) h.ready;
+      counts = record { rows = t.rows ++ r ∷ []; counted = one };
+      small = small;
+      few = omega arith;
+    }
+
+-- one entry more has its row
+pub judged-more : {T E : Type 0} (result : Result T E) (job now : Judge) (entry : Entry) (r : Row)
+    (before after : List ℕ) → IsRow (who_of job.answerer) entry r → now.answerer ≡ job.answerer
+    → now.show ≡ job.show
+    → ((rows : List Row) → job.tally ≡ tally_of rows → now.tally ≡ tally_of (rows ++ r ∷ []))
+    → OnOk result (after ≡ before ++ row_line job.show now.tally.rows r)
+    → OnOk result ((first : Judge) (entries : List Entry) (lines : List (List ℕ))
+    → HasJudged first job entries lines
+    → Adds (HasJudged first now (entries ++ entry ∷ [])) lines before after)
+judged-more (Err error) job now entry r before after is same shown counts w = tt
+judged-more (Ok done) job now entry r before after is same shown counts w = λ first entries lines h.
+    let line : Show → ℕ → List ℕ = λ show k. row_line show k r in
+    let one : now.tally.rows ≡ length (h.rows ++ r ∷ []) =
+    ap (λ (t : Tally). t.rows) (counts h.rows h.counted) in
+    let both : length (h.rows ++ r ∷ []) ≡ length h.rows + 1 = length-append h.rows (r ∷ []) in
+    let place : now.tally.rows ≡ 1 + length h.rows = omega arith in
+    record {
+      more = line job.show now.tally.rows ∷ [];
+      stand = record {
+        rows = h.rows ++ r ∷ [];
+        ready = h.ready;
+        are = turns-more (Stands (who_of first.answerer)) stays tt entries h.rows entry r h.are
+            (subst (λ (a : Answerer). IsRow (who_of a) entry r) h.same is);
+        all = ap (λ (l : List (List ℕ)). l ++ line job.show now.tally.rows ∷ []) h.all
+            ∙ ap (λ (show : Show). row_lines first.show 1 h.rows ++ line show now.tally.rows ∷ []) h.shown
+            ∙ ap (λ k. row_lines first.show 1 h.rows ++ line first.show k ∷ []) place
+            ∙ sym (row_lines-append first.show 1 h.rows (r ∷ []));
+        counted = counts h.rows h.counted;
+        same = same ∙ h.same;
+        shown = shown ∙ h.shown;
+      };
+      appended = w ∙ ap (λ (l : List ℕ). before ++ l) (sym (append-nil (line job.show now.tally.rows)));
+    }
+
+-- the sum closes the rows
+pub judged-all : (job : Judge) (status : ℕ) (before after : List ℕ) → after ≡ before ++ sum_text job.show job.tally
+    → ((rows : List Row) → job.tally ≡ tally_of rows → status ≡ scen_status rows)
+    → (first : Judge) (entries : List Entry) (lines : List (List ℕ)) → HasJudged first job entries lines
+    → Adds (λ all. IsJudged first entries all status) lines before after
+judged-all job status before after w s first entries lines h = record {
+  more = sum_line first.show h.rows ∷ [];
+  stand = record {
+    rows = h.rows;
+    are = h.are;
+    all = ap (λ (l : List (List ℕ)). l ++ sum_line first.show h.rows ∷ []) h.all;
+    same_status = s h.rows h.counted;
+  };
+  appended = w ∙ ap (λ (t : Tally). before ++ sum_text job.show t) h.counted
+      ∙ ap (λ (show : Show). before ++ sum_line show h.rows) h.shown
+      ∙ ap (λ (l : List ℕ). before ++ l) (sym (append-nil (sum_line first.show h.rows)));
+}
+
+-- every entry has a row
+row_exists : (a : Answerer) → CanAnswer a → (s : Unit {0}) (entry : Entry) → (r : Row) × Stands (who_of a) s entry r
+row_exists a ready s entry = by_sides (has_sides (who_of a).layers entry) refl
+  where
+    by_sides : (b : Bool) → has_sides (who_of a).layers entry ≡ b → (r : Row) × IsRow (who_of a) entry r
+    by_sides false e = (row.Scale, scale e refl)
+    by_sides true e =
+        let p = answer_exists a ready (record { x = entry.sx; y = entry.sy })
+        (record { x = entry.gx; y = entry.gy }) in
+        (row_of entry.length p.0, replied p.0 e p.1 refl)
+
+pub not-empty : (lines : List (List ℕ)) (line : List ℕ) → lines ++ line ∷ [] ≢ []
+not-empty [] line = λ e. (let never : line ∷ [] ≡ [] = e in cc)
+not-empty (l ∷ lines) line = λ e. (let never : l ∷ (lines ++ line ∷ []) ≡ [] = e in cc)
+
+-- so the first rows can be completed
+pub rows-complete : CanComplete HasJudged IsJudged true
+rows-complete first now some others lines h =
+    let all = turns-all (Stands (who_of first.answerer)) stays (row_exists first.answerer h.ready) tt some others h.rows
+    h.are in
+    let rows : List Row = h.rows ++ all.0 in
+    let rest : List (List ℕ) = row_lines first.show (1 + length h.rows) all.0 in
+    let sum : List ℕ = sum_line first.show rows in
+    record {
+      more = rest ++ sum ∷ [];
+      status = scen_status rows;
+      whole = record {
+        rows = rows;
+        are = all.1;
+        all = sym (append_assoc lines rest (sum ∷ []))
+            ∙ ap (λ (l : List (List ℕ)). (l ++ rest) ++ sum ∷ []) h.all
+            ∙ ap (λ (l : List (List ℕ)). l ++ sum ∷ []) (sym (row_lines-append first.show 1 h.rows all.0));
+        same_status = refl;
+      };
+      some = λ left. not-empty rest sum;
+    }
+
+-- nothing is judged yet
+pub judged-none : (job : Judge) → CanAnswer job.answerer → job.tally ≡ tally_of [] → HasJudged job job [] []
+judged-none job ready e =
+    record { rows = []; ready = ready; are = tt; all = refl; counted = e; same = refl; shown = refl }

@@ -1,0 +1,59 @@
+-- Sessions on maps, and files that are read behind those of a session.
+use Rattle.std.proofs.Common.{◌≡◌, ◌∙◌, ap, subst, append_assoc, append-nil, refl, sym, List, [], ◌∷◌, ◌++◌, ℕ, Bool, true, false}
+use Rattle.std.specs.Prelude.{Result}
+use Rattle.io_edge.specs.Told.{Disk, Held}
+use Rattle.map_text.specs.Map.{Map}
+use Rattle.edit_replay.specs.declared.engine.Engine.TheVariants as engine
+use Rattle.grid_moves.specs.Layers.{Layers, layers_of}
+use Rattle.grid_moves.specs.declared.Corner.{Corner}
+use Rattle.word_list.specs.Settings.{has_tables, is_for_small_maps}
+use Rattle.word_list.specs.declared.request.Settings.{Settings}
+use Rattle.word_list.specs.declared.request.Pick.{Pick}
+use Rattle.word_list.specs.declared.request.Pick.TheVariants.{Plain, Jps, Block, Plus, Boxes, Moves}
+use Rattle.call_files.specs.Files.{File, IsAccepted, AreAccepted, ComesTo}
+use Rattle.call_files.specs.Reading.{open_stops}
+use Rattle.call_files.specs.Reading.{AreBehindMap, AreMapTables, AreTablesOn, IsBehind, Reads}
+use Rattle.jps_run.specs.Answerers.{HasSession, IsBasisOn}
+use Rattle.jps_run.specs.Session.{PicksSession, by_of}
+use Rattle.jps_run.specs.Who.{Who, by_boxes, by_moves, by_session}
+use Rattle.jps_run.specs.declared.replies.answerer.Basis.{Basis}
+use Rattle.jps_run.specs.declared.replies.answerer.Basis.TheVariants as basis
+use Rattle.call_files.specs.declared.kind.Kind.TheVariants as kind
+use Rattle.call_files.specs.declared.tables.MapTables.{MapTables}
+use Rattle.line_work.specs.declared.stop.Stop.{Stop}
+use Rattle.line_work.proofs.Stopping.{Follow}
+
+-- the engine that searches by tables
+pub by-tables : (pick : Pick) → has_tables pick ≡ true → by_session engine.Plus ≡ by_of pick
+by-tables Plain is = absurd (cc)
+by-tables Jps is = absurd (cc)
+by-tables Block is = absurd (cc)
+by-tables Plus is = refl
+by-tables Boxes is = absurd (cc)
+by-tables Moves is = absurd (cc)
+
+-- an engine of small maps
+small-boxes : (pick : Pick) → by_boxes ≡ by_of pick → is_for_small_maps pick ≡ true
+small-boxes Plain is = absurd (cc)
+small-boxes Jps is = absurd (cc)
+small-boxes Block is = absurd (cc)
+small-boxes Plus is = absurd (cc)
+small-boxes Boxes is = refl
+small-boxes Moves is = absurd (cc)
+
+small-moves : (pick : Pick) → by_moves ≡ by_of pick → is_for_small_maps pick ≡ true
+small-moves Plain is = absurd (cc)
+small-moves Jps is = absurd (cc)
+small-moves Block is = absurd (cc)
+small-moves Plus is = absurd (cc)
+small-moves Boxes is = absurd (cc)
+small-moves Moves is = refl
+
+-- a session was made where no engine of small maps is picked
+pub session-made : (set : Settings) (m : Map) (made : Basis) → PicksSession set → IsBasisOn set m made
+    → HasSession made
+session-made set m (basis.Session session) picks on = tt
+session-made set m (basis.Boxes ls) picks on =
+    let small : is_for_small_maps set.pick ≡ true = small-boxes set.pick (ap (λ (w : Who). w.by) on.0) in cc
+session-made set m (basis.Moves ls) picks on =
+    let small : is_for_small_maps set.pick ≡ true = small-moves set.pick (ap (λ (w : Who). w.by) on.0) in cc

@@ -1,0 +1,311 @@
+-- The rows of told walks.
+use Rattle.std.proofs.Common.{◌≡◌, refl, sym, ap, ◌∙◌, subst, List, [], ◌∷◌, ◌++◌, append_assoc, ℕ, zero, suc, ◌+◌, ◌^◌, ◌<◌, ◌≤◌, ◌&&◌, ◌||◌, length, length-append, drop, inl, inr, arith, true, false, Bool}
+use Rattle.std.specs.Prelude.{Some, Result, Ok, Err, OnOk, Vec, slice_get, if◌then◌else◌, nat_eq, count_by}
+use Rattle.std.specs.Global.{Global}
+use Rattle.std.proofs.lemmas.Bool.Decides.{nat_tests}
+use Rattle.std.proofs.lemmas.List.{append-nil}
+use Rattle.grid_moves.specs.declared.Cell.{Cell}
+use Rattle.grid_moves.specs.Grid.{GridData, is_free}
+use Rattle.grid_moves.specs.Layers.{Layers, is_free_ground, is_on_map, query_grid}
+use Rattle.grid_moves.specs.Reply.{IsRight, are_free_ends}
+use Rattle.edit_replay.specs.Replies.{answer_of}
+use Rattle.edit_replay.specs.Session.{SessionData}
+use Rattle.edit_replay.specs.declared.engine.Engine.TheVariants.{Plain}
+use Rattle.edit_replay.specs.declared.reply.Reply.{Reply}
+use Rattle.edit_replay.specs.declared.reply.Reply.TheVariants as reply
+use Rattle.plain_search.specs.Costs.{IsCostTo}
+use Rattle.walk_judge.specs.declared.judging.Judged.{Judged}
+use Rattle.walk_judge.specs.Judgement.{IsJudgement}
+use Rattle.walk_judge.proofs.Existing.{judgement_exists}
+use Rattle.walk_judge.proofs.Judgements.{none_to_blocked, stands_costs}
+use Rattle.scen_text.specs.declared.entry.Entry.{Entry}
+use Rattle.walk_judge.specs.declared.telling.Told.{Told}
+use Rattle.call_files.specs.Reading.{AreFit}
+use Rattle.jps_run.specs.Refereeing.{IsReady, CanGoOn, HasRefereed, IsRefereed, cost_in, counts_of, sum_text}
+use Rattle.jps_run.specs.Rows.{has_sides}
+use Rattle.jps_run.specs.Rulings.{IsRuling, with_told, scale, outside, blocked, judged, goal_of, start_of, is_refused, judge_status, ruling_line, ruling_lines, rulings_line}
+use Rattle.line_work.specs.Turns.{AreInTurn}
+use Rattle.line_work.specs.Working.{Adds, CanComplete, HasRoomForOne}
+use Rattle.jps_run.specs.declared.replies.referee.Court.{Court}
+use Rattle.jps_run.specs.declared.replies.referee.Referee.{Referee}
+use Rattle.jps_run.specs.declared.replies.ruling.Counts.{Counts}
+use Rattle.jps_run.specs.declared.replies.ruling.Ruling.{Ruling}
+use Rattle.jps_run.specs.declared.replies.ruling.Ruling.TheVariants as ruling
+use Rattle.jps_run.proofs.SessionReply.{reply_exists}
+use Rattle.jps_run.proofs.Judgements.{not-empty}
+use Rattle.line_work.proofs.Turns.{turns-more, turns-all}
+
+-- where the ends are free but not on one grid, no walk leads
+apart-none : (ls : Layers) (s t : Cell) → is_free_ground ls s ≡ true
+    → (is_free (query_grid ls s) s && is_free (query_grid ls s) t) ≡ false → is_free (query_grid ls s) t ≡ false
+apart-none ls s t free apart = by_water (is_free ls.water s) refl free apart
+  where
+    other : (b : Bool) → (true && b) ≡ false → b ≡ false
+    other b e = e
+
+    by_water : (b : Bool) → is_free ls.water s ≡ b → (is_free ls.land s || is_free ls.water s) ≡ true
+        → (is_free (if is_free ls.water s then ls.water else ls.land) s
+        && is_free (if is_free ls.water s then ls.water else ls.land) t) ≡ false
+        → is_free (if is_free ls.water s then ls.water else ls.land) t ≡ false
+    by_water true e free apart = let h = rw (e, e) at apart in rw e h
+    by_water false e free apart = rw e (by_land (is_free ls.land s) (rw e at free) (rw e at apart))
+      where
+        by_land : (b : Bool) → (b || false) ≡ true → (b && is_free ls.land t) ≡ false → is_free ls.land t ≡ false
+        by_land true free apart = apart
+        by_land false free apart = absurd (cc)
+
+first-free : (a b : Bool) → (a && b) ≡ true → a ≡ true
+first-free true b e = refl
+first-free false b e = absurd (cc)
+
+-- a right reply between free ends tells the least cost
+pub right-costs : (ls : Layers) (s t : Cell) (r : Reply) → (is_on_map ls s && is_on_map ls t) ≡ true
+    → are_free_ends ls s t ≡ true → IsRight ls s t (answer_of r) → IsCostTo (query_grid ls s) s t (cost_in r)
+right-costs ls s t reply.Outside on free right = absurd (cc)
+right-costs ls s t reply.Blocked on free right = absurd (let no = right.1 in cc)
+right-costs ls s t (reply.None taken) on free right = elim right.1 [
+  | inl apart ↦ none_to_blocked (query_grid ls s) s t
+      (apart-none ls s t (first-free (is_free_ground ls s) (is_free_ground ls t) free) apart)
+  | inr none ↦ none
+]
+right-costs ls s t (reply.Walk points cost taken) on free right =
+    stands_costs (query_grid ls s) s t points cost right.1
+
+-- what is told between free cells is judged, and its row says how
+pub ruled-so : (ls : Layers) (entry : Entry) (told : Told) (how : Judged) (from to : Cell) (g : GridData)
+    → has_sides ls entry ≡ true → from ≡ start_of entry → to ≡ goal_of entry → are_free_ends ls from to ≡ true
+    → g ≡ query_grid ls from → IsJudgement g from to told how → IsRuling ls entry told (ruling.Judged how)
+ruled-so ls entry told how from to g sides f t free e j =
+    judged how sides
+    (ap (λ (c : Cell). are_free_ends ls c (goal_of entry)) (sym f)
+    ∙ ap (λ (c : Cell). are_free_ends ls from c) (sym t) ∙ free)
+    (subst (λ (c : Cell). IsJudgement (query_grid ls c) c (goal_of entry) told how) f
+    (subst (λ (c : Cell). IsJudgement (query_grid ls from) from c told how) t
+    (subst (λ (q : GridData). IsJudgement q from to told how) e j))) refl
+
+abbrev Both : Type 0
+Both = Entry × Told
+
+abbrev Stands : Layers → Unit {0} → Both → Ruling → Type 0
+Stands ls s both r = IsRuling ls both.0 both.1 r
+
+abbrev stays : Unit {0} → Both → Unit {0}
+stays s both = s
+
+-- one entry more, with what is told of it
+with_told-more : (entries : List Entry) (walks : List Told) (entry : Entry) (told : Told)
+    → slice_get walks (length entries) ≡ Some told
+    → with_told (entries ++ entry ∷ []) walks ≡ with_told entries walks ++ (entry, told) ∷ []
+with_told-more [] [] entry told found = absurd (cc)
+with_told-more [] (w ∷ walks) entry told found =
+    ap (λ (t : Told). (let both : Both = (entry, t) in both) ∷ []) (let same : w ≡ told = cc in same)
+with_told-more (e ∷ entries) [] entry told found = absurd (cc)
+with_told-more (e ∷ entries) (w ∷ walks) entry told found =
+    ap (λ (l : List Both). (let both : Both = (e, w) in both) ∷ l) (with_told-more entries walks entry told found)
+
+-- more entries, with what is told of them behind
+with_told-append : (some others : List Entry) (walks : List Told)
+    → with_told (some ++ others) walks ≡ with_told some walks ++ with_told others (drop (length some) walks)
+with_told-append [] others walks = refl
+with_told-append (e ∷ some) [] [] = refl
+with_told-append (e ∷ some) (o ∷ others) [] = refl
+with_told-append (e ∷ some) others (w ∷ walks) =
+    ap (λ (l : List Both). (let both : Both = (e, w) in both) ∷ l) (with_told-append some others walks)
+
+ruling_lines-append : (number : ℕ) (some others : List Ruling)
+    → ruling_lines number (some ++ others) ≡ ruling_lines number some ++ ruling_lines (number + length some) others
+ruling_lines-append number [] others =
+    ap (λ n. ruling_lines n others) (let e : number ≡ number + 0 = omega arith in e)
+ruling_lines-append number (r ∷ some) others =
+    ap (λ (l : List (List ℕ)). ruling_line number r ∷ l)
+    (ruling_lines-append (number + 1) some others
+    ∙ ap (λ n. ruling_lines (number + 1) some ++ ruling_lines n others)
+    (let e : number + 1 + length some ≡ number + suc (length some) = omega arith in e))
+
+-- one row more leaves room for one less
+pub goes-on : {T E : Type 0} (result : Result T E) (job now : Referee) (r : Ruling)
+    (room : HasRoomForOne (CanGoOn job)) → now.court ≡ job.court → now.walks ≡ job.walks
+    → ((rulings : List Ruling) → job.counts ≡ counts_of rulings → now.counts ≡ counts_of (rulings ++ r ∷ []))
+    → OnOk result ((n : ℕ) → CanGoOn job (n + 1) → CanGoOn now n)
+goes-on (Err error) job now r room court walks counts = tt
+goes-on (Ok done) job now r room court walks counts = λ n h.
+    let t = h.counts in
+    let one : now.counts ≡ counts_of (t.rulings ++ r ∷ []) = counts t.rulings t.counted in
+    let old : job.counts.rows ≡ length t.rulings = ap (λ (c : Counts). c.rows) t.counted in
+    let new : now.counts.rows ≡ length (t.rulings ++ r ∷ []) = ap (λ (c : Counts). c.rows) one in
+    let both : length (t.rulings ++ r ∷ []) ≡ length t.rulings + 1 = length-append t.rulings (r ∷ []) in
+    let few : job.counts.rows + (n + 1) < 2 ^ 64 = h.few in
+    let left : job.counts.rows + (n + 1) ≤ length job.walks.items = h.left in
+    let many : length now.walks.items ≡ length job.walks.items =
+    ap (λ (v : Vec Told Global). length v.items) walks in
+    record {
+      same = subst (λ (court : Court). court.session.layers ≡ court.layers) (sym court) h.same;
+      fit = subst (λ (v : Vec Told Global). AreFit v.items) (sym walks) h.fit;
+      counts = record { rulings = t.rulings ++ r ∷ []; counted = one };
+      left = omega arith;
+      few = omega arith;
+    }
+
+-- one entry more has its row
+pub refereed-more : {T E : Type 0} (result : Result T E) (job now : Referee) (entry : Entry) (told : Told) (r : Ruling)
+    (before after : List ℕ) → IsRuling job.court.layers entry told r
+    → slice_get job.walks.items job.counts.rows ≡ Some told → now.court ≡ job.court → now.walks ≡ job.walks
+    → ((rulings : List Ruling) → job.counts ≡ counts_of rulings → now.counts ≡ counts_of (rulings ++ r ∷ []))
+    → OnOk result (after ≡ before ++ ruling_line now.counts.rows r)
+    → OnOk result ((first : Referee) (entries : List Entry) (lines : List (List ℕ))
+    → HasRefereed first job entries lines
+    → Adds (HasRefereed first now (entries ++ entry ∷ [])) lines before after)
+refereed-more (Err error) job now entry told r before after is found court walks counts w = tt
+refereed-more (Ok done) job now entry told r before after is found court walks counts w = λ first entries lines h.
+    let old : job.counts.rows ≡ length h.rulings = ap (λ (c : Counts). c.rows) h.counted in
+    let one : now.counts.rows ≡ length (h.rulings ++ r ∷ []) =
+    ap (λ (c : Counts). c.rows) (counts h.rulings h.counted) in
+    let both : length (h.rulings ++ r ∷ []) ≡ length h.rulings + 1 = length-append h.rulings (r ∷ []) in
+    let longer : length (entries ++ entry ∷ []) ≡ length entries + 1 = length-append entries (entry ∷ []) in
+    let place : now.counts.rows ≡ 1 + length h.rulings = omega arith in
+    let here : slice_get first.walks.items (length entries) ≡ Some told =
+    subst (λ k. slice_get first.walks.items k ≡ Some told) (old ∙ h.as_many)
+    (subst (λ (v : Vec Told Global). slice_get v.items job.counts.rows ≡ Some told) h.told found) in
+    record {
+      more = ruling_line now.counts.rows r ∷ [];
+      stand = record {
+        rulings = h.rulings ++ r ∷ [];
+        are = subst (λ (l : List Both).
+            AreInTurn {S = Unit {0}} (Stands first.court.layers) stays tt l (h.rulings ++ r ∷ []))
+            (sym (with_told-more entries first.walks.items entry told here))
+            (turns-more (Stands first.court.layers) stays tt (with_told entries first.walks.items) h.rulings
+            (entry, told) r h.are (subst (λ (ls : Layers). IsRuling ls entry told r) h.same is));
+        all = ap (λ (l : List (List ℕ)). l ++ ruling_line now.counts.rows r ∷ []) h.all
+            ∙ ap (λ k. ruling_lines 1 h.rulings ++ ruling_line k r ∷ []) place
+            ∙ sym (ruling_lines-append 1 h.rulings (r ∷ []));
+        as_many = (let many : length h.rulings ≡ length entries = h.as_many in omega arith);
+        counted = counts h.rulings h.counted;
+        same = ap (λ (court : Court). court.layers) court ∙ h.same;
+        told = walks ∙ h.told;
+      };
+      appended = w ∙ ap (λ (l : List ℕ). before ++ l) (sym (append-nil (ruling_line now.counts.rows r)));
+    }
+
+-- the sum closes the rows
+pub refereed-all : (job : Referee) (status : ℕ) (before after : List ℕ) → after ≡ before ++ sum_text job.counts
+    → ((rulings : List Ruling) → job.counts ≡ counts_of rulings → status ≡ judge_status rulings)
+    → (first : Referee) (entries : List Entry) (lines : List (List ℕ)) → HasRefereed first job entries lines
+    → Adds (λ all. IsRefereed first entries all status) lines before after
+refereed-all job status before after w s first entries lines h = record {
+  more = rulings_line h.rulings ∷ [];
+  stand = record {
+    rulings = h.rulings;
+    are = h.are;
+    all = ap (λ (l : List (List ℕ)). l ++ rulings_line h.rulings ∷ []) h.all;
+    same_status = s h.rulings h.counted;
+  };
+  appended = w ∙ ap (λ (c : Counts). before ++ sum_text c) h.counted
+      ∙ ap (λ (l : List ℕ). before ++ l) (sym (append-nil (rulings_line h.rulings)));
+}
+
+-- every entry has a row, whatever is told of it
+module _ (ls : Layers) (entry : Entry) (told : Told) where
+  abbrev from : Cell
+  from = start_of entry
+
+  abbrev to : Cell
+  to = goal_of entry
+
+  abbrev session : SessionData
+  session = record { engine = Plain; layers = ls }
+
+  ruled-inside : has_sides ls entry ≡ true → (is_on_map ls from && is_on_map ls to) ≡ true
+      → (b : Bool) → are_free_ends ls from to ≡ b → (r : Ruling) × IsRuling ls entry told r
+  ruled-inside sides on false free = (ruling.Blocked, blocked sides (on, free) refl)
+  ruled-inside sides on true free =
+      let p = reply_exists session from to in
+      let j = judgement_exists (query_grid ls from) from to told (cost_in p.0)
+      (right-costs ls from to p.0 on free p.1.right) in
+      (ruling.Judged j.0, judged j.0 sides free j.1 refl)
+
+  ruled-sized : has_sides ls entry ≡ true → (b : Bool) → (is_on_map ls from && is_on_map ls to) ≡ b
+      → (r : Ruling) × IsRuling ls entry told r
+  ruled-sized sides false off = (ruling.Outside, outside sides off refl)
+  ruled-sized sides true on = ruled-inside sides on (are_free_ends ls from to) refl
+
+  ruled : (b : Bool) → has_sides ls entry ≡ b → (r : Ruling) × IsRuling ls entry told r
+  ruled false sides = (ruling.Scale, scale sides refl)
+  ruled true sides = ruled-sized sides (is_on_map ls from && is_on_map ls to) refl
+
+ruling_exists : (ls : Layers) (s : Unit {0}) (both : Both) → (r : Ruling) × Stands ls s both r
+ruling_exists ls s both = ruled ls both.0 both.1 (has_sides ls both.0) refl
+
+-- so the first rows can be completed
+pub rulings-complete : CanComplete HasRefereed IsRefereed true
+rulings-complete first now some others lines h =
+    let walks : List Told = first.walks.items in
+    let all = turns-all (Stands first.court.layers) stays (ruling_exists first.court.layers) tt (with_told some walks)
+    (with_told others (drop (length some) walks)) h.rulings h.are in
+    let rulings : List Ruling = h.rulings ++ all.0 in
+    let rest : List (List ℕ) = ruling_lines (1 + length h.rulings) all.0 in
+    let sum : List ℕ = rulings_line rulings in
+    record {
+      more = rest ++ sum ∷ [];
+      status = judge_status rulings;
+      whole = record {
+        rulings = rulings;
+        are = subst (λ (l : List Both). AreInTurn {S = Unit {0}} (Stands first.court.layers) stays tt l rulings)
+            (sym (with_told-append some others walks)) all.1;
+        all = sym (append_assoc lines rest (sum ∷ []))
+            ∙ ap (λ (l : List (List ℕ)). (l ++ rest) ++ sum ∷ []) h.all
+            ∙ ap (λ (l : List (List ℕ)). l ++ sum ∷ []) (sym (ruling_lines-append 1 h.rulings all.0));
+        same_status = refl;
+      };
+      some = λ left. not-empty rest sum;
+    }
+
+-- nothing is judged yet
+pub refereed-none : (job : Referee) → job.counts ≡ counts_of [] → HasRefereed job job [] []
+refereed-none job e = record {
+  rulings = [];
+  are = tt;
+  all = refl;
+  as_many = refl;
+  counted = e;
+  same = refl;
+  told = refl;
+}
+
+-- and all walks are left
+pub all-left : (job : Referee) (count : ℕ) → IsReady job count → count < 2 ^ 64 → CanGoOn job count
+all-left job count ready few =
+    let rows : job.counts.rows ≡ 0 = ap (λ (c : Counts). c.rows) ready.none in
+    record {
+      same = ready.same;
+      fit = ready.fit;
+      counts = record { rulings = []; counted = ready.none };
+      left = (let enough : count ≤ length job.walks.items = ready.enough in omega arith);
+      few = omega arith;
+    }
+
+-- the status is 0 or 1
+pub small_judge_status : (rulings : List Ruling) → judge_status rulings ≤ 1
+small_judge_status rulings = by_test (nat_eq (count_by is_refused rulings) 0)
+  where
+    by_test : (b : Bool) → (if b then 0 else 1) ≤ 1
+    by_test true = omega arith
+    by_test false = omega arith
+
+-- it follows from the counts
+pub status_none : (c : Counts) (all : List Ruling) → c ≡ counts_of all → c.refused ≡ 0 → 0 ≡ judge_status all
+status_none c all e none =
+    let nothing : count_by is_refused all ≡ 0 = ap (λ (c : Counts). c.refused) (sym e) ∙ none in
+    ap (λ n. if nat_eq n 0 then 0 else 1) (sym nothing)
+
+pub status_some : (c : Counts) (all : List Ruling) → c ≡ counts_of all → (c.refused ≡ 0 → ⊥)
+    → 1 ≡ judge_status all
+status_some c all e some = by_count (count_by is_refused all) (ap (λ (c : Counts). c.refused) e)
+  where
+    status_by : ℕ → ℕ
+    status_by n = if nat_eq n 0 then 0 else 1
+
+    by_count : (n : ℕ) → c.refused ≡ n → 1 ≡ status_by n
+    by_count zero is = absurd (some is)
+    by_count (suc n) is =
+        let off : nat_eq (suc n) 0 ≡ false = grind (arith, nat_tests) in
+        ap (λ (b : Bool). if b then 0 else 1) (sym off)

@@ -1,0 +1,16 @@
+use Rattle.jps_run.specs.Who.{who_is}
+use Rattle.jps_run.proofs.Solving.{query-goes-on}
+use Rattle.jps_run.proofs.Unfolding.{replied_unfolds}
+use Rattle.jps_run.proofs.replies.answers.put_answer.Goals as goal
+
+pub put_reply-requires-clause-unfolds : goal.put_reply-requires-clause-unfolds
+put_reply-requires-clause-unfolds g c =
+    let q = c.in-Query in
+    replied_unfolds (who_is c.args.session.now) (record { x = q.sx; y = q.sy }) (record { x = q.gx; y = q.gy })
+    c.in_ok-reply-in-Query.reply
+    (record { right = c.in_ok-reply-in-Query.ensures.right; run = c.in_ok-reply-in-Query.ensures.run })
+
+pub returns-in_ok-reply-in-Query-clause-edited : goal.returns-in_ok-reply-in-Query-clause-edited
+returns-in_ok-reply-in-Query-clause-edited g c =
+    query-goes-on c.put_reply.result c.args.session.now c.query.new.self c.args.command c.in-Query.sx
+    c.in-Query.sy c.in-Query.gx c.in-Query.gy c.in_ok-reply-in-Query.ensures.unchanged c.in-Query.is

@@ -1,0 +1,16 @@
+use Rattle.jps_run.proofs.Rising.{on_ok}
+use Rattle.jps_run.proofs.Counting.{taken-none}
+use Rattle.jps_run.proofs.Solving.{answered-none, answers-complete}
+use Rattle.jps_run.proofs.replies.answers.write_answers.Goals as goal
+
+pub work_items-requires-clause-completes : goal.work_items-requires-clause-completes
+work_items-requires-clause-completes g c = answers-complete
+
+pub work_items-requires-clause-begins : goal.work_items-requires-clause-begins
+work_items-requires-clause-begins g c = answered-none c.args.job.now
+
+pub work_items-requires-clause-counts : goal.work_items-requires-clause-counts
+work_items-requires-clause-counts g c = taken-none c.args.job.now c.args.steps.now
+
+pub returns-clause-counted : goal.returns-clause-counted
+returns-clause-counted g c = on_ok c.work_items.result (λ taken. taken.rose) c.work_items.ensures.counted

@@ -1,0 +1,20 @@
+use Rattle.std.proofs.Common.{length}
+use Rattle.jps_run.proofs.Rising.{on_ok}
+use Rattle.jps_run.proofs.Drilling.{all-fit, drill-complete, drilled-none, taken-none}
+use Rattle.jps_run.proofs.replies.drill.write_sums.Goals as goal
+
+pub work_items-requires-clause-room : goal.work_items-requires-clause-room
+work_items-requires-clause-room g c =
+    all-fit c.args.job.now (length c.args.commands.now) c.requires.new c.requires.few
+
+pub work_items-requires-clause-completes : goal.work_items-requires-clause-completes
+work_items-requires-clause-completes g c = drill-complete
+
+pub work_items-requires-clause-begins : goal.work_items-requires-clause-begins
+work_items-requires-clause-begins g c = drilled-none c.args.job.now c.requires.new
+
+pub work_items-requires-clause-counts : goal.work_items-requires-clause-counts
+work_items-requires-clause-counts g c = taken-none c.args.job.now c.args.steps.now
+
+pub returns-clause-counted : goal.returns-clause-counted
+returns-clause-counted g c = on_ok c.work_items.result (λ taken. taken.rose) c.work_items.ensures.counted

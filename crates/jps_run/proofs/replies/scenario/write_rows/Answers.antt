@@ -1,0 +1,20 @@
+use Rattle.std.proofs.Common.{refl, [], arith}
+use Rattle.jps_run.proofs.Rising.{on_ok}
+use Rattle.jps_run.proofs.Judgements.{new-room, rows-complete}
+use Rattle.jps_run.proofs.replies.scenario.write_rows.Goals as goal
+
+pub work_items-requires-clause-room : goal.work_items-requires-clause-room
+work_items-requires-clause-room g c = new-room c.args.job.now _ c.requires.ready c.requires.new (omega arith)
+
+pub work_items-requires-clause-completes : goal.work_items-requires-clause-completes
+work_items-requires-clause-completes g c = rows-complete
+
+pub work_items-requires-clause-begins : goal.work_items-requires-clause-begins
+work_items-requires-clause-begins g c =
+    record { rows = []; ready = c.requires.ready; are = tt; all = refl; counted = c.requires.new; same = refl; shown = refl }
+
+pub work_items-requires-clause-counts : goal.work_items-requires-clause-counts
+work_items-requires-clause-counts g c = record { rose = refl; same = refl }
+
+pub returns-clause-counted : goal.returns-clause-counted
+returns-clause-counted g c = on_ok c.work_items.result (λ taken. taken.rose) c.work_items.ensures.counted

@@ -1,0 +1,119 @@
+-- What the commands of a drill come to, and the line that sums it up.
+use Rattle.std.specs.Prelude.{◌≡◌, ℕ, ◌+◌, ◌<◌, ◌^◌, Bool, true, false, ⊤, List, [], ◌++◌, codes, decimal, count_by}
+use Rattle.std.specs.List.{sum_by}
+use Rattle.grid_moves.specs.declared.Cell.{Cell}
+use Rattle.edit_replay.specs.Edited.{Edit, edit_at}
+use Rattle.edit_replay.specs.Session.{SessionData}
+use Rattle.edit_replay.specs.declared.reply.EditReply.{EditReply}
+use Rattle.edit_replay.specs.declared.reply.EditReply.TheVariants as edit
+use Rattle.edit_replay.specs.declared.reply.Reply.{Reply}
+use Rattle.edit_replay.specs.declared.reply.Reply.TheVariants as reply
+use Rattle.grid_moves.specs.declared.Ground.TheVariants.{Blocked, Land, Water}
+use Rattle.map_maker.specs.Drill.{drill_commands}
+use Rattle.map_maker.specs.Making.{made_map}
+use Rattle.script_text.specs.declared.command.Command.{Command}
+use Rattle.script_text.specs.declared.command.Command.TheVariants.{Block, Free, Flood, Query}
+use Rattle.word_list.specs.declared.request.Settings.{Settings}
+use Rattle.jps_run.specs.Answers.{edits_with}
+use Rattle.jps_run.specs.Session.{IsReply, OnSession, reply_to_edit, session_after}
+use Rattle.line_work.specs.Turns.{AreInTurn}
+use Rattle.jps_run.specs.declared.replies.drill.Finding.{Finding}
+use Rattle.jps_run.specs.declared.replies.drill.Finding.TheVariants as finding
+
+-- what the reply to a query comes to
+abbrev pub finding_of : Reply → Finding
+finding_of (reply.Walk points cost taken) = finding.Walk cost
+finding_of (reply.None taken) = finding.None
+finding_of reply.Outside = finding.Outside
+finding_of reply.Blocked = finding.Blocked
+
+-- what the reply to an edit comes to
+abbrev pub finding_of_edit : EditReply → Finding
+finding_of_edit edit.Done = finding.Done
+finding_of_edit edit.Same = finding.Same
+finding_of_edit edit.Outside = finding.Outside
+
+-- a query comes to this by a right reply
+pub record IsQueried (d : SessionData) (s t : Cell) (found : Finding) : Type 0 where
+  pub reply : Reply
+  pub is_reply : IsReply d s t reply
+  pub is : found ≡ finding_of reply
+
+-- the command comes to this
+abbrev pub IsFinding : SessionData → Command → Finding → Type 0
+IsFinding d (Block x y) found = found ≡ finding_of_edit (reply_to_edit d (edit_at x y Blocked))
+IsFinding d (Free x y) found = found ≡ finding_of_edit (reply_to_edit d (edit_at x y Land))
+IsFinding d (Flood x y) found = found ≡ finding_of_edit (reply_to_edit d (edit_at x y Water))
+IsFinding d (Query sx sy gx gy) found =
+    IsQueried d (record { x = sx; y = sy }) (record { x = gx; y = gy }) found
+
+-- the command comes to this on the map's session as these edits leave it
+abbrev pub FindsAfter : SessionData → List Edit → Command → Finding → Type 0
+FindsAfter d edits command found = IsFinding (session_after d edits) command found
+
+-- each command comes to one of these, on the map's session as the edits before the command leave it
+abbrev pub AreFindings : SessionData → List Command → List Finding → Type 0
+AreFindings d commands found = AreInTurn (FindsAfter d) edits_with [] commands found
+
+abbrev pub is_walk : Finding → Bool
+is_walk (finding.Walk cost) = true
+is_walk _ = false
+
+abbrev pub is_none : Finding → Bool
+is_none finding.None = true
+is_none _ = false
+
+abbrev pub is_blocked : Finding → Bool
+is_blocked finding.Blocked = true
+is_blocked _ = false
+
+abbrev pub is_done : Finding → Bool
+is_done finding.Done = true
+is_done _ = false
+
+abbrev pub is_same : Finding → Bool
+is_same finding.Same = true
+is_same _ = false
+
+-- the straight and the diagonal moves of a walk
+abbrev pub straight_in : Finding → ℕ
+straight_in (finding.Walk cost) = cost.a
+straight_in _ = 0
+
+abbrev pub diagonal_in : Finding → ℕ
+diagonal_in (finding.Walk cost) = cost.b
+diagonal_in _ = 0
+
+-- a walk has fewer than 2^24 moves
+abbrev pub IsShortFinding : Finding → Type 0
+IsShortFinding (finding.Walk cost) = cost.a + cost.b < 2 ^ 24
+IsShortFinding _ = ⊤
+
+-- a text and a number
+abbrev pub counted : List ℕ → ℕ → List ℕ
+counted text n = text ++ decimal n
+
+-- the parts of the line: how many queries came to each kind of finding
+abbrev pub queries_text : ℕ → ℕ → ℕ → List ℕ
+queries_text walks none blocked =
+    counted (codes "drill walks ") walks ++ counted (codes " none ") none ++ counted (codes " blocked ") blocked
+
+-- how many edits did
+abbrev pub edits_text : ℕ → ℕ → List ℕ
+edits_text done same = counted (codes " ok ") done ++ counted (codes " same ") same
+
+-- and the sum of the walks' costs
+abbrev pub costs_text : ℕ → ℕ → List ℕ
+costs_text straight diagonal = counted (codes " cost ") straight ++ counted (codes " ") diagonal ++ codes "\n"
+
+-- the line
+abbrev pub drill_line : List Finding → List ℕ
+drill_line found =
+    queries_text (count_by is_walk found) (count_by is_none found) (count_by is_blocked found)
+    ++ edits_text (count_by is_done found) (count_by is_same found)
+    ++ costs_text (sum_by straight_in found) (sum_by diagonal_in found)
+
+-- the commands of the seed come to these, on the map of the seed: 256 by 256, a quarter of it blocked
+abbrev pub AreDrilled : Settings → ℕ → List Finding → Type 0
+AreDrilled set seed found =
+    OnSession set (made_map seed 256 256 25) (λ d. AreFindings d (drill_commands seed) found)

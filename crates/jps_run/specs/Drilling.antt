@@ -1,0 +1,66 @@
+-- How far a drill has come.
+use Rattle.std.specs.Prelude.{◌≡◌, ℕ, ◌+◌, ◌<◌, ◌≤◌, ◌^◌, List, [], ◌∷◌, ◌++◌, length, count_by}
+use Rattle.std.specs.List.{All, fold, sum_by}
+use Rattle.script_text.specs.declared.command.Command.{Command}
+use Rattle.jps_run.specs.Answers.{edits_with}
+use Rattle.jps_run.specs.Counts.{RoseForCommands}
+use Rattle.jps_run.specs.Drill.{AreFindings, IsShortFinding, drill_line, queries_text, edits_text, costs_text, is_walk, is_none, is_blocked, is_done, is_same, straight_in, diagonal_in}
+use Rattle.jps_run.specs.Session.{session_after}
+use Rattle.jps_run.specs.declared.replies.drill.Summary.{Summary}
+use Rattle.jps_run.specs.declared.replies.drill.Finding.{Finding}
+use Rattle.jps_run.specs.declared.replies.drill.Sums.{Sums}
+
+-- the counts of findings and the sums of their costs
+abbrev pub sums_of : List Finding → Sums
+sums_of found = record {
+  walks = count_by is_walk found;
+  none = count_by is_none found;
+  blocked = count_by is_blocked found;
+  done = count_by is_done found;
+  same = count_by is_same found;
+  straight = sum_by straight_in found;
+  diagonal = sum_by diagonal_in found;
+}
+
+-- one finding more fits into the sums
+pub record HasRoom (sums : Sums) : Type 0 where
+  pub walks : sums.walks < 2 ^ 63
+  pub none : sums.none < 2 ^ 63
+  pub blocked : sums.blocked < 2 ^ 63
+  pub done : sums.done < 2 ^ 63
+  pub same : sums.same < 2 ^ 63
+  pub straight : sums.straight < 2 ^ 63
+  pub diagonal : sums.diagonal < 2 ^ 63
+
+-- the line, by the sums
+abbrev pub sums_text : Sums → List ℕ
+sums_text sums =
+    queries_text sums.walks sums.none sums.blocked ++ edits_text sums.done sums.same
+    ++ costs_text sums.straight sums.diagonal
+
+-- the sums are those of findings, and there is room for so many more
+pub record LeavesRoom (job : Summary) (more : ℕ) : Type 0 where
+  pub found : List Finding
+  pub summed : job.sums ≡ sums_of found
+  pub short : All IsShortFinding found
+  pub few : length found + more ≤ 2 ^ 32
+
+-- the commands came to findings with these sums, and their edits were made; no line is written before the sums
+pub record HasDrilled (first now : Summary) (commands : List Command) (lines : List (List ℕ)) : Type 0 where
+  pub found : List Finding
+  pub are : AreFindings first.session commands found
+  pub summed : now.sums ≡ sums_of found
+  pub session : now.session ≡ session_after first.session (fold edits_with [] commands)
+  pub none : lines ≡ []
+
+-- the counter rose for these commands, and their edits were made
+pub record HaveCounted (first now : Summary) (commands : List Command) (old new : ℕ) : Type 0 where
+  pub rose : RoseForCommands first.session commands old new
+  pub session : now.session ≡ session_after first.session (fold edits_with [] commands)
+
+-- one line sums up what the commands come to, with status 0
+pub record IsDrilled (first : Summary) (commands : List Command) (lines : List (List ℕ)) (status : ℕ) : Type 0 where
+  pub found : List Finding
+  pub are : AreFindings first.session commands found
+  pub all : lines ≡ drill_line found ∷ []
+  pub good : status ≡ 0

@@ -1,0 +1,94 @@
+-- A script that comes in: its commands, its refusal, the lines that answer it, and how far the counter rises for it.
+use Rattle.std.specs.Prelude.{◌≡◌, ℕ, ◌≤◌, ◌<◌, ⊤, List, length, take, codes, Option, Some, None}
+use Rattle.std.specs.List.{concat}
+use Rattle.std.specs.Option.{option_map, option_map_or}
+use Rattle.std.specs.Io.KnownBytes.{Consumes, IsAtEnd}
+use Rattle.io_edge.specs.Told.{Outflow}
+use Rattle.io_edge.specs.Whole.{AppendsSome}
+use Rattle.edit_replay.specs.Session.{SessionData}
+use Rattle.script_text.specs.declared.command.Command.{Command}
+use Rattle.script_text.specs.Feeding.{commands_of, commands_so_far, fault_of, fault_so_far}
+use Rattle.word_list.specs.declared.request.Show.{Show}
+use Rattle.call_files.specs.FaultLines.{long_line, script_line}
+use Rattle.call_files.specs.Kinds.{limit_of}
+use Rattle.call_files.specs.declared.kind.Kind.TheVariants as kind
+use Rattle.line_work.specs.Sending.{Wrote}
+use Rattle.jps_run.specs.Answers.{AreAnswers}
+use Rattle.jps_run.specs.Counts.{RoseForCommands}
+
+-- what is left to come in is this text, where it is told
+abbrev pub IsTold : Option (List ℕ) → List ℕ → Type 0
+IsTold None text = ⊤
+IsTold (Some left) text = text ≡ left
+
+-- of a script that is too long these bytes count
+abbrev pub counted : List ℕ → List ℕ
+counted script = take (limit_of kind.Script) script
+
+-- the commands of a script before its first refused line, and the line of its refusal, if it is refused: where it is too
+-- long, a line of the bytes that count is refused first, and their last line is not judged without its line feed
+pub data IsHeard (script : List ℕ) (commands : List Command) (refusal : Option (List ℕ)) : Type 0 where
+  whole : length script ≤ limit_of kind.Script → commands ≡ commands_of script
+      → refusal ≡ option_map script_line (fault_of script) → IsHeard script commands refusal
+  too_long : limit_of kind.Script < length script → commands ≡ commands_so_far (counted script)
+      → refusal ≡ Some (option_map_or script_line (fault_so_far (counted script)) (long_line (codes "script")))
+      → IsHeard script commands refusal
+
+-- the whole commands among bytes that were taken, before the first refused line: those of the lines with line feed, and at
+-- the end that of the last line
+pub data AreWhole (left : Option (List ℕ)) (taken : List ℕ) (commands : List Command) : Type 0 where
+  so_far : commands ≡ commands_so_far (counted taken) → AreWhole left taken commands
+  at_end : IsAtEnd left → length taken ≤ limit_of kind.Script → commands ≡ commands_of taken
+      → AreWhole left taken commands
+
+-- the lines answer the commands of what comes in, up to its first refused line, and this is the line of its refusal
+pub record AnswerHeard (d : SessionData) (show : Show) (input refusal : Option (List ℕ)) (lines : List (List ℕ))
+    : Type 0 where
+  pub script : List ℕ
+  pub told : IsTold input script
+  pub commands : List Command
+  pub heard : IsHeard script commands refusal
+  pub answers : AreAnswers d show commands lines
+
+-- the lines answer the whole commands among the bytes that were taken
+pub record AnswerTaken (d : SessionData) (show : Show) (input left : Option (List ℕ)) (lines : List (List ℕ))
+    : Type 0 where
+  pub taken : List ℕ
+  pub consumed : Consumes input left taken
+  pub commands : List Command
+  pub whole : AreWhole left taken commands
+  pub answers : AreAnswers d show commands lines
+
+-- so they do, and no line of the bytes is refused
+pub record AnswerPending (d : SessionData) (show : Show) (input left : Option (List ℕ)) (lines : List (List ℕ))
+    : Type 0 where
+  pub taken : List ℕ
+  pub consumed : Consumes input left taken
+  pub few : length taken ≤ limit_of kind.Script
+  pub clean : fault_so_far taken ≡ None
+  pub answers : AreAnswers d show (commands_so_far taken) lines
+
+-- lines that stand so were written: all of them, a first part, or the first ones, each whole
+pub record WroteAll (Stand : List (List ℕ) → Type 0) (before now : Outflow) : Type 0 where
+  pub lines : List (List ℕ)
+  pub stand : Stand lines
+  pub wrote : Wrote before now (concat lines)
+
+pub record WroteFirst (Stand : List (List ℕ) → Type 0) (before now : Outflow) : Type 0 where
+  pub lines : List (List ℕ)
+  pub stand : Stand lines
+  pub wrote : AppendsSome before.written now.written (concat lines)
+
+pub record WroteLines (Stand : List (List ℕ) → Type 0) (before now : Outflow) : Type 0 where
+  pub lines : List (List ℕ)
+  pub stand : Stand lines
+  pub count : ℕ
+  pub wrote : Wrote before now (concat (take count lines))
+
+-- the counter rose as the commands of the script make it that came in
+pub record RoseHeard (d : SessionData) (input : Option (List ℕ)) (old new : ℕ) : Type 0 where
+  pub script : List ℕ
+  pub told : IsTold input script
+  pub commands : List Command
+  pub heard : IsHeard script commands None
+  pub rose : RoseForCommands d commands old new

@@ -1,0 +1,115 @@
+-- The rows that judge what another program tells of a scenario's entries.
+use Rattle.std.specs.Prelude.{◌≡◌, ℕ, ◌+◌, Bool, true, false, nat_eq, if◌then◌else◌, List, [], ◌∷◌, ◌++◌, length, codes, decimal, count_by}
+use Rattle.root2_cost.specs.declared.Cost.{Cost}
+use Rattle.grid_moves.specs.declared.Cell.{Cell}
+use Rattle.grid_moves.specs.Layers.{Layers, query_grid}
+use Rattle.grid_moves.specs.Reply as answer
+use Rattle.grid_moves.specs.Reply.{IsRight, are_free_ends}
+use Rattle.scen_text.specs.declared.entry.Entry.{Entry}
+use Rattle.walk_judge.specs.declared.judging.Judged.{Judged}
+use Rattle.walk_judge.specs.declared.judging.Judged.TheVariants.{Least, NoWalk, BadWalk, Longer, Exists}
+use Rattle.walk_judge.specs.declared.telling.Told.{Told}
+use Rattle.walk_judge.specs.Judgement.{IsJudgement}
+use Rattle.jps_run.specs.Rows.{has_sides}
+use Rattle.line_work.specs.Turns.{AreInTurn}
+use Rattle.jps_run.specs.declared.replies.ruling.Ruling.{Ruling}
+use Rattle.jps_run.specs.declared.replies.ruling.Ruling.TheVariants as ruling
+
+-- each entry with what is told of it
+abbrev pub with_told : List Entry → List Told → List (Entry × Told)
+with_told [] walks = []
+with_told (entry ∷ entries) [] = []
+with_told (entry ∷ entries) (told ∷ walks) = (entry, told) ∷ with_told entries walks
+
+-- the ends of the entry's query
+abbrev pub start_of : Entry → Cell
+start_of entry = record { x = entry.sx; y = entry.sy }
+
+abbrev pub goal_of : Entry → Cell
+goal_of entry = record { x = entry.gx; y = entry.gy }
+
+-- the row of an entry and of what is told of it: the entry is meant for another size; or an end lies outside, or
+-- is blocked; else what is told is judged so on the grid of the query
+pub data IsRuling (ls : Layers) (entry : Entry) (told : Told) (r : Ruling) : Type 0 where
+  scale : has_sides ls entry ≡ false → r ≡ ruling.Scale → IsRuling ls entry told r
+  outside : has_sides ls entry ≡ true → IsRight ls (start_of entry) (goal_of entry) answer.outside
+      → r ≡ ruling.Outside → IsRuling ls entry told r
+  blocked : has_sides ls entry ≡ true → IsRight ls (start_of entry) (goal_of entry) answer.blocked
+      → r ≡ ruling.Blocked → IsRuling ls entry told r
+  judged : (how : Judged) → has_sides ls entry ≡ true
+      → are_free_ends ls (start_of entry) (goal_of entry) ≡ true
+      → IsJudgement (query_grid ls (start_of entry)) (start_of entry) (goal_of entry) told how
+      → r ≡ ruling.Judged how → IsRuling ls entry told r
+
+-- one row for each entry, by what is told of it
+abbrev pub AreRulings : Layers → List Entry → List Told → List Ruling → Type 0
+AreRulings ls entries walks rulings =
+    AreInTurn {S = Unit {0}} (λ _ both r. IsRuling ls both.0 both.1 r) (λ s _. s) tt (with_told entries walks)
+    rulings
+
+-- ` A B` of a cost
+abbrev pub pair_text : Cost → List ℕ
+pair_text cost = codes " " ++ decimal cost.a ++ codes " " ++ decimal cost.b
+
+-- that a told walk is refused by its first bad point
+abbrev pub bad_text : ℕ → List ℕ
+bad_text bad = codes "refused walk " ++ decimal bad
+
+-- how what is told is judged
+abbrev pub judged_text : Judged → List ℕ
+judged_text NoWalk = codes "accepted none"
+judged_text (Least cost) = codes "accepted" ++ pair_text cost
+judged_text (Exists least) = codes "refused none" ++ pair_text least
+judged_text (BadWalk bad) = bad_text bad
+judged_text (Longer paid least) = codes "refused longer" ++ pair_text paid ++ pair_text least
+
+-- what a row says behind its number
+abbrev pub ruling_text : Ruling → List ℕ
+ruling_text ruling.Scale = codes "scale"
+ruling_text ruling.Outside = codes "outside"
+ruling_text ruling.Blocked = codes "blocked"
+ruling_text (ruling.Judged how) = judged_text how
+
+-- the line of the row with this number
+abbrev pub ruling_line : ℕ → Ruling → List ℕ
+ruling_line number r = codes "row " ++ decimal number ++ codes " " ++ ruling_text r ++ codes "\n"
+
+-- the lines of the rows, which are numbered from this one on
+abbrev pub ruling_lines : ℕ → List Ruling → List (List ℕ)
+ruling_lines number [] = []
+ruling_lines number (r ∷ rulings) = ruling_line number r ∷ ruling_lines (number + 1) rulings
+
+-- what is told is accepted
+abbrev pub is_accepted : Ruling → Bool
+is_accepted (ruling.Judged NoWalk) = true
+is_accepted (ruling.Judged (Least cost)) = true
+is_accepted _ = false
+
+-- what is told is refused
+abbrev pub is_refused : Ruling → Bool
+is_refused (ruling.Judged (Exists least)) = true
+is_refused (ruling.Judged (BadWalk bad)) = true
+is_refused (ruling.Judged (Longer paid least)) = true
+is_refused _ = false
+
+-- nothing is judged
+abbrev pub is_unjudged : Ruling → Bool
+is_unjudged (ruling.Judged how) = false
+is_unjudged _ = true
+
+-- the last line, which counts the rows
+abbrev pub rulings_line : List Ruling → List ℕ
+rulings_line rulings =
+    codes "sum " ++ decimal (length rulings)
+    ++ codes " accepted " ++ decimal (count_by is_accepted rulings)
+    ++ codes " refused " ++ decimal (count_by is_refused rulings)
+    ++ codes " other " ++ decimal (count_by is_unjudged rulings)
+    ++ codes "\n"
+
+-- the status is 1 where some row is refused
+abbrev pub judge_status : List Ruling → ℕ
+judge_status rulings = if nat_eq (count_by is_refused rulings) 0 then 0 else 1
+
+-- all lines: a row for each entry, and the sum
+abbrev pub judge_lines : List Ruling → List (List ℕ)
+judge_lines rulings = ruling_lines 1 rulings ++ rulings_line rulings ∷ []

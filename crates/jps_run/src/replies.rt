@@ -1,0 +1,36 @@
+//! Who answers queries and edits on a map, as the settings ask, and what is printed of it.
+//!
+//! What is an answer: right, and come to as the one who answers does. On a map that stays as it is a session answers by
+//! its engine, or on a small map goal boxes or first moves do; a call opens them from its files. Printed are the lines
+//! that answer commands, those of a script that comes in before the next is read, what they come to in one line of sums,
+//! a picture of one query, and the rows that judge a scenario or what another program tells of it.
+
+mod answerer;
+mod answers;
+mod case;
+mod draw;
+mod drill;
+mod lines;
+mod live;
+mod referee;
+mod row;
+mod ruling;
+mod scenario;
+mod session;
+mod sessions;
+mod small;
+
+pub use answerer::{Answerer, Basis, BoxLibrary, MoveLibrary};
+pub use answers::{Answers, write_answers};
+pub use case::{Case, read_case};
+pub use draw::{Canvas, write_drawing};
+pub use drill::{Finding, Summary, Sums, write_sums};
+pub use lines::put_reply;
+pub use live::hear;
+pub use referee::{Court, Referee, write_rulings};
+pub use row::{Row, Tally};
+pub use ruling::{Counts, Ruling};
+pub use scenario::{Judge, write_rows};
+pub use session::session_on;
+pub use sessions::{open_basis, open_basis_and, session_of};
+pub use small::{boxed_reply, led_reply};

@@ -1,0 +1,238 @@
+//! Those who answer queries on a map that stays as it is.
+//!
+//! A session answers by its engine. On a small map what is kept of all its cells answers too: goal boxes, by a
+//! search that goes by them, or first moves, by following them.
+
+ghost use Rattle.std.specs.Prelude.{◌≡◌, ◌≤◌, ◌<◌, IfOk, OnOk, true};
+ghost use Rattle.edit_replay.specs.Counting.{RoseByStates, RoseWithin};
+ghost use Rattle.edit_replay.specs.Replies.{IsRightOn, IsShort, answer_of};
+ghost use Rattle.first_moves.specs.Row.{AreMoves};
+ghost use Rattle.goal_boxes.specs.Stored.{HoldsBoxes};
+ghost use Rattle.grid_moves.specs.Layers.{in_one_layer, query_grid};
+ghost use Rattle.jps_run.specs.Answerers.{IsBasisOn, IsFit, CanAnswer, who_from, who_of};
+ghost use Rattle.call_files.specs.Reading.{AreSmall};
+ghost use Rattle.jps_run.specs.Who.{IsBoxedReply, IsLedReply, IsReplyBy, fewest_by, most_by};
+
+use crate::NoMemory;
+use crate::replies::session_on;
+use crate::replies::small::{ends_on, follow_moves, search_boxed};
+use call_files::{Extent, OfMap};
+use cell_lines::Ends;
+use edit_replay::{Reply, Session};
+use first_moves::Moves;
+use goal_boxes::Boxes;
+use grid_moves::{Cell, Layers, Terrain};
+use map_text::MapText;
+use std::alloc::Global;
+use std::sync::ledger::Ledger;
+use steps::Steps;
+use word_list::{Pick, Settings};
+
+/// What is made of a map for the picked engine at once: a session, or the grids of a small map.
+#[derive(Drop)]
+pub enum Basis {
+    Session(Session),
+    /// For goal boxes.
+    Boxes(Layers),
+    /// For first moves.
+    Moves(Layers),
+}
+
+impl OfMap for Basis {
+    ghost use Rattle.std.specs.Prelude.{⊤};
+    ghost use Rattle.jps_run.specs.Answerers.{IsBasisOn};
+    ghost use Rattle.call_files.specs.Kinds.{extent_for};
+
+    ghost extent_of = { λ set. extent_for set.pick };
+
+    ghost serves = { λ _. ⊤ };
+
+    ghost is_of_map = { IsBasisOn };
+
+    fn extent(settings: Settings) -> Extent {
+        Extent::of(settings.pick)
+    }
+
+    fn of_map(alloc: Global, map: MapText, settings: Settings) -> Result<Basis, NoMemory> {
+        match settings.pick {
+            Pick::Plain | Pick::Jps | Pick::Block | Pick::Plus => {
+                Ok(Basis::Session(session_on(alloc, &map, settings)?))
+            }
+            Pick::Boxes => Ok(Basis::Boxes(Layers::of_map(alloc, map, settings)?)),
+            Pick::Moves => Ok(Basis::Moves(Layers::of_map(alloc, map, settings)?)),
+        }
+    }
+}
+
+/// The boxes of all cells of a small map, on both of its grids.
+#[derive(Drop)]
+pub struct BoxLibrary {
+    layers: Layers,
+    land: Boxes,
+    water: Boxes,
+}
+
+/// The first moves between all cells of a small map, on both of its grids.
+#[derive(Drop)]
+pub struct MoveLibrary {
+    layers: Layers,
+    land: Moves,
+    water: Moves,
+}
+
+/// Whoever answers queries.
+#[derive(Drop)]
+pub enum Answerer {
+    Session(Session),
+    Boxes(BoxLibrary),
+    Moves(MoveLibrary),
+}
+
+impl BoxLibrary {
+    // The reply to a query.
+    fn query(&self, alloc: Global, ends: Ends) -> Result<Reply, NoMemory>
+        requires ready { CanAnswer (Answerer.Boxes self.now) }
+        ensures reply { IfOk result (IsReplyBy (who_of (Answerer.Boxes self.now))
+            (record { x = ends.sx; y = ends.sy }) (record { x = ends.gx; y = ends.gy })) }
+    {
+        match ends_on(alloc, &self.layers, ends) {
+            Ok((from, to)) => self.search(alloc, from, to),
+            Err(reply) => Ok(reply),
+        }
+    }
+
+    // The reply between two free cells of one grid.
+    fn search(&self, alloc: Global, from: Cell, to: Cell) -> Result<Reply, NoMemory>
+        requires land { HoldsBoxes self.now.layers.land self.now.land }
+        requires water { HoldsBoxes self.now.layers.water self.now.water }
+        requires one { in_one_layer self.now.layers from to ≡ true }
+        ensures right { IfOk result (IsRightOn (query_grid self.now.layers from) from to) }
+        ensures run { IfOk result (IsBoxedReply (query_grid self.now.layers from) from to) }
+    {
+        if self.layers.water().free(from) {
+            search_boxed(alloc, self.layers.water(), &self.water, from, to)
+        } else {
+            search_boxed(alloc, self.layers.land(), &self.land, from, to)
+        }
+    }
+}
+
+impl MoveLibrary {
+    // The reply to a query.
+    fn query<L: Ledger>(
+        &self,
+        alloc: Global,
+        ends: Ends,
+        steps: &mut Steps<L>,
+    ) -> Result<Reply, NoMemory>
+        requires ready { CanAnswer (Answerer.Moves self.now) }
+        ensures reply { IfOk result (IsReplyBy (who_of (Answerer.Moves self.now))
+            (record { x = ends.sx; y = ends.sy }) (record { x = ends.gx; y = ends.gy })) }
+        ensures later { OnOk result (steps.old ≤ steps.new) }
+    {
+        match ends_on(alloc, &self.layers, ends) {
+            Ok((from, to)) => self.follow(alloc, from, to, steps),
+            Err(reply) => Ok(reply),
+        }
+    }
+
+    // The reply between two free cells of one grid.
+    fn follow<L: Ledger>(
+        &self,
+        alloc: Global,
+        from: Cell,
+        to: Cell,
+        steps: &mut Steps<L>,
+    ) -> Result<Reply, NoMemory>
+        requires small { AreSmall self.now.layers }
+        requires land { AreMoves self.now.layers.land self.now.land }
+        requires water { AreMoves self.now.layers.water self.now.water }
+        requires one { in_one_layer self.now.layers from to ≡ true }
+        ensures right { IfOk result (IsRightOn (query_grid self.now.layers from) from to) }
+        ensures run { IfOk result (IsLedReply (query_grid self.now.layers from) from to) }
+        ensures later { OnOk result (steps.old ≤ steps.new) }
+    {
+        if self.layers.water().free(from) {
+            follow_moves(alloc, self.layers.water(), &self.water, from, to, steps)
+        } else {
+            follow_moves(alloc, self.layers.land(), &self.land, from, to, steps)
+        }
+    }
+}
+
+impl Answerer {
+    /// Who answers by what was made of a map: of a small map all boxes, or all first moves, are made now.
+    pub fn new(alloc: Global, basis: Basis) -> Result<Answerer, NoMemory>
+        requires fit { IsFit basis }
+        ensures who { IfOk result (λ a. who_of a ≡ who_from basis) }
+        ensures ready { IfOk result CanAnswer }
+    {
+        match basis {
+            Basis::Session(session) => Ok(Answerer::Session(session)),
+            Basis::Boxes(layers) => {
+                let land = Boxes::build(alloc, layers.land())?;
+                let water = Boxes::build(alloc, layers.water())?;
+                Ok(Answerer::Boxes(BoxLibrary {
+                    layers,
+                    land,
+                    water,
+                }))
+            }
+            Basis::Moves(layers) => {
+                let land = Moves::build(alloc, layers.land())?;
+                let water = Moves::build(alloc, layers.water())?;
+                Ok(Answerer::Moves(MoveLibrary {
+                    layers,
+                    land,
+                    water,
+                }))
+            }
+        }
+    }
+
+    /// The map's width, in cells.
+    pub fn width(&self) -> u16
+        ensures { result ≡ (who_of self.now).layers.land.width }
+    {
+        match self {
+            Answerer::Session(session) => session.width(),
+            Answerer::Boxes(library) => library.layers.land().width(),
+            Answerer::Moves(library) => library.layers.land().width(),
+        }
+    }
+
+    /// The map's height, in cells.
+    pub fn height(&self) -> u16
+        ensures { result ≡ (who_of self.now).layers.land.height }
+    {
+        match self {
+            Answerer::Session(session) => session.height(),
+            Answerer::Boxes(library) => library.layers.land().height(),
+            Answerer::Moves(library) => library.layers.land().height(),
+        }
+    }
+
+    /// Answers a query. A session counts what its engine counts, first moves a step for each move.
+    pub fn query<L: Ledger>(
+        &mut self,
+        alloc: Global,
+        ends: Ends,
+        steps: &mut Steps<L>,
+    ) -> Result<Reply, NoMemory>
+        requires ready { CanAnswer self.old }
+        ensures reply { IfOk result (IsReplyBy (who_of self.old)
+            (record { x = ends.sx; y = ends.sy }) (record { x = ends.gx; y = ends.gy })) }
+        ensures short { IfOk result (λ reply. IsShort (answer_of reply)) }
+        ensures unchanged { self.new ≡ self.old }
+        ensures fewest { IfOk result (RoseByStates (fewest_by (who_of self.old).by) steps.old steps.new) }
+        ensures most { IfOk result (RoseWithin (most_by (who_of self.old).by) steps.old steps.new) }
+    {
+        match self {
+            Answerer::Session(session) => {
+                session.query(alloc, ends.sx, ends.sy, ends.gx, ends.gy, steps)
+            }
+            Answerer::Boxes(library) => library.query(alloc, ends),
+            Answerer::Moves(library) => library.query(alloc, ends, steps),
+        }
+    }
+}

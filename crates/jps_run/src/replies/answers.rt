@@ -1,0 +1,99 @@
+//! The answers to commands: edits and queries of a session.
+
+ghost use Rattle.std.specs.Prelude.{OnOk};
+ghost use Rattle.jps_run.specs.Answering.{PutsAnswer, GoesOn, IsSolved};
+ghost use Rattle.jps_run.specs.Counts.{RoseForCommand, RoseForCommands};
+ghost use Rattle.line_work.specs.Sending.{SendsWhole};
+
+use crate::NoMemory;
+use crate::replies::lines::{put_edit_reply, put_reply};
+use edit_replay::Session;
+use grid_moves::Ground;
+use io_edge::Sink;
+use line_work::{Job, Stop, work_items};
+use script_text::Command;
+use std::alloc::Global;
+use std::sync::ledger::Ledger;
+use steps::Steps;
+use word_list::Show;
+
+/// A session that answers commands in order, and what its lines show.
+#[derive(Drop)]
+pub struct Answers {
+    pub session: Session,
+    pub show: Show,
+}
+
+impl Job for Answers {
+    ghost use Rattle.std.specs.Prelude.{⊤, false};
+    ghost use Rattle.jps_run.specs.Answering.{HasAnswered, HaveCounted, IsSolved};
+
+    type Item = Command;
+
+    ghost can_work = { λ _. ⊤ };
+
+    ghost has_room = { λ _ _. ⊤ };
+
+    ghost has_worked = { HasAnswered };
+
+    ghost closes = { false };
+
+    ghost is_whole = { IsSolved };
+
+    ghost has_counted = { HaveCounted };
+
+    fn answer<L: Ledger>(
+        &mut self,
+        alloc: Global,
+        item: Command,
+        lines: &mut Vec<u8>,
+        steps: &mut Steps<L>,
+    ) -> Result<(), NoMemory> {
+        put_answer(alloc, &mut self.session, self.show, item, lines, steps)
+    }
+
+    fn close(&self, _lines: &mut Vec<u8>) -> Result<u8, NoMemory> {
+        Ok(0)
+    }
+}
+
+// Answers one command, and appends its line.
+fn put_answer<L: Ledger>(
+    alloc: Global,
+    session: &mut Session,
+    show: Show,
+    command: Command,
+    lines: &mut Vec<u8>,
+    steps: &mut Steps<L>,
+) -> Result<(), NoMemory>
+    ensures answered { OnOk result (PutsAnswer session.old show command lines.old.items lines.new.items) }
+    ensures edited { OnOk result (GoesOn session.old command session.new) }
+    ensures counted { OnOk result (RoseForCommand session.old session.new command steps.old steps.new) }
+{
+    match command {
+        Command::Block { x, y } => put_edit_reply(
+            lines,
+            session.edit(x, y, Ground::Blocked, steps),
+        ),
+        Command::Free { x, y } => put_edit_reply(lines, session.edit(x, y, Ground::Land, steps)),
+        Command::Flood { x, y } => put_edit_reply(lines, session.edit(x, y, Ground::Water, steps)),
+        Command::Query { sx, sy, gx, gy } => {
+            let reply = session.query(alloc, sx, sy, gx, gy, steps)?;
+            put_reply(alloc, lines, &reply, session.width(), show)
+        }
+    }
+}
+
+/// Answers the commands in order, each by the session as the edits before it leave it.
+pub fn write_answers<O: Sink, L: Ledger>(
+    alloc: Global,
+    job: &mut Answers,
+    commands: &[Command],
+    out: &mut O,
+    steps: &mut Steps<L>,
+) -> Result<u8, Stop>
+    ensures sent { SendsWhole (IsSolved job.old commands.now) (O.outflow out.old) (O.outflow out.new) result }
+    ensures counted { OnOk result (RoseForCommands job.old.session commands.now steps.old steps.new) }
+{
+    work_items(alloc, job, commands, out, steps)
+}

@@ -1,0 +1,141 @@
+//! The rows that judge a scenario.
+
+ghost use Rattle.std.specs.Prelude.{◌≡◌, nat_eq, ◌&&◌, [], IfOk, OnOk};
+ghost use Rattle.scen_text.specs.Lengths.{IsKept};
+ghost use Rattle.edit_replay.specs.Replies.{IsShort, answer_of};
+ghost use Rattle.jps_run.specs.Answerers.{CanAnswer, who_of};
+ghost use Rattle.jps_run.specs.Entries.{RoseForEntries, RoseForEntry};
+ghost use Rattle.jps_run.specs.Judging.{IsJudged};
+ghost use Rattle.jps_run.specs.Rows as rows;
+ghost use Rattle.line_work.specs.Sending.{SendsWhole};
+ghost use Rattle.call_files.specs.Reading.{AreKept};
+ghost use Rattle.jps_run.specs.Tally.{tally_of};
+
+use crate::NoMemory;
+use crate::replies::Answerer;
+use crate::replies::row::{Row, Tally, put_row};
+use cell_lines::Ends;
+use edit_replay::Reply;
+use io_edge::Sink;
+use line_work::{Job, Stop, work_items};
+use root2_cost::{Decimal, judge};
+use scen_text::Entry;
+use std::alloc::Global;
+use std::sync::ledger::Ledger;
+use steps::Steps;
+use word_list::Show;
+
+/// What judges a scenario's entries in order by the one who answers, and the counts of their rows.
+#[derive(Drop)]
+pub struct Judge {
+    pub answerer: Answerer,
+    pub show: Show,
+    pub tally: Tally,
+}
+
+impl Job for Judge {
+    ghost use Rattle.std.specs.Prelude.{true};
+    ghost use Rattle.scen_text.specs.Lengths.{IsKept};
+    ghost use Rattle.jps_run.specs.Judging.{HasJudged, HasRoom, HaveCounted, IsJudged};
+
+    type Item = Entry;
+
+    ghost can_work = { λ entry. IsKept entry.length };
+
+    ghost has_room = { HasRoom };
+
+    ghost has_worked = { HasJudged };
+
+    ghost closes = { true };
+
+    ghost is_whole = { IsJudged };
+
+    ghost has_counted = { HaveCounted };
+
+    fn answer<L: Ledger>(
+        &mut self,
+        alloc: Global,
+        item: Entry,
+        lines: &mut Vec<u8>,
+        steps: &mut Steps<L>,
+    ) -> Result<(), NoMemory> {
+        let row = row_of(alloc, &mut self.answerer, item, steps)?;
+        self.tally.count(row);
+        put_row(lines, self.show, self.tally.rows, row)
+    }
+
+    fn close(&self, lines: &mut Vec<u8>) -> Result<u8, NoMemory> {
+        self.tally.put(lines, self.show)?;
+        Ok(self.tally.status())
+    }
+}
+
+/// Whether the entry is meant for a map of these sides.
+pub fn has_sides(width: u16, height: u16, entry: Entry) -> bool
+    ensures { result ≡ (nat_eq entry.w width && nat_eq entry.h height) }
+{
+    entry.w == u32::from(width) && entry.h == u32::from(height)
+}
+
+// What the reply makes of an entry with this length.
+fn row_of_reply(listed: Decimal, reply: &Reply) -> Row
+    requires kept { IsKept listed }
+    requires short { IsShort (answer_of reply.now) }
+    ensures { result ≡ rows.row_of listed reply.now }
+{
+    match reply {
+        Reply::Outside => Row::Outside,
+        Reply::Blocked => Row::Blocked,
+        Reply::None { taken } => Row::None {
+            taken: taken.as_slice().len() as u64,
+        },
+        Reply::Walk { cost, taken, .. } => Row::Judged {
+            verdict: judge(listed, *cost),
+            cost: *cost,
+            taken: taken.as_slice().len() as u64,
+        },
+    }
+}
+
+// The row of an entry, by the one who answers.
+fn row_of<L: Ledger>(
+    alloc: Global,
+    answerer: &mut Answerer,
+    entry: Entry,
+    steps: &mut Steps<L>,
+) -> Result<Row, NoMemory>
+    requires kept { IsKept entry.length }
+    requires ready { CanAnswer answerer.old }
+    ensures row { IfOk result (rows.IsRow (who_of answerer.old) entry) }
+    ensures same { answerer.new ≡ answerer.old }
+    ensures counted { OnOk result (RoseForEntry (who_of answerer.old) entry steps.old steps.new) }
+{
+    if !has_sides(answerer.width(), answerer.height(), entry) {
+        return Ok(Row::Scale);
+    }
+    let ends = Ends {
+        sx: entry.sx,
+        sy: entry.sy,
+        gx: entry.gx,
+        gy: entry.gy,
+    };
+    let reply = answerer.query(alloc, ends, steps)?;
+    Ok(row_of_reply(entry.length, &reply))
+}
+
+/// Judges the entries in order by a judge who has judged none yet, and sums their rows up.
+pub fn write_rows<O: Sink, L: Ledger>(
+    alloc: Global,
+    job: &mut Judge,
+    entries: &[Entry],
+    out: &mut O,
+    steps: &mut Steps<L>,
+) -> Result<u8, Stop>
+    requires ready { CanAnswer job.old.answerer }
+    requires new { job.old.tally ≡ tally_of [] }
+    requires kept { AreKept entries.now }
+    ensures sent { SendsWhole (IsJudged job.old entries.now) (O.outflow out.old) (O.outflow out.new) result }
+    ensures counted { OnOk result (RoseForEntries (who_of job.old.answerer) entries.now steps.old steps.new) }
+{
+    work_items(alloc, job, entries, out, steps)
+}

@@ -1,9 +1,0 @@
--- For every query of a session there is a right reply.
-use Rattle.grid_moves.specs.declared.Cell.{Cell}
-use Rattle.edit_replay.specs.Session.{SessionData}
-use Rattle.edit_replay.specs.declared.reply.Reply.{Reply}
-use Rattle.edit_replay.proofs.Replying.{has_reply}
-use Rattle.reply_lines.specs.Session.{IsReply}
-
-pub reply_exists : (d : SessionData) (s t : Cell) → (reply : Reply) × IsReply d s t reply
-reply_exists d s t = let h = has_reply d s t in (h.reply, record { right = h.right; run = h.run })

@@ -1,5 +1,0 @@
-use Rattle.reply_lines.proofs.Drilling.{drilled-all}
-use Rattle.reply_lines.proofs.drill.SummaryJob.close.Goals as goal
-
-pub returns-clause-closed : goal.returns-clause-closed
-returns-clause-closed c = drilled-all c.args.self.now c.args.lines.now.items c.put.new.out.items c.in_ok-put.ensures

@@ -1,7 +1,0 @@
-use Rattle.reply_lines.proofs.Judgements.{judged-all}
-use Rattle.reply_lines.proofs.scenario.JudgeJob.close.Goals as goal
-
-pub returns-clause-closed : goal.returns-clause-closed
-returns-clause-closed c =
-    judged-all c.args.self.now c.status.result c.args.lines.now.items c.put.new.out.items c.in_ok-put.ensures
-    c.status.ensures
