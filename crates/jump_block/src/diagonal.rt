@@ -117,9 +117,8 @@ impl<'a> Bits<'a> {
     // Whether the cell beside a free cell is free.
     #[inline(always)]
     fn is_open<L: Ledger>(&self, at: Cell, d: Dir, steps: &mut Steps<L>) -> bool
-        requires stands { OnSome self.now.rows.now self.now.columns.now self.now.corner at }
-        ensures is { OnEach self.now.rows.now self.now.columns.now self.now.corner at
-            (λ g. result ≡ moves.is_open g at d) }
+        requires stands { OnSome self.now at }
+        ensures is { OnEach self.now at (λ g. result ≡ moves.is_open g at d) }
         ensures one_step { steps.new ≡ steps.old + 1 }
     {
         let bit = bit_beside(at, d);
@@ -129,10 +128,9 @@ impl<'a> Bits<'a> {
     // Whether a diagonal move from a free cell is legal, for the rare cells at the end of a word.
     #[inline(never)]
     fn leads<L: Ledger>(&self, at: Cell, d: Dir, steps: &mut Steps<L>) -> bool
-        requires stands { OnSome self.now.rows.now self.now.columns.now self.now.corner at }
+        requires stands { OnSome self.now at }
         requires diagonal { is_diagonal d ≡ true }
-        ensures leads { OnEach self.now.rows.now self.now.columns.now self.now.corner at
-            (λ g. result ≡ can_move g at d) }
+        ensures leads { OnEach self.now at (λ g. result ≡ can_move g at d) }
         ensures three_steps { steps.new ≡ steps.old + 3 }
     {
         let ahead = self.is_open(at, d, steps);
@@ -144,11 +142,10 @@ impl<'a> Bits<'a> {
     // The same, told the words around the cell, in which the cells ahead and beside it mostly are.
     #[inline(always)]
     fn leads_near<L: Ledger>(&self, at: Cell, d: Dir, near: Words, steps: &mut Steps<L>) -> bool
-        requires stands { OnSome self.now.rows.now self.now.columns.now self.now.corner at }
+        requires stands { OnSome self.now at }
         requires near { AreNearStart self.now.rows.now (at.y + 1) (at.x + 1) near }
         requires diagonal { is_diagonal d ≡ true }
-        ensures leads { OnEach self.now.rows.now self.now.columns.now self.now.corner at
-            (λ g. result ≡ can_move g at d) }
+        ensures leads { OnEach self.now at (λ g. result ≡ can_move g at d) }
         ensures more { steps.old ≤ steps.new }
     {
         let place = (u32::from(at.x) + 1) % 64;
@@ -162,10 +159,9 @@ impl<'a> Bits<'a> {
     // Whether, after a diagonal move to a free cell, a neighbour is forced there.
     #[inline(always)]
     fn forces<L: Ledger>(&self, at: Cell, d: Dir, steps: &mut Steps<L>) -> bool
-        requires stands { OnSome self.now.rows.now self.now.columns.now self.now.corner at }
+        requires stands { OnSome self.now at }
         requires diagonal { is_diagonal d ≡ true }
-        ensures forces { OnEach self.now.rows.now self.now.columns.now self.now.corner at
-            (λ g. result ≡ is_forced g at d) }
+        ensures forces { OnEach self.now at (λ g. result ≡ is_forced g at d) }
         ensures more { steps.old ≤ steps.new }
     {
         match self.corner {
@@ -181,10 +177,9 @@ impl<'a> Bits<'a> {
     // jump in a component finds a stop. For the rare cells in the goal's row or column.
     #[inline(never)]
     fn stops_in_line<L: Ledger>(&self, at: Cell, d: Dir, goal: Cell, steps: &mut Steps<L>) -> bool
-        requires stands { OnSome self.now.rows.now self.now.columns.now self.now.corner at }
+        requires stands { OnSome self.now at }
         requires diagonal { is_diagonal d ≡ true }
-        ensures stops { OnEach self.now.rows.now self.now.columns.now self.now.corner at
-            (λ g. result ≡ (is_same at goal || is_forced g at d
+        ensures stops { OnEach self.now at (λ g. result ≡ (is_same at goal || is_forced g at d
             || is_some (first.first_stop g goal at (spec.row_dir (spec.row_way d)))
             || is_some (first.first_stop g goal at (spec.column_dir (spec.column_way d))))) }
         ensures more { steps.old ≤ steps.new }
@@ -207,11 +202,10 @@ impl<'a> Bits<'a> {
         near: Words,
         steps: &mut Steps<L>,
     ) -> bool
-        requires stands { OnSome self.now.rows.now self.now.columns.now self.now.corner at }
+        requires stands { OnSome self.now at }
         requires near { AreNearStart self.now.rows.now (at.y + 1) (at.x + 1) near }
         requires diagonal { is_diagonal d ≡ true }
-        ensures stops { OnEach self.now.rows.now self.now.columns.now self.now.corner at
-            (λ g. result ≡ (is_same at goal || is_forced g at d
+        ensures stops { OnEach self.now at (λ g. result ≡ (is_same at goal || is_forced g at d
             || is_some (first.first_stop g goal at (spec.row_dir (spec.row_way d)))
             || is_some (first.first_stop g goal at (spec.column_dir (spec.column_way d))))) }
         ensures more { steps.old ≤ steps.new }
@@ -234,10 +228,9 @@ impl<'a> Bits<'a> {
         goal: Cell,
         steps: &mut Steps<L>,
     ) -> Option<u16>
-        requires stands { OnSome self.now.rows.now self.now.columns.now self.now.corner at }
+        requires stands { OnSome self.now at }
         requires diagonal { is_diagonal d ≡ true }
-        ensures first { OnEach self.now.rows.now self.now.columns.now self.now.corner at
-            (λ g. result ≡ first.first_stop g goal at d) }
+        ensures first { OnEach self.now at (λ g. result ≡ first.first_stop g goal at d) }
         ensures fewest { steps.old + 3 ≤ steps.new }
     {
         let mut cell = at;
