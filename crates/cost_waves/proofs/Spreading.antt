@@ -5,14 +5,13 @@ use Rattle.grid_moves.specs.declared.Cell.{Cell}
 use Rattle.grid_moves.specs.declared.Dir.{Dir}
 use Rattle.grid_moves.specs.declared.Dir.TheVariants.{N, NE, E, SE, S, SW, W, NW}
 use Rattle.grid_moves.specs.declared.around.Around.{Around}
-use Rattle.grid_moves.specs.Around.{if_open}
+use Rattle.grid_moves.specs.Around.{IsAround, end_of, if_open}
 use Rattle.grid_moves.specs.Grid.{GridData, IsGrid, cell_number}
 use Rattle.grid_moves.specs.Move.{all_dirs, legal_ahead}
 use Rattle.grid_moves.proofs.Besides.{ahead_free}
 use Rattle.grid_moves.proofs.Legal.{free_inside}
 use Rattle.grid_moves.proofs.Places.{number_below}
 use Rattle.cost_waves.specs.declared.front.Source.{Source}
-use Rattle.cost_waves.specs.Around.{IsAround, end_of}
 use Rattle.cost_waves.specs.Front.{Front, offered, spread}
 use Rattle.cost_waves.specs.Shape.{Fits}
 

@@ -4,5 +4,4 @@ pub mod Told
 pub mod Kept
 pub mod Front
 pub mod Shape
-pub mod Around
 pub mod Wave

@@ -13,8 +13,7 @@ ghost use Rattle.cost_waves.specs.Front.{entered, next_with, after_with};
 ghost use Rattle.cost_waves.specs.Shape.{front_of, Fits};
 
 use crate::NoMemory;
-use crate::moves::moves_around;
-use grid_moves::{Cell, Dir, Terrain, number_of};
+use grid_moves::{Cell, Dir, Terrain, moves_around, number_of};
 use root2_cost::{DIAGONAL_RANK, STRAIGHT_RANK};
 
 /// A cell that is settled: its rank, and the directions with which least walks to it begin. From the start of

@@ -9,7 +9,6 @@
 #![tactic(auto)]
 
 mod front;
-mod moves;
 mod ranks;
 mod sweep;
 mod waves;

@@ -12,14 +12,10 @@ use Rattle.grid_moves.specs.declared.Corner.TheVariants.{Never, One}
 use Rattle.grid_moves.specs.Grid.{GridData, is_free}
 use Rattle.grid_moves.specs.Move.{is_legal, is_passable, corner_of, move_cost}
 use Rattle.grid_moves.specs.Walk.{IsWalk, is_walk, cost_of, last_of}
+use Rattle.grid_moves.proofs.Besides.{passable-turned}
 use Rattle.grid_moves.proofs.Legal.{and_both, legal_is, is_legal-from}
 use Rattle.grid_moves.proofs.Short.{walk_free}
 use Rattle.cost_waves.specs.Begin.{IsLeastCost, IsCostTo}
-
--- the two cells beside a move are alike
-passable-turned : (r : Corner) (a b : Bool) → is_passable r a b ≡ is_passable r b a
-passable-turned Never a b = grind arith
-passable-turned One a b = grind arith
 
 legal_back : (g : GridData) (u v : Cell) → is_legal g u v ≡ true → is_legal g v u ≡ true
 legal_back g u v h =

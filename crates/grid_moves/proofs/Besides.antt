@@ -1,125 +1,184 @@
 -- The free cells beside a free cell are those that legal moves lead to.
 use Rattle.std.proofs.Common.{◌≡◌, ℕ, zero, suc, ◌+◌, ◌≤◌, ◌⊎◌, inl, inr, arith, refl, ap, sym, ◌∙◌}
 use Rattle.std.proofs.Common.{Bool, true, false, ◌&&◌}
-use Rattle.std.specs.Prelude.{Option, Some, None, if◌then◌else◌}
+use Rattle.std.specs.Prelude.{Option, Some, None, is_some, option_and_then, unwrap_or, if◌then◌else◌}
+use Rattle.std.proofs.lemmas.Bool.Decides.{nat_tests}
 use Rattle.grid_moves.specs.declared.Cell.{Cell}
-use Rattle.grid_moves.specs.declared.Dir.{Dir}
 use Rattle.grid_moves.specs.declared.Corner.{Corner}
+use Rattle.grid_moves.specs.declared.Corner.TheVariants.{Never, One}
+use Rattle.grid_moves.specs.declared.Dir.{Dir}
+use Rattle.grid_moves.specs.declared.Dir.TheVariants.{N, NE, E, SE, S, SW, W, NW}
+use Rattle.grid_moves.specs.declared.around.Around.{Around}
+use Rattle.grid_moves.specs.declared.ring.Ring.{Ring}
 use Rattle.grid_moves.specs.Grid.{GridData, IsGrid, is_free}
-use Rattle.grid_moves.specs.Move.{is_legal, is_passable, ahead, legal_ahead, column_ahead, row_ahead, before}
+use Rattle.grid_moves.specs.Move.{is_legal, are_neighbours, is_free_cell, is_open, is_passable, beyond, legal_ahead, column_ahead, row_ahead}
+use Rattle.grid_moves.specs.Ring.{ring_told, is_free_on, leads_on}
+use Rattle.grid_moves.specs.Around.{IsAround, end_of, if_open, is_open_to}
 use Rattle.grid_moves.proofs.Ahead.{legal_ahead-is}
-use Rattle.grid_moves.proofs.Legal.{and_both, legal_is, is_legal-from, free_inside, passable-both}
-use Rattle.grid_moves.specs.Around.{IsBefore, if_open}
+use Rattle.grid_moves.proofs.Legal.{legal_is, free_inside}
 
--- of a column or row m, what lies ahead in some direction is n, or nothing, and no map has n
-pub data Side (m : ℕ) (o : Option ℕ) (n : ℕ) : Type 0 where
-  on : o ≡ Some n → m ≤ n + 1 → n ≤ m + 1 → Side m o n
-  off : o ≡ None → 4096 ≤ n → Side m o n
+abbrev cell : ℕ → ℕ → Cell
+cell x y = record { x = x; y = y }
 
-pub stay : (m : ℕ) → Side m (Some m) m
-stay m = on refl (omega arith) (omega arith)
+abbrev cell_of : Option ℕ → Option ℕ → Option Cell
+cell_of x y = option_and_then (λ x. option_and_then (λ y. Some (cell x y)) y) x
 
-pub further : (m : ℕ) → Side m (Some (m + 1)) (m + 1)
-further m = on refl (omega arith) (omega arith)
+abbrev cell_by : Option ℕ → Option ℕ → Cell
+cell_by x y = cell (unwrap_or x 65535) (unwrap_or y 65535)
 
-pub back : (m n : ℕ) → IsBefore m n → Side m (before m) n
-back zero n is = off refl (let e : n ≡ 65535 = is.none refl in omega arith)
-back (suc m) n is =
-    let e : suc m ≡ n + 1 = is.some (omega arith) in
-    let s : m ≡ n = omega arith in
-    on (ap (λ (k : ℕ). Some k) s) (omega arith) (omega arith)
+abbrev legal_to : GridData → Cell → Option Cell → Option Cell
+legal_to g c o = option_and_then (λ v. if is_legal g c v then Some v else None) o
 
--- which is not the same
-pub back_differs : (m n : ℕ) → IsBefore m n → m ≡ n → ⊥
-back_differs zero n is e = let f : n ≡ 65535 = is.none refl in omega arith
-back_differs (suc m) n is e = let f : suc m ≡ n + 1 = is.some (omega arith) in omega arith
+-- what lies beyond the border is not free
+pub free_beyond : (g : GridData) → IsGrid g → (c : Cell) (d : Dir) → is_free g (beyond d c) ≡ is_open g c d
+free_beyond g whole c d = by_parts (column_ahead d c.x) (row_ahead d c.y)
+  where
+    off_map : (v : Cell) → (4096 ≤ v.x) ⊎ (4096 ≤ v.y) → (b : Bool) → is_free g v ≡ b → is_free g v ≡ false
+    off_map v h false e = e
+    off_map v h true e = absurd (
+        let i = free_inside g v e in
+        let wide = whole.sides.narrow in
+        let high = whole.sides.low in
+        elim h [ inl l ↦ omega arith | inr l ↦ omega arith ])
 
-module _ (g : GridData) (whole : IsGrid g) (c : Cell) (free : is_free g c ≡ true) where
-  -- the cell v lies ahead, and near, or nothing does, and v is off the map
-  data Lies (v : Cell) (d : Dir) : Type 0 where
-    there : ahead d c ≡ Some v → c.x ≤ v.x + 1 → v.x ≤ c.x + 1 → c.y ≤ v.y + 1 → v.y ≤ c.y + 1 → Lies v d
-    nowhere : ahead d c ≡ None → is_free g v ≡ false → Lies v d
+    by_parts : (x y : Option ℕ) → is_free g (cell_by x y) ≡ is_free_cell g (cell_of x y)
+    by_parts (Some x) (Some y) = refl
+    by_parts (Some x) None = off_map (cell x 65535) (inr (omega arith)) (is_free g (cell x 65535)) refl
+    by_parts None y = off_map (cell_by None y) (inl (omega arith)) (is_free g (cell_by None y)) refl
 
-  off_map : (v : Cell) → (4096 ≤ v.x) ⊎ (4096 ≤ v.y) → is_free g v ≡ false
-  off_map v h = by_test (is_free g v) refl
-    where
-      by_test : (b : Bool) → is_free g v ≡ b → is_free g v ≡ false
-      by_test false e = e
-      by_test true e = absurd (
-          let i = free_inside g v e in
-          let wide = whole.sides.narrow in
-          let high = whole.sides.low in
-          elim h [ inl l ↦ omega arith | inr l ↦ omega arith ])
+-- where the move is legal it leads beyond
+pub legal_beyond : (g : GridData) (c : Cell) (d : Dir) (b : Bool) → b ≡ is_some (legal_ahead g c d)
+    → if_open b (beyond d c) ≡ legal_ahead g c d
+legal_beyond g c d b is = ap (λ (b : Bool). if_open b (beyond d c)) is
+    ∙ by_parts (column_ahead d c.x) (row_ahead d c.y)
+  where
+    by_test : (v : Cell) (l : Bool)
+        → if_open (is_some (if l then Some v else None)) v ≡ (if l then Some v else None)
+    by_test v true = refl
+    by_test v false = refl
 
-  lies : (v : Cell) (d : Dir) → Side c.x (column_ahead d c.x) v.x → Side c.y (row_ahead d c.y) v.y → Lies v d
-  lies v d (on e i j) (on f k l) = there (rw (e, f) refl) i j k l
-  lies v d (on e i j) (off f l) = nowhere (rw (e, f) refl) (off_map v (inr l))
-  lies v d (off e l) s = nowhere (rw e refl) (off_map v (inl l))
-
-  -- of a move to v: whether the corner rule lets it pass between the other two cells of the box
-  passes_to : Cell → Bool
-  passes_to v = is_passable g.corner (is_free g (record { x = c.x; y = v.y }))
-      (is_free g (record { x = v.x; y = c.y }))
-
-  -- where v is free and the move to it passes, it is legal
-  same_answer : (v : Cell) (d : Dir) (clear : Bool) → Lies v d → ((c.x ≡ v.x) → (c.y ≡ v.y) → ⊥)
-      → (is_free g v && passes_to v) ≡ clear → if_open clear v ≡ legal_ahead g c d
-  unfolding passes_to
-  same_answer v d true (there e i j k l) differ read =
-      let both = and_both (is_free g v) (passes_to v) read in
-      let is : is_legal g c v ≡ true = is_legal-from g c v (record {
-        source = free;
-        target = both.0;
-        passes = both.1;
-        x_low = i;
-        x_high = j;
-        y_low = k;
-        y_high = l;
-        differ = differ;
-      }) in
-      rw (e, is) refl
-  same_answer v d false (there e i j k l) differ read = rw e (by_test (is_legal g c v) refl)
-    where
-      by_test : (b : Bool) → is_legal g c v ≡ b → None ≡ (if b then Some v else None)
-      by_test true h = absurd (let l = legal_is g c v h in
-          let o : (is_free g v && passes_to v) ≡ true = rw (l.target, l.passes) refl in cc)
-      by_test false h = refl
-  same_answer v d true (nowhere e f) differ read =
-      absurd (let t = (and_both (is_free g v) (passes_to v) read).0 in cc)
-  same_answer v d false (nowhere e f) differ read = rw e refl
-
-  -- a straight move is legal where its end is free
-  pub straight : (v : Cell) (d : Dir) → Side c.x (column_ahead d c.x) v.x → Side c.y (row_ahead d c.y) v.y
-      → ((c.x ≡ v.x) → (c.y ≡ v.y) → ⊥) → (c.x ≡ v.x) ⊎ (c.y ≡ v.y) → (read : Bool) → read ≡ is_free g v
-      → if_open read v ≡ legal_ahead g c d
-  unfolding passes_to
-  straight v d x y differ axis true f =
-      same_answer v d true (lies v d x y) differ
-      (rw (sym f, beside (sym f) axis, across (sym f) axis) (passable-both g.corner))
-    where
-      beside : is_free g v ≡ true → (c.x ≡ v.x) ⊎ (c.y ≡ v.y) → is_free g (record { x = c.x; y = v.y }) ≡ true
-      beside f (inl e) = ap (λ (n : ℕ). is_free g (record { x = n; y = v.y })) e ∙ f
-      beside f (inr e) = ap (λ (n : ℕ). is_free g (record { x = c.x; y = n })) (sym e) ∙ free
-
-      across : is_free g v ≡ true → (c.x ≡ v.x) ⊎ (c.y ≡ v.y) → is_free g (record { x = v.x; y = c.y }) ≡ true
-      across f (inl e) = ap (λ (n : ℕ). is_free g (record { x = n; y = c.y })) (sym e) ∙ free
-      across f (inr e) = ap (λ (n : ℕ). is_free g (record { x = v.x; y = n })) e ∙ f
-  straight v d x y differ axis false f =
-      same_answer v d false (lies v d x y) differ (rw (sym f) refl)
-
-  -- a diagonal move is legal where its end is free and it passes between the cells beside it
-  pub diagonal : (x y : ℕ) (d : Dir) → Side c.x (column_ahead d c.x) x → Side c.y (row_ahead d c.y) y
-      → ((c.x ≡ x) → (c.y ≡ y) → ⊥) → (rule : Corner) → rule ≡ g.corner → (row column passes read : Bool)
-      → row ≡ is_free g (record { x = c.x; y = y }) → column ≡ is_free g (record { x = x; y = c.y })
-      → passes ≡ is_passable rule row column → read ≡ (is_free g (record { x = x; y = y }) && passes)
-      → if_open read (record { x = x; y = y }) ≡ legal_ahead g c d
-  unfolding passes_to
-  diagonal x y d p q differ rule is row column passes read e f h r =
-      same_answer (record { x = x; y = y }) d read (lies (record { x = x; y = y }) d p q) differ
-      (rw (← is, ← e, ← f, ← h, ← r) refl)
+    by_parts : (x y : Option ℕ)
+        → if_open (is_some (legal_to g c (cell_of x y))) (cell_by x y) ≡ legal_to g c (cell_of x y)
+    by_parts (Some x) (Some y) = by_test (cell x y) (is_legal g c (cell x y))
+    by_parts (Some x) None = refl
+    by_parts None y = refl
 
 -- what lies ahead over a legal move is free
 pub ahead_free : (g : GridData) (c v : Cell) (d : Dir) (b : Bool) → if_open b v ≡ legal_ahead g c d → b ≡ true
     → is_free g v ≡ true
 ahead_free g c v d true e h = (legal_is g c v (legal_ahead-is g c v d (sym e))).target
 ahead_free g c v d false e h = absurd (cc)
+
+-- the two cells beside a move are alike, and for a straight move they are its ends
+pub passable-turned : (r : Corner) (a b : Bool) → is_passable r a b ≡ is_passable r b a
+passable-turned Never a b = grind arith
+passable-turned One a b = grind arith
+
+passable-source : (r : Corner) (b : Bool) → (b && is_passable r true b) ≡ b
+passable-source Never b = grind arith
+passable-source One b = grind arith
+
+neighbours : (x y z t : ℕ) → x ≤ z + 1 → z ≤ x + 1 → y ≤ t + 1 → t ≤ y + 1 → ((x ≡ z) → (y ≡ t) → ⊥)
+    → are_neighbours (cell x y) (cell z t) ≡ true
+neighbours x y z t a b c d n = grind (arith, nat_tests)
+
+some_if : (b : Bool) (c : Cell) → is_some (if b then Some c else None) ≡ b
+some_if true c = refl
+some_if false c = refl
+
+-- a straight move
+aside : (g : GridData) (x y z : ℕ) → is_free g (cell x y) ≡ true → x ≤ z + 1 → z ≤ x + 1 → (x ≡ z → ⊥)
+    → is_legal g (cell x y) (cell z y) ≡ is_free g (cell z y)
+aside g x y z f a b n =
+    let near = neighbours x y z y a b (omega arith) (omega arith) (λ e _. n e) in
+    rw (near, f) (passable-source g.corner (is_free g (cell z y)))
+
+along : (g : GridData) (x y t : ℕ) → is_free g (cell x y) ≡ true → y ≤ t + 1 → t ≤ y + 1 → (y ≡ t → ⊥)
+    → is_legal g (cell x y) (cell x t) ≡ is_free g (cell x t)
+along g x y t f a b n =
+    let near = neighbours x y x t (omega arith) (omega arith) a b (λ _ e. n e) in
+    rw (near, f, passable-turned g.corner (is_free g (cell x t)) true)
+    (passable-source g.corner (is_free g (cell x t)))
+
+-- a diagonal move
+across : (g : GridData) (x y z t : ℕ) → is_free g (cell x y) ≡ true → x ≤ z + 1 → z ≤ x + 1 → y ≤ t + 1
+    → t ≤ y + 1 → (x ≡ z → ⊥)
+    → is_legal g (cell x y) (cell z t)
+    ≡ (is_free g (cell z t) && is_passable g.corner (is_free g (cell z y)) (is_free g (cell x t)))
+across g x y z t f a b c d n =
+    let near = neighbours x y z t a b c d (λ e _. n e) in
+    rw (near, f) (ap (λ (p : Bool). is_free g (cell z t) && p)
+    (passable-turned g.corner (is_free g (cell x t)) (is_free g (cell z y))))
+
+-- the cells around a free cell tell which moves are legal
+pub leads_on-open : (g : GridData) (c : Cell) → is_free g c ≡ true → (d : Dir)
+    → leads_on g.corner (ring_told (λ e. is_open g c e)) d ≡ is_some (legal_ahead g c d)
+leads_on-open g c f d = sym (by_dir c.x c.y d f)
+  where
+    by_dir : (x y : ℕ) (d : Dir) → is_free g (cell x y) ≡ true → is_some (legal_ahead g (cell x y) d)
+        ≡ leads_on g.corner (ring_told (λ e. is_open g (cell x y) e)) d
+    by_dir x zero N f = refl
+    by_dir x (suc t) N f =
+        some_if _ _ ∙ along g x (suc t) t f (omega arith) (omega arith) (λ e. omega arith)
+    by_dir x y E f = some_if _ _ ∙ aside g x y (x + 1) f (omega arith) (omega arith) (λ e. omega arith)
+    by_dir x y S f = some_if _ _ ∙ along g x y (y + 1) f (omega arith) (omega arith) (λ e. omega arith)
+    by_dir zero y W f = refl
+    by_dir (suc z) y W f =
+        some_if _ _ ∙ aside g (suc z) y z f (omega arith) (omega arith) (λ e. omega arith)
+    by_dir x zero NE f = refl
+    by_dir x (suc t) NE f = some_if _ _
+        ∙ across g x (suc t) (x + 1) t f (omega arith) (omega arith) (omega arith) (omega arith)
+        (λ e. omega arith)
+    by_dir x y SE f = some_if _ _ ∙ across g x y (x + 1) (y + 1) f (omega arith) (omega arith) (omega arith)
+        (omega arith) (λ e. omega arith)
+    by_dir zero y SW f = refl
+    by_dir (suc z) y SW f = some_if _ _
+        ∙ across g (suc z) y z (y + 1) f (omega arith) (omega arith) (omega arith) (omega arith)
+        (λ e. omega arith)
+    by_dir zero y NW f = refl
+    by_dir (suc z) zero NW f = refl
+    by_dir (suc z) (suc t) NW f = some_if _ _
+        ∙ across g (suc z) (suc t) z t f (omega arith) (omega arith) (omega arith) (omega arith)
+        (λ e. omega arith)
+
+-- what a ring of tests has in a direction
+pub told_on : (free : Dir → Bool) (d : Dir) → is_free_on (ring_told free) d ≡ free d
+told_on free N = refl
+told_on free NE = refl
+told_on free E = refl
+told_on free SE = refl
+told_on free S = refl
+told_on free SW = refl
+told_on free W = refl
+told_on free NW = refl
+
+all : (r : Corner) (a b c x y z : Bool) → a ≡ x → b ≡ y → c ≡ z
+    → (a && is_passable r b c) ≡ (x && is_passable r y z)
+all r a b c x y z h k l = rw (h, k, l) refl
+
+-- rings that agree tell the same
+pub leads_alike : (r : Corner) (p q : Ring) → ((d : Dir) → is_free_on p d ≡ is_free_on q d) → (d : Dir)
+    → leads_on r p d ≡ leads_on r q d
+leads_alike r p q same N = same N
+leads_alike r p q same NE = all r _ _ _ _ _ _ (same NE) (same E) (same N)
+leads_alike r p q same E = same E
+leads_alike r p q same SE = all r _ _ _ _ _ _ (same SE) (same E) (same S)
+leads_alike r p q same S = same S
+leads_alike r p q same SW = all r _ _ _ _ _ _ (same SW) (same W) (same S)
+leads_alike r p q same W = same W
+leads_alike r p q same NW = all r _ _ _ _ _ _ (same NW) (same W) (same N)
+
+module _ (g : GridData) (c : Cell) (free : is_free g c ≡ true) (ring : Ring)
+    (read : (d : Dir) → is_free_on ring d ≡ is_open g c d) (rule : Corner) (same : rule ≡ g.corner) where
+  -- the cells around, once read, tell which moves are legal
+  pub leads_on-legal : (d : Dir) → leads_on rule ring d ≡ is_some (legal_ahead g c d)
+  leads_on-legal d = ap (λ (r : Corner). leads_on r ring d) same
+      ∙ leads_alike g.corner ring (ring_told (λ e. is_open g c e))
+      (λ e. read e ∙ sym (told_on (λ e. is_open g c e) e)) d
+      ∙ leads_on-open g c free d
+
+  -- and where they lead
+  pub around_told : (a : Around) → ((d : Dir) → is_open_to a d ≡ leads_on rule ring d)
+      → ((d : Dir) → end_of a c d ≡ beyond d c) → IsAround g c a
+  around_told a opened ends = λ d. ap (λ (v : Cell). if_open (is_open_to a d) v) (ends d)
+      ∙ legal_beyond g c d (is_open_to a d) (opened d ∙ leads_on-legal d)

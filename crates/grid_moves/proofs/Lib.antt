@@ -4,5 +4,6 @@ pub mod Places
 pub mod Ahead
 pub mod Edited
 pub mod Besides
+pub mod Bits
 pub mod Layering
 pub mod Short

@@ -7,4 +7,5 @@ pub mod Walk
 pub mod Points
 pub mod Reply
 pub mod Laws
+pub mod Ring
 pub mod Around

@@ -1,13 +1,13 @@
 -- Legal moves: eight directions, and a corner rule.
 -- No corner is cut: Harabor and Grastien, SoCS 2012. One blocked cell may be passed: their AAAI 2011.
-use Rattle.std.specs.Prelude.{◌≡◌, ℕ, zero, suc, ◌+◌, Option, Some, None, Bool, true, false, nat_le, nat_eq, not, ◌&&◌, ◌||◌, refl, List, [], ◌∷◌, if◌then◌else◌, option_and_then, codes}
+use Rattle.std.specs.Prelude.{◌≡◌, ℕ, zero, suc, ◌+◌, Option, Some, None, Bool, true, false, nat_le, nat_eq, not, ◌&&◌, ◌||◌, refl, List, [], ◌∷◌, if◌then◌else◌, option_and_then, unwrap_or, codes}
 use Rattle.root2_cost.specs.declared.Cost.{Cost}
 use Rattle.grid_moves.specs.declared.Cell.{Cell}
 use Rattle.grid_moves.specs.declared.Dir.{Dir}
 use Rattle.grid_moves.specs.declared.Dir.TheVariants.{N, NE, E, SE, S, SW, W, NW}
 use Rattle.grid_moves.specs.declared.Corner.{Corner}
 use Rattle.grid_moves.specs.declared.Corner.TheVariants.{Never, One}
-use Rattle.grid_moves.specs.Grid.{GridData, grid_of, is_free}
+use Rattle.grid_moves.specs.Grid.{GridData, grid_of, is_free, is_inside}
 use Rattle.grid_moves.specs.Examples.{pillar}
 
 -- the numbers differ by at most one
@@ -103,6 +103,14 @@ row_ahead NW y = before y
 abbrev pub ahead : Dir → Cell → Option Cell
 ahead d c = option_and_then (λ x. option_and_then (λ y. Some (record { x = x; y = y })) (row_ahead d c.y))
     (column_ahead d c.x)
+
+-- the same by column and row, with no case for the border: before 0 stands 65535, which no map has
+abbrev pub beyond : Dir → Cell → Cell
+beyond d c = record { x = unwrap_or (column_ahead d c.x) 65535; y = unwrap_or (row_ahead d c.y) 65535 }
+
+-- the cell and all around it lie on the map
+abbrev pub is_inner : GridData → Cell → Bool
+is_inner g c = is_inside g (beyond NW c) && is_inside g c && is_inside g (beyond SE c)
 
 -- the cell behind, from which a move in this direction comes, if there is one
 abbrev pub behind : Dir → Cell → Option Cell

@@ -3,12 +3,15 @@
 //! The cells beside a diagonal move are the ends of straight moves. All eight are read with no branch on
 //! what is found, since whether a cell is free is seldom foreseen by the processor.
 
-ghost use Rattle.std.specs.Prelude.{◌≡◌, ◌&&◌, true};
+ghost use Rattle.std.specs.Prelude.{◌≡◌, ◌<◌, true};
 ghost use Rattle.grid_moves.specs.Grid.{IsGrid, is_free};
-ghost use Rattle.grid_moves.specs.Move.{is_passable, legal_ahead};
-ghost use Rattle.grid_moves.specs.Around.{IsBefore, if_open};
+ghost use Rattle.grid_moves.specs.Move as moves;
+ghost use Rattle.grid_moves.specs.Ring as rings;
+ghost use Rattle.grid_moves.specs.Around.{IsAround, end_of, is_open_to};
 
-use crate::{Cell, Corner, Dir, Terrain};
+use crate::moves::before;
+use crate::terrain::is_inner;
+use crate::{Cell, Corner, Dir, Ring, Terrain};
 
 /// Which moves from a cell are legal, by direction, and the columns and rows that they lead to.
 #[derive(Clone, Copy)]
@@ -31,106 +34,66 @@ pub struct Around {
     pub nw: bool,
 }
 
-// The column or row before this one; before 0 it is 65535, which no map has.
-#[inline(always)]
-fn before(n: u16) -> u16
-    ensures { IsBefore n result }
-{
-    n.wrapping_sub(1)
-}
-
-// Whether the cell of this column and row is free.
-#[inline(always)]
-fn is_free_at<T: Terrain>(t: &T, x: u16, y: u16) -> bool
-    ensures { result ≡ is_free (T.grid t.now) (record { x = x; y = y }) }
-{
-    t.free(Cell { x, y })
-}
-
-// Which diagonal moves pass between the straight cells beside them.
-#[derive(Clone, Copy)]
-struct Passages {
-    ne: bool,
-    se: bool,
-    sw: bool,
-    nw: bool,
-}
-
-// The passages, told which straight cells are free.
-#[inline(always)]
-fn passages_between(rule: Corner, n: bool, e: bool, s: bool, w: bool) -> Passages
-    ensures ne { result.ne ≡ is_passable rule n e }
-    ensures se { result.se ≡ is_passable rule s e }
-    ensures sw { result.sw ≡ is_passable rule s w }
-    ensures nw { result.nw ≡ is_passable rule n w }
-{
-    match rule {
-        Corner::Never => Passages {
-            ne: n & e,
-            se: s & e,
-            sw: s & w,
-            nw: n & w,
-        },
-        Corner::One => Passages {
-            ne: n | e,
-            se: s | e,
-            sw: s | w,
-            nw: n | w,
-        },
-    }
-}
-
-// Whether a diagonal move is legal: it passes, and the cell of this column and row is free.
-#[inline(always)]
-fn is_open_beyond<T: Terrain>(t: &T, passes: bool, x: u16, y: u16) -> bool
-    ensures { result ≡ (is_free (T.grid t.now) (record { x = x; y = y }) && passes) }
-{
-    passes & is_free_at(t, x, y)
-}
-
 impl Around {
-    /// Reads the cells around a free cell.
+    // The moves that the cells around tell of.
+    #[inline(always)]
+    fn told(rule: Corner, ring: Ring, c: Cell) -> Around
+        requires column { c.x < 65535 }
+        requires row { c.y < 65535 }
+        ensures open { (d : _) → is_open_to result d ≡ rings.leads_on rule ring d }
+        ensures ends { (d : _) → end_of result c d ≡ moves.beyond d c }
+    {
+        Around {
+            left: before(c.x),
+            right: c.x + 1,
+            up: before(c.y),
+            down: c.y + 1,
+            n: ring.can_move(rule, Dir::N),
+            ne: ring.can_move(rule, Dir::NE),
+            e: ring.can_move(rule, Dir::E),
+            se: ring.can_move(rule, Dir::SE),
+            s: ring.can_move(rule, Dir::S),
+            sw: ring.can_move(rule, Dir::SW),
+            w: ring.can_move(rule, Dir::W),
+            nw: ring.can_move(rule, Dir::NW),
+        }
+    }
+
+    /// Reads the cells around a free cell. Each rule has code of its own.
     #[inline(always)]
     pub fn of<T: Terrain>(t: &T, c: Cell) -> Around
         requires free { is_free (T.grid t.now) c ≡ true }
         requires whole { IsGrid (T.grid t.now) }
-        ensures n { if_open result.n (record { x = c.x; y = result.up })
-            ≡ legal_ahead (T.grid t.now) c Dir.N }
-        ensures ne { if_open result.ne (record { x = result.right; y = result.up })
-            ≡ legal_ahead (T.grid t.now) c Dir.NE }
-        ensures e { if_open result.e (record { x = result.right; y = c.y })
-            ≡ legal_ahead (T.grid t.now) c Dir.E }
-        ensures se { if_open result.se (record { x = result.right; y = result.down })
-            ≡ legal_ahead (T.grid t.now) c Dir.SE }
-        ensures s { if_open result.s (record { x = c.x; y = result.down })
-            ≡ legal_ahead (T.grid t.now) c Dir.S }
-        ensures sw { if_open result.sw (record { x = result.left; y = result.down })
-            ≡ legal_ahead (T.grid t.now) c Dir.SW }
-        ensures w { if_open result.w (record { x = result.left; y = c.y })
-            ≡ legal_ahead (T.grid t.now) c Dir.W }
-        ensures nw { if_open result.nw (record { x = result.left; y = result.up })
-            ≡ legal_ahead (T.grid t.now) c Dir.NW }
+        ensures { IsAround (T.grid t.now) c result }
     {
-        let (left, right) = (before(c.x), c.x + 1);
-        let (up, down) = (before(c.y), c.y + 1);
-        let n = is_free_at(t, c.x, up);
-        let e = is_free_at(t, right, c.y);
-        let s = is_free_at(t, c.x, down);
-        let w = is_free_at(t, left, c.y);
-        let open = passages_between(t.corner(), n, e, s, w);
-        Around {
-            left,
-            right,
-            up,
-            down,
-            n,
-            ne: is_open_beyond(t, open.ne, right, up),
-            e,
-            se: is_open_beyond(t, open.se, right, down),
-            s,
-            sw: is_open_beyond(t, open.sw, left, down),
-            w,
-            nw: is_open_beyond(t, open.nw, left, up),
+        let ring = Ring::of(t, c);
+        match t.corner() {
+            Corner::Never => Around::told(Corner::Never, ring, c),
+            Corner::One => Around::told(Corner::One, ring, c),
         }
+    }
+}
+
+// The legal moves from a free cell, for the rare cells at the border of the map.
+#[inline(never)]
+fn moves_on_border<T: Terrain>(t: &T, c: Cell) -> Around
+    requires free { is_free (T.grid t.now) c ≡ true }
+    requires whole { IsGrid (T.grid t.now) }
+    ensures { IsAround (T.grid t.now) c result }
+{
+    Around::of(t, c)
+}
+
+/// The legal moves from a free cell. Of an inner one the compiler knows that all around it lies on the map.
+#[inline(always)]
+pub fn moves_around<T: Terrain>(t: &T, c: Cell) -> Around
+    requires free { is_free (T.grid t.now) c ≡ true }
+    requires whole { IsGrid (T.grid t.now) }
+    ensures { IsAround (T.grid t.now) c result }
+{
+    if is_inner(t, c) {
+        Around::of(t, c)
+    } else {
+        moves_on_border(t, c)
     }
 }

@@ -12,14 +12,20 @@ mod grid;
 pub mod laws;
 mod layers;
 mod moves;
+mod ring;
 mod terrain;
 
-pub use around::Around;
+pub use around::{Around, moves_around};
 pub use grid::{Grid, ground_of};
 pub use layers::{Layers, cell_at, ground_at, is_free_ground};
-pub use moves::{cell_ahead, cell_behind, dir_number, estimate, move_cost, opposite};
+pub use moves::{
+    before, beyond, cell_ahead, cell_behind, dir_number, estimate, move_cost, opposite,
+};
+pub use ring::Ring;
 pub use std::alloc::AllocError as NoMemory;
-pub use terrain::{Terrain, is_legal, is_open, is_passable, number_of, step};
+pub use terrain::{
+    Terrain, is_inner, is_inside, is_legal, is_open, is_passable, number_of, passable_bits, step,
+};
 
 /// A cell: its column `x`, counted to the right, and its row `y`, counted downwards, both from 0.
 #[derive(Clone, Copy, Debug, PartialEq, Eq)]

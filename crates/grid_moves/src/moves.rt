@@ -1,8 +1,9 @@
 //! Directions, what lies ahead of a cell and behind it, and costs of moves.
 
-ghost use Rattle.std.specs.Prelude.{◌≡◌, ◌<◌, ◌≤◌};
+ghost use Rattle.std.specs.Prelude.{◌≡◌, ◌<◌, ◌≤◌, unwrap_or};
 ghost use Rattle.grid_moves.specs.Move as spec;
 ghost use Rattle.grid_moves.specs.Points as points;
+ghost use Rattle.grid_moves.specs.Around.{IsBefore};
 
 use crate::{Cell, Dir};
 use root2_cost::{Cost, octile};
@@ -93,6 +94,37 @@ pub fn cell_ahead(d: Dir, c: Cell) -> Option<Cell>
     let x = column_ahead(d, c.x)?;
     let y = row_ahead(d, c.y)?;
     Some(Cell { x, y })
+}
+
+/// The column or row before this one; before 0 it is 65535, which no map has.
+#[inline(always)]
+pub fn before(n: u16) -> u16
+    ensures value { result ≡ unwrap_or (spec.before n) 65535 }
+    ensures is { IsBefore n result }
+{
+    n.wrapping_sub(1)
+}
+
+/// The cell that lies ahead. Before the first column or row it has the column or row 65535, at which no
+/// cell is free.
+#[inline(always)]
+pub fn beyond(c: Cell, d: Dir) -> Cell
+    requires column { c.x < 65535 }
+    requires row { c.y < 65535 }
+    ensures { result ≡ spec.beyond d c }
+{
+    let (left, right) = (before(c.x), c.x + 1);
+    let (up, down) = (before(c.y), c.y + 1);
+    match d {
+        Dir::N => Cell { x: c.x, y: up },
+        Dir::NE => Cell { x: right, y: up },
+        Dir::E => Cell { x: right, y: c.y },
+        Dir::SE => Cell { x: right, y: down },
+        Dir::S => Cell { x: c.x, y: down },
+        Dir::SW => Cell { x: left, y: down },
+        Dir::W => Cell { x: left, y: c.y },
+        Dir::NW => Cell { x: left, y: up },
+    }
 }
 
 /// The cell that lies behind, from which a move in this direction comes, if there is one. It may lie

@@ -1,10 +1,12 @@
 //! What a search asks of a grid, and the legal moves on it.
 
-ghost use Rattle.std.specs.Prelude.{◌≡◌, ℕ, ◌+◌, ◌*◌, ◌<◌, ◌≤◌, IfSome, false, length, slice_index_or};
+ghost use Rattle.std.specs.Prelude.{◌≡◌, ℕ, ◌+◌, ◌*◌, ◌<◌, ◌≤◌, IfSome, false, length, nat_eq, slice_index_or};
+ghost use Rattle.std.specs.Int.{bit_at};
+ghost use Rattle.grid_moves.specs.Grid as grids;
 ghost use Rattle.grid_moves.specs.Grid.{GridData, IsGrid, is_free, cell_number};
 ghost use Rattle.grid_moves.specs.Move as spec;
 
-use crate::moves::cell_ahead;
+use crate::moves::{beyond, cell_ahead};
 use crate::{Cell, Corner, Dir};
 
 /// A grid as a search sees it: sides of 1 to 4096 cells, a corner rule, and which cells are free.
@@ -52,27 +54,59 @@ pub fn number_of(width: u16, c: Cell) -> u32
     u32::from(c.y) * u32::from(width) + u32::from(c.x)
 }
 
-/// Whether the corner rule lets a diagonal move pass between two cells, told whether each is free.
+/// Whether the corner rule lets a diagonal move pass between two cells, told whether each is free. There is no
+/// branch on either.
 #[inline(always)]
 pub fn is_passable(rule: Corner, one: bool, other: bool) -> bool
     ensures { result ≡ spec.is_passable rule one other }
 {
     match rule {
-        Corner::Never => one && other,
-        Corner::One => one || other,
+        Corner::Never => one & other,
+        Corner::One => one | other,
     }
 }
 
+/// The same for each bit of two words.
+#[inline(always)]
+pub fn passable_bits(rule: Corner, these: u64, those: u64) -> u64
+    ensures { (j : ℕ) → nat_eq (bit_at result j) 1
+        ≡ spec.is_passable rule (nat_eq (bit_at these j) 1) (nat_eq (bit_at those j) 1) }
+{
+    match rule {
+        Corner::Never => these & those,
+        Corner::One => these | those,
+    }
+}
+
+/// Whether the cell lies on the map.
+#[inline(always)]
+pub fn is_inside<T: Terrain>(t: &T, c: Cell) -> bool
+    ensures is { result ≡ grids.is_inside (T.grid t.now) c }
+    ensures whole { IsGrid (T.grid t.now) }
+{
+    c.x < t.width() && c.y < t.height()
+}
+
+/// Whether the cell and all around it lie on the map: where that is tested, the compiler knows it of each cell
+/// that is read then.
+#[inline(always)]
+pub fn is_inner<T: Terrain>(t: &T, c: Cell) -> bool
+    requires column { c.x < 65535 }
+    requires row { c.y < 65535 }
+    ensures { result ≡ spec.is_inner (T.grid t.now) c }
+{
+    is_inside(t, beyond(c, Dir::NW)) && is_inside(t, c) && is_inside(t, beyond(c, Dir::SE))
+}
+
 /// Whether the cell ahead is free; what lies outside the map is blocked.
+#[inline(always)]
 pub fn is_open<T: Terrain>(t: &T, c: Cell, d: Dir) -> bool
     requires column { c.x < 65535 }
     requires row { c.y < 65535 }
     ensures { result ≡ spec.is_open (T.grid t.now) c d }
 {
-    match cell_ahead(d, c) {
-        Some(v) => t.free(v),
-        None => false,
-    }
+    let _whole = t.width();
+    t.free(beyond(c, d))
 }
 
 /// Whether the move is legal.

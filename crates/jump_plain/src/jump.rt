@@ -9,9 +9,9 @@ ghost use Rattle.pruning.specs.Marked.{is_forced};
 ghost use Rattle.pruning.specs.First as first;
 ghost use Rattle.jump_plain.specs.Reach as spec;
 
-use crate::beside::{Sides, beyond, is_free_beyond};
+use crate::beside::Sides;
 use crate::scan::{Reach, scan, scan_with};
-use grid_moves::{Cell, Corner, Dir, Terrain, is_passable};
+use grid_moves::{Cell, Corner, Dir, Terrain, beyond, is_open, is_passable};
 use pruning::{Side, forced, turn};
 
 // The number of moves in a straight direction that lead from one cell to another, or 0 where none do.
@@ -72,8 +72,8 @@ impl Components {
         ensures { result ≡ spec.components_of (T.grid t.now) c d }
     {
         Components {
-            right: is_free_beyond(t, c, turn(Side::Right, d)),
-            left: is_free_beyond(t, c, turn(Side::Left, d)),
+            right: is_open(t, c, turn(Side::Right, d)),
+            left: is_open(t, c, turn(Side::Left, d)),
         }
     }
 }

@@ -14,14 +14,13 @@
 
 ghost use Rattle.std.specs.Prelude.{◌≡◌, ◌+◌, ◌-◌, ◌≤◌, false, true};
 ghost use Rattle.grid_moves.specs.Grid.{IsGrid, is_free};
-ghost use Rattle.grid_moves.specs.Grid as grids;
 ghost use Rattle.pruning.specs.Turns.{is_diagonal};
 ghost use Rattle.pruning.specs.First.{run_length};
 ghost use Rattle.jump_plain.specs.Beside as besides;
 ghost use Rattle.jump_plain.specs.Reach as spec;
 
-use crate::beside::{Sides, beyond, straight_ahead};
-use grid_moves::{Cell, Corner, Dir, Terrain};
+use crate::beside::{Sides, straight_ahead};
+use grid_moves::{Cell, Corner, Dir, Terrain, beyond, is_inside};
 use pruning::{Side, quarter};
 
 /// How far a scan along a straight run reaches.
@@ -126,14 +125,6 @@ fn scan_border<T: Terrain>(t: &T, at: Cell, d: Dir, sides: Sides) -> Reach
     ensures { result ≡ spec.reach_of (T.grid t.now) at d }
 {
     scan_run(t, at, d, sides)
-}
-
-// Whether the cell lies on the map.
-#[inline(always)]
-fn is_inside<T: Terrain>(t: &T, c: Cell) -> bool
-    ensures { result ≡ grids.is_inside (T.grid t.now) c }
-{
-    c.x < t.width() && c.y < t.height()
 }
 
 /// Scans along the legal run from a free cell in a straight direction, told the sides to begin with: to the

@@ -3,6 +3,7 @@ use Rattle.std.proofs.Common.{◌≡◌, ℕ, ◌*◌, ◌≤◌, ◌⊎◌, len
 use Rattle.std.specs.Prelude.{Some, slice_get}
 use Rattle.root2_cost.specs.declared.Cost.{Cost}
 use Rattle.grid_moves.specs.declared.Cell.{Cell}
+use Rattle.grid_moves.specs.Around.{IsAround}
 use Rattle.grid_moves.specs.Grid.{GridData, IsGrid, is_free}
 use Rattle.grid_moves.specs.Move.{is_same, all_dirs}
 use Rattle.path_points.specs.Corners.{corners}
@@ -24,7 +25,7 @@ use Rattle.best_first.proofs.Progress.{has_begun, next_taken, taken_fits, has_ba
 use Rattle.best_first.proofs.Taking.{none_open}
 use Rattle.best_first.proofs.Ways.{offers_after}
 use Rattle.plain_search.specs.Answer.{IsFound}
-use Rattle.plain_search.specs.Offers.{IsAround, less_offered, sides_of, ways_over, MayExpand, HasExpanded}
+use Rattle.plain_search.specs.Offers.{less_offered, sides_of, ways_over, MayExpand, HasExpanded}
 use Rattle.plain_search.specs.Progress.{HasTaken, HasStopped}
 use Rattle.plain_search.specs.Room.{IsNear, IsReady}
 use Rattle.plain_search.specs.Rule.{plain_rule, plain_links, is_led}

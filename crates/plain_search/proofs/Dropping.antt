@@ -5,12 +5,13 @@ use Rattle.grid_moves.specs.declared.Cell.{Cell}
 use Rattle.grid_moves.specs.declared.Dir.{Dir}
 use Rattle.grid_moves.specs.declared.Dir.TheVariants.{N, NE, E, SE, S, SW, W, NW}
 use Rattle.grid_moves.specs.declared.around.Around.{Around}
+use Rattle.grid_moves.specs.Around.{IsAround, end_of, is_open_to}
 use Rattle.grid_moves.specs.Grid.{GridData, is_free}
 use Rattle.grid_moves.specs.Move.{is_legal, is_same, corner_of, ahead, legal_ahead, column_ahead, row_ahead}
 use Rattle.grid_moves.proofs.Ahead.{legal_ahead-is}
 use Rattle.grid_moves.proofs.Legal.{legal_is, same_cell, and_both}
-use Rattle.plain_search.specs.declared.moves.Sides.{Sides}
-use Rattle.plain_search.specs.Offers.{is_open_to, end_of, IsAround, less_offered}
+use Rattle.plain_search.specs.declared.moves.Behind.{Behind}
+use Rattle.plain_search.specs.Offers.{less_offered}
 use Rattle.plain_search.proofs.Leaving.{LiesAt, some_number, before_is, ahead_parts, beside_in_row, beside_in_column, at_corner}
 
 -- a straight move that is not kept
@@ -63,7 +64,7 @@ pub open_leads : (g : GridData) (c : Cell) (a : Around) (d : Dir) → IsAround g
     → LeadsTo g c d (end_of a c d)
 open_leads g c a d i h = leads g c d (end_of a c d) (sym (i d) ∙ rw h refl)
 
-module _ (g : GridData) (p x v : Cell) (a : Around) (s : Sides) (around : IsAround g x a) (lies : LiesAt p x s)
+module _ (g : GridData) (p x v : Cell) (a : Around) (s : Behind) (around : IsAround g x a) (lies : LiesAt p x s)
     (into : is_legal g p x ≡ true) (other : is_same p v ≡ false) where
   -- the columns of p, if it doesn't lie on the left, and if not on the right
   column_right : s.left ≡ false → v.x ≡ x.x + 1 → (p.x ≡ x.x) ⊎ (p.x ≡ v.x)

@@ -5,6 +5,7 @@ use Rattle.grid_moves.specs.declared.Cell.{Cell}
 use Rattle.grid_moves.specs.declared.Dir.{Dir}
 use Rattle.grid_moves.specs.declared.Dir.TheVariants.{N, NE, E, SE, S, SW, W, NW}
 use Rattle.grid_moves.specs.declared.around.Around.{Around}
+use Rattle.grid_moves.specs.Around.{IsAround, end_of, is_open_to}
 use Rattle.grid_moves.specs.Grid.{GridData}
 use Rattle.grid_moves.specs.Move.{all_dirs}
 use Rattle.grid_moves.proofs.Legal.{and_both}
@@ -13,11 +14,11 @@ use Rattle.best_first.specs.Space.{SpaceData}
 use Rattle.best_first.specs.State.{state_told}
 use Rattle.best_first.specs.Table.{Table}
 use Rattle.best_first.specs.Trace.{node_cell, rank_left}
-use Rattle.plain_search.specs.declared.moves.Sides.{Sides}
-use Rattle.plain_search.specs.Offers.{is_open_to, end_of, IsAround, less_offered, sides_of, all_offered, MayOffer, MayExpand, HasExpanded}
+use Rattle.plain_search.specs.declared.moves.Behind.{Behind}
+use Rattle.plain_search.specs.Offers.{less_offered, sides_of, all_offered, MayOffer, MayExpand, HasExpanded}
 
 -- a move that is kept is open
-pub kept_open : (a : Around) (s : Sides) (d : Dir) → is_open_to (less_offered a s) d ≡ true
+pub kept_open : (a : Around) (s : Behind) (d : Dir) → is_open_to (less_offered a s) d ≡ true
     → is_open_to a d ≡ true
 kept_open a s N h = (and_both a.n _ h).0
 kept_open a s NE h = (and_both a.ne _ h).0
@@ -29,7 +30,7 @@ kept_open a s W h = (and_both a.w _ h).0
 kept_open a s NW h = (and_both a.nw _ h).0
 
 -- and leads to the same cell
-pub kept_end : (a : Around) (s : Sides) (c : Cell) (d : Dir) → end_of (less_offered a s) c d ≡ end_of a c d
+pub kept_end : (a : Around) (s : Behind) (c : Cell) (d : Dir) → end_of (less_offered a s) c d ≡ end_of a c d
 kept_end a s c N = refl
 kept_end a s c NE = refl
 kept_end a s c E = refl
@@ -39,7 +40,7 @@ kept_end a s c SW = refl
 kept_end a s c W = refl
 kept_end a s c NW = refl
 
-module _ (goal : Cell) (id key rank : ℕ) (a : Around) (s : Sides) (c : Cell) (space : SpaceData) where
+module _ (goal : Cell) (id key rank : ℕ) (a : Around) (s : Behind) (c : Cell) (space : SpaceData) where
   kept_may : MayOffer goal id key rank a c space → MayOffer goal id key rank (less_offered a s) c space
   kept_may m N h = m N (kept_open a s N h)
   kept_may m NE h = m NE (kept_open a s NE h)
@@ -56,7 +57,7 @@ module _ (goal : Cell) (id key rank : ℕ) (a : Around) (s : Sides) (c : Cell) (
   may_less moves less m =
       subst (λ (b : Around). MayOffer goal id key rank b c space) (sym less) (kept_may m)
 
-module _ (g : GridData) (goal : Cell) (id : ℕ) (n : Node) (cell : Cell) (a moves : Around) (s : Sides)
+module _ (g : GridData) (goal : Cell) (id : ℕ) (n : Node) (cell : Cell) (a moves : Around) (s : Behind)
     (rank : ℕ) (at : cell ≡ node_cell n) (around : IsAround g cell a) (less : moves ≡ less_offered a s)
     (left : rank ≡ rank_left goal n) where
   around_node : IsAround g (node_cell n) a
@@ -82,6 +83,6 @@ module _ (g : GridData) (goal : Cell) (id : ℕ) (n : Node) (cell : Cell) (a mov
         t ∙ ap (λ (r : ℕ). all_offered goal id r moves cell all_dirs old) left
         ∙ ap (λ (b : Around). all_offered goal id (rank_left goal n) b cell all_dirs old) less
         ∙ ap (λ (c : Cell). all_offered goal id (rank_left goal n) (less_offered a s) c all_dirs old) at
-        ∙ ap (λ (q : Sides). all_offered goal id (rank_left goal n) (less_offered a q) (node_cell n) all_dirs
+        ∙ ap (λ (q : Behind). all_offered goal id (rank_left goal n) (less_offered a q) (node_cell n) all_dirs
         old) (sides ∙ ap (λ (d : Option Dir). sides_of d) told);
   }

@@ -7,7 +7,7 @@ use Rattle.grid_moves.specs.declared.Dir.TheVariants.{N, NE, E, SE, S, SW, W, NW
 use Rattle.grid_moves.specs.Grid.{GridData, is_free}
 use Rattle.grid_moves.specs.Move.{is_legal, is_same, corner_of, ahead, column_ahead, row_ahead, before}
 use Rattle.grid_moves.proofs.Legal.{IsLegal, legal_is, is_legal-from, same_cell, is_same-itself, passable-both}
-use Rattle.plain_search.specs.declared.moves.Sides.{Sides}
+use Rattle.plain_search.specs.declared.moves.Behind.{Behind}
 use Rattle.plain_search.specs.Offers.{sides_of}
 
 pub some_number : (m n : ℕ) → Some m ≡ Some n → m ≡ n
@@ -39,7 +39,7 @@ before_is zero n e = absurd (cc)
 before_is (suc m) n e = let f : m ≡ n = some_number m n e in omega arith
 
 -- how a cell p lies to x, told the sides
-pub record LiesAt (p x : Cell) (s : Sides) : Type 0 where
+pub record LiesAt (p x : Cell) (s : Behind) : Type 0 where
   pub left : s.left ≡ true → x.x ≡ p.x + 1
   pub right : s.right ≡ true → p.x ≡ x.x + 1
   pub column : s.left ≡ false → s.right ≡ false → p.x ≡ x.x

@@ -11,6 +11,7 @@ use Rattle.grid_moves.specs.declared.Cell.{Cell}
 use Rattle.grid_moves.specs.declared.Dir.{Dir}
 use Rattle.grid_moves.specs.declared.Dir.TheVariants.{N, NE, E, SE, S, SW, W, NW}
 use Rattle.grid_moves.specs.declared.around.Around.{Around}
+use Rattle.grid_moves.specs.Around.{IsAround, end_of, is_open_to}
 use Rattle.grid_moves.specs.Grid.{GridData, IsGrid, is_free}
 use Rattle.grid_moves.specs.Move.{is_legal, is_same, move_cost, ahead, all_dirs, column_ahead, row_ahead, legal_ahead}
 use Rattle.grid_moves.specs.Points.{estimate}
@@ -35,10 +36,10 @@ use Rattle.best_first.proofs.Offering.{rank-add_costs}
 use Rattle.best_first.proofs.Mirrors.{some_node}
 use Rattle.best_first.proofs.States.{same_or_not}
 use Rattle.best_first.proofs.Searching.{one_more, node_stays, key_rises, closed_below, taken_key}
-use Rattle.plain_search.specs.declared.moves.Sides.{Sides}
+use Rattle.plain_search.specs.declared.moves.Behind.{Behind}
 use Rattle.plain_search.specs.Rule.{plain_rule, plain_links, is_led}
 use Rattle.plain_search.specs.Room.{IsNear}
-use Rattle.plain_search.specs.Offers.{sides_of, is_open_to, end_of, IsAround, less_offered, cost_to, offer_to, all_offered, ways_over, MayExpand}
+use Rattle.plain_search.specs.Offers.{sides_of, less_offered, cost_to, offer_to, all_offered, ways_over, MayExpand}
 use Rattle.plain_search.proofs.Dropping.{LeadsTo, leads, open_leads, dropped, all_kept}
 use Rattle.plain_search.proofs.Expanding.{kept_open, kept_end}
 use Rattle.plain_search.proofs.Leaving.{lies_at, ahead_parts, some_number, before_is}
@@ -168,7 +169,7 @@ module _ (g : GridData) (s t : Cell) (whole : IsGrid g) (from : is_free g s ≡ 
         one_more ByCell g.width g.height s t (plain_links g) (fit g s t whole from to) x earlier at best k i
         (offer_to at (rank_left t i.node) v d) (cost_to d) (is_link d v l) (ranked d) refl (led d v l)
 
-  module _ (a : Around) (sides : Sides) where
+  module _ (a : Around) (sides : Behind) where
     -- all open moves that are kept
     pub all_over : (dirs : List Dir) (best : Offers) (k : Table)
         → (i : IsSearching ByCell g.width t (plain_links g) s x earlier at best k) → (n : Node) → i.node ≡ n

@@ -2,9 +2,10 @@
 use Rattle.std.proofs.Common.{ℕ, ◌∙◌, sym, subst}
 use Rattle.grid_moves.specs.declared.Cell.{Cell}
 use Rattle.grid_moves.specs.declared.around.Around.{Around}
-use Rattle.best_first.specs.Space.{SpaceData, IsPlaced, KeepsShape}
+use Rattle.grid_moves.specs.Around.{end_of}
 use Rattle.grid_moves.specs.Grid.{GridData}
-use Rattle.plain_search.specs.Offers.{MayOffer, end_of}
+use Rattle.best_first.specs.Space.{SpaceData, IsPlaced, KeepsShape}
+use Rattle.plain_search.specs.Offers.{MayOffer}
 use Rattle.plain_search.specs.Room.{IsReady}
 
 pub then_shape : {a b c : SpaceData} → KeepsShape a b → KeepsShape b c → KeepsShape a c

@@ -7,9 +7,9 @@ use Rattle.grid_moves.specs.declared.Cell.{Cell}
 use Rattle.grid_moves.specs.declared.Dir.{Dir}
 use Rattle.grid_moves.specs.declared.Dir.TheVariants.{N, NE, E, SE, S, SW, W, NW}
 use Rattle.grid_moves.specs.declared.around.Around.{Around}
-use Rattle.grid_moves.specs.Around.{if_open}
+use Rattle.grid_moves.specs.Around.{IsAround, end_of, is_open_to}
 use Rattle.grid_moves.specs.Grid.{GridData, is_free}
-use Rattle.grid_moves.specs.Move.{all_dirs, legal_ahead}
+use Rattle.grid_moves.specs.Move.{all_dirs}
 use Rattle.grid_moves.specs.Points.{estimate}
 use Rattle.best_first.specs.declared.node.Node.{Node}
 use Rattle.best_first.specs.declared.node.Offer.{Offer}
@@ -19,10 +19,10 @@ use Rattle.best_first.specs.State.{start_at, state_told}
 use Rattle.best_first.specs.Table.{Table, node_for, offered, ClosedBelow}
 use Rattle.best_first.specs.Trace.{node_cell, rank_left}
 use Rattle.best_first.specs.Ways.{Onward}
-use Rattle.plain_search.specs.declared.moves.Sides.{Sides}
+use Rattle.plain_search.specs.declared.moves.Behind.{Behind}
 
 -- on which sides of a cell the one lies from which a move leads to it
-abbrev pub sides_of : Option Dir → Sides
+abbrev pub sides_of : Option Dir → Behind
 sides_of None = record { left = false; right = false; above = false; below = false }
 sides_of (Some N) = record { left = false; right = false; above = false; below = true }
 sides_of (Some NE) = record { left = true; right = false; above = false; below = true }
@@ -34,7 +34,7 @@ sides_of (Some W) = record { left = false; right = true; above = false; below = 
 sides_of (Some NW) = record { left = false; right = true; above = false; below = true }
 
 -- the moves less those that the parent, on these sides, has offered
-abbrev pub less_offered : Around → Sides → Around
+abbrev pub less_offered : Around → Behind → Around
 less_offered a p = record a {
   n = a.n && (p.below || not (p.above || (p.left && a.nw) || (p.right && a.ne)));
   ne = a.ne && (p.left || p.below || not (p.right || p.above));
@@ -45,32 +45,6 @@ less_offered a p = record a {
   w = a.w && (p.right || not (p.left || (p.above && a.nw) || (p.below && a.sw)));
   nw = a.nw && (p.right || p.below || not (p.left || p.above));
 }
-
--- of the moves around a cell, whether the one in a direction is open
-abbrev pub is_open_to : Around → Dir → Bool
-is_open_to a N = a.n
-is_open_to a NE = a.ne
-is_open_to a E = a.e
-is_open_to a SE = a.se
-is_open_to a S = a.s
-is_open_to a SW = a.sw
-is_open_to a W = a.w
-is_open_to a NW = a.nw
-
--- where the move in a direction leads
-abbrev pub end_of : Around → Cell → Dir → Cell
-end_of a c N = record { x = c.x; y = a.up }
-end_of a c NE = record { x = a.right; y = a.up }
-end_of a c E = record { x = a.right; y = c.y }
-end_of a c SE = record { x = a.right; y = a.down }
-end_of a c S = record { x = c.x; y = a.down }
-end_of a c SW = record { x = a.left; y = a.down }
-end_of a c W = record { x = a.left; y = c.y }
-end_of a c NW = record { x = a.left; y = a.up }
-
--- the moves around the cell are its legal ones
-abbrev pub IsAround : GridData → Cell → Around → Type 0
-IsAround g c a = (d : Dir) → if_open (is_open_to a d) (end_of a c d) ≡ legal_ahead g c d
 
 -- what a move in a direction costs
 abbrev pub cost_to : Dir → Cost

@@ -19,17 +19,17 @@ use grid_moves::{Around, Dir};
 
 /// On which sides of a cell its parent lies; on none for a start.
 #[derive(Clone, Copy)]
-pub(crate) struct Sides {
+pub(crate) struct Behind {
     pub(crate) left: bool,
     pub(crate) right: bool,
     pub(crate) above: bool,
     pub(crate) below: bool,
 }
 
-impl Sides {
+impl Behind {
     /// The sides where the parent lies, told the direction of the move from it.
     #[inline(always)]
-    pub(crate) fn of(arrival: Option<Dir>) -> Sides
+    pub(crate) fn of(arrival: Option<Dir>) -> Behind
         ensures { result ≡ sides_of arrival }
     {
         let (left, right) = match arrival {
@@ -42,7 +42,7 @@ impl Sides {
             Some(Dir::N | Dir::NE | Dir::NW) => (false, true),
             Some(Dir::E | Dir::W) | None => (false, false),
         };
-        Sides {
+        Behind {
             left,
             right,
             above,
@@ -79,7 +79,7 @@ fn is_kept_diagonal(legal: bool, by_column: bool, by_row: bool, column: bool, ro
 
 /// The legal moves less those that the parent, on these sides, has offered.
 #[inline(always)]
-pub(crate) fn less_offered(a: Around, p: Sides) -> Around
+pub(crate) fn less_offered(a: Around, p: Behind) -> Around
     ensures { result ≡ less_offered a p }
 {
     let (l, r) = (p.left, p.right);

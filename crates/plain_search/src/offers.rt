@@ -4,13 +4,13 @@ ghost use Rattle.std.specs.Prelude.{◌≡◌, ◌+◌, ◌<◌, ◌≤◌, ◌^
 ghost use Rattle.best_first.specs.Space.{IsPlaced, KeepsShape};
 ghost use Rattle.best_first.specs.State.{state_told};
 ghost use Rattle.best_first.specs.Table.{node_for, offered, ClosedBelow};
-ghost use Rattle.grid_moves.specs.Grid.{IsGrid, is_free};
+ghost use Rattle.grid_moves.specs.Grid.{IsGrid};
 ghost use Rattle.grid_moves.specs.Move.{all_dirs};
-ghost use Rattle.plain_search.specs.Offers.{IsAround, cost_to, offer_to, all_offered, MayOffer, MayExpand, HasExpanded};
+ghost use Rattle.plain_search.specs.Offers.{cost_to, offer_to, all_offered, MayOffer, MayExpand, HasExpanded};
 
-use crate::moves::{Sides, less_offered};
+use crate::moves::{Behind, less_offered};
 use best_first::{Layout, Node, Offer, Space, State};
-use grid_moves::{Around, Cell, Dir, Terrain};
+use grid_moves::{Around, Cell, Dir, Terrain, moves_around};
 use root2_cost::Cost;
 use std::sync::ledger::Ledger;
 use steps::Steps;
@@ -124,49 +124,6 @@ fn offer_around<L: Ledger>(
     offer_over(space, from, a.nw, Cell { x: left, y: up }, Dir::NW, steps);
 }
 
-// The legal moves from a free cell.
-#[inline(always)]
-fn read_moves<T: Terrain>(t: &T, c: Cell) -> Around
-    requires free { is_free (T.grid t.now) c ≡ true }
-    requires whole { IsGrid (T.grid t.now) }
-    ensures { IsAround (T.grid t.now) c result }
-{
-    Around::of(t, c)
-}
-
-// The same, for the rare cells at the border of the map.
-#[inline(never)]
-fn read_border_moves<T: Terrain>(t: &T, c: Cell) -> Around
-    requires free { is_free (T.grid t.now) c ≡ true }
-    requires whole { IsGrid (T.grid t.now) }
-    ensures { IsAround (T.grid t.now) c result }
-{
-    read_moves(t, c)
-}
-
-// Whether this cell and all around it lie on the map.
-#[inline(always)]
-fn is_inner<T: Terrain>(t: &T, c: Cell) -> bool {
-    let (width, height) = (t.width(), t.height());
-    let (left, right) = (c.x.wrapping_sub(1), c.x.wrapping_add(1));
-    let (up, down) = (c.y.wrapping_sub(1), c.y.wrapping_add(1));
-    left < width && c.x < width && right < width && up < height && c.y < height && down < height
-}
-
-// The legal moves from a free cell. Of an inner one the compiler knows that all around it lies on the map.
-#[inline(always)]
-fn moves_around<T: Terrain>(t: &T, c: Cell) -> Around
-    requires free { is_free (T.grid t.now) c ≡ true }
-    requires whole { IsGrid (T.grid t.now) }
-    ensures { IsAround (T.grid t.now) c result }
-{
-    if is_inner(t, c) {
-        read_moves(t, c)
-    } else {
-        read_border_moves(t, c)
-    }
-}
-
 // Makes the offers of a node, told how its state was come to: where that is a constant, so are the sides
 // on which the parent lies.
 #[inline(always)]
@@ -191,7 +148,7 @@ fn offer_after<T: Terrain, L: Ledger>(
 {
     let cell = node.place.cell();
     let around = moves_around(t, cell);
-    let moves = less_offered(around, Sides::of(arrival));
+    let moves = less_offered(around, Behind::of(arrival));
     let from = Source {
         id: at,
         key: node.key,

@@ -21,7 +21,7 @@ use Rattle.plus_tables.specs.declared.heading.Heading.{Heading}
 use Rattle.plus_tables.specs.declared.heading.Heading.TheVariants.{Upwards, Downwards}
 use Rattle.plus_tables.specs.Rows.{is_along, AreSame, IsFlagRow, IsEntryRow, AreRowsAround, AreRowsSeen}
 use Rattle.plus_tables.specs.Lines.{AreAlike, AreAlong, IsReady}
-use Rattle.plus_tables.proofs.Rowing.{row_legal, ring_forced_on, told_is, along_each, next_along}
+use Rattle.plus_tables.proofs.Rowing.{row_legal, ring_forced, told_is, along_each, next_along}
 
 -- rows with the same flags
 flags_same : (g : GridData) (n : ℕ) (row same : List Bool) → AreSame row same → length same ≡ g.width + 2
@@ -60,14 +60,8 @@ module _ (g : GridData) (whole : IsGrid g) (y m : ℕ) (above here below : List 
       → is_forced g (record { x = x; y = y }) d ≡ is_forced g (record { x = x; y = m }) d
   same_forced x d f =
       let here_free = same_free x ∙ f in
-      both _ _ _ _
-      (sym (ring_forced_on g whole y above here below one x d Right here_free)
-      ∙ ring_forced_on g whole m above here below other x d Right f)
-      (sym (ring_forced_on g whole y above here below one x d Left here_free)
-      ∙ ring_forced_on g whole m above here below other x d Left f)
-    where
-      both : (a b p q : Bool) → a ≡ p → b ≡ q → (a || b) ≡ (p || q)
-      both a b p q e f = rw (e, f) refl
+      sym (ring_forced g whole y above here below one x d here_free)
+      ∙ ring_forced g whole m above here below other x d f
 
   -- an entry is the same where that of the next cell is
   module _ (d : Dir) (along : is_along d ≡ true) (straight : is_diagonal d ≡ false) where

@@ -7,17 +7,17 @@ use Rattle.grid_moves.specs.declared.Dir.{Dir}
 use Rattle.grid_moves.specs.declared.Dir.TheVariants.{N, NE, E, SE, S, SW, W, NW}
 use Rattle.grid_moves.specs.Grid.{GridData, IsGrid}
 use Rattle.grid_moves.specs.Move.{is_dir, row_ahead}
+use Rattle.grid_moves.specs.Ring.{is_free_on, is_shut, leads_on}
 use Rattle.pruning.specs.declared.turns.Side.{Side}
 use Rattle.pruning.specs.declared.turns.Side.TheVariants.{Right, Left}
 use Rattle.pruning.specs.Turns.{turn, quarter, rear, is_diagonal}
 use Rattle.pruning.specs.Marked.{is_forced_on}
-use Rattle.pruning.specs.Ring.{is_free_on, is_shut, leads_on}
-use Rattle.pruning.proofs.Moves.{passable-turned}
+use Rattle.pruning.specs.Ring.{forced_beside, forced_on}
 use Rattle.pruning.proofs.Table.{other, at_both, at_dir, same_bool, same_bool-is, same_dir}
 use Rattle.plus_tables.specs.Local.{tells_mark}
 use Rattle.plus_tables.specs.declared.heading.Heading.{Heading}
 use Rattle.plus_tables.specs.declared.heading.Heading.TheVariants.{Upwards, Downwards}
-use Rattle.plus_tables.specs.Rows.{flag, number, ring_of, forced_on, forced_by, place_after, told, legal_by, mark_by, IsRowAt, IsEntryRow, IsForcedRow, AreForced, AreShort, AreToldBelow, flipped, seen, AreRowsSeen}
+use Rattle.plus_tables.specs.Rows.{flag, number, ring_of, place_after, told, legal_by, mark_by, IsRowAt, IsEntryRow, IsForcedRow, AreForced, AreShort, AreToldBelow, flipped, seen, AreRowsSeen}
 use Rattle.plus_tables.proofs.Rowing.{forced_if, told_row}
 
 turn_flipped : (s : Side) (d : Dir) → turn s (flipped d) ≡ flipped (turn (other s) d)
@@ -57,26 +57,21 @@ module _ (r : Corner) (a h b : List Bool) (x : ℕ) where
   open_flipped W = refl
   open_flipped NW = refl
 
-  beside : (s : Side) (d : Dir)
-      → is_free_on (ring_of b h a x) (turn s (flipped d)) ≡ is_free_on (ring_of a h b x) (turn (other s) d)
-  beside s d =
-      ap (λ (e : Dir). is_free_on (ring_of b h a x) e) (turn_flipped s d) ∙ open_flipped (turn (other s) d)
-
   can_flipped : (d : Dir) → leads_on r (ring_of b h a x) (flipped d) ≡ leads_on r (ring_of a h b x) d
-  can_flipped d = rw (
-    diagonal_flipped d,
-    open_flipped d,
-    beside Left d,
-    beside Right d,
-    passable-turned r (is_free_on (ring_of a h b x) (turn Right d))
-        (is_free_on (ring_of a h b x) (turn Left d)),
-  ) refl
+  can_flipped N = refl
+  can_flipped NE = refl
+  can_flipped E = refl
+  can_flipped SE = refl
+  can_flipped S = refl
+  can_flipped SW = refl
+  can_flipped W = refl
+  can_flipped NW = refl
 
   legal_flipped : (d : Dir) → legal_by r a h b d x ≡ legal_by r b h a (flipped d) x
   legal_flipped d = ap (λ (k : Bool). flag h (x + 1) && k) (sym (can_flipped d))
 
   forced_on_flipped : (d : Dir) (s : Side)
-      → forced_on r (ring_of b h a x) (flipped d) s ≡ forced_on r (ring_of a h b x) d (other s)
+      → forced_beside r (ring_of b h a x) (flipped d) s ≡ forced_beside r (ring_of a h b x) d (other s)
   forced_on_flipped d s = by_rule r (is_shut (ring_of b h a x)) (leads_on r (ring_of b h a x))
       (is_shut (ring_of a h b x)) (leads_on r (ring_of a h b x))
       (λ e. ap not (open_flipped e)) can_flipped
@@ -101,9 +96,9 @@ module _ (r : Corner) (a h b : List Bool) (x : ℕ) where
         too (turn (other s) d),
       ) refl
 
-  forced_flipped : (d : Dir) → forced_by r (ring_of a h b x) d ≡ forced_by r (ring_of b h a x) (flipped d)
+  forced_flipped : (d : Dir) → forced_on r (ring_of a h b x) d ≡ forced_on r (ring_of b h a x) (flipped d)
   forced_flipped d =
-      either_way (forced_on r (ring_of a h b x) d Right) (forced_on r (ring_of a h b x) d Left)
+      either_way (forced_beside r (ring_of a h b x) d Right) (forced_beside r (ring_of a h b x) d Left)
       ∙ both _ _ _ _ (sym (forced_on_flipped d Right)) (sym (forced_on_flipped d Left))
     where
       both : (a b p q : Bool) → a ≡ p → b ≡ q → (a || b) ≡ (p || q)

@@ -9,20 +9,22 @@ use Rattle.grid_moves.specs.declared.Dir.{Dir}
 use Rattle.grid_moves.specs.declared.Dir.TheVariants.{N, NE, E, SE, S, SW, W, NW}
 use Rattle.grid_moves.specs.Grid.{GridData, IsGrid, is_free, is_inside}
 use Rattle.grid_moves.specs.Move.{ahead, before, column_ahead, row_ahead, is_free_cell, is_open, legal_ahead}
+use Rattle.grid_moves.specs.Ring.{is_free_on, is_shut, leads_on}
+use Rattle.grid_moves.proofs.Besides.{leads_on-legal}
 use Rattle.grid_moves.proofs.Legal.{free_inside, legal_is, same_cell}
 use Rattle.pruning.specs.declared.turns.Side.{Side}
 use Rattle.pruning.specs.declared.turns.Side.TheVariants.{Right, Left}
 use Rattle.pruning.specs.Turns.{turn, quarter, rear, is_diagonal}
 use Rattle.pruning.specs.Allowed.{is_blocked, can_move}
 use Rattle.pruning.specs.Marked.{is_forced, is_forced_on}
+use Rattle.pruning.specs.Ring.{forced_beside, forced_on}
 use Rattle.pruning.proofs.Table.{by_parity}
-use Rattle.pruning.specs.Ring.{is_free_on, is_shut, leads_on}
-use Rattle.pruning.proofs.Ringing.{moves_on}
+use Rattle.pruning.proofs.Ringing.{forced_of_ring}
 use Rattle.pruning.proofs.Bridging.{legal_leads, leads_from, leads_legal, one_of}
 use Rattle.plus_tables.specs.Entry.{table_entry}
 use Rattle.plus_tables.specs.Local.{is_mark_by, entry_by_next}
 use Rattle.plus_tables.specs.Tables.{IsShort}
-use Rattle.plus_tables.specs.Rows.{flag, number, ring_of, forced_on, forced_by, place_after, told, legal_by, mark_by, is_along, IsFlagRow, IsForcedRow, IsEntryRow, IsRowAt, AreRowsAround, AreForced, AreShort, AreToldBelow, IsToldAlong}
+use Rattle.plus_tables.specs.Rows.{flag, number, ring_of, place_after, told, legal_by, mark_by, is_along, IsFlagRow, IsForcedRow, IsEntryRow, IsRowAt, AreRowsAround, AreForced, AreShort, AreToldBelow, IsToldAlong}
 use Rattle.plus_tables.proofs.Following.{entries_follow}
 use Rattle.plus_tables.proofs.Short.{table_entry-short}
 
@@ -84,24 +86,11 @@ module _ (g : GridData) (whole : IsGrid g) where
     ring_open x W = flag_before y (Some y) here around.here_is (itself y) x
     ring_open x NW = flag_before around.upper _ above around.above_is around.upper_is x
 
-    -- so they tell which moves are legal
-    ring_can : (x : ℕ) (d : Dir) → is_free g (record { x = x; y = y }) ≡ true
-        → leads_on g.corner (ring_of above here below x) d ≡ can_move g (record { x = x; y = y }) d
-    ring_can x d f = moves_on g (record { x = x; y = y }) f (ring_of above here below x) (ring_open x) d
-
-    -- and where a neighbour is forced
-    pub ring_forced_on : (x : ℕ) (d : Dir) (s : Side) → is_free g (record { x = x; y = y }) ≡ true
-        → forced_on g.corner (ring_of above here below x) d s
-        ≡ is_forced_on g.corner (is_blocked g (record { x = x; y = y }))
-        (can_move g (record { x = x; y = y })) d s
-    ring_forced_on x d s f = same_on g.corner (is_shut (ring_of above here below x))
-        (is_blocked g (record { x = x; y = y })) (leads_on g.corner (ring_of above here below x))
-        (can_move g (record { x = x; y = y })) (λ e. ap not (ring_open x e)) (λ e. ring_can x e f)
-      where
-        same_on : (r : Corner) (a b p q : Dir → Bool) → ((e : Dir) → a e ≡ b e) → ((e : Dir) → p e ≡ q e)
-            → is_forced_on r a p d s ≡ is_forced_on r b q d s
-        same_on Never a b p q i j = rw (i (rear s d), j (quarter s d)) refl
-        same_on One a b p q i j = rw (i (rear s d), i (quarter s d), j (quarter s d), j (turn s d)) refl
+    -- so they tell where a neighbour is forced
+    pub ring_forced : (x : ℕ) (d : Dir) → is_free g (record { x = x; y = y }) ≡ true
+        → forced_on g.corner (ring_of above here below x) d ≡ is_forced g (record { x = x; y = y }) d
+    ring_forced x d f = forced_of_ring g (record { x = x; y = y }) f (ring_of above here below x) (ring_open x)
+        g.corner refl d
 
     pub forced_row : (d : Dir) (corner : Corner) (forced : List Bool) → corner ≡ g.corner
         → length forced ≡ g.width + 2 → AreForced corner above here below d forced → IsForcedRow g y d forced
@@ -111,12 +100,9 @@ module _ (g : GridData) (whole : IsGrid g) where
         let free_here : is_free g (record { x = v.x; y = y }) ≡ true =
         ap (λ (n : ℕ). is_free g (record { x = v.x; y = n })) (sym row) ∙ free in
         are v.x below_last
-        ∙ ap (λ (r : Corner). forced_by r (ring_of above here below v.x) d) rule
-        ∙ both _ _ _ _ (ring_forced_on v.x d Right free_here) (ring_forced_on v.x d Left free_here)
+        ∙ ap (λ (r : Corner). forced_on r (ring_of above here below v.x) d) rule
+        ∙ ring_forced v.x d free_here
         ∙ ap (λ (n : ℕ). is_forced g (record { x = v.x; y = n }) d) (sym row)
-      where
-        both : (a b p q : Bool) → a ≡ p → b ≡ q → (a || b) ≡ (p || q)
-        both a b p q e f = rw (e, f) refl
 
     -- a move is legal from a free cell alone
     pub row_legal : (d : Dir) (corner : Corner) → corner ≡ g.corner → (v : Cell) → v.y ≡ y
@@ -138,7 +124,8 @@ module _ (g : GridData) (whole : IsGrid g) where
         by_test : (b : Bool) → is_free g (record { x = v.x; y = y }) ≡ b
             → (b && leads_on g.corner (ring_of above here below v.x) d)
             ≡ can_move g (record { x = v.x; y = y }) d
-        by_test true f = ring_can v.x d f
+        by_test true f = leads_on-legal g (record { x = v.x; y = y }) f (ring_of above here below v.x)
+            (ring_open v.x) g.corner refl d
         by_test false f = blocked f (can_move g (record { x = v.x; y = y }) d) refl
 
 -- where the next cell stands

@@ -9,6 +9,9 @@ use Rattle.grid_moves.specs.declared.Dir.{Dir}
 use Rattle.grid_moves.specs.declared.Dir.TheVariants.{N, NE, E, SE, S, SW, W, NW}
 use Rattle.grid_moves.specs.Grid.{GridData, is_free}
 use Rattle.grid_moves.specs.Move.{all_dirs, is_dir, is_open, legal_ahead, opposite}
+use Rattle.grid_moves.specs.declared.ring.Ring.{Ring}
+use Rattle.grid_moves.specs.Ring.{ring_told, is_free_on, is_shut, leads_on}
+use Rattle.grid_moves.proofs.Besides.{told_on}
 use Rattle.grid_moves.proofs.Legal.{legal_is}
 use Rattle.pruning.specs.declared.Arrival.{Arrival}
 use Rattle.pruning.specs.declared.Arrival.TheVariants.{Start, By}
@@ -16,12 +19,11 @@ use Rattle.pruning.specs.declared.turns.Side.{Side}
 use Rattle.pruning.specs.declared.turns.Side.TheVariants.{Right, Left}
 use Rattle.pruning.specs.Turns.{turn, quarter, rear, is_diagonal}
 use Rattle.pruning.specs.Allowed.{keeps_eighth, keeps_quarter, is_blocked, can_move, is_kept, is_allowed, allowed_dirs}
-use Rattle.pruning.specs.declared.ring.Ring.{Ring}
-use Rattle.pruning.specs.Ring.{ring_told, is_free_on, is_shut, leads_on, is_allowed_on}
+use Rattle.pruning.specs.Ring.{is_allowed_on}
 use Rattle.pruning.specs.Source.{CanArrive}
 use Rattle.pruning.proofs.Table.{straight_back, turn_parity, quarter_parity, by_parity, by_test, at_dir, at_both, same_dir}
 use Rattle.pruning.proofs.Places.{Place, move}
-use Rattle.pruning.proofs.Moves.{can_move-straight, can_move-diagonal}
+use Rattle.pruning.proofs.Moves.{leads_on-straight, leads_on-diagonal, can_move-straight, can_move-diagonal}
 use Rattle.pruning.proofs.Bridging.{place_of, free_place, open_there, leads_there, legal_leads}
 use Rattle.pruning.proofs.Running.{AreMoved, run_walked}
 use Rattle.plus_tables.specs.Tables.{TablesData, AreTablesOf, entry_at, is_on}
@@ -43,17 +45,6 @@ kept_alike Never p q d never rears quarters e = by_parity d
 kept_alike One p q d never rears quarters e = by_parity d
     (λ h. rw (h, rears Right h, rears Left h) refl)
     (λ h. rw (h, quarters Right h, quarters Left h) refl)
-
--- what a ring of tests has in a direction
-told_on : (free : Dir → Bool) (e : Dir) → is_free_on (ring_told free) e ≡ free e
-told_on free N = refl
-told_on free NE = refl
-told_on free E = refl
-told_on free SE = refl
-told_on free S = refl
-told_on free SW = refl
-told_on free W = refl
-told_on free NW = refl
 
 if_not : (b : Bool) → not b ≡ true → b ≡ false
 if_not b h = grind arith
@@ -155,9 +146,9 @@ module _ (t : TablesData) (g : GridData) (right : AreTablesOf t g) where
 
     leads_told : (e : Dir) → free e ≡ can_move g at e → leads_on g.corner (ring_told free) e ≡ can_move g at e
     leads_told e k = by_parity e
-        (λ h. rw (h, told_on free e, k, beside Left e h, beside Right e h, can_move-diagonal g at e f h)
-        (twice (is_open g at e) _))
-        (λ h. rw (h, told_on free e, k) refl)
+        (λ h. rw (leads_on-diagonal g.corner (ring_told free) e h, told_on free e, k, beside Left e h,
+        beside Right e h, can_move-diagonal g at e f h) (twice (is_open g at e) _))
+        (λ h. leads_on-straight g.corner (ring_told free) e h ∙ told_on free e ∙ k)
       where
         twice : (a b : Bool) → ((a && b) && b) ≡ (a && b)
         twice a b = grind arith

@@ -6,11 +6,12 @@ use Rattle.grid_moves.specs.declared.Corner.TheVariants.{Never, One}
 use Rattle.grid_moves.specs.declared.Dir.{Dir}
 use Rattle.grid_moves.specs.declared.Dir.TheVariants.{N, NE, E, SE, S, SW, W, NW}
 use Rattle.grid_moves.specs.Move.{is_dir, opposite, all_dirs}
+use Rattle.grid_moves.specs.Ring.{ring_told}
 use Rattle.pruning.specs.declared.Arrival.{Arrival}
 use Rattle.pruning.specs.declared.Arrival.TheVariants.{Start, By}
 use Rattle.pruning.specs.declared.turns.Side.TheVariants.{Right, Left}
 use Rattle.pruning.specs.Turns.{quarter, rear, is_diagonal}
-use Rattle.pruning.specs.Ring.{ring_told, is_allowed_on}
+use Rattle.pruning.specs.Ring.{is_allowed_on}
 use Rattle.plus_tables.specs.declared.turns.Seen.{Seen}
 use Rattle.plus_tables.specs.Tables.{TablesData, is_on}
 

@@ -7,12 +7,11 @@ use Rattle.grid_moves.specs.declared.Dir.{Dir}
 use Rattle.grid_moves.specs.declared.Dir.TheVariants.{N, NE, E, SE, S, SW, W, NW}
 use Rattle.grid_moves.specs.Grid.{GridData, is_free, is_inside}
 use Rattle.grid_moves.specs.Move.{row_ahead}
-use Rattle.pruning.specs.declared.turns.Side.{Side}
-use Rattle.pruning.specs.declared.turns.Side.TheVariants.{Right, Left}
+use Rattle.grid_moves.specs.declared.ring.Ring.{Ring}
+use Rattle.grid_moves.specs.Ring.{leads_on}
 use Rattle.pruning.specs.Turns.{is_diagonal}
-use Rattle.pruning.specs.Marked.{is_forced, is_forced_on}
-use Rattle.pruning.specs.declared.ring.Ring.{Ring}
-use Rattle.pruning.specs.Ring.{is_shut, leads_on}
+use Rattle.pruning.specs.Marked.{is_forced}
+use Rattle.pruning.specs.Ring.{forced_on}
 use Rattle.plus_tables.specs.declared.heading.Heading.{Heading}
 use Rattle.plus_tables.specs.declared.heading.Heading.TheVariants.{Upwards, Downwards}
 use Rattle.plus_tables.specs.Entry.{table_entry}
@@ -39,13 +38,6 @@ ring_of above here below x = record {
   w = flag here x;
   nw = flag above x;
 }
-
--- a neighbour is forced at a free cell, told the cells around it
-abbrev pub forced_on : Corner → Ring → Dir → Side → Bool
-forced_on corner ring d s = is_forced_on corner (is_shut ring) (leads_on corner ring) d s
-
-abbrev pub forced_by : Corner → Ring → Dir → Bool
-forced_by corner ring d = forced_on corner ring d Right || forced_on corner ring d Left
 
 -- where the column stands to which a move from column x leads
 abbrev pub place_after : Dir → ℕ → ℕ
@@ -169,4 +161,4 @@ AreRowsSeen g Downwards y ahead here behind = AreRowsAround g y behind here ahea
 -- what loops that read all columns of a row tell
 abbrev pub AreForced : Corner → List Bool → List Bool → List Bool → Dir → List Bool → Type 0
 AreForced corner above here below d forced = (x : ℕ) → x < length forced - 2
-    → flag forced (x + 1) ≡ forced_by corner (ring_of above here below x) d
+    → flag forced (x + 1) ≡ forced_on corner (ring_of above here below x) d

@@ -4,11 +4,10 @@
 //! a branch, and each direction and corner rule has code of its own, which the compiler turns into vector code.
 
 ghost use Rattle.std.specs.Prelude.{◌≡◌, ℕ, ◌+◌, ◌-◌, ◌<◌, ◌≤◌, false, true, length};
-ghost use Rattle.pruning.specs.Ring as rings;
 ghost use Rattle.plus_tables.specs.Rows as spec;
 
-use grid_moves::{Corner, Dir, Terrain, is_passable};
-use pruning::{Ring, Side, is_diagonal, quarter, rear, turn};
+use grid_moves::{Corner, Dir, Ring, Terrain};
+use pruning::forced_on;
 
 // The flags around a column.
 #[inline(always)]
@@ -30,46 +29,6 @@ pub fn ring_at(above: &[bool], here: &[bool], below: &[bool], x: usize) -> Ring
     }
 }
 
-/// Whether a move from a free cell is legal. Of the cells beside a diagonal move the one on the row comes first:
-/// in that order the compiler makes the shorter vector code of it.
-#[inline(always)]
-pub fn can_move(corner: Corner, ring: Ring, d: Dir) -> bool
-    ensures { result ≡ rings.leads_on corner ring d }
-{
-    match d {
-        Dir::N => ring.n,
-        Dir::NE => ring.ne & is_passable(corner, ring.e, ring.n),
-        Dir::E => ring.e,
-        Dir::SE => ring.se & is_passable(corner, ring.e, ring.s),
-        Dir::S => ring.s,
-        Dir::SW => ring.sw & is_passable(corner, ring.w, ring.s),
-        Dir::W => ring.w,
-        Dir::NW => ring.nw & is_passable(corner, ring.w, ring.n),
-    }
-}
-
-// Whether a neighbour on this side is forced at a free cell, after a move.
-#[inline(always)]
-fn is_forced_on(corner: Corner, ring: Ring, d: Dir, s: Side) -> bool
-    ensures { result ≡ spec.forced_on corner ring d s }
-{
-    match corner {
-        Corner::Never if is_diagonal(d) => false,
-        Corner::One if !is_diagonal(d) => {
-            !ring.is_free(quarter(s, d)) & can_move(corner, ring, turn(s, d))
-        }
-        _ => !ring.is_free(rear(s, d)) & can_move(corner, ring, quarter(s, d)),
-    }
-}
-
-// Whether a neighbour is forced at a free cell, after a move.
-#[inline(always)]
-fn is_forced(corner: Corner, ring: Ring, d: Dir) -> bool
-    ensures { result ≡ spec.forced_by corner ring d }
-{
-    is_forced_on(corner, ring, d, Side::Right) | is_forced_on(corner, ring, d, Side::Left)
-}
-
 // For each column whether a neighbour is forced there, if it is free.
 #[inline(always)]
 fn force_by(
@@ -87,7 +46,7 @@ fn force_by(
     ensures { spec.AreForced corner above.now here.now below.now d forced.new }
 {
     for x in 0..forced.len() - 2 {
-        forced[x + 1] = is_forced(corner, ring_at(above, here, below, x), d);
+        forced[x + 1] = forced_on(corner, ring_at(above, here, below, x), d);
     }
 }
 

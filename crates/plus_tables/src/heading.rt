@@ -1,13 +1,12 @@
 //! Which way a sweep heads, and what follows from it.
 
 ghost use Rattle.std.specs.Prelude.{◌≡◌, ℕ, ◌<◌, true};
-ghost use Rattle.grid_moves.specs.Around.{IsBefore};
 ghost use Rattle.grid_moves.specs.Move.{row_ahead};
 ghost use Rattle.plus_tables.specs.Rows as spec;
 ghost use Rattle.plus_tables.specs.Rows.{IsRowAt};
 ghost use Rattle.plus_tables.specs.Sweep as sweeps;
 
-use grid_moves::Dir;
+use grid_moves::{Dir, before};
 
 /// Where the row lies that was swept last: above the one that is swept now, or below it.
 #[derive(Clone, Copy)]
@@ -52,13 +51,6 @@ pub fn nth_row(heading: Heading, height: u16, n: u16) -> u16
         Heading::Upwards => n,
         Heading::Downwards => height - (n + 1),
     }
-}
-
-// The row before this one; before the first it is 65535, which no map has.
-fn before(y: u16) -> u16
-    ensures { IsBefore y result }
-{
-    y.wrapping_sub(1)
 }
 
 /// The row behind this one, which is swept next, if it lies on the map.

@@ -9,7 +9,7 @@ ghost use Rattle.plus_tables.specs.Local as local;
 ghost use Rattle.plus_tables.specs.Rows as spec;
 ghost use Rattle.plus_tables.specs.Tables.{IsShort};
 
-use crate::flags::{can_move, ring_at};
+use crate::flags::ring_at;
 use crate::tables::tells_mark;
 use grid_moves::{Corner, Dir};
 use pruning::is_diagonal;
@@ -84,7 +84,7 @@ fn across_by(corner: Corner, rows: Three, forced: &[bool], next: Ahead, d: Dir, 
 {
     for x in 0..out.len() - 2 {
         let ring = ring_at(rows.ahead, rows.here, rows.behind, x);
-        let legal = rows.here[x + 1] & can_move(corner, ring, d);
+        let legal = rows.here[x + 1] & ring.can_move(corner, d);
         let at = place_after(d, x);
         let aside = tells_mark(next.right[at]) | tells_mark(next.left[at]);
         let mark = forced[at] | (is_diagonal(d) & aside);

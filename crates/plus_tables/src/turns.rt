@@ -13,8 +13,8 @@ ghost use Rattle.plus_tables.specs.Tables.{entry_at, is_on};
 
 use crate::jumps::cell_after;
 use crate::tables::Tables;
-use grid_moves::{Cell, Corner, Dir, opposite};
-use pruning::{Arrival, Packed, Ring, Side, allowed_on, is_dir, quarter, rear};
+use grid_moves::{Cell, Corner, Dir, Ring, opposite};
+use pruning::{Arrival, Packed, Side, allowed_on, is_dir, quarter, rear};
 use std::sync::ledger::Ledger;
 use steps::Steps;
 

@@ -15,7 +15,7 @@ ghost use Rattle.potential_check.specs.Rising as spec;
 ghost use Rattle.potential_check.specs.Rising.{AreHills, IsColumn, Reach, RowsReach, Takes, climbs, first_steep, height_at, towards};
 
 use crate::heights::Heights;
-use grid_moves::{Around, Cell, Grid, Terrain, move_cost};
+use grid_moves::{Around, Cell, Grid, Terrain, before, move_cost};
 
 /// The heights of one column in three rows.
 #[derive(Clone, Copy)]
@@ -38,14 +38,6 @@ pub(crate) struct Rows<'a> {
 pub(crate) struct Hills<'a> {
     pub grid: &'a Grid,
     pub heights: Heights<'a>,
-}
-
-// The column or row before this one; before 0 it is 65535, which no map has.
-#[inline(always)]
-fn before(n: u16) -> u16
-    ensures { IsBefore n result }
-{
-    n.wrapping_sub(1)
 }
 
 // Whether a move of this cost from a height to another rises by more. A sum above all heights is not below

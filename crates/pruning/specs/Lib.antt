@@ -1,7 +1,7 @@
 pub mod Turns
 pub mod Allowed
-pub mod Ring
 pub mod Marked
+pub mod Ring
 pub mod Packed
 pub mod Numbered
 pub mod Canonical

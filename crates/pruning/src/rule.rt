@@ -14,22 +14,22 @@
 //! after a diagonal move nothing is forced. Where one blocked cell may be passed (AAAI 2011) it stands at
 //! the side of `x`, and after a diagonal move behind it; `n` is forced.
 
-ghost use Rattle.std.specs.Prelude.{◌≡◌, ◌+◌, ◌≤◌, ◌<◌, ◌&&◌, ◌∷◌, IsTrue, false, List, filter, length};
+ghost use Rattle.std.specs.Prelude.{◌≡◌, ◌+◌, ◌≤◌, ◌<◌, ◌∷◌, IsTrue, false, List, filter, length};
 ghost use Rattle.grid_moves.specs.Grid.{IsGrid, is_free};
 ghost use Rattle.grid_moves.specs.Move as moves;
+ghost use Rattle.grid_moves.specs.Ring as rings;
 ghost use Rattle.pruning.specs.Turns as turns;
 ghost use Rattle.pruning.specs.Allowed as spec;
 ghost use Rattle.pruning.specs.Numbered as numbered;
-ghost use Rattle.pruning.specs.Ring as rings;
+ghost use Rattle.pruning.specs.Ring as told;
 ghost use Rattle.pruning.specs.Marked as marks;
 ghost use Rattle.pruning.specs.First as first;
 
 use crate::Arrival;
 use crate::packed::Packed;
-use crate::ring::{Ring, is_inside, ring_of};
 use crate::turns::{Side, is_diagonal, quarter, rear, turn};
 use arrayvec::ArrayVec;
-use grid_moves::{Cell, Corner, Dir, Terrain, dir_number, is_open, is_passable};
+use grid_moves::{Cell, Corner, Dir, Ring, Terrain, dir_number, is_inner};
 
 /// Whether the directions are one.
 #[inline(always)]
@@ -37,43 +37,6 @@ pub fn is_dir(d: Dir, e: Dir) -> bool
     ensures { result ≡ moves.is_dir d e }
 {
     dir_number(d) == dir_number(e)
-}
-
-// Whether the cell beside this one is blocked; what lies outside the map is.
-#[inline(always)]
-fn is_blocked<T: Terrain>(t: &T, at: Cell, d: Dir) -> bool
-    requires free { IsTrue (is_free (T.grid t.now) at) }
-    requires whole { IsGrid (T.grid t.now) }
-    ensures { result ≡ spec.is_blocked (T.grid t.now) at d }
-{
-    !is_open(t, at, d)
-}
-
-// Whether a diagonal move passes between the two cells beside it.
-#[inline(always)]
-fn passes<T: Terrain>(t: &T, at: Cell, d: Dir) -> bool
-    requires free { IsTrue (is_free (T.grid t.now) at) }
-    requires whole { IsGrid (T.grid t.now) }
-    ensures { result ≡ moves.is_passable (T.grid t.now).corner
-        (moves.is_open (T.grid t.now) at (turns.turn Side.Left d))
-        (moves.is_open (T.grid t.now) at (turns.turn Side.Right d)) }
-{
-    let left = is_open(t, at, turn(Side::Left, d));
-    let right = is_open(t, at, turn(Side::Right, d));
-    is_passable(t.corner(), left, right)
-}
-
-// Whether the move is legal.
-#[inline(always)]
-fn can_move<T: Terrain>(t: &T, at: Cell, d: Dir) -> bool
-    requires free { IsTrue (is_free (T.grid t.now) at) }
-    requires whole { IsGrid (T.grid t.now) }
-    ensures { result ≡ spec.can_move (T.grid t.now) at d }
-{
-    if is_diagonal(d) && !passes(t, at, d) {
-        return false;
-    }
-    is_open(t, at, d)
 }
 
 // Whether the cell in this direction is blocked.
@@ -130,37 +93,12 @@ fn is_kept(rule: Corner, ring: Ring, by: Arrival, to: Dir) -> bool
     }
 }
 
-// Whether a diagonal move passes between two cells, with no branch on them.
-#[inline(always)]
-fn is_between(rule: Corner, left: bool, right: bool) -> bool
-    ensures { result ≡ moves.is_passable rule left right }
-{
-    match rule {
-        Corner::Never => left & right,
-        Corner::One => left | right,
-    }
-}
-
-// Whether the move is legal.
-#[inline(always)]
-fn leads_on(rule: Corner, ring: Ring, d: Dir) -> bool
-    ensures { result ≡ rings.leads_on rule ring d }
-{
-    if is_diagonal(d) {
-        let left = ring.is_free(turn(Side::Left, d));
-        let right = ring.is_free(turn(Side::Right, d));
-        ring.is_free(d) & is_between(rule, left, right)
-    } else {
-        ring.is_free(d)
-    }
-}
-
 // Whether the direction is allowed.
 #[inline(always)]
 fn is_allowed(rule: Corner, ring: Ring, by: Arrival, d: Dir) -> bool
-    ensures { result ≡ rings.is_allowed_on rule ring by d }
+    ensures { result ≡ told.is_allowed_on rule ring by d }
 {
-    is_kept(rule, ring, by, d) & leads_on(rule, ring, d)
+    is_kept(rule, ring, by, d) & ring.can_move(rule, d)
 }
 
 // Puts a direction before others, if it is allowed: a choice of two numbers, of which the compiler makes no
@@ -168,8 +106,8 @@ fn is_allowed(rule: Corner, ring: Ring, by: Arrival, d: Dir) -> bool
 #[inline(always)]
 fn put_allowed(rule: Corner, ring: Ring, by: Arrival, d: Dir, others: Packed) -> Packed
     requires room { length others < 8 }
-    ensures kept { (ds : List Dir) → others ≡ filter (rings.is_allowed_on rule ring by) ds
-        → result ≡ filter (rings.is_allowed_on rule ring by) (d ∷ ds) }
+    ensures kept { (ds : List Dir) → others ≡ filter (told.is_allowed_on rule ring by) ds
+        → result ≡ filter (told.is_allowed_on rule ring by) (d ∷ ds) }
     ensures small { length result ≤ length others + 1 }
 {
     let with_it = others.after(d);
@@ -212,7 +150,7 @@ fn arrival_of(number: usize) -> Arrival
 // All directions that are allowed, for a rule and an arrival that the compiler knows.
 fn allowed_of<const RULE: usize, const BY: usize>(ring: Ring) -> Packed
     ensures { result ≡ filter
-        (rings.is_allowed_on (numbered.corner_of RULE) ring (numbered.arrival_of BY)) moves.all_dirs }
+        (told.is_allowed_on (numbered.corner_of RULE) ring (numbered.arrival_of BY)) moves.all_dirs }
 {
     let rule = corner_of(RULE);
     let by = arrival_of(BY);
@@ -229,7 +167,7 @@ fn allowed_of<const RULE: usize, const BY: usize>(ring: Ring) -> Packed
 // The same, with code of its own for each arrival.
 #[inline(always)]
 fn allowed_by<const RULE: usize>(ring: Ring, by: Arrival) -> Packed
-    ensures { result ≡ filter (rings.is_allowed_on (numbered.corner_of RULE) ring by) moves.all_dirs }
+    ensures { result ≡ filter (told.is_allowed_on (numbered.corner_of RULE) ring by) moves.all_dirs }
 {
     match by {
         Arrival::Start => allowed_of::<RULE, 8>(ring),
@@ -248,7 +186,7 @@ fn allowed_by<const RULE: usize>(ring: Ring, by: Arrival) -> Packed
 /// is legal. Each rule has code of its own.
 #[inline(always)]
 pub fn allowed_on(rule: Corner, ring: Ring, by: Arrival) -> Packed
-    ensures { result ≡ filter (rings.is_allowed_on rule ring by) moves.all_dirs }
+    ensures { result ≡ filter (told.is_allowed_on rule ring by) moves.all_dirs }
 {
     match rule {
         Corner::Never => allowed_by::<0>(ring, by),
@@ -263,8 +201,7 @@ fn allowed_around<T: Terrain>(t: &T, at: Cell, by: Arrival) -> Packed
     requires whole { IsGrid (T.grid t.now) }
     ensures rule { result ≡ spec.allowed_dirs (T.grid t.now) at by }
 {
-    let ring = ring_of(t, at);
-    allowed_on(t.corner(), ring, by)
+    allowed_on(t.corner(), Ring::of(t, at), by)
 }
 
 // The same, for the rare cells on the border of the map.
@@ -296,50 +233,60 @@ pub fn allowed_word<T: Terrain>(t: &T, at: Cell, by: Arrival) -> Packed
     requires free { IsTrue (is_free (T.grid t.now) at) }
     ensures rule { result ≡ spec.allowed_dirs (T.grid t.now) at by }
 {
-    let (left, up) = (at.x.wrapping_sub(1), at.y.wrapping_sub(1));
-    let inner = is_inside(t, left, up)
-        && is_inside(t, at.x + 1, at.y + 1)
-        && is_inside(t, at.x, at.y);
-    if inner {
+    let _whole = t.width();
+    if is_inner(t, at) {
         allowed_around(t, at, by)
     } else {
         allowed_on_border(t, at, by)
     }
 }
 
-// Whether there is a wall in one direction, and the move in another is legal.
+// Whether a neighbour on this side is forced at a free cell, after a move, with no branch on the cells around.
 #[inline(always)]
-fn goes_past_wall<T: Terrain>(t: &T, at: Cell, wall: Dir, to: Dir) -> bool
-    requires free { IsTrue (is_free (T.grid t.now) at) }
-    requires whole { IsGrid (T.grid t.now) }
-    ensures { result ≡ (spec.is_blocked (T.grid t.now) at wall && spec.can_move (T.grid t.now) at to) }
+fn is_forced_on(rule: Corner, ring: Ring, d: Dir, side: Side) -> bool
+    ensures { result ≡ told.forced_beside rule ring d side }
 {
-    is_blocked(t, at, wall) && can_move(t, at, to)
-}
-
-// Whether a neighbour on this side is forced.
-#[inline(always)]
-fn is_forced_on<T: Terrain>(t: &T, at: Cell, d: Dir, side: Side) -> bool
-    requires free { IsTrue (is_free (T.grid t.now) at) }
-    requires whole { IsGrid (T.grid t.now) }
-    ensures { result ≡ marks.is_forced_on (T.grid t.now).corner (spec.is_blocked (T.grid t.now) at)
-        (spec.can_move (T.grid t.now) at) d side }
-{
-    match t.corner() {
+    match rule {
         Corner::Never if is_diagonal(d) => false,
-        Corner::Never => goes_past_wall(t, at, rear(side, d), quarter(side, d)),
-        Corner::One if is_diagonal(d) => goes_past_wall(t, at, rear(side, d), quarter(side, d)),
-        Corner::One => goes_past_wall(t, at, quarter(side, d), turn(side, d)),
+        Corner::One if !is_diagonal(d) => {
+            is_shut(ring, quarter(side, d)) & ring.can_move(rule, turn(side, d))
+        }
+        _ => is_shut(ring, rear(side, d)) & ring.can_move(rule, quarter(side, d)),
     }
 }
 
-/// Whether, after a move in `d` to this free cell, a neighbour is forced: `n` in the drawings above. For
-/// a straight `d` that is: whether the cell is marked for it.
+/// Whether a neighbour is forced at a free cell after a move in `d`, told which of the cells around are free: `n` in
+/// the drawings above.
+#[inline(always)]
+pub fn forced_on(rule: Corner, ring: Ring, d: Dir) -> bool
+    ensures { result ≡ told.forced_on rule ring d }
+{
+    is_forced_on(rule, ring, d, Side::Right) | is_forced_on(rule, ring, d, Side::Left)
+}
+
+// The same where the cells around are read under a rule that the compiler knows, so that those which it does not ask
+// for are not.
+#[inline(always)]
+fn forced_around<T: Terrain>(t: &T, rule: Corner, at: Cell, d: Dir) -> bool
+    requires free { IsTrue (is_free (T.grid t.now) at) }
+    requires whole { IsGrid (T.grid t.now) }
+    requires rule { rule ≡ (T.grid t.now).corner }
+    ensures { result ≡ marks.is_forced (T.grid t.now) at d }
+{
+    forced_on(rule, Ring::of(t, at), d)
+}
+
+/// Whether, after a move in `d` to this free cell, a neighbour is forced. For a straight `d` that is: whether the cell
+/// is marked for it. Where the compiler knows `d`, only the cells that it asks for are read.
+#[inline(always)]
 pub fn forced<T: Terrain>(t: &T, at: Cell, d: Dir) -> bool
     requires free { IsTrue (is_free (T.grid t.now) at) }
     ensures forces { result ≡ marks.is_forced (T.grid t.now) at d }
     ensures marked { turns.is_diagonal d ≡ false → result ≡ first.is_marked (T.grid t.now) at d }
 {
     let _whole = t.width();
-    is_forced_on(t, at, d, Side::Right) || is_forced_on(t, at, d, Side::Left)
+    match t.corner() {
+        Corner::Never => forced_around(t, Corner::Never, at, d),
+        Corner::One => forced_around(t, Corner::One, at, d),
+    }
 }

@@ -1,13 +1,14 @@
 use Rattle.std.proofs.Common.{◌+◌, ◌<◌, length, arith, ap, ◌∙◌}
-use Rattle.pruning.specs.declared.ring.Ring.{Ring}
-use Rattle.plus_tables.specs.Rows.{forced_by, ring_of}
+use Rattle.grid_moves.specs.declared.ring.Ring.{Ring}
+use Rattle.pruning.specs.Ring.{forced_on}
+use Rattle.plus_tables.specs.Rows.{ring_of}
 use Rattle.plus_tables.proofs.Growing.{flag_more}
 use Rattle.plus_tables.proofs.flags.force_by.Goals as goal
 
 pub loop-x-preserved : goal.loop-x-preserved
 loop-x-preserved c =
     let long : c.loop-x.x + 1 < length c.loop-x.forced = omega arith in
-    flag_more c.loop-x.forced c.loop-x.x c.is_forced.result
-    (λ k. forced_by c.args.corner (ring_of c.args.above.now c.args.here.now c.args.below.now k) c.args.d) long
+    flag_more c.loop-x.forced c.loop-x.x c.forced_on.result
+    (λ k. forced_on c.args.corner (ring_of c.args.above.now c.args.here.now c.args.below.now k) c.args.d) long
     c.loop-x.invariant
-    (c.is_forced.ensures ∙ ap (λ (r : Ring). forced_by c.args.corner r c.args.d) c.ring_at.ensures)
+    (c.forced_on.ensures ∙ ap (λ (r : Ring). forced_on c.args.corner r c.args.d) c.ring_at.ensures)

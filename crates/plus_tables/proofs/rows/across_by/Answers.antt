@@ -1,8 +1,8 @@
 use Rattle.std.proofs.Common.{◌≡◌, ℕ, ◌+◌, ◌<◌, Bool, true, ◌&&◌, ◌||◌, length, arith, ap, ◌∙◌, subst, w16, to_z, of_z}
 use Rattle.std.specs.Prelude.{ℤ}
+use Rattle.grid_moves.specs.declared.ring.Ring.{Ring}
+use Rattle.grid_moves.specs.Ring.{leads_on}
 use Rattle.pruning.specs.Turns.{is_diagonal}
-use Rattle.pruning.specs.declared.ring.Ring.{Ring}
-use Rattle.pruning.specs.Ring.{leads_on}
 use Rattle.plus_tables.specs.Rows as spec
 use Rattle.plus_tables.proofs.Growing.{told_across, number_more}
 use Rattle.plus_tables.proofs.rows.across_by.Goals as goal

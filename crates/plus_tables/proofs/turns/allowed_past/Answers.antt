@@ -2,8 +2,8 @@ use Rattle.std.proofs.Common.{◌∙◌, ap, sym}
 use Rattle.std.specs.Prelude.{filter}
 use Rattle.grid_moves.specs.declared.Corner.TheVariants.{Never}
 use Rattle.grid_moves.specs.Move.{all_dirs}
+use Rattle.grid_moves.specs.declared.ring.Ring.{Ring}
 use Rattle.pruning.specs.declared.Arrival.TheVariants.{By}
-use Rattle.pruning.specs.declared.ring.Ring.{Ring}
 use Rattle.pruning.specs.Ring.{is_allowed_on}
 use Rattle.plus_tables.specs.Tables.{entry_at}
 use Rattle.plus_tables.specs.Reading.{free_past, free_told}

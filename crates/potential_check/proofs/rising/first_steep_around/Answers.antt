@@ -19,21 +19,21 @@ returns c =
     let to : Dir → Option Cell = λ d. steep_move u from (height d) (ahead d) in
     let fits : FitsSigned w64 from = search rules in
     let n : c.steep_move.result ≡ to N =
-    passed u from (height N) _ (ahead N) _ fits (search rules) c.steep_move.ensures is.n in
+    passed u from (height N) _ (ahead N) _ fits (search rules) c.steep_move.ensures (is N) in
     let ne : c.steep_move-2.result ≡ to NE =
-    passed u from (height NE) _ (ahead NE) _ fits (search rules) c.steep_move-2.ensures is.ne in
+    passed u from (height NE) _ (ahead NE) _ fits (search rules) c.steep_move-2.ensures (is NE) in
     let e : c.steep_move-3.result ≡ to E =
-    passed u from (height E) _ (ahead E) _ fits (search rules) c.steep_move-3.ensures is.e in
+    passed u from (height E) _ (ahead E) _ fits (search rules) c.steep_move-3.ensures (is E) in
     let se : c.steep_move-4.result ≡ to SE =
-    passed u from (height SE) _ (ahead SE) _ fits (search rules) c.steep_move-4.ensures is.se in
+    passed u from (height SE) _ (ahead SE) _ fits (search rules) c.steep_move-4.ensures (is SE) in
     let s : c.steep_move-5.result ≡ to S =
-    passed u from (height S) _ (ahead S) _ fits (search rules) c.steep_move-5.ensures is.s in
+    passed u from (height S) _ (ahead S) _ fits (search rules) c.steep_move-5.ensures (is S) in
     let sw : c.steep_move-6.result ≡ to SW =
-    passed u from (height SW) _ (ahead SW) _ fits (search rules) c.steep_move-6.ensures is.sw in
+    passed u from (height SW) _ (ahead SW) _ fits (search rules) c.steep_move-6.ensures (is SW) in
     let w : c.steep_move-7.result ≡ to W =
-    passed u from (height W) _ (ahead W) _ fits (search rules) c.steep_move-7.ensures is.w in
+    passed u from (height W) _ (ahead W) _ fits (search rules) c.steep_move-7.ensures (is W) in
     let nw : c.steep_move-8.result ≡ to NW =
-    passed u from (height NW) _ (ahead NW) _ fits (search rules) c.steep_move-8.ensures is.nw in
+    passed u from (height NW) _ (ahead NW) _ fits (search rules) c.steep_move-8.ensures (is NW) in
     let all = eight (to N) (to NE) (to E) (to SE) (to S) (to SW) (to W) (to NW) in
     cc (
       c.or.ensures,

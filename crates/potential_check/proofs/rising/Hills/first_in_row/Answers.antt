@@ -14,7 +14,7 @@ take-requires-clause-above c =
 
 pub take-requires-2-clause-above : goal.take-requires-2-clause-above
 take-requires-2-clause-above c =
-    let off = c.before-2.ensures.none refl in
+    let off = c.before-2.ensures.is.none refl in
     let first = rows_off c.args.self.now c.requires.hills c.args.y c.before-2.result c.args.rows.now
     c.take.result.1 c.take.result.0 (omega (arith, c.requires.hills.grid.sides.narrow)) c.take.ensures.above
     c.take.ensures.here c.take.ensures.below c.requires.rows in
@@ -22,7 +22,7 @@ take-requires-2-clause-above c =
 
 pub loop-x-init : goal.loop-x-init
 loop-x-init c =
-    let off = c.before-2.ensures.none refl in
+    let off = c.before-2.ensures.is.none refl in
     let first = rows_off c.args.self.now c.requires.hills c.args.y c.before-2.result c.args.rows.now
     c.take.result.1 c.take.result.0 (omega (arith, c.requires.hills.grid.sides.narrow)) c.take.ensures.above
     c.take.ensures.here c.take.ensures.below c.requires.rows in

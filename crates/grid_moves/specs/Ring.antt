@@ -1,0 +1,45 @@
+-- The cells around a cell, told by the direction to them, and the moves that they tell of.
+use Rattle.std.specs.Prelude.{Bool, not, ◌&&◌}
+use Rattle.grid_moves.specs.declared.Corner.{Corner}
+use Rattle.grid_moves.specs.declared.Dir.{Dir}
+use Rattle.grid_moves.specs.declared.Dir.TheVariants.{N, NE, E, SE, S, SW, W, NW}
+use Rattle.grid_moves.specs.declared.ring.Ring.{Ring}
+use Rattle.grid_moves.specs.Move.{is_passable}
+
+-- what is told of each direction
+abbrev pub ring_told : (Dir → Bool) → Ring
+ring_told free = record {
+  n = free N;
+  ne = free NE;
+  e = free E;
+  se = free SE;
+  s = free S;
+  sw = free SW;
+  w = free W;
+  nw = free NW;
+}
+
+-- the cell in this direction is free, and is not
+abbrev pub is_free_on : Ring → Dir → Bool
+is_free_on ring N = ring.n
+is_free_on ring NE = ring.ne
+is_free_on ring E = ring.e
+is_free_on ring SE = ring.se
+is_free_on ring S = ring.s
+is_free_on ring SW = ring.sw
+is_free_on ring W = ring.w
+is_free_on ring NW = ring.nw
+
+abbrev pub is_shut : Ring → Dir → Bool
+is_shut ring d = not (is_free_on ring d)
+
+-- the move in this direction is legal, from a free cell
+abbrev pub leads_on : Corner → Ring → Dir → Bool
+leads_on rule ring N = ring.n
+leads_on rule ring NE = ring.ne && is_passable rule ring.e ring.n
+leads_on rule ring E = ring.e
+leads_on rule ring SE = ring.se && is_passable rule ring.e ring.s
+leads_on rule ring S = ring.s
+leads_on rule ring SW = ring.sw && is_passable rule ring.w ring.s
+leads_on rule ring W = ring.w
+leads_on rule ring NW = ring.nw && is_passable rule ring.w ring.n
