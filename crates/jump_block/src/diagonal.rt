@@ -13,12 +13,12 @@ ghost use Rattle.jump_block.specs.Source as spec;
 ghost use Rattle.jump_block.specs.Near.{AreNearStart};
 ghost use Rattle.jump_block.specs.Source.{OnSome, OnEach};
 
+use crate::cells::bit_of;
 use crate::near::{has_next_bit, leads_from_bit};
-use crate::patch::{Patch, bit_of};
 use crate::straight::Bits;
 use crate::word::{Way, Words};
 use grid_moves::{Cell, Corner, Dir, beyond, is_passable};
-use pruning::{Side, turn};
+use pruning::{Side, forced_on, turn};
 use std::sync::ledger::Ledger;
 use steps::Steps;
 
@@ -165,10 +165,7 @@ impl<'a> Bits<'a> {
     {
         match self.corner {
             Corner::Never => false,
-            Corner::One => {
-                let around = Patch::read(self.rows, self.corner, at, steps);
-                around.forces(d)
-            }
+            Corner::One => forced_on(Corner::One, self.ring(at, steps), d),
         }
     }
 

@@ -12,11 +12,10 @@ ghost use Rattle.jump_block.specs.Scan.{most_lanes};
 ghost use Rattle.bit_grid.specs.Bits.{AreBitsOf};
 ghost use Rattle.jump_block.specs.Source.{AreItsBits, JumpsOnEach, JumpsOnSome, OnEach, OnSome, is_forward, is_back, scanned};
 
-use crate::patch::{MIDDLE, Patch};
 use crate::straight::Bits;
 use bit_grid::BitGrid;
 use grid_moves::{Cell, Corner, Dir};
-use pruning::{Arrival, JumpSource, Packed, allowed_word};
+use pruning::{Arrival, JumpSource, Packed, allowed_on};
 use std::sync::ledger::Ledger;
 use steps::Steps;
 
@@ -122,8 +121,8 @@ impl<'a> Bits<'a> {
         ensures rule { OnEach self.now at (λ g. result ≡ allowed_dirs g at by) }
         ensures fewest { steps.old + 3 ≤ steps.new }
     {
-        let around = Patch::read(self.rows, self.corner, at, steps);
-        allowed_word(&around, MIDDLE, by)
+        let ring = self.ring(at, steps);
+        allowed_on(self.corner, ring, by)
     }
 }
 
