@@ -1,12 +1,13 @@
 -- Words of bits, one after the other.
 use Rattle.std.proofs.Common.{◌≡◌, ℕ, zero, suc, ◌+◌, ◌*◌, ◌/◌, ◌%◌, ◌<◌, ◌≤◌, ◌⊎◌, inl, inr, arith, Bool, false, refl, ap, sym, ◌∙◌, subst, List, [], ◌∷◌, ◌++◌, length, length-append, slice_index_or}
 use Rattle.std.proofs.lemmas.Bool.Decides.{nat_tests}
-use Rattle.grid_moves.specs.Grid.{GridData, is_free, is_inside}
+use Rattle.grid_moves.specs.declared.Corner.{Corner}
+use Rattle.grid_moves.specs.Grid.{GridData, IsGrid, is_free, is_inside}
 use Rattle.std.proofs.lemmas.List.{get_or_append_left}
 use Rattle.std.proofs.Math.Seq.{get_or-append_seam}
 use Rattle.std.proofs.lemmas.Nat.{div-mul-add, mod-mul-add, mul-add-lt}
 use Rattle.std.proofs.lemmas.Bool.{cases_lt}
-use Rattle.bit_grid.specs.Bits.{LineData, Shows, AreRowsOf, AreColumnsOf, HasRoom, is_set, is_free_from_one}
+use Rattle.bit_grid.specs.Bits.{LineData, BitData, Shows, AreBitsOf, AreRowsOf, AreColumnsOf, HasRoom, is_set, is_free_from_one}
 use Rattle.bit_grid.specs.Pack.{is_free_in, IsBordered}
 use Rattle.bit_grid.specs.Turn.{ArePackedSoFar}
 use Rattle.bit_grid.proofs.Words.{set_none}
@@ -39,7 +40,7 @@ beyond_rows g (suc line) (suc place) h =
     outside x y e = rw e refl
 
 -- columns that are turned from a grid's rows are the grid's
-pub columns_turned : (g : GridData) (rows columns : LineData) (wide high : ℕ) → wide ≡ g.width → high ≡ g.height
+columns_turned : (g : GridData) (rows columns : LineData) (wide high : ℕ) → wide ≡ g.width → high ≡ g.height
     → AreRowsOf rows g
     → ((free : ℕ → ℕ → Bool) → Shows rows high wide free
     → ((line place : ℕ) → high + 2 ≤ line → free line place ≡ false)
@@ -52,15 +53,37 @@ columns_turned g rows columns wide high w h are turned =
     subst (λ (n : ℕ). Shows columns n g.height (is_free_from_one g)) w
     (subst (λ (n : ℕ). Shows columns wide n (is_free_from_one g)) h shows)
 
+-- so the rows and these columns are its bits
+pub bits_turned : (g : GridData) (rows columns : LineData) (wide high : ℕ) (rule : Corner) → IsGrid g → wide ≡ g.width
+    → high ≡ g.height → rule ≡ g.corner → AreRowsOf rows g
+    → ((free : ℕ → ℕ → Bool) → Shows rows high wide free
+    → ((line place : ℕ) → high + 2 ≤ line → free line place ≡ false)
+    → Shows columns wide high (λ line place. free place line))
+    → AreBitsOf (record { width = wide; height = high; corner = rule; rows = rows; columns = columns }) g
+bits_turned g rows columns wide high rule whole w h r are turned = record {
+  whole = whole;
+  wide = w;
+  high = h;
+  rule = r;
+  rows = are;
+  columns = columns_turned g rows columns wide high w h are turned;
+}
+
 -- a grid's rows have a bit for each column, and its columns one for each row
-pub has_room : (g : GridData) (rows columns : LineData) → AreRowsOf rows g → AreColumnsOf columns g
-    → HasRoom rows columns
-has_room g rows columns are also =
-    let lines = are.bordered in
-    let long = are.ample in
-    let other_lines = also.bordered in
-    let high = also.ample in
-    record { in_rows = omega (arith, other_lines, long); in_columns = omega (arith, lines, high) }
+pub has_room : (b : BitData) (g : GridData) → AreBitsOf b g → HasRoom b
+has_room b g are =
+    let wide = are.wide in
+    let high = are.high in
+    let rows = are.rows.bordered in
+    let columns = are.columns.bordered in
+    let long = are.rows.ample in
+    let deep = are.columns.ample in
+    record {
+      rows = omega (arith, rows, high);
+      columns = omega (arith, columns, wide);
+      in_rows = omega (arith, long, wide);
+      in_columns = omega (arith, deep, high);
+    }
 
 pub end_blocked : (g : GridData) (line p : ℕ) → g.height < line → is_free_in g line p ≡ false
 end_blocked g line p h = beyond_rows g line p (omega arith)

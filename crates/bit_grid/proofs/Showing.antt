@@ -140,11 +140,11 @@ shows_alike l lines positions free now same shows = record {
 -- a cell of a grid whose bits these are lies on their map
 pub on_map : (b : BitData) (g : GridData) (c : Cell) → AreBitsOf b g → is_inside g c ≡ true → IsOnMap b c
 on_map b g c are inside =
-    let columns : b.columns.lines ≡ g.width + 2 = are.columns.bordered in
-    let rows : b.rows.lines ≡ g.height + 2 = are.rows.bordered in
+    let wide = are.wide in
+    let high = are.high in
     let column : c.x < g.width = grind (arith, nat_tests) in
     let row : c.y < g.height = grind (arith, nat_tests) in
-    record { column = omega (arith, columns, column); row = omega (arith, rows, row) }
+    record { column = omega (arith, wide, column); row = omega (arith, high, row) }
 
 -- the edited grid, cell by cell
 pub is_free-edited : (g : GridData) (c : Cell) (free : Bool) → IsGrid g → is_inside g c ≡ true → (x y : ℕ)

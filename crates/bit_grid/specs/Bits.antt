@@ -2,6 +2,7 @@
 use Rattle.std.specs.Prelude.{◌≡◌, ℕ, zero, suc, ◌+◌, ◌*◌, ◌<◌, ◌≤◌, Bool, true, false, ◌&&◌, nat_eq, if◌then◌else◌, refl, List, [], ◌∷◌, slice_index_or}
 use Rattle.std.specs.Int.{bit_at}
 use Rattle.grid_moves.specs.declared.Cell.{Cell}
+use Rattle.grid_moves.specs.declared.Corner.{Corner}
 use Rattle.grid_moves.specs.declared.Corner.TheVariants.{Never}
 use Rattle.grid_moves.specs.Grid.{GridData, IsGrid, is_free}
 use Rattle.grid_moves.specs.Examples.{notch}
@@ -44,26 +45,35 @@ AreRowsOf l g = Shows l g.height g.width (λ line position. is_free_from_one g p
 abbrev pub AreColumnsOf : LineData → GridData → Type 0
 AreColumnsOf l g = Shows l g.width g.height (λ line position. is_free_from_one g line position)
 
--- rows and columns
+-- rows and columns, and beside them the sides and the corner rule
 pub record BitData : Type 0 where
+  pub width : ℕ
+  pub height : ℕ
+  pub corner : Corner
   pub rows : LineData
   pub columns : LineData
 
 -- the bits are a grid's
 pub record AreBitsOf (b : BitData) (g : GridData) : Type 0 where
   pub whole : IsGrid g
+  pub wide : b.width ≡ g.width
+  pub high : b.height ≡ g.height
+  pub rule : b.corner ≡ g.corner
   pub rows : AreRowsOf b.rows g
   pub columns : AreColumnsOf b.columns g
 
--- each row has a bit for each of the columns, and each column one for each of the rows
-pub record HasRoom (rows columns : LineData) : Type 0 where
-  pub in_rows : columns.lines ≤ rows.blocks * 512
-  pub in_columns : rows.lines ≤ columns.blocks * 512
+-- there are the map's rows and columns and the border's, each row has a bit for each of the columns, and each
+-- column one for each of the rows
+pub record HasRoom (b : BitData) : Type 0 where
+  pub rows : b.rows.lines ≡ b.height + 2
+  pub columns : b.columns.lines ≡ b.width + 2
+  pub in_rows : b.width + 2 ≤ b.rows.blocks * 512
+  pub in_columns : b.height + 2 ≤ b.columns.blocks * 512
 
--- the cell lies on the map, which has two columns and two rows less than there are with the border's
+-- the cell lies on the map
 pub record IsOnMap (b : BitData) (c : Cell) : Type 0 where
-  pub column : c.x + 2 < b.columns.lines
-  pub row : c.y + 2 < b.rows.lines
+  pub column : c.x < b.width
+  pub row : c.y < b.height
 
 -- a cell is made free or blocked, and all others stay
 abbrev pub with_cell : (ℕ → ℕ → Bool) → ℕ → ℕ → Bool → ℕ → ℕ → Bool

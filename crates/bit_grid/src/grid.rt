@@ -5,13 +5,17 @@ ghost use Rattle.grid_moves.specs.Grid.{GridData, grid_with, is_inside};
 
 use crate::NoMemory;
 use crate::lines::{Columns, Lines, Rows};
-use grid_moves::{Cell, Grid, Terrain};
+use grid_moves::{Cell, Corner, Grid, Terrain};
 use std::alloc::Global;
 use std::marker::Model;
 
-/// Which cells of a map are free, as bits of its rows and of its columns.
+/// Which cells of a grid are free, as bits of its rows and of its columns. They keep the grid's sides and its
+/// corner rule.
 #[derive(Drop)]
 pub struct BitGrid {
+    width: u16,
+    height: u16,
+    corner: Corner,
     rows: Lines,
     columns: Lines,
 }
@@ -24,11 +28,20 @@ impl Model for BitGrid {
     ghost use Rattle.bit_grid.specs.Bits.{HasRoom};
 
     ghost view = { λ b. record {
+      width = b.width;
+      height = b.height;
+      corner = b.corner;
       rows = b.rows;
       columns = b.columns;
     } };
 
-    ghost invariant = { λ b. HasRoom b.rows b.columns };
+    ghost invariant = { λ b. HasRoom (record {
+      width = b.width;
+      height = b.height;
+      corner = b.corner;
+      rows = b.rows;
+      columns = b.columns;
+    }) };
 }
 
 impl BitGrid {
@@ -38,9 +51,17 @@ impl BitGrid {
     pub fn of_grid(alloc: Global, grid: &Grid) -> Result<BitGrid, NoMemory>
         ensures { IfOk result (λ bits. AreBitsOf bits grid.now) }
     {
+        let (width, height) = (grid.width(), grid.height());
+        let corner = grid.corner();
         let rows = Lines::rows_of(alloc, grid)?;
-        let columns = rows.turned(alloc, grid.width(), grid.height())?;
-        Ok(BitGrid { rows, columns })
+        let columns = rows.turned(alloc, width, height)?;
+        Ok(BitGrid {
+            width,
+            height,
+            corner,
+            rows,
+            columns,
+        })
     }
 
     /// Makes a cell of the map free, or blocked, in its row and in its column; all other bits stay.
@@ -52,6 +73,30 @@ impl BitGrid {
         let (line, position) = (u32::from(c.y) + 1, u32::from(c.x) + 1);
         self.rows.set(line, position, free);
         self.columns.set(position, line, free);
+    }
+
+    /// The number of columns.
+    #[inline(always)]
+    pub fn width(&self) -> u16
+        ensures { result ≡ self.now.width }
+    {
+        self.width
+    }
+
+    /// The number of rows.
+    #[inline(always)]
+    pub fn height(&self) -> u16
+        ensures { result ≡ self.now.height }
+    {
+        self.height
+    }
+
+    /// The corner rule.
+    #[inline(always)]
+    pub fn corner(&self) -> Corner
+        ensures { result ≡ self.now.corner }
+    {
+        self.corner
     }
 
     /// The rows.

@@ -112,14 +112,7 @@ pub(crate) fn jump<L: Ledger>(
         }
         Finder::Bits(bits) => {
             let bits = bits.of(is_water);
-            let jumps = BlockJumps {
-                rows: bits.rows(),
-                columns: bits.columns(),
-                width: grid.width(),
-                height: grid.height(),
-                corner: grid.corner(),
-            };
-            search_by_jumps(alloc, &jumps, from, to, space, steps)
+            search_by_jumps(alloc, &BlockJumps { bits }, from, to, space, steps)
         }
         Finder::Tables(tables) => {
             let tables = tables.of(is_water);

@@ -24,7 +24,7 @@ use Rattle.jump_block.specs.Source.{by_rows, row_way, column_way}
 use Rattle.jump_block.proofs.Reading.{meets_along}
 use Rattle.jump_block.proofs.Blocks.{edges_of, found_further, own_later}
 use Rattle.jump_block.proofs.Directions.{is_open_there}
-use Rattle.jump_block.proofs.Patches.{leads_by}
+use Rattle.jump_block.proofs.Rings.{leads_by}
 
 -- they are what a trail has there
 pub words_trail : (free : ℕ → ℕ → Bool) (way : Way) (line from place : ℕ) (w : Words) → AreNear free line place w

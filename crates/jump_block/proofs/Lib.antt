@@ -6,6 +6,6 @@ pub mod Reading
 pub mod Scans
 pub mod Runs
 pub mod Directions
-pub mod Patches
+pub mod Rings
 pub mod Diagonals
 pub mod Around

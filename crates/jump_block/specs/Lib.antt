@@ -4,5 +4,4 @@ pub mod Eight
 pub mod Seek
 pub mod Scan
 pub mod Source
-pub mod Patch
 pub mod Near

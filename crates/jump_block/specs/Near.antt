@@ -20,6 +20,10 @@ pub record AreNear (free : ℕ → ℕ → Bool) (line place : ℕ) (w : Words) 
 abbrev pub AreNearStart : LineData → ℕ → ℕ → Words → Type 0
 AreNearStart l line place w = (free : ℕ → ℕ → Bool) → IsStart l free line place → AreNear free line place w
 
+-- the three bits are what a line has from this place on
+abbrev pub AreThree : (ℕ → ℕ → Bool) → ℕ → ℕ → ℕ → Type 0
+AreThree free line first word = (j : ℕ) → j < 3 → is_set word j ≡ free line (first + j)
+
 -- the side to which a way across the lines leads
 abbrev pub side_word : Way → Words → ℕ
 side_word Forward w = w.after

@@ -5,12 +5,13 @@ use Rattle.grid_moves.specs.declared.Corner.{Corner}
 use Rattle.grid_moves.specs.declared.Dir.{Dir}
 use Rattle.grid_moves.specs.declared.Dir.TheVariants.{N, NE, E, SE, S, SW, W}
 use Rattle.grid_moves.specs.Grid.{GridData, IsGrid, is_free}
-use Rattle.bit_grid.specs.Bits.{LineData, AreRowsOf, AreColumnsOf, is_free_from_one}
+use Rattle.bit_grid.specs.Bits.{BitData, LineData, AreBitsOf, AreRowsOf, AreColumnsOf, is_free_from_one}
 use Rattle.pruning.specs.First.{run_length}
 use Rattle.jump_plain.specs.declared.scan.Reach.{Reach}
 use Rattle.jump_plain.specs.Reach as reach
 use Rattle.jump_plain.specs.Reach.{mark_ahead}
 use Rattle.jump_block.specs.declared.block.Halt.{Halt}
+use Rattle.jump_block.specs.declared.straight.Bits.{Bits}
 use Rattle.jump_block.specs.declared.word.Way.{Way}
 use Rattle.jump_block.specs.declared.word.Way.TheVariants.{Forward, Back}
 use Rattle.jump_block.specs.Trail.{Trail, trail_on}
@@ -23,26 +24,19 @@ pub record AreItsBits (rows columns : LineData) (corner : Corner) (g : GridData)
   pub rule : corner ≡ g.corner
 
 -- on some grid whose bits these are, at a free cell of it; and on each
-abbrev pub OnSome : LineData → LineData → Corner → Cell → Type 0
-OnSome rows columns corner at = (g : GridData) × AreItsBits rows columns corner g × (is_free g at ≡ true)
+abbrev pub OnSome : Bits → Cell → Type 0
+OnSome b at = (g : GridData) × AreItsBits b.rows.now b.columns.now b.corner g × (is_free g at ≡ true)
 
-abbrev pub OnEach : LineData → LineData → Corner → Cell → (GridData → Type 0) → Type 0
-OnEach rows columns corner at P = (g : GridData) → AreItsBits rows columns corner g → is_free g at ≡ true → P g
+abbrev pub OnEach : Bits → Cell → (GridData → Type 0) → Type 0
+OnEach b at P = (g : GridData) → AreItsBits b.rows.now b.columns.now b.corner g → is_free g at ≡ true → P g
 
--- the same, and it has these sides
-pub record AreJumpsOn (rows columns : LineData) (width height : ℕ) (corner : Corner) (g : GridData) : Type 0 where
-  pub bits : AreItsBits rows columns corner g
-  pub wide : width ≡ g.width
-  pub high : height ≡ g.height
+-- on some grid whose bits these are, for a jump from one free cell to another; and on each
+abbrev pub JumpsOnSome : BitData → Cell → Cell → Type 0
+JumpsOnSome bits at goal = (g : GridData) × AreBitsOf bits g × IsTrue (is_free g at) × IsTrue (is_free g goal)
 
--- on some grid for which jumps from one free cell to another stand; and on each
-abbrev pub JumpsOnSome : LineData → LineData → ℕ → ℕ → Corner → Cell → Cell → Type 0
-JumpsOnSome rows columns width height corner at goal = (g : GridData)
-    × AreJumpsOn rows columns width height corner g × IsTrue (is_free g at) × IsTrue (is_free g goal)
-
-abbrev pub JumpsOnEach : LineData → LineData → ℕ → ℕ → Corner → Cell → Cell → (GridData → Type 0) → Type 0
-JumpsOnEach rows columns width height corner at goal P = (g : GridData)
-    → AreJumpsOn rows columns width height corner g → IsTrue (is_free g at) → IsTrue (is_free g goal) → P g
+abbrev pub JumpsOnEach : BitData → Cell → Cell → (GridData → Type 0) → Type 0
+JumpsOnEach bits at goal P =
+    (g : GridData) → AreBitsOf bits g → IsTrue (is_free g at) → IsTrue (is_free g goal) → P g
 
 -- to the east or the south a scan goes forward, and to the west or the north back
 abbrev pub is_forward : Dir → Bool

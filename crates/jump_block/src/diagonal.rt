@@ -13,12 +13,12 @@ ghost use Rattle.jump_block.specs.Source as spec;
 ghost use Rattle.jump_block.specs.Near.{AreNearStart};
 ghost use Rattle.jump_block.specs.Source.{OnSome, OnEach};
 
+use crate::cells::bit_of;
 use crate::near::{has_next_bit, leads_from_bit};
-use crate::patch::{Patch, bit_of};
 use crate::straight::Bits;
 use crate::word::{Way, Words};
 use grid_moves::{Cell, Corner, Dir, beyond, is_passable};
-use pruning::{Side, turn};
+use pruning::{Side, forced_on, turn};
 use std::sync::ledger::Ledger;
 use steps::Steps;
 
@@ -116,9 +116,8 @@ impl<'a> Bits<'a> {
     // Whether the cell beside a free cell is free.
     #[inline(always)]
     fn is_open<L: Ledger>(&self, at: Cell, d: Dir, steps: &mut Steps<L>) -> bool
-        requires stands { OnSome self.now.rows.now self.now.columns.now self.now.corner at }
-        ensures is { OnEach self.now.rows.now self.now.columns.now self.now.corner at
-            (λ g. result ≡ moves.is_open g at d) }
+        requires stands { OnSome self.now at }
+        ensures is { OnEach self.now at (λ g. result ≡ moves.is_open g at d) }
         ensures one_step { steps.new ≡ steps.old + 1 }
     {
         let bit = bit_beside(at, d);
@@ -128,10 +127,9 @@ impl<'a> Bits<'a> {
     // Whether a diagonal move from a free cell is legal, for the rare cells at the end of a word.
     #[inline(never)]
     fn leads<L: Ledger>(&self, at: Cell, d: Dir, steps: &mut Steps<L>) -> bool
-        requires stands { OnSome self.now.rows.now self.now.columns.now self.now.corner at }
+        requires stands { OnSome self.now at }
         requires diagonal { is_diagonal d ≡ true }
-        ensures leads { OnEach self.now.rows.now self.now.columns.now self.now.corner at
-            (λ g. result ≡ can_move g at d) }
+        ensures leads { OnEach self.now at (λ g. result ≡ can_move g at d) }
         ensures three_steps { steps.new ≡ steps.old + 3 }
     {
         let ahead = self.is_open(at, d, steps);
@@ -143,11 +141,10 @@ impl<'a> Bits<'a> {
     // The same, told the words around the cell, in which the cells ahead and beside it mostly are.
     #[inline(always)]
     fn leads_near<L: Ledger>(&self, at: Cell, d: Dir, near: Words, steps: &mut Steps<L>) -> bool
-        requires stands { OnSome self.now.rows.now self.now.columns.now self.now.corner at }
+        requires stands { OnSome self.now at }
         requires near { AreNearStart self.now.rows.now (at.y + 1) (at.x + 1) near }
         requires diagonal { is_diagonal d ≡ true }
-        ensures leads { OnEach self.now.rows.now self.now.columns.now self.now.corner at
-            (λ g. result ≡ can_move g at d) }
+        ensures leads { OnEach self.now at (λ g. result ≡ can_move g at d) }
         ensures more { steps.old ≤ steps.new }
     {
         let place = (u32::from(at.x) + 1) % 64;
@@ -161,18 +158,14 @@ impl<'a> Bits<'a> {
     // Whether, after a diagonal move to a free cell, a neighbour is forced there.
     #[inline(always)]
     fn forces<L: Ledger>(&self, at: Cell, d: Dir, steps: &mut Steps<L>) -> bool
-        requires stands { OnSome self.now.rows.now self.now.columns.now self.now.corner at }
+        requires stands { OnSome self.now at }
         requires diagonal { is_diagonal d ≡ true }
-        ensures forces { OnEach self.now.rows.now self.now.columns.now self.now.corner at
-            (λ g. result ≡ is_forced g at d) }
+        ensures forces { OnEach self.now at (λ g. result ≡ is_forced g at d) }
         ensures more { steps.old ≤ steps.new }
     {
         match self.corner {
             Corner::Never => false,
-            Corner::One => {
-                let around = Patch::read(self.rows, self.corner, at, steps);
-                around.forces(d)
-            }
+            Corner::One => forced_on(Corner::One, self.ring(at, steps), d),
         }
     }
 
@@ -180,10 +173,9 @@ impl<'a> Bits<'a> {
     // jump in a component finds a stop. For the rare cells in the goal's row or column.
     #[inline(never)]
     fn stops_in_line<L: Ledger>(&self, at: Cell, d: Dir, goal: Cell, steps: &mut Steps<L>) -> bool
-        requires stands { OnSome self.now.rows.now self.now.columns.now self.now.corner at }
+        requires stands { OnSome self.now at }
         requires diagonal { is_diagonal d ≡ true }
-        ensures stops { OnEach self.now.rows.now self.now.columns.now self.now.corner at
-            (λ g. result ≡ (is_same at goal || is_forced g at d
+        ensures stops { OnEach self.now at (λ g. result ≡ (is_same at goal || is_forced g at d
             || is_some (first.first_stop g goal at (spec.row_dir (spec.row_way d)))
             || is_some (first.first_stop g goal at (spec.column_dir (spec.column_way d))))) }
         ensures more { steps.old ≤ steps.new }
@@ -206,11 +198,10 @@ impl<'a> Bits<'a> {
         near: Words,
         steps: &mut Steps<L>,
     ) -> bool
-        requires stands { OnSome self.now.rows.now self.now.columns.now self.now.corner at }
+        requires stands { OnSome self.now at }
         requires near { AreNearStart self.now.rows.now (at.y + 1) (at.x + 1) near }
         requires diagonal { is_diagonal d ≡ true }
-        ensures stops { OnEach self.now.rows.now self.now.columns.now self.now.corner at
-            (λ g. result ≡ (is_same at goal || is_forced g at d
+        ensures stops { OnEach self.now at (λ g. result ≡ (is_same at goal || is_forced g at d
             || is_some (first.first_stop g goal at (spec.row_dir (spec.row_way d)))
             || is_some (first.first_stop g goal at (spec.column_dir (spec.column_way d))))) }
         ensures more { steps.old ≤ steps.new }
@@ -233,10 +224,9 @@ impl<'a> Bits<'a> {
         goal: Cell,
         steps: &mut Steps<L>,
     ) -> Option<u16>
-        requires stands { OnSome self.now.rows.now self.now.columns.now self.now.corner at }
+        requires stands { OnSome self.now at }
         requires diagonal { is_diagonal d ≡ true }
-        ensures first { OnEach self.now.rows.now self.now.columns.now self.now.corner at
-            (λ g. result ≡ first.first_stop g goal at d) }
+        ensures first { OnEach self.now at (λ g. result ≡ first.first_stop g goal at d) }
         ensures fewest { steps.old + 3 ≤ steps.new }
     {
         let mut cell = at;

@@ -7,11 +7,11 @@
 #![tactic(auto)]
 
 mod block;
+mod cells;
 mod diagonal;
 mod eight;
 mod marks;
 mod near;
-mod patch;
 mod scan;
 mod source;
 mod straight;

@@ -8,11 +8,11 @@ ghost use Rattle.jump_block.specs.Near.{AreNear, AreNearStart, HasNextBit, HasNe
 ghost use Rattle.jump_block.specs.Scan.{IsStart};
 ghost use Rattle.jump_block.specs.Source as source;
 
+use crate::cells::is_set;
 use crate::diagonal::{column_way, row_way};
-use crate::patch::is_set;
 use crate::word::{Way, Words};
 use bit_grid::Lines;
-use grid_moves::{Corner, Dir};
+use grid_moves::{Corner, Dir, passable_bits};
 use std::sync::ledger::Ledger;
 use steps::Steps;
 
@@ -102,17 +102,6 @@ fn drawn_back(way: Way, word: u64) -> u64
     }
 }
 
-// The bits at which the rule lets a move pass between two.
-#[inline(always)]
-fn passable(rule: Corner, one: u64, other: u64) -> u64
-    ensures { (j : ℕ) → is_set result j ≡ moves.is_passable rule (is_set one j) (is_set other j) }
-{
-    match rule {
-        Corner::Never => one & other,
-        Corner::One => one | other,
-    }
-}
-
 // The words of the side to which a way across the lines leads.
 #[inline(always)]
 fn side_word(way: Way, words: Words) -> u64
@@ -135,6 +124,6 @@ pub(crate) fn leads_from_bit(rule: Corner, d: Dir, words: Words, place: u32) -> 
 {
     let way = row_way(d);
     let side = side_word(column_way(d), words);
-    let passes = passable(rule, side, drawn_back(way, words.middle));
+    let passes = passable_bits(rule, side, drawn_back(way, words.middle));
     is_set(drawn_back(way, side) & passes, place)
 }

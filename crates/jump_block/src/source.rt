@@ -1,6 +1,7 @@
 //! Bits of a grid as a source of jumps.
 
 ghost use Rattle.std.specs.Prelude.{◌≡◌, ℕ, ◌+◌, ◌≤◌, false, true, None};
+ghost use Rattle.grid_moves.specs.Grid.{GridData};
 ghost use Rattle.pruning.specs.Allowed.{allowed_dirs};
 ghost use Rattle.pruning.specs.First as first;
 ghost use Rattle.pruning.specs.Numbered as numbered;
@@ -8,25 +9,21 @@ ghost use Rattle.pruning.specs.Source.{IsWithin};
 ghost use Rattle.pruning.specs.Stop.{IsFirstStop};
 ghost use Rattle.pruning.specs.Turns.{is_diagonal};
 ghost use Rattle.jump_block.specs.Scan.{most_lanes};
-ghost use Rattle.jump_block.specs.Source.{AreJumpsOn, JumpsOnEach, JumpsOnSome, OnEach, OnSome, is_forward, is_back, scanned};
+ghost use Rattle.bit_grid.specs.Bits.{AreBitsOf};
+ghost use Rattle.jump_block.specs.Source.{AreItsBits, JumpsOnEach, JumpsOnSome, OnEach, OnSome, is_forward, is_back, scanned};
 
-use crate::patch::{MIDDLE, Patch};
 use crate::straight::Bits;
-use bit_grid::{Columns, Rows};
+use bit_grid::BitGrid;
 use grid_moves::{Cell, Corner, Dir};
-use pruning::{Arrival, JumpSource, Packed, allowed_word};
+use pruning::{Arrival, JumpSource, Packed, allowed_on};
 use std::sync::ledger::Ledger;
 use steps::Steps;
 
-/// The jumps on the grid whose bits these are, with the grid's sides and corner rule. A step is the reading
-/// of one block, or of one word of it; no memory is taken.
+/// The jumps on a grid, found by its bits alone. A step is the reading of one block, or of one word of it; no
+/// memory is taken.
 #[derive(Clone, Copy)]
 pub struct BlockJumps<'a> {
-    pub rows: Rows<'a>,
-    pub columns: Columns<'a>,
-    pub width: u16,
-    pub height: u16,
-    pub corner: Corner,
+    pub bits: &'a BitGrid,
 }
 
 // The rule of this number, so that it can be a constant of a function, which has code of its own for each.
@@ -53,9 +50,8 @@ impl<'a> Bits<'a> {
     ) -> Option<u16>
         requires rule { self.now.corner ≡ numbered.corner_of RULE }
         requires diagonal { is_diagonal d ≡ true }
-        requires stands { OnSome self.now.rows.now self.now.columns.now self.now.corner at }
-        ensures first { OnEach self.now.rows.now self.now.columns.now self.now.corner at
-            (λ g. result ≡ first.first_stop g goal at d) }
+        requires stands { OnSome self.now at }
+        ensures first { OnEach self.now at (λ g. result ≡ first.first_stop g goal at d) }
         ensures fewest { steps.old + 3 ≤ steps.new }
     {
         let bits = Bits {
@@ -82,10 +78,9 @@ impl<'a> Bits<'a> {
         steps: &mut Steps<L>,
     ) -> Option<u16>
         requires rule { self.now.corner ≡ numbered.corner_of RULE }
-        requires stands { OnSome self.now.rows.now self.now.columns.now self.now.corner at }
-        ensures first { OnEach self.now.rows.now self.now.columns.now self.now.corner at
-            (λ g. result ≡ first.first_stop g goal at d) }
-        ensures most { is_diagonal d ≡ false → OnEach self.now.rows.now self.now.columns.now self.now.corner at
+        requires stands { OnSome self.now at }
+        ensures first { OnEach self.now at (λ g. result ≡ first.first_stop g goal at d) }
+        ensures most { is_diagonal d ≡ false → OnEach self.now at
             (λ g. steps.new ≤ steps.old + most_lanes (scanned g at d result)) }
         ensures fewest { steps.old + 3 ≤ steps.new }
     {
@@ -108,10 +103,9 @@ impl<'a> Bits<'a> {
     // After how many moves a jump stops.
     #[inline(always)]
     fn stop<L: Ledger>(&self, at: Cell, d: Dir, goal: Cell, steps: &mut Steps<L>) -> Option<u16>
-        requires stands { OnSome self.now.rows.now self.now.columns.now self.now.corner at }
-        ensures first { OnEach self.now.rows.now self.now.columns.now self.now.corner at
-            (λ g. result ≡ first.first_stop g goal at d) }
-        ensures most { is_diagonal d ≡ false → OnEach self.now.rows.now self.now.columns.now self.now.corner at
+        requires stands { OnSome self.now at }
+        ensures first { OnEach self.now at (λ g. result ≡ first.first_stop g goal at d) }
+        ensures most { is_diagonal d ≡ false → OnEach self.now at
             (λ g. steps.new ≤ steps.old + most_lanes (scanned g at d result)) }
         ensures fewest { steps.old + 3 ≤ steps.new }
     {
@@ -123,28 +117,26 @@ impl<'a> Bits<'a> {
 
     // The allowed directions, in one word.
     fn allowed_word<L: Ledger>(&self, at: Cell, by: Arrival, steps: &mut Steps<L>) -> Packed
-        requires stands { OnSome self.now.rows.now self.now.columns.now self.now.corner at }
-        ensures rule { OnEach self.now.rows.now self.now.columns.now self.now.corner at
-            (λ g. result ≡ allowed_dirs g at by) }
+        requires stands { OnSome self.now at }
+        ensures rule { OnEach self.now at (λ g. result ≡ allowed_dirs g at by) }
         ensures fewest { steps.old + 3 ≤ steps.new }
     {
-        let around = Patch::read(self.rows, self.corner, at, steps);
-        allowed_word(&around, MIDDLE, by)
+        let ring = self.ring(at, steps);
+        allowed_on(self.corner, ring, by)
     }
 }
 
 impl<'a> BlockJumps<'a> {
-    // The bits alone.
+    // What the jumps read of the bits.
     #[inline(always)]
-    fn bits(&self) -> Bits<'a>
-        ensures rows { result.rows.now ≡ self.now.rows.now }
-        ensures columns { result.columns.now ≡ self.now.columns.now }
-        ensures corner { result.corner ≡ self.now.corner }
+    fn lines(&self) -> Bits<'a>
+        ensures { (g : GridData) → AreBitsOf self.now.bits.now g
+            → AreItsBits result.rows.now result.columns.now result.corner g }
     {
         Bits {
-            rows: self.rows,
-            columns: self.columns,
-            corner: self.corner,
+            rows: self.bits.rows(),
+            columns: self.bits.columns(),
+            corner: self.bits.corner(),
         }
     }
 
@@ -159,13 +151,11 @@ impl<'a> BlockJumps<'a> {
         goal: Cell,
         steps: &mut Steps<L>,
     ) -> Option<u16>
-        requires stands { JumpsOnSome self.now.rows.now self.now.columns.now self.now.width self.now.height
-            self.now.corner at goal }
+        requires stands { JumpsOnSome self.now.bits.now at goal }
         requires forward { is_forward d ≡ true }
-        ensures first { JumpsOnEach self.now.rows.now self.now.columns.now self.now.width self.now.height
-            self.now.corner at goal (λ g. IsFirstStop g goal at d result) }
-        ensures most { JumpsOnEach self.now.rows.now self.now.columns.now self.now.width self.now.height
-            self.now.corner at goal (λ g. steps.new ≤ steps.old + most_lanes (scanned g at d result)) }
+        ensures first { JumpsOnEach self.now.bits.now at goal (λ g. IsFirstStop g goal at d result) }
+        ensures most { JumpsOnEach self.now.bits.now at goal
+            (λ g. steps.new ≤ steps.old + most_lanes (scanned g at d result)) }
         ensures fewest { steps.old + 3 ≤ steps.new }
     {
         self.stop(at, d, goal, steps)
@@ -182,13 +172,11 @@ impl<'a> BlockJumps<'a> {
         goal: Cell,
         steps: &mut Steps<L>,
     ) -> Option<u16>
-        requires stands { JumpsOnSome self.now.rows.now self.now.columns.now self.now.width self.now.height
-            self.now.corner at goal }
+        requires stands { JumpsOnSome self.now.bits.now at goal }
         requires back { is_back d ≡ true }
-        ensures first { JumpsOnEach self.now.rows.now self.now.columns.now self.now.width self.now.height
-            self.now.corner at goal (λ g. IsFirstStop g goal at d result) }
-        ensures most { JumpsOnEach self.now.rows.now self.now.columns.now self.now.width self.now.height
-            self.now.corner at goal (λ g. steps.new ≤ steps.old + most_lanes (scanned g at d result)) }
+        ensures first { JumpsOnEach self.now.bits.now at goal (λ g. IsFirstStop g goal at d result) }
+        ensures most { JumpsOnEach self.now.bits.now at goal
+            (λ g. steps.new ≤ steps.old + most_lanes (scanned g at d result)) }
         ensures fewest { steps.old + 3 ≤ steps.new }
     {
         self.stop(at, d, goal, steps)
@@ -196,36 +184,34 @@ impl<'a> BlockJumps<'a> {
 }
 
 impl<'a> JumpSource for BlockJumps<'a> {
-    ghost StandsFor = { λ j g. AreJumpsOn j.rows.now j.columns.now j.width j.height j.corner g };
+    ghost StandsFor = { λ j g. AreBitsOf j.bits.now g };
 
     ghost most = { λ _. None };
 
     ghost fewest = { λ _. 3 };
 
     fn width(&self) -> u16 {
-        self.width
+        self.bits.width()
     }
 
     fn height(&self) -> u16 {
-        self.height
+        self.bits.height()
     }
 
     /// A straight jump reads at most `3·(k/512 + 2)` blocks. Let `k` be the number of moves to the stop, or,
     /// where there is no stop, the length of the legal run and one.
     fn stop<L: Ledger>(&self, at: Cell, d: Dir, goal: Cell, steps: &mut Steps<L>) -> Option<u16>
-        requires { JumpsOnSome self.now.rows.now self.now.columns.now self.now.width self.now.height
-            self.now.corner at goal }
-        ensures first { JumpsOnEach self.now.rows.now self.now.columns.now self.now.width self.now.height
-            self.now.corner at goal (λ g. IsFirstStop g goal at d result) }
+        requires { JumpsOnSome self.now.bits.now at goal }
+        ensures first { JumpsOnEach self.now.bits.now at goal (λ g. IsFirstStop g goal at d result) }
         ensures most { IsWithin None (λ told. told.stop) steps.old steps.new }
-        ensures straight { is_diagonal d ≡ false → JumpsOnEach self.now.rows.now self.now.columns.now self.now.width
-            self.now.height self.now.corner at goal (λ g. steps.new ≤ steps.old + most_lanes (scanned g at d result)) }
+        ensures straight { is_diagonal d ≡ false → JumpsOnEach self.now.bits.now at goal
+            (λ g. steps.new ≤ steps.old + most_lanes (scanned g at d result)) }
         ensures fewest { steps.old + 3 ≤ steps.new }
     {
-        self.bits().stop(at, d, goal, steps)
+        self.lines().stop(at, d, goal, steps)
     }
 
     fn allowed_word<L: Ledger>(&self, at: Cell, by: Arrival, steps: &mut Steps<L>) -> Packed {
-        self.bits().allowed_word(at, by, steps)
+        self.lines().allowed_word(at, by, steps)
     }
 }

@@ -58,7 +58,8 @@ fn stop_of(rule: Corner, found: Option<Halt>, to_goal: u16) -> Option<u16>
     }
 }
 
-/// The bits of a grid as jumps read them.
+/// The lines of a grid's bits and the grid's rule, as jumps read them: where the rule is known, it is a constant
+/// here.
 #[derive(Clone, Copy)]
 pub(crate) struct Bits<'a> {
     pub(crate) rows: Rows<'a>,
@@ -76,8 +77,8 @@ impl<'a> Bits<'a> {
         to_goal: u16,
         steps: &mut Steps<L>,
     ) -> Option<Halt>
-        requires stands { OnSome self.now.rows.now self.now.columns.now self.now.corner at }
-        ensures finds { OnEach self.now.rows.now self.now.columns.now self.now.corner at
+        requires stands { OnSome self.now at }
+        ensures finds { OnEach self.now at
             (λ g. Finds (begun self.now.corner (trail_of g (spec.row_dir way) at)) to_goal result) }
         ensures most { steps.new ≤ steps.old + most_lanes (looked to_goal result) }
         ensures fewest { steps.old + 3 ≤ steps.new }
@@ -90,7 +91,7 @@ impl<'a> Bits<'a> {
         scan(way, self.corner, self.rows, along_row, steps)
     }
 
-    // The same along the column.
+    // Where a scan along the column halts, or `None` where the goal, so many moves on, is met before.
     #[inline(always)]
     fn halt_on_column<L: Ledger>(
         &self,
@@ -99,8 +100,8 @@ impl<'a> Bits<'a> {
         to_goal: u16,
         steps: &mut Steps<L>,
     ) -> Option<Halt>
-        requires stands { OnSome self.now.rows.now self.now.columns.now self.now.corner at }
-        ensures finds { OnEach self.now.rows.now self.now.columns.now self.now.corner at
+        requires stands { OnSome self.now at }
+        ensures finds { OnEach self.now at
             (λ g. Finds (begun self.now.corner (trail_of g (spec.column_dir way) at)) to_goal result) }
         ensures most { steps.new ≤ steps.old + most_lanes (looked to_goal result) }
         ensures fewest { steps.old + 3 ≤ steps.new }
@@ -116,9 +117,9 @@ impl<'a> Bits<'a> {
     // Where a straight scan halts, or `None` where the goal, so many moves on, is met before.
     #[inline(always)]
     fn halt<L: Ledger>(&self, at: Cell, d: Dir, to_goal: u16, steps: &mut Steps<L>) -> Option<Halt>
-        requires stands { OnSome self.now.rows.now self.now.columns.now self.now.corner at }
+        requires stands { OnSome self.now at }
         requires straight { is_diagonal d ≡ false }
-        ensures finds { OnEach self.now.rows.now self.now.columns.now self.now.corner at
+        ensures finds { OnEach self.now at
             (λ g. Finds (begun self.now.corner (trail_of g d at)) to_goal result) }
         ensures most { steps.new ≤ steps.old + most_lanes (looked to_goal result) }
         ensures fewest { steps.old + 3 ≤ steps.new }
@@ -134,7 +135,7 @@ impl<'a> Bits<'a> {
     // The words around a free cell, of its row and of those beside it.
     #[inline(always)]
     pub(crate) fn near_on_row<L: Ledger>(&self, at: Cell, steps: &mut Steps<L>) -> Words
-        requires stands { OnSome self.now.rows.now self.now.columns.now self.now.corner at }
+        requires stands { OnSome self.now at }
         ensures near { AreNearStart self.now.rows.now (at.y + 1) (at.x + 1) result }
         ensures three_steps { steps.new ≡ steps.old + 3 }
     {
@@ -151,9 +152,9 @@ impl<'a> Bits<'a> {
         near: Words,
         steps: &mut Steps<L>,
     ) -> bool
-        requires stands { OnSome self.now.rows.now self.now.columns.now self.now.corner at }
+        requires stands { OnSome self.now at }
         requires near { AreNearStart self.now.rows.now (at.y + 1) (at.x + 1) near }
-        ensures finds { OnEach self.now.rows.now self.now.columns.now self.now.corner at (λ g. (goal : Cell)
+        ensures finds { OnEach self.now at (λ g. (goal : Cell)
             → nat_eq at.y goal.y ≡ false → result ≡ is_some (first.first_stop g goal at (spec.row_dir way))) }
         ensures more { steps.old ≤ steps.new }
     {
@@ -161,7 +162,8 @@ impl<'a> Bits<'a> {
         finds_mark(way, self.corner, self.rows, line, place, near, steps)
     }
 
-    /// The same along the column.
+    /// Whether a straight jump along the column finds a stop, for a goal that is not on the column. The words
+    /// around the cell are read here.
     #[inline(always)]
     pub(crate) fn finds_mark_on_column<L: Ledger>(
         &self,
@@ -169,8 +171,8 @@ impl<'a> Bits<'a> {
         way: Way,
         steps: &mut Steps<L>,
     ) -> bool
-        requires stands { OnSome self.now.rows.now self.now.columns.now self.now.corner at }
-        ensures finds { OnEach self.now.rows.now self.now.columns.now self.now.corner at (λ g. (goal : Cell)
+        requires stands { OnSome self.now at }
+        ensures finds { OnEach self.now at (λ g. (goal : Cell)
             → nat_eq at.x goal.x ≡ false → result ≡ is_some (first.first_stop g goal at (spec.column_dir way))) }
         ensures more { steps.old ≤ steps.new }
     {
@@ -188,12 +190,10 @@ impl<'a> Bits<'a> {
         goal: Cell,
         steps: &mut Steps<L>,
     ) -> Option<u16>
-        requires stands { OnSome self.now.rows.now self.now.columns.now self.now.corner at }
+        requires stands { OnSome self.now at }
         requires straight { is_diagonal d ≡ false }
-        ensures first { OnEach self.now.rows.now self.now.columns.now self.now.corner at
-            (λ g. result ≡ first.first_stop g goal at d) }
-        ensures most { OnEach self.now.rows.now self.now.columns.now self.now.corner at
-            (λ g. steps.new ≤ steps.old + most_lanes (scanned g at d result)) }
+        ensures first { OnEach self.now at (λ g. result ≡ first.first_stop g goal at d) }
+        ensures most { OnEach self.now at (λ g. steps.new ≤ steps.old + most_lanes (scanned g at d result)) }
         ensures fewest { steps.old + 3 ≤ steps.new }
     {
         let to_goal = moves_to(d, at, goal);
@@ -210,10 +210,9 @@ impl<'a> Bits<'a> {
         goal: Cell,
         steps: &mut Steps<L>,
     ) -> bool
-        requires stands { OnSome self.now.rows.now self.now.columns.now self.now.corner at }
+        requires stands { OnSome self.now at }
         requires straight { is_diagonal d ≡ false }
-        ensures finds { OnEach self.now.rows.now self.now.columns.now self.now.corner at
-            (λ g. result ≡ is_some (first.first_stop g goal at d)) }
+        ensures finds { OnEach self.now at (λ g. result ≡ is_some (first.first_stop g goal at d)) }
         ensures more { steps.old ≤ steps.new }
     {
         self.straight(at, d, goal, steps).is_some()

@@ -41,13 +41,7 @@ fn is_alike(grid: &Grid, bits: &BitGrid, at: Cell, d: Dir, goal: Cell) -> bool
     if !grid.free(at) || !grid.free(goal) {
         return true;
     }
-    let block = BlockJumps {
-        rows: bits.rows(),
-        columns: bits.columns(),
-        width: grid.width(),
-        height: grid.height(),
-        corner: grid.corner(),
-    };
+    let block = BlockJumps { bits };
     let plain = PlainJumps { terrain: grid };
     stop_of::<BlockJumps<'_>, Brand>(&block, at, d, goal, Blank::new(1))
         == stop_of::<PlainJumps<'_, Grid>, Brand>(&plain, at, d, goal, Blank::new(1))
@@ -82,13 +76,7 @@ fn starts_alike(grid: &Grid, bits: &BitGrid, at: Cell) -> bool
     if !grid.free(at) {
         return true;
     }
-    let block = BlockJumps {
-        rows: bits.rows(),
-        columns: bits.columns(),
-        width: grid.width(),
-        height: grid.height(),
-        corner: grid.corner(),
-    };
+    let block = BlockJumps { bits };
     let plain = PlainJumps { terrain: grid };
     let dirs = starts_of::<PlainJumps<'_, Grid>, Brand>(&plain, at, Blank::new(1));
     let list = starts_of::<BlockJumps<'_>, Brand>(&block, at, Blank::new(1));

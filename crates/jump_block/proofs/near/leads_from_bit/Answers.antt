@@ -18,6 +18,6 @@ returns c =
     && is_passable c.args.rule (is_set s c.args.place)
     (is_set c.args.words.middle (next_bit c.row_way-way.result c.args.place)))) side
     (bits_lead c.args.rule c.row_way-way.result c.args.place c.args.words.middle c.side_word-side.result
-    c.drawn_back.result c.passable-passes.result c.drawn_back-2.result c.is_set.result c.requires.small
+    c.drawn_back.result c.passable_bits-passes.result c.drawn_back-2.result c.is_set.result c.requires.small
     (subst (λ (v : Way). HasNextBit v c.args.place) (sym c.row_way-way.ensures) c.requires.more)
-    c.drawn_back.ensures c.passable-passes.ensures c.drawn_back-2.ensures c.is_set.ensures))
+    c.drawn_back.ensures c.passable_bits-passes.ensures c.drawn_back-2.ensures c.is_set.ensures))

@@ -1,15 +1,13 @@
-use Rattle.bit_grid.proofs.Packing.{columns_turned, has_room}
+use Rattle.bit_grid.proofs.Packing.{bits_turned, has_room}
 use Rattle.bit_grid.proofs.grid.BitGrid.of_grid.Goals as goal
 
 pub invariant_of-result : goal.invariant_of-result
-invariant_of-result c = has_room c.args.grid.now c.in_ok-rows.rows c.in_ok-columns.columns c.in_ok-rows.ensures
-    (columns_turned c.args.grid.now _ _ _ _ c.width.ensures.is c.height.ensures.is c.in_ok-rows.ensures
+invariant_of-result c = has_room _ c.args.grid.now
+    (bits_turned c.args.grid.now c.in_ok-rows.rows c.in_ok-columns.columns _ _ _ c.width-width.ensures.whole
+    c.width-width.ensures.is c.height-height.ensures.is c.corner-corner.ensures c.in_ok-rows.ensures
     c.in_ok-columns.ensures)
 
 pub returns : goal.returns
-returns c = record {
-  whole = c.width.ensures.whole;
-  rows = c.in_ok-rows.ensures;
-  columns = columns_turned c.args.grid.now _ _ _ _ c.width.ensures.is c.height.ensures.is c.in_ok-rows.ensures
-      c.in_ok-columns.ensures;
-}
+returns c = bits_turned c.args.grid.now c.in_ok-rows.rows c.in_ok-columns.columns _ _ _ c.width-width.ensures.whole
+    c.width-width.ensures.is c.height-height.ensures.is c.corner-corner.ensures c.in_ok-rows.ensures
+    c.in_ok-columns.ensures

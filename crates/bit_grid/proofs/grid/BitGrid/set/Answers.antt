@@ -10,6 +10,9 @@ returns c = record {
       let before = subst (λ (b : BitData). AreBitsOf b g) (sym c.self.view_is) are in
       record {
         whole = is_grid-with g c.args.c c.args.free before.whole;
+        wide = before.wide;
+        high = before.high;
+        rule = before.rule;
         rows = shows_alike c.set.new.self _ _ _ _
             (λ line position. rw (c.from.ensures, c.from-2.ensures)
             (is_free-edited g c.args.c c.args.free before.whole inside position line))

@@ -1,4 +1,4 @@
-use Rattle.std.proofs.Common.{◌≡◌, ℕ, ◌+◌, ◌-◌, ◌*◌, ◌<◌, arith, refl, ap, sym, ◌∙◌, List, slice_index_or}
+use Rattle.std.proofs.Common.{◌≡◌, ℕ, ◌+◌, ◌-◌, ◌*◌, arith, refl, ap, ◌∙◌, List, slice_index_or}
 use Rattle.std.proofs.lemmas.List.{get_or_default}
 use Rattle.bit_grid.specs.Bits.{LineData}
 use Rattle.bit_grid.proofs.Showing.{word_inside, word_shown, place_before, place_after}

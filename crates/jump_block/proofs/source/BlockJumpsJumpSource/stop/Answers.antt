@@ -3,7 +3,6 @@ use Rattle.jump_plain.proofs.Straight.{first_meets}
 use Rattle.jump_block.proofs.source.BlockJumpsJumpSource.stop.Goals as goal
 
 pub returns-clause-first : goal.returns-clause-first
-returns-clause-first g c = λ grid on free free_goal.
+returns-clause-first g c = λ grid are free free_goal.
     first_meets grid grid c.args.goal c.args.at c.args.d c.stop.result refl
-    (c.stop.ensures.first grid
-    (rw (c.bits.ensures.rows, c.bits.ensures.columns, c.bits.ensures.corner) on.bits) free)
+    (c.stop.ensures.first grid (c.lines.ensures grid are) free)

@@ -1,18 +1,8 @@
 use Rattle.std.proofs.Common.{◌∙◌}
-use Rattle.jump_block.proofs.Patches.{patch_free, patch_allows}
+use Rattle.pruning.proofs.Ringing.{allowed_of_ring}
 use Rattle.jump_block.proofs.straight.Bits.allowed_word.Goals as goal
-
-pub allowed_word-requires : goal.allowed_word-requires
-allowed_word-requires g c =
-    let grid = c.requires.stands.0 in
-    let are = c.requires.stands.1 in
-    let free = c.requires.stands.2 in
-    record {
-      free = patch_free grid c.args.at c.read-around.result
-          (c.read-around.ensures.around grid are.whole are.are_rows are.rule free) free;
-    }
 
 pub returns-clause-rule : goal.returns-clause-rule
 returns-clause-rule g c = λ grid are free.
-    c.allowed_word.ensures.rule ∙ patch_allows grid c.args.at c.read-around.result
-    (c.read-around.ensures.around grid are.whole are.are_rows are.rule free) free c.args.by
+    c.allowed_on.ensures ∙ allowed_of_ring grid c.args.at free c.ring-ring.result
+    (c.ring-ring.ensures.around grid are free) c.args.self.now.corner are.rule c.args.by

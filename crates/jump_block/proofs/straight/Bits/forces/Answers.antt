@@ -1,10 +1,8 @@
-use Rattle.jump_block.proofs.Patches.{patch_free}
+use Rattle.std.proofs.Common.{sym, ◌∙◌}
+use Rattle.pruning.proofs.Ringing.{forced_of_ring}
 use Rattle.jump_block.proofs.straight.Bits.forces.Goals as goal
 
-pub forces-requires-clause-free : goal.forces-requires-clause-free
-forces-requires-clause-free g c =
-    let grid = c.requires.stands.0 in
-    let are = c.requires.stands.1 in
-    let free = c.requires.stands.2 in
-    patch_free grid c.args.at c.read-around.result
-    (c.read-around.ensures.around grid are.whole are.are_rows are.rule free) free
+pub returns-in-One-clause-forces : goal.returns-in-One-clause-forces
+returns-in-One-clause-forces g c = λ grid are free.
+    c.forced_on.ensures ∙ forced_of_ring grid c.args.at free c.ring.result (c.ring.ensures.around grid are free)
+    _ (sym c.in-One.is ∙ are.rule) c.args.d

@@ -1,7 +1,7 @@
 use Rattle.std.proofs.Common.{ap, ◌∙◌}
 use Rattle.grid_moves.specs.declared.Dir.{Dir}
 use Rattle.grid_moves.specs.Move.{is_open}
-use Rattle.jump_block.proofs.Patches.{leads_by}
+use Rattle.jump_block.proofs.Rings.{leads_by}
 use Rattle.jump_block.proofs.straight.Bits.leads.Goals as goal
 
 pub returns-clause-leads : goal.returns-clause-leads

@@ -1,5 +1,5 @@
 use Rattle.std.proofs.Common.{◌≡◌, ℕ, ◌+◌, ◌*◌, ◌/◌, ◌%◌, arith, ap, ◌∙◌}
-use Rattle.jump_block.proofs.patch.bit_of.Goals as goal
+use Rattle.jump_block.proofs.cells.bit_of.Goals as goal
 
 pub returns-clause-shown : goal.returns-clause-shown
 returns-clause-shown g c = λ count positions free shows.

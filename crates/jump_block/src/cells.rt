@@ -1,30 +1,17 @@
 //! The cells around a cell, read from the bits of three rows.
 
-ghost use Rattle.std.specs.Prelude.{◌≡◌, ℕ, suc, ◌+◌, ◌*◌, ◌/◌, ◌<◌, ◌≤◌, Bool, true, false};
-ghost use Rattle.grid_moves.specs.Grid.{GridData, IsGrid, is_free};
-ghost use Rattle.pruning.specs.Turns as turns;
-ghost use Rattle.pruning.specs.Marked.{is_forced};
-ghost use Rattle.bit_grid.specs.Bits.{Shows, AreRowsOf, is_set};
-ghost use Rattle.jump_block.specs.Patch.{grid_of_patch, AreThree, IsAround};
+ghost use Rattle.std.specs.Prelude.{◌≡◌, ℕ, suc, ◌+◌, ◌*◌, ◌/◌, ◌<◌, ◌≤◌, Bool, true};
+ghost use Rattle.grid_moves.specs.Move as moves;
+ghost use Rattle.grid_moves.specs.Ring.{is_free_on};
+ghost use Rattle.bit_grid.specs.Bits.{Shows, is_set};
+ghost use Rattle.jump_block.specs.Near.{AreThree};
+ghost use Rattle.jump_block.specs.Source.{OnSome, OnEach};
 
-use bit_grid::{Lines, Rows};
-use grid_moves::{Cell, Corner, Dir, Terrain};
-use pruning::forced;
+use crate::straight::Bits;
+use bit_grid::Lines;
+use grid_moves::{Cell, Ring};
 use std::sync::ledger::Ledger;
 use steps::Steps;
-
-/// The cell in the middle of a patch.
-pub(crate) const MIDDLE: Cell = Cell { x: 1, y: 1 };
-
-/// Three cells by three, as a small map of its own: the cells around a cell, and itself in the middle. Its
-/// bits are the lowest three of each word.
-#[derive(Clone, Copy)]
-pub(crate) struct Patch {
-    pub(crate) above: u64,
-    pub(crate) middle: u64,
-    pub(crate) below: u64,
-    pub(crate) corner: Corner,
-}
 
 /// Whether a bit is set.
 #[inline(always)]
@@ -111,65 +98,27 @@ fn three<L: Ledger>(lines: &Lines, line: u32, first: u32, steps: &mut Steps<L>) 
     }
 }
 
-impl Patch {
-    /// Reads the cells around a free cell.
+impl<'a> Bits<'a> {
+    /// Reads which of the cells around a free cell are free.
     #[inline(always)]
-    pub(crate) fn read<L: Ledger>(
-        rows: Rows<'_>,
-        corner: Corner,
-        at: Cell,
-        steps: &mut Steps<L>,
-    ) -> Patch
-        requires stands { (g : GridData) × IsGrid g × AreRowsOf rows.now g × (is_free g at ≡ true) }
-        ensures around { (g : GridData) → IsGrid g → AreRowsOf rows.now g → corner ≡ g.corner
-            → is_free g at ≡ true → IsAround g at result }
+    pub(crate) fn ring<L: Ledger>(&self, at: Cell, steps: &mut Steps<L>) -> Ring
+        requires stands { OnSome self.now at }
+        ensures around { OnEach self.now at (λ g. (d : _) → is_free_on result d ≡ moves.is_open g at d) }
         ensures fewest { steps.old + 3 ≤ steps.new }
     {
         let (x, y) = (u32::from(at.x), u32::from(at.y));
-        Patch {
-            above: three(rows, y, x, steps),
-            middle: three(rows, y + 1, x, steps),
-            below: three(rows, y + 2, x, steps),
-            corner,
-        }
-    }
-
-    /// Whether, after a diagonal move to the middle, a neighbour is forced there.
-    #[inline(always)]
-    pub(crate) fn forces(&self, d: Dir) -> bool
-        requires diagonal { turns.is_diagonal d ≡ true }
-        requires free { is_free (grid_of_patch self.now) (record { x = 1; y = 1 }) ≡ true }
-        ensures { (g : GridData) (x : Cell) → IsAround g x self.now → is_free g x ≡ true
-            → result ≡ is_forced g x d }
-    {
-        match self.corner {
-            Corner::Never => false,
-            Corner::One => forced(self, MIDDLE, d),
-        }
-    }
-}
-
-impl Terrain for Patch {
-    ghost grid = { grid_of_patch };
-
-    fn width(&self) -> u16 {
-        3
-    }
-
-    fn height(&self) -> u16 {
-        3
-    }
-
-    fn corner(&self) -> Corner {
-        self.corner
-    }
-
-    fn free(&self, c: Cell) -> bool {
-        match c.y {
-            0 if c.x < 3 => is_set(self.above, u32::from(c.x)),
-            1 if c.x < 3 => is_set(self.middle, u32::from(c.x)),
-            2 if c.x < 3 => is_set(self.below, u32::from(c.x)),
-            _ => false,
+        let above = three(self.rows, y, x, steps);
+        let middle = three(self.rows, y + 1, x, steps);
+        let below = three(self.rows, y + 2, x, steps);
+        Ring {
+            n: is_set(above, 1),
+            ne: is_set(above, 2),
+            e: is_set(middle, 2),
+            se: is_set(below, 2),
+            s: is_set(below, 1),
+            sw: is_set(below, 0),
+            w: is_set(middle, 0),
+            nw: is_set(above, 0),
         }
     }
 }

@@ -1,5 +1,5 @@
 use Rattle.std.proofs.Common.{◌≡◌, ℕ, ◌+◌, ◌*◌, ◌/◌, ◌%◌, arith, ap, ◌∙◌}
-use Rattle.jump_block.proofs.patch.three.Goals as goal
+use Rattle.jump_block.proofs.cells.three.Goals as goal
 
 pub returns-then-first-lt62-clause-shown : goal.returns-then-first-lt62-clause-shown
 returns-then-first-lt62-clause-shown g c = λ count positions free shows j h.

@@ -1,6 +1,6 @@
 use Rattle.bit_grid.proofs.Words.{set_flag}
-use Rattle.jump_block.proofs.Patches.{three_of}
-use Rattle.jump_block.proofs.patch.three_apart.Goals as goal
+use Rattle.jump_block.proofs.Rings.{three_of}
+use Rattle.jump_block.proofs.cells.three_apart.Goals as goal
 
 pub returns-clause-shown : goal.returns-clause-shown
 returns-clause-shown g c = λ count positions free shows.

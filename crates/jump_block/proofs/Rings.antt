@@ -1,0 +1,69 @@
+-- The cells around a cell, told by bits of three rows.
+use Rattle.std.proofs.Common.{◌≡◌, ℕ, zero, suc, ◌+◌, ◌/◌, ◌%◌, ◌^◌, ◌<◌, arith, Bool, true, ◌&&◌, refl, ap, sym, ◌∙◌, subst}
+use Rattle.std.specs.Prelude.{nat_eq}
+use Rattle.std.proofs.lemmas.Nat.{shr-shr}
+use Rattle.grid_moves.specs.declared.Cell.{Cell}
+use Rattle.grid_moves.specs.declared.Corner.{Corner}
+use Rattle.grid_moves.specs.declared.Dir.{Dir}
+use Rattle.grid_moves.specs.declared.Dir.TheVariants.{N, NE, E, SE, S, SW, W, NW}
+use Rattle.grid_moves.specs.declared.ring.Ring.{Ring}
+use Rattle.grid_moves.specs.Grid.{GridData, is_free}
+use Rattle.grid_moves.specs.Move.{is_open, is_passable}
+use Rattle.grid_moves.specs.Ring.{is_free_on}
+use Rattle.bit_grid.specs.Bits.{is_set}
+use Rattle.pruning.specs.declared.turns.Side.TheVariants.{Right, Left}
+use Rattle.pruning.specs.Turns.{turn, is_diagonal}
+use Rattle.pruning.specs.Allowed.{can_move}
+use Rattle.pruning.proofs.Moves.{can_move-diagonal}
+use Rattle.jump_block.specs.Near.{AreThree}
+use Rattle.jump_block.specs.Source.{by_rows}
+use Rattle.jump_block.proofs.Directions.{is_open_there}
+
+pub set_from : (word place j : ℕ) → is_set (word / 2 ^ place) j ≡ is_set word (place + j)
+set_from word place j = ap (λ (n : ℕ). nat_eq (n % 2) 1) (shr-shr word place j)
+
+pub three_of : (f : ℕ → Bool) (first word inner lowest : ℕ) (a b c : Bool)
+    → a ≡ f first → b ≡ f (first + 1) → c ≡ f (first + 2)
+    → is_set word 0 ≡ a → ((j : ℕ) → suc j < 64 → is_set word (suc j) ≡ is_set inner j)
+    → is_set inner 0 ≡ b → ((j : ℕ) → suc j < 64 → is_set inner (suc j) ≡ is_set lowest j)
+    → is_set lowest 0 ≡ c → (j : ℕ) → j < 3 → is_set word j ≡ f (first + j)
+three_of f first word inner lowest a b c e g h k l m n o zero i =
+    let same : first ≡ first + 0 = omega arith in k ∙ e ∙ ap f same
+three_of f first word inner lowest a b c e g h k l m n o (suc zero) i =
+    l 0 (omega arith) ∙ m ∙ g
+three_of f first word inner lowest a b c e g h k l m n o (suc (suc zero)) i =
+    l 1 (omega arith) ∙ n 0 (omega arith) ∙ o ∙ h
+three_of f first word inner lowest a b c e g h k l m n o (suc (suc (suc j))) i =
+    absurd (omega arith)
+
+pub three_at : (f : ℕ → ℕ → Bool) (line first line' first' word : ℕ) → line ≡ line' → first ≡ first'
+    → AreThree f line first word → AreThree f line' first' word
+three_at f line first line' first' word e h three =
+    subst (λ (n : ℕ). AreThree f line' n word) h (subst (λ (n : ℕ). AreThree f n first word) e three)
+
+-- the cells around a cell are the middle bits' neighbours
+pub ring_read : (g : GridData) (x : Cell) (above middle below : ℕ) (ring : Ring)
+    → AreThree (by_rows g) x.y x.x above → AreThree (by_rows g) (x.y + 1) x.x middle
+    → AreThree (by_rows g) (x.y + 2) x.x below
+    → ring.n ≡ is_set above 1 → ring.ne ≡ is_set above 2 → ring.e ≡ is_set middle 2 → ring.se ≡ is_set below 2
+    → ring.s ≡ is_set below 1 → ring.sw ≡ is_set below 0 → ring.w ≡ is_set middle 0 → ring.nw ≡ is_set above 0
+    → (d : Dir) → is_free_on ring d ≡ is_open g x d
+ring_read g x above middle below ring a m b n ne e se s sw w nw = by_dir
+  where
+    by_dir : (d : Dir) → is_free_on ring d ≡ is_open g x d
+    by_dir N = n ∙ a 1 (omega arith) ∙ is_open_there g N x.x x.y _ _ (omega arith) (omega arith)
+    by_dir NE = ne ∙ a 2 (omega arith) ∙ is_open_there g NE x.x x.y _ _ (omega arith) (omega arith)
+    by_dir E = e ∙ m 2 (omega arith) ∙ is_open_there g E x.x x.y _ _ (omega arith) (omega arith)
+    by_dir SE = se ∙ b 2 (omega arith) ∙ is_open_there g SE x.x x.y _ _ (omega arith) (omega arith)
+    by_dir S = s ∙ b 1 (omega arith) ∙ is_open_there g S x.x x.y _ _ (omega arith) (omega arith)
+    by_dir SW = sw ∙ b 0 (omega arith) ∙ is_open_there g SW x.x x.y _ _ (omega arith) (omega arith)
+    by_dir W = w ∙ m 0 (omega arith) ∙ is_open_there g W x.x x.y _ _ (omega arith) (omega arith)
+    by_dir NW = nw ∙ a 0 (omega arith) ∙ is_open_there g NW x.x x.y _ _ (omega arith) (omega arith)
+
+-- a diagonal move is told by three cells
+pub leads_by : (g : GridData) (x : Cell) (d : Dir) → is_free g x ≡ true → is_diagonal d ≡ true
+    → (rule : Corner) → rule ≡ g.corner → (ahead left right passes both : Bool)
+    → ahead ≡ is_open g x d → left ≡ is_open g x (turn Left d) → right ≡ is_open g x (turn Right d)
+    → passes ≡ is_passable rule left right → both ≡ (ahead && passes) → both ≡ can_move g x d
+leads_by g x d free diagonal rule same ahead left right passes both a l r q b =
+    b ∙ rw (a, q, l, r, same) refl ∙ sym (can_move-diagonal g x d free diagonal)
