@@ -148,14 +148,14 @@ module _ (width height : ℕ) (goal : Cell) (link : Links) (links : AreLinks wid
       by_end e.run e.is_run e.ended (has_goal (search_rule width goal link) e.run) refl
 
 -- where the last state's node is the goal's, the way back from it is the answer
-pub found_back : (layout : Layout) (width height : ℕ) (start goal : Cell) (link : Links)
-    (fit : IsSearch width height start goal link) (shown : List Cell → List Cell) (at : ℕ) (k : Table) (taken : List ℕ)
+pub found_back : {layout : Layout} {width height : ℕ} {start goal : Cell} {link : Links}
+    (fit : IsSearch width height start goal link) (shown : List Cell → List Cell) {at : ℕ} {k : Table} {taken : List ℕ}
     (h : HasTaken layout width goal link start at k taken)
     → ((n : Node) → slice_get k.nodes at ≡ Some n → (state_of layout n).cell ≡ goal)
     → (points way : List Cell) (cost : Cost) → IsWayTo goal k.nodes at way cost → points ≡ shown way
     → IsFound width goal link shown start points cost taken
-found_back layout width height start goal link fit shown at k taken h met points way cost w p =
-    let is = way_is layout width height start goal link fit at k taken h way cost w in
+found_back fit shown h met points way cost w p =
+    let is = way_is fit h way cost w in
     record {
       earlier = h.earlier;
       last = h.last;

@@ -10,7 +10,7 @@ use Rattle.grid_moves.specs.declared.Cell.{Cell}
 use Rattle.grid_moves.specs.Move.{is_same}
 use Rattle.grid_moves.specs.Points.{estimate}
 use Rattle.search_run.specs.Run.{Taken, IsIn, here, there, IsRun, is_taken, way_to}
-use Rattle.search_run.proofs.Leastness.{least_offer-from, or_true}
+use Rattle.search_run.proofs.Leastness.{least_offer-from}
 use Rattle.best_first.specs.declared.node.Node.{Node}
 use Rattle.best_first.specs.declared.state.State.{State}
 use Rattle.best_first.specs.declared.state.Layout.{Layout}
@@ -23,7 +23,7 @@ use Rattle.best_first.specs.Trace.{IsBack, stops, goes, node_cell, rank_left}
 use Rattle.best_first.proofs.Mirrors.{some_node, in_taken}
 use Rattle.best_first.proofs.Offering.{in_cell, rank-add_costs}
 use Rattle.best_first.proofs.States.{is_same_state-state, is_same_state-itself, same_or_not}
-use Rattle.best_first.proofs.Searching.{taken_key}
+use Rattle.best_first.proofs.Searching.{start_taken, taken_key}
 
 -- the way back is one
 pub back_is_one : (goal : Cell) (nodes : List Node) (id : ℕ) (a b : List Cell) (c d : Cost)
@@ -80,9 +80,9 @@ apart_rank u v h = some_rank (estimate u v) (by_parts (nat_eq u.x v.x) (nat_eq u
     by_parts true false e f g = rows f
     by_parts true true e f g = absurd (cc)
 
-module _ (layout : Layout) (width height : ℕ) (start goal : Cell) (link : Links)
-    (fit : IsSearch width height start goal link) (last : Taken State) (before : List (Taken State)) (at : ℕ)
-    (best : Offers) (k : Table) (i : IsSearching layout width goal link start last before at best k) where
+module _ {layout : Layout} {width height : ℕ} {start goal : Cell} {link : Links}
+    (fit : IsSearch width height start goal link) {last : Taken State} {before : List (Taken State)} {at : ℕ}
+    {best : Offers} {k : Table} (i : IsSearching layout width goal link start last before at best k) where
   cell_is : (n : Node) (s : State) → state_of layout n ≡ s → node_cell n ≡ s.cell
   cell_is n s e = sym (in_cell layout (state_told n.place)) ∙ ap (λ (u : State). u.cell) e
 
@@ -91,7 +91,7 @@ module _ (layout : Layout) (width height : ℕ) (start goal : Cell) (link : Link
       → state_of layout n ≡ u.state → rank_left goal n ≡ rank_of u.cost
   left_is id n h u m e =
       let key : n.key ≡ rank_of u.cost + rank_of (estimate u.state.cell goal)
-      = taken_key layout width height start goal link fit last before at best k i id n h u m (sym e)
+      = taken_key fit i id n h u m (sym e)
       ∙ rank-add_costs u.cost (estimate u.state.cell goal) in
       ap (λ (r : ℕ). r - rank_of (estimate (node_cell n) goal)) key
       ∙ ap (λ (c : Cell). (rank_of u.cost + rank_of (estimate u.state.cell goal)) - rank_of (estimate c goal))
@@ -99,16 +99,6 @@ module _ (layout : Layout) (width height : ℕ) (start goal : Cell) (link : Link
     where
       less : (a b : ℕ) → (a + b) - b ≡ a
       less a b = omega arith
-
-  start_taken : (run : List (Taken State)) → IsRun (search_rule width goal link) (start_at start) run
-      → is_taken (search_rule width goal link) run (start_at start) ≡ true
-  start_taken [] is = absurd is
-  start_taken (y ∷ []) is = (let e : y.state ≡ start_at start = ap (λ (u : Taken State). u.state) is in
-      let t : is_same_state y.state (start_at start) ≡ true =
-      ap (λ (s : State). is_same_state s (start_at start)) e ∙ is_same_state-itself (start_at start) in
-      rw t refl)
-  start_taken (y ∷ z ∷ rest) is = or_true (is_same_state y.state (start_at start))
-      (is_taken (search_rule width goal link) (z ∷ rest) (start_at start)) (start_taken (z ∷ rest) is.0)
 
   -- the way of an earlier state stays the same
   way_stays : (x : Taken State) (earlier : List (Taken State)) (s : State)
@@ -141,7 +131,7 @@ module _ (layout : Layout) (width height : ℕ) (start goal : Cell) (link : Link
       (subst (λ (c : Cell). IsBack goal k.nodes id (c ∷ []) no_cost) (cell_is n x.state e)
       (stops id n first h)))
   back_of (x ∷ y ∷ earlier) is among u (there z w m) id n h e =
-      let other = way_stays x (y ∷ earlier) u.state is.2.waits (in_taken layout width goal link (y ∷ earlier) u m) in
+      let other = way_stays x (y ∷ earlier) u.state is.2.waits (in_taken width goal link (y ∷ earlier) u m) in
       rw other (back_of (y ∷ earlier) is.0 (λ v j. among v (there x (y ∷ earlier) j)) u m id n h e)
   back_of (x ∷ y ∷ earlier) is among u (here z) id n h e =
       let order = i.mirrors.in_order id n h in
@@ -175,7 +165,7 @@ module _ (layout : Layout) (width height : ℕ) (start goal : Cell) (link : Link
       let no : is_taken (search_rule width goal link) (y ∷ earlier) (start_at start) ≡ false =
       ap (λ (s : State). is_taken (search_rule width goal link) (y ∷ earlier) s) (sym at_start)
       ∙ is.2.waits in
-      let yes = start_taken (y ∷ earlier) is.0 in
+      let yes = start_taken fit.posed (y ∷ earlier) is.0 in
       absurd (cc) in
       let at_parent : cells_to (y ∷ earlier) from.by.state ≡ cells_to (y ∷ earlier) x.parent =
       ap (λ (s : State). cells_to (y ∷ earlier) s) (sym from.offered.source) in

@@ -13,6 +13,15 @@ use Rattle.best_first.proofs.Numbers.{at_most}
 use Rattle.best_first.proofs.Searching.{run_on}
 use Rattle.best_first.proofs.States.{arrival_small, one_arrival, same_state, is_same_state-itself}
 
+some_taken : (u v : Taken State) → Some u ≡ Some v → u ≡ v
+some_taken u v q = ap (λ (o : Option (Taken State)). elim o as (λ _. Taken State) [ Some w ↦ w | None ↦ u ]) q
+
+-- what stands at a place is in the list
+pub member : (xs : List (Taken State)) (i : ℕ) (u : Taken State) → slice_get xs i ≡ Some u → IsIn u xs
+member [] i u h = absurd (cc)
+member (x ∷ xs) zero u h = subst (λ (w : Taken State). IsIn w (x ∷ xs)) (some_taken x u h) (here xs)
+member (x ∷ xs) (suc i) u h = there x xs (member xs i u h)
+
 -- numbers of states on the map tell them apart
 pub one_state : (width height : ℕ) (s t : State) → LiesOn width height s.cell → LiesOn width height t.cell
     → state_number width s ≡ state_number width t → s ≡ t
@@ -32,13 +41,7 @@ state_below width height s a =
     let small = arrival_small s.arrival in
     omega arith
 
-module _ (width height : ℕ) (start goal : Cell) (link : Links) (posed : IsPosed width height start goal link) where
-  member : (xs : List (Taken State)) (i : ℕ) (u : Taken State) → slice_get xs i ≡ Some u → IsIn u xs
-  member [] i u h = absurd (cc)
-  member (x ∷ xs) zero u h = subst (λ (w : Taken State). IsIn w (x ∷ xs))
-      (ap (λ (o : Option (Taken State)). elim o as (λ _. Taken State) [ Some v ↦ v | None ↦ u ]) h) (here xs)
-  member (x ∷ xs) (suc i) u h = there x xs (member xs i u h)
-
+module _ {width height : ℕ} {start goal : Cell} {link : Links} (posed : IsPosed width height start goal link) where
   -- no state is taken twice
   later_other : (x : Taken State) (some : List (Taken State))
       → is_taken (search_rule width goal link) some x.state ≡ false → (u : Taken State) → IsIn u some
@@ -65,18 +68,10 @@ module _ (width height : ℕ) (start goal : Cell) (link : Links) (posed : IsPose
       let one : x ≡ a = some_taken x a h in
       absurd (later_other x (y ∷ earlier) is.2.waits b (member (y ∷ earlier) j b g)
       (sym e ∙ ap (λ (u : Taken State). u.state) (sym one)))
-    where
-      some_taken : (u v : Taken State) → Some u ≡ Some v → u ≡ v
-      some_taken u v q = ap (λ (o : Option (Taken State)). elim o as (λ _. Taken State)
-          [ Some w ↦ w | None ↦ u ]) q
   apart_run (x ∷ y ∷ earlier) is (suc i) zero a b h g e =
       let one : x ≡ b = some_taken x b g in
       absurd (later_other x (y ∷ earlier) is.2.waits a (member (y ∷ earlier) i a h)
       (e ∙ ap (λ (u : Taken State). u.state) (sym one)))
-    where
-      some_taken : (u v : Taken State) → Some u ≡ Some v → u ≡ v
-      some_taken u v q = ap (λ (o : Option (Taken State)). elim o as (λ _. Taken State)
-          [ Some w ↦ w | None ↦ u ]) q
   apart_run (x ∷ y ∷ earlier) is (suc i) (suc j) a b h g e =
       ap (λ (k : ℕ). suc k) (apart_run (y ∷ earlier) is.0 i j a b h g e)
 
@@ -84,7 +79,7 @@ module _ (width height : ℕ) (start goal : Cell) (link : Links) (posed : IsPose
       → length run ≤ height * width * 9
   few_taken run is = at_most (λ (u : Taken State). state_number width u.state) run (height * width * 9)
       (λ i j a b h g e. apart_run run is i j a b h g (one_state width height a.state b.state
-      (run_on width height start goal link posed run is a (member run i a h))
-      (run_on width height start goal link posed run is b (member run j b g)) e))
+      (run_on posed run is a (member run i a h))
+      (run_on posed run is b (member run j b g)) e))
       (λ i u h. state_below width height u.state
-      (run_on width height start goal link posed run is u (member run i u h)))
+      (run_on posed run is u (member run i u h)))

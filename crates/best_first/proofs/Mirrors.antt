@@ -29,7 +29,7 @@ pub record Changed (layout : Layout) (v : State) (id : ℕ) (n : Node) (k l : Ta
   pub open_others : (j : ℕ) → j ≢ id → slice_get l.open_at j ≡ slice_get k.open_at j
   pub no_more : length l.open_at ≡ length l.nodes
 
-module _ (layout : Layout) (width : ℕ) (goal : Cell) (link : Links) where
+module _ (width : ℕ) (goal : Cell) (link : Links) where
   -- what was taken is among the taken states
   pub in_taken : (run : List (Taken State)) (u : Taken State) → IsIn u run
       → is_taken (search_rule width goal link) run u.state ≡ true
@@ -39,7 +39,8 @@ module _ (layout : Layout) (width : ℕ) (goal : Cell) (link : Links) where
       or_true (is_same_state x.state u.state) (is_taken (search_rule width goal link) earlier u.state)
       (in_taken earlier u m)
 
-  module _ (run : List (Taken State)) (best : Offers) (k l : Table) (v : State) (id : ℕ) (n : Node)
+module _ {layout : Layout} {width : ℕ} {goal : Cell} {link : Links} where
+  module _ {run : List (Taken State)} {best : Offers} {k l : Table} {v : State} {id : ℕ} {n : Node}
       (m : Mirrors layout width goal link run best k) (ch : Changed layout v id n k l)
       (untaken : is_taken (search_rule width goal link) run v ≡ false)
       (column : (state_told n.place).cell.x < width) where
@@ -74,7 +75,7 @@ module _ (layout : Layout) (width : ℕ) (goal : Cell) (link : Links) where
         ap (λ (t : State). is_same_state t s) (sym h ∙ e) ∙ is_same_state-itself s in
         cc
 
-    module _ (after : Offers) (o : Offer State) (keeps : Keeps layout width goal link l.nodes n o)
+    module _ (after : Offers) {o : Offer State} (keeps : Keeps layout width goal link l.nodes n o)
         (source : is_taken (search_rule width goal link) run o.from ≡ true)
         (led : link.led o.from (state_told n.place) ≡ true) (at_v : after v ≡ Some o)
         (at_others : (s : State) → is_same_state v s ≡ false → after s ≡ best s) where
@@ -93,7 +94,7 @@ module _ (layout : Layout) (width : ℕ) (goal : Cell) (link : Links) where
         led = led;
         source = source;
         best_is = λ z. ap (λ (s : State). after s) ch.state ∙ at_v;
-        taken_by = λ u i e. absurd (let y = in_taken run u i in
+        taken_by = λ u i e. absurd (let y = in_taken width goal link run u i in
             let z : is_taken (search_rule width goal link) run u.state ≡ false =
             ap (λ (s : State). is_taken (search_rule width goal link) run s) (e ∙ ch.state) ∙ untaken in cc);
       }

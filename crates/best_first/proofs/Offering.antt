@@ -19,7 +19,7 @@ use Rattle.best_first.specs.declared.node.Offer.{Offer as Way}
 use Rattle.best_first.specs.declared.state.State.{State}
 use Rattle.best_first.specs.declared.state.Layout.{Layout}
 use Rattle.best_first.specs.declared.state.Layout.TheVariants.{ByCell, ByArrival}
-use Rattle.best_first.specs.State.{is_same_state, state_in, state_told}
+use Rattle.best_first.specs.State.{is_same_state, place_of, state_in, state_told}
 use Rattle.best_first.specs.Rule.{Links, search_rule}
 use Rattle.best_first.specs.Node.{state_of}
 use Rattle.best_first.specs.Table.{Table, lookup, node_for, added, replaced, is_bettered, offered, offered_at}
@@ -61,8 +61,18 @@ keys_tell p q e s t = by_test (is_less p q) refl
     by_test true l = lesser_key _ _ (less_ranks (add_costs p e) (add_costs q e) s (IsLess-add_right e p q l))
     by_test false l = by_key (nat_lt (rank_of (add_costs p e)) (rank_of (add_costs q e))) refl l
 
-module _ (layout : Layout) (width : ℕ) (goal : Cell) (link : Links) (run : List (Taken State)) (best : Offers)
-    (k : Table) (m : Mirrors layout width goal link run best k) where
+-- the offer may be made: of a cell of the map, ranked by its cost, by the node of a taken state
+pub record IsFitting (layout : Layout) (width : ℕ) (goal : Cell) (link : Links) (run : List (Taken State))
+    (k : Table) (way : Way) (cost : Cost) (p : Node) : Type 0 where
+  pub narrow : width ≤ 4096
+  pub column : way.to.cell.x < width
+  pub ranked : way.rank ≡ rank_of cost
+  pub short : HasShortParts (sum_at (search_rule width goal link) (state_in layout way.to) cost)
+  pub parent_is : slice_get k.nodes way.parent ≡ Some p
+  pub parent_taken : is_taken (search_rule width goal link) run (state_of layout p) ≡ true
+
+module _ {layout : Layout} {width : ℕ} {goal : Cell} {link : Links} {run : List (Taken State)} {best : Offers}
+    {k : Table} (m : Mirrors layout width goal link run best k) where
   -- of the offers only those for states that wait count
   pub same_best : (after : Offers)
       → ((s : State) → is_taken (search_rule width goal link) run s ≡ false → best s ≡ after s)
@@ -83,12 +93,7 @@ module _ (layout : Layout) (width : ℕ) (goal : Cell) (link : Links) (run : Lis
     no_more = m.no_more;
   }
 
-  module _ (way : Way) (cost : Cost) (p : Node) (narrow : width ≤ 4096)
-      (column : way.to.cell.x < width)
-      (ranked : way.rank ≡ rank_of cost)
-      (short : HasShortParts (sum_at (search_rule width goal link) (state_in layout way.to) cost))
-      (parent_is : slice_get k.nodes way.parent ≡ Some p)
-      (parent_taken : is_taken (search_rule width goal link) run (state_of layout p) ≡ true) where
+  module _ {way : Way} {cost : Cost} {p : Node} (w : IsFitting layout width goal link run k way cost p) where
     abbrev pub to : State
     to = state_in layout way.to
 
@@ -98,14 +103,17 @@ module _ (layout : Layout) (width : ℕ) (goal : Cell) (link : Links) (run : Lis
     abbrev pub now : Offer State
     now = record { cost = cost; from = state_of layout p }
 
+    place_told : state_told (place_of way.to) ≡ way.to
+    place_told = told-place way.to (let a = w.column in let b = w.narrow in omega arith)
+
     pub new_state : state_of layout new ≡ to
-    new_state = ap (λ (s : State). state_in layout s) (told-place way.to (omega arith))
+    new_state = ap (λ (s : State). state_in layout s) place_told
 
     new_column : (state_told new.place).cell.x < width
-    new_column = subst (λ (s : State). s.cell.x < width) (sym (told-place way.to (omega arith))) column
+    new_column = subst (λ (s : State). s.cell.x < width) (sym place_told) w.column
 
     pub new_key : new.key ≡ rank_of (sum_at (search_rule width goal link) to cost)
-    new_key = ap (λ (r : ℕ). r + rank_of (estimate way.to.cell goal)) ranked
+    new_key = ap (λ (r : ℕ). r + rank_of (estimate way.to.cell goal)) w.ranked
         ∙ ap (λ (c : Cell). rank_of cost + rank_of (estimate c goal)) (sym (in_cell layout way.to))
         ∙ sym (rank-add_costs cost (estimate to.cell goal))
 
@@ -119,7 +127,7 @@ module _ (layout : Layout) (width : ℕ) (goal : Cell) (link : Links) (run : Lis
     new_keeps l h = record {
       key = new_key ∙ ap (λ (s : State). rank_of (sum_at (search_rule width goal link) s cost)) (sym new_state);
       short = subst (λ (s : State). HasShortParts (sum_at (search_rule width goal link) s cost)) (sym new_state)
-          short;
+          w.short;
       parent = p;
       parent_is = h;
       from = refl;
@@ -193,7 +201,7 @@ module _ (layout : Layout) (width : ℕ) (goal : Cell) (link : Links) (run : Lis
         old.keeps.short in
         ap (λ (i : ℕ). nat_lt i n.key) new_key
         ∙ ap (λ (i : ℕ). nat_lt (rank_of (sum_at (search_rule width goal link) to cost)) i) key
-        ∙ keys_tell cost old.offer.cost (estimate to.cell goal) short short_old
+        ∙ keys_tell cost old.offer.cost (estimate to.cell goal) w.short short_old
 
     -- and of a state that waits it keeps the best one
     best_at : (id : ℕ) (n : Node) (h : slice_get k.nodes id ≡ Some n) → state_of layout n ≡ to
@@ -207,8 +215,8 @@ module _ (layout : Layout) (width : ℕ) (goal : Cell) (link : Links) (run : Lis
     greater a b h l = grind (arith, nat_tests)
 
     -- the node that the state has has a greater key
-    by_lesser_key : link.led (state_of layout p) (state_told new.place) ≡ true → (id : ℕ) (n : Node) → slice_get k.nodes id ≡ Some n → state_of layout n ≡ to
-        → is_taken (search_rule width goal link) run to ≡ false → nat_lt new.key n.key ≡ true
+    by_lesser_key : link.led (state_of layout p) (state_told new.place) ≡ true → (id : ℕ) (n : Node)
+        → slice_get k.nodes id ≡ Some n → state_of layout n ≡ to → is_taken (search_rule width goal link) run to ≡ false → nat_lt new.key n.key ≡ true
         → Mirrors layout width goal link run (with_offer best to now) (replaced id new k)
     by_lesser_key told id n h e z t =
         let old = m.in_order id n h in
@@ -216,14 +224,13 @@ module _ (layout : Layout) (width : ℕ) (goal : Cell) (link : Links) (run : Lis
         y : is_taken (search_rule width goal link) run (state_of layout p) ≡ false =
         ap (λ (s : State). is_taken (search_rule width goal link) run s)
         (ap (λ (x : Node). state_of layout x) (some_node p n
-        (sym parent_is ∙ ap (λ (j : ℕ). slice_get k.nodes j) i ∙ h)) ∙ e) ∙ z in
-        let x = parent_taken in
+        (sym w.parent_is ∙ ap (λ (j : ℕ). slice_get k.nodes j) i ∙ h)) ∙ e) ∙ z in
+        let x = w.parent_taken in
         absurd (cc) in
         let less : is_less cost old.offer.cost ≡ true = sym (test_is id n h e) ∙ t in
-        mirrors_changed layout width goal link run best k (replaced id new k) to id new m
-        (changed_by_replacing id n h e z) z new_column (with_offer best to now) now
-        (new_keeps (replaced id new k) (get-set_other k.nodes way.parent id new apart ∙ parent_is)) parent_taken told
-        (at_v (Some old.offer) (best_at id n h e z) ∙ rw less refl) at_others
+        mirrors_changed m (changed_by_replacing id n h e z) z new_column (with_offer best to now)
+        (new_keeps (replaced id new k) (get-set_other k.nodes way.parent id new apart ∙ w.parent_is)) w.parent_taken
+        told (at_v (Some old.offer) (best_at id n h e z) ∙ rw less refl) at_others
 
     -- an offer keeps the run, where it betters no taken state
     pub offered_keeps : ((id : ℕ) (n : Node) → slice_get k.nodes id ≡ Some n → state_of layout n ≡ to
@@ -261,9 +268,8 @@ module _ (layout : Layout) (width : ℕ) (goal : Cell) (link : Links) (run : Lis
             → Mirrors layout width goal link run (with_offer best to now) (offered_at o new k)
         by_lookup None e =
             let z = m.known to e in
-            mirrors_changed layout width goal link run best k (added new k) to (length k.nodes) new m
-            (changed_by_adding e) z.0 new_column (with_offer best to now) now
-            (new_keeps (added new k) (get-added k.nodes new way.parent p parent_is)) parent_taken told
+            mirrors_changed m (changed_by_adding e) z.0 new_column (with_offer best to now)
+            (new_keeps (added new k) (get-added k.nodes new way.parent p w.parent_is)) w.parent_taken told
             (at_v None z.1) at_others
         by_lookup (Some id) e =
             let f = lookup-found layout k.nodes to id e in

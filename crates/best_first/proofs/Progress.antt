@@ -31,26 +31,26 @@ reverse-twice [] = refl
 reverse-twice (x ∷ xs) = ap reverse (reverse-append (x ∷ []) xs) ∙ reverse-append (reverse xs) (x ∷ [])
     ∙ ap (λ (ys : List _). x ∷ ys) (reverse-twice xs)
 
-module _ (layout : Layout) (width height : ℕ) (start goal : Cell) (link : Links)
-    (fit : IsSearch width height start goal link) where
+module _ {width height : ℕ} {start goal : Cell} {link : Links} (fit : IsSearch width height start goal link) where
   -- at the start
-  pub has_begun : HasTaken layout width goal link start 0 (begun goal start)
+  pub has_begun : (layout : Layout) → HasTaken layout width goal link start 0 (begun goal start)
       (state_number width (start_at start) ∷ [])
-  has_begun = record {
-    last = at_start layout width height start goal link fit;
+  has_begun layout = record {
+    last = at_start start;
     earlier = [];
-    searching = started layout width height start goal link fit;
+    searching = started layout fit;
     numbered = refl;
   }
 
+module _ {layout : Layout} {width height : ℕ} {start goal : Cell} {link : Links}
+    (fit : IsSearch width height start goal link) {at : ℕ} {k : Table} {taken : List ℕ} where
   -- after its offers, the next state
-  pub next_taken : (at : ℕ) (k : Table) (taken : List ℕ) → HasOffered layout width goal link start at k taken
+  pub next_taken : HasOffered layout width goal link start at k taken
       → (id : ℕ) (node : Node) → IsFirstNode k id → slice_get k.nodes id ≡ Some node
       → HasTaken layout width goal link start id (closed_at id k)
       (taken ++ state_number width (state_of layout node) ∷ [])
-  next_taken at k taken h id node f read =
-      let on = going_on layout width height start goal link fit h.last h.earlier at h.best k h.searching
-      h.open_ended h.all_made id f in
+  next_taken h id node f read =
+      let on = going_on fit h.searching h.open_ended h.all_made id f in
       let one : node ≡ on.1.node = some_node node on.1.node (sym read ∙ on.1.node_is) in
       let state : state_of layout node ≡ on.0.state =
       ap (λ (x : Node). state_of layout x) one ∙ on.1.state in
@@ -65,19 +65,17 @@ module _ (layout : Layout) (width height : ℕ) (start goal : Cell) (link : Link
       }
 
   -- or none waits
-  pub exhausted : (at : ℕ) (k : Table) (taken : List ℕ) → HasOffered layout width goal link start at k taken
-      → NoneOpen k → IsExhausted width goal link start taken
-  exhausted at k taken h none =
+  pub exhausted : HasOffered layout width goal link start at k taken → NoneOpen k
+      → IsExhausted width goal link start taken
+  exhausted h none =
       subst (λ (ns : List ℕ). IsExhausted width goal link start ns) (sym h.numbered)
-      (ending layout width height start goal link fit h.last h.earlier at h.best k h.searching h.open_ended
-      h.all_made none)
+      (ending fit h.searching h.open_ended h.all_made none)
 
   -- there are at most nine states taken for each cell
-  pub taken_fits : (at : ℕ) (k : Table) (taken : List ℕ) → HasTaken layout width goal link start at k taken
-      → length taken ≤ height * width * 9
-  taken_fits at k taken h = rw h.numbered
+  pub taken_fits : HasTaken layout width goal link start at k taken → length taken ≤ height * width * 9
+  taken_fits h = rw h.numbered
       (subst (λ n. n ≤ height * width * 9) (sym (length-numbers (h.last ∷ h.earlier)))
-      (few_taken width height start goal link fit.posed (h.last ∷ h.earlier) h.searching.run))
+      (few_taken fit.posed (h.last ∷ h.earlier) h.searching.run))
     where
       length-map : (run : List (Taken State)) → length (map (λ u. state_number width u.state) run) ≡ length run
       length-map [] = refl
@@ -86,14 +84,13 @@ module _ (layout : Layout) (width height : ℕ) (start goal : Cell) (link : Link
       length-numbers : (run : List (Taken State)) → length (numbers_of width run) ≡ length run
       length-numbers run = length-reverse (map (λ u. state_number width u.state) run) ∙ length-map run
 
-  module _ (at : ℕ) (k : Table) (taken : List ℕ) (h : HasTaken layout width goal link start at k taken) where
+  module _ (h : HasTaken layout width goal link start at k taken) where
     abbrev cells : List Cell
     cells = map (λ (u : State). u.cell) (way_to (search_rule width goal link) (h.last ∷ h.earlier) h.last.state)
 
     last_back : IsBack goal k.nodes at (reverse cells) h.last.cost
-    last_back = back_of layout width height start goal link fit h.last h.earlier at
-        (least_offer (search_rule width goal link) h.earlier) k h.searching (h.last ∷ h.earlier) h.searching.run
-        (λ u m. m) h.last (here h.earlier) at h.searching.node h.searching.node_is h.searching.state
+    last_back = back_of fit h.searching (h.last ∷ h.earlier) h.searching.run (λ u m. m) h.last (here h.earlier) at
+        h.searching.node h.searching.node_is h.searching.state
 
     -- some way leads back from the last state's node
     pub has_back : HasBack goal k.nodes at
@@ -113,11 +110,11 @@ module _ (layout : Layout) (width height : ℕ) (start goal : Cell) (link : Link
         (sym (reverse-twice points) ∙ ap reverse one.0 ∙ reverse-twice cells, one.1)
 
 -- what stands in the place of the last state's node was led there from the state's parent
-pub last_led : (layout : Layout) (width : ℕ) (goal : Cell) (link : Links) (start : Cell) (x : Taken State)
-    (earlier : List (Taken State)) (at : ℕ) (best : Offers) (k : Table)
+pub last_led : {layout : Layout} {width : ℕ} {goal : Cell} {link : Links} {start : Cell} {x : Taken State}
+    {earlier : List (Taken State)} {at : ℕ} {best : Offers} {k : Table}
     (i : IsSearching layout width goal link start x earlier at best k)
     → link.led x.parent (state_told i.node.place) ≡ true
-last_led layout width goal link start x earlier at best k i =
+last_led {link = link} {x = x} {earlier = earlier} {at = at} i =
     let o = i.mirrors.in_order at i.node i.node_is in
     let from = (o.taken_by x (here earlier) (sym i.state)).1 in
     ap (λ (s : State). link.led s (state_told i.node.place)) from ∙ o.led

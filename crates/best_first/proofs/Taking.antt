@@ -69,7 +69,7 @@ keys_order p q i j m n s t order e = elim (IsLess-total p q) [
         let same : p ≡ q = same_cost p q (grind (arith, nat_tests)) (grind (arith, nat_tests)) in
         IsLess-irreflexive q (rw same at more))
 
-module _ (layout : Layout) (width : ℕ) (goal : Cell) (link : Links) (run : List (Taken State)) (k : Table)
+module _ {layout : Layout} {width : ℕ} {goal : Cell} {link : Links} {run : List (Taken State)} {k : Table}
     (m : Mirrors layout width goal link run (least_offer (search_rule width goal link) run) k) where
   -- a state that waits has an open node that keeps its offer
   record HasOpen (s : State) (o : Offer State) : Type 0 where

@@ -17,6 +17,12 @@ use Rattle.best_first.proofs.States.{is_same_state-state, is_same_state-itself, 
 some_cost : (c d : Cost) → Some c ≡ Some d → c ≡ d
 some_cost c d e = ap (λ (o : Option Cost). elim o as (λ _. Cost) [ Some v ↦ v | None ↦ c ]) e
 
+-- what is so of the first way, and of one among the others, is so of one among all
+pub of_among : (P : Onward → Type 0) {w e : Onward} {ways : List Onward} → P e → (IsAmong w ways → P w)
+    → IsAmong w (e ∷ ways) → P w
+of_among P p others (first z) = p
+of_among P p others (later z y q) = others q
+
 lesser-none : (o : Option (Offer State)) → lesser o None ≡ o
 lesser-none None = refl
 lesser-none (Some o) = refl

@@ -1,8 +1,6 @@
 mod Growing
 pub mod Storing
 pub mod Moves
-mod Posed
-mod Shapes
 mod Offering
 mod Right
 mod Concluding

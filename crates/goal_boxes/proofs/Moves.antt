@@ -6,9 +6,9 @@ use Rattle.root2_cost.specs.declared.Cost.{Cost}
 use Rattle.std.proofs.lemmas.Bool.{and_from}
 use Rattle.grid_moves.specs.declared.Cell.{Cell}
 use Rattle.grid_moves.specs.declared.Dir.{Dir}
-use Rattle.grid_moves.specs.Grid.{GridData}
+use Rattle.grid_moves.specs.Grid.{GridData, IsGrid, is_free}
 use Rattle.grid_moves.specs.Move.{is_legal, is_same, move_cost, ahead, all_dirs, legal_ahead}
-use Rattle.grid_moves.proofs.Legal.{is_same-cell, is_same-itself, and_both}
+use Rattle.grid_moves.proofs.Legal.{is_same-cell, and_both}
 use Rattle.search_run.specs.Chain.{IsConsistent}
 use Rattle.best_first.specs.declared.state.State.{State}
 use Rattle.best_first.specs.State.{start_at}
@@ -17,8 +17,10 @@ use Rattle.best_first.proofs.Links.{consistent}
 use Rattle.plain_search.specs.Offers.{cost_to}
 use Rattle.plain_search.specs.Rule.{plain_links, is_led}
 use Rattle.plain_search.proofs.Dropping.{LeadsTo, leads}
-use Rattle.plain_search.proofs.Offering.{ahead_cost}
-use Rattle.plain_search.proofs.Walks.{AreMoves, IsMove, link_move, legal_link, plain_are_links}
+use Rattle.plain_search.proofs.Moving.{IsLinked}
+use Rattle.plain_search.proofs.Offering.{ahead_cost, open_linked}
+use Rattle.plain_search.proofs.Posed.{IsAsked, free_near}
+use Rattle.plain_search.proofs.Walks.{AreMoves, IsMove, link_move, plain_are_links}
 use Rattle.cost_waves.proofs.Settling.{In, first, later, in_all}
 use Rattle.goal_boxes.specs.Box.{BoxTeller}
 use Rattle.goal_boxes.specs.Offers.{toward}
@@ -86,29 +88,20 @@ module _ (g : GridData) (b : BoxTeller) (t : Cell) where
       let p = if_some (is_toward t (b c d)) (legal_ahead g c d) v e in
       record { leads = leads g c d v p.1; held = p.0 }
 
-  led : (c : Cell) (d : Dir) (v : Cell) → ahead d c ≡ Some v → is_led c v (Some d) ≡ true
-  led c d v e = ap (λ (o : Option Cell). option_map_or (λ (w : Cell). is_same w v) o false) e
-      ∙ is_same-itself v
-
-  pub toward_led : (c : Cell) (d : Dir) (v : Cell) → IsToward c d v → is_led c v (Some d) ≡ true
-  toward_led c d v w = led c d v w.leads.ahead_is
-
   -- is a link
-  pub toward_link : (c : Cell) (d : Dir) (v : Cell) → IsToward c d v
-      → boxed_step g b t (start_at c) (start_at v) ≡ Some (cost_to d)
-  toward_link c d v w =
+  pub toward_linked : (c : Cell) (d : Dir) (v : Cell) → IsToward c d v → IsLinked (boxed_links g b t) c d v
+  toward_linked c d v w =
+      let plain = open_linked g c d v w.leads in
       let by : is_toward_by b t c v all_dirs ≡ true =
-      one_toward c v d (and_from (is_toward t (b c d)) (is_led c v (Some d)) w.held (toward_led c d v w)) in
-      let plain : (plain_links g).step (start_at c) (start_at v) ≡ Some (cost_to d) =
-      legal_link g c v w.leads.legal ∙ ap (λ (e : Cost). Some e) (ahead_cost d c v w.leads.ahead_is) in
-      rw by plain
+      one_toward c v d (and_from (is_toward t (b c d)) (is_led c v (Some d)) w.held plain.led) in
+      record { step = rw by plain.step; led = plain.led }
 
   -- and so is each move with a box that holds the goal
   pub held_link : (c : Cell) (d : Dir) (v : Cell) → legal_ahead g c d ≡ Some v → is_toward t (b c d) ≡ true
       → boxed_step g b t (start_at c) (start_at v) ≡ Some (move_cost c v)
   held_link c d v e h =
       let l = leads g c d v e in
-      toward_link c d v (record { leads = l; held = h })
+      (toward_linked c d v (record { leads = l; held = h })).step
       ∙ ap (λ (k : Cost). Some k) (sym (ahead_cost d c v l.ahead_is))
 
   -- what leads toward the goal in some direction
@@ -128,3 +121,9 @@ module _ (g : GridData) (b : BoxTeller) (t : Cell) where
           → ahead d c ≡ Some v
       by_cell None e f = absurd (cc)
       by_cell (Some w) e f = e ∙ ap (λ (u : Cell). Some u) (is_same-cell w v f)
+
+-- a boxed search is asked for between free cells
+pub boxed_asked : (g : GridData) (b : BoxTeller) (s t : Cell) → IsGrid g → is_free g s ≡ true → is_free g t ≡ true
+    → IsAsked g s t (boxed_links g b t)
+boxed_asked g b s t whole from to =
+    record { are = boxed_are_moves g b t; whole = whole; from = from; to = free_near g t to }

@@ -1,10 +1,11 @@
 -- The text of a cell's boxes is one.
-use Rattle.std.proofs.Common.{◌≡◌, ℕ, arith, refl, ap, ◌∙◌, List, [], ◌∷◌, ◌++◌}
-use Rattle.std.specs.Prelude.{Option, Some, None, codes}
+use Rattle.std.proofs.Common.{◌≡◌, ℕ, refl, ap, ◌∙◌, List, [], ◌∷◌, ◌++◌}
+use Rattle.std.specs.Prelude.{Option, codes}
 use Rattle.cost_waves.specs.Begin.{Begins}
 use Rattle.goal_boxes.specs.declared.area.Area.{Area}
 use Rattle.goal_boxes.specs.declared.around.CellBoxes.{CellBoxes}
-use Rattle.goal_boxes.specs.Box.{AreBoxes, IsAreaOf, IsWithin, box_in}
+use Rattle.goal_boxes.specs.Box.{AreBoxes, box_in}
+use Rattle.goal_boxes.proofs.Existing.{one_box}
 use Rattle.grid_moves.specs.declared.Cell.{Cell}
 use Rattle.grid_moves.specs.Grid.{GridData}
 use Rattle.grid_moves.specs.Layers.{AreLayers, Layers, is_free_ground, is_on_map, query_grid}
@@ -12,32 +13,6 @@ use Rattle.grid_moves.specs.Move.{all_dirs}
 use Rattle.cell_lines.specs.Cells.{dir_text, texts_of}
 use Rattle.grid_answers.specs.BoxLines.{IsBoxText, area_text, blocked, box_line, boxes_text, outside, told}
 use Rattle.outcome_laws.proofs.Ground.{ground_on, not_both}
-
--- two rectangles within each other are one
-one_area : (a b : Area) → IsWithin a b → IsWithin b a → a ≡ b
-one_area a b p q =
-    let left = p.left in
-    let above = p.above in
-    let right = p.right in
-    let below = p.below in
-    let left' = q.left in
-    let above' = q.above in
-    let right' = q.right in
-    let below' = q.below in
-    by_sides a.x0 a.y0 a.x1 a.y1 b.x0 b.y0 b.x1 b.y1 (omega arith) (omega arith) (omega arith) (omega arith)
-  where
-    by_sides : (x0 y0 x1 y1 u0 v0 u1 v1 : ℕ) → x0 ≡ u0 → y0 ≡ v0 → x1 ≡ u1 → y1 ≡ v1
-        → ◌≡◌ {A = Area} (record { x0 = x0; y0 = y0; x1 = x1; y1 = y1 })
-        (record { x0 = u0; y0 = v0; x1 = u1; y1 = v1 })
-    by_sides x0 y0 x1 y1 u0 v0 u1 v1 e f h i = rw (e, f, h, i) refl
-
--- the least rectangle of a kind of cells is one, or there is none
-pub one_box : (P : Cell → Type 0) (a b : Option Area) → IsAreaOf P a → IsAreaOf P b → a ≡ b
-one_box P None None p q = refl
-one_box P None (Some b) p q = absurd (p q.some q.is_one)
-one_box P (Some a) None p q = absurd (q p.some p.is_one)
-one_box P (Some a) (Some b) p q =
-    ap (λ (x : Area). Some x) (one_area a b (p.least b (λ c i. q.all c i)) (q.least a (λ c i. p.all c i)))
 
 -- texts of each member are those of the list
 pub texts_same : {X : Type 0} (p q : X → List ℕ) (xs : List X) → ((x : X) → p x ≡ q x)

@@ -37,7 +37,7 @@ use Rattle.plain_search.specs.Room.{IsNear}
 use Rattle.plain_search.specs.Rule.{plain_rule, plain_links}
 use Rattle.plain_search.proofs.Ascending.{ascending, distinct_made, one_place_number}
 use Rattle.plain_search.proofs.Entries.{made_contained, contained_made}
-use Rattle.plain_search.proofs.Posed.{run_free}
+use Rattle.plain_search.proofs.Posed.{IsAsked, run_free}
 use Rattle.plain_search.proofs.Pricing.{nodes_priced, node_cost}
 use Rattle.plain_search.proofs.Right.{way}
 use Rattle.plain_search.proofs.Walks.{plain_are_moves, plain_consistent, walk_chain}
@@ -120,18 +120,18 @@ first_no g s t x (y ∷ more) v o is u b less =
     let y : is_less (sum_at (plain_rule g t) v o.cost) (sum_at (plain_rule g t) x.state x.cost) ≡ true = less in
     cc
 
-module _ (g : GridData) (s t : Cell) (whole : IsGrid g) (from : is_free g s ≡ true) (to : IsNear g t)
-    (at : ℕ) (k : Table) (taken : List ℕ) (h : HasTaken g s t at k taken) where
+module _ {g : GridData} {s t : Cell} (asked : IsAsked g s t (plain_links g)) {at : ℕ} {k : Table} {taken : List ℕ}
+    (h : HasTaken g s t at k taken) where
   abbrev order : (id : ℕ) (n : Node) → slice_get k.nodes id ≡ Some n
       → IsInOrder ByCell g.width t (plain_links g) (h.last ∷ h.earlier) (least_offer (plain_rule g t) h.earlier) k id n
   order id n e = h.searching.mirrors.in_order id n e
 
   pub are_priced : ArePriced t k.nodes
-  are_priced = nodes_priced g t (h.last ∷ h.earlier) (least_offer (plain_rule g t) h.earlier) k h.searching.mirrors
+  are_priced = nodes_priced g h.searching.mirrors
 
   cost_at : (id : ℕ) (n : Node) (e : slice_get k.nodes id ≡ Some n)
       → cost_of_rank (rank_left t n) ≡ (order id n e).offer.cost
-  cost_at = node_cost g t (h.last ∷ h.earlier) (least_offer (plain_rule g t) h.earlier) k h.searching.mirrors
+  cost_at = node_cost g h.searching.mirrors
 
   -- the last taken state's node
   abbrev last_node : Node
@@ -200,9 +200,9 @@ module _ (g : GridData) (s t : Cell) (whole : IsGrid g) (from : is_free g s ≡ 
         ∙ is.cost_is in
         let where_ : u.0.state.cell ≡ c = ap (λ (v : State). v.cell) u.2 ∙ is.cell in
         let plain : u.0.state ≡ start_at u.0.state.cell =
-        (run_free g s t whole from to (h.last ∷ h.earlier) h.searching.run u.0 u.1).1 in
+        (run_free asked (h.last ∷ h.earlier) h.searching.run u.0 u.1).1 in
         let least : IsLeastCost g s u.0.state.cell u.0.cost =
-        taken_least g s t (h.last ∷ h.earlier) from h.searching.run u.0 u.1 plain in
+        taken_least g s t (h.last ∷ h.earlier) asked.from h.searching.run u.0 u.1 plain in
         let lesser : IsLess (sum_at (plain_rule g t) (state_of ByCell n) o.offer.cost) last_sum =
         ranks_less (sum_at (plain_rule g t) (state_of ByCell n) o.offer.cost) last_sum o.keeps.short last_short
         (rw (sym o.keeps.key, sym limit_is) is.below) in (
@@ -244,7 +244,7 @@ module _ (g : GridData) (s t : Cell) (whole : IsGrid g) (from : is_free g s ≡ 
             let plain : u.0.state ≡ start_at u.0.state.cell = u.2 ∙ ap (λ (d : Cell). start_at d) (sym where_) in
             let taken_cost : IsLeastCost g s c u.0.cost =
             subst (λ (d : Cell). IsLeastCost g s d u.0.cost) where_
-            (taken_least g s t (h.last ∷ h.earlier) from h.searching.run u.0 u.1 plain) in
+            (taken_least g s t (h.last ∷ h.earlier) asked.from h.searching.run u.0 u.1 plain) in
             let paid : u.0.cost ≡ cost = one_least g s c u.0.cost cost taken_cost least in
             let offered : o.offer.cost ≡ cost = sym (o.taken_by u.0 u.1 (u.2 ∙ sym f.state)).0 ∙ paid in
             let cell : node_cell f.node ≡ c = ap (λ (v : State). v.cell) f.state in
@@ -276,8 +276,8 @@ module _ (g : GridData) (s t : Cell) (whole : IsGrid g) (from : is_free g s ≡ 
         let first = entry_is t last_node.key a y.0 y.1 r in
         let second = entry_is t last_node.key b z.0 z.1 w in
         let same : node_cell a ≡ node_cell b = one_place_number (node_cell a) (node_cell b)
-        (wide (node_cell a).x g.width (order i a p).column whole.sides.narrow)
-        (wide (node_cell b).x g.width (order j b q).column whole.sides.narrow)
+        (wide (node_cell a).x g.width (order i a p).column asked.whole.sides.narrow)
+        (wide (node_cell b).x g.width (order j b q).column asked.whole.sides.narrow)
         (ap place_number first.cell ∙ e ∙ sym (ap place_number second.cell)) in
         h.searching.mirrors.only i j a b p q (ap (λ (c : Cell). start_at c) same)
       where
@@ -304,7 +304,7 @@ module _ (g : GridData) (s t : Cell) (whole : IsGrid g) (from : is_free g s ≡ 
           all = λ c cost least below. Contains-permutation (entries_below t last_node.key k.nodes) closed (c, cost)
               by.permutation (all_closed c cost least below);
           ascend = ascending (λ (e : Cell × Cost). e.0) g.width (entries_below t last_node.key k.nodes) closed
-              (let n = whole.sides.narrow in omega arith) by
+              (let n = asked.whole.sides.narrow in omega arith) by
               (distinct_made (entry_below t last_node.key) (λ (e : Cell × Cost). place_number e.0) k.nodes one_made)
               (λ y m.
               let made = contained_made (entry_below t last_node.key) k.nodes y (entry_of by y m) in

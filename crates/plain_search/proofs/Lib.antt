@@ -5,6 +5,7 @@ pub mod Shapes
 pub mod Expanding
 pub mod Dropping
 pub mod Posed
+pub mod Moving
 pub mod Offering
 pub mod Concluding
 pub mod Entries

@@ -6,15 +6,17 @@ use Rattle.grid_moves.specs.declared.Cell.{Cell}
 use Rattle.grid_moves.specs.Grid.{GridData, IsGrid, is_free}
 use Rattle.grid_moves.specs.Move.{move_cost}
 use Rattle.grid_moves.proofs.Legal.{free_inside, legal_is}
+use Rattle.grid_moves.proofs.Places.{number_below}
 use Rattle.search_run.specs.Run.{Rule, Taken, IsIn, here, there, IsRun}
 use Rattle.search_run.proofs.Leastness.{least_offer-from}
 use Rattle.best_first.specs.declared.state.State.{State}
+use Rattle.best_first.specs.Space.{SpaceData, IsPlaced}
 use Rattle.best_first.specs.State.{start_at}
 use Rattle.best_first.specs.Rule.{IsPosed, IsSearch, Links, search_rule}
 use Rattle.best_first.proofs.Bounds.{few_taken}
 use Rattle.best_first.proofs.Links.{on_near}
 use Rattle.plain_search.specs.Room.{IsNear}
-use Rattle.plain_search.specs.Rule.{plain_rule, plain_links}
+use Rattle.plain_search.specs.Rule.{plain_links}
 use Rattle.plain_search.proofs.Walks.{AreMoves, plain_are_moves}
 
 -- sides of at most 4096 have at most 2^24 cells
@@ -25,32 +27,52 @@ cells_fit g i = let a = i.sides.narrow in let b = i.sides.low in mul-le-mul b a
 pub free_near : (g : GridData) (c : Cell) → is_free g c ≡ true → IsNear g c
 free_near g c f = on_near g.width g.height c (free_inside g c f)
 
-module _ (g : GridData) (s t : Cell) (link : Links) (are : AreMoves g link) (whole : IsGrid g)
-    (from : is_free g s ≡ true) (to : IsNear g t) where
+-- a search over links that are moves is asked for on a grid, from a free cell to one on it or just beyond
+pub record IsAsked (g : GridData) (s t : Cell) (link : Links) : Type 0 where
+  pub are : AreMoves g link
+  pub whole : IsGrid g
+  pub from : is_free g s ≡ true
+  pub to : IsNear g t
+
+pub plain_asked : (g : GridData) (s t : Cell) → IsGrid g → is_free g s ≡ true → IsNear g t
+    → IsAsked g s t (plain_links g)
+plain_asked g s t whole from to = record { are = plain_are_moves g; whole = whole; from = from; to = to }
+
+-- a free cell has its place in a space of the map's size
+pub placed : (g : GridData) → IsGrid g → (space : SpaceData) → space.width ≡ g.width
+    → space.places ≡ g.height * g.width → (v : Cell) → is_free g v ≡ true
+    → IsPlaced space.width space.places v
+placed g whole space width places v free =
+    let in_map = free_inside g v free in
+    let below = number_below g.width g.height v in_map.0 in_map.1 in
+    let low = whole.sides.low in
+    rw (width, places) (record { column = in_map.0; row = (let y = in_map.1 in omega arith); within = below })
+
+module _ {g : GridData} {s t : Cell} {link : Links} (asked : IsAsked g s t link) where
   abbrev rule : Rule State
   rule = search_rule g.width t link
 
-  posed_by : IsPosed g.width g.height s t link
-  posed_by = record {
-    narrow = whole.sides.narrow;
-    low = whole.sides.low;
-    start_on = free_inside g s from;
-    goal_near = to;
-    links = are.links;
+  pub posed : IsPosed g.width g.height s t link
+  posed = record {
+    narrow = asked.whole.sides.narrow;
+    low = asked.whole.sides.low;
+    start_on = free_inside g s asked.from;
+    goal_near = asked.to;
+    links = asked.are.links;
   }
 
   -- each taken state is that of a free cell's start
-  pub run_free_by : (run : List (Taken State)) → IsRun rule (start_at s) run → (u : Taken State)
+  pub run_free : (run : List (Taken State)) → IsRun rule (start_at s) run → (u : Taken State)
       → IsIn u run → (is_free g u.state.cell ≡ true) × (u.state ≡ start_at u.state.cell)
-  run_free_by [] is u m = absurd is
-  run_free_by (x ∷ []) is u (here z) = rw is (from, refl)
-  run_free_by (x ∷ []) is u (there z e m) = elim m [ ]
-  run_free_by (x ∷ y ∷ earlier) is u (here z) =
+  run_free [] is u m = absurd is
+  run_free (x ∷ []) is u (here z) = rw is (asked.from, refl)
+  run_free (x ∷ []) is u (there z e m) = elim m [ ]
+  run_free (x ∷ y ∷ earlier) is u (here z) =
       let f = least_offer-from rule (y ∷ earlier) x.state
       (record { cost = x.cost; from = x.parent }) is.2.offered in
-      let m = are.moves f.by.state x.state f.offered.step f.offered.linked in
+      let m = asked.are.moves f.by.state x.state f.offered.step f.offered.linked in
       ((legal_is g f.by.state.cell x.state.cell m.legal).target, m.plain)
-  run_free_by (x ∷ y ∷ earlier) is u (there z e m) = run_free_by (y ∷ earlier) is.0 u m
+  run_free (x ∷ y ∷ earlier) is u (there z e m) = run_free (y ∷ earlier) is.0 u m
 
   -- a move more for each state taken, at most
   moves_within : (run : List (Taken State)) → IsRun rule (start_at s) run → (u : Taken State)
@@ -62,7 +84,7 @@ module _ (g : GridData) (s t : Cell) (link : Links) (are : AreMoves g link) (who
       let f = least_offer-from rule (y ∷ earlier) x.state
       (record { cost = x.cost; from = x.parent }) is.2.offered in
       let before = moves_within (y ∷ earlier) is.0 f.by f.member in
-      let step = (are.moves f.by.state x.state f.offered.step f.offered.linked).cost in
+      let step = (asked.are.moves f.by.state x.state f.offered.step f.offered.linked).cost in
       let a : x.cost.a ≡ f.by.cost.a + (move_cost f.by.state.cell x.state.cell).a
       = ap (λ (c : Cost). c.a) f.offered.total ∙ ap (λ (c : Cost). f.by.cost.a + c.a) step in
       let b : x.cost.b ≡ f.by.cost.b + (move_cost f.by.state.cell x.state.cell).b
@@ -80,24 +102,12 @@ module _ (g : GridData) (s t : Cell) (link : Links) (are : AreMoves g link) (who
   moves_within (x ∷ y ∷ earlier) is u (there z e m) =
       let before = moves_within (y ∷ earlier) is.0 u m in omega arith
 
-  pub fit_by : IsSearch g.width g.height s t link
-  fit_by = record {
-    posed = posed_by;
+  pub fit : IsSearch g.width g.height s t link
+  fit = record {
+    posed = posed;
     few = λ run u is m.
         let n = moves_within run is u m in
-        let k = few_taken g.width g.height s t link posed_by run is in
-        let c = cells_fit g whole in
+        let k = few_taken posed run is in
+        let c = cells_fit g asked.whole in
         omega arith;
   }
-
-module _ (g : GridData) (s t : Cell) (whole : IsGrid g) (from : is_free g s ≡ true) (to : IsNear g t) where
-  -- the plain search
-  pub fit : IsSearch g.width g.height s t (plain_links g)
-  fit = fit_by g s t (plain_links g) (plain_are_moves g) whole from to
-
-  pub posed : IsPosed g.width g.height s t (plain_links g)
-  posed = fit.posed
-
-  pub run_free : (run : List (Taken State)) → IsRun (plain_rule g t) (start_at s) run → (u : Taken State)
-      → IsIn u run → (is_free g u.state.cell ≡ true) × (u.state ≡ start_at u.state.cell)
-  run_free = run_free_by g s t (plain_links g) (plain_are_moves g) whole from to

@@ -42,7 +42,7 @@ short_cost : (p q : Cost) → HasShortParts (add_costs p q) → HasShortParts p
 short_cost p q h = let a = h.straight in let b = h.diagonal in
     record { straight = omega arith; diagonal = omega arith }
 
-module _ (g : GridData) (t : Cell) (run : List (Taken State)) (best : Offers) (k : Table)
+module _ (g : GridData) {t : Cell} {run : List (Taken State)} {best : Offers} {k : Table}
     (m : Mirrors ByCell g.width t (plain_links g) run best k) where
   -- each node's key is the rank of its offer's cost and of the estimate
   key_of : (id : ℕ) (n : Node) (e : slice_get k.nodes id ≡ Some n)

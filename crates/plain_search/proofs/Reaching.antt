@@ -16,15 +16,14 @@ use Rattle.search_run.proofs.Leastness.{taken_state, all_taken}
 use Rattle.best_first.specs.declared.state.State.{State}
 use Rattle.best_first.specs.Progress.{numbers_of}
 use Rattle.best_first.specs.State.{start_at, state_number}
-use Rattle.best_first.proofs.Bounds.{state_below, apart_run}
+use Rattle.best_first.proofs.Bounds.{member, state_below, apart_run}
 use Rattle.plain_search.specs.Answer.{IsExhausted}
 use Rattle.plain_search.specs.Lists.{AreReached}
 use Rattle.plain_search.specs.Listing.{AreOn, IsSortedFrom, cell_of, place_number}
-use Rattle.plain_search.specs.Room.{IsNear}
 use Rattle.plain_search.specs.Rule.{plain_rule, plain_links}
 use Rattle.plain_search.proofs.Ascending.{ascending, distinct_made, filter_map-some, one_place_number}
 use Rattle.plain_search.proofs.Entries.{made_contained, contained_made}
-use Rattle.plain_search.proofs.Posed.{posed, run_free}
+use Rattle.plain_search.proofs.Posed.{IsAsked, posed, run_free}
 use Rattle.plain_search.proofs.Right.{way}
 use Rattle.plain_search.proofs.Walks.{plain_are_moves, plain_consistent, walk_chain}
 
@@ -46,14 +45,6 @@ in_place [] u m = elim m [ ]
 in_place (x ∷ run) u (here e) = (0, refl)
 in_place (x ∷ run) u (there z e m) = let i = in_place run u m in (suc i.0, i.1)
 
-pub member_at : (run : List (Taken State)) (i : ℕ) (u : Taken State) → slice_get run i ≡ Some u → IsIn u run
-member_at [] i u h = absurd (cc)
-member_at (x ∷ run) zero u h = subst (λ (w : Taken State). IsIn w (x ∷ run)) (some_one x u h) (here run)
-  where
-    some_one : (a b : Taken State) → Some a ≡ Some b → a ≡ b
-    some_one a b q = ap (λ (o : Option (Taken State)). elim o as (λ _. Taken State) [ Some v ↦ v | None ↦ a ]) q
-member_at (x ∷ run) (suc i) u h = there x run (member_at run i u h)
-
 contained_at : {X : Type 0} (xs : List X) (k : ℕ) (x : X) → slice_get xs k ≡ Some x → Contains xs x
 contained_at xs k x h = (k, slice_get_within xs k x h, get_or_from_slice_get xs k x x h)
 
@@ -64,16 +55,16 @@ taken_cell u = Some u.state.cell
 abbrev number : ℕ → Taken State → ℕ
 number width u = state_number width u.state
 
-module _ (g : GridData) (s t : Cell) (whole : IsGrid g) (from : is_free g s ≡ true) (to : IsNear g t)
-    (taken : List ℕ) (x : IsExhausted g s t taken) where
+module _ {g : GridData} {s t : Cell} (asked : IsAsked g s t (plain_links g)) {taken : List ℕ}
+    (x : IsExhausted g s t taken) where
   plain_at : (u : Taken State) → IsIn u x.run → (is_free g u.state.cell ≡ true) × (u.state ≡ start_at u.state.cell)
-  plain_at u m = run_free g s t whole from to x.run x.is_run u m
+  plain_at u m = run_free asked x.run x.is_run u m
 
   number_at : (u : Taken State) → IsIn u x.run → state_number g.width u.state < 65536 * g.width * 9
   number_at u m =
       let f = free_inside g u.state.cell (plain_at u m).0 in
       let below = state_below g.width g.height u.state (f.0, f.1) in
-      let low = whole.sides.low in
+      let low = asked.whole.sides.low in
       spread g.height g.width (state_number g.width u.state) low below
     where
       spread : (h w n : ℕ) → h ≤ 4096 → n < h * w * 9 → n < 65536 * w * 9
@@ -89,7 +80,7 @@ module _ (g : GridData) (s t : Cell) (whole : IsGrid g) (from : is_free g s ≡ 
       (subst (λ (ns : List ℕ). Contains ns n) e c) in
       let made = contained_made (λ u. Some (number g.width u)) x.run n
       (subst (λ (ns : List ℕ). Contains ns n) (sym (filter_map-some (number g.width) x.run)) m) in
-      (made.from, member_at x.run made.place made.from made.from_is, some_one (number g.width made.from) n made.made)
+      (made.from, member x.run made.place made.from made.from_is, some_one (number g.width made.from) n made.made)
     where
       some_one : (a b : ℕ) → Some a ≡ Some b → a ≡ b
       some_one a b q = ap (λ (o : Option ℕ). elim o as (λ _. ℕ) [ Some v ↦ v | None ↦ a ]) q
@@ -131,7 +122,7 @@ module _ (g : GridData) (s t : Cell) (whole : IsGrid g) (from : is_free g s ≡ 
         let made = contained_made taken_cell x.run c
         (Contains-permutation reached (filter_map taken_cell x.run) c
         (IsPermutation-sym (filter_map taken_cell x.run) reached joined) m) in
-        (made.from, member_at x.run made.place made.from made.from_is, some_one made.from.state.cell c made.made)
+        (made.from, member x.run made.place made.from made.from_is, some_one made.from.state.cell c made.made)
       where
         some_one : (a b : Cell) → Some a ≡ Some b → a ≡ b
         some_one a b q = ap (λ (o : Option Cell). elim o as (λ _. Cell) [ Some v ↦ v | None ↦ a ]) q
@@ -142,15 +133,15 @@ module _ (g : GridData) (s t : Cell) (whole : IsGrid g) (from : is_free g s ≡ 
     one_made i j a b y z p q r w e =
         let first : a.state.cell ≡ y = some_one a.state.cell y r in
         let second : b.state.cell ≡ z = some_one b.state.cell z w in
-        let pa = plain_at a (member_at x.run i a p) in
-        let pb = plain_at b (member_at x.run j b q) in
+        let pa = plain_at a (member x.run i a p) in
+        let pb = plain_at b (member x.run j b q) in
         let fa = free_inside g a.state.cell pa.0 in
         let fb = free_inside g b.state.cell pb.0 in
-        let narrow = whole.sides.narrow in
+        let narrow = asked.whole.sides.narrow in
         let same : a.state.cell ≡ b.state.cell = one_place_number a.state.cell b.state.cell
         (wide a.state.cell.x g.width fa.0 narrow) (wide b.state.cell.x g.width fb.0 narrow)
         (ap place_number first ∙ e ∙ sym (ap place_number second)) in
-        apart_run g.width g.height s t (plain_links g) (posed g s t whole from to) x.run x.is_run i j a b p q
+        apart_run (posed asked) x.run x.is_run i j a b p q
         (pa.1 ∙ ap (λ (c : Cell). start_at c) same ∙ sym pb.1)
       where
         some_one : (a b : Cell) → Some a ≡ Some b → a ≡ b
@@ -163,7 +154,7 @@ module _ (g : GridData) (s t : Cell) (whole : IsGrid g) (from : is_free g s ≡ 
     are_reached = record {
       only = λ c m.
           let u = source c m in
-          let w = way g t (plain_links g) (plain_are_moves g) s x.run from x.is_run u.0 u.1 in
+          let w = way g t (plain_links g) (plain_are_moves g) s x.run asked.from x.is_run u.0 u.1 in
           record { cells = w.cells; walk = record { legal = w.goes.legal; ends = w.goes.ends ∙ u.2 } };
       all = λ c cells w.
           let chain = walk_chain g t s cells w.legal in
@@ -175,7 +166,7 @@ module _ (g : GridData) (s t : Cell) (whole : IsGrid g) (from : is_free g s ≡ 
           Contains-permutation (filter_map taken_cell x.run) reached c joined
           (made_contained taken_cell x.run i.0 u.0 c i.1 (ap (λ (d : Cell). Some d) cell));
       ascend = ascending (λ c. c) g.width (filter_map taken_cell x.run) reached
-          (let n = whole.sides.narrow in omega arith)
+          (let n = asked.whole.sides.narrow in omega arith)
           (record { permutation = joined; ordered = by.ordered })
           (distinct_made taken_cell place_number x.run one_made)
           (λ c m. (let u = source c m in

@@ -31,9 +31,9 @@ use Rattle.best_first.specs.Table.{Table, node_for, offered, ClosedBelow}
 use Rattle.best_first.specs.Ways.{Onward, IsAmong, first, later, with_onward, with_all}
 use Rattle.best_first.proofs.Links.{on_near}
 use Rattle.best_first.proofs.Offering.{rank-add_costs}
-use Rattle.best_first.proofs.Searching.{closed_below, key_rises, one_more}
+use Rattle.best_first.proofs.Searching.{IsOver, closed_below, key_rises, one_more}
 use Rattle.best_first.proofs.States.{same_state}
-use Rattle.best_first.proofs.Ways.{AreOfLinks, AreEnough, offers_after}
+use Rattle.best_first.proofs.Ways.{of_among, AreOfLinks, AreEnough, offers_after}
 use Rattle.search_core.specs.Jumps.{come_to, jump_link, jump_links, jump_rule}
 use Rattle.search_core.specs.Jumping.{offer_after, column_after, row_after, jumped_in, jumped, IsAt, IsOffering}
 use Rattle.search_core.specs.declared.jumping.Last.{Last}
@@ -67,11 +67,6 @@ in_all S = then _ _ (then _ _ (then _ _ (then _ _ (now _))))
 in_all SW = then _ _ (then _ _ (then _ _ (then _ _ (then _ _ (now _)))))
 in_all W = then _ _ (then _ _ (then _ _ (then _ _ (then _ _ (then _ _ (now _))))))
 in_all NW = then _ _ (then _ _ (then _ _ (then _ _ (then _ _ (then _ _ (then _ _ (now _)))))))
-
--- one of these ways is the first or one of the others
-parted : (w v : Onward) (ways : List Onward) → IsAmong w (v ∷ ways) → (w ≡ v) ⊎ IsAmong w ways
-parted w v ways (first _) = inl refl
-parted w v ways (later _ _ i) = inr i
 
 module _ (p : Dir → Bool) where
   -- those that pass a test pass it
@@ -182,11 +177,8 @@ module _ (g : GridData) (s t : Cell) where
             → ((v : Onward) → IsAmong v (ways_in dirs) → jump_link g t last.state v.to ≡ Some v.cost)
             → IsAmong w (with_jump d o (ways_in dirs)) → jump_link g t last.state w.to ≡ Some w.cost
         by_stop None e next i = next w i
-        by_stop (Some n) e next i = elim (parted w (way_after d n) (ways_in dirs) i) [
-          | inl same ↦ subst (λ (v : Onward). jump_link g t last.state v.to ≡ Some v.cost) (sym same)
-              (jump_linked d n a.0 e)
-          | inr j ↦ next w j
-        ]
+        by_stop (Some n) e next i =
+            of_among (λ (v : Onward). jump_link g t last.state v.to ≡ Some v.cost) (jump_linked d n a.0 e) (next w) i
 
     each_among : (dirs : List Dir) (d : Dir) (n : ℕ) → first_stop g t last.state.cell d ≡ Some n
         → IsOneOf d dirs → IsAmong (way_after d n) (ways_in dirs)
@@ -228,19 +220,19 @@ module _ (g : GridData) (s t : Cell) where
       module _ (best : Offers) (k : Table) (i : IsAt g s t last latest earlier best k) (d : Dir) (n : ℕ)
           (a : is_allowed g last.state.cell (come_to last.state.arrival) d ≡ true)
           (e : first_stop g t last.state.cell d ≡ Some n) where
-        linked : jump_link g t latest.state (offer_after last d n).to ≡ Some (run_cost d n)
-        linked = ap (λ (u : State). jump_link g t u (offer_after last d n).to) i.state ∙ jump_linked d n a e
-
-        ranked : (offer_after last d n).rank ≡ rank_of (add_costs latest.cost (run_cost d n))
-        ranked = ap (λ (r : ℕ). r + rank_of (run_cost d n)) i.ranked
-            ∙ sym (rank-add_costs latest.cost (run_cost d n))
+        over : IsOver ByArrival (jump_links g t) latest last.at (offer_after last d n) (run_cost d n)
+        over = record {
+          linked = ap (λ (u : State). jump_link g t u (offer_after last d n).to) i.state ∙ jump_linked d n a e;
+          ranked = ap (λ (r : ℕ). r + rank_of (run_cost d n)) i.ranked
+              ∙ sym (rank-add_costs latest.cost (run_cost d n));
+          parent = refl;
+          led = refl;
+        }
 
         one_offer : IsAt g s t last latest earlier (with_onward latest best (way_after d n))
             (offered ByArrival t (offer_after last d n) k)
         one_offer = record {
-          searching = one_more ByArrival g.width g.height s t (jump_links g t) (fit whole from to) latest
-              earlier
-              last.at best k i.searching (offer_after last d n) (run_cost d n) linked ranked refl refl;
+          searching = one_more (fit whole from to) i.searching (offer_after last d n) (run_cost d n) over;
           state = i.state;
           ranked = i.ranked;
         }
@@ -248,12 +240,8 @@ module _ (g : GridData) (s t : Cell) where
         -- no closed node has a greater key
         closed : ClosedBelow (node_for t (offer_after last d n)).key k
         closed =
-            let below = closed_below ByArrival g.width g.height s t (jump_links g t) (fit whole from to)
-            latest
-            earlier last.at best k i.searching in
-            let rises = key_rises ByArrival g.width g.height s t (jump_links g t) (fit whole from to) latest
-            earlier
-            last.at best k i.searching (offer_after last d n) (run_cost d n) linked ranked refl refl in
+            let below = closed_below (fit whole from to) i.searching in
+            let rises = key_rises (fit whole from to) i.searching (offer_after last d n) (run_cost d n) over in
             record {
               flags = below.flags;
               below = λ id m h f. let most = below.below id m h f in omega arith;

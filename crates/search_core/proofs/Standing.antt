@@ -52,7 +52,7 @@ module _ (Stands : GridData → Type 0) (s t : Cell) (g : GridData) (served : Is
         };
         has = subst (λ (k : Table). HasTaken ByArrival g.width t (jump_links g t) s 0 k taken) (sym table)
             (subst (λ (ns : List ℕ). HasTaken ByArrival g.width t (jump_links g t) s 0 (begun t s) ns) (sym first)
-            (has_begun ByArrival g.width g.height s t (jump_links g t) (fit g s t whole served.from served.to)));
+            (has_begun (fit g s t whole served.from served.to) ByArrival));
       }
     where
       first : taken ≡ state_number g.width (start_at s) ∷ []
@@ -76,10 +76,8 @@ module _ (Stands : GridData → Type 0) (s t : Cell) (g : GridData) (served : Is
 
       key_is : n.key ≡ rank_of h.has.last.cost + rank_of (estimate (node_cell n) t)
       key_is =
-          taken_key ByArrival g.width g.height s t (jump_links g t) (fit g s t whole served.from served.to)
-          h.has.last h.has.earlier at (least_offer (jump_rule g t) h.has.earlier) space.table
-          h.has.searching at n
-          read h.has.last (here h.has.earlier) state_is
+          taken_key (fit g s t whole served.from served.to) h.has.searching at n read h.has.last
+          (here h.has.earlier) state_is
           ∙ rank-add_costs h.has.last.cost (estimate h.has.last.state.cell t)
           ∙ ap (λ (u : State). rank_of h.has.last.cost + rank_of (estimate u.cell t)) state_is
 
@@ -168,9 +166,7 @@ module _ (Stands : GridData → Type 0) (s t : Cell) (g : GridData) (served : Is
   pub none_waits : (at : ℕ) (k : Table) (taken : List ℕ) → IsGrid g
       → HasOffered ByArrival g.width t (jump_links g t) s at k taken → NoneOpen k → IsExhausted g s t taken
   none_waits at k taken whole o none =
-      exhausted ByArrival g.width g.height s t (jump_links g t) (fit g s t whole served.from served.to) at k
-      taken o
-      none
+      exhausted (fit g s t whole served.from served.to) o none
 
   -- the next state
   pub record HasNext (id : ℕ) (node : Node) (k : Table) (taken : List ℕ) : Type 0 where
@@ -183,8 +179,7 @@ module _ (Stands : GridData → Type 0) (s t : Cell) (g : GridData) (served : Is
       → HasOffered ByArrival g.width t (jump_links g t) s at k taken → (id : ℕ) (node : Node)
       → IsFirstNode k id → slice_get k.nodes id ≡ Some node → HasNext id node k taken
   has_next at k taken whole o id node first read =
-      let has = next_taken ByArrival g.width g.height s t (jump_links g t)
-      (fit g s t whole served.from served.to) at k taken o id node first read in
+      let has = next_taken (fit g s t whole served.from served.to) o id node first read in
       let one : has.searching.node ≡ node =
       ap (λ (q : Option Node). elim q as (λ _. Node) [ Some x ↦ x | None ↦ node ])
       (sym has.searching.node_is ∙ read) in
@@ -216,22 +211,20 @@ module _ (Stands : GridData → Type 0) (s t : Cell) (g : GridData) (served : Is
   module _ (at : ℕ) (space : SpaceData) (taken : List ℕ) (h : HasReached g s t at space taken) where
     -- the way back from the last state
     pub leads_back : HasBack t space.table.nodes at
-    leads_back = has_back ByArrival g.width g.height s t (jump_links g t)
-        (fit g s t h.of.whole served.from served.to) at space.table taken h.has
+    leads_back = has_back (fit g s t h.of.whole served.from served.to) h.has
 
     -- where it is the goal's, it is the answer
     pub found_at : ((n : Node) → slice_get space.table.nodes at ≡ Some n → node_cell n ≡ t)
         → (points : List Cell) (cost : Cost) → IsWayTo t space.table.nodes at points cost
         → IsFound g s t points cost taken
     found_at at_goal points cost way =
-        found_back ByArrival g.width g.height s t (jump_links g t) (fit g s t h.of.whole served.from served.to)
-        (λ cells. cells) at space.table taken h.has at_goal points points cost way refl
+        found_back (fit g s t h.of.whole served.from served.to) (λ cells. cells) h.has at_goal points points cost way
+        refl
 
     -- there are at most nine states for each of 2^24 cells
     pub few_taken : length taken ≤ 150994944
     few_taken =
-        let fits = taken_fits ByArrival g.width g.height s t (jump_links g t)
-        (fit g s t h.of.whole served.from served.to) at space.table taken h.has in
+        let fits = taken_fits (fit g s t h.of.whole served.from served.to) h.has in
         let cells : g.height * g.width ≤ 16777216 =
         (let a = h.of.whole.sides.narrow in let b = h.of.whole.sides.low in mul-le-mul b a) in
         omega arith

@@ -8,16 +8,19 @@ use Rattle.best_first.specs.State.{state_number, start_at}
 use Rattle.best_first.specs.Table.{Table, closed_at}
 use Rattle.best_first.specs.Trace.{node_cell}
 use Rattle.goal_boxes.specs.Progress.{HasTaken}
-use Rattle.goal_boxes.proofs.Concluding.{may_go_on, goes_on, next_free, has_stopped}
+use Rattle.best_first.proofs.Progress.{exhausted, next_taken}
+use Rattle.plain_search.proofs.Concluding.{taken_free}
+use Rattle.plain_search.proofs.Posed.{fit}
 use Rattle.plain_search.proofs.Shapes.{ready_on}
+use Rattle.goal_boxes.proofs.Concluding.{may_go_on, has_offered}
+use Rattle.goal_boxes.proofs.Moves.{boxed_asked}
 use Rattle.goal_boxes.proofs.boxed.advance.Goals as goal
 
 pub offer_all-requires-clause-may : goal.offer_all-requires-clause-may
 offer_all-requires-clause-may g c = λ n h.
     let grid = g.T.Terrain.grid c.args.t.now in
-    let k = c.args.space.now.table in
-    may_go_on grid g.K.Meant.boxes c.args.ends.from c.args.ends.to c.requires.whole c.requires.from c.requires.to c.args.at k
-    c.args.taken.now c.requires.taken c.reserve.new.self c.reserve.ensures.table
+    let asked = boxed_asked grid g.K.Meant.boxes c.args.ends.from c.args.ends.to c.requires.whole c.requires.from c.requires.to in
+    may_go_on g.K.Meant.boxes asked c.requires.taken c.reserve.new.self c.reserve.ensures.table
     (ready_on {a = c.args.space.now} {b = c.reserve.new.self} grid c.requires.ready c.reserve.ensures.shape) n
     (ap (λ (l : Table). slice_get l.nodes c.args.at) (sym c.reserve.ensures.table) ∙ h)
 
@@ -34,42 +37,40 @@ node-requires g c =
 pub state_at-requires : goal.state_at-requires
 state_at-requires g c =
     let grid = g.T.Terrain.grid c.args.t.now in
-    let k = c.reserve.new.self.table in
-    let taken = subst (λ (l : Table). HasTaken grid g.K.Meant.boxes c.args.ends.from c.args.ends.to c.args.at l c.args.taken.now)
-    (sym c.reserve.ensures.table) c.requires.taken in
+    let asked = boxed_asked grid g.K.Meant.boxes c.args.ends.from c.args.ends.to c.requires.whole c.requires.from c.requires.to in
+    let taken = subst (λ (l : Table). HasTaken grid g.K.Meant.boxes c.args.ends.from c.args.ends.to c.args.at l
+    c.args.taken.now) (sym c.reserve.ensures.table) c.requires.taken in
     let read = ap (λ (ns : List Node). slice_get ns c.in-Some.next) (sym c.take_next.ensures.nodes)
     ∙ c.node.ensures in
-    ap (λ (u : Cell). is_free grid u) c.cell.ensures
-    ∙ next_free grid g.K.Meant.boxes c.args.ends.from c.args.ends.to c.requires.whole c.requires.from c.requires.to c.args.at k
-    c.args.taken.now taken c.offer_all.new.space.table
+    let offered = has_offered g.K.Meant.boxes asked taken c.offer_all.new.space.table
     (λ n h. c.requires.open_ended n (ap (λ (l : Table). slice_get l.nodes c.args.at)
-    (sym c.reserve.ensures.table) ∙ h)) c.offer_all.ensures.expanded c.in-Some.next c.node.result
-    c.in-Some.ensures.first read
+    (sym c.reserve.ensures.table) ∙ h)) c.offer_all.ensures.expanded in
+    let on = next_taken (fit asked) offered c.in-Some.next c.node.result c.in-Some.ensures.first read in
+    ap (λ (u : Cell). is_free grid u) c.cell.ensures ∙ taken_free asked on c.node.result read
 
 pub returns-in-None-clause-goes_on : goal.returns-in-None-clause-goes_on
 returns-in-None-clause-goes_on g c =
     let grid = g.T.Terrain.grid c.args.t.now in
-    let k = c.reserve.new.self.table in
-    let taken = subst (λ (l : Table). HasTaken grid g.K.Meant.boxes c.args.ends.from c.args.ends.to c.args.at l c.args.taken.now)
-    (sym c.reserve.ensures.table) c.requires.taken in
-    has_stopped grid g.K.Meant.boxes c.args.ends.from c.args.ends.to c.requires.whole c.requires.from c.requires.to c.args.at k
-    c.args.taken.now taken c.offer_all.new.space.table
+    let asked = boxed_asked grid g.K.Meant.boxes c.args.ends.from c.args.ends.to c.requires.whole c.requires.from c.requires.to in
+    let taken = subst (λ (l : Table). HasTaken grid g.K.Meant.boxes c.args.ends.from c.args.ends.to c.args.at l
+    c.args.taken.now) (sym c.reserve.ensures.table) c.requires.taken in
+    let offered = has_offered g.K.Meant.boxes asked taken c.offer_all.new.space.table
     (λ n h. c.requires.open_ended n (ap (λ (l : Table). slice_get l.nodes c.args.at)
-    (sym c.reserve.ensures.table) ∙ h)) c.offer_all.ensures.expanded c.in-None.ensures.none
+    (sym c.reserve.ensures.table) ∙ h)) c.offer_all.ensures.expanded in
+    exhausted (fit asked) offered c.in-None.ensures.none
 
 pub returns-in_ok-push-in-Some-clause-goes_on : goal.returns-in_ok-push-in-Some-clause-goes_on
 returns-in_ok-push-in-Some-clause-goes_on g c =
     let grid = g.T.Terrain.grid c.args.t.now in
-    let k = c.reserve.new.self.table in
-    let taken = subst (λ (l : Table). HasTaken grid g.K.Meant.boxes c.args.ends.from c.args.ends.to c.args.at l c.args.taken.now)
-    (sym c.reserve.ensures.table) c.requires.taken in
+    let asked = boxed_asked grid g.K.Meant.boxes c.args.ends.from c.args.ends.to c.requires.whole c.requires.from c.requires.to in
+    let taken = subst (λ (l : Table). HasTaken grid g.K.Meant.boxes c.args.ends.from c.args.ends.to c.args.at l
+    c.args.taken.now) (sym c.reserve.ensures.table) c.requires.taken in
     let read = ap (λ (ns : List Node). slice_get ns c.in-Some.next) (sym c.take_next.ensures.nodes)
     ∙ c.node.ensures in
-    let on = goes_on grid g.K.Meant.boxes c.args.ends.from c.args.ends.to c.requires.whole c.requires.from c.requires.to c.args.at
-    k c.args.taken.now taken c.offer_all.new.space.table
+    let offered = has_offered g.K.Meant.boxes asked taken c.offer_all.new.space.table
     (λ n h. c.requires.open_ended n (ap (λ (l : Table). slice_get l.nodes c.args.at)
-    (sym c.reserve.ensures.table) ∙ h)) c.offer_all.ensures.expanded c.in-Some.next c.node.result
-    c.in-Some.ensures.first read in
+    (sym c.reserve.ensures.table) ∙ h)) c.offer_all.ensures.expanded in
+    let on = next_taken (fit asked) offered c.in-Some.next c.node.result c.in-Some.ensures.first read in
     let pushed : c.push.new.self
     ≡ c.args.taken.now ++ state_number grid.width (start_at (node_cell c.node.result)) ∷ []
     = c.in_ok-push-in-Some.ensures.pushed

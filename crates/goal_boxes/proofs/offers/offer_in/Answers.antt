@@ -1,11 +1,11 @@
 use Rattle.std.proofs.Common.{sym, ◌∙◌}
-use Rattle.goal_boxes.proofs.Shapes.{placed_on}
+use Rattle.plain_search.proofs.Shapes.{still}
 use Rattle.goal_boxes.proofs.offers.offer_in.Goals as goal
 
 pub offer_over-requires-clause-may : goal.offer_over-requires-clause-may
 offer_over-requires-clause-may g c = λ v e.
-    let p = c.requires.may _ v (sym c.toward-to.ensures ∙ e) in
-    (placed_on {a = c.args.space.now} {b = c.loop-d.space} c.loop-d.invariant.shape v p.0, p.1)
+    still {a = c.args.space.now} {b = c.loop-d.space} c.loop-d.invariant.shape (c.requires.may _ v)
+    (sym c.toward-to.ensures ∙ e)
 
 pub toward-to-requires : goal.toward-to-requires
 toward-to-requires g c = c.requires.boxes _

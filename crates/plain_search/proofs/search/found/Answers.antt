@@ -1,20 +1,22 @@
 use Rattle.std.proofs.Common.{◌∙◌, ap}
 use Rattle.path_points.specs.Corners.{corners}
-use Rattle.plain_search.proofs.Concluding.{leads_back, is_found}
+use Rattle.best_first.proofs.Answering.{found_back}
+use Rattle.best_first.proofs.Progress.{has_back}
+use Rattle.plain_search.proofs.Posed.{plain_asked, fit}
 use Rattle.plain_search.proofs.Right.{found_least}
 use Rattle.plain_search.proofs.search.found.Goals as goal
 
 pub way_to-requires : goal.way_to-requires
 way_to-requires g c =
-    leads_back (g.T.Terrain.grid c.args.t.now) c.args.ends.from c.args.ends.to c.requires.whole c.requires.from
-    c.requires.to c.args.at c.args.space.now.table c.args.taken c.requires.taken
+    has_back (fit (plain_asked (g.T.Terrain.grid c.args.t.now) c.args.ends.from c.args.ends.to c.requires.whole
+    c.requires.from c.requires.to)) c.requires.taken
 
 pub returns : goal.returns
 returns g c =
     let grid = g.T.Terrain.grid c.args.t.now in
-    let run = is_found grid c.args.ends.from c.args.ends.to c.requires.whole c.requires.from
-    c.requires.to c.args.at c.args.space.now.table c.args.taken c.requires.taken c.in_ok-points.points
-    c.in_ok-way.way.points c.in_ok-way.way.cost c.requires.goal c.in_ok-way.ensures
+    let asked = plain_asked grid c.args.ends.from c.args.ends.to c.requires.whole c.requires.from c.requires.to in
+    let run = found_back (fit asked) corners c.requires.taken c.requires.goal c.in_ok-points.points
+    c.in_ok-way.way.points c.in_ok-way.way.cost c.in_ok-way.ensures
     (c.in_ok-points.ensures ∙ ap corners c.as_slice.ensures) in
     record {
       run = run;

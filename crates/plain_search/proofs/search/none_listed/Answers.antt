@@ -1,14 +1,15 @@
 use Rattle.std.proofs.Common.{◌≡◌, ◌∙◌, sym, subst, ap, map, ℕ, List}
 use Rattle.grid_moves.specs.declared.Cell.{Cell}
 use Rattle.plain_search.specs.Listing.{AreOn, IsSortedFrom, cell_of}
+use Rattle.plain_search.proofs.Posed.{plain_asked}
 use Rattle.plain_search.proofs.Reaching.{are_on, are_reached}
 use Rattle.plain_search.proofs.Right.{exhausted_none}
 use Rattle.plain_search.proofs.search.none_listed.Goals as goal
 
 pub reached_cells-requires-clause-on : goal.reached_cells-requires-clause-on
 reached_cells-requires-clause-on g c =
-    let on = are_on (g.T.Terrain.grid c.args.t.now) c.args.ends.from c.args.ends.to c.requires.whole c.requires.from
-    c.requires.to c.args.taken c.requires.taken in
+    let on = are_on (plain_asked (g.T.Terrain.grid c.args.t.now) c.args.ends.from c.args.ends.to c.requires.whole
+    c.requires.from c.requires.to) c.requires.taken in
     subst (λ (w : ℕ). AreOn w c.as_slice.result.now) (sym c.width.ensures.is)
     (subst (λ (ns : List ℕ). AreOn (g.T.Terrain.grid c.args.t.now).width ns) (sym c.as_slice.ensures) on)
 
@@ -22,7 +23,7 @@ returns-clause-lists g c =
     let same : map (cell_of c.width.result) c.as_slice.result.now ≡ map (cell_of w) c.args.taken =
     ap (λ (n : ℕ). map (cell_of n) c.as_slice.result.now) c.width.ensures.is
     ∙ ap (λ (ns : List ℕ). map (cell_of w) ns) c.as_slice.ensures in
-    are_reached (g.T.Terrain.grid c.args.t.now) c.args.ends.from c.args.ends.to c.requires.whole c.requires.from
-    c.requires.to c.args.taken c.requires.taken c.in_ok-reached.reached
+    are_reached (plain_asked (g.T.Terrain.grid c.args.t.now) c.args.ends.from c.args.ends.to c.requires.whole
+    c.requires.from c.requires.to) c.requires.taken c.in_ok-reached.reached
     (subst (λ (cs : List Cell). IsSortedFrom (λ (d : Cell). d) cs c.in_ok-reached.reached) same
     c.in_ok-reached.ensures)
