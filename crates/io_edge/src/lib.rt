@@ -17,8 +17,6 @@ mod memory;
 mod outside;
 mod real;
 mod sure;
-#[cfg(test)]
-mod tests;
 mod whole;
 
 /// Want of memory.

@@ -19,6 +19,3 @@ mod making;
 pub use drill::drill_script;
 pub use making::make;
 pub use std::alloc::AllocError as NoMemory;
-
-#[cfg(test)]
-mod tests;

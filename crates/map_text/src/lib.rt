@@ -33,6 +33,3 @@ pub use map::MapText;
 pub use reading::read_map;
 pub use std::alloc::AllocError as NoMemory;
 pub use writing::write_map;
-
-#[cfg(test)]
-mod tests;

@@ -23,8 +23,6 @@ mod heap;
 mod links;
 mod order;
 mod pool;
-#[cfg(test)]
-mod tests;
 
 pub use order::Ranked;
 pub use pool::Pool;

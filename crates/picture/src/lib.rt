@@ -20,6 +20,3 @@ pub use answer::Walk;
 pub use drawing::draw;
 pub use kinds::Ground;
 pub use std::alloc::AllocError as NoMemory;
-
-#[cfg(test)]
-mod tests;

@@ -29,6 +29,3 @@ pub use fault::CertFault;
 pub use reading::read_certificate;
 pub use std::alloc::AllocError as NoMemory;
 pub use verdict::{Proof, Reject};
-
-#[cfg(test)]
-mod tests;

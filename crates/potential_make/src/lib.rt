@@ -11,8 +11,3 @@ mod writing;
 
 pub use std::alloc::AllocError as NoMemory;
 pub use writing::certificate;
-
-#[cfg(test)]
-mod changed_bytes;
-#[cfg(test)]
-mod tests;

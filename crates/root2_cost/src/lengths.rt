@@ -72,26 +72,3 @@ fn excess(length: Decimal, cost: Cost) -> Signed
         b: -(diagonal as i64),
     }
 }
-
-#[cfg(test)]
-mod tests {
-    use super::*;
-
-    // 2 + √2 is 3.41421356..
-    #[test]
-    fn a_length_is_judged_by_its_decimals(rt: HostRuntime) {
-        let cost = Cost { a: 2, b: 1 };
-        for (digits, places, verdict) in [
-            (341421, 5, Verdict::Agree),
-            (341420, 5, Verdict::Near),
-            (3405, 3, Verdict::Near),
-            (3404, 3, Verdict::Off),
-            (340, 2, Verdict::Off),
-            (34, 1, Verdict::Agree),
-            (5, 0, Verdict::Off),
-        ] {
-            let length = Decimal { digits, places };
-            assert_eq!(rt; judge(length, cost), verdict, "{length:?}");
-        }
-    }
-}

@@ -239,39 +239,3 @@ impl Signed {
         }
     }
 }
-
-#[cfg(test)]
-mod tests {
-    use super::*;
-
-    fn cost(a: u32, b: u32) -> Cost {
-        Cost { a, b }
-    }
-
-    // 1414 / 1000 is just below √2, and 99 / 70 just above.
-    #[test]
-    fn costs_compare_by_value(rt: HostRuntime) {
-        for (x, y, order) in [
-            (cost(1414, 0), cost(0, 1000), Ordering::Less),
-            (cost(99, 0), cost(0, 70), Ordering::Greater),
-            (cost(4, 1), cost(1, 3), Ordering::Greater),
-            (cost(3, 2), cost(3, 2), Ordering::Equal),
-        ] {
-            assert_eq!(rt; cmp(x, y), order, "{x:?} and {y:?}");
-        }
-    }
-
-    #[test]
-    fn a_difference_has_a_sign(rt: HostRuntime) {
-        assert_eq!(rt; cost(7, 0).minus(cost(0, 5)).sign(), Ordering::Less);
-        assert_eq!(rt; cost(0, 5).minus(cost(7, 0)).sign(), Ordering::Greater);
-        assert_eq!(rt; cost(3, 2).minus(cost(3, 2)).sign(), Ordering::Equal);
-    }
-
-    #[test]
-    fn distances_go_diagonally_first(rt: HostRuntime) {
-        assert_eq!(rt; octile(5, 2), cost(3, 2));
-        assert_eq!(rt; octile(2, 5), cost(3, 2));
-        assert_eq!(rt; octile(4, 4).add(octile(0, 3)), cost(3, 4));
-    }
-}

@@ -60,29 +60,3 @@ impl Signed {
         self.a * STRAIGHT_RANK as i64 + self.b * DIAGONAL_RANK as i64
     }
 }
-
-#[cfg(test)]
-mod tests {
-    use super::*;
-
-    // 1414 / 1000 is just below √2 and 99 / 70 just above; 1855077841² is 2 · 1311738121² − 1.
-    #[test]
-    fn ranks_order_costs_that_are_close(rt: HostRuntime) {
-        for (less, more) in [
-            (Cost { a: 1414, b: 0 }, Cost { a: 0, b: 1000 }),
-            (Cost { a: 0, b: 70 }, Cost { a: 99, b: 0 }),
-            (
-                Cost {
-                    a: 1_855_077_841,
-                    b: 0,
-                },
-                Cost {
-                    a: 0,
-                    b: 1_311_738_121,
-                },
-            ),
-        ] {
-            assert!(rt; less.rank() < more.rank(), "{less:?} and {more:?}");
-        }
-    }
-}

@@ -28,6 +28,3 @@ pub use entry::{ByteRange, Entry};
 pub use fault::ScenFault;
 pub use reading::read_scen;
 pub use std::alloc::AllocError as NoMemory;
-
-#[cfg(test)]
-mod tests;

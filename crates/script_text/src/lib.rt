@@ -27,6 +27,3 @@ pub use fault::ScriptFault;
 pub use feeder::LineFeeder;
 pub use pieces::read_pieces;
 pub use reading::read_script;
-
-#[cfg(test)]
-mod tests;

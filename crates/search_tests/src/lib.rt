@@ -16,6 +16,8 @@ mod jump_block_tests;
 #[cfg(test)]
 mod jump_plain_tests;
 #[cfg(test)]
+mod open_list_tests;
+#[cfg(test)]
 mod path_points_tests;
 #[cfg(test)]
 mod plain_search_tests;

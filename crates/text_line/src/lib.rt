@@ -20,6 +20,3 @@ pub use numbers::{digits_after, is_number, number};
 pub use places::{FieldsAt, LinesAt, PlacedField, PlacedLine};
 pub use std::alloc::AllocError as NoMemory;
 pub use writing::{put, put_number};
-
-#[cfg(test)]
-mod tests;

@@ -26,6 +26,3 @@ pub use judging::{Judged, judge_told, judge_walk};
 pub use reading::read_walks;
 pub use std::alloc::AllocError as NoMemory;
 pub use telling::Told;
-
-#[cfg(test)]
-mod tests;

@@ -40,6 +40,3 @@ mod settings;
 
 pub use reading::{first_bad, read_words};
 pub use request::{BadWord, Pick, Request, Settings, Show};
-
-#[cfg(test)]
-mod tests;

@@ -4,9 +4,9 @@
 //! (Bellman, 1958), with costs compared through squares of whole numbers, on the rows of the map. It
 //! shares nothing with the searches.
 
-use crate::certificate;
 use grid_moves::{Cell, Corner, Grid, Terrain};
 use potential_check::{CertFault, Proof, check, read_certificate};
+use potential_make::certificate;
 use root2_cost::Cost;
 use std::alloc::{AllocError, Global};
 use std::test::Fail;

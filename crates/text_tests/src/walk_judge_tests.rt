@@ -2,11 +2,11 @@
 
 ghost use Rattle.walk_judge.specs.Telling.{IsFit};
 
-use super::*;
 use grid_moves::{Cell, Corner, Grid, Terrain};
 use root2_cost::Cost;
 use std::alloc::Global;
 use std::test::Fail;
+use walk_judge::*;
 
 fn cost(a: u32, b: u32) -> Cost {
     Cost { a, b }

@@ -1,6 +1,6 @@
-use super::*;
 use std::alloc::{AllocError, Global};
 use std::test::*;
+use word_list::*;
 
 fn words_of(alloc: Global, line: &str) -> Result<Vec<String>, AllocError> {
     let mut words = Vec::new(alloc);

@@ -1,5 +1,5 @@
-use super::*;
 use root2_cost::Decimal;
+use scen_text::*;
 use std::test::*;
 
 // Queries from the top left cell of a map of 4 by 2 to its lower right one, in line `line`.

@@ -1,6 +1,6 @@
 //! Each call once, with values from squared paper.
 
-use crate::{
+use io_edge::{
     Files, MemFiles, MemSink, MemSource, ReadStop, RealFiles, RealIn, RealOut, Sink, Source,
     SureFiles, SureSink, SureSource, read_whole, write_whole,
 };

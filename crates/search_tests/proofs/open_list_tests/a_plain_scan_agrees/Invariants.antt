@@ -1,4 +1,4 @@
-use Rattle.open_list.proofs.tests.a_plain_scan_agrees.Given as goal
+use Rattle.search_tests.proofs.open_list_tests.a_plain_scan_agrees.Given as goal
 
 -- the ledger of the blank that the test makes
 abbrev pub ghosts-two_rounds : goal.ghosts-two_rounds

@@ -1,6 +1,6 @@
-use super::*;
 use grid_moves::Cell;
 use map_text::read_map;
+use picture::*;
 use root2_cost::Cost;
 use std::alloc::Global;
 use std::test::*;

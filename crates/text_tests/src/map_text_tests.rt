@@ -1,4 +1,4 @@
-use super::*;
+use map_text::*;
 use std::test::*;
 
 // The rows are those of the format's description, counted by hand.

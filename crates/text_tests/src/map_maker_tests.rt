@@ -1,4 +1,4 @@
-use super::*;
+use map_maker::*;
 use map_text::{read_map, write_map};
 use rand_core::utils::NextWord;
 use rand_pcg::Lcg64Xsh32;

@@ -1,7 +1,7 @@
 //! Certificates of small maps, by hand.
 
-use crate::certificate;
 use grid_moves::{Cell, Corner, Grid, Terrain};
+use potential_make::certificate;
 use std::test::Fail;
 
 // Round the pillar in the middle of nine cells: (0,0), (1,0) and (0,1) are below the least cost of 4.

@@ -1,6 +1,6 @@
 ghost use Rattle.std.specs.Prelude.{◌<◌, length};
 
-use super::*;
+use script_text::*;
 use std::alloc::{AllocError, Global};
 use std::test::*;
 

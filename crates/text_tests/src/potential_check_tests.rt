@@ -1,7 +1,7 @@
 //! Certificates of small maps, each with one change.
 
-use super::*;
 use grid_moves::{Cell, Corner, Grid};
+use potential_check::*;
 use root2_cost::Cost;
 use std::alloc::{AllocError, Global};
 use std::test::*;

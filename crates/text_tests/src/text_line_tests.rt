@@ -1,5 +1,5 @@
-use super::*;
 use std::test::*;
+use text_line::*;
 
 #[test]
 fn bytes_and_numbers_are_appended(rt: HostRuntime) -> Result<(), Fail> {
