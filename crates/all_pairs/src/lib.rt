@@ -3,7 +3,7 @@
 //! `Boxes::build` and `Moves::build` make a pass from each free cell each; whoever wants both makes it once here.
 #![tactic(auto)]
 
-ghost use Rattle.std.specs.Prelude.{◌≡◌, ◌+◌, ◌*◌, ◌≤◌, ◌++◌, ◌∷◌, [], true, IfOk, OnOk};
+ghost use Rattle.std.specs.Prelude.{◌≡◌, ◌+◌, ◌*◌, ◌≤◌, true, IfOk};
 ghost use Rattle.grid_moves.specs.Grid.{is_free, is_inside};
 ghost use Rattle.goal_boxes.specs.Box.{AreBoxes};
 ghost use Rattle.goal_boxes.specs.Stored.{HoldsBoxes};
@@ -13,6 +13,7 @@ use cost_waves::CostWaves;
 use first_moves::{Moves, Row, Run};
 use goal_boxes::{Boxes, CellBoxes, boxes_told};
 use grid_moves::{Cell, Terrain};
+use path_points::push_item;
 pub use std::alloc::AllocError as NoMemory;
 use std::alloc::Global;
 use std::sync::ledger::Ledger;
@@ -66,16 +67,6 @@ fn both_at<T: Terrain, L: Ledger>(
     }
 }
 
-// Appends an item.
-fn push<V: Drop>(items: &mut Vec<V>, item: V) -> Result<(), NoMemory>
-    ensures { OnOk result (items.new.items ≡ items.old.items ++ item ∷ []) }
-{
-    match items.push(item) {
-        Ok(()) => Ok(()),
-        Err(failed) => Err(failed.into()),
-    }
-}
-
 /// The boxes and the first moves of all cells of a map of at most 2^14 cells, by at most one pass for each cell.
 ///
 /// `passes` counts them. For want of memory nothing is kept.
@@ -99,8 +90,8 @@ pub fn build_both<T: Terrain, L: Ledger>(
     for y in 0..height {
         for x in 0..width {
             let (around, row) = both_at(alloc, t, Cell { x, y }, &mut lent, passes)?;
-            push(&mut boxes, around)?;
-            push(&mut rows, row)?;
+            push_item(&mut boxes, around)?;
+            push_item(&mut rows, row)?;
         }
     }
     Ok((

@@ -1,12 +1,12 @@
 -- A search has an answer, and only one.
 use Rattle.std.proofs.Common.{◌≡◌, ℕ, inl, inr, refl, ap, sym, ◌∙◌, Bool, true, false, ◌||◌, List, [], ◌∷◌}
-use Rattle.std.specs.Prelude.{Option, Some, None, MatchOption, map, slice_get}
+use Rattle.std.specs.Prelude.{Option, Some, None, map, slice_get}
 use Rattle.root2_cost.specs.declared.Cost.{Cost}
 use Rattle.grid_moves.specs.declared.Cell.{Cell}
 use Rattle.grid_moves.specs.Move.{is_same}
 use Rattle.grid_moves.proofs.Legal.{is_same-cell, is_same-itself}
 use Rattle.path_points.specs.declared.points.Walk.{Walk}
-use Rattle.search_run.specs.Run.{Taken, IsRun, NoneWaits, has_goal, way_to}
+use Rattle.search_run.specs.Run.{Taken, IsRun, has_goal, way_to}
 use Rattle.search_run.specs.Ended.{IsEnded, HasEndedRun}
 use Rattle.search_run.proofs.Sameness.{ended_runs}
 use Rattle.best_first.specs.declared.found.Found.{Found}

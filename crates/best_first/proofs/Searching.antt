@@ -79,6 +79,9 @@ pub record IsOver (layout : Layout) (link : Links) (x : Taken State) (at : ℕ) 
   pub led : link.led x.state o.to ≡ true
 
 module _ {width height : ℕ} {start goal : Cell} {link : Links} (fit : IsSearch width height start goal link) where
+  abbrev rule : Rule State
+  rule = search_rule width goal link
+
   -- the sum of a cost of few moves to a cell of the map is short
   sum_short : (v : Cell) (c : Cost) → LiesOn width height v → c.a + c.b ≤ 2 ^ 29
       → HasShortParts (add_costs c (estimate v goal))
@@ -86,16 +89,13 @@ module _ {width height : ℕ} {start goal : Cell} {link : Links} (fit : IsSearch
       short_sum width height v goal c fit.posed.narrow fit.posed.low on fit.posed.goal_near few
 
   -- sums of taken states are short
-  pub taken_short : (run : List (Taken State)) → IsRun (search_rule width goal link) (start_at start) run
-      → (u : Taken State) → IsIn u run → HasShortParts (sum_at (search_rule width goal link) u.state u.cost)
+  pub taken_short : (run : List (Taken State)) → IsRun rule (start_at start) run → (u : Taken State) → IsIn u run
+      → HasShortParts (sum_at rule u.state u.cost)
   taken_short run is u m = sum_short u.state.cell u.cost (run_on fit.posed run is u m)
       (let f = fit.few run u is m in omega arith)
 
   module _ {layout : Layout} {x : Taken State} {earlier : List (Taken State)} {at : ℕ} {best : Offers} {k : Table}
       (i : IsSearching layout width goal link start x earlier at best k) where
-    abbrev rule : Rule State
-    rule = search_rule width goal link
-
     abbrev run : List (Taken State)
     run = x ∷ earlier
 
@@ -279,37 +279,34 @@ module _ (layout : Layout) {width height : ℕ} {start goal : Cell} {link : Link
   first_state : state_of layout first_node ≡ start_at start
   first_state = ap (λ (s : State). state_in layout s) told_start ∙ seen_start layout
 
-  start_key : first_node.key ≡ rank_of (sum_at (search_rule width goal link) (start_at start) no_cost)
+  start_key : first_node.key ≡ rank_of (sum_at (rule fit) (start_at start) no_cost)
   start_key = sym (rank-add_costs no_cost (estimate start goal))
 
-  first_taken : is_taken (search_rule width goal link) (at_start start ∷ []) (start_at start) ≡ true
+  first_taken : is_taken (rule fit) (at_start start ∷ []) (start_at start) ≡ true
   first_taken = rw (is_same_state-itself (start_at start)) refl
 
   is_first : (id : ℕ) (n : Node) → slice_get (first_node ∷ []) id ≡ Some n → (id ≡ 0) × (n ≡ first_node)
   is_first zero n h = (refl, some_node n first_node (sym h))
   is_first (suc id) n h = absurd (cc)
 
-  start_order : IsInOrder layout width goal link (at_start start ∷ []) (least_offer (search_rule width goal link) [])
-      (begun goal start) 0 first_node
+  start_order : IsInOrder layout width goal link (at_start start ∷ []) (least_offer (rule fit) []) (begun goal start) 0
+      first_node
   start_order = record {
     column = subst (λ (s : State). s.cell.x < width) (sym told_start) fit.posed.start_on.0;
     opened = rw first_state (rw first_taken refl);
     offer = record { cost = no_cost; from = start_at start };
     keeps = record {
-      key = start_key
-          ∙ ap (λ (s : State). rank_of (sum_at (search_rule width goal link) s no_cost)) (sym first_state);
-      short = subst (λ (s : State). HasShortParts (sum_at (search_rule width goal link) s no_cost))
-          (sym first_state) (sum_short fit start no_cost fit.posed.start_on (omega arith));
+      key = start_key ∙ ap (λ (s : State). rank_of (sum_at (rule fit) s no_cost)) (sym first_state);
+      short = subst (λ (s : State). HasShortParts (sum_at (rule fit) s no_cost)) (sym first_state)
+          (sum_short fit start no_cost fit.posed.start_on (omega arith));
       parent = first_node;
       parent_is = refl;
       from = first_state;
     };
     led = ap (λ (s : State). link.led (start_at start) s) told_start ∙ fit.posed.links.starts start;
     source = first_taken;
-    best_is = λ z. absurd (let y : is_taken (search_rule width goal link) (at_start start ∷ [])
-        (state_of layout first_node) ≡ true =
-        ap (λ (s : State). is_taken (search_rule width goal link) (at_start start ∷ []) s) first_state ∙ first_taken in
-        cc);
+    best_is = λ z. absurd (let y : is_taken (rule fit) (at_start start ∷ []) (state_of layout first_node) ≡ true =
+        ap (λ (s : State). is_taken (rule fit) (at_start start ∷ []) s) first_state ∙ first_taken in cc);
     taken_by = taken_by;
   }
     where
@@ -319,21 +316,14 @@ module _ (layout : Layout) {width height : ℕ} {start goal : Cell} {link : Link
       taken_by u (there z w m) e = elim m [ ]
 
   pub started : IsSearching layout width goal link start (at_start start) [] 0
-      (least_offer (search_rule width goal link) []) (begun goal start)
+      (least_offer (rule fit) []) (begun goal start)
   started = record {
     run = refl;
     no_goal = refl;
     mirrors = record {
-      in_order = λ id n h. let f = is_first id n h in
-          subst (λ (j : ℕ). IsInOrder layout width goal link (at_start start ∷ [])
-          (least_offer (search_rule width goal link) []) (begun goal start) j n) (sym f.0)
-          (subst (λ (y : Node). IsInOrder layout width goal link (at_start start ∷ [])
-          (least_offer (search_rule width goal link) []) (begun goal start) 0 y) (sym f.1) start_order);
+      in_order = λ id n h. let f = is_first id n h in rw (f.0, f.1) start_order;
       only = λ a b m n h g e. (is_first a m h).0 ∙ sym (is_first b n g).0;
-      known = λ s h. (
-        by_test s (is_same_state (start_at start) s) refl h,
-        refl,
-      );
+      known = λ s h. (by_test s (is_same_state (start_at start) s) refl h, refl);
       no_more = refl;
     };
     node = first_node;
@@ -345,11 +335,9 @@ module _ (layout : Layout) {width height : ℕ} {start goal : Cell} {link : Link
   }
     where
       by_test : (s : State) (b : Bool) → is_same_state (start_at start) s ≡ b
-          → lookup layout (first_node ∷ []) s ≡ None
-          → is_taken (search_rule width goal link) (at_start start ∷ []) s ≡ false
+          → lookup layout (first_node ∷ []) s ≡ None → is_taken (rule fit) (at_start start ∷ []) s ≡ false
       by_test s false t h = rw t refl
       by_test s true t h = absurd (
           let y : is_same_state (state_of layout first_node) s ≡ true =
           ap (λ (u : State). is_same_state u s) first_state ∙ t in
-          let f : lookup layout (first_node ∷ []) s ≡ Some 0 = rw y refl in
-          cc)
+          let f : lookup layout (first_node ∷ []) s ≡ Some 0 = rw y refl in cc)

@@ -1,6 +1,6 @@
 //! The first moves between all cells of a map.
 
-ghost use Rattle.std.specs.Prelude.{◌≡◌, ◌+◌, ◌*◌, ◌<◌, ◌≤◌, ◌++◌, ◌∷◌, [], ℕ, true, List, length, slice_get, Some, IfOk, OnOk};
+ghost use Rattle.std.specs.Prelude.{◌≡◌, ◌+◌, ◌*◌, ◌<◌, ◌≤◌, ℕ, true, List, length, slice_get, Some, IfOk};
 ghost use Rattle.grid_moves.specs.declared.Cell.{Cell};
 ghost use Rattle.grid_moves.specs.Grid.{AreSides, GridData, is_inside};
 ghost use Rattle.first_moves.specs.First.{IsFirstMove};
@@ -12,20 +12,11 @@ use crate::NoMemory;
 use crate::row::Row;
 use cost_waves::CostWaves;
 use grid_moves::{Cell, Dir, Terrain, cell_ahead, number_of};
+use path_points::push_item;
 use std::alloc::Global;
 use std::marker::Model;
 use std::sync::ledger::Ledger;
 use steps::Steps;
-
-// Appends a row.
-fn push_row(rows: &mut Vec<Row>, row: Row) -> Result<(), NoMemory>
-    ensures { OnOk result (rows.new.items ≡ rows.old.items ++ row ∷ []) }
-{
-    match rows.push(row) {
-        Ok(()) => Ok(()),
-        Err(failed) => Err(failed.into()),
-    }
-}
 
 // The rows of all cells of the map.
 fn all_rows<T: Terrain>(alloc: Global, t: &T) -> Result<Vec<Row>, NoMemory>
@@ -40,7 +31,7 @@ fn all_rows<T: Terrain>(alloc: Global, t: &T) -> Result<Vec<Row>, NoMemory>
     for y in 0..height {
         for x in 0..width {
             let row = Row::at(alloc, &mut scratch, &mut waves, t, Cell { x, y })?;
-            push_row(&mut rows, row)?;
+            push_item(&mut rows, row)?;
         }
     }
     Ok(rows)

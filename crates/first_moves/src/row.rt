@@ -15,6 +15,7 @@ ghost use Rattle.first_moves.specs.declared.row.Run.{Run};
 use crate::NoMemory;
 use cost_waves::CostWaves;
 use grid_moves::{Cell, Dir, Terrain, dir_number};
+use path_points::push_item;
 use std::alloc::Global;
 use std::marker::Model;
 
@@ -76,16 +77,6 @@ fn is_same_move(one: Option<Dir>, other: Option<Dir>) -> bool
     }
 }
 
-// Appends a run.
-fn push_run(runs: &mut Vec<Run>, start: u16, first: Option<Dir>) -> Result<(), NoMemory>
-    ensures { OnOk result (runs.new.items ≡ runs.old.items ++ record { start = start; first = first } ∷ []) }
-{
-    match runs.push(Run { start, first }) {
-        Ok(()) => Ok(()),
-        Err(failed) => Err(failed.into()),
-    }
-}
-
 // Appends the run that begins at a cell, if one does: where its first move differs from that to the cell before.
 // Mostly the bytes themselves are equal.
 fn go_on(runs: &mut Vec<Run>, start: u16, before: u8, byte: u8) -> Result<(), NoMemory>
@@ -99,7 +90,7 @@ fn go_on(runs: &mut Vec<Run>, start: u16, before: u8, byte: u8) -> Result<(), No
     if is_same_move(first_in(before), first) {
         return Ok(());
     }
-    push_run(runs, start, first)
+    push_item(runs, Run { start, first })
 }
 
 // The runs of a row, told for each cell the directions with which least walks to it begin.
@@ -112,7 +103,11 @@ fn fill(runs: &mut Vec<Run>, bytes: &[u8]) -> Result<(), NoMemory>
     let Some((first, others)) = bytes.split_first() else {
         return Ok(());
     };
-    push_run(runs, 0, first_in(*first))?;
+    let run = Run {
+        start: 0,
+        first: first_in(*first),
+    };
+    push_item(runs, run)?;
     let mut before = *first;
     for (i, byte) in others.iter().enumerate() {
         go_on(runs, i as u16 + 1, before, *byte)?;
@@ -274,7 +269,11 @@ impl Row {
         ensures { IfOk result (λ row. row ≡ record { start = 0; first = None } ∷ []) }
     {
         let mut runs = Vec::with_capacity(alloc, 1)?;
-        push_run(&mut runs, 0, None)?;
+        let run = Run {
+            start: 0,
+            first: None,
+        };
+        push_item(&mut runs, run)?;
         Ok(Row { runs })
     }
 

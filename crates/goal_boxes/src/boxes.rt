@@ -1,6 +1,6 @@
 //! The boxes of all cells of a grid.
 
-ghost use Rattle.std.specs.Prelude.{◌≡◌, ◌+◌, ◌*◌, ◌<◌, ◌++◌, ◌∷◌, [], true, length, IfOk, OnOk};
+ghost use Rattle.std.specs.Prelude.{◌≡◌, ◌+◌, ◌*◌, ◌<◌, true, length, IfOk, OnOk};
 ghost use Rattle.grid_moves.specs.Grid.{AreSides, IsGrid, is_free};
 ghost use Rattle.goal_boxes.specs.Box.{AreBoxes};
 ghost use Rattle.goal_boxes.specs.Stored.{box_at, boxes_at, HoldsBoxes, AreBefore};
@@ -9,6 +9,7 @@ use crate::around::{CellBoxes, boxes_by};
 use crate::{Area, NoMemory};
 use cost_waves::CostWaves;
 use grid_moves::{Cell, Dir, Terrain, number_of};
+use path_points::push_item;
 use std::alloc::Global;
 use std::marker::Model;
 
@@ -59,16 +60,6 @@ fn boxes_if_free<T: Terrain>(t: &T, c: Cell, waves: &mut CostWaves) -> Result<Ce
     }
 }
 
-// Appends the boxes of one more cell.
-fn push_boxes(cells: &mut Vec<CellBoxes>, boxes: CellBoxes) -> Result<(), NoMemory>
-    ensures { OnOk result (cells.new.items ≡ cells.old.items ++ boxes ∷ []) }
-{
-    match cells.push(boxes) {
-        Ok(()) => Ok(()),
-        Err(failed) => Err(failed.into()),
-    }
-}
-
 // Appends the boxes of the cells of a row.
 fn add_row<T: Terrain>(
     t: &T,
@@ -87,7 +78,7 @@ fn add_row<T: Terrain>(
 {
     for x in 0..t.width() {
         let boxes = boxes_if_free(t, Cell { x, y }, waves)?;
-        push_boxes(cells, boxes)?;
+        push_item(cells, boxes)?;
     }
     Ok(())
 }

@@ -11,7 +11,7 @@ mod turning;
 mod unfolding;
 
 pub use checking::{BadAt, check_walk};
-pub use points::{Cells, Costs, Items, Points, Walk};
+pub use points::{Cells, Costs, Items, Points, Walk, push_item};
 pub use std::alloc::AllocError as NoMemory;
 pub use turning::{push_turn, turns};
 pub use unfolding::unfold;

@@ -10,6 +10,17 @@ use root2_cost::Cost;
 use std::alloc::Global;
 use std::marker::Model;
 
+/// Appends an item to a vector; where memory is short the vector stays as it was.
+pub fn push_item<T: Drop>(items: &mut Vec<T>, item: T) -> Result<(), NoMemory>
+    ensures pushed { OnOk result (items.new.items ≡ items.old.items ++ item ∷ []) }
+    ensures unchanged { OnErr result (items.new.items ≡ items.old.items) }
+{
+    match items.push(item) {
+        Ok(()) => Ok(()),
+        Err(failed) => Err(failed.into()),
+    }
+}
+
 /// Items in order; contracts see them as a list.
 #[derive(Debug, Drop)]
 pub struct Items<T> {
@@ -46,10 +57,7 @@ impl<T: Drop> Items<T> {
         ensures pushed { OnOk result (self.new ≡ self.old ++ item ∷ []) }
         ensures unchanged { OnErr result (self.new ≡ self.old) }
     {
-        match self.items.push(item) {
-            Ok(()) => Ok(()),
-            Err(failed) => Err(failed.into()),
-        }
+        push_item(&mut self.items, item)
     }
 
     /// All items, in order.

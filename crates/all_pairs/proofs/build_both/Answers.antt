@@ -14,18 +14,18 @@ loop-x-preserved g c =
     let n : ℕ = c.loop-y.y * grid.width + c.loop-x.x in
     let u : Cell = record { x = c.loop-x.x; y = c.loop-y.y } in
     let on : c.loop-x.x < grid.width = subst (λ (m : ℕ). c.loop-x.x < m) c.width-width.ensures.is c.loop-x-test.true in
-    let more : AreBefore grid c.push.new.items.items (n + 1) =
-    subst (λ (cells : List CellBoxes). AreBefore grid cells (n + 1)) (sym c.in_ok-push.ensures)
+    let more : AreBefore grid c.push_item.new.items.items (n + 1) =
+    subst (λ (cells : List CellBoxes). AreBefore grid cells (n + 1)) (sym c.in_ok-push_item.ensures.pushed)
     (one_before grid c.loop-x.boxes.items n u c.in_ok-around.around on refl c.in_ok-around.ensures.boxes
     c.loop-x.invariant.boxes) in
     record {
       wide = c.both_at.ensures.width ∙ c.loop-x.invariant.wide;
       high = c.both_at.ensures.height ∙ c.loop-x.invariant.high;
-      boxes = subst (λ (m : ℕ). AreBefore grid c.push.new.items.items m) (omega arith) more;
-      count = count_more c.loop-x.rows.items c.push-in-loop-x.new.items.items c.in_ok-around.row
-          (c.loop-y.y * grid.width) c.loop-x.x c.in_ok-push-2.ensures c.loop-x.invariant.count;
-      rows = rows_more grid c.loop-x.rows.items c.push-in-loop-x.new.items.items c.in_ok-around.row u
-          c.in_ok-push-2.ensures c.loop-x.invariant.count on c.loop-x.invariant.rows c.in_ok-around.ensures.row;
+      boxes = subst (λ (m : ℕ). AreBefore grid c.push_item.new.items.items m) (omega arith) more;
+      count = count_more c.loop-x.rows.items c.push_item-in-loop-x.new.items.items c.in_ok-around.row
+          (c.loop-y.y * grid.width) c.loop-x.x c.in_ok-push_item-2.ensures.pushed c.loop-x.invariant.count;
+      rows = rows_more grid c.loop-x.rows.items c.push_item-in-loop-x.new.items.items c.in_ok-around.row u
+          c.in_ok-push_item-2.ensures.pushed c.loop-x.invariant.count on c.loop-x.invariant.rows c.in_ok-around.ensures.row;
       passes = (let p = c.loop-x.invariant.passes in let q = c.both_at.ensures.passes in omega arith);
     }
 
