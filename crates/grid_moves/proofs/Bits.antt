@@ -5,7 +5,8 @@ use Rattle.std.specs.Int.{bit_at}
 use Rattle.std.proofs.lemmas.Bool.Decides.{nat_tests}
 use Rattle.std.proofs.lemmas.Nat.Bits.{bit_at-lt, bit_at_and, bit_at_or}
 
-pub bit_in_both : (a b j : ℕ) → nat_eq (bit_at (bit_and a b) j) 1 ≡ (nat_eq (bit_at a j) 1 && nat_eq (bit_at b j) 1)
+pub bit_in_both : (a b j : ℕ)
+    → nat_eq (bit_at (bit_and a b) j) 1 ≡ (nat_eq (bit_at a j) 1 && nat_eq (bit_at b j) 1)
 bit_in_both a b j = rw (bit_at_and a b j) (of_bits (bit_at a j) (bit_at b j) (bit_at-lt a j) (bit_at-lt b j))
   where
     of_bits : (m n : ℕ) → m < 2 → n < 2 → nat_eq (min m n) 1 ≡ (nat_eq m 1 && nat_eq n 1)

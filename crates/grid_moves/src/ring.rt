@@ -58,8 +58,8 @@ impl Ring {
         }
     }
 
-    /// Whether the move in this direction is legal, from a free cell. Of the cells beside a diagonal move the one
-    /// on the row comes first: in that order the compiler makes the shorter vector code of it.
+    /// Whether the move in this direction is legal, from a free cell. Of the cells beside a diagonal move the
+    /// one on the row comes first: in that order the compiler makes the shorter vector code of it.
     #[inline(always)]
     pub fn can_move(self, rule: Corner, d: Dir) -> bool
         ensures { result ≡ spec.leads_on rule self d }

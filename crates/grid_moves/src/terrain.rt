@@ -54,8 +54,8 @@ pub fn number_of(width: u16, c: Cell) -> u32
     u32::from(c.y) * u32::from(width) + u32::from(c.x)
 }
 
-/// Whether the corner rule lets a diagonal move pass between two cells, told whether each is free. There is no
-/// branch on either.
+/// Whether the corner rule lets a diagonal move pass between two cells, told whether each is free. There is
+/// no branch on either.
 #[inline(always)]
 pub fn is_passable(rule: Corner, one: bool, other: bool) -> bool
     ensures { result ≡ spec.is_passable rule one other }
@@ -87,8 +87,8 @@ pub fn is_inside<T: Terrain>(t: &T, c: Cell) -> bool
     c.x < t.width() && c.y < t.height()
 }
 
-/// Whether the cell and all around it lie on the map: where that is tested, the compiler knows it of each cell
-/// that is read then.
+/// Whether the cell and all around it lie on the map: where that is tested, the compiler knows it of each
+/// cell that is read then.
 #[inline(always)]
 pub fn is_inner<T: Terrain>(t: &T, c: Cell) -> bool
     requires column { c.x < 65535 }

@@ -64,8 +64,8 @@ pub open_leads : (g : GridData) (c : Cell) (a : Around) (d : Dir) → IsAround g
     → LeadsTo g c d (end_of a c d)
 open_leads g c a d i h = leads g c d (end_of a c d) (sym (i d) ∙ rw h refl)
 
-module _ (g : GridData) (p x v : Cell) (a : Around) (s : Behind) (around : IsAround g x a) (lies : LiesAt p x s)
-    (into : is_legal g p x ≡ true) (other : is_same p v ≡ false) where
+module _ (g : GridData) (p x v : Cell) (a : Around) (s : Behind) (around : IsAround g x a)
+    (lies : LiesAt p x s) (into : is_legal g p x ≡ true) (other : is_same p v ≡ false) where
   -- the columns of p, if it doesn't lie on the left, and if not on the right
   column_right : s.left ≡ false → v.x ≡ x.x + 1 → (p.x ≡ x.x) ⊎ (p.x ≡ v.x)
   column_right l e = elim (same_or_not s.right)

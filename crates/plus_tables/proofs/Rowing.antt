@@ -87,8 +87,8 @@ module _ (g : GridData) (whole : IsGrid g) where
     -- so they tell where a neighbour is forced
     pub ring_forced : (x : ℕ) (d : Dir) → is_free g (record { x = x; y = y }) ≡ true
         → forced_on g.corner (ring_of above here below x) d ≡ is_forced g (record { x = x; y = y }) d
-    ring_forced x d f = forced_of_ring g (record { x = x; y = y }) f (ring_of above here below x) (ring_open x)
-        g.corner refl d
+    ring_forced x d f =
+        forced_of_ring g (record { x = x; y = y }) f (ring_of above here below x) (ring_open x) g.corner refl d
 
     pub forced_row : (d : Dir) (corner : Corner) (forced : List Bool) → corner ≡ g.corner
         → length forced ≡ g.width + 2 → AreForced corner above here below d forced → IsForcedRow g y d forced

@@ -60,7 +60,8 @@ module _ (g : GridData) (x : Cell) (free : is_free g x ≡ true) (ring : Ring)
   forced_aside : (d : Dir) (s : Side)
       → forced_beside g.corner ring d s ≡ is_forced_on g.corner (is_blocked g x) (can_move g x) d s
   forced_aside d s =
-      same_forced g.corner (is_shut ring) (is_blocked g x) (leads_on g.corner ring) (can_move g x) blocked can d s
+      same_forced g.corner (is_shut ring) (is_blocked g x) (leads_on g.corner ring) (can_move g x) blocked can
+      d s
 
   -- and whether a neighbour is forced
   pub forced_of_ring : (corner : Corner) → corner ≡ g.corner → (d : Dir)

@@ -241,7 +241,7 @@ pub fn allowed_word<T: Terrain>(t: &T, at: Cell, by: Arrival) -> Packed
     }
 }
 
-// Whether a neighbour on this side is forced at a free cell, after a move, with no branch on the cells around.
+// Whether a neighbour on this side is forced at a free cell after a move, with no branch on the cells around.
 #[inline(always)]
 fn is_forced_on(rule: Corner, ring: Ring, d: Dir, side: Side) -> bool
     ensures { result ≡ told.forced_beside rule ring d side }
@@ -255,8 +255,8 @@ fn is_forced_on(rule: Corner, ring: Ring, d: Dir, side: Side) -> bool
     }
 }
 
-/// Whether a neighbour is forced at a free cell after a move in `d`, told which of the cells around are free: `n` in
-/// the drawings above.
+/// Whether a neighbour is forced at a free cell after a move in `d`, told which of the cells around are free:
+/// `n` in the drawings above.
 #[inline(always)]
 pub fn forced_on(rule: Corner, ring: Ring, d: Dir) -> bool
     ensures { result ≡ told.forced_on rule ring d }
@@ -264,8 +264,8 @@ pub fn forced_on(rule: Corner, ring: Ring, d: Dir) -> bool
     is_forced_on(rule, ring, d, Side::Right) | is_forced_on(rule, ring, d, Side::Left)
 }
 
-// The same where the cells around are read under a rule that the compiler knows, so that those which it does not ask
-// for are not.
+// The same where the cells around are read, under a rule that the compiler knows: those for which it does not
+// ask are not read.
 #[inline(always)]
 fn forced_around<T: Terrain>(t: &T, rule: Corner, at: Cell, d: Dir) -> bool
     requires free { IsTrue (is_free (T.grid t.now) at) }
@@ -276,8 +276,8 @@ fn forced_around<T: Terrain>(t: &T, rule: Corner, at: Cell, d: Dir) -> bool
     forced_on(rule, Ring::of(t, at), d)
 }
 
-/// Whether, after a move in `d` to this free cell, a neighbour is forced. For a straight `d` that is: whether the cell
-/// is marked for it. Where the compiler knows `d`, only the cells that it asks for are read.
+/// Whether, after a move in `d` to this free cell, a neighbour is forced. For a straight `d` that is: whether
+/// the cell is marked for it. Where the compiler knows `d`, only the cells that it asks for are read.
 #[inline(always)]
 pub fn forced<T: Terrain>(t: &T, at: Cell, d: Dir) -> bool
     requires free { IsTrue (is_free (T.grid t.now) at) }

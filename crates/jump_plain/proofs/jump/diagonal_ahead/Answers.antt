@@ -11,8 +11,8 @@ pub returns-then-leads_on-clause-legal : goal.returns-then-leads_on-clause-legal
 returns-then-leads_on-clause-legal g c =
     let grid : GridData = g.T.Terrain.grid c.args.t.now in
     let can = beyond_diagonal grid c.requires.whole c.args.at c.beyond-cell.result c.args.d
-    c.requires.free c.requires.diagonal c.beyond-cell.ensures c.corner.result c.corner.ensures c.args.beside.right c.args.beside.left
-    c.is_passable.result c.leads_on.result
+    c.requires.free c.requires.diagonal c.beyond-cell.ensures c.corner.result c.corner.ensures
+    c.args.beside.right c.args.beside.left c.is_passable.result c.leads_on.result
     (ap (λ (b : Components). b.right) c.requires.beside) (ap (λ (b : Components). b.left) c.requires.beside)
     c.is_passable.ensures c.leads_on.ensures in
     sym (beyond_legal grid c.args.at c.beyond-cell.result c.args.d c.beyond-cell.ensures
@@ -24,8 +24,8 @@ returns-then-leads_on-clause-clear g c =
     let right = ap (λ (b : Components). b.right) c.requires.beside in
     let left = ap (λ (b : Components). b.left) c.requires.beside in
     let can = beyond_diagonal grid c.requires.whole c.args.at c.beyond-cell.result c.args.d
-    c.requires.free c.requires.diagonal c.beyond-cell.ensures c.corner.result c.corner.ensures c.args.beside.right c.args.beside.left
-    c.is_passable.result c.leads_on.result right left c.is_passable.ensures c.leads_on.ensures in
+    c.requires.free c.requires.diagonal c.beyond-cell.ensures c.corner.result c.corner.ensures
+    c.args.beside.right c.args.beside.left c.is_passable.result c.leads_on.result right left c.is_passable.ensures c.leads_on.ensures in
     let legal = beyond_legal grid c.args.at c.beyond-cell.result c.args.d c.beyond-cell.ensures
     (can ∙ c.if-leads_on.true) in
     clear_past grid c.args.at c.beyond-cell.result c.args.d legal c.requires.diagonal
@@ -36,8 +36,8 @@ pub returns-else-leads_on-clause-legal : goal.returns-else-leads_on-clause-legal
 returns-else-leads_on-clause-legal g c =
     let grid : GridData = g.T.Terrain.grid c.args.t.now in
     let can = beyond_diagonal grid c.requires.whole c.args.at c.beyond-cell.result c.args.d
-    c.requires.free c.requires.diagonal c.beyond-cell.ensures c.corner.result c.corner.ensures c.args.beside.right c.args.beside.left
-    c.is_passable.result c.leads_on.result
+    c.requires.free c.requires.diagonal c.beyond-cell.ensures c.corner.result c.corner.ensures
+    c.args.beside.right c.args.beside.left c.is_passable.result c.leads_on.result
     (ap (λ (b : Components). b.right) c.requires.beside) (ap (λ (b : Components). b.left) c.requires.beside)
     c.is_passable.ensures c.leads_on.ensures in
     sym (beyond_stuck grid c.args.at c.args.d (can ∙ c.if-leads_on.false))

@@ -10,4 +10,5 @@ returns-in-Never g c =
 pub returns-in-One : goal.returns-in-One
 returns-in-One g c =
     around_told (g.T.Terrain.grid c.args.t.now) c.args.c c.requires.free c.of-ring.result c.of-ring.ensures _
-    (sym c.in-One.is ∙ c.corner.ensures) c.told-in-One.result c.told-in-One.ensures.open c.told-in-One.ensures.ends
+    (sym c.in-One.is ∙ c.corner.ensures) c.told-in-One.result c.told-in-One.ensures.open
+    c.told-in-One.ensures.ends
