@@ -1,5 +1,5 @@
 -- From what a search has taken to its answer.
-use Rattle.std.proofs.Common.{◌≡◌, ℕ, ◌*◌, ◌≤◌, ◌⊎◌, length, List, [], ◌∷◌, ◌++◌, refl, ap, sym, ◌∙◌, subst, true, false, map}
+use Rattle.std.proofs.Common.{◌≡◌, ℕ, ◌*◌, ◌≤◌, ◌⊎◌, length, List, [], ◌∷◌, ◌++◌, refl, ap, sym, ◌∙◌, subst, true, false}
 use Rattle.std.specs.Prelude.{Some, slice_get}
 use Rattle.root2_cost.specs.declared.Cost.{Cost}
 use Rattle.grid_moves.specs.declared.Cell.{Cell}
@@ -7,7 +7,7 @@ use Rattle.grid_moves.specs.Around.{IsAround}
 use Rattle.grid_moves.specs.Grid.{GridData, IsGrid, is_free}
 use Rattle.grid_moves.specs.Move.{is_same, all_dirs}
 use Rattle.path_points.specs.Corners.{corners}
-use Rattle.search_run.specs.Run.{here, least_offer, way_to}
+use Rattle.search_run.specs.Run.{here, least_offer}
 use Rattle.best_first.specs.declared.node.Node.{Node}
 use Rattle.best_first.specs.declared.state.State.{State}
 use Rattle.best_first.specs.declared.state.Layout.TheVariants.{ByCell}

@@ -8,7 +8,6 @@ use Rattle.grid_moves.specs.declared.Dir.TheVariants.{E, W}
 use Rattle.grid_moves.specs.Grid.{GridData, IsGrid, is_free, is_inside}
 use Rattle.grid_moves.specs.Move.{column_ahead, legal_ahead}
 use Rattle.grid_moves.proofs.Legal.{legal_is}
-use Rattle.pruning.specs.declared.turns.Side.TheVariants.{Right, Left}
 use Rattle.pruning.specs.Turns.{is_diagonal}
 use Rattle.pruning.specs.Allowed.{can_move}
 use Rattle.pruning.specs.Marked.{is_forced}

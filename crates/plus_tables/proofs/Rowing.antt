@@ -1,23 +1,21 @@
 -- Rows of flags and of entries are those of the grid.
-use Rattle.std.proofs.Common.{◌≡◌, ℕ, zero, suc, ◌+◌, ◌-◌, ◌<◌, ◌≤◌, arith, Bool, true, false, not, ◌&&◌, ◌||◌, List, length, refl, ap, sym, ◌∙◌, subst}
+use Rattle.std.proofs.Common.{◌≡◌, ℕ, zero, suc, ◌+◌, ◌-◌, ◌<◌, ◌≤◌, arith, Bool, true, false, ◌&&◌, ◌||◌, List, length, refl, ap, sym, ◌∙◌, subst}
 use Rattle.std.specs.Prelude.{ℤ, Option, Some, None, option_and_then, is_some, nat_lt}
 use Rattle.std.proofs.lemmas.Bool.Decides.{nat_tests}
 use Rattle.grid_moves.specs.declared.Cell.{Cell}
 use Rattle.grid_moves.specs.declared.Corner.{Corner}
-use Rattle.grid_moves.specs.declared.Corner.TheVariants.{Never, One}
 use Rattle.grid_moves.specs.declared.Dir.{Dir}
 use Rattle.grid_moves.specs.declared.Dir.TheVariants.{N, NE, E, SE, S, SW, W, NW}
 use Rattle.grid_moves.specs.Grid.{GridData, IsGrid, is_free, is_inside}
 use Rattle.grid_moves.specs.Move.{ahead, before, column_ahead, row_ahead, is_free_cell, is_open, legal_ahead}
-use Rattle.grid_moves.specs.Ring.{is_free_on, is_shut, leads_on}
+use Rattle.grid_moves.specs.Ring.{is_free_on, leads_on}
 use Rattle.grid_moves.proofs.Besides.{leads_on-legal}
 use Rattle.grid_moves.proofs.Legal.{free_inside, legal_is, same_cell}
-use Rattle.pruning.specs.declared.turns.Side.{Side}
 use Rattle.pruning.specs.declared.turns.Side.TheVariants.{Right, Left}
-use Rattle.pruning.specs.Turns.{turn, quarter, rear, is_diagonal}
-use Rattle.pruning.specs.Allowed.{is_blocked, can_move}
-use Rattle.pruning.specs.Marked.{is_forced, is_forced_on}
-use Rattle.pruning.specs.Ring.{forced_beside, forced_on}
+use Rattle.pruning.specs.Turns.{turn, is_diagonal}
+use Rattle.pruning.specs.Allowed.{can_move}
+use Rattle.pruning.specs.Marked.{is_forced}
+use Rattle.pruning.specs.Ring.{forced_on}
 use Rattle.pruning.proofs.Table.{by_parity}
 use Rattle.pruning.proofs.Ringing.{forced_of_ring}
 use Rattle.pruning.proofs.Bridging.{legal_leads, leads_from, leads_legal, one_of}

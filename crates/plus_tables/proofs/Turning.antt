@@ -146,8 +146,14 @@ module _ (t : TablesData) (g : GridData) (right : AreTablesOf t g) where
 
     leads_told : (e : Dir) → free e ≡ can_move g at e → leads_on g.corner (ring_told free) e ≡ can_move g at e
     leads_told e k = by_parity e
-        (λ h. rw (leads_on-diagonal g.corner (ring_told free) e h, told_on free e, k, beside Left e h,
-        beside Right e h, can_move-diagonal g at e f h) (twice (is_open g at e) _))
+        (λ h. rw (
+          leads_on-diagonal g.corner (ring_told free) e h,
+          told_on free e,
+          k,
+          beside Left e h,
+          beside Right e h,
+          can_move-diagonal g at e f h,
+        ) (twice (is_open g at e) _))
         (λ h. leads_on-straight g.corner (ring_told free) e h ∙ told_on free e ∙ k)
       where
         twice : (a b : Bool) → ((a && b) && b) ≡ (a && b)
