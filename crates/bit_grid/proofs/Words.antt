@@ -1,23 +1,18 @@
 -- Single bits of words.
 use Rattle.std.proofs.Common.{◌≡◌, ◌≢◌, ℕ, suc, ◌+◌, ◌*◌, ◌-◌, ◌/◌, ◌%◌, ◌^◌, ◌<◌, arith, Bool, true, false, not, ◌&&◌, ◌||◌, refl, ap, sym, ◌∙◌, bit_and, bit_or, w64}
-use Rattle.std.specs.Prelude.{nat_eq, min, max, if◌then◌else◌}
+use Rattle.std.specs.Prelude.{nat_eq, if◌then◌else◌}
 use Rattle.std.specs.Int.{bit_at}
 use mir.Val.{bool_byte}
 use Rattle.std.proofs.lemmas.Bool.Decides.{nat_tests}
-use Rattle.std.proofs.lemmas.Nat.Bits.{bit_at-lt, bit_at-suc, bit_at-zero, bit_at_and, bit_at_or, bit_at_not, bit_at_lowest, bit_at_above, bit_at_cat_low, bit_at_set_same, bit_at_set_other, bit_at_clear_same, bit_at_clear_other}
+use Rattle.std.proofs.lemmas.Nat.Bits.{bit_at-lt, bit_at-suc, bit_at-zero, bit_at_not, bit_at_lowest, bit_at_above, bit_at_cat_low, bit_at_set_same, bit_at_set_other, bit_at_clear_same, bit_at_clear_other}
+use Rattle.grid_moves.proofs.Bits.{bit_in_both, bit_in_either}
 use Rattle.bit_grid.specs.Bits.{is_set}
 
 pub set_or : (a b j : ℕ) → is_set (bit_or a b) j ≡ (is_set a j || is_set b j)
-set_or a b j = rw (bit_at_or a b j) (of_bits (bit_at a j) (bit_at b j) (bit_at-lt a j) (bit_at-lt b j))
-  where
-    of_bits : (m n : ℕ) → m < 2 → n < 2 → nat_eq (max m n) 1 ≡ (nat_eq m 1 || nat_eq n 1)
-    of_bits m n h k = grind (arith, nat_tests)
+set_or = bit_in_either
 
 pub set_and : (a b j : ℕ) → is_set (bit_and a b) j ≡ (is_set a j && is_set b j)
-set_and a b j = rw (bit_at_and a b j) (of_bits (bit_at a j) (bit_at b j) (bit_at-lt a j) (bit_at-lt b j))
-  where
-    of_bits : (m n : ℕ) → m < 2 → n < 2 → nat_eq (min m n) 1 ≡ (nat_eq m 1 && nat_eq n 1)
-    of_bits m n h k = grind (arith, nat_tests)
+set_and = bit_in_both
 
 pub set_not : (a j : ℕ) → a < 18446744073709551616 → j < 64
     → is_set (18446744073709551615 - a) j ≡ not (is_set a j)

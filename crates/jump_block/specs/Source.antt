@@ -5,7 +5,7 @@ use Rattle.grid_moves.specs.declared.Corner.{Corner}
 use Rattle.grid_moves.specs.declared.Dir.{Dir}
 use Rattle.grid_moves.specs.declared.Dir.TheVariants.{N, NE, E, SE, S, SW, W}
 use Rattle.grid_moves.specs.Grid.{GridData, IsGrid, is_free}
-use Rattle.bit_grid.specs.Bits.{BitData, LineData, AreBitsOf, AreRowsOf, AreColumnsOf, is_free_from_one}
+use Rattle.bit_grid.specs.Bits.{BitData, AreBitsOf, AreRowsOf, AreColumnsOf, is_free_from_one}
 use Rattle.pruning.specs.First.{run_length}
 use Rattle.jump_plain.specs.declared.scan.Reach.{Reach}
 use Rattle.jump_plain.specs.Reach as reach
@@ -16,19 +16,19 @@ use Rattle.jump_block.specs.declared.word.Way.{Way}
 use Rattle.jump_block.specs.declared.word.Way.TheVariants.{Forward, Back}
 use Rattle.jump_block.specs.Trail.{Trail, trail_on}
 
--- the rows and the columns are the bits of this grid, which has this rule
-pub record AreItsBits (rows columns : LineData) (corner : Corner) (g : GridData) : Type 0 where
+-- what jumps read is of the bits of this grid
+pub record AreItsBits (b : Bits) (g : GridData) : Type 0 where
   pub whole : IsGrid g
-  pub are_rows : AreRowsOf rows g
-  pub are_columns : AreColumnsOf columns g
-  pub rule : corner ≡ g.corner
+  pub are_rows : AreRowsOf b.rows.now g
+  pub are_columns : AreColumnsOf b.columns.now g
+  pub rule : b.corner ≡ g.corner
 
 -- on some grid whose bits these are, at a free cell of it; and on each
 abbrev pub OnSome : Bits → Cell → Type 0
-OnSome b at = (g : GridData) × AreItsBits b.rows.now b.columns.now b.corner g × (is_free g at ≡ true)
+OnSome b at = (g : GridData) × AreItsBits b g × (is_free g at ≡ true)
 
 abbrev pub OnEach : Bits → Cell → (GridData → Type 0) → Type 0
-OnEach b at P = (g : GridData) → AreItsBits b.rows.now b.columns.now b.corner g → is_free g at ≡ true → P g
+OnEach b at P = (g : GridData) → AreItsBits b g → is_free g at ≡ true → P g
 
 -- on some grid whose bits these are, for a jump from one free cell to another; and on each
 abbrev pub JumpsOnSome : BitData → Cell → Cell → Type 0

@@ -38,6 +38,19 @@ fn corner_of(number: usize) -> Corner
 }
 
 impl<'a> Bits<'a> {
+    // The same, where the rule is a constant.
+    #[inline(always)]
+    fn under<const RULE: usize>(&self) -> Bits<'a>
+        requires { self.now.corner ≡ numbered.corner_of RULE }
+        ensures { result ≡ self.now }
+    {
+        Bits {
+            rows: self.rows,
+            columns: self.columns,
+            corner: corner_of(RULE),
+        }
+    }
+
     // A diagonal jump, under a rule that the compiler knows. It is a function of its own, so that straight
     // jumps, which are short, keep clear of its many registers.
     #[inline(never)]
@@ -54,11 +67,7 @@ impl<'a> Bits<'a> {
         ensures first { OnEach self.now at (λ g. result ≡ first.first_stop g goal at d) }
         ensures fewest { steps.old + 3 ≤ steps.new }
     {
-        let bits = Bits {
-            rows: self.rows,
-            columns: self.columns,
-            corner: corner_of(RULE),
-        };
+        let bits = self.under::<RULE>();
         match d {
             Dir::NE => bits.diagonal(at, Dir::NE, goal, steps),
             Dir::SE => bits.diagonal(at, Dir::SE, goal, steps),
@@ -84,11 +93,7 @@ impl<'a> Bits<'a> {
             (λ g. steps.new ≤ steps.old + most_lanes (scanned g at d result)) }
         ensures fewest { steps.old + 3 ≤ steps.new }
     {
-        let bits = Bits {
-            rows: self.rows,
-            columns: self.columns,
-            corner: corner_of(RULE),
-        };
+        let bits = self.under::<RULE>();
         match d {
             Dir::N => bits.straight(at, Dir::N, goal, steps),
             Dir::E => bits.straight(at, Dir::E, goal, steps),
@@ -131,7 +136,7 @@ impl<'a> BlockJumps<'a> {
     #[inline(always)]
     fn lines(&self) -> Bits<'a>
         ensures { (g : GridData) → AreBitsOf self.now.bits.now g
-            → AreItsBits result.rows.now result.columns.now result.corner g }
+            → AreItsBits result g }
     {
         Bits {
             rows: self.bits.rows(),

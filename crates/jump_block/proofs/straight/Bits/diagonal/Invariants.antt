@@ -12,12 +12,11 @@ abbrev pub invariant-run : goal.invariant-run
 invariant-run g l = record {
   read : l.fn.steps + 3 ≤ l.steps;
   near : AreNearStart l.self.rows.now (l.cell.y + 1) (l.cell.x + 1) l.near;
-  there : (grid : GridData) → AreItsBits l.self.rows.now l.self.columns.now l.self.corner grid
-      → is_free grid l.fn.at ≡ true → record {
-        free : is_free grid l.cell ≡ true;
-        stop : first_stop grid l.goal l.fn.at l.d ≡ later l.moves (first_stop grid l.goal l.cell l.d);
-        run : l.moves + run_length grid l.cell l.d ≡ run_length grid l.fn.at l.d;
-      };
+  there : (grid : GridData) → AreItsBits l.self grid → is_free grid l.fn.at ≡ true → record {
+    free : is_free grid l.cell ≡ true;
+    stop : first_stop grid l.goal l.fn.at l.d ≡ later l.moves (first_stop grid l.goal l.cell l.d);
+    run : l.moves + run_length grid l.cell l.d ≡ run_length grid l.fn.at l.d;
+  };
 }
 
 -- no run is longer than both sides together
