@@ -15,7 +15,7 @@ use Rattle.root2_cost.proofs.Most.{Most-then, Most-same}
 use Rattle.root2_cost.proofs.Ranking.{less_ranks, ranks_less}
 use Rattle.root2_cost.proofs.Sums.{add_costs-no_cost_right}
 use Rattle.grid_moves.specs.declared.Cell.{Cell}
-use Rattle.grid_moves.specs.Grid.{GridData, IsGrid, is_free}
+use Rattle.grid_moves.specs.Grid.{GridData, is_free}
 use Rattle.grid_moves.specs.Points.{estimate}
 use Rattle.grid_moves.specs.Walk.{cost_of, last_of}
 use Rattle.grid_moves.proofs.Legal.{is_same-itself}
@@ -33,7 +33,6 @@ use Rattle.best_first.proofs.Lookup.{lookup-found}
 use Rattle.plain_search.specs.Lists.{AreClosed, IsLeastCost, IsBelow}
 use Rattle.plain_search.specs.Listing.{ArePriced, IsSortedFrom, entry_below, entries_below, place_number}
 use Rattle.plain_search.specs.Progress.{HasTaken, IsAtGoal}
-use Rattle.plain_search.specs.Room.{IsNear}
 use Rattle.plain_search.specs.Rule.{plain_rule, plain_links}
 use Rattle.plain_search.proofs.Ascending.{ascending, distinct_made, one_place_number}
 use Rattle.plain_search.proofs.Entries.{made_contained, contained_made}

@@ -1,7 +1,7 @@
 -- A state's offers of the moves that are kept make the least offers those after it.
-use Rattle.std.proofs.Common.{◌≡◌, ℕ, ◌+◌, ◌*◌, ◌<◌, ◌≤◌, ◌^◌, ◌⊎◌, inl, inr, List, [], ◌∷◌, refl, ap, sym, ◌∙◌, subst, Bool, true, false, arith}
+use Rattle.std.proofs.Common.{◌≡◌, ℕ, ◌+◌, ◌*◌, ◌⊎◌, inl, inr, List, [], ◌∷◌, refl, ap, sym, ◌∙◌, subst, Bool, true, false, arith}
 use Rattle.std.specs.Option.{option_map_or}
-use Rattle.std.specs.Prelude.{Option, Some, None, slice_get, if◌then◌else◌, nat_eq}
+use Rattle.std.specs.Prelude.{Option, Some, None, if◌then◌else◌, nat_eq}
 use Rattle.std.proofs.lemmas.Bool.Decides.{nat_tests}
 use Rattle.root2_cost.specs.declared.Cost.{Cost}
 use Rattle.root2_cost.specs.Order.{IsAtMost}
@@ -14,7 +14,7 @@ use Rattle.grid_moves.specs.Grid.{GridData}
 use Rattle.grid_moves.specs.Move.{is_legal, is_same, move_cost, ahead, all_dirs, column_ahead, row_ahead, legal_ahead}
 use Rattle.grid_moves.proofs.Ahead.{legal_ahead-of}
 use Rattle.grid_moves.proofs.Legal.{is_same-cell, is_same-itself, legal_is}
-use Rattle.search_run.specs.Run.{Taken, here, IsRun, is_taken, least_offer}
+use Rattle.search_run.specs.Run.{Taken, IsRun, is_taken, least_offer}
 use Rattle.search_run.proofs.Leastness.{least_offer-from, is_taken-member, or_false}
 use Rattle.search_run.proofs.Parents.{parent_offers}
 use Rattle.best_first.specs.declared.node.Node.{Node}

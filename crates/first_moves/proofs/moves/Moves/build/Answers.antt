@@ -1,4 +1,4 @@
-use Rattle.std.proofs.Common.{◌∙◌, ◌*◌, ap, length, List, subst, sym, ℕ}
+use Rattle.std.proofs.Common.{◌∙◌, ap, length, List, subst, sym}
 use Rattle.first_moves.specs.Kept.{AreRows}
 use Rattle.first_moves.specs.declared.row.Run.{Run}
 use Rattle.first_moves.proofs.Rows.{are_moves}

@@ -1,5 +1,4 @@
-use Rattle.std.proofs.Common.{◌≡◌, ◌∙◌}
-use Rattle.std.specs.Prelude.{IfOk}
+use Rattle.std.proofs.Common.{◌∙◌}
 use Rattle.first_moves.proofs.Rows.{if_told}
 use Rattle.first_moves.proofs.row.Row.by_pass.Goals as goal
 
