@@ -156,3 +156,14 @@ corner_touch-one = refl
 pub open_diagonal : legal_ahead (grid_of 2 2 (codes "....") Never) (record { x = 0; y = 0 }) SE
     ≡ Some (record { x = 1; y = 1 })
 open_diagonal = refl
+
+-- before the first column and row lies what is on no map
+pub beyond_the_corner : beyond NW (record { x = 0; y = 0 }) ≡ record { x = 65535; y = 65535 }
+beyond_the_corner = refl
+
+-- of the pillar's map the middle alone is an inner cell
+pub the_middle_is_inner : is_inner (pillar Never) (record { x = 1; y = 1 }) ≡ true
+the_middle_is_inner = refl
+
+pub a_side_is_not : is_inner (pillar Never) (record { x = 0; y = 1 }) ≡ false
+a_side_is_not = refl

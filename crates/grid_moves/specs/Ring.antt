@@ -1,6 +1,7 @@
 -- The cells around a cell, told by the direction to them, and the moves that they tell of.
-use Rattle.std.specs.Prelude.{Bool, not, ◌&&◌}
+use Rattle.std.specs.Prelude.{◌≡◌, Bool, true, false, not, ◌&&◌, refl}
 use Rattle.grid_moves.specs.declared.Corner.{Corner}
+use Rattle.grid_moves.specs.declared.Corner.TheVariants.{Never, One}
 use Rattle.grid_moves.specs.declared.Dir.{Dir}
 use Rattle.grid_moves.specs.declared.Dir.TheVariants.{N, NE, E, SE, S, SW, W, NW}
 use Rattle.grid_moves.specs.declared.ring.Ring.{Ring}
@@ -19,7 +20,7 @@ ring_told free = record {
   nw = free NW;
 }
 
--- the cell in this direction is free, and is not
+-- the cell in this direction is free
 abbrev pub is_free_on : Ring → Dir → Bool
 is_free_on ring N = ring.n
 is_free_on ring NE = ring.ne
@@ -30,6 +31,7 @@ is_free_on ring SW = ring.sw
 is_free_on ring W = ring.w
 is_free_on ring NW = ring.nw
 
+-- and is not
 abbrev pub is_shut : Ring → Dir → Bool
 is_shut ring d = not (is_free_on ring d)
 
@@ -43,3 +45,14 @@ leads_on rule ring S = ring.s
 leads_on rule ring SW = ring.sw && is_passable rule ring.w ring.s
 leads_on rule ring W = ring.w
 leads_on rule ring NW = ring.nw && is_passable rule ring.w ring.n
+
+-- where the cells to the north-east and to the east are free alone, the diagonal between them is legal where one blocked
+-- cell may be passed
+abbrev two_free : Ring
+two_free = record { n = false; ne = true; e = true; se = false; s = false; sw = false; w = false; nw = false }
+
+pub no_corner_is_cut : leads_on Never two_free NE ≡ false
+no_corner_is_cut = refl
+
+pub one_may_be : leads_on One two_free NE ≡ true
+one_may_be = refl

@@ -18,6 +18,6 @@ is_allowed_on corner ring by e = is_kept corner (is_shut ring) by e && leads_on 
 abbrev pub forced_beside : Corner → Ring → Dir → Side → Bool
 forced_beside corner ring d s = is_forced_on corner (is_shut ring) (leads_on corner ring) d s
 
--- and on one of both sides
+-- and on one side or the other
 abbrev pub forced_on : Corner → Ring → Dir → Bool
 forced_on corner ring d = forced_beside corner ring d Right || forced_beside corner ring d Left

@@ -2,8 +2,8 @@
 //! walk is lost so.
 //!
 //! The rule is that of Harabor and Grastien's Jump Point Search (AAAI 2011), and, on a grid where no
-//! corner is cut, its form of SoCS 2012. `allowed`, `allowed_word` and `forced` are the rule on a grid,
-//! `allowed_on` and `forced_on` the same told by the cells around a cell; `JumpSource` is what a search asks of
+//! corner is cut, its form of SoCS 2012. `allowed`, `allowed_word` and `forced` are the rule on a grid;
+//! `allowed_on` and `forced_on` are the same, told by the cells around a cell. `JumpSource` is what a search asks of
 //! whatever finds the stops; `laws` has what makes such a search right.
 #![tactic(auto)]
 

@@ -264,8 +264,8 @@ pub fn forced_on(rule: Corner, ring: Ring, d: Dir) -> bool
     is_forced_on(rule, ring, d, Side::Right) | is_forced_on(rule, ring, d, Side::Left)
 }
 
-// The same where the cells around are read, under a rule that the compiler knows: those for which it does not
-// ask are not read.
+// The same on a grid. The compiler knows the rule, and where it knows `d` too it leaves out the cells that are not
+// asked for.
 #[inline(always)]
 fn forced_around<T: Terrain>(t: &T, rule: Corner, at: Cell, d: Dir) -> bool
     requires free { IsTrue (is_free (T.grid t.now) at) }
