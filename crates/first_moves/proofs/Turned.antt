@@ -7,10 +7,8 @@ use Rattle.root2_cost.specs.Order.{IsAtMost}
 use Rattle.root2_cost.specs.Sums.{add_costs}
 use Rattle.root2_cost.proofs.Sums.{add_costs-assoc, add_costs-comm, add_costs-no_cost_left, add_costs-no_cost_right}
 use Rattle.grid_moves.specs.declared.Cell.{Cell}
-use Rattle.grid_moves.specs.declared.Corner.{Corner}
-use Rattle.grid_moves.specs.declared.Corner.TheVariants.{Never, One}
 use Rattle.grid_moves.specs.Grid.{GridData, is_free}
-use Rattle.grid_moves.specs.Move.{is_legal, is_passable, corner_of, move_cost}
+use Rattle.grid_moves.specs.Move.{is_legal, corner_of, move_cost}
 use Rattle.grid_moves.specs.Walk.{IsWalk, is_walk, cost_of, last_of}
 use Rattle.grid_moves.proofs.Besides.{passable-turned}
 use Rattle.grid_moves.proofs.Legal.{and_both, legal_is, is_legal-from}
