@@ -6,7 +6,6 @@ use Rattle.grid_moves.specs.Grid.{GridData}
 use Rattle.plain_search.specs.Room.{IsReady}
 
 infixl 30 ◌▸◌
-
 -- one shape behind another
 pub ◌▸◌ : {a b c : SpaceData} → KeepsShape a b → KeepsShape b c → KeepsShape a c
 p ▸ q = record { layout = q.layout ∙ p.layout; places = q.places ∙ p.places; width = q.width ∙ p.width }
