@@ -37,10 +37,10 @@ pub struct Around {
 impl Around {
     // The moves that the cells around tell of.
     #[inline(always)]
-    fn told(rule: Corner, ring: Ring, c: Cell) -> Around
+    fn told(rule: Corner, ring: &Ring, c: Cell) -> Around
         requires column { c.x < 65535 }
         requires row { c.y < 65535 }
-        ensures open { (d : _) → is_open_to result d ≡ rings.leads_on rule ring d }
+        ensures open { (d : _) → is_open_to result d ≡ rings.leads_on rule ring.now d }
         ensures ends { (d : _) → end_of result c d ≡ moves.beyond d c }
     {
         Around {
@@ -48,14 +48,14 @@ impl Around {
             right: c.x + 1,
             up: before(c.y),
             down: c.y + 1,
-            n: ring.can_move(rule, Dir::N),
-            ne: ring.can_move(rule, Dir::NE),
-            e: ring.can_move(rule, Dir::E),
-            se: ring.can_move(rule, Dir::SE),
-            s: ring.can_move(rule, Dir::S),
-            sw: ring.can_move(rule, Dir::SW),
-            w: ring.can_move(rule, Dir::W),
-            nw: ring.can_move(rule, Dir::NW),
+            n: ring.leads_on(rule, Dir::N),
+            ne: ring.leads_on(rule, Dir::NE),
+            e: ring.leads_on(rule, Dir::E),
+            se: ring.leads_on(rule, Dir::SE),
+            s: ring.leads_on(rule, Dir::S),
+            sw: ring.leads_on(rule, Dir::SW),
+            w: ring.leads_on(rule, Dir::W),
+            nw: ring.leads_on(rule, Dir::NW),
         }
     }
 
@@ -68,8 +68,8 @@ impl Around {
     {
         let ring = Ring::of(t, c);
         match t.corner() {
-            Corner::Never => Around::told(Corner::Never, ring, c),
-            Corner::One => Around::told(Corner::One, ring, c),
+            Corner::Never => Around::told(Corner::Never, &ring, c),
+            Corner::One => Around::told(Corner::One, &ring, c),
         }
     }
 }
