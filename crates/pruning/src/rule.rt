@@ -276,9 +276,30 @@ fn forced_around<T: Terrain>(t: &T, rule: Corner, at: Cell, d: Dir) -> bool
     forced_on(rule, Ring::of(t, at), d)
 }
 
-/// Whether, after a move in `d` to this free cell, a neighbour is forced. For a straight `d` that is: whether
-/// the cell is marked for it. Where the compiler knows `d`, only the cells that it asks for are read.
+// The same, with code of its own for each direction.
 #[inline(always)]
+fn forced_by<T: Terrain>(t: &T, rule: Corner, at: Cell, d: Dir) -> bool
+    requires free { IsTrue (is_free (T.grid t.now) at) }
+    requires whole { IsGrid (T.grid t.now) }
+    requires rule { rule ≡ (T.grid t.now).corner }
+    ensures { result ≡ marks.is_forced (T.grid t.now) at d }
+{
+    match d {
+        Dir::N => forced_around(t, rule, at, Dir::N),
+        Dir::NE => forced_around(t, rule, at, Dir::NE),
+        Dir::E => forced_around(t, rule, at, Dir::E),
+        Dir::SE => forced_around(t, rule, at, Dir::SE),
+        Dir::S => forced_around(t, rule, at, Dir::S),
+        Dir::SW => forced_around(t, rule, at, Dir::SW),
+        Dir::W => forced_around(t, rule, at, Dir::W),
+        Dir::NW => forced_around(t, rule, at, Dir::NW),
+    }
+}
+
+/// Whether, after a move in `d` to this free cell, a neighbour is forced. For a straight `d` that is: whether
+/// the cell is marked for it. A function of its own: where it is asked, which is seldom, its many reads would keep
+/// the loop around from being inlined.
+#[inline(never)]
 pub fn forced<T: Terrain>(t: &T, at: Cell, d: Dir) -> bool
     requires free { IsTrue (is_free (T.grid t.now) at) }
     ensures forces { result ≡ marks.is_forced (T.grid t.now) at d }
@@ -286,7 +307,7 @@ pub fn forced<T: Terrain>(t: &T, at: Cell, d: Dir) -> bool
 {
     let _whole = t.width();
     match t.corner() {
-        Corner::Never => forced_around(t, Corner::Never, at, d),
-        Corner::One => forced_around(t, Corner::One, at, d),
+        Corner::Never => forced_by(t, Corner::Never, at, d),
+        Corner::One => forced_by(t, Corner::One, at, d),
     }
 }
