@@ -177,8 +177,31 @@ module _ (g : GridData) (c : Cell) (free : is_free g c ≡ true) (ring : Ring)
       (λ e. read e ∙ sym (told_on (λ e. is_open g c e) e)) d
       ∙ leads_on-open g c free d
 
-  -- and where they lead
-  pub around_told : (a : Around) → ((d : Dir) → is_open_to a d ≡ leads_on rule ring d)
-      → ((d : Dir) → end_of a c d ≡ beyond d c) → IsAround g c a
-  around_told a opened ends = λ d. ap (λ (v : Cell). if_open (is_open_to a d) v) (ends d)
-      ∙ legal_beyond g c d (is_open_to a d) (opened d ∙ leads_on-legal d)
+passes : (r : Corner) (a p b c y z : Bool) → p ≡ is_passable r b c → b ≡ y → c ≡ z
+    → (a && p) ≡ (a && is_passable r y z)
+passes r a p b c y z h k l = rw (h, k, l) refl
+
+-- the moves that the cells around tell of, once read: which passages are open is told by the straight ones
+module _ (g : GridData) (c : Cell) (free : is_free g c ≡ true) (rule : Corner) (same : rule ≡ g.corner) (a : Around)
+    (n : a.n ≡ is_open g c N) (e : a.e ≡ is_open g c E) (s : a.s ≡ is_open g c S) (w : a.w ≡ is_open g c W)
+    (ne se sw nw : Bool) (by_ne : ne ≡ is_passable rule a.e a.n) (by_se : se ≡ is_passable rule a.e a.s)
+    (by_sw : sw ≡ is_passable rule a.w a.s) (by_nw : nw ≡ is_passable rule a.w a.n)
+    (is_ne : a.ne ≡ (is_open g c NE && ne)) (is_se : a.se ≡ (is_open g c SE && se))
+    (is_sw : a.sw ≡ (is_open g c SW && sw)) (is_nw : a.nw ≡ (is_open g c NW && nw)) where
+  abbrev ring : Ring
+  ring = ring_told (λ d. is_open g c d)
+
+  opened : (d : Dir) → is_open_to a d ≡ leads_on rule ring d
+  opened N = n
+  opened NE = is_ne ∙ passes rule _ _ _ _ _ _ by_ne e n
+  opened E = e
+  opened SE = is_se ∙ passes rule _ _ _ _ _ _ by_se e s
+  opened S = s
+  opened SW = is_sw ∙ passes rule _ _ _ _ _ _ by_sw w s
+  opened W = w
+  opened NW = is_nw ∙ passes rule _ _ _ _ _ _ by_nw w n
+
+  pub around_told : ((d : Dir) → end_of a c d ≡ beyond d c) → IsAround g c a
+  around_told ends = λ d. ap (λ (v : Cell). if_open (is_open_to a d) v) (ends d)
+      ∙ legal_beyond g c d (is_open_to a d)
+      (opened d ∙ leads_on-legal g c free ring (λ f. told_on (λ h. is_open g c h) f) rule same d)

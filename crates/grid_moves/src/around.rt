@@ -3,15 +3,14 @@
 //! The cells beside a diagonal move are the ends of straight moves. All eight are read with no branch on
 //! what is found, since whether a cell is free is seldom foreseen by the processor.
 
-ghost use Rattle.std.specs.Prelude.{◌≡◌, ◌<◌, true};
+ghost use Rattle.std.specs.Prelude.{◌≡◌, ◌<◌, ◌&&◌, true};
 ghost use Rattle.grid_moves.specs.Grid.{IsGrid, is_free};
 ghost use Rattle.grid_moves.specs.Move as moves;
-ghost use Rattle.grid_moves.specs.Ring as rings;
-ghost use Rattle.grid_moves.specs.Around.{IsAround, end_of, is_open_to};
+ghost use Rattle.grid_moves.specs.Around.{IsAround, end_of};
 
 use crate::moves::before;
-use crate::terrain::is_inner;
-use crate::{Cell, Corner, Dir, Ring, Terrain};
+use crate::terrain::{is_inner, is_open, is_passable};
+use crate::{Cell, Corner, Dir, Terrain};
 
 /// Which moves from a cell are legal, by direction, and the columns and rows that they lead to.
 #[derive(Clone, Copy)]
@@ -34,42 +33,87 @@ pub struct Around {
     pub nw: bool,
 }
 
-impl Around {
-    // The moves that the cells around tell of.
+// Which diagonal moves pass between the straight cells beside them.
+#[derive(Clone, Copy)]
+struct Passages {
+    ne: bool,
+    se: bool,
+    sw: bool,
+    nw: bool,
+}
+
+impl Passages {
+    // Those under a rule, told which straight cells are free.
     #[inline(always)]
-    fn told(rule: Corner, ring: &Ring, c: Cell) -> Around
-        requires column { c.x < 65535 }
-        requires row { c.y < 65535 }
-        ensures open { (d : _) → is_open_to result d ≡ rings.leads_on rule ring.now d }
-        ensures ends { (d : _) → end_of result c d ≡ moves.beyond d c }
+    fn by(rule: Corner, n: bool, e: bool, s: bool, w: bool) -> Passages
+        ensures ne { result.ne ≡ moves.is_passable rule e n }
+        ensures se { result.se ≡ moves.is_passable rule e s }
+        ensures sw { result.sw ≡ moves.is_passable rule w s }
+        ensures nw { result.nw ≡ moves.is_passable rule w n }
     {
-        Around {
-            left: before(c.x),
-            right: c.x + 1,
-            up: before(c.y),
-            down: c.y + 1,
-            n: ring.leads_on(rule, Dir::N),
-            ne: ring.leads_on(rule, Dir::NE),
-            e: ring.leads_on(rule, Dir::E),
-            se: ring.leads_on(rule, Dir::SE),
-            s: ring.leads_on(rule, Dir::S),
-            sw: ring.leads_on(rule, Dir::SW),
-            w: ring.leads_on(rule, Dir::W),
-            nw: ring.leads_on(rule, Dir::NW),
+        Passages {
+            ne: is_passable(rule, e, n),
+            se: is_passable(rule, e, s),
+            sw: is_passable(rule, w, s),
+            nw: is_passable(rule, w, n),
         }
     }
 
-    /// Reads the cells around a free cell. Each rule has code of its own.
+    // The same, with code of its own for each rule.
+    #[inline(always)]
+    fn between(rule: Corner, n: bool, e: bool, s: bool, w: bool) -> Passages
+        ensures ne { result.ne ≡ moves.is_passable rule e n }
+        ensures se { result.se ≡ moves.is_passable rule e s }
+        ensures sw { result.sw ≡ moves.is_passable rule w s }
+        ensures nw { result.nw ≡ moves.is_passable rule w n }
+    {
+        match rule {
+            Corner::Never => Passages::by(Corner::Never, n, e, s, w),
+            Corner::One => Passages::by(Corner::One, n, e, s, w),
+        }
+    }
+}
+
+// Whether the cell in a diagonal direction is free and the move passes, with no branch on either.
+#[inline(always)]
+fn is_open_past<T: Terrain>(t: &T, c: Cell, d: Dir, passes: bool) -> bool
+    requires column { c.x < 65535 }
+    requires row { c.y < 65535 }
+    ensures { result ≡ (moves.is_open (T.grid t.now) c d && passes) }
+{
+    passes & is_open(t, c, d)
+}
+
+impl Around {
+    /// Reads the cells around a free cell. They are no `Ring` here: its eight flags would be packed into a word, and
+    /// a plain search would take a sixth more instructions.
     #[inline(always)]
     pub fn of<T: Terrain>(t: &T, c: Cell) -> Around
         requires free { is_free (T.grid t.now) c ≡ true }
         requires whole { IsGrid (T.grid t.now) }
-        ensures { IsAround (T.grid t.now) c result }
+        ensures around { IsAround (T.grid t.now) c result }
+        ensures ends { (d : _) → end_of result c d ≡ moves.beyond d c }
     {
-        let ring = Ring::of(t, c);
-        match t.corner() {
-            Corner::Never => Around::told(Corner::Never, &ring, c),
-            Corner::One => Around::told(Corner::One, &ring, c),
+        let (left, right) = (before(c.x), c.x + 1);
+        let (up, down) = (before(c.y), c.y + 1);
+        let n = is_open(t, c, Dir::N);
+        let e = is_open(t, c, Dir::E);
+        let s = is_open(t, c, Dir::S);
+        let w = is_open(t, c, Dir::W);
+        let pass = Passages::between(t.corner(), n, e, s, w);
+        Around {
+            left,
+            right,
+            up,
+            down,
+            n,
+            ne: is_open_past(t, c, Dir::NE, pass.ne),
+            e,
+            se: is_open_past(t, c, Dir::SE, pass.se),
+            s,
+            sw: is_open_past(t, c, Dir::SW, pass.sw),
+            w,
+            nw: is_open_past(t, c, Dir::NW, pass.nw),
         }
     }
 }
@@ -79,7 +123,8 @@ impl Around {
 fn moves_on_border<T: Terrain>(t: &T, c: Cell) -> Around
     requires free { is_free (T.grid t.now) c ≡ true }
     requires whole { IsGrid (T.grid t.now) }
-    ensures { IsAround (T.grid t.now) c result }
+    ensures around { IsAround (T.grid t.now) c result }
+    ensures ends { (d : _) → end_of result c d ≡ moves.beyond d c }
 {
     Around::of(t, c)
 }
@@ -89,7 +134,8 @@ fn moves_on_border<T: Terrain>(t: &T, c: Cell) -> Around
 pub fn moves_around<T: Terrain>(t: &T, c: Cell) -> Around
     requires free { is_free (T.grid t.now) c ≡ true }
     requires whole { IsGrid (T.grid t.now) }
-    ensures { IsAround (T.grid t.now) c result }
+    ensures around { IsAround (T.grid t.now) c result }
+    ensures ends { (d : _) → end_of result c d ≡ moves.beyond d c }
 {
     if is_inner(t, c) {
         Around::of(t, c)

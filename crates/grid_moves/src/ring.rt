@@ -58,19 +58,11 @@ impl Ring {
         }
     }
 
-    /// Whether the move in this direction is legal, from a free cell.
+    /// Whether the move in this direction is legal, from a free cell. Of the cells beside a diagonal move the
+    /// one on the row comes first: in that order the compiler makes the shorter vector code of it.
     #[inline(always)]
     pub fn can_move(self, rule: Corner, d: Dir) -> bool
         ensures { result ≡ spec.leads_on rule self d }
-    {
-        self.leads_on(rule, d)
-    }
-
-    // The same by reference: eight flags that are copied are packed into a word first. Of the cells beside a
-    // diagonal move the one on the row comes first: in that order the compiler makes the shorter vector code.
-    #[inline(always)]
-    pub(crate) fn leads_on(&self, rule: Corner, d: Dir) -> bool
-        ensures { result ≡ spec.leads_on rule self.now d }
     {
         match d {
             Dir::N => self.n,

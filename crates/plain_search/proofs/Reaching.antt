@@ -19,7 +19,8 @@ use Rattle.best_first.specs.State.{start_at, state_number}
 use Rattle.best_first.proofs.Bounds.{member, state_below, apart_run}
 use Rattle.plain_search.specs.Answer.{IsExhausted}
 use Rattle.plain_search.specs.Lists.{AreReached}
-use Rattle.plain_search.specs.Listing.{AreOn, IsSortedFrom, cell_of, place_number}
+use Rattle.best_first.specs.State.{cell_of_number}
+use Rattle.plain_search.specs.Listing.{AreOn, IsSortedFrom, place_number}
 use Rattle.plain_search.specs.Rule.{plain_rule, plain_links}
 use Rattle.plain_search.proofs.Ascending.{ascending, distinct_made, filter_map-some, one_place_number}
 use Rattle.plain_search.proofs.Entries.{made_contained, contained_made}
@@ -28,10 +29,10 @@ use Rattle.plain_search.proofs.Right.{way}
 use Rattle.plain_search.proofs.Walks.{plain_are_moves, plain_consistent, walk_chain}
 
 -- a state's printed number tells its cell
-told_cell : (width : ℕ) (c : Cell) → c.x < width → cell_of width (state_number width (start_at c)) ≡ c
+told_cell : (width : ℕ) (c : Cell) → c.x < width → cell_of_number width (state_number width (start_at c)) ≡ c
 told_cell width c h =
     let nine : (cell_number width c * 9 + 8) / 9 ≡ cell_number width c = omega arith in
-    same_cell (cell_of width (state_number width (start_at c))) c
+    same_cell (cell_of_number width (state_number width (start_at c))) c
     (ap (λ n. n % width) nine ∙ ap (λ n. n % width) (turned (c.y * width) c.x)
     ∙ add-mul-mod_self_right c.x c.y width ∙ mod-eq_of_lt h)
     (ap (λ n. n / width) nine ∙ div-mul-add c.y width c.x h)
@@ -93,28 +94,28 @@ module _ {g : GridData} {s t : Cell} (asked : IsAsked g s t (plain_links g)) {ta
 
   -- the cells of the numbers are those of the states
   cells_told : (run : List (Taken State)) → ((u : Taken State) → IsIn u run → IsIn u x.run)
-      → map (cell_of g.width) (map (number g.width) run) ≡ map (λ u. u.state.cell) run
+      → map (cell_of_number g.width) (map (number g.width) run) ≡ map (λ u. u.state.cell) run
   cells_told [] sub = refl
   cells_told (u ∷ run) sub =
       let p = plain_at u (sub u (here run)) in
       let f = free_inside g u.state.cell p.0 in
-      let one : cell_of g.width (number g.width u) ≡ u.state.cell =
-      ap (λ (v : State). cell_of g.width (state_number g.width v)) p.1 ∙ told_cell g.width u.state.cell f.0 in
+      let one : cell_of_number g.width (number g.width u) ≡ u.state.cell =
+      ap (λ (v : State). cell_of_number g.width (state_number g.width v)) p.1 ∙ told_cell g.width u.state.cell f.0 in
       rw (one, cells_told run (λ v m. sub v (there u run m))) refl
 
-  from_states : IsPermutation (map (λ u. u.state.cell) x.run) (map (cell_of g.width) taken)
+  from_states : IsPermutation (map (λ u. u.state.cell) x.run) (map (cell_of_number g.width) taken)
   from_states =
-      subst (λ (cs : List Cell). IsPermutation cs (map (cell_of g.width) taken)) (cells_told x.run (λ u m. m))
-      (subst (λ (ns : List ℕ). IsPermutation (map (cell_of g.width) (map (number g.width) x.run))
-      (map (cell_of g.width) ns)) (sym x.numbered)
-      (IsPermutation-map (cell_of g.width) (map (number g.width) x.run) (reverse (map (number g.width) x.run))
+      subst (λ (cs : List Cell). IsPermutation cs (map (cell_of_number g.width) taken)) (cells_told x.run (λ u m. m))
+      (subst (λ (ns : List ℕ). IsPermutation (map (cell_of_number g.width) (map (number g.width) x.run))
+      (map (cell_of_number g.width) ns)) (sym x.numbered)
+      (IsPermutation-map (cell_of_number g.width) (map (number g.width) x.run) (reverse (map (number g.width) x.run))
       (IsPermutation-reverse (map (number g.width) x.run))))
 
-  module _ (reached : List Cell) (by : IsSortedFrom (λ (c : Cell). c) (map (cell_of g.width) taken) reached) where
+  module _ (reached : List Cell) (by : IsSortedFrom (λ (c : Cell). c) (map (cell_of_number g.width) taken) reached) where
     joined : IsPermutation (filter_map taken_cell x.run) reached
     joined = subst (λ (cs : List Cell). IsPermutation cs reached)
         (sym (filter_map-some (λ (u : Taken State). u.state.cell) x.run))
-        (IsPermutation-trans (map (λ u. u.state.cell) x.run) (map (cell_of g.width) taken) reached from_states
+        (IsPermutation-trans (map (λ u. u.state.cell) x.run) (map (cell_of_number g.width) taken) reached from_states
         by.permutation)
 
     source : (c : Cell) → Contains reached c → (u : Taken State) × IsIn u x.run × (u.state.cell ≡ c)

@@ -1,5 +1,5 @@
 -- How the lists of a search are made. No public clause cites this module.
-use Rattle.std.specs.Prelude.{◌≡◌, ℕ, ◌+◌, ◌*◌, ◌/◌, ◌%◌, ◌<◌, nat_lt, if◌then◌else◌, List, Option, Some, None, slice_get}
+use Rattle.std.specs.Prelude.{◌≡◌, ℕ, ◌+◌, ◌*◌, ◌<◌, nat_lt, if◌then◌else◌, List, Option, Some, None, slice_get}
 use Rattle.std.specs.List.{filter_map}
 use Rattle.std.specs.List.Sorted.{IsPermutation, IsNonDecreasingBy}
 use Rattle.root2_cost.specs.declared.Cost.{Cost}
@@ -32,10 +32,6 @@ entries_below goal limit nodes = filter_map (entry_below goal limit) nodes
 -- cells in the order of their numbers have these numbers in order, whatever the map's width
 abbrev pub place_number : Cell → ℕ
 place_number c = c.y * 65536 + c.x
-
--- the cell of a state's printed number
-abbrev pub cell_of : ℕ → ℕ → Cell
-cell_of width state = record { x = state / 9 % width; y = state / 9 / width }
 
 -- the states' numbers are those of cells of a map of this width, in one of 65536 rows
 abbrev pub AreOn : ℕ → List ℕ → Type 0

@@ -6,12 +6,13 @@
 
 ghost use Rattle.std.specs.Prelude.{◌≡◌, ◌<◌, ◌≤◌, ◌*◌, IfOk, length, map};
 ghost use Rattle.root2_cost.specs.Rank.{cost_of_rank};
+ghost use Rattle.best_first.specs.State.{cell_of_number};
 ghost use Rattle.best_first.specs.Trace.{rank_left};
 ghost use Rattle.plain_search.specs.Listing as spec;
-ghost use Rattle.plain_search.specs.Listing.{ArePriced, IsPriced, IsSortedFrom, AreOn, place_number, entries_below, cell_of};
+ghost use Rattle.plain_search.specs.Listing.{ArePriced, IsPriced, IsSortedFrom, AreOn, place_number, entries_below};
 
 use crate::{NoMemory, Taken};
-use best_first::{Node, Space};
+use best_first::{Node, Space, State};
 use grid_moves::Cell;
 use path_points::{Cells, Costs, Points};
 use root2_cost::Cost;
@@ -112,28 +113,15 @@ pub(crate) fn closed_cells(
     Ok(Costs::of(entries))
 }
 
-// The cell of a state's printed number.
-fn cell_of(width: u16, state: u32) -> Cell
-    requires wide { 1 ≤ width }
-    requires on { state < 65536 * width * 9 }
-    ensures { result ≡ cell_of width state }
-{
-    let number = state / 9;
-    Cell {
-        x: (number % width as u32) as u16,
-        y: (number / width as u32) as u16,
-    }
-}
-
 /// The cells of the states of these printed numbers, in order.
 pub(crate) fn reached_cells(alloc: Global, width: u16, states: &[u32]) -> Result<Cells, NoMemory>
     requires wide { 1 ≤ width }
     requires on { AreOn width states.now }
-    ensures { IfOk result (IsSortedFrom (λ c. c) (map (cell_of width) states.now)) }
+    ensures { IfOk result (IsSortedFrom (λ c. c) (map (cell_of_number width) states.now)) }
 {
     let mut cells = Vec::new(alloc);
     for state in states {
-        cells.push(cell_of(width, *state))?;
+        cells.push(State::cell_of_number(width, *state))?;
     }
     sort_cells(&mut cells);
     Ok(Cells::of(cells))

@@ -6,45 +6,45 @@ use Rattle.cost_waves.proofs.front.spread.Goals as goal
 pub offer-requires-clause-fits : goal.offer-requires-clause-fits
 offer-requires-clause-fits g c = fits_ahead (g.T.Terrain.grid c.args.t.now) c.requires.whole
     c.args.from.cell _ N _
-    (c.moves_around-a.ensures N) _ _ _ (omega arith) (omega arith) (omega arith)
+    (c.moves_around-a.ensures.around N) _ _ _ (omega arith) (omega arith) (omega arith)
 
 pub offer-requires-2-clause-fits : goal.offer-requires-2-clause-fits
 offer-requires-2-clause-fits g c = fits_ahead (g.T.Terrain.grid c.args.t.now) c.requires.whole
     c.args.from.cell _ NE _
-    (c.moves_around-a.ensures NE) _ _ _ (omega arith) (omega arith) (omega arith)
+    (c.moves_around-a.ensures.around NE) _ _ _ (omega arith) (omega arith) (omega arith)
 
 pub offer-requires-3-clause-fits : goal.offer-requires-3-clause-fits
 offer-requires-3-clause-fits g c = fits_ahead (g.T.Terrain.grid c.args.t.now) c.requires.whole
     c.args.from.cell _ E _
-    (c.moves_around-a.ensures E) _ _ _ (omega arith) (omega arith) (omega arith)
+    (c.moves_around-a.ensures.around E) _ _ _ (omega arith) (omega arith) (omega arith)
 
 pub offer-requires-4-clause-fits : goal.offer-requires-4-clause-fits
 offer-requires-4-clause-fits g c = fits_ahead (g.T.Terrain.grid c.args.t.now) c.requires.whole
     c.args.from.cell _ SE _
-    (c.moves_around-a.ensures SE) _ _ _ (omega arith) (omega arith) (omega arith)
+    (c.moves_around-a.ensures.around SE) _ _ _ (omega arith) (omega arith) (omega arith)
 
 pub offer-requires-5-clause-fits : goal.offer-requires-5-clause-fits
 offer-requires-5-clause-fits g c = fits_ahead (g.T.Terrain.grid c.args.t.now) c.requires.whole
     c.args.from.cell _ S _
-    (c.moves_around-a.ensures S) _ _ _ (omega arith) (omega arith) (omega arith)
+    (c.moves_around-a.ensures.around S) _ _ _ (omega arith) (omega arith) (omega arith)
 
 pub offer-requires-6-clause-fits : goal.offer-requires-6-clause-fits
 offer-requires-6-clause-fits g c = fits_ahead (g.T.Terrain.grid c.args.t.now) c.requires.whole
     c.args.from.cell _ SW _
-    (c.moves_around-a.ensures SW) _ _ _ (omega arith) (omega arith) (omega arith)
+    (c.moves_around-a.ensures.around SW) _ _ _ (omega arith) (omega arith) (omega arith)
 
 pub offer-requires-7-clause-fits : goal.offer-requires-7-clause-fits
 offer-requires-7-clause-fits g c = fits_ahead (g.T.Terrain.grid c.args.t.now) c.requires.whole
     c.args.from.cell _ W _
-    (c.moves_around-a.ensures W) _ _ _ (omega arith) (omega arith) (omega arith)
+    (c.moves_around-a.ensures.around W) _ _ _ (omega arith) (omega arith) (omega arith)
 
 pub offer-requires-8-clause-fits : goal.offer-requires-8-clause-fits
 offer-requires-8-clause-fits g c = fits_ahead (g.T.Terrain.grid c.args.t.now) c.requires.whole
     c.args.from.cell _ NW _
-    (c.moves_around-a.ensures NW) _ _ _ (omega arith) (omega arith) (omega arith)
+    (c.moves_around-a.ensures.around NW) _ _ _ (omega arith) (omega arith) (omega arith)
 
 pub returns : goal.returns
 returns g c = all_eight (g.T.Terrain.grid c.args.t.now) c.args.limit c.args.from _ (omega arith)
-    c.moves_around-a.result c.moves_around-a.ensures _ _ _ _ _ _ _ _ _
+    c.moves_around-a.result c.moves_around-a.ensures.around _ _ _ _ _ _ _ _ _
     c.in_ok-offer.ensures c.in_ok-offer-2.ensures c.in_ok-offer-3.ensures c.in_ok-offer-4.ensures
     c.in_ok-offer-5.ensures c.in_ok-offer-6.ensures c.in_ok-offer-7.ensures c.in_ok-offer-8.ensures

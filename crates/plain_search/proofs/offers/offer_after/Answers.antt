@@ -5,13 +5,13 @@ pub offer_around-requires-clause-may : goal.offer_around-requires-clause-may
 offer_around-requires-clause-may g c =
     may_offer (g.T.Terrain.grid c.args.t.now) c.args.goal c.args.at c.args.node c.cell-cell.result
     c.moves_around-around.result c.less_offered-moves.result c.of.result c.cost_rank.result
-    c.cell-cell.ensures c.moves_around-around.ensures c.less_offered-moves.ensures c.cost_rank.ensures
+    c.cell-cell.ensures c.moves_around-around.ensures.around c.less_offered-moves.ensures c.cost_rank.ensures
     c.args.space.now c.requires.may
 
 pub returns-clause-expanded : goal.returns-clause-expanded
 returns-clause-expanded g c =
     expanded (g.T.Terrain.grid c.args.t.now) c.args.goal c.args.at c.args.node c.cell-cell.result
     c.moves_around-around.result c.less_offered-moves.result c.of.result c.cost_rank.result
-    c.cell-cell.ensures c.moves_around-around.ensures c.less_offered-moves.ensures c.cost_rank.ensures
+    c.cell-cell.ensures c.moves_around-around.ensures.around c.less_offered-moves.ensures c.cost_rank.ensures
     c.args.space.now.table c.offer_around.new.space.table c.args.arrival c.of.ensures c.requires.told
     c.offer_around.ensures.table
