@@ -82,14 +82,15 @@ module _ (width height : ℕ) (goal : Cell) (link : Links) (links : AreLinks wid
   ends_with None taken is = exhausted_ends taken is
 
   -- two answers are one
-  pub one_answer : (f h : Found) → IsAnswer width goal link shown start f → IsAnswer width goal link shown start h
+  pub one_answer : (f h : Found) → IsAnswer width goal link shown start f
+      → IsAnswer width goal link shown start h
       → f ≡ h
   one_answer f h is also =
       let e = ends_with f.walk f.taken is in
       let d = ends_with h.walk h.taken also in
       let same : e.run ≡ d.run =
-      ended_runs (search_rule width goal link) (numbers_tell width height goal link links) (start_at start) e.run
-      d.run e.is_run d.is_run e.ended d.ended in
+      ended_runs (search_rule width goal link) (numbers_tell width height goal link links)
+      (start_at start) e.run d.run e.is_run d.is_run e.ended d.ended in
       e.answers
       ∙ ap (λ (run : List (Taken State)). told run (has_goal (search_rule width goal link) run)) same
       ∙ sym d.answers
@@ -113,7 +114,8 @@ module _ (width height : ℕ) (goal : Cell) (link : Links) (links : AreLinks wid
 
   -- the answer of a run that ended
   by_end : (run : List (Taken State)) → IsRun (search_rule width goal link) (start_at start) run
-      → IsEnded (search_rule width goal link) run → (b : Bool) → has_goal (search_rule width goal link) run ≡ b
+      → IsEnded (search_rule width goal link) run → (b : Bool)
+      → has_goal (search_rule width goal link) run ≡ b
       → (f : Found) × IsAnswer width goal link shown start f
   by_end [] is end b h = absurd is
   by_end (x ∷ earlier) is end true h = (
@@ -149,7 +151,8 @@ module _ (width height : ℕ) (goal : Cell) (link : Links) (links : AreLinks wid
 
 -- where the last state's node is the goal's, the way back from it is the answer
 pub found_back : {layout : Layout} {width height : ℕ} {start goal : Cell} {link : Links}
-    (fit : IsSearch width height start goal link) (shown : List Cell → List Cell) {at : ℕ} {k : Table} {taken : List ℕ}
+    (fit : IsSearch width height start goal link) (shown : List Cell → List Cell) {at : ℕ} {k : Table}
+    {taken : List ℕ}
     (h : HasTaken layout width goal link start at k taken)
     → ((n : Node) → slice_get k.nodes at ≡ Some n → (state_of layout n).cell ≡ goal)
     → (points way : List Cell) (cost : Cost) → IsWayTo goal k.nodes at way cost → points ≡ shown way

@@ -1,5 +1,6 @@
 -- The parents of the nodes lead back along the run's way.
-use Rattle.std.proofs.Common.{◌≡◌, ◌≢◌, ℕ, ◌+◌, ◌-◌, ◌<◌, inl, inr, List, [], ◌∷◌, ◌++◌, refl, ap, sym, ◌∙◌, subst, Bool, true, false, ◌&&◌, arith, reverse, map}
+use Rattle.std.proofs.Common.{◌≡◌, ◌≢◌, ℕ, ◌+◌, ◌-◌, ◌<◌, inl, inr, List, [], ◌∷◌, ◌++◌, refl, ap, sym, ◌∙◌}
+use Rattle.std.proofs.Common.{subst, Bool, true, false, ◌&&◌, arith, reverse, map}
 use Rattle.std.proofs.lemmas.List.{reverse-append}
 use Rattle.std.proofs.lemmas.Bool.Decides.{nat_tests}
 use Rattle.std.specs.Prelude.{Some, slice_get, nat_eq}
@@ -46,7 +47,8 @@ back_is_one goal nodes id a b c d (goes i m p cells e ne h l f rest) (goes j n q
 
 -- a last element comes first in the other order
 reverse-last : (way : List State) (s : State)
-    → reverse (map (λ (u : State). u.cell) (way ++ s ∷ [])) ≡ s.cell ∷ reverse (map (λ (u : State). u.cell) way)
+    → reverse (map (λ (u : State). u.cell) (way ++ s ∷ []))
+    ≡ s.cell ∷ reverse (map (λ (u : State). u.cell) way)
 reverse-last way s =
     ap reverse (map-last way) ∙ reverse-append (map (λ (u : State). u.cell) way) (s.cell ∷ [])
   where
@@ -87,7 +89,8 @@ module _ {layout : Layout} {width height : ℕ} {start goal : Cell} {link : Link
   cell_is n s e = sym (in_cell layout (state_told n.place)) ∙ ap (λ (u : State). u.cell) e
 
   -- what is left of a key is the rank of the cost
-  pub left_is : (id : ℕ) (n : Node) → slice_get k.nodes id ≡ Some n → (u : Taken State) → IsIn u (last ∷ before)
+  pub left_is : (id : ℕ) (n : Node) → slice_get k.nodes id ≡ Some n → (u : Taken State)
+      → IsIn u (last ∷ before)
       → state_of layout n ≡ u.state → rank_left goal n ≡ rank_of u.cost
   left_is id n h u m e =
       let key : n.key ≡ rank_of u.cost + rank_of (estimate u.state.cell goal)
@@ -177,7 +180,8 @@ module _ {layout : Layout} {width height : ℕ} {start goal : Cell} {link : Link
       (subst (λ (cs : List Cell). IsBack goal k.nodes id (x.state.cell ∷ cs) x.cost) at_parent
       (subst (λ (c : Cell). IsBack goal k.nodes id (c ∷ cells_to (y ∷ earlier) from.by.state) x.cost)
       (cell_is n x.state e)
-      (subst (λ (c : Cost). IsBack goal k.nodes id (node_cell n ∷ cells_to (y ∷ earlier) from.by.state) c) cost
+      (subst (λ (c : Cost). IsBack goal k.nodes id (node_cell n ∷ cells_to (y ∷ earlier) from.by.state) c)
+      cost
       whole))))
     where
       falls : (m n a b : ℕ) → m ≡ a → n ≡ a + b → 0 < b → m < n

@@ -1,5 +1,6 @@
 -- A run takes at most nine states for each cell.
-use Rattle.std.proofs.Common.{◌≡◌, ℕ, zero, suc, ◌+◌, ◌*◌, ◌<◌, ◌≤◌, length, List, [], ◌∷◌, refl, ap, sym, ◌∙◌, subst, true, false, arith}
+use Rattle.std.proofs.Common.{◌≡◌, ℕ, zero, suc, ◌+◌, ◌*◌, ◌<◌, ◌≤◌, length, List, [], ◌∷◌, refl, ap, sym}
+use Rattle.std.proofs.Common.{◌∙◌, subst, true, false, arith}
 use Rattle.std.specs.Prelude.{Option, Some, None, slice_get}
 use Rattle.grid_moves.specs.declared.Cell.{Cell}
 use Rattle.grid_moves.specs.Grid.{cell_number}
@@ -41,7 +42,8 @@ state_below width height s a =
     let small = arrival_small s.arrival in
     omega arith
 
-module _ {width height : ℕ} {start goal : Cell} {link : Links} (posed : IsPosed width height start goal link) where
+module _ {width height : ℕ} {start goal : Cell} {link : Links}
+    (posed : IsPosed width height start goal link) where
   -- no state is taken twice
   later_other : (x : Taken State) (some : List (Taken State))
       → is_taken (search_rule width goal link) some x.state ≡ false → (u : Taken State) → IsIn u some

@@ -1,5 +1,6 @@
 -- Each search on a map has a run that ends, as its links lead to finitely many states.
-use Rattle.std.proofs.Common.{◌≡◌, ℕ, zero, suc, ◌<◌, ◌⊎◌, inl, inr, refl, Bool, true, false, ◌||◌, List, [], ◌∷◌, ◌++◌, arith}
+use Rattle.std.proofs.Common.{◌≡◌, ℕ, zero, suc, ◌<◌, ◌⊎◌, inl, inr, refl, Bool, true, false, ◌||◌, List, []}
+use Rattle.std.proofs.Common.{◌∷◌, ◌++◌, arith}
 use Rattle.std.specs.Prelude.{Option, Some, None}
 use Rattle.grid_moves.specs.declared.Cell.{Cell}
 use Rattle.grid_moves.specs.declared.Dir.{Dir}
@@ -42,7 +43,8 @@ in_cell c (Some E) = later _ _ (later _ _ (later _ _ (first _)))
 in_cell c (Some SE) = later _ _ (later _ _ (later _ _ (later _ _ (first _))))
 in_cell c (Some S) = later _ _ (later _ _ (later _ _ (later _ _ (later _ _ (first _)))))
 in_cell c (Some SW) = later _ _ (later _ _ (later _ _ (later _ _ (later _ _ (later _ _ (first _))))))
-in_cell c (Some W) = later _ _ (later _ _ (later _ _ (later _ _ (later _ _ (later _ _ (later _ _ (first _)))))))
+in_cell c (Some W) =
+    later _ _ (later _ _ (later _ _ (later _ _ (later _ _ (later _ _ (later _ _ (first _)))))))
 in_cell c (Some NW) =
     later _ _ (later _ _ (later _ _ (later _ _ (later _ _ (later _ _ (later _ _ (later _ _ (first _))))))))
 

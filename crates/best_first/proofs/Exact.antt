@@ -1,5 +1,6 @@
 -- An exact index leads to what is looked up, and stays exact.
-use Rattle.std.proofs.Common.{◌≡◌, ℕ, zero, suc, ◌+◌, ◌*◌, ◌<◌, ◌≤◌, ◌⊎◌, inl, inr, length, List, [], ◌∷◌, ◌++◌, refl, ap, sym, ◌∙◌, subst, Bool, true, false, arith}
+use Rattle.std.proofs.Common.{◌≡◌, ℕ, zero, suc, ◌+◌, ◌*◌, ◌<◌, ◌≤◌, ◌⊎◌, inl, inr, length, List, [], ◌∷◌}
+use Rattle.std.proofs.Common.{◌++◌, refl, ap, sym, ◌∙◌, subst, Bool, true, false, arith}
 use Rattle.std.specs.Prelude.{Option, Some, None, slice_get, slice_set, slice_index_or, nat_eq, if◌then◌else◌}
 use Rattle.std.proofs.lemmas.Grind.{common_steps}
 use Rattle.grid_moves.specs.Grid.{cell_number}
@@ -8,7 +9,8 @@ use Rattle.best_first.specs.declared.node.Node.{Node}
 use Rattle.best_first.specs.declared.state.State.{State}
 use Rattle.best_first.specs.declared.state.Layout.{Layout}
 use Rattle.best_first.specs.declared.state.Layout.TheVariants.{ByCell, ByArrival}
-use Rattle.best_first.specs.Index.{entry_for, entry_in, entry_of_record, AreHeads, AreBlank, IsNodeAt, IsExact, IsPut}
+use Rattle.best_first.specs.Index.{entry_for, entry_in, entry_of_record, AreHeads, AreBlank, IsNodeAt}
+use Rattle.best_first.specs.Index.{IsExact, IsPut}
 use Rattle.best_first.specs.Node.{state_of}
 use Rattle.best_first.specs.Space.{IsPlaced}
 use Rattle.best_first.specs.State.{arrival_number, state_number}
@@ -57,8 +59,10 @@ exact_blank layout width heads b = record {
     none ByArrival c a = ap (λ (h : ℕ). entry_of_record h [] a) (blank_head heads b c)
 
 -- states of one cell number and one arrival number are one
-pub one_placed : (width places : ℕ) (s t : State) → IsPlaced width places s.cell → IsPlaced width places t.cell
-    → cell_number width s.cell ≡ cell_number width t.cell → arrival_number s.arrival ≡ arrival_number t.arrival
+pub one_placed : (width places : ℕ) (s t : State) → IsPlaced width places s.cell
+    → IsPlaced width places t.cell
+    → cell_number width s.cell ≡ cell_number width t.cell → arrival_number s.arrival
+    ≡ arrival_number t.arrival
     → s ≡ t
 one_placed width places s t a b e f =
     same_state s t (one_cell width s.cell t.cell a.column b.column e) (one_arrival s.arrival t.arrival f)
@@ -85,7 +89,8 @@ module _ (layout : Layout) (width : ℕ) (nodes : List Node) (heads : List ℕ) 
       by_lookup None l = by_entry l _ refl
       by_lookup (Some id) l =
           let f = lookup-found layout nodes s id l in
-          ap (λ (t : State). entry_in layout heads records (cell_number width t.cell) (arrival_number t.arrival))
+          ap (λ (t : State). entry_in layout heads records (cell_number width t.cell)
+          (arrival_number t.arrival))
           (sym f.state) ∙ x.found id f.node f.node_is
 
   -- with one node more, put at its state
@@ -101,12 +106,15 @@ module _ (layout : Layout) (width : ℕ) (nodes : List Node) (heads : List ℕ) 
     covered = λ c r h. covered c r h (two c (cell_number width (state_of layout n).cell));
     inside = λ id m h. inside m (elim (got-added nodes n id m h) [
       | inl was ↦ x.inside id m was
-      | inr here ↦ subst (λ (q : Node). IsPlaced width (length heads) (state_of layout q).cell) (sym here.1) placed
+      | inr here ↦ subst (λ (q : Node). IsPlaced width (length heads) (state_of layout q).cell)
+          (sym here.1) placed
     ]);
     found = λ id m h. elim (got-added nodes n id m h) [
       | inl was ↦ (p.others (cell_number width (state_of layout m).cell)
-          (arrival_number (state_of layout m).arrival) (λ e. none_found layout nodes (state_of layout n) none id m
-          was (one_placed width (length heads) (state_of layout m) (state_of layout n) (x.inside id m was) placed
+          (arrival_number (state_of layout m).arrival)
+          (λ e. none_found layout nodes (state_of layout n) none id m
+          was (one_placed width (length heads) (state_of layout m) (state_of layout n)
+          (x.inside id m was) placed
           e.0 e.1)) ∙ x.found id m was)
       | inr here ↦ (ap (λ (q : Node). entry_in layout later_heads later_records
           (cell_number width (state_of layout q).cell) (arrival_number (state_of layout q).arrival)) here.1
@@ -126,7 +134,8 @@ module _ (layout : Layout) (width : ℕ) (nodes : List Node) (heads : List ℕ) 
           → IsPlaced width (length later_heads) (state_of layout m).cell
       inside m q = subst (λ (k : ℕ). IsPlaced width k (state_of layout m).cell) (sym p.as_many) q
 
-      lifted : (c a id : ℕ) → IsNodeAt layout width nodes c a id → IsNodeAt layout width (nodes ++ n ∷ []) c a id
+      lifted : (c a id : ℕ) → IsNodeAt layout width nodes c a id
+          → IsNodeAt layout width (nodes ++ n ∷ []) c a id
       lifted c a id at = record {
         node = at.node;
         node_is = get-added nodes n id at.node at.node_is;
@@ -146,7 +155,8 @@ module _ (layout : Layout) (width : ℕ) (nodes : List Node) (heads : List ℕ) 
         arrival_number (state_of layout n).arrival,
         length nodes,
         omega arith,
-        subst (λ (k : ℕ). IsNodeAt layout width (nodes ++ n ∷ []) k (arrival_number (state_of layout n).arrival)
+        subst
+            (λ (k : ℕ). IsNodeAt layout width (nodes ++ n ∷ []) k (arrival_number (state_of layout n).arrival)
             (length nodes)) (sym e) last_at,
       )
       covered c r h (inr ne) =
@@ -159,16 +169,19 @@ module _ (layout : Layout) (width : ℕ) (nodes : List Node) (heads : List ℕ) 
       elsewhere : (c a id : ℕ) → entry_in layout later_heads later_records c a ≡ suc id
           → (c ≡ cell_number width (state_of layout n).cell)
           ⊎ (c ≡ cell_number width (state_of layout n).cell → ⊥)
-          → (a ≡ arrival_number (state_of layout n).arrival) ⊎ (a ≡ arrival_number (state_of layout n).arrival → ⊥)
+          → (a ≡ arrival_number (state_of layout n).arrival)
+          ⊎ (a ≡ arrival_number (state_of layout n).arrival → ⊥)
           → IsNodeAt layout width (nodes ++ n ∷ []) c a id
       elsewhere c a id h (inl e) (inl f) =
           let entry : suc (length nodes) ≡ suc id = sym p.here
-          ∙ ap (λ (k : ℕ). entry_in layout later_heads later_records k (arrival_number (state_of layout n).arrival))
+          ∙ ap (λ (k : ℕ). entry_in layout later_heads later_records k
+          (arrival_number (state_of layout n).arrival))
           (sym e) ∙ ap (λ (k : ℕ). entry_in layout later_heads later_records c k) (sym f) ∙ h in
           subst (λ (k : ℕ). IsNodeAt layout width (nodes ++ n ∷ []) c a k)
           (number_is (length nodes) id entry)
           (subst (λ (k : ℕ). IsNodeAt layout width (nodes ++ n ∷ []) k a (length nodes)) (sym e)
-          (subst (λ (k : ℕ). IsNodeAt layout width (nodes ++ n ∷ []) (cell_number width (state_of layout n).cell)
+          (subst
+          (λ (k : ℕ). IsNodeAt layout width (nodes ++ n ∷ []) (cell_number width (state_of layout n).cell)
           k (length nodes)) (sym f) last_at))
       elsewhere c a id h (inl e) (inr g) =
           lifted c a id (x.nowhere_else c a id (sym (p.others c a (λ q. g q.1)) ∙ h))
@@ -249,5 +262,6 @@ module _ (layout : Layout) (width : ℕ) (nodes : List Node) (heads : List ℕ) 
 
   -- so there are at most nine nodes for each place
   pub few_nodes : length nodes ≤ length heads * 9
-  few_nodes = at_most (λ (n : Node). state_number width (state_of layout n)) nodes (length heads * 9) own_number
+  few_nodes = at_most (λ (n : Node). state_number width (state_of layout n)) nodes (length heads * 9)
+      own_number
       number_below

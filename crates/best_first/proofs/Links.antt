@@ -14,7 +14,8 @@ use Rattle.best_first.specs.Rule.{Links, search_rule, AreLinks, LiesOn, LiesNear
 use Rattle.best_first.proofs.States.{is_same_state-state, is_same_state-itself}
 
 -- the octile distance obeys the triangle inequality
-pub estimate_triangle : (u v goal : Cell) → IsAtMost (estimate u goal) (add_costs (estimate u v) (estimate v goal))
+pub estimate_triangle : (u v goal : Cell)
+    → IsAtMost (estimate u goal) (add_costs (estimate u v) (estimate v goal))
 estimate_triangle u v goal =
     octile_triangle (apart u.x goal.x) (apart u.y goal.y) (apart u.x v.x) (apart u.y v.y) (apart v.x goal.x)
     (apart v.y goal.y) (omega arith) (omega arith)

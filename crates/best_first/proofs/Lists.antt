@@ -1,5 +1,6 @@
 -- Reading a list after an element was added or changed.
-use Rattle.std.proofs.Common.{◌≡◌, ◌≢◌, ℕ, zero, suc, ◌⊎◌, inl, inr, arith, length, List, [], ◌∷◌, ◌++◌, refl, ap, sym}
+use Rattle.std.proofs.Common.{◌≡◌, ◌≢◌, ℕ, zero, suc, ◌⊎◌, inl, inr, arith, length, List, [], ◌∷◌, ◌++◌, refl}
+use Rattle.std.proofs.Common.{ap, sym}
 use Rattle.std.specs.Prelude.{Option, Some, None, slice_get, slice_set}
 
 module _ {X : Type 0} where

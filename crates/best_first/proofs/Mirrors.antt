@@ -1,5 +1,6 @@
 -- A table that keeps a run goes on keeping it when a node is offered.
-use Rattle.std.proofs.Common.{◌≡◌, ◌≢◌, ℕ, ◌<◌, ◌⊎◌, inl, inr, length, List, [], ◌∷◌, refl, ap, sym, ◌∙◌, subst, Bool, true, false, arith}
+use Rattle.std.proofs.Common.{◌≡◌, ◌≢◌, ℕ, ◌<◌, ◌⊎◌, inl, inr, length, List, [], ◌∷◌, refl, ap, sym, ◌∙◌}
+use Rattle.std.proofs.Common.{subst, Bool, true, false, arith}
 use Rattle.std.specs.Prelude.{Option, Some, None, slice_get}
 use Rattle.grid_moves.specs.declared.Cell.{Cell}
 use Rattle.search_run.specs.Run.{Taken, Offer, IsIn, here, there, is_taken}
@@ -151,7 +152,8 @@ module _ {layout : Layout} {width : ℕ} {goal : Cell} {link : Links} where
           by_test true t = absurd (none_found layout l.nodes s h id n ch.here
               (ch.state ∙ is_same_state-state v s t))
           by_test false t =
-              let before = m.known s (lookup-none layout k.nodes s (λ j x g e. no_node t j x g e (at_id j))) in
+              let before =
+              m.known s (lookup-none layout k.nodes s (λ j x g e. no_node t j x g e (at_id j))) in
               (before.0, at_others s t ∙ before.1)
 
       -- the table keeps the run still, with the node's offer for its state

@@ -1,5 +1,6 @@
 -- Numbers of which no two are equal are at most as many as there are below their bound.
-use Rattle.std.proofs.Common.{◌≡◌, ℕ, zero, suc, ◌<◌, ◌≤◌, length, List, [], ◌∷◌, refl, ap, subst, Bool, true, false, ◌||◌, arith, map, eqb}
+use Rattle.std.proofs.Common.{◌≡◌, ℕ, zero, suc, ◌<◌, ◌≤◌, length, List, [], ◌∷◌, refl, ap, subst, Bool, true}
+use Rattle.std.proofs.Common.{false, ◌||◌, arith, map, eqb}
 use Rattle.std.specs.Prelude.{Option, Some, None, slice_get}
 use Rattle.std.specs.List.{IsDistinct, AllByRecursion, list_any}
 use Rattle.std.proofs.lemmas.Map.Steps.{length-le_from_distinct_below}
@@ -23,7 +24,8 @@ any_is (x ∷ xs) q h = by_test (any_is xs q) (eqb q x) refl h
 
 -- no two elements have one number
 abbrev pub AreApart : {X : Type 0} → (X → ℕ) → List X → Type 0
-AreApart {X} f xs = (i j : ℕ) (a b : X) → slice_get xs i ≡ Some a → slice_get xs j ≡ Some b → f a ≡ f b → i ≡ j
+AreApart {X} f xs = (i j : ℕ) (a b : X) → slice_get xs i ≡ Some a → slice_get xs j ≡ Some b
+    → f a ≡ f b → i ≡ j
 
 module _ {X : Type 0} (f : X → ℕ) where
   get-map : (xs : List X) (i b : ℕ) → slice_get (map f xs) i ≡ Some b

@@ -1,5 +1,6 @@
 -- An offer keeps the run: with a new node, a lesser key, or no change.
-use Rattle.std.proofs.Common.{◌≡◌, ◌≢◌, ℕ, ◌+◌, ◌<◌, ◌≤◌, inl, inr, length, List, [], ◌∷◌, ◌++◌, refl, ap, sym, ◌∙◌, subst, Bool, true, false, arith}
+use Rattle.std.proofs.Common.{◌≡◌, ◌≢◌, ℕ, ◌+◌, ◌<◌, ◌≤◌, inl, inr, length, List, [], ◌∷◌, ◌++◌, refl, ap}
+use Rattle.std.proofs.Common.{sym, ◌∙◌, subst, Bool, true, false, arith}
 use Rattle.std.specs.Prelude.{Option, Some, None, slice_get, nat_lt}
 use Rattle.std.proofs.lemmas.Bool.Decides.{nat_tests}
 use Rattle.std.proofs.lemmas.Option.{slice_get_within}
@@ -123,10 +124,13 @@ module _ {layout : Layout} {width : ℕ} {goal : Cell} {link : Links} {run : Lis
     at_v : (o : Option (Offer State)) → best to ≡ o → with_offer best to now to ≡ lesser o (Some now)
     at_v o e = rw (is_same_state-itself to, e) refl
 
-    new_keeps : (l : Table) → slice_get l.nodes way.parent ≡ Some p → Keeps layout width goal link l.nodes new now
+    new_keeps : (l : Table) → slice_get l.nodes way.parent ≡ Some p
+        → Keeps layout width goal link l.nodes new now
     new_keeps l h = record {
-      key = new_key ∙ ap (λ (s : State). rank_of (sum_at (search_rule width goal link) s cost)) (sym new_state);
-      short = subst (λ (s : State). HasShortParts (sum_at (search_rule width goal link) s cost)) (sym new_state)
+      key = new_key ∙ ap (λ (s : State). rank_of (sum_at (search_rule width goal link) s cost))
+          (sym new_state);
+      short = subst (λ (s : State). HasShortParts (sum_at (search_rule width goal link) s cost))
+          (sym new_state)
           w.short;
       parent = p;
       parent_is = h;
@@ -195,7 +199,8 @@ module _ {layout : Layout} {width : ℕ} {goal : Cell} {link : Links} {run : Lis
     test_is id n h e =
         let old = m.in_order id n h in
         let key : n.key ≡ rank_of (sum_at (search_rule width goal link) to old.offer.cost)
-        = old.keeps.key ∙ ap (λ (s : State). rank_of (sum_at (search_rule width goal link) s old.offer.cost)) e in
+        = old.keeps.key ∙ ap (λ (s : State). rank_of (sum_at (search_rule width goal link) s old.offer.cost))
+        e in
         let short_old : HasShortParts (sum_at (search_rule width goal link) to old.offer.cost)
         = subst (λ (s : State). HasShortParts (sum_at (search_rule width goal link) s old.offer.cost)) e
         old.keeps.short in
@@ -216,7 +221,8 @@ module _ {layout : Layout} {width : ℕ} {goal : Cell} {link : Links} {run : Lis
 
     -- the node that the state has has a greater key
     by_lesser_key : link.led (state_of layout p) (state_told new.place) ≡ true → (id : ℕ) (n : Node)
-        → slice_get k.nodes id ≡ Some n → state_of layout n ≡ to → is_taken (search_rule width goal link) run to ≡ false → nat_lt new.key n.key ≡ true
+        → slice_get k.nodes id ≡ Some n → state_of layout n ≡ to
+        → is_taken (search_rule width goal link) run to ≡ false → nat_lt new.key n.key ≡ true
         → Mirrors layout width goal link run (with_offer best to now) (replaced id new k)
     by_lesser_key told id n h e z t =
         let old = m.in_order id n h in
@@ -229,8 +235,8 @@ module _ {layout : Layout} {width : ℕ} {goal : Cell} {link : Links} {run : Lis
         absurd (cc) in
         let less : is_less cost old.offer.cost ≡ true = sym (test_is id n h e) ∙ t in
         mirrors_changed m (changed_by_replacing id n h e z) z new_column (with_offer best to now)
-        (new_keeps (replaced id new k) (get-set_other k.nodes way.parent id new apart ∙ w.parent_is)) w.parent_taken
-        told (at_v (Some old.offer) (best_at id n h e z) ∙ rw less refl) at_others
+        (new_keeps (replaced id new k) (get-set_other k.nodes way.parent id new apart ∙ w.parent_is))
+        w.parent_taken told (at_v (Some old.offer) (best_at id n h e z) ∙ rw less refl) at_others
 
     -- an offer keeps the run, where it betters no taken state
     pub offered_keeps : ((id : ℕ) (n : Node) → slice_get k.nodes id ≡ Some n → state_of layout n ≡ to
@@ -261,7 +267,8 @@ module _ {layout : Layout} {width : ℕ} {goal : Cell} {link : Links} {run : Lis
             → nat_lt new.key n.key ≡ b
             → Mirrors layout width goal link run (with_offer best to now) (offered_at (Some id) new k)
         by_key id n h e true t =
-            rw (bettered_is id n true h t) (by_taken id n h e t (is_taken (search_rule width goal link) run to) refl)
+            rw (bettered_is id n true h t)
+            (by_taken id n h e t (is_taken (search_rule width goal link) run to) refl)
         by_key id n h e false t = rw (bettered_is id n false h t) (kept id n h e t)
 
         by_lookup : (o : Option ℕ) → lookup layout k.nodes to ≡ o

@@ -1,5 +1,6 @@
 -- The parts of a space stay in order.
-use Rattle.std.proofs.Common.{◌≡◌, ℕ, suc, ◌+◌, ◌≤◌, length, List, [], ◌∷◌, ◌++◌, ap, sym, ◌∙◌, subst, true, arith}
+use Rattle.std.proofs.Common.{◌≡◌, ℕ, suc, ◌+◌, ◌≤◌, length, List, [], ◌∷◌, ◌++◌, ap, sym, ◌∙◌, subst, true}
+use Rattle.std.proofs.Common.{arith}
 use Rattle.std.specs.Prelude.{Some, None, slice_get, slice_set}
 use Rattle.grid_moves.specs.declared.Cell.{Cell}
 use Rattle.grid_moves.specs.Grid.{cell_number}
@@ -46,7 +47,8 @@ pub parts_added : (layout : Layout) (width : ℕ) (nodes after : List Node) (hea
     (arrival_number (state_in layout s).arrival) entry
     → length later_records ≤ length records + 1
     → AreParts layout width after later_heads later_records
-parts_added layout width nodes after heads later_heads records later_records n s entry a narrow p place new after_is
+parts_added layout width nodes after heads later_heads records later_records n s entry a narrow p place
+    new after_is
     entry_is put l =
     let state : state_of layout n ≡ state_in layout s =
     node_state layout width (length heads) n s narrow p place in
@@ -54,7 +56,8 @@ parts_added layout width nodes after heads later_heads records later_records n s
     (cell_number width (state_of layout n).cell) (arrival_number (state_of layout n).arrival)
     (suc (length nodes)) = rw (← entry_is) (rw (state, in_cell layout s) put) in
     record {
-      exact = rw after_is (exact_added layout width nodes heads records a.exact n later_heads later_records at_state
+      exact = rw after_is (exact_added layout width nodes heads records a.exact n later_heads
+          later_records at_state
           (rw state (seen_cell layout width (length heads) s p)) (rw state new) l);
       few_cells = (let e = put.as_many in let f = a.few_cells in omega arith);
     }

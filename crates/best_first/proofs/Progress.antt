@@ -1,5 +1,6 @@
 -- What a search has taken, from its beginning to its end.
-use Rattle.std.proofs.Common.{◌≡◌, ℕ, suc, ◌*◌, ◌≤◌, length, List, [], ◌∷◌, ◌++◌, refl, ap, sym, ◌∙◌, subst, true, map, reverse}
+use Rattle.std.proofs.Common.{◌≡◌, ℕ, suc, ◌*◌, ◌≤◌, length, List, [], ◌∷◌, ◌++◌, refl, ap, sym, ◌∙◌, subst}
+use Rattle.std.proofs.Common.{true, map, reverse}
 use Rattle.std.proofs.lemmas.List.{reverse-append, length-reverse}
 use Rattle.std.specs.Prelude.{Some, slice_get}
 use Rattle.root2_cost.specs.declared.Cost.{Cost}
@@ -31,7 +32,8 @@ reverse-twice [] = refl
 reverse-twice (x ∷ xs) = ap reverse (reverse-append (x ∷ []) xs) ∙ reverse-append (reverse xs) (x ∷ [])
     ∙ ap (λ (ys : List _). x ∷ ys) (reverse-twice xs)
 
-module _ {width height : ℕ} {start goal : Cell} {link : Links} (fit : IsSearch width height start goal link) where
+module _ {width height : ℕ} {start goal : Cell} {link : Links}
+    (fit : IsSearch width height start goal link) where
   -- at the start
   pub has_begun : (layout : Layout) → HasTaken layout width goal link start 0 (begun goal start)
       (state_number width (start_at start) ∷ [])
@@ -77,7 +79,8 @@ module _ {layout : Layout} {width height : ℕ} {start goal : Cell} {link : Link
       (subst (λ n. n ≤ height * width * 9) (sym (length-numbers (h.last ∷ h.earlier)))
       (few_taken fit.posed (h.last ∷ h.earlier) h.searching.run))
     where
-      length-map : (run : List (Taken State)) → length (map (λ u. state_number width u.state) run) ≡ length run
+      length-map : (run : List (Taken State)) → length (map (λ u. state_number width u.state) run)
+          ≡ length run
       length-map [] = refl
       length-map (x ∷ run) = ap (λ n. suc n) (length-map run)
 
@@ -86,10 +89,12 @@ module _ {layout : Layout} {width height : ℕ} {start goal : Cell} {link : Link
 
   module _ (h : HasTaken layout width goal link start at k taken) where
     abbrev cells : List Cell
-    cells = map (λ (u : State). u.cell) (way_to (search_rule width goal link) (h.last ∷ h.earlier) h.last.state)
+    cells =
+        map (λ (u : State). u.cell) (way_to (search_rule width goal link) (h.last ∷ h.earlier) h.last.state)
 
     last_back : IsBack goal k.nodes at (reverse cells) h.last.cost
-    last_back = back_of fit h.searching (h.last ∷ h.earlier) h.searching.run (λ u m. m) h.last (here h.earlier) at
+    last_back = back_of fit h.searching (h.last ∷ h.earlier) h.searching.run (λ u m. m) h.last
+        (here h.earlier) at
         h.searching.node h.searching.node_is h.searching.state
 
     -- some way leads back from the last state's node

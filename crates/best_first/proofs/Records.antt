@@ -1,5 +1,6 @@
 -- Heads and records: what is read of them, and what changes when a record is taken and when an entry is set.
-use Rattle.std.proofs.Common.{◌≡◌, ℕ, zero, suc, ◌<◌, ◌⊎◌, inl, inr, length, List, [], ◌∷◌, ◌++◌, refl, ap, sym, ◌∙◌, subst, arith}
+use Rattle.std.proofs.Common.{◌≡◌, ℕ, zero, suc, ◌<◌, ◌⊎◌, inl, inr, length, List, [], ◌∷◌, ◌++◌, refl, ap}
+use Rattle.std.proofs.Common.{sym, ◌∙◌, subst, arith}
 use Rattle.std.specs.Prelude.{Option, Some, None, slice_get, slice_set, slice_index_or}
 use Rattle.std.specs.Option.{option_map_or}
 use Rattle.std.proofs.lemmas.Option.{get_or_from_slice_get, slice_get_within}
@@ -29,7 +30,8 @@ read_set_same [] i x h = absurd (omega arith)
 read_set_same (y ∷ xs) zero x h = refl
 read_set_same (y ∷ xs) (suc i) x h = read_set_same xs i x (omega arith)
 
-pub read_set_other : (xs : List ℕ) (i j x : ℕ) → (j ≡ i → ⊥) → slice_index_or (slice_set xs i x) j 0 ≡ slice_index_or xs j 0
+pub read_set_other : (xs : List ℕ) (i j x : ℕ) → (j ≡ i → ⊥) → slice_index_or (slice_set xs i x) j 0
+    ≡ slice_index_or xs j 0
 read_set_other [] i j x n = refl
 read_set_other (y ∷ xs) zero zero x n = absurd (n refl)
 read_set_other (y ∷ xs) zero (suc j) x n = refl
@@ -98,8 +100,10 @@ module _ (heads : List ℕ) (records : List (List ℕ)) (cell : ℕ) (a : AreRec
           omega arith
 
       by_slots : (c d r : ℕ)
-          → (((c ≡ cell → ⊥) × (slice_get heads c ≡ Some (suc r))) ⊎ ((c ≡ cell) × (suc r ≡ suc (length records))))
-          → (((d ≡ cell → ⊥) × (slice_get heads d ≡ Some (suc r))) ⊎ ((d ≡ cell) × (suc r ≡ suc (length records))))
+          → (((c ≡ cell → ⊥) × (slice_get heads c ≡ Some (suc r)))
+          ⊎ ((c ≡ cell) × (suc r ≡ suc (length records))))
+          → (((d ≡ cell → ⊥) × (slice_get heads d ≡ Some (suc r)))
+          ⊎ ((d ≡ cell) × (suc r ≡ suc (length records))))
           → c ≡ d
       by_slots c d r (inl x) (inl y) = a.apart c d r x.1 y.1
       by_slots c d r (inl x) (inr y) = absurd (within c r x.1 (omega (arith, y.1)))
@@ -128,7 +132,8 @@ module _ (heads : List ℕ) (records : List (List ℕ)) (cell : ℕ) (a : AreRec
           by_get None g = absurd (let z = read_past heads c 0 g in omega arith)
           by_get (Some v) g = ap (λ (n : ℕ). Some n) (sym (head-is heads c v g) ∙ e)
 
-      by_head : (h : ℕ) → slice_index_or heads c 0 ≡ h → entry_of_record h more b ≡ entry_of_record h records b
+      by_head : (h : ℕ) → slice_index_or heads c 0 ≡ h → entry_of_record h more b
+          ≡ entry_of_record h records b
       by_head zero e = refl
       by_head (suc r) e =
           let old = a.have c r (get_head r e) in

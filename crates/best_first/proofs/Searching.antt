@@ -1,5 +1,6 @@
 -- The search from one taken state to the next.
-use Rattle.std.proofs.Common.{◌≡◌, ℕ, zero, suc, ◌+◌, ◌<◌, ◌≤◌, ◌^◌, ◌⊎◌, inl, inr, List, [], ◌∷◌, refl, ap, sym, ◌∙◌, subst, Bool, true, false, ◌||◌, arith}
+use Rattle.std.proofs.Common.{◌≡◌, ℕ, zero, suc, ◌+◌, ◌<◌, ◌≤◌, ◌^◌, ◌⊎◌, inl, inr, List, [], ◌∷◌, refl, ap}
+use Rattle.std.proofs.Common.{sym, ◌∙◌, subst, Bool, true, false, ◌||◌, arith}
 use Rattle.std.specs.Prelude.{Option, Some, None, slice_get, if◌then◌else◌}
 use Rattle.root2_cost.specs.declared.Cost.{Cost}
 use Rattle.root2_cost.specs.Laws.{HasShortParts}
@@ -12,7 +13,8 @@ use Rattle.grid_moves.specs.declared.Cell.{Cell}
 use Rattle.grid_moves.specs.Move.{is_same}
 use Rattle.grid_moves.specs.Points.{estimate}
 use Rattle.search_run.specs.Chain.{IsConsistent}
-use Rattle.search_run.specs.Run.{Rule, Taken, IsIn, here, there, IsRun, is_taken, has_goal, lesser, least_offer, sum_at}
+use Rattle.search_run.specs.Run.{Rule, Taken, IsIn, here, there, IsRun, is_taken, has_goal, lesser}
+use Rattle.search_run.specs.Run.{least_offer, sum_at}
 use Rattle.search_run.proofs.Leastness.{least_offer-from, or_true, taken_state, below_last, link_rises}
 use Rattle.best_first.specs.declared.node.Node.{Node}
 use Rattle.best_first.specs.declared.node.Offer.{Offer as Way}
@@ -22,7 +24,8 @@ use Rattle.best_first.specs.declared.state.Layout.TheVariants.{ByCell, ByArrival
 use Rattle.best_first.specs.State.{is_same_state, start_at, state_in, state_told, place_of}
 use Rattle.best_first.specs.Rule.{Links, search_rule, LiesOn, IsPosed, IsSearch}
 use Rattle.best_first.specs.Node.{state_of}
-use Rattle.best_first.specs.Table.{Table, lookup, node_for, begun, offered, closed_at, IsFirstNode, NoneOpen, ClosedBelow}
+use Rattle.best_first.specs.Table.{Table, lookup, node_for, begun, offered, closed_at, IsFirstNode, NoneOpen}
+use Rattle.best_first.specs.Table.{ClosedBelow}
 use Rattle.best_first.specs.Mirror.{Offers, IsInOrder, Mirrors, IsSearching}
 use Rattle.best_first.specs.Ways.{with_onward}
 use Rattle.best_first.specs.Progress.{IsExhausted, numbers_of}
@@ -35,7 +38,8 @@ use Rattle.best_first.proofs.Taking.{next, is_next, mirrors_on, none_open}
 
 -- the greater cost has no lesser rank
 most_ranks : (p q : Cost) → Most p q → HasShortParts p → HasShortParts q → rank_of p ≤ rank_of q
-most_ranks p q m s t = by_order (rank_of p) (rank_of q) (λ h. IsAtMost-not_more p q m.is (ranks_less q p t s h))
+most_ranks p q m s t =
+    by_order (rank_of p) (rank_of q) (λ h. IsAtMost-not_more p q m.is (ranks_less q p t s h))
   where
     by_order : (a b : ℕ) → (b < a → ⊥) → a ≤ b
     by_order a b n = elim (two a b) [ inl l ↦ l | inr l ↦ absurd (n l) ]
@@ -43,7 +47,8 @@ most_ranks p q m s t = by_order (rank_of p) (rank_of q) (λ h. IsAtMost-not_more
         two : (a b : ℕ) → (a ≤ b) ⊎ (b < a)
         two a b = grind arith
 
-module _ {width height : ℕ} {start goal : Cell} {link : Links} (posed : IsPosed width height start goal link) where
+module _ {width height : ℕ} {start goal : Cell} {link : Links}
+    (posed : IsPosed width height start goal link) where
   -- each taken state lies on the map
   pub run_on : (run : List (Taken State)) → IsRun (search_rule width goal link) (start_at start) run
       → (u : Taken State) → IsIn u run → LiesOn width height u.state.cell
@@ -72,13 +77,15 @@ module _ {width height : ℕ} {start goal : Cell} {link : Links} (posed : IsPose
   fair = consistent width height goal link posed.links
 
 -- the offer is one over a link of the taken state, whose node has this number
-pub record IsOver (layout : Layout) (link : Links) (x : Taken State) (at : ℕ) (o : Way) (c : Cost) : Type 0 where
+pub record IsOver (layout : Layout) (link : Links) (x : Taken State) (at : ℕ) (o : Way)
+    (c : Cost) : Type 0 where
   pub linked : link.step x.state (state_in layout o.to) ≡ Some c
   pub ranked : o.rank ≡ rank_of (add_costs x.cost c)
   pub parent : o.parent ≡ at
   pub led : link.led x.state o.to ≡ true
 
-module _ {width height : ℕ} {start goal : Cell} {link : Links} (fit : IsSearch width height start goal link) where
+module _ {width height : ℕ} {start goal : Cell} {link : Links}
+    (fit : IsSearch width height start goal link) where
   abbrev rule : Rule State
   rule = search_rule width goal link
 
@@ -89,12 +96,14 @@ module _ {width height : ℕ} {start goal : Cell} {link : Links} (fit : IsSearch
       short_sum width height v goal c fit.posed.narrow fit.posed.low on fit.posed.goal_near few
 
   -- sums of taken states are short
-  pub taken_short : (run : List (Taken State)) → IsRun rule (start_at start) run → (u : Taken State) → IsIn u run
+  pub taken_short : (run : List (Taken State)) → IsRun rule (start_at start) run → (u : Taken State)
+      → IsIn u run
       → HasShortParts (sum_at rule u.state u.cost)
   taken_short run is u m = sum_short u.state.cell u.cost (run_on fit.posed run is u m)
       (let f = fit.few run u is m in omega arith)
 
-  module _ {layout : Layout} {x : Taken State} {earlier : List (Taken State)} {at : ℕ} {best : Offers} {k : Table}
+  module _ {layout : Layout} {x : Taken State} {earlier : List (Taken State)} {at : ℕ} {best : Offers}
+      {k : Table}
       (i : IsSearching layout width goal link start x earlier at best k) where
     abbrev run : List (Taken State)
     run = x ∷ earlier
@@ -121,8 +130,8 @@ module _ {width height : ℕ} {start goal : Cell} {link : Links} (fit : IsSearch
         let u = taken_state rule (fair fit.posed) run (state_of layout n) y in
         rw (taken_key id n h u.0 u.1 u.2, last_key)
         (most_ranks (sum_at rule u.0.state u.0.cost) (sum_at rule x.state x.cost)
-        (below_last rule (fair fit.posed) (start_at start) x earlier u.0 i.run u.1) (taken_short run i.run u.0 u.1)
-        last_short)
+        (below_last rule (fair fit.posed) (start_at start) x earlier u.0 i.run u.1)
+        (taken_short run i.run u.0 u.1) last_short)
 
     -- so no closed node has a greater key
     pub closed_below : ClosedBelow i.node.key k
@@ -133,7 +142,8 @@ module _ {width height : ℕ} {start goal : Cell} {link : Links} (fit : IsSearch
         flag (Some b) = b
 
         by_test : (id : ℕ) (n : Node) → slice_get k.nodes id ≡ Some n → slice_get k.open_at id ≡ Some false
-            → (b : Bool) → is_taken rule run (state_of layout n) ≡ b → is_taken rule run (state_of layout n) ≡ true
+            → (b : Bool) → is_taken rule run (state_of layout n) ≡ b
+            → is_taken rule run (state_of layout n) ≡ true
         by_test id n h shut true e = e
         by_test id n h shut false e = absurd (let o : slice_get k.open_at id ≡ Some true =
             (i.mirrors.in_order id n h).opened ∙ rw e refl in
@@ -274,7 +284,8 @@ module _ (layout : Layout) {width height : ℕ} {start goal : Cell} {link : Link
   seen_start ByArrival = refl
 
   told_start : state_told first_node.place ≡ start_at start
-  told_start = told-place (start_at start) (let a = fit.posed.start_on.0 in let b = fit.posed.narrow in omega arith)
+  told_start = told-place (start_at start) (let a = fit.posed.start_on.0 in let b = fit.posed.narrow in
+      omega arith)
 
   first_state : state_of layout first_node ≡ start_at start
   first_state = ap (λ (s : State). state_in layout s) told_start ∙ seen_start layout
@@ -289,7 +300,8 @@ module _ (layout : Layout) {width height : ℕ} {start goal : Cell} {link : Link
   is_first zero n h = (refl, some_node n first_node (sym h))
   is_first (suc id) n h = absurd (cc)
 
-  start_order : IsInOrder layout width goal link (at_start start ∷ []) (least_offer (rule fit) []) (begun goal start) 0
+  start_order : IsInOrder layout width goal link (at_start start ∷ []) (least_offer (rule fit) [])
+      (begun goal start) 0
       first_node
   start_order = record {
     column = subst (λ (s : State). s.cell.x < width) (sym told_start) fit.posed.start_on.0;
@@ -305,7 +317,8 @@ module _ (layout : Layout) {width height : ℕ} {start goal : Cell} {link : Link
     };
     led = ap (λ (s : State). link.led (start_at start) s) told_start ∙ fit.posed.links.starts start;
     source = first_taken;
-    best_is = λ z. absurd (let y : is_taken (rule fit) (at_start start ∷ []) (state_of layout first_node) ≡ true =
+    best_is =
+        λ z. absurd (let y : is_taken (rule fit) (at_start start ∷ []) (state_of layout first_node) ≡ true =
         ap (λ (s : State). is_taken (rule fit) (at_start start ∷ []) s) first_state ∙ first_taken in cc);
     taken_by = taken_by;
   }

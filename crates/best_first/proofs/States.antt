@@ -1,5 +1,6 @@
 -- States, their numbers, and the places that stand for them.
-use Rattle.std.proofs.Common.{◌≡◌, ℕ, zero, suc, min, ◌+◌, ◌*◌, ◌/◌, ◌%◌, ◌<◌, ◌≤◌, ◌⊎◌, inl, inr, refl, ap, sym, ◌∙◌, Bool, true, false, ◌&&◌, arith}
+use Rattle.std.proofs.Common.{◌≡◌, ℕ, zero, suc, min, ◌+◌, ◌*◌, ◌/◌, ◌%◌, ◌<◌, ◌≤◌, ◌⊎◌, inl, inr, refl, ap}
+use Rattle.std.proofs.Common.{sym, ◌∙◌, Bool, true, false, ◌&&◌, arith}
 use Rattle.std.specs.Prelude.{Option, Some, None, nat_eq, slice_get}
 use Rattle.std.proofs.lemmas.Bool.Decides.{nat_tests}
 use Rattle.std.proofs.Math.Nat.{mul-le-mul}
@@ -12,7 +13,8 @@ use Rattle.best_first.specs.declared.state.State.{State}
 use Rattle.best_first.specs.declared.state.Layout.{Layout}
 use Rattle.best_first.specs.declared.state.Layout.TheVariants.{ByCell, ByArrival}
 use Rattle.best_first.specs.declared.place.Place.{Place}
-use Rattle.best_first.specs.State.{arrival_number, state_number, is_same_state, state_in, place_of, state_told}
+use Rattle.best_first.specs.State.{arrival_number, state_number, is_same_state, state_in, place_of}
+use Rattle.best_first.specs.State.{state_told}
 
 arrival_of : ℕ → Option Dir
 arrival_of n = slice_get all_dirs n
@@ -76,7 +78,8 @@ pub told-place : (s : State) → s.cell.x < 4096 → state_told (place_of s) ≡
 unfolding place_of state_told arrival_of
 told-place s h =
     let small = arrival_small s.arrival in
-    let row : (place_of s).bits / 65536 ≡ s.cell.y = quotient s.cell.y s.cell.x (arrival_number s.arrival) h small in
+    let row : (place_of s).bits / 65536 ≡ s.cell.y =
+    quotient s.cell.y s.cell.x (arrival_number s.arrival) h small in
     let column : (place_of s).bits / 16 % 4096 ≡ s.cell.x =
     middle s.cell.y s.cell.x (arrival_number s.arrival) h small in
     let arrival : (place_of s).bits % 16 ≡ arrival_number s.arrival =
@@ -154,7 +157,8 @@ parts_rise m n l = by_rows (three (m / 65536) (n / 65536)) (three (m / 16 % 4096
 -- a state of no greater place has no greater number
 pub places_order : (layout : Layout) (width : ℕ) (p q : Place) → (state_told p).cell.x < width
     → (state_told q).cell.x < width → p.bits ≤ q.bits
-    → state_number width (state_in layout (state_told p)) ≤ state_number width (state_in layout (state_told q))
+    → state_number width (state_in layout (state_told p))
+    ≤ state_number width (state_in layout (state_told q))
 unfolding state_told
 places_order ByCell width p q h k l =
     numbers_rise width (p.bits / 16 % 4096) (p.bits / 65536) 8 (q.bits / 16 % 4096) (q.bits / 65536) 8 h k

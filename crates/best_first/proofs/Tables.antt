@@ -1,5 +1,6 @@
 -- What an offer leaves as it was.
-use Rattle.std.proofs.Common.{◌≡◌, ◌≢◌, ℕ, suc, ◌-◌, ◌<◌, ◌≤◌, inl, inr, length, List, [], ◌∷◌, ◌++◌, refl, ap, sym, ◌∙◌, Bool, true, false, arith}
+use Rattle.std.proofs.Common.{◌≡◌, ◌≢◌, ℕ, suc, ◌-◌, ◌<◌, ◌≤◌, inl, inr, length, List, [], ◌∷◌, ◌++◌, refl}
+use Rattle.std.proofs.Common.{ap, sym, ◌∙◌, Bool, true, false, arith}
 use Rattle.std.specs.Prelude.{Option, Some, None, slice_get, slice_set, slice_index_or, if◌then◌else◌, nat_lt}
 use Rattle.std.proofs.lemmas.Bool.Decides.{nat_tests}
 use Rattle.std.proofs.lemmas.Grind.{common_steps}
@@ -10,7 +11,8 @@ use Rattle.best_first.specs.declared.node.Offer.{Offer}
 use Rattle.best_first.specs.declared.state.Layout.{Layout}
 use Rattle.best_first.specs.State.{state_in}
 use Rattle.best_first.specs.Index.{entry_for}
-use Rattle.best_first.specs.Table.{Table, lookup, node_for, added, replaced, is_bettered, offered, offered_at, ClosedBelow}
+use Rattle.best_first.specs.Table.{Table, lookup, node_for, added, replaced, is_bettered, offered, offered_at}
+use Rattle.best_first.specs.Table.{ClosedBelow}
 use Rattle.best_first.proofs.Lists.{get-added, got-added, get-set_other, got-set}
 use Rattle.best_first.proofs.Mirrors.{some_node}
 use Rattle.best_first.proofs.Records.{read, length-set}
@@ -21,7 +23,8 @@ pub record IsBettered (nodes : List Node) (id key : ℕ) : Type 0 where
   pub node_is : slice_get nodes id ≡ Some node
   pub greater : key < node.key
 
-pub bettered_node : (nodes : List Node) (id key : ℕ) → is_bettered nodes id key ≡ true → IsBettered nodes id key
+pub bettered_node : (nodes : List Node) (id key : ℕ) → is_bettered nodes id key ≡ true
+    → IsBettered nodes id key
 bettered_node nodes id key h = by_node (slice_get nodes id) refl
   where
     below : (m n : ℕ) → nat_lt m n ≡ true → m < n

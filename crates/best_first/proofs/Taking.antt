@@ -1,5 +1,6 @@
 -- The next node that is popped is the run's next state, and where none is left no state waits.
-use Rattle.std.proofs.Common.{◌≡◌, ◌≢◌, ℕ, ◌<◌, ◌≤◌, ◌⊎◌, inl, inr, List, ◌∷◌, refl, ap, sym, ◌∙◌, subst, Bool, true, false, ◌&&◌, ◌||◌, not, arith}
+use Rattle.std.proofs.Common.{◌≡◌, ◌≢◌, ℕ, ◌<◌, ◌≤◌, ◌⊎◌, inl, inr, List, ◌∷◌, refl, ap, sym, ◌∙◌, subst}
+use Rattle.std.proofs.Common.{Bool, true, false, ◌&&◌, ◌||◌, not, arith}
 use Rattle.std.specs.Prelude.{Option, Some, None, slice_get, slice_set, nat_eq, nat_lt}
 use Rattle.std.proofs.lemmas.Bool.Decides.{nat_tests}
 use Rattle.std.proofs.lemmas.Grind.{common_steps}
@@ -10,7 +11,8 @@ use Rattle.root2_cost.specs.Rank.{rank_of}
 use Rattle.root2_cost.proofs.Less.{IsLess-total, IsLess-irreflexive, IsLess-asymmetric, same_cost}
 use Rattle.root2_cost.proofs.Ranking.{less_ranks}
 use Rattle.grid_moves.specs.declared.Cell.{Cell}
-use Rattle.search_run.specs.Run.{Taken, Offer, IsIn, here, there, is_taken, least_offer, sum_at, IsNext, NoneWaits, goes_before}
+use Rattle.search_run.specs.Run.{Taken, Offer, IsIn, here, there, is_taken, least_offer, sum_at, IsNext}
+use Rattle.search_run.specs.Run.{NoneWaits, goes_before}
 use Rattle.search_run.proofs.Leastness.{or_false, or_true}
 use Rattle.best_first.specs.declared.node.Node.{Node}
 use Rattle.best_first.specs.declared.state.State.{State}
@@ -60,7 +62,8 @@ keys_order p q i j m n s t order e = elim (IsLess-total p q) [
     tie true false l = refl
     tie true true l = grind (arith, nat_tests)
 
-    by_parts : (a b : Bool) → nat_eq p.a q.a ≡ a → nat_eq p.b q.b ≡ b → (c : Bool) → is_less p q ≡ c → IsLess q p
+    by_parts : (a b : Bool) → nat_eq p.a q.a ≡ a → nat_eq p.b q.b ≡ b → (c : Bool) → is_less p q ≡ c
+        → IsLess q p
         → (c || (a && b && nat_lt m n)) ≡ false
     by_parts a b f g true h more = absurd (IsLess-asymmetric p q h more)
     by_parts false b f g false h more = refl
@@ -216,7 +219,8 @@ module _ {layout : Layout} {width : ℕ} {goal : Cell} {link : Links} {run : Lis
         taken_by u (there z w i') e = (m.in_order i x h).taken_by u i' e
 
     -- the table with that node closed keeps the run with the next state
-    pub mirrors_on : Mirrors layout width goal link (next ∷ run) (least_offer (search_rule width goal link) run)
+    pub mirrors_on : Mirrors layout width goal link (next ∷ run)
+        (least_offer (search_rule width goal link) run)
         (closed_at id k)
     mirrors_on = record {
       in_order = in_order_on;

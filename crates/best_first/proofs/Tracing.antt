@@ -1,5 +1,6 @@
 -- One step on the way back along the parents.
-use Rattle.std.proofs.Common.{◌≡◌, ◌≢◌, ℕ, ◌<◌, List, [], ◌∷◌, ◌++◌, refl, ap, sym, ◌∙◌, subst, append_assoc, arith}
+use Rattle.std.proofs.Common.{◌≡◌, ◌≢◌, ℕ, ◌<◌, List, [], ◌∷◌, ◌++◌, refl, ap, sym, ◌∙◌, subst, append_assoc}
+use Rattle.std.proofs.Common.{arith}
 use Rattle.std.specs.Prelude.{Some, slice_get}
 use Rattle.root2_cost.specs.declared.Cost.{Cost}
 use Rattle.root2_cost.specs.Sums.{add_costs, no_cost}
@@ -70,7 +71,8 @@ module _ (goal : Cell) (nodes : List Node) where
       rest = f.rest;
       left = f.left;
       rest_is_back = f.rest_is_back;
-      joined = append_assoc points (node_cell n ∷ []) f.rest ∙ ap (λ (cs : List Cell). points ++ cs) (sym f.cells_are) ∙ w.joined;
+      joined = append_assoc points (node_cell n ∷ []) f.rest
+          ∙ ap (λ (cs : List Cell). points ++ cs) (sym f.cells_are) ∙ w.joined;
       priced = moved f.left cost (estimate (node_cell f.parent) (node_cell n))
           ∙ ap (λ (c : Cost). add_costs c cost) (sym f.cost_is) ∙ w.priced;
     }

@@ -56,10 +56,13 @@ module _ (width : ℕ) (goal : Cell) (link : Links) (y : Taken State) where
         ⊎ (with_onward y best w s ≡ best s)
     one_over best w l = elim (same_or_not (is_same_state w.to s)) [
       | inl t ↦ (let one : w.to ≡ s = is_same_state-state w.to s t in
-          let cost : w.cost ≡ c = some_cost w.cost c (sym l ∙ ap (λ (u : State). link.step y.state u) one ∙ linked) in
+          let cost : w.cost ≡ c = some_cost w.cost c (sym l ∙ ap (λ (u : State). link.step y.state u) one
+          ∙ linked) in
           inl (
             same_way w (record { to = s; cost = c }) one cost,
-            rw t (ap (λ (d : Cost). let o : Offer State = record { cost = add_costs y.cost d; from = y.state } in
+            rw t
+                (ap
+                (λ (d : Cost). let o : Offer State = record { cost = add_costs y.cost d; from = y.state } in
                 lesser (best s) (Some o)) cost),
           ))
       | inr f ↦ inr (rw f refl)
@@ -82,7 +85,8 @@ module _ (width : ℕ) (goal : Cell) (link : Links) (y : Taken State) where
         ])
 
     -- a link among the ways is offered
-    is_made : (ways : List Onward) (best : Offers) → AreOfLinks ways → IsAmong (record { to = s; cost = c }) ways
+    is_made : (ways : List Onward) (best : Offers) → AreOfLinks ways
+        → IsAmong (record { to = s; cost = c }) ways
         → with_all y best ways s ≡ lesser (best s) made
     is_made [] best l i = elim i [ ]
     is_made (w ∷ ways) best l (first z) =
@@ -107,7 +111,8 @@ module _ (width : ℕ) (goal : Cell) (link : Links) (y : Taken State) where
     ]
 
   -- where no link leads nothing is offered
-  none_made : (s : State) → link.step y.state s ≡ None → (ways : List Onward) (best : Offers) → AreOfLinks ways
+  none_made : (s : State) → link.step y.state s ≡ None → (ways : List Onward) (best : Offers)
+      → AreOfLinks ways
       → with_all y best ways s ≡ best s
   none_made s n [] best l = refl
   none_made s n (w ∷ ways) best l =

@@ -30,7 +30,8 @@ module _ (width : ℕ) (goal : Cell) (link : Links) (shown : List Cell → List 
       MatchOption f.walk (IsExhausted width goal link start f.taken) (λ w. IsFound w.points w.cost f.taken)
 
 -- an answer that is right and that of a run from s to t
-pub record HasAnswer (IsOf : GridData → Cell → Cell → Found → Type 0) (g : GridData) (s t : Cell) : Type 0 where
+pub record HasAnswer (IsOf : GridData → Cell → Cell → Found → Type 0) (g : GridData)
+    (s t : Cell) : Type 0 where
   pub answer : Found
   pub run : IsOf g s t answer
   pub least : IsLeastOrNone g s t answer.walk
@@ -41,4 +42,5 @@ AnswersExist IsOf = (g : GridData) (s t : Cell) → is_free g s ≡ true → Has
 
 -- two answers that are the run from s to t are one answer: the same points, cost and taken states
 abbrev pub RunsAreOne : (GridData → Cell → Cell → Found → Type 0) → Type 0
-RunsAreOne IsOf = (g : GridData) (s t : Cell) (one other : Found) → IsOf g s t one → IsOf g s t other → one ≡ other
+RunsAreOne IsOf = (g : GridData) (s t : Cell) (one other : Found) → IsOf g s t one → IsOf g s t other
+    → one ≡ other

@@ -1,5 +1,6 @@
 -- The index of a search: where the node of a state is found. No public clause cites this module.
-use Rattle.std.specs.Prelude.{◌≡◌, ℕ, zero, suc, ◌≤◌, nat_eq, List, length, Option, Some, None, if◌then◌else◌, slice_get, slice_index_or}
+use Rattle.std.specs.Prelude.{◌≡◌, ℕ, zero, suc, ◌≤◌, nat_eq, List, length, Option, Some, None, if◌then◌else◌}
+use Rattle.std.specs.Prelude.{slice_get, slice_index_or}
 use Rattle.std.specs.Option.{option_map_or}
 use Rattle.grid_moves.specs.Grid.{cell_number}
 use Rattle.best_first.specs.declared.node.Node.{Node}

@@ -1,5 +1,6 @@
 -- How a table keeps the run of a search.
-use Rattle.std.specs.Prelude.{◌≡◌, ℕ, ◌<◌, true, false, not, List, ◌∷◌, length, Option, Some, None, if◌then◌else◌, slice_get}
+use Rattle.std.specs.Prelude.{◌≡◌, ℕ, ◌<◌, true, false, not, List, ◌∷◌, length, Option, Some, None}
+use Rattle.std.specs.Prelude.{if◌then◌else◌, slice_get}
 use Rattle.root2_cost.specs.Laws.{HasShortParts}
 use Rattle.root2_cost.specs.Rank.{rank_of}
 use Rattle.grid_moves.specs.declared.Cell.{Cell}
@@ -35,7 +36,8 @@ module _ (layout : Layout) (width : ℕ) (goal : Cell) (link : Links) where
   pub record IsInOrder (run : List (Taken State)) (best : Offers) (k : Table) (id : ℕ) (n : Node)
       : Type 0 where
     pub column : (state_told n.place).cell.x < width
-    pub opened : slice_get k.open_at id ≡ Some (not (is_taken (search_rule width goal link) run (state_of layout n)))
+    pub opened : slice_get k.open_at id
+        ≡ Some (not (is_taken (search_rule width goal link) run (state_of layout n)))
     pub offer : Offer State
     pub keeps : Keeps k.nodes n offer
     pub led : link.led offer.from (state_told n.place) ≡ true

@@ -1,5 +1,6 @@
 -- The way along the parents.
-use Rattle.std.specs.Prelude.{◌≡◌, ◌≢◌, ℕ, ◌+◌, ◌-◌, ◌<◌, ◌≤◌, ◌^◌, List, [], ◌∷◌, ◌++◌, Some, slice_get, reverse}
+use Rattle.std.specs.Prelude.{◌≡◌, ◌≢◌, ℕ, ◌+◌, ◌-◌, ◌<◌, ◌≤◌, ◌^◌, List, [], ◌∷◌, ◌++◌, Some, slice_get}
+use Rattle.std.specs.Prelude.{reverse}
 use Rattle.std.specs.Option.{option_map_or}
 use Rattle.root2_cost.specs.declared.Cost.{Cost}
 use Rattle.root2_cost.specs.Rank.{rank_of}
@@ -40,7 +41,8 @@ pub record HasBack (goal : Cell) (nodes : List Node) (id : ℕ) : Type 0 where
 
 -- the cells so far, then those back from the node, are those back from the first; the costs so far and that
 -- of the rest make its cost
-pub record IsOnTheWay (goal : Cell) (nodes : List Node) (first : ℕ) (points : List Cell) (cost : Cost) (id : ℕ)
+pub record IsOnTheWay (goal : Cell) (nodes : List Node) (first : ℕ) (points : List Cell)
+    (cost : Cost) (id : ℕ)
     : Type 0 where
   pub cells : List Cell
   pub total : Cost

@@ -1,9 +1,11 @@
 -- Bits of bytes, 64 at a time.
-use Rattle.std.proofs.Common.{◌≡◌, ℕ, zero, suc, ◌+◌, ◌*◌, ◌/◌, ◌%◌, ◌^◌, ◌<◌, arith, Bool, true, ◌&&◌, refl, ap, sym, ◌∙◌, ◌-◌, bit_and, eqb, w8, map, List, length, slice_index_or, false}
+use Rattle.std.proofs.Common.{◌≡◌, ℕ, zero, suc, ◌+◌, ◌*◌, ◌/◌, ◌%◌, ◌^◌, ◌<◌, arith, Bool, true, ◌&&◌, refl}
+use Rattle.std.proofs.Common.{ap, sym, ◌∙◌, ◌-◌, bit_and, eqb, w8, map, List, length, slice_index_or, false}
 use Rattle.std.specs.Simd.Lanes.{zip2, mask_l, top}
 use mathlib.Core.Bool.{cond}
 use mir.Val.{bits, hbits}
-use Rattle.std.proofs.lemmas.Simd.{bitmask_splat, bit_mask_l, get_or-zip2, length-zip2, get_or-replicate, length-replicate}
+use Rattle.std.proofs.lemmas.Simd.{bitmask_splat, bit_mask_l, get_or-zip2, length-zip2, get_or-replicate}
+use Rattle.std.proofs.lemmas.Simd.{length-replicate}
 use Rattle.std.proofs.lemmas.List.{get_or-map}
 use Rattle.std.specs.Prelude.{nat_eq, replicate}
 use Rattle.std.specs.Int.{bit_at}
@@ -63,7 +65,8 @@ pub lanes_bit : (v : List ℕ) (m j : ℕ) → length v ≡ 64 → j < 64
     ≡ eqb (bit_and (slice_index_or v j 0) m) m
 lanes_bit v m j long h =
     let xs : List ℕ = zip2 bit_and v (replicate 64 m) in
-    let all : length xs ≡ 64 = length-zip2 bit_and v (replicate 64 m) (long ∙ sym (length-replicate 64 m)) ∙ long in
+    let all : length xs ≡ 64 = length-zip2 bit_and v (replicate 64 m) (long ∙ sym (length-replicate 64 m))
+    ∙ long in
     let inside : j < length v = omega arith in
     let there : j < length (replicate 64 m) = rw (length-replicate 64 m) h in
     ap (λ (n : ℕ). is_set n j) (bitmask_splat w8 eqb xs 64 m all (omega arith))

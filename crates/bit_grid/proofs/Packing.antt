@@ -1,5 +1,7 @@
 -- Words of bits, one after the other.
-use Rattle.std.proofs.Common.{◌≡◌, ℕ, zero, suc, ◌+◌, ◌*◌, ◌/◌, ◌%◌, ◌<◌, ◌≤◌, ◌⊎◌, inl, inr, arith, Bool, false, refl, ap, sym, ◌∙◌, subst, List, [], ◌∷◌, ◌++◌, length, length-append, slice_index_or}
+use Rattle.std.proofs.Common.{◌≡◌, ℕ, zero, suc, ◌+◌, ◌*◌, ◌/◌, ◌%◌, ◌<◌, ◌≤◌, ◌⊎◌, inl, inr, arith, Bool}
+use Rattle.std.proofs.Common.{false, refl, ap, sym, ◌∙◌, subst, List, [], ◌∷◌, ◌++◌, length, length-append}
+use Rattle.std.proofs.Common.{slice_index_or}
 use Rattle.std.proofs.lemmas.Bool.Decides.{nat_tests}
 use Rattle.grid_moves.specs.declared.Corner.{Corner}
 use Rattle.grid_moves.specs.Grid.{GridData, IsGrid, is_free, is_inside}
@@ -7,7 +9,8 @@ use Rattle.std.proofs.lemmas.List.{get_or_append_left}
 use Rattle.std.proofs.Math.Seq.{get_or-append_seam}
 use Rattle.std.proofs.lemmas.Nat.{div-mul-add, mod-mul-add, mul-add-lt}
 use Rattle.std.proofs.lemmas.Bool.{cases_lt}
-use Rattle.bit_grid.specs.Bits.{LineData, BitData, Shows, AreBitsOf, AreRowsOf, AreColumnsOf, HasRoom, is_set, is_free_from_one}
+use Rattle.bit_grid.specs.Bits.{LineData, BitData, Shows, AreBitsOf, AreRowsOf, AreColumnsOf, HasRoom, is_set}
+use Rattle.bit_grid.specs.Bits.{is_free_from_one}
 use Rattle.bit_grid.specs.Pack.{is_free_in, IsBordered}
 use Rattle.bit_grid.specs.Turn.{ArePackedSoFar}
 use Rattle.bit_grid.proofs.Words.{set_none}
@@ -21,14 +24,16 @@ AreFirst g y cells bytes = (x : ℕ) → x < cells → is_set (slice_index_or by
 pub flags_none : (g : GridData) (line : ℕ) (bytes : List ℕ) (n : ℕ)
     → ((p : ℕ) → p < n → slice_index_or bytes p 0 ≡ 0) → ((p : ℕ) → is_free_in g line p ≡ false)
     → (p : ℕ) → p < n → is_set (slice_index_or bytes p 0) 0 ≡ is_free_in g line p
-flags_none g line bytes n zeros blocked p h = ap (λ (m : ℕ). is_set m 0) (zeros p h) ∙ set_none 0 ∙ sym (blocked p)
+flags_none g line bytes n zeros blocked p h = ap (λ (m : ℕ). is_set m 0) (zeros p h) ∙ set_none 0
+    ∙ sym (blocked p)
 
 pub top_blocked : (g : GridData) (p : ℕ) → is_free_in g 0 p ≡ false
 top_blocked g zero = refl
 top_blocked g (suc p) = refl
 
 -- no row beyond the last has a free cell
-pub beyond_rows : (g : GridData) (line place : ℕ) → g.height + 1 ≤ line → is_free_from_one g place line ≡ false
+pub beyond_rows : (g : GridData) (line place : ℕ) → g.height + 1 ≤ line
+    → is_free_from_one g place line ≡ false
 beyond_rows g line zero h = refl
 beyond_rows g zero (suc place) h = refl
 beyond_rows g (suc line) (suc place) h =
@@ -49,12 +54,14 @@ columns_turned : (g : GridData) (rows columns : LineData) (wide high : ℕ) → 
 columns_turned g rows columns wide high w h are turned =
     let shown = subst (λ (n : ℕ). Shows rows n wide (is_free_in g)) (sym h)
     (subst (λ (n : ℕ). Shows rows g.height n (is_free_in g)) (sym w) are) in
-    let shows = turned (is_free_in g) shown (λ line place k. beyond_rows g line place (omega (arith, h, k))) in
+    let shows =
+    turned (is_free_in g) shown (λ line place k. beyond_rows g line place (omega (arith, h, k))) in
     subst (λ (n : ℕ). Shows columns n g.height (is_free_from_one g)) w
     (subst (λ (n : ℕ). Shows columns wide n (is_free_from_one g)) h shows)
 
 -- so the rows and these columns are its bits
-pub bits_turned : (g : GridData) (rows columns : LineData) (wide high : ℕ) (rule : Corner) → IsGrid g → wide ≡ g.width
+pub bits_turned : (g : GridData) (rows columns : LineData) (wide high : ℕ) (rule : Corner) → IsGrid g
+    → wide ≡ g.width
     → high ≡ g.height → rule ≡ g.corner → AreRowsOf rows g
     → ((free : ℕ → ℕ → Bool) → Shows rows high wide free
     → ((line place : ℕ) → high + 2 ≤ line → free line place ≡ false)
@@ -88,12 +95,14 @@ has_room b g are =
 pub end_blocked : (g : GridData) (line p : ℕ) → g.height < line → is_free_in g line p ≡ false
 end_blocked g line p h = beyond_rows g line p (omega arith)
 
-pub lines_more : (y height per_line : ℕ) → y ≡ height → (y + 1) * per_line + per_line ≡ (height + 2) * per_line
+pub lines_more : (y height per_line : ℕ) → y ≡ height → (y + 1) * per_line + per_line ≡ (height + 2)
+    * per_line
 lines_more y height per_line e = rw e (omega arith)
 
 pub packed_none : (free : ℕ → ℕ → Bool) (per_line : ℕ) (words : List ℕ) → words ≡ []
     → ArePackedSoFar free per_line words
-packed_none free per_line words none m h = absurd (let long : length words ≡ 0 = ap (λ (ws : List ℕ). length ws) none in
+packed_none free per_line words none m h =
+    absurd (let long : length words ≡ 0 = ap (λ (ws : List ℕ). length ws) none in
     omega (arith, h, long))
 
 pub zeros_bordered : (g : GridData) (bytes : List ℕ) (n : ℕ) → length bytes ≡ n → 0 < n

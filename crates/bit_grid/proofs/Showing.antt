@@ -1,5 +1,7 @@
 -- Lines that show a map: a block of them, and one bit set.
-use Rattle.std.proofs.Common.{◌≡◌, ◌≢◌, ℕ, zero, suc, ◌+◌, ◌-◌, ◌*◌, ◌/◌, ◌%◌, ◌<◌, ◌≤◌, arith, Bool, true, false, ◌&&◌, refl, ap, sym, ◌∙◌, List, length, slice_index_or, slice_set, nat_eq, take, drop, get_or-set_same, get_or-set_other}
+use Rattle.std.proofs.Common.{◌≡◌, ◌≢◌, ℕ, zero, suc, ◌+◌, ◌-◌, ◌*◌, ◌/◌, ◌%◌, ◌<◌, ◌≤◌, arith, Bool, true}
+use Rattle.std.proofs.Common.{false, ◌&&◌, refl, ap, sym, ◌∙◌, List, length, slice_index_or, slice_set}
+use Rattle.std.proofs.Common.{nat_eq, take, drop, get_or-set_same, get_or-set_other}
 use Rattle.std.specs.Prelude.{if◌then◌else◌}
 use Rattle.std.proofs.lemmas.List.{get_or-drop, get_or-take}
 use Rattle.std.proofs.lemmas.Nat.{same_from_place, mul-add-lt}
@@ -7,7 +9,8 @@ use Rattle.std.proofs.lemmas.Bool.Decides.{nat_tests}
 use Rattle.grid_moves.specs.declared.Cell.{Cell}
 use Rattle.grid_moves.specs.Grid.{GridData, IsGrid, is_free, is_inside, grid_with}
 use Rattle.grid_moves.proofs.Edited.{is_free-with_same, is_free-with_other}
-use Rattle.bit_grid.specs.Bits.{LineData, BitData, Shows, AreBitsOf, IsOnMap, is_set, with_cell, is_free_from_one}
+use Rattle.bit_grid.specs.Bits.{LineData, BitData, Shows, AreBitsOf, IsOnMap, is_set, with_cell}
+use Rattle.bit_grid.specs.Bits.{is_free_from_one}
 
 -- eight words from the start of a block on
 pub lane_shown : (l : LineData) (line index lines positions : ℕ) (free : ℕ → ℕ → Bool)
@@ -34,7 +37,8 @@ word_inside lines blocks line w words whole a b =
     omega (arith, within, whole)
 
 -- its place in the line before and in the one after
-pub place_before : (line per_line w : ℕ) → 1 ≤ line → line * per_line + w - per_line ≡ (line - 1) * per_line + w
+pub place_before : (line per_line w : ℕ) → 1 ≤ line → line * per_line + w - per_line ≡ (line - 1)
+    * per_line + w
 place_before zero per_line w h = absurd (omega arith)
 place_before (suc n) per_line w h =
     let more : suc n * per_line ≡ n * per_line + per_line = omega arith in
@@ -49,7 +53,8 @@ pub word_shown : (l : LineData) (lines positions : ℕ) (free : ℕ → ℕ → 
     → place ≡ line * (l.blocks * 8) + w → value ≡ slice_index_or l.words place 0
     → is_set value j ≡ free line (w * 64 + j)
 word_shown l lines positions free shows line w place value j a b h at is =
-    ap (λ (n : ℕ). is_set n j) (is ∙ ap (λ (p : ℕ). slice_index_or l.words p 0) at) ∙ shows.bits line w j a b h
+    ap (λ (n : ℕ). is_set n j) (is ∙ ap (λ (p : ℕ). slice_index_or l.words p 0) at)
+    ∙ shows.bits line w j a b h
 
 -- a position's word is one of the line's
 pub place_below : (lines blocks line position : ℕ) (words : List ℕ) → length words ≡ lines * (blocks * 8)
@@ -87,7 +92,8 @@ module _ (l : LineData) (lines positions : ℕ) (shown : ℕ → ℕ → Bool) (
       ∙ ap (λ (n : ℕ). is_set n j) (get_or-set_same l.words place word 0 on_place)
       ∙ is j k
       ∙ ap (λ (b : Bool). if nat_eq j (position % 64) then free else b)
-      (ap (λ (m : ℕ). is_set (slice_index_or l.words m 0) j) at ∙ shows.bits line (position / 64) j a in_line k)
+      (ap (λ (m : ℕ). is_set (slice_index_or l.words m 0) j) at ∙ shows.bits line (position / 64) j a
+      in_line k)
       ∙ ap (λ (b : Bool). if b then free else shown line (position / 64 * 64 + j)) (sym same)
 
   bits_elsewhere : (m w j : ℕ) → m < l.lines → w < l.blocks * 8 → j < 64

@@ -1,5 +1,6 @@
 -- Rows turned to columns, by strips of words.
-use Rattle.std.proofs.Common.{◌≡◌, ℕ, ◌+◌, ◌*◌, ◌/◌, ◌%◌, ◌<◌, ◌≤◌, arith, Bool, true, false, refl, ap, sym, ◌∙◌, List, length, slice_index_or, nat_lt}
+use Rattle.std.proofs.Common.{◌≡◌, ℕ, ◌+◌, ◌*◌, ◌/◌, ◌%◌, ◌<◌, ◌≤◌, arith, Bool, true, false, refl, ap, sym}
+use Rattle.std.proofs.Common.{◌∙◌, List, length, slice_index_or, nat_lt}
 use Rattle.std.specs.Prelude.{if◌then◌else◌}
 use Rattle.std.proofs.lemmas.Bool.Decides.{nat_tests}
 use Rattle.bit_grid.specs.Bits.{LineData, Shows, is_set}
@@ -41,7 +42,8 @@ pub turned_shown : (columns cells blocks lines : ℕ) (words : List ℕ) (free :
     → lines ≡ columns + 2 → cells + 2 ≤ blocks * 512 → blocks * 512 < cells + 514
     → length words ≡ lines * (blocks * 8)
     → ArePackedSoFar (λ column row. free row column) (blocks * 8) words
-    → Shows (record { lines = lines; blocks = blocks; words = words }) columns cells (λ line place. free place line)
+    → Shows (record { lines = lines; blocks = blocks; words = words }) columns cells
+    (λ line place. free place line)
 turned_shown columns cells blocks lines words free all ample tight long packed = record {
   bordered = all;
   ample = ample;

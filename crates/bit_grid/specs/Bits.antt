@@ -1,5 +1,6 @@
 -- Bits of a map: lines of words, with a border of blocked cells on every side.
-use Rattle.std.specs.Prelude.{◌≡◌, ℕ, zero, suc, ◌+◌, ◌*◌, ◌<◌, ◌≤◌, Bool, true, false, ◌&&◌, nat_eq, if◌then◌else◌, refl, List, [], ◌∷◌, slice_index_or}
+use Rattle.std.specs.Prelude.{◌≡◌, ℕ, zero, suc, ◌+◌, ◌*◌, ◌<◌, ◌≤◌, Bool, true, false, ◌&&◌, nat_eq}
+use Rattle.std.specs.Prelude.{if◌then◌else◌, refl, List, [], ◌∷◌, slice_index_or}
 use Rattle.std.specs.Int.{bit_at}
 use Rattle.grid_moves.specs.declared.Cell.{Cell}
 use Rattle.grid_moves.specs.declared.Corner.{Corner}

@@ -1,5 +1,6 @@
 -- Files are read one after the other.
-use Rattle.std.proofs.Common.{◌≡◌, ◌∙◌, ap, append-nil, append_assoc, refl, sym, subst, List, [], ◌∷◌, ◌++◌, ℕ, ◌≤◌, arith}
+use Rattle.std.proofs.Common.{◌≡◌, ◌∙◌, ap, append-nil, append_assoc, refl, sym, subst, List, [], ◌∷◌, ◌++◌}
+use Rattle.std.proofs.Common.{ℕ, ◌≤◌, arith}
 use Rattle.std.specs.Prelude.{Result, IsErrAnd}
 use Rattle.io_edge.specs.Causes.{NoneFell}
 use Rattle.io_edge.specs.Told.{Disk, Held}
@@ -37,7 +38,10 @@ third-accepted holds held kept first second third text other last a same b still
   a,
   (
     subst (λ (k : List ℕ → Held). IsAccepted (text ∷ []) second.kind (k second.name) other) same b,
-    (subst (λ (k : List ℕ → Held). IsAccepted (text ∷ other ∷ []) third.kind (k third.name) last) still d, tt),
+    (
+      subst (λ (k : List ℕ → Held). IsAccepted (text ∷ other ∷ []) third.kind (k third.name) last) still d,
+      tt,
+    ),
   ),
 )
 
@@ -49,7 +53,8 @@ fell-on first then_more = record { later = λ name. omega (arith, first.later na
 pub none-fell : (faults : List ℕ → ℕ) → NoneFell faults faults
 none-fell faults = record { later = λ name. omega arith }
 
-module _ (disk : Disk) (files : List File) (file : File) (comes : ComesTo disk.holds files file) (mid now : Disk)
+module _ (disk : Disk) (files : List File) (file : File) (comes : ComesTo disk.holds files file)
+    (mid now : Disk)
     (same : mid.holds ≡ disk.holds) (later : NoneFell disk.faults mid.faults) where
   abbrev stops-at : Stops
   stops-at = read_stops (IsRefused comes.texts file.kind (mid.holds file.name)) (mid.faults file.name)
@@ -80,10 +85,12 @@ module _ (disk : Disk) (files : List File) (file : File) (comes : ComesTo disk.h
 
   pub reading-ends : {X : Type 0} (Done : X → Type 0) (result : Result X Stop) → Ends Done stops-at result
       → Ends Done (open_stops disk now files) result
-  reading-ends Done result e = ends-on Done Done stops-at (open_stops disk now files) result (λ x d. d) reading-follows e
+  reading-ends Done result e = ends-on Done Done stops-at (open_stops disk now files) result (λ x d. d)
+      reading-follows e
 
 -- a file more is accepted behind others
-pub accepted-more : (holds : List ℕ → Held) (earlier : List (List ℕ)) (files : List File) (texts : List (List ℕ))
+pub accepted-more : (holds : List ℕ → Held) (earlier : List (List ℕ)) (files : List File)
+    (texts : List (List ℕ))
     (file : File) (text : List ℕ) → AreAccepted holds earlier files texts
     → IsAccepted (earlier ++ texts) file.kind (holds file.name) text
     → AreAccepted holds earlier (files ++ file ∷ []) (texts ++ text ∷ [])
@@ -103,7 +110,8 @@ comes-longer : (holds : List ℕ → Held) (files more : List File) (file : File
 comes-longer holds files more file comes = record {
   before = comes.before;
   behind = comes.behind ++ more;
-  all = ap (λ (all : List File). all ++ more) comes.all ∙ append_assoc comes.before (file ∷ comes.behind) more;
+  all = ap (λ (all : List File). all ++ more) comes.all
+      ∙ append_assoc comes.before (file ∷ comes.behind) more;
   texts = comes.texts;
   accepted = comes.accepted;
 }

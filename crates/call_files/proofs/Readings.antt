@@ -10,7 +10,8 @@ use Rattle.io_edge.specs.Told.{Held}
 use Rattle.io_edge.specs.Whole.{IsWhole}
 use Rattle.call_files.specs.Files.{faulty}
 use Rattle.call_files.specs.FaultLines.{large_line, map_line}
-use Rattle.call_files.specs.Reading.{AreBehindMap, AreLayersOf, AreMapTables, AreSmall, AreTablesOn, IsBehind, Reads, ReadsText, SpellsWithin}
+use Rattle.call_files.specs.Reading.{AreBehindMap, AreLayersOf, AreMapTables, AreSmall, AreTablesOn, IsBehind}
+use Rattle.call_files.specs.Reading.{Reads, ReadsText, SpellsWithin}
 use Rattle.call_files.specs.Kinds.{kind_for, limit_of, refusal_of, takes}
 use Rattle.call_files.specs.declared.kind.Extent.{Extent}
 use Rattle.call_files.specs.declared.kind.Extent.TheVariants.{Any, Small}
@@ -51,8 +52,10 @@ pub map-large : (extent : Extent) (text : List ℕ) (m : MapText) (line : List �
 map-large Any text m line e t l = λ earlier. absurd (cc)
 map-large Small text m line e t l = λ earlier. rw (e, t, l) refl
 
-pub map-faulty : (extent : Extent) (text : List ℕ) (fault : MapFault) (line : List ℕ) → map_of text ≡ Err fault
-    → line ≡ map_line fault → (earlier : List (List ℕ)) → refusal_of (kind_for extent) earlier text ≡ Some line
+pub map-faulty : (extent : Extent) (text : List ℕ) (fault : MapFault) (line : List ℕ)
+    → map_of text ≡ Err fault
+    → line ≡ map_line fault → (earlier : List (List ℕ)) → refusal_of (kind_for extent) earlier text
+    ≡ Some line
 map-faulty Any text fault line e l = λ earlier. rw (e, l) refl
 map-faulty Small text fault line e l = λ earlier. rw (e, l) refl
 
@@ -68,5 +71,6 @@ pub tables-read : (corner : Corner) (m : Map) (ls : Layers) (held : Held) (fault
     → Reads (AreBehindMap ls) (λ _. AreTablesOn ls) (kind.Tables ls.land.corner) held faults faults_now result
     → Reads (IsBehind m) (λ _. AreMapTables corner m) (kind.Tables corner) held faults faults_now result
 tables-read corner m ls held faults faults_now result are r = λ earlier behind.
-    subst (λ (l : Layers). Reads (AreBehindMap l) (λ _. AreTablesOn l) (kind.Tables l.land.corner) held faults faults_now
+    subst (λ (l : Layers). Reads (AreBehindMap l) (λ _. AreTablesOn l) (kind.Tables l.land.corner) held faults
+    faults_now
     result) are r earlier (record { map = m; spelled = behind; are = refl })

@@ -1,5 +1,6 @@
 -- The kinds of texts that a request reads.
-use Rattle.std.specs.Prelude.{ℕ, ◌^◌, List, [], ◌∷◌, length, codes, Result, Ok, Err, Option, Some, None, ◌*◌, nat_le, Bool, true, if◌then◌else◌}
+use Rattle.std.specs.Prelude.{ℕ, ◌^◌, List, [], ◌∷◌, length, codes, Result, Ok, Err, Option, Some, None, ◌*◌}
+use Rattle.std.specs.Prelude.{nat_le, Bool, true, if◌then◌else◌}
 use Rattle.std.specs.Option.{option_map}
 use Rattle.grid_moves.specs.declared.Corner.{Corner}
 use Rattle.grid_moves.specs.declared.Ground.TheVariants.{Land, Water}
@@ -16,7 +17,8 @@ use Rattle.table_file.specs.Faults.{table_fault_of}
 use Rattle.walk_judge.specs.Walks.{walks_of}
 use Rattle.word_list.specs.declared.request.Pick.{Pick}
 use Rattle.word_list.specs.Settings.{is_for_small_maps}
-use Rattle.call_files.specs.FaultLines.{cert_line, map_line, script_line, scen_line, walks_line, large_line, tables_line}
+use Rattle.call_files.specs.FaultLines.{cert_line, map_line, script_line, scen_line, walks_line, large_line}
+use Rattle.call_files.specs.FaultLines.{tables_line}
 use Rattle.call_files.specs.declared.kind.Kind.{Kind}
 use Rattle.call_files.specs.declared.kind.Kind.TheVariants.{Map, Script, Scen, Cert, Walks, SmallMap, Tables}
 use Rattle.call_files.specs.declared.kind.Extent.{Extent}
@@ -84,7 +86,8 @@ first_text (text ∷ others) = text
 -- the line of a text that is not the encoding of the tables of the map's two grids under a corner rule
 abbrev pub tables_refusal : Corner → Result maps.Map MapFault → List ℕ → Option (List ℕ)
 tables_refusal corner (Ok m) text = option_map tables_line
-    (table_fault_of (layer_of Land corner m.width m.height m.cells) (layer_of Water corner m.width m.height m.cells) text)
+    (table_fault_of (layer_of Land corner m.width m.height m.cells)
+    (layer_of Water corner m.width m.height m.cells) text)
 tables_refusal corner (Err fault) text = None
 
 -- the line with which a text is refused behind the texts before it, if it is

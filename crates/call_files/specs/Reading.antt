@@ -38,13 +38,14 @@ pub record IsRead {X : Type 0} (Spells : List ℕ → X → Type 0) (earlier : L
   pub accepted : IsAccepted earlier kind held text
   pub spelled : Spells text value
 
--- a reading may stop at a refused text, at a read that failed, as the file's count shows, or for want of memory
+-- a reading may stop at a refused text, at a read that failed, as the file's count shows, or for want of
+-- memory
 abbrev pub read_stops : (List ℕ → Type 0) → ℕ → ℕ → Stops
 read_stops Refused faults faults_now =
     record { Refused = Refused; Read = Rose faults faults_now; Write = ⊥; Memory = ⊤ }
 
--- what is known where the reading of these files stops: the first refused one, or the count of one that there was reason
--- to read
+-- what is known where the reading of these files stops: the first refused one, or the count of one that there
+-- was reason to read
 abbrev pub open_stops : Disk → Disk → List File → Stops
 open_stops disk disk_now files = record {
   Refused = HasRefused disk.holds files;
@@ -64,7 +65,8 @@ Reads IsBehind Spells kind held faults faults_now result = (earlier : List (List
     (IsRead Spells earlier kind held)
     (read_stops (IsRefused earlier kind held) faults faults_now) result
 
--- a text was read as a value that it spells and accepted, or it is refused, behind all texts of which that is known
+-- a text was read as a value that it spells and accepted, or it is refused, behind all texts of which that is
+-- known
 abbrev pub ReadsText : {X : Type 0} → (List (List ℕ) → Type 0) → (List ℕ → X → Type 0) → Kind → List ℕ
     → Result X Stop → Type 0
 ReadsText IsBehind Spells kind text result = (earlier : List (List ℕ)) → IsBehind earlier → Ends
@@ -120,7 +122,8 @@ abbrev pub AreMapTables : Corner → Map → MapTables → Type 0
 AreMapTables corner map tables = AreTablesOn (layers_of corner map.width map.height map.cells) tables
 
 -- the files hold the texts of a map and, where one is named, of its table file, and this was made of the map
-pub record IsMadeOf {X : Type 0} (IsOf : Map → X → Type 0) (holds : List ℕ → Held) (files : List File) (made : X)
+pub record IsMadeOf {X : Type 0} (IsOf : Map → X → Type 0) (holds : List ℕ → Held) (files : List File)
+    (made : X)
     : Type 0 where
   pub text : List ℕ
   pub loaded : List (List ℕ)
@@ -137,7 +140,8 @@ pub record IsMadeAnd {X Y : Type 0} (IsOf : Map → X → Type 0) (SpellsMore : 
   pub is : IsMade IsOf text values.0
   pub spelled_more : SpellsMore more values.1
 
--- the map and one file more were read as these values: the files hold these texts, the second one accepted behind the first
+-- the map and one file more were read as these values: the files hold these texts, the second one accepted
+-- behind the first
 pub record AreBothRead {X Y : Type 0} (Spells : List ℕ → X → Type 0) (SpellsMore : List ℕ → Y → Type 0)
     (holds : List ℕ → Held) (first second : File) (values : X × Y) : Type 0 where
   pub text : List ℕ
@@ -155,7 +159,8 @@ SpellsScript text commands = script_of text ≡ Ok commands.items
 
 -- the text spells these entries, and their lengths can be judged; they are no more than bytes
 abbrev pub SpellsScen : List ℕ → Vec Entry → Type 0
-SpellsScen text entries = (scen_of text ≡ Ok entries.items) × AreKept entries.items × (length entries.items ≤ 2 ^ 26)
+SpellsScen text entries = (scen_of text ≡ Ok entries.items) × AreKept entries.items
+    × (length entries.items ≤ 2 ^ 26)
 
 -- the text spells this certificate
 abbrev pub SpellsCert : List ℕ → Certificate → Type 0

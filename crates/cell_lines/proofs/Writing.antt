@@ -1,5 +1,6 @@
 -- Texts written one after the other.
-use Rattle.std.proofs.Common.{◌≡◌, ap, sym, ◌∙◌, List, [], ◌∷◌, ◌++◌, append_assoc, ℕ, suc, ◌+◌, ◌<◌, take, length, arith, get_or, zero}
+use Rattle.std.proofs.Common.{◌≡◌, ap, sym, ◌∙◌, List, [], ◌∷◌, ◌++◌, append_assoc, ℕ, suc, ◌+◌, ◌<◌, take}
+use Rattle.std.proofs.Common.{length, arith, get_or, zero}
 use Rattle.std.specs.Prelude.{Result, Ok, Err, OnOk, Some, slice_get}
 use Rattle.std.proofs.Math.Seq.{take-suc}
 use Rattle.std.proofs.lemmas.List.{append-nil}

@@ -1,5 +1,6 @@
 -- Texts of cells, directions and taken states.
-use Rattle.std.specs.Prelude.{◌≡◌, ℕ, ◌/◌, ◌%◌, nat_eq, if◌then◌else◌, List, [], ◌∷◌, ◌++◌, codes, decimal, refl}
+use Rattle.std.specs.Prelude.{◌≡◌, ℕ, ◌/◌, ◌%◌, nat_eq, if◌then◌else◌, List, [], ◌∷◌, ◌++◌, codes, decimal}
+use Rattle.std.specs.Prelude.{refl}
 use Rattle.grid_moves.specs.declared.Cell.{Cell}
 use Rattle.grid_moves.specs.declared.Dir.{Dir}
 use Rattle.grid_moves.specs.Move.{dir_number}
@@ -13,8 +14,8 @@ abbrev pub texts_of : {X : Type 0} → (X → List ℕ) → List X → List ℕ
 texts_of text [] = []
 texts_of text (x ∷ xs) = text x ++ texts_of text xs
 
--- the name of the direction in which a state was reached, by its number from 0; the start has none, nor has a state of
--- the plain engine
+-- the name of the direction in which a state was reached, by its number from 0; the start has none, nor has a
+-- state of the plain engine
 abbrev pub arrival_text : ℕ → List ℕ
 arrival_text arrival =
     if nat_eq arrival 0 then codes "N" else if nat_eq arrival 1 then codes "NE"

@@ -1,5 +1,6 @@
 -- The start of a pass: its own wave.
-use Rattle.std.proofs.Common.{◌≡◌, ◌≢◌, ℕ, zero, suc, ◌+◌, ◌*◌, ◌^◌, ◌<◌, ◌≤◌, inl, inr, arith, refl, ap, sym, ◌∙◌, subst, Bool, true, false, List, [], ◌∷◌, length, get_or, set, length-set}
+use Rattle.std.proofs.Common.{◌≡◌, ◌≢◌, ℕ, zero, suc, ◌+◌, ◌*◌, ◌^◌, ◌<◌, ◌≤◌, inl, inr, arith, refl, ap, sym}
+use Rattle.std.proofs.Common.{◌∙◌, subst, Bool, true, false, List, [], ◌∷◌, length, get_or, set, length-set}
 use Rattle.std.specs.Prelude.{Some, slice_get, nat_eq, if◌then◌else◌}
 use Rattle.std.proofs.lemmas.Bool.Decides.{nat_tests}
 use Rattle.std.proofs.lemmas.List.{get_or-set_same, get_or-set_other}
@@ -16,7 +17,8 @@ use Rattle.cost_waves.specs.declared.front.Source.{Source}
 use Rattle.cost_waves.specs.Front.{Front, spread, dir_rank}
 use Rattle.cost_waves.specs.Rank.{far, rank_limit}
 use Rattle.cost_waves.specs.Told.{has_dir}
-use Rattle.cost_waves.specs.Wave.{rank_at, dirs_at, known_count, Way, WayBy, Waits, AllWait, Held, in_now, Keeps, IsSettled, IsReady}
+use Rattle.cost_waves.specs.Wave.{rank_at, dirs_at, known_count, Way, WayBy, Waits, AllWait, Held, in_now}
+use Rattle.cost_waves.specs.Wave.{Keeps, IsSettled, IsReady}
 use Rattle.cost_waves.proofs.Keeping.{some_cell, IsOn, is_on, free_on, same_or_apart}
 use Rattle.cost_waves.proofs.Lists.{count_new}
 use Rattle.cost_waves.proofs.Settling.{IsSource, HasSpread, has_spread, in_all}

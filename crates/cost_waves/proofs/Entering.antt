@@ -1,5 +1,6 @@
 -- One offer keeps what holds in a wave.
-use Rattle.std.proofs.Common.{◌≡◌, ◌≢◌, ℕ, ◌+◌, ◌*◌, ◌<◌, ◌≤◌, inl, inr, arith, refl, ap, sym, ◌∙◌, subst, Bool, true, false, List, [], ◌∷◌, ◌++◌, length, get_or, length-set}
+use Rattle.std.proofs.Common.{◌≡◌, ◌≢◌, ℕ, ◌+◌, ◌*◌, ◌<◌, ◌≤◌, inl, inr, arith, refl, ap, sym, ◌∙◌, subst}
+use Rattle.std.proofs.Common.{Bool, true, false, List, [], ◌∷◌, ◌++◌, length, get_or, length-set}
 use Rattle.std.specs.Prelude.{nat_lt, nat_le, bit_or, ◌&&◌, if◌then◌else◌}
 use Rattle.std.proofs.lemmas.Bool.{cases_lt}
 use Rattle.std.proofs.lemmas.Bool.Decides.{nat_tests}
@@ -12,9 +13,13 @@ use Rattle.grid_moves.proofs.Places.{number_below}
 use Rattle.cost_waves.specs.Front.{Front, entered}
 use Rattle.cost_waves.specs.Rank.{far, rank_limit}
 use Rattle.cost_waves.specs.Told.{has_dir}
-use Rattle.cost_waves.specs.Wave.{rank_at, dirs_at, known_count, Way, WayBy, Among, Waits, AllWait, Held, before, in_now, in_next, in_after, Keeps}
-use Rattle.cost_waves.proofs.Keeping.{lowered, joined, Effect, lowers, joins, passes, effect, IsOn, follows_nothing, is_on, on_inside, free_on, same_or_apart, IsOffer, Follows, few}
-use Rattle.cost_waves.proofs.Lists.{among_more, among_last, from_more, count_new, count_old, or_left, or_right, or_either}
+use Rattle.cost_waves.specs.Wave.{rank_at, dirs_at, known_count, Way, WayBy, Among, Waits, AllWait, Held}
+use Rattle.cost_waves.specs.Wave.{before, in_now, in_next, in_after, Keeps}
+use Rattle.cost_waves.proofs.Keeping.{lowered, joined, Effect, lowers, joins, passes, effect, IsOn}
+use Rattle.cost_waves.proofs.Keeping.{follows_nothing, is_on, on_inside, free_on, same_or_apart, IsOffer}
+use Rattle.cost_waves.proofs.Keeping.{Follows, few}
+use Rattle.cost_waves.proofs.Lists.{among_more, among_last, from_more, count_new, count_old, or_left}
+use Rattle.cost_waves.proofs.Lists.{or_right, or_either}
 
 module _ (g : GridData) (s : Cell) (whole : IsGrid g) (floor : ℕ) (now : List Cell) (f : Front)
     (k : Keeps g s floor now f) (to : Cell) (rank first : ℕ) (o : IsOffer g s floor f to rank first) where

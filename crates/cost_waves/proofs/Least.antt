@@ -1,5 +1,6 @@
 -- When no cell waits, known ranks are those of least walks, and told directions those of their first moves.
-use Rattle.std.proofs.Common.{◌≡◌, ℕ, ◌+◌, ◌*◌, ◌^◌, ◌<◌, ◌≤◌, inl, inr, arith, refl, ap, sym, ◌∙◌, subst, Bool, true, false, List, [], ◌∷◌}
+use Rattle.std.proofs.Common.{◌≡◌, ℕ, ◌+◌, ◌*◌, ◌^◌, ◌<◌, ◌≤◌, inl, inr, arith, refl, ap, sym, ◌∙◌, subst}
+use Rattle.std.proofs.Common.{Bool, true, false, List, [], ◌∷◌}
 use Rattle.std.specs.Prelude.{Some, None, nat_lt, if◌then◌else◌}
 use Rattle.std.proofs.lemmas.Bool.{cases_lt}
 use Rattle.std.proofs.lemmas.Bool.Decides.{nat_tests}
@@ -21,7 +22,8 @@ use Rattle.cost_waves.specs.Begin.{IsCostTo, Begins}
 use Rattle.cost_waves.specs.Front.{Front, dir_rank}
 use Rattle.cost_waves.specs.Rank.{rank_limit}
 use Rattle.cost_waves.specs.Told.{has_dir, Tells}
-use Rattle.cost_waves.specs.Wave.{rank_at, dirs_at, Among, Held, before, in_now, in_next, in_after, Keeps, IsSettled, IsSwept, ended}
+use Rattle.cost_waves.specs.Wave.{rank_at, dirs_at, Among, Held, before, in_now, in_next, in_after, Keeps}
+use Rattle.cost_waves.specs.Wave.{IsSettled, IsSwept, ended}
 use Rattle.root2_cost.proofs.Decoding.{cost-rank}
 use Rattle.cost_waves.proofs.Keeping.{free_on, on_inside, few}
 use Rattle.cost_waves.proofs.Walks.{rank-add_costs, rank-move, rank_high}

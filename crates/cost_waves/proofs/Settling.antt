@@ -1,5 +1,6 @@
 -- A cell that is settled: all its moves are offered.
-use Rattle.std.proofs.Common.{◌≡◌, ℕ, ◌+◌, ◌*◌, ◌<◌, ◌≤◌, arith, refl, ap, sym, ◌∙◌, subst, true, List, [], ◌∷◌}
+use Rattle.std.proofs.Common.{◌≡◌, ℕ, ◌+◌, ◌*◌, ◌<◌, ◌≤◌, arith, refl, ap, sym, ◌∙◌, subst, true, List, []}
+use Rattle.std.proofs.Common.{◌∷◌}
 use Rattle.std.specs.Prelude.{Option, Some, None}
 use Rattle.root2_cost.specs.Rank.{straight_rank}
 use Rattle.grid_moves.specs.declared.Cell.{Cell}

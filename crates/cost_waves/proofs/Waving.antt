@@ -1,5 +1,6 @@
 -- A wave, cell by cell, and one wave after another.
-use Rattle.std.proofs.Common.{◌≡◌, ℕ, ◌+◌, ◌*◌, ◌^◌, ◌<◌, ◌≤◌, inl, inr, arith, refl, ap, sym, ◌∙◌, subst, Bool, true, false, List, [], ◌∷◌, length}
+use Rattle.std.proofs.Common.{◌≡◌, ℕ, ◌+◌, ◌*◌, ◌^◌, ◌<◌, ◌≤◌, inl, inr, arith, refl, ap, sym, ◌∙◌, subst}
+use Rattle.std.proofs.Common.{Bool, true, false, List, [], ◌∷◌, length}
 use Rattle.std.specs.Prelude.{Some, slice_get, nat_lt, nat_eq, ◌&&◌, if◌then◌else◌}
 use Rattle.std.proofs.lemmas.Bool.{cases_lt}
 use Rattle.std.proofs.lemmas.Bool.Decides.{nat_tests}
@@ -9,7 +10,8 @@ use Rattle.grid_moves.specs.declared.Cell.{Cell}
 use Rattle.grid_moves.specs.Grid.{GridData, IsGrid, is_inside}
 use Rattle.grid_moves.specs.Move.{all_dirs}
 use Rattle.cost_waves.specs.Front.{Front, spread}
-use Rattle.cost_waves.specs.Wave.{rank_at, known_count, Waits, AllWait, Held, before, in_now, in_next, in_after, Keeps, IsSettled, IsReady, IsMidway, settled, source_at}
+use Rattle.cost_waves.specs.Wave.{rank_at, known_count, Waits, AllWait, Held, before, in_now, in_next}
+use Rattle.cost_waves.specs.Wave.{in_after, Keeps, IsSettled, IsReady, IsMidway, settled, source_at}
 use Rattle.cost_waves.proofs.Keeping.{is_on, free_on, on_inside, Follows, few, some_cell}
 use Rattle.cost_waves.proofs.Lists.{count_low}
 use Rattle.cost_waves.proofs.Settling.{IsSource, has_spread, settled_on, in_all}

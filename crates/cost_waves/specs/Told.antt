@@ -1,5 +1,6 @@
 -- What waves keep of their last pass, and when it is right.
-use Rattle.std.specs.Prelude.{◌≡◌, ℕ, Bool, true, false, nat_eq, List, slice_index_or, Option, None, IsTrue, ◌↔◌, refl}
+use Rattle.std.specs.Prelude.{◌≡◌, ℕ, Bool, true, false, nat_eq, List, slice_index_or, Option, None, IsTrue}
+use Rattle.std.specs.Prelude.{◌↔◌, refl}
 use Rattle.std.specs.Int.{bit_at}
 use Rattle.root2_cost.specs.declared.Cost.{Cost}
 use Rattle.grid_moves.specs.declared.Cell.{Cell}

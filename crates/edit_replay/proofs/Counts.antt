@@ -1,5 +1,6 @@
 -- The steps of a search, counted by the states of its reply.
-use Rattle.std.proofs.Common.{◌≡◌, ℕ, zero, suc, ◌+◌, ◌-◌, ◌*◌, ◌<◌, ◌≤◌, List, ◌∷◌, length, map, reverse, ap, ◌∙◌, arith}
+use Rattle.std.proofs.Common.{◌≡◌, ℕ, zero, suc, ◌+◌, ◌-◌, ◌*◌, ◌<◌, ◌≤◌, List, ◌∷◌, length, map, reverse, ap}
+use Rattle.std.proofs.Common.{◌∙◌, arith}
 use Rattle.std.specs.Prelude.{Option, Some, MatchOption}
 use Rattle.std.proofs.lemmas.List.{length-map, length-reverse}
 use Rattle.root2_cost.specs.declared.Cost.{Cost}
@@ -30,7 +31,8 @@ but_the_last fewest old new (suc n) some rose =
     let less : suc n - 1 ≡ n = omega arith in
     rw less (omega arith)
 
-pub rose_away : (g : GridData) (s t : Cell) (walk : Option Walk) (taken : List ℕ) (w : Walk) (fewest old new : ℕ)
+pub rose_away : (g : GridData) (s t : Cell) (walk : Option Walk) (taken : List ℕ) (w : Walk)
+    (fewest old new : ℕ)
     → walk ≡ Some w → MatchOption walk (IsExhausted g s t taken) (λ v. IsFound g s t v.points v.cost taken)
     → MatchOption walk (old + length taken * fewest ≤ new) (λ _. old + length taken * fewest ≤ new + fewest)
     → old + (length taken - 1) * fewest ≤ new

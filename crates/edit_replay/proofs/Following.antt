@@ -15,7 +15,8 @@ use Rattle.edit_replay.specs.declared.kept.Kept.{Kept}
 use Rattle.edit_replay.specs.declared.kept.Kept.TheVariants.{Jumps}
 
 -- the tables of both grids were mended
-pub mended_both : (kept : Kept) (tables : Both TablesData) (space : SpaceData) (before after : Layers) (old new : ℕ)
+pub mended_both : (kept : Kept) (tables : Both TablesData) (space : SpaceData) (before after : Layers)
+    (old new : ℕ)
     → kept ≡ Jumps (Tables tables) space → AreMended before after old new
     → IsEditCounted (engine_of kept) before after old new
 mended_both kept tables space before after old new is mended = rw is mended
@@ -27,7 +28,8 @@ bits_at true bits grids are = are.1
 bits_at false bits grids are = are.0
 
 -- tables were mended
-pub tables_follow : (old new : TablesData) (g h : GridData) → h ≢ g → (changed steps steps_now : ℕ) → IsWhole old
+pub tables_follow : (old new : TablesData) (g h : GridData) → h ≢ g → (changed steps steps_now : ℕ)
+    → IsWhole old
     → AreTablesOf old g → AreTablesOf new h → changed ≡ places_differing old.entries new.entries
     → steps_now ≤ steps + 18 * (h.width + h.height) + changed
     → (n : ℕ) × MendsWithin g h n × (steps_now ≤ steps + n)

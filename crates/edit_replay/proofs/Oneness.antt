@@ -1,5 +1,6 @@
 -- Two replies that are right and the runs of engines that both jump, or of the plain engine, are one reply.
-use Rattle.std.proofs.Common.{◌≡◌, ℕ, ◌⊎◌, inl, inr, refl, ap, sym, subst, ◌∙◌, Bool, true, false, ◌&&◌, ◌||◌, List, []}
+use Rattle.std.proofs.Common.{◌≡◌, ℕ, ◌⊎◌, inl, inr, refl, ap, sym, subst, ◌∙◌, Bool, true, false, ◌&&◌, ◌||◌}
+use Rattle.std.proofs.Common.{List, []}
 use Rattle.std.specs.Prelude.{MatchBool, MatchOption, if◌then◌else◌}
 use Rattle.std.proofs.lemmas.Bool.Decides.{when_true}
 use Rattle.std.specs.Prelude as option
@@ -134,7 +135,8 @@ module _ (ls : Layers) (are : AreLayers ls) (s t : Cell) (e : Engine) where
   ends_free one = by_water (is_free ls.water s) one
     where
       by_water : (b : Bool)
-          → (is_free (if b then ls.water else ls.land) s && is_free (if b then ls.water else ls.land) t) ≡ true
+          → (is_free (if b then ls.water else ls.land) s && is_free (if b then ls.water else ls.land) t)
+          ≡ true
           → are_free_ends ls s t ≡ true
       by_water true one = let p = and_both (is_free ls.water s) (is_free ls.water t) one in
           and_true (is_free_ground ls s) (is_free_ground ls t)
@@ -218,7 +220,8 @@ module _ (g : GridData) (s t : Cell) where
   run_like e Blocked is = is
 
 -- the replies of two sessions with the same layers, whose engines both jump or are both plain
-pub one_run_reply : (d e : SessionData) (s t : Cell) (one other : Reply) → d.layers ≡ e.layers → AreLayers d.layers
+pub one_run_reply : (d e : SessionData) (s t : Cell) (one other : Reply) → d.layers ≡ e.layers
+    → AreLayers d.layers
     → is_plain d.engine ≡ is_plain e.engine → IsReplyOf d s t one → IsReplyOf e s t other → one ≡ other
 one_run_reply d e s t one other same are alike p q =
     one_reply d.layers are s t (like (is_plain d.engine)) one other

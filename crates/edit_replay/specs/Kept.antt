@@ -41,7 +41,8 @@ as_layers grids = record { land = grids.land; water = grids.water }
 abbrev pub IsFinderOf : Both GridData → Finder → Type 0
 IsFinderOf grids finder.Cells = ⊤
 IsFinderOf grids (finder.Bits bits) = AreBitsOf bits.land grids.land × AreBitsOf bits.water grids.water
-IsFinderOf grids (finder.Tables tables) = AreTablesOf tables.land grids.land × AreTablesOf tables.water grids.water
+IsFinderOf grids (finder.Tables tables) = AreTablesOf tables.land grids.land
+    × AreTablesOf tables.water grids.water
 
 -- the memory has a place for each state of the grids, and jumps on them are found
 abbrev pub Serves : Both GridData → Kept → Type 0

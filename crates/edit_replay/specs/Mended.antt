@@ -7,8 +7,8 @@ use Rattle.table_repair.specs.Counted.{places_differing}
 use Rattle.edit_replay.specs.declared.engine.Engine.{Engine}
 use Rattle.edit_replay.specs.declared.engine.Engine.TheVariants.{Plain, Jps, Block, Plus}
 
--- So many refreshes at most make the tables of a grid those of another: none where it is the same grid, else 18
--- for each row and each column, and one for each entry that differs.
+-- So many refreshes at most make the tables of a grid those of another: none where it is the same grid, else
+-- 18 for each row and each column, and one for each entry that differs.
 pub data MendsWithin (g h : GridData) (n : ℕ) : Type 0 where
   nothing : h ≡ g → n ≡ 0 → MendsWithin g h n
   repaired : h ≢ g → (old new : TablesData) → IsWhole old → AreTablesOf old g → AreTablesOf new h

@@ -13,8 +13,9 @@ pub record IsReplyOf (d : SessionData) (s t : Cell) (reply : Reply) : Type 0 whe
   pub right : IsRight d.layers s t (answer_of reply)
   pub run : IsRunReply d s t reply
 
--- where two sessions have the same layers of one map, and both engines jump or both are plain, two such replies
--- are one reply: the same points, cost and taken states
+-- where two sessions have the same layers of one map, and both engines jump or both are plain, two such
+-- replies are one reply: the same points, cost and taken states
 abbrev pub RepliesAreOne : Type 0
-RepliesAreOne = (d e : SessionData) (s t : Cell) (one other : Reply) → d.layers ≡ e.layers → AreLayers d.layers
+RepliesAreOne = (d e : SessionData) (s t : Cell) (one other : Reply) → d.layers ≡ e.layers
+    → AreLayers d.layers
     → is_plain d.engine ≡ is_plain e.engine → IsReplyOf d s t one → IsReplyOf e s t other → one ≡ other

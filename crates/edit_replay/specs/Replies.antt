@@ -1,5 +1,6 @@
 -- What a session stands for, and what its replies do.
-use Rattle.std.specs.Prelude.{◌≡◌, ℕ, ◌+◌, ◌^◌, ◌<◌, true, false, ◌&&◌, ◌⊎◌, ⊤, MatchBool, List, [], ◌∷◌, ◌++◌}
+use Rattle.std.specs.Prelude.{◌≡◌, ℕ, ◌+◌, ◌^◌, ◌<◌, true, false, ◌&&◌, ◌⊎◌, ⊤, MatchBool, List, [], ◌∷◌}
+use Rattle.std.specs.Prelude.{◌++◌}
 use Rattle.root2_cost.specs.declared.Cost.{Cost}
 use Rattle.grid_moves.specs.declared.Cell.{Cell}
 use Rattle.grid_moves.specs.declared.Ground.{Ground}
@@ -42,7 +43,8 @@ abbrev pub Exhausts : Engine → GridData → Cell → Cell → List ℕ → Typ
 Exhausts Plain g s t taken = plain.IsExhausted g s t taken
 Exhausts other g s t taken = jump.IsExhausted g s t taken
 
--- points, cost and taken states are those of the run of all engines that jump, between free cells of this grid
+-- points, cost and taken states are those of the run of all engines that jump, between free cells of this
+-- grid
 abbrev pub IsJumpReply : GridData → Cell → Cell → Reply → Type 0
 IsJumpReply g s t (Walk points cost taken) = jump.IsFound g s t points cost taken
 IsJumpReply g s t (None taken) = jump.IsExhausted g s t taken

@@ -1,5 +1,6 @@
 -- Where a least walk leads from cell to cell, first moves do.
-use Rattle.std.proofs.Common.{◌≡◌, ℕ, zero, suc, ◌+◌, ◌≤◌, inl, inr, arith, refl, ap, sym, ◌∙◌, true, List, [], ◌∷◌, length}
+use Rattle.std.proofs.Common.{◌≡◌, ℕ, zero, suc, ◌+◌, ◌≤◌, inl, inr, arith, refl, ap, sym, ◌∙◌, true, List}
+use Rattle.std.proofs.Common.{[], ◌∷◌, length}
 use Rattle.std.specs.Prelude.{Option, Some, None, slice_index_or}
 use Rattle.root2_cost.specs.declared.Cost.{Cost}
 use Rattle.root2_cost.proofs.AtMost.{IsAtMost-antisymmetric}
@@ -28,7 +29,8 @@ same_moves : (g : GridData) (s t : Cell) (cells others : List Cell) → IsLeastW
     → IsLeastWalk g s t others → length cells ≡ length others
 same_moves g s t cells others l m =
     let same : cost_of (s ∷ cells) ≡ cost_of (s ∷ others) =
-    IsAtMost-antisymmetric (cost_of (s ∷ cells)) (cost_of (s ∷ others)) (l.least others m.walk) (m.least cells l.walk) in
+    IsAtMost-antisymmetric (cost_of (s ∷ cells)) (cost_of (s ∷ others)) (l.least others m.walk)
+    (m.least cells l.walk) in
     sym (cost_counts s cells) ∙ ap (λ (c : Cost). c.a + c.b) same ∙ cost_counts s others
 
 module _ (g : GridData) (m : MovesData) (moves : AreMoves g m) (t : Cell) (to : is_free g t ≡ true) where
@@ -55,7 +57,8 @@ module _ (g : GridData) (m : MovesData) (moves : AreMoves g m) (t : Cell) (to : 
       p : (move : Option Dir) × IsFirstMove g s t move
       p = first_from s free
 
-      by_first : ((u : Cell) (others : List Cell) → IsLeastWalk g u t others → length others ≤ n → IsLed g u t)
+      by_first : ((u : Cell) (others : List Cell) → IsLeastWalk g u t others → length others ≤ n
+          → IsLed g u t)
           → (move : Option Dir) → IsFirstMove g s t move → IsLed g s t
       by_first again None (inl e) = stays_led s free e
       by_first again None (inr none) = absurd (none (v ∷ cells) l.walk)

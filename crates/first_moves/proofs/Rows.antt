@@ -1,5 +1,6 @@
 -- The rows of all cells.
-use Rattle.std.proofs.Common.{◌≡◌, ℕ, zero, suc, ◌+◌, ◌*◌, ◌<◌, arith, refl, ap, sym, ◌∙◌, subst, Bool, true, false, inr, List, [], ◌∷◌, ◌++◌, length, get_or, replicate, length-append}
+use Rattle.std.proofs.Common.{◌≡◌, ℕ, zero, suc, ◌+◌, ◌*◌, ◌<◌, arith, refl, ap, sym, ◌∙◌, subst, Bool, true}
+use Rattle.std.proofs.Common.{false, inr, List, [], ◌∷◌, ◌++◌, length, get_or, replicate, length-append}
 use Rattle.std.specs.Prelude.{Option, None, nat_lt, IfOk, Ok, Err}
 use Rattle.std.specs.declared.result.Result.{Result}
 use Rattle.std.proofs.lemmas.Bool.Decides.{nat_tests}
@@ -51,9 +52,11 @@ if_without_moves g s (Ok row) i b e = subst (λ (l : List Run). IsRow g s l) (sy
 if_without_moves g s (Err fault) i b e = tt
 
 -- what is told of a pass from a cell is its row
-pub if_told : {E : Type 0} (g : GridData) (s : Cell) (w : WaveData) (o : Result (List Run) E) → w.width ≡ g.width
+pub if_told : {E : Type 0} (g : GridData) (s : Cell) (w : WaveData) (o : Result (List Run) E)
+    → w.width ≡ g.width
     → w.height ≡ g.height → Tells g s w
-    → IfOk o (λ row. (h : GridData) (u : Cell) → w.width ≡ h.width → w.height ≡ h.height → Tells h u w → IsRow h u row)
+    → IfOk o (λ row. (h : GridData) (u : Cell) → w.width ≡ h.width → w.height ≡ h.height → Tells h u w
+    → IsRow h u row)
     → IfOk o (λ row. IsRow g s row)
 if_told g s w (Ok row) wide high tells all = all g s wide high tells
 if_told g s w (Err fault) wide high tells all = tt
@@ -77,8 +80,8 @@ rows_more g xs ys r s e n low rows row = subst (λ (l : List (List Run)). AreRow
             → IsRow g c (get_or (xs ++ (r ∷ [])) (cell_number g.width c) [])
         by_test true t =
             let within : cell_number g.width c < length xs = grind (arith, nat_tests) in
-            subst (λ (l : List Run). IsRow g c l) (sym (get_or-append xs (r ∷ []) [] (cell_number g.width c) within))
-            (rows c x within)
+            subst (λ (l : List Run). IsRow g c l)
+            (sym (get_or-append xs (r ∷ []) [] (cell_number g.width c) within)) (rows c x within)
         by_test false t =
             let more = length-append xs (r ∷ []) in
             let last : cell_number g.width c ≡ length xs = grind (arith, nat_tests) in

@@ -9,8 +9,8 @@ use Rattle.grid_moves.specs.Walk.{NoWalk}
 use Rattle.cost_waves.specs.Begin.{Begins}
 use Rattle.cost_waves.specs.Told as told
 
--- The first move from s to t: the direction of least number with which some least walk from s to t begins. There
--- is none exactly where t is s or no walk leads from s to t, as where an end is blocked.
+-- The first move from s to t: the direction of least number with which some least walk from s to t begins.
+-- There is none exactly where t is s or no walk leads from s to t, as where an end is blocked.
 abbrev pub IsFirstMove : GridData → Cell → Cell → Option Dir → Type 0
 IsFirstMove g s t None = (s ≡ t) ⊎ NoWalk g s t
 IsFirstMove g s t (Some d) = Begins g s t d × ((e : Dir) → Begins g s t e → dir_number d ≤ dir_number e)

@@ -25,8 +25,8 @@ abbrev pub AreFirst : GridData → Cell → Cell → List Cell → Type 0
 AreFirst g t s [] = Unit {0}
 AreFirst g t s (v ∷ cells) = LeadsTo g s t v × AreFirst g t v cells
 
--- the walk from s to t of first moves: it is a least walk, the points are its first cell, its last cell and its
--- turns, and the cost is its cost
+-- the walk from s to t of first moves: it is a least walk, the points are its first cell, its last cell and
+-- its turns, and the cost is its cost
 pub record IsFollowed (g : GridData) (s t : Cell) (points : List Cell) (cost : Cost) : Type 0 where
   pub cells : List Cell
   pub first : AreFirst g t s cells

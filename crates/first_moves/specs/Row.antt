@@ -7,7 +7,8 @@ use Rattle.first_moves.specs.declared.row.Run.{Run}
 use Rattle.first_moves.specs.First.{IsFirstMove}
 use Rattle.first_moves.specs.Runs.{runs_of}
 
--- the row of s: the first moves to all cells of the map by cell number, cut into longest runs of equal members
+-- the row of s: the first moves to all cells of the map by cell number, cut into longest runs of equal
+-- members
 pub record IsRow (g : GridData) (s : Cell) (runs : List Run) : Type 0 where
   pub members : List (Option Dir)
   pub whole : length members ≡ g.height * g.width

@@ -1,5 +1,6 @@
 -- Longest runs of equal members of a list.
-use Rattle.std.specs.Prelude.{◌≡◌, ℕ, ◌+◌, Bool, true, false, if◌then◌else◌, List, [], ◌∷◌, Option, Some, None, refl}
+use Rattle.std.specs.Prelude.{◌≡◌, ℕ, ◌+◌, Bool, true, false, if◌then◌else◌, List, [], ◌∷◌, Option, Some}
+use Rattle.std.specs.Prelude.{None, refl}
 use Rattle.grid_moves.specs.declared.Dir.{Dir}
 use Rattle.grid_moves.specs.declared.Dir.TheVariants.{E, SE, S}
 use Rattle.grid_moves.specs.Move.{is_dir}
@@ -25,9 +26,12 @@ runs_of [] = []
 runs_of (m ∷ members) = record { start = 0; first = m } ∷ runs_from 1 m members
 
 -- from the upper left of an open map of 3 columns and 3 rows
-pub seven_runs : runs_of (None ∷ Some E ∷ Some E ∷ Some S ∷ Some SE ∷ Some E ∷ Some S ∷ Some SE ∷ Some SE ∷ [])
-    ≡ record { start = 0; first = None } ∷ record { start = 1; first = Some E } ∷ record { start = 3; first = Some S }
-    ∷ record { start = 4; first = Some SE } ∷ record { start = 5; first = Some E } ∷ record { start = 6; first = Some S }
+pub seven_runs : runs_of (None ∷ Some E ∷ Some E ∷ Some S ∷ Some SE ∷ Some E ∷ Some S ∷ Some SE
+    ∷ Some SE ∷ [])
+    ≡ record { start = 0; first = None } ∷ record { start = 1; first = Some E }
+    ∷ record { start = 3; first = Some S }
+    ∷ record { start = 4; first = Some SE } ∷ record { start = 5; first = Some E }
+    ∷ record { start = 6; first = Some S }
     ∷ record { start = 7; first = Some SE } ∷ []
 seven_runs = refl
 

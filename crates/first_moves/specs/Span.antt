@@ -2,7 +2,8 @@
 use Rattle.std.specs.Prelude.{ℕ, ◌<◌, ◌≤◌, List, length, slice_index_or}
 use Rattle.first_moves.specs.declared.row.Run.{Run}
 
--- run `low` begins at the number or before, unless it is the first one, and run `high` after it, if there is one
+-- run `low` begins at the number or before, unless it is the first one, and run `high` after it, if there is
+-- one
 pub record IsSpan (runs : List Run) (number low high : ℕ) : Type 0 where
   pub apart : low < high
   pub within : high ≤ length runs

@@ -24,17 +24,20 @@ use Rattle.goal_boxes.specs.Progress.{HasTaken}
 use Rattle.goal_boxes.specs.Rule.{boxed_rule, boxed_links}
 use Rattle.goal_boxes.proofs.Offering.{may_expand, all_over, are_links, enough}
 
-module _ {g : GridData} (b : BoxTeller) {s t : Cell} (asked : IsAsked g s t (boxed_links g b t)) {at : ℕ} {k : Table}
+module _ {g : GridData} (b : BoxTeller) {s t : Cell} (asked : IsAsked g s t (boxed_links g b t)) {at : ℕ}
+    {k : Table}
     {taken : List ℕ} (h : HasTaken g b s t at k taken) where
   -- what the offers of the last state ask for
   pub may_go_on : (space : SpaceData) → space.table ≡ k → IsReady g space → (n : Node)
       → slice_get k.nodes at ≡ Some n → MayExpand g b t at n space
   may_go_on space e ready n read =
-      subst (λ (m : Node). MayExpand g b t at m space) (some_node h.searching.node n (sym h.searching.node_is ∙ read))
+      subst (λ (m : Node). MayExpand g b t at m space)
+      (some_node h.searching.node n (sym h.searching.node_is ∙ read))
       (may_expand b asked h.last h.earlier at h.searching space e ready.width ready.places)
 
   -- after the offers
-  pub has_offered : (later : Table) → ((n : Node) → slice_get k.nodes at ≡ Some n → is_same (node_cell n) t ≡ false)
+  pub has_offered : (later : Table)
+      → ((n : Node) → slice_get k.nodes at ≡ Some n → is_same (node_cell n) t ≡ false)
       → ((n : Node) → slice_get k.nodes at ≡ Some n → HasExpanded g b t at n k later)
       → search.HasOffered ByCell g.width t (boxed_links g b t) s at later taken
   has_offered later open_ended expanded =
@@ -49,7 +52,8 @@ module _ {g : GridData} (b : BoxTeller) {s t : Cell} (asked : IsAsked g s t (box
         last = h.last;
         earlier = h.earlier;
         best = with_all h.last best ways;
-        searching = subst (λ (l : Table). IsSearching ByCell g.width t (boxed_links g b t) s h.last h.earlier at
+        searching =
+            subst (λ (l : Table). IsSearching ByCell g.width t (boxed_links g b t) s h.last h.earlier at
             (with_all h.last best ways) l) (sym (expanded node h.searching.node_is)) made.0;
         open_ended = ended;
         all_made = offers_after g.width t (boxed_links g b t) h.last h.earlier ways ended

@@ -1,5 +1,6 @@
 -- Each free cell has its boxes, apart from the code that finds them.
-use Rattle.std.proofs.Common.{◌≡◌, ◌≤◌, ◌<◌, ◌+◌, ◌⊎◌, inl, inr, ℕ, zero, suc, Bool, true, false, refl, ap, sym, ◌∙◌, subst, arith, ◌∷◌}
+use Rattle.std.proofs.Common.{◌≡◌, ◌≤◌, ◌<◌, ◌+◌, ◌⊎◌, inl, inr, ℕ, zero, suc, Bool, true, false, refl, ap}
+use Rattle.std.proofs.Common.{sym, ◌∙◌, subst, arith, ◌∷◌}
 use Rattle.std.specs.Prelude.{Option, Some, None, IfOk, Ok, Err}
 use Rattle.std.specs.declared.result.Result.{Result}
 use Rattle.root2_cost.proofs.AtMost.{IsAtMost-or_more, IsAtMost-not_more}
@@ -20,7 +21,8 @@ use Rattle.goal_boxes.specs.Answer.{IsRunBy, IsBoxedRunOn}
 use Rattle.goal_boxes.specs.Box.{IsWithin, IsAreaOf, IsBox, AreBoxes, BoxTeller, TellsBoxes, box_in}
 use Rattle.goal_boxes.specs.Offers.{Agree}
 use Rattle.goal_boxes.specs.Wide.{widened, Scanned}
-use Rattle.goal_boxes.proofs.Growing.{cell, one_of_kind, one_of_other, row_scanned, none_scanned, same_area, end_of_walk}
+use Rattle.goal_boxes.proofs.Growing.{cell, one_of_kind, one_of_other, row_scanned, none_scanned, same_area}
+use Rattle.goal_boxes.proofs.Growing.{end_of_walk}
 use Rattle.goal_boxes.proofs.Right.{HasLeastWalk, by_walk, by_none, least_or_none}
 
 -- a move begins a least walk, or it does not

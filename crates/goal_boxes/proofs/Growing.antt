@@ -1,5 +1,6 @@
 -- A rectangle grows by one cell, and a scan by one place.
-use Rattle.std.proofs.Common.{◌≡◌, ◌≤◌, ◌<◌, ◌+◌, ◌⊎◌, inl, inr, ℕ, true, refl, ap, sym, ◌∙◌, subst, arith, List, [], ◌∷◌}
+use Rattle.std.proofs.Common.{◌≡◌, ◌≤◌, ◌<◌, ◌+◌, ◌⊎◌, inl, inr, ℕ, true, refl, ap, sym, ◌∙◌, subst, arith}
+use Rattle.std.proofs.Common.{List, [], ◌∷◌}
 use Rattle.std.specs.Prelude.{nat_lt, Option, Some, None, if◌then◌else◌}
 use Rattle.std.proofs.lemmas.Bool.{cases_lt}
 use Rattle.std.proofs.lemmas.Bool.Decides.{nat_tests}
@@ -15,7 +16,8 @@ use Rattle.cost_waves.specs.Told.{WaveData, begins_with, Tells}
 use Rattle.goal_boxes.specs.declared.area.Area.{Area}
 use Rattle.goal_boxes.specs.declared.around.CellBoxes.{CellBoxes}
 use Rattle.goal_boxes.specs.Box.{holds, IsLeastArea, IsAreaOf, IsBox, box_in}
-use Rattle.goal_boxes.specs.Wide.{with_cell, widened, Scanned, IsTold, Seen, NoneTold, IsFirstTold, IsLastTold}
+use Rattle.goal_boxes.specs.Wide.{with_cell, widened, Scanned, IsTold, Seen, NoneTold, IsFirstTold}
+use Rattle.goal_boxes.specs.Wide.{IsLastTold}
 
 -- what it is to lie in a rectangle
 pub record LiesIn (a : Area) (c : Cell) : Type 0 where

@@ -123,7 +123,8 @@ module _ (g : GridData) (b : BoxTeller) (t : Cell) where
       by_cell (Some w) e f = e ∙ ap (λ (u : Cell). Some u) (is_same-cell w v f)
 
 -- a boxed search is asked for between free cells
-pub boxed_asked : (g : GridData) (b : BoxTeller) (s t : Cell) → IsGrid g → is_free g s ≡ true → is_free g t ≡ true
+pub boxed_asked : (g : GridData) (b : BoxTeller) (s t : Cell) → IsGrid g → is_free g s ≡ true
+    → is_free g t ≡ true
     → IsAsked g s t (boxed_links g b t)
 boxed_asked g b s t whole from to =
     record { are = boxed_are_moves g b t; whole = whole; from = from; to = free_near g t to }

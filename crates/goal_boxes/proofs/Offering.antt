@@ -27,7 +27,8 @@ use Rattle.goal_boxes.specs.Offers.{toward, offered_over, all_offered, with_way,
 use Rattle.goal_boxes.specs.Rule.{leads_toward, is_toward_by, boxed_step, boxed_links}
 use Rattle.goal_boxes.proofs.Moves.{toward_is, toward_linked, boxed_move, step_toward, leads_is}
 
-module _ {g : GridData} (b : BoxTeller) {s t : Cell} (asked : IsAsked g s t (boxed_links g b t)) (x : Taken State)
+module _ {g : GridData} (b : BoxTeller) {s t : Cell} (asked : IsAsked g s t (boxed_links g b t))
+    (x : Taken State)
     (earlier : List (Taken State)) (at : ℕ) where
   abbrev Searching : Offers → Table → Type 0
   Searching best k = IsSearching ByCell g.width t (boxed_links g b t) s x earlier at best k
@@ -48,11 +49,13 @@ module _ {g : GridData} (b : BoxTeller) {s t : Cell} (asked : IsAsked g s t (box
   }
 
   -- all moves toward the goal
-  pub all_over : (dirs : List Dir) (best : Offers) (k : Table) (i : Searching best k) → (n : Node) → i.node ≡ n
+  pub all_over : (dirs : List Dir) (best : Offers) (k : Table) (i : Searching best k) → (n : Node)
+      → i.node ≡ n
       → (j : Searching (with_all x best (ways_over g b t (node_cell n) dirs))
       (all_offered g b t at (rank_left t n) (node_cell n) dirs k)) × (j.node ≡ n)
   all_over [] best k i n e = (i, e)
-  all_over (d ∷ dirs) best k i n e = by_move (λ p l j f. all_over dirs p l j n f) (toward g b t (node_cell n) d) refl
+  all_over (d ∷ dirs) best k i n e =
+      by_move (λ p l j f. all_over dirs p l j n f) (toward g b t (node_cell n) d) refl
     where
       by_move : ((p : Offers) (l : Table) (j : Searching p l) → j.node ≡ n
           → (q : Searching (with_all x p (ways_over g b t (node_cell n) dirs))
@@ -87,7 +90,8 @@ are_links g b t c u at_c (d ∷ dirs) w m =
 -- what leads toward the goal is among the ways
 module _ (g : GridData) (b : BoxTeller) (t c v : Cell) where
   among : (cost : Cost) → (e : (d : Dir) → leads_toward b t c v d ≡ true
-      → (toward g b t c d ≡ Some v) × (cost_to d ≡ cost)) → (dirs : List Dir) → is_toward_by b t c v dirs ≡ true
+      → (toward g b t c d ≡ Some v) × (cost_to d ≡ cost)) → (dirs : List Dir)
+      → is_toward_by b t c v dirs ≡ true
       → IsAmong (record { to = start_at v; cost = cost }) (ways_over g b t c dirs)
   among cost e [] h = absurd (cc)
   among cost e (d ∷ dirs) h = by_test (leads_toward b t c v d) refl (among cost e dirs) h
@@ -100,22 +104,26 @@ module _ (g : GridData) (b : BoxTeller) (t c v : Cell) where
       here_is : (o : Option Cell) → o ≡ Some v → cost_to d ≡ cost
           → IsAmong (record { to = start_at v; cost = cost }) (with_way d o (ways_over g b t c dirs))
       here_is o f q = rw f (subst (λ (p : Cost). IsAmong (record { to = start_at v; cost = cost })
-          (record { to = start_at v; cost = p } ∷ ways_over g b t c dirs)) (sym q) (first (ways_over g b t c dirs)))
+          (record { to = start_at v; cost = p } ∷ ways_over g b t c dirs)) (sym q)
+          (first (ways_over g b t c dirs)))
 
       by_test : (p : Bool) → leads_toward b t c v d ≡ p
           → (is_toward_by b t c v dirs ≡ true
           → IsAmong (record { to = start_at v; cost = cost }) (ways_over g b t c dirs))
           → (p || is_toward_by b t c v dirs) ≡ true
-          → IsAmong (record { to = start_at v; cost = cost }) (with_way d (toward g b t c d) (ways_over g b t c dirs))
+          → IsAmong (record { to = start_at v; cost = cost })
+          (with_way d (toward g b t c d) (ways_over g b t c dirs))
       by_test true f again h = let r = e d f in here_is (toward g b t c d) r.0 r.1
       by_test false f again h = by_move (toward g b t c d) (again h)
 
 -- each link is among the ways
-pub enough : (g : GridData) (b : BoxTeller) (t : Cell) (u v : State) (c : Cost) → boxed_step g b t u v ≡ Some c
+pub enough : (g : GridData) (b : BoxTeller) (t : Cell) (u v : State) (c : Cost)
+    → boxed_step g b t u v ≡ Some c
     → IsAmong (record { to = v; cost = c }) (ways_over g b t u.cell all_dirs)
 enough g b t u v c l =
     let m = boxed_move g b t u v c l in
     let is : IsAmong (record { to = start_at v.cell; cost = c }) (ways_over g b t u.cell all_dirs) =
     among g b t u.cell v.cell c (λ d h. let r = leads_is g b t u.cell v.cell d m.legal h in
     (r.to, sym r.priced ∙ sym m.cost)) all_dirs (step_toward g b t u v c l) in
-    subst (λ (q : State). IsAmong (record { to = q; cost = c }) (ways_over g b t u.cell all_dirs)) (sym m.plain) is
+    subst (λ (q : State). IsAmong (record { to = q; cost = c }) (ways_over g b t u.cell all_dirs))
+    (sym m.plain) is

@@ -38,7 +38,8 @@ box_holds g u t d (Some a) box w = box.all t w
 
 -- so a least walk to t is a chain of its cost
 pub least_chain : (g : GridData) (b : BoxTeller) (t : Cell) → TellsBoxes g b → (u : Cell) (cells : List Cell)
-    → IsLeastWalk g u t cells → Chain (boxed_rule g b t) (start_at u) (start_at (last_of u cells)) (cost_of (u ∷ cells))
+    → IsLeastWalk g u t cells → Chain (boxed_rule g b t) (start_at u) (start_at (last_of u cells))
+    (cost_of (u ∷ cells))
 least_chain g b t boxes u [] w = stays (start_at u)
 least_chain g b t boxes u (v ∷ cells) w =
     let parts = and_both (is_legal g u v) (is_walk g (v ∷ cells)) w.walk.legal in
@@ -63,8 +64,10 @@ least_or_none g s t free = let a = has_answer g s t free in by_answer a.answer.w
 
 module _ (g : GridData) (b : BoxTeller) (t : Cell) where
   -- the cost at which the goal is taken is at most that of each walk to it
-  at_most_walks : TellsBoxes g b → (s : Cell) (x : Taken State) (earlier : List (Taken State)) → is_free g s ≡ true
-      → IsRun (boxed_rule g b t) (start_at s) (x ∷ earlier) → is_same x.state.cell t ≡ true → (others : List Cell)
+  at_most_walks : TellsBoxes g b → (s : Cell) (x : Taken State) (earlier : List (Taken State))
+      → is_free g s ≡ true
+      → IsRun (boxed_rule g b t) (start_at s) (x ∷ earlier) → is_same x.state.cell t ≡ true
+      → (others : List Cell)
       → IsWalk g s t others → IsAtMost x.cost (cost_of (s ∷ others))
   at_most_walks boxes s x earlier f is at_goal others o = by_least (least_or_none g s t f)
     where
@@ -74,7 +77,8 @@ module _ (g : GridData) (b : BoxTeller) (t : Cell) where
           let at_t : is_same (last_of s cells) t ≡ true =
           ap (λ (c : Cell). is_same c t) w.walk.ends ∙ is_same-itself t in
           IsAtMost-trans x.cost (cost_of (s ∷ cells)) (cost_of (s ∷ others))
-          (run_is_least (boxed_rule g b t) (boxed_consistent g b t) (start_at s) (start_at (last_of s cells)) x earlier
+          (run_is_least (boxed_rule g b t) (boxed_consistent g b t) (start_at s) (start_at (last_of s cells))
+          x earlier
           (cost_of (s ∷ cells)) is at_goal (least_chain g b t boxes s cells w) at_t).is (w.least others o)
 
   -- where the run ends without the goal no walk leads there
@@ -87,8 +91,10 @@ module _ (g : GridData) (b : BoxTeller) (t : Cell) where
       by_least (by_walk cells w) =
           let at_t : is_same (last_of s cells) t ≡ true =
           ap (λ (c : Cell). is_same c t) w.walk.ends ∙ is_same-itself t in
-          absurd (run_finds_all (boxed_rule g b t) (boxed_consistent g b t) (start_at s) (start_at (last_of s cells))
-          x.run (cost_of (s ∷ cells)) x.is_run x.none_waits x.no_goal (least_chain g b t boxes s cells w) at_t)
+          absurd (run_finds_all (boxed_rule g b t) (boxed_consistent g b t) (start_at s)
+          (start_at (last_of s cells))
+          x.run (cost_of (s ∷ cells)) x.is_run x.none_waits x.no_goal (least_chain g b t boxes s cells w)
+          at_t)
 
   -- what the run found stands for a least walk
   pub found_least : TellsBoxes g b → (s : Cell) (points : List Cell) (cost : Cost) (taken : List ℕ)
@@ -105,6 +111,7 @@ module _ (g : GridData) (b : BoxTeller) (t : Cell) where
       → IsLeastOrNone g s t f.walk
   run_least boxes s f free run = by_answer f.walk run
     where
-      by_answer : (o : Option Walk) → IsRunBy g b s t (record { walk = o; taken = f.taken }) → IsLeastOrNone g s t o
+      by_answer : (o : Option Walk) → IsRunBy g b s t (record { walk = o; taken = f.taken })
+          → IsLeastOrNone g s t o
       by_answer None run = exhausted_none boxes s free f.taken run
       by_answer (Some w) run = found_least boxes s w.points w.cost f.taken free run

@@ -59,7 +59,8 @@ MayOffer g box goal id key rank c space =
     × (key ≤ (node_for goal (offer_to id rank v d)).key)
 
 -- what the offers of a node ask for
-pub record MayExpand (g : GridData) (box : BoxTeller) (goal : Cell) (id : ℕ) (n : Node) (space : SpaceData) : Type 0 where
+pub record MayExpand (g : GridData) (box : BoxTeller) (goal : Cell) (id : ℕ) (n : Node)
+    (space : SpaceData) : Type 0 where
   pub free : is_free g (node_cell n) ≡ true
   pub keyed : rank_of (estimate (node_cell n) goal) ≤ n.key
   pub short : rank_left goal n < 2 ^ 62
@@ -68,4 +69,5 @@ pub record MayExpand (g : GridData) (box : BoxTeller) (goal : Cell) (id : ℕ) (
 
 -- and what they come to
 abbrev pub HasExpanded : GridData → BoxTeller → Cell → ℕ → Node → Table → Table → Type 0
-HasExpanded g box goal id n old new = new ≡ all_offered g box goal id (rank_left goal n) (node_cell n) all_dirs old
+HasExpanded g box goal id n old new =
+    new ≡ all_offered g box goal id (rank_left goal n) (node_cell n) all_dirs old

@@ -1,5 +1,5 @@
--- The rule of the boxed search: the plain rule with one change, that a taken cell offers a move only where its
--- box in the move's direction holds the goal.
+-- The rule of the boxed search: the plain rule with one change, that a taken cell offers a move only where
+-- its box in the move's direction holds the goal.
 use Rattle.std.specs.Prelude.{Bool, false, ◌&&◌, ◌||◌, List, [], ◌∷◌, Option, Some, None, if◌then◌else◌}
 use Rattle.root2_cost.specs.declared.Cost.{Cost}
 use Rattle.grid_moves.specs.declared.Cell.{Cell}

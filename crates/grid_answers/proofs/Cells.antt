@@ -28,20 +28,24 @@ if_same (Err f) Right c s e r = tt
 
 pub blocked-boxes : (ls : Layers) (c s : Cell) → c ≡ s → is_on_map ls c ≡ true → is_free_ground ls c ≡ false
     → IsBoxText ls s (codes "blocked\n")
-blocked-boxes ls c s e on shut = subst (λ (k : Cell). IsBoxText ls k (codes "blocked\n")) e (boxes.blocked on shut)
+blocked-boxes ls c s e on shut = subst (λ (k : Cell). IsBoxText ls k (codes "blocked\n")) e
+    (boxes.blocked on shut)
 
 pub blocked-runs : (ls : Layers) (c s : Cell) → c ≡ s → is_on_map ls c ≡ true → is_free_ground ls c ≡ false
     → IsRunText ls s (codes "blocked\n")
-blocked-runs ls c s e on shut = subst (λ (k : Cell). IsRunText ls k (codes "blocked\n")) e (runs.blocked on shut)
+blocked-runs ls c s e on shut = subst (λ (k : Cell). IsRunText ls k (codes "blocked\n")) e
+    (runs.blocked on shut)
 
 -- the lines of the boxes and of the runs of a free cell
-pub told-boxes : {E : Type 0} (result : Result (Vec ℕ) E) (ls : Layers) (s : Cell) (g : GridData) (b : CellBoxes)
+pub told-boxes : {E : Type 0} (result : Result (Vec ℕ) E) (ls : Layers) (s : Cell) (g : GridData)
+    (b : CellBoxes)
     → g ≡ query_grid ls s → is_free_ground ls s ≡ true → AreBoxes g s b
     → IfOk result (λ t. t.items ≡ boxes_text b) → IfOk result (λ t. IsBoxText ls s t.items)
 told-boxes result ls s g b same free are is = if_line result (IsBoxText ls s) (boxes_text b) is
     (boxes.told b free (subst (λ (k : GridData). AreBoxes k s b) same are))
 
-pub told-runs : {E : Type 0} (result : Result (Vec ℕ) E) (ls : Layers) (s : Cell) (g : GridData) (row : List Run)
+pub told-runs : {E : Type 0} (result : Result (Vec ℕ) E) (ls : Layers) (s : Cell) (g : GridData)
+    (row : List Run)
     (width : ℕ) → g ≡ query_grid ls s → is_free_ground ls s ≡ true → IsRow g s row → width ≡ g.width
     → IfOk result (λ t. t.items ≡ runs_text width row) → IfOk result (λ t. IsRunText ls s t.items)
 told-runs result ls s g row width same free is w e = if_line result (IsRunText ls s) (runs_text width row) e

@@ -1,5 +1,6 @@
 -- A text that is written part by part.
-use Rattle.std.proofs.Common.{◌≡◌, refl, sym, ap, ◌∙◌, subst, List, [], ◌++◌, append_assoc, ℕ, ◌+◌, ◌≤◌, take, drop, arith}
+use Rattle.std.proofs.Common.{◌≡◌, refl, sym, ap, ◌∙◌, subst, List, [], ◌++◌, append_assoc, ℕ, ◌+◌, ◌≤◌, take}
+use Rattle.std.proofs.Common.{drop, arith}
 use Rattle.std.specs.Prelude.{ℤ, flat_map}
 use Rattle.std.proofs.lemmas.List.{drop-drop, take-append-drop}
 use Rattle.io_edge.specs.Told.{Outflow}

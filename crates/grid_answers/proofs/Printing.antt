@@ -8,7 +8,8 @@ use Rattle.potential_check.specs.Accepted.{Holds, IsAccepted, Refuses, claimed}
 use Rattle.potential_check.specs.declared.certificate.Certificate.{Certificate}
 use Rattle.potential_check.specs.declared.verdict.Proof.{Proof}
 use Rattle.potential_check.specs.declared.verdict.Reject.{Reject}
-use Rattle.grid_answers.specs.Certificates.{IsProof, IsVerdict, outside, blocked, apart, certified, accepted, refused, proof_line, reject_line}
+use Rattle.grid_answers.specs.Certificates.{IsProof, IsVerdict, outside, blocked, apart, certified, accepted}
+use Rattle.grid_answers.specs.Certificates.{refused, proof_line, reject_line}
 use Rattle.line_work.specs.declared.printed.Printed.{Printed}
 
 -- a line with status 1
@@ -20,7 +21,8 @@ if_said (Ok p) Right line e f r =
 if_said (Err e) Right line a b r = tt
 
 -- the statuses are 0 and 1
-pub small_proof : (ls : Layers) (s t : Cell) (text : List ℕ) (status : ℕ) → IsProof ls s t text status → status ≤ 1
+pub small_proof : (ls : Layers) (s t : Cell) (text : List ℕ) (status : ℕ) → IsProof ls s t text status
+    → status ≤ 1
 small_proof ls s t _ _ (outside e) = omega arith
 small_proof ls s t _ _ (blocked e f) = omega arith
 small_proof ls s t _ _ (apart e f) = omega arith

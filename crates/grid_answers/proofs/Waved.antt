@@ -1,5 +1,6 @@
 -- The lines of costs.
-use Rattle.std.proofs.Common.{◌≡◌, ◌≤◌, ◌<◌, ◌+◌, zero, suc, refl, sym, ap, ◌∙◌, subst, List, [], ◌∷◌, ◌++◌, ℕ, Bool, true, false, inl, inr, map, append-nil, append_assoc, arith}
+use Rattle.std.proofs.Common.{◌≡◌, ◌≤◌, ◌<◌, ◌+◌, zero, suc, refl, sym, ap, ◌∙◌, subst, List, [], ◌∷◌, ◌++◌}
+use Rattle.std.proofs.Common.{ℕ, Bool, true, false, inl, inr, map, append-nil, append_assoc, arith}
 use Rattle.std.specs.Prelude.{◌≢◌, ◌&&◌, nat_lt, if◌then◌else◌, codes, OnOk, Option, None, Result, Ok, Err}
 use Rattle.std.specs.Global.{Vec}
 use Rattle.std.proofs.lemmas.Bool.Decides.{nat_tests}
@@ -10,7 +11,8 @@ use Rattle.cost_waves.specs.Told.{Tells, WaveData, cost_at}
 use Rattle.grid_moves.specs.declared.Cell.{Cell}
 use Rattle.grid_moves.specs.Grid.{GridData}
 use Rattle.grid_moves.specs.Layers.{Layers, is_free_ground, is_on_map, query_grid}
-use Rattle.grid_answers.specs.Distances.{AreCostLines, AreCosts, IsCostLine, blocked, cost_field, costs_line, fields_to, more, none, told}
+use Rattle.grid_answers.specs.Distances.{AreCostLines, AreCosts, IsCostLine, blocked, cost_field, costs_line}
+use Rattle.grid_answers.specs.Distances.{fields_to, more, none, told}
 use Rattle.grid_answers.specs.Telling.{AreTold, HaveTold, TellCosts, numbers_below, row_costs, told_line}
 use Rattle.line_work.specs.Working.{Adds, CanComplete, IsLeft}
 use Rattle.grid_answers.specs.declared.costs.Distances.{Distances}
@@ -100,7 +102,8 @@ module _ (g : GridData) (s : Cell) (w : WaveData) (tells : Tells g s w) (wide : 
         let c : Cell = record { x = x; y = y } in
         subst (λ (o : Option Cost). IsCostTo g s c o)
         (sym (within (nat_lt x w.width) (nat_lt y w.height) (cost_at w c)
-        (below_test x w.width (omega (arith, near, wide))) (below_test y w.height (omega (arith, low, high)))))
+        (below_test x w.width (omega (arith, near, wide)))
+        (below_test y w.height (omega (arith, low, high)))))
         (tells.costs c (both (nat_lt x g.width) (nat_lt y g.height) (below_test x g.width near)
         (below_test y g.height low)));
     is = ap (λ (k : ℕ). costs_line k (row_costs w y)) wide;

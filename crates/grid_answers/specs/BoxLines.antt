@@ -13,7 +13,8 @@ use Rattle.cell_lines.specs.Cells.{dir_text, texts_of}
 -- a box by its least column and row and its greatest column and row, or that there is none
 abbrev pub area_text : Option Area → List ℕ
 area_text None = codes "none"
-area_text (Some a) = decimal a.x0 ++ codes " " ++ decimal a.y0 ++ codes " " ++ decimal a.x1 ++ codes " " ++ decimal a.y1
+area_text (Some a) = decimal a.x0 ++ codes " " ++ decimal a.y0 ++ codes " " ++ decimal a.x1 ++ codes " "
+    ++ decimal a.y1
 
 -- the line of the box in a direction
 abbrev pub box_line : CellBoxes → Dir → List ℕ
@@ -44,7 +45,8 @@ corner_boxes = record {
 }
 
 pub lower_right : box_line corner_boxes SE
-    ≡ codes "box SE " ++ decimal 1 ++ codes " " ++ decimal 1 ++ codes " " ++ decimal 2 ++ codes " " ++ decimal 2
+    ≡ codes "box SE " ++ decimal 1 ++ codes " " ++ decimal 1 ++ codes " " ++ decimal 2 ++ codes " "
+    ++ decimal 2
     ++ codes "\n"
 lower_right = refl
 

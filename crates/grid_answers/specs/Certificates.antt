@@ -12,8 +12,8 @@ use Rattle.potential_check.specs.declared.verdict.Reject.{Reject}
 use Rattle.potential_check.specs.declared.verdict.Reject.TheVariants as reject
 use Rattle.potential_make.specs.Certified.{IsAcceptedText, IsCertificate}
 
--- what is printed for a query from s to t, and the status: the certificate on the grid of the query, which is read
--- back and accepted there, or why there is none
+-- what is printed for a query from s to t, and the status: the certificate on the grid of the query, which is
+-- read back and accepted there, or why there is none
 pub data IsProof (ls : Layers) (s t : Cell) : List ℕ → ℕ → Type 0 where
   outside : (is_on_map ls s && is_on_map ls t) ≡ false → IsProof ls s t (codes "outside\n") 1
   blocked : (is_on_map ls s && is_on_map ls t) ≡ true → are_free_ends ls s t ≡ false

@@ -1,5 +1,6 @@
 -- What `costs` prints.
-use Rattle.std.specs.Prelude.{◌≡◌, ℕ, zero, suc, ◌-◌, ◌<◌, true, false, List, [], ◌∷◌, ◌++◌, codes, decimal, Option, Some, None, refl}
+use Rattle.std.specs.Prelude.{◌≡◌, ℕ, zero, suc, ◌-◌, ◌<◌, true, false, List, [], ◌∷◌, ◌++◌, codes, decimal}
+use Rattle.std.specs.Prelude.{Option, Some, None, refl}
 use Rattle.root2_cost.specs.declared.Cost.{Cost}
 use Rattle.cost_waves.specs.Begin.{IsCostTo}
 use Rattle.grid_moves.specs.declared.Cell.{Cell}
@@ -20,7 +21,8 @@ fields_to costs (suc n) = fields_to costs n ++ codes " " ++ cost_field (costs (s
 abbrev pub costs_line : ℕ → (ℕ → Option Cost) → List ℕ
 costs_line width costs = fields_to costs (width - 1) ++ codes "\n"
 
--- the line has for each cell of this row what a least walk from s to it costs, or nothing where none leads there
+-- the line has for each cell of this row what a least walk from s to it costs, or nothing where none leads
+-- there
 pub record IsCostLine (g : GridData) (s : Cell) (y : ℕ) (line : List ℕ) : Type 0 where
   pub costs : ℕ → Option Cost
   pub right : (x : ℕ) → x < g.width → IsCostTo g s (record { x = x; y = y }) (costs x)

@@ -6,7 +6,8 @@ use Rattle.table_file.specs.Written.{file_of}
 use Rattle.line_work.specs.Sending.{IsText, Wrote}
 use Rattle.grid_answers.specs.declared.encoded.TableFile.{TableFile}
 
--- the output is the file of the tables, which have an entry for each cell and direction and no more, with status 0
+-- the output is the file of the tables, which have an entry for each cell and direction and no more, with
+-- status 0
 pub record IsEncoded (file : TableFile) (lines : List (List ℕ)) (status : ℕ) : Type 0 where
   pub text : IsText (file_of file.corner file.land file.water) 0 lines status
   pub land : IsWhole file.land

@@ -1,5 +1,6 @@
 -- What `moves` prints.
-use Rattle.std.specs.Prelude.{◌≡◌, ◌%◌, ◌/◌, true, false, ℕ, List, ◌++◌, codes, decimal, Option, Some, None, refl}
+use Rattle.std.specs.Prelude.{◌≡◌, ◌%◌, ◌/◌, true, false, ℕ, List, ◌++◌, codes, decimal, Option, Some, None}
+use Rattle.std.specs.Prelude.{refl}
 use Rattle.first_moves.specs.declared.row.Run.{Run}
 use Rattle.first_moves.specs.Row.{IsRow}
 use Rattle.grid_moves.specs.declared.Cell.{Cell}
@@ -24,7 +25,8 @@ run_line width run =
 abbrev pub runs_text : ℕ → List Run → List ℕ
 runs_text width runs = texts_of (run_line width) runs
 
--- what is printed of the first moves from s: the runs of its row on the grid of the cell, or why there are none
+-- what is printed of the first moves from s: the runs of its row on the grid of the cell, or why there are
+-- none
 pub data IsRunText (ls : Layers) (s : Cell) : List ℕ → Type 0 where
   outside : is_on_map ls s ≡ false → IsRunText ls s (codes "outside\n")
   blocked : is_on_map ls s ≡ true → is_free_ground ls s ≡ false → IsRunText ls s (codes "blocked\n")

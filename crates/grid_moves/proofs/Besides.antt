@@ -11,7 +11,8 @@ use Rattle.grid_moves.specs.declared.Dir.TheVariants.{N, NE, E, SE, S, SW, W, NW
 use Rattle.grid_moves.specs.declared.around.Around.{Around}
 use Rattle.grid_moves.specs.declared.ring.Ring.{Ring}
 use Rattle.grid_moves.specs.Grid.{GridData, IsGrid, is_free}
-use Rattle.grid_moves.specs.Move.{is_legal, are_neighbours, is_free_cell, is_open, is_passable, beyond, legal_ahead, column_ahead, row_ahead}
+use Rattle.grid_moves.specs.Move.{is_legal, are_neighbours, is_free_cell, is_open, is_passable, beyond}
+use Rattle.grid_moves.specs.Move.{legal_ahead, column_ahead, row_ahead}
 use Rattle.grid_moves.specs.Ring.{ring_told, is_free_on, leads_on}
 use Rattle.grid_moves.specs.Around.{IsAround, end_of, if_open, is_open_to}
 use Rattle.grid_moves.proofs.Ahead.{legal_ahead-is}
@@ -182,7 +183,8 @@ passes : (r : Corner) (a p b c y z : Bool) → p ≡ is_passable r b c → b ≡
 passes r a p b c y z h k l = rw (h, k, l) refl
 
 -- the moves that the cells around tell of, once read: which passages are open is told by the straight ones
-module _ (g : GridData) (c : Cell) (free : is_free g c ≡ true) (rule : Corner) (same : rule ≡ g.corner) (a : Around)
+module _ (g : GridData) (c : Cell) (free : is_free g c ≡ true) (rule : Corner) (same : rule ≡ g.corner)
+    (a : Around)
     (n : a.n ≡ is_open g c N) (e : a.e ≡ is_open g c E) (s : a.s ≡ is_open g c S) (w : a.w ≡ is_open g c W)
     (ne se sw nw : Bool) (by_ne : ne ≡ is_passable rule a.e a.n) (by_se : se ≡ is_passable rule a.e a.s)
     (by_sw : sw ≡ is_passable rule a.w a.s) (by_nw : nw ≡ is_passable rule a.w a.n)

@@ -1,5 +1,6 @@
 -- An edited grid.
-use Rattle.std.proofs.Common.{◌≡◌, ◌≢◌, ◌<◌, arith, length, Bool, true, false, refl, ap, ◌∙◌, ◌&&◌, get_or-set_other, get_or-set_same, length-set}
+use Rattle.std.proofs.Common.{◌≡◌, ◌≢◌, ◌<◌, arith, length, Bool, true, false, refl, ap, ◌∙◌, ◌&&◌}
+use Rattle.std.proofs.Common.{get_or-set_other, get_or-set_same, length-set}
 use Rattle.std.proofs.lemmas.Bool.Decides.{nat_tests}
 use Rattle.grid_moves.specs.declared.Cell.{Cell}
 use Rattle.grid_moves.specs.Grid.{GridData, IsGrid, is_free, is_inside, cell_number, grid_with}

@@ -1,6 +1,9 @@
 -- Maps and grids: which cells are free.
--- Bytes after Sturtevant's benchmark format (movingai.com); what each of them stands for is this project's profile.
-use Rattle.std.specs.Prelude.{◌≡◌, ℕ, ◌+◌, ◌*◌, ◌≤◌, Bool, true, false, nat_lt, nat_eq, ◌&&◌, ◌||◌, if◌then◌else◌, refl, List, [], ◌∷◌, length, slice_index_or, slice_set, map, codes}
+-- Bytes after Sturtevant's benchmark format (movingai.com); what each of them stands for is this project's
+-- profile.
+use Rattle.std.specs.Prelude.{◌≡◌, ℕ, ◌+◌, ◌*◌, ◌≤◌, Bool, true, false, nat_lt, nat_eq, ◌&&◌, ◌||◌}
+use Rattle.std.specs.Prelude.{if◌then◌else◌, refl, List, [], ◌∷◌, length, slice_index_or, slice_set, map}
+use Rattle.std.specs.Prelude.{codes}
 use Rattle.grid_moves.specs.declared.Cell.{Cell}
 use Rattle.grid_moves.specs.declared.Corner.{Corner}
 use Rattle.grid_moves.specs.declared.Corner.TheVariants.{Never}

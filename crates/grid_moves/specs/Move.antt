@@ -1,6 +1,8 @@
 -- Legal moves: eight directions, and a corner rule.
 -- No corner is cut: Harabor and Grastien, SoCS 2012. One blocked cell may be passed: their AAAI 2011.
-use Rattle.std.specs.Prelude.{◌≡◌, ℕ, zero, suc, ◌+◌, Option, Some, None, Bool, true, false, nat_le, nat_eq, not, ◌&&◌, ◌||◌, refl, List, [], ◌∷◌, if◌then◌else◌, option_and_then, unwrap_or, codes}
+use Rattle.std.specs.Prelude.{◌≡◌, ℕ, zero, suc, ◌+◌, Option, Some, None, Bool, true, false, nat_le, nat_eq}
+use Rattle.std.specs.Prelude.{not, ◌&&◌, ◌||◌, refl, List, [], ◌∷◌, if◌then◌else◌, option_and_then, unwrap_or}
+use Rattle.std.specs.Prelude.{codes}
 use Rattle.root2_cost.specs.declared.Cost.{Cost}
 use Rattle.grid_moves.specs.declared.Cell.{Cell}
 use Rattle.grid_moves.specs.declared.Dir.{Dir}

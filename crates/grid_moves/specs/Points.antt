@@ -1,5 +1,6 @@
 -- Points stand for a walk: unfolding fills each segment cell by cell.
-use Rattle.std.specs.Prelude.{◌≡◌, ℕ, zero, suc, ◌+◌, ◌-◌, Bool, true, nat_lt, nat_eq, ◌&&◌, ◌||◌, refl, List, [], ◌∷◌, ◌++◌, Option, Some, None, option_map, if◌then◌else◌, max}
+use Rattle.std.specs.Prelude.{◌≡◌, ℕ, zero, suc, ◌+◌, ◌-◌, Bool, true, nat_lt, nat_eq, ◌&&◌, ◌||◌, refl, List}
+use Rattle.std.specs.Prelude.{[], ◌∷◌, ◌++◌, Option, Some, None, option_map, if◌then◌else◌, max}
 use Rattle.root2_cost.specs.declared.Cost.{Cost}
 use Rattle.root2_cost.specs.Sums.{octile_cost}
 use Rattle.grid_moves.specs.declared.Cell.{Cell}

@@ -4,7 +4,8 @@ use Rattle.root2_cost.specs.declared.Cost.{Cost}
 use Rattle.grid_moves.specs.declared.Cell.{Cell}
 use Rattle.grid_moves.specs.declared.Ground.TheVariants.{Blocked}
 use Rattle.grid_moves.specs.Grid.{GridData}
-use Rattle.grid_moves.specs.Layers.{Layers, in_one_layer, is_free_ground, is_on_map, layers_with, query_grid, shore}
+use Rattle.grid_moves.specs.Layers.{Layers, in_one_layer, is_free_ground, is_on_map, layers_with, query_grid}
+use Rattle.grid_moves.specs.Layers.{shore}
 use Rattle.grid_moves.specs.Walk.{IsWalk, IsLeastWalk, NoWalk, cost_of}
 use Rattle.grid_moves.specs.Points.{unfolding_of}
 

@@ -46,8 +46,8 @@ leads_on rule ring SW = ring.sw && is_passable rule ring.w ring.s
 leads_on rule ring W = ring.w
 leads_on rule ring NW = ring.nw && is_passable rule ring.w ring.n
 
--- where the cells to the north-east and to the east are free alone, the diagonal between them is legal where one blocked
--- cell may be passed
+-- where the cells to the north-east and to the east are free alone, the diagonal between them is legal where
+-- one blocked cell may be passed
 abbrev two_free : Ring
 two_free = record { n = false; ne = true; e = true; se = false; s = false; sw = false; w = false; nw = false }
 

@@ -20,5 +20,7 @@ HasRead-more untold n more before now read kept part = tt
 HasRead-more absent n more before now read kept part = absurd part
 HasRead-more (holding bytes) n more before now read kept part =
     let fronts = ap (λ front. front ++ take more (drop n now)) (kept ∙ read.0) in
-    let backs = ap (λ back. take n bytes ++ back) part.same in
-    (take-add n more now ∙ fronts ∙ backs ∙ sym (take-add n more bytes), grind (arith, common_steps, part.within))
+    let backs = ap (λ back. take n bytes ++ back) part.same in (
+      take-add n more now ∙ fronts ∙ backs ∙ sym (take-add n more bytes),
+      grind (arith, common_steps, part.within),
+    )

@@ -14,12 +14,14 @@ pub record Disk : Type 0 where
   pub holds : List ℕ → Held
   pub faults : List ℕ → ℕ
 
--- what is known of a stream that is read from: the bytes that are left, where that is told, and how many reads failed
+-- what is known of a stream that is read from: the bytes that are left, where that is told, and how many
+-- reads failed
 pub record Inflow : Type 0 where
   pub left : Option (List ℕ)
   pub faults : ℕ
 
--- what is known of a stream that is written to: the bytes that were taken, where that is told, and how many writes failed
+-- what is known of a stream that is written to: the bytes that were taken, where that is told, and how many
+-- writes failed
 pub record Outflow : Type 0 where
   pub written : Option (List ℕ)
   pub faults : ℕ

@@ -17,7 +17,8 @@ use Rattle.jps_run.specs.Session.{session_after}
 pub rose-more : (first old_job new_job : SessionData) (commands : List Command) (command : Command)
     (start old new : ℕ) → old_job ≡ session_after first (fold edits_with [] commands)
     → GoesOn old_job command new_job → RoseForCommands first commands start old
-    → RoseForCommand old_job new_job command old new → RoseForCommands first (commands ++ command ∷ []) start new
+    → RoseForCommand old_job new_job command old new
+    → RoseForCommands first (commands ++ command ∷ []) start new
 rose-more first old_job new_job commands command start old new at on rose more =
     let edits : List Edit = fold edits_with [] commands in
     let here : RoseForCommand (session_after first edits) new_job command old new =
@@ -37,6 +38,7 @@ pub taken-more : {T E : Type 0} (result : Result T E) (job now : Answers) (comma
     → HaveCounted first job commands start old → HaveCounted first now (commands ++ command ∷ []) start new)
 taken-more (Err error) job now command old new on more = tt
 taken-more (Ok done) job now command old new on more = λ first commands start h. record {
-  rose = rose-more first.session job.session now.session commands command start old new h.session on h.rose more;
+  rose = rose-more first.session job.session now.session commands command start old new h.session on
+      h.rose more;
   session = session-more first.session job.session now.session commands command h.session on;
 }

@@ -42,14 +42,17 @@ pub query-counted : (map text : List ℕ) (tables : Option (List ℕ)) (loaded :
     → RoseFor (call_with (asked.Query map tables sx sy gx gy) set) (text ∷ loaded) old new
 query-counted map text tables loaded sx sy gx gy set m who old new spelled is rose =
     replied map text tables loaded sx sy gx gy set m old new spelled
-    (subst (λ (w : Who). RoseForQuery w (record { x = sx; y = sy }) (record { x = gx; y = gy }) old new) is rose)
+    (subst (λ (w : Who). RoseForQuery w (record { x = sx; y = sy }) (record { x = gx; y = gy }) old new) is
+    rose)
 
 pub solve-counted : (map script text second : List ℕ) (tables : Option (List ℕ)) (loaded : List (List ℕ))
-    (set : Settings) (d : SessionData) (commands some : List Command) (old new : ℕ) → IsMade (IsSessionOn set) text d → script_of second ≡ Ok commands
+    (set : Settings) (d : SessionData) (commands some : List Command) (old new : ℕ)
+    → IsMade (IsSessionOn set) text d → script_of second ≡ Ok commands
     → some ≡ commands → RoseForCommands d some old new
     → RoseFor (call_with (Solve map tables script) set) (text ∷ (loaded ++ second ∷ [])) old new
 solve-counted map script text second tables loaded set d commands some old new spelled script_spelled e rose =
-    solved map script text second tables loaded set spelled.map commands old new spelled.spelled script_spelled (record {
+    solved map script text second tables loaded set spelled.map commands old new spelled.spelled
+    script_spelled (record {
       session = d;
       is = spelled.is;
       known = subst (λ (all : List Command). RoseForCommands d all old new) e rose;

@@ -1,5 +1,6 @@
 -- The sums of what commands come to.
-use Rattle.std.proofs.Common.{◌≡◌, refl, sym, ap, ◌∙◌, subst, List, [], ◌∷◌, ◌++◌, ℕ, zero, suc, ◌+◌, ◌*◌, ◌≤◌, ◌<◌, ◌^◌, length, length-append, drop, true, arith}
+use Rattle.std.proofs.Common.{◌≡◌, refl, sym, ap, ◌∙◌, subst, List, [], ◌∷◌, ◌++◌, ℕ, zero, suc, ◌+◌, ◌*◌}
+use Rattle.std.proofs.Common.{◌≤◌, ◌<◌, ◌^◌, length, length-append, drop, true, arith}
 use Rattle.std.specs.Prelude.{bit_xor}
 use Rattle.std.specs.List.{All, sum_by}
 use Rattle.std.proofs.lemmas.List.{append-nil}
@@ -14,8 +15,11 @@ use Rattle.grid_moves.specs.declared.Ground.TheVariants.{Blocked, Land, Water}
 use Rattle.script_text.specs.declared.command.Command.TheVariants.{Block, Free, Flood, Query}
 use Rattle.jps_run.specs.Answering.{GoesOn}
 use Rattle.jps_run.specs.Answers.{edits_with}
-use Rattle.jps_run.specs.Drill.{FindsAfter, IsFinding, drill_line, finding_of, finding_of_edit, IsShortFinding, is_walk, is_none, is_blocked, is_done, is_same, straight_in, diagonal_in}
-use Rattle.jps_run.specs.Drilling.{HasDrilled, HasRoom, HaveCounted, IsDrilled, LeavesRoom, sums_of, sums_text}
+use Rattle.jps_run.specs.Drill.{FindsAfter, IsFinding, drill_line, finding_of, finding_of_edit}
+use Rattle.jps_run.specs.Drill.{IsShortFinding, is_walk, is_none, is_blocked, is_done, is_same, straight_in}
+use Rattle.jps_run.specs.Drill.{diagonal_in}
+use Rattle.jps_run.specs.Drilling.{HasDrilled, HasRoom, HaveCounted, IsDrilled, LeavesRoom, sums_of}
+use Rattle.jps_run.specs.Drilling.{sums_text}
 use Rattle.jps_run.specs.Counts.{RoseForCommand}
 use Rattle.jps_run.specs.Session.{reply_to_edit, session_after}
 use Rattle.line_work.specs.Working.{Adds, CanComplete, HasRoomForOne}
@@ -105,13 +109,20 @@ module _ (job now : Summary) (command : Command) (found : Finding) (is : IsFindi
       (commands : List Command) (start : ℕ) → HaveCounted first job commands start old
       → HaveCounted first now (commands ++ command ∷ []) start new
   taken-more old new more first commands start h = record {
-    rose = rose-more first.session job.session now.session commands command start old new h.session on h.rose more;
+    rose = rose-more first.session job.session now.session commands command start old new h.session on
+        h.rose more;
     session = session-more first.session job.session now.session commands command h.session on;
   }
 
 -- nothing was worked yet
 pub drilled-none : (job : Summary) → job.sums ≡ sums_of [] → HasDrilled job job [] []
-drilled-none job e = record { found = []; are = tt; summed = e; session = nothing_edited job.session; none = refl }
+drilled-none job e = record {
+  found = [];
+  are = tt;
+  summed = e;
+  session = nothing_edited job.session;
+  none = refl;
+}
 
 pub taken-none : (job : Summary) (start : ℕ) → HaveCounted job job [] start start
 taken-none job start = record { rose = refl; session = nothing_edited job.session }
@@ -123,7 +134,8 @@ all-fit job count e few =
 
 -- the sums close the output
 pub drilled-all : (job : Summary) (before after : List ℕ) → after ≡ before ++ sums_text job.sums
-    → (first : Summary) (commands : List Command) (lines : List (List ℕ)) → HasDrilled first job commands lines
+    → (first : Summary) (commands : List Command) (lines : List (List ℕ))
+    → HasDrilled first job commands lines
     → Adds (λ all. IsDrilled first commands all 0) lines before after
 drilled-all job before after w first commands lines h = record {
   more = drill_line h.found ∷ [];
@@ -153,7 +165,8 @@ finding_exists d edits (Query sx sy gx gy) =
 -- so the line of the sums can follow
 pub drill-complete : CanComplete HasDrilled IsDrilled true
 drill-complete first now some others lines h =
-    let all = turns-all (FindsAfter first.session) edits_with (finding_exists first.session) [] some others h.found
+    let all = turns-all (FindsAfter first.session) edits_with (finding_exists first.session) [] some
+    others h.found
     h.are in
     let found : List Finding = h.found ++ all.0 in
     record {

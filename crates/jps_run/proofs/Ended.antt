@@ -6,7 +6,8 @@ use Rattle.io_edge.specs.Told.{Disk, Held, Inflow, Outflow}
 use Rattle.word_list.specs.Calls.{is_call}
 use Rattle.word_list.specs.Request.{Call}
 use Rattle.word_list.specs.Rule.{IsBadWord}
-use Rattle.jps_run.specs.Ending.{Comes, Gets, HasFailed, HasLines, HasPart, of_file, of_input, of_all, of_taken, none, some, first}
+use Rattle.jps_run.specs.Ending.{Comes, Gets, HasFailed, HasLines, HasPart, of_file, of_input, of_all}
+use Rattle.jps_run.specs.Ending.{of_taken, none, some, first}
 use Rattle.call_files.specs.FaultLines.{word_line}
 use Rattle.call_files.specs.Files.{HasRefused, FileRose}
 use Rattle.jps_run.specs.Live.{AreHeard, WroteHeard, WrotePending, WroteSomeTaken, WroteLinesTaken}
@@ -15,7 +16,8 @@ use Rattle.jps_run.specs.Outcome.{Spell, IsOutput, answered, bad_line, bad_word,
 use Rattle.line_work.specs.Sending.{IsAll, IsPart, AreLines, Wrote}
 use Rattle.line_work.proofs.Pieces.{nothing}
 
-module _ (words : List (List ℕ)) (holds : List ℕ → Held) (input : Option (List ℕ)) (out out_now err err_now : Outflow)
+module _ (words : List (List ℕ)) (holds : List ℕ → Held) (input : Option (List ℕ))
+    (out out_now err err_now : Outflow)
   where
     -- the words are refused
     pub word-comes : (number status : ℕ) → IsBadWord is_call words number → (status ≡ 2) ⊎ (status ≡ 6)
@@ -30,7 +32,8 @@ module _ (words : List (List ℕ)) (holds : List ℕ → Held) (input : Option (
     }
     word-comes number status bad (inr six) told few = absurd (omega arith)
 
-    heard-by : (call : Call) {refusal : Option (List ℕ)} → (h : WroteHeard call holds out out_now input refusal)
+    heard-by : (call : Call) {refusal : Option (List ℕ)}
+        → (h : WroteHeard call holds out out_now input refusal)
         → AreHeard call holds input h.known.lines refusal
     heard-by call h = record {
       map = h.map;

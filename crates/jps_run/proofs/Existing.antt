@@ -50,7 +50,11 @@ module _ (g : GridData) (s t : Cell) (free : (is_free g s && is_free g t) ≡ tr
   led_told : (walk : Option points.Walk)
       → MatchOption walk (NoWalk g s t) (λ w. IsFollowed g s t w.points w.cost) → HasReplyOn by_moves g s t
   led_told (option.Some w) f =
-      record { reply = Walk w.points w.cost []; right = (free, stands g s t w.points w.cost f); run = (f, refl) }
+      record {
+        reply = Walk w.points w.cost [];
+        right = (free, stands g s t w.points w.cost f);
+        run = (f, refl);
+      }
   led_told option.None none = record { reply = None []; right = inr none; run = refl }
 
   led_reply : (m : MovesData) → AreMoves g m → HasReplyOn by_moves g s t
@@ -60,7 +64,8 @@ module _ (g : GridData) (s t : Cell) (free : (is_free g s && is_free g t) ≡ tr
 
 -- a reply on the map, where there is one between free cells of one grid
 module _ (ls : Layers) (by : By) (s t : Cell)
-    (apart : (reply : Reply) → IsUnsearched ls s t reply → IsReplyBy (record { layers = ls; by = by }) s t reply)
+    (apart : (reply : Reply) → IsUnsearched ls s t reply
+    → IsReplyBy (record { layers = ls; by = by }) s t reply)
     (search : in_one_layer ls s t ≡ true → HasReplyOn by (query_grid ls s) s t) where
   abbrev Exists : Type 0
   Exists = (reply : Reply) × IsReplyBy (record { layers = ls; by = by }) s t reply
@@ -68,7 +73,8 @@ module _ (ls : Layers) (by : By) (s t : Cell)
   by_layer : are_free_ends ls s t ≡ true → (b : Bool) → in_one_layer ls s t ≡ b → Exists
   by_layer free true one =
       let h = search one in (h.reply, reply-on-map ls by s t h.reply free h.right h.run)
-  by_layer free false two = (None [], apart (None []) (record { right = (free, inl two); none = (two, refl) }))
+  by_layer free false two =
+      (None [], apart (None []) (record { right = (free, inl two); none = (two, refl) }))
 
   by_ends : (is_on_map ls s && is_on_map ls t) ≡ true → (b : Bool) → are_free_ends ls s t ≡ b → Exists
   by_ends on true free = by_layer free (in_one_layer ls s t) refl
@@ -82,7 +88,8 @@ module _ (ls : Layers) (by : By) (s t : Cell)
   exists = by_map (is_on_map ls s && is_on_map ls t) refl
 
 -- the first moves that are kept of the grid of a query
-moves_on : (ls : Layers) (land water : MovesData) → AreMoves ls.land land → AreMoves ls.water water → (s : Cell)
+moves_on : (ls : Layers) (land water : MovesData) → AreMoves ls.land land → AreMoves ls.water water
+    → (s : Cell)
     → (m : MovesData) × AreMoves (query_grid ls s) m
 moves_on ls land water on off s = by_test (is_free ls.water s)
   where
@@ -91,7 +98,8 @@ moves_on ls land water on off s = by_test (is_free ls.water s)
     by_test false = (land, on)
 
 -- whoever is ready has a reply
-pub answer_exists : (a : Answerer) → CanAnswer a → (s t : Cell) → (reply : Reply) × IsReplyBy (who_of a) s t reply
+pub answer_exists : (a : Answerer) → CanAnswer a → (s t : Cell) → (reply : Reply)
+    × IsReplyBy (who_of a) s t reply
 answer_exists (answerer.Session d) ready s t = reply_exists d s t
 answer_exists (answerer.Boxes library) ready s t =
     let ls = library.layers in

@@ -1,5 +1,6 @@
 -- The steps that the commands count which come in.
-use Rattle.std.proofs.Common.{◌≡◌, sym, ap, ◌∙◌, subst, List, [], ◌++◌, ℕ, ◌+◌, ◌≤◌, length, length-append, take, min, arith}
+use Rattle.std.proofs.Common.{◌≡◌, sym, ap, ◌∙◌, subst, List, [], ◌++◌, ℕ, ◌+◌, ◌≤◌, length, length-append}
+use Rattle.std.proofs.Common.{take, min, arith}
 use Rattle.std.specs.Prelude.{◌≢◌, ◌^◌, Option, Result, Ok, Err, OnOk}
 use Rattle.std.specs.Io.KnownBytes.{Consumes, IsAtEnd}
 use Rattle.std.proofs.lemmas.List.{append-nil}
@@ -50,7 +51,8 @@ module _ (old new : Answers) (feeder feeder_now : LineFeeder) (before got slice 
 
   -- and those of the end of a script
   pub rise-end : (answer ≢ Err NoMemory → (text : List ℕ) → HasTaken feeder text
-      → HasEnded text feeder_now before got answer) → answer ≡ Ok tt → CountsMore HaveCounted old new slice at now
+      → HasEnded text feeder_now before got answer) → answer ≡ Ok tt
+      → CountsMore HaveCounted old new slice at now
       → RiseEnd old new feeder at now
   rise-end ended ok rise = λ first text start h t.
       let f = ended (not-starved answer ok) text h in (
@@ -68,7 +70,8 @@ rising-begun first feeder input start begun none = record {
   consumed = consumes-none input;
   counted = sym none;
   fed = begun;
-  taken = subst (λ (commands : List Command). HaveCounted first first commands start start) (sym begun-known.1)
+  taken = subst (λ (commands : List Command). HaveCounted first first commands start start)
+      (sym begun-known.1)
       (taken-none first start);
 }
 
@@ -83,7 +86,8 @@ module _ (first job new : Answers) (feeder : LineFeeder) (input mid left : Optio
       grind (arith, consumes-both, length-append)
 
   -- nothing more came in
-  pub rising-ended : (bytes : List ℕ) → Consumes mid left (take 0 bytes) → IsAtEnd left → feeder.taken ≤ 2 ^ 26
+  pub rising-ended : (bytes : List ℕ) → Consumes mid left (take 0 bytes) → IsAtEnd left
+      → feeder.taken ≤ 2 ^ 26
       → (result : Result ℕ Stop) → OnOk result (RiseEnd job new feeder at now)
       → OnOk result (RoseHeard first.session input start now)
   rising-ended bytes read ended few (Err error) rise = tt

@@ -14,7 +14,8 @@ use Rattle.script_text.specs.Feeding as known
 use Rattle.script_text.proofs.Feeding.{commands-grow, commands-end}
 use Rattle.jps_run.specs.Answering.{IsSolved}
 use Rattle.call_files.specs.FaultLines.{script_line}
-use Rattle.jps_run.specs.Hearing.{HasWritten, known_stops, AnswersKnown, AreKnown, Refuses, HasHeard, HearsPiece}
+use Rattle.jps_run.specs.Hearing.{HasWritten, known_stops, AnswersKnown, AreKnown, Refuses, HasHeard}
+use Rattle.jps_run.specs.Hearing.{HearsPiece}
 use Rattle.io_edge.specs.Told.{Outflow}
 use Rattle.jps_run.specs.Answers.{AreAnswers}
 use Rattle.jps_run.specs.Heard.{WroteLines}
@@ -27,14 +28,19 @@ use Rattle.jps_run.proofs.Solving.{answers-complete}
 use Rattle.line_work.proofs.Stopping.{passed, ends-on, follow-same}
 
 -- the answers to commands that became known stop
-pub known-stopped : (first new : Answers) (answer : Result (Unit {0}) ScriptFault) (earlier more all : List Command)
+pub known-stopped : (first new : Answers) (answer : Result (Unit {0}) ScriptFault)
+    (earlier more all : List Command)
     (f : Option ScriptFault) (before now : Outflow) → AreKnown answer earlier more all f
-    → {X : Type 0} (Done : X → Type 0) (result : Result X Stop) (stop : Stop) → IsErrAnd result (λ s. s ≡ stop)
-    → ((others : List Command) → StopsSo (work_stops (IsSolved first (earlier ++ (more ++ others))) before now) stop)
+    → {X : Type 0} (Done : X → Type 0) (result : Result X Stop) (stop : Stop)
+    → IsErrAnd result (λ s. s ≡ stop)
+    → ((others : List Command)
+    → StopsSo (work_stops (IsSolved first (earlier ++ (more ++ others))) before now) stop)
     → Ends Done (known_stops first new all f before now) result
 known-stopped first new answer earlier more all f before now k Done result stop m stops =
-    passed Done (work_stops (IsSolved first all) before now) (known_stops first new all f before now) result stop m
-    (subst (λ (a : List Command). StopsSo (work_stops (IsSolved first a) before now) stop) (sym k.are) (stops k.others))
+    passed Done (work_stops (IsSolved first all) before now) (known_stops first new all f before now)
+    result stop m
+    (subst (λ (a : List Command). StopsSo (work_stops (IsSolved first a) before now) stop) (sym k.are)
+    (stops k.others))
     (record {
       refused = λ line no. absurd no;
       read = λ no. absurd no;
@@ -78,7 +84,8 @@ module _ (first new : Answers) (answer : Result (Unit {0}) ScriptFault) (earlier
         refused = λ line r.
             let other : answer ≢ Err NoMemory
             = λ no. (let e : Err r.0 ≡ Err NoMemory = sym r.1 ∙ no in r.2 cc) in
-            let named = subst (λ (a : Result (Unit {0}) ScriptFault). known.Answers a f) r.1 (k.exact other).1 in (
+            let named = subst (λ (a : Result (Unit {0}) ScriptFault). known.Answers a f) r.1
+            (k.exact other).1 in (
               ap (option_map script_line) named.0 ∙ ap (λ (l : List ℕ). Some l) (sym r.3),
               exactly other,
             );
@@ -100,7 +107,8 @@ pub piece-known : (feeder now : LineFeeder) (text piece : List ℕ) (got : List 
     → (answer ≢ Err NoMemory → (text : List ℕ) → HasTaken feeder text
     → HasFed text (text ++ piece) now [] got answer)
     → (answer ≡ Err NoMemory → (now ≡ feeder) × (got ≡ []))
-    → AreKnown answer (commands_so_far text) got (commands_so_far (text ++ piece)) (fault_so_far (text ++ piece))
+    → AreKnown answer (commands_so_far text) got (commands_so_far (text ++ piece))
+    (fault_so_far (text ++ piece))
 piece-known feeder now text piece got answer h fed starved =
     known-by answer (commands_so_far text) got _ _
     (λ other. let f = fed other text h in (f.commands, f.answer))
@@ -123,11 +131,13 @@ pub piece-heard : (old new : Answers) (feeder feeder_now : LineFeeder) (piece : 
     → (answer ≡ Err NoMemory → (feeder_now ≡ feeder) × (got ≡ before_got))
     → AnswersKnown old new answer slice at now result
     → HearsPiece old new feeder feeder_now piece at now result
-piece-heard old new feeder feeder_now piece before_got got slice answer at now result empty same fed starved known =
+piece-heard old new feeder feeder_now piece before_got got slice answer at now result empty same fed
+    starved known =
     λ first text before h.
     let fed_from : answer ≢ Err NoMemory → (text : List ℕ) → HasTaken feeder text
     → HasFed text (text ++ piece) feeder_now [] got answer = λ other text h.
-    subst (λ (b : List Command). HasFed text (text ++ piece) feeder_now b got answer) empty (fed other text h) in
+    subst (λ (b : List Command). HasFed text (text ++ piece) feeder_now b got answer) empty
+    (fed other text h) in
     let k = piece-known feeder feeder_now text piece got answer h.fed fed_from
     (λ is. ((starved is).0, (starved is).1 ∙ empty)) in
     let all = commands_so_far (text ++ piece) in
@@ -160,5 +170,6 @@ module _ (old new : Answers) (feeder feeder_now : LineFeeder) (before_got got sl
       (λ other text h. subst (λ (b : List Command). HasEnded text feeder_now b got answer) empty
       (ended other text h)) (λ is. ((starved is).0, (starved is).1 ∙ empty)) in
       known first (commands_so_far text) (commands_of text) (fault_of text) before h.written
-      (subst (λ (g : List Command). AreKnown answer (commands_so_far text) g (commands_of text) (fault_of text))
+      (subst (λ (g : List Command). AreKnown answer (commands_so_far text) g (commands_of text)
+      (fault_of text))
       (sym same) k)

@@ -1,5 +1,6 @@
 -- One read of what comes in.
-use Rattle.std.proofs.Common.{◌≡◌, refl, sym, ap, ◌∙◌, subst, List, [], ◌++◌, ℕ, ◌+◌, ◌<◌, ◌≤◌, length, length-append, take, min, arith}
+use Rattle.std.proofs.Common.{◌≡◌, refl, sym, ap, ◌∙◌, subst, List, [], ◌++◌, ℕ, ◌+◌, ◌<◌, ◌≤◌, length}
+use Rattle.std.proofs.Common.{length-append, take, min, arith}
 use Rattle.std.specs.Prelude.{Some, None, Result, IsErrAnd, ◌^◌, codes}
 use Rattle.std.specs.Option.{option_map}
 use Rattle.std.specs.Io.KnownBytes.{Consumes, IsAtEnd}
@@ -19,13 +20,15 @@ use Rattle.line_work.specs.Stops.{StopsSo, Ends}
 use Rattle.jps_run.specs.declared.replies.answers.Answers.{Answers}
 use Rattle.line_work.specs.declared.stop.Stop.{Stop}
 use Rattle.line_work.specs.declared.stop.Stop.TheVariants as stop
-use Rattle.jps_run.proofs.Listening.{consumes-both, consumes-none, counted-more, refused-heard, long-heard, all-heard, part-heard, lines-heard, written-heard}
+use Rattle.jps_run.proofs.Listening.{consumes-both, consumes-none, counted-more, refused-heard, long-heard}
+use Rattle.jps_run.proofs.Listening.{all-heard, part-heard, lines-heard, written-heard}
 use Rattle.line_work.proofs.Pieces.{nothing}
 use Rattle.jps_run.proofs.Solving.{answered-none}
 use Rattle.line_work.proofs.Stopping.{passed, no_stops, only_memory}
 
 -- nothing is answered yet
-written-none : (first : Answers) (before : Outflow) → HasWritten first first (commands_so_far []) before before
+written-none : (first : Answers) (before : Outflow)
+    → HasWritten first first (commands_so_far []) before before
 written-none first before = record {
   lines = [];
   worked = subst (λ commands. HasAnswered first first commands []) (sym begun-known.1) (answered-none first);
@@ -41,14 +44,17 @@ few-counted text few = take_all (limit_of kind.Script) text few
 pub starved-first : (first : Answers) (input : Inflow) (before : Outflow) (result : Result ℕ Stop)
     → IsErrAnd result (λ s. s ≡ stop.Memory) → Hears first input input before before result
 starved-first first input before result m =
-    passed _ (no_stops (WroteLines (AnswerTaken first.session first.show input.left input.left) before before)) _
+    passed _
+    (no_stops (WroteLines (AnswerTaken first.session first.show input.left input.left) before before)) _
     result stop.Memory m
-    (written-heard first input.left input.left [] before before (consumes-none input.left) (commands_so_far [])
+    (written-heard first input.left input.left [] before before (consumes-none input.left)
+    (commands_so_far [])
     (so_far (ap commands_so_far (sym (few-counted [] (omega arith))))) first (written-none first before))
     (only_memory (λ k. k))
 
 -- nothing was read yet
-pub hearing-begun : (first : Answers) (feeder : LineFeeder) (input : Inflow) (buffer : List ℕ) (before : Outflow)
+pub hearing-begun : (first : Answers) (feeder : LineFeeder) (input : Inflow) (buffer : List ℕ)
+    (before : Outflow)
     → HasTaken feeder [] → feeder.taken ≡ 0 → 0 < length buffer
     → IsHearing first first feeder input input buffer before before
 hearing-begun first feeder input buffer before begun none room = record {
@@ -71,7 +77,8 @@ module _ (first job : Answers) (feeder : LineFeeder) (input mid now : Inflow) (b
         (consumes-both input.left mid.left now.left h.text [] h.consumed read)
 
     few : length h.text ≤ limit_of kind.Script
-    few = let e : length h.text ≡ feeder.taken = h.counted in let f : feeder.taken ≤ 2 ^ 26 = h.few in omega arith
+    few = let e : length h.text ≡ feeder.taken = h.counted in let f : feeder.taken ≤ 2 ^ 26 = h.few in
+        omega arith
 
     -- and the command of the last line is answered too
     pub end-heard : (status : ℕ)
@@ -88,8 +95,8 @@ module _ (first job : Answers) (feeder : LineFeeder) (input mid now : Inflow) (b
         → StopsSo (known_stops first new (commands_of h.text) (fault_of h.text) before after) stop
         → IsErrAnd result (λ s. s ≡ stop) → Ends Done (hear_stops first input now before after) result
     end-stopped Done result stop k m =
-        passed Done (known_stops first new (commands_of h.text) (fault_of h.text) before after) _ result stop m k
-        (record {
+        passed Done (known_stops first new (commands_of h.text) (fault_of h.text) before after) _
+        result stop m k (record {
           refused = λ line k.
               all-heard first input.left now.left h.text before after all_consumed new (Some line) ended few
               (sym k.0) k.1;
@@ -117,16 +124,20 @@ module _ (first job : Answers) (feeder : LineFeeder) (input mid now : Inflow) (b
     same = grind (arith, counted-more)
 
     -- its answers stopped
-    pub piece-stopped : (new : Answers) (after : Outflow) {X : Type 0} (Done : X → Type 0) (result : Result X Stop)
+    pub piece-stopped : (new : Answers) (after : Outflow) {X : Type 0} (Done : X → Type 0)
+        (result : Result X Stop)
         (stop : Stop)
-        → StopsSo (known_stops first new (commands_so_far (h.text ++ piece)) (fault_so_far (h.text ++ piece)) before after)
+        → StopsSo (known_stops first new (commands_so_far (h.text ++ piece)) (fault_so_far (h.text ++ piece))
+        before after)
         stop
         → IsErrAnd result (λ s. s ≡ stop) → Ends Done (hear_stops first input now before after) result
     piece-stopped new after Done result stop k m =
-        passed Done (known_stops first new (commands_so_far (h.text ++ piece)) (fault_so_far (h.text ++ piece)) before after)
+        passed Done (known_stops first new (commands_so_far (h.text ++ piece))
+        (fault_so_far (h.text ++ piece)) before after)
         _ result stop m k (record {
           refused = λ line k.
-              refused-heard first input.left now.left (h.text ++ take count bytes) before after consumed new line
+              refused-heard first input.left now.left (h.text ++ take count bytes) before after
+              consumed new line
               (ap (λ (t : List ℕ). option_map script_line (fault_so_far t)) same ∙ k.0)
               (subst (λ (t : List ℕ). HasWritten first new (commands_so_far t) before after) (sym same) k.1);
           read = λ no. absurd no;
@@ -143,7 +154,8 @@ module _ (first job : Answers) (feeder : LineFeeder) (input mid now : Inflow) (b
     module _ (new : Answers) (feeder_now : LineFeeder) (after : Outflow)
         (heard : HasHeard first new feeder_now (h.text ++ piece) before after) where
       -- too many bytes came in
-      pub long-refused : (line : List ℕ) → room < count → count ≤ length bytes → line ≡ long_line (codes "script")
+      pub long-refused : (line : List ℕ) → room < count → count ≤ length bytes
+          → line ≡ long_line (codes "script")
           → WroteAll (AnswerHeard first.session first.show input.left (Some line)) before after
       long-refused line more inside named =
           long-heard first input.left now.left (h.text ++ take count bytes) before after consumed new line
@@ -154,13 +166,16 @@ module _ (first job : Answers) (feeder : LineFeeder) (input mid now : Inflow) (b
           = length-append h.text (take count bytes) in
           let long : 2 ^ 26 < length (h.text ++ take count bytes) = omega arith in long)
           named (ap fault_so_far same ∙ heard.clean)
-          (subst (λ (t : List ℕ). HasWritten first new (commands_so_far t) before after) (sym same) heard.written)
+          (subst (λ (t : List ℕ). HasWritten first new (commands_so_far t) before after) (sym same)
+          heard.written)
 
       -- or memory for that line was refused
       pub long-starved : {X : Type 0} (Done : X → Type 0) (result : Result X Stop)
-          → IsErrAnd result (λ s. s ≡ stop.Memory) → Ends Done (hear_stops first input now before after) result
+          → IsErrAnd result (λ s. s ≡ stop.Memory)
+          → Ends Done (hear_stops first input now before after) result
       long-starved Done result m =
-          passed Done (no_stops (WroteLines (AnswerTaken first.session first.show input.left now.left) before after)) _
+          passed Done
+          (no_stops (WroteLines (AnswerTaken first.session first.show input.left now.left) before after)) _
           result stop.Memory m
           (written-heard first input.left now.left (h.text ++ take count bytes) before after consumed
           (commands_so_far (h.text ++ piece)) (so_far (ap commands_so_far (sym same))) new heard.written)
@@ -177,7 +192,8 @@ module _ (first job : Answers) (feeder : LineFeeder) (input mid now : Inflow) (b
           let p : length piece ≡ length (take count bytes) = ap (λ (l : List ℕ). length l) whole in
           record {
             text = h.text ++ piece;
-            consumed = subst (λ (l : List ℕ). Consumes input.left now.left (h.text ++ l)) (sym whole) consumed;
+            consumed = subst (λ (l : List ℕ). Consumes input.left now.left (h.text ++ l)) (sym whole)
+                consumed;
             counted = length-append h.text piece
                 ∙ (let e : length h.text ≡ feeder.taken = h.counted in
                 let s : length h.text + length piece ≡ feeder_now.taken = omega (arith, taken) in s);

@@ -1,12 +1,14 @@
 -- The rows of entries.
-use Rattle.std.proofs.Common.{◌≡◌, refl, sym, ap, ◌∙◌, subst, List, [], ◌∷◌, ◌++◌, append_assoc, ℕ, suc, ◌+◌, ◌^◌, ◌<◌, length, length-append, arith, true, false, Bool}
+use Rattle.std.proofs.Common.{◌≡◌, refl, sym, ap, ◌∙◌, subst, List, [], ◌∷◌, ◌++◌, append_assoc, ℕ, suc, ◌+◌}
+use Rattle.std.proofs.Common.{◌^◌, ◌<◌, length, length-append, arith, true, false, Bool}
 use Rattle.std.specs.Prelude.{◌≢◌, ◌&&◌, nat_eq, Result, Ok, Err, OnOk}
 use Rattle.grid_moves.specs.Layers.{Layers}
 use Rattle.std.proofs.lemmas.List.{append-nil}
 use Rattle.scen_text.specs.declared.entry.Entry.{Entry}
 use Rattle.jps_run.specs.Answerers.{CanAnswer, who_of}
 use Rattle.jps_run.specs.Judging.{HasJudged, HasRoom, IsJudged}
-use Rattle.jps_run.specs.Rows.{has_sides, row_of, IsRow, scale, replied, row_line, row_lines, scen_status, sum_line}
+use Rattle.jps_run.specs.Rows.{has_sides, row_of, IsRow, scale, replied, row_line, row_lines, scen_status}
+use Rattle.jps_run.specs.Rows.{sum_line}
 use Rattle.word_list.specs.declared.request.Show.{Show}
 use Rattle.jps_run.specs.Tally.{IsSmall, tally_of, sum_text}
 use Rattle.jps_run.specs.Who.{Who}
@@ -32,7 +34,8 @@ new-room job count ready e few = record {
   ready = ready;
   counts = record { rows = []; counted = e };
   small = subst (λ (tally : Tally). IsSmall tally) (sym e) (omega arith);
-  few = subst (λ (tally : Tally). tally.rows + count < 2 ^ 64) (sym e) (let small : 0 + count < 2 ^ 64 = omega arith in small);
+  few = subst (λ (tally : Tally). tally.rows + count < 2 ^ 64) (sym e)
+      (let small : 0 + count < 2 ^ 64 = omega arith in small);
 }
 
 -- the sides were compared, and are the map's
@@ -55,9 +58,11 @@ row_lines-append show number (r ∷ some) others =
     (let e : number + 1 + length some ≡ number + suc (length some) = omega arith in e))
 
 -- one row more leaves room for one less
-pub room-more : {T E : Type 0} (result : Result T E) (job now : Judge) (r : Row) (room : HasRoomForOne (HasRoom job))
+pub room-more : {T E : Type 0} (result : Result T E) (job now : Judge) (r : Row)
+    (room : HasRoomForOne (HasRoom job))
     → ((rows : List Row) → job.tally ≡ tally_of rows → now.tally ≡ tally_of (rows ++ r ∷ []))
-    → IsSmall now.tally → now.answerer ≡ job.answerer → OnOk result ((n : ℕ) → HasRoom job (n + 1) → HasRoom now n)
+    → IsSmall now.tally → now.answerer ≡ job.answerer
+    → OnOk result ((n : ℕ) → HasRoom job (n + 1) → HasRoom now n)
 room-more (Err error) job now r room counts small same = tt
 room-more (Ok done) job now r room counts small same = λ n h.
     let t = h.counts in
@@ -108,7 +113,8 @@ judged-more (Ok done) job now entry r before after is same shown counts w = λ f
     }
 
 -- the sum closes the rows
-pub judged-all : (job : Judge) (status : ℕ) (before after : List ℕ) → after ≡ before ++ sum_text job.show job.tally
+pub judged-all : (job : Judge) (status : ℕ) (before after : List ℕ)
+    → after ≡ before ++ sum_text job.show job.tally
     → ((rows : List Row) → job.tally ≡ tally_of rows → status ≡ scen_status rows)
     → (first : Judge) (entries : List Entry) (lines : List (List ℕ)) → HasJudged first job entries lines
     → Adds (λ all. IsJudged first entries all status) lines before after
@@ -126,7 +132,8 @@ judged-all job status before after w s first entries lines h = record {
 }
 
 -- every entry has a row
-row_exists : (a : Answerer) → CanAnswer a → (s : Unit {0}) (entry : Entry) → (r : Row) × Stands (who_of a) s entry r
+row_exists : (a : Answerer) → CanAnswer a → (s : Unit {0}) (entry : Entry)
+    → (r : Row) × Stands (who_of a) s entry r
 row_exists a ready s entry = by_sides (has_sides (who_of a).layers entry) refl
   where
     by_sides : (b : Bool) → has_sides (who_of a).layers entry ≡ b → (r : Row) × IsRow (who_of a) entry r
@@ -143,7 +150,8 @@ not-empty (l ∷ lines) line = λ e. (let never : l ∷ (lines ++ line ∷ []) �
 -- so the first rows can be completed
 pub rows-complete : CanComplete HasJudged IsJudged true
 rows-complete first now some others lines h =
-    let all = turns-all (Stands (who_of first.answerer)) stays (row_exists first.answerer h.ready) tt some others h.rows
+    let all = turns-all (Stands (who_of first.answerer)) stays (row_exists first.answerer h.ready) tt some
+    others h.rows
     h.are in
     let rows : List Row = h.rows ++ all.0 in
     let rest : List (List ℕ) = row_lines first.show (1 + length h.rows) all.0 in

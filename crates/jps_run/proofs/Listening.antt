@@ -1,5 +1,6 @@
 -- What comes in, read by read, and how a call ends that answers it.
-use Rattle.std.proofs.Common.{◌≡◌, refl, sym, ap, ◌∙◌, subst, List, [], ◌∷◌, ◌++◌, append_assoc, ℕ, suc, zero, ◌+◌, ◌<◌, ◌≤◌, ◌⊎◌, inl, inr, length, length-append, take, min, arith}
+use Rattle.std.proofs.Common.{◌≡◌, refl, sym, ap, ◌∙◌, subst, List, [], ◌∷◌, ◌++◌, append_assoc, ℕ, suc, zero}
+use Rattle.std.proofs.Common.{◌+◌, ◌<◌, ◌≤◌, ◌⊎◌, inl, inr, length, length-append, take, min, arith}
 use Rattle.std.specs.Prelude.{Option, Some, None, codes}
 use Rattle.std.specs.List.{concat}
 use Rattle.std.specs.Option.{option_map, option_map_or}
@@ -16,7 +17,8 @@ use Rattle.jps_run.specs.Answers.{AreAnswers}
 use Rattle.call_files.specs.FaultLines.{long_line, script_line}
 use Rattle.call_files.specs.Kinds.{limit_of}
 use Rattle.call_files.specs.declared.kind.Kind.TheVariants as kind
-use Rattle.jps_run.specs.Heard.{AnswerHeard, AnswerTaken, AreWhole, IsHeard, IsTold, WroteAll, WroteFirst, WroteLines, counted, whole, too_long}
+use Rattle.jps_run.specs.Heard.{AnswerHeard, AnswerTaken, AreWhole, IsHeard, IsTold, WroteAll, WroteFirst}
+use Rattle.jps_run.specs.Heard.{WroteLines, counted, whole, too_long}
 use Rattle.jps_run.specs.Hearing.{HasWritten}
 use Rattle.io_edge.specs.Told.{Outflow}
 use Rattle.line_work.specs.Sending.{Wrote, IsPart}
@@ -50,7 +52,8 @@ told-all (Some xs) (Some ys) text c e =
     sym (c ∙ ap (λ (l : List ℕ). text ++ l) e ∙ append-nil text)
 
 -- the first bytes of more bytes begin with the first bytes
-take-more-front : {X : Type 0} (n : ℕ) (xs ys : List X) → (more : List X) × (take n (xs ++ ys) ≡ take n xs ++ more)
+take-more-front : {X : Type 0} (n : ℕ) (xs ys : List X) → (more : List X)
+    × (take n (xs ++ ys) ≡ take n xs ++ more)
 take-more-front zero [] ys = ([], refl)
 take-more-front zero (x ∷ xs) ys = ([], refl)
 take-more-front (suc n) [] ys = (take (suc n) ys, refl)
@@ -142,7 +145,9 @@ module _ (first : Answers) (input left : Option (List ℕ)) (full : List ℕ) (b
           commands = commands_so_far (counted full);
           heard = too_long (omega (arith, long, sum)) (ap commands_so_far (sym same))
               (ap (λ (l : List ℕ). Some l) named
-              ∙ sym (ap (λ (f : Option ScriptFault). Some (option_map_or script_line f (long_line (codes "script"))))
+              ∙ sym
+              (ap (λ (f : Option ScriptFault). Some
+              (option_map_or script_line f (long_line (codes "script"))))
               (ap fault_so_far same ∙ clean)));
           answers = w.worked.answers;
         };
@@ -202,6 +207,7 @@ module _ (first : Answers) (input left : Option (List ℕ)) (full : List ℕ) (b
       };
       count = length w.lines;
       wrote = subst (λ (l : List (List ℕ)). Wrote before now (concat l))
-          (sym (take_all (length w.lines) w.lines (let h : length w.lines ≤ length w.lines = omega arith in h)))
+          (sym (take_all (length w.lines) w.lines (let h : length w.lines ≤ length w.lines = omega arith in
+          h)))
           w.wrote;
     }

@@ -1,5 +1,6 @@
 -- Sessions on maps, and files that are read behind those of a session.
-use Rattle.std.proofs.Common.{◌≡◌, ◌∙◌, ap, subst, append_assoc, append-nil, refl, sym, List, [], ◌∷◌, ◌++◌, ℕ, Bool, true, false}
+use Rattle.std.proofs.Common.{◌≡◌, ◌∙◌, ap, subst, append_assoc, append-nil, refl, sym, List, [], ◌∷◌, ◌++◌}
+use Rattle.std.proofs.Common.{ℕ, Bool, true, false}
 use Rattle.std.specs.Prelude.{Result}
 use Rattle.io_edge.specs.Told.{Disk, Held}
 use Rattle.map_text.specs.Map.{Map}

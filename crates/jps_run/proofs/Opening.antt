@@ -29,7 +29,8 @@ text-right call texts text status a small lines is t = (
 
 -- and so are the lines that answer commands
 pub solved-right : (call : Call) (texts : List (List ℕ)) (job : Answers) (commands : List Command)
-    → ((lines : List (List ℕ)) → AreAnswers job.session job.show commands lines → IsAnswered call texts lines 0)
+    → ((lines : List (List ℕ)) → AreAnswers job.session job.show commands lines
+    → IsAnswered call texts lines 0)
     → (lines : List (List ℕ)) (status : ℕ) → IsSolved job commands lines status
     → (status ≤ 1) × IsAnswered call texts lines status
 solved-right call texts job commands right lines status s = (

@@ -28,7 +28,8 @@ module _ (d : SessionData) (show : Show) (sx sy gx gy : ℕ) where
   one-line [] a = absurd a
   one-line (line ∷ []) a = record {
     line = line;
-    is = subst (λ (k : SessionData). IsReplyLine (who_is k) show start goal line) (sym (nothing_edited d)) a.0;
+    is = subst (λ (k : SessionData). IsReplyLine (who_is k) show start goal line) (sym (nothing_edited d))
+        a.0;
     all = refl;
   }
   one-line (line ∷ other ∷ lines) a = absurd a.1

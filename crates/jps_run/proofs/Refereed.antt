@@ -1,5 +1,7 @@
 -- The rows of told walks.
-use Rattle.std.proofs.Common.{◌≡◌, refl, sym, ap, ◌∙◌, subst, List, [], ◌∷◌, ◌++◌, append_assoc, ℕ, zero, suc, ◌+◌, ◌^◌, ◌<◌, ◌≤◌, ◌&&◌, ◌||◌, length, length-append, drop, inl, inr, arith, true, false, Bool}
+use Rattle.std.proofs.Common.{◌≡◌, refl, sym, ap, ◌∙◌, subst, List, [], ◌∷◌, ◌++◌, append_assoc, ℕ, zero, suc}
+use Rattle.std.proofs.Common.{◌+◌, ◌^◌, ◌<◌, ◌≤◌, ◌&&◌, ◌||◌, length, length-append, drop, inl, inr, arith}
+use Rattle.std.proofs.Common.{true, false, Bool}
 use Rattle.std.specs.Prelude.{Some, Result, Ok, Err, OnOk, Vec, slice_get, if◌then◌else◌, nat_eq, count_by}
 use Rattle.std.specs.Global.{Global}
 use Rattle.std.proofs.lemmas.Bool.Decides.{nat_tests}
@@ -23,7 +25,8 @@ use Rattle.walk_judge.specs.declared.telling.Told.{Told}
 use Rattle.call_files.specs.Reading.{AreFit}
 use Rattle.jps_run.specs.Refereeing.{IsReady, CanGoOn, HasRefereed, IsRefereed, cost_in, counts_of, sum_text}
 use Rattle.jps_run.specs.Rows.{has_sides}
-use Rattle.jps_run.specs.Rulings.{IsRuling, with_told, scale, outside, blocked, judged, goal_of, start_of, is_refused, judge_status, ruling_line, ruling_lines, rulings_line}
+use Rattle.jps_run.specs.Rulings.{IsRuling, with_told, scale, outside, blocked, judged, goal_of, start_of}
+use Rattle.jps_run.specs.Rulings.{is_refused, judge_status, ruling_line, ruling_lines, rulings_line}
 use Rattle.line_work.specs.Turns.{AreInTurn}
 use Rattle.line_work.specs.Working.{Adds, CanComplete, HasRoomForOne}
 use Rattle.jps_run.specs.declared.replies.referee.Court.{Court}
@@ -37,7 +40,8 @@ use Rattle.line_work.proofs.Turns.{turns-more, turns-all}
 
 -- where the ends are free but not on one grid, no walk leads
 apart-none : (ls : Layers) (s t : Cell) → is_free_ground ls s ≡ true
-    → (is_free (query_grid ls s) s && is_free (query_grid ls s) t) ≡ false → is_free (query_grid ls s) t ≡ false
+    → (is_free (query_grid ls s) s && is_free (query_grid ls s) t) ≡ false
+    → is_free (query_grid ls s) t ≡ false
 apart-none ls s t free apart = by_water (is_free ls.water s) refl free apart
   where
     other : (b : Bool) → (true && b) ≡ false → b ≡ false
@@ -50,7 +54,8 @@ apart-none ls s t free apart = by_water (is_free ls.water s) refl free apart
     by_water true e free apart = let h = rw (e, e) at apart in rw e h
     by_water false e free apart = rw e (by_land (is_free ls.land s) (rw e at free) (rw e at apart))
       where
-        by_land : (b : Bool) → (b || false) ≡ true → (b && is_free ls.land t) ≡ false → is_free ls.land t ≡ false
+        by_land : (b : Bool) → (b || false) ≡ true → (b && is_free ls.land t) ≡ false
+            → is_free ls.land t ≡ false
         by_land true free apart = apart
         by_land false free apart = absurd (cc)
 
@@ -101,7 +106,8 @@ with_told-more [] (w ∷ walks) entry told found =
     ap (λ (t : Told). (let both : Both = (entry, t) in both) ∷ []) (let same : w ≡ told = cc in same)
 with_told-more (e ∷ entries) [] entry told found = absurd (cc)
 with_told-more (e ∷ entries) (w ∷ walks) entry told found =
-    ap (λ (l : List Both). (let both : Both = (e, w) in both) ∷ l) (with_told-more entries walks entry told found)
+    ap (λ (l : List Both). (let both : Both = (e, w) in both) ∷ l)
+    (with_told-more entries walks entry told found)
 
 -- more entries, with what is told of them behind
 with_told-append : (some others : List Entry) (walks : List Told)
@@ -113,7 +119,8 @@ with_told-append (e ∷ some) others (w ∷ walks) =
     ap (λ (l : List Both). (let both : Both = (e, w) in both) ∷ l) (with_told-append some others walks)
 
 ruling_lines-append : (number : ℕ) (some others : List Ruling)
-    → ruling_lines number (some ++ others) ≡ ruling_lines number some ++ ruling_lines (number + length some) others
+    → ruling_lines number (some ++ others) ≡ ruling_lines number some
+    ++ ruling_lines (number + length some) others
 ruling_lines-append number [] others =
     ap (λ n. ruling_lines n others) (let e : number ≡ number + 0 = omega arith in e)
 ruling_lines-append number (r ∷ some) others =
@@ -147,7 +154,8 @@ goes-on (Ok done) job now r room court walks counts = λ n h.
     }
 
 -- one entry more has its row
-pub refereed-more : {T E : Type 0} (result : Result T E) (job now : Referee) (entry : Entry) (told : Told) (r : Ruling)
+pub refereed-more : {T E : Type 0} (result : Result T E) (job now : Referee) (entry : Entry) (told : Told)
+    (r : Ruling)
     (before after : List ℕ) → IsRuling job.court.layers entry told r
     → slice_get job.walks.items job.counts.rows ≡ Some told → now.court ≡ job.court → now.walks ≡ job.walks
     → ((rulings : List Ruling) → job.counts ≡ counts_of rulings → now.counts ≡ counts_of (rulings ++ r ∷ []))
@@ -156,7 +164,8 @@ pub refereed-more : {T E : Type 0} (result : Result T E) (job now : Referee) (en
     → HasRefereed first job entries lines
     → Adds (HasRefereed first now (entries ++ entry ∷ [])) lines before after)
 refereed-more (Err error) job now entry told r before after is found court walks counts w = tt
-refereed-more (Ok done) job now entry told r before after is found court walks counts w = λ first entries lines h.
+refereed-more (Ok done) job now entry told r before after is found court walks counts w =
+    λ first entries lines h.
     let old : job.counts.rows ≡ length h.rulings = ap (λ (c : Counts). c.rows) h.counted in
     let one : now.counts.rows ≡ length (h.rulings ++ r ∷ []) =
     ap (λ (c : Counts). c.rows) (counts h.rulings h.counted) in
@@ -187,7 +196,8 @@ refereed-more (Ok done) job now entry told r before after is found court walks c
     }
 
 -- the sum closes the rows
-pub refereed-all : (job : Referee) (status : ℕ) (before after : List ℕ) → after ≡ before ++ sum_text job.counts
+pub refereed-all : (job : Referee) (status : ℕ) (before after : List ℕ)
+    → after ≡ before ++ sum_text job.counts
     → ((rulings : List Ruling) → job.counts ≡ counts_of rulings → status ≡ judge_status rulings)
     → (first : Referee) (entries : List Entry) (lines : List (List ℕ)) → HasRefereed first job entries lines
     → Adds (λ all. IsRefereed first entries all status) lines before after
@@ -239,7 +249,8 @@ ruling_exists ls s both = ruled ls both.0 both.1 (has_sides ls both.0) refl
 pub rulings-complete : CanComplete HasRefereed IsRefereed true
 rulings-complete first now some others lines h =
     let walks : List Told = first.walks.items in
-    let all = turns-all (Stands first.court.layers) stays (ruling_exists first.court.layers) tt (with_told some walks)
+    let all = turns-all (Stands first.court.layers) stays (ruling_exists first.court.layers) tt
+    (with_told some walks)
     (with_told others (drop (length some) walks)) h.rulings h.are in
     let rulings : List Ruling = h.rulings ++ all.0 in
     let rest : List (List ℕ) = ruling_lines (1 + length h.rulings) all.0 in
@@ -249,7 +260,8 @@ rulings-complete first now some others lines h =
       status = judge_status rulings;
       whole = record {
         rulings = rulings;
-        are = subst (λ (l : List Both). AreInTurn {S = Unit {0}} (Stands first.court.layers) stays tt l rulings)
+        are =
+            subst (λ (l : List Both). AreInTurn {S = Unit {0}} (Stands first.court.layers) stays tt l rulings)
             (sym (with_told-append some others walks)) all.1;
         all = sym (append_assoc lines rest (sum ∷ []))
             ∙ ap (λ (l : List (List ℕ)). (l ++ rest) ++ sum ∷ []) h.all

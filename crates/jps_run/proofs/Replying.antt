@@ -1,5 +1,6 @@
 -- Replies on one grid are replies on the map.
-use Rattle.std.proofs.Common.{◌≡◌, ◌<◌, ◌≤◌, ◌+◌, ◌*◌, ◌^◌, Bool, true, false, refl, sym, subst, ◌∙◌, ◌∷◌, arith, length}
+use Rattle.std.proofs.Common.{◌≡◌, ◌<◌, ◌≤◌, ◌+◌, ◌*◌, ◌^◌, Bool, true, false, refl, sym, subst, ◌∙◌, ◌∷◌}
+use Rattle.std.proofs.Common.{arith, length}
 use Rattle.std.specs.Prelude.{Result, Ok, Err, IfOk, if◌then◌else◌}
 use Rattle.std.proofs.lemmas.Bool.{and_parts}
 use Rattle.root2_cost.specs.declared.Cost.{Cost}
@@ -27,7 +28,8 @@ reply-on-map ls by s t reply free right run = record {
 }
 
 -- and so is that of a call on this grid, between the ends of the query
-pub result-on-map : {E : Type 0} (result : Result Reply E) (ls : Layers) (by : By) (g : GridData) (s t from to : Cell)
+pub result-on-map : {E : Type 0} (result : Result Reply E) (ls : Layers) (by : By) (g : GridData)
+    (s t from to : Cell)
     → from ≡ s → to ≡ t → g ≡ query_grid ls from → are_free_ends ls s t ≡ true
     → IfOk result (IsRightOn g from to) → IfOk result (IsReplyOn by g from to)
     → IfOk result (IsReplyBy (record { layers = ls; by = by }) s t)
@@ -38,7 +40,8 @@ result-on-map (Ok reply) ls by g s t from to e f same free right run =
     (subst (λ (k : GridData). IsRightOn k s t reply) at
     (subst (λ (c : Cell). IsRightOn g s c reply) f (subst (λ (c : Cell). IsRightOn g c to reply) e right)))
     (subst (λ (k : GridData). IsReplyOn by k s t reply) at
-    (subst (λ (c : Cell). IsReplyOn by g s c reply) f (subst (λ (c : Cell). IsReplyOn by g c to reply) e run)))
+    (subst (λ (c : Cell). IsReplyOn by g s c reply) f
+    (subst (λ (c : Cell). IsReplyOn by g c to reply) e run)))
   where
     on : from ≡ s → query_grid ls from ≡ query_grid ls s
     on same_cell = subst (λ (c : Cell). query_grid ls from ≡ query_grid ls c) same_cell refl
@@ -68,7 +71,8 @@ unsearched-led ls s t Outside u = record { right = u.right; run = tt }
 unsearched-led ls s t Blocked u = record { right = u.right; run = tt }
 
 -- the grid of a query on a small map is small
-pub few-on : (ls : Layers) (s : Cell) → AreSmall ls → (query_grid ls s).height * (query_grid ls s).width ≤ 16384
+pub few-on : (ls : Layers) (s : Cell) → AreSmall ls → (query_grid ls s).height * (query_grid ls s).width
+    ≤ 16384
 few-on ls s small = by_test (is_free ls.water s)
   where
     by_test : (b : Bool) → let k : GridData = if b then ls.water else ls.land in k.height * k.width ≤ 16384

@@ -43,7 +43,8 @@ on-live call holds job l Known k = record {
 }
 
 -- a session that answers what comes in was opened behind accepted files
-pub may-hear : (call : Call) (holds : List ℕ → Held) (job : Answers) → IsListener call holds job → MayHear call holds
+pub may-hear : (call : Call) (holds : List ℕ → Held) (job : Answers) → IsListener call holds job
+    → MayHear call holds
 may-hear call holds job l =
     record { reads = l.reads; texts = l.on.text ∷ l.on.behind; accepted = l.on.accepted }
 
@@ -71,10 +72,12 @@ module _ (call : Call) (disk disk_now : Disk) (input input_now : Inflow) (out ou
       })
 
   -- the work was done, or it stopped
-  pub work-served : (work : Work) → IsWorkOn call disk.holds work → SendsWhole (IsWhole work) out out_now result
+  pub work-served : (work : Work) → IsWorkOn call disk.holds work
+      → SendsWhole (IsWhole work) out out_now result
       → HasServed call disk disk_now input input_now out out_now result
   work-served work w s =
-      let output : (lines : List (List ℕ)) (status : ℕ) → IsWhole work lines status → IsOutput call disk.holds lines status
+      let output : (lines : List (List ℕ)) (status : ℕ) → IsWhole work lines status
+      → IsOutput call disk.holds lines status
       = λ lines status whole.
       record { texts = w.texts; accepted = w.accepted; answered = (w.is.right lines status whole).1 } in
       ends-on (IsAll (IsWhole work) out out_now) _ (work_stops (IsWhole work) out out_now)
@@ -106,7 +109,8 @@ module _ (call : Call) (disk disk_now : Disk) (input input_now : Inflow) (out ou
       }) s
 
   -- what came in was answered, or that stopped
-  pub heard-served : (job : Answers) → IsListener call disk.holds job → Hears job input input_now out out_now result
+  pub heard-served : (job : Answers) → IsListener call disk.holds job
+      → Hears job input input_now out out_now result
       → HasServed call disk disk_now input input_now out out_now result
   heard-served job l h =
       ends-on (λ status. (status ≡ 0)
@@ -114,20 +118,28 @@ module _ (call : Call) (disk disk_now : Disk) (input input_now : Inflow) (out ou
       (served_stops call disk disk_now input input_now out out_now) result
       (λ status e. (
         (let good : status ≡ 0 = e.0 in omega arith),
-        inr (e.0, on-live call disk.holds job l (λ d show. WroteAll (AnswerHeard d show input.left None) out out_now) e.1),
+        inr (
+          e.0,
+          on-live call disk.holds job l (λ d show. WroteAll (AnswerHeard d show input.left None) out
+              out_now) e.1,
+        ),
       ))
       (record {
         refused = λ line w. inr
-            (on-live call disk.holds job l (λ d show. WroteAll (AnswerHeard d show input.left (Some line)) out out_now) w);
+            (on-live call disk.holds job l (λ d show. WroteAll (AnswerHeard d show input.left (Some line)) out
+            out_now) w);
         read = λ w. inr (
           l.reads,
           w.0,
-          on-live call disk.holds job l (λ d show. WroteAll (AnswerPending d show input.left input_now.left) out out_now) w.1,
+          on-live call disk.holds job l (λ d show. WroteAll (AnswerPending d show input.left input_now.left)
+              out out_now) w.1,
         );
         write = λ w. (
           w.0,
-          inr (on-live call disk.holds job l (λ d show. WroteFirst (AnswerTaken d show input.left input_now.left) out out_now) w.1),
+          inr (on-live call disk.holds job l
+              (λ d show. WroteFirst (AnswerTaken d show input.left input_now.left) out out_now) w.1),
         );
         memory = λ w. inr
-            (inr (on-live call disk.holds job l (λ d show. WroteLines (AnswerTaken d show input.left input_now.left) out out_now) w));
+            (inr (on-live call disk.holds job l
+            (λ d show. WroteLines (AnswerTaken d show input.left input_now.left) out out_now) w));
       }) h

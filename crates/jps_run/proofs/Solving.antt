@@ -1,5 +1,6 @@
 -- The answers to commands.
-use Rattle.std.proofs.Common.{◌≡◌, refl, sym, ap, ◌∙◌, subst, List, [], ◌∷◌, ◌++◌, ℕ, inl, inr, true, false, length, arith}
+use Rattle.std.proofs.Common.{◌≡◌, refl, sym, ap, ◌∙◌, subst, List, [], ◌∷◌, ◌++◌, ℕ, inl, inr, true, false}
+use Rattle.std.proofs.Common.{length, arith}
 use Rattle.std.specs.Prelude.{◌≢◌, ⊤, Result, Ok, Err, OnOk}
 use Rattle.std.specs.List.{fold}
 use Rattle.std.proofs.lemmas.List.{append-nil}
@@ -101,7 +102,8 @@ answers-complete first now some others lines h =
       status = 0;
       whole = record { answers = all.1; good = refl };
       some = λ left. left-over others all.0 left
-          (turns-left (AnswersAfter first.session first.show) edits_with [] some others lines all.0 h.answers all.1);
+          (turns-left (AnswersAfter first.session first.show) edits_with [] some others lines all.0
+          h.answers all.1);
     }
   where
     left-over : (others : List Command) (more : List (List ℕ)) → IsLeft false others

@@ -1,5 +1,6 @@
 -- Counts of rows.
-use Rattle.std.proofs.Common.{◌≡◌, refl, sym, ap, ◌∙◌, List, [], ◌∷◌, ℕ, ◌+◌, ◌≤◌, Bool, true, false, ◌||◌, arith, if◌then◌else◌}
+use Rattle.std.proofs.Common.{◌≡◌, refl, sym, ap, ◌∙◌, List, [], ◌∷◌, ℕ, ◌+◌, ◌≤◌, Bool, true, false, ◌||◌}
+use Rattle.std.proofs.Common.{arith, if◌then◌else◌}
 use Rattle.std.specs.Prelude.{cond}
 use Rattle.std.specs.List.{count_by, list_all}
 use Rattle.std.proofs.lemmas.List.Sums.{sum_by-cons}

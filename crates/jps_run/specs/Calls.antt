@@ -1,7 +1,8 @@
 -- A call as data: the files that it reads, and whether it reads the input.
 use Rattle.std.specs.Prelude.{◌≡◌, ℕ, Bool, true, false, List, [], ◌∷◌, ◌++◌}
 use Rattle.io_edge.specs.Told.{Held}
-use Rattle.word_list.specs.Request.{Asked, Call, Help, Version, Query, Solve, Live, Scen, Judge, Prove, Check, Make, Drill, Draw, Costs, Tables, Boxes, Moves}
+use Rattle.word_list.specs.Request.{Asked, Call, Help, Version, Query, Solve, Live, Scen, Judge, Prove, Check}
+use Rattle.word_list.specs.Request.{Make, Drill, Draw, Costs, Tables, Boxes, Moves}
 use Rattle.word_list.specs.declared.request.Settings.{Settings}
 use Rattle.call_files.specs.Files.{AreAccepted, File, file_of}
 use Rattle.call_files.specs.declared.kind.Kind.TheVariants as kind

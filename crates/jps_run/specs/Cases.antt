@@ -9,7 +9,8 @@ use Rattle.jps_run.specs.Refereeing.{IsCourtOf}
 use Rattle.word_list.specs.declared.request.Settings.{Settings}
 
 -- the files hold a map, a scenario behind it and behind both what is told of each entry, which were read so
-pub record IsCaseOf (set : Settings) (holds : List ℕ → Held) (map scen told : List ℕ) (case : Case) : Type 0 where
+pub record IsCaseOf (set : Settings) (holds : List ℕ → Held) (map scen told : List ℕ)
+    (case : Case) : Type 0 where
   pub text : List ℕ
   pub second : List ℕ
   pub third : List ℕ

@@ -1,5 +1,6 @@
 -- What the commands of a drill come to, and the line that sums it up.
-use Rattle.std.specs.Prelude.{◌≡◌, ℕ, ◌+◌, ◌<◌, ◌^◌, Bool, true, false, ⊤, List, [], ◌++◌, codes, decimal, count_by}
+use Rattle.std.specs.Prelude.{◌≡◌, ℕ, ◌+◌, ◌<◌, ◌^◌, Bool, true, false, ⊤, List, [], ◌++◌, codes, decimal}
+use Rattle.std.specs.Prelude.{count_by}
 use Rattle.std.specs.List.{sum_by}
 use Rattle.grid_moves.specs.declared.Cell.{Cell}
 use Rattle.edit_replay.specs.Edited.{Edit, edit_at}
@@ -96,7 +97,8 @@ counted text n = text ++ decimal n
 -- the parts of the line: how many queries came to each kind of finding
 abbrev pub queries_text : ℕ → ℕ → ℕ → List ℕ
 queries_text walks none blocked =
-    counted (codes "drill walks ") walks ++ counted (codes " none ") none ++ counted (codes " blocked ") blocked
+    counted (codes "drill walks ") walks ++ counted (codes " none ") none
+    ++ counted (codes " blocked ") blocked
 
 -- how many edits did
 abbrev pub edits_text : ℕ → ℕ → List ℕ

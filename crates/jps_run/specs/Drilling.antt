@@ -4,7 +4,8 @@ use Rattle.std.specs.List.{All, fold, sum_by}
 use Rattle.script_text.specs.declared.command.Command.{Command}
 use Rattle.jps_run.specs.Answers.{edits_with}
 use Rattle.jps_run.specs.Counts.{RoseForCommands}
-use Rattle.jps_run.specs.Drill.{AreFindings, IsShortFinding, drill_line, queries_text, edits_text, costs_text, is_walk, is_none, is_blocked, is_done, is_same, straight_in, diagonal_in}
+use Rattle.jps_run.specs.Drill.{AreFindings, IsShortFinding, drill_line, queries_text, edits_text, costs_text}
+use Rattle.jps_run.specs.Drill.{is_walk, is_none, is_blocked, is_done, is_same, straight_in, diagonal_in}
 use Rattle.jps_run.specs.Session.{session_after}
 use Rattle.jps_run.specs.declared.replies.drill.Summary.{Summary}
 use Rattle.jps_run.specs.declared.replies.drill.Finding.{Finding}
@@ -45,7 +46,8 @@ pub record LeavesRoom (job : Summary) (more : ℕ) : Type 0 where
   pub short : All IsShortFinding found
   pub few : length found + more ≤ 2 ^ 32
 
--- the commands came to findings with these sums, and their edits were made; no line is written before the sums
+-- the commands came to findings with these sums, and their edits were made; no line is written before the
+-- sums
 pub record HasDrilled (first now : Summary) (commands : List Command) (lines : List (List ℕ)) : Type 0 where
   pub found : List Finding
   pub are : AreFindings first.session commands found
@@ -59,7 +61,8 @@ pub record HaveCounted (first now : Summary) (commands : List Command) (old new 
   pub session : now.session ≡ session_after first.session (fold edits_with [] commands)
 
 -- one line sums up what the commands come to, with status 0
-pub record IsDrilled (first : Summary) (commands : List Command) (lines : List (List ℕ)) (status : ℕ) : Type 0 where
+pub record IsDrilled (first : Summary) (commands : List Command) (lines : List (List ℕ))
+    (status : ℕ) : Type 0 where
   pub found : List Finding
   pub are : AreFindings first.session commands found
   pub all : lines ≡ drill_line found ∷ []

@@ -13,7 +13,8 @@ use Rattle.jps_run.specs.Live.{WrotePending, WroteSomeTaken, WroteLinesTaken}
 use Rattle.io_edge.specs.Told.{Disk, Held, Inflow, Outflow}
 use Rattle.line_work.specs.Sending.{Wrote, WroteSome, IsPart, AreLines}
 
--- what `err` gets in place of an outcome's line: where a read failed, where a write failed, for want of memory
+-- what `err` gets in place of an outcome's line: where a read failed, where a write failed, for want of
+-- memory
 abbrev pub read_line : List ℕ
 read_line = codes "jps: read\n"
 
@@ -60,9 +61,10 @@ pub record InputRose (words : List (List ℕ)) (input input_now : Inflow) : Type
   pub reads : reads_input call.request ≡ true
   pub rose : Rose input.faults input_now.faults
 
--- a read failed: of a file, and nothing was written; or of the input, and exactly the lines of the whole commands among
--- the bytes that were taken were written
-pub data HasFailed (words : List (List ℕ)) (disk disk_now : Disk) (input input_now : Inflow) (out out_now : Outflow)
+-- a read failed: of a file, and nothing was written; or of the input, and exactly the lines of the whole
+-- commands among the bytes that were taken were written
+pub data HasFailed (words : List (List ℕ)) (disk disk_now : Disk) (input input_now : Inflow)
+    (out out_now : Outflow)
     : Type 0 where
   of_file : NamedRose words disk disk_now → Wrote out out_now []
       → HasFailed words disk disk_now input input_now out out_now
@@ -70,18 +72,21 @@ pub data HasFailed (words : List (List ℕ)) (disk disk_now : Disk) (input input
       → WrotePending rose.call disk.holds out out_now input.left input_now.left
       → HasFailed words disk disk_now input input_now out out_now
 
--- a first part of a right output was written; where the words ask for what is read from the input, of the lines of the
--- whole commands among the bytes that were taken
-pub data HasPart (words : List (List ℕ)) (holds : List ℕ → Held) (input input_now : Inflow) (out out_now : Outflow)
+-- a first part of a right output was written; where the words ask for what is read from the input, of the
+-- lines of the whole commands among the bytes that were taken
+pub data HasPart (words : List (List ℕ)) (holds : List ℕ → Held) (input input_now : Inflow)
+    (out out_now : Outflow)
     : Type 0 where
   of_all : (call : Call) → Spell words call → IsPart (IsOutput call holds) out out_now
       → HasPart words holds input input_now out out_now
-  of_taken : (call : Call) → Spell words call → WroteSomeTaken call holds out out_now input.left input_now.left
+  of_taken : (call : Call) → Spell words call
+      → WroteSomeTaken call holds out out_now input.left input_now.left
       → HasPart words holds input input_now out out_now
 
--- nothing was written, or the first lines of a right output, each whole, and not all of them; where the words ask for
--- what is read from the input, the first lines of the whole commands among the bytes that were taken
-pub data HasLines (words : List (List ℕ)) (holds : List ℕ → Held) (input input_now : Inflow) (out out_now : Outflow)
+-- nothing was written, or the first lines of a right output, each whole, and not all of them; where the words
+-- ask for what is read from the input, the first lines of the whole commands among the bytes that were taken
+pub data HasLines (words : List (List ℕ)) (holds : List ℕ → Held) (input input_now : Inflow)
+    (out out_now : Outflow)
     : Type 0 where
   none : Wrote out out_now [] → HasLines words holds input input_now out out_now
   some : (call : Call) → Spell words call → AreLines (IsOutput call holds) out out_now

@@ -9,7 +9,8 @@ use Rattle.jps_run.specs.Who.{Who}
 pub data RoseForEntry (who : Who) (entry : Entry) (old new : ℕ) : Type 0 where
   unsearched : has_sides who.layers entry ≡ false → new ≡ old → RoseForEntry who entry old new
   searched : has_sides who.layers entry ≡ true
-      → RoseForQuery who (record { x = entry.sx; y = entry.sy }) (record { x = entry.gx; y = entry.gy }) old new
+      → RoseForQuery who (record { x = entry.sx; y = entry.sy }) (record { x = entry.gx; y = entry.gy }) old
+      new
       → RoseForEntry who entry old new
 
 -- it rose for each of the entries in turn

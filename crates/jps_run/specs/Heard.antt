@@ -1,4 +1,5 @@
--- A script that comes in: its commands, its refusal, the lines that answer it, and how far the counter rises for it.
+-- A script that comes in: its commands, its refusal, the lines that answer it, and how far the counter rises
+-- for it.
 use Rattle.std.specs.Prelude.{◌≡◌, ℕ, ◌≤◌, ◌<◌, ⊤, List, length, take, codes, Option, Some, None}
 use Rattle.std.specs.List.{concat}
 use Rattle.std.specs.Option.{option_map, option_map_or}
@@ -25,24 +26,28 @@ IsTold (Some left) text = text ≡ left
 abbrev pub counted : List ℕ → List ℕ
 counted script = take (limit_of kind.Script) script
 
--- the commands of a script before its first refused line, and the line of its refusal, if it is refused: where it is too
--- long, a line of the bytes that count is refused first, and their last line is not judged without its line feed
+-- the commands of a script before its first refused line, and the line of its refusal, if it is refused:
+-- where it is too long, a line of the bytes that count is refused first, and their last line is not judged
+-- without its line feed
 pub data IsHeard (script : List ℕ) (commands : List Command) (refusal : Option (List ℕ)) : Type 0 where
   whole : length script ≤ limit_of kind.Script → commands ≡ commands_of script
       → refusal ≡ option_map script_line (fault_of script) → IsHeard script commands refusal
   too_long : limit_of kind.Script < length script → commands ≡ commands_so_far (counted script)
-      → refusal ≡ Some (option_map_or script_line (fault_so_far (counted script)) (long_line (codes "script")))
+      → refusal
+      ≡ Some (option_map_or script_line (fault_so_far (counted script)) (long_line (codes "script")))
       → IsHeard script commands refusal
 
--- the whole commands among bytes that were taken, before the first refused line: those of the lines with line feed, and at
--- the end that of the last line
+-- the whole commands among bytes that were taken, before the first refused line: those of the lines with line
+-- feed, and at the end that of the last line
 pub data AreWhole (left : Option (List ℕ)) (taken : List ℕ) (commands : List Command) : Type 0 where
   so_far : commands ≡ commands_so_far (counted taken) → AreWhole left taken commands
   at_end : IsAtEnd left → length taken ≤ limit_of kind.Script → commands ≡ commands_of taken
       → AreWhole left taken commands
 
--- the lines answer the commands of what comes in, up to its first refused line, and this is the line of its refusal
-pub record AnswerHeard (d : SessionData) (show : Show) (input refusal : Option (List ℕ)) (lines : List (List ℕ))
+-- the lines answer the commands of what comes in, up to its first refused line, and this is the line of its
+-- refusal
+pub record AnswerHeard (d : SessionData) (show : Show) (input refusal : Option (List ℕ))
+    (lines : List (List ℕ))
     : Type 0 where
   pub script : List ℕ
   pub told : IsTold input script
@@ -60,7 +65,8 @@ pub record AnswerTaken (d : SessionData) (show : Show) (input left : Option (Lis
   pub answers : AreAnswers d show commands lines
 
 -- so they do, and no line of the bytes is refused
-pub record AnswerPending (d : SessionData) (show : Show) (input left : Option (List ℕ)) (lines : List (List ℕ))
+pub record AnswerPending (d : SessionData) (show : Show) (input left : Option (List ℕ))
+    (lines : List (List ℕ))
     : Type 0 where
   pub taken : List ℕ
   pub consumed : Consumes input left taken

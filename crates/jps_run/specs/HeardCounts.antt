@@ -21,7 +21,8 @@ RiseEnd old new feeder at now = (first : Answers) (text : List ℕ) (start : ℕ
     → (fault_of text ≡ None) × HaveCounted first new (commands_of text) start now
 
 -- these bytes came in, and the counter rose for their whole commands
-pub record IsRising (first now : Answers) (feeder : LineFeeder) (input left : Option (List ℕ)) (start count : ℕ)
+pub record IsRising (first now : Answers) (feeder : LineFeeder) (input left : Option (List ℕ))
+    (start count : ℕ)
     : Type 0 where
   pub text : List ℕ
   pub consumed : Consumes input left text
@@ -29,11 +30,12 @@ pub record IsRising (first now : Answers) (feeder : LineFeeder) (input left : Op
   pub fed : HasTaken feeder text
   pub taken : HaveCounted first now (commands_so_far text) start count
 
--- behind turns in which some came in, the counter rose for what came in this turn too; or nothing more came in, and it
--- rose for all
+-- behind turns in which some came in, the counter rose for what came in this turn too; or nothing more came
+-- in, and it rose for all
 abbrev pub RiseTurn : Answers → Answers → LineFeeder → LineFeeder → Option (List ℕ) → Option (List ℕ) → ℕ → ℕ
     → Option ℕ → Type 0
-RiseTurn old new feeder feeder_now mid left at now ended = (first : Answers) (input : Option (List ℕ)) (start : ℕ)
+RiseTurn old new feeder feeder_now mid left at now ended =
+    (first : Answers) (input : Option (List ℕ)) (start : ℕ)
     → IsRising first old feeder input mid start at
     → MatchOption ended (IsRising first new feeder_now input left start now)
     (λ status. RoseHeard first.session input start now)

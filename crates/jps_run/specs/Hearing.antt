@@ -1,5 +1,6 @@
 -- How far the answers to what comes in have come.
-use Rattle.std.specs.Prelude.{◌≡◌, ◌≢◌, ℕ, ◌+◌, ◌<◌, ◌≤◌, ◌^◌, ⊤, ◌++◌, List, [], length, MatchOption, Option, Some, None, Result, Ok, Err}
+use Rattle.std.specs.Prelude.{◌≡◌, ◌≢◌, ℕ, ◌+◌, ◌<◌, ◌≤◌, ◌^◌, ⊤, ◌++◌, List, [], length, MatchOption, Option}
+use Rattle.std.specs.Prelude.{Some, None, Result, Ok, Err}
 use Rattle.std.specs.Option.{option_map}
 use Rattle.std.specs.Io.KnownBytes.{Consumes}
 use Rattle.io_edge.specs.Causes.{Rose}
@@ -25,7 +26,8 @@ use Rattle.line_work.specs.declared.stop.Stop.{Stop}
 abbrev pub HasWritten : Answers → Answers → List Command → Outflow → Outflow → Type 0
 HasWritten first now commands before after = HaveWorked HasAnswered first now commands before after
 
--- all commands that are known now, with the fault that is known, by an answer and the commands that were appended
+-- all commands that are known now, with the fault that is known, by an answer and the commands that were
+-- appended
 pub record AreKnown (answer : Result (Unit {0}) ScriptFault) (earlier more all : List Command)
     (fault : Option ScriptFault) : Type 0 where
   pub others : List Command
@@ -51,7 +53,8 @@ AnswersKnown old new answer more at now result =
     (known_stops first new all fault before now) result
 
 -- these bytes came in, no line is refused, and their whole commands are answered
-pub record HasHeard (first now : Answers) (feeder : LineFeeder) (text : List ℕ) (before after : Outflow) : Type 0 where
+pub record HasHeard (first now : Answers) (feeder : LineFeeder) (text : List ℕ)
+    (before after : Outflow) : Type 0 where
   pub fed : HasTaken feeder text
   pub clean : fault_so_far text ≡ None
   pub written : HasWritten first now (commands_so_far text) before after
@@ -59,7 +62,8 @@ pub record HasHeard (first now : Answers) (feeder : LineFeeder) (text : List ℕ
 -- one piece more came in, and its whole commands are answered; or that stops
 abbrev pub HearsPiece : Answers → Answers → LineFeeder → LineFeeder → List ℕ → Outflow → Outflow
     → Result (Unit {0}) Stop → Type 0
-HearsPiece old new feeder feeder_now piece at now result = (first : Answers) (text : List ℕ) (before : Outflow)
+HearsPiece old new feeder feeder_now piece at now result =
+    (first : Answers) (text : List ℕ) (before : Outflow)
     → HasHeard first old feeder text before at
     → Ends (λ done. HasHeard first new feeder_now (text ++ piece) before now)
     (known_stops first new (commands_so_far (text ++ piece)) (fault_so_far (text ++ piece)) before now) result
@@ -68,7 +72,8 @@ HearsPiece old new feeder feeder_now piece at now result = (first : Answers) (te
 abbrev pub HearsEnd : Answers → Answers → LineFeeder → Outflow → Outflow → Result ℕ Stop → Type 0
 HearsEnd old new feeder at now result = (first : Answers) (text : List ℕ) (before : Outflow)
     → HasHeard first old feeder text before at
-    → Ends (λ status. (status ≡ 0) × (fault_of text ≡ None) × HasWritten first new (commands_of text) before now)
+    → Ends (λ status. (status ≡ 0) × (fault_of text ≡ None)
+    × HasWritten first new (commands_of text) before now)
     (known_stops first new (commands_of text) (fault_of text) before now) result
 
 -- an answer is passed on, its fault as the line of a refusal
@@ -113,11 +118,13 @@ abbrev pub Hears : Answers → Inflow → Inflow → Outflow → Outflow → Res
 Hears first input input_now before now result =
     Ends (AllIsHeard first input before now) (hear_stops first input input_now before now) result
 
--- behind turns in which some came in, what came in this turn is answered too, and more may be read; or nothing more came
--- in, and all is answered; or that stops
-abbrev pub HearsTurn : Answers → Answers → LineFeeder → LineFeeder → Inflow → Inflow → List ℕ → List ℕ → Outflow
+-- behind turns in which some came in, what came in this turn is answered too, and more may be read; or
+-- nothing more came in, and all is answered; or that stops
+abbrev pub HearsTurn : Answers → Answers → LineFeeder → LineFeeder → Inflow → Inflow → List ℕ → List ℕ
+    → Outflow
     → Outflow → Result (Option ℕ) Stop → Type 0
 HearsTurn old new feeder feeder_now mid input_now buffer buffer_now at now result =
-    (first : Answers) (input : Inflow) (before : Outflow) → IsHearing first old feeder input mid buffer before at
+    (first : Answers) (input : Inflow) (before : Outflow)
+    → IsHearing first old feeder input mid buffer before at
     → Ends (λ ended. MatchOption ended (IsHearing first new feeder_now input input_now buffer_now before now)
     (AllIsHeard first input before now)) (hear_stops first input input_now before now) result

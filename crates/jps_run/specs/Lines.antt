@@ -11,7 +11,8 @@ use Rattle.edit_replay.specs.declared.reply.EditReply.TheVariants as edit
 use Rattle.word_list.specs.declared.request.Show.{Show}
 use Rattle.word_list.specs.declared.request.Show.TheVariants.{Points, Cells, Trace, Taken}
 
--- the cells that are shown of a walk: its points, or each cell of their unfolding; the points of a right reply unfold
+-- the cells that are shown of a walk: its points, or each cell of their unfolding; the points of a right
+-- reply unfold
 abbrev pub shown_cells : Show → List Cell → List Cell
 shown_cells Points points = points
 shown_cells Trace points = points

@@ -12,7 +12,8 @@ use Rattle.jps_run.specs.Calls.{files_of}
 use Rattle.jps_run.specs.Heard.{AnswerHeard, AnswerPending, AnswerTaken, WroteAll, WroteFirst, WroteLines}
 use Rattle.jps_run.specs.Session.{IsSessionOn}
 
--- the call answers what comes in: each of its files is accepted, the map first, and of the session on it this is known
+-- the call answers what comes in: each of its files is accepted, the map first, and of the session on it this
+-- is known
 pub record OnLive (call : Call) (holds : List ℕ → Held) (Known : SessionData → Show → Type 0) : Type 0 where
   pub map : List ℕ
   pub tables : Option (List ℕ)
@@ -27,24 +28,29 @@ pub record OnLive (call : Call) (holds : List ℕ → Held) (Known : SessionData
   pub answers : IsSessionOn settings read session
   pub known : Known session settings.show
 
--- the lines are the output of a call that answers what comes in, and this is the line of its refusal, if it is refused
+-- the lines are the output of a call that answers what comes in, and this is the line of its refusal, if it
+-- is refused
 abbrev pub AreHeard : Call → (List ℕ → Held) → Option (List ℕ) → List (List ℕ) → Option (List ℕ) → Type 0
 AreHeard call holds input lines refusal = OnLive call holds (λ d show. AnswerHeard d show input refusal lines)
 
--- its lines were written; exactly those of the whole commands among the bytes that were taken; a first part of these; the
--- first ones of these, each whole
-abbrev pub WroteHeard : Call → (List ℕ → Held) → Outflow → Outflow → Option (List ℕ) → Option (List ℕ) → Type 0
+-- its lines were written; exactly those of the whole commands among the bytes that were taken; a first part
+-- of these; the first ones of these, each whole
+abbrev pub WroteHeard : Call → (List ℕ → Held) → Outflow → Outflow → Option (List ℕ)
+    → Option (List ℕ) → Type 0
 WroteHeard call holds out out_now input refusal =
     OnLive call holds (λ d show. WroteAll (AnswerHeard d show input refusal) out out_now)
 
-abbrev pub WrotePending : Call → (List ℕ → Held) → Outflow → Outflow → Option (List ℕ) → Option (List ℕ) → Type 0
+abbrev pub WrotePending : Call → (List ℕ → Held) → Outflow → Outflow → Option (List ℕ)
+    → Option (List ℕ) → Type 0
 WrotePending call holds out out_now input left =
     OnLive call holds (λ d show. WroteAll (AnswerPending d show input left) out out_now)
 
-abbrev pub WroteSomeTaken : Call → (List ℕ → Held) → Outflow → Outflow → Option (List ℕ) → Option (List ℕ) → Type 0
+abbrev pub WroteSomeTaken : Call → (List ℕ → Held) → Outflow → Outflow → Option (List ℕ)
+    → Option (List ℕ) → Type 0
 WroteSomeTaken call holds out out_now input left =
     OnLive call holds (λ d show. WroteFirst (AnswerTaken d show input left) out out_now)
 
-abbrev pub WroteLinesTaken : Call → (List ℕ → Held) → Outflow → Outflow → Option (List ℕ) → Option (List ℕ) → Type 0
+abbrev pub WroteLinesTaken : Call → (List ℕ → Held) → Outflow → Outflow → Option (List ℕ)
+    → Option (List ℕ) → Type 0
 WroteLinesTaken call holds out out_now input left =
     OnLive call holds (λ d show. WroteLines (AnswerTaken d show input left) out out_now)

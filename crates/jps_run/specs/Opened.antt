@@ -1,4 +1,5 @@
--- What a call is opened as: the work that is left to be done once its files are read. No public clause cites this module.
+-- What a call is opened as: the work that is left to be done once its files are read. No public clause cites
+-- this module.
 use Rattle.std.specs.Prelude.{◌≡◌, ℕ, ◌≤◌, ◌⊎◌, true, false, List, [], Result}
 use Rattle.io_edge.specs.Told.{Disk, Held}
 use Rattle.word_list.specs.Request.{Call}

@@ -15,7 +15,8 @@ use Rattle.walk_judge.specs.Walks.{walks_of}
 use Rattle.potential_check.specs.Text.{certificate_of, plain}
 use Rattle.potential_check.specs.declared.certificate.Certificate.{Certificate}
 use Rattle.word_list.specs.Calls.{call_of, is_call}
-use Rattle.word_list.specs.Request.{Call, Help, Version, Query, Solve, Scen, Judge, Prove, Check, Make, Drill, Draw, Costs, Tables, Boxes, Moves}
+use Rattle.word_list.specs.Request.{Call, Help, Version, Query, Solve, Scen, Judge, Prove, Check, Make, Drill}
+use Rattle.word_list.specs.Request.{Draw, Costs, Tables, Boxes, Moves}
 use Rattle.word_list.specs.Rule.{IsBadWord}
 use Rattle.word_list.specs.declared.request.Settings.{Settings}
 use Rattle.jps_run.specs.Answers.{AreAnswers, IsReplyLine}
@@ -43,22 +44,25 @@ use Rattle.jps_run.specs.declared.replies.ruling.Ruling.{Ruling}
 abbrev pub Spell : List (List ℕ) → Call → Type 0
 Spell words call = call_of words ≡ Some call
 
--- the lines and the status of a call, on the texts of its files. `loaded` is the text of the table file, where one is
--- named: a session that begins with it is that on the map
+-- the lines and the status of a call, on the texts of its files. `loaded` is the text of the table file,
+-- where one is named: a session that begins with it is that on the map
 pub data IsAnswered : Call → List (List ℕ) → List (List ℕ) → ℕ → Type 0 where
   help : (set : Settings) → IsAnswered (call_with Help set) [] (help_text ∷ []) 0
   version : (set : Settings) → IsAnswered (call_with Version set) [] (version_text ∷ []) 0
-  replied : (map text : List ℕ) (tables : Option (List ℕ)) (loaded : List (List ℕ)) (sx sy gx gy : ℕ) (set : Settings)
+  replied : (map text : List ℕ) (tables : Option (List ℕ)) (loaded : List (List ℕ)) (sx sy gx gy : ℕ)
+      (set : Settings)
       (m : Map) (line : List ℕ)
       → map_of text ≡ Ok m
       → IsReplyLine (who_on set m) set.show (record { x = sx; y = sy }) (record { x = gx; y = gy }) line
       → IsAnswered (call_with (Query map tables sx sy gx gy) set) (text ∷ loaded) (line ∷ []) 0
-  solved : (map script text second : List ℕ) (tables : Option (List ℕ)) (loaded : List (List ℕ)) (set : Settings)
+  solved : (map script text second : List ℕ) (tables : Option (List ℕ)) (loaded : List (List ℕ))
+      (set : Settings)
       (m : Map) (commands : List Command) (lines : List (List ℕ))
       → map_of text ≡ Ok m → script_of second ≡ Ok commands
       → OnSession set m (λ d. AreAnswers d set.show commands lines)
       → IsAnswered (call_with (Solve map tables script) set) (text ∷ (loaded ++ second ∷ [])) lines 0
-  judged : (map scen text second : List ℕ) (tables : Option (List ℕ)) (loaded : List (List ℕ)) (set : Settings)
+  judged : (map scen text second : List ℕ) (tables : Option (List ℕ)) (loaded : List (List ℕ))
+      (set : Settings)
       (m : Map) (entries : List Entry) (rows : List Row)
       → map_of text ≡ Ok m → scen_of second ≡ Ok entries → AreRows (who_on set m) entries rows
       → IsAnswered (call_with (Scen map tables scen) set) (text ∷ (loaded ++ second ∷ []))

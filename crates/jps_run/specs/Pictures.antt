@@ -35,7 +35,8 @@ drawing_status reply.Blocked = 1
 drawing_status (reply.None taken) = 0
 drawing_status (reply.Walk points cost taken) = 0
 
--- the text and the status are those of a right reply to the query, which is that of the run of the session's engine
+-- the text and the status are those of a right reply to the query, which is that of the run of the session's
+-- engine
 pub record IsDrawing (d : SessionData) (m : Map) (s t : Cell) (show : Show) (text : List ℕ) (status : ℕ)
     : Type 0 where
   pub reply : Reply

@@ -14,7 +14,8 @@ pub record IsOneReply (who : Who) (show : Show) (s t : Cell) (lines : List (List
   pub is : IsReplyLine who show s t line
   pub all : lines ≡ line ∷ []
 
--- what the work prints is the line of a right reply, with status 0, and it counts what the one who answers counts
+-- what the work prints is the line of a right reply, with status 0, and it counts what the one who answers
+-- counts
 pub record IsQueryWork (who : Who) (show : Show) (s t : Cell) (work : Work) : Type 0 where
   pub can : CanPerform work
   pub right : (lines : List (List ℕ)) (status : ℕ) → IsWhole work lines status

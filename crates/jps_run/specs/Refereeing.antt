@@ -1,5 +1,6 @@
 -- How far the judging of told walks has come.
-use Rattle.std.specs.Prelude.{◌≡◌, ℕ, ◌+◌, ◌^◌, ◌<◌, ◌≤◌, ◌++◌, List, [], length, count_by, codes, decimal, Option, Some, None}
+use Rattle.std.specs.Prelude.{◌≡◌, ℕ, ◌+◌, ◌^◌, ◌<◌, ◌≤◌, ◌++◌, List, [], length, count_by, codes, decimal}
+use Rattle.std.specs.Prelude.{Option, Some, None}
 use Rattle.root2_cost.specs.declared.Cost.{Cost}
 use Rattle.edit_replay.specs.declared.engine.Engine.TheVariants.{Block}
 use Rattle.edit_replay.specs.declared.reply.Reply.{Reply}
@@ -9,7 +10,8 @@ use Rattle.map_text.specs.Map.{Map}
 use Rattle.scen_text.specs.declared.entry.Entry.{Entry}
 use Rattle.word_list.specs.declared.request.Settings.{Settings}
 use Rattle.call_files.specs.Reading.{AreFit}
-use Rattle.jps_run.specs.Rulings.{AreRulings, is_accepted, is_refused, is_unjudged, judge_lines, judge_status, ruling_lines}
+use Rattle.jps_run.specs.Rulings.{AreRulings, is_accepted, is_refused, is_unjudged, judge_lines, judge_status}
+use Rattle.jps_run.specs.Rulings.{ruling_lines}
 use Rattle.call_files.specs.Layered.{corner_of}
 use Rattle.jps_run.specs.declared.replies.referee.Court.{Court}
 use Rattle.jps_run.specs.declared.replies.referee.Referee.{Referee}
@@ -68,8 +70,8 @@ pub record IsReady (job : Referee) (entries : ℕ) : Type 0 where
   pub none : job.counts ≡ counts_of []
   pub enough : entries ≤ length job.walks.items
 
--- the session is that of the layers, the walks can be judged, the rows are counted, and walks and room are left for
--- so many more
+-- the session is that of the layers, the walks can be judged, the rows are counted, and walks and room are
+-- left for so many more
 pub record CanGoOn (job : Referee) (more : ℕ) : Type 0 where
   pub same : job.court.session.layers ≡ job.court.layers
   pub fit : AreFit job.walks.items
@@ -78,7 +80,8 @@ pub record CanGoOn (job : Referee) (more : ℕ) : Type 0 where
   pub few : job.counts.rows + more < 2 ^ 64
 
 -- the lines are a row for each entry and the sum, and the status is that of the rows
-pub record IsRefereed (first : Referee) (entries : List Entry) (lines : List (List ℕ)) (status : ℕ) : Type 0 where
+pub record IsRefereed (first : Referee) (entries : List Entry) (lines : List (List ℕ))
+    (status : ℕ) : Type 0 where
   pub rulings : List Ruling
   pub are : AreRulings first.court.layers entries first.walks.items rulings
   pub all : lines ≡ judge_lines rulings

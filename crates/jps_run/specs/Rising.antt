@@ -5,8 +5,9 @@ use Rattle.edit_replay.specs.Counting.{RoseByStates, RoseWithin}
 use Rattle.edit_replay.specs.declared.reply.Reply.{Reply}
 use Rattle.jps_run.specs.Who.{Who, IsReplyBy, fewest_by, most_by}
 
--- the counter rose for what comes to a right reply to the query: by at least the fewest steps for each state that is
--- taken away from the goal, and, where a most is told, by no more than that for each state that is taken
+-- the counter rose for what comes to a right reply to the query: by at least the fewest steps for each state
+-- that is taken away from the goal, and, where a most is told, by no more than that for each state that is
+-- taken
 pub record RoseForQuery (who : Who) (s t : Cell) (old new : ℕ) : Type 0 where
   pub reply : Reply
   pub is_reply : IsReplyBy who s t reply

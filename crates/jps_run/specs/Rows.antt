@@ -1,5 +1,6 @@
 -- The rows that judge a scenario.
-use Rattle.std.specs.Prelude.{◌≡◌, ℕ, ◌+◌, Bool, true, false, nat_eq, ◌&&◌, ◌||◌, if◌then◌else◌, List, [], ◌∷◌, ◌++◌, length, codes, decimal, count_by}
+use Rattle.std.specs.Prelude.{◌≡◌, ℕ, ◌+◌, Bool, true, false, nat_eq, ◌&&◌, ◌||◌, if◌then◌else◌, List, []}
+use Rattle.std.specs.Prelude.{◌∷◌, ◌++◌, length, codes, decimal, count_by}
 use Rattle.std.specs.List.{list_all, sum_by}
 use Rattle.root2_cost.specs.declared.lengths.Decimal.{Decimal}
 use Rattle.root2_cost.specs.declared.lengths.Verdict.{Verdict}
@@ -36,7 +37,8 @@ pub data IsRow (who : Who) (entry : Entry) (r : Row) : Type 0 where
 
 -- one row for each entry, by the one who answers
 abbrev pub AreRows : Who → List Entry → List Row → Type 0
-AreRows who entries rows = AreInTurn {S = Unit {0}} (λ _ entry r. IsRow who entry r) (λ s _. s) tt entries rows
+AreRows who entries rows = AreInTurn {S = Unit {0}} (λ _ entry r. IsRow who entry r) (λ s _. s) tt
+    entries rows
 
 -- a verdict's word
 abbrev pub verdict_text : Verdict → List ℕ
@@ -58,7 +60,8 @@ row_text show row.Outside = codes "outside"
 row_text show row.Blocked = codes "blocked"
 row_text show (row.None taken) = codes "none" ++ count_text show taken
 row_text show (row.Judged verdict cost taken) =
-    verdict_text verdict ++ codes " " ++ decimal cost.a ++ codes " " ++ decimal cost.b ++ count_text show taken
+    verdict_text verdict ++ codes " " ++ decimal cost.a ++ codes " " ++ decimal cost.b
+    ++ count_text show taken
 
 -- the line of the row with this number
 abbrev pub row_line : Show → ℕ → Row → List ℕ

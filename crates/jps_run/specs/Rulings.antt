@@ -1,5 +1,6 @@
 -- The rows that judge what another program tells of a scenario's entries.
-use Rattle.std.specs.Prelude.{◌≡◌, ℕ, ◌+◌, Bool, true, false, nat_eq, if◌then◌else◌, List, [], ◌∷◌, ◌++◌, length, codes, decimal, count_by}
+use Rattle.std.specs.Prelude.{◌≡◌, ℕ, ◌+◌, Bool, true, false, nat_eq, if◌then◌else◌, List, [], ◌∷◌, ◌++◌}
+use Rattle.std.specs.Prelude.{length, codes, decimal, count_by}
 use Rattle.root2_cost.specs.declared.Cost.{Cost}
 use Rattle.grid_moves.specs.declared.Cell.{Cell}
 use Rattle.grid_moves.specs.Layers.{Layers, query_grid}
@@ -28,8 +29,8 @@ start_of entry = record { x = entry.sx; y = entry.sy }
 abbrev pub goal_of : Entry → Cell
 goal_of entry = record { x = entry.gx; y = entry.gy }
 
--- the row of an entry and of what is told of it: the entry is meant for another size; or an end lies outside, or
--- is blocked; else what is told is judged so on the grid of the query
+-- the row of an entry and of what is told of it: the entry is meant for another size; or an end lies outside,
+-- or is blocked; else what is told is judged so on the grid of the query
 pub data IsRuling (ls : Layers) (entry : Entry) (told : Told) (r : Ruling) : Type 0 where
   scale : has_sides ls entry ≡ false → r ≡ ruling.Scale → IsRuling ls entry told r
   outside : has_sides ls entry ≡ true → IsRight ls (start_of entry) (goal_of entry) answer.outside

@@ -1,5 +1,5 @@
--- Who answers a call, as its settings ask; and what the commands know of a session: its plain data, what it replies, and
--- what edits make of it.
+-- Who answers a call, as its settings ask; and what the commands know of a session: its plain data, what it
+-- replies, and what edits make of it.
 use Rattle.std.specs.Prelude.{◌≡◌, ℕ, false, List}
 use Rattle.grid_moves.specs.declared.Cell.{Cell}
 use Rattle.map_text.specs.Map.{Map}
@@ -28,7 +28,8 @@ by_of Moves = by_moves
 abbrev pub who_on : Settings → Map → Who
 who_on set m = record { layers = layers_on set m; by = by_of set.pick }
 
--- the session is the one that answers on a map, as the settings ask; there is none where they pick an engine of small maps
+-- the session is the one that answers on a map, as the settings ask; there is none where they pick an engine
+-- of small maps
 abbrev pub IsSessionOn : Settings → Map → SessionData → Type 0
 IsSessionOn set m d = who_is d ≡ who_on set m
 

@@ -39,10 +39,13 @@ help_text =
     ++ codes "  jps --version\n"
     ++ codes "      the version\n"
     ++ codes "\n"
-    ++ codes "A cell is its column and its row, which count from 0 in the upper left. `walk A B` is a walk of A\n"
-    ++ codes "straight and B diagonal moves; its points follow: its first cell, its last cell, and each cell at\n"
+    ++ codes
+    "A cell is its column and its row, which count from 0 in the upper left. `walk A B` is a walk of A\n"
+    ++ codes
+    "straight and B diagonal moves; its points follow: its first cell, its last cell, and each cell at\n"
     ++ codes "which it turns, or by an engine that jumps each cell at which a jump stopped. show=cells shows each of\n"
-    ++ codes "its cells, show=trace each state that the search took as well: a cell, and how it was come to.\n"
+    ++ codes
+    "its cells, show=trace each state that the search took as well: a cell, and how it was come to.\n"
     ++ codes "ENGINE is plain, where none is named, jps, block or plus. Walks cost the same by each: jps jumps cell by\n"
     ++ codes "cell, block over 512 cells at a time, plus by tables that are made when the map is read.\n"
     ++ codes "tables=FILE beside engine=plus takes the tables that `jps tables` wrote to FILE; those of another map, of\n"

@@ -44,11 +44,12 @@ HasRisen (work.Encode file) old new = ⊤
 HasRisen (work.Print text status) old new = old ≤ new
 HasRisen (work.Say text) old new = ⊤
 
--- the work can be done: queries can be answered, the lengths of entries can be judged, nothing is summed up yet, the sums
--- of a drill have room, and so has a piece of a table file
+-- the work can be done: queries can be answered, the lengths of entries can be judged, nothing is summed up
+-- yet, the sums of a drill have room, and so has a piece of a table file
 abbrev pub CanPerform : Work → Type 0
 CanPerform (work.Answer job commands) = ⊤
-CanPerform (work.Judge job entries) = CanAnswer job.answerer × AreKept entries.items × (job.tally ≡ tally_of [])
+CanPerform (work.Judge job entries) = CanAnswer job.answerer × AreKept entries.items
+    × (job.tally ≡ tally_of [])
 CanPerform (work.Referee job entries) = IsReady job (length entries.items)
 CanPerform (work.Drill job commands) = (length commands.items ≤ 2 ^ 32) × (job.sums ≡ sums_of [])
 CanPerform (work.Draw canvas ends show) = ⊤

@@ -1,5 +1,6 @@
 -- The words around a cell.
-use Rattle.std.proofs.Common.{◌≡◌, ℕ, zero, suc, ◌+◌, ◌-◌, ◌*◌, ◌/◌, ◌%◌, ◌<◌, arith, Bool, true, ◌&&◌, refl, ap, sym, ◌∙◌, subst, bit_and}
+use Rattle.std.proofs.Common.{◌≡◌, ℕ, zero, suc, ◌+◌, ◌-◌, ◌*◌, ◌/◌, ◌%◌, ◌<◌, arith, Bool, true, ◌&&◌, refl}
+use Rattle.std.proofs.Common.{ap, sym, ◌∙◌, subst, bit_and}
 use Rattle.std.specs.Prelude.{Option, Some, None, IfSome, is_some}
 use Rattle.grid_moves.specs.declared.Cell.{Cell}
 use Rattle.grid_moves.specs.declared.Corner.{Corner}
@@ -27,7 +28,8 @@ use Rattle.jump_block.proofs.Directions.{is_open_there}
 use Rattle.jump_block.proofs.Rings.{leads_by}
 
 -- they are what a trail has there
-pub words_trail : (free : ℕ → ℕ → Bool) (way : Way) (line from place : ℕ) (w : Words) → AreNear free line place w
+pub words_trail : (free : ℕ → ℕ → Bool) (way : Way) (line from place : ℕ) (w : Words)
+    → AreNear free line place w
     → AreWordsOf (trail_on free way line from) way from (place / 64 * 64) w
 words_trail free way line from place w is = record {
   middle = λ j k h m. is.middle j h
@@ -42,7 +44,8 @@ words_trail free way line from place w is = record {
 pub near_read : (free : ℕ → ℕ → Bool) (line word : ℕ) (w : Words)
     → ((j : ℕ) → j < 64 → is_set w.middle j ≡ free line (word * 64 + j))
     → ((j : ℕ) → j < 64 → is_set w.before j ≡ free (line - 1) (word * 64 + j))
-    → ((j : ℕ) → j < 64 → is_set w.after j ≡ free (line + 1) (word * 64 + j)) → AreNear free line (word * 64) w
+    → ((j : ℕ) → j < 64 → is_set w.after j ≡ free (line + 1) (word * 64 + j))
+    → AreNear free line (word * 64) w
 near_read free line word w middle before after =
     let same : word * 64 ≡ word * 64 / 64 * 64 = omega arith in
     record {
@@ -86,12 +89,13 @@ module _ (free : ℕ → ℕ → Bool) (way : Way) (rule : Corner) (line from ne
     (told : (t : Trail) (from base : ℕ) → AreWordsOf t way from base words
     → AreEdgesOf t way from (near way base) first
     → (j k : ℕ) → j < 64 → Meets way from (base + j) (suc k) → is_set found j ≡ halts t k)
-    (clear : IsClear (begun rule (trail_on free way line from)) (moves_before way from (far way (from / 64 * 64)))) where
+    (clear : IsClear (begun rule (trail_on free way line from))
+    (moves_before way from (far way (from / 64 * 64)))) where
   first_there : AreWordsOf (begun rule (trail_on free way line from)) way from (from / 64 * 64) first
   first_there =
       let same : from / 64 * 64 + from % 64 ≡ from = omega arith in
-      subst (λ (f : ℕ). AreWordsOf (begun rule (trail_on free way line from)) way f (from / 64 * 64) first) same
-      (begins (trail_on free way line from) way (from / 64 * 64)
+      subst (λ (f : ℕ). AreWordsOf (begun rule (trail_on free way line from)) way f (from / 64 * 64) first)
+      same (begins (trail_on free way line from) way (from / 64 * 64)
       (subst (λ (f : ℕ). AreWordsOf (trail_on free way line from) way f (from / 64 * 64) own) (sym same)
       (words_trail free way line from from own is)))
 
@@ -106,15 +110,18 @@ module _ (free : ℕ → ℕ → Bool) (way : Way) (rule : Corner) (line from ne
       let later = later_there way from next per_line more follows in
       record {
         middle = there.middle;
-        before = own_later way rule (trail_on free way line from).before from (next * 64) words.before later there.before;
-        after = own_later way rule (trail_on free way line from).after from (next * 64) words.after later there.after;
+        before = own_later way rule (trail_on free way line from).before from (next * 64) words.before later
+            there.before;
+        after = own_later way rule (trail_on free way line from).after from (next * 64) words.after later
+            there.after;
       }
 
   pub next_found : IsFound (begun rule (trail_on free way line from)) way from (next * 64)
       (moves_before way from (near way (next * 64))) words.middle found
   next_found = found_further (begun rule (trail_on free way line from)) way from (next * 64) found words first
       next_there (rw edge_is (edge_ahead way from)) (record {
-        edges = rw edge_is (edges_of (begun rule (trail_on free way line from)) way from (from / 64 * 64) first
+        edges =
+            rw edge_is (edges_of (begun rule (trail_on free way line from)) way from (from / 64 * 64) first
             first_there);
         clear = rw edge_is clear;
       }) told
@@ -156,7 +163,8 @@ passable_turned Never a b = grind arith
 passable_turned One a b = grind arith
 
 -- three of their bits tell whether a diagonal move is legal
-module _ (g : GridData) (x : Cell) (free : is_free g x ≡ true) (rule : Corner) (same : rule ≡ g.corner) (w : Words)
+module _ (g : GridData) (x : Cell) (free : is_free g x ≡ true) (rule : Corner) (same : rule ≡ g.corner)
+    (w : Words)
     (is : AreNear (by_rows g) (x.y + 1) (x.x + 1) w) where
   abbrev told_by_bits : ℕ → Dir → Bool
   told_by_bits place d = is_set (side_word (column_way d) w) (next_bit (row_way d) place)

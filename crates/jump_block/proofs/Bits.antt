@@ -1,11 +1,14 @@
 -- Bits of words: shifted with a carry, the first that is set, and those past a place.
-use Rattle.std.proofs.Common.{◌≡◌, ℕ, suc, ◌+◌, ◌*◌, ◌-◌, ◌/◌, ◌%◌, ◌^◌, ◌<◌, ◌≤◌, ◌⊎◌, inl, inr, arith, Bool, true, false, not, ◌&&◌, refl, ap, sym, ◌∙◌, bit_and, w64}
+use Rattle.std.proofs.Common.{◌≡◌, ℕ, suc, ◌+◌, ◌*◌, ◌-◌, ◌/◌, ◌%◌, ◌^◌, ◌<◌, ◌≤◌, ◌⊎◌, inl, inr, arith, Bool}
+use Rattle.std.proofs.Common.{true, false, not, ◌&&◌, refl, ap, sym, ◌∙◌, bit_and, w64}
 use Rattle.std.specs.Prelude.{nat_eq, nat_lt}
 use Rattle.std.specs.Int.{bit_at}
 use Rattle.std.specs.Int.Count.{count_leading_zeros, count_trailing_zeros}
 use Rattle.std.proofs.lemmas.Bool.Decides.{nat_tests}
 use Rattle.std.proofs.lemmas.Nat.{leading_top, one_shl, pow_pos, le-div, div_below, shr_le}
-use Rattle.std.proofs.lemmas.Nat.Bits.{bit_at_above, bit_at_cat_low, bit_at_cat_high, bit_at-zero, bit_at_lowest, bit_at-trailing_zeros, bit_at_ones, bit_at_ones_above, bit_at-pow_same, bit_at-pow_other, ones_shr}
+use Rattle.std.proofs.lemmas.Nat.Bits.{bit_at_above, bit_at_cat_low, bit_at_cat_high, bit_at-zero}
+use Rattle.std.proofs.lemmas.Nat.Bits.{bit_at_lowest, bit_at-trailing_zeros, bit_at_ones, bit_at_ones_above}
+use Rattle.std.proofs.lemmas.Nat.Bits.{bit_at-pow_same, bit_at-pow_other, ones_shr}
 use Rattle.std.proofs.Math.Nat.{pow-succ'}
 use Rattle.std.proofs.lemmas.Bool.{cases_lt}
 use Rattle.bit_grid.specs.Bits.{is_set}
@@ -89,7 +92,8 @@ set_above place j h k =
     ∙ ap (λ (n : ℕ). not (is_set n j)) ones ∙ by_place (cases_lt j (place + 1))
   where
     by_place : (j < place + 1) ⊎ (place + 1 ≤ j) → not (is_set (2 ^ (place + 1) - 1) j) ≡ nat_lt place j
-    by_place (inl l) = ap (λ (n : ℕ). not (nat_eq n 1)) (bit_at_ones (place + 1) j l) ∙ grind (arith, nat_tests)
+    by_place (inl l) = ap (λ (n : ℕ). not (nat_eq n 1)) (bit_at_ones (place + 1) j l)
+        ∙ grind (arith, nat_tests)
     by_place (inr l) =
         ap (λ (n : ℕ). not (nat_eq n 1)) (bit_at_ones_above (place + 1) j l) ∙ grind (arith, nat_tests)
 

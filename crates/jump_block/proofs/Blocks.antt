@@ -1,5 +1,7 @@
 -- The search of a block, word by word.
-use Rattle.std.proofs.Common.{◌≡◌, ℕ, zero, suc, ◌+◌, ◌*◌, ◌-◌, ◌/◌, ◌^◌, ◌<◌, ◌≤◌, ◌⊎◌, inl, inr, arith, Bool, true, false, not, ◌&&◌, refl, ap, sym, ◌∙◌, subst, bit_and, slice_index_or}
+use Rattle.std.proofs.Common.{◌≡◌, ℕ, zero, suc, ◌+◌, ◌*◌, ◌-◌, ◌/◌, ◌^◌, ◌<◌, ◌≤◌, ◌⊎◌, inl, inr, arith}
+use Rattle.std.proofs.Common.{Bool, true, false, not, ◌&&◌, refl, ap, sym, ◌∙◌, subst, bit_and}
+use Rattle.std.proofs.Common.{slice_index_or}
 use Rattle.std.specs.Prelude.{nat_eq}
 use Rattle.std.proofs.lemmas.Bool.{cases_lt}
 use Rattle.std.proofs.lemmas.Bool.Decides.{nat_tests}
@@ -14,7 +16,9 @@ use Rattle.jump_block.specs.declared.word.Way.TheVariants.{Forward, Back}
 use Rattle.jump_block.specs.declared.word.Words.{Words}
 use Rattle.jump_block.specs.declared.block.Block.{Block}
 use Rattle.jump_block.specs.Trail.{Trail, IsClear, Halts, halts, at_start, begun}
-use Rattle.jump_block.specs.Word.{Meets, IsWordOf, AreWordsOf, IsEdgeOf, AreEdgesOf, IsOpened, IsBlockOf, IsFound, IsAhead, near, far, moves_before, moves_short_of, is_past, nth_word, edge_before, words_of}
+use Rattle.jump_block.specs.Word.{Meets, IsWordOf, AreWordsOf, IsEdgeOf, AreEdgesOf, IsOpened, IsBlockOf}
+use Rattle.jump_block.specs.Word.{IsFound, IsAhead, near, far, moves_before, moves_short_of, is_past}
+use Rattle.jump_block.specs.Word.{nth_word, edge_before, words_of}
 use Rattle.jump_block.specs.Eight.{IsAllAs, last_bit}
 use Rattle.jump_block.specs.Seek.{HasPassed}
 use Rattle.jump_block.proofs.Words.{halts_there}
@@ -127,7 +131,8 @@ places_there Forward from base a k h l = (from + suc k - base, omega arith, omeg
 places_there Back from base a k h l = (from - (base + suc k), omega arith, omega arith)
 
 -- a word that the way comes to from another
-pub found_further : (t : Trail) (way : Way) (from base found : ℕ) (w last : Words) → AreWordsOf t way from base w
+pub found_further : (t : Trail) (way : Way) (from base found : ℕ) (w last : Words)
+    → AreWordsOf t way from base w
     → IsAhead way from (near way base) → HasPassed t way from (near way base) last
     → ((t : Trail) (from base : ℕ) → AreWordsOf t way from base w → AreEdgesOf t way from (near way base) last
     → (j k : ℕ) → j < 64 → Meets way from (base + j) (suc k) → is_set found j ≡ halts t k)
@@ -141,7 +146,8 @@ found_further t way from base found w last are ahead passed told = record {
 }
 
 pub passed_further : (t : Trail) (way : Way) (from base found : ℕ) (w last : Words)
-    → AreWordsOf t way from base w → IsAhead way from (near way base) → HasPassed t way from (near way base) last
+    → AreWordsOf t way from base w → IsAhead way from (near way base)
+    → HasPassed t way from (near way base) last
     → ((t : Trail) (from base : ℕ) → AreWordsOf t way from base w → AreEdgesOf t way from (near way base) last
     → (j k : ℕ) → j < 64 → Meets way from (base + j) (suc k) → is_set found j ≡ halts t k)
     → found ≡ 0 → HasPassed t way from (far way base) w
@@ -153,8 +159,8 @@ passed_further t way from base found w last are ahead passed told none = record 
 
 -- the i-th word of a block
 module _ (t : Trail) (way : Way) (from start i n found : ℕ) (b : Block) (w last : Words)
-    (block : IsBlockOf t way from start i b) (low : i ≤ n) (high : n < 8) (words : w ≡ words_of b (nth_word way n))
-    (ahead : IsAhead way from (edge_before way start i))
+    (block : IsBlockOf t way from start i b) (low : i ≤ n) (high : n < 8)
+    (words : w ≡ words_of b (nth_word way n)) (ahead : IsAhead way from (edge_before way start i))
     (passed : HasPassed t way from (edge_before way start n) last)
     (told : (t : Trail) (from base : ℕ) → AreWordsOf t way from base w
     → AreEdgesOf t way from (near way base) last
@@ -173,11 +179,13 @@ module _ (t : Trail) (way : Way) (from start i n found : ℕ) (b : Block) (w las
 
   pub nth_found : IsFound t way from (start + nth_word way n * 64)
       (moves_before way from (near way (start + nth_word way n * 64))) w.middle found
-  nth_found = found_further t way from (start + nth_word way n * 64) found w last are ahead_here passed_here told
+  nth_found = found_further t way from (start + nth_word way n * 64) found w last are ahead_here
+      passed_here told
 
   pub nth_passed : found ≡ 0 → HasPassed t way from (edge_before way start (n + 1)) w
   nth_passed none = rw (← ends way start n high)
-      (passed_further t way from (start + nth_word way n * 64) found w last are ahead_here passed_here told none)
+      (passed_further t way from (start + nth_word way n * 64) found w last are ahead_here passed_here
+      told none)
 
 -- a side that is as it was before does not open
 steady : (a b c : Bool) → a ≡ c → b ≡ c → false ≡ (not a && b)
@@ -350,7 +358,8 @@ module _ (t : Trail) (rule : Corner) (way : Way) (start place w found halting ov
   far_edge Back = omega arith
 
   pub start_passed : found ≡ 0
-      → HasPassed (begun rule t) way (start + w * 64 + place) (edge_before way start (nth_word way w + 1)) words
+      → HasPassed (begun rule t) way (start + w * 64 + place) (edge_before way start (nth_word way w + 1))
+      words
   start_passed none = rw (← far_edge way) (record {
     edges = edges_of (begun rule t) way (start + w * 64 + place) (start + w * 64) words are;
     clear = word_clear t rule way (start + w * 64) place found halting over words last low are told masked
@@ -364,7 +373,8 @@ start_ahead Forward start w place h k = omega arith
 start_ahead Back start w place h k = omega arith
 
 -- a word of a block by its own number
-pub word_there : (t : Trail) (way : Way) (from start w : ℕ) (b : Block) → IsBlockOf t way from start 0 b → w < 8
+pub word_there : (t : Trail) (way : Way) (from start w : ℕ) (b : Block) → IsBlockOf t way from start 0 b
+    → w < 8
     → AreWordsOf t way from (start + w * 64) (words_of b w)
 word_there t way from start w b block h =
     subst (λ (v : ℕ). AreWordsOf t way from (start + v * 64) (words_of b v)) (twice way)

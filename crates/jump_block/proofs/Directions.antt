@@ -1,5 +1,6 @@
 -- Scans on a grid, in each straight direction.
-use Rattle.std.proofs.Common.{◌≡◌, ◌≢◌, ℕ, zero, suc, ◌+◌, ◌-◌, ◌<◌, arith, Bool, true, false, not, ◌||◌, refl, ap, sym, ◌∙◌, subst}
+use Rattle.std.proofs.Common.{◌≡◌, ◌≢◌, ℕ, zero, suc, ◌+◌, ◌-◌, ◌<◌, arith, Bool, true, false, not, ◌||◌}
+use Rattle.std.proofs.Common.{refl, ap, sym, ◌∙◌, subst}
 use Rattle.std.specs.Prelude.{Option, Some, is_some, nat_eq}
 use Rattle.std.proofs.lemmas.Bool.Decides.{nat_tests}
 use Rattle.grid_moves.specs.declared.Cell.{Cell}
@@ -135,7 +136,8 @@ module _ (g : GridData) (x : Cell) (free : is_free g x ≡ true) where
   }
 
 same_sides : (a b c d : Bool) → a ≡ c → b ≡ d
-    → (let s : Sides = record { right = a; left = b } in s) ≡ (let s : Sides = record { right = c; left = d } in s)
+    → (let s : Sides = record { right = a; left = b } in s)
+    ≡ (let s : Sides = record { right = c; left = d } in s)
 same_sides a b c d e f = rw (e, f) refl
 
 -- after the start the sides are the trail's own
@@ -177,7 +179,8 @@ north_ahead g x zero m e h = absurd (cc)
 north_ahead g x (suc n) m e h = let same : n ≡ m = omega arith in ap (λ (k : ℕ). Some (cell x k)) same
 
 -- a straight run along a line: where its cells stand, and what lies to their right and left
-module _ (g : GridData) (x : Cell) (d : Dir) (rule : Corner) (straight : is_diagonal d ≡ false) (r : rule ≡ g.corner)
+module _ (g : GridData) (x : Cell) (d : Dir) (rule : Corner) (straight : is_diagonal d ≡ false)
+    (r : rule ≡ g.corner)
     (free : is_free g x ≡ true) (whole : IsGrid g) (place : ℕ → Cell) (t : Trail) (right left : ℕ → Bool)
     (starts : place 0 ≡ x) (begins : t.free 0 ≡ true)
     (open_is : (k : ℕ) → t.free (suc k) ≡ is_open g (place k) d)
@@ -198,7 +201,8 @@ module _ (g : GridData) (x : Cell) (d : Dir) (rule : Corner) (straight : is_diag
       by_rule : (r : Corner)
           → (let s : Sides = record { right = at_start r right 0; left = at_start r left 0 } in s)
           ≡ first_sides r g x d
-      by_rule Never = same_sides _ _ _ _ (at Right (right 0) (right_is 0 begins)) (at Left (left 0) (left_is 0 begins))
+      by_rule Never = same_sides _ _ _ _ (at Right (right 0) (right_is 0 begins))
+          (at Left (left 0) (left_is 0 begins))
       by_rule One = refl
 
   told_line : IsTold g x d rule (begun rule t)
@@ -218,17 +222,22 @@ module _ (g : GridData) (x : Cell) (rule : Corner) (r : rule ≡ g.corner) (free
   starts_free p q e f = free_from_one g x.x x.y p q e f ∙ free
 
   told_east : IsTold g x E rule (begun rule (trail_of g E x))
-  told_east = told_line g x E rule refl r free whole (λ k. cell (x.x + k) x.y) (trail_of g E x) (trail_of g E x).after
-      (trail_of g E x).before (ap (λ (n : ℕ). cell n x.y) (omega arith)) (starts_free _ _ (omega arith) (omega arith))
+  told_east = told_line g x E rule refl r free whole (λ k. cell (x.x + k) x.y) (trail_of g E x)
+      (trail_of g E x).after
+      (trail_of g E x).before (ap (λ (n : ℕ). cell n x.y) (omega arith))
+      (starts_free _ _ (omega arith) (omega arith))
       (λ k. is_open_there g E (x.x + k) x.y _ _ (omega arith) (omega arith))
       (λ k h. let next : x.x + k + 1 ≡ x.x + suc k = omega arith in ap (λ (n : ℕ). Some (cell n x.y)) next)
       (λ k f. is_open_there g S (x.x + k) x.y _ _ (omega arith) (omega arith))
-      (λ k f. is_open_there g N (x.x + k) x.y _ _ (omega arith) (omega arith)) (λ k. other_side (not ((trail_of g E x).free (suc k)))
+      (λ k f. is_open_there g N (x.x + k) x.y _ _ (omega arith) (omega arith))
+      (λ k. other_side (not ((trail_of g E x).free (suc k)))
       (opens (begun rule (trail_of g E x)).before k) (opens (begun rule (trail_of g E x)).after k))
 
   told_west : IsTold g x W rule (begun rule (trail_of g W x))
-  told_west = told_line g x W rule refl r free whole (λ k. cell (x.x - k) x.y) (trail_of g W x) (trail_of g W x).before
-      (trail_of g W x).after (ap (λ (n : ℕ). cell n x.y) (omega arith)) (starts_free _ _ (omega arith) (omega arith))
+  told_west = told_line g x W rule refl r free whole (λ k. cell (x.x - k) x.y) (trail_of g W x)
+      (trail_of g W x).before
+      (trail_of g W x).after (ap (λ (n : ℕ). cell n x.y) (omega arith))
+      (starts_free _ _ (omega arith) (omega arith))
       (λ k. is_open_there g W (x.x - k) x.y _ _ (omega arith) (omega arith))
       (λ k h. west_ahead g (x.x - k) (x.x - suc k) x.y (omega arith) h)
       (λ k f. let on_map = no_border_column g (x.x + 1 - k) (x.y + 1) f in
@@ -254,7 +263,8 @@ module _ (g : GridData) (x : Cell) (rule : Corner) (r : rule ≡ g.corner) (free
       (λ k f. let on_map = no_border_row g (x.x + 1) (x.y + 1 - k) f in
       is_open_there g E x.x (x.y - k) _ _ (omega arith) (omega arith))
       (λ k f. let on_map = no_border_row g (x.x + 1) (x.y + 1 - k) f in
-      is_open_there g W x.x (x.y - k) _ _ (omega arith) (omega arith)) (λ k. other_side (not ((trail_of g N x).free (suc k)))
+      is_open_there g W x.x (x.y - k) _ _ (omega arith) (omega arith))
+      (λ k. other_side (not ((trail_of g N x).free (suc k)))
       (opens (begun rule (trail_of g N x)).before k) (opens (begun rule (trail_of g N x)).after k))
 
 -- a line and a place on it, counted from 1, by equal numbers
@@ -294,7 +304,8 @@ mark_on g x d rule h r f whole goal off marked met =
     ∙ ap (λ (o : Option ℕ). is_some o) ((told_on g x d rule h r f whole 0 (Some met.0) met.1).0
     ∙ ap (λ (n : ℕ). stop_of (reach_of g x d) n) (sym off) ∙ sym (straight_stop g goal x d h))
   where
-    shown : (b : Bool) → not b ≡ is_some (block.stop_of rule (Some (record { passed = met.0.passed; blocked = b })) 0)
+    shown : (b : Bool)
+        → not b ≡ is_some (block.stop_of rule (Some (record { passed = met.0.passed; blocked = b })) 0)
     shown true = refl
     shown false = refl
 

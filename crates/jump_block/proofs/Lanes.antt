@@ -1,12 +1,14 @@
 -- Eight words at once, lane by lane.
-use Rattle.std.proofs.Common.{◌≡◌, ℕ, ◌+◌, ◌-◌, ◌%◌, ◌<◌, arith, Bool, true, refl, ap, sym, ◌∙◌, bit_or, bit_xor, map, List, [], ◌∷◌, length, slice_index_or}
+use Rattle.std.proofs.Common.{◌≡◌, ℕ, ◌+◌, ◌-◌, ◌%◌, ◌<◌, arith, Bool, true, refl, ap, sym, ◌∙◌, bit_or}
+use Rattle.std.proofs.Common.{bit_xor, map, List, [], ◌∷◌, length, slice_index_or}
 use Rattle.std.specs.Prelude.{nat_eq, take, replicate}
 use Rattle.std.specs.Int.{bit_at}
 use Rattle.std.specs.Simd.Lanes.{zip2, fold_l, Each1}
 use Rattle.std.proofs.lemmas.List.{get_or-map, length-map}
 use Rattle.std.proofs.lemmas.Nat.{le_or_l, le_or_r}
 use Rattle.std.proofs.lemmas.Nat.Bits.{bit_at-lt, bit_at-zero, bit_at_ones, bit_at_xor}
-use Rattle.std.proofs.lemmas.Simd.{get_or-zip2, length-zip2, get_or-replicate, length-replicate, get_or-chunk, length-chunk, Each1-get_or}
+use Rattle.std.proofs.lemmas.Simd.{get_or-zip2, length-zip2, get_or-replicate, length-replicate, get_or-chunk}
+use Rattle.std.proofs.lemmas.Simd.{length-chunk, Each1-get_or}
 use Rattle.bit_grid.specs.Bits.{is_set}
 use Rattle.jump_block.specs.Eight.{HasNone, IsAllAs}
 

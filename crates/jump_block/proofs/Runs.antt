@@ -1,5 +1,6 @@
 -- What a scan finds, told of the grid: along a run from a cell, by the cells after so many moves.
-use Rattle.std.proofs.Common.{◌≡◌, ℕ, zero, suc, ◌+◌, ◌<◌, ◌≤◌, arith, Bool, true, false, not, ◌&&◌, ◌||◌, refl, ap, sym, ◌∙◌}
+use Rattle.std.proofs.Common.{◌≡◌, ℕ, zero, suc, ◌+◌, ◌<◌, ◌≤◌, arith, Bool, true, false, not, ◌&&◌, ◌||◌}
+use Rattle.std.proofs.Common.{refl, ap, sym, ◌∙◌}
 use Rattle.std.specs.Prelude.{Option, Some, None, is_some, nat_lt, nat_le, min, if◌then◌else◌}
 use Rattle.std.proofs.lemmas.Bool.Decides.{nat_tests}
 use Rattle.grid_moves.specs.declared.Cell.{Cell}
@@ -29,8 +30,8 @@ none_if : (o : Option Cell) → is_some o ≡ false → o ≡ None
 none_if None h = refl
 none_if (Some v) h = absurd (cc)
 
--- so many cells ahead: where each stands, whether it is free, and its sides, those of the first cell as a scan
--- begins
+-- so many cells ahead: where each stands, whether it is free, and its sides, those of the first cell as a
+-- scan begins
 module _ (g : GridData) (x : Cell) (d : Dir) (h : is_diagonal d ≡ false) (rule : Corner) (r : rule ≡ g.corner)
     (place : ℕ → Cell) (free : ℕ → Bool) (sides : ℕ → Sides) (starts : place 0 ≡ x)
     (start_free : is_free g x ≡ true)
@@ -57,7 +58,8 @@ module _ (g : GridData) (x : Cell) (d : Dir) (h : is_diagonal d ≡ false) (rule
       ∙ ap (λ (v : Cell). Some v) (one_of _ _ (sym l.1.ahead_is ∙ goes k (open_is k ∙ e)))
 
   stays_there : (k : ℕ) → is_free g (place k) ≡ true → free (suc k) ≡ false → legal_ahead g (place k) d ≡ None
-  stays_there k f e = none_if (legal_ahead g (place k) d) (can_move-straight g (place k) d f h ∙ open_is k ∙ e)
+  stays_there k f e = none_if (legal_ahead g (place k) d) (can_move-straight g (place k) d f h
+      ∙ open_is k ∙ e)
 
   free_and_shut : (a b : Bool) → (not a || b) ≡ false → (a ≡ true) × (b ≡ false)
   free_and_shut true b e = (refl, e)
@@ -77,8 +79,11 @@ module _ (g : GridData) (x : Cell) (d : Dir) (h : is_diagonal d ≡ false) (rule
       let before = comes k (λ m l. clear m (omega arith)) in
       let both = free_and_shut (free (suc k)) _ (clear k (omega arith)) in
       let legal = moves_on k before.is_free_there both.0 in
-      let there = (legal_is g (place k) (place (suc k)) (legal_leads g (place k) (place (suc k)) d legal).legal).target in
-      let next = reached_next g (place k) d h rule (sides k) k (reach_of g x d) before.left (place (suc k)) legal
+      let there =
+      (legal_is g (place k) (place (suc k))
+      (legal_leads g (place k) (place (suc k)) d legal).legal).target in
+      let next = reached_next g (place k) d h rule (sides k) k (reach_of g x d) before.left
+      (place (suc k)) legal
       (sides (suc k)) (sides_are k both.0) (opens (sides k) (sides (suc k))) refl r there both.1 in
       let one : k + 1 ≡ suc k = omega arith in
       record {
@@ -107,7 +112,8 @@ module _ (g : GridData) (x : Cell) (d : Dir) (h : is_diagonal d ≡ false) (rule
         → record { moves = k + mark_ahead rule; marked = true } ≡ reach_of g x d
     halted_mark e o = let there = comes k clear in
         reached_mark g (place k) d h rule (sides k) k (reach_of g x d) there.left (place (suc k))
-        (moves_on k there.is_free_there e) (sides (suc k)) (sides_are k e) (opens (sides k) (sides (suc k))) refl
+        (moves_on k there.is_free_there e) (sides (suc k)) (sides_are k e) (opens (sides k) (sides (suc k)))
+        refl
         (mark_ahead rule) refl o
 
     -- the goal is met before
@@ -216,7 +222,8 @@ IsTold g x d rule t = (to_goal : ℕ) (found : Option Halt) → Finds t to_goal 
     → (block.stop_of rule found to_goal ≡ stop_of (reach_of g x d) to_goal) × HasFew found
     × (looked to_goal found ≤ scanned g x d (block.stop_of rule found to_goal))
 
-pub told_by_ray : (g : GridData) (x : Cell) (d : Dir) (rule : Corner) → is_diagonal d ≡ false → rule ≡ g.corner
+pub told_by_ray : (g : GridData) (x : Cell) (d : Dir) (rule : Corner) → is_diagonal d ≡ false
+    → rule ≡ g.corner
     → is_free g x ≡ true → IsGrid g → (place : ℕ → Cell) (free : ℕ → Bool) (sides : ℕ → Sides)
     → IsRay g x d rule place free sides → (t : Trail)
     → ((k : ℕ) → halts t k ≡ (not (free (suc k)) || opens (sides k) (sides (suc k))))

@@ -1,5 +1,6 @@
 -- Scans over several blocks.
-use Rattle.std.proofs.Common.{◌≡◌, ℕ, zero, suc, ◌+◌, ◌*◌, ◌-◌, ◌/◌, ◌<◌, ◌≤◌, ◌⊎◌, inl, inr, arith, Bool, true, false, not, ◌&&◌, ◌||◌, refl, ap, sym, ◌∙◌}
+use Rattle.std.proofs.Common.{◌≡◌, ℕ, zero, suc, ◌+◌, ◌*◌, ◌-◌, ◌/◌, ◌<◌, ◌≤◌, ◌⊎◌, inl, inr, arith, Bool}
+use Rattle.std.proofs.Common.{true, false, not, ◌&&◌, ◌||◌, refl, ap, sym, ◌∙◌}
 use Rattle.std.specs.Prelude.{nat_lt, nat_le, min, if◌then◌else◌}
 use Rattle.std.proofs.lemmas.Bool.{cases_lt}
 use Rattle.std.proofs.lemmas.Bool.Decides.{nat_tests}
@@ -11,7 +12,8 @@ use Rattle.jump_block.specs.declared.word.Way.TheVariants.{Forward, Back}
 use Rattle.jump_block.specs.declared.word.Words.{Words}
 use Rattle.jump_block.specs.declared.block.Block.{Block}
 use Rattle.jump_block.specs.Trail.{Trail, IsClear, Halts, at_start, begun, along, trail_on}
-use Rattle.jump_block.specs.Word.{Meets, IsWordOf, IsBlockOf, IsAhead, moves_before, nth_word, edge_before, HasNext, next_block}
+use Rattle.jump_block.specs.Word.{Meets, IsWordOf, IsBlockOf, IsAhead, moves_before, nth_word, edge_before}
+use Rattle.jump_block.specs.Word.{HasNext, next_block}
 use Rattle.jump_block.specs.Seek.{HasPassed}
 use Rattle.jump_block.specs.Scan.{IsStart, most_lanes, nearer}
 
@@ -30,7 +32,8 @@ IsOnWay Forward from index = from / 512 ≤ index
 IsOnWay Back from index = index ≤ from / 512
 
 -- a halt comes after all that is clear
-pub clear_halts : (t : Trail) (n passed : ℕ) (blocked : Bool) → IsClear t n → Halts t passed blocked → n ≤ passed
+pub clear_halts : (t : Trail) (n passed : ℕ) (blocked : Bool) → IsClear t n → Halts t passed blocked
+    → n ≤ passed
 clear_halts t n passed blocked clear here = by_place (cases_lt passed n)
   where
     by_place : (passed < n) ⊎ (n ≤ passed) → n ≤ passed
@@ -59,7 +62,8 @@ module _ {l : LineData} {free : ℕ → ℕ → Bool} {line from : ℕ} (start :
       by_place (inr h) = let ample = start.shows.ample in omega (arith, ample)
 
   -- a further block
-  module _ (way : Way) (rule : Corner) (index : ℕ) (below : index < l.blocks) (on_way : IsOnWay way from index)
+  module _ (way : Way) (rule : Corner) (index : ℕ) (below : index < l.blocks)
+      (on_way : IsOnWay way from index)
       (clear : IsClear (begun rule (trail_on free way line from))
       (moves_before way from (edge_before way (index * 512) 8))) where
     free_there : free line (along way from (moves_before way from (edge_before way (index * 512) 8))) ≡ true
@@ -101,7 +105,8 @@ pub edges_meet : (way : Way) (index : ℕ) → HasNext way index
 edges_meet Forward index h = omega arith
 edges_meet Back index h = omega arith
 
-pub edge_ahead : (way : Way) (from index : ℕ) → IsOnWay way from index → IsAhead way from (edge_before way (index * 512) 8)
+pub edge_ahead : (way : Way) (from index : ℕ) → IsOnWay way from index
+    → IsAhead way from (edge_before way (index * 512) 8)
 edge_ahead Forward from index h = omega arith
 edge_ahead Back from index h = omega arith
 

@@ -1,5 +1,6 @@
 -- Where a scan halts, 64 cells at a time.
-use Rattle.std.proofs.Common.{◌≡◌, ℕ, zero, suc, ◌+◌, ◌*◌, ◌-◌, ◌/◌, ◌%◌, ◌<◌, ◌≤◌, ◌⊎◌, inl, inr, arith, Bool, true, false, not, ◌&&◌, ◌||◌, refl, ap, sym, ◌∙◌, subst, bit_and, bit_or}
+use Rattle.std.proofs.Common.{◌≡◌, ℕ, zero, suc, ◌+◌, ◌*◌, ◌-◌, ◌/◌, ◌%◌, ◌<◌, ◌≤◌, ◌⊎◌, inl, inr, arith}
+use Rattle.std.proofs.Common.{Bool, true, false, not, ◌&&◌, ◌||◌, refl, ap, sym, ◌∙◌, subst, bit_and, bit_or}
 use Rattle.std.proofs.lemmas.Nat.{or_lt}
 use Rattle.std.proofs.lemmas.Bool.{cases_lt}
 use Rattle.bit_grid.specs.Bits.{is_set}
@@ -36,7 +37,8 @@ module _ (side : ℕ → Bool) (from base word last : ℕ) (small : word < 18446
       ∙ or_second _ _ (set_raised-lowest word) ∙ set_top last small_last ∙ edge k (omega arith)
   before_forward here edge (suc j) k h m =
       set_or (word * 2 % 18446744073709551616) (last / 9223372036854775808) (suc j)
-      ∙ or_first _ _ (set_top-above last j small_last) ∙ set_raised word j h ∙ here j k (omega arith) (omega arith)
+      ∙ or_first _ _ (set_top-above last j small_last) ∙ set_raised word j h
+      ∙ here j k (omega arith) (omega arith)
 
   pub opened_forward : IsWordOf side Forward from base word → IsEdgeOf side Forward from base last → (j k : ℕ)
       → j < 64 → from + suc k ≡ base + j
@@ -61,7 +63,8 @@ module _ (side : ℕ → Bool) (from base word last : ℕ) (small : word < 18446
       by_place (inr l) =
           let top : j ≡ 63 = omega arith in
           rw top (set_or (word / 2) (last * 9223372036854775808 % 18446744073709551616) 63
-          ∙ or_second _ _ (set_lowered word 63 ∙ set_past word small) ∙ set_bottom last ∙ edge k (omega arith))
+          ∙ or_second _ _ (set_lowered word 63 ∙ set_past word small) ∙ set_bottom last
+          ∙ edge k (omega arith))
 
   pub opened_back : IsWordOf side Back from base word → IsEdgeOf side Back from (base + 64) last → (j k : ℕ)
       → j < 64 → base + j + suc k ≡ from

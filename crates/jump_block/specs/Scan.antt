@@ -1,5 +1,6 @@
 -- Scans along a line, over as many blocks as it takes.
-use Rattle.std.specs.Prelude.{◌≡◌, ℕ, ◌+◌, ◌*◌, ◌/◌, ◌<◌, ◌≤◌, Bool, true, false, not, nat_lt, min, if◌then◌else◌, Option, Some, None}
+use Rattle.std.specs.Prelude.{◌≡◌, ℕ, ◌+◌, ◌*◌, ◌/◌, ◌<◌, ◌≤◌, Bool, true, false, not, nat_lt, min}
+use Rattle.std.specs.Prelude.{if◌then◌else◌, Option, Some, None}
 use Rattle.bit_grid.specs.Bits.{LineData, Shows}
 use Rattle.jump_block.specs.declared.block.Halt.{Halt}
 use Rattle.grid_moves.specs.declared.Corner.{Corner}

@@ -5,8 +5,8 @@ use Rattle.grid_moves.specs.declared.Corner.TheVariants.{Never, One}
 use Rattle.jump_block.specs.declared.word.Way.{Way}
 use Rattle.jump_block.specs.declared.word.Way.TheVariants.{Forward, Back}
 
--- after so many moves: whether the cell there is free, and the cells beside it in the line before and the line
--- after
+-- after so many moves: whether the cell there is free, and the cells beside it in the line before and the
+-- line after
 pub record Trail : Type 0 where
   pub free : ℕ → Bool
   pub before : ℕ → Bool
@@ -30,7 +30,8 @@ at_start One side (suc k) = side (suc k)
 abbrev pub begun : Corner → Trail → Trail
 begun rule t = record { free = t.free; before = at_start rule t.before; after = at_start rule t.after }
 
--- the place on the line after k moves; before the first place there is none, and the line begins with a border
+-- the place on the line after k moves; before the first place there is none, and the line begins with a
+-- border
 abbrev pub along : Way → ℕ → ℕ → ℕ
 along Forward from k = from + k
 along Back from k = from - k

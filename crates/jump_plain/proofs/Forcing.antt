@@ -14,7 +14,8 @@ use Rattle.pruning.specs.Turns.{turn, quarter, rear, is_diagonal}
 use Rattle.pruning.specs.Allowed.{is_blocked, can_move}
 use Rattle.pruning.specs.Marked.{is_forced, is_forced_on}
 use Rattle.pruning.proofs.Places.{Place, move}
-use Rattle.pruning.proofs.Table.{straight_back, straight_side, diagonal_back, turn_parity, quarter_parity, turn_back}
+use Rattle.pruning.proofs.Table.{straight_back, straight_side, diagonal_back, turn_parity, quarter_parity}
+use Rattle.pruning.proofs.Table.{turn_back}
 use Rattle.pruning.proofs.Moves.{can_move-straight, can_move-diagonal}
 use Rattle.pruning.proofs.Bridging.{place_of, free_place, open_there, Leads, leads_there, legal_leads}
 use Rattle.pruning.proofs.Replacing.{by_corner}

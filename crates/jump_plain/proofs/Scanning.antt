@@ -14,7 +14,8 @@ use Rattle.pruning.proofs.Moves.{can_move-straight}
 use Rattle.jump_plain.specs.declared.beside.Sides.{Sides}
 use Rattle.jump_plain.specs.declared.scan.Reach.{Reach}
 use Rattle.jump_plain.specs.Beside.{sides_of, opens}
-use Rattle.jump_plain.specs.Reach.{reach_of, reach_at, further, left_at, mark_ahead, first_sides, free_bits, shut_bits}
+use Rattle.jump_plain.specs.Reach.{reach_of, reach_at, further, left_at, mark_ahead, first_sides, free_bits}
+use Rattle.jump_plain.specs.Reach.{shut_bits}
 use Rattle.jump_plain.proofs.Forcing.{is_forced-there, is_forced-here, is_forced-nowhere}
 use Rattle.jump_plain.proofs.Reaching.{reach-next, reach-none}
 

@@ -1,11 +1,13 @@
 -- The work on items, one after the other.
-use Rattle.std.proofs.Common.{◌≡◌, sym, ap, ◌∙◌, subst, List, [], ◌∷◌, ◌++◌, append_assoc, ℕ, zero, suc, ◌+◌, ◌<◌, ◌≤◌, ◌⊎◌, inl, inr, Bool, true, length, take, drop, get_or, arith}
+use Rattle.std.proofs.Common.{◌≡◌, sym, ap, ◌∙◌, subst, List, [], ◌∷◌, ◌++◌, append_assoc, ℕ, zero, suc, ◌+◌}
+use Rattle.std.proofs.Common.{◌<◌, ◌≤◌, ◌⊎◌, inl, inr, Bool, true, length, take, drop, get_or, arith}
 use Rattle.std.specs.Prelude.{◌≢◌, Result, IsErrAnd}
 use Rattle.std.specs.List.{concat}
 use Rattle.std.proofs.Math.Seq.{take-suc}
 use Rattle.std.proofs.lemmas.List.{take_all, take-append-drop, append-nil}
 use Rattle.io_edge.specs.Told.{Outflow}
-use Rattle.line_work.specs.Sending.{Wrote, WroteSome, IsAll, SendsWhole, AreSent, AreLines, Sends, work_stops, write_stops}
+use Rattle.line_work.specs.Sending.{Wrote, WroteSome, IsAll, SendsWhole, AreSent, AreLines, Sends, work_stops}
+use Rattle.line_work.specs.Sending.{write_stops}
 use Rattle.line_work.specs.Stops.{StopsSo, Ends}
 use Rattle.line_work.specs.Working.{Adds, CanComplete, Completes, CountsMore, HaveWorked, IsLeft, IsWorking}
 use Rattle.line_work.specs.declared.stop.Stop.{Stop}
@@ -55,7 +57,8 @@ pub counts-more : {Job Item : Type 0} (Counted : Job → Job → List Item → �
     → ((first : Job) (some : List Item) (start : ℕ) → Counted first mid some start between
     → Counted first new (some ++ item ∷ []) start now)
     → CountsMore Counted old new (take (place + 1) items) at now
-counts-more {Item = Item} Counted old mid new items place item at between now h e counts one = λ first earlier start c.
+counts-more {Item = Item} Counted old mid new items place item at between now h e counts one =
+    λ first earlier start c.
     subst (λ (some : List Item). Counted first new some start now) (one-more earlier items place item h e)
     (one first (earlier ++ take place items) start (counts first earlier start c))
 
@@ -68,7 +71,8 @@ counts-all {Item = Item} Counted old new items place at now h counts =
 
 module _ {Job Item : Type 0} (Worked : Job → Job → List Item → List (List ℕ) → Type 0)
     (Whole : Job → List Item → List (List ℕ) → ℕ → Type 0) (closes : Bool)
-    (can : CanComplete Worked Whole closes) (first : Job) (earlier more others : List Item) (before : Outflow) where
+    (can : CanComplete Worked Whole closes) (first : Job) (earlier more others : List Item)
+    (before : Outflow) where
   -- no item more is worked yet
   pub working-begun : (job : Job) (at : Outflow) (waiting : List ℕ) → waiting ≡ []
       → HaveWorked Worked first job earlier before at
@@ -76,11 +80,13 @@ module _ {Job Item : Type 0} (Worked : Job → Job → List Item → List (List 
   working-begun job at waiting e w = record {
     lines = w.lines;
     worked = subst (λ (some : List Item). Worked first job some w.lines) (sym (append-nil earlier)) w.worked;
-    sent = subst (λ (b : List ℕ). AreSent before at b w.lines) (sym e) (all-sent before at w.lines w.wrote w.later);
+    sent = subst (λ (b : List ℕ). AreSent before at b w.lines) (sym e)
+        (all-sent before at w.lines w.wrote w.later);
   }
 
   -- one item more was worked
-  pub working-more : (job job_now : Job) (place : ℕ) (item : Item) (at : Outflow) (waiting waiting_now : List ℕ)
+  pub working-more : (job job_now : Job) (place : ℕ) (item : Item) (at : Outflow)
+      (waiting waiting_now : List ℕ)
       → place < length more → item ≡ get_or more place item
       → IsWorking (Worked first job) (earlier ++ take place more) before at waiting
       → ((first : Job) (some : List Item) (lines : List (List ℕ)) → Worked first job some lines
@@ -109,7 +115,8 @@ module _ {Job Item : Type 0} (Worked : Job → Job → List Item → List (List 
   -- the lines so far can be completed
   completed : (job : Job) (place : ℕ) (at : Outflow) (waiting : List ℕ)
       → (w : IsWorking (Worked first job) (earlier ++ take place more) before at waiting)
-      → Completes (Whole first (earlier ++ (more ++ others))) (IsLeft closes (drop place more ++ others)) w.lines
+      → Completes (Whole first (earlier ++ (more ++ others))) (IsLeft closes (drop place more ++ others))
+      w.lines
   completed job place at waiting w =
       subst (λ (all : List Item).
       Completes (Whole first all) (IsLeft closes (drop place more ++ others)) w.lines)
@@ -117,14 +124,16 @@ module _ {Job Item : Type 0} (Worked : Job → Job → List Item → List (List 
       (can first job (earlier ++ take place more) (drop place more ++ others) w.lines w.worked)
 
   -- memory was refused while an item was left
-  pub working-starved : {X : Type 0} (Done : X → Type 0) (job : Job) (place : ℕ) (now : Outflow) (waiting : List ℕ)
+  pub working-starved : {X : Type 0} (Done : X → Type 0) (job : Job) (place : ℕ) (now : Outflow)
+      (waiting : List ℕ)
       → place < length more → IsWorking (Worked first job) (earlier ++ take place more) before now waiting
       → (result : Result X Stop) → IsErrAnd result (λ s. s ≡ stop.Memory)
       → Ends Done (work_stops (Whole first (earlier ++ (more ++ others))) before now) result
   working-starved Done job place now waiting h w result m =
       passed Done (no_stops (AreLines (Whole first (earlier ++ (more ++ others))) before now)) _ result
       stop.Memory m
-      (lines-sent before (Whole first (earlier ++ (more ++ others))) (IsLeft closes (drop place more ++ others)) now
+      (lines-sent before (Whole first (earlier ++ (more ++ others)))
+      (IsLeft closes (drop place more ++ others)) now
       waiting w.lines w.sent (completed job place now waiting w) (inl (some-left more others place h)))
       (only_memory (λ k. k))
 
@@ -137,27 +146,30 @@ module _ {Job Item : Type 0} (Worked : Job → Job → List Item → List (List 
   working-unwritten Done job place mid now waiting w result stop k m =
       passed Done (write_stops (WroteSome mid now waiting)) _ result stop m k
       (only_write (part-sent before (Whole first (earlier ++ (more ++ others)))
-      (IsLeft closes (drop place more ++ others)) mid now waiting w.lines w.sent (completed job place mid waiting w)))
+      (IsLeft closes (drop place more ++ others)) mid now waiting w.lines w.sent
+      (completed job place mid waiting w)))
 
   -- all were worked, and what waited was sent
   pub working-done : (job : Job) (place : ℕ) (mid now : Outflow) (waiting bytes : List ℕ)
       → length more ≤ place → IsWorking (Worked first job) (earlier ++ take place more) before mid waiting
-      → bytes ≡ waiting → mid.faults ≤ now.faults → (result : Result (Unit {0}) Stop) → Sends mid now bytes result
+      → bytes ≡ waiting → mid.faults ≤ now.faults → (result : Result (Unit {0}) Stop)
+      → Sends mid now bytes result
       → Ends (λ done. HaveWorked Worked first job (earlier ++ more) before now)
       (work_stops (Whole first (earlier ++ (more ++ others))) before now) result
   working-done job place mid now waiting bytes h w e l result s =
       ends-on (λ done. Wrote mid now bytes) _ (write_stops (WroteSome mid now bytes)) _ result
       (λ done wrote. record {
         lines = w.lines;
-        worked = subst (λ (some : List Item). Worked first job (earlier ++ some) w.lines) (take_all place more h)
+        worked = subst (λ (some : List Item). Worked first job (earlier ++ some) w.lines)
+            (take_all place more h)
             w.worked;
         wrote = sent-whole before mid now waiting w.lines w.sent
             (subst (λ (b : List ℕ). Wrote mid now b) e wrote);
         later = (let m : before.faults ≤ mid.faults = w.sent.later in omega arith);
       })
       (only_write (λ k. part-sent before (Whole first (earlier ++ (more ++ others)))
-      (IsLeft closes (drop place more ++ others)) mid now waiting w.lines w.sent (completed job place mid waiting w)
-      (subst (λ (b : List ℕ). WroteSome mid now b) e k))) s
+      (IsLeft closes (drop place more ++ others)) mid now waiting w.lines w.sent
+      (completed job place mid waiting w) (subst (λ (b : List ℕ). WroteSome mid now b) e k))) s
 
 module _ {Job Item : Type 0} (Worked : Job → Job → List Item → List (List ℕ) → Type 0)
     (Whole : Job → List Item → List (List ℕ) → ℕ → Type 0) (closes : Bool)
@@ -178,11 +190,12 @@ module _ {Job Item : Type 0} (Worked : Job → Job → List Item → List (List 
       → (result : Result ℕ Stop) → IsErrAnd result (λ s. s ≡ stop.Memory)
       → SendsWhole (Whole first items) before at result
   closing-starved w c result m =
-      passed (IsAll (Whole first items) before at) (no_stops (AreLines (Whole first items) before at)) _ result
-      stop.Memory m
+      passed (IsAll (Whole first items) before at) (no_stops (AreLines (Whole first items) before at)) _
+      result stop.Memory m
       (lines-sent before (Whole first items) (IsLeft {Item = Item} closes []) at [] w.lines
       (all-sent before at w.lines w.wrote w.later)
-      (subst (λ (all : List Item). Completes (Whole first all) (IsLeft {Item = Item} closes []) w.lines) (append-nil items)
+      (subst (λ (all : List Item). Completes (Whole first all) (IsLeft {Item = Item} closes []) w.lines)
+      (append-nil items)
       (can first job items [] w.lines w.worked)) (inr c)) (only_memory (λ k. k))
 
   -- all items were worked, and the output is closed
@@ -219,7 +232,8 @@ module _ {Job Item : Type 0} (Worked : Job → Job → List Item → List (List 
         some = λ never. absurd never;
       })))
 
-  pub closing-ends : (status : ℕ) (bytes : List ℕ) → IsClosed status bytes → (now : Outflow) → Wrote at now bytes
+  pub closing-ends : (status : ℕ) (bytes : List ℕ) → IsClosed status bytes → (now : Outflow)
+      → Wrote at now bytes
       → IsAll (Whole first items) before now status
   closing-ends status bytes c now s =
       record { lines = c.lines; whole = c.whole; wrote = sent-whole before at now bytes c.lines c.sent s }

@@ -63,8 +63,8 @@ pub record IsAll (Whole : List (List ℕ) → ℕ → Type 0) (before now : Outf
   pub whole : Whole lines status
   pub wrote : Wrote before now (concat lines)
 
--- what is known where an output stops: a write failed and a first part of it was written, or memory was refused and the
--- first lines were, but not all
+-- what is known where an output stops: a write failed and a first part of it was written, or memory was
+-- refused and the first lines were, but not all
 abbrev pub work_stops : (List (List ℕ) → ℕ → Type 0) → Outflow → Outflow → Stops
 work_stops Whole before now = record {
   Refused = λ line. ⊥;

@@ -3,7 +3,8 @@ use Rattle.std.specs.Prelude.{ℕ, List, Result, Ok, Err}
 use Rattle.line_work.specs.declared.stop.Stop.{Stop}
 use Rattle.line_work.specs.declared.stop.Stop.TheVariants as stop
 
--- what is known at each stop: where a text is refused with a line, a read failed, a write failed, memory was refused
+-- what is known at each stop: where a text is refused with a line, a read failed, a write failed, memory was
+-- refused
 pub record Stops : Type 1 where
   pub Refused : List ℕ → Type 0
   pub Read : Type 0

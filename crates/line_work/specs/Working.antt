@@ -13,7 +13,8 @@ pub record Adds (Stand : List (List ℕ) → Type 0) (lines : List (List ℕ)) (
   pub appended : now ≡ before ++ concat more
 
 -- some more lines make a whole output of the lines, at least one where something is left
-pub record Completes (Whole : List (List ℕ) → ℕ → Type 0) (Left : Type 0) (lines : List (List ℕ)) : Type 0 where
+pub record Completes (Whole : List (List ℕ) → ℕ → Type 0) (Left : Type 0) (lines : List (List ℕ)) : Type
+    0 where
   pub more : List (List ℕ)
   pub status : ℕ
   pub whole : Whole (lines ++ more) status
@@ -49,20 +50,22 @@ pub record HaveWorked {Job Item : Type 0} (Worked : Job → Job → List Item �
   pub wrote : Wrote before after (concat lines)
   pub later : before.faults ≤ after.faults
 
--- some of the items were worked, behind any that were before; of the lines the first ones were written, and the others
--- wait
+-- some of the items were worked, behind any that were before; of the lines the first ones were written, and
+-- the others wait
 abbrev pub IsWorkingOn : {Job Item : Type 0} → (Job → Job → List Item → List (List ℕ) → Type 0) → Job → Job
     → List Item → Outflow → Outflow → List ℕ → Type 0
 IsWorkingOn {Job} {Item} Worked old new some at now waiting =
     (first : Job) (earlier : List Item) (before : Outflow) → HaveWorked Worked first old earlier before at
     → IsWorking (Worked first new) (earlier ++ some) before now waiting
 
--- these items were worked too, behind any that were before and whatever others come behind them; or the work stopped
+-- these items were worked too, behind any that were before and whatever others come behind them; or the work
+-- stopped
 abbrev pub WorksMore : {Job Item : Type 0} → (Job → Job → List Item → List (List ℕ) → Type 0)
     → (Job → List Item → List (List ℕ) → ℕ → Type 0) → Job → Job → List Item → Outflow → Outflow
     → Result (Unit {0}) Stop → Type 0
 WorksMore {Job} {Item} Worked Whole old new more at now result =
-    (first : Job) (earlier others : List Item) (before : Outflow) → HaveWorked Worked first old earlier before at
+    (first : Job) (earlier others : List Item) (before : Outflow)
+    → HaveWorked Worked first old earlier before at
     → Ends (λ done. HaveWorked Worked first new (earlier ++ more) before now)
     (work_stops (Whole first (earlier ++ (more ++ others))) before now) result
 

@@ -1,5 +1,6 @@
 -- The rows and the lines after them.
-use Rattle.std.proofs.Common.{◌≡◌, ℕ, suc, ◌+◌, ◌<◌, ◌≤◌, true, false, eqb, List, [], ◌∷◌, ◌++◌, length, take, drop, Option, Some, None, refl, sym, ap, subst, ◌∙◌, inl, inr, arith}
+use Rattle.std.proofs.Common.{◌≡◌, ℕ, suc, ◌+◌, ◌<◌, ◌≤◌, true, false, eqb, List, [], ◌∷◌, ◌++◌, length, take}
+use Rattle.std.proofs.Common.{drop, Option, Some, None, refl, sym, ap, subst, ◌∙◌, inl, inr, arith}
 use Rattle.std.specs.Prelude.{slice_get}
 use Rattle.std.specs.List.{concat}
 use Rattle.std.proofs.lemmas.Bool.{lt-ltb, le-ltb, ne_eqb, cases_lt}
@@ -10,7 +11,8 @@ use Rattle.text_line.specs.Left.{Left, GivesNext}
 use Rattle.text_line.specs.Fields.{is_nothing}
 use Rattle.map_text.specs.declared.fault.MapFault.{MapFault}
 use Rattle.map_text.specs.declared.fault.MapFault.TheVariants.{After}
-use Rattle.map_text.specs.Faults.{bytes_of, fault_at, row_fault, after_fault, height_of, width_of, BreaksFirst}
+use Rattle.map_text.specs.Faults.{bytes_of, fault_at, row_fault, after_fault, height_of, width_of}
+use Rattle.map_text.specs.Faults.{BreaksFirst}
 use Rattle.map_text.specs.Progress.{Stands}
 use Rattle.map_text.proofs.Search.{line_taken, stands_more, judged_right, judged_wrong}
 use Rattle.map_text.proofs.Rows.{slice_get-drop, concat_push}

@@ -1,5 +1,6 @@
 -- Lines that break nothing spell a map.
-use Rattle.std.proofs.Common.{◌≡◌, ℕ, suc, ◌+◌, ◌*◌, ◌<◌, ◌≤◌, List, [], ◌∷◌, length, take, drop, Some, None, refl, sym, ap, subst, ◌∙◌, inl, arith}
+use Rattle.std.proofs.Common.{◌≡◌, ℕ, suc, ◌+◌, ◌*◌, ◌<◌, ◌≤◌, List, [], ◌∷◌, length, take, drop, Some, None}
+use Rattle.std.proofs.Common.{refl, sym, ap, subst, ◌∙◌, inl, arith}
 use Rattle.std.specs.Prelude.{slice_get, codes}
 use Rattle.std.specs.List.{AllByRecursion, concat}
 use Rattle.std.proofs.lemmas.Bool.{cases_lt, lt-ltb, le-ltb}
@@ -12,7 +13,8 @@ use Rattle.map_text.specs.Map.{IsMap}
 use Rattle.map_text.specs.Spelling.{Spells}
 use Rattle.map_text.specs.Faults.{fault_at, row_fault, height_of, width_of, map_on, CleanBefore}
 use Rattle.map_text.proofs.Sides.{same_words, words_right, side_right, NamesGoodSide}
-use Rattle.map_text.proofs.Rows.{IsRow, row_right, after_right, each_right, terrain_of_rows, length_of_rows, slice_get-take, slice_get-drop}
+use Rattle.map_text.proofs.Rows.{IsRow, row_right, after_right, each_right, terrain_of_rows, length_of_rows}
+use Rattle.map_text.proofs.Rows.{slice_get-take, slice_get-drop}
 
 -- no line breaks the grammar, and none is missing
 abbrev pub Clean : List (List ℕ) → Type 0

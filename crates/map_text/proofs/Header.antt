@@ -5,7 +5,8 @@ use Rattle.text_line.specs.declared.lines.Line.{Line}
 use Rattle.text_line.specs.Left.{Left, GivesNext}
 use Rattle.map_text.specs.declared.fault.MapFault.{MapFault}
 use Rattle.map_text.specs.declared.fault.MapFault.TheVariants.{Header}
-use Rattle.map_text.specs.Faults.{bytes_of, has_words, words_fault, side_on, side_fault, fault_at, BreaksFirst}
+use Rattle.map_text.specs.Faults.{bytes_of, has_words, words_fault, side_on, side_fault, fault_at}
+use Rattle.map_text.specs.Faults.{BreaksFirst}
 use Rattle.map_text.specs.Progress.{Stands}
 use Rattle.map_text.proofs.Search.{line_taken, judged_right, judged_wrong}
 

@@ -1,5 +1,8 @@
--- How each line of a text breaks the grammar of maps, and the reading of a text up to the first line that does.
-use Rattle.std.specs.Prelude.{◌≡◌, ℕ, zero, suc, ◌+◌, ◌<◌, Bool, false, nat_lt, nat_le, ◌==◌, ◌&&◌, not, if◌then◌else◌, List, [], ◌∷◌, length, take, drop, slice_get, codes, position, unwrap_or, Option, Some, None, Result}
+-- How each line of a text breaks the grammar of maps, and the reading of a text up to the first line that
+-- does.
+use Rattle.std.specs.Prelude.{◌≡◌, ℕ, zero, suc, ◌+◌, ◌<◌, Bool, false, nat_lt, nat_le, ◌==◌, ◌&&◌, not}
+use Rattle.std.specs.Prelude.{if◌then◌else◌, List, [], ◌∷◌, length, take, drop, slice_get, codes, position}
+use Rattle.std.specs.Prelude.{unwrap_or, Option, Some, None, Result}
 use Rattle.std.specs.Option.{option_map, option_and_then, option_or}
 use Rattle.std.specs.List.{concat}
 use Rattle.std.specs.Str.{bytes_eq}
@@ -11,7 +14,8 @@ use Rattle.text_line.specs.Reading as read
 use Rattle.text_line.specs.Reading.{reading}
 use Rattle.text_line.specs.declared.lines.Line.{Line}
 use Rattle.map_text.specs.declared.fault.MapFault.{MapFault}
-use Rattle.map_text.specs.declared.fault.MapFault.TheVariants.{Header, Side, Short, Missing, Byte, After, NoMemory}
+use Rattle.map_text.specs.declared.fault.MapFault.TheVariants.{Header, Side, Short, Missing, Byte, After}
+use Rattle.map_text.specs.declared.fault.MapFault.TheVariants.{NoMemory}
 use Rattle.map_text.specs.declared.map.MapText.{MapText}
 use Rattle.map_text.specs.Map.{Map, is_terrain}
 
@@ -91,8 +95,8 @@ map_on lines = record {
       (take (height_of lines) (drop 4 lines));
 }
 
--- what a text is read as: its map, or the fault of its first broken line; the place after the last line is judged too,
--- as a line may be absent
+-- what a text is read as: its map, or the fault of its first broken line; the place after the last line is
+-- judged too, as a line may be absent
 unfoldable pub map_of : List ℕ → Result Map MapFault
 map_of text = let lines = lines_of text in reading (first_fault lines 0 (length lines + 1)) (map_on lines)
 

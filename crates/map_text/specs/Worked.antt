@@ -5,7 +5,9 @@ use Rattle.map_text.specs.Faults.{map_of}
 use Rattle.text_line.specs.Numbers.{number_of}
 
 -- tabs in the header, carriage returns and empty lines at the end are read over
-pub tabs_and_returns : map_of (codes "\ttype  octile \r\nheight\t2\r\nwidth 3\r\nmap\t\r\n...\r\n.@.\r\n\r\n\n") ≡ Ok (record { width = 3; height = 2; cells = codes "....@." })
+pub tabs_and_returns : map_of
+    (codes "\ttype  octile \r\nheight\t2\r\nwidth 3\r\nmap\t\r\n...\r\n.@.\r\n\r\n\n")
+    ≡ Ok (record { width = 3; height = 2; cells = codes "....@." })
 unfolding map_of number_of
 tabs_and_returns = refl
 

@@ -1,16 +1,21 @@
 -- What the entries have after one heap is made the first child of another.
-use Rattle.std.proofs.Common.{◌≡◌, ◌≢◌, ℕ, suc, ◌+◌, ◌<◌, ◌≤◌, ◌^◌, Bool, true, false, List, length, map, Some, slice_get, refl, sym, ap, ◌∙◌, arith}
+use Rattle.std.proofs.Common.{◌≡◌, ◌≢◌, ℕ, suc, ◌+◌, ◌<◌, ◌≤◌, ◌^◌, Bool, true, false, List, length, map}
+use Rattle.std.proofs.Common.{Some, slice_get, refl, sym, ap, ◌∙◌, arith}
 use Rattle.std.specs.Option.{option_map_or}
 use Rattle.std.proofs.lemmas.Option.{slice_get_within}
 use Rattle.std.proofs.lemmas.Bool.{false_from_ne_true, both_ways}
 use Rattle.open_list.specs.Order.{IsStrictWeakOrder}
 use Rattle.open_list.specs.declared.entry.Entry.{Entry}
 use Rattle.open_list.specs.declared.entry.TheConstants.{NONE}
-use Rattle.open_list.specs.Entry.{changed, adopted, next_of, is_open, list_len, KeepsNodes, with_prev, with_child_and_next, with_next_and_prev}
-use Rattle.open_list.specs.Heaps.{Heaps, heap, first_id, count_at, node_count, heap_count, one_at, open_count, AreChildren, AreRoots, HaveOpen, IsJoined}
+use Rattle.open_list.specs.Entry.{changed, adopted, next_of, is_open, list_len, KeepsNodes, with_prev}
+use Rattle.open_list.specs.Entry.{with_child_and_next, with_next_and_prev}
+use Rattle.open_list.specs.Heaps.{Heaps, heap, first_id, count_at, node_count, heap_count, one_at, open_count}
+use Rattle.open_list.specs.Heaps.{AreChildren, AreRoots, HaveOpen, IsJoined}
 use Rattle.open_list.proofs.Changes.{get-changed, get-changed_other, length-changed, map-changed}
-use Rattle.open_list.proofs.Counts.{one_at_same, apart_from_one_at, first_apart, open_count-le, none_past, open_from_count, first_counts, open_with_link}
-use Rattle.open_list.proofs.Forests.{StartsWith, starts_with, next_of_start, list_len-firsts, list_len-seconds}
+use Rattle.open_list.proofs.Counts.{one_at_same, apart_from_one_at, first_apart, open_count-le, none_past}
+use Rattle.open_list.proofs.Counts.{open_from_count, first_counts, open_with_link}
+use Rattle.open_list.proofs.Forests.{StartsWith, starts_with, next_of_start, list_len-firsts}
+use Rattle.open_list.proofs.Forests.{list_len-seconds}
 use Rattle.open_list.proofs.Frames.{AreChildren-changed, AreRoots-changed, AreChildren-moved}
 
 -- of two nodes not both are before the other

@@ -1,5 +1,6 @@
 -- How often a number stands in a list of heaps.
-use Rattle.std.proofs.Common.{◌≡◌, ◌≢◌, ℕ, ◌+◌, ◌<◌, ◌≤◌, Bool, true, false, List, length, Option, Some, None, slice_get, cond, refl, sym, ap, ◌∙◌, subst, arith}
+use Rattle.std.proofs.Common.{◌≡◌, ◌≢◌, ℕ, ◌+◌, ◌<◌, ◌≤◌, Bool, true, false, List, length, Option, Some, None}
+use Rattle.std.proofs.Common.{slice_get, cond, refl, sym, ap, ◌∙◌, subst, arith}
 use Rattle.std.proofs.lemmas.Bool.{eq-eqb, ne_eqb, cases_Bool}
 use Rattle.std.proofs.Common.{zero, suc, [], ◌∷◌, not, map, option_map, ⊎_elim, ◌⊎◌, inl, inr}
 use Rattle.std.proofs.lemmas.List.{length-map}

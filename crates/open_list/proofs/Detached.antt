@@ -1,14 +1,17 @@
 -- One heap is taken from below the root.
-use Rattle.std.proofs.Common.{◌≡◌, ◌≢◌, ⊎_elim, ℕ, ◌+◌, ◌<◌, ◌≤◌, Bool, true, List, length, map, Some, slice_get, nat_eq, refl, sym, ap, subst, ◌∙◌, arith}
+use Rattle.std.proofs.Common.{◌≡◌, ◌≢◌, ⊎_elim, ℕ, ◌+◌, ◌<◌, ◌≤◌, Bool, true, List, length, map, Some}
+use Rattle.std.proofs.Common.{slice_get, nat_eq, refl, sym, ap, subst, ◌∙◌, arith}
 use Rattle.std.specs.Option.{option_map_or}
 use Rattle.std.proofs.lemmas.Bool.{cond_both}
 use Rattle.std.proofs.lemmas.Option.{slice_get_within}
 use Rattle.open_list.specs.declared.entry.Entry.{Entry}
 use Rattle.open_list.specs.declared.entry.TheConstants.{NONE}
-use Rattle.open_list.specs.Entry.{changed, detached, relinked, next_of, prev_of, is_open, with_prev, with_next}
+use Rattle.open_list.specs.Entry.{changed, detached, relinked, next_of, prev_of, is_open, with_prev}
+use Rattle.open_list.specs.Entry.{with_next}
 use Rattle.open_list.specs.Heaps.{no_heap, heap, count_at, one_at, open_count, HaveOpen, IsHeap, IsDetached}
 use Rattle.open_list.proofs.Changes.{length-changed, map-changed}
-use Rattle.open_list.proofs.Counts.{one_at_same, one_at_other, open_count-le, none_past, open_from_count, open_with_link, entry_at, open_within}
+use Rattle.open_list.proofs.Counts.{one_at_same, one_at_other, open_count-le, none_past, open_from_count}
+use Rattle.open_list.proofs.Counts.{open_with_link, entry_at, open_within}
 use Rattle.open_list.proofs.Forests.{list_len-seconds}
 use Rattle.open_list.proofs.Roots.{HoldsAll, holds_all, none_open}
 use Rattle.open_list.proofs.Cuts as cuts

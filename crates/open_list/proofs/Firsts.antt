@@ -1,5 +1,6 @@
 -- What callers see of the heap: the root is first among the open nodes.
-use Rattle.std.proofs.Common.{◌≡◌, ◌≢◌, ⊎_elim, ℕ, ◌<◌, Bool, true, false, List, [], length, map, Some, slice_get, refl, sym, ap, ◌∙◌, arith}
+use Rattle.std.proofs.Common.{◌≡◌, ◌≢◌, ⊎_elim, ℕ, ◌<◌, Bool, true, false, List, [], length, map, Some}
+use Rattle.std.proofs.Common.{slice_get, refl, sym, ap, ◌∙◌, arith}
 use Rattle.std.specs.Option.{option_map}
 use Rattle.std.proofs.lemmas.Bool.{cases_eq}
 use Rattle.std.proofs.lemmas.List.{length-map}
@@ -10,7 +11,8 @@ use Rattle.open_list.specs.declared.entry.Entry.{Entry}
 use Rattle.open_list.specs.declared.entry.TheConstants.{NONE}
 use Rattle.open_list.specs.Entry.{is_open, nodes_of}
 use Rattle.open_list.specs.Heaps.{no_heap, IsHeap}
-use Rattle.open_list.proofs.Counts.{one_at_same, one_at_other, open_count_open, open_count_past, flag_from_count, entry_at}
+use Rattle.open_list.proofs.Counts.{one_at_same, one_at_other, open_count_open, open_count_past}
+use Rattle.open_list.proofs.Counts.{flag_from_count, entry_at}
 use Rattle.open_list.proofs.Frames.{none_before_parent}
 use Rattle.open_list.proofs.Roots.{HoldsAll, holds_all, none_open}
 

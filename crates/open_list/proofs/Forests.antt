@@ -1,11 +1,13 @@
 -- Two lists of heaps that have each open node once.
-use Rattle.std.proofs.Common.{◌≡◌, ◌≢◌, ℕ, zero, suc, ◌+◌, ◌<◌, ◌≤◌, ◌^◌, Bool, List, length, map, Some, slice_get, refl, sym, ap, subst, ◌∙◌, arith}
+use Rattle.std.proofs.Common.{◌≡◌, ◌≢◌, ℕ, zero, suc, ◌+◌, ◌<◌, ◌≤◌, ◌^◌, Bool, List, length, map, Some}
+use Rattle.std.proofs.Common.{slice_get, refl, sym, ap, subst, ◌∙◌, arith}
 use Rattle.std.specs.Option.{option_map_or}
 use Rattle.std.proofs.lemmas.Option.{slice_get_within, slice_get_past}
 use Rattle.open_list.specs.declared.entry.Entry.{Entry}
 use Rattle.open_list.specs.declared.entry.TheConstants.{NONE}
 use Rattle.open_list.specs.Entry.{changed, next_of, is_open, with_next, list_len, list_len_to}
-use Rattle.open_list.specs.Heaps.{Heaps, no_heap, heap, first_id, count_at, node_count, heap_count, one_at, open_count, AreChildren, AreRoots, HaveOpen, IsShifted}
+use Rattle.open_list.specs.Heaps.{Heaps, no_heap, heap, first_id, count_at, node_count, heap_count, one_at}
+use Rattle.open_list.specs.Heaps.{open_count, AreChildren, AreRoots, HaveOpen, IsShifted}
 use Rattle.open_list.proofs.Changes.{get-changed, length-changed, map-changed}
 use Rattle.open_list.proofs.Counts.{one_at_same, open_count-le}
 use Rattle.open_list.proofs.Frames.{AreChildren-changed, AreRoots-changed}

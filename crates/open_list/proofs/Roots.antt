@@ -1,10 +1,12 @@
 -- The heap that has every open node.
-use Rattle.std.proofs.Common.{◌≡◌, ◌≢◌, ℕ, suc, ◌+◌, ◌<◌, ◌≤◌, ◌^◌, Bool, List, length, map, Some, slice_get, refl, ap, ◌∙◌, arith}
+use Rattle.std.proofs.Common.{◌≡◌, ◌≢◌, ℕ, suc, ◌+◌, ◌<◌, ◌≤◌, ◌^◌, Bool, List, length, map, Some, slice_get}
+use Rattle.std.proofs.Common.{refl, ap, ◌∙◌, arith}
 use Rattle.std.proofs.lemmas.Option.{slice_get_within}
 use Rattle.open_list.specs.declared.entry.Entry.{Entry}
 use Rattle.open_list.specs.declared.entry.TheConstants.{NONE}
 use Rattle.open_list.specs.Entry.{is_open}
-use Rattle.open_list.specs.Heaps.{Heaps, no_heap, heap, first_id, count_at, node_count, heap_count, one_at, open_count, AreChildren, AreRoots, IsHeap}
+use Rattle.open_list.specs.Heaps.{Heaps, no_heap, heap, first_id, count_at, node_count, heap_count, one_at}
+use Rattle.open_list.specs.Heaps.{open_count, AreChildren, AreRoots, IsHeap}
 use Rattle.open_list.proofs.Forests.{starts_with, list_len-seconds}
 
 module _ {N : Type 0} (before : N → N → Bool) where

@@ -1,5 +1,7 @@
 -- A node enters the heap, is lowered in it, or leaves it.
-use Rattle.std.proofs.Common.{◌≡◌, ◌≢◌, ⊎_elim, ℕ, ◌+◌, ◌<◌, ◌^◌, Bool, true, false, cond, List, [], ◌∷◌, ◌++◌, length, map, set, Some, slice_get, refl, sym, ap, subst, ◌∙◌, arith, length-append}
+use Rattle.std.proofs.Common.{◌≡◌, ◌≢◌, ⊎_elim, ℕ, ◌+◌, ◌<◌, ◌^◌, Bool, true, false, cond, List, [], ◌∷◌}
+use Rattle.std.proofs.Common.{◌++◌, length, map, set, Some, slice_get, refl, sym, ap, subst, ◌∙◌, arith}
+use Rattle.std.proofs.Common.{length-append}
 use Rattle.std.specs.Option.{option_map, option_map_or}
 use Rattle.std.proofs.lemmas.Bool.{cases_eq}
 use Rattle.std.proofs.lemmas.List.{map_push}
@@ -7,12 +9,18 @@ use Rattle.std.proofs.lemmas.Option.{slice_get-map}
 use Rattle.open_list.specs.Order.{IsStrictWeakOrder}
 use Rattle.open_list.specs.declared.entry.Entry.{Entry}
 use Rattle.open_list.specs.declared.entry.TheConstants.{NONE, CLOSED}
-use Rattle.open_list.specs.Entry.{changed, child_of, next_of, nodes_of, is_open, list_len, with_node, with_prev}
-use Rattle.open_list.specs.Heaps.{no_heap, heap, first_id, count_at, node_count, heap_count, one_at, open_count, HaveOpen, IsHeap, AreBeside}
-use Rattle.open_list.proofs.Changes.{get-changed, get-changed_other, length-changed, map-changed, map-changed_to, set-is_changed, get_pushed, get_pushed_other}
-use Rattle.open_list.proofs.Counts.{one_at_same, one_at_other, open_count-le, open_count_open, open_count_closed, none_past}
-use Rattle.open_list.proofs.Frames.{AreChildren-changed, AreRoots-changed, AreChildren-lowered, AreRoots-append, AreRoots_from_children}
-use Rattle.open_list.proofs.Forests.{StartsWith, starts_with, next_of_start, swapped, list_len-firsts, list_len-seconds}
+use Rattle.open_list.specs.Entry.{changed, child_of, next_of, nodes_of, is_open, list_len, with_node}
+use Rattle.open_list.specs.Entry.{with_prev}
+use Rattle.open_list.specs.Heaps.{no_heap, heap, first_id, count_at, node_count, heap_count, one_at}
+use Rattle.open_list.specs.Heaps.{open_count, HaveOpen, IsHeap, AreBeside}
+use Rattle.open_list.proofs.Changes.{get-changed, get-changed_other, length-changed, map-changed}
+use Rattle.open_list.proofs.Changes.{map-changed_to, set-is_changed, get_pushed, get_pushed_other}
+use Rattle.open_list.proofs.Counts.{one_at_same, one_at_other, open_count-le, open_count_open}
+use Rattle.open_list.proofs.Counts.{open_count_closed, none_past}
+use Rattle.open_list.proofs.Frames.{AreChildren-changed, AreRoots-changed, AreChildren-lowered}
+use Rattle.open_list.proofs.Frames.{AreRoots-append, AreRoots_from_children}
+use Rattle.open_list.proofs.Forests.{StartsWith, starts_with, next_of_start, swapped, list_len-firsts}
+use Rattle.open_list.proofs.Forests.{list_len-seconds}
 use Rattle.open_list.proofs.Roots.{HoldsAll, holds_all, none_heap}
 
 -- the counts go by the flags alone

@@ -1,5 +1,6 @@
 -- How a pool lays out its nodes. No public clause cites this module.
-use Rattle.std.specs.Prelude.{◌≡◌, ℕ, zero, suc, ◌-◌, ◌^◌, min, List, [], ◌∷◌, length, map, Bool, not, nat_eq, if◌then◌else◌, slice_get}
+use Rattle.std.specs.Prelude.{◌≡◌, ℕ, zero, suc, ◌-◌, ◌^◌, min, List, [], ◌∷◌, length, map, Bool, not, nat_eq}
+use Rattle.std.specs.Prelude.{if◌then◌else◌, slice_get}
 use Rattle.std.specs.Option.{option_map_or}
 use Rattle.open_list.specs.declared.entry.Entry.{Entry}
 use Rattle.open_list.specs.declared.entry.TheConstants.{NONE, CLOSED}

@@ -1,5 +1,6 @@
 -- An answer to a request is the only one, and engines that come to answers in one way give the same.
-use Rattle.std.proofs.Common.{◌≡◌, ◌∙◌, refl, ap, sym, subst, ℕ, Bool, true, false, List, [], ◌∷◌, ◌++◌, length}
+use Rattle.std.proofs.Common.{◌≡◌, ◌∙◌, refl, ap, sym, subst, ℕ, Bool, true, false, List, [], ◌∷◌, ◌++◌}
+use Rattle.std.proofs.Common.{length}
 use Rattle.std.specs.Prelude.{Ok, Err}
 use Rattle.std.specs.declared.result.Result.{Result}
 use Rattle.grid_moves.specs.declared.Cell.{Cell}
@@ -15,7 +16,8 @@ use Rattle.walk_judge.specs.declared.telling.Told.{Told}
 use Rattle.walk_judge.specs.Walks.{walks_of}
 use Rattle.potential_check.specs.Text.{certificate_of, plain}
 use Rattle.potential_check.specs.declared.certificate.Certificate.{Certificate}
-use Rattle.word_list.specs.Request.{Asked, Call, Help, Version, Query, Solve, Live, Scen, Judge, Prove, Check, Make, Drill, Draw, Costs, Tables, Boxes, Moves}
+use Rattle.word_list.specs.Request.{Asked, Call, Help, Version, Query, Solve, Live, Scen, Judge, Prove, Check}
+use Rattle.word_list.specs.Request.{Make, Drill, Draw, Costs, Tables, Boxes, Moves}
 use Rattle.word_list.specs.declared.request.Settings.{Settings}
 use Rattle.word_list.specs.declared.request.Show.{Show}
 use Rattle.jps_run.specs.Answers.{AreAnswers, IsReplyLine}
@@ -35,7 +37,8 @@ use Rattle.jps_run.specs.Session.{IsSessionOn, OnSession, by_of, who_on}
 use Rattle.jps_run.specs.Who.{By, Who, who_is}
 use Rattle.outcome_laws.proofs.Kept.{are_layers-text}
 use Rattle.outcome_laws.specs.Alike.{AnswerAlike, way_of}
-use Rattle.outcome_laws.proofs.Printed.{one_reply_line, one_answers, one_drawing, one_rows, one_drill, alike_rows}
+use Rattle.outcome_laws.proofs.Printed.{one_reply_line, one_answers, one_drawing, one_rows, one_drill}
+use Rattle.outcome_laws.proofs.Printed.{alike_rows}
 use Rattle.outcome_laws.proofs.Costs as costs
 use Rattle.outcome_laws.proofs.Boxes as boxes
 use Rattle.outcome_laws.proofs.Runs as runs
@@ -87,7 +90,8 @@ record SameMap {K L : Map → List (List ℕ) → Type 0} {texts : List (List �
   map : one.map ≡ other.map
   behind : one.behind ≡ other.behind
 
-same_map : {K L : Map → List (List ℕ) → Type 0} {texts : List (List ℕ)} (one : OnMap texts K) (other : OnMap texts L)
+same_map : {K L : Map → List (List ℕ) → Type 0} {texts : List (List ℕ)} (one : OnMap texts K)
+    (other : OnMap texts L)
     → SameMap one other
 same_map one other =
     let e : one.text ∷ one.behind ≡ other.text ∷ other.behind = sym one.is ∙ other.is in
@@ -105,7 +109,8 @@ same_last e one other =
     ∙ last_append [] other.before other.last
 
 -- lines of one line
-one_line : {K L : List ℕ → Type 0} {lines same : List (List ℕ)} (one : OneLine lines K) (other : OneLine same L)
+one_line : {K L : List ℕ → Type 0} {lines same : List (List ℕ)} (one : OneLine lines K)
+    (other : OneLine same L)
     → one.line ≡ other.line → lines ≡ same
 one_line one other e = one.all ∙ ap (λ (line : List ℕ). line ∷ []) e ∙ sym other.all
 
@@ -121,7 +126,8 @@ module _ (set other : Settings) (rule : set.one ≡ other.one) where
 
   -- answers that search nothing, and those of which costs alone are asked
   one_judged : (texts lines same : List (List ℕ)) (status code : ℕ) (map scen walks : List ℕ)
-      → Answers (Judge map scen walks) set texts lines status → Answers (Judge map scen walks) other texts same code
+      → Answers (Judge map scen walks) set texts lines status
+      → Answers (Judge map scen walks) other texts same code
       → (lines ≡ same) × (status ≡ code)
   unfolding Answers
   one_judged texts lines same status code map scen walks p q = by_files p.known q.known
@@ -144,11 +150,14 @@ module _ (set other : Settings) (rule : set.one ≡ other.one) where
           (ap (λ (text : List ℕ). walks_of text (length one.value)) third
           ∙ ap (λ (es : List Entry). walks_of d (length es)) entries ∙ two.known.is) in
           let rows : one.known.known.from ≡ two.known.known.from =
-          rulings.one_list (layers_on set p.map) one.value one.known.value one.known.known.from two.known.known.from
-          (are_layers-text set p.text p.map p.read) one.known.known.known
-          (subst (λ (es : List Entry). AreRulings (layers_on set p.map) es one.known.value two.known.known.from)
-          (sym entries) (subst (λ (ts : List Told). AreRulings (layers_on set p.map) two.value ts two.known.known.from)
-          (sym told) (on_layers (λ ls. AreRulings ls two.value two.known.value two.known.known.from) p.map q.map
+          rulings.one_list (layers_on set p.map) one.value one.known.value one.known.known.from
+          two.known.known.from (are_layers-text set p.text p.map p.read) one.known.known.known
+          (subst (λ (es : List Entry). AreRulings (layers_on set p.map) es one.known.value
+          two.known.known.from)
+          (sym entries)
+          (subst (λ (ts : List Told). AreRulings (layers_on set p.map) two.value ts two.known.known.from)
+          (sym told) (on_layers (λ ls. AreRulings ls two.value two.known.value two.known.known.from)
+          p.map q.map
           (same_map p q).map two.known.known.known))) in (
             one.known.known.all ∙ ap judge_lines rows ∙ sym two.known.known.all,
             one.known.known.code ∙ ap judge_status rows ∙ sym two.known.known.code,
@@ -177,26 +186,33 @@ module _ (set other : Settings) (rule : set.one ≡ other.one) where
     alike : (m n : Map) → m ≡ n → AnswerAlike (who_on set m) (who_on other n)
     alike m n e = record { layers = same_layers m n e; way = way }
 
-    pub sessions_alike : (m n : Map) → m ≡ n → (d e : SessionData) → IsSessionOn set m d → IsSessionOn other n e
+    pub sessions_alike : (m n : Map) → m ≡ n → (d e : SessionData) → IsSessionOn set m d
+        → IsSessionOn other n e
         → AnswerAlike (who_is d) (who_is e)
     sessions_alike m n same d e one two = record {
       layers = ap (λ (w : Who). w.layers) one ∙ same_layers m n same ∙ sym (ap (λ (w : Who). w.layers) two);
       way = ap (λ (w : Who). way_of w.by) one ∙ way ∙ sym (ap (λ (w : Who). way_of w.by) two);
     }
 
-    pub session_layers : (text : List ℕ) (m : Map) → map_of text ≡ Ok m → (d : SessionData) → IsSessionOn set m d
+    pub session_layers : (text : List ℕ) (m : Map) → map_of text ≡ Ok m → (d : SessionData)
+        → IsSessionOn set m d
         → AreLayers d.layers
     session_layers text m read d is =
-        subst (λ (ls : Layers). AreLayers ls) (sym (ap (λ (w : Who). w.layers) is)) (are_layers-text set text m read)
+        subst (λ (ls : Layers). AreLayers ls) (sym (ap (λ (w : Who). w.layers) is))
+        (are_layers-text set text m read)
 
     one_replied : (texts lines same : List (List ℕ)) (s t : Cell)
         → (p : OnMap texts (λ m behind. OneLine lines (λ line. IsReplyLine (who_on set m) set.show s t line)))
-        → (q : OnMap texts (λ m behind. OneLine same (λ line. IsReplyLine (who_on other m) other.show s t line)))
+        → (q : OnMap texts
+        (λ m behind. OneLine same (λ line. IsReplyLine (who_on other m) other.show s t line)))
         → lines ≡ same
     one_replied texts lines same s t p q =
-        one_line p.known q.known (one_reply_line (who_on set p.map) (who_on other q.map) set.show s t p.known.line
-        q.known.line (are_layers-text set p.text p.map p.read) (alike p.map q.map (same_map p q).map) p.known.known
-        (subst (λ (show : Show). IsReplyLine (who_on other q.map) show s t q.known.line) (sym shown) q.known.known))
+        one_line p.known q.known (one_reply_line (who_on set p.map) (who_on other q.map) set.show s t
+        p.known.line
+        q.known.line (are_layers-text set p.text p.map p.read) (alike p.map q.map (same_map p q).map)
+        p.known.known
+        (subst (λ (show : Show). IsReplyLine (who_on other q.map) show s t q.known.line) (sym shown)
+        q.known.known))
 
     one_solved : (texts lines same : List (List ℕ))
         → (p : OnMap texts (λ m behind. OnLast behind (λ second. Reads (script_of second) (λ commands.
@@ -217,19 +233,23 @@ module _ (set other : Settings) (rule : set.one ≡ other.one) where
         (subst (λ (show : Show). AreAnswers two.session show q.known.known.value same) (sym shown) two.known))
 
     one_drawn : (texts lines same : List (List ℕ)) (status code : ℕ) (s t : Cell)
-        → (p : OnMap texts (λ m behind. OneLine lines (λ printed. OnSession set m (λ d. IsDrawing d m s t set.show
+        → (p : OnMap texts
+        (λ m behind. OneLine lines (λ printed. OnSession set m (λ d. IsDrawing d m s t set.show
         printed status))))
-        → (q : OnMap texts (λ m behind. OneLine same (λ printed. OnSession other m (λ d. IsDrawing d m s t other.show
+        → (q : OnMap texts
+        (λ m behind. OneLine same (λ printed. OnSession other m (λ d. IsDrawing d m s t other.show
         printed code))))
         → (lines ≡ same) × (status ≡ code)
     one_drawn texts lines same status code s t p q =
         let one = p.known.known in
         let two = q.known.known in
-        let drawn = one_drawing one.session two.session p.map s t set.show p.known.line q.known.line status code
+        let drawn = one_drawing one.session two.session p.map s t set.show p.known.line q.known.line
+        status code
         (session_layers p.text p.map p.read one.session one.is)
         (sessions_alike p.map q.map (same_map p q).map one.session two.session one.is two.is) one.known
         (subst (λ (m : Map). IsDrawing two.session m s t set.show q.known.line code) (sym (same_map p q).map)
-        (subst (λ (show : Show). IsDrawing two.session q.map s t show q.known.line code) (sym shown) two.known)) in
+        (subst (λ (show : Show). IsDrawing two.session q.map s t show q.known.line code) (sym shown)
+        two.known)) in
         (one_line p.known q.known drawn.0, drawn.1)
 
   same_entries : {K L : Map → List Entry → Type 0} {texts : List (List ℕ)}
@@ -241,7 +261,8 @@ module _ (set other : Settings) (rule : set.one ≡ other.one) where
       (ap scen_of (same_last (same_map p q).behind p.known q.known) ∙ q.known.known.is)
 
   -- where engines come to answers in one way, an answer is the only one
-  pub one_answer : (asked : Asked) (texts lines same : List (List ℕ)) (status code : ℕ) → set.show ≡ other.show
+  pub one_answer : (asked : Asked) (texts lines same : List (List ℕ)) (status code : ℕ)
+      → set.show ≡ other.show
       → way_of (by_of set.pick) ≡ way_of (by_of other.pick) → Answers asked set texts lines status
       → Answers asked other texts same code → (lines ≡ same) × (status ≡ code)
   unfolding Answers
@@ -260,7 +281,8 @@ module _ (set other : Settings) (rule : set.one ≡ other.one) where
       let rows : one.from ≡ two.from =
       one_rows (who_on set p.map) (who_on other q.map) p.known.known.value one.from two.from
       (are_layers-text set p.text p.map p.read) (alike shown way p.map q.map (same_map p q).map) one.known
-      (subst (λ (es : List Entry). AreRows (who_on other q.map) es two.from) (sym (same_entries p q)) two.known) in (
+      (subst (λ (es : List Entry). AreRows (who_on other q.map) es two.from) (sym (same_entries p q))
+      two.known) in (
         one.all ∙ ap (λ (show : Show). scen_lines show one.from) shown
             ∙ ap (λ (rs : List Row). scen_lines other.show rs) rows ∙ sym two.all,
         one.code ∙ ap scen_status rows ∙ sym two.code,
@@ -276,18 +298,21 @@ module _ (set other : Settings) (rule : set.one ≡ other.one) where
       (one_line p.known q.known proved.0, proved.1)
   one_answer (Check map cert) texts lines same status code shown way p q =
       one_checked texts lines same status code map cert p q
-  one_answer (Make seed w h percent) texts lines same status code shown way p q = (p.0 ∙ sym q.0, p.1 ∙ sym q.1)
+  one_answer (Make seed w h percent) texts lines same status code shown way p q =
+      (p.0 ∙ sym q.0, p.1 ∙ sym q.1)
   one_answer (Drill seed) texts lines same status code shown way p q = (
     p.all ∙ ap (λ (found : List Finding). drill_line found ∷ [])
         (one_drill set other seed p.from q.from rule p.known q.known) ∙ sym q.all,
     p.code ∙ sym q.code,
   )
   one_answer (Draw map sx sy gx gy) texts lines same status code shown way p q =
-      one_drawn shown way texts lines same status code (record { x = sx; y = sy }) (record { x = gx; y = gy }) p q
+      one_drawn shown way texts lines same status code (record { x = sx; y = sy }) (record { x = gx; y = gy })
+      p q
   one_answer (Costs map x y) texts lines same status code shown way p q = (
     costs.one_costs (layers_on set p.0.map) (record { x = x; y = y }) lines same
         (are_layers-text set p.0.text p.0.map p.0.read) p.0.known
-        (on_layers (λ ls. AreCosts ls (record { x = x; y = y }) same) p.0.map q.0.map (same_map p.0 q.0).map q.0.known),
+        (on_layers (λ ls. AreCosts ls (record { x = x; y = y }) same) p.0.map q.0.map (same_map p.0 q.0).map
+        q.0.known),
     p.1 ∙ sym q.1,
   )
   one_answer (Tables map) texts lines same status code shown way p q = (
@@ -311,8 +336,10 @@ module _ (set other : Settings) (rule : set.one ≡ other.one) where
   )
 
   -- where costs alone are asked for, whatever the engines
-  pub one_cost_answer : (asked : Asked) (texts lines same : List (List ℕ)) (status code : ℕ) → set.show ≡ other.show
-      → AsksForCosts asked set.show → Answers asked set texts lines status → Answers asked other texts same code
+  pub one_cost_answer : (asked : Asked) (texts lines same : List (List ℕ)) (status code : ℕ)
+      → set.show ≡ other.show
+      → AsksForCosts asked set.show → Answers asked set texts lines status
+      → Answers asked other texts same code
       → (lines ≡ same) × (status ≡ code)
   unfolding Answers
   one_cost_answer (Scen map tables scen) texts lines same status code shown costs p q =
@@ -320,8 +347,10 @@ module _ (set other : Settings) (rule : set.one ≡ other.one) where
       let two = q.known.known.known in
       let rows = alike_rows (who_on set p.map) (who_on other q.map) p.known.known.value one.from two.from
       (are_layers-text set p.text p.map p.read) (same_layers p.map q.map (same_map p q).map) one.known
-      (subst (λ (es : List Entry). AreRows (who_on other q.map) es two.from) (sym (same_entries p q)) two.known) in (
-        one.all ∙ rows.lines set.show costs ∙ ap (λ (show : Show). scen_lines show two.from) shown ∙ sym two.all,
+      (subst (λ (es : List Entry). AreRows (who_on other q.map) es two.from) (sym (same_entries p q))
+      two.known) in (
+        one.all ∙ rows.lines set.show costs ∙ ap (λ (show : Show). scen_lines show two.from) shown
+            ∙ sym two.all,
         one.code ∙ rows.status ∙ sym two.code,
       )
   one_cost_answer (Drill seed) texts lines same status code shown costs p q = (

@@ -1,5 +1,6 @@
 -- Lists with the same members that ascend strictly by a number are one list.
-use Rattle.std.proofs.Common.{◌≡◌, ℕ, zero, suc, ◌<◌, ◌⊎◌, inl, inr, arith, refl, ap, sym, ◌∙◌, subst, List, [], ◌∷◌, length, map, get_or}
+use Rattle.std.proofs.Common.{◌≡◌, ℕ, zero, suc, ◌<◌, ◌⊎◌, inl, inr, arith, refl, ap, sym, ◌∙◌, subst, List}
+use Rattle.std.proofs.Common.{[], ◌∷◌, length, map, get_or}
 use Rattle.std.proofs.lemmas.List.{get_or-map, length-map}
 use Rattle.std.proofs.lemmas.List.Kept.{AllPairs-from_increasing}
 use Rattle.std.specs.Prelude.{⊤}
@@ -38,7 +39,8 @@ module _ {X : Type 0} (number : X → ℕ) where
       before z m =
           let l = m.1 in
           let as_many : length (map number xs) ≡ length xs = length-map xs number in
-          let less : number x < get_or (map number xs) m.0 0 = pairs 0 (suc m.0) 0 (omega arith) (omega arith) in
+          let less : number x < get_or (map number xs) m.0 0 =
+          pairs 0 (suc m.0) 0 (omega arith) (omega arith) in
           let there : get_or (map number xs) m.0 0 ≡ number z =
           get_or-map number xs m.0 z 0 l ∙ ap number m.2 in
           subst (λ (n : ℕ). number x < n) there less
@@ -57,7 +59,8 @@ module _ {X : Type 0} (number : X → ℕ) where
       heads (inr m) (inr n) = absurd (let less = also.0 x m in let more = up.0 y n in omega arith)
 
       same : x ≡ y
-      same = heads (member_of y x ys (to x (first_member x xs))) (member_of x y xs (back y (first_member y ys)))
+      same = heads (member_of y x ys (to x (first_member x xs)))
+          (member_of x y xs (back y (first_member y ys)))
 
       to_rest : (z : X) → Contains xs z → Contains ys z
       to_rest z m = elim (member_of y z ys (to z (later_member x z xs m))) [
@@ -77,7 +80,8 @@ module _ {X : Type 0} (number : X → ℕ) where
         | inr n ↦ n
       ]
 
-  pub one_list : (xs ys : List X) → IsStrictlyIncreasing (map number xs) → IsStrictlyIncreasing (map number ys)
+  pub one_list : (xs ys : List X) → IsStrictlyIncreasing (map number xs)
+      → IsStrictlyIncreasing (map number ys)
       → ((z : X) → Contains xs z → Contains ys z) → ((z : X) → Contains ys z → Contains xs z) → xs ≡ ys
   one_list xs ys up also to back =
       same_list xs ys (ascends xs (AllPairs-from_increasing (map number xs) up))

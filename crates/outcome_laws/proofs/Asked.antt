@@ -15,7 +15,8 @@ use Rattle.walk_judge.specs.declared.telling.Told.{Told}
 use Rattle.walk_judge.specs.Walks.{walks_of}
 use Rattle.potential_check.specs.Text.{certificate_of, plain}
 use Rattle.potential_check.specs.declared.certificate.Certificate.{Certificate}
-use Rattle.word_list.specs.Request.{Asked, Call, Help, Version, Query, Solve, Live, Scen, Judge, Prove, Check, Make, Drill, Draw, Costs, Tables, Boxes, Moves}
+use Rattle.word_list.specs.Request.{Asked, Call, Help, Version, Query, Solve, Live, Scen, Judge, Prove, Check}
+use Rattle.word_list.specs.Request.{Make, Drill, Draw, Costs, Tables, Boxes, Moves}
 use Rattle.word_list.specs.declared.request.Settings.{Settings}
 use Rattle.jps_run.specs.Answers.{AreAnswers, IsReplyLine}
 use Rattle.grid_answers.specs.BoxLines.{IsBoxText}
@@ -33,7 +34,8 @@ use Rattle.jps_run.specs.Tabled.{tables_text}
 use Rattle.jps_run.specs.Texts.{help_text, version_text}
 use Rattle.jps_run.specs.declared.replies.row.Row.{Row}
 use Rattle.jps_run.specs.declared.replies.ruling.Ruling.{Ruling}
-use Rattle.jps_run.specs.Outcome.{IsAnswered, help, version, replied, solved, judged, refereed, proved, checked, made, drilled, drawn, costed, tabled, boxed, moved}
+use Rattle.jps_run.specs.Outcome.{IsAnswered, help, version, replied, solved, judged, refereed, proved}
+use Rattle.jps_run.specs.Outcome.{checked, made, drilled, drawn, costed, tabled, boxed, moved}
 
 -- the first of the texts is that of a map, and of the map and the texts behind it this is known
 pub record OnMap (texts : List (List ℕ)) (Known : Map → List (List ℕ) → Type 0) : Type 0 where
@@ -76,7 +78,8 @@ unfoldable pub Answers : Asked → Settings → List (List ℕ) → List (List �
 Answers Help set texts lines status = (lines ≡ help_text ∷ []) × (status ≡ 0)
 Answers Version set texts lines status = (lines ≡ version_text ∷ []) × (status ≡ 0)
 Answers (Query map tables sx sy gx gy) set texts lines status =
-    OnMap texts (λ m behind. OneLine lines (λ line. IsReplyLine (who_on set m) set.show (record { x = sx; y = sy })
+    OnMap texts
+    (λ m behind. OneLine lines (λ line. IsReplyLine (who_on set m) set.show (record { x = sx; y = sy })
     (record { x = gx; y = gy }) line)) × (status ≡ 0)
 Answers (Solve map tables script) set texts lines status =
     OnMap texts (λ m behind. OnLast behind (λ second. Reads (script_of second) (λ commands.
@@ -93,7 +96,8 @@ Answers (Prove map sx sy gx gy) set texts lines status =
     OnMap texts (λ m behind. OneLine lines (λ printed. IsProof (layers_on set m) (record { x = sx; y = sy })
     (record { x = gx; y = gy }) printed status))
 Answers (Check map cert) set texts lines status =
-    OnMap texts (λ m behind. OnLast behind (λ second. (c : Certificate) × (certificate_of second ≡ Ok (plain c))
+    OnMap texts
+    (λ m behind. OnLast behind (λ second. (c : Certificate) × (certificate_of second ≡ Ok (plain c))
     × OneLine lines (λ line. IsVerdict (query_grid (layers_on set m) c.start) c line status)))
 Answers (Make seed w h percent) set texts lines status =
     (lines ≡ canonical_text (made_map seed w h percent) ∷ []) × (status ≡ 0)
@@ -107,13 +111,16 @@ Answers (Costs map x y) set texts lines status =
 Answers (Tables map) set texts lines status =
     OnMap texts (λ m behind. lines ≡ tables_text (corner_of set.one) m ∷ []) × (status ≡ 0)
 Answers (Boxes map x y) set texts lines status =
-    OnMap texts (λ m behind. OneLine lines (λ printed. IsBoxText (layers_on set m) (record { x = x; y = y }) printed))
+    OnMap texts
+    (λ m behind. OneLine lines (λ printed. IsBoxText (layers_on set m) (record { x = x; y = y }) printed))
     × (status ≡ 0)
 Answers (Moves map x y) set texts lines status =
-    OnMap texts (λ m behind. OneLine lines (λ printed. IsRunText (layers_on set m) (record { x = x; y = y }) printed))
+    OnMap texts
+    (λ m behind. OneLine lines (λ printed. IsRunText (layers_on set m) (record { x = x; y = y }) printed))
     × (status ≡ 0)
 
-on : {texts : List (List ℕ)} {Known : Map → List (List ℕ) → Type 0} (text : List ℕ) (behind : List (List ℕ)) (m : Map)
+on : {texts : List (List ℕ)} {Known : Map → List (List ℕ) → Type 0} (text : List ℕ) (behind : List (List ℕ))
+    (m : Map)
     → texts ≡ text ∷ behind → map_of text ≡ Ok m → Known m behind → OnMap texts Known
 on text behind m is read known =
     record { text = text; behind = behind; map = m; is = is; read = read; known = known }

@@ -23,7 +23,8 @@ use Rattle.outcome_laws.proofs.Taken.{pending_taken}
 use Rattle.outcome_laws.specs.Files.{AreTold}
 use Rattle.outcome_laws.proofs.Files.{not_both}
 use Rattle.jps_run.specs.Calls.{files_of}
-use Rattle.jps_run.specs.Ending.{HasFailed, HasLines, HasPart, first, none, of_all, of_file, of_input, of_taken, some}
+use Rattle.jps_run.specs.Ending.{HasFailed, HasLines, HasPart, first, none, of_all, of_file, of_input}
+use Rattle.jps_run.specs.Ending.{of_taken, some}
 use Rattle.outcome_laws.specs.Outcomes.{DifferInEngine, FilesAreTold, WrittenBeginsTheOutput, WroteLinesOf}
 use Rattle.jps_run.specs.Live.{AreHeard, OnLive}
 use Rattle.jps_run.specs.Outcome.{IsOutcome, IsOutput, Outcome, Spell, done}
@@ -45,7 +46,8 @@ module _ (before now : Outflow) where
   Begun all = (lines : List (List ℕ)) × BeginWith all lines × Wrote before now (concat lines)
 
   part-begun : (all lines : List (List ℕ)) → BeginWith all lines
-      → AppendsSome before.written now.written (concat lines) → AppendsSome before.written now.written (concat all)
+      → AppendsSome before.written now.written (concat lines)
+      → AppendsSome before.written now.written (concat all)
   part-begun all lines begun h =
       subst (λ (l : List ℕ). AppendsSome before.written now.written l)
       (sym (ap concat begun.1 ∙ concat-append lines begun.0))
@@ -67,7 +69,8 @@ module _ (before now : Outflow) where
     (
       length lines,
       subst (λ (ls : List (List ℕ)). Wrote before now (concat ls))
-          (sym (ap (λ (ls : List (List ℕ)). take (length lines) ls) begun.1 ∙ take-append_seam lines begun.0)) h,
+          (sym (ap (λ (ls : List (List ℕ)). take (length lines) ls) begun.1 ∙ take-append_seam lines begun.0))
+          h,
     ),
   )
 
@@ -78,12 +81,14 @@ module _ (holds : List ℕ → Held) (script : List ℕ) (call : Call) (told : A
   itself : DifferInEngine call call
   itself = record { request = refl; show = refl; rule = refl }
 
-  heard_begins : (refusal : Option (List ℕ)) (all : List (List ℕ)) → AreHeard call holds (Some script) all refusal
+  heard_begins : (refusal : Option (List ℕ)) (all : List (List ℕ))
+      → AreHeard call holds (Some script) all refusal
       → BeginWith all lines
   heard_begins refusal all q =
       one_start p.session q.session p.settings.show script left refusal lines all
       (session_layers p.settings q.settings rule shown ways p.text p.read p.spelled p.session p.answers)
-      (sessions_alike p.settings q.settings rule shown ways p.read q.read one_map p.session q.session p.answers
+      (sessions_alike p.settings q.settings rule shown ways p.read q.read one_map p.session q.session
+      p.answers
       q.answers) taken
       (subst (λ (show : Show). AnswerHeard q.session show (Some script) refusal all) (sym shown) q.known)
     where
@@ -102,7 +107,8 @@ module _ (holds : List ℕ → Held) (script : List ℕ) (call : Call) (told : A
       one_map : p.read ≡ q.read
       one_map = ok_same p.read q.read (map_of p.text) p.spelled
           (ap map_of (same_first p.text q.text p.behind q.behind
-          (one_list holds script call call itself told (p.text ∷ p.behind) (q.text ∷ q.behind) p.accepted q.accepted))
+          (one_list holds script call call itself told (p.text ∷ p.behind) (q.text ∷ q.behind) p.accepted
+          q.accepted))
           ∙ q.spelled)
 
   call_begins : (outcome : Outcome) → CallComes call holds script outcome → BeginWith outcome.out lines
@@ -114,13 +120,14 @@ module _ (holds : List ℕ → Held) (script : List ℕ) (call : Call) (told : A
   call_begins _ (broken all line q) = heard_begins (Some line) all q
 
 module _ (words : List (List ℕ)) (holds : List ℕ → Held) (input input_now : Inflow) (out out_now : Outflow)
-    (script : List ℕ) (outcome : Outcome) (told : FilesAreTold words holds) (comes_in : input.left ≡ Some script)
-    (is : IsOutcome words holds (Some script) outcome) where
+    (script : List ℕ) (outcome : Outcome) (told : FilesAreTold words holds)
+    (comes_in : input.left ≡ Some script) (is : IsOutcome words holds (Some script) outcome) where
   -- the output of a call by its files alone is that of the outcome
   output_one : (call : Call) → Spell words call → (lines : List (List ℕ)) (status : ℕ)
       → IsOutput call holds lines status → lines ≡ outcome.out
   output_one call spelled lines status right =
-      ap (λ (o : Outcome). o.out) (outcomes_one words holds script (record { status = status; out = lines; line = [] })
+      ap (λ (o : Outcome). o.out)
+      (outcomes_one words holds script (record { status = status; out = lines; line = [] })
       outcome told (done call lines status spelled right) is)
 
   taken_begins : {Known : SessionData → Show → Type 0} (call : Call) → Spell words call
@@ -128,7 +135,8 @@ module _ (words : List (List ℕ)) (holds : List ℕ → Held) (input input_now 
       → AnswerTaken p.session p.settings.show input.left input_now.left lines → BeginWith outcome.out lines
   taken_begins call spelled p lines taken =
       call_begins holds script call (told call spelled) p input_now.left lines
-      (subst (λ (text : Option (List ℕ)). AnswerTaken p.session p.settings.show text input_now.left lines) comes_in
+      (subst (λ (text : Option (List ℕ)). AnswerTaken p.session p.settings.show text input_now.left lines)
+      comes_in
       taken) outcome (call_comes words holds script call outcome spelled is)
 
   part_begins : HasPart words holds input input_now out out_now
@@ -137,8 +145,8 @@ module _ (words : List (List ℕ)) (holds : List ℕ → Held) (input input_now 
       subst (λ (lines : List (List ℕ)). AppendsSome out.written out_now.written (concat lines))
       (output_one call spelled p.lines p.status p.whole) p.wrote
   part_begins (of_taken call spelled p) =
-      part-begun out out_now outcome.out p.known.lines (taken_begins call spelled p p.known.lines p.known.stand)
-      p.known.wrote
+      part-begun out out_now outcome.out p.known.lines
+      (taken_begins call spelled p p.known.lines p.known.stand) p.known.wrote
 
   lines_begin : HasLines words holds input input_now out out_now → Begun out out_now outcome.out
   unfolding Begun
@@ -158,14 +166,15 @@ module _ (words : List (List ℕ)) (holds : List ℕ → Held) (input input_now 
 
 -- so do the lines of a call of which a read failed
 module _ (words : List (List ℕ)) (disk disk_now : Disk) (input input_now : Inflow) (out out_now : Outflow)
-    (script : List ℕ) (outcome : Outcome) (told : FilesAreTold words disk.holds) (comes_in : input.left ≡ Some script)
-    (is : IsOutcome words disk.holds (Some script) outcome) where
+    (script : List ℕ) (outcome : Outcome) (told : FilesAreTold words disk.holds)
+    (comes_in : input.left ≡ Some script) (is : IsOutcome words disk.holds (Some script) outcome) where
   failed_begins : HasFailed words disk disk_now input input_now out out_now → Begun out out_now outcome.out
   unfolding Begun
   failed_begins (of_file rose h) = ([], (outcome.out, refl), h)
   failed_begins (of_input rose p) = (
     p.known.lines,
-    taken_begins words disk.holds input input_now out out_now script outcome told comes_in is rose.call rose.spelled p
+    taken_begins words disk.holds input input_now out out_now script outcome told comes_in is rose.call
+        rose.spelled p
         p.known.lines
         (pending_taken p.session p.settings.show input.left input_now.left p.known.lines p.known.stand),
     p.known.wrote,

@@ -40,14 +40,16 @@ module _ (g : GridData) (t : Cell) (a b : BoxTeller) (p : TellsBoxes g a) (q : T
       → is_toward_by a t u v dirs ≡ is_toward_by b t u v dirs
   same_toward u v free [] = refl
   same_toward u v free (d ∷ dirs) =
-      ap (λ (o : Option Area). (is_toward t o && is_led u v (Some d)) || is_toward_by a t u v dirs) (same_box u free d)
+      ap (λ (o : Option Area). (is_toward t o && is_led u v (Some d)) || is_toward_by a t u v dirs)
+      (same_box u free d)
       ∙ ap (λ (rest : Bool). leads_toward b t u v d || rest) (same_toward u v free dirs)
 
   same_step : (u v : State) → boxed_step g a t u v ≡ boxed_step g b t u v
   same_step u v = by_link ((plain_links g).step u v) refl
     where
       by_link : (o : Option Cost) → (plain_links g).step u v ≡ o → boxed_step g a t u v ≡ boxed_step g b t u v
-      by_link None e = none_either (is_toward_by a t u.cell v.cell all_dirs) (is_toward_by b t u.cell v.cell all_dirs)
+      by_link None e = none_either (is_toward_by a t u.cell v.cell all_dirs)
+          (is_toward_by b t u.cell v.cell all_dirs)
           ((plain_links g).step u v) e
       by_link (Some c) e =
           ap (λ (x : Bool). if x then (plain_links g).step u v else None)
@@ -60,7 +62,8 @@ module _ (g : GridData) (t : Cell) (a b : BoxTeller) (p : TellsBoxes g a) (q : T
       ap (λ (step : State → State → Option Cost).
       let l : Links = record { step = step; led = (plain_links g).led } in l) steps
 
-pub one_boxed : (g : GridData) (s t : Cell) (r q : Found) → IsBoxedRunOn g s t r → IsBoxedRunOn g s t q → r ≡ q
+pub one_boxed : (g : GridData) (s t : Cell) (r q : Found) → IsBoxedRunOn g s t r
+    → IsBoxedRunOn g s t q → r ≡ q
 one_boxed g s t r q is also =
     one_answer g.width g.height t (boxed_links g is.box t) (boxed_are_links g is.box t) corners s r q is.run
     (subst (λ (links : Links). IsAnswer g.width t links corners s q)

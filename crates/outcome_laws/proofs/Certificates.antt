@@ -28,15 +28,18 @@ cost_in (Some w) = w.cost
 cost_in None = no_cost
 
 module _ (g : GridData) (s t : Cell) where
-  to_closed : (c : Cost) (closed shut : List (Cell × Cost)) → AreClosed g s t c closed → AreClosed g s t c shut
+  to_closed : (c : Cost) (closed shut : List (Cell × Cost)) → AreClosed g s t c closed
+      → AreClosed g s t c shut
       → (z : Cell × Cost) → Contains closed z → Contains shut z
   to_closed c closed shut are also (u, paid) m =
       let is = are.only u paid m in
       also.all u paid is.0 is.1
 
-  same_closed : (c : Cost) (closed shut : List (Cell × Cost)) → AreClosed g s t c closed → AreClosed g s t c shut
+  same_closed : (c : Cost) (closed shut : List (Cell × Cost)) → AreClosed g s t c closed
+      → AreClosed g s t c shut
       → closed ≡ shut
-  same_closed c closed shut are also = one_list (λ (entry : Cell × Cost). cell_number g.width entry.0) closed shut
+  same_closed c closed shut are also =
+      one_list (λ (entry : Cell × Cost). cell_number g.width entry.0) closed shut
       are.ascend also.ascend (to_closed c closed shut are also) (to_closed c shut closed also are)
 
   to_reached : (reached met : List Cell) → AreReached g s reached → AreReached g s met
@@ -50,7 +53,8 @@ module _ (g : GridData) (s t : Cell) where
       are.ascend also.ascend (to_reached reached met are also) (to_reached met reached also are)
 
   -- what the plain engine's run found is claimed in one way
-  same_claim : (one other : Listed) → plain_of one ≡ plain_of other → AreLists g s t one → AreLists g s t other
+  same_claim : (one other : Listed) → plain_of one ≡ plain_of other → AreLists g s t one
+      → AreLists g s t other
       → claim_of one ≡ claim_of other
   same_claim (listed.Found points cost closed taken) (listed.Found others paid shut numbers) e are also =
       let same_points : points ≡ others = ap (λ (f : Found). points_in f.walk) e in
@@ -67,7 +71,8 @@ module _ (g : GridData) (s t : Cell) where
   same_claim (listed.None reached taken) (listed.None met numbers) e are also =
       ap (λ (l : List Cell). let k : Claim = claim.NoWalk l in k) (same_reached reached met are also)
 
-  pub one_certificate : (one other : List ℕ) → IsCertificate g s t one → IsCertificate g s t other → one ≡ other
+  pub one_certificate : (one other : List ℕ) → IsCertificate g s t one → IsCertificate g s t other
+      → one ≡ other
   one_certificate one other is also =
       let same : plain_of is.found ≡ plain_of also.found =
       one_answer g s t (plain_of is.found) (plain_of also.found) is.run also.run in

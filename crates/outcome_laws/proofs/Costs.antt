@@ -1,11 +1,13 @@
 -- The lines of least costs from a cell are one list.
-use Rattle.std.proofs.Common.{◌≡◌, ℕ, zero, suc, ◌-◌, ◌≤◌, arith, refl, ap, sym, ◌∙◌, subst, List, [], ◌∷◌, ◌++◌}
+use Rattle.std.proofs.Common.{◌≡◌, ℕ, zero, suc, ◌-◌, ◌≤◌, arith, refl, ap, sym, ◌∙◌, subst, List, [], ◌∷◌}
+use Rattle.std.proofs.Common.{◌++◌}
 use Rattle.std.specs.Prelude.{Option, codes}
 use Rattle.root2_cost.specs.declared.Cost.{Cost}
 use Rattle.grid_moves.specs.declared.Cell.{Cell}
 use Rattle.grid_moves.specs.Grid.{GridData}
 use Rattle.grid_moves.specs.Layers.{AreLayers, Layers, is_free_ground, is_on_map, query_grid}
-use Rattle.grid_answers.specs.Distances.{AreCostLines, AreCosts, IsCostLine, blocked, cost_field, fields_to, more, none, outside, told}
+use Rattle.grid_answers.specs.Distances.{AreCostLines, AreCosts, IsCostLine, blocked, cost_field, fields_to}
+use Rattle.grid_answers.specs.Distances.{more, none, outside, told}
 use Rattle.outcome_laws.proofs.Ground.{ground_on, not_both, query_whole}
 use Rattle.outcome_laws.proofs.Least.{one_cost}
 
@@ -74,4 +76,5 @@ one_costs ls s _ _ are (told lines free is) (outside off) =
     not_both (is_on_map ls s) (ground_on ls are s free) off
 one_costs ls s _ _ are (told lines free is) (blocked on shut) = not_both (is_free_ground ls s) free shut
 one_costs ls s _ _ are (told lines free is) (told others too also) =
-    one_list (query_grid ls s) s (query_whole ls are s).sides.wide (query_grid ls s).height lines others is also
+    one_list (query_grid ls s) s (query_whole ls are s).sides.wide (query_grid ls s).height lines
+    others is also

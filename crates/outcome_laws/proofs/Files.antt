@@ -1,5 +1,6 @@
 -- Told files are accepted in one way or refused in one way.
-use Rattle.std.proofs.Common.{◌≡◌, ◌≢◌, ℕ, ◌⊎◌, inl, inr, refl, ap, sym, ◌∙◌, subst, arith, List, [], ◌∷◌, ◌++◌, length}
+use Rattle.std.proofs.Common.{◌≡◌, ◌≢◌, ℕ, ◌⊎◌, inl, inr, refl, ap, sym, ◌∙◌, subst, arith, List, [], ◌∷◌}
+use Rattle.std.proofs.Common.{◌++◌, length}
 use Rattle.std.specs.Prelude.{Option, Some, None}
 use Rattle.std.proofs.lemmas.List.{append-nil, append_assoc}
 use Rattle.io_edge.specs.Told.{Held, untold, absent, holding}
@@ -39,7 +40,8 @@ module _ (earlier : List (List ℕ)) (kind : Kind) (held : Held) (told : held �
 
   accepted_not_refused : (text line : List ℕ) → IsAccepted earlier kind held text
       → IsRefused earlier kind held line → ⊥
-  accepted_not_refused text line is (too_long longer e) = not_longer held (limit_of kind) text told is.0 longer
+  accepted_not_refused text line is (too_long longer e) =
+      not_longer held (limit_of kind) text told is.0 longer
   accepted_not_refused text line is (faulty other whole fault) =
       let same = same_whole held (limit_of kind) other text told whole is.0 in
       let none : refusal_of kind earlier other ≡ None =
@@ -85,9 +87,11 @@ module _ (holds : List ℕ → Held) where
   comes : (files : List File) (line : List ℕ) → HasRefused holds files line
       → ComesToRefusal holds [] files line
   comes files line has = subst (λ (f : List File). ComesToRefusal holds [] f line) (sym has.comes.all)
-      (comes_to [] has.comes.before has.file has.comes.behind has.comes.texts line has.comes.accepted has.refused)
+      (comes_to [] has.comes.before has.file has.comes.behind has.comes.texts line has.comes.accepted
+      has.refused)
 
-  accepted_one : (earlier : List (List ℕ)) (files : List File) (one other : List (List ℕ)) → AreTold holds files
+  accepted_one : (earlier : List (List ℕ)) (files : List File) (one other : List (List ℕ))
+      → AreTold holds files
       → AreAccepted holds earlier files one → AreAccepted holds earlier files other → one ≡ other
   accepted_one earlier [] [] [] told are also = refl
   accepted_one earlier [] [] (text ∷ other) told are also = absurd also
@@ -95,7 +99,8 @@ module _ (holds : List ℕ → Held) where
   accepted_one earlier (file ∷ files) [] other told are also = absurd are
   accepted_one earlier (file ∷ files) (text ∷ one) [] told are also = absurd also
   accepted_one earlier (file ∷ files) (text ∷ one) (more ∷ other) told are also =
-      let same : more ≡ text = same_accepted earlier file.kind (holds file.name) told.0 more text also.0 are.0 in
+      let same : more ≡ text = same_accepted earlier file.kind (holds file.name) told.0 more text
+      also.0 are.0 in
       let rest : one ≡ other = accepted_one (earlier ++ text ∷ []) files one other told.1 are.1
       (subst (λ (t : List ℕ). AreAccepted holds (earlier ++ t ∷ []) files other) same also.1) in
       ap (λ (t : List ℕ). t ∷ one) (sym same) ∙ ap (λ (l : List (List ℕ)). more ∷ l) rest
@@ -110,19 +115,23 @@ module _ (holds : List ℕ → Held) where
   refused_one earlier (file ∷ files) one other told (inr later) (inl is) =
       absurd (accepted_not_refused earlier file.kind (holds file.name) told.0 later.0 other later.1 is)
   refused_one earlier (file ∷ files) one other told (inr later) (inr also) =
-      let same : also.0 ≡ later.0 = same_accepted earlier file.kind (holds file.name) told.0 also.0 later.0 also.1
+      let same : also.0 ≡ later.0 = same_accepted earlier file.kind (holds file.name) told.0 also.0
+      later.0 also.1
       later.1 in
       refused_one (earlier ++ later.0 ∷ []) files one other told.1 later.2
       (subst (λ (t : List ℕ). ComesToRefusal holds (earlier ++ t ∷ []) files other) same also.2)
 
-  accepted_none_refused : (earlier : List (List ℕ)) (files : List File) (texts : List (List ℕ)) (line : List ℕ)
-      → AreTold holds files → AreAccepted holds earlier files texts → ComesToRefusal holds earlier files line → ⊥
+  accepted_none_refused : (earlier : List (List ℕ)) (files : List File) (texts : List (List ℕ))
+      (line : List ℕ)
+      → AreTold holds files → AreAccepted holds earlier files texts → ComesToRefusal holds earlier files line
+      → ⊥
   accepted_none_refused earlier [] texts line told are is = is
   accepted_none_refused earlier (file ∷ files) [] line told are is = are
   accepted_none_refused earlier (file ∷ files) (text ∷ texts) line told are (inl is) =
       accepted_not_refused earlier file.kind (holds file.name) told.0 text line are.0 is
   accepted_none_refused earlier (file ∷ files) (text ∷ texts) line told are (inr later) =
-      let same : later.0 ≡ text = same_accepted earlier file.kind (holds file.name) told.0 later.0 text later.1 are.0 in
+      let same : later.0 ≡ text = same_accepted earlier file.kind (holds file.name) told.0 later.0 text
+      later.1 are.0 in
       accepted_none_refused (earlier ++ text ∷ []) files texts line told.1 are.1
       (subst (λ (t : List ℕ). ComesToRefusal holds (earlier ++ t ∷ []) files line) same later.2)
 

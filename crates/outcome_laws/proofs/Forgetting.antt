@@ -7,7 +7,8 @@ use Rattle.std.proofs.lemmas.List.Sums.{sum_by-cons}
 use Rattle.root2_cost.specs.declared.lengths.Verdict.TheVariants.{Agree, Near, Off}
 use Rattle.word_list.specs.declared.request.Show.{Show}
 use Rattle.word_list.specs.declared.request.Show.TheVariants.{Points, Cells, Trace, Taken}
-use Rattle.jps_run.specs.Rows.{count_text, is_agree, is_near, is_off, is_other, row_line, row_lines, row_text, scen_lines, scen_status, states_in, sum_line, verdict_text}
+use Rattle.jps_run.specs.Rows.{count_text, is_agree, is_near, is_off, is_other, row_line, row_lines, row_text}
+use Rattle.jps_run.specs.Rows.{scen_lines, scen_status, states_in, sum_line, verdict_text}
 use Rattle.jps_run.specs.declared.replies.row.Row.{Row}
 use Rattle.jps_run.specs.declared.replies.row.Row.TheVariants as row
 use Rattle.outcome_laws.specs.Forgetting.{DifferInTaken, without_taken}
@@ -118,7 +119,8 @@ module _ (show : Show) (hidden : show ≢ Taken) where
   text-bare (row.None taken) =
       ap (λ (end : List ℕ). codes "none" ++ end) (no_count taken ∙ sym (no_count 0))
   text-bare (row.Judged verdict cost taken) =
-      ap (λ (end : List ℕ). verdict_text verdict ++ codes " " ++ decimal cost.a ++ codes " " ++ decimal cost.b ++ end)
+      ap (λ (end : List ℕ). verdict_text verdict ++ codes " " ++ decimal cost.a ++ codes " "
+      ++ decimal cost.b ++ end)
       (no_count taken ∙ sym (no_count 0))
 
   lines-bare : (number : ℕ) (rows : List Row) → row_lines show number rows ≡ row_lines show number (bare rows)
@@ -137,7 +139,8 @@ module _ (show : Show) (hidden : show ≢ Taken) where
       (count_by is_near (bare rows)) (count_by is_off (bare rows)) (count_by is_other (bare rows))
       (count_text show (sum_by states_in rows)) (count_text show (sum_by states_in (bare rows)))
       (sym (length-map rows without_taken)) (count-bare is_agree agree-bare rows)
-      (count-bare is_near near-bare rows) (count-bare is_off off-bare rows) (count-bare is_other other-bare rows)
+      (count-bare is_near near-bare rows) (count-bare is_off off-bare rows)
+      (count-bare is_other other-bare rows)
       (no_count (sum_by states_in rows) ∙ sym (no_count (sum_by states_in (bare rows))))
       ∙ sym (sum_line-of show (bare rows))
 

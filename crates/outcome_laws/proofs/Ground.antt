@@ -66,7 +66,8 @@ module _ (ls : Layers) (are : AreLayers ls) where
   ends_free s t one = by_water (is_free ls.water s) one
     where
       by_water : (b : Bool)
-          → (is_free (if b then ls.water else ls.land) s && is_free (if b then ls.water else ls.land) t) ≡ true
+          → (is_free (if b then ls.water else ls.land) s && is_free (if b then ls.water else ls.land) t)
+          ≡ true
           → are_free_ends ls s t ≡ true
       by_water true one = let p = and_both (is_free ls.water s) (is_free ls.water t) one in
           and_true (is_free_ground ls s) (is_free_ground ls t)

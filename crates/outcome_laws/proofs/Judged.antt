@@ -13,11 +13,13 @@ use Rattle.potential_check.specs.declared.verdict.Proof.{Proof}
 use Rattle.potential_check.specs.declared.verdict.Proof.TheVariants as proof
 use Rattle.potential_check.specs.declared.verdict.Reject.{Reject}
 use Rattle.potential_check.specs.declared.verdict.Reject.TheVariants.{Walk, Start, Goal, Move, Open}
-use Rattle.potential_check.specs.Accepted.{begins_at, ends_at, ends_at_cost, is_cost, leaves, starts_at_nothing}
+use Rattle.potential_check.specs.Accepted.{begins_at, ends_at, ends_at_cost, is_cost, leaves}
+use Rattle.potential_check.specs.Accepted.{starts_at_nothing}
 use Rattle.potential_check.specs.Judged.{JudgesClaim, JudgesWalk}
 use Rattle.potential_check.specs.Moves.{first_failing}
 use Rattle.potential_check.specs.Potential.{is_listed, potential_of, rises}
-use Rattle.potential_check.proofs.Judging.{judged_goal, judged_least, judged_listed, judged_move, judged_none, judged_open, judged_start, judged_unlisted, judged_walk}
+use Rattle.potential_check.proofs.Judging.{judged_goal, judged_least, judged_listed, judged_move, judged_none}
+use Rattle.potential_check.proofs.Judging.{judged_open, judged_start, judged_unlisted, judged_walk}
 use Rattle.potential_check.proofs.Walks.{Tells, judged_broken, judged_elsewhere, judged_other, judged_right}
 use Rattle.walk_judge.proofs.Judgements.{has_verdict}
 
@@ -34,7 +36,8 @@ module _ (g : GridData) (s t : Cell) (cost : Cost) (points : List Cell) where
       by_ends paid begins told true e =
           let p = and_both (ends_at t points) (is_cost paid cost) e in
           (None, judged_right g s t cost points paid begins told p.0 p.1)
-      by_ends paid begins told false e = (Some (length points), judged_other g s t cost points paid begins told e)
+      by_ends paid begins told false e =
+          (Some (length points), judged_other g s t cost points paid begins told e)
 
       by_answer : begins_at s points ≡ true → (answer : Result Cost BadAt) → IsVerdict g points answer
           → (bad : Option ℕ) × JudgesWalk g s t cost points bad
@@ -68,7 +71,8 @@ module _ (g : GridData) (s t : Cell) (cost : Cost) (points : List Cell) where
             by_move walk start e (first_failing g (rises (potential_of cost t values))) refl
         by_goal walk start false e = (Err Goal, judged_goal g s t cost points values walk start e)
 
-        by_start : JudgesWalk g s t cost points None → (b : Bool) → starts_at_nothing s t cost values ≡ b → Judges
+        by_start : JudgesWalk g s t cost points None → (b : Bool) → starts_at_nothing s t cost values ≡ b
+            → Judges
         by_start walk true e = by_goal walk e (ends_at_cost t cost values) refl
         by_start walk false e = (Err Start, judged_start g s t cost points values walk e)
 

@@ -1,5 +1,6 @@
 -- Layers of maps, and what edits leave of layers.
-use Rattle.std.proofs.Common.{◌≡◌, ℕ, zero, suc, refl, ap, sym, ◌∙◌, subst, Bool, true, false, ◌&&◌, List, length, map, reverse, ◌*◌}
+use Rattle.std.proofs.Common.{◌≡◌, ℕ, zero, suc, refl, ap, sym, ◌∙◌, subst, Bool, true, false, ◌&&◌, List}
+use Rattle.std.proofs.Common.{length, map, reverse, ◌*◌}
 use Rattle.std.specs.Prelude.{Option, Some, None, Ok}
 use Rattle.std.specs.List.{find, enumerate_from}
 use Rattle.std.specs.Option.{option_map_or}
@@ -33,7 +34,8 @@ are_layers-map set m is = are_layers-of (corner_of set.one) m.width m.height m.c
   whole = is.whole;
 })
 
-pub are_layers-text : (set : Settings) (text : List ℕ) (m : Map) → map_of text ≡ Ok m → AreLayers (layers_on set m)
+pub are_layers-text : (set : Settings) (text : List ℕ) (m : Map) → map_of text ≡ Ok m
+    → AreLayers (layers_on set m)
 are_layers-text set text m read = are_layers-map set m ((map_read text).found m read).is_map
 
 -- a seed has as many words as are asked for
@@ -45,7 +47,8 @@ length-words_from (suc n) g = ap suc (length-words_from n (pcg32 g).1)
 pub are_layers-seed : (set : Settings) (seed width height percent : ℕ) → AreSides width height
     → AreLayers (layers_on set (made_map seed width height percent))
 are_layers-seed set seed width height percent sides =
-    are_layers-of (corner_of set.one) width height (map (cell_of percent) (words_of seed (height * width))) (record {
+    are_layers-of (corner_of set.one) width height (map (cell_of percent) (words_of seed (height * width)))
+    (record {
       sides = sides;
       whole = length-map (words_of seed (height * width)) (cell_of percent)
           ∙ length-words_from (height * width) (generator_of seed);
@@ -57,7 +60,8 @@ not_both Blocked = refl
 not_both Land = refl
 not_both Water = refl
 
-is_grid-edited : (ground : Ground) (g : GridData) (edits : List Edit) → IsGrid g → IsGrid (edited_layer ground g edits)
+is_grid-edited : (ground : Ground) (g : GridData) (edits : List Edit) → IsGrid g
+    → IsGrid (edited_layer ground g edits)
 unfolding edited_layer
 is_grid-edited ground g edits is = record {
   sides = is.sides;
@@ -93,7 +97,8 @@ apart-edited ls edits are c = by_place (is_inside ls.land c) refl
     by_edit None = are.apart c
 
     by_place : (b : Bool) → is_inside ls.land c ≡ b
-        → (is_free (edited_layer Land ls.land edits) c && is_free (edited_layer Water ls.water edits) c) ≡ false
+        → (is_free (edited_layer Land ls.land edits) c && is_free (edited_layer Water ls.water edits) c)
+        ≡ false
     by_place true inside =
         let in_water : is_inside ls.water c ≡ true = is_inside-water ls are c ∙ inside in
         ap (λ (b : Bool). b && is_free (edited_layer Water ls.water edits) c)
@@ -103,7 +108,8 @@ apart-edited ls edits are c = by_place (is_inside ls.land c) refl
         (is_free-edited Water ls.water edits c are.water in_water)
         ∙ by_edit (find (λ edit. is_same edit.cell c) (reverse edits))
     by_place false outside = both_not (is_free (edited_layer Land ls.land edits) c) _
-        (outside_not_free (edited_layer Land ls.land edits) c (is_inside-edited Land ls.land edits c ∙ outside))
+        (outside_not_free (edited_layer Land ls.land edits) c (is_inside-edited Land ls.land edits c
+        ∙ outside))
 
 pub are_layers-edited : (ls : Layers) (edits : List Edit) → AreLayers ls → AreLayers (edited ls edits)
 are_layers-edited ls edits are =
@@ -119,7 +125,8 @@ are_layers-edited ls edits are =
     }
 
 -- so a session has layers of one map, whatever edits came
-pub are_layers-after : (set : Settings) (m : Map) (d : SessionData) (edits : List Edit) → AreLayers (layers_on set m)
+pub are_layers-after : (set : Settings) (m : Map) (d : SessionData) (edits : List Edit)
+    → AreLayers (layers_on set m)
     → IsSessionOn set m d → AreLayers (session_after d edits).layers
 are_layers-after set m d edits are is =
     are_layers-edited d.layers edits (subst (λ (who : Who). AreLayers who.layers) (sym is) are)

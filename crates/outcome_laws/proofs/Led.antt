@@ -1,5 +1,6 @@
 -- The walk of first moves is one.
-use Rattle.std.proofs.Common.{◌≡◌, suc, ◌+◌, inl, inr, arith, refl, ap, sym, ◌∙◌, subst, List, [], ◌∷◌, length}
+use Rattle.std.proofs.Common.{◌≡◌, suc, ◌+◌, inl, inr, arith, refl, ap, sym, ◌∙◌, subst, List, [], ◌∷◌}
+use Rattle.std.proofs.Common.{length}
 use Rattle.std.specs.Prelude.{Option, Some, None}
 use Rattle.root2_cost.specs.declared.Cost.{Cost}
 use Rattle.root2_cost.proofs.AtMost.{IsAtMost-antisymmetric}
@@ -30,19 +31,23 @@ same_moves g s t cells others l m =
 none_begins : (g : GridData) (s t : Cell) (d : Dir) → IsFirstMove g s t None → Begins g s t d → ⊥
 none_begins g s t d (inl e) b =
     let f = no_move g s t (walk_free g s (b.next ∷ b.cells) b.least.walk.legal) e in
-    let none : (cost_of (s ∷ f.cells)).a + (cost_of (s ∷ f.cells)).b ≡ 0 = ap (λ (c : Cost). c.a + c.b) f.priced in
-    let moves : (cost_of (s ∷ f.cells)).a + (cost_of (s ∷ f.cells)).b ≡ length f.cells = cost_counts s f.cells in
+    let none : (cost_of (s ∷ f.cells)).a + (cost_of (s ∷ f.cells)).b ≡ 0 =
+    ap (λ (c : Cost). c.a + c.b) f.priced in
+    let moves : (cost_of (s ∷ f.cells)).a + (cost_of (s ∷ f.cells)).b ≡ length f.cells =
+    cost_counts s f.cells in
     let as_many : length f.cells ≡ suc (length b.cells) =
     same_moves g s t f.cells (b.next ∷ b.cells) f.least b.least in
     absurd (omega (arith, none, moves, as_many))
 none_begins g s t d (inr none) b = none (b.next ∷ b.cells) b.least.walk
 
 -- a first move is one
-one_dir : (g : GridData) (s t : Cell) (d e : Dir) → IsFirstMove g s t (Some d) → IsFirstMove g s t (Some e) → d ≡ e
+one_dir : (g : GridData) (s t : Cell) (d e : Dir) → IsFirstMove g s t (Some d) → IsFirstMove g s t (Some e)
+    → d ≡ e
 one_dir g s t d e p q = let low = p.1 e q.0 in let high = q.1 d p.0 in same_dir d e (omega (arith, low, high))
 
 -- and so is that there is none
-pub one_first : (g : GridData) (s t : Cell) (a b : Option Dir) → IsFirstMove g s t a → IsFirstMove g s t b → a ≡ b
+pub one_first : (g : GridData) (s t : Cell) (a b : Option Dir) → IsFirstMove g s t a
+    → IsFirstMove g s t b → a ≡ b
 one_first g s t None None p q = refl
 one_first g s t None (Some e) p q = absurd (none_begins g s t e p q.0)
 one_first g s t (Some d) None p q = absurd (none_begins g s t d q p.0)
@@ -54,11 +59,13 @@ some_cell u v e = ap (λ (o : Option Cell). elim o as (λ _. Cell) [ Some c ↦ 
 -- so it leads to one cell
 one_next : (g : GridData) (s t u v : Cell) → LeadsTo g s t u → LeadsTo g s t v → u ≡ v
 one_next g s t u v l m =
-    some_cell u v (sym l.ahead ∙ ap (λ (d : Dir). legal_ahead g s d) (one_dir g s t l.dir m.dir l.first m.first)
+    some_cell u v
+    (sym l.ahead ∙ ap (λ (d : Dir). legal_ahead g s d) (one_dir g s t l.dir m.dir l.first m.first)
     ∙ m.ahead)
 
 -- and on over one way
-one_way : (g : GridData) (t s : Cell) (cells others : List Cell) → AreFirst g t s cells → AreFirst g t s others
+one_way : (g : GridData) (t s : Cell) (cells others : List Cell) → AreFirst g t s cells
+    → AreFirst g t s others
     → IsLeastWalk g s t cells → IsLeastWalk g s t others → cells ≡ others
 one_way g t s [] [] f h l m = refl
 one_way g t s [] (v ∷ others) f h l m = absurd (omega (arith, same_moves g s t [] (v ∷ others) l m))

@@ -18,7 +18,8 @@ use Rattle.jps_run.specs.Lines.{edit_line, reply_line}
 use Rattle.jps_run.specs.Pictures.{IsDrawing, drawing_of, drawing_status}
 use Rattle.jps_run.specs.declared.replies.drill.Finding.{Finding}
 use Rattle.outcome_laws.specs.Alike.{AnswerAlike, BeginWith}
-use Rattle.outcome_laws.proofs.Same.{FindTheSame, ReplyTheSame, after_edits, alike_after, find_same, layers_same, reply_same}
+use Rattle.outcome_laws.proofs.Same.{FindTheSame, ReplyTheSame, after_edits, alike_after, find_same}
+use Rattle.outcome_laws.proofs.Same.{layers_same, reply_same}
 use Rattle.outcome_laws.proofs.Turns.{turns-begin, turns-same}
 
 pub reply_line_same : (who other : Who) → who.layers ≡ other.layers → ReplyTheSame who other → (show : Show)
@@ -58,28 +59,32 @@ module _ (d e : SessionData) (layers : d.layers ≡ e.layers) where
       ∙ sym q.is
 
 -- two sessions that answer alike have one line for each command, wherever the edits before it lead
-module _ (d e : SessionData) (show : Show) (are : AreLayers d.layers) (alike : AnswerAlike (who_is d) (who_is e)) where
-  one_after : (edits : List Edit) (command : Command) (line same : List ℕ) → AnswersAfter d show edits command line
+module _ (d e : SessionData) (show : Show) (are : AreLayers d.layers)
+    (alike : AnswerAlike (who_is d) (who_is e)) where
+  one_after : (edits : List Edit) (command : Command) (line same : List ℕ)
+      → AnswersAfter d show edits command line
       → AnswersAfter e show edits command same → line ≡ same
   one_after edits command = answer_same (session_after d edits) (session_after e edits)
       (layers_same d e are edits alike.layers)
-      (reply_same (who_is (session_after d edits)) (who_is (session_after e edits)) (after_edits d e are edits)
+      (reply_same (who_is (session_after d edits)) (who_is (session_after e edits))
+      (after_edits d e are edits)
       (alike_after d e are edits alike)) show command
 
 pub answers_same : (d e : SessionData) (show : Show) (commands : List Command) (lines same : List (List ℕ))
     → AreLayers d.layers → AnswerAlike (who_is d) (who_is e) → AreAnswers d show commands lines
     → AreAnswers e show commands same → lines ≡ same
 answers_same d e show commands lines same are alike =
-    turns-same (AnswersAfter d show) (AnswersAfter e show) edits_with (one_after d e show are alike) [] commands lines
-    same
+    turns-same (AnswersAfter d show) (AnswersAfter e show) edits_with (one_after d e show are alike) []
+    commands lines same
 
 -- the lines of the first commands begin those of more
-pub answers_begin : (d e : SessionData) (show : Show) (commands more : List Command) (lines all : List (List ℕ))
+pub answers_begin : (d e : SessionData) (show : Show) (commands more : List Command)
+    (lines all : List (List ℕ))
     → AreLayers d.layers → AnswerAlike (who_is d) (who_is e) → AreAnswers d show commands lines
     → AreAnswers e show (commands ++ more) all → BeginWith all lines
 answers_begin d e show commands more lines all are alike =
-    turns-begin (AnswersAfter d show) (AnswersAfter e show) edits_with (one_after d e show are alike) [] commands more
-    lines all
+    turns-begin (AnswersAfter d show) (AnswersAfter e show) edits_with (one_after d e show are alike) []
+    commands more lines all
 
 pub findings_same : (d e : SessionData) (commands : List Command) (found same : List Finding)
     → AreLayers d.layers → d.layers ≡ e.layers → AreFindings d commands found
@@ -92,7 +97,8 @@ findings_same d e commands found same are layers =
     (layers_same d e are edits layers)) command)
     [] commands found same
 
-pub drawing_same : (d e : SessionData) → ReplyTheSame (who_is d) (who_is e) → (m : Map) (s t : Cell) (show : Show)
+pub drawing_same : (d e : SessionData) → ReplyTheSame (who_is d) (who_is e)
+    → (m : Map) (s t : Cell) (show : Show)
     (text same : List ℕ) (status also : ℕ) → IsDrawing d m s t show text status
     → IsDrawing e m s t show same also → (text ≡ same) × (status ≡ also)
 drawing_same d e one m s t show text same status also p q =

@@ -18,10 +18,12 @@ use Rattle.jps_run.specs.Rows.{AreRows}
 use Rattle.jps_run.specs.declared.replies.row.Row.{Row}
 use Rattle.outcome_laws.specs.Alike.{BeginWith, way_of}
 use Rattle.outcome_laws.specs.Forgetting.{DifferInTaken}
-use Rattle.outcome_laws.proofs.Printed.{alike_rows, one_answers, one_drawing, one_heard, one_reply_line, one_rows, one_start}
+use Rattle.outcome_laws.proofs.Printed.{alike_rows, one_answers, one_drawing, one_heard, one_reply_line}
+use Rattle.outcome_laws.proofs.Printed.{one_rows, one_start}
 use Rattle.outcome_laws.proofs.Sessions.{layers_alike, session_layers, sessions_alike, who_alike}
 
-module _ (set other : Settings) (m : Map) (rule : set.one ≡ other.one) (are : AreLayers (layers_on set m)) where
+module _ (set other : Settings) (m : Map) (rule : set.one ≡ other.one)
+    (are : AreLayers (layers_on set m)) where
   -- rows by whatever engines
   pub alike_rows_on : (entries : List Entry) (rows others : List Row) → AreRows (who_on set m) entries rows
       → AreRows (who_on other m) entries others → DifferInTaken rows others
@@ -29,7 +31,8 @@ module _ (set other : Settings) (m : Map) (rule : set.one ≡ other.one) (are : 
       alike_rows (who_on set m) (who_on other m) entries rows others are (layers_alike set other m rule)
 
   module _ (way : way_of (by_of set.pick) ≡ way_of (by_of other.pick)) where
-    pub one_line_on : (show : Show) (s t : Cell) (line same : List ℕ) → IsReplyLine (who_on set m) show s t line
+    pub one_line_on : (show : Show) (s t : Cell) (line same : List ℕ)
+        → IsReplyLine (who_on set m) show s t line
         → IsReplyLine (who_on other m) show s t same → line ≡ same
     one_line_on show s t line same =
         one_reply_line (who_on set m) (who_on other m) show s t line same are (who_alike set other m rule way)

@@ -9,7 +9,8 @@ use Rattle.map_text.specs.Faults.{map_of}
 use Rattle.grid_moves.specs.Layers.{AreLayers, Layers}
 use Rattle.edit_replay.specs.Session.{SessionData}
 use Rattle.word_list.specs.Calls.{call_of, is_call}
-use Rattle.word_list.specs.Request.{Asked, Call, Help, Version, Query, Solve, Live, Scen, Judge, Prove, Check, Make, Drill, Draw, Costs, Tables, Boxes, Moves}
+use Rattle.word_list.specs.Request.{Asked, Call, Help, Version, Query, Solve, Live, Scen, Judge, Prove, Check}
+use Rattle.word_list.specs.Request.{Make, Drill, Draw, Costs, Tables, Boxes, Moves}
 use Rattle.word_list.specs.Rule.{IsBadWord}
 use Rattle.word_list.specs.Settings.{is_for_small_maps}
 use Rattle.word_list.specs.declared.request.Pick.{Pick}
@@ -37,8 +38,10 @@ use Rattle.edit_replay.specs.declared.engine.Engine.TheVariants as engine
 use Rattle.jps_run.specs.Calls.{call_with, files_of}
 use Rattle.outcome_laws.specs.Outcomes.{AsksForCosts, DifferInEngine, FilesAreTold, HasSmallMap, is_jump}
 use Rattle.jps_run.specs.Live.{AreHeard, OnLive}
-use Rattle.jps_run.specs.Outcome.{IsAnswered, IsOutcome, IsOutput, Outcome, Spell, answered, bad_line, bad_text, bad_word, done}
-use Rattle.outcome_laws.proofs.Alike.{one_answer, one_cost_answer, ok_same, same_first, same_others, session_layers, sessions_alike}
+use Rattle.jps_run.specs.Outcome.{IsAnswered, IsOutcome, IsOutput, Outcome, Spell, answered, bad_line}
+use Rattle.jps_run.specs.Outcome.{bad_text, bad_word, done}
+use Rattle.outcome_laws.proofs.Alike.{one_answer, one_cost_answer, ok_same, same_first, same_others}
+use Rattle.outcome_laws.proofs.Alike.{session_layers, sessions_alike}
 use Rattle.outcome_laws.proofs.Asked.{Answers, asked_so}
 use Rattle.outcome_laws.proofs.SmallMaps.{AreAlike, same_alike, small_alike}
 
@@ -62,21 +65,25 @@ unfolding call_or
 same_call words call other one two = ap (call_or call) (sym one ∙ two)
 
 -- an outcome of words that spell a call
-pub call_comes : (words : List (List ℕ)) (holds : List ℕ → Held) (script : List ℕ) (call : Call) (outcome : Outcome)
+pub call_comes : (words : List (List ℕ)) (holds : List ℕ → Held) (script : List ℕ) (call : Call)
+    (outcome : Outcome)
     → Spell words call → IsOutcome words holds (Some script) outcome → CallComes call holds script outcome
 call_comes words holds script call _ spelled (bad_word number bad) =
     absurd (none_of_calls words call number spelled bad)
 call_comes words holds script call _ spelled (bad_text other line also is) =
-    refused line (subst (λ (c : Call). HasRefused holds (files_of c) line) (same_call words other call also spelled) is)
+    refused line (subst (λ (c : Call). HasRefused holds (files_of c) line)
+    (same_call words other call also spelled) is)
 call_comes words holds script call _ spelled (done other lines status also is) =
     finished lines status
     (subst (λ (c : Call). IsOutput c holds lines status) (same_call words other call also spelled) is)
 call_comes words holds script call _ spelled (answered other lines also is) =
     replied lines
-    (subst (λ (c : Call). AreHeard c holds (Some script) lines None) (same_call words other call also spelled) is)
+    (subst (λ (c : Call). AreHeard c holds (Some script) lines None) (same_call words other call also spelled)
+    is)
 call_comes words holds script call _ spelled (bad_line other lines line also is) =
     broken lines line
-    (subst (λ (c : Call). AreHeard c holds (Some script) lines (Some line)) (same_call words other call also spelled)
+    (subst (λ (c : Call). AreHeard c holds (Some script) lines (Some line))
+    (same_call words other call also spelled)
     is)
 
 -- the names of files
@@ -85,7 +92,8 @@ names [] = []
 names (file ∷ files) = file.name ∷ names files
 
 -- a told file holds one text
-same_held : (held : Held) (x y : List ℕ) (limit also : ℕ) → held ≢ untold → IsWhole held limit x → IsWhole held also y
+same_held : (held : Held) (x y : List ℕ) (limit also : ℕ) → held ≢ untold → IsWhole held limit x
+    → IsWhole held also y
     → x ≡ y
 same_held untold x y limit also told p q = absurd (told refl)
 same_held absent x y limit also told p q = absurd (p)
@@ -112,7 +120,8 @@ same_texts holds (file ∷ files) (other ∷ others) earlier before (x ∷ one) 
     let rest : names files ≡ names others = same_others file.name other.name (names files) (names others) e in
     let here : x ≡ y = same_held (holds file.name) x y (limit_of file.kind) (limit_of other.kind) told.0 p.0.0
     (subst (λ (n : List ℕ). IsAccepted before other.kind (holds n) y) (sym name) q.0).0 in
-    both x y one two here (same_texts holds files others (earlier ++ x ∷ []) (before ++ y ∷ []) one two told.1 rest
+    both x y one two here (same_texts holds files others (earlier ++ x ∷ []) (before ++ y ∷ []) one two
+    told.1 rest
     p.1 q.1)
 
 -- the engine is no matter for the names of a call's files
@@ -128,7 +137,8 @@ unfolding names
 names_with files others file e = names_append files file ∙ ap (λ (ns : List (List ℕ)). ns ++ file.name ∷ []) e
     ∙ sym (names_append others file)
   where
-    names_append : (files : List File) (file : File) → names (files ++ file ∷ []) ≡ names files ++ file.name ∷ []
+    names_append : (files : List File) (file : File) → names (files ++ file ∷ []) ≡ names files
+        ++ file.name ∷ []
     names_append [] file = refl
     names_append (x ∷ files) file = ap (λ (ns : List (List ℕ)). x.name ∷ ns) (names_append files file)
 
@@ -158,7 +168,8 @@ same_names (Moves map x y) set other = refl
 -- nor for the files themselves, where engines take the same maps
 module _ (set other : Settings) (rule : set.one ≡ other.one)
     (small : is_for_small_maps set.pick ≡ is_for_small_maps other.pick) where
-  same_map_files : (map : List ℕ) (tables : Option (List ℕ)) → map_files set map tables ≡ map_files other map tables
+  same_map_files : (map : List ℕ) (tables : Option (List ℕ)) → map_files set map tables
+      ≡ map_files other map tables
   same_map_files map None =
       ap (λ (b : Bool). file_of (kind_for (if b then extent.Small else extent.Any)) map ∷ []) small
   same_map_files map (Some tables) =
@@ -221,7 +232,8 @@ module _ (holds : List ℕ → Held) (script : List ℕ) (call like : Call) (ali
 
   -- the answers of both calls on the same texts
   Same : Type 0
-  Same = (texts lines same : List (List ℕ)) (status code : ℕ) → Answers call.request call.settings texts lines status
+  Same = (texts lines same : List (List ℕ)) (status code : ℕ)
+      → Answers call.request call.settings texts lines status
       → Answers call.request like.settings texts same code → (lines ≡ same) × (status ≡ code)
 
   HeardSame : Type 0
@@ -279,7 +291,8 @@ module _ (holds : List ℕ → Held) (script : List ℕ) (call like : Call) (ali
   both_same files same heard _ _ (replied lines p) (finished others code q) =
       live_call call refl p like (sym alike.request) others code q
   both_same files same heard _ _ (replied lines p) (replied others q) =
-      ap (λ (ls : List (List ℕ)). record { status = 0; out = ls; line = [] }) (heard None None lines others p q).1
+      ap (λ (ls : List (List ℕ)). record { status = 0; out = ls; line = [] })
+      (heard None None lines others p q).1
   both_same files same heard _ _ (replied lines p) (broken others line q) =
       absurd (let e : None ≡ Some line = (heard None (Some line) lines others p q).0 in cc)
   both_same files same heard _ _ (broken lines line p) (refused b q) =
@@ -302,22 +315,26 @@ module _ (holds : List ℕ → Held) (script : List ℕ) (call like : Call) (ali
     one_way : Same
     unfolding Same
     one_way texts lines same status code p q =
-        one_answer call.settings like.settings alike.rule call.request texts lines same status code alike.show way p q
+        one_answer call.settings like.settings alike.rule call.request texts lines same status code
+        alike.show way p q
 
     heard_one_way : HeardSame
     unfolding HeardSame
     heard_one_way refusal also lines same p q =
         one_heard p.session q.session p.settings.show script refusal also lines same
         (session_layers p.settings q.settings rule shown ways p.text p.read p.spelled p.session p.answers)
-        (sessions_alike p.settings q.settings rule shown ways p.read q.read one_map p.session q.session p.answers
+        (sessions_alike p.settings q.settings rule shown ways p.read q.read one_map p.session q.session
+        p.answers
         q.answers) p.known
         (subst (λ (show : Show). AnswerHeard q.session show (Some script) also same) (sym shown) q.known)
       where
         rule : p.settings.one ≡ q.settings.one
-        rule = ap (λ (c : Call). c.settings.one) (sym p.is) ∙ alike.rule ∙ ap (λ (c : Call). c.settings.one) q.is
+        rule = ap (λ (c : Call). c.settings.one) (sym p.is) ∙ alike.rule
+            ∙ ap (λ (c : Call). c.settings.one) q.is
 
         shown : p.settings.show ≡ q.settings.show
-        shown = ap (λ (c : Call). c.settings.show) (sym p.is) ∙ alike.show ∙ ap (λ (c : Call). c.settings.show) q.is
+        shown = ap (λ (c : Call). c.settings.show) (sym p.is) ∙ alike.show
+            ∙ ap (λ (c : Call). c.settings.show) q.is
 
         ways : way_of (by_of p.settings.pick) ≡ way_of (by_of q.settings.pick)
         ways = ap (λ (c : Call). way_of (by_of c.settings.pick)) (sym p.is) ∙ way
@@ -330,20 +347,22 @@ module _ (holds : List ℕ → Held) (script : List ℕ) (call like : Call) (ali
 
     files_one_way : files_of call ≡ files_of like
     files_one_way =
-        same_files call.settings like.settings alike.rule (same_small call.settings.pick like.settings.pick way)
+        same_files call.settings like.settings alike.rule
+        (same_small call.settings.pick like.settings.pick way)
         call.request ∙ ap (λ (asked : Asked). files_of (call_with asked like.settings)) alike.request
 
     one_outcome : (one other : Outcome) → CallComes call holds script one → CallComes like holds script other
         → one ≡ other
-    one_outcome = both_same (same_alike holds (files_of call) (files_of like) files_one_way) one_way heard_one_way
+    one_outcome = both_same (same_alike holds (files_of call) (files_of like) files_one_way) one_way
+        heard_one_way
 
   -- where costs alone are asked for
   module _ (costs : AsksForCosts call.request call.settings.show) where
     one_cost : Same
     unfolding Same
     one_cost texts lines same status code p q =
-        one_cost_answer call.settings like.settings alike.rule call.request texts lines same status code alike.show
-        costs p q
+        one_cost_answer call.settings like.settings alike.rule call.request texts lines same status code
+        alike.show costs p q
 
     not_live : {A : Type 0} {K : SessionData → Show → Type 0} (c : Call) → c.request ≡ call.request
         → OnLive c holds K → A
@@ -362,16 +381,19 @@ module _ (holds : List ℕ → Held) (script : List ℕ) (call like : Call) (ali
         ⊎ ((one.status ≢ 3) × (other.status ≢ 3)) ⊎ HasSmallMap holds call.request
         → CallComes call holds script one → CallComes like holds script other → one ≡ other
     one_cost_outcome one other (inl small) p q =
-        both_same (same_alike holds (files_of call) (files_of like) (same_files call.settings like.settings alike.rule
-        small call.request ∙ ap (λ (asked : Asked). files_of (call_with asked like.settings)) alike.request)) one_cost
-        heard_none one other p q
+        both_same
+        (same_alike holds (files_of call) (files_of like) (same_files call.settings like.settings alike.rule
+        small call.request ∙ ap (λ (asked : Asked). files_of (call_with asked like.settings)) alike.request))
+        one_cost heard_none one other p q
     one_cost_outcome one other (inr (inr small)) p q =
-        both_same (subst (λ (asked : Asked). AreAlike holds (files_of call) (files_of (call_with asked like.settings)))
-        alike.request (small_alike holds call.settings like.settings alike.rule call.request told small)) one_cost
-        heard_none one other p q
+        both_same
+        (subst (λ (asked : Asked). AreAlike holds (files_of call) (files_of (call_with asked like.settings)))
+        alike.request (small_alike holds call.settings like.settings alike.rule call.request told small))
+        one_cost heard_none one other p q
     one_cost_outcome one other (inr (inl few)) p q = by_ends one other few p q
       where
-        by_ends : (one other : Outcome) → (one.status ≢ 3) × (other.status ≢ 3) → CallComes call holds script one
+        by_ends : (one other : Outcome) → (one.status ≢ 3) × (other.status ≢ 3)
+            → CallComes call holds script one
             → CallComes like holds script other → one ≡ other
         by_ends _ _ few (refused a p) q = absurd (few.0 refl)
         by_ends _ _ few (broken lines line p) q = absurd (few.0 refl)
@@ -405,8 +427,8 @@ module _ (words : List (List ℕ)) (holds : List ℕ → Held) (script : List �
     (q : IsOutcome words holds (Some script) other) where
   spelled_one : (call : Call) → Spell words call → one ≡ other
   spelled_one call spelled =
-      one_outcome holds script call call (record { request = refl; show = refl; rule = refl }) (told call spelled) refl
-      one other (call_comes words holds script call one spelled p)
+      one_outcome holds script call call (record { request = refl; show = refl; rule = refl })
+      (told call spelled) refl one other (call_comes words holds script call one spelled p)
       (call_comes words holds script call other spelled q)
 
   by_words : IsBadIn words one ⊎ ((call : Call) × Spell words call)
@@ -418,7 +440,8 @@ module _ (words : List (List ℕ)) (holds : List ℕ → Held) (script : List �
       (one_bad_word is_call words a.number b.number a.bad b.bad) ∙ sym b.is
 
 pub outcomes_one : (words : List (List ℕ)) (holds : List ℕ → Held) (script : List ℕ) (one other : Outcome)
-    → FilesAreTold words holds → IsOutcome words holds (Some script) one → IsOutcome words holds (Some script) other
+    → FilesAreTold words holds → IsOutcome words holds (Some script) one
+    → IsOutcome words holds (Some script) other
     → one ≡ other
 outcomes_one words holds script one other told p q =
     by_words words holds script one other told p q (words_or_call words holds script one p)

@@ -44,7 +44,8 @@ pub one_answers : (d e : SessionData) (show : Show) (commands : List Command) (l
     → AreAnswers d show commands lines → AreAnswers e show commands same → lines ≡ same
 one_answers = answers_same
 
-pub one_drawing : (d e : SessionData) (m : Map) (s t : Cell) (show : Show) (text same : List ℕ) (status also : ℕ)
+pub one_drawing : (d e : SessionData) (m : Map) (s t : Cell) (show : Show) (text same : List ℕ)
+    (status also : ℕ)
     → AreLayers d.layers → AnswerAlike (who_is d) (who_is e)
     → IsDrawing d m s t show text status → IsDrawing e m s t show same also → (text ≡ same) × (status ≡ also)
 one_drawing d e m s t show text same status also are alike =
@@ -94,4 +95,5 @@ pub alike_rows : (who other : Who) (entries : List Entry) (rows others : List Ro
     → AreLayers who.layers → who.layers ≡ other.layers
     → AreRows who entries rows → AreRows other entries others → DifferInTaken rows others
 alike_rows who other entries rows others are layers p q =
-    differ_in_taken rows others (rows_alike who other layers (find_same who other are layers) entries rows others p q)
+    differ_in_taken rows others (rows_alike who other layers (find_same who other are layers) entries rows
+    others p q)

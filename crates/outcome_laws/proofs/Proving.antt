@@ -27,13 +27,15 @@ module _ (ls : Layers) (s t : Cell) (are : AreLayers ls) where
   by_cases _ _ _ _ (blocked on shut) (outside off) = not_both (is_on_map ls s && is_on_map ls t) on off
   by_cases _ _ _ _ (blocked on shut) (blocked too bare) = (refl, refl)
   by_cases _ _ _ _ (blocked on shut) (apart free two) = not_blocked free shut
-  by_cases _ _ _ _ (blocked on shut) (certified text one is read) = not_blocked (ends_free ls are s t one) shut
+  by_cases _ _ _ _ (blocked on shut) (certified text one is read) =
+      not_blocked (ends_free ls are s t one) shut
   by_cases _ _ _ _ (apart free two) (outside off) = not_outside free off
   by_cases _ _ _ _ (apart free two) (blocked on shut) = not_blocked free shut
   by_cases _ _ _ _ (apart free two) (apart too far) = (refl, refl)
   by_cases _ _ _ _ (apart free two) (certified text one is read) = not_apart one two
   by_cases _ _ _ _ (certified text one is read) (outside off) = not_outside (ends_free ls are s t one) off
-  by_cases _ _ _ _ (certified text one is read) (blocked on shut) = not_blocked (ends_free ls are s t one) shut
+  by_cases _ _ _ _ (certified text one is read) (blocked on shut) =
+      not_blocked (ends_free ls are s t one) shut
   by_cases _ _ _ _ (certified text one is read) (apart free two) = not_apart one two
   by_cases _ _ _ _ (certified text one is read) (certified more too also told) =
       (one_certificate (query_grid ls s) s t text more is also, refl)

@@ -17,7 +17,8 @@ use Rattle.edit_replay.specs.declared.reply.Reply.{Reply}
 use Rattle.edit_replay.specs.declared.reply.Reply.TheVariants.{Walk, None}
 use Rattle.edit_replay.proofs.Oneness.{one_run_reply}
 use Rattle.goal_boxes.specs.Answer.{IsBoxedRunOn}
-use Rattle.jps_run.specs.Who.{By, Who, by_session, by_boxes, by_moves, IsBoxedReply, IsLedReply, IsReplyBy, IsReplyOn}
+use Rattle.jps_run.specs.Who.{By, Who, by_session, by_boxes, by_moves, IsBoxedReply, IsLedReply, IsReplyBy}
+use Rattle.jps_run.specs.Who.{IsReplyOn}
 use Rattle.outcome_laws.specs.Costs.{gist_of}
 use Rattle.outcome_laws.specs.Costs as gist
 use Rattle.outcome_laws.specs.Oneness.{is_by_jumps}
@@ -28,7 +29,8 @@ use Rattle.outcome_laws.proofs.Led.{one_followed}
 same_walk : (ps qs : List Cell) (c d : Cost) (ms ns : List ℕ) → ps ≡ qs → c ≡ d → ms ≡ ns
     → Walk ps c ms ≡ Walk qs d ns
 same_walk ps qs c d ms ns e f h =
-    ap (λ (p : List Cell). Walk p c ms) e ∙ ap (λ (b : Cost). Walk qs b ms) f ∙ ap (λ (n : List ℕ). Walk qs d n) h
+    ap (λ (p : List Cell). Walk p c ms) e ∙ ap (λ (b : Cost). Walk qs b ms) f
+    ∙ ap (λ (n : List ℕ). Walk qs d n) h
 
 -- the reply of a boxed answer
 of_boxed : Option points.Walk → List ℕ → Reply
@@ -54,14 +56,16 @@ module _ (g : GridData) (s t : Cell) where
           → MatchBool b (IsBoxedRunOn g s t (record { walk = option.None; taken = ms })) (ms ≡ [])
           → MatchBool b (IsBoxedRunOn g s t (record { walk = option.None; taken = ns })) (ns ≡ []) → ms ≡ ns
       by_test true is also = ap (λ (r : Found). r.taken)
-          (one_boxed g s t (record { walk = option.None; taken = ms }) (record { walk = option.None; taken = ns })
+          (one_boxed g s t (record { walk = option.None; taken = ms })
+          (record { walk = option.None; taken = ns })
           is also)
       by_test false is also = is ∙ sym also
   boxed_is_one one other outsides is also = refl
   boxed_is_one one other blockeds is also = refl
 
   -- by first moves
-  led_is_one : (one other : Reply) → AreAlike one other → IsLedReply g s t one → IsLedReply g s t other → one ≡ other
+  led_is_one : (one other : Reply) → AreAlike one other → IsLedReply g s t one → IsLedReply g s t other
+      → one ≡ other
   led_is_one one other (walks ps qs c d ms ns _) is also =
       let same = one_followed g s t ps qs c d is.0 also.0 in
       same_walk ps qs c d ms ns same.0 same.1 (is.1 ∙ sym also.1)
@@ -78,7 +82,8 @@ plainness d e f h = by_tests (is_plain d) (is_plain e) f h
     by_tests true b f h = absurd (cc)
     by_tests false true f h = absurd (cc)
 
-module _ (ls : Layers) (are : AreLayers ls) (s t : Cell) (one other : Reply) (right : IsRight ls s t (answer_of one))
+module _ (ls : Layers) (are : AreLayers ls) (s t : Cell) (one other : Reply)
+    (right : IsRight ls s t (answer_of one))
     (right_too : IsRight ls s t (answer_of other)) where
   -- by engines of sessions that both jump or are both plain
   searched_is_one : (d e : Engine) → is_plain d ≡ is_plain e → IsRunOn d (query_grid ls s) s t one
@@ -89,7 +94,8 @@ module _ (ls : Layers) (are : AreLayers ls) (s t : Cell) (one other : Reply) (ri
       one_run_reply first second s t one other refl are same (record { right = right; run = is })
       (record { right = right_too; run = also })
 
-  come_to_is_one : (by : By) → IsReplyOn by (query_grid ls s) s t one → IsReplyOn by (query_grid ls s) s t other
+  come_to_is_one : (by : By) → IsReplyOn by (query_grid ls s) s t one
+      → IsReplyOn by (query_grid ls s) s t other
       → one ≡ other
   come_to_is_one (by_session engine) is also = searched_is_one engine engine refl is also
   come_to_is_one by_boxes is also =
@@ -132,7 +138,8 @@ one_jump_reply first second s t one other same are f h p q =
     jumped_is_one first.layers are s t one other p.right r.right first.by second.by f h p.run r.run
 
 pub one_gist : (first second : Who) (s t : Cell) (one other : Reply) → first.layers ≡ second.layers
-    → AreLayers first.layers → IsReplyBy first s t one → IsReplyBy second s t other → gist_of one ≡ gist_of other
+    → AreLayers first.layers → IsReplyBy first s t one → IsReplyBy second s t other
+    → gist_of one ≡ gist_of other
 one_gist first second s t one other same are p q =
     let r = on_layers first second s t other same q in
     same_gist one other (alike first.layers are s t one other p.right r.right)

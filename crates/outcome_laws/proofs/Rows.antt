@@ -79,5 +79,5 @@ module _ (who other : Who) (layers : who.layers ≡ other.layers) where
       → AreRows who entries rows → AreRows other entries others
       → map without_taken rows ≡ map without_taken others
   rows_alike one entries rows others =
-      turns-alike {S = Unit {0}} (λ _ entry r. IsRow who entry r) (λ _ entry r. IsRow other entry r) (λ s _. s)
-      without_taken (λ _ entry a b. row_alike one entry a b) tt entries rows others
+      turns-alike {S = Unit {0}} (λ _ entry r. IsRow who entry r) (λ _ entry r. IsRow other entry r)
+      (λ s _. s) without_taken (λ _ entry a b. row_alike one entry a b) tt entries rows others

@@ -7,7 +7,8 @@ use Rattle.walk_judge.specs.declared.judging.Judged.{Judged}
 use Rattle.walk_judge.specs.declared.telling.Told.{Told}
 use Rattle.walk_judge.proofs.Judgements.{one_judgement}
 use Rattle.jps_run.specs.Rows.{has_sides}
-use Rattle.jps_run.specs.Rulings.{AreRulings, IsRuling, blocked, goal_of, judged, outside, scale, start_of, with_told}
+use Rattle.jps_run.specs.Rulings.{AreRulings, IsRuling, blocked, goal_of, judged, outside, scale, start_of}
+use Rattle.jps_run.specs.Rulings.{with_told}
 use Rattle.jps_run.specs.declared.replies.ruling.Ruling.{Ruling}
 use Rattle.jps_run.specs.declared.replies.ruling.Ruling.TheVariants as ruling
 use Rattle.outcome_laws.proofs.Ground.{ends_on, not_both}
@@ -36,7 +37,8 @@ module _ (ls : Layers) (are : AreLayers ls) where
     not_blocked : {A : Type 0} → AreFree → are_free_ends ls (start_of entry) (goal_of entry) ≡ false → A
     not_blocked free shut = not_both (are_free_ends ls (start_of entry) (goal_of entry)) free shut
 
-    pub one_ruling : (one other : Ruling) → IsRuling ls entry told one → IsRuling ls entry told other → one ≡ other
+    pub one_ruling : (one other : Ruling) → IsRuling ls entry told one → IsRuling ls entry told other
+        → one ≡ other
     one_ruling one other (scale p e) (scale q f) = e ∙ sym f
     one_ruling one other (scale p e) (outside q off f) = not_scale q p
     one_ruling one other (scale p e) (blocked q shut f) = not_scale q p
@@ -53,11 +55,13 @@ module _ (ls : Layers) (are : AreLayers ls) where
     one_ruling one other (judged how p free is e) (outside q off f) = not_outside (free_on free) off
     one_ruling one other (judged how p free is e) (blocked q shut f) = not_blocked free shut.1
     one_ruling one other (judged how p free is e) (judged why q too also f) =
-        let same : how ≡ why = one_judgement (query_grid ls (start_of entry)) (start_of entry) (goal_of entry) told
+        let same : how ≡ why = one_judgement (query_grid ls (start_of entry)) (start_of entry)
+        (goal_of entry) told
         how why is also in
         e ∙ ap (λ (j : Judged). let r : Ruling = ruling.Judged j in r) same ∙ sym f
 
-pub one_list : (ls : Layers) (entries : List Entry) (walks : List Told) (one other : List Ruling) → AreLayers ls
+pub one_list : (ls : Layers) (entries : List Entry) (walks : List Told) (one other : List Ruling)
+    → AreLayers ls
     → AreRulings ls entries walks one → AreRulings ls entries walks other → one ≡ other
 one_list ls entries walks one other are is also =
     turns-same {S = Unit {0}} {X = Entry × Told} {Y = Ruling} (λ _ both r. IsRuling ls both.0 both.1 r)

@@ -1,5 +1,6 @@
 -- The text of the first moves from a cell is one.
-use Rattle.std.proofs.Common.{◌≡◌, ℕ, suc, ◌+◌, ◌*◌, ◌/◌, ◌%◌, ◌<◌, inl, inr, arith, refl, ap, sym, ◌∙◌, subst, true, List, [], ◌∷◌, length, get_or}
+use Rattle.std.proofs.Common.{◌≡◌, ℕ, suc, ◌+◌, ◌*◌, ◌/◌, ◌%◌, ◌<◌, inl, inr, arith, refl, ap, sym, ◌∙◌}
+use Rattle.std.proofs.Common.{subst, true, List, [], ◌∷◌, length, get_or}
 use Rattle.std.specs.Prelude.{Option, Some, None, nat_lt}
 use Rattle.std.proofs.Math.Nat.{div-add-mod, div-lt_iff_lt-mul, mod-lt}
 use Rattle.std.proofs.lemmas.Bool.Decides.{nat_tests}
@@ -70,7 +71,8 @@ module _ (g : GridData) (s : Cell) (free : is_free g s ≡ true) where
         (lt_true (n % g.width) g.width (mod-lt n some))
         (lt_true (n / g.width) g.height ((div-lt_iff_lt-mul some).1 below))
 
-    same_members : (ms ns : List (Option Dir)) → length ms ≡ g.height * g.width → length ns ≡ g.height * g.width
+    same_members : (ms ns : List (Option Dir)) → length ms ≡ g.height * g.width
+        → length ns ≡ g.height * g.width
         → ((t : Cell) → is_inside g t ≡ true → IsFirstMove g s t (get_or ms (cell_number g.width t) None))
         → ((t : Cell) → is_inside g t ≡ true → IsFirstMove g s t (get_or ns (cell_number g.width t) None))
         → ms ≡ ns
@@ -82,7 +84,8 @@ module _ (g : GridData) (s : Cell) (free : is_free g s ≡ true) where
             let one : get_or ms (cell_number g.width (numbered k)) None
             ≡ get_or ns (cell_number g.width (numbered k)) None =
             one_move (numbered k) (get_or ms (cell_number g.width (numbered k)) None)
-            (get_or ns (cell_number g.width (numbered k)) None) (are (numbered k) inside) (also (numbered k) inside) in
+            (get_or ns (cell_number g.width (numbered k)) None) (are (numbered k) inside)
+            (also (numbered k) inside) in
             let here : get_or ms k None ≡ get_or ns k None =
             subst (λ (n : ℕ). get_or ms n None ≡ get_or ns n None) (number_is k) one in
             get_or_default ms k d None below ∙ here ∙ get_or_default ns k None d (omega arith)
@@ -98,11 +101,13 @@ pub one_text : (ls : Layers) (s : Cell) (one other : List ℕ) → AreLayers ls
     → IsRunText ls s one → IsRunText ls s other → one ≡ other
 one_text ls s _ _ are (outside off) (outside away) = refl
 one_text ls s _ _ are (outside off) (blocked on shut) = not_both (is_on_map ls s) on off
-one_text ls s _ _ are (outside off) (told runs free is) = not_both (is_on_map ls s) (ground_on ls are s free) off
+one_text ls s _ _ are (outside off) (told runs free is) =
+    not_both (is_on_map ls s) (ground_on ls are s free) off
 one_text ls s _ _ are (blocked on shut) (outside off) = not_both (is_on_map ls s) on off
 one_text ls s _ _ are (blocked on shut) (blocked too bare) = refl
 one_text ls s _ _ are (blocked on shut) (told runs free is) = not_both (is_free_ground ls s) free shut
-one_text ls s _ _ are (told runs free is) (outside off) = not_both (is_on_map ls s) (ground_on ls are s free) off
+one_text ls s _ _ are (told runs free is) (outside off) =
+    not_both (is_on_map ls s) (ground_on ls are s free) off
 one_text ls s _ _ are (told runs free is) (blocked on shut) = not_both (is_free_ground ls s) free shut
 one_text ls s _ _ are (told runs free is) (told others too also) =
     ap (λ (r : List Run). runs_text (query_grid ls s).width r)

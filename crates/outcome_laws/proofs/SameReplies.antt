@@ -26,7 +26,8 @@ pub one_cost : (g : GridData) (s t : Cell) (ps qs : List Cell) (c d : Cost) → 
     → StandsForLeast g s t qs d → c ≡ d
 one_cost g s t ps qs c d p q =
     sym p.priced
-    ∙ IsAtMost-antisymmetric (cost_of (s ∷ p.cells)) (cost_of (s ∷ q.cells)) (p.least.least q.cells q.least.walk)
+    ∙ IsAtMost-antisymmetric (cost_of (s ∷ p.cells)) (cost_of (s ∷ q.cells))
+    (p.least.least q.cells q.least.walk)
     (q.least.least p.cells p.least.walk)
     ∙ q.priced
 
@@ -54,15 +55,18 @@ module _ (ls : Layers) (are : AreLayers ls) (s t : Cell) where
   ends_free one = by_water (is_free ls.water s) one
     where
       by_water : (b : Bool)
-          → (is_free (if b then ls.water else ls.land) s && is_free (if b then ls.water else ls.land) t) ≡ true
+          → (is_free (if b then ls.water else ls.land) s && is_free (if b then ls.water else ls.land) t)
+          ≡ true
           → are_free_ends ls s t ≡ true
       by_water true one =
           let p = and_both (is_free ls.water s) (is_free ls.water t) one in
-          and_true (is_free_ground ls s) (is_free_ground ls t) (or_late (is_free ls.land s) (is_free ls.water s) p.0)
+          and_true (is_free_ground ls s) (is_free_ground ls t)
+          (or_late (is_free ls.land s) (is_free ls.water s) p.0)
           (or_late (is_free ls.land t) (is_free ls.water t) p.1)
       by_water false one =
           let p = and_both (is_free ls.land s) (is_free ls.land t) one in
-          and_true (is_free_ground ls s) (is_free_ground ls t) (or_early (is_free ls.land s) (is_free ls.water s) p.0)
+          and_true (is_free_ground ls s) (is_free_ground ls t)
+          (or_early (is_free ls.land s) (is_free ls.water s) p.0)
           (or_early (is_free ls.land t) (is_free ls.water t) p.1)
 
   -- free ends lie on the map
@@ -85,13 +89,15 @@ module _ (ls : Layers) (are : AreLayers ls) (s t : Cell) where
   not_blocked free shut = never (are_free_ends ls s t) free shut
 
   walk_or_none : {A : Type 0} (ps : List Cell) (c : Cost) → in_one_layer ls s t ≡ true
-      → StandsForLeast (query_grid ls s) s t ps c → (in_one_layer ls s t ≡ false) ⊎ NoWalk (query_grid ls s) s t → A
+      → StandsForLeast (query_grid ls s) s t ps c → (in_one_layer ls s t ≡ false)
+      ⊎ NoWalk (query_grid ls s) s t → A
   walk_or_none ps c one stands (inl two) = never (in_one_layer ls s t) one two
   walk_or_none ps c one stands (inr none) = absurd (none stands.cells stands.least.walk)
 
   pub alike : (one other : Reply) → IsRight ls s t (answer_of one) → IsRight ls s t (answer_of other)
       → AreAlike one other
-  alike (Walk ps c ms) (Walk qs d ns) p q = walks ps qs c d ms ns (one_cost (query_grid ls s) s t ps qs c d p.1 q.1)
+  alike (Walk ps c ms) (Walk qs d ns) p q =
+      walks ps qs c d ms ns (one_cost (query_grid ls s) s t ps qs c d p.1 q.1)
   alike (Walk ps c ms) (None ns) p q = walk_or_none ps c p.0 p.1 q.1
   alike (Walk ps c ms) Outside p q = not_outside (ends_free p.0) q
   alike (Walk ps c ms) Blocked p q = not_blocked (ends_free p.0) q.1

@@ -15,7 +15,8 @@ module _ (set other : Settings) (m : Map) (rule : set.one ≡ other.one) where
   layers_alike = ap (λ (one : Bool). layers_of (corner_of one) m.width m.height m.cells) rule
 
   -- and the answers are alike where the ways of the picked engines are
-  pub who_alike : way_of (by_of set.pick) ≡ way_of (by_of other.pick) → AnswerAlike (who_on set m) (who_on other m)
+  pub who_alike : way_of (by_of set.pick) ≡ way_of (by_of other.pick)
+      → AnswerAlike (who_on set m) (who_on other m)
   who_alike way = record { layers = layers_alike; way = way }
 
   module _ (d e : SessionData) (is : IsSessionOn set m d) (also : IsSessionOn other m e) where
@@ -23,7 +24,8 @@ module _ (set other : Settings) (m : Map) (rule : set.one ≡ other.one) where
     sessions_layers =
         ap (λ (w : Who). w.layers) is ∙ layers_alike ∙ sym (ap (λ (w : Who). w.layers) also)
 
-    pub sessions_alike : way_of (by_of set.pick) ≡ way_of (by_of other.pick) → AnswerAlike (who_is d) (who_is e)
+    pub sessions_alike : way_of (by_of set.pick) ≡ way_of (by_of other.pick)
+        → AnswerAlike (who_is d) (who_is e)
     sessions_alike way = record {
       layers = sessions_layers;
       way = ap (λ (w : Who). way_of w.by) is ∙ way ∙ sym (ap (λ (w : Who). way_of w.by) also);

@@ -7,11 +7,13 @@ use Rattle.io_edge.specs.Whole.{IsLonger, IsWhole}
 use Rattle.map_text.specs.Map as maps
 use Rattle.map_text.specs.Faults.{map_of}
 use Rattle.map_text.specs.declared.fault.MapFault.{MapFault}
-use Rattle.word_list.specs.Request.{Asked, Help, Version, Query, Solve, Live, Scen, Judge, Prove, Check, Make, Drill, Draw, Costs, Tables, Boxes, Moves}
+use Rattle.word_list.specs.Request.{Asked, Help, Version, Query, Solve, Live, Scen, Judge, Prove, Check, Make}
+use Rattle.word_list.specs.Request.{Drill, Draw, Costs, Tables, Boxes, Moves}
 use Rattle.word_list.specs.Settings.{is_for_small_maps}
 use Rattle.word_list.specs.declared.request.Settings.{Settings}
 use Rattle.call_files.specs.FaultLines.{large_line, long_line, map_line}
-use Rattle.call_files.specs.Files.{AreAccepted, File, HasRefused, IsAccepted, IsRefused, faulty, file_of, too_long}
+use Rattle.call_files.specs.Files.{AreAccepted, File, HasRefused, IsAccepted, IsRefused, faulty, file_of}
+use Rattle.call_files.specs.Files.{too_long}
 use Rattle.call_files.specs.Kinds.{fault_in, kind_for, kind_word, limit_of, refusal_of, small_refusal, takes}
 use Rattle.call_files.specs.Layered.{corner_of}
 use Rattle.call_files.specs.MapFiles.{map_kind}
@@ -24,10 +26,12 @@ use Rattle.outcome_laws.specs.Outcomes.{HasSmallMap, HoldsSmallMap}
 
 -- what is accepted or refused of the second files is so of the first
 pub record AreAlike (holds : List ℕ → Held) (files others : List File) : Type 0 where
-  pub accepted : (texts : List (List ℕ)) → AreAccepted holds [] others texts → AreAccepted holds [] files texts
+  pub accepted : (texts : List (List ℕ)) → AreAccepted holds [] others texts
+      → AreAccepted holds [] files texts
   pub refused : (line : List ℕ) → HasRefused holds others line → HasRefused holds files line
 
-pub same_alike : (holds : List ℕ → Held) (files others : List File) → files ≡ others → AreAlike holds files others
+pub same_alike : (holds : List ℕ → Held) (files others : List File) → files ≡ others
+    → AreAlike holds files others
 same_alike holds files others e = record {
   accepted = λ texts p. subst (λ (fs : List File). AreAccepted holds [] fs texts) (sym e) p;
   refused = λ line p. subst (λ (fs : List File). HasRefused holds fs line) (sym e) p;
@@ -40,7 +44,8 @@ record AreKindsAlike (held : Held) (one other : Kind) : Type 0 where
   refusal : (text : List ℕ) → held ≡ holding text → refusal_of one [] text ≡ refusal_of other [] text
 
 -- a whole text of a told file is what is held
-whole_held : (held : Held) (limit : ℕ) (text : List ℕ) → held ≢ untold → IsWhole held limit text → held ≡ holding text
+whole_held : (held : Held) (limit : ℕ) (text : List ℕ) → held ≢ untold → IsWhole held limit text
+    → held ≡ holding text
 whole_held untold limit text told p = absurd (told refl)
 whole_held absent limit text told p = absurd p
 whole_held (holding bytes) limit text told p = ap holding (sym p.0)
@@ -77,7 +82,8 @@ module _ (holds : List ℕ → Held) (name : List ℕ) (told : holds name ≢ un
 
     refused_in : (before : List File) (file : File) (rest : List File) (texts : List (List ℕ)) (line : List ℕ)
         → file_of one name ∷ behind ≡ before ++ file ∷ rest → AreAccepted holds [] before texts
-        → IsRefused texts file.kind (holds file.name) line → HasRefused holds (file_of other name ∷ behind) line
+        → IsRefused texts file.kind (holds file.name) line
+        → HasRefused holds (file_of other name ∷ behind) line
     unfolding first_or behind_first
     refused_in [] file rest [] line all are is = record {
       file = file_of other name;
@@ -105,7 +111,8 @@ module _ (holds : List ℕ → Held) (name : List ℕ) (told : holds name ≢ un
 
     all_refused : (line : List ℕ) → HasRefused holds (file_of one name ∷ behind) line
         → HasRefused holds (file_of other name ∷ behind) line
-    all_refused line has = refused_in has.comes.before has.file has.comes.behind has.comes.texts line has.comes.all
+    all_refused line has = refused_in has.comes.before has.file has.comes.behind has.comes.texts line
+        has.comes.all
         has.comes.accepted has.refused
 
 -- a small map is refused by the line of any map
@@ -137,8 +144,10 @@ pub small_alike : (holds : List ℕ → Held) (set other : Settings) → set.one
 small_alike holds set other rule (Scen map None scen) told small =
     let kinds = kinds_alike (holds map) small (is_for_small_maps other.pick) (is_for_small_maps set.pick) in
     record {
-      accepted = all_accepted holds map told.0 (map_kind other) (map_kind set) kinds (file_of kind.Scen scen ∷ []);
-      refused = all_refused holds map told.0 (map_kind other) (map_kind set) kinds (file_of kind.Scen scen ∷ []);
+      accepted = all_accepted holds map told.0 (map_kind other) (map_kind set) kinds
+          (file_of kind.Scen scen ∷ []);
+      refused = all_refused holds map told.0 (map_kind other) (map_kind set) kinds
+          (file_of kind.Scen scen ∷ []);
     }
 small_alike holds set other rule (Scen map (Some tables) scen) told small =
     same_alike holds (files_of (call_with (Scen map (Some tables) scen) set))

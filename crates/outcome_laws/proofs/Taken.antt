@@ -1,5 +1,6 @@
 -- What is answered for the bytes that were taken begins what the whole script is answered.
-use Rattle.std.proofs.Common.{◌≡◌, refl, sym, ap, ◌∙◌, subst, List, [], ◌∷◌, ◌++◌, append_assoc, ℕ, zero, suc, ◌+◌, ◌≤◌, ◌<◌, length, length-append, take, arith}
+use Rattle.std.proofs.Common.{◌≡◌, refl, sym, ap, ◌∙◌, subst, List, [], ◌∷◌, ◌++◌, append_assoc, ℕ, zero, suc}
+use Rattle.std.proofs.Common.{◌+◌, ◌≤◌, ◌<◌, length, length-append, take, arith}
 use Rattle.std.specs.Prelude.{Option, Some, None}
 use Rattle.std.proofs.lemmas.List.{append-nil, take_all}
 use Rattle.grid_moves.specs.Layers.{AreLayers}
@@ -12,7 +13,8 @@ use Rattle.call_files.specs.Kinds.{limit_of}
 use Rattle.call_files.specs.declared.kind.Kind.TheVariants as kind
 use Rattle.jps_run.specs.Who.{who_is}
 use Rattle.jps_run.specs.Answers.{AreAnswers}
-use Rattle.jps_run.specs.Heard.{AnswerHeard, AnswerPending, AnswerTaken, AreWhole, IsHeard, at_end, counted, so_far, too_long, whole}
+use Rattle.jps_run.specs.Heard.{AnswerHeard, AnswerPending, AnswerTaken, AreWhole, IsHeard, at_end, counted}
+use Rattle.jps_run.specs.Heard.{so_far, too_long, whole}
 use Rattle.outcome_laws.specs.Alike.{AnswerAlike, BeginWith}
 use Rattle.outcome_laws.proofs.Heard.{not_longer}
 use Rattle.outcome_laws.proofs.Lines.{answers_begin}

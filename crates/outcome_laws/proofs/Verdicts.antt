@@ -8,8 +8,10 @@ use Rattle.potential_check.specs.declared.certificate.Certificate.{Certificate}
 use Rattle.potential_check.specs.declared.certificate.Claim.{Claim}
 use Rattle.potential_check.specs.declared.verdict.Proof.{Proof}
 use Rattle.potential_check.specs.declared.verdict.Reject.{Reject}
-use Rattle.potential_check.specs.declared.verdict.Reject.TheVariants.{Size, Ends, Walk, Start, Goal, Move, Open}
-use Rattle.potential_check.specs.Accepted.{AcceptsClaim, IsAccepted, Refuses, RefusesClaim, claimed, has_free_ends, has_size}
+use Rattle.potential_check.specs.declared.verdict.Reject.TheVariants.{Size, Ends, Walk, Start, Goal, Move}
+use Rattle.potential_check.specs.declared.verdict.Reject.TheVariants.{Open}
+use Rattle.potential_check.specs.Accepted.{AcceptsClaim, IsAccepted, Refuses, RefusesClaim, claimed}
+use Rattle.potential_check.specs.Accepted.{has_free_ends, has_size}
 use Rattle.potential_check.specs.Text.{Plain, plain}
 use Rattle.grid_answers.specs.Certificates.{IsVerdict, accepted, proof_line, refused, reject_line}
 use Rattle.outcome_laws.proofs.Ground.{not_both}
@@ -48,7 +50,8 @@ ends_are_free g p = is_free g p.head.start && is_free g p.head.goal
 data Fails (g : GridData) (p : Plain) (why : Reject) : Type 0 where
   at_size : why ≡ Size → size_fits g p ≡ false → Fails g p why
   at_ends : why ≡ Ends → size_fits g p ≡ true → ends_are_free g p ≡ false → Fails g p why
-  at_claim : size_fits g p ≡ true → ends_are_free g p ≡ true → RefusesClaim g p.head.start p.head.goal p.claim why
+  at_claim : size_fits g p ≡ true → ends_are_free g p ≡ true
+      → RefusesClaim g p.head.start p.head.goal p.claim why
       → Fails g p why
 
 fails : (g : GridData) (c : Certificate) (why : Reject) → Refuses g c why → Fails g (plain c) why
@@ -89,7 +92,8 @@ pub one_refusal : (g : GridData) (c d : Certificate) (one other : Reject) → pl
     → Refuses g c one → Refuses g d other → one ≡ other
 one_refusal g c d one other same is also = refused_one g c d same one other is also
 
-pub one_verdict : (g : GridData) (c d : Certificate) (one other : List ℕ) (status code : ℕ) → plain c ≡ plain d
+pub one_verdict : (g : GridData) (c d : Certificate) (one other : List ℕ) (status code : ℕ)
+    → plain c ≡ plain d
     → IsVerdict g c one status → IsVerdict g d other code → (one ≡ other) × (status ≡ code)
 one_verdict g c d _ _ _ _ same (accepted is holds) (accepted also too) =
     (ap (λ (p : Plain). proof_line (claimed p.claim)) same, refl)

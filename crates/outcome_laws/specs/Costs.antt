@@ -21,7 +21,9 @@ gist_of (None taken) = none
 gist_of Outside = outside
 gist_of Blocked = blocked
 
--- where two who answer have the same layers of one map, their replies come to the same, however each is come to
+-- where two who answer have the same layers of one map, their replies come to the same, however each is come
+-- to
 abbrev pub RepliesCostTheSame : Type 0
 RepliesCostTheSame = (first second : Who) (s t : Cell) (one other : Reply) → first.layers ≡ second.layers
-    → AreLayers first.layers → IsReplyBy first s t one → IsReplyBy second s t other → gist_of one ≡ gist_of other
+    → AreLayers first.layers → IsReplyBy first s t one → IsReplyBy second s t other
+    → gist_of one ≡ gist_of other

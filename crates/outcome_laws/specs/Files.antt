@@ -10,7 +10,8 @@ AreTold holds (file ∷ files) = (holds file.name ≢ untold) × AreTold holds f
 
 -- told files hold at most one list of texts that are accepted in turn
 abbrev pub AcceptedTextsAreOne : Type 0
-AcceptedTextsAreOne = (holds : List ℕ → Held) (files : List File) (one other : List (List ℕ)) → AreTold holds files
+AcceptedTextsAreOne = (holds : List ℕ → Held) (files : List File) (one other : List (List ℕ))
+    → AreTold holds files
     → AreAccepted holds [] files one → AreAccepted holds [] files other → one ≡ other
 
 -- the first refused one has at most one line

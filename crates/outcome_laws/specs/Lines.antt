@@ -1,5 +1,5 @@
--- What two print who answer on the layers of one map. One who answers is like himself, so each law also says that what
--- is printed is the only such thing.
+-- What two print who answer on the layers of one map. One who answers is like himself, so each law also says
+-- that what is printed is the only such thing.
 use Rattle.std.specs.Prelude.{◌≡◌, ℕ, List, Option, Some}
 use Rattle.grid_moves.specs.declared.Cell.{Cell}
 use Rattle.grid_moves.specs.Layers.{AreLayers}
@@ -34,7 +34,8 @@ AnswersAreOne = (d e : SessionData) (show : Show) (commands : List Command) (lin
 
 -- what is drawn, and the status
 abbrev pub DrawingsAreOne : Type 0
-DrawingsAreOne = (d e : SessionData) (m : Map) (s t : Cell) (show : Show) (text same : List ℕ) (status also : ℕ)
+DrawingsAreOne = (d e : SessionData) (m : Map) (s t : Cell) (show : Show) (text same : List ℕ)
+    (status also : ℕ)
     → AreLayers d.layers → AnswerAlike (who_is d) (who_is e)
     → IsDrawing d m s t show text status → IsDrawing e m s t show same also → (text ≡ same) × (status ≡ also)
 

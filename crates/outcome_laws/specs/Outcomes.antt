@@ -1,4 +1,5 @@
--- That the outcome of a call is the only one, which engines print the same, and what is written where a call stops.
+-- That the outcome of a call is the only one, which engines print the same, and what is written where a call
+-- stops.
 use Rattle.std.specs.Prelude.{◌≡◌, ◌≢◌, ⊤, ◌⊎◌, ℕ, Bool, true, false, List, take, Ok, Some}
 use Rattle.std.specs.List.{concat}
 use Rattle.io_edge.specs.Told.{Disk, Held, Inflow, Outflow, holding}
@@ -23,10 +24,12 @@ use Rattle.jps_run.specs.Outcome.{IsOutcome, Outcome, Spell}
 abbrev pub FilesAreTold : List (List ℕ) → (List ℕ → Held) → Type 0
 FilesAreTold words holds = (call : Call) → Spell words call → AreTold holds (files_of call)
 
--- Where the files and the input are told, words come to at most one outcome: one status, one output and one line.
+-- Where the files and the input are told, words come to at most one outcome: one status, one output and one
+-- line.
 abbrev pub OutcomesAreOne : Type 0
 OutcomesAreOne = (words : List (List ℕ)) (holds : List ℕ → Held) (script : List ℕ) (one other : Outcome)
-    → FilesAreTold words holds → IsOutcome words holds (Some script) one → IsOutcome words holds (Some script) other
+    → FilesAreTold words holds → IsOutcome words holds (Some script) one
+    → IsOutcome words holds (Some script) other
     → one ≡ other
 
 -- the engines that jump
@@ -60,15 +63,16 @@ AsksForCosts other shown = ⊥
 
 -- the text that is held is that of a small map, or of none
 abbrev pub HoldsSmallMap : Held → Type 0
-HoldsSmallMap held = (text : List ℕ) (m : Map) → held ≡ holding text → map_of text ≡ Ok m → takes Small m ≡ true
+HoldsSmallMap held = (text : List ℕ) (m : Map) → held ≡ holding text → map_of text ≡ Ok m
+    → takes Small m ≡ true
 
 -- so is the text under the name of the map, by a call of `scen`
 abbrev pub HasSmallMap : (List ℕ → Held) → Asked → Type 0
 HasSmallMap holds (Scen map tables scen) = HoldsSmallMap (holds map)
 HasSmallMap holds other = ⊥
 
--- Of calls that ask for costs alone this is so for all engines, where these take the same maps, or neither call is
--- refused, or the text for the map is that of a small one, or of none.
+-- Of calls that ask for costs alone this is so for all engines, where these take the same maps, or neither
+-- call is refused, or the text for the map is that of a small one, or of none.
 abbrev pub EnginesPrintTheSameCosts : Type 0
 EnginesPrintTheSameCosts = (words others : List (List ℕ)) (call like : Call) (holds : List ℕ → Held)
     (script : List ℕ) (one other : Outcome) → AreTold holds (files_of call)
@@ -82,8 +86,8 @@ EnginesPrintTheSameCosts = (words others : List (List ℕ)) (call like : Call) (
 abbrev pub WroteLinesOf : List (List ℕ) → Outflow → Outflow → Type 0
 WroteLinesOf lines before now = (count : ℕ) × Wrote before now (concat (take count lines))
 
--- Where a call stops with no outcome, what it wrote is a first part of the output that its words come to: of its bytes
--- where a write failed; of its lines, each whole, where a read failed or for want of memory.
+-- Where a call stops with no outcome, what it wrote is a first part of the output that its words come to: of
+-- its bytes where a write failed; of its lines, each whole, where a read failed or for want of memory.
 abbrev pub WrittenBeginsTheOutput : Type 0
 WrittenBeginsTheOutput = (words : List (List ℕ)) (disk disk_now : Disk) (input input_now : Inflow)
     (out out_now : Outflow) (script : List ℕ) (outcome : Outcome) → FilesAreTold words disk.holds

@@ -17,5 +17,6 @@ JudgementsAreOne = (g : GridData) (s t : Cell) (what : Told) (one other : Judged
 
 -- on the layers of one map, entries and what is told of each have at most one list of rows
 abbrev pub RulingsAreOne : Type 0
-RulingsAreOne = (ls : Layers) (entries : List Entry) (walks : List Told) (one other : List Ruling) → AreLayers ls
+RulingsAreOne = (ls : Layers) (entries : List Entry) (walks : List Told) (one other : List Ruling)
+    → AreLayers ls
     → AreRulings ls entries walks one → AreRulings ls entries walks other → one ≡ other

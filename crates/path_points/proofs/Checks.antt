@@ -1,6 +1,9 @@
 -- The check of points as a function on lists: when it finds a walk, and when a bad point.
-use Rattle.std.proofs.Common.{◌≡◌, ℕ, zero, suc, ◌+◌, ◌<◌, ◌≤◌, arith, Bool, true, false, ◌⊎◌, inl, inr, refl, ap, sym, ◌∙◌, subst, List, [], ◌∷◌, ◌++◌, length, drop, get_or, length-append, zero-add}
-use Rattle.std.specs.Prelude.{if◌then◌else◌, nat_le, Option, Some, None, Result, Ok, Err, option_map, not, IfOk, IfErr}
+use Rattle.std.proofs.Common.{◌≡◌, ℕ, zero, suc, ◌+◌, ◌<◌, ◌≤◌, arith, Bool, true, false, ◌⊎◌, inl, inr, refl}
+use Rattle.std.proofs.Common.{ap, sym, ◌∙◌, subst, List, [], ◌∷◌, ◌++◌, length, drop, get_or, length-append}
+use Rattle.std.proofs.Common.{zero-add}
+use Rattle.std.specs.Prelude.{if◌then◌else◌, nat_le, Option, Some, None, Result, Ok, Err, option_map, not}
+use Rattle.std.specs.Prelude.{IfOk, IfErr}
 use Rattle.std.proofs.lemmas.Bool.Decides.{nat_tests}
 use Rattle.std.proofs.lemmas.List.{at_drop_more, at_drop_all}
 use Rattle.root2_cost.specs.declared.Cost.{Cost}
@@ -13,7 +16,8 @@ use Rattle.grid_moves.specs.Least.{IsLeast}
 use Rattle.grid_moves.specs.Walk.{is_walk, cost_of}
 use Rattle.grid_moves.proofs.Short.{walk_free}
 use Rattle.path_points.specs.declared.checking.BadAt.{BadAt}
-use Rattle.path_points.specs.Checked.{most_steps, run, good_cost, is_legal_run, is_good_run, starts_free, breaks_after, is_bad_at, IsFirstBad, IsShortWalk}
+use Rattle.path_points.specs.Checked.{most_steps, run, good_cost, is_legal_run, is_good_run, starts_free}
+use Rattle.path_points.specs.Checked.{breaks_after, is_bad_at, IsFirstBad, IsShortWalk}
 use Rattle.path_points.proofs.Filling.{and_both, segment-length}
 use Rattle.path_points.proofs.Joined.{run_joined, run_parts, run_free, run_cost_joined, run_counts}
 use Rattle.path_points.proofs.Running.{le_true}

@@ -1,9 +1,11 @@
 -- Segments cell by cell, and unfolding point by point.
-use Rattle.std.proofs.Common.{◌≡◌, ℕ, zero, suc, ◌+◌, ◌-◌, ◌<◌, arith, Bool, true, false, ◌&&◌, refl, ap, sym, ◌∙◌, List, [], ◌∷◌, ◌++◌, append_assoc, length}
+use Rattle.std.proofs.Common.{◌≡◌, ℕ, zero, suc, ◌+◌, ◌-◌, ◌<◌, arith, Bool, true, false, ◌&&◌, refl, ap, sym}
+use Rattle.std.proofs.Common.{◌∙◌, List, [], ◌∷◌, ◌++◌, append_assoc, length}
 use Rattle.std.specs.Prelude.{Option, Some, None, option_map}
 use Rattle.std.proofs.lemmas.Bool.Decides.{nat_tests}
 use Rattle.grid_moves.specs.declared.Cell.{Cell}
-use Rattle.grid_moves.specs.Points.{apart, steps_between, are_lined, toward, step_toward, segment, unfolded_from}
+use Rattle.grid_moves.specs.Points.{apart, steps_between, are_lined, toward, step_toward, segment}
+use Rattle.grid_moves.specs.Points.{unfolded_from}
 use Rattle.grid_moves.specs.Walk.{last_of}
 use Rattle.grid_moves.proofs.Legal.{same_cell}
 

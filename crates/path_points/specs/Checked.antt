@@ -1,5 +1,6 @@
 -- Points that stand for a walk of few steps, and the first bad point where they don't.
-use Rattle.std.specs.Prelude.{◌≡◌, ℕ, zero, suc, ◌+◌, ◌^◌, ◌≤◌, Bool, true, false, nat_le, not, ◌&&◌, IsTrue, refl, List, [], ◌∷◌, length, Option, Some, None, if◌then◌else◌}
+use Rattle.std.specs.Prelude.{◌≡◌, ℕ, zero, suc, ◌+◌, ◌^◌, ◌≤◌, Bool, true, false, nat_le, not, ◌&&◌, IsTrue}
+use Rattle.std.specs.Prelude.{refl, List, [], ◌∷◌, length, Option, Some, None, if◌then◌else◌}
 use Rattle.root2_cost.specs.declared.Cost.{Cost}
 use Rattle.grid_moves.specs.declared.Cell.{Cell}
 use Rattle.grid_moves.specs.declared.Corner.TheVariants.{Never, One}
@@ -63,7 +64,8 @@ pub along_the_row : is_legal_run (pillar Never) (record { x = 0; y = 0 }) (recor
 along_the_row = refl
 
 -- through the pillar leads none
-pub through_the_pillar : is_legal_run (pillar Never) (record { x = 0; y = 0 }) (record { x = 2; y = 2 }) ≡ false
+pub through_the_pillar : is_legal_run (pillar Never) (record { x = 0; y = 0 }) (record { x = 2; y = 2 })
+    ≡ false
 through_the_pillar = refl
 
 -- past its corner leads one where one blocked cell may be passed

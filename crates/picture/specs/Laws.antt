@@ -14,8 +14,8 @@ is_drawn kind row x = list_any (has_cell x) (runs_of kind row)
 abbrev pub RunsAreLongest : Type 0
 RunsAreLongest = (marks : List Bool) → AreRunsOf marks (runs_from 0 marks)
 
--- a cell of a row of a map lies under the strokes of its own ground and of no other; it lies under none exactly
--- where it is background
+-- a cell of a row of a map lies under the strokes of its own ground and of no other; it lies under none
+-- exactly where it is background
 pub record IsDrawnOnce (row : List ℕ) (x : ℕ) : Type 0 where
   pub strokes : (kind : Ground) → (is_drawn kind row x ≡ true) ↔ (ground_of (slice_index row x) ≡ Some kind)
   pub none : (is_background (slice_index row x) ≡ true) ↔ (ground_of (slice_index row x) ≡ None)

@@ -71,8 +71,8 @@ ground_line kind map =
 abbrev pub tenths_text : ℕ → List ℕ
 tenths_text tenths = decimal (tenths / 10) ++ codes "." ++ decimal (tenths % 10)
 
--- the width of the walk and the radius of its ends, in tenths of a cell: it grows with the longer side, so that
--- the walk is seen on a large map too
+-- the width of the walk and the radius of its ends, in tenths of a cell: it grows with the longer side, so
+-- that the walk is seen on a large map too
 abbrev pub thickness : Map → ℕ
 thickness map = 4 + max map.width map.height / 32
 
@@ -106,7 +106,8 @@ title_line start goal walk =
 -- the background
 abbrev pub background_line : Map → List ℕ
 background_line map =
-    named_text (codes "<rect width=\"") map.width ++ named_text (codes "\" height=\"") map.height ++ codes "\" fill=\"#f4f1e8\"/>"
+    named_text (codes "<rect width=\"") map.width ++ named_text (codes "\" height=\"") map.height
+    ++ codes "\" fill=\"#f4f1e8\"/>"
 
 -- the taken states
 abbrev pub states_line : ℕ → List ℕ → List ℕ
@@ -155,8 +156,8 @@ abbrev pub end_lines : ℕ → Cell → Cell → List (List ℕ)
 end_lines tenths start goal =
     end_line tenths (codes "#1f6f43") start ∷ end_line tenths (codes "#7b2d8b") goal ∷ codes "</svg>" ∷ []
 
--- the lines of a picture of a map, the two ends of a query, its walk, if there is one, and its taken states, if
--- they are shown
+-- the lines of a picture of a map, the two ends of a query, its walk, if there is one, and its taken states,
+-- if they are shown
 abbrev pub picture_lines : Map → Cell → Cell → Option Walk → Option (List ℕ) → List (List ℕ)
 picture_lines map start goal walk taken = head_lines map start goal walk ++ ground_lines map
     ++ taken_lines map.width taken ++ walk_lines (thickness map) walk ++ end_lines (thickness map) start goal

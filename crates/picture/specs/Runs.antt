@@ -1,5 +1,6 @@
 -- The longest runs of marked cells of a row.
-use Rattle.std.specs.Prelude.{◌≡◌, ℕ, ◌+◌, ◌≤◌, Bool, true, false, nat_lt, nat_le, ◌==◌, ◌&&◌, if◌then◌else◌, List, [], ◌∷◌, slice_index_or, ⊤}
+use Rattle.std.specs.Prelude.{◌≡◌, ℕ, ◌+◌, ◌≤◌, Bool, true, false, nat_lt, nat_le, ◌==◌, ◌&&◌, if◌then◌else◌}
+use Rattle.std.specs.Prelude.{List, [], ◌∷◌, slice_index_or, ⊤}
 use Rattle.std.specs.List.{list_any}
 
 -- cells of a row beside one another: the column of the first one, from 0, and how many they are
@@ -7,8 +8,8 @@ pub record Run : Type 0 where
   pub from : ℕ
   pub long : ℕ
 
--- runs with the cell of a column before them: it joins the first run where that begins in the next column, else it
--- is a run of its own
+-- runs with the cell of a column before them: it joins the first run where that begins in the next column,
+-- else it is a run of its own
 abbrev pub with_cell : ℕ → List Run → List Run
 with_cell x [] = record { from = x; long = 1 } ∷ []
 with_cell x (run ∷ runs) =

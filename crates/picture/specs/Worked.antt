@@ -6,7 +6,8 @@ use Rattle.map_text.specs.Map.{Map}
 use Rattle.map_text.specs.Writing.{text_of}
 use Rattle.picture.specs.declared.kinds.Ground.TheVariants.{Wall}
 use Rattle.picture.specs.Runs.{runs_from}
-use Rattle.picture.specs.Picture.{Walk, thickness, tenths_text, state_stroke, strokes_from, points_text, picture_of}
+use Rattle.picture.specs.Picture.{Walk, thickness, tenths_text, state_stroke, strokes_from, points_text}
+use Rattle.picture.specs.Picture.{picture_of}
 
 -- runs at both ends of a row
 pub two_runs : runs_from 0 (true ∷ true ∷ false ∷ false ∷ true ∷ [])

@@ -1,11 +1,13 @@
 -- Sorted lists of different cells ascend strictly by their numbers.
-use Rattle.std.proofs.Common.{◌≡◌, ℕ, suc, ◌+◌, ◌*◌, ◌<◌, ◌≤◌, ◌⊎◌, inl, inr, length, List, [], ◌∷◌, refl, ap, arith, map, Bool, true, false, eqb, get_or}
+use Rattle.std.proofs.Common.{◌≡◌, ℕ, suc, ◌+◌, ◌*◌, ◌<◌, ◌≤◌, ◌⊎◌, inl, inr, length, List, [], ◌∷◌, refl, ap}
+use Rattle.std.proofs.Common.{arith, map, Bool, true, false, eqb, get_or}
 use Rattle.std.proofs.Math.Nat.{mul-le-mul}
 use Rattle.std.proofs.lemmas.Bool.Decides.{nat_tests}
 use Rattle.std.proofs.lemmas.List.{get_or-map, length-map}
 use Rattle.std.proofs.lemmas.List.Elements.{Contains-get_or}
 use Rattle.std.proofs.lemmas.List.Sorted.{IsPermutation-map}
-use Rattle.std.proofs.lemmas.Map.Keys.{IsDistinct-IsPermutation, IsDistinct-cons, IsStrictlyIncreasing-from_distinct}
+use Rattle.std.proofs.lemmas.Map.Keys.{IsDistinct-IsPermutation, IsDistinct-cons}
+use Rattle.std.proofs.lemmas.Map.Keys.{IsStrictlyIncreasing-from_distinct}
 use Rattle.std.specs.Prelude.{Option, Some, None, slice_get}
 use Rattle.std.specs.List.{AllByRecursion, Contains, IsDistinct, cons_option, filter_map}
 use Rattle.std.specs.List.Sorted.{IsNonDecreasing, IsStrictlyIncreasing}
@@ -34,7 +36,8 @@ module _ {X Y : Type 0} (make : X → Option Y) (number : Y → ℕ) where
   unfolding IsDistinct
   distinct_made [] h = tt
   distinct_made (w ∷ xs) h =
-      by_head (make w) refl (distinct_made xs (λ i j a b y z p q r s e. less i j (h (suc i) (suc j) a b y z p q r s e)))
+      by_head (make w) refl
+      (distinct_made xs (λ i j a b y z p q r s e. less i j (h (suc i) (suc j) a b y z p q r s e)))
     where
       less : (i j : ℕ) → suc i ≡ suc j → i ≡ j
       less i j e = omega arith
@@ -113,20 +116,24 @@ ascending {X} cell width some sorted narrow by apart columns = by_sorted sorted 
         → IsStrictlyIncreasing (map (λ x. cell_number width (cell x)) sorted)
     by_sorted [] by apart columns = λ k h. absurd (omega arith)
     by_sorted (d ∷ rest) by apart columns = λ k h.
-        let n : k + 1 < length (d ∷ rest) = rw (length-map (d ∷ rest) (λ x. cell_number width (cell x))) at h in
+        let n : k + 1 < length (d ∷ rest) =
+        rw (length-map (d ∷ rest) (λ x. cell_number width (cell x))) at h in
         let distinct = IsDistinct-IsPermutation eqb flips (map (λ x. place_number (cell x)) some)
         (map (λ x. place_number (cell x)) (d ∷ rest))
         (IsPermutation-map (λ x. place_number (cell x)) some (d ∷ rest) by.permutation) apart in
         let up : IsNonDecreasing (map (λ x. place_number (cell x)) (d ∷ rest)) = λ i j e l m.
         (let m2 : j < length (d ∷ rest) = rw (length-map (d ∷ rest) (λ x. place_number (cell x))) at m in
-        let a = get_or-map (λ x. place_number (cell x)) (d ∷ rest) i d e (lower i j (length (d ∷ rest)) l m2) in
+        let a = get_or-map (λ x. place_number (cell x)) (d ∷ rest) i d e
+        (lower i j (length (d ∷ rest)) l m2) in
         let b = get_or-map (λ x. place_number (cell x)) (d ∷ rest) j d e m2 in
         rw (a, b) (by.ordered i j d l m2)) in
-        let strict = IsStrictlyIncreasing-from_distinct (map (λ x. place_number (cell x)) (d ∷ rest)) up distinct in
+        let strict = IsStrictlyIncreasing-from_distinct (map (λ x. place_number (cell x)) (d ∷ rest)) up
+        distinct in
         let less = strict k (rw (length-map (d ∷ rest) (λ x. place_number (cell x))) n) in
         let a = get_or-map (λ x. place_number (cell x)) (d ∷ rest) k d 0 (before k (length (d ∷ rest)) n) in
         let b = get_or-map (λ x. place_number (cell x)) (d ∷ rest) (k + 1) d 0 n in
-        let c = get_or-map (λ x. cell_number width (cell x)) (d ∷ rest) k d 0 (before k (length (d ∷ rest)) n) in
+        let c = get_or-map (λ x. cell_number width (cell x)) (d ∷ rest) k d 0
+        (before k (length (d ∷ rest)) n) in
         let e = get_or-map (λ x. cell_number width (cell x)) (d ∷ rest) (k + 1) d 0 n in
         rw (c, e) (number_less width (cell (get_or (d ∷ rest) k d)) (cell (get_or (d ∷ rest) (k + 1) d))
         (columns (get_or (d ∷ rest) k d) (Contains-get_or (d ∷ rest) k d (before k (length (d ∷ rest)) n)))

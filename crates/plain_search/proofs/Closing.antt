@@ -1,5 +1,6 @@
 -- The closed cells of a search that took its goal.
-use Rattle.std.proofs.Common.{◌≡◌, ℕ, ◌<◌, ◌≤◌, inl, inr, List, [], ◌∷◌, refl, ap, sym, ◌∙◌, subst, arith, Bool, true, false}
+use Rattle.std.proofs.Common.{◌≡◌, ℕ, ◌<◌, ◌≤◌, inl, inr, List, [], ◌∷◌, refl, ap, sym, ◌∙◌, subst, arith}
+use Rattle.std.proofs.Common.{Bool, true, false}
 use Rattle.std.proofs.lemmas.Bool.Decides.{nat_tests}
 use Rattle.std.proofs.lemmas.List.Sorted.{IsPermutation-sym, Contains-permutation}
 use Rattle.std.specs.Prelude.{Option, Some, None, slice_get, nat_lt, if◌then◌else◌}
@@ -43,7 +44,8 @@ use Rattle.plain_search.proofs.Walks.{plain_are_moves, plain_consistent, walk_ch
 
 -- a taken state's cell has the cost at which it was taken as its least
 pub taken_least : (g : GridData) (s t : Cell) (run : List (Taken State)) → is_free g s ≡ true
-    → IsRun (plain_rule g t) (start_at s) run → (u : Taken State) → IsIn u run → u.state ≡ start_at u.state.cell
+    → IsRun (plain_rule g t) (start_at s) run → (u : Taken State) → IsIn u run
+    → u.state ≡ start_at u.state.cell
     → IsLeastCost g s u.state.cell u.cost
 taken_least g s t run free is u m plain =
     let w = way g t (plain_links g) (plain_are_moves g) s run free is u m in
@@ -52,10 +54,12 @@ taken_least g s t run free is u m plain =
       least = record {
         walk = record { legal = w.goes.legal; ends = w.goes.ends };
         least = λ others o.
-            let to : start_at (last_of s others) ≡ u.state = ap (λ (c : Cell). start_at c) o.ends ∙ sym plain in
+            let to : start_at (last_of s others) ≡ u.state = ap (λ (c : Cell). start_at c) o.ends
+            ∙ sym plain in
             let chain = walk_chain g t s others o.legal in
             (Most-then (Most-same w.goes.priced)
-            (taken_is_least (plain_rule g t) (plain_consistent g t) (start_at s) run u (cost_of (s ∷ others)) is m
+            (taken_is_least (plain_rule g t) (plain_consistent g t) (start_at s) run u (cost_of (s ∷ others))
+            is m
             (rw to at chain))).is;
       };
       priced = w.goes.priced;
@@ -89,7 +93,8 @@ entry_is : (goal : Cell) (limit : ℕ) (n : Node) (c : Cell) (cost : Cost)
 entry_is goal limit n c cost h = by_test (nat_lt n.key limit) refl h
   where
     by_test : (b : Bool) → nat_lt n.key limit ≡ b
-        → (if b then Some (entry (node_cell n) (cost_of_rank (rank_left goal n))) else None) ≡ Some (entry c cost)
+        → (if b then Some (entry (node_cell n) (cost_of_rank (rank_left goal n))) else None)
+        ≡ Some (entry c cost)
         → IsEntry goal limit n c cost
     by_test false e h = absurd (cc)
     by_test true e h =
@@ -113,16 +118,21 @@ first_no : (g : GridData) (s t : Cell) (x : Taken State) (earlier : List (Taken 
     → IsLess (sum_at (plain_rule g t) v o.cost) (sum_at (plain_rule g t) x.state x.cost) → ⊥
 first_no g s t x [] v o is u b less = cc
 first_no g s t x (y ∷ more) v o is u b less =
-    let untaken = (or_false ((plain_rule g t).is_same x.state v) (is_taken (plain_rule g t) (y ∷ more) v) u).1 in
+    let untaken =
+    (or_false ((plain_rule g t).is_same x.state v) (is_taken (plain_rule g t) (y ∷ more) v) u).1 in
     let no = is.2.first v o untaken b in
-    let f = (or_false (is_less (sum_at (plain_rule g t) v o.cost) (sum_at (plain_rule g t) x.state x.cost)) _ no).0 in
-    let y : is_less (sum_at (plain_rule g t) v o.cost) (sum_at (plain_rule g t) x.state x.cost) ≡ true = less in
+    let f = (or_false (is_less (sum_at (plain_rule g t) v o.cost) (sum_at (plain_rule g t) x.state x.cost))
+    _ no).0 in
+    let y : is_less (sum_at (plain_rule g t) v o.cost) (sum_at (plain_rule g t) x.state x.cost) ≡ true =
+    less in
     cc
 
-module _ {g : GridData} {s t : Cell} (asked : IsAsked g s t (plain_links g)) {at : ℕ} {k : Table} {taken : List ℕ}
+module _ {g : GridData} {s t : Cell} (asked : IsAsked g s t (plain_links g)) {at : ℕ} {k : Table}
+    {taken : List ℕ}
     (h : HasTaken g s t at k taken) where
   abbrev order : (id : ℕ) (n : Node) → slice_get k.nodes id ≡ Some n
-      → IsInOrder ByCell g.width t (plain_links g) (h.last ∷ h.earlier) (least_offer (plain_rule g t) h.earlier) k id n
+      → IsInOrder ByCell g.width t (plain_links g) (h.last ∷ h.earlier)
+      (least_offer (plain_rule g t) h.earlier) k id n
   order id n e = h.searching.mirrors.in_order id n e
 
   pub are_priced : ArePriced t k.nodes
@@ -137,7 +147,8 @@ module _ {g : GridData} {s t : Cell} (asked : IsAsked g s t (plain_links g)) {at
   last_node = h.searching.node
 
   last_cost : (order at last_node h.searching.node_is).offer.cost ≡ h.last.cost
-  last_cost = sym ((order at last_node h.searching.node_is).taken_by h.last (here h.earlier) (sym h.searching.state)).0
+  last_cost = sym ((order at last_node h.searching.node_is).taken_by h.last (here h.earlier)
+      (sym h.searching.state)).0
 
   last_state : h.last.state ≡ start_at (node_cell last_node)
   last_state = sym h.searching.state
@@ -145,7 +156,8 @@ module _ {g : GridData} {s t : Cell} (asked : IsAsked g s t (plain_links g)) {at
   abbrev last_sum : Cost
   last_sum = sum_at (plain_rule g t) h.last.state h.last.cost
 
-  sum_is : sum_at (plain_rule g t) (state_of ByCell last_node) (order at last_node h.searching.node_is).offer.cost
+  sum_is : sum_at (plain_rule g t) (state_of ByCell last_node)
+      (order at last_node h.searching.node_is).offer.cost
       ≡ last_sum
   sum_is = ap (λ (c : Cost). sum_at (plain_rule g t) (state_of ByCell last_node) c) last_cost
       ∙ ap (λ (v : State). sum_at (plain_rule g t) v h.last.cost) h.searching.state
@@ -168,9 +180,10 @@ module _ {g : GridData} {s t : Cell} (asked : IsAsked g s t (plain_links g)) {at
       by_test false u =
           let o = order id n e in
           let lesser : IsLess (sum_at (plain_rule g t) (state_of ByCell n) o.offer.cost) last_sum =
-          ranks_less (sum_at (plain_rule g t) (state_of ByCell n) o.offer.cost) last_sum o.keeps.short last_short
-          (rw (sym o.keeps.key, sym limit_is) less) in
-          absurd (first_no g s t h.last h.earlier (state_of ByCell n) o.offer h.searching.run u (o.best_is u) lesser)
+          ranks_less (sum_at (plain_rule g t) (state_of ByCell n) o.offer.cost) last_sum o.keeps.short
+          last_short (rw (sym o.keeps.key, sym limit_is) less) in
+          absurd (first_no g s t h.last h.earlier (state_of ByCell n) o.offer h.searching.run u
+          (o.best_is u) lesser)
 
   module _ (goal : IsAtGoal t k at) where
     at_t : node_cell last_node ≡ t
@@ -203,8 +216,8 @@ module _ {g : GridData} {s t : Cell} (asked : IsAsked g s t (plain_links g)) {at
         let least : IsLeastCost g s u.0.state.cell u.0.cost =
         taken_least g s t (h.last ∷ h.earlier) asked.from h.searching.run u.0 u.1 plain in
         let lesser : IsLess (sum_at (plain_rule g t) (state_of ByCell n) o.offer.cost) last_sum =
-        ranks_less (sum_at (plain_rule g t) (state_of ByCell n) o.offer.cost) last_sum o.keeps.short last_short
-        (rw (sym o.keeps.key, sym limit_is) is.below) in (
+        ranks_less (sum_at (plain_rule g t) (state_of ByCell n) o.offer.cost) last_sum o.keeps.short
+        last_short (rw (sym o.keeps.key, sym limit_is) is.below) in (
           subst (λ (d : Cost). IsLeastCost g s c d) paid
               (subst (λ (d : Cell). IsLeastCost g s d u.0.cost) where_ least),
           subst (λ (d : Cost). IsLess (add_costs cost (estimate c t)) d) sum_cost
@@ -222,9 +235,11 @@ module _ {g : GridData} {s t : Cell} (asked : IsAsked g s t (plain_links g)) {at
         ends = ap (λ (d : Cell). start_at d) least.least.walk.ends
 
         lesser : IsLess (sum_at (plain_rule g t) (start_at c) (cost_of (s ∷ least.cells))) last_sum
-        lesser = subst (λ (d : Cost). IsLess (sum_at (plain_rule g t) (start_at c) (cost_of (s ∷ least.cells))) d)
+        lesser =
+            subst (λ (d : Cost). IsLess (sum_at (plain_rule g t) (start_at c) (cost_of (s ∷ least.cells))) d)
             (sym sum_cost)
-            (subst (λ (d : Cost). IsLess (sum_at (plain_rule g t) (start_at c) d) h.last.cost) (sym least.priced) below)
+            (subst (λ (d : Cost). IsLess (sum_at (plain_rule g t) (start_at c) d) h.last.cost)
+            (sym least.priced) below)
 
         is_in : is_taken (plain_rule g t) (h.last ∷ h.earlier) (start_at c) ≡ true
         is_in = lower_taken (plain_rule g t) (plain_consistent g t) (start_at s) (start_at c) h.last h.earlier
@@ -238,9 +253,11 @@ module _ {g : GridData} {s t : Cell} (asked : IsAsked g s t (plain_links g)) {at
         by_lookup (Some id) e =
             let f = lookup-found ByCell k.nodes (start_at c) id e in
             let o = order id f.node f.node_is in
-            let u = taken_state (plain_rule g t) (plain_consistent g t) (h.last ∷ h.earlier) (start_at c) is_in in
+            let u = taken_state (plain_rule g t) (plain_consistent g t) (h.last ∷ h.earlier)
+            (start_at c) is_in in
             let where_ : u.0.state.cell ≡ c = ap (λ (v : State). v.cell) u.2 in
-            let plain : u.0.state ≡ start_at u.0.state.cell = u.2 ∙ ap (λ (d : Cell). start_at d) (sym where_) in
+            let plain : u.0.state ≡ start_at u.0.state.cell =
+            u.2 ∙ ap (λ (d : Cell). start_at d) (sym where_) in
             let taken_cost : IsLeastCost g s c u.0.cost =
             subst (λ (d : Cell). IsLeastCost g s d u.0.cost) where_
             (taken_least g s t (h.last ∷ h.earlier) asked.from h.searching.run u.0 u.1 plain) in
@@ -251,7 +268,8 @@ module _ {g : GridData} {s t : Cell} (asked : IsAsked g s t (plain_links g)) {at
             ≡ add_costs cost (estimate c t) =
             ap (λ (d : Cost). add_costs d (estimate (node_cell f.node) t)) offered
             ∙ ap (λ (d : Cell). add_costs cost (estimate d t)) cell in
-            let short : HasShortParts (add_costs cost (estimate c t)) = subst HasShortParts sum o.keeps.short in
+            let short : HasShortParts (add_costs cost (estimate c t)) =
+            subst HasShortParts sum o.keeps.short in
             let key : f.node.key ≡ rank_of (add_costs cost (estimate c t)) = o.keeps.key ∙ ap rank_of sum in
             let less : rank_of (add_costs cost (estimate c t)) < rank_of last_sum =
             less_ranks (add_costs cost (estimate c t)) last_sum short
@@ -300,11 +318,13 @@ module _ {g : GridData} {s t : Cell} (asked : IsAsked g s t (plain_links g)) {at
             → AreClosed g s t h.last.cost closed
         in_order by = record {
           only = λ c cost m. only_closed c cost (entry_of by (c, cost) m);
-          all = λ c cost least below. Contains-permutation (entries_below t last_node.key k.nodes) closed (c, cost)
+          all = λ c cost least below. Contains-permutation (entries_below t last_node.key k.nodes) closed
+              (c, cost)
               by.permutation (all_closed c cost least below);
           ascend = ascending (λ (e : Cell × Cost). e.0) g.width (entries_below t last_node.key k.nodes) closed
               (let n = asked.whole.sides.narrow in omega arith) by
-              (distinct_made (entry_below t last_node.key) (λ (e : Cell × Cost). place_number e.0) k.nodes one_made)
+              (distinct_made (entry_below t last_node.key) (λ (e : Cell × Cost). place_number e.0) k.nodes
+              one_made)
               (λ y m.
               let made = contained_made (entry_below t last_node.key) k.nodes y (entry_of by y m) in
               let is = entry_is t last_node.key made.from y.0 y.1 made.made in

@@ -49,17 +49,20 @@ module _ {g : GridData} {s t : Cell} {link : Links} (asked : IsAsked g s t link)
       ap (λ (m : Node). is_free g (node_cell m))
       (some_node n h.searching.node (sym read ∙ h.searching.node_is)) ∙ node_free asked h.searching
 
-module _ {g : GridData} {s t : Cell} (asked : IsAsked g s t (plain_links g)) {at : ℕ} {k : Table} {taken : List ℕ}
+module _ {g : GridData} {s t : Cell} (asked : IsAsked g s t (plain_links g)) {at : ℕ} {k : Table}
+    {taken : List ℕ}
     (h : HasTaken g s t at k taken) where
   -- what the offers of the last state ask for
   pub may_go_on : (space : SpaceData) → space.table ≡ k → IsReady g space → (n : Node)
       → slice_get k.nodes at ≡ Some n → MayExpand g t at n space
   may_go_on space e ready n read =
-      subst (λ (m : Node). MayExpand g t at m space) (some_node h.searching.node n (sym h.searching.node_is ∙ read))
+      subst (λ (m : Node). MayExpand g t at m space)
+      (some_node h.searching.node n (sym h.searching.node_is ∙ read))
       (may_expand asked h.last h.earlier at h.searching space e ready.width ready.places)
 
   -- after the offers
-  pub has_offered : (later : Table) → ((n : Node) → slice_get k.nodes at ≡ Some n → is_same (node_cell n) t ≡ false)
+  pub has_offered : (later : Table)
+      → ((n : Node) → slice_get k.nodes at ≡ Some n → is_same (node_cell n) t ≡ false)
       → ((n : Node) → slice_get k.nodes at ≡ Some n → HasExpanded g t at n k later)
       → search.HasOffered ByCell g.width t (plain_links g) s at later taken
   has_offered later open_ended expanded =
@@ -71,7 +74,8 @@ module _ {g : GridData} {s t : Cell} (asked : IsAsked g s t (plain_links g)) {at
       let ended : is_same h.last.state.cell t ≡ false =
       ap (λ (u : Cell). is_same u t) cell ∙ open_ended node h.searching.node_is in
       let ways : List Onward = ways_over (less_offered e.around (sides_of by)) (node_cell node) all_dirs in
-      let made = all_over asked h.last h.earlier at e.around (sides_of by) all_dirs best k h.searching node refl
+      let made = all_over asked h.last h.earlier at e.around (sides_of by) all_dirs best k h.searching
+      node refl
       e.is_around in
       let around : IsAround g h.last.state.cell e.around =
       subst (λ (u : Cell). IsAround g u e.around) (sym cell) e.is_around in

@@ -1,5 +1,6 @@
 -- A legal move that is not kept leads where the parent's move is legal too.
-use Rattle.std.proofs.Common.{◌≡◌, ℕ, ◌+◌, ◌⊎◌, inl, inr, refl, ap, sym, ◌∙◌, arith, Bool, true, false, ◌&&◌, ◌||◌, not}
+use Rattle.std.proofs.Common.{◌≡◌, ℕ, ◌+◌, ◌⊎◌, inl, inr, refl, ap, sym, ◌∙◌, arith, Bool, true, false, ◌&&◌}
+use Rattle.std.proofs.Common.{◌||◌, not}
 use Rattle.std.specs.Prelude.{Option, Some, None, if◌then◌else◌}
 use Rattle.grid_moves.specs.declared.Cell.{Cell}
 use Rattle.grid_moves.specs.declared.Dir.{Dir}
@@ -12,7 +13,8 @@ use Rattle.grid_moves.proofs.Ahead.{legal_ahead-is}
 use Rattle.grid_moves.proofs.Legal.{legal_is, same_cell, and_both}
 use Rattle.plain_search.specs.declared.moves.Behind.{Behind}
 use Rattle.plain_search.specs.Offers.{less_offered}
-use Rattle.plain_search.proofs.Leaving.{LiesAt, some_number, before_is, ahead_parts, beside_in_row, beside_in_column, at_corner}
+use Rattle.plain_search.proofs.Leaving.{LiesAt, some_number, before_is, ahead_parts, beside_in_row}
+use Rattle.plain_search.proofs.Leaving.{beside_in_column, at_corner}
 
 -- a straight move that is not kept
 not_kept : (away toward beside beyond : Bool) → (true && (away || not (toward || beside || beyond))) ≡ false
@@ -205,7 +207,8 @@ module _ (g : GridData) (p x v : Cell) (a : Around) (s : Behind) (around : IsAro
 
 -- where no parent is told all open moves are kept
 pub all_kept : (a : Around) (d : Dir) → is_open_to a d ≡ true
-    → is_open_to (less_offered a (record { left = false; right = false; above = false; below = false })) d ≡ true
+    → is_open_to (less_offered a (record { left = false; right = false; above = false; below = false })) d
+    ≡ true
 all_kept a N h = rw h refl
 all_kept a NE h = rw h refl
 all_kept a E h = rw h refl

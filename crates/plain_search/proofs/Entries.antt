@@ -26,7 +26,8 @@ module _ {X Y : Type 0} (make : X → Option Y) where
       some_one a b q = ap (λ (o : Option X). elim o as (λ _. X) [ Some v ↦ v | None ↦ a ]) q
   made_contained (z ∷ xs) (suc place) x y h e = by_head (make z) (made_contained xs place x y h e)
     where
-      by_head : (o : Option Y) → Contains (filter_map make xs) y → Contains (cons_option o (filter_map make xs)) y
+      by_head : (o : Option Y) → Contains (filter_map make xs) y
+          → Contains (cons_option o (filter_map make xs)) y
       by_head None c = c
       by_head (Some v) c = contains_later v (filter_map make xs) y c
 

@@ -1,12 +1,14 @@
 -- What a state leaves out its parent has offered: the parent's move to that cell is legal.
-use Rattle.std.proofs.Common.{◌≡◌, ℕ, zero, suc, ◌+◌, ◌≤◌, ◌⊎◌, inl, inr, refl, ap, sym, ◌∙◌, arith, true, false}
+use Rattle.std.proofs.Common.{◌≡◌, ℕ, zero, suc, ◌+◌, ◌≤◌, ◌⊎◌, inl, inr, refl, ap, sym, ◌∙◌, arith, true}
+use Rattle.std.proofs.Common.{false}
 use Rattle.std.specs.Prelude.{Option, Some, None}
 use Rattle.grid_moves.specs.declared.Cell.{Cell}
 use Rattle.grid_moves.specs.declared.Dir.{Dir}
 use Rattle.grid_moves.specs.declared.Dir.TheVariants.{N, NE, E, SE, S, SW, W, NW}
 use Rattle.grid_moves.specs.Grid.{GridData, is_free}
 use Rattle.grid_moves.specs.Move.{is_legal, is_same, corner_of, ahead, column_ahead, row_ahead, before}
-use Rattle.grid_moves.proofs.Legal.{IsLegal, legal_is, is_legal-from, same_cell, is_same-itself, passable-both}
+use Rattle.grid_moves.proofs.Legal.{IsLegal, legal_is, is_legal-from, same_cell, is_same-itself}
+use Rattle.grid_moves.proofs.Legal.{passable-both}
 use Rattle.plain_search.specs.declared.moves.Behind.{Behind}
 use Rattle.plain_search.specs.Offers.{sides_of}
 
@@ -168,7 +170,8 @@ module _ (g : GridData) (p x v : Cell) (into : is_legal g p x ≡ true) (on : is
   beside_in_row e (inl f) =
       in_column f (let a = i.y_low in omega arith) (let a = i.y_high in omega arith)
   beside_in_row e (inr f) =
-      by_corners (let a = o.x_low in let s = f.0 in omega arith) (let a = o.x_high in let s = f.0 in omega arith)
+      by_corners (let a = o.x_low in let s = f.0 in omega arith) (let a = o.x_high in let s = f.0 in
+      omega arith)
       (let a = i.y_low in omega arith) (let a = i.y_high in omega arith)
       (ap (λ (w : Cell). is_free g w) (same_cell (corner_of p v) x f.0 e) ∙ i.target) f.1
 

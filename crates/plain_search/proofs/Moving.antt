@@ -29,7 +29,8 @@ pub record IsLinked (link : Links) (c : Cell) (d : Dir) (v : Cell) : Type 0 wher
   pub step : link.step (start_at c) (start_at v) ≡ Some (cost_to d)
   pub led : link.led (start_at c) (record { cell = v; arrival = Some d }) ≡ true
 
-module _ {width height : ℕ} {s t : Cell} {link : Links} (fit : IsSearch width height s t link) {x : Taken State}
+module _ {width height : ℕ} {s t : Cell} {link : Links} (fit : IsSearch width height s t link)
+    {x : Taken State}
     {earlier : List (Taken State)} {at : ℕ} {best : Offers} {k : Table}
     (i : IsSearching ByCell width t link s x earlier at best k) where
   pub state_is : x.state ≡ start_at (node_cell i.node)

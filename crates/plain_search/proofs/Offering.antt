@@ -1,5 +1,6 @@
 -- A state's offers of the moves that are kept make the least offers those after it.
-use Rattle.std.proofs.Common.{◌≡◌, ℕ, ◌+◌, ◌*◌, ◌⊎◌, inl, inr, List, [], ◌∷◌, refl, ap, sym, ◌∙◌, subst, Bool, true, false, arith}
+use Rattle.std.proofs.Common.{◌≡◌, ℕ, ◌+◌, ◌*◌, ◌⊎◌, inl, inr, List, [], ◌∷◌, refl, ap, sym, ◌∙◌, subst, Bool}
+use Rattle.std.proofs.Common.{true, false, arith}
 use Rattle.std.specs.Option.{option_map_or}
 use Rattle.std.specs.Prelude.{Option, Some, None, if◌then◌else◌, nat_eq}
 use Rattle.std.proofs.lemmas.Bool.Decides.{nat_tests}
@@ -11,7 +12,8 @@ use Rattle.grid_moves.specs.declared.Dir.{Dir}
 use Rattle.grid_moves.specs.declared.Dir.TheVariants.{N, NE, E, SE, S, SW, W, NW}
 use Rattle.grid_moves.specs.declared.around.Around.{Around}
 use Rattle.grid_moves.specs.Grid.{GridData}
-use Rattle.grid_moves.specs.Move.{is_legal, is_same, move_cost, ahead, all_dirs, column_ahead, row_ahead, legal_ahead}
+use Rattle.grid_moves.specs.Move.{is_legal, is_same, move_cost, ahead, all_dirs, column_ahead, row_ahead}
+use Rattle.grid_moves.specs.Move.{legal_ahead}
 use Rattle.grid_moves.proofs.Ahead.{legal_ahead-of}
 use Rattle.grid_moves.proofs.Legal.{is_same-cell, is_same-itself, legal_is}
 use Rattle.search_run.specs.Run.{Taken, IsRun, is_taken, least_offer}
@@ -34,7 +36,8 @@ use Rattle.cost_waves.proofs.Settling.{In, first as here_is, later as there_is, 
 use Rattle.plain_search.specs.declared.moves.Behind.{Behind}
 use Rattle.plain_search.specs.Rule.{plain_rule, plain_links, is_led}
 use Rattle.grid_moves.specs.Around.{is_open_to, end_of, IsAround}
-use Rattle.plain_search.specs.Offers.{sides_of, less_offered, cost_to, offer_to, all_offered, ways_over, MayExpand}
+use Rattle.plain_search.specs.Offers.{sides_of, less_offered, cost_to, offer_to, all_offered, ways_over}
+use Rattle.plain_search.specs.Offers.{MayExpand}
 use Rattle.plain_search.proofs.Dropping.{LeadsTo, leads, open_leads, dropped, all_kept}
 use Rattle.plain_search.proofs.Expanding.{kept_open, kept_end}
 use Rattle.plain_search.proofs.Leaving.{lies_at, ahead_parts, some_number, before_is}
@@ -76,7 +79,8 @@ pub open_linked : (g : GridData) (c : Cell) (d : Dir) (v : Cell) → LeadsTo g c
     → IsLinked (plain_links g) c d v
 open_linked g c d v l = record {
   step = legal_link g c v l.legal ∙ ap (λ (e : Cost). Some e) (ahead_cost d c v l.ahead_is);
-  led = ap (λ (o : Option Cell). option_map_or (λ (w : Cell). is_same w v) o false) l.ahead_is ∙ is_same-itself v;
+  led = ap (λ (o : Option Cell). option_map_or (λ (w : Cell). is_same w v) o false) l.ahead_is
+      ∙ is_same-itself v;
 }
 
 module _ (g : GridData) (a : Around) (sides : Behind) where
@@ -130,7 +134,8 @@ module _ {g : GridData} {s t : Cell} (asked : IsAsked g s t (plain_links g)) (x 
   }
 
   -- all open moves that are kept
-  pub all_over : (a : Around) (sides : Behind) (dirs : List Dir) (best : Offers) (k : Table) (i : Searching best k)
+  pub all_over : (a : Around) (sides : Behind) (dirs : List Dir) (best : Offers) (k : Table)
+      (i : Searching best k)
       → (n : Node) → i.node ≡ n → IsAround g (node_cell n) a
       → (j : Searching (with_all x best (ways_over (less_offered a sides) (node_cell n) dirs))
       (all_offered t at (rank_left t n) (less_offered a sides) (node_cell n) dirs k)) × (j.node ≡ n)
@@ -166,7 +171,8 @@ among a c d h [] m = elim m [ ]
 among a c d h (e ∷ dirs) (here_is z) = rw h (first (ways_over a c dirs))
 among a c d h (e ∷ dirs) (there_is z w m) = by_flag (is_open_to a e) (among a c d h dirs m)
   where
-    by_flag : (b : Bool) → IsAmong (record { to = start_at (end_of a c d); cost = cost_to d }) (ways_over a c dirs)
+    by_flag : (b : Bool) → IsAmong (record { to = start_at (end_of a c d); cost = cost_to d })
+        (ways_over a c dirs)
         → IsAmong (record { to = start_at (end_of a c d); cost = cost_to d })
         (if b then record { to = start_at (end_of a c e); cost = cost_to e } ∷ ways_over a c dirs
         else ways_over a c dirs)
@@ -210,7 +216,11 @@ module _ {g : GridData} {s t : Cell} (asked : IsAsked g s t (plain_links g)) whe
       → is_open_to a d ≡ true → is_open_to (less_offered a (sides_of (Some e))) d ≡ false
       → least_offer (plain_rule g t) (x ∷ earlier) v ≡ least_offer (plain_rule g t) earlier v
   left_out x [] is a r e told v c m untaken d on opened dropped_is = absurd
-      (let first : x ≡ record { state = start_at s; cost = record { a = 0; b = 0 }; parent = start_at s } = is in
+      (let first : x ≡ record {
+        state = start_at s;
+        cost = record { a = 0; b = 0 };
+        parent = start_at s;
+      } = is in
       let at_start : x.parent.cell ≡ s = ap (λ (u : Taken State). u.parent.cell) first in
       let here_start : x.state.cell ≡ s = ap (λ (u : Taken State). u.state.cell) first in
       ahead_apart e s (ap (λ (u : Cell). ahead e u) (sym at_start) ∙ told
@@ -238,8 +248,8 @@ module _ {g : GridData} {s t : Cell} (asked : IsAsked g s t (plain_links g)) whe
       let here : (plain_links g).step x.state v ≡ Some c
       = ap (λ (u : State). (plain_links g).step x.state u) m.plain ∙ legal_link g x.state.cell v.cell m.legal
       ∙ ap (λ (q : Cost). Some q) (sym m.cost) in
-      parent_offers (plain_rule g t) (start_at s) x y rest v f.offered.step (move_cost x.parent.cell v.cell) c is
-      linked step here (no_dearer into legal)
+      parent_offers (plain_rule g t) (start_at s) x y rest v f.offered.step (move_cost x.parent.cell v.cell) c
+      is linked step here (no_dearer into legal)
     where
       not_parent : (b : Bool) → is_same x.parent.cell v.cell ≡ b → x.parent ≡ start_at x.parent.cell
           → is_taken (plain_rule g t) (y ∷ rest) x.parent ≡ true → is_same x.parent.cell v.cell ≡ false
@@ -304,11 +314,13 @@ module _ {g : GridData} {s t : Cell} (asked : IsAsked g s t (plain_links g)) whe
           (among (less_offered a (sides_of q)) x.state.cell d h all_dirs (in_all d)))
 
       by_kept : (q : Option Dir) → is_led x.parent.cell x.state.cell q ≡ true
-          → IsAmong (record { to = v; cost = c }) (ways_over (less_offered a (sides_of q)) x.state.cell all_dirs)
+          → IsAmong (record { to = v; cost = c })
+          (ways_over (less_offered a (sides_of q)) x.state.cell all_dirs)
           ⊎ (least_offer (plain_rule g t) (x ∷ earlier) v ≡ least_offer (plain_rule g t) earlier v)
       by_kept None h = inl (is_among None (all_kept a d flag.0))
       by_kept (Some q) h = elim (same_or_not (is_open_to (less_offered a (sides_of (Some q))) d)) [
         | inl k ↦ inl (is_among (Some q) k)
-        | inr k ↦ inr (left_out x earlier is a r q (led_ahead x.parent.cell x.state.cell q h) v c m untaken d on
+        | inr k ↦
+            inr (left_out x earlier is a r q (led_ahead x.parent.cell x.state.cell q h) v c m untaken d on
             flag.0 k)
       ]

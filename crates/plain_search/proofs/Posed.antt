@@ -1,5 +1,6 @@
 -- A search over legal moves is posed on its grid, and takes few moves.
-use Rattle.std.proofs.Common.{◌≡◌, ◌+◌, ◌*◌, ◌≤◌, length, List, [], ◌∷◌, refl, ap, ◌∙◌, true, false, Bool, arith, mul-le-mul, ◌||◌}
+use Rattle.std.proofs.Common.{◌≡◌, ◌+◌, ◌*◌, ◌≤◌, length, List, [], ◌∷◌, refl, ap, ◌∙◌, true, false, Bool}
+use Rattle.std.proofs.Common.{arith, mul-le-mul, ◌||◌}
 use Rattle.std.specs.Prelude.{nat_eq, if◌then◌else◌}
 use Rattle.root2_cost.specs.declared.Cost.{Cost}
 use Rattle.grid_moves.specs.declared.Cell.{Cell}

@@ -1,9 +1,11 @@
 -- The reached cells of a search that ended without its goal.
-use Rattle.std.proofs.Common.{◌≡◌, ℕ, suc, ◌+◌, ◌*◌, ◌/◌, ◌%◌, ◌<◌, ◌≤◌, List, [], ◌∷◌, refl, ap, sym, ◌∙◌, subst, arith, map, true, reverse}
+use Rattle.std.proofs.Common.{◌≡◌, ℕ, suc, ◌+◌, ◌*◌, ◌/◌, ◌%◌, ◌<◌, ◌≤◌, List, [], ◌∷◌, refl, ap, sym, ◌∙◌}
+use Rattle.std.proofs.Common.{subst, arith, map, true, reverse}
 use Rattle.std.proofs.Math.Nat.{add-mul-mod_self_right, mod-eq_of_lt}
 use Rattle.std.proofs.lemmas.Nat.{div-mul-add}
 use Rattle.std.proofs.lemmas.Option.{slice_get_within, get_or_from_slice_get}
-use Rattle.std.proofs.lemmas.List.Sorted.{IsPermutation-sym, IsPermutation-map, IsPermutation-reverse, IsPermutation-trans, Contains-permutation}
+use Rattle.std.proofs.lemmas.List.Sorted.{IsPermutation-sym, IsPermutation-map, IsPermutation-reverse}
+use Rattle.std.proofs.lemmas.List.Sorted.{IsPermutation-trans, Contains-permutation}
 use Rattle.std.specs.Prelude.{Option, Some, None, slice_get}
 use Rattle.std.specs.List.{Contains, filter_map}
 use Rattle.std.specs.List.Sorted.{IsPermutation}
@@ -58,7 +60,8 @@ number width u = state_number width u.state
 
 module _ {g : GridData} {s t : Cell} (asked : IsAsked g s t (plain_links g)) {taken : List ℕ}
     (x : IsExhausted g s t taken) where
-  plain_at : (u : Taken State) → IsIn u x.run → (is_free g u.state.cell ≡ true) × (u.state ≡ start_at u.state.cell)
+  plain_at : (u : Taken State) → IsIn u x.run → (is_free g u.state.cell ≡ true)
+      × (u.state ≡ start_at u.state.cell)
   plain_at u m = run_free asked x.run x.is_run u m
 
   number_at : (u : Taken State) → IsIn u x.run → state_number g.width u.state < 65536 * g.width * 9
@@ -80,8 +83,11 @@ module _ {g : GridData} {s t : Cell} (asked : IsAsked g s t (plain_links g)) {ta
       let m = Contains-permutation (reverse (map (number g.width) x.run)) (map (number g.width) x.run) n back
       (subst (λ (ns : List ℕ). Contains ns n) e c) in
       let made = contained_made (λ u. Some (number g.width u)) x.run n
-      (subst (λ (ns : List ℕ). Contains ns n) (sym (filter_map-some (number g.width) x.run)) m) in
-      (made.from, member x.run made.place made.from made.from_is, some_one (number g.width made.from) n made.made)
+      (subst (λ (ns : List ℕ). Contains ns n) (sym (filter_map-some (number g.width) x.run)) m) in (
+        made.from,
+        member x.run made.place made.from made.from_is,
+        some_one (number g.width made.from) n made.made,
+      )
     where
       some_one : (a b : ℕ) → Some a ≡ Some b → a ≡ b
       some_one a b q = ap (λ (o : Option ℕ). elim o as (λ _. ℕ) [ Some v ↦ v | None ↦ a ]) q
@@ -100,22 +106,27 @@ module _ {g : GridData} {s t : Cell} (asked : IsAsked g s t (plain_links g)) {ta
       let p = plain_at u (sub u (here run)) in
       let f = free_inside g u.state.cell p.0 in
       let one : cell_of_number g.width (number g.width u) ≡ u.state.cell =
-      ap (λ (v : State). cell_of_number g.width (state_number g.width v)) p.1 ∙ told_cell g.width u.state.cell f.0 in
+      ap (λ (v : State). cell_of_number g.width (state_number g.width v)) p.1
+      ∙ told_cell g.width u.state.cell f.0 in
       rw (one, cells_told run (λ v m. sub v (there u run m))) refl
 
   from_states : IsPermutation (map (λ u. u.state.cell) x.run) (map (cell_of_number g.width) taken)
   from_states =
-      subst (λ (cs : List Cell). IsPermutation cs (map (cell_of_number g.width) taken)) (cells_told x.run (λ u m. m))
+      subst (λ (cs : List Cell). IsPermutation cs (map (cell_of_number g.width) taken))
+      (cells_told x.run (λ u m. m))
       (subst (λ (ns : List ℕ). IsPermutation (map (cell_of_number g.width) (map (number g.width) x.run))
       (map (cell_of_number g.width) ns)) (sym x.numbered)
-      (IsPermutation-map (cell_of_number g.width) (map (number g.width) x.run) (reverse (map (number g.width) x.run))
+      (IsPermutation-map (cell_of_number g.width) (map (number g.width) x.run)
+      (reverse (map (number g.width) x.run))
       (IsPermutation-reverse (map (number g.width) x.run))))
 
-  module _ (reached : List Cell) (by : IsSortedFrom (λ (c : Cell). c) (map (cell_of_number g.width) taken) reached) where
+  module _ (reached : List Cell) (by : IsSortedFrom (λ (c : Cell). c) (map (cell_of_number g.width) taken)
+      reached) where
     joined : IsPermutation (filter_map taken_cell x.run) reached
     joined = subst (λ (cs : List Cell). IsPermutation cs reached)
         (sym (filter_map-some (λ (u : Taken State). u.state.cell) x.run))
-        (IsPermutation-trans (map (λ u. u.state.cell) x.run) (map (cell_of_number g.width) taken) reached from_states
+        (IsPermutation-trans (map (λ u. u.state.cell) x.run) (map (cell_of_number g.width) taken) reached
+        from_states
         by.permutation)
 
     source : (c : Cell) → Contains reached c → (u : Taken State) × IsIn u x.run × (u.state.cell ≡ c)
@@ -159,9 +170,11 @@ module _ {g : GridData} {s t : Cell} (asked : IsAsked g s t (plain_links g)) {ta
           record { cells = w.cells; walk = record { legal = w.goes.legal; ends = w.goes.ends ∙ u.2 } };
       all = λ c cells w.
           let chain = walk_chain g t s cells w.legal in
-          let is_in = all_taken (plain_rule g t) (plain_consistent g t) (start_at s) (start_at (last_of s cells)) x.run
+          let is_in = all_taken (plain_rule g t) (plain_consistent g t) (start_at s)
+          (start_at (last_of s cells)) x.run
           (cost_of (s ∷ cells)) x.is_run x.none_waits x.no_goal chain in
-          let u = taken_state (plain_rule g t) (plain_consistent g t) x.run (start_at (last_of s cells)) is_in in
+          let u = taken_state (plain_rule g t) (plain_consistent g t) x.run (start_at (last_of s cells))
+          is_in in
           let cell : u.0.state.cell ≡ c = ap (λ (v : State). v.cell) u.2 ∙ w.ends in
           let i = in_place x.run u.0 u.1 in
           Contains-permutation (filter_map taken_cell x.run) reached c joined

@@ -1,5 +1,7 @@
--- The plain run answers right: its way is a least walk, and it ends without the goal only where no walk leads there.
-use Rattle.std.proofs.Common.{◌≡◌, ℕ, inl, inr, refl, ap, sym, ◌∙◌, subst, true, false, List, [], ◌∷◌, ◌++◌, map}
+-- The plain run answers right: its way is a least walk, and it ends without the goal only where no walk leads
+-- there.
+use Rattle.std.proofs.Common.{◌≡◌, ℕ, inl, inr, refl, ap, sym, ◌∙◌, subst, true, false, List, [], ◌∷◌, ◌++◌}
+use Rattle.std.proofs.Common.{map}
 use Rattle.std.specs.Prelude.{Option, Some, None}
 use Rattle.root2_cost.specs.declared.Cost.{Cost}
 use Rattle.root2_cost.specs.Order.{IsAtMost}
@@ -26,7 +28,8 @@ use Rattle.best_first.proofs.Links.{consistent}
 use Rattle.best_first.proofs.States.{is_same_state-state, is_same_state-itself, same_or_not}
 use Rattle.plain_search.specs.Rule.{plain_links, plain_rule}
 use Rattle.plain_search.specs.Answer.{IsFound, IsExhausted, IsPlainRun}
-use Rattle.plain_search.proofs.Walks.{AreMoves, Goes, goes_nowhere, one_more, plain_are_moves, plain_consistent, walk_chain}
+use Rattle.plain_search.proofs.Walks.{AreMoves, Goes, goes_nowhere, one_more, plain_are_moves}
+use Rattle.plain_search.proofs.Walks.{plain_consistent, walk_chain}
 
 -- the cells of these states
 abbrev pub cells_of : List State → List Cell
@@ -37,14 +40,16 @@ cells-last [] s = refl
 cells-last (u ∷ way) s = ap (λ (cs : List Cell). u.cell ∷ cs) (cells-last way s)
 
 -- the way to a taken state is a walk of the cost at which it was taken
-pub record HasWay (g : GridData) (r : Rule State) (s : Cell) (run : List (Taken State)) (v : State) (cost : Cost)
+pub record HasWay (g : GridData) (r : Rule State) (s : Cell) (run : List (Taken State)) (v : State)
+    (cost : Cost)
     : Type 0 where
   pub cells : List Cell
   pub is_way : cells_of (way_to r run v) ≡ s ∷ cells
   pub goes : Goes g s v.cell cells cost
 
 -- the way to the state that was taken last is a least walk to t
-pub record HasLeast (g : GridData) (t : Cell) (r : Rule State) (s : Cell) (x : Taken State) (earlier : List (Taken State))
+pub record HasLeast (g : GridData) (t : Cell) (r : Rule State) (s : Cell) (x : Taken State)
+    (earlier : List (Taken State))
     : Type 0 where
   pub cells : List Cell
   pub is_way : cells_of (way_to r (x ∷ earlier) x.state) ≡ s ∷ cells
@@ -58,7 +63,8 @@ module _ (g : GridData) (t : Cell) (link : Links) (are : AreMoves g link) where
 
   -- the way of an earlier state stays the same
   way_stays : (x : Taken State) (earlier : List (Taken State)) (v : State)
-      → is_taken rule earlier x.state ≡ false → is_taken rule earlier v ≡ true → is_same_state x.state v ≡ false
+      → is_taken rule earlier x.state ≡ false → is_taken rule earlier v ≡ true
+      → is_same_state x.state v ≡ false
   way_stays x earlier v n y = elim (same_or_not (is_same_state x.state v)) [
     | inl e ↦ absurd (let both : is_taken rule earlier v ≡ false =
         subst (λ (u : State). is_taken rule earlier u ≡ false) (is_same_state-state x.state v e) n in cc)
@@ -76,7 +82,8 @@ module _ (g : GridData) (t : Cell) (link : Links) (are : AreMoves g link) where
         goes = goes_nowhere g s f;
       })
   way s (x ∷ y ∷ earlier) f is u (here e) =
-      let from = least_offer-from rule (y ∷ earlier) x.state (record { cost = x.cost; from = x.parent }) is.2.offered in
+      let from = least_offer-from rule (y ∷ earlier) x.state (record { cost = x.cost; from = x.parent })
+      is.2.offered in
       let before = way s (y ∷ earlier) f is.0 from.by from.member in
       let moved = are.moves from.by.state x.state from.offered.step from.offered.linked in
       let goes : Goes g s x.state.cell (before.cells ++ (x.state.cell ∷ []))

@@ -41,7 +41,8 @@ module _ (g : GridData) (s : Cell) (w : WaveData) (wide : w.width ≡ g.width) (
   }
 
   pub costs_if : {X E : Type 0} (items : X → List (Option Cost)) (r : Result X E)
-      → IfOk r (λ v. items v ≡ map (λ n. cost_told n) w.ranks) → IfOk r (λ v. length (items v) ≡ w.height * w.width)
+      → IfOk r (λ v. items v ≡ map (λ n. cost_told n) w.ranks)
+      → IfOk r (λ v. length (items v) ≡ w.height * w.width)
       → IfOk r (λ v. AreCostsToAll g s (items v))
   costs_if items (Ok v) made whole = are_costs (items v) made whole
   costs_if items (Err e) made whole = tt

@@ -1,5 +1,6 @@
 -- Rows that lie between the same rows have the same entries along them.
-use Rattle.std.proofs.Common.{◌≡◌, ℕ, ◌+◌, ◌<◌, arith, Bool, true, false, ◌||◌, List, length, refl, ap, sym, ◌∙◌}
+use Rattle.std.proofs.Common.{◌≡◌, ℕ, ◌+◌, ◌<◌, arith, Bool, true, false, ◌||◌, List, length, refl, ap, sym}
+use Rattle.std.proofs.Common.{◌∙◌}
 use Rattle.std.specs.Prelude.{ℤ, Option, Some, unwrap_or}
 use Rattle.std.proofs.lemmas.Bool.Decides.{nat_tests}
 use Rattle.grid_moves.specs.declared.Cell.{Cell}
@@ -87,7 +88,8 @@ module _ (g : GridData) (whole : IsGrid g) (y m : ℕ) (above here below : List 
         ∙ told_is g (record { x = x; y = m }) d (can_move g (record { x = x; y = y }) d)
         (is_forced g (record { x = column_next x; y = y }) d)
         (table_entry g (record { x = column_next x; y = y }) d) (same_move x d)
-        (λ w e. same_forced (column_next x) d (free_next w e) ∙ ap (λ (v : Cell). is_forced g v d) (leads m w e)
+        (λ w e. same_forced (column_next x) d (free_next w e)
+        ∙ ap (λ (v : Cell). is_forced g v d) (leads m w e)
         ∙ marked w)
         (λ w e. let n = next_along g d along x m w e in
         ap (λ (i : ℕ). table_entry g (record { x = i; y = y }) d) (there m w e) ∙ next w.x n.0 n.1
@@ -115,7 +117,8 @@ module _ (g : GridData) (whole : IsGrid g) (y m : ℕ) (above here below : List 
         ∙ sym (along_each d along g.width same_at (λ x _ next. same_by_next x next) v.x within)
         ∙ ap (λ (n : ℕ). table_entry g (record { x = v.x; y = n }) d) (sym at)
 
--- the row that was swept last lies between the same rows as this one, so that it has the same entries along it
+-- the row that was swept last lies between the same rows as this one, so that it has the same entries along
+-- it
 module _ (g : GridData) (whole : IsGrid g) (y : ℕ) (band : Band) (last : Line) (alike : AreAlike band) where
   along_again : (m : ℕ) (above here below : List Bool) → AreRowsAround g y above here below
       → AreRowsAround g m above here below → m < g.height → AreAlong g m last → AreAlong g y last

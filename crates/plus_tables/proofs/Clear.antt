@@ -59,7 +59,8 @@ run_within g x v d k e =
 -- a clear run is so long
 pub clear_run : (g : GridData) (x : Cell) (d : Dir) (entry : ℤ) → Tells g x d entry → (k : ℕ) → 1 ≤ k
     → is_clear entry k ≡ true → (v : Cell) × (run_end g d k x ≡ Some v)
-clear_run g x d _ (marked n m first) k h c = run_reaches g x d k (short (run_within g x m.cell d (suc n) m.reached))
+clear_run g x d _ (marked n m first) k h c =
+    run_reaches g x d k (short (run_within g x m.cell d (suc n) m.reached))
   where
     short : suc n ≤ run_length g x d → k ≤ run_length g x d
     short few = grind (arith, nat_tests)

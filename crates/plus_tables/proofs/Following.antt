@@ -1,6 +1,8 @@
 -- The local law: an entry follows from the entries at the next cell.
-use Rattle.std.proofs.Common.{◌≡◌, ℕ, zero, suc, ◌+◌, ◌≤◌, arith, Bool, true, false, not, ◌||◌, refl, ap, sym, ◌∙◌}
-use Rattle.std.specs.Prelude.{ℤ, pos, Option, Some, None, is_some, option_and_then, option_map, unwrap_or, if◌then◌else◌}
+use Rattle.std.proofs.Common.{◌≡◌, ℕ, zero, suc, ◌+◌, ◌≤◌, arith, Bool, true, false, not, ◌||◌, refl, ap, sym}
+use Rattle.std.proofs.Common.{◌∙◌}
+use Rattle.std.specs.Prelude.{ℤ, pos, Option, Some, None, is_some, option_and_then, option_map, unwrap_or}
+use Rattle.std.specs.Prelude.{if◌then◌else◌}
 use Rattle.grid_moves.specs.declared.Cell.{Cell}
 use Rattle.grid_moves.specs.declared.Dir.{Dir}
 use Rattle.grid_moves.specs.Least.{FindsLeast}
@@ -122,7 +124,8 @@ entries_follow g c d = by_cell (legal_ahead g c d) refl
 
     -- what the run from c finds, by what the run from v finds
     found : Cell → ℤ
-    found v = if is_marked g v d then pos 1 else from_before (mark_or_run (first_mark g v d) (run_length g v d))
+    found v = if is_marked g v d then pos 1
+        else from_before (mark_or_run (first_mark g v d) (run_length g v d))
 
     stepped : (v : Cell) → legal_ahead g c d ≡ Some v
         → mark_or_run (first_mark g c d) (run_length g c d) ≡ found v

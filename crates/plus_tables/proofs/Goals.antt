@@ -16,7 +16,8 @@ use Rattle.pruning.proofs.Running.{AreMoved, run_walked}
 use Rattle.pruning.proofs.Table.{turn_parity, by_test}
 use Rattle.plus_tables.specs.Entry.{table_entry}
 use Rattle.plus_tables.specs.Reading as reading
-use Rattle.plus_tables.specs.Reading.{is_clear, columns_to, rows_to, cell_after, row_part, column_part, straight_to}
+use Rattle.plus_tables.specs.Reading.{is_clear, columns_to, rows_to, cell_after, row_part, column_part}
+use Rattle.plus_tables.specs.Reading.{straight_to}
 use Rattle.plus_tables.proofs.Clear.{entry_tells, clear_run, clear_unmarked, clear_where}
 use Rattle.plus_tables.proofs.Stops.{IsGoalStop}
 
@@ -72,7 +73,8 @@ straight_goal g goal x d f h = record { sound = sound; complete = complete }
     by_stop k i c v r (at_goal e) =
         let walk = run_walked g d k x v f r in
         (to_goal d k x goal h i (subst (λ (w : Cell). AreMoved d k x w) e walk.moved), refl)
-    by_stop k i c v r (marked m) = absurd (clear_unmarked g x d (table_entry g x d) (entry_tells g x d f) k i c
+    by_stop k i c v r (marked m) =
+        absurd (clear_unmarked g x d (table_entry g x d) (entry_tells g x d f) k i c
         (record { cell = v; reached = r; marks = m }))
     by_stop k i c v r (sees_goal diagonal s run) = absurd (cc)
 
@@ -146,21 +148,29 @@ come_to W k x goal h p = absurd (cc)
 -- the cell after so many moves
 pub moved_to : (d : Dir) (k : ℕ) (x v : Cell) → AreMoved d k x v → v ≡ cell_after d k x
 moved_to N k x v p = let a = p.0 in let b = p.1 in same_cell v (cell_after N k x) (omega arith) (omega arith)
-moved_to NE k x v p = let a = p.0 in let b = p.1 in same_cell v (cell_after NE k x) (omega arith) (omega arith)
+moved_to NE k x v p = let a = p.0 in let b = p.1 in
+    same_cell v (cell_after NE k x) (omega arith) (omega arith)
 moved_to E k x v p = let a = p.0 in let b = p.1 in same_cell v (cell_after E k x) (omega arith) (omega arith)
-moved_to SE k x v p = let a = p.0 in let b = p.1 in same_cell v (cell_after SE k x) (omega arith) (omega arith)
+moved_to SE k x v p = let a = p.0 in let b = p.1 in
+    same_cell v (cell_after SE k x) (omega arith) (omega arith)
 moved_to S k x v p = let a = p.0 in let b = p.1 in same_cell v (cell_after S k x) (omega arith) (omega arith)
-moved_to SW k x v p = let a = p.0 in let b = p.1 in same_cell v (cell_after SW k x) (omega arith) (omega arith)
+moved_to SW k x v p = let a = p.0 in let b = p.1 in
+    same_cell v (cell_after SW k x) (omega arith) (omega arith)
 moved_to W k x v p = let a = p.0 in let b = p.1 in same_cell v (cell_after W k x) (omega arith) (omega arith)
-moved_to NW k x v p = let a = p.0 in let b = p.1 in same_cell v (cell_after NW k x) (omega arith) (omega arith)
+moved_to NW k x v p = let a = p.0 in let b = p.1 in
+    same_cell v (cell_after NW k x) (omega arith) (omega arith)
 
 -- where the goal lies as many columns as rows on, so many moves come to it
 comes_there : (d : Dir) (k : ℕ) (x v goal : Cell) → is_diagonal d ≡ true → 1 ≤ k
     → columns_to d x.x goal.x ≡ k → rows_to d x.y goal.y ≡ k → AreMoved d k x v → v ≡ goal
-comes_there NE k x v goal h i p q m = let a = m.0 in let b = m.1 in same_cell v goal (omega arith) (omega arith)
-comes_there SE k x v goal h i p q m = let a = m.0 in let b = m.1 in same_cell v goal (omega arith) (omega arith)
-comes_there SW k x v goal h i p q m = let a = m.0 in let b = m.1 in same_cell v goal (omega arith) (omega arith)
-comes_there NW k x v goal h i p q m = let a = m.0 in let b = m.1 in same_cell v goal (omega arith) (omega arith)
+comes_there NE k x v goal h i p q m = let a = m.0 in let b = m.1 in
+    same_cell v goal (omega arith) (omega arith)
+comes_there SE k x v goal h i p q m = let a = m.0 in let b = m.1 in
+    same_cell v goal (omega arith) (omega arith)
+comes_there SW k x v goal h i p q m = let a = m.0 in let b = m.1 in
+    same_cell v goal (omega arith) (omega arith)
+comes_there NW k x v goal h i p q m = let a = m.0 in let b = m.1 in
+    same_cell v goal (omega arith) (omega arith)
 comes_there N k x v goal h i p q m = absurd (cc)
 comes_there E k x v goal h i p q m = absurd (cc)
 comes_there S k x v goal h i p q m = absurd (cc)
@@ -297,7 +307,8 @@ module _ (g : GridData) (goal x : Cell) (d : Dir) (f : is_free g x ≡ true) (h 
           else is_clear (table_entry g v (column_part d)) (rows - columns)) (sym e) ∙ sees))
 
   -- a cell that is not marked sees no mark in a component
-  unmarked_aside : (v : Cell) (k : ℕ) → 1 ≤ k → is_clear entry k ≡ true → run_end g d k x ≡ Some v → (s : Side)
+  unmarked_aside : (v : Cell) (k : ℕ) → 1 ≤ k → is_clear entry k ≡ true → run_end g d k x ≡ Some v
+      → (s : Side)
       → (j : ℕ) → 1 ≤ j → MarkedAfter g v (turn s d) j → ⊥
   unmarked_aside v k i c r s j l m = clear_unmarked g x d entry (entry_tells g x d f) k i c (record {
     cell = v;

@@ -1,5 +1,7 @@
 -- Lines that are laid into rows of entries.
-use Rattle.std.proofs.Common.{◌≡◌, ◌≢◌, ℕ, ◌+◌, ◌-◌, ◌*◌, ◌<◌, ◌≤◌, arith, Bool, true, false, not, ◌&&◌, ◌||◌, List, [], ◌∷◌, length, refl, ap, sym, ◌∙◌, subst, get_or-set_same, length-set, w16, to_z, of_z}
+use Rattle.std.proofs.Common.{◌≡◌, ◌≢◌, ℕ, ◌+◌, ◌-◌, ◌*◌, ◌<◌, ◌≤◌, arith, Bool, true, false, not, ◌&&◌, ◌||◌}
+use Rattle.std.proofs.Common.{List, [], ◌∷◌, length, refl, ap, sym, ◌∙◌, subst, get_or-set_same, length-set}
+use Rattle.std.proofs.Common.{w16, to_z, of_z}
 use Rattle.std.specs.Prelude.{ℤ, pos, nat_lt, nat_le}
 use Rattle.std.proofs.lemmas.Bool.Decides.{nat_tests}
 use Rattle.grid_moves.specs.declared.Cell.{Cell}
@@ -17,7 +19,8 @@ use Rattle.plus_tables.specs.Tables.{IsShort, entry_place}
 use Rattle.plus_tables.specs.Sweep.{AreRight, is_upward, is_swept, nth_row, swept}
 use Rattle.plus_tables.specs.Rows.{number, flipped, is_along, seen, IsEntryRow}
 use Rattle.plus_tables.specs.Lines.{AreAhead, AreAlong}
-use Rattle.plus_tables.specs.Laid.{with_entry, with_cell, seen_part, part, as_tables, rows_there, AreLaid, AreSwept, IsAlongRight, IsRowSwept}
+use Rattle.plus_tables.specs.Laid.{with_entry, with_cell, seen_part, part, as_tables, rows_there, AreLaid}
+use Rattle.plus_tables.specs.Laid.{AreSwept, IsAlongRight, IsRowSwept}
 use Rattle.plus_tables.proofs.Placing.{dir_number-few}
 use Rattle.plus_tables.proofs.Lining.{along_seen}
 use Rattle.plus_tables.specs.Entry.{table_entry}
@@ -101,17 +104,21 @@ module _ (row : List ℤ) (x : ℕ) (room : x * 8 + 7 < length row) where
       told = λ k e l i short. by_place k e l i short (nat_lt k x) refl;
       others = λ k e off. elsewhere told (dirs_of h) (k * 8 + dir_number e) (λ d m same. absurd (
           let one = same_dir e d (same_entry k x d e same) in
-          let here : is_swept h e ≡ true = dirs_are h e ∙ ap (λ (i : Dir). among (dirs_of h) i) one ∙ m in cc))
+          let here : is_swept h e ≡ true = dirs_are h e ∙ ap (λ (i : Dir). among (dirs_of h) i) one ∙ m in
+          cc))
           ∙ laid.others k e off;
     }
       where
-        by_place : (k : ℕ) (e : Dir) → k < x + 1 → is_swept h e ≡ true → IsShort (number (part h line e) (k + 1))
+        by_place : (k : ℕ) (e : Dir) → k < x + 1 → is_swept h e ≡ true
+            → IsShort (number (part h line e) (k + 1))
             → (b : Bool) → nat_lt k x ≡ b
-            → number (with_dirs row x told (dirs_of h)) (k * 8 + dir_number e) ≡ number (part h line e) (k + 1)
+            → number (with_dirs row x told (dirs_of h)) (k * 8 + dir_number e)
+            ≡ number (part h line e) (k + 1)
         by_place k e l i short true t =
             let below : k < x = grind (arith, nat_tests) in
             let few = dir_number-few e in
-            elsewhere told (dirs_of h) (k * 8 + dir_number e) (λ d m same. omega arith) ∙ laid.told k e below i short
+            elsewhere told (dirs_of h) (k * 8 + dir_number e) (λ d m same. omega arith)
+            ∙ laid.told k e below i short
         by_place k e l i short false t =
             let same : x ≡ k = grind (arith, nat_tests) in
             ap (λ (n : ℕ). number (with_dirs row x told (dirs_of h)) (n * 8 + dir_number e)) (sym same)
@@ -168,7 +175,8 @@ seen_parts g h y line told along SW is = absurd (cc)
 seen_parts g h y line told along W is = (along_seen g h y along).1
 seen_parts g h y line told along NW is = told.ahead_west
 
-parts : (g : GridData) (h : Heading) (y : ℕ) (line : Line) → AreAhead g h y line → AreAlong g y line → (e : Dir)
+parts : (g : GridData) (h : Heading) (y : ℕ) (line : Line) → AreAhead g h y line → AreAlong g y line
+    → (e : Dir)
     → is_swept h e ≡ true → IsEntryRow g y e (part h line e)
 parts g Upwards y line told along e is = seen_parts g Upwards y line told along e is
 parts g Downwards y line told along e is =
@@ -305,11 +313,13 @@ module _ (height n : ℕ) (below : n < height) (c : Cell) (e : Dir) where
   elsewhere_before Downwards i off = grind (arith, nat_tests)
 
   there_before : (h : Heading) → c.y < height → swept h height n c e ≡ true → c.y < rows_there h height n
-  there_before Upwards low i = let up = (and_both (is_upward e) (nat_lt c.y n) i).1 in grind (arith, nat_tests)
+  there_before Upwards low i = let up = (and_both (is_upward e) (nat_lt c.y n) i).1 in
+      grind (arith, nat_tests)
   there_before Downwards low i = low
 
 long_on : (h : Heading) (height w n y start k old all : ℕ) → n < height → y ≡ nth_row h height n
-    → start ≡ y * w * 8 → k ≡ w * 8 → old ≡ rows_there h height n * w * 8 → (old ≤ start + k → all ≡ start + k)
+    → start ≡ y * w * 8 → k ≡ w * 8 → old ≡ rows_there h height n * w * 8
+    → (old ≤ start + k → all ≡ start + k)
     → (start + k ≤ old → all ≡ old) → all ≡ rows_there h height (n + 1) * w * 8
 long_on Upwards height w n y start k old all below at begins wide long grown stays =
     let same : start ≡ old = begins ∙ ap (λ (r : ℕ). r * w * 8) at ∙ sym long in
@@ -320,13 +330,15 @@ long_on Downwards height w n y start k old all below at begins wide long grown s
 
 pub swept_on : (g : GridData) (h : Heading) (n y start k : ℕ) (old all row : List ℤ) → n < g.height
     → y ≡ nth_row h g.height n → AreSwept g h n old
-    → ((i : ℕ) → i < length old → number all i ≡ number old i) → (length old ≤ start + k → length all ≡ start + k)
+    → ((i : ℕ) → i < length old → number all i ≡ number old i)
+    → (length old ≤ start + k → length all ≡ start + k)
     → (start + k ≤ length old → length all ≡ length old) → start ≡ y * g.width * 8 → k ≡ g.width * 8
     → start + k ≤ length all → IsRowSwept g h y (mid_of start k all) row
     → AreSwept g h (n + 1) (put_mid start k all row)
 swept_on g h n y start k old all row below at known same grown stays begins wide room swept_row = record {
   long = as_long g h y start k all row begins wide room swept_row
-      ∙ long_on h g.height g.width n y start k (length old) (length all) below at begins wide known.long grown stays;
+      ∙ long_on h g.height g.width n y start k (length old) (length all) below at begins wide known.long
+      grown stays;
   right = right_swept g h y start k all row begins wide room swept_row (swept h g.height n)
       (swept h g.height (n + 1)) (λ c e on l. still c e on l ∙ known.right.right c e on l)
       (λ c e l same is. here_before g.height n below c e h l (same ∙ at) is)
@@ -362,7 +374,8 @@ along_right g Downwards n y start k old all below at known same begins wide x e 
     ∙ ap (λ (i : ℕ). number all i) (sym place)
     ∙ same (entry_place g.width (record { x = x; y = y }) e)
     (earlier (y * g.width + x) (g.height * g.width) (dir_number e) (length old)
-    (number_below g.width g.height (record { x = x; y = y }) column (omega (arith, at, below))) few known.long)
+    (number_below g.width g.height (record { x = x; y = y }) column (omega (arith, at, below))) few
+    known.long)
     ∙ known.right.right (record { x = x; y = y }) e on (before (is_upward e) is)
   where
     before : (up : Bool) → not up ≡ false → (up || nat_le (g.height - n) y) ≡ true

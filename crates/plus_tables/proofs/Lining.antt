@@ -1,5 +1,6 @@
 -- Rows as code hands them over, and from one row to the next.
-use Rattle.std.proofs.Common.{◌≡◌, ℕ, suc, ◌+◌, ◌-◌, ◌*◌, ◌<◌, ◌≤◌, arith, Bool, true, false, List, length, refl, ap, sym, ◌∙◌, subst}
+use Rattle.std.proofs.Common.{◌≡◌, ℕ, suc, ◌+◌, ◌-◌, ◌*◌, ◌<◌, ◌≤◌, arith, Bool, true, false, List, length}
+use Rattle.std.proofs.Common.{refl, ap, sym, ◌∙◌, subst}
 use Rattle.std.specs.Prelude.{ℤ, Some, replicate, nat_lt}
 use Rattle.std.proofs.lemmas.Bool.Decides.{nat_tests}
 use Rattle.std.proofs.lemmas.List.{get_or-replicate, length-replicate, get_or_past, with_items_is}
@@ -121,7 +122,8 @@ with_along line east west = record {
 }
 
 pub lines_told : (g : GridData) (h : Heading) (y : ℕ) (this : Line) (east west : List ℤ) → AreAhead g h y this
-    → IsEntryRow g y E east → IsEntryRow g y W west → length east ≡ this.east.len → length west ≡ this.west.len
+    → IsEntryRow g y E east → IsEntryRow g y W west → length east ≡ this.east.len
+    → length west ≡ this.west.len
     → AreAhead g h y (with_along this east west) × AreAlong g y (with_along this east west)
 lines_told g h y this east west told east_is west_is east_fits west_fits = (
   record { ahead = told.ahead; ahead_east = told.ahead_east; ahead_west = told.ahead_west },
@@ -189,7 +191,8 @@ module _ {g : GridData} {h : Heading} {y n : ℕ} {band : Band} {last : Line} {r
   -- on to the next row
   module _ (this : Line) (east west : List ℤ) (rows : Rows) (back : IsRowAt (row_ahead (seen h N) n) y)
       (told : AreAhead g h y this) (east_is : IsEntryRow g y E east) (west_is : IsEntryRow g y W west)
-      (long : IsLong g this) (east_fits : length east ≡ this.east.len) (west_fits : length west ≡ this.west.len)
+      (long : IsLong g this) (east_fits : length east ≡ this.east.len)
+      (west_fits : length west ≡ this.west.len)
       (far : rows.band.far.items ≡ band.next.items) (next : rows.band.next.items ≡ band.here.items)
       (here : rows.band.here.items ≡ (with_items band.back row).items)
       (beyond : rows.band.back.items ≡ band.far.items) (kept : rows.last ≡ with_along this east west)
@@ -219,7 +222,8 @@ module _ {g : GridData} {h : Heading} {y n : ℕ} {band : Band} {last : Line} {r
           far_is = flags_as g ready.rows.ahead band.next.items rows.band.far.items far ready.rows.next_is;
           next_is = flags_as g y band.here.items rows.band.next.items next ready.rows.here_is;
           here_is = flags_as g n _ rows.band.here.items here behind_is;
-          back_is = flags_as g ready.rows.far_row band.far.items rows.band.back.items beyond ready.rows.far_is;
+          back_is = flags_as g ready.rows.far_row band.far.items rows.band.back.items beyond
+              ready.rows.far_is;
           around_next = λ on. seen_as g h y band.next.items band.here.items _ rows.band.far.items
               rows.band.next.items rows.band.here.items far next here around_row;
         };
@@ -286,7 +290,8 @@ module _ (g : GridData) (whole : IsGrid g) (rows begun : Rows) (blank : IsBlank 
       (record { some = λ k e. absurd (cc); none = λ e. omega arith }) is (λ on. absurd (omega (arith, on)))
   begun_by Downwards some is = begun_down (g.height - 1) (omega arith) is
     where
-      begun_down : (y : ℕ) → y + 1 ≡ g.height → IsFlagRow g y begun.band.here.items → IsKept g Downwards y begun
+      begun_down : (y : ℕ) → y + 1 ≡ g.height → IsFlagRow g y begun.band.here.items
+          → IsKept g Downwards y begun
       begun_down y e is = begun_at Downwards y g.height (g.height + 1) (omega arith) (omega arith)
           (row_under y g.height (sym e)) is (λ on. record {
             upper = y;

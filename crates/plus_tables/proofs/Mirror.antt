@@ -1,5 +1,7 @@
--- A map that is turned upside down: moves, forced neighbours and entries are those of the directions turned so.
-use Rattle.std.proofs.Common.{◌≡◌, arith, ℕ, ◌+◌, ◌-◌, ◌<◌, Bool, true, not, ◌&&◌, ◌||◌, List, length, refl, ap, sym, ◌∙◌, subst}
+-- A map that is turned upside down: moves, forced neighbours and entries are those of the directions turned
+-- so.
+use Rattle.std.proofs.Common.{◌≡◌, arith, ℕ, ◌+◌, ◌-◌, ◌<◌, Bool, true, not, ◌&&◌, ◌||◌, List, length, refl}
+use Rattle.std.proofs.Common.{ap, sym, ◌∙◌, subst}
 use Rattle.std.specs.Prelude.{ℤ}
 use Rattle.grid_moves.specs.declared.Corner.{Corner}
 use Rattle.grid_moves.specs.declared.Corner.TheVariants.{Never, One}
@@ -17,7 +19,9 @@ use Rattle.pruning.proofs.Table.{other, at_both, at_dir, same_bool, same_bool-is
 use Rattle.plus_tables.specs.Local.{tells_mark}
 use Rattle.plus_tables.specs.declared.heading.Heading.{Heading}
 use Rattle.plus_tables.specs.declared.heading.Heading.TheVariants.{Upwards, Downwards}
-use Rattle.plus_tables.specs.Rows.{flag, number, ring_of, place_after, told, legal_by, mark_by, IsRowAt, IsEntryRow, IsForcedRow, AreForced, AreShort, AreToldBelow, flipped, seen, AreRowsSeen}
+use Rattle.plus_tables.specs.Rows.{flag, number, ring_of, place_after, told, legal_by, mark_by, IsRowAt}
+use Rattle.plus_tables.specs.Rows.{IsEntryRow, IsForcedRow, AreForced, AreShort, AreToldBelow, flipped, seen}
+use Rattle.plus_tables.specs.Rows.{AreRowsSeen}
 use Rattle.plus_tables.proofs.Rowing.{forced_if, told_row}
 
 turn_flipped : (s : Side) (d : Dir) → turn s (flipped d) ≡ flipped (turn (other s) d)
@@ -31,7 +35,8 @@ rear_flipped : (s : Side) (d : Dir) → rear s (flipped d) ≡ flipped (rear (ot
 rear_flipped s d = ap (λ (e : Dir). turn s e) (quarter_flipped s d) ∙ turn_flipped s (quarter (other s) d)
 
 diagonal_flipped : (d : Dir) → is_diagonal (flipped d) ≡ is_diagonal d
-diagonal_flipped d = same_bool-is _ _ (at_dir (λ d. same_bool (is_diagonal (flipped d)) (is_diagonal d)) refl d)
+diagonal_flipped d =
+    same_bool-is _ _ (at_dir (λ d. same_bool (is_diagonal (flipped d)) (is_diagonal d)) refl d)
 
 place_flipped : (d : Dir) (x : ℕ) → place_after d x ≡ place_after (flipped d) x
 place_flipped N x = refl
@@ -77,7 +82,8 @@ module _ (r : Corner) (a h b : List Bool) (x : ℕ) where
       (λ e. ap not (open_flipped e)) can_flipped
     where
       by_rule : (r : Corner) (i p j q : Dir → Bool) → ((e : Dir) → i (flipped e) ≡ j e)
-          → ((e : Dir) → p (flipped e) ≡ q e) → is_forced_on r i p (flipped d) s ≡ is_forced_on r j q d (other s)
+          → ((e : Dir) → p (flipped e) ≡ q e) → is_forced_on r i p (flipped d) s
+          ≡ is_forced_on r j q d (other s)
       by_rule Never i p j q same too = rw (
         diagonal_flipped d,
         rear_flipped s d,
@@ -144,11 +150,13 @@ module _ (g : GridData) (whole : IsGrid g) where
       → IsEntryRow g y (seen h d) out
   told_seen Upwards y m d lies corner rule ahead here behind forced next right left out e f around forced_is
       next_is right_is left_is parts long are =
-      told_row g whole y m d lies corner rule ahead here behind forced next right left out e f around forced_is
+      told_row g whole y m d lies corner rule ahead here behind forced next right left out e f around
+      forced_is
       next_is right_is left_is parts long are
   told_seen Downwards y m d lies corner rule ahead here behind forced next right left out e f around forced_is
       next_is right_is left_is parts long are =
-      told_row g whole y m (flipped d) lies corner rule behind here ahead forced next left right out f e around
+      told_row g whole y m (flipped d) lies corner rule behind here ahead forced next left right out
+      f e around
       forced_is next_is left_is right_is
       (λ k. let both = parts (sym (diagonal_flipped d) ∙ k) in
       (both.1 ∙ sym (turn_flipped Right d), both.0 ∙ sym (turn_flipped Left d)))
@@ -158,7 +166,8 @@ module _ (g : GridData) (whole : IsGrid g) where
       → number out (x + 1) ≡ told (legal_by corner behind here ahead (flipped d) x)
       (mark_by forced left right (flipped d) at) (number next at)) (place_flipped d x)
       (told_flipped (legal_by corner ahead here behind d x) (legal_by corner behind here ahead (flipped d) x)
-      (mark_by forced right left d (place_after d x)) (mark_by forced left right (flipped d) (place_after d x))
+      (mark_by forced right left d (place_after d x))
+      (mark_by forced left right (flipped d) (place_after d x))
       (number out (x + 1)) (number next (place_after d x)) (number right (place_after d x))
       (number left (place_after d x)) (legal_flipped corner ahead here behind x d)
       (mark_flipped forced right left d (place_after d x)) (are x below)))

@@ -42,13 +42,15 @@ module _ (t : TablesData) (g : GridData) (c : Cell) (d : Dir) (rests : RestsRigh
         (λ h. rw (rests.beside h v e Right, rests.beside h v e Left) refl)
         (λ h. rw h refl)
 
-    follows : table_entry g c d ≡ (if is_mark_by g (entry_at t) d v then pos 1 else from_before (entry_at t v d))
+    follows : table_entry g c d
+        ≡ (if is_mark_by g (entry_at t) d v then pos 1 else from_before (entry_at t v d))
     follows = entries_follow g c d ∙ rw (e, same_mark, rests.ahead v e) refl
 
     pub told_marked : is_mark_by g (entry_at t) d v ≡ true → pos 1 ≡ table_entry g c d
     told_marked h = sym (follows ∙ rw h refl)
 
-    pub told_further : is_mark_by g (entry_at t) d v ≡ false → from_before (entry_at t v d) ≡ table_entry g c d
+    pub told_further : is_mark_by g (entry_at t) d v ≡ false → from_before (entry_at t v d)
+        ≡ table_entry g c d
     told_further h = sym (follows ∙ rw h refl)
 
     pub next_short : IsGrid g → IsShort (entry_at t v d)

@@ -1,5 +1,6 @@
 -- Rows of flags and of entries are those of the grid.
-use Rattle.std.proofs.Common.{◌≡◌, ℕ, zero, suc, ◌+◌, ◌-◌, ◌<◌, ◌≤◌, arith, Bool, true, false, ◌&&◌, ◌||◌, List, length, refl, ap, sym, ◌∙◌, subst}
+use Rattle.std.proofs.Common.{◌≡◌, ℕ, zero, suc, ◌+◌, ◌-◌, ◌<◌, ◌≤◌, arith, Bool, true, false, ◌&&◌, ◌||◌}
+use Rattle.std.proofs.Common.{List, length, refl, ap, sym, ◌∙◌, subst}
 use Rattle.std.specs.Prelude.{ℤ, Option, Some, None, option_and_then, is_some, nat_lt}
 use Rattle.std.proofs.lemmas.Bool.Decides.{nat_tests}
 use Rattle.grid_moves.specs.declared.Cell.{Cell}
@@ -22,7 +23,9 @@ use Rattle.pruning.proofs.Bridging.{legal_leads, leads_from, leads_legal, one_of
 use Rattle.plus_tables.specs.Entry.{table_entry}
 use Rattle.plus_tables.specs.Local.{is_mark_by, entry_by_next}
 use Rattle.plus_tables.specs.Tables.{IsShort}
-use Rattle.plus_tables.specs.Rows.{flag, number, ring_of, place_after, told, legal_by, mark_by, is_along, IsFlagRow, IsForcedRow, IsEntryRow, IsRowAt, AreRowsAround, AreForced, AreShort, AreToldBelow, IsToldAlong}
+use Rattle.plus_tables.specs.Rows.{flag, number, ring_of, place_after, told, legal_by, mark_by, is_along}
+use Rattle.plus_tables.specs.Rows.{IsFlagRow, IsForcedRow, IsEntryRow, IsRowAt, AreRowsAround, AreForced}
+use Rattle.plus_tables.specs.Rows.{AreShort, AreToldBelow, IsToldAlong}
 use Rattle.plus_tables.proofs.Following.{entries_follow}
 use Rattle.plus_tables.proofs.Short.{table_entry-short}
 
@@ -88,7 +91,8 @@ module _ (g : GridData) (whole : IsGrid g) where
     pub ring_forced : (x : ℕ) (d : Dir) → is_free g (record { x = x; y = y }) ≡ true
         → forced_on g.corner (ring_of above here below x) d ≡ is_forced g (record { x = x; y = y }) d
     ring_forced x d f =
-        forced_of_ring g (record { x = x; y = y }) f (ring_of above here below x) (ring_open x) g.corner refl d
+        forced_of_ring g (record { x = x; y = y }) f (ring_of above here below x) (ring_open x)
+        g.corner refl d
 
     pub forced_row : (d : Dir) (corner : Corner) (forced : List Bool) → corner ≡ g.corner
         → length forced ≡ g.width + 2 → AreForced corner above here below d forced → IsForcedRow g y d forced

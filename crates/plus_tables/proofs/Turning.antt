@@ -18,16 +18,19 @@ use Rattle.pruning.specs.declared.Arrival.TheVariants.{Start, By}
 use Rattle.pruning.specs.declared.turns.Side.{Side}
 use Rattle.pruning.specs.declared.turns.Side.TheVariants.{Right, Left}
 use Rattle.pruning.specs.Turns.{turn, quarter, rear, is_diagonal}
-use Rattle.pruning.specs.Allowed.{keeps_eighth, keeps_quarter, is_blocked, can_move, is_kept, is_allowed, allowed_dirs}
+use Rattle.pruning.specs.Allowed.{keeps_eighth, keeps_quarter, is_blocked, can_move, is_kept, is_allowed}
+use Rattle.pruning.specs.Allowed.{allowed_dirs}
 use Rattle.pruning.specs.Ring.{is_allowed_on}
 use Rattle.pruning.specs.Source.{CanArrive}
-use Rattle.pruning.proofs.Table.{straight_back, turn_parity, quarter_parity, by_parity, by_test, at_dir, at_both, same_dir}
+use Rattle.pruning.proofs.Table.{straight_back, turn_parity, quarter_parity, by_parity, by_test, at_dir}
+use Rattle.pruning.proofs.Table.{at_both, same_dir}
 use Rattle.pruning.proofs.Places.{Place, move}
 use Rattle.pruning.proofs.Moves.{leads_on-straight, leads_on-diagonal, can_move-straight, can_move-diagonal}
 use Rattle.pruning.proofs.Bridging.{place_of, free_place, open_there, leads_there, legal_leads}
 use Rattle.pruning.proofs.Running.{AreMoved, run_walked}
 use Rattle.plus_tables.specs.Tables.{TablesData, AreTablesOf, entry_at, is_on}
-use Rattle.plus_tables.specs.Reading.{is_move, cell_after, asks_behind, free_past, free_told, allowed_by, IsBeforeOn}
+use Rattle.plus_tables.specs.Reading.{is_move, cell_after, asks_behind, free_past, free_told, allowed_by}
+use Rattle.plus_tables.specs.Reading.{IsBeforeOn}
 use Rattle.plus_tables.proofs.Clear.{is_move-is}
 use Rattle.plus_tables.proofs.Goals.{moved_to}
 use Rattle.plus_tables.proofs.Refreshing.{on_map}

@@ -1,5 +1,5 @@
--- Entries as they lie in memory, eight for each cell: those of a row, into which the rows of a line are laid, and
--- all that a sweep has told so far.
+-- Entries as they lie in memory, eight for each cell: those of a row, into which the rows of a line are laid,
+-- and all that a sweep has told so far.
 use Rattle.std.specs.Prelude.{◌≡◌, ℕ, ◌+◌, ◌*◌, ◌<◌, ℤ, true, false, List, [], length, slice_set}
 use Rattle.grid_moves.specs.declared.Dir.{Dir}
 use Rattle.grid_moves.specs.declared.Dir.TheVariants.{N, NE, E, SE, S, SW, W, NW}
@@ -40,8 +40,8 @@ abbrev pub with_cell : Heading → List ℤ → ℕ → ℤ → ℤ → ℤ → 
 with_cell Upwards row x n ne nw e w = with_entry (with_entry (with_ahead Upwards row x n ne nw) x E e) x W w
 with_cell Downwards row x n ne nw e w = with_ahead Downwards row x n ne nw
 
--- in the first n cells of a row the entries that a sweep tells are now those of the line, if they are short; the
--- others stay
+-- in the first n cells of a row the entries that a sweep tells are now those of the line, if they are short;
+-- the others stay
 pub record AreLaid (h : Heading) (line : Line) (n : ℕ) (old new : List ℤ) : Type 0 where
   pub long : length new ≡ length old
   pub told : (x : ℕ) (e : Dir) → x < n → is_swept h e ≡ true → IsShort (number (part h line e) (x + 1))

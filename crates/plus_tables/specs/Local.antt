@@ -1,5 +1,6 @@
 -- How an entry follows from the entries at the next cell.
-use Rattle.std.specs.Prelude.{◌≡◌, ℕ, zero, suc, ℤ, pos, negsuc, neg_ℤ, Bool, true, false, ◌&&◌, ◌||◌, refl, if◌then◌else◌, option_map, unwrap_or}
+use Rattle.std.specs.Prelude.{◌≡◌, ℕ, zero, suc, ℤ, pos, negsuc, neg_ℤ, Bool, true, false, ◌&&◌, ◌||◌, refl}
+use Rattle.std.specs.Prelude.{if◌then◌else◌, option_map, unwrap_or}
 use Rattle.grid_moves.specs.declared.Cell.{Cell}
 use Rattle.grid_moves.specs.declared.Corner.TheVariants.{Never}
 use Rattle.grid_moves.specs.declared.Dir.{Dir}
@@ -36,7 +37,8 @@ entry_through g entry d v = if is_mark_by g entry d v then pos 1 else from_befor
 
 -- the entry in d of a cell, told by the entries at the next cell; 0 where no move leads there
 abbrev pub entry_by_next : GridData → (Cell → Dir → ℤ) → Cell → Dir → ℤ
-entry_by_next g entry c d = unwrap_or (option_map (λ v. entry_through g entry d v) (legal_ahead g c d)) (pos 0)
+entry_by_next g entry c d = unwrap_or (option_map (λ v. entry_through g entry d v) (legal_ahead g c d))
+    (pos 0)
 
 -- the local law: on each grid, every entry follows so from those at the next cell
 abbrev pub EntriesFollow : Type 0

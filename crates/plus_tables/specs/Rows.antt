@@ -1,6 +1,7 @@
--- Rows of flags and of entries, as the sweeps keep them. What belongs to column x stands at x + 1: one more stands
--- before the first column and one after the last.
-use Rattle.std.specs.Prelude.{◌≡◌, ℕ, ◌+◌, ◌-◌, ◌<◌, ◌≤◌, ℤ, pos, Bool, true, false, ◌&&◌, ◌||◌, Option, Some, None, List, length, slice_index_or, if◌then◌else◌}
+-- Rows of flags and of entries, as the sweeps keep them. What belongs to column x stands at x + 1: one more
+-- stands before the first column and one after the last.
+use Rattle.std.specs.Prelude.{◌≡◌, ℕ, ◌+◌, ◌-◌, ◌<◌, ◌≤◌, ℤ, pos, Bool, true, false, ◌&&◌, ◌||◌, Option, Some}
+use Rattle.std.specs.Prelude.{None, List, length, slice_index_or, if◌then◌else◌}
 use Rattle.grid_moves.specs.declared.Cell.{Cell}
 use Rattle.grid_moves.specs.declared.Corner.{Corner}
 use Rattle.grid_moves.specs.declared.Dir.{Dir}
@@ -87,18 +88,20 @@ pub record AreShort (ahead right left : ℤ) : Type 0 where
   pub right_is : IsShort right
   pub left_is : IsShort left
 
--- the entry of one column is told by the rows of flags around it and by what is known of the next row: where a
--- neighbour is forced, and the entries for d and for the directions beside it
+-- the entry of one column is told by the rows of flags around it and by what is known of the next row: where
+-- a neighbour is forced, and the entries for d and for the directions beside it
 abbrev pub IsToldAt : Corner → List Bool → List Bool → List Bool → List Bool → List ℤ → List ℤ → List ℤ → Dir
     → List ℤ → ℕ → Type 0
 IsToldAt corner above here below forced ahead right left d out x =
     (legal_by corner above here below d x ≡ true → AreShort (number ahead (place_after d x))
     (number right (place_after d x)) (number left (place_after d x)))
-    → number out (x + 1) ≡ told (legal_by corner above here below d x) (mark_by forced right left d (place_after d x))
+    → number out (x + 1) ≡ told (legal_by corner above here below d x)
+    (mark_by forced right left d (place_after d x))
     (number ahead (place_after d x))
 
 -- and so are those of so many columns
-abbrev pub AreToldBelow : Corner → List Bool → List Bool → List Bool → List Bool → List ℤ → List ℤ → List ℤ → Dir
+abbrev pub AreToldBelow : Corner → List Bool → List Bool → List Bool → List Bool → List ℤ → List ℤ
+    → List ℤ → Dir
     → List ℤ → ℕ → Type 0
 AreToldBelow corner above here below forced ahead right left d out n =
     (x : ℕ) → x < n → IsToldAt corner above here below forced ahead right left d out x
@@ -114,12 +117,13 @@ is_along SW = false
 is_along W = true
 is_along NW = false
 
--- the entry of one column for E or W is told by the cells of its row, the places where a neighbour is forced, and
--- the entry of the next column
+-- the entry of one column for E or W is told by the cells of its row, the places where a neighbour is forced,
+-- and the entry of the next column
 abbrev pub IsToldAlong : List Bool → List Bool → Dir → List ℤ → ℕ → Type 0
 IsToldAlong here forced d out x =
     ((flag here (x + 1) && flag here (place_after d x)) ≡ true → IsShort (number out (place_after d x)))
-    → number out (x + 1) ≡ told (flag here (x + 1) && flag here (place_after d x)) (flag forced (place_after d x))
+    → number out (x + 1) ≡ told (flag here (x + 1) && flag here (place_after d x))
+    (flag forced (place_after d x))
     (number out (place_after d x))
 
 -- n is the number of the row that lies there, or of none on the map where none does

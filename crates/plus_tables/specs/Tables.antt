@@ -1,5 +1,6 @@
 -- Tables as contracts see them.
-use Rattle.std.specs.Prelude.{◌≡◌, ℕ, ◌+◌, ◌*◌, ℤ, pos, neg_ℤ, ◌≤ℤ◌, IsTrue, Bool, true, ◌&&◌, nat_lt, List, length, slice_index_or, slice_set, Some}
+use Rattle.std.specs.Prelude.{◌≡◌, ℕ, ◌+◌, ◌*◌, ℤ, pos, neg_ℤ, ◌≤ℤ◌, IsTrue, Bool, true, ◌&&◌, nat_lt, List}
+use Rattle.std.specs.Prelude.{length, slice_index_or, slice_set, Some}
 use Rattle.grid_moves.specs.declared.Cell.{Cell}
 use Rattle.grid_moves.specs.declared.Corner.{Corner}
 use Rattle.grid_moves.specs.declared.Dir.{Dir}

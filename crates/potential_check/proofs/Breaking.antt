@@ -1,5 +1,6 @@
 -- A text is read as a fault exactly where a line breaks the grammar first so.
-use Rattle.std.proofs.Common.{◌≡◌, ◌≢◌, ℕ, zero, suc, ◌+◌, ◌<◌, inl, inr, arith, refl, ap, sym, ◌∙◌, List, [], ◌∷◌, take, Option, Some, None, Result, Ok, Err}
+use Rattle.std.proofs.Common.{◌≡◌, ◌≢◌, ℕ, zero, suc, ◌+◌, ◌<◌, inl, inr, arith, refl, ap, sym, ◌∙◌, List, []}
+use Rattle.std.proofs.Common.{◌∷◌, take, Option, Some, None, Result, Ok, Err}
 use Rattle.std.specs.Option.{option_and_then}
 use Rattle.std.specs.Prelude.{slice_get, IfErr}
 use Rattle.text_line.specs.Lines.{lines_of}
@@ -8,7 +9,9 @@ use Rattle.text_line.specs.Reading as reading
 use Rattle.potential_check.specs.declared.certificate.Certificate.{Certificate}
 use Rattle.potential_check.specs.declared.fault.CertFault.{CertFault}
 use Rattle.potential_check.specs.declared.fault.CertFault.TheVariants.{Line, Order, NoMemory}
-use Rattle.potential_check.specs.Text.{BreaksFirst, Plain, State, Step, Tells, absent_fault, after_step, at_version, certificate_of, closed, fault_after, fault_at, goes, if_goes, misspelt, next, read_from, state_after, step_fault, unordered}
+use Rattle.potential_check.specs.Text.{BreaksFirst, Plain, State, Step, Tells, absent_fault, after_step}
+use Rattle.potential_check.specs.Text.{at_version, certificate_of, closed, fault_after, fault_at, goes}
+use Rattle.potential_check.specs.Text.{if_goes, misspelt, next, read_from, state_after, step_fault, unordered}
 use Rattle.potential_check.proofs.LinesLeft.{needs}
 
 err_is : (read : Result Plain CertFault) (f : CertFault) → fault_in read ≡ Some f → read ≡ Err f

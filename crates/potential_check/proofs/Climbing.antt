@@ -1,5 +1,6 @@
 -- The first steep move from a cell is the first one that climbs.
-use Rattle.std.proofs.Common.{◌≡◌, ℕ, zero, suc, ◌+◌, ◌-◌, ◌<◌, ◌≤◌, arith, refl, ap, ◌∙◌, Bool, true, false, List, [], ◌∷◌}
+use Rattle.std.proofs.Common.{◌≡◌, ℕ, zero, suc, ◌+◌, ◌-◌, ◌<◌, ◌≤◌, arith, refl, ap, ◌∙◌, Bool, true, false}
+use Rattle.std.proofs.Common.{List, [], ◌∷◌}
 use Rattle.std.specs.Prelude.{ℤ, Option, Some, None, option_map, option_and_then, if◌then◌else◌}
 use Rattle.std.specs.Option.{option_or}
 use Rattle.root2_cost.specs.Rank.{rank_of}
@@ -14,7 +15,8 @@ use Rattle.potential_check.specs.declared.rising.Hills.{Hills}
 use Rattle.grid_moves.proofs.Ahead.{legal_ahead-is}
 use Rattle.grid_moves.proofs.Legal.{legal_is}
 use Rattle.potential_check.specs.Moves.{failing_move, first_ahead, first_in_row, first_in_rows}
-use Rattle.potential_check.specs.Rising.{climbs, is_steep, steep_move, first_steep, towards, height_at, IsColumn}
+use Rattle.potential_check.specs.Rising.{climbs, is_steep, steep_move, first_steep, towards, height_at}
+use Rattle.potential_check.specs.Rising.{IsColumn}
 use Rattle.potential_check.proofs.Reaching.{is_before}
 
 -- what lies ahead over a legal move lies ahead

@@ -12,15 +12,20 @@ use Rattle.potential_check.specs.declared.certificate.Claim.TheVariants.{Least, 
 use Rattle.potential_check.specs.declared.verdict.Proof.{Proof}
 use Rattle.potential_check.specs.declared.verdict.Proof.TheVariants as proof
 use Rattle.potential_check.specs.declared.verdict.Reject.{Reject}
-use Rattle.potential_check.specs.declared.verdict.Reject.TheVariants.{Size, Ends, Walk, Start, Goal, Move, Open}
+use Rattle.potential_check.specs.declared.verdict.Reject.TheVariants.{Size, Ends, Walk, Start, Goal, Move}
+use Rattle.potential_check.specs.declared.verdict.Reject.TheVariants.{Open}
 use Rattle.potential_check.specs.Certificate.{is_short, is_small}
 use Rattle.potential_check.specs.Potential.{is_listed, potential_of, rises}
 use Rattle.potential_check.specs.Moves.{first_failing}
-use Rattle.potential_check.specs.Accepted.{AcceptsClaim, AcceptsLeast, AcceptsNone, Holds, RefusesClaim, RefusesLeast, RefusesNone, claimed, ends_at_cost, leaves, starts_at_nothing}
+use Rattle.potential_check.specs.Accepted.{AcceptsClaim, AcceptsLeast, AcceptsNone, Holds, RefusesClaim}
+use Rattle.potential_check.specs.Accepted.{RefusesLeast, RefusesNone, claimed, ends_at_cost, leaves}
+use Rattle.potential_check.specs.Accepted.{starts_at_nothing}
 use Rattle.potential_check.specs.Judged.{JudgesClaim, JudgesWalk}
 use Rattle.potential_check.specs.Rising.{climbs, height_of}
-use Rattle.potential_check.proofs.Feasible.{first_failing-same, kept_inside, none_cheaper, none_fails, none_found}
-use Rattle.potential_check.proofs.Ranked.{climbs-leaves, climbs-rises, members, out_of_reach, rank_below, ranked}
+use Rattle.potential_check.proofs.Feasible.{first_failing-same, kept_inside, none_cheaper, none_fails}
+use Rattle.potential_check.proofs.Feasible.{none_found}
+use Rattle.potential_check.proofs.Ranked.{climbs-leaves, climbs-rises, members, out_of_reach, rank_below}
+use Rattle.potential_check.proofs.Ranked.{ranked}
 
 -- where a claim has one answer that every refusal and every acceptance leads to, it is judged by any of them
 module _ (g : GridData) (s t : Cell) (claim : Claim) (told : Result Proof Reject)

@@ -1,5 +1,6 @@
 -- What is left to read, before a line and after it.
-use Rattle.std.proofs.Common.{◌≡◌, ℕ, suc, ◌+◌, ◌^◌, ◌≤◌, ◌⊎◌, inl, inr, arith, refl, ap, sym, ◌∙◌, subst, Bool, true, false, List, [], ◌∷◌, ◌++◌, length, Some, None, Result, Err}
+use Rattle.std.proofs.Common.{◌≡◌, ℕ, suc, ◌+◌, ◌^◌, ◌≤◌, ◌⊎◌, inl, inr, arith, refl, ap, sym, ◌∙◌, subst}
+use Rattle.std.proofs.Common.{Bool, true, false, List, [], ◌∷◌, ◌++◌, length, Some, None, Result, Err}
 use Rattle.std.specs.Prelude.{nat_le, ◌&&◌, if◌then◌else◌, map}
 use Rattle.std.specs.List.{list_all, onto_first}
 use Rattle.std.proofs.lemmas.Bool.{and_parts}
@@ -14,7 +15,10 @@ use Rattle.potential_check.specs.declared.certificate.Certificate.{Certificate}
 use Rattle.potential_check.specs.declared.fault.CertFault.{CertFault}
 use Rattle.potential_check.specs.declared.fault.CertFault.TheVariants as fault
 use Rattle.potential_check.specs.Certificate.{ascend_from}
-use Rattle.potential_check.specs.Text.{AreShort, Plain, State, Step, Tells, absent_fault, after_step, at_claim, at_ends, at_points, at_size, at_version, certificate_of, closed, ended, goes, in_cells, in_values, misspelt, next, read_from, read_left, step_fault, unordered}
+use Rattle.potential_check.specs.Text.{AreShort, Plain, State, Step, Tells, absent_fault, after_step}
+use Rattle.potential_check.specs.Text.{at_claim, at_ends, at_points, at_size, at_version, certificate_of}
+use Rattle.potential_check.specs.Text.{closed, ended, goes, in_cells, in_values, misspelt, next, read_from}
+use Rattle.potential_check.specs.Text.{read_left, step_fault, unordered}
 use Rattle.potential_check.proofs.Entries.{le_is, le_true}
 
 -- a line that may follow

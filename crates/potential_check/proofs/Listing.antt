@@ -1,5 +1,6 @@
 -- What a line of a list comes to.
-use Rattle.std.proofs.Common.{◌≡◌, ℕ, ◌+◌, ◌≤◌, arith, refl, ap, sym, ◌∙◌, Bool, true, false, List, [], ◌∷◌, ◌++◌, Option, Some, None, Result, Ok, Err}
+use Rattle.std.proofs.Common.{◌≡◌, ℕ, ◌+◌, ◌≤◌, arith, refl, ap, sym, ◌∙◌, Bool, true, false, List, [], ◌∷◌}
+use Rattle.std.proofs.Common.{◌++◌, Option, Some, None, Result, Ok, Err}
 use Rattle.std.specs.Prelude.{◌&&◌, not, codes}
 use Rattle.std.specs.List.{list_all}
 use Rattle.std.specs.Str.{bytes_eq}
@@ -12,7 +13,8 @@ use Rattle.potential_check.specs.declared.fault.CertFault.TheVariants.{Line, Ord
 use Rattle.potential_check.specs.declared.reading.Head.{Head}
 use Rattle.potential_check.specs.Certificate.{are_listed, are_points, cells_of, is_small, lies_inside}
 use Rattle.potential_check.specs.Forms.{member_on, value_on}
-use Rattle.potential_check.specs.Text.{Places, Plain, State, Step, Tells, at_size, at_version, ended, goes, in_cells, in_values, is_end, listed, next, spelled, step_fault}
+use Rattle.potential_check.specs.Text.{Places, Plain, State, Step, Tells, at_size, at_version, ended, goes}
+use Rattle.potential_check.specs.Text.{in_cells, in_values, is_end, listed, next, spelled, step_fault}
 use Rattle.std.proofs.lemmas.List.{map-append}
 use Rattle.potential_check.proofs.Entries.{le_true}
 use Rattle.potential_check.proofs.LinesLeft.{ascend_to, ascend_to-ascend}

@@ -1,5 +1,6 @@
 -- Hands that read a list row by row.
-use Rattle.std.proofs.Common.{◌≡◌, ℕ, zero, suc, ◌+◌, ◌*◌, ◌<◌, ◌≤◌, inl, inr, arith, refl, ap, sym, ◌∙◌, subst, true, false, List, [], IsTrue}
+use Rattle.std.proofs.Common.{◌≡◌, ℕ, zero, suc, ◌+◌, ◌*◌, ◌<◌, ◌≤◌, inl, inr, arith, refl, ap, sym, ◌∙◌}
+use Rattle.std.proofs.Common.{subst, true, false, List, [], IsTrue}
 use Rattle.std.specs.Prelude.{ℤ, min, nat_lt}
 use Rattle.std.specs.List.{list_all}
 use Rattle.std.proofs.lemmas.Bool.{and_parts}
@@ -12,9 +13,11 @@ use Rattle.potential_check.specs.declared.rising.Rows.{Rows}
 use Rattle.potential_check.specs.declared.rising.Hills.{Hills}
 use Rattle.potential_check.specs.Certificate.{lies_inside, ascend_from}
 use Rattle.potential_check.specs.Heights.{entries, floor, are_low}
-use Rattle.potential_check.specs.Rising.{height_at, cells_in, AreHills, StandAt, Reach, RowsReach, Takes, IsColumn}
+use Rattle.potential_check.specs.Rising.{height_at, cells_in, AreHills, StandAt, Reach, RowsReach, Takes}
+use Rattle.potential_check.specs.Rising.{IsColumn}
 use Rattle.grid_moves.proofs.Places.{number_below}
-use Rattle.potential_check.proofs.Entries.{tested, lt_is, lt_not, lt_false, first_is, height_of-outside, rest_ascends, rest_heights, rest_inside}
+use Rattle.potential_check.proofs.Entries.{tested, lt_is, lt_not, lt_false, first_is, height_of-outside}
+use Rattle.potential_check.proofs.Entries.{rest_ascends, rest_heights, rest_inside}
 
 -- the number before n is one, and the same
 pub before_one : (n m : ℕ) → IsBefore (n + 1) m → m ≡ n

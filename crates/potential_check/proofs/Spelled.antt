@@ -1,5 +1,6 @@
 -- A text is read as a certificate exactly where it spells it.
-use Rattle.std.proofs.Common.{◌≡◌, ℕ, ◌+◌, refl, ap, sym, ◌∙◌, subst, inl, inr, Bool, true, false, List, [], ◌∷◌, ◌++◌, append_assoc, Option, Some, None, Result, Ok, Err}
+use Rattle.std.proofs.Common.{◌≡◌, ℕ, ◌+◌, refl, ap, sym, ◌∙◌, subst, inl, inr, Bool, true, false, List, []}
+use Rattle.std.proofs.Common.{◌∷◌, ◌++◌, append_assoc, Option, Some, None, Result, Ok, Err}
 use Rattle.std.specs.Prelude.{IfOk, codes, nat_le, if◌then◌else◌, map}
 use Rattle.std.specs.List.{AllByRecursion, list_all}
 use Rattle.std.specs.Str.{bytes_eq}
@@ -17,7 +18,10 @@ use Rattle.potential_check.specs.declared.fault.CertFault.{CertFault}
 use Rattle.potential_check.specs.declared.reading.Head.{Head}
 use Rattle.potential_check.specs.Certificate.{are_listed, ascend_from, cells_of, lies_inside}
 use Rattle.potential_check.specs.Forms.{ends_on, least_on, member_on, points_on, size_on, value_on}
-use Rattle.potential_check.specs.Text.{Plain, State, Step, Tells, after_step, at_claim, at_ends, at_points, at_size, at_version, certificate_of, closed, ended, goes, in_cells, in_values, is_end, listed, misspelt, next, plain, read_from, spelled, unordered}
+use Rattle.potential_check.specs.Text.{Plain, State, Step, Tells, after_step, at_claim, at_ends, at_points}
+use Rattle.potential_check.specs.Text.{at_size, at_version, certificate_of, closed, ended, goes, in_cells}
+use Rattle.potential_check.specs.Text.{in_values, is_end, listed, misspelt, next, plain, read_from, spelled}
+use Rattle.potential_check.specs.Text.{unordered}
 use Rattle.potential_check.specs.Spelling.{SpellInOrder, Spells, SpellsClaim}
 use Rattle.potential_check.proofs.Entries.{tested}
 

@@ -1,6 +1,8 @@
 -- Points that stand for a walk between two cells.
-use Rattle.std.proofs.Common.{◌≡◌, ℕ, suc, ◌-◌, arith, refl, ap, sym, ◌∙◌, Bool, true, false, List, [], ◌∷◌, ◌++◌, length}
-use Rattle.std.specs.Prelude.{Option, Some, None, Result, Ok, Err, option_map, slice_get, ◌&&◌, if◌then◌else◌, IfOk, IfErr}
+use Rattle.std.proofs.Common.{◌≡◌, ℕ, suc, ◌-◌, arith, refl, ap, sym, ◌∙◌, Bool, true, false, List, [], ◌∷◌}
+use Rattle.std.proofs.Common.{◌++◌, length}
+use Rattle.std.specs.Prelude.{Option, Some, None, Result, Ok, Err, option_map, slice_get, ◌&&◌, if◌then◌else◌}
+use Rattle.std.specs.Prelude.{IfOk, IfErr}
 use Rattle.std.proofs.lemmas.Bool.Decides.{nat_tests}
 use Rattle.root2_cost.specs.declared.Cost.{Cost}
 use Rattle.root2_cost.proofs.Less.{same_cost}
@@ -13,7 +15,8 @@ use Rattle.grid_moves.proofs.Legal.{is_same-cell, is_same-itself}
 use Rattle.path_points.specs.declared.checking.BadAt.{BadAt}
 use Rattle.path_points.specs.Checked.{IsFirstBad, IsShortWalk, run}
 use Rattle.path_points.proofs.Joined.{run_ends}
-use Rattle.potential_check.specs.Accepted.{IsBadWalk, IsRightWalk, begins_at, ends_at, is_at, is_cost, elsewhere, broken, other}
+use Rattle.potential_check.specs.Accepted.{IsBadWalk, IsRightWalk, begins_at, ends_at, is_at, is_cost}
+use Rattle.potential_check.specs.Accepted.{elsewhere, broken, other}
 use Rattle.potential_check.specs.Judged.{JudgesWalk}
 
 -- where cells end that follow others

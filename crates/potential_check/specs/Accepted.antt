@@ -1,5 +1,6 @@
 -- Which certificates are accepted, and how the others are refused: by the first clause that fails.
-use Rattle.std.specs.Prelude.{◌≡◌, ℕ, ◌-◌, ◌≤◌, Bool, true, false, nat_eq, ◌&&◌, not, List, ◌∷◌, length, slice_get, Option, Some, None, pos}
+use Rattle.std.specs.Prelude.{◌≡◌, ℕ, ◌-◌, ◌≤◌, Bool, true, false, nat_eq, ◌&&◌, not, List, ◌∷◌, length}
+use Rattle.std.specs.Prelude.{slice_get, Option, Some, None, pos}
 use Rattle.std.specs.Ordering.{int_eq}
 use Rattle.root2_cost.specs.declared.Cost.{Cost}
 use Rattle.root2_cost.specs.declared.Signed.{Signed}
@@ -18,7 +19,8 @@ use Rattle.potential_check.specs.declared.certificate.Claim.TheVariants.{Least, 
 use Rattle.potential_check.specs.declared.verdict.Proof.{Proof}
 use Rattle.potential_check.specs.declared.verdict.Proof.TheVariants as proof
 use Rattle.potential_check.specs.declared.verdict.Reject.{Reject}
-use Rattle.potential_check.specs.declared.verdict.Reject.TheVariants.{Size, Ends, Walk, Start, Goal, Move, Open}
+use Rattle.potential_check.specs.declared.verdict.Reject.TheVariants.{Size, Ends, Walk, Start, Goal, Move}
+use Rattle.potential_check.specs.declared.verdict.Reject.TheVariants.{Open}
 use Rattle.potential_check.specs.Potential.{potential_of, rises, is_listed, NoMove, IsFeasible}
 use Rattle.potential_check.specs.Moves.{first_failing}
 

@@ -1,5 +1,6 @@
 -- What is read of written numbers.
-use Rattle.std.proofs.Common.{◌≡◌, ℕ, ◌+◌, ◌^◌, ◌<◌, ◌≤◌, true, false, List, [], ◌∷◌, ◌++◌, length, get_or, refl, ap, sym, ◌∙◌, arith, append_assoc}
+use Rattle.std.proofs.Common.{◌≡◌, ℕ, ◌+◌, ◌^◌, ◌<◌, ◌≤◌, true, false, List, [], ◌∷◌, ◌++◌, length, get_or}
+use Rattle.std.proofs.Common.{refl, ap, sym, ◌∙◌, arith, append_assoc}
 use Rattle.std.specs.Prelude.{codes, decimal, Some, nat_le}
 use Rattle.std.specs.Char.{is_ascii_digit, digit_value}
 use Rattle.std.specs.List.{list_all}
@@ -12,7 +13,8 @@ use Rattle.std.proofs.lemmas.Slice.Eq.{bytes_eq-Decides}
 use Rattle.std.proofs.Math.Seq.{drop-append_seam, get_or-append_seam, take-append_seam}
 use Rattle.text_line.specs.Numbers.{value_of}
 use Rattle.grid_moves.specs.declared.Cell.{Cell}
-use Rattle.potential_check.specs.Forms.{after_word, cell_before, cell_in, last_number, number_ahead, number_before, two_numbers}
+use Rattle.potential_check.specs.Forms.{after_word, cell_before, cell_in, last_number, number_ahead}
+use Rattle.potential_check.specs.Forms.{number_before, two_numbers}
 use Rattle.potential_check.proofs.Leading as leading
 use Rattle.potential_make.specs.Written.{pair_text}
 

@@ -1,5 +1,6 @@
 -- How long the text of a certificate is.
-use Rattle.std.proofs.Common.{◌≡◌, ℕ, ◌+◌, ◌*◌, ◌^◌, ◌<◌, ◌≤◌, Bool, true, false, List, [], ◌∷◌, ◌++◌, length, refl, arith}
+use Rattle.std.proofs.Common.{◌≡◌, ℕ, ◌+◌, ◌*◌, ◌^◌, ◌<◌, ◌≤◌, Bool, true, false, List, [], ◌∷◌, ◌++◌, length}
+use Rattle.std.proofs.Common.{refl, arith}
 use Rattle.std.specs.Prelude.{codes, decimal, nat_le, nat_lt}
 use Rattle.std.specs.List.{list_all}
 use Rattle.std.proofs.lemmas.Bool.{and_parts}
@@ -11,9 +12,11 @@ use Rattle.grid_moves.proofs.Places.{number_below}
 use Rattle.path_points.specs.Corners.{goes_straight, turns_after}
 use Rattle.potential_check.specs.declared.certificate.Claim.{Claim}
 use Rattle.potential_check.specs.declared.certificate.Claim.TheVariants.{Least, NoWalk}
-use Rattle.potential_check.specs.Certificate.{are_listed, ascend_from, cells_of, is_short, is_small, lies_inside}
+use Rattle.potential_check.specs.Certificate.{are_listed, ascend_from, cells_of, is_short, is_small}
+use Rattle.potential_check.specs.Certificate.{lies_inside}
 use Rattle.potential_check.proofs.Entries.{le_is, lt_is}
-use Rattle.potential_make.specs.Written.{certificate_text, claim_text, head_text, least_text, member_text, point_text, texts_of, value_text}
+use Rattle.potential_make.specs.Written.{certificate_text, claim_text, head_text, least_text, member_text}
+use Rattle.potential_make.specs.Written.{point_text, texts_of, value_text}
 use Rattle.potential_make.proofs.Digits.{are_digits}
 use Rattle.potential_make.proofs.Few.{few_cells}
 use Rattle.potential_make.proofs.Spelled.{Fits, short_is, small_is}

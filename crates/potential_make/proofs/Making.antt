@@ -1,5 +1,6 @@
 -- What a search found makes a certificate that is accepted.
-use Rattle.std.proofs.Common.{◌≡◌, ℕ, zero, suc, ◌+◌, ◌*◌, ◌^◌, ◌<◌, ◌≤◌, Bool, true, false, ◌&&◌, ◌||◌, List, [], ◌∷◌, ◌++◌, length, map, refl, ap, sym, ◌∙◌, subst, arith}
+use Rattle.std.proofs.Common.{◌≡◌, ℕ, zero, suc, ◌+◌, ◌*◌, ◌^◌, ◌<◌, ◌≤◌, Bool, true, false, ◌&&◌, ◌||◌, List}
+use Rattle.std.proofs.Common.{[], ◌∷◌, ◌++◌, length, map, refl, ap, sym, ◌∙◌, subst, arith}
 use Rattle.std.specs.Prelude.{None, nat_lt, nat_le, pos, ◌-ℤ◌, ℤ, slice_index_or, slice_index}
 use Rattle.std.specs.List.{Contains, list_all}
 use Rattle.std.specs.List.Sorted.{IsStrictlyIncreasing}
@@ -35,7 +36,8 @@ use Rattle.plain_search.specs.declared.lists.Listed.TheVariants.{Found, None}
 use Rattle.plain_search.proofs.Right.{way_is_least}
 use Rattle.plain_search.proofs.Walks.{one_more, plain_consistent, walk_chain}
 use Rattle.potential_check.specs.Accepted.{AcceptsClaim, AcceptsLeast, AcceptsNone, is_value, leaves}
-use Rattle.potential_check.specs.Certificate.{are_listed, are_sides, ascend_from, cells_of, is_short, is_small, lies_inside}
+use Rattle.potential_check.specs.Certificate.{are_listed, are_sides, ascend_from, cells_of, is_short}
+use Rattle.potential_check.specs.Certificate.{is_small, lies_inside}
 use Rattle.potential_check.specs.Potential.{is_listed, potential_of}
 use Rattle.potential_check.specs.Spelling.{Spells}
 use Rattle.potential_check.proofs.Spelled.{certificate_of_spelled}
@@ -376,7 +378,8 @@ module _ (g : GridData) (s t : Cell) (whole : IsGrid g) (from : is_free g s ≡ 
   sides_small : (g.width < 10 ^ 9) × (g.height < 10 ^ 9)
   sides_small = let a = whole.sides.narrow in let b = whole.sides.low in (omega arith, omega arith)
 
-  found_fits : (found : Listed) → IsPlainRun g s t (plain_of found) → IsLeastOrNone g s t (plain_of found).walk
+  found_fits : (found : Listed) → IsPlainRun g s t (plain_of found)
+      → IsLeastOrNone g s t (plain_of found).walk
       → AreLists g s t found → Fits g.width g.height (claim_of found)
   found_fits (Found points cost closed taken) run least lists =
       fits_least points cost taken closed run least lists
@@ -408,7 +411,8 @@ module _ (g : GridData) (s t : Cell) (whole : IsGrid g) (from : is_free g s ≡ 
         (free_short g whole s from) (free_short g whole t to) (found_fits found run least lists)
         (few_points found run))
 
-  accepted_claim : (found : Listed) → IsPlainRun g s t (plain_of found) → IsLeastOrNone g s t (plain_of found).walk
+  accepted_claim : (found : Listed) → IsPlainRun g s t (plain_of found)
+      → IsLeastOrNone g s t (plain_of found).walk
       → AreLists g s t found → AcceptsClaim g s t (claim_of found) × HasItsPotential g s t (claim_of found)
   accepted_claim (Found points cost closed taken) run least lists =
       (accepts_least points cost taken closed run least lists, has_potential g s t cost closed lists)

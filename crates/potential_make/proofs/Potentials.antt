@@ -1,6 +1,7 @@
 -- The potential of a least cost with its closed cells: what it is, and that no legal move raises it by more
 -- than its cost.
-use Rattle.std.proofs.Common.{◌≡◌, ℕ, zero, suc, ◌+◌, ◌<◌, ◌⊎◌, inl, inr, length, List, [], ◌∷◌, ◌++◌, refl, ap, ◌∙◌, subst, arith, Bool, true, false}
+use Rattle.std.proofs.Common.{◌≡◌, ℕ, zero, suc, ◌+◌, ◌<◌, ◌⊎◌, inl, inr, length, List, [], ◌∷◌, ◌++◌, refl}
+use Rattle.std.proofs.Common.{ap, ◌∙◌, subst, arith, Bool, true, false}
 use Rattle.std.specs.Prelude.{pos, ◌+ℤ◌, ◌-ℤ◌, ℤ, Option, Some, None, slice_index_or}
 use Rattle.std.specs.List.{Contains}
 use Rattle.std.proofs.lemmas.Int.{ints}
@@ -54,7 +55,8 @@ signed_is : (c : Cost) → signed_of c ≡ cost_difference c no_cost
 signed_is c = same_signed (signed_of c) (cost_difference c no_cost) (less_nothing c.a) (less_nothing c.b)
 
 -- what a list says of a cell
-pub record Listed (t : Cell) (cost : Cost) (values : List (Cell × Cost)) (c : Cell) (paid : Cost) : Type 0 where
+pub record Listed (t : Cell) (cost : Cost) (values : List (Cell × Cost)) (c : Cell)
+    (paid : Cost) : Type 0 where
   pub contained : Contains values (c, paid)
   pub value : potential_of cost t values c ≡ signed_of paid
 
@@ -74,11 +76,13 @@ by_list t cost (e ∷ values) c = by_test (by_list t cost values c) (is_same e.0
     by_place f none paid (suc k) h q = none paid (k, omega arith, q)
 
     by_test : ((paid : Cost) × Listed t cost values c paid) ⊎ Unlisted t cost values c → (b : Bool)
-        → is_same e.0 c ≡ b → ((paid : Cost) × Listed t cost (e ∷ values) c paid) ⊎ Unlisted t cost (e ∷ values) c
+        → is_same e.0 c ≡ b → ((paid : Cost) × Listed t cost (e ∷ values) c paid)
+        ⊎ Unlisted t cost (e ∷ values) c
     by_test rest true f = inl (
       e.1,
       record {
-        contained = (0, omega arith, ap (λ (d : Cell). let x : Cell × Cost = (d, e.1) in x) (is_same-cell e.0 c f));
+        contained =
+            (0, omega arith, ap (λ (d : Cell). let x : Cell × Cost = (d, e.1) in x) (is_same-cell e.0 c f));
         value = rw f refl;
       },
     )
@@ -95,7 +99,8 @@ by_list t cost (e ∷ values) c = by_test (by_list t cost values c) (is_same e.0
     })
 
 -- the potential of a cell by whether a walk leads to it
-pub data Height (g : GridData) (s t : Cell) (cost : Cost) (values : List (Cell × Cost)) (c : Cell) : Type 0 where
+pub data Height (g : GridData) (s t : Cell) (cost : Cost) (values : List (Cell × Cost))
+    (c : Cell) : Type 0 where
   near : (paid : Cost) → IsLeastCost g s c paid → IsBelow t cost c paid
       → potential_of cost t values c ≡ cost_difference paid no_cost → Height g s t cost values c
   far : (paid : Cost) → IsLeastCost g s c paid → is_less (add_costs paid (estimate c t)) cost ≡ false
@@ -103,12 +108,14 @@ pub data Height (g : GridData) (s t : Cell) (cost : Cost) (values : List (Cell �
   beyond : NoWalk g s c → potential_of cost t values c ≡ cost_difference cost (estimate c t)
       → Height g s t cost values c
 
-module _ (g : GridData) (s t : Cell) (cost : Cost) (values : List (Cell × Cost)) (closed : AreClosed g s t cost values)
+module _ (g : GridData) (s t : Cell) (cost : Cost) (values : List (Cell × Cost))
+    (closed : AreClosed g s t cost values)
   where
     pub has_potential : HasPotential g s t cost values
     has_potential = record {
       near = λ c paid least below. elim (by_list t cost values c) [
-        | inl l ↦ l.1.value ∙ ap signed_of (one_least g s c l.0 paid (closed.only c l.0 l.1.contained).0 least)
+        | inl l ↦
+            l.1.value ∙ ap signed_of (one_least g s c l.0 paid (closed.only c l.0 l.1.contained).0 least)
         | inr u ↦ absurd (u.none paid (closed.all c paid least below))
       ];
       far = λ c paid least above. elim (by_list t cost values c) [
@@ -142,14 +149,16 @@ module _ (g : GridData) (s t : Cell) (cost : Cost) (values : List (Cell × Cost)
       -- over a move the estimate falls by at most its cost
       falls : (u v : Cell) → is_legal g u v ≡ true
           → IsAtMost (estimate u t) (add_costs (move_cost u v) (estimate v t))
-      falls u v l = (plain_consistent g t).falls (start_at u) (start_at v) (move_cost u v) (legal_link g u v l)
+      falls u v l = (plain_consistent g t).falls (start_at u) (start_at v) (move_cost u v)
+          (legal_link g u v l)
 
       -- and the least cost rises by at most its cost
       climbs : (u v : Cell) → is_legal g u v ≡ true → (p q : Cost) → IsLeastCost g s u p → IsLeastCost g s v q
           → IsAtMost q (add_costs p (move_cost u v))
       climbs u v l p q a b =
           let on : Goes g s v (a.cells ++ (v ∷ [])) (add_costs p (move_cost u v)) =
-          one_more g s u v a.cells p (record { legal = a.least.walk.legal; ends = a.least.walk.ends; priced = a.priced }) l in
+          one_more g s u v a.cells p
+          (record { legal = a.least.walk.legal; ends = a.least.walk.ends; priced = a.priced }) l in
           let most = b.least.least (a.cells ++ (v ∷ [])) (record { legal = on.legal; ends = on.ends }) in
           subst (λ (c : Cost). IsAtMost c (add_costs p (move_cost u v))) b.priced
           (subst (λ (c : Cost). IsAtMost (cost_of (s ∷ b.cells)) c) on.priced most)
@@ -165,24 +174,30 @@ module _ (g : GridData) (s t : Cell) (cost : Cost) (values : List (Cell × Cost)
           (cost_difference q no_cost) ≡ false
       from_far u v l q under =
           let less = less_at_most (add_costs q (estimate v t)) cost under in
-          let step = IsAtMost-add_left q (estimate u t) (add_costs (move_cost u v) (estimate v t)) (falls u v l) in
+          let step = IsAtMost-add_left q (estimate u t) (add_costs (move_cost u v) (estimate v t))
+          (falls u v l) in
           let more = IsAtMost-add_left (move_cost u v) (add_costs q (estimate v t)) cost less in
-          let both = IsAtMost-trans (add_costs q (estimate u t)) (add_costs q (add_costs (move_cost u v) (estimate v t)))
+          let both = IsAtMost-trans (add_costs q (estimate u t))
+          (add_costs q (add_costs (move_cost u v) (estimate v t)))
           (add_costs (move_cost u v) cost) step
-          (at_most_moved (add_costs (move_cost u v) (add_costs q (estimate v t))) (add_costs (move_cost u v) cost)
+          (at_most_moved (add_costs (move_cost u v) (add_costs q (estimate v t)))
+          (add_costs (move_cost u v) cost)
           (add_costs q (add_costs (move_cost u v) (estimate v t))) (add_costs (move_cost u v) cost) more
           (omega arith) (omega arith)) in
           no_rise cost (estimate u t) q no_cost (move_cost u v)
-          (at_most_moved (add_costs q (estimate u t)) (add_costs (move_cost u v) cost) (add_costs q (estimate u t))
+          (at_most_moved (add_costs q (estimate u t)) (add_costs (move_cost u v) cost)
+          (add_costs q (estimate u t))
           (add_costs (add_costs cost (move_cost u v)) no_cost) both (omega arith) (omega arith))
 
       from_far_on : (u v : Cell) → is_legal g u v ≡ true
           → is_signed_less (add_signed (cost_difference cost (estimate u t)) (signed_of (move_cost u v)))
           (cost_difference cost (estimate v t)) ≡ false
       from_far_on u v l =
-          let step = IsAtMost-add_left cost (estimate u t) (add_costs (move_cost u v) (estimate v t)) (falls u v l) in
+          let step = IsAtMost-add_left cost (estimate u t) (add_costs (move_cost u v) (estimate v t))
+          (falls u v l) in
           no_rise cost (estimate u t) cost (estimate v t) (move_cost u v)
-          (at_most_moved (add_costs cost (estimate u t)) (add_costs cost (add_costs (move_cost u v) (estimate v t)))
+          (at_most_moved (add_costs cost (estimate u t))
+          (add_costs cost (add_costs (move_cost u v) (estimate v t)))
           (add_costs cost (estimate u t)) (add_costs (add_costs cost (move_cost u v)) (estimate v t)) step
           (omega arith) (omega arith))
 
@@ -193,14 +208,16 @@ module _ (g : GridData) (s t : Cell) (cost : Cost) (values : List (Cell × Cost)
       between u v l (near p a below e) (near q b under f) =
           rw (e, f) (no_rise p no_cost q no_cost (move_cost u v)
           (at_most_moved q (add_costs p (move_cost u v)) (add_costs q no_cost)
-          (add_costs (add_costs p (move_cost u v)) no_cost) (climbs u v l p q a b) (omega arith) (omega arith)))
+          (add_costs (add_costs p (move_cost u v)) no_cost) (climbs u v l p q a b) (omega arith)
+          (omega arith)))
       between u v l (near p a below e) (far q b above f) =
           let most : IsAtMost cost (add_costs q (estimate v t)) = above in
           let up = IsAtMost-add_right (estimate v t) q (add_costs p (move_cost u v)) (climbs u v l p q a b) in
           let both = IsAtMost-trans cost (add_costs q (estimate v t))
           (add_costs (add_costs p (move_cost u v)) (estimate v t)) most up in
           rw (e, f) (no_rise p no_cost cost (estimate v t) (move_cost u v)
-          (at_most_moved cost (add_costs (add_costs p (move_cost u v)) (estimate v t)) (add_costs cost no_cost)
+          (at_most_moved cost (add_costs (add_costs p (move_cost u v)) (estimate v t))
+          (add_costs cost no_cost)
           (add_costs (add_costs p (move_cost u v)) (estimate v t)) both (omega arith) (omega arith)))
       between u v l (near p a below e) (beyond none f) = absurd (walk_on u v l p a none)
       between u v l (far p a above e) (near q b under f) = rw (e, f) (from_far u v l q under)

@@ -1,5 +1,6 @@
 -- The text of a certificate spells it.
-use Rattle.std.proofs.Common.{◌≡◌, ℕ, ◌^◌, ◌<◌, Bool, true, false, ◌&&◌, not, eqb, List, [], ◌∷◌, ◌++◌, map, refl, ap, ◌∙◌, arith, append_assoc}
+use Rattle.std.proofs.Common.{◌≡◌, ℕ, ◌^◌, ◌<◌, Bool, true, false, ◌&&◌, not, eqb, List, [], ◌∷◌, ◌++◌, map}
+use Rattle.std.proofs.Common.{refl, ap, ◌∙◌, arith, append_assoc}
 use Rattle.std.specs.Prelude.{codes, decimal, Some, nat_lt}
 use Rattle.std.specs.Char.{is_ascii_digit}
 use Rattle.std.specs.List.{All, list_all, slice_split}
@@ -15,10 +16,12 @@ use Rattle.grid_moves.specs.declared.Cell.{Cell}
 use Rattle.potential_check.specs.declared.certificate.Claim.{Claim}
 use Rattle.potential_check.specs.declared.certificate.Claim.TheVariants.{Least, NoWalk}
 use Rattle.potential_check.specs.Certificate.{are_listed, are_sides, cells_of, is_short, is_small}
-use Rattle.potential_check.specs.Forms.{ends_on, is_space, least_on, member_on, points_in, points_on, size_on, value_on}
+use Rattle.potential_check.specs.Forms.{ends_on, is_space, least_on, member_on, points_in, points_on, size_on}
+use Rattle.potential_check.specs.Forms.{value_on}
 use Rattle.potential_check.specs.Spelling.{SpellInOrder, Spells, SpellsClaim}
 use Rattle.potential_check.proofs.Entries.{lt_is}
-use Rattle.potential_make.specs.Written.{certificate_text, claim_text, member_text, pair_text, point_text, texts_of, value_text}
+use Rattle.potential_make.specs.Written.{certificate_text, claim_text, member_text, pair_text, point_text}
+use Rattle.potential_make.specs.Written.{texts_of, value_text}
 use Rattle.potential_make.proofs.Digits.{are_digits, cell_read, cell_then, pair_read, word_read}
 
 -- a byte that ends no line

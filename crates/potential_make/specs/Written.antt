@@ -29,7 +29,8 @@ least_text cost points =
 -- the line of a cell and its value
 abbrev pub value_text : (Cell × Cost) → List ℕ
 value_text entry =
-    codes "value " ++ pair_text entry.0.x entry.0.y ++ codes " " ++ pair_text entry.1.a entry.1.b ++ codes "\n"
+    codes "value " ++ pair_text entry.0.x entry.0.y ++ codes " " ++ pair_text entry.1.a entry.1.b
+    ++ codes "\n"
 
 -- the line of a listed cell
 abbrev pub member_text : Cell → List ℕ
@@ -54,7 +55,8 @@ claim_of (None reached taken) = NoWalk reached
 pub round_the_pillar : certificate_text 3 3 (record { x = 0; y = 0 }) (record { x = 2; y = 2 })
     (Least (record { a = 4; b = 0 })
     (record { x = 0; y = 0 } ∷ record { x = 2; y = 0 } ∷ record { x = 2; y = 2 } ∷ [])
-    ((record { x = 0; y = 0 }, record { a = 0; b = 0 }) ∷ (record { x = 1; y = 0 }, record { a = 1; b = 0 }) ∷ []))
+    ((record { x = 0; y = 0 }, record { a = 0; b = 0 }) ∷ (record { x = 1; y = 0 }, record { a = 1; b = 0 })
+    ∷ []))
     ≡ codes "jps-cert 1\nsize 3 3\nends 0 0 2 2\nleast 4 0\npoints 0,0 2,0 2,2\nvalue 0 0 0 0\nvalue 1 0 1 0\nend\n"
 unfolding digits
 round_the_pillar = refl

@@ -13,7 +13,8 @@ use Rattle.pruning.specs.Turns.{turn, quarter, rear, is_diagonal}
 use Rattle.pruning.specs.Allowed.{is_blocked, can_move, keeps_eighth, keeps_quarter, is_kept}
 use Rattle.pruning.specs.Marked.{is_forced_on, IsMarked, forces}
 use Rattle.pruning.specs.Facts.{IsExplained, same, component, turns, TurnsAreMarked}
-use Rattle.pruning.proofs.Table.{Turned, turned, ahead, eighth, side, back, about, turn_parity, quarter_parity, by_parity}
+use Rattle.pruning.proofs.Table.{Turned, turned, ahead, eighth, side, back, about, turn_parity}
+use Rattle.pruning.proofs.Table.{quarter_parity, by_parity}
 use Rattle.pruning.proofs.Moves.{can_move-straight}
 use Rattle.pruning.proofs.Bridging.{leads_from}
 use Rattle.pruning.proofs.Kept.{not_true, kept-eighth, kept-quarter, kept-back, kept-about}

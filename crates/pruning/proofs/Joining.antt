@@ -1,5 +1,6 @@
 -- Walks one after the other: what is less of the first is less of both.
-use Rattle.std.proofs.Common.{◌≡◌, ◌+◌, ◌*◌, arith, true, refl, ap, sym, ◌∙◌, List, [], ◌∷◌, ◌++◌, length, length-append}
+use Rattle.std.proofs.Common.{◌≡◌, ◌+◌, ◌*◌, arith, true, refl, ap, sym, ◌∙◌, List, [], ◌∷◌, ◌++◌, length}
+use Rattle.std.proofs.Common.{length-append}
 use Rattle.root2_cost.specs.declared.Cost.{Cost}
 use Rattle.root2_cost.specs.Sums.{add_costs}
 use Rattle.root2_cost.proofs.Sums.{add_costs-assoc, add_costs-no_cost_left}

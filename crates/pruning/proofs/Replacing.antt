@@ -1,5 +1,6 @@
 -- The first local fact: each turn that is not allowed has a replacement.
-use Rattle.std.proofs.Common.{◌≡◌, refl, ap, sym, ◌∙◌, ◌<◌, [], ◌∷◌, arith, Bool, true, false, not, ◌&&◌, ◌||◌, ◌⊎◌, inl, inr}
+use Rattle.std.proofs.Common.{◌≡◌, refl, ap, sym, ◌∙◌, ◌<◌, [], ◌∷◌, arith, Bool, true, false, not, ◌&&◌}
+use Rattle.std.proofs.Common.{◌||◌, ◌⊎◌, inl, inr}
 use Rattle.root2_cost.specs.declared.Cost.{Cost}
 use Rattle.root2_cost.specs.Order.{IsAtMost}
 use Rattle.root2_cost.specs.Sums.{add_costs, no_cost}
@@ -17,8 +18,12 @@ use Rattle.pruning.specs.Turns.{turn, quarter, rear, is_diagonal}
 use Rattle.pruning.specs.Allowed.{is_blocked, keeps_eighth, keeps_quarter, is_kept}
 use Rattle.pruning.specs.Facts.{HasBetter, shorter, straighter, earlier, TurnsAreReplaced}
 use Rattle.pruning.proofs.Places.{Place, move}
-use Rattle.pruning.proofs.Table.{straight_back, straight_side, diagonal_back, diagonal_side, reversal, moved_both, Turned, turned, ahead, eighth, side, back, about, turn_parity, quarter_parity, turn_back, by_parity}
-use Rattle.pruning.proofs.Bridging.{place_of, free_place, open_there, one_cell, cell_there, dir_cost, cost_there, Leads, legal_leads, leads_can, leads_there, leads_passes, leads_over, Passes}
+use Rattle.pruning.proofs.Table.{straight_back, straight_side, diagonal_back, diagonal_side, reversal}
+use Rattle.pruning.proofs.Table.{moved_both, Turned, turned, ahead, eighth, side, back, about, turn_parity}
+use Rattle.pruning.proofs.Table.{quarter_parity, turn_back, by_parity}
+use Rattle.pruning.proofs.Bridging.{place_of, free_place, open_there, one_cell, cell_there, dir_cost}
+use Rattle.pruning.proofs.Bridging.{cost_there, Leads, legal_leads, leads_can, leads_there, leads_passes}
+use Rattle.pruning.proofs.Bridging.{leads_over, Passes}
 use Rattle.pruning.proofs.Kept.{kept-on, kept-eighth, kept-quarter}
 
 passable : (r : Corner) (a b : Bool) → b ≡ true → (r ≡ Never → a ≡ true) → is_passable r a b ≡ true

@@ -11,9 +11,11 @@ use Rattle.pruning.specs.Turns.{turn, is_diagonal}
 use Rattle.pruning.specs.Marked.{is_forced, HoldsOnRun, IsMarked, forces, looks_out}
 use Rattle.pruning.specs.Stop.{IsStop, at_goal, marked, sees_goal, StopsAfter, MarkedAfter}
 use Rattle.pruning.specs.First.{holds_on_run, is_marked, is_stop, first_stop, first_mark}
-use Rattle.pruning.specs.Laws.{MarksAreTold, StopsAreTold, FirstStopIsFirst, OneFirstStop, FirstMarkIsFirst, OneFirstMark}
+use Rattle.pruning.specs.Laws.{MarksAreTold, StopsAreTold, FirstStopIsFirst, OneFirstStop, FirstMarkIsFirst}
+use Rattle.pruning.specs.Laws.{OneFirstMark}
 use Rattle.pruning.proofs.Table.{either_true}
-use Rattle.pruning.proofs.Firsts.{FindsLeast-once, FindsLeast-same, HoldsAfter, first_on_run-finds, on_run-sound, on_run-complete}
+use Rattle.pruning.proofs.Firsts.{FindsLeast-once, FindsLeast-same, HoldsAfter, first_on_run-finds}
+use Rattle.pruning.proofs.Firsts.{on_run-sound, on_run-complete}
 
 or_true : (a b : Bool) → b ≡ true → (a || b) ≡ true
 or_true a b h = grind arith

@@ -1,5 +1,6 @@
 -- A test of all directions and sides, by computation.
-use Rattle.std.proofs.Common.{◌≡◌, Bool, true, false, ◌&&◌, ◌||◌, refl, ℕ, inl, inr, ◌⊎◌, arith, ap, ◌∙◌, not, zero, suc, sym, subst}
+use Rattle.std.proofs.Common.{◌≡◌, Bool, true, false, ◌&&◌, ◌||◌, refl, ℕ, inl, inr, ◌⊎◌, arith, ap, ◌∙◌, not}
+use Rattle.std.proofs.Common.{zero, suc, sym, subst}
 use Rattle.std.specs.Prelude.{ℤ, pos, ◌+ℤ◌, if◌then◌else◌}
 use Rattle.std.specs.Ordering.{int_eq}
 use Rattle.std.proofs.lemmas.Int.{ints}

@@ -1,5 +1,6 @@
 -- Marks, stops and first stops as functions that compute.
-use Rattle.std.specs.Prelude.{◌≡◌, ℕ, zero, suc, ◌+◌, Bool, ◌&&◌, ◌||◌, refl, Option, Some, None, option_and_then, option_map, unwrap_or, is_some, if◌then◌else◌, codes}
+use Rattle.std.specs.Prelude.{◌≡◌, ℕ, zero, suc, ◌+◌, Bool, ◌&&◌, ◌||◌, refl, Option, Some, None}
+use Rattle.std.specs.Prelude.{option_and_then, option_map, unwrap_or, is_some, if◌then◌else◌, codes}
 use Rattle.grid_moves.specs.declared.Cell.{Cell}
 use Rattle.grid_moves.specs.declared.Corner.TheVariants.{Never, One}
 use Rattle.grid_moves.specs.declared.Dir.{Dir}

@@ -1,6 +1,7 @@
 -- Lists of directions in one word.
 -- No public clause cites a definition of this module.
-use Rattle.std.specs.Prelude.{◌≡◌, ℕ, zero, suc, ◌+◌, ◌-◌, ◌*◌, ◌/◌, ◌%◌, refl, List, [], ◌∷◌, get_or, nat_eq, if◌then◌else◌}
+use Rattle.std.specs.Prelude.{◌≡◌, ℕ, zero, suc, ◌+◌, ◌-◌, ◌*◌, ◌/◌, ◌%◌, refl, List, [], ◌∷◌, get_or, nat_eq}
+use Rattle.std.specs.Prelude.{if◌then◌else◌}
 use Rattle.grid_moves.specs.declared.Dir.{Dir}
 use Rattle.grid_moves.specs.declared.Dir.TheVariants.{N, E, S}
 use Rattle.grid_moves.specs.Move.{dir_number, all_dirs}

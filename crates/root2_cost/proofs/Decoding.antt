@@ -4,7 +4,8 @@ use Rattle.std.proofs.Math.Nat.{add-mul-mod_self_right, mod-eq_of_lt, mul-div_ca
 use Rattle.std.proofs.lemmas.Nat.{mul-mod_first}
 use Rattle.root2_cost.specs.declared.Cost.{Cost}
 use Rattle.root2_cost.specs.Laws.{HasShortParts}
-use Rattle.root2_cost.specs.Rank.{rank_of, straight_rank, diagonal_rank, rank_step, diagonals_of, cost_of_rank}
+use Rattle.root2_cost.specs.Rank.{rank_of, straight_rank, diagonal_rank, rank_step, diagonals_of}
+use Rattle.root2_cost.specs.Rank.{cost_of_rank}
 
 -- where r² is 1 more than k times q, r times aq + b(q + r) leaves b modulo q
 leaves : (q r k a b : ℕ) → r * r ≡ k * q + 1 → b < q → (a * q + b * (q + r)) % q * r % q ≡ b

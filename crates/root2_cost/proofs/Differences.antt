@@ -7,7 +7,8 @@ use Rattle.root2_cost.specs.declared.Cost.{Cost}
 use Rattle.root2_cost.specs.declared.Signed.{Signed}
 use Rattle.root2_cost.specs.Order.{is_positive, is_less, IsLess, IsAtMost}
 use Rattle.root2_cost.specs.Sums.{add_costs, no_cost}
-use Rattle.root2_cost.specs.Signed.{signed_of, add_signed, signed_difference, is_signed_less, IsSignedLess, IsSignedAtMost, RisesAtMost}
+use Rattle.root2_cost.specs.Signed.{signed_of, add_signed, signed_difference, is_signed_less, IsSignedLess}
+use Rattle.root2_cost.specs.Signed.{IsSignedAtMost, RisesAtMost}
 use Rattle.root2_cost.specs.Rank.{rank_of, signed_rank, straight_rank, diagonal_rank}
 use Rattle.root2_cost.specs.Laws.{HasShortParts, HasShortSides}
 use Rattle.root2_cost.proofs.Less.{same_cost}
@@ -173,7 +174,8 @@ pub signed_ranks : (p q : Signed) → HasShortSides p → HasShortSides q → Is
 signed_ranks p q s t h =
     let less : IsLess (add_costs (gain p) (loss q)) (add_costs (gain q) (loss p)) =
     sym (less_is p q (gain p) (loss p) (gain q) (loss q) (is_parted p) (is_parted q)) ∙ h in
-    let ranks = less_ranks (add_costs (gain p) (loss q)) (add_costs (gain q) (loss p)) (short_sum p q s t) less in
+    let ranks = less_ranks (add_costs (gain p) (loss q)) (add_costs (gain q) (loss p))
+    (short_sum p q s t) less in
     crossed (signed_rank p) (signed_rank q) (rank_of (gain p)) (rank_of (loss p)) (rank_of (gain q))
     (rank_of (loss q)) (signed_rank_is p) (signed_rank_is q)
     (subst (λ (n : ℕ). rank_of (gain p) + rank_of (loss q) < n) (rank_of-sum (gain q) (loss p))
@@ -182,7 +184,8 @@ signed_ranks p q s t h =
 pub signed_ranks_less : (p q : Signed) → HasShortSides p → HasShortSides q → signed_rank p <ℤ signed_rank q
     → IsSignedLess p q
 signed_ranks_less p q s t h =
-    let sums = uncrossed (signed_rank p) (signed_rank q) (rank_of (gain p)) (rank_of (loss p)) (rank_of (gain q))
+    let sums = uncrossed (signed_rank p) (signed_rank q) (rank_of (gain p)) (rank_of (loss p))
+    (rank_of (gain q))
     (rank_of (loss q)) (signed_rank_is p) (signed_rank_is q) h in
     let ranks : rank_of (add_costs (gain p) (loss q)) < rank_of (add_costs (gain q) (loss p)) =
     subst (λ (n : ℕ). n < rank_of (add_costs (gain q) (loss p))) (sym (rank_of-sum (gain p) (loss q)))
@@ -204,7 +207,8 @@ pub rise_from_nothing : (paid cost : Cost) → RisesAtMost (signed_of no_cost) p
 rise_from_nothing paid cost h =
     let none : (n : ℕ) → 0 + n ≡ n = λ n. omega arith in
     ap (λ (n : ℕ). is_positive (pos cost.a -ℤ pos n) (pos cost.b -ℤ pos paid.b)) (sym (none paid.a))
-    ∙ ap (λ (n : ℕ). is_positive (pos cost.a -ℤ pos (0 + paid.a)) (pos cost.b -ℤ pos n)) (sym (none paid.b)) ∙ h
+    ∙ ap (λ (n : ℕ). is_positive (pos cost.a -ℤ pos (0 + paid.a)) (pos cost.b -ℤ pos n)) (sym (none paid.b))
+    ∙ h
 
 -- the rank of a difference with a cost more
 pub signed_rank-more : (s : Signed) (c : Cost)

@@ -4,7 +4,8 @@ use Rattle.root2_cost.specs.declared.Cost.{Cost}
 use Rattle.root2_cost.specs.Order.{IsAtMost}
 use Rattle.root2_cost.specs.Sums.{add_costs, no_cost}
 use Rattle.root2_cost.proofs.AtMost.{IsAtMost-trans, same_at_most}
-use Rattle.root2_cost.proofs.Sums.{add_costs-no_cost_left, IsAtMost-add_left, IsAtMost-add_right, IsAtMost-cancel_right, IsAtMost-more_right}
+use Rattle.root2_cost.proofs.Sums.{add_costs-no_cost_left, IsAtMost-add_left, IsAtMost-add_right}
+use Rattle.root2_cost.proofs.Sums.{IsAtMost-cancel_right, IsAtMost-more_right}
 
 -- p is at most q
 pub record Most (p q : Cost) : Type 0 where

@@ -5,7 +5,8 @@ use Rattle.root2_cost.specs.Order.{IsLess, IsAtMost}
 use Rattle.root2_cost.specs.Sums.{no_cost, add_costs}
 use Rattle.root2_cost.proofs.Gaps.{both, Gap-moved}
 use Rattle.root2_cost.proofs.Less.{less_gap, gap_less, same_cost}
-use Rattle.root2_cost.proofs.AtMost.{IsAtMost-cases, less_at_most, same_at_most, IsAtMost-or_more, IsAtMost-not_more, IsAtMost-trans, at_most_by_parts}
+use Rattle.root2_cost.proofs.AtMost.{IsAtMost-cases, less_at_most, same_at_most, IsAtMost-or_more}
+use Rattle.root2_cost.proofs.AtMost.{IsAtMost-not_more, IsAtMost-trans, at_most_by_parts}
 
 pub add_costs-comm : (p q : Cost) → add_costs p q ≡ add_costs q p
 add_costs-comm p q = same_cost (add_costs p q) (add_costs q p) (omega arith) (omega arith)

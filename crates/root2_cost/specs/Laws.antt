@@ -5,7 +5,8 @@ use Rattle.root2_cost.specs.declared.Cost.{Cost}
 use Rattle.root2_cost.specs.Order.{IsLess, IsAtMost}
 use Rattle.root2_cost.specs.Sums.{add_costs, octile_cost}
 use Rattle.root2_cost.specs.declared.Signed.{Signed}
-use Rattle.root2_cost.specs.Signed.{signed_of, add_signed, signed_difference, IsSignedLess, IsSignedAtMost, RisesAtMost}
+use Rattle.root2_cost.specs.Signed.{signed_of, add_signed, signed_difference, IsSignedLess, IsSignedAtMost}
+use Rattle.root2_cost.specs.Signed.{RisesAtMost}
 use Rattle.root2_cost.specs.Rank.{rank_of, signed_rank}
 
 -- of two costs one is the lesser, or they are the same pair

@@ -1,5 +1,6 @@
 -- The order of costs a + b√2 with whole a and b, by value.
-use Rattle.std.specs.Prelude.{◌≡◌, suc, ◌+◌, ◌*◌, Bool, true, false, nat_lt, IsTrue, refl, pos, negsuc, ℤ, ◌-ℤ◌}
+use Rattle.std.specs.Prelude.{◌≡◌, suc, ◌+◌, ◌*◌, Bool, true, false, nat_lt, IsTrue, refl, pos, negsuc, ℤ}
+use Rattle.std.specs.Prelude.{◌-ℤ◌}
 use Rattle.root2_cost.specs.declared.Cost.{Cost}
 
 -- x + y√2 is positive, by the three sign cases

@@ -78,6 +78,7 @@ pub within_a_step : RisesAtMost (cost_difference (record { a = 0; b = 0 }) (reco
 within_a_step = refl
 
 pub beyond_a_step : is_signed_less
-    (add_signed (cost_difference (record { a = 0; b = 0 }) (record { a = 1; b = 0 })) (signed_of (record { a = 0; b = 1 })))
+    (add_signed (cost_difference (record { a = 0; b = 0 }) (record { a = 1; b = 0 }))
+    (signed_of (record { a = 0; b = 1 })))
     (signed_of (record { a = 1; b = 0 })) ≡ true
 beyond_a_step = refl

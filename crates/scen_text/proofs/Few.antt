@@ -1,5 +1,6 @@
 -- A text has no more entries than bytes.
-use Rattle.std.proofs.Common.{◌≡◌, ℕ, suc, ◌+◌, ◌^◌, ◌≤◌, List, [], ◌∷◌, length, Result, Ok, Err, sym, ap, subst, inl, inr, arith}
+use Rattle.std.proofs.Common.{◌≡◌, ℕ, suc, ◌+◌, ◌^◌, ◌≤◌, List, [], ◌∷◌, length, Result, Ok, Err, sym, ap}
+use Rattle.std.proofs.Common.{subst, inl, inr, arith}
 use Rattle.std.specs.Prelude.{IfOk, Vec}
 use Rattle.std.specs.declared.alloc.Global.{Global}
 use Rattle.text_line.specs.Lines.{pieces_of}
@@ -11,7 +12,8 @@ use Rattle.scen_text.specs.declared.entry.Entry.{Entry}
 use Rattle.scen_text.specs.Spelling.{IsBlank, IsEntry, Spells}
 
 -- there are as many lines as pieces, each of which takes a byte at least
-lines_few : (number place : ℕ) (pieces : List (List ℕ)) → length (lines_from number place pieces) ≤ room_of pieces
+lines_few : (number place : ℕ) (pieces : List (List ℕ)) → length (lines_from number place pieces)
+    ≤ room_of pieces
 lines_few number place [] = omega arith
 lines_few number place (piece ∷ pieces) =
     omega (arith, lines_few (number + 1) (place + length piece + 1) pieces)

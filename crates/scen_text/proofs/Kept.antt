@@ -1,5 +1,6 @@
 -- Lengths that texts spell have few digits.
-use Rattle.std.proofs.Common.{◌≡◌, ℕ, zero, suc, ◌+◌, true, ◌&&◌, List, [], ◌∷◌, length, take, drop, Option, Some, None, Result, Ok, Err, refl, subst, sym, inl, inr, arith}
+use Rattle.std.proofs.Common.{◌≡◌, ℕ, zero, suc, ◌+◌, true, ◌&&◌, List, [], ◌∷◌, length, take, drop, Option}
+use Rattle.std.proofs.Common.{Some, None, Result, Ok, Err, refl, subst, sym, inl, inr, arith}
 use Rattle.std.specs.Prelude.{slice_get, position, IfOk, Vec}
 use Rattle.std.specs.List.{list_all}
 use Rattle.std.specs.Char.{is_ascii_digit}
@@ -67,7 +68,8 @@ spelled_kept (line ∷ lines) entries spelled =
       | inr first ↦
           let is = first.spelled in
           subst AllKept (sym first.are) (one_more_kept first.first first.others
-          (length_kept is.words.listed.bytes first.first.length is.listed) (spelled_kept lines first.others first.later))
+          (length_kept is.words.listed.bytes first.first.length is.listed)
+          (spelled_kept lines first.others first.later))
     ]
 
 -- and so has each entry that an answer tells, where the entries are spelled

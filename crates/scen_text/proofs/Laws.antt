@@ -1,5 +1,6 @@
 -- What a text is read as, what it spells and how it breaks the grammar.
-use Rattle.std.proofs.Common.{◌≡◌, ℕ, zero, suc, ◌<◌, ◌≤◌, true, false, cond, ltb, List, [], ◌∷◌, ◌++◌, length, Option, Some, None, Ok, Err, refl, ap, subst, ◌∙◌, ◌⊎◌, inl, inr, arith}
+use Rattle.std.proofs.Common.{◌≡◌, ℕ, zero, suc, ◌<◌, ◌≤◌, true, false, cond, ltb, List, [], ◌∷◌, ◌++◌}
+use Rattle.std.proofs.Common.{length, Option, Some, None, Ok, Err, refl, ap, subst, ◌∙◌, ◌⊎◌, inl, inr, arith}
 use Rattle.std.specs.Prelude.{codes, unwrap_or, if◌then◌else◌}
 use Rattle.std.specs.Option.{option_or, is_some}
 use Rattle.std.proofs.lemmas.Bool.{cases_Bool, and_parts, ltb-false}
@@ -15,7 +16,8 @@ use Rattle.scen_text.specs.declared.fault.ScenFault.TheVariants.{Version, Fields
 use Rattle.scen_text.specs.declared.entry.Entry.{Entry}
 use Rattle.scen_text.specs.Words.{Words, words_of}
 use Rattle.scen_text.specs.Spelling.{HasWords, IsEntry, IsBlank, IsVersion, SpellsLines, Spells}
-use Rattle.scen_text.specs.Faults.{names_version, number_fault, words_fault, fields_read, line_read, fault_at, entry_in, first_of, all_read, scen_of, BreaksFirst}
+use Rattle.scen_text.specs.Faults.{names_version, number_fault, words_fault, fields_read, line_read, fault_at}
+use Rattle.scen_text.specs.Faults.{entry_in, first_of, all_read, scen_of, BreaksFirst}
 use Rattle.scen_text.proofs.Split.{words_there}
 use Rattle.scen_text.proofs.Lines.{line_words}
 
@@ -48,7 +50,8 @@ fields_blank : (line : ℕ) (fields : List Placed) → fields_read line fields �
 fields_blank line [] read = refl
 fields_blank line (bucket ∷ left) read =
     elim (ltb (length (bucket ∷ left)) 9) as (λ few. (if few then Err (Fields line)
-    else reading (words_fault line (words_of (bucket ∷ left))) (Some (entry_in line (words_of (bucket ∷ left)))))
+    else reading (words_fault line (words_of (bucket ∷ left)))
+    (Some (entry_in line (words_of (bucket ∷ left)))))
     ≡ Ok None → bucket ∷ left ≡ []) [
       | true ↦ λ read. absurd cc
       | false ↦ λ read. absurd (entry_left (words_fault line (words_of (bucket ∷ left))) _ read)
@@ -68,7 +71,8 @@ fields_spell line (bucket ∷ left) entry are read =
       | inr enough ↦
           let words = words_of (bucket ∷ left) in
           let long : 8 ≤ length left = omega (arith, ltb-false (length (bucket ∷ left)) 9 enough) in
-          let has : HasWords (fields_from line.place line.bytes) words = rw are (words_there bucket left long) in
+          let has : HasWords (fields_from line.place line.bytes) words =
+          rw are (words_there bucket left long) in
           let parts = read_clean (words_fault line.number words) (rw enough at read) in
           subst (IsEntry line) parts.1 (words_spell line words has parts.0)
     ]
@@ -132,7 +136,8 @@ module _ (first : LineAt) (others : List LineAt) where
     behind_version (suc place) fault breaks before =
         record { place = place; breaks = breaks; before = λ k below. before (suc k) (omega arith) }
 
-    read_right : Reads (SpellsLines (first ∷ others)) (BreaksFirst (first ∷ others)) (all_read (first ∷ others))
+    read_right : Reads (SpellsLines (first ∷ others)) (BreaksFirst (first ∷ others))
+        (all_read (first ∷ others))
     read_right = record {
       found = λ entries read. record {
         first = first;
@@ -142,12 +147,14 @@ module _ (first : LineAt) (others : List LineAt) where
         spelled = later.found entries (rw right at read);
       };
       only = λ entries spells. rw right (later.only entries (subst
-          (λ (lines : List LineAt). SpellInOrder IsBlank IsEntry lines entries) (others_are spells.are) spells.spelled));
+          (λ (lines : List LineAt). SpellInOrder IsBlank IsEntry lines entries) (others_are spells.are)
+          spells.spelled));
       first = λ fault read.
           let is = later.first fault (rw right at read) in
           record { place = suc is.place; breaks = is.breaks; before = clean is.place is.before };
       broken = λ fault first_broken. rw right
-          (later.broken fault (behind_version first_broken.place fault first_broken.breaks first_broken.before));
+          (later.broken fault (behind_version first_broken.place fault first_broken.breaks
+          first_broken.before));
     }
       where
         others_are : {line : LineAt} {lines : List LineAt} → first ∷ others ≡ line ∷ lines → lines ≡ others
@@ -160,10 +167,12 @@ module _ (first : LineAt) (others : List LineAt) where
     no_version zero fault breaks before = let here = rw wrong at breaks in cc
     no_version (suc place) fault breaks before = let no = rw wrong at (before 0 (omega arith)) in absurd cc
 
-    read_wrong : Reads (SpellsLines (first ∷ others)) (BreaksFirst (first ∷ others)) (all_read (first ∷ others))
+    read_wrong : Reads (SpellsLines (first ∷ others)) (BreaksFirst (first ∷ others))
+        (all_read (first ∷ others))
     read_wrong = record {
       found = λ entries read. let no = rw wrong at read in absurd cc;
-      only = λ entries spells. let named = version_named spells.first.bytes spells.version in absurd (cc (named, wrong, spells.are));
+      only = λ entries spells. let named = version_named spells.first.bytes spells.version in
+          absurd (cc (named, wrong, spells.are));
       first = λ fault read.
           let found = rw wrong at read in
           let same : Version 1 ≡ fault = cc in

@@ -1,5 +1,6 @@
 -- What the lines of a text are read as, one after another.
-use Rattle.std.proofs.Common.{◌≡◌, ℕ, true, false, List, [], ◌∷◌, length, drop, Option, Some, None, Ok, Err, refl, sym, ap, ◌∙◌, arith}
+use Rattle.std.proofs.Common.{◌≡◌, ℕ, true, false, List, [], ◌∷◌, length, drop, Option, Some, None, Ok, Err}
+use Rattle.std.proofs.Common.{refl, sym, ap, ◌∙◌, arith}
 use Rattle.std.specs.Prelude.{slice_get}
 use Rattle.std.proofs.lemmas.Bool.{le-ltb}
 use Rattle.text_line.specs.Reading.{reading, read_behind}
@@ -32,7 +33,8 @@ module _ (line : LineAt) (bucket : Placed) (left : List Placed) (words : Words)
       → Ok (Some entry) ≡ line_read line
   entry_told entry told = sym (line_words line bucket left words are has ∙ rw (told.0, ← told.1) refl)
 
-  pub fault_told : (fault : ScenFault) → words_fault line.number words ≡ Some fault → Err fault ≡ line_read line
+  pub fault_told : (fault : ScenFault) → words_fault line.number words ≡ Some fault
+      → Err fault ≡ line_read line
   fault_told fault told = sym (line_words line bucket left words are has ∙ rw told refl)
 
 first_given : (old new : List LineAt) (line : Option PlacedLine) → GivesLine old line new

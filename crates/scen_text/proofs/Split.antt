@@ -1,6 +1,8 @@
 -- The words of an entry and its fields.
-use Rattle.std.proofs.Common.{◌≡◌, ℕ, suc, ◌+◌, ◌-◌, ◌≤◌, List, [], ◌∷◌, ◌++◌, length, get_or, take, drop, refl, sym, ap, ◌∙◌, arith}
-use Rattle.std.proofs.lemmas.List.{length-append, get_or-append-add, take-append-drop, length-drop, length-take-le}
+use Rattle.std.proofs.Common.{◌≡◌, ℕ, suc, ◌+◌, ◌-◌, ◌≤◌, List, [], ◌∷◌, ◌++◌, length, get_or, take, drop}
+use Rattle.std.proofs.Common.{refl, sym, ap, ◌∙◌, arith}
+use Rattle.std.proofs.lemmas.List.{length-append, get_or-append-add, take-append-drop, length-drop}
+use Rattle.std.proofs.lemmas.List.{length-take-le}
 use Rattle.text_line.specs.Places.{Placed}
 use Rattle.scen_text.specs.Words.{Words, nothing, from_end, words_of}
 use Rattle.scen_text.specs.Spelling.{Spans, HasWords}
@@ -73,7 +75,8 @@ same_words : (bucket bucket' w w' h h' sx sx' sy sy' gx gx' gy gy' listed listed
       gy = gy';
       listed = listed';
     }
-same_words bucket bucket' w w' h h' sx sx' sy sy' gx gx' gy gy' listed listed' start start' end end' e0 e1 e2 e3 e4 e5 e6 e7 e8 e9 =
+same_words bucket bucket' w w' h h' sx sx' sy sy' gx gx' gy gy' listed listed' start start' end end' e0 e1 e2
+    e3 e4 e5 e6 e7 e8 e9 =
     rw (e0, e1, e2, e3, e4, e5, e6, e7, e8, e9) refl
 
 module _ (words : Words) (name : List Placed) (spans : Spans name words.name) where

@@ -1,5 +1,8 @@
--- How each line of a text breaks the grammar of scenarios, and the reading of a text up to the first line that does.
-use Rattle.std.specs.Prelude.{ℕ, zero, suc, Bool, false, nat_lt, ◌||◌, ◌&&◌, if◌then◌else◌, List, [], ◌∷◌, length, drop, slice_get, codes, unwrap_or, Option, Some, None, Result, Ok, Err, Vec}
+-- How each line of a text breaks the grammar of scenarios, and the reading of a text up to the first line
+-- that does.
+use Rattle.std.specs.Prelude.{ℕ, zero, suc, Bool, false, nat_lt, ◌||◌, ◌&&◌, if◌then◌else◌, List, [], ◌∷◌}
+use Rattle.std.specs.Prelude.{length, drop, slice_get, codes, unwrap_or, Option, Some, None, Result, Ok, Err}
+use Rattle.std.specs.Prelude.{Vec}
 use Rattle.std.specs.Option.{option_or, is_some}
 use Rattle.std.specs.Str.{bytes_eq}
 use Rattle.std.specs.declared.alloc.Global.{Global}
@@ -74,13 +77,14 @@ entry_in line words = record {
   length = unwrap_or (length_of words.listed.bytes) (record { digits = 0; places = 0 });
 }
 
--- what the fields of a line after the first are read as: nothing where there is none, an entry, or a fault; C2: they are
--- fewer than nine
+-- what the fields of a line after the first are read as: nothing where there is none, an entry, or a fault;
+-- C2: they are fewer than nine
 abbrev pub fields_read : ℕ → List Placed → Result (Option Entry) ScenFault
 fields_read line [] = Ok None
 fields_read line (bucket ∷ fields) =
     if nat_lt (length (bucket ∷ fields)) 9 then Err (Fields line)
-    else reading (words_fault line (words_of (bucket ∷ fields))) (Some (entry_in line (words_of (bucket ∷ fields))))
+    else reading (words_fault line (words_of (bucket ∷ fields)))
+    (Some (entry_in line (words_of (bucket ∷ fields))))
 
 -- what a line after the first is read as
 abbrev pub line_read : LineAt → Result (Option Entry) ScenFault
@@ -88,7 +92,8 @@ line_read line = fields_read line.number (fields_from line.place line.bytes)
 
 -- what all lines are read as
 abbrev pub all_read : List LineAt → Result (List Entry) ScenFault
-all_read lines = if has_version (slice_get lines 0) then read_lines line_read (drop 1 lines) else Err (Version 1)
+all_read lines = if has_version (slice_get lines 0) then read_lines line_read (drop 1 lines)
+    else Err (Version 1)
 
 -- what a text is read as: its entries, or the fault of its first broken line
 unfoldable pub scen_of : List ℕ → Result (List Entry) ScenFault

@@ -1,5 +1,6 @@
 -- Lengths in decimals.
-use Rattle.std.specs.Prelude.{ℕ, Bool, ◌+◌, ◌^◌, ◌<◌, ◌≤◌, ◌==◌, ◌&&◌, if◌then◌else◌, List, [], ◌++◌, length, take, drop, position, Option, Some, None}
+use Rattle.std.specs.Prelude.{ℕ, Bool, ◌+◌, ◌^◌, ◌<◌, ◌≤◌, ◌==◌, ◌&&◌, if◌then◌else◌, List, [], ◌++◌, length}
+use Rattle.std.specs.Prelude.{take, drop, position, Option, Some, None}
 use Rattle.text_line.specs.Numbers.{is_number, value_of}
 use Rattle.root2_cost.specs.declared.lengths.Decimal.{Decimal}
 
@@ -12,8 +13,8 @@ abbrev pub decimal_of : List ℕ → List ℕ → Decimal
 decimal_of whole decimals =
     record { digits = value_of (whole ++ take 10 decimals); places = length (take 10 decimals) }
 
--- the length that a word spells whose first point stands at this place, where it has one: 1 to 8 digits, and behind a
--- point 1 to 20
+-- the length that a word spells whose first point stands at this place, where it has one: 1 to 8 digits, and
+-- behind a point 1 to 20
 abbrev pub length_parted : List ℕ → Option ℕ → Option Decimal
 length_parted word None = if is_number 8 word then Some (decimal_of word []) else None
 length_parted word (Some point) =

@@ -1,5 +1,6 @@
 -- Texts that are cut behind each line feed, byte by byte.
-use Rattle.std.proofs.Common.{◌≡◌, ℕ, ◌+◌, List, [], ◌∷◌, ◌++◌, length, Option, Some, None, Result, Ok, Err, refl, ap, ◌∙◌, inl, inr, arith}
+use Rattle.std.proofs.Common.{◌≡◌, ℕ, ◌+◌, List, [], ◌∷◌, ◌++◌, length, Option, Some, None, Result, Ok, Err}
+use Rattle.std.proofs.Common.{refl, ap, ◌∙◌, inl, inr, arith}
 use Rattle.std.specs.Prelude.{if◌then◌else◌}
 use Rattle.std.specs.List.{onto_first}
 use Rattle.std.specs.Option.{option_or}
@@ -11,7 +12,8 @@ use Rattle.script_text.specs.declared.command.Command.{Command}
 use Rattle.script_text.specs.declared.fault.ScriptFault.{ScriptFault}
 use Rattle.script_text.specs.Lines.{piece_read}
 use Rattle.script_text.specs.Faults.{script_of}
-use Rattle.script_text.specs.Feeding.{Cut, within_line, with_first, cut, with_command, commands_on, fault_of, commands_of}
+use Rattle.script_text.specs.Feeding.{Cut, within_line, with_first, cut, with_command, commands_on, fault_of}
+use Rattle.script_text.specs.Feeding.{commands_of}
 
 -- a cut text with one byte more
 abbrev pub with_last : Cut → ℕ → Cut
@@ -80,7 +82,8 @@ commands-append (x ∷ xs) ys none =
     ap (with_command (piece_read x)) (commands-append xs ys parts.1) ∙ behind (piece_read x) parts.0
   where
     behind : (r : Result (Option Command) ScriptFault) → fault_in r ≡ None
-        → with_command r (commands_on xs ++ commands_on ys) ≡ with_command r (commands_on xs) ++ commands_on ys
+        → with_command r (commands_on xs ++ commands_on ys) ≡ with_command r (commands_on xs)
+        ++ commands_on ys
     behind (Ok None) clean = refl
     behind (Ok (Some command)) clean = refl
     behind (Err fault) clean = absurd cc

@@ -1,5 +1,7 @@
 -- What is known of a script by its first bytes, and what a feeder keeps of it.
-use Rattle.std.proofs.Common.{take, drop, get_or, ◌≡◌, ◌≢◌, ℕ, ◌+◌, ◌<◌, ◌≤◌, true, false, List, [], ◌∷◌, ◌++◌, append_assoc, length, length-append, refl, sym, ap, ◌∙◌, subst, inl, inr, arith, rules}
+use Rattle.std.proofs.Common.{take, drop, get_or, ◌≡◌, ◌≢◌, ℕ, ◌+◌, ◌<◌, ◌≤◌, true, false, List, [], ◌∷◌}
+use Rattle.std.proofs.Common.{◌++◌, append_assoc, length, length-append, refl, sym, ap, ◌∙◌, subst, inl, inr}
+use Rattle.std.proofs.Common.{arith, rules}
 use Rattle.std.specs.Prelude.{Option, Some, None, Result, Ok, Err, nat_lt, OnOk, IfErr, IsErrAnd}
 use Rattle.std.specs.Option.{option_or}
 use Rattle.std.proofs.lemmas.Bool.{cases_Bool, le-ltb}
@@ -12,9 +14,11 @@ use Rattle.script_text.specs.declared.fault.ScriptFault.{ScriptFault}
 use Rattle.script_text.specs.declared.fault.ScriptFault.TheVariants.{Long, NoMemory}
 use Rattle.script_text.specs.declared.feeder.LineFeeder.{LineFeeder}
 use Rattle.script_text.specs.Lines.{piece_read}
-use Rattle.script_text.specs.Feeding.{Cut, cut, commands_on, whole_lines, length_fault, known_fault, fault_so_far, commands_so_far, fault_of, commands_of, Answers}
+use Rattle.script_text.specs.Feeding.{Cut, cut, commands_on, whole_lines, length_fault, known_fault}
+use Rattle.script_text.specs.Feeding.{fault_so_far, commands_so_far, fault_of, commands_of, Answers}
 use Rattle.script_text.specs.Fed.{IsNext, HasTaken, HasTakenByte, HasFed, HasEnded, completed}
-use Rattle.script_text.proofs.Cuts.{with_last, cut-more, last_line, pieces-cut, numbered-more, fault-append, or-none, commands-append, commands-stay, fault-one, commands-one}
+use Rattle.script_text.proofs.Cuts.{with_last, cut-more, last_line, pieces-cut, numbered-more, fault-append}
+use Rattle.script_text.proofs.Cuts.{or-none, commands-append, commands-stay, fault-one, commands-one}
 
 -- the line that is to be completed
 abbrev pub next_line : Cut → Numbered
@@ -94,7 +98,8 @@ fault-stays text (byte ∷ more) fault is =
     rw e (later.0, later.1 ∙ after.1)
 
 -- what is known once a byte more came
-fault-after : (text : List ℕ) (byte : ℕ) → fault_so_far (text ++ byte ∷ []) ≡ known_fault (with_last (cut text) byte)
+fault-after : (text : List ℕ) (byte : ℕ) → fault_so_far (text ++ byte ∷ [])
+    ≡ known_fault (with_last (cut text) byte)
 unfolding fault_so_far
 fault-after text byte = ap known_fault (cut-more text byte)
 
@@ -113,7 +118,8 @@ commands-known text = refl
 
 -- the number and the bytes of the line that is to be completed
 next-same : (feeder : LineFeeder) (text : List ℕ) → IsNext text feeder.number feeder.line.items
-    → piece_read (record { number = feeder.number; bytes = feeder.line.items }) ≡ piece_read (next_line (cut text))
+    → piece_read (record { number = feeder.number; bytes = feeder.line.items })
+    ≡ piece_read (next_line (cut text))
 next-same feeder text n =
     ap (λ k. piece_read (record { number = k; bytes = feeder.line.items })) n.counted
     ∙ ap (λ (l : List ℕ). piece_read (record { number = length (cut text).lines + 1; bytes = l })) n.bytes
@@ -172,7 +178,8 @@ long-fault number rest long =
     let t : nat_lt 128 (length rest) ≡ true = search (rules, long) in rw t refl
 
 -- a byte came that ends no line
-module _ (feeder : LineFeeder) (text : List ℕ) (byte : ℕ) (none : feeder.fault ≡ None) (h : HasTaken feeder text)
+module _ (feeder : LineFeeder) (text : List ℕ) (byte : ℕ) (none : feeder.fault ≡ None)
+    (h : HasTaken feeder text)
     (other : is_line_feed byte ≡ false) where
   pending : fault_so_far text ≡ None
   pending = sym h.kept ∙ none
@@ -187,11 +194,15 @@ module _ (feeder : LineFeeder) (text : List ℕ) (byte : ℕ) (none : feeder.fau
 
   by-length : fault_so_far (text ++ byte ∷ [])
       ≡ length_fault (length (cut text).lines + 1) ((cut text).rest ++ byte ∷ [])
-  by-length = fault-after text byte ∙ rw (other, (or-none (first_fault piece_read (whole_lines (cut text))) _ (known-clean text pending)).0) refl
+  by-length = fault-after text byte ∙ rw (
+    other,
+    (or-none (first_fault piece_read (whole_lines (cut text))) _ (known-clean text pending)).0,
+  ) refl
 
   length-more : length ((cut text).rest ++ byte ∷ []) ≡ length feeder.line.items + 1
   length-more =
-      let e : length feeder.line.items ≡ length (cut text).rest = ap (λ (l : List ℕ). length l) (h.next pending).bytes in
+      let e : length feeder.line.items ≡ length (cut text).rest =
+      ap (λ (l : List ℕ). length l) (h.next pending).bytes in
       let l : length ((cut text).rest ++ byte ∷ []) ≡ length (cut text).rest + 1
       = length-append (cut text).rest (byte ∷ []) in omega arith
 
@@ -245,7 +256,8 @@ whole-next text byte bytes clean some =
     grind (arith, last_line, pieces-known, fault-next, or-none, commands-next)
 
 -- nothing came yet
-pub begun-taken : (now : LineFeeder) → now.fault ≡ None → now.number ≡ 1 → now.line.items ≡ [] → HasTaken now []
+pub begun-taken : (now : LineFeeder) → now.fault ≡ None → now.number ≡ 1 → now.line.items ≡ []
+    → HasTaken now []
 unfolding cut fault_so_far
 begun-taken now clean number line =
     record { kept = clean; next = λ no. record { counted = number; bytes = line } }
@@ -336,7 +348,8 @@ ended-judged feeder now text r before got result none h some judged t added answ
 
     by_rest : (rest : List ℕ) → (cut text).rest ≡ rest → HasEnded text now before got result
     by_rest [] are =
-        absurd (let e : length feeder.line.items ≡ 0 = ap (λ (l : List ℕ). length l) ((h.next start).bytes ∙ are) in
+        absurd
+        (let e : length feeder.line.items ≡ 0 = ap (λ (l : List ℕ). length l) ((h.next start).bytes ∙ are) in
         omega arith)
     by_rest (b ∷ bytes) are =
         let w = whole-next text b bytes start are in record {
@@ -365,7 +378,8 @@ fed-stopped text piece place byte at now before got fault result inside is f t e
     ∙ ap (λ (l : List ℕ). l ++ drop (place + 1) piece) (take_more piece place 0 inside
     ∙ ap (λ b. take place piece ++ b ∷ []) (sym is)))
     ∙ sym (append_assoc text (take place piece ++ byte ∷ []) (drop (place + 1) piece))
-    ∙ ap (λ (l : List ℕ). l ++ drop (place + 1) piece) (sym (append_assoc text (take place piece) (byte ∷ []))) in
+    ∙ ap (λ (l : List ℕ). l ++ drop (place + 1) piece)
+    (sym (append_assoc text (take place piece) (byte ∷ []))) in
     let stays = fault-stays (first ++ byte ∷ []) (drop (place + 1) piece) fault t.answer in
     let known : commands_so_far (first ++ byte ∷ []) ≡ commands_so_far first
     = t.commands ∙ append-nil (commands_so_far first) in
@@ -390,7 +404,8 @@ grown-by text byte None is = elim (cases_Bool (is_line_feed byte)) [
   | inl e ↦ (
     values_in (piece_read (next_line (cut text))),
     commands-after text byte ∙ rw e (commands-next (cut text) (or-none _ _ (known-clean text is)).0)
-        ∙ ap (λ (l : List Command). l ++ values_in (piece_read (next_line (cut text)))) (sym (commands-known text)),
+        ∙ ap (λ (l : List Command). l ++ values_in (piece_read (next_line (cut text))))
+        (sym (commands-known text)),
   )
   | inr e ↦ (
     [],

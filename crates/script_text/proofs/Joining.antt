@@ -1,5 +1,6 @@
 -- A script in a list of pieces.
-use Rattle.std.proofs.Common.{◌≡◌, ◌≢◌, ℕ, ◌+◌, ◌<◌, ◌≤◌, List, [], ◌∷◌, ◌++◌, append_assoc, length, length-append, take, drop, get_or, sym, ap, ◌∙◌, subst, arith}
+use Rattle.std.proofs.Common.{◌≡◌, ◌≢◌, ℕ, ◌+◌, ◌<◌, ◌≤◌, List, [], ◌∷◌, ◌++◌, append_assoc, length}
+use Rattle.std.proofs.Common.{length-append, take, drop, get_or, sym, ap, ◌∙◌, subst, arith}
 use Rattle.std.specs.Prelude.{◌^◌, Result, Ok, Err, IsErrAnd}
 use Rattle.std.specs.Global.{Vec}
 use Rattle.std.proofs.lemmas.Grind.{flat_map-append}
@@ -30,19 +31,22 @@ text-split pieces count = ap text_of (sym (take-append-drop count pieces))
 module _ (pieces : List (Vec ℕ)) (place : ℕ) (piece : Vec ℕ) (inside : place < length pieces)
     (is : piece ≡ get_or pieces place piece) where
   -- the next piece is within the script
-  pub piece-fits : (taken : ℕ) → taken ≡ length (text_of (take place pieces)) → length (text_of pieces) ≤ 2 ^ 26
+  pub piece-fits : (taken : ℕ) → taken ≡ length (text_of (take place pieces))
+      → length (text_of pieces) ≤ 2 ^ 26
       → taken + length piece.items ≤ 2 ^ 26
   piece-fits taken counted few =
       let s : length (text_of pieces) ≡ length (text_of (take (place + 1) pieces))
       + length (text_of (drop (place + 1) pieces))
       = ap (λ (l : List ℕ). length l) (text-split pieces (place + 1))
       ∙ length-append (text_of (take (place + 1) pieces)) (text_of (drop (place + 1) pieces)) in
-      let m : length (text_of (take (place + 1) pieces)) ≡ length (text_of (take place pieces)) + length piece.items
+      let m : length (text_of (take (place + 1) pieces)) ≡ length (text_of (take place pieces))
+      + length piece.items
       = ap (λ (l : List ℕ). length l) (text-more pieces place piece inside is)
       ∙ length-append (text_of (take place pieces)) piece.items in
       omega arith
 
-  fed-on : (feeder now : LineFeeder) (before got after : List Command) (result : Result (Unit {0}) ScriptFault)
+  fed-on : (feeder now : LineFeeder) (before got after : List Command)
+      (result : Result (Unit {0}) ScriptFault)
       → HasFed [] (text_of (take place pieces)) feeder before got (Ok tt)
       → HasFed (text_of (take place pieces)) (text_of (take place pieces) ++ piece.items) now got after result
       → HasFed [] (text_of (take (place + 1) pieces)) now before after result
@@ -77,12 +81,15 @@ module _ (pieces : List (Vec ℕ)) (place : ℕ) (piece : Vec ℕ) (inside : pla
       passed-on (Err named) e starved = ap Err e ∙ starved
 
 -- all pieces were fed
-pub reading-ended : (pieces : List (Vec ℕ)) (count : ℕ) (feeder now : LineFeeder) (before got after : List Command)
-    (result : Result (Unit {0}) ScriptFault) → length pieces ≤ count → IsReading feeder pieces count before got
+pub reading-ended : (pieces : List (Vec ℕ)) (count : ℕ) (feeder now : LineFeeder)
+    (before got after : List Command)
+    (result : Result (Unit {0}) ScriptFault) → length pieces ≤ count
+    → IsReading feeder pieces count before got
     → ((text : List ℕ) → HasTaken feeder text → HasEnded text now got after result)
     → (after ≡ before ++ commands_of (text_of pieces)) × Answers result (fault_of (text_of pieces))
 reading-ended pieces count feeder now before got after result all r ended =
-    let f = subst (λ (l : List (Vec ℕ)). HasFed [] (text_of l) feeder before got (Ok tt)) (take_all count pieces all)
+    let f = subst (λ (l : List (Vec ℕ)). HasFed [] (text_of l) feeder before got (Ok tt))
+    (take_all count pieces all)
     r.fed in
     let e = ended (text_of pieces) f.taken in (
       e.commands.appended ∙ ap (λ (l : List Command). l ++ e.commands.more) f.commands.appended
@@ -99,7 +106,11 @@ reading-begun pieces feeder got begun none = record {
   counted = none;
   fed = record {
     taken = begun;
-    commands = record { more = []; known = sym (append-nil (commands_so_far [])); appended = sym (append-nil got) };
+    commands = record {
+      more = [];
+      known = sym (append-nil (commands_so_far []));
+      appended = sym (append-nil got);
+    };
     answer = begun-known.0;
   };
 }

@@ -14,6 +14,7 @@ unfolding script_of
 script_read text = lines_read piece_read pieces_judged (numbered_pieces text)
 
 -- at the beginning all its lines are left
-pub script_begun : (text : List ℕ) → script_of text ≡ read_behind piece_read [] (numbered_from 1 (pieces_of text))
+pub script_begun : (text : List ℕ)
+    → script_of text ≡ read_behind piece_read [] (numbered_from 1 (pieces_of text))
 unfolding script_of
 script_begun text = refl

@@ -1,5 +1,6 @@
 -- What one line of a script is read as.
-use Rattle.std.specs.Prelude.{ℕ, nat_lt, if◌then◌else◌, List, [], ◌∷◌, length, codes, Option, Some, None, Result, Ok, Err}
+use Rattle.std.specs.Prelude.{ℕ, nat_lt, if◌then◌else◌, List, [], ◌∷◌, length, codes, Option, Some, None}
+use Rattle.std.specs.Prelude.{Result, Ok, Err}
 use Rattle.std.specs.Option.{option_map, option_map_or, option_and_then}
 use Rattle.std.specs.Str.{bytes_eq}
 use Rattle.text_line.specs.Lines.{without_cr}
@@ -37,8 +38,8 @@ command_in (word ∷ digits) =
 abbrev pub command_on : List ℕ → Option Command
 command_on piece = command_in (fields_of (without_cr piece))
 
--- what a line is read as that still has its carriage return: a command, nothing where it is blank, or its fault; T2: it
--- has more than 128 bytes; T1: it is neither blank nor a command
+-- what a line is read as that still has its carriage return: a command, nothing where it is blank, or its
+-- fault; T2: it has more than 128 bytes; T1: it is neither blank nor a command
 abbrev pub piece_read : Numbered → Result (Option Command) ScriptFault
 piece_read piece =
     if nat_lt 128 (length piece.bytes) then Err (Long piece.number)

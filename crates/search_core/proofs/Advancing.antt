@@ -1,5 +1,6 @@
 -- One step of the search, on each grid on which the query is served.
-use Rattle.std.proofs.Common.{◌≡◌, ℕ, ◌+◌, ◌*◌, ◌<◌, ◌≤◌, ap, sym, ◌∙◌, subst, true, false, List, [], ◌∷◌, ◌++◌, length, arith}
+use Rattle.std.proofs.Common.{◌≡◌, ℕ, ◌+◌, ◌*◌, ◌<◌, ◌≤◌, ap, sym, ◌∙◌, subst, true, false, List, [], ◌∷◌}
+use Rattle.std.proofs.Common.{◌++◌, length, arith}
 use Rattle.std.specs.Prelude.{Option, Some, IsTrue, slice_get}
 use Rattle.std.specs.List.{AllByRecursion}
 use Rattle.root2_cost.specs.Rank.{rank_of}
@@ -28,7 +29,8 @@ use Rattle.search_core.specs.declared.jumping.Last.{Last}
 use Rattle.search_core.proofs.Counting.{within_then}
 use Rattle.search_core.proofs.Offers.{all_allowed}
 use Rattle.search_core.proofs.Serving.{same_shape}
-use Rattle.search_core.proofs.Standing.{HasNext, key_enough, offering_at, arrived_at, offered_at, none_waits, has_next, reached_next}
+use Rattle.search_core.proofs.Standing.{HasNext, key_enough, offering_at, arrived_at, offered_at, none_waits}
+use Rattle.search_core.proofs.Standing.{has_next, reached_next}
 
 -- a state's steps: a call for its directions, and one for each of eight
 pub counted_one : (most : Option MostSteps) (fewest n a b c : ℕ) → n ≤ 8
@@ -105,7 +107,8 @@ module _ (Stands : GridData → Type 0) (s t : Cell) (at : ℕ) (old mid : Space
         module _ (id : ℕ) (first : IsFirstNode done.table id) (node : Node) (new : SpaceData)
             (read : slice_get new.table.nodes id ≡ Some node) (nodes : new.table.nodes ≡ done.table.nodes)
           where
-            next : (g : GridData) (v : IsServed Stands s t g) → HasNext Stands s t g v id node done.table taken
+            next : (g : GridData) (v : IsServed Stands s t g)
+                → HasNext Stands s t g v id node done.table taken
             next g v = has_next Stands s t g v at done.table taken (reached g v).of.whole (offered g v) id
                 node first
                 (ap (λ (ns : List Node). slice_get ns id) (sym nodes) ∙ read)

@@ -11,7 +11,8 @@ use Rattle.search_core.proofs.Links.{jumps_are_links}
 use Rattle.search_core.proofs.Right.{run_least}
 
 pub one_answer : (g : GridData) (s t : Cell) (f h : Found) → IsJumpRun g s t f → IsJumpRun g s t h → f ≡ h
-one_answer g s t = search.one_answer g.width g.height t (jump_links g t) (jumps_are_links g t) (λ cells. cells) s
+one_answer g s t = search.one_answer g.width g.height t (jump_links g t) (jumps_are_links g t)
+    (λ cells. cells) s
 
 pub has_answer : (g : GridData) (s t : Cell) → is_free g s ≡ true → HasAnswer IsJumpRun g s t
 has_answer g s t free =

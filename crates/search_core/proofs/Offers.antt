@@ -1,5 +1,6 @@
 -- The offers over the jumps of the last taken state are those of its links.
-use Rattle.std.proofs.Common.{◌≡◌, ℕ, ◌+◌, ◌^◌, ◌<◌, ◌≤◌, inl, refl, ap, sym, ◌∙◌, subst, Bool, true, false, List, [], ◌∷◌, arith}
+use Rattle.std.proofs.Common.{◌≡◌, ℕ, ◌+◌, ◌^◌, ◌<◌, ◌≤◌, inl, refl, ap, sym, ◌∙◌, subst, Bool, true, false}
+use Rattle.std.proofs.Common.{List, [], ◌∷◌, arith}
 use Rattle.std.specs.Prelude.{Option, Some, None, filter}
 use Rattle.std.specs.List.{AllByRecursion}
 use Rattle.std.specs.Option.{option_map_or}
@@ -34,7 +35,8 @@ use Rattle.best_first.proofs.Searching.{IsOver, closed_below, key_rises, one_mor
 use Rattle.best_first.proofs.States.{same_state}
 use Rattle.best_first.proofs.Ways.{of_among, AreOfLinks, AreEnough, offers_after}
 use Rattle.search_core.specs.Jumps.{come_to, jump_link, jump_links, jump_rule}
-use Rattle.search_core.specs.Jumping.{offer_after, column_after, row_after, jumped_in, jumped, IsAt, IsOffering}
+use Rattle.search_core.specs.Jumping.{offer_after, column_after, row_after, jumped_in, jumped, IsAt}
+use Rattle.search_core.specs.Jumping.{IsOffering}
 use Rattle.search_core.specs.declared.jumping.Last.{Last}
 use Rattle.search_core.proofs.Links.{first_is, link_is, jump_is_link, jumps_are_links, allowed_free}
 use Rattle.search_core.proofs.Passing.{run_moves}
@@ -177,7 +179,8 @@ module _ (g : GridData) (s t : Cell) where
             → IsAmong w (with_jump d o (ways_in dirs)) → jump_link g t last.state w.to ≡ Some w.cost
         by_stop None e next i = next w i
         by_stop (Some n) e next i =
-            of_among (λ (v : Onward). jump_link g t last.state v.to ≡ Some v.cost) (jump_linked d n a.0 e) (next w) i
+            of_among (λ (v : Onward). jump_link g t last.state v.to ≡ Some v.cost) (jump_linked d n a.0 e)
+            (next w) i
 
     each_among : (dirs : List Dir) (d : Dir) (n : ℕ) → first_stop g t last.state.cell d ≡ Some n
         → IsOneOf d dirs → IsAmong (way_after d n) (ways_in dirs)
@@ -221,7 +224,8 @@ module _ (g : GridData) (s t : Cell) where
           (e : first_stop g t last.state.cell d ≡ Some n) where
         over : IsOver ByArrival (jump_links g t) latest last.at (offer_after last d n) (run_cost d n)
         over = record {
-          linked = ap (λ (u : State). jump_link g t u (offer_after last d n).to) i.state ∙ jump_linked d n a e;
+          linked = ap (λ (u : State). jump_link g t u (offer_after last d n).to) i.state
+              ∙ jump_linked d n a e;
           ranked = ap (λ (r : ℕ). r + rank_of (run_cost d n)) i.ranked
               ∙ sym (rank-add_costs latest.cost (run_cost d n));
           parent = refl;
@@ -240,7 +244,8 @@ module _ (g : GridData) (s t : Cell) where
         closed : ClosedBelow (node_for t (offer_after last d n)).key k
         closed =
             let below = closed_below (fit whole from to) i.searching in
-            let rises = key_rises (fit whole from to) i.searching (offer_after last d n) (run_cost d n) over in
+            let rises = key_rises (fit whole from to) i.searching (offer_after last d n)
+            (run_cost d n) over in
             record {
               flags = below.flags;
               below = λ id m h f. let most = below.below id m h f in omega arith;
@@ -290,7 +295,8 @@ module _ (g : GridData) (s t : Cell) where
                 best = with_all latest (least_offer (jump_rule g t) earlier) (ways_in dirs);
                 searching = i.searching;
                 open_ended = not_goal;
-                all_made = λ v n. offers_after g.width t (jump_links g t) latest earlier (ways_in dirs) not_goal
+                all_made = λ v n. offers_after g.width t (jump_links g t) latest earlier
+                    (ways_in dirs) not_goal
                     (of_links i.state) (enough i.state) v n;
                 numbered = numbered;
               }

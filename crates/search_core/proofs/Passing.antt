@@ -1,6 +1,7 @@
 -- Along the jumps of a run each cell is passed in each direction once, so there are few moves: where it is
 -- passed twice in one direction, both jumps go on to one stop, and each state is taken once.
-use Rattle.std.proofs.Common.{◌≡◌, ℕ, zero, suc, ◌+◌, ◌*◌, ◌^◌, ◌<◌, ◌≤◌, length, List, [], ◌∷◌, ◌++◌, refl, ap, sym, ◌∙◌, subst, Bool, true, false, ◌||◌, arith, eqb, mul-le-mul}
+use Rattle.std.proofs.Common.{◌≡◌, ℕ, zero, suc, ◌+◌, ◌*◌, ◌^◌, ◌<◌, ◌≤◌, length, List, [], ◌∷◌, ◌++◌, refl}
+use Rattle.std.proofs.Common.{ap, sym, ◌∙◌, subst, Bool, true, false, ◌||◌, arith, eqb, mul-le-mul}
 use Rattle.std.specs.Prelude.{Option, Some, None, option_and_then, nat_eq}
 use Rattle.std.specs.List.{IsDistinct, AllByRecursion, list_any}
 use Rattle.std.proofs.lemmas.Map.Steps.{length-le_from_distinct_below}

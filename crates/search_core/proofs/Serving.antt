@@ -1,5 +1,6 @@
 -- What the code needs at one jump, on each grid on which the query is served.
-use Rattle.std.proofs.Common.{◌≡◌, ℕ, subst, refl, ap, sym, ◌∙◌, true, List, [], ◌∷◌, ◌++◌, ◌+◌, ◌*◌, ◌≤◌, length, arith, length-append, append-nil}
+use Rattle.std.proofs.Common.{◌≡◌, ℕ, subst, refl, ap, sym, ◌∙◌, true, List, [], ◌∷◌, ◌++◌, ◌+◌, ◌*◌, ◌≤◌}
+use Rattle.std.proofs.Common.{length, arith, length-append, append-nil}
 use Rattle.std.specs.Prelude.{Option, Some, None, IsTrue}
 use Rattle.std.specs.List.{AllByRecursion}
 use Rattle.std.proofs.lemmas.List.{append_assoc}
@@ -60,7 +61,8 @@ module _ (Stands : GridData → Type 0) (s t : Cell) (last : Last) (d : Dir)
 
     computed : (o : Option ℕ) → Answers o → (g : GridData) → IsServed Stands s t g
         → first_stop g t last.state.cell d ≡ o
-    computed o a g v = sym (only_one_first_stop g t last.state.cell d o (a.first g v.stands (free_at g v) v.to))
+    computed o a g v =
+        sym (only_one_first_stop g t last.state.cell d o (a.first g v.stands (free_at g v) v.to))
 
     -- so the offer may be made
     pub ready_on : (space : SpaceData) (n : ℕ) → OnSome Stands s t

@@ -1,5 +1,6 @@
 -- From the space of a search to what it answers, on a grid on which the query is served.
-use Rattle.std.proofs.Common.{◌≡◌, ℕ, ◌+◌, ◌-◌, ◌*◌, ◌<◌, ◌≤◌, refl, ap, sym, ◌∙◌, subst, false, List, [], ◌∷◌, ◌++◌, length, arith, mul-le-mul}
+use Rattle.std.proofs.Common.{◌≡◌, ℕ, ◌+◌, ◌-◌, ◌*◌, ◌<◌, ◌≤◌, refl, ap, sym, ◌∙◌, subst, false, List, []}
+use Rattle.std.proofs.Common.{◌∷◌, ◌++◌, length, arith, mul-le-mul}
 use Rattle.std.specs.Prelude.{Option, Some, None, slice_get}
 use Rattle.root2_cost.specs.declared.Cost.{Cost}
 use Rattle.root2_cost.specs.Rank.{rank_of}
@@ -51,7 +52,8 @@ module _ (Stands : GridData → Type 0) (s t : Cell) (g : GridData) (served : Is
           width = new_width ∙ width;
         };
         has = subst (λ (k : Table). HasTaken ByArrival g.width t (jump_links g t) s 0 k taken) (sym table)
-            (subst (λ (ns : List ℕ). HasTaken ByArrival g.width t (jump_links g t) s 0 (begun t s) ns) (sym first)
+            (subst (λ (ns : List ℕ). HasTaken ByArrival g.width t (jump_links g t) s 0 (begun t s) ns)
+            (sym first)
             (has_begun (fit g s t whole served.from served.to) ByArrival));
       }
     where
@@ -218,8 +220,8 @@ module _ (Stands : GridData → Type 0) (s t : Cell) (g : GridData) (served : Is
         → (points : List Cell) (cost : Cost) → IsWayTo t space.table.nodes at points cost
         → IsFound g s t points cost taken
     found_at at_goal points cost way =
-        found_back (fit g s t h.of.whole served.from served.to) (λ cells. cells) h.has at_goal points points cost way
-        refl
+        found_back (fit g s t h.of.whole served.from served.to) (λ cells. cells) h.has at_goal points
+        points cost way refl
 
     -- there are at most nine states for each of 2^24 cells
     pub few_taken : length taken ≤ 150994944

@@ -10,7 +10,8 @@ use Rattle.search_core.specs.Jumps.{jump_links}
 
 -- the run from s takes t last, at this cost; the points are the cells of the states along the parents
 abbrev pub IsFound : GridData → Cell → Cell → List Cell → Cost → List ℕ → Type 0
-IsFound g s t points cost taken = answer.IsFound g.width t (jump_links g t) (λ cells. cells) s points cost taken
+IsFound g s t points cost taken =
+    answer.IsFound g.width t (jump_links g t) (λ cells. cells) s points cost taken
 
 -- the run from s takes states of these numbers and ends where no state waits, with t not taken
 abbrev pub IsExhausted : GridData → Cell → Cell → List ℕ → Type 0

@@ -1,13 +1,15 @@
 -- A run that ends exists where links lead to finitely many states: a scan of them finds the next state,
 -- and each state that is taken leaves one less to take.
-use Rattle.std.proofs.Common.{◌≡◌, ℕ, zero, suc, ◌<◌, ◌≤◌, ◌⊎◌, inl, inr, refl, sym, ◌∙◌, subst, Bool, true, false, ◌||◌, ◌&&◌, List, [], ◌∷◌, arith}
+use Rattle.std.proofs.Common.{◌≡◌, ℕ, zero, suc, ◌<◌, ◌≤◌, ◌⊎◌, inl, inr, refl, sym, ◌∙◌, subst, Bool, true}
+use Rattle.std.proofs.Common.{false, ◌||◌, ◌&&◌, List, [], ◌∷◌, arith}
 use Rattle.std.proofs.lemmas.Bool.Decides.{nat_tests}
 use Rattle.std.specs.Prelude.{Option, Some, None, if◌then◌else◌, nat_eq, nat_lt}
 use Rattle.root2_cost.specs.declared.Cost.{Cost}
 use Rattle.root2_cost.specs.Order.{is_less, IsLess}
 use Rattle.root2_cost.proofs.Less.{IsLess-irreflexive, IsLess-trans, same_cost}
 use Rattle.root2_cost.specs.Sums.{no_cost}
-use Rattle.search_run.specs.Run.{Rule, Taken, Offer, least_offer, is_taken, has_goal, sum_at, goes_before, IsNext, IsRun, NoneWaits}
+use Rattle.search_run.specs.Run.{Rule, Taken, Offer, least_offer, is_taken, has_goal, sum_at, goes_before}
+use Rattle.search_run.specs.Run.{IsNext, IsRun, NoneWaits}
 use Rattle.search_run.specs.Ended.{HasEndedRun, is_one_of, IsCovered}
 use Rattle.search_run.proofs.Leastness.{Waits, one_cost, least_offer-from}
 

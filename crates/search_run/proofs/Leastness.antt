@@ -1,14 +1,17 @@
 -- A run takes the goal at a cost that no chain of links undercuts, and ends without it only where no
 -- chain leads there.
-use Rattle.std.proofs.Common.{◌≡◌, ◌⊎◌, inl, inr, refl, ap, sym, ◌∙◌, subst, Bool, true, false, ◌||◌, List, [], ◌∷◌}
+use Rattle.std.proofs.Common.{◌≡◌, ◌⊎◌, inl, inr, refl, ap, sym, ◌∙◌, subst, Bool, true, false, ◌||◌, List}
+use Rattle.std.proofs.Common.{[], ◌∷◌}
 use Rattle.std.specs.Prelude.{Option, Some, None}
 use Rattle.root2_cost.specs.declared.Cost.{Cost}
 use Rattle.root2_cost.specs.Order.{IsAtMost, IsLess}
 use Rattle.root2_cost.proofs.AtMost.{IsAtMost-not_more}
 use Rattle.root2_cost.specs.Sums.{add_costs, no_cost}
-use Rattle.root2_cost.proofs.Most.{Most, Most-then, Most-same, Most-add_left, Most-add_right, Most-cancel_right, Most-more, Most-nothing}
+use Rattle.root2_cost.proofs.Most.{Most, Most-then, Most-same, Most-add_left, Most-add_right}
+use Rattle.root2_cost.proofs.Most.{Most-cancel_right, Most-more, Most-nothing}
 use Rattle.root2_cost.proofs.Sums.{add_costs-assoc, add_costs-no_cost_left, add_costs-no_cost_right}
-use Rattle.search_run.specs.Run.{IsIn, here, there, Rule, Taken, Offer, offer, least_offer, is_taken, has_goal, sum_at, IsNext, IsRun, NoneWaits}
+use Rattle.search_run.specs.Run.{IsIn, here, there, Rule, Taken, Offer, offer, least_offer, is_taken}
+use Rattle.search_run.specs.Run.{has_goal, sum_at, IsNext, IsRun, NoneWaits}
 use Rattle.search_run.specs.Chain.{Chain, stays, goes_on, IsConsistent}
 use Rattle.search_run.proofs.Offers.{lesser-early, lesser-late, lesser-one, IsOffered, offer-made, offer-over}
 
@@ -107,7 +110,8 @@ module _ {S : Type 0} (r : Rule S) (fit : IsConsistent r) where
       no_goal earlier u (or_false (r.is_goal x.state) (has_goal r earlier) g).1 m
 
   -- a link never lowers the sum
-  pub link_rises : (u v : S) (b c : Cost) → r.link u v ≡ Some c → Most (sum_at r u b) (sum_at r v (add_costs b c))
+  pub link_rises : (u v : S) (b c : Cost) → r.link u v ≡ Some c
+      → Most (sum_at r u b) (sum_at r v (add_costs b c))
   link_rises u v b c l =
       Most-then (Most-add_left b (r.estimate u) (add_costs c (r.estimate v))
       (record { is = fit.falls u v c l }))
@@ -275,7 +279,8 @@ module _ {S : Type 0} (r : Rule S) (fit : IsConsistent r) where
     offer = k.offer;
     waits = k.waits;
     most = Most-then (Most-add_right (r.estimate v) k.offer.cost bound k.most)
-        (Most-then (Most-add_left bound (r.estimate v) (add_costs d (r.estimate t)) (estimate_along v t d chain))
+        (Most-then (Most-add_left bound (r.estimate v) (add_costs d (r.estimate t))
+        (estimate_along v t d chain))
         (Most-same (sym (add_costs-assoc bound d (r.estimate t)))));
   }
   none_below run rel none v t bound d (inl k) (stays z) n =
@@ -295,10 +300,12 @@ module _ {S : Type 0} (r : Rule S) (fit : IsConsistent r) where
       }
 
   -- where a chain leads from the start to a state that was not taken, some state waits with no greater sum
-  pub waits_below : (start t : S) (run : List (Taken S)) (d : Cost) → IsRun r start run → has_goal r run ≡ false
+  pub waits_below : (start t : S) (run : List (Taken S)) (d : Cost) → IsRun r start run
+      → has_goal r run ≡ false
       → is_taken r run t ≡ false → Chain r start t d → WaitsBelow run (sum_at r t d)
   waits_below start t run d is none n chain =
-      let w = none_below run (relaxed start run is) none start t no_cost d (start_known start run is) chain n in
+      let w = none_below run (relaxed start run is) none start t no_cost d (start_known start run is)
+      chain n in
       record {
         state = w.state;
         offer = w.offer;
@@ -315,7 +322,8 @@ module _ {S : Type 0} (r : Rule S) (fit : IsConsistent r) where
       by_test false e = e
       by_test true e =
           let u = taken_state run t e in
-          absurd (let no : r.is_goal u.0.state ≡ false = no_goal run u.0 none u.1 in let yes : r.is_goal u.0.state
+          absurd (let no : r.is_goal u.0.state ≡ false = no_goal run u.0 none u.1 in
+          let yes : r.is_goal u.0.state
           ≡ true = ap r.is_goal u.2 ∙ g in cc)
 
   -- the next state's sum is at most that of every chain to a state that was not taken
@@ -400,8 +408,8 @@ module _ {S : Type 0} (r : Rule S) (fit : IsConsistent r) where
   below_last start x (y ∷ earlier) u is (there z e m) =
       (next_taken (y ∷ earlier) x (sums_rise start (y ∷ earlier) is.0) is.2).rises u m
 
-  -- taken states never have a greater sum than later ones, and a link never lowers it: so no offer of the last
-  -- taken state betters a taken one
+  -- taken states never have a greater sum than later ones, and a link never lowers it: so no offer of the
+  -- last taken state betters a taken one
   pub taken_not_bettered : (start : S) (x : Taken S) (earlier : List (Taken S)) (u : Taken S) (c : Cost)
       → IsRun r start (x ∷ earlier) → IsIn u (x ∷ earlier) → r.link x.state u.state ≡ Some c
       → Most u.cost (add_costs x.cost c)

@@ -27,7 +27,8 @@ module _ {S : Type 0} (r : Rule S) where
       → IsRun r start (x ∷ y ∷ earlier) → r.link x.parent x.state ≡ Some b → HasParent (y ∷ earlier) x b
   unfolding cost_in
   parent_of start x y earlier b is l =
-      let f = least_offer-from r (y ∷ earlier) x.state (record { cost = x.cost; from = x.parent }) is.2.offered in
+      let f = least_offer-from r (y ∷ earlier) x.state (record { cost = x.cost; from = x.parent })
+      is.2.offered in
       let at_parent : f.by.state ≡ x.parent = sym f.offered.source in
       let same : Some f.offered.step ≡ Some b =
       sym f.offered.linked ∙ ap (λ (s : S). r.link s x.state) at_parent ∙ l in
@@ -56,7 +57,8 @@ module _ {S : Type 0} (r : Rule S) where
   -- an offer that is not below an earlier one changes nothing
   pub later_offer : (earlier : List (Taken S)) (x p : Taken S) (v : S) (c d : Cost) → IsIn p earlier
       → r.is_goal p.state ≡ false → r.link p.state v ≡ Some c → r.link x.state v ≡ Some d
-      → Most (add_costs p.cost c) (add_costs x.cost d) → least_offer r (x ∷ earlier) v ≡ least_offer r earlier v
+      → Most (add_costs p.cost c) (add_costs x.cost d) → least_offer r (x ∷ earlier) v
+      ≡ least_offer r earlier v
   later_offer earlier x p v c d m g lp lx most =
       let k = least_offer-most earlier p v c m g lp in
       rw k.1 (by_offer k.0 k.2 (offer r x v) refl)
@@ -84,7 +86,7 @@ module _ {S : Type 0} (r : Rule S) where
       → least_offer r (x ∷ y ∷ earlier) v ≡ least_offer r (y ∷ earlier) v
   parent_offers start x y earlier v b c d is lb lc ld most =
       let p = parent_of start x y earlier b is lb in
-      later_offer (y ∷ earlier) x p.by v c d p.member p.open_ended (ap (λ (s : S). r.link s v) p.state ∙ lc) ld
-      (Most-then (Most-add_left p.by.cost c (add_costs b d) (record { is = most }))
+      later_offer (y ∷ earlier) x p.by v c d p.member p.open_ended (ap (λ (s : S). r.link s v) p.state ∙ lc)
+      ld (Most-then (Most-add_left p.by.cost c (add_costs b d) (record { is = most }))
       (Most-then (Most-same (sym (add_costs-assoc p.by.cost b d)))
       (Most-same (ap (λ (z : Cost). add_costs z d) (sym p.total)))))

@@ -1,5 +1,6 @@
 -- Two runs of one rule from one start that have ended are one run.
-use Rattle.std.proofs.Common.{◌≡◌, ℕ, ◌⊎◌, inl, inr, refl, ap, sym, ◌∙◌, subst, Bool, true, false, ◌&&◌, List, [], ◌∷◌, arith}
+use Rattle.std.proofs.Common.{◌≡◌, ℕ, ◌⊎◌, inl, inr, refl, ap, sym, ◌∙◌, subst, Bool, true, false, ◌&&◌, List}
+use Rattle.std.proofs.Common.{[], ◌∷◌, arith}
 use Rattle.std.specs.Prelude.{Option, Some, None, nat_eq, nat_lt}
 use Rattle.std.proofs.lemmas.Bool.Decides.{nat_tests}
 use Rattle.root2_cost.specs.declared.Cost.{Cost}
@@ -36,8 +37,10 @@ module _ {S : Type 0} (r : Rule S) (tell : NumbersTellStates r) where
   equal_numbers : (m n : ℕ) → nat_lt m n ≡ false → nat_lt n m ≡ false → m ≡ n
   equal_numbers m n e f = grind (arith, nat_tests)
 
-  tie_false : (p q : Cost) (tie : Bool) → p ≡ q → (nat_eq p.a q.a && nat_eq p.b q.b && tie) ≡ false → tie ≡ false
-  tie_false p q tie same e = by_parts (nat_eq p.a q.a) (nat_eq p.b q.b) (equal p.a q.a (ap (λ (c : Cost). c.a) same))
+  tie_false : (p q : Cost) (tie : Bool) → p ≡ q → (nat_eq p.a q.a && nat_eq p.b q.b && tie) ≡ false
+      → tie ≡ false
+  tie_false p q tie same e =
+      by_parts (nat_eq p.a q.a) (nat_eq p.b q.b) (equal p.a q.a (ap (λ (c : Cost). c.a) same))
       (equal p.b q.b (ap (λ (c : Cost). c.b) same)) e
     where
       equal : (m n : ℕ) → m ≡ n → nat_eq m n ≡ true
@@ -62,7 +65,8 @@ module _ {S : Type 0} (r : Rule S) (tell : NumbersTellStates r) where
       let fy = least_offer-from r earlier y.state (record { cost = y.cost; from = y.parent }) m.offered in
       let state : x.state ≡ y.state = tell.apart fx.by.state fy.by.state x.state y.state fx.offered.step
       fy.offered.step fx.offered.linked fy.offered.linked numbers in
-      let offers = one_offer (record { cost = x.cost; from = x.parent }) (record { cost = y.cost; from = y.parent })
+      let offers = one_offer (record { cost = x.cost; from = x.parent })
+      (record { cost = y.cost; from = y.parent })
       (sym n.offered ∙ ap (λ (s : S). least_offer r earlier s) state ∙ m.offered) in
       same_taken x y state (ap (λ (o : Offer S). o.cost) offers) (ap (λ (o : Offer S). o.from) offers)
 

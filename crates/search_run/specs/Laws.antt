@@ -41,7 +41,8 @@ EndedRunsMissNone S =
 -- a later offer of the last taken state does not better a taken one
 abbrev pub TakenAreNotBettered : Type 0 → Type 0
 TakenAreNotBettered S =
-    (r : Rule S) → IsConsistent r → (start : S) (x : Taken S) (earlier : List (Taken S)) (u : Taken S) (c : Cost)
+    (r : Rule S) → IsConsistent r → (start : S) (x : Taken S) (earlier : List (Taken S)) (u : Taken S)
+    (c : Cost)
     → IsRun r start (x ∷ earlier) → IsIn u (x ∷ earlier) → r.link x.state u.state ≡ Some c
     → IsAtMost u.cost (add_costs x.cost c)
 
@@ -60,8 +61,8 @@ EndedRunsAreOne S =
     (r : Rule S) → NumbersTellStates r → (start : S) (one other : List (Taken S)) → IsRun r start one
     → IsRun r start other → IsEnded r one → IsEnded r other → one ≡ other
 
--- where states are the same exactly if they are equal, and links lead to finitely many of them, a run that ends
--- exists
+-- where states are the same exactly if they are equal, and links lead to finitely many of them, a run that
+-- ends exists
 abbrev pub EndedRunsExist : Type 0 → Type 0
 EndedRunsExist S =
     (r : Rule S) → ((u v : S) → r.is_same u v ≡ true → u ≡ v) → ((s : S) → r.is_same s s ≡ true) → (start : S)

@@ -1,6 +1,8 @@
 -- The fault of a text is the first way in which it differs from the encoding.
-use Rattle.std.proofs.Common.{◌≡◌, ◌≢◌, ℕ, zero, suc, ◌+◌, ◌*◌, ◌<◌, ◌⊎◌, inl, inr, Bool, true, false, List, [], ◌∷◌, length, take, drop, refl, ap, sym, ◌∙◌, subst, arith}
-use Rattle.std.specs.Prelude.{ℤ, Option, Some, None, Result, Ok, Err, IfErr, not, nat_eq, option_map, slice_get, if◌then◌else◌}
+use Rattle.std.proofs.Common.{◌≡◌, ◌≢◌, ℕ, zero, suc, ◌+◌, ◌*◌, ◌<◌, ◌⊎◌, inl, inr, Bool, true, false, List}
+use Rattle.std.proofs.Common.{[], ◌∷◌, length, take, drop, refl, ap, sym, ◌∙◌, subst, arith}
+use Rattle.std.specs.Prelude.{ℤ, Option, Some, None, Result, Ok, Err, IfErr, not, nat_eq, option_map}
+use Rattle.std.specs.Prelude.{slice_get, if◌then◌else◌}
 use Rattle.std.specs.Option.{option_or}
 use Rattle.std.specs.Str.{bytes_eq}
 use Rattle.std.proofs.lemmas.Bool.Decides.{nat_tests}
@@ -10,7 +12,8 @@ use Rattle.grid_moves.specs.Grid.{GridData}
 use Rattle.table_file.specs.declared.fault.TableFault.{TableFault}
 use Rattle.table_file.specs.declared.fault.TableFault.TheVariants.{Head, Length, Entry, NoMemory}
 use Rattle.table_file.specs.Encoding.{entry_bytes, entry_for, head_bytes, size_of}
-use Rattle.table_file.specs.Faults.{Differs, IsFirstWrong, IsRightAt, Tells, entry_fault, first_wrong, table_fault_of}
+use Rattle.table_file.specs.Faults.{Differs, IsFirstWrong, IsRightAt, Tells, entry_fault, first_wrong}
+use Rattle.table_file.specs.Faults.{table_fault_of}
 use Rattle.table_file.specs.Order.{Spot, spot, spots_of}
 use Rattle.table_file.proofs.Comparing.{frame_decides}
 use Rattle.table_file.proofs.Framing.{frame_fine, frame_head, frame_length}

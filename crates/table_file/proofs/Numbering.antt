@@ -1,5 +1,6 @@
 -- The entries of a file by their places.
-use Rattle.std.proofs.Common.{◌≡◌, ℕ, zero, suc, ◌+◌, ◌*◌, ◌<◌, List, [], ◌∷◌, ◌++◌, length, refl, ap, sym, ◌∙◌, subst, arith, div-add-mod', mod-lt, zero-add}
+use Rattle.std.proofs.Common.{◌≡◌, ℕ, zero, suc, ◌+◌, ◌*◌, ◌<◌, List, [], ◌∷◌, ◌++◌, length, refl, ap, sym}
+use Rattle.std.proofs.Common.{◌∙◌, subst, arith, div-add-mod', mod-lt, zero-add}
 use Rattle.std.specs.Prelude.{pos, ◌/◌, ◌%◌, true, map, drop, slice_index_or, if◌then◌else◌}
 use Rattle.std.proofs.lemmas.List.{drop_more, drop_all, length-append}
 use Rattle.std.proofs.lemmas.Bool.Decides.{nat_tests}

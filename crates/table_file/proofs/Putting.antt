@@ -1,5 +1,6 @@
 -- A file that is written, cell by cell.
-use Rattle.std.proofs.Common.{◌≡◌, ℕ, ◌+◌, ◌-◌, ◌*◌, ◌<◌, ◌≤◌, List, [], ◌∷◌, ◌++◌, length, take, ap, sym, ◌∙◌, arith}
+use Rattle.std.proofs.Common.{◌≡◌, ℕ, ◌+◌, ◌-◌, ◌*◌, ◌<◌, ◌≤◌, List, [], ◌∷◌, ◌++◌, length, take, ap, sym}
+use Rattle.std.proofs.Common.{◌∙◌, arith}
 use Rattle.std.specs.Prelude.{ℤ, pos, flat_map, slice_index_or, slice_set}
 use Rattle.std.proofs.lemmas.List.{append_assoc, length-set, take_all, take_more, take_more_set}
 pub use Rattle.std.proofs.lemmas.Grind.{flat_map-append}

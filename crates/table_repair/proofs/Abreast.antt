@@ -1,5 +1,6 @@
 -- Walks back that keep abreast: one of them goes on or ends, and what they change adds up.
-use Rattle.std.proofs.Common.{◌≡◌, ℕ, zero, suc, ◌+◌, ◌⊎◌, inl, inr, arith, Bool, true, false, refl, sym, ◌∙◌, ◌||◌, List, [], ◌∷◌, ◌++◌, length}
+use Rattle.std.proofs.Common.{◌≡◌, ℕ, zero, suc, ◌+◌, ◌⊎◌, inl, inr, arith, Bool, true, false, refl, sym, ◌∙◌}
+use Rattle.std.proofs.Common.{◌||◌, List, [], ◌∷◌, ◌++◌, length}
 use Rattle.std.specs.Prelude.{Option, Some, None, option_and_then}
 use Rattle.std.specs.Option.{option_to_list}
 use Rattle.grid_moves.specs.declared.Cell.{Cell}
@@ -10,9 +11,11 @@ use Rattle.grid_moves.proofs.Legal.{is_same-cell, is_same-itself}
 use Rattle.plus_tables.specs.Tables.{TablesData}
 use Rattle.table_repair.specs.declared.walks.Walk.{Walk}
 use Rattle.table_repair.specs.Abreast.{is_at_one, no_cell, IsOnward, KeepAbreast}
-use Rattle.table_repair.specs.Mending.{IsRight, AreReady, IsMended, Mends, FollowBut, Sweeps, either, cell_after}
+use Rattle.table_repair.specs.Mending.{IsRight, AreReady, IsMended, Mends, FollowBut, Sweeps, either}
+use Rattle.table_repair.specs.Mending.{cell_after}
 use Rattle.table_repair.proofs.Lines.{after_before}
-use Rattle.table_repair.proofs.Mends.{mends_none, mends_wider, mends_then, still_mended, right_stays, ready_stays, follow_more}
+use Rattle.table_repair.proofs.Mends.{mends_none, mends_wider, mends_then, still_mended, right_stays}
+use Rattle.table_repair.proofs.Mends.{ready_stays, follow_more}
 use Rattle.table_repair.proofs.Walking.{or_false, false_or, or_left, or_right}
 
 -- so many moves, and then so many more

@@ -17,7 +17,8 @@ use Rattle.plus_tables.specs.Tables.{TablesData, AreTablesOf, entry_at}
 use Rattle.plus_tables.proofs.Following.{entries_follow}
 use Rattle.table_repair.specs.declared.span.Span.{Span}
 use Rattle.table_repair.specs.Differ.{DifferAtMostAt, IsKept, is_near}
-use Rattle.table_repair.specs.Mending.{IsRight, AreRight, FollowBut, IsMended, MendsKind, is_straight, is_in, is_in_reach, span_beside}
+use Rattle.table_repair.specs.Mending.{IsRight, AreRight, FollowBut, IsMended, MendsKind, is_straight, is_in}
+use Rattle.table_repair.specs.Mending.{is_in_reach, span_beside}
 use Rattle.table_repair.proofs.Alike.{changes_spread_back}
 use Rattle.table_repair.proofs.Lines.{is_inside-from, after_moved}
 use Rattle.table_repair.proofs.Walking.{walk_short}

@@ -1,5 +1,6 @@
 -- How many places differ, as one is set right.
-use Rattle.std.proofs.Common.{◌≡◌, ◌≢◌, ℕ, ◌+◌, ◌<◌, zero, suc, arith, true, false, refl, List, [], ◌∷◌, length, get_or, set, get_or-set_same, get_or-set_other}
+use Rattle.std.proofs.Common.{◌≡◌, ◌≢◌, ℕ, ◌+◌, ◌<◌, zero, suc, arith, true, false, refl, List, [], ◌∷◌}
+use Rattle.std.proofs.Common.{length, get_or, set, get_or-set_same, get_or-set_other}
 use Rattle.std.specs.Prelude.{ℤ, pos}
 use Rattle.std.specs.Ordering.{int_eq}
 use Rattle.std.proofs.lemmas.Bool.Decides.{nat_tests, Decides-int_eq}

@@ -5,7 +5,9 @@ use Rattle.grid_moves.specs.Grid.{GridData}
 use Rattle.pruning.specs.Turns.{is_diagonal}
 use Rattle.plus_tables.specs.Tables.{TablesData}
 use Rattle.table_repair.specs.declared.span.Span.{Span}
-use Rattle.table_repair.specs.Mending.{AreRight, FollowBut, Mends, Sweeps, CanSweep, IsBlock, any_cell, either, is_in, is_in_reach, widened, span_next, span_length, goes_right, goes_down}
+use Rattle.table_repair.specs.Mending.{AreRight, FollowBut, Mends, Sweeps, CanSweep, IsBlock, any_cell}
+use Rattle.table_repair.specs.Mending.{either, is_in, is_in_reach, widened, span_next, span_length}
+use Rattle.table_repair.specs.Mending.{goes_right, goes_down}
 use Rattle.table_repair.proofs.Mends.{mends_both, mends_wider, follow_more}
 use Rattle.table_repair.proofs.Walking.{or_false}
 use Rattle.table_repair.proofs.Directions.{none_waits}

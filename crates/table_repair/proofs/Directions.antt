@@ -7,7 +7,8 @@ use Rattle.grid_moves.specs.Grid.{GridData, is_inside}
 use Rattle.grid_moves.specs.Move.{is_dir}
 use Rattle.pruning.proofs.Table.{same_dir}
 use Rattle.plus_tables.specs.Tables.{TablesData, entry_at}
-use Rattle.table_repair.specs.Mending.{AreRight, AreBesideRight, AreReady, AreSound, FollowBut, IsMended, Mends, MendsKind}
+use Rattle.table_repair.specs.Mending.{AreRight, AreBesideRight, AreReady, AreSound, FollowBut, IsMended}
+use Rattle.table_repair.specs.Mending.{Mends, MendsKind}
 use Rattle.table_repair.proofs.Mends.{sized_kept, still_mended}
 use Rattle.table_repair.proofs.Lines.{right_ahead}
 

@@ -11,7 +11,8 @@ use Rattle.plus_tables.specs.Tables.{TablesData, AreTablesOf, entry_at}
 use Rattle.table_repair.specs.declared.span.Span.{Span}
 use Rattle.table_repair.specs.Counted.{places_differing}
 use Rattle.table_repair.specs.Repaired.{AreTablesBut}
-use Rattle.table_repair.specs.Mending.{AreRight, FollowBut, MendsKind, any_cell, is_in, is_in_reach, is_listed, is_straight, span_beside, span_length}
+use Rattle.table_repair.specs.Mending.{AreRight, FollowBut, MendsKind, any_cell, is_in, is_in_reach}
+use Rattle.table_repair.specs.Mending.{is_listed, is_straight, span_beside, span_length}
 use Rattle.table_repair.proofs.Counting.{none_differing}
 use Rattle.table_repair.proofs.Beginning.{straight_begins, diagonal_begins}
 

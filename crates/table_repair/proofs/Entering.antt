@@ -1,5 +1,6 @@
 -- A narrow block is swept row by row: in each row walks begin beside those that have come to it.
-use Rattle.std.proofs.Common.{◌≡◌, ℕ, suc, ◌+◌, ◌<◌, ◌≤◌, inl, inr, arith, Bool, true, false, refl, sym, ◌∙◌, ◌||◌, List, []}
+use Rattle.std.proofs.Common.{◌≡◌, ℕ, suc, ◌+◌, ◌<◌, ◌≤◌, inl, inr, arith, Bool, true, false, refl, sym, ◌∙◌}
+use Rattle.std.proofs.Common.{◌||◌, List, []}
 use Rattle.std.specs.Prelude.{nat_eq}
 use Rattle.grid_moves.specs.declared.Cell.{Cell}
 use Rattle.grid_moves.specs.declared.Dir.{Dir}
@@ -11,7 +12,8 @@ use Rattle.plus_tables.specs.Tables.{TablesData}
 use Rattle.table_repair.specs.declared.span.Span.{Span}
 use Rattle.table_repair.specs.declared.walks.Walk.{Walk}
 use Rattle.table_repair.specs.Abreast.{is_at_one, no_cell, IsBehindOne, KeepAbreast}
-use Rattle.table_repair.specs.Mending.{IsRight, AreReady, IsMended, CanSweep, either, is_among, is_in_row, is_in, goes_down}
+use Rattle.table_repair.specs.Mending.{IsRight, AreReady, IsMended, CanSweep, either, is_among, is_in_row}
+use Rattle.table_repair.specs.Mending.{is_in, goes_down}
 use Rattle.table_repair.proofs.Abreast.{abreast_beside, abreast_enter, abreast_then, or_either}
 use Rattle.table_repair.proofs.Lines.{after_moved, right_ahead}
 use Rattle.table_repair.proofs.Mends.{mends_none, right_stays}

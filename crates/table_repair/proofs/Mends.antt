@@ -8,7 +8,8 @@ use Rattle.grid_moves.specs.Move.{is_dir}
 use Rattle.pruning.specs.Turns.{turn}
 use Rattle.pruning.proofs.Table.{same_dir}
 use Rattle.plus_tables.specs.Tables.{TablesData, AreSized, is_on}
-use Rattle.table_repair.specs.Mending.{IsRight, AreRight, AreBesideRight, AreReady, IsMended, Mends, FollowBut}
+use Rattle.table_repair.specs.Mending.{IsRight, AreRight, AreBesideRight, AreReady, IsMended, Mends}
+use Rattle.table_repair.specs.Mending.{FollowBut}
 
 pub sized_kept : {h : GridData} {d : Dir} {starts : Cell → Bool} {old new : TablesData} {n : ℕ}
     → Mends h d starts old new n → AreSized old h → AreSized new h

@@ -1,5 +1,6 @@
 -- Passes over the directions of one kind.
-use Rattle.std.proofs.Common.{◌≡◌, ℕ, zero, suc, ◌+◌, ◌*◌, ◌<◌, ◌≤◌, ◌⊎◌, inl, inr, arith, Bool, true, false, refl, ap, ◌∙◌, ◌||◌, List, [], ◌∷◌, length, take, get_or}
+use Rattle.std.proofs.Common.{◌≡◌, ℕ, zero, suc, ◌+◌, ◌*◌, ◌<◌, ◌≤◌, ◌⊎◌, inl, inr, arith, Bool, true, false}
+use Rattle.std.proofs.Common.{refl, ap, ◌∙◌, ◌||◌, List, [], ◌∷◌, length, take, get_or}
 use Rattle.std.specs.Prelude.{not}
 use Rattle.std.proofs.lemmas.Bool.{cases_Bool}
 use Rattle.std.proofs.lemmas.Bool.Decides.{nat_tests}
@@ -11,7 +12,8 @@ use Rattle.pruning.specs.declared.turns.Side.{Side}
 use Rattle.pruning.specs.Turns.{turn, is_diagonal}
 use Rattle.pruning.proofs.Table.{same_dir, turn_parity}
 use Rattle.plus_tables.specs.Tables.{TablesData}
-use Rattle.table_repair.specs.Mending.{AreRight, AreReady, AreSound, CanSweep, FollowBut, Mends, MendsKind, Sweeps, is_listed, is_straight}
+use Rattle.table_repair.specs.Mending.{AreRight, AreReady, AreSound, CanSweep, FollowBut, Mends, MendsKind}
+use Rattle.table_repair.specs.Mending.{Sweeps, is_listed, is_straight}
 use Rattle.table_repair.proofs.Mends.{all_stay, follow_more}
 use Rattle.table_repair.proofs.Walking.{or_false, or_right}
 use Rattle.table_repair.proofs.Directions.{kind_more, none_waits, right_follows, follow_stays, ready_from}

@@ -12,7 +12,8 @@ use Rattle.pruning.specs.Turns.{turn, is_diagonal}
 use Rattle.pruning.proofs.Running.{AreMoved}
 use Rattle.table_repair.specs.declared.span.Span.{Span}
 use Rattle.table_repair.specs.Differ.{is_near}
-use Rattle.table_repair.specs.Mending.{is_among, is_in, span_beside, widened, span_next, is_in_reach, goes_right, goes_down, NoneAhead}
+use Rattle.table_repair.specs.Mending.{is_among, is_in, span_beside, widened, span_next, is_in_reach}
+use Rattle.table_repair.specs.Mending.{goes_right, goes_down, NoneAhead}
 use Rattle.table_repair.proofs.Moving.{is_near-parts}
 use Rattle.table_repair.proofs.Lines.{inside_parts, is_inside-from, after_moved}
 use Rattle.table_repair.proofs.Sweeping.{among_parts, among_from}

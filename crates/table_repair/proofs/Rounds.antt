@@ -1,5 +1,7 @@
 -- Rounds of walks back: in each, every walk goes one move on or ends.
-use Rattle.std.proofs.Common.{◌≡◌, ℕ, zero, suc, ◌+◌, ◌-◌, ◌*◌, ◌<◌, ◌≤◌, inl, inr, arith, Bool, true, false, refl, sym, subst, ◌∙◌, ◌||◌, List, [], ◌∷◌, ◌++◌, length, length-append, append_assoc, get_or, drop}
+use Rattle.std.proofs.Common.{◌≡◌, ℕ, zero, suc, ◌+◌, ◌-◌, ◌*◌, ◌<◌, ◌≤◌, inl, inr, arith, Bool, true, false}
+use Rattle.std.proofs.Common.{refl, sym, subst, ◌∙◌, ◌||◌, List, [], ◌∷◌, ◌++◌, length, length-append}
+use Rattle.std.proofs.Common.{append_assoc, get_or, drop}
 use Rattle.std.proofs.lemmas.List.{append-nil, drop_more, drop_all}
 use Rattle.std.specs.Prelude.{Option, Some, None, if◌then◌else◌}
 use Rattle.std.specs.Option.{option_to_list}
@@ -10,9 +12,11 @@ use Rattle.grid_moves.specs.Move.{ahead, is_same}
 use Rattle.pruning.specs.Turns.{is_diagonal}
 use Rattle.plus_tables.specs.Tables.{TablesData}
 use Rattle.table_repair.specs.declared.walks.Walk.{Walk}
-use Rattle.table_repair.specs.Abreast.{is_at_one, no_cell, IsBehindOne, IsOnward, KeepAbreast, back_room, room_of}
+use Rattle.table_repair.specs.Abreast.{is_at_one, no_cell, IsBehindOne, IsOnward, KeepAbreast, back_room}
+use Rattle.table_repair.specs.Abreast.{room_of}
 use Rattle.table_repair.specs.Mending.{IsRight, AreReady, Mends, FollowBut, either, goes_down}
-use Rattle.table_repair.proofs.Abreast.{abreast_none, abreast_next, abreast_then, at_both, at_first, at_next, at_others, first_inside, first_right, or_either}
+use Rattle.table_repair.proofs.Abreast.{abreast_none, abreast_next, abreast_then, at_both, at_first, at_next}
+use Rattle.table_repair.proofs.Abreast.{at_others, first_inside, first_right, or_either}
 use Rattle.table_repair.proofs.Lines.{inside_parts}
 use Rattle.table_repair.proofs.Moving.{ahead_moved}
 

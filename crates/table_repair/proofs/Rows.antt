@@ -1,5 +1,6 @@
 -- A row is swept column by column, and a block row by row.
-use Rattle.std.proofs.Common.{◌≡◌, ℕ, suc, ◌+◌, ◌<◌, ◌≤◌, inl, inr, arith, Bool, true, false, refl, ◌&&◌, ◌||◌}
+use Rattle.std.proofs.Common.{◌≡◌, ℕ, suc, ◌+◌, ◌<◌, ◌≤◌, inl, inr, arith, Bool, true, false, refl, ◌&&◌}
+use Rattle.std.proofs.Common.{◌||◌}
 use Rattle.std.specs.Prelude.{nat_eq}
 use Rattle.grid_moves.specs.declared.Cell.{Cell}
 use Rattle.grid_moves.specs.declared.Dir.{Dir}
@@ -8,10 +9,12 @@ use Rattle.grid_moves.specs.Move.{is_same}
 use Rattle.grid_moves.proofs.Legal.{and_both, is_same-cell, is_same-itself, same_cell}
 use Rattle.plus_tables.specs.Tables.{TablesData}
 use Rattle.table_repair.specs.declared.span.Span.{Span}
-use Rattle.table_repair.specs.Mending.{IsRight, FollowBut, Mends, CanSweep, Sweeps, either, is_among, is_in_row, is_in, goes_right, goes_down}
+use Rattle.table_repair.specs.Mending.{IsRight, FollowBut, Mends, CanSweep, Sweeps, either, is_among}
+use Rattle.table_repair.specs.Mending.{is_in_row, is_in, goes_right, goes_down}
 use Rattle.table_repair.proofs.Lines.{after_moved, right_ahead, is_inside-from}
 use Rattle.table_repair.proofs.Walking.{or_false, false_or}
-use Rattle.table_repair.proofs.Sweeping.{IsTaken, Swept, swept_more, swept_all, row_ahead, rows_ahead, among_parts, same_number, number_same}
+use Rattle.table_repair.proofs.Sweeping.{IsTaken, Swept, swept_more, swept_all, row_ahead, rows_ahead}
+use Rattle.table_repair.proofs.Sweeping.{among_parts, same_number, number_same}
 
 pub and_true : (a b : Bool) → a ≡ true → b ≡ true → (a && b) ≡ true
 and_true a b h k = grind arith

@@ -1,5 +1,6 @@
 -- A sweep, piece by piece, from the far end.
-use Rattle.std.proofs.Common.{◌≡◌, ℕ, suc, ◌+◌, ◌-◌, ◌<◌, ◌≤◌, ◌⊎◌, inl, inr, arith, Bool, true, false, refl, sym, ◌∙◌, ◌||◌}
+use Rattle.std.proofs.Common.{◌≡◌, ℕ, suc, ◌+◌, ◌-◌, ◌<◌, ◌≤◌, ◌⊎◌, inl, inr, arith, Bool, true, false, refl}
+use Rattle.std.proofs.Common.{sym, ◌∙◌, ◌||◌}
 use Rattle.std.specs.Prelude.{Option, Some, None, if◌then◌else◌, nat_lt, nat_eq}
 use Rattle.std.proofs.lemmas.Bool.{cases_Bool}
 use Rattle.std.proofs.lemmas.Bool.Decides.{nat_tests}
@@ -11,7 +12,8 @@ use Rattle.grid_moves.proofs.Legal.{and_both}
 use Rattle.pruning.proofs.Running.{AreMoved}
 use Rattle.plus_tables.specs.Tables.{TablesData}
 use Rattle.table_repair.specs.declared.span.Span.{Span}
-use Rattle.table_repair.specs.Mending.{AreReady, FollowBut, Mends, Sweeps, either, is_among, span_length, far_number, without_far, is_in_row, is_in, goes_right, goes_down}
+use Rattle.table_repair.specs.Mending.{AreReady, FollowBut, Mends, Sweeps, either, is_among, span_length}
+use Rattle.table_repair.specs.Mending.{far_number, without_far, is_in_row, is_in, goes_right, goes_down}
 use Rattle.table_repair.proofs.Mends.{mends_none, mends_both, mends_wider, follow_more, ready_stays}
 use Rattle.table_repair.proofs.Walking.{or_false, false_or}
 

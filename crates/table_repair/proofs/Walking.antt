@@ -1,5 +1,6 @@
 -- One walk back from a cell, as long as entries change.
-use Rattle.std.proofs.Common.{◌≡◌, ◌≢◌, ℕ, suc, ◌+◌, ◌<◌, ◌⊎◌, inl, inr, arith, Bool, true, false, refl, sym, ◌∙◌, ◌||◌, length-set}
+use Rattle.std.proofs.Common.{◌≡◌, ◌≢◌, ℕ, suc, ◌+◌, ◌<◌, ◌⊎◌, inl, inr, arith, Bool, true, false, refl, sym}
+use Rattle.std.proofs.Common.{◌∙◌, ◌||◌, length-set}
 use Rattle.std.specs.Prelude.{Some, None}
 use Rattle.std.proofs.lemmas.Bool.{cases_Bool}
 use Rattle.grid_moves.specs.declared.Cell.{Cell}
@@ -11,9 +12,11 @@ use Rattle.pruning.proofs.Bridging.{one_of, legal_leads}
 use Rattle.pruning.proofs.Running.{IsMoved, column_trend, row_trend}
 use Rattle.grid_moves.specs.declared.Dir.TheVariants.{N, NE, E, SE, S, SW, W, NW}
 use Rattle.plus_tables.specs.Entry.{table_entry}
-use Rattle.plus_tables.specs.Tables.{TablesData, IsWhole, AreTablesOf, RestsRight, is_on, entry_at, tables_with}
+use Rattle.plus_tables.specs.Tables.{TablesData, IsWhole, AreTablesOf, RestsRight, is_on, entry_at}
+use Rattle.plus_tables.specs.Tables.{tables_with}
 use Rattle.table_repair.specs.Counted.{places_differing}
-use Rattle.table_repair.specs.Mending.{IsRight, AreBesideRight, AreReady, IsMended, Mends, FollowBut, cell_after, behind_on}
+use Rattle.table_repair.specs.Mending.{IsRight, AreBesideRight, AreReady, IsMended, Mends, FollowBut}
+use Rattle.table_repair.specs.Mending.{cell_after, behind_on}
 use Rattle.table_repair.proofs.Counting.{entry-with, entry-with_other, count-with, with_itself}
 use Rattle.table_repair.proofs.Lines.{behind_on-from, one_behind, after_before, after_moved, inside_parts}
 use Rattle.table_repair.proofs.Mends.{mends_none, still_mended, on_inside, ready_stays}

@@ -1,5 +1,6 @@
 -- The places of lines and fields.
-use Rattle.std.proofs.Common.{◌≡◌, ℕ, zero, suc, ◌+◌, ◌^◌, ◌<◌, ◌≤◌, true, false, List, [], ◌∷◌, length, get_or, take, drop, Some, None, refl, sym, ap, ◌∙◌, inl, add-zero, arith}
+use Rattle.std.proofs.Common.{◌≡◌, ℕ, zero, suc, ◌+◌, ◌^◌, ◌<◌, ◌≤◌, true, false, List, [], ◌∷◌, length}
+use Rattle.std.proofs.Common.{get_or, take, drop, Some, None, refl, sym, ap, ◌∙◌, inl, add-zero, arith}
 use Rattle.std.specs.Prelude.{filter, map, position}
 use Rattle.std.specs.List.{slice_split, onto_first}
 use Rattle.std.proofs.lemmas.Bool.{cases_Bool, not-false}
@@ -84,7 +85,8 @@ fields_from_cut place (b ∷ bytes) (suc end) filled at =
     let blank : is_blank_byte (get_or bytes end 0) ≡ true = found.1 in
     let long : length (take end bytes) ≡ end = length-take-le end bytes (omega arith) in
     let place_is : place + suc (length (take end bytes)) + 1 ≡ place + suc end + 0 + 1 = omega arith in
-    let after : fields_from (place + suc end) (drop end bytes) ≡ fields_from (place + suc end + 0 + 1) (drop (suc end) bytes) =
+    let after : fields_from (place + suc end) (drop end bytes)
+    ≡ fields_from (place + suc end + 0 + 1) (drop (suc end) bytes) =
     rw (drop-cons bytes end 0 inside, blank) refl in
     let here : Placed = record { start = place; end = place + suc end; bytes = b ∷ take end bytes } in
     let end_is : place + suc (length (take end bytes)) ≡ place + suc end = omega arith in

@@ -1,8 +1,10 @@
 -- Texts that are read line by line: their values and their faults.
-use Rattle.std.proofs.Common.{◌≡◌, ◌≢◌, ℕ, zero, suc, ◌<◌, List, [], ◌∷◌, ◌++◌, Option, Some, None, Result, Ok, Err, refl, sym, ap, ◌∙◌, ◌⊎◌, inl, inr, arith}
+use Rattle.std.proofs.Common.{◌≡◌, ◌≢◌, ℕ, zero, suc, ◌<◌, List, [], ◌∷◌, ◌++◌, Option, Some, None, Result}
+use Rattle.std.proofs.Common.{Ok, Err, refl, sym, ap, ◌∙◌, ◌⊎◌, inl, inr, arith}
 use Rattle.std.specs.Prelude.{IfOk, IfErr}
 use Rattle.std.specs.Option.{option_or}
-use Rattle.text_line.specs.Reading.{fault_in, reading, BreaksFirst, Tells, first_fault, values_on, read_lines, fault_on, values_in, SpellInOrder}
+use Rattle.text_line.specs.Reading.{fault_in, reading, BreaksFirst, Tells, first_fault, values_on, read_lines}
+use Rattle.text_line.specs.Reading.{fault_on, values_in, SpellInOrder}
 
 -- what a text is read as is what it spells, or how it breaks its grammar
 pub record Reads {V F : Type 0} (Spells : V → Type 0) (Breaks : F → Type 0) (read : Result V F) : Type 0 where
@@ -66,7 +68,11 @@ module _ {L V F : Type 0} (judge : L → Result (Option V) F) where
             record { place = 0; breaks = here.1 ∙ same; before = λ k below. absurd (omega arith) }
         | inr none ↦
             let later = found_breaks lines fault (rw none at found) in
-            record { place = suc later.place; breaks = later.breaks; before = clean none later.place later.before }
+            record {
+              place = suc later.place;
+              breaks = later.breaks;
+              before = clean none later.place later.before;
+            }
       ]
     where
       clean : fault_in (judge line) ≡ None → (place : ℕ)
@@ -116,7 +122,8 @@ module _ {L V F : Type 0} (judge : L → Result (Option V) F) where
     ]
 
     -- so lines are read as what they spell, or as their first fault
-    pub lines_read : (lines : List L) → Reads (SpellInOrder IsBlank Spells lines) (BreaksFirst (fault_on judge lines))
+    pub lines_read : (lines : List L)
+        → Reads (SpellInOrder IsBlank Spells lines) (BreaksFirst (fault_on judge lines))
         (read_lines judge lines)
     lines_read lines = record {
       found = λ values read.

@@ -6,8 +6,8 @@ use Rattle.std.specs.List.{onto_first}
 abbrev pub is_line_feed : ℕ → Bool
 is_line_feed byte = byte == 10
 
--- the pieces of a text, cut after each line feed, which belongs to no piece; what stands after the last one is a piece
--- where it is not empty
+-- the pieces of a text, cut after each line feed, which belongs to no piece; what stands after the last one
+-- is a piece where it is not empty
 abbrev pub pieces_of : List ℕ → List (List ℕ)
 pieces_of [] = []
 pieces_of (byte ∷ bytes) =

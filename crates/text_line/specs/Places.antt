@@ -49,8 +49,8 @@ room_of (piece ∷ pieces) = length piece + 1 + room_of pieces
 abbrev pub line_at : lines.PlacedLine → LineAt
 line_at line = record { number = line.number; place = line.place; bytes = line.bytes.now }
 
--- a call of `next` gave the first line left, which ends within the first 2^30 bytes, and left the others; none exactly
--- at the end
+-- a call of `next` gave the first line left, which ends within the first 2^30 bytes, and left the others;
+-- none exactly at the end
 abbrev pub GivesLine : List LineAt → Option lines.PlacedLine → List LineAt → Type 0
 GivesLine old None new = (old ≡ []) × (new ≡ old)
 GivesLine old (Some line) new =

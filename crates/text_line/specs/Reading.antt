@@ -1,5 +1,6 @@
 -- What texts are read as, line by line, and how an answer tells it.
-use Rattle.std.specs.Prelude.{◌≡◌, ◌≢◌, ℕ, ◌<◌, ◌⊎◌, List, [], ◌∷◌, ◌++◌, slice_get, Option, Some, None, Result, Ok, Err}
+use Rattle.std.specs.Prelude.{◌≡◌, ◌≢◌, ℕ, ◌<◌, ◌⊎◌, List, [], ◌∷◌, ◌++◌, slice_get, Option, Some, None}
+use Rattle.std.specs.Prelude.{Result, Ok, Err}
 use Rattle.std.specs.Option.{option_and_then, option_or}
 
 -- the fault of an answer, if it is one
@@ -47,7 +48,8 @@ values_on judge (line ∷ lines) = values_in (judge line) ++ values_on judge lin
 abbrev pub read_behind : {L V F : Type 0} → (L → Result (Option V) F) → List V → List L → Result (List V) F
 read_behind judge values lines = reading (first_fault judge lines) (values ++ values_on judge lines)
 
--- what lines are read as of which each is read as a value, as nothing or as a fault: their values, or the first fault
+-- what lines are read as of which each is read as a value, as nothing or as a fault: their values, or the
+-- first fault
 abbrev pub read_lines : {L V F : Type 0} → (L → Result (Option V) F) → List L → Result (List V) F
 read_lines judge lines = read_behind judge [] lines
 
@@ -56,7 +58,8 @@ abbrev pub fault_on : {L V F : Type 0} → (L → Result (Option V) F) → List 
 fault_on judge lines place = option_and_then (λ line. fault_in (judge line)) (slice_get lines place)
 
 -- a line spells the first of the values, and the others are so
-pub record SpellsFirst {V : Type 0} (Spells : V → Type 0) (Others : List V → Type 0) (values : List V) : Type 0 where
+pub record SpellsFirst {V : Type 0} (Spells : V → Type 0) (Others : List V → Type 0) (values : List V) : Type
+    0 where
   pub first : V
   pub others : List V
   pub are : values ≡ first ∷ others

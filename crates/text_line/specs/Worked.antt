@@ -16,7 +16,8 @@ last_feed = refl
 pub no_line : lines_of [] ≡ []
 no_line = refl
 
--- one carriage return is dropped at a line's end, in a last line without line feed too; of two one stays, and one inside a line does
+-- one carriage return is dropped at a line's end, in a last line without line feed too; of two one stays, and
+-- one inside a line does
 pub returns_dropped : lines_of (codes "a\r\n\r\r\nb\rc\r") ≡ codes "a" ∷ codes "\r" ∷ codes "b\rc" ∷ []
 returns_dropped = refl
 

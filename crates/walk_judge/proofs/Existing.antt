@@ -10,7 +10,8 @@ use Rattle.plain_search.specs.Costs.{IsCostTo}
 use Rattle.potential_check.specs.Accepted.{IsRightWalk, begins_at, ends_at, is_cost}
 use Rattle.potential_check.proofs.Walks.{short_right}
 use Rattle.walk_judge.specs.declared.judging.Judged.{Judged}
-use Rattle.walk_judge.specs.declared.judging.Judged.TheVariants.{Least, NoWalk as Nothing, BadWalk, Longer, Exists}
+use Rattle.walk_judge.specs.declared.judging.Judged.TheVariants.{Least, NoWalk as Nothing, BadWalk, Longer}
+use Rattle.walk_judge.specs.declared.judging.Judged.TheVariants.{Exists}
 use Rattle.walk_judge.specs.declared.telling.Told.{Told}
 use Rattle.walk_judge.specs.declared.telling.Told.TheVariants as told
 use Rattle.walk_judge.specs.Judgement.{elsewhere, broken, short_of, IsJudgement}

@@ -1,5 +1,6 @@
 -- What the fields of a line tell.
-use Rattle.std.proofs.Common.{◌≡◌, ℕ, suc, ◌<◌, arith, refl, ap, sym, ◌∙◌, subst, Bool, true, false, List, [], ◌∷◌, length}
+use Rattle.std.proofs.Common.{◌≡◌, ℕ, suc, ◌<◌, arith, refl, ap, sym, ◌∙◌, subst, Bool, true, false, List, []}
+use Rattle.std.proofs.Common.{◌∷◌, length}
 use Rattle.std.specs.Prelude.{Option, Some, None, if◌then◌else◌, map, codes}
 use Rattle.std.specs.Option.{option_map, option_and_then}
 use Rattle.std.proofs.lemmas.Bool.{cases_Bool}

@@ -21,14 +21,16 @@ use Rattle.plain_search.specs.Lists.{IsLeastCost}
 use Rattle.potential_check.specs.Accepted.{IsRightWalk, is_cost}
 use Rattle.potential_check.proofs.Walks.{right_begins, right_ends, right_short}
 use Rattle.walk_judge.specs.declared.judging.Judged.{Judged}
-use Rattle.walk_judge.specs.declared.judging.Judged.TheVariants.{Least, NoWalk as Nothing, BadWalk, Longer, Exists}
+use Rattle.walk_judge.specs.declared.judging.Judged.TheVariants.{Least, NoWalk as Nothing, BadWalk, Longer}
+use Rattle.walk_judge.specs.declared.judging.Judged.TheVariants.{Exists}
 use Rattle.walk_judge.specs.declared.telling.Told.{Told}
 use Rattle.walk_judge.specs.declared.telling.Told.TheVariants as told
 use Rattle.walk_judge.specs.Judgement.{IsBadPoint, elsewhere, broken, short_of, IsJudgement}
 use Rattle.grid_moves.proofs.Short.{least_is_short}
 
 -- points stand for a walk, or have a first bad one
-pub has_verdict : (g : GridData) (points : List Cell) → (answer : Result Cost BadAt) × IsVerdict g points answer
+pub has_verdict : (g : GridData) (points : List Cell) → (answer : Result Cost BadAt)
+    × IsVerdict g points answer
 has_verdict g [] = (Err (record { 0 = 0 }), verdict_at_start g [] refl)
 has_verdict g (u ∷ points) = by_free (is_free g u) refl
   where

@@ -1,5 +1,6 @@
 -- What a text is read as, what it spells and how it breaks the form.
-use Rattle.std.proofs.Common.{◌≡◌, ℕ, ◌+◌, ◌<◌, ◌≤◌, arith, refl, ap, Bool, true, false, List, [], ◌∷◌, length, inl, inr}
+use Rattle.std.proofs.Common.{◌≡◌, ℕ, ◌+◌, ◌<◌, ◌≤◌, arith, refl, ap, Bool, true, false, List, [], ◌∷◌}
+use Rattle.std.proofs.Common.{length, inl, inr}
 use Rattle.std.specs.Prelude.{Option, Some, None, Result, Ok, Err, if◌then◌else◌, nat_lt, nat_le}
 use Rattle.std.proofs.lemmas.Bool.Decides.{nat_tests}
 use Rattle.text_line.specs.Fields.{fields_of, is_blank}
@@ -10,7 +11,8 @@ use Rattle.walk_judge.specs.declared.fault.WalkFault.{WalkFault}
 use Rattle.walk_judge.specs.declared.fault.WalkFault.TheVariants.{Count}
 use Rattle.walk_judge.specs.declared.telling.Told.{Told}
 use Rattle.walk_judge.specs.Telling.{told_in, AreFieldsOf}
-use Rattle.walk_judge.specs.Walks.{Place, at_line, at_end, places_from, places_of, form_read, fields_read, place_read, walks_of, BreaksFirst, IsBlank, IsLineOf, Spells}
+use Rattle.walk_judge.specs.Walks.{Place, at_line, at_end, places_from, places_of, form_read, fields_read}
+use Rattle.walk_judge.specs.Walks.{place_read, walks_of, BreaksFirst, IsBlank, IsLineOf, Spells}
 use Rattle.walk_judge.proofs.Fields.{told_fields, fields_told, fields_there}
 
 -- a place that breaks nothing and tells nothing

@@ -1,5 +1,6 @@
 -- A call and a bad word, from what the steps of the reading say.
-use Rattle.std.proofs.Common.{◌≡◌, ℕ, suc, ◌+◌, ◌-◌, ◌<◌, ◌≤◌, Bool, true, false, List, [], ◌∷◌, length, drop, refl, sym, ap, ◌∙◌, subst, add-one, ◌⊎◌, inl, inr, arith}
+use Rattle.std.proofs.Common.{◌≡◌, ℕ, suc, ◌+◌, ◌-◌, ◌<◌, ◌≤◌, Bool, true, false, List, [], ◌∷◌, length, drop}
+use Rattle.std.proofs.Common.{refl, sym, ap, ◌∙◌, subst, add-one, ◌⊎◌, inl, inr, arith}
 use Rattle.std.specs.Prelude.{codes, Option, Some, None, Result, Ok, Err, MatchResult, IsOkAnd, IsErrAnd}
 use Rattle.std.proofs.Math.Seq.{take-length}
 use Rattle.std.proofs.lemmas.Bool.{and_right}
@@ -42,7 +43,8 @@ abbrev call_with : Asked → Settings → Call
 call_with request settings = record { request = request; settings = settings }
 
 -- what is told of the table file and the settings of some words is told of these words
-pub told_by : {tables named : Option (List ℕ)} {set chosen : Settings} {b : Bool} → tables ≡ named → set ≡ chosen
+pub told_by : {tables named : Option (List ℕ)} {set chosen : Settings} {b : Bool} → tables ≡ named
+    → set ≡ chosen
     → b ≡ can_load tables set → can_load named chosen ≡ b
 told_by same also is = rw (← same, ← also, is) refl
 
@@ -89,7 +91,8 @@ module _ (name : List ℕ) (words : List (List ℕ)) (row : Row) (is_row : row_o
         let whole = taken_whole row.allows row.takes words (subst (AreOf row.takes words) exact are) in
         names (taken + more) (refuses ∙ wrong why)
         (whole.1 more (taken + more) (omega (arith, exact))
-        (subst (λ (rest : List (List ℕ)). EndsAfter (are_settings row.allows) rest more) apart rest_settles.ends))
+        (subst (λ (rest : List (List ℕ)). EndsAfter (are_settings row.allows) rest more) apart
+        rest_settles.ends))
       where
         wrong : (more < length rest) ⊎ (is_complete rest ≡ false) → are_settings row.allows rest ≡ false
         wrong (inl below) = rest_settles.wrong below
@@ -118,7 +121,8 @@ stops_at_end words call is = rw add-one (stops_behind is_call words (length word
 -- what words spell is read, and a bad word is named, by an answer that tells the call or the bad word
 module _ (words : List (List ℕ)) {A : Type 0} (view : A → Call) where
   abbrev Tells : Result A BadWord → Type 0
-  Tells answer = MatchResult answer (λ read. call_of words ≡ Some (view read)) (λ bad. IsBadWord is_call words bad.0)
+  Tells answer = MatchResult answer (λ read. call_of words ≡ Some (view read))
+      (λ bad. IsBadWord is_call words bad.0)
 
   pub only_so : (answer : Result A BadWord) → Tells answer → (call : Call) → call_of words ≡ Some call
       → IsOkAnd answer (λ read. view read ≡ call)

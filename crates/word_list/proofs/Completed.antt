@@ -1,9 +1,11 @@
 -- Settings of which one is missing: where a table file is named, the engine for it can still be picked.
-use Rattle.std.proofs.Common.{◌≡◌, ℕ, Bool, true, false, not, ◌&&◌, ◌||◌, List, [], ◌∷◌, ◌++◌, append-nil, ⊎_elim, inl, inr, ◌⊎◌, refl, sym, ap, ◌∙◌, arith}
+use Rattle.std.proofs.Common.{◌≡◌, ℕ, Bool, true, false, not, ◌&&◌, ◌||◌, List, [], ◌∷◌, ◌++◌, append-nil}
+use Rattle.std.proofs.Common.{⊎_elim, inl, inr, ◌⊎◌, refl, sym, ap, ◌∙◌, arith}
 use Rattle.std.specs.Prelude.{codes, is_none, Option, Some, None}
 use Rattle.std.specs.List.{list_any, fold}
 use Rattle.std.specs.Option.{option_or}
-use Rattle.std.proofs.lemmas.Bool.{and_from, and_parts, cases_Bool, or_cases, or_left, or_right, or_parts, not-false, not-true, true≢false, false_from_ne_true, true_from_ne_false}
+use Rattle.std.proofs.lemmas.Bool.{and_from, and_parts, cases_Bool, or_cases, or_left, or_right, or_parts}
+use Rattle.std.proofs.lemmas.Bool.{not-false, not-true, true≢false, false_from_ne_true, true_from_ne_false}
 use Rattle.std.proofs.lemmas.List.Folds.{list_any-append}
 use Rattle.std.proofs.lemmas.List.Sums.{fold-append}
 use Rattle.word_list.specs.declared.request.Pick.{Pick}
@@ -13,7 +15,9 @@ use Rattle.word_list.specs.declared.settings.Setting.{Setting}
 use Rattle.word_list.specs.declared.settings.Setting.TheVariants as setting
 use Rattle.word_list.specs.declared.settings.Family.{Family}
 use Rattle.word_list.specs.declared.settings.Family.TheVariants as family
-use Rattle.word_list.specs.Settings.{setting_of, has, has_tables, excludes, are_clashing, is_allowed, may_follow, all_follow, settings_with, default_settings, settings_of, tables_in, tables_of, is_complete}
+use Rattle.word_list.specs.Settings.{setting_of, has, has_tables, excludes, are_clashing, is_allowed}
+use Rattle.word_list.specs.Settings.{may_follow, all_follow, settings_with, default_settings, settings_of}
+use Rattle.word_list.specs.Settings.{tables_in, tables_of, is_complete}
 use Rattle.word_list.specs.Rule.{Begins}
 
 -- whether a word picks an engine, and whether it tells a table file
@@ -50,7 +54,8 @@ any_from : {X : Type 0} (p q : X → Bool) → ((x : X) → p x ≡ true → q x
     → list_any p xs ≡ true → list_any q xs ≡ true
 any_from p q each [] met = met
 any_from p q each (x ∷ xs) met = ⊎_elim (λ here. or_left (q x) (list_any q xs) (each x here))
-    (λ there. or_right (q x) (list_any q xs) (any_from p q each xs there)) (or_cases (p x) (list_any p xs) met)
+    (λ there. or_right (q x) (list_any q xs) (any_from p q each xs there))
+    (or_cases (p x) (list_any p xs) met)
 
 none_from : {X : Type 0} (p q : X → Bool) → ((x : X) → p x ≡ true → q x ≡ true) → (xs : List X)
     → list_any q xs ≡ false → list_any p xs ≡ false
@@ -66,10 +71,11 @@ unnamed word other = elim (tables_in word) as (λ t. tables_in word ≡ t → is
 
 none_named : (before : List (List ℕ)) (word : List ℕ) → is_none (tables_of before) ≡ true
     → is_none (tables_in word) ≡ true → is_none (tables_of (before ++ word ∷ [])) ≡ true
-none_named [] word none last = elim (tables_in word) as (λ t. is_none t ≡ true → is_none (option_or t None) ≡ true) [
-  | None ↦ λ is. refl
-  | Some name ↦ λ is. is
-] last
+none_named [] word none last =
+    elim (tables_in word) as (λ t. is_none t ≡ true → is_none (option_or t None) ≡ true) [
+      | None ↦ λ is. refl
+      | Some name ↦ λ is. is
+    ] last
 none_named (other ∷ before) word none last =
     elim (tables_in other) as (λ t. is_none (option_or t (tables_of before)) ≡ true
     → is_none (option_or t (tables_of (before ++ word ∷ []))) ≡ true) [
@@ -81,7 +87,8 @@ abbrev chosen_on : Settings → List (List ℕ) → Settings
 chosen_on set words = fold (λ set word. settings_with set (setting_of word)) set words
 
 -- where no word picks an engine, that of before stays
-kept_pick : (words : List (List ℕ)) (set : Settings) → any_pick words ≡ false → (chosen_on set words).pick ≡ set.pick
+kept_pick : (words : List (List ℕ)) (set : Settings) → any_pick words ≡ false → (chosen_on set words).pick
+    ≡ set.pick
 kept_pick [] set none = refl
 kept_pick (word ∷ words) set none =
     let parts = or_parts (picks (setting_of word)) (any_pick words) none in
@@ -97,9 +104,11 @@ kept_pick (word ∷ words) set none =
 -- where no engine clashes with a table file, one that is picked is the one for it
 sole_pick : (words : List (List ℕ)) (set : Settings) → any_clash setting.TableFile words ≡ false
     → (has_tables set.pick || any_pick words) ≡ true → has_tables (chosen_on set words).pick ≡ true
-sole_pick [] set clear some = ⊎_elim (λ here. here) (λ none. absurd (cc)) (or_cases (has_tables set.pick) false some)
+sole_pick [] set clear some =
+    ⊎_elim (λ here. here) (λ none. absurd (cc)) (or_cases (has_tables set.pick) false some)
 sole_pick (word ∷ words) set clear some =
-    let parts = or_parts (are_clashing (setting_of word) (Some setting.TableFile)) (any_clash setting.TableFile words) clear in
+    let parts = or_parts (are_clashing (setting_of word) (Some setting.TableFile))
+    (any_clash setting.TableFile words) clear in
     sole_pick words (settings_with set (setting_of word)) parts.1
     (goes_on (setting_of word) parts.0 (or_cases (has_tables set.pick) (any_pick (word ∷ words)) some))
   where
@@ -112,9 +121,11 @@ sole_pick (word ∷ words) set clear some =
         or_left (has_tables pick) (any_pick words) (not-false (has_tables pick)
         (or_parts (excludes (setting.Engine pick) setting.TableFile) (not (has_tables pick)) clear).1)
     goes_on (Some (setting.Show show)) clear (inl here) = or_left (has_tables set.pick) (any_pick words) here
-    goes_on (Some (setting.Show show)) clear (inr there) = or_right (has_tables set.pick) (any_pick words) there
+    goes_on (Some (setting.Show show)) clear (inr there) =
+        or_right (has_tables set.pick) (any_pick words) there
     goes_on (Some (setting.Rule one)) clear (inl here) = or_left (has_tables set.pick) (any_pick words) here
-    goes_on (Some (setting.Rule one)) clear (inr there) = or_right (has_tables set.pick) (any_pick words) there
+    goes_on (Some (setting.Rule one)) clear (inr there) =
+        or_right (has_tables set.pick) (any_pick words) there
     goes_on (Some setting.TableFile) clear some = cc
 
 -- what clashes with what
@@ -126,7 +137,8 @@ file_clash pick other (Some (setting.Show show)) is = cc
 file_clash pick other (Some (setting.Rule one)) is = cc
 file_clash pick other (Some setting.TableFile) is = rw other refl
 
-pick_clash : (pick : Pick) (s : Option Setting) → picks s ≡ true → are_clashing s (Some (setting.Engine pick)) ≡ true
+pick_clash : (pick : Pick) (s : Option Setting) → picks s ≡ true
+    → are_clashing s (Some (setting.Engine pick)) ≡ true
 pick_clash pick None is = cc
 pick_clash pick (Some (setting.Engine p)) is = refl
 pick_clash pick (Some (setting.Show show)) is = cc
@@ -155,10 +167,12 @@ module _ (allows : List Family) (before : List (List ℕ)) (word : List ℕ) whe
   now = before ++ word ∷ []
 
   chosen_now : settings_of now ≡ settings_with (settings_of before) (setting_of word)
-  chosen_now = fold-append (λ set word. settings_with set (setting_of word)) default_settings before (word ∷ [])
+  chosen_now = fold-append (λ set word. settings_with set (setting_of word)) default_settings before
+      (word ∷ [])
 
   loaded : has_tables (settings_with (settings_of before) (setting_of word)).pick ≡ true → Stand allows now
-  loaded is = whole (or_right (is_none (tables_of now)) (has_tables (settings_of now).pick) (rw chosen_now is))
+  loaded is =
+      whole (or_right (is_none (tables_of now)) (has_tables (settings_of now).pick) (rw chosen_now is))
 
   untold : is_none (tables_of now) ≡ true → Stand allows now
   untold is = whole (or_left (is_none (tables_of now)) (has_tables (settings_of now).pick) is)
@@ -191,7 +205,8 @@ module _ (allows : List Family) (before : List (List ℕ)) (word : List ℕ) whe
   loads : (pick : Pick) → any_clash (setting.Engine pick) before ≡ false → any_file before ≡ true
       → has_tables pick ≡ true
   loads pick clear named = true_from_ne_false (has_tables pick) (λ other. true≢false
-      (sym (any_from (λ w. tells (setting_of w)) (λ w. are_clashing (setting_of w) (Some (setting.Engine pick)))
+      (sym (any_from (λ w. tells (setting_of w))
+      (λ w. are_clashing (setting_of w) (Some (setting.Engine pick)))
       (λ w. file_clash pick other (setting_of w)) before named) ∙ clear))
 
   -- a table file stands behind the engine for it, or waits for it
@@ -200,7 +215,8 @@ module _ (allows : List Family) (before : List (List ℕ)) (word : List ℕ) whe
   file_told is allowed clear = ⊎_elim
       (λ picked. loaded (rw is (sole_pick before default_settings clear picked)))
       (λ none. waits (record {
-        allowed = any_from (λ f. has f setting.TableFile) (λ f. has f (setting.Engine Plus)) family_has allows allowed;
+        allowed = any_from (λ f. has f setting.TableFile) (λ f. has f (setting.Engine Plus)) family_has
+            allows allowed;
         named = tells_now setting.TableFile is allowed clear ∙ or_right (any_file before) true refl;
         free = picks_now setting.TableFile is allowed clear ∙ rw none refl;
       }))
@@ -213,16 +229,20 @@ module _ (allows : List Family) (before : List (List ℕ)) (word : List ℕ) whe
       (λ has. absurd (picked_twice pick clear has)) (or_cases (is_none (tables_of before)) _ complete)
   stands_with (whole complete) (setting.Show show) is allowed clear = ⊎_elim
       (λ none. other_word (setting.Show show) is allowed clear none refl)
-      (λ has. still_loaded (setting.Show show) is allowed clear has refl) (or_cases (is_none (tables_of before)) _ complete)
+      (λ has. still_loaded (setting.Show show) is allowed clear has refl)
+      (or_cases (is_none (tables_of before)) _ complete)
   stands_with (whole complete) (setting.Rule one) is allowed clear = ⊎_elim
       (λ none. other_word (setting.Rule one) is allowed clear none refl)
-      (λ has. still_loaded (setting.Rule one) is allowed clear has refl) (or_cases (is_none (tables_of before)) _ complete)
+      (λ has. still_loaded (setting.Rule one) is allowed clear has refl)
+      (or_cases (is_none (tables_of before)) _ complete)
   stands_with (whole complete) setting.TableFile is allowed clear = file_told is allowed clear
   stands_with (waits w) (setting.Engine pick) is allowed clear = loaded (rw is (loads pick clear w.named))
   stands_with (waits w) (setting.Show show) is allowed clear =
       still_waits (setting.Show show) is allowed clear w refl
-  stands_with (waits w) (setting.Rule one) is allowed clear = still_waits (setting.Rule one) is allowed clear w refl
-  stands_with (waits w) setting.TableFile is allowed clear = still_waits setting.TableFile is allowed clear w refl
+  stands_with (waits w) (setting.Rule one) is allowed clear =
+      still_waits (setting.Rule one) is allowed clear w refl
+  stands_with (waits w) setting.TableFile is allowed clear =
+      still_waits setting.TableFile is allowed clear w refl
 
   -- a word more that may follow
   pub stand_on : Stand allows before → may_follow allows before word ≡ true → Stand allows now
@@ -245,18 +265,22 @@ unfolding tables_in
 can_complete allows before (whole complete) = ([], rw append-nil complete)
 can_complete allows before (waits w) =
     let plus : List ℕ = codes "engine=plus" in
-    let chosen : settings_of (before ++ plus ∷ []) ≡ settings_with (settings_of before) (Some (setting.Engine Plus)) =
+    let chosen : settings_of (before ++ plus ∷ [])
+    ≡ settings_with (settings_of before) (Some (setting.Engine Plus)) =
     fold-append (λ set word. settings_with set (setting_of word)) default_settings before (plus ∷ []) in
     let clear : any_clash (setting.Engine Plus) before ≡ false =
     none_from (λ w. are_clashing (setting_of w) (Some (setting.Engine Plus))) (λ w. picks (setting_of w))
     (λ w. clash_pick (setting_of w)) before w.free in
     let follows : may_follow allows before plus ≡ true =
-    and_from (is_allowed allows (Some (setting.Engine Plus))) (not (any_clash (setting.Engine Plus) before)) w.allowed
-    (rw clear refl) in
+    and_from (is_allowed allows (Some (setting.Engine Plus))) (not (any_clash (setting.Engine Plus) before))
+    w.allowed (rw clear refl) in
     let complete : is_complete (before ++ plus ∷ []) ≡ true =
     or_right (is_none (tables_of (before ++ plus ∷ []))) (has_tables (settings_of (before ++ plus ∷ [])).pick)
-    (rw chosen refl) in
-    (plus ∷ [], and_from (all_follow allows before (plus ∷ [])) (is_complete (before ++ plus ∷ [])) (rw follows refl) complete)
+    (rw chosen refl) in (
+      plus ∷ [],
+      and_from (all_follow allows before (plus ∷ [])) (is_complete (before ++ plus ∷ []))
+          (rw follows refl) complete,
+    )
 
 pub nothing_stands : (allows : List Family) → Stand allows []
 nothing_stands allows = whole refl

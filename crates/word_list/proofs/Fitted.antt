@@ -1,5 +1,6 @@
 -- The words after a command's name: where they stop, and how many they are at most.
-use Rattle.std.proofs.Common.{◌≡◌, ℕ, zero, suc, ◌+◌, ◌<◌, true, false, List, [], ◌∷◌, length, drop, refl, ◌∙◌, subst, arith}
+use Rattle.std.proofs.Common.{◌≡◌, ℕ, zero, suc, ◌+◌, ◌<◌, true, false, List, [], ◌∷◌, length, drop, refl}
+use Rattle.std.proofs.Common.{◌∙◌, subst, arith}
 use Rattle.std.specs.Prelude.{codes}
 use Rattle.text_line.specs.LongNumbers.{long_number_of}
 use Rattle.text_line.specs.Numbers.{number_of}
@@ -41,8 +42,11 @@ module _ (allows : List Family) where
   pub taken_part : (takes : List Kind) (words : List (List ℕ)) (count : ℕ) → AreOf takes words count
       → count < length takes → (fits takes allows words ≡ false) × EndsAfter (fits takes allows) words count
   taken_part [] words count are below = absurd (omega arith)
-  taken_part (kind ∷ takes) [] zero are below =
-      (refl, ends_at_once (fits (kind ∷ takes) allows) [] (completed (kind ∷ takes)) (λ inside. absurd (omega arith)))
+  taken_part (kind ∷ takes) [] zero are below = (
+    refl,
+    ends_at_once (fits (kind ∷ takes) allows) [] (completed (kind ∷ takes))
+        (λ inside. absurd (omega arith)),
+  )
   taken_part (kind ∷ takes) [] (suc count) are below = let no = are.first 0 (omega arith) in cc (no)
   taken_part (kind ∷ takes) (word ∷ words) zero are below =
       let wrong : is_of kind word ≡ false = are.next below in (
@@ -64,8 +68,11 @@ module _ (allows : List Family) where
       × ((place count : ℕ) → count ≡ length takes + place
       → EndsAfter (are_settings allows) (drop (length takes) words) place
       → EndsAfter (fits takes allows) words count)
-  taken_whole [] words are =
-      (refl, λ place count sum after. subst (EndsAfter (are_settings allows) words) (omega (arith, sum)) after)
+  taken_whole [] words are = (
+    refl,
+    λ place count sum after. subst (EndsAfter (are_settings allows) words)
+        (omega (arith, sum)) after,
+  )
   taken_whole (kind ∷ takes) [] are = let no = are.first 0 (omega arith) in cc (no)
   taken_whole (kind ∷ takes) (word ∷ words) are =
       let right : is_of kind word ≡ true = are.first 0 (omega arith) in

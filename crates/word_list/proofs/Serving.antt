@@ -14,11 +14,13 @@ use Rattle.word_list.specs.Calls.{fits, call_of}
 use Rattle.word_list.specs.Request.{Call}
 use Rattle.word_list.specs.Rows.{Row, row_of, is_of, asked_by}
 use Rattle.word_list.specs.Serving.{IsServed, takes_small_maps}
-use Rattle.word_list.specs.Settings.{setting_of, is_for_small_maps, is_allowed, may_follow, all_follow, are_settings, settings_with, tables_of, default_settings}
+use Rattle.word_list.specs.Settings.{setting_of, is_for_small_maps, is_allowed, may_follow, all_follow}
+use Rattle.word_list.specs.Settings.{are_settings, settings_with, tables_of, default_settings}
 
 -- families that allow no engine of small maps
 abbrev BarSmall : List Family → Type 0
-BarSmall allows = (pick : Pick) → is_allowed allows (Some (setting.Engine pick)) ≡ true → is_for_small_maps pick ≡ false
+BarSmall allows = (pick : Pick) → is_allowed allows (Some (setting.Engine pick)) ≡ true
+    → is_for_small_maps pick ≡ false
 
 bars : (allows : List Family) → is_allowed allows (Some (setting.Engine Boxes)) ≡ false
     → is_allowed allows (Some (setting.Engine Moves)) ≡ false → BarSmall allows
@@ -30,7 +32,8 @@ bars allows boxes moves Boxes may = absurd (cc)
 bars allows boxes moves Moves may = absurd (cc)
 
 module _ (allows : List Family) (bar : BarSmall allows) where
-  with_one : (set : Settings) (s : Option Setting) → is_allowed allows s ≡ true → is_for_small_maps set.pick ≡ false
+  with_one : (set : Settings) (s : Option Setting) → is_allowed allows s ≡ true
+      → is_for_small_maps set.pick ≡ false
       → is_for_small_maps (settings_with set s).pick ≡ false
   with_one set None may large = large
   with_one set (Some (setting.Engine pick)) may large = bar pick may
@@ -44,12 +47,14 @@ module _ (allows : List Family) (bar : BarSmall allows) where
       → is_for_small_maps (fold (λ all word. settings_with all (setting_of word)) set words).pick ≡ false
   with_all before [] set follow large = large
   with_all before (word ∷ words) set follow large =
-      let parts = and_parts (may_follow allows before word) (all_follow allows (before ++ word ∷ []) words) follow in
+      let parts = and_parts (may_follow allows before word) (all_follow allows (before ++ word ∷ []) words)
+      follow in
       with_all (before ++ word ∷ []) words (settings_with set (setting_of word)) parts.1
       (with_one set (setting_of word) (and_parts (is_allowed allows (setting_of word)) _ parts.0).0 large)
 
 -- behind the words that a command takes stand its settings
-settings_behind : (takes : List Kind) (allows : List Family) (words : List (List ℕ)) → fits takes allows words ≡ true
+settings_behind : (takes : List Kind) (allows : List Family) (words : List (List ℕ))
+    → fits takes allows words ≡ true
     → are_settings allows (drop (length takes) words) ≡ true
 settings_behind [] allows words fit = fit
 settings_behind (kind ∷ takes) allows [] fit = absurd (cc)
@@ -58,13 +63,15 @@ settings_behind (kind ∷ takes) allows (word ∷ words) fit =
 
 -- a row allows them only for a command that they may serve
 record IsServing (row : Row) : Type 0 where
-  bar : (words : List (List ℕ)) (tables : Option (List ℕ)) → takes_small_maps (asked_by row.command words tables) ≡ false
+  bar : (words : List (List ℕ)) (tables : Option (List ℕ))
+      → takes_small_maps (asked_by row.command words tables) ≡ false
       → BarSmall row.allows
 
 -- the row of a name is this one, or one behind it
 either : (b : Bool) (row : Row) (others : Option Row) (one : Row) → IsServing row
     → (others ≡ Some one → IsServing one) → (if b then Some row else others) ≡ Some one → IsServing one
-either true row others one here behind e = subst (λ (r : Row). IsServing r) (ap (λ (o : Option Row). unwrap_or o row) e) here
+either true row others one here behind e =
+    subst (λ (r : Row). IsServing r) (ap (λ (o : Option Row). unwrap_or o row) e) here
 either false row others one here behind e = behind e
 
 barred : (row : Row) → is_allowed row.allows (Some (setting.Engine Boxes)) ≡ false
@@ -95,7 +102,8 @@ same_call : (one other : Call) → Some one ≡ Some other → one ≡ other
 same_call one other e = ap (λ (o : Option Call). unwrap_or o one) e
 
 -- so the engine of a call may serve what it asks for
-pub served : (words : List (List ℕ)) (call : Call) → call_of words ≡ Some call → IsServed call.request call.settings
+pub served : (words : List (List ℕ)) (call : Call) → call_of words ≡ Some call
+    → IsServed call.request call.settings
 served [] call e = absurd (cc)
 served (name ∷ words) call e = by_row (row_of name) refl e
   where
@@ -107,7 +115,8 @@ served (name ∷ words) call e = by_row (row_of name) refl e
         } in (if b then Some told else None) ≡ Some call) → IsServed call.request call.settings
     by_fit row is true fit e =
         subst (λ (k : Call). IsServed k.request k.settings) (same_call _ call e)
-        (λ no. with_all row.allows (is.bar words (tables_of (drop (length row.takes) words)) no) [] (drop (length row.takes) words) default_settings
+        (λ no. with_all row.allows (is.bar words (tables_of (drop (length row.takes) words)) no) []
+        (drop (length row.takes) words) default_settings
         (and_parts (all_follow row.allows [] (drop (length row.takes) words)) _
         (settings_behind row.takes row.allows words fit)).0 refl)
     by_fit row is false fit e = absurd (cc)

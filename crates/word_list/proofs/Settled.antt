@@ -1,5 +1,7 @@
 -- Lists of settings: where they stop, and how many they are at most.
-use Rattle.std.proofs.Common.{◌≡◌, ℕ, zero, suc, ◌+◌, ◌<◌, ◌≤◌, Bool, true, false, not, ◌||◌, List, [], ◌∷◌, ◌++◌, refl, sym, ap, ◌∙◌, length, take, drop, get_or, map, append_assoc, append-nil, string_bytes, add-one, arith}
+use Rattle.std.proofs.Common.{◌≡◌, ℕ, zero, suc, ◌+◌, ◌<◌, ◌≤◌, Bool, true, false, not, ◌||◌, List, [], ◌∷◌}
+use Rattle.std.proofs.Common.{◌++◌, refl, sym, ap, ◌∙◌, length, take, drop, get_or, map, append_assoc}
+use Rattle.std.proofs.Common.{append-nil, string_bytes, add-one, arith}
 use Rattle.std.specs.Prelude.{String, Option, Some, None, if◌then◌else◌}
 use Rattle.std.specs.Global.{Global}
 use Rattle.std.specs.List.{list_any}
@@ -13,7 +15,9 @@ use Rattle.word_list.specs.declared.settings.Setting.TheVariants as setting
 use Rattle.word_list.specs.declared.settings.Choice.{Choice}
 use Rattle.word_list.specs.declared.settings.Choice.TheVariants as choice
 use Rattle.word_list.specs.declared.settings.Family.{Family}
-use Rattle.word_list.specs.Settings.{setting_of, choice_of, is_same, is_clash, are_clashing, is_allowed, may_follow, settings_with, default_settings, settings_of, tables_in, tables_of, is_complete}
+use Rattle.word_list.specs.Settings.{setting_of, choice_of, is_same, is_clash, are_clashing, is_allowed}
+use Rattle.word_list.specs.Settings.{may_follow, settings_with, default_settings, settings_of, tables_in}
+use Rattle.word_list.specs.Settings.{tables_of, is_complete}
 use Rattle.word_list.specs.Rule.{EndsAfter}
 use Rattle.word_list.specs.Steps.{AreSettled}
 use Rattle.word_list.proofs.Completed.{Stand, completed, can_complete, stand_on}
@@ -35,7 +39,8 @@ module _ {A : Type 0} (test : A → Bool) (xs : List A) (place : ℕ) (x : A) (i
       → list_any test (take (place + 1) xs) ≡ false
   none_yet unmet none = list_any_more test xs place x inside ∙ rw (none, at, unmet) refl
 
--- behind settings, a list of settings ends after so many words; where these are all, it is one if no word is missing
+-- behind settings, a list of settings ends after so many words; where these are all, it is one if no word is
+-- missing
 pub record Settles (allows : List Family) (before words : List (List ℕ)) (count : ℕ) : Type 0 where
   pub ends : EndsAfter (completed allows before) words count
   pub wrong : count < length words → completed allows before words ≡ false
@@ -54,7 +59,8 @@ module _ (allows : List Family) where
   pub settles : (before words : List (List ℕ)) (count : ℕ) → Stand allows before
       → AreSettled allows before words count → Settles allows before words count
   settles before [] zero stand are = record {
-    ends = ends_at_once (completed allows before) [] (can_complete allows before stand) (λ inside. absurd (omega arith));
+    ends = ends_at_once (completed allows before) [] (can_complete allows before stand)
+        (λ inside. absurd (omega arith));
     wrong = λ below. absurd (omega arith);
     right = λ above. refl;
   }
@@ -66,7 +72,8 @@ module _ (allows : List Family) where
       let goes_on : (more : List (List ℕ)) → completed allows before (word ∷ more)
       ≡ completed allows (before ++ word ∷ []) more =
       λ more. rw (first, append_assoc before (word ∷ []) more) refl in
-      let rest = settles (before ++ word ∷ []) words count (stand_on allows before word stand first) (later are) in
+      let rest = settles (before ++ word ∷ []) words count (stand_on allows before word stand first)
+      (later are) in
       record {
         ends = ends_later (completed allows before) (completed allows (before ++ word ∷ [])) word words count
             goes_on rest.ends;
@@ -86,13 +93,15 @@ made choice words = if list_any (λ word. is_made choice (setting_of word)) word
 
 -- how many choices the words make
 abbrev all_made : List (List ℕ) → ℕ
-all_made words = made choice.Engine words + made choice.Show words + made choice.Rule words + made choice.TableFile words
+all_made words = made choice.Engine words + made choice.Show words + made choice.Rule words
+    + made choice.TableFile words
 
 few_made : (words : List (List ℕ)) → all_made words ≤ 4
 few_made words = grind arith
 
 -- what makes the same choice clashes
-equal_clash : (one other : Setting) → is_same (choice_of one) (choice_of other) ≡ true → is_clash one other ≡ true
+equal_clash : (one other : Setting) → is_same (choice_of one) (choice_of other) ≡ true
+    → is_clash one other ≡ true
 equal_clash one other same = grind (arith, or_left)
 
 -- a word that may follow makes a choice that is not made yet
@@ -106,7 +115,8 @@ module _ (allows : List Family) (before : List (List ℕ)) (word : List ℕ) whe
       apart (Some t) clear = false_from_ne_true (is_same (choice_of t) (choice_of s))
           (λ same. true≢false (sym (equal_clash t s same) ∙ clear))
 
-      none_made : (words : List (List ℕ)) → list_any (λ other. are_clashing (setting_of other) (Some s)) words ≡ false
+      none_made : (words : List (List ℕ)) → list_any (λ other. are_clashing (setting_of other) (Some s)) words
+          ≡ false
           → list_any (λ other. is_made (choice_of s) (setting_of other)) words ≡ false
       none_made [] clear = refl
       none_made (other ∷ words) clear =
@@ -143,15 +153,29 @@ module _ (allows : List Family) (before : List (List ℕ)) (word : List ℕ) whe
   one_more : may_follow allows before word ≡ true → all_made before + 1 ≤ all_made (before ++ word ∷ [])
   one_more follows =
       let parts = and_parts (is_allowed allows (setting_of word)) _ follows in
-      let none = is_not (list_any (λ other. are_clashing (setting_of other) (setting_of word)) before) parts.1 in
+      let none = is_not (list_any (λ other. are_clashing (setting_of other) (setting_of word)) before)
+      parts.1 in
       let engine = kept choice.Engine in
       let show = kept choice.Show in
       let rule = kept choice.Rule in
       let file = kept choice.TableFile in
-      elim (setting_of word) as (λ s. setting_of word ≡ s → all_made before + 1 ≤ all_made (before ++ word ∷ [])) [
+      elim (setting_of word) as (λ s. setting_of word ≡ s
+      → all_made before + 1 ≤ all_made (before ++ word ∷ [])) [
         | None ↦ λ is. let no = rw is at parts.0 in cc (no)
-        | Some (setting.Engine pick) ↦ λ is. omega (arith, grown (setting.Engine pick) is none, show, rule, file)
-        | Some (setting.Show what) ↦ λ is. omega (arith, grown (setting.Show what) is none, engine, rule, file)
+        | Some (setting.Engine pick) ↦ λ is. omega (
+          arith,
+          grown (setting.Engine pick) is none,
+          show,
+          rule,
+          file,
+        )
+        | Some (setting.Show what) ↦ λ is. omega (
+          arith,
+          grown (setting.Show what) is none,
+          engine,
+          rule,
+          file,
+        )
         | Some (setting.Rule one) ↦ λ is. omega (arith, grown (setting.Rule one) is none, engine, show, file)
         | Some setting.TableFile ↦ λ is. omega (arith, grown setting.TableFile is none, engine, show, rule)
       ] refl
@@ -175,10 +199,12 @@ pub chosen_more : (words : List (List ℕ)) (place : ℕ) (word : List ℕ) → 
     → settings_of (take (place + 1) words) ≡ settings_with (settings_of (take place words)) (setting_of word)
 chosen_more words place word inside at =
     ap settings_of (take_more words place word inside ∙ ap (λ (w : List ℕ). take place words ++ w ∷ []) at)
-    ∙ fold-append (λ set word. settings_with set (setting_of word)) default_settings (take place words) (word ∷ [])
+    ∙ fold-append (λ set word. settings_with set (setting_of word)) default_settings (take place words)
+    (word ∷ [])
 
 -- the table file that words tell, by what the next of them tells
-pub tables_ahead : (words : List (List ℕ)) (place : ℕ) (word : List ℕ) (told : Option (List ℕ)) → place < length words
+pub tables_ahead : (words : List (List ℕ)) (place : ℕ) (word : List ℕ) (told : Option (List ℕ))
+    → place < length words
     → get_or words place word ≡ word → told ≡ tables_in word
     → tables_of (drop place words) ≡ option_or told (tables_of (drop (place + 1) words))
 tables_ahead words place word told inside at is = rw add-one (ahead words place inside at)

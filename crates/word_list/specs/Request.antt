@@ -44,8 +44,8 @@ asked (request.Tables map) = Tables map.now
 asked (request.Boxes map x y) = Boxes map.now x y
 asked (request.Moves map x y) = Moves map.now x y
 
--- the sides of a map that is to be made are 1 to 4096, and a table file is named beside the engine that searches by tables
--- alone
+-- the sides of a map that is to be made are 1 to 4096, and a table file is named beside the engine that
+-- searches by tables alone
 abbrev pub IsSound : Request → Settings → Type 0
 IsSound request.Help set = ⊤
 IsSound request.Version set = ⊤

@@ -1,5 +1,6 @@
 -- The table of commands.
-use Rattle.std.specs.Prelude.{ℕ, Bool, true, nat_le, ◌&&◌, List, [], ◌∷◌, is_some, if◌then◌else◌, bytes_eq, codes, slice_get, Option, Some, None, unwrap_or}
+use Rattle.std.specs.Prelude.{ℕ, Bool, true, nat_le, ◌&&◌, List, [], ◌∷◌, is_some, if◌then◌else◌, bytes_eq}
+use Rattle.std.specs.Prelude.{codes, slice_get, Option, Some, None, unwrap_or}
 use Rattle.text_line.specs.LongNumbers.{long_number_of}
 use Rattle.text_line.specs.Numbers.{number_of}
 use Rattle.word_list.specs.declared.rows.Command.{Command}
@@ -8,8 +9,10 @@ use Rattle.word_list.specs.declared.rows.Kind.{Kind}
 use Rattle.word_list.specs.declared.rows.Kind.TheVariants.{File, Number, Seed, Side, Percent}
 use Rattle.word_list.specs.declared.rows.Row as declared
 use Rattle.word_list.specs.declared.settings.Family.{Family}
-use Rattle.word_list.specs.declared.settings.Family.TheVariants.{Engine, SmallMap, Show, Drawing, Counts, Rule, TableFile}
-use Rattle.word_list.specs.Request.{Asked, Help, Version, Query, Solve, Live, Scen, Judge, Prove, Check, Make, Drill, Draw, Costs, Tables, Boxes, Moves}
+use Rattle.word_list.specs.declared.settings.Family.TheVariants.{Engine, SmallMap, Show, Drawing, Counts}
+use Rattle.word_list.specs.declared.settings.Family.TheVariants.{Rule, TableFile}
+use Rattle.word_list.specs.Request.{Asked, Help, Version, Query, Solve, Live, Scen, Judge, Prove, Check, Make}
+use Rattle.word_list.specs.Request.{Drill, Draw, Costs, Tables, Boxes, Moves}
 
 -- a command, the kinds of the words that it takes, and the settings that it allows after them
 pub record Row : Type 0 where
@@ -117,13 +120,14 @@ side_at words place = unwrap_or (side_of (word_at words place)) 1
 abbrev pub percent_at : List (List ℕ) → ℕ → ℕ
 percent_at words place = unwrap_or (percent_of (word_at words place)) 0
 
--- what a command asks for by the words after its name, which are of its kinds, and by the name of the table file that its
--- settings tell
+-- what a command asks for by the words after its name, which are of its kinds, and by the name of the table
+-- file that its settings tell
 abbrev pub asked_by : Command → List (List ℕ) → Option (List ℕ) → Asked
 asked_by command.Help words tables = Help
 asked_by command.Version words tables = Version
 asked_by command.Query words tables =
-    Query (word_at words 0) tables (number_at words 1) (number_at words 2) (number_at words 3) (number_at words 4)
+    Query (word_at words 0) tables (number_at words 1) (number_at words 2) (number_at words 3)
+    (number_at words 4)
 asked_by command.Solve words tables = Solve (word_at words 0) tables (word_at words 1)
 asked_by command.Live words tables = Live (word_at words 0) tables
 asked_by command.Scen words tables = Scen (word_at words 0) tables (word_at words 1)
@@ -131,7 +135,8 @@ asked_by command.Judge words tables = Judge (word_at words 0) (word_at words 1) 
 asked_by command.Prove words tables =
     Prove (word_at words 0) (number_at words 1) (number_at words 2) (number_at words 3) (number_at words 4)
 asked_by command.Check words tables = Check (word_at words 0) (word_at words 1)
-asked_by command.Make words tables = Make (seed_at words 0) (side_at words 1) (side_at words 2) (percent_at words 3)
+asked_by command.Make words tables =
+    Make (seed_at words 0) (side_at words 1) (side_at words 2) (percent_at words 3)
 asked_by command.Drill words tables = Drill (seed_at words 0)
 asked_by command.Draw words tables =
     Draw (word_at words 0) (number_at words 1) (number_at words 2) (number_at words 3) (number_at words 4)

@@ -11,8 +11,8 @@ pub record EndsAfter (accepts : List (List ℕ) → Bool) (words : List (List �
   pub within : count ≤ length words
   pub ends : count < length words → ¬ Begins accepts (take (suc count) words)
 
--- the number, from 1, is the least so that no accepted list begins with so many of the words; it is one more than there
--- are words where an accepted list begins with all of them
+-- the number, from 1, is the least so that no accepted list begins with so many of the words; it is one more
+-- than there are words where an accepted list begins with all of them
 pub record StopsAt (accepts : List (List ℕ) → Bool) (words : List (List ℕ)) (number : ℕ) : Type 0 where
   pub least : (k : ℕ) → k < number → Begins accepts (take k words)
   pub within : number ≤ length words + 1

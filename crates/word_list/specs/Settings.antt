@@ -1,5 +1,7 @@
 -- The settings that may follow a command's other words.
-use Rattle.std.specs.Prelude.{ℕ, Bool, true, false, List, [], ◌∷◌, ◌++◌, not, ◌&&◌, ◌||◌, if◌then◌else◌, nat_eq, nat_lt, bytes_eq, codes, length, drop, is_some, is_none, Option, Some, None}
+use Rattle.std.specs.Prelude.{ℕ, Bool, true, false, List, [], ◌∷◌, ◌++◌, not, ◌&&◌, ◌||◌, if◌then◌else◌}
+use Rattle.std.specs.Prelude.{nat_eq, nat_lt, bytes_eq, codes, length, drop, is_some, is_none, Option, Some}
+use Rattle.std.specs.Prelude.{None}
 use Rattle.std.specs.List.{list_any, fold, starts_with}
 use Rattle.std.specs.Option.{option_or}
 use Rattle.word_list.specs.declared.request.Pick.{Pick}
@@ -15,7 +17,8 @@ use Rattle.word_list.specs.declared.settings.Family.TheVariants as family
 
 -- the name of the table file that a word tells, if it tells one: all behind the first `=`, at least one byte
 unfoldable pub tables_in : List ℕ → Option (List ℕ)
-tables_in word = if starts_with nat_eq word (codes "tables=") && nat_lt 7 (length word) then Some (drop 7 word) else None
+tables_in word = if starts_with nat_eq word (codes "tables=") && nat_lt 7 (length word)
+    then Some (drop 7 word) else None
 
 -- the setting that a word spells, if it spells one
 abbrev pub setting_of : List ℕ → Option Setting
@@ -55,8 +58,8 @@ abbrev pub has_tables : Pick → Bool
 has_tables Plus = true
 has_tables other = false
 
--- whether a setting can't stand beside this one, which makes another choice: first moves take no states, which a
--- trace could list or a row could count, and tables serve one engine alone
+-- whether a setting can't stand beside this one, which makes another choice: first moves take no states,
+-- which a trace could list or a row could count, and tables serve one engine alone
 abbrev pub excludes : Setting → Setting → Bool
 excludes (setting.Engine Moves) (setting.Show Trace) = true
 excludes (setting.Engine Moves) (setting.Show Taken) = true
@@ -78,8 +81,8 @@ is_for_small_maps Boxes = true
 is_for_small_maps Moves = true
 is_for_small_maps other = false
 
--- whether a setting is of a family; a picture shows the points, and the states that the search took; rows count
--- these states; a table file stands beside the engine that searches by tables
+-- whether a setting is of a family; a picture shows the points, and the states that the search took; rows
+-- count these states; a table file stands beside the engine that searches by tables
 abbrev pub has : Family → Setting → Bool
 has family.Engine (setting.Engine pick) = not (is_for_small_maps pick)
 has family.SmallMap (setting.Engine pick) = is_for_small_maps pick

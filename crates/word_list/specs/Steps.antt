@@ -1,5 +1,6 @@
 -- What each step of the reading says.
-use Rattle.std.specs.Prelude.{◌≡◌, ℕ, ◌<◌, ◌≤◌, Bool, true, false, List, ◌++◌, length, take, slice_get, Option, Some, None}
+use Rattle.std.specs.Prelude.{◌≡◌, ℕ, ◌<◌, ◌≤◌, Bool, true, false, List, ◌++◌, length, take, slice_get}
+use Rattle.std.specs.Prelude.{Option, Some, None}
 use Rattle.word_list.specs.declared.settings.Family.{Family}
 use Rattle.word_list.specs.declared.rows.Kind.{Kind}
 use Rattle.word_list.specs.Settings.{may_follow}

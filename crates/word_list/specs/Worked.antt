@@ -99,7 +99,8 @@ pub setting_for_name : call_of (codes "scen" ∷ codes "m" ∷ codes "rule=one" 
 unfolding tables_in
 setting_for_name = refl
 
--- a table file stands beside the engine for it, before it or behind it, and its name is all behind the first `=`
+-- a table file stands beside the engine for it, before it or behind it, and its name is all behind the first
+-- `=`
 abbrev loaded_query : Option Call
 loaded_query = Some (record {
   request = Query (codes "m") (Some (codes "t=x")) 0 0 2 2;
@@ -160,7 +161,8 @@ pub counted_answer : query_with (codes "show=taken" ∷ []) ≡ None
 unfolding number_of tables_in
 counted_answer = refl
 
-pub counts_before_moves : call_of (codes "scen" ∷ codes "m" ∷ codes "s" ∷ codes "show=taken" ∷ codes "engine=moves"
+pub counts_before_moves : call_of (codes "scen" ∷ codes "m" ∷ codes "s" ∷ codes "show=taken"
+    ∷ codes "engine=moves"
     ∷ []) ≡ None
 unfolding tables_in
 counts_before_moves = refl

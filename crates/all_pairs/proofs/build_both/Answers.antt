@@ -13,7 +13,8 @@ loop-x-preserved g c =
     let grid = g.T.Terrain.grid c.args.t.now in
     let n : ℕ = c.loop-y.y * grid.width + c.loop-x.x in
     let u : Cell = record { x = c.loop-x.x; y = c.loop-y.y } in
-    let on : c.loop-x.x < grid.width = subst (λ (m : ℕ). c.loop-x.x < m) c.width-width.ensures.is c.loop-x-test.true in
+    let on : c.loop-x.x < grid.width =
+    subst (λ (m : ℕ). c.loop-x.x < m) c.width-width.ensures.is c.loop-x-test.true in
     let more : AreBefore grid c.push_item.new.items.items (n + 1) =
     subst (λ (cells : List CellBoxes). AreBefore grid cells (n + 1)) (sym c.in_ok-push_item.ensures.pushed)
     (one_before grid c.loop-x.boxes.items n u c.in_ok-around.around on refl c.in_ok-around.ensures.boxes
@@ -25,7 +26,8 @@ loop-x-preserved g c =
       count = count_more c.loop-x.rows.items c.push_item-in-loop-x.new.items.items c.in_ok-around.row
           (c.loop-y.y * grid.width) c.loop-x.x c.in_ok-push_item-2.ensures.pushed c.loop-x.invariant.count;
       rows = rows_more grid c.loop-x.rows.items c.push_item-in-loop-x.new.items.items c.in_ok-around.row u
-          c.in_ok-push_item-2.ensures.pushed c.loop-x.invariant.count on c.loop-x.invariant.rows c.in_ok-around.ensures.row;
+          c.in_ok-push_item-2.ensures.pushed c.loop-x.invariant.count on c.loop-x.invariant.rows
+          c.in_ok-around.ensures.row;
       passes = (let p = c.loop-x.invariant.passes in let q = c.both_at.ensures.passes in omega arith);
     }
 
@@ -38,7 +40,8 @@ returns-clause-boxes g c =
     let done : c.loop-y.y * grid.width ≡ grid.height * grid.width = ap (λ (n : ℕ). n * grid.width) last in
     all_kept grid boxes.width boxes.height boxes.cells (c.of_cells.ensures.width ∙ c.width-width.ensures.is)
     (c.of_cells.ensures.height ∙ c.height-height.ensures.is)
-    (subst (λ (cells : List CellBoxes). AreBefore grid cells (grid.height * grid.width)) (sym c.of_cells.ensures.cells)
+    (subst (λ (cells : List CellBoxes). AreBefore grid cells (grid.height * grid.width))
+    (sym c.of_cells.ensures.cells)
     (subst (λ (n : ℕ). AreBefore grid c.loop-y.boxes.items n) done c.loop-y.invariant.boxes))
 
 pub returns-clause-moves : goal.returns-clause-moves
@@ -51,4 +54,5 @@ returns-clause-moves g c =
     are_moves grid moves.width moves.height moves.rows (c.of_rows.ensures.width ∙ c.width-width.ensures.is)
     (c.of_rows.ensures.height ∙ c.height-height.ensures.is)
     (ap (λ (rows : List (List Run)). length rows) c.of_rows.ensures.rows ∙ c.loop-y.invariant.count ∙ done)
-    (subst (λ (rows : List (List Run)). AreRows grid rows) (sym c.of_rows.ensures.rows) c.loop-y.invariant.rows)
+    (subst (λ (rows : List (List Run)). AreRows grid rows) (sym c.of_rows.ensures.rows)
+    c.loop-y.invariant.rows)

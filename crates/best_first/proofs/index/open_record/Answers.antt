@@ -13,8 +13,10 @@ returns-then-heads-cell-eq0-clause-opened c =
     (read heads c.args.cell 0 c.requires.within) in
     subst (λ (hs : List ℕ). IsOpened heads hs records c.take_record.new.records.items c.args.cell)
     (sym c.take_record.ensures.heads)
-    (subst (λ (rs : List (List ℕ)). IsOpened heads (slice_set heads c.args.cell (suc (length records))) records rs
-    c.args.cell) (sym c.take_record.ensures.records) (opened heads records c.args.cell c.requires.records none))
+    (subst (λ (rs : List (List ℕ)). IsOpened heads (slice_set heads c.args.cell (suc (length records)))
+    records rs
+    c.args.cell) (sym c.take_record.ensures.records)
+    (opened heads records c.args.cell c.requires.records none))
 
 pub returns-else-heads-cell-eq0-clause-opened : goal.returns-else-heads-cell-eq0-clause-opened
 returns-else-heads-cell-eq0-clause-opened c =

@@ -18,7 +18,8 @@ pub returns-clause-put : goal.returns-clause-put
 returns-clause-put c =
     let o = c.open_record.ensures.opened in
     let r_is = before _ o.r (head-is c.open_record.new.heads c.args.cell (suc o.r) o.head) in
-    put_opened c.args.heads.now c.open_record.new.heads c.args.records.now.items c.open_record.new.records.items
+    put_opened c.args.heads.now c.open_record.new.heads c.args.records.now.items
+    c.open_record.new.records.items
     c.set_in_record.new.records.items c.args.cell c.args.arrival c.args.entry o c.requires.small
     (λ entries g. c.set_in_record.ensures.changed entries
     (ap (λ (r : ℕ). slice_get c.open_record.new.records.items r) r_is ∙ g)

@@ -38,7 +38,8 @@ loop-id-preserved c =
           (c.loop-id.id + 1) (slice_set c.loop-id.index.heads.items m 0)) (sym cell)
           (covered_next c.loop-id.index.layout c.args.width c.args.pool.now.nodes c.loop-id.id
           c.loop-id.index.heads.items c.node.result.now c.loop-id.invariant.covered c.node.ensures);
-      as_many = length-set c.loop-id.index.heads.items c.number_of-cell.result 0 ∙ c.loop-id.invariant.as_many;
+      as_many = length-set c.loop-id.index.heads.items c.number_of-cell.result 0
+          ∙ c.loop-id.invariant.as_many;
       layout = c.loop-id.invariant.layout;
       records = c.loop-id.invariant.records;
     }

@@ -1,4 +1,5 @@
-use Rattle.std.proofs.Common.{◌≡◌, ℕ, ◌+◌, ◌-◌, ◌<◌, arith, ap, ◌∙◌, nat_eq, bit_and, take, drop, slice_index_or, ◌*◌, ◌^◌, ◌%◌}
+use Rattle.std.proofs.Common.{◌≡◌, ℕ, ◌+◌, ◌-◌, ◌<◌, arith, ap, ◌∙◌, nat_eq, bit_and, take, drop}
+use Rattle.std.proofs.Common.{slice_index_or, ◌*◌, ◌^◌, ◌%◌}
 use Rattle.std.proofs.lemmas.List.{get_or-drop, get_or-take}
 use Rattle.std.proofs.lemmas.Simd.{get_or-chunk}
 use Rattle.bit_grid.proofs.Lanes.{byte_test}

@@ -1,4 +1,5 @@
-use Rattle.std.proofs.Common.{◌≡◌, ℕ, ◌+◌, ◌*◌, List, [], ◌∷◌, ◌++◌, length, length-append, ap, sym, subst, arith, ◌∙◌}
+use Rattle.std.proofs.Common.{◌≡◌, ℕ, ◌+◌, ◌*◌, List, [], ◌∷◌, ◌++◌, length, length-append, ap, sym, subst}
+use Rattle.std.proofs.Common.{arith, ◌∙◌}
 use Rattle.bit_grid.specs.Turn.{ArePackedSoFar}
 use Rattle.bit_grid.proofs.Packing.{packed_further}
 use Rattle.bit_grid.proofs.pack.push_line.Goals as goal

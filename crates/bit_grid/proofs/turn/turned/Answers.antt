@@ -28,7 +28,8 @@ loop-column-preserved c =
           c.args.per_line (n / 8)) (sym same) strip;
       behind = λ free whole. c.in_ok-push_line.ensures.shown (λ column row. free row column)
           column c.loop-column.invariant.long
-          (λ l h. strip_bit c.take_bytes_for.new.strip c.args.words.now c.args.lines c.args.per_line group free
+          (λ l h. strip_bit c.take_bytes_for.new.strip c.args.words.now c.args.lines c.args.per_line
+          group free
           strip whole (omega arith) l (column % 8) column (rw room h) (omega arith) at)
           (c.loop-column.invariant.behind free whole);
     }

@@ -11,5 +11,6 @@ returns-clause-read g c =
     let file = file_of (kind_for (g.M.OfMap.extent_of c.args.settings)) c.args.map.now in
     reading-ends disk _ file (next-file disk.holds [] file [] [] tt) disk
     (g.F.Files.disk c.read_map_file.new.files) refl (none-fell disk.faults)
-    (IsRead (IsMade (g.M.OfMap.is_of_map c.args.settings)) [] (kind_for (g.M.OfMap.extent_of c.args.settings)) (disk.holds c.args.map.now))
+    (IsRead (IsMade (g.M.OfMap.is_of_map c.args.settings)) [] (kind_for (g.M.OfMap.extent_of c.args.settings))
+    (disk.holds c.args.map.now))
     c.read_map_file.result (c.read_map_file.ensures.read [] tt)

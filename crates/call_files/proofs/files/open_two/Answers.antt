@@ -21,7 +21,8 @@ returns-in_err-text-clause-read g c =
     reading-stops disk _ second (next-file disk.holds (first ∷ []) second [] (r.text ∷ []) (r.accepted, tt))
     (g.F.Files.disk c.read_map_file.new.files) (g.F.Files.disk c.read_file.new.files)
     c.in_ok-made.ensures.unchanged c.in_ok-made.ensures.later _ c.from_residual-in_err-text.result
-    c.in_err-text.field-0.0 (c.in_err-text.ensures.read (r.text ∷ []) (c.requires.behind r.text)) c.from_residual-in_err-text.ensures.1
+    c.in_err-text.field-0.0 (c.in_err-text.ensures.read (r.text ∷ []) (c.requires.behind r.text))
+    c.from_residual-in_err-text.ensures.1
 
 pub returns-clause-read : goal.returns-clause-read
 returns-clause-read g c =
@@ -33,7 +34,8 @@ returns-clause-read g c =
     record {
       text = r.text;
       more = s.text;
-      accepted = both-accepted disk.holds (g.F.Files.disk c.read_map_file.new.files).holds first second r.text s.text
+      accepted = both-accepted disk.holds (g.F.Files.disk c.read_map_file.new.files).holds first second
+          r.text s.text
           r.accepted c.in_ok-made.ensures.unchanged s.accepted;
       spelled = r.spelled;
       spelled_more = s.spelled;

@@ -17,5 +17,6 @@ returns-clause-read g c =
     c.of_text.result
     (subst (λ (k : Kind). IsWhole held (limit_of k) c.in_ok-text.text.items) c.kind.ensures
     c.in_ok-text.ensures.read)
-    (subst (λ (text : List ℕ). ReadsText (g.T.Text.is_behind context) (g.T.Text.spells context) kind text c.of_text.result)
+    (subst (λ (text : List ℕ). ReadsText (g.T.Text.is_behind context) (g.T.Text.spells context) kind text
+    c.of_text.result)
     c.as_slice.ensures.value c.of_text.ensures)

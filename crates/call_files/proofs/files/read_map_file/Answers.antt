@@ -35,6 +35,7 @@ returns-clause-read g c = λ earlier behind.
     let held = (g.F.Files.disk c.args.files.now).holds c.args.name.now in
     let r = c.in_ok-map.ensures.read earlier behind in record {
       text = r.text;
-      accepted = subst (λ (e : Extent). IsAccepted earlier (kind_for e) held r.text) c.extent-extent.ensures r.accepted;
+      accepted = subst (λ (e : Extent). IsAccepted earlier (kind_for e) held r.text) c.extent-extent.ensures
+          r.accepted;
       spelled = record { map = plain c.in_ok-map.map; spelled = r.spelled.0; is = c.in_ok-made.ensures };
     }

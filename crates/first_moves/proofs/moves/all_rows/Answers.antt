@@ -9,7 +9,8 @@ loop-x-preserved g c = record {
   count = count_more c.loop-x.rows.items c.push_item.new.items.items c.in_ok-row.row
       (c.loop-y.y * (g.T.Terrain.grid c.args.t.now).width) c.loop-x.x c.in_ok-push_item.ensures.pushed
       c.loop-x.invariant.count;
-  rows = rows_more (g.T.Terrain.grid c.args.t.now) c.loop-x.rows.items c.push_item.new.items.items c.in_ok-row.row
+  rows = rows_more (g.T.Terrain.grid c.args.t.now) c.loop-x.rows.items c.push_item.new.items.items
+      c.in_ok-row.row
       (record { x = c.loop-x.x; y = c.loop-y.y }) c.in_ok-push_item.ensures.pushed c.loop-x.invariant.count
       (subst (λ (n : ℕ). c.loop-x.x < n) c.width-width.ensures.is c.loop-x-test.true)
       c.loop-x.invariant.rows c.in_ok-row.ensures.row;

@@ -8,7 +8,8 @@ returns-clause-first c = λ members e h.
     let apart = c.loop-high.invariant.apart in
     let high = c.loop-high.invariant.within in
     let next : c.loop-high.high ≡ suc c.loop-high.low = omega arith in
-    told c.args.runs.now members c.args.number c.loop-high.low (record { start = 0; first = None }) e h (record {
+    told c.args.runs.now members c.args.number c.loop-high.low (record { start = 0; first = None }) e h
+    (record {
       within = omega arith;
       begun = λ p. c.loop-high.invariant.begun (record { start = 0; first = None }) p;
       ends = rw next at (c.loop-high.invariant.ends (record { start = 0; first = None }));

@@ -19,7 +19,8 @@ use Rattle.goal_boxes.proofs.boxed.advance.Goals as goal
 pub offer_all-requires-clause-may : goal.offer_all-requires-clause-may
 offer_all-requires-clause-may g c = λ n h.
     let grid = g.T.Terrain.grid c.args.t.now in
-    let asked = boxed_asked grid g.K.Meant.boxes c.args.ends.from c.args.ends.to c.requires.whole c.requires.from c.requires.to in
+    let asked = boxed_asked grid g.K.Meant.boxes c.args.ends.from c.args.ends.to c.requires.whole
+    c.requires.from c.requires.to in
     may_go_on g.K.Meant.boxes asked c.requires.taken c.reserve.new.self c.reserve.ensures.table
     (ready_on {a = c.args.space.now} {b = c.reserve.new.self} grid c.requires.ready c.reserve.ensures.shape) n
     (ap (λ (l : Table). slice_get l.nodes c.args.at) (sym c.reserve.ensures.table) ∙ h)
@@ -37,8 +38,10 @@ node-requires g c =
 pub state_at-requires : goal.state_at-requires
 state_at-requires g c =
     let grid = g.T.Terrain.grid c.args.t.now in
-    let asked = boxed_asked grid g.K.Meant.boxes c.args.ends.from c.args.ends.to c.requires.whole c.requires.from c.requires.to in
-    let taken = subst (λ (l : Table). HasTaken grid g.K.Meant.boxes c.args.ends.from c.args.ends.to c.args.at l
+    let asked = boxed_asked grid g.K.Meant.boxes c.args.ends.from c.args.ends.to c.requires.whole
+    c.requires.from c.requires.to in
+    let taken =
+    subst (λ (l : Table). HasTaken grid g.K.Meant.boxes c.args.ends.from c.args.ends.to c.args.at l
     c.args.taken.now) (sym c.reserve.ensures.table) c.requires.taken in
     let read = ap (λ (ns : List Node). slice_get ns c.in-Some.next) (sym c.take_next.ensures.nodes)
     ∙ c.node.ensures in
@@ -51,8 +54,10 @@ state_at-requires g c =
 pub returns-in-None-clause-goes_on : goal.returns-in-None-clause-goes_on
 returns-in-None-clause-goes_on g c =
     let grid = g.T.Terrain.grid c.args.t.now in
-    let asked = boxed_asked grid g.K.Meant.boxes c.args.ends.from c.args.ends.to c.requires.whole c.requires.from c.requires.to in
-    let taken = subst (λ (l : Table). HasTaken grid g.K.Meant.boxes c.args.ends.from c.args.ends.to c.args.at l
+    let asked = boxed_asked grid g.K.Meant.boxes c.args.ends.from c.args.ends.to c.requires.whole
+    c.requires.from c.requires.to in
+    let taken =
+    subst (λ (l : Table). HasTaken grid g.K.Meant.boxes c.args.ends.from c.args.ends.to c.args.at l
     c.args.taken.now) (sym c.reserve.ensures.table) c.requires.taken in
     let offered = has_offered g.K.Meant.boxes asked taken c.offer_all.new.space.table
     (λ n h. c.requires.open_ended n (ap (λ (l : Table). slice_get l.nodes c.args.at)
@@ -62,8 +67,10 @@ returns-in-None-clause-goes_on g c =
 pub returns-in_ok-push-in-Some-clause-goes_on : goal.returns-in_ok-push-in-Some-clause-goes_on
 returns-in_ok-push-in-Some-clause-goes_on g c =
     let grid = g.T.Terrain.grid c.args.t.now in
-    let asked = boxed_asked grid g.K.Meant.boxes c.args.ends.from c.args.ends.to c.requires.whole c.requires.from c.requires.to in
-    let taken = subst (λ (l : Table). HasTaken grid g.K.Meant.boxes c.args.ends.from c.args.ends.to c.args.at l
+    let asked = boxed_asked grid g.K.Meant.boxes c.args.ends.from c.args.ends.to c.requires.whole
+    c.requires.from c.requires.to in
+    let taken =
+    subst (λ (l : Table). HasTaken grid g.K.Meant.boxes c.args.ends.from c.args.ends.to c.args.at l
     c.args.taken.now) (sym c.reserve.ensures.table) c.requires.taken in
     let read = ap (λ (ns : List Node). slice_get ns c.in-Some.next) (sym c.take_next.ensures.nodes)
     ∙ c.node.ensures in
@@ -76,7 +83,8 @@ returns-in_ok-push-in-Some-clause-goes_on g c =
     = c.in_ok-push-in-Some.ensures.pushed
     ∙ ap (λ (i : ℕ). c.args.taken.now ++ i ∷ []) (c.state_at.ensures
     ∙ ap (λ (u : Cell). state_number grid.width (start_at u)) c.cell.ensures) in
-    subst (λ (l : Table). HasTaken grid g.K.Meant.boxes c.args.ends.from c.args.ends.to c.in-Some.next l c.push.new.self)
+    subst (λ (l : Table). HasTaken grid g.K.Meant.boxes c.args.ends.from c.args.ends.to c.in-Some.next l
+    c.push.new.self)
     (sym c.in-Some.ensures.closed)
     (subst (λ (ns : List ℕ). HasTaken grid g.K.Meant.boxes c.args.ends.from c.args.ends.to c.in-Some.next
     (closed_at c.in-Some.next c.offer_all.new.space.table) ns) (sym pushed) on)

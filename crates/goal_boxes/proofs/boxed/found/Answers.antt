@@ -15,14 +15,16 @@ way_to-requires g c =
 pub returns : goal.returns
 returns g c =
     let grid = g.T.Terrain.grid c.args.t.now in
-    let asked = boxed_asked grid g.K.Meant.boxes c.args.ends.from c.args.ends.to c.requires.whole c.requires.from
+    let asked = boxed_asked grid g.K.Meant.boxes c.args.ends.from c.args.ends.to c.requires.whole
+    c.requires.from
     c.requires.to in
     let run = found_back (fit asked) corners c.requires.taken c.requires.goal c.in_ok-points.points
     c.in_ok-way.way.points c.in_ok-way.way.cost c.in_ok-way.ensures
     (c.in_ok-points.ensures ∙ ap corners c.as_slice.ensures) in
     record {
       run = run;
-      least = found_least grid g.K.Meant.boxes c.args.ends.to c.requires.boxes c.args.ends.from c.in_ok-points.points
+      least = found_least grid g.K.Meant.boxes c.args.ends.to c.requires.boxes c.args.ends.from
+          c.in_ok-points.points
           c.in_ok-way.way.cost c.args.taken c.requires.from run;
       taken = refl;
     }

@@ -28,9 +28,11 @@ advance-requires-clause-boxes g c = λ n read.
     let free : is_free grid c.cell-in-taking.result ≡ true =
     ap (λ (u : Cell). is_free grid u) c.cell-in-taking.ensures
     ∙ taken_free (boxed_asked grid g.K.Meant.boxes c.args.ends.from c.args.ends.to c.begin.ensures.whole
-    c.requires.from c.requires.to) c.taking.invariant.taken c.node-in-taking.result c.node-in-taking.ensures in
+    c.requires.from c.requires.to) c.taking.invariant.taken c.node-in-taking.result
+    c.node-in-taking.ensures in
     let same : c.cell-in-taking.result ≡ node_cell n = c.cell-in-taking.ensures
-    ∙ ap (λ (m : Node). node_cell m) (some_node c.node-in-taking.result n (sym c.node-in-taking.ensures ∙ read)) in
+    ∙ ap (λ (m : Node). node_cell m)
+    (some_node c.node-in-taking.result n (sym c.node-in-taking.ensures ∙ read)) in
     subst (λ (u : Cell). Agree c.in_ok-boxes.boxes g.K.Meant.boxes u) same
     (agree grid g.K.Meant.boxes c.requires.boxes c.cell-in-taking.result free
     c.in_ok-boxes.boxes c.in_ok-boxes.ensures.boxes)
@@ -39,7 +41,8 @@ pub taking-smaller : goal.taking-smaller
 taking-smaller g c =
     let grid = g.T.Terrain.grid c.args.t.now in
     let b = g.K.Meant.boxes in
-    let taken = subst (λ (o : Option ℕ). GoesOn grid b c.args.ends.from c.args.ends.to c.advance.new.space.table
+    let taken =
+    subst (λ (o : Option ℕ). GoesOn grid b c.args.ends.from c.args.ends.to c.advance.new.space.table
     c.advance.new.taken o) c.in-Some.is c.in_ok-next.ensures.goes_on in
     let asked = boxed_asked grid b c.args.ends.from c.args.ends.to c.begin.ensures.whole c.requires.from
     c.requires.to in

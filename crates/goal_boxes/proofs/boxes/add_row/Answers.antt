@@ -10,7 +10,8 @@ loop-x-preserved g c =
     let grid = g.T.Terrain.grid c.args.t.now in
     let n : ℕ = c.args.y * grid.width + c.loop-x.x in
     let u : Cell = record { x = c.loop-x.x; y = c.args.y } in
-    let on : c.loop-x.x < grid.width = subst (λ (m : ℕ). c.loop-x.x < m) c.width-x-end.ensures.is c.loop-x-test.true in
+    let on : c.loop-x.x < grid.width =
+    subst (λ (m : ℕ). c.loop-x.x < m) c.width-x-end.ensures.is c.loop-x-test.true in
     let more : AreBefore grid c.push_item.new.items.items (n + 1) =
     subst (λ (bs : List CellBoxes). AreBefore grid bs (n + 1)) (sym c.in_ok-push_item.ensures.pushed)
     (one_before grid c.loop-x.cells.items n u c.in_ok-boxes.boxes on refl c.in_ok-boxes.ensures.boxes

@@ -8,9 +8,11 @@ pub offer_in-requires-clause-may : goal.offer_in-requires-clause-may
 offer_in-requires-clause-may g c =
     let grid = g.T.Terrain.grid c.args.t.now in
     let n = c.node-node.result in
-    subst (λ (r : ℕ). MayOffer grid g.K.Meant.boxes c.args.goal c.args.at n.key r c.cell.result c.args.space.now)
+    subst (λ (r : ℕ). MayOffer grid g.K.Meant.boxes c.args.goal c.args.at n.key r c.cell.result
+    c.args.space.now)
     (sym c.cost_rank.ensures)
-    (subst (λ (u : Cell). MayOffer grid g.K.Meant.boxes c.args.goal c.args.at n.key (rank_left c.args.goal n) u
+    (subst (λ (u : Cell). MayOffer grid g.K.Meant.boxes c.args.goal c.args.at n.key (rank_left c.args.goal n)
+    u
     c.args.space.now) (sym c.cell.ensures) (c.requires.may n c.node-node.ensures).may)
 
 pub offer_in-requires-clause-boxes : goal.offer_in-requires-clause-boxes

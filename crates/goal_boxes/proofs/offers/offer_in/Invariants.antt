@@ -9,7 +9,9 @@ invariant-loop-d g l = record {
   shape : KeepsShape l.initial.space l.space;
   closed : ClosedBelow l.from.key l.space.table;
   spare : length l.dirs ≤ l.space.spare + l.d-index;
-  table : all_offered (g.T.Terrain.grid l.t) g.K.Meant.boxes l.from.goal l.from.id l.from.rank l.from.cell l.dirs
-      l.initial.space.table ≡ all_offered (g.T.Terrain.grid l.t) g.K.Meant.boxes l.from.goal l.from.id l.from.rank l.from.cell
+  table : all_offered (g.T.Terrain.grid l.t) g.K.Meant.boxes l.from.goal l.from.id l.from.rank
+      l.from.cell l.dirs
+      l.initial.space.table ≡ all_offered (g.T.Terrain.grid l.t) g.K.Meant.boxes l.from.goal l.from.id
+      l.from.rank l.from.cell
       (drop l.d-index l.dirs) l.space.table;
 }

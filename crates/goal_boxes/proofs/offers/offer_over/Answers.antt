@@ -13,6 +13,7 @@ offer_by_cell-requires-clause-placed g c =
 pub returns-in-Some-clause-closed : goal.returns-in-Some-clause-closed
 returns-in-Some-clause-closed g c =
     subst (λ (k : Table). ClosedBelow c.args.from.key k) (sym c.offer_by_cell.ensures.table)
-    (closed_stays c.args.space.now.layout c.args.from.goal c.offer_to.result c.args.space.now.table c.args.from.key
+    (closed_stays c.args.space.now.layout c.args.from.goal c.offer_to.result c.args.space.now.table
+    c.args.from.key
     c.requires.closed (subst (λ (o : Offer). c.args.from.key ≤ (node_for c.args.from.goal o).key)
     (sym c.offer_to.ensures.value) (c.requires.may c.in-Some.v c.in-Some.is).1))

@@ -6,8 +6,8 @@ use Rattle.grid_answers.proofs.costs.costs_at.Goals as goal
 
 pub returns-in_default : goal.returns-in_default
 returns-in_default c =
-    one-line c.args.layers.now (record { x = c.args.x; y = c.args.y }) c.in_ok-line.line _ c.in_ok-line.ensures.items
-    (outside c.in_default.ensures)
+    one-line c.args.layers.now (record { x = c.args.x; y = c.args.y }) c.in_ok-line.line _
+    c.in_ok-line.ensures.items (outside c.in_default.ensures)
 
 pub returns-then-not-is_free_ground : goal.returns-then-not-is_free_ground
 returns-then-not-is_free_ground c =

@@ -26,7 +26,8 @@ returns-in_err-send_piece-clause-sent g c =
     c.from_residual.ensures.1
     (subst (λ n. StopsSo (write_stops (WroteSome mid now (flat_map entry_bytes (take n (drop done entries)))))
     c.in_err-send_piece.field-0.0) (as_many done count) c.in_err-send_piece.ensures.sent)
-    (only_write (λ w. part_failed before mid now text piece (flat_map entry_bytes (drop (done + count) entries))
+    (only_write
+    (λ w. part_failed before mid now text piece (flat_map entry_bytes (drop (done + count) entries))
     (subst (λ (l : List ℕ). IsWritten before mid text l) (entries_split entries done count)
     c.loop-done.invariant.written) w))
 

@@ -18,7 +18,8 @@ returns-in_err-send_entries g c =
     c.from_residual-in_err-send_entries.result c.in_err-send_entries.field-0.0
     c.from_residual-in_err-send_entries.ensures.1 c.in_err-send_entries.ensures.sent
     (only_write (λ w. part_failed before mid now text land water
-    (part_written before before mid text c.args.head.now (land ++ water) (begun before text) c.in_ok-send.ensures.sent
+    (part_written before before mid text c.args.head.now (land ++ water) (begun before text)
+    c.in_ok-send.ensures.sent
     c.in_ok-send.ensures.later) w))
 
 pub returns : goal.returns
@@ -31,9 +32,10 @@ returns g c =
     let water = flat_map entry_bytes c.args.water.now in
     let text = c.args.head.now ++ (land ++ water) in
     let behind = part_written before mid at text land water
-    (part_written before before mid text c.args.head.now (land ++ water) (begun before text) c.in_ok-send.ensures.sent
+    (part_written before before mid text c.args.head.now (land ++ water) (begun before text)
+    c.in_ok-send.ensures.sent
     c.in_ok-send.ensures.later) c.in_ok-send_entries.ensures.sent c.in_ok-send_entries.ensures.later in
-    ends-on (λ done. Wrote at now water) (λ done. Wrote before now text) (write_stops (WroteSome at now water))
-    (write_stops (WroteSome before now text)) c.send_entries-2.result
+    ends-on (λ done. Wrote at now water) (λ done. Wrote before now text)
+    (write_stops (WroteSome at now water)) (write_stops (WroteSome before now text)) c.send_entries-2.result
     (λ x w. last_written before at now text water behind w)
     (only_write (λ w. last_failed before at now text water behind w)) c.send_entries-2.ensures.sent

@@ -73,5 +73,5 @@ returns g c =
       c.entries-land.ensures.entries,
       c.entries-water.ensures.entries,
     ) refl in
-    all_sent file c.width.ensures.whole c.entries-water.ensures.whole sent is (g.O.Sink.outflow c.args.out.now)
-    (g.O.Sink.outflow c.send_parts.new.out) c.in_ok-send_parts.ensures
+    all_sent file c.width.ensures.whole c.entries-water.ensures.whole sent is
+    (g.O.Sink.outflow c.args.out.now) (g.O.Sink.outflow c.send_parts.new.out) c.in_ok-send_parts.ensures

@@ -19,5 +19,5 @@ returns-then-not-is_free_ground c =
 
 pub returns : goal.returns
 returns c =
-    if_same c.moves_from.result (IsRunText c.args.layers.now) c.in-Some.from (record { x = c.args.x; y = c.args.y })
-    c.in-Some.ensures.0 c.moves_from.ensures
+    if_same c.moves_from.result (IsRunText c.args.layers.now) c.in-Some.from
+    (record { x = c.args.x; y = c.args.y }) c.in-Some.ensures.0 c.moves_from.ensures

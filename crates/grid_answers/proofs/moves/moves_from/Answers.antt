@@ -3,8 +3,8 @@ use Rattle.grid_answers.proofs.moves.moves_from.Goals as goal
 
 pub of-requires-clause-few : goal.of-requires-clause-few
 of-requires-clause-few c =
-    few-cells c.args.layers.now c.args.from c.query_grid-grid.result.now c.query_grid-grid.ensures c.requires.land
-    c.requires.water
+    few-cells c.args.layers.now c.args.from c.query_grid-grid.result.now c.query_grid-grid.ensures
+    c.requires.land c.requires.water
 
 pub returns : goal.returns
 returns c =

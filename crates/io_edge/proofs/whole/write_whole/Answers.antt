@@ -7,7 +7,8 @@ pub loop-count-preserved : goal.loop-count-preserved
 loop-count-preserved g c =
     let bytes = c.args.bytes.now in
     let count = c.loop-count.count in
-    let rest : take (length bytes - count) (drop count bytes) ≡ drop count bytes = grind (arith, common_steps) in
+    let rest : take (length bytes - count) (drop count bytes) ≡ drop count bytes =
+    grind (arith, common_steps) in
     let back = rw rest at c.in-Ok.ensures.bytes in
     record {
       below = grind (arith, common_steps, c.in-Ok.ensures.bound);

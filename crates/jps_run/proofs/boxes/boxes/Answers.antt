@@ -22,7 +22,8 @@ returns-clause-opened g c =
         can = tt;
         right = text-right (call_with (Boxes map x y) set) (r.text ∷ []) text 0
             (boxed map r.text x y set r.spelled.map text r.spelled.spelled
-            (subst (λ (ls : Layers). IsBoxText ls (record { x = x; y = y }) text) r.spelled.is.layers c.in_ok-text.ensures))
+            (subst (λ (ls : Layers). IsBoxText ls (record { x = x; y = y }) text) r.spelled.is.layers
+            c.in_ok-text.ensures))
             (omega arith);
         counted = λ old new rose. inl refl;
       };

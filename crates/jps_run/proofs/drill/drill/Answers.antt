@@ -13,8 +13,12 @@ returns c =
     = subst (λ (m : Map). IsSessionOn c.args.settings m c.in_ok-session.session) c.in_ok-map.ensures
     c.in_ok-session.ensures in
     record {
-      can = (few-commands c.args.seed c.in_ok-commands.commands.items c.in_ok-commands.ensures, c.new.ensures);
-      right = drill-right c.args.settings c.args.seed _ c.in_ok-commands.commands.items begun c.in_ok-commands.ensures;
+      can = (
+        few-commands c.args.seed c.in_ok-commands.commands.items c.in_ok-commands.ensures,
+        c.new.ensures,
+      );
+      right = drill-right c.args.settings c.args.seed _ c.in_ok-commands.commands.items begun
+          c.in_ok-commands.ensures;
       counted = λ old new rose. inr (drill-counted c.args.settings c.args.seed c.in_ok-session.session
           c.in_ok-commands.commands.items old new begun c.in_ok-commands.ensures rose);
     }

@@ -22,7 +22,8 @@ returns-clause-opened g c =
         can = tt;
         right = text-right (call_with (Prove map e.sx e.sy e.gx e.gy) set) (r.text ∷ []) p.text.items p.status
             (proved map r.text e.sx e.sy e.gx e.gy set r.spelled.map p.text.items p.status r.spelled.spelled
-            (subst (λ (ls : Layers). IsProof ls (record { x = e.sx; y = e.sy }) (record { x = e.gx; y = e.gy })
+            (subst (λ (ls : Layers). IsProof ls (record { x = e.sx; y = e.sy })
+            (record { x = e.gx; y = e.gy })
             p.text.items p.status) r.spelled.is c.in_ok-text.ensures))
             (small_proof c.in_ok-layers.layers (record { x = e.sx; y = e.sy }) (record { x = e.gx; y = e.gy })
             p.text.items p.status c.in_ok-text.ensures);

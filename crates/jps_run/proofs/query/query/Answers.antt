@@ -34,7 +34,8 @@ returns-clause-opened g c =
                   (subst (λ (who : Who). IsReplyLine who set.show (record { x = e.sx; y = e.sy })
                   (record { x = e.gx; y = e.gy }) w.1.line) is w.1.is))),
             );
-        counted = λ old new rose. inr (query-counted map r.text tables r.loaded e.sx e.sy e.gx e.gy set r.is.map
+        counted =
+            λ old new rose. inr (query-counted map r.text tables r.loaded e.sx e.sy e.gx e.gy set r.is.map
             (who_from c.in_ok-basis.basis) old new r.is.spelled is (work.counted old new rose));
       };
     }

@@ -7,7 +7,8 @@ use Rattle.jps_run.proofs.query_work.by_moves.Goals as goal
 
 pub line_of-requires-clause-unfolds : goal.line_of-requires-clause-unfolds
 line_of-requires-clause-unfolds c =
-    replied_unfolds (record { layers = c.args.layers.now; by = by_moves }) _ _ c.in_ok-reply.reply c.in_ok-reply.ensures
+    replied_unfolds (record { layers = c.args.layers.now; by = by_moves }) _ _ c.in_ok-reply.reply
+    c.in_ok-reply.ensures
 
 pub returns : goal.returns
 returns c = record {
@@ -16,13 +17,15 @@ returns c = record {
     w.1,
     record {
       line = c.in_ok-text.text.items;
-      is = told-line (record { layers = c.args.layers.now; by = by_moves }) c.args.show _ _ c.in_ok-reply.reply
+      is = told-line (record { layers = c.args.layers.now; by = by_moves }) c.args.show _ _
+          c.in_ok-reply.reply
           c.width.result c.in_ok-text.text.items c.in_ok-reply.ensures
           (c.width.ensures.is ∙ ap (λ (g : GridData). g.width) c.land.ensures) c.in_ok-text.ensures;
       all = w.0;
     },
   );
   counted = λ old new rose.
-      told-rose (record { layers = c.args.layers.now; by = by_moves }) _ _ c.in_ok-reply.reply old new c.in_ok-reply.ensures
+      told-rose (record { layers = c.args.layers.now; by = by_moves }) _ _ c.in_ok-reply.reply old new
+      c.in_ok-reply.ensures
       refl refl rose;
 }

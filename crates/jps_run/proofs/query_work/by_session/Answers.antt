@@ -14,7 +14,8 @@ returns c =
       right = λ lines status w. (
         w.good,
         one-line d c.args.show e.sx e.sy e.gx e.gy lines
-            (subst (λ (all : List Command). AreAnswers d c.args.show all lines) c.in_ok-commands.ensures w.answers),
+            (subst (λ (all : List Command). AreAnswers d c.args.show all lines) c.in_ok-commands.ensures
+            w.answers),
       );
       counted = λ old new rose. one-rose d c.args.show e.sx e.sy e.gx e.gy old new
           (subst (λ (all : List Command). RoseForCommands d all old new) c.in_ok-commands.ensures rose);

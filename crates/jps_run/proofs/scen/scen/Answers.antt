@@ -33,11 +33,13 @@ returns-clause-opened g c =
           subst (λ n. n ≤ 1) (sym w.same_status) (small_status w.rows),
           subst (λ (n : ℕ). IsAnswered call texts lines n) (sym w.same_status)
               (subst (λ (all : List (List ℕ)). IsAnswered call texts all (scen_status w.rows)) (sym w.all)
-              (judged map name r.text r.more tables r.loaded set r.is.map entries w.rows r.is.spelled r.spelled_more.0
+              (judged map name r.text r.more tables r.loaded set r.is.map entries w.rows r.is.spelled
+              r.spelled_more.0
               (subst (λ (by : Who). AreRows by entries w.rows) is w.are))),
         );
         counted = λ old new rose. inr
-            (scen-counted map name r.text r.more tables r.loaded set r.is.map (who_of answerer) entries old new r.is.spelled
+            (scen-counted map name r.text r.more tables r.loaded set r.is.map (who_of answerer) entries old
+            new r.is.spelled
             r.spelled_more.0 is rose);
       };
     }

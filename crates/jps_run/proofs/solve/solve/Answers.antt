@@ -32,7 +32,8 @@ returns-clause-opened g c =
         can = tt;
         right = solved-right (call_with (Solve map tables script) set) texts
             (record { session = session; show = set.show }) commands (λ lines a.
-            solved map script r.text r.more tables r.loaded set r.is.map commands lines r.is.spelled r.spelled_more
+            solved map script r.text r.more tables r.loaded set r.is.map commands lines r.is.spelled
+            r.spelled_more
             (record { session = session; is = on; known = a }));
         counted = λ old new rose. inr
             (solve-counted map script r.text r.more tables r.loaded set session commands commands old new

@@ -53,7 +53,8 @@ returns-clause-opened g c =
       accepted = (r.accepted, tt);
       is = record {
         can = c.in_ok-file.ensures.room;
-        right = encoded-right set r.spelled.map c.in_ok-layers.layers r.spelled.is c.in_ok-file.file c.in_ok-file.ensures.land
+        right = encoded-right set r.spelled.map c.in_ok-layers.layers r.spelled.is c.in_ok-file.file
+            c.in_ok-file.ensures.land
             c.in_ok-file.ensures.water c.in_ok-file.ensures.corner c.args.map.now r.text r.spelled.spelled;
         counted = λ old new rose. inl refl;
       };

@@ -36,7 +36,8 @@ returns-in-Version-clause-opened g c =
       is = record {
         can = tt;
         right = text-right (call_with Version set) [] text.now 0
-            (subst (λ (t : List ℕ). IsAnswered (call_with Version set) [] (t ∷ []) 0) (sym c.version_text.ensures)
+            (subst (λ (t : List ℕ). IsAnswered (call_with Version set) [] (t ∷ []) 0)
+            (sym c.version_text.ensures)
             (version set)) (omega arith);
         counted = λ old new rose. inl refl;
       };

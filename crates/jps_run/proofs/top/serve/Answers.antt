@@ -28,21 +28,28 @@ returns-in-Work-clause-served g c =
 
 pub returns-in-Work-clause-counted : goal.returns-in-Work-clause-counted
 returns-in-Work-clause-counted g c = on_ok c.perform.result (λ rose.
-    work-counted (called c.args.request c.args.settings) (g.F.Files.disk c.args.files.now).holds c.in-Work.work
-    (g.I.Source.inflow c.args.input.now).left c.args.steps.now c.perform.new.steps (subst (λ (o : Opened). IsOpenedAs (called c.args.request c.args.settings) (g.F.Files.disk c.args.files.now).holds o)
+    work-counted (called c.args.request c.args.settings) (g.F.Files.disk c.args.files.now).holds
+    c.in-Work.work
+    (g.I.Source.inflow c.args.input.now).left c.args.steps.now c.perform.new.steps
+    (subst (λ (o : Opened). IsOpenedAs (called c.args.request c.args.settings)
+    (g.F.Files.disk c.args.files.now).holds o)
     c.in-Work.is c.in_ok-opened.ensures.opened) rose)
     c.perform.ensures.counted
 
 pub returns-in-Listener-clause-counted : goal.returns-in-Listener-clause-counted
 returns-in-Listener-clause-counted g c = on_ok c.hear.result (λ rose.
-    heard (on-live (called c.args.request c.args.settings) (g.F.Files.disk c.args.files.now).holds c.in-Listener.job
-    (subst (λ (o : Opened). IsOpenedAs (called c.args.request c.args.settings) (g.F.Files.disk c.args.files.now).holds o)
+    heard (on-live (called c.args.request c.args.settings) (g.F.Files.disk c.args.files.now).holds
+    c.in-Listener.job
+    (subst (λ (o : Opened). IsOpenedAs (called c.args.request c.args.settings)
+    (g.F.Files.disk c.args.files.now).holds o)
     c.in-Listener.is c.in_ok-opened.ensures.opened)
     (λ d show. RoseHeard d (g.I.Source.inflow c.args.input.now).left c.args.steps.now c.hear.new.steps) rose))
     c.hear.ensures.rose
 
 pub returns-in-Listener-clause-input_stays : goal.returns-in-Listener-clause-input_stays
 returns-in-Listener-clause-input_stays g c = λ not. absurd
-    (not (may-hear (called c.args.request c.args.settings) (g.F.Files.disk c.args.files.now).holds c.in-Listener.job
-    (subst (λ (o : Opened). IsOpenedAs (called c.args.request c.args.settings) (g.F.Files.disk c.args.files.now).holds o)
+    (not (may-hear (called c.args.request c.args.settings) (g.F.Files.disk c.args.files.now).holds
+    c.in-Listener.job
+    (subst (λ (o : Opened). IsOpenedAs (called c.args.request c.args.settings)
+    (g.F.Files.disk c.args.files.now).holds o)
     c.in-Listener.is c.in_ok-opened.ensures.opened)))

@@ -14,10 +14,12 @@ returns-clause-halts c = λ free line near.
     c.args.near) from (words_trail free c.args.way line c.args.from c.args.from c.args.near near) in
     let are = c.begun-words.ensures (trail_on free c.args.way line c.args.from) c.args.way base own in
     c.halt_at.ensures (begun c.args.rule (trail_on free c.args.way line c.args.from)) 0
-    (subst (λ (f : ℕ). IsFound (begun c.args.rule (trail_on free c.args.way line c.args.from)) c.args.way f base 0
+    (subst (λ (f : ℕ). IsFound (begun c.args.rule (trail_on free c.args.way line c.args.from))
+    c.args.way f base 0
     c.begun-words.result.middle (bit_and c.halts.result c.past.result)) (sym from)
     (word_found (trail_on free c.args.way line c.args.from) c.args.rule c.args.way base place
-    (bit_and c.halts.result c.past.result) c.halts.result c.past.result c.begun-words.result _ (omega arith) are
+    (bit_and c.halts.result c.past.result) c.halts.result c.past.result c.begun-words.result _
+    (omega arith) are
     c.halts.ensures c.past.ensures refl))
 
 pub returns-then-found-eq0-clause-clear : goal.returns-then-found-eq0-clause-clear
@@ -31,5 +33,6 @@ returns-then-found-eq0-clause-clear c = λ none free line near.
     subst (λ (f : ℕ). IsClear (begun c.args.rule (trail_on free c.args.way line c.args.from))
     (moves_before c.args.way f (far c.args.way base))) (sym from)
     (word_clear (trail_on free c.args.way line c.args.from) c.args.rule c.args.way base place
-    (bit_and c.halts.result c.past.result) c.halts.result c.past.result c.begun-words.result _ (omega arith) are
+    (bit_and c.halts.result c.past.result) c.halts.result c.past.result c.begun-words.result _
+    (omega arith) are
     c.halts.ensures c.past.ensures refl c.if-found-eq0.true)

@@ -8,7 +8,9 @@ pub returns-clause-halts : goal.returns-clause-halts
 returns-clause-halts g c = λ free start is clear.
     c.halt_at.ensures (begun c.args.rule (trail_on free c.args.way c.args.line c.args.from))
     (moves_before c.args.way c.args.from (near c.args.way (c.next_word-next.result * 64)))
-    (next_found free c.args.way c.args.rule c.args.line c.args.from c.next_word-next.result _ c.halts-found.result
+    (next_found free c.args.way c.args.rule c.args.line c.args.from c.next_word-next.result _
+    c.halts-found.result
     c.args.near c.begun.result c.words_beside-words.result is c.begun.ensures
     (c.words_beside-words.ensures.beside start.count start.positions free start.shows)
-    (c.has_next_word.ensures c.if-not-has_next_word.false) c.next_word-next.ensures c.halts-found.ensures clear)
+    (c.has_next_word.ensures c.if-not-has_next_word.false) c.next_word-next.ensures
+    c.halts-found.ensures clear)

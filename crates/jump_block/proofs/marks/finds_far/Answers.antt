@@ -6,5 +6,6 @@ use Rattle.jump_block.proofs.marks.finds_far.Goals as goal
 
 pub returns-clause-finds : goal.returns-clause-finds
 returns-clause-finds g c = λ free start.
-    subst (λ (w : Way). MeetsMark (begun c.args.rule (trail_on free w c.args.line c.args.place)) c.is_mark.result)
+    subst (λ (w : Way). MeetsMark (begun c.args.rule (trail_on free w c.args.line c.args.place))
+    c.is_mark.result)
     c.way_of.ensures (c.is_mark.ensures _ (c.scan.ensures.finds free start))

@@ -22,7 +22,8 @@ finds_next-requires-in-Back-clause-clear g c = λ free start.
 
 pub returns-in-Forward-clause-finds : goal.returns-in-Forward-clause-finds
 returns-in-Forward-clause-finds g c = λ free start.
-    subst (λ (w : Way). MeetsMark (begun c.args.rule (trail_on free w c.args.line c.args.place)) c.finds_next.result)
+    subst (λ (w : Way). MeetsMark (begun c.args.rule (trail_on free w c.args.line c.args.place))
+    c.finds_next.result)
     (sym c.in-Forward.is) (c.finds_next.ensures.finds free start)
 
 pub returns-in-Back-clause-finds : goal.returns-in-Back-clause-finds

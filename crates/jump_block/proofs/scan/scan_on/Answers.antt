@@ -2,7 +2,9 @@ use Rattle.std.proofs.Common.{◌≡◌, ℕ, ◌*◌, ◌+◌, arith, ap, sym, 
 use Rattle.std.specs.Prelude.{nat_lt, nat_le}
 use Rattle.jump_block.specs.Trail.{Trail, begun, trail_on}
 use Rattle.jump_block.specs.Word.{moves_before, edge_before}
-use Rattle.jump_block.proofs.Scans.{goes_on, block_ahead, first_distance, first_on_way, fewer_left, ahead_next, passed_next, read_next, goal_next, most_next, met, not_met, start_inside}
+use Rattle.jump_block.proofs.Scans.{goes_on, block_ahead, first_distance, first_on_way, fewer_left}
+use Rattle.jump_block.proofs.Scans.{ahead_next, passed_next, read_next, goal_next, most_next, met, not_met}
+use Rattle.jump_block.proofs.Scans.{start_inside}
 use Rattle.jump_block.proofs.scan.scan_on.Goals as goal
 
 pub blocks-2-init : goal.blocks-2-init
@@ -19,25 +21,31 @@ blocks-2-init g c =
 pub next_block-index-requires : goal.next_block-index-requires
 next_block-index-requires g c =
     record {
-      more = (goes_on c.requires.starts.1 c.requires.short c.args.way c.args.rule c.blocks-2.index c.blocks-2.invariant.below
-          c.blocks-2.invariant.on_way (c.blocks-2.invariant.passed c.requires.starts.0 c.requires.starts.1).clear).0;
+      more = (goes_on c.requires.starts.1 c.requires.short c.args.way c.args.rule c.blocks-2.index
+          c.blocks-2.invariant.below
+          c.blocks-2.invariant.on_way
+          (c.blocks-2.invariant.passed c.requires.starts.0 c.requires.starts.1).clear).0;
     }
 
 pub read-block-requires-clause-index : goal.read-block-requires-clause-index
 read-block-requires-clause-index g c =
-    rw c.next_block-index.ensures (goes_on c.requires.starts.1 c.requires.short c.args.way c.args.rule c.blocks-2.index c.blocks-2.invariant.below
+    rw c.next_block-index.ensures (goes_on c.requires.starts.1 c.requires.short c.args.way c.args.rule
+    c.blocks-2.index c.blocks-2.invariant.below
     c.blocks-2.invariant.on_way (c.blocks-2.invariant.passed c.requires.starts.0 c.requires.starts.1).clear).1
 
 pub seek_whole-requires-clause-small : goal.seek_whole-requires-clause-small
 seek_whole-requires-clause-small g c =
-    let below = rw (← c.next_block-index.ensures) at (goes_on c.requires.starts.1 c.requires.short c.args.way c.args.rule c.blocks-2.index c.blocks-2.invariant.below
-    c.blocks-2.invariant.on_way (c.blocks-2.invariant.passed c.requires.starts.0 c.requires.starts.1).clear).1 in
+    let below = rw (← c.next_block-index.ensures) at (goes_on c.requires.starts.1 c.requires.short c.args.way
+    c.args.rule c.blocks-2.index c.blocks-2.invariant.below
+    c.blocks-2.invariant.on_way
+    (c.blocks-2.invariant.passed c.requires.starts.0 c.requires.starts.1).clear).1 in
     let few = c.requires.short in
     omega (arith, below, few)
 
 pub seek_whole-requires-clause-ahead : goal.seek_whole-requires-clause-ahead
 seek_whole-requires-clause-ahead g c =
-    let on = goes_on c.requires.starts.1 c.requires.short c.args.way c.args.rule c.blocks-2.index c.blocks-2.invariant.below
+    let on = goes_on c.requires.starts.1 c.requires.short c.args.way c.args.rule c.blocks-2.index
+    c.blocks-2.invariant.below
     c.blocks-2.invariant.on_way (c.blocks-2.invariant.passed c.requires.starts.0 c.requires.starts.1).clear in
     ahead_next c.args.way c.args.place c.blocks-2.index c.next_block-index.result
     c.next_block-index.ensures on.0 c.blocks-2.invariant.on_way
@@ -82,7 +90,8 @@ returns-in-Halted-clause-most g c =
 
 pub blocks-2-smaller : goal.blocks-2-smaller
 blocks-2-smaller g c =
-    let on = goes_on c.requires.starts.1 c.requires.short c.args.way c.args.rule c.blocks-2.index c.blocks-2.invariant.below
+    let on = goes_on c.requires.starts.1 c.requires.short c.args.way c.args.rule c.blocks-2.index
+    c.blocks-2.invariant.below
     c.blocks-2.invariant.on_way (c.blocks-2.invariant.passed c.requires.starts.0 c.requires.starts.1).clear in
     rw c.next_block-index.ensures (fewer_left c.args.way c.args.lines.now.blocks c.blocks-2.index
     c.blocks-2.invariant.below on.0)
@@ -93,7 +102,8 @@ blocks-2-preserved g c =
     (moves_before c.args.way c.args.place (edge_before c.args.way (c.blocks-2.index * 512) 8))) ≡ false =
     ap (λ (n : ℕ). nat_lt 0 c.args.to_goal && nat_le c.args.to_goal n)
     (sym c.moves_through.ensures) ∙ sym c.is_met.ensures ∙ c.blocks-2-test.true in
-    let on = goes_on c.requires.starts.1 c.requires.short c.args.way c.args.rule c.blocks-2.index c.blocks-2.invariant.below
+    let on = goes_on c.requires.starts.1 c.requires.short c.args.way c.args.rule c.blocks-2.index
+    c.blocks-2.invariant.below
     c.blocks-2.invariant.on_way (c.blocks-2.invariant.passed c.requires.starts.0 c.requires.starts.1).clear in
     record {
       below = rw c.next_block-index.ensures on.1;

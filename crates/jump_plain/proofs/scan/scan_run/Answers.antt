@@ -4,7 +4,8 @@ use Rattle.grid_moves.specs.Grid.{GridData}
 use Rattle.jump_plain.proofs.Forcing.{ahead_free}
 use Rattle.jump_plain.specs.Reach.{mark_ahead, reach_of}
 use Rattle.pruning.proofs.Lengths.{run_length-next, run_length-few}
-use Rattle.jump_plain.proofs.Scanning.{mark_ahead-near, reached_end, reached_mark, reached_next, sides_begun, sides_shut}
+use Rattle.jump_plain.proofs.Scanning.{mark_ahead-near, reached_end, reached_mark, reached_next, sides_begun}
+use Rattle.jump_plain.proofs.Scanning.{sides_shut}
 use Rattle.jump_plain.proofs.scan.scan_run.Goals as goal
 
 pub run-init : goal.run-init

@@ -1,5 +1,6 @@
 use Rattle.std.proofs.Common.{[]}
-use Rattle.line_work.proofs.Looping.{worked-none, worked-stops, closing-starved, closed, closing-stops, closing-ends}
+use Rattle.line_work.proofs.Looping.{worked-none, worked-stops, closing-starved, closed, closing-stops}
+use Rattle.line_work.proofs.Looping.{closing-ends}
 use Rattle.line_work.proofs.job.work_items.Goals as goal
 
 pub returns-in_err-work_more-clause-sent : goal.returns-in_err-work_more-clause-sent

@@ -1,5 +1,6 @@
 use Rattle.std.proofs.Common.{◌≡◌, ◌+◌, ◌-◌, ◌<◌, [], length, subst, arith}
-use Rattle.line_work.proofs.Looping.{counts-none, counts-more, counts-all, working-begun, working-more, working-on, working-starved, working-unwritten, working-done}
+use Rattle.line_work.proofs.Looping.{counts-none, counts-more, counts-all, working-begun, working-more}
+use Rattle.line_work.proofs.Looping.{working-on, working-starved, working-unwritten, working-done}
 use Rattle.line_work.proofs.Stopping.{if_ok}
 use Rattle.line_work.proofs.job.work_more.Goals as goal
 
@@ -19,7 +20,8 @@ answer-requires-clause-room g c = (
   subst (λ n. g.J.Job.has_room c.loop-item.job n)
       (let h : c.loop-item.item-index < length c.args.items.now = c.loop-item-test.true in
       let e : length c.args.items.now - c.loop-item.item-index
-      ≡ length c.args.items.now - (c.loop-item.item-index + 1) + 1 = omega arith in e) c.loop-item.invariant.room,
+      ≡ length c.args.items.now - (c.loop-item.item-index + 1) + 1 = omega arith in e)
+      c.loop-item.invariant.room,
 )
 
 pub returns-in_err-answer-clause-written : goal.returns-in_err-answer-clause-written
@@ -54,7 +56,8 @@ loop-item-preserved g c = record {
       (subst (λ n. g.J.Job.has_room c.loop-item.job n)
       (let h : c.loop-item.item-index < length c.args.items.now = c.loop-item-test.true in
       let e : length c.args.items.now - c.loop-item.item-index
-      ≡ length c.args.items.now - (c.loop-item.item-index + 1) + 1 = omega arith in e) c.loop-item.invariant.room);
+      ≡ length c.args.items.now - (c.loop-item.item-index + 1) + 1 = omega arith in e)
+      c.loop-item.invariant.room);
   counted = counts-more g.J.Job.has_counted c.args.job.now c.loop-item.job c.answer.new.self c.args.items.now
       c.loop-item.item-index c.item-item.result c.args.steps.now c.loop-item.steps c.answer.new.steps
       c.loop-item-test.true c.item-item.is c.loop-item.invariant.counted c.in_ok-answer.ensures.counted;

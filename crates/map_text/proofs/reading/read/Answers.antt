@@ -1,4 +1,5 @@
-use Rattle.std.proofs.Common.{◌≡◌, refl, ℕ, [], ◌∷◌, ◌++◌, ◌+◌, ◌≤◌, List, take, drop, ap, subst, sym, ◌∙◌, length, arith, Result, Ok}
+use Rattle.std.proofs.Common.{◌≡◌, refl, ℕ, [], ◌∷◌, ◌++◌, ◌+◌, ◌≤◌, List, take, drop, ap, subst, sym, ◌∙◌}
+use Rattle.std.proofs.Common.{length, arith, Result, Ok}
 use Rattle.std.specs.List.{concat}
 use Rattle.std.proofs.lemmas.List.{length_push}
 use Rattle.std.proofs.lemmas.Result.{err_from_is_err_and}
@@ -9,7 +10,8 @@ use Rattle.map_text.specs.declared.fault.MapFault.TheVariants.{After}
 use Rattle.map_text.specs.Map.{Map, IsMap}
 use Rattle.map_text.specs.Faults.{height_of, width_of}
 use Rattle.map_text.specs.Progress.{StandsAfterHeader}
-use Rattle.map_text.proofs.Body.{row_passed, row_added, row_wrong, empty_passed, other_wrong, all_clean, is_nothing_is}
+use Rattle.map_text.proofs.Body.{row_passed, row_added, row_wrong, empty_passed, other_wrong, all_clean}
+use Rattle.map_text.proofs.Body.{is_nothing_is}
 use Rattle.map_text.proofs.Clean.{clean_map}
 use Rattle.map_text.proofs.Spelled.{same_map}
 use Rattle.map_text.proofs.Laws.{broken_tells, map_of_broken, map_of_clean}

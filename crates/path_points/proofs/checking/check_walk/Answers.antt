@@ -4,7 +4,8 @@ use Rattle.root2_cost.specs.declared.Cost.{Cost}
 use Rattle.root2_cost.specs.Sums.{add_costs}
 use Rattle.grid_moves.specs.declared.Cell.{Cell}
 use Rattle.path_points.specs.Checked.{most_steps, starts_free}
-use Rattle.path_points.proofs.Checks.{bad_at, steps_of, checked_from, good_few, checked_off, checked_on, checked_end, good_none, good_some, verdict_at_start, verdict_of}
+use Rattle.path_points.proofs.Checks.{bad_at, steps_of, checked_from, good_few, checked_off, checked_on}
+use Rattle.path_points.proofs.Checks.{checked_end, good_none, good_some, verdict_at_start, verdict_of}
 use Rattle.path_points.proofs.checking.check_walk.Goals as goal
 
 pub returns-then-not-free : goal.returns-then-not-free

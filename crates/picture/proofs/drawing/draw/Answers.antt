@@ -3,7 +3,8 @@ use Rattle.std.specs.Prelude.{◌++◌}
 use Rattle.std.specs.Option.{option_map, option_copied}
 use Rattle.map_text.specs.Faults.{plain}
 use Rattle.map_text.specs.Writing.{text_of}
-use Rattle.picture.specs.Picture.{plain_walk, head_lines, ground_lines, taken_lines, walk_lines, end_lines, picture_of}
+use Rattle.picture.specs.Picture.{plain_walk, head_lines, ground_lines, taken_lines, walk_lines, end_lines}
+use Rattle.picture.specs.Picture.{picture_of}
 use Rattle.picture.proofs.Texts.{lines_then}
 use Rattle.picture.proofs.drawing.draw.Goals as goal
 

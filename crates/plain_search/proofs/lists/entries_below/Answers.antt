@@ -41,5 +41,6 @@ loop-id-preserved c =
           ++ cons_option o []) (sym w.in-Some.is ∙ made) ∙ sym more
       | in_default w ↦ ap (λ (v : Vec (Cell × Cost) _). v.items) w.entries-is ∙ c.loop-id.invariant
           ∙ sym (with_none c.args.goal c.args.limit c.node.result
-          (entries_below c.args.goal c.args.limit (take c.loop-id.id nodes)) (sym made ∙ w.in_default.is)) ∙ sym more
+          (entries_below c.args.goal c.args.limit (take c.loop-id.id nodes)) (sym made ∙ w.in_default.is))
+          ∙ sym more
     ]

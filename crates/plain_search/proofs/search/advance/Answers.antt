@@ -17,7 +17,8 @@ use Rattle.plain_search.proofs.search.advance.Goals as goal
 pub offer_all-requires-clause-may : goal.offer_all-requires-clause-may
 offer_all-requires-clause-may g c = λ n h.
     let grid = g.T.Terrain.grid c.args.t.now in
-    let asked = plain_asked grid c.args.ends.from c.args.ends.to c.requires.whole c.requires.free c.requires.to in
+    let asked = plain_asked grid c.args.ends.from c.args.ends.to c.requires.whole c.requires.free
+    c.requires.to in
     may_go_on asked c.requires.taken c.reserve.new.self c.reserve.ensures.table
     (ready_on {a = c.args.space.now} {b = c.reserve.new.self} grid c.requires.ready c.reserve.ensures.shape) n
     (ap (λ (l : Table). slice_get l.nodes c.args.at) (sym c.reserve.ensures.table) ∙ h)
@@ -31,8 +32,10 @@ node-requires g c =
 pub state_at-requires : goal.state_at-requires
 state_at-requires g c =
     let grid = g.T.Terrain.grid c.args.t.now in
-    let asked = plain_asked grid c.args.ends.from c.args.ends.to c.requires.whole c.requires.free c.requires.to in
-    let taken = subst (λ (l : Table). HasTaken grid c.args.ends.from c.args.ends.to c.args.at l c.args.taken.now)
+    let asked = plain_asked grid c.args.ends.from c.args.ends.to c.requires.whole c.requires.free
+    c.requires.to in
+    let taken =
+    subst (λ (l : Table). HasTaken grid c.args.ends.from c.args.ends.to c.args.at l c.args.taken.now)
     (sym c.reserve.ensures.table) c.requires.taken in
     let read = ap (λ (ns : List Node). slice_get ns c.in-Some.next) (sym c.take_next.ensures.nodes)
     ∙ c.node.ensures in
@@ -45,8 +48,10 @@ state_at-requires g c =
 pub returns-in-None-clause-goes_on : goal.returns-in-None-clause-goes_on
 returns-in-None-clause-goes_on g c =
     let grid = g.T.Terrain.grid c.args.t.now in
-    let asked = plain_asked grid c.args.ends.from c.args.ends.to c.requires.whole c.requires.free c.requires.to in
-    let taken = subst (λ (l : Table). HasTaken grid c.args.ends.from c.args.ends.to c.args.at l c.args.taken.now)
+    let asked = plain_asked grid c.args.ends.from c.args.ends.to c.requires.whole c.requires.free
+    c.requires.to in
+    let taken =
+    subst (λ (l : Table). HasTaken grid c.args.ends.from c.args.ends.to c.args.at l c.args.taken.now)
     (sym c.reserve.ensures.table) c.requires.taken in
     let offered = has_offered asked taken c.offer_all.new.space.table
     (λ n h. c.requires.open_ended n (ap (λ (l : Table). slice_get l.nodes c.args.at)
@@ -57,8 +62,10 @@ returns-in-None-clause-goes_on g c =
 pub returns-in_ok-push-in-Some-clause-goes_on : goal.returns-in_ok-push-in-Some-clause-goes_on
 returns-in_ok-push-in-Some-clause-goes_on g c =
     let grid = g.T.Terrain.grid c.args.t.now in
-    let asked = plain_asked grid c.args.ends.from c.args.ends.to c.requires.whole c.requires.free c.requires.to in
-    let taken = subst (λ (l : Table). HasTaken grid c.args.ends.from c.args.ends.to c.args.at l c.args.taken.now)
+    let asked = plain_asked grid c.args.ends.from c.args.ends.to c.requires.whole c.requires.free
+    c.requires.to in
+    let taken =
+    subst (λ (l : Table). HasTaken grid c.args.ends.from c.args.ends.to c.args.at l c.args.taken.now)
     (sym c.reserve.ensures.table) c.requires.taken in
     let read = ap (λ (ns : List Node). slice_get ns c.in-Some.next) (sym c.take_next.ensures.nodes)
     ∙ c.node.ensures in

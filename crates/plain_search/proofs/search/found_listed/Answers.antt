@@ -14,11 +14,13 @@ use Rattle.plain_search.proofs.search.found_listed.Goals as goal
 
 pub way_to-requires : goal.way_to-requires
 way_to-requires g c =
-    has_back (fit (plain_asked (g.T.Terrain.grid c.args.t.now) c.args.ends.from c.args.ends.to c.requires.whole
+    has_back
+    (fit (plain_asked (g.T.Terrain.grid c.args.t.now) c.args.ends.from c.args.ends.to c.requires.whole
     c.requires.from c.requires.to)) c.requires.taken
 
 pub node-limit-requires : goal.node-limit-requires
-node-limit-requires g c = slice_get_within c.args.space.now.table.nodes c.args.at c.requires.taken.searching.node
+node-limit-requires g c = slice_get_within c.args.space.now.table.nodes c.args.at
+    c.requires.taken.searching.node
     c.requires.taken.searching.node_is
 
 pub closed_cells-requires : goal.closed_cells-requires
@@ -29,7 +31,8 @@ closed_cells-requires g c =
 pub returns : goal.returns
 returns g c =
     let grid = g.T.Terrain.grid c.args.t.now in
-    let asked = plain_asked grid c.args.ends.from c.args.ends.to c.requires.whole c.requires.from c.requires.to in
+    let asked = plain_asked grid c.args.ends.from c.args.ends.to c.requires.whole c.requires.from
+    c.requires.to in
     let run = found_back (fit asked) corners c.requires.taken c.requires.goal c.in_ok-points.points
     c.in_ok-way.way.points c.in_ok-way.way.cost c.in_ok-way.ensures
     (c.in_ok-points.ensures ∙ ap corners c.as_slice.ensures) in

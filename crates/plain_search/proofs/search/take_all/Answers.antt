@@ -11,7 +11,8 @@ taking-smaller g c =
     let taken = subst (λ (o : Option ℕ). GoesOn grid c.args.ends.from c.args.ends.to c.advance.new.space.table
     c.advance.new.taken o) c.in-Some.is c.in_ok-next.ensures.goes_on in
     let most = taken_fits
-    (fit (plain_asked grid c.args.ends.from c.args.ends.to c.begin.ensures.whole c.requires.from c.requires.to))
+    (fit (plain_asked grid c.args.ends.from c.args.ends.to c.begin.ensures.whole c.requires.from
+    c.requires.to))
     taken in
     let more = subst (λ (o : Option ℕ). IfSome o
     (λ id. length c.advance.new.taken ≡ length c.taking.taken + 1)) c.in-Some.is

@@ -14,7 +14,8 @@ loop-n-init g c =
     let first = c.nth_row.ensures ∙ ap (λ (m : ℕ). nth_row h m 0) c.height.ensures.is in
     record {
       swept = c.requires.none;
-      kept = λ some. begun_by grid c.requires.whole rows _ c.requires.blank refl refl refl refl refl refl h some
+      kept = λ some. begun_by grid c.requires.whole rows _ c.requires.blank refl refl refl refl refl
+          refl h some
           (flags_as grid (nth_row h grid.height 0) c.read_row.new.row _
           (with_items_is rows.band.here c.read_row.new.row (omega arith))
           (subst (λ (m : ℕ). IsFlagRow grid m c.read_row.new.row) first c.read_row.ensures));

@@ -25,8 +25,8 @@ sweep_row-requires-clause-along g c =
     let begins : start ≡ y * grid.width * 8 = row_begins y c.width.result grid.width c.width.ensures.is in
     let same = λ (i : ℕ) (l : i < length old). ap (λ (es : List ℤ). number es i) c.deref_mut.ensures.value
     ∙ c.in_ok-make_room.ensures.kept i l in
-    along_right grid h n y start (start + wide - start) old all c.requires.inside at c.requires.swept same begins
-    (omega (arith, c.width.ensures.is))
+    along_right grid h n y start (start + wide - start) old all c.requires.inside at c.requires.swept
+    same begins (omega (arith, c.width.ensures.is))
 
 pub returns-clause-swept : goal.returns-clause-swept
 returns-clause-swept g c =
@@ -46,7 +46,8 @@ returns-clause-swept g c =
     let long = c.deref_mut.ensures.len in
     let room = c.in_ok-make_room.ensures.room in
     let now = put_mid start (start + wide - start) all c.sweep_row.new.row in
-    subst (λ (es : List ℤ). AreSwept grid h (n + 1) es) (sym (with_items_is c.make_room.new.entries now (omega arith)))
+    subst (λ (es : List ℤ). AreSwept grid h (n + 1) es)
+    (sym (with_items_is c.make_room.new.entries now (omega arith)))
     (swept_on grid h n y start (start + wide - start) old all c.sweep_row.new.row c.requires.inside at
     c.requires.swept same
     (λ l. let e = c.in_ok-make_room.ensures.grown (omega (arith, l)) in omega (arith, e, long))

@@ -28,7 +28,8 @@ returns-clause-swept g c =
     let told = c.tell.ensures.told h y behind.0 behind.1 in
     let line = lines_told grid h y c.tell.new.this c.bring_along.new.east c.bring_along.new.west told
     c.bring_along.ensures.0 c.bring_along.ensures.1 (omega arith) (omega arith) in
-    row_swept grid c.requires.whole h y (with_along c.tell.new.this c.bring_along.new.east c.bring_along.new.west)
+    row_swept grid c.requires.whole h y
+    (with_along c.tell.new.this c.bring_along.new.east c.bring_along.new.west)
     c.args.row.now c.lay.new.row line.0 line.1 c.requires.inside c.lay.ensures
 
 pub returns-clause-kept : goal.returns-clause-kept

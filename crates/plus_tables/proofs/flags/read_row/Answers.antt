@@ -7,5 +7,5 @@ pub returns : goal.returns
 returns g c =
     let grid : GridData = g.T.Terrain.grid c.args.t.now in
     row_read grid c.args.y (c.width.result + 1) c.args.row.now c.read_row.new.row
-    (omega (arith, c.width.ensures.is)) c.requires.long c.read_row.ensures.wide c.requires.first c.requires.last
-    c.read_row.ensures.flags
+    (omega (arith, c.width.ensures.is)) c.requires.long c.read_row.ensures.wide c.requires.first
+    c.requires.last c.read_row.ensures.flags

@@ -8,7 +8,8 @@ returns g c = λ y around.
     let grid : GridData = g.T.Terrain.grid c.args.t.now in
     along_row grid c.requires.whole y c.args.rows.ahead.now c.args.rows.here.now c.args.rows.behind.now
     c.force.new.forced c.along.new.out around c.args.d c.requires.along
-    (forced_row grid c.requires.whole y c.args.rows.ahead.now c.args.rows.here.now c.args.rows.behind.now around
+    (forced_row grid c.requires.whole y c.args.rows.ahead.now c.args.rows.here.now
+    c.args.rows.behind.now around
     c.args.d c.corner.result c.force.new.forced c.corner.ensures (omega (arith, c.requires.forced))
     c.force.ensures)
     (omega (arith, c.requires.out)) c.along.ensures

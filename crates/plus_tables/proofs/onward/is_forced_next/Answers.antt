@@ -8,7 +8,8 @@ use Rattle.plus_tables.proofs.onward.is_forced_next.Goals as goal
 pub of-requires-in-Never-2-clause-free : goal.of-requires-in-Never-2-clause-free
 of-requires-in-Never-2-clause-free g c =
     let grid : GridData = g.T.Terrain.grid c.args.t.now in
-    (legal_is grid c.args.at c.args.next (legal_leads grid c.args.at c.args.next c.args.d c.requires.legal).legal).target
+    (legal_is grid c.args.at c.args.next
+    (legal_leads grid c.args.at c.args.next c.args.d c.requires.legal).legal).target
 
 pub forced-requires : goal.forced-requires
 forced-requires g c =

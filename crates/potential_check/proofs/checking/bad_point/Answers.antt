@@ -2,9 +2,11 @@ use Rattle.std.proofs.Common.{◌≡◌, ◌∙◌, sym, false, Some, length, �
 use Rattle.grid_moves.specs.declared.Cell.{Cell}
 use Rattle.potential_check.specs.Accepted.{ends_at, is_cost}
 use Rattle.potential_check.specs.Judged.{JudgesWalk}
-use Rattle.potential_check.proofs.Walks.{and_false_left, and_false_right, judged_broken, judged_elsewhere, judged_other, judged_right}
+use Rattle.potential_check.proofs.Walks.{and_false_left, and_false_right, judged_broken, judged_elsewhere}
+use Rattle.potential_check.proofs.Walks.{judged_other, judged_right}
 use Rattle.potential_check.proofs.checking.bad_point.Goals as goal
-use Rattle.potential_check.proofs.checking.bad_point.Goals.{else-ends_at-via-then-ends_at+else-eq, else-ends_at-via-else-ends_at}
+use Rattle.potential_check.proofs.checking.bad_point.Goals.{else-ends_at-via-then-ends_at+else-eq}
+use Rattle.potential_check.proofs.checking.bad_point.Goals.{else-ends_at-via-else-ends_at}
 
 pub returns-then-not-begins_at : goal.returns-then-not-begins_at
 returns-then-not-begins_at c =

@@ -3,7 +3,8 @@ use Rattle.std.specs.Prelude.{None, Some, drop}
 use Rattle.text_line.specs.Numbers.{value_of}
 use Rattle.std.specs.Char.{is_ascii_digit}
 use Rattle.potential_check.specs.Forms.{number_ahead}
-use Rattle.potential_check.proofs.Leading.{digits_more, no_digit, number_read, too_many, value_fits, value_low, value_more}
+use Rattle.potential_check.proofs.Leading.{digits_more, no_digit, number_read, too_many, value_fits}
+use Rattle.potential_check.proofs.Leading.{value_low, value_more}
 use Rattle.potential_check.proofs.forms.digits_ahead.Goals as goal
 
 pub returns-then-count-eq0-clause-number : goal.returns-then-count-eq0-clause-number

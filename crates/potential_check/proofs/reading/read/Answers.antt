@@ -2,7 +2,8 @@ use Rattle.std.proofs.Common.{◌∙◌, ap, sym, subst, true, false}
 use Rattle.text_line.specs.Left.{Left}
 use Rattle.potential_check.specs.declared.fault.CertFault.TheVariants.{Line}
 use Rattle.potential_check.specs.Text.{AreShort, at_size, at_version}
-use Rattle.potential_check.proofs.LinesLeft.{reads_absent, reads_fault, reads_on, short_next, short_text, tells_on, text_read}
+use Rattle.potential_check.proofs.LinesLeft.{reads_absent, reads_fault, reads_on, short_next, short_text}
+use Rattle.potential_check.proofs.LinesLeft.{tells_on, text_read}
 use Rattle.potential_check.proofs.Listing.{line_number, version_fault, version_goes, version_test}
 use Rattle.potential_check.proofs.reading.read.Goals as goal
 

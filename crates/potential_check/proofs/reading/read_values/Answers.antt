@@ -8,8 +8,10 @@ use Rattle.potential_check.specs.declared.fault.CertFault.{CertFault}
 use Rattle.potential_check.specs.declared.fault.CertFault.TheVariants.{Line}
 use Rattle.potential_check.specs.Certificate.{cells_of, is_small, lies_inside}
 use Rattle.potential_check.specs.Text.{Plain, State, ended, in_values, next, read_left, step_fault}
-use Rattle.potential_check.proofs.LinesLeft.{ascend_to, ascend_to-pushed, reads_absent, reads_fault, reads_on, short_next, tells_on}
-use Rattle.potential_check.proofs.Listing.{cells_of-pushed, claim_is, end_is, err_tells, line_number, values_end, values_fault, values_goes, values_none}
+use Rattle.potential_check.proofs.LinesLeft.{ascend_to, ascend_to-pushed, reads_absent, reads_fault, reads_on}
+use Rattle.potential_check.proofs.LinesLeft.{short_next, tells_on}
+use Rattle.potential_check.proofs.Listing.{cells_of-pushed, claim_is, end_is, err_tells, line_number}
+use Rattle.potential_check.proofs.Listing.{values_end, values_fault, values_goes, values_none}
 use Rattle.potential_check.proofs.Words.{all_pushed}
 use Rattle.potential_check.proofs.reading.read_values.Goals as goal
 

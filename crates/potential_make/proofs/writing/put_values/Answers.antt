@@ -7,5 +7,6 @@ use Rattle.potential_make.proofs.writing.put_values.Goals as goal
 pub loop-entry-preserved : goal.loop-entry-preserved
 loop-entry-preserved c =
     let none : Cell × Cost = (record { x = 0; y = 0 }, record { a = 0; b = 0 }) in
-    texts-next value_text c.args.values.now c.loop-entry.entry-index none c.args.out.now.items c.loop-entry.out.items
+    texts-next value_text c.args.values.now c.loop-entry.entry-index none c.args.out.now.items
+    c.loop-entry.out.items
     c.put_value.new.out.items c.loop-entry-test.true c.loop-entry.invariant c.in_ok-put_value.ensures

@@ -14,7 +14,8 @@ loop-piece-init c =
 pub feed-requires : goal.feed-requires
 feed-requires c =
     subst (λ (l : List ℕ). c.loop-piece.feeder.taken + length l ≤ 2 ^ 26) (sym c.as_slice.ensures.value)
-    (piece-fits c.args.pieces.now c.loop-piece.piece-index c.piece-item.result c.loop-piece-test.true c.piece-item.is
+    (piece-fits c.args.pieces.now c.loop-piece.piece-index c.piece-item.result c.loop-piece-test.true
+    c.piece-item.is
     c.loop-piece.feeder.taken c.loop-piece.invariant.counted c.requires)
 
 pub returns-in_err-feed-clause-commands : goal.returns-in_err-feed-clause-commands

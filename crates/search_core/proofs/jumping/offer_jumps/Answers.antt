@@ -3,7 +3,8 @@ use Rattle.std.specs.List.{AllByRecursion}
 use Rattle.grid_moves.specs.declared.Dir.{Dir}
 use Rattle.pruning.specs.Allowed.{is_allowed}
 use Rattle.search_core.specs.Jumps.{come_to}
-use Rattle.search_core.proofs.Serving.{all_front, all_next, still_offering, at_first, at_next, at_last, has_one}
+use Rattle.search_core.proofs.Serving.{all_front, all_next, still_offering, at_first, at_next, at_last}
+use Rattle.search_core.proofs.Serving.{has_one}
 use Rattle.search_core.proofs.jumping.offer_jumps.Goals as goal
 
 pub jumps-init : goal.jumps-init
@@ -19,7 +20,8 @@ offer_jump-requires-clause-offering g c =
     let so = c.jumps.invariant.so_far in
     still_offering (g.J.JumpSource.StandsFor c.args.j.now) c.args.ends.from c.args.ends.to c.args.last so.done
     c.args.space.now c.jumps.space c.requires.offering
-    (λ x served. all_front (λ d. is_allowed x c.args.last.state.cell (come_to c.args.last.state.arrival) d ≡ true)
+    (λ x served. all_front (λ d. is_allowed x c.args.last.state.cell (come_to c.args.last.state.arrival) d
+    ≡ true)
     so.done c.jumps.left (subst (λ (ds : List Dir). AllByRecursion
     (λ d. is_allowed x c.args.last.state.cell (come_to c.args.last.state.arrival) d ≡ true) ds) so.parts
     (c.requires.allowed x served)))
@@ -36,8 +38,8 @@ offer_jump-requires-clause-allowed g c = λ x served.
 pub offer_jump-requires-clause-room : goal.offer_jump-requires-clause-room
 offer_jump-requires-clause-room g c =
     let so = c.jumps.invariant.so_far in
-    has_one c.args.dirs so.done c.jumps.left c.in-Some.s.others c.in-Some.s.first so.parts c.in-Some.ensures.some
-    c.args.space.now.spare c.jumps.space.spare c.requires.room so.room
+    has_one c.args.dirs so.done c.jumps.left c.in-Some.s.others c.in-Some.s.first so.parts
+    c.in-Some.ensures.some c.args.space.now.spare c.jumps.space.spare c.requires.room so.room
 
 pub jumps-preserved : goal.jumps-preserved
 jumps-preserved g c = record {

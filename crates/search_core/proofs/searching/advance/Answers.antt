@@ -2,7 +2,8 @@ use Rattle.std.proofs.Common.{◌∙◌, length, arith, ap, List}
 use Rattle.std.specs.Prelude.{slice_get}
 use Rattle.std.proofs.lemmas.Option.{slice_get_within}
 use Rattle.best_first.specs.declared.node.Node.{Node}
-use Rattle.search_core.proofs.Advancing.{counted_one, ranked, can_call, offering, each_allowed, few_allowed, ended, on_map, reached_on}
+use Rattle.search_core.proofs.Advancing.{counted_one, ranked, can_call, offering, each_allowed, few_allowed}
+use Rattle.search_core.proofs.Advancing.{ended, on_map, reached_on}
 use Rattle.search_core.proofs.searching.advance.Goals as goal
 
 pub last_at-last-requires-clause-ranked : goal.last_at-last-requires-clause-ranked

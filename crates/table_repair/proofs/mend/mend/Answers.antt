@@ -2,7 +2,8 @@
 use Rattle.std.proofs.Common.{arith, sym, ◌∙◌}
 use Rattle.table_repair.proofs.Lines.{behind_on-is}
 use Rattle.table_repair.proofs.Mends.{on_inside}
-use Rattle.table_repair.proofs.Walking.{walked_none, walk_stops, walk_goes_on, walk_ends, walk_short, rests_right, nothing_set}
+use Rattle.table_repair.proofs.Walking.{walked_none, walk_stops, walk_goes_on, walk_ends, walk_short}
+use Rattle.table_repair.proofs.Walking.{rests_right, nothing_set}
 use Rattle.table_repair.proofs.mend.mend.Goals as goal
 
 pub loop-before-init : goal.loop-before-init

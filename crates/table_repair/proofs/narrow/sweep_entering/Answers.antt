@@ -5,7 +5,8 @@ use Rattle.table_repair.proofs.Sweeping.{taken_told, none_taken}
 use Rattle.table_repair.proofs.Rows.{none_left}
 use Rattle.table_repair.proofs.Pieces.{row_on_map}
 use Rattle.table_repair.proofs.Abreast.{abreast_ends}
-use Rattle.table_repair.proofs.Entering.{row_below, enter_none, past_none, enter_right, enter_past, enter_next, enter_ends}
+use Rattle.table_repair.proofs.Entering.{row_below, enter_none, past_none, enter_right, enter_past}
+use Rattle.table_repair.proofs.Entering.{enter_next, enter_ends}
 use Rattle.table_repair.proofs.Totals.{later_on, few_entered, counted_entered}
 use Rattle.table_repair.proofs.narrow.sweep_entering.Goals as goal
 

@@ -3,7 +3,8 @@ use Rattle.std.proofs.Common.{arith, add-one, get_or}
 use Rattle.grid_moves.specs.declared.Dir.{Dir}
 use Rattle.grid_moves.specs.declared.Dir.TheVariants.{N}
 use Rattle.table_repair.specs.Mending.{is_in_reach}
-use Rattle.table_repair.proofs.Passes.{passed_more, listed_at, listed_take, listed_all, diagonal_ready, counted_pass}
+use Rattle.table_repair.proofs.Passes.{passed_more, listed_at, listed_take, listed_all, diagonal_ready}
+use Rattle.table_repair.proofs.Passes.{counted_pass}
 use Rattle.table_repair.proofs.Totals.{later_on}
 use Rattle.table_repair.proofs.repair.sweep_diagonals.Goals as goal
 

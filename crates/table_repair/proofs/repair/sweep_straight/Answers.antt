@@ -3,7 +3,8 @@ use Rattle.std.proofs.Common.{arith, add-one, get_or}
 use Rattle.grid_moves.specs.declared.Dir.{Dir}
 use Rattle.grid_moves.specs.declared.Dir.TheVariants.{N}
 use Rattle.table_repair.specs.Mending.{is_in}
-use Rattle.table_repair.proofs.Passes.{passed_more, listed_at, listed_take, listed_all, straight_ready, nothing_later, swept_right, counted_pass}
+use Rattle.table_repair.proofs.Passes.{passed_more, listed_at, listed_take, listed_all, straight_ready}
+use Rattle.table_repair.proofs.Passes.{nothing_later, swept_right, counted_pass}
 use Rattle.table_repair.proofs.Totals.{later_on}
 use Rattle.table_repair.proofs.repair.sweep_straight.Goals as goal
 

@@ -2,7 +2,8 @@
 use Rattle.std.proofs.Common.{arith, ap, ◌∙◌}
 use Rattle.arrayvec.specs.ArrayVec.{ArrayVec}
 use Rattle.table_repair.specs.declared.walks.Walk.{Walk}
-use Rattle.table_repair.proofs.Rounds.{round_begins, round_next, round_told, behind_told, fewer_told, walk_ready, walk_inside, walk_right, some_on, none_on}
+use Rattle.table_repair.proofs.Rounds.{round_begins, round_next, round_told, behind_told, fewer_told}
+use Rattle.table_repair.proofs.Rounds.{walk_ready, walk_inside, walk_right, some_on, none_on}
 use Rattle.table_repair.proofs.walks.lead_on.Goals as goal
 use Rattle.table_repair.proofs.walks.lead_on.Goals.{in-Some, in_default}
 

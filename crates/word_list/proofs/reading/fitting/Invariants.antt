@@ -7,5 +7,6 @@ use Rattle.word_list.proofs.reading.fitting.Given as goal
 abbrev pub invariant-loop-place : goal.invariant-loop-place
 invariant-loop-place l = record {
   within : l.place ≤ length l.words;
-  first : (k : ℕ) → k < l.place → is_one_of (slice_get l.takes k) (slice_get (map string_bytes l.words) k) ≡ true;
+  first : (k : ℕ) → k < l.place → is_one_of (slice_get l.takes k) (slice_get (map string_bytes l.words) k)
+      ≡ true;
 }

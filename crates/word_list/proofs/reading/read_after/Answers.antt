@@ -3,7 +3,8 @@ use Rattle.std.specs.Option.{option_map}
 use Rattle.std.proofs.lemmas.List.{drop-map, take_rest, length-map}
 use Rattle.word_list.specs.Rows.{asked_by, row_data}
 use Rattle.word_list.proofs.Calls.{names_first, names_taken, names_setting, calls, told_by}
-use Rattle.word_list.proofs.reading.read_after.Goals.{then-more-rest-via-then-more-rest, then-more-rest-via-else-more-rest+then-not-can_load}
+use Rattle.word_list.proofs.reading.read_after.Goals.{then-more-rest-via-then-more-rest}
+use Rattle.word_list.proofs.reading.read_after.Goals.{then-more-rest-via-else-more-rest+then-not-can_load}
 use Rattle.word_list.proofs.reading.read_after.Goals as goal
 
 pub returns-in_default-clause-told : goal.returns-in_default-clause-told
@@ -18,8 +19,8 @@ returns-then-taken-row-clause-told c =
 pub returns-then-more-rest-clause-told : goal.returns-then-more-rest-clause-told
 returns-then-more-rest-clause-told c =
     let named = names_setting c.args.name.now _ (row_data c.in-Some.row) (sym c.in-Some.ensures.row)
-    c.fitting-taken.result c.fitting-taken.ensures.count c.if-taken-row.false _ (rw (take_rest, drop-map) refl)
-    c.settled-more.result c.settled-more.ensures.count in
+    c.fitting-taken.result c.fitting-taken.ensures.count c.if-taken-row.false _
+    (rw (take_rest, drop-map) refl) c.settled-more.result c.settled-more.ensures.count in
     elim c.then-more-rest.branch [
       | then-more-rest-via-then-more-rest w ↦ named (inl (rw length-map w.if-more-rest.true))
       | then-more-rest-via-else-more-rest+then-not-can_load w ↦ named
@@ -32,5 +33,6 @@ returns-clause-told c =
     calls c.args.name.now _ (row_data c.in-Some.row) (sym c.in-Some.ensures.row) c.fitting-taken.result
     c.fitting-taken.ensures.count c.if-taken-row.false _ (rw (take_rest, drop-map) refl) c.settled-more.result
     c.settled-more.ensures.count (rw length-map c.if-more-rest.false)
-    (told_by c.table_file-tables.ensures c.chosen-settings.ensures c.can_load.ensures ∙ c.if-not-can_load.false) _ _
+    (told_by c.table_file-tables.ensures c.chosen-settings.ensures c.can_load.ensures
+    ∙ c.if-not-can_load.false) _ _
     (c.request.ensures.asked ∙ ap (asked_by _ _) c.table_file-tables.ensures) c.chosen-settings.ensures

@@ -5,7 +5,8 @@ use Rattle.word_list.proofs.reading.read_words.Goals as goal
 
 pub returns-clause-only : goal.returns-clause-only
 returns-clause-only c =
-    only_so (map string_bytes c.args.words.now) (λ read. called read.0 read.1) c.read.result c.read.ensures.told
+    only_so (map string_bytes c.args.words.now) (λ read. called read.0 read.1) c.read.result
+    c.read.ensures.told
 
 pub returns-clause-named : goal.returns-clause-named
 returns-clause-named c =

@@ -23,7 +23,8 @@ pub invariant_of-self : goal.invariant_of-self
 invariant_of-self g c =
     let i = c.self.inside in
     let placed : IsPlaced i.width (length i.index.heads.items) c.args.state.cell =
-    subst (λ (s : SpaceData). IsPlaced s.width s.places c.args.state.cell) (sym c.self.view_is) c.requires.placed in
+    subst (λ (s : SpaceData). IsPlaced s.width s.places c.args.state.cell) (sym c.self.view_is)
+    c.requires.placed in
     let narrow : i.width ≤ 4096 =
     subst (λ (s : SpaceData). s.width ≤ 4096) (sym c.self.view_is) c.requires.narrow in
     let new : lookup i.index.layout i.pool.nodes (state_in i.index.layout c.args.state) ≡ None =

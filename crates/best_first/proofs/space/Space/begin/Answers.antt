@@ -36,7 +36,8 @@ invariant_of-self-2 g c =
     ) in
     let parts = parts_blank i.layout c.args.width [] heads records blank refl
     (c.make_room.ensures.records ∙ c.forget.ensures.records) few in
-    let places : length heads ≡ c.args.self.now.places = ap (λ (v : _). length v.items) c.make_room.ensures.heads
+    let places : length heads ≡ c.args.self.now.places =
+    ap (λ (v : _). length v.items) c.make_room.ensures.heads
     ∙ c.forget.ensures.as_many ∙ ap (λ (s : SpaceData). s.places) c.self.view_is in
     let placed = subst (λ (n : ℕ). IsPlaced c.args.width n c.args.start) (sym places) c.requires.placed in
     let put = subst (λ (n : ℕ). IsPut i.layout heads c.put.new.self.heads.items records

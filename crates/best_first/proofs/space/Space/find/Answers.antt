@@ -10,7 +10,8 @@ pub returns : goal.returns
 returns c =
     let i = c.self.inside in
     let placed : IsPlaced i.width (length i.index.heads.items) c.args.state.cell =
-    subst (λ (s : SpaceData). IsPlaced s.width s.places c.args.state.cell) (sym c.self.view_is) c.requires.placed in
+    subst (λ (s : SpaceData). IsPlaced s.width s.places c.args.state.cell) (sym c.self.view_is)
+    c.requires.placed in
     c.entry.ensures
     ∙ ap (λ (n : ℕ). entry_in i.index.layout i.index.heads.items i.index.records.items n
     (arrival_number (state_in i.index.layout c.args.state).arrival)) c.number_of.ensures

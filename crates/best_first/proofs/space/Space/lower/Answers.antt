@@ -13,7 +13,8 @@ invariant_of-self g c =
     let i = c.self.inside in
     parts_replaced i.index.layout i.width i.pool.nodes c.lower.new.self.nodes i.index.heads.items
     i.index.records.items c.args.id c.args.node c.self.invariant
-    (ap (λ (s : SpaceData). is_bettered s.table.nodes c.args.id c.args.node.key) c.self.view_is ∙ c.requires.less)
+    (ap (λ (s : SpaceData). is_bettered s.table.nodes c.args.id c.args.node.key) c.self.view_is
+    ∙ c.requires.less)
     (λ old h. ap (λ (s : SpaceData). state_of s.layout old) c.self.view_is
     ∙ c.requires.same old (ap (λ (s : SpaceData). slice_get s.table.nodes c.args.id) (sym c.self.view_is) ∙ h)
     ∙ ap (λ (s : SpaceData). state_of s.layout c.args.node) (sym c.self.view_is))

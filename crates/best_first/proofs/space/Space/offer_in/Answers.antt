@@ -17,7 +17,8 @@ node-requires g c =
     let s = c.args.self.now in
     let l = entry_some (lookup s.layout s.table.nodes (state_in s.layout c.args.offer.to)) c.find-entry.result
     c.find-entry.ensures c.if-entry-eq0.false in
-    let f = lookup-found s.layout s.table.nodes (state_in s.layout c.args.offer.to) (c.find-entry.result - 1) l in
+    let f = lookup-found s.layout s.table.nodes (state_in s.layout c.args.offer.to) (c.find-entry.result - 1)
+    l in
     let within = slice_get_within s.table.nodes (c.find-entry.result - 1) f.node f.node_is in
     subst (λ (d : SpaceData). c.find-entry.result - 1 < length d.table.nodes) (sym c.self.view_is) within
 
@@ -36,7 +37,8 @@ lower_parts-requires-clause-same g c = λ old h.
     let s = c.args.self.now in
     let l = entry_some (lookup s.layout s.table.nodes (state_in s.layout c.args.offer.to)) c.find-entry.result
     c.find-entry.ensures c.if-entry-eq0.false in
-    let f = lookup-found s.layout s.table.nodes (state_in s.layout c.args.offer.to) (c.find-entry.result - 1) l in
+    let f = lookup-found s.layout s.table.nodes (state_in s.layout c.args.offer.to) (c.find-entry.result - 1)
+    l in
     let made : state_of s.layout c.node_for-node.result ≡ state_in s.layout c.args.offer.to =
     node_state s.layout s.width s.places c.node_for-node.result c.args.offer.to c.requires.narrow
     c.requires.placed (ap (λ (n : Node). n.place) c.node_for-node.ensures) in

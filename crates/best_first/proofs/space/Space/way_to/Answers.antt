@@ -22,6 +22,6 @@ pub back-preserved : goal.back-preserved
 back-preserved c =
     step_back c.args.goal c.args.self.now.table.nodes c.args.at c.back.points c.push.new.self c.back.cost
     c.add-cost.result c.back.id c.node-node.result c.node.result c.cell-cell.result c.cell-before.result
-    c.back.invariant c.back-test.true c.node-node.ensures c.node.ensures c.cell-cell.ensures c.cell-before.ensures
-    c.in_ok-push.ensures.pushed (c.add-cost.ensures
+    c.back.invariant c.back-test.true c.node-node.ensures c.node.ensures c.cell-cell.ensures
+    c.cell-before.ensures c.in_ok-push.ensures.pushed (c.add-cost.ensures
     ∙ ap (λ (d : Cost). add_costs c.back.cost d) c.estimate.ensures)

@@ -8,6 +8,7 @@ invariant_of-result c = has_room _ c.args.grid.now
     c.in_ok-columns.ensures)
 
 pub returns : goal.returns
-returns c = bits_turned c.args.grid.now c.in_ok-rows.rows c.in_ok-columns.columns _ _ _ c.width-width.ensures.whole
+returns c = bits_turned c.args.grid.now c.in_ok-rows.rows c.in_ok-columns.columns _ _ _
+    c.width-width.ensures.whole
     c.width-width.ensures.is c.height-height.ensures.is c.corner-corner.ensures c.in_ok-rows.ensures
     c.in_ok-columns.ensures

@@ -12,7 +12,8 @@ returns-clause-edited c = λ lines positions shown shows.
     ap (λ (l : LineData). l.lines) c.self.view_is in
     let blocks_are : c.self.inside.blocks ≡ c.args.self.now.blocks =
     ap (λ (l : LineData). l.blocks) c.self.view_is in
-    let here : c.args.line * (c.self.inside.blocks * 8) ≡ c.args.line * c.self.inside.blocks * 8 = omega arith in
+    let here : c.args.line * (c.self.inside.blocks * 8) ≡ c.args.line * c.self.inside.blocks * 8 =
+    omega arith in
     let line : c.args.line < c.self.inside.lines = rw lines_are c.requires.line in
     let position : c.args.position < c.self.inside.blocks * 512 = rw blocks_are c.requires.position in
     set_shown

@@ -7,8 +7,13 @@ use Rattle.bit_grid.proofs.lines.Lines.turned.Goals as goal
 pub returns : goal.returns
 returns c = λ free shows beyond.
     let rows : LineData =
-    record { lines = c.self.inside.lines; blocks = c.self.inside.blocks; words = c.self.inside.words.items } in
-    let shown = subst (λ (l : LineData). Shows l c.args.cells c.args.columns free) (sym c.self.view_is) shows in
+    record {
+      lines = c.self.inside.lines;
+      blocks = c.self.inside.blocks;
+      words = c.self.inside.words.items;
+    } in
+    let shown = subst (λ (l : LineData). Shows l c.args.cells c.args.columns free)
+    (sym c.self.view_is) shows in
     let whole = subst (λ (ws : List ℕ). IsWhole ws c.self.inside.lines (c.self.inside.blocks * 8) free)
     (sym c.deref.ensures.value) (whole_of rows c.args.cells c.args.columns free shown beyond) in
     let cells = c.from.ensures in

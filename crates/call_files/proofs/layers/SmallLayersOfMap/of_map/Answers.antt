@@ -5,5 +5,6 @@ use Rattle.call_files.proofs.layers.SmallLayersOfMap.of_map.Goals as goal
 pub returns : goal.returns
 returns c = record {
   layers = c.in_ok-layers.ensures;
-  few = small-layers c.args.settings (plain c.args.map) c.in_ok-layers.layers c.in_ok-layers.ensures c.requires.taken;
+  few = small-layers c.args.settings (plain c.args.map) c.in_ok-layers.layers c.in_ok-layers.ensures
+      c.requires.taken;
 }

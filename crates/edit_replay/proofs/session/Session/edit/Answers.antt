@@ -15,11 +15,13 @@ pub returns-then-eq-clause-edited : goal.returns-then-eq-clause-edited
 returns-then-eq-clause-edited g c =
     let before : Layers = as_layers c.deref_mut-parts.result.now.grids in
     let is : c.args.self.now.layers ≡ before = search rules in
-    rw is (adds_same before (edit_at c.args.x c.args.y c.args.to) (search rules) (search rules) (search rules))
+    rw is (adds_same before (edit_at c.args.x c.args.y c.args.to) (search rules) (search rules)
+    (search rules))
 
 pub returns-clause-edited : goal.returns-clause-edited
 returns-clause-edited g c =
     let before : Layers = as_layers c.deref_mut-parts.result.now.grids in
     let is : c.args.self.now.layers ≡ before = search rules in
-    rw is (adds_done before (as_layers c.set.new.self.grids) (edit_at c.args.x c.args.y c.args.to) (search rules)
+    rw is (adds_done before (as_layers c.set.new.self.grids) (edit_at c.args.x c.args.y c.args.to)
+    (search rules)
     (search rules) (search rules))

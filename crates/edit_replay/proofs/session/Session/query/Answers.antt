@@ -11,5 +11,6 @@ returns-clause-short g c =
     let from : Cell = record { x = c.args.sx; y = c.args.sy } in
     let to : Cell = record { x = c.args.gx; y = c.args.gy } in
     reply_is_short c.args.self.now.layers from to c.search.result (search rules)
-    (result_on_grid c.args.self.now.layers (query_grid (as_layers c.deref_mut-parts.result.now.grids) c.in-Some.from)
+    (result_on_grid c.args.self.now.layers (query_grid (as_layers c.deref_mut-parts.result.now.grids)
+    c.in-Some.from)
     from to c.search.result (search rules) (search rules) (search rules))

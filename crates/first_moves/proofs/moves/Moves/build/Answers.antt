@@ -11,4 +11,5 @@ returns g c =
     are_moves grid moves.width moves.height moves.rows (c.of_rows.ensures.width ∙ c.width.ensures.is)
     (c.of_rows.ensures.height ∙ c.height.ensures.is)
     (ap (λ (rows : List (List Run)). length rows) c.of_rows.ensures.rows ∙ c.in_ok-rows.ensures.whole)
-    (subst (λ (rows : List (List Run)). AreRows grid rows) (sym c.of_rows.ensures.rows) c.in_ok-rows.ensures.rows)
+    (subst (λ (rows : List (List Run)). AreRows grid rows) (sym c.of_rows.ensures.rows)
+    c.in_ok-rows.ensures.rows)

@@ -11,6 +11,7 @@ returns-clause-first c = λ g s t row inside number.
     let within : c.args.number < length row.members =
     subst (λ (n : ℕ). n < length row.members) (sym number)
     (subst (λ (n : ℕ). cell_number g.width t < n) (sym row.whole) (below_all g t inside)) in
-    let is = c.search.ensures.first row.members (c.as_slice.ensures.value ∙ c.self.view_is ∙ row.cut) within in
+    let is = c.search.ensures.first row.members (c.as_slice.ensures.value ∙ c.self.view_is ∙ row.cut)
+    within in
     subst (λ (o : Option Dir). IsFirstMove g s t o) (sym is)
     (subst (λ (n : ℕ). IsFirstMove g s t (get_or row.members n None)) (sym number) (row.moves t inside))

@@ -14,6 +14,6 @@ same_layers ls land water first second are =
 pub invariant_of-result : goal.invariant_of-result
 invariant_of-result c =
     let bytes = c.args.cells.now in
-    same_layers (layers_of c.args.corner c.args.width c.args.height bytes) c.in_ok-land.land c.in_ok-water.water
-    c.in_ok-land.ensures c.in_ok-water.ensures
+    same_layers (layers_of c.args.corner c.args.width c.args.height bytes) c.in_ok-land.land
+    c.in_ok-water.water c.in_ok-land.ensures c.in_ok-water.ensures
     (are_layers-of c.args.corner c.args.width c.args.height bytes c.requires)

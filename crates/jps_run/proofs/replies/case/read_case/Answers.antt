@@ -6,7 +6,8 @@ use Rattle.call_files.specs.Files.{file_of}
 use Rattle.call_files.specs.Kinds.{count_in}
 use Rattle.call_files.specs.Reading.{SpellsWalks}
 use Rattle.call_files.specs.declared.kind.Kind.TheVariants as kinds
-use Rattle.call_files.proofs.Opening.{both-accepted, fell-on, next-file, none-fell, reading-stops, third-accepted}
+use Rattle.call_files.proofs.Opening.{both-accepted, fell-on, next-file, none-fell, reading-stops}
+use Rattle.call_files.proofs.Opening.{third-accepted}
 use Rattle.jps_run.proofs.replies.case.read_case.Goals as goal
 
 pub overflow_cast-count : goal.overflow_cast-count
@@ -47,10 +48,13 @@ returns-in_err-walks-clause-read g c =
     let third = file_of kinds.Walks c.args.walks.now in
     let r = c.in_ok-court.ensures.read [] tt in
     let s = c.in_ok-entries.ensures.read (r.text ∷ []) tt in
-    let both = both-accepted disk.holds held first second r.text s.text r.accepted c.in_ok-court.ensures.unchanged
+    let both = both-accepted disk.holds held first second r.text s.text r.accepted
+    c.in_ok-court.ensures.unchanged
     s.accepted in
-    let counted = c.len.ensures ∙ c.in_ok-entries.entries.ok.0 ∙ ap (λ (read : Result (List Entry) ScenFault). count_in read) (sym s.spelled.0) in
-    reading-stops disk _ third (next-file disk.holds (first ∷ second ∷ []) third [] (r.text ∷ s.text ∷ []) both)
+    let counted = c.len.ensures ∙ c.in_ok-entries.entries.ok.0
+    ∙ ap (λ (read : Result (List Entry) ScenFault). count_in read) (sym s.spelled.0) in
+    reading-stops disk _ third
+    (next-file disk.holds (first ∷ second ∷ []) third [] (r.text ∷ s.text ∷ []) both)
     (g.F.Files.disk c.read_file.new.files) (g.F.Files.disk c.read_file-2.new.files)
     (c.in_ok-entries.ensures.unchanged ∙ c.in_ok-court.ensures.unchanged)
     (fell-on c.in_ok-court.ensures.later c.in_ok-entries.ensures.later) _ c.from_residual-in_err-walks.result
@@ -63,7 +67,8 @@ returns-clause-read g c =
     let held = (g.F.Files.disk c.read_map_file.new.files).holds in
     let r = c.in_ok-court.ensures.read [] tt in
     let s = c.in_ok-entries.ensures.read (r.text ∷ []) tt in
-    let counted = c.len.ensures ∙ c.in_ok-entries.entries.ok.0 ∙ ap (λ (read : Result (List Entry) ScenFault). count_in read) (sym s.spelled.0) in
+    let counted = c.len.ensures ∙ c.in_ok-entries.entries.ok.0
+    ∙ ap (λ (read : Result (List Entry) ScenFault). count_in read) (sym s.spelled.0) in
     let w = c.in_ok-walks.ensures.read (r.text ∷ s.text ∷ []) counted in
     record {
       text = r.text;
@@ -71,7 +76,8 @@ returns-clause-read g c =
       third = w.text;
       accepted = third-accepted disk.holds held (g.F.Files.disk c.read_file.new.files).holds
           (file_of kinds.Map c.args.map.now) (file_of kinds.Scen c.args.scen.now)
-          (file_of kinds.Walks c.args.walks.now) r.text s.text w.text r.accepted c.in_ok-court.ensures.unchanged
+          (file_of kinds.Walks c.args.walks.now) r.text s.text w.text r.accepted
+          c.in_ok-court.ensures.unchanged
           s.accepted (c.in_ok-entries.ensures.unchanged ∙ c.in_ok-court.ensures.unchanged) w.accepted;
       court = r.spelled;
       entries = s.spelled;

@@ -17,12 +17,14 @@ returns-in_err-status-clause-heard g c =
     let job = c.args.job.now in
     let input = g.I.Source.inflow c.args.input.now in
     let before = g.O.Sink.outflow c.args.out.now in
-    let stops = hear_stops job input (g.I.Source.inflow c.turn.new.input) before (g.O.Sink.outflow c.turn.new.out) in
+    let stops = hear_stops job input (g.I.Source.inflow c.turn.new.input) before
+    (g.O.Sink.outflow c.turn.new.out) in
     passed (AllIsHeard job input before (g.O.Sink.outflow c.turn.new.out)) stops stops
     c.from_residual-in_err-status.result c.in_err-status.field-0.0 c.from_residual-in_err-status.ensures.1
     (c.in_err-status.ensures.heard job input before c.turns.invariant.hearing) (follow-same stops)
 
-some_matched : {T : Type 0} (P : Type 0) (Q : T → Type 0) (o : Option T) (x : T) → o ≡ Some x → MatchOption o P Q
+some_matched : {T : Type 0} (P : Type 0) (Q : T → Type 0) (o : Option T) (x : T) → o ≡ Some x
+    → MatchOption o P Q
     → Q x
 some_matched P Q (Some y) x is m = grind arith
 some_matched P Q None x is m = absurd (cc)

@@ -12,7 +12,8 @@ invariant-turns g l = record {
       (g.I.Source.inflow l.input) l.buffer.items
       (g.O.Sink.outflow l.fn.out)
       (g.O.Sink.outflow l.out);
-  rising : IsRising l.fn.job l.job l.feeder (g.I.Source.inflow l.fn.input).left (g.I.Source.inflow l.input).left l.fn.steps l.steps;
+  rising : IsRising l.fn.job l.job l.feeder (g.I.Source.inflow l.fn.input).left
+      (g.I.Source.inflow l.input).left l.fn.steps l.steps;
 }
 
 abbrev pub decreases-turns : goal.decreases-turns

@@ -13,7 +13,8 @@ returns-in_err-answer_known-clause-ended g c = λ first text before h.
     (g.O.Sink.outflow c.args.out.now)
     (g.O.Sink.outflow c.answer_known.new.out)
     (Err c.in_err-answer_known.field-0.0) c.new-got.ensures.items c.as_slice.ensures.value
-    c.end-ended.ensures.ended c.end-ended.ensures.memory c.in_err-answer_known.ensures.known first text before h)
+    c.end-ended.ensures.ended c.end-ended.ensures.memory c.in_err-answer_known.ensures.known first text
+    before h)
     (follow-same _)
 
 pub returns-clause-ended : goal.returns-clause-ended
@@ -24,7 +25,8 @@ returns-clause-ended g c = λ first text before h.
     (g.O.Sink.outflow c.args.out.now)
     (g.O.Sink.outflow c.answer_known.new.out)
     (Ok tt) c.new-got.ensures.items c.as_slice.ensures.value
-    c.end-ended.ensures.ended c.end-ended.ensures.memory c.in_ok-answer_known.ensures.known first text before h in
+    c.end-ended.ensures.ended c.end-ended.ensures.memory c.in_ok-answer_known.ensures.known first text
+    before h in
     (refl, e.1, e.2)
 
 pub returns-clause-rose : goal.returns-clause-rose

@@ -1,7 +1,8 @@
 use Rattle.std.proofs.Common.{◌≡◌, ◌+◌, ◌-◌, ◌<◌, ◌≤◌, ◌∙◌, ap, subst, length, take, min, List, ℕ, arith}
 use Rattle.std.specs.Prelude.{Ok}
 use Rattle.std.specs.Io.KnownBytes.{Consumes}
-use Rattle.jps_run.proofs.Incomings.{end-heard, end-stopped, piece-stopped, long-refused, long-starved, hearing-more}
+use Rattle.jps_run.proofs.Incomings.{end-heard, end-stopped, piece-stopped, long-refused, long-starved}
+use Rattle.jps_run.proofs.Incomings.{hearing-more}
 use Rattle.jps_run.proofs.HeardCounts.{rising-more, rising-ended}
 use Rattle.jps_run.proofs.replies.live.turn.Goals as goal
 
@@ -19,7 +20,8 @@ returns-in_err-status-in-Ok-eq0-clause-heard g c = λ first input before h.
     (subst (λ n. Consumes mid.left now.left (take n c.read_into.new.buffer.items)) c.in-Ok-eq0.field-0-test
     c.in-Ok-eq0.ensures.bytes.0)
     (c.in-Ok-eq0.ensures.bytes.1 c.in-Ok-eq0.field-0-test
-    (let k : length c.read_into.new.buffer.items ≡ length c.args.buffer.now.items = c.in-Ok-eq0.ensures.kept in
+    (let k : length c.read_into.new.buffer.items
+    ≡ length c.args.buffer.now.items = c.in-Ok-eq0.ensures.kept in
     let r : 0 < length c.args.buffer.now.items = c.requires.room in omega arith))
     c.hear_end.new.job (g.O.Sink.outflow c.hear_end.new.out) _ c.from_residual.result
     c.in_err-status-in-Ok-eq0.field-0.0
@@ -35,7 +37,8 @@ returns-in_ok-status-in-Ok-eq0-clause-heard g c = λ first input before h.
     (subst (λ n. Consumes mid.left now.left (take n c.read_into.new.buffer.items)) c.in-Ok-eq0.field-0-test
     c.in-Ok-eq0.ensures.bytes.0)
     (c.in-Ok-eq0.ensures.bytes.1 c.in-Ok-eq0.field-0-test
-    (let k : length c.read_into.new.buffer.items ≡ length c.args.buffer.now.items = c.in-Ok-eq0.ensures.kept in
+    (let k : length c.read_into.new.buffer.items
+    ≡ length c.args.buffer.now.items = c.in-Ok-eq0.ensures.kept in
     let r : 0 < length c.args.buffer.now.items = c.requires.room in omega arith))
     c.hear_end.new.job (g.O.Sink.outflow c.hear_end.new.out) c.in_ok-status-in-Ok-eq0.status
     (c.in_ok-status-in-Ok-eq0.ensures.ended first h.text before h.heard)
@@ -49,7 +52,8 @@ returns-in_ok-status-in-Ok-eq0-clause-rose g c = λ first input start r.
     (subst (λ n. Consumes mid.left now.left (take n c.read_into.new.buffer.items)) c.in-Ok-eq0.field-0-test
     c.in-Ok-eq0.ensures.bytes.0)
     (c.in-Ok-eq0.ensures.bytes.1 c.in-Ok-eq0.field-0-test
-    (let k : length c.read_into.new.buffer.items ≡ length c.args.buffer.now.items = c.in-Ok-eq0.ensures.kept in
+    (let k : length c.read_into.new.buffer.items
+    ≡ length c.args.buffer.now.items = c.in-Ok-eq0.ensures.kept in
     let r : 0 < length c.args.buffer.now.items = c.requires.room in omega arith))
     c.requires.few (Ok c.in_ok-status-in-Ok-eq0.status) c.in_ok-status-in-Ok-eq0.ensures.rose
 
@@ -58,7 +62,8 @@ returns-in_err-hear_piece-in-Ok-clause-heard g c = λ first input before h.
     let at = g.O.Sink.outflow c.args.out.now in
     piece-stopped first c.args.job.now c.args.feeder.now input (g.I.Source.inflow c.args.input.now)
     (g.I.Source.inflow c.read_into.new.input) c.args.buffer.now.items before at h
-    c.in-Ok.count (67108864 - c.taken.result) c.read_into.new.buffer.items (take c.min.result c.deref.result.now)
+    c.in-Ok.count (67108864 - c.taken.result) c.read_into.new.buffer.items
+    (take c.min.result c.deref.result.now)
     c.in-Ok.ensures.bytes.0
     (room_is c.taken.result c.args.feeder.now.taken c.taken.ensures.count c.requires.few)
     (ap (λ n. take n c.deref.result.now) c.min.ensures
@@ -73,7 +78,8 @@ returns-in_err-long_line-in-Ok-clause-heard g c = λ first input before h.
     let at = g.O.Sink.outflow c.args.out.now in
     long-starved first c.args.job.now c.args.feeder.now input (g.I.Source.inflow c.args.input.now)
     (g.I.Source.inflow c.read_into.new.input) c.args.buffer.now.items before at h
-    c.in-Ok.count (67108864 - c.taken.result) c.read_into.new.buffer.items (take c.min.result c.deref.result.now)
+    c.in-Ok.count (67108864 - c.taken.result) c.read_into.new.buffer.items
+    (take c.min.result c.deref.result.now)
     c.in-Ok.ensures.bytes.0
     (room_is c.taken.result c.args.feeder.now.taken c.taken.ensures.count c.requires.few)
     (ap (λ n. take n c.deref.result.now) c.min.ensures
@@ -87,21 +93,24 @@ returns-then-room-count-clause-heard g c = λ first input before h.
     let at = g.O.Sink.outflow c.args.out.now in
     long-refused first c.args.job.now c.args.feeder.now input (g.I.Source.inflow c.args.input.now)
     (g.I.Source.inflow c.read_into.new.input) c.args.buffer.now.items before at h
-    c.in-Ok.count (67108864 - c.taken.result) c.read_into.new.buffer.items (take c.min.result c.deref.result.now)
+    c.in-Ok.count (67108864 - c.taken.result) c.read_into.new.buffer.items
+    (take c.min.result c.deref.result.now)
     c.in-Ok.ensures.bytes.0
     (room_is c.taken.result c.args.feeder.now.taken c.taken.ensures.count c.requires.few)
     (ap (λ n. take n c.deref.result.now) c.min.ensures
     ∙ ap (λ (l : List ℕ). take (min c.in-Ok.count (67108864 - c.taken.result)) l) c.deref.ensures.value)
     c.hear_piece.new.job c.hear_piece.new.feeder (g.O.Sink.outflow c.hear_piece.new.out)
     (c.in_ok-hear_piece-in-Ok.ensures.heard first h.text before h.heard)
-    c.in_ok-long_line-in-Ok.field-0.items c.if-room-count.true c.in-Ok.ensures.bound c.in_ok-long_line-in-Ok.ensures
+    c.in_ok-long_line-in-Ok.field-0.items c.if-room-count.true c.in-Ok.ensures.bound
+    c.in_ok-long_line-in-Ok.ensures
 
 pub returns-else-room-count-clause-heard : goal.returns-else-room-count-clause-heard
 returns-else-room-count-clause-heard g c = λ first input before h.
     let at = g.O.Sink.outflow c.args.out.now in
     hearing-more first c.args.job.now c.args.feeder.now input (g.I.Source.inflow c.args.input.now)
     (g.I.Source.inflow c.read_into.new.input) c.args.buffer.now.items before at h
-    c.in-Ok.count (67108864 - c.taken.result) c.read_into.new.buffer.items (take c.min.result c.deref.result.now)
+    c.in-Ok.count (67108864 - c.taken.result) c.read_into.new.buffer.items
+    (take c.min.result c.deref.result.now)
     c.in-Ok.ensures.bytes.0
     (room_is c.taken.result c.args.feeder.now.taken c.taken.ensures.count c.requires.few)
     (ap (λ n. take n c.deref.result.now) c.min.ensures
@@ -118,7 +127,8 @@ returns-else-room-count-clause-rose g c = λ first input start r.
     rising-more first c.args.job.now c.hear_piece.new.job c.args.feeder.now input
     (g.I.Source.inflow c.args.input.now).left (g.I.Source.inflow c.read_into.new.input).left start
     c.args.steps.now c.hear_piece.new.steps r c.hear_piece.new.feeder
-    c.in-Ok.count (67108864 - c.taken.result) c.read_into.new.buffer.items (take c.min.result c.deref.result.now)
+    c.in-Ok.count (67108864 - c.taken.result) c.read_into.new.buffer.items
+    (take c.min.result c.deref.result.now)
     c.in-Ok.ensures.bytes.0
     (ap (λ n. take n c.deref.result.now) c.min.ensures
     ∙ ap (λ (l : List ℕ). take (min c.in-Ok.count (67108864 - c.taken.result)) l) c.deref.ensures.value)

@@ -11,7 +11,15 @@ work_items-requires-clause-completes g c = rows-complete
 
 pub work_items-requires-clause-begins : goal.work_items-requires-clause-begins
 work_items-requires-clause-begins g c =
-    record { rows = []; ready = c.requires.ready; are = tt; all = refl; counted = c.requires.new; same = refl; shown = refl }
+    record {
+      rows = [];
+      ready = c.requires.ready;
+      are = tt;
+      all = refl;
+      counted = c.requires.new;
+      same = refl;
+      shown = refl;
+    }
 
 pub work_items-requires-clause-counts : goal.work_items-requires-clause-counts
 work_items-requires-clause-counts g c = record { rose = refl; same = refl }

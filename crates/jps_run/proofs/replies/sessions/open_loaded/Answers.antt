@@ -41,7 +41,8 @@ returns-clause-read g c =
     record {
       text = r.text;
       loaded = s.text ∷ [];
-      accepted = both-accepted disk.holds (g.F.Files.disk c.read_file.new.files).holds first second r.text s.text
+      accepted = both-accepted disk.holds (g.F.Files.disk c.read_file.new.files).holds first second
+          r.text s.text
           r.accepted c.in_ok-map.ensures.unchanged s.accepted;
       is = record { map = plain c.in_ok-map.map; spelled = r.spelled.0; is = c.in_ok-session.ensures };
     }

@@ -30,7 +30,8 @@ returns-then-found-ne0 c = λ t block.
     c.halt_at.ensures (begun c.args.rule t) 0
     (subst (λ (f : ℕ). IsFound (begun c.args.rule t) c.args.way f (c.args.start + w * 64) 0
     c.begun-words.result.middle (bit_and c.halts.result c.past.result)) (sym from)
-    (start_found t c.args.rule c.args.way c.args.start place w (bit_and c.halts.result c.past.result) c.halts.result c.past.result
+    (start_found t c.args.rule c.args.way c.args.start place w (bit_and c.halts.result c.past.result)
+    c.halts.result c.past.result
     c.begun-words.result _ c.args.self.now there low high are c.halts.ensures c.past.ensures refl))
 
 pub returns : goal.returns
@@ -45,13 +46,16 @@ returns c = λ t block.
     (c.args.start + w * 64) v) (sym c.words.ensures)
     (word_there t c.args.way (c.args.start + w * 64 + place) c.args.start w c.args.self.now there high) in
     let are = c.begun-words.ensures t c.args.way (c.args.start + w * 64) own in
-    let passed = start_passed t c.args.rule c.args.way c.args.start place w (bit_and c.halts.result c.past.result) c.halts.result c.past.result
+    let passed = start_passed t c.args.rule c.args.way c.args.start place w
+    (bit_and c.halts.result c.past.result) c.halts.result c.past.result
     c.begun-words.result _ c.args.self.now there low high are c.halts.ensures c.past.ensures refl
     c.if-found-ne0.false in
-    let later = block_later t c.args.rule c.args.way c.args.start place w (bit_and c.halts.result c.past.result) c.halts.result c.past.result
+    let later = block_later t c.args.rule c.args.way c.args.start place w
+    (bit_and c.halts.result c.past.result) c.halts.result c.past.result
     c.begun-words.result _ c.args.self.now there low high are c.halts.ensures c.past.ensures refl in
     let passed_here = subst (λ (f : ℕ). HasPassed (begun c.args.rule t) c.args.way f
-    (edge_before c.args.way c.args.start (nth_word c.args.way w + 1)) c.begun-words.result) (sym from) passed in
+    (edge_before c.args.way c.args.start (nth_word c.args.way w + 1)) c.begun-words.result) (sym from)
+    passed in
     let later_here = subst (λ (f : ℕ). IsBlockOf (begun c.args.rule t) c.args.way f c.args.start
     (nth_word c.args.way w + 1) c.args.self.now) (sym from) later in
     c.seek.ensures (begun c.args.rule t) (rw c.nth_word.ensures.is later_here)

@@ -99,7 +99,8 @@ run-preserved g c = record {
             (first_stop grid c.args.goal c.args.at c.args.d) there.stop c.beyond-next.result legal
             (is_stop-read grid c.args.goal c.args.d c.beyond-next.result c.requires.diagonal c.stops_at.result
             false (c.stops_at.ensures.stops grid are next ∙ parts
-            (λ (e : Dir). is_some (first_stop grid c.args.goal c.beyond-next.result e)) c.args.d c.requires.diagonal
+            (λ (e : Dir). is_some (first_stop grid c.args.goal c.beyond-next.result e)) c.args.d
+            c.requires.diagonal
             _ _ _ refl refl) c.if-stops_at.false);
         run = let longer = run_length-next grid c.run.cell c.beyond-next.result c.args.d legal in
             let run = there.run in

@@ -6,8 +6,8 @@ use Rattle.jump_block.specs.Near.{AreNearStart}
 use Rattle.jump_block.specs.Source.{AreItsBits}
 use Rattle.jump_block.proofs.straight.Bits.diagonal.Given as goal
 
--- the cell is so many moves on, the words around it are at hand, and the first stop in all is that from there,
--- after these
+-- the cell is so many moves on, the words around it are at hand, and the first stop in all is that from
+-- there, after these
 abbrev pub invariant-run : goal.invariant-run
 invariant-run g l = record {
   read : l.fn.steps + 3 ≤ l.steps;

@@ -2,7 +2,8 @@ use Rattle.std.proofs.Common.{ℕ, sym, subst}
 use Rattle.jump_block.specs.Trail.{Trail, begun}
 use Rattle.jump_block.specs.Scan.{MeetsFrom, MeetsMark}
 use Rattle.jump_block.specs.Source.{by_columns, column_dir}
-use Rattle.jump_block.proofs.Directions.{mark_on, off_column, one_on, column_start, column_straight, column_trail}
+use Rattle.jump_block.proofs.Directions.{mark_on, off_column, one_on, column_start, column_straight}
+use Rattle.jump_block.proofs.Directions.{column_trail}
 use Rattle.jump_block.proofs.straight.Bits.finds_mark_on_column.Goals as goal
 
 pub returns-clause-finds : goal.returns-clause-finds
@@ -10,8 +11,10 @@ returns-clause-finds g c = λ grid are free goal off.
     let at = c.args.at in
     let way = c.args.way in
     let rule = c.args.self.now.corner in
-    mark_on grid at (column_dir way) rule (column_straight way) are.rule free are.whole goal (off_column way at goal off) _
+    mark_on grid at (column_dir way) rule (column_straight way) are.rule free are.whole goal
+    (off_column way at goal off) _
     (subst (λ (t : Trail). MeetsMark (begun rule t) c.finds_mark.result) (sym (column_trail grid way at))
-    (one_on (λ (line place : ℕ). MeetsFrom c.args.self.now.columns.now rule way line place c.finds_mark.result)
+    (one_on (λ (line place : ℕ). MeetsFrom c.args.self.now.columns.now rule way line place
+    c.finds_mark.result)
     c.from.ensures c.from-2.ensures c.finds_mark.ensures.finds (by_columns grid)
     (column_start grid at free c.args.self.now.columns.now are.are_columns)))

@@ -8,15 +8,16 @@ use Rattle.jump_block.proofs.straight.Bits.finds_mark_on_row.Goals as goal
 
 pub finds_mark-requires-clause-near : goal.finds_mark-requires-clause-near
 finds_mark-requires-clause-near g c =
-    one_on (λ (line place : ℕ). AreNearStart c.args.self.now.rows.now line place c.args.near) (sym c.from.ensures)
-    (sym c.from-2.ensures) c.requires.near
+    one_on (λ (line place : ℕ). AreNearStart c.args.self.now.rows.now line place c.args.near)
+    (sym c.from.ensures) (sym c.from-2.ensures) c.requires.near
 
 pub returns-clause-finds : goal.returns-clause-finds
 returns-clause-finds g c = λ grid are free goal off.
     let at = c.args.at in
     let way = c.args.way in
     let rule = c.args.self.now.corner in
-    mark_on grid at (row_dir way) rule (row_straight way) are.rule free are.whole goal (off_row way at goal off) _
+    mark_on grid at (row_dir way) rule (row_straight way) are.rule free are.whole goal
+    (off_row way at goal off) _
     (subst (λ (t : Trail). MeetsMark (begun rule t) c.finds_mark.result) (sym (row_trail grid way at))
     (one_on (λ (line place : ℕ). MeetsFrom c.args.self.now.rows.now rule way line place c.finds_mark.result)
     c.from.ensures c.from-2.ensures c.finds_mark.ensures.finds (by_rows grid)

@@ -23,6 +23,7 @@ returns-in-S-clause-finds g c = λ grid are free.
 
 pub returns-in_default-clause-finds : goal.returns-in_default-clause-finds
 returns-in_default-clause-finds g c = λ grid are free.
-    let north = is_north c.args.d c.requires.straight c.in_default.not-E c.in_default.not-W c.in_default.not-S in
+    let north = is_north c.args.d c.requires.straight c.in_default.not-E c.in_default.not-W
+    c.in_default.not-S in
     subst (λ (e : Dir). Finds (begun c.args.self.now.corner (trail_of grid e c.args.at)) c.args.to_goal
     c.halt_on_column-in_default.result) (sym north) (c.halt_on_column-in_default.ensures.finds grid are free)

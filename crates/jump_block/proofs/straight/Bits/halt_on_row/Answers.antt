@@ -13,6 +13,7 @@ returns-clause-finds g c = λ grid are free.
     subst (λ (t : Trail). Finds (begun rule t) c.args.to_goal c.scan.result) (sym (row_trail grid way at))
     (subst (λ (n : ℕ). Finds (begun rule (trail_on (by_rows grid) way (at.y + 1) (at.x + 1))) n c.scan.result)
     c.from-3.ensures
-    (one_on (λ (line place : ℕ). FindsFrom c.args.self.now.rows.now rule way c.from-3.result line place c.scan.result)
+    (one_on (λ (line place : ℕ). FindsFrom c.args.self.now.rows.now rule way c.from-3.result line place
+    c.scan.result)
     c.from.ensures c.from-2.ensures c.scan.ensures.finds (by_rows grid)
     (row_start grid at free c.args.self.now.rows.now are.are_rows)))

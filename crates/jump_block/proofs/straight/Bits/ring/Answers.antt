@@ -13,5 +13,6 @@ returns-clause-around g c = λ grid are free.
     (c.three-middle.ensures.shown _ _ _ are.are_rows))
     (three_at (by_rows grid) _ _ _ _ _ (ap (λ (n : ℕ). n + 2) row) column
     (c.three-below.ensures.shown _ _ _ are.are_rows))
-    c.is_set.ensures c.is_set-2.ensures c.is_set-3.ensures c.is_set-4.ensures c.is_set-5.ensures c.is_set-6.ensures
+    c.is_set.ensures c.is_set-2.ensures c.is_set-3.ensures c.is_set-4.ensures c.is_set-5.ensures
+    c.is_set-6.ensures
     c.is_set-7.ensures c.is_set-8.ensures

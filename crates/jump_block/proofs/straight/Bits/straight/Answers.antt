@@ -11,7 +11,8 @@ stop_of-requires g c =
     let free = c.requires.stands.2 in
     record {
       few = (told_on grid c.args.at c.args.d c.args.self.now.corner c.requires.straight are.rule free
-          are.whole c.moves_to-to_goal.result c.halt-found.result (c.halt-found.ensures.finds grid are free)).1;
+          are.whole c.moves_to-to_goal.result c.halt-found.result
+          (c.halt-found.ensures.finds grid are free)).1;
     }
 
 pub returns-clause-first : goal.returns-clause-first
@@ -19,7 +20,8 @@ returns-clause-first g c = λ grid are free.
     let told = told_on grid c.args.at c.args.d c.args.self.now.corner c.requires.straight are.rule free
     are.whole c.moves_to-to_goal.result c.halt-found.result (c.halt-found.ensures.finds grid are free) in
     c.stop_of.ensures ∙ told.0
-    ∙ rw c.moves_to-to_goal.ensures (sym (straight_stop grid c.args.goal c.args.at c.args.d c.requires.straight))
+    ∙ rw c.moves_to-to_goal.ensures
+    (sym (straight_stop grid c.args.goal c.args.at c.args.d c.requires.straight))
 
 more_lanes : (m n : ℕ) → m ≤ n → most_lanes m ≤ most_lanes n
 more_lanes m n h = omega arith

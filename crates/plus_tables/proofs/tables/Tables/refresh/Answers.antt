@@ -10,7 +10,8 @@ pub returns-clause-entry : goal.returns-clause-entry
 returns-clause-entry g c =
     let grid : GridData = g.T.Terrain.grid c.args.t.now in
     let value : ℤ = to_z w16 (of_z w16 c.told-entry.result) in
-    let whole : IsWhole c.args.self.now = subst (λ (t : TablesData). IsWhole t) c.self.view_is c.self.invariant in
+    let whole : IsWhole c.args.self.now =
+    subst (λ (t : TablesData). IsWhole t) c.self.view_is c.self.invariant in
     ap (λ (t : TablesData). entry_at t c.args.c c.args.d) c.put.ensures
     ∙ entry_at-with_same c.args.self.now c.args.c c.args.d value whole c.requires.inside
     ∙ same_value (table_entry grid c.args.c c.args.d) c.told-entry.result

@@ -4,7 +4,8 @@ use Rattle.plus_tables.specs.Entry.{table_entry}
 use Rattle.plus_tables.specs.Local.{from_before}
 use Rattle.plus_tables.specs.Tables.{entry_at}
 use Rattle.plus_tables.proofs.Short.{table_entry-short, same_value, short_value}
-use Rattle.plus_tables.proofs.Refreshing.{on_map, next_free, next_short, told_nowhere, told_marked, told_further}
+use Rattle.plus_tables.proofs.Refreshing.{on_map, next_free, next_short, told_nowhere, told_marked}
+use Rattle.plus_tables.proofs.Refreshing.{told_further}
 use Rattle.plus_tables.proofs.tables.Tables.told_by_next.Goals as goal
 
 pub is_mark-requires-clause-on : goal.is_mark-requires-clause-on

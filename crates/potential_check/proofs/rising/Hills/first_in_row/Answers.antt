@@ -4,7 +4,8 @@ use Rattle.grid_moves.specs.Move.{all_dirs}
 use Rattle.potential_check.specs.Moves.{first_ahead, first_in_row}
 use Rattle.potential_check.specs.Rising.{IsColumn, climbs, height_at}
 use Rattle.potential_check.proofs.Reaching.{above_low, before_one, rows_next, rows_off, rows_taken}
-use Rattle.potential_check.proofs.Climbing.{first_climb, no_climb, no_move, or_first, or_second, row_end, row_step, with_source}
+use Rattle.potential_check.proofs.Climbing.{first_climb, no_climb, no_move, or_first, or_second, row_end}
+use Rattle.potential_check.proofs.Climbing.{row_step, with_source}
 use Rattle.potential_check.proofs.rising.Hills.first_in_row.Goals as goal
 use Rattle.potential_check.proofs.rising.Hills.first_in_row.Goals.{then-free+in_default, else-free}
 

@@ -13,9 +13,11 @@ put_first-requires c =
 pub invariant_of-result : goal.invariant_of-result
 invariant_of-result c =
     let word = c.self.invariant ∙ ap (λ (ds : List Dir). word_of ds) c.self.view_is in
-    whole c.put_first.result (c.args.d ∷ c.args.self) (c.put_first.ensures.word c.args.self word) (grind arith)
+    whole c.put_first.result (c.args.d ∷ c.args.self) (c.put_first.ensures.word c.args.self word)
+    (grind arith)
 
 pub returns : goal.returns
 returns c =
     let word = c.self.invariant ∙ ap (λ (ds : List Dir). word_of ds) c.self.view_is in
-    shown c.put_first.result (c.args.d ∷ c.args.self) (c.put_first.ensures.word c.args.self word) (grind arith)
+    shown c.put_first.result (c.args.d ∷ c.args.self) (c.put_first.ensures.word c.args.self word)
+    (grind arith)

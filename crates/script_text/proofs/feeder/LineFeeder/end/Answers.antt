@@ -6,7 +6,8 @@ use Rattle.script_text.proofs.feeder.LineFeeder.end.Goals as goal
 
 pub returns-in-Some-clause-ended : goal.returns-in-Some-clause-ended
 returns-in-Some-clause-ended c = λ other text h.
-    ended-again c.args.self.now text c.args.got.now.items c.in-Some.fault c.in-Some.is (λ memory. other (ap Err memory)) h
+    ended-again c.args.self.now text c.args.got.now.items c.in-Some.fault c.in-Some.is
+    (λ memory. other (ap Err memory)) h
 
 pub returns-then-is_empty-clause-ended : goal.returns-then-is_empty-clause-ended
 returns-then-is_empty-clause-ended c = λ other text h.
@@ -22,7 +23,8 @@ returns-in_err-command-clause-ended c = λ other text h.
     c.make_room.new.got.items c.from_residual-in_err-command.result none h some e.judged
     (line-taken c.args.self.now c.complete.new.self text (Err fault) none h e.judged e.next e.kept)
     (c.make_room.ensures.unchanged ∙ sym (append-nil c.args.got.now.items))
-    (answers-err c.from_residual-in_err-command.result fault (Some fault) c.from_residual-in_err-command.ensures.1 other refl)
+    (answers-err c.from_residual-in_err-command.result fault (Some fault)
+    c.from_residual-in_err-command.ensures.1 other refl)
 
 pub returns-else-is_err-clause-ended : goal.returns-else-is_err-clause-ended
 returns-else-is_err-clause-ended c = λ other text h.
@@ -31,7 +33,8 @@ returns-else-is_err-clause-ended c = λ other text h.
     let e = c.in_ok-command.ensures in
     ended-judged c.args.self.now c.complete.new.self text (Ok c.in_ok-command.field-0) c.args.got.now.items
     c.push.new.self.items (Ok tt) none h some e.judged
-    (line-taken c.args.self.now c.complete.new.self text (Ok c.in_ok-command.field-0) none h e.judged e.next e.kept)
+    (line-taken c.args.self.now c.complete.new.self text (Ok c.in_ok-command.field-0) none h e.judged
+    e.next e.kept)
     (search rules) refl
 
 pub returns-in_default-2-clause-ended : goal.returns-in_default-2-clause-ended
@@ -41,5 +44,6 @@ returns-in_default-2-clause-ended c = λ other text h.
     let e = c.in_ok-command.ensures in
     ended-judged c.args.self.now c.complete.new.self text (Ok c.in_ok-command.field-0) c.args.got.now.items
     c.make_room.new.got.items (Ok tt) none h some e.judged
-    (line-taken c.args.self.now c.complete.new.self text (Ok c.in_ok-command.field-0) none h e.judged e.next e.kept)
+    (line-taken c.args.self.now c.complete.new.self text (Ok c.in_ok-command.field-0) none h e.judged
+    e.next e.kept)
     (search rules) refl

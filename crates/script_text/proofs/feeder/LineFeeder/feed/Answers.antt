@@ -13,5 +13,6 @@ returns-in_err-command-clause-fed c = λ other text h.
     let f = c.loop-byte.invariant.fed text h in
     fed-stopped text c.args.piece.now c.loop-byte.byte-index _ c.loop-byte.self c.take.new.self
     c.args.got.now.items c.loop-byte.got.items c.in_err-command.field-0.0
-    c.from_residual-in_err-command.result c.loop-byte-test.true refl f (c.in_err-command.ensures.byte _ f.taken)
+    c.from_residual-in_err-command.result c.loop-byte-test.true refl f
+    (c.in_err-command.ensures.byte _ f.taken)
     c.from_residual-in_err-command.ensures.1 other

@@ -13,10 +13,12 @@ returns-then-byte-eq10-clause-byte c = λ text h.
 pub returns-then-is_full-clause-byte : goal.returns-then-is_full-clause-byte
 returns-then-is_full-clause-byte c = λ text h.
     let full : 128 ≤ length c.args.self.now.line.items = search (rules, c.if-is_full.true) in
-    byte-refused c.args.self.now text c.args.byte c.requires.clean h (ne_eqb c.args.byte 10 c.if-byte-eq10.false)
+    byte-refused c.args.self.now text c.args.byte c.requires.clean h
+    (ne_eqb c.args.byte 10 c.if-byte-eq10.false)
     _ full refl
 
 pub returns-clause-byte : goal.returns-clause-byte
 returns-clause-byte c = λ text h.
-    byte-taken c.args.self.now text c.args.byte c.requires.clean h (ne_eqb c.args.byte 10 c.if-byte-eq10.false)
+    byte-taken c.args.self.now text c.args.byte c.requires.clean h
+    (ne_eqb c.args.byte 10 c.if-byte-eq10.false)
     _ (search rules) refl c.push.ensures.items c.requires.clean

@@ -1,7 +1,8 @@
 -- The straight pass, then the diagonal one.
 use Rattle.std.proofs.Common.{ap}
 use Rattle.table_repair.specs.Repaired.{MapSides}
-use Rattle.table_repair.proofs.Ending.{all_straight, beside_told, straight_starts, diagonal_starts, all_right, all_counted, all_steps, three_beside, some_beside, length_told}
+use Rattle.table_repair.proofs.Ending.{all_straight, beside_told, straight_starts, diagonal_starts, all_right}
+use Rattle.table_repair.proofs.Ending.{all_counted, all_steps, three_beside, some_beside, length_told}
 use Rattle.table_repair.proofs.repairer.Repairer.repair.Goals as goal
 
 pub sweep_straight-straight-requires-clause-waits : goal.sweep_straight-straight-requires-clause-waits

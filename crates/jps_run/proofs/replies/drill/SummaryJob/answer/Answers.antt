@@ -6,8 +6,8 @@ count-requires-clause-room g c = one-fits c.args.self.now c.requires.room
 
 pub returns-clause-worked : goal.returns-clause-worked
 returns-clause-worked g c =
-    drilled-more c.args.self.now (record { session = c.find.new.session; sums = c.count.new.self }) c.args.item
-    c.in_ok-found.found c.in_ok-found.ensures.found c.in_ok-found.ensures.edited c.count.ensures
+    drilled-more c.args.self.now (record { session = c.find.new.session; sums = c.count.new.self })
+    c.args.item c.in_ok-found.found c.in_ok-found.ensures.found c.in_ok-found.ensures.edited c.count.ensures
     c.args._lines.now.items
 
 pub returns-clause-room : goal.returns-clause-room

@@ -11,6 +11,8 @@ returns-clause-worked g c =
     let inside : rows < length walks = omega arith in
     refereed-more c.put_ruling.result c.args.self.now
     (record { court = c.ruling_on.new.court; walks = c.args.self.now.walks; counts = c.count.new.self })
-    c.args.item c.index-told.result.now c.in_ok-ruling.ruling c.args.lines.now.items c.put_ruling.new.out.items
-    c.in_ok-ruling.ensures.ruling (slice_get_read walks (length walks) rows c.index-told.result.now refl inside c.index-told.ensures)
+    c.args.item c.index-told.result.now c.in_ok-ruling.ruling c.args.lines.now.items
+    c.put_ruling.new.out.items
+    c.in_ok-ruling.ensures.ruling (slice_get_read walks (length walks) rows c.index-told.result.now refl
+    inside c.index-told.ensures)
     c.ruling_on.ensures.unchanged refl c.count.ensures c.put_ruling.ensures

@@ -1,6 +1,7 @@
 use Rattle.jps_run.proofs.Tallies.{status_right, status_wrong}
 use Rattle.jps_run.proofs.replies.row.Tally.status.Goals as goal
-use Rattle.jps_run.proofs.replies.row.Tally.status.Goals.{else-self-eq0-via-then-self-eq0+else-self-eq0-2, else-self-eq0-via-else-self-eq0}
+use Rattle.jps_run.proofs.replies.row.Tally.status.Goals.{else-self-eq0-via-then-self-eq0+else-self-eq0-2}
+use Rattle.jps_run.proofs.replies.row.Tally.status.Goals.{else-self-eq0-via-else-self-eq0}
 
 pub returns-then-self-eq0-2 : goal.returns-then-self-eq0-2
 returns-then-self-eq0-2 c =

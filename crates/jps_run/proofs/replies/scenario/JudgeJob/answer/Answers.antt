@@ -17,18 +17,18 @@ row_of-requires-clause-ready g c = c.requires.room.1.ready
 pub returns-clause-worked : goal.returns-clause-worked
 returns-clause-worked g c =
     judged-more c.put_row.result c.args.self.now
-    (record { answerer = c.row_of.new.answerer; show = c.args.self.now.show; tally = c.count.new.self }) c.args.item c.in_ok-row.row
-    c.args.lines.now.items c.put_row.new.out.items c.in_ok-row.ensures.row
+    (record { answerer = c.row_of.new.answerer; show = c.args.self.now.show; tally = c.count.new.self })
+    c.args.item c.in_ok-row.row c.args.lines.now.items c.put_row.new.out.items c.in_ok-row.ensures.row
     c.row_of.ensures.same refl c.count.ensures.counted c.put_row.ensures
 
 pub returns-clause-room : goal.returns-clause-room
 returns-clause-room g c =
     room-more c.put_row.result c.args.self.now
-    (record { answerer = c.row_of.new.answerer; show = c.args.self.now.show; tally = c.count.new.self }) c.in_ok-row.row c.requires.room
-    c.count.ensures.counted c.count.ensures.small c.row_of.ensures.same
+    (record { answerer = c.row_of.new.answerer; show = c.args.self.now.show; tally = c.count.new.self })
+    c.in_ok-row.row c.requires.room c.count.ensures.counted c.count.ensures.small c.row_of.ensures.same
 
 pub returns-clause-counted : goal.returns-clause-counted
 returns-clause-counted g c =
     judged-entry c.put_row.result c.args.self.now
-    (record { answerer = c.row_of.new.answerer; show = c.args.self.now.show; tally = c.count.new.self }) c.args.item c.args.steps.now
-    c.row_of.new.steps c.row_of.ensures.same c.in_ok-row.ensures.counted
+    (record { answerer = c.row_of.new.answerer; show = c.args.self.now.show; tally = c.count.new.self })
+    c.args.item c.args.steps.now c.row_of.new.steps c.row_of.ensures.same c.in_ok-row.ensures.counted
