@@ -73,18 +73,10 @@ pub fn perform<O: Sink, L: Ledger>(
     ensures counted { OnOk result (HasRisen work steps.old steps.new) }
 {
     match work {
-        Work::Answer { mut job, commands } => {
-            write_answers(alloc, &mut job, commands.as_slice(), out, steps)
-        }
-        Work::Judge { mut job, entries } => {
-            write_rows(alloc, &mut job, entries.as_slice(), out, steps)
-        }
-        Work::Referee { mut job, entries } => {
-            write_rulings(alloc, &mut job, entries.as_slice(), out, steps)
-        }
-        Work::Drill { mut job, commands } => {
-            write_sums(alloc, &mut job, commands.as_slice(), out, steps)
-        }
+        Work::Answer { job, commands } => write_answers(alloc, job, commands, out, steps),
+        Work::Judge { job, entries } => write_rows(alloc, job, entries, out, steps),
+        Work::Referee { job, entries } => write_rulings(alloc, job, entries, out, steps),
+        Work::Drill { job, commands } => write_sums(alloc, job, commands, out, steps),
         Work::Draw {
             mut canvas,
             ends,

@@ -87,13 +87,13 @@ fn put_answer<L: Ledger>(
 /// Answers the commands in order, each by the session as the edits before it leave it.
 pub fn write_answers<O: Sink, L: Ledger>(
     alloc: Global,
-    job: &mut Answers,
-    commands: &[Command],
+    mut job: Answers,
+    commands: Vec<Command>,
     out: &mut O,
     steps: &mut Steps<L>,
 ) -> Result<u8, Stop>
-    ensures sent { SendsWhole (IsSolved job.old commands.now) (O.outflow out.old) (O.outflow out.new) result }
-    ensures counted { OnOk result (RoseForCommands job.old.session commands.now steps.old steps.new) }
+    ensures sent { SendsWhole (IsSolved job commands.items) (O.outflow out.old) (O.outflow out.new) result }
+    ensures counted { OnOk result (RoseForCommands job.session commands.items steps.old steps.new) }
 {
-    work_items(alloc, job, commands, out, steps)
+    work_items(alloc, &mut job, commands.as_slice(), out, steps)
 }

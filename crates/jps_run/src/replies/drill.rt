@@ -22,7 +22,7 @@ use steps::Steps;
 use text_line::{put, put_number};
 
 /// What a command comes to.
-#[derive(Clone, Copy, Debug)]
+#[derive(Clone, Copy)]
 pub enum Finding {
     /// A walk of this cost.
     Walk(Cost),
@@ -39,7 +39,7 @@ pub enum Finding {
 }
 
 /// How many findings there are of each kind, and the sums of the walks' moves.
-#[derive(Clone, Copy, Debug)]
+#[derive(Clone, Copy)]
 pub struct Sums {
     pub walks: u64,
     pub none: u64,
@@ -228,15 +228,15 @@ fn find<L: Ledger>(
 /// Sums up what the commands come to, in order, where none is summed up yet.
 pub fn write_sums<O: Sink, L: Ledger>(
     alloc: Global,
-    job: &mut Summary,
-    commands: &[Command],
+    mut job: Summary,
+    commands: Vec<Command>,
     out: &mut O,
     steps: &mut Steps<L>,
 ) -> Result<u8, Stop>
-    requires new { job.old.sums ≡ sums_of [] }
-    requires few { length commands.now ≤ 2 ^ 32 }
-    ensures sent { SendsWhole (IsDrilled job.old commands.now) (O.outflow out.old) (O.outflow out.new) result }
-    ensures counted { OnOk result (RoseForCommands job.old.session commands.now steps.old steps.new) }
+    requires new { job.sums ≡ sums_of [] }
+    requires few { length commands.items ≤ 2 ^ 32 }
+    ensures sent { SendsWhole (IsDrilled job commands.items) (O.outflow out.old) (O.outflow out.new) result }
+    ensures counted { OnOk result (RoseForCommands job.session commands.items steps.old steps.new) }
 {
-    work_items(alloc, job, commands, out, steps)
+    work_items(alloc, &mut job, commands.as_slice(), out, steps)
 }

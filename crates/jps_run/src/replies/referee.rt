@@ -165,13 +165,13 @@ fn ruling_on<L: Ledger>(
 /// Judges what is told of the entries in order, and sums the rows up.
 pub fn write_rulings<O: Sink, L: Ledger>(
     alloc: Global,
-    job: &mut Referee,
-    entries: &[Entry],
+    mut job: Referee,
+    entries: Vec<Entry>,
     out: &mut O,
     steps: &mut Steps<L>,
 ) -> Result<u8, Stop>
-    requires ready { IsReady job.old (length entries.now) }
-    ensures { SendsWhole (IsRefereed job.old entries.now) (O.outflow out.old) (O.outflow out.new) result }
+    requires ready { IsReady job (length entries.items) }
+    ensures { SendsWhole (IsRefereed job entries.items) (O.outflow out.old) (O.outflow out.new) result }
 {
-    work_items(alloc, job, entries, out, steps)
+    work_items(alloc, &mut job, entries.as_slice(), out, steps)
 }

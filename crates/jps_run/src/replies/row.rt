@@ -12,7 +12,7 @@ use text_line::{put, put_number};
 use word_list::Show;
 
 /// What becomes of a scenario's entry.
-#[derive(Clone, Copy, Debug, PartialEq, Eq)]
+#[derive(Clone, Copy)]
 pub enum Row {
     /// The entry is meant for a map of another size, and isn't searched.
     Scale,
@@ -118,7 +118,7 @@ fn states_in(row: Row) -> u64
 }
 
 /// How many rows there are, how many of each kind, and how many states were taken for them.
-#[derive(Clone, Copy, Debug)]
+#[derive(Clone, Copy)]
 pub struct Tally {
     pub rows: u64,
     pub agree: u64,

@@ -10,7 +10,7 @@ use text_line::{put, put_number};
 use walk_judge::Judged;
 
 /// What becomes of what is told of a scenario's entry.
-#[derive(Clone, Copy, Debug, PartialEq, Eq)]
+#[derive(Clone, Copy)]
 pub enum Ruling {
     /// The entry is meant for a map of another size.
     Scale,
@@ -87,7 +87,7 @@ pub fn put_ruling(out: &mut Vec<u8>, number: u64, ruling: Ruling) -> Result<(), 
 }
 
 /// How many rows there are, and how many of each kind.
-#[derive(Clone, Copy, Debug)]
+#[derive(Clone, Copy)]
 pub struct Counts {
     pub rows: u64,
     pub accepted: u64,

@@ -126,16 +126,16 @@ fn row_of<L: Ledger>(
 /// Judges the entries in order by a judge who has judged none yet, and sums their rows up.
 pub fn write_rows<O: Sink, L: Ledger>(
     alloc: Global,
-    job: &mut Judge,
-    entries: &[Entry],
+    mut job: Judge,
+    entries: Vec<Entry>,
     out: &mut O,
     steps: &mut Steps<L>,
 ) -> Result<u8, Stop>
-    requires ready { CanAnswer job.old.answerer }
-    requires new { job.old.tally ≡ tally_of [] }
-    requires kept { AreKept entries.now }
-    ensures sent { SendsWhole (IsJudged job.old entries.now) (O.outflow out.old) (O.outflow out.new) result }
-    ensures counted { OnOk result (RoseForEntries (who_of job.old.answerer) entries.now steps.old steps.new) }
+    requires ready { CanAnswer job.answerer }
+    requires new { job.tally ≡ tally_of [] }
+    requires kept { AreKept entries.items }
+    ensures sent { SendsWhole (IsJudged job entries.items) (O.outflow out.old) (O.outflow out.new) result }
+    ensures counted { OnOk result (RoseForEntries (who_of job.answerer) entries.items steps.old steps.new) }
 {
-    work_items(alloc, job, entries, out, steps)
+    work_items(alloc, &mut job, entries.as_slice(), out, steps)
 }

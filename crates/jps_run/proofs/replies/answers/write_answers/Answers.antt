@@ -1,3 +1,7 @@
+use Rattle.std.proofs.Common.{subst, List}
+use Rattle.std.specs.Prelude.{OnOk}
+use Rattle.script_text.specs.declared.command.Command.{Command}
+use Rattle.jps_run.specs.Counts.{RoseForCommands}
 use Rattle.jps_run.proofs.Rising.{on_ok}
 use Rattle.jps_run.proofs.Counting.{taken-none}
 use Rattle.jps_run.proofs.Solving.{answered-none, answers-complete}
@@ -7,10 +11,13 @@ pub work_items-requires-clause-completes : goal.work_items-requires-clause-compl
 work_items-requires-clause-completes g c = answers-complete
 
 pub work_items-requires-clause-begins : goal.work_items-requires-clause-begins
-work_items-requires-clause-begins g c = answered-none c.args.job.now
+work_items-requires-clause-begins g c = answered-none c.args.job
 
 pub work_items-requires-clause-counts : goal.work_items-requires-clause-counts
-work_items-requires-clause-counts g c = taken-none c.args.job.now c.args.steps.now
+work_items-requires-clause-counts g c = taken-none c.args.job c.args.steps.now
 
 pub returns-clause-counted : goal.returns-clause-counted
-returns-clause-counted g c = on_ok c.work_items.result (λ taken. taken.rose) c.work_items.ensures.counted
+returns-clause-counted g c =
+    subst (λ (items : List Command). OnOk c.work_items.result
+    (RoseForCommands c.args.job.session items c.args.steps.now c.work_items.new.steps)) c.as_slice.ensures.value
+    (on_ok c.work_items.result (λ taken. taken.rose) c.work_items.ensures.counted)
