@@ -142,16 +142,16 @@ member_more all runs next k m x ms e few f = elim (is_same_move m x) as (λ b. i
     → next ≡ (if b then runs else runs ++ record { start = k; first = x } ∷ [])
     → (all ≡ next ++ runs_from (k + 1) x ms) × (length next ≤ k + 1)) [
       | true ↦ λ s p q. (
-          p ∙ ap (λ (y : Option Dir). runs ++ runs_from (k + 1) y ms) (same_move m x s)
-              ∙ ap (λ (l : List Run). l ++ runs_from (k + 1) x ms) (sym q),
-          let l = ap (λ (l : List Run). length l) q in omega (arith, l),
-        )
+        p ∙ ap (λ (y : Option Dir). runs ++ runs_from (k + 1) y ms) (same_move m x s)
+            ∙ ap (λ (l : List Run). l ++ runs_from (k + 1) x ms) (sym q),
+        let l = ap (λ (l : List Run). length l) q in omega (arith, l),
+      )
       | false ↦ λ s p q. (
-          p ∙ sym (append_assoc runs (record { start = k; first = x } ∷ []) (runs_from (k + 1) x ms))
-              ∙ ap (λ (l : List Run). l ++ runs_from (k + 1) x ms) (sym q),
-          let l = ap (λ (l : List Run). length l) q ∙ length-append runs (record { start = k; first = x } ∷ []) in
-          omega (arith, l),
-        )
+        p ∙ sym (append_assoc runs (record { start = k; first = x } ∷ []) (runs_from (k + 1) x ms))
+            ∙ ap (λ (l : List Run). l ++ runs_from (k + 1) x ms) (sym q),
+        let l = ap (λ (l : List Run). length l) q ∙ length-append runs (record { start = k; first = x } ∷ []) in
+            omega (arith, l),
+      )
     ] refl e f
 
 -- after one byte more
