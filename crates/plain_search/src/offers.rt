@@ -6,7 +6,7 @@ ghost use Rattle.best_first.specs.State.{state_told};
 ghost use Rattle.best_first.specs.Table.{node_for, offered, ClosedBelow};
 ghost use Rattle.grid_moves.specs.Grid.{IsGrid};
 ghost use Rattle.grid_moves.specs.Move.{all_dirs};
-ghost use Rattle.plain_search.specs.Offers.{cost_to, offer_to, all_offered, MayOffer, MayExpand, HasExpanded};
+ghost use Rattle.plain_search.specs.Offers.{arrival_by, cost_to, offer_to, all_offered, MayOffer, MayExpand, HasExpanded};
 
 use crate::moves::{Behind, less_offered};
 use best_first::{Layout, Node, Offer, Space, State};
@@ -124,15 +124,31 @@ fn offer_around<L: Ledger>(
     offer_over(space, from, a.nw, Cell { x: left, y: up }, Dir::NW, steps);
 }
 
-// Makes the offers of a node, told how its state was come to: where that is a constant, so are the sides
-// on which the parent lies.
+// The arrival of each number: the directions in their order, and beyond them none.
 #[inline(always)]
-fn offer_after<T: Terrain, L: Ledger>(
+fn arrival_by(number: usize) -> Option<Dir>
+    ensures { result ≡ arrival_by number }
+{
+    match number {
+        0 => Some(Dir::N),
+        1 => Some(Dir::NE),
+        2 => Some(Dir::E),
+        3 => Some(Dir::SE),
+        4 => Some(Dir::S),
+        5 => Some(Dir::SW),
+        6 => Some(Dir::W),
+        7 => Some(Dir::NW),
+        _ => None,
+    }
+}
+
+// Makes the offers of a node, told how its state was come to: that is a constant, so the sides on which
+// the parent lies are too.
+fn offer_after<const BY: usize, T: Terrain, L: Ledger>(
     t: &T,
     goal: Cell,
     at: u32,
     node: Node,
-    arrival: Option<Dir>,
     space: &mut Space,
     steps: &mut Steps<L>,
 )
@@ -142,13 +158,13 @@ fn offer_after<T: Terrain, L: Ledger>(
     requires narrow { space.old.width ≤ 4096 }
     requires room { 8 ≤ space.old.spare }
     requires may { MayExpand (T.grid t.now) goal at node space.old }
-    requires told { arrival ≡ (state_told node.place).arrival }
+    requires told { arrival_by BY ≡ (state_told node.place).arrival }
     ensures expanded { HasExpanded (T.grid t.now) goal at node space.old.table space.new.table }
     ensures shape { KeepsShape space.old space.new }
 {
     let cell = node.place.cell();
     let around = moves_around(t, cell);
-    let moves = less_offered(around, Behind::of(arrival));
+    let moves = less_offered(around, Behind::of(arrival_by(BY)));
     let from = Source {
         id: at,
         key: node.key,
@@ -178,15 +194,15 @@ fn offer_from<T: Terrain, L: Ledger>(
     ensures shape { KeepsShape space.old space.new }
 {
     match node.place.arrival() {
-        None => offer_after(t, goal, at, node, None, space, steps),
-        Some(Dir::N) => offer_after(t, goal, at, node, Some(Dir::N), space, steps),
-        Some(Dir::NE) => offer_after(t, goal, at, node, Some(Dir::NE), space, steps),
-        Some(Dir::E) => offer_after(t, goal, at, node, Some(Dir::E), space, steps),
-        Some(Dir::SE) => offer_after(t, goal, at, node, Some(Dir::SE), space, steps),
-        Some(Dir::S) => offer_after(t, goal, at, node, Some(Dir::S), space, steps),
-        Some(Dir::SW) => offer_after(t, goal, at, node, Some(Dir::SW), space, steps),
-        Some(Dir::W) => offer_after(t, goal, at, node, Some(Dir::W), space, steps),
-        Some(Dir::NW) => offer_after(t, goal, at, node, Some(Dir::NW), space, steps),
+        Some(Dir::N) => offer_after::<0, T, L>(t, goal, at, node, space, steps),
+        Some(Dir::NE) => offer_after::<1, T, L>(t, goal, at, node, space, steps),
+        Some(Dir::E) => offer_after::<2, T, L>(t, goal, at, node, space, steps),
+        Some(Dir::SE) => offer_after::<3, T, L>(t, goal, at, node, space, steps),
+        Some(Dir::S) => offer_after::<4, T, L>(t, goal, at, node, space, steps),
+        Some(Dir::SW) => offer_after::<5, T, L>(t, goal, at, node, space, steps),
+        Some(Dir::W) => offer_after::<6, T, L>(t, goal, at, node, space, steps),
+        Some(Dir::NW) => offer_after::<7, T, L>(t, goal, at, node, space, steps),
+        None => offer_after::<8, T, L>(t, goal, at, node, space, steps),
     }
 }
 
