@@ -1,12 +1,14 @@
 -- What runs tell of the members that were cut.
 use Rattle.std.proofs.Common.{inl, inr, ◌≡◌, ℕ, zero, suc, ◌+◌, ◌-◌, ◌<◌, ◌≤◌, arith, refl, ap, sym, ◌∙◌}
-use Rattle.std.proofs.Common.{subst, true, false, List, [], ◌∷◌, length, get_or}
+use Rattle.std.proofs.Common.{subst, true, false, List, [], ◌∷◌, ◌++◌, length, get_or, map, drop, append_assoc}
+use Rattle.std.proofs.Common.{add-one, drop-cons, length-append}
 use Rattle.std.specs.Prelude.{Option, Some, None, nat_lt, if◌then◌else◌}
 use Rattle.std.proofs.lemmas.Bool.{cases_lt}
 use Rattle.std.proofs.lemmas.Bool.Decides.{nat_tests}
 use Rattle.grid_moves.specs.declared.Dir.{Dir}
 use Rattle.cost_waves.proofs.Beginning.{same_dir}
 use Rattle.first_moves.specs.declared.row.Run.{Run}
+use Rattle.first_moves.specs.First.{first_in}
 use Rattle.first_moves.specs.Runs.{is_same_move, runs_from, runs_of}
 
 -- equal members are one
@@ -129,3 +131,39 @@ told runs members n i d e h r =
         → (get_or (runs_of members) i d).first ≡ get_or members n None
     by_list [] h r = absurd (omega arith)
     by_list (m ∷ ms) h r = reads 0 1 m ms n d (omega arith) i r ∙ by_place m ms n
+
+-- the runs after one member more, of which x is the next
+member_more : (all runs next : List Run) (k : ℕ) (m x : Option Dir) (ms : List (Option Dir))
+    → all ≡ runs ++ runs_from k m (x ∷ ms) → length runs ≤ k
+    → next ≡ (if is_same_move m x then runs else runs ++ record { start = k; first = x } ∷ [])
+    → (all ≡ next ++ runs_from (k + 1) x ms) × (length next ≤ k + 1)
+member_more all runs next k m x ms e few f = elim (is_same_move m x) as (λ b. is_same_move m x ≡ b
+    → all ≡ runs ++ (if b then runs_from (k + 1) m ms else runs_on k (k + 1) x ms)
+    → next ≡ (if b then runs else runs ++ record { start = k; first = x } ∷ [])
+    → (all ≡ next ++ runs_from (k + 1) x ms) × (length next ≤ k + 1)) [
+      | true ↦ λ s p q. (
+        p ∙ ap (λ (y : Option Dir). runs ++ runs_from (k + 1) y ms) (same_move m x s)
+            ∙ ap (λ (l : List Run). l ++ runs_from (k + 1) x ms) (sym q),
+        let l = ap (λ (l : List Run). length l) q in omega (arith, l),
+      )
+      | false ↦ λ s p q. (
+        p ∙ sym (append_assoc runs (record { start = k; first = x } ∷ []) (runs_from (k + 1) x ms))
+            ∙ ap (λ (l : List Run). l ++ runs_from (k + 1) x ms) (sym q),
+        let l = ap (λ (l : List Run). length l) q ∙ length-append runs (record { start = k; first = x } ∷ []) in
+            omega (arith, l),
+      )
+    ] refl e f
+
+-- after one byte more
+pub byte_more : (all runs next : List Run) (bytes : List ℕ) (i : ℕ) (m : Option Dir) → i < length bytes
+    → all ≡ runs ++ runs_from (i + 1) m (map first_in (drop i bytes)) → length runs ≤ i + 1
+    → next ≡ (if is_same_move m (first_in (get_or bytes i 0)) then runs
+    else runs ++ record { start = i + 1; first = first_in (get_or bytes i 0) } ∷ [])
+    → (all ≡ next ++ runs_from (i + 1 + 1) (first_in (get_or bytes i 0)) (map first_in (drop (i + 1) bytes)))
+    × (length next ≤ i + 1 + 1)
+byte_more all runs next bytes i m h e few f =
+    member_more all runs next (i + 1) m (first_in (get_or bytes i 0)) (map first_in (drop (i + 1) bytes))
+    (e ∙ ap (λ (l : List ℕ). runs ++ runs_from (i + 1) m (map first_in l)) split) few f
+  where
+    split : drop i bytes ≡ get_or bytes i 0 ∷ drop (i + 1) bytes
+    split = rw (add-one, drop-cons bytes i 0) refl

@@ -1,7 +1,7 @@
 -- Boxes are kept cell by cell.
 use Rattle.std.proofs.Common.{◌≡◌, ◌<◌, ◌≤◌, ◌+◌, ◌*◌, ℕ, Bool, true, false, refl, ap, sym, ◌∙◌, subst, arith}
 use Rattle.std.proofs.Common.{List, [], ◌∷◌, ◌++◌, length, get_or}
-use Rattle.std.specs.Prelude.{nat_lt}
+use Rattle.std.specs.Prelude.{nat_lt, slice_index_or}
 use Rattle.std.proofs.lemmas.Bool.Decides.{nat_tests}
 use Rattle.std.proofs.lemmas.List.{get_or_append_left}
 use Rattle.std.proofs.Math.Seq.{get_or-append_seam}
@@ -11,7 +11,7 @@ use Rattle.grid_moves.proofs.Legal.{free_inside}
 use Rattle.grid_moves.proofs.Places.{one_cell, number_below}
 use Rattle.goal_boxes.specs.declared.around.CellBoxes.{CellBoxes}
 use Rattle.goal_boxes.specs.Box.{AreBoxes}
-use Rattle.goal_boxes.specs.Stored.{no_boxes, boxes_at, HoldsBoxes, AreBefore}
+use Rattle.goal_boxes.specs.Stored.{BoxData, no_boxes, HoldsBoxes, AreBefore}
 
 length-one_more : (cells : List CellBoxes) (b : CellBoxes) → length (cells ++ b ∷ []) ≡ length cells + 1
 length-one_more [] b = refl
@@ -51,17 +51,19 @@ module _ (g : GridData) where
           let m : cell_number g.width c ≡ n = omega arith in
           last c f (one_cell g.width c u (free_inside g c f).0 on (m ∙ sym e))
 
-  -- all cells
-  pub all_kept : (width height : ℕ) (cells : List CellBoxes) → width ≡ g.width → height ≡ g.height
-      → AreBefore g cells (g.height * g.width)
-      → HoldsBoxes g (record { width = width; height = height; cells = cells })
-  all_kept width height cells wide high k = record {
+  -- all cells, when the rows are done
+  pub holds_all : (b : BoxData) (cells : List CellBoxes) (height y : ℕ) → b.width ≡ g.width
+      → b.height ≡ g.height → b.cells ≡ cells → height ≡ g.height → height ≤ y → y ≤ height
+      → AreBefore g cells (y * g.width) → HoldsBoxes g b
+  holds_all b cells height y wide high same h past within k = record {
     width = wide;
     height = high;
     boxes = λ c f.
         let i = free_inside g c f in
-        let below = number_below g.width g.height c i.0 i.1 in
-        subst (λ (n : ℕ). AreBoxes g c
-        (boxes_at (record { width = n; height = height; cells = cells }) c)) (sym wide)
-        (k.boxes c f below);
+        let all : y ≡ g.height = omega arith in
+        let below = subst (λ (n : ℕ). cell_number g.width c < n * g.width) (sym all)
+        (number_below g.width g.height c i.0 i.1) in
+        subst (λ (n : ℕ). AreBoxes g c (slice_index_or b.cells (cell_number n c) no_boxes)) (sym wide)
+        (subst (λ (bs : List CellBoxes). AreBoxes g c (slice_index_or bs (cell_number g.width c) no_boxes))
+        (sym same) (k.boxes c f below));
   }

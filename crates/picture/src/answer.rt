@@ -4,7 +4,7 @@ use grid_moves::Cell;
 use root2_cost::Cost;
 
 /// A walk: the points that stand for it, from its start to its goal, and its cost.
-#[derive(Clone, Copy, Debug)]
+#[derive(Clone, Copy)]
 pub struct Walk<'a> {
     pub points: &'a [Cell],
     pub cost: Cost,

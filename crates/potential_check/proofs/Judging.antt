@@ -1,12 +1,16 @@
 -- The answers of a check, by the first clause that fails.
 use Rattle.std.proofs.Common.{◌≡◌, ℕ, ◌<◌, ◌≤◌, arith, refl, ap, sym, ◌∙◌, subst, Bool, true, false, List}
-use Rattle.std.specs.Prelude.{Option, Some, None, Result, Ok, Err, ◌&&◌, IfOk}
+use Rattle.std.specs.Prelude.{Option, Some, None, Result, Ok, Err, ◌&&◌, IfOk, ◌^◌, length, nat_eq, nat_le}
+use Rattle.std.specs.Prelude.{nat_lt}
+use Rattle.std.proofs.lemmas.Bool.{and_parts}
+use Rattle.std.proofs.lemmas.Bool.Decides.{nat_tests}
 use Rattle.std.specs.List.{list_all}
 use Rattle.root2_cost.specs.declared.Cost.{Cost}
 use Rattle.grid_moves.specs.declared.Cell.{Cell}
 use Rattle.grid_moves.specs.Grid.{GridData, IsGrid}
 use Rattle.grid_moves.specs.Walk.{last_of}
 use Rattle.grid_moves.proofs.Legal.{free_inside, legal_is}
+use Rattle.potential_check.specs.declared.certificate.Certificate.{Certificate}
 use Rattle.potential_check.specs.declared.certificate.Claim.{Claim}
 use Rattle.potential_check.specs.declared.certificate.Claim.TheVariants.{Least, NoWalk}
 use Rattle.potential_check.specs.declared.verdict.Proof.{Proof}
@@ -14,14 +18,16 @@ use Rattle.potential_check.specs.declared.verdict.Proof.TheVariants as proof
 use Rattle.potential_check.specs.declared.verdict.Reject.{Reject}
 use Rattle.potential_check.specs.declared.verdict.Reject.TheVariants.{Size, Ends, Walk, Start, Goal, Move}
 use Rattle.potential_check.specs.declared.verdict.Reject.TheVariants.{Open}
-use Rattle.potential_check.specs.Certificate.{is_short, is_small}
+use Rattle.potential_check.specs.Certificate.{are_listed, are_points, are_sides, cells_of, is_claim, is_short}
+use Rattle.potential_check.specs.Certificate.{is_small}
 use Rattle.potential_check.specs.Potential.{is_listed, potential_of, rises}
 use Rattle.potential_check.specs.Moves.{first_failing}
-use Rattle.potential_check.specs.Accepted.{AcceptsClaim, AcceptsLeast, AcceptsNone, Holds, RefusesClaim}
+use Rattle.potential_check.specs.Accepted.{AcceptsClaim, AcceptsLeast, AcceptsNone, Holds, RefusesClaim, has_size}
 use Rattle.potential_check.specs.Accepted.{RefusesLeast, RefusesNone, claimed, ends_at_cost, leaves}
 use Rattle.potential_check.specs.Accepted.{starts_at_nothing}
 use Rattle.potential_check.specs.Judged.{JudgesClaim, JudgesWalk}
 use Rattle.potential_check.specs.Rising.{climbs, height_of}
+use Rattle.potential_check.proofs.Entries.{lt_is}
 use Rattle.potential_check.proofs.Feasible.{first_failing-same, kept_inside, none_cheaper, none_fails}
 use Rattle.potential_check.proofs.Feasible.{none_found}
 use Rattle.potential_check.proofs.Ranked.{climbs-leaves, climbs-rises, members, out_of_reach, rank_below}
@@ -209,6 +215,41 @@ way_out_is g given cells same =
 -- both tests hold
 pub both : (a b : Bool) → a ≡ true → b ≡ true → (a && b) ≡ true
 both a b e f = rw (e, f) refl
+
+-- what a claim of least cost holds
+pub record LeastParts (width height : ℕ) (cost : Cost) (points : List Cell) (values : List (Cell × Cost)) :
+    Type 0 where
+  pub small : is_small cost ≡ true
+  pub few : length points < 2 ^ 30
+  pub low : list_all (λ entry. is_small entry.1) values ≡ true
+  pub listed : are_listed width height (cells_of values) ≡ true
+
+pub least_parts : (width height : ℕ) (cost : Cost) (points : List Cell) (values : List (Cell × Cost))
+    → is_claim width height (Least cost points values) ≡ true → LeastParts width height cost points values
+least_parts width height cost points values h =
+    let all = and_parts (is_small cost && are_points points && list_all (λ entry. is_small entry.1) values)
+    (are_listed width height (cells_of values)) h in
+    let three = and_parts (is_small cost && are_points points) (list_all (λ entry. is_small entry.1) values)
+    all.0 in
+    let two = and_parts (is_small cost) (are_points points) three.0 in
+    let counted = and_parts (nat_le 1 (length points) && nat_lt (length points) (2 ^ 30))
+    (list_all is_short points) two.1 in
+    let few = and_parts (nat_le 1 (length points)) (nat_lt (length points) (2 ^ 30)) counted.0 in
+    record { small = two.0; few = lt_is _ _ few.1; low = three.1; listed = all.1 }
+
+-- the claim of a certificate of the grid's size
+pub claim_fits : (g : GridData) (c : Certificate) → has_size g c ≡ true
+    → is_claim g.width g.height c.claim ≡ true
+claim_fits g c size =
+    let sides = and_parts (nat_eq g.width c.width) (nat_eq g.height c.height) size in
+    let wide : g.width ≡ c.width = same _ _ sides.0 in
+    let high : g.height ≡ c.height = same _ _ sides.1 in
+    let parts = and_parts (are_sides c.width c.height && is_short c.start && is_short c.goal)
+    (is_claim c.width c.height c.claim) c.whole in
+    rw (wide, high) parts.1
+  where
+    same : (m n : ℕ) → nat_eq m n ≡ true → m ≡ n
+    same m n h = grind (arith, nat_tests)
 
 -- an answer that names no point
 pub right_walk : (g : GridData) (s t : Cell) (cost : Cost) (points : List Cell) (bad : Option ℕ) → bad ≡ None

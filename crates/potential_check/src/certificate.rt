@@ -8,7 +8,7 @@ use path_points::{Cells, Costs, Points};
 use root2_cost::Cost;
 
 /// What a certificate claims of the walks from its start to its goal.
-#[derive(Debug, Drop)]
+#[derive(Drop)]
 pub enum Claim {
     /// The least cost; points that stand for a walk of this cost; and cells with their values. Any
     /// other cell has the cost less its octile estimate to the goal as its value.
@@ -28,7 +28,7 @@ pub enum Claim {
 /// The sides are 1 to 4096, and each coordinate is below 10,000, each part of a cost below 10^9. There
 /// are 1 point or more, and fewer than 2^30. Listed cells lie inside the sides, and their numbers, row
 /// by row from the upper left, ascend strictly.
-#[derive(Debug, Drop)]
+#[derive(Drop)]
 pub struct Certificate {
     pub width: u16,
     pub height: u16,

@@ -34,13 +34,28 @@ pub fn check(g: &Grid, c: &Certificate) -> Result<Proof, Reject>
     ensures err { IfErr result (Refuses g.now c.now) }
     ensures refuses { (reject : Reject) → Refuses g.now c.now reject → result ≡ Err reject }
 {
-    if g.width() != c.width || g.height() != c.height {
+    if !has_size(g, c) {
         return Err(Reject::Size);
     }
-    if !g.free(c.start) || !g.free(c.goal) {
+    if !has_free_ends(g, c) {
         return Err(Reject::Ends);
     }
     check_claim(g, c.start, c.goal, &c.claim)
+}
+
+// Whether the stated size is the grid's.
+fn has_size(g: &Grid, c: &Certificate) -> bool
+    ensures is { result ≡ spec.has_size g.now c.now }
+    ensures whole { IsGrid g.now }
+{
+    g.width() == c.width && g.height() == c.height
+}
+
+// Whether both ends are free cells of the grid.
+fn has_free_ends(g: &Grid, c: &Certificate) -> bool
+    ensures { result ≡ spec.has_free_ends g.now c.now }
+{
+    g.free(c.start) && g.free(c.goal)
 }
 
 // What the claim about walks from s to t proves, or the first clause that it fails.

@@ -37,8 +37,8 @@ impl<'a> Heights<'a> {
         ensures low { IsTrue (spec.are_low result.1) }
     {
         match self {
-            Heights::Values { cost, goal, rest } => match rest {
-                [(cell, value), more @ ..] if *cell == c => {
+            Heights::Values { cost, goal, rest } => match rest.split_first() {
+                Some(((cell, value), more)) if *cell == c => {
                     let height = value.signed().rank();
                     (
                         height,
@@ -51,8 +51,8 @@ impl<'a> Heights<'a> {
                 }
                 _ => (cost.minus(estimate(c, goal)).rank(), self),
             },
-            Heights::Members { rest } => match rest {
-                [cell, more @ ..] if *cell == c => (0, Heights::Members { rest: more }),
+            Heights::Members { rest } => match rest.split_first() {
+                Some((cell, more)) if *cell == c => (0, Heights::Members { rest: more }),
                 _ => (OUT_OF_REACH, self),
             },
         }

@@ -21,3 +21,6 @@ returns g c = λ s r.
     let done : c.loop-c.c-index ≡ length c.args.now.now = omega arith in
     subst (λ (n : ℕ). IsMidway (g.T.Terrain.grid c.args.t.now) s c.args.floor c.args.now.now n
     (front_of c.loop-c.ranks c.loop-c.firsts c.loop-c.ahead)) done (c.loop-c.invariant s r)
+
+pub settle-requires-clause-floor : goal.settle-requires-clause-floor
+settle-requires-clause-floor g c = c.requires.below

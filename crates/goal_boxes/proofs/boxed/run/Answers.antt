@@ -1,4 +1,4 @@
-use Rattle.std.proofs.Common.{◌≡◌, ◌∙◌, ◌+◌, ℕ, true, ap, sym, length, subst, arith}
+use Rattle.std.proofs.Common.{◌≤◌, ◌≡◌, ◌∙◌, ◌+◌, ℕ, true, ap, sym, length, subst, arith}
 use Rattle.std.specs.Prelude.{Option, IfSome}
 use Rattle.grid_moves.specs.declared.Cell.{Cell}
 use Rattle.grid_moves.specs.Grid.{is_free}
@@ -59,3 +59,19 @@ returns-in-None-clause-least g c =
     exhausted_none grid b c.args.ends.to c.requires.boxes c.args.ends.from c.requires.from c.advance.new.taken
     (subst (λ (o : Option ℕ). GoesOn grid b c.args.ends.from c.args.ends.to c.advance.new.space.table
     c.advance.new.taken o) c.in-None.is c.in_ok-next.ensures.goes_on)
+
+one_more : (before after first old new : ℕ) → after ≤ before + 1 → before + 1 ≤ first + old → new ≡ old + 1
+    → after + 1 ≤ first + new
+one_more before after first old new a b n = omega arith
+
+pub taking-preserved : goal.taking-preserved
+taking-preserved g c = record {
+  taken = subst (λ (o : Option ℕ). GoesOn (g.T.Terrain.grid c.args.t.now) g.K.Meant.boxes c.args.ends.from
+      c.args.ends.to c.advance.new.space.table c.advance.new.taken o) c.in-Some.is
+      c.in_ok-next.ensures.goes_on;
+  ready = c.advance.ensures.ready;
+  stands = c.boxes_of.ensures.stands;
+  passes = one_more _ _ _ _ _ c.boxes_of.ensures.passes c.taking.invariant.passes
+      (subst (λ (o : Option ℕ). IfSome o (λ id. length c.advance.new.taken ≡ length c.taking.taken + 1))
+      c.in-Some.is c.in_ok-next.ensures.one_more);
+}

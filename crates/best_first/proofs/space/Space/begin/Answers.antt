@@ -1,4 +1,4 @@
-use Rattle.std.proofs.Common.{◌≡◌, ◌∙◌, ◌≤◌, sym, ap, subst, refl, length, ℕ, [], arith}
+use Rattle.std.proofs.Common.{rules, ◌≡◌, ◌∙◌, ◌≤◌, sym, ap, subst, refl, length, ℕ, [], arith}
 use Rattle.open_list.specs.OpenList.{OpenList}
 use Rattle.best_first.specs.declared.node.Node.{Node}
 use Rattle.best_first.specs.declared.state.Layout.{Layout}
@@ -49,3 +49,21 @@ invariant_of-self-2 g c =
     c.put.new.self.records.items c.node_for.result (start_at c.args.start) 1 parts c.requires.narrow placed
     (ap (λ (n : Node). n.place) c.node_for.ensures) refl c.add_first.ensures.nodes refl put
     (omega (arith, c.put.ensures.one_more, i.records.ok.0, c.put.new.self.records.ok.0)))
+
+pub node_for-requires-clause-column : goal.node_for-requires-clause-column
+node_for-requires-clause-column g c = search rules
+
+pub add_first-requires-clause-room : goal.add_first-requires-clause-room
+add_first-requires-clause-room g c = search rules
+
+pub number_of-requires-clause-column : goal.number_of-requires-clause-column
+number_of-requires-clause-column g c = search rules
+
+pub put-requires-clause-few : goal.put-requires-clause-few
+put-requires-clause-few g c = search rules
+
+pub returns-clause-width : goal.returns-clause-width
+returns-clause-width g c = search rules
+
+pub returns-in_err-make_room-clause-width : goal.returns-in_err-make_room-clause-width
+returns-in_err-make_room-clause-width g c = search rules

@@ -56,3 +56,6 @@ returns-in-Err-clause-forgotten g c =
     })) (sym f)
     (blank w.width w.height c.forget-in-Err.new.ranks c.forget-in-Err.new.firsts
     c.forget-in-Err.ensures.far c.forget-in-Err.ensures.none))
+
+pub pass_from-outcome-requires-clause-from : goal.pass_from-outcome-requires-clause-from
+pass_from-outcome-requires-clause-from g c = c.requires.from
