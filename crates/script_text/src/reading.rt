@@ -76,24 +76,20 @@ pub(crate) fn command_on(piece: Line<'_>) -> Result<Option<Command>, ScriptFault
 fn command_of(word: &[u8], fields: Fields<'_>) -> Option<Command>
     ensures { result ≡ command_in (word.now ∷ fields.entry) }
 {
-    match word {
-        b"block" => {
-            let (x, y) = two_numbers(fields)?;
-            Some(Command::Block { x, y })
-        }
-        b"free" => {
-            let (x, y) = two_numbers(fields)?;
-            Some(Command::Free { x, y })
-        }
-        b"flood" => {
-            let (x, y) = two_numbers(fields)?;
-            Some(Command::Flood { x, y })
-        }
-        b"query" => {
-            let (sx, sy, gx, gy) = four_numbers(fields)?;
-            Some(Command::Query { sx, sy, gx, gy })
-        }
-        _ => None,
+    if word == b"block".as_slice() {
+        let (x, y) = two_numbers(fields)?;
+        Some(Command::Block { x, y })
+    } else if word == b"free".as_slice() {
+        let (x, y) = two_numbers(fields)?;
+        Some(Command::Free { x, y })
+    } else if word == b"flood".as_slice() {
+        let (x, y) = two_numbers(fields)?;
+        Some(Command::Flood { x, y })
+    } else if word == b"query".as_slice() {
+        let (sx, sy, gx, gy) = four_numbers(fields)?;
+        Some(Command::Query { sx, sy, gx, gy })
+    } else {
+        None
     }
 }
 
