@@ -4,7 +4,7 @@ use thiserror::Error;
 
 /// A request, with the names of files as they stand among the words. Where a request may name a table file,
 /// `tables` is its name: the session then begins with the tables of that file.
-#[derive(Clone, Copy, Debug)]
+#[derive(Clone, Copy)]
 pub enum Request<'a> {
     /// How the program is called.
     Help,
@@ -101,7 +101,7 @@ pub enum Request<'a> {
 }
 
 /// How a request is to be done. A setting that the words don't have stands at its default.
-#[derive(Clone, Copy, Debug, Default)]
+#[derive(Clone, Copy, Default)]
 pub struct Settings {
     pub pick: Pick,
     pub show: Show,

@@ -13,7 +13,7 @@ use crate::settings::Family;
 use text_line::long_number;
 
 /// A command.
-#[derive(Clone, Copy, Debug)]
+#[derive(Clone, Copy)]
 pub enum Command {
     Help,
     Version,
@@ -54,7 +54,7 @@ fn percent_of(word: &str) -> Option<u8>
 }
 
 /// What a word that a command takes has to be.
-#[derive(Clone, Copy, Debug)]
+#[derive(Clone, Copy)]
 pub enum Kind {
     /// The name of a file, which may be any word.
     File,
@@ -95,7 +95,7 @@ impl Kind {
 
 /// A command, the kinds of the words that it takes after its name, and the settings that it allows
 /// after these.
-#[derive(Clone, Copy, Debug)]
+#[derive(Clone, Copy)]
 pub struct Row {
     pub command: Command,
     pub takes: &'static [Kind],

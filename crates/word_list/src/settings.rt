@@ -10,7 +10,7 @@ ghost use Rattle.word_list.specs.Steps.{AreSettled, one_follows};
 use crate::request::{Pick, Settings, Show};
 
 /// A setting.
-#[derive(Clone, Copy, Debug)]
+#[derive(Clone, Copy)]
 pub enum Setting {
     Engine(Pick),
     Show(Show),
@@ -21,7 +21,7 @@ pub enum Setting {
 }
 
 /// What a setting chooses. No choice is made twice.
-#[derive(Clone, Copy, Debug, PartialEq, Eq)]
+#[derive(Clone, Copy, PartialEq, Eq)]
 enum Choice {
     /// Which engine searches.
     Engine,
@@ -34,7 +34,7 @@ enum Choice {
 }
 
 /// Settings that a command allows, all of them or none.
-#[derive(Clone, Copy, Debug)]
+#[derive(Clone, Copy)]
 pub enum Family {
     /// An engine that serves maps of any size, and edits.
     Engine,
