@@ -152,3 +152,26 @@ cells_made seed w h percent kinds cells g width height are start drawn =
         terrain = ap (list_all is_terrain) made ∙ all_terrain percent (h * w) (generator_of seed);
       };
     }
+
+-- a word is drawn, and then the others
+module _ (n : ℕ) (g : Lcg) {a : Lcg} {w : ℕ} (first : (w, a) ≡ pcg32 g) where
+  one_word : words_from (suc n) g ≡ w ∷ words_from n a
+  unfolding words_from
+  one_word = ap (λ (drawn : ℕ × Lcg). drawn.0 ∷ words_from n drawn.1) (sym first)
+
+  one_after : after_words (suc n) g ≡ after_words n a
+  unfolding after_words
+  one_after = ap (λ (drawn : ℕ × Lcg). after_words n drawn.1) (sym first)
+
+module _ (g : Lcg) {a b c d : Lcg} {w x y z : ℕ} (first : (w, a) ≡ pcg32 g)
+    (second : (x, b) ≡ pcg32 a) (third : (y, c) ≡ pcg32 b) (fourth : (z, d) ≡ pcg32 c) where
+  pub four_words : words_from 4 g ≡ w ∷ x ∷ y ∷ z ∷ []
+  unfolding words_from
+  four_words =
+      one_word 3 g first ∙ ap (λ (l : List ℕ). w ∷ l) (one_word 2 a second
+      ∙ ap (λ (l : List ℕ). x ∷ l) (one_word 1 b third
+      ∙ ap (λ (l : List ℕ). y ∷ l) (one_word 0 c fourth)))
+
+  pub four_after : d ≡ after_words 4 g
+  unfolding after_words
+  four_after = sym (one_after 3 g first ∙ one_after 2 a second ∙ one_after 1 b third ∙ one_after 0 c fourth)

@@ -1,5 +1,6 @@
 -- Lines that are written, one after another.
-use Rattle.std.proofs.Common.{◌≡◌, ℕ, suc, ◌+◌, ◌-◌, ◌*◌, ◌<◌, ◌≤◌, List, [], ◌∷◌, ◌++◌, length, take, drop, ap, Result, Ok, Err}
+use Rattle.std.proofs.Common.{◌≡◌, ℕ, suc, ◌+◌, ◌-◌, ◌*◌, ◌<◌, ◌≤◌, List}
+use Rattle.std.proofs.Common.{[], ◌∷◌, ◌++◌, length, take, drop, ap, Result, Ok, Err}
 use Rattle.std.proofs.Common.{refl, sym, ◌∙◌, arith}
 use Rattle.std.proofs.lemmas.List.{append_assoc, append-nil, length-drop}
 use Rattle.std.specs.Prelude.{OnOk, OnErr, codes, decimal}
@@ -45,8 +46,9 @@ module _ (map : Map) {old room first second third fourth fifth : List ℕ} (r : 
     (c : third ≡ second ++ codes "\nwidth ") (d : fourth ≡ third ++ decimal map.width)
     (e : fifth ≡ fourth ++ codes "\nmap\n") where
   pub header_begins : Begins old fifth
-  header_begins = begins_then old fourth fifth _ (begins_then old third fourth _ (begins_then old second third _
-      (begins_then old first second _ (begins_then old room first _ (begins_at old room r) a) b) c) d) e
+  header_begins = begins_then old fourth fifth _ (begins_then old third fourth _
+      (begins_then old second third _ (begins_then old first second _
+      (begins_then old room first _ (begins_at old room r) a) b) c) d) e
 
   pub text_written : {new : List ℕ} (cells : List ℕ) → cells ≡ map.cells
       → new ≡ fifth ++ text_of (rows_of map.height map.width cells) → new ≡ old ++ canonical_text map
