@@ -118,130 +118,87 @@ fn a_query_is_read_with_its_settings(rt: HostRuntime) -> Result<(), Fail> {
     Ok(())
 }
 
+// The map, the table file and the script or scenario of a request.
+fn files_of<'a>(request: Request<'a>) -> (&'a str, Option<&'a str>, &'a str) {
+    match request {
+        Request::Solve {
+            map,
+            tables,
+            script,
+        } => (map, tables, script),
+        Request::Scen { map, tables, scen } => (map, tables, scen),
+        Request::Live { map, tables } | Request::Query { map, tables, .. } => (map, tables, ""),
+        _ => ("", None, ""),
+    }
+}
+
+// The name of a table file is all behind the first `=`; its engine may stand before it or behind it.
 #[test]
 fn a_map_stands_before_its_script_or_scenario(rt: HostRuntime) -> Result<(), Fail> {
-    let words = words_of(rt.alloc(), "solve m s show=cells")?;
-    let solve = read_words(&words);
-    assert!(rt;
-        matches!(
-            solve,
-            Ok((
-                Request::Solve {
-                    map: "m",
-                    tables: None,
-                    script: "s"
-                },
-                Settings {
-                    show: Show::Cells,
-                    ..
-                }
-            ))
-        )
-    );
-    let words = words_of(rt.alloc(), "scen m s rule=none")?;
-    let scen = read_words(&words);
-    assert!(rt;
-        matches!(
-            scen,
-            Ok((
-                Request::Scen {
-                    map: "m",
-                    tables: None,
-                    scen: "s"
-                },
-                Settings { one: false, .. }
-            ))
-        )
-    );
-    Ok(())
-}
-
-// The name is all behind the first `=`; the engine may stand before it or behind it.
-#[test]
-fn a_table_file_stands_beside_its_engine(rt: HostRuntime) -> Result<(), Fail> {
-    for line in [
-        "live m tables=a=b engine=plus",
-        "live m engine=plus rule=one tables=a=b",
-    ] {
+    let (plain, plus) = (Pick::Plain, Pick::Plus);
+    let (points, taken) = (Show::Points, Show::Taken);
+    let calls: [(&str, (&str, Option<&str>, &str), (Pick, Show, bool)); 8] = [
+        (
+            "solve m s show=cells",
+            ("m", None, "s"),
+            (plain, Show::Cells, false),
+        ),
+        (
+            "scen m s rule=none",
+            ("m", None, "s"),
+            (plain, points, false),
+        ),
+        (
+            "scen m s engine=jps show=taken",
+            ("m", None, "s"),
+            (Pick::Jps, taken, false),
+        ),
+        (
+            "live m tables=a=b engine=plus",
+            ("m", Some("a=b"), ""),
+            (plus, points, false),
+        ),
+        (
+            "live m engine=plus rule=one tables=a=b",
+            ("m", Some("a=b"), ""),
+            (plus, points, true),
+        ),
+        (
+            "query m 0 0 1 1 tables=t engine=plus",
+            ("m", Some("t"), ""),
+            (plus, points, false),
+        ),
+        (
+            "solve m s engine=plus tables=t",
+            ("m", Some("t"), "s"),
+            (plus, points, false),
+        ),
+        (
+            "scen m s tables=t show=taken engine=plus",
+            ("m", Some("t"), "s"),
+            (plus, taken, false),
+        ),
+    ];
+    for (line, files, chosen) in calls {
         let words = words_of(rt.alloc(), line)?;
-        assert!(rt;
-            matches!(
-                read_words(&words),
-                Ok((
-                    Request::Live {
-                        map: "m",
-                        tables: Some("a=b")
-                    },
+        match read_words(&words) {
+            Ok(
+                (
+                    request,
                     Settings {
-                        pick: Pick::Plus,
+                        pick,
+                        show,
+                        one,
                         ..
-                    }
-                ))
-            ),
-            "{line}"
-        );
+                    },
+                ),
+            ) => {
+                assert_eq!(rt; files_of(request), files, "{line}");
+                assert_eq!(rt; (pick, show, one), chosen, "{line}");
+            }
+            Err(_) => assert!(rt; false, "{line}"),
+        }
     }
-    let words = words_of(rt.alloc(), "query m 0 0 1 1 tables=t engine=plus")?;
-    assert!(rt;
-        matches!(
-            read_words(&words),
-            Ok((
-                Request::Query {
-                    tables: Some("t"),
-                    ..
-                },
-                _
-            ))
-        )
-    );
-    let words = words_of(rt.alloc(), "solve m s engine=plus tables=t")?;
-    assert!(rt;
-        matches!(
-            read_words(&words),
-            Ok((
-                Request::Solve {
-                    tables: Some("t"),
-                    script: "s",
-                    ..
-                },
-                _
-            ))
-        )
-    );
-    let words = words_of(rt.alloc(), "scen m s tables=t show=taken engine=plus")?;
-    assert!(rt;
-        matches!(
-            read_words(&words),
-            Ok((
-                Request::Scen {
-                    tables: Some("t"),
-                    scen: "s",
-                    ..
-                },
-                _
-            ))
-        )
-    );
-    Ok(())
-}
-
-#[test]
-fn rows_may_tell_counts(rt: HostRuntime) -> Result<(), Fail> {
-    let words = words_of(rt.alloc(), "scen m s engine=jps show=taken")?;
-    let scen = read_words(&words);
-    assert!(rt;
-        matches!(
-            scen,
-            Ok((
-                Request::Scen { .. },
-                Settings {
-                    pick: Pick::Jps,
-                    show: Show::Taken,
-                    ..
-                }
-            ))
-        )
-    );
     Ok(())
 }
 
