@@ -2,15 +2,15 @@
 use Rattle.std.proofs.Common.{◌≡◌, ◌≢◌, refl, true, false, ℕ, ◌+◌, ◌*◌, ◌≤◌, Bool, arith}
 use Rattle.std.specs.Prelude.{if◌then◌else◌}
 use Rattle.best_first.specs.Space.{SpaceData}
-use Rattle.bit_grid.specs.Bits.{AreBitsOf, BitData}
 use Rattle.grid_moves.specs.Grid.{GridData}
 use Rattle.grid_moves.specs.Layers.{Layers}
 use Rattle.plus_tables.specs.Tables.{TablesData, AreTablesOf, IsWhole}
 use Rattle.table_repair.specs.Counted.{places_differing}
-use Rattle.edit_replay.specs.Kept.{IsFinderOf, engine_of}
+use Rattle.edit_replay.specs.Kept.{IsFinderOf, IsFinderOn, engine_of}
 use Rattle.edit_replay.specs.Mended.{AreMended, IsEditCounted, MendsWithin, repaired}
 use Rattle.edit_replay.specs.declared.kept.Both.{Both}
-use Rattle.edit_replay.specs.declared.kept.Finder.TheVariants.{Bits, Tables}
+use Rattle.edit_replay.specs.declared.kept.Finder.{Finder}
+use Rattle.edit_replay.specs.declared.kept.Finder.TheVariants.{Cells, Bits, Tables}
 use Rattle.edit_replay.specs.declared.kept.Kept.{Kept}
 use Rattle.edit_replay.specs.declared.kept.Kept.TheVariants.{Jumps}
 
@@ -21,11 +21,15 @@ pub mended_both : (kept : Kept) (tables : Both TablesData) (space : SpaceData) (
     → IsEditCounted (engine_of kept) before after old new
 mended_both kept tables space before after old new is mended = rw is mended
 
--- the bits of a ground are those of its grid
-pub bits_at : (is_water : Bool) (bits : Both BitData) (grids : Both GridData) → IsFinderOf grids (Bits bits)
-    → AreBitsOf (if is_water then bits.water else bits.land) (if is_water then grids.water else grids.land)
-bits_at true bits grids are = are.1
-bits_at false bits grids are = are.0
+-- what finds jumps on both grids finds them on that of a ground
+pub finder_on : (is_water : Bool) (grids : Both GridData) (finder : Finder) → IsFinderOf grids finder
+    → IsFinderOn is_water (if is_water then grids.water else grids.land) finder
+finder_on true grids Cells are = tt
+finder_on false grids Cells are = tt
+finder_on true grids (Bits bits) are = are.1
+finder_on false grids (Bits bits) are = are.0
+finder_on true grids (Tables tables) are = are.1
+finder_on false grids (Tables tables) are = are.0
 
 -- tables were mended
 pub tables_follow : (old new : TablesData) (g h : GridData) → h ≢ g → (changed steps steps_now : ℕ)

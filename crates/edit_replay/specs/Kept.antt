@@ -1,5 +1,5 @@
 -- What a session keeps for its searches.
-use Rattle.std.specs.Prelude.{◌≡◌, ⊤, Bool, true, false}
+use Rattle.std.specs.Prelude.{⊤, Bool, true, false, if◌then◌else◌}
 use Rattle.grid_moves.specs.Grid.{GridData}
 use Rattle.grid_moves.specs.Layers.{AreLayers, Layers}
 use Rattle.bit_grid.specs.Bits.{AreBitsOf}
@@ -43,6 +43,12 @@ IsFinderOf grids finder.Cells = ⊤
 IsFinderOf grids (finder.Bits bits) = AreBitsOf bits.land grids.land × AreBitsOf bits.water grids.water
 IsFinderOf grids (finder.Tables tables) = AreTablesOf tables.land grids.land
     × AreTablesOf tables.water grids.water
+
+-- jumps on the grid of water, or on that of land, are found so
+abbrev pub IsFinderOn : Bool → GridData → Finder → Type 0
+IsFinderOn is_water g finder.Cells = ⊤
+IsFinderOn is_water g (finder.Bits bits) = AreBitsOf (if is_water then bits.water else bits.land) g
+IsFinderOn is_water g (finder.Tables tables) = AreTablesOf (if is_water then tables.water else tables.land) g
 
 -- the memory has a place for each state of the grids, and jumps on them are found
 abbrev pub Serves : Both GridData → Kept → Type 0

@@ -4,7 +4,7 @@ use Rattle.std.specs.Prelude.{◌++◌}
 use Rattle.root2_cost.specs.declared.Cost.{Cost}
 use Rattle.grid_moves.specs.declared.Cell.{Cell}
 use Rattle.grid_moves.specs.declared.Ground.{Ground}
-use Rattle.grid_moves.specs.Grid.{GridData, is_free, is_ground, is_inside}
+use Rattle.grid_moves.specs.Grid.{GridData, is_free, is_ground}
 use Rattle.grid_moves.specs.Layers.{Layers, ground_at, is_on_map, layers_with, query_grid}
 use Rattle.grid_moves.specs.Reply.{Answer, outside, blocked, none, walk, StandsForLeast}
 use Rattle.grid_moves.specs.Walk.{NoWalk}

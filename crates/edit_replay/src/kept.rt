@@ -1,6 +1,8 @@
 //! What an engine keeps for its searches.
 
 ghost use Rattle.std.specs.Prelude.{◌≡◌, if◌then◌else◌, IfOk};
+ghost use Rattle.bit_grid.specs.Bits.{AreBitsOf};
+ghost use Rattle.plus_tables.specs.Tables.{AreTablesOf};
 ghost use Rattle.search_core.specs.Jumping.{HasPlaces};
 ghost use Rattle.edit_replay.specs.Kept.{Serves, engine_of};
 
@@ -56,26 +58,38 @@ pub(crate) fn space_of(alloc: Global, grid: &Grid) -> Result<Space, NoMemory>
     Space::new(alloc, Layout::ByArrival, cells)
 }
 
+// The bits of both grids.
+fn bits_of(alloc: Global, grids: &Both<Grid>) -> Result<Both<BitGrid>, NoMemory>
+    ensures { IfOk result (λ bits. AreBitsOf bits.land grids.now.land × AreBitsOf bits.water grids.now.water) }
+{
+    let land = BitGrid::of_grid(alloc, &grids.land)?;
+    let water = BitGrid::of_grid(alloc, &grids.water)?;
+    Ok(Both { land, water })
+}
+
+// The tables of both grids.
+fn tables_of(alloc: Global, grids: &Both<Grid>) -> Result<Both<Tables>, NoMemory>
+    ensures { IfOk result (λ tables. AreTablesOf tables.land grids.now.land
+        × AreTablesOf tables.water grids.now.water) }
+{
+    let land = Tables::build(alloc, &grids.land)?;
+    let water = Tables::build(alloc, &grids.water)?;
+    Ok(Both { land, water })
+}
+
 impl Kept {
     /// What this engine keeps for searches on these grids of one map.
     pub(crate) fn new(alloc: Global, engine: Engine, grids: &Both<Grid>) -> Result<Kept, NoMemory>
         ensures engine { IfOk result (λ kept. engine_of kept ≡ engine) }
         ensures serves { IfOk result (Serves grids.now) }
     {
-        let Both { land, water } = grids;
         let finder = match engine {
-            Engine::Plain => return Ok(Kept::Plain(Workspace::of_grid(alloc, land)?)),
+            Engine::Plain => return Ok(Kept::Plain(Workspace::of_grid(alloc, &grids.land)?)),
             Engine::Jps => Finder::Cells,
-            Engine::Block => Finder::Bits(Both {
-                land: BitGrid::of_grid(alloc, land)?,
-                water: BitGrid::of_grid(alloc, water)?,
-            }),
-            Engine::Plus => Finder::Tables(Both {
-                land: Tables::build(alloc, land)?,
-                water: Tables::build(alloc, water)?,
-            }),
+            Engine::Block => Finder::Bits(bits_of(alloc, grids)?),
+            Engine::Plus => Finder::Tables(tables_of(alloc, grids)?),
         };
-        let space = space_of(alloc, land)?;
+        let space = space_of(alloc, &grids.land)?;
         Ok(Kept::Jumps { finder, space })
     }
 }

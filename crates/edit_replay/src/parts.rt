@@ -116,13 +116,7 @@ impl Parts {
         match &mut self.kept {
             Kept::Plain(space) => search_plainly(alloc, grid, from, to, space),
             Kept::Jumps { finder, space } => jump(
-                alloc,
-                &self.grids,
-                finder,
-                from,
-                to,
-                space,
-                steps,
+                alloc, grid, is_water, finder, from, to, space, steps,
             ),
         }
     }

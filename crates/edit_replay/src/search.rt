@@ -2,17 +2,15 @@
 
 ghost use Rattle.std.specs.Prelude.{◌≡◌, ◌*◌, true, IfOk};
 ghost use Rattle.grid_moves.specs.Grid.{is_free};
-ghost use Rattle.grid_moves.specs.Layers.{query_grid};
 ghost use Rattle.plain_search.specs.Room.{HasRoom};
 ghost use Rattle.pruning.specs.Source.{IsWithin};
 ghost use Rattle.search_core.specs.Counting.{most_for_state};
 ghost use Rattle.search_core.specs.Jumping.{HasPlaces};
-ghost use Rattle.search_core.specs.Serving.{OnEach, OnSome};
 ghost use Rattle.edit_replay.specs.Counting.{RoseByStates, RoseWithin, fewest_of, most_of, states_taken};
-ghost use Rattle.edit_replay.specs.Kept.{IsFinderOf, engine_with, as_layers};
+ghost use Rattle.edit_replay.specs.Kept.{IsFinderOn, engine_with};
 ghost use Rattle.edit_replay.specs.Replies.{IsJumpReply, IsRightOn, IsRunOn};
 
-use crate::kept::{Both, Finder};
+use crate::kept::Finder;
 use crate::{Engine, NoMemory, Reply};
 use best_first::Space;
 use grid_moves::{Cell, Grid, Terrain};
@@ -53,26 +51,28 @@ pub(crate) fn search_plainly(
     }
 }
 
-/// The reply of an engine that jumps, between free cells, by its source of jumps.
-pub(crate) fn search_by_jumps<J: JumpSource, L: Ledger>(
+// The reply of an engine that jumps, between free cells, by a source of jumps on the grid.
+fn search_by_jumps<J: JumpSource, L: Ledger>(
     alloc: Global,
+    _grid: &Grid,
     j: &J,
     from: Cell,
     to: Cell,
     space: &mut Space,
     steps: &mut Steps<L>,
 ) -> Result<Reply, NoMemory>
-    requires some { OnSome (J.StandsFor j.now) from to }
-    requires places { OnEach (J.StandsFor j.now) from to (λ g. HasPlaces g space.old) }
-    ensures right { IfOk result (λ reply. OnEach (J.StandsFor j.now) from to
-        (λ g. IsRightOn g from to reply)) }
-    ensures run { IfOk result (λ reply. OnEach (J.StandsFor j.now) from to
-        (λ g. IsJumpReply g from to reply)) }
+    requires stands { J.StandsFor j.now _grid.now }
+    requires from { is_free _grid.now from ≡ true }
+    requires to { is_free _grid.now to ≡ true }
+    requires places { HasPlaces _grid.now space.old }
+    ensures right { IfOk result (IsRightOn _grid.now from to) }
+    ensures run { IfOk result (IsJumpReply _grid.now from to) }
     ensures most { IfOk result (λ reply. IsWithin (J.most j.now)
         (λ told. states_taken reply * most_for_state told) steps.old steps.new) }
     ensures fewest { IfOk result (RoseByStates (J.fewest j.now) steps.old steps.new) }
-    ensures places { OnEach (J.StandsFor j.now) from to (λ g. HasPlaces g space.new) }
+    ensures places { HasPlaces _grid.now space.new }
 {
+    let _sides = (j.width(), j.height());
     let Found { walk, taken } = search_in(alloc, j, from, to, space, steps)?;
     match walk {
         Some(Walk { points, cost }) => Ok(Reply::Walk {
@@ -84,39 +84,39 @@ pub(crate) fn search_by_jumps<J: JumpSource, L: Ledger>(
     }
 }
 
-/// The reply of the engine that finds jumps so, between free cells of the grid of the query.
+/// The reply of the engine that finds jumps so, between free cells of a grid, which is that of water or of land.
 pub(crate) fn jump<L: Ledger>(
     alloc: Global,
-    grids: &Both<Grid>,
+    grid: &Grid,
+    is_water: bool,
     finder: &Finder,
     from: Cell,
     to: Cell,
     space: &mut Space,
     steps: &mut Steps<L>,
 ) -> Result<Reply, NoMemory>
-    requires from { is_free (query_grid (as_layers grids.now) from) from ≡ true }
-    requires to { is_free (query_grid (as_layers grids.now) from) to ≡ true }
-    requires finder { IsFinderOf grids.now finder.now }
-    requires places { HasPlaces (query_grid (as_layers grids.now) from) space.old }
-    ensures right { IfOk result (IsRightOn (query_grid (as_layers grids.now) from) from to) }
-    ensures run { IfOk result (IsJumpReply (query_grid (as_layers grids.now) from) from to) }
+    requires from { is_free grid.now from ≡ true }
+    requires to { is_free grid.now to ≡ true }
+    requires finder { IsFinderOn is_water grid.now finder.now }
+    requires places { HasPlaces grid.now space.old }
+    ensures right { IfOk result (IsRightOn grid.now from to) }
+    ensures run { IfOk result (IsJumpReply grid.now from to) }
     ensures most { IfOk result (RoseWithin (most_of (engine_with finder.now)) steps.old steps.new) }
     ensures fewest { IfOk result (RoseByStates (fewest_of (engine_with finder.now)) steps.old steps.new) }
-    ensures places { HasPlaces (query_grid (as_layers grids.now) from) space.new }
+    ensures places { HasPlaces grid.now space.new }
 {
-    let is_water = grids.water.free(from);
-    let grid = grids.of(is_water);
     match finder {
         Finder::Cells => {
-            search_by_jumps(alloc, &PlainJumps { terrain: grid }, from, to, space, steps)
+            let jumps = PlainJumps { terrain: grid };
+            search_by_jumps(alloc, grid, &jumps, from, to, space, steps)
         }
         Finder::Bits(bits) => {
             let bits = bits.of(is_water);
-            search_by_jumps(alloc, &BlockJumps { bits }, from, to, space, steps)
+            search_by_jumps(alloc, grid, &BlockJumps { bits }, from, to, space, steps)
         }
         Finder::Tables(tables) => {
             let tables = tables.of(is_water);
-            search_by_jumps(alloc, &PlusJumps { tables }, from, to, space, steps)
+            search_by_jumps(alloc, grid, &PlusJumps { tables }, from, to, space, steps)
         }
     }
 }

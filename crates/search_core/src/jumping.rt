@@ -21,14 +21,14 @@ use std::sync::ledger::Ledger;
 use steps::Steps;
 
 /// The ends of a query.
-#[derive(Clone, Copy, Debug)]
+#[derive(Clone, Copy)]
 pub struct Ends {
     pub from: Cell,
     pub to: Cell,
 }
 
 /// The state that was taken last: the number of its node, the rank of its cost, and the state.
-#[derive(Clone, Copy, Debug)]
+#[derive(Clone, Copy)]
 pub struct Last {
     pub at: u32,
     pub rank: u64,

@@ -18,6 +18,25 @@ use Rattle.table_repair.proofs.Mends.{mends_none, mends_wider, mends_then, still
 use Rattle.table_repair.proofs.Mends.{ready_stays, follow_more}
 use Rattle.table_repair.proofs.Walking.{or_false, false_or, or_left, or_right}
 
+-- `||` of three, none of which holds
+or_joined : (a b c : Bool) → (a || (b || c)) ≡ false → ((a || b) || c) ≡ false
+or_joined true b c k = k
+or_joined false b c k = k
+
+or_parted : (a b c : Bool) → ((a || b) || c) ≡ false → (a || (b || c)) ≡ false
+or_parted true b c k = k
+or_parted false b c k = k
+
+or_swapped : (a b c : Bool) → ((a || b) || c) ≡ false → (b || (a || c)) ≡ false
+or_swapped true true c k = k
+or_swapped true false c k = k
+or_swapped false true c k = k
+or_swapped false false c k = k
+
+or_further : (a b c d : Bool) → d ≡ (b || c) → (a || d) ≡ ((a || b) || c)
+or_further true b c d e = refl
+or_further false b c d e = e
+
 -- so many moves, and then so many more
 pub after_further : (d : Dir) (j k : ℕ) (u v w : Cell) → cell_after d j u ≡ Some v → cell_after d k v ≡ Some w
     → cell_after d (j + k) u ≡ Some w
@@ -43,7 +62,8 @@ at_others v vs w h = or_right (is_same w v.at) (is_at_one vs w) h
 
 pub at_both : (xs ys : List Walk) (w : Cell) → is_at_one (xs ++ ys) w ≡ (is_at_one xs w || is_at_one ys w)
 at_both [] ys w = refl
-at_both (x ∷ xs) ys w = grind (arith, at_both xs ys w)
+at_both (x ∷ xs) ys w =
+    or_further (is_same w x.at) (is_at_one xs w) (is_at_one ys w) (is_at_one (xs ++ ys) w) (at_both xs ys w)
 
 pub at_next : (next : Walk) (w : Cell) → is_at_one (next ∷ []) w ≡ true → w ≡ next.at
 at_next next w a = grind (arith, is_same-cell)
@@ -150,14 +170,11 @@ module _ {h : GridData} {d : Dir} {starts : Cell → Bool} {old now : TablesData
           (is_at_one (option_to_list on) w) (later w) (at_both rest (option_to_list on) w) k
         where
           regroup : (z a b c : Bool) → z ≡ (a || b) → (z || c) ≡ false → (b || (a || c)) ≡ false
-          regroup z a b c e k = grind arith
+          regroup z a b c e k = or_swapped a b c (rw e at k)
 
       wider : (w : Cell) (later : Cell → Bool) → (is_same w v.at || (is_at_one rest w || later w)) ≡ false
           → (is_at_one (v ∷ rest) w || later w) ≡ false
-      wider w later k = regroup (is_same w v.at) (is_at_one rest w) (later w) k
-        where
-          regroup : (a b c : Bool) → (a || (b || c)) ≡ false → ((a || b) || c) ≡ false
-          regroup a b c k = grind arith
+      wider w later k = or_joined (is_same w v.at) (is_at_one rest w) (later w) k
 
       of_next : (o : Option Walk) → ((next : Walk) → o ≡ Some next → IsOnward h new d v.at next.at)
           → (w : Cell) → is_at_one (option_to_list o) w ≡ true → IsOnward h new d v.at w
@@ -227,11 +244,8 @@ abreast_beside {starts = starts} row first = record {
       still_mended (λ v j. or_left (starts v) (row v) j) a.right (omega arith) a;
   mends = mends_wider (λ w k. or_left (starts w) (row w) k) first.mends;
   follows = λ later f. first.follows (either row later)
-      (follow_more (λ w k. regroup (starts w) (row w) (later w) k) f);
+      (follow_more (λ w k. or_joined (starts w) (row w) (later w) k) f);
 }
-  where
-    regroup : (a b c : Bool) → (a || (b || c)) ≡ false → ((a || b) || c) ≡ false
-    regroup a b c k = grind arith
 
 -- walks begin at cells that were left, whose entries are right
 pub abreast_enter : {h : GridData} {d : Dir} {starts row : Cell → Bool} {old now : TablesData}
@@ -267,4 +281,4 @@ abreast_enter {row = row} {walks = walks} {more = more} first there inside right
     one_of_both w k = or_either (is_at_one walks w) (row w) (sym (there w) ∙ k)
 
     regroup : (z a b c : Bool) → z ≡ (a || b) → (z || c) ≡ false → (a || (b || c)) ≡ false
-    regroup z a b c e k = grind arith
+    regroup z a b c e k = or_parted a b c (rw e at k)

@@ -14,7 +14,7 @@ const DIAGONAL: [Dir; 4] = [Dir::NE, Dir::SE, Dir::SW, Dir::NW];
 
 /// Mends the tables of maps of one size. The order of the sweeps makes work lists needless, so neither it nor
 /// a repair takes memory.
-#[derive(Debug, Drop)]
+#[derive(Drop)]
 pub struct Repairer {
     width: u16,
     height: u16,

@@ -5,7 +5,7 @@ ghost use Rattle.table_repair.specs.Mending as spec;
 ghost use Rattle.table_repair.specs.Mending.{far_number, span_beside, without_far};
 
 /// The numbers of some rows, or columns: from the first one on, and below the end.
-#[derive(Clone, Copy, Debug, PartialEq, Eq)]
+#[derive(Clone, Copy, PartialEq, Eq)]
 pub struct Span {
     pub first: u16,
     pub end: u16,

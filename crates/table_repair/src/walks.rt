@@ -22,7 +22,7 @@ use std::sync::ledger::Ledger;
 use steps::Steps;
 
 /// A walk back, which stands at a cell whose entry is right.
-#[derive(Clone, Copy, Debug)]
+#[derive(Clone, Copy)]
 pub struct Walk {
     pub at: Cell,
 }

@@ -1,6 +1,6 @@
 -- Each row taken is one piece more.
 use Rattle.std.proofs.Common.{◌≤◌, arith, sym, ◌∙◌}
-use Rattle.table_repair.specs.Mending.{goes_down, span_length}
+use Rattle.table_repair.specs.Mending.{span_length}
 use Rattle.table_repair.proofs.Sweeping.{taken_told, none_taken, among_parts}
 use Rattle.table_repair.proofs.Rows.{block_waits, block_next, block_done}
 use Rattle.table_repair.proofs.Totals.{few_rows, counted_rows, later_on, short}

@@ -1,6 +1,5 @@
 -- Each column taken is one piece more.
 use Rattle.std.proofs.Common.{sym, ◌∙◌}
-use Rattle.table_repair.specs.Mending.{goes_right}
 use Rattle.table_repair.proofs.Sweeping.{taken_told, none_taken}
 use Rattle.table_repair.proofs.Rows.{row_inside, row_right, row_next, row_done}
 use Rattle.table_repair.proofs.Totals.{few_more, counted_more, later_on}
