@@ -72,6 +72,7 @@ fn search_by_jumps<J: JumpSource, L: Ledger>(
     ensures fewest { IfOk result (RoseByStates (J.fewest j.now) steps.old steps.new) }
     ensures places { HasPlaces _grid.now space.new }
 {
+    // (by their clauses these are the sides of every grid that the source stands for, which is whole)
     let _sides = (j.width(), j.height());
     let Found { walk, taken } = search_in(alloc, j, from, to, space, steps)?;
     match walk {
