@@ -8,13 +8,7 @@ mod ample;
 #[cfg(test)]
 mod calls;
 #[cfg(test)]
-mod cells;
-#[cfg(test)]
-mod costs;
-#[cfg(test)]
-mod draw;
-#[cfg(test)]
-mod judge;
+mod commands;
 #[cfg(test)]
 mod live;
 #[cfg(test)]
@@ -23,5 +17,3 @@ mod readme;
 mod sessions;
 #[cfg(test)]
 mod small;
-#[cfg(test)]
-mod tables;

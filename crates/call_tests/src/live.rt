@@ -1,23 +1,19 @@
 //! The command `live`: each failing read in turn, inputs in pieces, and the order of reads and writes.
 
-ghost use Rattle.std.specs.Prelude.{◌≡◌, ◌<◌, ◌≤◌, length, IfOk, None};
+ghost use Rattle.std.specs.Prelude.{◌≤◌, length, None};
 ghost use Rattle.std.specs.Io.KnownBytes.{ReadConsumes, WriteAppends};
 ghost use Rattle.io_edge.specs.Causes.{HasCause};
 
-use crate::calls::{ENGINES, RULES, stream, strings, two_files};
+use crate::calls::{
+    CROSSING, Call, ENGINES, RULES, check, check_with, compare, files, numbers, on_map, status_of,
+    stream,
+};
 use arrayvec::ArrayVec;
 use io_edge::{Failed, MemSource, Sink, Source};
-use jps_run::run;
 use std::alloc::Global;
 use std::cell::Cell;
-use std::marker::Brand;
 use std::process::Abort;
-use std::sync::ledger::{Blank, Ledger};
 use std::test::Fail;
-use steps::Steps;
-
-// Two walls with a crossing between them.
-const CROSSING: &[u8] = b"type octile\nheight 3\nwidth 3\nmap\n.@.\n...\n.@.\n";
 
 // Two lines, of 14 and of 10 bytes.
 const SCRIPT: &[u8] = b"query 0 1 2 1\nblock 1 1\n";
@@ -26,43 +22,17 @@ const WALK: &[u8] = b"walk 2 0 0,1 2,1\n";
 
 const BOTH: &[u8] = b"walk 2 0 0,1 2,1\nok\n";
 
-const LIVE: &[&str] = &["live", "m"];
-
-// A call of these words, the read of the map of this number failing, and none where it is 0.
-fn call<I: Source, O: Sink, L: Ledger>(
-    alloc: Global,
-    rt: &impl Abort,
-    words: &[&str],
-    failing: u64,
-    input: &mut I,
-    out: &mut O,
-    line: &[u8],
-    blank: Blank,
-) -> Result<u8, Fail>
-    requires name { blank.name ≡ L.name }
-    requires parts { blank.parts ≡ L.parts }
-    requires some { 0 < L.parts }
-{
-    let mut steps = Steps::<L>::new(blank);
-    let words = strings(alloc, words)?;
-    let mut files = two_files(alloc, CROSSING, b"", failing)?;
-    let mut err = stream(alloc, 0)?;
-    let status = run(
-        alloc,
-        words.as_slice(),
-        &mut files,
-        input,
-        out,
-        &mut err,
-        &mut steps,
-    );
-    assert_eq!(rt; err.bytes(), line);
-    Ok(status)
+// The script that comes in on the crossing.
+fn live(words: &str) -> Call<'_> {
+    Call {
+        input: SCRIPT,
+        ..on_map(words, CROSSING)
+    }
 }
 
 // A script that comes in pieces of so many bytes, the read of this number failing, has this status,
 // this output and this line.
-fn check(
+fn check_pieces(
     alloc: Global,
     rt: &impl Abort,
     script: &[u8],
@@ -74,22 +44,17 @@ fn check(
 ) -> Result<(), Fail>
     requires { 1 ≤ piece }
 {
-    let mut failing_reads = Vec::new(alloc);
-    failing_reads.push(failing)?;
-    let mut input = MemSource::new(Vec::from_slice(alloc, script)?, piece, failing_reads);
+    let mut files = files(alloc, live("live m"))?;
+    let script = Vec::from_slice(alloc, script)?;
+    let mut input = MemSource::new(script, piece, numbers(alloc, failing)?);
     let mut out = stream(alloc, 0)?;
-    let answer = call::<_, _, Brand>(
-        alloc,
+    let mut err = stream(alloc, 0)?;
+    let answer = status_of(alloc, "live m", &mut files, &mut input, &mut out, &mut err)?;
+    compare(
         rt,
-        LIVE,
-        0,
-        &mut input,
-        &mut out,
-        line,
-        Blank::new(1),
-    )?;
-    assert_eq!(rt; answer, status);
-    assert_eq!(rt; out.bytes(), output);
+        (answer, out.bytes(), err.bytes()),
+        (status, output, line),
+    );
     Ok(())
 }
 
@@ -105,17 +70,10 @@ fn lines_of(bytes: u64) -> &'static [u8] {
 // A read takes one byte; the 25th finds the end.
 #[test]
 fn each_failing_read_leaves_the_whole_commands(rt: HostRuntime) -> Result<(), Fail> {
+    let alloc = rt.alloc();
     for taken in 0..25 {
-        check(
-            rt.alloc(),
-            &rt,
-            SCRIPT,
-            1,
-            taken + 1,
-            4,
-            lines_of(taken),
-            b"jps: read\n",
-        )?;
+        let lines = lines_of(taken);
+        check_pieces(alloc, &rt, SCRIPT, 1, taken + 1, 4, lines, b"jps: read\n")?;
     }
     Ok(())
 }
@@ -123,20 +81,13 @@ fn each_failing_read_leaves_the_whole_commands(rt: HostRuntime) -> Result<(), Fa
 // The last line needs no line feed, and a misspelt line ends the call behind the answers before it.
 #[test]
 fn a_script_is_answered_up_to_its_first_fault(rt: HostRuntime) -> Result<(), Fail> {
+    let alloc = rt.alloc();
+    let open = b"query 0 1 2 1\nblock 1 1";
+    let misspelt = b"query 0 1 2 1\n\nbolck 1 1\nblock 1 1\n";
+    let line = b"jps: script T1 line 3\n";
     for piece in [1, 7, 4096] {
-        let open = b"query 0 1 2 1\nblock 1 1";
-        check(rt.alloc(), &rt, open, piece, 0, 0, BOTH, b"")?;
-        let misspelt = b"query 0 1 2 1\n\nbolck 1 1\nblock 1 1\n";
-        check(
-            rt.alloc(),
-            &rt,
-            misspelt,
-            piece,
-            0,
-            3,
-            WALK,
-            b"jps: script T1 line 3\n",
-        )?;
+        check_pieces(alloc, &rt, open, piece, 0, 0, BOTH, b"")?;
+        check_pieces(alloc, &rt, misspelt, piece, 0, 3, WALK, line)?;
     }
     Ok(())
 }
@@ -188,6 +139,7 @@ fn check_order(
     read: u64,
 ) -> Result<(), Fail> {
     let reads = Cell::new(0);
+    let mut files = files(alloc, live("live m"))?;
     let mut input = Spoken {
         text: script,
         reads: &reads,
@@ -196,17 +148,9 @@ fn check_order(
         reads: &reads,
         notes: ArrayVec::new(),
     };
-    let answer = call::<_, _, Brand>(
-        alloc,
-        rt,
-        LIVE,
-        0,
-        &mut input,
-        &mut out,
-        line,
-        Blank::new(1),
-    )?;
-    assert_eq!(rt; answer, status);
+    let mut err = stream(alloc, 0)?;
+    let answer = status_of(alloc, "live m", &mut files, &mut input, &mut out, &mut err)?;
+    compare(rt, (answer, b"", err.bytes()), (status, b"", line));
     assert_eq!(rt; out.notes.as_slice(), notes);
     assert_eq!(rt; reads.get(), read);
     Ok(())
@@ -215,123 +159,83 @@ fn check_order(
 // The second read completes the first line, the fourth the second one; a fifth finds the end.
 #[test]
 fn a_line_is_answered_before_the_next_read(rt: HostRuntime) -> Result<(), Fail> {
-    check_order(rt.alloc(), &rt, SCRIPT, 0, b"", &[2, 4], 5)
+    let alloc = rt.alloc();
+    check_order(alloc, &rt, SCRIPT, 0, b"", &[2, 4], 5)
 }
 
 // A misspelt line ends the call with the read that completes it, a long one with that of its 129th byte.
 #[test]
 fn a_refused_line_ends_the_call_at_once(rt: HostRuntime) -> Result<(), Fail> {
+    let alloc = rt.alloc();
     let misspelt = b"bolck\nblock 1 1\nblock 1 1\n";
-    check_order(
-        rt.alloc(),
-        &rt,
-        misspelt,
-        3,
-        b"jps: script T1 line 1\n",
-        &[],
-        1,
-    )?;
+    check_order(alloc, &rt, misspelt, 3, b"jps: script T1 line 1\n", &[], 1)?;
     let long = [b' '; 200];
-    check_order(
-        rt.alloc(),
-        &rt,
-        &long,
-        3,
-        b"jps: script T2 line 1\n",
-        &[],
-        19,
-    )
+    check_order(alloc, &rt, &long, 3, b"jps: script T2 line 1\n", &[], 19)
 }
 
 // By each engine and under both rules the script has the same lines, but that jumps stop between two
 // walls where a diagonal may pass one blocked cell.
 #[test]
 fn each_engine_answers(rt: HostRuntime) -> Result<(), Fail> {
-    let alloc = rt.alloc();
     for engine in ENGINES {
         for rule in RULES {
-            let mut input = MemSource::new(Vec::from_slice(alloc, SCRIPT)?, 4096, Vec::new(alloc));
-            let mut out = stream(alloc, 0)?;
-            let words: [&str; 4] = ["live", "m", engine, rule];
-            let status = call::<_, _, Brand>(
-                alloc,
+            check_with(
+                rt.alloc(),
                 &rt,
-                &words,
+                live("live m"),
+                &[engine, rule],
                 0,
-                &mut input,
-                &mut out,
-                b"",
-                Blank::new(1),
+                lines_by(engine, rule),
             )?;
-            let lines = if engine == "engine=plain" || rule == "rule=none" {
-                BOTH
-            } else {
-                b"walk 2 0 0,1 1,1 2,1\nok\n".as_slice()
-            };
-            assert_eq!(rt; status, 0);
-            assert_eq!(rt; out.bytes(), lines);
         }
     }
     Ok(())
 }
 
-// A table file that is refused, or whose one read fails, ends the call before the input is looked at.
-#[test]
-fn a_table_file_is_judged_before_the_input(rt: HostRuntime) -> Result<(), Fail> {
-    let alloc = rt.alloc();
-    let words: [&str; 4] = ["live", "m", "engine=plus", "tables=s"];
-    let cases: [(u64, u8, &[u8]); 2] = [(0, 3, b"jps: tables F1\n"), (5, 4, b"jps: read\n")];
-    for (failing, status, line) in cases {
-        let reads = Cell::new(0);
-        let mut input = Spoken {
-            text: SCRIPT,
-            reads: &reads,
-        };
-        let mut out = stream(alloc, 0)?;
-        let answer = call::<_, _, Brand>(
-            alloc,
-            &rt,
-            &words,
-            failing,
-            &mut input,
-            &mut out,
-            line,
-            Blank::new(1),
-        )?;
-        assert_eq!(rt; answer, status);
-        assert_eq!(rt; out.bytes().len(), 0);
-        assert_eq!(rt; reads.get(), 0);
+fn lines_by(engine: &str, rule: &str) -> &'static [u8] {
+    if engine == "engine=plain" || rule == "rule=none" {
+        return BOTH;
     }
+    b"walk 2 0 0,1 1,1 2,1\nok\n"
+}
+
+// The read of the files of this number failing, nothing is taken from the input and nothing is written.
+fn check_untouched(
+    alloc: Global,
+    rt: &impl Abort,
+    words: &str,
+    failing_read: u64,
+    status: u8,
+    line: &[u8],
+) -> Result<(), Fail> {
+    let reads = Cell::new(0);
+    let made = Call {
+        failing_read,
+        ..live(words)
+    };
+    let mut files = files(alloc, made)?;
+    let mut input = Spoken {
+        text: SCRIPT,
+        reads: &reads,
+    };
+    let mut out = stream(alloc, 0)?;
+    let mut err = stream(alloc, 0)?;
+    let answer = status_of(alloc, words, &mut files, &mut input, &mut out, &mut err)?;
+    compare(rt, (answer, out.bytes(), err.bytes()), (status, b"", line));
+    assert_eq!(rt; reads.get(), 0);
     Ok(())
 }
 
-// Each of the four reads of the map failing, nothing is taken from the input and nothing is written.
+// Each of the four reads of the map failing, and a table file that is refused or whose one read fails.
 #[test]
-fn a_map_that_fails_ends_the_call(rt: HostRuntime) -> Result<(), Fail> {
+fn files_are_judged_before_the_input(rt: HostRuntime) -> Result<(), Fail> {
     let alloc = rt.alloc();
     for failing in 1..5 {
-        let reads = Cell::new(0);
-        let mut input = Spoken {
-            text: SCRIPT,
-            reads: &reads,
-        };
-        let mut out = stream(alloc, 0)?;
-        let line = b"jps: read\n";
-        let status = call::<_, _, Brand>(
-            alloc,
-            &rt,
-            LIVE,
-            failing,
-            &mut input,
-            &mut out,
-            line,
-            Blank::new(1),
-        )?;
-        assert_eq!(rt; status, 4);
-        assert_eq!(rt; out.bytes().len(), 0);
-        assert_eq!(rt; reads.get(), 0);
+        check_untouched(alloc, &rt, "live m", failing, 4, b"jps: read\n")?;
     }
-    Ok(())
+    let words = "live m engine=plus tables=s";
+    check_untouched(alloc, &rt, words, 0, 3, b"jps: tables F1\n")?;
+    check_untouched(alloc, &rt, words, 5, 4, b"jps: read\n")
 }
 
 // Each write failing, the bytes before it stand.
@@ -339,21 +243,11 @@ fn a_map_that_fails_ends_the_call(rt: HostRuntime) -> Result<(), Fail> {
 fn each_failing_write_leaves_the_bytes_before(rt: HostRuntime) -> Result<(), Fail> {
     let alloc = rt.alloc();
     for write in 0..BOTH.len() {
-        let mut input = MemSource::new(Vec::from_slice(alloc, SCRIPT)?, 4096, Vec::new(alloc));
-        let mut out = stream(alloc, write as u64 + 1)?;
-        let line = b"jps: write\n";
-        let status = call::<_, _, Brand>(
-            alloc,
-            &rt,
-            LIVE,
-            0,
-            &mut input,
-            &mut out,
-            line,
-            Blank::new(1),
-        )?;
-        assert_eq!(rt; status, 5);
-        assert_eq!(rt; out.bytes(), &BOTH[..write]);
+        let failing = Call {
+            failing_write: write as u64 + 1,
+            ..live("live m")
+        };
+        check(alloc, &rt, failing, 5, &BOTH[..write], b"jps: write\n")?;
     }
     Ok(())
 }

@@ -1,7 +1,6 @@
 //! What README shows on the game map. The lines are those of an independent program.
 
-use crate::calls::{Request, check, on_map};
-use std::process::Abort;
+use crate::calls::{check, check_done, on_two};
 use std::test::Fail;
 
 // The file maps/game49.map.
@@ -92,38 +91,23 @@ const SCRIPT: &[u8] = b"query 23 1 25 1\nfree 24 1\nquery 23 1 25 1\nblock 24 1\
 const ANSWERS: &[u8] = b"walk 74 0 23,1 23,37 25,37 25,1\nok\nwalk 2 0 23,1 25,1\nok\n";
 
 #[test]
-fn queries_on_the_game_map(rt: HostRuntime) -> Result<(), Fail> {
-    let table: [(&[&str], &[u8]); 4] = [
-        (
-            &["query", "m", "1", "1", "23", "23"],
-            b"walk 0 22 1,1 23,23\n",
-        ),
-        (
-            &["query", "m", "23", "1", "25", "1"],
-            b"walk 74 0 23,1 23,37 25,37 25,1\n",
-        ),
-        (
-            &["query", "m", "23", "1", "25", "1", "engine=block"],
-            b"walk 74 0 23,1 23,37 25,37 25,1\n",
-        ),
-        (&["query", "m", "1", "1", "24", "5"], b"blocked\n"),
+fn the_game_map_is_answered_as_readme_shows(rt: HostRuntime) -> Result<(), Fail> {
+    let alloc = rt.alloc();
+    let round = b"walk 74 0 23,1 23,37 25,37 25,1\n";
+    let table: [(&str, &[u8], &[u8]); 4] = [
+        ("query m 1 1 23 23", GAME, b"walk 0 22 1,1 23,23\n"),
+        ("query m 23 1 25 1", GAME, round),
+        ("query m 23 1 25 1 engine=block", GAME, round),
+        ("query m 1 1 24 5", GAME, b"blocked\n"),
     ];
-    for (words, line) in table {
-        check(rt.alloc(), &rt, on_map(words, GAME), 0, line, b"")?;
-    }
-    Ok(())
-}
-
-#[test]
-fn the_script_and_the_scenario_of_the_game_map(rt: HostRuntime) -> Result<(), Fail> {
-    let solve = Request {
-        second: SCRIPT,
-        ..on_map(&["solve", "m", "s"], GAME)
-    };
-    check(rt.alloc(), &rt, solve, 0, ANSWERS, b"")?;
-    let scen = Request {
-        second: LENGTHS,
-        ..on_map(&["scen", "m", "s"], GAME)
-    };
-    check(rt.alloc(), &rt, scen, 0, ROWS, b"")
+    check_done(alloc, &rt, &table)?;
+    check(
+        alloc,
+        &rt,
+        on_two("solve m s", GAME, SCRIPT),
+        0,
+        ANSWERS,
+        b"",
+    )?;
+    check(alloc, &rt, on_two("scen m s", GAME, LENGTHS), 0, ROWS, b"")
 }

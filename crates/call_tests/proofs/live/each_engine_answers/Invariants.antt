@@ -1,4 +1,0 @@
-use Rattle.call_tests.proofs.live.each_engine_answers.Given as goal
-
-abbrev pub ghosts-call : goal.ghosts-call
-ghosts-call g a = record { name = a.blank.name; parts = a.blank.parts }
