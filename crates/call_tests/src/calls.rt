@@ -90,20 +90,19 @@ fn strings(alloc: Global, words: &str) -> Result<Vec<String>, AllocError> {
 
 fn counted<F: Files, I: Source, O: Sink, L: Ledger>(
     alloc: Global,
-    words: &str,
+    words: &[String],
     files: &mut F,
     input: &mut I,
     out: &mut O,
     err: &mut MemSink,
     blank: Blank,
-) -> Result<u8, Fail>
+) -> u8
     requires name { blank.name ≡ L.name }
     requires parts { blank.parts ≡ L.parts }
     requires some { 0 < L.parts }
 {
-    let words = strings(alloc, words)?;
     let mut steps = Steps::<L>::new(blank);
-    Ok(run(alloc, words.as_slice(), files, input, out, err, &mut steps))
+    run(alloc, words, files, input, out, err, &mut steps)
 }
 
 // The status of a call of these words.
@@ -115,7 +114,9 @@ pub(crate) fn status_of<F: Files, I: Source, O: Sink>(
     out: &mut O,
     err: &mut MemSink,
 ) -> Result<u8, Fail> {
-    counted::<_, _, _, Brand>(alloc, words, files, input, out, err, Blank::new(1))
+    let words = strings(alloc, words)?;
+    let words = words.as_slice();
+    Ok(counted::<F, I, O, Brand>(alloc, words, files, input, out, err, Blank::new(1)))
 }
 
 // The status, the output and the line that a call came to are those that were counted.
