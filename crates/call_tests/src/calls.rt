@@ -88,7 +88,8 @@ fn strings(alloc: Global, words: &str) -> Result<Vec<String>, AllocError> {
     Ok(strings)
 }
 
-fn counted<F: Files, I: Source, O: Sink, L: Ledger>(
+// A call of these words, its steps counted by a counter of its own.
+fn run_counting<F: Files, I: Source, O: Sink, L: Ledger>(
     alloc: Global,
     words: &[String],
     files: &mut F,
@@ -116,14 +117,14 @@ pub(crate) fn status_of<F: Files, I: Source, O: Sink>(
 ) -> Result<u8, Fail> {
     let words = strings(alloc, words)?;
     let words = words.as_slice();
-    Ok(counted::<F, I, O, Brand>(alloc, words, files, input, out, err, Blank::new(1)))
+    Ok(run_counting::<F, I, O, Brand>(alloc, words, files, input, out, err, Blank::new(1)))
 }
 
-// The status, the output and the line that a call came to are those that were counted.
-pub(crate) fn compare(rt: &impl Abort, told: (u8, &[u8], &[u8]), counted: (u8, &[u8], &[u8])) {
-    assert_eq!(rt; told.0, counted.0);
-    assert_eq!(rt; told.1, counted.1);
-    assert_eq!(rt; told.2, counted.2);
+// The status, the output and the line that a call came to are these.
+pub(crate) fn compare(rt: &impl Abort, told: (u8, &[u8], &[u8]), expected: (u8, &[u8], &[u8])) {
+    assert_eq!(rt; told.0, expected.0);
+    assert_eq!(rt; told.1, expected.1);
+    assert_eq!(rt; told.2, expected.2);
 }
 
 // A call has this status, this output and this line.
@@ -288,7 +289,7 @@ fn jumps_stop_at_marks_and_goals(rt: HostRuntime) -> Result<(), Fail> {
     let alloc = rt.alloc();
     let table: [(&str, &[u8], &[u8]); 7] = [
         (
-            "query m 0 0 2 2 show=trace",
+            "query m 0 0 2 2 show=trace rule=none",
             PILLAR,
             b"walk 4 0 0,0 0,2 2,2 taken 0,0:- 2,0:E 0,2:S 2,2:E\n",
         ),
@@ -298,26 +299,30 @@ fn jumps_stop_at_marks_and_goals(rt: HostRuntime) -> Result<(), Fail> {
             b"walk 2 1 0,0 0,1 1,2 2,2 taken 0,0:- 1,0:E 0,1:S 2,1:SE 1,2:SE 2,2:E\n",
         ),
         (
-            "query m 0 0 3 0 show=trace",
+            "query m 0 0 3 0 show=trace rule=none",
             MARK_BEHIND,
             b"walk 3 0 0,0 3,0 taken 0,0:- 3,0:E\n",
         ),
         (
-            "query m 0 0 3 1 show=trace",
+            "query m 0 0 3 1 show=trace rule=none",
             CLOSED_ROW,
             b"walk 4 0 0,0 3,0 3,1 taken 0,0:- 3,0:E 3,1:S\n",
         ),
         (
-            "query m 0 0 3 3 show=trace",
+            "query m 0 0 3 3 show=trace rule=none",
             GAP_ABOVE,
             b"walk 0 3 0,0 1,1 3,3 taken 0,0:- 1,1:SE 3,3:SE\n",
         ),
         (
-            "query m 0 0 3 3 show=cells",
+            "query m 0 0 3 3 show=cells rule=none",
             GAP_ABOVE,
             b"walk 0 3 0,0 1,1 2,2 3,3\n",
         ),
-        ("query m 0 0 1 0 show=trace", SHORE, b"none taken\n"),
+        (
+            "query m 0 0 1 0 show=trace rule=none",
+            SHORE,
+            b"none taken\n",
+        ),
     ];
     for (words, map, line) in table {
         for engine in ["engine=jps", "engine=block", "engine=plus"] {

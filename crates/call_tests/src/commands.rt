@@ -1,5 +1,6 @@
-//! The commands that answer no query, by whole calls: certificates, told walks, tables, costs, boxes, first moves and
-//! pictures. Lines are counted on squared paper or written by hand from the format's description.
+//! The commands besides `query`, `solve` and `live`, by whole calls: certificates, told walks, counted rows, tables,
+//! costs, boxes, first moves and pictures. Lines are counted on squared paper or written by hand from the format's
+//! description.
 
 use crate::calls::{
     Call, OPEN, PILLAR, RULES, SHORE, TOUCHING, check, check_done, check_reads, check_with,
@@ -13,16 +14,6 @@ const CERTIFICATE: &[u8] = b"jps-cert 1\nsize 3 3\nends 0 0 2 2\nleast 4 0\npoin
 
 // A certificate on the open map, whose walk is the diagonal: no cell has a sum below the cost.
 const DIAGONAL: &[u8] = b"jps-cert 1\nsize 3 3\nends 0 0 2 2\nleast 0 2\npoints 0,0 2,2\nend\n";
-
-const PROVE: Call<'static> = Call {
-    words: "prove m 0 0 2 2",
-    map: OPEN,
-    second: DIAGONAL,
-    third: b"",
-    input: b"",
-    failing_read: 0,
-    failing_write: 0,
-};
 
 #[test]
 fn certificates_are_printed_and_judged(rt: HostRuntime) -> Result<(), Fail> {
@@ -40,9 +31,10 @@ fn certificates_are_printed_and_judged(rt: HostRuntime) -> Result<(), Fail> {
 #[test]
 fn certificates_stand_under_both_rules(rt: HostRuntime) -> Result<(), Fail> {
     let alloc = rt.alloc();
+    let prove = on_map("prove m 0 0 2 2", OPEN);
     let on_open = on_two("check m s", OPEN, DIAGONAL);
     for rule in RULES {
-        check_with(alloc, &rt, PROVE, &[rule], 0, DIAGONAL)?;
+        check_with(alloc, &rt, prove, &[rule], 0, DIAGONAL)?;
         check_with(alloc, &rt, on_open, &[rule], 0, b"accepted least 0 2\n")?;
     }
     Ok(())
@@ -53,9 +45,10 @@ fn certificates_stand_under_both_rules(rt: HostRuntime) -> Result<(), Fail> {
 fn each_read_and_write_of_certificates_fails_in_turn(rt: HostRuntime) -> Result<(), Fail> {
     let alloc = rt.alloc();
     let judged = on_two("check m s", PILLAR, CERTIFICATE);
-    check_reads(alloc, &rt, PROVE, 4)?;
+    let prove = on_map("prove m 0 0 2 2", OPEN);
+    check_reads(alloc, &rt, prove, 4)?;
     check_reads(alloc, &rt, judged, 4 + CERTIFICATE.len() as u64 / 16 + 2)?;
-    check_writes(alloc, &rt, PROVE, DIAGONAL)?;
+    check_writes(alloc, &rt, prove, DIAGONAL)?;
     check_writes(alloc, &rt, judged, b"accepted least 4 0\n")
 }
 

@@ -150,7 +150,8 @@ fn check_order(
     };
     let mut err = stream(alloc, 0)?;
     let answer = status_of(alloc, "live m", &mut files, &mut input, &mut out, &mut err)?;
-    compare(rt, (answer, b"", err.bytes()), (status, b"", line));
+    assert_eq!(rt; answer, status);
+    assert_eq!(rt; err.bytes(), line);
     assert_eq!(rt; out.notes.as_slice(), notes);
     assert_eq!(rt; reads.get(), read);
     Ok(())

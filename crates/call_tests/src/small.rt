@@ -65,7 +65,7 @@ fn first_moves_answer_a_query(rt: HostRuntime) -> Result<(), Fail> {
     let alloc = rt.alloc();
     let table: [(&str, &[u8], &[u8]); 8] = [
         (
-            "query m 0 0 2 1 engine=moves",
+            "query m 0 0 2 1 engine=moves show=points",
             OPEN,
             b"walk 1 1 0,0 1,0 2,1\n",
         ),

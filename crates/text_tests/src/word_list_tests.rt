@@ -118,81 +118,67 @@ fn a_query_is_read_with_its_settings(rt: HostRuntime) -> Result<(), Fail> {
     Ok(())
 }
 
-// The map, the table file and the script or scenario of a request.
-fn files_of<'a>(request: Request<'a>) -> (&'a str, Option<&'a str>, &'a str) {
+// A request's command, map, table file, and script or scenario.
+fn files_of<'a>(request: Request<'a>) -> (&'a str, &'a str, Option<&'a str>, &'a str) {
     match request {
+        Request::Query { map, tables, .. } => ("query", map, tables, ""),
+        Request::Live { map, tables } => ("live", map, tables, ""),
         Request::Solve {
             map,
             tables,
             script,
-        } => (map, tables, script),
-        Request::Scen { map, tables, scen } => (map, tables, scen),
-        Request::Live { map, tables } | Request::Query { map, tables, .. } => (map, tables, ""),
-        _ => ("", None, ""),
+        } => ("solve", map, tables, script),
+        Request::Scen { map, tables, scen } => ("scen", map, tables, scen),
+        _ => ("", "", None, ""),
     }
 }
 
 // The name of a table file is all behind the first `=`; its engine may stand before it or behind it.
 #[test]
 fn a_map_stands_before_its_script_or_scenario(rt: HostRuntime) -> Result<(), Fail> {
+    let (t, ab) = (Some("t"), Some("a=b"));
     let (plain, plus) = (Pick::Plain, Pick::Plus);
-    let (points, taken) = (Show::Points, Show::Taken);
-    let calls: [(&str, (&str, Option<&str>, &str), (Pick, Show, bool)); 8] = [
-        (
-            "solve m s show=cells",
-            ("m", None, "s"),
-            (plain, Show::Cells, false),
-        ),
-        (
-            "scen m s rule=none",
-            ("m", None, "s"),
-            (plain, points, false),
-        ),
+    let (points, cells, taken) = (Show::Points, Show::Cells, Show::Taken);
+    let solved = ("solve", "m", None, "s");
+    let rows = ("scen", "m", None, "s");
+    let calls: [(&str, (&str, &str, Option<&str>, &str), (Pick, Show, bool)); 8] = [
+        ("solve m s show=cells", solved, (plain, cells, false)),
+        ("scen m s rule=none", rows, (plain, points, false)),
         (
             "scen m s engine=jps show=taken",
-            ("m", None, "s"),
+            rows,
             (Pick::Jps, taken, false),
         ),
         (
             "live m tables=a=b engine=plus",
-            ("m", Some("a=b"), ""),
+            ("live", "m", ab, ""),
             (plus, points, false),
         ),
         (
             "live m engine=plus rule=one tables=a=b",
-            ("m", Some("a=b"), ""),
+            ("live", "m", ab, ""),
             (plus, points, true),
         ),
         (
             "query m 0 0 1 1 tables=t engine=plus",
-            ("m", Some("t"), ""),
+            ("query", "m", t, ""),
             (plus, points, false),
         ),
         (
             "solve m s engine=plus tables=t",
-            ("m", Some("t"), "s"),
+            ("solve", "m", t, "s"),
             (plus, points, false),
         ),
         (
             "scen m s tables=t show=taken engine=plus",
-            ("m", Some("t"), "s"),
+            ("scen", "m", t, "s"),
             (plus, taken, false),
         ),
     ];
     for (line, files, chosen) in calls {
         let words = words_of(rt.alloc(), line)?;
         match read_words(&words) {
-            Ok(
-                (
-                    request,
-                    Settings {
-                        pick,
-                        show,
-                        one,
-                        ..
-                    },
-                ),
-            ) => {
+            Ok((request, Settings { pick, show, one })) => {
                 assert_eq!(rt; files_of(request), files, "{line}");
                 assert_eq!(rt; (pick, show, one), chosen, "{line}");
             }

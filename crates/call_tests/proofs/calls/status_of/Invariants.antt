@@ -1,4 +1,4 @@
 use Rattle.call_tests.proofs.calls.status_of.Given as goal
 
-abbrev pub ghosts-counted : goal.ghosts-counted
-ghosts-counted g a = record { name = a.blank.name; parts = a.blank.parts }
+abbrev pub ghosts-run_counting : goal.ghosts-run_counting
+ghosts-run_counting g a = record { name = a.blank.name; parts = a.blank.parts }
