@@ -2,7 +2,7 @@ use Rattle.std.proofs.Common.{◌≡◌, ◌∙◌, ◌+◌, ◌*◌, ◌<◌, �
 use Rattle.grid_moves.specs.declared.Cell.{Cell}
 use Rattle.goal_boxes.specs.declared.around.CellBoxes.{CellBoxes}
 use Rattle.goal_boxes.specs.Stored.{AreBefore}
-use Rattle.goal_boxes.proofs.Storing.{one_before, all_kept}
+use Rattle.goal_boxes.proofs.Storing.{one_before, holds_all}
 use Rattle.first_moves.specs.Kept.{AreRows}
 use Rattle.first_moves.specs.declared.row.Run.{Run}
 use Rattle.first_moves.proofs.Rows.{count_more, rows_more, are_moves}
@@ -33,16 +33,11 @@ loop-x-preserved g c =
 
 pub returns-clause-boxes : goal.returns-clause-boxes
 returns-clause-boxes g c =
-    let grid = g.T.Terrain.grid c.args.t.now in
-    let boxes = c.of_cells.result in
     let tall = c.height-height.ensures.is in
-    let last : c.loop-y.y ≡ grid.height = omega arith in
-    let done : c.loop-y.y * grid.width ≡ grid.height * grid.width = ap (λ (n : ℕ). n * grid.width) last in
-    all_kept grid boxes.width boxes.height boxes.cells (c.of_cells.ensures.width ∙ c.width-width.ensures.is)
-    (c.of_cells.ensures.height ∙ c.height-height.ensures.is)
-    (subst (λ (cells : List CellBoxes). AreBefore grid cells (grid.height * grid.width))
-    (sym c.of_cells.ensures.cells)
-    (subst (λ (n : ℕ). AreBefore grid c.loop-y.boxes.items n) done c.loop-y.invariant.boxes))
+    holds_all (g.T.Terrain.grid c.args.t.now) c.of_cells.result c.loop-y.boxes.items c.height-height.result
+    c.loop-y.y (c.of_cells.ensures.width ∙ c.width-width.ensures.is)
+    (c.of_cells.ensures.height ∙ c.height-height.ensures.is) c.of_cells.ensures.cells tall (omega arith)
+    (omega arith) c.loop-y.invariant.boxes
 
 pub returns-clause-moves : goal.returns-clause-moves
 returns-clause-moves g c =
