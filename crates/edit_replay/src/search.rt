@@ -51,8 +51,7 @@ pub(crate) fn search_plainly(
     }
 }
 
-// The reply of an engine that jumps, between free cells, by a source of jumps on the grid, which is handed in for what
-// is promised on it alone.
+// The reply of an engine that jumps, between free cells, by a source of jumps on the grid.
 fn search_by_jumps<J: JumpSource, L: Ledger>(
     alloc: Global,
     _grid: &Grid,
@@ -73,7 +72,7 @@ fn search_by_jumps<J: JumpSource, L: Ledger>(
     ensures fewest { IfOk result (RoseByStates (J.fewest j.now) steps.old steps.new) }
     ensures places { HasPlaces _grid.now space.new }
 {
-    // Asked for their clauses alone: the source has the sides of each grid that it stands for.
+    // (by their clauses these are the sides of every grid that the source stands for, which is whole)
     let _sides = (j.width(), j.height());
     let Found { walk, taken } = search_in(alloc, j, from, to, space, steps)?;
     match walk {

@@ -6,7 +6,7 @@ ghost use Rattle.best_first.specs.State.{state_told};
 ghost use Rattle.best_first.specs.Table.{node_for, offered, ClosedBelow};
 ghost use Rattle.grid_moves.specs.Grid.{IsGrid};
 ghost use Rattle.grid_moves.specs.Move.{all_dirs};
-ghost use Rattle.plain_search.specs.Offers.{arrival_of, cost_to, offer_to, all_offered, MayOffer, MayExpand, HasExpanded};
+ghost use Rattle.plain_search.specs.Offers.{arrival_by, cost_to, offer_to, all_offered, MayOffer, MayExpand, HasExpanded};
 
 use crate::moves::{Behind, less_offered};
 use best_first::{Layout, Node, Offer, Space, State};
@@ -126,8 +126,8 @@ fn offer_around<L: Ledger>(
 
 // The arrival of each number: the directions in their order, and beyond them none.
 #[inline(always)]
-fn arrival_of(number: usize) -> Option<Dir>
-    ensures { result ≡ arrival_of number }
+fn arrival_by(number: usize) -> Option<Dir>
+    ensures { result ≡ arrival_by number }
 {
     match number {
         0 => Some(Dir::N),
@@ -158,13 +158,13 @@ fn offer_after<const BY: usize, T: Terrain, L: Ledger>(
     requires narrow { space.old.width ≤ 4096 }
     requires room { 8 ≤ space.old.spare }
     requires may { MayExpand (T.grid t.now) goal at node space.old }
-    requires told { arrival_of BY ≡ (state_told node.place).arrival }
+    requires told { arrival_by BY ≡ (state_told node.place).arrival }
     ensures expanded { HasExpanded (T.grid t.now) goal at node space.old.table space.new.table }
     ensures shape { KeepsShape space.old space.new }
 {
     let cell = node.place.cell();
     let around = moves_around(t, cell);
-    let moves = less_offered(around, Behind::of(arrival_of(BY)));
+    let moves = less_offered(around, Behind::of(arrival_by(BY)));
     let from = Source {
         id: at,
         key: node.key,
