@@ -426,19 +426,20 @@ fn refused_words_and_texts_are_named(rt: HostRuntime) -> Result<(), Fail> {
     Ok(())
 }
 
+// What is written of three words before one that is no text, the write of this number failing.
+fn check_refused(alloc: Global, rt: &impl Abort, failing: u64, line: &[u8]) -> Result<(), Fail> {
+    let before = strings(alloc, "query m 0")?;
+    let mut err = stream(alloc, failing)?;
+    let status = refuse(alloc, before.as_slice(), &mut err);
+    compare(rt, (status, b"", err.bytes()), (2, b"", line));
+    Ok(())
+}
+
 // A word that is no text stands where the row's next word would; then the stream fails at once.
 #[test]
 fn words_that_are_no_text_are_named(rt: HostRuntime) -> Result<(), Fail> {
-    let alloc = rt.alloc();
-    let before = strings(alloc, "query m 0")?;
-    let mut err = stream(alloc, 0)?;
-    assert_eq!(rt; refuse(alloc, before.as_slice(), &mut err), 2);
-    let line: &[u8] = b"jps: word 4\n";
-    assert_eq!(rt; err.bytes(), line);
-    let mut err = stream(alloc, 1)?;
-    assert_eq!(rt; refuse(alloc, before.as_slice(), &mut err), 2);
-    assert_eq!(rt; err.bytes().len(), 0);
-    Ok(())
+    check_refused(rt.alloc(), &rt, 0, b"jps: word 4\n")?;
+    check_refused(rt.alloc(), &rt, 1, b"")
 }
 
 // Rows of a map of 3 by 2 with nothing and with all of it blocked; a failing write of a made map;
