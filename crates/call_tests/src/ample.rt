@@ -6,12 +6,14 @@
 ghost use Rattle.io_edge.specs.Told.{untold};
 
 use crate::calls::{
-    Call, ENGINES, OPEN, RULES, check, check_with, check_writes, compare, on_map, query, scenario,
-    script, status_of, stream,
+    Call, ENGINES, OPEN, RULES, check, check_with, check_writes, compare, on_map, query,
+    run_counting, scenario, script, stream, strings,
 };
 use io_edge::{Failed, Files, MemSink, SureSource};
 use std::alloc::Global;
+use std::marker::Brand;
 use std::process::Abort;
+use std::sync::ledger::Blank;
 use std::test::Fail;
 
 // The lines of a drill under each rule, as an independent program prints them.
@@ -97,11 +99,20 @@ fn check_endless(
     let mut input = SureSource::new(Vec::new(alloc));
     let mut out = MemSink::new(alloc, 10_000, 100, Vec::new(alloc))?;
     let mut err = stream(alloc, failing)?;
-    let answer = status_of(alloc, words, &mut files, &mut input, &mut out, &mut err)?;
+    let words = strings(alloc, words)?;
+    let answer = run_counting::<Endless<'_>, SureSource, MemSink, Brand>(
+        alloc,
+        words.as_slice(),
+        &mut files,
+        &mut input,
+        &mut out,
+        &mut err,
+        Blank::new(1),
+    );
     let is_whole = out.bytes().starts_with(ends.0) && out.bytes().ends_with(ends.1);
     assert_eq!(rt; is_whole, true);
     assert_eq!(rt; status == 0 || out.bytes().is_empty(), true);
-    compare(rt, (answer, b"", err.bytes()), (status, b"", line));
+    compare(rt, (answer, err.bytes()), (status, line));
     Ok(())
 }
 

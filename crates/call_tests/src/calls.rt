@@ -60,7 +60,7 @@ pub(crate) fn on_map<'a>(words: &'a str, map: &'a [u8]) -> Call<'a> {
     on_two(words, map, b"")
 }
 
-pub(crate) fn files(alloc: Global, made: Call<'_>) -> Result<MemFiles, AllocError> {
+fn files(alloc: Global, made: Call<'_>) -> Result<MemFiles, AllocError> {
     let mut files = Vec::new(alloc);
     for (name, bytes) in [("m", made.map), ("s", made.second), ("t", made.third)] {
         let name = String::from_str(alloc, name)?;
@@ -80,7 +80,7 @@ pub(crate) fn stream(alloc: Global, failing: u64) -> Result<MemSink, AllocError>
     MemSink::new(alloc, 4000, 1, numbers(alloc, failing)?)
 }
 
-fn strings(alloc: Global, words: &str) -> Result<Vec<String>, AllocError> {
+pub(crate) fn strings(alloc: Global, words: &str) -> Result<Vec<String>, AllocError> {
     let mut strings = Vec::new(alloc);
     for word in words.split_whitespace() {
         strings.push(String::from_str(alloc, word)?)?;
@@ -89,7 +89,7 @@ fn strings(alloc: Global, words: &str) -> Result<Vec<String>, AllocError> {
 }
 
 // A call of these words, its steps counted by a counter of its own.
-fn run_counting<F: Files, I: Source, O: Sink, L: Ledger>(
+pub(crate) fn run_counting<F: Files, I: Source, O: Sink, L: Ledger>(
     alloc: Global,
     words: &[String],
     files: &mut F,
@@ -106,25 +106,36 @@ fn run_counting<F: Files, I: Source, O: Sink, L: Ledger>(
     run(alloc, words, files, input, out, err, &mut steps)
 }
 
-// The status of a call of these words.
-pub(crate) fn status_of<F: Files, I: Source, O: Sink>(
+// The status of a call, whose line is this.
+pub(crate) fn status_of<I: Source, O: Sink>(
     alloc: Global,
-    words: &str,
-    files: &mut F,
+    rt: &impl Abort,
+    made: Call<'_>,
     input: &mut I,
     out: &mut O,
-    err: &mut MemSink,
+    line: &[u8],
 ) -> Result<u8, Fail> {
-    let words = strings(alloc, words)?;
+    let words = strings(alloc, made.words)?;
+    let mut files = files(alloc, made)?;
+    let mut err = stream(alloc, 0)?;
     let words = words.as_slice();
-    Ok(run_counting::<F, I, O, Brand>(alloc, words, files, input, out, err, Blank::new(1)))
+    let status = run_counting::<MemFiles, I, O, Brand>(
+        alloc,
+        words,
+        &mut files,
+        input,
+        out,
+        &mut err,
+        Blank::new(1),
+    );
+    compare(rt, (status, err.bytes()), (status, line));
+    Ok(status)
 }
 
-// The status, the output and the line that a call came to are these.
-pub(crate) fn compare(rt: &impl Abort, told: (u8, &[u8], &[u8]), expected: (u8, &[u8], &[u8])) {
+// The status and what was written are these.
+pub(crate) fn compare(rt: &impl Abort, told: (u8, &[u8]), expected: (u8, &[u8])) {
     assert_eq!(rt; told.0, expected.0);
     assert_eq!(rt; told.1, expected.1);
-    assert_eq!(rt; told.2, expected.2);
 }
 
 // A call has this status, this output and this line.
@@ -136,18 +147,10 @@ pub(crate) fn check(
     output: &[u8],
     line: &[u8],
 ) -> Result<(), Fail> {
-    let mut files = files(alloc, made)?;
     let mut input = SureSource::new(Vec::from_slice(alloc, made.input)?);
     let mut out = stream(alloc, made.failing_write)?;
-    let mut err = stream(alloc, 0)?;
-    let answer = status_of(
-        alloc, made.words, &mut files, &mut input, &mut out, &mut err,
-    )?;
-    compare(
-        rt,
-        (answer, out.bytes(), err.bytes()),
-        (status, output, line),
-    );
+    let answer = status_of(alloc, rt, made, &mut input, &mut out, line)?;
+    compare(rt, (answer, out.bytes()), (status, output));
     Ok(())
 }
 
@@ -431,7 +434,7 @@ fn check_refused(alloc: Global, rt: &impl Abort, failing: u64, line: &[u8]) -> R
     let before = strings(alloc, "query m 0")?;
     let mut err = stream(alloc, failing)?;
     let status = refuse(alloc, before.as_slice(), &mut err);
-    compare(rt, (status, b"", err.bytes()), (2, b"", line));
+    compare(rt, (status, err.bytes()), (2, line));
     Ok(())
 }
 

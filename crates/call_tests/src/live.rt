@@ -5,8 +5,7 @@ ghost use Rattle.std.specs.Io.KnownBytes.{ReadConsumes, WriteAppends};
 ghost use Rattle.io_edge.specs.Causes.{HasCause};
 
 use crate::calls::{
-    CROSSING, Call, ENGINES, RULES, check, check_with, compare, files, numbers, on_map, status_of,
-    stream,
+    CROSSING, Call, ENGINES, RULES, check, check_with, compare, numbers, on_map, status_of, stream,
 };
 use arrayvec::ArrayVec;
 use io_edge::{Failed, MemSource, Sink, Source};
@@ -44,17 +43,11 @@ fn check_pieces(
 ) -> Result<(), Fail>
     requires { 1 ≤ piece }
 {
-    let mut files = files(alloc, live("live m"))?;
     let script = Vec::from_slice(alloc, script)?;
     let mut input = MemSource::new(script, piece, numbers(alloc, failing)?);
     let mut out = stream(alloc, 0)?;
-    let mut err = stream(alloc, 0)?;
-    let answer = status_of(alloc, "live m", &mut files, &mut input, &mut out, &mut err)?;
-    compare(
-        rt,
-        (answer, out.bytes(), err.bytes()),
-        (status, output, line),
-    );
+    let answer = status_of(alloc, rt, live("live m"), &mut input, &mut out, line)?;
+    compare(rt, (answer, out.bytes()), (status, output));
     Ok(())
 }
 
@@ -139,7 +132,6 @@ fn check_order(
     read: u64,
 ) -> Result<(), Fail> {
     let reads = Cell::new(0);
-    let mut files = files(alloc, live("live m"))?;
     let mut input = Spoken {
         text: script,
         reads: &reads,
@@ -148,10 +140,8 @@ fn check_order(
         reads: &reads,
         notes: ArrayVec::new(),
     };
-    let mut err = stream(alloc, 0)?;
-    let answer = status_of(alloc, "live m", &mut files, &mut input, &mut out, &mut err)?;
+    let answer = status_of(alloc, rt, live("live m"), &mut input, &mut out, line)?;
     assert_eq!(rt; answer, status);
-    assert_eq!(rt; err.bytes(), line);
     assert_eq!(rt; out.notes.as_slice(), notes);
     assert_eq!(rt; reads.get(), read);
     Ok(())
@@ -214,15 +204,13 @@ fn check_untouched(
         failing_read,
         ..live(words)
     };
-    let mut files = files(alloc, made)?;
     let mut input = Spoken {
         text: SCRIPT,
         reads: &reads,
     };
     let mut out = stream(alloc, 0)?;
-    let mut err = stream(alloc, 0)?;
-    let answer = status_of(alloc, words, &mut files, &mut input, &mut out, &mut err)?;
-    compare(rt, (answer, out.bytes(), err.bytes()), (status, b"", line));
+    let answer = status_of(alloc, rt, made, &mut input, &mut out, line)?;
+    compare(rt, (answer, out.bytes()), (status, b""));
     assert_eq!(rt; reads.get(), 0);
     Ok(())
 }
