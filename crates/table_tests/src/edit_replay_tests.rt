@@ -3,8 +3,8 @@
 ghost use Rattle.std.specs.Prelude.{◌≡◌, ◌<◌};
 
 use edit_replay::{EditReply, Engine, NoMemory, Reply, Session, Taken};
-use grid_moves::{Corner, Grid, Ground};
-use map_text::read_map;
+use grid_moves::{Corner, Ground, Layers};
+use map_text::{MapText, read_map};
 use plus_tables::Tables;
 use std::alloc::Global;
 use std::marker::Brand;
@@ -43,6 +43,17 @@ fn told_of(reply: &Reply) -> Four {
     }
 }
 
+// What is told of the reply to a query.
+fn ask<L: Ledger>(
+    alloc: Global,
+    session: &mut Session,
+    ends: Four,
+    steps: &mut Steps<L>,
+) -> Result<Four, NoMemory> {
+    let (sx, sy, gx, gy) = ends;
+    Ok(told_of(&session.query(alloc, sx, sy, gx, gy, steps)?))
+}
+
 // Each line is answered on the grids that the lines before it left.
 fn answer_all<L: Ledger>(
     alloc: Global,
@@ -59,9 +70,8 @@ fn answer_all<L: Ledger>(
     for (i, line) in lines.iter().enumerate() {
         match *line {
             Line::Query(ends, told) => {
-                let (sx, sy, gx, gy) = ends;
-                let reply = session.query(alloc, sx, sy, gx, gy, &mut steps)?;
-                assert_eq!(rt; told_of(&reply), told, "line {i}");
+                let reply = ask(alloc, session, ends, &mut steps)?;
+                assert_eq!(rt; reply, told, "line {i}");
             }
             Line::Edit(x, y, to, told) => {
                 let reply = session.edit(x, y, to, &mut steps);
@@ -70,6 +80,23 @@ fn answer_all<L: Ledger>(
         }
     }
     Ok(())
+}
+
+// A session on a map; one of the engine `plus` is given tables that were built before.
+fn session_on(
+    alloc: Global,
+    map: &MapText,
+    engine: Engine,
+    corner: Corner,
+) -> Result<Session, NoMemory> {
+    if engine != Engine::Plus {
+        return Session::new(alloc, map, engine, corner);
+    }
+    let cells = map.cells.as_slice();
+    let layers = Layers::of_cells(alloc, map.width, map.height, cells, corner)?;
+    let (land, water) = layers.both();
+    let (first, second) = (Tables::build(alloc, land)?, Tables::build(alloc, water)?);
+    Session::with_tables(alloc, map, corner, first, second)
 }
 
 // The script's lines on the map of this text.
@@ -83,26 +110,7 @@ fn check_script(
 ) -> Result<(), Fail> {
     assert!(rt; text.len() < 100);
     let map = read_map(alloc, text)?;
-    let mut session = Session::new(alloc, &map, engine, corner)?;
-    answer_all::<Brand>(alloc, rt, &mut session, lines, Blank::new(1))?;
-    Ok(())
-}
-
-// The same of a session with tables that were built before.
-fn check_tables(
-    alloc: Global,
-    rt: &impl Abort,
-    text: &[u8],
-    corner: Corner,
-    lines: &[Line],
-) -> Result<(), Fail> {
-    assert!(rt; text.len() < 100);
-    let map = read_map(alloc, text)?;
-    let cells = map.cells.as_slice();
-    let land = Grid::of_layer(alloc, map.width, map.height, cells, corner, Ground::Land)?;
-    let water = Grid::of_layer(alloc, map.width, map.height, cells, corner, Ground::Water)?;
-    let (first, second) = (Tables::build(alloc, &land)?, Tables::build(alloc, &water)?);
-    let mut session = Session::with_tables(alloc, &map, corner, first, second)?;
+    let mut session = session_on(alloc, &map, engine, corner)?;
     answer_all::<Brand>(alloc, rt, &mut session, lines, Blank::new(1))?;
     Ok(())
 }
@@ -139,7 +147,7 @@ fn a_script_is_answered_by_jumps(rt: HostRuntime) -> Result<(), Fail> {
         Line::Query((1, 0, 2, 1), (1, 0, 0, 0)),
     ];
     check_script(rt.alloc(), &rt, text, Engine::Jps, Corner::Never, &lines)?;
-    check_tables(rt.alloc(), &rt, text, Corner::Never, &lines)
+    check_script(rt.alloc(), &rt, text, Engine::Plus, Corner::Never, &lines)
 }
 
 // On the map `.WW/.WW` queries run among water cells or among land cells, and edits move the shore.

@@ -4,29 +4,18 @@ ghost use Rattle.std.specs.Prelude.{◌≡◌, ◌<◌, true, IsTrue};
 ghost use Rattle.grid_moves.specs.Grid.{is_free};
 ghost use Rattle.plus_tables.specs.Tables.{AreTablesOf, is_on};
 
-use grid_moves::{Cell, Corner, Dir, Grid, Terrain};
+use grid_moves::{Cell, Corner, Dir, Grid, NoMemory, Terrain};
 use plus_tables::{PlusJumps, Tables};
 use pruning::JumpSource;
+use std::alloc::Global;
 use std::marker::Brand;
+use std::process::Abort;
 use std::sync::ledger::{Blank, Ledger};
 use std::test::Fail;
 use steps::Steps;
 
 // A cell, a direction and the table entry for them.
-#[derive(Clone, Copy)]
-struct Row {
-    at: (u16, u16),
-    d: Dir,
-    entry: i16,
-}
-
-fn entry_is(x: u16, y: u16, d: Dir, entry: i16) -> Row {
-    Row {
-        at: (x, y),
-        d,
-        entry,
-    }
-}
+type Row = ((u16, u16), Dir, i16);
 
 fn entry_of<L: Ledger>(tables: &Tables, at: Cell, d: Dir, blank: Blank) -> i16
     requires on { is_on tables.now at ≡ true }
@@ -40,11 +29,11 @@ fn entry_of<L: Ledger>(tables: &Tables, at: Cell, d: Dir, blank: Blank) -> i16
 
 // Whether the tables have this entry.
 fn has(tables: &Tables, row: Row) -> bool {
-    let (x, y) = row.at;
+    let ((x, y), d, entry) = row;
     if x >= tables.width() || y >= tables.height() {
         return false;
     }
-    entry_of::<Brand>(tables, Cell { x, y }, row.d, Blank::new(1)) == row.entry
+    entry_of::<Brand>(tables, Cell { x, y }, d, Blank::new(1)) == entry
 }
 
 // Whether the tables have these entries.
@@ -57,29 +46,32 @@ fn have(tables: &Tables, rows: &[Row]) -> bool {
     true
 }
 
-// On `...../.@...`: to the mark behind the wall, or above it where a corner may be cut, and to the border.
+// Whether the tables of the map `...../.@...` have these entries.
+fn wall_has(alloc: Global, corner: Corner, rows: &[Row]) -> Result<bool, NoMemory> {
+    let grid = Grid::of_cells(alloc, 5, 2, b"......@...", corner)?;
+    let tables = Tables::build(alloc, &grid)?;
+    Ok(have(&tables, rows))
+}
+
+// On that map: to the mark behind the wall, or above it where a corner may be cut, and to the border.
 #[test]
 fn entries_beside_a_wall(rt: HostRuntime) -> Result<(), Fail> {
-    let uncut = Grid::of_cells(rt.alloc(), 5, 2, b"......@...", Corner::Never)?;
     let rows = [
-        entry_is(0, 0, Dir::E, 2),
-        entry_is(1, 0, Dir::E, 1),
-        entry_is(2, 0, Dir::E, -2),
-        entry_is(4, 0, Dir::W, 4),
-        entry_is(0, 0, Dir::SE, 0),
-        entry_is(2, 0, Dir::SE, -1),
-        entry_is(1, 1, Dir::E, 0),
+        ((0, 0), Dir::E, 2),
+        ((1, 0), Dir::E, 1),
+        ((2, 0), Dir::E, -2),
+        ((4, 0), Dir::W, 4),
+        ((0, 0), Dir::SE, 0),
+        ((2, 0), Dir::SE, -1),
+        ((1, 1), Dir::E, 0),
     ];
-    let tables = Tables::build(rt.alloc(), &uncut)?;
-    assert!(rt; have(&tables, &rows));
-    let cut = Grid::of_cells(rt.alloc(), 5, 2, b"......@...", Corner::One)?;
+    assert!(rt; wall_has(rt.alloc(), Corner::Never, &rows)?);
     let rows = [
-        entry_is(0, 0, Dir::E, 1),
-        entry_is(1, 0, Dir::E, -3),
-        entry_is(1, 0, Dir::SE, -1),
+        ((0, 0), Dir::E, 1),
+        ((1, 0), Dir::E, -3),
+        ((1, 0), Dir::SE, -1),
     ];
-    let tables = Tables::build(rt.alloc(), &cut)?;
-    assert!(rt; have(&tables, &rows));
+    assert!(rt; wall_has(rt.alloc(), Corner::One, &rows)?);
     Ok(())
 }
 
@@ -94,21 +86,24 @@ fn stop_of<L: Ledger>(tables: &Tables, at: Cell, d: Dir, goal: Cell, blank: Blan
     PlusJumps { tables }.stop(at, d, goal, &mut steps)
 }
 
+// A jump to the southeast with this goal stops after so many moves.
+fn check_stop(rt: &impl Abort, grid: &Grid, tables: &Tables, at: Cell, goal: Cell, stop: u16)
+    requires { AreTablesOf tables.now grid.now }
+{
+    assert!(rt; grid.free(at) && grid.free(goal));
+    let told = stop_of::<Brand>(tables, at, Dir::SE, goal, Blank::new(1));
+    assert_eq!(rt; told, Some(stop));
+}
+
 // On `..@./..../..../....` a mark stands before the goal on its own diagonal; the goal is seen from (2,2)
 // along a row, and from (1,1) not past the mark.
 #[test]
 fn goals_and_marks(rt: HostRuntime) -> Result<(), Fail> {
     let grid = Grid::of_cells(rt.alloc(), 4, 4, b"..@.............", Corner::Never)?;
     let tables = Tables::build(rt.alloc(), &grid)?;
-    let (corner, next) = (Cell { x: 0, y: 0 }, Cell { x: 1, y: 1 });
-    let (goal, beside) = (Cell { x: 3, y: 3 }, Cell { x: 3, y: 2 });
-    if grid.free(corner) && grid.free(next) && grid.free(goal) && grid.free(beside) {
-        let marked = stop_of::<Brand>(&tables, corner, Dir::SE, goal, Blank::new(1));
-        assert_eq!(rt; marked, Some(1));
-        let met = stop_of::<Brand>(&tables, next, Dir::SE, goal, Blank::new(1));
-        assert_eq!(rt; met, Some(2));
-        let seen = stop_of::<Brand>(&tables, next, Dir::SE, beside, Blank::new(1));
-        assert_eq!(rt; seen, Some(1));
-    }
+    let (next, goal) = (Cell { x: 1, y: 1 }, Cell { x: 3, y: 3 });
+    check_stop(&rt, &grid, &tables, Cell { x: 0, y: 0 }, goal, 1);
+    check_stop(&rt, &grid, &tables, next, goal, 2);
+    check_stop(&rt, &grid, &tables, next, Cell { x: 3, y: 2 }, 1);
     Ok(())
 }

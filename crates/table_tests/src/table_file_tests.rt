@@ -1,8 +1,9 @@
 //! The file of a map of three cells in a row, byte by byte.
 
-use grid_moves::{Cell, Corner, Dir, Grid, Ground};
+use grid_moves::{Cell, Corner, Dir, Grid, Ground, Layers};
 use plus_tables::Tables;
 use std::alloc::Global;
+use std::process::Abort;
 use std::test::Fail;
 use table_file::{NoMemory, TableFault, load, write_tables};
 
@@ -23,8 +24,11 @@ fn three_cells(alloc: Global) -> Result<Vec<u8>, NoMemory> {
     Ok(text)
 }
 
-// The same with one byte changed, if the text has it, and cut to this length.
-fn changed(alloc: Global, place: usize, byte: u8, length: usize) -> Result<Vec<u8>, NoMemory> {
+// A place, the byte that is put there, if the text has it, and the length that the text is cut to.
+type Change = (usize, u8, usize);
+
+fn changed(alloc: Global, change: Change) -> Result<Vec<u8>, NoMemory> {
+    let (place, byte, length) = change;
     let mut text = three_cells(alloc)?;
     text.push(0)?;
     if place < text.len() {
@@ -34,27 +38,46 @@ fn changed(alloc: Global, place: usize, byte: u8, length: usize) -> Result<Vec<u
     Ok(text)
 }
 
-#[test]
-fn each_byte_of_a_small_file(rt: HostRuntime) -> Result<(), Fail> {
-    let alloc = rt.alloc();
-    let land = Grid::of_layer(alloc, 3, 1, b"...", Corner::Never, Ground::Land)?;
-    let water = Grid::of_layer(alloc, 3, 1, b"...", Corner::Never, Ground::Water)?;
-    let (first, second) = (Tables::build(alloc, &land)?, Tables::build(alloc, &water)?);
+// What is written of the tables that are built.
+fn written(alloc: Global) -> Result<Vec<u8>, NoMemory> {
+    let layers = Layers::of_cells(alloc, 3, 1, b"...", Corner::Never)?;
+    let (land, water) = layers.both();
+    let (first, second) = (Tables::build(alloc, land)?, Tables::build(alloc, water)?);
     let mut out = Vec::new(alloc);
     write_tables(&first, &second, Corner::Never, &mut out)?;
-    let text = three_cells(alloc)?;
+    Ok(out)
+}
+
+#[test]
+fn each_byte_of_a_small_file(rt: HostRuntime) -> Result<(), Fail> {
+    let (out, text) = (written(rt.alloc())?, three_cells(rt.alloc())?);
     assert_eq!(rt; out.as_slice(), text.as_slice());
-    let (land_tables, water_tables) = load(alloc, text.as_slice(), &land, &water)?;
-    assert_eq!(rt; land_tables.entries(), first.entries());
-    assert_eq!(rt; water_tables.entries(), second.entries());
     Ok(())
 }
 
-// What the text is refused as, for the map under this rule.
-fn refusal(alloc: Global, text: &[u8], corner: Corner) -> Result<(), TableFault> {
-    let land = Grid::of_layer(alloc, 3, 1, b"...", corner, Ground::Land)?;
-    let water = Grid::of_layer(alloc, 3, 1, b"...", corner, Ground::Water)?;
-    let _tables = load(alloc, text, &land, &water)?;
+// The tables of a grid are these.
+fn compare(alloc: Global, rt: &impl Abort, grid: &Grid, tables: &Tables) -> Result<(), Fail> {
+    let built = Tables::build(alloc, grid)?;
+    assert_eq!(rt; tables.entries(), built.entries());
+    Ok(())
+}
+
+#[test]
+fn a_small_file_is_loaded(rt: HostRuntime) -> Result<(), Fail> {
+    let text = three_cells(rt.alloc())?;
+    let layers = Layers::of_cells(rt.alloc(), 3, 1, b"...", Corner::Never)?;
+    let (land, water) = layers.both();
+    let tables = load(rt.alloc(), text.as_slice(), land, water)?;
+    compare(rt.alloc(), &rt, land, &tables.0)?;
+    compare(rt.alloc(), &rt, water, &tables.1)
+}
+
+// What the text with such a change is refused as, for the map under this rule.
+fn refusal(alloc: Global, change: Change, corner: Corner) -> Result<(), TableFault> {
+    let text = changed(alloc, change)?;
+    let layers = Layers::of_cells(alloc, 3, 1, b"...", corner)?;
+    let (land, water) = layers.both();
+    let _tables = load(alloc, text.as_slice(), land, water)?;
     Ok(())
 }
 
@@ -67,24 +90,19 @@ fn entry(ground: Ground, x: u16, dir: Dir) -> TableFault {
 }
 
 #[test]
-fn the_first_difference_is_named(rt: HostRuntime) -> Result<(), Fail> {
+fn the_first_difference_is_named(rt: HostRuntime) {
     let never = Corner::Never;
-    for (place, byte, length, corner, answer) in [
-        (0, b'J', 109, never, Ok(())),
-        (17, 0xfd, 109, never, Err(entry(Ground::Land, 0, Dir::E))),
-        (108, 1, 109, never, Err(entry(Ground::Water, 2, Dir::NW))),
-        (17, 0xfd, 108, never, Err(TableFault::Length)),
-        (0, b'J', 110, never, Err(TableFault::Length)),
-        (0, b'J', 13, never, Err(TableFault::Length)),
-        (0, b'J', 12, never, Err(TableFault::Head)),
-        (11, 2, 109, never, Err(TableFault::Head)),
-        (0, b'J', 109, Corner::One, Err(TableFault::Head)),
+    for (change, corner, answer) in [
+        ((0, b'J', 109), never, Ok(())),
+        ((17, 0xfd, 109), never, Err(entry(Ground::Land, 0, Dir::E))),
+        ((108, 1, 109), never, Err(entry(Ground::Water, 2, Dir::NW))),
+        ((17, 0xfd, 108), never, Err(TableFault::Length)),
+        ((0, b'J', 110), never, Err(TableFault::Length)),
+        ((0, b'J', 13), never, Err(TableFault::Length)),
+        ((0, b'J', 12), never, Err(TableFault::Head)),
+        ((11, 2, 109), never, Err(TableFault::Head)),
+        ((0, b'J', 109), Corner::One, Err(TableFault::Head)),
     ] {
-        let text = changed(rt.alloc(), place, byte, length)?;
-        assert!(rt;
-            refusal(rt.alloc(), text.as_slice(), corner) == answer,
-            "{place} {length}"
-        );
+        assert!(rt; refusal(rt.alloc(), change, corner) == answer, "{change:?}");
     }
-    Ok(())
 }

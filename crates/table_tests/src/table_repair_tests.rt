@@ -4,10 +4,11 @@ ghost use Rattle.std.specs.Prelude.{◌≡◌, ◌*◌, ◌<◌, ◌≤◌, IfOk
 ghost use Rattle.grid_moves.specs.Grid.{AreSides, is_inside};
 ghost use Rattle.plus_tables.specs.Tables.{AreSized, AreTablesOf};
 
-use grid_moves::{ALL_DIRS, Cell, Corner, Grid, NoMemory, Terrain};
+use grid_moves::{Cell, Corner, Grid, NoMemory, Terrain};
 use plus_tables::Tables;
 use std::alloc::Global;
 use std::marker::Brand;
+use std::process::Abort;
 use std::sync::ledger::{Blank, Ledger};
 use std::test::Fail;
 use steps::Steps;
@@ -32,33 +33,19 @@ fn edit<L: Ledger>(
     repairer.repair(tables, grid, c, steps)
 }
 
-// All entries for the cells of one row, cell by cell in the order of the directions.
-fn entries_of_row<L: Ledger>(
+// The number of changed entries and the entries are these.
+fn compare(rt: &impl Abort, told: (u64, &[i16]), expected: (u64, &[i16])) {
+    assert_eq!(rt; told.0, expected.0);
+    assert_eq!(rt; told.1, expected.1);
+}
+
+// Blocks the middle of the map `...`, and frees it: with all free, the entries are these.
+fn block_and_free<L: Ledger>(
     alloc: Global,
-    tables: &Tables,
-    y: u16,
-    steps: &mut Steps<L>,
-) -> Result<Vec<i16>, NoMemory>
-    requires { y < tables.now.height }
-{
-    let mut entries = Vec::new(alloc);
-    for x in 0..tables.width() {
-        for d in ALL_DIRS.iter() {
-            entries.push(tables.entry(Cell { x, y }, *d, steps))?;
-        }
-    }
-    Ok(entries)
-}
-
-// What an edit of a map of one row changed, and the entries then.
-#[derive(Drop)]
-struct Edited {
-    changed: u64,
-    entries: Vec<i16>,
-}
-
-// Blocks the middle of the map `...`, and frees it.
-fn blocked_and_freed<L: Ledger>(alloc: Global, blank: Blank) -> Result<(Edited, Edited), NoMemory>
+    rt: &impl Abort,
+    open: &[i16],
+    blank: Blank,
+) -> Result<(), NoMemory>
     requires name { blank.name ≡ L.name }
     requires parts { blank.parts ≡ L.parts }
     requires some { 0 < L.parts }
@@ -68,25 +55,20 @@ fn blocked_and_freed<L: Ledger>(alloc: Global, blank: Blank) -> Result<(Edited, 
     let mut tables = Tables::build(alloc, &grid)?;
     let middle = Cell { x: 1, y: 0 };
     let changed = edit(&mut grid, &mut tables, middle, false, &mut steps);
-    let entries = entries_of_row(alloc, &tables, 0, &mut steps)?;
-    let blocked = Edited { changed, entries };
+    compare(rt, (changed, tables.entries()), (4, [0; 24].as_slice()));
     let changed = edit(&mut grid, &mut tables, middle, true, &mut steps);
-    let entries = entries_of_row(alloc, &tables, 0, &mut steps)?;
-    Ok((blocked, Edited { changed, entries }))
+    compare(rt, (changed, tables.entries()), (4, open));
+    Ok(())
 }
 
 // On squared paper: from (0,0) two moves to the right, from (1,0) one to each side, from (2,0) two to
 // the left. With the middle blocked no move is left.
 #[test]
 fn the_middle_of_a_row(rt: HostRuntime) -> Result<(), Fail> {
-    let (blocked, freed) = blocked_and_freed::<Brand>(rt.alloc(), Blank::new(1))?;
-    assert_eq!(rt; blocked.changed, 4);
-    assert_eq!(rt; blocked.entries.as_slice(), [0; 24].as_slice());
-    assert_eq!(rt; freed.changed, 4);
     let open = [
         0, 0, -2, 0, 0, 0, 0, 0, 0, 0, -1, 0, 0, 0, -1, 0, 0, 0, 0, 0, 0, 0, -2, 0,
     ];
-    assert_eq!(rt; freed.entries.as_slice(), open.as_slice());
+    block_and_free::<Brand>(rt.alloc(), &rt, &open, Blank::new(1))?;
     Ok(())
 }
 
@@ -118,30 +100,35 @@ fn mixed_cells(
     Ok(cells)
 }
 
-// All entries, row by row.
-fn entries_of<L: Ledger>(
-    alloc: Global,
-    tables: &Tables,
-    steps: &mut Steps<L>,
-) -> Result<Vec<i16>, NoMemory> {
-    let mut entries = Vec::new(alloc);
-    for y in 0..tables.height() {
-        for x in 0..tables.width() {
-            for d in ALL_DIRS.iter() {
-                entries.push(tables.entry(Cell { x, y }, *d, steps))?;
-            }
-        }
-    }
-    Ok(entries)
-}
-
 // At how many places the numbers differ.
 fn places_apart(one: &[i16], other: &[i16]) -> usize {
     one.iter().zip(other).filter(|(a, b)| a != b).count()
 }
 
-// Edits a square map of mixed cells so often; says whether each time the mended tables were those that are
-// built afresh, and as many entries had changed as the repair said.
+// Changes a cell; says whether the mended tables are then those that are built afresh, and as many entries
+// changed as the repair said.
+fn edit_agrees<L: Ledger>(
+    alloc: Global,
+    grid: &mut Grid,
+    tables: &mut Tables,
+    c: Cell,
+    steps: &mut Steps<L>,
+) -> Result<bool, NoMemory>
+    requires inside { is_inside grid.old c ≡ true }
+    requires tables { AreTablesOf tables.old grid.old }
+    ensures tables { AreTablesOf tables.new grid.new }
+    ensures width { grid.new.width ≡ grid.old.width }
+    ensures height { grid.new.height ≡ grid.old.height }
+{
+    let before = Vec::from_slice(alloc, tables.entries())?;
+    let free = !grid.free(c);
+    let changed = edit(grid, tables, c, free, steps);
+    let fresh = Tables::build(alloc, grid)?;
+    let apart = places_apart(before.as_slice(), fresh.entries());
+    Ok(tables.entries() == fresh.entries() && changed == apart as u64)
+}
+
+// Edits a square map of mixed cells so often; says whether each edit agrees.
 fn edits_agree<L: Ledger>(
     alloc: Global,
     side: u16,
@@ -161,22 +148,12 @@ fn edits_agree<L: Ledger>(
     let cells = mixed_cells(alloc, side as usize * side as usize, percent, &mut state)?;
     let mut grid = Grid::of_cells(alloc, side, side, &cells, corner)?;
     let mut tables = Tables::build(alloc, &grid)?;
-    let mut before = entries_of(alloc, &tables, &mut steps)?;
     for _ in 0..edits {
         let x = (next_word(&mut state) % u32::from(side)) as u16;
         let y = (next_word(&mut state) % u32::from(side)) as u16;
-        let c = Cell { x, y };
-        let free = !grid.free(c);
-        let changed = edit(&mut grid, &mut tables, c, free, &mut steps);
-        let fresh = Tables::build(alloc, &grid)?;
-        let after = entries_of(alloc, &fresh, &mut steps)?;
-        let mended = entries_of(alloc, &tables, &mut steps)?;
-        if mended.as_slice() != after.as_slice()
-            || changed != places_apart(&before, &after) as u64
-        {
+        if !edit_agrees(alloc, &mut grid, &mut tables, Cell { x, y }, &mut steps)? {
             return Ok(false);
         }
-        before = after;
     }
     Ok(true)
 }
