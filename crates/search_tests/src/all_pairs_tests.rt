@@ -8,7 +8,6 @@ use goal_boxes::{Area, Boxes, CellBoxes};
 use grid_moves::{Cell, Corner, Dir, Grid, Terrain};
 use std::alloc::Global;
 use std::marker::Brand;
-use std::process::Abort;
 use std::sync::ledger::{Blank, Ledger};
 use std::test::Fail;
 use steps::Steps;
@@ -27,8 +26,14 @@ fn both_of<L: Ledger>(alloc: Global, grid: &Grid, blank: Blank) -> Result<(Boxes
     build_both(alloc, grid, &mut Steps::<L>::new(blank))
 }
 
-fn check_boxes(rt: &impl Abort, boxes: &Boxes) {
+// Of a map of two by two cells whose lower right one is blocked: four runs, as the first cell of a row is its own.
+#[test]
+fn both_come_from_one_pass_a_cell(rt: HostRuntime) -> Result<(), Fail> {
+    let grid = Grid::of_cells(rt.alloc(), 2, 2, b"...@", Corner::Never)?;
+    assert!(rt; usize::from(grid.height()) * usize::from(grid.width()) <= 16384);
+    let (boxes, moves) = both_of::<Brand>(rt.alloc(), &grid, Blank::new(1))?;
     assert!(rt; boxes.width() == 2 && boxes.height() == 2);
+    assert!(rt; moves.width() == 2 && moves.height() == 2);
     let from_corner = CellBoxes {
         n: None,
         ne: None,
@@ -41,22 +46,7 @@ fn check_boxes(rt: &impl Abort, boxes: &Boxes) {
     };
     assert!(rt; boxes.of_cell(Cell { x: 0, y: 0 }) == from_corner);
     assert!(rt; boxes.area(Cell { x: 1, y: 1 }, Dir::W) == None);
-}
-
-// Four runs, as the first cell of a row is its own.
-fn check_moves(rt: &impl Abort, moves: &Moves) {
-    assert!(rt; moves.width() == 2 && moves.height() == 2);
     assert!(rt; moves.runs(Cell { x: 0, y: 0 }) == 4);
     assert!(rt; moves.runs(Cell { x: 1, y: 1 }) == 1);
-}
-
-// Of a map of two by two cells whose lower right one is blocked.
-#[test]
-fn both_come_from_one_pass_a_cell(rt: HostRuntime) -> Result<(), Fail> {
-    let grid = Grid::of_cells(rt.alloc(), 2, 2, b"...@", Corner::Never)?;
-    assert!(rt; usize::from(grid.height()) * usize::from(grid.width()) <= 16384);
-    let (boxes, moves) = both_of::<Brand>(rt.alloc(), &grid, Blank::new(1))?;
-    check_boxes(&rt, &boxes);
-    check_moves(&rt, &moves);
     Ok(())
 }

@@ -54,21 +54,11 @@ fn are_found(
     Ok(k == cells.len())
 }
 
-// The same for a pass from the upper left of the map with a pillar.
-fn are_round_pillar(
-    alloc: Global,
-    waves: &mut CostWaves,
-    corner: Corner,
-    cells: &[(Option<Cost>, u8)],
-) -> Result<bool, NoMemory> {
-    let grid = Grid::of_cells(alloc, 3, 3, b"....@....", corner)?;
-    are_found(waves, &grid, Cell { x: 0, y: 0 }, cells)
-}
-
 // From the upper left to beyond the pillar: with no corner cut, and past its corners by the same memory. Its
 // far corner is reached both ways.
 #[test]
 fn least_walks_part_at_a_pillar(rt: HostRuntime) -> Result<(), Fail> {
+    let grid = Grid::of_cells(rt.alloc(), 3, 3, b"....@....", Corner::Never)?;
     let mut waves = CostWaves::new(rt.alloc(), 3, 3)?;
     let round = [
         at(0, 0, 0),
@@ -81,7 +71,8 @@ fn least_walks_part_at_a_pillar(rt: HostRuntime) -> Result<(), Fail> {
         at(3, 0, S),
         at(4, 0, E | S),
     ];
-    assert!(rt; are_round_pillar(rt.alloc(), &mut waves, Corner::Never, &round)?);
+    assert!(rt; are_found(&mut waves, &grid, Cell { x: 0, y: 0 }, &round)?);
+    let grid = Grid::of_cells(rt.alloc(), 3, 3, b"....@....", Corner::One)?;
     let past = [
         at(0, 0, 0),
         at(1, 0, E),
@@ -93,7 +84,7 @@ fn least_walks_part_at_a_pillar(rt: HostRuntime) -> Result<(), Fail> {
         at(1, 1, S),
         at(2, 1, E | S),
     ];
-    assert!(rt; are_round_pillar(rt.alloc(), &mut waves, Corner::One, &past)?);
+    assert!(rt; are_found(&mut waves, &grid, Cell { x: 0, y: 0 }, &past)?);
     Ok(())
 }
 
@@ -116,7 +107,7 @@ fn moves_come_in_either_order(rt: HostRuntime) -> Result<(), Fail> {
     Ok(())
 }
 
-// On `..@./..@.` the last column is free, and cut off.
+// On `..@./..@.` the last column is free, and cut off. A map of one cell has no move.
 #[test]
 fn nothing_is_told_of_a_part_cut_off(rt: HostRuntime) -> Result<(), Fail> {
     let grid = Grid::of_cells(rt.alloc(), 4, 2, b"..@...@.", Corner::One)?;
@@ -132,11 +123,6 @@ fn nothing_is_told_of_a_part_cut_off(rt: HostRuntime) -> Result<(), Fail> {
         (None, 0),
     ];
     assert!(rt; are_found(&mut waves, &grid, Cell { x: 1, y: 1 }, &cells)?);
-    Ok(())
-}
-
-#[test]
-fn a_map_of_one_cell_has_no_move(rt: HostRuntime) -> Result<(), Fail> {
     let grid = Grid::of_cells(rt.alloc(), 1, 1, b".", Corner::Never)?;
     let mut waves = CostWaves::new(rt.alloc(), 1, 1)?;
     assert!(rt; are_found(&mut waves, &grid, Cell { x: 0, y: 0 }, &[at(0, 0, 0)])?);

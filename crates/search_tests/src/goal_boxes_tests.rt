@@ -88,8 +88,17 @@ fn moves_away_from_the_goal_are_left_out(rt: HostRuntime) -> Result<(), Fail> {
     let points = [cell(0, 0), cell(0, 2), cell(3, 2), cell(3, 1)];
     let walk = Some((points.as_slice(), Cost { a: 6, b: 0 }));
     let states = [8, 44, 80, 89, 98, 107, 71];
-    let (alloc, from, to) = (rt.alloc(), cell(0, 0), cell(3, 1));
-    assert!(rt; is_answer::<Brand>(alloc, &grid, from, to, walk, &states, Blank::new(1))?);
+    assert!(rt;
+        is_answer::<Brand>(
+            rt.alloc(),
+            &grid,
+            cell(0, 0),
+            cell(3, 1),
+            walk,
+            &states,
+            Blank::new(1)
+        )?
+    );
     Ok(())
 }
 
@@ -98,9 +107,19 @@ fn moves_away_from_the_goal_are_left_out(rt: HostRuntime) -> Result<(), Fail> {
 fn no_walk_leads_past_two_corners(rt: HostRuntime) -> Result<(), Fail> {
     let grid = Grid::of_cells(rt.alloc(), 2, 2, b".@@.", Corner::One)?;
     let boxes = Boxes::build(rt.alloc(), &grid)?;
-    assert!(rt; boxes.width() == 2 && boxes.height() == 2);
+    assert!(rt; boxes.width() == 2);
+    assert!(rt; boxes.height() == 2);
     assert!(rt; boxes.area(Cell { x: 0, y: 0 }, Dir::SE) == None);
-    let (alloc, from, to) = (rt.alloc(), cell(0, 0), cell(1, 1));
-    assert!(rt; is_answer::<Brand>(alloc, &grid, from, to, None, &[8], Blank::new(1))?);
+    assert!(rt;
+        is_answer::<Brand>(
+            rt.alloc(),
+            &grid,
+            cell(0, 0),
+            cell(1, 1),
+            None,
+            &[8],
+            Blank::new(1)
+        )?
+    );
     Ok(())
 }

@@ -13,7 +13,13 @@ use std::test::Fail;
 use steps::Steps;
 
 // A jump from a cell in a direction, the goal that it looks for, and after how many moves it stops.
-type Row = ((u16, u16), Dir, (u16, u16), Option<u16>);
+#[derive(Clone, Copy)]
+struct Row {
+    at: (u16, u16),
+    d: Dir,
+    goal: (u16, u16),
+    stop: Option<u16>,
+}
 
 // After how many moves a jump of some source stops.
 fn stop_of<J: JumpSource, L: Ledger>(
@@ -35,13 +41,16 @@ fn stop_of<J: JumpSource, L: Ledger>(
 
 // Whether a jump on a grid stops as the row says.
 fn stops_so(grid: &Grid, row: Row) -> bool {
-    let ((x, y), d, (gx, gy), stop) = row;
-    let (at, goal) = (Cell { x, y }, Cell { x: gx, y: gy });
+    let (x, y) = row.at;
+    let at = Cell { x, y };
+    let (x, y) = row.goal;
+    let goal = Cell { x, y };
     if !grid.free(at) || !grid.free(goal) {
         return false;
     }
     let jumps = PlainJumps { terrain: grid };
-    stop_of::<PlainJumps<'_, Grid>, Brand>(&jumps, at, d, goal, Blank::new(1)) == stop
+    let stop = stop_of::<PlainJumps<'_, Grid>, Brand>(&jumps, at, row.d, goal, Blank::new(1));
+    stop == row.stop
 }
 
 // Whether the jumps on a grid stop as the rows say.
@@ -54,24 +63,28 @@ fn all_stop_so(grid: &Grid, rows: &[Row]) -> bool {
     true
 }
 
+fn stops(at: (u16, u16), d: Dir, goal: (u16, u16), stop: Option<u16>) -> Row {
+    Row { at, d, goal, stop }
+}
+
 // On `.../.@./...`: round the pillar, and past its corner where that may be cut.
 #[test]
 fn round_a_pillar(rt: HostRuntime) -> Result<(), Fail> {
     let uncut = Grid::of_cells(rt.alloc(), 3, 3, b"....@....", Corner::Never)?;
     let rows = [
-        ((0, 0), Dir::E, (2, 2), Some(2)),
-        ((0, 0), Dir::S, (2, 2), Some(2)),
-        ((2, 0), Dir::S, (2, 2), Some(2)),
-        ((0, 0), Dir::SE, (2, 2), None),
+        stops((0, 0), Dir::E, (2, 2), Some(2)),
+        stops((0, 0), Dir::S, (2, 2), Some(2)),
+        stops((2, 0), Dir::S, (2, 2), Some(2)),
+        stops((0, 0), Dir::SE, (2, 2), None),
     ];
     assert!(rt; all_stop_so(&uncut, &rows));
     let cut = Grid::of_cells(rt.alloc(), 3, 3, b"....@....", Corner::One)?;
     let rows = [
-        ((0, 0), Dir::E, (2, 2), Some(1)),
-        ((0, 0), Dir::S, (2, 2), Some(1)),
-        ((1, 0), Dir::SE, (2, 2), Some(1)),
-        ((0, 1), Dir::SE, (2, 2), Some(1)),
-        ((1, 2), Dir::E, (2, 2), Some(1)),
+        stops((0, 0), Dir::E, (2, 2), Some(1)),
+        stops((0, 0), Dir::S, (2, 2), Some(1)),
+        stops((1, 0), Dir::SE, (2, 2), Some(1)),
+        stops((0, 1), Dir::SE, (2, 2), Some(1)),
+        stops((1, 2), Dir::E, (2, 2), Some(1)),
     ];
     assert!(rt; all_stop_so(&cut, &rows));
     Ok(())
@@ -82,52 +95,46 @@ fn round_a_pillar(rt: HostRuntime) -> Result<(), Fail> {
 fn beside_a_wall(rt: HostRuntime) -> Result<(), Fail> {
     let uncut = Grid::of_cells(rt.alloc(), 5, 2, b"......@...", Corner::Never)?;
     let rows = [
-        ((0, 0), Dir::E, (0, 1), Some(2)),
-        ((1, 0), Dir::E, (0, 1), Some(1)),
-        ((2, 0), Dir::E, (0, 1), None),
-        ((4, 0), Dir::W, (0, 1), Some(4)),
-        ((0, 0), Dir::SE, (0, 1), None),
-        ((2, 0), Dir::SE, (0, 1), None),
+        stops((0, 0), Dir::E, (0, 1), Some(2)),
+        stops((1, 0), Dir::E, (0, 1), Some(1)),
+        stops((2, 0), Dir::E, (0, 1), None),
+        stops((4, 0), Dir::W, (0, 1), Some(4)),
+        stops((0, 0), Dir::SE, (0, 1), None),
+        stops((2, 0), Dir::SE, (0, 1), None),
     ];
     assert!(rt; all_stop_so(&uncut, &rows));
     let cut = Grid::of_cells(rt.alloc(), 5, 2, b"......@...", Corner::One)?;
     let rows = [
-        ((0, 0), Dir::E, (0, 1), Some(1)),
-        ((1, 0), Dir::E, (0, 1), None),
-        ((0, 0), Dir::SE, (0, 1), None),
-        ((1, 0), Dir::SE, (0, 1), None),
+        stops((0, 0), Dir::E, (0, 1), Some(1)),
+        stops((1, 0), Dir::E, (0, 1), None),
+        stops((0, 0), Dir::SE, (0, 1), None),
+        stops((1, 0), Dir::SE, (0, 1), None),
     ];
     assert!(rt; all_stop_so(&cut, &rows));
     Ok(())
 }
 
-// On `......./....@..` the goal stands before the mark.
-#[test]
-fn a_goal_before_a_mark(rt: HostRuntime) -> Result<(), Fail> {
-    let wide = Grid::of_cells(rt.alloc(), 7, 2, b"...........@..", Corner::Never)?;
-    let rows = [
-        ((0, 0), Dir::E, (3, 0), Some(3)),
-        ((0, 0), Dir::E, (0, 1), Some(5)),
-    ];
-    assert!(rt; all_stop_so(&wide, &rows));
-    Ok(())
-}
-
-// On `..../..@.` the goal's row is met where the way to it is closed. On `..@./..../..../....` a mark stands
-// before it on its own diagonal.
+// On `......./....@..` the goal stands before the mark. On `..../..@.` its row is met where the way to it
+// is closed. On `..@./..../..../....` a mark stands before it on its own diagonal.
 #[test]
 fn goals_and_marks(rt: HostRuntime) -> Result<(), Fail> {
+    let wide = Grid::of_cells(rt.alloc(), 7, 2, b"...........@..", Corner::Never)?;
+    let rows = [
+        stops((0, 0), Dir::E, (3, 0), Some(3)),
+        stops((0, 0), Dir::E, (0, 1), Some(5)),
+    ];
+    assert!(rt; all_stop_so(&wide, &rows));
     let closed = Grid::of_cells(rt.alloc(), 4, 2, b"......@.", Corner::Never)?;
     let rows = [
-        ((0, 0), Dir::E, (3, 1), Some(3)),
-        ((3, 0), Dir::S, (3, 1), Some(1)),
-        ((0, 0), Dir::SE, (3, 1), None),
+        stops((0, 0), Dir::E, (3, 1), Some(3)),
+        stops((3, 0), Dir::S, (3, 1), Some(1)),
+        stops((0, 0), Dir::SE, (3, 1), None),
     ];
     assert!(rt; all_stop_so(&closed, &rows));
     let square = Grid::of_cells(rt.alloc(), 4, 4, b"..@.............", Corner::Never)?;
     let rows = [
-        ((0, 0), Dir::SE, (3, 3), Some(1)),
-        ((1, 1), Dir::SE, (3, 3), Some(2)),
+        stops((0, 0), Dir::SE, (3, 3), Some(1)),
+        stops((1, 1), Dir::SE, (3, 3), Some(2)),
     ];
     assert!(rt; all_stop_so(&square, &rows));
     Ok(())
@@ -148,8 +155,8 @@ fn along_a_corridor(rt: HostRuntime) -> Result<(), Fail> {
     for (blocked, from_left, from_right) in [(511, 512, 514), (512, 513, 513), (1023, 1024, 2)] {
         let grid = corridor(rt.alloc(), blocked)?;
         let rows = [
-            ((0, 0), Dir::E, (0, 1), Some(from_left)),
-            ((1024, 0), Dir::W, (0, 1), Some(from_right)),
+            stops((0, 0), Dir::E, (0, 1), Some(from_left)),
+            stops((1024, 0), Dir::W, (0, 1), Some(from_right)),
         ];
         assert!(rt; all_stop_so(&grid, &rows));
     }

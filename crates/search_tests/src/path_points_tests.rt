@@ -1,6 +1,6 @@
 //! Walks on squared paper.
 
-ghost use Rattle.std.specs.Prelude.{◌≡◌, ◌<◌, IfOk, length};
+ghost use Rattle.std.specs.Prelude.{◌≡◌, IfOk};
 
 use grid_moves::{Cell, Corner, Grid};
 use path_points::{BadAt, Cells, NoMemory, Points, check_walk, unfold};
@@ -35,40 +35,41 @@ fn segments_are_filled_cell_by_cell(rt: HostRuntime) -> Result<(), Fail> {
     Ok(())
 }
 
-// What a walk over few cells is found to be.
-fn judged(alloc: Global, grid: &Grid, cells: &[Cell]) -> Result<Result<Cost, BadAt>, NoMemory>
-    requires { length cells.now < 4 }
-{
-    Ok(check_walk(grid, &points_of(alloc, cells)?))
-}
-
 // On the map `.../.@./...`: round the pillar, through it, with no point, from the pillar, by a
-// knight's move, with a point twice, past a corner.
+// knight's move, with a point twice, past a corner; and past the corner where that is allowed.
 #[test]
 fn the_first_bad_point_is_named(rt: HostRuntime) -> Result<(), Fail> {
     let grid = Grid::of_cells(rt.alloc(), 3, 3, b"....@....", Corner::Never)?;
-    let round: Result<Cost, BadAt> = Ok(Cost { a: 4, b: 0 });
-    let cases: [(&[Cell], Result<Cost, BadAt>); 7] = [
-        (&[cell(0, 0), cell(2, 0), cell(2, 2)], round),
-        (&[cell(0, 0), cell(2, 2)], Err(BadAt(1))),
-        (&[], Err(BadAt(0))),
-        (&[cell(1, 1), cell(1, 2)], Err(BadAt(0))),
-        (&[cell(0, 0), cell(2, 0), cell(1, 2)], Err(BadAt(2))),
-        (&[cell(0, 0), cell(0, 2), cell(0, 2)], Err(BadAt(2))),
-        (&[cell(0, 0), cell(1, 0), cell(2, 1)], Err(BadAt(2))),
-    ];
-    for (cells, answer) in cases {
+    for (cells, answer) in [
+        (
+            [cell(0, 0), cell(2, 0), cell(2, 2)].as_slice(),
+            Ok(Cost { a: 4, b: 0 }),
+        ),
+        ([cell(0, 0), cell(2, 2)].as_slice(), Err(BadAt(1))),
+        ([].as_slice(), Err(BadAt(0))),
+        ([cell(1, 1), cell(1, 2)].as_slice(), Err(BadAt(0))),
+        (
+            [cell(0, 0), cell(2, 0), cell(1, 2)].as_slice(),
+            Err(BadAt(2)),
+        ),
+        (
+            [cell(0, 0), cell(0, 2), cell(0, 2)].as_slice(),
+            Err(BadAt(2)),
+        ),
+        (
+            [cell(0, 0), cell(1, 0), cell(2, 1)].as_slice(),
+            Err(BadAt(2)),
+        ),
+    ] {
         assert!(rt; cells.len() < 4);
-        let told = judged(rt.alloc(), &grid, cells)?;
-        assert_eq!(rt; told, answer, "{cells:?}");
+        let points = points_of(rt.alloc(), cells)?;
+        assert_eq!(rt; check_walk(&grid, &points), answer, "{cells:?}");
     }
-    Ok(())
-}
-
-#[test]
-fn a_corner_is_passed_where_that_is_allowed(rt: HostRuntime) -> Result<(), Fail> {
     let grid = Grid::of_cells(rt.alloc(), 3, 3, b"....@....", Corner::One)?;
-    let told = judged(rt.alloc(), &grid, &[cell(1, 0), cell(2, 1)])?;
-    assert_eq!(rt; told, Ok(Cost { a: 0, b: 1 }));
+    let past_the_corner = points_of(rt.alloc(), &[cell(1, 0), cell(2, 1)])?;
+    assert_eq!(rt;
+        check_walk(&grid, &past_the_corner),
+        Ok(Cost { a: 0, b: 1 })
+    );
     Ok(())
 }

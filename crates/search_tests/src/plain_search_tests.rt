@@ -61,8 +61,16 @@ fn the_earlier_of_equal_offers_stands(rt: HostRuntime) -> Result<(), Fail> {
     let grid = Grid::of_cells(rt.alloc(), 3, 2, b"......", Corner::Never)?;
     let points = [cell(0, 0), cell(1, 0), cell(2, 1)];
     let walk = Some((points.as_slice(), Cost { a: 1, b: 1 }));
-    let states = [8, 17, 44, 53];
-    assert!(rt; is_answer(rt.alloc(), &grid, cell(0, 0), cell(2, 1), walk, &states)?);
+    assert!(rt;
+        is_answer(
+            rt.alloc(),
+            &grid,
+            cell(0, 0),
+            cell(2, 1),
+            walk,
+            &[8, 17, 44, 53]
+        )?
+    );
     Ok(())
 }
 
