@@ -6,6 +6,7 @@ use io_edge::{
 };
 use std::alloc::{AllocError, Global};
 use std::fs;
+use std::process::Abort;
 use std::test::Fail;
 
 fn file(alloc: Global, bytes: &[u8]) -> Result<Vec<(String, Vec<u8>)>, AllocError> {
@@ -17,19 +18,30 @@ fn file(alloc: Global, bytes: &[u8]) -> Result<Vec<(String, Vec<u8>)>, AllocErro
     Ok(files)
 }
 
+// The file in memory, read in pieces of 16; the read of this number fails, and none where it is 0.
+fn in_memory(alloc: Global, bytes: &[u8], failing: u64) -> Result<MemFiles, AllocError> {
+    Ok(MemFiles::new(file(alloc, bytes)?, 16, vec![in alloc; failing]?))
+}
+
+// What was read is this, or no read came to an end for the same reason.
+fn compare(rt: &impl Abort, read: Result<Vec<u8>, ReadStop>, expected: Result<&[u8], ReadStop>) {
+    match (read, expected) {
+        (Ok(read), Ok(bytes)) => assert_eq!(rt; read.as_slice(), bytes),
+        (Err(ReadStop::Fault), Err(ReadStop::Fault)) => {}
+        (Err(ReadStop::TooLong), Err(ReadStop::TooLong)) => {}
+        _ => assert!(rt; false),
+    }
+}
+
 #[test]
 fn a_whole_file_is_read_in_pieces(rt: HostRuntime) -> Result<(), Fail> {
     let alloc = rt.alloc();
     let text = b"type octile\nheight 1\nwidth 1\nmap\n.\n";
-    let mut files = MemFiles::new(file(alloc, text)?, 16, Vec::new(alloc));
-    let read = read_whole(alloc, &mut files, "map", 100)?;
-    assert_eq!(rt; read.as_slice(), text.as_slice());
-    let mut files = MemFiles::new(file(alloc, text)?, 16, vec![in alloc; 2]?);
-    let stop = read_whole(alloc, &mut files, "map", 100);
-    assert!(rt;
-        matches!(stop, Err(ReadStop::Fault)),
-        "the second call fails"
-    );
+    let mut files = in_memory(alloc, text, 0)?;
+    compare(&rt, read_whole(alloc, &mut files, "map", 100), Ok(text));
+    files = in_memory(alloc, text, 2)?;
+    let read = read_whole(alloc, &mut files, "map", 100);
+    compare(&rt, read, Err(ReadStop::Fault));
     Ok(())
 }
 
@@ -37,80 +49,61 @@ fn a_whole_file_is_read_in_pieces(rt: HostRuntime) -> Result<(), Fail> {
 fn a_file_of_one_byte_more_is_too_long(rt: HostRuntime) -> Result<(), Fail> {
     let alloc = rt.alloc();
     let mut files = SureFiles::new(file(alloc, b"0123456789")?);
-    let read = read_whole(alloc, &mut files, "map", 10)?;
-    assert_eq!(rt; read.as_slice(), b"0123456789".as_slice());
-    let mut files = SureFiles::new(file(alloc, b"0123456789a")?);
-    let stop = read_whole(alloc, &mut files, "map", 10);
-    assert!(rt; matches!(stop, Err(ReadStop::TooLong)));
+    let read = read_whole(alloc, &mut files, "map", 10);
+    compare(&rt, read, Ok(b"0123456789"));
+    files = SureFiles::new(file(alloc, b"0123456789a")?);
+    let read = read_whole(alloc, &mut files, "map", 10);
+    compare(&rt, read, Err(ReadStop::TooLong));
     Ok(())
 }
 
 #[test]
 fn an_absent_file_fails_or_is_empty(rt: HostRuntime) -> Result<(), Fail> {
     let alloc = rt.alloc();
-    let mut files = MemFiles::new(file(alloc, b"x")?, 16, Vec::new(alloc));
-    let stop = read_whole(alloc, &mut files, "absent", 10);
-    assert!(rt; matches!(stop, Err(ReadStop::Fault)), "in memory");
-    let mut files = RealFiles::new(&rt);
-    let stop = read_whole(alloc, &mut files, "no/such/file", 10);
-    assert!(rt; matches!(stop, Err(ReadStop::Fault)), "real");
+    let read = read_whole(alloc, &mut in_memory(alloc, b"x", 0)?, "absent", 10);
+    compare(&rt, read, Err(ReadStop::Fault));
+    let read = read_whole(alloc, &mut RealFiles::new(&rt), "no/such/file", 10);
+    compare(&rt, read, Err(ReadStop::Fault));
     let mut files = SureFiles::new(file(alloc, b"x")?);
-    let read = read_whole(alloc, &mut files, "absent", 10)?;
-    assert_eq!(rt; read.len(), 0, "sure");
+    compare(&rt, read_whole(alloc, &mut files, "absent", 10), Ok(b""));
     Ok(())
 }
 
+// Of `walk` this front part is written before a write fails.
+fn check_front(rt: &impl Abort, mut sink: MemSink, front: &[u8]) {
+    assert!(rt; write_whole(&mut sink, b"walk").is_err());
+    assert_eq!(rt; sink.bytes(), front);
+}
+
+// The second call fails; there is room for three bytes; and all are taken.
 #[test]
 fn a_failed_write_leaves_a_front_part(rt: HostRuntime) -> Result<(), Fail> {
     let alloc = rt.alloc();
-    let mut sink = MemSink::new(alloc, 10, 1, vec![in alloc; 2]?)?;
-    assert!(rt;
-        write_whole(&mut sink, b"walk").is_err(),
-        "the second call fails"
-    );
-    assert_eq!(rt; sink.bytes(), b"w".as_slice());
-    let mut sink = MemSink::new(alloc, 3, 2, Vec::new(alloc))?;
-    assert!(rt;
-        write_whole(&mut sink, b"walk").is_err(),
-        "there is room for three bytes"
-    );
-    assert_eq!(rt; sink.bytes(), b"wal".as_slice());
+    check_front(&rt, MemSink::new(alloc, 10, 1, vec![in alloc; 2]?)?, b"w");
+    check_front(&rt, MemSink::new(alloc, 3, 2, Vec::new(alloc))?, b"wal");
     let mut sink = SureSink::new();
     assert!(rt; write_whole(&mut sink, b"walk").is_ok());
     assert_eq!(rt; sink.count(), 4);
     Ok(())
 }
 
-fn pieces<S: Source>(source: &mut S) -> [Option<usize>; 4] {
+// Reads of at most three bytes give so many, or fail.
+fn check_pieces<S: Source>(rt: &impl Abort, source: &mut S, expected: [Option<usize>; 4]) {
     let mut buf = [0u8; 3];
-    let mut found = [None; 4];
-    for i in 0..4 {
-        found[i] = source.read(&mut buf).ok();
+    for piece in expected {
+        assert_eq!(rt; source.read(&mut buf).ok(), piece);
     }
-    found
 }
 
 #[test]
 fn a_source_is_read_to_its_end(rt: HostRuntime) -> Result<(), Fail> {
     let alloc = rt.alloc();
     let mut source = MemSource::new(Vec::from_slice(alloc, b"walk")?, 2, vec![in alloc; 2]?);
-    assert_eq!(rt;
-        pieces(&mut source),
-        [Some(2), None, Some(2), Some(0)],
-        "in memory"
-    );
+    check_pieces(&rt, &mut source, [Some(2), None, Some(2), Some(0)]);
     let mut source = SureSource::new(Vec::from_slice(alloc, b"walk")?);
-    assert_eq!(rt;
-        pieces(&mut source),
-        [Some(3), Some(1), Some(0), Some(0)],
-        "sure"
-    );
+    check_pieces(&rt, &mut source, [Some(3), Some(1), Some(0), Some(0)]);
     let mut source = RealIn::new(b"walk".as_slice());
-    assert_eq!(rt;
-        pieces(&mut source),
-        [Some(3), Some(1), Some(0), Some(0)],
-        "real"
-    );
+    check_pieces(&rt, &mut source, [Some(3), Some(1), Some(0), Some(0)]);
     Ok(())
 }
 
@@ -118,8 +111,8 @@ fn a_source_is_read_to_its_end(rt: HostRuntime) -> Result<(), Fail> {
 fn a_real_file_is_read_to_its_end(rt: HostRuntime) -> Result<(), Fail> {
     let name = "io_edge_test.txt";
     fs::write(&rt, name, "walk")?;
-    let read = read_whole(rt.alloc(), &mut RealFiles::new(&rt), name, 4)?;
-    assert_eq!(rt; read.as_slice(), b"walk".as_slice());
+    let read = read_whole(rt.alloc(), &mut RealFiles::new(&rt), name, 4);
+    compare(&rt, read, Ok(b"walk"));
     fs::remove_file(&rt, name)?;
     Ok(())
 }
