@@ -128,7 +128,7 @@ pub(crate) fn status_of<I: Source, O: Sink>(
         &mut err,
         Blank::new(1),
     );
-    compare(rt, (status, err.bytes()), (status, line));
+    assert_eq!(rt; err.bytes(), line);
     Ok(status)
 }
 

@@ -51,7 +51,8 @@ pub(crate) fn search_plainly(
     }
 }
 
-// The reply of an engine that jumps, between free cells, by a source of jumps on the grid.
+// The reply of an engine that jumps, between free cells, by a source of jumps on the grid. (The grid is a parameter
+// for the contract alone.)
 fn search_by_jumps<J: JumpSource, L: Ledger>(
     alloc: Global,
     _grid: &Grid,

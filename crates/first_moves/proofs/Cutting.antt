@@ -1,7 +1,7 @@
 -- What runs tell of the members that were cut.
 use Rattle.std.proofs.Common.{inl, inr, ◌≡◌, ℕ, zero, suc, ◌+◌, ◌-◌, ◌<◌, ◌≤◌, arith, refl, ap, sym, ◌∙◌}
-use Rattle.std.proofs.Common.{subst, true, false, List, [], ◌∷◌, ◌++◌, length, get_or, map, drop, append_assoc}
-use Rattle.std.proofs.Common.{add-one, drop-cons, length-append}
+use Rattle.std.proofs.Common.{subst, true, false, List, [], ◌∷◌, ◌++◌, length, get_or, map, drop}
+use Rattle.std.proofs.Common.{append_assoc, add-one, drop-cons, length-append}
 use Rattle.std.specs.Prelude.{Option, Some, None, nat_lt, if◌then◌else◌}
 use Rattle.std.proofs.lemmas.Bool.{cases_lt}
 use Rattle.std.proofs.lemmas.Bool.Decides.{nat_tests}
@@ -149,7 +149,8 @@ member_more all runs next k m x ms e few f = elim (is_same_move m x) as (λ b. i
       | false ↦ λ s p q. (
         p ∙ sym (append_assoc runs (record { start = k; first = x } ∷ []) (runs_from (k + 1) x ms))
             ∙ ap (λ (l : List Run). l ++ runs_from (k + 1) x ms) (sym q),
-        let l = ap (λ (l : List Run). length l) q ∙ length-append runs (record { start = k; first = x } ∷ []) in
+        let l =
+            ap (λ (l : List Run). length l) q ∙ length-append runs (record { start = k; first = x } ∷ []) in
             omega (arith, l),
       )
     ] refl e f

@@ -5,16 +5,16 @@ ghost use Rattle.best_first.specs.Space.{IsPlaced, KeepsShape};
 ghost use Rattle.best_first.specs.Table.{node_for, ClosedBelow};
 ghost use Rattle.best_first.specs.Trace.{node_cell};
 ghost use Rattle.grid_moves.specs.Move.{all_dirs};
-ghost use Rattle.plain_search.specs.Offers.{cost_to, offer_to};
+ghost use Rattle.plain_search.specs.Offers.{offer_to};
 ghost use Rattle.goal_boxes.specs.Box.{box_in};
 ghost use Rattle.goal_boxes.specs.Offers.{Agree, toward, offered_over, all_offered, MayOffer, MayExpand, HasExpanded};
 ghost use Rattle.goal_boxes.specs.Rule.{is_toward};
 
 use crate::around::CellBoxes;
 use crate::source::Meant;
-use best_first::{Layout, Offer, Space, State};
+use best_first::{Layout, Space};
 use grid_moves::{ALL_DIRS, Cell, Dir, Terrain, step};
-use root2_cost::Cost;
+use plain_search::offer_to;
 use std::sync::ledger::Ledger;
 use steps::Steps;
 
@@ -26,34 +26,6 @@ struct Source {
     rank: u64,
     cell: Cell,
     goal: Cell,
-}
-
-// What a move in a direction costs.
-#[inline(always)]
-fn cost_to(d: Dir) -> Cost
-    ensures { result ≡ cost_to d }
-{
-    match d {
-        Dir::N | Dir::E | Dir::S | Dir::W => Cost { a: 1, b: 0 },
-        Dir::NE | Dir::SE | Dir::SW | Dir::NW => Cost { a: 0, b: 1 },
-    }
-}
-
-// The offer of a move.
-#[inline(always)]
-fn offer_to(from: Source, to: Cell, d: Dir) -> Offer
-    requires { from.rank < 2 ^ 62 }
-    ensures value { result ≡ offer_to from.id from.rank to d }
-    ensures fits { result.rank < 2 ^ 63 }
-{
-    Offer {
-        rank: from.rank + cost_to(d).rank(),
-        parent: from.id,
-        to: State {
-            cell: to,
-            arrival: Some(d),
-        },
-    }
 }
 
 // Whether the box in a direction holds the goal.
@@ -108,7 +80,7 @@ fn offer_over<L: Ledger>(
     ensures spare { space.old.spare ≤ space.new.spare + 1 }
 {
     if let Some(v) = to {
-        space.offer_by_cell(from.goal, offer_to(from, v, d), steps);
+        space.offer_by_cell(from.goal, offer_to(from.id, from.rank, v, d), steps);
     }
 }
 

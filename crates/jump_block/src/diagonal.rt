@@ -16,7 +16,8 @@ ghost use Rattle.jump_block.specs.Source.{OnSome, OnEach};
 use crate::cells::bit_of;
 use crate::near::{has_next_bit, leads_from_bit};
 use crate::straight::Bits;
-use crate::word::{Way, Words};
+use crate::word::Way;
+use bit_grid::Three;
 use grid_moves::{Cell, Corner, Dir, beyond, is_passable};
 use pruning::{Side, forced_on, turn};
 use std::sync::ledger::Ledger;
@@ -140,7 +141,7 @@ impl<'a> Bits<'a> {
 
     // The same, told the words around the cell, in which the cells ahead and beside it mostly are.
     #[inline(always)]
-    fn leads_near<L: Ledger>(&self, at: Cell, d: Dir, near: Words, steps: &mut Steps<L>) -> bool
+    fn leads_near<L: Ledger>(&self, at: Cell, d: Dir, near: Three, steps: &mut Steps<L>) -> bool
         requires stands { OnSome self.now at }
         requires near { AreNearStart self.now.rows.now (at.y + 1) (at.x + 1) near }
         requires diagonal { is_diagonal d ≡ true }
@@ -195,7 +196,7 @@ impl<'a> Bits<'a> {
         at: Cell,
         d: Dir,
         goal: Cell,
-        near: Words,
+        near: Three,
         steps: &mut Steps<L>,
     ) -> bool
         requires stands { OnSome self.now at }

@@ -10,8 +10,8 @@ ghost use Rattle.jump_block.specs.Source as source;
 
 use crate::cells::is_set;
 use crate::diagonal::{column_way, row_way};
-use crate::word::{Way, Words};
-use bit_grid::Lines;
+use crate::word::Way;
+use bit_grid::{Lines, Three};
 use grid_moves::{Corner, Dir, passable_bits};
 use std::sync::ledger::Ledger;
 use steps::Steps;
@@ -23,19 +23,14 @@ pub(crate) fn words_beside<L: Ledger>(
     line: u32,
     word: u32,
     steps: &mut Steps<L>,
-) -> Words
+) -> Three
     requires starts { (free : ℕ → ℕ → Bool) × (place : ℕ) × IsStart lines.now free line place }
     requires word { word < lines.now.blocks * 8 }
     ensures beside { (count positions : ℕ) (free : ℕ → ℕ → Bool) → Shows lines.now count positions free
         → AreNear free line (word * 64) result }
     ensures three_steps { steps.new ≡ steps.old + 3 }
 {
-    let three = lines.three(line, word, steps);
-    Words {
-        middle: three.middle,
-        before: three.before,
-        after: three.after,
-    }
+    lines.three(line, word, steps)
 }
 
 /// Reads those that have this place, at which a cell is free.
@@ -45,7 +40,7 @@ pub(crate) fn words_near<L: Ledger>(
     line: u32,
     place: u32,
     steps: &mut Steps<L>,
-) -> Words
+) -> Three
     requires starts { (free : ℕ → ℕ → Bool) × IsStart lines.now free line place }
     requires few { lines.now.lines < 65536 }
     ensures near { AreNearStart lines.now line place result }
@@ -104,7 +99,7 @@ fn drawn_back(way: Way, word: u64) -> u64
 
 // The words of the side to which a way across the lines leads.
 #[inline(always)]
-fn side_word(way: Way, words: Words) -> u64
+fn side_word(way: Way, words: Three) -> u64
     ensures { result ≡ spec.side_word way words }
 {
     match way {
@@ -115,7 +110,7 @@ fn side_word(way: Way, words: Words) -> u64
 
 /// Whether a diagonal move from this bit is legal, told the words of its row and of those beside it.
 #[inline(always)]
-pub(crate) fn leads_from_bit(rule: Corner, d: Dir, words: Words, place: u32) -> bool
+pub(crate) fn leads_from_bit(rule: Corner, d: Dir, words: Three, place: u32) -> bool
     requires small { place < 64 }
     requires more { HasNextBit (source.row_way d) place }
     ensures { result ≡ (is_set (spec.side_word (source.column_way d) words) (spec.next_bit (source.row_way d) place)

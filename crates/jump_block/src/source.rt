@@ -15,7 +15,7 @@ ghost use Rattle.jump_block.specs.Source.{AreItsBits, JumpsOnEach, JumpsOnSome, 
 use crate::straight::Bits;
 use bit_grid::BitGrid;
 use grid_moves::{Cell, Corner, Dir};
-use pruning::{Arrival, JumpSource, Packed, allowed_on};
+use pruning::{Arrival, JumpSource, Packed, allowed_on, corner_of};
 use std::sync::ledger::Ledger;
 use steps::Steps;
 
@@ -24,17 +24,6 @@ use steps::Steps;
 #[derive(Clone, Copy)]
 pub struct BlockJumps<'a> {
     pub bits: &'a BitGrid,
-}
-
-// The rule of this number, so that it can be a constant of a function, which has code of its own for each.
-#[inline(always)]
-fn corner_of(number: usize) -> Corner
-    ensures { result ≡ numbered.corner_of number }
-{
-    match number {
-        0 => Corner::Never,
-        _ => Corner::One,
-    }
 }
 
 impl<'a> Bits<'a> {

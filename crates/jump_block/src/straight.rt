@@ -14,8 +14,8 @@ use crate::block::Halt;
 use crate::marks::finds_mark;
 use crate::near::words_near;
 use crate::scan::{Start, scan};
-use crate::word::{Way, Words};
-use bit_grid::{Columns, Rows};
+use crate::word::Way;
+use bit_grid::{Columns, Rows, Three};
 use grid_moves::{Cell, Corner, Dir};
 use std::sync::ledger::Ledger;
 use steps::Steps;
@@ -134,7 +134,7 @@ impl<'a> Bits<'a> {
 
     // The words around a free cell, of its row and of those beside it.
     #[inline(always)]
-    pub(crate) fn near_on_row<L: Ledger>(&self, at: Cell, steps: &mut Steps<L>) -> Words
+    pub(crate) fn near_on_row<L: Ledger>(&self, at: Cell, steps: &mut Steps<L>) -> Three
         requires stands { OnSome self.now at }
         ensures near { AreNearStart self.now.rows.now (at.y + 1) (at.x + 1) result }
         ensures three_steps { steps.new ≡ steps.old + 3 }
@@ -149,7 +149,7 @@ impl<'a> Bits<'a> {
         &self,
         at: Cell,
         way: Way,
-        near: Words,
+        near: Three,
         steps: &mut Steps<L>,
     ) -> bool
         requires stands { OnSome self.now at }

@@ -11,6 +11,7 @@ ghost use Rattle.jump_block.specs.Trail.{Trail, begun, opens};
 ghost use Rattle.jump_block.specs.Word as spec;
 ghost use Rattle.jump_block.specs.Word.{Meets, IsWordOf, AreWordsOf, IsEdgeOf, AreEdgesOf, IsOpened, is_past, near};
 
+use bit_grid::Three;
 use grid_moves::Corner;
 
 /// Which way a scan goes along a line: to higher places, or back to lower ones.
@@ -18,14 +19,6 @@ use grid_moves::Corner;
 pub(crate) enum Way {
     Forward,
     Back,
-}
-
-/// The same word of three lines that lie side by side.
-#[derive(Clone, Copy)]
-pub(crate) struct Words {
-    pub(crate) middle: u64,
-    pub(crate) before: u64,
-    pub(crate) after: u64,
 }
 
 // The bits at which a side opens, told the word that the way led through before.
@@ -49,7 +42,7 @@ fn blocked(middle: u64) -> u64
 
 /// The bits that a scan does not reach from the cell before: blocked, or a side opens there.
 #[inline(always)]
-pub(crate) fn halts(way: Way, words: Words, last: Words) -> u64
+pub(crate) fn halts(way: Way, words: Three, last: Three) -> u64
     ensures { (t : Trail) (from base : ℕ) → AreWordsOf t way from base words
         → AreEdgesOf t way from (near way base) last
         → (j k : ℕ) → j < 64 → Meets way from (base + j) (suc k) → is_set result j ≡ trails.halts t k }
@@ -100,13 +93,13 @@ fn start_bit(rule: Corner, place: u32) -> u64
 
 /// The words of a scan that starts at this place.
 #[inline(always)]
-pub(crate) fn begun(rule: Corner, words: Words, place: u32) -> Words
+pub(crate) fn begun(rule: Corner, words: Three, place: u32) -> Three
     requires { place < 64 }
     ensures { (t : Trail) (way : Way) (base : ℕ) → AreWordsOf t way (base + place) base words
         → AreWordsOf (begun rule t) way (base + place) base result }
 {
     let bit = start_bit(rule, place);
-    Words {
+    Three {
         middle: words.middle,
         before: words.before | bit,
         after: words.after | bit,

@@ -35,8 +35,8 @@ sides_of (Some W) = record { left = false; right = true; above = false; below = 
 sides_of (Some NW) = record { left = false; right = true; above = false; below = true }
 
 -- the arrival of each number: the directions in their order, and beyond them none
-abbrev pub arrival_by : ℕ → Option Dir
-arrival_by n =
+abbrev pub arrival_of : ℕ → Option Dir
+arrival_of n =
     if nat_eq n 0 then Some N
     else if nat_eq n 1 then Some NE
     else if nat_eq n 2 then Some E

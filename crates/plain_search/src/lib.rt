@@ -11,6 +11,7 @@ mod workspace;
 
 pub use best_first::{Found, Taken};
 pub use lists::Listed;
+pub use offers::offer_to;
 pub use search::{least, least_in};
 pub use std::alloc::AllocError as NoMemory;
 pub use to_all::least_to_all;

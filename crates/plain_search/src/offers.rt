@@ -6,7 +6,7 @@ ghost use Rattle.best_first.specs.State.{state_told};
 ghost use Rattle.best_first.specs.Table.{node_for, offered, ClosedBelow};
 ghost use Rattle.grid_moves.specs.Grid.{IsGrid};
 ghost use Rattle.grid_moves.specs.Move.{all_dirs};
-ghost use Rattle.plain_search.specs.Offers.{arrival_by, cost_to, offer_to, all_offered, MayOffer, MayExpand, HasExpanded};
+ghost use Rattle.plain_search.specs.Offers.{arrival_of, cost_to, offer_to, all_offered, MayOffer, MayExpand, HasExpanded};
 
 use crate::moves::{Behind, less_offered};
 use best_first::{Layout, Node, Offer, Space, State};
@@ -35,16 +35,16 @@ fn cost_to(d: Dir) -> Cost
     }
 }
 
-// The offer of a move.
+/// The offer of the move in a direction to that cell, from the node of that number whose cost has that rank.
 #[inline(always)]
-fn offer_to(from: Source, to: Cell, d: Dir) -> Offer
-    requires { from.rank < 2 ^ 62 }
-    ensures value { result ≡ offer_to from.id from.rank to d }
+pub fn offer_to(id: u32, rank: u64, to: Cell, d: Dir) -> Offer
+    requires { rank < 2 ^ 62 }
+    ensures value { result ≡ offer_to id rank to d }
     ensures fits { result.rank < 2 ^ 63 }
 {
     Offer {
-        rank: from.rank + cost_to(d).rank(),
-        parent: from.id,
+        rank: rank + cost_to(d).rank(),
+        parent: id,
         to: State {
             cell: to,
             arrival: Some(d),
@@ -77,7 +77,7 @@ fn offer_over<L: Ledger>(
     ensures spare { space.old.spare ≤ space.new.spare + 1 }
 {
     if is_open {
-        space.offer_by_cell(from.goal, offer_to(from, to, d), steps);
+        space.offer_by_cell(from.goal, offer_to(from.id, from.rank, to, d), steps);
     }
 }
 
@@ -126,8 +126,8 @@ fn offer_around<L: Ledger>(
 
 // The arrival of each number: the directions in their order, and beyond them none.
 #[inline(always)]
-fn arrival_by(number: usize) -> Option<Dir>
-    ensures { result ≡ arrival_by number }
+fn arrival_of(number: usize) -> Option<Dir>
+    ensures { result ≡ arrival_of number }
 {
     match number {
         0 => Some(Dir::N),
@@ -158,13 +158,13 @@ fn offer_after<const BY: usize, T: Terrain, L: Ledger>(
     requires narrow { space.old.width ≤ 4096 }
     requires room { 8 ≤ space.old.spare }
     requires may { MayExpand (T.grid t.now) goal at node space.old }
-    requires told { arrival_by BY ≡ (state_told node.place).arrival }
+    requires told { arrival_of BY ≡ (state_told node.place).arrival }
     ensures expanded { HasExpanded (T.grid t.now) goal at node space.old.table space.new.table }
     ensures shape { KeepsShape space.old space.new }
 {
     let cell = node.place.cell();
     let around = moves_around(t, cell);
-    let moves = less_offered(around, Behind::of(arrival_by(BY)));
+    let moves = less_offered(around, Behind::of(arrival_of(BY)));
     let from = Source {
         id: at,
         key: node.key,

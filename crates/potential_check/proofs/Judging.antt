@@ -22,8 +22,8 @@ use Rattle.potential_check.specs.Certificate.{are_listed, are_points, are_sides,
 use Rattle.potential_check.specs.Certificate.{is_small}
 use Rattle.potential_check.specs.Potential.{is_listed, potential_of, rises}
 use Rattle.potential_check.specs.Moves.{first_failing}
-use Rattle.potential_check.specs.Accepted.{AcceptsClaim, AcceptsLeast, AcceptsNone, Holds, RefusesClaim, has_size}
-use Rattle.potential_check.specs.Accepted.{RefusesLeast, RefusesNone, claimed, ends_at_cost, leaves}
+use Rattle.potential_check.specs.Accepted.{AcceptsClaim, AcceptsLeast, AcceptsNone, Holds, RefusesClaim}
+use Rattle.potential_check.specs.Accepted.{has_size, RefusesLeast, RefusesNone, claimed, ends_at_cost, leaves}
 use Rattle.potential_check.specs.Accepted.{starts_at_nothing}
 use Rattle.potential_check.specs.Judged.{JudgesClaim, JudgesWalk}
 use Rattle.potential_check.specs.Rising.{climbs, height_of}

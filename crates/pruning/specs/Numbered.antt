@@ -1,5 +1,5 @@
 -- The rules and the arrivals by numbers.
--- No public clause cites a definition of this module.
+-- No public clause cites `arrival_of`.
 use Rattle.std.specs.Prelude.{ℕ, nat_eq, if◌then◌else◌}
 use Rattle.grid_moves.specs.declared.Corner.{Corner}
 use Rattle.grid_moves.specs.declared.Corner.TheVariants.{Never, One}

@@ -15,7 +15,7 @@ mod turns;
 
 use grid_moves::Dir;
 pub use packed::{Packed, Split};
-pub use rule::{allowed, allowed_on, allowed_word, forced, forced_on, is_dir};
+pub use rule::{allowed, allowed_on, allowed_word, corner_of, forced, forced_on, is_dir};
 pub use source::JumpSource;
 pub use turns::{Side, is_diagonal, quarter, rear, turn};
 

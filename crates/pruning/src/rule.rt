@@ -118,9 +118,10 @@ fn put_allowed(rule: Corner, ring: Ring, by: Arrival, d: Dir, others: Packed) ->
     }
 }
 
-// The rule of this number.
+/// The rule of this number, so that it can be a constant of a function, which has code of its own for each: 0 is
+/// `never`, any other `one`.
 #[inline(always)]
-fn corner_of(number: usize) -> Corner
+pub fn corner_of(number: usize) -> Corner
     ensures { result ≡ numbered.corner_of number }
 {
     match number {

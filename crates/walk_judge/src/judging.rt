@@ -156,7 +156,7 @@ fn is_same(p: Cost, q: Cost) -> bool
     p == q
 }
 
-/// How a legal walk of this cost is judged.
+/// How a legal walk of this cost is judged. (The grid is a parameter for the contract alone.)
 fn compared<T: Terrain>(
     _t: &T,
     from: Cell,

@@ -49,8 +49,10 @@ offer-requires-5 g c = record {
   rank = c.requires.rank;
   fits = fits_ahead (g.T.Terrain.grid c.args.t.now) c.requires.whole c.args.from.cell _ S _
       (c.moves_around-a.ensures.around S) _ _ _ c.width-width.ensures.is
-      (c.offer-4.auto.ranks ∙ c.offer-3.auto.ranks ∙ c.offer-2.auto.ranks ∙ c.offer.auto.ranks ∙ c.requires.ranked)
-      (c.offer-4.auto.firsts ∙ c.offer-3.auto.firsts ∙ c.offer-2.auto.firsts ∙ c.offer.auto.firsts ∙ c.requires.begun);
+      (c.offer-4.auto.ranks ∙ c.offer-3.auto.ranks ∙ c.offer-2.auto.ranks ∙ c.offer.auto.ranks
+      ∙ c.requires.ranked)
+      (c.offer-4.auto.firsts ∙ c.offer-3.auto.firsts ∙ c.offer-2.auto.firsts ∙ c.offer.auto.firsts
+      ∙ c.requires.begun);
 }
 
 pub offer-requires-6 : goal.offer-requires-6
@@ -59,8 +61,10 @@ offer-requires-6 g c = record {
   rank = c.requires.rank;
   fits = fits_ahead (g.T.Terrain.grid c.args.t.now) c.requires.whole c.args.from.cell _ SW _
       (c.moves_around-a.ensures.around SW) _ _ _ c.width-width.ensures.is
-      (c.offer-5.auto.ranks ∙ c.offer-4.auto.ranks ∙ c.offer-3.auto.ranks ∙ c.offer-2.auto.ranks ∙ c.offer.auto.ranks ∙ c.requires.ranked)
-      (c.offer-5.auto.firsts ∙ c.offer-4.auto.firsts ∙ c.offer-3.auto.firsts ∙ c.offer-2.auto.firsts ∙ c.offer.auto.firsts ∙ c.requires.begun);
+      (c.offer-5.auto.ranks ∙ c.offer-4.auto.ranks ∙ c.offer-3.auto.ranks ∙ c.offer-2.auto.ranks
+      ∙ c.offer.auto.ranks ∙ c.requires.ranked)
+      (c.offer-5.auto.firsts ∙ c.offer-4.auto.firsts ∙ c.offer-3.auto.firsts ∙ c.offer-2.auto.firsts
+      ∙ c.offer.auto.firsts ∙ c.requires.begun);
 }
 
 pub offer-requires-7 : goal.offer-requires-7
@@ -69,8 +73,10 @@ offer-requires-7 g c = record {
   rank = c.requires.rank;
   fits = fits_ahead (g.T.Terrain.grid c.args.t.now) c.requires.whole c.args.from.cell _ W _
       (c.moves_around-a.ensures.around W) _ _ _ c.width-width.ensures.is
-      (c.offer-6.auto.ranks ∙ c.offer-5.auto.ranks ∙ c.offer-4.auto.ranks ∙ c.offer-3.auto.ranks ∙ c.offer-2.auto.ranks ∙ c.offer.auto.ranks ∙ c.requires.ranked)
-      (c.offer-6.auto.firsts ∙ c.offer-5.auto.firsts ∙ c.offer-4.auto.firsts ∙ c.offer-3.auto.firsts ∙ c.offer-2.auto.firsts ∙ c.offer.auto.firsts ∙ c.requires.begun);
+      (c.offer-6.auto.ranks ∙ c.offer-5.auto.ranks ∙ c.offer-4.auto.ranks ∙ c.offer-3.auto.ranks
+      ∙ c.offer-2.auto.ranks ∙ c.offer.auto.ranks ∙ c.requires.ranked)
+      (c.offer-6.auto.firsts ∙ c.offer-5.auto.firsts ∙ c.offer-4.auto.firsts ∙ c.offer-3.auto.firsts
+      ∙ c.offer-2.auto.firsts ∙ c.offer.auto.firsts ∙ c.requires.begun);
 }
 
 pub offer-requires-8 : goal.offer-requires-8
@@ -79,8 +85,10 @@ offer-requires-8 g c = record {
   rank = c.requires.rank;
   fits = fits_ahead (g.T.Terrain.grid c.args.t.now) c.requires.whole c.args.from.cell _ NW _
       (c.moves_around-a.ensures.around NW) _ _ _ c.width-width.ensures.is
-      (c.offer-7.auto.ranks ∙ c.offer-6.auto.ranks ∙ c.offer-5.auto.ranks ∙ c.offer-4.auto.ranks ∙ c.offer-3.auto.ranks ∙ c.offer-2.auto.ranks ∙ c.offer.auto.ranks ∙ c.requires.ranked)
-      (c.offer-7.auto.firsts ∙ c.offer-6.auto.firsts ∙ c.offer-5.auto.firsts ∙ c.offer-4.auto.firsts ∙ c.offer-3.auto.firsts ∙ c.offer-2.auto.firsts ∙ c.offer.auto.firsts ∙ c.requires.begun);
+      (c.offer-7.auto.ranks ∙ c.offer-6.auto.ranks ∙ c.offer-5.auto.ranks ∙ c.offer-4.auto.ranks
+      ∙ c.offer-3.auto.ranks ∙ c.offer-2.auto.ranks ∙ c.offer.auto.ranks ∙ c.requires.ranked)
+      (c.offer-7.auto.firsts ∙ c.offer-6.auto.firsts ∙ c.offer-5.auto.firsts ∙ c.offer-4.auto.firsts
+      ∙ c.offer-3.auto.firsts ∙ c.offer-2.auto.firsts ∙ c.offer.auto.firsts ∙ c.requires.begun);
 }
 
 pub returns : goal.returns

@@ -118,10 +118,10 @@ returns-clause-long g c =
     record {
       ahead = ap length (with_items_is c.args.this.now.ahead c.tell_ahead.new.out (omega arith)) ∙ ahead
           ∙ long.ahead;
-      ahead_east = ap length (with_items_is c.args.this.now.ahead_east c.tell_ahead-2.new.out (omega arith)) ∙ east
-          ∙ long.ahead_east;
-      ahead_west = ap length (with_items_is c.args.this.now.ahead_west c.tell_ahead-3.new.out (omega arith)) ∙ west
-          ∙ long.ahead_west;
+      ahead_east = ap length (with_items_is c.args.this.now.ahead_east c.tell_ahead-2.new.out (omega arith))
+          ∙ east ∙ long.ahead_east;
+      ahead_west = ap length (with_items_is c.args.this.now.ahead_west c.tell_ahead-3.new.out (omega arith))
+          ∙ west ∙ long.ahead_west;
       east = long.east;
       west = long.west;
     }

@@ -23,5 +23,6 @@ work_items-requires-clause-counts g c = taken-none c.args.job c.args.steps.now
 pub returns-clause-counted : goal.returns-clause-counted
 returns-clause-counted g c =
     subst (λ (items : List Command). OnOk c.work_items.result
-    (RoseForCommands c.args.job.session items c.args.steps.now c.work_items.new.steps)) c.as_slice.ensures.value
+    (RoseForCommands c.args.job.session items c.args.steps.now c.work_items.new.steps))
+    c.as_slice.ensures.value
     (on_ok c.work_items.result (λ taken. taken.rose) c.work_items.ensures.counted)

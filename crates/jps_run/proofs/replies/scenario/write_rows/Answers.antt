@@ -31,5 +31,6 @@ work_items-requires-clause-counts g c = record { rose = refl; same = refl }
 pub returns-clause-counted : goal.returns-clause-counted
 returns-clause-counted g c =
     subst (λ (items : List Entry). OnOk c.work_items.result
-    (RoseForEntries (who_of c.args.job.answerer) items c.args.steps.now c.work_items.new.steps)) c.as_slice.ensures.value
+    (RoseForEntries (who_of c.args.job.answerer) items c.args.steps.now c.work_items.new.steps))
+    c.as_slice.ensures.value
     (on_ok c.work_items.result (λ taken. taken.rose) c.work_items.ensures.counted)
