@@ -1,6 +1,7 @@
 //! All boxes and all first moves of a small map from the same passes.
 //!
-//! `Boxes::build` and `Moves::build` make a pass from each free cell each; whoever wants both makes it once here.
+//! `Boxes::build` and `Moves::build` make a pass from each free cell each; whoever wants both makes it once
+//! here.
 #![tactic(auto)]
 
 ghost use Rattle.std.specs.Prelude.{◌≡◌, ◌+◌, ◌*◌, ◌≤◌, true, IfOk};
@@ -11,25 +12,13 @@ ghost use Rattle.first_moves.specs.Row.{AreMoves, IsRow};
 
 use cost_waves::CostWaves;
 use first_moves::{Moves, Row, Run};
-use goal_boxes::{Boxes, CellBoxes, boxes_told};
+use goal_boxes::{Boxes, CellBoxes, NO_BOXES, boxes_told};
 use grid_moves::{Cell, Terrain};
 use path_points::push_item;
 pub use std::alloc::AllocError as NoMemory;
 use std::alloc::Global;
 use std::sync::ledger::Ledger;
 use steps::Steps;
-
-/// The boxes of a cell that is not free: none.
-const NO_BOXES: CellBoxes = CellBoxes {
-    n: None,
-    ne: None,
-    e: None,
-    se: None,
-    s: None,
-    sw: None,
-    w: None,
-    nw: None,
-};
 
 // What is kept from pass to pass: the memory of a pass, and that of a row's runs.
 #[derive(Drop)]
@@ -67,7 +56,8 @@ fn both_at<T: Terrain, L: Ledger>(
     }
 }
 
-/// The boxes and the first moves of all cells of a map of at most 2^14 cells, by at most one pass for each cell.
+/// The boxes and the first moves of all cells of a map of at most 2^14 cells, by at most one pass for each
+/// cell.
 ///
 /// `passes` counts them. For want of memory nothing is kept.
 pub fn build_both<T: Terrain, L: Ledger>(

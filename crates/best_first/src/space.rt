@@ -146,7 +146,8 @@ impl Space {
     }
 
     /// Begins a search on a map of this width, which has at most as many cells as this space: forgets
-    /// the nodes of the last one, and takes the start, whose node has the number 0.
+    /// the nodes of the last one, and takes the start, whose node has the number 0. Where memory is refused the
+    /// space keeps its layout and its places, which is all that a next search asks of it.
     pub fn begin<L: Ledger>(
         &mut self,
         width: u16,

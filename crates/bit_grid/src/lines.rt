@@ -36,7 +36,7 @@ pub struct Lines {
 
 /// The same word of a line, of the line before it and of the line after it.
 #[derive(Clone, Copy)]
-pub struct Three {
+pub struct ThreeWords {
     pub middle: u64,
     pub before: u64,
     pub after: u64,
@@ -162,7 +162,7 @@ impl Lines {
     /// The words of this number of a line and of the two beside it, where bit `j` is each line's bit
     /// `64·word + j`. It counts three steps, as the blocks of three lines do.
     #[inline(always)]
-    pub fn three<L: Ledger>(&self, line: u32, word: u32, steps: &mut Steps<L>) -> Three
+    pub fn three<L: Ledger>(&self, line: u32, word: u32, steps: &mut Steps<L>) -> ThreeWords
         requires first { 1 ≤ line }
         requires last { line + 1 < self.now.lines }
         requires word { word < self.now.blocks * 8 }
@@ -179,7 +179,7 @@ impl Lines {
         steps.tick();
         let per_line = self.blocks as usize * 8;
         let place = line as usize * per_line + word as usize;
-        Three {
+        ThreeWords {
             middle: self.words[place],
             before: self.words[place - per_line],
             after: self.words[place + per_line],

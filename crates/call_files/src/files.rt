@@ -206,8 +206,8 @@ fn read_text<F: Files>(
     }
 }
 
-/// What the file of this name is read as. It stops where a read fails, where memory is refused, and where the text is
-/// refused, with the line that says so.
+/// What the file of this name is read as. It stops where a read fails, where memory is refused, and where the
+/// text is refused, with the line that says so.
 pub fn read_file<F: Files, T: Text>(
     alloc: Global,
     files: &mut F,
@@ -296,8 +296,8 @@ pub fn open_one<F: Files, M: OfMap>(
 }
 
 /// What is made of the map that the first file holds, and what the second file is read as, for a
-/// call with these two files. The second one is read only where the first is accepted; `context` says what it is
-/// judged by.
+/// call with these two files. The second one is read only where the first is accepted; `context` says what it
+/// is judged by.
 pub fn open_two<F: Files, M: OfMap, T: Text>(
     alloc: Global,
     files: &mut F,

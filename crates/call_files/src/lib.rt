@@ -1,7 +1,7 @@
 //! The files of a call: which kinds of texts it reads, how each is refused, and what is made of a map.
 //!
-//! A text is read as a [`Text`] of its [`Kind`], behind the texts before it. What is made of a map, as the settings ask,
-//! is an [`OfMap`], which tells the maps that it takes by their [`Extent`].
+//! A text is read as a [`Text`] of its [`Kind`], behind the texts before it. What is made of a map, as the
+//! settings ask, is an [`OfMap`], which tells the maps that it takes by their [`Extent`].
 #![tactic(auto)]
 
 mod faults;

@@ -1,5 +1,5 @@
-//! Every command by every engine and under both rules, each with its whole output; the program's own texts; and files
-//! without an end.
+//! Every command by every engine and under both rules, each with its whole output; the program's own texts;
+//! and files without an end.
 //!
 //! Want of memory is the one answer that no clause rules out: these calls show another one.
 
@@ -84,8 +84,8 @@ impl<'a> Files for Endless<'a> {
     }
 }
 
-// A call of these words on files without an end, `err` failing at this write, has this status and line; its output
-// begins and ends so, and is empty but where the call is done.
+// A call of these words on files without an end, `err` failing at this write, has this status and line; its
+// output begins and ends so, and is empty but where the call is done.
 fn check_endless(
     alloc: Global,
     rt: &impl Abort,

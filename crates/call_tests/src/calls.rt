@@ -30,8 +30,8 @@ pub(crate) const ENGINES: [&str; 4] = ["engine=plain", "engine=jps", "engine=blo
 
 pub(crate) const RULES: [&str; 2] = ["rule=none", "rule=one"];
 
-// A call: its words, parted by blanks; the files `m`, `s` and `t`, read in pieces of 16; its input; and which read and
-// which write fail, none where it is 0.
+// A call: its words, parted by blanks; the files `m`, `s` and `t`, read in pieces of 16; its input; and which
+// read and which write fail, none where it is 0.
 #[derive(Clone, Copy)]
 pub(crate) struct Call<'a> {
     pub words: &'a str,

@@ -1,6 +1,6 @@
-//! The commands besides `query`, `solve` and `live`, by whole calls: certificates, told walks, counted rows, tables,
-//! costs, boxes, first moves and pictures. Lines are counted on squared paper or written by hand from the format's
-//! description.
+//! The commands besides `query`, `solve` and `live`, by whole calls: certificates, told walks, counted rows,
+//! tables, costs, boxes, first moves and pictures. Lines are counted on squared paper or written by hand from
+//! the format's description.
 
 use crate::calls::{
     Call, OPEN, PILLAR, RULES, SHORE, TOUCHING, check, check_done, check_reads, check_with,
@@ -74,8 +74,8 @@ row 6 refused walk 2
 sum 6 accepted 2 refused 4 other 0
 ";
 
-// Besides: on the map `.WW/.W@` entries of another size, with an end outside, with a blocked end, with ends apart, and
-// with a told walk between ends apart.
+// Besides: on the map `.WW/.W@` entries of another size, with an end outside, with a blocked end, with ends
+// apart, and with a told walk between ends apart.
 #[test]
 fn told_walks_are_judged_row_by_row(rt: HostRuntime) -> Result<(), Fail> {
     let alloc = rt.alloc();
@@ -139,7 +139,8 @@ const SHORE_CELLS: &[u8] = b"JPSPLUS1\x01\x03\x00\x01\x00\
 \x00\x00\x00\x00\xff\xff\x00\x00\x00\x00\x00\x00\x00\x00\x00\x00\
 \x00\x00\x00\x00\x00\x00\x00\x00\x00\x00\x00\x00\xff\xff\x00\x00";
 
-// The head goes out by itself, and the entries behind it; the map of 37 bytes is read in three reads of at most 16.
+// The head goes out by itself, and the entries behind it; the map of 37 bytes is read in three reads of at
+// most 16.
 #[test]
 fn tables_are_written_byte_by_byte(rt: HostRuntime) -> Result<(), Fail> {
     let alloc = rt.alloc();

@@ -1,4 +1,5 @@
-//! The engines of small maps by whole calls. Lines are counted on squared paper, or those of an independent program.
+//! The engines of small maps by whole calls. Lines are counted on squared paper, or those of an independent
+//! program.
 
 use crate::calls::{
     OPEN, PILLAR, SHORE, TOUCHING, TWO_ROWS, check, check_done, check_reads, check_writes, on_map,

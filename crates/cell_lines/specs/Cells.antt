@@ -5,9 +5,13 @@ use Rattle.grid_moves.specs.declared.Cell.{Cell}
 use Rattle.grid_moves.specs.declared.Dir.{Dir}
 use Rattle.grid_moves.specs.Move.{dir_number}
 
+-- `x,y`
+abbrev pub cell_text : Cell → List ℕ
+cell_text c = decimal c.x ++ codes "," ++ decimal c.y
+
 -- ` x,y`
 abbrev pub point_text : Cell → List ℕ
-point_text c = codes " " ++ decimal c.x ++ codes "," ++ decimal c.y
+point_text c = codes " " ++ cell_text c
 
 -- the texts of all elements, one after the other
 abbrev pub texts_of : {X : Type 0} → (X → List ℕ) → List X → List ℕ

@@ -7,14 +7,21 @@ use crate::NoMemory;
 use grid_moves::{Cell, Dir, dir_number};
 use text_line::{put, put_number};
 
+/// Appends a cell: its column and its row, parted by a comma.
+pub fn put_cell(out: &mut Vec<u8>, c: Cell) -> Result<(), NoMemory>
+    ensures { OnOk result (out.new.items ≡ out.old.items ++ spec.cell_text c) }
+{
+    put_number(out, u64::from(c.x))?;
+    put(out, b",")?;
+    put_number(out, u64::from(c.y))
+}
+
 // Appends a blank and the cell.
 fn put_point(out: &mut Vec<u8>, c: Cell) -> Result<(), NoMemory>
     ensures { OnOk result (out.new.items ≡ out.old.items ++ spec.point_text c) }
 {
     put(out, b" ")?;
-    put_number(out, u64::from(c.x))?;
-    put(out, b",")?;
-    put_number(out, u64::from(c.y))
+    put_cell(out, c)
 }
 
 /// Appends each cell after a blank.

@@ -4,6 +4,6 @@
 mod cells;
 mod ends;
 
-pub use cells::{dir_text, put_points, put_state};
+pub use cells::{dir_text, put_cell, put_points, put_state};
 pub use ends::Ends;
 pub use std::alloc::AllocError as NoMemory;

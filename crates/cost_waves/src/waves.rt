@@ -116,9 +116,9 @@ impl CostWaves {
     /// Finds the least costs from a free cell to all cells of a map of these sides, and the directions with
     /// which least walks begin. What an earlier pass found is forgotten.
     ///
-    /// A cell is settled by the wave of its least cost, and reads its neighbours' entries then; all entries are
-    /// reset in one run over them. The lists of cells that wait grow as they need, and keep their room. After
-    /// want of memory nothing is told of any cell.
+    /// A cell is settled by the wave of its least cost, and reads its neighbours' entries then; all entries
+    /// are reset in one run over them. The lists of cells that wait grow as they need, and keep their room.
+    /// After want of memory nothing is told of any cell.
     pub fn pass<T: Terrain>(&mut self, t: &T, from: Cell) -> Result<(), NoMemory>
         requires from { is_free (T.grid t.now) from ≡ true }
         requires width { self.old.width ≡ (T.grid t.now).width }

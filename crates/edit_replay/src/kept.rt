@@ -41,7 +41,8 @@ pub(crate) enum Finder {
     Tables(Both<Tables>),
 }
 
-/// What an engine keeps for its searches. The memory serves both grids of a map: it depends on the sides alone.
+/// What an engine keeps for its searches. The memory serves both grids of a map: it depends on the sides
+/// alone.
 #[derive(Drop)]
 pub(crate) enum Kept {
     /// A state for each cell.

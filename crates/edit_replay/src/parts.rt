@@ -27,7 +27,8 @@ pub(crate) struct Parts {
     pub kept: Kept,
 }
 
-// Makes a cell of the map free on a grid or not, and mends the grid's tables. Where it is so already, nothing is done.
+// Makes a cell of the map free on a grid or not, and mends the grid's tables. Where it is so already, nothing
+// is done.
 fn set_and_mend<L: Ledger>(
     grid: &mut Grid,
     tables: &mut Tables,

@@ -51,8 +51,8 @@ pub(crate) fn search_plainly(
     }
 }
 
-// The reply of an engine that jumps, between free cells, by a source of jumps on the grid. (The grid is a parameter
-// for the contract alone.)
+// The reply of an engine that jumps, between free cells, by a source of jumps on the grid. (The grid is a
+// parameter for the contract alone.)
 fn search_by_jumps<J: JumpSource, L: Ledger>(
     alloc: Global,
     _grid: &Grid,
@@ -86,7 +86,8 @@ fn search_by_jumps<J: JumpSource, L: Ledger>(
     }
 }
 
-/// The reply of the engine that finds jumps so, between free cells of a grid, which is that of water or of land.
+/// The reply of the engine that finds jumps so, between free cells of a grid, which is that of water or of
+/// land.
 pub(crate) fn jump<L: Ledger>(
     alloc: Global,
     grid: &Grid,

@@ -129,8 +129,8 @@ impl Session {
     ///
     /// The engines `plain` and `jps` keep nothing that an edit has to mend, and `block` changes bits; they
     /// count no steps. With `plus` a step is one refresh of a table entry: on each layer that changes at most
-    /// 18 for each row and each column of the map, and one for each entry that changes. Nothing is counted on a
-    /// layer that stays as it was, so nothing at all where the reply isn't `Done`.
+    /// 18 for each row and each column of the map, and one for each entry that changes. Nothing is counted on
+    /// a layer that stays as it was, so nothing at all where the reply isn't `Done`.
     pub fn edit<L: Ledger>(&mut self, x: u32, y: u32, to: Ground, steps: &mut Steps<L>) -> EditReply
         ensures reply { result ≡ edit_reply self.old.layers (edit_at x y to) }
         ensures edited { AddsEdit self.old.layers (edit_at x y to) self.new.layers }

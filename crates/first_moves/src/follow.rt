@@ -62,9 +62,9 @@ fn walk_by<G: Guide, T: Terrain, L: Ledger>(
 }
 
 impl Moves {
-    /// The walk from one free cell to another in which each move is the first move from its cell to the goal, and
-    /// its cost. It is a least walk. Its points are its first cell, its last cell and its turns. `None` exactly where
-    /// no walk leads to the goal.
+    /// The walk from one free cell to another in which each move is the first move from its cell to the goal,
+    /// and its cost. It is a least walk. Its points are its first cell, its last cell and its turns. `None`
+    /// exactly where no walk leads to the goal.
     ///
     /// It counts a step for each move of the walk, and one where there is none. No search is made.
     pub fn follow<T: Terrain, L: Ledger>(
@@ -91,8 +91,8 @@ impl Moves {
 
 /// The same walk with no first moves at hand: one pass from the goal tells them, on a map of any size.
 ///
-/// For one query this is cheaper than `Moves::build`, which makes a pass from each free cell. The memory is that
-/// of a pass, nine bytes for each cell.
+/// For one query this is cheaper than `Moves::build`, which makes a pass from each free cell. The memory is
+/// that of a pass, nine bytes for each cell.
 pub fn follow_by_pass<T: Terrain, L: Ledger>(
     alloc: Global,
     t: &T,

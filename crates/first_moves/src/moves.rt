@@ -70,7 +70,8 @@ impl Moves {
         Ok(Moves::of_rows(t.width(), t.height(), rows))
     }
 
-    /// The first moves between all cells of a map of these sides, by the row of each cell in the order of numbers.
+    /// The first moves between all cells of a map of these sides, by the row of each cell in the order of
+    /// numbers.
     pub fn of_rows(width: u16, height: u16, rows: Vec<Row>) -> Moves
         requires sides { AreSides width height }
         requires whole { length rows.items ≡ height * width }
@@ -117,8 +118,8 @@ impl Moves {
         self.row(s).runs()
     }
 
-    /// The number of the first cell of run i of a cell's row, counted from 0, and the first move to each of its
-    /// cells.
+    /// The number of the first cell of run i of a cell's row, counted from 0, and the first move to each of
+    /// its cells.
     pub fn run_at(&self, s: Cell, i: u32) -> (u32, Option<Dir>)
         requires column { s.x < self.now.width }
         requires row { s.y < self.now.height }
@@ -162,8 +163,8 @@ impl Moves {
         self.row(s).first_near(number_of(self.width, t), part)
     }
 
-    /// The cell to which the first move leads, asked for one cell of a walk after another: `part` is none at first,
-    /// and then it tells where in a row the goal's run is to be looked for.
+    /// The cell to which the first move leads, asked for one cell of a walk after another: `part` is none at
+    /// first, and then it tells where in a row the goal's run is to be looked for.
     pub(crate) fn next_near<L: Ledger>(
         &self,
         s: Cell,

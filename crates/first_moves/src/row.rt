@@ -77,8 +77,8 @@ fn is_same_move(one: Option<Dir>, other: Option<Dir>) -> bool
     }
 }
 
-// Appends the run that begins at a cell, if one does: where its first move differs from that to the cell before.
-// Mostly the bytes themselves are equal.
+// Appends the run that begins at a cell, if one does: where its first move differs from that to the cell
+// before. Mostly the bytes themselves are equal.
 fn go_on(runs: &mut Vec<Run>, start: u16, before: u8, byte: u8) -> Result<(), NoMemory>
     ensures { OnOk result (runs.new.items ≡ (if is_same_move (spec.first_in before) (spec.first_in byte)
         then runs.old.items else runs.old.items ++ record { start = start; first = spec.first_in byte } ∷ [])) }
@@ -169,7 +169,8 @@ fn span_near(runs: &[Run], number: u32, near: Option<usize>) -> (usize, usize)
     }
 }
 
-// The first move to the cell of this number: that of the last run which begins at or before it. With it this run.
+// The first move to the cell of this number: that of the last run which begins at or before it. With it this
+// run.
 fn search(runs: &[Run], number: u32, near: Option<usize>) -> (Option<Dir>, usize)
     ensures run { result.1 ≤ length runs.now }
     ensures first { (members : List (Option Dir)) → runs.now ≡ runs_of members → number < length members
@@ -190,8 +191,8 @@ fn search(runs: &[Run], number: u32, near: Option<usize>) -> (Option<Dir>, usize
     (runs[low].first, low)
 }
 
-/// The first moves from one cell to all cells of a map, cut into longest runs of equal ones in the order of cell
-/// numbers.
+/// The first moves from one cell to all cells of a map, cut into longest runs of equal ones in the order of
+/// cell numbers.
 ///
 /// Contracts see the list of runs.
 #[derive(Drop)]
@@ -252,8 +253,9 @@ impl Row {
         Row::told(alloc, scratch, waves)
     }
 
-    /// The first moves from the cell from which the last pass over a map of at most 2^14 cells went, by what that
-    /// pass told. `scratch` is memory for runs that is used again; the row takes as much memory as it needs.
+    /// The first moves from the cell from which the last pass over a map of at most 2^14 cells went, by what
+    /// that pass told. `scratch` is memory for runs that is used again; the row takes as much memory as it
+    /// needs.
     pub fn told(alloc: Global, scratch: &mut Vec<Run>, waves: &CostWaves) -> Result<Row, NoMemory>
         requires few { waves.now.height * waves.now.width ≤ 16384 }
         ensures { IfOk result (λ row. (g : GridData) (s : Cell) → waves.now.width ≡ g.width
@@ -334,9 +336,9 @@ impl Row {
         search(self.runs.as_slice(), number, near)
     }
 
-    // The same for one row after another. In rows of cells nearby the run of a goal stands after much the same part
-    // of all runs: `part` is this part, once it is known. It stays that of the first row, so that the processor need
-    // not wait for one row before it reads the next.
+    // The same for one row after another. In rows of cells nearby the run of a goal stands after much the
+    // same part of all runs: `part` is this part, once it is known. It stays that of the first row, so that
+    // the processor need not wait for one row before it reads the next.
     #[inline(always)]
     pub(crate) fn first_near(&self, number: u32, part: &mut Option<u32>) -> Option<Dir>
         ensures { (g : GridData) (s t : Cell) → IsRow g s self.now → is_inside g t ≡ true

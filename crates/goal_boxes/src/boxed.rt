@@ -222,9 +222,9 @@ fn run_kept<K: Meant, T: Terrain, M: Ledger>(
 }
 
 /// The boxed run from one free cell to another: the states that it takes, in order, and a least walk, `None`
-/// exactly where no walk exists. Its points are its ends and its turns. A taken state offers the legal moves whose boxes hold the goal. Among equal
-/// sums of cost and octile distance the state of the lesser cell number goes first, and of equal offers to a
-/// cell the earlier one stands.
+/// exactly where no walk exists. Its points are its ends and its turns. A taken state offers the legal moves
+/// whose boxes hold the goal. Among equal sums of cost and octile distance the state of the lesser cell
+/// number goes first, and of equal offers to a cell the earlier one stands.
 ///
 /// The memory is that of a plain search: an entry for each cell is filled.
 pub fn boxed_search<T: Terrain>(

@@ -13,8 +13,8 @@ use path_points::push_item;
 use std::alloc::Global;
 use std::marker::Model;
 
-/// The boxes of a blocked cell: none.
-const NO_BOXES: CellBoxes = CellBoxes {
+/// The boxes of a cell that is not free: none.
+pub const NO_BOXES: CellBoxes = CellBoxes {
     n: None,
     ne: None,
     e: None,

@@ -17,5 +17,5 @@ pub use area::Area;
 pub use around::{CellBoxes, boxes_by, boxes_of, boxes_told};
 pub use best_first::{Found, Taken};
 pub use boxed::{boxed_query, boxed_search};
-pub use boxes::Boxes;
+pub use boxes::{Boxes, NO_BOXES};
 pub use std::alloc::AllocError as NoMemory;

@@ -4,6 +4,7 @@ use Rattle.grid_moves.specs.declared.Cell.{Cell}
 use Rattle.grid_moves.specs.Grid.{GridData}
 use Rattle.grid_moves.specs.Layers.{Layers, in_one_layer, is_on_map, query_grid}
 use Rattle.grid_moves.specs.Reply.{are_free_ends}
+use Rattle.cell_lines.specs.Cells.{cell_text}
 use Rattle.potential_check.specs.Accepted.{Holds, IsAccepted, Refuses, claimed}
 use Rattle.potential_check.specs.declared.certificate.Certificate.{Certificate}
 use Rattle.potential_check.specs.declared.verdict.Proof.{Proof}
@@ -21,10 +22,6 @@ pub data IsProof (ls : Layers) (s t : Cell) : List ℕ → ℕ → Type 0 where
   apart : are_free_ends ls s t ≡ true → in_one_layer ls s t ≡ false → IsProof ls s t (codes "apart\n") 1
   certified : (text : List ℕ) → in_one_layer ls s t ≡ true → IsCertificate (query_grid ls s) s t text
       → IsAcceptedText (query_grid ls s) s t text → IsProof ls s t text 0
-
--- `X,Y`
-abbrev pub cell_text : Cell → List ℕ
-cell_text c = decimal c.x ++ codes "," ++ decimal c.y
 
 -- the line of what an accepted certificate proves
 abbrev pub proof_line : Proof → List ℕ

@@ -5,6 +5,7 @@ ghost use Rattle.grid_answers.specs.Certificates as spec;
 ghost use Rattle.grid_answers.specs.Certificates.{IsVerdict};
 
 use crate::NoMemory;
+use cell_lines::put_cell;
 use grid_moves::{Cell, Grid};
 use line_work::Printed;
 use potential_check::{Certificate, Proof, Reject};
@@ -18,15 +19,6 @@ fn put_move(out: &mut Vec<u8>, u: Cell, v: Cell) -> Result<(), NoMemory>
     put_cell(out, u)?;
     put(out, b" ")?;
     put_cell(out, v)
-}
-
-// Appends a cell.
-fn put_cell(out: &mut Vec<u8>, c: Cell) -> Result<(), NoMemory>
-    ensures { OnOk result (out.new.items ≡ out.old.items ++ spec.cell_text c) }
-{
-    put_number(out, u64::from(c.x))?;
-    put(out, b",")?;
-    put_number(out, u64::from(c.y))
 }
 
 // The line of what is proved.

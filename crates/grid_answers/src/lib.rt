@@ -1,5 +1,5 @@
-//! What is printed of a map's two grids without a session: goal boxes, first moves and costs of one cell, by one pass
-//! each; certificates and what they prove; table files.
+//! What is printed of a map's two grids without a session: goal boxes, first moves and costs of one cell, by
+//! one pass each; certificates and what they prove; table files.
 #![tactic(auto)]
 
 mod boxes;

@@ -73,8 +73,8 @@ fn moves_from(alloc: Global, layers: &Layers, from: Cell) -> Result<Vec<u8>, NoM
     lines_of(alloc, grid.width(), &row)
 }
 
-/// What is printed of the first moves from the cell of this column and row, by one pass over the grid of the cell.
-/// Both grids have at most 2^14 cells.
+/// What is printed of the first moves from the cell of this column and row, by one pass over the grid of the
+/// cell. Both grids have at most 2^14 cells.
 pub fn moves_at(alloc: Global, layers: &Layers, x: u32, y: u32) -> Result<Vec<u8>, NoMemory>
     requires land { layers.now.land.height * layers.now.land.width ≤ 16384 }
     requires water { layers.now.water.height * layers.now.water.width ≤ 16384 }

@@ -85,8 +85,8 @@ fn is_open_past<T: Terrain>(t: &T, c: Cell, d: Dir, passes: bool) -> bool
 }
 
 impl Around {
-    /// Reads the cells around a free cell. They are no `Ring` here: its eight flags would be packed into a word, and
-    /// a plain search would take a sixth more instructions.
+    /// Reads the cells around a free cell. They are no `Ring` here: its eight flags would be packed into a
+    /// word, and a plain search would take a sixth more instructions.
     #[inline(always)]
     pub fn of<T: Terrain>(t: &T, c: Cell) -> Around
         requires free { is_free (T.grid t.now) c ≡ true }

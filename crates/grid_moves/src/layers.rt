@@ -65,7 +65,8 @@ pub fn is_free_ground(land: &Grid, water: &Grid, c: Cell) -> bool
 impl Layers {
     ghost use Rattle.std.specs.Prelude.{◌≡◌, IfOk, MatchOption, false};
 
-    /// The grids of a map with these sides under a corner rule. `cells` has one byte for each cell, row by row.
+    /// The grids of a map with these sides under a corner rule. `cells` has one byte for each cell, row by
+    /// row.
     pub fn of_cells(
         alloc: Global,
         width: u16,
@@ -81,7 +82,8 @@ impl Layers {
         Ok(Layers { land, water })
     }
 
-    /// The land grid and the water grid: they have the same sides and corner rule, and no cell is free in both.
+    /// The land grid and the water grid: they have the same sides and corner rule, and no cell is free in
+    /// both.
     pub fn both(&self) -> (&Grid, &Grid)
         ensures land { result.0.now ≡ self.now.land }
         ensures water { result.1.now ≡ self.now.water }

@@ -31,8 +31,8 @@ pub trait Terrain {
     fn free(&self, c: Cell) -> bool
         ensures { result ≡ is_free (grid self.now) c };
 
-    /// Reads the cells of a row, from the left: for each column `true` where the cell is free. None of a row outside
-    /// is. `row` has exactly a place for each column.
+    /// Reads the cells of a row, from the left: for each column `true` where the cell is free. None of a row
+    /// outside is. `row` has exactly a place for each column.
     fn read_row(&self, y: u16, row: &mut [bool])
         requires wide { length row.old ≡ (grid self.now).width }
         ensures wide { length row.new ≡ (grid self.now).width }
@@ -105,6 +105,7 @@ pub fn is_open<T: Terrain>(t: &T, c: Cell, d: Dir) -> bool
     requires row { c.y < 65535 }
     ensures { result ≡ spec.is_open (T.grid t.now) c d }
 {
+    // (by its clause the grid is whole)
     let _whole = t.width();
     t.free(beyond(c, d))
 }

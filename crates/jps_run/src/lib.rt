@@ -1,5 +1,5 @@
-//! The top call of the program: words, files and streams in, a status out. `replies` has who answers, and what is
-//! printed of it.
+//! The top call of the program: words, files and streams in, a status out. `replies` has who answers, and
+//! what is printed of it.
 #![tactic(auto)]
 
 mod boxes;

@@ -1,5 +1,5 @@
-//! The work on one query. A session answers it as a script of one command; by boxes or first moves the reply is made at
-//! once, with no more than it asks for.
+//! The work on one query. A session answers it as a script of one command; by boxes or first moves the reply
+//! is made at once, with no more than it asks for.
 
 ghost use Rattle.std.specs.Prelude.{◌≡◌, ◌<◌, [], ◌∷◌, IfOk};
 ghost use Rattle.script_text.specs.declared.command.Command.TheVariants.{Query};

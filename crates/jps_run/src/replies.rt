@@ -1,9 +1,10 @@
 //! Who answers queries and edits on a map, as the settings ask, and what is printed of it.
 //!
-//! An answer is right, and is come to as the one who answers does. On a map that stays as it is a session answers by
-//! its engine, or on a small map goal boxes or first moves do; a call opens them from its files. Printed are the lines
-//! that answer commands, those of a script that comes in before the next is read, what they come to in one line of sums,
-//! a picture of one query, and the rows that judge a scenario or what another program tells of it.
+//! An answer is right, and is come to as the one who answers does. On a map that stays as it is a session
+//! answers by its engine, or on a small map goal boxes or first moves do; a call opens them from its files.
+//! Printed are the lines that answer commands, those of a script that comes in before the next is read, what
+//! they come to in one line of sums, a picture of one query, and the rows that judge a scenario or what
+//! another program tells of it.
 
 mod answerer;
 mod answers;

@@ -37,7 +37,8 @@ use std::sync::ledger::Ledger;
 use steps::Steps;
 use word_list::{Request, Settings, first_bad, read_words};
 
-// A call whose files are read: its command made work of what was read, or a session that answers what comes in.
+// A call whose files are read: its command made work of what was read, or a session that answers what comes
+// in.
 #[derive(Drop)]
 enum Opened {
     Work(Work),
@@ -195,12 +196,13 @@ fn refuse_word<E: Sink>(alloc: Global, number: u32, err: &mut E) -> u8
 ///
 /// `words` are the program's words without its own name. Files are read by their names, a script
 /// that comes in from `input`; `out` gets the output and `err` the line of a refusal or a fault.
-/// `steps` counts what the session counts, and by `scen` with first moves a step for each move that is followed.
+/// `steps` counts what the session counts, and by `scen` with first moves a step for each move that is
+/// followed.
 ///
 /// Statuses: 0 done; 1 done, and a scenario has a row that is neither agree nor near, or `judge` or
-/// `check` refuses, or `prove` has no ends that are free and on one layer of the map, or `draw` none that are free; 2 the words
-/// are refused; 3 a text is refused; 4 a read failed; 5 a write of the output failed; 6 memory was
-/// refused, the one answer that is free.
+/// `check` refuses, or `prove` has no ends that are free and on one layer of the map, or `draw` none that are
+/// free; 2 the words are refused; 3 a text is refused; 4 a read failed; 5 a write of the output failed; 6
+/// memory was refused, the one answer that is free.
 pub fn run<F: Files, I: Source, O: Sink, E: Sink, L: Ledger>(
     alloc: Global,
     words: &[String],
@@ -240,7 +242,8 @@ pub fn run<F: Files, I: Source, O: Sink, E: Sink, L: Ledger>(
     // tables may take.
     ensures counted { result ≤ 1 → RoseAsCalled (map string_bytes words.now) (F.disk files.old).holds
         (I.inflow input.old).left steps.old steps.new }
-    // Nothing is taken from an input that the words do not ask for, or before each of their files is accepted.
+    // Nothing is taken from an input that the words do not ask for, or before each of their files is
+    // accepted.
     ensures input_stays { ¬ CanHear (map string_bytes words.now) (F.disk files.old).holds
         → (I.inflow input.new).left ≡ (I.inflow input.old).left }
 {

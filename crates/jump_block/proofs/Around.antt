@@ -15,7 +15,7 @@ use Rattle.pruning.specs.Turns.{is_diagonal}
 use Rattle.pruning.specs.Allowed.{can_move}
 use Rattle.jump_block.specs.declared.word.Way.{Way}
 use Rattle.jump_block.specs.declared.word.Way.TheVariants.{Forward, Back}
-use Rattle.bit_grid.specs.declared.lines.Three.{Three}
+use Rattle.bit_grid.specs.declared.lines.ThreeWords.{ThreeWords}
 use Rattle.jump_block.specs.declared.block.Halt.{Halt}
 use Rattle.jump_block.specs.Trail.{Trail, IsClear, Halts, halts, begun, trail_on}
 use Rattle.jump_block.specs.Scan.{Finds}
@@ -28,7 +28,7 @@ use Rattle.jump_block.proofs.Directions.{is_open_there}
 use Rattle.jump_block.proofs.Rings.{leads_by}
 
 -- they are what a trail has there
-pub words_trail : (free : ℕ → ℕ → Bool) (way : Way) (line from place : ℕ) (w : Three)
+pub words_trail : (free : ℕ → ℕ → Bool) (way : Way) (line from place : ℕ) (w : ThreeWords)
     → AreNear free line place w
     → AreWordsOf (trail_on free way line from) way from (place / 64 * 64) w
 words_trail free way line from place w is = record {
@@ -41,7 +41,7 @@ words_trail free way line from place w is = record {
 }
 
 -- words by their number, and by a place that they have
-pub near_read : (free : ℕ → ℕ → Bool) (line word : ℕ) (w : Three)
+pub near_read : (free : ℕ → ℕ → Bool) (line word : ℕ) (w : ThreeWords)
     → ((j : ℕ) → j < 64 → is_set w.middle j ≡ free line (word * 64 + j))
     → ((j : ℕ) → j < 64 → is_set w.before j ≡ free (line - 1) (word * 64 + j))
     → ((j : ℕ) → j < 64 → is_set w.after j ≡ free (line + 1) (word * 64 + j))
@@ -54,7 +54,7 @@ near_read free line word w middle before after =
       after = λ j h. after j h ∙ ap (λ (p : ℕ). free (line + 1) (p + j)) same;
     }
 
-pub near_again : (free : ℕ → ℕ → Bool) (line place : ℕ) (w : Three) → AreNear free line (place / 64 * 64) w
+pub near_again : (free : ℕ → ℕ → Bool) (line place : ℕ) (w : ThreeWords) → AreNear free line (place / 64 * 64) w
     → AreNear free line place w
 near_again free line place w is =
     let same : place / 64 * 64 / 64 * 64 ≡ place / 64 * 64 = omega arith in
@@ -81,7 +81,7 @@ later_there Forward from next per_line more is j k h m = (k - 1, omega arith)
 later_there Back from next per_line more is j k h m = (k - 1, omega arith)
 
 module _ (free : ℕ → ℕ → Bool) (way : Way) (rule : Corner) (line from next per_line found : ℕ)
-    (own first words : Three) (is : AreNear free line from own)
+    (own first words : ThreeWords) (is : AreNear free line from own)
     (begins : (t : Trail) (way : Way) (base : ℕ) → AreWordsOf t way (base + from % 64) base own
     → AreWordsOf (begun rule t) way (base + from % 64) base first)
     (are : AreNear free line (next * 64) words) (more : HasNextWord way per_line (from / 64))
@@ -164,7 +164,7 @@ passable_turned One a b = grind arith
 
 -- three of their bits tell whether a diagonal move is legal
 module _ (g : GridData) (x : Cell) (free : is_free g x ≡ true) (rule : Corner) (same : rule ≡ g.corner)
-    (w : Three)
+    (w : ThreeWords)
     (is : AreNear (by_rows g) (x.y + 1) (x.x + 1) w) where
   abbrev told_by_bits : ℕ → Dir → Bool
   told_by_bits place d = is_set (side_word (column_way d) w) (next_bit (row_way d) place)

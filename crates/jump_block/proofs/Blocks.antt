@@ -13,7 +13,7 @@ use Rattle.bit_grid.specs.Bits.{is_set}
 use Rattle.bit_grid.proofs.Words.{set_and, set_none}
 use Rattle.jump_block.specs.declared.word.Way.{Way}
 use Rattle.jump_block.specs.declared.word.Way.TheVariants.{Forward, Back}
-use Rattle.bit_grid.specs.declared.lines.Three.{Three}
+use Rattle.bit_grid.specs.declared.lines.ThreeWords.{ThreeWords}
 use Rattle.jump_block.specs.declared.block.Block.{Block}
 use Rattle.jump_block.specs.Trail.{Trail, IsClear, Halts, halts, at_start, begun}
 use Rattle.jump_block.specs.Word.{Meets, IsWordOf, AreWordsOf, IsEdgeOf, AreEdgesOf, IsOpened, IsBlockOf}
@@ -30,7 +30,7 @@ edge_of : (side : ℕ → Bool) (way : Way) (from base word : ℕ) → IsWordOf 
 edge_of side Forward from base word here = λ k m. here 63 k (omega arith) (omega arith)
 edge_of side Back from base word here = λ k m. here 0 k (omega arith) (omega arith)
 
-pub edges_of : (t : Trail) (way : Way) (from base : ℕ) (w : Three) → AreWordsOf t way from base w
+pub edges_of : (t : Trail) (way : Way) (from base : ℕ) (w : ThreeWords) → AreWordsOf t way from base w
     → AreEdgesOf t way from (far way base) w
 edges_of t way from base w are = record {
   before = edge_of t.before way from base w.before are.before;
@@ -38,7 +38,7 @@ edges_of t way from base w are = record {
 }
 
 -- before the way leaves the first word it has no edge behind it
-pub no_edges : (t : Trail) (way : Way) (from base : ℕ) (w : Three) → base ≤ from → from < base + 64
+pub no_edges : (t : Trail) (way : Way) (from base : ℕ) (w : ThreeWords) → base ≤ from → from < base + 64
     → AreEdgesOf t way from (near way base) w
 no_edges t Forward from base w a b = record {
   before = λ k m. absurd (omega arith);
@@ -131,7 +131,7 @@ places_there Forward from base a k h l = (from + suc k - base, omega arith, omeg
 places_there Back from base a k h l = (from - (base + suc k), omega arith, omega arith)
 
 -- a word that the way comes to from another
-pub found_further : (t : Trail) (way : Way) (from base found : ℕ) (w last : Three)
+pub found_further : (t : Trail) (way : Way) (from base found : ℕ) (w last : ThreeWords)
     → AreWordsOf t way from base w
     → IsAhead way from (near way base) → HasPassed t way from (near way base) last
     → ((t : Trail) (from base : ℕ) → AreWordsOf t way from base w → AreEdgesOf t way from (near way base) last
@@ -145,7 +145,7 @@ found_further t way from base found w last are ahead passed told = record {
   here = places_there way from base ahead;
 }
 
-pub passed_further : (t : Trail) (way : Way) (from base found : ℕ) (w last : Three)
+pub passed_further : (t : Trail) (way : Way) (from base found : ℕ) (w last : ThreeWords)
     → AreWordsOf t way from base w → IsAhead way from (near way base)
     → HasPassed t way from (near way base) last
     → ((t : Trail) (from base : ℕ) → AreWordsOf t way from base w → AreEdgesOf t way from (near way base) last
@@ -158,7 +158,7 @@ passed_further t way from base found w last are ahead passed told none = record 
 }
 
 -- the i-th word of a block
-module _ (t : Trail) (way : Way) (from start i n found : ℕ) (b : Block) (w last : Three)
+module _ (t : Trail) (way : Way) (from start i n found : ℕ) (b : Block) (w last : ThreeWords)
     (block : IsBlockOf t way from start i b) (low : i ≤ n) (high : n < 8)
     (words : w ≡ words_of b (nth_word way n)) (ahead : IsAhead way from (edge_before way start i))
     (passed : HasPassed t way from (edge_before way start n) last)
@@ -210,12 +210,12 @@ none_opened Back word last set ends same side from base here edge j k h m =
     by_place (inr l) = sym (edge k (omega arith)) ∙ ends
 
 -- a block whose cells are all free, and beside which all is as it was before
-module _ (t : Trail) (way : Way) (from start : ℕ) (b : Block) (last : Three)
+module _ (t : Trail) (way : Way) (from start : ℕ) (b : Block) (last : ThreeWords)
     (block : IsBlockOf t way from start 0 b) (ahead : IsAhead way from (edge_before way start 0))
     (passed : HasPassed t way from (edge_before way start 0) last) (free : IsAllAs true b.middle.now)
     (before : IsAllAs (is_set last.before (last_bit way)) b.before.now)
     (after : IsAllAs (is_set last.after (last_bit way)) b.after.now) where
-  abbrev words_before : ℕ → Three
+  abbrev words_before : ℕ → ThreeWords
   words_before zero = last
   words_before (suc i) = words_of b (nth_word way i)
 
@@ -274,7 +274,7 @@ own_later way r side from base word later here j k h m =
     by_rule One n e = rw e refl
 
 -- the word in which a scan starts
-module _ (t : Trail) (rule : Corner) (way : Way) (base place found halting over : ℕ) (words last : Three)
+module _ (t : Trail) (rule : Corner) (way : Way) (base place found halting over : ℕ) (words last : ThreeWords)
     (low : place < 64) (are : AreWordsOf (begun rule t) way (base + place) base words)
     (told : (t : Trail) (from base : ℕ) → AreWordsOf t way from base words
     → AreEdgesOf t way from (near way base) last
@@ -323,7 +323,7 @@ module _ (t : Trail) (rule : Corner) (way : Way) (base place found halting over 
   word_clear none = found_none (begun rule t) way (base + place) base 0 words.middle found word_found none
 
 -- the block in which a scan starts
-module _ (t : Trail) (rule : Corner) (way : Way) (start place w found halting over : ℕ) (words last : Three)
+module _ (t : Trail) (rule : Corner) (way : Way) (start place w found halting over : ℕ) (words last : ThreeWords)
     (b : Block) (block : IsBlockOf t way (start + w * 64 + place) start 0 b) (low : place < 64) (high : w < 8)
     (are : AreWordsOf (begun rule t) way (start + w * 64 + place) (start + w * 64) words)
     (told : (t : Trail) (from base : ℕ) → AreWordsOf t way from base words

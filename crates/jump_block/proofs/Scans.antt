@@ -9,7 +9,7 @@ use Rattle.grid_moves.specs.declared.Corner.TheVariants.{Never, One}
 use Rattle.bit_grid.specs.Bits.{LineData}
 use Rattle.jump_block.specs.declared.word.Way.{Way}
 use Rattle.jump_block.specs.declared.word.Way.TheVariants.{Forward, Back}
-use Rattle.bit_grid.specs.declared.lines.Three.{Three}
+use Rattle.bit_grid.specs.declared.lines.ThreeWords.{ThreeWords}
 use Rattle.jump_block.specs.declared.block.Block.{Block}
 use Rattle.jump_block.specs.Trail.{Trail, IsClear, Halts, at_start, begun, along, trail_on}
 use Rattle.jump_block.specs.Word.{Meets, IsWordOf, IsBlockOf, IsAhead, moves_before, nth_word, edge_before}
@@ -193,7 +193,7 @@ module _ (way : Way) (from index next : ℕ) (is : next ≡ next_block way index
   pub ahead_next : IsAhead way from (edge_before way (next * 512) 0)
   ahead_next = rw edges_next (edge_ahead way from index on_way)
 
-  pub passed_next : (t : Trail) (last : Three) → HasPassed t way from (edge_before way (index * 512) 8) last
+  pub passed_next : (t : Trail) (last : ThreeWords) → HasPassed t way from (edge_before way (index * 512) 8) last
       → HasPassed t way from (edge_before way (next * 512) 0) last
   passed_next t last passed = rw edges_next passed
 

@@ -7,7 +7,7 @@ use Rattle.bit_grid.specs.Bits.{is_set}
 use Rattle.bit_grid.proofs.Words.{set_or, set_raised, set_raised-lowest, set_lowered, set_none}
 use Rattle.jump_block.specs.declared.word.Way.{Way}
 use Rattle.jump_block.specs.declared.word.Way.TheVariants.{Forward, Back}
-use Rattle.bit_grid.specs.declared.lines.Three.{Three}
+use Rattle.bit_grid.specs.declared.lines.ThreeWords.{ThreeWords}
 use Rattle.std.specs.Prelude.{nat_eq}
 use Rattle.std.proofs.lemmas.Bool.Decides.{nat_tests}
 use Rattle.grid_moves.specs.declared.Corner.{Corner}
@@ -138,7 +138,7 @@ module _ (rule : Corner) (bit : ℕ) (place : ℕ) (never : rule ≡ Never → b
       by_rule Never n o = stays side word (n refl) here
       by_rule One n o = opened_there side word (o refl) here
 
-  pub begun_words : (t : Trail) (w : Three) → AreWordsOf t way (base + place) base w
+  pub begun_words : (t : Trail) (w : ThreeWords) → AreWordsOf t way (base + place) base w
       → AreWordsOf (begun rule t) way (base + place) base
       (record { middle = w.middle; before = bit_or w.before bit; after = bit_or w.after bit })
   begun_words t w are = record {

@@ -3,7 +3,7 @@ use Rattle.std.specs.Prelude.{◌≡◌, ℕ, ◌+◌, ◌-◌, ◌*◌, ◌/◌
 use Rattle.bit_grid.specs.Bits.{LineData, is_set}
 use Rattle.jump_block.specs.declared.word.Way.{Way}
 use Rattle.jump_block.specs.declared.word.Way.TheVariants.{Forward, Back}
-use Rattle.bit_grid.specs.declared.lines.Three.{Three}
+use Rattle.bit_grid.specs.declared.lines.ThreeWords.{ThreeWords}
 use Rattle.jump_block.specs.Scan.{IsStart}
 
 -- bit j of the word is what a line has at place j of the word's 64, among which the place is
@@ -11,13 +11,13 @@ abbrev pub HasNear : (ℕ → ℕ → Bool) → ℕ → ℕ → ℕ → Type 0
 HasNear free line place word = (j : ℕ) → j < 64 → is_set word j ≡ free line (place / 64 * 64 + j)
 
 -- the words of a line and of those beside it, which have a place of the line
-pub record AreNear (free : ℕ → ℕ → Bool) (line place : ℕ) (w : Three) : Type 0 where
+pub record AreNear (free : ℕ → ℕ → Bool) (line place : ℕ) (w : ThreeWords) : Type 0 where
   pub middle : HasNear free line place w.middle
   pub before : HasNear free (line - 1) place w.before
   pub after : HasNear free (line + 1) place w.after
 
 -- words that were read around the place, at which a scan starts
-abbrev pub AreNearStart : LineData → ℕ → ℕ → Three → Type 0
+abbrev pub AreNearStart : LineData → ℕ → ℕ → ThreeWords → Type 0
 AreNearStart l line place w = (free : ℕ → ℕ → Bool) → IsStart l free line place → AreNear free line place w
 
 -- the three bits are what a line has from this place on
@@ -25,7 +25,7 @@ abbrev pub AreThree : (ℕ → ℕ → Bool) → ℕ → ℕ → ℕ → Type 0
 AreThree free line first word = (j : ℕ) → j < 3 → is_set word j ≡ free line (first + j)
 
 -- the side to which a way across the lines leads
-abbrev pub side_word : Way → Three → ℕ
+abbrev pub side_word : Way → ThreeWords → ℕ
 side_word Forward w = w.after
 side_word Back w = w.before
 

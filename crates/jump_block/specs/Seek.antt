@@ -1,14 +1,14 @@
 -- What the search of a block finds.
 use Rattle.std.specs.Prelude.{ℕ}
 use Rattle.jump_block.specs.declared.word.Way.{Way}
-use Rattle.bit_grid.specs.declared.lines.Three.{Three}
+use Rattle.bit_grid.specs.declared.lines.ThreeWords.{ThreeWords}
 use Rattle.jump_block.specs.declared.block.Seek.{Seek}
 use Rattle.jump_block.specs.declared.block.Seek.TheVariants.{Halted, Passed}
 use Rattle.jump_block.specs.Trail.{Trail, Halts, IsClear}
 use Rattle.jump_block.specs.Word.{AreEdgesOf, moves_before}
 
 -- the scan comes to the edge, and these are the last words before it
-pub record HasPassed (t : Trail) (way : Way) (from edge : ℕ) (w : Three) : Type 0 where
+pub record HasPassed (t : Trail) (way : Way) (from edge : ℕ) (w : ThreeWords) : Type 0 where
   pub edges : AreEdgesOf t way from edge w
   pub clear : IsClear t (moves_before way from edge)
 

@@ -4,7 +4,7 @@ use Rattle.std.specs.Prelude.{length, slice_index_or}
 use Rattle.bit_grid.specs.Bits.{is_set}
 use Rattle.jump_block.specs.declared.word.Way.{Way}
 use Rattle.jump_block.specs.declared.word.Way.TheVariants.{Forward, Back}
-use Rattle.bit_grid.specs.declared.lines.Three.{Three}
+use Rattle.bit_grid.specs.declared.lines.ThreeWords.{ThreeWords}
 use Rattle.jump_block.specs.declared.block.Block.{Block}
 use Rattle.jump_block.specs.Trail.{Trail, IsClear, halts, opens}
 
@@ -21,7 +21,7 @@ Meets Back from place k = place + k ≡ from
 abbrev pub IsWordOf : (ℕ → Bool) → Way → ℕ → ℕ → ℕ → Type 0
 IsWordOf side way from base word = (j k : ℕ) → j < 64 → Meets way from (base + j) k → is_set word j ≡ side k
 
-pub record AreWordsOf (t : Trail) (way : Way) (from base : ℕ) (w : Three) : Type 0 where
+pub record AreWordsOf (t : Trail) (way : Way) (from base : ℕ) (w : ThreeWords) : Type 0 where
   pub middle : IsWordOf t.free way from base w.middle
   pub before : IsWordOf t.before way from base w.before
   pub after : IsWordOf t.after way from base w.after
@@ -32,7 +32,7 @@ abbrev pub IsEdgeOf : (ℕ → Bool) → Way → ℕ → ℕ → ℕ → Type 0
 IsEdgeOf side Forward from edge word = (k : ℕ) → from + suc k ≡ edge → is_set word 63 ≡ side k
 IsEdgeOf side Back from edge word = (k : ℕ) → edge + k ≡ from → is_set word 0 ≡ side k
 
-pub record AreEdgesOf (t : Trail) (way : Way) (from edge : ℕ) (w : Three) : Type 0 where
+pub record AreEdgesOf (t : Trail) (way : Way) (from edge : ℕ) (w : ThreeWords) : Type 0 where
   pub before : IsEdgeOf t.before way from edge w.before
   pub after : IsEdgeOf t.after way from edge w.after
 
@@ -81,7 +81,7 @@ abbrev pub AreEight : Block → Type 0
 AreEight b = (length b.middle.now ≡ 8) × (length b.before.now ≡ 8) × (length b.after.now ≡ 8)
 
 -- word w of a block
-abbrev pub words_of : Block → ℕ → Three
+abbrev pub words_of : Block → ℕ → ThreeWords
 words_of b w = record {
   middle = slice_index_or b.middle.now w 0;
   before = slice_index_or b.before.now w 0;

@@ -13,7 +13,7 @@ ghost use Rattle.jump_block.specs.Scan.{IsStart};
 use crate::eight::{are_none, blocked, changed};
 use crate::near::{has_next_word, next_word, words_beside};
 use crate::word::{Way, begun, first, halts, past};
-use bit_grid::{Lines, Three};
+use bit_grid::{Lines, ThreeWords};
 use grid_moves::Corner;
 use std::sync::ledger::Ledger;
 use steps::Steps;
@@ -40,11 +40,11 @@ pub(crate) struct Halt {
 #[derive(Clone, Copy)]
 pub(crate) enum Seek {
     Halted(Halt),
-    Passed(Three),
+    Passed(ThreeWords),
 }
 
 // No bits: what a scan has passed before its first word. Its bits up to the start are left out.
-const NOTHING: Three = Three {
+const NOTHING: ThreeWords = ThreeWords {
     middle: 0,
     before: 0,
     after: 0,
@@ -95,7 +95,7 @@ fn halt_at(way: Way, middle: u64, found: u64, from: u32, base: u32) -> Halt
 /// Where a scan halts among the places of the word in which it starts, told the words around its start, or
 /// `None` where it leaves the word.
 #[inline(always)]
-pub(crate) fn halt_near(way: Way, rule: Corner, near: Three, from: u32) -> Option<Halt>
+pub(crate) fn halt_near(way: Way, rule: Corner, near: ThreeWords, from: u32) -> Option<Halt>
     requires from { from < 65536 }
     ensures halts { (free : ℕ → ℕ → Bool) (line : ℕ) → AreNear free line from near
         → IfSome result (λ h. trails.Halts (trails.begun rule (trail_on free way line from)) h.passed h.blocked) }
@@ -120,7 +120,7 @@ pub(crate) fn halt_next<L: Ledger>(
     lines: &Lines,
     line: u32,
     from: u32,
-    near: Three,
+    near: ThreeWords,
     steps: &mut Steps<L>,
 ) -> Option<Halt>
     requires starts { (free : ℕ → ℕ → Bool) × IsStart lines.now free line from }
@@ -173,13 +173,13 @@ impl<'a> Block<'a> {
 
     // The words of this number.
     #[inline(always)]
-    fn words(&self, w: u32) -> Three
+    fn words(&self, w: u32) -> ThreeWords
         requires eight { AreEight self.now }
         requires inside { w < 8 }
         ensures { result ≡ words_of self.now w }
     {
         let w = w as usize;
-        Three {
+        ThreeWords {
             middle: self.middle[w],
             before: self.before[w],
             after: self.after[w],
@@ -188,7 +188,7 @@ impl<'a> Block<'a> {
 
     /// Searches the block from the i-th word on the way, told the words before.
     #[inline(always)]
-    pub(crate) fn seek(&self, way: Way, i: u32, last: Three, from: u32, start: u32) -> Seek
+    pub(crate) fn seek(&self, way: Way, i: u32, last: ThreeWords, from: u32, start: u32) -> Seek
         requires eight { AreEight self.now }
         requires some { i ≤ 8 }
         requires small { start + 512 ≤ 65536 }
@@ -215,7 +215,7 @@ impl<'a> Block<'a> {
     // Whether all cells of the block are free and nothing changes beside it, told the words before: a scan
     // that comes to it passes it then. It passes some other blocks too, which are searched word by word.
     #[inline(always)]
-    fn is_passed(&self, way: Way, last: Three) -> bool
+    fn is_passed(&self, way: Way, last: ThreeWords) -> bool
         requires eight { AreEight self.now }
         ensures { result ≡ true → (t : Trail) (from start : ℕ) → IsBlockOf t way from start 0 self.now
             → IsAhead way from (edge_before way start 0)
@@ -231,7 +231,7 @@ impl<'a> Block<'a> {
 
     /// Searches the whole block, told the words before. Mostly it is passed, which a quick test finds first.
     #[inline(always)]
-    pub(crate) fn seek_whole(&self, way: Way, last: Three, from: u32, start: u32) -> Seek
+    pub(crate) fn seek_whole(&self, way: Way, last: ThreeWords, from: u32, start: u32) -> Seek
         requires eight { AreEight self.now }
         requires small { start + 512 ≤ 65536 }
         requires ahead { IsAhead way from (edge_before way start 0) }

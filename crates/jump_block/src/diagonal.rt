@@ -17,7 +17,7 @@ use crate::cells::bit_of;
 use crate::near::{has_next_bit, leads_from_bit};
 use crate::straight::Bits;
 use crate::word::Way;
-use bit_grid::Three;
+use bit_grid::ThreeWords;
 use grid_moves::{Cell, Corner, Dir, beyond, is_passable};
 use pruning::{Side, forced_on, turn};
 use std::sync::ledger::Ledger;
@@ -141,7 +141,13 @@ impl<'a> Bits<'a> {
 
     // The same, told the words around the cell, in which the cells ahead and beside it mostly are.
     #[inline(always)]
-    fn leads_near<L: Ledger>(&self, at: Cell, d: Dir, near: Three, steps: &mut Steps<L>) -> bool
+    fn leads_near<L: Ledger>(
+        &self,
+        at: Cell,
+        d: Dir,
+        near: ThreeWords,
+        steps: &mut Steps<L>,
+    ) -> bool
         requires stands { OnSome self.now at }
         requires near { AreNearStart self.now.rows.now (at.y + 1) (at.x + 1) near }
         requires diagonal { is_diagonal d ≡ true }
@@ -187,16 +193,16 @@ impl<'a> Bits<'a> {
             || self.finds(at, column_dir(column_way(d)), goal, steps)
     }
 
-    // Whether a diagonal jump stops at a cell. Only in the goal's row or column is the goal looked for; at all
-    // other cells a component is asked for its mark alone, told the words around the cell. The call out of line
-    // gets a copy of the bits, so that their own stay in registers here.
+    // Whether a diagonal jump stops at a cell. Only in the goal's row or column is the goal looked for; at
+    // all other cells a component is asked for its mark alone, told the words around the cell. The call out
+    // of line gets a copy of the bits, so that their own stay in registers here.
     #[inline(always)]
     fn stops_at<L: Ledger>(
         &self,
         at: Cell,
         d: Dir,
         goal: Cell,
-        near: Three,
+        near: ThreeWords,
         steps: &mut Steps<L>,
     ) -> bool
         requires stands { OnSome self.now at }

@@ -1,9 +1,9 @@
 //! The eight words of a block at once, as one vector.
 //!
 //! A scan that comes to a block mostly passes it: all its cells are free, and each of the two lines beside
-//! it goes on as it was just before, free all along or blocked all along, so that no side opens. That is asked
-//! of all words together, with no exit between them: a few vector instructions for each two words. Any other
-//! block is searched word by word.
+//! it goes on as it was just before, free all along or blocked all along, so that no side opens. That is
+//! asked of all words together, with no exit between them: a few vector instructions for each two words. Any
+//! other block is searched word by word.
 
 ghost use Rattle.std.specs.Prelude.{◌≡◌, ℕ, ◌<◌, Bool, true, length, not, slice_index_or};
 ghost use Rattle.bit_grid.specs.Bits.{is_set};

@@ -9,7 +9,7 @@ ghost use Rattle.jump_block.specs.Word as ways;
 use crate::block::{Halt, halt_near, halt_next};
 use crate::scan::{Start, scan, way_of};
 use crate::word::Way;
-use bit_grid::{Lines, Three};
+use bit_grid::{Lines, ThreeWords};
 use grid_moves::Corner;
 use std::sync::ledger::Ledger;
 use steps::Steps;
@@ -55,7 +55,7 @@ fn finds_next<const WAY: usize, L: Ledger>(
     lines: &Lines,
     line: u32,
     place: u32,
-    near: Three,
+    near: ThreeWords,
     steps: &mut Steps<L>,
 ) -> bool
     requires starts { (free : ℕ → ℕ → Bool) × IsStart lines.now free line place }
@@ -83,7 +83,7 @@ pub(crate) fn finds_mark<L: Ledger>(
     lines: &Lines,
     line: u32,
     place: u32,
-    near: Three,
+    near: ThreeWords,
     steps: &mut Steps<L>,
 ) -> bool
     requires starts { (free : ℕ → ℕ → Bool) × IsStart lines.now free line place }

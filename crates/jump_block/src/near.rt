@@ -11,7 +11,7 @@ ghost use Rattle.jump_block.specs.Source as source;
 use crate::cells::is_set;
 use crate::diagonal::{column_way, row_way};
 use crate::word::Way;
-use bit_grid::{Lines, Three};
+use bit_grid::{Lines, ThreeWords};
 use grid_moves::{Corner, Dir, passable_bits};
 use std::sync::ledger::Ledger;
 use steps::Steps;
@@ -23,7 +23,7 @@ pub(crate) fn words_beside<L: Ledger>(
     line: u32,
     word: u32,
     steps: &mut Steps<L>,
-) -> Three
+) -> ThreeWords
     requires starts { (free : ℕ → ℕ → Bool) × (place : ℕ) × IsStart lines.now free line place }
     requires word { word < lines.now.blocks * 8 }
     ensures beside { (count positions : ℕ) (free : ℕ → ℕ → Bool) → Shows lines.now count positions free
@@ -40,7 +40,7 @@ pub(crate) fn words_near<L: Ledger>(
     line: u32,
     place: u32,
     steps: &mut Steps<L>,
-) -> Three
+) -> ThreeWords
     requires starts { (free : ℕ → ℕ → Bool) × IsStart lines.now free line place }
     requires few { lines.now.lines < 65536 }
     ensures near { AreNearStart lines.now line place result }
@@ -99,7 +99,7 @@ fn drawn_back(way: Way, word: u64) -> u64
 
 // The words of the side to which a way across the lines leads.
 #[inline(always)]
-fn side_word(way: Way, words: Three) -> u64
+fn side_word(way: Way, words: ThreeWords) -> u64
     ensures { result ≡ spec.side_word way words }
 {
     match way {
@@ -110,7 +110,7 @@ fn side_word(way: Way, words: Three) -> u64
 
 /// Whether a diagonal move from this bit is legal, told the words of its row and of those beside it.
 #[inline(always)]
-pub(crate) fn leads_from_bit(rule: Corner, d: Dir, words: Three, place: u32) -> bool
+pub(crate) fn leads_from_bit(rule: Corner, d: Dir, words: ThreeWords, place: u32) -> bool
     requires small { place < 64 }
     requires more { HasNextBit (source.row_way d) place }
     ensures { result ≡ (is_set (spec.side_word (source.column_way d) words) (spec.next_bit (source.row_way d) place)

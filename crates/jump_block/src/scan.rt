@@ -8,7 +8,7 @@ ghost use Rattle.jump_block.specs.Seek.{HasPassed};
 
 use crate::block::{Block, Halt, Seek};
 use crate::word::Way;
-use bit_grid::{Lines, Three};
+use bit_grid::{Lines, ThreeWords};
 use grid_moves::Corner;
 use std::sync::ledger::Ledger;
 use steps::Steps;
@@ -67,7 +67,7 @@ fn scan_on<L: Ledger>(
     line: u32,
     place: u32,
     to_goal: u32,
-    last: Three,
+    last: ThreeWords,
     steps: &mut Steps<L>,
 ) -> Option<Halt>
     requires starts { (free : ℕ → ℕ → Bool) × IsStart lines.now free line place }
@@ -113,7 +113,7 @@ fn scan_on_by<const WAY: usize, L: Ledger>(
     line: u32,
     place: u32,
     to_goal: u32,
-    last: Three,
+    last: ThreeWords,
     steps: &mut Steps<L>,
 ) -> Option<Halt>
     requires starts { (free : ℕ → ℕ → Bool) × IsStart lines.now free line place }

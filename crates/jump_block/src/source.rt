@@ -15,7 +15,7 @@ ghost use Rattle.jump_block.specs.Source.{AreItsBits, JumpsOnEach, JumpsOnSome, 
 use crate::straight::Bits;
 use bit_grid::BitGrid;
 use grid_moves::{Cell, Corner, Dir};
-use pruning::{Arrival, JumpSource, Packed, allowed_on, corner_of};
+use pruning::{Arrival, JumpSource, Packed, allowed_on, rule_of_number};
 use std::sync::ledger::Ledger;
 use steps::Steps;
 
@@ -30,13 +30,13 @@ impl<'a> Bits<'a> {
     // The same, where the rule is a constant.
     #[inline(always)]
     fn under<const RULE: usize>(&self) -> Bits<'a>
-        requires { self.now.corner ≡ numbered.corner_of RULE }
+        requires { self.now.corner ≡ numbered.rule_of_number RULE }
         ensures { result ≡ self.now }
     {
         Bits {
             rows: self.rows,
             columns: self.columns,
-            corner: corner_of(RULE),
+            corner: rule_of_number(RULE),
         }
     }
 
@@ -50,7 +50,7 @@ impl<'a> Bits<'a> {
         goal: Cell,
         steps: &mut Steps<L>,
     ) -> Option<u16>
-        requires rule { self.now.corner ≡ numbered.corner_of RULE }
+        requires rule { self.now.corner ≡ numbered.rule_of_number RULE }
         requires diagonal { is_diagonal d ≡ true }
         requires stands { OnSome self.now at }
         ensures first { OnEach self.now at (λ g. result ≡ first.first_stop g goal at d) }
@@ -75,7 +75,7 @@ impl<'a> Bits<'a> {
         goal: Cell,
         steps: &mut Steps<L>,
     ) -> Option<u16>
-        requires rule { self.now.corner ≡ numbered.corner_of RULE }
+        requires rule { self.now.corner ≡ numbered.rule_of_number RULE }
         requires stands { OnSome self.now at }
         ensures first { OnEach self.now at (λ g. result ≡ first.first_stop g goal at d) }
         ensures most { is_diagonal d ≡ false → OnEach self.now at

@@ -3,7 +3,6 @@
 ghost use Rattle.std.specs.Prelude.{◌≡◌, ℕ, ◌+◌, ◌≤◌, Bool, false, true, is_some, nat_eq};
 ghost use Rattle.pruning.specs.Turns.{is_diagonal};
 ghost use Rattle.pruning.specs.First as first;
-ghost use Rattle.jump_plain.specs.Reach as reach;
 ghost use Rattle.jump_block.specs.Trail.{begun};
 ghost use Rattle.jump_block.specs.Scan.{Finds, looked, most_lanes};
 ghost use Rattle.jump_block.specs.Near.{AreNearStart};
@@ -15,24 +14,11 @@ use crate::marks::finds_mark;
 use crate::near::words_near;
 use crate::scan::{Start, scan};
 use crate::word::Way;
-use bit_grid::{Columns, Rows, Three};
+use bit_grid::{Columns, Rows, ThreeWords};
 use grid_moves::{Cell, Corner, Dir};
+use jump_plain::jump::moves_to;
 use std::sync::ledger::Ledger;
 use steps::Steps;
-
-// The number of moves in a straight direction that lead from one cell to another, or 0 where none do.
-#[inline(always)]
-fn moves_to(d: Dir, from: Cell, to: Cell) -> u16
-    ensures { result ≡ reach.moves_to d from to }
-{
-    match d {
-        Dir::N if from.x == to.x => from.y.saturating_sub(to.y),
-        Dir::S if from.x == to.x => to.y.saturating_sub(from.y),
-        Dir::E if from.y == to.y => to.x.saturating_sub(from.x),
-        Dir::W if from.y == to.y => from.x.saturating_sub(to.x),
-        _ => 0,
-    }
-}
 
 // The first stop, told where the scan halts: the goal where it is met before, else the mark, if there is one.
 // Where no corner is cut the mark is the next cell's, and else that of the cell where the scan halts.
@@ -58,8 +44,8 @@ fn stop_of(rule: Corner, found: Option<Halt>, to_goal: u16) -> Option<u16>
     }
 }
 
-/// The lines of a grid's bits and the grid's rule, as jumps read them: where the rule is known, it is a constant
-/// here.
+/// The lines of a grid's bits and the grid's rule, as jumps read them: where the rule is known, it is a
+/// constant here.
 #[derive(Clone, Copy)]
 pub(crate) struct Bits<'a> {
     pub(crate) rows: Rows<'a>,
@@ -134,7 +120,7 @@ impl<'a> Bits<'a> {
 
     // The words around a free cell, of its row and of those beside it.
     #[inline(always)]
-    pub(crate) fn near_on_row<L: Ledger>(&self, at: Cell, steps: &mut Steps<L>) -> Three
+    pub(crate) fn near_on_row<L: Ledger>(&self, at: Cell, steps: &mut Steps<L>) -> ThreeWords
         requires stands { OnSome self.now at }
         ensures near { AreNearStart self.now.rows.now (at.y + 1) (at.x + 1) result }
         ensures three_steps { steps.new ≡ steps.old + 3 }
@@ -149,7 +135,7 @@ impl<'a> Bits<'a> {
         &self,
         at: Cell,
         way: Way,
-        near: Three,
+        near: ThreeWords,
         steps: &mut Steps<L>,
     ) -> bool
         requires stands { OnSome self.now at }

@@ -1,8 +1,8 @@
 //! Words of bits: 64 places of a line, and of the two lines beside it.
 //!
 //! A scan halts where the next cell is blocked or a side opens, which is blocked at one cell and free at the
-//! next. For 64 cells at a time: a side's bits, shifted by one on the way, are those of the cells before, with
-//! the last bit of the word before carried in; `side & !shifted` are the cells at which it opens.
+//! next. For 64 cells at a time: a side's bits, shifted by one on the way, are those of the cells before,
+//! with the last bit of the word before carried in; `side & !shifted` are the cells at which it opens.
 
 ghost use Rattle.std.specs.Prelude.{◌≡◌, ℕ, suc, ◌+◌, ◌-◌, ◌<◌, Bool, false, true, nat_eq, ◌&&◌, ◌||◌, not};
 ghost use Rattle.bit_grid.specs.Bits.{is_set};
@@ -11,7 +11,7 @@ ghost use Rattle.jump_block.specs.Trail.{Trail, begun, opens};
 ghost use Rattle.jump_block.specs.Word as spec;
 ghost use Rattle.jump_block.specs.Word.{Meets, IsWordOf, AreWordsOf, IsEdgeOf, AreEdgesOf, IsOpened, is_past, near};
 
-use bit_grid::Three;
+use bit_grid::ThreeWords;
 use grid_moves::Corner;
 
 /// Which way a scan goes along a line: to higher places, or back to lower ones.
@@ -42,7 +42,7 @@ fn blocked(middle: u64) -> u64
 
 /// The bits that a scan does not reach from the cell before: blocked, or a side opens there.
 #[inline(always)]
-pub(crate) fn halts(way: Way, words: Three, last: Three) -> u64
+pub(crate) fn halts(way: Way, words: ThreeWords, last: ThreeWords) -> u64
     ensures { (t : Trail) (from base : ℕ) → AreWordsOf t way from base words
         → AreEdgesOf t way from (near way base) last
         → (j k : ℕ) → j < 64 → Meets way from (base + j) (suc k) → is_set result j ≡ trails.halts t k }
@@ -93,13 +93,13 @@ fn start_bit(rule: Corner, place: u32) -> u64
 
 /// The words of a scan that starts at this place.
 #[inline(always)]
-pub(crate) fn begun(rule: Corner, words: Three, place: u32) -> Three
+pub(crate) fn begun(rule: Corner, words: ThreeWords, place: u32) -> ThreeWords
     requires { place < 64 }
     ensures { (t : Trail) (way : Way) (base : ℕ) → AreWordsOf t way (base + place) base words
         → AreWordsOf (begun rule t) way (base + place) base result }
 {
     let bit = start_bit(rule, place);
-    Three {
+    ThreeWords {
         middle: words.middle,
         before: words.before | bit,
         after: words.after | bit,

@@ -14,9 +14,9 @@ use crate::scan::{Reach, scan, scan_with};
 use grid_moves::{Cell, Corner, Dir, Terrain, beyond, is_open, is_passable};
 use pruning::{Side, forced, turn};
 
-// The number of moves in a straight direction that lead from one cell to another, or 0 where none do.
+/// The number of moves in a straight direction that lead from one cell to another, or 0 where none do.
 #[inline(always)]
-fn moves_to(d: Dir, from: Cell, to: Cell) -> u16
+pub fn moves_to(d: Dir, from: Cell, to: Cell) -> u16
     ensures { result ≡ spec.moves_to d from to }
 {
     match d {

@@ -1,8 +1,8 @@
-//! Laws of whole calls: a call comes to at most one outcome, and which engine it picks changes nothing but what engines
-//! count. Below them the laws of replies, of what is read and printed, and of lines.
+//! Laws of whole calls: a call comes to at most one outcome, and which engine it picks changes nothing but
+//! what engines count. Below them the laws of replies, of what is read and printed, and of lines.
 //!
-//! This crate has no code that runs: its specs have the statements, and each law is the contract of a call that does
-//! nothing. The program doesn't use it.
+//! This crate has no code that runs: its specs have the statements, and each law is the contract of a call
+//! that does nothing. The program doesn't use it.
 #![tactic(auto)]
 
 pub mod of_answers;

@@ -61,7 +61,8 @@ pub fn refusals_are_one()
     ensures { RefusalsAreOne }
 {}
 
-/// The verdict on certificates of one text is at most one line with one status: accepted or refused, not both.
+/// The verdict on certificates of one text is at most one line with one status: accepted or refused, not
+/// both.
 pub fn verdicts_are_one()
     ensures { VerdictsAreOne }
 {}

@@ -1,10 +1,12 @@
-//! Laws of lines: each is the contract of a call that does nothing, and speaks of two who answer on the layers of one
-//! map. One who answers is like himself, so each law also says that what is printed is the only such thing.
+//! Laws of lines: each is the contract of a call that does nothing, and speaks of two who answer on the
+//! layers of one map. One who answers is like himself, so each law also says that what is printed is the only
+//! such thing.
 
 ghost use Rattle.outcome_laws.specs.Lines.{ReplyLinesAreOne, AnswersAreOne, DrawingsAreOne, HeardIsOne, TakenBeginsHeard};
 ghost use Rattle.outcome_laws.specs.Lines.{RowsAreOne, FindingsAreOne, DrillsAreOne, RowsDifferInTaken};
 
-/// Two who answer alike print one line for a query: one engine, or two that both jump (`jps`, `block`, `plus`).
+/// Two who answer alike print one line for a query: one engine, or two that both jump (`jps`, `block`,
+/// `plus`).
 pub fn reply_lines_are_one()
     ensures { ReplyLinesAreOne }
 {}
@@ -19,12 +21,14 @@ pub fn drawings_are_one()
     ensures { DrawingsAreOne }
 {}
 
-/// Of a told script that comes in, two sessions that answer alike print the same lines and the same line of a refusal.
+/// Of a told script that comes in, two sessions that answer alike print the same lines and the same line of a
+/// refusal.
 pub fn heard_is_one()
     ensures { HeardIsOne }
 {}
 
-/// What was written for a first part of a told script, at whatever stop, begins what the whole script is answered.
+/// What was written for a first part of a told script, at whatever stop, begins what the whole script is
+/// answered.
 pub fn taken_begins_heard()
     ensures { TakenBeginsHeard }
 {}
@@ -44,8 +48,8 @@ pub fn drills_are_one()
     ensures { DrillsAreOne }
 {}
 
-/// Two who answer, in whatever ways, make rows of the same entries that differ in the counts of taken states alone:
-/// where these are not shown, they print the same lines, with the same status.
+/// Two who answer, in whatever ways, make rows of the same entries that differ in the counts of taken states
+/// alone: where these are not shown, they print the same lines, with the same status.
 pub fn rows_differ_in_taken()
     ensures { RowsDifferInTaken }
 {}

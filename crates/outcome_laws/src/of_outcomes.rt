@@ -3,29 +3,30 @@
 ghost use Rattle.outcome_laws.specs.Outcomes.{OutcomesAreOne, JumpEnginesPrintTheSame, EnginesPrintTheSameCosts};
 ghost use Rattle.outcome_laws.specs.Outcomes.{WrittenBeginsTheOutput};
 
-/// Words come to at most one outcome, where the files that they name and the input are told: one status, one output,
-/// and one line on `err`.
+/// Words come to at most one outcome, where the files that they name and the input are told: one status, one
+/// output, and one line on `err`.
 pub fn outcomes_are_one()
     ensures { OutcomesAreOne }
 {}
 
-/// Two calls that differ in which of the engines `jps`, `block` and `plus` they pick come to the same outcome, for
-/// every command and whatever they show, where the files and the input are told.
+/// Two calls that differ in which of the engines `jps`, `block` and `plus` they pick come to the same
+/// outcome, for every command and whatever they show, where the files and the input are told.
 pub fn jump_engines_print_the_same()
     ensures { JumpEnginesPrintTheSame }
 {}
 
-/// Two calls of `scen` that don't show counts of taken states, or two of `drill`, come to the same outcome whatever
-/// engines they pick, where the files and the input are told, and if these engines take the same maps (`boxes` and
-/// `moves` take small ones alone), or neither call is refused, or the text for the map of `scen` is that of a small
-/// one, or of none.
+/// Two calls of `scen` that don't show counts of taken states, or two of `drill`, come to the same outcome
+/// whatever engines they pick, where the files and the input are told, and if these engines take the same
+/// maps (`boxes` and
+/// `moves` take small ones alone), or neither call is refused, or the text for the map of `scen` is that of a
+/// small one, or of none.
 pub fn engines_print_the_same_costs()
     ensures { EnginesPrintTheSameCosts }
 {}
 
-/// What a call wrote that stopped with no outcome is a first part of the output of any outcome that its words come to:
-/// some of its bytes where a write failed, and some of its lines, each whole, where a read failed or for want of
-/// memory. The files and the input are told.
+/// What a call wrote that stopped with no outcome is a first part of the output of any outcome that its words
+/// come to: some of its bytes where a write failed, and some of its lines, each whole, where a read failed or
+/// for want of memory. The files and the input are told.
 pub fn written_begins_the_output()
     ensures { WrittenBeginsTheOutput }
 {}

@@ -3,7 +3,7 @@ use Rattle.std.specs.Prelude.{ℕ, ◌+◌, ◌/◌, ◌%◌, max, List, [], ◌
 use Rattle.root2_cost.specs.declared.Cost.{Cost}
 use Rattle.grid_moves.specs.declared.Cell.{Cell}
 use Rattle.cell_lines.specs.Cells as cells
-pub use Rattle.cell_lines.specs.Cells.{texts_of}
+pub use Rattle.cell_lines.specs.Cells.{cell_text, texts_of}
 use Rattle.map_text.specs.Map.{Map}
 use Rattle.map_text.specs.Writing.{rows_of, text_of}
 use Rattle.picture.specs.declared.kinds.Ground.{Ground}
@@ -21,14 +21,10 @@ pub record Walk : Type 0 where
 abbrev pub plain_walk : answer.Walk → Walk
 plain_walk walk = record { points = walk.points.now; cost = walk.cost }
 
--- `x,y`
-abbrev pub point_text : Cell → List ℕ
-point_text c = decimal c.x ++ codes "," ++ decimal c.y
-
 -- the points, parted by one space
 abbrev pub points_text : List Cell → List ℕ
 points_text [] = []
-points_text (first ∷ points) = point_text first ++ texts_of cells.point_text points
+points_text (first ∷ points) = cell_text first ++ texts_of cells.point_text points
 
 -- `Mx yhn`: a stroke over a run of cells of the row whose number is written so
 abbrev pub stroke_over : List ℕ → Run → List ℕ
@@ -96,7 +92,7 @@ found_text (Some walk) = cost_text walk.cost
 
 -- `sx,sy to gx,gy`
 abbrev pub ends_text : Cell → Cell → List ℕ
-ends_text start goal = point_text start ++ codes " to " ++ point_text goal
+ends_text start goal = cell_text start ++ codes " to " ++ cell_text goal
 
 -- the title
 abbrev pub title_line : Cell → Cell → Option Walk → List ℕ

@@ -9,8 +9,9 @@ ghost use Rattle.picture.specs.Picture as spec;
 use crate::NoMemory;
 use crate::answer::Walk;
 use crate::kinds::Ground;
-use crate::marks::{put_end, put_named, put_point, put_walk};
+use crate::marks::{put_end, put_named, put_walk};
 use crate::strokes::{put_states, put_strokes};
+use cell_lines::put_cell;
 use grid_moves::Cell;
 use map_text::MapText;
 use root2_cost::Cost;
@@ -121,9 +122,9 @@ fn put_cost(out: &mut Vec<u8>, cost: Cost) -> Result<(), NoMemory>
 fn put_between(out: &mut Vec<u8>, start: Cell, goal: Cell) -> Result<(), NoMemory>
     ensures { OnOk result (out.new.items ≡ out.old.items ++ spec.ends_text start goal) }
 {
-    put_point(out, start)?;
+    put_cell(out, start)?;
     put(out, b" to ")?;
-    put_point(out, goal)
+    put_cell(out, goal)
 }
 
 /// Appends the line of the background.

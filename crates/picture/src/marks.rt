@@ -7,17 +7,9 @@ ghost use Rattle.picture.specs.Picture as spec;
 
 use crate::NoMemory;
 use crate::answer::Walk;
+use cell_lines::put_cell;
 use grid_moves::Cell;
 use text_line::{put, put_number};
-
-/// Appends a cell's column and row, parted by a comma.
-pub(crate) fn put_point(out: &mut Vec<u8>, c: Cell) -> Result<(), NoMemory>
-    ensures { OnOk result (out.new.items ≡ out.old.items ++ spec.point_text c) }
-{
-    put_number(out, u64::from(c.x))?;
-    put(out, b",")?;
-    put_number(out, u64::from(c.y))
-}
 
 /// Appends the points, parted by one space.
 fn put_points(out: &mut Vec<u8>, points: &[Cell]) -> Result<(), NoMemory>
@@ -26,7 +18,7 @@ fn put_points(out: &mut Vec<u8>, points: &[Cell]) -> Result<(), NoMemory>
     match points {
         [] => Ok(()),
         [first, others @ ..] => {
-            put_point(out, *first)?;
+            put_cell(out, *first)?;
             cell_lines::put_points(out, others)
         }
     }

@@ -5,15 +5,9 @@ use Rattle.std.proofs.lemmas.Option.{slice_get-map, get_or_from_slice_get}
 use Rattle.root2_cost.specs.declared.Cost.{Cost}
 use Rattle.grid_moves.specs.declared.Cell.{Cell}
 use Rattle.grid_moves.specs.Grid.{GridData, is_inside, cell_number}
-use Rattle.cost_waves.specs.Begin as waves
 use Rattle.cost_waves.specs.Rank.{far, cost_told}
 use Rattle.cost_waves.specs.Told.{WaveData, Tells}
 use Rattle.plain_search.specs.Costs.{IsCostTo, AreCostsToAll}
-
--- what is told of a cell by either word
-told : (g : GridData) (s c : Cell) (o : Option Cost) → waves.IsCostTo g s c o → IsCostTo g s c o
-told g s c None h = h
-told g s c (Some cost) h = record { cells = h.cells; least = h.least; priced = h.priced }
 
 some_cost : (a b : Option Cost) → Some a ≡ Some b → a ≡ b
 some_cost a b e = ap (λ (o : Option (Option Cost)). elim o as (λ _. Option Cost) [ Some v ↦ v | None ↦ a ]) e
@@ -28,7 +22,7 @@ module _ (g : GridData) (s : Cell) (w : WaveData) (wide : w.width ≡ g.width) (
       let same = get_or_from_slice_get w.ranks (cell_number w.width c) rank far e in
       subst (λ (p : Option Cost). IsCostTo g s c p)
       (ap (λ (r : ℕ). cost_told r) same ∙ some_cost (cost_told rank) entry h)
-      (told g s c _ (right.costs c on))
+      (right.costs c on)
 
   pub are_costs : (costs : List (Option Cost)) → costs ≡ map (λ r. cost_told r) w.ranks
       → length costs ≡ w.height * w.width → AreCostsToAll g s costs

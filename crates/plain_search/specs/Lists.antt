@@ -8,16 +8,11 @@ use Rattle.root2_cost.specs.Sums.{add_costs}
 use Rattle.grid_moves.specs.declared.Cell.{Cell}
 use Rattle.grid_moves.specs.Grid.{GridData, cell_number}
 use Rattle.grid_moves.specs.Points.{estimate}
-use Rattle.grid_moves.specs.Walk.{IsWalk, IsLeastWalk, cost_of}
+use Rattle.grid_moves.specs.Walk.{IsWalk}
+pub use Rattle.cost_waves.specs.Begin.{IsLeastCost}
 use Rattle.best_first.specs.declared.found.Found.{Found}
 use Rattle.plain_search.specs.declared.lists.Listed.{Listed}
 use Rattle.plain_search.specs.declared.lists.Listed.TheVariants as listed
-
--- what a least walk from s to c costs
-pub record IsLeastCost (g : GridData) (s c : Cell) (cost : Cost) : Type 0 where
-  pub cells : List Cell
-  pub least : IsLeastWalk g s c cells
-  pub priced : cost_of (s ∷ cells) ≡ cost
 
 -- some walk leads from s to c
 pub record HasWalk (g : GridData) (s c : Cell) : Type 0 where

@@ -1,5 +1,5 @@
 -- The moves that a taken state offers: legal ones, less those that its parent has offered at no greater cost.
--- No public clause cites this module.
+-- Public clauses cite `offer_to` alone, with the `cost_to` that it stands on.
 use Rattle.std.specs.Prelude.{◌≡◌, ℕ, ◌+◌, ◌<◌, ◌≤◌, ◌^◌, true, false, not, ◌&&◌, ◌||◌, List, [], ◌∷◌, Option}
 use Rattle.std.specs.Prelude.{Some, None, if◌then◌else◌, nat_eq}
 use Rattle.root2_cost.specs.declared.Cost.{Cost}

@@ -17,13 +17,13 @@ use Rattle.pruning.proofs.Table.{turn_parity, by_test}
 use Rattle.plus_tables.specs.Entry.{table_entry}
 use Rattle.plus_tables.specs.Reading as reading
 use Rattle.plus_tables.specs.Reading.{is_clear, columns_to, rows_to, cell_after, row_part, column_part}
-use Rattle.plus_tables.specs.Reading.{straight_to}
+use Rattle.jump_plain.specs.Reach.{moves_to}
 use Rattle.plus_tables.proofs.Clear.{entry_tells, clear_run, clear_unmarked, clear_where}
 use Rattle.plus_tables.proofs.Stops.{IsGoalStop}
 
 -- so many straight moves lead to the goal
 to_goal : (d : Dir) (k : ℕ) (x goal : Cell) → is_diagonal d ≡ false → 1 ≤ k → AreMoved d k x goal
-    → k ≡ straight_to d x goal
+    → k ≡ moves_to d x goal
 to_goal N k x goal h i m = let p = m.0 in let q = m.1 in grind (arith, nat_tests)
 to_goal E k x goal h i m = let p = m.0 in let q = m.1 in grind (arith, nat_tests)
 to_goal S k x goal h i m = let p = m.0 in let q = m.1 in grind (arith, nat_tests)
@@ -34,7 +34,7 @@ to_goal SW k x goal h i m = absurd (cc)
 to_goal NW k x goal h i m = absurd (cc)
 
 -- and where they lead there, the cell is the goal
-at_goal_after : (d : Dir) (k : ℕ) (x v goal : Cell) → 1 ≤ k → k ≡ straight_to d x goal → AreMoved d k x v
+at_goal_after : (d : Dir) (k : ℕ) (x v goal : Cell) → 1 ≤ k → k ≡ moves_to d x goal → AreMoved d k x v
     → v ≡ goal
 at_goal_after N k x v goal i e m =
     let p = m.0 in let q = m.1 in same_cell v goal (grind (arith, nat_tests)) (grind (arith, nat_tests))
@@ -51,11 +51,11 @@ at_goal_after NW k x v goal i e m = absurd (omega arith)
 
 -- a straight jump comes to the goal where its line leads there
 pub straight_goal : (g : GridData) (goal x : Cell) (d : Dir) → is_free g x ≡ true → is_diagonal d ≡ false
-    → IsGoalStop g goal x d (table_entry g x d) (straight_to d x goal) true
+    → IsGoalStop g goal x d (table_entry g x d) (moves_to d x goal) true
 straight_goal g goal x d f h = record { sound = sound; complete = complete }
   where
     near : ℕ
-    near = straight_to d x goal
+    near = moves_to d x goal
 
     sound : 1 ≤ near → is_clear (table_entry g x d) near ≡ true → true ≡ true
         → StopsAfter g goal x d near

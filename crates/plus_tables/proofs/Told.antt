@@ -12,7 +12,8 @@ use Rattle.pruning.proofs.Table.{by_parity}
 use Rattle.plus_tables.specs.Entry.{table_entry}
 use Rattle.plus_tables.specs.Tables.{TablesData, AreTablesOf, entry_at}
 use Rattle.plus_tables.specs.Reading.{columns_to, rows_to, cell_after, near_to, row_part, column_part}
-use Rattle.plus_tables.specs.Reading.{sees_goal, stop_told, straight_to}
+use Rattle.plus_tables.specs.Reading.{sees_goal, stop_told}
+use Rattle.jump_plain.specs.Reach.{moves_to}
 use Rattle.plus_tables.proofs.Clear.{entry_tells}
 use Rattle.plus_tables.proofs.Stops.{stop_by-first}
 use Rattle.plus_tables.proofs.Goals.{straight_goal, diagonal_goal}
@@ -36,7 +37,7 @@ module _ (t : TablesData) (g : GridData) (right : AreTablesOf t g) (goal x : Cel
     (f : is_free g x ≡ true) (k : is_free g goal ≡ true) where
   straight_first : is_diagonal d ≡ false → IsFirstStop g goal x d (stop_told (entry_at t) x d goal)
   straight_first h = rw (h, right.right x d (free_is_inside g x f))
-      (stop_by-first g goal x d (table_entry g x d) (entry_tells g x d f) (straight_to d x goal) true
+      (stop_by-first g goal x d (table_entry g x d) (entry_tells g x d f) (moves_to d x goal) true
       (straight_goal g goal x d f h))
 
   -- the entries at a cell of the map are the grid's

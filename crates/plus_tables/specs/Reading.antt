@@ -13,6 +13,7 @@ use Rattle.pruning.specs.declared.Arrival.TheVariants.{Start, By}
 use Rattle.pruning.specs.declared.turns.Side.TheVariants.{Right, Left}
 use Rattle.pruning.specs.Turns.{quarter, rear, is_diagonal}
 use Rattle.pruning.specs.Ring.{is_allowed_on}
+use Rattle.jump_plain.specs.Reach.{moves_to}
 use Rattle.plus_tables.specs.declared.turns.Seen.{Seen}
 use Rattle.plus_tables.specs.Tables.{TablesData, is_on}
 
@@ -116,21 +117,10 @@ abbrev pub diagonal_by : (Cell → Dir → ℤ) → Cell → Dir → Cell → Op
 diagonal_by entry u d goal = stop_by (entry u d) (near_to d u goal)
     (sees_goal entry d (cell_after d (near_to d u goal) u) (columns_to d u.x goal.x) (rows_to d u.y goal.y))
 
--- the number of moves in a straight d that lead from one cell to another, or 0 where none do
-abbrev pub straight_to : Dir → Cell → Cell → ℕ
-straight_to N u v = if nat_eq u.x v.x then u.y - v.y else 0
-straight_to NE u v = 0
-straight_to E u v = if nat_eq u.y v.y then v.x - u.x else 0
-straight_to SE u v = 0
-straight_to S u v = if nat_eq u.x v.x then v.y - u.y else 0
-straight_to SW u v = 0
-straight_to W u v = if nat_eq u.y v.y then u.x - v.x else 0
-straight_to NW u v = 0
-
 -- the stop of a jump
 abbrev pub stop_told : (Cell → Dir → ℤ) → Cell → Dir → Cell → Option ℕ
 stop_told entry u d goal =
-    if is_diagonal d then diagonal_by entry u d goal else stop_by (entry u d) (straight_to d u goal) true
+    if is_diagonal d then diagonal_by entry u d goal else stop_by (entry u d) (moves_to d u goal) true
 
 -- Which cells around count as free for the rule: those to which a move is legal, as entries tell. Where no
 -- corner is cut, the walls that count after a straight move stand behind: beside the cell before, whose

@@ -2,9 +2,9 @@
 //!
 //! Each entry is told by those at the next cell, so a direction is swept from where its runs end: the five
 //! directions that lead up or along a row go row by row downwards, the three others upwards after them. A
-//! diagonal entry looks at both its components at the next cell, so a sweep keeps the entries of the row before,
-//! and for the second sweep those along a row are read back. Where rows repeat, as on open ground, so do the
-//! entries along them: these are copied from the row before.
+//! diagonal entry looks at both its components at the next cell, so a sweep keeps the entries of the row
+//! before, and for the second sweep those along a row are read back. Where rows repeat, as on open ground, so
+//! do the entries along them: these are copied from the row before.
 
 ghost use Rattle.std.specs.Prelude.{◌≡◌, ℕ, ◌+◌, ◌*◌, ◌<◌, ◌≤◌, false, IfOk, OnOk, length};
 ghost use Rattle.grid_moves.specs.Grid.{IsGrid, is_free};
@@ -59,6 +59,7 @@ fn sweep_row<T: Terrain>(t: &T, heading: Heading, y: u16, rows: &mut Rows, row: 
     ensures swept { IsRowSwept (T.grid t.now) heading y row.old row.new }
     ensures kept { (n : ℕ) → sweeps.IsNext heading y n → IsKept (T.grid t.now) heading n rows.new }
 {
+    // (by its clause the grid is whole)
     let _low = t.height();
     read_row(t, behind(heading, y), &mut rows.band.back);
     tell(t, &rows.band, &rows.last, &mut rows.forced, &mut rows.this);
@@ -77,7 +78,8 @@ fn sweep_row<T: Terrain>(t: &T, heading: Heading, y: u16, rows: &mut Rows, row: 
     rows.go_on();
 }
 
-// Sweeps one row more. In the first sweep it is appended: memory is written at once after it is touched first.
+// Sweeps one row more. In the first sweep it is appended: memory is written at once after it is touched
+// first.
 fn sweep_next<T: Terrain>(
     t: &T,
     heading: Heading,

@@ -1,7 +1,8 @@
 //! Rows of flags: which cells are free, and what the cells around one tell of moves.
 //!
-//! What belongs to column `x` stands at `x + 1`, so that each column has one before and one after it. No loop has
-//! a branch, and each direction and corner rule has code of its own, which the compiler turns into vector code.
+//! What belongs to column `x` stands at `x + 1`, so that each column has one before and one after it. No loop
+//! has a branch, and each direction and corner rule has code of its own, which the compiler turns into vector
+//! code.
 
 ghost use Rattle.std.specs.Prelude.{◌≡◌, ℕ, ◌+◌, ◌-◌, ◌<◌, ◌≤◌, false, true, length};
 ghost use Rattle.plus_tables.specs.Rows as spec;
@@ -50,7 +51,8 @@ fn force_by(
     }
 }
 
-// The same where no corner is cut; each direction that a sweep takes has code of its own, in which it is a constant.
+// The same where no corner is cut; each direction that a sweep takes has code of its own, in which it is a
+// constant.
 #[inline(never)]
 fn force_uncut(above: &[bool], here: &[bool], below: &[bool], d: Dir, forced: &mut [bool])
     requires some { 2 ≤ length forced.old }

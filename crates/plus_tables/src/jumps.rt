@@ -6,12 +6,14 @@
 //! leads on to the goal.
 
 ghost use Rattle.std.specs.Prelude.{◌≡◌, ◌+◌, ◌<◌, ◌≤◌, false, true, min};
+ghost use Rattle.jump_plain.specs.Reach as reach;
 ghost use Rattle.plus_tables.specs.Reading as spec;
 ghost use Rattle.plus_tables.specs.Tables.{entry_at, is_on};
 ghost use Rattle.pruning.specs.Turns as turns;
 
 use crate::tables::{Tables, tells_mark};
 use grid_moves::{Cell, Dir};
+use jump_plain::jump::moves_to;
 use std::sync::ledger::Ledger;
 use steps::Steps;
 
@@ -126,20 +128,6 @@ fn column_part(d: Dir) -> Dir
     }
 }
 
-// The number of moves in a straight direction that lead from one cell to another, or 0 where none do.
-#[inline(always)]
-fn straight_to(d: Dir, from: Cell, to: Cell) -> u16
-    ensures is { result ≡ spec.straight_to d from to }
-{
-    match d {
-        Dir::N if from.x == to.x => from.y.saturating_sub(to.y),
-        Dir::S if from.x == to.x => to.y.saturating_sub(from.y),
-        Dir::E if from.y == to.y => to.x.saturating_sub(from.x),
-        Dir::W if from.y == to.y => from.x.saturating_sub(to.x),
-        _ => 0,
-    }
-}
-
 // After how many moves a straight jump stops. One step.
 #[inline(always)]
 fn straight_stop<L: Ledger>(
@@ -150,11 +138,11 @@ fn straight_stop<L: Ledger>(
     steps: &mut Steps<L>,
 ) -> Option<u16>
     requires at { is_on tables.now at ≡ true }
-    ensures is { result ≡ spec.stop_by (entry_at tables.now at d) (spec.straight_to d at goal) true }
+    ensures is { result ≡ spec.stop_by (entry_at tables.now at d) (reach.moves_to d at goal) true }
     ensures step { steps.new ≡ steps.old + 1 }
 {
     let entry = tables.entry(at, d, steps);
-    let near = straight_to(d, at, goal);
+    let near = moves_to(d, at, goal);
     if 0 < near && is_clear(entry, near) {
         Some(near)
     } else {
@@ -162,8 +150,8 @@ fn straight_stop<L: Ledger>(
     }
 }
 
-// Whether the goal is at a cell in its row or column, or on the run in the component from there. It lies so many
-// columns and rows on from where the diagonal jump began. At most one step.
+// Whether the goal is at a cell in its row or column, or on the run in the component from there. It lies so
+// many columns and rows on from where the diagonal jump began. At most one step.
 #[inline(always)]
 fn sees_goal<L: Ledger>(
     tables: &Tables,
@@ -216,8 +204,10 @@ fn diagonal_stop<L: Ledger>(
     }
 }
 
-/// After how many moves a jump stops. One step or two. Each direction has code of its own, in which it is a constant.
-// Not inlined: where it is, the compiler moves the arithmetic of all eight directions before the choice among them.
+/// After how many moves a jump stops. One step or two. Each direction has code of its own, in which it is a
+/// constant.
+// Not inlined: where it is, the compiler moves the arithmetic of all eight directions before the choice among
+// them.
 #[inline(never)]
 pub fn stop_told<L: Ledger>(
     tables: &Tables,

@@ -16,8 +16,8 @@ use pruning::Side;
 use std::alloc::Global;
 use std::mem;
 
-/// The entries of a row for the directions that lead ahead, to the row that was swept last, and along the row.
-/// What belongs to column `x` stands at `x + 1`.
+/// The entries of a row for the directions that lead ahead, to the row that was swept last, and along the
+/// row. What belongs to column `x` stands at `x + 1`.
 #[derive(Drop)]
 pub struct Line {
     pub ahead: Vec<i16>,
@@ -37,8 +37,8 @@ pub struct Band {
     pub back: Vec<bool>,
 }
 
-/// All that a sweep keeps: the rows of flags, the entries of the row that was swept last, and room for those of
-/// the next and for where neighbours are forced.
+/// All that a sweep keeps: the rows of flags, the entries of the row that was swept last, and room for those
+/// of the next and for where neighbours are forced.
 #[derive(Drop)]
 pub struct Rows {
     pub band: Band,
@@ -184,8 +184,8 @@ impl Band {
         })
     }
 
-    /// Whether the four rows are the same. Then the row that was swept last lies between the same rows as this
-    /// one, and has the same entries along it.
+    /// Whether the four rows are the same. Then the row that was swept last lies between the same rows as
+    /// this one, and has the same entries along it.
     pub fn are_alike(&self) -> bool
         requires next { length self.now.next.items ≡ length self.now.far.items }
         requires here { length self.now.here.items ≡ length self.now.next.items }
@@ -229,8 +229,8 @@ impl Rows {
     }
 }
 
-// The entries of a row for one direction that leads ahead, told by the next row. `beyond` are the rows around that
-// one.
+// The entries of a row for one direction that leads ahead, told by the next row. `beyond` are the rows around
+// that one.
 #[inline(never)]
 fn tell_ahead<T: Terrain>(
     t: &T,
@@ -301,8 +301,8 @@ fn take_along(row: &[i16], east: &mut [i16], west: &mut [i16])
     }
 }
 
-/// The entries of a row for E and W: those of the row that was swept last, where both lie between the same rows;
-/// else a sweep that heads up tells them, and one that heads down reads them back.
+/// The entries of a row for E and W: those of the row that was swept last, where both lie between the same
+/// rows; else a sweep that heads up tells them, and one that heads down reads them back.
 pub fn bring_along<T: Terrain>(
     t: &T,
     heading: Heading,
@@ -345,8 +345,8 @@ pub fn bring_along<T: Terrain>(
 
 /// The entries of a row for all directions that lead ahead, told by those of the row that was swept last.
 ///
-/// A sweep that heads down sees the map upside down: what is ahead of it counts as above, and its E and W stay.
-/// No move and no forced neighbour is another one so.
+/// A sweep that heads down sees the map upside down: what is ahead of it counts as above, and its E and W
+/// stay. No move and no forced neighbour is another one so.
 #[inline(never)]
 pub fn tell<T: Terrain>(t: &T, band: &Band, last: &Line, forced: &mut [bool], this: &mut Line)
     requires whole { IsGrid (T.grid t.now) }

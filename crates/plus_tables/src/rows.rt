@@ -1,8 +1,8 @@
 //! Rows of entries, each told by those at the next cells: in another row, or further on in this one.
 //!
-//! What belongs to column `x` stands at `x + 1`, as in rows of flags. Across rows no entry rests on another of
-//! its row: these loops have no branch, and each direction has code of its own, which the compiler turns into
-//! vector code. Along a row each rests on the one before.
+//! What belongs to column `x` stands at `x + 1`, as in rows of flags. Across rows no entry rests on another
+//! of its row: these loops have no branch, and each direction has code of its own, which the compiler turns
+//! into vector code. Along a row each rests on the one before.
 
 ghost use Rattle.std.specs.Prelude.{◌≡◌, ℕ, ◌+◌, ◌-◌, ◌<◌, ◌≤◌, true, length};
 ghost use Rattle.plus_tables.specs.Local as local;

@@ -17,7 +17,8 @@ use steps::Steps;
 
 /// The table entries of a grid, eight for each cell.
 ///
-/// They keep the sides and the corner rule of the grid. Contracts see these and the entries, as whole numbers.
+/// They keep the sides and the corner rule of the grid. Contracts see these and the entries, as whole
+/// numbers.
 #[derive(Drop)]
 pub struct Tables {
     width: u16,
@@ -242,7 +243,9 @@ impl Tables {
         ensures changed { result ≡ true → entry_at self.old c d ≢ table_entry (T.grid t.now) c d }
         ensures step { steps.new ≡ steps.old + 1 }
     {
+        // (by its clause the grid is whole)
         let _whole = t.width();
+        // (with a field that is read comes what holds of all tables)
         let _ = &self.width;
         steps.tick();
         let before = self.get(c, d);

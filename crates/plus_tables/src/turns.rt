@@ -1,8 +1,9 @@
 //! The allowed directions, read off tables.
 //!
-//! An entry is 0 exactly where no move is legal. So those at a cell tell which moves are legal, and which of the
-//! cells beside it are blocked, as a straight move is legal where its end is free. Where no corner is cut, the
-//! walls that count after a straight move stand behind the cell: the entries at the cell before tell them.
+//! An entry is 0 exactly where no move is legal. So those at a cell tell which moves are legal, and which of
+//! the cells beside it are blocked, as a straight move is legal where its end is free. Where no corner is
+//! cut, the walls that count after a straight move stand behind the cell: the entries at the cell before tell
+//! them.
 
 ghost use Rattle.std.specs.Prelude.{◌≡◌, ◌+◌, ◌<◌, Bool, false, true};
 ghost use Rattle.grid_moves.specs.Grid.{AreSides};

@@ -8,8 +8,8 @@ use Rattle.pruning.specs.declared.Arrival.{Arrival}
 use Rattle.pruning.specs.declared.Arrival.TheVariants.{Start, By}
 
 -- no corner is cut, or one may be
-abbrev pub corner_of : ℕ → Corner
-corner_of n = if nat_eq n 0 then Never else One
+abbrev pub rule_of_number : ℕ → Corner
+rule_of_number n = if nat_eq n 0 then Never else One
 
 -- by a move in the direction of this number, or the start
 abbrev pub arrival_of : ℕ → Arrival

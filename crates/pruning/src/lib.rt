@@ -3,8 +3,8 @@
 //!
 //! The rule is that of Harabor and Grastien's Jump Point Search (AAAI 2011), and, on a grid where no
 //! corner is cut, its form of SoCS 2012. `allowed`, `allowed_word` and `forced` are the rule on a grid;
-//! `allowed_on` and `forced_on` are the same, told by the cells around a cell. `JumpSource` is what a search asks of
-//! whatever finds the stops; `laws` has what makes such a search right.
+//! `allowed_on` and `forced_on` are the same, told by the cells around a cell. `JumpSource` is what a search
+//! asks of whatever finds the stops; `laws` has what makes such a search right.
 #![tactic(auto)]
 
 pub mod laws;
@@ -15,7 +15,7 @@ mod turns;
 
 use grid_moves::Dir;
 pub use packed::{Packed, Split};
-pub use rule::{allowed, allowed_on, allowed_word, corner_of, forced, forced_on, is_dir};
+pub use rule::{allowed, allowed_on, allowed_word, forced, forced_on, is_dir, rule_of_number};
 pub use source::JumpSource;
 pub use turns::{Side, is_diagonal, quarter, rear, turn};
 

@@ -118,11 +118,11 @@ fn put_allowed(rule: Corner, ring: Ring, by: Arrival, d: Dir, others: Packed) ->
     }
 }
 
-/// The rule of this number, so that it can be a constant of a function, which has code of its own for each: 0 is
-/// `never`, any other `one`.
+/// The rule of this number, so that it can be a constant of a function, which has code of its own for each: 0
+/// is `never`, any other `one`.
 #[inline(always)]
-pub fn corner_of(number: usize) -> Corner
-    ensures { result ≡ numbered.corner_of number }
+pub fn rule_of_number(number: usize) -> Corner
+    ensures { result ≡ numbered.rule_of_number number }
 {
     match number {
         0 => Corner::Never,
@@ -151,9 +151,9 @@ fn arrival_of(number: usize) -> Arrival
 // All directions that are allowed, for a rule and an arrival that the compiler knows.
 fn allowed_of<const RULE: usize, const BY: usize>(ring: Ring) -> Packed
     ensures { result ≡ filter
-        (told.is_allowed_on (numbered.corner_of RULE) ring (numbered.arrival_of BY)) moves.all_dirs }
+        (told.is_allowed_on (numbered.rule_of_number RULE) ring (numbered.arrival_of BY)) moves.all_dirs }
 {
-    let rule = corner_of(RULE);
+    let rule = rule_of_number(RULE);
     let by = arrival_of(BY);
     let nw = put_allowed(rule, ring, by, Dir::NW, Packed::new());
     let w = put_allowed(rule, ring, by, Dir::W, nw);
@@ -168,7 +168,7 @@ fn allowed_of<const RULE: usize, const BY: usize>(ring: Ring) -> Packed
 // The same, with code of its own for each arrival.
 #[inline(always)]
 fn allowed_by<const RULE: usize>(ring: Ring, by: Arrival) -> Packed
-    ensures { result ≡ filter (told.is_allowed_on (numbered.corner_of RULE) ring by) moves.all_dirs }
+    ensures { result ≡ filter (told.is_allowed_on (numbered.rule_of_number RULE) ring by) moves.all_dirs }
 {
     match by {
         Arrival::Start => allowed_of::<RULE, 8>(ring),
@@ -234,6 +234,7 @@ pub fn allowed_word<T: Terrain>(t: &T, at: Cell, by: Arrival) -> Packed
     requires free { IsTrue (is_free (T.grid t.now) at) }
     ensures rule { result ≡ spec.allowed_dirs (T.grid t.now) at by }
 {
+    // (by its clause the grid is whole)
     let _whole = t.width();
     if is_inner(t, at) {
         allowed_around(t, at, by)
@@ -265,8 +266,8 @@ pub fn forced_on(rule: Corner, ring: Ring, d: Dir) -> bool
     is_forced_on(rule, ring, d, Side::Right) | is_forced_on(rule, ring, d, Side::Left)
 }
 
-// The same on a grid. The compiler knows the rule, and where it knows `d` too it leaves out the cells that are not
-// asked for.
+// The same on a grid. The compiler knows the rule, and where it knows `d` too it leaves out the cells that
+// are not asked for.
 #[inline(always)]
 fn forced_around<T: Terrain>(t: &T, rule: Corner, at: Cell, d: Dir) -> bool
     requires free { IsTrue (is_free (T.grid t.now) at) }
@@ -298,14 +299,15 @@ fn forced_by<T: Terrain>(t: &T, rule: Corner, at: Cell, d: Dir) -> bool
 }
 
 /// Whether, after a move in `d` to this free cell, a neighbour is forced. For a straight `d` that is: whether
-/// the cell is marked for it. A function of its own: where it is asked, which is seldom, its many reads would keep
-/// the loop around from being inlined.
+/// the cell is marked for it. A function of its own: where it is asked, which is seldom, its many reads would
+/// keep the loop around from being inlined.
 #[inline(never)]
 pub fn forced<T: Terrain>(t: &T, at: Cell, d: Dir) -> bool
     requires free { IsTrue (is_free (T.grid t.now) at) }
     ensures forces { result ≡ marks.is_forced (T.grid t.now) at d }
     ensures marked { turns.is_diagonal d ≡ false → result ≡ first.is_marked (T.grid t.now) at d }
 {
+    // (by its clause the grid is whole)
     let _whole = t.width();
     match t.corner() {
         Corner::Never => forced_by(t, Corner::Never, at, d),

@@ -26,7 +26,8 @@ fn both_of<L: Ledger>(alloc: Global, grid: &Grid, blank: Blank) -> Result<(Boxes
     build_both(alloc, grid, &mut Steps::<L>::new(blank))
 }
 
-// Of a map of two by two cells whose lower right one is blocked: four runs, as the first cell of a row is its own.
+// Of a map of two by two cells whose lower right one is blocked: four runs, as the first cell of a row is its
+// own.
 #[test]
 fn both_come_from_one_pass_a_cell(rt: HostRuntime) -> Result<(), Fail> {
     let grid = Grid::of_cells(rt.alloc(), 2, 2, b"...@", Corner::Never)?;

@@ -95,7 +95,8 @@ fn rows_are_cut_into_runs(rt: HostRuntime) -> Result<(), Fail> {
     Ok(())
 }
 
-// Round the pillar east comes before south, also where its corners may be passed. Nothing leads to a cell cut off.
+// Round the pillar east comes before south, also where its corners may be passed. Nothing leads to a cell cut
+// off.
 #[test]
 fn first_moves_lead_along_least_walks(rt: HostRuntime) -> Result<(), Fail> {
     let (from, to) = (cell(0, 0), cell(2, 2));

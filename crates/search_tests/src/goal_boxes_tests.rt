@@ -80,8 +80,8 @@ fn boxes_of_a_corner_overlap(rt: HostRuntime) -> Result<(), Fail> {
     Ok(())
 }
 
-// On `...@/.@@./....` the goal lies in the box downwards alone: the run goes round, and the cells to the right
-// of the start are never offered.
+// On `...@/.@@./....` the goal lies in the box downwards alone: the run goes round, and the cells to the
+// right of the start are never offered.
 #[test]
 fn moves_away_from_the_goal_are_left_out(rt: HostRuntime) -> Result<(), Fail> {
     let grid = Grid::of_cells(rt.alloc(), 4, 3, b"...@.@@.....", Corner::Never)?;

@@ -100,8 +100,8 @@ fn cell_bytes(cell: &[i16]) -> [u8; 16]
     bytes
 }
 
-/// Fills the bytes with those of the entries, two for each: for who writes a file in pieces. A file is its head
-/// (`head_bytes`), the entries of the land grid's tables, and those of the water grid's.
+/// Fills the bytes with those of the entries, two for each: for who writes a file in pieces. A file is its
+/// head (`head_bytes`), the entries of the land grid's tables, and those of the water grid's.
 #[inline(always)]
 pub fn fill_entries(entries: &[i16], bytes: &mut [u8])
     requires { length bytes.old ≡ 2 * length entries.now }

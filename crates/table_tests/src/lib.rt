@@ -1,4 +1,5 @@
-//! Tests of the crates that keep JPS+ tables, mend them, and write and read them, and of the sessions over them.
+//! Tests of the crates that keep JPS+ tables, mend them, and write and read them, and of the sessions over
+//! them.
 //!
 //! They stand apart from those crates, as a crate is proved once more with the tests that stand in it.
 #![tactic(auto)]

@@ -1,5 +1,5 @@
-//! Tests of the crates that read and write texts, and of costs: a file for each crate, and one of certificates of
-//! which each byte is changed.
+//! Tests of the crates that read and write texts, and of costs: a file for each crate, and one of
+//! certificates of which each byte is changed.
 //!
 //! They stand apart from those crates, as a crate is proved once more with the tests that stand in it.
 #![tactic(auto)]

@@ -1,7 +1,7 @@
 //! Those who answer queries on a map that stays as it is.
 //!
-//! A session answers by its engine. On a small map what is kept of all its cells answers too: goal boxes, by a
-//! search that goes by them, or first moves, by following them.
+//! A session answers by its engine. On a small map what is kept of all its cells answers too: goal boxes, by
+//! a search that goes by them, or first moves, by following them.
 
 ghost use Rattle.std.specs.Prelude.{◌≡◌, ◌≤◌, ◌<◌, IfOk, OnOk, true};
 ghost use Rattle.edit_replay.specs.Counting.{RoseByStates, RoseWithin};

@@ -34,8 +34,8 @@ const PIECE: usize = 1 << 16;
 ///                |   their lines written   ||feeder |
 /// ```
 ///
-/// A turn takes some bytes more. What they complete is answered and written before the next turn, so between turns no
-/// whole line waits. Where nothing more comes in, what waits is the last line.
+/// A turn takes some bytes more. What they complete is answered and written before the next turn, so between
+/// turns no whole line waits. Where nothing more comes in, what waits is the last line.
 pub fn hear<I: Source, O: Sink, L: Ledger>(
     alloc: Global,
     job: &mut Answers,
@@ -58,7 +58,8 @@ pub fn hear<I: Source, O: Sink, L: Ledger>(
     }
 }
 
-// One turn: reads once, and answers what is whole with the bytes that came in. The status, where nothing more came in.
+// One turn: reads once, and answers what is whole with the bytes that came in. The status, where nothing more
+// came in.
 fn turn<I: Source, O: Sink, L: Ledger>(
     alloc: Global,
     job: &mut Answers,
@@ -70,7 +71,8 @@ fn turn<I: Source, O: Sink, L: Ledger>(
 ) -> Result<Option<u8>, Stop>
     requires few { feeder.old.taken ≤ 2 ^ 26 }
     requires room { 0 < length buffer.old.items }
-    // All that was taken so far is answered, but for a line that is not whole; or all of it, at the end; or that stops.
+    // All that was taken so far is answered, but for a line that is not whole; or all of it, at the end; or
+    // that stops.
     ensures heard { HearsTurn job.old job.new feeder.old feeder.new (I.inflow input.old) (I.inflow input.new)
         buffer.old.items buffer.new.items (O.outflow out.old) (O.outflow out.new) result }
     ensures rose { IfOk result (RiseTurn job.old job.new feeder.old feeder.new (I.inflow input.old).left

@@ -1,5 +1,5 @@
-//! What answers begin with: what is made of a map for the picked engine. The tables of a session are built, or loaded
-//! from a file where one is named.
+//! What answers begin with: what is made of a map for the picked engine. The tables of a session are built,
+//! or loaded from a file where one is named.
 //!
 //! A table file is read behind the map and before all other files. Its text is given back as soon as it is
 //! judged, before the session's own memory is taken.
@@ -66,8 +66,8 @@ fn open_loaded<F: Files>(
     Ok(session)
 }
 
-/// What a call begins with, made of the map of the first file, for a call with this file and, where one is named, with
-/// a table file behind it.
+/// What a call begins with, made of the map of the first file, for a call with this file and, where one is
+/// named, with a table file behind it.
 pub fn open_basis<F: Files>(
     alloc: Global,
     files: &mut F,
@@ -92,8 +92,8 @@ pub fn open_basis<F: Files>(
     }
 }
 
-/// The same, and what the last file is read as, for a call with these files and this one. The last one is read only
-/// where those before it are accepted; `context` says what it is judged by.
+/// The same, and what the last file is read as, for a call with these files and this one. The last one is
+/// read only where those before it are accepted; `context` says what it is judged by.
 pub fn open_basis_and<F: Files, T: Text>(
     alloc: Global,
     files: &mut F,

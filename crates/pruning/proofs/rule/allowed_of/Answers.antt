@@ -11,7 +11,7 @@ use Rattle.pruning.proofs.rule.allowed_of.Goals as goal
 pub returns : goal.returns
 returns g c =
     let gathered : c.put_allowed.result ≡ filter
-    (is_allowed_on c.corner_of-rule.result c.args.ring c.arrival_of-by.result) all_dirs =
+    (is_allowed_on c.rule_of_number-rule.result c.args.ring c.arrival_of-by.result) all_dirs =
     c.put_allowed.ensures.kept (NE ∷ E ∷ SE ∷ S ∷ SW ∷ W ∷ NW ∷ [])
     (c.put_allowed-ne.ensures.kept (E ∷ SE ∷ S ∷ SW ∷ W ∷ NW ∷ [])
     (c.put_allowed-e.ensures.kept (SE ∷ S ∷ SW ∷ W ∷ NW ∷ [])
@@ -20,6 +20,6 @@ returns g c =
     (c.put_allowed-sw.ensures.kept (W ∷ NW ∷ [])
     (c.put_allowed-w.ensures.kept (NW ∷ []) (c.put_allowed-nw.ensures.kept [] c.new.ensures))))))) in
     subst (λ (r : Corner). c.put_allowed.result ≡ filter
-    (is_allowed_on r c.args.ring (arrival_of g.row.BY)) all_dirs) c.corner_of-rule.ensures
+    (is_allowed_on r c.args.ring (arrival_of g.row.BY)) all_dirs) c.rule_of_number-rule.ensures
     (subst (λ (a : Arrival). c.put_allowed.result ≡ filter
-    (is_allowed_on c.corner_of-rule.result c.args.ring a) all_dirs) c.arrival_of-by.ensures gathered)
+    (is_allowed_on c.rule_of_number-rule.result c.args.ring a) all_dirs) c.arrival_of-by.ensures gathered)

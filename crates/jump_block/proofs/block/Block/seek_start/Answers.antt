@@ -1,5 +1,5 @@
 use Rattle.std.proofs.Common.{◌≡◌, ◌<◌, ℕ, ◌+◌, ◌-◌, ◌*◌, ◌/◌, ◌%◌, refl, sym, subst, arith, bit_and}
-use Rattle.bit_grid.specs.declared.lines.Three.{Three}
+use Rattle.bit_grid.specs.declared.lines.ThreeWords.{ThreeWords}
 use Rattle.jump_block.specs.Trail.{begun}
 use Rattle.jump_block.specs.Word.{AreWordsOf, IsBlockOf, IsFound, IsAhead, edge_before, nth_word}
 use Rattle.jump_block.specs.Seek.{HasPassed}
@@ -23,7 +23,7 @@ returns-then-found-ne0 c = λ t block.
     let low : place < 64 = omega arith in
     let high : w < 8 = omega arith in
     let there = subst (λ (f : ℕ). IsBlockOf t c.args.way f c.args.start 0 c.args.self.now) from block in
-    let own = subst (λ (v : Three). AreWordsOf t c.args.way (c.args.start + w * 64 + place)
+    let own = subst (λ (v : ThreeWords). AreWordsOf t c.args.way (c.args.start + w * 64 + place)
     (c.args.start + w * 64) v) (sym c.words.ensures)
     (word_there t c.args.way (c.args.start + w * 64 + place) c.args.start w c.args.self.now there high) in
     let are = c.begun-words.ensures t c.args.way (c.args.start + w * 64) own in
@@ -42,7 +42,7 @@ returns c = λ t block.
     let low : place < 64 = omega arith in
     let high : w < 8 = omega arith in
     let there = subst (λ (f : ℕ). IsBlockOf t c.args.way f c.args.start 0 c.args.self.now) from block in
-    let own = subst (λ (v : Three). AreWordsOf t c.args.way (c.args.start + w * 64 + place)
+    let own = subst (λ (v : ThreeWords). AreWordsOf t c.args.way (c.args.start + w * 64 + place)
     (c.args.start + w * 64) v) (sym c.words.ensures)
     (word_there t c.args.way (c.args.start + w * 64 + place) c.args.start w c.args.self.now there high) in
     let are = c.begun-words.ensures t c.args.way (c.args.start + w * 64) own in
