@@ -105,7 +105,7 @@ pub fn is_open<T: Terrain>(t: &T, c: Cell, d: Dir) -> bool
     requires row { c.y < 65535 }
     ensures { result ≡ spec.is_open (T.grid t.now) c d }
 {
-    // (by its clause the grid is whole)
+    // (by the clause of `width` the grid is whole)
     let _whole = t.width();
     t.free(beyond(c, d))
 }

@@ -54,8 +54,8 @@ near_read free line word w middle before after =
       after = λ j h. after j h ∙ ap (λ (p : ℕ). free (line + 1) (p + j)) same;
     }
 
-pub near_again : (free : ℕ → ℕ → Bool) (line place : ℕ) (w : ThreeWords) → AreNear free line (place / 64 * 64) w
-    → AreNear free line place w
+pub near_again : (free : ℕ → ℕ → Bool) (line place : ℕ) (w : ThreeWords)
+    → AreNear free line (place / 64 * 64) w → AreNear free line place w
 near_again free line place w is =
     let same : place / 64 * 64 / 64 * 64 ≡ place / 64 * 64 = omega arith in
     record {

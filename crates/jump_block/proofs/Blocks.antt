@@ -323,8 +323,9 @@ module _ (t : Trail) (rule : Corner) (way : Way) (base place found halting over 
   word_clear none = found_none (begun rule t) way (base + place) base 0 words.middle found word_found none
 
 -- the block in which a scan starts
-module _ (t : Trail) (rule : Corner) (way : Way) (start place w found halting over : ℕ) (words last : ThreeWords)
-    (b : Block) (block : IsBlockOf t way (start + w * 64 + place) start 0 b) (low : place < 64) (high : w < 8)
+module _ (t : Trail) (rule : Corner) (way : Way) (start place w found halting over : ℕ)
+    (words last : ThreeWords) (b : Block) (block : IsBlockOf t way (start + w * 64 + place) start 0 b)
+    (low : place < 64) (high : w < 8)
     (are : AreWordsOf (begun rule t) way (start + w * 64 + place) (start + w * 64) words)
     (told : (t : Trail) (from base : ℕ) → AreWordsOf t way from base words
     → AreEdgesOf t way from (near way base) last

@@ -193,7 +193,8 @@ module _ (way : Way) (from index next : ℕ) (is : next ≡ next_block way index
   pub ahead_next : IsAhead way from (edge_before way (next * 512) 0)
   ahead_next = rw edges_next (edge_ahead way from index on_way)
 
-  pub passed_next : (t : Trail) (last : ThreeWords) → HasPassed t way from (edge_before way (index * 512) 8) last
+  pub passed_next : (t : Trail) (last : ThreeWords)
+      → HasPassed t way from (edge_before way (index * 512) 8) last
       → HasPassed t way from (edge_before way (next * 512) 0) last
   passed_next t last passed = rw edges_next passed
 

@@ -30,7 +30,7 @@ impl<'a, T: Terrain> JumpSource for PlainJumps<'a, T> {
     }
 
     fn stop<L: Ledger>(&self, at: Cell, d: Dir, goal: Cell, _steps: &mut Steps<L>) -> Option<u16> {
-        // (by its clause the grid is whole)
+        // (by the clause of `width` the grid is whole)
         let _whole = self.terrain.width();
         first_stop(self.terrain, at, d, goal)
     }

@@ -35,8 +35,8 @@ fn cost_to(d: Dir) -> Cost
     }
 }
 
-/// The offer of the move in direction `d` to the cell `to`, from the node of number `id` whose cost has this
-/// rank. That `to` is the cell ahead is not looked at.
+/// The offer of the move in direction `d` to the cell `to`, from the node of number `id`, whose cost has the
+/// rank `rank`. Nothing checks that `to` is the cell ahead.
 #[inline(always)]
 pub fn offer_to(id: u32, rank: u64, to: Cell, d: Dir) -> Offer
     requires { rank < 2 ^ 62 }

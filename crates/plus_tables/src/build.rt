@@ -59,7 +59,7 @@ fn sweep_row<T: Terrain>(t: &T, heading: Heading, y: u16, rows: &mut Rows, row: 
     ensures swept { IsRowSwept (T.grid t.now) heading y row.old row.new }
     ensures kept { (n : ℕ) → sweeps.IsNext heading y n → IsKept (T.grid t.now) heading n rows.new }
 {
-    // (by its clause the grid is whole)
+    // (read for its bound, as a height is a `u16`)
     let _low = t.height();
     read_row(t, behind(heading, y), &mut rows.band.back);
     tell(t, &rows.band, &rows.last, &mut rows.forced, &mut rows.this);

@@ -243,7 +243,7 @@ impl Tables {
         ensures changed { result ≡ true → entry_at self.old c d ≢ table_entry (T.grid t.now) c d }
         ensures step { steps.new ≡ steps.old + 1 }
     {
-        // (by its clause the grid is whole)
+        // (by the clause of `width` the grid is whole)
         let _whole = t.width();
         // (with a field that is read comes what holds of all tables)
         let _ = &self.width;

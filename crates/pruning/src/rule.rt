@@ -234,7 +234,7 @@ pub fn allowed_word<T: Terrain>(t: &T, at: Cell, by: Arrival) -> Packed
     requires free { IsTrue (is_free (T.grid t.now) at) }
     ensures rule { result ≡ spec.allowed_dirs (T.grid t.now) at by }
 {
-    // (by its clause the grid is whole)
+    // (by the clause of `width` the grid is whole)
     let _whole = t.width();
     if is_inner(t, at) {
         allowed_around(t, at, by)
@@ -307,7 +307,7 @@ pub fn forced<T: Terrain>(t: &T, at: Cell, d: Dir) -> bool
     ensures forces { result ≡ marks.is_forced (T.grid t.now) at d }
     ensures marked { turns.is_diagonal d ≡ false → result ≡ first.is_marked (T.grid t.now) at d }
 {
-    // (by its clause the grid is whole)
+    // (by the clause of `width` the grid is whole)
     let _whole = t.width();
     match t.corner() {
         Corner::Never => forced_by(t, Corner::Never, at, d),
