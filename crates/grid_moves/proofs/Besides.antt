@@ -5,7 +5,7 @@ use Rattle.std.specs.Prelude.{Option, Some, None, is_some, option_and_then, unwr
 use Rattle.std.proofs.lemmas.Bool.Decides.{nat_tests}
 use Rattle.grid_moves.specs.declared.Cell.{Cell}
 use Rattle.grid_moves.specs.declared.Corner.{Corner}
-use Rattle.grid_moves.specs.declared.Corner.TheVariants.{Never, One}
+use Rattle.grid_moves.specs.declared.Corner.TheVariants.{Never, One, Both}
 use Rattle.grid_moves.specs.declared.Dir.{Dir}
 use Rattle.grid_moves.specs.declared.Dir.TheVariants.{N, NE, E, SE, S, SW, W, NW}
 use Rattle.grid_moves.specs.declared.around.Around.{Around}
@@ -74,10 +74,12 @@ ahead_free g c v d false e h = absurd (cc)
 pub passable-turned : (r : Corner) (a b : Bool) → is_passable r a b ≡ is_passable r b a
 passable-turned Never a b = grind arith
 passable-turned One a b = grind arith
+passable-turned Both a b = refl
 
 passable-source : (r : Corner) (b : Bool) → (b && is_passable r true b) ≡ b
 passable-source Never b = grind arith
 passable-source One b = grind arith
+passable-source Both b = grind arith
 
 neighbours : (x y z t : ℕ) → x ≤ z + 1 → z ≤ x + 1 → y ≤ t + 1 → t ≤ y + 1 → ((x ≡ z) → (y ≡ t) → ⊥)
     → are_neighbours (cell x y) (cell z t) ≡ true

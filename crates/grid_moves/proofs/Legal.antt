@@ -1,11 +1,13 @@
 -- What the test of a legal move says.
 use Rattle.std.proofs.Common.{◌≡◌, ℕ, ◌+◌, ◌<◌, ◌≤◌, arith, Bool, true, false, refl, ap, ◌∙◌, ◌&&◌}
+use Rattle.std.proofs.Common.{◌||◌}
 use Rattle.std.proofs.lemmas.Bool.Decides.{nat_tests}
 use Rattle.grid_moves.specs.declared.Cell.{Cell}
 use Rattle.grid_moves.specs.declared.Corner.{Corner}
-use Rattle.grid_moves.specs.declared.Corner.TheVariants.{Never, One}
+use Rattle.grid_moves.specs.declared.Corner.TheVariants.{Never, One, Both}
 use Rattle.grid_moves.specs.Grid.{GridData, is_free}
 use Rattle.grid_moves.specs.Move.{is_legal, is_same, are_neighbours, corner_of, is_passable}
+use Rattle.grid_moves.specs.Move.{may_cut}
 
 pub record IsLegal (g : GridData) (u v : Cell) : Type 0 where
   pub source : is_free g u ≡ true
@@ -25,6 +27,26 @@ and_both false b e = absurd (cc)
 pub passable-both : (rule : Corner) → is_passable rule true true ≡ true
 passable-both Never = refl
 passable-both One = refl
+passable-both Both = refl
+
+-- where no corner may be cut both cells are free
+pub passable-uncut : (rule : Corner) → may_cut rule ≡ false → (a b : Bool) → is_passable rule a b ≡ (a && b)
+passable-uncut Never e a b = refl
+passable-uncut One e a b = absurd (cc)
+passable-uncut Both e a b = absurd (cc)
+
+-- and where one may be, one that is free is enough
+pub passable-cut : (rule : Corner) → may_cut rule ≡ true → (a b : Bool) → (a || b) ≡ true
+    → is_passable rule a b ≡ true
+passable-cut Never e a b h = absurd (cc)
+passable-cut One e a b h = h
+passable-cut Both e a b h = refl
+
+-- by whether a corner may be cut
+pub by_cut : {P : Type 0} (rule : Corner) → (may_cut rule ≡ false → P) → (may_cut rule ≡ true → P) → P
+by_cut Never f k = f refl
+by_cut One f k = k refl
+by_cut Both f k = k refl
 
 -- what the test of neighbours says
 pub record AreNeighbours (u v : Cell) : Type 0 where

@@ -7,6 +7,10 @@ use Rattle.grid_moves.specs.Grid.{GridData, grid_of}
 abbrev pub pillar : Corner → GridData
 pillar corner = grid_of 3 3 (codes "....@....") corner
 
+-- the map `.@/@.`
+abbrev pub touch : Corner → GridData
+touch corner = grid_of 2 2 (codes ".@@.") corner
+
 -- the map `...../.@...`
 abbrev pub notch : Corner → GridData
 notch corner = grid_of 5 2 (codes "......@...") corner

@@ -1,5 +1,6 @@
 -- Legal moves: eight directions, and a corner rule.
--- No corner is cut: Harabor and Grastien, SoCS 2012. One blocked cell may be passed: their AAAI 2011.
+-- No corner is cut: Harabor and Grastien, SoCS 2012. One blocked cell may be passed: their AAAI 2011. Two may:
+-- what most game libraries do unless told otherwise.
 use Rattle.std.specs.Prelude.{◌≡◌, ℕ, zero, suc, ◌+◌, Option, Some, None, Bool, true, false, nat_le, nat_eq}
 use Rattle.std.specs.Prelude.{not, ◌&&◌, ◌||◌, refl, List, [], ◌∷◌, if◌then◌else◌, option_and_then, unwrap_or}
 use Rattle.std.specs.Prelude.{codes}
@@ -8,7 +9,7 @@ use Rattle.grid_moves.specs.declared.Cell.{Cell}
 use Rattle.grid_moves.specs.declared.Dir.{Dir}
 use Rattle.grid_moves.specs.declared.Dir.TheVariants.{N, NE, E, SE, S, SW, W, NW}
 use Rattle.grid_moves.specs.declared.Corner.{Corner}
-use Rattle.grid_moves.specs.declared.Corner.TheVariants.{Never, One}
+use Rattle.grid_moves.specs.declared.Corner.TheVariants.{Never, One, Both}
 use Rattle.grid_moves.specs.Grid.{GridData, grid_of, is_free, is_inside}
 use Rattle.grid_moves.specs.Examples.{pillar}
 
@@ -29,10 +30,19 @@ abbrev pub corner_of : Cell → Cell → Cell
 corner_of u v = record { x = u.x; y = v.y }
 
 -- of the two cells beside a diagonal move, told whether each is free: both have to be free where no corner
--- may be cut, and at least one where one blocked cell may be passed
+-- may be cut, at least one where one blocked cell may be passed, and none where two may
 abbrev pub is_passable : Corner → Bool → Bool → Bool
 is_passable Never one other = one && other
 is_passable One one other = one || other
+is_passable Both one other = true
+
+-- a corner may be cut: a diagonal move may pass one blocked cell
+abbrev pub may_cut : Corner → Bool
+may_cut rule = is_passable rule true false
+
+-- a diagonal move may pass between two blocked cells
+abbrev pub may_slip : Corner → Bool
+may_slip rule = is_passable rule false false
 
 -- the move is legal: from a free cell to a free neighbour, and the corner rule lets it pass between the other
 -- two cells of the box that they span. For a straight move these are its two ends.
@@ -131,12 +141,15 @@ is_open g c d = is_free_cell g (ahead d c)
 abbrev pub legal_ahead : GridData → Cell → Dir → Option Cell
 legal_ahead g c d = option_and_then (λ v. if is_legal g c v then Some v else None) (ahead d c)
 
--- a straight move along the pillar is legal under both rules
+-- a straight move along the pillar is legal under each rule
 pub along_the_pillar : is_legal (pillar Never) (record { x = 0; y = 0 }) (record { x = 1; y = 0 }) ≡ true
 along_the_pillar = refl
 
 pub along_the_pillar-one : is_legal (pillar One) (record { x = 0; y = 0 }) (record { x = 1; y = 0 }) ≡ true
 along_the_pillar-one = refl
+
+pub along_the_pillar-both : is_legal (pillar Both) (record { x = 0; y = 0 }) (record { x = 1; y = 0 }) ≡ true
+along_the_pillar-both = refl
 
 -- a diagonal move past its corner is legal where one blocked cell may be passed
 pub past_the_pillar : is_legal (pillar Never) (record { x = 1; y = 0 }) (record { x = 2; y = 1 }) ≡ false
@@ -145,7 +158,10 @@ past_the_pillar = refl
 pub past_the_pillar-one : is_legal (pillar One) (record { x = 1; y = 0 }) (record { x = 2; y = 1 }) ≡ true
 past_the_pillar-one = refl
 
--- on `.@/@.` the move leads between two blocked cells, which no rule lets pass
+pub past_the_pillar-both : is_legal (pillar Both) (record { x = 1; y = 0 }) (record { x = 2; y = 1 }) ≡ true
+past_the_pillar-both = refl
+
+-- on `.@/@.` the move leads between two blocked cells, which one rule alone lets pass
 pub corner_touch : is_legal (grid_of 2 2 (codes ".@@.") Never) (record { x = 0; y = 0 })
     (record { x = 1; y = 1 }) ≡ false
 corner_touch = refl
@@ -153,6 +169,10 @@ corner_touch = refl
 pub corner_touch-one : is_legal (grid_of 2 2 (codes ".@@.") One) (record { x = 0; y = 0 })
     (record { x = 1; y = 1 }) ≡ false
 corner_touch-one = refl
+
+pub corner_touch-both : is_legal (grid_of 2 2 (codes ".@@.") Both) (record { x = 0; y = 0 })
+    (record { x = 1; y = 1 }) ≡ true
+corner_touch-both = refl
 
 -- on the open map `../..` the same move is legal
 pub open_diagonal : legal_ahead (grid_of 2 2 (codes "....") Never) (record { x = 0; y = 0 }) SE

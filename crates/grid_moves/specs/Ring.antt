@@ -1,7 +1,7 @@
 -- The cells around a cell, told by the direction to them, and the moves that they tell of.
 use Rattle.std.specs.Prelude.{◌≡◌, Bool, true, false, not, ◌&&◌, refl}
 use Rattle.grid_moves.specs.declared.Corner.{Corner}
-use Rattle.grid_moves.specs.declared.Corner.TheVariants.{Never, One}
+use Rattle.grid_moves.specs.declared.Corner.TheVariants.{Never, One, Both}
 use Rattle.grid_moves.specs.declared.Dir.{Dir}
 use Rattle.grid_moves.specs.declared.Dir.TheVariants.{N, NE, E, SE, S, SW, W, NW}
 use Rattle.grid_moves.specs.declared.ring.Ring.{Ring}
@@ -56,3 +56,13 @@ no_corner_is_cut = refl
 
 pub one_may_be : leads_on One two_free NE ≡ true
 one_may_be = refl
+
+-- where it is free alone, the diagonal to it is legal where two blocked cells may be passed
+abbrev one_free : Ring
+one_free = record { n = false; ne = true; e = false; se = false; s = false; sw = false; w = false; nw = false }
+
+pub one_blocks_both : leads_on One one_free NE ≡ false
+one_blocks_both = refl
+
+pub two_may_be : leads_on Both one_free NE ≡ true
+two_may_be = refl

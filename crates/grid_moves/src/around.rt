@@ -70,6 +70,7 @@ impl Passages {
         match rule {
             Corner::Never => Passages::by(Corner::Never, n, e, s, w),
             Corner::One => Passages::by(Corner::One, n, e, s, w),
+            Corner::Both => Passages::by(Corner::Both, n, e, s, w),
         }
     }
 }

@@ -2,7 +2,7 @@
 //!
 //! Eight directions, and a corner rule for the diagonal ones: they need both cells beside them
 //! free, as in Harabor and Grastien's work from SoCS 2012 on, or at least one of the two, as in their paper
-//! of AAAI 2011. A map has two grids, its land and its water. The definitions that every answer of
+//! of AAAI 2011, or none, as in most game libraries. A map has two grids, its land and its water. The definitions that every answer of
 //! `jps` rests on stand in this crate's specs: map and grids, legal move, walk and its cost, least
 //! walk, unfolding of points, right reply. They know lists of cells, moves and sums only.
 #![tactic(auto)]
@@ -24,7 +24,8 @@ pub use moves::{
 pub use ring::Ring;
 pub use std::alloc::AllocError as NoMemory;
 pub use terrain::{
-    Terrain, is_inner, is_inside, is_legal, is_open, is_passable, number_of, passable_bits, step,
+    Terrain, is_inner, is_inside, is_legal, is_open, is_passable, may_cut, may_slip, number_of,
+    passable_bits, step,
 };
 
 /// A cell: its column `x`, counted to the right, and its row `y`, counted downwards, both from 0.
@@ -41,6 +42,8 @@ pub enum Corner {
     Never,
     /// At least one is free: one blocked cell may be passed. This is the rule `one`.
     One,
+    /// Nothing: two blocked cells may be passed between. This is the rule `both`.
+    Both,
 }
 
 /// What a cell of a map is.

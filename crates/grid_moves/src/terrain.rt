@@ -63,18 +63,36 @@ pub fn is_passable(rule: Corner, one: bool, other: bool) -> bool
     match rule {
         Corner::Never => one & other,
         Corner::One => one | other,
+        Corner::Both => true,
     }
+}
+
+/// Whether a diagonal move may pass one blocked cell: a corner may be cut.
+#[inline(always)]
+pub fn may_cut(rule: Corner) -> bool
+    ensures { result ≡ spec.may_cut rule }
+{
+    is_passable(rule, true, false)
+}
+
+/// Whether a diagonal move may pass between two blocked cells.
+#[inline(always)]
+pub fn may_slip(rule: Corner) -> bool
+    ensures { result ≡ spec.may_slip rule }
+{
+    is_passable(rule, false, false)
 }
 
 /// The same for each bit of two words.
 #[inline(always)]
 pub fn passable_bits(rule: Corner, these: u64, those: u64) -> u64
-    ensures { (j : ℕ) → nat_eq (bit_at result j) 1
+    ensures { (j : ℕ) → j < 64 → nat_eq (bit_at result j) 1
         ≡ spec.is_passable rule (nat_eq (bit_at these j) 1) (nat_eq (bit_at those j) 1) }
 {
     match rule {
         Corner::Never => these & those,
         Corner::One => these | those,
+        Corner::Both => u64::MAX,
     }
 }
 

@@ -1,11 +1,12 @@
 -- The second local fact: each allowed turn is explained, by the arrival, by its components or by a mark.
 use Rattle.std.proofs.Common.{◌≡◌, Bool, true, false, not, sym, ◌∙◌, ap, refl, ◌||◌, arith}
+use Rattle.std.proofs.lemmas.Bool.{or_right}
 use Rattle.grid_moves.specs.declared.Cell.{Cell}
 use Rattle.grid_moves.specs.declared.Corner.{Corner}
-use Rattle.grid_moves.specs.declared.Corner.TheVariants.{Never}
 use Rattle.grid_moves.specs.declared.Dir.{Dir}
 use Rattle.grid_moves.specs.Grid.{GridData}
-use Rattle.grid_moves.proofs.Legal.{and_both, legal_is}
+use Rattle.grid_moves.specs.Move.{may_cut}
+use Rattle.grid_moves.proofs.Legal.{and_both, legal_is, by_cut}
 use Rattle.pruning.specs.declared.Arrival.TheVariants.{By}
 use Rattle.pruning.specs.declared.turns.Side.{Side}
 use Rattle.pruning.specs.declared.turns.Side.TheVariants.{Right, Left}
@@ -18,7 +19,7 @@ use Rattle.pruning.proofs.Table.{quarter_parity, by_parity}
 use Rattle.pruning.proofs.Moves.{can_move-straight}
 use Rattle.pruning.proofs.Bridging.{leads_from}
 use Rattle.pruning.proofs.Kept.{not_true, kept-eighth, kept-quarter, kept-back, kept-about}
-use Rattle.pruning.proofs.Replacing.{by_corner, sides_open}
+use Rattle.pruning.proofs.Replacing.{sides_open}
 
 or_true : (a b : Bool) → a ≡ false → (a || b) ≡ true → b ≡ true
 or_true a b h k = rw h at k
@@ -27,26 +28,26 @@ module _ (r : Corner) (b can : Dir → Bool) (d : Dir) (s : Side) where
   -- a quarter that is kept, and legal, is forced
   forced-quarter : keeps_quarter r b d s ≡ true → can (quarter s d) ≡ true
       → is_forced_on r b can d s ≡ true
-  forced-quarter k m = by_corner r
+  forced-quarter k m = by_cut r
       (λ e. let both = and_both (not (is_diagonal d)) (b (rear s d)) (rw e at k) in
       rw (e, not_true (is_diagonal d) both.0, both.1, m) refl)
       (λ e. let both = and_both (is_diagonal d) (b (rear s d)) (rw e at k) in rw (e, both.0, both.1, m) refl)
 
   -- so is an eighth after a straight move, where with it the quarter is legal if no corner is cut
   forced-eighth : is_diagonal d ≡ false → keeps_eighth r b d s ≡ true → can (turn s d) ≡ true
-      → (r ≡ Never → can (quarter s d) ≡ true) → is_forced_on r b can d s ≡ true
-  forced-eighth h k m n = by_corner r
+      → (may_cut r ≡ false → can (quarter s d) ≡ true) → is_forced_on r b can d s ≡ true
+  forced-eighth h k m n = by_cut r
       (λ e. rw (e, h, or_true (is_diagonal d) (b (rear s d)) h (rw e at k), n e) refl)
       (λ e. rw (e, h, or_true (is_diagonal d) (b (quarter s d)) h (rw e at k), m) refl)
 
 module _ (g : GridData) (x : Cell) (d : Dir) where
   marked : (s : Side) → is_forced_on g.corner (is_blocked g x) (can_move g x) d s ≡ true → IsMarked g x d
   marked Right h = forces (rw h refl)
-  marked Left h = forces (let either : (is_forced_on g.corner (is_blocked g x) (can_move g x) d Right || true)
-      ≡ true = grind arith in rw h either)
+  marked Left h = forces (or_right (is_forced_on g.corner (is_blocked g x) (can_move g x) d Right) _ h)
 
   -- the side of a legal diagonal
-  side_legal : (s : Side) → is_diagonal d ≡ false → can_move g x (turn s d) ≡ true → g.corner ≡ Never
+  side_legal : (s : Side) → is_diagonal d ≡ false → can_move g x (turn s d) ≡ true
+      → may_cut g.corner ≡ false
       → can_move g x (quarter s d) ≡ true
   side_legal s h m e =
       let l = leads_from g x (turn s d) m in

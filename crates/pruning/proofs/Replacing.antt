@@ -6,11 +6,10 @@ use Rattle.root2_cost.specs.Order.{IsAtMost}
 use Rattle.root2_cost.specs.Sums.{add_costs, no_cost}
 use Rattle.grid_moves.specs.declared.Cell.{Cell}
 use Rattle.grid_moves.specs.declared.Corner.{Corner}
-use Rattle.grid_moves.specs.declared.Corner.TheVariants.{Never, One}
 use Rattle.grid_moves.specs.declared.Dir.{Dir}
 use Rattle.grid_moves.specs.Grid.{GridData, is_free}
-use Rattle.grid_moves.specs.Move.{is_passable, move_cost, opposite, is_open}
-use Rattle.grid_moves.proofs.Legal.{legal_is}
+use Rattle.grid_moves.specs.Move.{is_passable, may_cut, move_cost, opposite, is_open}
+use Rattle.grid_moves.proofs.Legal.{legal_is, by_cut, passable-cut, passable-uncut}
 use Rattle.pruning.specs.declared.Arrival.TheVariants.{By}
 use Rattle.pruning.specs.declared.turns.Side.{Side}
 use Rattle.pruning.specs.declared.turns.Side.TheVariants.{Right, Left}
@@ -26,13 +25,14 @@ use Rattle.pruning.proofs.Bridging.{cost_there, Leads, legal_leads, leads_can, l
 use Rattle.pruning.proofs.Bridging.{leads_over, Passes}
 use Rattle.pruning.proofs.Kept.{kept-on, kept-eighth, kept-quarter}
 
-passable : (r : Corner) (a b : Bool) → b ≡ true → (r ≡ Never → a ≡ true) → is_passable r a b ≡ true
-passable Never a b h k = rw (k refl, h) refl
-passable One a b h k = grind arith
+passable : (r : Corner) (a b : Bool) → b ≡ true → (may_cut r ≡ false → a ≡ true) → is_passable r a b ≡ true
+passable r a b h k = by_cut r (λ e. passable-uncut r e a b ∙ rw (k e, h) refl)
+    (λ e. passable-cut r e a b (grind arith))
 
-passable-left : (r : Corner) (a b : Bool) → a ≡ true → (r ≡ Never → b ≡ true) → is_passable r a b ≡ true
-passable-left Never a b h k = rw (h, k refl) refl
-passable-left One a b h k = rw h refl
+passable-left : (r : Corner) (a b : Bool) → a ≡ true → (may_cut r ≡ false → b ≡ true)
+    → is_passable r a b ≡ true
+passable-left r a b h k = by_cut r (λ e. passable-uncut r e a b ∙ rw (h, k e) refl)
+    (λ e. passable-cut r e a b (grind arith))
 
 -- the cost of two moves
 abbrev pair_cost : Dir → Dir → Cost
@@ -89,7 +89,7 @@ module _ (g : GridData) (u v w : Cell) (d e : Dir) (l : Leads g u v d) (m : Lead
   along f x y h a b s = leads_over g x y f a b s (λ k. absurd (cc))
 
   -- the diagonal beside d passes, where the cell ahead is open, and where no corner is cut the one aside
-  passes_beside : (s : Side) → (g.corner ≡ Never → is_open g u (quarter s d) ≡ true) → Passes g u (turn s d)
+  passes_beside : (s : Side) → (may_cut g.corner ≡ false → is_open g u (quarter s d) ≡ true) → Passes g u (turn s d)
   passes_beside Left a k = passable g.corner _ _ (rw (turn_back Left d) open_ahead) a
   passes_beside Right a k = passable-left g.corner _ _ (rw (turn_back Right d) open_ahead) a
 
@@ -107,7 +107,7 @@ module _ (g : GridData) (u v w : Cell) (d e : Dir) (l : Leads g u v d) (m : Lead
   -- a straight move and then a quarter: the diagonal between
   cut : (s : Side) → is_diagonal d ≡ false → is_diagonal e ≡ false
       → move e (move d (place_of u)) ≡ move (turn s d) (place_of u)
-      → (g.corner ≡ Never → is_open g u (quarter s d) ≡ true) → HasBetter g u w (v ∷ w ∷ [])
+      → (may_cut g.corner ≡ false → is_open g u (quarter s d) ≡ true) → HasBetter g u w (v ∷ w ∷ [])
   cut s h j p a =
       let k : is_diagonal (turn s d) ≡ true = turn_parity s d ∙ ap not h in
       straight_to (turn s d) (leads_over g u w (turn s d) source target (sym p ∙ there) (passes_beside s a))
@@ -143,7 +143,7 @@ module _ (g : GridData) (u v w : Cell) (d e : Dir) (l : Leads g u v d) (m : Lead
   swapped : (s : Side) → is_diagonal d ≡ false → is_diagonal e ≡ true
       → move e (move d (place_of u)) ≡ move d (move (turn s d) (place_of u))
       → is_open g u (turn s d) ≡ true
-      → (g.corner ≡ Never → is_open g u (quarter s d) ≡ true) → HasBetter g u w (v ∷ w ∷ [])
+      → (may_cut g.corner ≡ false → is_open g u (quarter s d) ≡ true) → HasBetter g u w (v ∷ w ∷ [])
   swapped s h j p o a =
       let k : is_diagonal (turn s d) ≡ true = turn_parity s d ∙ ap not h in
       let c = opened (turn s d) o in
@@ -171,21 +171,17 @@ or_false false b h = h
 shut : (a b : Bool) → a ≡ true → (a && b) ≡ false → b ≡ false
 shut a b h k = rw h at k
 
-pub by_corner : {P : Type 0} (r : Corner) → (r ≡ Never → P) → (r ≡ One → P) → P
-by_corner Never f k = f refl
-by_corner One f k = k refl
-
 module _ (r : Corner) (b : Dir → Bool) (d : Dir) (s : Side) where
   component_kept : is_diagonal d ≡ true → keeps_eighth r b d s ≡ true
-  component_kept h = by_corner r (λ e. rw (e, h) refl) (λ e. rw (e, h) refl)
+  component_kept h = rw h refl
 
   eighth_walls : keeps_eighth r b d s ≡ false
-      → (r ≡ Never → b (rear s d) ≡ false) × (r ≡ One → b (quarter s d) ≡ false)
+      → (may_cut r ≡ false → b (rear s d) ≡ false) × (may_cut r ≡ true → b (quarter s d) ≡ false)
   eighth_walls h = (λ e. or_false (is_diagonal d) _ (rw e at h), λ e. or_false (is_diagonal d) _ (rw e at h))
 
   quarter_walls : keeps_quarter r b d s ≡ false
-      → (is_diagonal d ≡ false → r ≡ Never → b (rear s d) ≡ false)
-      × (is_diagonal d ≡ true → r ≡ One → b (rear s d) ≡ false)
+      → (is_diagonal d ≡ false → may_cut r ≡ false → b (rear s d) ≡ false)
+      × (is_diagonal d ≡ true → may_cut r ≡ true → b (rear s d) ≡ false)
   quarter_walls h = (
     λ k e. shut (not (is_diagonal d)) _ (rw k refl) (rw e at h),
     λ k e.
@@ -194,11 +190,12 @@ module _ (r : Corner) (b : Dir → Bool) (d : Dir) (s : Side) where
 
 -- both cells beside a legal diagonal move are open where no corner is cut
 pub sides_open : (g : GridData) (u v : Cell) (d : Dir) → Leads g u v d → is_diagonal d ≡ true
-    → g.corner ≡ Never → (s : Side) → is_open g u (turn s d) ≡ true
+    → may_cut g.corner ≡ false → (s : Side) → is_open g u (turn s d) ≡ true
 sides_open g u v d l h e s = side s
   where
     both : (a b : Bool) → is_passable g.corner a b ≡ true → (a ≡ true) × (b ≡ true)
-    both a b h = let and : (a && b) ≡ true = rw e at h in (grind arith, grind arith)
+    both a b h = let and : (a && b) ≡ true = sym (passable-uncut g.corner e a b) ∙ h in
+        (grind arith, grind arith)
 
     side : (s : Side) → is_open g u (turn s d) ≡ true
     side Left = (both (is_open g u (turn Left d)) (is_open g u (turn Right d)) (leads_passes g u v d l h)).0
@@ -227,7 +224,7 @@ module _ (g : GridData) (u v w : Cell) (d : Dir) (l : Leads g u v d) where
       let j : is_diagonal (turn s d) ≡ true = turn_parity s d ∙ ap not h in
       let aside = straight_side s d (place_of u) h in
       swapped g u v w d (turn s d) l m s h j (moved_both d (turn s d) (place_of u))
-      (by_corner g.corner
+      (by_cut g.corner
       (λ e. sym (open_from g u v w d (turn s d) l m (quarter s d) (turn s d) aside)
       ∙ sides_open g v w (turn s d) m j e s)
       (λ e. seen (turn s d) m (quarter s d) (turn s d) aside (walls.1 e)))
@@ -238,7 +235,7 @@ module _ (g : GridData) (u v w : Cell) (d : Dir) (l : Leads g u v d) where
       let walls = quarter_walls g.corner (is_blocked g v) d s not_kept in
       by_parity d
       (λ h. halved g u v w d (quarter s d) l m s h (quarter_parity s d ∙ h) (diagonal_side s d (place_of u) h)
-      (by_corner g.corner (λ e. sides_open g u v d l h e s)
+      (by_cut g.corner (λ e. sides_open g u v d l h e s)
       (λ e. seen (quarter s d) m (rear s d) (turn s d) (diagonal_back s d (place_of u) h) (walls.1 h e))))
       (λ h. cut g u v w d (quarter s d) l m s h (quarter_parity s d ∙ h) (straight_side s d (place_of u) h)
       (λ e. seen (quarter s d) m (rear s d) (quarter s d) (straight_back s d (place_of u) h)

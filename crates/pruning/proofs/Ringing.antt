@@ -3,7 +3,6 @@ use Rattle.std.proofs.Common.{◌≡◌, Bool, true, not, ◌||◌, refl, ap, �
 use Rattle.std.specs.Prelude.{filter}
 use Rattle.grid_moves.specs.declared.Cell.{Cell}
 use Rattle.grid_moves.specs.declared.Corner.{Corner}
-use Rattle.grid_moves.specs.declared.Corner.TheVariants.{Never, One}
 use Rattle.grid_moves.specs.declared.Dir.{Dir}
 use Rattle.grid_moves.specs.declared.ring.Ring.{Ring}
 use Rattle.grid_moves.specs.Grid.{GridData, is_free}
@@ -28,15 +27,13 @@ same_filter p q h (d ∷ ds) = rw (h d, same_filter p q h ds) refl
 same_kept : (r : Corner) (p q : Dir → Bool) → ((d : Dir) → p d ≡ q d) → (by : Arrival) (e : Dir)
     → is_kept r p by e ≡ is_kept r q by e
 same_kept r p q h Start e = refl
-same_kept Never p q h (By d) e = rw (h (rear Right d), h (rear Left d)) refl
-same_kept One p q h (By d) e =
+same_kept r p q h (By d) e =
     rw (h (quarter Right d), h (quarter Left d), h (rear Right d), h (rear Left d)) refl
 
 -- where a neighbour is forced hangs on them and on the legal moves
 same_forced : (r : Corner) (a b p q : Dir → Bool) → ((e : Dir) → a e ≡ b e) → ((e : Dir) → p e ≡ q e)
     → (d : Dir) (s : Side) → is_forced_on r a p d s ≡ is_forced_on r b q d s
-same_forced Never a b p q h k d s = rw (h (rear s d), k (quarter s d)) refl
-same_forced One a b p q h k d s = rw (h (rear s d), h (quarter s d), k (quarter s d), k (turn s d)) refl
+same_forced r a b p q h k d s = rw (h (rear s d), h (quarter s d), k (quarter s d), k (turn s d)) refl
 
 module _ (g : GridData) (x : Cell) (free : is_free g x ≡ true) (ring : Ring)
     (read : (d : Dir) → is_free_on ring d ≡ is_open g x d) where

@@ -1,14 +1,16 @@
 -- Pruning: the directions in which a search goes on from a cell, by how it came there.
--- Harabor and Grastien: AAAI 2011 where corners may be cut, SoCS 2012 where none is.
+-- Harabor and Grastien: AAAI 2011 where corners may be cut, SoCS 2012 where none is. What pruning keeps hangs
+-- on that alone, and on no other part of the corner rule.
 use Rattle.std.specs.Prelude.{◌≡◌, Bool, true, not, ◌&&◌, ◌||◌, refl, List, [], ◌∷◌, filter, is_some}
+use Rattle.std.specs.Prelude.{if◌then◌else◌}
 use Rattle.grid_moves.specs.declared.Cell.{Cell}
 use Rattle.grid_moves.specs.declared.Corner.{Corner}
-use Rattle.grid_moves.specs.declared.Corner.TheVariants.{Never, One}
+use Rattle.grid_moves.specs.declared.Corner.TheVariants.{Never, One, Both}
 use Rattle.grid_moves.specs.declared.Dir.{Dir}
 use Rattle.grid_moves.specs.declared.Dir.TheVariants.{E, SE, S, SW}
 use Rattle.grid_moves.specs.Grid.{GridData}
-use Rattle.grid_moves.specs.Move.{is_dir, is_open, legal_ahead, all_dirs}
-use Rattle.grid_moves.specs.Examples.{pillar}
+use Rattle.grid_moves.specs.Move.{is_dir, is_open, legal_ahead, all_dirs, may_cut}
+use Rattle.grid_moves.specs.Examples.{pillar, touch}
 use Rattle.pruning.specs.declared.Arrival.{Arrival}
 use Rattle.pruning.specs.declared.Arrival.TheVariants.{Start, By}
 use Rattle.pruning.specs.declared.turns.Side.{Side}
@@ -29,14 +31,14 @@ can_move g x d = is_some (legal_ahead g x d)
 -- a turn by an eighth to that side: after a diagonal it is a component, and kept; after a straight move it is
 -- kept where the cell behind on that side is blocked, or, where a corner may be cut, the cell at that side
 abbrev pub keeps_eighth : Corner → (Dir → Bool) → Dir → Side → Bool
-keeps_eighth Never blocked d s = is_diagonal d || blocked (rear s d)
-keeps_eighth One blocked d s = is_diagonal d || blocked (quarter s d)
+keeps_eighth corner blocked d s =
+    is_diagonal d || (if may_cut corner then blocked (quarter s d) else blocked (rear s d))
 
 -- a turn by a quarter to that side: where no corner is cut it is kept after a straight move, where one may be
 -- it is kept after a diagonal, and both where the cell behind on that side is blocked
 abbrev pub keeps_quarter : Corner → (Dir → Bool) → Dir → Side → Bool
-keeps_quarter Never blocked d s = not (is_diagonal d) && blocked (rear s d)
-keeps_quarter One blocked d s = is_diagonal d && blocked (rear s d)
+keeps_quarter corner blocked d s =
+    (if may_cut corner then is_diagonal d else not (is_diagonal d)) && blocked (rear s d)
 
 -- e is a turn to that side that is kept
 abbrev pub is_kept_aside : Corner → (Dir → Bool) → Dir → Dir → Side → Bool
@@ -58,12 +60,15 @@ is_allowed g x by e = is_kept g.corner (is_blocked g x) by e && can_move g x e
 abbrev pub allowed_dirs : GridData → Cell → Arrival → List Dir
 allowed_dirs g x by = filter (is_allowed g x by) all_dirs
 
--- in a corner of the map two moves are legal at the start, under both rules
+-- in a corner of the map two moves are legal at the start, under each rule
 pub from_the_corner : allowed_dirs (pillar Never) (record { x = 0; y = 0 }) Start ≡ E ∷ S ∷ []
 from_the_corner = refl
 
 pub from_the_corner_too : allowed_dirs (pillar One) (record { x = 0; y = 0 }) Start ≡ E ∷ S ∷ []
 from_the_corner_too = refl
+
+pub from_the_corner_as_well : allowed_dirs (pillar Both) (record { x = 0; y = 0 }) Start ≡ E ∷ S ∷ []
+from_the_corner_as_well = refl
 
 -- above the pillar nothing is turned to where no corner is cut, and else the way past it
 pub above_the_pillar : allowed_dirs (pillar Never) (record { x = 1; y = 0 }) (By E) ≡ E ∷ []
@@ -82,3 +87,10 @@ nothing_past_it = refl
 -- after a diagonal move past the pillar: the component, and a quarter round its other corner
 pub round_the_pillar : allowed_dirs (pillar One) (record { x = 2; y = 1 }) (By SE) ≡ S ∷ SW ∷ []
 round_the_pillar = refl
+
+-- between two blocked cells the way leads on where both may be passed
+pub between_two : allowed_dirs (touch Both) (record { x = 0; y = 0 }) Start ≡ SE ∷ []
+between_two = refl
+
+pub not_between_two : allowed_dirs (touch One) (record { x = 0; y = 0 }) Start ≡ []
+not_between_two = refl

@@ -1,14 +1,14 @@
 -- Forced neighbours, and the cells that are marked for having or seeing one.
 -- Harabor and Grastien: AAAI 2011 where corners may be cut, SoCS 2012 where none is.
 use Rattle.std.specs.Prelude.{◌≡◌, ℕ, zero, suc, ◌≤◌, Bool, true, false, ◌&&◌, ◌||◌, refl, Option, Some}
-use Rattle.std.specs.Prelude.{option_and_then, if◌then◌else◌}
+use Rattle.std.specs.Prelude.{option_and_then, if◌then◌else◌, codes}
 use Rattle.grid_moves.specs.declared.Cell.{Cell}
 use Rattle.grid_moves.specs.declared.Corner.{Corner}
-use Rattle.grid_moves.specs.declared.Corner.TheVariants.{Never, One}
+use Rattle.grid_moves.specs.declared.Corner.TheVariants.{Never, One, Both}
 use Rattle.grid_moves.specs.declared.Dir.{Dir}
 use Rattle.grid_moves.specs.declared.Dir.TheVariants.{E, SE}
-use Rattle.grid_moves.specs.Grid.{GridData}
-use Rattle.grid_moves.specs.Move.{legal_ahead}
+use Rattle.grid_moves.specs.Grid.{GridData, grid_of}
+use Rattle.grid_moves.specs.Move.{legal_ahead, may_cut}
 use Rattle.grid_moves.specs.Examples.{pillar, notch}
 use Rattle.pruning.specs.declared.turns.Side.{Side}
 use Rattle.pruning.specs.declared.turns.Side.TheVariants.{Right, Left}
@@ -20,10 +20,13 @@ use Rattle.pruning.specs.Allowed.{is_blocked, can_move}
 -- Where one may be: after a straight move, the cell half ahead, past a blocked one at that side; after a
 -- diagonal, the cell at that side, past a blocked one behind.
 abbrev pub is_forced_on : Corner → (Dir → Bool) → (Dir → Bool) → Dir → Side → Bool
-is_forced_on Never blocked can d s =
-    if is_diagonal d then false else blocked (rear s d) && can (quarter s d)
-is_forced_on One blocked can d s =
-    if is_diagonal d then blocked (rear s d) && can (quarter s d) else blocked (quarter s d) && can (turn s d)
+is_forced_on corner blocked can d s =
+    if may_cut corner
+    then
+    (if is_diagonal d then blocked (rear s d) && can (quarter s d)
+    else blocked (quarter s d) && can (turn s d))
+    else if is_diagonal d then false
+    else blocked (rear s d) && can (quarter s d)
 
 -- after a move in d some neighbour is forced
 abbrev pub is_forced : GridData → Cell → Dir → Bool
@@ -71,3 +74,11 @@ round_a_corner = refl
 
 pub round_no_corner : is_forced (pillar Never) (record { x = 2; y = 1 }) SE ≡ false
 round_no_corner = refl
+
+-- at the end of a run, with a blocked cell ahead, the way past it is forced only where two blocked cells may be
+-- passed between
+pub at_the_end : is_forced (grid_of 3 2 (codes "..@.@.") Both) (record { x = 1; y = 0 }) E ≡ true
+at_the_end = refl
+
+pub at_no_end : is_forced (grid_of 3 2 (codes "..@.@.") One) (record { x = 1; y = 0 }) E ≡ false
+at_no_end = refl

@@ -2,14 +2,14 @@
 -- No public clause cites `arrival_of`.
 use Rattle.std.specs.Prelude.{ℕ, nat_eq, if◌then◌else◌}
 use Rattle.grid_moves.specs.declared.Corner.{Corner}
-use Rattle.grid_moves.specs.declared.Corner.TheVariants.{Never, One}
+use Rattle.grid_moves.specs.declared.Corner.TheVariants.{Never, One, Both}
 use Rattle.grid_moves.specs.declared.Dir.TheVariants.{N, NE, E, SE, S, SW, W, NW}
 use Rattle.pruning.specs.declared.Arrival.{Arrival}
 use Rattle.pruning.specs.declared.Arrival.TheVariants.{Start, By}
 
--- no corner is cut, or one may be
+-- no corner is cut, one blocked cell may be passed, or two
 abbrev pub rule_of_number : ℕ → Corner
-rule_of_number n = if nat_eq n 0 then Never else One
+rule_of_number n = if nat_eq n 0 then Never else if nat_eq n 1 then One else Both
 
 -- by a move in the direction of this number, or the start
 abbrev pub arrival_of : ℕ → Arrival

@@ -12,7 +12,8 @@
 //!
 //! Where no corner is cut (Harabor and Grastien, SoCS 2012) the wall stands behind `x` on that side, and
 //! after a diagonal move nothing is forced. Where one blocked cell may be passed (AAAI 2011) it stands at
-//! the side of `x`, and after a diagonal move behind it; `n` is forced.
+//! the side of `x`, and after a diagonal move behind it; `n` is forced. So it is where two may be: which
+//! turns are kept hangs on whether a corner may be cut alone, and the rest of the rule is which moves are legal.
 
 ghost use Rattle.std.specs.Prelude.{◌≡◌, ◌+◌, ◌≤◌, ◌<◌, ◌∷◌, IsTrue, false, List, filter, length};
 ghost use Rattle.grid_moves.specs.Grid.{IsGrid, is_free};
@@ -29,7 +30,7 @@ use crate::Arrival;
 use crate::packed::Packed;
 use crate::turns::{Side, is_diagonal, quarter, rear, turn};
 use arrayvec::ArrayVec;
-use grid_moves::{Cell, Corner, Dir, Ring, Terrain, dir_number, is_inner};
+use grid_moves::{Cell, Corner, Dir, Ring, Terrain, dir_number, is_inner, may_cut};
 
 /// Whether the directions are one.
 #[inline(always)]
@@ -52,10 +53,12 @@ fn is_shut(ring: Ring, d: Dir) -> bool
 fn keeps_eighth(rule: Corner, ring: Ring, d: Dir, side: Side) -> bool
     ensures { result ≡ spec.keeps_eighth rule (rings.is_shut ring) d side }
 {
-    match rule {
-        Corner::Never => is_diagonal(d) | is_shut(ring, rear(side, d)),
-        Corner::One => is_diagonal(d) | is_shut(ring, quarter(side, d)),
-    }
+    let wall = if may_cut(rule) {
+        is_shut(ring, quarter(side, d))
+    } else {
+        is_shut(ring, rear(side, d))
+    };
+    is_diagonal(d) | wall
 }
 
 // Whether a turn by a quarter to this side is kept.
@@ -63,10 +66,12 @@ fn keeps_eighth(rule: Corner, ring: Ring, d: Dir, side: Side) -> bool
 fn keeps_quarter(rule: Corner, ring: Ring, d: Dir, side: Side) -> bool
     ensures { result ≡ spec.keeps_quarter rule (rings.is_shut ring) d side }
 {
-    match rule {
-        Corner::Never => !is_diagonal(d) & is_shut(ring, rear(side, d)),
-        Corner::One => is_diagonal(d) & is_shut(ring, rear(side, d)),
-    }
+    let turns = if may_cut(rule) {
+        is_diagonal(d)
+    } else {
+        !is_diagonal(d)
+    };
+    turns & is_shut(ring, rear(side, d))
 }
 
 // Whether `to` is a turn from `d` to this side, and is kept.
@@ -119,14 +124,15 @@ fn put_allowed(rule: Corner, ring: Ring, by: Arrival, d: Dir, others: Packed) ->
 }
 
 /// The rule of this number, so that it can be a constant of a function, which has code of its own for each: 0
-/// is `never`, any other `one`.
+/// is `never`, 1 is `one`, any other `both`.
 #[inline(always)]
 pub fn rule_of_number(number: usize) -> Corner
     ensures { result ≡ numbered.rule_of_number number }
 {
     match number {
         0 => Corner::Never,
-        _ => Corner::One,
+        1 => Corner::One,
+        _ => Corner::Both,
     }
 }
 
@@ -192,6 +198,7 @@ pub fn allowed_on(rule: Corner, ring: Ring, by: Arrival) -> Packed
     match rule {
         Corner::Never => allowed_by::<0>(ring, by),
         Corner::One => allowed_by::<1>(ring, by),
+        Corner::Both => allowed_by::<2>(ring, by),
     }
 }
 
@@ -248,12 +255,13 @@ pub fn allowed_word<T: Terrain>(t: &T, at: Cell, by: Arrival) -> Packed
 fn is_forced_on(rule: Corner, ring: Ring, d: Dir, side: Side) -> bool
     ensures { result ≡ told.forced_beside rule ring d side }
 {
-    match rule {
-        Corner::Never if is_diagonal(d) => false,
-        Corner::One if !is_diagonal(d) => {
-            is_shut(ring, quarter(side, d)) & ring.can_move(rule, turn(side, d))
-        }
-        _ => is_shut(ring, rear(side, d)) & ring.can_move(rule, quarter(side, d)),
+    let aside = is_shut(ring, rear(side, d)) & ring.can_move(rule, quarter(side, d));
+    let ahead = is_shut(ring, quarter(side, d)) & ring.can_move(rule, turn(side, d));
+    match (may_cut(rule), is_diagonal(d)) {
+        (true, true) => aside,
+        (true, false) => ahead,
+        (false, true) => false,
+        (false, false) => aside,
     }
 }
 
@@ -312,5 +320,6 @@ pub fn forced<T: Terrain>(t: &T, at: Cell, d: Dir) -> bool
     match t.corner() {
         Corner::Never => forced_by(t, Corner::Never, at, d),
         Corner::One => forced_by(t, Corner::One, at, d),
+        Corner::Both => forced_by(t, Corner::Both, at, d),
     }
 }
