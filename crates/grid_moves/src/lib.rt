@@ -36,9 +36,10 @@ pub struct Cell {
 }
 
 /// What a diagonal move asks of the two cells beside it.
-#[derive(Clone, Copy, Debug, PartialEq, Eq)]
+#[derive(Clone, Copy, Debug, Default, PartialEq, Eq)]
 pub enum Corner {
     /// Both are free: no corner is cut. This is the rule `none`.
+    #[default]
     Never,
     /// At least one is free: one blocked cell may be passed. This is the rule `one`.
     One,
