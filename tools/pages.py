@@ -10,6 +10,7 @@ does not know with status 2: whether a word is a file's name or a number, and wh
 `engine=ENGINE` has.
 """
 
+import concurrent.futures
 import pathlib
 import re
 import subprocess
@@ -68,11 +69,16 @@ class Program:
         quiet = {"stdin": subprocess.DEVNULL, "stdout": subprocess.DEVNULL, "stderr": subprocess.DEVNULL}
         return subprocess.run([self.path, *words], cwd=self.nowhere, **quiet).returncode != WORDS_REFUSED
 
+    def accepted(self, lists):
+        """For each list of words whether the program accepts it, asked side by side."""
+        with concurrent.futures.ThreadPoolExecutor() as pool:
+            return list(pool.map(lambda words: self.accepts(*words), lists))
+
     def kinds(self, row):
         """For each word of the row whether it is a file's name or a number: 1 is both, a/b only the first."""
         ones = ["1"] * len(row.words)
-        named = ([*ones[:k], "a/b", *ones[k + 1 :]] for k in range(len(ones)))
-        return ["file" if self.accepts(row.name, *words) else "number" for words in named]
+        named = ([row.name, *ones[:k], "a/b", *ones[k + 1 :]] for k in range(len(ones)))
+        return ["file" if taken else "number" for taken in self.accepted(named)]
 
     def values(self, row, setting, sentences):
         """The setting with each of its values. Where `--help` has a name for them, they stand in a sentence
@@ -81,9 +87,9 @@ class Program:
         if not value.isupper():
             return [setting]
         near = " ".join(it for it in sentences if re.search(rf"\b{value}\b", it))
-        ones, tried = ["1"] * len(row.words), dict.fromkeys(re.findall(r"\b[a-z]+\b", near))
-        found = [f"{key}={it}" for it in tried if self.accepts(row.name, *ones, f"{key}={it}")]
-        return found or [f"{key}="]
+        tried = [f"{key}={it}" for it in dict.fromkeys(re.findall(r"\b[a-z]+\b", near))]
+        taken = self.accepted([row.name, *["1"] * len(row.words), it] for it in tried)
+        return [it for it, is_taken in zip(tried, taken) if is_taken] or [f"{key}="]
 
     def settings(self, row, sentences):
         named = [setting for group in row.settings for setting in group]
