@@ -6,7 +6,6 @@ ghost use Rattle.io_edge.specs.Whole.{IsWhole, IsLonger};
 ghost use Rattle.call_files.specs.FaultLines.{long_line as line_of_long};
 ghost use Rattle.call_files.specs.Reading.{AreBothRead, IsFirst, IsMade, IsRead, Reads, ReadsText, open_stops, read_stops};
 ghost use Rattle.call_files.specs.Kinds.{kind_for, kind_word, limit_of};
-ghost use Rattle.call_files.specs.Layered as spec;
 ghost use Rattle.call_files.specs.Files.{file_of};
 ghost use Rattle.map_text.specs.Faults.{plain};
 ghost use Rattle.line_work.specs.Stops.{Ends};
@@ -16,7 +15,6 @@ use crate::faults::{
     cert_line, large_line, long_line, map_line, scen_line, script_line, walks_line,
 };
 use crate::kind::{Extent, Kind};
-use grid_moves::Corner;
 use io_edge::{Files, ReadStop, read_whole};
 use line_work::Stop;
 use map_text::{MapText, read_map};
@@ -222,13 +220,6 @@ pub fn read_file<F: Files, T: Text>(
 {
     let text = read_text(alloc, files, T::kind(context), name)?;
     T::of_text(alloc, text.as_slice(), context)
-}
-
-/// The corner rule, by whether a diagonal move may pass one blocked cell.
-pub fn corner_of(one: bool) -> Corner
-    ensures { result ≡ spec.corner_of one }
-{
-    if one { Corner::One } else { Corner::Never }
 }
 
 /// What is made of a map, as the settings ask.

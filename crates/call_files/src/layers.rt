@@ -6,7 +6,7 @@ ghost use Rattle.plus_tables.specs.Tables.{AreTablesOf};
 ghost use Rattle.table_file.specs.Faults.{Tells, table_fault_of};
 
 use crate::NoMemory;
-use crate::files::{OfMap, corner_of};
+use crate::files::OfMap;
 use crate::kind::Extent;
 use grid_moves::{Corner, Layers};
 use map_text::MapText;
@@ -52,7 +52,7 @@ impl OfMap for Layers {
     }
 
     fn of_map(alloc: Global, map: MapText, settings: Settings) -> Result<Layers, NoMemory> {
-        layers_of(alloc, &map, corner_of(settings.one))
+        layers_of(alloc, &map, settings.rule)
     }
 }
 

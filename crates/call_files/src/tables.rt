@@ -3,12 +3,11 @@
 ghost use Rattle.std.specs.Prelude.{◌≡◌};
 ghost use Rattle.io_edge.specs.Causes.{NoneFell};
 ghost use Rattle.map_text.specs.Faults.{plain};
-ghost use Rattle.call_files.specs.Layered.{corner_of as spec_corner};
 ghost use Rattle.call_files.specs.Reading.{AreMapTables, IsBehind, Reads};
 ghost use Rattle.call_files.specs.declared.kind.Kind.TheVariants as kinds;
 
 use crate::faults::tables_line;
-use crate::files::{Text, corner_of, read_file};
+use crate::files::{Text, read_file};
 use crate::kind::Kind;
 use crate::layers::{layers_of, load_tables};
 use grid_moves::{Layers, Terrain};
@@ -61,12 +60,12 @@ pub fn read_tables<F: Files>(
     map: &MapText,
     settings: Settings,
 ) -> Result<MapTables, Stop>
-    ensures read { Reads (IsBehind (plain map.now)) (λ _. AreMapTables (spec_corner settings.one) (plain map.now))
-        (kinds.Tables (spec_corner settings.one)) ((F.disk files.old).holds name.now)
+    ensures read { Reads (IsBehind (plain map.now)) (λ _. AreMapTables settings.rule (plain map.now))
+        (kinds.Tables settings.rule) ((F.disk files.old).holds name.now)
         ((F.disk files.old).faults name.now) ((F.disk files.new).faults name.now) result }
     ensures unchanged { (F.disk files.new).holds ≡ (F.disk files.old).holds }
     ensures later { NoneFell (F.disk files.old).faults (F.disk files.new).faults }
 {
-    let layers = layers_of(alloc, map, corner_of(settings.one))?;
+    let layers = layers_of(alloc, map, settings.rule)?;
     read_file(alloc, files, name, &layers)
 }

@@ -1,4 +1,4 @@
-//! Every command by every engine and under both rules, each with its whole output; the program's own texts;
+//! Every command by every engine and under each rule, each with its whole output; the program's own texts;
 //! and files without an end.
 //!
 //! Want of memory is the one answer that no clause rules out: these calls show another one.
@@ -17,12 +17,13 @@ use std::sync::ledger::Blank;
 use std::test::Fail;
 
 // The lines of a drill under each rule, as an independent program prints them.
-const DRILLS: [&[u8]; 2] = [
+const DRILLS: [&[u8]; 3] = [
     b"drill walks 54 none 1 blocked 45 ok 27 same 23 cost 5848 2278\n",
     b"drill walks 54 none 1 blocked 45 ok 27 same 23 cost 3914 3239\n",
+    b"drill walks 55 none 0 blocked 45 ok 27 same 23 cost 3694 3235\n",
 ];
 
-// Under the rule that lets a diagonal pass one blocked cell, jumps stop between the two walls of the
+// Under the rules that let a diagonal pass one blocked cell, jumps stop between the two walls of the
 // crossing, from where such a diagonal leads behind one of them.
 fn answers_by(engine: &str, rule: &str) -> &'static [u8] {
     if engine == "engine=plain" || rule == "rule=none" {

@@ -33,7 +33,7 @@ use Rattle.jps_run.specs.Pictures.{IsDrawing}
 use Rattle.jps_run.specs.Rows.{AreRows, scen_lines, scen_status}
 use Rattle.jps_run.specs.Rulings.{AreRulings, judge_lines, judge_status}
 use Rattle.grid_answers.specs.RunLines.{IsRunText}
-use Rattle.call_files.specs.Layered.{corner_of, layers_on}
+use Rattle.call_files.specs.Layered.{layers_on}
 use Rattle.jps_run.specs.Session.{OnSession, who_on}
 use Rattle.jps_run.specs.Tabled.{tables_text}
 use Rattle.jps_run.specs.Texts.{help_text, version_text}
@@ -98,7 +98,7 @@ pub data IsAnswered : Call → List (List ℕ) → List (List ℕ) → ℕ → T
       → AreCosts (layers_on set m) (record { x = x; y = y }) lines
       → IsAnswered (call_with (Costs map x y) set) (text ∷ []) lines 0
   tabled : (map text : List ℕ) (set : Settings) (m : Map) → map_of text ≡ Ok m
-      → IsAnswered (call_with (Tables map) set) (text ∷ []) (tables_text (corner_of set.one) m ∷ []) 0
+      → IsAnswered (call_with (Tables map) set) (text ∷ []) (tables_text set.rule m ∷ []) 0
   boxed : (map text : List ℕ) (x y : ℕ) (set : Settings) (m : Map) (printed : List ℕ)
       → map_of text ≡ Ok m
       → IsBoxText (layers_on set m) (record { x = x; y = y }) printed

@@ -12,7 +12,6 @@ use Rattle.word_list.specs.declared.request.Settings.{Settings}
 use Rattle.call_files.specs.Reading.{AreFit}
 use Rattle.jps_run.specs.Rulings.{AreRulings, is_accepted, is_refused, is_unjudged, judge_lines, judge_status}
 use Rattle.jps_run.specs.Rulings.{ruling_lines}
-use Rattle.call_files.specs.Layered.{corner_of}
 use Rattle.jps_run.specs.declared.replies.referee.Court.{Court}
 use Rattle.jps_run.specs.declared.replies.referee.Referee.{Referee}
 use Rattle.jps_run.specs.declared.replies.ruling.Counts.{Counts}
@@ -50,7 +49,7 @@ cost_in reply.Blocked = None
 
 -- the layers of a map, and the session on them that searches by blocks
 pub record IsCourtOf (set : Settings) (m : Map) (court : Court) : Type 0 where
-  pub layers : court.layers ≡ layers_of (corner_of set.one) m.width m.height m.cells
+  pub layers : court.layers ≡ layers_of set.rule m.width m.height m.cells
   pub session : court.session ≡ record { engine = Block; layers = court.layers }
 
 -- the entries have their rows with these lines, and the rows are counted

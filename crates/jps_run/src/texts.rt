@@ -9,34 +9,34 @@ pub(crate) fn help_text() -> &'static [u8]
     ensures { result.now ≡ spec.help_text }
 {
     b"usage: jps COMMAND ...
-  jps query MAP SX SY GX GY [engine=ENGINE] [tables=FILE] [show=points|show=cells|show=trace] [rule=none|rule=one]
+  jps query MAP SX SY GX GY [engine=ENGINE] [tables=FILE] [show=points|cells|trace] [rule=none|one|both]
       a least walk from the cell (SX,SY) to the cell (GX,GY) on the map
-  jps solve MAP SCRIPT [engine=ENGINE] [tables=FILE] [show=points|show=cells|show=trace] [rule=none|rule=one]
+  jps solve MAP SCRIPT [engine=ENGINE] [tables=FILE] [show=points|cells|trace] [rule=none|one|both]
       one line for each command of the script: edits of the map, and queries
-  jps live MAP [engine=ENGINE] [tables=FILE] [show=points|show=cells|show=trace] [rule=none|rule=one]
+  jps live MAP [engine=ENGINE] [tables=FILE] [show=points|cells|trace] [rule=none|one|both]
       the same for a script on standard input, each command answered as it comes
-  jps scen MAP SCEN [engine=ENGINE] [tables=FILE] [show=taken] [rule=none|rule=one]
+  jps scen MAP SCEN [engine=ENGINE] [tables=FILE] [show=taken] [rule=none|one|both]
       a row for each entry of the scenario, its length judged by the least cost, and their sum; with show=taken
       also how many states each search took
-  jps judge MAP SCEN WALKS [rule=none|rule=one]
+  jps judge MAP SCEN WALKS [rule=none|one|both]
       a row for each entry: the walk that another program tells of it accepted, or why not, and their sum
-  jps prove MAP SX SY GX GY [rule=none|rule=one]
+  jps prove MAP SX SY GX GY [rule=none|one|both]
       a certificate that the cost of a least walk is least, or that there is no walk
-  jps check MAP CERT [rule=none|rule=one]
+  jps check MAP CERT [rule=none|one|both]
       whether the certificate proves what it claims on the map; nothing is searched
   jps make SEED W H P
       a map of W by H cells, P percent of them blocked, made from the number SEED
-  jps drill SEED [engine=ENGINE] [rule=none|rule=one]
+  jps drill SEED [engine=ENGINE] [rule=none|one|both]
       150 edits and queries on the map of SEED, summed up in one line that is the same by each engine
-  jps draw MAP SX SY GX GY [engine=ENGINE] [show=points|show=trace] [rule=none|rule=one]
+  jps draw MAP SX SY GX GY [engine=ENGINE] [show=points|trace] [rule=none|one|both]
       a picture (SVG) of the map and of a least walk, and with show=trace of the cells of the taken states
-  jps costs MAP X Y [rule=none|rule=one]
+  jps costs MAP X Y [rule=none|one|both]
       the least cost from the cell (X,Y) to each cell, a line for each row: `A,B`, or `-` where no walk leads
-  jps tables MAP [rule=none|rule=one]
+  jps tables MAP [rule=none|one|both]
       the tables of the engine plus as bytes, for other programs
-  jps boxes MAP X Y [rule=none|rule=one]
+  jps boxes MAP X Y [rule=none|one|both]
       for each direction the least box of cells to which some least walk from the cell (X,Y) begins so
-  jps moves MAP X Y [rule=none|rule=one]
+  jps moves MAP X Y [rule=none|one|both]
       the first move from the cell (X,Y) to each cell, a line for each run of cells with one first move
   jps --help
       this text
@@ -53,7 +53,8 @@ tables=FILE beside engine=plus takes the tables that `jps tables` wrote to FILE;
 another rule, or with a wrong entry are refused.
 For query and scen, on maps of at most 16384 cells, ENGINE may also be boxes, whose search leaves out moves
 by goal boxes, or moves, which follows first moves and takes no states (no show=trace, no show=taken).
-With rule=one a diagonal move may pass one blocked cell beside it, with rule=none none.
+Of the two cells beside a diagonal move rule=none lets none be blocked, rule=one one, rule=both both; where
+no rule is named it is none.
 
 statuses: 0 done; 1 done, and a row of `scen` is neither agree nor near, `judge` or `check` refuses, `prove`
 has no free ends on one layer, or `draw` no free ends; 2 the words are refused; 3 a text is refused; 4 a read failed;

@@ -3,6 +3,7 @@ use Rattle.std.proofs.Common.{◌≡◌, ◌∙◌, refl, ap, sym, subst, ℕ, B
 use Rattle.std.proofs.Common.{length}
 use Rattle.std.specs.Prelude.{Ok, Err}
 use Rattle.std.specs.declared.result.Result.{Result}
+use Rattle.grid_moves.specs.declared.Corner.{Corner}
 use Rattle.grid_moves.specs.declared.Cell.{Cell}
 use Rattle.grid_moves.specs.Layers.{AreLayers, Layers, layers_of, query_grid}
 use Rattle.map_text.specs.Map.{Map}
@@ -32,7 +33,7 @@ use Rattle.jps_run.specs.Rows.{AreRows, scen_lines, scen_status}
 use Rattle.jps_run.specs.Rulings.{AreRulings, judge_lines, judge_status}
 use Rattle.jps_run.specs.declared.replies.row.Row.{Row}
 use Rattle.jps_run.specs.declared.replies.ruling.Ruling.{Ruling}
-use Rattle.call_files.specs.Layered.{corner_of, layers_on}
+use Rattle.call_files.specs.Layered.{layers_on}
 use Rattle.jps_run.specs.Session.{IsSessionOn, OnSession, by_of, who_on}
 use Rattle.jps_run.specs.Who.{By, Who, who_is}
 use Rattle.outcome_laws.proofs.Kept.{are_layers-text}
@@ -114,10 +115,10 @@ one_line : {K L : List ℕ → Type 0} {lines same : List (List ℕ)} (one : One
     → one.line ≡ other.line → lines ≡ same
 one_line one other e = one.all ∙ ap (λ (line : List ℕ). line ∷ []) e ∙ sym other.all
 
-module _ (set other : Settings) (rule : set.one ≡ other.one) where
+module _ (set other : Settings) (rule : set.rule ≡ other.rule) where
   pub same_layers : (m n : Map) → m ≡ n → layers_on set m ≡ layers_on other n
   same_layers m n e =
-      ap (λ (one : Bool). layers_of (corner_of one) m.width m.height m.cells) rule
+      ap (λ (corner : Corner). layers_of corner m.width m.height m.cells) rule
       ∙ ap (λ (k : Map). layers_on other k) e
 
   -- what is said of the grids of a map
@@ -316,8 +317,8 @@ module _ (set other : Settings) (rule : set.one ≡ other.one) where
     p.1 ∙ sym q.1,
   )
   one_answer (Tables map) texts lines same status code shown way p q = (
-    p.0.known ∙ ap (λ (one : Bool). tables_text (corner_of one) p.0.map ∷ []) rule
-        ∙ ap (λ (m : Map). tables_text (corner_of other.one) m ∷ []) (same_map p.0 q.0).map ∙ sym q.0.known,
+    p.0.known ∙ ap (λ (corner : Corner). tables_text corner p.0.map ∷ []) rule
+        ∙ ap (λ (m : Map). tables_text other.rule m ∷ []) (same_map p.0 q.0).map ∙ sym q.0.known,
     p.1 ∙ sym q.1,
   )
   one_answer (Boxes map x y) texts lines same status code shown way p q = (

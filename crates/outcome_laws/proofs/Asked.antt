@@ -28,7 +28,7 @@ use Rattle.jps_run.specs.Pictures.{IsDrawing}
 use Rattle.jps_run.specs.Rows.{AreRows, scen_lines, scen_status}
 use Rattle.jps_run.specs.Rulings.{AreRulings, judge_lines, judge_status}
 use Rattle.grid_answers.specs.RunLines.{IsRunText}
-use Rattle.call_files.specs.Layered.{corner_of, layers_on}
+use Rattle.call_files.specs.Layered.{layers_on}
 use Rattle.jps_run.specs.Session.{OnSession, who_on}
 use Rattle.jps_run.specs.Tabled.{tables_text}
 use Rattle.jps_run.specs.Texts.{help_text, version_text}
@@ -109,7 +109,7 @@ Answers (Draw map sx sy gx gy) set texts lines status =
 Answers (Costs map x y) set texts lines status =
     OnMap texts (λ m behind. AreCosts (layers_on set m) (record { x = x; y = y }) lines) × (status ≡ 0)
 Answers (Tables map) set texts lines status =
-    OnMap texts (λ m behind. lines ≡ tables_text (corner_of set.one) m ∷ []) × (status ≡ 0)
+    OnMap texts (λ m behind. lines ≡ tables_text set.rule m ∷ []) × (status ≡ 0)
 Answers (Boxes map x y) set texts lines status =
     OnMap texts
     (λ m behind. OneLine lines (λ printed. IsBoxText (layers_on set m) (record { x = x; y = y }) printed))

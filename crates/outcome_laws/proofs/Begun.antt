@@ -95,8 +95,8 @@ module _ (holds : List ℕ → Held) (script : List ℕ) (call : Call) (told : A
       same : p.settings ≡ q.settings
       same = ap (λ (c : Call). c.settings) (sym p.is ∙ q.is)
 
-      rule : p.settings.one ≡ q.settings.one
-      rule = ap (λ (set : Settings). set.one) same
+      rule : p.settings.rule ≡ q.settings.rule
+      rule = ap (λ (set : Settings). set.rule) same
 
       shown : p.settings.show ≡ q.settings.show
       shown = ap (λ (set : Settings). set.show) same

@@ -24,12 +24,12 @@ use Rattle.edit_replay.specs.Edited.{Edit, asked, edited, edited_layer}
 use Rattle.edit_replay.specs.Session.{SessionData}
 use Rattle.edit_replay.proofs.Edits.{is_free-edited, is_inside-edited}
 use Rattle.word_list.specs.declared.request.Settings.{Settings}
-use Rattle.call_files.specs.Layered.{corner_of, layers_on}
+use Rattle.call_files.specs.Layered.{layers_on}
 use Rattle.jps_run.specs.Session.{IsSessionOn, session_after}
 use Rattle.jps_run.specs.Who.{Who}
 
 pub are_layers-map : (set : Settings) (m : Map) → IsMap m.width m.height m.cells → AreLayers (layers_on set m)
-are_layers-map set m is = are_layers-of (corner_of set.one) m.width m.height m.cells (record {
+are_layers-map set m is = are_layers-of set.rule m.width m.height m.cells (record {
   sides = record { wide = is.wide; narrow = is.narrow; high = is.high; low = is.low };
   whole = is.whole;
 })
@@ -47,7 +47,7 @@ length-words_from (suc n) g = ap suc (length-words_from n (pcg32 g).1)
 pub are_layers-seed : (set : Settings) (seed width height percent : ℕ) → AreSides width height
     → AreLayers (layers_on set (made_map seed width height percent))
 are_layers-seed set seed width height percent sides =
-    are_layers-of (corner_of set.one) width height (map (cell_of percent) (words_of seed (height * width)))
+    are_layers-of set.rule width height (map (cell_of percent) (words_of seed (height * width)))
     (record {
       sides = sides;
       whole = length-map (words_of seed (height * width)) (cell_of percent)

@@ -22,7 +22,7 @@ use Rattle.outcome_laws.proofs.Printed.{alike_rows, one_answers, one_drawing, on
 use Rattle.outcome_laws.proofs.Printed.{one_rows, one_start}
 use Rattle.outcome_laws.proofs.Sessions.{layers_alike, session_layers, sessions_alike, who_alike}
 
-module _ (set other : Settings) (m : Map) (rule : set.one ≡ other.one)
+module _ (set other : Settings) (m : Map) (rule : set.rule ≡ other.rule)
     (are : AreLayers (layers_on set m)) where
   -- rows by whatever engines
   pub alike_rows_on : (entries : List Entry) (rows others : List Row) → AreRows (who_on set m) entries rows

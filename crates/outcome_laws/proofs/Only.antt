@@ -2,6 +2,7 @@
 use Rattle.std.proofs.Common.{◌≡◌, ◌∙◌, refl, ap, sym, subst, ℕ, Bool, true, false, List, [], ◌∷◌, ◌++◌}
 use Rattle.std.specs.Prelude.{Option, Some, None, ◌≢◌, ◌⊎◌, if◌then◌else◌}
 use Rattle.std.proofs.Common.{inl, inr}
+use Rattle.grid_moves.specs.declared.Corner.{Corner}
 use Rattle.io_edge.specs.Told.{Held, holding, absent, untold}
 use Rattle.io_edge.specs.Whole.{IsWhole}
 use Rattle.map_text.specs.Map.{Map}
@@ -20,7 +21,6 @@ use Rattle.word_list.specs.declared.request.Show.{Show}
 use Rattle.call_files.specs.FaultLines.{word_line}
 use Rattle.call_files.specs.Files.{AreAccepted, File, HasRefused, IsAccepted, file_of}
 use Rattle.call_files.specs.Kinds.{extent_for, kind_for, limit_of}
-use Rattle.call_files.specs.Layered.{corner_of}
 use Rattle.call_files.specs.MapFiles.{map_files}
 use Rattle.call_files.specs.declared.kind.Extent.{Extent}
 use Rattle.call_files.specs.declared.kind.Extent.TheVariants as extent
@@ -166,14 +166,14 @@ same_names (Boxes map x y) set other = refl
 same_names (Moves map x y) set other = refl
 
 -- nor for the files themselves, where engines take the same maps
-module _ (set other : Settings) (rule : set.one ≡ other.one)
+module _ (set other : Settings) (rule : set.rule ≡ other.rule)
     (small : is_for_small_maps set.pick ≡ is_for_small_maps other.pick) where
   same_map_files : (map : List ℕ) (tables : Option (List ℕ)) → map_files set map tables
       ≡ map_files other map tables
   same_map_files map None =
       ap (λ (b : Bool). file_of (kind_for (if b then extent.Small else extent.Any)) map ∷ []) small
   same_map_files map (Some tables) =
-      ap (λ (b : Bool). file_of kind.Map map ∷ file_of (kind.Tables (corner_of b)) tables ∷ []) rule
+      ap (λ (corner : Corner). file_of kind.Map map ∷ file_of (kind.Tables corner) tables ∷ []) rule
 
   same_files : (asked : Asked) → files_of (call_with asked set) ≡ files_of (call_with asked other)
   same_files Help = refl
@@ -328,9 +328,9 @@ module _ (holds : List ℕ → Held) (script : List ℕ) (call like : Call) (ali
         q.answers) p.known
         (subst (λ (show : Show). AnswerHeard q.session show (Some script) also same) (sym shown) q.known)
       where
-        rule : p.settings.one ≡ q.settings.one
-        rule = ap (λ (c : Call). c.settings.one) (sym p.is) ∙ alike.rule
-            ∙ ap (λ (c : Call). c.settings.one) q.is
+        rule : p.settings.rule ≡ q.settings.rule
+        rule = ap (λ (c : Call). c.settings.rule) (sym p.is) ∙ alike.rule
+            ∙ ap (λ (c : Call). c.settings.rule) q.is
 
         shown : p.settings.show ≡ q.settings.show
         shown = ap (λ (c : Call). c.settings.show) (sym p.is) ∙ alike.show

@@ -76,7 +76,7 @@ one_findings = findings_same
 
 -- on one map, whatever engines two settings pick
 found_on_map : (set other : Settings) (m : Map) (commands : List Command) (found same : List Finding)
-    → set.one ≡ other.one → AreLayers (layers_on set m) → OnSession set m (λ d. AreFindings d commands found)
+    → set.rule ≡ other.rule → AreLayers (layers_on set m) → OnSession set m (λ d. AreFindings d commands found)
     → OnSession other m (λ d. AreFindings d commands same) → found ≡ same
 found_on_map set other m commands found same rule are p q =
     findings_same p.session q.session commands found same (session_layers set m p.session are p.is)
@@ -85,7 +85,7 @@ found_on_map set other m commands found same rule are p q =
 sides_of_drill : AreSides 256 256
 sides_of_drill = record { wide = omega arith; narrow = omega arith; high = omega arith; low = omega arith }
 
-pub one_drill : (set other : Settings) (seed : ℕ) (found same : List Finding) → set.one ≡ other.one
+pub one_drill : (set other : Settings) (seed : ℕ) (found same : List Finding) → set.rule ≡ other.rule
     → AreDrilled set seed found → AreDrilled other seed same → found ≡ same
 one_drill set other seed found same rule =
     found_on_map set other (made_map seed 256 256 25) (drill_commands seed) found same rule

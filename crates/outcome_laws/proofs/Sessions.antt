@@ -1,18 +1,19 @@
 -- Who answers on one map, by two settings.
 use Rattle.std.proofs.Common.{◌≡◌, sym, ap, ◌∙◌, subst, Bool}
+use Rattle.grid_moves.specs.declared.Corner.{Corner}
 use Rattle.grid_moves.specs.Layers.{AreLayers, Layers, layers_of}
 use Rattle.map_text.specs.Map.{Map}
 use Rattle.edit_replay.specs.Session.{SessionData}
 use Rattle.word_list.specs.declared.request.Settings.{Settings}
-use Rattle.call_files.specs.Layered.{corner_of, layers_on}
+use Rattle.call_files.specs.Layered.{layers_on}
 use Rattle.jps_run.specs.Session.{IsSessionOn, by_of, who_on}
 use Rattle.jps_run.specs.Who.{Who, who_is}
 use Rattle.outcome_laws.specs.Alike.{AnswerAlike, way_of}
 
-module _ (set other : Settings) (m : Map) (rule : set.one ≡ other.one) where
+module _ (set other : Settings) (m : Map) (rule : set.rule ≡ other.rule) where
   -- the grids are the same under one corner rule
   pub layers_alike : layers_on set m ≡ layers_on other m
-  layers_alike = ap (λ (one : Bool). layers_of (corner_of one) m.width m.height m.cells) rule
+  layers_alike = ap (λ (corner : Corner). layers_of corner m.width m.height m.cells) rule
 
   -- and the answers are alike where the ways of the picked engines are
   pub who_alike : way_of (by_of set.pick) ≡ way_of (by_of other.pick)

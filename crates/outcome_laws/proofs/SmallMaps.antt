@@ -2,6 +2,7 @@
 use Rattle.std.proofs.Common.{◌≡◌, ◌≢◌, ◌∙◌, refl, ap, sym, subst, ℕ, Bool, true, false, List, [], ◌∷◌, ◌++◌}
 use Rattle.std.specs.Prelude.{Option, Some, None, Ok, Err, if◌then◌else◌}
 use Rattle.std.specs.declared.result.Result.{Result}
+use Rattle.grid_moves.specs.declared.Corner.{Corner}
 use Rattle.io_edge.specs.Told.{Held, holding, absent, untold}
 use Rattle.io_edge.specs.Whole.{IsLonger, IsWhole}
 use Rattle.map_text.specs.Map as maps
@@ -15,7 +16,6 @@ use Rattle.call_files.specs.FaultLines.{large_line, long_line, map_line}
 use Rattle.call_files.specs.Files.{AreAccepted, File, HasRefused, IsAccepted, IsRefused, faulty, file_of}
 use Rattle.call_files.specs.Files.{too_long}
 use Rattle.call_files.specs.Kinds.{fault_in, kind_for, kind_word, limit_of, refusal_of, small_refusal, takes}
-use Rattle.call_files.specs.Layered.{corner_of}
 use Rattle.call_files.specs.MapFiles.{map_kind}
 use Rattle.call_files.specs.declared.kind.Extent.TheVariants.{Any, Small}
 use Rattle.call_files.specs.declared.kind.Kind.{Kind}
@@ -138,7 +138,7 @@ kinds_alike held small false true = record {
 }
 
 -- the engine is no matter for what is accepted or refused where the map is small
-pub small_alike : (holds : List ℕ → Held) (set other : Settings) → set.one ≡ other.one → (asked : Asked)
+pub small_alike : (holds : List ℕ → Held) (set other : Settings) → set.rule ≡ other.rule → (asked : Asked)
     → AreTold holds (files_of (call_with asked set)) → HasSmallMap holds asked
     → AreAlike holds (files_of (call_with asked set)) (files_of (call_with asked other))
 small_alike holds set other rule (Scen map None scen) told small =
@@ -151,8 +151,8 @@ small_alike holds set other rule (Scen map None scen) told small =
     }
 small_alike holds set other rule (Scen map (Some tables) scen) told small =
     same_alike holds (files_of (call_with (Scen map (Some tables) scen) set))
-    (files_of (call_with (Scen map (Some tables) scen) other)) (ap (λ (b : Bool). file_of kind.Map map
-    ∷ file_of (kind.Tables (corner_of b)) tables ∷ file_of kind.Scen scen ∷ []) rule)
+    (files_of (call_with (Scen map (Some tables) scen) other)) (ap (λ (corner : Corner). file_of kind.Map map
+    ∷ file_of (kind.Tables corner) tables ∷ file_of kind.Scen scen ∷ []) rule)
 small_alike holds set other rule Help told small = absurd small
 small_alike holds set other rule Version told small = absurd small
 small_alike holds set other rule (Query map tables sx sy gx gy) told small = absurd small

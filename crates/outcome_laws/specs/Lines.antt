@@ -67,7 +67,7 @@ FindingsAreOne = (d e : SessionData) (commands : List Command) (found same : Lis
 
 -- what a drill comes to, whatever engines two settings pick
 abbrev pub DrillsAreOne : Type 0
-DrillsAreOne = (set other : Settings) (seed : ℕ) (found same : List Finding) → set.one ≡ other.one
+DrillsAreOne = (set other : Settings) (seed : ℕ) (found same : List Finding) → set.rule ≡ other.rule
     → AreDrilled set seed found → AreDrilled other seed same → found ≡ same
 
 -- the rows of entries, by two who answer on the same layers, in whatever ways

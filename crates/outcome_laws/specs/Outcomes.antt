@@ -45,7 +45,7 @@ is_jump pick.Moves = false
 pub record DifferInEngine (call other : Call) : Type 0 where
   pub request : call.request ≡ other.request
   pub show : call.settings.show ≡ other.settings.show
-  pub rule : call.settings.one ≡ other.settings.one
+  pub rule : call.settings.rule ≡ other.settings.rule
 
 -- Calls that differ in which of the engines `jps`, `block` and `plus` they pick come to the same outcome.
 abbrev pub JumpEnginesPrintTheSame : Type 0

@@ -98,7 +98,7 @@ kept_pick (word ∷ words) set none =
     stays None other = refl
     stays (Some (setting.Engine pick)) other = cc
     stays (Some (setting.Show show)) other = refl
-    stays (Some (setting.Rule one)) other = refl
+    stays (Some (setting.Rule rule)) other = refl
     stays (Some setting.TableFile) other = refl
 
 -- where no engine clashes with a table file, one that is picked is the one for it
@@ -123,8 +123,8 @@ sole_pick (word ∷ words) set clear some =
     goes_on (Some (setting.Show show)) clear (inl here) = or_left (has_tables set.pick) (any_pick words) here
     goes_on (Some (setting.Show show)) clear (inr there) =
         or_right (has_tables set.pick) (any_pick words) there
-    goes_on (Some (setting.Rule one)) clear (inl here) = or_left (has_tables set.pick) (any_pick words) here
-    goes_on (Some (setting.Rule one)) clear (inr there) =
+    goes_on (Some (setting.Rule rule)) clear (inl here) = or_left (has_tables set.pick) (any_pick words) here
+    goes_on (Some (setting.Rule rule)) clear (inr there) =
         or_right (has_tables set.pick) (any_pick words) there
     goes_on (Some setting.TableFile) clear some = cc
 
@@ -134,7 +134,7 @@ file_clash : (pick : Pick) → has_tables pick ≡ false → (s : Option Setting
 file_clash pick other None is = cc
 file_clash pick other (Some (setting.Engine p)) is = cc
 file_clash pick other (Some (setting.Show show)) is = cc
-file_clash pick other (Some (setting.Rule one)) is = cc
+file_clash pick other (Some (setting.Rule rule)) is = cc
 file_clash pick other (Some setting.TableFile) is = rw other refl
 
 pick_clash : (pick : Pick) (s : Option Setting) → picks s ≡ true
@@ -142,14 +142,14 @@ pick_clash : (pick : Pick) (s : Option Setting) → picks s ≡ true
 pick_clash pick None is = cc
 pick_clash pick (Some (setting.Engine p)) is = refl
 pick_clash pick (Some (setting.Show show)) is = cc
-pick_clash pick (Some (setting.Rule one)) is = cc
+pick_clash pick (Some (setting.Rule rule)) is = cc
 pick_clash pick (Some setting.TableFile) is = cc
 
 clash_pick : (s : Option Setting) → are_clashing s (Some (setting.Engine Plus)) ≡ true → picks s ≡ true
 clash_pick None is = is
 clash_pick (Some (setting.Engine p)) is = refl
 clash_pick (Some (setting.Show show)) is = is
-clash_pick (Some (setting.Rule one)) is = is
+clash_pick (Some (setting.Rule rule)) is = is
 clash_pick (Some setting.TableFile) is = is
 
 -- a family with the table file has the engine for it
@@ -231,16 +231,16 @@ module _ (allows : List Family) (before : List (List ℕ)) (word : List ℕ) whe
       (λ none. other_word (setting.Show show) is allowed clear none refl)
       (λ has. still_loaded (setting.Show show) is allowed clear has refl)
       (or_cases (is_none (tables_of before)) _ complete)
-  stands_with (whole complete) (setting.Rule one) is allowed clear = ⊎_elim
-      (λ none. other_word (setting.Rule one) is allowed clear none refl)
-      (λ has. still_loaded (setting.Rule one) is allowed clear has refl)
+  stands_with (whole complete) (setting.Rule rule) is allowed clear = ⊎_elim
+      (λ none. other_word (setting.Rule rule) is allowed clear none refl)
+      (λ has. still_loaded (setting.Rule rule) is allowed clear has refl)
       (or_cases (is_none (tables_of before)) _ complete)
   stands_with (whole complete) setting.TableFile is allowed clear = file_told is allowed clear
   stands_with (waits w) (setting.Engine pick) is allowed clear = loaded (rw is (loads pick clear w.named))
   stands_with (waits w) (setting.Show show) is allowed clear =
       still_waits (setting.Show show) is allowed clear w refl
-  stands_with (waits w) (setting.Rule one) is allowed clear =
-      still_waits (setting.Rule one) is allowed clear w refl
+  stands_with (waits w) (setting.Rule rule) is allowed clear =
+      still_waits (setting.Rule rule) is allowed clear w refl
   stands_with (waits w) setting.TableFile is allowed clear =
       still_waits setting.TableFile is allowed clear w refl
 

@@ -38,7 +38,7 @@ module _ (allows : List Family) (bar : BarSmall allows) where
   with_one set None may large = large
   with_one set (Some (setting.Engine pick)) may large = bar pick may
   with_one set (Some (setting.Show show)) may large = large
-  with_one set (Some (setting.Rule one)) may large = large
+  with_one set (Some (setting.Rule rule)) may large = large
   with_one set (Some setting.TableFile) may large = large
 
   -- no word of such settings picks one

@@ -176,7 +176,7 @@ module _ (allows : List Family) (before : List (List ℕ)) (word : List ℕ) whe
           rule,
           file,
         )
-        | Some (setting.Rule one) ↦ λ is. omega (arith, grown (setting.Rule one) is none, engine, show, file)
+        | Some (setting.Rule what) ↦ λ is. omega (arith, grown (setting.Rule what) is none, engine, show, file)
         | Some setting.TableFile ↦ λ is. omega (arith, grown setting.TableFile is none, engine, show, rule)
       ] refl
     where

@@ -4,6 +4,7 @@ use Rattle.std.specs.Prelude.{nat_eq, nat_lt, bytes_eq, codes, length, drop, is_
 use Rattle.std.specs.Prelude.{None}
 use Rattle.std.specs.List.{list_any, fold, starts_with}
 use Rattle.std.specs.Option.{option_or}
+use Rattle.grid_moves.specs.declared.Corner.TheVariants.{Never, One, Both}
 use Rattle.word_list.specs.declared.request.Pick.{Pick}
 use Rattle.word_list.specs.declared.request.Pick.TheVariants.{Plain, Jps, Block, Plus, Boxes, Moves}
 use Rattle.word_list.specs.declared.request.Show.TheVariants.{Points, Cells, Trace, Taken}
@@ -34,15 +35,16 @@ setting_of word =
     else if bytes_eq word (codes "show=cells") then Some (setting.Show Cells)
     else if bytes_eq word (codes "show=trace") then Some (setting.Show Trace)
     else if bytes_eq word (codes "show=taken") then Some (setting.Show Taken)
-    else if bytes_eq word (codes "rule=none") then Some (setting.Rule false)
-    else if bytes_eq word (codes "rule=one") then Some (setting.Rule true)
+    else if bytes_eq word (codes "rule=none") then Some (setting.Rule Never)
+    else if bytes_eq word (codes "rule=one") then Some (setting.Rule One)
+    else if bytes_eq word (codes "rule=both") then Some (setting.Rule Both)
     else None
 
 -- what a setting chooses
 abbrev pub choice_of : Setting → Choice
 choice_of (setting.Engine pick) = choice.Engine
 choice_of (setting.Show show) = choice.Show
-choice_of (setting.Rule one) = choice.Rule
+choice_of (setting.Rule rule) = choice.Rule
 choice_of setting.TableFile = choice.TableFile
 
 -- whether two choices are the same
@@ -92,7 +94,7 @@ has family.Show (setting.Show Trace) = true
 has family.Drawing (setting.Show Points) = true
 has family.Drawing (setting.Show Trace) = true
 has family.Counts (setting.Show Taken) = true
-has family.Rule (setting.Rule one) = true
+has family.Rule (setting.Rule rule) = true
 has family.TableFile setting.TableFile = true
 has family.TableFile (setting.Engine pick) = has_tables pick
 has other setting = false
@@ -115,15 +117,15 @@ all_follow allows before (word ∷ words) =
 
 -- the settings with one more word
 abbrev pub settings_with : Settings → Option Setting → Settings
-settings_with set (Some (setting.Engine pick)) = record { pick = pick; show = set.show; one = set.one }
-settings_with set (Some (setting.Show show)) = record { pick = set.pick; show = show; one = set.one }
-settings_with set (Some (setting.Rule one)) = record { pick = set.pick; show = set.show; one = one }
+settings_with set (Some (setting.Engine pick)) = record { pick = pick; show = set.show; rule = set.rule }
+settings_with set (Some (setting.Show show)) = record { pick = set.pick; show = show; rule = set.rule }
+settings_with set (Some (setting.Rule rule)) = record { pick = set.pick; show = set.show; rule = rule }
 settings_with set (Some setting.TableFile) = set
 settings_with set None = set
 
 -- the settings of a call that is silent on them
 abbrev pub default_settings : Settings
-default_settings = record { pick = Plain; show = Points; one = false }
+default_settings = record { pick = Plain; show = Points; rule = Never }
 
 -- what the words choose
 abbrev pub settings_of : List (List ℕ) → Settings

@@ -1,5 +1,7 @@
 -- Worked rows of the accepted lists, by computing.
-use Rattle.std.specs.Prelude.{◌≡◌, ℕ, Bool, true, false, List, [], ◌∷◌, codes, refl, Option, Some, None}
+use Rattle.std.specs.Prelude.{◌≡◌, ℕ, List, [], ◌∷◌, codes, refl, Option, Some, None}
+use Rattle.grid_moves.specs.declared.Corner.{Corner}
+use Rattle.grid_moves.specs.declared.Corner.TheVariants.{Never, One, Both}
 use Rattle.text_line.specs.LongNumbers.{long_number_of}
 use Rattle.text_line.specs.Numbers.{number_of}
 use Rattle.word_list.specs.declared.request.Pick.TheVariants.{Plain, Jps, Plus, Boxes}
@@ -14,20 +16,20 @@ abbrev query_with : List (List ℕ) → Option Call
 query_with words = call_of (codes "query" ∷ codes "m" ∷ codes "0" ∷ codes "0" ∷ codes "2" ∷ codes "2" ∷ words)
 
 -- the query from (0,0) to (2,2) with these settings
-abbrev query_of : Show → Bool → Option Call
-query_of show one = Some (record {
+abbrev query_of : Show → Corner → Option Call
+query_of show rule = Some (record {
   request = Query (codes "m") None 0 0 2 2;
-  settings = record { pick = Plain; show = show; one = one };
+  settings = record { pick = Plain; show = show; rule = rule };
 })
 
-pub defaults : query_with [] ≡ query_of Points false
+pub defaults : query_with [] ≡ query_of Points Never
 unfolding number_of tables_in
 defaults = refl
 
 -- another engine, and a word that is none
 pub jumping : query_with (codes "engine=jps" ∷ []) ≡ Some (record {
   request = Query (codes "m") None 0 0 2 2;
-  settings = record { pick = Jps; show = Points; one = false };
+  settings = record { pick = Jps; show = Points; rule = Never };
 })
 unfolding number_of tables_in
 jumping = refl
@@ -39,7 +41,7 @@ no_engine = refl
 -- an engine of small maps, and a call for edits, which takes none
 pub boxed : query_with (codes "engine=boxes" ∷ []) ≡ Some (record {
   request = Query (codes "m") None 0 0 2 2;
-  settings = record { pick = Boxes; show = Points; one = false };
+  settings = record { pick = Boxes; show = Points; rule = Never };
 })
 unfolding number_of tables_in
 boxed = refl
@@ -57,14 +59,23 @@ unfolding number_of tables_in
 trace_before_moves = refl
 
 -- settings in any order
-pub show_before_rule : query_with (codes "show=cells" ∷ codes "rule=one" ∷ []) ≡ query_of Cells true
+pub show_before_rule : query_with (codes "show=cells" ∷ codes "rule=one" ∷ []) ≡ query_of Cells One
 unfolding number_of tables_in
 show_before_rule = refl
 
 pub rule_before_show : query_with (codes "rule=none" ∷ codes "engine=plain" ∷ codes "show=trace" ∷ [])
-    ≡ query_of Trace false
+    ≡ query_of Trace Never
 unfolding number_of tables_in
 rule_before_show = refl
+
+-- each of the three rules has its word, and no other word is one
+pub both_blocked : query_with (codes "rule=both" ∷ []) ≡ query_of Points Both
+unfolding number_of tables_in
+both_blocked = refl
+
+pub no_rule : query_with (codes "rule=two" ∷ []) ≡ None
+unfolding number_of tables_in
+no_rule = refl
 
 -- one choice is made twice, be it the same
 pub engine_twice : query_with (codes "engine=plain" ∷ codes "engine=plain" ∷ []) ≡ None
@@ -104,7 +115,7 @@ setting_for_name = refl
 abbrev loaded_query : Option Call
 loaded_query = Some (record {
   request = Query (codes "m") (Some (codes "t=x")) 0 0 2 2;
-  settings = record { pick = Plus; show = Points; one = false };
+  settings = record { pick = Plus; show = Points; rule = Never };
 })
 
 pub file_behind_engine : query_with (codes "engine=plus" ∷ codes "tables=t=x" ∷ []) ≡ loaded_query
@@ -144,7 +155,7 @@ drawn_by_file = refl
 pub three_files : call_of (codes "judge" ∷ codes "m" ∷ codes "s" ∷ codes "w" ∷ codes "rule=one" ∷ [])
     ≡ Some (record {
       request = Judge (codes "m") (codes "s") (codes "w");
-      settings = record { pick = Plain; show = Points; one = true };
+      settings = record { pick = Plain; show = Points; rule = One };
     })
 unfolding tables_in
 three_files = refl
@@ -152,7 +163,7 @@ three_files = refl
 -- rows may tell counts, and nothing else is shown of them; no answer tells counts, and first moves have none
 pub counted_rows : call_of (codes "scen" ∷ codes "m" ∷ codes "s" ∷ codes "show=taken" ∷ []) ≡ Some (record {
   request = Scen (codes "m") None (codes "s");
-  settings = record { pick = Plain; show = Taken; one = false };
+  settings = record { pick = Plain; show = Taken; rule = Never };
 })
 unfolding tables_in
 counted_rows = refl

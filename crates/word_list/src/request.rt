@@ -1,5 +1,6 @@
 //! What the words ask for.
 
+use grid_moves::Corner;
 use thiserror::Error;
 
 /// A request, with the names of files as they stand among the words. Where a request may name a table file,
@@ -105,8 +106,8 @@ pub enum Request<'a> {
 pub struct Settings {
     pub pick: Pick,
     pub show: Show,
-    /// Whether a diagonal move may pass one blocked cell beside it.
-    pub one: bool,
+    /// What a diagonal move asks of the two cells beside it.
+    pub rule: Corner,
 }
 
 /// Which engine searches.

@@ -8,14 +8,15 @@ ghost use Rattle.word_list.specs.Settings as spec;
 ghost use Rattle.word_list.specs.Steps.{AreSettled, one_follows};
 
 use crate::request::{Pick, Settings, Show};
+use grid_moves::Corner;
 
 /// A setting.
 #[derive(Clone, Copy)]
 pub enum Setting {
     Engine(Pick),
     Show(Show),
-    /// Whether a diagonal move may pass one blocked cell beside it.
-    Rule(bool),
+    /// What a diagonal move asks of the two cells beside it.
+    Rule(Corner),
     /// From which file the tables are loaded; its name stands in the word.
     TableFile,
 }
@@ -116,8 +117,9 @@ impl Setting {
             "show=cells" => Some(Setting::Show(Show::Cells)),
             "show=trace" => Some(Setting::Show(Show::Trace)),
             "show=taken" => Some(Setting::Show(Show::Taken)),
-            "rule=none" => Some(Setting::Rule(false)),
-            "rule=one" => Some(Setting::Rule(true)),
+            "rule=none" => Some(Setting::Rule(Corner::Never)),
+            "rule=one" => Some(Setting::Rule(Corner::One)),
+            "rule=both" => Some(Setting::Rule(Corner::Both)),
             _ => None,
         }
     }
@@ -180,7 +182,7 @@ fn with_word(settings: Settings, word: &str) -> Settings
     match Setting::spelled(word) {
         Some(Setting::Engine(pick)) => Settings { pick, ..settings },
         Some(Setting::Show(show)) => Settings { show, ..settings },
-        Some(Setting::Rule(one)) => Settings { one, ..settings },
+        Some(Setting::Rule(rule)) => Settings { rule, ..settings },
         Some(Setting::TableFile) => settings,
         None => settings,
     }

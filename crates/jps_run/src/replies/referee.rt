@@ -13,7 +13,7 @@ ghost use Rattle.line_work.specs.Sending.{SendsWhole};
 use crate::NoMemory;
 use crate::replies::ruling::{Counts, Ruling, put_ruling};
 use crate::replies::scenario::has_sides;
-use call_files::{Extent, OfMap, corner_of};
+use call_files::{Extent, OfMap};
 use edit_replay::{Engine, Reply, Session};
 use grid_moves::Layers;
 use io_edge::Sink;
@@ -52,7 +52,7 @@ impl OfMap for Court {
     }
 
     fn of_map(alloc: Global, map: MapText, settings: Settings) -> Result<Court, NoMemory> {
-        let session = Session::new(alloc, &map, Engine::Block, corner_of(settings.one))?;
+        let session = Session::new(alloc, &map, Engine::Block, settings.rule)?;
         let layers = Layers::of_map(alloc, map, settings)?;
         Ok(Court { session, layers })
     }

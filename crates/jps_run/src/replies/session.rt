@@ -7,7 +7,6 @@ ghost use Rattle.jps_run.specs.Session as spec;
 ghost use Rattle.jps_run.specs.Who.{by_session};
 
 use crate::NoMemory;
-use call_files::corner_of;
 use edit_replay::{Engine, Session};
 use map_text::MapText;
 use std::alloc::Global;
@@ -32,10 +31,5 @@ pub fn session_on(alloc: Global, map: &MapText, settings: Settings) -> Result<Se
     requires { spec.PicksSession settings }
     ensures { IfOk result (spec.IsSessionOn settings (plain map.now)) }
 {
-    Session::new(
-        alloc,
-        map,
-        engine_of(settings.pick),
-        corner_of(settings.one),
-    )
+    Session::new(alloc, map, engine_of(settings.pick), settings.rule)
 }

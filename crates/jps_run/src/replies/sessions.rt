@@ -12,7 +12,6 @@ ghost use Rattle.word_list.specs.Settings as words;
 ghost use Rattle.jps_run.specs.Answerers.{HasSession, IsBasisOn, who_from};
 ghost use Rattle.call_files.specs.MapFiles.{map_files};
 ghost use Rattle.call_files.specs.Files.{file_of};
-ghost use Rattle.call_files.specs.Layered.{corner_of as spec_corner};
 ghost use Rattle.call_files.specs.Reading.{AreMapTables, IsMadeAnd, IsMadeOf, open_stops};
 ghost use Rattle.jps_run.specs.Session as spec;
 ghost use Rattle.line_work.specs.Stops.{Ends};
@@ -21,7 +20,7 @@ ghost use Rattle.call_files.specs.declared.kind.Kind.TheVariants as kinds;
 
 use crate::NoMemory;
 use crate::replies::answerer::Basis;
-use call_files::{Extent, MapTables, Text, corner_of, open_one, read_file, read_tables};
+use call_files::{Extent, MapTables, Text, open_one, read_file, read_tables};
 use edit_replay::Session;
 use io_edge::Files;
 use line_work::Stop;
@@ -37,11 +36,11 @@ fn session_with(
     settings: Settings,
 ) -> Result<Session, NoMemory>
     requires plus { words.has_tables settings.pick ≡ true }
-    requires tables { AreMapTables (spec_corner settings.one) (plain map.now) tables }
+    requires tables { AreMapTables settings.rule (plain map.now) tables }
     ensures { IfOk result (spec.IsSessionOn settings (plain map.now)) }
 {
     let MapTables { land, water } = tables;
-    Session::with_tables(alloc, map, corner_of(settings.one), land, water)
+    Session::with_tables(alloc, map, settings.rule, land, water)
 }
 
 // The session on the map of the first file, with the tables of the second one.
@@ -54,9 +53,9 @@ fn open_loaded<F: Files>(
 ) -> Result<Session, Stop>
     requires plus { words.has_tables settings.pick ≡ true }
     ensures read { Ends (IsMadeOf (spec.IsSessionOn settings) (F.disk files.old).holds
-        (file_of kinds.Map map.now ∷ file_of (kinds.Tables (spec_corner settings.one)) name.now ∷ []))
+        (file_of kinds.Map map.now ∷ file_of (kinds.Tables settings.rule) name.now ∷ []))
         (open_stops (F.disk files.old) (F.disk files.new)
-        (file_of kinds.Map map.now ∷ file_of (kinds.Tables (spec_corner settings.one)) name.now ∷ [])) result }
+        (file_of kinds.Map map.now ∷ file_of (kinds.Tables settings.rule) name.now ∷ [])) result }
     ensures unchanged { (F.disk files.new).holds ≡ (F.disk files.old).holds }
     ensures later { NoneFell (F.disk files.old).faults (F.disk files.new).faults }
 {

@@ -13,7 +13,6 @@ use Rattle.jps_run.specs.Calls.{call_with}
 use Rattle.grid_answers.specs.Encoded.{IsEncoded}
 use Rattle.jps_run.specs.Outcome.{IsAnswered, tabled}
 use Rattle.call_files.specs.Reading.{AreLayersOf}
-use Rattle.call_files.specs.Layered.{corner_of}
 use Rattle.jps_run.specs.Tabled.{tables_text}
 use Rattle.grid_answers.specs.declared.encoded.TableFile.{TableFile}
 use Rattle.jps_run.proofs.Opening.{text-right}
@@ -24,12 +23,12 @@ module _ (set : Settings) (m : Map) (ls : Layers) (are : AreLayersOf set m ls) (
     (corner : file.corner ≡ ls.land.corner) where
   -- what is written is the table file of the map
   encodes : (lines : List (List ℕ)) (status : ℕ) → IsEncoded file lines status
-      → file_of file.corner file.land file.water ≡ tables_text (corner_of set.one) m
+      → file_of file.corner file.land file.water ≡ tables_text set.rule m
   encodes lines status whole =
-      let of_map = layers_of (corner_of set.one) m.width m.height m.cells in
+      let of_map = layers_of set.rule m.width m.height m.cells in
       let on_land = subst (λ (l : Layers). AreTablesOf file.land l.land) are land in
       let on_water = subst (λ (l : Layers). AreTablesOf file.water l.water) are water in
-      let rule : file.corner ≡ corner_of set.one = corner ∙ ap (λ (l : Layers). l.land.corner) are in
+      let rule : file.corner ≡ set.rule = corner ∙ ap (λ (l : Layers). l.land.corner) are in
       file_is of_map.land of_map.water file.corner file.land file.water
       (record { width = refl; height = refl; corner = refl }) on_land on_water whole.land whole.water
       ∙ ap (λ rule. encoding rule of_map.land of_map.water) rule

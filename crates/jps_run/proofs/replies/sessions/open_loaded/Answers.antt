@@ -1,7 +1,6 @@
 use Rattle.std.proofs.Common.{refl, [], ◌∷◌}
 use Rattle.map_text.specs.Faults.{plain}
 use Rattle.call_files.specs.Files.{file_of}
-use Rattle.call_files.specs.Layered.{corner_of}
 use Rattle.call_files.specs.declared.kind.Kind.TheVariants as kinds
 use Rattle.call_files.proofs.Opening.{both-accepted, next-file, none-fell, reading-stops}
 use Rattle.jps_run.proofs.replies.sessions.open_loaded.Goals as goal
@@ -18,7 +17,7 @@ pub returns-in_err-tables-clause-read : goal.returns-in_err-tables-clause-read
 returns-in_err-tables-clause-read g c =
     let disk = g.F.Files.disk c.args.files.now in
     let first = file_of kinds.Map c.args.map.now in
-    let second = file_of (kinds.Tables (corner_of c.args.settings.one)) c.args.name.now in
+    let second = file_of (kinds.Tables c.args.settings.rule) c.args.name.now in
     let r = c.in_ok-map.ensures.read [] tt in
     reading-stops disk _ second (next-file disk.holds (first ∷ []) second [] (r.text ∷ []) (r.accepted, tt))
     (g.F.Files.disk c.read_file.new.files) (g.F.Files.disk c.read_tables.new.files)
@@ -35,7 +34,7 @@ pub returns-clause-read : goal.returns-clause-read
 returns-clause-read g c =
     let disk = g.F.Files.disk c.args.files.now in
     let first = file_of kinds.Map c.args.map.now in
-    let second = file_of (kinds.Tables (corner_of c.args.settings.one)) c.args.name.now in
+    let second = file_of (kinds.Tables c.args.settings.rule) c.args.name.now in
     let r = c.in_ok-map.ensures.read [] tt in
     let s = c.in_ok-tables.ensures.read (r.text ∷ []) r.spelled.0 in
     record {
