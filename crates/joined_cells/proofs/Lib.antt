@@ -1,0 +1,4 @@
+pub mod Joining
+pub mod Spreading
+pub mod Reaching
+pub mod Labelling

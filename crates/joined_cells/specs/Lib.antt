@@ -1,0 +1,4 @@
+pub mod Joined
+pub mod Kept
+pub mod Flood
+pub mod Flooding
