@@ -6,8 +6,10 @@
 //! a walk leads from one to the other. A part's label is one more than the number of its first cell.
 #![tactic(auto)]
 
+mod both;
 mod flood;
 mod labels;
 
+pub use both::JoinedLayers;
 pub use labels::JoinedCells;
 pub use std::alloc::AllocError as NoMemory;
