@@ -46,12 +46,40 @@ take_none : (n : ℕ) → take {A = Ends} n [] ≡ []
 take_none zero = refl
 take_none (suc n) = refl
 
+-- the next tries of a generator
+abbrev pub tries_from : List Cell → ℕ → Lcg → List Ends
+tries_from cells n g = tries_by cells (words_from (2 * n) g)
+
 -- the kept ones so far, and those of the tries that are left, are those of all tries
 pub record AreDrawn (keep : Ends → Bool) (cells : List Cell) (count : ℕ) (start : Lcg) (most tried : ℕ)
     (kept : List Ends) (g : Lcg) : Type 0 where
-  pub all : kept ++ take (count - length kept) (filter keep (tries_by cells (words_from (2 * (most - tried)) g)))
-      ≡ take count (filter keep (tries_by cells (words_from (2 * most) start)))
+  pub all : kept ++ take (count - length kept) (filter keep (tries_from cells (most - tried) g))
+      ≡ take count (filter keep (tries_from cells most start))
   pub few : length kept ≤ count
+
+-- the first words tell a try, and those behind it the others
+next_try : (cells : List Cell) (n m : ℕ) (g : Lcg) (ends : Ends) (new : Lcg) → Draws cells g ends new
+    → n ≡ m + 1 → tries_from cells n g ≡ ends ∷ tries_from cells m new
+unfolding words_from tries_by
+next_try cells n m g ends new draws e =
+    let two : 2 * n ≡ suc (suc (2 * m)) = omega arith in
+    let told : Ends = record {
+      start = cell_at cells (pcg32 g).0;
+      goal = cell_at cells (pcg32 (pcg32 g).1).0;
+    } in
+    ap (λ (k : ℕ). tries_by cells (words_from k g)) two
+    ∙ ap (λ (t : Ends). t ∷ tries_from cells m (pcg32 (pcg32 g).1).1)
+    (sym (same_ends ends told draws.start draws.goal))
+    ∙ ap (λ (h : Lcg). ends ∷ tries_from cells m h) (sym draws.left)
+
+-- a try that is kept, and one that is not
+take_kept : (keep : Ends → Bool) (ends : Ends) (others : List Ends) (n m : ℕ) → n ≡ suc m
+    → keep ends ≡ true → take n (filter keep (ends ∷ others)) ≡ ends ∷ take m (filter keep others)
+take_kept keep ends others n m e good = rw (e, good) refl
+
+take_dropped : (keep : Ends → Bool) (ends : Ends) (others : List Ends) (n : ℕ) → keep ends ≡ false
+    → take n (filter keep (ends ∷ others)) ≡ take n (filter keep others)
+take_dropped keep ends others n bad = rw bad refl
 
 module _ (keep : Ends → Bool) (cells : List Cell) (count : ℕ) (start : Lcg) (most : ℕ) where
   pub none_drawn : AreDrawn keep cells count start most 0 [] start
@@ -60,77 +88,49 @@ module _ (keep : Ends → Bool) (cells : List Cell) (count : ℕ) (start : Lcg) 
       sub_none : (n : ℕ) → n - 0 ≡ n
       sub_none n = omega arith
 
-  module _ (tried : ℕ) (kept : List Ends) (g : Lcg) (are : AreDrawn keep cells count start most tried kept g) where
-    -- the words of one try, and those of the others
-    words_more : tried < most
-        → tries_by cells (words_from (2 * (most - tried)) g)
-        ≡ record { start = cell_at cells (pcg32 g).0; goal = cell_at cells (pcg32 (pcg32 g).1).0 }
-        ∷ tries_by cells (words_from (2 * (most - (tried + 1))) (pcg32 (pcg32 g).1).1)
-    unfolding words_from tries_by
-    words_more more =
-        let two : 2 * (most - tried) ≡ suc (suc (2 * (most - (tried + 1)))) = omega arith in
-        ap (λ (n : ℕ). tries_by cells (words_from n g)) two
-
-    -- the next try, and the others
+  module _ (tried : ℕ) (kept : List Ends) (g : Lcg)
+      (are : AreDrawn keep cells count start most tried kept g) where
     module _ (ends : Ends) (new : Lcg) (draws : Draws cells g ends new) (more : tried < most) where
-      abbrev others : List Ends
-      others = tries_by cells (words_from (2 * (most - (tried + 1))) new)
+      next : kept ++ take (count - length kept)
+          (filter keep (ends ∷ tries_from cells (most - (tried + 1)) new))
+          ≡ take count (filter keep (tries_from cells most start))
+      next =
+          let one : most - tried ≡ most - (tried + 1) + 1 = omega arith in
+          ap (λ (xs : List Ends). kept ++ take (count - length kept) (filter keep xs))
+          (sym (next_try cells (most - tried) (most - (tried + 1)) g ends new draws one)) ∙ are.all
 
-      next_try : tries_by cells (words_from (2 * (most - tried)) g) ≡ ends ∷ others
-      next_try = words_more more
-          ∙ ap (λ (e : Ends). e ∷ tries_by cells (words_from (2 * (most - (tried + 1))) (pcg32 (pcg32 g).1).1))
-          (sym (same_ends ends (record {
-            start = cell_at cells (pcg32 g).0;
-            goal = cell_at cells
-                (pcg32 (pcg32 g).1).0;
-          }) draws.start draws.goal))
-          ∙ ap (λ (h : Lcg). ends ∷ tries_by cells (words_from (2 * (most - (tried + 1))) h)) (sym draws.left)
-
-      -- it is kept, or it is not
       pub drawn_kept : length kept < count → keep ends ≡ true
           → AreDrawn keep cells count start most (tried + 1) (kept ++ (ends ∷ [])) new
       drawn_kept room good =
           let long = length-append kept (ends ∷ []) in
           let one : count - length kept ≡ suc (count - length (kept ++ (ends ∷ []))) = omega arith in
           record {
-            all = append_assoc kept (ends ∷ []) _
-                ∙ ap (λ (xs : List Ends). kept ++ xs) (sym (take_kept (count - length kept) (count - length (kept ++ (ends ∷ []))) one good))
-                ∙ ap (λ (xs : List Ends). kept ++ take (count - length kept) (filter keep xs)) (sym next_try)
-                ∙ are.all;
+            all = append_assoc kept (ends ∷ []) _ ∙ ap (λ (xs : List Ends). kept ++ xs)
+                (sym (take_kept keep ends _ _ _ one good)) ∙ next;
             few = omega arith;
           }
-        where
-          take_kept : (n m : ℕ) → n ≡ suc m → keep ends ≡ true → take n (filter keep (ends ∷ others))
-              ≡ ends ∷ take m (filter keep others)
-          take_kept n m e good = rw (e, good) refl
 
       pub drawn_dropped : keep ends ≡ false → AreDrawn keep cells count start most (tried + 1) kept new
       drawn_dropped bad = record {
-        all = ap (λ (xs : List Ends). kept ++ take (count - length kept) xs) (sym (dropped bad))
-            ∙ ap (λ (xs : List Ends). kept ++ take (count - length kept) (filter keep xs)) (sym next_try)
-            ∙ are.all;
+        all = ap (λ (xs : List Ends). kept ++ xs) (sym (take_dropped keep ends _ _ bad)) ∙ next;
         few = are.few;
       }
-        where
-          dropped : keep ends ≡ false → filter keep (ends ∷ others) ≡ filter keep others
-          dropped bad = rw bad refl
 
     -- where as many were kept as are wanted, or no try is left, these are all
-    pub drawn_enough : count ≤ length kept → kept ≡ take count (filter keep (tries_by cells (words_from
-        (2 * most) start)))
+    pub drawn_enough : count ≤ length kept → kept ≡ take count (filter keep (tries_from cells most start))
     drawn_enough enough =
         let none : count - length kept ≡ 0 = omega arith in
-        sym (append-nil kept) ∙ ap (λ (n : ℕ). kept ++ take n (filter keep
-        (tries_by cells (words_from (2 * (most - tried)) g)))) (sym none) ∙ are.all
+        sym (append-nil kept)
+        ∙ ap (λ (n : ℕ). kept ++ take n (filter keep (tries_from cells (most - tried) g))) (sym none)
+        ∙ are.all
 
-    pub drawn_all : most ≤ tried → kept ≡ take count (filter keep (tries_by cells (words_from
-        (2 * most) start)))
+    pub drawn_all : most ≤ tried → kept ≡ take count (filter keep (tries_from cells most start))
     unfolding words_from tries_by
     drawn_all end =
-        let none : 2 * (most - tried) ≡ 0 = omega arith in
+        let none : most - tried ≡ 0 = omega arith in
         sym (append-nil kept) ∙ ap (λ (xs : List Ends). kept ++ xs) (sym (take_none (count - length kept)))
-        ∙ ap (λ (n : ℕ). kept ++ take (count - length kept) (filter keep (tries_by cells (words_from n g))))
-        (sym none) ∙ are.all
+        ∙ ap (λ (n : ℕ). kept ++ take (count - length kept) (filter keep (tries_from cells n g))) (sym none)
+        ∙ are.all
 
 -- tests that tell of the same walks are one
 same_told : (ls : Layers) (j k : Cell → Cell → Bool) → ((s t : Cell) → IsTrue (j s t) ↔ HasWalk ls s t)

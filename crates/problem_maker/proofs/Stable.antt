@@ -27,8 +27,8 @@ less_told p q Less e = sym e
 less_told p q Equal e = sym (subst (λ (c : Cost). is_less p c ≡ false) e (IsAtMost-refl p))
 less_told p q Greater e = sym (less_at_most q p e)
 
--- two lists in order are one where, of the elements that tie with any one, they have the same ones in the same
--- order
+-- two lists in order are one where, of the elements that tie with any one, they have the same ones in the
+-- same order
 module _ {X : Type 0} (lt : X → X → Bool) (ranks : IsStrictWeakOrder lt) where
   not_less : (x : X) → lt x x ≡ false
   not_less x = by_test (lt x x) refl

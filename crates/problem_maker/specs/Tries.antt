@@ -23,7 +23,8 @@ tries_by cells (v ∷ w ∷ words) = record { start = cell_at cells v; goal = ce
 
 -- so many tries, by the words of the seed exclusive-or 2; where there is no cell there is no try
 abbrev pub tries : List Cell → ℕ → ℕ → List Ends
-tries cells seed n = if nat_eq (length cells) 0 then [] else tries_by cells (words_of (bit_xor seed 2) (2 * n))
+tries cells seed n = if nat_eq (length cells) 0 then []
+    else tries_by cells (words_of (bit_xor seed 2) (2 * n))
 
 -- a try is kept where start and goal differ and are joined
 abbrev pub is_kept : (Cell → Cell → Bool) → Ends → Bool

@@ -9,7 +9,8 @@ use Rattle.problem_maker.specs.Tries.{tries, tries_by, is_kept}
 
 -- four cells
 abbrev row : List Cell
-row = record { x = 0; y = 0 } ∷ record { x = 1; y = 0 } ∷ record { x = 2; y = 0 } ∷ record { x = 3; y = 0 } ∷ []
+row = record { x = 0; y = 0 } ∷ record { x = 1; y = 0 } ∷ record { x = 2; y = 0 }
+    ∷ record { x = 3; y = 0 } ∷ []
 
 -- the first four tries among them of seed 1, whose words a program of its own made, after PCG's paper
 pub tried_of_one : tries row 1 4 ≡

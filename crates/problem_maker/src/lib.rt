@@ -3,9 +3,9 @@
 //!
 //! The free cells of a map, land and water, stand in the order of their numbers. The words of a seed
 //! exclusive-or 2 (of the generator that `map_maker` has) make tries: the start is the free cell at the first
-//! word modulo their number, the goal that at the second. A try is kept where start and goal differ and a walk
-//! leads from one to the other. Tries end with the last one that is wanted, or after ten times as many and a
-//! hundred.
+//! word modulo their number, the goal that at the second. A try is kept where start and goal differ and a
+//! walk leads from one to the other. Tries end with the last one that is wanted, or after ten times as many
+//! and a hundred.
 //!
 //! Scenarios of this kind: Sturtevant, "Benchmarks for Grid-Based Pathfinding", 2012. How pairs are drawn is
 //! this project's own.
