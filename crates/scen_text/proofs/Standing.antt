@@ -61,7 +61,11 @@ module _ (test : ℕ → Bool) (text : List ℕ) where
 
   part_none : (place : ℕ) → place ≤ length text → PartIn test text place []
   part_none place inside =
-      record { inside = omega arith; same = λ k below. absurd (omega arith); none = λ k below. absurd (omega arith) }
+      record {
+        inside = omega arith;
+        same = λ k below. absurd (omega arith);
+        none = λ k below. absurd (omega arith);
+      }
 
   -- a byte before parts joins the first of them
   parts_onto : (place x : ℕ) (parts : List (List ℕ)) → test x ≡ false → x ≡ get_or text (place + 0) 0
@@ -77,7 +81,8 @@ module _ (test : ℕ → Bool) (text : List ℕ) where
       → PartsIn test text (place + 1) parts → PartsIn test text place ([] ∷ parts)
   parts_after place x rest parts stands are =
       let next : place + 1 ≡ place + 0 + 1 = omega arith in
-      (part_none place (let inside = stands.inside in omega arith), subst (λ n. PartsIn test text n parts) next are)
+      let inside = stands.inside in
+      (part_none place (omega arith), subst (λ n. PartsIn test text n parts) next are)
 
 -- the parts between blanks
 blank_parts : (line : List ℕ) (place : ℕ) (rest : List ℕ) → Stands line place rest
@@ -132,8 +137,8 @@ line_in text place piece is =
       none = λ k below. ap is_line_feed (without_cr_at piece k below) ∙ is.none k (omega arith);
     }
 
-lines_in : (text : List ℕ) (number place : ℕ) (pieces : List (List ℕ)) → PartsIn is_line_feed text place pieces
-    → AllByRecursion (LineIn text) (lines_from number place pieces)
+lines_in : (text : List ℕ) (number place : ℕ) (pieces : List (List ℕ))
+    → PartsIn is_line_feed text place pieces → AllByRecursion (LineIn text) (lines_from number place pieces)
 lines_in text number place [] are = tt
 lines_in text number place (piece ∷ pieces) are =
     (line_in text place piece are.0, lines_in text (number + 1) (place + length piece + 1) pieces are.1)
@@ -166,7 +171,8 @@ module _ (place : ℕ) (line : List ℕ) where
       subst (λ n. FieldsIn place line low (filter is_field (placed_from n parts))) next
       (fields_in low (at + 0 + 1) parts (omega arith) are.1)
   fields_in low at ((b ∷ part) ∷ parts) from are =
-      let next : place + (at + length (b ∷ part) + 1) ≡ place + at + length (b ∷ part) + 1 = omega arith in (
+      let behind = place + at + length (b ∷ part) in
+      let next : place + (at + length (b ∷ part) + 1) ≡ behind + 1 = omega arith in (
         record {
           from = at;
           long = length part;
@@ -180,15 +186,16 @@ module _ (place : ℕ) (line : List ℕ) where
               ∙ are.0.none (length part) (omega arith);
         },
         from,
-        subst (λ n. FieldsIn place line (place + at + length (b ∷ part)) (filter is_field (placed_from n parts)))
-            next (fields_in (place + at + length (b ∷ part)) (at + length (b ∷ part) + 1) parts (omega arith) are.1),
+        subst (λ n. FieldsIn place line behind (filter is_field (placed_from n parts))) next
+            (fields_in behind (at + length (b ∷ part) + 1) parts (omega arith) are.1),
       )
 
   all_fields_in : FieldsIn place line place (fields_from place line)
   all_fields_in =
       let here : place + 0 ≡ place = omega arith in
-      subst (λ n. FieldsIn place line place (filter is_field (placed_from n (slice_split is_blank_byte line)))) here
-      (fields_in place 0 (slice_split is_blank_byte line) (omega arith) (blank_parts line 0 line (all_stands line)))
+      let parts = slice_split is_blank_byte line in
+      subst (λ n. FieldsIn place line place (filter is_field (placed_from n parts))) here
+      (fields_in place 0 parts (omega arith) (blank_parts line 0 line (all_stands line)))
 
   -- a field of them
   field_among : (low : ℕ) (before : List Placed) (field : Placed) (after : List Placed)
@@ -203,7 +210,8 @@ module _ (place : ℕ) (line : List ℕ) where
   -- the first and the last field of a name
   name_among : (low : ℕ) (name after : List Placed) (range : ByteRange) → (spans : Spans name range)
       → FieldsIn place line low (name ++ after)
-      → FieldIn place line spans.first × FieldIn place line spans.last × (spans.first.start ≤ spans.last.start)
+      → FieldIn place line spans.first × FieldIn place line spans.last
+      × (spans.first.start ≤ spans.last.start)
   name_among low name after range spans are =
       let begun : FieldsIn place line low (spans.first ∷ (spans.later ++ after)) =
       subst (λ (fields : List Placed). FieldsIn place line low (fields ++ after)) spans.begins are in
@@ -301,7 +309,8 @@ entry_stands text line entry is spelled =
     let back = words.w ∷ words.h ∷ words.sx ∷ words.sy ∷ words.gx ∷ words.gy ∷ words.listed ∷ [] in
     let fields : FieldsIn line.place line.bytes line.place (words.bucket ∷ (has.name ++ back)) =
     subst (FieldsIn line.place line.bytes line.place) has.are (all_fields_in line.place line.bytes) in
-    let among = name_among line.place line.bytes words.bucket.end has.name back words.name has.spans fields.2 in
+    let among =
+    name_among line.place line.bytes words.bucket.end has.name back words.name has.spans fields.2 in
     let there = found_stands text line is has.spans.first has.spans.last among.0 among.1 among.2 in
     let range : words.name ≡ record { start = has.spans.first.start; end = has.spans.last.end } =
     rw (has.spans.start, has.spans.end) refl in
