@@ -194,7 +194,10 @@ fn between_rows(alloc: Global, corner: Corner) -> Result<bool, NoMemory> {
         let cells = [
             Cell { x: 0, y: 1 },
             Cell { x: 1025, y: 1 },
-            Cell { x: x.saturating_sub(2), y: 1 },
+            Cell {
+                x: x.saturating_sub(2),
+                y: 1,
+            },
             Cell { x: x + 1, y: 1 },
         ];
         for y in [0u16, 2] {
@@ -241,7 +244,10 @@ fn between_columns(alloc: Global, corner: Corner) -> Result<bool, NoMemory> {
         let cells = [
             Cell { x: 1, y: 0 },
             Cell { x: 1, y: 1025 },
-            Cell { x: 1, y: y.saturating_sub(2) },
+            Cell {
+                x: 1,
+                y: y.saturating_sub(2),
+            },
             Cell { x: 1, y: y + 1 },
         ];
         for x in [0u16, 2] {
