@@ -1,6 +1,6 @@
-//! Calls under the rule that lets a diagonal move pass between two blocked cells: each command that has rules,
-//! with its whole output. Lines are counted on squared paper; certificate and tables are written by hand from
-//! the formats' descriptions.
+//! Calls under the rule that lets a diagonal move pass between two blocked cells: each command that has
+//! rules, with its whole output. Lines are counted on squared paper; certificate and tables are written by
+//! hand from the formats' descriptions.
 
 use crate::calls::{Call, ENGINES, PILLAR, TOUCHING, check, check_with, on_map, on_two};
 use std::test::Fail;

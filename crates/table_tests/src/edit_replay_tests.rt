@@ -176,8 +176,8 @@ fn moves_between_blocked_cells(rt: HostRuntime) -> Result<(), Fail> {
     Ok(())
 }
 
-// On the map `.WW/.WW` queries run among water cells or among land cells, and edits move the shore: at last the
-// water touches at a corner, between two land cells.
+// On the map `.WW/.WW` queries run among water cells or among land cells, and edits move the shore: at last
+// the water touches at a corner, between two land cells.
 #[test]
 fn water_is_a_layer_of_its_own(rt: HostRuntime) -> Result<(), Fail> {
     let text = b"type octile\nheight 2\nwidth 3\nmap\n.WW\n.WW\n";
