@@ -3,7 +3,7 @@
 
     same_rows.py PROGRAM FOLDER ENGINE ENGINE .. [--walks] [--rule RULE] [--queries N]
 
-For each map of the folder with a scenario beside it (X.map, X.scen) N of its entries (300), evenly spread,
+For each map of the folder with a scenario beside it (X.map with X.map.scen or X.scen) N of its entries (300), evenly spread,
 are answered by each engine. Without --walks they are judged by `scen`: a row shows the cost of a walk, so
 equal output is equal costs. With --walks they are asked by `solve` with show=trace: each line has the points
 and every state that the search took. Prints a line for each map and ends with status 1 where two engines
@@ -16,6 +16,12 @@ import pathlib
 import subprocess
 import sys
 import tempfile
+
+
+def scenario_of(map_file):
+    """The scenario beside a map, or None."""
+    beside = (map_file.with_name(f"{map_file.name}.scen"), map_file.with_suffix(".scen"))
+    return next((it for it in beside if it.is_file()), None)
 
 
 def spread(entries, count):
@@ -52,10 +58,11 @@ def main():
     words.add_argument("--rule", default="none", choices=["none", "one", "both"])
     words.add_argument("--queries", type=int, default=300)
     given = words.parse_args()
-    maps = [m for m in sorted(given.folder.glob("*.map")) if m.with_suffix(".scen").exists()]
+    pairs = [(it, scenario_of(it)) for it in sorted(given.folder.glob("*.map"))]
+    pairs = [pair for pair in pairs if pair[1]]
     differ = 0
-    for map_file in maps:
-        head, *entries = map_file.with_suffix(".scen").read_text().splitlines(keepends=True)
+    for map_file, scenario in pairs:
+        head, *entries = scenario.read_text().splitlines(keepends=True)
         entries = spread(entries, given.queries)
         with tempfile.NamedTemporaryFile("w") as asked:
             asked.write(script_of(entries) if given.walks else head + "".join(entries))
@@ -70,8 +77,8 @@ def main():
         others = [engine for engine in given.engines if told[engine] != first]
         differ += bool(others)
         print(f"{map_file.stem}: {first[1]} lines: {'differs by ' + ', '.join(others) if others else 'same'}", flush=True)
-    print(f"{len(maps)} maps, {differ} differ")
-    sys.exit(1 if differ or not maps else 0)
+    print(f"{len(pairs)} maps, {differ} differ")
+    sys.exit(1 if differ or not pairs else 0)
 
 
 main()

@@ -1,5 +1,6 @@
 #!/usr/bin/env python3
 """Least walks for the entries of a scenario, by Dijkstra's algorithm: the lines that `jps judge` reads.
+No diagonal move cuts a corner: they are right by `rule=none` alone.
 
   python3 examples/judge/walks.py MAP SCEN > WALKS
 """

@@ -2,6 +2,8 @@
  *
  *     cc -o live live.c && ./live PROGRAM MAP
  */
+#include <errno.h>
+#include <signal.h>
 #include <stdio.h>
 #include <stdlib.h>
 #include <sys/wait.h>
@@ -47,7 +49,12 @@ static void ask(const char *command)
     static size_t room;
     fprintf(to_jps, "%s\n", command);
     need(fflush(to_jps) == 0, "jps");
-    need(getline(&line, &room, from_jps) > 0, "jps has no answer");
+    errno = 0;
+    if (getline(&line, &room, from_jps) <= 0) {
+        need(errno == 0, "jps");
+        fputs("jps ended\n", stderr); /* its own line on standard error says why */
+        exit(1);
+    }
     fputs(line, stdout);
 }
 
@@ -59,6 +66,7 @@ int main(int count, char **words)
         return 2;
     }
     pid_t child = start(words[1], words[2]);
+    signal(SIGPIPE, SIG_IGN); /* else a jps that ended would end this program at its next write */
     ask("query 0 0 2 2");
     ask("block 2 1");
     ask("query 0 0 2 2");

@@ -14,7 +14,10 @@ def ask(line):
     """Sends one command and returns the line that answers it."""
     jps.stdin.write(line.encode() + b"\n")
     jps.stdin.flush()
-    return jps.stdout.readline().decode().rstrip("\n")
+    answer = jps.stdout.readline().decode()
+    if not answer:
+        sys.exit("jps ended")  # its own line on standard error says why
+    return answer.rstrip("\n")
 
 
 print(ask("query 0 0 2 2"))

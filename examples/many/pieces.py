@@ -1,7 +1,7 @@
 #!/usr/bin/env python3
 """Cuts the scenarios of a folder into pieces and joins what jps answered to them.
 
-    pieces.py cut [--size N] PROGRAM FOLDER WORK [engine=ENGINE] [rule=RULE]
+    pieces.py cut [--size N] PROGRAM FOLDER WORK [engine=ENGINE] [rule=RULE] [show=taken]
     pieces.py join WORK
 
 `cut` takes each X.map of FOLDER that has a scenario beside it, X.map.scen or X.scen, and makes the folder
@@ -24,7 +24,8 @@ import sys
 import tempfile
 
 LACKING = 7
-SUM = re.compile(rb"sum (\d+) agree (\d+) near (\d+) off (\d+) other (\d+)")
+SUM = re.compile(rb"sum (\d+) agree (\d+) near (\d+) off (\d+) other (\d+)(?: taken (\d+))?")
+KINDS = b"sum %d agree %d near %d off %d other %d"
 
 
 def scenario_of(map_file):
@@ -72,9 +73,17 @@ def fault_of_whole(fault, number, size):
     return b"%s%d" % (found[1], int(found[2]) + number * size)
 
 
+def summed(totals):
+    """The sum of lines `sum ..`, as such a line: with the taken states where each of them tells these."""
+    told = [SUM.fullmatch(it).groups() for it in totals]
+    kinds = KINDS % tuple(sum(int(it[k]) for it in told) for k in range(5))
+    is_counted = told and all(it[5] for it in told)
+    return kinds + (b" taken %d" % sum(int(it[5]) for it in told) if is_counted else b"")
+
+
 def join_pieces(answers, size):
     """What one process would print for the whole: its output, its line on standard error, its status."""
-    lines, sums = [], [0] * 5
+    lines, totals = [], []
     for number, text in enumerate(answers):
         *told, last = text.splitlines()
         status = int(last.split()[1])
@@ -83,15 +92,16 @@ def join_pieces(answers, size):
         *rows, total = told
         for row in rows:
             lines.append(b"row %d %s" % (len(lines) + 1, row.split(b" ", 2)[2]))
-        sums = [a + int(b) for a, b in zip(sums, SUM.fullmatch(total).groups())]
-    lines.append(b"sum %d agree %d near %d off %d other %d" % tuple(sums))
-    return b"".join(it + b"\n" for it in lines), b"", int(sums[3] + sums[4] > 0)
+        totals.append(total)
+    lines.append(summed(totals))
+    _, _, _, off, other, _ = SUM.fullmatch(lines[-1]).groups()
+    return b"".join(it + b"\n" for it in lines), b"", int(int(off) + int(other) > 0)
 
 
 def join(given):
     size = int((given.work / "size").read_text())
     (given.work / "joined").mkdir(exist_ok=True)
-    names, lacking, statuses, sums = {}, [], [], [0] * 5
+    names, lacking, statuses, totals = {}, [], [], []
     for line in (given.work / "list").read_text().splitlines():
         stem, name = line.split("\t")
         names.setdefault(stem, []).append(given.work / "rows" / name)
@@ -105,9 +115,9 @@ def join(given):
         statuses.append(status)
         total = output.splitlines()[-1] if output else fault
         if output:
-            sums = [a + int(b) for a, b in zip(sums, SUM.fullmatch(total).groups())]
+            totals.append(total)
         print(f"{stem}: {total.decode()}")
-    print("sum {} agree {} near {} off {} other {}".format(*sums))
+    print(summed(totals).decode())
     if lacking:
         told = f"{len(lacking)} pieces have no answer yet, {lacking[0]} is the first: call it again"
         print(told, file=sys.stderr)

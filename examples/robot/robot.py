@@ -4,8 +4,9 @@
     robot.py MAP.yaml X Y X Y [--radius R] [--jps PROGRAM] [--map OUT.map] [--picture OUT.ppm]
 
 X Y are start and goal in metres in the frame of the map, R the robot's radius in metres (0): a cell is free
-where the map says so and no cell that is not free lies nearer than R to it, from centre to centre. MAP.yaml
-names a picture in PGM (P5), whose first row is the uppermost, that of the greatest y.
+where the map says so and no cell that is not free lies R or nearer to it, from centre to centre. MAP.yaml
+names a picture in PGM (P5), whose first row is the uppermost, that of the greatest y. PROGRAM is `jps-path`
+where that is on the PATH (not `jps`, which a JDK has too), else the `jps` of this checkout.
 
 Prints the least cost in metres, the points of the walk in metres, and the map with the walk as `*`.
 """
@@ -14,9 +15,19 @@ import argparse
 import math
 import pathlib
 import re
+import shutil
 import subprocess
 import sys
 import tempfile
+
+# What map savers write for a cell of which nothing is known, whatever the thresholds are.
+UNKNOWN = 205 / 255
+# So much, in cells, a radius in metres may lose when it is divided by the size of a cell.
+ROUNDED = 1e-9
+
+
+def default_program():
+    return shutil.which("jps-path") or str(pathlib.Path(__file__).resolve().parents[2] / "jps")
 
 
 def read_yaml(path):
@@ -40,19 +51,28 @@ def read_pgm(path):
 
 def free_rows(told, grey):
     """Which cells are free: their chance to be occupied lies below free_thresh. Unknown ones are not."""
+    if told.get("mode", "trinary") != "trinary":
+        sys.exit(f"a map of mode {told['mode']} is not read, but trinary alone")
     dark_is_free = told.get("negate", "0") not in ("0", "false")
     limit = float(told["free_thresh"])
-    return [[(it if dark_is_free else 1 - it) < limit for it in row] for row in grey]
+    return [[it != UNKNOWN and (it if dark_is_free else 1 - it) < limit for it in row] for row in grey]
 
 
 def with_room(free, radius):
-    """The cells round which no cell that is not free lies nearer than the radius, in cells."""
-    reach = math.ceil(radius)
+    """The cells round which no cell that is not free lies at the radius, in cells, or nearer.
+
+    Of such cells those beside a free one suffice: on the way from any other to a free cell, step by step along
+    columns and rows, one of them comes before it and lies nearer.
+    """
+    reach = math.floor(radius + ROUNDED)
     across = range(-reach, reach + 1)
-    disk = [(dx, dy) for dx in across for dy in across if math.hypot(dx, dy) < radius]
+    disk = [(dx, dy) for dx in across for dy in across if math.hypot(dx, dy) <= radius + ROUNDED]
     kept = [row[:] for row in free]
     for y, row in enumerate(free):
+        near = [free[v] for v in (y - 1, y, y + 1) if 0 <= v < len(free)]
         for x in (x for x, is_free in enumerate(row) if not is_free):
+            if not any(any(it[max(x - 1, 0) : x + 2]) for it in near):
+                continue
             for dx, dy in disk:
                 if 0 <= y + dy < len(free) and 0 <= x + dx < len(row):
                     kept[y + dy][x + dx] = False
@@ -86,8 +106,10 @@ def ask(program, map_file, ends, show):
     words = [program, "query", str(map_file), *map(str, ends), f"show={show}"]
     call = subprocess.run(words, stdout=subprocess.PIPE, text=True)
     fields = call.stdout.split()
-    if call.returncode or fields[0] != "walk":
-        sys.exit(f"no walk: {call.stdout.strip() or f'status {call.returncode}'}")
+    if call.returncode:
+        sys.exit(f"{program} failed: status {call.returncode}")
+    if fields[0] != "walk":
+        sys.exit(f"no walk: {call.stdout.strip()}")
     return int(fields[1]), int(fields[2]), [tuple(map(int, it.split(","))) for it in fields[3:]]
 
 
@@ -114,7 +136,7 @@ def main():
     words.add_argument("yaml", type=pathlib.Path)
     words.add_argument("ends", type=float, nargs=4)
     words.add_argument("--radius", type=float, default=0.0)
-    words.add_argument("--jps", default="jps")
+    words.add_argument("--jps", default=default_program())
     words.add_argument("--map", type=pathlib.Path)
     words.add_argument("--picture", type=pathlib.Path)
     given = words.parse_args()
