@@ -20,10 +20,12 @@
 //! tables MAP [rule=RULE]
 //! boxes MAP X Y [rule=RULE]
 //! moves MAP X Y [rule=RULE]
+//! lengths MAP SCEN [rule=RULE]
+//! problems MAP SEED N [rule=RULE]
 //! ```
 //!
 //! ENGINE is `plain`, `jps`, `block` or `plus`, RULE `none`, `one` or `both`. Names of files are any words;
-//! numbers are 1 to 9 decimal digits, and a seed 1 to 20. FILE is all behind the first `=`, at least one
+//! numbers are 1 to 9 decimal digits, N is 1 to 100000, and a seed has 1 to 20 digits. FILE is all behind the first `=`, at least one
 //! byte. Two settings clash that choose the same. A table file stands beside `engine=plus` alone: it clashes
 //! with every other engine, and where no engine is named a word is missing. `query` and `scen` allow
 //! `engine=boxes` and `engine=moves` besides, of engines for small maps; first moves clash with `show=trace`
