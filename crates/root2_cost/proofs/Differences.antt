@@ -12,6 +12,7 @@ use Rattle.root2_cost.specs.Signed.{IsSignedAtMost, RisesAtMost}
 use Rattle.root2_cost.specs.Rank.{rank_of, signed_rank, straight_rank, diagonal_rank}
 use Rattle.root2_cost.specs.Laws.{HasShortParts, HasShortSides}
 use Rattle.root2_cost.proofs.Less.{same_cost}
+use Rattle.root2_cost.proofs.AtMost.{less_at_most, IsAtMost-refl}
 use Rattle.root2_cost.proofs.Sums.{IsAtMost-add, IsAtMost-cancel_right}
 use Rattle.root2_cost.proofs.Ranking.{less_ranks, ranks_less}
 
@@ -43,14 +44,14 @@ same_signed p q e f =
     ∙ ap (λ (n : ℤ). let s : Signed = record { a = q.a; b = n } in s) f
 
 -- p less q where p is x less y and q is z less w
-record Is (s : Signed) (x y : Cost) : Type 0 where
-  a : s.a ≡ pos x.a -ℤ pos y.a
-  b : s.b ≡ pos x.b -ℤ pos y.b
+pub record Is (s : Signed) (x y : Cost) : Type 0 where
+  pub a : s.a ≡ pos x.a -ℤ pos y.a
+  pub b : s.b ≡ pos x.b -ℤ pos y.b
 
 is_parted : (s : Signed) → Is s (gain s) (loss s)
 is_parted s = record { a = parted s.a; b = parted s.b }
 
-less_is : (p q : Signed) (x y z w : Cost) → Is p x y → Is q z w
+pub less_is : (p q : Signed) (x y z w : Cost) → Is p x y → Is q z w
     → is_signed_less p q ≡ is_less (add_costs x w) (add_costs z y)
 less_is p q x y z w i j =
     let a : q.a -ℤ p.a ≡ pos (z.a + y.a) -ℤ pos (x.a + w.a) = omega (arith, ints, i.a, j.a) in
@@ -84,6 +85,22 @@ signed_at_most-trans p q r g h =
     (omega arith) (omega arith))
     (same_cost (add_costs (add_costs z y) (add_costs s w)) (add_costs (add_costs s y) (add_costs z w))
     (omega arith) (omega arith))
+
+-- what is less is at most, and each is at most itself
+pub signed_less-at_most : (p q : Signed) → IsSignedLess p q → IsSignedAtMost p q
+signed_less-at_most p q h =
+    let x = gain p in
+    let y = loss p in
+    let z = gain q in
+    let w = loss q in
+    let less : IsLess (add_costs x w) (add_costs z y) =
+    sym (less_is p q x y z w (is_parted p) (is_parted q)) ∙ h in
+    less_is q p z w x y (is_parted q) (is_parted p) ∙ less_at_most (add_costs x w) (add_costs z y) less
+
+pub signed_at_most-refl : (p : Signed) → IsSignedAtMost p p
+signed_at_most-refl p =
+    less_is p p (gain p) (loss p) (gain p) (loss p) (is_parted p) (is_parted p)
+    ∙ IsAtMost-refl (add_costs (gain p) (loss p))
 
 -- a difference with a cost more
 more_is : (s : Signed) (x y c : Cost) → Is s x y → Is (add_signed s (signed_of c)) (add_costs x c) y

@@ -9,3 +9,4 @@ pub mod Most
 pub mod Ranking
 pub mod Differences
 pub mod Decoding
+pub mod Rounding

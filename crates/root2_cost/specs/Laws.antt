@@ -8,6 +8,10 @@ use Rattle.root2_cost.specs.declared.Signed.{Signed}
 use Rattle.root2_cost.specs.Signed.{signed_of, add_signed, signed_difference, IsSignedLess, IsSignedAtMost}
 use Rattle.root2_cost.specs.Signed.{RisesAtMost}
 use Rattle.root2_cost.specs.Rank.{rank_of, signed_rank}
+use Rattle.root2_cost.specs.declared.lengths.Decimal.{Decimal}
+use Rattle.root2_cost.specs.declared.lengths.Verdict.TheVariants.{Agree}
+use Rattle.root2_cost.specs.Verdict.{verdict_of}
+use Rattle.root2_cost.specs.Length.{IsNearest, IsBucket}
 
 -- of two costs one is the lesser, or they are the same pair
 abbrev pub OrderIsTotal : Type 0
@@ -74,3 +78,20 @@ pub record HasShortSides (s : Signed) : Type 0 where
 abbrev pub SignedRanksTellOrder : Type 0
 SignedRanksTellOrder = (p q : Signed) → HasShortSides p → HasShortSides q
     → IsSignedLess p q ↔ (signed_rank p <ℤ signed_rank q)
+
+-- two lengths of eight decimals that are nearest to a cost are the same
+abbrev pub NearestIsOne : Type 0
+NearestIsOne = (cost : Cost) (p q : Decimal) → IsNearest cost p → IsNearest cost q → p ≡ q
+
+-- the nearest length agrees with the cost
+abbrev pub NearestAgrees : Type 0
+NearestAgrees = (cost : Cost) (length : Decimal) → IsNearest cost length → verdict_of length cost ≡ Agree
+
+-- the nearest length of at most 2^24 moves of each kind has at most eight digits before the point
+abbrev pub NearestIsShort : Type 0
+NearestIsShort = (cost : Cost) (length : Decimal) → IsNearest cost length → cost.a ≤ 2 ^ 24
+    → cost.b ≤ 2 ^ 24 → length.digits < 10 ^ 16
+
+-- two buckets of a cost are the same
+abbrev pub BucketIsOne : Type 0
+BucketIsOne = (cost : Cost) (p q : ℕ) → IsBucket cost p → IsBucket cost q → p ≡ q

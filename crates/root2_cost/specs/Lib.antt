@@ -1,4 +1,5 @@
 pub mod Laws
+pub mod Length
 pub mod Order
 pub mod Rank
 pub mod Signed

@@ -5,6 +5,7 @@
 
 ghost use Rattle.root2_cost.specs.Laws.{OrderIsTotal, OrderIsTransitive, ValuesTellPairs, SumsKeepOrder, SquaresDecide, DistancesAdd, RanksTellOrder, RanksTellPairs};
 ghost use Rattle.root2_cost.specs.Laws.{SignedCostsKeepOrder, SignedOrderIsTransitive, DifferencesTelescope, BoundsAddUp, SignedRanksTellOrder};
+ghost use Rattle.root2_cost.specs.Laws.{NearestIsOne, NearestAgrees, NearestIsShort, BucketIsOne};
 
 /// Of two costs one is the lesser, or they are the same pair.
 pub fn order_is_total()
@@ -69,4 +70,24 @@ pub fn bounds_add_up()
 /// Of two differences with parts below 2^30 in amount the lesser is the one of the lesser rank.
 pub fn signed_ranks_tell_order()
     ensures { SignedRanksTellOrder }
+{}
+
+/// Two lengths of eight decimals that are nearest to a cost are the same.
+pub fn nearest_is_one()
+    ensures { NearestIsOne }
+{}
+
+/// The length that is nearest to a cost agrees with it.
+pub fn nearest_agrees()
+    ensures { NearestAgrees }
+{}
+
+/// The nearest length of at most 2^24 moves of each kind has at most eight digits before the point.
+pub fn nearest_is_short()
+    ensures { NearestIsShort }
+{}
+
+/// Two buckets of a cost are the same.
+pub fn bucket_is_one()
+    ensures { BucketIsOne }
 {}

@@ -16,9 +16,11 @@ use std::cmp::Ordering;
 
 pub mod laws;
 mod lengths;
+mod nearest;
 mod ranks;
 
 pub use lengths::{Decimal, Verdict, judge};
+pub use nearest::{bucket, nearest_length};
 pub use ranks::{DIAGONAL_RANK, STRAIGHT_RANK};
 
 /// A cost: `a` straight moves and `b` diagonal moves, with the value a + b√2.
