@@ -16,7 +16,7 @@ use Rattle.grid_moves.proofs.Legal.{and_both, legal_is, is_legal-from}
 use Rattle.grid_moves.proofs.Short.{walk_free}
 use Rattle.cost_waves.specs.Begin.{IsLeastCost, IsCostTo}
 
-legal_back : (g : GridData) (u v : Cell) → is_legal g u v ≡ true → is_legal g v u ≡ true
+pub legal_back : (g : GridData) (u v : Cell) → is_legal g u v ≡ true → is_legal g v u ≡ true
 legal_back g u v h =
     let l = legal_is g u v h in
     is_legal-from g v u (record {

@@ -1,0 +1,5 @@
+pub mod Joining
+pub mod Spreading
+pub mod Reaching
+pub mod Labelling
+pub mod Layering

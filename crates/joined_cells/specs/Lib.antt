@@ -1,0 +1,5 @@
+pub mod Joined
+pub mod Both
+pub mod Kept
+pub mod Flood
+pub mod Flooding
