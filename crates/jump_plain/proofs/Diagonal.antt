@@ -1,6 +1,6 @@
 -- A diagonal jump stops at the goal, where a neighbour is forced, and where a straight jump in a component
 -- finds a stop.
-use Rattle.std.proofs.Common.{◌≡◌, ℕ, zero, suc, ◌+◌, arith, Bool, true, false, not, ◌||◌, refl, ap, sym, ◌∙◌}
+use Rattle.std.proofs.Common.{◌≡◌, ℕ, zero, suc, ◌+◌, arith, Bool, true, false, not, ◌&&◌, ◌||◌, refl, ap, sym, ◌∙◌}
 use Rattle.std.specs.Prelude.{Option, Some, None, is_some, option_and_then, option_map, if◌then◌else◌}
 use Rattle.grid_moves.specs.declared.Cell.{Cell}
 use Rattle.grid_moves.specs.declared.Dir.{Dir}
@@ -71,14 +71,14 @@ is_stop-diagonal : (g : GridData) (goal : Cell) (d : Dir) (v : Cell) → is_diag
 is_stop-diagonal g goal d v h = rw (
   straight_finds g goal v (turn Right d) (turn_parity Right d ∙ ap not h),
   straight_finds g goal v (turn Left d) (turn_parity Left d ∙ ap not h),
-  h,
 ) (regroup (is_same v goal) (is_forced g v d) (goal_on g goal v (turn Right d))
     (goal_on g goal v (turn Left d))
-    (forced_on g v (turn Right d)) (forced_on g v (turn Left d)))
+    (forced_on g v (turn Right d)) (forced_on g v (turn Left d)) (is_diagonal d) h)
   where
-    regroup : (a b c d e f : Bool)
-        → ((a || (b || (e || f))) || (c || d)) ≡ (((a || b) || (c || e)) || (d || f))
-    regroup a b c d e f = grind arith
+    regroup : (a b c d e f diagonal : Bool) → diagonal ≡ true
+        → ((a || (b || (diagonal && (e || f)))) || (diagonal && (c || d)))
+        ≡ (((a || b) || (c || e)) || (d || f))
+    regroup a b c d e f diagonal h = rw h (grind arith)
 
 -- the same as code reads it
 pub is_stop-read : (g : GridData) (goal : Cell) (d : Dir) (v : Cell) → is_diagonal d ≡ true → (read b : Bool)

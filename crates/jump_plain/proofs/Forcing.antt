@@ -3,11 +3,12 @@ use Rattle.std.proofs.Common.{◌≡◌, arith, Bool, true, false, not, ◌&&◌
 use Rattle.std.specs.Prelude.{Option, Some, is_some}
 use Rattle.grid_moves.specs.declared.Cell.{Cell}
 use Rattle.grid_moves.specs.declared.Corner.{Corner}
-use Rattle.grid_moves.specs.declared.Corner.TheVariants.{Never, One}
 use Rattle.grid_moves.specs.declared.Dir.{Dir}
 use Rattle.grid_moves.specs.Grid.{GridData, is_free}
-use Rattle.grid_moves.specs.Move.{legal_ahead, is_open, is_passable}
-use Rattle.grid_moves.proofs.Legal.{and_both, legal_is}
+use Rattle.grid_moves.specs.Move.{legal_ahead, is_open, is_passable, may_cut, may_slip}
+use Rattle.grid_moves.proofs.Legal.{and_both, legal_is, by_cut, passable-cut, passable-uncut}
+use Rattle.std.proofs.lemmas.Bool.{cond-true, cond-false}
+use Rattle.grid_moves.proofs.Besides.{passable-turned}
 use Rattle.pruning.specs.declared.turns.Side.{Side}
 use Rattle.pruning.specs.declared.turns.Side.TheVariants.{Right, Left}
 use Rattle.pruning.specs.Turns.{turn, quarter, rear, is_diagonal}
@@ -18,31 +19,33 @@ use Rattle.pruning.proofs.Table.{straight_back, straight_side, diagonal_back, tu
 use Rattle.pruning.proofs.Table.{turn_back}
 use Rattle.pruning.proofs.Moves.{can_move-straight, can_move-diagonal}
 use Rattle.pruning.proofs.Bridging.{place_of, free_place, open_there, Leads, leads_there, legal_leads}
-use Rattle.pruning.proofs.Replacing.{by_corner}
 use Rattle.jump_plain.specs.declared.beside.Sides.{Sides}
 use Rattle.jump_plain.specs.declared.jump.Components.{Components}
-use Rattle.jump_plain.specs.Beside.{sides_of, opens}
-use Rattle.jump_plain.specs.Reach.{components_of, first_sides, sides_after}
+use Rattle.jump_plain.specs.Beside.{sides_of, sides_ahead, opens}
+use Rattle.jump_plain.specs.Reach.{components_of, first_sides, sides_after, sides_passed}
+
+abbrev free_sides : Sides
+free_sides = record { right = true; left = true }
 
 abbrev sides : Bool → Bool → Sides
 sides a b = record { right = a; left = b }
 
 -- which cells a forced neighbour asks for, by the rule
 module _ (r : Corner) (blocked can : Dir → Bool) (d : Dir) (s : Side) where
-  uncut : r ≡ Never → is_diagonal d ≡ false
+  uncut : may_cut r ≡ false → is_diagonal d ≡ false
       → is_forced_on r blocked can d s ≡ (blocked (rear s d) && can (quarter s d))
   uncut e h = rw (e, h) refl
 
-  cut : r ≡ One → is_diagonal d ≡ false
+  cut : may_cut r ≡ true → is_diagonal d ≡ false
       → is_forced_on r blocked can d s ≡ (blocked (quarter s d) && can (turn s d))
   cut e h = rw (e, h) refl
 
   cut_past : is_diagonal d ≡ true → blocked (rear s d) ≡ false → is_forced_on r blocked can d s ≡ false
-  cut_past h k = by_corner r (λ e. rw (e, h) refl) (λ e. rw (e, h, k) refl)
+  cut_past h k = by_cut r (λ e. rw (e, h) refl) (λ e. rw (e, h, k) refl)
 
 -- a move between two cells, one of them free, passes where one may be cut
-passes : (r : Corner) (a b c : Bool) → r ≡ One → (b || c) ≡ true → (a && is_passable r b c) ≡ a
-passes r a b c e h = rw (e, h) (grind arith)
+passes : (r : Corner) (a b c : Bool) → may_cut r ≡ true → (b || c) ≡ true → (a && is_passable r b c) ≡ a
+passes r a b c e h = rw (passable-cut r e b c h) (grind arith)
 
 either : (b c : Bool) → b ≡ true → (b || c) ≡ true
 either b c h = grind arith
@@ -50,15 +53,24 @@ either b c h = grind arith
 either-right : (b c : Bool) → c ≡ true → (b || c) ≡ true
 either-right b c h = grind arith
 
-shut : (r : Corner) (o b c : Bool) → r ≡ One → b ≡ false → (not c && (o && is_passable r b c)) ≡ false
-shut r o b c e h = rw e (grind arith)
+-- past a blocked cell ahead a move leads between two blocked cells
+slips : (r : Corner) (o b c : Bool) → b ≡ false
+    → (not c && (o && is_passable r b c)) ≡ (may_slip r && (not c && o))
+slips r o b c h = rw h (by_side c)
+  where
+    by_side : (c : Bool) → (not c && (o && is_passable r false c)) ≡ (may_slip r && (not c && o))
+    by_side true = both_false (may_slip r)
+      where
+        both_false : (s : Bool) → false ≡ (s && false)
+        both_false s = grind arith
+    by_side false = turned o (may_slip r)
+      where
+        turned : (o s : Bool) → (o && s) ≡ (s && o)
+        turned o s = grind arith
 
-shut-right : (r : Corner) (o b c : Bool) → r ≡ One → c ≡ false → (not b && (o && is_passable r b c)) ≡ false
-shut-right r o b c e h = rw e (grind arith)
-
-passes_both : (r : Corner) (a b : Bool) → r ≡ Never → is_passable r a b ≡ true → (a ≡ true) × (b ≡ true)
-passes_both Never a b e h = and_both a b h
-passes_both One a b e h = absurd (cc)
+passes_both : (r : Corner) (a b : Bool) → may_cut r ≡ false → is_passable r a b ≡ true
+    → (a ≡ true) × (b ≡ true)
+passes_both r a b e h = and_both a b (sym (passable-uncut r e a b) ∙ h)
 
 module _ (g : GridData) (u v : Cell) (d : Dir) (l : Leads g u v d) where
   source : is_free g u ≡ true
@@ -78,7 +90,7 @@ module _ (g : GridData) (u v : Cell) (d : Dir) (l : Leads g u v d) where
   open_ahead = open_there g u d ∙ ap (λ (p : Place). free_place g p) (leads_there g u v d l) ∙ target
 
   -- where no corner is cut a neighbour is forced at v where the side opens from u to v
-  forced_there : g.corner ≡ Never → is_diagonal d ≡ false → (s : Side)
+  forced_there : may_cut g.corner ≡ false → is_diagonal d ≡ false → (s : Side)
       → is_forced_on g.corner (is_blocked g v) (can_move g v) d s
       ≡ (not (is_open g u (quarter s d)) && is_open g v (quarter s d))
   forced_there r h s = uncut g.corner (is_blocked g v) (can_move g v) d s r h ∙ rw (
@@ -86,12 +98,12 @@ module _ (g : GridData) (u v : Cell) (d : Dir) (l : Leads g u v d) where
     can_move-straight g v (quarter s d) target (quarter_parity s d ∙ h),
   ) refl
 
-  pub is_forced-there : g.corner ≡ Never → is_diagonal d ≡ false
+  pub is_forced-there : may_cut g.corner ≡ false → is_diagonal d ≡ false
       → is_forced g v d ≡ opens (sides_of g u d) (sides_of g v d)
   is_forced-there r h = rw (forced_there r h Right, forced_there r h Left) refl
 
   -- where one may be cut a neighbour is forced at u there
-  turns_aside : g.corner ≡ One → is_diagonal d ≡ false → (s : Side)
+  turns_aside : may_cut g.corner ≡ true → is_diagonal d ≡ false → (s : Side)
       → can_move g u (turn s d) ≡ is_open g u (turn s d)
   turns_aside r h Right =
       let beside : is_open g u (turn Left (turn Right d)) ≡ true = rw (turn_back Right d) open_ahead in
@@ -104,13 +116,13 @@ module _ (g : GridData) (u v : Cell) (d : Dir) (l : Leads g u v d) where
       ∙ passes g.corner (is_open g u (turn Left d)) (is_open g u (turn Left (turn Left d)))
       (is_open g u (turn Right (turn Left d))) r (either-right _ _ beside)
 
-  forced_here : g.corner ≡ One → is_diagonal d ≡ false → (s : Side)
+  forced_here : may_cut g.corner ≡ true → is_diagonal d ≡ false → (s : Side)
       → is_forced_on g.corner (is_blocked g u) (can_move g u) d s
       ≡ (not (is_open g u (quarter s d)) && is_open g v (quarter s d))
   forced_here r h s = cut g.corner (is_blocked g u) (can_move g u) d s r h
       ∙ rw (turns_aside r h s, seen_from (quarter s d) (turn s d) (straight_side s d (place_of u) h)) refl
 
-  pub is_forced-here : g.corner ≡ One → is_diagonal d ≡ false
+  pub is_forced-here : may_cut g.corner ≡ true → is_diagonal d ≡ false
       → is_forced g u d ≡ opens (sides_of g u d) (sides_of g v d)
   is_forced-here r h = rw (forced_here r h Right, forced_here r h Left) refl
 
@@ -125,7 +137,7 @@ module _ (g : GridData) (u v : Cell) (d : Dir) (l : Leads g u v d) where
   is_forced-past h o p = rw (free_behind Right h o, free_behind Left h p) refl
 
   -- where no corner is cut the cells beside a diagonal move are free, also as seen from its end
-  pub free_rear : g.corner ≡ Never → is_diagonal d ≡ true → can_move g u d ≡ true → (s : Side)
+  pub free_rear : may_cut g.corner ≡ false → is_diagonal d ≡ true → can_move g u d ≡ true → (s : Side)
       → is_open g v (rear s d) ≡ true
   free_rear r h m s = seen_from (rear s d) (turn s d) (diagonal_back s d (place_of u) h) ∙ free_beside s
     where
@@ -148,25 +160,32 @@ clear_past g u v d legal h e f m n right left clear i j k c =
     (ap (λ (a : Dir). is_open g u a) (sym m) ∙ sym i ∙ open_both.0)
     (ap (λ (a : Dir). is_open g u a) (sym n) ∙ sym j ∙ open_both.1)
 
--- where one may be cut nothing is forced at the end of a run
-module _ (g : GridData) (u : Cell) (d : Dir) (free : is_free g u ≡ true) (r : g.corner ≡ One) where
-  none_forced : is_diagonal d ≡ false → is_open g u d ≡ false → (s : Side)
-      → is_forced_on g.corner (is_blocked g u) (can_move g u) d s ≡ false
-  none_forced h o Right =
+-- where one may be cut, at the end of a run a neighbour is forced only past it and a blocked side
+module _ (g : GridData) (u : Cell) (d : Dir) (free : is_free g u ≡ true) (r : may_cut g.corner ≡ true) where
+  forced_past : is_diagonal d ≡ false → is_open g u d ≡ false → (s : Side)
+      → is_forced_on g.corner (is_blocked g u) (can_move g u) d s
+      ≡ (may_slip g.corner && (not (is_open g u (quarter s d)) && is_open g u (turn s d)))
+  forced_past h o Right =
       let beside : is_open g u (turn Left (turn Right d)) ≡ false = rw (turn_back Right d) o in
       cut g.corner (is_blocked g u) (can_move g u) d Right r h
       ∙ rw (can_move-diagonal g u (turn Right d) free (turn_parity Right d ∙ ap not h))
-      (shut g.corner (is_open g u (turn Right d)) (is_open g u (turn Left (turn Right d)))
-      (is_open g u (turn Right (turn Right d))) r beside)
-  none_forced h o Left =
+      (slips g.corner (is_open g u (turn Right d)) (is_open g u (turn Left (turn Right d)))
+      (is_open g u (turn Right (turn Right d))) beside)
+  forced_past h o Left =
       let beside : is_open g u (turn Right (turn Left d)) ≡ false = rw (turn_back Left d) o in
       cut g.corner (is_blocked g u) (can_move g u) d Left r h
       ∙ rw (can_move-diagonal g u (turn Left d) free (turn_parity Left d ∙ ap not h))
-      (shut-right g.corner (is_open g u (turn Left d)) (is_open g u (turn Left (turn Left d)))
-      (is_open g u (turn Right (turn Left d))) r beside)
+      (ap (λ (p : Bool). not (is_open g u (turn Left (turn Left d))) && (is_open g u (turn Left d) && p))
+      (passable-turned g.corner _ _)
+      ∙ slips g.corner (is_open g u (turn Left d)) (is_open g u (turn Right (turn Left d)))
+      (is_open g u (turn Left (turn Left d))) beside)
 
-  pub is_forced-nowhere : is_diagonal d ≡ false → is_open g u d ≡ false → is_forced g u d ≡ false
-  is_forced-nowhere h o = rw (none_forced h o Right, none_forced h o Left) refl
+  pub is_forced-end : is_diagonal d ≡ false → is_open g u d ≡ false
+      → is_forced g u d ≡ (may_slip g.corner && opens (sides_of g u d) (sides_ahead g u d))
+  is_forced-end h o = rw (forced_past h o Right, forced_past h o Left) (joined (may_slip g.corner) _ _)
+    where
+      joined : (s a b : Bool) → (s && a || s && b) ≡ (s && (a || b))
+      joined s a b = grind arith
 
 -- a legal move leads to a free cell
 pub ahead_free : (g : GridData) (u v : Cell) (d : Dir) → legal_ahead g u d ≡ Some v → is_free g v ≡ true
@@ -180,15 +199,24 @@ pub sides_known : (g : GridData) (u v : Cell) (d : Dir) → legal_ahead g u d �
     → (beside : Components) → beside ≡ components_of g v d → (s : Side)
     → sides_after g.corner beside s ≡ first_sides g.corner g v (turn s d)
 sides_known g u v d legal h beside is s =
-    ap (λ (c : Components). sides_after g.corner c s) is ∙ by_rule g.corner refl s
+    ap (λ (c : Components). sides_after g.corner c s) is ∙ by_rule s
   where
-    rear : g.corner ≡ Never → (s : Side) → is_open g v (turn s (quarter s d)) ≡ true
+    rear : may_cut g.corner ≡ false → (s : Side) → is_open g v (turn s (quarter s d)) ≡ true
     rear r s = free_rear g u v d (legal_leads g u v d legal) r h (ap (λ (o : Option Cell). is_some o) legal) s
 
-    by_rule : (r : Corner) → g.corner ≡ r → (s : Side)
-        → sides_after r (components_of g v d) s ≡ first_sides r g v (turn s d)
-    by_rule Never r Right = same_sides true (is_open g v (turn Left d)) _ _ (sym (rear r Right))
-        (ap (λ (e : Dir). is_open g v (turn Left e)) (sym (turn_back Right d)))
-    by_rule Never r Left = same_sides (is_open g v (turn Right d)) true _ _
-        (ap (λ (e : Dir). is_open g v (turn Right e)) (sym (turn_back Left d))) (sym (rear r Left))
-    by_rule One r s = refl
+    known : may_cut g.corner ≡ false → (s : Side)
+        → sides_after g.corner (components_of g v d) s ≡ sides_passed (components_of g v d) s
+    known r s = cond-false (may_cut g.corner) free_sides (sides_passed (components_of g v d) s) r
+
+    uncut : may_cut g.corner ≡ false → (s : Side)
+        → sides_after g.corner (components_of g v d) s ≡ sides_of g v (turn s d)
+    uncut r Right = known r Right ∙ (same_sides true (is_open g v (turn Left d)) _ _ (sym (rear r Right))
+        (ap (λ (e : Dir). is_open g v (turn Left e)) (sym (turn_back Right d))))
+    uncut r Left = known r Left ∙ (same_sides (is_open g v (turn Right d)) true _ _
+        (ap (λ (e : Dir). is_open g v (turn Right e)) (sym (turn_back Left d))) (sym (rear r Left)))
+
+    by_rule : (s : Side)
+        → sides_after g.corner (components_of g v d) s ≡ first_sides g.corner g v (turn s d)
+    by_rule s = by_cut g.corner (λ r. uncut r s ∙ sym (cond-false (may_cut g.corner) free_sides (sides_of g v (turn s d)) r))
+        (λ r. cond-true (may_cut g.corner) free_sides (sides_passed (components_of g v d) s) r
+        ∙ sym (cond-true (may_cut g.corner) free_sides (sides_of g v (turn s d)) r))

@@ -103,13 +103,13 @@ stop-next false true o m goal =
 stop-next false false None m goal = step_on m false goal
 stop-next false false (Some k) m goal = step_on k true goal
 
-straight : (a b : Bool) → ((a || (b || false)) || false) ≡ (a || b)
-straight a b = grind arith
+straight : (a b c x y : Bool) → c ≡ false → ((a || (b || (c && x))) || (c && y)) ≡ (a || b)
+straight a b c x y h = grind arith
 
 -- a straight jump stops at the goal and where a neighbour is forced
 pub is_stop-straight : (g : GridData) (goal : Cell) (d : Dir) (v : Cell) → is_diagonal d ≡ false
     → is_stop g goal d v ≡ (is_same v goal || is_forced g v d)
-is_stop-straight g goal d v h = rw h (straight (is_same v goal) (is_forced g v d))
+is_stop-straight g goal d v h = straight (is_same v goal) (is_forced g v d) (is_diagonal d) _ _ h
 
 straight_within : (g : GridData) (goal : Cell) (d : Dir) → is_diagonal d ≡ false → (n : ℕ) (x : Cell)
     → first_within n g d (is_stop g goal d) x

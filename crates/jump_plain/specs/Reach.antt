@@ -1,14 +1,14 @@
 -- How far a scan along a straight run reaches, and the first stop that follows from it.
 use Rattle.std.specs.Prelude.{◌≡◌, ℕ, ◌+◌, ◌-◌, true, false, ◌&&◌, nat_lt, nat_le, nat_eq, Option, Some, None}
-use Rattle.std.specs.Prelude.{if◌then◌else◌, refl}
+use Rattle.std.specs.Prelude.{if◌then◌else◌, refl, codes}
 use Rattle.grid_moves.specs.declared.Cell.{Cell}
 use Rattle.grid_moves.specs.declared.Corner.{Corner}
-use Rattle.grid_moves.specs.declared.Corner.TheVariants.{Never, One}
+use Rattle.grid_moves.specs.declared.Corner.TheVariants.{Never, One, Both}
 use Rattle.grid_moves.specs.declared.Dir.{Dir}
 use Rattle.grid_moves.specs.declared.Dir.TheVariants.{N, NE, E, SE, S, SW, W, NW}
-use Rattle.grid_moves.specs.Grid.{GridData}
+use Rattle.grid_moves.specs.Grid.{GridData, grid_of}
 use Rattle.grid_moves.specs.Examples.{notch}
-use Rattle.grid_moves.specs.Move.{is_open}
+use Rattle.grid_moves.specs.Move.{is_open, may_cut}
 use Rattle.pruning.specs.declared.turns.Side.{Side}
 use Rattle.pruning.specs.declared.turns.Side.TheVariants.{Right, Left}
 use Rattle.pruning.specs.Turns.{turn}
@@ -39,20 +39,17 @@ further k r = record { moves = k + r.moves; marked = r.marked }
 -- what a scan that stands at x has still to find: where a corner may be cut, a mark is seen one move late, so
 -- x itself may have one
 abbrev pub left_at : Corner → GridData → Cell → Dir → Reach
-left_at Never g x d = reach_of g x d
-left_at One g x d = reach_at g x d
+left_at rule g x d = if may_cut rule then reach_at g x d else reach_of g x d
 
 -- the mark that the move from u to the next cell shows stands at the next cell where no corner is cut, and
 -- else at u
 abbrev pub mark_ahead : Corner → ℕ
-mark_ahead Never = 1
-mark_ahead One = 0
+mark_ahead rule = if may_cut rule then 0 else 1
 
 -- the sides with which a scan begins: where a corner may be cut, as if both were free, so that the first move
 -- shows no mark
 abbrev pub first_sides : Corner → GridData → Cell → Dir → Sides
-first_sides Never g x d = sides_of g x d
-first_sides One g x d = record { right = true; left = true }
+first_sides rule g x d = if may_cut rule then record { right = true; left = true } else sides_of g x d
 
 -- which sides are free, by bits, and which are not
 abbrev pub free_bits : Sides → ℕ
@@ -65,12 +62,15 @@ shut_bits s = 255 - free_bits s
 abbrev pub components_of : GridData → Cell → Dir → Components
 components_of g c d = record { right = is_open g c (turn Right d); left = is_open g c (turn Left d) }
 
--- the sides with which a scan begins at the end of a diagonal move, in its component to that side, told which
--- cells beside the next move are free: the cell passed by the move is free where no corner is cut
+-- the sides at the end of a diagonal move, in its component to that side, told which cells beside the next
+-- move are free, where the cell passed by the move is free
+abbrev pub sides_passed : Components → Side → Sides
+sides_passed c Right = record { right = true; left = c.left }
+sides_passed c Left = record { right = c.right; left = true }
+
+-- the sides with which a scan begins there: the cell passed by the move is free where no corner is cut
 abbrev pub sides_after : Corner → Components → Side → Sides
-sides_after Never c Right = record { right = true; left = c.left }
-sides_after Never c Left = record { right = c.right; left = true }
-sides_after One c s = record { right = true; left = true }
+sides_after rule c s = if may_cut rule then record { right = true; left = true } else sides_passed c s
 
 -- the number of moves in a straight d that lead from u to v, or 0 where none do
 abbrev pub moves_to : Dir → Cell → Cell → ℕ
@@ -100,3 +100,12 @@ to_the_end = refl
 pub to_an_earlier_mark : reach_of (notch One) (record { x = 0; y = 0 }) E
     ≡ record { moves = 1; marked = true }
 to_an_earlier_mark = refl
+
+-- on `..@/.@.`, where two blocked cells may be passed between, to the mark at the end of the run
+pub to_a_mark_at_the_end : reach_of (grid_of 3 2 (codes "..@.@.") Both) (record { x = 0; y = 0 }) E
+    ≡ record { moves = 1; marked = true }
+to_a_mark_at_the_end = refl
+
+pub to_no_mark_at_the_end : reach_of (grid_of 3 2 (codes "..@.@.") One) (record { x = 0; y = 0 }) E
+    ≡ record { moves = 1; marked = false }
+to_no_mark_at_the_end = refl

@@ -7,7 +7,7 @@ ghost use Rattle.pruning.specs.Turns.{is_diagonal};
 ghost use Rattle.jump_plain.specs.Beside as spec;
 
 use grid_moves::{Cell, Dir, Terrain, beyond, is_open};
-use pruning::{Side, quarter};
+use pruning::{Side, quarter, turn};
 
 /// Which of the two cells at right angles to a direction are free.
 #[derive(Clone, Copy)]
@@ -39,6 +39,19 @@ impl Sides {
         Sides {
             right: is_open(t, c, quarter(Side::Right, d)),
             left: is_open(t, c, quarter(Side::Left, d)),
+        }
+    }
+
+    /// Reads the cells half ahead of a free cell: the sides of the next one, be it free or blocked.
+    #[inline(always)]
+    pub fn ahead<T: Terrain>(t: &T, c: Cell, d: Dir) -> Sides
+        requires free { is_free (T.grid t.now) c ≡ true }
+        requires whole { IsGrid (T.grid t.now) }
+        ensures { result ≡ spec.sides_ahead (T.grid t.now) c d }
+    {
+        Sides {
+            right: is_open(t, c, turn(Side::Right, d)),
+            left: is_open(t, c, turn(Side::Left, d)),
         }
     }
 

@@ -11,7 +11,7 @@ ghost use Rattle.jump_plain.specs.Reach as spec;
 
 use crate::beside::Sides;
 use crate::scan::{Reach, scan, scan_with};
-use grid_moves::{Cell, Corner, Dir, Terrain, beyond, is_open, is_passable};
+use grid_moves::{Cell, Corner, Dir, Terrain, beyond, is_open, is_passable, may_cut};
 use pruning::{Side, forced, turn};
 
 /// The number of moves in a straight direction that lead from one cell to another, or 0 where none do.
@@ -85,17 +85,17 @@ impl Components {
 fn sides_after(rule: Corner, beside: Components, side: Side) -> Sides
     ensures { result ≡ spec.sides_after rule beside side }
 {
-    match (rule, side) {
-        (Corner::Never, Side::Right) => Sides {
+    match side {
+        _ if may_cut(rule) => Sides {
+            right: true,
+            left: true,
+        },
+        Side::Right => Sides {
             right: true,
             left: beside.left,
         },
-        (Corner::Never, Side::Left) => Sides {
+        Side::Left => Sides {
             right: beside.right,
-            left: true,
-        },
-        (Corner::One, _) => Sides {
-            right: true,
             left: true,
         },
     }

@@ -8,19 +8,21 @@
 //! u v        . u v
 //! ```
 //!
-//! Where one may be, the mark is `u`'s, from which the forced neighbour `n` lies diagonally ahead.
+//! Where one may be, the mark is `u`'s, from which the forced neighbour `n` lies diagonally ahead; where two
+//! blocked cells may be passed between, the last cell of a run can have one, too, with `v` blocked.
 //!
 //! Both sides are kept in one byte, so that one test tells whether any of them opens.
 
-ghost use Rattle.std.specs.Prelude.{◌≡◌, ◌+◌, ◌-◌, ◌≤◌, false, true};
+ghost use Rattle.std.specs.Prelude.{◌≡◌, ◌+◌, ◌-◌, ◌≤◌, ◌&&◌, false, true};
 ghost use Rattle.grid_moves.specs.Grid.{IsGrid, is_free};
+ghost use Rattle.grid_moves.specs.Move.{may_slip};
 ghost use Rattle.pruning.specs.Turns.{is_diagonal};
 ghost use Rattle.pruning.specs.First.{run_length};
 ghost use Rattle.jump_plain.specs.Beside as besides;
 ghost use Rattle.jump_plain.specs.Reach as spec;
 
 use crate::beside::{Sides, straight_ahead};
-use grid_moves::{Cell, Corner, Dir, Terrain, beyond, is_inside};
+use grid_moves::{Cell, Corner, Dir, Terrain, beyond, is_inside, may_cut, may_slip};
 use pruning::{Side, quarter};
 
 /// How far a scan along a straight run reaches.
@@ -37,10 +39,7 @@ pub struct Reach {
 fn mark_ahead(rule: Corner) -> u16
     ensures { result ≡ spec.mark_ahead rule }
 {
-    match rule {
-        Corner::Never => 1,
-        Corner::One => 0,
-    }
+    if may_cut(rule) { 0 } else { 1 }
 }
 
 // The sides with which a scan begins. Where a corner may be cut, the first move would show a mark of the
@@ -51,12 +50,13 @@ fn first_sides<T: Terrain>(t: &T, rule: Corner, at: Cell, d: Dir) -> Sides
     requires whole { IsGrid (T.grid t.now) }
     ensures { result ≡ spec.first_sides rule (T.grid t.now) at d }
 {
-    match rule {
-        Corner::Never => Sides::of(t, at, d),
-        Corner::One => Sides {
+    if may_cut(rule) {
+        Sides {
             right: true,
             left: true,
-        },
+        }
+    } else {
+        Sides::of(t, at, d)
     }
 }
 
@@ -85,6 +85,18 @@ fn opens(shut: u8, free: u8) -> bool
     free & shut != 0
 }
 
+// Whether the last cell of a run, told which sides are shut there, has a mark, which lies between two blocked
+// cells.
+#[inline(always)]
+fn ends_marked<T: Terrain>(t: &T, at: Cell, d: Dir, shut: u8) -> bool
+    requires free { is_free (T.grid t.now) at ≡ true }
+    requires whole { IsGrid (T.grid t.now) }
+    ensures { (u : Sides) → shut ≡ spec.shut_bits u → result
+        ≡ (may_slip (T.grid t.now).corner && besides.opens u (besides.sides_ahead (T.grid t.now) at d)) }
+{
+    may_slip(t.corner()) && opens(shut, free_bits(Sides::ahead(t, at, d)))
+}
+
 // Scans along the legal run from a free cell in a straight direction, told the sides to begin with.
 #[inline(always)]
 fn scan_run<T: Terrain>(t: &T, at: Cell, d: Dir, sides: Sides) -> Reach
@@ -111,7 +123,7 @@ fn scan_run<T: Terrain>(t: &T, at: Cell, d: Dir, sides: Sides) -> Reach
     }
     Reach {
         moves,
-        marked: false,
+        marked: ends_marked(t, cell, d, shut),
     }
 }
 

@@ -2,7 +2,7 @@
 //!
 //! Together they say that a search which goes on in allowed directions alone, from stop to stop, misses
 //! no least walk, and finds walks alone. That the octile estimate suits such a search is a law of
-//! `grid_moves::laws`. All hold under both corner rules; only the first two look at the rule.
+//! `grid_moves::laws`. All hold under each corner rule; only the first two look at the rule.
 
 ghost use Rattle.pruning.specs.Facts.{TurnsAreReplaced, TurnsAreMarked};
 ghost use Rattle.pruning.specs.Laws.{CanonicalWalksSuffice, ChainsSuffice, ChainsAreWalks};

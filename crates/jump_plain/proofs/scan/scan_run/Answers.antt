@@ -39,7 +39,7 @@ pub returns-then-opens : goal.returns-then-opens
 returns-then-opens g c =
     let grid : GridData = g.T.Terrain.grid c.args.t.now in
     let has = c.run.invariant.left in
-    reached_mark grid c.run.cell c.args.d c.requires.straight grid.corner has.sides c.run.moves
+    reached_mark grid c.run.cell c.args.d c.requires.straight has.sides c.run.moves
     (reach_of grid c.args.at c.args.d) has.left c.in-Some.next (sym c.in-Some.ensures)
     c.of.result c.of.ensures c.opens.result
     (c.opens.ensures has.sides c.of.result has.are c.free_bits-free.ensures)
@@ -74,11 +74,11 @@ run-preserved g c =
         sides = c.of.result;
         are = sides_shut c.of.result c.free_bits-free.result c.shut_bits-shut-in-Some.result
             c.free_bits-free.ensures c.shut_bits-shut-in-Some.ensures;
-        left = reached_next grid c.run.cell c.args.d c.requires.straight grid.corner has.sides
+        left = reached_next grid c.run.cell c.args.d c.requires.straight has.sides
             c.run.moves (reach_of grid c.args.at c.args.d) has.left c.in-Some.next legal
             c.of.result c.of.ensures c.opens.result
             (c.opens.ensures has.sides c.of.result has.are c.free_bits-free.ensures)
-            refl free c.if-opens.false;
+            free c.if-opens.false;
       };
       run = let next = run_length-next grid c.run.cell c.in-Some.next c.args.d legal in
           let run = c.run.invariant.run in
@@ -89,5 +89,6 @@ pub returns : goal.returns
 returns g c =
     let grid : GridData = g.T.Terrain.grid c.args.t.now in
     let has = c.run.invariant.left in
-    reached_end grid c.run.cell c.args.d c.requires.straight grid.corner has.sides c.run.moves
-    (reach_of grid c.args.at c.args.d) has.left (sym c.in_default.ensures)
+    reached_end grid c.run.cell c.args.d c.requires.straight has.sides c.run.moves
+    (reach_of grid c.args.at c.args.d) has.left (sym c.in_default.ensures) c.ends_marked.result
+    (c.ends_marked.ensures has.sides has.are)

@@ -11,7 +11,7 @@ invariant-run g l =
     let grid = g.T.Terrain.grid l.t in
     record {
       free : is_free grid l.cell ≡ true;
-      left : HasSides grid l.cell l.d grid.corner l.shut l.moves (reach_of grid l.fn.at l.d);
+      left : HasSides grid l.cell l.d l.shut l.moves (reach_of grid l.fn.at l.d);
       run : l.moves + run_length grid l.cell l.d ≡ run_length grid l.fn.at l.d;
     }
 
