@@ -2,3 +2,4 @@ pub mod Turns
 pub mod Stopping
 pub mod Pieces
 pub mod Looping
+pub mod Heading

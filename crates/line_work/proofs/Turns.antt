@@ -1,5 +1,5 @@
 -- Findings for items that are worked one after the other.
-use Rattle.std.proofs.Common.{◌≡◌, refl, ap, List, [], ◌∷◌, ◌++◌, suc, ◌+◌, length, length-append, arith}
+use Rattle.std.proofs.Common.{◌≡◌, refl, ap, List, [], ◌∷◌, ◌++◌, suc, length, length-append, arith}
 use Rattle.std.specs.List.{fold}
 use Rattle.line_work.specs.Turns.{AreInTurn}
 

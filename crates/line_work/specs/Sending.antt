@@ -77,6 +77,13 @@ work_stops Whole before now = record {
 abbrev pub SendsWhole : (List (List ℕ) → ℕ → Type 0) → Outflow → Outflow → Result ℕ Stop → Type 0
 SendsWhole Whole before now result = Ends (IsAll Whole before now) (work_stops Whole before now) result
 
+-- a line stands before a whole output
+pub record HasHead (head : List ℕ) (Whole : List (List ℕ) → ℕ → Type 0) (lines : List (List ℕ))
+    (status : ℕ) : Type 0 where
+  pub below : List (List ℕ)
+  pub whole : Whole below status
+  pub all : lines ≡ head ∷ below
+
 -- the whole output is this text, with this status
 abbrev pub IsText : List ℕ → ℕ → List (List ℕ) → ℕ → Type 0
 IsText text status lines is = (lines ≡ text ∷ []) × (is ≡ status)

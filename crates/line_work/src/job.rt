@@ -1,7 +1,7 @@
 //! The one loop over the items of a command.
 
 ghost use Rattle.std.specs.Prelude.{◌≡◌, ℕ, Bool, true, List, [], ◌∷◌, ◌++◌, ◌+◌, length, slice_get, Some, OnOk, OnErr, IfOk};
-ghost use Rattle.line_work.specs.Sending.{SendsWhole};
+ghost use Rattle.line_work.specs.Sending.{HasHead, SendsWhole};
 ghost use Rattle.line_work.specs.Working.{Adds, CanComplete, CountsMore, HasRoomForOne, WorksMore};
 
 use crate::NoMemory;
@@ -109,4 +109,28 @@ where
     let status = job.close(&mut lines)?;
     send(out, lines.as_slice())?;
     Ok(status)
+}
+
+/// Writes a line, and below it what the items have, worked in order.
+pub fn work_below<J: Job, O: Sink, L: Ledger>(
+    alloc: Global,
+    head: &[u8],
+    job: &mut J,
+    items: &[J::Item],
+    out: &mut O,
+    steps: &mut Steps<L>,
+) -> Result<u8, Stop>
+where
+    J::Item: Copy,
+    requires can { (k : ℕ) (item : J.Item) → slice_get items.now k ≡ Some item → J.can_work item }
+    requires room { J.has_room job.old (length items.now) }
+    requires completes { CanComplete J.has_worked J.is_whole J.closes }
+    requires begins { J.has_worked job.old job.old [] [] }
+    requires counts { J.has_counted job.old job.old [] steps.old steps.old }
+    ensures sent { SendsWhole (HasHead head.now (J.is_whole job.old items.now)) (O.outflow out.old) (O.outflow out.new)
+        result }
+    ensures counted { OnOk result (J.has_counted job.old job.new items.now steps.old steps.new) }
+{
+    send(out, head)?;
+    work_items(alloc, job, items, out, steps)
 }
