@@ -356,3 +356,11 @@ bucket_one cost p q g h =
     let up = bucket_most cost p q g h in
     let down = bucket_most cost q p h g in
     omega arith
+
+-- each cost has a nearest length and a bucket
+pub nearest_exists : (cost : Cost) → (n : ℕ) × IsNearest cost (eight_places n)
+nearest_exists cost = let h = half_exists (scaled cost) in (h.0, nearest_of_half cost h.0 h.1)
+
+pub bucket_exists : (cost : Cost) → (n : ℕ) × IsBucket cost n
+bucket_exists cost =
+    let r = root_of (2 * (cost.b * cost.b)) in ((cost.a + r.0) / 4, bucket_is cost r.0 r.1 r.2)
