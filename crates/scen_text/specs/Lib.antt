@@ -3,4 +3,5 @@ pub mod Words
 pub mod Spelling
 pub mod Faults
 pub mod Progress
+pub mod Names
 pub mod Worked

@@ -1,0 +1,5 @@
+pub mod Digits
+pub mod Fields
+pub mod Read
+pub mod Names
+pub mod Told

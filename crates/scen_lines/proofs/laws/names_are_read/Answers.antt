@@ -1,0 +1,5 @@
+use Rattle.scen_lines.proofs.Told.{names_read}
+use Rattle.scen_lines.proofs.laws.names_are_read.Goals as goal
+
+pub returns : goal.returns
+returns c = names_read

@@ -1,0 +1,92 @@
+-- What holds of each scenario that is written.
+use Rattle.std.specs.Prelude.{◌≡◌, ℕ, ◌+◌, ◌^◌, ◌<◌, List, [], ◌∷◌, ◌++◌, length, slice_get, Some, decimal}
+use Rattle.root2_cost.specs.declared.Cost.{Cost}
+use Rattle.root2_cost.specs.Length.{eight_places}
+use Rattle.scen_text.specs.declared.entry.Entry.{Entry}
+use Rattle.scen_text.specs.Names.{IsName, bytes_at}
+use Rattle.scen_text.specs.Spelling.{Spells}
+use Rattle.scen_lines.specs.declared.line.Listed.{Listed}
+use Rattle.scen_lines.specs.Line.{entry_line, version_line, IsOfCost}
+use Rattle.scen_lines.specs.Naming.{name_of}
+
+-- an entry with the name of its map
+pub record Named : Type 0 where
+  pub name : List ℕ
+  pub listed : Listed
+
+-- the name stands in one line, and the numbers are no longer than a reader takes them
+pub record IsReadable (entry : Named) : Type 0 where
+  pub name : IsName entry.name
+  pub bucket : entry.listed.bucket < 10 ^ 9
+  pub w : entry.listed.problem.w < 10 ^ 9
+  pub h : entry.listed.problem.h < 10 ^ 9
+  pub sx : entry.listed.problem.sx < 10 ^ 9
+  pub sy : entry.listed.problem.sy < 10 ^ 9
+  pub gx : entry.listed.problem.gx < 10 ^ 9
+  pub gy : entry.listed.problem.gy < 10 ^ 9
+  pub units : entry.listed.units < 10 ^ 16
+
+-- the line of an entry
+abbrev pub line_of : Named → List ℕ
+line_of entry = entry_line entry.name entry.listed
+
+-- the lines of all entries
+abbrev pub lines_of : List Named → List ℕ
+lines_of [] = []
+lines_of (entry ∷ entries) = line_of entry ++ lines_of entries
+
+-- the first line and the lines of all entries
+abbrev pub scenario_of : List Named → List ℕ
+scenario_of entries = version_line ++ lines_of entries
+
+-- what the line with this number that begins at this place is read as
+abbrev pub entry_at : ℕ → ℕ → Named → Entry
+entry_at number place entry = record {
+  line = number;
+  bucket = entry.listed.bucket;
+  name = record {
+    start = place + length (decimal entry.listed.bucket) + 1;
+    end = place + length (decimal entry.listed.bucket) + 1 + length entry.name;
+  };
+  w = entry.listed.problem.w;
+  h = entry.listed.problem.h;
+  sx = entry.listed.problem.sx;
+  sy = entry.listed.problem.sy;
+  gx = entry.listed.problem.gx;
+  gy = entry.listed.problem.gy;
+  length = eight_places entry.listed.units;
+}
+
+-- what lines from a number and a place on are read as
+abbrev pub entries_from : ℕ → ℕ → List Named → List Entry
+entries_from number place [] = []
+entries_from number place (entry ∷ entries) =
+    entry_at number place entry ∷ entries_from (number + 1) (place + length (line_of entry)) entries
+
+-- what a scenario is read as
+abbrev pub entries_of : List Named → List Entry
+entries_of entries = entries_from 2 10 entries
+
+-- all entries are readable
+abbrev pub AreReadable : List Named → Type 0
+AreReadable entries = (k : ℕ) (entry : Named) → slice_get entries k ≡ Some entry → IsReadable entry
+
+-- what is written is read as these entries, and as no others
+abbrev pub WrittenIsRead : Type 0
+WrittenIsRead = (entries : List Named) → AreReadable entries
+    → Spells (scenario_of entries) (entries_of entries)
+
+-- and with these names
+abbrev pub NamesAreRead : Type 0
+NamesAreRead = (entries : List Named) (k : ℕ) (written : Named) (read : Entry)
+    → slice_get entries k ≡ Some written → slice_get (entries_of entries) k ≡ Some read
+    → bytes_at (scenario_of entries) read.name ≡ written.name
+
+-- the name of a word can stand in an entry
+abbrev pub WordsNameMaps : Type 0
+WordsNameMaps = (word : List ℕ) → IsName (name_of word)
+
+-- bucket and length of a cost are the only ones
+abbrev pub CostsTellLines : Type 0
+CostsTellLines = (cost : Cost) (p q : Listed) → IsOfCost cost p → IsOfCost cost q
+    → (p.bucket ≡ q.bucket) × (p.units ≡ q.units)

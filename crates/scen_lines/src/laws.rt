@@ -1,0 +1,23 @@
+//! Laws of the scenarios that are written: each is the contract of a call that does nothing.
+
+ghost use Rattle.scen_lines.specs.Laws.{WrittenIsRead, NamesAreRead, WordsNameMaps, CostsTellLines};
+
+/// What is written is read as the entries that were written, and as no others.
+pub fn written_is_read()
+    ensures { WrittenIsRead }
+{}
+
+/// And with the names that were written.
+pub fn names_are_read()
+    ensures { NamesAreRead }
+{}
+
+/// The name that a word gives a map can stand in an entry.
+pub fn words_name_maps()
+    ensures { WordsNameMaps }
+{}
+
+/// Bucket and length of a cost are the only ones.
+pub fn costs_tell_lines()
+    ensures { CostsTellLines }
+{}
