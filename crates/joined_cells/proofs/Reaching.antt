@@ -3,10 +3,12 @@ use Rattle.std.proofs.Common.{◌≡◌, ◌≢◌, ℕ, ◌+◌, ◌*◌, ◌<�
 use Rattle.std.proofs.Common.{subst, Bool, true, false, List, [], ◌∷◌, ◌++◌, length, get_or, set, length-set}
 use Rattle.std.proofs.Common.{length-append, count_by}
 use Rattle.std.specs.List.{Contains}
+use Rattle.std.specs.Option.{option_to_list}
 use Rattle.std.specs.Prelude.{Option, Some, None, nat_eq, if◌then◌else◌}
 use Rattle.std.proofs.lemmas.Bool.Decides.{nat_tests}
 use Rattle.std.proofs.lemmas.List.{get_or-set_same, get_or-set_other}
-use Rattle.std.proofs.lemmas.List.Elements.{Contains-append_left, Contains-append_right, Contains-append_cases}
+use Rattle.std.proofs.lemmas.List.Elements.{Contains-append_left, Contains-append_right}
+use Rattle.std.proofs.lemmas.List.Elements.{Contains-append_cases}
 use Rattle.std.proofs.lemmas.List.Elements.{Contains-push, Contains-push_cases}
 use Rattle.std.proofs.lemmas.List.Sums.{sum_by-set}
 use Rattle.grid_moves.specs.declared.Cell.{Cell}
@@ -111,11 +113,18 @@ settled_as g label other labels k = record {
   spread = k.spread;
 }
 
--- a cell that is taken out of the list is free
-pub waiting_free : (g : GridData) (label : ℕ) (u : Cell) (before cells : List Cell) → before ≡ cells ++ (u ∷ [])
-    → (labels : List ℕ) → Keeps g label before labels → is_free g u ≡ true
-waiting_free g label u before cells e labels k =
-    (k.waits u (subst (λ (b : List Cell). Contains b u) (sym e) (Contains-push cells u))).free
+-- a cell that is taken out of the list stood at its end
+popped : (u : Cell) (before cells : List Cell) (out : Option Cell) → before ≡ cells ++ option_to_list out
+    → out ≡ Some u → before ≡ cells ++ (u ∷ [])
+popped u before cells out e is = e ∙ ap (λ (o : Option Cell). cells ++ option_to_list o) is
+
+-- and is free
+pub waiting_free : (g : GridData) (label : ℕ) (u : Cell) (before cells : List Cell) (out : Option Cell)
+    → before ≡ cells ++ option_to_list out → out ≡ Some u → (labels : List ℕ) → Keeps g label before labels
+    → is_free g u ≡ true
+waiting_free g label u before cells out e is labels k =
+    (k.waits u (subst (λ (b : List Cell). Contains b u) (sym (popped u before cells out e is))
+    (Contains-push cells u))).free
 
 module _ (g : GridData) (label : ℕ) (some : label ≢ 0) (u : Cell) where
   -- a cell that is taken out of the list is as one that waits
@@ -270,13 +279,14 @@ module _ (g : GridData) (label : ℕ) (some : label ≢ 0) (u : Cell) where
     pub stay : Stay g labels f.labels
     pub weight : length f.waiting + unlabelled f.labels + 1 ≡ length before + unlabelled labels
 
-  pub stepped : (before cells : List Cell) → before ≡ cells ++ (u ∷ []) → (labels : List ℕ)
-      → Keeps g label before labels → (f : Flood) → f ≡ spread g label u all_dirs (flood_of labels cells)
-      → HasStepped before labels f
-  stepped before cells e labels k f is =
-      let out = taken cells labels (subst (λ (b : List Cell). Keeps g label b labels) e k) in
-      let s = has_spread all_dirs (flood_of labels cells) out in
-      let one : length before ≡ length cells + 1 = ap length e ∙ length-append cells (u ∷ []) in
+  pub stepped : (before cells : List Cell) (out : Option Cell) → before ≡ cells ++ option_to_list out
+      → out ≡ Some u → (labels : List ℕ) → Keeps g label before labels → (f : Flood)
+      → f ≡ spread g label u all_dirs (flood_of labels cells) → HasStepped before labels f
+  stepped before cells out e one labels k f is =
+      let last = popped u before cells out e one in
+      let held = taken cells labels (subst (λ (b : List Cell). Keeps g label b labels) last k) in
+      let s = has_spread all_dirs (flood_of labels cells) held in
+      let long : length before ≡ length cells + 1 = ap length last ∙ length-append cells (u ∷ []) in
       let w = s.weight in
       subst (λ (h : Flood). HasStepped before labels h) (sym is) (record {
         keeps = released _ _ s.keeps s.ends;
@@ -291,21 +301,22 @@ pub record HasBegun (g : GridData) (label : ℕ) (from : Cell) (labels later : L
   pub stay : Stay g labels later
   pub labelled : label_at g later from ≢ 0
 
-pub begun : (g : GridData) (from : Cell) → is_free g from ≡ true → (labels : List ℕ) → IsSettled g labels
-    → label_at g labels from ≡ 0 → (number : ℕ) → number ≡ cell_number g.width from → (cells : List Cell)
-    → cells ≡ from ∷ []
-    → HasBegun g (number + 1) from labels (set labels number (number + 1)) cells
-begun g from free labels k new number is cells e =
-    subst (λ (cs : List Cell). HasBegun g (number + 1) from labels (set labels number (number + 1)) cs) (sym e)
-    (subst (λ (n : ℕ). HasBegun g (n + 1) from labels (set labels n (n + 1)) (from ∷ [])) (sym is) (record {
-      keeps = keeps_labelled g (cell_number g.width from + 1) some from free name labels new [] (settled_as g 0 _ labels k);
-      stay = stay_labelled g (cell_number g.width from + 1) some from free name labels new k.whole;
-      labelled = λ z. some
-          (sym (now_labelled g (cell_number g.width from + 1) some from free name labels new k.whole) ∙ z);
-    }))
-  where
-    some : cell_number g.width from + 1 ≢ 0
-    some e = omega arith
+module _ (g : GridData) (from : Cell) (free : is_free g from ≡ true) (labels : List ℕ)
+    (settled : IsSettled g labels) (new : label_at g labels from ≡ 0) where
+  begins : (label : ℕ) → label ≢ 0 → IsNamed g from label
+      → HasBegun g label from labels (set labels (cell_number g.width from) label) (from ∷ [])
+  begins label some name = record {
+    keeps = keeps_labelled g label some from free name labels new [] (settled_as g 0 label labels settled);
+    stay = stay_labelled g label some from free name labels new settled.whole;
+    labelled = λ z. some (sym (now_labelled g label some from free name labels new settled.whole) ∙ z);
+  }
 
-    name : IsNamed g from (cell_number g.width from + 1)
-    name = named_itself g from free (cell_number g.width from + 1) refl
+  pub begun : (number : ℕ) → number ≡ cell_number g.width from → (cells : List Cell) → cells ≡ from ∷ []
+      → HasBegun g (number + 1) from labels (set labels number (number + 1)) cells
+  begun number is cells e =
+      let some : number + 1 ≢ 0 = λ z. omega arith in
+      let name = named_itself g from free (number + 1) (ap (λ (n : ℕ). n + 1) is) in
+      subst (λ (cs : List Cell). HasBegun g (number + 1) from labels (set labels number (number + 1)) cs)
+      (sym e)
+      (subst (λ (n : ℕ). HasBegun g (number + 1) from labels (set labels n (number + 1)) (from ∷ [])) (sym is)
+      (begins (number + 1) some name))

@@ -1,6 +1,6 @@
 -- Which cells belong together: those between which a walk leads.
-use Rattle.std.specs.Prelude.{◌≡◌, ℕ, Bool, true, false, nat_lt, nat_eq, not, ◌&&◌, if◌then◌else◌, refl, List, []}
-use Rattle.std.specs.Prelude.{◌∷◌, slice_index, IsTrue, ◌↔◌}
+use Rattle.std.specs.Prelude.{◌≡◌, ℕ, Bool, true, false, nat_lt, nat_eq, not, ◌&&◌, if◌then◌else◌, refl}
+use Rattle.std.specs.Prelude.{List, [], ◌∷◌, slice_index, IsTrue, ◌↔◌}
 use Rattle.grid_moves.specs.declared.Cell.{Cell}
 use Rattle.grid_moves.specs.Grid.{GridData, cell_number}
 use Rattle.grid_moves.specs.Walk.{IsWalk}

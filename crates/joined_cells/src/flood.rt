@@ -120,8 +120,8 @@ fn flood_row<T: Terrain>(
     Ok(())
 }
 
-/// Gives each free cell a label, over labels that are all 0: one more than the number of the first cell of its
-/// part.
+/// Gives each free cell a label, over labels that are all 0: one more than the number of the first cell of
+/// its part.
 ///
 /// Each free cell is put into the list of those that wait once, and its moves are looked at once.
 pub(crate) fn flood_all<T: Terrain>(

@@ -1,6 +1,4 @@
 use Rattle.std.proofs.Common.{◌≡◌, ◌≢◌, ℕ, ◌+◌, ◌∙◌, sym, ap, arith, rules, subst, List, [], ◌∷◌, ◌++◌}
-use Rattle.std.specs.Option.{option_to_list}
-use Rattle.std.specs.Prelude.{Option}
 use Rattle.grid_moves.specs.declared.Cell.{Cell}
 use Rattle.grid_moves.specs.Grid.{cell_number}
 use Rattle.joined_cells.specs.Flood.{flood_of}
@@ -21,20 +19,18 @@ pub loop-c-smaller : goal.loop-c-smaller
 loop-c-smaller g c =
     let some : c.number_of-number.result + 1 ≢ 0 = λ e. omega arith in
     let s = stepped (g.T.Terrain.grid c.args.t.now) (c.number_of-number.result + 1) some c.in-Some.c
-    c.loop-c.waiting.items c.pop.new.self.items
-    (c.pop.ensures.items ∙ ap (λ (o : Option Cell). c.pop.new.self.items ++ option_to_list o) c.in-Some.is)
-    c.loop-c.labels
-    c.loop-c.invariant.keeps (flood_of c.spread.new.labels c.spread.new.waiting.items) c.in_ok-spread.ensures in
+    c.loop-c.waiting.items c.pop.new.self.items c.pop.result c.pop.ensures.items c.in-Some.is c.loop-c.labels
+    c.loop-c.invariant.keeps (flood_of c.spread.new.labels c.spread.new.waiting.items)
+    c.in_ok-spread.ensures in
     omega (arith, s.weight)
 
 pub loop-c-preserved : goal.loop-c-preserved
 loop-c-preserved g c =
     let some : c.number_of-number.result + 1 ≢ 0 = λ e. omega arith in
     let s = stepped (g.T.Terrain.grid c.args.t.now) (c.number_of-number.result + 1) some c.in-Some.c
-    c.loop-c.waiting.items c.pop.new.self.items
-    (c.pop.ensures.items ∙ ap (λ (o : Option Cell). c.pop.new.self.items ++ option_to_list o) c.in-Some.is)
-    c.loop-c.labels
-    c.loop-c.invariant.keeps (flood_of c.spread.new.labels c.spread.new.waiting.items) c.in_ok-spread.ensures in
+    c.loop-c.waiting.items c.pop.new.self.items c.pop.result c.pop.ensures.items c.in-Some.is c.loop-c.labels
+    c.loop-c.invariant.keeps (flood_of c.spread.new.labels c.spread.new.waiting.items)
+    c.in_ok-spread.ensures in
     let before = c.loop-c.invariant in
     record {
       keeps = s.keeps;
@@ -45,9 +41,8 @@ loop-c-preserved g c =
 pub spread-requires-clause-free : goal.spread-requires-clause-free
 spread-requires-clause-free g c =
     waiting_free (g.T.Terrain.grid c.args.t.now) (c.number_of-number.result + 1) c.in-Some.c
-    c.loop-c.waiting.items c.pop.new.self.items
-    (c.pop.ensures.items ∙ ap (λ (o : Option Cell). c.pop.new.self.items ++ option_to_list o) c.in-Some.is)
-    c.loop-c.labels c.loop-c.invariant.keeps
+    c.loop-c.waiting.items c.pop.new.self.items c.pop.result c.pop.ensures.items c.in-Some.is c.loop-c.labels
+    c.loop-c.invariant.keeps
 
 pub spread-requires-clause-labels : goal.spread-requires-clause-labels
 spread-requires-clause-labels g c = c.loop-c.invariant.keeps.whole

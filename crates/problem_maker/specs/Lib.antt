@@ -1,0 +1,6 @@
+pub mod Free
+pub mod Tries
+pub mod Drawing
+pub mod Ordered
+pub mod Laws
+pub mod Worked

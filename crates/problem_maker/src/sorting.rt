@@ -1,0 +1,26 @@
+//! Problems in the order of their costs.
+
+ghost use Rattle.std.specs.Prelude.{OnOk};
+ghost use Rattle.problem_maker.specs.Ordered.{AreOrdered};
+
+use crate::NoMemory;
+use grid_moves::Cell;
+use root2_cost::{Cost, cmp};
+
+/// A problem: where it begins and ends, and what a least walk between them costs.
+#[derive(Clone, Copy, Debug, PartialEq, Eq)]
+pub struct Problem {
+    pub start: Cell,
+    pub goal: Cell,
+    pub cost: Cost,
+}
+
+/// Puts problems into the order of their costs. Those of equal costs stay in the order that they have.
+///
+/// Memory is taken for half of them at most, and given back.
+pub fn order(problems: &mut Vec<Problem>) -> Result<(), NoMemory>
+    ensures { OnOk result (AreOrdered problems.old.items problems.new.items) }
+{
+    problems.sort_by(|p, q| cmp(p.cost, q.cost))?;
+    Ok(())
+}
