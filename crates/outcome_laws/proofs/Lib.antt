@@ -17,6 +17,8 @@ pub mod Judged
 pub mod Verdicts
 pub mod Turns
 pub mod Rulings
+pub mod Measured
+pub mod Posed
 pub mod Same
 pub mod Lines
 pub mod Rows
