@@ -4,11 +4,11 @@ use Rattle.std.proofs.Common.{ap, sym, ◌∙◌, subst, bit_and}
 use Rattle.std.specs.Prelude.{Option, Some, None, IfSome, is_some}
 use Rattle.grid_moves.specs.declared.Cell.{Cell}
 use Rattle.grid_moves.specs.declared.Corner.{Corner}
-use Rattle.grid_moves.specs.declared.Corner.TheVariants.{Never, One}
 use Rattle.grid_moves.specs.declared.Dir.{Dir}
 use Rattle.grid_moves.specs.declared.Dir.TheVariants.{N, NE, E, SE, S, SW, W, NW}
 use Rattle.grid_moves.specs.Grid.{GridData, is_free}
 use Rattle.grid_moves.specs.Move.{is_passable}
+use Rattle.grid_moves.proofs.Besides.{passable-turned}
 use Rattle.bit_grid.specs.Bits.{is_set}
 use Rattle.bit_grid.proofs.Words.{set_and, set_raised, set_lowered}
 use Rattle.pruning.specs.Turns.{is_diagonal}
@@ -17,9 +17,10 @@ use Rattle.jump_block.specs.declared.word.Way.{Way}
 use Rattle.jump_block.specs.declared.word.Way.TheVariants.{Forward, Back}
 use Rattle.bit_grid.specs.declared.lines.ThreeWords.{ThreeWords}
 use Rattle.jump_block.specs.declared.block.Halt.{Halt}
-use Rattle.jump_block.specs.Trail.{Trail, IsClear, Halts, halts, begun, trail_on}
+use Rattle.jump_block.specs.Trail.{Trail, IsClear, Halts, halts, shows_mark, begun, trail_on}
 use Rattle.jump_block.specs.Scan.{Finds}
-use Rattle.jump_block.specs.Word.{AreWordsOf, AreEdgesOf, IsAhead, IsFound, Meets, far, moves_before, near}
+use Rattle.jump_block.specs.Word.{AreWordsOf, AreEdgesOf, IsAhead, IsFound, Meets, TellMoves, TellTrails}
+use Rattle.jump_block.specs.Word.{far, moves_before, near}
 use Rattle.jump_block.specs.Near.{AreNear, HasNextBit, HasNextWord, next_bit, next_word, side_word}
 use Rattle.jump_block.specs.Source.{by_rows, row_way, column_way}
 use Rattle.jump_block.proofs.Reading.{meets_along}
@@ -86,9 +87,7 @@ module _ (free : ℕ → ℕ → Bool) (way : Way) (rule : Corner) (line from ne
     → AreWordsOf (begun rule t) way (base + from % 64) base first)
     (are : AreNear free line (next * 64) words) (more : HasNextWord way per_line (from / 64))
     (follows : next ≡ next_word way (from / 64))
-    (told : (t : Trail) (from base : ℕ) → AreWordsOf t way from base words
-    → AreEdgesOf t way from (near way base) first
-    → (j k : ℕ) → j < 64 → Meets way from (base + j) (suc k) → is_set found j ≡ halts t k)
+    (told : TellTrails halts way words first found)
     (clear : IsClear (begun rule (trail_on free way line from))
     (moves_before way from (far way (from / 64 * 64)))) where
   first_there : AreWordsOf (begun rule (trail_on free way line from)) way from (from / 64 * 64) first
@@ -116,21 +115,26 @@ module _ (free : ℕ → ℕ → Bool) (way : Way) (rule : Corner) (line from ne
             there.after;
       }
 
+  edges_there : AreEdgesOf (begun rule (trail_on free way line from)) way from (near way (next * 64)) first
+  edges_there = rw edge_is
+      (edges_of (begun rule (trail_on free way line from)) way from (from / 64 * 64) first first_there)
+
   pub next_found : IsFound (begun rule (trail_on free way line from)) way from (next * 64)
-      (moves_before way from (near way (next * 64))) words.middle found
+      (moves_before way from (near way (next * 64))) found
   next_found = found_further (begun rule (trail_on free way line from)) way from (next * 64) found words first
-      next_there (rw edge_is (edge_ahead way from)) (record {
-        edges =
-            rw edge_is (edges_of (begun rule (trail_on free way line from)) way from (from / 64 * 64) first
-            first_there);
-        clear = rw edge_is clear;
-      }) told
+      next_there (rw edge_is (edge_ahead way from))
+      (record { edges = edges_there; clear = rw edge_is clear }) told
+
+  pub next_marks : (marks : ℕ) → TellTrails (shows_mark rule) way words first marks
+      → TellMoves (shows_mark rule (begun rule (trail_on free way line from))) way from (next * 64) marks
+  next_marks marks shown =
+      shown (begun rule (trail_on free way line from)) from (next * 64) next_there edges_there
 
 -- what was found is where a scan halts
-pub found_some : (t : Trail) (found : Option Halt) → is_some found ≡ true
-    → IfSome found (λ h. Halts t h.passed h.blocked) → Finds t 0 found
-found_some t (Some h) some there = there
-found_some t None some there = absurd (cc)
+pub found_some : (rule : Corner) (t : Trail) (found : Option Halt) → is_some found ≡ true
+    → IfSome found (λ h. Halts rule t h.passed h.marked) → Finds rule t 0 found
+found_some rule t (Some h) some there = there
+found_some rule t None some there = absurd (cc)
 
 -- bits moved by one against the way
 pub set_lowered-next : (word j : ℕ) → j < 64 → HasNextBit Forward j
@@ -150,17 +154,13 @@ set_raised-next word (suc j) h more =
 pub bits_lead : (rule : Corner) (way : Way) (place middle side along passes ahead : ℕ) (b : Bool) → place < 64
     → HasNextBit way place
     → ((j : ℕ) → j < 64 → HasNextBit way j → is_set along j ≡ is_set middle (next_bit way j))
-    → ((j : ℕ) → is_set passes j ≡ is_passable rule (is_set side j) (is_set along j))
+    → ((j : ℕ) → j < 64 → is_set passes j ≡ is_passable rule (is_set side j) (is_set along j))
     → ((j : ℕ) → j < 64 → HasNextBit way j → is_set ahead j ≡ is_set side (next_bit way j))
     → b ≡ is_set (bit_and ahead passes) place
     → b ≡ (is_set side (next_bit way place)
     && is_passable rule (is_set side place) (is_set middle (next_bit way place)))
 bits_lead rule way place middle side along passes ahead b h more a p n told =
-    told ∙ set_and ahead passes place ∙ rw (n place h more, p place, a place h more) refl
-
-passable_turned : (r : Corner) (a b : Bool) → is_passable r a b ≡ is_passable r b a
-passable_turned Never a b = grind arith
-passable_turned One a b = grind arith
+    told ∙ set_and ahead passes place ∙ rw (n place h more, p place h, a place h more) refl
 
 -- three of their bits tell whether a diagonal move is legal
 module _ (g : GridData) (x : Cell) (free : is_free g x ≡ true) (rule : Corner) (same : rule ≡ g.corner)
@@ -189,7 +189,7 @@ module _ (g : GridData) (x : Cell) (free : is_free g x ≡ true) (rule : Corner)
       (is.middle ((x.x + 1) % 64 + 1) (omega arith)
       ∙ is_open_there g E x.x x.y _ _ (omega arith) (omega arith))
       (is.after ((x.x + 1) % 64) (omega arith) ∙ is_open_there g S x.x x.y _ _ (omega arith) (omega arith))
-      (passable_turned rule (is_set w.after ((x.x + 1) % 64)) (is_set w.middle ((x.x + 1) % 64 + 1))) told
+      (passable-turned rule (is_set w.after ((x.x + 1) % 64)) (is_set w.middle ((x.x + 1) % 64 + 1))) told
   leads_here SW diagonal more b told =
       leads_by g x SW free diagonal rule same (is_set w.after ((x.x + 1) % 64 - 1))
       (is_set w.after ((x.x + 1) % 64)) (is_set w.middle ((x.x + 1) % 64 - 1)) _ b
@@ -206,7 +206,7 @@ module _ (g : GridData) (x : Cell) (free : is_free g x ≡ true) (rule : Corner)
       (is.middle ((x.x + 1) % 64 - 1) (omega arith)
       ∙ is_open_there g W x.x x.y _ _ (omega arith) (omega arith))
       (is.before ((x.x + 1) % 64) (omega arith) ∙ is_open_there g N x.x x.y _ _ (omega arith) (omega arith))
-      (passable_turned rule (is_set w.before ((x.x + 1) % 64)) (is_set w.middle ((x.x + 1) % 64 - 1))) told
+      (passable-turned rule (is_set w.before ((x.x + 1) % 64)) (is_set w.middle ((x.x + 1) % 64 - 1))) told
   leads_here N diagonal more b told = absurd (cc)
   leads_here E diagonal more b told = absurd (cc)
   leads_here S diagonal more b told = absurd (cc)

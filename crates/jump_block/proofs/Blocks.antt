@@ -5,23 +5,21 @@ use Rattle.std.proofs.Common.{slice_index_or}
 use Rattle.std.specs.Prelude.{nat_eq}
 use Rattle.std.proofs.lemmas.Bool.{cases_lt}
 use Rattle.std.proofs.lemmas.Bool.Decides.{nat_tests}
-use Rattle.std.specs.Int.{bit_at}
-use Rattle.std.proofs.lemmas.Nat.Bits.{bit_at-lt, shr_and_one}
+use Rattle.std.proofs.lemmas.Nat.Bits.{shr_and_one}
 use Rattle.grid_moves.specs.declared.Corner.{Corner}
-use Rattle.grid_moves.specs.declared.Corner.TheVariants.{Never, One}
 use Rattle.bit_grid.specs.Bits.{is_set}
 use Rattle.bit_grid.proofs.Words.{set_and, set_none}
 use Rattle.jump_block.specs.declared.word.Way.{Way}
 use Rattle.jump_block.specs.declared.word.Way.TheVariants.{Forward, Back}
 use Rattle.bit_grid.specs.declared.lines.ThreeWords.{ThreeWords}
 use Rattle.jump_block.specs.declared.block.Block.{Block}
-use Rattle.jump_block.specs.Trail.{Trail, IsClear, Halts, halts, at_start, begun}
+use Rattle.jump_block.specs.Trail.{Trail, IsClear, Halts, halts, shows_mark, at_start, begun}
 use Rattle.jump_block.specs.Word.{Meets, IsWordOf, AreWordsOf, IsEdgeOf, AreEdgesOf, IsOpened, IsBlockOf}
-use Rattle.jump_block.specs.Word.{IsFound, IsAhead, near, far, moves_before, moves_short_of, is_past}
-use Rattle.jump_block.specs.Word.{nth_word, edge_before, words_of}
+use Rattle.jump_block.specs.Word.{IsFound, IsAhead, TellMoves, TellTrails, near, far, moves_before}
+use Rattle.jump_block.specs.Word.{moves_short_of, is_past, nth_word, edge_before, words_of}
 use Rattle.jump_block.specs.Eight.{IsAllAs, last_bit}
 use Rattle.jump_block.specs.Seek.{HasPassed}
-use Rattle.jump_block.proofs.Words.{halts_there}
+use Rattle.jump_block.proofs.Words.{either_there, halts_there}
 use Rattle.jump_block.proofs.Reading.{nth_small}
 
 -- the words that the way has passed give the edges
@@ -65,8 +63,7 @@ within : (way : Way) (from base i k m : ℕ) → i < 64 → Meets way from (base
 within Forward from base i k m l a h = omega arith
 within Back from base i k m l a h = omega arith
 
-module _ (t : Trail) (way : Way) (from base n middle found : ℕ)
-    (is : IsFound t way from base n middle found) where
+module _ (t : Trail) (way : Way) (from base n found : ℕ) (is : IsFound t way from base n found) where
   -- none of the bits is set
   pub found_none : found ≡ 0 → IsClear t (moves_before way from (far way base))
   found_none none k h = by_place (cases_lt k n)
@@ -77,24 +74,20 @@ module _ (t : Trail) (way : Way) (from base n middle found : ℕ)
           sym (is.bits at.0 k at.1 at.2) ∙ ap (λ (m : ℕ). is_set m at.0) none ∙ set_none at.0
 
   -- the first that is set
-  pub found_halt : (bit : ℕ) (blocked : Bool) → bit < 64 → is_set found bit ≡ true
+  pub found_halt : (rule : Corner) (marks : ℕ) → TellMoves (shows_mark rule t) way from base marks
+      → (bit : ℕ) (marked : Bool) → bit < 64 → is_set found bit ≡ true
       → ((j : ℕ) → j < 64 → is_past way j bit ≡ true → is_set found j ≡ false)
-      → blocked ≡ nat_eq (bit_and (middle / 2 ^ bit) 1) 0
-      → Halts t (moves_short_of way from (base + bit)) blocked
-  found_halt bit blocked small set first told =
+      → marked ≡ nat_eq (bit_and (marks / 2 ^ bit) 1) 1
+      → Halts rule t (moves_short_of way from (base + bit)) marked
+  found_halt rule marks shown bit marked small set first told =
       let there = is.past bit small set in
-      subst (λ (k : ℕ). Halts t k blocked) (sym (short_of way from (base + bit) there.0 there.1))
+      subst (λ (k : ℕ). Halts rule t k marked) (sym (short_of way from (base + bit) there.0 there.1))
       (record {
         clear = λ m h. by_place there.0 there.1 m h (cases_lt m n);
         here = sym (is.bits bit there.0 small there.1) ∙ set;
-        told = told ∙ ap (λ (b : ℕ). nat_eq b 0) (shr_and_one middle bit)
-            ∙ flag (bit_at middle bit) (bit_at-lt middle bit)
-            ∙ ap not (is.shows bit (suc there.0) small there.1);
+        told = told ∙ ap (λ (b : ℕ). nat_eq b 1) (shr_and_one marks bit) ∙ shown bit there.0 small there.1;
       })
     where
-      flag : (b : ℕ) → b < 2 → nat_eq b 0 ≡ not (nat_eq b 1)
-      flag b h = grind (arith, nat_tests)
-
       by_place : (k : ℕ) → Meets way from (base + bit) (suc k) → (m : ℕ) → m < k → (m < n) ⊎ (n ≤ m)
           → halts t m ≡ false
       by_place k at m h (inl l) = is.clear m l
@@ -134,12 +127,10 @@ places_there Back from base a k h l = (from - (base + suc k), omega arith, omega
 pub found_further : (t : Trail) (way : Way) (from base found : ℕ) (w last : ThreeWords)
     → AreWordsOf t way from base w
     → IsAhead way from (near way base) → HasPassed t way from (near way base) last
-    → ((t : Trail) (from base : ℕ) → AreWordsOf t way from base w → AreEdgesOf t way from (near way base) last
-    → (j k : ℕ) → j < 64 → Meets way from (base + j) (suc k) → is_set found j ≡ halts t k)
-    → IsFound t way from base (moves_before way from (near way base)) w.middle found
+    → TellTrails halts way w last found
+    → IsFound t way from base (moves_before way from (near way base)) found
 found_further t way from base found w last are ahead passed told = record {
   clear = passed.clear;
-  shows = are.middle;
   bits = told t from base are passed.edges;
   past = λ j h set. moves_there way from base ahead j h;
   here = places_there way from base ahead;
@@ -148,12 +139,10 @@ found_further t way from base found w last are ahead passed told = record {
 pub passed_further : (t : Trail) (way : Way) (from base found : ℕ) (w last : ThreeWords)
     → AreWordsOf t way from base w → IsAhead way from (near way base)
     → HasPassed t way from (near way base) last
-    → ((t : Trail) (from base : ℕ) → AreWordsOf t way from base w → AreEdgesOf t way from (near way base) last
-    → (j k : ℕ) → j < 64 → Meets way from (base + j) (suc k) → is_set found j ≡ halts t k)
-    → found ≡ 0 → HasPassed t way from (far way base) w
+    → TellTrails halts way w last found → found ≡ 0 → HasPassed t way from (far way base) w
 passed_further t way from base found w last are ahead passed told none = record {
   edges = edges_of t way from base w are;
-  clear = found_none t way from base (moves_before way from (near way base)) w.middle found
+  clear = found_none t way from base (moves_before way from (near way base)) found
       (found_further t way from base found w last are ahead passed told) none;
 }
 
@@ -162,9 +151,7 @@ module _ (t : Trail) (way : Way) (from start i n found : ℕ) (b : Block) (w las
     (block : IsBlockOf t way from start i b) (low : i ≤ n) (high : n < 8)
     (words : w ≡ words_of b (nth_word way n)) (ahead : IsAhead way from (edge_before way start i))
     (passed : HasPassed t way from (edge_before way start n) last)
-    (told : (t : Trail) (from base : ℕ) → AreWordsOf t way from base w
-    → AreEdgesOf t way from (near way base) last
-    → (j k : ℕ) → j < 64 → Meets way from (base + j) (suc k) → is_set found j ≡ halts t k) where
+    (told : TellTrails halts way w last found) where
   base : ℕ
   base = start + nth_word way n * 64
 
@@ -178,9 +165,13 @@ module _ (t : Trail) (way : Way) (from start i n found : ℕ) (b : Block) (w las
   passed_here = rw (begins way start n high) passed
 
   pub nth_found : IsFound t way from (start + nth_word way n * 64)
-      (moves_before way from (near way (start + nth_word way n * 64))) w.middle found
+      (moves_before way from (near way (start + nth_word way n * 64))) found
   nth_found = found_further t way from (start + nth_word way n * 64) found w last are ahead_here
       passed_here told
+
+  pub nth_marks : (rule : Corner) (marks : ℕ) → TellTrails (shows_mark rule) way w last marks
+      → TellMoves (shows_mark rule t) way from (start + nth_word way n * 64) marks
+  nth_marks rule marks shown = shown t from (start + nth_word way n * 64) are passed_here.edges
 
   pub nth_passed : found ≡ 0 → HasPassed t way from (edge_before way start (n + 1)) w
   nth_passed none = rw (← ends way start n high)
@@ -235,21 +226,19 @@ module _ (t : Trail) (way : Way) (from start : ℕ) (b : Block) (last : ThreeWor
   after_ends (suc i) h =
       after (nth_word way i) (last_bit way) (nth_small way i (omega arith)) (last_bit_small way)
 
-  none_halts : (i : ℕ) → i < 8 → (t : Trail) (from first : ℕ)
-      → AreWordsOf t way from first (words_of b (nth_word way i))
-      → AreEdgesOf t way from (near way first) (words_before i)
-      → (j k : ℕ) → j < 64 → Meets way from (first + j) (suc k) → is_set 0 j ≡ halts t k
+  none_halts : (i : ℕ) → i < 8 → TellTrails halts way (words_of b (nth_word way i)) (words_before i) 0
   none_halts i h t from first its edges j k l m =
       let w : ℕ = nth_word way i in
       let small = nth_small way i h in
-      halts_there 0 0 0 (slice_index_or b.middle.now w 0) j t k
+      halts_there 0 0 (slice_index_or b.middle.now w 0) j t k
       (set_none j ∙ sym (ap not (free w j small l))) (its.middle j (suc k) l m)
+      (either_there 0 0 j _ _
       (none_opened way (slice_index_or b.before.now w 0) (words_before i).before _
       (before_ends i (omega arith))
       (λ j. before w j small) t.before from first its.before edges.before j k l m)
       (none_opened way (slice_index_or b.after.now w 0) (words_before i).after _
       (after_ends i (omega arith))
-      (λ j. after w j small) t.after from first its.after edges.after j k l m)
+      (λ j. after w j small) t.after from first its.after edges.after j k l m))
 
   passed_to : (i : ℕ) → i ≤ 8 → HasPassed t way from (edge_before way start i) (words_before i)
   passed_to zero h = passed
@@ -267,18 +256,15 @@ pub own_later : (way : Way) (r : Corner) (side : ℕ → Bool) (from base word :
     → ((j k : ℕ) → j < 64 → Meets way from (base + j) k → (m : ℕ) × (k ≡ suc m))
     → IsWordOf side way from base word → IsWordOf (at_start r side) way from base word
 own_later way r side from base word later here j k h m =
-    let more = later j k h m in here j k h m ∙ by_rule r more.0 more.1
+    let more = later j k h m in here j k h m ∙ its_own more.0 more.1
   where
-    by_rule : (r : Corner) (n : ℕ) → k ≡ suc n → side k ≡ at_start r side k
-    by_rule Never n e = refl
-    by_rule One n e = rw e refl
+    its_own : (n : ℕ) → k ≡ suc n → side k ≡ at_start r side k
+    its_own n e = rw e refl
 
 -- the word in which a scan starts
 module _ (t : Trail) (rule : Corner) (way : Way) (base place found halting over : ℕ) (words last : ThreeWords)
     (low : place < 64) (are : AreWordsOf (begun rule t) way (base + place) base words)
-    (told : (t : Trail) (from base : ℕ) → AreWordsOf t way from base words
-    → AreEdgesOf t way from (near way base) last
-    → (j k : ℕ) → j < 64 → Meets way from (base + j) (suc k) → is_set halting j ≡ halts t k)
+    (told : TellTrails halts way words last halting)
     (masked : (j : ℕ) → j < 64 → is_set over j ≡ is_past way place j)
     (found_is : found ≡ bit_and halting over) where
   set_there : (j : ℕ) → j < 64 → is_set found j ≡ (is_set halting j && is_past way place j)
@@ -308,10 +294,9 @@ module _ (t : Trail) (rule : Corner) (way : Way) (base place found halting over 
   and_true : (a b : Bool) → b ≡ true → (a && b) ≡ a
   and_true a b h = grind arith
 
-  pub word_found : IsFound (begun rule t) way (base + place) base 0 words.middle found
+  pub word_found : IsFound (begun rule t) way (base + place) base 0 found
   word_found = record {
     clear = λ k h. absurd (omega arith);
-    shows = are.middle;
     bits = λ j k h m. set_there j h ∙ and_true _ _ (all_past way base j k m)
         ∙ told (begun rule t) (base + place) base are
         (no_edges (begun rule t) way (base + place) base last (omega arith) (omega arith)) j k h m;
@@ -320,19 +305,25 @@ module _ (t : Trail) (rule : Corner) (way : Way) (base place found halting over 
   }
 
   pub word_clear : found ≡ 0 → IsClear (begun rule t) (moves_before way (base + place) (far way base))
-  word_clear none = found_none (begun rule t) way (base + place) base 0 words.middle found word_found none
+  word_clear none = found_none (begun rule t) way (base + place) base 0 found word_found none
+
+pub word_marks : (t : Trail) (rule : Corner) (way : Way) (base place marks : ℕ) (words last : ThreeWords)
+    → place < 64 → AreWordsOf (begun rule t) way (base + place) base words
+    → TellTrails (shows_mark rule) way words last marks
+    → TellMoves (shows_mark rule (begun rule t)) way (base + place) base marks
+word_marks t rule way base place marks words last low are shown =
+    shown (begun rule t) (base + place) base are
+    (no_edges (begun rule t) way (base + place) base last (omega arith) (omega arith))
 
 -- the block in which a scan starts
 module _ (t : Trail) (rule : Corner) (way : Way) (start place w found halting over : ℕ)
     (words last : ThreeWords) (b : Block) (block : IsBlockOf t way (start + w * 64 + place) start 0 b)
     (low : place < 64) (high : w < 8)
     (are : AreWordsOf (begun rule t) way (start + w * 64 + place) (start + w * 64) words)
-    (told : (t : Trail) (from base : ℕ) → AreWordsOf t way from base words
-    → AreEdgesOf t way from (near way base) last
-    → (j k : ℕ) → j < 64 → Meets way from (base + j) (suc k) → is_set halting j ≡ halts t k)
+    (told : TellTrails halts way words last halting)
     (masked : (j : ℕ) → j < 64 → is_set over j ≡ is_past way place j)
     (found_is : found ≡ bit_and halting over) where
-  pub start_found : IsFound (begun rule t) way (start + w * 64 + place) (start + w * 64) 0 words.middle found
+  pub start_found : IsFound (begun rule t) way (start + w * 64 + place) (start + w * 64) 0 found
   start_found = word_found t rule way (start + w * 64) place found halting over words last low are told masked
       found_is
 

@@ -1,28 +1,26 @@
 -- Scans on a grid, in each straight direction.
-use Rattle.std.proofs.Common.{◌≡◌, ◌≢◌, ℕ, zero, suc, ◌+◌, ◌-◌, ◌<◌, arith, Bool, true, false, not, ◌||◌}
+use Rattle.std.proofs.Common.{◌≡◌, ◌≢◌, ℕ, zero, suc, ◌+◌, ◌-◌, ◌<◌, arith, Bool, true, false, ◌||◌}
 use Rattle.std.proofs.Common.{refl, ap, sym, ◌∙◌, subst}
-use Rattle.std.specs.Prelude.{Option, Some, is_some, nat_eq}
+use Rattle.std.specs.Prelude.{Option, Some, is_some, nat_eq, if◌then◌else◌}
 use Rattle.std.proofs.lemmas.Bool.Decides.{nat_tests}
 use Rattle.grid_moves.specs.declared.Cell.{Cell}
 use Rattle.grid_moves.specs.declared.Corner.{Corner}
-use Rattle.grid_moves.specs.declared.Corner.TheVariants.{Never, One}
 use Rattle.grid_moves.specs.declared.Dir.{Dir}
 use Rattle.grid_moves.specs.declared.Dir.TheVariants.{N, NE, E, SE, S, SW, W, NW}
 use Rattle.grid_moves.specs.Grid.{GridData, IsGrid, is_free, is_inside}
-use Rattle.grid_moves.specs.Move.{ahead, is_open}
+use Rattle.grid_moves.specs.Move.{ahead, is_open, may_cut}
 use Rattle.grid_moves.proofs.Legal.{free_inside}
 use Rattle.bit_grid.specs.Bits.{LineData, is_free_from_one, AreRowsOf, AreColumnsOf}
 use Rattle.pruning.specs.declared.turns.Side.TheVariants.{Right, Left}
-use Rattle.pruning.specs.declared.turns.Side.{Side}
 use Rattle.pruning.specs.First.{first_stop}
 use Rattle.pruning.specs.Turns.{is_diagonal, quarter, turn}
 use Rattle.jump_plain.specs.declared.beside.Sides.{Sides}
-use Rattle.jump_plain.specs.Reach.{first_sides, moves_to, reach_of, stop_of}
+use Rattle.jump_plain.specs.Reach.{moves_to, reach_of, stop_of}
 use Rattle.jump_plain.proofs.Straight.{straight_stop}
 use Rattle.jump_block.proofs.Runs.{IsTold, told_by_ray}
 use Rattle.jump_block.specs.declared.word.Way.{Way}
 use Rattle.jump_block.specs.declared.word.Way.TheVariants.{Forward, Back}
-use Rattle.jump_block.specs.Trail.{Trail, at_start, begun, halts, opens, trail_on}
+use Rattle.jump_block.specs.Trail.{Trail, at_start, begun, opens, opens_beside, trail_on}
 use Rattle.jump_block.specs.Scan.{IsStart, MeetsMark}
 use Rattle.jump_block.specs.Source as block
 use Rattle.jump_block.specs.Source.{by_rows, by_columns, trail_of, row_dir, column_dir, row_way, column_way}
@@ -140,32 +138,21 @@ same_sides : (a b c d : Bool) → a ≡ c → b ≡ d
     ≡ (let s : Sides = record { right = c; left = d } in s)
 same_sides a b c d e f = rw (e, f) refl
 
--- after the start the sides are the trail's own
-own : (r : Corner) (side : ℕ → Bool) (k : ℕ) → at_start r side (suc k) ≡ side (suc k)
-own Never side k = refl
-own One side k = refl
+-- those with which a scan begins
+begins_with : (b : Bool) (a c p q : Bool) → a ≡ p → c ≡ q
+    → (let s : Sides = record { right = if b then true else a; left = if b then true else c } in s)
+    ≡ (if b then record { right = true; left = true } else record { right = p; left = q })
+begins_with true a c p q e f = refl
+begins_with false a c p q e f = same_sides a c p q e f
 
-regrouped : (a b c : Bool) → ((a || b) || c) ≡ (a || (b || c))
-regrouped a b c = grind arith
-
-other_side : (a b c : Bool) → ((a || b) || c) ≡ ((a || c) || b)
-other_side a b c = grind arith
+other_side : (a b : Bool) → (a || b) ≡ (b || a)
+other_side a b = grind arith
 
 -- a side of a cell
 module _ (g : GridData) (d : Dir) (x y p q : ℕ) where
   pub is_open_there : p ≡ column_from_one d x → q ≡ row_from_one d y
       → is_free_from_one g p q ≡ is_open g (cell x y) d
   is_open_there e f = same_from_one g p q _ _ e f ∙ sym (open_from_one g d x y)
-
--- where a bit is free it is no border
-no_border_column : (g : GridData) (p q : ℕ) → is_free_from_one g p q ≡ true → 0 < p
-no_border_column g zero q h = absurd (cc)
-no_border_column g (suc p) q h = omega arith
-
-no_border_row : (g : GridData) (p q : ℕ) → is_free_from_one g p q ≡ true → 0 < q
-no_border_row g zero q h = absurd (cc)
-no_border_row g (suc p) zero h = absurd (cc)
-no_border_row g (suc p) (suc q) h = omega arith
 
 -- the cell ahead, where it is open
 west_ahead : (g : GridData) (n m y : ℕ) → m ≡ n - 1 → is_open g (cell n y) W ≡ true
@@ -179,93 +166,72 @@ north_ahead g x zero m e h = absurd (cc)
 north_ahead g x (suc n) m e h = let same : n ≡ m = omega arith in ap (λ (k : ℕ). Some (cell x k)) same
 
 -- a straight run along a line: where its cells stand, and what lies to their right and left
-module _ (g : GridData) (x : Cell) (d : Dir) (rule : Corner) (straight : is_diagonal d ≡ false)
-    (r : rule ≡ g.corner)
-    (free : is_free g x ≡ true) (whole : IsGrid g) (place : ℕ → Cell) (t : Trail) (right left : ℕ → Bool)
-    (starts : place 0 ≡ x) (begins : t.free 0 ≡ true)
+module _ (g : GridData) (x : Cell) (d : Dir) (straight : is_diagonal d ≡ false) (free : is_free g x ≡ true)
+    (whole : IsGrid g) (place : ℕ → Cell) (t : Trail) (right left : ℕ → Bool) (starts : place 0 ≡ x)
     (open_is : (k : ℕ) → t.free (suc k) ≡ is_open g (place k) d)
     (goes : (k : ℕ) → is_open g (place k) d ≡ true → ahead d (place k) ≡ Some (place (suc k)))
-    (right_is : (k : ℕ) → t.free k ≡ true → right k ≡ is_open g (place k) (quarter Right d))
-    (left_is : (k : ℕ) → t.free k ≡ true → left k ≡ is_open g (place k) (quarter Left d))
-    (alike : (k : ℕ) → halts (begun rule t) k ≡ ((not (t.free (suc k)) || opens (at_start rule right) k)
-    || opens (at_start rule left) k)) where
+    (right_begins : right 0 ≡ is_open g x (quarter Right d))
+    (left_begins : left 0 ≡ is_open g x (quarter Left d))
+    (right_is : (k : ℕ) → right (suc k) ≡ is_open g (place k) (turn Right d))
+    (left_is : (k : ℕ) → left (suc k) ≡ is_open g (place k) (turn Left d))
+    (alike : (k : ℕ) → opens_beside (begun g.corner t) k
+    ≡ (opens (at_start g.corner right) k || opens (at_start g.corner left) k)) where
   abbrev sides_at : ℕ → Sides
-  sides_at k = record { right = at_start rule right k; left = at_start rule left k }
+  sides_at k = record { right = at_start g.corner right k; left = at_start g.corner left k }
 
-  first : sides_at 0 ≡ first_sides rule g x d
-  first = by_rule rule
-    where
-      at : (s : Side) (b : Bool) → b ≡ is_open g (place 0) (quarter s d) → b ≡ is_open g x (quarter s d)
-      at s b e = e ∙ ap (λ (c : Cell). is_open g c (quarter s d)) starts
-
-      by_rule : (r : Corner)
-          → (let s : Sides = record { right = at_start r right 0; left = at_start r left 0 } in s)
-          ≡ first_sides r g x d
-      by_rule Never = same_sides _ _ _ _ (at Right (right 0) (right_is 0 begins))
-          (at Left (left 0) (left_is 0 begins))
-      by_rule One = refl
-
-  told_line : IsTold g x d rule (begun rule t)
-  told_line = told_by_ray g x d rule straight r free whole place t.free sides_at (record {
+  told_line : IsTold g x d g.corner (begun g.corner t)
+  told_line = told_by_ray g x d straight free whole place t.free sides_at (record {
     starts = starts;
-    begins = first;
+    begins = begins_with (may_cut g.corner) (right 0) (left 0) _ _ right_begins left_begins;
     open_is = λ k. sym (open_is k);
     goes = goes;
-    sides_are = λ k f. same_sides _ _ _ _ (own rule right k ∙ right_is (suc k) f)
-        (own rule left k ∙ left_is (suc k) f);
-  }) (begun rule t) (λ k. alike k ∙ regrouped (not (t.free (suc k)))
-      (opens (at_start rule right) k) (opens (at_start rule left) k)) (λ k. refl)
+    sides_are = λ k. same_sides _ _ _ _ (right_is k) (left_is k);
+  }) (begun g.corner t) alike (λ k. refl)
 
-module _ (g : GridData) (x : Cell) (rule : Corner) (r : rule ≡ g.corner) (free : is_free g x ≡ true)
-    (whole : IsGrid g) where
-  starts_free : (p q : ℕ) → p ≡ x.x + 1 → q ≡ x.y + 1 → is_free_from_one g p q ≡ true
-  starts_free p q e f = free_from_one g x.x x.y p q e f ∙ free
-
-  told_east : IsTold g x E rule (begun rule (trail_of g E x))
-  told_east = told_line g x E rule refl r free whole (λ k. cell (x.x + k) x.y) (trail_of g E x)
-      (trail_of g E x).after
-      (trail_of g E x).before (ap (λ (n : ℕ). cell n x.y) (omega arith))
-      (starts_free _ _ (omega arith) (omega arith))
+module _ (g : GridData) (x : Cell) (free : is_free g x ≡ true) (whole : IsGrid g) where
+  told_east : IsTold g x E g.corner (begun g.corner (trail_of g E x))
+  told_east = told_line g x E refl free whole (λ k. cell (x.x + k) x.y) (trail_of g E x)
+      (trail_of g E x).after (trail_of g E x).before (ap (λ (n : ℕ). cell n x.y) (omega arith))
       (λ k. is_open_there g E (x.x + k) x.y _ _ (omega arith) (omega arith))
       (λ k h. let next : x.x + k + 1 ≡ x.x + suc k = omega arith in ap (λ (n : ℕ). Some (cell n x.y)) next)
-      (λ k f. is_open_there g S (x.x + k) x.y _ _ (omega arith) (omega arith))
-      (λ k f. is_open_there g N (x.x + k) x.y _ _ (omega arith) (omega arith))
-      (λ k. other_side (not ((trail_of g E x).free (suc k)))
-      (opens (begun rule (trail_of g E x)).before k) (opens (begun rule (trail_of g E x)).after k))
+      (is_open_there g S x.x x.y _ _ (omega arith) (omega arith))
+      (is_open_there g N x.x x.y _ _ (omega arith) (omega arith))
+      (λ k. is_open_there g SE (x.x + k) x.y _ _ (omega arith) (omega arith))
+      (λ k. is_open_there g NE (x.x + k) x.y _ _ (omega arith) (omega arith))
+      (λ k. other_side (opens (begun g.corner (trail_of g E x)).before k)
+      (opens (begun g.corner (trail_of g E x)).after k))
 
-  told_west : IsTold g x W rule (begun rule (trail_of g W x))
-  told_west = told_line g x W rule refl r free whole (λ k. cell (x.x - k) x.y) (trail_of g W x)
-      (trail_of g W x).before
-      (trail_of g W x).after (ap (λ (n : ℕ). cell n x.y) (omega arith))
-      (starts_free _ _ (omega arith) (omega arith))
+  told_west : IsTold g x W g.corner (begun g.corner (trail_of g W x))
+  told_west = told_line g x W refl free whole (λ k. cell (x.x - k) x.y) (trail_of g W x)
+      (trail_of g W x).before (trail_of g W x).after (ap (λ (n : ℕ). cell n x.y) (omega arith))
       (λ k. is_open_there g W (x.x - k) x.y _ _ (omega arith) (omega arith))
       (λ k h. west_ahead g (x.x - k) (x.x - suc k) x.y (omega arith) h)
-      (λ k f. let on_map = no_border_column g (x.x + 1 - k) (x.y + 1) f in
-      is_open_there g N (x.x - k) x.y _ _ (omega arith) (omega arith))
-      (λ k f. let on_map = no_border_column g (x.x + 1 - k) (x.y + 1) f in
-      is_open_there g S (x.x - k) x.y _ _ (omega arith) (omega arith)) (λ k. refl)
+      (is_open_there g N x.x x.y _ _ (omega arith) (omega arith))
+      (is_open_there g S x.x x.y _ _ (omega arith) (omega arith))
+      (λ k. is_open_there g NW (x.x - k) x.y _ _ (omega arith) (omega arith))
+      (λ k. is_open_there g SW (x.x - k) x.y _ _ (omega arith) (omega arith)) (λ k. refl)
 
-  told_south : IsTold g x S rule (begun rule (trail_of g S x))
-  told_south = told_line g x S rule refl r free whole (λ k. cell x.x (x.y + k)) (trail_of g S x)
+  told_south : IsTold g x S g.corner (begun g.corner (trail_of g S x))
+  told_south = told_line g x S refl free whole (λ k. cell x.x (x.y + k)) (trail_of g S x)
       (trail_of g S x).before (trail_of g S x).after (ap (λ (n : ℕ). cell x.x n) (omega arith))
-      (starts_free _ _ (omega arith) (omega arith))
       (λ k. is_open_there g S x.x (x.y + k) _ _ (omega arith) (omega arith))
       (λ k h. let next : x.y + k + 1 ≡ x.y + suc k = omega arith in ap (λ (n : ℕ). Some (cell x.x n)) next)
-      (λ k f. is_open_there g W x.x (x.y + k) _ _ (omega arith) (omega arith))
-      (λ k f. is_open_there g E x.x (x.y + k) _ _ (omega arith) (omega arith)) (λ k. refl)
+      (is_open_there g W x.x x.y _ _ (omega arith) (omega arith))
+      (is_open_there g E x.x x.y _ _ (omega arith) (omega arith))
+      (λ k. is_open_there g SW x.x (x.y + k) _ _ (omega arith) (omega arith))
+      (λ k. is_open_there g SE x.x (x.y + k) _ _ (omega arith) (omega arith)) (λ k. refl)
 
-  told_north : IsTold g x N rule (begun rule (trail_of g N x))
-  told_north = told_line g x N rule refl r free whole (λ k. cell x.x (x.y - k)) (trail_of g N x)
+  told_north : IsTold g x N g.corner (begun g.corner (trail_of g N x))
+  told_north = told_line g x N refl free whole (λ k. cell x.x (x.y - k)) (trail_of g N x)
       (trail_of g N x).after (trail_of g N x).before (ap (λ (n : ℕ). cell x.x n) (omega arith))
-      (starts_free _ _ (omega arith) (omega arith))
       (λ k. is_open_there g N x.x (x.y - k) _ _ (omega arith) (omega arith))
       (λ k h. north_ahead g x.x (x.y - k) (x.y - suc k) (omega arith) h)
-      (λ k f. let on_map = no_border_row g (x.x + 1) (x.y + 1 - k) f in
-      is_open_there g E x.x (x.y - k) _ _ (omega arith) (omega arith))
-      (λ k f. let on_map = no_border_row g (x.x + 1) (x.y + 1 - k) f in
-      is_open_there g W x.x (x.y - k) _ _ (omega arith) (omega arith))
-      (λ k. other_side (not ((trail_of g N x).free (suc k)))
-      (opens (begun rule (trail_of g N x)).before k) (opens (begun rule (trail_of g N x)).after k))
+      (is_open_there g E x.x x.y _ _ (omega arith) (omega arith))
+      (is_open_there g W x.x x.y _ _ (omega arith) (omega arith))
+      (λ k. is_open_there g NE x.x (x.y - k) _ _ (omega arith) (omega arith))
+      (λ k. is_open_there g NW x.x (x.y - k) _ _ (omega arith) (omega arith))
+      (λ k. other_side (opens (begun g.corner (trail_of g N x)).before k)
+      (opens (begun g.corner (trail_of g N x)).after k))
 
 -- a line and a place on it, counted from 1, by equal numbers
 pub one_on : (P : ℕ → ℕ → Type 0) {x y u v : ℕ} → x ≡ u → y ≡ v → P (x + 1) (y + 1) → P (u + 1) (v + 1)
@@ -283,29 +249,35 @@ is_north SE h e w s = absurd (cc)
 is_north SW h e w s = absurd (cc)
 is_north NW h e w s = absurd (cc)
 
+told_by_dir : (g : GridData) (x : Cell) (d : Dir) → is_diagonal d ≡ false → is_free g x ≡ true → IsGrid g
+    → IsTold g x d g.corner (begun g.corner (trail_of g d x))
+told_by_dir g x N h f whole = told_north g x f whole
+told_by_dir g x E h f whole = told_east g x f whole
+told_by_dir g x S h f whole = told_south g x f whole
+told_by_dir g x W h f whole = told_west g x f whole
+told_by_dir g x NE h f whole = absurd (cc)
+told_by_dir g x SE h f whole = absurd (cc)
+told_by_dir g x SW h f whole = absurd (cc)
+told_by_dir g x NW h f whole = absurd (cc)
+
 -- what a scan in a straight direction tells
 pub told_on : (g : GridData) (x : Cell) (d : Dir) (rule : Corner) → is_diagonal d ≡ false → rule ≡ g.corner
     → is_free g x ≡ true → IsGrid g → IsTold g x d rule (begun rule (trail_of g d x))
-told_on g x N rule h r f whole = told_north g x rule r f whole
-told_on g x E rule h r f whole = told_east g x rule r f whole
-told_on g x S rule h r f whole = told_south g x rule r f whole
-told_on g x W rule h r f whole = told_west g x rule r f whole
-told_on g x NE rule h r f whole = absurd (cc)
-told_on g x SE rule h r f whole = absurd (cc)
-told_on g x SW rule h r f whole = absurd (cc)
-told_on g x NW rule h r f whole = absurd (cc)
+told_on g x d rule h r f whole = subst (λ (c : Corner). IsTold g x d c (begun c (trail_of g d x))) (sym r)
+    (told_by_dir g x d h f whole)
 
 -- and where the goal is not ahead, whether it meets a mark
 pub mark_on : (g : GridData) (x : Cell) (d : Dir) (rule : Corner) → is_diagonal d ≡ false → rule ≡ g.corner
     → is_free g x ≡ true → IsGrid g → (goal : Cell) → moves_to d x goal ≡ 0 → (marked : Bool)
-    → MeetsMark (begun rule (trail_of g d x)) marked → marked ≡ is_some (first_stop g goal x d)
+    → MeetsMark rule (begun rule (trail_of g d x)) marked → marked ≡ is_some (first_stop g goal x d)
 mark_on g x d rule h r f whole goal off marked met =
-    met.2 ∙ shown met.0.blocked
-    ∙ ap (λ (o : Option ℕ). is_some o) ((told_on g x d rule h r f whole 0 (Some met.0) met.1).0
+    shown marked
+    ∙ ap (λ (o : Option ℕ). is_some o) ((told_on g x d rule h r f whole 0
+    (Some (record { passed = met.0; marked = marked })) met.1).0
     ∙ ap (λ (n : ℕ). stop_of (reach_of g x d) n) (sym off) ∙ sym (straight_stop g goal x d h))
   where
     shown : (b : Bool)
-        → not b ≡ is_some (block.stop_of rule (Some (record { passed = met.0.passed; blocked = b })) 0)
+        → b ≡ is_some (block.stop_of rule (Some (record { passed = met.0; marked = b })) 0)
     shown true = refl
     shown false = refl
 

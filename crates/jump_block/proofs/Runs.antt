@@ -7,21 +7,25 @@ use Rattle.grid_moves.specs.declared.Cell.{Cell}
 use Rattle.grid_moves.specs.declared.Corner.{Corner}
 use Rattle.grid_moves.specs.declared.Dir.{Dir}
 use Rattle.grid_moves.specs.Grid.{GridData, IsGrid, is_free}
-use Rattle.grid_moves.specs.Move.{ahead, legal_ahead, is_open}
-use Rattle.grid_moves.proofs.Legal.{legal_is}
-use Rattle.pruning.specs.Turns.{is_diagonal}
+use Rattle.grid_moves.specs.Move.{ahead, legal_ahead, is_open, may_slip}
+use Rattle.grid_moves.proofs.Legal.{legal_is, by_cut, passable-uncut}
+use Rattle.pruning.specs.declared.turns.Side.{Side}
+use Rattle.pruning.specs.declared.turns.Side.TheVariants.{Right, Left}
+use Rattle.pruning.specs.Turns.{is_diagonal, quarter, turn}
 use Rattle.pruning.specs.Allowed.{can_move}
 use Rattle.pruning.specs.First.{run_length}
 use Rattle.pruning.proofs.Moves.{can_move-straight}
-use Rattle.pruning.proofs.Bridging.{leads_from, leads_legal, legal_leads, one_of}
+use Rattle.pruning.proofs.Bridging.{leads_from, leads_legal, legal_leads, one_of, place_of}
+use Rattle.pruning.proofs.Table.{straight_side}
 use Rattle.jump_plain.specs.declared.beside.Sides.{Sides}
 use Rattle.jump_plain.specs.declared.scan.Reach.{Reach}
-use Rattle.jump_plain.specs.Beside.{sides_of, opens}
+use Rattle.jump_plain.specs.Beside.{sides_of, sides_ahead, opens}
 use Rattle.jump_plain.specs.Reach.{reach_of, further, mark_ahead, first_sides, stop_of}
 use Rattle.pruning.proofs.Lengths.{run_length-next, run_length-none, run_length-few}
+use Rattle.jump_plain.proofs.Forcing.{seen_from}
 use Rattle.jump_plain.proofs.Scanning.{left_with, reach_begun, reached_end, reached_mark, reached_next}
 use Rattle.jump_block.specs.declared.block.Halt.{Halt}
-use Rattle.jump_block.specs.Trail.{Trail, IsClear, Halts, halts}
+use Rattle.jump_block.specs.Trail.{Trail, IsClear, Halts, halts, opens_beside}
 use Rattle.jump_block.specs.Scan.{Finds, looked, nearer}
 use Rattle.jump_block.specs.Source.{reach_of_halt, HasFew, scanned}
 use Rattle.jump_block.specs.Source as block
@@ -30,15 +34,29 @@ none_if : (o : Option Cell) → is_some o ≡ false → o ≡ None
 none_if None h = refl
 none_if (Some v) h = absurd (cc)
 
+-- the cells half ahead are the sides of the next cell
+sides_seen : (g : GridData) (u v : Cell) (d : Dir) → legal_ahead g u d ≡ Some v → is_diagonal d ≡ false
+    → sides_ahead g u d ≡ sides_of g v d
+sides_seen g u v d legal h = rw (seen Right, seen Left) refl
+  where
+    seen : (s : Side) → is_open g u (turn s d) ≡ is_open g v (quarter s d)
+    seen s = sym (seen_from g u v d (legal_leads g u v d legal) (quarter s d) (turn s d)
+        (straight_side s d (place_of u) h))
+
+-- where a diagonal move may pass between two blocked cells a corner may be cut, and no mark stands ahead
+slips_here : (r : Corner) → may_slip r ≡ true → (k : ℕ) → k + mark_ahead r ≡ k
+slips_here r e k = by_cut r (λ f. absurd (let never = passable-uncut r f false false in cc))
+    (λ f. rw f (omega arith))
+
 -- so many cells ahead: where each stands, whether it is free, and its sides, those of the first cell as a
 -- scan begins
-module _ (g : GridData) (x : Cell) (d : Dir) (h : is_diagonal d ≡ false) (rule : Corner) (r : rule ≡ g.corner)
+module _ (g : GridData) (x : Cell) (d : Dir) (h : is_diagonal d ≡ false)
     (place : ℕ → Cell) (free : ℕ → Bool) (sides : ℕ → Sides) (starts : place 0 ≡ x)
     (start_free : is_free g x ≡ true)
-    (begins : sides 0 ≡ first_sides rule g x d)
+    (begins : sides 0 ≡ first_sides g.corner g x d)
     (open_is : (k : ℕ) → is_open g (place k) d ≡ free (suc k))
     (goes : (k : ℕ) → is_open g (place k) d ≡ true → ahead d (place k) ≡ Some (place (suc k)))
-    (sides_are : (k : ℕ) → free (suc k) ≡ true → sides (suc k) ≡ sides_of g (place (suc k)) d) where
+    (sides_are : (k : ℕ) → sides (suc k) ≡ sides_ahead g (place k) d) where
   -- a scan halts between two cells
   abbrev pub halts_at : ℕ → Bool
   halts_at k = not (free (suc k)) || opens (sides k) (sides (suc k))
@@ -46,7 +64,7 @@ module _ (g : GridData) (x : Cell) (d : Dir) (h : is_diagonal d ≡ false) (rule
   -- after so many moves
   record Comes (k : ℕ) : Type 0 where
     pub is_free_there : is_free g (place k) ≡ true
-    pub left : reach_of g x d ≡ further k (left_with rule (sides k) g (place k) d)
+    pub left : reach_of g x d ≡ further k (left_with g.corner (sides k) g (place k) d)
     pub run : run_length g x d ≡ k + run_length g (place k) d
 
   moves_on : (k : ℕ) → is_free g (place k) ≡ true → free (suc k) ≡ true
@@ -56,6 +74,10 @@ module _ (g : GridData) (x : Cell) (d : Dir) (h : is_diagonal d ≡ false) (rule
       let l = leads_from g (place k) d can in
       leads_legal g (place k) l.0 d l.1
       ∙ ap (λ (v : Cell). Some v) (one_of _ _ (sym l.1.ahead_is ∙ goes k (open_is k ∙ e)))
+
+  sides_then : (k : ℕ) → legal_ahead g (place k) d ≡ Some (place (suc k))
+      → sides (suc k) ≡ sides_of g (place (suc k)) d
+  sides_then k legal = sides_are k ∙ sides_seen g (place k) (place (suc k)) d legal h
 
   stays_there : (k : ℕ) → is_free g (place k) ≡ true → free (suc k) ≡ false → legal_ahead g (place k) d ≡ None
   stays_there k f e = none_if (legal_ahead g (place k) d) (can_move-straight g (place k) d f h
@@ -68,8 +90,8 @@ module _ (g : GridData) (x : Cell) (d : Dir) (h : is_diagonal d ≡ false) (rule
   comes : (k : ℕ) → ((m : ℕ) → m < k → halts_at m ≡ false) → Comes k
   comes zero clear = record {
     is_free_there = ap (λ (c : Cell). is_free g c) starts ∙ start_free;
-    left = reach_begun g x d h rule r start_free (sides 0) begins
-        ∙ ap (λ (c : Cell). further 0 (left_with rule (sides 0) g c d)) (sym starts);
+    left = reach_begun g x d h start_free (sides 0) begins
+        ∙ ap (λ (c : Cell). further 0 (left_with g.corner (sides 0) g c d)) (sym starts);
     run = ap (λ (c : Cell). run_length g c d) (sym starts) ∙ nothing (run_length g (place 0) d);
   }
     where
@@ -82,13 +104,14 @@ module _ (g : GridData) (x : Cell) (d : Dir) (h : is_diagonal d ≡ false) (rule
       let there =
       (legal_is g (place k) (place (suc k))
       (legal_leads g (place k) (place (suc k)) d legal).legal).target in
-      let next = reached_next g (place k) d h rule (sides k) k (reach_of g x d) before.left
+      let next = reached_next g (place k) d h (sides k) k (reach_of g x d) before.left
       (place (suc k)) legal
-      (sides (suc k)) (sides_are k both.0) (opens (sides k) (sides (suc k))) refl r there both.1 in
+      (sides (suc k)) (sides_then k legal) (opens (sides k) (sides (suc k))) refl there both.1 in
       let one : k + 1 ≡ suc k = omega arith in
       record {
         is_free_there = there;
-        left = next ∙ ap (λ (n : ℕ). further n (left_with rule (sides (suc k)) g (place (suc k)) d)) one;
+        left = next
+            ∙ ap (λ (n : ℕ). further n (left_with g.corner (sides (suc k)) g (place (suc k)) d)) one;
         run = let longer = run_length-next g (place k) (place (suc k)) d legal in
             let so_far = before.run in
             omega arith;
@@ -96,10 +119,13 @@ module _ (g : GridData) (x : Cell) (d : Dir) (h : is_diagonal d ≡ false) (rule
 
   -- the scan halts there first
   module _ (k : ℕ) (clear : (m : ℕ) → m < k → halts_at m ≡ false) where
-    pub halted_blocked : free (suc k) ≡ false → record { moves = k; marked = false } ≡ reach_of g x d
-    halted_blocked e = let there = comes k clear in
-        reached_end g (place k) d h rule (sides k) k (reach_of g x d) there.left
-        (stays_there k there.is_free_there e)
+    pub halted_blocked : free (suc k) ≡ false → (marked : Bool)
+        → marked ≡ (may_slip g.corner && opens (sides k) (sides (suc k)))
+        → record { moves = k; marked = marked } ≡ reach_of g x d
+    halted_blocked e marked m = let there = comes k clear in
+        reached_end g (place k) d h (sides k) k (reach_of g x d) there.left
+        (stays_there k there.is_free_there e) marked
+        (m ∙ ap (λ (s : Sides). may_slip g.corner && opens (sides k) s) (sides_are k))
 
     pub halted_run : free (suc k) ≡ false → run_length g x d ≡ k
     halted_run e =
@@ -109,53 +135,79 @@ module _ (g : GridData) (x : Cell) (d : Dir) (h : is_diagonal d ≡ false) (rule
         omega arith
 
     pub halted_mark : free (suc k) ≡ true → opens (sides k) (sides (suc k)) ≡ true
-        → record { moves = k + mark_ahead rule; marked = true } ≡ reach_of g x d
-    halted_mark e o = let there = comes k clear in
-        reached_mark g (place k) d h rule (sides k) k (reach_of g x d) there.left (place (suc k))
-        (moves_on k there.is_free_there e) (sides (suc k)) (sides_are k e) (opens (sides k) (sides (suc k)))
-        refl
-        (mark_ahead rule) refl o
+        → record { moves = k + mark_ahead g.corner; marked = true } ≡ reach_of g x d
+    halted_mark e o =
+        let there = comes k clear in
+        let legal = moves_on k there.is_free_there e in
+        reached_mark g (place k) d h (sides k) k (reach_of g x d) there.left (place (suc k))
+        legal (sides (suc k)) (sides_then k legal) (opens (sides k) (sides (suc k))) refl
+        (mark_ahead g.corner) refl o
 
     -- the goal is met before
     pub met_before : 0 < k → Some k ≡ stop_of (reach_of g x d) k
     met_before some =
         let there = comes k clear in
-        let n : ℕ = (left_with rule (sides k) g (place k) d).moves in
+        let n : ℕ = (left_with g.corner (sides k) g (place k) d).moves in
         let reached : (nat_lt 0 k && nat_le k (k + n)) ≡ true = grind (arith, nat_tests) in
         rw there.left (rw reached refl)
 
-  -- what a scan of the same halts finds
-  module _ (t : Trail) (alike : (k : ℕ) → halts t k ≡ halts_at k)
+  -- what a scan finds beside which the same sides open
+  module _ (t : Trail) (alike : (k : ℕ) → opens_beside t k ≡ opens (sides k) (sides (suc k)))
       (alike_free : (k : ℕ) → t.free (suc k) ≡ free (suc k)) where
+    halts_alike : (k : ℕ) → halts t k ≡ halts_at k
+    halts_alike k = rw (alike k, alike_free k) refl
+
     clear_there : (n : ℕ) → IsClear t n → (m : ℕ) → m < n → halts_at m ≡ false
-    clear_there n clear m l = sym (alike m) ∙ clear m l
+    clear_there n clear m l = sym (halts_alike m) ∙ clear m l
 
     opens_there : (a b : Bool) → (not a || b) ≡ true → a ≡ true → b ≡ true
     opens_there a b e f = grind arith
 
-    reach_there : (passed : ℕ) (blocked : Bool) → Halts t passed blocked
-        → reach_of_halt rule (record { passed = passed; blocked = blocked }) ≡ reach_of g x d
-    reach_there passed true h =
-        halted_blocked passed (clear_there passed h.clear)
-        (sym (alike_free passed) ∙ shut (t.free (suc passed)) h.told)
-      where
-        shut : (a : Bool) → true ≡ not a → a ≡ false
-        shut a e = grind arith
-    reach_there passed false h =
-        let open_ahead = sym (alike_free passed) ∙ clear_ahead (t.free (suc passed)) h.told in
-        halted_mark passed (clear_there passed h.clear) open_ahead
-        (opens_there (free (suc passed)) _ (sym (alike passed) ∙ h.here) open_ahead)
-      where
-        clear_ahead : (a : Bool) → false ≡ not a → a ≡ true
-        clear_ahead a e = grind arith
+    -- a mark shows where the next cell is free, and else maybe at the last one
+    marked_there : (a b : Bool) → a ≡ true → (a || b) ≡ true
+    marked_there a b e = grind arith
 
-    pub found_stop : (to_goal : ℕ) (found : Option Halt) → Finds t to_goal found
-        → block.stop_of rule found to_goal ≡ stop_of (reach_of g x d) to_goal
+    marked_last : (a b : Bool) → a ≡ false → (a || b) ≡ b
+    marked_last a b e = grind arith
+
+    blocked_there : (a b : Bool) → false ≡ (a || b) → a ≡ false
+    blocked_there a b e = grind arith
+
+    slip_of : (a b : Bool) → true ≡ (a && b) → a ≡ true
+    slip_of a b e = grind arith
+
+    last_mark : (passed : ℕ) (marked : Bool) → marked ≡ (may_slip g.corner && opens_beside t passed)
+        → reach_of_halt g.corner (record { passed = passed; marked = marked })
+        ≡ record { moves = passed; marked = marked }
+    last_mark passed true e = ap (λ (n : ℕ). let r : Reach = record { moves = n; marked = true } in r)
+        (slips_here g.corner (slip_of _ _ e) passed)
+    last_mark passed false e = refl
+
+    reach_there : (passed : ℕ) (marked : Bool) → Halts g.corner t passed marked
+        → reach_of_halt g.corner (record { passed = passed; marked = marked }) ≡ reach_of g x d
+    reach_there passed marked h = by_next (free (suc passed)) refl
+      where
+        by_next : (b : Bool) → free (suc passed) ≡ b
+            → reach_of_halt g.corner (record { passed = passed; marked = marked }) ≡ reach_of g x d
+        by_next true e =
+            ap (λ (m : Bool). reach_of_halt g.corner (record { passed = passed; marked = m }))
+            (h.told ∙ marked_there (t.free (suc passed)) _ (alike_free passed ∙ e))
+            ∙ halted_mark passed (clear_there passed h.clear) e
+            (opens_there (free (suc passed)) _ (sym (halts_alike passed) ∙ h.here) e)
+        by_next false e =
+            let last = h.told ∙ marked_last (t.free (suc passed)) _ (alike_free passed ∙ e) in
+            last_mark passed marked last
+            ∙ halted_blocked passed (clear_there passed h.clear) e marked
+            (last ∙ ap (λ (o : Bool). may_slip g.corner && o) (alike passed))
+
+    pub found_stop : (to_goal : ℕ) (found : Option Halt) → Finds g.corner t to_goal found
+        → block.stop_of g.corner found to_goal ≡ stop_of (reach_of g x d) to_goal
     found_stop to_goal (Some h) is =
-        ap (λ (r : Reach). stop_of r to_goal) (reach_there h.passed h.blocked is)
+        ap (λ (r : Reach). stop_of r to_goal) (reach_there h.passed h.marked is)
     found_stop to_goal None is = met_before to_goal (clear_there to_goal is.1) is.0
 
-    pub found_few : IsGrid g → (to_goal : ℕ) (found : Option Halt) → Finds t to_goal found → HasFew found
+    pub found_few : IsGrid g → (to_goal : ℕ) (found : Option Halt) → Finds g.corner t to_goal found
+        → HasFew found
     found_few whole to_goal (Some h) is =
         let there = comes h.passed (clear_there h.passed is.clear) in
         let run = there.run in
@@ -178,10 +230,10 @@ module _ (g : GridData) (x : Cell) (d : Dir) (h : is_diagonal d ≡ false) (rule
         by_test true = omega arith
         by_test false = omega arith
 
-    pub found_within : (to_goal : ℕ) (found : Option Halt) → Finds t to_goal found
-        → looked to_goal found ≤ scanned g x d (block.stop_of rule found to_goal)
+    pub found_within : (to_goal : ℕ) (found : Option Halt) → Finds g.corner t to_goal found
+        → looked to_goal found ≤ scanned g x d (block.stop_of g.corner found to_goal)
     found_within to_goal None is = omega arith
-    found_within to_goal (Some h) is = by_halt h.blocked is
+    found_within to_goal (Some h) is = by_halt h.marked is
       where
         by_goal_blocked : (b : Bool) → (nat_lt 0 to_goal && nat_le to_goal h.passed) ≡ b
             → run_length g x d ≡ h.passed
@@ -189,50 +241,47 @@ module _ (g : GridData) (x : Cell) (d : Dir) (h : is_diagonal d ≡ false) (rule
         by_goal_blocked true e run = nearer_goal to_goal h.passed e h.passed
         by_goal_blocked false e run = let n = nearer_passed to_goal h.passed in omega arith
 
-        by_goal_marked : (b : Bool) → (nat_lt 0 to_goal && nat_le to_goal (h.passed + mark_ahead rule)) ≡ b
+        by_goal_marked : (b : Bool)
+            → (nat_lt 0 to_goal && nat_le to_goal (h.passed + mark_ahead g.corner)) ≡ b
             → nearer to_goal h.passed
-            ≤ scanned g x d (if b then Some to_goal else Some (h.passed + mark_ahead rule))
-        by_goal_marked true e = nearer_goal to_goal (h.passed + mark_ahead rule) e h.passed
+            ≤ scanned g x d (if b then Some to_goal else Some (h.passed + mark_ahead g.corner))
+        by_goal_marked true e = nearer_goal to_goal (h.passed + mark_ahead g.corner) e h.passed
         by_goal_marked false e = let n = nearer_passed to_goal h.passed in omega arith
 
-        by_halt : (b : Bool) → Halts t h.passed b
+        by_halt : (b : Bool) → Halts g.corner t h.passed b
             → nearer to_goal h.passed
-            ≤ scanned g x d (block.stop_of rule (Some (record { passed = h.passed; blocked = b })) to_goal)
-        by_halt true halt = by_goal_blocked (nat_lt 0 to_goal && nat_le to_goal h.passed) refl
+            ≤ scanned g x d (block.stop_of g.corner (Some (record { passed = h.passed; marked = b })) to_goal)
+        by_halt true halt =
+            by_goal_marked (nat_lt 0 to_goal && nat_le to_goal (h.passed + mark_ahead g.corner)) refl
+        by_halt false halt = by_goal_blocked (nat_lt 0 to_goal && nat_le to_goal h.passed) refl
             (halted_run h.passed (clear_there h.passed halt.clear)
-            (sym (alike_free h.passed) ∙ shut (t.free (suc h.passed)) halt.told))
-          where
-            shut : (a : Bool) → true ≡ not a → a ≡ false
-            shut a e = grind arith
-        by_halt false halt =
-            by_goal_marked (nat_lt 0 to_goal && nat_le to_goal (h.passed + mark_ahead rule)) refl
+            (sym (alike_free h.passed) ∙ blocked_there (t.free (suc h.passed)) _ halt.told))
 
 -- the cells ahead as a scan passes them
-pub record IsRay (g : GridData) (x : Cell) (d : Dir) (rule : Corner) (place : ℕ → Cell) (free : ℕ → Bool)
+pub record IsRay (g : GridData) (x : Cell) (d : Dir) (place : ℕ → Cell) (free : ℕ → Bool)
     (sides : ℕ → Sides) : Type 0 where
   pub starts : place 0 ≡ x
-  pub begins : sides 0 ≡ first_sides rule g x d
+  pub begins : sides 0 ≡ first_sides g.corner g x d
   pub open_is : (k : ℕ) → is_open g (place k) d ≡ free (suc k)
   pub goes : (k : ℕ) → is_open g (place k) d ≡ true → ahead d (place k) ≡ Some (place (suc k))
-  pub sides_are : (k : ℕ) → free (suc k) ≡ true → sides (suc k) ≡ sides_of g (place (suc k)) d
+  pub sides_are : (k : ℕ) → sides (suc k) ≡ sides_ahead g (place k) d
 
 -- what a scan of this trail finds tells the first stop, and how many cells are looked at
 abbrev pub IsTold : GridData → Cell → Dir → Corner → Trail → Type 0
-IsTold g x d rule t = (to_goal : ℕ) (found : Option Halt) → Finds t to_goal found
+IsTold g x d rule t = (to_goal : ℕ) (found : Option Halt) → Finds rule t to_goal found
     → (block.stop_of rule found to_goal ≡ stop_of (reach_of g x d) to_goal) × HasFew found
     × (looked to_goal found ≤ scanned g x d (block.stop_of rule found to_goal))
 
-pub told_by_ray : (g : GridData) (x : Cell) (d : Dir) (rule : Corner) → is_diagonal d ≡ false
-    → rule ≡ g.corner
-    → is_free g x ≡ true → IsGrid g → (place : ℕ → Cell) (free : ℕ → Bool) (sides : ℕ → Sides)
-    → IsRay g x d rule place free sides → (t : Trail)
-    → ((k : ℕ) → halts t k ≡ (not (free (suc k)) || opens (sides k) (sides (suc k))))
-    → ((k : ℕ) → t.free (suc k) ≡ free (suc k)) → IsTold g x d rule t
-told_by_ray g x d rule h r f whole place free sides ray t alike alike_free to_goal found is = (
-  found_stop g x d h rule r place free sides ray.starts f ray.begins ray.open_is ray.goes ray.sides_are t
+pub told_by_ray : (g : GridData) (x : Cell) (d : Dir) → is_diagonal d ≡ false → is_free g x ≡ true
+    → IsGrid g → (place : ℕ → Cell) (free : ℕ → Bool) (sides : ℕ → Sides)
+    → IsRay g x d place free sides → (t : Trail)
+    → ((k : ℕ) → opens_beside t k ≡ opens (sides k) (sides (suc k)))
+    → ((k : ℕ) → t.free (suc k) ≡ free (suc k)) → IsTold g x d g.corner t
+told_by_ray g x d h f whole place free sides ray t alike alike_free to_goal found is = (
+  found_stop g x d h place free sides ray.starts f ray.begins ray.open_is ray.goes ray.sides_are t
       alike alike_free to_goal found is,
-  found_few g x d h rule r place free sides ray.starts f ray.begins ray.open_is ray.goes ray.sides_are t
+  found_few g x d h place free sides ray.starts f ray.begins ray.open_is ray.goes ray.sides_are t
       alike alike_free whole to_goal found is,
-  found_within g x d h rule r place free sides ray.starts f ray.begins ray.open_is ray.goes ray.sides_are t
+  found_within g x d h place free sides ray.starts f ray.begins ray.open_is ray.goes ray.sides_are t
       alike alike_free to_goal found is,
 )

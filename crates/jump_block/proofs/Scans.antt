@@ -1,21 +1,21 @@
 -- Scans over several blocks.
 use Rattle.std.proofs.Common.{◌≡◌, ℕ, zero, suc, ◌+◌, ◌*◌, ◌-◌, ◌/◌, ◌<◌, ◌≤◌, ◌⊎◌, inl, inr, arith, Bool}
-use Rattle.std.proofs.Common.{true, false, not, ◌&&◌, ◌||◌, refl, ap, sym, ◌∙◌}
+use Rattle.std.proofs.Common.{true, false, not, ◌&&◌, ◌||◌, refl, ap, sym, ◌∙◌, subst}
 use Rattle.std.specs.Prelude.{nat_lt, nat_le, min, if◌then◌else◌}
 use Rattle.std.proofs.lemmas.Bool.{cases_lt}
 use Rattle.std.proofs.lemmas.Bool.Decides.{nat_tests}
 use Rattle.grid_moves.specs.declared.Corner.{Corner}
-use Rattle.grid_moves.specs.declared.Corner.TheVariants.{Never, One}
 use Rattle.bit_grid.specs.Bits.{LineData}
 use Rattle.jump_block.specs.declared.word.Way.{Way}
 use Rattle.jump_block.specs.declared.word.Way.TheVariants.{Forward, Back}
 use Rattle.bit_grid.specs.declared.lines.ThreeWords.{ThreeWords}
 use Rattle.jump_block.specs.declared.block.Block.{Block}
-use Rattle.jump_block.specs.Trail.{Trail, IsClear, Halts, at_start, begun, along, trail_on}
-use Rattle.jump_block.specs.Word.{Meets, IsWordOf, IsBlockOf, IsAhead, moves_before, nth_word, edge_before}
+use Rattle.jump_block.specs.Trail.{Trail, IsClear, Halts, begun, along, trail_on}
+use Rattle.jump_block.specs.Word.{Meets, IsBlockOf, IsAhead, moves_before, nth_word, edge_before}
 use Rattle.jump_block.specs.Word.{HasNext, next_block}
 use Rattle.jump_block.specs.Seek.{HasPassed}
 use Rattle.jump_block.specs.Scan.{IsStart, most_lanes, nearer}
+use Rattle.jump_block.proofs.Blocks.{own_later}
 
 -- how many blocks past the first, and how many are left
 abbrev pub distance : Way → ℕ → ℕ → ℕ
@@ -32,9 +32,9 @@ IsOnWay Forward from index = from / 512 ≤ index
 IsOnWay Back from index = index ≤ from / 512
 
 -- a halt comes after all that is clear
-pub clear_halts : (t : Trail) (n passed : ℕ) (blocked : Bool) → IsClear t n → Halts t passed blocked
-    → n ≤ passed
-clear_halts t n passed blocked clear here = by_place (cases_lt passed n)
+pub clear_halts : (rule : Corner) (t : Trail) (n passed : ℕ) (marked : Bool) → IsClear t n
+    → Halts rule t passed marked → n ≤ passed
+clear_halts rule t n passed marked clear here = by_place (cases_lt passed n)
   where
     by_place : (passed < n) ⊎ (n ≤ passed) → n ≤ passed
     by_place (inl l) = absurd (let never = clear passed l in let there = here.here in cc)
@@ -43,10 +43,10 @@ clear_halts t n passed blocked clear here = by_place (cases_lt passed n)
 -- what a scan has passed is free
 last_free : (t : Trail) (n : ℕ) → t.free 0 ≡ true → IsClear t n → t.free n ≡ true
 last_free t zero start clear = start
-last_free t (suc m) start clear = first_of (t.free (suc m)) _ _ (clear m (omega arith))
+last_free t (suc m) start clear = first_of (t.free (suc m)) _ (clear m (omega arith))
   where
-    first_of : (a b c : Bool) → (not a || b || c) ≡ false → a ≡ true
-    first_of a b c h = grind arith
+    first_of : (a b : Bool) → (not a || b) ≡ false → a ≡ true
+    first_of a b h = grind arith
 
 along_start : (way : Way) (from : ℕ) → along way from 0 ≡ from
 along_start Forward from = omega arith
@@ -111,16 +111,6 @@ edge_ahead Forward from index h = omega arith
 edge_ahead Back from index h = omega arith
 
 -- a block ahead is what the begun trail has there
-its_own : (r : Corner) (side : ℕ → Bool) (way : Way) (from base word : ℕ)
-    → ((j k : ℕ) → j < 64 → Meets way from (base + j) k → (m : ℕ) × (k ≡ suc m))
-    → IsWordOf side way from base word → IsWordOf (at_start r side) way from base word
-its_own r side way from base word later here j k h m =
-    let more = later j k h m in here j k h m ∙ by_rule r more.0 more.1
-  where
-    by_rule : (r : Corner) (n : ℕ) → k ≡ suc n → side k ≡ at_start r side k
-    by_rule Never n e = refl
-    by_rule One n e = rw e refl
-
 later_words : (way : Way) (from start n : ℕ) → IsAhead way from (edge_before way start 0) → n < 8
     → (j k : ℕ) → j < 64 → Meets way from (start + nth_word way n * 64 + j) k → (m : ℕ) × (k ≡ suc m)
 later_words Forward from start n a c j k h m = (k - 1, omega arith)
@@ -133,9 +123,9 @@ block_ahead t rule way from start b ahead block n a c =
     let there = block n a c in
     record {
       middle = there.middle;
-      before = its_own rule t.before way from (start + nth_word way n * 64) _
+      before = own_later way rule t.before from (start + nth_word way n * 64) _
           (later_words way from start n ahead c) there.before;
-      after = its_own rule t.after way from (start + nth_word way n * 64) _
+      after = own_later way rule t.after from (start + nth_word way n * 64) _
           (later_words way from start n ahead c) there.after;
     }
 
@@ -180,6 +170,10 @@ met to_goal n h = (grind (arith, nat_tests), grind (arith, nat_tests))
 pub not_met : (to_goal n : ℕ) → (nat_lt 0 to_goal && nat_le to_goal n) ≡ false → 0 < to_goal → n < to_goal
 not_met to_goal n h k = grind (arith, nat_tests)
 
+-- the same way, under the same rule
+pub on_same : (P : Way → Corner → Type 0) {v w : Way} {r s : Corner} → v ≡ w → r ≡ s → P v r → P w s
+on_same P {v} {w} {r} {s} e f p = subst (λ (c : Corner). P w c) f (subst (λ (u : Way). P u r) e p)
+
 pub first_on_way : (way : Way) (from : ℕ) → IsOnWay way from (from / 512)
 first_on_way Forward from = omega arith
 first_on_way Back from = omega arith
@@ -213,13 +207,13 @@ module _ (way : Way) (from index next : ℕ) (is : next ≡ next_block way index
       let all = passed_blocks way from index on_way in
       omega arith
 
-  pub most_next : (t : Trail) (to_goal passed : ℕ) (blocked : Bool)
-      → IsClear t (moves_before way from (edge_before way (index * 512) 8)) → Halts t passed blocked
+  pub most_next : (rule : Corner) (t : Trail) (to_goal passed : ℕ) (marked : Bool)
+      → IsClear t (moves_before way from (edge_before way (index * 512) 8)) → Halts rule t passed marked
       → (nat_lt 0 to_goal && nat_le to_goal (moves_before way from (edge_before way (index * 512) 8))) ≡ false
       → 3 * (distance way from next + 1) ≤ most_lanes (nearer to_goal passed)
-  most_next t to_goal passed blocked clear halt unmet =
+  most_next rule t to_goal passed marked clear halt unmet =
       let more = distance_next in
       let all = passed_blocks way from index on_way in
-      let after = clear_halts t _ passed blocked clear halt in
+      let after = clear_halts rule t _ passed marked clear halt in
       within_most to_goal passed (distance way from next) (omega (arith, more, all, after))
       (λ h. goal_next to_goal (not_met to_goal _ unmet h))

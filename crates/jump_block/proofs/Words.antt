@@ -2,7 +2,7 @@
 use Rattle.std.proofs.Common.{◌≡◌, ℕ, zero, suc, ◌+◌, ◌*◌, ◌-◌, ◌/◌, ◌%◌, ◌<◌, ◌≤◌, ◌⊎◌, inl, inr, arith}
 use Rattle.std.proofs.Common.{Bool, true, false, not, ◌&&◌, ◌||◌, refl, ap, sym, ◌∙◌, subst, bit_and, bit_or}
 use Rattle.std.proofs.lemmas.Nat.{or_lt}
-use Rattle.std.proofs.lemmas.Bool.{cases_lt}
+use Rattle.std.proofs.lemmas.Bool.{cases_lt, cond-true, cond-false}
 use Rattle.bit_grid.specs.Bits.{is_set}
 use Rattle.bit_grid.proofs.Words.{set_or, set_raised, set_raised-lowest, set_lowered, set_none}
 use Rattle.jump_block.specs.declared.word.Way.{Way}
@@ -11,8 +11,9 @@ use Rattle.bit_grid.specs.declared.lines.ThreeWords.{ThreeWords}
 use Rattle.std.specs.Prelude.{nat_eq}
 use Rattle.std.proofs.lemmas.Bool.Decides.{nat_tests}
 use Rattle.grid_moves.specs.declared.Corner.{Corner}
-use Rattle.grid_moves.specs.declared.Corner.TheVariants.{Never, One}
-use Rattle.jump_block.specs.Trail.{Trail, opens, halts, at_start, begun}
+use Rattle.grid_moves.specs.Move.{may_cut}
+use Rattle.grid_moves.proofs.Legal.{by_cut}
+use Rattle.jump_block.specs.Trail.{Trail, opens, opens_beside, halts, at_start, begun}
 use Rattle.jump_block.specs.Word.{Meets, IsWordOf, AreWordsOf, IsEdgeOf, IsOpened}
 use Rattle.jump_block.proofs.Bits.{set_top, set_top-above, set_bottom, set_bottom-below, set_past, set_apart}
 
@@ -89,19 +90,26 @@ opened_on_back way e word last a b = subst (λ (w : Way). IsOpened w word last (
     (18446744073709551615 - bit_or (word / 2) (last * 9223372036854775808 % 18446744073709551616)))) (sym e)
     (λ side from base. opened_back side from base word last a b)
 
--- all three together
-pub halts_there : (blocked one other middle j : ℕ) (t : Trail) (k : ℕ)
+-- two words together tell one thing or the other
+pub either_there : (one other j : ℕ) (a b : Bool) → is_set one j ≡ a → is_set other j ≡ b
+    → is_set (bit_or one other) j ≡ (a || b)
+either_there one other j a b e f = set_or one other j ∙ rw (e, f) refl
+
+pub halts_there : (blocked beside middle j : ℕ) (t : Trail) (k : ℕ)
     → is_set blocked j ≡ not (is_set middle j)
-    → is_set middle j ≡ t.free (suc k) → is_set one j ≡ opens t.before k → is_set other j ≡ opens t.after k
-    → is_set (bit_or (bit_or blocked one) other) j ≡ halts t k
-halts_there blocked one other middle j t k not_free free before after =
-    set_or (bit_or blocked one) other j
-    ∙ rw (set_or blocked one j, not_free, free, before, after) refl
+    → is_set middle j ≡ t.free (suc k) → is_set beside j ≡ opens_beside t k
+    → is_set (bit_or blocked beside) j ≡ halts t k
+halts_there blocked beside middle j t k not_free free opened =
+    either_there blocked beside j _ _ (not_free ∙ ap not free) opened
+
+-- where a diagonal move may pass between two blocked cells a mark shows wherever a side opens
+pub shows_too : (free opened slip : Bool) → slip ≡ true → (free || opened) ≡ (free || (slip && opened))
+shows_too free opened slip e = grind arith
 
 -- the words with which a scan begins
-module _ (rule : Corner) (bit : ℕ) (place : ℕ) (never : rule ≡ Never → bit ≡ 0)
-    (one : rule ≡ One → (j : ℕ) → j < 64 → is_set bit j ≡ nat_eq j place) (h : place < 64) (way : Way)
-    (base : ℕ) where
+module _ (rule : Corner) (bit : ℕ) (place : ℕ) (uncut : may_cut rule ≡ false → bit ≡ 0)
+    (cut : may_cut rule ≡ true → (j : ℕ) → j < 64 → is_set bit j ≡ nat_eq j place) (h : place < 64)
+    (way : Way) (base : ℕ) where
   stays : (side : ℕ → Bool) (word : ℕ) → bit ≡ 0 → IsWordOf side way (base + place) base word
       → IsWordOf side way (base + place) base (bit_or word bit)
   stays side word e here j k l m = set_or word bit j
@@ -114,29 +122,22 @@ module _ (rule : Corner) (bit : ℕ) (place : ℕ) (never : rule ≡ Never → b
       by_way Forward m = grind (arith, nat_tests)
       by_way Back m = grind (arith, nat_tests)
 
-  opened_there : (side : ℕ → Bool) (word : ℕ) → ((j : ℕ) → j < 64 → is_set bit j ≡ nat_eq j place)
-      → IsWordOf side way (base + place) base word
-      → IsWordOf (at_start One side) way (base + place) base (bit_or word bit)
-  opened_there side word is here j zero l m = set_or word bit j
-      ∙ or_true _ _ (is j l ∙ at_place j zero m)
+  begun_side : (side : ℕ → Bool) (word : ℕ) → IsWordOf side way (base + place) base word
+      → IsWordOf (at_start rule side) way (base + place) base (bit_or word bit)
+  begun_side side word here j zero l m = by_cut rule
+      (λ e. stays side word (uncut e) here j zero l m ∙ sym (cond-false (may_cut rule) true (side zero) e))
+      (λ e. set_or word bit j ∙ or_true _ _ (cut e j l ∙ at_place j zero m)
+      ∙ sym (cond-true (may_cut rule) true (side zero) e))
     where
       or_true : (a b : Bool) → b ≡ true → (a || b) ≡ true
       or_true a b e = grind arith
-  opened_there side word is here j (suc k) l m = set_or word bit j
-      ∙ or_first _ _ (is j l ∙ at_place j (suc k) m ∙ later) ∙ here j (suc k) l m
+  begun_side side word here j (suc k) l m = by_cut rule
+      (λ e. stays side word (uncut e) here j (suc k) l m)
+      (λ e. set_or word bit j ∙ or_first _ _ (cut e j l ∙ at_place j (suc k) m ∙ later)
+      ∙ here j (suc k) l m)
     where
       later : nat_eq (suc k) 0 ≡ false
       later = grind (arith, nat_tests)
-
-  begun_side : (side : ℕ → Bool) (word : ℕ) → IsWordOf side way (base + place) base word
-      → IsWordOf (at_start rule side) way (base + place) base (bit_or word bit)
-  begun_side side word here = by_rule rule never one
-    where
-      by_rule : (r : Corner) → (r ≡ Never → bit ≡ 0)
-          → (r ≡ One → (j : ℕ) → j < 64 → is_set bit j ≡ nat_eq j place)
-          → IsWordOf (at_start r side) way (base + place) base (bit_or word bit)
-      by_rule Never n o = stays side word (n refl) here
-      by_rule One n o = opened_there side word (o refl) here
 
   pub begun_words : (t : Trail) (w : ThreeWords) → AreWordsOf t way (base + place) base w
       → AreWordsOf (begun rule t) way (base + place) base

@@ -1,11 +1,14 @@
 -- Scans along a line, over as many blocks as it takes.
-use Rattle.std.specs.Prelude.{◌≡◌, ℕ, ◌+◌, ◌*◌, ◌/◌, ◌<◌, ◌≤◌, Bool, true, false, not, nat_lt, min}
+use Rattle.std.specs.Prelude.{◌≡◌, ℕ, ◌+◌, ◌*◌, ◌/◌, ◌<◌, ◌≤◌, Bool, true, false, nat_lt, min}
 use Rattle.std.specs.Prelude.{if◌then◌else◌, Option, Some, None}
 use Rattle.bit_grid.specs.Bits.{LineData, Shows}
 use Rattle.jump_block.specs.declared.block.Halt.{Halt}
 use Rattle.grid_moves.specs.declared.Corner.{Corner}
 use Rattle.jump_block.specs.declared.word.Way.{Way}
+use Rattle.bit_grid.specs.declared.lines.ThreeWords.{ThreeWords}
 use Rattle.jump_block.specs.Trail.{Trail, Halts, IsClear, begun, trail_on}
+use Rattle.jump_block.specs.Word.{edge_before, far, moves_before}
+use Rattle.jump_block.specs.Seek.{HasPassed}
 
 -- a scan starts at this place of this line, at a free cell of the map that the lines show
 pub record IsStart (l : LineData) (free : ℕ → ℕ → Bool) (line from : ℕ) : Type 0 where
@@ -27,9 +30,9 @@ abbrev pub nearer : ℕ → ℕ → ℕ
 nearer to_goal moves = if nat_lt 0 to_goal then min to_goal moves else moves
 
 -- a scan finds where it halts, or else that nothing halts it before the goal
-abbrev pub Finds : Trail → ℕ → Option Halt → Type 0
-Finds t to_goal (Some h) = Halts t h.passed h.blocked
-Finds t to_goal None = (0 < to_goal) × IsClear t to_goal
+abbrev pub Finds : Corner → Trail → ℕ → Option Halt → Type 0
+Finds rule t to_goal (Some h) = Halts rule t h.passed h.marked
+Finds rule t to_goal None = (0 < to_goal) × IsClear t to_goal
 
 -- how far a scan looks
 abbrev pub looked : ℕ → Option Halt → ℕ
@@ -39,12 +42,24 @@ looked to_goal None = to_goal
 -- what a scan from there finds on the way
 abbrev pub FindsFrom : LineData → Corner → Way → ℕ → ℕ → ℕ → Option Halt → Type 0
 FindsFrom l rule way to_goal line place found = (free : ℕ → ℕ → Bool) → IsStart l free line place
-    → Finds (begun rule (trail_on free way line place)) to_goal found
+    → Finds rule (begun rule (trail_on free way line place)) to_goal found
 
--- where a scan halts tells whether a side opens there, which is a mark
-abbrev pub MeetsMark : Trail → Bool → Type 0
-MeetsMark t marked = (h : Halt) × Halts t h.passed h.blocked × (marked ≡ not h.blocked)
+-- nothing halts a scan from there in the word in which it starts
+abbrev pub ClearFrom : LineData → Corner → Way → ℕ → ℕ → Type 0
+ClearFrom l rule way line place = (free : ℕ → ℕ → Bool) → IsStart l free line place
+    → IsClear (begun rule (trail_on free way line place))
+    (moves_before way place (far way (place / 64 * 64)))
+
+-- nor in the block in which it starts, and these are the last words that it passes there
+abbrev pub PassedFrom : LineData → Corner → Way → ℕ → ℕ → ThreeWords → Type 0
+PassedFrom l rule way line place last = (free : ℕ → ℕ → Bool) → IsStart l free line place
+    → HasPassed (begun rule (trail_on free way line place)) way place
+    (edge_before way (place / 512 * 512) 8) last
+
+-- where a scan halts tells whether it shows a mark there
+abbrev pub MeetsMark : Corner → Trail → Bool → Type 0
+MeetsMark rule t marked = (passed : ℕ) × Halts rule t passed marked
 
 abbrev pub MeetsFrom : LineData → Corner → Way → ℕ → ℕ → Bool → Type 0
 MeetsFrom l rule way line place marked = (free : ℕ → ℕ → Bool) → IsStart l free line place
-    → MeetsMark (begun rule (trail_on free way line place)) marked
+    → MeetsMark rule (begun rule (trail_on free way line place)) marked

@@ -1,5 +1,6 @@
 -- What the search of a block finds.
 use Rattle.std.specs.Prelude.{ℕ}
+use Rattle.grid_moves.specs.declared.Corner.{Corner}
 use Rattle.jump_block.specs.declared.word.Way.{Way}
 use Rattle.bit_grid.specs.declared.lines.ThreeWords.{ThreeWords}
 use Rattle.jump_block.specs.declared.block.Seek.{Seek}
@@ -13,6 +14,6 @@ pub record HasPassed (t : Trail) (way : Way) (from edge : ℕ) (w : ThreeWords) 
   pub clear : IsClear t (moves_before way from edge)
 
 -- it halts before the edge, or comes to it
-abbrev pub IsSought : Trail → Way → ℕ → ℕ → Seek → Type 0
-IsSought t way from edge (Halted h) = Halts t h.passed h.blocked
-IsSought t way from edge (Passed w) = HasPassed t way from edge w
+abbrev pub IsSought : Corner → Trail → Way → ℕ → ℕ → Seek → Type 0
+IsSought rule t way from edge (Halted h) = Halts rule t h.passed h.marked
+IsSought rule t way from edge (Passed w) = HasPassed t way from edge w

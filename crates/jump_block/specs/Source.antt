@@ -1,11 +1,12 @@
 -- Jumps over bits: the grids for which they stand, where a scan on one halts, and how many cells it covers.
 use Rattle.std.specs.Prelude.{◌≡◌, ⊤, IsTrue, ℕ, ◌+◌, ◌<◌, Bool, true, false, if◌then◌else◌, Option, Some}
-use Rattle.std.specs.Prelude.{None}
+use Rattle.std.specs.Prelude.{None, codes, refl}
 use Rattle.grid_moves.specs.declared.Cell.{Cell}
 use Rattle.grid_moves.specs.declared.Corner.{Corner}
+use Rattle.grid_moves.specs.declared.Corner.TheVariants.{One, Both}
 use Rattle.grid_moves.specs.declared.Dir.{Dir}
 use Rattle.grid_moves.specs.declared.Dir.TheVariants.{N, NE, E, SE, S, SW, W}
-use Rattle.grid_moves.specs.Grid.{GridData, IsGrid, is_free}
+use Rattle.grid_moves.specs.Grid.{GridData, IsGrid, grid_of, is_free}
 use Rattle.bit_grid.specs.Bits.{BitData, AreBitsOf, AreRowsOf, AreColumnsOf, is_free_from_one}
 use Rattle.pruning.specs.First.{run_length}
 use Rattle.jump_plain.specs.declared.scan.Reach.{Reach}
@@ -15,7 +16,7 @@ use Rattle.jump_block.specs.declared.block.Halt.{Halt}
 use Rattle.jump_block.specs.declared.straight.Bits.{Bits}
 use Rattle.jump_block.specs.declared.word.Way.{Way}
 use Rattle.jump_block.specs.declared.word.Way.TheVariants.{Forward, Back}
-use Rattle.jump_block.specs.Trail.{Trail, trail_on}
+use Rattle.jump_block.specs.Trail.{Trail, shows_mark, trail_on}
 
 -- what jumps read is of the bits of this grid
 pub record AreItsBits (b : Bits) (g : GridData) : Type 0 where
@@ -84,11 +85,21 @@ trail_of g W x = trail_on (by_rows g) Back (x.y + 1) (x.x + 1)
 trail_of g S x = trail_on (by_columns g) Forward (x.x + 1) (x.y + 1)
 trail_of g _ x = trail_on (by_columns g) Back (x.x + 1) (x.y + 1)
 
+-- on `..@/.@.` a scan to the east halts where its run ends, and shows a mark only where two blocked cells may
+-- be passed between
+pub shown_at_the_end : shows_mark Both (trail_of (grid_of 3 2 (codes "..@.@.") Both) E
+    (record { x = 0; y = 0 })) 1 ≡ true
+shown_at_the_end = refl
+
+pub none_shown_at_the_end : shows_mark One (trail_of (grid_of 3 2 (codes "..@.@.") One) E
+    (record { x = 0; y = 0 })) 1 ≡ false
+none_shown_at_the_end = refl
+
 -- how far a scan reaches that halts there
 abbrev pub reach_of_halt : Corner → Halt → Reach
 reach_of_halt rule h =
-    if h.blocked then record { moves = h.passed; marked = false }
-    else record { moves = h.passed + mark_ahead rule; marked = true }
+    if h.marked then record { moves = h.passed + mark_ahead rule; marked = true }
+    else record { moves = h.passed; marked = false }
 
 -- the first stop, told where the scan halts, or else that the goal is met before
 abbrev pub stop_of : Corner → Option Halt → ℕ → Option ℕ

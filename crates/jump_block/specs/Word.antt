@@ -45,11 +45,21 @@ abbrev pub far : Way → ℕ → ℕ
 far Forward base = base + 64
 far Back base = base
 
+-- in the word from `base` on, each bit tells this of the move to its place
+abbrev pub TellMoves : (ℕ → Bool) → Way → ℕ → ℕ → ℕ → Type 0
+TellMoves tell way from base bits =
+    (j k : ℕ) → j < 64 → Meets way from (base + j) (suc k) → is_set bits j ≡ tell k
+
 -- the bits at which a side opens in a word, told the word before
 abbrev pub IsOpened : Way → ℕ → ℕ → ℕ → Type 0
 IsOpened way word last found = (side : ℕ → Bool) (from base : ℕ) → IsWordOf side way from base word
     → IsEdgeOf side way from (near way base) last
-    → (j k : ℕ) → j < 64 → Meets way from (base + j) (suc k) → is_set found j ≡ opens side k
+    → TellMoves (opens side) way from base found
+
+-- the same of each trail that has these words, told the one before
+abbrev pub TellTrails : (Trail → ℕ → Bool) → Way → ThreeWords → ThreeWords → ℕ → Type 0
+TellTrails tell way words last bits = (t : Trail) (from base : ℕ) → AreWordsOf t way from base words
+    → AreEdgesOf t way from (near way base) last → TellMoves (tell t) way from base bits
 
 -- how many moves are made before the way crosses the edge
 abbrev pub moves_before : Way → ℕ → ℕ → ℕ
@@ -100,10 +110,9 @@ IsAhead Back from edge = edge ≤ from
 
 -- the bits at which a scan halts in the word from `base` on, told that it makes n moves, and more only to the
 -- word's places
-pub record IsFound (t : Trail) (way : Way) (from base n middle found : ℕ) : Type 0 where
+pub record IsFound (t : Trail) (way : Way) (from base n found : ℕ) : Type 0 where
   pub clear : IsClear t n
-  pub shows : IsWordOf t.free way from base middle
-  pub bits : (j k : ℕ) → j < 64 → Meets way from (base + j) (suc k) → is_set found j ≡ halts t k
+  pub bits : TellMoves (halts t) way from base found
   pub past : (j : ℕ) → j < 64 → is_set found j ≡ true → (k : ℕ) × Meets way from (base + j) (suc k)
   pub here : (k : ℕ) → n ≤ k → k < moves_before way from (far way base)
       → (j : ℕ) × (j < 64) × Meets way from (base + j) (suc k)

@@ -12,7 +12,7 @@ ghost use Rattle.jump_block.specs.Scan.{IsStart};
 
 use crate::eight::{are_none, blocked, changed};
 use crate::near::{has_next_word, next_word, words_beside};
-use crate::word::{Way, begun, first, halts, past};
+use crate::word::{Way, begun, first, halts, marks, past};
 use bit_grid::{Lines, ThreeWords};
 use grid_moves::Corner;
 use std::sync::ledger::Ledger;
@@ -30,10 +30,10 @@ pub(crate) struct Block<'a> {
 #[derive(Clone, Copy)]
 pub(crate) struct Halt {
     /// How many moves it makes before, below 65536. It has a register of its own, and is left out where a
-    /// caller asks only whether the next cell is blocked.
+    /// caller asks only whether a mark shows.
     pub(crate) passed: u64,
-    /// Whether the next cell is blocked; else a side opens there.
-    pub(crate) blocked: bool,
+    /// Whether a side that opens there shows a mark; else the run ends, and the next cell is blocked.
+    pub(crate) marked: bool,
 }
 
 /// What the search of a block finds: where the scan halts, or the last words that it passes.
@@ -76,19 +76,21 @@ fn moves_short_of(way: Way, from: u32, place: u32) -> u64
     }
 }
 
-// Where a scan halts, told the bits of a word at which it does, and the word's first place.
+// Where a scan halts, told the bits of a word at which it does, those of them that show a mark, and the
+// word's first place.
 #[inline(always)]
-fn halt_at(way: Way, middle: u64, found: u64, from: u32, base: u32) -> Halt
+fn halt_at(way: Way, marks: u64, found: u64, from: u32, base: u32) -> Halt
     requires some { 0 < found }
     requires small { base + 64 ≤ 65536 }
     requires start { from < 65536 }
-    ensures { (t : Trail) (n : ℕ) → spec.IsFound t way from base n middle found
-        → trails.Halts t result.passed result.blocked }
+    ensures { (rule : Corner) (t : Trail) (n : ℕ) → spec.IsFound t way from base n found
+        → spec.TellMoves (trails.shows_mark rule t) way from base marks
+        → trails.Halts rule t result.passed result.marked }
 {
     let bit = first(way, found);
     Halt {
         passed: moves_short_of(way, from, base + bit),
-        blocked: middle >> bit & 1 == 0,
+        marked: marks >> bit & 1 == 1,
     }
 }
 
@@ -98,9 +100,10 @@ fn halt_at(way: Way, middle: u64, found: u64, from: u32, base: u32) -> Halt
 pub(crate) fn halt_near(way: Way, rule: Corner, near: ThreeWords, from: u32) -> Option<Halt>
     requires from { from < 65536 }
     ensures halts { (free : ℕ → ℕ → Bool) (line : ℕ) → AreNear free line from near
-        → IfSome result (λ h. trails.Halts (trails.begun rule (trail_on free way line from)) h.passed h.blocked) }
+        → IfSome result
+        (λ h. trails.Halts rule (begun rule (trail_on free way line from)) h.passed h.marked) }
     ensures clear { is_some result ≡ false → (free : ℕ → ℕ → Bool) (line : ℕ) → AreNear free line from near
-        → IsClear (trails.begun rule (trail_on free way line from))
+        → IsClear (begun rule (trail_on free way line from))
         (moves_before way from (spec.far way (from / 64 * 64))) }
 {
     let place = from % 64;
@@ -109,7 +112,8 @@ pub(crate) fn halt_near(way: Way, rule: Corner, near: ThreeWords, from: u32) -> 
     if found == 0 {
         return None;
     }
-    Some(halt_at(way, words.middle, found, from, from / 64 * 64))
+    let marks = marks(way, rule, words, NOTHING);
+    Some(halt_at(way, marks, found, from, from / 64 * 64))
 }
 
 /// The same for the next word of a line, if it has one, where nothing halts the scan before.
@@ -127,9 +131,10 @@ pub(crate) fn halt_next<L: Ledger>(
     requires few { lines.now.lines < 65536 }
     requires short { lines.now.blocks ≤ 128 }
     ensures halts { (free : ℕ → ℕ → Bool) → IsStart lines.now free line from → AreNear free line from near
-        → IsClear (trails.begun rule (trail_on free way line from))
+        → IsClear (begun rule (trail_on free way line from))
         (moves_before way from (spec.far way (from / 64 * 64)))
-        → IfSome result (λ h. trails.Halts (trails.begun rule (trail_on free way line from)) h.passed h.blocked) }
+        → IfSome result
+        (λ h. trails.Halts rule (begun rule (trail_on free way line from)) h.passed h.marked) }
     ensures more { steps.old ≤ steps.new }
 {
     let word = from / 64;
@@ -138,11 +143,13 @@ pub(crate) fn halt_next<L: Ledger>(
     }
     let next = next_word(way, word);
     let words = words_beside(lines, line, next, steps);
-    let found = halts(way, words, begun(rule, near, from % 64));
+    let last = begun(rule, near, from % 64);
+    let found = halts(way, words, last);
     if found == 0 {
         return None;
     }
-    Some(halt_at(way, words.middle, found, from, next * 64))
+    let marks = marks(way, rule, words, last);
+    Some(halt_at(way, marks, found, from, next * 64))
 }
 
 impl<'a> Block<'a> {
@@ -188,7 +195,15 @@ impl<'a> Block<'a> {
 
     /// Searches the block from the i-th word on the way, told the words before.
     #[inline(always)]
-    pub(crate) fn seek(&self, way: Way, i: u32, last: ThreeWords, from: u32, start: u32) -> Seek
+    pub(crate) fn seek(
+        &self,
+        way: Way,
+        rule: Corner,
+        i: u32,
+        last: ThreeWords,
+        from: u32,
+        start: u32,
+    ) -> Seek
         requires eight { AreEight self.now }
         requires some { i ≤ 8 }
         requires small { start + 512 ≤ 65536 }
@@ -197,7 +212,7 @@ impl<'a> Block<'a> {
         ensures { (t : Trail) → IsBlockOf t way from start i self.now
             → AreEdgesOf t way from (edge_before way start i) last
             → IsClear t (moves_before way from (edge_before way start i))
-            → IsSought t way from (edge_before way start 8) result }
+            → IsSought rule t way from (edge_before way start 8) result }
     {
         let mut last = last;
         for n in i..8 {
@@ -205,7 +220,8 @@ impl<'a> Block<'a> {
             let words = self.words(w);
             let found = halts(way, words, last);
             if found != 0 {
-                return Seek::Halted(halt_at(way, words.middle, found, from, start + w * 64));
+                let marks = marks(way, rule, words, last);
+                return Seek::Halted(halt_at(way, marks, found, from, start + w * 64));
             }
             last = words;
         }
@@ -231,7 +247,14 @@ impl<'a> Block<'a> {
 
     /// Searches the whole block, told the words before. Mostly it is passed, which a quick test finds first.
     #[inline(always)]
-    pub(crate) fn seek_whole(&self, way: Way, last: ThreeWords, from: u32, start: u32) -> Seek
+    pub(crate) fn seek_whole(
+        &self,
+        way: Way,
+        rule: Corner,
+        last: ThreeWords,
+        from: u32,
+        start: u32,
+    ) -> Seek
         requires eight { AreEight self.now }
         requires small { start + 512 ≤ 65536 }
         requires ahead { IsAhead way from (edge_before way start 0) }
@@ -239,12 +262,12 @@ impl<'a> Block<'a> {
         ensures { (t : Trail) → IsBlockOf t way from start 0 self.now
             → AreEdgesOf t way from (edge_before way start 0) last
             → IsClear t (moves_before way from (edge_before way start 0))
-            → IsSought t way from (edge_before way start 8) result }
+            → IsSought rule t way from (edge_before way start 8) result }
     {
         if self.is_passed(way, last) {
             return Seek::Passed(self.words(nth_word(way, 7)));
         }
-        self.seek(way, 0, last, from, start)
+        self.seek(way, rule, 0, last, from, start)
     }
 
     /// Searches the block in which a scan starts.
@@ -255,14 +278,15 @@ impl<'a> Block<'a> {
         requires low { start ≤ from }
         requires high { from < start + 512 }
         ensures { (t : Trail) → IsBlockOf t way from start 0 self.now
-            → IsSought (begun rule t) way from (edge_before way start 8) result }
+            → IsSought rule (begun rule t) way from (edge_before way start 8) result }
     {
         let (w, place) = ((from - start) / 64, (from - start) % 64);
         let words = begun(rule, self.words(w), place);
         let found = halts(way, words, NOTHING) & past(way, place);
         if found != 0 {
-            return Seek::Halted(halt_at(way, words.middle, found, from, start + w * 64));
+            let marks = marks(way, rule, words, NOTHING);
+            return Seek::Halted(halt_at(way, marks, found, from, start + w * 64));
         }
-        self.seek(way, nth_word(way, w) + 1, words, from, start)
+        self.seek(way, rule, nth_word(way, w) + 1, words, from, start)
     }
 }

@@ -18,7 +18,7 @@ use crate::near::{has_next_bit, leads_from_bit};
 use crate::straight::Bits;
 use crate::word::Way;
 use bit_grid::ThreeWords;
-use grid_moves::{Cell, Corner, Dir, beyond, is_passable};
+use grid_moves::{Cell, Dir, beyond, is_passable, may_cut};
 use pruning::{Side, forced_on, turn};
 use std::sync::ledger::Ledger;
 use steps::Steps;
@@ -170,10 +170,7 @@ impl<'a> Bits<'a> {
         ensures forces { OnEach self.now at (λ g. result ≡ is_forced g at d) }
         ensures more { steps.old ≤ steps.new }
     {
-        match self.corner {
-            Corner::Never => false,
-            Corner::One => forced_on(Corner::One, self.ring(at, steps), d),
-        }
+        may_cut(self.corner) && forced_on(self.corner, self.ring(at, steps), d)
     }
 
     // Whether a diagonal jump stops at a cell: it is the goal, or a neighbour is forced there, or a straight

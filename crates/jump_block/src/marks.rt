@@ -1,8 +1,9 @@
 //! Whether a scan along a line halts at a mark, where the goal does not lie on the line.
 
-ghost use Rattle.std.specs.Prelude.{ℕ, ◌*◌, ◌/◌, ◌<◌, ◌≤◌, Bool};
-ghost use Rattle.jump_block.specs.Trail.{Trail, IsClear, begun, trail_on};
-ghost use Rattle.jump_block.specs.Scan.{Finds, IsStart, MeetsFrom, MeetsMark};
+ghost use Rattle.std.specs.Prelude.{◌≡◌, ℕ, ◌<◌, ◌≤◌, Bool};
+ghost use Rattle.pruning.specs.Numbered as numbered;
+ghost use Rattle.jump_block.specs.Trail.{Trail};
+ghost use Rattle.jump_block.specs.Scan.{ClearFrom, Finds, IsStart, MeetsFrom, MeetsMark};
 ghost use Rattle.jump_block.specs.Near.{AreNearStart};
 ghost use Rattle.jump_block.specs.Word as ways;
 
@@ -11,29 +12,31 @@ use crate::scan::{Start, scan, way_of};
 use crate::word::Way;
 use bit_grid::{Lines, ThreeWords};
 use grid_moves::Corner;
+use pruning::rule_of_number;
 use std::sync::ledger::Ledger;
 use steps::Steps;
 
-// Whether a scan halts at a mark: else the next cell is blocked.
+// Whether a scan halts at a mark: else its run ends there.
 #[inline(always)]
 fn is_mark(found: Option<Halt>) -> bool
-    ensures { (t : Trail) → Finds t 0 found → MeetsMark t result }
+    ensures { (rule : Corner) (t : Trail) → Finds rule t 0 found → MeetsMark rule t result }
 {
     match found {
-        Some(halt) => !halt.blocked,
+        Some(halt) => halt.marked,
         None => false,
     }
 }
 
 // Whether a scan halts at a mark. It is for the scans that leave the next words too.
 #[inline(never)]
-fn finds_far<const WAY: usize, L: Ledger>(
+fn finds_far<const WAY: usize, const RULE: usize, L: Ledger>(
     rule: Corner,
     lines: &Lines,
     line: u32,
     place: u32,
     steps: &mut Steps<L>,
 ) -> bool
+    requires rule { rule ≡ numbered.rule_of_number RULE }
     requires starts { (free : ℕ → ℕ → Bool) × IsStart lines.now free line place }
     requires few { lines.now.lines < 65536 }
     requires short { lines.now.blocks ≤ 128 }
@@ -45,12 +48,46 @@ fn finds_far<const WAY: usize, L: Ledger>(
         place,
         to_goal: 0,
     };
-    is_mark(scan(way_of(WAY), rule, lines, start, steps))
+    is_mark(scan(way_of(WAY), rule_of_number(RULE), lines, start, steps))
 }
 
 // The same, where nothing halts the scan in the words around the cell: the next ones are looked at before.
 #[inline(never)]
-fn finds_next<const WAY: usize, L: Ledger>(
+fn finds_next<const WAY: usize, const RULE: usize, L: Ledger>(
+    rule: Corner,
+    lines: &Lines,
+    line: u32,
+    place: u32,
+    near: ThreeWords,
+    steps: &mut Steps<L>,
+) -> bool
+    requires rule { rule ≡ numbered.rule_of_number RULE }
+    requires starts { (free : ℕ → ℕ → Bool) × IsStart lines.now free line place }
+    requires few { lines.now.lines < 65536 }
+    requires short { lines.now.blocks ≤ 128 }
+    requires near { AreNearStart lines.now line place near }
+    requires clear { ClearFrom lines.now rule (ways.way_of WAY) line place }
+    ensures finds { MeetsFrom lines.now rule (ways.way_of WAY) line place result }
+    ensures more { steps.old ≤ steps.new }
+{
+    let found = halt_next(
+        way_of(WAY),
+        rule_of_number(RULE),
+        lines,
+        line,
+        place,
+        near,
+        steps,
+    );
+    if found.is_some() {
+        return is_mark(found);
+    }
+    finds_far::<WAY, RULE, L>(rule, lines, line, place, steps)
+}
+
+// The same, where the rule is told apart here.
+#[inline(always)]
+fn finds_next_under<const WAY: usize, L: Ledger>(
     rule: Corner,
     lines: &Lines,
     line: u32,
@@ -62,17 +99,15 @@ fn finds_next<const WAY: usize, L: Ledger>(
     requires few { lines.now.lines < 65536 }
     requires short { lines.now.blocks ≤ 128 }
     requires near { AreNearStart lines.now line place near }
-    requires clear { (free : ℕ → ℕ → Bool) → IsStart lines.now free line place
-        → IsClear (begun rule (trail_on free (ways.way_of WAY) line place))
-        (ways.moves_before (ways.way_of WAY) place (ways.far (ways.way_of WAY) (place / 64 * 64))) }
+    requires clear { ClearFrom lines.now rule (ways.way_of WAY) line place }
     ensures finds { MeetsFrom lines.now rule (ways.way_of WAY) line place result }
     ensures more { steps.old ≤ steps.new }
 {
-    let found = halt_next(way_of(WAY), rule, lines, line, place, near, steps);
-    if found.is_some() {
-        return is_mark(found);
+    match rule {
+        Corner::Never => finds_next::<WAY, 0, L>(rule, lines, line, place, near, steps),
+        Corner::One => finds_next::<WAY, 1, L>(rule, lines, line, place, near, steps),
+        Corner::Both => finds_next::<WAY, 2, L>(rule, lines, line, place, near, steps),
     }
-    finds_far::<WAY, L>(rule, lines, line, place, steps)
 }
 
 /// Whether a scan from a free cell halts at a mark, told the words around the cell.
@@ -98,7 +133,7 @@ pub(crate) fn finds_mark<L: Ledger>(
         return is_mark(found);
     }
     match way {
-        Way::Forward => finds_next::<0, L>(rule, lines, line, place, near, steps),
-        Way::Back => finds_next::<1, L>(rule, lines, line, place, near, steps),
+        Way::Forward => finds_next_under::<0, L>(rule, lines, line, place, near, steps),
+        Way::Back => finds_next_under::<1, L>(rule, lines, line, place, near, steps),
     }
 }

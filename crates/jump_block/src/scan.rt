@@ -1,15 +1,15 @@
 //! Scans along a line, block by block.
 
-ghost use Rattle.std.specs.Prelude.{◌≡◌, ℕ, ◌+◌, ◌-◌, ◌*◌, ◌/◌, ◌<◌, ◌≤◌, ◌&&◌, Bool, nat_lt, nat_le};
-ghost use Rattle.jump_block.specs.Trail.{begun, trail_on};
-ghost use Rattle.jump_block.specs.Scan.{IsStart, Finds, looked, most_lanes};
+ghost use Rattle.std.specs.Prelude.{◌≡◌, ℕ, ◌+◌, ◌-◌, ◌<◌, ◌≤◌, ◌&&◌, Bool, nat_lt, nat_le};
+ghost use Rattle.pruning.specs.Numbered as numbered;
+ghost use Rattle.jump_block.specs.Scan.{FindsFrom, IsStart, PassedFrom, looked, most_lanes};
 ghost use Rattle.jump_block.specs.Word as spec;
-ghost use Rattle.jump_block.specs.Seek.{HasPassed};
 
 use crate::block::{Block, Halt, Seek};
 use crate::word::Way;
 use bit_grid::{Lines, ThreeWords};
 use grid_moves::Corner;
+use pruning::rule_of_number;
 use std::sync::ledger::Ledger;
 use steps::Steps;
 
@@ -73,11 +73,8 @@ fn scan_on<L: Ledger>(
     requires starts { (free : ℕ → ℕ → Bool) × IsStart lines.now free line place }
     requires few { lines.now.lines < 65536 }
     requires short { lines.now.blocks ≤ 128 }
-    requires passed { (free : ℕ → ℕ → Bool) → IsStart lines.now free line place
-        → HasPassed (begun rule (trail_on free way line place)) way place
-        (spec.edge_before way (place / 512 * 512) 8) last }
-    ensures finds { (free : ℕ → ℕ → Bool) → IsStart lines.now free line place
-        → Finds (begun rule (trail_on free way line place)) to_goal result }
+    requires passed { PassedFrom lines.now rule way line place last }
+    ensures finds { FindsFrom lines.now rule way to_goal line place result }
     ensures most { steps.new + 3 ≤ steps.old + most_lanes (looked to_goal result) }
     ensures more { steps.old ≤ steps.new }
 {
@@ -86,7 +83,7 @@ fn scan_on<L: Ledger>(
     'blocks: while !is_met(to_goal, moves_through(way, place, index * 512)) {
         index = next_block(way, index);
         let block = Block::read(lines, line, index, steps);
-        last = match block.seek_whole(way, last, place, index * 512) {
+        last = match block.seek_whole(way, rule, last, place, index * 512) {
             Seek::Halted(halt) => return Some(halt),
             Seek::Passed(words) => words,
         };
@@ -105,9 +102,33 @@ pub(crate) fn way_of(number: usize) -> Way
     }
 }
 
-// The same out of line, on a way that the compiler knows: each has a loop of its own.
+// The same out of line, on a way and under a rule that the compiler knows: each has a loop of its own.
 #[inline(never)]
-fn scan_on_by<const WAY: usize, L: Ledger>(
+fn scan_on_by<const WAY: usize, const RULE: usize, L: Ledger>(
+    rule: Corner,
+    lines: &Lines,
+    line: u32,
+    place: u32,
+    to_goal: u32,
+    last: ThreeWords,
+    steps: &mut Steps<L>,
+) -> Option<Halt>
+    requires rule { rule ≡ numbered.rule_of_number RULE }
+    requires starts { (free : ℕ → ℕ → Bool) × IsStart lines.now free line place }
+    requires few { lines.now.lines < 65536 }
+    requires short { lines.now.blocks ≤ 128 }
+    requires passed { PassedFrom lines.now rule (spec.way_of WAY) line place last }
+    ensures finds { FindsFrom lines.now rule (spec.way_of WAY) to_goal line place result }
+    ensures most { steps.new + 3 ≤ steps.old + most_lanes (looked to_goal result) }
+    ensures more { steps.old ≤ steps.new }
+{
+    let rule = rule_of_number(RULE);
+    scan_on(way_of(WAY), rule, lines, line, place, to_goal, last, steps)
+}
+
+// The same, where the rule is told apart here.
+#[inline(always)]
+fn scan_on_under<const WAY: usize, L: Ledger>(
     rule: Corner,
     lines: &Lines,
     line: u32,
@@ -119,15 +140,16 @@ fn scan_on_by<const WAY: usize, L: Ledger>(
     requires starts { (free : ℕ → ℕ → Bool) × IsStart lines.now free line place }
     requires few { lines.now.lines < 65536 }
     requires short { lines.now.blocks ≤ 128 }
-    requires passed { (free : ℕ → ℕ → Bool) → IsStart lines.now free line place
-        → HasPassed (begun rule (trail_on free (spec.way_of WAY) line place)) (spec.way_of WAY) place
-        (spec.edge_before (spec.way_of WAY) (place / 512 * 512) 8) last }
-    ensures finds { (free : ℕ → ℕ → Bool) → IsStart lines.now free line place
-        → Finds (begun rule (trail_on free (spec.way_of WAY) line place)) to_goal result }
+    requires passed { PassedFrom lines.now rule (spec.way_of WAY) line place last }
+    ensures finds { FindsFrom lines.now rule (spec.way_of WAY) to_goal line place result }
     ensures most { steps.new + 3 ≤ steps.old + most_lanes (looked to_goal result) }
     ensures more { steps.old ≤ steps.new }
 {
-    scan_on(way_of(WAY), rule, lines, line, place, to_goal, last, steps)
+    match rule {
+        Corner::Never => { scan_on_by::<WAY, 0, L>(rule, lines, line, place, to_goal, last, steps) }
+        Corner::One => scan_on_by::<WAY, 1, L>(rule, lines, line, place, to_goal, last, steps),
+        Corner::Both => scan_on_by::<WAY, 2, L>(rule, lines, line, place, to_goal, last, steps),
+    }
 }
 
 /// Scans along a line from a free cell: finds where the scan halts, or `None` where the goal is met before.
@@ -144,8 +166,7 @@ pub(crate) fn scan<L: Ledger>(
     requires starts { (free : ℕ → ℕ → Bool) × IsStart lines.now free start.line start.place }
     requires few { lines.now.lines < 65536 }
     requires short { lines.now.blocks ≤ 128 }
-    ensures finds { (free : ℕ → ℕ → Bool) → IsStart lines.now free start.line start.place
-        → Finds (begun rule (trail_on free way start.line start.place)) start.to_goal result }
+    ensures finds { FindsFrom lines.now rule way start.to_goal start.line start.place result }
     ensures most { steps.new ≤ steps.old + most_lanes (looked start.to_goal result) }
     ensures fewest { steps.old + 3 ≤ steps.new }
 {
@@ -161,9 +182,11 @@ pub(crate) fn scan<L: Ledger>(
             } = start;
             match way {
                 Way::Forward => {
-                    scan_on_by::<0, L>(rule, lines, line, place, to_goal, words, steps)
+                    scan_on_under::<0, L>(rule, lines, line, place, to_goal, words, steps)
                 }
-                Way::Back => scan_on_by::<1, L>(rule, lines, line, place, to_goal, words, steps),
+                Way::Back => {
+                    scan_on_under::<1, L>(rule, lines, line, place, to_goal, words, steps)
+                }
             }
         }
     }

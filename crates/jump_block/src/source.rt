@@ -106,6 +106,7 @@ impl<'a> Bits<'a> {
         match self.corner {
             Corner::Never => self.stop_by::<0, L>(at, d, goal, steps),
             Corner::One => self.stop_by::<1, L>(at, d, goal, steps),
+            Corner::Both => self.stop_by::<2, L>(at, d, goal, steps),
         }
     }
 

@@ -15,7 +15,7 @@ use crate::near::words_near;
 use crate::scan::{Start, scan};
 use crate::word::Way;
 use bit_grid::{Columns, Rows, ThreeWords};
-use grid_moves::{Cell, Corner, Dir};
+use grid_moves::{Cell, Corner, Dir, may_cut};
 use jump_plain::jump::moves_to;
 use std::sync::ledger::Ledger;
 use steps::Steps;
@@ -30,17 +30,14 @@ fn stop_of(rule: Corner, found: Option<Halt>, to_goal: u16) -> Option<u16>
     let Some(halt) = found else {
         return Some(to_goal);
     };
-    let ahead = match rule {
-        Corner::Never if !halt.blocked => 1,
-        _ => 0,
-    };
+    let ahead = if halt.marked && !may_cut(rule) { 1 } else { 0 };
     let moves = (halt.passed + ahead) as u16;
     if 0 < to_goal && to_goal <= moves {
         Some(to_goal)
-    } else if halt.blocked {
-        None
-    } else {
+    } else if halt.marked {
         Some(moves)
+    } else {
+        None
     }
 }
 
@@ -64,8 +61,8 @@ impl<'a> Bits<'a> {
         steps: &mut Steps<L>,
     ) -> Option<Halt>
         requires stands { OnSome self.now at }
-        ensures finds { OnEach self.now at
-            (λ g. Finds (begun self.now.corner (trail_of g (spec.row_dir way) at)) to_goal result) }
+        ensures finds { OnEach self.now at (λ g. Finds self.now.corner
+            (begun self.now.corner (trail_of g (spec.row_dir way) at)) to_goal result) }
         ensures most { steps.new ≤ steps.old + most_lanes (looked to_goal result) }
         ensures fewest { steps.old + 3 ≤ steps.new }
     {
@@ -87,8 +84,8 @@ impl<'a> Bits<'a> {
         steps: &mut Steps<L>,
     ) -> Option<Halt>
         requires stands { OnSome self.now at }
-        ensures finds { OnEach self.now at
-            (λ g. Finds (begun self.now.corner (trail_of g (spec.column_dir way) at)) to_goal result) }
+        ensures finds { OnEach self.now at (λ g. Finds self.now.corner
+            (begun self.now.corner (trail_of g (spec.column_dir way) at)) to_goal result) }
         ensures most { steps.new ≤ steps.old + most_lanes (looked to_goal result) }
         ensures fewest { steps.old + 3 ≤ steps.new }
     {
@@ -105,8 +102,8 @@ impl<'a> Bits<'a> {
     fn halt<L: Ledger>(&self, at: Cell, d: Dir, to_goal: u16, steps: &mut Steps<L>) -> Option<Halt>
         requires stands { OnSome self.now at }
         requires straight { is_diagonal d ≡ false }
-        ensures finds { OnEach self.now at
-            (λ g. Finds (begun self.now.corner (trail_of g d at)) to_goal result) }
+        ensures finds { OnEach self.now at (λ g. Finds self.now.corner
+            (begun self.now.corner (trail_of g d at)) to_goal result) }
         ensures most { steps.new ≤ steps.old + most_lanes (looked to_goal result) }
         ensures fewest { steps.old + 3 ≤ steps.new }
     {

@@ -3,16 +3,26 @@
 //! A scan halts where the next cell is blocked or a side opens, which is blocked at one cell and free at the
 //! next. For 64 cells at a time: a side's bits, shifted by one on the way, are those of the cells before,
 //! with the last bit of the word before carried in; `side & !shifted` are the cells at which it opens.
+//!
+//! Where it halts and the next cell is free, a side opens, which shows a mark. Where the next one is blocked,
+//! the run ends, and a side that opens beside it shows one only where a diagonal move may pass between two
+//! blocked cells, here from `u` to `n`:
+//!
+//! ```text
+//! # n
+//! u #
+//! ```
 
-ghost use Rattle.std.specs.Prelude.{◌≡◌, ℕ, suc, ◌+◌, ◌-◌, ◌<◌, Bool, false, true, nat_eq, ◌&&◌, ◌||◌, not};
+ghost use Rattle.std.specs.Prelude.{◌≡◌, ℕ, ◌+◌, ◌-◌, ◌<◌, false, true, nat_eq, not};
+ghost use Rattle.grid_moves.specs.Move as moves;
 ghost use Rattle.bit_grid.specs.Bits.{is_set};
 ghost use Rattle.jump_block.specs.Trail as trails;
-ghost use Rattle.jump_block.specs.Trail.{Trail, begun, opens};
+ghost use Rattle.jump_block.specs.Trail.{Trail, begun};
 ghost use Rattle.jump_block.specs.Word as spec;
-ghost use Rattle.jump_block.specs.Word.{Meets, IsWordOf, AreWordsOf, IsEdgeOf, AreEdgesOf, IsOpened, is_past, near};
+ghost use Rattle.jump_block.specs.Word.{AreWordsOf, IsOpened, TellTrails, is_past};
 
 use bit_grid::ThreeWords;
-use grid_moves::Corner;
+use grid_moves::{Corner, may_cut, may_slip};
 
 /// Which way a scan goes along a line: to higher places, or back to lower ones.
 #[derive(Clone, Copy)]
@@ -40,16 +50,32 @@ fn blocked(middle: u64) -> u64
     !middle
 }
 
+// The bits at which one of both sides opens.
+#[inline(always)]
+fn opened_beside(way: Way, words: ThreeWords, last: ThreeWords) -> u64
+    ensures { TellTrails trails.opens_beside way words last result }
+{
+    opened(way, words.before, last.before) | opened(way, words.after, last.after)
+}
+
 /// The bits that a scan does not reach from the cell before: blocked, or a side opens there.
 #[inline(always)]
 pub(crate) fn halts(way: Way, words: ThreeWords, last: ThreeWords) -> u64
-    ensures { (t : Trail) (from base : ℕ) → AreWordsOf t way from base words
-        → AreEdgesOf t way from (near way base) last
-        → (j k : ℕ) → j < 64 → Meets way from (base + j) (suc k) → is_set result j ≡ trails.halts t k }
+    ensures { TellTrails trails.halts way words last result }
 {
-    blocked(words.middle)
-        | opened(way, words.before, last.before)
-        | opened(way, words.after, last.after)
+    blocked(words.middle) | opened_beside(way, words, last)
+}
+
+/// Of these bits, those at which a scan shows a mark.
+#[inline(always)]
+pub(crate) fn marks(way: Way, rule: Corner, words: ThreeWords, last: ThreeWords) -> u64
+    ensures { TellTrails (trails.shows_mark rule) way words last result }
+{
+    if may_slip(rule) {
+        words.middle | opened_beside(way, words, last)
+    } else {
+        words.middle
+    }
 }
 
 /// The bits past a place, on the way.
@@ -82,13 +108,10 @@ pub(crate) fn first(way: Way, word: u64) -> u32
 #[inline(always)]
 fn start_bit(rule: Corner, place: u32) -> u64
     requires { place < 64 }
-    ensures never { rule ≡ Corner.Never → result ≡ 0 }
-    ensures one { rule ≡ Corner.One → (j : ℕ) → j < 64 → is_set result j ≡ nat_eq j place }
+    ensures uncut { moves.may_cut rule ≡ false → result ≡ 0 }
+    ensures cut { moves.may_cut rule ≡ true → (j : ℕ) → j < 64 → is_set result j ≡ nat_eq j place }
 {
-    match rule {
-        Corner::Never => 0,
-        Corner::One => 1 << place,
-    }
+    if may_cut(rule) { 1 << place } else { 0 }
 }
 
 /// The words of a scan that starts at this place.

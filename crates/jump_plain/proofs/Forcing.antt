@@ -80,7 +80,7 @@ module _ (g : GridData) (u v : Cell) (d : Dir) (l : Leads g u v d) where
   target = (legal_is g u v l.legal).target
 
   -- one cell, seen from two
-  seen_from : (f h : Dir) → move f (move d (place_of u)) ≡ move h (place_of u)
+  pub seen_from : (f h : Dir) → move f (move d (place_of u)) ≡ move h (place_of u)
       → is_open g v f ≡ is_open g u h
   seen_from f h s = open_there g v f
       ∙ ap (λ (p : Place). free_place g p) (ap (λ (p : Place). move f p) (sym (leads_there g u v d l)) ∙ s)

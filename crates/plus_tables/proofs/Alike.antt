@@ -1,5 +1,5 @@
 -- Rows that lie between the same rows have the same entries along them.
-use Rattle.std.proofs.Common.{◌≡◌, ℕ, ◌+◌, ◌<◌, arith, Bool, true, false, ◌||◌, List, length, refl, ap, sym}
+use Rattle.std.proofs.Common.{◌≡◌, ℕ, ◌+◌, ◌<◌, arith, Bool, true, false, List, length, refl, ap, sym}
 use Rattle.std.proofs.Common.{◌∙◌}
 use Rattle.std.specs.Prelude.{ℤ, Option, Some, unwrap_or}
 use Rattle.std.proofs.lemmas.Bool.Decides.{nat_tests}
@@ -21,6 +21,7 @@ use Rattle.plus_tables.specs.declared.heading.Heading.{Heading}
 use Rattle.plus_tables.specs.declared.heading.Heading.TheVariants.{Upwards, Downwards}
 use Rattle.plus_tables.specs.Rows.{is_along, AreSame, IsFlagRow, IsEntryRow, AreRowsAround, AreRowsSeen}
 use Rattle.plus_tables.specs.Lines.{AreAlike, AreAlong, IsReady}
+use Rattle.plus_tables.proofs.Following.{is_mark_by-straight}
 use Rattle.plus_tables.proofs.Rowing.{row_legal, ring_forced, told_is, along_each, next_along}
 
 -- rows with the same flags
@@ -69,11 +70,7 @@ module _ (g : GridData) (whole : IsGrid g) (y m : ℕ) (above here below : List 
     same_at x = table_entry g (record { x = x; y = y }) d ≡ table_entry g (record { x = x; y = m }) d
 
     marked : (w : Cell) → is_forced g w d ≡ is_mark_by g (table_entry g) d w
-    marked w = rw straight (or_false (is_forced g w d))
-      where
-        or_false : (b : Bool) → b ≡ (b || false)
-        or_false true = refl
-        or_false false = refl
+    marked w = sym (is_mark_by-straight g (table_entry g) d w straight)
 
     abbrev column_next : ℕ → ℕ
     column_next x = unwrap_or (column_ahead d x) 0

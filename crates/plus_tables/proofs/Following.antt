@@ -1,6 +1,6 @@
 -- The local law: an entry follows from the entries at the next cell.
-use Rattle.std.proofs.Common.{◌≡◌, ℕ, zero, suc, ◌+◌, ◌≤◌, arith, Bool, true, false, not, ◌||◌, refl, ap, sym}
-use Rattle.std.proofs.Common.{◌∙◌}
+use Rattle.std.proofs.Common.{◌≡◌, ℕ, zero, suc, ◌+◌, ◌≤◌, arith, Bool, true, false, not, ◌&&◌, ◌||◌, refl}
+use Rattle.std.proofs.Common.{ap, sym, ◌∙◌}
 use Rattle.std.specs.Prelude.{ℤ, pos, Option, Some, None, is_some, option_and_then, option_map, unwrap_or}
 use Rattle.std.specs.Prelude.{if◌then◌else◌}
 use Rattle.grid_moves.specs.declared.Cell.{Cell}
@@ -37,14 +37,18 @@ first_within-same g d one other same (suc n) x =
     by_cell None next = refl
     by_cell (Some v) next = rw (same v, next v) refl
 
+-- what is asked under a test that fails adds nothing
+pub nothing_more : (a b c : Bool) → b ≡ false → (a || (b && c)) ≡ a
+nothing_more a b c h = grind arith
+
 -- for a straight d the marked cells are those with a forced neighbour
 pub is_marked-straight : (g : GridData) (v : Cell) (d : Dir) → is_diagonal d ≡ false
     → is_marked g v d ≡ is_forced g v d
-is_marked-straight g v d h = rw h (drop (is_forced g v d))
-  where
-    drop : (a : Bool) → (a || false) ≡ a
-    drop true = refl
-    drop false = refl
+is_marked-straight g v d h = nothing_more (is_forced g v d) (is_diagonal d) _ h
+
+pub is_mark_by-straight : (g : GridData) (entry : Cell → Dir → ℤ) (d : Dir) (v : Cell) → is_diagonal d ≡ false
+    → is_mark_by g entry d v ≡ is_forced g v d
+is_mark_by-straight g entry d v h = nothing_more (is_forced g v d) (is_diagonal d) _ h
 
 pub first_mark-straight : (g : GridData) (x : Cell) (d : Dir) → is_diagonal d ≡ false
     → first_mark g x d ≡ first_on_run g d (λ v. is_forced g v d) x
@@ -102,7 +106,7 @@ is_mark_by-is g d v f = by_parity d diagonal straight
     diagonal h = rw (component h Right, component h Left) refl
 
     straight : is_diagonal d ≡ false → is_mark_by g (table_entry g) d v ≡ is_marked g v d
-    straight h = rw h refl
+    straight h = is_mark_by-straight g (table_entry g) d v h ∙ sym (is_marked-straight g v d h)
 
 -- from one move further back
 further : (b : Bool) (o : Option ℕ) (n : ℕ) → ((k : ℕ) → o ≡ Some k → 1 ≤ k)

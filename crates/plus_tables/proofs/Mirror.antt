@@ -4,7 +4,6 @@ use Rattle.std.proofs.Common.{◌≡◌, arith, ℕ, ◌+◌, ◌-◌, ◌<◌, 
 use Rattle.std.proofs.Common.{ap, sym, ◌∙◌, subst}
 use Rattle.std.specs.Prelude.{ℤ}
 use Rattle.grid_moves.specs.declared.Corner.{Corner}
-use Rattle.grid_moves.specs.declared.Corner.TheVariants.{Never, One}
 use Rattle.grid_moves.specs.declared.Dir.{Dir}
 use Rattle.grid_moves.specs.declared.Dir.TheVariants.{N, NE, E, SE, S, SW, W, NW}
 use Rattle.grid_moves.specs.Grid.{GridData, IsGrid}
@@ -84,14 +83,7 @@ module _ (r : Corner) (a h b : List Bool) (x : ℕ) where
       by_rule : (r : Corner) (i p j q : Dir → Bool) → ((e : Dir) → i (flipped e) ≡ j e)
           → ((e : Dir) → p (flipped e) ≡ q e) → is_forced_on r i p (flipped d) s
           ≡ is_forced_on r j q d (other s)
-      by_rule Never i p j q same too = rw (
-        diagonal_flipped d,
-        rear_flipped s d,
-        quarter_flipped s d,
-        same (rear (other s) d),
-        too (quarter (other s) d),
-      ) refl
-      by_rule One i p j q same too = rw (
+      by_rule r i p j q same too = rw (
         diagonal_flipped d,
         rear_flipped s d,
         quarter_flipped s d,

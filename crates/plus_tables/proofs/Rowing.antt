@@ -1,5 +1,5 @@
 -- Rows of flags and of entries are those of the grid.
-use Rattle.std.proofs.Common.{◌≡◌, ℕ, zero, suc, ◌+◌, ◌-◌, ◌<◌, ◌≤◌, arith, Bool, true, false, ◌&&◌, ◌||◌}
+use Rattle.std.proofs.Common.{◌≡◌, ℕ, zero, suc, ◌+◌, ◌-◌, ◌<◌, ◌≤◌, arith, Bool, true, false, ◌&&◌}
 use Rattle.std.proofs.Common.{List, length, refl, ap, sym, ◌∙◌, subst}
 use Rattle.std.specs.Prelude.{ℤ, Option, Some, None, option_and_then, is_some, nat_lt}
 use Rattle.std.proofs.lemmas.Bool.Decides.{nat_tests}
@@ -26,7 +26,7 @@ use Rattle.plus_tables.specs.Tables.{IsShort}
 use Rattle.plus_tables.specs.Rows.{flag, number, ring_of, place_after, told, legal_by, mark_by, is_along}
 use Rattle.plus_tables.specs.Rows.{IsFlagRow, IsForcedRow, IsEntryRow, IsRowAt, AreRowsAround, AreForced}
 use Rattle.plus_tables.specs.Rows.{AreShort, AreToldBelow, IsToldAlong}
-use Rattle.plus_tables.proofs.Following.{entries_follow}
+use Rattle.plus_tables.proofs.Following.{entries_follow, is_mark_by-straight, nothing_more}
 use Rattle.plus_tables.proofs.Short.{table_entry-short}
 
 -- the cell of a column in a row, if there is one
@@ -216,7 +216,9 @@ module _ (g : GridData) (whole : IsGrid g) (c : Cell) (d : Dir) where
           next_number y right (turn Right d) w e (lies w e) (right_is h),
           next_number y left (turn Left d) w e (lies w e) (left_is h),
         ) refl)
-        (λ h. rw (h, next_flag y forced w e (lies w e) forced_is) refl)
+        (λ h. nothing_more (flag forced (place_after d c.x)) (is_diagonal d) _ h
+        ∙ next_flag y forced w e (lies w e) forced_is
+        ∙ sym (is_mark_by-straight g (table_entry g) d w h))
 
     pub told_entry : told legal (mark_by forced right left d (place_after d c.x))
         (number ahead (place_after d c.x))
@@ -337,14 +339,10 @@ module _ (g : GridData) (whole : IsGrid g) (y : ℕ) (above here below forced : 
       is_told short ∙ told_is g v d (flag here (v.x + 1) && flag here (place_after d v.x))
       (flag forced (place_after d v.x)) (number out (place_after d v.x)) can marked next
     where
-      or_false : (b : Bool) → b ≡ (b || false)
-      or_false true = refl
-      or_false false = refl
-
       marked : (w : Cell) → legal_ahead g v d ≡ Some w
           → flag forced (place_after d v.x) ≡ is_mark_by g (table_entry g) d w
       marked w e = next_flag g whole v d y forced w e (lies w e) forced_is
-          ∙ rw h (or_false (is_forced g w d))
+          ∙ sym (is_mark_by-straight g (table_entry g) d w h)
 
       short : (flag here (v.x + 1) && flag here (place_after d v.x)) ≡ true
           → IsShort (number out (place_after d v.x))

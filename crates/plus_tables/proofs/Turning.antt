@@ -4,15 +4,15 @@ use Rattle.std.specs.Prelude.{ℤ, Some, filter}
 use Rattle.std.proofs.lemmas.List.Elements.{filter_agree}
 use Rattle.grid_moves.specs.declared.Cell.{Cell}
 use Rattle.grid_moves.specs.declared.Corner.{Corner}
-use Rattle.grid_moves.specs.declared.Corner.TheVariants.{Never, One}
+use Rattle.grid_moves.specs.declared.Corner.TheVariants.{Never, One, Both}
 use Rattle.grid_moves.specs.declared.Dir.{Dir}
 use Rattle.grid_moves.specs.declared.Dir.TheVariants.{N, NE, E, SE, S, SW, W, NW}
 use Rattle.grid_moves.specs.Grid.{GridData, is_free}
-use Rattle.grid_moves.specs.Move.{all_dirs, is_dir, is_open, legal_ahead, opposite}
+use Rattle.grid_moves.specs.Move.{all_dirs, is_dir, is_open, is_passable, legal_ahead, may_cut, opposite}
 use Rattle.grid_moves.specs.declared.ring.Ring.{Ring}
 use Rattle.grid_moves.specs.Ring.{ring_told, is_free_on, is_shut, leads_on}
 use Rattle.grid_moves.proofs.Besides.{told_on}
-use Rattle.grid_moves.proofs.Legal.{legal_is}
+use Rattle.grid_moves.proofs.Legal.{legal_is, by_cut}
 use Rattle.pruning.specs.declared.Arrival.{Arrival}
 use Rattle.pruning.specs.declared.Arrival.TheVariants.{Start, By}
 use Rattle.pruning.specs.declared.turns.Side.{Side}
@@ -29,8 +29,8 @@ use Rattle.pruning.proofs.Moves.{leads_on-straight, leads_on-diagonal, can_move-
 use Rattle.pruning.proofs.Bridging.{place_of, free_place, open_there, leads_there, legal_leads}
 use Rattle.pruning.proofs.Running.{AreMoved, run_walked}
 use Rattle.plus_tables.specs.Tables.{TablesData, AreTablesOf, entry_at, is_on}
-use Rattle.plus_tables.specs.Reading.{is_move, cell_after, asks_behind, free_past, free_told, allowed_by}
-use Rattle.plus_tables.specs.Reading.{IsBeforeOn}
+use Rattle.plus_tables.specs.Reading.{is_move, cell_after, asks_behind, free_past, free_told, told_rule}
+use Rattle.plus_tables.specs.Reading.{allowed_by, IsBeforeOn}
 use Rattle.plus_tables.proofs.Clear.{is_move-is}
 use Rattle.plus_tables.proofs.Goals.{moved_to}
 use Rattle.plus_tables.proofs.Refreshing.{on_map}
@@ -38,16 +38,15 @@ use Rattle.plus_tables.proofs.Told.{free_is_inside}
 
 -- what is kept hangs on the walls that the rule asks for
 kept_alike : (r : Corner) (p q : Dir → Bool) (d : Dir)
-    → ((s : Side) → r ≡ Never → is_diagonal d ≡ false → p (rear s d) ≡ q (rear s d))
+    → ((s : Side) → may_cut r ≡ false → is_diagonal d ≡ false → p (rear s d) ≡ q (rear s d))
     → ((s : Side) → is_diagonal d ≡ true → p (rear s d) ≡ q (rear s d))
     → ((s : Side) → is_diagonal d ≡ false → p (quarter s d) ≡ q (quarter s d))
     → (e : Dir) → is_kept r p (By d) e ≡ is_kept r q (By d) e
-kept_alike Never p q d never rears quarters e = by_parity d
-    (λ h. rw h refl)
-    (λ h. rw (h, never Right refl h, never Left refl h) refl)
-kept_alike One p q d never rears quarters e = by_parity d
+kept_alike r p q d behind rears quarters e = by_parity d
     (λ h. rw (h, rears Right h, rears Left h) refl)
-    (λ h. rw (h, quarters Right h, quarters Left h) refl)
+    (λ h. by_cut r
+    (λ u. rw (u, h, behind Right u h, behind Left u h) refl)
+    (λ u. rw (u, h, quarters Right h, quarters Left h) refl))
 
 if_not : (b : Bool) → not b ≡ true → b ≡ false
 if_not b h = grind arith
@@ -57,12 +56,13 @@ none_of : (a b c d e k l m n : Bool) → (a || b || c || d || e) ≡ false
     → (a || ((b && k) || (c && l)) || ((d && m) || (e && n))) ≡ false
 none_of a b c d e k l m n h = grind arith
 
-rear_not_kept : (blocked : Dir → Bool) (s : Side) (d : Dir) → is_kept Never blocked (By d) (rear s d) ≡ false
-rear_not_kept blocked s d = none_of (is_dir (rear s d) d) (is_dir (rear s d) (turn Right d))
+rear_not_kept : (r : Corner) (blocked : Dir → Bool) (s : Side) (d : Dir)
+    → is_kept r blocked (By d) (rear s d) ≡ false
+rear_not_kept r blocked s d = none_of (is_dir (rear s d) d) (is_dir (rear s d) (turn Right d))
     (is_dir (rear s d) (quarter Right d)) (is_dir (rear s d) (turn Left d))
     (is_dir (rear s d) (quarter Left d))
-    (keeps_eighth Never blocked d Right) (keeps_quarter Never blocked d Right)
-    (keeps_eighth Never blocked d Left) (keeps_quarter Never blocked d Left)
+    (keeps_eighth r blocked d Right) (keeps_quarter r blocked d Right)
+    (keeps_eighth r blocked d Left) (keeps_quarter r blocked d Left)
     (if_not _ (at_both (λ s d. not (is_dir (rear s d) d
     || is_dir (rear s d) (turn Right d) || is_dir (rear s d) (quarter Right d)
     || is_dir (rear s d) (turn Left d) || is_dir (rear s d) (quarter Left d))) refl s d))
@@ -70,20 +70,34 @@ rear_not_kept blocked s d = none_of (is_dir (rear s d) d) (is_dir (rear s d) (tu
 -- which cells count as free by the moves to them
 pub told_here : (r : Corner) (entry : Cell → Dir → ℤ) (at : Cell) (by : Arrival) (e : Dir)
     → asks_behind r by ≡ false → free_told r entry at by e ≡ is_move (entry at e)
-told_here Never entry at Start e h = refl
-told_here Never entry at (By d) e h = by_parity d (λ k. rw k refl) (λ k. absurd (let i = rw k at h in cc))
-told_here One entry at by e h = refl
+told_here r entry at Start e h = refl
+told_here r entry at (By d) e h = rw h refl
 
 pub told_past : (entry : Cell → Dir → ℤ) (at : Cell) (d e : Dir) → is_diagonal d ≡ false
     → free_told Never entry at (By d) e ≡ free_past entry at d e
 told_past entry at d e h = rw h refl
 
 by_move : (r : Corner) (entry : Cell → Dir → ℤ) (at : Cell) (d e : Dir)
-    → ((s : Side) → r ≡ Never → is_diagonal d ≡ false → is_dir e (rear s d) ≡ false)
+    → ((s : Side) → is_diagonal d ≡ false → is_dir e (rear s d) ≡ false)
     → free_told r entry at (By d) e ≡ is_move (entry at e)
-by_move Never entry at d e off =
-    by_parity d (λ h. rw h refl) (λ h. rw (h, off Right refl h, off Left refl h) refl)
-by_move One entry at d e off = refl
+by_move r entry at d e off = by_cut r
+    (λ u. by_parity d (λ h. rw (u, h) refl) (λ h. rw (u, h, off Right h, off Left h) refl))
+    (λ u. rw u refl)
+
+-- what is kept hangs on whether a corner may be cut alone
+told_kept : (r : Corner) (blocked : Dir → Bool) (by : Arrival) (e : Dir)
+    → is_kept (told_rule r) blocked by e ≡ is_kept r blocked by e
+told_kept r blocked Start e = refl
+told_kept Never blocked (By d) e = refl
+told_kept One blocked (By d) e = refl
+told_kept Both blocked (By d) e = refl
+
+-- the cells beside a legal move let it pass
+told_passes : (r : Corner) (o a b : Bool)
+    → ((o && is_passable r a b) && is_passable (told_rule r) a b) ≡ (o && is_passable r a b)
+told_passes Never o a b = grind arith
+told_passes One o a b = grind arith
+told_passes Both o a b = grind arith
 
 -- a ring of which each cell was told by another test that agrees
 pub ring_told_by : (test free : Dir → Bool) → ((e : Dir) → test e ≡ free e) → (n ne e se s sw w nw : Bool)
@@ -147,29 +161,32 @@ module _ (t : TablesData) (g : GridData) (right : AreTablesOf t g) where
         → is_free_on (ring_told free) (turn s e) ≡ is_open g at (turn s e)
     beside s e h = straight_open at f free straight (turn s e) (turn_parity s e ∙ ap not h)
 
-    leads_told : (e : Dir) → free e ≡ can_move g at e → leads_on g.corner (ring_told free) e ≡ can_move g at e
+    abbrev rule : Corner
+    rule = told_rule g.corner
+
+    leads_told : (e : Dir) → free e ≡ can_move g at e → leads_on rule (ring_told free) e ≡ can_move g at e
     leads_told e k = by_parity e
         (λ h. rw (
-          leads_on-diagonal g.corner (ring_told free) e h,
+          leads_on-diagonal rule (ring_told free) e h,
           told_on free e,
           k,
           beside Left e h,
           beside Right e h,
           can_move-diagonal g at e f h,
-        ) (twice (is_open g at e) _))
-        (λ h. leads_on-straight g.corner (ring_told free) e h ∙ told_on free e ∙ k)
-      where
-        twice : (a b : Bool) → ((a && b) && b) ≡ (a && b)
-        twice a b = grind arith
+        ) (told_passes g.corner (is_open g at e) _ _))
+        (λ h. leads_on-straight rule (ring_told free) e h ∙ told_on free e ∙ k)
 
-    each_told : (e : Dir) → is_allowed_on g.corner (ring_told free) by e ≡ is_allowed g at by e
+    kept_told : (e : Dir) → is_kept rule (is_shut (ring_told free)) by e
+        ≡ is_kept g.corner (is_blocked g at) by e
+    kept_told e = told_kept g.corner (is_shut (ring_told free)) by e ∙ kept e
+
+    each_told : (e : Dir) → is_allowed_on rule (ring_told free) by e ≡ is_allowed g at by e
     each_told e = by_test (is_kept g.corner (is_blocked g at) by e)
-        (λ h. rw (kept e, h, leads_told e (moves e h)) refl)
-        (λ h. rw (kept e, h) refl)
+        (λ h. rw (kept_told e, h, leads_told e (moves e h)) refl)
+        (λ h. rw (kept_told e, h) refl)
 
-    all_told : filter (is_allowed_on g.corner (ring_told free) by) all_dirs ≡ allowed_dirs g at by
-    all_told =
-        filter_agree (is_allowed_on g.corner (ring_told free) by) (is_allowed g at by) each_told all_dirs
+    all_told : filter (is_allowed_on rule (ring_told free) by) all_dirs ≡ allowed_dirs g at by
+    all_told = filter_agree (is_allowed_on rule (ring_told free) by) (is_allowed g at by) each_told all_dirs
 
   module _ (u at : Cell) (d : Dir) (e : legal_ahead g u d ≡ Some at) where
     source : is_free g u ≡ true
@@ -200,7 +217,7 @@ module _ (t : TablesData) (g : GridData) (right : AreTablesOf t g) where
     free = free_told g.corner (entry_at t) at (By d)
 
     straight : (to : Dir) → is_diagonal to ≡ false → free to ≡ can_move g at to
-    straight to p = by_move g.corner (entry_at t) at d to (λ s r h. not_behind s h) ∙ legal_told at to target
+    straight to p = by_move g.corner (entry_at t) at d to not_behind ∙ legal_told at to target
       where
         not_behind : (s : Side) → is_diagonal d ≡ false → is_dir to (rear s d) ≡ false
         not_behind s h = by_test (is_dir to (rear s d))
@@ -209,18 +226,17 @@ module _ (t : TablesData) (g : GridData) (right : AreTablesOf t g) where
             (λ b. b)
 
     moves : (to : Dir) → is_kept g.corner (is_blocked g at) (By d) to ≡ true → free to ≡ can_move g at to
-    moves to k = by_move g.corner (entry_at t) at d to (λ s r h. not_behind s r) ∙ legal_told at to target
+    moves to k = by_move g.corner (entry_at t) at d to (λ s h. not_behind s) ∙ legal_told at to target
       where
-        not_behind : (s : Side) → g.corner ≡ Never → is_dir to (rear s d) ≡ false
-        not_behind s r = by_test (is_dir to (rear s d))
-            (λ b. absurd (let i = rear_not_kept (is_blocked g at) s d in
-            let j : is_kept Never (is_blocked g at) (By d) (rear s d) ≡ true =
-            ap (λ (c : Corner). is_kept c (is_blocked g at) (By d) (rear s d)) (sym r)
-            ∙ ap (λ (e : Dir). is_kept g.corner (is_blocked g at) (By d) e) (sym (same_dir to (rear s d) b))
+        not_behind : (s : Side) → is_dir to (rear s d) ≡ false
+        not_behind s = by_test (is_dir to (rear s d))
+            (λ b. absurd (let i = rear_not_kept g.corner (is_blocked g at) s d in
+            let j : is_kept g.corner (is_blocked g at) (By d) (rear s d) ≡ true =
+            ap (λ (e : Dir). is_kept g.corner (is_blocked g at) (By d) e) (sym (same_dir to (rear s d) b))
             ∙ k in cc))
             (λ b. b)
 
-    behind_told : (s : Side) → g.corner ≡ Never → is_diagonal d ≡ false
+    behind_told : (s : Side) → may_cut g.corner ≡ false → is_diagonal d ≡ false
         → free (rear s d) ≡ is_move (entry_at t (cell_after (opposite d) 1 at) (quarter s d))
     behind_told Right r h = rw (r, h, at_dir (λ d. is_dir (rear Right d) (rear Right d)) refl d) refl
     behind_told Left r h = rw (
@@ -249,12 +265,8 @@ module _ (t : TablesData) (g : GridData) (right : AreTablesOf t g) where
   started at f = all_told at f Start (free_told g.corner (entry_at t) at Start) (λ e _. told e)
       (λ e _. told e) (λ e. refl)
     where
-      by_corner : (r : Corner) → asks_behind r Start ≡ false
-      by_corner Never = refl
-      by_corner One = refl
-
       told : (e : Dir) → free_told g.corner (entry_at t) at Start e ≡ can_move g at e
-      told e = told_here g.corner (entry_at t) at Start e (by_corner g.corner) ∙ legal_told at e f
+      told e = told_here g.corner (entry_at t) at Start e refl ∙ legal_told at e f
 
   -- by any arrival
   pub allowed_by_tables : (at : Cell) (by : Arrival) → is_free g at ≡ true → CanArrive g at by

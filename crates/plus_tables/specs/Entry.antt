@@ -1,11 +1,12 @@
 -- Table entries: the jump distances of Harabor and Grastien's JPS+, ICAPS 2014.
 use Rattle.std.specs.Prelude.{◌≡◌, ℕ, ℤ, pos, neg_ℤ, Option, Some, None, refl, if◌then◌else◌, codes}
 use Rattle.grid_moves.specs.declared.Cell.{Cell}
-use Rattle.grid_moves.specs.declared.Corner.TheVariants.{Never, One}
+use Rattle.grid_moves.specs.declared.Corner.{Corner}
+use Rattle.grid_moves.specs.declared.Corner.TheVariants.{Never, One, Both}
 use Rattle.grid_moves.specs.declared.Dir.{Dir}
 use Rattle.grid_moves.specs.declared.Dir.TheVariants.{E, SE, W}
 use Rattle.grid_moves.specs.Grid.{GridData, grid_of, is_free}
-use Rattle.grid_moves.specs.Examples.{notch}
+use Rattle.grid_moves.specs.Examples.{notch, touch}
 use Rattle.pruning.specs.First.{first_mark, run_length}
 
 -- a mark after so many moves, or else minus the moves of a run
@@ -49,6 +50,22 @@ mark_above_the_wall = refl
 
 pub three_moves_past_it : table_entry (notch One) (cell 1 0) E ≡ neg_ℤ (pos 3)
 three_moves_past_it = refl
+
+-- on `.@/@.`, and on `..@/.@.` at the end of a run, where two blocked cells may be passed between
+pub one_move_between : table_entry (touch Both) (cell 0 0) SE ≡ neg_ℤ (pos 1)
+one_move_between = refl
+
+pub no_move_between : table_entry (touch One) (cell 0 0) SE ≡ pos 0
+no_move_between = refl
+
+abbrev corner_end : Corner → GridData
+corner_end corner = grid_of 3 2 (codes "..@.@.") corner
+
+pub mark_at_the_end : table_entry (corner_end Both) (cell 0 0) E ≡ pos 1
+mark_at_the_end = refl
+
+pub no_mark_at_the_end : table_entry (corner_end One) (cell 0 0) E ≡ neg_ℤ (pos 1)
+no_mark_at_the_end = refl
 
 -- on `......./....@..` the goal is not looked for
 pub mark_beyond_a_goal : table_entry (grid_of 7 2 (codes "...........@..") Never) (cell 0 0) E ≡ pos 5

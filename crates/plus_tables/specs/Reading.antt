@@ -3,10 +3,10 @@ use Rattle.std.specs.Prelude.{◌≡◌, ⊤, ℕ, zero, suc, ◌+◌, ◌-◌, 
 use Rattle.std.specs.Prelude.{nat_lt, nat_le, nat_eq, Option, Some, None, min, List, filter, if◌then◌else◌}
 use Rattle.grid_moves.specs.declared.Cell.{Cell}
 use Rattle.grid_moves.specs.declared.Corner.{Corner}
-use Rattle.grid_moves.specs.declared.Corner.TheVariants.{Never, One}
+use Rattle.grid_moves.specs.declared.Corner.TheVariants.{Never, Both}
 use Rattle.grid_moves.specs.declared.Dir.{Dir}
 use Rattle.grid_moves.specs.declared.Dir.TheVariants.{N, NE, E, SE, S, SW, W, NW}
-use Rattle.grid_moves.specs.Move.{is_dir, opposite, all_dirs}
+use Rattle.grid_moves.specs.Move.{is_dir, opposite, all_dirs, may_cut}
 use Rattle.grid_moves.specs.Ring.{ring_told}
 use Rattle.pruning.specs.declared.Arrival.{Arrival}
 use Rattle.pruning.specs.declared.Arrival.TheVariants.{Start, By}
@@ -134,21 +134,25 @@ seen_past at d e =
 abbrev pub free_past : (Cell → Dir → ℤ) → Cell → Dir → Dir → Bool
 free_past entry at d e = is_move (entry (seen_past at d e).from (seen_past at d e).dir)
 
-abbrev pub free_told : Corner → (Cell → Dir → ℤ) → Cell → Arrival → Dir → Bool
-free_told Never entry at (By d) e = if is_diagonal d then is_move (entry at e) else free_past entry at d e
-free_told Never entry at Start e = is_move (entry at e)
-free_told One entry at by e = is_move (entry at e)
-
 -- no corner is cut, and the move was straight
 abbrev pub asks_behind : Corner → Arrival → Bool
-asks_behind Never (By d) = not (is_diagonal d)
-asks_behind Never Start = false
-asks_behind One by = false
+asks_behind corner Start = false
+asks_behind corner (By d) = not (may_cut corner) && not (is_diagonal d)
+
+abbrev pub free_told : Corner → (Cell → Dir → ℤ) → Cell → Arrival → Dir → Bool
+free_told corner entry at Start e = is_move (entry at e)
+free_told corner entry at (By d) e =
+    if asks_behind corner (By d) then free_past entry at d e else is_move (entry at e)
+
+-- A move that entries tell of is legal. So where a corner may be cut nothing more is asked of the cells beside
+-- it, and what is allowed is told as under the rule that asks nothing of them.
+abbrev pub told_rule : Corner → Corner
+told_rule corner = if may_cut corner then Both else Never
 
 -- the allowed directions, by entries
 abbrev pub allowed_by : Corner → (Cell → Dir → ℤ) → Cell → Arrival → List Dir
 allowed_by corner entry at by =
-    filter (is_allowed_on corner (ring_told (free_told corner entry at by)) by) all_dirs
+    filter (is_allowed_on (told_rule corner) (ring_told (free_told corner entry at by)) by) all_dirs
 
 -- a cell from which a straight move leads here is on the map
 abbrev pub IsBeforeOn : TablesData → Cell → Arrival → Type 0

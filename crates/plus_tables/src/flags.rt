@@ -5,10 +5,11 @@
 //! code.
 
 ghost use Rattle.std.specs.Prelude.{◌≡◌, ℕ, ◌+◌, ◌-◌, ◌<◌, ◌≤◌, false, true, length};
+ghost use Rattle.pruning.specs.Numbered as numbered;
 ghost use Rattle.plus_tables.specs.Rows as spec;
 
 use grid_moves::{Corner, Dir, Ring, Terrain};
-use pruning::forced_on;
+use pruning::{forced_on, rule_of_number};
 
 // The flags around a column.
 #[inline(always)]
@@ -30,10 +31,9 @@ pub fn ring_at(above: &[bool], here: &[bool], below: &[bool], x: usize) -> Ring
     }
 }
 
-// For each column whether a neighbour is forced there, if it is free.
+// For each column whether a neighbour is forced there, if it is free, under the rule of this number.
 #[inline(always)]
-fn force_by(
-    corner: Corner,
+fn force_by<const RULE: usize>(
     above: &[bool],
     here: &[bool],
     below: &[bool],
@@ -44,49 +44,35 @@ fn force_by(
     requires above { length above.now ≡ length forced.old }
     requires here { length here.now ≡ length forced.old }
     requires below { length below.now ≡ length forced.old }
-    ensures { spec.AreForced corner above.now here.now below.now d forced.new }
+    ensures { spec.AreForced (numbered.rule_of_number RULE) above.now here.now below.now d forced.new }
 {
     for x in 0..forced.len() - 2 {
-        forced[x + 1] = forced_on(corner, ring_at(above, here, below, x), d);
+        forced[x + 1] = forced_on(rule_of_number(RULE), ring_at(above, here, below, x), d);
     }
 }
 
-// The same where no corner is cut; each direction that a sweep takes has code of its own, in which it is a
-// constant.
+// The same; each direction that a sweep takes has code of its own, in which it is a constant.
 #[inline(never)]
-fn force_uncut(above: &[bool], here: &[bool], below: &[bool], d: Dir, forced: &mut [bool])
+fn force_under<const RULE: usize>(
+    above: &[bool],
+    here: &[bool],
+    below: &[bool],
+    d: Dir,
+    forced: &mut [bool],
+)
     requires some { 2 ≤ length forced.old }
     requires above { length above.now ≡ length forced.old }
     requires here { length here.now ≡ length forced.old }
     requires below { length below.now ≡ length forced.old }
-    ensures { spec.AreForced Corner.Never above.now here.now below.now d forced.new }
+    ensures { spec.AreForced (numbered.rule_of_number RULE) above.now here.now below.now d forced.new }
 {
     match d {
-        Dir::N => force_by(Corner::Never, above, here, below, Dir::N, forced),
-        Dir::NE => force_by(Corner::Never, above, here, below, Dir::NE, forced),
-        Dir::E => force_by(Corner::Never, above, here, below, Dir::E, forced),
-        Dir::W => force_by(Corner::Never, above, here, below, Dir::W, forced),
-        Dir::NW => force_by(Corner::Never, above, here, below, Dir::NW, forced),
-        _ => force_by(Corner::Never, above, here, below, d, forced),
-    }
-}
-
-// The same where a corner may be cut.
-#[inline(never)]
-fn force_cut(above: &[bool], here: &[bool], below: &[bool], d: Dir, forced: &mut [bool])
-    requires some { 2 ≤ length forced.old }
-    requires above { length above.now ≡ length forced.old }
-    requires here { length here.now ≡ length forced.old }
-    requires below { length below.now ≡ length forced.old }
-    ensures { spec.AreForced Corner.One above.now here.now below.now d forced.new }
-{
-    match d {
-        Dir::N => force_by(Corner::One, above, here, below, Dir::N, forced),
-        Dir::NE => force_by(Corner::One, above, here, below, Dir::NE, forced),
-        Dir::E => force_by(Corner::One, above, here, below, Dir::E, forced),
-        Dir::W => force_by(Corner::One, above, here, below, Dir::W, forced),
-        Dir::NW => force_by(Corner::One, above, here, below, Dir::NW, forced),
-        _ => force_by(Corner::One, above, here, below, d, forced),
+        Dir::N => force_by::<RULE>(above, here, below, Dir::N, forced),
+        Dir::NE => force_by::<RULE>(above, here, below, Dir::NE, forced),
+        Dir::E => force_by::<RULE>(above, here, below, Dir::E, forced),
+        Dir::W => force_by::<RULE>(above, here, below, Dir::W, forced),
+        Dir::NW => force_by::<RULE>(above, here, below, Dir::NW, forced),
+        _ => force_by::<RULE>(above, here, below, d, forced),
     }
 }
 
@@ -107,8 +93,9 @@ pub fn force(
     ensures { spec.AreForced corner above.now here.now below.now d forced.new }
 {
     match corner {
-        Corner::Never => force_uncut(above, here, below, d, forced),
-        Corner::One => force_cut(above, here, below, d, forced),
+        Corner::Never => force_under::<0>(above, here, below, d, forced),
+        Corner::One => force_under::<1>(above, here, below, d, forced),
+        Corner::Both => force_under::<2>(above, here, below, d, forced),
     }
 }
 

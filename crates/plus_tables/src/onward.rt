@@ -7,7 +7,7 @@ ghost use Rattle.grid_moves.specs.Move.{legal_ahead};
 ghost use Rattle.pruning.specs.Turns as turns;
 ghost use Rattle.pruning.specs.Marked.{is_forced};
 
-use grid_moves::{Cell, Corner, Dir, Terrain};
+use grid_moves::{Cell, Dir, Terrain, may_cut};
 use jump_plain::beside::{Sides, straight_ahead};
 use jump_plain::jump::{Components, diagonal_ahead};
 use pruning::{forced, is_diagonal};
@@ -48,9 +48,11 @@ pub fn is_forced_next<T: Terrain>(t: &T, at: Cell, next: Cell, d: Dir) -> bool
     requires legal { legal_ahead (T.grid t.now) at d ≡ Some next }
     ensures { result ≡ is_forced (T.grid t.now) next d }
 {
-    match t.corner() {
-        Corner::Never if is_diagonal(d) => false,
-        Corner::Never => Sides::of(t, at, d).opens(Sides::of(t, next, d)),
-        Corner::One => forced(t, next, d),
+    if may_cut(t.corner()) {
+        forced(t, next, d)
+    } else if is_diagonal(d) {
+        false
+    } else {
+        Sides::of(t, at, d).opens(Sides::of(t, next, d))
     }
 }

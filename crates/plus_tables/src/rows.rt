@@ -135,6 +135,7 @@ pub fn across(corner: Corner, rows: Three, forced: &[bool], next: Ahead, d: Dir,
     match corner {
         Corner::Never => across_told(Corner::Never, rows, forced, next, d, out),
         Corner::One => across_told(Corner::One, rows, forced, next, d, out),
+        Corner::Both => across_told(Corner::Both, rows, forced, next, d, out),
     }
 }
 

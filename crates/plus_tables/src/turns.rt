@@ -3,7 +3,8 @@
 //! An entry is 0 exactly where no move is legal. So those at a cell tell which moves are legal, and which of
 //! the cells beside it are blocked, as a straight move is legal where its end is free. Where no corner is
 //! cut, the walls that count after a straight move stand behind the cell: the entries at the cell before tell
-//! them.
+//! them. Where one may be, whether a move passes between the cells beside it is told by its entry, so that
+//! one code serves each such rule.
 
 ghost use Rattle.std.specs.Prelude.{◌≡◌, ◌+◌, ◌<◌, Bool, false, true};
 ghost use Rattle.grid_moves.specs.Grid.{AreSides};
@@ -14,7 +15,7 @@ ghost use Rattle.plus_tables.specs.Tables.{entry_at, is_on};
 
 use crate::jumps::cell_after;
 use crate::tables::Tables;
-use grid_moves::{Cell, Corner, Dir, Ring, opposite};
+use grid_moves::{Cell, Corner, Dir, Ring, may_cut, opposite};
 use pruning::{Arrival, Packed, Side, allowed_on, is_dir, quarter, rear};
 use std::sync::ledger::Ledger;
 use steps::Steps;
@@ -99,7 +100,7 @@ fn allowed_past<L: Ledger>(tables: &Tables, at: Cell, d: Dir, steps: &mut Steps<
 }
 
 // The allowed directions otherwise, in increasing order: each cell counts as free where the move to it is
-// legal. Eight steps.
+// legal. The rule is one by which they are told. Eight steps.
 #[inline(always)]
 fn allowed_here<L: Ledger>(
     corner: Corner,
@@ -110,6 +111,7 @@ fn allowed_here<L: Ledger>(
 ) -> Packed
     requires at { is_on tables.now at ≡ true }
     requires here { spec.asks_behind corner by ≡ false }
+    requires told { spec.told_rule corner ≡ corner }
     ensures is { result ≡ spec.allowed_by corner (entry_at tables.now) at by }
     ensures steps { steps.new ≡ steps.old + 8 }
 {
@@ -136,9 +138,10 @@ fn allowed_ahead<L: Ledger>(tables: &Tables, at: Cell, d: Dir, steps: &mut Steps
     ensures is { result ≡ spec.allowed_by tables.now.corner (entry_at tables.now) at (Arrival.By d) }
     ensures steps { steps.new ≡ steps.old + 8 }
 {
-    match tables.corner() {
-        Corner::Never => allowed_past(tables, at, d, steps),
-        Corner::One => allowed_here(Corner::One, tables, at, Arrival::By(d), steps),
+    if may_cut(tables.corner()) {
+        allowed_here(Corner::Both, tables, at, Arrival::By(d), steps)
+    } else {
+        allowed_past(tables, at, d, steps)
     }
 }
 
@@ -150,9 +153,10 @@ fn allowed_around<L: Ledger>(tables: &Tables, at: Cell, by: Arrival, steps: &mut
     ensures is { result ≡ spec.allowed_by tables.now.corner (entry_at tables.now) at by }
     ensures steps { steps.new ≡ steps.old + 8 }
 {
-    match tables.corner() {
-        Corner::Never => allowed_here(Corner::Never, tables, at, by, steps),
-        Corner::One => allowed_here(Corner::One, tables, at, by, steps),
+    if may_cut(tables.corner()) {
+        allowed_here(Corner::Both, tables, at, by, steps)
+    } else {
+        allowed_here(Corner::Never, tables, at, by, steps)
     }
 }
 

@@ -72,7 +72,6 @@ fn least_walks_part_at_a_pillar(rt: HostRuntime) -> Result<(), Fail> {
         at(4, 0, E | S),
     ];
     assert!(rt; are_found(&mut waves, &grid, Cell { x: 0, y: 0 }, &round)?);
-    let grid = Grid::of_cells(rt.alloc(), 3, 3, b"....@....", Corner::One)?;
     let past = [
         at(0, 0, 0),
         at(1, 0, E),
@@ -84,14 +83,36 @@ fn least_walks_part_at_a_pillar(rt: HostRuntime) -> Result<(), Fail> {
         at(1, 1, S),
         at(2, 1, E | S),
     ];
+    for corner in [Corner::One, Corner::Both] {
+        let grid = Grid::of_cells(rt.alloc(), 3, 3, b"....@....", corner)?;
+        assert!(rt; are_found(&mut waves, &grid, Cell { x: 0, y: 0 }, &past)?);
+    }
+    Ok(())
+}
+
+// On `..@/.@.` the lower right is reached between two walls, where both may be passed.
+#[test]
+fn a_walk_leads_between_two_walls(rt: HostRuntime) -> Result<(), Fail> {
+    let grid = Grid::of_cells(rt.alloc(), 3, 2, b"..@.@.", Corner::Both)?;
+    let mut waves = CostWaves::new(rt.alloc(), 3, 2)?;
+    let past = [
+        at(0, 0, 0),
+        at(1, 0, E),
+        (None, 0),
+        at(1, 0, S),
+        (None, 0),
+        at(1, 1, E),
+    ];
     assert!(rt; are_found(&mut waves, &grid, Cell { x: 0, y: 0 }, &past)?);
+    let grid = Grid::of_cells(rt.alloc(), 3, 2, b"..@.@.", Corner::One)?;
+    let cut_off = [at(0, 0, 0), at(1, 0, E), (None, 0), at(1, 0, S), (None, 0), (None, 0)];
+    assert!(rt; are_found(&mut waves, &grid, Cell { x: 0, y: 0 }, &cut_off)?);
     Ok(())
 }
 
 // On open ground a straight and a diagonal move may come in either order.
 #[test]
 fn moves_come_in_either_order(rt: HostRuntime) -> Result<(), Fail> {
-    let grid = Grid::of_cells(rt.alloc(), 4, 2, b"........", Corner::Never)?;
     let mut waves = CostWaves::new(rt.alloc(), 4, 2)?;
     let cells = [
         at(2, 0, W),
@@ -103,14 +124,16 @@ fn moves_come_in_either_order(rt: HostRuntime) -> Result<(), Fail> {
         at(1, 0, S),
         at(0, 1, SE),
     ];
-    assert!(rt; are_found(&mut waves, &grid, Cell { x: 2, y: 0 }, &cells)?);
+    for corner in [Corner::Never, Corner::One, Corner::Both] {
+        let grid = Grid::of_cells(rt.alloc(), 4, 2, b"........", corner)?;
+        assert!(rt; are_found(&mut waves, &grid, Cell { x: 2, y: 0 }, &cells)?);
+    }
     Ok(())
 }
 
 // On `..@./..@.` the last column is free, and cut off. A map of one cell has no move.
 #[test]
 fn nothing_is_told_of_a_part_cut_off(rt: HostRuntime) -> Result<(), Fail> {
-    let grid = Grid::of_cells(rt.alloc(), 4, 2, b"..@...@.", Corner::One)?;
     let mut waves = CostWaves::new(rt.alloc(), 4, 2)?;
     let cells = [
         at(0, 1, NW),
@@ -122,7 +145,10 @@ fn nothing_is_told_of_a_part_cut_off(rt: HostRuntime) -> Result<(), Fail> {
         (None, 0),
         (None, 0),
     ];
-    assert!(rt; are_found(&mut waves, &grid, Cell { x: 1, y: 1 }, &cells)?);
+    for corner in [Corner::One, Corner::Both] {
+        let grid = Grid::of_cells(rt.alloc(), 4, 2, b"..@...@.", corner)?;
+        assert!(rt; are_found(&mut waves, &grid, Cell { x: 1, y: 1 }, &cells)?);
+    }
     let grid = Grid::of_cells(rt.alloc(), 1, 1, b".", Corner::Never)?;
     let mut waves = CostWaves::new(rt.alloc(), 1, 1)?;
     assert!(rt; are_found(&mut waves, &grid, Cell { x: 0, y: 0 }, &[at(0, 0, 0)])?);

@@ -76,10 +76,10 @@ fn leads_over<L: Ledger>(
     Ok(is_wanted(&found, wanted) && is_wanted(&by_pass, wanted))
 }
 
-// From the upper left of an open map; and where two blocked cells touch, no move leads anywhere.
+// From the upper left of an open map; and where two blocked cells touch, no move leads anywhere, unless both may
+// be passed.
 #[test]
 fn rows_are_cut_into_runs(rt: HostRuntime) -> Result<(), Fail> {
-    let grid = Grid::of_cells(rt.alloc(), 3, 3, b".........", Corner::Never)?;
     let runs = [
         (0, None),
         (1, Some(Dir::E)),
@@ -89,9 +89,15 @@ fn rows_are_cut_into_runs(rt: HostRuntime) -> Result<(), Fail> {
         (6, Some(Dir::S)),
         (7, Some(Dir::SE)),
     ];
-    assert!(rt; has_runs(rt.alloc(), &grid, cell(0, 0), &runs)?);
+    for corner in [Corner::Never, Corner::One, Corner::Both] {
+        let grid = Grid::of_cells(rt.alloc(), 3, 3, b".........", corner)?;
+        assert!(rt; has_runs(rt.alloc(), &grid, cell(0, 0), &runs)?);
+    }
     let grid = Grid::of_cells(rt.alloc(), 2, 2, b".@@.", Corner::One)?;
     assert!(rt; has_runs(rt.alloc(), &grid, cell(0, 0), &[(0, None)])?);
+    let grid = Grid::of_cells(rt.alloc(), 2, 2, b".@@.", Corner::Both)?;
+    let runs = [(0, None), (3, Some(Dir::SE))];
+    assert!(rt; has_runs(rt.alloc(), &grid, cell(0, 0), &runs)?);
     Ok(())
 }
 
@@ -107,12 +113,18 @@ fn first_moves_lead_along_least_walks(rt: HostRuntime) -> Result<(), Fail> {
     let alone = [from];
     let here = Some((alone.as_slice(), Cost { a: 0, b: 0 }));
     assert!(rt; leads_over::<Brand>(rt.alloc(), &grid, from, from, here, Blank::new(1))?);
-    let grid = Grid::of_cells(rt.alloc(), 3, 3, b"....@....", Corner::One)?;
     let past = [from, cell(1, 0), cell(2, 1), to];
     let wanted = Some((past.as_slice(), Cost { a: 2, b: 1 }));
-    assert!(rt; leads_over::<Brand>(rt.alloc(), &grid, from, to, wanted, Blank::new(1))?);
-    let grid = Grid::of_cells(rt.alloc(), 3, 1, b".@.", Corner::One)?;
-    assert!(rt; leads_over::<Brand>(rt.alloc(), &grid, from, cell(2, 0), None, Blank::new(1))?);
+    for corner in [Corner::One, Corner::Both] {
+        let grid = Grid::of_cells(rt.alloc(), 3, 3, b"....@....", corner)?;
+        assert!(rt; leads_over::<Brand>(rt.alloc(), &grid, from, to, wanted, Blank::new(1))?);
+        let grid = Grid::of_cells(rt.alloc(), 3, 1, b".@.", corner)?;
+        assert!(rt; leads_over::<Brand>(rt.alloc(), &grid, from, cell(2, 0), None, Blank::new(1))?);
+    }
+    let between = [from, cell(1, 1)];
+    let wanted = Some((between.as_slice(), Cost { a: 0, b: 1 }));
+    let grid = Grid::of_cells(rt.alloc(), 2, 2, b".@@.", Corner::Both)?;
+    assert!(rt; leads_over::<Brand>(rt.alloc(), &grid, from, cell(1, 1), wanted, Blank::new(1))?);
     Ok(())
 }
 

@@ -65,7 +65,6 @@ fn is_answer<L: Ledger>(
 // ways, so each of them lies in two boxes.
 #[test]
 fn boxes_of_a_corner_overlap(rt: HostRuntime) -> Result<(), Fail> {
-    let grid = Grid::of_cells(rt.alloc(), 3, 3, b".........", Corner::Never)?;
     let boxes = CellBoxes {
         n: None,
         ne: None,
@@ -76,7 +75,10 @@ fn boxes_of_a_corner_overlap(rt: HostRuntime) -> Result<(), Fail> {
         w: None,
         nw: None,
     };
-    assert!(rt; are_boxes(rt.alloc(), &grid, cell(0, 0), boxes)?);
+    for corner in [Corner::Never, Corner::One, Corner::Both] {
+        let grid = Grid::of_cells(rt.alloc(), 3, 3, b".........", corner)?;
+        assert!(rt; are_boxes(rt.alloc(), &grid, cell(0, 0), boxes)?);
+    }
     Ok(())
 }
 
@@ -88,6 +90,27 @@ fn moves_away_from_the_goal_are_left_out(rt: HostRuntime) -> Result<(), Fail> {
     let points = [cell(0, 0), cell(0, 2), cell(3, 2), cell(3, 1)];
     let walk = Some((points.as_slice(), Cost { a: 6, b: 0 }));
     let states = [8, 44, 80, 89, 98, 107, 71];
+    assert!(rt;
+        is_answer::<Brand>(
+            rt.alloc(),
+            &grid,
+            cell(0, 0),
+            cell(3, 1),
+            walk,
+            &states,
+            Blank::new(1)
+        )?
+    );
+    Ok(())
+}
+
+// On the same map, where two blocked cells may be passed between, the run goes right and through the gap.
+#[test]
+fn a_run_leads_through_the_gap(rt: HostRuntime) -> Result<(), Fail> {
+    let grid = Grid::of_cells(rt.alloc(), 4, 3, b"...@.@@.....", Corner::Both)?;
+    let points = [cell(0, 0), cell(2, 0), cell(3, 1)];
+    let walk = Some((points.as_slice(), Cost { a: 2, b: 1 }));
+    let states = [8, 17, 26, 71];
     assert!(rt;
         is_answer::<Brand>(
             rt.alloc(),
@@ -118,6 +141,30 @@ fn no_walk_leads_past_two_corners(rt: HostRuntime) -> Result<(), Fail> {
             cell(1, 1),
             None,
             &[8],
+            Blank::new(1)
+        )?
+    );
+    Ok(())
+}
+
+// They have them where two blocked cells may be passed between.
+#[test]
+fn a_walk_leads_past_two_corners(rt: HostRuntime) -> Result<(), Fail> {
+    let grid = Grid::of_cells(rt.alloc(), 2, 2, b".@@.", Corner::Both)?;
+    let boxes = Boxes::build(rt.alloc(), &grid)?;
+    assert!(rt; boxes.width() == 2);
+    assert!(rt; boxes.height() == 2);
+    assert!(rt; boxes.area(Cell { x: 0, y: 0 }, Dir::SE) == area(1, 1, 1, 1));
+    let points = [cell(0, 0), cell(1, 1)];
+    let walk = Some((points.as_slice(), Cost { a: 0, b: 1 }));
+    assert!(rt;
+        is_answer::<Brand>(
+            rt.alloc(),
+            &grid,
+            cell(0, 0),
+            cell(1, 1),
+            walk,
+            &[8, 35],
             Blank::new(1)
         )?
     );

@@ -124,6 +124,31 @@ fn are_alike_at_wall(
     alike
 }
 
+// Whether they are while two are.
+#[tactic(auto, using(bit_grid::proofs::Showing::on_map))]
+fn are_alike_at_walls(
+    grid: &mut Grid,
+    bits: &mut BitGrid,
+    walls: (Cell, Cell),
+    cells: &[Cell],
+    goal: Cell,
+) -> bool
+    requires bits { AreBitsOf bits.old grid.old }
+    requires inside { IsTrue (is_inside grid.old walls.0) }
+    requires other { IsTrue (is_inside grid.old walls.1) }
+    ensures bits { AreBitsOf bits.new grid.new }
+    ensures width { grid.new.width ≡ grid.old.width }
+    ensures height { grid.new.height ≡ grid.old.height }
+{
+    let (wall, other) = walls;
+    grid.set(wall, false);
+    bits.set(wall, false);
+    let alike = are_alike_at_wall(grid, bits, other, cells, goal);
+    grid.set(wall, true);
+    bits.set(wall, true);
+    alike
+}
+
 // Three rows of 1026 columns, and 1026 rows of three columns: all free.
 fn open_grid(alloc: Global, width: u16, height: u16, corner: Corner) -> Result<Grid, NoMemory>
     requires wide { 0 < width }
@@ -159,6 +184,32 @@ fn along_rows(alloc: Global, corner: Corner) -> Result<bool, NoMemory> {
     Ok(true)
 }
 
+// On three rows, with a wall ahead in the middle one, and one beside the cell before it: the way between them
+// is free where two blocked cells may be passed between.
+fn between_rows(alloc: Global, corner: Corner) -> Result<bool, NoMemory> {
+    let mut grid = open_grid(alloc, 1026, 3, corner)?;
+    let mut bits = BitGrid::of_grid(alloc, &grid)?;
+    let goal = Cell { x: 700, y: 2 };
+    for x in 1..1026u16 {
+        let cells = [
+            Cell { x: 0, y: 1 },
+            Cell { x: 1025, y: 1 },
+            Cell { x: x.saturating_sub(2), y: 1 },
+            Cell { x: x + 1, y: 1 },
+        ];
+        for y in [0u16, 2] {
+            let east = (Cell { x: x - 1, y }, Cell { x, y: 1 });
+            let west = (Cell { x, y }, Cell { x: x - 1, y: 1 });
+            if !are_alike_at_walls(&mut grid, &mut bits, east, &cells, goal)
+                || !are_alike_at_walls(&mut grid, &mut bits, west, &cells, goal)
+            {
+                return Ok(false);
+            }
+        }
+    }
+    Ok(true)
+}
+
 // On three columns.
 fn along_columns(alloc: Global, corner: Corner) -> Result<bool, NoMemory> {
     let mut grid = open_grid(alloc, 3, 1026, corner)?;
@@ -181,11 +232,45 @@ fn along_columns(alloc: Global, corner: Corner) -> Result<bool, NoMemory> {
     Ok(true)
 }
 
+// On three columns, with walls so.
+fn between_columns(alloc: Global, corner: Corner) -> Result<bool, NoMemory> {
+    let mut grid = open_grid(alloc, 3, 1026, corner)?;
+    let mut bits = BitGrid::of_grid(alloc, &grid)?;
+    let goal = Cell { x: 2, y: 700 };
+    for y in 1..1026u16 {
+        let cells = [
+            Cell { x: 1, y: 0 },
+            Cell { x: 1, y: 1025 },
+            Cell { x: 1, y: y.saturating_sub(2) },
+            Cell { x: 1, y: y + 1 },
+        ];
+        for x in [0u16, 2] {
+            let south = (Cell { x, y: y - 1 }, Cell { x: 1, y });
+            let north = (Cell { x, y }, Cell { x: 1, y: y - 1 });
+            if !are_alike_at_walls(&mut grid, &mut bits, south, &cells, goal)
+                || !are_alike_at_walls(&mut grid, &mut bits, north, &cells, goal)
+            {
+                return Ok(false);
+            }
+        }
+    }
+    Ok(true)
+}
+
 #[test]
 fn a_wall_at_every_place_of_two_blocks(rt: HostRuntime) -> Result<(), Fail> {
-    for corner in [Corner::Never, Corner::One] {
+    for corner in [Corner::Never, Corner::One, Corner::Both] {
         assert!(rt; along_rows(rt.alloc(), corner)?);
         assert!(rt; along_columns(rt.alloc(), corner)?);
+    }
+    Ok(())
+}
+
+#[test]
+fn two_walls_that_touch_at_a_corner(rt: HostRuntime) -> Result<(), Fail> {
+    for corner in [Corner::Never, Corner::One, Corner::Both] {
+        assert!(rt; between_rows(rt.alloc(), corner)?);
+        assert!(rt; between_columns(rt.alloc(), corner)?);
     }
     Ok(())
 }

@@ -78,7 +78,6 @@ fn round_a_pillar(rt: HostRuntime) -> Result<(), Fail> {
         stops((0, 0), Dir::SE, (2, 2), None),
     ];
     assert!(rt; all_stop_so(&uncut, &rows));
-    let cut = Grid::of_cells(rt.alloc(), 3, 3, b"....@....", Corner::One)?;
     let rows = [
         stops((0, 0), Dir::E, (2, 2), Some(1)),
         stops((0, 0), Dir::S, (2, 2), Some(1)),
@@ -86,7 +85,10 @@ fn round_a_pillar(rt: HostRuntime) -> Result<(), Fail> {
         stops((0, 1), Dir::SE, (2, 2), Some(1)),
         stops((1, 2), Dir::E, (2, 2), Some(1)),
     ];
-    assert!(rt; all_stop_so(&cut, &rows));
+    for corner in [Corner::One, Corner::Both] {
+        let cut = Grid::of_cells(rt.alloc(), 3, 3, b"....@....", corner)?;
+        assert!(rt; all_stop_so(&cut, &rows));
+    }
     Ok(())
 }
 
@@ -103,25 +105,63 @@ fn beside_a_wall(rt: HostRuntime) -> Result<(), Fail> {
         stops((2, 0), Dir::SE, (0, 1), None),
     ];
     assert!(rt; all_stop_so(&uncut, &rows));
-    let cut = Grid::of_cells(rt.alloc(), 5, 2, b"......@...", Corner::One)?;
     let rows = [
         stops((0, 0), Dir::E, (0, 1), Some(1)),
         stops((1, 0), Dir::E, (0, 1), None),
         stops((0, 0), Dir::SE, (0, 1), None),
         stops((1, 0), Dir::SE, (0, 1), None),
     ];
-    assert!(rt; all_stop_so(&cut, &rows));
+    for corner in [Corner::One, Corner::Both] {
+        let cut = Grid::of_cells(rt.alloc(), 5, 2, b"......@...", corner)?;
+        assert!(rt; all_stop_so(&cut, &rows));
+    }
+    Ok(())
+}
+
+// On `..@/.@.` and on `.@/@.`: between two blocked cells, from the end of a run and from the start, where that
+// is a move.
+#[test]
+fn between_two_walls(rt: HostRuntime) -> Result<(), Fail> {
+    let rows = [
+        stops((0, 0), Dir::E, (2, 1), Some(1)),
+        stops((1, 0), Dir::E, (2, 1), None),
+        stops((1, 0), Dir::SE, (2, 1), Some(1)),
+        stops((2, 1), Dir::W, (0, 0), None),
+        stops((2, 1), Dir::NW, (0, 0), Some(1)),
+    ];
+    let slipped = Grid::of_cells(rt.alloc(), 3, 2, b"..@.@.", Corner::Both)?;
+    assert!(rt; all_stop_so(&slipped, &rows));
+    let touching = Grid::of_cells(rt.alloc(), 2, 2, b".@@.", Corner::Both)?;
+    assert!(rt; all_stop_so(&touching, &[stops((0, 0), Dir::SE, (1, 1), Some(1))]));
+    let rows = [
+        stops((0, 0), Dir::E, (2, 1), None),
+        stops((1, 0), Dir::SE, (2, 1), None),
+        stops((2, 1), Dir::NW, (0, 0), None),
+    ];
+    for corner in [Corner::Never, Corner::One] {
+        let stopped = Grid::of_cells(rt.alloc(), 3, 2, b"..@.@.", corner)?;
+        assert!(rt; all_stop_so(&stopped, &rows));
+        let touching = Grid::of_cells(rt.alloc(), 2, 2, b".@@.", corner)?;
+        assert!(rt; all_stop_so(&touching, &[stops((0, 0), Dir::SE, (1, 1), None)]));
+    }
     Ok(())
 }
 
 // On `......./....@..` the goal stands before the mark. On `..../..@.` its row is met where the way to it
-// is closed. On `..@./..../..../....` a mark stands before it on its own diagonal.
+// is closed. On `..@./..../..../....` a mark stands before it on its own diagonal. Where a corner may be cut a
+// mark stands one cell before.
 #[test]
 fn goals_and_marks(rt: HostRuntime) -> Result<(), Fail> {
     let wide = Grid::of_cells(rt.alloc(), 7, 2, b"...........@..", Corner::Never)?;
     let rows = [
         stops((0, 0), Dir::E, (3, 0), Some(3)),
         stops((0, 0), Dir::E, (0, 1), Some(5)),
+    ];
+    assert!(rt; all_stop_so(&wide, &rows));
+    let wide = Grid::of_cells(rt.alloc(), 7, 2, b"...........@..", Corner::Both)?;
+    let rows = [
+        stops((0, 0), Dir::E, (3, 0), Some(3)),
+        stops((0, 0), Dir::E, (0, 1), Some(4)),
     ];
     assert!(rt; all_stop_so(&wide, &rows));
     let closed = Grid::of_cells(rt.alloc(), 4, 2, b"......@.", Corner::Never)?;
@@ -131,29 +171,46 @@ fn goals_and_marks(rt: HostRuntime) -> Result<(), Fail> {
         stops((0, 0), Dir::SE, (3, 1), None),
     ];
     assert!(rt; all_stop_so(&closed, &rows));
-    let square = Grid::of_cells(rt.alloc(), 4, 4, b"..@.............", Corner::Never)?;
+    let closed = Grid::of_cells(rt.alloc(), 4, 2, b"......@.", Corner::Both)?;
+    let rows = [
+        stops((0, 0), Dir::E, (3, 1), Some(2)),
+        stops((3, 0), Dir::S, (3, 1), Some(1)),
+        stops((0, 0), Dir::SE, (3, 1), None),
+    ];
+    assert!(rt; all_stop_so(&closed, &rows));
     let rows = [
         stops((0, 0), Dir::SE, (3, 3), Some(1)),
         stops((1, 1), Dir::SE, (3, 3), Some(2)),
     ];
-    assert!(rt; all_stop_so(&square, &rows));
+    for corner in [Corner::Never, Corner::One, Corner::Both] {
+        let square = Grid::of_cells(rt.alloc(), 4, 4, b"..@.............", corner)?;
+        assert!(rt; all_stop_so(&square, &rows));
+    }
     Ok(())
 }
 
 // Two rows of 1025 columns, blocked at one cell of the second.
-fn corridor(alloc: Global, blocked: usize) -> Result<Grid, NoMemory>
+fn corridor(alloc: Global, blocked: usize, corner: Corner) -> Result<Grid, NoMemory>
     requires { blocked < 1025 }
 {
     let mut cells = vec![in alloc; b'.'; 2050]?;
     cells[1025 + blocked] = b'@';
-    Grid::of_cells(alloc, 1025, 2, &cells, Corner::Never)
+    Grid::of_cells(alloc, 1025, 2, &cells, corner)
 }
 
-// In long rows: to the cell past the blocked one, from either side.
+// In long rows: to the cell past the blocked one, from either side, or above it where a corner may be cut.
 #[test]
 fn along_a_corridor(rt: HostRuntime) -> Result<(), Fail> {
     for (blocked, from_left, from_right) in [(511, 512, 514), (512, 513, 513), (1023, 1024, 2)] {
-        let grid = corridor(rt.alloc(), blocked)?;
+        let grid = corridor(rt.alloc(), blocked, Corner::Never)?;
+        let rows = [
+            stops((0, 0), Dir::E, (0, 1), Some(from_left)),
+            stops((1024, 0), Dir::W, (0, 1), Some(from_right)),
+        ];
+        assert!(rt; all_stop_so(&grid, &rows));
+    }
+    for (blocked, from_left, from_right) in [(511, 511, 513), (512, 512, 512), (1023, 1023, 1)] {
+        let grid = corridor(rt.alloc(), blocked, Corner::Both)?;
         let rows = [
             stops((0, 0), Dir::E, (0, 1), Some(from_left)),
             stops((1024, 0), Dir::W, (0, 1), Some(from_right)),
@@ -178,12 +235,14 @@ fn directions_from<J: JumpSource, L: Ledger>(jumps: &J, at: Cell, blank: Blank) 
 // On `../..` three moves lead out of a corner.
 #[test]
 fn out_of_a_corner(rt: HostRuntime) -> Result<(), Fail> {
-    let grid = Grid::of_cells(rt.alloc(), 2, 2, b"....", Corner::Never)?;
-    let at = Cell { x: 0, y: 0 };
-    if grid.free(at) {
-        let jumps = PlainJumps { terrain: &grid };
-        let count = directions_from::<PlainJumps<'_, Grid>, Brand>(&jumps, at, Blank::new(1));
-        assert_eq!(rt; count, 3);
+    for corner in [Corner::Never, Corner::One, Corner::Both] {
+        let grid = Grid::of_cells(rt.alloc(), 2, 2, b"....", corner)?;
+        let at = Cell { x: 0, y: 0 };
+        if grid.free(at) {
+            let jumps = PlainJumps { terrain: &grid };
+            let count = directions_from::<PlainJumps<'_, Grid>, Brand>(&jumps, at, Blank::new(1));
+            assert_eq!(rt; count, 3);
+        }
     }
     Ok(())
 }

@@ -47,30 +47,30 @@ fn the_pillar_is_passed(rt: HostRuntime) -> Result<(), Fail> {
     Ok(())
 }
 
-// Two cells that touch at a corner.
+// Two cells that touch at a corner: a walk leads between the others where both may be passed.
 #[test]
 fn no_walk_leads_past_two_corners(rt: HostRuntime) -> Result<(), Fail> {
-    let grid = Grid::of_cells(rt.alloc(), 2, 2, b".@@.", Corner::Never)?;
-    assert!(rt; is_answer(rt.alloc(), &grid, cell(0, 0), cell(1, 1), None, &[8])?);
+    for corner in [Corner::Never, Corner::One] {
+        let grid = Grid::of_cells(rt.alloc(), 2, 2, b".@@.", corner)?;
+        assert!(rt; is_answer(rt.alloc(), &grid, cell(0, 0), cell(1, 1), None, &[8])?);
+    }
+    let grid = Grid::of_cells(rt.alloc(), 2, 2, b".@@.", Corner::Both)?;
+    let points = [cell(0, 0), cell(1, 1)];
+    let walk = Some((points.as_slice(), Cost { a: 0, b: 1 }));
+    assert!(rt; is_answer(rt.alloc(), &grid, cell(0, 0), cell(1, 1), walk, &[8, 35])?);
     Ok(())
 }
 
 // On `.../...` the cells (1,0) and (1,1) offer the goal at one cost. The first of them was taken first.
 #[test]
 fn the_earlier_of_equal_offers_stands(rt: HostRuntime) -> Result<(), Fail> {
-    let grid = Grid::of_cells(rt.alloc(), 3, 2, b"......", Corner::Never)?;
-    let points = [cell(0, 0), cell(1, 0), cell(2, 1)];
+    let (from, to) = (cell(0, 0), cell(2, 1));
+    let points = [from, cell(1, 0), to];
     let walk = Some((points.as_slice(), Cost { a: 1, b: 1 }));
-    assert!(rt;
-        is_answer(
-            rt.alloc(),
-            &grid,
-            cell(0, 0),
-            cell(2, 1),
-            walk,
-            &[8, 17, 44, 53]
-        )?
-    );
+    for corner in [Corner::Never, Corner::One, Corner::Both] {
+        let grid = Grid::of_cells(rt.alloc(), 3, 2, b"......", corner)?;
+        assert!(rt; is_answer(rt.alloc(), &grid, from, to, walk, &[8, 17, 44, 53])?);
+    }
     Ok(())
 }
 
@@ -139,7 +139,6 @@ fn costs_round_the_pillar(rt: HostRuntime) -> Result<(), Fail> {
 // Where one blocked cell may be passed, a diagonal move past the pillar takes the place of two straight ones.
 #[test]
 fn costs_past_the_pillar(rt: HostRuntime) -> Result<(), Fail> {
-    let grid = Grid::of_cells(rt.alloc(), 3, 3, b"....@....", Corner::One)?;
     let costs = [
         cost(0, 0),
         cost(1, 0),
@@ -151,6 +150,21 @@ fn costs_past_the_pillar(rt: HostRuntime) -> Result<(), Fail> {
         cost(1, 1),
         cost(2, 1),
     ];
+    for corner in [Corner::One, Corner::Both] {
+        let grid = Grid::of_cells(rt.alloc(), 3, 3, b"....@....", corner)?;
+        assert!(rt; are_costs(rt.alloc(), &grid, cell(0, 0), &costs)?);
+    }
+    Ok(())
+}
+
+// On `.@/@.` the lower right is a diagonal move away where two blocked cells may be passed between.
+#[test]
+fn costs_between_two_walls(rt: HostRuntime) -> Result<(), Fail> {
+    let grid = Grid::of_cells(rt.alloc(), 2, 2, b".@@.", Corner::Both)?;
+    let costs = [cost(0, 0), None, None, cost(0, 1)];
+    assert!(rt; are_costs(rt.alloc(), &grid, cell(0, 0), &costs)?);
+    let grid = Grid::of_cells(rt.alloc(), 2, 2, b".@@.", Corner::One)?;
+    let costs = [cost(0, 0), None, None, None];
     assert!(rt; are_costs(rt.alloc(), &grid, cell(0, 0), &costs)?);
     Ok(())
 }
@@ -158,7 +172,6 @@ fn costs_past_the_pillar(rt: HostRuntime) -> Result<(), Fail> {
 // On `..@./..@.` the last column is free, and cut off.
 #[test]
 fn no_cost_leads_to_a_part_cut_off(rt: HostRuntime) -> Result<(), Fail> {
-    let grid = Grid::of_cells(rt.alloc(), 4, 2, b"..@...@.", Corner::Never)?;
     let costs = [
         cost(1, 0),
         cost(0, 0),
@@ -169,6 +182,9 @@ fn no_cost_leads_to_a_part_cut_off(rt: HostRuntime) -> Result<(), Fail> {
         None,
         None,
     ];
-    assert!(rt; are_costs(rt.alloc(), &grid, cell(1, 0), &costs)?);
+    for corner in [Corner::Never, Corner::One, Corner::Both] {
+        let grid = Grid::of_cells(rt.alloc(), 4, 2, b"..@...@.", corner)?;
+        assert!(rt; are_costs(rt.alloc(), &grid, cell(1, 0), &costs)?);
+    }
     Ok(())
 }

@@ -35,20 +35,45 @@ fn behind_a_wall(rt: HostRuntime) -> Result<(), Fail> {
 // pillar's other corner; where the search starts, all legal moves.
 #[test]
 fn round_a_corner(rt: HostRuntime) -> Result<(), Fail> {
-    let grid = Grid::of_cells(rt.alloc(), 3, 3, b"....@....", Corner::One)?;
-    let past = allowed(&grid, Cell { x: 2, y: 1 }, Arrival::By(Dir::SE));
-    assert_eq!(rt; past.as_slice(), [Dir::S, Dir::SW].as_slice());
-    let start = allowed(&grid, Cell { x: 0, y: 0 }, Arrival::Start);
-    assert_eq!(rt; start.as_slice(), [Dir::E, Dir::S].as_slice());
+    for corner in [Corner::One, Corner::Both] {
+        let grid = Grid::of_cells(rt.alloc(), 3, 3, b"....@....", corner)?;
+        let past = allowed(&grid, Cell { x: 2, y: 1 }, Arrival::By(Dir::SE));
+        assert_eq!(rt; past.as_slice(), [Dir::S, Dir::SW].as_slice());
+        let start = allowed(&grid, Cell { x: 0, y: 0 }, Arrival::Start);
+        assert_eq!(rt; start.as_slice(), [Dir::E, Dir::S].as_slice());
+    }
     Ok(())
 }
 
 // On the map `...../.@...`, where a corner may be cut: above the wall the way past it is forced.
 #[test]
 fn beyond_a_wall(rt: HostRuntime) -> Result<(), Fail> {
-    let grid = Grid::of_cells(rt.alloc(), 5, 2, b"......@...", Corner::One)?;
-    assert!(rt; forced(&grid, Cell { x: 1, y: 0 }, Dir::E));
-    assert!(rt; !forced(&grid, Cell { x: 2, y: 0 }, Dir::E));
+    for corner in [Corner::One, Corner::Both] {
+        let grid = Grid::of_cells(rt.alloc(), 5, 2, b"......@...", corner)?;
+        assert!(rt; forced(&grid, Cell { x: 1, y: 0 }, Dir::E));
+        assert!(rt; !forced(&grid, Cell { x: 2, y: 0 }, Dir::E));
+    }
+    Ok(())
+}
+
+// On the maps `..@/.@.` and `.@/@.`: the way between two blocked cells is forced, and is one where two may be
+// passed between.
+#[test]
+fn between_two_walls(rt: HostRuntime) -> Result<(), Fail> {
+    let grid = Grid::of_cells(rt.alloc(), 3, 2, b"..@.@.", Corner::Both)?;
+    let (at, end) = (Cell { x: 0, y: 0 }, Cell { x: 1, y: 0 });
+    assert!(rt; forced(&grid, end, Dir::E));
+    let past = allowed(&grid, end, Arrival::By(Dir::E));
+    assert_eq!(rt; past.as_slice(), [Dir::SE].as_slice());
+    let grid = Grid::of_cells(rt.alloc(), 2, 2, b".@@.", Corner::Both)?;
+    let start = allowed(&grid, at, Arrival::Start);
+    assert_eq!(rt; start.as_slice(), [Dir::SE].as_slice());
+    for corner in [Corner::Never, Corner::One] {
+        let grid = Grid::of_cells(rt.alloc(), 3, 2, b"..@.@.", corner)?;
+        assert!(rt; !forced(&grid, end, Dir::E));
+        let past = allowed(&grid, end, Arrival::By(Dir::E));
+        assert_eq!(rt; past.len(), 0);
+    }
     Ok(())
 }
 

@@ -62,11 +62,13 @@ fn the_pillar_is_passed(rt: HostRuntime) -> Result<(), Fail> {
     let points = [cell(0, 0), cell(0, 2), cell(2, 2)];
     let walk = Some((points.as_slice(), Cost { a: 4, b: 0 }));
     assert!(rt; is_answer(rt.alloc(), &grid, cell(2, 2), walk, &[8, 20, 58, 74])?);
-    let grid = Grid::of_cells(rt.alloc(), 3, 3, b"....@....", Corner::One)?;
     let points = [cell(0, 0), cell(0, 1), cell(1, 2), cell(2, 2)];
     let walk = Some((points.as_slice(), Cost { a: 2, b: 1 }));
     let states = [8, 11, 31, 48, 66, 74];
-    assert!(rt; is_answer(rt.alloc(), &grid, cell(2, 2), walk, &states)?);
+    for corner in [Corner::One, Corner::Both] {
+        let grid = Grid::of_cells(rt.alloc(), 3, 3, b"....@....", corner)?;
+        assert!(rt; is_answer(rt.alloc(), &grid, cell(2, 2), walk, &states)?);
+    }
     Ok(())
 }
 
@@ -85,7 +87,26 @@ fn the_earlier_of_equal_offers_stands(rt: HostRuntime) -> Result<(), Fail> {
 // Two cells that touch at a corner.
 #[test]
 fn no_jump_leads_past_two_corners(rt: HostRuntime) -> Result<(), Fail> {
-    let grid = Grid::of_cells(rt.alloc(), 2, 2, b".@@.", Corner::One)?;
-    assert!(rt; is_answer(rt.alloc(), &grid, cell(1, 1), None, &[8])?);
+    for corner in [Corner::Never, Corner::One] {
+        let grid = Grid::of_cells(rt.alloc(), 2, 2, b".@@.", corner)?;
+        assert!(rt; is_answer(rt.alloc(), &grid, cell(1, 1), None, &[8])?);
+        let grid = Grid::of_cells(rt.alloc(), 3, 2, b"..@.@.", corner)?;
+        assert!(rt; is_answer(rt.alloc(), &grid, cell(2, 1), None, &[8])?);
+    }
+    Ok(())
+}
+
+// A jump leads past them where both may be passed: on `.@/@.` from the start, on `..@/.@.` from the end of a
+// run, which is marked.
+#[test]
+fn a_jump_leads_past_two_corners(rt: HostRuntime) -> Result<(), Fail> {
+    let grid = Grid::of_cells(rt.alloc(), 2, 2, b".@@.", Corner::Both)?;
+    let points = [cell(0, 0), cell(1, 1)];
+    let walk = Some((points.as_slice(), Cost { a: 0, b: 1 }));
+    assert!(rt; is_answer(rt.alloc(), &grid, cell(1, 1), walk, &[8, 30])?);
+    let grid = Grid::of_cells(rt.alloc(), 3, 2, b"..@.@.", Corner::Both)?;
+    let points = [cell(0, 0), cell(1, 0), cell(2, 1)];
+    let walk = Some((points.as_slice(), Cost { a: 1, b: 1 }));
+    assert!(rt; is_answer(rt.alloc(), &grid, cell(2, 1), walk, &[8, 11, 48])?);
     Ok(())
 }

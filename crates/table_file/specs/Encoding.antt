@@ -2,16 +2,17 @@
 use Rattle.std.specs.Prelude.{◌≡◌, ℕ, ◌+◌, ◌-◌, ◌*◌, ◌/◌, ◌%◌, ℤ, pos, negsuc, List, [], ◌∷◌, ◌++◌, flat_map}
 use Rattle.std.specs.Prelude.{codes, if◌then◌else◌}
 use Rattle.grid_moves.specs.declared.Corner.{Corner}
-use Rattle.grid_moves.specs.declared.Corner.TheVariants.{Never, One}
+use Rattle.grid_moves.specs.declared.Corner.TheVariants.{Never, One, Both}
 use Rattle.grid_moves.specs.declared.Ground.TheVariants.{Water}
 use Rattle.grid_moves.specs.Grid.{GridData, is_ground}
 use Rattle.plus_tables.specs.Entry.{table_entry}
 use Rattle.table_file.specs.Order.{Spot, spots_of}
 
--- 0 where no corner is cut, 1 where one blocked cell may be passed
+-- how many of the two cells beside a diagonal move may be blocked
 abbrev pub corner_byte : Corner → ℕ
 corner_byte Never = 0
 corner_byte One = 1
+corner_byte Both = 2
 
 -- a number below 2^16 in two bytes, the lower first
 abbrev pub two_bytes : ℕ → List ℕ

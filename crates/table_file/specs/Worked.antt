@@ -1,8 +1,8 @@
--- Worked rows: two small maps, counted on squared paper.
+-- Worked rows: small maps, counted on squared paper.
 use Rattle.std.specs.Prelude.{◌≡◌, ℕ, List, [], ◌∷◌, ◌++◌, codes, take, slice_set, replicate, Some, None}
 use Rattle.std.specs.Prelude.{refl}
 use Rattle.grid_moves.specs.declared.Corner.{Corner}
-use Rattle.grid_moves.specs.declared.Corner.TheVariants.{Never, One}
+use Rattle.grid_moves.specs.declared.Corner.TheVariants.{Never, One, Both}
 use Rattle.grid_moves.specs.declared.Dir.TheVariants.{E, NW}
 use Rattle.grid_moves.specs.declared.Ground.{Ground}
 use Rattle.grid_moves.specs.declared.Ground.TheVariants.{Land, Water}
@@ -75,3 +75,33 @@ pub water_behind_land : encoding One (two_wet Land) (two_wet Water) ≡ head_byt
     ++ (zeros 4 ++ 255 ∷ 255 ∷ zeros 10) ++ (zeros 12 ++ 255 ∷ 255 ∷ zeros 2) ++ zeros 16)
 unfolding encoding
 water_behind_land = refl
+
+-- the map `.@/@.`: one move between the two blocked cells, each way, where both may be passed
+abbrev touching : Ground → Corner → GridData
+touching layer corner = layer_of layer corner 2 2 (codes ".@@.")
+
+abbrev four_cells : List ℕ
+four_cells = 74 ∷ 80 ∷ 83 ∷ 80 ∷ 76 ∷ 85 ∷ 83 ∷ 49 ∷ 2 ∷ 2 ∷ 0 ∷ 2 ∷ 0 ∷
+    (zeros 6 ++ 255 ∷ 255 ∷ zeros 54 ++ 255 ∷ 255 ∷ zeros 64)
+
+pub encoding_of_four : encoding Both (touching Land Both) (touching Water Both) ≡ four_cells
+unfolding encoding
+encoding_of_four = refl
+
+pub right_under_both : table_fault_of (touching Land Both) (touching Water Both) four_cells ≡ None
+unfolding table_fault_of
+right_under_both = refl
+
+pub one_under_both : table_fault_of (touching Land Both) (touching Water Both) (slice_set four_cells 8 1)
+    ≡ Some Head
+unfolding table_fault_of
+one_under_both = refl
+
+pub both_under_one : table_fault_of (touching Land One) (touching Water One) four_cells ≡ Some Head
+unfolding table_fault_of
+both_under_one = refl
+
+pub no_rule : table_fault_of (touching Land Both) (touching Water Both) (slice_set four_cells 8 3)
+    ≡ Some Head
+unfolding table_fault_of
+no_rule = refl

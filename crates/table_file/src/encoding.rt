@@ -8,13 +8,14 @@ use grid_moves::Corner;
 /// The length of the head, in bytes.
 pub(crate) const HEAD_SIZE: usize = 13;
 
-// 0 where no corner is cut, 1 where one blocked cell may be passed.
+// How many of the two cells beside a diagonal move may be blocked: 0, 1 or 2.
 fn corner_byte(corner: Corner) -> u8
     ensures { result ≡ spec.corner_byte corner }
 {
     match corner {
         Corner::Never => 0,
         Corner::One => 1,
+        Corner::Both => 2,
     }
 }
 

@@ -7,7 +7,7 @@
 //!
 //! ```text
 //! JPSPLUS1                 8 bytes
-//! the corner rule          1 byte: 0 where no corner is cut, 1 where one blocked cell may be passed
+//! the corner rule          1 byte: how many cells beside a diagonal move may be blocked, 0, 1 or 2
 //! width, height            2 bytes each
 //! entries of the land      for each cell by its number, for each direction from N clockwise: 2 bytes
 //! entries of the water     likewise

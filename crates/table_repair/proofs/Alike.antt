@@ -3,7 +3,6 @@ use Rattle.std.proofs.Common.{◌≡◌, ℤ, Bool, true, false, refl, ap, sym, 
 use Rattle.std.specs.Prelude.{Option, Some, None, option_map, unwrap_or, pos, if◌then◌else◌, option_and_then}
 use Rattle.grid_moves.specs.declared.Cell.{Cell}
 use Rattle.grid_moves.specs.declared.Corner.{Corner}
-use Rattle.grid_moves.specs.declared.Corner.TheVariants.{Never, One}
 use Rattle.grid_moves.specs.declared.Dir.{Dir}
 use Rattle.grid_moves.specs.Grid.{GridData, is_free}
 use Rattle.grid_moves.specs.Move.{ahead, corner_of, is_legal, legal_ahead, is_open, is_free_cell}
@@ -82,8 +81,7 @@ module _ (g h : GridData) (p : Cell) (a : AreAlike g h p) where
 
       on_side : (r : Corner) (s : Side) → is_forced_on r (is_blocked h p) (can_move h p) d s
           ≡ is_forced_on r (is_blocked g p) (can_move g p) d s
-      on_side Never s = rw (opens_same (rear s d), moves_from (quarter s d)) refl
-      on_side One s = rw (
+      on_side r s = rw (
         opens_same (rear s d),
         moves_from (quarter s d),
         opens_same (quarter s d),

@@ -83,9 +83,9 @@ returns-in-Halted-clause-most g c =
     c.next_block-index.ensures on.0 c.blocks-2.invariant.on_way (c.blocks-2.steps + 3) _ _
     (ap (λ (n : ℕ). n + 3) c.read-block.ensures.three_steps) c.blocks-2.invariant.read in
     let most = most_next c.args.way c.args.place c.blocks-2.index c.next_block-index.result
-    c.next_block-index.ensures on.0 c.blocks-2.invariant.on_way (begun c.args.rule t) c.args.to_goal
-    c.in-Halted.halt.passed c.in-Halted.halt.blocked (c.blocks-2.invariant.passed free start).clear
-    halt unmet in
+    c.next_block-index.ensures on.0 c.blocks-2.invariant.on_way c.args.rule (begun c.args.rule t)
+    c.args.to_goal c.in-Halted.halt.passed c.in-Halted.halt.marked
+    (c.blocks-2.invariant.passed free start).clear halt unmet in
     omega (arith, read, most)
 
 pub blocks-2-smaller : goal.blocks-2-smaller

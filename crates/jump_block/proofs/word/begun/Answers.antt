@@ -3,5 +3,5 @@ use Rattle.jump_block.proofs.word.begun.Goals as goal
 
 pub returns : goal.returns
 returns c = λ t way base are.
-    begun_words c.args.rule c.start_bit-bit.result c.args.place c.start_bit-bit.ensures.never
-    c.start_bit-bit.ensures.one c.requires way base t c.args.words are
+    begun_words c.args.rule c.start_bit-bit.result c.args.place c.start_bit-bit.ensures.uncut
+    c.start_bit-bit.ensures.cut c.requires way base t c.args.words are

@@ -4,7 +4,6 @@ use Rattle.jump_block.proofs.word.halts.Goals as goal
 
 pub returns : goal.returns
 returns c = λ t from base words edges j k h m.
-    halts_there c.blocked.result c.opened.result c.opened-2.result c.args.words.middle j t k
+    halts_there c.blocked.result c.opened_beside.result c.args.words.middle j t k
     (c.blocked.ensures j h) (words.middle j (suc k) h m)
-    (c.opened.ensures t.before from base words.before edges.before j k h m)
-    (c.opened-2.ensures t.after from base words.after edges.after j k h m)
+    (c.opened_beside.ensures t from base words edges j k h m)

@@ -1,5 +1,5 @@
 use Rattle.jump_block.proofs.Bits.{set_one}
 use Rattle.jump_block.proofs.word.start_bit.Goals as goal
 
-pub returns-in-One-clause-one : goal.returns-in-One-clause-one
-returns-in-One-clause-one c = λ is j h. set_one c.args.place j c.requires
+pub returns-then-may_cut-clause-cut : goal.returns-then-may_cut-clause-cut
+returns-then-may_cut-clause-cut c = λ e j h. set_one c.args.place j c.requires

@@ -1,7 +1,10 @@
 use Rattle.plus_tables.proofs.flags.force.Goals as goal
 
 pub returns-in-Never : goal.returns-in-Never
-returns-in-Never c = rw c.in-Never.is c.force_uncut.ensures
+returns-in-Never c = rw c.in-Never.is c.force_under.ensures
 
 pub returns-in-One : goal.returns-in-One
-returns-in-One c = rw c.in-One.is c.force_cut.ensures
+returns-in-One c = rw c.in-One.is c.force_under-in-One.ensures
+
+pub returns-in-Both : goal.returns-in-Both
+returns-in-Both c = rw c.in-Both.is c.force_under-in-Both.ensures

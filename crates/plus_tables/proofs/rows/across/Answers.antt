@@ -5,3 +5,6 @@ returns-in-Never c = rw c.in-Never.is c.across_told.ensures
 
 pub returns-in-One : goal.returns-in-One
 returns-in-One c = rw c.in-One.is c.across_told-in-One.ensures
+
+pub returns-in-Both : goal.returns-in-Both
+returns-in-Both c = rw c.in-Both.is c.across_told-in-Both.ensures

@@ -1,9 +1,10 @@
 use Rattle.std.proofs.Common.{◌≡◌, ◌<◌, ℕ, ◌+◌, ◌-◌, ◌*◌, ◌/◌, ◌%◌, refl, sym, subst, arith, bit_and}
 use Rattle.bit_grid.specs.declared.lines.ThreeWords.{ThreeWords}
-use Rattle.jump_block.specs.Trail.{begun}
-use Rattle.jump_block.specs.Word.{AreWordsOf, IsBlockOf, IsFound, IsAhead, edge_before, nth_word}
+use Rattle.jump_block.specs.Trail.{begun, shows_mark}
+use Rattle.jump_block.specs.Word.{AreWordsOf, IsBlockOf, IsFound, IsAhead, TellMoves, edge_before, nth_word}
 use Rattle.jump_block.specs.Seek.{HasPassed}
-use Rattle.jump_block.proofs.Blocks.{word_there, start_found, start_passed, start_ahead, block_later}
+use Rattle.jump_block.proofs.Blocks.{word_there, word_marks, start_found, start_passed, start_ahead}
+use Rattle.jump_block.proofs.Blocks.{block_later}
 use Rattle.jump_block.proofs.block.Block.seek_start.Goals as goal
 
 pub seek-requires-clause-ahead : goal.seek-requires-clause-ahead
@@ -27,12 +28,16 @@ returns-then-found-ne0 c = λ t block.
     (c.args.start + w * 64) v) (sym c.words.ensures)
     (word_there t c.args.way (c.args.start + w * 64 + place) c.args.start w c.args.self.now there high) in
     let are = c.begun-words.ensures t c.args.way (c.args.start + w * 64) own in
-    c.halt_at.ensures (begun c.args.rule t) 0
+    c.halt_at.ensures c.args.rule (begun c.args.rule t) 0
     (subst (λ (f : ℕ). IsFound (begun c.args.rule t) c.args.way f (c.args.start + w * 64) 0
-    c.begun-words.result.middle (bit_and c.halts.result c.past.result)) (sym from)
+    (bit_and c.halts.result c.past.result)) (sym from)
     (start_found t c.args.rule c.args.way c.args.start place w (bit_and c.halts.result c.past.result)
     c.halts.result c.past.result
     c.begun-words.result _ c.args.self.now there low high are c.halts.ensures c.past.ensures refl))
+    (subst (λ (f : ℕ). TellMoves (shows_mark c.args.rule (begun c.args.rule t)) c.args.way f
+    (c.args.start + w * 64) c.marks-marks.result) (sym from)
+    (word_marks t c.args.rule c.args.way (c.args.start + w * 64) place c.marks-marks.result
+    c.begun-words.result _ low are c.marks-marks.ensures))
 
 pub returns : goal.returns
 returns c = λ t block.

@@ -18,7 +18,7 @@ returns-clause-finds g c = λ grid are free goal off.
     let rule = c.args.self.now.corner in
     mark_on grid at (row_dir way) rule (row_straight way) are.rule free are.whole goal
     (off_row way at goal off) _
-    (subst (λ (t : Trail). MeetsMark (begun rule t) c.finds_mark.result) (sym (row_trail grid way at))
+    (subst (λ (t : Trail). MeetsMark rule (begun rule t) c.finds_mark.result) (sym (row_trail grid way at))
     (one_on (λ (line place : ℕ). MeetsFrom c.args.self.now.rows.now rule way line place c.finds_mark.result)
     c.from.ensures c.from-2.ensures c.finds_mark.ensures.finds (by_rows grid)
     (row_start grid at free c.args.self.now.rows.now are.are_rows)))

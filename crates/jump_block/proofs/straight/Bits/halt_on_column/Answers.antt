@@ -10,8 +10,9 @@ returns-clause-finds g c = λ grid are free.
     let at = c.args.at in
     let way = c.args.way in
     let rule = c.args.self.now.corner in
-    subst (λ (t : Trail). Finds (begun rule t) c.args.to_goal c.scan.result) (sym (column_trail grid way at))
-    (subst (λ (n : ℕ). Finds (begun rule (trail_on (by_columns grid) way (at.x + 1) (at.y + 1))) n
+    subst (λ (t : Trail). Finds rule (begun rule t) c.args.to_goal c.scan.result)
+    (sym (column_trail grid way at))
+    (subst (λ (n : ℕ). Finds rule (begun rule (trail_on (by_columns grid) way (at.x + 1) (at.y + 1))) n
     c.scan.result)
     c.from-3.ensures
     (one_on (λ (line place : ℕ). FindsFrom c.args.self.now.columns.now rule way c.from-3.result line place

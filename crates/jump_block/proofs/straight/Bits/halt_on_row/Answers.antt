@@ -10,8 +10,10 @@ returns-clause-finds g c = λ grid are free.
     let at = c.args.at in
     let way = c.args.way in
     let rule = c.args.self.now.corner in
-    subst (λ (t : Trail). Finds (begun rule t) c.args.to_goal c.scan.result) (sym (row_trail grid way at))
-    (subst (λ (n : ℕ). Finds (begun rule (trail_on (by_rows grid) way (at.y + 1) (at.x + 1))) n c.scan.result)
+    subst (λ (t : Trail). Finds rule (begun rule t) c.args.to_goal c.scan.result)
+    (sym (row_trail grid way at))
+    (subst (λ (n : ℕ). Finds rule (begun rule (trail_on (by_rows grid) way (at.y + 1) (at.x + 1))) n
+    c.scan.result)
     c.from-3.ensures
     (one_on (λ (line place : ℕ). FindsFrom c.args.self.now.rows.now rule way c.from-3.result line place
     c.scan.result)
