@@ -19,6 +19,7 @@ pub mod Turns
 pub mod Rulings
 pub mod Measured
 pub mod Posed
+pub mod Agreeing
 pub mod Same
 pub mod Lines
 pub mod Rows

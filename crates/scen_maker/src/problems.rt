@@ -13,6 +13,7 @@ use line_work::Printed;
 use problem_maker::{Ends, Problem, make_ends, order};
 use scen_lines::{problem_name, put_entry, put_version};
 use std::alloc::Global;
+use std::marker::Brand;
 use std::sync::ledger::{Blank, Ledger};
 use steps::Steps;
 
