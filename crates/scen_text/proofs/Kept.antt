@@ -1,5 +1,5 @@
 -- Lengths that texts spell have few digits.
-use Rattle.std.proofs.Common.{◌≡◌, ℕ, zero, suc, ◌+◌, true, ◌&&◌, List, [], ◌∷◌, length, take, drop, Option}
+use Rattle.std.proofs.Common.{◌≡◌, ℕ, zero, suc, ◌+◌, true, ◌&&◌, List, [], ◌∷◌, take, drop, Option}
 use Rattle.std.proofs.Common.{Some, None, Result, Ok, Err, refl, subst, sym, inl, inr, arith}
 use Rattle.std.specs.Prelude.{slice_get, position, IfOk, Vec}
 use Rattle.std.specs.List.{list_all}

@@ -4,3 +4,4 @@ pub mod Lines
 pub mod Laws
 pub mod Kept
 pub mod Few
+pub mod Standing

@@ -1,5 +1,8 @@
 //! Entries of a scenario.
 
+ghost use Rattle.std.specs.Prelude.{◌≡◌, ◌≤◌, length};
+ghost use Rattle.scen_text.specs.Names.{bytes_at};
+
 use root2_cost::Decimal;
 
 /// The bytes of a text from place `start`, counted from 0, up to but without place `end`.
@@ -7,6 +10,18 @@ use root2_cost::Decimal;
 pub struct ByteRange {
     pub start: u32,
     pub end: u32,
+}
+
+impl ByteRange {
+    /// The bytes of the text in this range. A name that was read from the text stands in it
+    /// (`names::names_stand`).
+    pub fn of(self, text: &[u8]) -> &[u8]
+        requires order { self.start ≤ self.end }
+        requires inside { self.end ≤ length text.now }
+        ensures { result.now ≡ bytes_at text.now self }
+    {
+        &text[self.start as usize..self.end as usize]
+    }
 }
 
 /// A query that a scenario lists, with its length.

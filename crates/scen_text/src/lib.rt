@@ -21,6 +21,7 @@
 mod entry;
 mod fault;
 mod length;
+pub mod names;
 mod reading;
 mod words;
 

@@ -21,6 +21,8 @@ mod potential_make_tests;
 #[cfg(test)]
 mod root2_cost_tests;
 #[cfg(test)]
+mod scen_lines_tests;
+#[cfg(test)]
 mod scen_text_tests;
 #[cfg(test)]
 mod script_text_tests;

@@ -50,6 +50,23 @@ fn a_length_is_judged_by_its_decimals(rt: HostRuntime) {
     }
 }
 
+// √2 is 1.41421356237309504880..; 93222358√2 is 131836322.9999999962..
+#[test]
+fn lengths_are_rounded_and_buckets_are_not(rt: HostRuntime) {
+    for (cost, digits, number) in [
+        (cost(0, 0), 0, 0),
+        (cost(0, 2), 2_82842712, 0),
+        (cost(2, 1), 3_41421356, 0),
+        (cost(0, 3), 4_24264069, 1),
+        (cost(7, 0), 7_00000000, 1),
+        (cost(1, 93_222_358), 131836324_00000000, 32_959_080),
+    ] {
+        let length = nearest_length(cost);
+        assert_eq!(rt; length, Decimal { digits, places: 8 }, "{cost:?}");
+        assert_eq!(rt; bucket(cost), number, "{cost:?}");
+    }
+}
+
 // 1414 / 1000 is just below √2 and 99 / 70 just above; 1855077841² is 2 · 1311738121² − 1.
 #[test]
 fn ranks_order_costs_that_are_close(rt: HostRuntime) {
