@@ -18,6 +18,6 @@ abbrev pub free_cells : Layers → List Cell
 free_cells ls = free_below ls (ls.land.height * ls.land.width)
 
 -- a worked row: the map `.@W/T..`
-pub free_of_five : free_cells (layers_of Never 3 2 (codes ".@WT..")) ≡
+pub four_of_six : free_cells (layers_of Never 3 2 (codes ".@WT..")) ≡
     record { x = 0; y = 0 } ∷ record { x = 2; y = 0 } ∷ record { x = 1; y = 1 } ∷ record { x = 2; y = 1 } ∷ []
-free_of_five = refl
+four_of_six = refl
