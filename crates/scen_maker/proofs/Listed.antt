@@ -1,7 +1,7 @@
 -- The lines of entries.
-use Rattle.std.proofs.Common.{◌≡◌, refl, sym, ap, ◌∙◌, subst, List, [], ◌∷◌, ◌++◌, ℕ, suc, length, inl, inr}
-use Rattle.std.proofs.Common.{true, false, Bool, ◌&&◌, min, take, drop, arith, ◌≤◌}
-use Rattle.std.specs.Prelude.{◌≢◌, if◌then◌else◌, Option, Some, None, is_some, Result, Ok, Err, OnOk, decimal, codes, Vec}
+use Rattle.std.proofs.Common.{◌≡◌, refl, sym, ap, ◌∙◌, subst, List, [], ◌∷◌, ◌++◌, ℕ, length, inl, inr}
+use Rattle.std.proofs.Common.{true, false, Bool, ◌&&◌, arith, ◌≤◌}
+use Rattle.std.specs.Prelude.{◌≢◌, if◌then◌else◌, Option, Some, None, is_some, Result, Ok, Err, OnOk, Vec}
 use Rattle.std.specs.Global.{Global}
 use Rattle.std.specs.List.{list_all}
 use Rattle.std.proofs.lemmas.List.{append-nil}
@@ -86,7 +86,7 @@ after-some (x ∷ xs) y ys = refl
 line-told : (text : List ℕ) (entry : Entry) (least : Option Cost) (line : List ℕ) → IsLineAt text entry least line
     → is_line line ≡ is_some least
 line-told text entry None line is = ap is_line is
-line-told text entry (Some cost) line is = ap is_line is.is ∙ after-some (decimal is.listed.bucket) 9 _
+line-told text entry (Some cost) line is = ap is_line is.is ∙ after-some _ 10 []
 
 all-more : (lines : List (List ℕ)) (line : List ℕ) (all told : Bool) → all ≡ list_all is_line lines
     → is_line line ≡ told → (all && told) ≡ list_all is_line (lines ++ line ∷ [])
@@ -100,30 +100,32 @@ all-more lines line all told e f =
 
 -- one entry more has its line, or nothing
 pub listed-more : {T E : Type 0} (result : Result T E) (job now : Lengths) (entry : Entry) (how : Settled)
-    (before after : List ℕ) → IsSettled job.costs entry how → now.costs ≡ job.costs → now.text ≡ job.text
-    → now.all ≡ (job.all && is_some (least_in how))
-    → OnOk result (AddsLine job.text.items entry (least_in how) before after)
+    (least : Option Cost) (text before after : List ℕ) → IsSettled job.costs entry how → least ≡ least_in how
+    → text ≡ job.text.items → now.costs ≡ job.costs → now.text ≡ job.text → now.all ≡ (job.all && is_some least)
+    → OnOk result (AddsLine text entry least before after)
     → OnOk result ((first : Lengths) (entries : List Entry) (lines : List (List ℕ))
     → HaveListed first job entries lines
     → Adds (HaveListed first now (entries ++ entry ∷ [])) lines before after)
-listed-more (Err error) job now entry how before after is costs text told adds = tt
-listed-more (Ok done) job now entry how before after is costs text told adds = λ first entries lines h. record {
-  more = adds.line ∷ [];
-  stand = record {
-    are = turns-more (Stands first.costs first.text.items) stays tt entries lines entry adds.line h.are
-        (record {
-          how = how;
-          settled = subst (λ (ls : Layers). IsSettled ls entry how) h.same is;
-          is = subst (λ (text : Vec ℕ Global). IsLineAt text.items entry (least_in how) adds.line) h.kept
-              adds.is;
-        });
-    told = told ∙ all-more lines adds.line job.all (is_some (least_in how)) h.told
-        (line-told job.text.items entry (least_in how) adds.line adds.is);
-    same = costs ∙ h.same;
-    kept = text ∙ h.kept;
-  };
-  appended = adds.added ∙ ap (λ (l : List ℕ). before ++ l) (sym (append-nil adds.line));
-}
+listed-more (Err error) job now entry how least text before after is found whole costs kept told adds = tt
+listed-more (Ok done) job now entry how least text before after is found whole costs kept told adds =
+    λ first entries lines h. record {
+      more = adds.line ∷ [];
+      stand = record {
+        are = turns-more (Stands first.costs first.text.items) stays tt entries lines entry adds.line h.are
+            (record {
+              how = how;
+              settled = subst (λ (ls : Layers). IsSettled ls entry how) h.same is;
+              is = subst (λ (v : Vec ℕ Global). IsLineAt v.items entry (least_in how) adds.line) h.kept
+                  (subst (λ (t : List ℕ). IsLineAt t entry (least_in how) adds.line) whole
+                  (subst (λ (o : Option Cost). IsLineAt text entry o adds.line) found adds.is));
+            });
+        told = told ∙ all-more lines adds.line job.all (is_some least) h.told
+            (line-told text entry least adds.line adds.is);
+        same = costs ∙ h.same;
+        kept = kept ∙ h.kept;
+      };
+      appended = adds.added ∙ ap (λ (l : List ℕ). before ++ l) (sym (append-nil adds.line));
+    }
 
 -- and nothing closes them
 pub listed-all : (job : Lengths) (status : ℕ) (before : List ℕ) → status ≡ (if job.all then 0 else 1)

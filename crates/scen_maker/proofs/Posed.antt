@@ -62,20 +62,21 @@ pub never_none : (ls : Layers) (s t : Cell) (least : Option Cost) → HasWalk ls
 never_none ls s t None j e none = none j.cells j.walk
 never_none ls s t (Some cost) j e least = cc
 
-take-more : {X : Type 0} (xs : List X) (i : ℕ) (x : X) → i < length xs → x ≡ get_or xs i x
-    → take (i + 1) xs ≡ take i xs ++ x ∷ []
-take-more {X} xs i x h e =
-    ap (λ n. take n xs) (let s : i + 1 ≡ suc i = omega arith in s) ∙ take-suc xs i x h
-    ∙ ap (λ (y : X). take i xs ++ y ∷ []) (sym e)
+take-more : {X : Type 0} (xs : List X) (i : ℕ) (d : X) → i < length xs
+    → take (i + 1) xs ≡ take i xs ++ get_or xs i d ∷ []
+take-more {X} xs i d h =
+    ap (λ n. take n xs) (let s : i + 1 ≡ suc i = omega arith in s) ∙ take-suc xs i d h
 
 -- one more of the ends has its problem
-pub priced-more : (ls : Layers) (kept : List Ends) (place : ℕ) (ends : Ends) (problems now : List Problem)
-    (p : Problem) → place < length kept → ends ≡ get_or kept place ends → ArePriced ls (take place kept) problems
-    → IsPriced ls ends p → now ≡ problems ++ p ∷ [] → ArePriced ls (take (place + 1) kept) now
-priced-more ls kept place ends problems now p below e are is grown =
+pub priced-more : (at ls : Layers) (kept : List Ends) (place : ℕ) (d : Ends) (problems now : List Problem)
+    (p : Problem) → at ≡ ls → place < length kept → ArePriced ls (take place kept) problems
+    → IsPriced at (get_or kept place d) p → now ≡ problems ++ p ∷ [] → ArePriced ls (take (place + 1) kept) now
+priced-more at ls kept place d problems now p same below are is grown =
+    let ends : Ends = get_or kept place d in
     subst (λ (l : List Problem). ArePriced ls (take (place + 1) kept) l) (sym grown)
-    (subst (λ (l : List Ends). ArePriced ls l (problems ++ p ∷ [])) (sym (take-more kept place ends below e))
-    (turns-more (λ (s : Unit {0}) ends p. IsPriced ls ends p) (λ s _. s) tt (take place kept) problems ends p are is))
+    (subst (λ (l : List Ends). ArePriced ls l (problems ++ p ∷ [])) (sym (take-more kept place d below))
+    (turns-more (λ (s : Unit {0}) ends p. IsPriced ls ends p) (λ s _. s) tt (take place kept) problems ends p are
+    (subst (λ (l : Layers). IsPriced l ends p) same is)))
 
 pub priced-all : (ls : Layers) (kept : List Ends) (place : ℕ) (problems : List Problem) → length kept ≤ place
     → ArePriced ls (take place kept) problems → ArePriced ls kept problems
@@ -88,12 +89,13 @@ pub scenario-none : (ls : Layers) (name : List ℕ) (problems : List Problem) (t
 scenario-none ls name problems text e =
     record { lines = []; are = tt; all = e ∙ sym (append-nil version_line) }
 
-pub scenario-more : (ls : Layers) (name : List ℕ) (problems : List Problem) (place : ℕ) (p : Problem)
-    (text now : List ℕ) → place < length problems → p ≡ get_or problems place p
-    → IsScenario ls name (take place problems) text → AddsProblem ls name p text now
+pub scenario-more : (ls : Layers) (name : List ℕ) (problems : List Problem) (place : ℕ) (d : Problem)
+    (text now : List ℕ) → place < length problems → IsScenario ls name (take place problems) text
+    → AddsProblem ls name (get_or problems place d) text now
     → IsScenario ls name (take (place + 1) problems) now
-scenario-more ls name problems place p text now below e is adds =
-    subst (λ (l : List Problem). IsScenario ls name l now) (sym (take-more problems place p below e))
+scenario-more ls name problems place d text now below is adds =
+    let p : Problem = get_or problems place d in
+    subst (λ (l : List Problem). IsScenario ls name l now) (sym (take-more problems place d below))
     (record {
       lines = is.lines ++ adds.line ∷ [];
       are = turns-more (λ (s : Unit {0}) p line. IsProblemLine name (query_of ls p) p.cost line) (λ s _. s) tt

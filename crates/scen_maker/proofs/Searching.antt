@@ -1,6 +1,6 @@
 -- What searches tell of the queries of entries.
-use Rattle.std.proofs.Common.{◌≡◌, refl, sym, ◌∙◌, subst, inl, inr, true, false, Bool, ℕ, ◌&&◌, ◌||◌}
-use Rattle.std.specs.Prelude.{if◌then◌else◌, nat_eq}
+use Rattle.std.proofs.Common.{◌≡◌, refl, subst, inl, inr, true, false, Bool, ℕ, ◌&&◌, ◌||◌}
+use Rattle.std.specs.Prelude.{if◌then◌else◌}
 use Rattle.grid_moves.specs.declared.Cell.{Cell}
 use Rattle.grid_moves.specs.Grid.{is_free}
 use Rattle.grid_moves.specs.Layers.{Layers, is_free_ground, is_on_map, query_grid}
@@ -11,6 +11,7 @@ use Rattle.edit_replay.specs.Session.{SessionData}
 use Rattle.edit_replay.specs.declared.engine.Engine.TheVariants.{Block}
 use Rattle.edit_replay.specs.declared.reply.Reply.{Reply}
 use Rattle.edit_replay.specs.declared.reply.Reply.TheVariants as reply
+use Rattle.grid_moves.proofs.Legal.{same_cell}
 use Rattle.plain_search.specs.Costs.{IsCostTo}
 use Rattle.scen_text.specs.declared.entry.Entry.{Entry}
 use Rattle.walk_judge.proofs.Judgements.{none_to_blocked, stands_costs}
@@ -94,10 +95,15 @@ module _ (ls : Layers) (entry : Entry) where
   pub settled_exists : (how : Settled) × IsSettled ls entry how
   settled_exists = settled-by (has_sides ls entry) refl
 
--- the sides were compared, and are the map's
-pub sides_are : (ls : Layers) (entry : Entry) (width height : ℕ) (same b : Bool) → width ≡ ls.land.width
-    → height ≡ ls.land.height → same ≡ (nat_eq entry.w width && nat_eq entry.h height) → same ≡ b
-    → has_sides ls entry ≡ b
-sides_are ls entry width height same b wide high is so =
-    subst (λ (n : ℕ). (nat_eq entry.w n && nat_eq entry.h ls.land.height) ≡ b) wide
-    (subst (λ (n : ℕ). (nat_eq entry.w width && nat_eq entry.h n) ≡ b) high (sym is ∙ so))
+-- a reply on these grids to a query between these cells, by their columns and rows
+pub found-costs : (on ls : Layers) (from to : Cell) (sx sy gx gy : ℕ) (r : Reply) → on ≡ ls → sx ≡ from.x
+    → sy ≡ from.y → gx ≡ to.x → gy ≡ to.y → (is_on_map ls from && is_on_map ls to) ≡ true
+    → are_free_ends ls from to ≡ true
+    → IsRight on (record { x = sx; y = sy }) (record { x = gx; y = gy }) (answer_of r)
+    → IsCostTo (query_grid ls from) from to (cost_in r)
+found-costs on ls from to sx sy gx gy r same a b d e inside free right =
+    right-costs ls from to r inside free
+    (subst (λ (k : Layers). IsRight k from to (answer_of r)) same
+    (subst (λ (s : Cell). IsRight on s to (answer_of r)) (same_cell (record { x = sx; y = sy }) from a b)
+    (subst (λ (t : Cell). IsRight on (record { x = sx; y = sy }) t (answer_of r))
+    (same_cell (record { x = gx; y = gy }) to d e) right)))

@@ -12,10 +12,10 @@ use Rattle.scen_text.specs.Names.{bytes_at}
 use Rattle.scen_maker.specs.Settling.{IsSettled, least_in}
 use Rattle.scen_maker.specs.declared.costs.Settled.{Settled}
 
--- the line of a problem on the map of this name, with the bucket and the length of this cost
-pub record IsProblemLine (name : List ℕ) (problem : Problem) (cost : Cost) (line : List ℕ) : Type 0 where
+-- the line of a query on the map of this name, with the bucket and the length of this cost
+pub record IsProblemLine (name : List ℕ) (query : Problem) (cost : Cost) (line : List ℕ) : Type 0 where
   pub listed : Listed
-  pub problem : listed.problem ≡ problem
+  pub problem : listed.problem ≡ query
   pub of_cost : IsOfCost cost listed
   pub is : line ≡ entry_line name listed
 

@@ -32,12 +32,12 @@ cost_in reply.Blocked = None
 
 -- the entry is meant for this map, its ends are these free cells, and a least walk between them costs so
 -- much, on the grid of the query; or none leads from one to the other
-pub record IsSearched (ls : Layers) (entry : Entry) (from to : Cell) (least : Option Cost) : Type 0 where
+pub record IsSearched (ls : Layers) (entry : Entry) (from to : Cell) (found : Option Cost) : Type 0 where
   pub sides : has_sides ls entry ≡ true
   pub start : from ≡ start_of entry
   pub goal : to ≡ goal_of entry
   pub free : are_free_ends ls from to ≡ true
-  pub least : IsCostTo (query_grid ls from) from to least
+  pub least : IsCostTo (query_grid ls from) from to found
 
 -- the entry is meant for another size; or an end lies outside, or is blocked; else its query was searched
 abbrev pub IsSettled : Layers → Entry → Settled → Type 0

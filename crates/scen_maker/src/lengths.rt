@@ -1,6 +1,6 @@
 //! A scenario again, with the least lengths.
 
-ghost use Rattle.std.specs.Prelude.{◌≡◌, ◌++◌, true, IfOk, OnOk};
+ghost use Rattle.std.specs.Prelude.{◌≡◌, ◌&&◌, true, is_some, OnOk};
 ghost use Rattle.line_work.specs.Sending.{HasHead, SendsWhole};
 ghost use Rattle.scen_lines.specs.Line.{version_line};
 ghost use Rattle.scen_text.specs.Names.{bytes_at};
@@ -53,13 +53,20 @@ impl Job for Lengths {
         steps: &mut Steps<L>,
     ) -> Result<(), NoMemory> {
         let least = self.costs.settle(alloc, item, steps)?.least();
-        self.all = self.all && least.is_some();
+        self.all = are_some(self.all, least);
         put_listed(lines, self.text.as_slice(), item, least)
     }
 
     fn close(&self, _lines: &mut Vec<u8>) -> Result<u8, NoMemory> {
         Ok(if self.all { 0 } else { 1 })
     }
+}
+
+// Whether there is a cost too.
+fn are_some(all: bool, least: Option<Cost>) -> bool
+    ensures { result ≡ (all && is_some least) }
+{
+    all && least.is_some()
 }
 
 // The bytes of a text in a range, as far as they are there.
