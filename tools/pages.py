@@ -1,14 +1,16 @@
 #!/usr/bin/env python3
 """The man page of jps and its completions for bash, zsh and fish, made from what the program itself says.
 
-    pages.py PROGRAM FOLDER
+    pages.py PROGRAM FOLDER NAME DOCS
 
-writes them below FOLDER, each at its usual place. Commands with their words and settings, statuses and
-faults are the rows of `--help`. What those leave open is asked of the program, which refuses words that it
+writes them below FOLDER, each at its usual place, for a program that is called NAME and whose docs will stand
+in the folder DOCS. Commands with their words and settings, statuses and faults are the rows of `--help`; the
+words beside those of the field are the table of docs/RULES.md. What those leave open is asked of the program, which refuses words that it
 does not know with status 2: whether a word is a file's name or a number, and which values a setting such as
 `engine=ENGINE` has.
 """
 
+import concurrent.futures
 import pathlib
 import re
 import subprocess
@@ -16,6 +18,7 @@ import sys
 import tempfile
 
 WORDS_REFUSED = 2
+RULES = pathlib.Path(__file__).resolve().parent.parent / "docs/RULES.md"
 
 
 def alternatives(text):
@@ -66,11 +69,16 @@ class Program:
         quiet = {"stdin": subprocess.DEVNULL, "stdout": subprocess.DEVNULL, "stderr": subprocess.DEVNULL}
         return subprocess.run([self.path, *words], cwd=self.nowhere, **quiet).returncode != WORDS_REFUSED
 
+    def accepted(self, lists):
+        """For each list of words whether the program accepts it, asked side by side."""
+        with concurrent.futures.ThreadPoolExecutor() as pool:
+            return list(pool.map(lambda words: self.accepts(*words), lists))
+
     def kinds(self, row):
         """For each word of the row whether it is a file's name or a number: 1 is both, a/b only the first."""
         ones = ["1"] * len(row.words)
-        named = ([*ones[:k], "a/b", *ones[k + 1 :]] for k in range(len(ones)))
-        return ["file" if self.accepts(row.name, *words) else "number" for words in named]
+        named = ([row.name, *ones[:k], "a/b", *ones[k + 1 :]] for k in range(len(ones)))
+        return ["file" if taken else "number" for taken in self.accepted(named)]
 
     def values(self, row, setting, sentences):
         """The setting with each of its values. Where `--help` has a name for them, they stand in a sentence
@@ -79,9 +87,9 @@ class Program:
         if not value.isupper():
             return [setting]
         near = " ".join(it for it in sentences if re.search(rf"\b{value}\b", it))
-        ones, tried = ["1"] * len(row.words), dict.fromkeys(re.findall(r"\b[a-z]+\b", near))
-        found = [f"{key}={it}" for it in tried if self.accepts(row.name, *ones, f"{key}={it}")]
-        return found or [f"{key}="]
+        tried = [f"{key}={it}" for it in dict.fromkeys(re.findall(r"\b[a-z]+\b", near))]
+        taken = self.accepted([row.name, *["1"] * len(row.words), it] for it in tried)
+        return [it for it, is_taken in zip(tried, taken) if is_taken] or [f"{key}="]
 
     def settings(self, row, sentences):
         named = [setting for group in row.settings for setting in group]
@@ -95,26 +103,33 @@ def roff(text):
     return re.sub(r"^([.'])", r"\\&\1", text)
 
 
-def man_row(row):
+def man_row(row, name):
     """A command with its words, names of values in italics."""
     settings = [f"[{'|'.join(group)}]" for group in row.settings]
     words = " ".join([*row.words, *settings])
-    return rf"\fBjps {roff(row.name)}\fR " + re.sub(r"\b([A-Z]+)\b", r"\\fI\1\\fR", roff(words))
+    return rf"\fB{roff(name)} {roff(row.name)}\fR " + re.sub(r"\b([A-Z]+)\b", r"\\fI\1\\fR", roff(words))
 
 
-def man_page(told, version):
+def glossary():
+    """The rows of the table `Words` of docs/RULES.md: a word, and the field's with what it is."""
+    told = RULES.read_text().split("\n## Words\n")[1].split("\n## ")[0]
+    rows = [[it.strip() for it in line.strip("|").split("|")] for line in told.split("\n") if line.startswith("|")]
+    return [(here.replace("`", ""), f"{field}: {what}") for here, field, what in rows[2:]]
+
+
+def man_page(told, version, name, docs):
     def items(pairs):
         return [line for head, body in pairs for line in (".TP", rf"\fB{roff(head)}\fR", roff(body))]
 
     lines = [
-        f'.TH JPS 1 "" "{roff(version)}" "User Commands"',
+        f'.TH {roff(name.upper())} 1 "" "{roff(version)}" "User Commands"',
         ".ad l",
         ".SH NAME",
-        r"jps \- least walks on grid maps, each proved to be least",
+        rf"{roff(name)} \- least walks (shortest paths) on grid maps, each proved to be least",
         ".SH SYNOPSIS",
-        *(line for row in told.rows for line in (man_row(row), ".br")),
+        *(line for row in told.rows for line in (man_row(row, name), ".br")),
         ".SH COMMANDS",
-        *(line for row in told.rows for line in (".TP", man_row(row), roff(row.told))),
+        *(line for row in told.rows for line in (".TP", man_row(row, name), roff(row.told))),
         ".SH DESCRIPTION",
         *(line for it in told.sentences for line in (".PP", roff(it))),
         ".SH EXIT STATUS",
@@ -122,6 +137,11 @@ def man_page(told, version):
         ".SH DIAGNOSTICS",
         "A fault is told by one line on standard error.",
         *items((it[0], it[1] if len(it) > 1 else "") for it in told.faults),
+        ".SH WORDS",
+        "Words of this page, the field's words for them, and what they mean.",
+        *items(glossary()),
+        ".SH SEE ALSO",
+        roff(f"{docs}/RULES.md has the rules, {docs}/FORMATS.md each file, line and status."),
     ]
     return "\n".join(it for it in lines if it) + "\n"
 
@@ -131,7 +151,7 @@ def quoted(text):
     return "'" + text.replace("'", r"'\''") + "'"
 
 
-BASH = r"""# Completion of jps for bash, made by ./install.
+BASH = r"""# Completion of @NAME@ for bash, made by ./install.
 _jps() {
     local word words=() kinds=() settings=() all=() before
     # bash takes `=` for a word of its own: engine=plus comes in three
@@ -161,11 +181,11 @@ _jps() {
     if [[ ${#COMPREPLY[@]} == 1 && ${COMPREPLY[0]} == *= ]]; then compopt -o nospace; fi
     if [[ $word == *=* && $COMP_WORDBREAKS == *=* ]]; then COMPREPLY=("${COMPREPLY[@]#*=}"); fi
 }
-complete -F _jps jps
+complete -F _jps @NAME@
 """
 
-ZSH = r"""#compdef jps
-# Completion of jps for zsh, made by ./install.
+ZSH = r"""#compdef @NAME@
+# Completion of @NAME@ for zsh, made by ./install.
 local -a kinds settings commands
 local at=$((CURRENT - 2)) setting
 commands=(
@@ -189,7 +209,7 @@ else
 fi
 """
 
-FISH = r"""# Completion of jps for fish, made by ./install.
+FISH = r"""# Completion of @NAME@ for fish, made by ./install.
 # whether so many words after the command's name stand before the one to complete
 function __jps_at --argument-names command count
     set -l words (commandline -opc)
@@ -201,7 +221,7 @@ function __jps_may --argument-names command count key
     test (count $words) -ge (math $count + 2); and test "$words[2]" = "$command"
     and not string match -q -- "$key=*" $words[3..-1]
 end
-complete -c jps -f
+complete -c @NAME@ -f
 """
 
 
@@ -230,7 +250,7 @@ def fish(rows, ask):
             key = setting.split("=")[0]
             files = " -F" if setting.endswith("=") else ""
             lines.append(f"-n '__jps_may {row.name} {len(row.words)} {key}' -a {setting}{files}")
-    return FISH + "".join(f"complete -c jps {it}\n" for it in lines)
+    return FISH + "".join(f"complete -c @NAME@ {it}\n" for it in lines)
 
 
 class Answers:
@@ -242,22 +262,22 @@ class Answers:
 
 
 def main():
-    if len(sys.argv) != 3:
-        sys.exit("usage: pages.py PROGRAM FOLDER")
-    folder = pathlib.Path(sys.argv[2])
+    if len(sys.argv) != 5:
+        sys.exit("usage: pages.py PROGRAM FOLDER NAME DOCS")
+    folder, name, docs = pathlib.Path(sys.argv[2]), sys.argv[3], sys.argv[4]
     with tempfile.TemporaryDirectory() as nowhere:
         program = Program(str(pathlib.Path(sys.argv[1]).resolve()), nowhere)
         told = Help(program.says("--help"))
         ask = Answers(program, told)
         version = program.says("--version").strip()
     for place, text in {
-        "share/man/man1/jps.1": man_page(told, version),
-        "share/bash-completion/completions/jps": bash(told.rows, ask),
-        "share/zsh/site-functions/_jps": zsh(told.rows, ask),
-        "share/fish/vendor_completions.d/jps.fish": fish(told.rows, ask),
+        f"share/man/man1/{name}.1": man_page(told, version, name, docs),
+        f"share/bash-completion/completions/{name}": bash(told.rows, ask),
+        f"share/zsh/site-functions/_{name}": zsh(told.rows, ask),
+        f"share/fish/vendor_completions.d/{name}.fish": fish(told.rows, ask),
     }.items():
         (folder / place).parent.mkdir(parents=True, exist_ok=True)
-        (folder / place).write_text(text)
+        (folder / place).write_text(text.replace("@NAME@", name))
 
 
 main()

@@ -31,18 +31,18 @@ def is_less(p, q):
     return x * x > 2 * y * y if x > 0 else 2 * y * y > x * x
 
 
-def moves(free, x, y, one):
+def moves(free, x, y, asked):
     for dx, dy in STEPS:
         if (x + dx, y + dy) not in free:
             continue
         if dx and dy:
             beside = ((x + dx, y) in free) + ((x, y + dy) in free)
-            if beside < (1 if one else 2):
+            if beside < asked:
                 continue
         yield (x + dx, y + dy), ((0, 1) if dx and dy else (1, 0))
 
 
-def least(free, start, goal, one):
+def least(free, start, goal, asked):
     """The least cost, or None where no walk exists."""
     known, done = {start: (0, 0)}, set()
     while True:
@@ -56,7 +56,7 @@ def least(free, start, goal, one):
         if at == goal:
             return known[at]
         done.add(at)
-        for to, cost in moves(free, *at, one):
+        for to, cost in moves(free, *at, asked):
             paid = (known[at][0] + cost[0], known[at][1] + cost[1])
             if to not in known or is_less(paid, known[to]):
                 known[to] = paid
@@ -83,8 +83,9 @@ def main():
                 continue
             with open(map_file, "w") as out:
                 out.write(f"type octile\nheight {height}\nwidth {width}\nmap\n" + "\n".join(rows) + "\n")
-            one = number % 2 == 1
-            rule = "rule=one" if one else "rule=none"
+            # Of the cells beside a diagonal move so many have to be free.
+            asked = number % 3
+            rule = f"rule={('both', 'one', 'none')[asked]}"
             ends = [str(n) for c in chance.sample(sorted(free), 2) for n in c]
             status, text = run("prove", map_file, *ends, rule)
             changes = [text]
@@ -106,7 +107,7 @@ def main():
                 accepted += 1
                 stated = change.split(b"\n")[2].split()
                 start, goal = (int(stated[1]), int(stated[2])), (int(stated[3]), int(stated[4]))
-                truth = least(free, start, goal, one)
+                truth = least(free, start, goal, asked)
                 told = "accepted none\n" if truth is None else f"accepted least {truth[0]} {truth[1]}\n"
                 if line.decode() != told:
                     wrong += 1

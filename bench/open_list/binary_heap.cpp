@@ -1,6 +1,6 @@
 // The turns of crates/open_list_bench with an indexed binary heap: the heap holds node numbers, and
 // each node knows its place in it, as a search needs to lower a node. How to build and run it
-// stands in docs/SPEED.md.
+// stands in docs/LAB.md.
 #include <cstdint>
 #include <cstdio>
 #include <cstdlib>

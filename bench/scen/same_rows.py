@@ -49,7 +49,7 @@ def main():
     words.add_argument("folder", type=pathlib.Path)
     words.add_argument("engines", nargs="+")
     words.add_argument("--walks", action="store_true")
-    words.add_argument("--rule", default="none", choices=["none", "one"])
+    words.add_argument("--rule", default="none", choices=["none", "one", "both"])
     words.add_argument("--queries", type=int, default=300)
     given = words.parse_args()
     maps = [m for m in sorted(given.folder.glob("*.map")) if m.with_suffix(".scen").exists()]

@@ -1,7 +1,7 @@
 #!/usr/bin/env python3
 """A page with the picture of one query by each engine, side by side, with the states that each one took.
 
-    page.py PROGRAM MAP SX SY GX GY [rule=one] >page.html
+    page.py PROGRAM MAP SX SY GX GY [rule=RULE] >page.html
 
 The page is HTML with the pictures in it, for any browser; it needs no other file. Each picture is what
 `jps draw .. show=trace` prints. Its caption has the number of states from the line of `jps query .. show=trace`.
@@ -13,21 +13,46 @@ import sys
 
 ENGINES = ["plain", "jps", "block", "plus"]
 
+# The colours of `jps draw`, and those in which the page shows them, so that the walk and the states stand out
+# from each ground (docs/FORMATS.md, "Other colours").
+COLOURS = {"#5c8a57": "#b9d3b3", "#f2b84b": "#a85400", "#d1352b": "#3d0000"}
+KEYS = [
+    ("#f4f1e8", "land"),
+    ("#c9bf8f", "swamp"),
+    ("#b9d3b3", "trees"),
+    ("#3b3f46", "out of bounds"),
+    ("#8fbfe0", "water"),
+    ("#a85400", "taken states"),
+    ("#3d0000", "the walk"),
+    ("#1f6f43", "start"),
+    ("#7b2d8b", "goal"),
+]
+
 PAGE = """<!DOCTYPE html>
-<html>
+<html lang="en">
 <head>
 <meta charset="utf-8"/>
+<meta name="viewport" content="width=device-width"/>
 <title>{title}</title>
 <style>
-body {{ font-family: sans-serif; margin: 2em; display: grid; gap: 1.5em }}
-body {{ grid-template-columns: repeat(auto-fill, minmax(16em, 1fr)) }}
-h1 {{ grid-column: 1 / -1; font-size: 1.2em; margin: 0 }}
+body {{ font: 1rem/1.4 sans-serif; margin: 2rem auto; max-width: 84rem; padding: 0 1rem; color: #222 }}
+h1 {{ font-size: 1.2rem; margin: 0 }}
+ul {{ list-style: none; display: flex; flex-wrap: wrap; gap: .3rem 1.2rem; padding: 0 }}
+li span {{ display: inline-block; width: 1em; height: 1em; border: 1px solid #666; vertical-align: -.15em }}
+main {{ display: grid; gap: 1.5rem; grid-template-columns: repeat(auto-fit, minmax(17rem, 1fr)) }}
 figure {{ margin: 0 }}
-</style>
+figcaption {{ padding-top: .3rem }}
+svg {{ display: block; width: 100%; height: auto; border: 1px solid #666 }}
+circle {{ stroke: #fff; stroke-width: .2 }}
+{colours}</style>
 </head>
 <body>
 <h1>{title}</h1>
-{figures}</body>
+<ul>
+{keys}</ul>
+<main>
+{figures}</main>
+</body>
 </html>
 """
 
@@ -56,14 +81,16 @@ def figure(program, engine, words):
 
 def main():
     if len(sys.argv) < 7:
-        sys.exit("usage: page.py PROGRAM MAP SX SY GX GY [rule=one]")
+        sys.exit("usage: page.py PROGRAM MAP SX SY GX GY [rule=RULE]")
     program, words = sys.argv[1], sys.argv[2:]
     answer = says(program, "query", *words).rstrip("\n")
     if answer in ("outside", "blocked"):
         sys.exit(f"page.py: {answer}: there is nothing to draw")
     title = html.escape(f"{' '.join(words)}: {' '.join(answer.split()[:3])}")
     figures = "".join(figure(program, engine, words) for engine in ENGINES)
-    print(PAGE.format(title=title, figures=figures), end="")
+    colours = "".join(f'[stroke="{drawn}"] {{ stroke: {shown} }}\n' for drawn, shown in COLOURS.items())
+    keys = "".join(f'<li><span style="background: {colour}"></span> {what}</li>\n' for colour, what in KEYS)
+    print(PAGE.format(title=title, colours=colours, keys=keys, figures=figures), end="")
 
 
 main()

@@ -1,4 +1,4 @@
-//! Every command by every engine and under both rules, each with its whole output; the program's own texts;
+//! Every command by every engine and under each rule, each with its whole output; the program's own texts;
 //! and files without an end.
 //!
 //! Want of memory is the one answer that no clause rules out: these calls show another one.
@@ -17,12 +17,13 @@ use std::sync::ledger::Blank;
 use std::test::Fail;
 
 // The lines of a drill under each rule, as an independent program prints them.
-const DRILLS: [&[u8]; 2] = [
+const DRILLS: [&[u8]; 3] = [
     b"drill walks 54 none 1 blocked 45 ok 27 same 23 cost 5848 2278\n",
     b"drill walks 54 none 1 blocked 45 ok 27 same 23 cost 3914 3239\n",
+    b"drill walks 55 none 0 blocked 45 ok 27 same 23 cost 3694 3235\n",
 ];
 
-// Under the rule that lets a diagonal pass one blocked cell, jumps stop between the two walls of the
+// Under the rules that let a diagonal pass one blocked cell, jumps stop between the two walls of the
 // crossing, from where such a diagonal leads behind one of them.
 fn answers_by(engine: &str, rule: &str) -> &'static [u8] {
     if engine == "engine=plain" || rule == "rule=none" {
@@ -138,7 +139,7 @@ fn help_comes_whole_and_a_failing_line_changes_no_status(rt: HostRuntime) -> Res
     let usage = b"usage: jps COMMAND ...\n  jps query MAP SX SY GX GY ";
     let last = b"\n  jps: read, jps: write, jps: memory\n";
     check_endless(alloc, &rt, "--help", 1, 0, (usage, last), b"")?;
-    check_endless(alloc, &rt, "--version", 1, 0, (b"jps 0.1.0", b"\n"), b"")?;
+    check_endless(alloc, &rt, "--version", 1, 0, (b"jps 1.0.0", b"\n"), b"")?;
     check_endless(alloc, &rt, "--hepl", 1, 2, (b"", b""), b"")?;
-    check_writes(alloc, &rt, on_map("--version", b""), b"jps 0.1.0\n")
+    check_writes(alloc, &rt, on_map("--version", b""), b"jps 1.0.0\n")
 }

@@ -28,7 +28,7 @@ pub(crate) const TWO_ROWS: &[u8] = b"type octile\nheight 2\nwidth 4\nmap\n....\n
 
 pub(crate) const ENGINES: [&str; 4] = ["engine=plain", "engine=jps", "engine=block", "engine=plus"];
 
-pub(crate) const RULES: [&str; 2] = ["rule=none", "rule=one"];
+pub(crate) const RULES: [&str; 3] = ["rule=none", "rule=one", "rule=both"];
 
 // A call: its words, parted by blanks; the files `m`, `s` and `t`, read in pieces of 16; its input; and which
 // read and which write fail, none where it is 0.

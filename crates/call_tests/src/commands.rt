@@ -29,7 +29,7 @@ fn certificates_are_printed_and_judged(rt: HostRuntime) -> Result<(), Fail> {
 }
 
 #[test]
-fn certificates_stand_under_both_rules(rt: HostRuntime) -> Result<(), Fail> {
+fn certificates_stand_under_each_rule(rt: HostRuntime) -> Result<(), Fail> {
     let alloc = rt.alloc();
     let prove = on_map("prove m 0 0 2 2", OPEN);
     let on_open = on_two("check m s", OPEN, DIAGONAL);

@@ -10,6 +10,8 @@ mod calls;
 #[cfg(test)]
 mod commands;
 #[cfg(test)]
+mod corners;
+#[cfg(test)]
 mod live;
 #[cfg(test)]
 mod readme;

@@ -164,7 +164,7 @@ fn a_refused_line_ends_the_call_at_once(rt: HostRuntime) -> Result<(), Fail> {
     check_order(alloc, &rt, &long, 3, b"jps: script T2 line 1\n", &[], 19)
 }
 
-// By each engine and under both rules the script has the same lines, but that jumps stop between two
+// By each engine and under each rule the script has the same lines, but that jumps stop between two
 // walls where a diagonal may pass one blocked cell.
 #[test]
 fn each_engine_answers(rt: HostRuntime) -> Result<(), Fail> {

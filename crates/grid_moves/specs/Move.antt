@@ -1,6 +1,6 @@
 -- Legal moves: eight directions, and a corner rule.
--- No corner is cut: Harabor and Grastien, SoCS 2012. One blocked cell may be passed: their AAAI 2011. Two may:
--- what most game libraries do unless told otherwise.
+-- No corner is cut: Harabor and Grastien, SoCS 2012. One blocked cell may be passed: their AAAI 2011. Two may
+-- be: Godot's grid unless told otherwise.
 use Rattle.std.specs.Prelude.{◌≡◌, ℕ, zero, suc, ◌+◌, Option, Some, None, Bool, true, false, nat_le, nat_eq}
 use Rattle.std.specs.Prelude.{not, ◌&&◌, ◌||◌, refl, List, [], ◌∷◌, if◌then◌else◌, option_and_then, unwrap_or}
 use Rattle.std.specs.Prelude.{codes}
@@ -161,7 +161,7 @@ past_the_pillar-one = refl
 pub past_the_pillar-both : is_legal (pillar Both) (record { x = 1; y = 0 }) (record { x = 2; y = 1 }) ≡ true
 past_the_pillar-both = refl
 
--- on `.@/@.` the move leads between two blocked cells, which one rule alone lets pass
+-- on `.@/@.` the move leads between two blocked cells, which only the rule `both` lets pass
 pub corner_touch : is_legal (grid_of 2 2 (codes ".@@.") Never) (record { x = 0; y = 0 })
     (record { x = 1; y = 1 }) ≡ false
 corner_touch = refl

@@ -57,9 +57,19 @@ no_corner_is_cut = refl
 pub one_may_be : leads_on One two_free NE ≡ true
 one_may_be = refl
 
--- where it is free alone, the diagonal to it is legal where two blocked cells may be passed
+-- where the cell to the north-east alone is free, the diagonal to it is legal where two blocked cells may be
+-- passed between
 abbrev one_free : Ring
-one_free = record { n = false; ne = true; e = false; se = false; s = false; sw = false; w = false; nw = false }
+one_free = record {
+  n = false;
+  ne = true;
+  e = false;
+  se = false;
+  s = false;
+  sw = false;
+  w = false;
+  nw = false;
+}
 
 pub one_blocks_both : leads_on One one_free NE ≡ false
 one_blocks_both = refl

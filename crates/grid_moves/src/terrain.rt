@@ -83,7 +83,7 @@ pub fn may_slip(rule: Corner) -> bool
     is_passable(rule, false, false)
 }
 
-/// The same for each bit of two words.
+/// `is_passable` for each of the 64 bits of two words.
 #[inline(always)]
 pub fn passable_bits(rule: Corner, these: u64, those: u64) -> u64
     ensures { (j : ℕ) → j < 64 → nat_eq (bit_at result j) 1

@@ -3,7 +3,7 @@
 //! A straight jump is a scan along a row or a column. It halts before the first cell that is blocked or at
 //! which a side opens, and the first stop follows from there: the goal where it is met before, else the mark.
 //! A diagonal jump looks at the cells around each cell that it comes to, and scans in both components.
-//! Harabor and Grastien, ICAPS 2014. There corners may not be cut; here each rule may hold.
+//! Harabor and Grastien, ICAPS 2014. There corners may not be cut; here any rule may hold.
 #![tactic(auto)]
 
 mod block;

@@ -217,6 +217,7 @@ sides_known g u v d legal h beside is s =
 
     by_rule : (s : Side)
         → sides_after g.corner (components_of g v d) s ≡ first_sides g.corner g v (turn s d)
-    by_rule s = by_cut g.corner (λ r. uncut r s ∙ sym (cond-false (may_cut g.corner) free_sides (sides_of g v (turn s d)) r))
+    by_rule s = by_cut g.corner
+        (λ r. uncut r s ∙ sym (cond-false (may_cut g.corner) free_sides (sides_of g v (turn s d)) r))
         (λ r. cond-true (may_cut g.corner) free_sides (sides_passed (components_of g v d) s) r
         ∙ sym (cond-true (may_cut g.corner) free_sides (sides_of g v (turn s d)) r))

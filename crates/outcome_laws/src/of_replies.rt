@@ -25,7 +25,7 @@ pub fn replies_cost_the_same()
     ensures { RepliesCostTheSame }
 {}
 
-/// The two grids of a map that a text spells are layers of one map, under either corner rule, and so are
+/// The two grids of a map that a text spells are layers of one map, under each corner rule, and so are
 /// those that edits leave of layers.
 pub fn layers_stay()
     ensures { LayersStay }

@@ -144,8 +144,8 @@ free_told corner entry at Start e = is_move (entry at e)
 free_told corner entry at (By d) e =
     if asks_behind corner (By d) then free_past entry at d e else is_move (entry at e)
 
--- A move that entries tell of is legal. So where a corner may be cut nothing more is asked of the cells beside
--- it, and what is allowed is told as under the rule that asks nothing of them.
+-- A move that entries tell of is legal. So where a corner may be cut nothing more is asked of the cells
+-- beside it, and what is allowed is told as under the rule that asks nothing of them.
 abbrev pub told_rule : Corner → Corner
 told_rule corner = if may_cut corner then Both else Never
 

@@ -89,7 +89,8 @@ module _ (g : GridData) (u v w : Cell) (d e : Dir) (l : Leads g u v d) (m : Lead
   along f x y h a b s = leads_over g x y f a b s (λ k. absurd (cc))
 
   -- the diagonal beside d passes, where the cell ahead is open, and where no corner is cut the one aside
-  passes_beside : (s : Side) → (may_cut g.corner ≡ false → is_open g u (quarter s d) ≡ true) → Passes g u (turn s d)
+  passes_beside : (s : Side) → (may_cut g.corner ≡ false → is_open g u (quarter s d) ≡ true)
+      → Passes g u (turn s d)
   passes_beside Left a k = passable g.corner _ _ (rw (turn_back Left d) open_ahead) a
   passes_beside Right a k = passable-left g.corner _ _ (rw (turn_back Right d) open_ahead) a
 

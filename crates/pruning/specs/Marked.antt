@@ -75,8 +75,8 @@ round_a_corner = refl
 pub round_no_corner : is_forced (pillar Never) (record { x = 2; y = 1 }) SE ≡ false
 round_no_corner = refl
 
--- at the end of a run, with a blocked cell ahead, the way past it is forced only where two blocked cells may be
--- passed between
+-- at the end of a run, with a blocked cell ahead, the way past it is forced only where two blocked cells may
+-- be passed between
 pub at_the_end : is_forced (grid_of 3 2 (codes "..@.@.") Both) (record { x = 1; y = 0 }) E ≡ true
 at_the_end = refl
 

@@ -13,7 +13,7 @@
 //! Where no corner is cut (Harabor and Grastien, SoCS 2012) the wall stands behind `x` on that side, and
 //! after a diagonal move nothing is forced. Where one blocked cell may be passed (AAAI 2011) it stands at
 //! the side of `x`, and after a diagonal move behind it; `n` is forced. So it is where two may be: which
-//! turns are kept hangs on whether a corner may be cut alone, and the rest of the rule is which moves are legal.
+//! turns are kept hangs on whether a corner may be cut alone; the rest of the rule is which moves are legal.
 
 ghost use Rattle.std.specs.Prelude.{◌≡◌, ◌+◌, ◌≤◌, ◌<◌, ◌∷◌, IsTrue, false, List, filter, length};
 ghost use Rattle.grid_moves.specs.Grid.{IsGrid, is_free};

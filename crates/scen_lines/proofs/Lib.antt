@@ -3,3 +3,4 @@ pub mod Fields
 pub mod Read
 pub mod Names
 pub mod Told
+pub mod Short

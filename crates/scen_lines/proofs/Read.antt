@@ -199,17 +199,17 @@ record HasPlainWords (listed : Listed) : Type 0 where
 plain_words : (entry : Named) → IsReadable entry → HasPlainWords entry.listed
 plain_words entry is = record {
   bucket = number_plain entry.listed.bucket is.bucket;
-  first = number_plain entry.listed.problem.w is.w;
+  first = number_plain entry.listed.problem.w is.problem.w;
   later = (
-    number_plain entry.listed.problem.h is.h,
+    number_plain entry.listed.problem.h is.problem.h,
     (
-      number_plain entry.listed.problem.sx is.sx,
+      number_plain entry.listed.problem.sx is.problem.sx,
       (
-        number_plain entry.listed.problem.sy is.sy,
+        number_plain entry.listed.problem.sy is.problem.sy,
         (
-          number_plain entry.listed.problem.gx is.gx,
+          number_plain entry.listed.problem.gx is.problem.gx,
           (
-            number_plain entry.listed.problem.gy is.gy,
+            number_plain entry.listed.problem.gy is.problem.gy,
             (length_plain entry.listed.units is.units, tt),
           ),
         ),
@@ -282,12 +282,12 @@ line_spells number place entry is =
       number = refl;
       bucket = number_read entry.listed.bucket is.bucket;
       name = refl;
-      w = number_read p.w is.w;
-      h = number_read p.h is.h;
-      sx = number_read p.sx is.sx;
-      sy = number_read p.sy is.sy;
-      gx = number_read p.gx is.gx;
-      gy = number_read p.gy is.gy;
+      w = number_read p.w is.problem.w;
+      h = number_read p.h is.problem.h;
+      sx = number_read p.sx is.problem.sx;
+      sy = number_read p.sy is.problem.sy;
+      gx = number_read p.gx is.problem.gx;
+      gy = number_read p.gy is.problem.gy;
       listed = length_read entry.listed.units is.units;
     }
 

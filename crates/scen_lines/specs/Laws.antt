@@ -1,10 +1,12 @@
 -- What holds of each scenario that is written.
-use Rattle.std.specs.Prelude.{◌≡◌, ℕ, ◌+◌, ◌^◌, ◌<◌, List, [], ◌∷◌, ◌++◌, length, slice_get, Some, decimal}
+use Rattle.std.specs.Prelude.{◌≡◌, ℕ, ◌+◌, ◌^◌, ◌<◌, ◌≤◌, List, [], ◌∷◌, ◌++◌, length, slice_get}
+use Rattle.std.specs.Prelude.{Some, decimal}
 use Rattle.root2_cost.specs.declared.Cost.{Cost}
 use Rattle.root2_cost.specs.Length.{eight_places}
 use Rattle.scen_text.specs.declared.entry.Entry.{Entry}
 use Rattle.scen_text.specs.Names.{IsName, bytes_at}
 use Rattle.scen_text.specs.Spelling.{Spells}
+use Rattle.scen_lines.specs.declared.line.Problem.{Problem}
 use Rattle.scen_lines.specs.declared.line.Listed.{Listed}
 use Rattle.scen_lines.specs.Line.{entry_line, version_line, IsOfCost}
 use Rattle.scen_lines.specs.Naming.{name_of}
@@ -14,16 +16,20 @@ pub record Named : Type 0 where
   pub name : List ℕ
   pub listed : Listed
 
--- the name stands in one line, and the numbers are no longer than a reader takes them
+-- the sides of the map and the ends are no longer than a reader takes them
+pub record AreShort (p : Problem) : Type 0 where
+  pub w : p.w < 10 ^ 9
+  pub h : p.h < 10 ^ 9
+  pub sx : p.sx < 10 ^ 9
+  pub sy : p.sy < 10 ^ 9
+  pub gx : p.gx < 10 ^ 9
+  pub gy : p.gy < 10 ^ 9
+
+-- the name stands in one line, and no number is longer than a reader takes it
 pub record IsReadable (entry : Named) : Type 0 where
   pub name : IsName entry.name
+  pub problem : AreShort entry.listed.problem
   pub bucket : entry.listed.bucket < 10 ^ 9
-  pub w : entry.listed.problem.w < 10 ^ 9
-  pub h : entry.listed.problem.h < 10 ^ 9
-  pub sx : entry.listed.problem.sx < 10 ^ 9
-  pub sy : entry.listed.problem.sy < 10 ^ 9
-  pub gx : entry.listed.problem.gx < 10 ^ 9
-  pub gy : entry.listed.problem.gy < 10 ^ 9
   pub units : entry.listed.units < 10 ^ 16
 
 -- the line of an entry
@@ -90,3 +96,8 @@ WordsNameMaps = (word : List ℕ) → IsName (name_of word)
 abbrev pub CostsTellLines : Type 0
 CostsTellLines = (cost : Cost) (p q : Listed) → IsOfCost cost p → IsOfCost cost q
     → (p.bucket ≡ q.bucket) × (p.units ≡ q.units)
+
+-- at most 2^24 moves of each kind have a bucket and a length that are read
+abbrev pub CostsAreReadable : Type 0
+CostsAreReadable = (cost : Cost) (entry : Named) → IsOfCost cost entry.listed → cost.a ≤ 2 ^ 24
+    → cost.b ≤ 2 ^ 24 → IsName entry.name → AreShort entry.listed.problem → IsReadable entry

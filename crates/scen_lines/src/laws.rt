@@ -1,6 +1,7 @@
 //! Laws of the scenarios that are written: each is the contract of a call that does nothing.
 
-ghost use Rattle.scen_lines.specs.Laws.{WrittenIsRead, NamesAreRead, WordsNameMaps, CostsTellLines};
+ghost use Rattle.scen_lines.specs.Laws.{WrittenIsRead, NamesAreRead, WordsNameMaps};
+ghost use Rattle.scen_lines.specs.Laws.{CostsTellLines, CostsAreReadable};
 
 /// What is written is read as the entries that were written, and as no others.
 pub fn written_is_read()
@@ -20,4 +21,9 @@ pub fn words_name_maps()
 /// Bucket and length of a cost are the only ones.
 pub fn costs_tell_lines()
     ensures { CostsTellLines }
+{}
+
+/// At most 2^24 moves of each kind have a bucket and a length that are read.
+pub fn costs_are_readable()
+    ensures { CostsAreReadable }
 {}

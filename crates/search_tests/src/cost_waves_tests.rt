@@ -105,7 +105,14 @@ fn a_walk_leads_between_two_walls(rt: HostRuntime) -> Result<(), Fail> {
     ];
     assert!(rt; are_found(&mut waves, &grid, Cell { x: 0, y: 0 }, &past)?);
     let grid = Grid::of_cells(rt.alloc(), 3, 2, b"..@.@.", Corner::One)?;
-    let cut_off = [at(0, 0, 0), at(1, 0, E), (None, 0), at(1, 0, S), (None, 0), (None, 0)];
+    let cut_off = [
+        at(0, 0, 0),
+        at(1, 0, E),
+        (None, 0),
+        at(1, 0, S),
+        (None, 0),
+        (None, 0),
+    ];
     assert!(rt; are_found(&mut waves, &grid, Cell { x: 0, y: 0 }, &cut_off)?);
     Ok(())
 }

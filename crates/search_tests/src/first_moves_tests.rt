@@ -76,8 +76,8 @@ fn leads_over<L: Ledger>(
     Ok(is_wanted(&found, wanted) && is_wanted(&by_pass, wanted))
 }
 
-// From the upper left of an open map; and where two blocked cells touch, no move leads anywhere, unless both may
-// be passed.
+// From the upper left of an open map; and where two blocked cells touch, no move leads anywhere, unless both
+// may be passed.
 #[test]
 fn rows_are_cut_into_runs(rt: HostRuntime) -> Result<(), Fail> {
     let runs = [

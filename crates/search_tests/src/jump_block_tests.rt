@@ -194,15 +194,19 @@ fn between_rows(alloc: Global, corner: Corner) -> Result<bool, NoMemory> {
         let cells = [
             Cell { x: 0, y: 1 },
             Cell { x: 1025, y: 1 },
-            Cell { x: x.saturating_sub(2), y: 1 },
+            Cell {
+                x: x.saturating_sub(2),
+                y: 1,
+            },
             Cell { x: x + 1, y: 1 },
         ];
-        for y in [0u16, 2] {
+        for y in 0..3u16 {
             let east = (Cell { x: x - 1, y }, Cell { x, y: 1 });
             let west = (Cell { x, y }, Cell { x: x - 1, y: 1 });
-            if !are_alike_at_walls(&mut grid, &mut bits, east, &cells, goal)
-                || !are_alike_at_walls(&mut grid, &mut bits, west, &cells, goal)
-            {
+            if !are_alike_at_walls(&mut grid, &mut bits, east, &cells, goal) {
+                return Ok(false);
+            }
+            if !are_alike_at_walls(&mut grid, &mut bits, west, &cells, goal) {
                 return Ok(false);
             }
         }
@@ -241,15 +245,19 @@ fn between_columns(alloc: Global, corner: Corner) -> Result<bool, NoMemory> {
         let cells = [
             Cell { x: 1, y: 0 },
             Cell { x: 1, y: 1025 },
-            Cell { x: 1, y: y.saturating_sub(2) },
+            Cell {
+                x: 1,
+                y: y.saturating_sub(2),
+            },
             Cell { x: 1, y: y + 1 },
         ];
-        for x in [0u16, 2] {
+        for x in 0..3u16 {
             let south = (Cell { x, y: y - 1 }, Cell { x: 1, y });
             let north = (Cell { x, y }, Cell { x: 1, y: y - 1 });
-            if !are_alike_at_walls(&mut grid, &mut bits, south, &cells, goal)
-                || !are_alike_at_walls(&mut grid, &mut bits, north, &cells, goal)
-            {
+            if !are_alike_at_walls(&mut grid, &mut bits, south, &cells, goal) {
+                return Ok(false);
+            }
+            if !are_alike_at_walls(&mut grid, &mut bits, north, &cells, goal) {
                 return Ok(false);
             }
         }

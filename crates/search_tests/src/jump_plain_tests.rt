@@ -118,8 +118,8 @@ fn beside_a_wall(rt: HostRuntime) -> Result<(), Fail> {
     Ok(())
 }
 
-// On `..@/.@.` and on `.@/@.`: between two blocked cells, from the end of a run and from the start, where that
-// is a move.
+// On `..@/.@.` and on `.@/@.`: between two blocked cells, from the end of a run and from the start, where
+// that is a move.
 #[test]
 fn between_two_walls(rt: HostRuntime) -> Result<(), Fail> {
     let rows = [
@@ -148,8 +148,8 @@ fn between_two_walls(rt: HostRuntime) -> Result<(), Fail> {
 }
 
 // On `......./....@..` the goal stands before the mark. On `..../..@.` its row is met where the way to it
-// is closed. On `..@./..../..../....` a mark stands before it on its own diagonal. Where a corner may be cut a
-// mark stands one cell before.
+// is closed. On `..@./..../..../....` a mark stands before it on its own diagonal. Where a corner may be cut
+// a mark stands one cell before.
 #[test]
 fn goals_and_marks(rt: HostRuntime) -> Result<(), Fail> {
     let wide = Grid::of_cells(rt.alloc(), 7, 2, b"...........@..", Corner::Never)?;

@@ -129,52 +129,89 @@ fn a_script_is_answered_in_turn(rt: HostRuntime) -> Result<(), Fail> {
         across,
         Line::Edit(3, 0, Ground::Blocked, EditReply::Outside),
     ];
-    check_script(rt.alloc(), &rt, text, Engine::Plain, Corner::Never, &lines)
+    for corner in [Corner::Never, Corner::One, Corner::Both] {
+        check_script(rt.alloc(), &rt, text, Engine::Plain, corner, &lines)?;
+    }
+    Ok(())
 }
 
-// The same, by jumps and by tables: two states are taken on the way across, and one where the middle is
-// blocked, as none of its jumps stops.
+// The same, by jumps and by tables: two states are taken on the way across, with the middle three where a
+// corner may be cut, and one where the middle is blocked, as none of its jumps stops.
 #[test]
 fn a_script_is_answered_by_jumps(rt: HostRuntime) -> Result<(), Fail> {
     let text = b"type octile\nheight 3\nwidth 3\nmap\n.@.\n...\n.@.\n";
-    let across = Line::Query((0, 1, 2, 1), (3, 2, 0, 2));
-    let lines = [
-        across,
-        Line::Edit(1, 1, Ground::Blocked, EditReply::Done),
-        Line::Query((0, 1, 2, 1), (2, 0, 0, 1)),
-        Line::Edit(1, 1, Ground::Land, EditReply::Done),
-        across,
-        Line::Query((1, 0, 2, 1), (1, 0, 0, 0)),
-    ];
-    check_script(rt.alloc(), &rt, text, Engine::Jps, Corner::Never, &lines)?;
-    check_script(rt.alloc(), &rt, text, Engine::Plus, Corner::Never, &lines)
+    for (corner, taken) in [(Corner::Never, 2), (Corner::One, 3), (Corner::Both, 3)] {
+        let across = Line::Query((0, 1, 2, 1), (3, 2, 0, taken));
+        let lines = [
+            across,
+            Line::Edit(1, 1, Ground::Blocked, EditReply::Done),
+            Line::Query((0, 1, 2, 1), (2, 0, 0, 1)),
+            Line::Edit(1, 1, Ground::Land, EditReply::Done),
+            across,
+            Line::Query((1, 0, 2, 1), (1, 0, 0, 0)),
+        ];
+        check_script(rt.alloc(), &rt, text, Engine::Jps, corner, &lines)?;
+        check_script(rt.alloc(), &rt, text, Engine::Plus, corner, &lines)?;
+    }
+    Ok(())
 }
 
-// On the map `.WW/.WW` queries run among water cells or among land cells, and edits move the shore.
+// On a map whose free cells touch at their corners alone, a middle one is blocked and another freed.
+#[test]
+fn moves_between_blocked_cells(rt: HostRuntime) -> Result<(), Fail> {
+    let text = b"type octile\nheight 3\nwidth 3\nmap\n.@.\n@.@\n.@.\n";
+    let lines = [
+        Line::Query((0, 0, 2, 0), (3, 0, 2, 3)),
+        Line::Edit(1, 1, Ground::Blocked, EditReply::Done),
+        Line::Query((0, 0, 2, 0), (2, 0, 0, 1)),
+        Line::Edit(1, 0, Ground::Land, EditReply::Done),
+        Line::Query((0, 0, 2, 0), (3, 2, 0, 2)),
+        Line::Edit(1, 0, Ground::Blocked, EditReply::Done),
+        Line::Edit(1, 1, Ground::Land, EditReply::Done),
+        Line::Query((0, 0, 2, 2), (3, 0, 2, 3)),
+    ];
+    for engine in [Engine::Jps, Engine::Block, Engine::Plus] {
+        check_script(rt.alloc(), &rt, text, engine, Corner::Both, &lines)?;
+    }
+    Ok(())
+}
+
+// On the map `.WW/.WW` queries run among water cells or among land cells, and edits move the shore: at last
+// the water touches at a corner, between two land cells.
 #[test]
 fn water_is_a_layer_of_its_own(rt: HostRuntime) -> Result<(), Fail> {
     let text = b"type octile\nheight 2\nwidth 3\nmap\n.WW\n.WW\n";
-    let lines = [
-        Line::Query((1, 0, 2, 1), (3, 0, 1, 2)),
-        Line::Query((0, 0, 1, 0), (2, 0, 0, 0)),
-        Line::Edit(0, 0, Ground::Water, EditReply::Done),
-        Line::Query((0, 0, 1, 0), (3, 1, 0, 2)),
-        Line::Edit(0, 0, Ground::Water, EditReply::Same),
-        Line::Query((0, 0, 0, 1), (2, 0, 0, 0)),
-        Line::Edit(1, 0, Ground::Land, EditReply::Done),
-        Line::Query((0, 0, 2, 0), (2, 0, 0, 1)),
-        Line::Edit(2, 0, Ground::Blocked, EditReply::Done),
-        Line::Query((2, 0, 0, 0), (1, 0, 0, 0)),
-    ];
-    check_script(rt.alloc(), &rt, text, Engine::Plain, Corner::Never, &lines)
+    let none = (2, 0, 0, 1);
+    let between = (3, 0, 2, 3);
+    for (corner, told) in [
+        (Corner::Never, none),
+        (Corner::One, none),
+        (Corner::Both, between),
+    ] {
+        let lines = [
+            Line::Query((1, 0, 2, 1), (3, 0, 1, 2)),
+            Line::Query((0, 0, 1, 0), (2, 0, 0, 0)),
+            Line::Edit(0, 0, Ground::Water, EditReply::Done),
+            Line::Query((0, 0, 1, 0), (3, 1, 0, 2)),
+            Line::Edit(0, 0, Ground::Water, EditReply::Same),
+            Line::Query((0, 0, 0, 1), (2, 0, 0, 0)),
+            Line::Edit(1, 0, Ground::Land, EditReply::Done),
+            Line::Query((0, 0, 2, 0), told),
+            Line::Edit(2, 0, Ground::Blocked, EditReply::Done),
+            Line::Query((2, 0, 0, 0), (1, 0, 0, 0)),
+        ];
+        check_script(rt.alloc(), &rt, text, Engine::Plain, corner, &lines)?;
+    }
+    Ok(())
 }
 
-// On the map `.../.@./...` the corner is passed under one rule alone.
+// On the map `.../.@./...` the corner is passed where it may be cut.
 #[test]
 fn a_corner_is_passed(rt: HostRuntime) -> Result<(), Fail> {
     let text = b"type octile\nheight 3\nwidth 3\nmap\n...\n.@.\n...\n";
     let round = [Line::Query((0, 0, 2, 2), (3, 4, 0, 8))];
     check_script(rt.alloc(), &rt, text, Engine::Plain, Corner::Never, &round)?;
     let past = [Line::Query((0, 0, 2, 2), (3, 2, 1, 6))];
-    check_script(rt.alloc(), &rt, text, Engine::Plain, Corner::One, &past)
+    check_script(rt.alloc(), &rt, text, Engine::Plain, Corner::One, &past)?;
+    check_script(rt.alloc(), &rt, text, Engine::Plain, Corner::Both, &past)
 }

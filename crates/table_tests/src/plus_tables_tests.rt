@@ -53,6 +53,13 @@ fn wall_has(alloc: Global, corner: Corner, rows: &[Row]) -> Result<bool, NoMemor
     Ok(have(&tables, rows))
 }
 
+// Whether the tables of the map `..@/.@.` have these.
+fn corner_has(alloc: Global, corner: Corner, rows: &[Row]) -> Result<bool, NoMemory> {
+    let grid = Grid::of_cells(alloc, 3, 2, b"..@.@.", corner)?;
+    let tables = Tables::build(alloc, &grid)?;
+    Ok(have(&tables, rows))
+}
+
 // On that map: to the mark behind the wall, or above it where a corner may be cut, and to the border.
 #[test]
 fn entries_beside_a_wall(rt: HostRuntime) -> Result<(), Fail> {
@@ -72,6 +79,30 @@ fn entries_beside_a_wall(rt: HostRuntime) -> Result<(), Fail> {
         ((1, 0), Dir::SE, -1),
     ];
     assert!(rt; wall_has(rt.alloc(), Corner::One, &rows)?);
+    assert!(rt; wall_has(rt.alloc(), Corner::Both, &rows)?);
+    Ok(())
+}
+
+// On that map a way leads between two blocked cells, from (1,0) to (2,1): where both may be passed (1,0) is
+// marked for E and NE, though it is the last cell of its row.
+#[test]
+fn entries_between_two_walls(rt: HostRuntime) -> Result<(), Fail> {
+    let rows = [
+        ((0, 0), Dir::E, 1),
+        ((0, 1), Dir::NE, 1),
+        ((1, 0), Dir::E, 0),
+        ((1, 0), Dir::SE, -1),
+        ((2, 1), Dir::NW, 1),
+    ];
+    assert!(rt; corner_has(rt.alloc(), Corner::Both, &rows)?);
+    let rows = [
+        ((0, 0), Dir::E, -1),
+        ((0, 1), Dir::NE, -1),
+        ((1, 0), Dir::E, 0),
+        ((1, 0), Dir::SE, 0),
+        ((2, 1), Dir::NW, 0),
+    ];
+    assert!(rt; corner_has(rt.alloc(), Corner::One, &rows)?);
     Ok(())
 }
 
@@ -105,5 +136,16 @@ fn goals_and_marks(rt: HostRuntime) -> Result<(), Fail> {
     check_stop(&rt, &grid, &tables, Cell { x: 0, y: 0 }, goal, 1);
     check_stop(&rt, &grid, &tables, next, goal, 2);
     check_stop(&rt, &grid, &tables, next, Cell { x: 3, y: 2 }, 1);
+    Ok(())
+}
+
+// On `.@./@.@/.@.`, where two blocked cells may be passed between, a mark stands before the goal.
+#[test]
+fn marks_between_blocked_cells(rt: HostRuntime) -> Result<(), Fail> {
+    let grid = Grid::of_cells(rt.alloc(), 3, 3, b".@.@.@.@.", Corner::Both)?;
+    let tables = Tables::build(rt.alloc(), &grid)?;
+    let (next, goal) = (Cell { x: 1, y: 1 }, Cell { x: 2, y: 2 });
+    check_stop(&rt, &grid, &tables, Cell { x: 0, y: 0 }, goal, 1);
+    check_stop(&rt, &grid, &tables, next, goal, 1);
     Ok(())
 }

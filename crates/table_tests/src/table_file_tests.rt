@@ -1,4 +1,4 @@
-//! The file of a map of three cells in a row, byte by byte.
+//! The files of a map of three cells in a row and of one of two free cells that touch, byte by byte.
 
 use grid_moves::{Cell, Corner, Dir, Grid, Ground, Layers};
 use plus_tables::Tables;
@@ -24,6 +24,21 @@ fn three_cells(alloc: Global) -> Result<Vec<u8>, NoMemory> {
     Ok(text)
 }
 
+// On the map `.@/@.`, where two blocked cells may be passed between, one move leads each way.
+fn two_that_touch(alloc: Global) -> Result<Vec<u8>, NoMemory> {
+    let mut text = Vec::new(alloc);
+    for part in [
+        b"JPSPLUS1\x02\x02\x00\x02\x00".as_slice(),
+        b"\x00\x00\x00\x00\x00\x00\xff\xff\x00\x00\x00\x00\x00\x00\x00\x00",
+        [0; 32].as_slice(),
+        b"\x00\x00\x00\x00\x00\x00\x00\x00\x00\x00\x00\x00\x00\x00\xff\xff",
+        [0; 64].as_slice(),
+    ] {
+        text.extend_from_slice(part)?;
+    }
+    Ok(text)
+}
+
 // A place, the byte that is put there, if the text has it, and the length that the text is cut to.
 type Change = (usize, u8, usize);
 
@@ -39,19 +54,27 @@ fn changed(alloc: Global, change: Change) -> Result<Vec<u8>, NoMemory> {
 }
 
 // What is written of the tables that are built.
-fn written(alloc: Global) -> Result<Vec<u8>, NoMemory> {
-    let layers = Layers::of_cells(alloc, 3, 1, b"...", Corner::Never)?;
+fn written(alloc: Global, layers: &Layers, corner: Corner) -> Result<Vec<u8>, NoMemory> {
     let (land, water) = layers.both();
     let (first, second) = (Tables::build(alloc, land)?, Tables::build(alloc, water)?);
     let mut out = Vec::new(alloc);
-    write_tables(&first, &second, Corner::Never, &mut out)?;
+    write_tables(&first, &second, corner, &mut out)?;
     Ok(out)
 }
 
 #[test]
 fn each_byte_of_a_small_file(rt: HostRuntime) -> Result<(), Fail> {
-    let (out, text) = (written(rt.alloc())?, three_cells(rt.alloc())?);
-    assert_eq!(rt; out.as_slice(), text.as_slice());
+    let layers = Layers::of_cells(rt.alloc(), 3, 1, b"...", Corner::Never)?;
+    let out = written(rt.alloc(), &layers, Corner::Never)?;
+    assert_eq!(rt; out.as_slice(), three_cells(rt.alloc())?.as_slice());
+    Ok(())
+}
+
+#[test]
+fn each_byte_where_two_may_be_passed(rt: HostRuntime) -> Result<(), Fail> {
+    let layers = Layers::of_cells(rt.alloc(), 2, 2, b".@@.", Corner::Both)?;
+    let out = written(rt.alloc(), &layers, Corner::Both)?;
+    assert_eq!(rt; out.as_slice(), two_that_touch(rt.alloc())?.as_slice());
     Ok(())
 }
 
@@ -102,6 +125,11 @@ fn the_first_difference_is_named(rt: HostRuntime) {
         ((0, b'J', 12), never, Err(TableFault::Head)),
         ((11, 2, 109), never, Err(TableFault::Head)),
         ((0, b'J', 109), Corner::One, Err(TableFault::Head)),
+        ((8, 1, 109), Corner::One, Ok(())),
+        ((8, 2, 109), Corner::One, Err(TableFault::Head)),
+        ((8, 2, 109), Corner::Both, Ok(())),
+        ((8, 1, 109), Corner::Both, Err(TableFault::Head)),
+        ((8, 3, 109), Corner::Both, Err(TableFault::Head)),
     ] {
         assert!(rt; refusal(rt.alloc(), change, corner) == answer, "{change:?}");
     }

@@ -43,6 +43,7 @@ fn compare(rt: &impl Abort, told: (u64, &[i16]), expected: (u64, &[i16])) {
 fn block_and_free<L: Ledger>(
     alloc: Global,
     rt: &impl Abort,
+    corner: Corner,
     open: &[i16],
     blank: Blank,
 ) -> Result<(), NoMemory>
@@ -51,7 +52,7 @@ fn block_and_free<L: Ledger>(
     requires some { 0 < L.parts }
 {
     let mut steps = Steps::<L>::new(blank);
-    let mut grid = Grid::of_cells(alloc, 3, 1, b"...", Corner::Never)?;
+    let mut grid = Grid::of_cells(alloc, 3, 1, b"...", corner)?;
     let mut tables = Tables::build(alloc, &grid)?;
     let middle = Cell { x: 1, y: 0 };
     let changed = edit(&mut grid, &mut tables, middle, false, &mut steps);
@@ -68,7 +69,9 @@ fn the_middle_of_a_row(rt: HostRuntime) -> Result<(), Fail> {
     let open = [
         0, 0, -2, 0, 0, 0, 0, 0, 0, 0, -1, 0, 0, 0, -1, 0, 0, 0, 0, 0, 0, 0, -2, 0,
     ];
-    block_and_free::<Brand>(rt.alloc(), &rt, &open, Blank::new(1))?;
+    for corner in [Corner::Never, Corner::One, Corner::Both] {
+        block_and_free::<Brand>(rt.alloc(), &rt, corner, &open, Blank::new(1))?;
+    }
     Ok(())
 }
 
@@ -160,7 +163,7 @@ fn edits_agree<L: Ledger>(
 
 #[test]
 fn five_hundred_edits(rt: HostRuntime) -> Result<(), Fail> {
-    for corner in [Corner::Never, Corner::One] {
+    for corner in [Corner::Never, Corner::One, Corner::Both] {
         assert!(rt; edits_agree::<Brand>(rt.alloc(), 64, 25, 500, corner, Blank::new(1))?);
     }
     Ok(())
@@ -169,7 +172,7 @@ fn five_hundred_edits(rt: HostRuntime) -> Result<(), Fail> {
 // In an open map changes spread over more than 64 rows, whose walks keep abreast.
 #[test]
 fn edits_of_an_open_map(rt: HostRuntime) -> Result<(), Fail> {
-    for corner in [Corner::Never, Corner::One] {
+    for corner in [Corner::Never, Corner::One, Corner::Both] {
         assert!(rt; edits_agree::<Brand>(rt.alloc(), 200, 0, 20, corner, Blank::new(1))?);
     }
     Ok(())

@@ -14,13 +14,13 @@ use std::test::Fail;
 // The bytes that take the place of another.
 const OTHERS: &[u8] = b"0123456789 ,\nnx";
 
-// Rows of at most 8 cells, and whether a diagonal move may pass one blocked cell.
+// Rows of at most 8 cells, and the corner rule.
 #[derive(Drop)]
 struct Map {
     width: usize,
     height: usize,
     cells: Vec<u8>,
-    one: bool,
+    corner: Corner,
 }
 
 // How a text was judged: its claim is accepted and true, or accepted and false, or it is refused.
@@ -62,7 +62,7 @@ fn draw(state: &mut u64) -> u64 {
 }
 
 // A map with about a quarter of its cells blocked.
-fn drawn(alloc: Global, state: &mut u64, one: bool) -> Result<Map, AllocError> {
+fn drawn(alloc: Global, state: &mut u64, corner: Corner) -> Result<Map, AllocError> {
     let width = if draw(state) % 2 == 0 { 3 } else { 4 };
     let height = if draw(state) % 2 == 0 { 2 } else { 3 };
     let mut cells = Vec::new(alloc);
@@ -73,7 +73,7 @@ fn drawn(alloc: Global, state: &mut u64, one: bool) -> Result<Map, AllocError> {
         width,
         height,
         cells,
-        one,
+        corner,
     })
 }
 
@@ -90,10 +90,10 @@ fn may_step(map: &Map, x: usize, y: usize, aside: usize, down: usize) -> bool {
         return is_open(map, to_x, to_y);
     }
     let (beside, below) = (is_open(map, to_x, y), is_open(map, x, to_y));
-    let passes = if map.one {
-        beside || below
-    } else {
-        beside && below
+    let passes = match map.corner {
+        Corner::Never => beside && below,
+        Corner::One => beside || below,
+        Corner::Both => true,
     };
     passes && is_open(map, to_x, to_y)
 }
@@ -307,9 +307,8 @@ fn grid_of(alloc: Global, map: &Map) -> Result<Option<Grid>, AllocError> {
     if width < 1 || width > 4 || height < 1 || height > 3 || map.cells.len() != height * width {
         return Ok(None);
     }
-    let corner = if map.one { Corner::One } else { Corner::Never };
     let cells = map.cells.as_slice();
-    let grid = Grid::of_cells(alloc, width as u16, height as u16, cells, corner)?;
+    let grid = Grid::of_cells(alloc, width as u16, height as u16, cells, map.corner)?;
     Ok(Some(grid))
 }
 
@@ -352,9 +351,11 @@ fn what_is_accepted_is_true(rt: HostRuntime) -> Result<(), Fail> {
         wrong: 0,
         refused: 0,
     };
-    for number in 0..400 {
-        let map = drawn(rt.alloc(), &mut state, number % 2 == 1)?;
-        judge_map(rt.alloc(), &map, &mut state, &mut counts)?;
+    for _round in 0..140 {
+        for corner in [Corner::Never, Corner::One, Corner::Both] {
+            let map = drawn(rt.alloc(), &mut state, corner)?;
+            judge_map(rt.alloc(), &map, &mut state, &mut counts)?;
+        }
     }
     let Counts {
         least,

@@ -1,3 +1,4 @@
+use grid_moves::Corner;
 use std::alloc::{AllocError, Global};
 use std::test::*;
 use word_list::*;
@@ -111,7 +112,7 @@ fn a_query_is_read_with_its_settings(rt: HostRuntime) -> Result<(), Fail> {
             assert_eq!(rt; (sx, sy, gx, gy), (7, 1, 2, 3));
             assert_eq!(rt; settings.pick, Pick::Jps);
             assert_eq!(rt; settings.show, Show::Trace);
-            assert!(rt; settings.one);
+            assert_eq!(rt; settings.rule, Corner::One);
         }
         _ => assert!(rt; false, "no query"),
     }
@@ -139,48 +140,49 @@ fn a_map_stands_before_its_script_or_scenario(rt: HostRuntime) -> Result<(), Fai
     let (t, ab) = (Some("t"), Some("a=b"));
     let (plain, plus) = (Pick::Plain, Pick::Plus);
     let (points, cells, taken) = (Show::Points, Show::Cells, Show::Taken);
+    let none = Corner::Never;
     let solved = ("solve", "m", None, "s");
     let rows = ("scen", "m", None, "s");
-    let calls: [(&str, (&str, &str, Option<&str>, &str), (Pick, Show, bool)); 8] = [
-        ("solve m s show=cells", solved, (plain, cells, false)),
-        ("scen m s rule=none", rows, (plain, points, false)),
+    let calls: [(&str, (&str, &str, Option<&str>, &str), (Pick, Show, Corner)); 8] = [
+        ("solve m s show=cells", solved, (plain, cells, none)),
+        ("scen m s rule=none", rows, (plain, points, none)),
         (
             "scen m s engine=jps show=taken",
             rows,
-            (Pick::Jps, taken, false),
+            (Pick::Jps, taken, none),
         ),
         (
             "live m tables=a=b engine=plus",
             ("live", "m", ab, ""),
-            (plus, points, false),
+            (plus, points, none),
         ),
         (
-            "live m engine=plus rule=one tables=a=b",
+            "live m engine=plus rule=both tables=a=b",
             ("live", "m", ab, ""),
-            (plus, points, true),
+            (plus, points, Corner::Both),
         ),
         (
             "query m 0 0 1 1 tables=t engine=plus",
             ("query", "m", t, ""),
-            (plus, points, false),
+            (plus, points, none),
         ),
         (
             "solve m s engine=plus tables=t",
             ("solve", "m", t, "s"),
-            (plus, points, false),
+            (plus, points, none),
         ),
         (
             "scen m s tables=t show=taken engine=plus",
             ("scen", "m", t, "s"),
-            (plus, taken, false),
+            (plus, taken, none),
         ),
     ];
     for (line, files, chosen) in calls {
         let words = words_of(rt.alloc(), line)?;
         match read_words(&words) {
-            Ok((request, Settings { pick, show, one })) => {
+            Ok((request, Settings { pick, show, rule })) => {
                 assert_eq!(rt; files_of(request), files, "{line}");
-                assert_eq!(rt; (pick, show, one), chosen, "{line}");
+                assert_eq!(rt; (pick, show, rule), chosen, "{line}");
             }
             Err(_) => assert!(rt; false, "{line}"),
         }
