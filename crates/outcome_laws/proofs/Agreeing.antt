@@ -214,14 +214,14 @@ module _ (ls : Layers) (are : AreLayers ls) where
   record AreEntries (below : List (List ℕ)) : Type 0 where
     named : List Named
     all : lines_of named ≡ concat below
-    costed : AreCosted ls named
+    are : AreCosted ls named
 
   with_line : (below : List (List ℕ)) (line : List ℕ) (n : Named) → line_of n ≡ line → IsCosted ls n
       → AreEntries below → AreEntries (line ∷ below)
   with_line below line n e is others = record {
     named = n ∷ others.named;
     all = ap (λ (l : List ℕ). l ++ lines_of others.named) e ∙ ap (λ (l : List ℕ). line ++ l) others.all;
-    costed = (is, others.costed);
+    are = (is, others.are);
   }
 
   without_line : (below : List (List ℕ)) (line : List ℕ) → line ≡ [] → AreEntries below
@@ -229,12 +229,12 @@ module _ (ls : Layers) (are : AreLayers ls) where
   without_line below line e others = record {
     named = others.named;
     all = others.all ∙ ap (λ (l : List ℕ). l ++ concat below) (sym e);
-    costed = others.costed;
+    are = others.are;
   }
 
   agreed_below : (below : List (List ℕ)) → AreEntries below → IsAgreed ls (version_line ++ concat below)
   agreed_below below e =
-      subst (λ (l : List ℕ). IsAgreed ls (version_line ++ l)) e.all (agreed e.named e.costed)
+      subst (λ (l : List ℕ). IsAgreed ls (version_line ++ l)) e.all (agreed e.named e.are)
 
   -- those of `lengths`
   module _ (text : List ℕ) where
@@ -258,7 +258,7 @@ module _ (ls : Layers) (are : AreLayers ls) where
     entries_below : (entries : List Entry) (below : List (List ℕ)) → AreLengthLines ls text entries below
         → ((k : ℕ) (entry : Entry) → slice_get entries k ≡ Some entry → NameStands text entry.name)
         → AreEntries below
-    entries_below [] [] t stand = record { named = []; all = refl; costed = tt }
+    entries_below [] [] t stand = record { named = []; all = refl; are = tt }
     entries_below [] (line ∷ below) t stand = absurd t
     entries_below (entry ∷ entries) [] t stand = absurd t
     entries_below (entry ∷ entries) (line ∷ below) t stand =
@@ -281,7 +281,7 @@ module _ (ls : Layers) (are : AreLayers ls) where
 
   problems_below : (name : List ℕ) → IsName name → (problems : List Problem) (below : List (List ℕ))
       → All HasLeast problems → AreProblemLines ls name problems below → AreEntries below
-  problems_below name good [] [] all t = record { named = []; all = refl; costed = tt }
+  problems_below name good [] [] all t = record { named = []; all = refl; are = tt }
   problems_below name good [] (line ∷ below) all t = absurd t
   problems_below name good (p ∷ problems) [] all t = absurd t
   problems_below name good (p ∷ problems) (line ∷ below) all t =
