@@ -89,7 +89,8 @@ class Frame:
             sys.exit("a map whose origin is turned is not read")
 
     def cell(self, x, y):
-        return math.floor((x - self.x) / self.size), self.height - 1 - math.floor((y - self.y) / self.size)
+        column = math.floor((x - self.x) / self.size + ROUNDED)
+        return column, self.height - 1 - math.floor((y - self.y) / self.size + ROUNDED)
 
     def metres(self, x, y):
         """The centre of a cell."""
