@@ -9,6 +9,7 @@ ghost use Rattle.pruning.specs.Allowed.{can_move};
 ghost use Rattle.pruning.specs.Marked.{is_forced};
 ghost use Rattle.bit_grid.specs.Bits.{is_free_from_one};
 ghost use Rattle.pruning.specs.First as first;
+ghost use Rattle.pruning.specs.Numbered as numbered;
 ghost use Rattle.jump_block.specs.Source as spec;
 ghost use Rattle.jump_block.specs.Near.{AreNearStart};
 ghost use Rattle.jump_block.specs.Source.{OnSome, OnEach};
@@ -42,30 +43,6 @@ pub(crate) fn column_way(d: Dir) -> Way
     match d {
         Dir::SE | Dir::SW => Way::Forward,
         _ => Way::Back,
-    }
-}
-
-// The direction of a way along a row.
-#[inline(always)]
-fn row_dir(way: Way) -> Dir
-    ensures is { result ≡ spec.row_dir way }
-    ensures straight { is_diagonal result ≡ false }
-{
-    match way {
-        Way::Forward => Dir::E,
-        Way::Back => Dir::W,
-    }
-}
-
-// The direction of a way along a column.
-#[inline(always)]
-fn column_dir(way: Way) -> Dir
-    ensures is { result ≡ spec.column_dir way }
-    ensures straight { is_diagonal result ≡ false }
-{
-    match way {
-        Way::Forward => Dir::S,
-        Way::Back => Dir::N,
     }
 }
 
@@ -176,7 +153,14 @@ impl<'a> Bits<'a> {
     // Whether a diagonal jump stops at a cell: it is the goal, or a neighbour is forced there, or a straight
     // jump in a component finds a stop. For the rare cells in the goal's row or column.
     #[inline(never)]
-    fn stops_in_line<L: Ledger>(&self, at: Cell, d: Dir, goal: Cell, steps: &mut Steps<L>) -> bool
+    fn stops_in_line<const RULE: usize, L: Ledger>(
+        &self,
+        at: Cell,
+        d: Dir,
+        goal: Cell,
+        steps: &mut Steps<L>,
+    ) -> bool
+        requires rule { self.now.corner ≡ numbered.rule_of_number RULE }
         requires stands { OnSome self.now at }
         requires diagonal { is_diagonal d ≡ true }
         ensures stops { OnEach self.now at (λ g. result ≡ (is_same at goal || is_forced g at d
@@ -186,15 +170,19 @@ impl<'a> Bits<'a> {
     {
         at == goal
             || self.forces(at, d, steps)
-            || self.finds(at, row_dir(row_way(d)), goal, steps)
-            || self.finds(at, column_dir(column_way(d)), goal, steps)
+            || self
+                .straight_on_row::<RULE, L>(at, row_way(d), goal, steps)
+                .is_some()
+            || self
+                .straight_on_column::<RULE, L>(at, column_way(d), goal, steps)
+                .is_some()
     }
 
     // Whether a diagonal jump stops at a cell. Only in the goal's row or column is the goal looked for; at
     // all other cells a component is asked for its mark alone, told the words around the cell. The call out
     // of line gets a copy of the bits, so that their own stay in registers here.
     #[inline(always)]
-    fn stops_at<L: Ledger>(
+    fn stops_at<const RULE: usize, L: Ledger>(
         &self,
         at: Cell,
         d: Dir,
@@ -202,6 +190,7 @@ impl<'a> Bits<'a> {
         near: ThreeWords,
         steps: &mut Steps<L>,
     ) -> bool
+        requires rule { self.now.corner ≡ numbered.rule_of_number RULE }
         requires stands { OnSome self.now at }
         requires near { AreNearStart self.now.rows.now (at.y + 1) (at.x + 1) near }
         requires diagonal { is_diagonal d ≡ true }
@@ -212,22 +201,23 @@ impl<'a> Bits<'a> {
     {
         if is_in_line(at, goal) {
             let bits = *self;
-            return bits.stops_in_line(at, d, goal, steps);
+            return bits.stops_in_line::<RULE, L>(at, d, goal, steps);
         }
         self.forces(at, d, steps)
-            || self.finds_mark_on_row(at, row_way(d), near, steps)
-            || self.finds_mark_on_column(at, column_way(d), steps)
+            || self.finds_mark_on_row::<RULE, L>(at, row_way(d), near, steps)
+            || self.finds_mark_on_column::<RULE, L>(at, column_way(d), steps)
     }
 
     /// After how many moves a diagonal jump stops.
     #[inline(always)]
-    pub(crate) fn diagonal<L: Ledger>(
+    pub(crate) fn diagonal<const RULE: usize, L: Ledger>(
         &self,
         at: Cell,
         d: Dir,
         goal: Cell,
         steps: &mut Steps<L>,
     ) -> Option<u16>
+        requires rule { self.now.corner ≡ numbered.rule_of_number RULE }
         requires stands { OnSome self.now at }
         requires diagonal { is_diagonal d ≡ true }
         ensures first { OnEach self.now at (λ g. result ≡ first.first_stop g goal at d) }
@@ -240,7 +230,7 @@ impl<'a> Bits<'a> {
             let next = beyond(cell, d);
             moves += 1;
             near = self.near_on_row(next, steps);
-            if self.stops_at(next, d, goal, near, steps) {
+            if self.stops_at::<RULE, L>(next, d, goal, near, steps) {
                 return Some(moves);
             }
             cell = next;

@@ -48,7 +48,7 @@ fn finds_far<const WAY: usize, const RULE: usize, L: Ledger>(
         place,
         to_goal: 0,
     };
-    is_mark(scan(way_of(WAY), rule_of_number(RULE), lines, start, steps))
+    is_mark(scan::<RULE, L>(way_of(WAY), rule_of_number(RULE), lines, start, steps))
 }
 
 // The same, where nothing halts the scan in the words around the cell: the next ones are looked at before.
@@ -85,34 +85,9 @@ fn finds_next<const WAY: usize, const RULE: usize, L: Ledger>(
     finds_far::<WAY, RULE, L>(rule, lines, line, place, steps)
 }
 
-// The same, where the rule is told apart here.
-#[inline(always)]
-fn finds_next_under<const WAY: usize, L: Ledger>(
-    rule: Corner,
-    lines: &Lines,
-    line: u32,
-    place: u32,
-    near: ThreeWords,
-    steps: &mut Steps<L>,
-) -> bool
-    requires starts { (free : ℕ → ℕ → Bool) × IsStart lines.now free line place }
-    requires few { lines.now.lines < 65536 }
-    requires short { lines.now.blocks ≤ 128 }
-    requires near { AreNearStart lines.now line place near }
-    requires clear { ClearFrom lines.now rule (ways.way_of WAY) line place }
-    ensures finds { MeetsFrom lines.now rule (ways.way_of WAY) line place result }
-    ensures more { steps.old ≤ steps.new }
-{
-    match rule {
-        Corner::Never => finds_next::<WAY, 0, L>(rule, lines, line, place, near, steps),
-        Corner::One => finds_next::<WAY, 1, L>(rule, lines, line, place, near, steps),
-        Corner::Both => finds_next::<WAY, 2, L>(rule, lines, line, place, near, steps),
-    }
-}
-
 /// Whether a scan from a free cell halts at a mark, told the words around the cell.
 #[inline(always)]
-pub(crate) fn finds_mark<L: Ledger>(
+pub(crate) fn finds_mark<const RULE: usize, L: Ledger>(
     way: Way,
     rule: Corner,
     lines: &Lines,
@@ -121,6 +96,7 @@ pub(crate) fn finds_mark<L: Ledger>(
     near: ThreeWords,
     steps: &mut Steps<L>,
 ) -> bool
+    requires rule { rule ≡ numbered.rule_of_number RULE }
     requires starts { (free : ℕ → ℕ → Bool) × IsStart lines.now free line place }
     requires few { lines.now.lines < 65536 }
     requires short { lines.now.blocks ≤ 128 }
@@ -133,7 +109,7 @@ pub(crate) fn finds_mark<L: Ledger>(
         return is_mark(found);
     }
     match way {
-        Way::Forward => finds_next_under::<0, L>(rule, lines, line, place, near, steps),
-        Way::Back => finds_next_under::<1, L>(rule, lines, line, place, near, steps),
+        Way::Forward => finds_next::<0, RULE, L>(rule, lines, line, place, near, steps),
+        Way::Back => finds_next::<1, RULE, L>(rule, lines, line, place, near, steps),
     }
 }

@@ -126,43 +126,18 @@ fn scan_on_by<const WAY: usize, const RULE: usize, L: Ledger>(
     scan_on(way_of(WAY), rule, lines, line, place, to_goal, last, steps)
 }
 
-// The same, where the rule is told apart here.
-#[inline(always)]
-fn scan_on_under<const WAY: usize, L: Ledger>(
-    rule: Corner,
-    lines: &Lines,
-    line: u32,
-    place: u32,
-    to_goal: u32,
-    last: ThreeWords,
-    steps: &mut Steps<L>,
-) -> Option<Halt>
-    requires starts { (free : ℕ → ℕ → Bool) × IsStart lines.now free line place }
-    requires few { lines.now.lines < 65536 }
-    requires short { lines.now.blocks ≤ 128 }
-    requires passed { PassedFrom lines.now rule (spec.way_of WAY) line place last }
-    ensures finds { FindsFrom lines.now rule (spec.way_of WAY) to_goal line place result }
-    ensures most { steps.new + 3 ≤ steps.old + most_lanes (looked to_goal result) }
-    ensures more { steps.old ≤ steps.new }
-{
-    match rule {
-        Corner::Never => { scan_on_by::<WAY, 0, L>(rule, lines, line, place, to_goal, last, steps) }
-        Corner::One => scan_on_by::<WAY, 1, L>(rule, lines, line, place, to_goal, last, steps),
-        Corner::Both => scan_on_by::<WAY, 2, L>(rule, lines, line, place, to_goal, last, steps),
-    }
-}
-
 /// Scans along a line from a free cell: finds where the scan halts, or `None` where the goal is met before.
 ///
 /// Most scans halt in the block in which they start, so what is past it is looked at out of line.
 #[inline(always)]
-pub(crate) fn scan<L: Ledger>(
+pub(crate) fn scan<const RULE: usize, L: Ledger>(
     way: Way,
     rule: Corner,
     lines: &Lines,
     start: Start,
     steps: &mut Steps<L>,
 ) -> Option<Halt>
+    requires rule { rule ≡ numbered.rule_of_number RULE }
     requires starts { (free : ℕ → ℕ → Bool) × IsStart lines.now free start.line start.place }
     requires few { lines.now.lines < 65536 }
     requires short { lines.now.blocks ≤ 128 }
@@ -182,10 +157,10 @@ pub(crate) fn scan<L: Ledger>(
             } = start;
             match way {
                 Way::Forward => {
-                    scan_on_under::<0, L>(rule, lines, line, place, to_goal, words, steps)
+                    scan_on_by::<0, RULE, L>(rule, lines, line, place, to_goal, words, steps)
                 }
                 Way::Back => {
-                    scan_on_under::<1, L>(rule, lines, line, place, to_goal, words, steps)
+                    scan_on_by::<1, RULE, L>(rule, lines, line, place, to_goal, words, steps)
                 }
             }
         }

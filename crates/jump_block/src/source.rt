@@ -13,6 +13,7 @@ ghost use Rattle.bit_grid.specs.Bits.{AreBitsOf};
 ghost use Rattle.jump_block.specs.Source.{AreItsBits, JumpsOnEach, JumpsOnSome, OnEach, OnSome, is_forward, is_back, scanned};
 
 use crate::straight::Bits;
+use crate::word::Way;
 use bit_grid::BitGrid;
 use grid_moves::{Cell, Corner, Dir};
 use pruning::{Arrival, JumpSource, Packed, allowed_on, rule_of_number};
@@ -58,10 +59,10 @@ impl<'a> Bits<'a> {
     {
         let bits = self.under::<RULE>();
         match d {
-            Dir::NE => bits.diagonal(at, Dir::NE, goal, steps),
-            Dir::SE => bits.diagonal(at, Dir::SE, goal, steps),
-            Dir::SW => bits.diagonal(at, Dir::SW, goal, steps),
-            _ => bits.diagonal(at, Dir::NW, goal, steps),
+            Dir::NE => bits.diagonal::<RULE, L>(at, Dir::NE, goal, steps),
+            Dir::SE => bits.diagonal::<RULE, L>(at, Dir::SE, goal, steps),
+            Dir::SW => bits.diagonal::<RULE, L>(at, Dir::SW, goal, steps),
+            _ => bits.diagonal::<RULE, L>(at, Dir::NW, goal, steps),
         }
     }
 
@@ -84,10 +85,10 @@ impl<'a> Bits<'a> {
     {
         let bits = self.under::<RULE>();
         match d {
-            Dir::N => bits.straight(at, Dir::N, goal, steps),
-            Dir::E => bits.straight(at, Dir::E, goal, steps),
-            Dir::S => bits.straight(at, Dir::S, goal, steps),
-            Dir::W => bits.straight(at, Dir::W, goal, steps),
+            Dir::N => bits.straight_on_column::<RULE, L>(at, Way::Back, goal, steps),
+            Dir::E => bits.straight_on_row::<RULE, L>(at, Way::Forward, goal, steps),
+            Dir::S => bits.straight_on_column::<RULE, L>(at, Way::Forward, goal, steps),
+            Dir::W => bits.straight_on_row::<RULE, L>(at, Way::Back, goal, steps),
             Dir::NE | Dir::SE | Dir::SW | Dir::NW => {
                 self.diagonal_by::<RULE, L>(at, d, goal, steps)
             }

@@ -3,6 +3,7 @@
 ghost use Rattle.std.specs.Prelude.{◌≡◌, ℕ, ◌+◌, ◌≤◌, Bool, false, true, is_some, nat_eq};
 ghost use Rattle.pruning.specs.Turns.{is_diagonal};
 ghost use Rattle.pruning.specs.First as first;
+ghost use Rattle.pruning.specs.Numbered as numbered;
 ghost use Rattle.jump_block.specs.Trail.{begun};
 ghost use Rattle.jump_block.specs.Scan.{Finds, looked, most_lanes};
 ghost use Rattle.jump_block.specs.Near.{AreNearStart};
@@ -41,6 +42,30 @@ fn stop_of(rule: Corner, found: Option<Halt>, to_goal: u16) -> Option<u16>
     }
 }
 
+// The direction of a way along a row.
+#[inline(always)]
+fn row_dir(way: Way) -> Dir
+    ensures is { result ≡ spec.row_dir way }
+    ensures straight { is_diagonal result ≡ false }
+{
+    match way {
+        Way::Forward => Dir::E,
+        Way::Back => Dir::W,
+    }
+}
+
+// The direction of a way along a column.
+#[inline(always)]
+fn column_dir(way: Way) -> Dir
+    ensures is { result ≡ spec.column_dir way }
+    ensures straight { is_diagonal result ≡ false }
+{
+    match way {
+        Way::Forward => Dir::S,
+        Way::Back => Dir::N,
+    }
+}
+
 /// The lines of a grid's bits and the grid's rule, as jumps read them: where the rule is known, it is a
 /// constant here.
 #[derive(Clone, Copy)]
@@ -53,13 +78,14 @@ pub(crate) struct Bits<'a> {
 impl<'a> Bits<'a> {
     // Where a scan along the row halts, or `None` where the goal, so many moves on, is met before.
     #[inline(always)]
-    fn halt_on_row<L: Ledger>(
+    fn halt_on_row<const RULE: usize, L: Ledger>(
         &self,
         at: Cell,
         way: Way,
         to_goal: u16,
         steps: &mut Steps<L>,
     ) -> Option<Halt>
+        requires rule { self.now.corner ≡ numbered.rule_of_number RULE }
         requires stands { OnSome self.now at }
         ensures finds { OnEach self.now at (λ g. Finds self.now.corner
             (begun self.now.corner (trail_of g (spec.row_dir way) at)) to_goal result) }
@@ -71,18 +97,19 @@ impl<'a> Bits<'a> {
             place: u32::from(at.x) + 1,
             to_goal: u32::from(to_goal),
         };
-        scan(way, self.corner, self.rows, along_row, steps)
+        scan::<RULE, L>(way, self.corner, self.rows, along_row, steps)
     }
 
     // Where a scan along the column halts, or `None` where the goal, so many moves on, is met before.
     #[inline(always)]
-    fn halt_on_column<L: Ledger>(
+    fn halt_on_column<const RULE: usize, L: Ledger>(
         &self,
         at: Cell,
         way: Way,
         to_goal: u16,
         steps: &mut Steps<L>,
     ) -> Option<Halt>
+        requires rule { self.now.corner ≡ numbered.rule_of_number RULE }
         requires stands { OnSome self.now at }
         ensures finds { OnEach self.now at (λ g. Finds self.now.corner
             (begun self.now.corner (trail_of g (spec.column_dir way) at)) to_goal result) }
@@ -94,25 +121,7 @@ impl<'a> Bits<'a> {
             place: u32::from(at.y) + 1,
             to_goal: u32::from(to_goal),
         };
-        scan(way, self.corner, self.columns, along_column, steps)
-    }
-
-    // Where a straight scan halts, or `None` where the goal, so many moves on, is met before.
-    #[inline(always)]
-    fn halt<L: Ledger>(&self, at: Cell, d: Dir, to_goal: u16, steps: &mut Steps<L>) -> Option<Halt>
-        requires stands { OnSome self.now at }
-        requires straight { is_diagonal d ≡ false }
-        ensures finds { OnEach self.now at (λ g. Finds self.now.corner
-            (begun self.now.corner (trail_of g d at)) to_goal result) }
-        ensures most { steps.new ≤ steps.old + most_lanes (looked to_goal result) }
-        ensures fewest { steps.old + 3 ≤ steps.new }
-    {
-        match d {
-            Dir::E => self.halt_on_row(at, Way::Forward, to_goal, steps),
-            Dir::W => self.halt_on_row(at, Way::Back, to_goal, steps),
-            Dir::S => self.halt_on_column(at, Way::Forward, to_goal, steps),
-            _ => self.halt_on_column(at, Way::Back, to_goal, steps),
-        }
+        scan::<RULE, L>(way, self.corner, self.columns, along_column, steps)
     }
 
     // The words around a free cell, of its row and of those beside it.
@@ -128,13 +137,14 @@ impl<'a> Bits<'a> {
     /// Whether a straight jump along the row finds a stop, for a goal that is not on the row, told the
     /// words around the cell.
     #[inline(always)]
-    pub(crate) fn finds_mark_on_row<L: Ledger>(
+    pub(crate) fn finds_mark_on_row<const RULE: usize, L: Ledger>(
         &self,
         at: Cell,
         way: Way,
         near: ThreeWords,
         steps: &mut Steps<L>,
     ) -> bool
+        requires rule { self.now.corner ≡ numbered.rule_of_number RULE }
         requires stands { OnSome self.now at }
         requires near { AreNearStart self.now.rows.now (at.y + 1) (at.x + 1) near }
         ensures finds { OnEach self.now at (λ g. (goal : Cell)
@@ -142,18 +152,19 @@ impl<'a> Bits<'a> {
         ensures more { steps.old ≤ steps.new }
     {
         let (line, place) = (u32::from(at.y) + 1, u32::from(at.x) + 1);
-        finds_mark(way, self.corner, self.rows, line, place, near, steps)
+        finds_mark::<RULE, L>(way, self.corner, self.rows, line, place, near, steps)
     }
 
     /// Whether a straight jump along the column finds a stop, for a goal that is not on the column. The words
     /// around the cell are read here.
     #[inline(always)]
-    pub(crate) fn finds_mark_on_column<L: Ledger>(
+    pub(crate) fn finds_mark_on_column<const RULE: usize, L: Ledger>(
         &self,
         at: Cell,
         way: Way,
         steps: &mut Steps<L>,
     ) -> bool
+        requires rule { self.now.corner ≡ numbered.rule_of_number RULE }
         requires stands { OnSome self.now at }
         ensures finds { OnEach self.now at (λ g. (goal : Cell)
             → nat_eq at.x goal.x ≡ false → result ≡ is_some (first.first_stop g goal at (spec.column_dir way))) }
@@ -161,43 +172,48 @@ impl<'a> Bits<'a> {
     {
         let (line, place) = (u32::from(at.x) + 1, u32::from(at.y) + 1);
         let near = words_near(self.columns, line, place, steps);
-        finds_mark(way, self.corner, self.columns, line, place, near, steps)
+        finds_mark::<RULE, L>(way, self.corner, self.columns, line, place, near, steps)
     }
 
-    /// After how many moves a straight jump stops.
+    /// After how many moves a straight jump along the row stops.
     #[inline(always)]
-    pub(crate) fn straight<L: Ledger>(
+    pub(crate) fn straight_on_row<const RULE: usize, L: Ledger>(
         &self,
         at: Cell,
-        d: Dir,
+        way: Way,
         goal: Cell,
         steps: &mut Steps<L>,
     ) -> Option<u16>
+        requires rule { self.now.corner ≡ numbered.rule_of_number RULE }
         requires stands { OnSome self.now at }
-        requires straight { is_diagonal d ≡ false }
-        ensures first { OnEach self.now at (λ g. result ≡ first.first_stop g goal at d) }
-        ensures most { OnEach self.now at (λ g. steps.new ≤ steps.old + most_lanes (scanned g at d result)) }
+        ensures first { OnEach self.now at (λ g. result ≡ first.first_stop g goal at (spec.row_dir way)) }
+        ensures most { OnEach self.now at
+            (λ g. steps.new ≤ steps.old + most_lanes (scanned g at (spec.row_dir way) result)) }
         ensures fewest { steps.old + 3 ≤ steps.new }
     {
-        let to_goal = moves_to(d, at, goal);
-        let found = self.halt(at, d, to_goal, steps);
+        let to_goal = moves_to(row_dir(way), at, goal);
+        let found = self.halt_on_row::<RULE, L>(at, way, to_goal, steps);
         stop_of(self.corner, found, to_goal)
     }
 
-    /// Whether a straight jump finds a stop.
+    /// After how many moves a straight jump along the column stops.
     #[inline(always)]
-    pub(crate) fn finds<L: Ledger>(
+    pub(crate) fn straight_on_column<const RULE: usize, L: Ledger>(
         &self,
         at: Cell,
-        d: Dir,
+        way: Way,
         goal: Cell,
         steps: &mut Steps<L>,
-    ) -> bool
+    ) -> Option<u16>
+        requires rule { self.now.corner ≡ numbered.rule_of_number RULE }
         requires stands { OnSome self.now at }
-        requires straight { is_diagonal d ≡ false }
-        ensures finds { OnEach self.now at (λ g. result ≡ is_some (first.first_stop g goal at d)) }
-        ensures more { steps.old ≤ steps.new }
+        ensures first { OnEach self.now at (λ g. result ≡ first.first_stop g goal at (spec.column_dir way)) }
+        ensures most { OnEach self.now at
+            (λ g. steps.new ≤ steps.old + most_lanes (scanned g at (spec.column_dir way) result)) }
+        ensures fewest { steps.old + 3 ≤ steps.new }
     {
-        self.straight(at, d, goal, steps).is_some()
+        let to_goal = moves_to(column_dir(way), at, goal);
+        let found = self.halt_on_column::<RULE, L>(at, way, to_goal, steps);
+        stop_of(self.corner, found, to_goal)
     }
 }

@@ -7,9 +7,11 @@ ghost use Rattle.pruning.specs.Turns as turns;
 ghost use Rattle.pruning.specs.Turns.{is_diagonal};
 ghost use Rattle.pruning.specs.Marked.{is_forced};
 ghost use Rattle.pruning.specs.First as first;
+ghost use Rattle.pruning.specs.Numbered as numbered;
 ghost use Rattle.jump_plain.specs.Reach as spec;
 
 use crate::beside::Sides;
+use crate::ruled::Ruled;
 use crate::scan::{Reach, scan, scan_with};
 use grid_moves::{Cell, Corner, Dir, Terrain, beyond, is_open, is_passable, may_cut};
 use pruning::{Side, forced, turn};
@@ -240,14 +242,16 @@ fn diagonal_stop<T: Terrain>(t: &T, at: Cell, d: Dir, goal: Cell) -> Option<u16>
     None
 }
 
-/// After how many moves a jump from a free cell stops: at the least number, from 1, or `None` where the
-/// legal run ends first. Each direction has loops of its own, in which its steps are constants.
+// After how many moves a jump stops, under a rule that the compiler knows. Each direction has loops of its own,
+// in which its steps are constants too.
 #[inline(never)]
-pub fn first_stop<T: Terrain>(t: &T, at: Cell, d: Dir, goal: Cell) -> Option<u16>
+fn first_stop_by<const RULE: usize, T: Terrain>(t: &T, at: Cell, d: Dir, goal: Cell) -> Option<u16>
+    requires rule { (T.grid t.now).corner ≡ numbered.rule_of_number RULE }
     requires free { is_free (T.grid t.now) at ≡ true }
     requires whole { IsGrid (T.grid t.now) }
     ensures { result ≡ first.first_stop (T.grid t.now) goal at d }
 {
+    let t = &Ruled::<RULE, T> { terrain: t };
     match d {
         Dir::N => straight_stop(t, at, Dir::N, goal),
         Dir::NE => diagonal_stop(t, at, Dir::NE, goal),
@@ -257,5 +261,20 @@ pub fn first_stop<T: Terrain>(t: &T, at: Cell, d: Dir, goal: Cell) -> Option<u16
         Dir::SW => diagonal_stop(t, at, Dir::SW, goal),
         Dir::W => straight_stop(t, at, Dir::W, goal),
         Dir::NW => diagonal_stop(t, at, Dir::NW, goal),
+    }
+}
+
+/// After how many moves a jump from a free cell stops: at the least number, from 1, or `None` where the
+/// legal run ends first.
+#[inline(always)]
+pub fn first_stop<T: Terrain>(t: &T, at: Cell, d: Dir, goal: Cell) -> Option<u16>
+    requires free { is_free (T.grid t.now) at ≡ true }
+    requires whole { IsGrid (T.grid t.now) }
+    ensures { result ≡ first.first_stop (T.grid t.now) goal at d }
+{
+    match t.corner() {
+        Corner::Never => first_stop_by::<0, T>(t, at, d, goal),
+        Corner::One => first_stop_by::<1, T>(t, at, d, goal),
+        Corner::Both => first_stop_by::<2, T>(t, at, d, goal),
     }
 }

@@ -9,6 +9,7 @@
 
 pub mod beside;
 pub mod jump;
+mod ruled;
 mod scan;
 mod source;
 

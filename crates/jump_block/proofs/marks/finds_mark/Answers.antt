@@ -10,24 +10,24 @@ returns-then-is_some-clause-finds g c = λ free start.
     c.is_mark.ensures _ _ (found_some _ _ c.halt_near-found.result (sym c.is_some.ensures ∙ c.if-is_some.true)
     (c.halt_near-found.ensures.halts free c.args.line (c.requires.near free start)))
 
-pub finds_next_under-requires-clause-clear : goal.finds_next_under-requires-clause-clear
-finds_next_under-requires-clause-clear g c = λ free start.
+pub finds_next-requires-clause-clear : goal.finds_next-requires-clause-clear
+finds_next-requires-clause-clear g c = λ free start.
     rw c.in-Forward.is at (c.halt_near-found.ensures.clear (sym c.is_some.ensures ∙ c.if-is_some.false) free
     c.args.line (c.requires.near free start))
 
-pub finds_next_under-requires-in-Back-clause-clear : goal.finds_next_under-requires-in-Back-clause-clear
-finds_next_under-requires-in-Back-clause-clear g c = λ free start.
+pub finds_next-requires-in-Back-clause-clear : goal.finds_next-requires-in-Back-clause-clear
+finds_next-requires-in-Back-clause-clear g c = λ free start.
     rw c.in-Back.is at (c.halt_near-found.ensures.clear (sym c.is_some.ensures ∙ c.if-is_some.false) free
     c.args.line (c.requires.near free start))
 
 pub returns-in-Forward-clause-finds : goal.returns-in-Forward-clause-finds
 returns-in-Forward-clause-finds g c = λ free start.
     subst (λ (w : Way). MeetsMark c.args.rule (begun c.args.rule (trail_on free w c.args.line c.args.place))
-    c.finds_next_under.result)
-    (sym c.in-Forward.is) (c.finds_next_under.ensures.finds free start)
+    c.finds_next.result)
+    (sym c.in-Forward.is) (c.finds_next.ensures.finds free start)
 
 pub returns-in-Back-clause-finds : goal.returns-in-Back-clause-finds
 returns-in-Back-clause-finds g c = λ free start.
     subst (λ (w : Way). MeetsMark c.args.rule (begun c.args.rule (trail_on free w c.args.line c.args.place))
-    c.finds_next_under-in-Back.result)
-    (sym c.in-Back.is) (c.finds_next_under-in-Back.ensures.finds free start)
+    c.finds_next-in-Back.result)
+    (sym c.in-Back.is) (c.finds_next-in-Back.ensures.finds free start)

@@ -1,0 +1,37 @@
+//! A grid of which the compiler knows the corner rule.
+
+ghost use Rattle.pruning.specs.Numbered as numbered;
+ghost use Rattle.jump_plain.specs.Ruled.{ruled_by};
+
+use grid_moves::{Cell, Corner, Terrain};
+use pruning::rule_of_number;
+
+/// A grid under the rule of this number, which is a constant in all that is done on it.
+#[derive(Clone, Copy)]
+pub(crate) struct Ruled<'a, const RULE: usize, T: Terrain> {
+    pub(crate) terrain: &'a T,
+}
+
+impl<'a, const RULE: usize, T: Terrain> Terrain for Ruled<'a, RULE, T> {
+    ghost grid = { λ r. ruled_by (numbered.rule_of_number RULE) (T.grid r.terrain.now) };
+
+    #[inline(always)]
+    fn width(&self) -> u16 {
+        self.terrain.width()
+    }
+
+    #[inline(always)]
+    fn height(&self) -> u16 {
+        self.terrain.height()
+    }
+
+    #[inline(always)]
+    fn corner(&self) -> Corner {
+        rule_of_number(RULE)
+    }
+
+    #[inline(always)]
+    fn free(&self, c: Cell) -> bool {
+        self.terrain.free(c)
+    }
+}
