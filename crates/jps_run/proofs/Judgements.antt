@@ -38,14 +38,6 @@ new-room job count ready e few = record {
       (let small : 0 + count < 2 ^ 64 = omega arith in small);
 }
 
--- the sides were compared, and are the map's
-pub has-sides : (ls : Layers) (entry : Entry) (width height : ℕ) (same : Bool) → width ≡ ls.land.width
-    → height ≡ ls.land.height → same ≡ (nat_eq entry.w width && nat_eq entry.h height) → same ≡ true
-    → has_sides ls entry ≡ true
-has-sides ls entry width height same wide high is so =
-    subst (λ (n : ℕ). (nat_eq entry.w n && nat_eq entry.h ls.land.height) ≡ true) wide
-    (subst (λ (n : ℕ). (nat_eq entry.w width && nat_eq entry.h n) ≡ true) high (sym is ∙ so))
-
 row_lines-append : (show : Show) (number : ℕ) (some others : List Row)
     → row_lines show number (some ++ others)
     ≡ row_lines show number some ++ row_lines show (number + length some) others

@@ -16,7 +16,7 @@ use Rattle.walk_judge.specs.Walks.{walks_of}
 use Rattle.potential_check.specs.Text.{certificate_of, plain}
 use Rattle.potential_check.specs.declared.certificate.Certificate.{Certificate}
 use Rattle.word_list.specs.Request.{Asked, Call, Help, Version, Query, Solve, Live, Scen, Judge, Prove, Check}
-use Rattle.word_list.specs.Request.{Make, Drill, Draw, Costs, Tables, Boxes, Moves}
+use Rattle.word_list.specs.Request.{Make, Drill, Draw, Costs, Tables, Boxes, Moves, Lengths, Problems}
 use Rattle.word_list.specs.declared.request.Settings.{Settings}
 use Rattle.jps_run.specs.Answers.{AreAnswers, IsReplyLine}
 use Rattle.grid_answers.specs.BoxLines.{IsBoxText}
@@ -35,7 +35,9 @@ use Rattle.jps_run.specs.Texts.{help_text, version_text}
 use Rattle.jps_run.specs.declared.replies.row.Row.{Row}
 use Rattle.jps_run.specs.declared.replies.ruling.Ruling.{Ruling}
 use Rattle.jps_run.specs.Outcome.{IsAnswered, help, version, replied, solved, judged, refereed, proved}
-use Rattle.jps_run.specs.Outcome.{checked, made, drilled, drawn, costed, tabled, boxed, moved}
+use Rattle.jps_run.specs.Outcome.{checked, made, drilled, drawn, costed, tabled, boxed, moved, measured, posed}
+use Rattle.scen_maker.specs.Lengths.{AreLengths}
+use Rattle.scen_maker.specs.Problems.{AreProblems}
 
 -- the first of the texts is that of a map, and of the map and the texts behind it this is known
 pub record OnMap (texts : List (List ℕ)) (Known : Map → List (List ℕ) → Type 0) : Type 0 where
@@ -118,6 +120,12 @@ Answers (Moves map x y) set texts lines status =
     OnMap texts
     (λ m behind. OneLine lines (λ printed. IsRunText (layers_on set m) (record { x = x; y = y }) printed))
     × (status ≡ 0)
+Answers (Lengths map scen) set texts lines status =
+    OnMap texts (λ m behind. OnLast behind (λ second. Reads (scen_of second) (λ entries.
+    AreLengths (layers_on set m) second entries lines status)))
+Answers (Problems map seed count) set texts lines status =
+    OnMap texts (λ m behind. OneLine lines (λ printed.
+    AreProblems (layers_on set m) map seed count printed status))
 
 on : {texts : List (List ℕ)} {Known : Map → List (List ℕ) → Type 0} (text : List ℕ) (behind : List (List ℕ))
     (m : Map)
@@ -189,3 +197,12 @@ asked_so _ _ _ _ (boxed map text x y set m printed read is) =
     (on text [] m refl read (record { line = printed; all = refl; known = is }), refl)
 asked_so _ _ _ _ (moved map text x y set m printed read is) =
     (on text [] m refl read (record { line = printed; all = refl; known = is }), refl)
+asked_so _ _ _ _ (measured map scen text second set m entries lines status read spelled is) =
+    on text (second ∷ []) m refl read (record {
+      before = [];
+      last = second;
+      is = refl;
+      known = record { value = entries; is = spelled; known = is };
+    })
+asked_so _ _ _ _ (posed map text seed count set m printed status read is) =
+    on text [] m refl read (record { line = printed; all = refl; known = is })

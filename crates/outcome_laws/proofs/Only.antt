@@ -11,7 +11,7 @@ use Rattle.grid_moves.specs.Layers.{AreLayers, Layers}
 use Rattle.edit_replay.specs.Session.{SessionData}
 use Rattle.word_list.specs.Calls.{call_of, is_call}
 use Rattle.word_list.specs.Request.{Asked, Call, Help, Version, Query, Solve, Live, Scen, Judge, Prove, Check}
-use Rattle.word_list.specs.Request.{Make, Drill, Draw, Costs, Tables, Boxes, Moves}
+use Rattle.word_list.specs.Request.{Make, Drill, Draw, Costs, Tables, Boxes, Moves, Lengths, Problems}
 use Rattle.word_list.specs.Rule.{IsBadWord}
 use Rattle.word_list.specs.Settings.{is_for_small_maps}
 use Rattle.word_list.specs.declared.request.Pick.{Pick}
@@ -164,6 +164,8 @@ same_names (Costs map x y) set other = refl
 same_names (Tables map) set other = refl
 same_names (Boxes map x y) set other = refl
 same_names (Moves map x y) set other = refl
+same_names (Lengths map scen) set other = refl
+same_names (Problems map seed count) set other = refl
 
 -- nor for the files themselves, where engines take the same maps
 module _ (set other : Settings) (rule : set.rule ≡ other.rule)
@@ -194,6 +196,8 @@ module _ (set other : Settings) (rule : set.rule ≡ other.rule)
   same_files (Tables map) = refl
   same_files (Boxes map x y) = refl
   same_files (Moves map x y) = refl
+  same_files (Lengths map scen) = refl
+  same_files (Problems map seed count) = refl
 
 -- engines that come to answers in one way take the same maps
 is_small : By → Bool
