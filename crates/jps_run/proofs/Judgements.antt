@@ -1,8 +1,7 @@
 -- The rows of entries.
 use Rattle.std.proofs.Common.{◌≡◌, refl, sym, ap, ◌∙◌, subst, List, [], ◌∷◌, ◌++◌, append_assoc, ℕ, suc, ◌+◌}
 use Rattle.std.proofs.Common.{◌^◌, ◌<◌, length, length-append, arith, true, false, Bool}
-use Rattle.std.specs.Prelude.{◌≢◌, ◌&&◌, nat_eq, Result, Ok, Err, OnOk}
-use Rattle.grid_moves.specs.Layers.{Layers}
+use Rattle.std.specs.Prelude.{◌≢◌, Result, Ok, Err, OnOk}
 use Rattle.std.proofs.lemmas.List.{append-nil}
 use Rattle.scen_text.specs.declared.entry.Entry.{Entry}
 use Rattle.jps_run.specs.Answerers.{CanAnswer, who_of}

@@ -1,8 +1,9 @@
 -- The rows of told walks.
 use Rattle.std.proofs.Common.{◌≡◌, refl, sym, ap, ◌∙◌, subst, List, [], ◌∷◌, ◌++◌, append_assoc, ℕ, zero, suc}
-use Rattle.std.proofs.Common.{◌+◌, ◌^◌, ◌<◌, ◌≤◌, ◌&&◌, ◌||◌, length, length-append, drop, inl, inr, arith}
+use Rattle.std.proofs.Common.{◌+◌, ◌^◌, ◌<◌, ◌≤◌, length, length-append, drop, arith}
 use Rattle.std.proofs.Common.{true, false, Bool}
-use Rattle.std.specs.Prelude.{Option, Some, Result, Ok, Err, OnOk, Vec, slice_get, if◌then◌else◌, nat_eq, count_by}
+use Rattle.std.specs.Prelude.{if◌then◌else◌, nat_eq, count_by}
+use Rattle.std.specs.Prelude.{Option, Some, Result, Ok, Err, OnOk, Vec, slice_get}
 use Rattle.std.specs.Global.{Global}
 use Rattle.std.proofs.lemmas.Bool.Decides.{nat_tests}
 use Rattle.std.proofs.lemmas.List.{append-nil}

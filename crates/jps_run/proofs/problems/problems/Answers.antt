@@ -1,7 +1,8 @@
-use Rattle.std.proofs.Common.{refl, ap, ◌∙◌, subst, inl, [], ◌∷◌, List, ℕ}
+use Rattle.std.proofs.Common.{refl, subst, inl, [], ◌∷◌, List, ℕ}
 use Rattle.grid_moves.specs.Layers.{Layers}
 use Rattle.scen_maker.proofs.Posed.{small_problems_status}
 use Rattle.scen_maker.specs.Problems.{AreProblems}
+use Rattle.call_files.specs.Layered.{layers_on}
 use Rattle.word_list.specs.Request.{Problems}
 use Rattle.jps_run.specs.Calls.{call_with}
 use Rattle.jps_run.specs.Outcome.{posed}
@@ -23,10 +24,11 @@ returns-clause-opened g c =
         can = tt;
         right = text-right (call_with (Problems map seed count) set) (r.text ∷ []) p.text.items p.status
             (posed map r.text seed count set r.spelled.map p.text.items p.status r.spelled.spelled
-            (subst (λ (word : List ℕ). AreProblems _ word seed count p.text.items p.status) c.as_bytes.ensures
+            (subst (λ (word : List ℕ).
+            AreProblems (layers_on set r.spelled.map) word seed count p.text.items p.status)
+            c.as_bytes.ensures.value
             (subst (λ (ls : Layers). AreProblems ls c.as_bytes.result.now seed count p.text.items p.status)
-            r.spelled.is
-            c.in_ok-printed.ensures)))
+            r.spelled.is c.in_ok-printed.ensures)))
             (small_problems_status c.in_ok-costs.costs c.as_bytes.result.now seed count p.text.items p.status
             c.in_ok-printed.ensures);
         counted = λ old new rose. inl refl;
