@@ -1,7 +1,7 @@
 -- What was written with least lengths agrees.
-use Rattle.std.proofs.Common.{◌≡◌, refl, ap, sym, ◌∙◌, subst, arith, inl, inr, true, false, Bool, ◌&&◌, ℕ, zero}
-use Rattle.std.proofs.Common.{suc, ◌+◌, ◌^◌, ◌<◌, ◌≤◌, List, [], ◌∷◌, ◌++◌, length, append_assoc}
-use Rattle.std.specs.Prelude.{Ok, Option, Some, None, nat_eq, slice_get}
+use Rattle.std.proofs.Common.{◌≡◌, refl, ap, sym, ◌∙◌, subst, arith, inl, inr, true, false, Bool, ◌&&◌, ℕ}
+use Rattle.std.proofs.Common.{zero, suc, ◌+◌, ◌^◌, ◌<◌, ◌≤◌, List, [], ◌∷◌, ◌++◌, length, append_assoc}
+use Rattle.std.specs.Prelude.{⊤, Ok, Option, Some, None, nat_eq, slice_get}
 use Rattle.std.specs.List.{All, concat, list_all}
 use Rattle.std.proofs.lemmas.Bool.Decides.{nat_tests}
 use Rattle.std.proofs.lemmas.List.Elements.{All-cons, All-head, All-tail}
@@ -11,7 +11,7 @@ use Rattle.root2_cost.specs.declared.lengths.Verdict.{Verdict}
 use Rattle.root2_cost.specs.declared.lengths.Verdict.TheVariants.{Agree}
 use Rattle.root2_cost.specs.Length.{eight_places}
 use Rattle.root2_cost.specs.Verdict.{verdict_of}
-use Rattle.root2_cost.proofs.Rounding.{bucket_short, nearest_agrees, nearest_short}
+use Rattle.root2_cost.proofs.Rounding.{nearest_agrees}
 use Rattle.cost_waves.specs.Begin.{IsLeastCost}
 use Rattle.grid_moves.specs.declared.Cell.{Cell}
 use Rattle.grid_moves.specs.Grid.{GridData, IsGrid, is_free}
@@ -37,12 +37,13 @@ use Rattle.scen_lines.specs.Line.{IsOfCost, entry_line, version_line}
 use Rattle.scen_lines.specs.Naming.{name_of}
 use Rattle.scen_lines.proofs.Names.{word_name}
 use Rattle.scen_lines.proofs.Read.{scenario_spells}
+use Rattle.scen_lines.proofs.Short.{cost_readable}
 use Rattle.scen_text.specs.declared.entry.Entry.{Entry}
 use Rattle.scen_text.specs.Faults.{scen_of}
 use Rattle.scen_text.specs.Names.{IsName, NameStands, bytes_at}
 use Rattle.scen_text.proofs.Laws.{scen_read}
 use Rattle.scen_text.proofs.Standing.{all_stand}
-use Rattle.scen_maker.specs.Lengths.{AreLengthLines, AreLengths, IsLengthLine, IsLineAt, IsProblemLine, problem_of}
+use Rattle.scen_maker.specs.Lengths.{AreLengthLines, AreLengths, IsLineAt, IsProblemLine, problem_of}
 use Rattle.scen_maker.specs.Problems.{AreProblemLines, AreProblems, ArePriced, IsPriced, query_of}
 use Rattle.scen_maker.specs.Settling.{IsSettled, has_sides, least_in}
 use Rattle.scen_maker.specs.declared.costs.Settled.{Settled}
@@ -102,7 +103,6 @@ module _ (ls : Layers) (are : AreLayers ls) where
       let start = free_inside g (from_of n) free.0 in
       let goal = free_inside g (to_of n) free.1 in
       let few = few_moves n is in
-      let short = bucket_short is.cost n.listed.bucket is.of_cost.bucket in
       let narrow : g.width ≤ 4096 = grid.sides.narrow in
       let low : g.height ≤ 4096 = grid.sides.low in
       let wide : ls.land.width ≤ 4096 = are.land.sides.narrow in
@@ -111,18 +111,14 @@ module _ (ls : Layers) (are : AreLayers ls) where
       let sy : n.listed.problem.sy < g.height = start.1 in
       let gx : n.listed.problem.gx < g.width = goal.0 in
       let gy : n.listed.problem.gy < g.height = goal.1 in
-      record {
-        name = is.name;
-        bucket = omega (arith, short, few);
+      cost_readable is.cost n is.of_cost (omega (arith, few)) (omega (arith, few)) is.name (record {
         w = omega (arith, is.width, wide);
         h = omega (arith, is.height, high);
         sx = omega (arith, sx, narrow);
         sy = omega (arith, sy, low);
         gx = omega (arith, gx, narrow);
         gy = omega (arith, gy, low);
-        units = nearest_short is.cost (eight_places n.listed.units) is.of_cost.length (omega (arith, few))
-            (omega (arith, few));
-      }
+      })
 
   all_readable : (named : List Named) → AreCosted ls named → AreReadable named
   all_readable [] c k entry found = absurd (cc)
@@ -137,8 +133,8 @@ module _ (ls : Layers) (are : AreLayers ls) where
       not_both (is_on_map ls (from_of n) && is_on_map ls (to_of n))
       (ends_on ls are (from_of n) (to_of n) (ends_free ls are (from_of n) (to_of n) (one_layer n is))) right
   agreed_by n is reply.Blocked right =
-      not_both (are_free_ends ls (from_of n) (to_of n)) (ends_free ls are (from_of n) (to_of n) (one_layer n is))
-      right.1
+      not_both (are_free_ends ls (from_of n) (to_of n))
+      (ends_free ls are (from_of n) (to_of n) (one_layer n is)) right.1
   agreed_by n is (reply.None taken) right = elim right.1 [
     | inl apart ↦ not_both (in_one_layer ls (from_of n) (to_of n)) (one_layer n is) apart
     | inr none ↦ absurd (none is.least.cells is.least.least.walk)
@@ -214,14 +210,14 @@ module _ (ls : Layers) (are : AreLayers ls) where
   record AreEntries (below : List (List ℕ)) : Type 0 where
     named : List Named
     all : lines_of named ≡ concat below
-    are : AreCosted ls named
+    costs : AreCosted ls named
 
   with_line : (below : List (List ℕ)) (line : List ℕ) (n : Named) → line_of n ≡ line → IsCosted ls n
       → AreEntries below → AreEntries (line ∷ below)
   with_line below line n e is others = record {
     named = n ∷ others.named;
     all = ap (λ (l : List ℕ). l ++ lines_of others.named) e ∙ ap (λ (l : List ℕ). line ++ l) others.all;
-    are = (is, others.are);
+    costs = (is, others.costs);
   }
 
   without_line : (below : List (List ℕ)) (line : List ℕ) → line ≡ [] → AreEntries below
@@ -229,12 +225,12 @@ module _ (ls : Layers) (are : AreLayers ls) where
   without_line below line e others = record {
     named = others.named;
     all = others.all ∙ ap (λ (l : List ℕ). l ++ concat below) (sym e);
-    are = others.are;
+    costs = others.costs;
   }
 
   agreed_below : (below : List (List ℕ)) → AreEntries below → IsAgreed ls (version_line ++ concat below)
   agreed_below below e =
-      subst (λ (l : List ℕ). IsAgreed ls (version_line ++ l)) e.all (agreed e.named e.are)
+      subst (λ (l : List ℕ). IsAgreed ls (version_line ++ l)) e.all (agreed e.named e.costs)
 
   -- those of `lengths`
   module _ (text : List ℕ) where
@@ -252,13 +248,14 @@ module _ (ls : Layers) (are : AreLayers ls) where
         let h : entry.h ≡ ls.land.height = grind (arith, nat_tests, sides.1) in
         let n = costed (bytes_at text entry.name) (problem_of entry) cost line stands.is w h
         (subst (λ (s : Cell). IsLeastCost (query_grid ls s) s (record { x = entry.gx; y = entry.gy }) cost)
-        is.start (subst (λ (t : Cell). IsLeastCost (query_grid ls from) from t cost) is.goal is.least)) told in
+        is.start (subst (λ (t : Cell). IsLeastCost (query_grid ls from) from t cost) is.goal is.least))
+        told in
         with_line below line n.0 n.1 n.2 others
 
     entries_below : (entries : List Entry) (below : List (List ℕ)) → AreLengthLines ls text entries below
         → ((k : ℕ) (entry : Entry) → slice_get entries k ≡ Some entry → NameStands text entry.name)
         → AreEntries below
-    entries_below [] [] t stand = record { named = []; all = refl; are = tt }
+    entries_below [] [] t stand = record { named = []; all = refl; costs = tt }
     entries_below [] (line ∷ below) t stand = absurd t
     entries_below (entry ∷ entries) [] t stand = absurd t
     entries_below (entry ∷ entries) (line ∷ below) t stand =
@@ -276,12 +273,13 @@ module _ (ls : Layers) (are : AreLayers ls) where
   priced_have (ends ∷ kept) (p ∷ priced) t =
       All-cons HasLeast p priced
       (subst (λ (s : Cell). IsLeastCost (query_grid ls s) s p.goal p.cost) (sym t.0.start)
-      (subst (λ (g : Cell). IsLeastCost (query_grid ls ends.start) ends.start g p.cost) (sym t.0.goal) t.0.least))
+      (subst (λ (g : Cell). IsLeastCost (query_grid ls ends.start) ends.start g p.cost) (sym t.0.goal)
+      t.0.least))
       (priced_have kept priced t.1)
 
   problems_below : (name : List ℕ) → IsName name → (problems : List Problem) (below : List (List ℕ))
       → All HasLeast problems → AreProblemLines ls name problems below → AreEntries below
-  problems_below name good [] [] all t = record { named = []; all = refl; are = tt }
+  problems_below name good [] [] all t = record { named = []; all = refl; costs = tt }
   problems_below name good [] (line ∷ below) all t = absurd t
   problems_below name good (p ∷ problems) [] all t = absurd t
   problems_below name good (p ∷ problems) (line ∷ below) all t =

@@ -35,7 +35,8 @@ use Rattle.jps_run.specs.Texts.{help_text, version_text}
 use Rattle.jps_run.specs.declared.replies.row.Row.{Row}
 use Rattle.jps_run.specs.declared.replies.ruling.Ruling.{Ruling}
 use Rattle.jps_run.specs.Outcome.{IsAnswered, help, version, replied, solved, judged, refereed, proved}
-use Rattle.jps_run.specs.Outcome.{checked, made, drilled, drawn, costed, tabled, boxed, moved, measured, posed}
+use Rattle.jps_run.specs.Outcome.{checked, made, drilled, drawn, costed, tabled, boxed, moved, measured}
+use Rattle.jps_run.specs.Outcome.{posed}
 use Rattle.scen_maker.specs.Lengths.{AreLengths}
 use Rattle.scen_maker.specs.Problems.{AreProblems}
 

@@ -14,7 +14,8 @@ use Rattle.scen_lines.specs.declared.line.Problem.{Problem}
 use Rattle.scen_lines.specs.Line.{IsOfCost, entry_line, version_line}
 use Rattle.scen_text.specs.declared.entry.Entry.{Entry}
 use Rattle.scen_text.specs.Names.{bytes_at}
-use Rattle.scen_maker.specs.Lengths.{AreLengths, IsLengthLine, IsLineAt, IsProblemLine, lengths_status, problem_of}
+use Rattle.scen_maker.specs.Lengths.{AreLengths, IsLengthLine, IsLineAt, IsProblemLine, lengths_status}
+use Rattle.scen_maker.specs.Lengths.{problem_of}
 use Rattle.scen_maker.specs.Settling.{IsSearched, IsSettled, goal_of, has_sides, least_in, start_of}
 use Rattle.scen_maker.specs.declared.costs.Settled.{Settled}
 use Rattle.scen_maker.specs.declared.costs.Settled.TheVariants as settled
@@ -59,7 +60,8 @@ module _ (ls : Layers) (are : AreLayers ls) (entry : Entry) where
   not_off : {A : Type 0} (from to : Cell) (least : Option Cost) → IsSearched ls entry from to least
       → (is_on_map ls (start_of entry) && is_on_map ls (goal_of entry)) ≡ false → A
   not_off from to least is off =
-      not_outside (ends_on ls are (start_of entry) (goal_of entry) (free_ends from to is.start is.goal is.free)) off
+      not_outside
+      (ends_on ls are (start_of entry) (goal_of entry) (free_ends from to is.start is.goal is.free)) off
 
   not_shut : {A : Type 0} (from to : Cell) (least : Option Cost) → IsSearched ls entry from to least
       → are_free_ends ls (start_of entry) (goal_of entry) ≡ false → A

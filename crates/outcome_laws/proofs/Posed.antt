@@ -53,7 +53,8 @@ one_scenario ls word seed count one other status code is also =
     let priced : is.priced ≡ also.priced =
     turns-same {S = Unit {0}} {X = Ends} {Y = Problem} (λ _ ends p. IsPriced ls ends p)
     (λ _ ends p. IsPriced ls ends p) (λ s _. s) (λ s ends p q. one_priced ls ends p q) tt is.kept is.priced
-    also.priced is.are_priced (subst (λ (l : List Ends). ArePriced ls l also.priced) (sym kept) also.are_priced) in
+    also.priced is.are_priced
+    (subst (λ (l : List Ends). ArePriced ls l also.priced) (sym kept) also.are_priced) in
     let ordered : is.ordered ≡ also.ordered =
     one_ordered is.priced is.ordered also.ordered is.are_ordered
     (subst (λ (l : List Problem). AreOrdered l also.ordered) (sym priced) also.are_ordered) in (

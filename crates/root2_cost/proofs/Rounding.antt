@@ -364,20 +364,3 @@ nearest_exists cost = let h = half_exists (scaled cost) in (h.0, nearest_of_half
 pub bucket_exists : (cost : Cost) → (n : ℕ) × IsBucket cost n
 bucket_exists cost =
     let r = root_of (2 * (cost.b * cost.b)) in ((cost.a + r.0) / 4, bucket_is cost r.0 r.1 r.2)
-
--- a bucket is no greater than the straight moves and twice the diagonal ones
-pub bucket_short : (cost : Cost) (n : ℕ) → IsBucket cost n → n ≤ cost.a + 2 * cost.b
-bucket_short cost n is =
-    let r = root_of (2 * (cost.b * cost.b)) in
-    let same : n ≡ (cost.a + r.0) / 4 = bucket_one cost n ((cost.a + r.0) / 4) is (bucket_is cost r.0 r.1 r.2) in
-    elim (order r.0 (2 * cost.b + 1)) [
-      | inl less ↦ omega arith
-      | inr most ↦ absurd (
-          let square : (2 * cost.b + 1) * (2 * cost.b + 1) ≤ r.0 * r.0 =
-          square_grows (2 * cost.b + 1) r.0 most in
-          let few : r.0 * r.0 ≤ 2 * (cost.b * cost.b) = r.1 in
-          omega arith)
-    ]
-  where
-    order : (m n : ℕ) → (m < n) ⊎ (n ≤ m)
-    order m n = grind arith
