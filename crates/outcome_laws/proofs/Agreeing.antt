@@ -1,13 +1,12 @@
 -- What was written with least lengths agrees.
 use Rattle.std.proofs.Common.{◌≡◌, refl, ap, sym, ◌∙◌, subst, arith, inl, inr, true, false, Bool, ◌&&◌, ℕ}
-use Rattle.std.proofs.Common.{zero, suc, ◌+◌, ◌^◌, ◌<◌, ◌≤◌, List, [], ◌∷◌, ◌++◌, length, append_assoc}
-use Rattle.std.specs.Prelude.{⊤, Ok, Option, Some, None, nat_eq, slice_get}
+use Rattle.std.proofs.Common.{zero, suc, ◌+◌, ◌^◌, ◌<◌, ◌≤◌, List, [], ◌∷◌, ◌++◌, length}
+use Rattle.std.specs.Prelude.{⊤, Ok, Some, None, nat_eq, slice_get}
 use Rattle.std.specs.List.{All, concat, list_all}
 use Rattle.std.proofs.lemmas.Bool.Decides.{nat_tests}
 use Rattle.std.proofs.lemmas.List.Elements.{All-cons, All-head, All-tail}
 use Rattle.std.proofs.lemmas.List.Sorted.{All-permutation}
 use Rattle.root2_cost.specs.declared.Cost.{Cost}
-use Rattle.root2_cost.specs.declared.lengths.Verdict.{Verdict}
 use Rattle.root2_cost.specs.declared.lengths.Verdict.TheVariants.{Agree}
 use Rattle.root2_cost.specs.Length.{eight_places}
 use Rattle.root2_cost.specs.Verdict.{verdict_of}
@@ -25,15 +24,12 @@ use Rattle.joined_cells.proofs.Layering.{joined_in_one_layer}
 use Rattle.edit_replay.specs.Replies.{answer_of}
 use Rattle.edit_replay.specs.declared.reply.Reply.{Reply}
 use Rattle.edit_replay.specs.declared.reply.Reply.TheVariants as reply
-use Rattle.line_work.specs.Turns.{AreInTurn}
-use Rattle.problem_maker.specs.Ordered.{AreOrdered}
 use Rattle.problem_maker.specs.declared.sorting.Problem.{Problem}
 use Rattle.problem_maker.specs.declared.tries.Ends.{Ends}
-use Rattle.scen_lines.specs.declared.line.Listed.{Listed}
 use Rattle.scen_lines.specs.declared.line.Problem as lines
 use Rattle.scen_lines.specs.Laws.{AreReadable, IsReadable, Named, entries_from, entries_of, entry_at, line_of}
 use Rattle.scen_lines.specs.Laws.{lines_of, scenario_of}
-use Rattle.scen_lines.specs.Line.{IsOfCost, entry_line, version_line}
+use Rattle.scen_lines.specs.Line.{IsOfCost, version_line}
 use Rattle.scen_lines.specs.Naming.{name_of}
 use Rattle.scen_lines.proofs.Names.{word_name}
 use Rattle.scen_lines.proofs.Read.{scenario_spells}
@@ -44,7 +40,7 @@ use Rattle.scen_text.specs.Names.{IsName, NameStands, bytes_at}
 use Rattle.scen_text.proofs.Laws.{scen_read}
 use Rattle.scen_text.proofs.Standing.{all_stand}
 use Rattle.scen_maker.specs.Lengths.{AreLengthLines, AreLengths, IsLineAt, IsProblemLine, problem_of}
-use Rattle.scen_maker.specs.Problems.{AreProblemLines, AreProblems, ArePriced, IsPriced, query_of}
+use Rattle.scen_maker.specs.Problems.{AreProblemLines, AreProblems, ArePriced, query_of}
 use Rattle.scen_maker.specs.Settling.{IsSettled, has_sides, least_in}
 use Rattle.scen_maker.specs.declared.costs.Settled.{Settled}
 use Rattle.scen_maker.specs.declared.costs.Settled.TheVariants as settled

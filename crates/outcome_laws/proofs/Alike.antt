@@ -1,5 +1,5 @@
 -- An answer to a request is the only one, and engines that come to answers in one way give the same.
-use Rattle.std.proofs.Common.{◌≡◌, ◌∙◌, refl, ap, sym, subst, ℕ, Bool, true, false, List, [], ◌∷◌, ◌++◌}
+use Rattle.std.proofs.Common.{◌≡◌, ◌∙◌, refl, ap, sym, subst, ℕ, List, [], ◌∷◌, ◌++◌}
 use Rattle.std.proofs.Common.{length}
 use Rattle.std.specs.Prelude.{Ok, Err}
 use Rattle.std.specs.declared.result.Result.{Result}
@@ -17,7 +17,7 @@ use Rattle.walk_judge.specs.declared.telling.Told.{Told}
 use Rattle.walk_judge.specs.Walks.{walks_of}
 use Rattle.potential_check.specs.Text.{certificate_of, plain}
 use Rattle.potential_check.specs.declared.certificate.Certificate.{Certificate}
-use Rattle.word_list.specs.Request.{Asked, Call, Help, Version, Query, Solve, Live, Scen, Judge, Prove, Check}
+use Rattle.word_list.specs.Request.{Asked, Help, Version, Query, Solve, Live, Scen, Judge, Prove, Check}
 use Rattle.word_list.specs.Request.{Make, Drill, Draw, Costs, Tables, Boxes, Moves, Lengths, Problems}
 use Rattle.word_list.specs.declared.request.Settings.{Settings}
 use Rattle.word_list.specs.declared.request.Show.{Show}
@@ -32,10 +32,9 @@ use Rattle.grid_answers.specs.RunLines.{IsRunText}
 use Rattle.jps_run.specs.Rows.{AreRows, scen_lines, scen_status}
 use Rattle.jps_run.specs.Rulings.{AreRulings, judge_lines, judge_status}
 use Rattle.jps_run.specs.declared.replies.row.Row.{Row}
-use Rattle.jps_run.specs.declared.replies.ruling.Ruling.{Ruling}
 use Rattle.call_files.specs.Layered.{layers_on}
 use Rattle.jps_run.specs.Session.{IsSessionOn, OnSession, by_of, who_on}
-use Rattle.jps_run.specs.Who.{By, Who, who_is}
+use Rattle.jps_run.specs.Who.{Who, who_is}
 use Rattle.outcome_laws.proofs.Kept.{are_layers-text}
 use Rattle.outcome_laws.specs.Alike.{AnswerAlike, way_of}
 use Rattle.outcome_laws.proofs.Printed.{one_reply_line, one_answers, one_drawing, one_rows, one_drill}

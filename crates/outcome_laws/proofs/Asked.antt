@@ -7,11 +7,8 @@ use Rattle.map_text.specs.Map.{Map}
 use Rattle.map_text.specs.Faults.{map_of}
 use Rattle.map_text.specs.Writing.{canonical_text}
 use Rattle.map_maker.specs.Making.{made_map}
-use Rattle.script_text.specs.declared.command.Command.{Command}
 use Rattle.script_text.specs.Faults.{script_of}
-use Rattle.scen_text.specs.declared.entry.Entry.{Entry}
 use Rattle.scen_text.specs.Faults.{scen_of}
-use Rattle.walk_judge.specs.declared.telling.Told.{Told}
 use Rattle.walk_judge.specs.Walks.{walks_of}
 use Rattle.potential_check.specs.Text.{certificate_of, plain}
 use Rattle.potential_check.specs.declared.certificate.Certificate.{Certificate}
@@ -23,7 +20,6 @@ use Rattle.grid_answers.specs.BoxLines.{IsBoxText}
 use Rattle.grid_answers.specs.Certificates.{IsProof, IsVerdict}
 use Rattle.grid_answers.specs.Distances.{AreCosts}
 use Rattle.jps_run.specs.Drill.{AreDrilled, drill_line}
-use Rattle.jps_run.specs.declared.replies.drill.Finding.{Finding}
 use Rattle.jps_run.specs.Pictures.{IsDrawing}
 use Rattle.jps_run.specs.Rows.{AreRows, scen_lines, scen_status}
 use Rattle.jps_run.specs.Rulings.{AreRulings, judge_lines, judge_status}
@@ -32,8 +28,6 @@ use Rattle.call_files.specs.Layered.{layers_on}
 use Rattle.jps_run.specs.Session.{OnSession, who_on}
 use Rattle.jps_run.specs.Tabled.{tables_text}
 use Rattle.jps_run.specs.Texts.{help_text, version_text}
-use Rattle.jps_run.specs.declared.replies.row.Row.{Row}
-use Rattle.jps_run.specs.declared.replies.ruling.Ruling.{Ruling}
 use Rattle.jps_run.specs.Outcome.{IsAnswered, help, version, replied, solved, judged, refereed, proved}
 use Rattle.jps_run.specs.Outcome.{checked, made, drilled, drawn, costed, tabled, boxed, moved, measured}
 use Rattle.jps_run.specs.Outcome.{posed}

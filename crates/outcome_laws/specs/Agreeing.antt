@@ -1,5 +1,5 @@
 -- What `lengths` and `problems` print is a scenario whose every length agrees.
-use Rattle.std.specs.Prelude.{◌≡◌, ℕ, true, List, length, Ok}
+use Rattle.std.specs.Prelude.{◌≡◌, ℕ, true, List, Ok}
 use Rattle.std.specs.List.{concat, list_all}
 use Rattle.grid_moves.specs.Layers.{AreLayers, Layers}
 use Rattle.scen_text.specs.declared.entry.Entry.{Entry}
