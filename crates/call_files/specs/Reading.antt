@@ -27,6 +27,7 @@ use Rattle.call_files.specs.declared.kind.Extent.{Extent}
 use Rattle.grid_moves.specs.declared.Corner.{Corner}
 use Rattle.plus_tables.specs.Tables.{AreTablesOf}
 use Rattle.call_files.specs.declared.kind.Kind.{Kind}
+use Rattle.call_files.specs.declared.files.Scenario.{Scenario}
 use Rattle.call_files.specs.declared.layers.SmallLayers.{SmallLayers}
 use Rattle.call_files.specs.declared.tables.MapTables.{MapTables}
 use Rattle.line_work.specs.declared.stop.Stop.{Stop}
@@ -161,6 +162,10 @@ SpellsScript text commands = script_of text ≡ Ok commands.items
 abbrev pub SpellsScen : List ℕ → Vec Entry → Type 0
 SpellsScen text entries = (scen_of text ≡ Ok entries.items) × AreKept entries.items
     × (length entries.items ≤ 2 ^ 26)
+
+-- so it does, and it is kept beside them
+abbrev pub SpellsScenario : List ℕ → Scenario → Type 0
+SpellsScenario text s = SpellsScen text s.entries × (s.text.items ≡ text)
 
 -- the text spells this certificate
 abbrev pub SpellsCert : List ℕ → Certificate → Type 0

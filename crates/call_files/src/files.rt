@@ -47,9 +47,9 @@ pub trait Text: Drop + Sized {
         ensures { result ≡ kind_of_text context.now };
 
     /// The value that the text spells.
-    fn of_text(alloc: Global, text: &[u8], context: &Self::Context) -> Result<Self, Stop>
-        requires { length text.now ≤ limit_of (kind_of_text context.now) }
-        ensures { ReadsText (is_behind context.now) (spells context.now) (kind_of_text context.now) text.now result };
+    fn of_text(alloc: Global, text: Vec<u8>, context: &Self::Context) -> Result<Self, Stop>
+        requires { length text.items ≤ limit_of (kind_of_text context.now) }
+        ensures { ReadsText (is_behind context.now) (spells context.now) (kind_of_text context.now) text.items result };
 }
 
 impl Text for MapText {
@@ -69,8 +69,8 @@ impl Text for MapText {
         context.kind()
     }
 
-    fn of_text(alloc: Global, text: &[u8], context: &Extent) -> Result<MapText, Stop> {
-        match read_map(alloc, text) {
+    fn of_text(alloc: Global, text: Vec<u8>, context: &Extent) -> Result<MapText, Stop> {
+        match read_map(alloc, text.as_slice()) {
             Ok(map) => {
                 if context.takes(&map) {
                     Ok(map)
@@ -99,8 +99,8 @@ impl Text for Vec<Command> {
         Kind::Script
     }
 
-    fn of_text(alloc: Global, text: &[u8], _context: &()) -> Result<Vec<Command>, Stop> {
-        match read_script(alloc, text) {
+    fn of_text(alloc: Global, text: Vec<u8>, _context: &()) -> Result<Vec<Command>, Stop> {
+        match read_script(alloc, text.as_slice()) {
             Ok(commands) => Ok(commands),
             Err(fault) => Err(Stop::Text(script_line(alloc, fault)?)),
         }
@@ -123,9 +123,40 @@ impl Text for Vec<Entry> {
         Kind::Scen
     }
 
-    fn of_text(alloc: Global, text: &[u8], _context: &()) -> Result<Vec<Entry>, Stop> {
-        match read_scen(alloc, text) {
+    fn of_text(alloc: Global, text: Vec<u8>, _context: &()) -> Result<Vec<Entry>, Stop> {
+        match read_scen(alloc, text.as_slice()) {
             Ok(entries) => Ok(entries),
+            Err(fault) => Err(Stop::Text(scen_line(alloc, fault)?)),
+        }
+    }
+}
+
+/// The entries of a scenario, and its text, where the names of their maps stand.
+#[derive(Drop)]
+pub struct Scenario {
+    pub text: Vec<u8>,
+    pub entries: Vec<Entry>,
+}
+
+impl Text for Scenario {
+    ghost use Rattle.call_files.specs.Reading.{SpellsScenario};
+    ghost use Rattle.call_files.specs.declared.kind.Kind.TheVariants.{Scen};
+
+    type Context = ();
+
+    ghost kind_of_text = { λ _. Scen };
+
+    ghost is_behind = { λ _ _. Unit {0} };
+
+    ghost spells = { λ _. SpellsScenario };
+
+    fn kind(_context: &()) -> Kind {
+        Kind::Scen
+    }
+
+    fn of_text(alloc: Global, text: Vec<u8>, _context: &()) -> Result<Scenario, Stop> {
+        match read_scen(alloc, text.as_slice()) {
+            Ok(entries) => Ok(Scenario { text, entries }),
             Err(fault) => Err(Stop::Text(scen_line(alloc, fault)?)),
         }
     }
@@ -147,8 +178,8 @@ impl Text for Certificate {
         Kind::Cert
     }
 
-    fn of_text(alloc: Global, text: &[u8], _context: &()) -> Result<Certificate, Stop> {
-        match read_certificate(alloc, text) {
+    fn of_text(alloc: Global, text: Vec<u8>, _context: &()) -> Result<Certificate, Stop> {
+        match read_certificate(alloc, text.as_slice()) {
             Ok(certificate) => Ok(certificate),
             Err(fault) => Err(Stop::Text(cert_line(alloc, fault)?)),
         }
@@ -174,8 +205,8 @@ impl Text for Vec<Told> {
         Kind::Walks
     }
 
-    fn of_text(alloc: Global, text: &[u8], context: &u32) -> Result<Vec<Told>, Stop> {
-        match read_walks(alloc, text, *context) {
+    fn of_text(alloc: Global, text: Vec<u8>, context: &u32) -> Result<Vec<Told>, Stop> {
+        match read_walks(alloc, text.as_slice(), *context) {
             Ok(walks) => Ok(walks),
             Err(fault) => Err(Stop::Text(walks_line(alloc, fault)?)),
         }
@@ -219,7 +250,7 @@ pub fn read_file<F: Files, T: Text>(
     ensures later { NoneFell (F.disk files.old).faults (F.disk files.new).faults }
 {
     let text = read_text(alloc, files, T::kind(context), name)?;
-    T::of_text(alloc, text.as_slice(), context)
+    T::of_text(alloc, text, context)
 }
 
 /// What is made of a map, as the settings ask.

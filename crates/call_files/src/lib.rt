@@ -11,7 +11,7 @@ mod layers;
 mod tables;
 
 pub use faults::{long_line, script_line, word_line};
-pub use files::{OfMap, Text, open_one, open_two, read_file, read_map_file};
+pub use files::{OfMap, Scenario, Text, open_one, open_two, read_file, read_map_file};
 pub use kind::{Extent, Kind, LONGEST};
 pub use layers::SmallLayers;
 pub use std::alloc::AllocError as NoMemory;

@@ -44,8 +44,8 @@ impl Text for MapTables {
         Kind::Tables(context.land().corner())
     }
 
-    fn of_text(alloc: Global, text: &[u8], context: &Layers) -> Result<MapTables, Stop> {
-        match load_tables(alloc, context, text) {
+    fn of_text(alloc: Global, text: Vec<u8>, context: &Layers) -> Result<MapTables, Stop> {
+        match load_tables(alloc, context, text.as_slice()) {
             Ok((land, water)) => Ok(MapTables { land, water }),
             Err(fault) => Err(Stop::Text(tables_line(alloc, fault)?)),
         }

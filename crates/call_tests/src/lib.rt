@@ -16,6 +16,8 @@ mod live;
 #[cfg(test)]
 mod readme;
 #[cfg(test)]
+mod scenarios;
+#[cfg(test)]
 mod sessions;
 #[cfg(test)]
 mod small;

@@ -11,7 +11,6 @@ use Rattle.grid_moves.specs.Walk.{NoWalk}
 use Rattle.path_points.specs.declared.points.Walk as points
 use Rattle.path_points.specs.Least.{IsLeastOrNone}
 use Rattle.edit_replay.specs.Replies.{IsRightOn}
-use Rattle.edit_replay.specs.Session.{SessionData}
 use Rattle.edit_replay.specs.declared.reply.Reply.{Reply}
 use Rattle.edit_replay.specs.declared.reply.Reply.TheVariants.{Walk, None, Outside, Blocked}
 use Rattle.jps_run.proofs.SessionReply.{reply_exists}
@@ -22,7 +21,6 @@ use Rattle.first_moves.specs.Row.{AreMoves, MovesData}
 use Rattle.first_moves.proofs.Following.{stands}
 use Rattle.first_moves.proofs.Leading.{has_followed}
 use Rattle.jps_run.specs.Answerers.{CanAnswer, IsUnsearched, who_of}
-use Rattle.jps_run.specs.Session.{IsReply}
 use Rattle.jps_run.specs.Who.{By, IsReplyBy, IsReplyOn, by_boxes, by_moves}
 use Rattle.jps_run.specs.declared.replies.answerer.Answerer.{Answerer}
 use Rattle.jps_run.specs.declared.replies.answerer.Answerer.TheVariants as answerer

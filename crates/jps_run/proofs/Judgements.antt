@@ -1,8 +1,7 @@
 -- The rows of entries.
 use Rattle.std.proofs.Common.{◌≡◌, refl, sym, ap, ◌∙◌, subst, List, [], ◌∷◌, ◌++◌, append_assoc, ℕ, suc, ◌+◌}
 use Rattle.std.proofs.Common.{◌^◌, ◌<◌, length, length-append, arith, true, false, Bool}
-use Rattle.std.specs.Prelude.{◌≢◌, ◌&&◌, nat_eq, Result, Ok, Err, OnOk}
-use Rattle.grid_moves.specs.Layers.{Layers}
+use Rattle.std.specs.Prelude.{◌≢◌, Result, Ok, Err, OnOk}
 use Rattle.std.proofs.lemmas.List.{append-nil}
 use Rattle.scen_text.specs.declared.entry.Entry.{Entry}
 use Rattle.jps_run.specs.Answerers.{CanAnswer, who_of}
@@ -37,14 +36,6 @@ new-room job count ready e few = record {
   few = subst (λ (tally : Tally). tally.rows + count < 2 ^ 64) (sym e)
       (let small : 0 + count < 2 ^ 64 = omega arith in small);
 }
-
--- the sides were compared, and are the map's
-pub has-sides : (ls : Layers) (entry : Entry) (width height : ℕ) (same : Bool) → width ≡ ls.land.width
-    → height ≡ ls.land.height → same ≡ (nat_eq entry.w width && nat_eq entry.h height) → same ≡ true
-    → has_sides ls entry ≡ true
-has-sides ls entry width height same wide high is so =
-    subst (λ (n : ℕ). (nat_eq entry.w n && nat_eq entry.h ls.land.height) ≡ true) wide
-    (subst (λ (n : ℕ). (nat_eq entry.w width && nat_eq entry.h n) ≡ true) high (sym is ∙ so))
 
 row_lines-append : (show : Show) (number : ℕ) (some others : List Row)
     → row_lines show number (some ++ others)

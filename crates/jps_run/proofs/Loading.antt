@@ -1,28 +1,17 @@
 -- Sessions on maps, and files that are read behind those of a session.
-use Rattle.std.proofs.Common.{◌≡◌, ◌∙◌, ap, subst, append_assoc, append-nil, refl, sym, List, [], ◌∷◌, ◌++◌}
-use Rattle.std.proofs.Common.{ℕ, Bool, true, false}
-use Rattle.std.specs.Prelude.{Result}
-use Rattle.io_edge.specs.Told.{Disk, Held}
+use Rattle.std.proofs.Common.{◌≡◌, ap, refl}
+use Rattle.std.proofs.Common.{true}
 use Rattle.map_text.specs.Map.{Map}
 use Rattle.edit_replay.specs.declared.engine.Engine.TheVariants as engine
-use Rattle.grid_moves.specs.Layers.{Layers, layers_of}
-use Rattle.grid_moves.specs.declared.Corner.{Corner}
 use Rattle.word_list.specs.Settings.{has_tables, is_for_small_maps}
 use Rattle.word_list.specs.declared.request.Settings.{Settings}
 use Rattle.word_list.specs.declared.request.Pick.{Pick}
 use Rattle.word_list.specs.declared.request.Pick.TheVariants.{Plain, Jps, Block, Plus, Boxes, Moves}
-use Rattle.call_files.specs.Files.{File, IsAccepted, AreAccepted, ComesTo}
-use Rattle.call_files.specs.Reading.{open_stops}
-use Rattle.call_files.specs.Reading.{AreBehindMap, AreMapTables, AreTablesOn, IsBehind, Reads}
 use Rattle.jps_run.specs.Answerers.{HasSession, IsBasisOn}
 use Rattle.jps_run.specs.Session.{PicksSession, by_of}
 use Rattle.jps_run.specs.Who.{Who, by_boxes, by_moves, by_session}
 use Rattle.jps_run.specs.declared.replies.answerer.Basis.{Basis}
 use Rattle.jps_run.specs.declared.replies.answerer.Basis.TheVariants as basis
-use Rattle.call_files.specs.declared.kind.Kind.TheVariants as kind
-use Rattle.call_files.specs.declared.tables.MapTables.{MapTables}
-use Rattle.line_work.specs.declared.stop.Stop.{Stop}
-use Rattle.line_work.proofs.Stopping.{Follow}
 
 -- the engine that searches by tables
 pub by-tables : (pick : Pick) → has_tables pick ≡ true → by_session engine.Plus ≡ by_of pick

@@ -1,80 +1,39 @@
 -- The rows of told walks.
 use Rattle.std.proofs.Common.{◌≡◌, refl, sym, ap, ◌∙◌, subst, List, [], ◌∷◌, ◌++◌, append_assoc, ℕ, zero, suc}
-use Rattle.std.proofs.Common.{◌+◌, ◌^◌, ◌<◌, ◌≤◌, ◌&&◌, ◌||◌, length, length-append, drop, inl, inr, arith}
+use Rattle.std.proofs.Common.{◌+◌, ◌^◌, ◌<◌, ◌≤◌, length, length-append, drop, arith}
 use Rattle.std.proofs.Common.{true, false, Bool}
-use Rattle.std.specs.Prelude.{Some, Result, Ok, Err, OnOk, Vec, slice_get, if◌then◌else◌, nat_eq, count_by}
+use Rattle.std.specs.Prelude.{if◌then◌else◌, nat_eq, count_by}
+use Rattle.std.specs.Prelude.{Option, Some, Result, Ok, Err, OnOk, Vec, slice_get}
 use Rattle.std.specs.Global.{Global}
 use Rattle.std.proofs.lemmas.Bool.Decides.{nat_tests}
 use Rattle.std.proofs.lemmas.List.{append-nil}
+use Rattle.root2_cost.specs.declared.Cost.{Cost}
 use Rattle.grid_moves.specs.declared.Cell.{Cell}
-use Rattle.grid_moves.specs.Grid.{GridData, is_free}
-use Rattle.grid_moves.specs.Layers.{Layers, is_free_ground, is_on_map, query_grid}
-use Rattle.grid_moves.specs.Reply.{IsRight, are_free_ends}
-use Rattle.edit_replay.specs.Replies.{answer_of}
-use Rattle.edit_replay.specs.Session.{SessionData}
-use Rattle.edit_replay.specs.declared.engine.Engine.TheVariants.{Plain}
-use Rattle.edit_replay.specs.declared.reply.Reply.{Reply}
-use Rattle.edit_replay.specs.declared.reply.Reply.TheVariants as reply
-use Rattle.plain_search.specs.Costs.{IsCostTo}
+use Rattle.grid_moves.specs.Grid.{GridData}
+use Rattle.grid_moves.specs.Layers.{Layers, query_grid}
+use Rattle.grid_moves.specs.Reply.{are_free_ends}
 use Rattle.walk_judge.specs.declared.judging.Judged.{Judged}
 use Rattle.walk_judge.specs.Judgement.{IsJudgement}
 use Rattle.walk_judge.proofs.Existing.{judgement_exists}
-use Rattle.walk_judge.proofs.Judgements.{none_to_blocked, stands_costs}
 use Rattle.scen_text.specs.declared.entry.Entry.{Entry}
 use Rattle.walk_judge.specs.declared.telling.Told.{Told}
 use Rattle.call_files.specs.Reading.{AreFit}
-use Rattle.jps_run.specs.Refereeing.{IsReady, CanGoOn, HasRefereed, IsRefereed, cost_in, counts_of, sum_text}
+use Rattle.jps_run.specs.Refereeing.{IsReady, CanGoOn, HasRefereed, IsRefereed, counts_of, sum_text}
 use Rattle.jps_run.specs.Rows.{has_sides}
 use Rattle.jps_run.specs.Rulings.{IsRuling, with_told, scale, outside, blocked, judged, goal_of, start_of}
 use Rattle.jps_run.specs.Rulings.{is_refused, judge_status, ruling_line, ruling_lines, rulings_line}
 use Rattle.line_work.specs.Turns.{AreInTurn}
 use Rattle.line_work.specs.Working.{Adds, CanComplete, HasRoomForOne}
-use Rattle.jps_run.specs.declared.replies.referee.Court.{Court}
 use Rattle.jps_run.specs.declared.replies.referee.Referee.{Referee}
 use Rattle.jps_run.specs.declared.replies.ruling.Counts.{Counts}
 use Rattle.jps_run.specs.declared.replies.ruling.Ruling.{Ruling}
 use Rattle.jps_run.specs.declared.replies.ruling.Ruling.TheVariants as ruling
-use Rattle.jps_run.proofs.SessionReply.{reply_exists}
+use Rattle.scen_maker.proofs.Searching.{settled_exists}
+use Rattle.scen_maker.specs.Settling.{IsSearched, IsSettled}
+use Rattle.scen_maker.specs.declared.costs.Settled.{Settled}
+use Rattle.scen_maker.specs.declared.costs.Settled.TheVariants as settled
 use Rattle.jps_run.proofs.Judgements.{not-empty}
 use Rattle.line_work.proofs.Turns.{turns-more, turns-all}
-
--- where the ends are free but not on one grid, no walk leads
-apart-none : (ls : Layers) (s t : Cell) → is_free_ground ls s ≡ true
-    → (is_free (query_grid ls s) s && is_free (query_grid ls s) t) ≡ false
-    → is_free (query_grid ls s) t ≡ false
-apart-none ls s t free apart = by_water (is_free ls.water s) refl free apart
-  where
-    other : (b : Bool) → (true && b) ≡ false → b ≡ false
-    other b e = e
-
-    by_water : (b : Bool) → is_free ls.water s ≡ b → (is_free ls.land s || is_free ls.water s) ≡ true
-        → (is_free (if is_free ls.water s then ls.water else ls.land) s
-        && is_free (if is_free ls.water s then ls.water else ls.land) t) ≡ false
-        → is_free (if is_free ls.water s then ls.water else ls.land) t ≡ false
-    by_water true e free apart = let h = rw (e, e) at apart in rw e h
-    by_water false e free apart = rw e (by_land (is_free ls.land s) (rw e at free) (rw e at apart))
-      where
-        by_land : (b : Bool) → (b || false) ≡ true → (b && is_free ls.land t) ≡ false
-            → is_free ls.land t ≡ false
-        by_land true free apart = apart
-        by_land false free apart = absurd (cc)
-
-first-free : (a b : Bool) → (a && b) ≡ true → a ≡ true
-first-free true b e = refl
-first-free false b e = absurd (cc)
-
--- a right reply between free ends tells the least cost
-pub right-costs : (ls : Layers) (s t : Cell) (r : Reply) → (is_on_map ls s && is_on_map ls t) ≡ true
-    → are_free_ends ls s t ≡ true → IsRight ls s t (answer_of r) → IsCostTo (query_grid ls s) s t (cost_in r)
-right-costs ls s t reply.Outside on free right = absurd (cc)
-right-costs ls s t reply.Blocked on free right = absurd (let no = right.1 in cc)
-right-costs ls s t (reply.None taken) on free right = elim right.1 [
-  | inl apart ↦ none_to_blocked (query_grid ls s) s t
-      (apart-none ls s t (first-free (is_free_ground ls s) (is_free_ground ls t) free) apart)
-  | inr none ↦ none
-]
-right-costs ls s t (reply.Walk points cost taken) on free right =
-    stands_costs (query_grid ls s) s t points cost right.1
 
 -- what is told between free cells is judged, and its row says how
 pub ruled-so : (ls : Layers) (entry : Entry) (told : Told) (how : Judged) (from to : Cell) (g : GridData)
@@ -87,6 +46,17 @@ ruled-so ls entry told how from to g sides f t free e j =
     (subst (λ (c : Cell). IsJudgement (query_grid ls c) c (goal_of entry) told how) f
     (subst (λ (c : Cell). IsJudgement (query_grid ls from) from c told how) t
     (subst (λ (q : GridData). IsJudgement q from to told how) e j))) refl
+
+-- a query that was settled so was searched
+pub searched-so : (ls : Layers) (entry : Entry) (how : Settled) (from to : Cell) (least : Option Cost)
+    → IsSettled ls entry how → how ≡ settled.Searched from to least → IsSearched ls entry from to least
+searched-so ls entry how from to least is e = subst (λ (s : Settled). IsSettled ls entry s) e is
+
+pub ruled-searched : (ls : Layers) (entry : Entry) (told : Told) (how : Judged) (from to : Cell)
+    (least : Option Cost) (g : GridData) → IsSearched ls entry from to least → g ≡ query_grid ls from
+    → IsJudgement g from to told how → IsRuling ls entry told (ruling.Judged how)
+ruled-searched ls entry told how from to least g is e j =
+    ruled-so ls entry told how from to g is.sides is.start is.goal is.free e j
 
 abbrev Both : Type 0
 Both = Entry × Told
@@ -131,11 +101,11 @@ ruling_lines-append number (r ∷ some) others =
 
 -- one row more leaves room for one less
 pub goes-on : {T E : Type 0} (result : Result T E) (job now : Referee) (r : Ruling)
-    (room : HasRoomForOne (CanGoOn job)) → now.court ≡ job.court → now.walks ≡ job.walks
+    (room : HasRoomForOne (CanGoOn job)) → now.walks ≡ job.walks
     → ((rulings : List Ruling) → job.counts ≡ counts_of rulings → now.counts ≡ counts_of (rulings ++ r ∷ []))
     → OnOk result ((n : ℕ) → CanGoOn job (n + 1) → CanGoOn now n)
-goes-on (Err error) job now r room court walks counts = tt
-goes-on (Ok done) job now r room court walks counts = λ n h.
+goes-on (Err error) job now r room walks counts = tt
+goes-on (Ok done) job now r room walks counts = λ n h.
     let t = h.counts in
     let one : now.counts ≡ counts_of (t.rulings ++ r ∷ []) = counts t.rulings t.counted in
     let old : job.counts.rows ≡ length t.rulings = ap (λ (c : Counts). c.rows) t.counted in
@@ -146,7 +116,6 @@ goes-on (Ok done) job now r room court walks counts = λ n h.
     let many : length now.walks.items ≡ length job.walks.items =
     ap (λ (v : Vec Told Global). length v.items) walks in
     record {
-      same = subst (λ (court : Court). court.session.layers ≡ court.layers) (sym court) h.same;
       fit = subst (λ (v : Vec Told Global). AreFit v.items) (sym walks) h.fit;
       counts = record { rulings = t.rulings ++ r ∷ []; counted = one };
       left = omega arith;
@@ -156,15 +125,15 @@ goes-on (Ok done) job now r room court walks counts = λ n h.
 -- one entry more has its row
 pub refereed-more : {T E : Type 0} (result : Result T E) (job now : Referee) (entry : Entry) (told : Told)
     (r : Ruling)
-    (before after : List ℕ) → IsRuling job.court.layers entry told r
-    → slice_get job.walks.items job.counts.rows ≡ Some told → now.court ≡ job.court → now.walks ≡ job.walks
+    (before after : List ℕ) → IsRuling job.costs entry told r
+    → slice_get job.walks.items job.counts.rows ≡ Some told → now.costs ≡ job.costs → now.walks ≡ job.walks
     → ((rulings : List Ruling) → job.counts ≡ counts_of rulings → now.counts ≡ counts_of (rulings ++ r ∷ []))
     → OnOk result (after ≡ before ++ ruling_line now.counts.rows r)
     → OnOk result ((first : Referee) (entries : List Entry) (lines : List (List ℕ))
     → HasRefereed first job entries lines
     → Adds (HasRefereed first now (entries ++ entry ∷ [])) lines before after)
-refereed-more (Err error) job now entry told r before after is found court walks counts w = tt
-refereed-more (Ok done) job now entry told r before after is found court walks counts w =
+refereed-more (Err error) job now entry told r before after is found costs walks counts w = tt
+refereed-more (Ok done) job now entry told r before after is found costs walks counts w =
     λ first entries lines h.
     let old : job.counts.rows ≡ length h.rulings = ap (λ (c : Counts). c.rows) h.counted in
     let one : now.counts.rows ≡ length (h.rulings ++ r ∷ []) =
@@ -180,16 +149,16 @@ refereed-more (Ok done) job now entry told r before after is found court walks c
       stand = record {
         rulings = h.rulings ++ r ∷ [];
         are = subst (λ (l : List Both).
-            AreInTurn {S = Unit {0}} (Stands first.court.layers) stays tt l (h.rulings ++ r ∷ []))
+            AreInTurn {S = Unit {0}} (Stands first.costs) stays tt l (h.rulings ++ r ∷ []))
             (sym (with_told-more entries first.walks.items entry told here))
-            (turns-more (Stands first.court.layers) stays tt (with_told entries first.walks.items) h.rulings
+            (turns-more (Stands first.costs) stays tt (with_told entries first.walks.items) h.rulings
             (entry, told) r h.are (subst (λ (ls : Layers). IsRuling ls entry told r) h.same is));
         all = ap (λ (l : List (List ℕ)). l ++ ruling_line now.counts.rows r ∷ []) h.all
             ∙ ap (λ k. ruling_lines 1 h.rulings ++ ruling_line k r ∷ []) place
             ∙ sym (ruling_lines-append 1 h.rulings (r ∷ []));
         as_many = (let many : length h.rulings ≡ length entries = h.as_many in omega arith);
         counted = counts h.rulings h.counted;
-        same = ap (λ (court : Court). court.layers) court ∙ h.same;
+        same = costs ∙ h.same;
         told = walks ∙ h.told;
       };
       appended = w ∙ ap (λ (l : List ℕ). before ++ l) (sym (append-nil (ruling_line now.counts.rows r)));
@@ -213,43 +182,25 @@ refereed-all job status before after w s first entries lines h = record {
       ∙ ap (λ (l : List ℕ). before ++ l) (sym (append-nil (rulings_line h.rulings)));
 }
 
--- every entry has a row, whatever is told of it
-module _ (ls : Layers) (entry : Entry) (told : Told) where
-  abbrev from : Cell
-  from = start_of entry
-
-  abbrev to : Cell
-  to = goal_of entry
-
-  abbrev session : SessionData
-  session = record { engine = Plain; layers = ls }
-
-  ruled-inside : has_sides ls entry ≡ true → (is_on_map ls from && is_on_map ls to) ≡ true
-      → (b : Bool) → are_free_ends ls from to ≡ b → (r : Ruling) × IsRuling ls entry told r
-  ruled-inside sides on false free = (ruling.Blocked, blocked sides (on, free) refl)
-  ruled-inside sides on true free =
-      let p = reply_exists session from to in
-      let j = judgement_exists (query_grid ls from) from to told (cost_in p.0)
-      (right-costs ls from to p.0 on free p.1.right) in
-      (ruling.Judged j.0, judged j.0 sides free j.1 refl)
-
-  ruled-sized : has_sides ls entry ≡ true → (b : Bool) → (is_on_map ls from && is_on_map ls to) ≡ b
-      → (r : Ruling) × IsRuling ls entry told r
-  ruled-sized sides false off = (ruling.Outside, outside sides off refl)
-  ruled-sized sides true on = ruled-inside sides on (are_free_ends ls from to) refl
-
-  ruled : (b : Bool) → has_sides ls entry ≡ b → (r : Ruling) × IsRuling ls entry told r
-  ruled false sides = (ruling.Scale, scale sides refl)
-  ruled true sides = ruled-sized sides (is_on_map ls from && is_on_map ls to) refl
+-- a query that was settled gives a row, whatever is told
+pub settled-ruled : (ls : Layers) (entry : Entry) (told : Told) (how : Settled) → IsSettled ls entry how
+    → (r : Ruling) × IsRuling ls entry told r
+settled-ruled ls entry told settled.Scale sides = (ruling.Scale, scale sides refl)
+settled-ruled ls entry told settled.Outside is = (ruling.Outside, outside is.0 is.1 refl)
+settled-ruled ls entry told settled.Blocked is = (ruling.Blocked, blocked is.0 is.1 refl)
+settled-ruled ls entry told (settled.Searched from to least) is =
+    let j = judgement_exists (query_grid ls from) from to told least is.least in
+    (ruling.Judged j.0, ruled-searched ls entry told j.0 from to least (query_grid ls from) is refl j.1)
 
 ruling_exists : (ls : Layers) (s : Unit {0}) (both : Both) → (r : Ruling) × Stands ls s both r
-ruling_exists ls s both = ruled ls both.0 both.1 (has_sides ls both.0) refl
+ruling_exists ls s both =
+    let h = settled_exists ls both.0 in settled-ruled ls both.0 both.1 h.0 h.1
 
 -- so the first rows can be completed
 pub rulings-complete : CanComplete HasRefereed IsRefereed true
 rulings-complete first now some others lines h =
     let walks : List Told = first.walks.items in
-    let all = turns-all (Stands first.court.layers) stays (ruling_exists first.court.layers) tt
+    let all = turns-all (Stands first.costs) stays (ruling_exists first.costs) tt
     (with_told some walks)
     (with_told others (drop (length some) walks)) h.rulings h.are in
     let rulings : List Ruling = h.rulings ++ all.0 in
@@ -261,7 +212,7 @@ rulings-complete first now some others lines h =
       whole = record {
         rulings = rulings;
         are =
-            subst (λ (l : List Both). AreInTurn {S = Unit {0}} (Stands first.court.layers) stays tt l rulings)
+            subst (λ (l : List Both). AreInTurn {S = Unit {0}} (Stands first.costs) stays tt l rulings)
             (sym (with_told-append some others walks)) all.1;
         all = sym (append_assoc lines rest (sum ∷ []))
             ∙ ap (λ (l : List (List ℕ)). (l ++ rest) ++ sum ∷ []) h.all
@@ -288,7 +239,6 @@ pub all-left : (job : Referee) (count : ℕ) → IsReady job count → count < 2
 all-left job count ready few =
     let rows : job.counts.rows ≡ 0 = ap (λ (c : Counts). c.rows) ready.none in
     record {
-      same = ready.same;
       fit = ready.fit;
       counts = record { rulings = []; counted = ready.none };
       left = (let enough : count ≤ length job.walks.items = ready.enough in omega arith);

@@ -1,5 +1,5 @@
 -- The steps that are counted.
-use Rattle.std.proofs.Common.{◌≡◌, refl, subst, List, [], ◌∷◌, ◌++◌, ℕ}
+use Rattle.std.proofs.Common.{refl, subst, List, [], ◌∷◌, ◌++◌, ℕ}
 use Rattle.std.specs.Prelude.{Result, Ok, Err, OnOk}
 use Rattle.std.specs.List.{fold}
 use Rattle.jps_run.specs.Rising.{RoseInTurn}

@@ -2,7 +2,7 @@
 use Rattle.std.specs.Prelude.{◌≡◌, ℕ, Bool, true, false, List, [], ◌∷◌, ◌++◌}
 use Rattle.io_edge.specs.Told.{Held}
 use Rattle.word_list.specs.Request.{Asked, Call, Help, Version, Query, Solve, Live, Scen, Judge, Prove, Check}
-use Rattle.word_list.specs.Request.{Make, Drill, Draw, Costs, Tables, Boxes, Moves}
+use Rattle.word_list.specs.Request.{Make, Drill, Draw, Costs, Tables, Boxes, Moves, Lengths, Problems}
 use Rattle.word_list.specs.declared.request.Settings.{Settings}
 use Rattle.call_files.specs.Files.{AreAccepted, File, file_of}
 use Rattle.call_files.specs.declared.kind.Kind.TheVariants as kind
@@ -30,6 +30,8 @@ asked_files set (Costs map x y) = file_of kind.Map map ∷ []
 asked_files set (Tables map) = file_of kind.Map map ∷ []
 asked_files set (Boxes map x y) = file_of kind.SmallMap map ∷ []
 asked_files set (Moves map x y) = file_of kind.SmallMap map ∷ []
+asked_files set (Lengths map scen) = file_of kind.Map map ∷ file_of kind.Scen scen ∷ []
+asked_files set (Problems map seed count) = file_of kind.Map map ∷ []
 asked_files set (Scen map tables scen) = map_files set map tables ++ file_of kind.Scen scen ∷ []
 
 -- the files of a call

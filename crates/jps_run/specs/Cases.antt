@@ -2,10 +2,9 @@
 use Rattle.std.specs.Prelude.{ℕ, List, [], ◌∷◌, length}
 use Rattle.io_edge.specs.Told.{Held}
 use Rattle.call_files.specs.Files.{AreAccepted, file_of}
-use Rattle.call_files.specs.Reading.{IsMade, SpellsScen, SpellsWalks}
+use Rattle.call_files.specs.Reading.{AreLayersOf, IsMade, SpellsScen, SpellsWalks}
 use Rattle.call_files.specs.declared.kind.Kind.TheVariants as kinds
 use Rattle.jps_run.specs.declared.replies.case.Case.{Case}
-use Rattle.jps_run.specs.Refereeing.{IsCourtOf}
 use Rattle.word_list.specs.declared.request.Settings.{Settings}
 
 -- the files hold a map, a scenario behind it and behind both what is told of each entry, which were read so
@@ -17,6 +16,6 @@ pub record IsCaseOf (set : Settings) (holds : List ℕ → Held) (map scen told 
   pub accepted : AreAccepted holds []
       (file_of kinds.Map map ∷ file_of kinds.Scen scen ∷ file_of kinds.Walks told ∷ [])
       (text ∷ second ∷ third ∷ [])
-  pub court : IsMade (IsCourtOf set) text case.court
+  pub costs : IsMade (AreLayersOf set) text case.costs
   pub entries : SpellsScen second case.entries
   pub walks : SpellsWalks (length case.entries.items) third case.walks

@@ -11,7 +11,7 @@ use Rattle.script_text.specs.Faults.{script_of}
 use Rattle.scen_text.specs.declared.entry.Entry.{Entry}
 use Rattle.scen_text.specs.Faults.{scen_of}
 use Rattle.word_list.specs.Request.{Asked, Call, Help, Version, Query, Solve, Live, Scen, Judge, Prove, Check}
-use Rattle.word_list.specs.Request.{Make, Drill, Draw, Costs, Tables, Boxes, Moves}
+use Rattle.word_list.specs.Request.{Make, Drill, Draw, Costs, Tables, Boxes, Moves, Lengths, Problems}
 use Rattle.word_list.specs.declared.request.Settings.{Settings}
 use Rattle.call_files.specs.Files.{AreAccepted}
 use Rattle.jps_run.specs.Heard.{RoseHeard}
@@ -42,6 +42,8 @@ searches (Costs map x y) = false
 searches (Tables map) = false
 searches (Boxes map x y) = false
 searches (Moves map x y) = false
+searches (Lengths map scen) = false
+searches (Problems map seed count) = false
 
 -- the counter rose as the searches of a call make it, on the texts of its files; `loaded` is that of the
 -- table file, where one is named

@@ -16,7 +16,7 @@ use Rattle.potential_check.specs.Text.{certificate_of, plain}
 use Rattle.potential_check.specs.declared.certificate.Certificate.{Certificate}
 use Rattle.word_list.specs.Calls.{call_of, is_call}
 use Rattle.word_list.specs.Request.{Call, Help, Version, Query, Solve, Scen, Judge, Prove, Check, Make, Drill}
-use Rattle.word_list.specs.Request.{Draw, Costs, Tables, Boxes, Moves}
+use Rattle.word_list.specs.Request.{Draw, Costs, Tables, Boxes, Moves, Lengths, Problems}
 use Rattle.word_list.specs.Rule.{IsBadWord}
 use Rattle.word_list.specs.declared.request.Settings.{Settings}
 use Rattle.jps_run.specs.Answers.{AreAnswers, IsReplyLine}
@@ -28,6 +28,8 @@ use Rattle.jps_run.specs.declared.replies.drill.Finding.{Finding}
 use Rattle.call_files.specs.FaultLines.{word_line}
 use Rattle.jps_run.specs.Calls.{call_with, files_of}
 use Rattle.call_files.specs.Files.{AreAccepted, HasRefused}
+use Rattle.scen_maker.specs.Lengths.{AreLengths}
+use Rattle.scen_maker.specs.Problems.{AreProblems}
 use Rattle.jps_run.specs.Live.{AreHeard}
 use Rattle.jps_run.specs.Pictures.{IsDrawing}
 use Rattle.jps_run.specs.Rows.{AreRows, scen_lines, scen_status}
@@ -107,6 +109,15 @@ pub data IsAnswered : Call → List (List ℕ) → List (List ℕ) → ℕ → T
       → map_of text ≡ Ok m
       → IsRunText (layers_on set m) (record { x = x; y = y }) printed
       → IsAnswered (call_with (Moves map x y) set) (text ∷ []) (printed ∷ []) 0
+  measured : (map scen text second : List ℕ) (set : Settings) (m : Map) (entries : List Entry)
+      (lines : List (List ℕ)) (status : ℕ)
+      → map_of text ≡ Ok m → scen_of second ≡ Ok entries
+      → AreLengths (layers_on set m) second entries lines status
+      → IsAnswered (call_with (Lengths map scen) set) (text ∷ second ∷ []) lines status
+  posed : (map text : List ℕ) (seed count : ℕ) (set : Settings) (m : Map) (printed : List ℕ) (status : ℕ)
+      → map_of text ≡ Ok m
+      → AreProblems (layers_on set m) map seed count printed status
+      → IsAnswered (call_with (Problems map seed count) set) (text ∷ []) (printed ∷ []) status
 
 -- the lines and the status are a right output of a call, with the files that are held
 pub record IsOutput (call : Call) (holds : List ℕ → Held) (lines : List (List ℕ)) (status : ℕ) : Type 0 where

@@ -1,18 +1,9 @@
 -- How far the judging of told walks has come.
 use Rattle.std.specs.Prelude.{◌≡◌, ℕ, ◌+◌, ◌^◌, ◌<◌, ◌≤◌, ◌++◌, List, [], length, count_by, codes, decimal}
-use Rattle.std.specs.Prelude.{Option, Some, None}
-use Rattle.root2_cost.specs.declared.Cost.{Cost}
-use Rattle.edit_replay.specs.declared.engine.Engine.TheVariants.{Block}
-use Rattle.edit_replay.specs.declared.reply.Reply.{Reply}
-use Rattle.edit_replay.specs.declared.reply.Reply.TheVariants as reply
-use Rattle.grid_moves.specs.Layers.{layers_of}
-use Rattle.map_text.specs.Map.{Map}
 use Rattle.scen_text.specs.declared.entry.Entry.{Entry}
-use Rattle.word_list.specs.declared.request.Settings.{Settings}
 use Rattle.call_files.specs.Reading.{AreFit}
 use Rattle.jps_run.specs.Rulings.{AreRulings, is_accepted, is_refused, is_unjudged, judge_lines, judge_status}
 use Rattle.jps_run.specs.Rulings.{ruling_lines}
-use Rattle.jps_run.specs.declared.replies.referee.Court.{Court}
 use Rattle.jps_run.specs.declared.replies.referee.Referee.{Referee}
 use Rattle.jps_run.specs.declared.replies.ruling.Counts.{Counts}
 use Rattle.jps_run.specs.declared.replies.ruling.Ruling.{Ruling}
@@ -40,39 +31,24 @@ sum_text counts =
     ++ codes " other " ++ decimal counts.other
     ++ codes "\n"
 
--- what a reply tells of the least cost
-abbrev pub cost_in : Reply → Option Cost
-cost_in (reply.Walk points cost taken) = Some cost
-cost_in (reply.None taken) = None
-cost_in reply.Outside = None
-cost_in reply.Blocked = None
-
--- the layers of a map, and the session on them that searches by blocks
-pub record IsCourtOf (set : Settings) (m : Map) (court : Court) : Type 0 where
-  pub layers : court.layers ≡ layers_of set.rule m.width m.height m.cells
-  pub session : court.session ≡ record { engine = Block; layers = court.layers }
-
 -- the entries have their rows with these lines, and the rows are counted
 pub record HasRefereed (first now : Referee) (entries : List Entry) (lines : List (List ℕ)) : Type 0 where
   pub rulings : List Ruling
-  pub are : AreRulings first.court.layers entries first.walks.items rulings
+  pub are : AreRulings first.costs entries first.walks.items rulings
   pub all : lines ≡ ruling_lines 1 rulings
   pub as_many : length rulings ≡ length entries
   pub counted : now.counts ≡ counts_of rulings
-  pub same : now.court.layers ≡ first.court.layers
+  pub same : now.costs ≡ first.costs
   pub told : now.walks ≡ first.walks
 
 -- nothing is judged yet, and there are walks for so many entries
 pub record IsReady (job : Referee) (entries : ℕ) : Type 0 where
-  pub same : job.court.session.layers ≡ job.court.layers
   pub fit : AreFit job.walks.items
   pub none : job.counts ≡ counts_of []
   pub enough : entries ≤ length job.walks.items
 
--- the session is that of the layers, the walks can be judged, the rows are counted, and walks and room are
--- left for so many more
+-- the walks can be judged, the rows are counted, and walks and room are left for so many more
 pub record CanGoOn (job : Referee) (more : ℕ) : Type 0 where
-  pub same : job.court.session.layers ≡ job.court.layers
   pub fit : AreFit job.walks.items
   pub counts : IsCounts job.counts
   pub left : job.counts.rows + more ≤ length job.walks.items
@@ -82,6 +58,6 @@ pub record CanGoOn (job : Referee) (more : ℕ) : Type 0 where
 pub record IsRefereed (first : Referee) (entries : List Entry) (lines : List (List ℕ))
     (status : ℕ) : Type 0 where
   pub rulings : List Ruling
-  pub are : AreRulings first.court.layers entries first.walks.items rulings
+  pub are : AreRulings first.costs entries first.walks.items rulings
   pub all : lines ≡ judge_lines rulings
   pub same_status : status ≡ judge_status rulings

@@ -1,5 +1,5 @@
 -- The rows that judge a scenario.
-use Rattle.std.specs.Prelude.{◌≡◌, ℕ, ◌+◌, Bool, true, false, nat_eq, ◌&&◌, ◌||◌, if◌then◌else◌, List, []}
+use Rattle.std.specs.Prelude.{◌≡◌, ℕ, ◌+◌, Bool, true, false, ◌||◌, if◌then◌else◌, List, []}
 use Rattle.std.specs.Prelude.{◌∷◌, ◌++◌, length, codes, decimal, count_by}
 use Rattle.std.specs.List.{list_all, sum_by}
 use Rattle.root2_cost.specs.declared.lengths.Decimal.{Decimal}
@@ -11,15 +11,11 @@ use Rattle.edit_replay.specs.declared.reply.Reply.TheVariants as reply
 use Rattle.scen_text.specs.declared.entry.Entry.{Entry}
 use Rattle.word_list.specs.declared.request.Show.{Show}
 use Rattle.word_list.specs.declared.request.Show.TheVariants.{Points, Cells, Trace, Taken}
-use Rattle.grid_moves.specs.Layers.{Layers}
 use Rattle.line_work.specs.Turns.{AreInTurn}
+pub use Rattle.scen_maker.specs.Settling.{has_sides}
 use Rattle.jps_run.specs.Who.{Who, IsReplyBy}
 use Rattle.jps_run.specs.declared.replies.row.Row.{Row}
 use Rattle.jps_run.specs.declared.replies.row.Row.TheVariants as row
-
--- the entry is meant for a map of these sides
-abbrev pub has_sides : Layers → Entry → Bool
-has_sides ls entry = nat_eq entry.w ls.land.width && nat_eq entry.h ls.land.height
 
 -- what a reply makes of an entry with this length
 abbrev pub row_of : Decimal → Reply → Row

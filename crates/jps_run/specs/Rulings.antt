@@ -2,7 +2,6 @@
 use Rattle.std.specs.Prelude.{◌≡◌, ℕ, ◌+◌, Bool, true, false, nat_eq, if◌then◌else◌, List, [], ◌∷◌, ◌++◌}
 use Rattle.std.specs.Prelude.{length, codes, decimal, count_by}
 use Rattle.root2_cost.specs.declared.Cost.{Cost}
-use Rattle.grid_moves.specs.declared.Cell.{Cell}
 use Rattle.grid_moves.specs.Layers.{Layers, query_grid}
 use Rattle.grid_moves.specs.Reply as answer
 use Rattle.grid_moves.specs.Reply.{IsRight, are_free_ends}
@@ -11,6 +10,7 @@ use Rattle.walk_judge.specs.declared.judging.Judged.{Judged}
 use Rattle.walk_judge.specs.declared.judging.Judged.TheVariants.{Least, NoWalk, BadWalk, Longer, Exists}
 use Rattle.walk_judge.specs.declared.telling.Told.{Told}
 use Rattle.walk_judge.specs.Judgement.{IsJudgement}
+pub use Rattle.scen_maker.specs.Settling.{goal_of, start_of}
 use Rattle.jps_run.specs.Rows.{has_sides}
 use Rattle.line_work.specs.Turns.{AreInTurn}
 use Rattle.jps_run.specs.declared.replies.ruling.Ruling.{Ruling}
@@ -21,13 +21,6 @@ abbrev pub with_told : List Entry → List Told → List (Entry × Told)
 with_told [] walks = []
 with_told (entry ∷ entries) [] = []
 with_told (entry ∷ entries) (told ∷ walks) = (entry, told) ∷ with_told entries walks
-
--- the ends of the entry's query
-abbrev pub start_of : Entry → Cell
-start_of entry = record { x = entry.sx; y = entry.sy }
-
-abbrev pub goal_of : Entry → Cell
-goal_of entry = record { x = entry.gx; y = entry.gy }
 
 -- the row of an entry and of what is told of it: the entry is meant for another size; or an end lies outside,
 -- or is blocked; else what is told is judged so on the grid of the query

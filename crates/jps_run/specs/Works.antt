@@ -1,12 +1,14 @@
 -- The work of a call: what it prints, how far the counter rises for it, and what it needs.
-use Rattle.std.specs.Prelude.{◌≡◌, ℕ, ◌≤◌, ◌^◌, ⊤, List, [], length}
+use Rattle.std.specs.Prelude.{◌≡◌, ℕ, ◌≤◌, ◌^◌, ⊤, true, List, [], length}
 use Rattle.jps_run.specs.Answerers.{CanAnswer, who_of}
 use Rattle.call_files.specs.Reading.{AreKept}
 use Rattle.jps_run.specs.declared.work.Work.{Work}
 use Rattle.jps_run.specs.declared.work.Work.TheVariants as work
 use Rattle.grid_answers.specs.Encoded.{IsEncoded}
 use Rattle.grid_answers.specs.Telling.{AreWritten}
-use Rattle.line_work.specs.Sending.{IsText}
+use Rattle.line_work.specs.Sending.{HasHead, IsText}
+use Rattle.scen_lines.specs.Line.{version_line}
+use Rattle.scen_maker.specs.Listing.{AreListed}
 use Rattle.jps_run.specs.Entries.{RoseForEntries}
 use Rattle.jps_run.specs.Judging.{IsJudged}
 use Rattle.jps_run.specs.Refereeing.{IsReady, IsRefereed}
@@ -23,6 +25,7 @@ abbrev pub IsWhole : Work → List (List ℕ) → ℕ → Type 0
 IsWhole (work.Answer job commands) = IsSolved job commands.items
 IsWhole (work.Judge job entries) = IsJudged job entries.items
 IsWhole (work.Referee job entries) = IsRefereed job entries.items
+IsWhole (work.List job entries) = HasHead version_line (AreListed job entries.items)
 IsWhole (work.Drill job commands) = IsDrilled job commands.items
 IsWhole (work.Draw canvas ends show) =
     IsPictured canvas (record { x = ends.sx; y = ends.sy }) (record { x = ends.gx; y = ends.gy }) show
@@ -36,6 +39,7 @@ abbrev pub HasRisen : Work → ℕ → ℕ → Type 0
 HasRisen (work.Answer job commands) old new = RoseForCommands job.session commands.items old new
 HasRisen (work.Judge job entries) old new = RoseForEntries (who_of job.answerer) entries.items old new
 HasRisen (work.Referee job entries) old new = ⊤
+HasRisen (work.List job entries) old new = ⊤
 HasRisen (work.Drill job commands) old new = RoseForCommands job.session commands.items old new
 HasRisen (work.Draw canvas ends show) old new = RoseForQuery (who_is canvas.session)
     (record { x = ends.sx; y = ends.sy }) (record { x = ends.gx; y = ends.gy }) old new
@@ -45,12 +49,13 @@ HasRisen (work.Print text status) old new = old ≤ new
 HasRisen (work.Say text) old new = ⊤
 
 -- the work can be done: queries can be answered, the lengths of entries can be judged, nothing is summed up
--- yet, the sums of a drill have room, and so has a piece of a table file
+-- or left out yet, the sums of a drill have room, and so has a piece of a table file
 abbrev pub CanPerform : Work → Type 0
 CanPerform (work.Answer job commands) = ⊤
 CanPerform (work.Judge job entries) = CanAnswer job.answerer × AreKept entries.items
     × (job.tally ≡ tally_of [])
 CanPerform (work.Referee job entries) = IsReady job (length entries.items)
+CanPerform (work.List job entries) = job.all ≡ true
 CanPerform (work.Drill job commands) = (length commands.items ≤ 2 ^ 32) × (job.sums ≡ sums_of [])
 CanPerform (work.Draw canvas ends show) = ⊤
 CanPerform (work.Tell lines) = ⊤

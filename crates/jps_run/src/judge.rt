@@ -26,12 +26,12 @@ pub(crate) fn judge<F: Files>(
     ensures unchanged { (F.disk files.new).holds ≡ (F.disk files.old).holds }
 {
     let Case {
-        court,
+        costs,
         entries,
         walks,
     } = read_case(alloc, files, map, scen, walks, settings)?;
     let job = Referee {
-        court,
+        costs,
         walks,
         counts: Counts::new(),
     };

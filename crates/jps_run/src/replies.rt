@@ -28,7 +28,7 @@ pub use draw::{Canvas, write_drawing};
 pub use drill::{Finding, Summary, Sums, write_sums};
 pub use lines::put_reply;
 pub use live::hear;
-pub use referee::{Court, Referee, write_rulings};
+pub use referee::{Referee, write_rulings};
 pub use row::{Row, Tally};
 pub use ruling::{Counts, Ruling};
 pub use scenario::{Judge, write_rows};

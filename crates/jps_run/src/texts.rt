@@ -20,6 +20,10 @@ pub(crate) fn help_text() -> &'static [u8]
       also how many states each search took
   jps judge MAP SCEN WALKS [rule=none|one|both]
       a row for each entry: the walk that another program tells of it accepted, or why not, and their sum
+  jps lengths MAP SCEN [rule=none|one|both]
+      the scenario again, with the least length of each entry that has a walk
+  jps problems MAP SEED N [rule=none|one|both]
+      a scenario of N entries between free cells of the map that a walk joins, made from the number SEED
   jps prove MAP SX SY GX GY [rule=none|one|both]
       a certificate that the cost of a least walk is least, or that there is no walk
   jps check MAP CERT [rule=none|one|both]
@@ -57,8 +61,8 @@ Of the two cells beside a diagonal move rule=none lets none be blocked, rule=one
 no rule is named it is none.
 
 statuses: 0 done; 1 done, and a row of `scen` is neither agree nor near, `judge` or `check` refuses, `prove`
-has no free ends on one layer, or `draw` no free ends; 2 the words are refused; 3 a text is refused; 4 a read failed;
-5 a write of the output failed; 6 memory was refused
+has no free ends on one layer, `draw` no free ends, `lengths` left an entry out, or `problems` found fewer than N;
+2 the words are refused; 3 a text is refused; 4 a read failed; 5 a write of the output failed; 6 memory was refused
 faults, one line on standard error:
   jps: word N            word N is missing, or no call has it there; words are counted from 1
   jps: TEXT CODE line N  line N of the map, script, scen, cert or walks breaks its form

@@ -17,9 +17,11 @@ use crate::costs::costs;
 use crate::draw::draw;
 use crate::drill::drill;
 use crate::judge::judge;
+use crate::lengths::lengths;
 use crate::live::live;
 use crate::make::make;
 use crate::moves::moves;
+use crate::problems::problems;
 use crate::prove::prove;
 use crate::query::query;
 use crate::replies::{Answers, hear};
@@ -126,6 +128,10 @@ fn open_work<F: Files>(
         Request::Tables { map } => tables(alloc, files, map, settings),
         Request::Boxes { map, x, y } => boxes(alloc, files, map, x, y, settings),
         Request::Moves { map, x, y } => moves(alloc, files, map, x, y, settings),
+        Request::Lengths { map, scen } => lengths(alloc, files, map, scen, settings),
+        Request::Problems { map, seed, count } => {
+            problems(alloc, files, map, seed, count, settings)
+        }
     }
 }
 
@@ -201,8 +207,9 @@ fn refuse_word<E: Sink>(alloc: Global, number: u32, err: &mut E) -> u8
 ///
 /// Statuses: 0 done; 1 done, and a scenario has a row that is neither agree nor near, or `judge` or
 /// `check` refuses, or `prove` has no ends that are free and on one layer of the map, or `draw` none that are
-/// free; 2 the words are refused; 3 a text is refused; 4 a read failed; 5 a write of the output failed; 6
-/// memory was refused, the one answer that is free.
+/// free, or `lengths` left an entry out, or `problems` found fewer than were asked for; 2 the words are
+/// refused; 3 a text is refused; 4 a read failed; 5 a write of the output failed; 6 memory was refused, the
+/// one answer that is free.
 pub fn run<F: Files, I: Source, O: Sink, E: Sink, L: Ledger>(
     alloc: Global,
     words: &[String],

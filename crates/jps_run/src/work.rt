@@ -12,6 +12,7 @@ use cell_lines::Ends;
 use grid_answers::{CostLines, TableFile, write_costs, write_file};
 use io_edge::Sink;
 use line_work::{Stop, send_text};
+use scen_maker::{Lengths, write_lengths};
 use scen_text::Entry;
 use script_text::Command;
 use std::alloc::Global;
@@ -30,6 +31,11 @@ pub enum Work {
     /// The entries of a scenario are judged by the one who answers, a row each, and their sum.
     Judge {
         job: Judge,
+        entries: Vec<Entry>,
+    },
+    /// The entries of a scenario are written again with their least lengths, below the first line.
+    List {
+        job: Lengths,
         entries: Vec<Entry>,
     },
     /// What another program tells of the entries of a scenario is judged, a row each, and their sum.
@@ -75,6 +81,7 @@ pub fn perform<O: Sink, L: Ledger>(
     match work {
         Work::Answer { job, commands } => write_answers(alloc, job, commands, out, steps),
         Work::Judge { job, entries } => write_rows(alloc, job, entries, out, steps),
+        Work::List { job, entries } => write_lengths(alloc, job, entries, out, steps),
         Work::Referee { job, entries } => write_rulings(alloc, job, entries, out, steps),
         Work::Drill { job, commands } => write_sums(alloc, job, commands, out, steps),
         Work::Draw {

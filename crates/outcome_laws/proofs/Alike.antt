@@ -1,5 +1,5 @@
 -- An answer to a request is the only one, and engines that come to answers in one way give the same.
-use Rattle.std.proofs.Common.{◌≡◌, ◌∙◌, refl, ap, sym, subst, ℕ, Bool, true, false, List, [], ◌∷◌, ◌++◌}
+use Rattle.std.proofs.Common.{◌≡◌, ◌∙◌, refl, ap, sym, subst, ℕ, List, [], ◌∷◌, ◌++◌}
 use Rattle.std.proofs.Common.{length}
 use Rattle.std.specs.Prelude.{Ok, Err}
 use Rattle.std.specs.declared.result.Result.{Result}
@@ -17,8 +17,8 @@ use Rattle.walk_judge.specs.declared.telling.Told.{Told}
 use Rattle.walk_judge.specs.Walks.{walks_of}
 use Rattle.potential_check.specs.Text.{certificate_of, plain}
 use Rattle.potential_check.specs.declared.certificate.Certificate.{Certificate}
-use Rattle.word_list.specs.Request.{Asked, Call, Help, Version, Query, Solve, Live, Scen, Judge, Prove, Check}
-use Rattle.word_list.specs.Request.{Make, Drill, Draw, Costs, Tables, Boxes, Moves}
+use Rattle.word_list.specs.Request.{Asked, Help, Version, Query, Solve, Live, Scen, Judge, Prove, Check}
+use Rattle.word_list.specs.Request.{Make, Drill, Draw, Costs, Tables, Boxes, Moves, Lengths, Problems}
 use Rattle.word_list.specs.declared.request.Settings.{Settings}
 use Rattle.word_list.specs.declared.request.Show.{Show}
 use Rattle.jps_run.specs.Answers.{AreAnswers, IsReplyLine}
@@ -32,10 +32,9 @@ use Rattle.grid_answers.specs.RunLines.{IsRunText}
 use Rattle.jps_run.specs.Rows.{AreRows, scen_lines, scen_status}
 use Rattle.jps_run.specs.Rulings.{AreRulings, judge_lines, judge_status}
 use Rattle.jps_run.specs.declared.replies.row.Row.{Row}
-use Rattle.jps_run.specs.declared.replies.ruling.Ruling.{Ruling}
 use Rattle.call_files.specs.Layered.{layers_on}
 use Rattle.jps_run.specs.Session.{IsSessionOn, OnSession, by_of, who_on}
-use Rattle.jps_run.specs.Who.{By, Who, who_is}
+use Rattle.jps_run.specs.Who.{Who, who_is}
 use Rattle.outcome_laws.proofs.Kept.{are_layers-text}
 use Rattle.outcome_laws.specs.Alike.{AnswerAlike, way_of}
 use Rattle.outcome_laws.proofs.Printed.{one_reply_line, one_answers, one_drawing, one_rows, one_drill}
@@ -46,6 +45,10 @@ use Rattle.outcome_laws.proofs.Runs as runs
 use Rattle.outcome_laws.proofs.Proving.{one_proof}
 use Rattle.outcome_laws.proofs.Verdicts as verdicts
 use Rattle.outcome_laws.proofs.Rulings as rulings
+use Rattle.outcome_laws.proofs.Measured as measured
+use Rattle.outcome_laws.proofs.Posed as posed
+use Rattle.scen_maker.specs.Lengths.{AreLengths}
+use Rattle.scen_maker.specs.Problems.{AreProblems}
 use Rattle.outcome_laws.specs.Outcomes.{AsksForCosts}
 use Rattle.jps_run.specs.Tabled.{tables_text}
 use Rattle.outcome_laws.proofs.Asked.{Answers, OnMap, OnLast, Reads, OneLine, MadeOf}
@@ -335,6 +338,23 @@ module _ (set other : Settings) (rule : set.rule ≡ other.rule) where
         (same_map p.0 q.0).map q.0.known.known)),
     p.1 ∙ sym q.1,
   )
+  one_answer (Lengths map scen) texts lines same status code shown way p q =
+      let text : p.known.last ≡ q.known.last = same_last (same_map p q).behind p.known q.known in
+      let entries : p.known.known.value ≡ q.known.known.value =
+      ok_same p.known.known.value q.known.known.value (scen_of p.known.last) p.known.known.is
+      (ap scen_of text ∙ q.known.known.is) in
+      measured.one_scenario (layers_on set p.map) p.known.last p.known.known.value lines same status code
+      (are_layers-text set p.text p.map p.read) p.known.known.known
+      (subst (λ (t : List ℕ). AreLengths (layers_on set p.map) t p.known.known.value same code) (sym text)
+      (subst (λ (es : List Entry). AreLengths (layers_on set p.map) q.known.last es same code) (sym entries)
+      (on_layers (λ ls. AreLengths ls q.known.last q.known.known.value same code) p.map q.map
+      (same_map p q).map q.known.known.known)))
+  one_answer (Problems map seed count) texts lines same status code shown way p q =
+      let made = posed.one_scenario (layers_on set p.map) map seed count p.known.line q.known.line status code
+      p.known.known
+      (on_layers (λ ls. AreProblems ls map seed count q.known.line code) p.map q.map (same_map p q).map
+      q.known.known) in
+      (one_line p.known q.known made.0, made.1)
 
   -- where costs alone are asked for, whatever the engines
   pub one_cost_answer : (asked : Asked) (texts lines same : List (List ℕ)) (status code : ℕ)
@@ -373,3 +393,5 @@ module _ (set other : Settings) (rule : set.rule ≡ other.rule) where
   one_cost_answer (Tables map) texts lines same status code shown costs p q = absurd (costs)
   one_cost_answer (Boxes map x y) texts lines same status code shown costs p q = absurd (costs)
   one_cost_answer (Moves map x y) texts lines same status code shown costs p q = absurd (costs)
+  one_cost_answer (Lengths map scen) texts lines same status code shown costs p q = absurd (costs)
+  one_cost_answer (Problems map seed count) texts lines same status code shown costs p q = absurd (costs)

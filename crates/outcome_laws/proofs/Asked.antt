@@ -7,23 +7,19 @@ use Rattle.map_text.specs.Map.{Map}
 use Rattle.map_text.specs.Faults.{map_of}
 use Rattle.map_text.specs.Writing.{canonical_text}
 use Rattle.map_maker.specs.Making.{made_map}
-use Rattle.script_text.specs.declared.command.Command.{Command}
 use Rattle.script_text.specs.Faults.{script_of}
-use Rattle.scen_text.specs.declared.entry.Entry.{Entry}
 use Rattle.scen_text.specs.Faults.{scen_of}
-use Rattle.walk_judge.specs.declared.telling.Told.{Told}
 use Rattle.walk_judge.specs.Walks.{walks_of}
 use Rattle.potential_check.specs.Text.{certificate_of, plain}
 use Rattle.potential_check.specs.declared.certificate.Certificate.{Certificate}
 use Rattle.word_list.specs.Request.{Asked, Call, Help, Version, Query, Solve, Live, Scen, Judge, Prove, Check}
-use Rattle.word_list.specs.Request.{Make, Drill, Draw, Costs, Tables, Boxes, Moves}
+use Rattle.word_list.specs.Request.{Make, Drill, Draw, Costs, Tables, Boxes, Moves, Lengths, Problems}
 use Rattle.word_list.specs.declared.request.Settings.{Settings}
 use Rattle.jps_run.specs.Answers.{AreAnswers, IsReplyLine}
 use Rattle.grid_answers.specs.BoxLines.{IsBoxText}
 use Rattle.grid_answers.specs.Certificates.{IsProof, IsVerdict}
 use Rattle.grid_answers.specs.Distances.{AreCosts}
 use Rattle.jps_run.specs.Drill.{AreDrilled, drill_line}
-use Rattle.jps_run.specs.declared.replies.drill.Finding.{Finding}
 use Rattle.jps_run.specs.Pictures.{IsDrawing}
 use Rattle.jps_run.specs.Rows.{AreRows, scen_lines, scen_status}
 use Rattle.jps_run.specs.Rulings.{AreRulings, judge_lines, judge_status}
@@ -32,10 +28,11 @@ use Rattle.call_files.specs.Layered.{layers_on}
 use Rattle.jps_run.specs.Session.{OnSession, who_on}
 use Rattle.jps_run.specs.Tabled.{tables_text}
 use Rattle.jps_run.specs.Texts.{help_text, version_text}
-use Rattle.jps_run.specs.declared.replies.row.Row.{Row}
-use Rattle.jps_run.specs.declared.replies.ruling.Ruling.{Ruling}
 use Rattle.jps_run.specs.Outcome.{IsAnswered, help, version, replied, solved, judged, refereed, proved}
-use Rattle.jps_run.specs.Outcome.{checked, made, drilled, drawn, costed, tabled, boxed, moved}
+use Rattle.jps_run.specs.Outcome.{checked, made, drilled, drawn, costed, tabled, boxed, moved, measured}
+use Rattle.jps_run.specs.Outcome.{posed}
+use Rattle.scen_maker.specs.Lengths.{AreLengths}
+use Rattle.scen_maker.specs.Problems.{AreProblems}
 
 -- the first of the texts is that of a map, and of the map and the texts behind it this is known
 pub record OnMap (texts : List (List ℕ)) (Known : Map → List (List ℕ) → Type 0) : Type 0 where
@@ -118,6 +115,12 @@ Answers (Moves map x y) set texts lines status =
     OnMap texts
     (λ m behind. OneLine lines (λ printed. IsRunText (layers_on set m) (record { x = x; y = y }) printed))
     × (status ≡ 0)
+Answers (Lengths map scen) set texts lines status =
+    OnMap texts (λ m behind. OnLast behind (λ second. Reads (scen_of second) (λ entries.
+    AreLengths (layers_on set m) second entries lines status)))
+Answers (Problems map seed count) set texts lines status =
+    OnMap texts (λ m behind. OneLine lines (λ printed.
+    AreProblems (layers_on set m) map seed count printed status))
 
 on : {texts : List (List ℕ)} {Known : Map → List (List ℕ) → Type 0} (text : List ℕ) (behind : List (List ℕ))
     (m : Map)
@@ -189,3 +192,12 @@ asked_so _ _ _ _ (boxed map text x y set m printed read is) =
     (on text [] m refl read (record { line = printed; all = refl; known = is }), refl)
 asked_so _ _ _ _ (moved map text x y set m printed read is) =
     (on text [] m refl read (record { line = printed; all = refl; known = is }), refl)
+asked_so _ _ _ _ (measured map scen text second set m entries lines status read spelled is) =
+    on text (second ∷ []) m refl read (record {
+      before = [];
+      last = second;
+      is = refl;
+      known = record { value = entries; is = spelled; known = is };
+    })
+asked_so _ _ _ _ (posed map text seed count set m printed status read is) =
+    on text [] m refl read (record { line = printed; all = refl; known = is })

@@ -8,7 +8,7 @@ use Rattle.grid_moves.specs.Grid.{GridData}
 use Rattle.grid_moves.specs.Walk.{cost_of}
 use Rattle.cost_waves.specs.Begin.{IsCostTo, IsLeastCost}
 
-least_one : (g : GridData) (s t : Cell) (p q : Cost) → IsLeastCost g s t p → IsLeastCost g s t q → p ≡ q
+pub least_one : (g : GridData) (s t : Cell) (p q : Cost) → IsLeastCost g s t p → IsLeastCost g s t q → p ≡ q
 least_one g s t p q one other =
     sym one.priced
     ∙ IsAtMost-antisymmetric (cost_of (s ∷ one.cells)) (cost_of (s ∷ other.cells))

@@ -17,6 +17,9 @@ pub mod Judged
 pub mod Verdicts
 pub mod Turns
 pub mod Rulings
+pub mod Measured
+pub mod Posed
+pub mod Agreeing
 pub mod Same
 pub mod Lines
 pub mod Rows

@@ -5,13 +5,11 @@ use Rattle.std.proofs.Common.{inl, inr}
 use Rattle.grid_moves.specs.declared.Corner.{Corner}
 use Rattle.io_edge.specs.Told.{Held, holding, absent, untold}
 use Rattle.io_edge.specs.Whole.{IsWhole}
-use Rattle.map_text.specs.Map.{Map}
 use Rattle.map_text.specs.Faults.{map_of}
-use Rattle.grid_moves.specs.Layers.{AreLayers, Layers}
 use Rattle.edit_replay.specs.Session.{SessionData}
-use Rattle.word_list.specs.Calls.{call_of, is_call}
+use Rattle.word_list.specs.Calls.{is_call}
 use Rattle.word_list.specs.Request.{Asked, Call, Help, Version, Query, Solve, Live, Scen, Judge, Prove, Check}
-use Rattle.word_list.specs.Request.{Make, Drill, Draw, Costs, Tables, Boxes, Moves}
+use Rattle.word_list.specs.Request.{Make, Drill, Draw, Costs, Tables, Boxes, Moves, Lengths, Problems}
 use Rattle.word_list.specs.Rule.{IsBadWord}
 use Rattle.word_list.specs.Settings.{is_for_small_maps}
 use Rattle.word_list.specs.declared.request.Pick.{Pick}
@@ -20,11 +18,9 @@ use Rattle.word_list.specs.declared.request.Settings.{Settings}
 use Rattle.word_list.specs.declared.request.Show.{Show}
 use Rattle.call_files.specs.FaultLines.{word_line}
 use Rattle.call_files.specs.Files.{AreAccepted, File, HasRefused, IsAccepted, file_of}
-use Rattle.call_files.specs.Kinds.{extent_for, kind_for, limit_of}
+use Rattle.call_files.specs.Kinds.{kind_for, limit_of}
 use Rattle.call_files.specs.MapFiles.{map_files}
-use Rattle.call_files.specs.declared.kind.Extent.{Extent}
 use Rattle.call_files.specs.declared.kind.Extent.TheVariants as extent
-use Rattle.call_files.specs.declared.kind.Kind.{Kind}
 use Rattle.call_files.specs.declared.kind.Kind.TheVariants as kind
 use Rattle.jps_run.specs.Heard.{AnswerHeard}
 use Rattle.jps_run.specs.Session.{by_of}
@@ -38,7 +34,7 @@ use Rattle.edit_replay.specs.declared.engine.Engine.TheVariants as engine
 use Rattle.jps_run.specs.Calls.{call_with, files_of}
 use Rattle.outcome_laws.specs.Outcomes.{AsksForCosts, DifferInEngine, FilesAreTold, HasSmallMap, is_jump}
 use Rattle.jps_run.specs.Live.{AreHeard, OnLive}
-use Rattle.jps_run.specs.Outcome.{IsAnswered, IsOutcome, IsOutput, Outcome, Spell, answered, bad_line}
+use Rattle.jps_run.specs.Outcome.{IsOutcome, IsOutput, Outcome, Spell, answered, bad_line}
 use Rattle.jps_run.specs.Outcome.{bad_text, bad_word, done}
 use Rattle.outcome_laws.proofs.Alike.{one_answer, one_cost_answer, ok_same, same_first, same_others}
 use Rattle.outcome_laws.proofs.Alike.{session_layers, sessions_alike}
@@ -164,6 +160,8 @@ same_names (Costs map x y) set other = refl
 same_names (Tables map) set other = refl
 same_names (Boxes map x y) set other = refl
 same_names (Moves map x y) set other = refl
+same_names (Lengths map scen) set other = refl
+same_names (Problems map seed count) set other = refl
 
 -- nor for the files themselves, where engines take the same maps
 module _ (set other : Settings) (rule : set.rule ≡ other.rule)
@@ -194,6 +192,8 @@ module _ (set other : Settings) (rule : set.rule ≡ other.rule)
   same_files (Tables map) = refl
   same_files (Boxes map x y) = refl
   same_files (Moves map x y) = refl
+  same_files (Lengths map scen) = refl
+  same_files (Problems map seed count) = refl
 
 -- engines that come to answers in one way take the same maps
 is_small : By → Bool

@@ -1,5 +1,5 @@
 -- Who answers on one map, by two settings.
-use Rattle.std.proofs.Common.{◌≡◌, sym, ap, ◌∙◌, subst, Bool}
+use Rattle.std.proofs.Common.{◌≡◌, sym, ap, ◌∙◌, subst}
 use Rattle.grid_moves.specs.declared.Corner.{Corner}
 use Rattle.grid_moves.specs.Layers.{AreLayers, Layers, layers_of}
 use Rattle.map_text.specs.Map.{Map}

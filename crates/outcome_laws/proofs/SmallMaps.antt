@@ -9,7 +9,7 @@ use Rattle.map_text.specs.Map as maps
 use Rattle.map_text.specs.Faults.{map_of}
 use Rattle.map_text.specs.declared.fault.MapFault.{MapFault}
 use Rattle.word_list.specs.Request.{Asked, Help, Version, Query, Solve, Live, Scen, Judge, Prove, Check, Make}
-use Rattle.word_list.specs.Request.{Drill, Draw, Costs, Tables, Boxes, Moves}
+use Rattle.word_list.specs.Request.{Drill, Draw, Costs, Tables, Boxes, Moves, Lengths, Problems}
 use Rattle.word_list.specs.Settings.{is_for_small_maps}
 use Rattle.word_list.specs.declared.request.Settings.{Settings}
 use Rattle.call_files.specs.FaultLines.{large_line, long_line, map_line}
@@ -168,3 +168,5 @@ small_alike holds set other rule (Costs map x y) told small = absurd small
 small_alike holds set other rule (Tables map) told small = absurd small
 small_alike holds set other rule (Boxes map x y) told small = absurd small
 small_alike holds set other rule (Moves map x y) told small = absurd small
+small_alike holds set other rule (Lengths map scen) told small = absurd small
+small_alike holds set other rule (Problems map seed count) told small = absurd small

@@ -6,6 +6,8 @@ pub mod Files
 pub mod Texts
 pub mod Certificates
 pub mod Rulings
+pub mod Scenarios
+pub mod Agreeing
 pub mod Alike
 pub mod Forgetting
 pub mod Lines

@@ -3,6 +3,8 @@
 ghost use Rattle.outcome_laws.specs.Certificates.{CertificatesAreOne, ProofsAreOne, RefusalsAreOne, VerdictsAreOne};
 ghost use Rattle.outcome_laws.specs.Files.{AcceptedTextsAreOne, RefusedLinesAreOne, AcceptedOrRefused};
 ghost use Rattle.outcome_laws.specs.Rulings.{JudgementsAreOne, RulingsAreOne};
+ghost use Rattle.outcome_laws.specs.Agreeing.{LengthsAgree, ProblemsAgree};
+ghost use Rattle.outcome_laws.specs.Scenarios.{LengthsAreOne, ProblemsAreOne};
 ghost use Rattle.outcome_laws.specs.Texts.{BoxTextsAreOne, CostsAreOne, RunTextsAreOne};
 ghost use Rattle.outcome_laws.specs.Words.{BadWordsAreOne, CallsHaveNone};
 
@@ -75,4 +77,24 @@ pub fn judgements_are_one()
 /// The entries of a scenario, with what is told of each, have at most one list of rows.
 pub fn rulings_are_one()
     ensures { RulingsAreOne }
+{}
+
+/// A scenario is written again with the least lengths in one way.
+pub fn lengths_are_one()
+    ensures { LengthsAreOne }
+{}
+
+/// A number makes one scenario of a map.
+pub fn problems_are_one()
+    ensures { ProblemsAreOne }
+{}
+
+/// What is written again is a scenario, of which each row is `agree` on the same map and under the same rule.
+pub fn lengths_agree()
+    ensures { LengthsAgree }
+{}
+
+/// So is what is made from a number.
+pub fn problems_agree()
+    ensures { ProblemsAgree }
 {}

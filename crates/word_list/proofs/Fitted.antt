@@ -5,7 +5,7 @@ use Rattle.std.specs.Prelude.{codes}
 use Rattle.text_line.specs.LongNumbers.{long_number_of}
 use Rattle.text_line.specs.Numbers.{number_of}
 use Rattle.word_list.specs.declared.rows.Kind.{Kind}
-use Rattle.word_list.specs.declared.rows.Kind.TheVariants.{File, Number, Seed, Side, Percent}
+use Rattle.word_list.specs.declared.rows.Kind.TheVariants.{File, Number, Seed, Side, Percent, Count}
 use Rattle.word_list.specs.declared.settings.Family.{Family}
 use Rattle.word_list.specs.Settings.{are_settings}
 use Rattle.word_list.specs.Rows.{is_of}
@@ -24,6 +24,7 @@ module _ (allows : List Family) where
   completed (Seed ∷ takes) = let rest = completed takes in (codes "0" ∷ rest.0, rest.1)
   completed (Side ∷ takes) = let rest = completed takes in (codes "1" ∷ rest.0, rest.1)
   completed (Percent ∷ takes) = let rest = completed takes in (codes "0" ∷ rest.0, rest.1)
+  completed (Count ∷ takes) = let rest = completed takes in (codes "1" ∷ rest.0, rest.1)
 
   -- a first word that is of its kind
   goes_on : (kind : Kind) (takes : List Kind) (word : List ℕ) → is_of kind word ≡ true

@@ -96,7 +96,9 @@ row_serves name row e =
     (either (bytes_eq name (codes "tables")) _ _ row (barred _ refl refl)
     (either (bytes_eq name (codes "boxes")) _ _ row (barred _ refl refl)
     (either (bytes_eq name (codes "moves")) _ _ row (barred _ refl refl)
-    (λ no. absurd (cc))))))))))))))))) e
+    (either (bytes_eq name (codes "lengths")) _ _ row (barred _ refl refl)
+    (either (bytes_eq name (codes "problems")) _ _ row (barred _ refl refl)
+    (λ no. absurd (cc))))))))))))))))))) e
 
 same_call : (one other : Call) → Some one ≡ Some other → one ≡ other
 same_call one other e = ap (λ (o : Option Call). unwrap_or o one) e

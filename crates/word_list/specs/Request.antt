@@ -24,6 +24,8 @@ pub data Asked : Type 0 where
   Tables : (map : List ℕ) → Asked
   Boxes : (map : List ℕ) (x y : ℕ) → Asked
   Moves : (map : List ℕ) (x y : ℕ) → Asked
+  Lengths : (map scen : List ℕ) → Asked
+  Problems : (map : List ℕ) (seed count : ℕ) → Asked
 
 -- what a request asks for
 abbrev pub asked : Request → Asked
@@ -43,9 +45,11 @@ asked (request.Costs map x y) = Costs map.now x y
 asked (request.Tables map) = Tables map.now
 asked (request.Boxes map x y) = Boxes map.now x y
 asked (request.Moves map x y) = Moves map.now x y
+asked (request.Lengths map scen) = Lengths map.now scen.now
+asked (request.Problems map seed count) = Problems map.now seed count
 
--- the sides of a map that is to be made are 1 to 4096, and a table file is named beside the engine that
--- searches by tables alone
+-- the sides of a map that is to be made are 1 to 4096, problems are 1 to 100000, and a table file is named
+-- beside the engine that searches by tables alone
 abbrev pub IsSound : Request → Settings → Type 0
 IsSound request.Help set = ⊤
 IsSound request.Version set = ⊤
@@ -63,6 +67,8 @@ IsSound (request.Costs map x y) set = ⊤
 IsSound (request.Tables map) set = ⊤
 IsSound (request.Boxes map x y) set = ⊤
 IsSound (request.Moves map x y) set = ⊤
+IsSound (request.Lengths map scen) set = ⊤
+IsSound (request.Problems map seed count) set = (1 ≤ count) × (count ≤ 100000)
 
 -- a request and how it is to be done
 pub record Call : Type 0 where

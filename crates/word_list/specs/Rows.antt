@@ -6,13 +6,13 @@ use Rattle.text_line.specs.Numbers.{number_of}
 use Rattle.word_list.specs.declared.rows.Command.{Command}
 use Rattle.word_list.specs.declared.rows.Command.TheVariants as command
 use Rattle.word_list.specs.declared.rows.Kind.{Kind}
-use Rattle.word_list.specs.declared.rows.Kind.TheVariants.{File, Number, Seed, Side, Percent}
+use Rattle.word_list.specs.declared.rows.Kind.TheVariants.{File, Number, Seed, Side, Percent, Count}
 use Rattle.word_list.specs.declared.rows.Row as declared
 use Rattle.word_list.specs.declared.settings.Family.{Family}
 use Rattle.word_list.specs.declared.settings.Family.TheVariants.{Engine, SmallMap, Show, Drawing, Counts}
 use Rattle.word_list.specs.declared.settings.Family.TheVariants.{Rule, TableFile}
 use Rattle.word_list.specs.Request.{Asked, Help, Version, Query, Solve, Live, Scen, Judge, Prove, Check, Make}
-use Rattle.word_list.specs.Request.{Drill, Draw, Costs, Tables, Boxes, Moves}
+use Rattle.word_list.specs.Request.{Drill, Draw, Costs, Tables, Boxes, Moves, Lengths, Problems}
 
 -- a command, the kinds of the words that it takes, and the settings that it allows after them
 pub record Row : Type 0 where
@@ -79,6 +79,10 @@ row_of name =
     Some (record { command = command.Boxes; takes = File ∷ Number ∷ Number ∷ []; allows = Rule ∷ [] })
     else if bytes_eq name (codes "moves") then
     Some (record { command = command.Moves; takes = File ∷ Number ∷ Number ∷ []; allows = Rule ∷ [] })
+    else if bytes_eq name (codes "lengths") then
+    Some (record { command = command.Lengths; takes = File ∷ File ∷ []; allows = Rule ∷ [] })
+    else if bytes_eq name (codes "problems") then
+    Some (record { command = command.Problems; takes = File ∷ Seed ∷ Count ∷ []; allows = Rule ∷ [] })
     else None
 
 -- the number, where it lies between these
@@ -94,6 +98,10 @@ side_of word = number_within 1 4096 (number_of word)
 abbrev pub percent_of : List ℕ → Option ℕ
 percent_of word = number_within 0 100 (number_of word)
 
+-- the number of entries that a word spells, if it is one
+abbrev pub count_of : List ℕ → Option ℕ
+count_of word = number_within 1 100000 (number_of word)
+
 -- whether a word is of a kind: any word may name a file
 abbrev pub is_of : Kind → List ℕ → Bool
 is_of File word = true
@@ -101,6 +109,7 @@ is_of Number word = is_some (number_of word)
 is_of Seed word = is_some (long_number_of word)
 is_of Side word = is_some (side_of word)
 is_of Percent word = is_some (percent_of word)
+is_of Count word = is_some (count_of word)
 
 -- the word at a place, from 0
 abbrev pub word_at : List (List ℕ) → ℕ → List ℕ
@@ -110,7 +119,7 @@ word_at words place = unwrap_or (slice_get words place) []
 abbrev pub number_at : List (List ℕ) → ℕ → ℕ
 number_at words place = unwrap_or (number_of (word_at words place)) 0
 
--- the seed, the side and the percentage at a place
+-- the seed, the side, the percentage and the number of entries at a place
 abbrev pub seed_at : List (List ℕ) → ℕ → ℕ
 seed_at words place = unwrap_or (long_number_of (word_at words place)) 0
 
@@ -119,6 +128,9 @@ side_at words place = unwrap_or (side_of (word_at words place)) 1
 
 abbrev pub percent_at : List (List ℕ) → ℕ → ℕ
 percent_at words place = unwrap_or (percent_of (word_at words place)) 0
+
+abbrev pub count_at : List (List ℕ) → ℕ → ℕ
+count_at words place = unwrap_or (count_of (word_at words place)) 1
 
 -- what a command asks for by the words after its name, which are of its kinds, and by the name of the table
 -- file that its settings tell
@@ -144,6 +156,8 @@ asked_by command.Costs words tables = Costs (word_at words 0) (number_at words 1
 asked_by command.Tables words tables = Tables (word_at words 0)
 asked_by command.Boxes words tables = Boxes (word_at words 0) (number_at words 1) (number_at words 2)
 asked_by command.Moves words tables = Moves (word_at words 0) (number_at words 1) (number_at words 2)
+asked_by command.Lengths words tables = Lengths (word_at words 0) (word_at words 1)
+asked_by command.Problems words tables = Problems (word_at words 0) (seed_at words 1) (count_at words 2)
 
 -- a row of the code
 abbrev pub row_data : declared.Row → Row

@@ -7,7 +7,7 @@ use Rattle.text_line.specs.Numbers.{number_of}
 use Rattle.word_list.specs.declared.request.Pick.TheVariants.{Plain, Jps, Plus, Boxes}
 use Rattle.word_list.specs.declared.request.Show.{Show}
 use Rattle.word_list.specs.declared.request.Show.TheVariants.{Points, Cells, Trace, Taken}
-use Rattle.word_list.specs.Request.{Call, Help, Query, Solve, Scen, Judge, Make}
+use Rattle.word_list.specs.Request.{Call, Help, Query, Solve, Scen, Judge, Make, Lengths, Problems}
 use Rattle.word_list.specs.Settings.{default_settings, tables_in}
 use Rattle.word_list.specs.Calls.{call_of}
 
@@ -214,3 +214,33 @@ side_of_nothing = refl
 pub more_than_all : call_of (codes "make" ∷ codes "7" ∷ codes "2" ∷ codes "2" ∷ codes "101" ∷ []) ≡ None
 unfolding number_of long_number_of tables_in
 more_than_all = refl
+
+-- a scenario of one's own is asked for with the rule alone
+pub scenario_again : call_of (codes "lengths" ∷ codes "m" ∷ codes "s" ∷ codes "rule=both" ∷ [])
+    ≡ Some (record {
+      request = Lengths (codes "m") (codes "s");
+      settings = record { pick = Plain; show = Points; rule = Both };
+    })
+unfolding tables_in
+scenario_again = refl
+
+pub lengths_by_engine : call_of (codes "lengths" ∷ codes "m" ∷ codes "s" ∷ codes "engine=plain" ∷ []) ≡ None
+unfolding tables_in
+lengths_by_engine = refl
+
+-- so many problems from a seed, at least one and at most 100000
+pub some_problems : call_of (codes "problems" ∷ codes "m" ∷ codes "18446744073709551615" ∷ codes "100000" ∷ [])
+    ≡ Some (record {
+      request = Problems (codes "m") 18446744073709551615 100000;
+      settings = default_settings;
+    })
+unfolding number_of long_number_of tables_in
+some_problems = refl
+
+pub no_problems : call_of (codes "problems" ∷ codes "m" ∷ codes "1" ∷ codes "0" ∷ []) ≡ None
+unfolding number_of long_number_of tables_in
+no_problems = refl
+
+pub too_many_problems : call_of (codes "problems" ∷ codes "m" ∷ codes "1" ∷ codes "100001" ∷ []) ≡ None
+unfolding number_of long_number_of tables_in
+too_many_problems = refl

@@ -20,15 +20,17 @@
 //! tables MAP [rule=RULE]
 //! boxes MAP X Y [rule=RULE]
 //! moves MAP X Y [rule=RULE]
+//! lengths MAP SCEN [rule=RULE]
+//! problems MAP SEED N [rule=RULE]
 //! ```
 //!
 //! ENGINE is `plain`, `jps`, `block` or `plus`, RULE `none`, `one` or `both`. Names of files are any words;
-//! numbers are 1 to 9 decimal digits, and a seed 1 to 20. FILE is all behind the first `=`, at least one
-//! byte. Two settings clash that choose the same. A table file stands beside `engine=plus` alone: it clashes
-//! with every other engine, and where no engine is named a word is missing. `query` and `scen` allow
-//! `engine=boxes` and `engine=moves` besides, of engines for small maps; first moves clash with `show=trace`
-//! and `show=taken`. A list that is no call is refused at its first word with which no call can begin, or one
-//! word behind its end where only words are missing.
+//! numbers are 1 to 9 decimal digits, N is 1 to 100000, and a seed has 1 to 20 digits. FILE is all behind the
+//! first `=`, at least one byte. Two settings clash that choose the same. A table file stands beside
+//! `engine=plus` alone: it clashes with every other engine, and where no engine is named a word is missing.
+//! `query` and `scen` allow `engine=boxes` and `engine=moves` besides, of engines for small maps; first moves
+//! clash with `show=trace` and `show=taken`. A list that is no call is refused at its first word with which
+//! no call can begin, or one word behind its end where only words are missing.
 //!
 //! A command has a row in `rows.rt`, a setting one in `settings.rt`.
 #![tactic(auto)]

@@ -99,6 +99,17 @@ pub enum Request<'a> {
         x: u32,
         y: u32,
     },
+    /// The scenario with the least lengths on the map.
+    Lengths {
+        map: &'a str,
+        scen: &'a str,
+    },
+    /// A scenario of so many entries, 1 to 100000, between cells of the map that come from a seed.
+    Problems {
+        map: &'a str,
+        seed: u64,
+        count: u32,
+    },
 }
 
 /// How a request is to be done. A setting that the words don't have stands at its default.

@@ -6,7 +6,7 @@ ghost use Rattle.word_list.specs.declared.request.Settings.{Settings};
 ghost use Rattle.word_list.specs.Request.{IsSound, asked};
 ghost use Rattle.word_list.specs.Settings.{can_load};
 ghost use Rattle.word_list.specs.Steps.{is_one_of};
-ghost use Rattle.word_list.specs.Rows.{row_of, row_data, is_of, word_at, number_at as spelled_at, seed_at as spelled_seed_at, side_of as spelled_side, side_at as spelled_side_at, percent_of as spelled_percent, percent_at as spelled_percent_at, asked_by};
+ghost use Rattle.word_list.specs.Rows.{row_of, row_data, is_of, word_at, number_at as spelled_at, seed_at as spelled_seed_at, side_of as spelled_side, side_at as spelled_side_at, percent_of as spelled_percent, percent_at as spelled_percent_at, count_of as spelled_count, count_at as spelled_count_at, asked_by};
 
 use crate::request::Request;
 use crate::settings::Family;
@@ -31,6 +31,8 @@ pub enum Command {
     Tables,
     Boxes,
     Moves,
+    Lengths,
+    Problems,
 }
 
 /// The side of a map that the word spells, if it is one: a number from 1 to 4096.
@@ -53,6 +55,16 @@ fn percent_of(word: &str) -> Option<u8>
     }
 }
 
+/// The number of entries that the word spells, if it is one: a number from 1 to 100000.
+fn count_of(word: &str) -> Option<u32>
+    ensures { result ≡ spelled_count word.now }
+{
+    match text_line::number(word.as_bytes()) {
+        Some(n) if 1 <= n && n <= 100_000 => Some(n),
+        _ => None,
+    }
+}
+
 /// What a word that a command takes has to be.
 #[derive(Clone, Copy)]
 pub enum Kind {
@@ -66,6 +78,8 @@ pub enum Kind {
     Side,
     /// A number from 0 to 100.
     Percent,
+    /// A number from 1 to 100000.
+    Count,
 }
 
 impl Kind {
@@ -79,6 +93,7 @@ impl Kind {
             Kind::Seed => long_number(word.as_bytes()).is_some(),
             Kind::Side => side_of(word).is_some(),
             Kind::Percent => percent_of(word).is_some(),
+            Kind::Count => count_of(word).is_some(),
         }
     }
 
@@ -108,7 +123,7 @@ pub fn row_named(name: &str) -> Option<Row>
     ensures few { IfSome result (λ row. length row.takes.now ≤ 8) }
 {
     use Family::{Counts, Drawing, Engine, Rule, Show, SmallMap, TableFile};
-    use Kind::{File, Number, Percent, Seed, Side};
+    use Kind::{Count, File, Number, Percent, Seed, Side};
     let (command, takes, allows): (Command, &[Kind], &[Family]) = match name {
         "--help" => (Command::Help, &[], &[]),
         "--version" => (Command::Version, &[], &[]),
@@ -146,6 +161,8 @@ pub fn row_named(name: &str) -> Option<Row>
         "tables" => (Command::Tables, &[File], &[Rule]),
         "boxes" => (Command::Boxes, &[File, Number, Number], &[Rule]),
         "moves" => (Command::Moves, &[File, Number, Number], &[Rule]),
+        "lengths" => (Command::Lengths, &[File, File], &[Rule]),
+        "problems" => (Command::Problems, &[File, Seed, Count], &[Rule]),
         _ => return None,
     };
     Some(Row {
@@ -236,6 +253,15 @@ pub fn request<'a>(command: Command, words: &'a [String], tables: Option<&'a str
             x: number_at(words, 1),
             y: number_at(words, 2),
         },
+        Command::Lengths => Request::Lengths {
+            map: name_at(words, 0),
+            scen: name_at(words, 1),
+        },
+        Command::Problems => Request::Problems {
+            map: name_at(words, 0),
+            seed: seed_at(words, 1),
+            count: count_at(words, 2),
+        },
     }
 }
 
@@ -277,4 +303,13 @@ fn percent_at(words: &[String], place: usize) -> u8
     ensures { result ≡ spelled_percent_at (map string_bytes words.now) place }
 {
     percent_of(name_at(words, place)).unwrap_or(0)
+}
+
+/// The number of entries at the place, from 0; 1 where there is none.
+fn count_at(words: &[String], place: usize) -> u32
+    ensures spelled { result ≡ spelled_count_at (map string_bytes words.now) place }
+    ensures some { 1 ≤ result }
+    ensures most { result ≤ 100000 }
+{
+    count_of(name_at(words, place)).unwrap_or(1)
 }

@@ -7,10 +7,10 @@ ghost use Rattle.call_files.specs.declared.kind.Kind.TheVariants as kinds;
 ghost use Rattle.line_work.specs.Stops.{Ends};
 ghost use Rattle.jps_run.specs.Cases.{IsCaseOf};
 
-use crate::replies::referee::Court;
 use call_files::{read_file, read_map_file};
 use io_edge::Files;
 use line_work::Stop;
+use scen_maker::LeastCosts;
 use scen_text::Entry;
 use std::alloc::Global;
 use walk_judge::Told;
@@ -19,7 +19,7 @@ use word_list::Settings;
 /// What is to be judged: a map, the entries of a scenario, and what is told of each.
 #[derive(Drop)]
 pub struct Case {
-    pub court: Court,
+    pub costs: LeastCosts,
     pub entries: Vec<Entry>,
     pub walks: Vec<Told>,
 }
@@ -38,12 +38,12 @@ pub fn read_case<F: Files>(
         ∷ file_of kinds.Scen scen.now ∷ file_of kinds.Walks walks.now ∷ [])) result }
     ensures unchanged { (F.disk files.new).holds ≡ (F.disk files.old).holds }
 {
-    let court: Court = read_map_file(alloc, files, map, settings)?;
+    let costs: LeastCosts = read_map_file(alloc, files, map, settings)?;
     let entries: Vec<Entry> = read_file(alloc, files, scen, &())?;
     let count = entries.len() as u32;
     let walks: Vec<Told> = read_file(alloc, files, walks, &count)?;
     Ok(Case {
-        court,
+        costs,
         entries,
         walks,
     })

@@ -1,68 +1,28 @@
-//! The session that judges told walks, entry by entry.
+//! The rows of told walks, entry by entry.
 
-ghost use Rattle.std.specs.Prelude.{◌≡◌, ◌&&◌, length, true, IfOk};
-ghost use Rattle.grid_moves.specs.Layers.{is_on_map, query_grid};
-ghost use Rattle.grid_moves.specs.Reply.{are_free_ends};
-ghost use Rattle.plain_search.specs.Costs.{IsCostTo};
+ghost use Rattle.std.specs.Prelude.{◌≡◌, length, IfOk};
 ghost use Rattle.walk_judge.specs.Telling.{IsFit};
-ghost use Rattle.jps_run.specs.Refereeing as spec;
+ghost use Rattle.scen_maker.specs.Settling.{IsSettled};
 ghost use Rattle.jps_run.specs.Refereeing.{IsReady, IsRefereed};
-ghost use Rattle.jps_run.specs.Rulings.{IsRuling, goal_of, start_of};
+ghost use Rattle.jps_run.specs.Rulings.{IsRuling};
 ghost use Rattle.line_work.specs.Sending.{SendsWhole};
 
 use crate::NoMemory;
 use crate::replies::ruling::{Counts, Ruling, put_ruling};
-use crate::replies::scenario::has_sides;
-use call_files::{Extent, OfMap};
-use edit_replay::{Engine, Reply, Session};
-use grid_moves::Layers;
 use io_edge::Sink;
 use line_work::{Job, Stop, work_items};
-use map_text::MapText;
-use root2_cost::Cost;
+use scen_maker::{LeastCosts, Settled};
 use scen_text::Entry;
 use std::alloc::Global;
 use std::sync::ledger::Ledger;
 use steps::Steps;
 use walk_judge::{Told, judge_told};
-use word_list::Settings;
 
-/// The grids of a map, and a session on them that finds least costs.
-///
-/// The session searches by blocks of bits, whoever found the told walks: a least cost is one pair.
-#[derive(Drop)]
-pub struct Court {
-    pub session: Session,
-    pub layers: Layers,
-}
-
-impl OfMap for Court {
-    ghost use Rattle.std.specs.Prelude.{⊤};
-    ghost use Rattle.jps_run.specs.Refereeing.{IsCourtOf};
-    ghost use Rattle.call_files.specs.declared.kind.Extent.TheVariants.{Any};
-
-    ghost extent_of = { λ _. Any };
-
-    ghost serves = { λ _. ⊤ };
-
-    ghost is_of_map = { IsCourtOf };
-
-    fn extent(_settings: Settings) -> Extent {
-        Extent::Any
-    }
-
-    fn of_map(alloc: Global, map: MapText, settings: Settings) -> Result<Court, NoMemory> {
-        let session = Session::new(alloc, &map, Engine::Block, settings.rule)?;
-        let layers = Layers::of_map(alloc, map, settings)?;
-        Ok(Court { session, layers })
-    }
-}
-
-/// What judges a scenario's entries in order: what is told of each, one walk for each, and the counts
-/// of the rows so far.
+/// What judges a scenario's entries in order: the least costs on the map, what is told of each, one walk for
+/// each, and the counts of the rows so far.
 #[derive(Drop)]
 pub struct Referee {
-    pub court: Court,
+    pub costs: LeastCosts,
     pub walks: Vec<Told>,
     pub counts: Counts,
 }
@@ -93,7 +53,7 @@ impl Job for Referee {
         steps: &mut Steps<L>,
     ) -> Result<(), NoMemory> {
         let told = &self.walks[self.counts.rows as usize];
-        let ruling = ruling_on(alloc, &mut self.court, item, told, steps)?;
+        let ruling = ruling_on(alloc, &mut self.costs, item, told, steps)?;
         self.counts.count(ruling);
         put_ruling(lines, self.counts.rows, ruling)
     }
@@ -104,62 +64,36 @@ impl Job for Referee {
     }
 }
 
-// What the reply tells of the least cost.
-fn cost_in(reply: &Reply) -> Option<Cost>
-    ensures { result ≡ spec.cost_in reply.now }
+// The row of an entry whose query was settled so, by what is told of it.
+fn ruling_by(costs: &LeastCosts, entry: Entry, told: &Told, settled: Settled) -> Ruling
+    requires fit { IsFit told.now }
+    requires settled { IsSettled costs.now entry settled }
+    ensures { IsRuling costs.now entry told.now result }
 {
-    match reply {
-        Reply::Walk { cost, .. } => Some(*cost),
-        Reply::None { .. } | Reply::Outside | Reply::Blocked => None,
+    match settled {
+        Settled::Scale => Ruling::Scale,
+        Settled::Outside => Ruling::Outside,
+        Settled::Blocked => Ruling::Blocked,
+        Settled::Searched { from, to, least } => {
+            Ruling::Judged(judge_told(costs.query_grid(from), from, to, told, least))
+        }
     }
-}
-
-// The least cost of the entry's query, none where no walk exists.
-fn least_cost<L: Ledger>(
-    alloc: Global,
-    session: &mut Session,
-    entry: Entry,
-    steps: &mut Steps<L>,
-) -> Result<Option<Cost>, NoMemory>
-    requires on { (is_on_map session.old.layers (start_of entry)
-        && is_on_map session.old.layers (goal_of entry)) ≡ true }
-    requires free { are_free_ends session.old.layers (start_of entry) (goal_of entry) ≡ true }
-    ensures least { IfOk result (IsCostTo (query_grid session.old.layers (start_of entry)) (start_of entry)
-        (goal_of entry)) }
-    ensures unchanged { session.new ≡ session.old }
-{
-    let reply = session.query(alloc, entry.sx, entry.sy, entry.gx, entry.gy, steps)?;
-    Ok(cost_in(&reply))
 }
 
 // The row of an entry, by what is told of it.
 fn ruling_on<L: Ledger>(
     alloc: Global,
-    court: &mut Court,
+    costs: &mut LeastCosts,
     entry: Entry,
     told: &Told,
     steps: &mut Steps<L>,
 ) -> Result<Ruling, NoMemory>
-    requires same { court.old.session.layers ≡ court.old.layers }
-    requires fit { IsFit told.now }
-    ensures ruling { IfOk result (IsRuling court.old.layers entry told.now) }
-    ensures unchanged { court.new ≡ court.old }
+    requires { IsFit told.now }
+    ensures ruling { IfOk result (IsRuling costs.old entry told.now) }
+    ensures unchanged { costs.new ≡ costs.old }
 {
-    if !has_sides(court.session.width(), court.session.height(), entry) {
-        return Ok(Ruling::Scale);
-    }
-    let Some(from) = court.layers.cell_at(entry.sx, entry.sy) else {
-        return Ok(Ruling::Outside);
-    };
-    let Some(to) = court.layers.cell_at(entry.gx, entry.gy) else {
-        return Ok(Ruling::Outside);
-    };
-    if !court.layers.are_free_ends(from, to) {
-        return Ok(Ruling::Blocked);
-    }
-    let least = least_cost(alloc, &mut court.session, entry, steps)?;
-    let grid = court.layers.query_grid(from);
-    Ok(Ruling::Judged(judge_told(grid, from, to, told, least)))
+    let settled = costs.settle(alloc, entry, steps)?;
+    Ok(ruling_by(costs, entry, told, settled))
 }
 
 /// Judges what is told of the entries in order, and sums the rows up.

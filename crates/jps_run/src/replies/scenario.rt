@@ -1,6 +1,6 @@
 //! The rows that judge a scenario.
 
-ghost use Rattle.std.specs.Prelude.{◌≡◌, nat_eq, ◌&&◌, [], IfOk, OnOk};
+ghost use Rattle.std.specs.Prelude.{◌≡◌, [], IfOk, OnOk};
 ghost use Rattle.scen_text.specs.Lengths.{IsKept};
 ghost use Rattle.edit_replay.specs.Replies.{IsShort, answer_of};
 ghost use Rattle.jps_run.specs.Answerers.{CanAnswer, who_of};
@@ -19,6 +19,7 @@ use edit_replay::Reply;
 use io_edge::Sink;
 use line_work::{Job, Stop, work_items};
 use root2_cost::{Decimal, judge};
+use scen_maker::has_sides;
 use scen_text::Entry;
 use std::alloc::Global;
 use std::sync::ledger::Ledger;
@@ -68,13 +69,6 @@ impl Job for Judge {
         self.tally.put(lines, self.show)?;
         Ok(self.tally.status())
     }
-}
-
-/// Whether the entry is meant for a map of these sides.
-pub fn has_sides(width: u16, height: u16, entry: Entry) -> bool
-    ensures { result ≡ (nat_eq entry.w width && nat_eq entry.h height) }
-{
-    entry.w == u32::from(width) && entry.h == u32::from(height)
 }
 
 // What the reply makes of an entry with this length.

@@ -1,6 +1,5 @@
-use Rattle.std.proofs.Common.{subst, List, ℕ}
+use Rattle.std.proofs.Common.{subst}
 use Rattle.io_edge.specs.Whole.{IsWhole}
-use Rattle.call_files.specs.Reading.{ReadsText}
 use Rattle.call_files.specs.Kinds.{limit_of}
 use Rattle.call_files.specs.declared.kind.Kind.{Kind}
 use Rattle.call_files.proofs.Readings.{file-read}
@@ -16,7 +15,4 @@ returns-clause-read g c =
     ((g.F.Files.disk c.read_text.new.files).faults c.args.name.now)
     c.of_text.result
     (subst (λ (k : Kind). IsWhole held (limit_of k) c.in_ok-text.text.items) c.kind.ensures
-    c.in_ok-text.ensures.read)
-    (subst (λ (text : List ℕ). ReadsText (g.T.Text.is_behind context) (g.T.Text.spells context) kind text
-    c.of_text.result)
-    c.as_slice.ensures.value c.of_text.ensures)
+    c.in_ok-text.ensures.read) c.of_text.ensures

@@ -1,6 +1,5 @@
-use Rattle.std.proofs.Common.{◌≤◌, refl, sym, ap, subst, inl, List, [], ◌∷◌, ℕ, arith}
+use Rattle.std.proofs.Common.{◌≤◌, refl, sym, subst, inl, List, [], ◌∷◌, ℕ, arith}
 use Rattle.grid_moves.specs.Layers.{Layers}
-use Rattle.edit_replay.specs.Session.{SessionData}
 use Rattle.word_list.specs.Request.{Judge}
 use Rattle.jps_run.specs.Calls.{call_with}
 use Rattle.jps_run.specs.Outcome.{IsAnswered, refereed}
@@ -11,8 +10,8 @@ use Rattle.jps_run.proofs.judge.judge.Goals as goal
 pub returns-clause-opened : goal.returns-clause-opened
 returns-clause-opened g c =
     let set = c.args.settings in
-    let r = c.in_ok-court.ensures.read in
-    let case = c.in_ok-court.field-0 in
+    let r = c.in_ok-costs.ensures.read in
+    let case = c.in_ok-costs.field-0 in
     let map = c.args.map.now in
     let scen = c.args.scen.now in
     let walks = c.args.walks.now in
@@ -25,7 +24,6 @@ returns-clause-opened g c =
       accepted = r.accepted;
       is = record {
         can = record {
-          same = ap (λ (d : SessionData). d.layers) r.court.is.session;
           fit = r.walks.1;
           none = c.new.ensures;
           enough = omega (arith, r.walks.2);
@@ -34,9 +32,9 @@ returns-clause-opened g c =
           subst (λ n. n ≤ 1) (sym w.same_status) (small_judge_status w.rulings),
           subst (λ (n : ℕ). IsAnswered call texts lines n) (sym w.same_status)
               (subst (λ (all : List (List ℕ)). IsAnswered call texts all (judge_status w.rulings)) (sym w.all)
-              (refereed map scen walks r.text r.second r.third set r.court.map entries told w.rulings
-              r.court.spelled r.entries.0 r.walks.0
-              (subst (λ (ls : Layers). AreRulings ls entries told w.rulings) r.court.is.layers w.are))),
+              (refereed map scen walks r.text r.second r.third set r.costs.map entries told w.rulings
+              r.costs.spelled r.entries.0 r.walks.0
+              (subst (λ (ls : Layers). AreRulings ls entries told w.rulings) r.costs.is w.are))),
         );
         counted = λ old new rose. inl refl;
       };

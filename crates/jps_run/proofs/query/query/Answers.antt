@@ -1,4 +1,4 @@
-use Rattle.std.proofs.Common.{◌≡◌, sym, subst, inr, ℕ, List, [], ◌∷◌, arith}
+use Rattle.std.proofs.Common.{◌≡◌, sym, subst, inr, ℕ, List, ◌∷◌, arith}
 use Rattle.std.specs.Option.{option_copied}
 use Rattle.word_list.specs.Request.{Query}
 use Rattle.jps_run.specs.Answerers.{who_from}

@@ -12,30 +12,30 @@ use Rattle.jps_run.proofs.replies.case.read_case.Goals as goal
 
 pub overflow_cast-count : goal.overflow_cast-count
 overflow_cast-count g c =
-    let r = c.in_ok-court.ensures.read [] tt in
+    let r = c.in_ok-costs.ensures.read [] tt in
     let few : length c.in_ok-entries.entries.items ≤ 2 ^ 26 =
     (c.in_ok-entries.ensures.read (r.text ∷ []) tt).spelled.2 in
     let many : c.len.result ≡ length c.in_ok-entries.entries.items =
     c.len.ensures ∙ c.in_ok-entries.entries.ok.0 in
     omega arith
 
-pub returns-in_err-court-clause-read : goal.returns-in_err-court-clause-read
-returns-in_err-court-clause-read g c =
+pub returns-in_err-costs-clause-read : goal.returns-in_err-costs-clause-read
+returns-in_err-costs-clause-read g c =
     let disk = g.F.Files.disk c.args.files.now in
     let first = file_of kinds.Map c.args.map.now in
     reading-stops disk _ first (next-file disk.holds [] first _ [] tt) disk
     (g.F.Files.disk c.read_map_file.new.files) refl (none-fell disk.faults) _ c.from_residual.result
-    c.in_err-court.field-0.0 (c.in_err-court.ensures.read [] tt) c.from_residual.ensures.1
+    c.in_err-costs.field-0.0 (c.in_err-costs.ensures.read [] tt) c.from_residual.ensures.1
 
 pub returns-in_err-entries-clause-read : goal.returns-in_err-entries-clause-read
 returns-in_err-entries-clause-read g c =
     let disk = g.F.Files.disk c.args.files.now in
     let first = file_of kinds.Map c.args.map.now in
     let second = file_of kinds.Scen c.args.scen.now in
-    let r = c.in_ok-court.ensures.read [] tt in
+    let r = c.in_ok-costs.ensures.read [] tt in
     reading-stops disk _ second (next-file disk.holds (first ∷ []) second _ (r.text ∷ []) (r.accepted, tt))
     (g.F.Files.disk c.read_map_file.new.files) (g.F.Files.disk c.read_file.new.files)
-    c.in_ok-court.ensures.unchanged c.in_ok-court.ensures.later _ c.from_residual-in_err-entries.result
+    c.in_ok-costs.ensures.unchanged c.in_ok-costs.ensures.later _ c.from_residual-in_err-entries.result
     c.in_err-entries.field-0.0 (c.in_err-entries.ensures.read (r.text ∷ []) tt)
     c.from_residual-in_err-entries.ensures.1
 
@@ -46,18 +46,18 @@ returns-in_err-walks-clause-read g c =
     let first = file_of kinds.Map c.args.map.now in
     let second = file_of kinds.Scen c.args.scen.now in
     let third = file_of kinds.Walks c.args.walks.now in
-    let r = c.in_ok-court.ensures.read [] tt in
+    let r = c.in_ok-costs.ensures.read [] tt in
     let s = c.in_ok-entries.ensures.read (r.text ∷ []) tt in
     let both = both-accepted disk.holds held first second r.text s.text r.accepted
-    c.in_ok-court.ensures.unchanged
+    c.in_ok-costs.ensures.unchanged
     s.accepted in
     let counted = c.len.ensures ∙ c.in_ok-entries.entries.ok.0
     ∙ ap (λ (read : Result (List Entry) ScenFault). count_in read) (sym s.spelled.0) in
     reading-stops disk _ third
     (next-file disk.holds (first ∷ second ∷ []) third [] (r.text ∷ s.text ∷ []) both)
     (g.F.Files.disk c.read_file.new.files) (g.F.Files.disk c.read_file-2.new.files)
-    (c.in_ok-entries.ensures.unchanged ∙ c.in_ok-court.ensures.unchanged)
-    (fell-on c.in_ok-court.ensures.later c.in_ok-entries.ensures.later) _ c.from_residual-in_err-walks.result
+    (c.in_ok-entries.ensures.unchanged ∙ c.in_ok-costs.ensures.unchanged)
+    (fell-on c.in_ok-costs.ensures.later c.in_ok-entries.ensures.later) _ c.from_residual-in_err-walks.result
     c.in_err-walks.field-0.0 (c.in_err-walks.ensures.read (r.text ∷ s.text ∷ []) counted)
     c.from_residual-in_err-walks.ensures.1
 
@@ -65,7 +65,7 @@ pub returns-clause-read : goal.returns-clause-read
 returns-clause-read g c =
     let disk = g.F.Files.disk c.args.files.now in
     let held = (g.F.Files.disk c.read_map_file.new.files).holds in
-    let r = c.in_ok-court.ensures.read [] tt in
+    let r = c.in_ok-costs.ensures.read [] tt in
     let s = c.in_ok-entries.ensures.read (r.text ∷ []) tt in
     let counted = c.len.ensures ∙ c.in_ok-entries.entries.ok.0
     ∙ ap (λ (read : Result (List Entry) ScenFault). count_in read) (sym s.spelled.0) in
@@ -77,9 +77,9 @@ returns-clause-read g c =
       accepted = third-accepted disk.holds held (g.F.Files.disk c.read_file.new.files).holds
           (file_of kinds.Map c.args.map.now) (file_of kinds.Scen c.args.scen.now)
           (file_of kinds.Walks c.args.walks.now) r.text s.text w.text r.accepted
-          c.in_ok-court.ensures.unchanged
-          s.accepted (c.in_ok-entries.ensures.unchanged ∙ c.in_ok-court.ensures.unchanged) w.accepted;
-      court = r.spelled;
+          c.in_ok-costs.ensures.unchanged
+          s.accepted (c.in_ok-entries.ensures.unchanged ∙ c.in_ok-costs.ensures.unchanged) w.accepted;
+      costs = r.spelled;
       entries = s.spelled;
       walks = subst (λ n. SpellsWalks n w.text c.in_ok-walks.walks)
           (c.len.ensures ∙ c.in_ok-entries.entries.ok.0) w.spelled;

@@ -10,7 +10,7 @@ returns-clause-worked g c =
     let left : rows + (c.requires.room.0 + 1) ≤ length walks = c.requires.room.1.left in
     let inside : rows < length walks = omega arith in
     refereed-more c.put_ruling.result c.args.self.now
-    (record { court = c.ruling_on.new.court; walks = c.args.self.now.walks; counts = c.count.new.self })
+    (record { costs = c.ruling_on.new.costs; walks = c.args.self.now.walks; counts = c.count.new.self })
     c.args.item c.index-told.result.now c.in_ok-ruling.ruling c.args.lines.now.items
     c.put_ruling.new.out.items
     c.in_ok-ruling.ensures.ruling (slice_get_read walks (length walks) rows c.index-told.result.now refl

@@ -1,0 +1,33 @@
+//! The command `problems`: a scenario from a number.
+
+ghost use Rattle.std.specs.Prelude.{◌≡◌};
+ghost use Rattle.word_list.specs.Request as asked;
+ghost use Rattle.jps_run.specs.Calls.{call_with};
+ghost use Rattle.jps_run.specs.Opened.{OpensWork};
+
+use crate::work::Work;
+use call_files::open_one;
+use io_edge::Files;
+use line_work::{Printed, Stop};
+use scen_maker::{LeastCosts, problems_text};
+use std::alloc::Global;
+use word_list::Settings;
+
+/// Makes so many problems on the map. Each is searched before the first byte is written.
+pub(crate) fn problems<F: Files>(
+    alloc: Global,
+    files: &mut F,
+    map: &str,
+    seed: u64,
+    count: u32,
+    settings: Settings,
+) -> Result<Work, Stop>
+    ensures opened { OpensWork (call_with (asked.Problems map.now seed count) settings)
+        (F.disk files.old) (F.disk files.new) result }
+    ensures unchanged { (F.disk files.new).holds ≡ (F.disk files.old).holds }
+{
+    let mut costs: LeastCosts = open_one(alloc, files, map, settings)?;
+    let printed = problems_text(alloc, &mut costs, map.as_bytes(), seed, count)?;
+    let Printed { text, status } = printed;
+    Ok(Work::Print { text, status })
+}

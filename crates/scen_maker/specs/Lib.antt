@@ -1,0 +1,4 @@
+pub mod Settling
+pub mod Lengths
+pub mod Listing
+pub mod Problems
