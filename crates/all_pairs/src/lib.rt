@@ -5,7 +5,7 @@
 #![tactic(auto)]
 
 ghost use Rattle.std.specs.Prelude.{◌≡◌, ◌+◌, ◌*◌, ◌≤◌, true, IfOk};
-ghost use Rattle.grid_moves.specs.Grid.{is_free, is_inside};
+ghost use Rattle.grid_moves.specs.Grid.{is_inside};
 ghost use Rattle.goal_boxes.specs.Box.{AreBoxes};
 ghost use Rattle.goal_boxes.specs.Stored.{HoldsBoxes};
 ghost use Rattle.first_moves.specs.Row.{AreMoves, IsRow};
@@ -39,7 +39,7 @@ fn both_at<T: Terrain, L: Ledger>(
     requires few { (T.grid t.now).height * (T.grid t.now).width ≤ 16384 }
     requires width { lent.old.waves.width ≡ (T.grid t.now).width }
     requires height { lent.old.waves.height ≡ (T.grid t.now).height }
-    ensures boxes { IfOk result (λ both. is_free (T.grid t.now) c ≡ true → AreBoxes (T.grid t.now) c both.0) }
+    ensures boxes { IfOk result (λ both. AreBoxes (T.grid t.now) c both.0) }
     ensures row { IfOk result (λ both. IsRow (T.grid t.now) c both.1) }
     ensures width { lent.new.waves.width ≡ lent.old.waves.width }
     ensures height { lent.new.waves.height ≡ lent.old.waves.height }

@@ -1,10 +1,10 @@
 -- Texts written one after the other.
 use Rattle.std.proofs.Common.{◌≡◌, ap, sym, ◌∙◌, List, [], ◌∷◌, ◌++◌, append_assoc, ℕ, suc, ◌+◌, ◌<◌, take}
 use Rattle.std.proofs.Common.{length, arith, get_or, zero}
-use Rattle.std.specs.Prelude.{Result, Ok, Err, OnOk, Some, slice_get}
+use Rattle.std.specs.Prelude.{Result, Ok, Err, OnOk, OnErr, Some, slice_get}
 use Rattle.std.proofs.Math.Seq.{take-suc}
 use Rattle.std.proofs.lemmas.List.{append-nil}
-use Rattle.cell_lines.specs.Cells.{texts_of}
+use Rattle.cell_lines.specs.Cells.{texts_of, Begins}
 
 module _ {X : Type 0} (text : X → List ℕ) where
   texts-added : (xs : List X) (x : X) → texts_of text (xs ++ x ∷ []) ≡ texts_of text xs ++ text x
@@ -46,3 +46,12 @@ pub and-then : {T E : Type 0} (result : Result T E) (before mid after first seco
 and-then (Err error) before mid after first second begun w = tt
 and-then (Ok done) before mid after first second begun w =
     w ∙ ap (λ (l : List ℕ). l ++ second) begun ∙ append_assoc before first second
+
+-- what begins with a text and more behind it begins with the text
+pub begins-on : {T E : Type 0} (result : Result T E) (before mid after text : List ℕ) → mid ≡ before ++ text
+    → Begins mid after → OnErr result (Begins before after)
+begins-on (Ok done) before mid after text front more = tt
+begins-on (Err error) before mid after text front more = (
+  text ++ more.0,
+  more.1 ∙ ap (λ (l : List ℕ). l ++ more.0) front ∙ append_assoc before text more.0,
+)

@@ -1,6 +1,6 @@
 //! Cells, directions and states, each by its text.
 
-ghost use Rattle.std.specs.Prelude.{◌≡◌, ◌<◌, ◌++◌, OnOk};
+ghost use Rattle.std.specs.Prelude.{◌≡◌, ◌<◌, ◌++◌, OnOk, OnErr};
 ghost use Rattle.cell_lines.specs.Cells as spec;
 
 use crate::NoMemory;
@@ -9,29 +9,60 @@ use text_line::{put, put_number};
 
 /// Appends a cell: its column and its row, parted by a comma.
 pub fn put_cell(out: &mut Vec<u8>, c: Cell) -> Result<(), NoMemory>
-    ensures { OnOk result (out.new.items ≡ out.old.items ++ spec.cell_text c) }
+    ensures ok { OnOk result (out.new.items ≡ out.old.items ++ spec.cell_text c) }
+    // For want of memory nothing is appended.
+    ensures err { OnErr result (out.new.items ≡ out.old.items) }
+{
+    let before = out.len();
+    let written = put_pair(out, c);
+    if written.is_err() {
+        out.truncate(before);
+    }
+    written
+}
+
+// Appends the cell, or a first part of it where memory runs out.
+fn put_pair(out: &mut Vec<u8>, c: Cell) -> Result<(), NoMemory>
+    ensures ok { OnOk result (out.new.items ≡ out.old.items ++ spec.cell_text c) }
+    ensures err { OnErr result (spec.Begins out.old.items out.new.items) }
 {
     put_number(out, u64::from(c.x))?;
     put(out, b",")?;
     put_number(out, u64::from(c.y))
 }
 
-// Appends a blank and the cell.
-fn put_point(out: &mut Vec<u8>, c: Cell) -> Result<(), NoMemory>
-    ensures { OnOk result (out.new.items ≡ out.old.items ++ spec.point_text c) }
-{
-    put(out, b" ")?;
-    put_cell(out, c)
-}
-
 /// Appends each cell after a blank.
 pub fn put_points(out: &mut Vec<u8>, cells: &[Cell]) -> Result<(), NoMemory>
-    ensures { OnOk result (out.new.items ≡ out.old.items ++ spec.texts_of spec.point_text cells.now) }
+    ensures ok { OnOk result (out.new.items ≡ out.old.items ++ spec.texts_of spec.point_text cells.now) }
+    // For want of memory nothing is appended.
+    ensures err { OnErr result (out.new.items ≡ out.old.items) }
+{
+    let before = out.len();
+    let written = put_each(out, cells);
+    if written.is_err() {
+        out.truncate(before);
+    }
+    written
+}
+
+// Appends each cell after a blank, or a first part of that where memory runs out.
+fn put_each(out: &mut Vec<u8>, cells: &[Cell]) -> Result<(), NoMemory>
+    ensures ok { OnOk result (out.new.items ≡ out.old.items ++ spec.texts_of spec.point_text cells.now) }
+    ensures err { OnErr result (spec.Begins out.old.items out.new.items) }
 {
     for c in cells {
         put_point(out, *c)?;
     }
     Ok(())
+}
+
+// Appends a blank and the cell, or a first part of that where memory runs out.
+fn put_point(out: &mut Vec<u8>, c: Cell) -> Result<(), NoMemory>
+    ensures ok { OnOk result (out.new.items ≡ out.old.items ++ spec.point_text c) }
+    ensures err { OnErr result (spec.Begins out.old.items out.new.items) }
+{
+    put(out, b" ")?;
+    put_cell(out, c)
 }
 
 // The name of the direction in which a state was reached, by its number.
@@ -61,7 +92,23 @@ pub fn dir_text(d: Dir) -> &'static [u8]
 /// Appends a blank and the state of this number, on a map of this width: its cell, and how it was come to.
 pub fn put_state(out: &mut Vec<u8>, width: u16, state: u32) -> Result<(), NoMemory>
     requires { 0 < width }
-    ensures { OnOk result (out.new.items ≡ out.old.items ++ spec.state_text width state) }
+    ensures ok { OnOk result (out.new.items ≡ out.old.items ++ spec.state_text width state) }
+    // For want of memory nothing is appended.
+    ensures err { OnErr result (out.new.items ≡ out.old.items) }
+{
+    let before = out.len();
+    let written = put_parts(out, width, state);
+    if written.is_err() {
+        out.truncate(before);
+    }
+    written
+}
+
+// Appends the state behind a blank, or a first part of that where memory runs out.
+fn put_parts(out: &mut Vec<u8>, width: u16, state: u32) -> Result<(), NoMemory>
+    requires { 0 < width }
+    ensures ok { OnOk result (out.new.items ≡ out.old.items ++ spec.state_text width state) }
+    ensures err { OnErr result (spec.Begins out.old.items out.new.items) }
 {
     let cell = state / 9;
     let width = u32::from(width);

@@ -1,10 +1,10 @@
 //! The first moves from one cell, cut into runs.
 
-ghost use Rattle.std.specs.Prelude.{◌≡◌, ◌+◌, ◌*◌, ◌<◌, ◌≤◌, ◌++◌, ◌∷◌, [], ℕ, true, List, Option, None, map, length, slice_get, Some, slice_index_or, if◌then◌else◌, IfOk, OnOk};
+ghost use Rattle.std.specs.Prelude.{◌≡◌, ◌+◌, ◌*◌, ◌<◌, ◌≤◌, ◌++◌, ◌∷◌, ◌⊎◌, [], ℕ, true, List, Option, None, map, length, slice_get, Some, slice_index_or, if◌then◌else◌, IfOk, OnOk, OnErr};
 ghost use Rattle.grid_moves.specs.declared.Cell.{Cell};
 ghost use Rattle.grid_moves.specs.declared.Dir.{Dir};
 ghost use Rattle.grid_moves.specs.Grid.{GridData, cell_number, is_free, is_inside};
-ghost use Rattle.cost_waves.specs.Told.{Tells};
+ghost use Rattle.cost_waves.specs.Told.{Tells, IsBlank};
 ghost use Rattle.first_moves.specs.First as spec;
 ghost use Rattle.first_moves.specs.First.{IsFirstMove};
 ghost use Rattle.first_moves.specs.Runs.{runs_of, is_same_move};
@@ -214,7 +214,8 @@ impl Model for Row {
 impl Row {
     /// The first moves from a free cell of a map of at most 2^14 cells, by one pass.
     ///
-    /// `waves` is memory for passes over maps of these sides; what it told before is forgotten.
+    /// `waves` is memory for passes over maps of these sides. Afterwards it tells the pass from the cell; for
+    /// want of memory it does so or tells nothing.
     pub fn of<T: Terrain>(
         alloc: Global,
         waves: &mut CostWaves,
@@ -226,6 +227,8 @@ impl Row {
         requires width { waves.old.width ≡ (T.grid t.now).width }
         requires height { waves.old.height ≡ (T.grid t.now).height }
         ensures row { IfOk result (λ row. IsRow (T.grid t.now) s row) }
+        ensures tells { OnOk result (Tells (T.grid t.now) s waves.new) }
+        ensures starved { OnErr result ((Tells (T.grid t.now) s waves.new) ⊎ (IsBlank waves.new)) }
         ensures width { waves.new.width ≡ waves.old.width }
         ensures height { waves.new.height ≡ waves.old.height }
     {
@@ -246,6 +249,8 @@ impl Row {
         requires width { waves.old.width ≡ (T.grid t.now).width }
         requires height { waves.old.height ≡ (T.grid t.now).height }
         ensures row { IfOk result (λ row. IsRow (T.grid t.now) s row) }
+        ensures tells { OnOk result (Tells (T.grid t.now) s waves.new) }
+        ensures starved { OnErr result ((Tells (T.grid t.now) s waves.new) ⊎ (IsBlank waves.new)) }
         ensures width { waves.new.width ≡ waves.old.width }
         ensures height { waves.new.height ≡ waves.old.height }
     {

@@ -1,9 +1,9 @@
 //! The eight boxes of one cell, from one pass from it.
 
-ghost use Rattle.std.specs.Prelude.{◌≡◌, ◌+◌, ◌<◌, true, MatchOption, OnOk, IfOk};
+ghost use Rattle.std.specs.Prelude.{◌≡◌, ◌+◌, ◌<◌, true, MatchOption, OnOk, OnErr, IfOk};
 ghost use Rattle.grid_moves.specs.declared.Cell.{Cell};
 ghost use Rattle.grid_moves.specs.Grid.{GridData, is_free};
-ghost use Rattle.cost_waves.specs.Told.{Tells, begins_with};
+ghost use Rattle.cost_waves.specs.Told.{Tells, IsBlank, begins_with};
 ghost use Rattle.goal_boxes.specs.Box.{IsAreaOf, AreBoxes, box_in};
 ghost use Rattle.goal_boxes.specs.Wide.{Seen, NoneTold, IsFirstTold, IsLastTold};
 
@@ -127,12 +127,14 @@ pub fn boxes_told(waves: &CostWaves) -> CellBoxes
 }
 
 /// The boxes of a free cell, by memory that is lent: it has to be made for maps of these sides, and is used
-/// again as often as wanted.
+/// again as often as wanted. Afterwards it tells the pass from the cell, and for want of memory nothing.
 pub fn boxes_by<T: Terrain>(waves: &mut CostWaves, t: &T, u: Cell) -> Result<CellBoxes, NoMemory>
     requires free { is_free (T.grid t.now) u ≡ true }
     requires width { waves.old.width ≡ (T.grid t.now).width }
     requires height { waves.old.height ≡ (T.grid t.now).height }
     ensures boxes { IfOk result (AreBoxes (T.grid t.now) u) }
+    ensures tells { OnOk result (Tells (T.grid t.now) u waves.new) }
+    ensures forgotten { OnErr result (IsBlank waves.new) }
     ensures width { waves.new.width ≡ waves.old.width }
     ensures height { waves.new.height ≡ waves.old.height }
 {

@@ -45,11 +45,11 @@ impl Model for Boxes {
     ghost invariant = { λ b. IsKept b.width b.height b.cells.items };
 }
 
-// The boxes of a cell, if it is free.
+// The boxes of a cell, of which there are none if it is not free.
 fn boxes_if_free<T: Terrain>(t: &T, c: Cell, waves: &mut CostWaves) -> Result<CellBoxes, NoMemory>
     requires width { waves.old.width ≡ (T.grid t.now).width }
     requires height { waves.old.height ≡ (T.grid t.now).height }
-    ensures boxes { IfOk result (λ b. is_free (T.grid t.now) c ≡ true → AreBoxes (T.grid t.now) c b) }
+    ensures boxes { IfOk result (AreBoxes (T.grid t.now) c) }
     ensures width { waves.new.width ≡ waves.old.width }
     ensures height { waves.new.height ≡ waves.old.height }
 {
@@ -84,7 +84,7 @@ fn add_row<T: Terrain>(
 }
 
 impl Boxes {
-    /// The boxes of all free cells of a grid, by one pass from each of them: the time grows with the square
+    /// The boxes of all cells of a grid, by one pass from each free one: the time grows with the square
     /// of the number of cells, so this is meant for grids of at most 2^14 cells.
     pub fn build<T: Terrain>(alloc: Global, t: &T) -> Result<Boxes, NoMemory>
         ensures { IfOk result (HoldsBoxes (T.grid t.now)) }

@@ -1,10 +1,13 @@
 //! The real objects: files, a reader and a writer of the system.
 //!
-//! This is the trusted edge. It tells nothing of bytes: contracts see the count of its faults alone.
+//! This is the trusted edge. It tells nothing of bytes: contracts see the count of its faults alone,
+//! which rises by each call that fails and by no other.
 
-ghost use Rattle.std.specs.Prelude.{◌≡◌, ◌≤◌, None, length, IfOk};
+ghost use Rattle.std.specs.Prelude.{◌≡◌, ◌^◌, ◌<◌, ◌≤◌, None, length, IfOk};
 ghost use Rattle.std.specs.Io.{WritesAtMost};
-ghost use Rattle.io_edge.specs.Told.{untold};
+ghost use Rattle.std.specs.Io.KnownBytes.{ReadConsumes, WriteAppends};
+ghost use Rattle.io_edge.specs.Causes.{Counts, HasCause, NoneFell};
+ghost use Rattle.io_edge.specs.Told.{ReadsAt, untold};
 
 use crate::outside::{Failed, Files, Sink, Source};
 use std::io::{Read, Seek, SeekFrom, Write};
@@ -47,7 +50,15 @@ fn read_once<R: rt::Files>(rt: &R, name: &str, place: u64, buf: &mut [u8]) -> io
 impl<'a, R: rt::Files> Files for RealFiles<'a, R> {
     ghost disk = { λ faults. record { holds = λ _. untold; faults = λ _. faults } };
 
-    fn read_at(&mut self, name: &str, place: u64, buf: &mut [u8]) -> Result<usize, Failed> {
+    fn read_at(&mut self, name: &str, place: u64, buf: &mut [u8]) -> Result<usize, Failed>
+        requires some_room { 0 < length buf.old }
+        requires near { place ≤ 2 ^ 30 }
+        ensures bound { IfOk result (λ n. n ≤ length buf.old) }
+        ensures bytes { ReadsAt untold place result buf.new }
+        ensures cause { HasCause self.old self.new result }
+        ensures later { NoneFell (λ _. self.old) (λ _. self.new) }
+        ensures counted { Counts self.old self.new result }
+    {
         match read_once(self.rt, name, place, buf) {
             Ok(count) => Ok(count),
             Err(_) => {
@@ -85,7 +96,13 @@ impl<R: Read + Drop> RealIn<R> {
 impl<R: Read + Drop> Source for RealIn<R> {
     ghost inflow = { λ faults. record { left = None; faults = faults } };
 
-    fn read(&mut self, buf: &mut [u8]) -> Result<usize, Failed> {
+    fn read(&mut self, buf: &mut [u8]) -> Result<usize, Failed>
+        requires { 0 < length buf.old }
+        ensures bound { IfOk result (λ n. n ≤ length buf.old) }
+        ensures bytes { ReadConsumes None None result buf.new }
+        ensures cause { HasCause self.old self.new result }
+        ensures counted { Counts self.old self.new result }
+    {
         match self.reader.read(buf) {
             Ok(count) => Ok(count),
             Err(_) => {
@@ -133,7 +150,13 @@ impl<W: Write + Drop> Sink for RealOut<W> {
     ghost outflow = { λ faults. record { written = None; faults = faults } };
 
     // A write that takes nothing is a fault too: it would never come to an end.
-    fn write(&mut self, piece: &[u8]) -> Result<usize, Failed> {
+    fn write(&mut self, piece: &[u8]) -> Result<usize, Failed>
+        requires { 0 < length piece.now }
+        ensures bound { IfOk result (λ n. (0 < n) × (n ≤ length piece.now)) }
+        ensures bytes { WriteAppends None None result piece.now }
+        ensures cause { HasCause self.old self.new result }
+        ensures counted { Counts self.old self.new result }
+    {
         match write_once(&mut self.writer, piece) {
             Ok(count) if count > 0 => Ok(count),
             _ => {

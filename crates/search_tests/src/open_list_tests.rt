@@ -1,4 +1,4 @@
-//! An open list over whole numbers, by hand and beside a plain scan.
+//! An open list over whole numbers, by hand and beside a plain scan, and how often it asks for the order.
 
 ghost use Rattle.std.specs.Prelude.{◌≡◌, ◌^◌, ◌+◌, ◌<◌, ◌≤◌, length, nat_lt};
 ghost use Rattle.std.proofs.Common.{arith};
@@ -6,6 +6,7 @@ ghost use Rattle.std.proofs.lemmas.Bool.Decides.{nat_tests};
 
 use open_list::{NoMemory, Pool, Ranked, Steps};
 use std::alloc::Global;
+use std::cell::Cell;
 use std::marker::Brand;
 use std::sync::ledger::{Blank, Ledger};
 
@@ -205,4 +206,167 @@ fn two_rounds<L: Ledger>(
 fn a_plain_scan_agrees(rt: HostRuntime) {
     let told = two_rounds::<Brand>(rt.alloc(), 4000, Blank::new(1));
     assert_eq!(rt; told, Ok([None, None]));
+}
+
+/// A whole number that counts in a cell how often it is asked whether it is before another.
+#[derive(Clone, Copy)]
+struct Counting<'a> {
+    number: u32,
+    asked: &'a Cell<u64>,
+}
+
+impl<'a> Ranked for Counting<'a> {
+    ghost before = { λ a b. nat_lt a.number b.number };
+
+    fn before(&self, other: &Counting<'a>) -> bool {
+        self.asked.set(self.asked.get().saturating_add(1));
+        self.number < other.number
+    }
+
+    ghost order = { record {
+      not_before_itself = λ a. Prim.grind (arith, nat_tests);
+      before_is_transitive = λ a b c x y. Prim.grind (arith, nat_tests);
+      not_before_is_transitive = λ a b c x y. Prim.grind (arith, nat_tests);
+    } };
+}
+
+/// One call on an open list.
+#[derive(Clone, Copy)]
+enum Call {
+    Add(u32),
+    Lower { id: u32, to: u32 },
+    Pop,
+}
+
+// Lowers an open node to a number that is not larger; else it does nothing.
+fn lower_counting<'a, L: Ledger>(
+    pool: &mut Pool<Counting<'a>>,
+    id: u32,
+    node: Counting<'a>,
+    steps: &mut Steps<L>,
+) {
+    if id < pool.len() && pool.is_open(id) && node.number <= pool.node(id).number {
+        pool.lower(id, node, steps);
+    }
+}
+
+// Makes the call, and tells how often the order was asked for.
+fn asks_of<'a, L: Ledger>(
+    pool: &mut Pool<Counting<'a>>,
+    call: Call,
+    asked: &'a Cell<u64>,
+    steps: &mut Steps<L>,
+) -> Result<u64, NoMemory> {
+    asked.set(0);
+    match call {
+        Call::Add(number) => {
+            if pool.len() < 5000 {
+                pool.reserve(1)?;
+                pool.add(Counting { number, asked }, steps);
+            }
+        }
+        Call::Lower { id, to } => lower_counting(pool, id, Counting { number: to, asked }, steps),
+        Call::Pop => {
+            pool.pop(steps);
+        }
+    }
+    Ok(asked.get())
+}
+
+fn asks_of_all<L: Ledger>(
+    alloc: Global,
+    calls: &[Call; 8],
+    blank: Blank,
+) -> Result<[u64; 8], NoMemory>
+    requires name { blank.name ≡ L.name }
+    requires parts { blank.parts ≡ L.parts }
+    requires some { 0 < L.parts }
+{
+    let mut steps = Steps::<L>::new(blank);
+    let asked = Cell::new(0);
+    let mut pool = Pool::new(alloc);
+    let mut counts = [0; 8];
+    for (i, call) in calls.iter().enumerate() {
+        counts[i] = asks_of(&mut pool, *call, &asked, &mut steps)?;
+    }
+    Ok(counts)
+}
+
+// By hand: 5 finds no other node, 7 and 9 are joined with it. Where 9 goes to 4 it is cut out and joined with
+// 5, its root; as the root it goes to 3 unasked. Each node that is taken then has one child or none.
+#[test]
+fn adding_and_lowering_ask_once(rt: HostRuntime) {
+    let calls = [
+        Call::Add(5),
+        Call::Add(7),
+        Call::Add(9),
+        Call::Lower { id: 2, to: 4 },
+        Call::Lower { id: 2, to: 3 },
+        Call::Pop,
+        Call::Pop,
+        Call::Pop,
+    ];
+    let counts = asks_of_all::<Brand>(rt.alloc(), &calls, Blank::new(1));
+    assert_eq!(rt; counts, Ok([0, 1, 1, 1, 0, 0, 0, 0]));
+}
+
+// By hand: 2 to 5 become the children of 1. Their four trees are made one by three comparisons: 5 with 4, 3
+// with 2, then 4 with 2, which is left with 4 and 3 below it.
+#[test]
+fn taking_asks_once_less_than_there_are_children(rt: HostRuntime) {
+    let calls = [
+        Call::Add(1),
+        Call::Add(2),
+        Call::Add(3),
+        Call::Add(4),
+        Call::Add(5),
+        Call::Pop,
+        Call::Pop,
+        Call::Pop,
+    ];
+    let counts = asks_of_all::<Brand>(rt.alloc(), &calls, Blank::new(1));
+    assert_eq!(rt; counts, Ok([0, 1, 1, 1, 1, 3, 1, 0]));
+}
+
+// How often one call of `add` and one of `lower` asked at most, over so many made-up calls.
+fn most_asks<L: Ledger>(alloc: Global, calls: u32, blank: Blank) -> Result<[u64; 2], NoMemory>
+    requires name { blank.name ≡ L.name }
+    requires parts { blank.parts ≡ L.parts }
+    requires some { 0 < L.parts }
+{
+    let mut steps = Steps::<L>::new(blank);
+    let asked = Cell::new(0);
+    let mut pool = Pool::new(alloc);
+    let mut state = 1;
+    let mut adding = 0;
+    let mut lowering = 0;
+    for _call in 0..calls {
+        let word = next_word(&mut state);
+        let number = word / 8 % 100;
+        match word % 8 {
+            0..=2 => {
+                let count = asks_of(&mut pool, Call::Add(number), &asked, &mut steps)?;
+                adding = count.max(adding);
+            }
+            3..=5 => {
+                let call = Call::Lower {
+                    id: next_word(&mut state) % 1000,
+                    to: number,
+                };
+                let count = asks_of(&mut pool, call, &asked, &mut steps)?;
+                lowering = count.max(lowering);
+            }
+            _ => {
+                asks_of(&mut pool, Call::Pop, &asked, &mut steps)?;
+            }
+        }
+    }
+    Ok([adding, lowering])
+}
+
+// What `add` and `lower` promise: the order is asked for at most once.
+#[test]
+fn no_adding_or_lowering_asks_twice(rt: HostRuntime) {
+    let most = most_asks::<Brand>(rt.alloc(), 4000, Blank::new(1));
+    assert_eq!(rt; most, Ok([1, 1]));
 }
