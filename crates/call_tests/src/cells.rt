@@ -8,7 +8,7 @@ use std::test::Fail;
 // Beside a pillar a diagonal move is legal where one blocked cell may be passed, and between two blocked cells
 // where both may be.
 pub(crate) const CELLS: &str = "
-costs | costs m 1 0 rule=any | ...@. => 0 1,0 0,0 1,0 - -
+costs, streams | costs m 1 0 rule=any | ...@. => 0 1,0 0,0 1,0 - -
 costs | costs m 0 0 rule=any | ../.. => 0 0,0 1,0/1,0 0,1
 costs | costs m 0 0 rule=none | .../.@./... => 0 0,0 1,0 2,0/1,0 - 3,0/2,0 3,0 4,0
 costs | costs m 0 0 rule=slipping | .../.@./... => 0 0,0 1,0 2,0/1,0 - 1,1/2,0 1,1 2,1
@@ -16,7 +16,7 @@ costs | costs m 0 0 rule=strict | .@/@. => 0 0,0 -/- -
 water | costs m 1 0 rule=any | .WW => 0 - 0,0 1,0
 outside | costs m 0 1 rule=any | .. => 0 outside
 blocked | costs m 1 0 rule=any | .T => 0 blocked
-boxes | boxes m 1 0 rule=any | ... \
+boxes, streams | boxes m 1 0 rule=any | ... \
     => 0 box N none/box NE none/box E 2 0 2 0/box SE none/box S none/box SW none/box W 0 0 0 0/box NW none
 boxes | boxes m 0 0 rule=any | .../.@./... \
     => 0 box N none/box NE none/box E 1 0 2 2/box SE none/box S 0 1 2 2/box SW none/box W none/box NW none
@@ -26,17 +26,17 @@ water | boxes m 1 0 rule=any | .WW \
     => 0 box N none/box NE none/box E 2 0 2 0/box SE none/box S none/box SW none/box W none/box NW none
 outside | boxes m 2 0 rule=any | .. => 0 outside
 blocked | boxes m 1 0 rule=any | .O => 0 blocked
-moves | moves m 1 0 rule=any | ... => 0 run 0,0 W/run 1,0 -/run 2,0 E
+moves, streams | moves m 1 0 rule=any | ... => 0 run 0,0 W/run 1,0 -/run 2,0 E
 moves | moves m 0 0 rule=any | .../.@./... \
     => 0 run 0,0 -/run 1,0 E/run 0,1 S/run 1,1 -/run 2,1 E/run 0,2 S/run 2,2 E
 moves | moves m 0 0 rule=strict | .@/@. => 0 run 0,0 -
 water | moves m 1 0 rule=any | .WW => 0 run 0,0 -/run 2,0 E
 outside | moves m 2 0 rule=any | .. => 0 outside
 blocked | moves m 1 0 rule=any | .@ => 0 blocked
-tables | tables m rule=any | ... | | % => 0 %
-make | make 7 3 2 0 => 0 type octile/height 2/width 3/map/.../...
+tables, streams | tables m rule=any | ... | | % => 0 %
+make, streams | make 7 3 2 0 => 0 type octile/height 2/width 3/map/.../...
 make | make 0 2 1 100 => 0 type octile/height 1/width 2/map/@@
-version | --version => 0 jps 1.0.0
+version, streams | --version => 0 jps 1.0.0
 ";
 
 #[test]
@@ -49,7 +49,7 @@ fn cells_are_told_under_each_rule(rt: HostRuntime) -> Result<(), Fail> {
 // the upper one marks nothing, as no cell of land lies in it.
 pub(crate) const PICTURES: &str = "
 walk | draw m 0 0 2 0 engine=each rule=any | .S.@/TW@O | M1 0h1;M0 1h1;M3 0h1M2 1h2;M1 1h1 | 0,0 2,0 => 0 walk 2 0
-walk | draw m 0 0 2 0 engine=each rule=any show=points | G.. | ;;; | 0,0 2,0 => 0 walk 2 0
+walk, streams | draw m 0 0 2 0 engine=each rule=any show=points | G.. | ;;; | 0,0 2,0 => 0 walk 2 0
 trace | draw m 0 0 2 0 show=trace engine=plain rule=any | .S.@/TW@O \
     | M1 0h1;M0 1h1;M3 0h1M2 1h2;M1 1h1;M0 0h1M1 0h1M2 0h1 | 0,0 2,0 => 0 walk 2 0
 trace | draw m 0 0 2 0 show=trace engine=jumping rule=any | .S.@/TW@O \
@@ -101,7 +101,8 @@ fn picture_of(alloc: Global, row: Row<'_>) -> Result<String, AllocError> {
     Ok(text)
 }
 
-fn check_pictures(alloc: Global, rt: &impl Abort, trial: Trial) -> Result<(), Fail> {
+// The pictures of the rows, each by all its calls; where calls fail, of those that show their streams.
+pub(crate) fn check_pictures(alloc: Global, rt: &impl Abort, trial: Trial) -> Result<(), Fail> {
     for line in PICTURES.lines() {
         let Some(row) = row_of(line) else {
             continue;
@@ -115,7 +116,7 @@ fn check_pictures(alloc: Global, rt: &impl Abort, trial: Trial) -> Result<(), Fa
 }
 
 pub(crate) const UNDRAWN: &str = "
-outside | draw m 0 0 2 0 engine=each rule=any | .. => 1 outside
+outside, streams | draw m 0 0 2 0 engine=each rule=any | .. => 1 outside
 outside | draw m 0 0 2 0 show=trace engine=each rule=any | @. => 1 outside
 blocked | draw m 0 0 1 0 engine=each rule=any | .T => 1 blocked
 blocked | draw m 1 0 1 0 show=trace engine=each rule=any | .O => 1 blocked

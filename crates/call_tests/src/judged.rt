@@ -16,7 +16,7 @@ use std::test::Fail;
 // units of the last, one without decimals agrees where it differs by one. The plain engine also takes the
 // other cell of land where no walk leads to the goal.
 pub(crate) const SCENARIOS: &str = "
-agree, near, off, scale, outside, blocked, none, apart, point, water | scen m s engine=any rule=any | ..@.W \
+agree, near, off, scale, outside, blocked, none, apart, point, water, streams | scen m s engine=any rule=any | ..@.W \
     | version 1/0 m 5 1 0 0 1 0 1/0 m 5 1 0 0 1 0 1.005/0 m 5 1 0 0 1 0 3/0 m 5 2 0 0 1 0 1/0 m 5 1 5 0 1 0 1\
     /0 m 5 1 2 0 1 0 1/0 m 5 1 0 0 3 0 3/0 m 5 1 0 0 4 0 4/0 m 5 1 4 0 4 0 0 \
     => 1 row 1 agree 1 0/row 2 near 1 0/row 3 off 1 0/row 4 scale/row 5 outside/row 6 blocked/row 7 none\
@@ -36,7 +36,7 @@ taken | scen m s show=taken engine=jumping rule=any | ..@.W \
 taken | scen m s show=taken engine=boxes rule=any | ..@.W | version 1/0 m 5 1 0 0 1 0 1/0 m 5 1 0 0 3 0 3 \
     => 1 row 1 agree 1 0 taken 2/row 2 none taken 1/sum 2 agree 1 near 0 off 0 other 1 taken 3
 taken | scen m s show=taken engine=moves rule=any | ..@.W | version 1 => 2 jps: word 5
-agree, done | scen m s engine=any rule=any | .. | version 1/0 m 2 1 1 0 0 0 1.0 \
+agree, done, streams | scen m s engine=any rule=any | .. | version 1/0 m 2 1 1 0 0 0 1.0 \
     => 0 row 1 agree 1 0/sum 1 agree 1 near 0 off 0 other 0
 near, done | scen m s engine=any rule=any | .. | version 1.0/~3/0 m 2 1 0 0 1 0 1.005 \
     => 0 row 1 near 1 0/sum 1 agree 0 near 1 off 0 other 0
@@ -45,7 +45,7 @@ water | scen m s engine=any rule=none | W.W/WWW | version 1/0 m 3 2 0 0 2 0 4/0 
     => 0 row 1 agree 4 0/row 2 agree 1 0/sum 2 agree 2 near 0 off 0 other 0
 water | scen m s engine=any rule=slipping | W.W/WWW | version 1/0 m 3 2 0 0 2 0 2.82842712/0 m 3 2 0 0 2 0 4 \
     => 1 row 1 agree 0 2/row 2 off 0 2/sum 2 agree 1 near 0 off 1 other 0
-tables | scen m s tables=t engine=plus rule=any | ... | version 1/0 m 3 1 0 0 2 0 2 | % \
+tables, streams | scen m s tables=t engine=plus rule=any | ... | version 1/0 m 3 1 0 0 2 0 2 | % \
     => 0 row 1 agree 2 0/sum 1 agree 1 near 0 off 0 other 0
 tables | scen m s tables=t engine=other rule=any | ... | version 1 | % => 2 jps: word 5
 tables | scen m s tables=t engine=small rule=any | ... | version 1 | % => 2 jps: word 5
@@ -58,7 +58,7 @@ fn scenarios_are_judged_by_each_engine_under_each_rule(rt: HostRuntime) -> Resul
 
 // Walks on the row `..@.W`, and round the land cell of the bay.
 pub(crate) const TOLD: &str = "
-accepted, none, apart, point, water, done | judge m s t rule=any | ..@.W \
+accepted, none, apart, point, water, done, streams | judge m s t rule=any | ..@.W \
     | version 1/0 m 5 1 0 0 1 0 1/0 m 5 1 0 0 3 0 3/0 m 5 1 4 0 4 0 0/0 m 5 1 0 0 4 0 4 | 0,0 1,0/none/4,0/none \
     => 0 row 1 accepted 1 0/row 2 accepted none/row 3 accepted 0 0/row 4 accepted none\
     /sum 4 accepted 4 refused 0 other 0
@@ -92,7 +92,7 @@ fn told_walks_are_judged_under_each_rule(rt: HostRuntime) -> Result<(), Fail> {
 
 // Listed are the cells whose sum is below the least cost; of the pillar see docs/FORMATS.md.
 pub(crate) const PROVED: &str = "
-least | prove m 0 0 2 0 rule=any | ... \
+least, streams | prove m 0 0 2 0 rule=any | ... \
     => 0 jps-cert 1/size 3 1/ends 0 0 2 0/least 2 0/points 0,0 2,0/end
 least | prove m 0 0 2 2 rule=none | .../.@./... \
     => 0 jps-cert 1/size 3 3/ends 0 0 2 2/least 4 0/points 0,0 2,0 2,2/value 0 0 0 0/value 1 0 1 0/value 0 1 1 0/end
@@ -112,7 +112,7 @@ none | prove m 0 0 1 1 rule=strict | .@/@. => 0 jps-cert 1/size 2 2/ends 0 0 1 1
 none, water | prove m 0 0 2 0 rule=any | W.W => 0 jps-cert 1/size 3 1/ends 0 0 2 0/none/in 0 0/end
 apart | prove m 0 0 1 0 rule=any | .W => 1 apart
 apart, water | prove m 1 0 0 0 rule=any | .W => 1 apart
-outside | prove m 0 0 2 0 rule=any | @. => 1 outside
+outside, streams | prove m 0 0 2 0 rule=any | @. => 1 outside
 blocked | prove m 0 0 1 0 rule=any | @. => 1 blocked
 ";
 
@@ -123,7 +123,7 @@ fn certificates_are_printed_under_each_rule(rt: HostRuntime) -> Result<(), Fail>
 
 // A listed value takes the place of the least cost less the estimate; no other end of a move is listed.
 pub(crate) const CHECKED: &str = "
-least | check m s rule=any | ... | jps-cert 1/size 3 1/ends 0 0 2 0/least 2 0/points 0,0 2,0/end \
+least, streams | check m s rule=any | ... | jps-cert 1/size 3 1/ends 0 0 2 0/least 2 0/points 0,0 2,0/end \
     => 0 accepted least 2 0
 least | check m s rule=any | ... \
     | jps-cert 1/size 3 1/ends 0 0 2 0/least 2 0/points 0,0 1,0 2,0/value 0 0 0 0/value 1 0 1 0/end \
@@ -137,7 +137,7 @@ point, water | check m s rule=any | W | jps-cert 1/size 1 1/ends 0 0 0 0/least 0
     => 0 accepted least 0 0
 none | check m s rule=any | ..@. | jps-cert 1/size 4 1/ends 1 0 3 0/none/in 0 0/in 1 0/end => 0 accepted none
 none, water | check m s rule=any | W.W | jps-cert 1/size 3 1/ends 0 0 2 0/none/in 0 0/end => 0 accepted none
-size | check m s rule=any | .. | jps-cert 1/size 3 1/ends 0 0 2 0/least 2 0/points 0,0 2,0/end => 1 refused size
+size, streams | check m s rule=any | .. | jps-cert 1/size 3 1/ends 0 0 2 0/least 2 0/points 0,0 2,0/end => 1 refused size
 ends | check m s rule=any | ..@ | jps-cert 1/size 3 1/ends 0 0 2 0/least 2 0/points 0,0 2,0/end => 1 refused ends
 ends, apart | check m s rule=any | .W | jps-cert 1/size 2 1/ends 0 0 1 0/none/in 0 0/end => 1 refused ends
 walk | check m s rule=any | ... | jps-cert 1/size 3 1/ends 0 0 2 0/least 2 0/points 1,0 2,0/end => 1 refused walk 0

@@ -14,6 +14,8 @@ mod commands;
 #[cfg(test)]
 mod corners;
 #[cfg(test)]
+mod counted;
+#[cfg(test)]
 mod judged;
 #[cfg(test)]
 mod live;
@@ -21,6 +23,8 @@ mod live;
 mod queries;
 #[cfg(test)]
 mod readme;
+#[cfg(test)]
+mod refused;
 #[cfg(test)]
 mod sessions;
 #[cfg(test)]

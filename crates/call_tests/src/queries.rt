@@ -13,7 +13,7 @@ use std::test::Fail;
 // On one row of cells no diagonal move is legal, and nothing is marked: an engine that jumps stops at the goal
 // alone. In the bay of water jumps stop at both corners of the land cell.
 pub(crate) const QUERIES: &str = "
-walk | query m 0 0 2 0 engine=any rule=any | ... => 0 walk 2 0 0,0 2,0
+walk, streams | query m 0 0 2 0 engine=any rule=any | ... => 0 walk 2 0 0,0 2,0
 walk | query m 0 0 2 0 engine=any rule=any show=points | ... => 0 walk 2 0 0,0 2,0
 walk | query m 0 0 2 2 engine=any rule=any | .../.../... => 0 walk 0 2 0,0 2,2
 walk | query m 2 1 0 1 engine=any rule=any | @@@/.GS/@@@ => 0 walk 2 0 2,1 0,1
@@ -61,7 +61,7 @@ trace, water | query m 0 0 2 0 show=trace engine=stepping rule=slipping | W.W/WW
     => 0 walk 0 2 0,0 1,1 2,0 taken 0,0:- 1,1:- 2,0:-
 trace, water | query m 0 0 2 0 show=trace engine=jumping rule=slipping | W.W/WWW \
     => 0 walk 0 2 0,0 1,1 2,0 taken 0,0:- 1,1:SE 2,0:NE
-tables | query m 0 0 2 0 tables=t engine=plus rule=any | ... | | % => 0 walk 2 0 0,0 2,0
+tables, streams | query m 0 0 2 0 tables=t engine=plus rule=any | ... | | % => 0 walk 2 0 0,0 2,0
 tables | query m 0 0 2 0 tables=t engine=other rule=any | ... | | % => 2 jps: word 8
 tables | query m 0 0 2 0 tables=t engine=small rule=any | ... | | % => 2 jps: word 8
 ";
@@ -79,7 +79,7 @@ fn queries_are_answered_by_each_engine_under_each_rule(rt: HostRuntime) -> Resul
 // W W W    W W W    W @ W    W @ W
 // ```
 pub(crate) const SCRIPTS: &str = "
-walk, none, blocked, outside, point, apart, ok, same | scripted engine=each rule=any | ... \
+walk, none, blocked, outside, ok, same, streams | scripted engine=each rule=any | ... \
     | query 0 0 2 0/block 1 0/block 1 0/query 0 0 2 0/query 0 0 1 0/query 3 0 0 0 \
     => 0 walk 2 0 0,0 2,0/ok/same/none/blocked/outside
 outside, point, apart, ok, same | scripted engine=each rule=any | .@. \
@@ -111,7 +111,7 @@ trace, water | scripted show=trace engine=jumping rule=none | W.W/WWW | query 0 
     => 0 walk 4 0 0,0 0,1 2,1 2,0 taken 0,0:- 0,1:S 2,1:E 2,0:N/ok/walk 2 0 0,0 2,0 taken 0,0:- 2,0:E
 empty | scripted engine=each rule=any | ... => 0
 empty | scripted engine=each rule=any | ... | ~128 => 0
-tables | scripted tables=t engine=plus rule=any | ... | query 0 0 2 0/block 1 0/query 0 0 2 0/free 1 0/query 2 0 0 0 | % \
+tables, streams | scripted tables=t engine=plus rule=any | ... | query 0 0 2 0/block 1 0/query 0 0 2 0/free 1 0/query 2 0 0 0 | % \
     => 0 walk 2 0 0,0 2,0/ok/none/ok/walk 2 0 2,0 0,0
 tables | solve m s tables=t engine=other rule=any | ... | query 0 0 2 0 | % => 2 jps: word 5
 tables | live m tables=t engine=other rule=any | ... | query 0 0 2 0 | % => 2 jps: word 4

@@ -70,8 +70,11 @@ pub(crate) fn row_of(line: &str) -> Option<Row<'_>> {
     })
 }
 
-// Whether the row shows this, among others.
+// Whether the row shows this, among others; each row shows nothing.
 pub(crate) fn is_shown(row: Row<'_>, what: &str) -> bool {
+    if what.is_empty() {
+        return true;
+    }
     for part in row.shows.split(',') {
         if part.trim() == what {
             return true;
@@ -272,7 +275,7 @@ fn third_of(alloc: Global, told: &str, rule: &str) -> Result<Vec<u8>, AllocError
 }
 
 // The lines of a row that go to this stream: those to standard error begin with the program's name.
-fn written(alloc: Global, lines: &str, to_err: bool) -> Result<Vec<u8>, AllocError> {
+pub(crate) fn written(alloc: Global, lines: &str, to_err: bool) -> Result<Vec<u8>, AllocError> {
     let mut text = Vec::new(alloc);
     if lines.is_empty() {
         return Ok(text);
