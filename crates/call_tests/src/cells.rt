@@ -1,12 +1,13 @@
-//! Rows of `costs`, `boxes`, `moves`, `make`, `--version` and `tables`, and pictures, counted on squared paper.
+//! Rows of `costs`, `boxes`, `moves`, `make`, `--version` and `tables`, and pictures, counted on squared
+//! paper.
 
 use crate::table::{Row, Trial, check_calls, check_table, is_shown, row_of, sides_of};
 use std::alloc::{AllocError, Global};
 use std::process::Abort;
 use std::test::Fail;
 
-// Beside a pillar a diagonal move is legal where one blocked cell may be passed, and between two blocked cells
-// where both may be.
+// Beside a pillar a diagonal move is legal where one blocked cell may be passed, and between two blocked
+// cells where both may be.
 pub(crate) const CELLS: &str = "
 costs, streams | costs m 1 0 rule=any | ...@. => 0 1,0 0,0 1,0 - -
 costs | costs m 0 0 rule=any | ../.. => 0 0,0 1,0/1,0 0,1
@@ -44,11 +45,12 @@ fn cells_are_told_under_each_rule(rt: HostRuntime) -> Result<(), Fail> {
     check_table(rt.alloc(), &rt, CELLS)
 }
 
-// Of the strokes the runs of swamp, trees, other blocked cells and water, and where they are shown of the taken
-// states; then the points, none where no walk exists, and the head of the title. The row of trees and water under
-// the upper one marks nothing, as no cell of land lies in it.
+// Of the strokes the runs of swamp, trees, other blocked cells and water, and where they are shown of the
+// taken states; then the points, none where no walk exists, and the head of the title. The row of trees and
+// water under the upper one marks nothing, as no cell of land lies in it.
 pub(crate) const PICTURES: &str = "
-walk | draw m 0 0 2 0 engine=each rule=any | .S.@/TW@O | M1 0h1;M0 1h1;M3 0h1M2 1h2;M1 1h1 | 0,0 2,0 => 0 walk 2 0
+walk | draw m 0 0 2 0 engine=each rule=any | .S.@/TW@O | M1 0h1;M0 1h1;M3 0h1M2 1h2;M1 1h1 | 0,0 2,0 \
+    => 0 walk 2 0
 walk, streams | draw m 0 0 2 0 engine=each rule=any show=points | G.. | ;;; | 0,0 2,0 => 0 walk 2 0
 trace | draw m 0 0 2 0 show=trace engine=plain rule=any | .S.@/TW@O \
     | M1 0h1;M0 1h1;M3 0h1M2 1h2;M1 1h1;M0 0h1M1 0h1M2 0h1 | 0,0 2,0 => 0 walk 2 0
@@ -81,7 +83,8 @@ fn picture_of(alloc: Global, row: Row<'_>) -> Result<String, AllocError> {
     )?;
     for (colour, runs) in COLOURS.into_iter().zip(row.second.split(';')) {
         let stroke = format!(in alloc;
-            "<path transform=\"translate(0 .5)\" shape-rendering=\"crispEdges\" stroke=\"#{colour}\" d=\"{runs}\"/>\n"
+            "<path transform=\"translate(0 .5)\" shape-rendering=\"crispEdges\" stroke=\"#{colour}\" \
+            d=\"{runs}\"/>\n"
         )?;
         text.push_str(stroke.as_str())?;
     }

@@ -1,5 +1,5 @@
-//! What the tables have to have: a row, or a reason why there is none, for each command by each engine and under
-//! each rule, and for each kind of outcome that it has.
+//! What the tables have to have: a row, or a reason why there is none, for each command by each engine and
+//! under each rule, and for each kind of outcome that it has.
 
 ghost use Rattle.std.specs.Prelude.{◌<◌, IfOk, IfSome};
 
@@ -30,7 +30,7 @@ tables long | solve engine=plus rule=slipping => - the same
 tables long | live engine=plus rule=slipping => - the same
 tables long | scen engine=plus rule=slipping => - the same
 script long | live engine=any rule=any => - its input has no end: a test of its own, in ample.rt
-streams | drill engine=each rule=any => - it reads no file, and a failing write is a test of its own, in ample.rt
+streams | drill engine=each rule=any => - it reads no file; a failing write is a test of its own, in ample.rt
 help | --help => - its text is compared at its ends alone, in ample.rt
 ";
 
@@ -46,12 +46,14 @@ solve engine=plus rule=any | F1, F2, F3, tables long
 live engine=each rule=any | walk, water, point, none, apart, outside, blocked, ok, same, empty, cells, trace
 live engine=each rule=any | M1, M2, M3, M4, M5, M6, map long, T1, T2, script long, absent, streams, tables
 live engine=plus rule=any | F1, F2, F3, tables long
-scen engine=any rule=any | agree, near, off, scale, outside, blocked, none, apart, point, water, empty, taken, done
-scen engine=any rule=any | M1, M2, M3, M4, M5, M6, map long, C1, C2, C3, C4, scen long, absent, streams, tables
+scen engine=any rule=any | agree, near, off, scale, outside, blocked, none, apart, point, water, empty
+scen engine=any rule=any | taken, done, absent, streams, tables
+scen engine=any rule=any | M1, M2, M3, M4, M5, M6, map long, C1, C2, C3, C4, scen long
 scen engine=small rule=any | large
 scen engine=plus rule=any | F1, F2, F3, tables long
 judge rule=any | accepted, refused, scale, outside, blocked, none, apart, point, water, empty, done
-judge rule=any | M1, M2, M3, M4, M5, M6, map long, C1, C2, C3, C4, scen long, K1, K2, walks long, absent, streams
+judge rule=any | M1, M2, M3, M4, M5, M6, map long, C1, C2, C3, C4, scen long, K1, K2, walks long
+judge rule=any | absent, streams
 prove rule=any | least, water, point, none, apart, outside, blocked
 prove rule=any | M1, M2, M3, M4, M5, M6, map long, absent, streams
 check rule=any | least, water, point, none, apart, size, ends, walk, start, goal, move, open
@@ -146,8 +148,8 @@ boxes m 0 0 | rule=any
 moves m 0 0 | rule=any
 ";
 
-// How many commands there are; a new one has no place until it is named here, and is then missed below until it
-// has a line above. So it is with a new engine and a new rule.
+// How many commands there are; a new one has no place until it is named here, and is then missed below until
+// it has a line above. So it is with a new engine and a new rule.
 const REQUESTS: usize = 16;
 
 const ENGINES: usize = 6;
@@ -226,8 +228,8 @@ fn place_with(alloc: Global, least: &str, engine: &str, rule: &str) -> Result<us
     Ok(place_of(alloc, least)?.unwrap_or(0) / 18 * 18 + by)
 }
 
-// The words of a command, with an engine and a rule, are accepted exactly where the command takes them; else the
-// first of them that it does not take is named. Where both are its own some row shows them.
+// The words of a command, with an engine and a rule, are accepted exactly where the command takes them; else
+// the first of them that it does not take is named. Where both are its own some row shows them.
 fn check_cell(
     alloc: Global,
     rt: &impl Abort,

@@ -1,8 +1,9 @@
-//! Rows of `scen`, `judge`, `prove` and `check`, counted on squared paper; certificates are written by hand from
-//! the format's description.
+//! Rows of `scen`, `judge`, `prove` and `check`, counted on squared paper; certificates are written by hand
+//! from the format's description.
 //!
 //! The bay of water `W.W/WWW` is drawn in queries.rt. Its least costs from (0,0) to (2,0) are 4 and 0 under
-//! none, 0 and 2 under one and both; its estimates to (2,0), and their sums with the costs from (0,0) under none:
+//! none, 0 and 2 under one and both; its estimates to (2,0), and their sums with the costs from (0,0) under
+//! none:
 //!
 //! ```text
 //! 2     .    0          2      .      4
@@ -12,11 +13,12 @@
 use crate::table::check_table;
 use std::test::Fail;
 
-// On the row `..@.W` with each kind of row: a length of three decimals is near where it differs by at most ten
-// units of the last, one without decimals agrees where it differs by one. The plain engine also takes the
+// On the row `..@.W` with each kind of row: a length of three decimals is near where it differs by at most
+// ten units of the last, one without decimals agrees where it differs by one. The plain engine also takes the
 // other cell of land where no walk leads to the goal.
 pub(crate) const SCENARIOS: &str = "
-agree, near, off, scale, outside, blocked, none, apart, point, water, streams | scen m s engine=any rule=any | ..@.W \
+agree, near, off, scale, outside, blocked, none, apart, point, water, streams \
+    | scen m s engine=any rule=any | ..@.W \
     | version 1/0 m 5 1 0 0 1 0 1/0 m 5 1 0 0 1 0 1.005/0 m 5 1 0 0 1 0 3/0 m 5 2 0 0 1 0 1/0 m 5 1 5 0 1 0 1\
     /0 m 5 1 2 0 1 0 1/0 m 5 1 0 0 3 0 3/0 m 5 1 0 0 4 0 4/0 m 5 1 4 0 4 0 0 \
     => 1 row 1 agree 1 0/row 2 near 1 0/row 3 off 1 0/row 4 scale/row 5 outside/row 6 blocked/row 7 none\
@@ -59,7 +61,8 @@ fn scenarios_are_judged_by_each_engine_under_each_rule(rt: HostRuntime) -> Resul
 // Walks on the row `..@.W`, and round the land cell of the bay.
 pub(crate) const TOLD: &str = "
 accepted, none, apart, point, water, done, streams | judge m s t rule=any | ..@.W \
-    | version 1/0 m 5 1 0 0 1 0 1/0 m 5 1 0 0 3 0 3/0 m 5 1 4 0 4 0 0/0 m 5 1 0 0 4 0 4 | 0,0 1,0/none/4,0/none \
+    | version 1/0 m 5 1 0 0 1 0 1/0 m 5 1 0 0 3 0 3/0 m 5 1 4 0 4 0 0/0 m 5 1 0 0 4 0 4 \
+    | 0,0 1,0/none/4,0/none \
     => 0 row 1 accepted 1 0/row 2 accepted none/row 3 accepted 0 0/row 4 accepted none\
     /sum 4 accepted 4 refused 0 other 0
 refused, scale, outside, blocked, apart, point | judge m s t rule=any | ..@.W \
@@ -82,7 +85,8 @@ K1 | judge m s t rule=any | .. | version 1/0 m 2 1 0 0 1 0 1/0 m 2 1 0 0 1 0 1 |
     => 3 jps: walks K1 line 2
 K2 | judge m s t rule=any | .. | version 1/0 m 2 1 0 0 1 0 1/0 m 2 1 0 0 1 0 1 | none/~1/none/none \
     => 3 jps: walks K2 line 4
-K2 | judge m s t rule=any | .. | version 1/0 m 2 1 0 0 1 0 1/0 m 2 1 0 0 1 0 1 | none/~1 => 3 jps: walks K2 line 3
+K2 | judge m s t rule=any | .. | version 1/0 m 2 1 0 0 1 0 1/0 m 2 1 0 0 1 0 1 | none/~1 \
+    => 3 jps: walks K2 line 3
 ";
 
 #[test]
@@ -95,7 +99,8 @@ pub(crate) const PROVED: &str = "
 least, streams | prove m 0 0 2 0 rule=any | ... \
     => 0 jps-cert 1/size 3 1/ends 0 0 2 0/least 2 0/points 0,0 2,0/end
 least | prove m 0 0 2 2 rule=none | .../.@./... \
-    => 0 jps-cert 1/size 3 3/ends 0 0 2 2/least 4 0/points 0,0 2,0 2,2/value 0 0 0 0/value 1 0 1 0/value 0 1 1 0/end
+    => 0 jps-cert 1/size 3 3/ends 0 0 2 2/least 4 0/points 0,0 2,0 2,2/value 0 0 0 0/value 1 0 1 0\
+    /value 0 1 1 0/end
 least | prove m 0 0 2 2 rule=slipping | .../.@./... \
     => 0 jps-cert 1/size 3 3/ends 0 0 2 2/least 2 1/points 0,0 1,0 2,1 2,2/value 0 0 0 0/end
 water | prove m 2 0 0 0 rule=any | WWW \
@@ -129,35 +134,48 @@ least | check m s rule=any | ... \
     | jps-cert 1/size 3 1/ends 0 0 2 0/least 2 0/points 0,0 1,0 2,0/value 0 0 0 0/value 1 0 1 0/end \
     => 0 accepted least 2 0
 least | check m s rule=slipping | .../.@./... \
-    | jps-cert 1/size 3 3/ends 0 0 2 2/least 2 1/points 0,0 1,0 2,1 2,2/value 0 0 0 0/end => 0 accepted least 2 1
+    | jps-cert 1/size 3 3/ends 0 0 2 2/least 2 1/points 0,0 1,0 2,1 2,2/value 0 0 0 0/end \
+    => 0 accepted least 2 1
 water | check m s rule=any | WWW | jps-cert 1/size 3 1/ends 0 0 2 0/least 2 0/points 0,0 2,0/end \
     => 0 accepted least 2 0
-point | check m s rule=any | ... | jps-cert 1/size 3 1/ends 1 0 1 0/least 0 0/points 1,0/end => 0 accepted least 0 0
+point | check m s rule=any | ... | jps-cert 1/size 3 1/ends 1 0 1 0/least 0 0/points 1,0/end \
+    => 0 accepted least 0 0
 point, water | check m s rule=any | W | jps-cert 1/size 1 1/ends 0 0 0 0/least 0 0/points 0,0/end \
     => 0 accepted least 0 0
 none | check m s rule=any | ..@. | jps-cert 1/size 4 1/ends 1 0 3 0/none/in 0 0/in 1 0/end => 0 accepted none
 none, water | check m s rule=any | W.W | jps-cert 1/size 3 1/ends 0 0 2 0/none/in 0 0/end => 0 accepted none
-size, streams | check m s rule=any | .. | jps-cert 1/size 3 1/ends 0 0 2 0/least 2 0/points 0,0 2,0/end => 1 refused size
-ends | check m s rule=any | ..@ | jps-cert 1/size 3 1/ends 0 0 2 0/least 2 0/points 0,0 2,0/end => 1 refused ends
+size, streams | check m s rule=any | .. | jps-cert 1/size 3 1/ends 0 0 2 0/least 2 0/points 0,0 2,0/end \
+    => 1 refused size
+ends | check m s rule=any | ..@ | jps-cert 1/size 3 1/ends 0 0 2 0/least 2 0/points 0,0 2,0/end \
+    => 1 refused ends
 ends, apart | check m s rule=any | .W | jps-cert 1/size 2 1/ends 0 0 1 0/none/in 0 0/end => 1 refused ends
-walk | check m s rule=any | ... | jps-cert 1/size 3 1/ends 0 0 2 0/least 2 0/points 1,0 2,0/end => 1 refused walk 0
-walk | check m s rule=any | .@. | jps-cert 1/size 3 1/ends 0 0 2 0/least 2 0/points 0,0 2,0/end => 1 refused walk 1
-walk | check m s rule=any | ... | jps-cert 1/size 3 1/ends 0 0 2 0/least 3 0/points 0,0 2,0/end => 1 refused walk 2
+walk | check m s rule=any | ... | jps-cert 1/size 3 1/ends 0 0 2 0/least 2 0/points 1,0 2,0/end \
+    => 1 refused walk 0
+walk | check m s rule=any | .@. | jps-cert 1/size 3 1/ends 0 0 2 0/least 2 0/points 0,0 2,0/end \
+    => 1 refused walk 1
+walk | check m s rule=any | ... | jps-cert 1/size 3 1/ends 0 0 2 0/least 3 0/points 0,0 2,0/end \
+    => 1 refused walk 2
 start | check m s rule=any | ... \
     | jps-cert 1/size 3 1/ends 0 0 2 0/least 2 0/points 0,0 2,0/value 0 0 1 0/end => 1 refused start
 start, none | check m s rule=any | .@. | jps-cert 1/size 3 1/ends 0 0 2 0/none/end => 1 refused start
 goal | check m s rule=any | ... \
     | jps-cert 1/size 3 1/ends 0 0 2 0/least 2 0/points 0,0 2,0/value 2 0 1 0/end => 1 refused goal
-goal, none | check m s rule=any | .@. | jps-cert 1/size 3 1/ends 0 0 2 0/none/in 0 0/in 2 0/end => 1 refused goal
+goal, none | check m s rule=any | .@. | jps-cert 1/size 3 1/ends 0 0 2 0/none/in 0 0/in 2 0/end \
+    => 1 refused goal
 move | check m s rule=any | ... \
     | jps-cert 1/size 3 1/ends 0 0 2 0/least 2 0/points 0,0 2,0/value 1 0 2 0/end => 1 refused move 0,0 1,0
-open, none | check m s rule=any | ... | jps-cert 1/size 3 1/ends 0 0 2 0/none/in 0 0/end => 1 refused open 0,0 1,0
+open, none | check m s rule=any | ... | jps-cert 1/size 3 1/ends 0 0 2 0/none/in 0 0/end \
+    => 1 refused open 0,0 1,0
 P1 | check m s rule=any | ... | jps-cert 2/size 3 1 => 3 jps: cert P1 line 1
-P1, none | check m s rule=any | .@. | jps-cert 1/size 3 1/ends 0 0 2 0/none/in 0 0/end/end => 3 jps: cert P1 line 7
-P1, point | check m s rule=any | ... | jps-cert 1/size 3 1/ends 1 0 1 0/least 0 0/points 1,0 => 3 jps: cert P1 line 6
+P1, none | check m s rule=any | .@. | jps-cert 1/size 3 1/ends 0 0 2 0/none/in 0 0/end/end \
+    => 3 jps: cert P1 line 7
+P1, point | check m s rule=any | ... | jps-cert 1/size 3 1/ends 1 0 1 0/least 0 0/points 1,0 \
+    => 3 jps: cert P1 line 6
 P2 | check m s rule=any | ... \
-    | jps-cert 1/size 3 1/ends 0 0 2 0/least 2 0/points 0,0 2,0/value 1 0 1 0/value 1 0 1 0/end => 3 jps: cert P2 line 7
-P2, none | check m s rule=any | .@. | jps-cert 1/size 3 1/ends 0 0 2 0/none/in 1 0/in 0 0/end => 3 jps: cert P2 line 6
+    | jps-cert 1/size 3 1/ends 0 0 2 0/least 2 0/points 0,0 2,0/value 1 0 1 0/value 1 0 1 0/end \
+    => 3 jps: cert P2 line 7
+P2, none | check m s rule=any | .@. | jps-cert 1/size 3 1/ends 0 0 2 0/none/in 1 0/in 0 0/end \
+    => 3 jps: cert P2 line 6
 ";
 
 #[test]

@@ -10,8 +10,8 @@
 use crate::table::check_table;
 use std::test::Fail;
 
-// On one row of cells no diagonal move is legal, and nothing is marked: an engine that jumps stops at the goal
-// alone. In the bay of water jumps stop at both corners of the land cell.
+// On one row of cells no diagonal move is legal, and nothing is marked: an engine that jumps stops at the
+// goal alone. In the bay of water jumps stop at both corners of the land cell.
 pub(crate) const QUERIES: &str = "
 walk, streams | query m 0 0 2 0 engine=any rule=any | ... => 0 walk 2 0 0,0 2,0
 walk | query m 0 0 2 0 engine=any rule=any show=points | ... => 0 walk 2 0 0,0 2,0
@@ -43,7 +43,8 @@ cells | query m 0 0 2 2 show=cells engine=any rule=any | .../.../... => 0 walk 0
 cells, water | query m 0 0 2 0 show=cells engine=any rule=none | W.W/WWW => 0 walk 4 0 0,0 0,1 1,1 2,1 2,0
 cells, point | query m 0 0 0 0 show=cells engine=any rule=any | W => 0 walk 0 0 0,0
 cells, none | query m 0 0 2 0 show=cells engine=any rule=any | .@. => 0 none
-trace | query m 0 0 2 0 show=trace engine=stepping rule=any | ... => 0 walk 2 0 0,0 2,0 taken 0,0:- 1,0:- 2,0:-
+trace | query m 0 0 2 0 show=trace engine=stepping rule=any | ... \
+    => 0 walk 2 0 0,0 2,0 taken 0,0:- 1,0:- 2,0:-
 trace | query m 0 0 2 0 show=trace engine=jumping rule=any | ... => 0 walk 2 0 0,0 2,0 taken 0,0:- 2,0:E
 trace | query m 0 0 2 0 show=trace engine=moves rule=any | ... => 2 jps: word 8
 trace, none | query m 0 0 2 0 show=trace engine=tracing rule=any | .@. => 0 none taken 0,0:-
@@ -83,7 +84,8 @@ walk, none, blocked, outside, ok, same, streams | scripted engine=each rule=any 
     | query 0 0 2 0/block 1 0/block 1 0/query 0 0 2 0/query 0 0 1 0/query 3 0 0 0 \
     => 0 walk 2 0 0,0 2,0/ok/same/none/blocked/outside
 outside, point, apart, ok, same | scripted engine=each rule=any | .@. \
-    | block 3 0/flood 0 1/free 3 0/flood 1 0/flood 1 0/query 0 0 1 0/query 1 0 1 0/free 1 0/free 1 0/query 2 0 2 0 \
+    | block 3 0/flood 0 1/free 3 0/flood 1 0/flood 1 0/query 0 0 1 0/query 1 0 1 0/free 1 0/free 1 0\
+    /query 2 0 2 0 \
     => 0 outside/outside/outside/ok/same/none/walk 0 0 1,0/ok/same/walk 0 0 2,0
 walk, water | scripted engine=each rule=none | W.W/WWW \
     | query 0 0 2 0/flood 1 0/query 0 0 2 0/block 1 1/query 0 1 2 1/free 0 0/query 0 1 2 1/query 0 0 2 0 \
@@ -100,25 +102,31 @@ cells | scripted show=cells engine=each rule=any | ... \
 cells, water | scripted show=cells engine=each rule=none | W.W/WWW | query 0 0 2 0/flood 1 0/query 0 0 2 0 \
     => 0 walk 4 0 0,0 0,1 1,1 2,1 2,0/ok/walk 2 0 0,0 1,0 2,0
 trace | scripted show=trace engine=plain rule=any | ... \
-    | query 0 0 2 0/block 1 0/query 0 0 2 0/flood 1 0/query 0 0 1 0/query 1 0 1 0/query 0 0 3 0/block 1 0/query 1 0 1 0 \
+    | query 0 0 2 0/block 1 0/query 0 0 2 0/flood 1 0/query 0 0 1 0/query 1 0 1 0/query 0 0 3 0/block 1 0\
+    /query 1 0 1 0 \
     => 0 walk 2 0 0,0 2,0 taken 0,0:- 1,0:- 2,0:-/ok/none taken 0,0:-/ok/none taken/walk 0 0 1,0 taken 1,0:-\
     /outside/ok/blocked
 trace | scripted show=trace engine=jumping rule=any | ... \
-    | query 0 0 2 0/block 1 0/query 0 0 2 0/flood 1 0/query 0 0 1 0/query 1 0 1 0/query 0 0 3 0/block 1 0/query 1 0 1 0 \
+    | query 0 0 2 0/block 1 0/query 0 0 2 0/flood 1 0/query 0 0 1 0/query 1 0 1 0/query 0 0 3 0/block 1 0\
+    /query 1 0 1 0 \
     => 0 walk 2 0 0,0 2,0 taken 0,0:- 2,0:E/ok/none taken 0,0:-/ok/none taken/walk 0 0 1,0 taken 1,0:-\
     /outside/ok/blocked
-trace, water | scripted show=trace engine=jumping rule=none | W.W/WWW | query 0 0 2 0/flood 1 0/query 0 0 2 0 \
+trace, water | scripted show=trace engine=jumping rule=none | W.W/WWW \
+    | query 0 0 2 0/flood 1 0/query 0 0 2 0 \
     => 0 walk 4 0 0,0 0,1 2,1 2,0 taken 0,0:- 0,1:S 2,1:E 2,0:N/ok/walk 2 0 0,0 2,0 taken 0,0:- 2,0:E
 empty | scripted engine=each rule=any | ... => 0
 empty | scripted engine=each rule=any | ... | ~128 => 0
-tables, streams | scripted tables=t engine=plus rule=any | ... | query 0 0 2 0/block 1 0/query 0 0 2 0/free 1 0/query 2 0 0 0 | % \
+tables, streams | scripted tables=t engine=plus rule=any | ... \
+    | query 0 0 2 0/block 1 0/query 0 0 2 0/free 1 0/query 2 0 0 0 | % \
     => 0 walk 2 0 0,0 2,0/ok/none/ok/walk 2 0 2,0 0,0
 tables | solve m s tables=t engine=other rule=any | ... | query 0 0 2 0 | % => 2 jps: word 5
 tables | live m tables=t engine=other rule=any | ... | query 0 0 2 0 | % => 2 jps: word 4
 T1 | solve m s engine=each rule=any | ... | query 0 0 2 0/bolck 1 0/block 1 0 => 3 jps: script T1 line 2
-T1 | live m engine=each rule=any | ... | query 0 0 2 0/bolck 1 0/block 1 0 => 3 walk 2 0 0,0 2,0/jps: script T1 line 2
+T1 | live m engine=each rule=any | ... | query 0 0 2 0/bolck 1 0/block 1 0 \
+    => 3 walk 2 0 0,0 2,0/jps: script T1 line 2
 T2 | solve m s engine=each rule=any | ... | query 0 0 2 0/~129/block 1 0 => 3 jps: script T2 line 2
-T2 | live m engine=each rule=any | ... | query 0 0 2 0/~129/block 1 0 => 3 walk 2 0 0,0 2,0/jps: script T2 line 2
+T2 | live m engine=each rule=any | ... | query 0 0 2 0/~129/block 1 0 \
+    => 3 walk 2 0 0,0 2,0/jps: script T2 line 2
 ";
 
 #[test]
