@@ -339,7 +339,7 @@ fn reads_of(words: &str, name: &str, text: &[u8]) -> u64 {
     0
 }
 
-// Each read of the call fails in turn, and of its writes, each of a byte, at most some forty, the first and the
+// Each read of the call fails in turn, and of its writes, each of a byte, some forty, the first and the
 // last among them.
 fn check_failing(
     alloc: Global,
