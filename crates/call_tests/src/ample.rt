@@ -1,15 +1,17 @@
-//! Every command by every engine and under each rule, each with its whole output; the program's own texts;
-//! and files without an end.
+//! Every drill with its whole line; the program's own texts; and files and input without an end.
 //!
-//! Want of memory is the one answer that no clause rules out: these calls show another one.
+//! Want of memory is the one answer that no clause rules out: these calls show another one, as those of the
+//! tables do.
 
+ghost use Rattle.std.specs.Prelude.{None};
 ghost use Rattle.io_edge.specs.Told.{untold};
 
 use crate::calls::{
-    Call, ENGINES, OPEN, RULES, check, check_with, check_writes, compare, on_map, query,
-    run_counting, scenario, script, stream, strings,
+    Call, ENGINES, OPEN, RULES, check, check_writes, compare, on_map, run_counting, status_of,
+    stream, strings,
 };
-use io_edge::{Failed, Files, MemSink, SureSource};
+use crate::table::{check_table, engines_of, row_of, rules_of, spelled, written};
+use io_edge::{Failed, Files, MemSink, Source, SureSource};
 use std::alloc::Global;
 use std::marker::Brand;
 use std::process::Abort;
@@ -17,55 +19,34 @@ use std::sync::ledger::Blank;
 use std::test::Fail;
 
 // The lines of a drill under each rule, as an independent program prints them.
-const DRILLS: [&[u8]; 3] = [
-    b"drill walks 54 none 1 blocked 45 ok 27 same 23 cost 5848 2278\n",
-    b"drill walks 54 none 1 blocked 45 ok 27 same 23 cost 3914 3239\n",
-    b"drill walks 55 none 0 blocked 45 ok 27 same 23 cost 3694 3235\n",
-];
+pub(crate) const DRILLS: &str = "
+drill | drill 1 engine=each rule=none => 0 drill walks 54 none 1 blocked 45 ok 27 same 23 cost 5848 2278
+drill | drill 1 engine=each rule=one => 0 drill walks 54 none 1 blocked 45 ok 27 same 23 cost 3914 3239
+drill | drill 1 engine=each rule=both => 0 drill walks 55 none 0 blocked 45 ok 27 same 23 cost 3694 3235
+";
 
-// Under the rules that let a diagonal pass one blocked cell, jumps stop between the two walls of the
-// crossing, from where such a diagonal leads behind one of them.
-fn answers_by(engine: &str, rule: &str) -> &'static [u8] {
-    if engine == "engine=plain" || rule == "rule=none" {
-        return script().1;
-    }
-    b"walk 2 0 0,1 1,1 2,1\nok\nnone\nok\nsame\nwalk 2 0 0,1 1,1 2,1\noutside\n"
-}
-
-fn check_by(
-    alloc: Global,
-    rt: &impl Abort,
-    engine: &str,
-    rule: &str,
-    drill: &[u8],
-) -> Result<(), Fail> {
-    let by: [&str; 2] = [engine, rule];
-    check_with(alloc, rt, query().0, &by, 0, query().1)?;
-    check_with(alloc, rt, script().0, &by, 0, answers_by(engine, rule))?;
-    check_with(alloc, rt, scenario().0, &by, 1, scenario().1)?;
-    check_with(alloc, rt, on_map("drill 1", b""), &by, 0, drill)
+#[test]
+fn each_drill_is_summed_up(rt: HostRuntime) -> Result<(), Fail> {
+    check_table(rt.alloc(), &rt, DRILLS)
 }
 
 #[test]
-fn each_command_is_answered_by_each_engine(rt: HostRuntime) -> Result<(), Fail> {
+fn a_failing_write_ends_a_drill(rt: HostRuntime) -> Result<(), Fail> {
+    let alloc = rt.alloc();
     for engine in ENGINES {
-        for (rule, drill) in RULES.into_iter().zip(DRILLS) {
-            check_by(rt.alloc(), &rt, engine, rule, drill)?;
+        for rule in RULES {
+            let words = spelled(alloc, "drill 1 engine= rule=", engine, rule)?;
+            let failing = Call {
+                failing_write: 3,
+                ..on_map(words.as_str(), b"")
+            };
+            check(alloc, &rt, failing, 5, b"dr", b"jps: write\n")?;
         }
     }
     Ok(())
 }
 
-#[test]
-fn a_failing_write_ends_a_drill(rt: HostRuntime) -> Result<(), Fail> {
-    let failing = Call {
-        failing_write: 3,
-        ..on_map("drill 1", b"")
-    };
-    check(rt.alloc(), &rt, failing, 5, b"dr", b"jps: write\n")
-}
-
-// Files of which one, the map, may be told, and the others have no end.
+// Files of which a map and a scenario of no entries are there, and all others have no end.
 #[derive(Drop)]
 struct Endless<'a> {
     map: &'a [u8],
@@ -75,10 +56,12 @@ impl<'a> Files for Endless<'a> {
     ghost disk = { λ _. record { holds = λ _. untold; faults = λ _. 0 } };
 
     fn read_at(&mut self, name: &str, place: u64, buf: &mut [u8]) -> Result<usize, Failed> {
-        if name != "m" {
-            return Ok(buf.len());
-        }
-        let rest = &self.map[(place as usize).min(self.map.len())..];
+        let held = match name {
+            "m" => self.map,
+            "s" => b"version 1\n",
+            _ => return Ok(buf.len()),
+        };
+        let rest = &held[(place as usize).min(held.len())..];
         let count = rest.len().min(buf.len());
         buf[..count].copy_from_slice(&rest[..count]);
         Ok(count)
@@ -117,18 +100,106 @@ fn check_endless(
     Ok(())
 }
 
-// Each kind of text without an end is refused as too long, and nothing is written.
-#[test]
-fn a_text_without_an_end_is_too_long(rt: HostRuntime) -> Result<(), Fail> {
-    let table: [(&str, &[u8]); 4] = [
-        ("query x 0 0 2 2", b"jps: map long\n"),
-        ("solve m x", b"jps: script long\n"),
-        ("scen m x", b"jps: scen long\n"),
-        ("check m x", b"jps: cert long\n"),
-    ];
-    for (words, line) in table {
-        check_endless(rt.alloc(), &rt, words, 0, 3, (b"", b""), line)?;
+// Each file of each command without an end, by each engine and under each rule; and a script that comes in.
+pub(crate) const LONG: &str = "
+map long | query x 0 0 0 0 engine=any rule=any => 3 jps: map long
+map long | solve x s engine=each rule=any => 3 jps: map long
+map long | live x engine=each rule=any => 3 jps: map long
+map long | scen x s engine=any rule=any => 3 jps: map long
+map long | judge x s t rule=any => 3 jps: map long
+map long | prove x 0 0 0 0 rule=any => 3 jps: map long
+map long | check x s rule=any => 3 jps: map long
+map long | draw x 0 0 0 0 engine=each rule=any => 3 jps: map long
+map long | costs x 0 0 rule=any => 3 jps: map long
+map long | tables x rule=any => 3 jps: map long
+map long | boxes x 0 0 rule=any => 3 jps: map long
+map long | moves x 0 0 rule=any => 3 jps: map long
+script long | solve m x engine=each rule=any => 3 jps: script long
+scen long | scen m x engine=any rule=any => 3 jps: scen long
+scen long | judge m x t rule=any => 3 jps: scen long
+";
+
+// Those that may have 2^30 bytes, under one rule each.
+pub(crate) const LONGEST: &str = "
+walks long | judge m s x rule=none => 3 jps: walks long
+cert long | check m x rule=none => 3 jps: cert long
+tables long | query m 0 0 2 2 tables=x engine=plus rule=none => 3 jps: tables long
+tables long | solve m s tables=x engine=plus rule=none => 3 jps: tables long
+tables long | live m tables=x engine=plus rule=none => 3 jps: tables long
+tables long | scen m s tables=x engine=plus rule=none => 3 jps: tables long
+";
+
+// The calls of a table whose files have no end.
+fn check_long(alloc: Global, rt: &impl Abort, table: &str) -> Result<(), Fail> {
+    for line in table.lines() {
+        let Some(row) = row_of(line) else {
+            continue;
+        };
+        let line = written(alloc, row.lines, true)?;
+        for engine in engines_of(row.words) {
+            for rule in rules_of(row.words) {
+                let words = spelled(alloc, row.words, engine, rule)?;
+                check_endless(
+                    alloc,
+                    rt,
+                    words.as_str(),
+                    0,
+                    row.status,
+                    (b"", b""),
+                    line.as_slice(),
+                )?;
+            }
+        }
     }
+    Ok(())
+}
+
+#[test]
+fn a_file_without_an_end_is_too_long(rt: HostRuntime) -> Result<(), Fail> {
+    check_long(rt.alloc(), &rt, LONG)
+}
+
+#[test]
+fn the_longest_files_without_an_end_are_too_long(rt: HostRuntime) -> Result<(), Fail> {
+    check_long(rt.alloc(), &rt, LONGEST)
+}
+
+// A script that comes in: a command, and then lines of blanks without an end.
+#[derive(Drop)]
+struct Unending {
+    is_begun: bool,
+}
+
+impl Source for Unending {
+    ghost inflow = { λ _. record { left = None; faults = 0 } };
+
+    fn read(&mut self, buf: &mut [u8]) -> Result<usize, Failed> {
+        let command = b"block 1 1\n";
+        if !self.is_begun && command.len() <= buf.len() {
+            self.is_begun = true;
+            buf[..command.len()].copy_from_slice(command);
+            return Ok(command.len());
+        }
+        buf.fill(b'\n');
+        Ok(buf.len())
+    }
+}
+
+#[test]
+fn a_script_without_an_end_is_answered_and_too_long(rt: HostRuntime) -> Result<(), Fail> {
+    let alloc = rt.alloc();
+    let mut input = Unending { is_begun: false };
+    let mut out = stream(alloc, 0)?;
+    let line = b"jps: script long\n";
+    let status = status_of(
+        alloc,
+        &rt,
+        on_map("live m", OPEN),
+        &mut input,
+        &mut out,
+        line,
+    )?;
+    compare(&rt, (status, out.bytes()), (3, b"ok\n"));
     Ok(())
 }
 

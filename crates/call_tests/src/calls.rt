@@ -128,7 +128,7 @@ pub(crate) fn status_of<I: Source, O: Sink>(
         &mut err,
         Blank::new(1),
     );
-    assert_eq!(rt; err.bytes(), line);
+    assert_eq!(rt; err.bytes(), line, "{}", made.words);
     Ok(status)
 }
 
@@ -150,7 +150,8 @@ pub(crate) fn check(
     let mut input = SureSource::new(Vec::from_slice(alloc, made.input)?);
     let mut out = stream(alloc, made.failing_write)?;
     let answer = status_of(alloc, rt, made, &mut input, &mut out, line)?;
-    compare(rt, (answer, out.bytes()), (status, output));
+    assert_eq!(rt; answer, status, "{}", made.words);
+    assert_eq!(rt; out.bytes(), output, "{}", made.words);
     Ok(())
 }
 

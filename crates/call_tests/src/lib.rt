@@ -8,16 +8,28 @@ mod ample;
 #[cfg(test)]
 mod calls;
 #[cfg(test)]
+mod cells;
+#[cfg(test)]
 mod commands;
 #[cfg(test)]
 mod corners;
 #[cfg(test)]
+mod counted;
+#[cfg(test)]
+mod judged;
+#[cfg(test)]
 mod live;
 #[cfg(test)]
+mod queries;
+#[cfg(test)]
 mod readme;
+#[cfg(test)]
+mod refused;
 #[cfg(test)]
 mod scenarios;
 #[cfg(test)]
 mod sessions;
 #[cfg(test)]
 mod small;
+#[cfg(test)]
+mod table;

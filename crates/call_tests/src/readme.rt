@@ -1,4 +1,5 @@
-//! What README shows on the game map. The lines are those of an independent program.
+//! A query, a script and a scenario on the game map, as README has them among others (tools/check-readme runs
+//! all that README shows). The lines are those of an independent program.
 
 use crate::calls::{check, check_done, on_two};
 use std::test::Fail;
@@ -91,7 +92,7 @@ const SCRIPT: &[u8] = b"query 23 1 25 1\nfree 24 1\nquery 23 1 25 1\nblock 24 1\
 const ANSWERS: &[u8] = b"walk 74 0 23,1 23,37 25,37 25,1\nok\nwalk 2 0 23,1 25,1\nok\n";
 
 #[test]
-fn the_game_map_is_answered_as_readme_shows(rt: HostRuntime) -> Result<(), Fail> {
+fn the_game_map_is_answered(rt: HostRuntime) -> Result<(), Fail> {
     let alloc = rt.alloc();
     let round = b"walk 74 0 23,1 23,37 25,37 25,1\n";
     let table: [(&str, &[u8], &[u8]); 4] = [

@@ -176,7 +176,7 @@ fn scenarios_are_judged_on_small_maps(rt: HostRuntime) -> Result<(), Fail> {
 }
 
 // An open map of 128 columns and 129 rows, which has more than 2^14 cells.
-fn large(alloc: Global) -> Result<Vec<u8>, AllocError> {
+pub(crate) fn large(alloc: Global) -> Result<Vec<u8>, AllocError> {
     let mut text = Vec::from_slice(alloc, b"type octile\nheight 129\nwidth 128\nmap\n")?;
     for _row in 0..129 {
         for _part in 0..8 {

@@ -48,3 +48,85 @@ pub fn words_of<R: Env>(rt: &R, alloc: Global) -> Result<Words, NoMemory> {
     }
     Ok(Words::Text(words))
 }
+
+#[cfg(test)]
+mod tests {
+    use super::*;
+    use std::process::Abort;
+    use std::test::Fail;
+
+    // A system that hands over these words.
+    #[derive(Drop)]
+    struct Handed<'a> {
+        words: &'a [&'a [u8]],
+    }
+
+    impl<'a> Env for Handed<'a> {
+        fn arg(&self, place: usize, buf: &mut [u8]) -> Result<usize, FillError> {
+            let Some(word) = self.words.get(place) else {
+                return Err(FillError::NotPresent);
+            };
+            if buf.len() < word.len() {
+                return Err(FillError::TooLong);
+            }
+            buf[..word.len()].copy_from_slice(word);
+            Ok(word.len())
+        }
+
+        fn var(&self, _name: &str, _buf: &mut [u8]) -> Result<usize, FillError> {
+            Err(FillError::NotPresent)
+        }
+
+        fn var_at(&self, _place: usize, _buf: &mut [u8]) -> Result<usize, FillError> {
+            Err(FillError::NotPresent)
+        }
+    }
+
+    // The words that are handed over behind the program's name come out as these, all of them or those before
+    // one that is no text.
+    fn check_words(
+        rt: &impl Abort,
+        alloc: Global,
+        handed: &[&[u8]],
+        are_all: bool,
+        told: &[&[u8]],
+    ) -> Result<(), Fail> {
+        let (is_text, words) = match words_of(&Handed { words: handed }, alloc)? {
+            Words::Text(words) => (true, words),
+            Words::NoText(words) => (false, words),
+        };
+        assert_eq!(rt; is_text, are_all);
+        assert_eq!(rt; words.len(), told.len());
+        for (word, bytes) in words.iter().zip(told) {
+            assert_eq!(rt; word.as_bytes(), *bytes);
+        }
+        Ok(())
+    }
+
+    // No words; an empty one; one in letters of two bytes; and words before one that is no text, the first one
+    // too.
+    #[test]
+    fn words_are_those_behind_the_name(rt: HostRuntime) -> Result<(), Fail> {
+        let alloc = rt.alloc();
+        check_words(&rt, alloc, &[], true, &[])?;
+        check_words(&rt, alloc, &[b"jps"], true, &[])?;
+        check_words(&rt, alloc, &[b"jps", b"", b"m"], true, &[b"", b"m"])?;
+        check_words(&rt, alloc, &[b"\xff", b"k\xc3\xa4"], true, &[b"k\xc3\xa4"])?;
+        check_words(
+            &rt,
+            alloc,
+            &[b"jps", b"query", b"\xc3", b"m"],
+            false,
+            &[b"query"],
+        )?;
+        check_words(&rt, alloc, &[b"jps", b"\xff"], false, &[])
+    }
+
+    // Words of as many bytes as there is room for at first, of one more, and of four times as many.
+    #[test]
+    fn long_words_come_whole(rt: HostRuntime) -> Result<(), Fail> {
+        let long = [b'w'; 4 * ROOM];
+        let handed: [&[u8]; 4] = [b"jps", &long[..ROOM], &long[..ROOM + 1], &long];
+        check_words(&rt, rt.alloc(), &handed, true, &handed[1..])
+    }
+}

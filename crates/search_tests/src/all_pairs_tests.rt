@@ -29,7 +29,7 @@ fn both_of<L: Ledger>(alloc: Global, grid: &Grid, blank: Blank) -> Result<(Boxes
 // Of a map of two by two cells whose lower right one is blocked: four runs, as the first cell of a row is its
 // own.
 #[test]
-fn both_come_from_one_pass_a_cell(rt: HostRuntime) -> Result<(), Fail> {
+fn boxes_and_first_moves_are_made_together(rt: HostRuntime) -> Result<(), Fail> {
     let grid = Grid::of_cells(rt.alloc(), 2, 2, b"...@", Corner::Never)?;
     assert!(rt; usize::from(grid.height()) * usize::from(grid.width()) <= 16384);
     let (boxes, moves) = both_of::<Brand>(rt.alloc(), &grid, Blank::new(1))?;

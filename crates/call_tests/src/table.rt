@@ -1,0 +1,411 @@
+//! The table of whole calls, and what goes through it.
+//!
+//! A table is a text with a line for each row: what it shows, the words, the map and the further files, and
+//! behind an arrow the status and the lines that are written. `/` ends a line of a file or of the output:
+//!
+//! ```text
+//! walk, ok | solve m s engine=each rule=any | ... | query 0 0 2 0/block 1 0 => 0 walk 2 0 0,0 2,0/ok
+//! ```
+//!
+//! A row stands for a call by each engine and under each rule of the sets that its words name, and all of
+//! them have the same outcome. The first file is `m`: rows of cells, or a whole text where it begins with
+//! `type`. The second is `s`, and what comes in to `live`; the third is `t`. A line `~N` is N blanks. `%` is
+//! the table file of three cells under the row's rule, `%P=B` has the byte B at place P, `%cut` lacks the
+//! last byte. A line `jps: ..` goes to standard error, all others are the output.
+
+use crate::calls::{Call, ENGINES, RULES, check, check_reads};
+use crate::commands::THREE_CELLS;
+use crate::small::large;
+use std::alloc::{AllocError, Global};
+use std::process::Abort;
+use std::test::Fail;
+
+pub(crate) const PICKS: [&str; 6] = [
+    "engine=plain",
+    "engine=jps",
+    "engine=block",
+    "engine=plus",
+    "engine=boxes",
+    "engine=moves",
+];
+
+const TRACING: [&str; 5] = [
+    "engine=plain",
+    "engine=jps",
+    "engine=block",
+    "engine=plus",
+    "engine=boxes",
+];
+
+/// A row, as it stands in a table.
+#[derive(Clone, Copy)]
+pub(crate) struct Row<'a> {
+    pub shows: &'a str,
+    pub words: &'a str,
+    pub map: &'a str,
+    pub second: &'a str,
+    pub third: &'a str,
+    pub status: u8,
+    pub lines: &'a str,
+}
+
+// The row of the line, none where it has no arrow.
+pub(crate) fn row_of(line: &str) -> Option<Row<'_>> {
+    let (before, after) = line.split_once("=>")?;
+    let mut fields = before.split('|');
+    let shows = fields.next().unwrap_or("").trim();
+    let words = fields.next().unwrap_or("").trim();
+    let map = fields.next().unwrap_or("").trim();
+    let second = fields.next().unwrap_or("").trim();
+    let third = fields.next().unwrap_or("").trim();
+    let (status, lines) = after.trim().split_once(' ').unwrap_or((after.trim(), ""));
+    Some(Row {
+        shows,
+        words,
+        map,
+        second,
+        third,
+        status: status.parse::<u8>().unwrap_or(9),
+        lines,
+    })
+}
+
+// Whether the row shows this, among others; each row shows nothing.
+pub(crate) fn is_shown(row: Row<'_>, what: &str) -> bool {
+    if what.is_empty() {
+        return true;
+    }
+    for part in row.shows.split(',') {
+        if part.trim() == what {
+            return true;
+        }
+    }
+    false
+}
+
+// The engines of the set that the words name; none is named where a command has none.
+pub(crate) fn engines_of(words: &str) -> &'static [&'static str] {
+    for word in words.split_whitespace() {
+        match word {
+            "engine=any" => return &PICKS,
+            "engine=each" => return &ENGINES,
+            "engine=jumping" => return &["engine=jps", "engine=block", "engine=plus"],
+            "engine=small" => return &["engine=boxes", "engine=moves"],
+            "engine=tracing" => return &TRACING,
+            "engine=stepping" => return &["engine=plain", "engine=boxes"],
+            "engine=other" => return &["engine=plain", "engine=jps", "engine=block"],
+            "engine=plus" => return &["engine=plus"],
+            "engine=plain" => return &["engine=plain"],
+            "engine=boxes" => return &["engine=boxes"],
+            "engine=moves" => return &["engine=moves"],
+            _ => (),
+        }
+    }
+    &[""]
+}
+
+// The corner rules of the set that the words name; none is named where a command has none.
+pub(crate) fn rules_of(words: &str) -> &'static [&'static str] {
+    for word in words.split_whitespace() {
+        match word {
+            "rule=any" => return &RULES,
+            "rule=strict" => return &["rule=none", "rule=one"],
+            "rule=slipping" => return &["rule=one", "rule=both"],
+            "rule=none" => return &["rule=none"],
+            "rule=one" => return &["rule=one"],
+            "rule=both" => return &["rule=both"],
+            _ => (),
+        }
+    }
+    &[""]
+}
+
+// The commands with a script, with a map, with a scenario and with a table file; each takes the engines and
+// the rules of its own set.
+const SCRIPTED: [&str; 2] = ["solve m s", "live m"];
+
+const MAPPED: [&str; 12] = [
+    "query m 0 0 0 0 engine=any rule=any",
+    "solve m s engine=each rule=any",
+    "live m engine=each rule=any",
+    "scen m s engine=any rule=any",
+    "judge m s t rule=any",
+    "prove m 0 0 0 0 rule=any",
+    "check m s rule=any",
+    "draw m 0 0 0 0 engine=each rule=any",
+    "costs m 0 0 rule=any",
+    "tables m rule=any",
+    "boxes m 0 0 rule=any",
+    "moves m 0 0 rule=any",
+];
+
+const LISTED: [&str; 2] = ["scen m s engine=any rule=any", "judge m s t rule=any"];
+
+const TABLED: [&str; 4] = [
+    "query m 0 0 2 0 tables=t engine=plus rule=any",
+    "solve m s engine=plus tables=t rule=any",
+    "live m rule=any engine=plus tables=t",
+    "scen m s engine=plus tables=t rule=any",
+];
+
+// The calls of this name, none where it names no group.
+fn group(name: &str) -> &'static [&'static str] {
+    match name {
+        "mapped" => &MAPPED,
+        "listed" => &LISTED,
+        "tabled" => &TABLED,
+        _ => &[],
+    }
+}
+
+// The words of the calls of the row: those of a group, those of both commands with a script, or its own.
+pub(crate) fn calls_of(alloc: Global, row: Row<'_>) -> Result<Vec<String>, AllocError> {
+    let mut calls = Vec::new(alloc);
+    for words in group(row.words) {
+        calls.push(String::from_str(alloc, words)?)?;
+    }
+    if !calls.is_empty() {
+        return Ok(calls);
+    }
+    if let Some(settings) = row.words.strip_prefix("scripted") {
+        for command in SCRIPTED {
+            let mut words = String::from_str(alloc, command)?;
+            words.push_str(settings)?;
+            calls.push(words)?;
+        }
+    } else {
+        calls.push(String::from_str(alloc, row.words)?)?;
+    }
+    Ok(calls)
+}
+
+// The words with this engine and this rule in place of the sets.
+pub(crate) fn spelled(
+    alloc: Global,
+    words: &str,
+    engine: &str,
+    rule: &str,
+) -> Result<String, AllocError> {
+    let mut spelled = String::new(alloc);
+    for word in words.split_whitespace() {
+        let word = if word.starts_with("engine=") {
+            engine
+        } else if word.starts_with("rule=") {
+            rule
+        } else {
+            word
+        };
+        spelled.push_str(word)?;
+        spelled.push_str(" ")?;
+    }
+    Ok(spelled)
+}
+
+// The text of these lines.
+fn text_of(alloc: Global, lines: &str) -> Result<Vec<u8>, AllocError> {
+    let mut text = Vec::new(alloc);
+    if lines.is_empty() {
+        return Ok(text);
+    }
+    for line in lines.split('/') {
+        match line.strip_prefix("~") {
+            Some(count) => {
+                let count = count.parse::<u8>().unwrap_or(0);
+                for _blank in 0..count {
+                    text.push(b' ')?;
+                }
+            }
+            None => text.extend_from_slice(line.as_bytes())?,
+        }
+        text.push(b'\n')?;
+    }
+    Ok(text)
+}
+
+// The width and the height of the map of these rows.
+pub(crate) fn sides_of(rows: &str) -> (usize, usize) {
+    let mut width = 0;
+    let mut height = 0usize;
+    for row in rows.split('/') {
+        width = row.len();
+        height = height.saturating_add(1);
+    }
+    (width, height)
+}
+
+// The map of these rows, or of this text; `%large` has more cells than boxes and first moves are for.
+fn map_of(alloc: Global, rows: &str) -> Result<Vec<u8>, AllocError> {
+    if rows == "%large" {
+        return large(alloc);
+    }
+    if rows.is_empty() || rows.starts_with("type") {
+        return text_of(alloc, rows);
+    }
+    let (width, height) = sides_of(rows);
+    let head = format!(in alloc; "type octile\nheight {height}\nwidth {width}\nmap\n")?;
+    let mut text = Vec::from_slice(alloc, head.as_bytes())?;
+    let cells = text_of(alloc, rows)?;
+    text.extend_from_slice(cells.as_slice())?;
+    Ok(text)
+}
+
+// The third file: a text, or the tables of three cells, under the rule, with a byte changed or cut off.
+fn third_of(alloc: Global, told: &str, rule: &str) -> Result<Vec<u8>, AllocError> {
+    let Some(change) = told.strip_prefix("%") else {
+        return text_of(alloc, told);
+    };
+    let mut tables = Vec::from_slice(alloc, THREE_CELLS)?;
+    if 8 < tables.len() {
+        tables[8] = match rule {
+            "rule=one" => 1,
+            "rule=both" => 2,
+            _ => 0,
+        };
+    }
+    if change == "cut" {
+        tables.truncate(108);
+    }
+    if let Some((place, byte)) = change.split_once('=') {
+        let place = place.parse::<usize>().unwrap_or(0);
+        if place < tables.len() {
+            tables[place] = byte.parse::<u8>().unwrap_or(0);
+        }
+    }
+    Ok(tables)
+}
+
+// The lines of a row that go to this stream: those to standard error begin with the program's name.
+pub(crate) fn written(alloc: Global, lines: &str, to_err: bool) -> Result<Vec<u8>, AllocError> {
+    let mut text = Vec::new(alloc);
+    if lines.is_empty() {
+        return Ok(text);
+    }
+    for line in lines.split('/') {
+        if line.starts_with("jps: ") == to_err {
+            text.extend_from_slice(line.as_bytes())?;
+            text.push(b'\n')?;
+        }
+    }
+    Ok(text)
+}
+
+// How a call is tried: as it stands, or with each of its reads and writes failing in turn.
+#[derive(Clone, Copy, PartialEq, Eq)]
+pub(crate) enum Trial {
+    Whole,
+    Failing,
+}
+
+// One call of the row has its status, this output and this line; `%` stands for the third file as output.
+fn check_call(
+    alloc: Global,
+    rt: &impl Abort,
+    row: Row<'_>,
+    by: (&str, &str),
+    told: (&[u8], &[u8]),
+    trial: Trial,
+) -> Result<(), Fail> {
+    let map = map_of(alloc, row.map)?;
+    let second = text_of(alloc, row.second)?;
+    let third = third_of(alloc, row.third, by.1)?;
+    let made = Call {
+        words: by.0,
+        map: map.as_slice(),
+        second: second.as_slice(),
+        third: third.as_slice(),
+        input: second.as_slice(),
+        failing_read: 0,
+        failing_write: 0,
+    };
+    let output = if row.lines == "%" {
+        third.as_slice()
+    } else {
+        told.0
+    };
+    match trial {
+        Trial::Whole => check(alloc, rt, made, row.status, output, told.1),
+        Trial::Failing => check_failing(alloc, rt, made, output),
+    }
+}
+
+// How many reads the file of this name takes, in pieces of 16, where the words name it.
+fn reads_of(words: &str, name: &str, text: &[u8]) -> u64 {
+    for word in words.split_whitespace() {
+        if word == name || word.strip_prefix("tables=") == Some(name) {
+            let rest = if text.len() % 16 == 0 { 1 } else { 2 };
+            return text.len() as u64 / 16 + rest;
+        }
+    }
+    0
+}
+
+// Each read of the call fails in turn, and of its writes, each of a byte, some forty, the first and the
+// last among them.
+fn check_failing(
+    alloc: Global,
+    rt: &impl Abort,
+    made: Call<'_>,
+    output: &[u8],
+) -> Result<(), Fail> {
+    let reads = reads_of(made.words, "m", made.map)
+        .saturating_add(reads_of(made.words, "s", made.second))
+        .saturating_add(reads_of(made.words, "t", made.third));
+    check_reads(alloc, rt, made, reads)?;
+    let step = output.len() / 40 + 1;
+    for write in 0..output.len() {
+        if write % step == 0 || write == output.len() - 1 {
+            let failing = Call {
+                failing_write: write as u64 + 1,
+                ..made
+            };
+            check(alloc, rt, failing, 5, &output[..write], b"jps: write\n")?;
+        }
+    }
+    Ok(())
+}
+
+// The calls of a row, by each engine and under each rule, have this output and this line.
+pub(crate) fn check_calls(
+    alloc: Global,
+    rt: &impl Abort,
+    row: Row<'_>,
+    told: (&[u8], &[u8]),
+    trial: Trial,
+) -> Result<(), Fail> {
+    let calls = calls_of(alloc, row)?;
+    for call in calls.as_slice() {
+        for engine in engines_of(call.as_str()) {
+            for rule in rules_of(call.as_str()) {
+                let words = spelled(alloc, call.as_str(), engine, rule)?;
+                check_call(alloc, rt, row, (words.as_str(), rule), told, trial)?;
+            }
+        }
+    }
+    Ok(())
+}
+
+// The rows of a table, each by all its calls; where calls fail, those that show their streams.
+pub(crate) fn check_rows(
+    alloc: Global,
+    rt: &impl Abort,
+    table: &str,
+    trial: Trial,
+) -> Result<(), Fail> {
+    for line in table.lines() {
+        let Some(row) = row_of(line) else {
+            continue;
+        };
+        if trial == Trial::Whole || is_shown(row, "streams") {
+            let output = written(alloc, row.lines, false)?;
+            let line = written(alloc, row.lines, true)?;
+            let told = (output.as_slice(), line.as_slice());
+            check_calls(alloc, rt, row, told, trial)?;
+        }
+    }
+    Ok(())
+}
+
+// The rows of a table, each by all its calls.
+pub(crate) fn check_table(alloc: Global, rt: &impl Abort, table: &str) -> Result<(), Fail> {
+    check_rows(alloc, rt, table, Trial::Whole)
+}
