@@ -1,4 +1,4 @@
-use Rattle.std.proofs.Common.{ℕ, sym, subst}
+use Rattle.std.proofs.Common.{ℕ, ◌+◌, arith, sym, subst}
 use Rattle.jump_block.specs.Trail.{Trail, begun}
 use Rattle.jump_block.specs.Near.{AreNearStart}
 use Rattle.jump_block.specs.Scan.{MeetsFrom, MeetsMark}
@@ -16,9 +16,30 @@ returns-clause-finds g c = λ grid are free goal off.
     let at = c.args.at in
     let way = c.args.way in
     let rule = c.args.self.now.corner in
-    mark_on grid at (row_dir way) rule (row_straight way) are.rule free are.whole goal
-    (off_row way at goal off) _
-    (subst (λ (t : Trail). MeetsMark rule (begun rule t) c.finds_mark.result) (sym (row_trail grid way at))
-    (one_on (λ (line place : ℕ). MeetsFrom c.args.self.now.rows.now rule way line place c.finds_mark.result)
+    let old = c.args.steps.now + 3 in
+    let new = c.finds_mark.new.steps in
+    (mark_on grid at (row_dir way) rule (row_straight way) are.rule free are.whole goal
+    (off_row way at goal off) old new _
+    (subst (λ (t : Trail). MeetsMark rule (begun rule t) old new c.finds_mark.result)
+    (sym (row_trail grid way at))
+    (one_on (λ (line place : ℕ). MeetsFrom c.args.self.now.rows.now rule way line place old new
+    c.finds_mark.result)
     c.from.ensures c.from-2.ensures c.finds_mark.ensures.finds (by_rows grid)
-    (row_start grid at free c.args.self.now.rows.now are.are_rows)))
+    (row_start grid at free c.args.self.now.rows.now are.are_rows)))).0
+
+pub returns-clause-most : goal.returns-clause-most
+returns-clause-most g c = λ grid are free goal off.
+    let at = c.args.at in
+    let way = c.args.way in
+    let rule = c.args.self.now.corner in
+    let old = c.args.steps.now + 3 in
+    let new = c.finds_mark.new.steps in
+    let most = (mark_on grid at (row_dir way) rule (row_straight way) are.rule free are.whole goal
+    (off_row way at goal off) old new _
+    (subst (λ (t : Trail). MeetsMark rule (begun rule t) old new c.finds_mark.result)
+    (sym (row_trail grid way at))
+    (one_on (λ (line place : ℕ). MeetsFrom c.args.self.now.rows.now rule way line place old new
+    c.finds_mark.result)
+    c.from.ensures c.from-2.ensures c.finds_mark.ensures.finds (by_rows grid)
+    (row_start grid at free c.args.self.now.rows.now are.are_rows)))).1 in
+    omega (arith, most)
