@@ -22,7 +22,7 @@ use Rattle.jump_block.specs.declared.block.Halt.{Halt}
 use Rattle.jump_block.specs.declared.word.Way.{Way}
 use Rattle.jump_block.specs.declared.word.Way.TheVariants.{Forward, Back}
 use Rattle.jump_block.specs.Trail.{Trail, at_start, begun, opens, opens_beside, trail_on}
-use Rattle.jump_block.specs.Scan.{IsStart, MeetsMark, most_lanes}
+use Rattle.jump_block.specs.Scan.{IsStart, MeetsFrom, MeetsMark, most_lanes}
 use Rattle.jump_block.specs.Source as block
 use Rattle.jump_block.specs.Source.{by_rows, by_columns, trail_of, row_dir, column_dir, row_way, column_way}
 use Rattle.jump_block.specs.Source.{scanned}
@@ -307,6 +307,27 @@ pub column_trail : (g : GridData) (way : Way) (x : Cell)
     → trail_of g (column_dir way) x ≡ trail_on (by_columns g) way (x.x + 1) (x.y + 1)
 column_trail g Forward x = refl
 column_trail g Back x = refl
+
+-- what a scan from a cell meets along its row or its column
+pub row_met : (g : GridData) (way : Way) (x : Cell) (rule : Corner) (l : LineData) → is_free g x ≡ true
+    → AreRowsOf l g → (old new : ℕ) (marked : Bool)
+    → MeetsFrom l rule way (x.y + 1) (x.x + 1) old new marked
+    → MeetsMark rule (begun rule (trail_of g (row_dir way) x)) old new marked
+row_met g way x rule l free are old new marked met =
+    subst (λ (t : Trail). MeetsMark rule (begun rule t) old new marked) (sym (row_trail g way x))
+    (met (by_rows g) (row_start g x free l are))
+
+pub column_met : (g : GridData) (way : Way) (x : Cell) (rule : Corner) (l : LineData) → is_free g x ≡ true
+    → AreColumnsOf l g → (old new : ℕ) (marked : Bool)
+    → MeetsFrom l rule way (x.x + 1) (x.y + 1) old new marked
+    → MeetsMark rule (begun rule (trail_of g (column_dir way) x)) old new marked
+column_met g way x rule l free are old new marked met =
+    subst (λ (t : Trail). MeetsMark rule (begun rule t) old new marked) (sym (column_trail g way x))
+    (met (by_columns g) (column_start g x free l are))
+
+-- a scan over more moves reads no fewer blocks
+pub more_lanes : (m n : ℕ) → m ≤ n → most_lanes m ≤ most_lanes n
+more_lanes m n h = omega arith
 
 pub row_straight : (way : Way) → is_diagonal (row_dir way) ≡ false
 row_straight Forward = refl

@@ -27,8 +27,8 @@ fn is_mark(found: Option<Halt>) -> bool
     }
 }
 
-// Whether a scan halts at a mark. It is for the scans that leave the next words too, and reads three blocks for
-// each one on the way.
+// Whether a scan halts at a mark. It is for the scans that leave the next words too, and reads three blocks at a
+// time.
 #[inline(never)]
 fn finds_far<const WAY: usize, const RULE: usize, L: Ledger>(
     rule: Corner,

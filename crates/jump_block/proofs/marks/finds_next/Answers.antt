@@ -21,7 +21,8 @@ returns-then-is_some-clause-finds g c = λ free start.
           (c.requires.near free start)
           (on_same (λ (w : Way) (r : Corner). IsClear (begun r (trail_on free w c.args.line place))
           (moves_before w place (far w (place / 64 * 64))))
-          (sym c.way_of.ensures) (c.requires.rule ∙ sym c.rule_of_number.ensures) (c.requires.clear free start)))),
+          (sym c.way_of.ensures) (c.requires.rule ∙ sym c.rule_of_number.ensures)
+          (c.requires.clear free start)))),
       omega (arith, most),
     )
 
