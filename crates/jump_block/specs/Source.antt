@@ -1,6 +1,6 @@
 -- Jumps over bits: the grids for which they stand, where a scan on one halts, and how many cells it covers.
-use Rattle.std.specs.Prelude.{◌≡◌, ⊤, IsTrue, ℕ, ◌+◌, ◌<◌, ◌≤◌, Bool, true, false, if◌then◌else◌, Option, Some}
-use Rattle.std.specs.Prelude.{None, codes, refl}
+use Rattle.std.specs.Prelude.{◌≡◌, ⊤, IsTrue, ℕ, ◌+◌, ◌<◌, ◌≤◌, Bool, true, false, if◌then◌else◌}
+use Rattle.std.specs.Prelude.{Option, Some, None, codes, refl}
 use Rattle.grid_moves.specs.declared.Cell.{Cell}
 use Rattle.grid_moves.specs.declared.Corner.{Corner}
 use Rattle.grid_moves.specs.declared.Corner.TheVariants.{One, Both}

@@ -27,8 +27,7 @@ fn is_mark(found: Option<Halt>) -> bool
     }
 }
 
-// Whether a scan halts at a mark. It is for the scans that leave the next words too, and reads three blocks at a
-// time.
+// Whether a scan halts at a mark. It is for the scans that leave the next words too.
 #[inline(never)]
 fn finds_far<const WAY: usize, const RULE: usize, L: Ledger>(
     rule: Corner,
