@@ -1,5 +1,5 @@
 -- Scans on a grid, in each straight direction.
-use Rattle.std.proofs.Common.{◌≡◌, ◌≢◌, ℕ, zero, suc, ◌+◌, ◌-◌, ◌<◌, arith, Bool, true, false, ◌||◌}
+use Rattle.std.proofs.Common.{◌≡◌, ◌≢◌, ℕ, zero, suc, ◌+◌, ◌-◌, ◌<◌, ◌≤◌, arith, Bool, true, false, ◌||◌}
 use Rattle.std.proofs.Common.{refl, ap, sym, ◌∙◌, subst}
 use Rattle.std.specs.Prelude.{Option, Some, is_some, nat_eq, if◌then◌else◌}
 use Rattle.std.proofs.lemmas.Bool.Decides.{nat_tests}
@@ -18,12 +18,14 @@ use Rattle.jump_plain.specs.declared.beside.Sides.{Sides}
 use Rattle.jump_plain.specs.Reach.{moves_to, reach_of, stop_of}
 use Rattle.jump_plain.proofs.Straight.{straight_stop}
 use Rattle.jump_block.proofs.Runs.{IsTold, told_by_ray}
+use Rattle.jump_block.specs.declared.block.Halt.{Halt}
 use Rattle.jump_block.specs.declared.word.Way.{Way}
 use Rattle.jump_block.specs.declared.word.Way.TheVariants.{Forward, Back}
 use Rattle.jump_block.specs.Trail.{Trail, at_start, begun, opens, opens_beside, trail_on}
-use Rattle.jump_block.specs.Scan.{IsStart, MeetsMark}
+use Rattle.jump_block.specs.Scan.{IsStart, MeetsFrom, MeetsMark, most_lanes}
 use Rattle.jump_block.specs.Source as block
 use Rattle.jump_block.specs.Source.{by_rows, by_columns, trail_of, row_dir, column_dir, row_way, column_way}
+use Rattle.jump_block.specs.Source.{scanned}
 
 abbrev pub cell : ℕ → ℕ → Cell
 cell x y = record { x = x; y = y }
@@ -266,16 +268,30 @@ pub told_on : (g : GridData) (x : Cell) (d : Dir) (rule : Corner) → is_diagona
 told_on g x d rule h r f whole = subst (λ (c : Corner). IsTold g x d c (begun c (trail_of g d x))) (sym r)
     (told_by_dir g x d h f whole)
 
--- and where the goal is not ahead, whether it meets a mark
+-- and where the goal is not ahead, whether it meets a mark, and how many cells are looked at
 pub mark_on : (g : GridData) (x : Cell) (d : Dir) (rule : Corner) → is_diagonal d ≡ false → rule ≡ g.corner
-    → is_free g x ≡ true → IsGrid g → (goal : Cell) → moves_to d x goal ≡ 0 → (marked : Bool)
-    → MeetsMark rule (begun rule (trail_of g d x)) marked → marked ≡ is_some (first_stop g goal x d)
-mark_on g x d rule h r f whole goal off marked met =
-    shown marked
-    ∙ ap (λ (o : Option ℕ). is_some o) ((told_on g x d rule h r f whole 0
-    (Some (record { passed = met.0; marked = marked })) met.1).0
-    ∙ ap (λ (n : ℕ). stop_of (reach_of g x d) n) (sym off) ∙ sym (straight_stop g goal x d h))
+    → is_free g x ≡ true → IsGrid g → (goal : Cell) → moves_to d x goal ≡ 0 → (old new : ℕ) (marked : Bool)
+    → MeetsMark rule (begun rule (trail_of g d x)) old new marked
+    → (marked ≡ is_some (first_stop g goal x d))
+    × (new ≤ old + most_lanes (scanned g x d (first_stop g goal x d)))
+mark_on g x d rule h r f whole goal off old new marked met = (
+  shown marked ∙ ap (λ (o : Option ℕ). is_some o) stop,
+  subst (λ (o : Option ℕ). new ≤ old + most_lanes (scanned g x d o)) stop (omega (arith, within, few)),
+)
   where
+    found : Option Halt
+    found = Some (record { passed = met.0; marked = marked })
+
+    stop : block.stop_of rule found 0 ≡ first_stop g goal x d
+    stop = (told_on g x d rule h r f whole 0 found met.1).0
+        ∙ ap (λ (n : ℕ). stop_of (reach_of g x d) n) (sym off) ∙ sym (straight_stop g goal x d h)
+
+    within : met.0 ≤ scanned g x d (block.stop_of rule found 0)
+    within = (told_on g x d rule h r f whole 0 found met.1).2
+
+    few : new ≤ old + most_lanes met.0
+    few = met.2
+
     shown : (b : Bool)
         → b ≡ is_some (block.stop_of rule (Some (record { passed = met.0; marked = b })) 0)
     shown true = refl
@@ -291,6 +307,27 @@ pub column_trail : (g : GridData) (way : Way) (x : Cell)
     → trail_of g (column_dir way) x ≡ trail_on (by_columns g) way (x.x + 1) (x.y + 1)
 column_trail g Forward x = refl
 column_trail g Back x = refl
+
+-- what a scan from a cell meets along its row or its column
+pub row_met : (g : GridData) (way : Way) (x : Cell) (rule : Corner) (l : LineData) → is_free g x ≡ true
+    → AreRowsOf l g → (old new : ℕ) (marked : Bool)
+    → MeetsFrom l rule way (x.y + 1) (x.x + 1) old new marked
+    → MeetsMark rule (begun rule (trail_of g (row_dir way) x)) old new marked
+row_met g way x rule l free are old new marked met =
+    subst (λ (t : Trail). MeetsMark rule (begun rule t) old new marked) (sym (row_trail g way x))
+    (met (by_rows g) (row_start g x free l are))
+
+pub column_met : (g : GridData) (way : Way) (x : Cell) (rule : Corner) (l : LineData) → is_free g x ≡ true
+    → AreColumnsOf l g → (old new : ℕ) (marked : Bool)
+    → MeetsFrom l rule way (x.x + 1) (x.y + 1) old new marked
+    → MeetsMark rule (begun rule (trail_of g (column_dir way) x)) old new marked
+column_met g way x rule l free are old new marked met =
+    subst (λ (t : Trail). MeetsMark rule (begun rule t) old new marked) (sym (column_trail g way x))
+    (met (by_columns g) (column_start g x free l are))
+
+-- a scan over more moves reads no fewer blocks
+pub more_lanes : (m n : ℕ) → m ≤ n → most_lanes m ≤ most_lanes n
+more_lanes m n h = omega arith
 
 pub row_straight : (way : Way) → is_diagonal (row_dir way) ≡ false
 row_straight Forward = refl

@@ -56,10 +56,11 @@ PassedFrom l rule way line place last = (free : ℕ → ℕ → Bool) → IsStar
     → HasPassed (begun rule (trail_on free way line place)) way place
     (edge_before way (place / 512 * 512) 8) last
 
--- where a scan halts tells whether it shows a mark there
-abbrev pub MeetsMark : Corner → Trail → Bool → Type 0
-MeetsMark rule t marked = (passed : ℕ) × Halts rule t passed marked
+-- where a scan halts tells whether it shows a mark there, and how far the steps have risen at most
+abbrev pub MeetsMark : Corner → Trail → ℕ → ℕ → Bool → Type 0
+MeetsMark rule t old new marked =
+    (passed : ℕ) × Halts rule t passed marked × (new ≤ old + most_lanes passed)
 
-abbrev pub MeetsFrom : LineData → Corner → Way → ℕ → ℕ → Bool → Type 0
-MeetsFrom l rule way line place marked = (free : ℕ → ℕ → Bool) → IsStart l free line place
-    → MeetsMark rule (begun rule (trail_on free way line place)) marked
+abbrev pub MeetsFrom : LineData → Corner → Way → ℕ → ℕ → ℕ → ℕ → Bool → Type 0
+MeetsFrom l rule way line place old new marked = (free : ℕ → ℕ → Bool) → IsStart l free line place
+    → MeetsMark rule (begun rule (trail_on free way line place)) old new marked

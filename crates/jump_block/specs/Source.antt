@@ -1,6 +1,6 @@
 -- Jumps over bits: the grids for which they stand, where a scan on one halts, and how many cells it covers.
-use Rattle.std.specs.Prelude.{◌≡◌, ⊤, IsTrue, ℕ, ◌+◌, ◌<◌, Bool, true, false, if◌then◌else◌, Option, Some}
-use Rattle.std.specs.Prelude.{None, codes, refl}
+use Rattle.std.specs.Prelude.{◌≡◌, ⊤, IsTrue, ℕ, ◌+◌, ◌<◌, ◌≤◌, Bool, true, false, if◌then◌else◌}
+use Rattle.std.specs.Prelude.{Option, Some, None, codes, refl}
 use Rattle.grid_moves.specs.declared.Cell.{Cell}
 use Rattle.grid_moves.specs.declared.Corner.{Corner}
 use Rattle.grid_moves.specs.declared.Corner.TheVariants.{One, Both}
@@ -8,7 +8,7 @@ use Rattle.grid_moves.specs.declared.Dir.{Dir}
 use Rattle.grid_moves.specs.declared.Dir.TheVariants.{N, NE, E, SE, S, SW, W}
 use Rattle.grid_moves.specs.Grid.{GridData, IsGrid, grid_of, is_free}
 use Rattle.bit_grid.specs.Bits.{BitData, AreBitsOf, AreRowsOf, AreColumnsOf, is_free_from_one}
-use Rattle.pruning.specs.First.{run_length}
+use Rattle.pruning.specs.First.{first_stop, run_length}
 use Rattle.jump_plain.specs.declared.scan.Reach.{Reach}
 use Rattle.jump_plain.specs.Reach as reach
 use Rattle.jump_plain.specs.Reach.{mark_ahead}
@@ -16,6 +16,7 @@ use Rattle.jump_block.specs.declared.block.Halt.{Halt}
 use Rattle.jump_block.specs.declared.straight.Bits.{Bits}
 use Rattle.jump_block.specs.declared.word.Way.{Way}
 use Rattle.jump_block.specs.declared.word.Way.TheVariants.{Forward, Back}
+use Rattle.jump_block.specs.Scan.{most_lanes}
 use Rattle.jump_block.specs.Trail.{Trail, shows_mark, trail_on}
 
 -- what jumps read is of the bits of this grid
@@ -115,3 +116,7 @@ HasFew None = ⊤
 abbrev pub scanned : GridData → Cell → Dir → Option ℕ → ℕ
 scanned g x d (Some k) = k
 scanned g x d None = run_length g x d + 1
+
+-- the steps rise by at most so many, and those of a straight scan to the first stop
+abbrev pub LooksOut : GridData → Cell → Cell → Dir → ℕ → ℕ → ℕ → Type 0
+LooksOut g goal x d more old new = new ≤ old + more + most_lanes (scanned g x d (first_stop g goal x d))

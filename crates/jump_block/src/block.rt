@@ -135,6 +135,7 @@ pub(crate) fn halt_next<L: Ledger>(
         (moves_before way from (spec.far way (from / 64 * 64)))
         → IfSome result
         (λ h. trails.Halts rule (begun rule (trail_on free way line from)) h.passed h.marked) }
+    ensures most { steps.new ≤ steps.old + 3 }
     ensures more { steps.old ≤ steps.new }
 {
     let word = from / 64;

@@ -1,9 +1,9 @@
 //! Whether a scan along a line halts at a mark, where the goal does not lie on the line.
 
-ghost use Rattle.std.specs.Prelude.{◌≡◌, ℕ, ◌<◌, ◌≤◌, Bool};
+ghost use Rattle.std.specs.Prelude.{◌≡◌, ℕ, ◌+◌, ◌<◌, ◌≤◌, Bool};
 ghost use Rattle.pruning.specs.Numbered as numbered;
-ghost use Rattle.jump_block.specs.Trail.{Trail};
-ghost use Rattle.jump_block.specs.Scan.{ClearFrom, Finds, IsStart, MeetsFrom, MeetsMark};
+ghost use Rattle.jump_block.specs.Trail.{Halts, Trail};
+ghost use Rattle.jump_block.specs.Scan.{ClearFrom, Finds, IsStart, MeetsFrom, looked};
 ghost use Rattle.jump_block.specs.Near.{AreNearStart};
 ghost use Rattle.jump_block.specs.Word as ways;
 
@@ -19,7 +19,7 @@ use steps::Steps;
 // Whether a scan halts at a mark: else its run ends there.
 #[inline(always)]
 fn is_mark(found: Option<Halt>) -> bool
-    ensures { (rule : Corner) (t : Trail) → Finds rule t 0 found → MeetsMark rule t result }
+    ensures { (rule : Corner) (t : Trail) → Finds rule t 0 found → Halts rule t (looked 0 found) result }
 {
     match found {
         Some(halt) => halt.marked,
@@ -40,7 +40,7 @@ fn finds_far<const WAY: usize, const RULE: usize, L: Ledger>(
     requires starts { (free : ℕ → ℕ → Bool) × IsStart lines.now free line place }
     requires few { lines.now.lines < 65536 }
     requires short { lines.now.blocks ≤ 128 }
-    ensures finds { MeetsFrom lines.now rule (ways.way_of WAY) line place result }
+    ensures finds { MeetsFrom lines.now rule (ways.way_of WAY) line place steps.old steps.new result }
     ensures more { steps.old ≤ steps.new }
 {
     let start = Start {
@@ -51,7 +51,7 @@ fn finds_far<const WAY: usize, const RULE: usize, L: Ledger>(
     is_mark(scan::<RULE, L>(way_of(WAY), rule_of_number(RULE), lines, start, steps))
 }
 
-// The same, where nothing halts the scan in the words around the cell: the next ones are looked at before.
+// The same, where nothing halts the scan in the words around the cell: the next three are read before.
 #[inline(never)]
 fn finds_next<const WAY: usize, const RULE: usize, L: Ledger>(
     rule: Corner,
@@ -67,7 +67,7 @@ fn finds_next<const WAY: usize, const RULE: usize, L: Ledger>(
     requires short { lines.now.blocks ≤ 128 }
     requires near { AreNearStart lines.now line place near }
     requires clear { ClearFrom lines.now rule (ways.way_of WAY) line place }
-    ensures finds { MeetsFrom lines.now rule (ways.way_of WAY) line place result }
+    ensures finds { MeetsFrom lines.now rule (ways.way_of WAY) line place (steps.old + 3) steps.new result }
     ensures more { steps.old ≤ steps.new }
 {
     let found = halt_next(
@@ -101,7 +101,7 @@ pub(crate) fn finds_mark<const RULE: usize, L: Ledger>(
     requires few { lines.now.lines < 65536 }
     requires short { lines.now.blocks ≤ 128 }
     requires near { AreNearStart lines.now line place near }
-    ensures finds { MeetsFrom lines.now rule way line place result }
+    ensures finds { MeetsFrom lines.now rule way line place (steps.old + 3) steps.new result }
     ensures more { steps.old ≤ steps.new }
 {
     let found = halt_near(way, rule, near, place);

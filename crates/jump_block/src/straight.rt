@@ -8,7 +8,7 @@ ghost use Rattle.jump_block.specs.Trail.{begun};
 ghost use Rattle.jump_block.specs.Scan.{Finds, looked, most_lanes};
 ghost use Rattle.jump_block.specs.Near.{AreNearStart};
 ghost use Rattle.jump_block.specs.Source as spec;
-ghost use Rattle.jump_block.specs.Source.{OnSome, OnEach, trail_of, scanned};
+ghost use Rattle.jump_block.specs.Source.{LooksOut, OnSome, OnEach, trail_of, scanned};
 
 use crate::block::Halt;
 use crate::marks::finds_mark;
@@ -149,6 +149,8 @@ impl<'a> Bits<'a> {
         requires near { AreNearStart self.now.rows.now (at.y + 1) (at.x + 1) near }
         ensures finds { OnEach self.now at (λ g. (goal : Cell)
             → nat_eq at.y goal.y ≡ false → result ≡ is_some (first.first_stop g goal at (spec.row_dir way))) }
+        ensures most { OnEach self.now at (λ g. (goal : Cell) → nat_eq at.y goal.y ≡ false
+            → LooksOut g goal at (spec.row_dir way) 3 steps.old steps.new) }
         ensures more { steps.old ≤ steps.new }
     {
         let (line, place) = (u32::from(at.y) + 1, u32::from(at.x) + 1);
@@ -168,6 +170,8 @@ impl<'a> Bits<'a> {
         requires stands { OnSome self.now at }
         ensures finds { OnEach self.now at (λ g. (goal : Cell)
             → nat_eq at.x goal.x ≡ false → result ≡ is_some (first.first_stop g goal at (spec.column_dir way))) }
+        ensures most { OnEach self.now at (λ g. (goal : Cell) → nat_eq at.x goal.x ≡ false
+            → LooksOut g goal at (spec.column_dir way) 6 steps.old steps.new) }
         ensures more { steps.old ≤ steps.new }
     {
         let (line, place) = (u32::from(at.x) + 1, u32::from(at.y) + 1);

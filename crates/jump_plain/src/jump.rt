@@ -242,8 +242,8 @@ fn diagonal_stop<T: Terrain>(t: &T, at: Cell, d: Dir, goal: Cell) -> Option<u16>
     None
 }
 
-// After how many moves a jump stops, under a rule that the compiler knows. Each direction has loops of its own,
-// in which its steps are constants too.
+// After how many moves a jump stops, under a rule that the compiler knows. Each direction has loops of its
+// own, in which its steps are constants too.
 #[inline(never)]
 fn first_stop_by<const RULE: usize, T: Terrain>(t: &T, at: Cell, d: Dir, goal: Cell) -> Option<u16>
     requires rule { (T.grid t.now).corner ≡ numbered.rule_of_number RULE }

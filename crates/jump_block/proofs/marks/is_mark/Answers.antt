@@ -6,7 +6,7 @@ use Rattle.jump_block.proofs.marks.is_mark.Goals as goal
 
 pub returns-in-Some : goal.returns-in-Some
 returns-in-Some c = λ rule t finds.
-    (c.in-Some.halt.passed, subst (λ (o : Option Halt). Finds rule t 0 o) c.in-Some.is finds)
+    rw c.in-Some.is (subst (λ (o : Option Halt). Finds rule t 0 o) c.in-Some.is finds)
 
 pub returns-in-None : goal.returns-in-None
 returns-in-None c = λ rule t finds.

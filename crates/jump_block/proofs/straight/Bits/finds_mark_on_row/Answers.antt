@@ -1,9 +1,8 @@
-use Rattle.std.proofs.Common.{ℕ, sym, subst}
-use Rattle.jump_block.specs.Trail.{Trail, begun}
+use Rattle.std.proofs.Common.{ℕ, ◌+◌, arith, sym}
 use Rattle.jump_block.specs.Near.{AreNearStart}
-use Rattle.jump_block.specs.Scan.{MeetsFrom, MeetsMark}
-use Rattle.jump_block.specs.Source.{by_rows, row_dir}
-use Rattle.jump_block.proofs.Directions.{mark_on, off_row, one_on, row_start, row_straight, row_trail}
+use Rattle.jump_block.specs.Scan.{MeetsFrom}
+use Rattle.jump_block.specs.Source.{row_dir}
+use Rattle.jump_block.proofs.Directions.{mark_on, off_row, one_on, row_met, row_straight}
 use Rattle.jump_block.proofs.straight.Bits.finds_mark_on_row.Goals as goal
 
 pub finds_mark-requires-clause-near : goal.finds_mark-requires-clause-near
@@ -13,12 +12,29 @@ finds_mark-requires-clause-near g c =
 
 pub returns-clause-finds : goal.returns-clause-finds
 returns-clause-finds g c = λ grid are free goal off.
-    let at = c.args.at in
-    let way = c.args.way in
-    let rule = c.args.self.now.corner in
-    mark_on grid at (row_dir way) rule (row_straight way) are.rule free are.whole goal
-    (off_row way at goal off) _
-    (subst (λ (t : Trail). MeetsMark rule (begun rule t) c.finds_mark.result) (sym (row_trail grid way at))
-    (one_on (λ (line place : ℕ). MeetsFrom c.args.self.now.rows.now rule way line place c.finds_mark.result)
-    c.from.ensures c.from-2.ensures c.finds_mark.ensures.finds (by_rows grid)
-    (row_start grid at free c.args.self.now.rows.now are.are_rows)))
+    let old = c.args.steps.now + 3 in
+    let new = c.finds_mark.new.steps in
+    let met = one_on (λ (line place : ℕ). MeetsFrom c.args.self.now.rows.now c.args.self.now.corner
+    c.args.way line place old new c.finds_mark.result) c.from.ensures c.from-2.ensures
+    c.finds_mark.ensures.finds in
+    let told = mark_on grid c.args.at (row_dir c.args.way) c.args.self.now.corner
+    (row_straight c.args.way) are.rule free are.whole goal (off_row c.args.way c.args.at goal off) old new
+    c.finds_mark.result
+    (row_met grid c.args.way c.args.at c.args.self.now.corner c.args.self.now.rows.now free
+    are.are_rows old new c.finds_mark.result met) in
+    told.0
+
+pub returns-clause-most : goal.returns-clause-most
+returns-clause-most g c = λ grid are free goal off.
+    let old = c.args.steps.now + 3 in
+    let new = c.finds_mark.new.steps in
+    let met = one_on (λ (line place : ℕ). MeetsFrom c.args.self.now.rows.now c.args.self.now.corner
+    c.args.way line place old new c.finds_mark.result) c.from.ensures c.from-2.ensures
+    c.finds_mark.ensures.finds in
+    let told = mark_on grid c.args.at (row_dir c.args.way) c.args.self.now.corner
+    (row_straight c.args.way) are.rule free are.whole goal (off_row c.args.way c.args.at goal off) old new
+    c.finds_mark.result
+    (row_met grid c.args.way c.args.at c.args.self.now.corner c.args.self.now.rows.now free
+    are.are_rows old new c.finds_mark.result met) in
+    let most = told.1 in
+    omega (arith, most)
