@@ -1,5 +1,5 @@
-//! Scenarios that are made, by whole calls: least lengths are sums of 1 and √2 = 1.41421356.., whose moves are
-//! counted on squared paper; the words of seeds come from a program of its own.
+//! Scenarios that are made, by whole calls: least lengths are sums of 1 and √2 = 1.41421356.., whose moves
+//! are counted on squared paper; the words of seeds come from a program of its own.
 
 use crate::calls::{
     Call, OPEN, PILLAR, TOUCHING, check, check_done, check_reads, check_writes, on_map, on_two,
@@ -44,7 +44,8 @@ fn scenarios_get_the_least_lengths(rt: HostRuntime) -> Result<(), Fail> {
     Ok(())
 }
 
-// Two cells that touch at a corner: ends that are apart, blocked ends, an entry of another size, an end outside.
+// Two cells that touch at a corner: ends that are apart, blocked ends, an entry of another size, an end
+// outside.
 #[test]
 fn entries_without_a_walk_are_left_out(rt: HostRuntime) -> Result<(), Fail> {
     let alloc = rt.alloc();
