@@ -8,6 +8,7 @@ pub mod Sweeping
 pub mod Onward
 pub mod Abreast
 pub mod Rounds
+pub mod InPlace
 pub mod Rows
 pub mod Pieces
 pub mod Entering

@@ -1,8 +1,8 @@
 -- Rounds of walks back: in each, every walk goes one move on or ends.
 use Rattle.std.proofs.Common.{◌≡◌, ℕ, zero, suc, ◌+◌, ◌-◌, ◌*◌, ◌<◌, ◌≤◌, inl, inr, arith, Bool, true, false}
-use Rattle.std.proofs.Common.{refl, sym, subst, ◌∙◌, ◌||◌, List, [], ◌∷◌, ◌++◌, length, length-append}
+use Rattle.std.proofs.Common.{refl, sym, ◌∙◌, ◌||◌, List, [], ◌∷◌, ◌++◌, length, length-append}
 use Rattle.std.proofs.Common.{append_assoc, get_or, drop}
-use Rattle.std.proofs.lemmas.List.{append-nil, drop_more, drop_all}
+use Rattle.std.proofs.lemmas.List.{append-nil, drop_more}
 use Rattle.std.specs.Prelude.{Option, Some, None, if◌then◌else◌}
 use Rattle.std.specs.Option.{option_to_list}
 use Rattle.grid_moves.specs.declared.Cell.{Cell}
@@ -181,17 +181,6 @@ module _ {h : GridData} {d : Dir} {old now : TablesData} {first steps : ℕ} {he
             behind = (given next refl).behind;
           })
 
--- the walks that went on are those of the next round
-pub round_done : {h : GridData} {d : Dir} {old now : TablesData} {first steps : ℕ} {here onward : List Walk}
-    {i : ℕ} → Round h d old now first steps here onward i → length here ≤ i
-    → Queued h d (is_at_one here) old now first steps (length here) (room_of h d here) onward (length onward)
-round_done {h} {d} {old} {now} {first} {steps} {here} {onward} {i} round l =
-    subst (λ (vs : List Walk). Queued h d (is_at_one here) old now first steps (length here)
-    (room_of h d here) vs (length onward)) none round.queued
-  where
-    none : drop i here ++ onward ≡ onward
-    none = rw (drop_all i here l) refl
-
 pub some_on : {on : Option Walk} {next : Walk} (xs : List Walk) {ys : List Walk} → on ≡ Some next
     → ys ≡ xs ++ next ∷ []
     → ys ≡ xs ++ option_to_list on
@@ -229,21 +218,3 @@ pub room_left : (h : GridData) (d : Dir) (walks onward : List Walk) → 0 < leng
     → length onward + room_of h d onward ≤ room_of h d walks → room_of h d onward < room_of h d walks
 room_left h d walks [] some less = grind (arith, room_nil, room_some)
 room_left h d walks (v ∷ vs) some less = omega arith
-
--- the same, told of the walks that the round began with
-pub round_told : {h : GridData} {d : Dir} {old now : TablesData} {first steps : ℕ}
-    {walks here onward : List Walk} {i : ℕ} → Round h d old now first steps here onward i → here ≡ walks
-    → length here ≤ i
-    → Queued h d (is_at_one walks) old now first steps (length walks) (room_of h d walks) onward
-    (length onward)
-round_told round e l =
-    rw (← e) (round_done round l)
-
-pub behind_told : (d : Dir) (walks here onward : List Walk) → here ≡ walks
-    → ((w : Cell) → is_at_one onward w ≡ true → IsBehindOne d (is_at_one here) w) → (w : Cell)
-    → is_at_one onward w ≡ true → IsBehindOne d (is_at_one walks) w
-behind_told d walks here onward e behind w k = rw (← e) (behind w k)
-
-pub fewer_told : (walks here onward : List Walk) (i : ℕ) → here ≡ walks → length onward ≤ i → i ≤ length here
-    → length onward ≤ length walks
-fewer_told walks here onward i e l m = rw (← e) (omega arith)

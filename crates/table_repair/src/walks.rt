@@ -4,7 +4,7 @@
 //! memory. One walk alone takes another line of memory for each entry. Walks that keep abreast take each line
 //! once, and in order. No walk rests on another, so the same entries are refreshed whatever their order.
 
-ghost use Rattle.std.specs.Prelude.{◌≡◌, ◌+◌, ◌*◌, ◌<◌, ◌≤◌, Bool, true, ◌||◌, Some, [], length};
+ghost use Rattle.std.specs.Prelude.{◌≡◌, ◌+◌, ◌*◌, ◌<◌, ◌≤◌, Bool, true, ◌||◌, Some, [], length, slice_set};
 ghost use Rattle.std.specs.Option.{option_to_list};
 ghost use Rattle.grid_moves.specs.declared.Cell.{Cell};
 ghost use Rattle.grid_moves.specs.Grid.{is_inside};
@@ -67,7 +67,17 @@ fn walk_on<L: Ledger>(
     None
 }
 
-/// Leads each walk one move back; those whose entry changed go on, the others end.
+// Puts a walk in the place of one of the walks.
+#[inline(always)]
+fn set_walk(walks: &mut Walks, place: usize, walk: Walk)
+    requires { place < length walks.old.items }
+    ensures { walks.new.items ≡ slice_set walks.old.items place walk }
+{
+    walks.as_mut_slice()[place] = walk;
+}
+
+/// Leads each walk one move back; those whose entry changed go on, the others end. Those that go on move to
+/// the front of the list, so a round touches no more of it than the walks that are left.
 pub fn lead_on<L: Ledger>(
     tables: &mut Tables,
     grid: &Grid,
@@ -90,14 +100,16 @@ pub fn lead_on<L: Ledger>(
     ensures steps { steps.new ≤ steps.old + length walks.old.items }
     ensures later { steps.old ≤ steps.new }
 {
-    let mut onward = Walks::new();
-    let here = walks.as_slice();
-    for walk in here {
-        if let Some(next) = walk_on(tables, grid, *walk, d, steps) {
-            onward.push(next);
+    let all = walks.len();
+    let mut onward: usize = 0;
+    for i in 0..all {
+        let walk = walks.as_slice()[i];
+        if let Some(next) = walk_on(tables, grid, walk, d, steps) {
+            set_walk(walks, onward, next);
+            onward += 1;
         }
     }
-    *walks = onward;
+    walks.truncate(onward);
 }
 
 /// Leads all walks back, each as long as entries change; says how many did.

@@ -1,7 +1,7 @@
--- The walks that are left of the round, and behind them those that went on.
-use Rattle.table_repair.proofs.Rounds.{Round}
+-- The walks that are left of the round stand where they stood, and those that went on before them.
+use Rattle.table_repair.proofs.InPlace.{InPlace}
 use Rattle.table_repair.proofs.walks.lead_on.Given as goal
 
-abbrev pub invariant-loop-walk : goal.invariant-loop-walk
-invariant-loop-walk g l = Round l.grid l.d l.fn.tables l.tables l.fn.steps l.steps l.here l.onward.items
-    l.walk-index
+abbrev pub invariant-loop-i : goal.invariant-loop-i
+invariant-loop-i g l = InPlace l.grid l.d l.fn.tables l.tables l.fn.steps l.steps l.fn.walks.items
+    l.walks.items l.onward l.i

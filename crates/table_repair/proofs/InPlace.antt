@@ -1,0 +1,88 @@
+-- A round in one list: the walks that go on move to its front.
+use Rattle.std.proofs.Common.{◌≡◌, ℕ, ◌+◌, ◌<◌, ◌≤◌, arith, Bool, true, refl, sym, ◌∙◌, ◌||◌, List, ◌∷◌}
+use Rattle.std.proofs.Common.{◌++◌, length, get_or, take, drop}
+use Rattle.std.proofs.lemmas.List.{drop_more, drop-set-lt, take_more_set, length-set}
+use Rattle.std.specs.Prelude.{Option, Some, None, slice_set}
+use Rattle.std.specs.Option.{option_to_list}
+use Rattle.grid_moves.specs.declared.Cell.{Cell}
+use Rattle.grid_moves.specs.declared.Dir.{Dir}
+use Rattle.grid_moves.specs.Grid.{GridData, is_inside}
+use Rattle.grid_moves.specs.Move.{is_same}
+use Rattle.pruning.specs.Turns.{is_diagonal}
+use Rattle.plus_tables.specs.Tables.{TablesData}
+use Rattle.table_repair.specs.declared.walks.Walk.{Walk}
+use Rattle.table_repair.specs.Abreast.{is_at_one, IsOnward}
+use Rattle.table_repair.specs.Mending.{IsRight, AreReady, Mends, FollowBut, either}
+use Rattle.table_repair.proofs.Rounds.{Round, round_begins, round_next}
+use Rattle.table_repair.proofs.Rounds.{some_on, none_on}
+
+-- the first ones of the list are the walks that went on, and behind the first i it is as it was
+pub record InPlace (h : GridData) (d : Dir) (old now : TablesData) (first steps : ℕ) (here list : List Walk)
+    (onward i : ℕ) : Type 0 where
+  pub round : Round h d old now first steps here (take onward list) i
+  pub rest : drop i list ≡ drop i here
+  pub few : onward ≤ i
+  pub size : length list ≡ length here
+
+pub place_begins : {h : GridData} {d : Dir} {t : TablesData} {steps : ℕ} {walks : List Walk}
+    → AreReady h t d
+    → ((w : Cell) → is_at_one walks w ≡ true → is_inside h w ≡ true)
+    → ((w : Cell) → is_at_one walks w ≡ true → IsRight h t w d)
+    → InPlace h d t t steps steps walks walks 0 0
+place_begins ready i r = record {
+  round = round_begins ready i r refl refl;
+  rest = refl;
+  few = omega arith;
+  size = refl;
+}
+
+-- what follows on equal lists
+same_front : (i : ℕ) (xs ys : List Walk) (v : Walk) → i < length xs → i < length ys → drop i xs ≡ drop i ys
+    → (get_or xs i v ≡ get_or ys i v) × (drop (i + 1) xs ≡ drop (i + 1) ys)
+same_front i xs ys v k l e =
+    let both : get_or xs i v ∷ drop (i + 1) xs ≡ get_or ys i v ∷ drop (i + 1) ys =
+    sym (drop_more xs i v k) ∙ e ∙ drop_more ys i v l in
+    (cc, cc)
+
+module _ {h : GridData} {d : Dir} {old now : TablesData} {first steps : ℕ} {here list shown : List Walk}
+    {onward i : ℕ} (v : Walk) (place : InPlace h d old now first steps here list onward i)
+    (same : shown ≡ list) (l : i < length here) where
+  within : i < length list
+  within = let s = place.size in omega arith
+
+  parts : (get_or shown i v ≡ get_or here i v) × (drop (i + 1) list ≡ drop (i + 1) here)
+  parts = rw same (same_front i list here v within l place.rest)
+
+  module _ {new : TablesData} {counted : ℕ} {on : Option Walk} (k : is_diagonal d ≡ true)
+      (mends : Mends h d (λ w. is_same w (get_or shown i v).at) now new (length (option_to_list on)))
+      (follows : (later : Cell → Bool) → FollowBut h now d (λ w. is_same w (get_or shown i v).at || later w)
+      → FollowBut h new d (either (is_at_one (option_to_list on)) later))
+      (is_onward : (next : Walk) → on ≡ Some next → IsOnward h new d (get_or shown i v).at next.at)
+      (c : counted ≤ steps + 1) (later : steps ≤ counted) where
+    next_round : {more : List Walk} → more ≡ take onward list ++ option_to_list on
+        → Round h d old new first counted here more (i + 1)
+    next_round e =
+        round_next v place.round l k (rw parts.0 at mends) (rw parts.0 at follows)
+        (rw parts.0 at is_onward) c later e
+
+    -- the walk goes on: it stands behind those that did so before
+    pub place_next : {next : Walk} {more : List Walk} {further : ℕ} → on ≡ Some next
+        → more ≡ slice_set list onward next → further ≡ onward + 1
+        → InPlace h d old new first counted here more further (i + 1)
+    place_next {next = next} e f g = rw (f, g) (record {
+      round = next_round (some_on (take onward list) e
+          (take_more_set list onward next (let a = place.few in omega arith)));
+      rest = drop-set-lt (i + 1) list onward next (let a = place.few in omega arith) ∙ parts.1;
+      few = let a = place.few in omega arith;
+      size = length-set list onward next ∙ place.size;
+    })
+
+    -- or it ends
+    pub place_ends : {more : List Walk} {further : ℕ} → on ≡ None → more ≡ list → further ≡ onward
+        → InPlace h d old new first counted here more further (i + 1)
+    place_ends e f g = rw (f, g) (record {
+      round = next_round (none_on e refl);
+      rest = parts.1;
+      few = let a = place.few in omega arith;
+      size = place.size;
+    })
