@@ -114,9 +114,12 @@ map long | costs x 0 0 rule=any => 3 jps: map long
 map long | tables x rule=any => 3 jps: map long
 map long | boxes x 0 0 rule=any => 3 jps: map long
 map long | moves x 0 0 rule=any => 3 jps: map long
+map long | lengths x s rule=any => 3 jps: map long
+map long | problems x 1 1 rule=any => 3 jps: map long
 script long | solve m x engine=each rule=any => 3 jps: script long
 scen long | scen m x engine=any rule=any => 3 jps: scen long
 scen long | judge m x t rule=any => 3 jps: scen long
+scen long | lengths m x rule=any => 3 jps: scen long
 ";
 
 // Those that may have 2^30 bytes, under one rule each.

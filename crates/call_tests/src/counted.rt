@@ -9,6 +9,7 @@ use crate::cells::{CELLS, PICTURES, UNDRAWN, check_pictures};
 use crate::judged::{CHECKED, PROVED, SCENARIOS, TOLD};
 use crate::queries::{QUERIES, SCRIPTS};
 use crate::refused::REFUSED;
+use crate::scenarios::MADE;
 use crate::table::{PICKS, Trial, calls_of, check_rows, engines_of, is_shown, row_of, rules_of};
 use grid_moves::Corner;
 use std::alloc::{AllocError, Global};
@@ -16,9 +17,9 @@ use std::process::Abort;
 use std::test::Fail;
 use word_list::{Pick, Request, read_words};
 
-const TABLES: [&str; 14] = [
-    QUERIES, SCRIPTS, SCENARIOS, TOLD, PROVED, CHECKED, CELLS, PICTURES, UNDRAWN, REFUSED, DRILLS,
-    LONG, LONGEST, REASONS,
+const TABLES: [&str; 15] = [
+    QUERIES, SCRIPTS, SCENARIOS, TOLD, PROVED, CHECKED, CELLS, PICTURES, UNDRAWN, MADE, REFUSED,
+    DRILLS, LONG, LONGEST, REASONS,
 ];
 
 // Why a kind of outcome has no row of its own.
@@ -66,6 +67,9 @@ costs rule=any | costs, water, outside, blocked, M1, M2, M3, M4, M5, M6, map lon
 tables rule=any | tables, M1, M2, M3, M4, M5, M6, map long, absent, streams
 boxes rule=any | boxes, water, outside, blocked, large, M1, M2, M3, M4, M5, M6, map long, absent, streams
 moves rule=any | moves, water, outside, blocked, large, M1, M2, M3, M4, M5, M6, map long, absent, streams
+lengths rule=any | lengths, scale, outside, blocked, none, apart, point, water, empty, done, absent, streams
+lengths rule=any | M1, M2, M3, M4, M5, M6, map long, C1, C2, C3, C4, scen long
+problems rule=any | problems, few, M1, M2, M3, M4, M5, M6, map long, absent, streams
 --help | help
 --version | version, streams
 ";
@@ -146,11 +150,13 @@ costs m 0 0 | rule=any
 tables m | rule=any
 boxes m 0 0 | rule=any
 moves m 0 0 | rule=any
+lengths m s | rule=any
+problems m 1 1 | rule=any
 ";
 
 // How many commands there are; a new one has no place until it is named here, and is then missed below until
 // it has a line above. So it is with a new engine and a new rule.
-const REQUESTS: usize = 16;
+const REQUESTS: usize = 18;
 
 const ENGINES: usize = 6;
 
@@ -159,7 +165,7 @@ const CORNERS: usize = 3;
 const CELLS_OF_ALL: usize = REQUESTS * ENGINES * CORNERS;
 
 fn place_of_request(request: Request<'_>) -> usize
-    ensures { result < 16 }
+    ensures { result < 18 }
 {
     match request {
         Request::Help => 0,
@@ -178,6 +184,8 @@ fn place_of_request(request: Request<'_>) -> usize
         Request::Tables { .. } => 13,
         Request::Boxes { .. } => 14,
         Request::Moves { .. } => 15,
+        Request::Lengths { .. } => 16,
+        Request::Problems { .. } => 17,
     }
 }
 
@@ -206,7 +214,7 @@ fn place_of_rule(rule: Corner) -> usize
 
 // The place of the call that the words spell, none where they are refused.
 fn place_of(alloc: Global, words: &str) -> Result<Option<usize>, AllocError>
-    ensures { IfOk result (λ place. IfSome place (λ n. n < 288)) }
+    ensures { IfOk result (λ place. IfSome place (λ n. n < 324)) }
 {
     let words = strings(alloc, words)?;
     match read_words(words.as_slice()) {
@@ -221,7 +229,7 @@ fn place_of(alloc: Global, words: &str) -> Result<Option<usize>, AllocError>
 
 // The place of a command, told by its least words, with an engine and a rule that it need not take.
 fn place_with(alloc: Global, least: &str, engine: &str, rule: &str) -> Result<usize, AllocError>
-    ensures { IfOk result (λ place. place < 288) }
+    ensures { IfOk result (λ place. place < 324) }
 {
     let by = format!(in alloc; "query m 0 0 0 0 {engine} {rule}")?;
     let by = place_of(alloc, by.as_str())?.unwrap_or(0) % 18;
@@ -302,7 +310,7 @@ fn each_read_and_write_of_a_script_fails_in_turn(rt: HostRuntime) -> Result<(), 
 
 #[test]
 fn each_read_and_write_of_a_file_fails_in_turn(rt: HostRuntime) -> Result<(), Fail> {
-    for table in [SCENARIOS, TOLD, PROVED, CHECKED, CELLS] {
+    for table in [SCENARIOS, TOLD, PROVED, CHECKED, CELLS, MADE] {
         check_rows(rt.alloc(), &rt, table, Trial::Failing)?;
     }
     Ok(())

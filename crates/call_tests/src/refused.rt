@@ -46,6 +46,9 @@ absent | costs no 0 0 rule=any => 4 jps: read
 absent | tables no rule=any => 4 jps: read
 absent | boxes no 0 0 rule=any => 4 jps: read
 absent | moves no 0 0 rule=any => 4 jps: read
+absent | lengths no s rule=any => 4 jps: read
+absent | lengths m no rule=any | . => 4 jps: read
+absent | problems no 1 1 rule=any => 4 jps: read
 ";
 
 #[test]

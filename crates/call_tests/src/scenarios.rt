@@ -4,7 +4,33 @@
 use crate::calls::{
     Call, OPEN, PILLAR, TOUCHING, check, check_done, check_reads, check_writes, on_map, on_two,
 };
+use crate::table::check_table;
 use std::test::Fail;
+
+// On the row `..@.W` and on the bay of water `W.W/WWW`, which is drawn in queries.rt: twice the root of 2 is
+// 2.82842712.., below one four. Of two free cells seed 1 draws the later one first.
+pub(crate) const MADE: &str = "
+lengths, scale, outside, blocked, none, apart, point, water, streams | lengths m s rule=any | ..@.W \
+    | version 1/9 m 5 1 0 0 1 0 7/0 m 5 2 0 0 1 0 1/0 m 5 1 5 0 1 0 1/0 m 5 1 2 0 1 0 1/0 m 5 1 0 0 3 0 3\
+    /0 m 5 1 0 0 4 0 4/0 m 5 1 4 0 4 0 0 \
+    => 1 version 1/0\tm\t5\t1\t0\t0\t1\t0\t1.00000000/0\tm\t5\t1\t4\t0\t4\t0\t0.00000000
+lengths, done | lengths m s rule=any | .. | version 1.0/~3/0 m 2 1 1 0 0 0 1.0 \
+    => 0 version 1/0\tm\t2\t1\t1\t0\t0\t0\t1.00000000
+empty, done | lengths m s rule=any | . | version 1 => 0 version 1
+water | lengths m s rule=none | W.W/WWW | version 1/0 m 3 2 0 0 2 0 0 \
+    => 0 version 1/1\tm\t3\t2\t0\t0\t2\t0\t4.00000000
+water | lengths m s rule=slipping | W.W/WWW | version 1/0 m 3 2 0 0 2 0 0 \
+    => 0 version 1/0\tm\t3\t2\t0\t0\t2\t0\t2.82842712
+problems, streams | problems m 1 1 rule=any | .. => 0 version 1/0\tm\t2\t1\t1\t0\t0\t0\t1.00000000
+problems | problems m 1 1 rule=both | .@/@. => 0 version 1/0\tm\t2\t2\t1\t1\t0\t0\t1.41421356
+few | problems m 1 1 rule=strict | .@/@. => 1 version 1
+few | problems m 1 2 rule=any | . => 1 version 1
+";
+
+#[test]
+fn scenarios_are_made_under_each_rule(rt: HostRuntime) -> Result<(), Fail> {
+    check_table(rt.alloc(), &rt, MADE)
+}
 
 // Names with a blank and a tab in them, and lengths that are wrong on the map of a pillar.
 const LISTED: &[u8] =

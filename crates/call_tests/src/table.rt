@@ -124,7 +124,7 @@ pub(crate) fn rules_of(words: &str) -> &'static [&'static str] {
 // the rules of its own set.
 const SCRIPTED: [&str; 2] = ["solve m s", "live m"];
 
-const MAPPED: [&str; 12] = [
+const MAPPED: [&str; 14] = [
     "query m 0 0 0 0 engine=any rule=any",
     "solve m s engine=each rule=any",
     "live m engine=each rule=any",
@@ -137,9 +137,15 @@ const MAPPED: [&str; 12] = [
     "tables m rule=any",
     "boxes m 0 0 rule=any",
     "moves m 0 0 rule=any",
+    "lengths m s rule=any",
+    "problems m 1 1 rule=any",
 ];
 
-const LISTED: [&str; 2] = ["scen m s engine=any rule=any", "judge m s t rule=any"];
+const LISTED: [&str; 3] = [
+    "scen m s engine=any rule=any",
+    "judge m s t rule=any",
+    "lengths m s rule=any",
+];
 
 const TABLED: [&str; 4] = [
     "query m 0 0 2 0 tables=t engine=plus rule=any",
