@@ -7,6 +7,7 @@ ghost use Rattle.io_edge.specs.Causes.{HasCause};
 use crate::calls::{
     CROSSING, Call, ENGINES, RULES, check, check_with, compare, numbers, on_map, status_of, stream,
 };
+use crate::table::spelled;
 use arrayvec::ArrayVec;
 use io_edge::{Failed, MemSource, Sink, Source};
 use std::alloc::Global;
@@ -29,12 +30,12 @@ fn live(words: &str) -> Call<'_> {
     }
 }
 
-// A script that comes in pieces of so many bytes, the read of this number failing, has this status,
-// this output and this line.
+// A script that comes in by these words in pieces of so many bytes, the read of this number failing, has this
+// status, this output and this line.
 fn check_pieces(
     alloc: Global,
     rt: &impl Abort,
-    script: &[u8],
+    told: (&str, &[u8]),
     piece: usize,
     failing: u64,
     status: u8,
@@ -43,10 +44,10 @@ fn check_pieces(
 ) -> Result<(), Fail>
     requires { 1 ≤ piece }
 {
-    let script = Vec::from_slice(alloc, script)?;
+    let script = Vec::from_slice(alloc, told.1)?;
     let mut input = MemSource::new(script, piece, numbers(alloc, failing)?);
     let mut out = stream(alloc, 0)?;
-    let answer = status_of(alloc, rt, live("live m"), &mut input, &mut out, line)?;
+    let answer = status_of(alloc, rt, live(told.0), &mut input, &mut out, line)?;
     compare(rt, (answer, out.bytes()), (status, output));
     Ok(())
 }
@@ -60,13 +61,17 @@ fn lines_of(bytes: u64) -> &'static [u8] {
     }
 }
 
-// A read takes one byte; the 25th finds the end.
+// A read takes one byte; the 25th finds the end. Each engine answers the same.
 #[test]
 fn each_failing_read_leaves_the_whole_commands(rt: HostRuntime) -> Result<(), Fail> {
     let alloc = rt.alloc();
-    for taken in 0..25 {
-        let lines = lines_of(taken);
-        check_pieces(alloc, &rt, SCRIPT, 1, taken + 1, 4, lines, b"jps: read\n")?;
+    for engine in ENGINES {
+        let words = spelled(alloc, "live m engine=", engine, "")?;
+        let made = (words.as_str(), SCRIPT);
+        for taken in 0..25 {
+            let lines = lines_of(taken);
+            check_pieces(alloc, &rt, made, 1, taken + 1, 4, lines, b"jps: read\n")?;
+        }
     }
     Ok(())
 }
@@ -75,12 +80,12 @@ fn each_failing_read_leaves_the_whole_commands(rt: HostRuntime) -> Result<(), Fa
 #[test]
 fn a_script_is_answered_up_to_its_first_fault(rt: HostRuntime) -> Result<(), Fail> {
     let alloc = rt.alloc();
-    let open = b"query 0 1 2 1\nblock 1 1";
-    let misspelt = b"query 0 1 2 1\n\nbolck 1 1\nblock 1 1\n";
+    let open: &[u8] = b"query 0 1 2 1\nblock 1 1";
+    let misspelt: &[u8] = b"query 0 1 2 1\n\nbolck 1 1\nblock 1 1\n";
     let line = b"jps: script T1 line 3\n";
     for piece in [1, 7, 4096] {
-        check_pieces(alloc, &rt, open, piece, 0, 0, BOTH, b"")?;
-        check_pieces(alloc, &rt, misspelt, piece, 0, 3, WALK, line)?;
+        check_pieces(alloc, &rt, ("live m", open), piece, 0, 0, BOTH, b"")?;
+        check_pieces(alloc, &rt, ("live m", misspelt), piece, 0, 3, WALK, line)?;
     }
     Ok(())
 }
