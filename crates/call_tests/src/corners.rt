@@ -1,87 +1,47 @@
 //! Calls under the rule that lets a diagonal move pass between two blocked cells: each command that has
-//! rules, with its whole output. Lines are counted on squared paper; certificate and tables are written by
+//! rules, with its whole output. Lines are counted on squared paper; certificates and tables are written by
 //! hand from the formats' descriptions.
 
-use crate::calls::{Call, ENGINES, PILLAR, TOUCHING, check, check_with, on_map, on_two};
+use crate::calls::{Call, TOUCHING, check, check_with, on_map, on_two};
+use crate::table::check_table;
 use std::test::Fail;
 
-// Free cells that touch at their corners alone.
-const CHEQUERS: &[u8] = b"type octile\nheight 5\nwidth 5\nmap\n.@.@.\n@.@.@\n.@.@.\n@.@.@\n.@.@.\n";
+// Round the pillar the stops are those of the rule under which one blocked cell may be passed; where free
+// cells touch at their corners alone each cell of a diagonal is one. Each walk of the script is the only least
+// one, so its cells are the same by each engine. On `.@/@.` a walk of one diagonal move is told by an entry of
+// a scenario, by another program and in a certificate; and by one that there is none, which a move that leads
+// out refutes.
+const CORNERS: &str = "
+trace | query m 0 0 2 2 show=trace engine=jumping rule=both | .../.@./... \
+    => 0 walk 2 1 0,0 0,1 1,2 2,2 taken 0,0:- 1,0:E 0,1:S 2,1:SE 1,2:SE 2,2:E
+trace | query m 0 0 4 4 show=trace engine=jumping rule=both | .@.@./@.@.@/.@.@./@.@.@/.@.@. \
+    => 0 walk 0 4 0,0 1,1 2,2 3,3 4,4 taken 0,0:- 1,1:SE 2,2:SE 3,3:SE 4,4:SE
+walk | query m 0 0 0 4 engine=jumping rule=both | .@.@./@.@.@/.@.@./@.@.@/.@.@. \
+    => 0 walk 0 4 0,0 1,1 0,2 1,3 0,4
+cells | scripted show=cells engine=each rule=both | .@.@./@.@.@/.@.@./@.@.@/.@.@. \
+    | query 0 0 2 0/block 1 1/query 0 0 2 0/query 0 0 4 4/free 1 0/query 0 0 2 0/block 1 0/free 1 1\
+    /query 0 0 2 2 \
+    => 0 walk 0 2 0,0 1,1 2,0/ok/none/none/ok/walk 2 0 0,0 1,0 2,0/ok/ok/walk 0 2 0,0 1,1 2,2
+agree | scen m s rule=both | .@/@. | version 1/0 m 2 2 0 0 1 1 1.41421356 \
+    => 0 row 1 agree 0 1/sum 1 agree 1 near 0 off 0 other 0
+accepted | judge m s t rule=both | .@/@. | version 1/0 m 2 2 0 0 1 1 1.41421356 | 0,0 1,1 \
+    => 0 row 1 accepted 0 1/sum 1 accepted 1 refused 0 other 0
+least | prove m 0 0 1 1 rule=both | .@/@. \
+    => 0 jps-cert 1/size 2 2/ends 0 0 1 1/least 0 1/points 0,0 1,1/end
+least | check m s rule=both | .@/@. | jps-cert 1/size 2 2/ends 0 0 1 1/least 0 1/points 0,0 1,1/end \
+    => 0 accepted least 0 1
+open | check m s rule=both | .@/@. | jps-cert 1/size 2 2/ends 0 0 1 1/none/in 0 0/end \
+    => 1 refused open 0,0 1,1
+costs | costs m 0 0 rule=both | .@/@. => 0 0,0 -/- 0,1
+boxes | boxes m 0 0 rule=both | .@/@. \
+    => 0 box N none/box NE none/box E none/box SE 1 1 1 1/box S none/box SW none/box W none/box NW none
+moves | moves m 0 0 rule=both | .@/@. => 0 run 0,0 -/run 1,1 SE
+";
 
 #[test]
-fn each_engine_passes_between_two_blocked_cells(rt: HostRuntime) -> Result<(), Fail> {
-    let alloc = rt.alloc();
-    let made = on_map("query m 0 0 1 1 rule=both", TOUCHING);
-    for engine in ENGINES.into_iter().chain(["engine=boxes", "engine=moves"]) {
-        check_with(alloc, &rt, made, &[engine], 0, b"walk 0 1 0,0 1,1\n")?;
-    }
-    Ok(())
+fn each_command_passes_between_two_blocked_cells(rt: HostRuntime) -> Result<(), Fail> {
+    check_table(rt.alloc(), &rt, CORNERS)
 }
-
-// Round the pillar the stops are those of the rule under which one blocked cell may be passed; on the
-// chequers each cell of a diagonal is one.
-#[test]
-fn jumps_stop_where_a_corner_touches(rt: HostRuntime) -> Result<(), Fail> {
-    let alloc = rt.alloc();
-    let table: [(&str, &[u8], &[u8]); 3] = [
-        (
-            "query m 0 0 2 2 show=trace rule=both",
-            PILLAR,
-            b"walk 2 1 0,0 0,1 1,2 2,2 taken 0,0:- 1,0:E 0,1:S 2,1:SE 1,2:SE 2,2:E\n",
-        ),
-        (
-            "query m 0 0 4 4 show=trace rule=both",
-            CHEQUERS,
-            b"walk 0 4 0,0 1,1 2,2 3,3 4,4 taken 0,0:- 1,1:SE 2,2:SE 3,3:SE 4,4:SE\n",
-        ),
-        (
-            "query m 0 0 0 4 rule=both",
-            CHEQUERS,
-            b"walk 0 4 0,0 1,1 0,2 1,3 0,4\n",
-        ),
-    ];
-    for (words, map, line) in table {
-        for engine in ["engine=jps", "engine=block", "engine=plus"] {
-            check_with(alloc, &rt, on_map(words, map), &[engine], 0, line)?;
-        }
-    }
-    Ok(())
-}
-
-const EDITS: &[u8] =
-    b"query 0 0 2 0\nblock 1 1\nquery 0 0 2 0\nquery 0 0 4 4\nfree 1 0\nquery 0 0 2 0\n\
-    block 1 0\nfree 1 1\nquery 0 0 2 2\n";
-
-const ANSWERS: &[u8] = b"walk 0 2 0,0 1,1 2,0\nok\nnone\nnone\nok\nwalk 2 0 0,0 1,0 2,0\nok\nok\n\
-    walk 0 2 0,0 1,1 2,2\n";
-
-// Each walk is the only least one, so its cells are the same by each engine.
-#[test]
-fn corners_are_passed_after_edits(rt: HostRuntime) -> Result<(), Fail> {
-    let alloc = rt.alloc();
-    let solve = on_two("solve m s show=cells rule=both", CHEQUERS, EDITS);
-    let live = Call {
-        input: EDITS,
-        ..on_map("live m show=cells rule=both", CHEQUERS)
-    };
-    for engine in ENGINES {
-        check_with(alloc, &rt, solve, &[engine], 0, ANSWERS)?;
-        check_with(alloc, &rt, live, &[engine], 0, ANSWERS)?;
-    }
-    Ok(())
-}
-
-// A walk of one diagonal move, told by an entry of a scenario, by another program and in a certificate; and a
-// certificate that there is none, which a move that leads out refutes.
-const LENGTH: &[u8] = b"version 1\n0 m 2 2 0 0 1 1 1.41421356\n";
-
-const ROWS: &[u8] = b"row 1 agree 0 1\nsum 1 agree 1 near 0 off 0 other 0\n";
-
-const JUDGED: &[u8] = b"row 1 accepted 0 1\nsum 1 accepted 1 refused 0 other 0\n";
-
-const PROVED: &[u8] = b"jps-cert 1\nsize 2 2\nends 0 0 1 1\nleast 0 1\npoints 0,0 1,1\nend\n";
-
-const REFUTED: &[u8] = b"jps-cert 1\nsize 2 2\nends 0 0 1 1\nnone\nin 0 0\nend\n";
 
 const DRAWN: &[u8] = b"<svg xmlns=\"http://www.w3.org/2000/svg\" viewBox=\"0 0 2 2\">\n\
     <title>walk 0 1 from 0,0 to 1,1</title>\n\
@@ -97,10 +57,6 @@ const DRAWN: &[u8] = b"<svg xmlns=\"http://www.w3.org/2000/svg\" viewBox=\"0 0 2
     <circle cx=\"1.5\" cy=\"1.5\" r=\"0.4\" fill=\"#7b2d8b\"/>\n\
     </svg>\n";
 
-const AREAS: &[u8] =
-    b"box N none\nbox NE none\nbox E none\nbox SE 1 1 1 1\nbox S none\nbox SW none\n\
-    box W none\nbox NW none\n";
-
 // The byte behind the name is the rule's. One move leads to the southeast from the first cell, and one to the
 // northwest from the last; there is no water.
 const TABLES: &[u8] = b"JPSPLUS1\x02\x02\x00\x02\x00\
@@ -114,46 +70,11 @@ const TABLES: &[u8] = b"JPSPLUS1\x02\x02\x00\x02\x00\
 \x00\x00\x00\x00\x00\x00\x00\x00\x00\x00\x00\x00\x00\x00\x00\x00";
 
 #[test]
-fn each_command_passes_between_two_blocked_cells(rt: HostRuntime) -> Result<(), Fail> {
-    let alloc = rt.alloc();
-    let table: [(&str, &[u8], &[u8], u8, &[u8]); 10] = [
-        ("scen m s rule=both", LENGTH, b"", 0, ROWS),
-        ("judge m s t rule=both", LENGTH, b"0,0 1,1\n", 0, JUDGED),
-        ("prove m 0 0 1 1 rule=both", b"", b"", 0, PROVED),
-        (
-            "check m s rule=both",
-            PROVED,
-            b"",
-            0,
-            b"accepted least 0 1\n",
-        ),
-        (
-            "check m s rule=both",
-            REFUTED,
-            b"",
-            1,
-            b"refused open 0,0 1,1\n",
-        ),
-        ("draw m 0 0 1 1 rule=both", b"", b"", 0, DRAWN),
-        ("costs m 0 0 rule=both", b"", b"", 0, b"0,0 -\n- 0,1\n"),
-        ("boxes m 0 0 rule=both", b"", b"", 0, AREAS),
-        (
-            "moves m 0 0 rule=both",
-            b"",
-            b"",
-            0,
-            b"run 0,0 -\nrun 1,1 SE\n",
-        ),
-        ("tables m rule=both", b"", b"", 0, TABLES),
-    ];
-    for (words, second, third, status, output) in table {
-        let made = Call {
-            third,
-            ..on_two(words, TOUCHING, second)
-        };
-        check(alloc, &rt, made, status, output, b"")?;
-    }
-    Ok(())
+fn pictures_and_tables_pass_between_two_blocked_cells(rt: HostRuntime) -> Result<(), Fail> {
+    let drawn = on_map("draw m 0 0 1 1 rule=both", TOUCHING);
+    check(rt.alloc(), &rt, drawn, 0, DRAWN, b"")?;
+    let tables = on_map("tables m rule=both", TOUCHING);
+    check(rt.alloc(), &rt, tables, 0, TABLES, b"")
 }
 
 // Tables are loaded under their own rule alone.

@@ -2,6 +2,7 @@
 
 ghost use Rattle.std.specs.Prelude.{◌≡◌, ◌<◌, ◌*◌, nat_le};
 
+use crate::paper::{RULES, cell};
 use cost_waves::CostWaves;
 use first_moves::{Moves, NoMemory, Row, Run, follow_by_pass};
 use grid_moves::{Cell, Corner, Dir, Grid, Terrain};
@@ -12,10 +13,6 @@ use std::marker::Brand;
 use std::sync::ledger::{Blank, Ledger};
 use std::test::Fail;
 use steps::Steps;
-
-fn cell(x: u16, y: u16) -> Cell {
-    Cell { x, y }
-}
 
 fn is_small(grid: &Grid) -> bool
     ensures { result ≡ nat_le (grid.now.height * grid.now.width) 16384 }
@@ -89,7 +86,7 @@ fn rows_are_cut_into_runs(rt: HostRuntime) -> Result<(), Fail> {
         (6, Some(Dir::S)),
         (7, Some(Dir::SE)),
     ];
-    for corner in [Corner::Never, Corner::One, Corner::Both] {
+    for corner in RULES {
         let grid = Grid::of_cells(rt.alloc(), 3, 3, b".........", corner)?;
         assert!(rt; has_runs(rt.alloc(), &grid, cell(0, 0), &runs)?);
     }

@@ -14,9 +14,13 @@ mod goal_boxes_tests;
 #[cfg(test)]
 mod jump_block_tests;
 #[cfg(test)]
+mod jump_calls;
+#[cfg(test)]
 mod jump_plain_tests;
 #[cfg(test)]
 mod open_list_tests;
+#[cfg(test)]
+mod paper;
 #[cfg(test)]
 mod path_points_tests;
 #[cfg(test)]

@@ -2,15 +2,12 @@
 
 ghost use Rattle.std.specs.Prelude.{◌≡◌, IfOk};
 
+use crate::paper::cell;
 use grid_moves::{Cell, Corner, Grid};
 use path_points::{BadAt, Cells, NoMemory, Points, check_walk, unfold};
 use root2_cost::Cost;
 use std::alloc::Global;
 use std::test::Fail;
-
-fn cell(x: u16, y: u16) -> Cell {
-    Cell { x, y }
-}
 
 fn points_of(alloc: Global, cells: &[Cell]) -> Result<Points, NoMemory>
     ensures { IfOk result (λ points. points ≡ cells.now) }

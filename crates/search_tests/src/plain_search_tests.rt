@@ -3,15 +3,12 @@
 ghost use Rattle.std.specs.Prelude.{◌≡◌, true};
 ghost use Rattle.grid_moves.specs.Grid.{AreCells};
 
+use crate::paper::{RULES, cell};
 use grid_moves::{Cell, Corner, Grid, Terrain};
-use plain_search::{Listed, NoMemory, least, least_to_all};
+use plain_search::{Listed, NoMemory, least};
 use root2_cost::Cost;
 use std::alloc::Global;
 use std::test::Fail;
-
-fn cell(x: u16, y: u16) -> Cell {
-    Cell { x, y }
-}
 
 // Whether the search finds this: points, cost and taken states, or no walk and the taken states.
 fn is_answer(
@@ -67,15 +64,14 @@ fn the_earlier_of_equal_offers_stands(rt: HostRuntime) -> Result<(), Fail> {
     let (from, to) = (cell(0, 0), cell(2, 1));
     let points = [from, cell(1, 0), to];
     let walk = Some((points.as_slice(), Cost { a: 1, b: 1 }));
-    for corner in [Corner::Never, Corner::One, Corner::Both] {
+    for corner in RULES {
         let grid = Grid::of_cells(rt.alloc(), 3, 2, b"......", corner)?;
         assert!(rt; is_answer(rt.alloc(), &grid, from, to, walk, &[8, 17, 44, 53])?);
     }
     Ok(())
 }
 
-// Of the nine cells round the pillar, (0,0), (1,0) and (0,1) have sums below the least cost of 4; alone
-// between two corners, a cell is reached itself.
+// Of the nine cells round the pillar, (0,0), (1,0) and (0,1) have sums below the least cost of 4.
 #[test]
 fn lists_are_those_counted_by_hand(rt: HostRuntime) -> Result<(), Fail> {
     let grid = Grid::of_cells(rt.alloc(), 3, 3, b"....@....", Corner::Never)?;
@@ -91,100 +87,6 @@ fn lists_are_those_counted_by_hand(rt: HostRuntime) -> Result<(), Fail> {
             assert_eq!(rt; closed.as_slice(), entries.as_slice());
         }
         Listed::None { .. } => assert!(rt; false, "a walk leads round the pillar"),
-    }
-    Ok(())
-}
-
-// What a walk of so many moves of each kind costs.
-fn cost(straight: u32, diagonal: u32) -> Option<Cost> {
-    Some(Cost {
-        a: straight,
-        b: diagonal,
-    })
-}
-
-// Whether these are the least costs from a cell to all cells.
-fn are_costs(
-    alloc: Global,
-    grid: &Grid,
-    from: Cell,
-    costs: &[Option<Cost>],
-) -> Result<bool, NoMemory> {
-    if !grid.free(from) {
-        return Ok(false);
-    }
-    let found = least_to_all(alloc, grid, from)?;
-    Ok(found.as_slice() == costs)
-}
-
-// Round the pillar from the upper left, with no corner cut.
-#[test]
-fn costs_round_the_pillar(rt: HostRuntime) -> Result<(), Fail> {
-    let grid = Grid::of_cells(rt.alloc(), 3, 3, b"....@....", Corner::Never)?;
-    let costs = [
-        cost(0, 0),
-        cost(1, 0),
-        cost(2, 0),
-        cost(1, 0),
-        None,
-        cost(3, 0),
-        cost(2, 0),
-        cost(3, 0),
-        cost(4, 0),
-    ];
-    assert!(rt; are_costs(rt.alloc(), &grid, cell(0, 0), &costs)?);
-    Ok(())
-}
-
-// Where one blocked cell may be passed, a diagonal move past the pillar takes the place of two straight ones.
-#[test]
-fn costs_past_the_pillar(rt: HostRuntime) -> Result<(), Fail> {
-    let costs = [
-        cost(0, 0),
-        cost(1, 0),
-        cost(2, 0),
-        cost(1, 0),
-        None,
-        cost(1, 1),
-        cost(2, 0),
-        cost(1, 1),
-        cost(2, 1),
-    ];
-    for corner in [Corner::One, Corner::Both] {
-        let grid = Grid::of_cells(rt.alloc(), 3, 3, b"....@....", corner)?;
-        assert!(rt; are_costs(rt.alloc(), &grid, cell(0, 0), &costs)?);
-    }
-    Ok(())
-}
-
-// On `.@/@.` the lower right is a diagonal move away where two blocked cells may be passed between.
-#[test]
-fn costs_between_two_walls(rt: HostRuntime) -> Result<(), Fail> {
-    let grid = Grid::of_cells(rt.alloc(), 2, 2, b".@@.", Corner::Both)?;
-    let costs = [cost(0, 0), None, None, cost(0, 1)];
-    assert!(rt; are_costs(rt.alloc(), &grid, cell(0, 0), &costs)?);
-    let grid = Grid::of_cells(rt.alloc(), 2, 2, b".@@.", Corner::One)?;
-    let costs = [cost(0, 0), None, None, None];
-    assert!(rt; are_costs(rt.alloc(), &grid, cell(0, 0), &costs)?);
-    Ok(())
-}
-
-// On `..@./..@.` the last column is free, and cut off.
-#[test]
-fn no_cost_leads_to_a_part_cut_off(rt: HostRuntime) -> Result<(), Fail> {
-    let costs = [
-        cost(1, 0),
-        cost(0, 0),
-        None,
-        None,
-        cost(0, 1),
-        cost(1, 0),
-        None,
-        None,
-    ];
-    for corner in [Corner::Never, Corner::One, Corner::Both] {
-        let grid = Grid::of_cells(rt.alloc(), 4, 2, b"..@...@.", corner)?;
-        assert!(rt; are_costs(rt.alloc(), &grid, cell(1, 0), &costs)?);
     }
     Ok(())
 }

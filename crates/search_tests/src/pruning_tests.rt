@@ -4,6 +4,7 @@ ghost use Rattle.std.specs.Prelude.{◌≡◌, ◌<◌, IsTrue, Some, codes};
 ghost use Rattle.grid_moves.specs.declared.Corner.TheVariants.{Never};
 ghost use Rattle.grid_moves.specs.Grid.{GridData, grid_of, is_free};
 
+use crate::jump_calls::starts_of;
 use grid_moves::{Cell, Corner, Dir, Grid, Terrain};
 use pruning::{Arrival, JumpSource, Packed, allowed, forced};
 use std::marker::Brand;
@@ -112,21 +113,10 @@ impl JumpSource for Alone {
     }
 }
 
-// How many jumps lead on from a cell at which the search starts.
-fn jumps_from<J: JumpSource, L: Ledger>(jumps: &J, at: Cell, blank: Blank) -> usize
-    requires name { blank.name ≡ L.name }
-    requires parts { blank.parts ≡ L.parts }
-    requires some { 0 < L.parts }
-    requires stands { (g : GridData) × J.StandsFor jumps.now g × IsTrue (is_free g at) }
-{
-    let mut steps = Steps::<L>::new(blank);
-    let dirs = jumps.allowed(at, Arrival::Start, &mut steps);
-    dirs.len()
-}
-
 // No move is legal on the map `.`.
 #[test]
 fn a_source_for_one_grid(rt: HostRuntime) {
     let at = Cell { x: 0, y: 0 };
-    assert_eq!(rt; jumps_from::<Alone, Brand>(&Alone, at, Blank::new(1)), 0);
+    let (dirs, word) = starts_of::<Alone, Brand>(&Alone, at, Blank::new(1));
+    assert_eq!(rt; (dirs.len(), word.len()), (0, 0));
 }

@@ -2,6 +2,7 @@
 
 ghost use Rattle.std.specs.Prelude.{◌≡◌, ◌<◌};
 
+use crate::paper::cell;
 use grid_moves::{Cell, Corner, Grid, Terrain};
 use jump_plain::PlainJumps;
 use root2_cost::Cost;
@@ -11,10 +12,6 @@ use std::marker::Brand;
 use std::sync::ledger::{Blank, Ledger};
 use std::test::Fail;
 use steps::Steps;
-
-fn cell(x: u16, y: u16) -> Cell {
-    Cell { x, y }
-}
 
 // Whether the search finds this, with a counter of its own.
 fn is_told<L: Ledger>(

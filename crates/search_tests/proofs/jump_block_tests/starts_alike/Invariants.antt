@@ -6,6 +6,3 @@ ghosts-starts_of a = record { name = a.blank.name; parts = a.blank.parts }
 
 abbrev pub ghosts-starts_of-2 : goal.ghosts-starts_of-2
 ghosts-starts_of-2 a = record { name = a.blank.name; parts = a.blank.parts }
-
-abbrev pub ghosts-word_of_starts : goal.ghosts-word_of_starts
-ghosts-word_of_starts a = record { name = a.blank.name; parts = a.blank.parts }

@@ -1,4 +1,4 @@
-use Rattle.search_tests.proofs.all_pairs_tests.both_come_from_one_pass_a_cell.Given as goal
+use Rattle.search_tests.proofs.all_pairs_tests.boxes_and_first_moves_are_made_together.Given as goal
 
 -- the ledger of the blank that the test makes
 abbrev pub ghosts-both_of : goal.ghosts-both_of

@@ -1,4 +1,4 @@
-use Rattle.search_tests.proofs.jump_plain_tests.stops_so.Given as goal
+use Rattle.search_tests.proofs.jump_plain_tests.stop_on.Given as goal
 
 -- the ledger of the blank that the test makes
 abbrev pub ghosts-stop_of : goal.ghosts-stop_of

@@ -1,5 +1,0 @@
-use Rattle.search_tests.proofs.goal_boxes_tests.moves_away_from_the_goal_are_left_out.Given as goal
-
--- the ledger of the blank that the test makes
-abbrev pub ghosts-is_answer : goal.ghosts-is_answer
-ghosts-is_answer g a = record { name = a.blank.name; parts = a.blank.parts }
