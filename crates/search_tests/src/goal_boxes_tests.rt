@@ -108,7 +108,8 @@ fn moves_away_from_the_goal_are_left_out(rt: HostRuntime) -> Result<(), Fail> {
     Ok(())
 }
 
-// Two cells that touch at a corner have no boxes, and no walk, unless two blocked cells may be passed between.
+// Two cells that touch at a corner have no boxes, and no walk, unless two blocked cells may be passed
+// between.
 #[test]
 fn a_walk_leads_past_two_corners(rt: HostRuntime) -> Result<(), Fail> {
     let points = [cell(0, 0), cell(1, 1)];

@@ -102,8 +102,8 @@ fn on_line(rows: bool, place: u16, line: u16) -> Cell {
 }
 
 // Whether they are on three rows, or on three columns, with a wall at every place of each; and with one ahead
-// in the middle and one beside the cell before it: the way between them is free where two blocked cells may be
-// passed between.
+// in the middle and one beside the cell before it: the way between them is free where two blocked cells may
+// be passed between.
 fn are_alike_on_lines(
     alloc: Global,
     width: u16,

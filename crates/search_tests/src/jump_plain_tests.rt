@@ -132,8 +132,8 @@ fn goals_and_marks(rt: HostRuntime) -> Result<(), Fail> {
     Ok(())
 }
 
-// One move more to the cell past the blocked one than to the one above it, which a corner that may be cut lets
-// a jump stop at.
+// A jump stops past the blocked cell, one move beyond the cell above it, or above it where a corner may be
+// cut.
 fn past_or_above(above: u16) -> [Option<u16>; 3] {
     [above.checked_add(1), Some(above), Some(above)]
 }

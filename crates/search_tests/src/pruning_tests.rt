@@ -1,8 +1,8 @@
 //! The rule on maps on squared paper, and a source of jumps that stands for one grid.
 
-ghost use Rattle.std.specs.Prelude.{◌≡◌, ◌<◌, IsTrue, Some, codes};
+ghost use Rattle.std.specs.Prelude.{◌≡◌, Some, codes};
 ghost use Rattle.grid_moves.specs.declared.Corner.TheVariants.{Never};
-ghost use Rattle.grid_moves.specs.Grid.{GridData, grid_of, is_free};
+ghost use Rattle.grid_moves.specs.Grid.{grid_of};
 
 use crate::jump_calls::starts_of;
 use grid_moves::{Cell, Corner, Dir, Grid, Terrain};

@@ -115,43 +115,32 @@ fn check_script(
     Ok(())
 }
 
-// On the map `.@./.../.@.` the middle is blocked and freed.
+// On the map `.@./.../.@.` the middle is blocked and freed. Cell by cell three states are taken on the way
+// across, and three where the middle is blocked; by jumps and by tables two, with the middle three where a
+// corner may be cut, and one where the middle is blocked, as none of its jumps stops.
 #[test]
 fn a_script_is_answered_in_turn(rt: HostRuntime) -> Result<(), Fail> {
     let text = b"type octile\nheight 3\nwidth 3\nmap\n.@.\n...\n.@.\n";
-    let across = Line::Query((0, 1, 2, 1), (3, 2, 0, 3));
-    let lines = [
-        across,
-        Line::Edit(1, 1, Ground::Blocked, EditReply::Done),
-        Line::Query((0, 1, 2, 1), (2, 0, 0, 3)),
-        Line::Edit(1, 1, Ground::Land, EditReply::Done),
-        Line::Edit(1, 1, Ground::Land, EditReply::Same),
-        across,
-        Line::Edit(3, 0, Ground::Blocked, EditReply::Outside),
-    ];
-    for corner in [Corner::Never, Corner::One, Corner::Both] {
-        check_script(rt.alloc(), &rt, text, Engine::Plain, corner, &lines)?;
-    }
-    Ok(())
-}
-
-// The same, by jumps and by tables: two states are taken on the way across, with the middle three where a
-// corner may be cut, and one where the middle is blocked, as none of its jumps stops.
-#[test]
-fn a_script_is_answered_by_jumps(rt: HostRuntime) -> Result<(), Fail> {
-    let text = b"type octile\nheight 3\nwidth 3\nmap\n.@.\n...\n.@.\n";
-    for (corner, taken) in [(Corner::Never, 2), (Corner::One, 3), (Corner::Both, 3)] {
-        let across = Line::Query((0, 1, 2, 1), (3, 2, 0, taken));
-        let lines = [
-            across,
-            Line::Edit(1, 1, Ground::Blocked, EditReply::Done),
-            Line::Query((0, 1, 2, 1), (2, 0, 0, 1)),
-            Line::Edit(1, 1, Ground::Land, EditReply::Done),
-            across,
-            Line::Query((1, 0, 2, 1), (1, 0, 0, 0)),
+    for (corner, by_jumps) in [(Corner::Never, 2), (Corner::One, 3), (Corner::Both, 3)] {
+        let engines = [
+            (Engine::Plain, 3, 3),
+            (Engine::Jps, by_jumps, 1),
+            (Engine::Plus, by_jumps, 1),
         ];
-        check_script(rt.alloc(), &rt, text, Engine::Jps, corner, &lines)?;
-        check_script(rt.alloc(), &rt, text, Engine::Plus, corner, &lines)?;
+        for (engine, taken, taken_apart) in engines {
+            let across = Line::Query((0, 1, 2, 1), (3, 2, 0, taken));
+            let lines = [
+                across,
+                Line::Edit(1, 1, Ground::Blocked, EditReply::Done),
+                Line::Query((0, 1, 2, 1), (2, 0, 0, taken_apart)),
+                Line::Edit(1, 1, Ground::Land, EditReply::Done),
+                Line::Edit(1, 1, Ground::Land, EditReply::Same),
+                across,
+                Line::Edit(3, 0, Ground::Blocked, EditReply::Outside),
+                Line::Query((1, 0, 2, 1), (1, 0, 0, 0)),
+            ];
+            check_script(rt.alloc(), &rt, text, engine, corner, &lines)?;
+        }
     }
     Ok(())
 }

@@ -1,7 +1,7 @@
 //! Entries and jumps that were counted on squared paper.
 
 ghost use Rattle.std.specs.Prelude.{◌≡◌, ◌<◌, true, IsTrue};
-ghost use Rattle.grid_moves.specs.Grid.{is_free};
+ghost use Rattle.grid_moves.specs.Grid.{AreCells, is_free};
 ghost use Rattle.plus_tables.specs.Tables.{AreTablesOf, is_on};
 
 use grid_moves::{Cell, Corner, Dir, Grid, NoMemory, Terrain};
@@ -14,8 +14,8 @@ use std::sync::ledger::{Blank, Ledger};
 use std::test::Fail;
 use steps::Steps;
 
-// A cell, a direction and the table entry for them.
-type Row = ((u16, u16), Dir, i16);
+// A cell, a direction and the table entry for them under each rule.
+type Row = ((u16, u16), Dir, [i16; 3]);
 
 fn entry_of<L: Ledger>(tables: &Tables, at: Cell, d: Dir, blank: Blank) -> i16
     requires on { is_on tables.now at ≡ true }
@@ -27,82 +27,61 @@ fn entry_of<L: Ledger>(tables: &Tables, at: Cell, d: Dir, blank: Blank) -> i16
     tables.entry(at, d, &mut steps)
 }
 
-// Whether the tables have this entry.
-fn has(tables: &Tables, row: Row) -> bool {
-    let ((x, y), d, entry) = row;
-    if x >= tables.width() || y >= tables.height() {
-        return false;
-    }
-    entry_of::<Brand>(tables, Cell { x, y }, d, Blank::new(1)) == entry
-}
-
-// Whether the tables have these entries.
-fn have(tables: &Tables, rows: &[Row]) -> bool {
-    for row in rows {
-        if !has(tables, *row) {
-            return false;
+// The tables of a map have the entries of the rows, under each rule.
+fn check_entries(
+    alloc: Global,
+    rt: &impl Abort,
+    width: u16,
+    height: u16,
+    cells: &[u8],
+    rows: &[Row],
+) -> Result<(), NoMemory>
+    requires { AreCells width height cells.now }
+{
+    for (i, corner) in [Corner::Never, Corner::One, Corner::Both]
+        .iter()
+        .enumerate()
+    {
+        let grid = Grid::of_cells(alloc, width, height, cells, *corner)?;
+        let tables = Tables::build(alloc, &grid)?;
+        for ((x, y), d, entries) in rows {
+            assert!(rt; *x < tables.width() && *y < tables.height());
+            let entry = entry_of::<Brand>(&tables, Cell { x: *x, y: *y }, *d, Blank::new(1));
+            assert_eq!(rt; entry, entries[i], "rule {i}, {d:?} from {x},{y}");
         }
     }
-    true
-}
-
-// Whether the tables of the map `...../.@...` have these entries.
-fn wall_has(alloc: Global, corner: Corner, rows: &[Row]) -> Result<bool, NoMemory> {
-    let grid = Grid::of_cells(alloc, 5, 2, b"......@...", corner)?;
-    let tables = Tables::build(alloc, &grid)?;
-    Ok(have(&tables, rows))
-}
-
-// Whether the tables of the map `..@/.@.` have these.
-fn corner_has(alloc: Global, corner: Corner, rows: &[Row]) -> Result<bool, NoMemory> {
-    let grid = Grid::of_cells(alloc, 3, 2, b"..@.@.", corner)?;
-    let tables = Tables::build(alloc, &grid)?;
-    Ok(have(&tables, rows))
-}
-
-// On that map: to the mark behind the wall, or above it where a corner may be cut, and to the border.
-#[test]
-fn entries_beside_a_wall(rt: HostRuntime) -> Result<(), Fail> {
-    let rows = [
-        ((0, 0), Dir::E, 2),
-        ((1, 0), Dir::E, 1),
-        ((2, 0), Dir::E, -2),
-        ((4, 0), Dir::W, 4),
-        ((0, 0), Dir::SE, 0),
-        ((2, 0), Dir::SE, -1),
-        ((1, 1), Dir::E, 0),
-    ];
-    assert!(rt; wall_has(rt.alloc(), Corner::Never, &rows)?);
-    let rows = [
-        ((0, 0), Dir::E, 1),
-        ((1, 0), Dir::E, -3),
-        ((1, 0), Dir::SE, -1),
-    ];
-    assert!(rt; wall_has(rt.alloc(), Corner::One, &rows)?);
-    assert!(rt; wall_has(rt.alloc(), Corner::Both, &rows)?);
     Ok(())
 }
 
-// On that map a way leads between two blocked cells, from (1,0) to (2,1): where both may be passed (1,0) is
+// On `...../.@...`: to the mark behind the wall, or above it where a corner may be cut, and to the border.
+#[test]
+fn entries_beside_a_wall(rt: HostRuntime) -> Result<(), Fail> {
+    let rows = [
+        ((0, 0), Dir::E, [2, 1, 1]),
+        ((1, 0), Dir::E, [1, -3, -3]),
+        ((2, 0), Dir::E, [-2, -2, -2]),
+        ((4, 0), Dir::W, [4, 3, 3]),
+        ((0, 0), Dir::SE, [0, 0, 0]),
+        ((1, 0), Dir::SE, [0, -1, -1]),
+        ((2, 0), Dir::SE, [-1, -1, -1]),
+        ((1, 1), Dir::E, [0, 0, 0]),
+    ];
+    check_entries(rt.alloc(), &rt, 5, 2, b"......@...", &rows)?;
+    Ok(())
+}
+
+// On `..@/.@.` a way leads between two blocked cells, from (1,0) to (2,1): where both may be passed (1,0) is
 // marked for E and NE, though it is the last cell of its row.
 #[test]
 fn entries_between_two_walls(rt: HostRuntime) -> Result<(), Fail> {
     let rows = [
-        ((0, 0), Dir::E, 1),
-        ((0, 1), Dir::NE, 1),
-        ((1, 0), Dir::E, 0),
-        ((1, 0), Dir::SE, -1),
-        ((2, 1), Dir::NW, 1),
+        ((0, 0), Dir::E, [-1, -1, 1]),
+        ((0, 1), Dir::NE, [0, -1, 1]),
+        ((1, 0), Dir::E, [0, 0, 0]),
+        ((1, 0), Dir::SE, [0, 0, -1]),
+        ((2, 1), Dir::NW, [0, 0, 1]),
     ];
-    assert!(rt; corner_has(rt.alloc(), Corner::Both, &rows)?);
-    let rows = [
-        ((0, 0), Dir::E, -1),
-        ((0, 1), Dir::NE, -1),
-        ((1, 0), Dir::E, 0),
-        ((1, 0), Dir::SE, 0),
-        ((2, 1), Dir::NW, 0),
-    ];
-    assert!(rt; corner_has(rt.alloc(), Corner::One, &rows)?);
+    check_entries(rt.alloc(), &rt, 3, 2, b"..@.@.", &rows)?;
     Ok(())
 }
 

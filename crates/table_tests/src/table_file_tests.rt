@@ -7,36 +7,36 @@ use std::process::Abort;
 use std::test::Fail;
 use table_file::{NoMemory, TableFault, load, write_tables};
 
-// Two moves lead to the east, one to each side, two to the west; there is no water.
-fn three_cells(alloc: Global) -> Result<Vec<u8>, NoMemory> {
+fn joined(alloc: Global, parts: &[&[u8]]) -> Result<Vec<u8>, NoMemory> {
     let mut text = Vec::new(alloc);
-    for part in [
-        b"JPSPLUS1\x00\x03\x00\x01\x00".as_slice(),
-        b"\x00\x00\x00\x00\xfe\xff\x00\x00\x00\x00\x00\x00\x00\x00\x00\x00",
-        b"\x00\x00\x00\x00\xff\xff\x00\x00\x00\x00\x00\x00\xff\xff\x00\x00",
-        b"\x00\x00\x00\x00\x00\x00\x00\x00\x00\x00\x00\x00\xfe\xff\x00\x00",
-        b"\x00\x00\x00\x00\x00\x00\x00\x00\x00\x00\x00\x00\x00\x00\x00\x00",
-        b"\x00\x00\x00\x00\x00\x00\x00\x00\x00\x00\x00\x00\x00\x00\x00\x00",
-        b"\x00\x00\x00\x00\x00\x00\x00\x00\x00\x00\x00\x00\x00\x00\x00\x00",
-    ] {
+    for part in parts {
         text.extend_from_slice(part)?;
     }
     Ok(text)
 }
 
+// Two moves lead to the east, one to each side, two to the west; there is no water.
+fn three_cells(alloc: Global) -> Result<Vec<u8>, NoMemory> {
+    let parts = [
+        b"JPSPLUS1\x00\x03\x00\x01\x00".as_slice(),
+        b"\x00\x00\x00\x00\xfe\xff\x00\x00\x00\x00\x00\x00\x00\x00\x00\x00",
+        b"\x00\x00\x00\x00\xff\xff\x00\x00\x00\x00\x00\x00\xff\xff\x00\x00",
+        b"\x00\x00\x00\x00\x00\x00\x00\x00\x00\x00\x00\x00\xfe\xff\x00\x00",
+        [0; 48].as_slice(),
+    ];
+    joined(alloc, &parts)
+}
+
 // On the map `.@/@.`, where two blocked cells may be passed between, one move leads each way.
 fn two_that_touch(alloc: Global) -> Result<Vec<u8>, NoMemory> {
-    let mut text = Vec::new(alloc);
-    for part in [
+    let parts = [
         b"JPSPLUS1\x02\x02\x00\x02\x00".as_slice(),
         b"\x00\x00\x00\x00\x00\x00\xff\xff\x00\x00\x00\x00\x00\x00\x00\x00",
         [0; 32].as_slice(),
         b"\x00\x00\x00\x00\x00\x00\x00\x00\x00\x00\x00\x00\x00\x00\xff\xff",
         [0; 64].as_slice(),
-    ] {
-        text.extend_from_slice(part)?;
-    }
-    Ok(text)
+    ];
+    joined(alloc, &parts)
 }
 
 // A place, the byte that is put there, if the text has it, and the length that the text is cut to.
@@ -63,15 +63,10 @@ fn written(alloc: Global, layers: &Layers, corner: Corner) -> Result<Vec<u8>, No
 }
 
 #[test]
-fn each_byte_of_a_small_file(rt: HostRuntime) -> Result<(), Fail> {
+fn each_byte_of_small_files(rt: HostRuntime) -> Result<(), Fail> {
     let layers = Layers::of_cells(rt.alloc(), 3, 1, b"...", Corner::Never)?;
     let out = written(rt.alloc(), &layers, Corner::Never)?;
     assert_eq!(rt; out.as_slice(), three_cells(rt.alloc())?.as_slice());
-    Ok(())
-}
-
-#[test]
-fn each_byte_where_two_may_be_passed(rt: HostRuntime) -> Result<(), Fail> {
     let layers = Layers::of_cells(rt.alloc(), 2, 2, b".@@.", Corner::Both)?;
     let out = written(rt.alloc(), &layers, Corner::Both)?;
     assert_eq!(rt; out.as_slice(), two_that_touch(rt.alloc())?.as_slice());
