@@ -34,3 +34,8 @@ pub mod Alike
 pub mod SmallMaps
 pub mod Only
 pub mod Begun
+pub mod Refusing
+pub mod Answered
+pub mod Loading
+pub mod Loaded
+pub mod Existing
