@@ -1,7 +1,7 @@
 -- On the layers of a map what is asked for has an answer.
 use Rattle.std.proofs.Common.{◌≡◌, refl, ℕ, zero, suc, Bool, true, false, inl, inr}
-use Rattle.std.proofs.Common.{List, [], ◌∷◌, ◌++◌, ◌&&◌, ◌||◌}
-use Rattle.std.specs.Prelude.{Option, Some, None, if◌then◌else◌, codes}
+use Rattle.std.proofs.Common.{List, [], ◌∷◌, ◌++◌, ◌&&◌}
+use Rattle.std.specs.Prelude.{Option, Some, None, codes, MatchOption}
 use Rattle.std.proofs.lemmas.Bool.{and_parts}
 use Rattle.root2_cost.specs.declared.Cost.{Cost}
 use Rattle.root2_cost.proofs.Rounding.{bucket_exists, nearest_exists}
@@ -14,9 +14,6 @@ use Rattle.grid_moves.specs.Layers.{Layers, in_one_layer, is_free_ground, is_on_
 use Rattle.grid_moves.specs.Reply.{are_free_ends}
 use Rattle.path_points.specs.declared.points.Walk as points
 use Rattle.path_points.specs.Least.{IsLeastOrNone}
-use Rattle.plain_search.specs.Costs.{IsCostTo}
-use Rattle.plain_search.proofs.Answering as plainly
-use Rattle.walk_judge.proofs.Judgements.{stands_costs}
 use Rattle.walk_judge.specs.declared.telling.Told.{Told}
 use Rattle.goal_boxes.specs.declared.around.CellBoxes.{CellBoxes}
 use Rattle.goal_boxes.specs.Answer.{IsBoxedRunOn}
@@ -45,42 +42,26 @@ use Rattle.scen_maker.specs.Lengths.{AreLengths, IsLengthLine, IsLineAt, IsProbl
 use Rattle.scen_maker.specs.Lengths.{problem_of}
 use Rattle.scen_maker.specs.Settling.{has_sides, least_in}
 use Rattle.scen_maker.proofs.Searching.{settled_exists}
+use Rattle.jps_run.specs.Answerers.{IsUnsearched}
 use Rattle.jps_run.specs.Answers.{AnswersAfter, AreAnswers, edits_with}
 use Rattle.jps_run.specs.Drill.{AreFindings, FindsAfter, finding_of, finding_of_edit}
 use Rattle.jps_run.specs.Lines.{edit_line, reply_line}
 use Rattle.jps_run.specs.Rows.{AreRows, IsRow, row_of, scale, replied}
 use Rattle.jps_run.specs.Rulings.{AreRulings, IsRuling, with_told}
 use Rattle.jps_run.specs.Session.{reply_to_edit, session_after, width_of}
-use Rattle.jps_run.specs.Who.{IsReplyBy, IsReplyOn, Who, by_boxes}
+use Rattle.jps_run.specs.Who.{By, IsReplyBy, IsReplyOn, Who, by_boxes, by_moves}
 use Rattle.jps_run.specs.declared.replies.drill.Finding.{Finding}
 use Rattle.jps_run.specs.declared.replies.row.Row.{Row}
 use Rattle.jps_run.specs.declared.replies.row.Row.TheVariants as row
 use Rattle.jps_run.specs.declared.replies.ruling.Ruling.{Ruling}
 use Rattle.jps_run.proofs.Refereed.{settled-ruled}
-use Rattle.jps_run.proofs.Replying.{reply-on-map, unsearched-boxed}
+use Rattle.jps_run.proofs.Replying.{reply-on-map, unsearched-boxed, unsearched-led}
 use Rattle.jps_run.proofs.SessionReply.{reply_exists}
-
--- a free cell is free on the grid of its queries
-on_grid : (ls : Layers) (s : Cell) → is_free_ground ls s ≡ true → is_free (query_grid ls s) s ≡ true
-on_grid ls s free = by_water (is_free ls.water s) refl free
-  where
-    by_water : (b : Bool) → is_free ls.water s ≡ b → (is_free ls.land s || b) ≡ true
-        → is_free (if b then ls.water else ls.land) s ≡ true
-    by_water true water some = water
-    by_water false other some = by_land (is_free ls.land s) refl some
-      where
-        by_land : (b : Bool) → is_free ls.land s ≡ b → (b || false) ≡ true → is_free ls.land s ≡ true
-        by_land true land some = land
-        by_land false other some = absurd (cc)
-
--- from a free cell to each cell there is a least cost, or no walk leads there
-cost_exists : (g : GridData) (s t : Cell) → is_free g s ≡ true → (cost : Option Cost) × IsCostTo g s t cost
-cost_exists g s t free = let a = plainly.has_answer g s t free in by_walk a.answer.walk a.least
-  where
-    by_walk : (walk : Option points.Walk) → IsLeastOrNone g s t walk
-        → (cost : Option Cost) × IsCostTo g s t cost
-    by_walk None nothing = (None, nothing)
-    by_walk (Some w) stands = (Some w.cost, stands_costs g s t w.points w.cost stands)
+use Rattle.first_moves.specs.Follow.{IsFollowed}
+use Rattle.first_moves.proofs.Following.{stands}
+use Rattle.grid_moves.specs.Walk.{NoWalk}
+use Rattle.outcome_laws.proofs.Moved.{followed_exists}
+use Rattle.outcome_laws.proofs.Reached.{cost_exists, on_grid}
 
 -- the lines of least costs
 module _ (g : GridData) (s : Cell) (free : is_free g s ≡ true) where
@@ -252,28 +233,48 @@ module _ (g : GridData) (s t : Cell) (free : (is_free g s && is_free g t) ≡ tr
   boxed_on = let h = boxed.has_answer g s t (and_parts (is_free g s) (is_free g t) free).0 in
       boxed_told h.answer.walk h.answer.taken h.run h.least
 
-module _ (ls : Layers) (s t : Cell) where
-  abbrev Boxed : Type 0
-  Boxed = (r : Reply) × IsReplyBy (record { layers = ls; by = by_boxes }) s t r
+-- and first moves have
+module _ (g : GridData) (s t : Cell) (free : (is_free g s && is_free g t) ≡ true) where
+  led_told : (walk : Option points.Walk)
+      → MatchOption walk (NoWalk g s t) (λ w. IsFollowed g s t w.points w.cost)
+      → (r : Reply) × (IsRightOn g s t r × IsReplyOn by_moves g s t r)
+  led_told (Some w) f = (reply.Walk w.points w.cost [], ((free, stands g s t w.points w.cost f), (f, refl)))
+  led_told None nothing = (reply.None [], (inr nothing, refl))
 
-  boxed_layer : are_free_ends ls s t ≡ true → (b : Bool) → in_one_layer ls s t ≡ b → Boxed
-  boxed_layer free true one =
-      let h = boxed_on (query_grid ls s) s t one in (h.0, reply-on-map ls by_boxes s t h.0 free h.1.0 h.1.1)
-  boxed_layer free false two = (
-    reply.None [],
-    unsearched-boxed ls s t (reply.None [])
-        (record { right = (free, inl two); none = (two, refl) }),
-  )
+  led_on : (r : Reply) × (IsRightOn g s t r × IsReplyOn by_moves g s t r)
+  led_on =
+      let ends = and_parts (is_free g s) (is_free g t) free in
+      let h = followed_exists g s t ends.0 ends.1 in led_told h.answer h.is
 
-  boxed_ends : (is_on_map ls s && is_on_map ls t) ≡ true → (b : Bool) → are_free_ends ls s t ≡ b → Boxed
-  boxed_ends on true free = boxed_layer free (in_one_layer ls s t) refl
-  boxed_ends on false free =
-      (reply.Blocked, unsearched-boxed ls s t reply.Blocked (record { right = (on, free); none = tt }))
+-- a reply on the map, where there is one between free cells of one grid
+module _ (ls : Layers) (by : By) (s t : Cell)
+    (apart : (r : Reply) → IsUnsearched ls s t r → IsReplyBy (record { layers = ls; by = by }) s t r)
+    (search : in_one_layer ls s t ≡ true
+    → (r : Reply) × (IsRightOn (query_grid ls s) s t r × IsReplyOn by (query_grid ls s) s t r)) where
+  abbrev HasReply : Type 0
+  HasReply = (r : Reply) × IsReplyBy (record { layers = ls; by = by }) s t r
 
-  boxed_map : (b : Bool) → (is_on_map ls s && is_on_map ls t) ≡ b → Boxed
-  boxed_map true on = boxed_ends on (are_free_ends ls s t) refl
-  boxed_map false off =
-      (reply.Outside, unsearched-boxed ls s t reply.Outside (record { right = off; none = tt }))
+  by_layer : are_free_ends ls s t ≡ true → (b : Bool) → in_one_layer ls s t ≡ b → HasReply
+  by_layer free true one =
+      let h = search one in (h.0, reply-on-map ls by s t h.0 free h.1.0 h.1.1)
+  by_layer free false two =
+      (reply.None [], apart (reply.None []) (record { right = (free, inl two); none = (two, refl) }))
 
-  pub boxed_exists : Boxed
-  boxed_exists = boxed_map (is_on_map ls s && is_on_map ls t) refl
+  by_ends : (is_on_map ls s && is_on_map ls t) ≡ true → (b : Bool) → are_free_ends ls s t ≡ b → HasReply
+  by_ends on true free = by_layer free (in_one_layer ls s t) refl
+  by_ends on false free = (reply.Blocked, apart reply.Blocked (record { right = (on, free); none = tt }))
+
+  by_map : (b : Bool) → (is_on_map ls s && is_on_map ls t) ≡ b → HasReply
+  by_map true on = by_ends on (are_free_ends ls s t) refl
+  by_map false off = (reply.Outside, apart reply.Outside (record { right = off; none = tt }))
+
+  has_reply : HasReply
+  has_reply = by_map (is_on_map ls s && is_on_map ls t) refl
+
+pub boxed_exists : (ls : Layers) (s t : Cell)
+    → (r : Reply) × IsReplyBy (record { layers = ls; by = by_boxes }) s t r
+boxed_exists ls s t = has_reply ls by_boxes s t (unsearched-boxed ls s t) (boxed_on (query_grid ls s) s t)
+
+pub led_exists : (ls : Layers) (s t : Cell)
+    → (r : Reply) × IsReplyBy (record { layers = ls; by = by_moves }) s t r
+led_exists ls s t = has_reply ls by_moves s t (unsearched-led ls s t) (led_on (query_grid ls s) s t)

@@ -44,7 +44,7 @@ use Rattle.jps_run.specs.Lines.{reply_line}
 use Rattle.jps_run.specs.Live.{AreHeard}
 use Rattle.jps_run.specs.Outcome.{IsAnswered, IsOutcome, Outcome, Spell, answered, bad_line, bad_text}
 use Rattle.jps_run.specs.Outcome.{bad_word, done, help, version, replied, solved, judged, refereed, made}
-use Rattle.jps_run.specs.Outcome.{drilled, drawn, costed, tabled, boxed, measured}
+use Rattle.jps_run.specs.Outcome.{moved, drilled, drawn, costed, tabled, boxed, measured}
 use Rattle.jps_run.specs.Pictures.{drawing_of, drawing_status}
 use Rattle.jps_run.specs.Rows.{scen_lines, scen_status}
 use Rattle.jps_run.specs.Rulings.{judge_lines, judge_status}
@@ -53,9 +53,10 @@ use Rattle.jps_run.specs.Tabled.{tables_text}
 use Rattle.jps_run.specs.Texts.{help_text, version_text}
 use Rattle.jps_run.specs.Who.{By, IsReplyBy, Who, by_session}
 use Rattle.jps_run.proofs.SessionReply.{reply_exists}
-use Rattle.outcome_laws.specs.Existing.{ArePresent, IsShown, PicksNoMoves}
-use Rattle.outcome_laws.proofs.Answered.{answers_exist, boxed_exists, boxes_exist, costs_exist, findings_exist}
-use Rattle.outcome_laws.proofs.Answered.{lengths_exist, rows_exist, rulings_exist}
+use Rattle.outcome_laws.specs.Existing.{ArePresent, IsShown}
+use Rattle.outcome_laws.proofs.Answered.{answers_exist, boxed_exists, boxes_exist, costs_exist}
+use Rattle.outcome_laws.proofs.Answered.{findings_exist, led_exists, lengths_exist, rows_exist, rulings_exist}
+use Rattle.outcome_laws.proofs.Moved.{runs_exist}
 use Rattle.outcome_laws.proofs.Refusing.{accepted_or_refused, bad_word_exists, less_or_not}
 
 -- a text that is not refused is read
@@ -136,18 +137,18 @@ session_on set m large =
 
 -- whoever answers has a reply
 module _ (ls : Layers) (s t : Cell) where
-  reply_by : (p : Pick) → PicksNoMoves p
+  reply_by : (p : Pick)
       → (reply : Reply) × IsReplyBy (record { layers = ls; by = by_of p }) s t reply
-  reply_by pick.Plain h = reply_exists (record { engine = engine.Plain; layers = ls }) s t
-  reply_by pick.Jps h = reply_exists (record { engine = engine.Jps; layers = ls }) s t
-  reply_by pick.Block h = reply_exists (record { engine = engine.Block; layers = ls }) s t
-  reply_by pick.Plus h = reply_exists (record { engine = engine.Plus; layers = ls }) s t
-  reply_by pick.Boxes h = boxed_exists ls s t
-  reply_by pick.Moves h = absurd h
+  reply_by pick.Plain = reply_exists (record { engine = engine.Plain; layers = ls }) s t
+  reply_by pick.Jps = reply_exists (record { engine = engine.Jps; layers = ls }) s t
+  reply_by pick.Block = reply_exists (record { engine = engine.Block; layers = ls }) s t
+  reply_by pick.Plus = reply_exists (record { engine = engine.Plus; layers = ls }) s t
+  reply_by pick.Boxes = boxed_exists ls s t
+  reply_by pick.Moves = led_exists ls s t
 
-who_replies : (set : Settings) (m : Map) → PicksNoMoves set.pick → (s t : Cell)
+who_replies : (set : Settings) (m : Map) (s t : Cell)
     → (reply : Reply) × IsReplyBy (who_on set m) s t reply
-who_replies set m picks s t = reply_by (layers_on set m) s t set.pick picks
+who_replies set m s t = reply_by (layers_on set m) s t set.pick
 
 -- an answer to a call on the texts of its files
 record HasAnswer (call : Call) (texts : List (List ℕ)) : Type 0 where
@@ -178,13 +179,14 @@ module _ (holds : List ℕ → Held) (set : Settings) where
       on_texts (call_with asked set) texts (one.0 ∷ []) one.1.0 (has one.0 m.0 m.1)
 
   query_has : (map : List ℕ) (tables : Option (List ℕ)) (sx sy gx gy : ℕ) (texts : List (List ℕ))
-      → PicksNoMoves set.pick → AreAccepted holds [] (map_files set map tables) texts
+      → AreAccepted holds [] (map_files set map tables) texts
       → HasAnswer (call_with (Query map tables sx sy gx gy) set) texts
-  query_has map tables sx sy gx gy texts picks p =
+  query_has map tables sx sy gx gy texts p =
       let h = has_map holds set map tables [] texts (subst (λ (fs : List File). AreAccepted holds [] fs texts)
       (sym (append-nil (map_files set map tables))) p) in
-      let r = who_replies set h.map picks (record { x = sx; y = sy }) (record { x = gx; y = gy }) in
-      on_texts (call_with (Query map tables sx sy gx gy) set) texts (h.text ∷ (h.loaded ++ h.more)) h.is (record {
+      let r = who_replies set h.map (record { x = sx; y = sy }) (record { x = gx; y = gy }) in
+      on_texts (call_with (Query map tables sx sy gx gy) set) texts (h.text ∷ (h.loaded ++ h.more)) h.is
+      (record {
         lines = reply_line (who_on set h.map).layers.land.width set.show r.0 ∷ [];
         status = 0;
         is = replied map h.text tables (h.loaded ++ h.more) sx sy gx gy set h.map
@@ -211,14 +213,13 @@ module _ (holds : List ℕ → Held) (set : Settings) where
       })
 
   scen_has : (map : List ℕ) (tables : Option (List ℕ)) (scenario : List ℕ) (texts : List (List ℕ))
-      → PicksNoMoves set.pick
       → AreAccepted holds [] (map_files set map tables ++ file_of kind.Scen scenario ∷ []) texts
       → HasAnswer (call_with (Scen map tables scenario) set) texts
-  scen_has map tables scenario texts picks p =
+  scen_has map tables scenario texts p =
       let h = has_map holds set map tables (file_of kind.Scen scenario ∷ []) texts p in
       let one = single holds (h.text ∷ h.loaded) (file_of kind.Scen scenario) h.more h.accepted in
       let entries = read_of scen_line (scen_of one.0) one.1.1 in
-      let all = rows_exist (who_on set h.map) (who_replies set h.map picks) entries.0 in
+      let all = rows_exist (who_on set h.map) (who_replies set h.map) entries.0 in
       on_texts (call_with (Scen map tables scenario) set) texts (h.text ∷ (h.loaded ++ one.0 ∷ []))
       (h.is ∙ ap (λ (ts : List (List ℕ)). h.text ∷ (h.loaded ++ ts)) one.1.0) (record {
         lines = scen_lines set.show all.0;
@@ -229,7 +230,8 @@ module _ (holds : List ℕ → Held) (set : Settings) where
 
   -- the answer of a judge, on three texts
   judge_has : (map scenario walks : List ℕ) (texts : List (List ℕ))
-      → AreAccepted holds [] (file_of kind.Map map ∷ file_of kind.Scen scenario ∷ file_of kind.Walks walks ∷ [])
+      → AreAccepted holds []
+      (file_of kind.Map map ∷ file_of kind.Scen scenario ∷ file_of kind.Walks walks ∷ [])
       texts → HasAnswer (call_with (Judge map scenario walks) set) texts
   judge_has map scenario walks [] p = absurd p
   judge_has map scenario walks (text ∷ []) p = absurd (p.1)
@@ -280,11 +282,12 @@ module _ (holds : List ℕ → Held) (set : Settings) where
       let r = reply_exists d.0 s t in record {
         lines = drawing_of m s t set.show r.0 ∷ [];
         status = drawing_status r.0;
-        is = drawn map text sx sy gx gy set m (drawing_of m s t set.show r.0) (drawing_status r.0) read (record {
-          session = d.0;
-          is = d.1;
-          known = record { reply = r.0; is_reply = r.1; drawn = refl; same_status = refl };
-        });
+        is = drawn map text sx sy gx gy set m (drawing_of m s t set.show r.0) (drawing_status r.0) read
+            (record {
+              session = d.0;
+              is = d.1;
+              known = record { reply = r.0; is_reply = r.1; drawn = refl; same_status = refl };
+            });
       }
 
   costs_has : (map : List ℕ) (x y : ℕ) (text : List ℕ) (m : Map) → map_of text ≡ Ok m
@@ -299,8 +302,14 @@ module _ (holds : List ℕ → Held) (set : Settings) where
       let all = boxes_exist (layers_on set m) (record { x = x; y = y }) in
       record { lines = all.0 ∷ []; status = 0; is = boxed map text x y set m all.0 read all.1 }
 
+  moves_has : (map : List ℕ) (x y : ℕ) (text : List ℕ) (m : Map) → map_of text ≡ Ok m
+      → HasAnswer (call_with (Moves map x y) set) (text ∷ [])
+  moves_has map x y text m read =
+      let all = runs_exist (layers_on set m) (record { x = x; y = y }) in
+      record { lines = all.0 ∷ []; status = 0; is = moved map text x y set m all.0 read all.1 }
+
   -- what is asked for is answered, on accepted texts
-  is_answered : (asked : Asked) → IsServed asked set → IsShown asked set → (texts : List (List ℕ))
+  is_answered : (asked : Asked) → IsServed asked set → IsShown asked → (texts : List (List ℕ))
       → AreAccepted holds [] (files_of (call_with asked set)) texts
       → ((map : List ℕ) (tables : Option (List ℕ)) → ¬ (asked ≡ Live map tables))
       → HasAnswer (call_with asked set) texts
@@ -311,12 +320,12 @@ module _ (holds : List ℕ → Held) (set : Settings) where
       on_texts (call_with Version set) texts [] (nothing holds [] texts p)
       (record { lines = version_text ∷ []; status = 0; is = version set })
   is_answered (Query map tables sx sy gx gy) serves shown texts p other =
-      query_has map tables sx sy gx gy texts shown p
+      query_has map tables sx sy gx gy texts p
   is_answered (Solve map tables script) serves shown texts p other =
       solve_has map tables script texts (serves refl) p
   is_answered (Live map tables) serves shown texts p other = absurd (other map tables refl)
   is_answered (Scen map tables scenario) serves shown texts p other =
-      scen_has map tables scenario texts shown p
+      scen_has map tables scenario texts p
   is_answered (Judge map scenario walks) serves shown texts p other = judge_has map scenario walks texts p
   is_answered (Prove map sx sy gx gy) serves shown texts p other = absurd shown
   is_answered (Check map cert) serves shown texts p other = absurd shown
@@ -341,7 +350,8 @@ module _ (holds : List ℕ → Held) (set : Settings) where
       }) p
   is_answered (Boxes map x y) serves shown texts p other =
       on_small_map (Boxes map x y) map texts (boxes_has map x y) p
-  is_answered (Moves map x y) serves shown texts p other = absurd shown
+  is_answered (Moves map x y) serves shown texts p other =
+      on_small_map (Moves map x y) map texts (moves_has map x y) p
   is_answered (Lengths map scenario) serves shown texts p other = lengths_has map scenario texts p
   is_answered (Problems map seed count) serves shown texts p other = absurd shown
 
@@ -406,7 +416,8 @@ module _ (words : List (List ℕ)) (holds : List ℕ → Held) (script : List �
       })
     where
       by_line : (line : Option (List ℕ)) (lines : List (List ℕ))
-          → AreHeard (call_with (Live map tables) set) holds (Some script) lines line → Ends words holds script
+          → AreHeard (call_with (Live map tables) set) holds (Some script) lines line
+          → Ends words holds script
       by_line None lines are = (
         record { status = 0; out = lines; line = [] },
         answered (call_with (Live map tables) set) lines spelled are,
@@ -424,14 +435,14 @@ module _ (words : List (List ℕ)) (holds : List ℕ → Held) (script : List �
   )
 
   -- the files of the call are accepted
-  not_live : (asked : Asked) (set : Settings) → Spell words (call_with asked set) → IsShown asked set
+  not_live : (asked : Asked) (set : Settings) → Spell words (call_with asked set) → IsShown asked
       → (texts : List (List ℕ)) → AreAccepted holds [] (files_of (call_with asked set)) texts
       → ((map : List ℕ) (tables : Option (List ℕ)) → ¬ (asked ≡ Live map tables)) → Ends words holds script
   not_live asked set spelled shown texts p other =
       done_ends (call_with asked set) spelled texts p
       (is_answered holds set asked (served words (call_with asked set) spelled) shown texts p other)
 
-  call_ends : (asked : Asked) (set : Settings) → Spell words (call_with asked set) → IsShown asked set
+  call_ends : (asked : Asked) (set : Settings) → Spell words (call_with asked set) → IsShown asked
       → (texts : List (List ℕ)) → AreAccepted holds [] (files_of (call_with asked set)) texts
       → Ends words holds script
   call_ends (Live map tables) set spelled shown texts p =
@@ -460,7 +471,8 @@ module _ (words : List (List ℕ)) (holds : List ℕ → Held) (script : List �
       not_live (Tables map) set spelled shown texts p (λ m t e. cc)
   call_ends (Boxes map x y) set spelled shown texts p =
       not_live (Boxes map x y) set spelled shown texts p (λ m t e. cc)
-  call_ends (Moves map x y) set spelled shown texts p = absurd shown
+  call_ends (Moves map x y) set spelled shown texts p =
+      not_live (Moves map x y) set spelled shown texts p (λ m t e. cc)
   call_ends (Lengths map scenario) set spelled shown texts p =
       not_live (Lengths map scenario) set spelled shown texts p (λ m t e. cc)
   call_ends (Problems map seed count) set spelled shown texts p = absurd shown
@@ -470,7 +482,7 @@ module _ (words : List (List ℕ)) (holds : List ℕ → Held) (script : List �
   refused_ends call spelled line p =
       (record { status = 3; out = []; line = line }, bad_text call line spelled p)
 
-  files_end : (call : Call) → Spell words call → IsShown call.request call.settings
+  files_end : (call : Call) → Spell words call → IsShown call.request
       → ((texts : List (List ℕ)) × AreAccepted holds [] (files_of call) texts)
       ⊎ ((line : List ℕ) × HasRefused holds (files_of call) line) → Ends words holds script
   files_end call spelled shown (inl (texts, p)) =
@@ -478,7 +490,7 @@ module _ (words : List (List ℕ)) (holds : List ℕ → Held) (script : List �
   files_end call spelled shown (inr (line, p)) = refused_ends call spelled line p
 
   spelled_ends : (call : Call) → Spell words call → ArePresent holds (files_of call)
-      → (IsShown call.request call.settings) ⊎ ((line : List ℕ) × HasRefused holds (files_of call) line)
+      → (IsShown call.request) ⊎ ((line : List ℕ) × HasRefused holds (files_of call) line)
       → Ends words holds script
   spelled_ends call spelled present (inl shown) =
       files_end call spelled shown (accepted_or_refused holds (files_of call) present)
@@ -490,7 +502,7 @@ module _ (words : List (List ℕ)) (holds : List ℕ → Held) (script : List �
 
 pub outcomes_exist : (words : List (List ℕ)) (holds : List ℕ → Held) (script : List ℕ)
     → ((call : Call) → Spell words call → ArePresent holds (files_of call)
-    × (IsShown call.request call.settings ⊎ ((line : List ℕ) × HasRefused holds (files_of call) line)))
+    × (IsShown call.request ⊎ ((line : List ℕ) × HasRefused holds (files_of call) line)))
     → (outcome : Outcome) × IsOutcome words holds (Some script) outcome
 outcomes_exist words holds script can = by_call (call_of words) refl
   where

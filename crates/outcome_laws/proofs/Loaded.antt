@@ -15,8 +15,8 @@ use Rattle.call_files.specs.Kinds.{refusal_of}
 use Rattle.call_files.specs.declared.kind.Kind.TheVariants as kind
 use Rattle.jps_run.specs.Calls.{call_with, files_of}
 use Rattle.jps_run.specs.Live.{AreHeard}
-use Rattle.jps_run.specs.Outcome.{IsAnswered, IsOutcome, IsOutput, Outcome, Spell, answered, bad_line, bad_text}
-use Rattle.jps_run.specs.Outcome.{done, judged, replied, solved}
+use Rattle.jps_run.specs.Outcome.{IsAnswered, IsOutcome, IsOutput, Outcome, Spell, answered, bad_line}
+use Rattle.jps_run.specs.Outcome.{bad_text, done, judged, replied, solved}
 use Rattle.outcome_laws.specs.Loaded.{AreTablesOf, DifferInTables, query, solve, live, scen}
 use Rattle.outcome_laws.proofs.Alike.{last, last_append, same_first, same_others}
 use Rattle.outcome_laws.proofs.Asked.{Answers, OnLast, OnMap, asked_so}
@@ -283,7 +283,8 @@ module _ (holds : List ℕ → Held) (map tables : List ℕ) (show : Show) (rule
       output = λ lines status p.
           let off = accepted_off holds rule map tables right behind (λ one other text. refl, tt) p.texts
           p.accepted in
-          let one = single holds (off.text ∷ []) (file_of kind.Script script) off.more off.accepted.1 in record {
+          let one = single holds (off.text ∷ []) (file_of kind.Script script) off.more off.accepted.1 in
+          record {
             texts = off.text ∷ one.0 ∷ [];
             accepted = subst (λ (ts : List (List ℕ)).
                 AreAccepted holds [] (files_of (solved_by None)) (off.text ∷ ts)) one.1 off.accepted;
@@ -318,7 +319,8 @@ module _ (holds : List ℕ → Held) (map tables : List ℕ) (show : Show) (rule
           accepted = accepted_on holds rule map tables right behind (λ one other text. refl, tt) text
               (second ∷ []) p;
           answered = solve_so map (Some tables) set (text ∷ right.loaded ∷ second ∷ []) lines status script
-              (solve_swap map None (Some tables) set lines status text script second [] (right.loaded ∷ []) h);
+              (solve_swap map None (Some tables) set lines status text script second [] (right.loaded ∷ [])
+              h);
         }
 
   module _ (scenario : List ℕ) where
@@ -334,7 +336,8 @@ module _ (holds : List ℕ → Held) (map tables : List ℕ) (show : Show) (rule
       output = λ lines status p.
           let off = accepted_off holds rule map tables right entries (λ one other text. refl, tt) p.texts
           p.accepted in
-          let one = single holds (off.text ∷ []) (file_of kind.Scen scenario) off.more off.accepted.1 in record {
+          let one = single holds (off.text ∷ []) (file_of kind.Scen scenario) off.more off.accepted.1 in
+          record {
             texts = off.text ∷ one.0 ∷ [];
             accepted = subst (λ (ts : List (List ℕ)).
                 AreAccepted holds [] (files_of (judged_by None)) (off.text ∷ ts)) one.1 off.accepted;

@@ -351,7 +351,8 @@ module _ (holds : List ℕ → Held) (script : List ℕ) (call like : Call) (ali
         (same_small call.settings.pick like.settings.pick way)
         call.request ∙ ap (λ (asked : Asked). files_of (call_with asked like.settings)) alike.request
 
-    one_outcome : (one other : Outcome) → CallComes call holds (Some script) one → CallComes like holds (Some script) other
+    one_outcome : (one other : Outcome) → CallComes call holds (Some script) one
+        → CallComes like holds (Some script) other
         → one ≡ other
     one_outcome = both_same (same_alike holds (files_of call) (files_of like) files_one_way) one_way
         heard_one_way
@@ -454,7 +455,8 @@ pub jumps_same : (words others : List (List ℕ)) (call like : Call) (holds : Li
 jumps_same words others call like holds script one other told spelled also alike jump jumps p q =
     one_outcome holds script call like alike told
     (jump_way call.settings.pick jump ∙ sym (jump_way like.settings.pick jumps)) one other
-    (call_comes words holds (Some script) call one spelled p) (call_comes others holds (Some script) like other also q)
+    (call_comes words holds (Some script) call one spelled p)
+    (call_comes others holds (Some script) like other also q)
 
 pub costs_same : (words others : List (List ℕ)) (call like : Call) (holds : List ℕ → Held) (script : List ℕ)
     (one other : Outcome) → AreTold holds (files_of call) → Spell words call → Spell others like
@@ -464,4 +466,5 @@ pub costs_same : (words others : List (List ℕ)) (call like : Call) (holds : Li
     → IsOutcome words holds (Some script) one → IsOutcome others holds (Some script) other → one ≡ other
 costs_same words others call like holds script one other told spelled also alike costs maps p q =
     one_cost_outcome holds script call like alike told costs one other maps
-    (call_comes words holds (Some script) call one spelled p) (call_comes others holds (Some script) like other also q)
+    (call_comes words holds (Some script) call one spelled p)
+    (call_comes others holds (Some script) like other also q)

@@ -167,7 +167,8 @@ module _ (holds : List ℕ → Held) where
   -- a file that is present, and those behind it
   module _ (earlier : List (List ℕ)) (file : File) (files : List File) (bytes : List ℕ)
       (held : holds file.name ≡ holding bytes) (later : Decided (earlier ++ bytes ∷ []) files) where
-    by_later : IsWhole (holds file.name) (limit_of file.kind) bytes → refusal_of file.kind earlier bytes ≡ None
+    by_later : IsWhole (holds file.name) (limit_of file.kind) bytes
+        → refusal_of file.kind earlier bytes ≡ None
         → Decided (earlier ++ bytes ∷ []) files → Decided earlier (file ∷ files)
     by_later whole none (inl (texts, are)) = inl (bytes ∷ texts, ((whole, none), are))
     by_later whole none (inr (line, comes)) = inr (line, inr (bytes, (whole, none), comes))

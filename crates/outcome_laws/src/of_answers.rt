@@ -1,7 +1,7 @@
 //! Laws of words, files and printed texts: each is the contract of a call that does nothing.
 
 ghost use Rattle.outcome_laws.specs.Certificates.{CertificatesAreOne, ProofsAreOne, RefusalsAreOne, VerdictsAreOne};
-ghost use Rattle.outcome_laws.specs.Existing.{AcceptedOrRefusedExist, BadWordsExist};
+ghost use Rattle.outcome_laws.specs.Existing.{AcceptedOrRefusedExist, BadWordsExist, VerdictsExist};
 ghost use Rattle.outcome_laws.specs.Files.{AcceptedTextsAreOne, RefusedLinesAreOne, AcceptedOrRefused};
 ghost use Rattle.outcome_laws.specs.Rulings.{JudgementsAreOne, RulingsAreOne};
 ghost use Rattle.outcome_laws.specs.Agreeing.{LengthsAgree, ProblemsAgree};
@@ -78,6 +78,11 @@ pub fn refusals_are_one()
 /// both.
 pub fn verdicts_are_one()
     ensures { VerdictsAreOne }
+{}
+
+/// A certificate that is read has a verdict, on each grid.
+pub fn verdicts_exist()
+    ensures { VerdictsExist }
 {}
 
 /// What is told of the walks between two cells has one judgement.
