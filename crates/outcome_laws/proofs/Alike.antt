@@ -66,7 +66,7 @@ pub last : List ℕ → List (List ℕ) → List ℕ
 last d [] = d
 last d (text ∷ texts) = last text texts
 
-last_append : (d : List ℕ) (texts : List (List ℕ)) (text : List ℕ) → last d (texts ++ text ∷ []) ≡ text
+pub last_append : (d : List ℕ) (texts : List (List ℕ)) (text : List ℕ) → last d (texts ++ text ∷ []) ≡ text
 unfolding last
 last_append d [] text = refl
 last_append d (x ∷ texts) text = last_append x texts text

@@ -111,7 +111,7 @@ module _ (holds : List ℕ → Held) (script : List ℕ) (call : Call) (told : A
           q.accepted))
           ∙ q.spelled)
 
-  call_begins : (outcome : Outcome) → CallComes call holds script outcome → BeginWith outcome.out lines
+  call_begins : (outcome : Outcome) → CallComes call holds (Some script) outcome → BeginWith outcome.out lines
   call_begins _ (refused line r) =
       absurd (not_both holds (files_of call) (p.text ∷ p.behind) line told p.accepted r)
   call_begins _ (finished all status q) =
@@ -137,7 +137,7 @@ module _ (words : List (List ℕ)) (holds : List ℕ → Held) (input input_now 
       call_begins holds script call (told call spelled) p input_now.left lines
       (subst (λ (text : Option (List ℕ)). AnswerTaken p.session p.settings.show text input_now.left lines)
       comes_in
-      taken) outcome (call_comes words holds script call outcome spelled is)
+      taken) outcome (call_comes words holds (Some script) call outcome spelled is)
 
   part_begins : HasPart words holds input input_now out out_now
       → AppendsSome out.written out_now.written (concat outcome.out)

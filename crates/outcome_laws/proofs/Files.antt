@@ -38,7 +38,7 @@ module _ (earlier : List (List ℕ)) (kind : Kind) (held : Held) (told : held �
       → one ≡ other
   same_accepted one other is also = same_whole held (limit_of kind) one other told is.0 also.0
 
-  accepted_not_refused : (text line : List ℕ) → IsAccepted earlier kind held text
+  pub accepted_not_refused : (text line : List ℕ) → IsAccepted earlier kind held text
       → IsRefused earlier kind held line → ⊥
   accepted_not_refused text line is (too_long longer e) =
       not_longer held (limit_of kind) text told is.0 longer
@@ -62,13 +62,64 @@ module _ (earlier : List (List ℕ)) (kind : Kind) (held : Held) (told : held �
       same_line one other (sym fault ∙ both ∙ wrong)
 
 -- files that are accepted in turn up to one that is refused
-abbrev ComesToRefusal : (List ℕ → Held) → List (List ℕ) → List File → List ℕ → Type 0
+abbrev pub ComesToRefusal : (List ℕ → Held) → List (List ℕ) → List File → List ℕ → Type 0
 ComesToRefusal holds earlier [] line = ⊥
 ComesToRefusal holds earlier (file ∷ files) line = IsRefused earlier file.kind (holds file.name) line
     ⊎ ((text : List ℕ) × IsAccepted earlier file.kind (holds file.name) text
     × ComesToRefusal holds (earlier ++ text ∷ []) files line)
 
+-- where files stop that come to a refusal
+record StopsIn (holds : List ℕ → Held) (earlier : List (List ℕ)) (files : List File) (line : List ℕ) : Type 0
+  where
+    before : List File
+    file : File
+    behind : List File
+    texts : List (List ℕ)
+    all : files ≡ before ++ file ∷ behind
+    accepted : AreAccepted holds earlier before texts
+    refused : IsRefused (earlier ++ texts) file.kind (holds file.name) line
+
 module _ (holds : List ℕ → Held) where
+  stops_in : (earlier : List (List ℕ)) (files : List File) (line : List ℕ)
+      → ComesToRefusal holds earlier files line → StopsIn holds earlier files line
+  stops_in earlier [] line is = absurd is
+  stops_in earlier (file ∷ files) line (inl is) = record {
+    before = [];
+    file = file;
+    behind = files;
+    texts = [];
+    all = refl;
+    accepted = tt;
+    refused = subst (λ (e : List (List ℕ)). IsRefused e file.kind (holds file.name) line)
+        (sym (append-nil earlier)) is;
+  }
+  stops_in earlier (file ∷ files) line (inr later) =
+      let rest = stops_in (earlier ++ later.0 ∷ []) files line later.2 in record {
+        before = file ∷ rest.before;
+        file = rest.file;
+        behind = rest.behind;
+        texts = later.0 ∷ rest.texts;
+        all = ap (λ (fs : List File). file ∷ fs) rest.all;
+        accepted = (later.1, rest.accepted);
+        refused = subst (λ (e : List (List ℕ)). IsRefused e rest.file.kind (holds rest.file.name) line)
+            (append_assoc earlier (later.0 ∷ []) rest.texts) rest.refused;
+      }
+
+  pub refuses : (files : List File) (line : List ℕ) → ComesToRefusal holds [] files line
+      → HasRefused holds files line
+  refuses files line comes =
+      let stop = stops_in [] files line comes in record {
+        file = stop.file;
+        comes = record {
+          before = stop.before;
+          behind = stop.behind;
+          all = stop.all;
+          texts = stop.texts;
+          accepted = stop.accepted;
+        };
+        refused = stop.refused;
+      }
+
   comes_to : (earlier : List (List ℕ)) (before : List File) (file : File) (behind : List File)
       (texts : List (List ℕ)) (line : List ℕ) → AreAccepted holds earlier before texts
       → IsRefused (earlier ++ texts) file.kind (holds file.name) line
@@ -84,7 +135,7 @@ module _ (holds : List ℕ → Held) where
         IsRefused e file.kind (holds file.name) line) (sym (append_assoc earlier (text ∷ []) texts)) is),
   )
 
-  comes : (files : List File) (line : List ℕ) → HasRefused holds files line
+  pub comes : (files : List File) (line : List ℕ) → HasRefused holds files line
       → ComesToRefusal holds [] files line
   comes files line has = subst (λ (f : List File). ComesToRefusal holds [] f line) (sym has.comes.all)
       (comes_to [] has.comes.before has.file has.comes.behind has.comes.texts line has.comes.accepted

@@ -34,3 +34,11 @@ pub mod Alike
 pub mod SmallMaps
 pub mod Only
 pub mod Begun
+pub mod Refusing
+pub mod Reached
+pub mod Moved
+pub mod Answered
+pub mod Checked
+pub mod Loading
+pub mod Loaded
+pub mod Existing

@@ -42,15 +42,15 @@ use Rattle.outcome_laws.proofs.Asked.{Answers, asked_so}
 use Rattle.outcome_laws.proofs.SmallMaps.{AreAlike, same_alike, small_alike}
 
 -- what a call comes to, where its words are not refused
-pub data CallComes (call : Call) (holds : List ℕ → Held) (script : List ℕ) : Outcome → Type 0 where
+pub data CallComes (call : Call) (holds : List ℕ → Held) (input : Option (List ℕ)) : Outcome → Type 0 where
   refused : (line : List ℕ) → HasRefused holds (files_of call) line
-      → CallComes call holds script (record { status = 3; out = []; line = line })
+      → CallComes call holds input (record { status = 3; out = []; line = line })
   finished : (lines : List (List ℕ)) (status : ℕ) → IsOutput call holds lines status
-      → CallComes call holds script (record { status = status; out = lines; line = [] })
-  replied : (lines : List (List ℕ)) → AreHeard call holds (Some script) lines None
-      → CallComes call holds script (record { status = 0; out = lines; line = [] })
-  broken : (lines : List (List ℕ)) (line : List ℕ) → AreHeard call holds (Some script) lines (Some line)
-      → CallComes call holds script (record { status = 3; out = lines; line = line })
+      → CallComes call holds input (record { status = status; out = lines; line = [] })
+  replied : (lines : List (List ℕ)) → AreHeard call holds input lines None
+      → CallComes call holds input (record { status = 0; out = lines; line = [] })
+  broken : (lines : List (List ℕ)) (line : List ℕ) → AreHeard call holds input lines (Some line)
+      → CallComes call holds input (record { status = 3; out = lines; line = line })
 
 call_or : Call → Option Call → Call
 call_or d None = d
@@ -61,24 +61,24 @@ unfolding call_or
 same_call words call other one two = ap (call_or call) (sym one ∙ two)
 
 -- an outcome of words that spell a call
-pub call_comes : (words : List (List ℕ)) (holds : List ℕ → Held) (script : List ℕ) (call : Call)
+pub call_comes : (words : List (List ℕ)) (holds : List ℕ → Held) (input : Option (List ℕ)) (call : Call)
     (outcome : Outcome)
-    → Spell words call → IsOutcome words holds (Some script) outcome → CallComes call holds script outcome
-call_comes words holds script call _ spelled (bad_word number bad) =
+    → Spell words call → IsOutcome words holds input outcome → CallComes call holds input outcome
+call_comes words holds input call _ spelled (bad_word number bad) =
     absurd (none_of_calls words call number spelled bad)
-call_comes words holds script call _ spelled (bad_text other line also is) =
+call_comes words holds input call _ spelled (bad_text other line also is) =
     refused line (subst (λ (c : Call). HasRefused holds (files_of c) line)
     (same_call words other call also spelled) is)
-call_comes words holds script call _ spelled (done other lines status also is) =
+call_comes words holds input call _ spelled (done other lines status also is) =
     finished lines status
     (subst (λ (c : Call). IsOutput c holds lines status) (same_call words other call also spelled) is)
-call_comes words holds script call _ spelled (answered other lines also is) =
+call_comes words holds input call _ spelled (answered other lines also is) =
     replied lines
-    (subst (λ (c : Call). AreHeard c holds (Some script) lines None) (same_call words other call also spelled)
+    (subst (λ (c : Call). AreHeard c holds input lines None) (same_call words other call also spelled)
     is)
-call_comes words holds script call _ spelled (bad_line other lines line also is) =
+call_comes words holds input call _ spelled (bad_line other lines line also is) =
     broken lines line
-    (subst (λ (c : Call). AreHeard c holds (Some script) lines (Some line))
+    (subst (λ (c : Call). AreHeard c holds input lines (Some line))
     (same_call words other call also spelled)
     is)
 
@@ -263,7 +263,7 @@ module _ (holds : List ℕ → Held) (script : List ℕ) (call like : Call) (ali
       none h = h
 
   both_same : AreAlike holds (files_of call) (files_of like) → Same → HeardSame → (one other : Outcome)
-      → CallComes call holds script one → CallComes like holds script other → one ≡ other
+      → CallComes call holds (Some script) one → CallComes like holds (Some script) other → one ≡ other
   unfolding HeardSame
   both_same files same heard _ _ (refused a p) (refused b q) =
       ap (λ (line : List ℕ). record { status = 3; out = []; line = line })
@@ -351,7 +351,8 @@ module _ (holds : List ℕ → Held) (script : List ℕ) (call like : Call) (ali
         (same_small call.settings.pick like.settings.pick way)
         call.request ∙ ap (λ (asked : Asked). files_of (call_with asked like.settings)) alike.request
 
-    one_outcome : (one other : Outcome) → CallComes call holds script one → CallComes like holds script other
+    one_outcome : (one other : Outcome) → CallComes call holds (Some script) one
+        → CallComes like holds (Some script) other
         → one ≡ other
     one_outcome = both_same (same_alike holds (files_of call) (files_of like) files_one_way) one_way
         heard_one_way
@@ -379,7 +380,7 @@ module _ (holds : List ℕ → Held) (script : List ℕ) (call like : Call) (ali
     one_cost_outcome : (one other : Outcome)
         → (is_for_small_maps call.settings.pick ≡ is_for_small_maps like.settings.pick)
         ⊎ ((one.status ≢ 3) × (other.status ≢ 3)) ⊎ HasSmallMap holds call.request
-        → CallComes call holds script one → CallComes like holds script other → one ≡ other
+        → CallComes call holds (Some script) one → CallComes like holds (Some script) other → one ≡ other
     one_cost_outcome one other (inl small) p q =
         both_same
         (same_alike holds (files_of call) (files_of like) (same_files call.settings like.settings alike.rule
@@ -393,8 +394,8 @@ module _ (holds : List ℕ → Held) (script : List ℕ) (call like : Call) (ali
     one_cost_outcome one other (inr (inl few)) p q = by_ends one other few p q
       where
         by_ends : (one other : Outcome) → (one.status ≢ 3) × (other.status ≢ 3)
-            → CallComes call holds script one
-            → CallComes like holds script other → one ≡ other
+            → CallComes call holds (Some script) one
+            → CallComes like holds (Some script) other → one ≡ other
         by_ends _ _ few (refused a p) q = absurd (few.0 refl)
         by_ends _ _ few (broken lines line p) q = absurd (few.0 refl)
         by_ends _ _ few (replied lines p) q = not_live call refl p
@@ -428,8 +429,8 @@ module _ (words : List (List ℕ)) (holds : List ℕ → Held) (script : List �
   spelled_one : (call : Call) → Spell words call → one ≡ other
   spelled_one call spelled =
       one_outcome holds script call call (record { request = refl; show = refl; rule = refl })
-      (told call spelled) refl one other (call_comes words holds script call one spelled p)
-      (call_comes words holds script call other spelled q)
+      (told call spelled) refl one other (call_comes words holds (Some script) call one spelled p)
+      (call_comes words holds (Some script) call other spelled q)
 
   by_words : IsBadIn words one ⊎ ((call : Call) × Spell words call)
       → IsBadIn words other ⊎ ((call : Call) × Spell words call) → one ≡ other
@@ -454,7 +455,8 @@ pub jumps_same : (words others : List (List ℕ)) (call like : Call) (holds : Li
 jumps_same words others call like holds script one other told spelled also alike jump jumps p q =
     one_outcome holds script call like alike told
     (jump_way call.settings.pick jump ∙ sym (jump_way like.settings.pick jumps)) one other
-    (call_comes words holds script call one spelled p) (call_comes others holds script like other also q)
+    (call_comes words holds (Some script) call one spelled p)
+    (call_comes others holds (Some script) like other also q)
 
 pub costs_same : (words others : List (List ℕ)) (call like : Call) (holds : List ℕ → Held) (script : List ℕ)
     (one other : Outcome) → AreTold holds (files_of call) → Spell words call → Spell others like
@@ -464,4 +466,5 @@ pub costs_same : (words others : List (List ℕ)) (call like : Call) (holds : Li
     → IsOutcome words holds (Some script) one → IsOutcome others holds (Some script) other → one ≡ other
 costs_same words others call like holds script one other told spelled also alike costs maps p q =
     one_cost_outcome holds script call like alike told costs one other maps
-    (call_comes words holds script call one spelled p) (call_comes others holds script like other also q)
+    (call_comes words holds (Some script) call one spelled p)
+    (call_comes others holds (Some script) like other also q)

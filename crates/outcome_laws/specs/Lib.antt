@@ -12,3 +12,5 @@ pub mod Alike
 pub mod Forgetting
 pub mod Lines
 pub mod Outcomes
+pub mod Loaded
+pub mod Existing

@@ -12,5 +12,5 @@ pub mod of_replies;
 
 pub use of_outcomes::{
     engines_print_the_same_costs, jump_engines_print_the_same, outcomes_are_one,
-    written_begins_the_output,
+    outcomes_exist_for_shown, with_tables_the_same, written_begins_the_output,
 };

@@ -1,6 +1,7 @@
 //! Laws of words, files and printed texts: each is the contract of a call that does nothing.
 
 ghost use Rattle.outcome_laws.specs.Certificates.{CertificatesAreOne, ProofsAreOne, RefusalsAreOne, VerdictsAreOne};
+ghost use Rattle.outcome_laws.specs.Existing.{AcceptedOrRefusedExist, BadWordsExist, VerdictsExist};
 ghost use Rattle.outcome_laws.specs.Files.{AcceptedTextsAreOne, RefusedLinesAreOne, AcceptedOrRefused};
 ghost use Rattle.outcome_laws.specs.Rulings.{JudgementsAreOne, RulingsAreOne};
 ghost use Rattle.outcome_laws.specs.Agreeing.{LengthsAgree, ProblemsAgree};
@@ -16,6 +17,16 @@ pub fn bad_words_are_one()
 /// Words that spell a call have no bad word.
 pub fn calls_have_none()
     ensures { CallsHaveNone }
+{}
+
+/// Words that spell no call have a bad word.
+pub fn bad_words_exist()
+    ensures { BadWordsExist }
+{}
+
+/// Files that are there are all accepted in turn, or one is the first refused.
+pub fn accepted_or_refused_exist()
+    ensures { AcceptedOrRefusedExist }
 {}
 
 /// Files that are told hold at most one list of texts that are accepted in turn.
@@ -67,6 +78,11 @@ pub fn refusals_are_one()
 /// both.
 pub fn verdicts_are_one()
     ensures { VerdictsAreOne }
+{}
+
+/// A certificate that is read has a verdict, on each grid.
+pub fn verdicts_exist()
+    ensures { VerdictsExist }
 {}
 
 /// What is told of the walks between two cells has one judgement.

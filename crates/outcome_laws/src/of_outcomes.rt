@@ -2,6 +2,8 @@
 
 ghost use Rattle.outcome_laws.specs.Outcomes.{OutcomesAreOne, JumpEnginesPrintTheSame, EnginesPrintTheSameCosts};
 ghost use Rattle.outcome_laws.specs.Outcomes.{WrittenBeginsTheOutput};
+ghost use Rattle.outcome_laws.specs.Loaded.{WithTablesTheSame};
+ghost use Rattle.outcome_laws.specs.Existing.{OutcomesExistForShown};
 
 /// Words come to at most one outcome, where the files that they name and the input are told: one status, one
 /// output, and one line on `err`.
@@ -29,4 +31,18 @@ pub fn engines_print_the_same_costs()
 /// for want of memory. The files and the input are told.
 pub fn written_begins_the_output()
     ensures { WrittenBeginsTheOutput }
+{}
+
+/// A call with `engine=plus` and `tables=` that names an accepted file, one of its map and rule, has the
+/// outcomes of the call without `tables=`, and no others. It is told what that file holds; whatever else is
+/// told of files and input.
+pub fn with_tables_the_same()
+    ensures { WithTablesTheSame }
+{}
+
+/// Words that spell no call come to an outcome. So do words that spell one, where each file that they name is
+/// there and the input is told, if a file is refused, or if what they ask for is none of `prove`, `check` and
+/// `problems`.
+pub fn outcomes_exist_for_shown()
+    ensures { OutcomesExistForShown }
 {}

@@ -1,0 +1,191 @@
+-- From each free cell there are first moves, and walks of them.
+use Rattle.std.proofs.Common.{◌≡◌, ◌⊎◌, inl, inr, refl, sym, ap, ◌∙◌, subst, ℕ, zero, suc, ◌*◌, ◌/◌, ◌%◌}
+use Rattle.std.proofs.Common.{◌<◌, arith, Bool, true, false, List, [], ◌∷◌, length}
+use Rattle.std.specs.Prelude.{Option, Some, None, IsTrue, ◌↔◌, slice_index_or, codes}
+use Rattle.std.proofs.lemmas.Bool.Decides.{nat_tests}
+use Rattle.std.proofs.lemmas.Nat.{div-mul-add, mod-mul-add}
+use Rattle.root2_cost.specs.declared.Cost.{Cost}
+use Rattle.root2_cost.proofs.AtMost.{IsAtMost-not_more, IsAtMost-or_more}
+use Rattle.grid_moves.specs.declared.Cell.{Cell}
+use Rattle.grid_moves.specs.declared.Dir.{Dir}
+use Rattle.grid_moves.specs.Grid.{GridData, cell_number, is_free, is_inside}
+use Rattle.grid_moves.specs.Layers.{Layers, is_free_ground, is_on_map, query_grid}
+use Rattle.grid_moves.specs.Move.{all_dirs, legal_ahead}
+use Rattle.grid_moves.specs.Walk.{cost_of}
+use Rattle.grid_moves.proofs.Ahead.{legal_ahead-is}
+use Rattle.grid_moves.proofs.Legal.{legal_is, same_cell}
+use Rattle.grid_moves.proofs.Short.{least_rest}
+use Rattle.cost_waves.specs.Begin.{Begins, IsCostTo}
+use Rattle.cost_waves.proofs.Falling.{goes_over, least_by_move, least_on}
+use Rattle.first_moves.specs.Existence.{HasFollowed}
+use Rattle.first_moves.specs.First.{IsFirstMove, first_where}
+use Rattle.first_moves.specs.Row.{AreMoves, IsRow, MovesData}
+use Rattle.first_moves.specs.Runs.{runs_of}
+use Rattle.first_moves.specs.declared.row.Run.{Run}
+use Rattle.first_moves.proofs.Leading.{has_followed}
+use Rattle.first_moves.proofs.Picking.{below_all, first_is}
+use Rattle.first_moves.proofs.Rows.{without_moves}
+use Rattle.grid_answers.specs.RunLines.{IsRunText, blocked, outside, runs_text, told}
+use Rattle.outcome_laws.proofs.Reached.{cost_exists, on_grid}
+
+-- a move begins a least walk, or it does not
+module _ (g : GridData) (u : Cell) (d : Dir) (t : Cell) where
+  abbrev Decided : Type 0
+  Decided = (Begins g u t d) ⊎ (Begins g u t d → ⊥)
+
+  by_costs : (v : Cell) → legal_ahead g u d ≡ Some v → (o p : Option Cost) → IsCostTo g u t o
+      → IsCostTo g v t p → Decided
+  by_costs v e None p here there = inr (λ b. here (b.next ∷ b.cells) b.least.walk)
+  by_costs v e (Some cost) None here there = inr (λ b.
+      let o = goes_over g u v t d e b in there o.cells (least_rest g u t v o.cells o.least).walk)
+  by_costs v e (Some cost) (Some rest) here there =
+      elim (IsAtMost-or_more (cost_of (u ∷ v ∷ there.cells)) (cost_of (u ∷ here.cells))) [
+        | inl a ↦ inl (record {
+          next = v;
+          ahead = e;
+          cells = there.cells;
+          least = least_by_move g u v t d here.cells there.cells e here.least there.least.walk a;
+        })
+        | inr more ↦ inr (λ b. IsAtMost-not_more (cost_of (u ∷ v ∷ there.cells)) (cost_of (u ∷ here.cells))
+            ((least_on g u v t d there.cells e b there.least).least here.cells here.least.walk) more)
+      ]
+
+  by_ahead : is_free g u ≡ true → (o : Option Cell) → legal_ahead g u d ≡ o → Decided
+  by_ahead free None e = inr (λ b. let p : None ≡ Some b.next = sym e ∙ b.ahead in absurd (cc))
+  by_ahead free (Some v) e =
+      let here = cost_exists g u t free in
+      let there = cost_exists g v t (legal_is g u v (legal_ahead-is g u v d e)).target in
+      by_costs v e here.0 there.0 here.1 there.1
+
+  begins_or_not : is_free g u ≡ true → Decided
+  begins_or_not free = by_ahead free (legal_ahead g u d) refl
+
+yes_or_no : {A : Type 0} → A ⊎ (A → ⊥) → Bool
+yes_or_no (inl a) = true
+yes_or_no (inr none) = false
+
+told_by : {A : Type 0} (decided : A ⊎ (A → ⊥)) → IsTrue (yes_or_no decided) ↔ A
+unfolding yes_or_no
+told_by (inl a) = (λ e. a, λ b. refl)
+told_by (inr none) = (λ e. absurd (cc), λ b. absurd (none b))
+
+-- the first move to each cell
+module _ (g : GridData) (s : Cell) (free : is_free g s ≡ true) where
+  has : Cell → Dir → Bool
+  has t d = yes_or_no (begins_or_not g s d t free)
+
+  first_exists : (t : Cell) → (move : Option Dir) × IsFirstMove g s t move
+  unfolding has
+  first_exists t =
+      let cost = cost_exists g s t free in (
+        first_where (has t) all_dirs,
+        first_is g s t (has t) (λ d. told_by (begins_or_not g s d t free)) cost.0 cost.1,
+      )
+
+-- what a function tells of the first numbers
+upto : {X : Type 0} → ℕ → (ℕ → X) → List X
+upto zero f = []
+upto (suc n) f = f 0 ∷ upto n (λ k. f (suc k))
+
+upto_length : {X : Type 0} (n : ℕ) (f : ℕ → X) → length (upto n f) ≡ n
+unfolding upto
+upto_length zero f = refl
+upto_length (suc n) f = ap (λ (k : ℕ). suc k) (upto_length n (λ k. f (suc k)))
+
+upto_at : {X : Type 0} (n : ℕ) (f : ℕ → X) (k : ℕ) (d : X) → k < n → slice_index_or (upto n f) k d ≡ f k
+unfolding upto
+upto_at zero f k d below = absurd (omega arith)
+upto_at (suc n) f zero d below = refl
+upto_at (suc n) f (suc k) d below = upto_at n (λ j. f (suc j)) k d (omega arith)
+
+-- the cell with a number, on a map of this width
+numbered : ℕ → ℕ → Cell
+numbered width k = record { x = k % width; y = k / width }
+
+numbered_is : (g : GridData) (t : Cell) → is_inside g t ≡ true
+    → numbered g.width (cell_number g.width t) ≡ t
+unfolding numbered
+numbered_is g t inside =
+    let x : t.x < g.width = grind (arith, nat_tests) in
+    same_cell (numbered g.width (cell_number g.width t)) t (mod-mul-add t.y g.width t.x x)
+    (div-mul-add t.y g.width t.x x)
+
+-- the row of a free cell
+module _ (g : GridData) (s : Cell) (free : is_free g s ≡ true) where
+  move_to : ℕ → Option Dir
+  move_to k = (first_exists g s free (numbered g.width k)).0
+
+  members : List (Option Dir)
+  members = upto (g.height * g.width) move_to
+
+  member_is : (t : Cell) → is_inside g t ≡ true
+      → IsFirstMove g s t (slice_index_or members (cell_number g.width t) None)
+  unfolding members move_to
+  member_is t inside =
+      subst (λ (o : Option Dir). IsFirstMove g s t o)
+      (sym (upto_at (g.height * g.width) move_to (cell_number g.width t) None (below_all g t inside)))
+      (subst (λ (c : Cell). IsFirstMove g s c (move_to (cell_number g.width t))) (numbered_is g t inside)
+      (first_exists g s free (numbered g.width (cell_number g.width t))).1)
+
+  row_exists : (runs : List Run) × IsRow g s runs
+  unfolding members
+  row_exists = (
+    runs_of members,
+    record {
+      members = members;
+      whole = upto_length (g.height * g.width) move_to;
+      moves = member_is;
+      cut = refl;
+    },
+  )
+
+pub runs_exist : (ls : Layers) (s : Cell) → (text : List ℕ) × IsRunText ls s text
+runs_exist ls s = by_map (is_on_map ls s) refl
+  where
+    by_ground : is_on_map ls s ≡ true → (b : Bool) → is_free_ground ls s ≡ b
+        → (text : List ℕ) × IsRunText ls s text
+    by_ground on false e = (codes "blocked\n", blocked on e)
+    by_ground on true e =
+        let row = row_exists (query_grid ls s) s (on_grid ls s e) in
+        (runs_text (query_grid ls s).width row.0, told row.0 e row.1)
+
+    by_map : (b : Bool) → is_on_map ls s ≡ b → (text : List ℕ) × IsRunText ls s text
+    by_map false e = (codes "outside\n", outside e)
+    by_map true e = by_ground e (is_free_ground ls s) refl
+
+-- all rows of a grid
+module _ (g : GridData) where
+  row_of : (s : Cell) (b : Bool) → is_free g s ≡ b
+      → (runs : List Run) × (is_inside g s ≡ true → IsRow g s runs)
+  row_of s true free = let row = row_exists g s free in (row.0, λ inside. row.1)
+  row_of s false shut =
+      (record { start = 0; first = None } ∷ [], λ inside. without_moves g s inside shut)
+
+  row_with : ℕ → List Run
+  row_with k = (row_of (numbered g.width k) (is_free g (numbered g.width k)) refl).0
+
+  rows : List (List Run)
+  rows = upto (g.height * g.width) row_with
+
+  row_at_cell : (s : Cell) → is_inside g s ≡ true
+      → IsRow g s (slice_index_or rows (cell_number g.width s) [])
+  unfolding rows row_with
+  row_at_cell s inside =
+      let k : ℕ = cell_number g.width s in
+      let c : Cell = numbered g.width k in
+      let same : c ≡ s = numbered_is g s inside in
+      let within : is_inside g c ≡ true = ap (λ (d : Cell). is_inside g d) same ∙ inside in
+      subst (λ (runs : List Run). IsRow g s runs)
+      (sym (upto_at (g.height * g.width) row_with k [] (below_all g s inside)))
+      (subst (λ (d : Cell). IsRow g d (row_with k)) same ((row_of c (is_free g c) refl).1 within))
+
+  pub moves_exist : (m : MovesData) × AreMoves g m
+  moves_exist = (
+    record { width = g.width; height = g.height; rows = rows },
+    record { width = refl; height = refl; rows = row_at_cell },
+  )
+
+pub followed_exists : (g : GridData) (s t : Cell) → is_free g s ≡ true → is_free g t ≡ true
+    → HasFollowed g s t
+followed_exists g s t from to =
+    let m = moves_exist g in has_followed g m.0 m.1 t to s from

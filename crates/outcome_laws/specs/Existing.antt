@@ -1,0 +1,50 @@
+-- That a call comes to an outcome at all.
+use Rattle.std.specs.Prelude.{◌≡◌, ⊤, ◌⊎◌, ℕ, false, List, [], ◌∷◌, Some}
+use Rattle.grid_moves.specs.Grid.{GridData}
+use Rattle.io_edge.specs.Told.{Held, holding}
+use Rattle.potential_check.specs.declared.certificate.Certificate.{Certificate}
+use Rattle.word_list.specs.Calls.{is_call}
+use Rattle.word_list.specs.Request.{Asked, Call, Prove, Check}
+use Rattle.word_list.specs.Request.{Problems}
+use Rattle.word_list.specs.Rule.{IsBadWord}
+use Rattle.call_files.specs.Files.{AreAccepted, File, HasRefused}
+use Rattle.grid_answers.specs.Certificates.{IsVerdict}
+use Rattle.jps_run.specs.Calls.{files_of}
+use Rattle.jps_run.specs.Outcome.{IsOutcome, Outcome, Spell}
+
+-- words that spell no call have a bad word
+abbrev pub BadWordsExist : Type 0
+BadWordsExist = (words : List (List ℕ)) → is_call words ≡ false
+    → (number : ℕ) × IsBadWord is_call words number
+
+-- under the name of each of the files stands a file
+abbrev pub ArePresent : (List ℕ → Held) → List File → Type 0
+ArePresent holds [] = ⊤
+ArePresent holds (file ∷ files) = ((bytes : List ℕ) × (holds file.name ≡ holding bytes))
+    × ArePresent holds files
+
+-- files that are present are all accepted in turn, or one is the first refused
+abbrev pub AcceptedOrRefusedExist : Type 0
+AcceptedOrRefusedExist = (holds : List ℕ → Held) (files : List File) → ArePresent holds files
+    → ((texts : List (List ℕ)) × AreAccepted holds [] files texts)
+    ⊎ ((line : List ℕ) × HasRefused holds files line)
+
+-- a certificate has a verdict on each grid
+abbrev pub VerdictsExist : Type 0
+VerdictsExist = (g : GridData) (c : Certificate) → (line : List ℕ) × (status : ℕ) × IsVerdict g c line status
+
+-- what is asked for is shown here to be answered, where each of its files is accepted: all but `prove`,
+-- `check` and `problems`
+abbrev pub IsShown : Asked → Type 0
+IsShown (Prove map sx sy gx gy) = ⊥
+IsShown (Check map cert) = ⊥
+IsShown (Problems map seed count) = ⊥
+IsShown other = ⊤
+
+-- Where words spell no call, they come to an outcome; where they spell one whose files are all present, and
+-- the input is told, they come to one if a file is refused, or if the call is one of those that are shown.
+abbrev pub OutcomesExistForShown : Type 0
+OutcomesExistForShown = (words : List (List ℕ)) (holds : List ℕ → Held) (script : List ℕ)
+    → ((call : Call) → Spell words call → ArePresent holds (files_of call)
+    × (IsShown call.request ⊎ ((line : List ℕ) × HasRefused holds (files_of call) line)))
+    → (outcome : Outcome) × IsOutcome words holds (Some script) outcome
