@@ -1,13 +1,14 @@
 -- What was written with least lengths agrees.
 use Rattle.std.proofs.Common.{◌≡◌, refl, ap, sym, ◌∙◌, subst, arith, inl, inr, true, false, Bool, ◌&&◌, ℕ}
 use Rattle.std.proofs.Common.{zero, suc, ◌+◌, ◌^◌, ◌<◌, ◌≤◌, List, [], ◌∷◌, ◌++◌, length}
-use Rattle.std.specs.Prelude.{⊤, Ok, Some, None, nat_eq, slice_get}
+use Rattle.std.specs.Prelude.{⊤, Ok, Some, None, cond, nat_eq, slice_get, codes, count_by, decimal, ◌||◌}
 use Rattle.std.specs.List.{All, concat, list_all}
 use Rattle.std.proofs.lemmas.Bool.Decides.{nat_tests}
 use Rattle.std.proofs.lemmas.List.Elements.{All-cons, All-head, All-tail}
-use Rattle.std.proofs.lemmas.List.Sorted.{All-permutation}
+use Rattle.std.proofs.lemmas.List.Sorted.{All-permutation, length_permutation}
+use Rattle.std.proofs.lemmas.List.Sums.{sum_by-cons}
 use Rattle.root2_cost.specs.declared.Cost.{Cost}
-use Rattle.root2_cost.specs.declared.lengths.Verdict.TheVariants.{Agree}
+use Rattle.root2_cost.specs.declared.lengths.Verdict.TheVariants.{Agree, Near, Off}
 use Rattle.root2_cost.specs.Length.{eight_places}
 use Rattle.root2_cost.specs.Verdict.{verdict_of}
 use Rattle.root2_cost.proofs.Rounding.{nearest_agrees}
@@ -29,7 +30,7 @@ use Rattle.problem_maker.specs.declared.tries.Ends.{Ends}
 use Rattle.scen_lines.specs.declared.line.Problem as lines
 use Rattle.scen_lines.specs.Laws.{AreReadable, IsReadable, Named, entries_from, entries_of, entry_at, line_of}
 use Rattle.scen_lines.specs.Laws.{lines_of, scenario_of}
-use Rattle.scen_lines.specs.Line.{IsOfCost, version_line}
+use Rattle.scen_lines.specs.Line.{IsOfCost, length_text, problem_text, version_line}
 use Rattle.scen_lines.specs.Naming.{name_of}
 use Rattle.scen_lines.proofs.Names.{word_name}
 use Rattle.scen_lines.proofs.Read.{scenario_spells}
@@ -44,12 +45,78 @@ use Rattle.scen_maker.specs.Problems.{AreProblemLines, AreProblems, ArePriced, q
 use Rattle.scen_maker.specs.Settling.{IsSettled, has_sides, least_in}
 use Rattle.scen_maker.specs.declared.costs.Settled.{Settled}
 use Rattle.scen_maker.specs.declared.costs.Settled.TheVariants as settled
-use Rattle.jps_run.specs.Rows.{AreRows, IsRow, is_agree, replied, row_of, scale}
+use Rattle.jps_run.specs.Rows.{AreRows, IsRow, is_agree, is_near, is_off, is_other, replied, row_of, scale}
 use Rattle.jps_run.specs.Who.{Who}
 use Rattle.jps_run.specs.declared.replies.row.Row.{Row}
-use Rattle.outcome_laws.specs.Agreeing.{IsAgreed}
+use Rattle.jps_run.specs.declared.replies.row.Row.TheVariants as row
+use Rattle.outcome_laws.specs.Agreeing.{AllAgree, IsAgreed, is_line}
 use Rattle.outcome_laws.proofs.Ground.{ends_free, ends_on, not_both, query_whole}
 use Rattle.outcome_laws.proofs.Least.{least_one}
+
+-- one more
+one_more : (m n : ℕ) → m ≡ n → 1 + m ≡ suc n
+one_more m n e = omega (arith, e)
+
+-- a list with one more that passes, and with one that does not
+counts_one : {X : Type 0} (p : X → Bool) (x : X) (xs : List X) (n : ℕ) → p x ≡ true → count_by p xs ≡ n
+    → count_by p (x ∷ xs) ≡ suc n
+counts_one p x xs n h e =
+    sum_by-cons (λ y. cond (p y) 1 0) x xs ∙ ap (λ (b : Bool). cond b 1 0 + count_by p xs) h
+    ∙ one_more (count_by p xs) n e
+
+none_more : (m n : ℕ) → m ≡ n → 0 + m ≡ n
+none_more m n e = omega (arith, e)
+
+counts_none : {X : Type 0} (p : X → Bool) (x : X) (xs : List X) (n : ℕ) → p x ≡ false → count_by p xs ≡ n
+    → count_by p (x ∷ xs) ≡ n
+counts_none p x xs n h e =
+    sum_by-cons (λ y. cond (p y) 1 0) x xs ∙ ap (λ (b : Bool). cond b 1 0 + count_by p xs) h
+    ∙ none_more (count_by p xs) n e
+
+-- rows that are all `agree`
+agree_all : (rows : List Row) → list_all is_agree rows ≡ true
+    → (count_by is_agree rows ≡ length rows) × (count_by is_near rows ≡ 0) × (count_by is_off rows ≡ 0)
+    × (count_by is_other rows ≡ 0) × (list_all (λ r. is_agree r || is_near r) rows ≡ true)
+agree_all [] h = (refl, refl, refl, refl, refl)
+agree_all (row.Judged Agree cost taken ∷ rows) h =
+    let t = agree_all rows h in
+    let r : Row = row.Judged Agree cost taken in (
+      counts_one is_agree r rows (length rows) refl t.0,
+      counts_none is_near r rows 0 refl t.1,
+      counts_none is_off r rows 0 refl t.2,
+      counts_none is_other r rows 0 refl t.3,
+      t.4,
+    )
+agree_all (row.Judged Near cost taken ∷ rows) h = absurd (cc)
+agree_all (row.Judged Off cost taken ∷ rows) h = absurd (cc)
+agree_all (row.Scale ∷ rows) h = absurd (cc)
+agree_all (row.Outside ∷ rows) h = absurd (cc)
+agree_all (row.Blocked ∷ rows) h = absurd (cc)
+agree_all (row.None taken ∷ rows) h = absurd (cc)
+
+all_agree : (many : ℕ) (rows : List Row) → length rows ≡ many → list_all is_agree rows ≡ true
+    → AllAgree many rows
+all_agree many rows e h =
+    let t = agree_all rows h in
+    record {
+      agree = h;
+      all = e;
+      counted = t.0 ∙ e;
+      near = t.1;
+      off = t.2;
+      other = t.3;
+      status = rw t.4 refl;
+    }
+
+-- a line whose end is there is there
+is_there : (before behind : List ℕ) → is_line behind ≡ true → is_line (before ++ behind) ≡ true
+is_there [] behind h = h
+is_there (first ∷ before) behind h = refl
+
+line_there : (n : Named) → is_line (line_of n) ≡ true
+line_there n =
+    is_there (decimal n.listed.bucket ++ codes "\t" ++ n.name ++ problem_text n.listed.problem
+    ++ codes "\t" ++ length_text n.listed.units) (codes "\n") refl
 
 -- the ends of a written entry
 abbrev from_of : Named → Cell
@@ -173,12 +240,29 @@ module _ (ls : Layers) (are : AreLayers ls) where
       ap (λ (b : Bool). b && list_all is_agree rows) (row_agrees who same n c.0 number place r t.0)
       ∙ rows_agree who same named c.1 (number + 1) (place + length (line_of n)) rows t.1
 
-  agreed : (named : List Named) → AreCosted ls named → IsAgreed ls (scenario_of named)
-  agreed named c = record {
+  many_entries : (named : List Named) (number place : ℕ)
+      → length (entries_from number place named) ≡ length named
+  many_entries [] number place = refl
+  many_entries (n ∷ named) number place =
+      ap (λ (k : ℕ). suc k) (many_entries named (number + 1) (place + length (line_of n)))
+
+  many_rows : (who : Who) (named : List Named) (number place : ℕ) (rows : List Row)
+      → AreRows who (entries_from number place named) rows → length rows ≡ length named
+  many_rows who [] number place [] t = refl
+  many_rows who [] number place (r ∷ rows) t = absurd t
+  many_rows who (n ∷ named) number place [] t = absurd t
+  many_rows who (n ∷ named) number place (r ∷ rows) t =
+      ap (λ (k : ℕ). suc k) (many_rows who named (number + 1) (place + length (line_of n)) rows t.1)
+
+  agreed : (named : List Named) (many : ℕ) → length named ≡ many → AreCosted ls named
+      → IsAgreed ls (scenario_of named) many
+  agreed named many e c = record {
     entries = entries_of named;
     read = (scen_read (scenario_of named)).only (entries_of named)
         (scenario_spells named (all_readable named c));
-    agree = λ who same rows t. rows_agree who same named c 2 10 rows t;
+    many_read = many_entries named 2 10 ∙ e;
+    agree = λ who same rows t. all_agree many rows (many_rows who named 2 10 rows t ∙ e)
+        (rows_agree who same named c 2 10 rows t);
   }
 
   -- an entry of a line
@@ -206,6 +290,7 @@ module _ (ls : Layers) (are : AreLayers ls) where
   record AreEntries (below : List (List ℕ)) : Type 0 where
     named : List Named
     all : lines_of named ≡ concat below
+    many : length named ≡ count_by is_line below
     costs : AreCosted ls named
 
   with_line : (below : List (List ℕ)) (line : List ℕ) (n : Named) → line_of n ≡ line → IsCosted ls n
@@ -213,6 +298,8 @@ module _ (ls : Layers) (are : AreLayers ls) where
   with_line below line n e is others = record {
     named = n ∷ others.named;
     all = ap (λ (l : List ℕ). l ++ lines_of others.named) e ∙ ap (λ (l : List ℕ). line ++ l) others.all;
+    many = sym (counts_one is_line line below (length others.named) (ap is_line (sym e) ∙ line_there n)
+        (sym others.many));
     costs = (is, others.costs);
   }
 
@@ -221,12 +308,15 @@ module _ (ls : Layers) (are : AreLayers ls) where
   without_line below line e others = record {
     named = others.named;
     all = others.all ∙ ap (λ (l : List ℕ). l ++ concat below) (sym e);
+    many = others.many ∙ ap (λ (l : List ℕ). count_by is_line (l ∷ below)) (sym e);
     costs = others.costs;
   }
 
-  agreed_below : (below : List (List ℕ)) → AreEntries below → IsAgreed ls (version_line ++ concat below)
+  agreed_below : (below : List (List ℕ)) → AreEntries below
+      → IsAgreed ls (version_line ++ concat below) (count_by is_line below)
   agreed_below below e =
-      subst (λ (l : List ℕ). IsAgreed ls (version_line ++ l)) e.all (agreed e.named e.costs)
+      subst (λ (l : List ℕ). IsAgreed ls (version_line ++ l) (count_by is_line below)) e.all
+      (agreed e.named (count_by is_line below) e.many e.costs)
 
   -- those of `lengths`
   module _ (text : List ℕ) where
@@ -251,7 +341,7 @@ module _ (ls : Layers) (are : AreLayers ls) where
     entries_below : (entries : List Entry) (below : List (List ℕ)) → AreLengthLines ls text entries below
         → ((k : ℕ) (entry : Entry) → slice_get entries k ≡ Some entry → NameStands text entry.name)
         → AreEntries below
-    entries_below [] [] t stand = record { named = []; all = refl; costs = tt }
+    entries_below [] [] t stand = record { named = []; all = refl; many = refl; costs = tt }
     entries_below [] (line ∷ below) t stand = absurd t
     entries_below (entry ∷ entries) [] t stand = absurd t
     entries_below (entry ∷ entries) (line ∷ below) t stand =
@@ -275,7 +365,7 @@ module _ (ls : Layers) (are : AreLayers ls) where
 
   problems_below : (name : List ℕ) → IsName name → (problems : List Problem) (below : List (List ℕ))
       → All HasLeast problems → AreProblemLines ls name problems below → AreEntries below
-  problems_below name good [] [] all t = record { named = []; all = refl; costs = tt }
+  problems_below name good [] [] all t = record { named = []; all = refl; many = refl; costs = tt }
   problems_below name good [] (line ∷ below) all t = absurd t
   problems_below name good (p ∷ problems) [] all t = absurd t
   problems_below name good (p ∷ problems) (line ∷ below) all t =
@@ -283,19 +373,41 @@ module _ (ls : Layers) (are : AreLayers ls) where
       with_line below line n.0 n.1 n.2
       (problems_below name good problems below (All-tail HasLeast p problems all) t.1)
 
+  -- a line for each problem
+  many_lines : (name : List ℕ) (problems : List Problem) (below : List (List ℕ))
+      → AreProblemLines ls name problems below → count_by is_line below ≡ length problems
+  many_lines name [] [] t = refl
+  many_lines name [] (line ∷ below) t = absurd t
+  many_lines name (p ∷ problems) [] t = absurd t
+  many_lines name (p ∷ problems) (line ∷ below) t =
+      counts_one is_line line below (length problems)
+      (ap is_line t.0.is ∙ line_there (record { name = name; listed = t.0.listed }))
+      (many_lines name problems below t.1)
+
+  many_priced : (kept : List Ends) (priced : List Problem) → ArePriced ls kept priced
+      → length priced ≡ length kept
+  many_priced [] [] t = refl
+  many_priced [] (p ∷ priced) t = absurd t
+  many_priced (ends ∷ kept) [] t = absurd t
+  many_priced (ends ∷ kept) (p ∷ priced) t = ap (λ (k : ℕ). suc k) (many_priced kept priced t.1)
+
 pub lengths_agree : (ls : Layers) (text : List ℕ) (entries : List Entry) (lines : List (List ℕ)) (status : ℕ)
-    → AreLayers ls → scen_of text ≡ Ok entries → AreLengths ls text entries lines status
-    → IsAgreed ls (concat lines)
+    → AreLayers ls → scen_of text ≡ Ok entries → (is : AreLengths ls text entries lines status)
+    → IsAgreed ls (concat lines) (count_by is_line is.below)
 lengths_agree ls text entries lines status are read is =
-    subst (λ (l : List (List ℕ)). IsAgreed ls (concat l)) (sym is.all)
+    subst (λ (l : List (List ℕ)). IsAgreed ls (concat l) (count_by is_line is.below)) (sym is.all)
     (agreed_below ls are is.below (entries_below ls are text entries is.below is.are
     (all_stand text entries ((scen_read text).found entries read))))
 
 pub problems_agree : (ls : Layers) (word : List ℕ) (seed count : ℕ) (text : List ℕ) (status : ℕ)
-    → AreLayers ls → AreProblems ls word seed count text status → IsAgreed ls text
+    → AreLayers ls → (is : AreProblems ls word seed count text status) → IsAgreed ls text (length is.kept)
 problems_agree ls word seed count text status are is =
-    subst (λ (l : List ℕ). IsAgreed ls l) (sym is.is.all)
+    subst (λ (n : ℕ). IsAgreed ls text n)
+    (many_lines ls are (name_of word) is.ordered is.is.lines is.is.are
+    ∙ length_permutation is.priced is.ordered is.are_ordered.same
+    ∙ many_priced ls are is.kept is.priced is.are_priced)
+    (subst (λ (l : List ℕ). IsAgreed ls l (count_by is_line is.is.lines)) (sym is.is.all)
     (agreed_below ls are is.is.lines (problems_below ls are (name_of word) (word_name word) is.ordered
     is.is.lines
     (All-permutation (HasLeast ls are) is.priced is.ordered is.are_ordered.same
-    (priced_have ls are is.kept is.priced is.are_priced)) is.is.are))
+    (priced_have ls are is.kept is.priced is.are_priced)) is.is.are)))

@@ -105,12 +105,13 @@ pub fn problems_are_one()
     ensures { ProblemsAreOne }
 {}
 
-/// What is written again is a scenario, of which each row is `agree` on the same map and under the same rule.
+/// What is written again is a scenario with an entry for each line below the first, and on the same map and under
+/// the same rule all rows of `scen` are `agree`: its last line counts as many, and the status is 0.
 pub fn lengths_agree()
     ensures { LengthsAgree }
 {}
 
-/// So is what is made from a number.
+/// So is what is made from a number, with an entry for each try that was kept.
 pub fn problems_agree()
     ensures { ProblemsAgree }
 {}
