@@ -44,7 +44,7 @@ use Rattle.jps_run.specs.Lines.{reply_line}
 use Rattle.jps_run.specs.Live.{AreHeard}
 use Rattle.jps_run.specs.Outcome.{IsAnswered, IsOutcome, Outcome, Spell, answered, bad_line, bad_text}
 use Rattle.jps_run.specs.Outcome.{bad_word, done, help, version, replied, solved, judged, refereed, made}
-use Rattle.jps_run.specs.Outcome.{moved, drilled, drawn, costed, tabled, boxed, measured}
+use Rattle.jps_run.specs.Outcome.{moved, drilled, drawn, costed, tabled, boxed, measured, posed}
 use Rattle.jps_run.specs.Pictures.{drawing_of, drawing_status}
 use Rattle.jps_run.specs.Rows.{scen_lines, scen_status}
 use Rattle.jps_run.specs.Rulings.{judge_lines, judge_status}
@@ -57,6 +57,7 @@ use Rattle.outcome_laws.specs.Existing.{ArePresent, IsShown}
 use Rattle.outcome_laws.proofs.Answered.{answers_exist, boxed_exists, boxes_exist, costs_exist}
 use Rattle.outcome_laws.proofs.Answered.{findings_exist, led_exists, lengths_exist, rows_exist, rulings_exist}
 use Rattle.outcome_laws.proofs.Moved.{runs_exist}
+use Rattle.outcome_laws.proofs.Posing.{problems_exist}
 use Rattle.outcome_laws.proofs.Refusing.{accepted_or_refused, bad_word_exists, less_or_not}
 
 -- a text that is not refused is read
@@ -308,6 +309,15 @@ module _ (holds : List ℕ → Held) (set : Settings) where
       let all = runs_exist (layers_on set m) (record { x = x; y = y }) in
       record { lines = all.0 ∷ []; status = 0; is = moved map text x y set m all.0 read all.1 }
 
+  problems_has : (map : List ℕ) (seed count : ℕ) (text : List ℕ) (m : Map) → map_of text ≡ Ok m
+      → HasAnswer (call_with (Problems map seed count) set) (text ∷ [])
+  problems_has map seed count text m read =
+      let all = problems_exist (layers_on set m) map seed count in record {
+        lines = all.0 ∷ [];
+        status = all.1;
+        is = posed map text seed count set m all.0 all.1 read all.2;
+      }
+
   -- what is asked for is answered, on accepted texts
   is_answered : (asked : Asked) → IsServed asked set → IsShown asked → (texts : List (List ℕ))
       → AreAccepted holds [] (files_of (call_with asked set)) texts
@@ -353,7 +363,8 @@ module _ (holds : List ℕ → Held) (set : Settings) where
   is_answered (Moves map x y) serves shown texts p other =
       on_small_map (Moves map x y) map texts (moves_has map x y) p
   is_answered (Lengths map scenario) serves shown texts p other = lengths_has map scenario texts p
-  is_answered (Problems map seed count) serves shown texts p other = absurd shown
+  is_answered (Problems map seed count) serves shown texts p other =
+      on_map (Problems map seed count) map texts (problems_has map seed count) p
 
   -- a told script that comes in is heard
   heard_exists : (d : SessionData) (show : Show) (script : List ℕ) → (line : Option (List ℕ))
@@ -475,7 +486,8 @@ module _ (words : List (List ℕ)) (holds : List ℕ → Held) (script : List �
       not_live (Moves map x y) set spelled shown texts p (λ m t e. cc)
   call_ends (Lengths map scenario) set spelled shown texts p =
       not_live (Lengths map scenario) set spelled shown texts p (λ m t e. cc)
-  call_ends (Problems map seed count) set spelled shown texts p = absurd shown
+  call_ends (Problems map seed count) set spelled shown texts p =
+      not_live (Problems map seed count) set spelled shown texts p (λ m t e. cc)
 
   refused_ends : (call : Call) → Spell words call → (line : List ℕ) → HasRefused holds (files_of call) line
       → Ends words holds script

@@ -41,4 +41,6 @@ pub mod Answered
 pub mod Checked
 pub mod Loading
 pub mod Loaded
+pub mod Insertion
+pub mod Posing
 pub mod Existing
