@@ -44,7 +44,7 @@ use Rattle.jps_run.specs.Lines.{reply_line}
 use Rattle.jps_run.specs.Live.{AreHeard}
 use Rattle.jps_run.specs.Outcome.{IsAnswered, IsOutcome, Outcome, Spell, answered, bad_line, bad_text}
 use Rattle.jps_run.specs.Outcome.{bad_word, done, help, version, replied, solved, judged, refereed, made}
-use Rattle.jps_run.specs.Outcome.{moved, drilled, drawn, costed, tabled, boxed, measured, posed}
+use Rattle.jps_run.specs.Outcome.{moved, drilled, drawn, costed, tabled, boxed, measured, posed, proved}
 use Rattle.jps_run.specs.Pictures.{drawing_of, drawing_status}
 use Rattle.jps_run.specs.Rows.{scen_lines, scen_status}
 use Rattle.jps_run.specs.Rulings.{judge_lines, judge_status}
@@ -56,8 +56,10 @@ use Rattle.jps_run.proofs.SessionReply.{reply_exists}
 use Rattle.outcome_laws.specs.Existing.{ArePresent, IsShown}
 use Rattle.outcome_laws.proofs.Answered.{answers_exist, boxed_exists, boxes_exist, costs_exist}
 use Rattle.outcome_laws.proofs.Answered.{findings_exist, led_exists, lengths_exist, rows_exist, rulings_exist}
+use Rattle.outcome_laws.proofs.Kept.{are_layers-text}
 use Rattle.outcome_laws.proofs.Moved.{runs_exist}
 use Rattle.outcome_laws.proofs.Posing.{problems_exist}
+use Rattle.outcome_laws.proofs.Proved.{proof_exists}
 use Rattle.outcome_laws.proofs.Refusing.{accepted_or_refused, bad_word_exists, less_or_not}
 
 -- a text that is not refused is read
@@ -318,6 +320,16 @@ module _ (holds : List ℕ → Held) (set : Settings) where
         is = posed map text seed count set m all.0 all.1 read all.2;
       }
 
+  prove_has : (map : List ℕ) (sx sy gx gy : ℕ) (text : List ℕ) (m : Map) → map_of text ≡ Ok m
+      → HasAnswer (call_with (Prove map sx sy gx gy) set) (text ∷ [])
+  prove_has map sx sy gx gy text m read =
+      let all = proof_exists (layers_on set m) (are_layers-text set text m read) (record { x = sx; y = sy })
+      (record { x = gx; y = gy }) in record {
+        lines = all.0 ∷ [];
+        status = all.1;
+        is = proved map text sx sy gx gy set m all.0 all.1 read all.2;
+      }
+
   -- what is asked for is answered, on accepted texts
   is_answered : (asked : Asked) → IsServed asked set → IsShown asked → (texts : List (List ℕ))
       → AreAccepted holds [] (files_of (call_with asked set)) texts
@@ -337,7 +349,8 @@ module _ (holds : List ℕ → Held) (set : Settings) where
   is_answered (Scen map tables scenario) serves shown texts p other =
       scen_has map tables scenario texts p
   is_answered (Judge map scenario walks) serves shown texts p other = judge_has map scenario walks texts p
-  is_answered (Prove map sx sy gx gy) serves shown texts p other = absurd shown
+  is_answered (Prove map sx sy gx gy) serves shown texts p other =
+      on_map (Prove map sx sy gx gy) map texts (prove_has map sx sy gx gy) p
   is_answered (Check map cert) serves shown texts p other = absurd shown
   is_answered (Make seed w h percent) serves shown texts p other =
       on_texts (call_with (Make seed w h percent) set) texts [] (nothing holds [] texts p) (record {
@@ -468,7 +481,8 @@ module _ (words : List (List ℕ)) (holds : List ℕ → Held) (script : List �
       not_live (Scen map tables scenario) set spelled shown texts p (λ m t e. cc)
   call_ends (Judge map scenario walks) set spelled shown texts p =
       not_live (Judge map scenario walks) set spelled shown texts p (λ m t e. cc)
-  call_ends (Prove map sx sy gx gy) set spelled shown texts p = absurd shown
+  call_ends (Prove map sx sy gx gy) set spelled shown texts p =
+      not_live (Prove map sx sy gx gy) set spelled shown texts p (λ m t e. cc)
   call_ends (Check map cert) set spelled shown texts p = absurd shown
   call_ends (Make seed w h percent) set spelled shown texts p =
       not_live (Make seed w h percent) set spelled shown texts p (λ m t e. cc)

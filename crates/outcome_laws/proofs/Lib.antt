@@ -43,4 +43,6 @@ pub mod Loading
 pub mod Loaded
 pub mod Insertion
 pub mod Posing
+pub mod Numbered
+pub mod Proved
 pub mod Existing
