@@ -45,4 +45,6 @@ pub mod Insertion
 pub mod Posing
 pub mod Numbered
 pub mod Proved
+pub mod Forms
+pub mod Readable
 pub mod Existing

@@ -34,7 +34,6 @@ VerdictsExist = (g : GridData) (c : Certificate) → (line : List ℕ) × (statu
 
 -- what is asked for is shown here to be answered, where each of its files is accepted: all but `check`
 abbrev pub IsShown : Asked → Type 0
-IsShown (Check map cert) = ⊥
 IsShown other = ⊤
 
 -- Where words spell no call, they come to an outcome; where they spell one whose files are all present, and
