@@ -138,7 +138,7 @@ boxes_exist ls s = by_map (is_on_map ls s) refl
     by_map true e = by_ground e (is_free_ground ls s) refl
 
 -- the line of a cost
-problem_line : (name : List ℕ) (problem : Problem) (cost : Cost) → (line : List ℕ)
+pub problem_line : (name : List ℕ) (problem : Problem) (cost : Cost) → (line : List ℕ)
     × IsProblemLine name problem cost line
 problem_line name problem cost =
     let n = nearest_exists cost in

@@ -8,17 +8,17 @@ use Rattle.std.specs.List.{AllPairs, Contains}
 use Rattle.std.specs.List.Sorted.{IsStrictlyIncreasing}
 
 module _ {X : Type 0} where
-  first_member : (x : X) (xs : List X) → Contains (x ∷ xs) x
+  pub first_member : (x : X) (xs : List X) → Contains (x ∷ xs) x
   first_member x xs = (0, omega arith, refl)
 
-  later_member : (x z : X) (xs : List X) → Contains xs z → Contains (x ∷ xs) z
+  pub later_member : (x z : X) (xs : List X) → Contains xs z → Contains (x ∷ xs) z
   later_member x z xs m = (suc m.0, (let l = m.1 in omega arith), m.2)
 
-  none_in : {A : Type 0} (z : X) → Contains [] z → A
+  pub none_in : {A : Type 0} (z : X) → Contains [] z → A
   none_in z m = absurd (let l = m.1 in omega arith)
 
   -- a member is the first one or a later one
-  member_of : (x z : X) (xs : List X) → Contains (x ∷ xs) z → (x ≡ z) ⊎ Contains xs z
+  pub member_of : (x z : X) (xs : List X) → Contains (x ∷ xs) z → (x ≡ z) ⊎ Contains xs z
   member_of x z xs (zero, l, e) = inl e
   member_of x z xs (suc k, l, e) = inr (k, omega arith, e)
 

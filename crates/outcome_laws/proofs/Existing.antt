@@ -4,8 +4,9 @@ use Rattle.std.proofs.Common.{List, [], ◌∷◌, ◌++◌, length, append-nil}
 use Rattle.std.specs.Prelude.{Option, Some, None, Result, Ok, Err, if◌then◌else◌, codes, is_some}
 use Rattle.std.specs.Option.{option_map, option_map_or}
 use Rattle.grid_moves.specs.declared.Cell.{Cell}
-use Rattle.grid_moves.specs.Layers.{Layers}
-use Rattle.io_edge.specs.Told.{Held}
+use Rattle.grid_moves.specs.Layers.{Layers, query_grid}
+use Rattle.io_edge.specs.Told.{Held, absent, holding, untold}
+use Rattle.io_edge.specs.Whole.{IsWhole}
 use Rattle.map_text.specs.Map.{Map}
 use Rattle.map_text.specs.Faults.{map_of}
 use Rattle.map_text.specs.Writing.{canonical_text}
@@ -16,6 +17,7 @@ use Rattle.script_text.specs.Faults.{script_of}
 use Rattle.script_text.specs.Feeding.{commands_of, commands_so_far, fault_of, fault_so_far}
 use Rattle.scen_text.specs.Faults.{scen_of}
 use Rattle.walk_judge.specs.Walks.{walks_of}
+use Rattle.potential_check.specs.Text.{certificate_of}
 use Rattle.edit_replay.specs.Session.{SessionData}
 use Rattle.edit_replay.specs.declared.engine.Engine.{Engine}
 use Rattle.edit_replay.specs.declared.engine.Engine.TheVariants as engine
@@ -30,7 +32,7 @@ use Rattle.word_list.specs.declared.request.Pick.TheVariants as pick
 use Rattle.word_list.specs.declared.request.Settings.{Settings}
 use Rattle.word_list.specs.declared.request.Show.{Show}
 use Rattle.word_list.proofs.Serving.{served}
-use Rattle.call_files.specs.FaultLines.{long_line, map_line, scen_line, script_line, walks_line, word_line}
+use Rattle.call_files.specs.FaultLines.{cert_line, long_line, map_line, scen_line, script_line, walks_line, word_line}
 use Rattle.call_files.specs.Files.{AreAccepted, File, HasRefused, file_of}
 use Rattle.call_files.specs.Kinds.{count_in, fault_in, kind_for, limit_of, refusal_of, small_refusal}
 use Rattle.call_files.specs.Layered.{layers_on}
@@ -44,7 +46,8 @@ use Rattle.jps_run.specs.Lines.{reply_line}
 use Rattle.jps_run.specs.Live.{AreHeard}
 use Rattle.jps_run.specs.Outcome.{IsAnswered, IsOutcome, Outcome, Spell, answered, bad_line, bad_text}
 use Rattle.jps_run.specs.Outcome.{bad_word, done, help, version, replied, solved, judged, refereed, made}
-use Rattle.jps_run.specs.Outcome.{moved, drilled, drawn, costed, tabled, boxed, measured}
+use Rattle.jps_run.specs.Outcome.{moved, drilled, drawn, costed, tabled, boxed, measured, posed, proved}
+use Rattle.jps_run.specs.Outcome.{checked}
 use Rattle.jps_run.specs.Pictures.{drawing_of, drawing_status}
 use Rattle.jps_run.specs.Rows.{scen_lines, scen_status}
 use Rattle.jps_run.specs.Rulings.{judge_lines, judge_status}
@@ -54,9 +57,14 @@ use Rattle.jps_run.specs.Texts.{help_text, version_text}
 use Rattle.jps_run.specs.Who.{By, IsReplyBy, Who, by_session}
 use Rattle.jps_run.proofs.SessionReply.{reply_exists}
 use Rattle.outcome_laws.specs.Existing.{ArePresent, IsShown}
+use Rattle.outcome_laws.proofs.Checked.{verdict_exists}
 use Rattle.outcome_laws.proofs.Answered.{answers_exist, boxed_exists, boxes_exist, costs_exist}
 use Rattle.outcome_laws.proofs.Answered.{findings_exist, led_exists, lengths_exist, rows_exist, rulings_exist}
+use Rattle.outcome_laws.proofs.Kept.{are_layers-text}
 use Rattle.outcome_laws.proofs.Moved.{runs_exist}
+use Rattle.outcome_laws.proofs.Posing.{problems_exist}
+use Rattle.outcome_laws.proofs.Proved.{proof_exists}
+use Rattle.outcome_laws.proofs.Readable.{certificate_read}
 use Rattle.outcome_laws.proofs.Refusing.{accepted_or_refused, bad_word_exists, less_or_not}
 
 -- a text that is not refused is read
@@ -264,6 +272,28 @@ module _ (holds : List ℕ → Held) (set : Settings) where
         is = measured map scenario text second set m.0 entries.0 all.0 all.1 m.1 entries.1 all.2;
       }
 
+  -- a text of a file is no longer than the limit of its kind
+  within : (held : Held) (limit : ℕ) (text : List ℕ) → IsWhole held limit text → length text ≤ limit
+  within untold limit text w = w
+  within absent limit text w = absurd w
+  within (holding bytes) limit text w = w.1
+
+  check_has : (map cert : List ℕ) (texts : List (List ℕ))
+      → AreAccepted holds [] (file_of kind.Map map ∷ file_of kind.Cert cert ∷ []) texts
+      → HasAnswer (call_with (Check map cert) set) texts
+  check_has map cert [] p = absurd p
+  check_has map cert (text ∷ []) p = absurd (p.1)
+  check_has map cert (text ∷ second ∷ x ∷ texts) p = absurd (p.1.1)
+  check_has map cert (text ∷ second ∷ []) p =
+      let m = read_of map_line (map_of text) p.0.1 in
+      let read = read_of cert_line (certificate_of second) p.1.0.1 in
+      let c = certificate_read second read.0 (within (holds cert) (limit_of kind.Cert) second p.1.0.0) read.1 in
+      let all = verdict_exists (query_grid (layers_on set m.0) c.0.start) c.0 in record {
+        lines = all.0 ∷ [];
+        status = all.1;
+        is = checked map cert text second set m.0 c.0 all.0 all.1 m.1 c.1 all.2;
+      }
+
   drill_has : (seed : ℕ) → is_for_small_maps set.pick ≡ false → HasAnswer (call_with (Drill seed) set) []
   drill_has seed large =
       let d = session_on set (made_map seed 256 256 25) large in
@@ -308,6 +338,25 @@ module _ (holds : List ℕ → Held) (set : Settings) where
       let all = runs_exist (layers_on set m) (record { x = x; y = y }) in
       record { lines = all.0 ∷ []; status = 0; is = moved map text x y set m all.0 read all.1 }
 
+  problems_has : (map : List ℕ) (seed count : ℕ) (text : List ℕ) (m : Map) → map_of text ≡ Ok m
+      → HasAnswer (call_with (Problems map seed count) set) (text ∷ [])
+  problems_has map seed count text m read =
+      let all = problems_exist (layers_on set m) map seed count in record {
+        lines = all.0 ∷ [];
+        status = all.1;
+        is = posed map text seed count set m all.0 all.1 read all.2;
+      }
+
+  prove_has : (map : List ℕ) (sx sy gx gy : ℕ) (text : List ℕ) (m : Map) → map_of text ≡ Ok m
+      → HasAnswer (call_with (Prove map sx sy gx gy) set) (text ∷ [])
+  prove_has map sx sy gx gy text m read =
+      let all = proof_exists (layers_on set m) (are_layers-text set text m read) (record { x = sx; y = sy })
+      (record { x = gx; y = gy }) in record {
+        lines = all.0 ∷ [];
+        status = all.1;
+        is = proved map text sx sy gx gy set m all.0 all.1 read all.2;
+      }
+
   -- what is asked for is answered, on accepted texts
   is_answered : (asked : Asked) → IsServed asked set → IsShown asked → (texts : List (List ℕ))
       → AreAccepted holds [] (files_of (call_with asked set)) texts
@@ -327,8 +376,9 @@ module _ (holds : List ℕ → Held) (set : Settings) where
   is_answered (Scen map tables scenario) serves shown texts p other =
       scen_has map tables scenario texts p
   is_answered (Judge map scenario walks) serves shown texts p other = judge_has map scenario walks texts p
-  is_answered (Prove map sx sy gx gy) serves shown texts p other = absurd shown
-  is_answered (Check map cert) serves shown texts p other = absurd shown
+  is_answered (Prove map sx sy gx gy) serves shown texts p other =
+      on_map (Prove map sx sy gx gy) map texts (prove_has map sx sy gx gy) p
+  is_answered (Check map cert) serves shown texts p other = check_has map cert texts p
   is_answered (Make seed w h percent) serves shown texts p other =
       on_texts (call_with (Make seed w h percent) set) texts [] (nothing holds [] texts p) (record {
         lines = canonical_text (made_map seed w h percent) ∷ [];
@@ -353,7 +403,8 @@ module _ (holds : List ℕ → Held) (set : Settings) where
   is_answered (Moves map x y) serves shown texts p other =
       on_small_map (Moves map x y) map texts (moves_has map x y) p
   is_answered (Lengths map scenario) serves shown texts p other = lengths_has map scenario texts p
-  is_answered (Problems map seed count) serves shown texts p other = absurd shown
+  is_answered (Problems map seed count) serves shown texts p other =
+      on_map (Problems map seed count) map texts (problems_has map seed count) p
 
   -- a told script that comes in is heard
   heard_exists : (d : SessionData) (show : Show) (script : List ℕ) → (line : Option (List ℕ))
@@ -457,8 +508,10 @@ module _ (words : List (List ℕ)) (holds : List ℕ → Held) (script : List �
       not_live (Scen map tables scenario) set spelled shown texts p (λ m t e. cc)
   call_ends (Judge map scenario walks) set spelled shown texts p =
       not_live (Judge map scenario walks) set spelled shown texts p (λ m t e. cc)
-  call_ends (Prove map sx sy gx gy) set spelled shown texts p = absurd shown
-  call_ends (Check map cert) set spelled shown texts p = absurd shown
+  call_ends (Prove map sx sy gx gy) set spelled shown texts p =
+      not_live (Prove map sx sy gx gy) set spelled shown texts p (λ m t e. cc)
+  call_ends (Check map cert) set spelled shown texts p =
+      not_live (Check map cert) set spelled shown texts p (λ m t e. cc)
   call_ends (Make seed w h percent) set spelled shown texts p =
       not_live (Make seed w h percent) set spelled shown texts p (λ m t e. cc)
   call_ends (Drill seed) set spelled shown texts p =
@@ -475,7 +528,8 @@ module _ (words : List (List ℕ)) (holds : List ℕ → Held) (script : List �
       not_live (Moves map x y) set spelled shown texts p (λ m t e. cc)
   call_ends (Lengths map scenario) set spelled shown texts p =
       not_live (Lengths map scenario) set spelled shown texts p (λ m t e. cc)
-  call_ends (Problems map seed count) set spelled shown texts p = absurd shown
+  call_ends (Problems map seed count) set spelled shown texts p =
+      not_live (Problems map seed count) set spelled shown texts p (λ m t e. cc)
 
   refused_ends : (call : Call) → Spell words call → (line : List ℕ) → HasRefused holds (files_of call) line
       → Ends words holds script

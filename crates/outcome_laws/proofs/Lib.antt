@@ -41,4 +41,10 @@ pub mod Answered
 pub mod Checked
 pub mod Loading
 pub mod Loaded
+pub mod Insertion
+pub mod Posing
+pub mod Numbered
+pub mod Proved
+pub mod Forms
+pub mod Readable
 pub mod Existing

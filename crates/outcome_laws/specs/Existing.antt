@@ -4,8 +4,7 @@ use Rattle.grid_moves.specs.Grid.{GridData}
 use Rattle.io_edge.specs.Told.{Held, holding}
 use Rattle.potential_check.specs.declared.certificate.Certificate.{Certificate}
 use Rattle.word_list.specs.Calls.{is_call}
-use Rattle.word_list.specs.Request.{Asked, Call, Prove, Check}
-use Rattle.word_list.specs.Request.{Problems}
+use Rattle.word_list.specs.Request.{Asked, Call, Check}
 use Rattle.word_list.specs.Rule.{IsBadWord}
 use Rattle.call_files.specs.Files.{AreAccepted, File, HasRefused}
 use Rattle.grid_answers.specs.Certificates.{IsVerdict}
@@ -33,12 +32,8 @@ AcceptedOrRefusedExist = (holds : List ℕ → Held) (files : List File) → Are
 abbrev pub VerdictsExist : Type 0
 VerdictsExist = (g : GridData) (c : Certificate) → (line : List ℕ) × (status : ℕ) × IsVerdict g c line status
 
--- what is asked for is shown here to be answered, where each of its files is accepted: all but `prove`,
--- `check` and `problems`
+-- what is asked for is shown here to be answered, where each of its files is accepted: all but `check`
 abbrev pub IsShown : Asked → Type 0
-IsShown (Prove map sx sy gx gy) = ⊥
-IsShown (Check map cert) = ⊥
-IsShown (Problems map seed count) = ⊥
 IsShown other = ⊤
 
 -- Where words spell no call, they come to an outcome; where they spell one whose files are all present, and

@@ -41,8 +41,7 @@ pub fn with_tables_the_same()
 {}
 
 /// Words that spell no call come to an outcome. So do words that spell one, where each file that they name is
-/// there and the input is told, if a file is refused, or if what they ask for is none of `prove`, `check` and
-/// `problems`.
+/// there and the input is told, if a file is refused, or if what they ask for is not `check`.
 pub fn outcomes_exist_for_shown()
     ensures { OutcomesExistForShown }
 {}
