@@ -56,7 +56,7 @@ use Rattle.jps_run.specs.Tabled.{tables_text}
 use Rattle.jps_run.specs.Texts.{help_text, version_text}
 use Rattle.jps_run.specs.Who.{By, IsReplyBy, Who, by_session}
 use Rattle.jps_run.proofs.SessionReply.{reply_exists}
-use Rattle.outcome_laws.specs.Existing.{ArePresent, IsShown}
+use Rattle.outcome_laws.specs.Existing.{ArePresent}
 use Rattle.outcome_laws.proofs.Checked.{verdict_exists}
 use Rattle.outcome_laws.proofs.Answered.{answers_exist, boxed_exists, boxes_exist, costs_exist}
 use Rattle.outcome_laws.proofs.Answered.{findings_exist, led_exists, lengths_exist, rows_exist, rulings_exist}
@@ -358,52 +358,52 @@ module _ (holds : List ℕ → Held) (set : Settings) where
       }
 
   -- what is asked for is answered, on accepted texts
-  is_answered : (asked : Asked) → IsServed asked set → IsShown asked → (texts : List (List ℕ))
+  is_answered : (asked : Asked) → IsServed asked set → (texts : List (List ℕ))
       → AreAccepted holds [] (files_of (call_with asked set)) texts
       → ((map : List ℕ) (tables : Option (List ℕ)) → ¬ (asked ≡ Live map tables))
       → HasAnswer (call_with asked set) texts
-  is_answered Help serves shown texts p other =
+  is_answered Help serves texts p other =
       on_texts (call_with Help set) texts [] (nothing holds [] texts p)
       (record { lines = help_text ∷ []; status = 0; is = help set })
-  is_answered Version serves shown texts p other =
+  is_answered Version serves texts p other =
       on_texts (call_with Version set) texts [] (nothing holds [] texts p)
       (record { lines = version_text ∷ []; status = 0; is = version set })
-  is_answered (Query map tables sx sy gx gy) serves shown texts p other =
+  is_answered (Query map tables sx sy gx gy) serves texts p other =
       query_has map tables sx sy gx gy texts p
-  is_answered (Solve map tables script) serves shown texts p other =
+  is_answered (Solve map tables script) serves texts p other =
       solve_has map tables script texts (serves refl) p
-  is_answered (Live map tables) serves shown texts p other = absurd (other map tables refl)
-  is_answered (Scen map tables scenario) serves shown texts p other =
+  is_answered (Live map tables) serves texts p other = absurd (other map tables refl)
+  is_answered (Scen map tables scenario) serves texts p other =
       scen_has map tables scenario texts p
-  is_answered (Judge map scenario walks) serves shown texts p other = judge_has map scenario walks texts p
-  is_answered (Prove map sx sy gx gy) serves shown texts p other =
+  is_answered (Judge map scenario walks) serves texts p other = judge_has map scenario walks texts p
+  is_answered (Prove map sx sy gx gy) serves texts p other =
       on_map (Prove map sx sy gx gy) map texts (prove_has map sx sy gx gy) p
-  is_answered (Check map cert) serves shown texts p other = check_has map cert texts p
-  is_answered (Make seed w h percent) serves shown texts p other =
+  is_answered (Check map cert) serves texts p other = check_has map cert texts p
+  is_answered (Make seed w h percent) serves texts p other =
       on_texts (call_with (Make seed w h percent) set) texts [] (nothing holds [] texts p) (record {
         lines = canonical_text (made_map seed w h percent) ∷ [];
         status = 0;
         is = made seed w h percent set;
       })
-  is_answered (Drill seed) serves shown texts p other =
+  is_answered (Drill seed) serves texts p other =
       on_texts (call_with (Drill seed) set) texts [] (nothing holds [] texts p) (drill_has seed (serves refl))
-  is_answered (Draw map sx sy gx gy) serves shown texts p other =
+  is_answered (Draw map sx sy gx gy) serves texts p other =
       on_map (Draw map sx sy gx gy) map texts (draw_has map sx sy gx gy (serves refl)) p
-  is_answered (Costs map x y) serves shown texts p other =
+  is_answered (Costs map x y) serves texts p other =
       on_map (Costs map x y) map texts (costs_has map x y) p
-  is_answered (Tables map) serves shown texts p other =
+  is_answered (Tables map) serves texts p other =
       on_map (Tables map) map texts
       (λ text m read. record {
         lines = tables_text set.rule m ∷ [];
         status = 0;
         is = tabled map text set m read;
       }) p
-  is_answered (Boxes map x y) serves shown texts p other =
+  is_answered (Boxes map x y) serves texts p other =
       on_small_map (Boxes map x y) map texts (boxes_has map x y) p
-  is_answered (Moves map x y) serves shown texts p other =
+  is_answered (Moves map x y) serves texts p other =
       on_small_map (Moves map x y) map texts (moves_has map x y) p
-  is_answered (Lengths map scenario) serves shown texts p other = lengths_has map scenario texts p
-  is_answered (Problems map seed count) serves shown texts p other =
+  is_answered (Lengths map scenario) serves texts p other = lengths_has map scenario texts p
+  is_answered (Problems map seed count) serves texts p other =
       on_map (Problems map seed count) map texts (problems_has map seed count) p
 
   -- a told script that comes in is heard
@@ -486,77 +486,72 @@ module _ (words : List (List ℕ)) (holds : List ℕ → Held) (script : List �
   )
 
   -- the files of the call are accepted
-  not_live : (asked : Asked) (set : Settings) → Spell words (call_with asked set) → IsShown asked
+  not_live : (asked : Asked) (set : Settings) → Spell words (call_with asked set)
       → (texts : List (List ℕ)) → AreAccepted holds [] (files_of (call_with asked set)) texts
       → ((map : List ℕ) (tables : Option (List ℕ)) → ¬ (asked ≡ Live map tables)) → Ends words holds script
-  not_live asked set spelled shown texts p other =
+  not_live asked set spelled texts p other =
       done_ends (call_with asked set) spelled texts p
-      (is_answered holds set asked (served words (call_with asked set) spelled) shown texts p other)
+      (is_answered holds set asked (served words (call_with asked set) spelled) texts p other)
 
-  call_ends : (asked : Asked) (set : Settings) → Spell words (call_with asked set) → IsShown asked
+  call_ends : (asked : Asked) (set : Settings) → Spell words (call_with asked set)
       → (texts : List (List ℕ)) → AreAccepted holds [] (files_of (call_with asked set)) texts
       → Ends words holds script
-  call_ends (Live map tables) set spelled shown texts p =
+  call_ends (Live map tables) set spelled texts p =
       live_ends map tables set spelled (served words (call_with (Live map tables) set) spelled refl) texts p
-  call_ends Help set spelled shown texts p = not_live Help set spelled shown texts p (λ m t e. cc)
-  call_ends Version set spelled shown texts p = not_live Version set spelled shown texts p (λ m t e. cc)
-  call_ends (Query map tables sx sy gx gy) set spelled shown texts p =
-      not_live (Query map tables sx sy gx gy) set spelled shown texts p (λ m t e. cc)
-  call_ends (Solve map tables script) set spelled shown texts p =
-      not_live (Solve map tables script) set spelled shown texts p (λ m t e. cc)
-  call_ends (Scen map tables scenario) set spelled shown texts p =
-      not_live (Scen map tables scenario) set spelled shown texts p (λ m t e. cc)
-  call_ends (Judge map scenario walks) set spelled shown texts p =
-      not_live (Judge map scenario walks) set spelled shown texts p (λ m t e. cc)
-  call_ends (Prove map sx sy gx gy) set spelled shown texts p =
-      not_live (Prove map sx sy gx gy) set spelled shown texts p (λ m t e. cc)
-  call_ends (Check map cert) set spelled shown texts p =
-      not_live (Check map cert) set spelled shown texts p (λ m t e. cc)
-  call_ends (Make seed w h percent) set spelled shown texts p =
-      not_live (Make seed w h percent) set spelled shown texts p (λ m t e. cc)
-  call_ends (Drill seed) set spelled shown texts p =
-      not_live (Drill seed) set spelled shown texts p (λ m t e. cc)
-  call_ends (Draw map sx sy gx gy) set spelled shown texts p =
-      not_live (Draw map sx sy gx gy) set spelled shown texts p (λ m t e. cc)
-  call_ends (Costs map x y) set spelled shown texts p =
-      not_live (Costs map x y) set spelled shown texts p (λ m t e. cc)
-  call_ends (Tables map) set spelled shown texts p =
-      not_live (Tables map) set spelled shown texts p (λ m t e. cc)
-  call_ends (Boxes map x y) set spelled shown texts p =
-      not_live (Boxes map x y) set spelled shown texts p (λ m t e. cc)
-  call_ends (Moves map x y) set spelled shown texts p =
-      not_live (Moves map x y) set spelled shown texts p (λ m t e. cc)
-  call_ends (Lengths map scenario) set spelled shown texts p =
-      not_live (Lengths map scenario) set spelled shown texts p (λ m t e. cc)
-  call_ends (Problems map seed count) set spelled shown texts p =
-      not_live (Problems map seed count) set spelled shown texts p (λ m t e. cc)
+  call_ends Help set spelled texts p = not_live Help set spelled texts p (λ m t e. cc)
+  call_ends Version set spelled texts p = not_live Version set spelled texts p (λ m t e. cc)
+  call_ends (Query map tables sx sy gx gy) set spelled texts p =
+      not_live (Query map tables sx sy gx gy) set spelled texts p (λ m t e. cc)
+  call_ends (Solve map tables script) set spelled texts p =
+      not_live (Solve map tables script) set spelled texts p (λ m t e. cc)
+  call_ends (Scen map tables scenario) set spelled texts p =
+      not_live (Scen map tables scenario) set spelled texts p (λ m t e. cc)
+  call_ends (Judge map scenario walks) set spelled texts p =
+      not_live (Judge map scenario walks) set spelled texts p (λ m t e. cc)
+  call_ends (Prove map sx sy gx gy) set spelled texts p =
+      not_live (Prove map sx sy gx gy) set spelled texts p (λ m t e. cc)
+  call_ends (Check map cert) set spelled texts p =
+      not_live (Check map cert) set spelled texts p (λ m t e. cc)
+  call_ends (Make seed w h percent) set spelled texts p =
+      not_live (Make seed w h percent) set spelled texts p (λ m t e. cc)
+  call_ends (Drill seed) set spelled texts p =
+      not_live (Drill seed) set spelled texts p (λ m t e. cc)
+  call_ends (Draw map sx sy gx gy) set spelled texts p =
+      not_live (Draw map sx sy gx gy) set spelled texts p (λ m t e. cc)
+  call_ends (Costs map x y) set spelled texts p =
+      not_live (Costs map x y) set spelled texts p (λ m t e. cc)
+  call_ends (Tables map) set spelled texts p =
+      not_live (Tables map) set spelled texts p (λ m t e. cc)
+  call_ends (Boxes map x y) set spelled texts p =
+      not_live (Boxes map x y) set spelled texts p (λ m t e. cc)
+  call_ends (Moves map x y) set spelled texts p =
+      not_live (Moves map x y) set spelled texts p (λ m t e. cc)
+  call_ends (Lengths map scenario) set spelled texts p =
+      not_live (Lengths map scenario) set spelled texts p (λ m t e. cc)
+  call_ends (Problems map seed count) set spelled texts p =
+      not_live (Problems map seed count) set spelled texts p (λ m t e. cc)
 
   refused_ends : (call : Call) → Spell words call → (line : List ℕ) → HasRefused holds (files_of call) line
       → Ends words holds script
   refused_ends call spelled line p =
       (record { status = 3; out = []; line = line }, bad_text call line spelled p)
 
-  files_end : (call : Call) → Spell words call → IsShown call.request
+  files_end : (call : Call) → Spell words call
       → ((texts : List (List ℕ)) × AreAccepted holds [] (files_of call) texts)
       ⊎ ((line : List ℕ) × HasRefused holds (files_of call) line) → Ends words holds script
-  files_end call spelled shown (inl (texts, p)) =
-      call_ends call.request call.settings spelled shown texts p
-  files_end call spelled shown (inr (line, p)) = refused_ends call spelled line p
+  files_end call spelled (inl (texts, p)) = call_ends call.request call.settings spelled texts p
+  files_end call spelled (inr (line, p)) = refused_ends call spelled line p
 
-  spelled_ends : (call : Call) → Spell words call → ArePresent holds (files_of call)
-      → (IsShown call.request) ⊎ ((line : List ℕ) × HasRefused holds (files_of call) line)
-      → Ends words holds script
-  spelled_ends call spelled present (inl shown) =
-      files_end call spelled shown (accepted_or_refused holds (files_of call) present)
-  spelled_ends call spelled present (inr (line, p)) = refused_ends call spelled line p
+  spelled_ends : (call : Call) → Spell words call → ArePresent holds (files_of call) → Ends words holds script
+  spelled_ends call spelled present =
+      files_end call spelled (accepted_or_refused holds (files_of call) present)
 
   refused_words : call_of words ≡ None → is_call words ≡ false
   unfolding is_call
   refused_words none = ap (λ (o : Option Call). is_some o) none
 
 pub outcomes_exist : (words : List (List ℕ)) (holds : List ℕ → Held) (script : List ℕ)
-    → ((call : Call) → Spell words call → ArePresent holds (files_of call)
-    × (IsShown call.request ⊎ ((line : List ℕ) × HasRefused holds (files_of call) line)))
+    → ((call : Call) → Spell words call → ArePresent holds (files_of call))
     → (outcome : Outcome) × IsOutcome words holds (Some script) outcome
 outcomes_exist words holds script can = by_call (call_of words) refl
   where
@@ -564,4 +559,4 @@ outcomes_exist words holds script can = by_call (call_of words) refl
     by_call None e =
         let bad = bad_word_exists words (refused_words words holds script e) in
         (record { status = 2; out = []; line = word_line bad.0 }, bad_word bad.0 bad.1)
-    by_call (Some call) e = let c = can call e in spelled_ends words holds script call e c.0 c.1
+    by_call (Some call) e = spelled_ends words holds script call e (can call e)

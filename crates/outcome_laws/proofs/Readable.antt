@@ -1,5 +1,5 @@
 -- What is read from a text of at most 2^30 bytes is a certificate, which has a verdict.
-use Rattle.std.proofs.Common.{◌≡◌, ◌∙◌, refl, sym, ap, subst, ℕ, ◌+◌, ◌^◌, ◌≤◌, arith, Bool, true, false, inl, inr}
+use Rattle.std.proofs.Common.{◌≡◌, ◌∙◌, refl, sym, ap, subst, ℕ, ◌+◌, ◌^◌, ◌≤◌, Bool, true, false}
 use Rattle.std.proofs.Common.{List, [], ◌∷◌, ◌++◌, length}
 use Rattle.std.specs.Prelude.{Option, Some, None, Result, Ok, Err, nat_le, ◌&&◌, if◌then◌else◌, codes, ⊤}
 use Rattle.std.specs.List.{list_all}
@@ -9,7 +9,6 @@ use Rattle.root2_cost.specs.declared.Cost.{Cost}
 use Rattle.grid_moves.specs.declared.Cell.{Cell}
 use Rattle.grid_moves.specs.Grid.{cell_number}
 use Rattle.potential_check.specs.declared.certificate.Certificate.{Certificate}
-use Rattle.potential_check.specs.declared.certificate.Claim.{Claim}
 use Rattle.potential_check.specs.declared.certificate.Claim.TheVariants.{Least, NoWalk}
 use Rattle.potential_check.specs.declared.fault.CertFault.{CertFault}
 use Rattle.potential_check.specs.Certificate.{are_points, are_sides, cells_of, is_certificate, is_short, is_small}

@@ -4,7 +4,7 @@ use Rattle.grid_moves.specs.Grid.{GridData}
 use Rattle.io_edge.specs.Told.{Held, holding}
 use Rattle.potential_check.specs.declared.certificate.Certificate.{Certificate}
 use Rattle.word_list.specs.Calls.{is_call}
-use Rattle.word_list.specs.Request.{Asked, Call, Check}
+use Rattle.word_list.specs.Request.{Call}
 use Rattle.word_list.specs.Rule.{IsBadWord}
 use Rattle.call_files.specs.Files.{AreAccepted, File, HasRefused}
 use Rattle.grid_answers.specs.Certificates.{IsVerdict}
@@ -32,14 +32,9 @@ AcceptedOrRefusedExist = (holds : List ℕ → Held) (files : List File) → Are
 abbrev pub VerdictsExist : Type 0
 VerdictsExist = (g : GridData) (c : Certificate) → (line : List ℕ) × (status : ℕ) × IsVerdict g c line status
 
--- what is asked for is shown here to be answered, where each of its files is accepted: all but `check`
-abbrev pub IsShown : Asked → Type 0
-IsShown other = ⊤
-
--- Where words spell no call, they come to an outcome; where they spell one whose files are all present, and
--- the input is told, they come to one if a file is refused, or if the call is one of those that are shown.
-abbrev pub OutcomesExistForShown : Type 0
-OutcomesExistForShown = (words : List (List ℕ)) (holds : List ℕ → Held) (script : List ℕ)
-    → ((call : Call) → Spell words call → ArePresent holds (files_of call)
-    × (IsShown call.request ⊎ ((line : List ℕ) × HasRefused holds (files_of call) line)))
+-- Where words spell no call, they come to an outcome; where they spell one, they do if its files are all
+-- present. The input is told.
+abbrev pub OutcomesExist : Type 0
+OutcomesExist = (words : List (List ℕ)) (holds : List ℕ → Held) (script : List ℕ)
+    → ((call : Call) → Spell words call → ArePresent holds (files_of call))
     → (outcome : Outcome) × IsOutcome words holds (Some script) outcome

@@ -11,6 +11,6 @@ pub mod of_outcomes;
 pub mod of_replies;
 
 pub use of_outcomes::{
-    engines_print_the_same_costs, jump_engines_print_the_same, outcomes_are_one,
-    outcomes_exist_for_shown, with_tables_the_same, written_begins_the_output,
+    engines_print_the_same_costs, jump_engines_print_the_same, outcomes_are_one, outcomes_exist,
+    with_tables_the_same, written_begins_the_output,
 };

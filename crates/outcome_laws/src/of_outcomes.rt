@@ -1,9 +1,9 @@
 //! Laws of outcomes: each is the contract of a call that does nothing.
 
-ghost use Rattle.outcome_laws.specs.Outcomes.{OutcomesAreOne, JumpEnginesPrintTheSame, EnginesPrintTheSameCosts};
-ghost use Rattle.outcome_laws.specs.Outcomes.{WrittenBeginsTheOutput};
+ghost use Rattle.outcome_laws.specs.Outcomes.{OutcomesAreOne, JumpEnginesPrintTheSame};
+ghost use Rattle.outcome_laws.specs.Outcomes.{EnginesPrintTheSameCosts, WrittenBeginsTheOutput};
 ghost use Rattle.outcome_laws.specs.Loaded.{WithTablesTheSame};
-ghost use Rattle.outcome_laws.specs.Existing.{OutcomesExistForShown};
+ghost use Rattle.outcome_laws.specs.Existing.{OutcomesExist};
 
 /// Words come to at most one outcome, where the files that they name and the input are told: one status, one
 /// output, and one line on `err`.
@@ -40,8 +40,8 @@ pub fn with_tables_the_same()
     ensures { WithTablesTheSame }
 {}
 
-/// Words that spell no call come to an outcome. So do words that spell one, where each file that they name is
-/// there and the input is told, if a file is refused, or if what they ask for is not `check`.
-pub fn outcomes_exist_for_shown()
-    ensures { OutcomesExistForShown }
+/// Words that spell no call come to an outcome. So do words that spell one, for every command, where each file
+/// that they name is there and the input is told.
+pub fn outcomes_exist()
+    ensures { OutcomesExist }
 {}

@@ -1,5 +1,5 @@
 use Rattle.outcome_laws.proofs.Existing.{outcomes_exist}
-use Rattle.outcome_laws.proofs.of_outcomes.outcomes_exist_for_shown.Goals as goal
+use Rattle.outcome_laws.proofs.of_outcomes.outcomes_exist.Goals as goal
 
 pub returns : goal.returns
 returns c = outcomes_exist
