@@ -8,7 +8,8 @@ use Rattle.grid_moves.specs.Grid.{GridData}
 use Rattle.path_points.specs.declared.checking.BadAt.{BadAt}
 use Rattle.path_points.proofs.Checks as points
 use Rattle.potential_check.specs.Accepted.{AcceptsClaim, IsBadWalk, IsRightWalk, Refuses, RefusesClaim}
-use Rattle.potential_check.specs.Accepted.{begins_at, broken, claimed, elsewhere, ends_at, ends_at_cost, has_free_ends}
+use Rattle.potential_check.specs.Accepted.{begins_at, broken, claimed, elsewhere, ends_at}
+use Rattle.potential_check.specs.Accepted.{ends_at_cost, has_free_ends}
 use Rattle.potential_check.specs.Accepted.{has_size, is_cost, leaves, other, starts_at_nothing}
 use Rattle.potential_check.specs.Moves.{first_failing}
 use Rattle.potential_check.specs.Potential.{is_listed, potential_of, rises}

@@ -32,7 +32,8 @@ use Rattle.word_list.specs.declared.request.Pick.TheVariants as pick
 use Rattle.word_list.specs.declared.request.Settings.{Settings}
 use Rattle.word_list.specs.declared.request.Show.{Show}
 use Rattle.word_list.proofs.Serving.{served}
-use Rattle.call_files.specs.FaultLines.{cert_line, long_line, map_line, scen_line, script_line, walks_line, word_line}
+use Rattle.call_files.specs.FaultLines.{cert_line, long_line, map_line, scen_line}
+use Rattle.call_files.specs.FaultLines.{script_line, walks_line, word_line}
 use Rattle.call_files.specs.Files.{AreAccepted, File, HasRefused, file_of}
 use Rattle.call_files.specs.Kinds.{count_in, fault_in, kind_for, limit_of, refusal_of, small_refusal}
 use Rattle.call_files.specs.Layered.{layers_on}
@@ -287,7 +288,8 @@ module _ (holds : List ℕ → Held) (set : Settings) where
   check_has map cert (text ∷ second ∷ []) p =
       let m = read_of map_line (map_of text) p.0.1 in
       let read = read_of cert_line (certificate_of second) p.1.0.1 in
-      let c = certificate_read second read.0 (within (holds cert) (limit_of kind.Cert) second p.1.0.0) read.1 in
+      let few = within (holds cert) (limit_of kind.Cert) second p.1.0.0 in
+      let c = certificate_read second read.0 few read.1 in
       let all = verdict_exists (query_grid (layers_on set m.0) c.0.start) c.0 in record {
         lines = all.0 ∷ [];
         status = all.1;

@@ -76,7 +76,8 @@ one_findings = findings_same
 
 -- on one map, whatever engines two settings pick
 found_on_map : (set other : Settings) (m : Map) (commands : List Command) (found same : List Finding)
-    → set.rule ≡ other.rule → AreLayers (layers_on set m) → OnSession set m (λ d. AreFindings d commands found)
+    → set.rule ≡ other.rule → AreLayers (layers_on set m)
+    → OnSession set m (λ d. AreFindings d commands found)
     → OnSession other m (λ d. AreFindings d commands same) → found ≡ same
 found_on_map set other m commands found same rule are p q =
     findings_same p.session q.session commands found same (session_layers set m p.session are p.is)

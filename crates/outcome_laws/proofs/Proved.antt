@@ -123,7 +123,8 @@ module _ (ls : Layers) (are : AreLayers ls) (s t : Cell) where
         )
 
     by_walk : (walk : Option points.Walk) (taken : List ℕ)
-        → IsPlainRun ground s t (record { walk = walk; taken = taken }) → IsLeastOrNone ground s t walk → HasProof
+        → IsPlainRun ground s t (record { walk = walk; taken = taken }) → IsLeastOrNone ground s t walk
+        → HasProof
     by_walk (Some w) taken run least =
         let closed = closed_exist ground s free t w.cost in
         by_lists (listed.Found w.points w.cost closed.0 taken) run least closed.1

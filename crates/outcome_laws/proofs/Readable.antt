@@ -11,13 +11,14 @@ use Rattle.grid_moves.specs.Grid.{cell_number}
 use Rattle.potential_check.specs.declared.certificate.Certificate.{Certificate}
 use Rattle.potential_check.specs.declared.certificate.Claim.TheVariants.{Least, NoWalk}
 use Rattle.potential_check.specs.declared.fault.CertFault.{CertFault}
-use Rattle.potential_check.specs.Certificate.{are_points, are_sides, cells_of, is_certificate, is_short, is_small}
-use Rattle.potential_check.specs.Certificate.{lies_inside}
+use Rattle.potential_check.specs.Certificate.{are_points, are_sides, cells_of, is_certificate}
+use Rattle.potential_check.specs.Certificate.{is_short, is_small, lies_inside}
 use Rattle.potential_check.specs.Forms.{ends_on, least_on, member_on, points_on, size_on, value_on}
-use Rattle.potential_check.specs.Text.{AreShort, Plain, State, Step, after_step, at_claim, at_ends, at_points, at_size}
+use Rattle.potential_check.specs.Text.{AreShort, Plain, State, Step, after_step, at_claim}
+use Rattle.potential_check.specs.Text.{at_ends, at_points, at_size}
 use Rattle.potential_check.specs.Text.{at_version, certificate_of, closed, ended, goes, in_cells, in_values}
-use Rattle.potential_check.specs.Text.{is_end, is_head, listed, misspelt, next, plain, read_from, read_left, spelled}
-use Rattle.potential_check.specs.Text.{unordered}
+use Rattle.potential_check.specs.Text.{is_end, is_head, listed, misspelt, next, plain}
+use Rattle.potential_check.specs.Text.{read_from, read_left, spelled, unordered}
 use Rattle.potential_check.proofs.Entries.{le_is}
 use Rattle.potential_check.proofs.LinesLeft.{ascend_to, ascend_to-pushed, short_text, text_read}
 use Rattle.potential_check.proofs.Listing.{cells_of-pushed, claim_is, listed_is}

@@ -1,6 +1,7 @@
 //! Laws of words, files and printed texts: each is the contract of a call that does nothing.
 
-ghost use Rattle.outcome_laws.specs.Certificates.{CertificatesAreOne, ProofsAreOne, RefusalsAreOne, VerdictsAreOne};
+ghost use Rattle.outcome_laws.specs.Certificates.{CertificatesAreOne, ProofsAreOne};
+ghost use Rattle.outcome_laws.specs.Certificates.{RefusalsAreOne, VerdictsAreOne};
 ghost use Rattle.outcome_laws.specs.Existing.{AcceptedOrRefusedExist, BadWordsExist, VerdictsExist};
 ghost use Rattle.outcome_laws.specs.Files.{AcceptedTextsAreOne, RefusedLinesAreOne, AcceptedOrRefused};
 ghost use Rattle.outcome_laws.specs.Rulings.{JudgementsAreOne, RulingsAreOne};

@@ -2,7 +2,8 @@
 //! layers of one map. One who answers is like himself, so each law also says that what is printed is the only
 //! such thing.
 
-ghost use Rattle.outcome_laws.specs.Lines.{ReplyLinesAreOne, AnswersAreOne, DrawingsAreOne, HeardIsOne, TakenBeginsHeard};
+ghost use Rattle.outcome_laws.specs.Lines.{ReplyLinesAreOne, AnswersAreOne, DrawingsAreOne};
+ghost use Rattle.outcome_laws.specs.Lines.{HeardIsOne, TakenBeginsHeard};
 ghost use Rattle.outcome_laws.specs.Lines.{RowsAreOne, FindingsAreOne, DrillsAreOne, RowsDifferInTaken};
 
 /// Two who answer alike print one line for a query: one engine, or two that both jump (`jps`, `block`,

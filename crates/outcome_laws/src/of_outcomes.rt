@@ -40,8 +40,8 @@ pub fn with_tables_the_same()
     ensures { WithTablesTheSame }
 {}
 
-/// Words that spell no call come to an outcome. So do words that spell one, for every command, where each file
-/// that they name is there and the input is told.
+/// Words that spell no call come to an outcome. So do words that spell one, for every command, where each
+/// file that they name is there and the input is told.
 pub fn outcomes_exist()
     ensures { OutcomesExist }
 {}
