@@ -40,7 +40,8 @@ use Rattle.scen_text.specs.Faults.{scen_of}
 use Rattle.scen_text.specs.Names.{IsName, NameStands, bytes_at}
 use Rattle.scen_text.proofs.Laws.{scen_read}
 use Rattle.scen_text.proofs.Standing.{all_stand}
-use Rattle.scen_maker.specs.Lengths.{AreLengthLines, AreLengths, IsLineAt, IsProblemLine, problem_of}
+use Rattle.scen_maker.specs.Lengths.{AreLengthLines, AreLengths, IsLineAt, IsProblemLine, is_line}
+use Rattle.scen_maker.specs.Lengths.{problem_of}
 use Rattle.scen_maker.specs.Problems.{AreProblemLines, AreProblems, ArePriced, query_of}
 use Rattle.scen_maker.specs.Settling.{IsSettled, has_sides, least_in}
 use Rattle.scen_maker.specs.declared.costs.Settled.{Settled}
@@ -49,7 +50,7 @@ use Rattle.jps_run.specs.Rows.{AreRows, IsRow, is_agree, is_near, is_off, is_oth
 use Rattle.jps_run.specs.Who.{Who}
 use Rattle.jps_run.specs.declared.replies.row.Row.{Row}
 use Rattle.jps_run.specs.declared.replies.row.Row.TheVariants as row
-use Rattle.outcome_laws.specs.Agreeing.{AllAgree, IsAgreed, is_line}
+use Rattle.outcome_laws.specs.Agreeing.{AllAgree, IsAgreed}
 use Rattle.outcome_laws.proofs.Ground.{ends_free, ends_on, not_both, query_whole}
 use Rattle.outcome_laws.proofs.Least.{least_one}
 

@@ -1,19 +1,14 @@
 -- What `lengths` and `problems` print is a scenario whose every length agrees.
-use Rattle.std.specs.Prelude.{◌≡◌, ℕ, Bool, true, false, List, [], ◌∷◌, length, count_by, Ok}
+use Rattle.std.specs.Prelude.{◌≡◌, ℕ, true, List, length, count_by, Ok}
 use Rattle.std.specs.List.{concat, list_all}
 use Rattle.grid_moves.specs.Layers.{AreLayers, Layers}
 use Rattle.scen_text.specs.declared.entry.Entry.{Entry}
 use Rattle.scen_text.specs.Faults.{scen_of}
-use Rattle.scen_maker.specs.Lengths.{AreLengths}
+use Rattle.scen_maker.specs.Lengths.{AreLengths, is_line}
 use Rattle.scen_maker.specs.Problems.{AreProblems}
 use Rattle.jps_run.specs.Rows.{AreRows, is_agree, is_near, is_off, is_other, scen_status}
 use Rattle.jps_run.specs.Who.{Who}
 use Rattle.jps_run.specs.declared.replies.row.Row.{Row}
-
--- a line that is there: of an entry that is left out nothing is
-abbrev pub is_line : List ℕ → Bool
-is_line [] = false
-is_line (byte ∷ bytes) = true
 
 -- so many rows, each of them `agree`: so the last line counts as many and no other, and the status is 0
 pub record AllAgree (many : ℕ) (rows : List Row) : Type 0 where
