@@ -1,11 +1,11 @@
 -- The cells that lie ahead are the neighbours.
-use Rattle.std.proofs.Common.{◌≡◌, ℕ, zero, suc, ◌+◌, ◌≤◌, ◌⊎◌, inl, inr, arith, refl, ap, sym, ◌∙◌, Bool}
+use Rattle.std.proofs.Common.{◌≡◌, ℕ, zero, suc, ◌+◌, ◌≤◌, ◌⊎◌, inl, inr, arith, refl, ap, sym, Bool}
 use Rattle.std.proofs.Common.{true, false}
 use Rattle.std.specs.Prelude.{Option, Some, None, option_and_then, if◌then◌else◌}
 use Rattle.grid_moves.specs.declared.Cell.{Cell}
 use Rattle.grid_moves.specs.declared.Dir.{Dir}
 use Rattle.grid_moves.specs.declared.Dir.TheVariants.{N, NE, E, SE, S, SW, W, NW}
-use Rattle.grid_moves.specs.Grid.{GridData}
+use Rattle.grid_moves.specs.Grid.{GridData, is_free}
 use Rattle.grid_moves.specs.Move.{is_legal, ahead, legal_ahead, column_ahead, row_ahead, before}
 use Rattle.grid_moves.proofs.Legal.{IsLegal, legal_is, same_cell}
 
@@ -13,11 +13,11 @@ use Rattle.grid_moves.proofs.Legal.{IsLegal, legal_is, same_cell}
 three : (m n : ℕ) → m ≤ n + 1 → n ≤ m + 1 → (n ≡ m + 1) ⊎ (n ≡ m) ⊎ (m ≡ n + 1)
 three m n h k = grind arith
 
-before-next : (m n : ℕ) → m ≡ n + 1 → before m ≡ Some n
+pub before-next : (m n : ℕ) → m ≡ n + 1 → before m ≡ Some n
 before-next zero n e = absurd (omega arith)
 before-next (suc m) n e = let s : m ≡ n = omega arith in rw s refl
 
-there : (d : Dir) (u v : Cell) → column_ahead d u.x ≡ Some v.x → row_ahead d u.y ≡ Some v.y
+pub there : (d : Dir) (u v : Cell) → column_ahead d u.x ≡ Some v.x → row_ahead d u.y ≡ Some v.y
     → ahead d u ≡ Some v
 there d u v e f = rw (e, f) (ap (λ (c : Cell). Some c) (same_cell (record { x = v.x; y = v.y }) v refl refl))
 
@@ -48,22 +48,23 @@ pub legal_ahead-of : (g : GridData) (u v : Cell) → is_legal g u v ≡ true
     → (d : Dir) × (legal_ahead g u d ≡ Some v)
 legal_ahead-of g u v h = let a = ahead_of g u v h in (a.0, rw (a.1, h) refl)
 
--- what lies ahead over a legal move is reached by one
-pub legal_ahead-is : (g : GridData) (u v : Cell) (d : Dir) → legal_ahead g u d ≡ Some v
-    → is_legal g u v ≡ true
-legal_ahead-is g u v d h = by_cell (ahead d u) h
-  where
-    cell_in : Option Cell → Cell
-    cell_in None = v
-    cell_in (Some c) = c
+-- what lies ahead over a legal move: it is the cell ahead, is reached by one, and is free
+module _ (g : GridData) (u v : Cell) (d : Dir) (h : legal_ahead g u d ≡ Some v) where
+  by_test : (c : Cell) (b : Bool) → is_legal g u c ≡ b → (if b then Some c else None) ≡ Some v
+      → (Some c ≡ Some v) × (is_legal g u v ≡ true)
+  by_test c true e s = let same : c ≡ v = cc in (s, rw (← same) e)
+  by_test c false e s = absurd (cc)
 
-    by_test : (c : Cell) (b : Bool) → is_legal g u c ≡ b → (if b then Some c else None) ≡ Some v
-        → is_legal g u v ≡ true
-    by_test c true e s = let same : c ≡ v =
-        ap (λ (o : Option Cell). cell_in o) s in ap (λ (w : Cell). is_legal g u w) (sym same) ∙ e
-    by_test c false e s = absurd (cc)
+  by_cell : (o : Option Cell) → option_and_then (λ c. if is_legal g u c then Some c else None) o ≡ Some v
+      → (o ≡ Some v) × (is_legal g u v ≡ true)
+  by_cell None s = absurd (cc)
+  by_cell (Some c) s = by_test c (is_legal g u c) refl s
 
-    by_cell : (o : Option Cell) → option_and_then (λ c. if is_legal g u c then Some c else None) o ≡ Some v
-        → is_legal g u v ≡ true
-    by_cell None s = absurd (cc)
-    by_cell (Some c) s = by_test c (is_legal g u c) refl s
+  pub legal_ahead-ahead : ahead d u ≡ Some v
+  legal_ahead-ahead = (by_cell (ahead d u) h).0
+
+  pub legal_ahead-is : is_legal g u v ≡ true
+  legal_ahead-is = (by_cell (ahead d u) h).1
+
+  pub legal_ahead-free : is_free g v ≡ true
+  legal_ahead-free = (legal_is g u v legal_ahead-is).target

@@ -1,23 +1,16 @@
 -- An edited grid.
-use Rattle.std.proofs.Common.{◌≡◌, ◌≢◌, ◌<◌, arith, length, Bool, true, false, refl, ap, ◌∙◌, ◌&&◌}
+use Rattle.std.proofs.Common.{◌≡◌, ◌≢◌, ◌<◌, length, Bool, true, false, refl, ap, ◌∙◌, ◌&&◌}
 use Rattle.std.proofs.Common.{get_or-set_other, get_or-set_same, length-set}
-use Rattle.std.proofs.lemmas.Bool.Decides.{nat_tests}
 use Rattle.grid_moves.specs.declared.Cell.{Cell}
 use Rattle.grid_moves.specs.Grid.{GridData, IsGrid, is_free, is_inside, cell_number, grid_with}
-use Rattle.grid_moves.proofs.Places.{one_cell, number_below}
+use Rattle.grid_moves.proofs.Places.{inside_below, inside_is, one_cell}
 
 -- the edited cell is free as asked
 pub is_free-with_same : (g : GridData) (c : Cell) (free : Bool) → IsGrid g → is_inside g c ≡ true
     → is_free (grid_with g c free) c ≡ free
 is_free-with_same g c free grid inside =
-    let below : cell_number g.width c < length g.free = place in
+    let below : cell_number g.width c < length g.free = rw grid.whole (inside_below g c inside) in
     rw (inside, get_or-set_same g.free (cell_number g.width c) free false below) refl
-  where
-    place : cell_number g.width c < length g.free
-    place =
-        let column : c.x < g.width = grind (arith, nat_tests) in
-        let row : c.y < g.height = grind (arith, nat_tests) in
-        rw grid.whole (number_below g.width g.height c column row)
 
 -- any other cell stays as it was
 pub is_free-with_other : (g : GridData) (c d : Cell) (free : Bool) → is_inside g c ≡ true → d ≢ c
@@ -27,10 +20,8 @@ is_free-with_other g c d free inside other = by_test (is_inside g d) refl
     by_test : (test : Bool) → is_inside g d ≡ test → is_free (grid_with g c free) d ≡ is_free g d
     by_test false e = rw e refl
     by_test true e =
-        let column : c.x < g.width = grind (arith, nat_tests) in
-        let its_column : d.x < g.width = grind (arith, nat_tests) in
         let apart : cell_number g.width d ≢ cell_number g.width c =
-        λ same. other (one_cell g.width d c its_column column same) in
+        λ same. other (one_cell g.width d c (inside_is g d e).0 (inside_is g c inside).0 same) in
         ap (λ (b : Bool). is_inside g d && b)
         (get_or-set_other g.free (cell_number g.width c) (cell_number g.width d) free false apart)
 

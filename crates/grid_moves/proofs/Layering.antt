@@ -12,7 +12,7 @@ use Rattle.grid_moves.specs.Grid.{is_inside, layer_of}
 use Rattle.grid_moves.specs.Layers.{AreLayers, Layers, ground_at, is_on_map, layers_of}
 
 -- no ground is both
-not_both : (ground : Ground) → (is_ground Land ground && is_ground Water ground) ≡ false
+pub not_both : (ground : Ground) → (is_ground Land ground && is_ground Water ground) ≡ false
 not_both Blocked = refl
 not_both Land = refl
 not_both Water = refl

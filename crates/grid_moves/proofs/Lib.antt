@@ -7,3 +7,5 @@ pub mod Besides
 pub mod Bits
 pub mod Layering
 pub mod Short
+pub mod Dirs
+pub mod Walks

@@ -1,8 +1,9 @@
 -- The numbers of cells.
-use Rattle.std.proofs.Common.{◌≡◌, ℕ, ◌+◌, ◌*◌, ◌<◌, arith, ap}
+use Rattle.std.proofs.Common.{◌≡◌, ℕ, ◌+◌, ◌*◌, ◌<◌, arith, ap, true}
+use Rattle.std.proofs.lemmas.Bool.Decides.{nat_tests}
 use Rattle.grid_moves.specs.declared.Cell.{Cell}
-use Rattle.grid_moves.specs.Grid.{cell_number}
-use Rattle.grid_moves.proofs.Legal.{same_cell}
+use Rattle.grid_moves.specs.Grid.{GridData, cell_number, is_free, is_inside}
+use Rattle.grid_moves.proofs.Legal.{free_inside, same_cell}
 
 -- two places in rows of w are one place
 pub one_place : (w x y z t : ℕ) → x < w → z < w → y * w + x ≡ t * w + z → (y ≡ t) × (x ≡ z)
@@ -19,3 +20,18 @@ one_cell w c d h k e = let p = one_place w c.x c.y d.x d.y h k e in same_cell c 
 -- the number of a cell on the map is below the number of cells
 pub number_below : (w h : ℕ) (c : Cell) → c.x < w → c.y < h → cell_number w c < h * w
 number_below w h c p q = grind arith
+
+-- a cell on the map stands in one of its columns and rows, and what stands there lies on it
+pub inside_is : (g : GridData) (c : Cell) → is_inside g c ≡ true → (c.x < g.width) × (c.y < g.height)
+inside_is g c i = (grind (arith, nat_tests), grind (arith, nat_tests))
+
+pub inside_from : (g : GridData) (c : Cell) → c.x < g.width → c.y < g.height → is_inside g c ≡ true
+inside_from g c x y = grind (arith, nat_tests)
+
+-- of a cell on the map, and of a free one
+pub inside_below : (g : GridData) (c : Cell) → is_inside g c ≡ true
+    → cell_number g.width c < g.height * g.width
+inside_below g c i = let p = inside_is g c i in number_below g.width g.height c p.0 p.1
+
+pub free_below : (g : GridData) (c : Cell) → is_free g c ≡ true → cell_number g.width c < g.height * g.width
+free_below g c f = let p = free_inside g c f in number_below g.width g.height c p.0 p.1

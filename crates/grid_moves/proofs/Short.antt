@@ -2,11 +2,10 @@
 use Rattle.std.proofs.Common.{◌≡◌, ℕ, suc, ◌+◌, ◌*◌, ◌^◌, ◌<◌, ◌≤◌, arith, length, List, [], ◌∷◌}
 use Rattle.std.proofs.Common.{Bool, true, false, ◌||◌, map, eqb, refl, ap, sym, subst}
 use Rattle.std.proofs.Common.{mul-le-mul}
-use Rattle.std.specs.Prelude.{nat_eq, if◌then◌else◌}
 use Rattle.std.specs.List.{IsDistinct, AllByRecursion, list_any}
 use Rattle.std.proofs.lemmas.Map.Steps.{length-le_from_distinct_below}
+use Rattle.std.proofs.lemmas.Bool.{ne_eqb}
 use Rattle.std.proofs.lemmas.Bool.Decides.{nat_tests}
-use Rattle.root2_cost.specs.declared.Cost.{Cost}
 use Rattle.root2_cost.specs.Order.{IsAtMost, IsLess}
 use Rattle.root2_cost.proofs.AtMost.{IsAtMost-refl, IsAtMost-trans, IsAtMost-not_more, at_most_then_less}
 use Rattle.root2_cost.proofs.Sums.{IsAtMost-cancel_left, IsAtMost-more_left, IsLess-more_left}
@@ -14,46 +13,15 @@ use Rattle.grid_moves.specs.declared.Cell.{Cell}
 use Rattle.grid_moves.specs.Grid.{GridData, IsGrid, cell_number, is_free}
 use Rattle.grid_moves.specs.Move.{is_legal, move_cost}
 use Rattle.grid_moves.specs.Walk.{IsLeastWalk, IsWalk, cost_of, is_walk}
-use Rattle.grid_moves.proofs.Legal.{and_both, free_inside, legal_is}
-use Rattle.grid_moves.proofs.Places.{number_below, one_cell}
-
--- a move is one step, straight or diagonal
-pub move_counts : (u v : Cell) → (move_cost u v).a + (move_cost u v).b ≡ 1
-move_counts u v = by_test (nat_eq u.x v.x || nat_eq u.y v.y)
-  where
-    by_test : (straight : Bool)
-        → (let c : Cost = if straight then record { a = 1; b = 0 } else record { a = 0; b = 1 } in
-        c.a + c.b) ≡ 1
-    by_test true = refl
-    by_test false = refl
-
--- a walk's steps are the cells after its first one
-pub steps-cost_of : (s : Cell) (cells : List Cell)
-    → (cost_of (s ∷ cells)).a + (cost_of (s ∷ cells)).b ≡ length cells
-steps-cost_of s [] = refl
-steps-cost_of s (v ∷ cells) =
-    sum (move_cost s v) (cost_of (v ∷ cells)) (length cells) (move_counts s v) (steps-cost_of v cells)
-  where
-    sum : (p q : Cost) (n : ℕ) → p.a + p.b ≡ 1 → q.a + q.b ≡ n → (p.a + q.a) + (p.b + q.b) ≡ suc n
-    sum p q n e f = omega arith
+use Rattle.grid_moves.proofs.Legal.{and_both, free_inside}
+pub use Rattle.grid_moves.proofs.Walks.{move_counts, steps-cost_of, walk_free}
+use Rattle.grid_moves.proofs.Places.{free_below, one_cell}
 
 -- a walk costs more than what is left of it after its first move
 more_left : (s v : Cell) (cells : List Cell) → IsLess (cost_of (v ∷ cells)) (cost_of (s ∷ v ∷ cells))
 more_left s v cells =
     let one : (move_cost s v).a + (move_cost s v).b ≡ 1 = move_counts s v in
     IsLess-more_left (move_cost s v) (cost_of (v ∷ cells)) (omega arith)
-
-pub walk_free : (g : GridData) (s : Cell) (cells : List Cell) → is_walk g (s ∷ cells) ≡ true
-    → is_free g s ≡ true
-walk_free g s [] w = w
-walk_free g s (v ∷ cells) w = (legal_is g s v (and_both (is_legal g s v) (is_walk g (v ∷ cells)) w).0).source
-
-differ : (m n : ℕ) → (m ≡ n → ⊥) → eqb m n ≡ false
-differ m n h = by_test (eqb m n) refl
-  where
-    by_test : (b : Bool) → eqb m n ≡ b → eqb m n ≡ false
-    by_test true e = absurd (h (grind (arith, nat_tests)))
-    by_test false e = e
 
 -- the way from s to t is not left by a walk from s to t at no more cost
 NoneFrom : GridData → Cell → Cell → Cell → List Cell → Type 0
@@ -64,7 +32,7 @@ NoneFrom g s t v cells =
 first_apart : (g : GridData) (s t v : Cell) (cells : List Cell) → is_free g s ≡ true → IsWalk g v t cells
     → NoneFrom g s t v cells → eqb (cell_number g.width s) (cell_number g.width v) ≡ false
 unfolding NoneFrom
-first_apart g s t v cells free w none_from = differ (cell_number g.width s) (cell_number g.width v) (λ e.
+first_apart g s t v cells free w none_from = ne_eqb (cell_number g.width s) (cell_number g.width v) (λ e.
     let its_free : is_free g v ≡ true = walk_free g v cells w.legal in
     let one : s ≡ v = one_cell g.width s v (free_inside g s free).0 (free_inside g v its_free).0 e in
     none_from cells (subst (λ (c : Cell). IsWalk g c t cells) (sym one) w)
@@ -118,7 +86,7 @@ in_rest : (g : GridData) (s : Cell) (cells : List Cell) → is_walk g (s ∷ cel
 in_rest g s cells w q rest h = by_test (eqb q (cell_number g.width s)) refl h
   where
     first : cell_number g.width s < g.height * g.width
-    first = let p = free_inside g s (walk_free g s cells w) in number_below g.width g.height s p.0 p.1
+    first = free_below g s (walk_free g s cells w)
 
     by_test : (b : Bool) → eqb q (cell_number g.width s) ≡ b
         → (b || list_any (eqb q) (map (cell_number g.width) cells)) ≡ true → q < g.height * g.width

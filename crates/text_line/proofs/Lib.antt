@@ -4,3 +4,4 @@ pub mod Digits
 pub mod Placing
 pub mod LongDigits
 pub mod Reading
+pub mod Written

@@ -1,6 +1,6 @@
 -- The first field of a line.
 use Rattle.std.proofs.Common.{◌≡◌, ℕ, zero, suc, ◌<◌, Bool, true, false, not, List, [], ◌∷◌, length, get_or}
-use Rattle.std.proofs.Common.{take, drop, Some, None, refl, sym, ap, ◌∙◌, inl, add-zero, arith}
+use Rattle.std.proofs.Common.{take, drop, Some, None, refl, sym, ap, ◌∙◌, add-zero, arith}
 use Rattle.std.specs.Prelude.{filter, position}
 use Rattle.std.specs.List.{slice_split}
 use Rattle.std.proofs.lemmas.Bool.{cases_Bool, ltb-false, not-false}

@@ -1,6 +1,6 @@
 -- The places of lines and fields.
 use Rattle.std.proofs.Common.{◌≡◌, ℕ, zero, suc, ◌+◌, ◌^◌, ◌<◌, ◌≤◌, true, false, List, [], ◌∷◌, length}
-use Rattle.std.proofs.Common.{get_or, take, drop, Some, None, refl, sym, ap, ◌∙◌, inl, add-zero, arith}
+use Rattle.std.proofs.Common.{get_or, take, drop, Some, None, refl, sym, ap, ◌∙◌, add-zero, arith}
 use Rattle.std.specs.Prelude.{filter, map, position}
 use Rattle.std.specs.List.{slice_split, onto_first}
 use Rattle.std.proofs.lemmas.Bool.{cases_Bool, not-false}
@@ -34,7 +34,7 @@ bytes_of_lines number place [] = refl
 bytes_of_lines number place (piece ∷ pieces) = ap (λ (rest : List (List ℕ)). without_cr piece ∷ rest)
     (bytes_of_lines (number + 1) (place + length piece + 1) pieces)
 
-room_onto : (b n : ℕ) (pieces : List (List ℕ)) → room_of pieces ≤ n + 1
+pub room_onto : (b n : ℕ) (pieces : List (List ℕ)) → room_of pieces ≤ n + 1
     → room_of (onto_first b pieces) ≤ suc n + 1
 room_onto b n [] small = omega arith
 room_onto b n (piece ∷ pieces) small = omega arith

@@ -1,4 +1,4 @@
-use Rattle.std.proofs.Common.{◌-◌, arith}
+use Rattle.std.proofs.Common.{arith}
 use Rattle.text_line.proofs.Cut.{without_cr_cut, without_cr_same}
 use Rattle.text_line.proofs.lines.without_cr.Goals as goal
 

@@ -1,0 +1,24 @@
+-- The numbers of directions.
+use Rattle.std.proofs.Common.{◌≡◌, ◌<◌, arith, refl, ap, sym, ◌∙◌, get_or}
+use Rattle.grid_moves.specs.declared.Dir.{Dir}
+use Rattle.grid_moves.specs.declared.Dir.TheVariants.{N, NE, E, SE, S, SW, W, NW}
+use Rattle.grid_moves.specs.Move.{all_dirs, dir_number}
+
+-- a direction stands at its number
+pub numbered_dir : (d : Dir) → get_or all_dirs (dir_number d) N ≡ d
+numbered_dir N = refl
+numbered_dir NE = refl
+numbered_dir E = refl
+numbered_dir SE = refl
+numbered_dir S = refl
+numbered_dir SW = refl
+numbered_dir W = refl
+numbered_dir NW = refl
+
+-- so directions of one number are one
+pub one_dir : (d e : Dir) → dir_number d ≡ dir_number e → d ≡ e
+one_dir d e h = sym (numbered_dir d) ∙ ap (λ n. get_or all_dirs n N) h ∙ numbered_dir e
+
+-- there are eight
+pub few_dirs : (d : Dir) → dir_number d < 8
+few_dirs d = grind arith
