@@ -1,7 +1,7 @@
 -- The start of a pass: its own wave.
 use Rattle.std.proofs.Common.{◌≡◌, ◌≢◌, ℕ, zero, suc, ◌+◌, ◌*◌, ◌^◌, ◌<◌, ◌≤◌, inl, inr, arith, refl, ap, sym}
 use Rattle.std.proofs.Common.{◌∙◌, subst, Bool, true, false, List, [], ◌∷◌, length, get_or, set, length-set}
-use Rattle.std.specs.Prelude.{Some, slice_get, nat_eq, if◌then◌else◌}
+use Rattle.std.specs.Prelude.{Some, slice_get, nat_eq}
 use Rattle.std.proofs.lemmas.Bool.Decides.{nat_tests}
 use Rattle.std.proofs.lemmas.List.{get_or-set_same, get_or-set_other}
 use Rattle.std.proofs.lemmas.Nat.Bits.{bit_at-pow_same, bit_at-pow_other, bit_at-zero}
@@ -9,17 +9,17 @@ use Rattle.std.proofs.lemmas.Option.{slice_get_within}
 use Rattle.root2_cost.specs.Rank.{straight_rank, diagonal_rank}
 use Rattle.grid_moves.specs.declared.Cell.{Cell}
 use Rattle.grid_moves.specs.declared.Dir.{Dir}
-use Rattle.grid_moves.specs.declared.Dir.TheVariants.{N, NE, E, SE, S, SW, W, NW}
 use Rattle.grid_moves.specs.Grid.{GridData, IsGrid, cell_number, is_free, is_inside}
 use Rattle.grid_moves.specs.Move.{all_dirs, dir_number}
-use Rattle.grid_moves.proofs.Places.{number_below}
+use Rattle.grid_moves.proofs.Places.{free_below}
+use Rattle.grid_moves.proofs.Dirs.{one_dir}
 use Rattle.cost_waves.specs.declared.front.Source.{Source}
 use Rattle.cost_waves.specs.Front.{Front, spread, dir_rank}
 use Rattle.cost_waves.specs.Rank.{far, rank_limit}
 use Rattle.cost_waves.specs.Told.{has_dir}
 use Rattle.cost_waves.specs.Wave.{rank_at, dirs_at, known_count, Way, WayBy, Waits, AllWait, Held, in_now}
 use Rattle.cost_waves.specs.Wave.{Keeps, IsSettled, IsReady}
-use Rattle.cost_waves.proofs.Keeping.{some_cell, IsOn, is_on, free_on, same_or_apart}
+use Rattle.cost_waves.proofs.Keeping.{IsOn, is_on, free_on, same_or_apart}
 use Rattle.cost_waves.proofs.Lists.{count_new}
 use Rattle.cost_waves.proofs.Settling.{IsSource, HasSpread, has_spread, in_all}
 use Rattle.cost_waves.proofs.Walks.{way_nowhere, way_by_one}
@@ -33,31 +33,11 @@ no_dirs d e = let z = bit_at-zero (dir_number d) in let f : has_dir 0 d
 own_dir : (d : Dir) → has_dir (2 ^ dir_number d) d ≡ true
 own_dir d = let z = bit_at-pow_same (dir_number d) in grind (arith, nat_tests)
 
--- directions of one number are one
-dir_of : ℕ → Dir
-dir_of n =
-    if nat_eq n 0 then N else if nat_eq n 1 then NE else if nat_eq n 2 then E else if nat_eq n 3 then SE
-    else if nat_eq n 4 then S else if nat_eq n 5 then SW else if nat_eq n 6 then W else NW
-
-dir_of-number : (d : Dir) → dir_of (dir_number d) ≡ d
-unfolding dir_of
-dir_of-number N = refl
-dir_of-number NE = refl
-dir_of-number E = refl
-dir_of-number SE = refl
-dir_of-number S = refl
-dir_of-number SW = refl
-dir_of-number W = refl
-dir_of-number NW = refl
-
-pub same_dir : (d e : Dir) → dir_number d ≡ dir_number e → d ≡ e
-same_dir d e h = sym (dir_of-number d) ∙ ap (λ (n : ℕ). dir_of n) h ∙ dir_of-number e
-
 only_dir : (d b : Dir) → has_dir (2 ^ dir_number d) b ≡ true → d ≡ b
 only_dir d b e = by_test (nat_eq (dir_number b) (dir_number d)) refl
   where
     by_test : (t : Bool) → nat_eq (dir_number b) (dir_number d) ≡ t → d ≡ b
-    by_test true h = same_dir d b (let k : dir_number b ≡ dir_number d = grind (arith, nat_tests) in sym k)
+    by_test true h = one_dir d b (let k : dir_number b ≡ dir_number d = grind (arith, nat_tests) in sym k)
     by_test false h = absurd (
         let n : dir_number b ≢ dir_number d = grind (arith, nat_tests) in
         let z = bit_at-pow_other (dir_number d) (dir_number b) n in
@@ -84,7 +64,7 @@ module _ (g : GridData) (s : Cell) (whole : IsGrid g) (free : is_free g s ≡ tr
   on = free_on g s free
 
   within : at < length ranks
-  within = let b : at < g.height * g.width = number_below g.width g.height s on.column on.row in omega arith
+  within = rw ranked (free_below g s free)
 
   here : rank_at g f0.ranks s ≡ 0
   here = get_or-set_same ranks at 0 far within
@@ -134,7 +114,7 @@ module _ (g : GridData) (s : Cell) (whole : IsGrid g) (free : is_free g s ≡ tr
   }
     where
       wait_start : AllWait g 0 f0.ranks only
-      wait_start zero c e = subst (λ (v : Cell). Waits g 0 f0.ranks v) (some_cell s c e)
+      wait_start zero c e = subst (λ (v : Cell). Waits g 0 f0.ranks v) (let same : s ≡ c = cc in same)
           (let h = here in record { free = free; below = omega arith; reached = omega arith })
       wait_start (suc j) c e = absurd (let p = slice_get_within only (suc j) c e in omega arith)
 
@@ -168,7 +148,7 @@ module _ (g : GridData) (s : Cell) (whole : IsGrid g) (free : is_free g s ≡ tr
       h = has_spread g s whole 0 only (2 * straight_rank) refl source all_dirs f0 keeps is_source
 
       settled_start : (j : ℕ) (u : Cell) → j < 1 → slice_get only j ≡ Some u → IsSettled g s f1 u
-      settled_start zero u q p = subst (λ (v : Cell). IsSettled g s f1 v) (some_cell s u p)
+      settled_start zero u q p = subst (λ (v : Cell). IsSettled g s f1 v) (let same : s ≡ u = cc in same)
           (λ d v e. h.relaxed d v (in_all d) e)
       settled_start (suc j) u q p = absurd (omega arith)
 

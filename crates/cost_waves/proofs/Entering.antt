@@ -2,14 +2,14 @@
 use Rattle.std.proofs.Common.{◌≡◌, ◌≢◌, ℕ, ◌+◌, ◌*◌, ◌<◌, ◌≤◌, inl, inr, arith, refl, ap, sym, ◌∙◌, subst}
 use Rattle.std.proofs.Common.{Bool, true, false, List, [], ◌∷◌, ◌++◌, length, get_or, length-set}
 use Rattle.std.specs.Prelude.{nat_lt, nat_le, bit_or, ◌&&◌, if◌then◌else◌}
-use Rattle.std.proofs.lemmas.Bool.{cases_lt}
+use Rattle.std.proofs.lemmas.Bool.{cases_lt, or_cases, or_left, or_right}
 use Rattle.std.proofs.lemmas.Bool.Decides.{nat_tests}
 use Rattle.std.proofs.lemmas.List.{get_or-set_same, get_or-set_other}
 use Rattle.root2_cost.specs.Rank.{straight_rank, diagonal_rank}
 use Rattle.grid_moves.specs.declared.Cell.{Cell}
 use Rattle.grid_moves.specs.declared.Dir.{Dir}
 use Rattle.grid_moves.specs.Grid.{GridData, IsGrid, cell_number, is_inside}
-use Rattle.grid_moves.proofs.Places.{number_below}
+use Rattle.grid_moves.proofs.Places.{free_below}
 use Rattle.cost_waves.specs.Front.{Front, entered}
 use Rattle.cost_waves.specs.Rank.{far, rank_limit}
 use Rattle.cost_waves.specs.Told.{has_dir}
@@ -18,8 +18,7 @@ use Rattle.cost_waves.specs.Wave.{before, in_now, in_next, in_after, Keeps}
 use Rattle.cost_waves.proofs.Keeping.{lowered, joined, Effect, lowers, joins, passes, effect, IsOn}
 use Rattle.cost_waves.proofs.Keeping.{follows_nothing, is_on, on_inside, free_on, same_or_apart, IsOffer}
 use Rattle.cost_waves.proofs.Keeping.{Follows, few}
-use Rattle.cost_waves.proofs.Lists.{among_more, among_last, from_more, count_new, count_old, or_left}
-use Rattle.cost_waves.proofs.Lists.{or_right, or_either}
+use Rattle.cost_waves.proofs.Lists.{among_more, among_last, from_more, bit_or-dir, count_new, count_old}
 
 module _ (g : GridData) (s : Cell) (whole : IsGrid g) (floor : ℕ) (now : List Cell) (f : Front)
     (k : Keeps g s floor now f) (to : Cell) (rank first : ℕ) (o : IsOffer g s floor f to rank first) where
@@ -36,12 +35,10 @@ module _ (g : GridData) (s : Cell) (whole : IsGrid g) (floor : ℕ) (now : List 
   on_start = free_on g s k.home
 
   ranked : at < length f.ranks
-  ranked = let n = k.ranked in let b : at < g.height * g.width = number_below g.width g.height to on.column
-      on.row in omega arith
+  ranked = rw k.ranked (free_below g to o.free)
 
   begun : at < length f.firsts
-  begun = let n = k.begun in let b : at < g.height * g.width = number_below g.width g.height to on.column
-      on.row in omega arith
+  begun = rw k.begun (free_below g to o.free)
 
   short : rank < rank_limit
   short = let b = o.bounded in let m = few g whole f k.ranked in omega arith
@@ -69,8 +66,8 @@ module _ (g : GridData) (s : Cell) (whole : IsGrid g) (floor : ℕ) (now : List 
         (get_or f.firsts at 0) first) 0 n
 
     joined_way : (d : Dir) → has_dir (dirs_at g with_dirs.firsts to) d ≡ true → WayBy g s to d old
-    joined_way d e = elim (or_either (dirs_at g f.firsts to) first d (ap (λ (n : ℕ). has_dir n d)
-        (sym dirs_here) ∙ e)) [
+    joined_way d e = elim (or_cases _ _ (sym (bit_or-dir (dirs_at g f.firsts to) first d)
+        ∙ ap (λ (n : ℕ). has_dir n d) (sym dirs_here) ∙ e)) [
           | inl h ↦ k.begins to d ((on_inside g to on)) h
           | inr h ↦ subst (λ (r : ℕ). WayBy g s to d r) same (o.sound d h)
         ]
@@ -116,8 +113,8 @@ module _ (g : GridData) (s : Cell) (whole : IsGrid g) (floor : ℕ) (now : List 
       | inr n ↦ ap (λ (m : ℕ). has_dir m d) (dirs_there c n) ∙ e
       | inl h ↦ subst (λ (v : Cell). has_dir (dirs_at g with_dirs.firsts v) d ≡ true) (sym h)
           (ap (λ (m : ℕ). has_dir m d) dirs_here
-          ∙ or_left (dirs_at g f.firsts to) first d (ap (λ (v : Cell). has_dir (dirs_at g f.firsts v) d)
-          (sym h) ∙ e))
+          ∙ bit_or-dir (dirs_at g f.firsts to) first d
+          ∙ or_left _ _ (ap (λ (v : Cell). has_dir (dirs_at g f.firsts v) d) (sym h) ∙ e))
     ]
 
     joined_stays : (c : Cell) → IsOn g c → rank_at g f.ranks c < floor + straight_rank
@@ -140,7 +137,7 @@ module _ (g : GridData) (s : Cell) (whole : IsGrid g) (floor : ℕ) (now : List 
     }
 
     pub joined_has : (d : Dir) → has_dir first d ≡ true → has_dir (dirs_at g with_dirs.firsts to) d ≡ true
-    joined_has d e = ap (λ (m : ℕ). has_dir m d) dirs_here ∙ or_right (dirs_at g f.firsts to) first d e
+    joined_has d e = ap (λ (m : ℕ). has_dir m d) dirs_here ∙ bit_or-dir (dirs_at g f.firsts to) first d ∙ or_right _ _ e
 
   -- with a lesser rank
   module _ (less : rank < old) (limit : ℕ) (is : limit ≡ floor + 2 * straight_rank) where

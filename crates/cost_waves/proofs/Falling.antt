@@ -1,5 +1,5 @@
 -- A move begins a least walk where the cost to the goal falls by what the move costs.
-use Rattle.std.proofs.Common.{◌≡◌, refl, sym, ◌∙◌, subst, List, ◌∷◌}
+use Rattle.std.proofs.Common.{◌≡◌, refl, subst, List, ◌∷◌}
 use Rattle.std.specs.Prelude.{Some}
 use Rattle.root2_cost.specs.Order.{IsAtMost}
 use Rattle.root2_cost.proofs.AtMost.{IsAtMost-trans}
@@ -12,7 +12,6 @@ use Rattle.grid_moves.specs.Walk.{IsLeastWalk, IsWalk, cost_of}
 use Rattle.grid_moves.proofs.Ahead.{legal_ahead-is}
 use Rattle.grid_moves.proofs.Short.{least_rest}
 use Rattle.cost_waves.specs.Begin.{Begins}
-use Rattle.cost_waves.proofs.Keeping.{some_cell}
 
 -- a least walk from u to t over v
 pub record GoesOver (g : GridData) (u v t : Cell) : Type 0 where
@@ -23,7 +22,8 @@ pub record GoesOver (g : GridData) (u v t : Cell) : Type 0 where
 pub goes_over : (g : GridData) (u v t : Cell) (d : Dir) → legal_ahead g u d ≡ Some v → Begins g u t d
     → GoesOver g u v t
 goes_over g u v t d e b =
-    let same : b.next ≡ v = some_cell b.next v (sym b.ahead ∙ e) in
+    let ahead = b.ahead in
+    let same : b.next ≡ v = cc in
     record { cells = b.cells; least = subst (λ (c : Cell). IsLeastWalk g u t (c ∷ b.cells)) same b.least }
 
 -- a walk that goes on from the move's end is least, where it costs no more than a least one

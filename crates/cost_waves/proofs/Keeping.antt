@@ -1,7 +1,7 @@
 -- What one offer keeps.
 use Rattle.std.proofs.Common.{◌≡◌, ◌≢◌, ℕ, ◌+◌, ◌*◌, ◌<◌, ◌≤◌, ◌⊎◌, inl, inr, arith, refl, ap, sym, ◌∙◌, Bool}
-use Rattle.std.proofs.Common.{true, false, length, get_or, set, mul-le-mul}
-use Rattle.std.specs.Prelude.{nat_lt, nat_eq, bit_or, if◌then◌else◌, Some}
+use Rattle.std.proofs.Common.{true, false, length, get_or, set}
+use Rattle.std.specs.Prelude.{nat_lt, nat_eq, bit_or, if◌then◌else◌}
 use Rattle.std.proofs.lemmas.Bool.Decides.{nat_tests}
 use Rattle.root2_cost.specs.Rank.{straight_rank, diagonal_rank}
 use Rattle.grid_moves.specs.declared.Cell.{Cell}
@@ -10,6 +10,7 @@ use Rattle.grid_moves.specs.Grid.{GridData, IsGrid, cell_number, is_free, is_ins
 use Rattle.grid_moves.specs.Move.{is_same}
 use Rattle.grid_moves.proofs.Legal.{free_inside, is_same-cell, is_same-itself}
 use Rattle.grid_moves.proofs.Places.{one_cell}
+use Rattle.grid_moves.proofs.Short.{few_cells}
 use Rattle.cost_waves.specs.Front.{Front, entered, next_with, after_with}
 use Rattle.cost_waves.specs.Rank.{far}
 use Rattle.cost_waves.specs.Told.{has_dir}
@@ -113,15 +114,8 @@ follows_nothing g floor f = record {
   more = omega arith;
 }
 
-pub some_cell : (u v : Cell) → Some u ≡ Some v → u ≡ v
-some_cell u v e = cc
-
 -- all known ranks are far below the limit
 pub few : (g : GridData) → IsGrid g → (f : Front) → length f.ranks ≡ g.height * g.width
     → diagonal_rank * known_count f.ranks ≤ 75137669218172928
 few g whole f n =
-    let c = count_low f.ranks in
-    let h = whole.sides.low in
-    let w = whole.sides.narrow in
-    let p : g.height * g.width ≤ 4096 * 4096 = mul-le-mul h w in
-    omega arith
+    let c = count_low f.ranks in let p = few_cells g whole in omega arith

@@ -1,16 +1,16 @@
 -- Lists with one more cell, entries that are written, and bits of bytes.
 use Rattle.std.proofs.Common.{◌≡◌, ℕ, ◌+◌, ◌<◌, ◌≤◌, ◌⊎◌, inl, inr, arith, refl, ap, sym, ◌∙◌, Bool, true}
-use Rattle.std.proofs.Common.{false, List, [], ◌∷◌, ◌++◌, length, get_or, set, length-append}
+use Rattle.std.proofs.Common.{false, ◌||◌, List, [], ◌∷◌, ◌++◌, length, get_or, set, length-append}
 use Rattle.std.specs.Prelude.{Some, slice_get, nat_lt, bit_or, if◌then◌else◌}
 use Rattle.std.proofs.lemmas.Bool.Decides.{nat_tests}
 use Rattle.std.proofs.lemmas.List.Sums.{sum_by-set, count_by-le-length}
-use Rattle.std.proofs.lemmas.Nat.Bits.{bit_at_or, bit_at-lt}
 use Rattle.std.proofs.lemmas.Option.{slice_get_within, get_or_from_slice_get, slice_get-get_or}
 use Rattle.std.proofs.Math.ListN.{get_or-append}
 use Rattle.std.proofs.Math.Seq.{get_or-append_seam}
 use Rattle.grid_moves.specs.declared.Cell.{Cell}
 use Rattle.grid_moves.specs.declared.Dir.{Dir}
 use Rattle.grid_moves.specs.Move.{dir_number}
+use Rattle.grid_moves.proofs.Bits.{bit_in_either}
 use Rattle.cost_waves.specs.Rank.{rank_limit}
 use Rattle.cost_waves.specs.Told.{has_dir}
 use Rattle.cost_waves.specs.Wave.{Among, known_count, is_known}
@@ -87,24 +87,5 @@ pub count_low : (xs : List ℕ) → known_count xs ≤ length xs
 count_low xs = count_by-le-length is_known xs
 
 -- the directions of both bytes
-pub or_left : (a b : ℕ) (d : Dir) → has_dir a d ≡ true → has_dir (bit_or a b) d ≡ true
-or_left a b d e =
-    let o = bit_at_or a b (dir_number d) in
-    let low = bit_at-lt a (dir_number d) in
-    let low2 = bit_at-lt b (dir_number d) in
-    grind (arith, nat_tests)
-
-pub or_right : (a b : ℕ) (d : Dir) → has_dir b d ≡ true → has_dir (bit_or a b) d ≡ true
-or_right a b d e =
-    let o = bit_at_or a b (dir_number d) in
-    let low = bit_at-lt a (dir_number d) in
-    let low2 = bit_at-lt b (dir_number d) in
-    grind (arith, nat_tests)
-
-pub or_either : (a b : ℕ) (d : Dir) → has_dir (bit_or a b) d ≡ true
-    → (has_dir a d ≡ true) ⊎ (has_dir b d ≡ true)
-or_either a b d e =
-    let o = bit_at_or a b (dir_number d) in
-    let low = bit_at-lt a (dir_number d) in
-    let low2 = bit_at-lt b (dir_number d) in
-    grind (arith, nat_tests)
+pub bit_or-dir : (a b : ℕ) (d : Dir) → has_dir (bit_or a b) d ≡ (has_dir a d || has_dir b d)
+bit_or-dir a b d = bit_in_either a b (dir_number d)

@@ -8,7 +8,7 @@ use Rattle.grid_moves.specs.declared.Dir.{Dir}
 use Rattle.grid_moves.specs.declared.Dir.TheVariants.{N, NE, E, SE, S, SW, W, NW}
 use Rattle.grid_moves.specs.Grid.{GridData, IsGrid, is_free, is_inside}
 use Rattle.grid_moves.specs.Move.{all_dirs, legal_ahead}
-use Rattle.grid_moves.proofs.Ahead.{legal_ahead-is}
+use Rattle.grid_moves.proofs.Ahead.{legal_ahead-is, legal_ahead-free}
 use Rattle.grid_moves.proofs.Legal.{legal_is}
 use Rattle.cost_waves.specs.declared.front.Source.{Source}
 use Rattle.cost_waves.specs.Front.{Front, offered, spread, dir_rank, first_over}
@@ -16,13 +16,10 @@ use Rattle.cost_waves.specs.Rank.{rank_limit}
 use Rattle.cost_waves.specs.Told.{has_dir}
 use Rattle.cost_waves.specs.Wave.{rank_at, dirs_at, Way, WayBy, Keeps, IsRelaxed, IsSettled}
 use Rattle.cost_waves.proofs.Entering.{HasEntered, has_entered}
-use Rattle.cost_waves.proofs.Keeping.{IsOn, free_on, on_inside, IsOffer, Follows, follows_nothing, some_cell}
+use Rattle.cost_waves.proofs.Keeping.{IsOn, free_on, on_inside, IsOffer, Follows, follows_nothing}
 use Rattle.cost_waves.proofs.Walks.{way_more, rank_low, rank_high}
 
--- where a legal move leads
-pub ahead_is_free : (g : GridData) (u v : Cell) (d : Dir) → legal_ahead g u d ≡ Some v → is_free g v ≡ true
-ahead_is_free g u v d e = (legal_is g u v (legal_ahead-is g u v d e)).target
-
+-- a legal move leads from a free cell
 pub ahead_from : (g : GridData) (u v : Cell) (d : Dir) → legal_ahead g u d ≡ Some v → is_free g u ≡ true
 ahead_from g u v d e = (legal_is g u v (legal_ahead-is g u v d e)).source
 
@@ -46,7 +43,7 @@ module _ (g : GridData) (floor : ℕ) where
       → IsRelaxed g s f' u d v
   relaxed_on s f f' a u v d e h r =
       let from : IsOn g u = free_on g u (ahead_from g u v d e) in
-      let to : IsOn g v = free_on g v (ahead_is_free g u v d e) in
+      let to : IsOn g v = free_on g v (legal_ahead-free g u v d e) in
       let stays = a.rank u from h in
       let dirs = a.dirs u from h in
       let falls = a.lower v to in
@@ -129,7 +126,7 @@ module _ (g : GridData) (s : Cell) (whole : IsGrid g) (floor : ℕ) (now : List 
         let h = o.high in
         let b = k.bounded from.cell inside known in
         record {
-          free = ahead_is_free g from.cell v d e;
+          free = legal_ahead-free g from.cell v d e;
           low = omega arith;
           high = omega arith;
           bounded = omega arith;
@@ -168,7 +165,7 @@ module _ (g : GridData) (s : Cell) (whole : IsGrid g) (floor : ℕ) (now : List 
           follows = h.follows;
           relaxed = λ v t. subst (λ (c : Cell). IsRelaxed g s (offered g.width limit from d
               (Some w) f) from.cell d c)
-              (some_cell w v (sym e ∙ t)) (one_relaxed d w (offered g.width limit from d (Some w) f) h);
+              (let same : w ≡ v = cc in same) (one_relaxed d w (offered g.width limit from d (Some w) f) h);
         }
 
     -- the cell is as it was after an offer

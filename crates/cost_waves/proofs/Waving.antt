@@ -12,7 +12,7 @@ use Rattle.grid_moves.specs.Move.{all_dirs}
 use Rattle.cost_waves.specs.Front.{Front, spread}
 use Rattle.cost_waves.specs.Wave.{rank_at, known_count, Waits, AllWait, Held, before, in_now, in_next}
 use Rattle.cost_waves.specs.Wave.{in_after, Keeps, IsSettled, IsReady, IsMidway, settled, source_at}
-use Rattle.cost_waves.proofs.Keeping.{is_on, free_on, on_inside, Follows, few, some_cell}
+use Rattle.cost_waves.proofs.Keeping.{is_on, free_on, on_inside, Follows, few}
 use Rattle.cost_waves.proofs.Lists.{count_low}
 use Rattle.cost_waves.proofs.Settling.{IsSource, has_spread, settled_on, in_all}
 use Rattle.cost_waves.proofs.Walks.{way_by_more}
@@ -69,8 +69,8 @@ module _ (g : GridData) (s : Cell) (whole : IsGrid g) (floor : ℕ) (now : List 
         | inl less ↦ old j u less p
         | inr more ↦
             let last : i ≡ j = omega arith in
-            subst (λ (v : Cell). IsSettled g s f' v)
-            (some_cell c u (sym e ∙ ap (λ (n : ℕ). slice_get now n) last ∙ p)) new
+            let same : c ≡ u = cc in
+            subst (λ (v : Cell). IsSettled g s f' v) same new
       ]
 
       by_test : (b : Bool) → nat_lt (rank_at g f.ranks c) floor ≡ b → IsMidway g s floor now (i + 1)

@@ -3,14 +3,13 @@
 -- this module.
 use Rattle.std.specs.Prelude.{ℕ, ◌+◌, ◌^◌, nat_lt, nat_le, nat_eq, ◌&&◌, if◌then◌else◌, List, [], ◌∷◌, ◌++◌}
 use Rattle.std.specs.Prelude.{slice_index_or, slice_set, Option, Some, None, bit_or}
-use Rattle.root2_cost.specs.Rank.{straight_rank, diagonal_rank}
 use Rattle.grid_moves.specs.declared.Cell.{Cell}
 use Rattle.grid_moves.specs.declared.Dir.{Dir}
-use Rattle.grid_moves.specs.declared.Dir.TheVariants.{N, NE, E, SE, S, SW, W, NW}
 use Rattle.grid_moves.specs.Grid.{GridData, cell_number}
-use Rattle.grid_moves.specs.Move.{dir_number, legal_ahead}
+use Rattle.grid_moves.specs.Move.{dir_number, legal_ahead, dir_cost}
 use Rattle.cost_waves.specs.declared.front.Source.{Source}
 use Rattle.cost_waves.specs.Rank.{far}
+use Rattle.root2_cost.specs.Rank.{rank_of, straight_rank}
 
 -- each cell's rank and its byte of directions, by its number, and the cells that wait for the next two waves
 pub record Front : Type 0 where
@@ -21,14 +20,7 @@ pub record Front : Type 0 where
 
 -- what a move counts
 abbrev pub dir_rank : Dir → ℕ
-dir_rank N = straight_rank
-dir_rank NE = diagonal_rank
-dir_rank E = straight_rank
-dir_rank SE = diagonal_rank
-dir_rank S = straight_rank
-dir_rank SW = diagonal_rank
-dir_rank W = straight_rank
-dir_rank NW = diagonal_rank
+dir_rank d = rank_of (dir_cost d)
 
 -- the directions with which walks over this cell and on in direction d begin: from the start of a pass, d
 abbrev pub first_over : Source → Dir → ℕ

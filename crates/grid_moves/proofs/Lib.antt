@@ -9,3 +9,5 @@ pub mod Layering
 pub mod Short
 pub mod Dirs
 pub mod Walks
+pub mod Costs
+pub mod Eight

@@ -73,6 +73,21 @@ dir_number NW = 7
 abbrev pub is_dir : Dir → Dir → Bool
 is_dir d e = nat_eq (dir_number d) (dir_number e)
 
+-- the direction leads across columns and rows
+abbrev pub is_diagonal : Dir → Bool
+is_diagonal N = false
+is_diagonal NE = true
+is_diagonal E = false
+is_diagonal SE = true
+is_diagonal S = false
+is_diagonal SW = true
+is_diagonal W = false
+is_diagonal NW = true
+
+-- what a move in this direction costs
+abbrev pub dir_cost : Dir → Cost
+dir_cost d = if is_diagonal d then record { a = 0; b = 1 } else record { a = 1; b = 0 }
+
 -- the direction back
 abbrev pub opposite : Dir → Dir
 opposite N = S

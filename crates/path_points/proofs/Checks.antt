@@ -2,9 +2,9 @@
 use Rattle.std.proofs.Common.{◌≡◌, ℕ, zero, suc, ◌+◌, ◌<◌, ◌≤◌, arith, Bool, true, false, ◌⊎◌, inl, inr, refl}
 use Rattle.std.proofs.Common.{ap, sym, ◌∙◌, subst, List, [], ◌∷◌, ◌++◌, length, drop, get_or, length-append}
 use Rattle.std.proofs.Common.{zero-add}
-use Rattle.std.specs.Prelude.{if◌then◌else◌, nat_le, Option, Some, None, Result, Ok, Err, option_map, not}
+use Rattle.std.specs.Prelude.{if◌then◌else◌, nat_le, Option, Some, None, Result, Ok, Err, option_map}
 use Rattle.std.specs.Prelude.{IfOk, IfErr}
-use Rattle.std.proofs.lemmas.Bool.Decides.{nat_tests}
+use Rattle.std.proofs.lemmas.Bool.{le-leb, leb-true, not-true}
 use Rattle.std.proofs.lemmas.List.{at_drop_more, at_drop_all}
 use Rattle.root2_cost.specs.declared.Cost.{Cost}
 use Rattle.root2_cost.specs.Sums.{add_costs, no_cost}
@@ -18,9 +18,9 @@ use Rattle.grid_moves.proofs.Short.{walk_free}
 use Rattle.path_points.specs.declared.checking.BadAt.{BadAt}
 use Rattle.path_points.specs.Checked.{most_steps, run, good_cost, is_legal_run, is_good_run, starts_free}
 use Rattle.path_points.specs.Checked.{breaks_after, is_bad_at, IsFirstBad, IsShortWalk}
-use Rattle.path_points.proofs.Filling.{and_both, segment-length}
+use Rattle.grid_moves.proofs.Legal.{and_both}
+use Rattle.path_points.proofs.Filling.{segment-length}
 use Rattle.path_points.proofs.Joined.{run_joined, run_parts, run_free, run_cost_joined, run_counts}
-use Rattle.path_points.proofs.Running.{le_true}
 
 abbrev pub steps_of : Cost → ℕ
 steps_of cost = cost.a + cost.b
@@ -65,12 +65,9 @@ good_is g s u v h =
     record {
       lined = legal.0;
       walk = legal.1;
-      few = le_is (s + steps_between u v) most_steps good.1;
+      few = leb-true (s + steps_between u v) most_steps good.1;
       free = run_free g u v legal.1;
     }
-  where
-    le_is : (m n : ℕ) → nat_le m n ≡ true → m ≤ n
-    le_is m n h = grind (arith, nat_tests)
 
 pub good_few :
     (g : GridData) (cost : Cost) (u v : Cell) → is_good_run g (steps_of cost) u v ≡ true
@@ -81,7 +78,7 @@ good_few g cost u v h =
 good_from :
     (g : GridData) (s : ℕ) (u v : Cell) → are_lined u v ≡ true → is_walk g (u ∷ run u v) ≡ true
     → s + steps_between u v ≤ most_steps → is_good_run g s u v ≡ true
-good_from g s u v l w f = rw (l, w, le_true (s + steps_between u v) most_steps f) refl
+good_from g s u v l w f = rw (l, w, le-leb (s + steps_between u v) most_steps f) refl
 
 if_ok :
     {A B : Type 0} (b : Bool) (r : Result A B) (e : B) (x : A) → (if b then r else Err e) ≡ Ok x
@@ -233,10 +230,6 @@ goes_ok g i u (v ∷ points) cost total t =
 FirstBreak : GridData → ℕ → Cell → List Cell → ℕ → Type 0
 FirstBreak g s u points n = IsLeast (λ k. breaks_after g s (u ∷ points) k ≡ true) 0 n
 
-not_true : (b : Bool) → not b ≡ true → b ≡ false
-not_true false h = refl
-not_true true h = absurd (cc)
-
 -- where the first of the later points is bad, after a good one
 first_later :
     (g : GridData) (s : ℕ) (u v : Cell) (points : List Cell) (n : ℕ) → is_good_run g s u v ≡ true
@@ -246,7 +239,7 @@ first_later g s u v points n good first =
     record { in_range = omega arith; holds = first.holds; least = before }
   where
     before : (k : ℕ) → 0 ≤ k → k < suc n → ¬ (breaks_after g s (u ∷ v ∷ points) k ≡ true)
-    before zero l h b = let bad = not_true (is_good_run g s u v) b in cc
+    before zero l h b = let bad = not-true (is_good_run g s u v) b in cc
     before (suc k) l h b = first.least k (omega arith) (omega arith) b
 
 later_first :
@@ -294,7 +287,7 @@ first_err :
 unfolding FirstBreak
 first_err g i u [] cost n first = let e = first.holds in absurd (cc)
 first_err g i u (v ∷ points) cost zero first =
-    rw (not_true (is_good_run g (steps_of cost) u v) first.holds) refl
+    rw (not-true (is_good_run g (steps_of cost) u v) first.holds) refl
 first_err g i u (v ∷ points) cost (suc n) first =
     let good : is_good_run g (steps_of cost) u v ≡ true = by_test (is_good_run g (steps_of cost) u v) refl in
     let rest = first_err g (i + 1) v points (paid cost u v) n
@@ -366,14 +359,14 @@ module _ (g : GridData) (u : Cell) (points : List Cell) (free : is_free g u ≡ 
   first_bad n first = record { in_range = omega arith; holds = first.holds; least = before }
     where
       before : (k : ℕ) → 0 ≤ k → k < suc n → ¬ (is_bad_at g (u ∷ points) k ≡ true)
-      before zero l h b = let bad = not_true (is_free g u) b in cc
+      before zero l h b = let bad = not-true (is_free g u) b in cc
       before (suc k) l h b = first.least k (omega arith) (omega arith) b
 
   bad_first :
       (answer : Result Cost BadAt) → checked_from g 0 u points no_cost ≡ answer → (i : ℕ)
       → IsFirstBad g (u ∷ points) i → answer ≡ bad_at i
   unfolding FirstBreak
-  bad_first answer e zero first = let bad = not_true (is_free g u) first.holds in absurd (cc)
+  bad_first answer e zero first = let bad = not-true (is_free g u) first.holds in absurd (cc)
   bad_first answer e (suc n) first =
       sym e
       ∙ first_err g 0 u points no_cost n (record {

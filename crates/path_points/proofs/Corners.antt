@@ -1,7 +1,7 @@
 -- The points by which the plain engine prints a walk unfold to it.
 use Rattle.std.proofs.Common.{◌≡◌, ℕ, zero, suc, ◌+◌, ◌-◌, ◌*◌, ◌<◌, ◌≤◌, ◌⊎◌, inl, inr, arith, Bool, true}
 use Rattle.std.proofs.Common.{false, refl, ap, sym, ◌∙◌, List, [], ◌∷◌, ◌++◌}
-use Rattle.std.specs.Prelude.{nat_eq, nat_lt, if◌then◌else◌, Option, Some, None, option_map, max}
+use Rattle.std.specs.Prelude.{nat_eq, nat_lt, Option, Some, None, option_map, max}
 use Rattle.std.proofs.lemmas.Bool.Decides.{nat_tests}
 use Rattle.grid_moves.specs.declared.Cell.{Cell}
 use Rattle.grid_moves.specs.Grid.{GridData, is_free}
@@ -9,8 +9,7 @@ use Rattle.grid_moves.specs.Move.{is_legal}
 use Rattle.grid_moves.specs.Walk.{is_walk}
 use Rattle.grid_moves.specs.Points.{apart, steps_between, are_lined, toward, step_toward, segment}
 use Rattle.grid_moves.specs.Points.{unfolded_from, unfolding_of}
-use Rattle.grid_moves.proofs.Legal.{IsLegal, legal_is, same_cell}
-use Rattle.path_points.proofs.Filling.{and_both}
+use Rattle.grid_moves.proofs.Legal.{IsLegal, and_both, legal_is, same_cell}
 use Rattle.path_points.specs.Corners.{goes_straight, turns_after, corners}
 
 -- from a over b to c at an even pace towards q

@@ -1,5 +1,5 @@
 -- Segments cell by cell, and unfolding point by point.
-use Rattle.std.proofs.Common.{◌≡◌, ℕ, zero, suc, ◌+◌, ◌-◌, ◌<◌, arith, Bool, true, false, ◌&&◌, refl, ap, sym}
+use Rattle.std.proofs.Common.{◌≡◌, ℕ, zero, suc, ◌+◌, ◌-◌, ◌<◌, arith, true, refl, ap, sym}
 use Rattle.std.proofs.Common.{◌∙◌, List, [], ◌∷◌, ◌++◌, append_assoc, length}
 use Rattle.std.specs.Prelude.{Option, Some, None, option_map}
 use Rattle.std.proofs.lemmas.Bool.Decides.{nat_tests}
@@ -8,10 +8,6 @@ use Rattle.grid_moves.specs.Points.{apart, steps_between, are_lined, toward, ste
 use Rattle.grid_moves.specs.Points.{unfolded_from}
 use Rattle.grid_moves.specs.Walk.{last_of}
 use Rattle.grid_moves.proofs.Legal.{same_cell}
-
-pub and_both : (a b : Bool) → (a && b) ≡ true → (a ≡ true) × (b ≡ true)
-and_both true b e = (refl, e)
-and_both false b e = absurd (cc)
 
 toward_nearer : (m n : ℕ) → apart (toward m n) n ≡ apart m n - 1
 toward_nearer m n = grind (arith, nat_tests)

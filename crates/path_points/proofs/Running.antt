@@ -87,6 +87,3 @@ pub some_where :
     {A : Type 0} (a b c : Bool) (x y : A) → a ≡ true → b ≡ true → c ≡ true → y ≡ x
     → Some y ≡ (if (a && b) && c then Some x else None)
 some_where a b c x y e f h s = rw (e, f, h, s) refl
-
-pub le_true : (m n : ℕ) → m ≤ n → nat_le m n ≡ true
-le_true m n h = grind (arith, nat_tests)

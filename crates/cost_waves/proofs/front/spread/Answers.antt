@@ -1,98 +1,48 @@
-use Rattle.std.proofs.Common.{◌∙◌}
+use Rattle.std.proofs.Common.{arith, refl}
 use Rattle.grid_moves.specs.declared.Dir.TheVariants.{N, NE, E, SE, S, SW, W, NW}
-use Rattle.cost_waves.proofs.Spreading.{fits_ahead, all_eight}
+use Rattle.grid_moves.proofs.Eight.{all_eight}
+use Rattle.cost_waves.specs.Front.{offered, spread}
+use Rattle.cost_waves.proofs.Spreading.{fits_ahead}
 use Rattle.cost_waves.proofs.front.spread.Goals as goal
 
-pub offer-requires : goal.offer-requires
-offer-requires g c = record {
-  limit = c.requires.limit;
-  rank = c.requires.rank;
-  fits = fits_ahead (g.T.Terrain.grid c.args.t.now) c.requires.whole c.args.from.cell _ N _
-      (c.moves_around-a.ensures.around N) _ _ _ c.width-width.ensures.is
-      c.requires.ranked
-      c.requires.begun;
-}
+pub offer-requires-clause-fits : goal.offer-requires-clause-fits
+offer-requires-clause-fits g c = fits_ahead _ c.requires.whole c.args.from.cell _ N _
+    (c.moves_around-a.ensures.around N) _ _ _ c.width-width.ensures.is (omega arith) (omega arith)
 
-pub offer-requires-2 : goal.offer-requires-2
-offer-requires-2 g c = record {
-  limit = c.requires.limit;
-  rank = c.requires.rank;
-  fits = fits_ahead (g.T.Terrain.grid c.args.t.now) c.requires.whole c.args.from.cell _ NE _
-      (c.moves_around-a.ensures.around NE) _ _ _ c.width-width.ensures.is
-      (c.offer.auto.ranks ∙ c.requires.ranked)
-      (c.offer.auto.firsts ∙ c.requires.begun);
-}
+pub offer-requires-2-clause-fits : goal.offer-requires-2-clause-fits
+offer-requires-2-clause-fits g c = fits_ahead _ c.requires.whole c.args.from.cell _ NE _
+    (c.moves_around-a.ensures.around NE) _ _ _ c.width-width.ensures.is (omega arith) (omega arith)
 
-pub offer-requires-3 : goal.offer-requires-3
-offer-requires-3 g c = record {
-  limit = c.requires.limit;
-  rank = c.requires.rank;
-  fits = fits_ahead (g.T.Terrain.grid c.args.t.now) c.requires.whole c.args.from.cell _ E _
-      (c.moves_around-a.ensures.around E) _ _ _ c.width-width.ensures.is
-      (c.offer-2.auto.ranks ∙ c.offer.auto.ranks ∙ c.requires.ranked)
-      (c.offer-2.auto.firsts ∙ c.offer.auto.firsts ∙ c.requires.begun);
-}
+pub offer-requires-3-clause-fits : goal.offer-requires-3-clause-fits
+offer-requires-3-clause-fits g c = fits_ahead _ c.requires.whole c.args.from.cell _ E _
+    (c.moves_around-a.ensures.around E) _ _ _ c.width-width.ensures.is (omega arith) (omega arith)
 
-pub offer-requires-4 : goal.offer-requires-4
-offer-requires-4 g c = record {
-  limit = c.requires.limit;
-  rank = c.requires.rank;
-  fits = fits_ahead (g.T.Terrain.grid c.args.t.now) c.requires.whole c.args.from.cell _ SE _
-      (c.moves_around-a.ensures.around SE) _ _ _ c.width-width.ensures.is
-      (c.offer-3.auto.ranks ∙ c.offer-2.auto.ranks ∙ c.offer.auto.ranks ∙ c.requires.ranked)
-      (c.offer-3.auto.firsts ∙ c.offer-2.auto.firsts ∙ c.offer.auto.firsts ∙ c.requires.begun);
-}
+pub offer-requires-4-clause-fits : goal.offer-requires-4-clause-fits
+offer-requires-4-clause-fits g c = fits_ahead _ c.requires.whole c.args.from.cell _ SE _
+    (c.moves_around-a.ensures.around SE) _ _ _ c.width-width.ensures.is (omega arith) (omega arith)
 
-pub offer-requires-5 : goal.offer-requires-5
-offer-requires-5 g c = record {
-  limit = c.requires.limit;
-  rank = c.requires.rank;
-  fits = fits_ahead (g.T.Terrain.grid c.args.t.now) c.requires.whole c.args.from.cell _ S _
-      (c.moves_around-a.ensures.around S) _ _ _ c.width-width.ensures.is
-      (c.offer-4.auto.ranks ∙ c.offer-3.auto.ranks ∙ c.offer-2.auto.ranks ∙ c.offer.auto.ranks
-      ∙ c.requires.ranked)
-      (c.offer-4.auto.firsts ∙ c.offer-3.auto.firsts ∙ c.offer-2.auto.firsts ∙ c.offer.auto.firsts
-      ∙ c.requires.begun);
-}
+pub offer-requires-5-clause-fits : goal.offer-requires-5-clause-fits
+offer-requires-5-clause-fits g c = fits_ahead _ c.requires.whole c.args.from.cell _ S _
+    (c.moves_around-a.ensures.around S) _ _ _ c.width-width.ensures.is (omega arith) (omega arith)
 
-pub offer-requires-6 : goal.offer-requires-6
-offer-requires-6 g c = record {
-  limit = c.requires.limit;
-  rank = c.requires.rank;
-  fits = fits_ahead (g.T.Terrain.grid c.args.t.now) c.requires.whole c.args.from.cell _ SW _
-      (c.moves_around-a.ensures.around SW) _ _ _ c.width-width.ensures.is
-      (c.offer-5.auto.ranks ∙ c.offer-4.auto.ranks ∙ c.offer-3.auto.ranks ∙ c.offer-2.auto.ranks
-      ∙ c.offer.auto.ranks ∙ c.requires.ranked)
-      (c.offer-5.auto.firsts ∙ c.offer-4.auto.firsts ∙ c.offer-3.auto.firsts ∙ c.offer-2.auto.firsts
-      ∙ c.offer.auto.firsts ∙ c.requires.begun);
-}
+pub offer-requires-6-clause-fits : goal.offer-requires-6-clause-fits
+offer-requires-6-clause-fits g c = fits_ahead _ c.requires.whole c.args.from.cell _ SW _
+    (c.moves_around-a.ensures.around SW) _ _ _ c.width-width.ensures.is (omega arith) (omega arith)
 
-pub offer-requires-7 : goal.offer-requires-7
-offer-requires-7 g c = record {
-  limit = c.requires.limit;
-  rank = c.requires.rank;
-  fits = fits_ahead (g.T.Terrain.grid c.args.t.now) c.requires.whole c.args.from.cell _ W _
-      (c.moves_around-a.ensures.around W) _ _ _ c.width-width.ensures.is
-      (c.offer-6.auto.ranks ∙ c.offer-5.auto.ranks ∙ c.offer-4.auto.ranks ∙ c.offer-3.auto.ranks
-      ∙ c.offer-2.auto.ranks ∙ c.offer.auto.ranks ∙ c.requires.ranked)
-      (c.offer-6.auto.firsts ∙ c.offer-5.auto.firsts ∙ c.offer-4.auto.firsts ∙ c.offer-3.auto.firsts
-      ∙ c.offer-2.auto.firsts ∙ c.offer.auto.firsts ∙ c.requires.begun);
-}
+pub offer-requires-7-clause-fits : goal.offer-requires-7-clause-fits
+offer-requires-7-clause-fits g c = fits_ahead _ c.requires.whole c.args.from.cell _ W _
+    (c.moves_around-a.ensures.around W) _ _ _ c.width-width.ensures.is (omega arith) (omega arith)
 
-pub offer-requires-8 : goal.offer-requires-8
-offer-requires-8 g c = record {
-  limit = c.requires.limit;
-  rank = c.requires.rank;
-  fits = fits_ahead (g.T.Terrain.grid c.args.t.now) c.requires.whole c.args.from.cell _ NW _
-      (c.moves_around-a.ensures.around NW) _ _ _ c.width-width.ensures.is
-      (c.offer-7.auto.ranks ∙ c.offer-6.auto.ranks ∙ c.offer-5.auto.ranks ∙ c.offer-4.auto.ranks
-      ∙ c.offer-3.auto.ranks ∙ c.offer-2.auto.ranks ∙ c.offer.auto.ranks ∙ c.requires.ranked)
-      (c.offer-7.auto.firsts ∙ c.offer-6.auto.firsts ∙ c.offer-5.auto.firsts ∙ c.offer-4.auto.firsts
-      ∙ c.offer-3.auto.firsts ∙ c.offer-2.auto.firsts ∙ c.offer.auto.firsts ∙ c.requires.begun);
-}
+pub offer-requires-8-clause-fits : goal.offer-requires-8-clause-fits
+offer-requires-8-clause-fits g c = fits_ahead _ c.requires.whole c.args.from.cell _ NW _
+    (c.moves_around-a.ensures.around NW) _ _ _ c.width-width.ensures.is (omega arith) (omega arith)
 
 pub returns : goal.returns
-returns g c = all_eight (g.T.Terrain.grid c.args.t.now) c.args.limit c.args.from _ c.width-width.ensures.is
+unfolding spread
+returns g c =
+    let grid = g.T.Terrain.grid c.args.t.now in
+    all_eight grid c.args.from.cell (λ d o f. offered c.width-width.result c.args.limit c.args.from d o f)
+    (spread grid c.args.limit c.args.from) (λ f. refl) (λ d dirs f. rw c.width-width.ensures.is refl)
     c.moves_around-a.result c.moves_around-a.ensures.around _ _ _ _ _ _ _ _ _
     c.in_ok-offer.ensures c.in_ok-offer-2.ensures c.in_ok-offer-3.ensures c.in_ok-offer-4.ensures
     c.in_ok-offer-5.ensures c.in_ok-offer-6.ensures c.in_ok-offer-7.ensures c.in_ok-offer-8.ensures

@@ -1,4 +1,5 @@
 use Rattle.std.proofs.Common.{◌≡◌, true, ◌∷◌, sym, ◌∙◌, ap, nat_le, ◌≤◌, ◌+◌, ◌-◌, arith, inl, inr, refl}
+use Rattle.std.proofs.lemmas.Bool.{le-leb}
 use Rattle.root2_cost.specs.Sums.{add_costs}
 use Rattle.root2_cost.proofs.Sums.{add_costs-no_cost_left}
 use Rattle.grid_moves.specs.Move.{is_legal}
@@ -7,7 +8,6 @@ use Rattle.grid_moves.specs.Walk.{is_walk, cost_of}
 use Rattle.grid_moves.proofs.Legal.{legal_is}
 use Rattle.path_points.proofs.Running.{run_on, run_off, run_left, run_counted, run_paid, run_ended}
 use Rattle.path_points.proofs.Running.{run_paid_off, less_nothing, none_unless, none_where, some_where}
-use Rattle.path_points.proofs.Running.{le_true}
 use Rattle.path_points.specs.Checked.{most_steps, run}
 use Rattle.path_points.proofs.checking.run_cost.Goals as goal
 use Rattle.path_points.proofs.checking.run_cost.Goals.{then-not-are_lined-via-then-not-are_lined}
@@ -92,4 +92,4 @@ returns-clause-cost g c =
     ∙ c.loop.invariant.priced
     ∙ ap (λ n. cost_of (u ∷ segment n u v)) c.steps_between-steps.ensures in
     some_where (are_lined u v) _ (nat_le (c.args.before + steps_between u v) most_steps) _ c.loop.cost
-    lined walk (le_true _ _ few) paid
+    lined walk (le-leb _ _ few) paid

@@ -3,7 +3,8 @@ use Rattle.std.specs.Prelude.{option_map}
 use Rattle.std.proofs.lemmas.List.{at_drop_more}
 use Rattle.grid_moves.specs.declared.Cell.{Cell}
 use Rattle.grid_moves.specs.Points.{are_lined, is_lined, unfolded_from}
-use Rattle.path_points.proofs.Filling.{and_both, unfolded_pushed}
+use Rattle.grid_moves.proofs.Legal.{and_both}
+use Rattle.path_points.proofs.Filling.{unfolded_pushed}
 use Rattle.path_points.proofs.unfolding.unfold.Goals as goal
 
 pub loop-next-preserved : goal.loop-next-preserved
