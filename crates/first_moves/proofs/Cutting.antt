@@ -6,7 +6,7 @@ use Rattle.std.specs.Prelude.{Option, Some, None, nat_lt, if◌then◌else◌}
 use Rattle.std.proofs.lemmas.Bool.{cases_lt}
 use Rattle.std.proofs.lemmas.Bool.Decides.{nat_tests}
 use Rattle.grid_moves.specs.declared.Dir.{Dir}
-use Rattle.cost_waves.proofs.Beginning.{same_dir}
+use Rattle.grid_moves.proofs.Dirs.{one_dir}
 use Rattle.first_moves.specs.declared.row.Run.{Run}
 use Rattle.first_moves.specs.First.{first_in}
 use Rattle.first_moves.specs.Runs.{is_same_move, runs_from, runs_of}
@@ -17,7 +17,7 @@ same_move None None h = refl
 same_move None (Some e) h = absurd (cc)
 same_move (Some d) None h = absurd (cc)
 same_move (Some d) (Some e) h =
-    ap (λ (c : Dir). Some c) (same_dir d e (grind (arith, nat_tests)))
+    ap (λ (c : Dir). Some c) (one_dir d e (grind (arith, nat_tests)))
 
 -- a run that begins at s, and those of what follows it
 abbrev runs_on : ℕ → ℕ → Option Dir → List (Option Dir) → List Run

@@ -2,23 +2,23 @@
 use Rattle.std.proofs.Common.{◌≡◌, ◌+◌, ◌*◌, ◌<◌, arith, refl, ap, sym, ◌∙◌, subst, Bool, true, false, List}
 use Rattle.std.proofs.Common.{[], ◌∷◌, ◌++◌}
 use Rattle.std.proofs.lemmas.List.{append_assoc}
-use Rattle.std.specs.Prelude.{Option, Some, None, not, if◌then◌else◌, IfSome, option_and_then}
+use Rattle.std.specs.Prelude.{Option, Some, None, not, if◌then◌else◌, IfSome}
 use Rattle.root2_cost.specs.declared.Cost.{Cost}
 use Rattle.root2_cost.specs.Sums.{add_costs, no_cost}
 use Rattle.root2_cost.proofs.Sums.{add_costs-assoc, add_costs-no_cost_right, no_cost_at_most}
 use Rattle.grid_moves.specs.declared.Cell.{Cell}
 use Rattle.grid_moves.specs.declared.Dir.{Dir}
 use Rattle.grid_moves.specs.Grid.{GridData, is_free, is_inside}
-use Rattle.grid_moves.specs.Move.{ahead, is_legal, is_same, legal_ahead, move_cost}
+use Rattle.grid_moves.specs.Move.{ahead, is_same, legal_ahead, move_cost}
 use Rattle.grid_moves.specs.Points.{unfolding_of}
 use Rattle.grid_moves.specs.Reply.{StandsForLeast}
 use Rattle.grid_moves.specs.Walk.{IsLeastWalk, cost_of}
-use Rattle.grid_moves.proofs.Ahead.{legal_ahead-is}
+use Rattle.grid_moves.proofs.Ahead.{legal_ahead-is, legal_ahead-ahead}
 use Rattle.grid_moves.proofs.Legal.{and_both, is_same-cell, is_same-itself, legal_is}
 use Rattle.grid_moves.proofs.Short.{least_rest, least_steps, move_counts}
 use Rattle.path_points.specs.Corners.{corners, goes_straight, turns_after}
 use Rattle.path_points.proofs.Corners.{corners_unfold}
-use Rattle.path_points.proofs.Joined.{cost_counts}
+use Rattle.grid_moves.proofs.Walks.{steps-cost_of}
 use Rattle.cost_waves.proofs.Falling.{goes_over, least_on}
 use Rattle.first_moves.specs.First.{IsFirstMove}
 use Rattle.first_moves.specs.Follow.{LeadsTo, IsNext, AreFirst, IsFollowed}
@@ -30,24 +30,11 @@ next_some g s t d r f e =
     subst (λ (o : Option Cell). IsNext g s t o) (sym (e ∙ f.0.ahead))
     (record { dir = d; first = f; ahead = f.0.ahead })
 
--- the cell ahead is that of the legal move
-ahead_is : (g : GridData) (u v : Cell) (d : Dir) → legal_ahead g u d ≡ Some v → ahead d u ≡ Some v
-ahead_is g u v d h = by_cell (ahead d u) h
-  where
-    by_test : (c : Cell) (b : Bool) → (if b then Some c else None) ≡ Some v → Some c ≡ Some v
-    by_test c true s = s
-    by_test c false s = absurd (cc)
-
-    by_cell : (o : Option Cell) → option_and_then (λ c. if is_legal g u c then Some c else None) o ≡ Some v
-        → o ≡ Some v
-    by_cell None s = absurd (cc)
-    by_cell (Some c) s = by_test c (is_legal g u c) s
-
 -- so a first move leads to the cell ahead
 pub next_ahead : (g : GridData) (s t : Cell) (d : Dir) (r : Option Cell) → IsFirstMove g s t (Some d)
     → r ≡ ahead d s → IsNext g s t r
 next_ahead g s t d r f e =
-    next_some g s t d r f (e ∙ ahead_is g s f.0.next d f.0.ahead ∙ sym f.0.ahead)
+    next_some g s t d r f (e ∙ legal_ahead-ahead g s f.0.next d f.0.ahead ∙ sym f.0.ahead)
 
 -- it lies on the map
 pub next_inside : (g : GridData) (s : Cell) (d : Dir) (r : Option Cell) → r ≡ legal_ahead g s d
@@ -133,8 +120,8 @@ few_moves g s t before at points cost w apart = by_left w.left w.goes_on
     by_left (v ∷ left) l =
         let whole = w.least (v ∷ left) l in
         let short = least_steps g s t (w.way ++ (v ∷ left)) whole in
-        let all = cost_counts s (w.way ++ (v ∷ left)) in
-        let rest = cost_counts at (v ∷ left) in
+        let all = steps-cost_of s (w.way ++ (v ∷ left)) in
+        let rest = steps-cost_of at (v ∷ left) in
         let sum = rw (w.paid (v ∷ left)) at all in
         omega (arith, short, sum, rest)
 

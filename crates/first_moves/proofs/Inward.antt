@@ -17,7 +17,7 @@ use Rattle.grid_moves.specs.Walk.{IsLeastWalk, cost_of}
 use Rattle.grid_moves.proofs.Ahead.{legal_ahead-is}
 use Rattle.grid_moves.proofs.Legal.{and_both, free_inside, legal_is}
 use Rattle.grid_moves.proofs.Short.{least_rest, least_steps}
-use Rattle.path_points.proofs.Joined.{cost_counts}
+use Rattle.grid_moves.proofs.Walks.{steps-cost_of}
 use Rattle.cost_waves.specs.Begin.{Begins, IsCostTo, IsLeastCost}
 use Rattle.cost_waves.specs.Told.{WaveData, cost_at}
 use Rattle.cost_waves.proofs.Falling.{least_by_move}
@@ -62,7 +62,7 @@ module _ (g : GridData) (goal : Cell) (w : WaveData) (p : IsPassFrom g goal w) w
       let l : IsLeastCost g c goal cost =
       subst (λ (o : Option Cost). IsCostTo g c goal o) e (cost_from c i) in
       let steps = least_steps g c goal l.cells l.least in
-      let counts = cost_counts c l.cells in
+      let counts = steps-cost_of c l.cells in
       let few = few_cells g p.sides in
       subst (λ (k : Cost). k.a + k.b < 16777216) l.priced (omega (arith, steps, counts, few))
 

@@ -11,7 +11,7 @@ use Rattle.grid_moves.specs.Walk.{IsLeastWalk, cost_of}
 use Rattle.grid_moves.proofs.Legal.{and_both}
 use Rattle.grid_moves.proofs.Short.{least_rest, walk_free}
 use Rattle.path_points.specs.Corners.{corners}
-use Rattle.path_points.proofs.Joined.{cost_counts}
+use Rattle.grid_moves.proofs.Walks.{steps-cost_of}
 use Rattle.first_moves.specs.Existence.{HasFollowed}
 use Rattle.first_moves.specs.First.{IsFirstMove}
 use Rattle.first_moves.specs.Follow.{AreFirst, LeadsTo}
@@ -31,7 +31,7 @@ same_moves g s t cells others l m =
     let same : cost_of (s ∷ cells) ≡ cost_of (s ∷ others) =
     IsAtMost-antisymmetric (cost_of (s ∷ cells)) (cost_of (s ∷ others)) (l.least others m.walk)
     (m.least cells l.walk) in
-    sym (cost_counts s cells) ∙ ap (λ (c : Cost). c.a + c.b) same ∙ cost_counts s others
+    sym (steps-cost_of s cells) ∙ ap (λ (c : Cost). c.a + c.b) same ∙ steps-cost_of s others
 
 module _ (g : GridData) (m : MovesData) (moves : AreMoves g m) (t : Cell) (to : is_free g t ≡ true) where
   -- the first move from a free cell, if there is one

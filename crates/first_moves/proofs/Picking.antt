@@ -1,19 +1,16 @@
 -- The first of the directions that begin least walks.
 use Rattle.std.proofs.Common.{◌≡◌, ℕ, suc, ◌*◌, ◌<◌, arith, refl, ap, sym, ◌∙◌, subst, Bool, true, false, inl}
 use Rattle.std.proofs.Common.{inr, List, [], ◌∷◌, length, get_or, map}
-use Rattle.std.specs.Prelude.{◌&&◌, Option, Some, None, nat_eq, nat_lt, if◌then◌else◌, IsTrue, ◌↔◌}
+use Rattle.std.specs.Prelude.{◌&&◌, Option, Some, None, nat_eq, if◌then◌else◌, IsTrue, ◌↔◌}
 use Rattle.std.proofs.lemmas.Bool.{cases_lt, eqb-true}
-use Rattle.std.proofs.lemmas.Bool.Decides.{nat_tests}
 use Rattle.std.proofs.lemmas.List.{length-map, get_or-map}
 use Rattle.grid_moves.specs.declared.Cell.{Cell}
 use Rattle.grid_moves.specs.declared.Dir.{Dir}
-use Rattle.grid_moves.specs.declared.Dir.TheVariants.{N, NE, E, SE, S, SW, W, NW}
 use Rattle.grid_moves.specs.Grid.{GridData, cell_number, is_inside}
 use Rattle.grid_moves.specs.Move.{all_dirs, dir_number, is_legal}
 use Rattle.grid_moves.specs.Walk.{IsLeastWalk, is_walk}
 use Rattle.grid_moves.proofs.Ahead.{legal_ahead-of}
 use Rattle.root2_cost.specs.declared.Cost.{Cost}
-pub use Rattle.cost_waves.proofs.Beginning.{same_dir}
 use Rattle.cost_waves.specs.Begin.{Begins, IsCostTo}
 use Rattle.cost_waves.specs.Told.{WaveData, Tells, cost_at}
 use Rattle.first_moves.specs.First.{IsFirstMove, has_dir, first_in, first_where}
@@ -21,17 +18,8 @@ use Rattle.first_moves.specs.declared.row.Run.{Run}
 use Rattle.first_moves.specs.Row.{IsRow}
 use Rattle.first_moves.specs.Runs.{runs_of}
 use Rattle.grid_moves.proofs.Legal.{and_both}
-use Rattle.grid_moves.proofs.Places.{number_below}
-
-few_dirs : (d : Dir) → dir_number d < 8
-few_dirs N = omega arith
-few_dirs NE = omega arith
-few_dirs E = omega arith
-few_dirs SE = omega arith
-few_dirs S = omega arith
-few_dirs SW = omega arith
-few_dirs W = omega arith
-few_dirs NW = omega arith
+use Rattle.grid_moves.proofs.Places.{inside_below}
+use Rattle.grid_moves.proofs.Dirs.{dir_number-few, one_dir}
 
 -- no direction of lesser number has the property
 abbrev NoneBefore : (Dir → Bool) → ℕ → Type 0
@@ -43,7 +31,7 @@ none_more has k d n f before e h = elim (cases_lt (dir_number e) k) [
   | inl less ↦ before e less
   | inr more ↦
       let is : dir_number e ≡ k = omega arith in
-      subst (λ (c : Dir). has c ≡ false) (sym (same_dir e d (is ∙ sym n))) f
+      subst (λ (c : Dir). has c ≡ false) (sym (one_dir e d (is ∙ sym n))) f
 ]
 
 -- of the directions with the property, one before which there is none is the first move
@@ -68,7 +56,7 @@ not_found g s t has told (Some c) cost none = by_cells cost.cells cost.least
     by_cells (v ∷ cells) l =
         let parts = and_both (is_legal g s v) (is_walk g (v ∷ cells)) l.walk.legal in
         let a = legal_ahead-of g s v parts.0 in
-        let not = none a.0 (few_dirs a.0) in
+        let not = none a.0 (dir_number-few a.0) in
         let is : has a.0 ≡ true = (told a.0).1 (record { next = v; ahead = a.1; cells = cells; least = l }) in
         absurd (cc)
 
@@ -99,14 +87,6 @@ pub same_size : {k m n h w : ℕ} → m ≡ h → n ≡ w → k ≡ m * n → k 
 same_size {k = k} {m = m} {n = n} {h = h} {w = w} p q e = e ∙ ap (λ (j : ℕ). j * n) p
     ∙ ap (λ (j : ℕ). h * j) q
 
--- the number of a cell on the map is below the number of cells
-pub below_all : (g : GridData) (t : Cell) → is_inside g t ≡ true → cell_number g.width t < g.height * g.width
-below_all g t i =
-    let b = and_both (nat_lt t.x g.width) (nat_lt t.y g.height) i in
-    let x : t.x < g.width = grind (arith, nat_tests) in
-    let y : t.y < g.height = grind (arith, nat_tests) in
-    number_below g.width g.height t x y
-
 -- what a pass tells is the row of its start
 pub row_of : (g : GridData) (s : Cell) (w : WaveData) (runs : List Run) → w.width ≡ g.width
     → length w.firsts ≡ g.height * g.width → Tells g s w → runs ≡ runs_of (map first_in w.firsts)
@@ -121,7 +101,7 @@ row_of g s w runs wide whole tells cut = record {
     moves : (t : Cell) → is_inside g t ≡ true
         → IsFirstMove g s t (get_or (map first_in w.firsts) (cell_number g.width t) None)
     moves t i =
-        let low = below_all g t i in
+        let low = inside_below g t i in
         let within : cell_number g.width t < length w.firsts =
         subst (λ (n : ℕ). cell_number g.width t < n) (sym whole) low in
         let is : get_or (map first_in w.firsts) (cell_number g.width t) None

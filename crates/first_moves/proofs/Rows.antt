@@ -11,7 +11,7 @@ use Rattle.grid_moves.specs.declared.Cell.{Cell}
 use Rattle.grid_moves.specs.declared.Dir.{Dir}
 use Rattle.grid_moves.specs.Grid.{GridData, cell_number, is_free, is_inside}
 use Rattle.grid_moves.proofs.Legal.{and_both}
-use Rattle.grid_moves.proofs.Places.{one_cell}
+use Rattle.grid_moves.proofs.Places.{one_cell, inside_below}
 use Rattle.grid_moves.proofs.Short.{walk_free}
 use Rattle.cost_waves.specs.Told.{Tells, WaveData}
 use Rattle.first_moves.specs.declared.row.Run.{Run}
@@ -19,7 +19,6 @@ use Rattle.first_moves.specs.First.{IsFirstMove}
 use Rattle.first_moves.specs.Kept.{AreRows}
 use Rattle.first_moves.specs.Row.{IsRow, AreMoves}
 use Rattle.first_moves.specs.Runs.{runs_from}
-use Rattle.first_moves.proofs.Picking.{below_all}
 
 -- of members with no first move only the first one begins a run
 none_begins : (k n : ℕ) → runs_from k None (replicate n None) ≡ []
@@ -35,13 +34,13 @@ without_moves g s i blocked = by_count (g.height * g.width) refl
     quiet t = inr (λ cells w. let free = walk_free g s cells w.legal in absurd (cc))
 
     by_count : (n : ℕ) → g.height * g.width ≡ n → IsRow g s (record { start = 0; first = None } ∷ [])
-    by_count zero e = absurd (let low = below_all g s i in omega (arith, low))
+    by_count zero e = absurd (let low = inside_below g s i in omega (arith, low))
     by_count (suc n) e = record {
       members = replicate (suc n) None;
       whole = length-replicate (suc n) None ∙ sym e;
       moves = λ t on. subst (λ (o : Option Dir). IsFirstMove g s t o)
           (sym (get_or-replicate (suc n) (cell_number g.width t) None None
-          (subst (λ (m : ℕ). cell_number g.width t < m) e (below_all g t on)))) (quiet t);
+          (subst (λ (m : ℕ). cell_number g.width t < m) e (inside_below g t on)))) (quiet t);
       cut = ap (λ (l : List Run). record { start = 0; first = None } ∷ l) (sym (none_begins 1 n));
     }
 
@@ -98,7 +97,7 @@ are_moves g w h rows wide high whole are = record {
   width = wide;
   height = high;
   rows = λ s i. subst (λ (n : ℕ). IsRow g s (get_or rows (cell_number n s) [])) (sym wide)
-      (are s (inside s i) (subst (λ (n : ℕ). cell_number g.width s < n) (sym whole) (below_all g s i)));
+      (are s (inside s i) (subst (λ (n : ℕ). cell_number g.width s < n) (sym whole) (inside_below g s i)));
 }
   where
     inside : (s : Cell) → is_inside g s ≡ true → s.x < g.width

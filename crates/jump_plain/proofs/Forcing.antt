@@ -187,10 +187,6 @@ module _ (g : GridData) (u : Cell) (d : Dir) (free : is_free g u ≡ true) (r : 
       joined : (s a b : Bool) → (s && a || s && b) ≡ (s && (a || b))
       joined s a b = grind arith
 
--- a legal move leads to a free cell
-pub ahead_free : (g : GridData) (u v : Cell) (d : Dir) → legal_ahead g u d ≡ Some v → is_free g v ≡ true
-ahead_free g u v d legal = target g u v d (legal_leads g u v d legal)
-
 same_sides : (a b c e : Bool) → a ≡ c → b ≡ e → sides a b ≡ sides c e
 same_sides a b c e h k = rw (h, k) refl
 

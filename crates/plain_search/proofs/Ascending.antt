@@ -1,6 +1,6 @@
 -- Sorted lists of different cells ascend strictly by their numbers.
 use Rattle.std.proofs.Common.{◌≡◌, ℕ, suc, ◌+◌, ◌*◌, ◌<◌, ◌≤◌, ◌⊎◌, inl, inr, length, List, [], ◌∷◌, refl, ap}
-use Rattle.std.proofs.Common.{arith, map, Bool, true, false, eqb, get_or}
+use Rattle.std.proofs.Common.{arith, map, false, eqb, get_or}
 use Rattle.std.proofs.Math.Nat.{mul-le-mul}
 use Rattle.std.proofs.lemmas.Bool.Decides.{nat_tests}
 use Rattle.std.proofs.lemmas.List.{get_or-map, length-map}
@@ -8,6 +8,7 @@ use Rattle.std.proofs.lemmas.List.Elements.{Contains-get_or}
 use Rattle.std.proofs.lemmas.List.Sorted.{IsPermutation-map}
 use Rattle.std.proofs.lemmas.Map.Keys.{IsDistinct-IsPermutation, IsDistinct-cons}
 use Rattle.std.proofs.lemmas.Map.Keys.{IsStrictlyIncreasing-from_distinct}
+use Rattle.std.proofs.lemmas.Bool.{ne_eqb}
 use Rattle.std.specs.Prelude.{Option, Some, None, slice_get}
 use Rattle.std.specs.List.{AllByRecursion, Contains, IsDistinct, cons_option, filter_map}
 use Rattle.std.specs.List.Sorted.{IsNonDecreasing, IsStrictlyIncreasing}
@@ -37,25 +38,12 @@ module _ {X Y : Type 0} (make : X → Option Y) (number : Y → ℕ) where
   distinct_made [] h = tt
   distinct_made (w ∷ xs) h =
       by_head (make w) refl
-      (distinct_made xs (λ i j a b y z p q r s e. less i j (h (suc i) (suc j) a b y z p q r s e)))
+      (distinct_made xs (λ i j a b y z p q r s e. (let next = h (suc i) (suc j) a b y z p q r s e in cc)))
     where
-      less : (i j : ℕ) → suc i ≡ suc j → i ≡ j
-      less i j e = omega arith
-
       other : (v : Y) → make w ≡ Some v → (i : ℕ) (x : X) (y : Y) → slice_get xs i ≡ Some x → make x ≡ Some y
           → eqb (number v) (number y) ≡ false
-      other v e i x y a b = differ (number v) (number y) (λ same. (let no : 0 ≡ suc i =
+      other v e i x y a b = ne_eqb (number v) (number y) (λ same. (let no : 0 ≡ suc i =
           h 0 (suc i) w x v y refl a e b same in omega arith))
-        where
-          differ : (m n : ℕ) → (m ≡ n → ⊥) → eqb m n ≡ false
-          differ m n apart = by_test (eqb m n) refl
-            where
-              same : eqb m n ≡ true → m ≡ n
-              same e = grind (arith, nat_tests)
-
-              by_test : (b : Bool) → eqb m n ≡ b → eqb m n ≡ false
-              by_test false e = e
-              by_test true e = absurd (apart (same e))
 
       by_head : (o : Option Y) → make w ≡ o → IsDistinct eqb (map number (filter_map make xs))
           → IsDistinct eqb (map number (cons_option o (filter_map make xs)))

@@ -1,7 +1,8 @@
 -- A legal move that is not kept leads where the parent's move is legal too.
 use Rattle.std.proofs.Common.{◌≡◌, ℕ, ◌+◌, ◌⊎◌, inl, inr, refl, ap, sym, ◌∙◌, arith, Bool, true, false, ◌&&◌}
 use Rattle.std.proofs.Common.{◌||◌, not}
-use Rattle.std.specs.Prelude.{Option, Some, None, if◌then◌else◌}
+use Rattle.std.specs.Prelude.{Some}
+use Rattle.std.proofs.lemmas.Bool.{cases_Bool}
 use Rattle.grid_moves.specs.declared.Cell.{Cell}
 use Rattle.grid_moves.specs.declared.Dir.{Dir}
 use Rattle.grid_moves.specs.declared.Dir.TheVariants.{N, NE, E, SE, S, SW, W, NW}
@@ -9,7 +10,7 @@ use Rattle.grid_moves.specs.declared.around.Around.{Around}
 use Rattle.grid_moves.specs.Around.{IsAround, end_of, is_open_to}
 use Rattle.grid_moves.specs.Grid.{GridData, is_free}
 use Rattle.grid_moves.specs.Move.{is_legal, is_same, corner_of, ahead, legal_ahead, column_ahead, row_ahead}
-use Rattle.grid_moves.proofs.Ahead.{legal_ahead-is}
+use Rattle.grid_moves.proofs.Ahead.{legal_ahead-is, legal_ahead-ahead}
 use Rattle.grid_moves.proofs.Legal.{legal_is, same_cell, and_both}
 use Rattle.plain_search.specs.declared.moves.Behind.{Behind}
 use Rattle.plain_search.specs.Offers.{less_offered}
@@ -32,35 +33,13 @@ not_kept_diagonal true r p q h = absurd (cc)
 not_kept_diagonal false true p q h = absurd (cc)
 not_kept_diagonal false false p q h = (refl, refl)
 
-same_or_not : (b : Bool) → (b ≡ true) ⊎ (b ≡ false)
-same_or_not true = inl refl
-same_or_not false = inr refl
-
-cell_in : Cell → Option Cell → Cell
-cell_in c None = c
-cell_in c (Some d) = d
-
-some_cell : (c d : Cell) → Some c ≡ Some d → c ≡ d
-unfolding cell_in
-some_cell c d e = ap (λ (o : Option Cell). cell_in c o) e
-
 -- what is open leads ahead
 pub record LeadsTo (g : GridData) (c : Cell) (d : Dir) (v : Cell) : Type 0 where
   pub legal : is_legal g c v ≡ true
   pub ahead_is : ahead d c ≡ Some v
 
 pub leads : (g : GridData) (c : Cell) (d : Dir) (v : Cell) → legal_ahead g c d ≡ Some v → LeadsTo g c d v
-leads g c d v e = record { legal = legal_ahead-is g c v d e; ahead_is = by_cell (ahead d c) refl e }
-  where
-    by_test : (w : Cell) → (b : Bool) → (if b then Some w else None) ≡ Some v → w ≡ v
-    by_test w true h = some_cell w v h
-    by_test w false h = absurd (cc)
-
-    by_cell : (o : Option Cell) → ahead d c ≡ o
-        → (elim o as (λ _. Option Cell) [ None ↦ None | Some w ↦ (if is_legal g c w then Some w else None) ])
-        ≡ Some v → o ≡ Some v
-    by_cell None f h = absurd (cc)
-    by_cell (Some w) f h = ap (λ (u : Cell). Some u) (by_test w (is_legal g c w) h)
+leads g c d v e = record { legal = legal_ahead-is g c v d e; ahead_is = legal_ahead-ahead g c v d e }
 
 pub open_leads : (g : GridData) (c : Cell) (a : Around) (d : Dir) → IsAround g c a → is_open_to a d ≡ true
     → LeadsTo g c d (end_of a c d)
@@ -70,27 +49,27 @@ module _ (g : GridData) (p x v : Cell) (a : Around) (s : Behind) (around : IsAro
     (lies : LiesAt p x s) (into : is_legal g p x ≡ true) (other : is_same p v ≡ false) where
   -- the columns of p, if it doesn't lie on the left, and if not on the right
   column_right : s.left ≡ false → v.x ≡ x.x + 1 → (p.x ≡ x.x) ⊎ (p.x ≡ v.x)
-  column_right l e = elim (same_or_not s.right)
+  column_right l e = elim (cases_Bool s.right)
       [ inl r ↦ inr (lies.right r ∙ sym e) | inr r ↦ inl (lies.column l r) ]
 
   column_left : s.right ≡ false → x.x ≡ v.x + 1 → (p.x ≡ x.x) ⊎ (p.x ≡ v.x)
-  column_left r e = elim (same_or_not s.left) [
+  column_left r e = elim (cases_Bool s.left) [
     | inl l ↦ inr (let f = lies.left l in omega arith)
     | inr l ↦ inl (lies.column l r)
   ]
 
   row_above : s.below ≡ false → x.y ≡ v.y + 1 → (p.y ≡ x.y) ⊎ (p.y ≡ v.y)
-  row_above b e = elim (same_or_not s.above) [
+  row_above b e = elim (cases_Bool s.above) [
     | inl u ↦ inr (let f = lies.above u in omega arith)
     | inr u ↦ inl (lies.row u b)
   ]
 
   row_below : s.above ≡ false → v.y ≡ x.y + 1 → (p.y ≡ x.y) ⊎ (p.y ≡ v.y)
-  row_below u e = elim (same_or_not s.below)
+  row_below u e = elim (cases_Bool s.below)
       [ inl b ↦ inr (lies.below b ∙ sym e) | inr b ↦ inl (lies.row u b) ]
 
   further : (m n : ℕ) → Some (m + 1) ≡ Some n → n ≡ m + 1
-  further m n f = sym (some_number (m + 1) n f)
+  further m n f = cc
 
   -- an open corner is free
   corner_free : (d : Dir) → is_open_to a d ≡ true → (q : Cell)
@@ -209,11 +188,4 @@ module _ (g : GridData) (p x v : Cell) (a : Around) (s : Behind) (around : IsAro
 pub all_kept : (a : Around) (d : Dir) → is_open_to a d ≡ true
     → is_open_to (less_offered a (record { left = false; right = false; above = false; below = false })) d
     ≡ true
-all_kept a N h = rw h refl
-all_kept a NE h = rw h refl
-all_kept a E h = rw h refl
-all_kept a SE h = rw h refl
-all_kept a S h = rw h refl
-all_kept a SW h = rw h refl
-all_kept a W h = rw h refl
-all_kept a NW h = rw h refl
+all_kept a d h = grind arith

@@ -1,14 +1,13 @@
 -- From what is read around a cell to the offers of its state.
-use Rattle.std.proofs.Common.{◌≡◌, ℕ, ◌∙◌, sym, ap, subst, refl, true}
+use Rattle.std.proofs.Common.{◌≡◌, ℕ, ◌∙◌, sym, ap, subst, true, arith}
 use Rattle.std.specs.Prelude.{Option}
+use Rattle.std.proofs.lemmas.Bool.{and_parts}
 use Rattle.grid_moves.specs.declared.Cell.{Cell}
 use Rattle.grid_moves.specs.declared.Dir.{Dir}
-use Rattle.grid_moves.specs.declared.Dir.TheVariants.{N, NE, E, SE, S, SW, W, NW}
 use Rattle.grid_moves.specs.declared.around.Around.{Around}
 use Rattle.grid_moves.specs.Around.{IsAround, end_of, is_open_to}
 use Rattle.grid_moves.specs.Grid.{GridData}
 use Rattle.grid_moves.specs.Move.{all_dirs}
-use Rattle.grid_moves.proofs.Legal.{and_both}
 use Rattle.best_first.specs.declared.node.Node.{Node}
 use Rattle.best_first.specs.Space.{SpaceData}
 use Rattle.best_first.specs.State.{state_told}
@@ -20,36 +19,15 @@ use Rattle.plain_search.specs.Offers.{less_offered, sides_of, all_offered, MayOf
 -- a move that is kept is open
 pub kept_open : (a : Around) (s : Behind) (d : Dir) → is_open_to (less_offered a s) d ≡ true
     → is_open_to a d ≡ true
-kept_open a s N h = (and_both a.n _ h).0
-kept_open a s NE h = (and_both a.ne _ h).0
-kept_open a s E h = (and_both a.e _ h).0
-kept_open a s SE h = (and_both a.se _ h).0
-kept_open a s S h = (and_both a.s _ h).0
-kept_open a s SW h = (and_both a.sw _ h).0
-kept_open a s W h = (and_both a.w _ h).0
-kept_open a s NW h = (and_both a.nw _ h).0
+kept_open a s d h = grind (arith, and_parts)
 
 -- and leads to the same cell
 pub kept_end : (a : Around) (s : Behind) (c : Cell) (d : Dir) → end_of (less_offered a s) c d ≡ end_of a c d
-kept_end a s c N = refl
-kept_end a s c NE = refl
-kept_end a s c E = refl
-kept_end a s c SE = refl
-kept_end a s c S = refl
-kept_end a s c SW = refl
-kept_end a s c W = refl
-kept_end a s c NW = refl
+kept_end a s c d = grind arith
 
 module _ (goal : Cell) (id key rank : ℕ) (a : Around) (s : Behind) (c : Cell) (space : SpaceData) where
   kept_may : MayOffer goal id key rank a c space → MayOffer goal id key rank (less_offered a s) c space
-  kept_may m N h = m N (kept_open a s N h)
-  kept_may m NE h = m NE (kept_open a s NE h)
-  kept_may m E h = m E (kept_open a s E h)
-  kept_may m SE h = m SE (kept_open a s SE h)
-  kept_may m S h = m S (kept_open a s S h)
-  kept_may m SW h = m SW (kept_open a s SW h)
-  kept_may m W h = m W (kept_open a s W h)
-  kept_may m NW h = m NW (kept_open a s NW h)
+  kept_may m d h = rw (kept_end a s c d) (m d (kept_open a s d h))
 
   -- where all moves may be offered, those that are kept may
   pub may_less : (moves : Around) → moves ≡ less_offered a s → MayOffer goal id key rank a c space

@@ -1,10 +1,9 @@
 -- What a state leaves out its parent has offered: the parent's move to that cell is legal.
 use Rattle.std.proofs.Common.{◌≡◌, ℕ, zero, suc, ◌+◌, ◌≤◌, ◌⊎◌, inl, inr, refl, ap, sym, ◌∙◌, arith, true}
 use Rattle.std.proofs.Common.{false}
-use Rattle.std.specs.Prelude.{Option, Some, None}
+use Rattle.std.specs.Prelude.{Option, Some, None, option_and_then}
 use Rattle.grid_moves.specs.declared.Cell.{Cell}
 use Rattle.grid_moves.specs.declared.Dir.{Dir}
-use Rattle.grid_moves.specs.declared.Dir.TheVariants.{N, NE, E, SE, S, SW, W, NW}
 use Rattle.grid_moves.specs.Grid.{GridData, is_free}
 use Rattle.grid_moves.specs.Move.{is_legal, is_same, corner_of, ahead, column_ahead, row_ahead, before}
 use Rattle.grid_moves.proofs.Legal.{IsLegal, legal_is, is_legal-from, same_cell, is_same-itself}
@@ -13,27 +12,20 @@ use Rattle.plain_search.specs.declared.moves.Behind.{Behind}
 use Rattle.plain_search.specs.Offers.{sides_of}
 
 pub some_number : (m n : ℕ) → Some m ≡ Some n → m ≡ n
-some_number m n e = ap (λ (o : Option ℕ). elim o as (λ _. ℕ) [ Some v ↦ v | None ↦ m ]) e
+some_number m n e = cc
 
 -- the column and the row of what lies ahead
 pub ahead_parts : (d : Dir) (c v : Cell) → ahead d c ≡ Some v
     → (column_ahead d c.x ≡ Some v.x) × (row_ahead d c.y ≡ Some v.y)
 ahead_parts d c v e = by_column (column_ahead d c.x) refl (row_ahead d c.y) refl e
   where
-    cell_in : Option Cell → Cell
-    cell_in None = v
-    cell_in (Some w) = w
-
     by_column : (o : Option ℕ) → column_ahead d c.x ≡ o → (q : Option ℕ) → row_ahead d c.y ≡ q
-        → (elim o as (λ _. Option Cell) [
-          | None ↦ None
-          | Some x ↦ elim q as (λ _. Option Cell) [ None ↦ None | Some y ↦ Some (record { x = x; y = y }) ]
-        ]) ≡ Some v
+        → option_and_then (λ x. option_and_then (λ y. Some (record { x = x; y = y })) q) o ≡ Some v
         → (column_ahead d c.x ≡ Some v.x) × (row_ahead d c.y ≡ Some v.y)
     by_column None f q h e = absurd (cc)
     by_column (Some x) f None h e = absurd (cc)
     by_column (Some x) f (Some y) h e =
-        let one : record { x = x; y = y } ≡ v = ap (λ (o : Option Cell). cell_in o) e in
+        let one : record { x = x; y = y } ≡ v = cc in
         (f ∙ ap (λ (w : Cell). Some w.x) one, h ∙ ap (λ (w : Cell). Some w.y) one)
 
 pub before_is : (m n : ℕ) → before m ≡ Some n → m ≡ n + 1
@@ -50,76 +42,17 @@ pub record LiesAt (p x : Cell) (s : Behind) : Type 0 where
   pub row : s.above ≡ false → s.below ≡ false → p.y ≡ x.y
 
 pub lies_at : (d : Dir) (p x : Cell) → ahead d p ≡ Some x → LiesAt p x (sides_of (Some d))
-lies_at d p x e = by_dir d (ahead_parts d p x e)
-  where
-    further : (m n : ℕ) → Some (m + 1) ≡ Some n → n ≡ m + 1
-    further m n f = sym (some_number (m + 1) n f)
-
-    by_dir : (d : Dir) → (column_ahead d p.x ≡ Some x.x) × (row_ahead d p.y ≡ Some x.y)
-        → LiesAt p x (sides_of (Some d))
-    by_dir N f = record {
-      left = λ h. absurd (cc);
-      right = λ h. absurd (cc);
-      column = λ h k. some_number p.x x.x f.0;
-      above = λ h. absurd (cc);
-      below = λ h. before_is p.y x.y f.1;
-      row = λ h k. absurd (cc);
-    }
-    by_dir NE f = record {
-      left = λ h. further p.x x.x f.0;
-      right = λ h. absurd (cc);
-      column = λ h k. absurd (cc);
-      above = λ h. absurd (cc);
-      below = λ h. before_is p.y x.y f.1;
-      row = λ h k. absurd (cc);
-    }
-    by_dir E f = record {
-      left = λ h. further p.x x.x f.0;
-      right = λ h. absurd (cc);
-      column = λ h k. absurd (cc);
-      above = λ h. absurd (cc);
-      below = λ h. absurd (cc);
-      row = λ h k. some_number p.y x.y f.1;
-    }
-    by_dir SE f = record {
-      left = λ h. further p.x x.x f.0;
-      right = λ h. absurd (cc);
-      column = λ h k. absurd (cc);
-      above = λ h. further p.y x.y f.1;
-      below = λ h. absurd (cc);
-      row = λ h k. absurd (cc);
-    }
-    by_dir S f = record {
-      left = λ h. absurd (cc);
-      right = λ h. absurd (cc);
-      column = λ h k. some_number p.x x.x f.0;
-      above = λ h. further p.y x.y f.1;
-      below = λ h. absurd (cc);
-      row = λ h k. absurd (cc);
-    }
-    by_dir SW f = record {
-      left = λ h. absurd (cc);
-      right = λ h. before_is p.x x.x f.0;
-      column = λ h k. absurd (cc);
-      above = λ h. further p.y x.y f.1;
-      below = λ h. absurd (cc);
-      row = λ h k. absurd (cc);
-    }
-    by_dir W f = record {
-      left = λ h. absurd (cc);
-      right = λ h. before_is p.x x.x f.0;
-      column = λ h k. absurd (cc);
-      above = λ h. absurd (cc);
-      below = λ h. absurd (cc);
-      row = λ h k. some_number p.y x.y f.1;
-    }
-    by_dir NW f = record {
-      left = λ h. absurd (cc);
-      right = λ h. before_is p.x x.x f.0;
-      column = λ h k. absurd (cc);
-      above = λ h. absurd (cc);
-      below = λ h. before_is p.y x.y f.1;
-      row = λ h k. absurd (cc);
+lies_at d p x e =
+    let f = ahead_parts d p x e in
+    let column = f.0 in
+    let row = f.1 in
+    record {
+      left = λ h. grind (arith, before_is);
+      right = λ h. grind (arith, before_is);
+      column = λ h k. grind (arith, before_is);
+      above = λ h. grind (arith, before_is);
+      below = λ h. grind (arith, before_is);
+      row = λ h k. grind (arith, before_is);
     }
 
 module _ (g : GridData) (p x v : Cell) (into : is_legal g p x ≡ true) (on : is_legal g x v ≡ true)

@@ -7,6 +7,7 @@ use Rattle.grid_moves.specs.declared.Cell.{Cell}
 use Rattle.grid_moves.specs.declared.Dir.{Dir}
 use Rattle.grid_moves.specs.Grid.{GridData, is_free}
 use Rattle.grid_moves.specs.Points.{estimate}
+use Rattle.grid_moves.specs.Move.{dir_cost}
 use Rattle.search_run.specs.Run.{Taken, here}
 use Rattle.best_first.specs.declared.node.Node.{Node}
 use Rattle.best_first.specs.declared.state.State.{State}
@@ -21,12 +22,12 @@ use Rattle.best_first.proofs.Backing.{left_is}
 use Rattle.best_first.proofs.Mirrors.{some_node}
 use Rattle.best_first.proofs.Offering.{rank-add_costs}
 use Rattle.best_first.proofs.Searching.{IsOver, one_more, node_stays, key_rises, taken_key}
-use Rattle.plain_search.specs.Offers.{cost_to, offer_to}
+use Rattle.plain_search.specs.Offers.{offer_to}
 use Rattle.plain_search.proofs.Posed.{IsAsked, run_free}
 
 -- the move in this direction, from one cell to the other, is a link
 pub record IsLinked (link : Links) (c : Cell) (d : Dir) (v : Cell) : Type 0 where
-  pub step : link.step (start_at c) (start_at v) ≡ Some (cost_to d)
+  pub step : link.step (start_at c) (start_at v) ≡ Some (dir_cost d)
   pub led : link.led (start_at c) (record { cell = v; arrival = Some d }) ≡ true
 
 module _ {width height : ℕ} {s t : Cell} {link : Links} (fit : IsSearch width height s t link)
@@ -57,34 +58,34 @@ module _ {width height : ℕ} {s t : Cell} {link : Links} (fit : IsSearch width 
       later_part m a b e = omega arith
 
   module _ (d : Dir) (v : Cell) (l : IsLinked link (node_cell i.node) d v) where
-    over : IsOver ByCell link x at (offer_to at (rank_left t i.node) v d) (cost_to d)
+    over : IsOver ByCell link x at (offer_to at (rank_left t i.node) v d) (dir_cost d)
     over = record {
       linked = ap (λ (u : State). link.step u (start_at v)) state_is ∙ l.step;
-      ranked = ap (λ (r : ℕ). r + rank_of (cost_to d)) left ∙ sym (rank-add_costs x.cost (cost_to d));
+      ranked = ap (λ (r : ℕ). r + rank_of (dir_cost d)) left ∙ sym (rank-add_costs x.cost (dir_cost d));
       parent = refl;
       led = ap (λ (u : State). link.led u (record { cell = v; arrival = Some d })) state_is ∙ l.led;
     }
 
     -- no key falls
     pub key_over : i.node.key ≤ (node_for t (offer_to at (rank_left t i.node) v d)).key
-    key_over = key_rises fit i (offer_to at (rank_left t i.node) v d) (cost_to d) over
+    key_over = key_rises fit i (offer_to at (rank_left t i.node) v d) (dir_cost d) over
 
     own_over : (j : IsSearching ByCell width t link s x earlier at
-        (with_onward x best (record { to = start_at v; cost = cost_to d }))
+        (with_onward x best (record { to = start_at v; cost = dir_cost d }))
         (offered ByCell t (offer_to at (rank_left t i.node) v d) k)) × (j.node ≡ i.node)
     own_over =
-        let j = one_more fit i (offer_to at (rank_left t i.node) v d) (cost_to d) over in
-        let stays = node_stays fit i (offer_to at (rank_left t i.node) v d) (cost_to d) over in
+        let j = one_more fit i (offer_to at (rank_left t i.node) v d) (dir_cost d) over in
+        let stays = node_stays fit i (offer_to at (rank_left t i.node) v d) (dir_cost d) over in
         (j, some_node j.node i.node (sym j.node_is ∙ stays))
 
   -- one move more, which leaves the node
   pub one_over : (n : Node) → i.node ≡ n → (d : Dir) (v : Cell) → IsLinked link (node_cell n) d v
       → (j : IsSearching ByCell width t link s x earlier at
-      (with_onward x best (record { to = start_at v; cost = cost_to d }))
+      (with_onward x best (record { to = start_at v; cost = dir_cost d }))
       (offered ByCell t (offer_to at (rank_left t n) v d) k)) × (j.node ≡ n)
   one_over n e d v = subst (λ (m : Node). IsLinked link (node_cell m) d v
       → (j : IsSearching ByCell width t link s x earlier at
-      (with_onward x best (record { to = start_at v; cost = cost_to d }))
+      (with_onward x best (record { to = start_at v; cost = dir_cost d }))
       (offered ByCell t (offer_to at (rank_left t m) v d) k)) × (j.node ≡ m)) e (own_over d v)
 
 -- the cell of the taken state's node is free

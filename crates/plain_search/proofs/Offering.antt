@@ -1,20 +1,21 @@
 -- A state's offers of the moves that are kept make the least offers those after it.
-use Rattle.std.proofs.Common.{◌≡◌, ℕ, ◌+◌, ◌*◌, ◌⊎◌, inl, inr, List, [], ◌∷◌, refl, ap, sym, ◌∙◌, subst, Bool}
+use Rattle.std.proofs.Common.{◌≡◌, ℕ, ◌*◌, ◌⊎◌, inl, inr, List, [], ◌∷◌, refl, ap, sym, ◌∙◌, subst, Bool}
 use Rattle.std.proofs.Common.{true, false, arith}
 use Rattle.std.specs.Option.{option_map_or}
-use Rattle.std.specs.Prelude.{Option, Some, None, if◌then◌else◌, nat_eq}
-use Rattle.std.proofs.lemmas.Bool.Decides.{nat_tests}
+use Rattle.std.specs.Prelude.{Option, Some, None, if◌then◌else◌}
+use Rattle.std.proofs.lemmas.Bool.{cases_Bool}
 use Rattle.root2_cost.specs.declared.Cost.{Cost}
 use Rattle.root2_cost.specs.Order.{IsAtMost}
 use Rattle.root2_cost.specs.Sums.{add_costs}
 use Rattle.grid_moves.specs.declared.Cell.{Cell}
 use Rattle.grid_moves.specs.declared.Dir.{Dir}
-use Rattle.grid_moves.specs.declared.Dir.TheVariants.{N, NE, E, SE, S, SW, W, NW}
 use Rattle.grid_moves.specs.declared.around.Around.{Around}
 use Rattle.grid_moves.specs.Grid.{GridData}
-use Rattle.grid_moves.specs.Move.{is_legal, is_same, move_cost, ahead, all_dirs, column_ahead, row_ahead}
+use Rattle.grid_moves.specs.Move.{is_legal, is_same, move_cost, ahead, all_dirs}
+use Rattle.grid_moves.specs.Move.{dir_cost}
 use Rattle.grid_moves.specs.Move.{legal_ahead}
 use Rattle.grid_moves.proofs.Ahead.{legal_ahead-of}
+use Rattle.grid_moves.proofs.Costs.{cost_there}
 use Rattle.grid_moves.proofs.Legal.{is_same-cell, is_same-itself, legal_is}
 use Rattle.search_run.specs.Run.{Taken, IsRun, is_taken, least_offer}
 use Rattle.search_run.proofs.Leastness.{least_offer-from, is_taken-member, or_false}
@@ -29,56 +30,26 @@ use Rattle.best_first.specs.Table.{Table, offered}
 use Rattle.best_first.specs.Trace.{node_cell, rank_left}
 use Rattle.best_first.specs.Ways.{Onward, IsAmong, first, later, with_onward, with_all}
 use Rattle.best_first.proofs.Links.{estimate_triangle}
-use Rattle.best_first.proofs.States.{same_or_not}
 use Rattle.best_first.proofs.Ways.{of_among}
 use Rattle.best_first.proofs.Searching.{closed_below}
 use Rattle.cost_waves.proofs.Settling.{In, first as here_is, later as there_is, in_all}
 use Rattle.plain_search.specs.declared.moves.Behind.{Behind}
 use Rattle.plain_search.specs.Rule.{plain_rule, plain_links, is_led}
 use Rattle.grid_moves.specs.Around.{is_open_to, end_of, IsAround}
-use Rattle.plain_search.specs.Offers.{sides_of, less_offered, cost_to, offer_to, all_offered, ways_over}
+use Rattle.plain_search.specs.Offers.{sides_of, less_offered, offer_to, all_offered, ways_over}
 use Rattle.plain_search.specs.Offers.{MayExpand}
 use Rattle.plain_search.proofs.Dropping.{LeadsTo, leads, open_leads, dropped, all_kept}
 use Rattle.plain_search.proofs.Expanding.{kept_open, kept_end}
-use Rattle.plain_search.proofs.Leaving.{lies_at, ahead_parts, some_number, before_is}
+use Rattle.plain_search.proofs.Leaving.{lies_at, ahead_parts, before_is}
 use Rattle.plain_search.proofs.Moving.{IsLinked, estimate_within, key_over, left_small, node_free, one_over}
 use Rattle.plain_search.proofs.Posed.{IsAsked, fit, placed, run_free}
 use Rattle.plain_search.proofs.Walks.{IsMove, link_move, legal_link, move_cost-estimate, plain_consistent}
-
-same : (m n : ℕ) → m ≡ n → nat_eq m n ≡ true
-same m n e = grind (arith, nat_tests)
-
-other : (m n : ℕ) → m ≡ n + 1 → nat_eq m n ≡ false
-other m n e = grind (arith, nat_tests)
-
-other_back : (m n : ℕ) → n ≡ m + 1 → nat_eq m n ≡ false
-other_back m n e = grind (arith, nat_tests)
-
--- what a move ahead costs
-pub ahead_cost : (d : Dir) (c v : Cell) → ahead d c ≡ Some v → move_cost c v ≡ cost_to d
-ahead_cost d c v e = by_dir d (ahead_parts d c v e)
-  where
-    further : (m n : ℕ) → Some (m + 1) ≡ Some n → nat_eq m n ≡ false
-    further m n f = other_back m n (sym (some_number (m + 1) n f))
-
-    by_dir : (d : Dir) → (column_ahead d c.x ≡ Some v.x) × (row_ahead d c.y ≡ Some v.y)
-        → move_cost c v ≡ cost_to d
-    by_dir N p = rw (same c.x v.x (some_number c.x v.x p.0)) refl
-    by_dir NE p = rw (further c.x v.x p.0, other c.y v.y (before_is c.y v.y p.1)) refl
-    by_dir E p = rw (further c.x v.x p.0, same c.y v.y (some_number c.y v.y p.1)) refl
-    by_dir SE p = rw (further c.x v.x p.0, further c.y v.y p.1) refl
-    by_dir S p = rw (same c.x v.x (some_number c.x v.x p.0)) refl
-    by_dir SW p = rw (other c.x v.x (before_is c.x v.x p.0), further c.y v.y p.1) refl
-    by_dir W p =
-        rw (other c.x v.x (before_is c.x v.x p.0), same c.y v.y (some_number c.y v.y p.1)) refl
-    by_dir NW p =
-        rw (other c.x v.x (before_is c.x v.x p.0), other c.y v.y (before_is c.y v.y p.1)) refl
 
 -- an open move is a link
 pub open_linked : (g : GridData) (c : Cell) (d : Dir) (v : Cell) → LeadsTo g c d v
     → IsLinked (plain_links g) c d v
 open_linked g c d v l = record {
-  step = legal_link g c v l.legal ∙ ap (λ (e : Cost). Some e) (ahead_cost d c v l.ahead_is);
+  step = legal_link g c v l.legal ∙ ap (λ (e : Cost). Some e) (cost_there d c v l.ahead_is);
   led = ap (λ (o : Option Cell). option_map_or (λ (w : Cell). is_same w v) o false) l.ahead_is
       ∙ is_same-itself v;
 }
@@ -103,7 +74,7 @@ module _ (g : GridData) (a : Around) (sides : Behind) where
     where
       by_flag : (IsAmong w (ways_over kept c dirs) → (plain_links g).step u w.to ≡ Some w.cost)
           → (b : Bool) → is_open_to kept d ≡ b
-          → IsAmong w (if b then record { to = start_at (end_of kept c d); cost = cost_to d }
+          → IsAmong w (if b then record { to = start_at (end_of kept c d); cost = dir_cost d }
           ∷ ways_over kept c dirs else ways_over kept c dirs)
           → (plain_links g).step u w.to ≡ Some w.cost
       by_flag again false h q = again q
@@ -150,7 +121,7 @@ module _ {g : GridData} {s t : Cell} (asked : IsAsked g s t (plain_links g)) (x 
           → (j : Searching
           (with_all x best (if b then record {
             to = start_at (end_of (less_offered a sides) (node_cell n) d);
-            cost = cost_to d;
+            cost = dir_cost d;
           } ∷ ways_over (less_offered a sides) (node_cell n) dirs
           else ways_over (less_offered a sides) (node_cell n) dirs))
           (all_offered t at (rank_left t n) (less_offered a sides) (node_cell n) dirs
@@ -161,20 +132,20 @@ module _ {g : GridData} {s t : Cell} (asked : IsAsked g s t (plain_links g)) (x 
       by_flag again true h =
           let v : Cell = end_of (less_offered a sides) (node_cell n) d in
           let on = one_over (fit asked) i n e d v (kept_linked g a sides (node_cell n) d r h) in
-          again (with_onward x best (record { to = start_at v; cost = cost_to d }))
+          again (with_onward x best (record { to = start_at v; cost = dir_cost d }))
           (offered ByCell t (offer_to at (rank_left t n) v d) k) on.0 on.1
 
 -- an open move is among the ways
 among : (a : Around) (c : Cell) (d : Dir) → is_open_to a d ≡ true → (dirs : List Dir) → In d dirs
-    → IsAmong (record { to = start_at (end_of a c d); cost = cost_to d }) (ways_over a c dirs)
+    → IsAmong (record { to = start_at (end_of a c d); cost = dir_cost d }) (ways_over a c dirs)
 among a c d h [] m = elim m [ ]
 among a c d h (e ∷ dirs) (here_is z) = rw h (first (ways_over a c dirs))
 among a c d h (e ∷ dirs) (there_is z w m) = by_flag (is_open_to a e) (among a c d h dirs m)
   where
-    by_flag : (b : Bool) → IsAmong (record { to = start_at (end_of a c d); cost = cost_to d })
+    by_flag : (b : Bool) → IsAmong (record { to = start_at (end_of a c d); cost = dir_cost d })
         (ways_over a c dirs)
-        → IsAmong (record { to = start_at (end_of a c d); cost = cost_to d })
-        (if b then record { to = start_at (end_of a c e); cost = cost_to e } ∷ ways_over a c dirs
+        → IsAmong (record { to = start_at (end_of a c d); cost = dir_cost d })
+        (if b then record { to = start_at (end_of a c e); cost = dir_cost e } ∷ ways_over a c dirs
         else ways_over a c dirs)
     by_flag true q = later _ _ q
     by_flag false q = q
@@ -190,21 +161,12 @@ led_ahead u v d h = by_cell (ahead d u) refl h
 
 -- a move leads to another cell
 ahead_apart : (d : Dir) (u : Cell) → ahead d u ≡ Some u → ⊥
-ahead_apart d u h = by_dir d (ahead_parts d u u h)
-  where
-    by_dir : (d : Dir) → (column_ahead d u.x ≡ Some u.x) × (row_ahead d u.y ≡ Some u.y) → ⊥
-    by_dir N p = let e = before_is u.y u.y p.1 in omega arith
-    by_dir NE p = let e = before_is u.y u.y p.1 in omega arith
-    by_dir E p = let e = some_number (u.x + 1) u.x p.0 in omega arith
-    by_dir SE p = let e = some_number (u.x + 1) u.x p.0 in omega arith
-    by_dir S p = let e = some_number (u.y + 1) u.y p.1 in omega arith
-    by_dir SW p = let e = some_number (u.y + 1) u.y p.1 in omega arith
-    by_dir W p = let e = before_is u.x u.x p.0 in omega arith
-    by_dir NW p = let e = before_is u.x u.x p.0 in omega arith
+ahead_apart d u h =
+    let p = ahead_parts d u u h in let column = p.0 in let row = p.1 in grind (arith, before_is)
 
 -- what a flag and its cell tell
 flag_is : (b : Bool) (v w : Cell) → (if b then Some v else None) ≡ Some w → (b ≡ true) × (v ≡ w)
-flag_is true v w h = (refl, ap (λ (o : Option Cell). elim o as (λ _. Cell) [ Some u ↦ u | None ↦ v ]) h)
+flag_is true v w h = (refl, cc)
 flag_is false v w h = absurd (cc)
 
 module _ {g : GridData} {s t : Cell} (asked : IsAsked g s t (plain_links g)) where
@@ -304,7 +266,7 @@ module _ {g : GridData} {s t : Cell} (asked : IsAsked g s t (plain_links g)) whe
           kept_end a (sides_of q) x.state.cell d ∙ flag.1 in
           let state : start_at (end_of (less_offered a (sides_of q)) x.state.cell d) ≡ v =
           ap (λ (u : Cell). start_at u) ends ∙ sym m.plain in
-          let cost : cost_to d ≡ c = sym (ahead_cost d x.state.cell v.cell on) ∙ sym m.cost in
+          let cost : dir_cost d ≡ c = sym (cost_there d x.state.cell v.cell on) ∙ sym m.cost in
           subst (λ (u : State). IsAmong (record { to = u; cost = c })
           (ways_over (less_offered a (sides_of q)) x.state.cell all_dirs)) state
           (subst (λ (b : Cost). IsAmong (record {
@@ -318,7 +280,7 @@ module _ {g : GridData} {s t : Cell} (asked : IsAsked g s t (plain_links g)) whe
           (ways_over (less_offered a (sides_of q)) x.state.cell all_dirs)
           ⊎ (least_offer (plain_rule g t) (x ∷ earlier) v ≡ least_offer (plain_rule g t) earlier v)
       by_kept None h = inl (is_among None (all_kept a d flag.0))
-      by_kept (Some q) h = elim (same_or_not (is_open_to (less_offered a (sides_of (Some q))) d)) [
+      by_kept (Some q) h = elim (cases_Bool (is_open_to (less_offered a (sides_of (Some q))) d)) [
         | inl k ↦ inl (is_among (Some q) k)
         | inr k ↦
             inr (left_out x earlier is a r q (led_ahead x.parent.cell x.state.cell q h) v c m untaken d on

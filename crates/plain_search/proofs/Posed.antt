@@ -1,13 +1,14 @@
 -- A search over legal moves is posed on its grid, and takes few moves.
-use Rattle.std.proofs.Common.{◌≡◌, ◌+◌, ◌*◌, ◌≤◌, length, List, [], ◌∷◌, refl, ap, ◌∙◌, true, false, Bool}
-use Rattle.std.proofs.Common.{arith, mul-le-mul, ◌||◌}
-use Rattle.std.specs.Prelude.{nat_eq, if◌then◌else◌}
+use Rattle.std.proofs.Common.{◌≡◌, ◌+◌, ◌*◌, ◌≤◌, length, List, [], ◌∷◌, refl, ap, ◌∙◌, true}
+use Rattle.std.proofs.Common.{arith}
 use Rattle.root2_cost.specs.declared.Cost.{Cost}
 use Rattle.grid_moves.specs.declared.Cell.{Cell}
 use Rattle.grid_moves.specs.Grid.{GridData, IsGrid, is_free}
 use Rattle.grid_moves.specs.Move.{move_cost}
 use Rattle.grid_moves.proofs.Legal.{free_inside, legal_is}
-use Rattle.grid_moves.proofs.Places.{number_below}
+use Rattle.grid_moves.proofs.Places.{free_below}
+use Rattle.grid_moves.proofs.Walks.{move_counts}
+use Rattle.grid_moves.proofs.Short.{few_cells}
 use Rattle.search_run.specs.Run.{Rule, Taken, IsIn, here, there, IsRun}
 use Rattle.search_run.proofs.Leastness.{least_offer-from}
 use Rattle.best_first.specs.declared.state.State.{State}
@@ -19,10 +20,6 @@ use Rattle.best_first.proofs.Links.{on_near}
 use Rattle.plain_search.specs.Room.{IsNear}
 use Rattle.plain_search.specs.Rule.{plain_links}
 use Rattle.plain_search.proofs.Walks.{AreMoves, plain_are_moves}
-
--- sides of at most 4096 have at most 2^24 cells
-pub cells_fit : (g : GridData) → IsGrid g → g.height * g.width ≤ 16777216
-cells_fit g i = let a = i.sides.narrow in let b = i.sides.low in mul-le-mul b a
 
 -- a free cell lies near the map
 pub free_near : (g : GridData) (c : Cell) → is_free g c ≡ true → IsNear g c
@@ -45,7 +42,7 @@ pub placed : (g : GridData) → IsGrid g → (space : SpaceData) → space.width
     → IsPlaced space.width space.places v
 placed g whole space width places v free =
     let in_map = free_inside g v free in
-    let below = number_below g.width g.height v in_map.0 in_map.1 in
+    let below = free_below g v free in
     let low = whole.sides.low in
     rw (width, places) (record { column = in_map.0; row = (let y = in_map.1 in omega arith); within = below })
 
@@ -90,16 +87,8 @@ module _ {g : GridData} {s t : Cell} {link : Links} (asked : IsAsked g s t link)
       = ap (λ (c : Cost). c.a) f.offered.total ∙ ap (λ (c : Cost). f.by.cost.a + c.a) step in
       let b : x.cost.b ≡ f.by.cost.b + (move_cost f.by.state.cell x.state.cell).b
       = ap (λ (c : Cost). c.b) f.offered.total ∙ ap (λ (c : Cost). f.by.cost.b + c.b) step in
-      let one = one_move f.by.state.cell x.state.cell in
+      let one = move_counts f.by.state.cell x.state.cell in
       omega arith
-    where
-      one_move : (u v : Cell) → (move_cost u v).a + (move_cost u v).b ≡ 1
-      one_move u v = by_test (nat_eq u.x v.x || nat_eq u.y v.y)
-        where
-          by_test : (b : Bool)
-              → let c : Cost = if b then record { a = 1; b = 0 } else record { a = 0; b = 1 } in c.a + c.b ≡ 1
-          by_test true = refl
-          by_test false = refl
   moves_within (x ∷ y ∷ earlier) is u (there z e m) =
       let before = moves_within (y ∷ earlier) is.0 u m in omega arith
 
@@ -109,6 +98,6 @@ module _ {g : GridData} {s t : Cell} {link : Links} (asked : IsAsked g s t link)
     few = λ run u is m.
         let n = moves_within run is u m in
         let k = few_taken posed run is in
-        let c = cells_fit g asked.whole in
+        let c = few_cells g asked.whole in
         omega arith;
   }

@@ -6,7 +6,7 @@ use Rattle.std.proofs.lemmas.Nat.{div-mul-add}
 use Rattle.std.proofs.lemmas.Option.{slice_get_within, get_or_from_slice_get}
 use Rattle.std.proofs.lemmas.List.Sorted.{IsPermutation-sym, IsPermutation-map, IsPermutation-reverse}
 use Rattle.std.proofs.lemmas.List.Sorted.{IsPermutation-trans, Contains-permutation}
-use Rattle.std.specs.Prelude.{Option, Some, None, slice_get}
+use Rattle.std.specs.Prelude.{Option, Some, slice_get}
 use Rattle.std.specs.List.{Contains, filter_map}
 use Rattle.std.specs.List.Sorted.{IsPermutation}
 use Rattle.grid_moves.specs.declared.Cell.{Cell}
@@ -86,11 +86,8 @@ module _ {g : GridData} {s t : Cell} (asked : IsAsked g s t (plain_links g)) {ta
       (subst (λ (ns : List ℕ). Contains ns n) (sym (filter_map-some (number g.width) x.run)) m) in (
         made.from,
         member x.run made.place made.from made.from_is,
-        some_one (number g.width made.from) n made.made,
+        (let is = made.made in cc),
       )
-    where
-      some_one : (a b : ℕ) → Some a ≡ Some b → a ≡ b
-      some_one a b q = ap (λ (o : Option ℕ). elim o as (λ _. ℕ) [ Some v ↦ v | None ↦ a ]) q
 
   -- the numbers are those of cells of the map
   pub are_on : AreOn g.width taken
@@ -134,17 +131,14 @@ module _ {g : GridData} {s t : Cell} (asked : IsAsked g s t (plain_links g)) {ta
         let made = contained_made taken_cell x.run c
         (Contains-permutation reached (filter_map taken_cell x.run) c
         (IsPermutation-sym (filter_map taken_cell x.run) reached joined) m) in
-        (made.from, member x.run made.place made.from made.from_is, some_one made.from.state.cell c made.made)
-      where
-        some_one : (a b : Cell) → Some a ≡ Some b → a ≡ b
-        some_one a b q = ap (λ (o : Option Cell). elim o as (λ _. Cell) [ Some v ↦ v | None ↦ a ]) q
+        (made.from, member x.run made.place made.from made.from_is, (let is = made.made in cc))
 
     one_made : (i j : ℕ) (a b : Taken State) (y z : Cell) → slice_get x.run i ≡ Some a
         → slice_get x.run j ≡ Some b → taken_cell a ≡ Some y → taken_cell b ≡ Some z
         → place_number y ≡ place_number z → i ≡ j
     one_made i j a b y z p q r w e =
-        let first : a.state.cell ≡ y = some_one a.state.cell y r in
-        let second : b.state.cell ≡ z = some_one b.state.cell z w in
+        let first : a.state.cell ≡ y = cc in
+        let second : b.state.cell ≡ z = cc in
         let pa = plain_at a (member x.run i a p) in
         let pb = plain_at b (member x.run j b q) in
         let fa = free_inside g a.state.cell pa.0 in
@@ -156,9 +150,6 @@ module _ {g : GridData} {s t : Cell} (asked : IsAsked g s t (plain_links g)) {ta
         apart_run (posed asked) x.run x.is_run i j a b p q
         (pa.1 ∙ ap (λ (c : Cell). start_at c) same ∙ sym pb.1)
       where
-        some_one : (a b : Cell) → Some a ≡ Some b → a ≡ b
-        some_one a b q = ap (λ (o : Option Cell). elim o as (λ _. Cell) [ Some v ↦ v | None ↦ a ]) q
-
         wide : (m w : ℕ) → m < w → w ≤ 4096 → m < 65536
         wide m w a b = omega arith
 

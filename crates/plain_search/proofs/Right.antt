@@ -13,6 +13,7 @@ use Rattle.grid_moves.specs.Points.{unfolding_of}
 use Rattle.grid_moves.specs.Reply.{StandsForLeast}
 use Rattle.grid_moves.specs.Walk.{cost_of, last_of, IsLeastWalk, IsWalk, NoWalk}
 use Rattle.grid_moves.proofs.Legal.{is_same-itself}
+use Rattle.grid_moves.proofs.Walks.{Goes, one_more}
 use Rattle.path_points.specs.declared.points.Walk.{Walk}
 use Rattle.path_points.specs.Corners.{corners}
 use Rattle.path_points.specs.Least.{IsLeastOrNone}
@@ -28,7 +29,7 @@ use Rattle.best_first.proofs.Links.{consistent}
 use Rattle.best_first.proofs.States.{is_same_state-state, is_same_state-itself, same_or_not}
 use Rattle.plain_search.specs.Rule.{plain_links, plain_rule}
 use Rattle.plain_search.specs.Answer.{IsFound, IsExhausted, IsPlainRun}
-use Rattle.plain_search.proofs.Walks.{AreMoves, Goes, goes_nowhere, one_more, plain_are_moves}
+use Rattle.plain_search.proofs.Walks.{AreMoves, goes_nowhere, plain_are_moves}
 use Rattle.plain_search.proofs.Walks.{plain_consistent, walk_chain}
 
 -- the cells of these states

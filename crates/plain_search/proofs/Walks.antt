@@ -1,11 +1,11 @@
 -- Walks as lists of cells: one more move, and walks as chains of links.
-use Rattle.std.proofs.Common.{◌≡◌, ℕ, ◌+◌, ◌≤◌, arith, refl, ap, sym, ◌∙◌, subst, Bool, true, false, ◌||◌}
-use Rattle.std.proofs.Common.{List, [], ◌∷◌, ◌++◌}
+use Rattle.std.proofs.Common.{◌≡◌, ℕ, ◌+◌, ◌≤◌, arith, refl, ap, sym, ◌∙◌, Bool, true, false, ◌||◌}
+use Rattle.std.proofs.Common.{List, [], ◌∷◌}
 use Rattle.std.specs.Prelude.{Some, None, Option, if◌then◌else◌, nat_eq}
 use Rattle.std.proofs.lemmas.Bool.Decides.{nat_tests}
+use Rattle.std.proofs.lemmas.Bool.{false_from_ne_true}
 use Rattle.root2_cost.specs.declared.Cost.{Cost}
-use Rattle.root2_cost.specs.Sums.{add_costs, no_cost}
-use Rattle.root2_cost.proofs.Sums.{add_costs-assoc, add_costs-no_cost_left, add_costs-no_cost_right}
+use Rattle.root2_cost.specs.Sums.{no_cost}
 use Rattle.grid_moves.specs.declared.Cell.{Cell}
 use Rattle.grid_moves.specs.declared.Dir.{Dir}
 use Rattle.grid_moves.specs.Grid.{GridData, is_free}
@@ -13,6 +13,7 @@ use Rattle.grid_moves.specs.Move.{is_legal, is_same, move_cost}
 use Rattle.grid_moves.specs.Points.{apart, estimate}
 use Rattle.grid_moves.specs.Walk.{is_walk, cost_of, last_of}
 use Rattle.grid_moves.proofs.Legal.{IsLegal, and_both, legal_is, is_same-cell, free_inside}
+use Rattle.grid_moves.proofs.Walks.{Goes}
 use Rattle.search_run.specs.Chain.{Chain, stays, goes_on, IsConsistent}
 use Rattle.best_first.specs.declared.state.State.{State}
 use Rattle.best_first.specs.State.{start_at}
@@ -20,38 +21,8 @@ use Rattle.best_first.specs.Rule.{AreLinks, Links}
 use Rattle.best_first.proofs.Links.{consistent}
 use Rattle.plain_search.specs.Rule.{plain_rule, plain_links, move_link}
 
--- s followed by these cells is a walk to v, at this cost
-pub record Goes (g : GridData) (s v : Cell) (cells : List Cell) (cost : Cost) : Type 0 where
-  pub legal : is_walk g (s ∷ cells) ≡ true
-  pub ends : last_of s cells ≡ v
-  pub priced : cost_of (s ∷ cells) ≡ cost
-
 pub goes_nowhere : (g : GridData) (s : Cell) → is_free g s ≡ true → Goes g s s [] no_cost
 goes_nowhere g s f = record { legal = f; ends = refl; priced = refl }
-
--- one more move
-pub one_more : (g : GridData) (s p v : Cell) (cells : List Cell) (cost : Cost) → Goes g s p cells cost
-    → is_legal g p v ≡ true → Goes g s v (cells ++ (v ∷ [])) (add_costs cost (move_cost p v))
-one_more g s p v [] cost w l =
-    let here : is_legal g s v ≡ true = subst (λ (c : Cell). is_legal g c v ≡ true) (sym w.ends) l in
-    record {
-      legal = rw here (legal_is g p v l).target;
-      ends = refl;
-      priced = add_costs-no_cost_right (move_cost s v) ∙ ap (λ (c : Cell). move_cost c v) w.ends
-          ∙ sym (add_costs-no_cost_left (move_cost p v))
-          ∙ ap (λ (c : Cost). add_costs c (move_cost p v)) w.priced;
-    }
-one_more g s p v (d ∷ cells) cost w l =
-    let parts = and_both (is_legal g s d) (is_walk g (d ∷ cells)) w.legal in
-    let rest = one_more g d p v cells (cost_of (d ∷ cells))
-    (record { legal = parts.1; ends = w.ends; priced = refl }) l in
-    record {
-      legal = rw (parts.0, rest.legal) refl;
-      ends = rest.ends;
-      priced = ap (λ (c : Cost). add_costs (move_cost s d) c) rest.priced
-          ∙ sym (add_costs-assoc (move_cost s d) (cost_of (d ∷ cells)) (move_cost p v))
-          ∙ ap (λ (c : Cost). add_costs c (move_cost p v)) w.priced;
-    }
 
 abbrev cost_in : Option Cost → Cost
 cost_in None = no_cost
@@ -117,12 +88,8 @@ move_cost-estimate g u v l = by_tests (nat_eq u.x v.x) (nat_eq u.y v.y) refl ref
 
 -- a legal move leads to another cell
 pub legal_apart : (g : GridData) (u v : Cell) → is_legal g u v ≡ true → is_same u v ≡ false
-legal_apart g u v l = by_test (is_same u v) refl
-  where
-    by_test : (b : Bool) → is_same u v ≡ b → is_same u v ≡ false
-    by_test false e = e
-    by_test true e = absurd (let one = is_same-cell u v e in
-        (legal_is g u v l).differ (ap (λ (c : Cell). c.x) one) (ap (λ (c : Cell). c.y) one))
+legal_apart g u v l = false_from_ne_true (is_same u v) (λ e. let one = is_same-cell u v e in
+    (legal_is g u v l).differ (ap (λ (c : Cell). c.x) one) (ap (λ (c : Cell). c.y) one))
 
 -- the links of the plain engine on a map
 pub plain_are_links : (g : GridData) → AreLinks g.width g.height (plain_links g)

@@ -1,5 +1,5 @@
 -- The lists of a plain search: what it takes to see that its answer is right.
-use Rattle.std.specs.Prelude.{◌≡◌, List, ◌∷◌, Some, None, map}
+use Rattle.std.specs.Prelude.{List, Some, None, map}
 use Rattle.std.specs.List.{Contains}
 use Rattle.std.specs.List.Sorted.{IsStrictlyIncreasing}
 use Rattle.root2_cost.specs.declared.Cost.{Cost}

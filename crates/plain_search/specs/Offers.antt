@@ -1,8 +1,7 @@
 -- The moves that a taken state offers: legal ones, less those that its parent has offered at no greater cost.
--- Public clauses cite `offer_to` alone, with the `cost_to` that it stands on.
+-- Public clauses cite `offer_to` alone, with the `dir_cost` that it stands on.
 use Rattle.std.specs.Prelude.{◌≡◌, ℕ, ◌+◌, ◌<◌, ◌≤◌, ◌^◌, true, false, not, ◌&&◌, ◌||◌, List, [], ◌∷◌, Option}
 use Rattle.std.specs.Prelude.{Some, None, if◌then◌else◌, nat_eq}
-use Rattle.root2_cost.specs.declared.Cost.{Cost}
 use Rattle.root2_cost.specs.Rank.{rank_of}
 use Rattle.grid_moves.specs.declared.Cell.{Cell}
 use Rattle.grid_moves.specs.declared.Dir.{Dir}
@@ -10,7 +9,7 @@ use Rattle.grid_moves.specs.declared.Dir.TheVariants.{N, NE, E, SE, S, SW, W, NW
 use Rattle.grid_moves.specs.declared.around.Around.{Around}
 use Rattle.grid_moves.specs.Around.{IsAround, end_of, is_open_to}
 use Rattle.grid_moves.specs.Grid.{GridData, is_free}
-use Rattle.grid_moves.specs.Move.{all_dirs}
+use Rattle.grid_moves.specs.Move.{all_dirs, dir_cost}
 use Rattle.grid_moves.specs.Points.{estimate}
 use Rattle.best_first.specs.declared.node.Node.{Node}
 use Rattle.best_first.specs.declared.node.Offer.{Offer}
@@ -60,21 +59,10 @@ less_offered a p = record a {
   nw = a.nw && (p.right || p.below || not (p.left || p.above));
 }
 
--- what a move in a direction costs
-abbrev pub cost_to : Dir → Cost
-cost_to N = record { a = 1; b = 0 }
-cost_to NE = record { a = 0; b = 1 }
-cost_to E = record { a = 1; b = 0 }
-cost_to SE = record { a = 0; b = 1 }
-cost_to S = record { a = 1; b = 0 }
-cost_to SW = record { a = 0; b = 1 }
-cost_to W = record { a = 1; b = 0 }
-cost_to NW = record { a = 0; b = 1 }
-
 -- the offer of a move from the node of that number, whose cost has that rank
 abbrev pub offer_to : ℕ → ℕ → Cell → Dir → Offer
 offer_to id rank c d = record {
-  rank = rank + rank_of (cost_to d);
+  rank = rank + rank_of (dir_cost d);
   parent = id;
   to = record { cell = c; arrival = Some d };
 }
@@ -90,7 +78,7 @@ all_offered goal id rank a c (d ∷ dirs) k =
 abbrev pub ways_over : Around → Cell → List Dir → List Onward
 ways_over a c [] = []
 ways_over a c (d ∷ dirs) =
-    if is_open_to a d then record { to = start_at (end_of a c d); cost = cost_to d } ∷ ways_over a c dirs
+    if is_open_to a d then record { to = start_at (end_of a c d); cost = dir_cost d } ∷ ways_over a c dirs
     else ways_over a c dirs
 
 -- the moves that are open may be offered: they lead to places, and no key falls below this

@@ -5,8 +5,8 @@ ghost use Rattle.best_first.specs.Space.{IsPlaced, KeepsShape};
 ghost use Rattle.best_first.specs.State.{state_told};
 ghost use Rattle.best_first.specs.Table.{node_for, offered, ClosedBelow};
 ghost use Rattle.grid_moves.specs.Grid.{IsGrid};
-ghost use Rattle.grid_moves.specs.Move.{all_dirs};
-ghost use Rattle.plain_search.specs.Offers.{arrival_of, cost_to, offer_to, all_offered, MayOffer, MayExpand, HasExpanded};
+ghost use Rattle.grid_moves.specs.Move.{all_dirs, dir_cost};
+ghost use Rattle.plain_search.specs.Offers.{arrival_of, offer_to, all_offered, MayOffer, MayExpand, HasExpanded};
 
 use crate::moves::{Behind, less_offered};
 use best_first::{Layout, Node, Offer, Space, State};
@@ -27,7 +27,7 @@ struct Source {
 // What a move in a direction costs.
 #[inline(always)]
 fn cost_to(d: Dir) -> Cost
-    ensures { result ≡ cost_to d }
+    ensures { result ≡ dir_cost d }
 {
     match d {
         Dir::N | Dir::E | Dir::S | Dir::W => Cost { a: 1, b: 0 },

@@ -1,17 +1,14 @@
 -- Cells are places, and a legal move leads to the place ahead.
-use Rattle.std.proofs.Common.{◌≡◌, ℕ, zero, suc, ◌+◌, arith, Bool, true, false, refl, ap, sym, ◌∙◌, subst}
-use Rattle.std.proofs.Common.{◌||◌}
-use Rattle.std.specs.Prelude.{⊤, ℤ, pos, negsuc, ◌+ℤ◌, Option, Some, None, option_and_then, is_some}
-use Rattle.std.specs.Prelude.{if◌then◌else◌, nat_eq}
+use Rattle.std.proofs.Common.{◌≡◌, ℕ, zero, suc, arith, Bool, true, false, refl, ap, sym, ◌∙◌, subst}
+use Rattle.std.specs.Prelude.{ℤ, pos, negsuc, ◌+ℤ◌, Option, Some, None, option_and_then, is_some}
+use Rattle.std.specs.Prelude.{if◌then◌else◌}
 use Rattle.std.proofs.lemmas.Int.{ints}
-use Rattle.std.proofs.lemmas.Bool.Decides.{nat_tests}
-use Rattle.root2_cost.specs.declared.Cost.{Cost}
 use Rattle.grid_moves.specs.declared.Cell.{Cell}
 use Rattle.grid_moves.specs.declared.Dir.{Dir}
 use Rattle.grid_moves.specs.declared.Dir.TheVariants.{N, NE, E, SE, S, SW, W, NW}
 use Rattle.grid_moves.specs.Grid.{GridData, is_free}
 use Rattle.grid_moves.specs.Move.{ahead, column_ahead, row_ahead, is_legal, is_passable, legal_ahead}
-use Rattle.grid_moves.specs.Move.{move_cost, is_open, is_free_cell}
+use Rattle.grid_moves.specs.Move.{is_open, is_free_cell}
 use Rattle.grid_moves.proofs.Ahead.{ahead_of}
 use Rattle.grid_moves.proofs.Legal.{and_both, legal_is, same_cell}
 use Rattle.pruning.specs.declared.Arrival.{Arrival}
@@ -186,48 +183,6 @@ cell_there g p h = by_parts p.x p.y refl refl h
         (record { x = x; y = y }, same_place p (place_of (record { x = x; y = y })) e f, k)
     by_parts (pos x) (negsuc y) e f k = absurd (cc)
     by_parts (negsuc x) j e f k = absurd (cc)
-
--- what a move in this direction costs
-abbrev pub dir_cost : Dir → Cost
-dir_cost d = if is_diagonal d then record { a = 0; b = 1 } else record { a = 1; b = 0 }
-
--- the cost of a move to the cell ahead, if there is one
-abbrev IsPriced : Cell → Option Cell → Cost → Type 0
-IsPriced u None c = ⊤
-IsPriced u (Some v) c = move_cost u v ≡ c
-
-in_column : (x y t : ℕ)
-    → move_cost (record { x = x; y = y }) (record { x = x; y = t }) ≡ record { a = 1; b = 0 }
-in_column x y t = let e : nat_eq x x ≡ true = grind (arith, nat_tests) in rw e refl
-
-in_row : (x z y : ℕ)
-    → move_cost (record { x = x; y = y }) (record { x = z; y = y }) ≡ record { a = 1; b = 0 }
-in_row x z y = let e : (nat_eq x z || nat_eq y y) ≡ true = grind (arith, nat_tests) in rw e refl
-
-across : (x y z t : ℕ) → (x ≡ z → ⊥) → (y ≡ t → ⊥)
-    → move_cost (record { x = x; y = y }) (record { x = z; y = t }) ≡ record { a = 0; b = 1 }
-across x y z t h k = let e : (nat_eq x z || nat_eq y t) ≡ false = grind (arith, nat_tests) in rw e refl
-
--- a move costs by its direction
-pub cost_there : (d : Dir) (u v : Cell) → ahead d u ≡ Some v → move_cost u v ≡ dir_cost d
-cost_there d u v h = subst (λ (o : Option Cell). IsPriced u o (dir_cost d)) h (by_dir u.x u.y d)
-  where
-    by_dir : (x y : ℕ) (d : Dir)
-        → IsPriced (record { x = x; y = y }) (ahead d (record { x = x; y = y })) (dir_cost d)
-    by_dir x zero N = tt
-    by_dir x (suc y) N = in_column x (suc y) y
-    by_dir x zero NE = tt
-    by_dir x (suc y) NE = across x (suc y) (x + 1) y (λ e. omega arith) (λ e. omega arith)
-    by_dir x y E = in_row x (x + 1) y
-    by_dir x y SE = across x y (x + 1) (y + 1) (λ e. omega arith) (λ e. omega arith)
-    by_dir x y S = in_column x y (y + 1)
-    by_dir zero y SW = tt
-    by_dir (suc x) y SW = across (suc x) y x (y + 1) (λ e. omega arith) (λ e. omega arith)
-    by_dir zero y W = tt
-    by_dir (suc x) y W = in_row (suc x) x y
-    by_dir zero y NW = tt
-    by_dir (suc x) zero NW = tt
-    by_dir (suc x) (suc y) NW = across (suc x) (suc y) x y (λ e. omega arith) (λ e. omega arith)
 
 -- what an allowed move leads to
 pub allowed_leads : (g : GridData) (by : Arrival) (u v : Cell) (d : Dir) → IsAllowedMove g by u v d

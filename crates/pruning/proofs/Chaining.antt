@@ -10,7 +10,7 @@ use Rattle.root2_cost.proofs.Sums.{add_costs-assoc, add_costs-no_cost_left}
 use Rattle.grid_moves.specs.declared.Cell.{Cell}
 use Rattle.grid_moves.specs.declared.Dir.{Dir}
 use Rattle.grid_moves.specs.Grid.{GridData}
-use Rattle.grid_moves.specs.Move.{ahead, legal_ahead}
+use Rattle.grid_moves.specs.Move.{ahead, legal_ahead, dir_cost}
 use Rattle.grid_moves.specs.Walk.{cost_of, last_of}
 use Rattle.pruning.specs.declared.Arrival.{Arrival}
 use Rattle.pruning.specs.declared.Arrival.TheVariants.{Start, By}
@@ -18,6 +18,7 @@ use Rattle.pruning.specs.declared.turns.Side.{Side}
 use Rattle.pruning.specs.Turns.{turn, is_diagonal}
 use Rattle.pruning.specs.Marked.{run_end, is_forced, forces, looks_out}
 use Rattle.grid_moves.specs.Least.{NoneBelow, IsLeast}
+use Rattle.grid_moves.proofs.Costs.{cost_there}
 use Rattle.pruning.specs.First.{is_stop}
 use Rattle.pruning.specs.Stop.{IsStop, at_goal, marked, sees_goal, StopsAfter}
 use Rattle.pruning.specs.Canonical.{IsAllowedMove, FollowsRule}
@@ -25,7 +26,7 @@ use Rattle.pruning.specs.Facts.{IsExplained, same, component, turns, TurnsAreMar
 use Rattle.pruning.specs.Chain.{State, run_cost, IsChain, stays, jumps, last_state}
 use Rattle.pruning.specs.Laws.{ChainsSuffice}
 use Rattle.pruning.proofs.Table.{turn_parity, by_parity, by_test}
-use Rattle.pruning.proofs.Bridging.{dir_cost, cost_there, one_of, leads_legal, allowed_leads}
+use Rattle.pruning.proofs.Bridging.{one_of, leads_legal, allowed_leads}
 use Rattle.pruning.proofs.Runs.{run_end-next}
 use Rattle.pruning.proofs.Stopping.{stops_are_told}
 

@@ -1,33 +1,11 @@
 -- Walks one after the other: what is less of the first is less of both.
-use Rattle.std.proofs.Common.{◌≡◌, ◌+◌, ◌*◌, arith, true, refl, ap, sym, ◌∙◌, List, [], ◌∷◌, ◌++◌, length}
+use Rattle.std.proofs.Common.{◌≡◌, ◌+◌, ◌*◌, arith, ap, List, [], ◌∷◌, ◌++◌, length}
 use Rattle.std.proofs.Common.{length-append}
 use Rattle.root2_cost.specs.declared.Cost.{Cost}
-use Rattle.root2_cost.specs.Sums.{add_costs}
-use Rattle.root2_cost.proofs.Sums.{add_costs-assoc, add_costs-no_cost_left}
 use Rattle.grid_moves.specs.declared.Cell.{Cell}
-use Rattle.grid_moves.specs.Grid.{GridData}
-use Rattle.grid_moves.specs.Move.{is_legal, move_cost}
-use Rattle.grid_moves.specs.Walk.{is_walk, cost_of, last_of}
+use Rattle.grid_moves.specs.Walk.{cost_of, last_of}
+use Rattle.grid_moves.proofs.Walks.{cost-joined}
 use Rattle.pruning.specs.Facts.{diagonal_places, IsSmaller, shorter, straighter, earlier}
-
-pub last-joined : (x : Cell) (cells more : List Cell)
-    → last_of x (cells ++ more) ≡ last_of (last_of x cells) more
-last-joined x [] more = refl
-last-joined x (c ∷ cells) more = last-joined c cells more
-
-pub walks-joined : (g : GridData) (x : Cell) (cells more : List Cell) → is_walk g (x ∷ cells) ≡ true
-    → is_walk g (last_of x cells ∷ more) ≡ true → is_walk g (x ∷ (cells ++ more)) ≡ true
-walks-joined g x [] more w v = v
-walks-joined g x (c ∷ cells) more w v =
-    let l : is_legal g x c ≡ true = grind arith in
-    let r : is_walk g (c ∷ cells) ≡ true = grind arith in
-    rw (l, walks-joined g c cells more r v) refl
-
-pub cost-joined : (x : Cell) (cells more : List Cell)
-    → cost_of (x ∷ (cells ++ more)) ≡ add_costs (cost_of (x ∷ cells)) (cost_of (last_of x cells ∷ more))
-cost-joined x [] more = sym (add_costs-no_cost_left (cost_of (x ∷ more)))
-cost-joined x (c ∷ cells) more = ap (λ (k : Cost). add_costs (move_cost x c) k) (cost-joined c cells more)
-    ∙ sym (add_costs-assoc (move_cost x c) (cost_of (c ∷ cells)) (cost_of (last_of c cells ∷ more)))
 
 diagonals-joined : (x : Cell) (cells more : List Cell)
     → (cost_of (x ∷ (cells ++ more))).b ≡ (cost_of (x ∷ cells)).b + (cost_of (last_of x cells ∷ more)).b

@@ -5,37 +5,17 @@ use Rattle.std.specs.Prelude.{filter}
 use Rattle.std.proofs.lemmas.Bool.Decides.{nat_tests}
 use Rattle.std.proofs.lemmas.List.Sums.{length-filter, count_by-le-length}
 use Rattle.grid_moves.specs.declared.Dir.{Dir}
-use Rattle.grid_moves.specs.declared.Dir.TheVariants.{N, NE, E, SE, S, SW, W, NW}
+use Rattle.grid_moves.specs.declared.Dir.TheVariants.{N}
 use Rattle.grid_moves.specs.Move.{dir_number, all_dirs}
+use Rattle.grid_moves.proofs.Dirs.{dir_number-few, numbered_dir}
 use Rattle.pruning.specs.Packed.{word_of, dirs_of}
-
--- a direction is told by its number, which is below eight
-told : (d : Dir) → get_or all_dirs (dir_number d) N ≡ d
-told N = refl
-told NE = refl
-told E = refl
-told SE = refl
-told S = refl
-told SW = refl
-told W = refl
-told NW = refl
-
-dir_small : (d : Dir) → dir_number d < 8
-dir_small N = omega arith
-dir_small NE = omega arith
-dir_small E = omega arith
-dir_small SE = omega arith
-dir_small S = omega arith
-dir_small SW = omega arith
-dir_small W = omega arith
-dir_small NW = omega arith
 
 -- a word's lowest digit, and the word of the others
 digit_is : (d : Dir) (w : ℕ) → (dir_number d + 1 + 16 * w) % 16 - 1 ≡ dir_number d
-digit_is d w = let n = dir_small d in omega (arith, n)
+digit_is d w = let n = dir_number-few d in omega (arith, n)
 
 others_are : (d : Dir) (w : ℕ) → (dir_number d + 1 + 16 * w) / 16 ≡ w
-others_are d w = let n = dir_small d in omega (arith, n)
+others_are d w = let n = dir_number-few d in omega (arith, n)
 
 some_left : (d : Dir) (w : ℕ) → nat_eq (dir_number d + 1 + 16 * w) 0 ≡ false
 some_left d w = grind (arith, nat_tests)
@@ -55,7 +35,7 @@ gives (suc n) (d ∷ ds) h =
     let w : ℕ = dir_number d + 1 + 16 * word_of ds in
     one_off n w (some_left d (word_of ds))
     ∙ ap (λ (k : ℕ). get_or all_dirs k N ∷ dirs_of n (w / 16)) (digit_is d (word_of ds))
-    ∙ ap (λ (e : Dir). e ∷ dirs_of n (w / 16)) (told d)
+    ∙ ap (λ (e : Dir). e ∷ dirs_of n (w / 16)) (numbered_dir d)
     ∙ ap (λ (k : ℕ). d ∷ dirs_of n k) (others_are d (word_of ds))
     ∙ ap (λ (es : List Dir). d ∷ es) (gives n ds (omega (arith, h)))
 
@@ -106,7 +86,7 @@ room_for (d ∷ ds) = 16 * room_for ds
 
 below_room : (ds : List Dir) → word_of ds < room_for ds
 below_room [] = omega arith
-below_room (d ∷ ds) = let n = dir_small d in let m = below_room ds in omega (arith, n, m)
+below_room (d ∷ ds) = let n = dir_number-few d in let m = below_room ds in omega (arith, n, m)
 
 few_room : (ds : List Dir) → length ds ≤ 7 → room_for ds ≤ 2 ^ 28
 few_room [] h = omega arith

@@ -8,8 +8,9 @@ use Rattle.grid_moves.specs.declared.Cell.{Cell}
 use Rattle.grid_moves.specs.declared.Corner.{Corner}
 use Rattle.grid_moves.specs.declared.Dir.{Dir}
 use Rattle.grid_moves.specs.Grid.{GridData, is_free}
-use Rattle.grid_moves.specs.Move.{is_passable, may_cut, move_cost, opposite, is_open}
+use Rattle.grid_moves.specs.Move.{is_passable, may_cut, move_cost, opposite, is_open, dir_cost}
 use Rattle.grid_moves.proofs.Legal.{legal_is, by_cut, passable-cut, passable-uncut}
+use Rattle.grid_moves.proofs.Costs.{cost_there}
 use Rattle.pruning.specs.declared.Arrival.TheVariants.{By}
 use Rattle.pruning.specs.declared.turns.Side.{Side}
 use Rattle.pruning.specs.declared.turns.Side.TheVariants.{Right, Left}
@@ -20,8 +21,8 @@ use Rattle.pruning.proofs.Places.{Place, move}
 use Rattle.pruning.proofs.Table.{straight_back, straight_side, diagonal_back, diagonal_side, reversal}
 use Rattle.pruning.proofs.Table.{moved_both, Turned, turned, ahead, eighth, side, back, about, turn_parity}
 use Rattle.pruning.proofs.Table.{quarter_parity, turn_back, by_parity}
-use Rattle.pruning.proofs.Bridging.{place_of, free_place, open_there, one_cell, cell_there, dir_cost}
-use Rattle.pruning.proofs.Bridging.{cost_there, Leads, legal_leads, leads_can, leads_there, leads_passes}
+use Rattle.pruning.proofs.Bridging.{place_of, free_place, open_there, one_cell, cell_there}
+use Rattle.pruning.proofs.Bridging.{Leads, legal_leads, leads_can, leads_there, leads_passes}
 use Rattle.pruning.proofs.Bridging.{leads_over, Passes}
 use Rattle.pruning.proofs.Kept.{kept-on, kept-eighth, kept-quarter}
 

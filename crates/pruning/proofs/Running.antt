@@ -11,9 +11,10 @@ use Rattle.grid_moves.specs.Move.{ahead, legal_ahead}
 use Rattle.grid_moves.specs.Walk.{is_walk, cost_of, last_of}
 use Rattle.grid_moves.specs.Points.{apart, steps_between, are_lined, toward, step_toward, segment}
 use Rattle.grid_moves.proofs.Legal.{legal_is, same_cell}
+use Rattle.grid_moves.proofs.Costs.{cost_there}
 use Rattle.pruning.specs.Marked.{run_end}
 use Rattle.pruning.specs.Chain.{run_cost}
-use Rattle.pruning.proofs.Bridging.{cost_there, Leads, legal_leads, one_of}
+use Rattle.pruning.proofs.Bridging.{Leads, legal_leads, one_of}
 use Rattle.pruning.proofs.Chaining.{run_cost-next, run_cost-nothing}
 
 -- how a column or a row changes along a run

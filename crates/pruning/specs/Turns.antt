@@ -1,6 +1,6 @@
 -- Turns from one direction to another, by an eighth of a circle to a side.
-use Rattle.std.specs.Prelude.{Bool, true, false}
 use Rattle.grid_moves.specs.declared.Dir.{Dir}
+pub use Rattle.grid_moves.specs.Move.{is_diagonal}
 use Rattle.grid_moves.specs.declared.Dir.TheVariants.{N, NE, E, SE, S, SW, W, NW}
 use Rattle.pruning.specs.declared.turns.Side.{Side}
 use Rattle.pruning.specs.declared.turns.Side.TheVariants.{Right, Left}
@@ -31,14 +31,3 @@ quarter s d = turn s (turn s d)
 -- half-way back, on that side: of a straight d, its reverse and the quarter together
 abbrev pub rear : Side → Dir → Dir
 rear s d = turn s (quarter s d)
-
--- NE, SE, SW and NW are the diagonal directions; the two eighths beside one are its components
-abbrev pub is_diagonal : Dir → Bool
-is_diagonal N = false
-is_diagonal NE = true
-is_diagonal E = false
-is_diagonal SE = true
-is_diagonal S = false
-is_diagonal SW = true
-is_diagonal W = false
-is_diagonal NW = true
