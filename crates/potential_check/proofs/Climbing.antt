@@ -1,36 +1,23 @@
 -- The first steep move from a cell is the first one that climbs.
 use Rattle.std.proofs.Common.{◌≡◌, ℕ, zero, suc, ◌+◌, ◌-◌, ◌<◌, ◌≤◌, arith, refl, ap, ◌∙◌, Bool, true, false}
 use Rattle.std.proofs.Common.{List, [], ◌∷◌}
-use Rattle.std.specs.Prelude.{ℤ, Option, Some, None, option_map, option_and_then, if◌then◌else◌}
+use Rattle.std.specs.Prelude.{ℤ, Option, Some, None, option_map, if◌then◌else◌}
 use Rattle.std.specs.Option.{option_or}
 use Rattle.root2_cost.specs.Rank.{rank_of}
 use Rattle.grid_moves.specs.declared.Cell.{Cell}
 use Rattle.grid_moves.specs.declared.Dir.{Dir}
 use Rattle.grid_moves.specs.declared.Dir.TheVariants.{N, NE, E, SE, S, SW, W, NW}
 use Rattle.grid_moves.specs.Grid.{GridData, is_free}
-use Rattle.grid_moves.specs.Move.{all_dirs, ahead, is_legal, legal_ahead, move_cost}
+use Rattle.grid_moves.specs.Move.{all_dirs, ahead, legal_ahead, move_cost}
 use Rattle.grid_moves.specs.Around.{IsBefore}
 use Rattle.potential_check.specs.declared.rising.Column.{Column}
 use Rattle.potential_check.specs.declared.rising.Hills.{Hills}
-use Rattle.grid_moves.proofs.Ahead.{legal_ahead-is}
+use Rattle.grid_moves.proofs.Ahead.{legal_ahead-is, legal_ahead-ahead}
 use Rattle.grid_moves.proofs.Legal.{legal_is}
 use Rattle.potential_check.specs.Moves.{failing_move, first_ahead, first_in_row, first_in_rows}
 use Rattle.potential_check.specs.Rising.{climbs, is_steep, steep_move, first_steep, towards, height_at}
 use Rattle.potential_check.specs.Rising.{IsColumn}
 use Rattle.potential_check.proofs.Reaching.{is_before}
-
--- what lies ahead over a legal move lies ahead
-ahead_is : (g : GridData) (u v : Cell) (d : Dir) → legal_ahead g u d ≡ Some v → ahead d u ≡ Some v
-ahead_is g u v d e = by_cell (ahead d u) e
-  where
-    by_test : (c : Cell) (b : Bool) → (if b then Some c else None) ≡ Some v → Some c ≡ Some v
-    by_test c true s = s
-    by_test c false s = absurd (cc)
-
-    by_cell : (o : Option Cell) → option_and_then (λ c. if is_legal g u c then Some c else None) o ≡ Some v
-        → o ≡ Some v
-    by_cell None s = absurd (cc)
-    by_cell (Some c) s = by_test c (is_legal g u c) s
 
 -- with its source
 abbrev pub with_source : Cell → Option Cell → Option (Cell × Cell)
@@ -46,7 +33,7 @@ module _ (g : GridData) (u : Cell) (height : Cell → ℤ) (from : ℤ) (to : Di
   one_move : (d : Dir) (o : Option Cell) → legal_ahead g u d ≡ o
       → with_source u (steep_move u from (to d) o) ≡ failing_move (climbs height) u o
   one_move d None e = refl
-  one_move d (Some v) e = rw (source, right d v (ahead_is g u v d e))
+  one_move d (Some v) e = rw (source, right d v (legal_ahead-ahead g u v d e))
       (by_test (is_steep (height u) (rank_of (move_cost u v)) (height v)))
     where
       by_test : (b : Bool) → with_source u (if b then Some v else None) ≡ (if b then Some (u, v) else None)

@@ -1,10 +1,9 @@
 -- Entries of a list whose cells ascend, from a number on.
-use Rattle.std.proofs.Common.{◌≡◌, ℕ, ◌+◌, ◌<◌, ◌≤◌, ◌⊎◌, inl, inr, arith, refl, ap, sym, ◌∙◌, Bool, true}
+use Rattle.std.proofs.Common.{◌≡◌, ℕ, ◌+◌, ◌<◌, ◌≤◌, inl, inr, arith, refl, ap, sym, ◌∙◌, true}
 use Rattle.std.proofs.Common.{false, List, [], ◌∷◌}
-use Rattle.std.specs.Prelude.{ℤ, nat_lt, nat_le}
+use Rattle.std.specs.Prelude.{ℤ, nat_lt}
 use Rattle.std.specs.List.{list_all}
-use Rattle.std.proofs.lemmas.Bool.{and_parts}
-use Rattle.std.proofs.lemmas.Bool.Decides.{nat_tests}
+use Rattle.std.proofs.lemmas.Bool.{and_parts, cases_Bool, ltb-true, leb-true, le-leb}
 use Rattle.grid_moves.specs.declared.Cell.{Cell}
 use Rattle.grid_moves.specs.Grid.{cell_number}
 use Rattle.grid_moves.specs.Move.{is_same}
@@ -13,26 +12,6 @@ use Rattle.grid_moves.proofs.Places.{one_cell}
 use Rattle.potential_check.specs.Certificate.{lies_inside, ascend_from}
 use Rattle.potential_check.specs.Heights.{first_height, rest_after}
 use Rattle.potential_check.specs.Rising.{height_of, cells_in}
-
--- a test is true or false
-pub tested : (b : Bool) → (b ≡ true) ⊎ (b ≡ false)
-tested true = inl refl
-tested false = inr refl
-
-pub lt_is : (m n : ℕ) → nat_lt m n ≡ true → m < n
-lt_is m n h = grind (arith, nat_tests)
-
-pub lt_not : (m n : ℕ) → nat_lt m n ≡ false → n ≤ m
-lt_not m n h = grind (arith, nat_tests)
-
-pub lt_false : (m n : ℕ) → n ≤ m → nat_lt m n ≡ false
-lt_false m n h = grind (arith, nat_tests)
-
-pub le_is : (m n : ℕ) → nat_le m n ≡ true → m ≤ n
-le_is m n h = grind (arith, nat_tests)
-
-pub le_true : (m n : ℕ) → m ≤ n → nat_le m n ≡ true
-le_true m n h = grind (arith, nat_tests)
 
 -- one cell has one number
 same_number : (w : ℕ) (c d : Cell) → is_same c d ≡ true → cell_number w c ≡ cell_number w d
@@ -45,8 +24,8 @@ module _ (w : ℕ) (floor : Cell → ℤ) (c : Cell) where
   height_of-before m [] h a = refl
   height_of-before m (e ∷ entries) h a =
       let parts = and_parts _ _ a in
-      let most = le_is m (cell_number w e.0) parts.0 in
-      elim (tested (is_same e.0 c)) [
+      let most = leb-true m (cell_number w e.0) parts.0 in
+      elim (cases_Bool (is_same e.0 c)) [
         | inl same ↦ absurd (let f = same_number w e.0 c same in omega arith)
         | inr other ↦ rw other (height_of-before (cell_number w e.0 + 1) entries (omega arith) parts.1)
       ]
@@ -55,11 +34,11 @@ module _ (w : ℕ) (floor : Cell → ℤ) (c : Cell) where
   pub first_is : (entries : List (Cell × ℤ)) → ascend_from w (cell_number w c) (cells_in entries) ≡ true
       → first_height floor entries c ≡ height_of floor entries c
   first_is [] a = refl
-  first_is (e ∷ entries) a = elim (tested (is_same e.0 c)) [
+  first_is (e ∷ entries) a = elim (cases_Bool (is_same e.0 c)) [
     | inl same ↦ rw same refl
     | inr other ↦
         (let parts = and_parts _ _ a in
-        let most = le_is (cell_number w c) (cell_number w e.0) parts.0 in
+        let most = leb-true (cell_number w c) (cell_number w e.0) parts.0 in
         rw other (sym (height_of-before (cell_number w e.0 + 1) entries (omega arith) parts.1)))
   ]
 
@@ -71,8 +50,8 @@ module _ (w : ℕ) (floor : Cell → ℤ) (c : Cell) where
   rest_ascends h [] inside all a = refl
   rest_ascends h (e ∷ entries) inside all a =
       let parts = and_parts _ _ a in
-      let most = le_is (cell_number w c) (cell_number w e.0) parts.0 in
-      elim (tested (is_same e.0 c)) [
+      let most = leb-true (cell_number w c) (cell_number w e.0) parts.0 in
+      elim (cases_Bool (is_same e.0 c)) [
         | inl same ↦ rw same (ap (λ n. ascend_from w (n + 1) (cells_in entries))
             (sym (same_number w e.0 c same))
             ∙ parts.1)
@@ -80,8 +59,8 @@ module _ (w : ℕ) (floor : Cell → ℤ) (c : Cell) where
             (let within = and_parts _ _ all in
             let column = and_parts (nat_lt e.0.x w) (nat_lt e.0.y h) within.0 in
             let apart : cell_number w e.0 ≡ cell_number w c → ⊥ =
-            λ f. not_same e.0 (lt_is e.0.x w column.0) other f in
-            rw (other, le_true (cell_number w c + 1) (cell_number w e.0) (above _ _ most apart)) parts.1)
+            λ f. not_same e.0 (ltb-true e.0.x w column.0) other f in
+            rw (other, le-leb (cell_number w c + 1) (cell_number w e.0) (above _ _ most apart)) parts.1)
       ]
     where
       not_same : (d : Cell) → d.x < w → is_same d c ≡ false → cell_number w d ≡ cell_number w c → ⊥
@@ -97,7 +76,7 @@ module _ (w : ℕ) (floor : Cell → ℤ) (c : Cell) where
   pub rest_inside : (h : ℕ) (entries : List (Cell × ℤ)) → list_all (lies_inside w h) (cells_in entries) ≡ true
       → list_all (lies_inside w h) (cells_in (rest_after entries c)) ≡ true
   rest_inside h [] all = refl
-  rest_inside h (e ∷ entries) all = elim (tested (is_same e.0 c)) [
+  rest_inside h (e ∷ entries) all = elim (cases_Bool (is_same e.0 c)) [
     | inl same ↦ rw same (and_parts _ _ all).1
     | inr other ↦ rw other all
   ]
@@ -106,8 +85,8 @@ module _ (w : ℕ) (floor : Cell → ℤ) (c : Cell) where
   pub rest_heights : (d : Cell) (entries : List (Cell × ℤ)) → cell_number w c < cell_number w d
       → height_of floor (rest_after entries c) d ≡ height_of floor entries d
   rest_heights d [] later = refl
-  rest_heights d (e ∷ entries) later = elim (tested (is_same e.0 c)) [
-    | inl same ↦ elim (tested (is_same e.0 d)) [
+  rest_heights d (e ∷ entries) later = elim (cases_Bool (is_same e.0 c)) [
+    | inl same ↦ elim (cases_Bool (is_same e.0 d)) [
       | inl too ↦ absurd (let f = same_number w e.0 c same in let k = same_number w e.0 d too in omega arith)
       | inr other ↦ rw (same, other) refl
     ]
@@ -123,7 +102,7 @@ module _ (w : ℕ) (floor : Cell → ℤ) (c : Cell) where
   height_of-outside h (e ∷ entries) off all =
       let parts = and_parts (lies_inside w h e.0) (list_all (lies_inside w h) (cells_in entries)) all in
       let later = height_of-outside h entries off parts.1 in
-      elim (tested (is_same e.0 c)) [
+      elim (cases_Bool (is_same e.0 c)) [
         | inl same ↦ absurd (let f = ap (lies_inside w h) (is_same-cell e.0 c same) in cc)
         | inr other ↦ (rw other later.0, rw other refl, rw other refl)
       ]

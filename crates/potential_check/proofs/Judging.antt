@@ -2,7 +2,7 @@
 use Rattle.std.proofs.Common.{◌≡◌, ℕ, ◌<◌, ◌≤◌, arith, refl, ap, sym, ◌∙◌, subst, Bool, true, false, List}
 use Rattle.std.specs.Prelude.{Option, Some, None, Result, Ok, Err, ◌&&◌, IfOk, ◌^◌, length, nat_eq, nat_le}
 use Rattle.std.specs.Prelude.{nat_lt}
-use Rattle.std.proofs.lemmas.Bool.{and_parts}
+use Rattle.std.proofs.lemmas.Bool.{and_parts, ltb-true}
 use Rattle.std.proofs.lemmas.Bool.Decides.{nat_tests}
 use Rattle.std.specs.List.{list_all}
 use Rattle.root2_cost.specs.declared.Cost.{Cost}
@@ -27,7 +27,6 @@ use Rattle.potential_check.specs.Accepted.{has_size, RefusesLeast, RefusesNone, 
 use Rattle.potential_check.specs.Accepted.{starts_at_nothing}
 use Rattle.potential_check.specs.Judged.{JudgesClaim, JudgesWalk}
 use Rattle.potential_check.specs.Rising.{climbs, height_of}
-use Rattle.potential_check.proofs.Entries.{lt_is}
 use Rattle.potential_check.proofs.Feasible.{first_failing-same, kept_inside, none_cheaper, none_fails}
 use Rattle.potential_check.proofs.Feasible.{none_found}
 use Rattle.potential_check.proofs.Ranked.{climbs-leaves, climbs-rises, members, out_of_reach, rank_below}
@@ -235,7 +234,7 @@ least_parts width height cost points values h =
     let counted = and_parts (nat_le 1 (length points) && nat_lt (length points) (2 ^ 30))
     (list_all is_short points) two.1 in
     let few = and_parts (nat_le 1 (length points)) (nat_lt (length points) (2 ^ 30)) counted.0 in
-    record { small = two.0; few = lt_is _ _ few.1; low = three.1; listed = all.1 }
+    record { small = two.0; few = ltb-true _ _ few.1; low = three.1; listed = all.1 }
 
 -- the claim of a certificate of the grid's size
 pub claim_fits : (g : GridData) (c : Certificate) → has_size g c ≡ true

@@ -5,12 +5,12 @@ use Rattle.std.specs.Prelude.{Some, None, nat_le, nat_lt}
 use Rattle.std.specs.Char.{is_ascii_digit}
 use Rattle.std.specs.List.{list_all, position_or_len}
 use Rattle.std.proofs.lemmas.Bool.Decides.{nat_tests}
+use Rattle.std.proofs.lemmas.Bool.{cases_Bool, ltb-true, ltb-false, le-leb}
 use Rattle.std.proofs.lemmas.List.{get_or-take, length-take, length-take-le, take_more}
 use Rattle.std.proofs.lemmas.List.Sums.{AllPass-from_list_all, passes_at_first, position_or_len_is}
 use Rattle.text_line.specs.Numbers.{number_of, value_of}
 use Rattle.text_line.proofs.Digits.{after_append, digit_value_is, value_of-lt}
 use Rattle.potential_check.specs.Forms.{digits_ahead, number_ahead}
-use Rattle.potential_check.proofs.Entries.{le_true, lt_is, lt_not, tested}
 use Rattle.potential_check.proofs.Words.{all_pushed}
 
 -- a byte that is no digit
@@ -56,26 +56,26 @@ ahead_is count line inside digits stops =
     let at : position_or_len other line ≡ count =
     position_or_len_is other line count 0 inside (each_digit count line inside digits)
     (λ less. ap not (stops less)) in
-    elim (tested (nat_lt (position_or_len other line) (length line))) [
+    elim (cases_Bool (nat_lt (position_or_len other line) (length line))) [
       | inl less ↦ rw less at
-      | inr end ↦ rw end (omega (arith, at, inside, lt_not (position_or_len other line) (length line) end))
+      | inr end ↦ rw end (omega (arith, at, inside, ltb-false (position_or_len other line) (length line) end))
     ]
 
 -- more digits than these
 ahead_many : (count : ℕ) (line : List ℕ) → count < length line → AreDigits (count + 1) line
     → count < digits_ahead line
-ahead_many count line inside digits = elim (tested (nat_lt (position_or_len other line) (length line))) [
-  | inl less ↦ rw less (later (lt_is (position_or_len other line) (length line) less))
+ahead_many count line inside digits = elim (cases_Bool (nat_lt (position_or_len other line) (length line))) [
+  | inl less ↦ rw less (later (ltb-true (position_or_len other line) (length line) less))
   | inr end ↦ rw end inside
 ]
   where
     later : position_or_len other line < length line → count < position_or_len other line
-    later less = elim (tested (nat_lt count (position_or_len other line))) [
-      | inl more ↦ lt_is count (position_or_len other line) more
+    later less = elim (cases_Bool (nat_lt count (position_or_len other line))) [
+      | inl more ↦ ltb-true count (position_or_len other line) more
       | inr most ↦ absurd (
           let at = passes_at_first other line 0 less in
           let digit = each_digit (count + 1) line (omega arith) digits (position_or_len other line)
-          (omega (arith, lt_not count (position_or_len other line) most)) in
+          (omega (arith, ltb-false count (position_or_len other line) most)) in
           cc)
     ]
 
@@ -88,10 +88,10 @@ unfolding number_of
 number_read most count line some few low inside digits stops =
     rw (
       ahead_is count line inside digits stops,
-      le_true count most few,
+      le-leb count most few,
       length-take-le count line inside,
-      le_true 1 count (omega arith),
-      le_true count 9 (omega arith),
+      le-leb 1 count (omega arith),
+      le-leb count 9 (omega arith),
       digits,
     ) refl
 
@@ -101,7 +101,7 @@ unfolding number_of
 no_digit most line stops =
     rw (
       ahead_is 0 line (omega arith) refl stops,
-      le_true 0 most (omega arith),
+      le-leb 0 most (omega arith),
     ) refl
 
 pub too_many : (most : ℕ) (line : List ℕ) → most < length line → AreDigits (most + 1) line

@@ -3,7 +3,7 @@ use Rattle.std.proofs.Common.{◌≡◌, ℕ, suc, ◌+◌, ◌^◌, ◌≤◌, 
 use Rattle.std.proofs.Common.{Bool, true, false, List, [], ◌∷◌, ◌++◌, length, Some, None, Result, Err}
 use Rattle.std.specs.Prelude.{nat_le, ◌&&◌, if◌then◌else◌, map}
 use Rattle.std.specs.List.{list_all, onto_first}
-use Rattle.std.proofs.lemmas.Bool.{and_parts}
+use Rattle.std.proofs.lemmas.Bool.{and_parts, leb-true, le-leb}
 use Rattle.std.proofs.lemmas.List.{length-map}
 use Rattle.text_line.specs.declared.lines.Line.{Line}
 use Rattle.text_line.specs.Left.{Left, GivesNext}
@@ -19,7 +19,6 @@ use Rattle.potential_check.specs.Text.{AreShort, Plain, State, Step, Tells, abse
 use Rattle.potential_check.specs.Text.{at_claim, at_ends, at_points, at_size, at_version, certificate_of}
 use Rattle.potential_check.specs.Text.{closed, ended, goes, in_cells, in_values, misspelt, next, read_from}
 use Rattle.potential_check.specs.Text.{read_left, step_fault, unordered}
-use Rattle.potential_check.proofs.Entries.{le_is, le_true}
 
 -- a line that may follow
 pub reads_on : (state after : State) (old new : Left) (line : Line) → GivesNext old (Some line) new
@@ -81,7 +80,7 @@ short_next old new line gives short =
     30)) new.lines) all in
     let count : length old.lines ≡ suc (length new.lines) = ap length gives.0 in (
       record { few = omega (arith, short.few, gives.2); short = parts.1 },
-      le_is (length line.bytes.now) (2 ^ 30) parts.0,
+      leb-true (length line.bytes.now) (2 ^ 30) parts.0,
       omega (arith, short.few),
     )
 
@@ -95,19 +94,19 @@ weaker : (m n : ℕ) (lines : List (List ℕ)) → m ≤ n → list_all (λ l. n
 weaker m n [] h all = refl
 weaker m n (l ∷ lines) h all =
     let parts = and_parts (nat_le (length l) m) (list_all (λ l. nat_le (length l) m) lines) all in
-    let most = le_is (length l) m parts.0 in
-    rw (le_true (length l) n (omega arith), weaker m n lines h parts.1) refl
+    let most = leb-true (length l) m parts.0 in
+    rw (le-leb (length l) n (omega arith), weaker m n lines h parts.1) refl
 
 longer_first : (byte n : ℕ) (pieces : List (List ℕ)) → Within n pieces
     → Within (suc n) (onto_first byte pieces)
-longer_first byte n [] w = record { few = omega arith; short = rw (le_true 1 (suc n) (omega arith)) refl }
+longer_first byte n [] w = record { few = omega arith; short = rw (le-leb 1 (suc n) (omega arith)) refl }
 longer_first byte n (p ∷ pieces) w =
     let parts = and_parts (nat_le (length p) n) (list_all (λ l. nat_le (length l) n) pieces) w.short in
-    let most = le_is (length p) n parts.0 in
+    let most = leb-true (length p) n parts.0 in
     record {
       few = omega (arith, w.few);
       short = rw (
-        le_true (suc (length p)) (suc n) (omega arith),
+        le-leb (suc (length p)) (suc n) (omega arith),
         weaker n (suc n) pieces (omega arith)
             parts.1,
       ) refl;
@@ -117,7 +116,7 @@ one_more : (b n : ℕ) (pieces : List (List ℕ)) (feed : Bool) → Within n pie
     → Within (suc n) (if feed then [] ∷ pieces else onto_first b pieces)
 one_more b n pieces true later = record {
   few = omega (arith, later.few);
-  short = rw (le_true 0 (suc n) (omega arith), weaker n (suc n) pieces (omega arith) later.short) refl;
+  short = rw (le-leb 0 (suc n) (omega arith), weaker n (suc n) pieces (omega arith) later.short) refl;
 }
 one_more b n pieces false later = longer_first b n pieces later
 
@@ -130,12 +129,12 @@ lines_within : (n : ℕ) (pieces : List (List ℕ)) → Within n pieces → With
 lines_within n [] w = record { few = w.few; short = refl }
 lines_within n (p ∷ pieces) w =
     let parts = and_parts (nat_le (length p) n) (list_all (λ l. nat_le (length l) n) pieces) w.short in
-    let most = le_is (length p) n parts.0 in
+    let most = leb-true (length p) n parts.0 in
     let less = length-without_cr p in
     let later = lines_within n pieces (record { few = omega (arith, w.few); short = parts.1 }) in
     record {
       few = omega (arith, w.few, length-map pieces without_cr);
-      short = rw (le_true (length (without_cr p)) n (omega arith), later.short) refl;
+      short = rw (le-leb (length (without_cr p)) n (omega arith), later.short) refl;
     }
 
 pub short_text : (text : List ℕ) → length text ≤ 2 ^ 30 → AreShort (record {
@@ -166,10 +165,10 @@ ascend_to width n (c ∷ cells) m =
 pub ascend_to-pushed : (width n m : ℕ) (cells : List Cell) (c : Cell) → ascend_to width n cells m ≡ true
     → m ≤ cell_number width c → ascend_to width n (cells ++ c ∷ []) (cell_number width c + 1) ≡ true
 ascend_to-pushed width n m [] c a h =
-    let most = le_is n m a in
+    let most = leb-true n m a in
     rw (
-      le_true n (cell_number width c) (omega arith),
-      le_true (cell_number width c + 1) (cell_number width
+      le-leb n (cell_number width c) (omega arith),
+      le-leb (cell_number width c + 1) (cell_number width
           c + 1) (omega arith),
     ) refl
 ascend_to-pushed width n m (d ∷ cells) c a h =

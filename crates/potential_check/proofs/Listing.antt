@@ -16,7 +16,7 @@ use Rattle.potential_check.specs.Forms.{member_on, value_on}
 use Rattle.potential_check.specs.Text.{Places, Plain, State, Step, Tells, at_size, at_version, ended, goes}
 use Rattle.potential_check.specs.Text.{in_cells, in_values, is_end, listed, next, spelled, step_fault}
 use Rattle.std.proofs.lemmas.List.{map-append}
-use Rattle.potential_check.proofs.Entries.{le_true}
+use Rattle.std.proofs.lemmas.Bool.{le-leb}
 use Rattle.potential_check.proofs.LinesLeft.{ascend_to, ascend_to-ascend}
 
 -- the bytes of the last line
@@ -29,7 +29,7 @@ pub listed_goes : (head : Head) (least number at : ℕ) (c : Cell) (state : Stat
     → Places head least number c (Ok at) → listed head least c state ≡ goes state
 listed_goes head least number at c state places =
     let most : least ≤ cell_number head.width c = omega (arith, places.1, places.2) in
-    rw (places.0, le_true least (cell_number head.width c) most) refl
+    rw (places.0, le-leb least (cell_number head.width c) most) refl
 
 module _ (head : Head) (cost : Cost) (points : List Cell) (least : ℕ) (values : List (Cell × Cost))
     (line : List ℕ) where

@@ -7,7 +7,7 @@ use Rattle.std.specs.List.{list_all}
 use Rattle.std.specs.Int.Signed.{lt_z}
 use Rattle.std.specs.Int.RustNames.{unsigned_abs}
 use Rattle.std.proofs.lemmas.Int.{ints}
-use Rattle.std.proofs.lemmas.Bool.{and_parts}
+use Rattle.std.proofs.lemmas.Bool.{and_parts, cases_Bool, ltb-true}
 use Rattle.std.proofs.lemmas.Bool.Decides.{nat_tests}
 use Rattle.root2_cost.specs.declared.Cost.{Cost}
 use Rattle.root2_cost.specs.declared.Signed.{Signed}
@@ -22,7 +22,6 @@ use Rattle.potential_check.specs.Certificate.{cells_of, is_small, is_short}
 use Rattle.potential_check.specs.Potential.{is_listed, potential_of, rises}
 use Rattle.potential_check.specs.Accepted.{leaves}
 use Rattle.potential_check.specs.Rising.{cells_in, climbs, height_of, is_steep}
-use Rattle.potential_check.proofs.Entries.{lt_is, tested}
 
 -- the heights of listed values, and of those that are not listed
 abbrev pub ranked : List (Cell × Cost) → List (Cell × ℤ)
@@ -35,7 +34,7 @@ rank_below cost goal c = signed_rank (cost_difference cost (estimate c goal))
 pub height-potential : (cost : Cost) (goal c : Cell) (values : List (Cell × Cost))
     → height_of (rank_below cost goal) (ranked values) c ≡ signed_rank (potential_of cost goal values c)
 height-potential cost goal c [] = refl
-height-potential cost goal c (e ∷ values) = elim (tested (is_same e.0 c)) [
+height-potential cost goal c (e ∷ values) = elim (cases_Bool (is_same e.0 c)) [
   | inl same ↦ rw same refl
   | inr other ↦ rw other (height-potential cost goal c values)
 ]
@@ -62,14 +61,14 @@ low_difference : (p q : Cost) → is_small p ≡ true → q.a < 10 ^ 9 → q.b <
 low_difference p q small a b =
     let parts = and_parts (nat_lt p.a (10 ^ 9)) (nat_lt p.b (10 ^ 9)) small in
     record {
-      a = short_difference p.a q.a (10 ^ 9) (lt_is p.a (10 ^ 9) parts.0) a;
-      b = short_difference p.b q.b (10 ^ 9) (lt_is p.b (10 ^ 9) parts.1) b;
+      a = short_difference p.a q.a (10 ^ 9) (ltb-true p.a (10 ^ 9) parts.0) a;
+      b = short_difference p.b q.b (10 ^ 9) (ltb-true p.b (10 ^ 9) parts.1) b;
     }
 
 low_cost : (p : Cost) → is_small p ≡ true → HasLowParts (signed_of p)
 low_cost p small =
     let parts = and_parts (nat_lt p.a (10 ^ 9)) (nat_lt p.b (10 ^ 9)) small in
-    record { a = lt_is p.a (10 ^ 9) parts.0; b = lt_is p.b (10 ^ 9) parts.1 }
+    record { a = ltb-true p.a (10 ^ 9) parts.0; b = ltb-true p.b (10 ^ 9) parts.1 }
 
 -- the estimate between cells of a map and a goal of at most four digits
 near : (m n : ℕ) → m < 4096 → n < 10000 → apart m n < 10000
@@ -79,8 +78,8 @@ short_estimate : (c goal : Cell) → c.x < 4096 → c.y < 4096 → is_short goal
     → ((estimate c goal).a < 10 ^ 9) × ((estimate c goal).b < 10 ^ 9)
 short_estimate c goal x y short =
     let parts = and_parts (nat_lt goal.x 10000) (nat_lt goal.y 10000) short in
-    let columns = near c.x goal.x x (lt_is goal.x 10000 parts.0) in
-    let rows = near c.y goal.y y (lt_is goal.y 10000 parts.1) in
+    let columns = near c.x goal.x x (ltb-true goal.x 10000 parts.0) in
+    let rows = near c.y goal.y y (ltb-true goal.y 10000 parts.1) in
     bounded (apart c.x goal.x) (apart c.y goal.y) columns rows
   where
     bounded : (m n : ℕ) → m < 10000 → n < 10000 → (max m n - min m n < 10 ^ 9) × (min m n < 10 ^ 9)
@@ -93,7 +92,7 @@ low_potential cost goal c [] small short all x y =
     let e = short_estimate c goal x y short in low_difference cost (estimate c goal) small e.0 e.1
 low_potential cost goal c (e ∷ values) small short all x y =
     let parts = and_parts (is_small e.1) (list_all (λ entry. is_small entry.1) values) all in
-    elim (tested (is_same e.0 c)) [
+    elim (cases_Bool (is_same e.0 c)) [
       | inl same ↦ subst (λ (b : Bool). HasLowParts (if b then signed_of e.1 else potential_of cost goal
           values c))
           (sym same) (low_cost e.1 parts.0)
@@ -188,7 +187,7 @@ cells-members (c ∷ cells) = ap (λ more. c ∷ more) (cells-members cells)
 height-members : (cells : List Cell) (c : Cell)
     → height_of out_of_reach (members cells) c ≡ (if is_listed cells c then pos 0 else pos (2 ^ 62))
 height-members [] c = refl
-height-members (d ∷ cells) c = elim (tested (is_same d c)) [
+height-members (d ∷ cells) c = elim (cases_Bool (is_same d c)) [
   | inl same ↦ rw same refl
   | inr other ↦ rw other (height-members cells c)
 ]

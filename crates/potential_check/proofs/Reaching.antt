@@ -3,7 +3,7 @@ use Rattle.std.proofs.Common.{◌≡◌, ℕ, zero, suc, ◌+◌, ◌*◌, ◌<�
 use Rattle.std.proofs.Common.{subst, true, false, List, [], IsTrue}
 use Rattle.std.specs.Prelude.{ℤ, min, nat_lt}
 use Rattle.std.specs.List.{list_all}
-use Rattle.std.proofs.lemmas.Bool.{and_parts}
+use Rattle.std.proofs.lemmas.Bool.{and_parts, cases_Bool, ltb-true, ltb-false, le-ltb}
 use Rattle.grid_moves.specs.declared.Cell.{Cell}
 use Rattle.grid_moves.specs.Grid.{cell_number}
 use Rattle.grid_moves.specs.Around.{IsBefore}
@@ -16,7 +16,7 @@ use Rattle.potential_check.specs.Heights.{entries, floor, are_low}
 use Rattle.potential_check.specs.Rising.{height_at, cells_in, AreHills, StandAt, Reach, RowsReach, Takes}
 use Rattle.potential_check.specs.Rising.{IsColumn}
 use Rattle.grid_moves.proofs.Places.{number_below}
-use Rattle.potential_check.proofs.Entries.{tested, lt_is, lt_not, lt_false, first_is, height_of-outside}
+use Rattle.potential_check.proofs.Entries.{first_is, height_of-outside}
 use Rattle.potential_check.proofs.Entries.{rest_ascends, rest_heights, rest_inside}
 
 -- the number before n is one, and the same
@@ -80,20 +80,20 @@ module _ (hills : Hills) (are : AreHills hills) where
   stand_same m n heights e s = subst (λ (k : ℕ). StandAt hills k heights) e s
 
   column_off : (c : Cell) → w ≤ c.x → lies_inside w h c ≡ false
-  column_off c off = rw (lt_false c.x w off) refl
+  column_off c off = rw (le-ltb c.x w off) refl
 
   -- the next column of a row, which may lie outside
   pub reach_next : (row column : ℕ) (height : ℤ) (old new : Heights) → Reach hills row column old
       → Takes old (record { x = column; y = row }) height new
       → (height ≡ height_at hills (record { x = column; y = row })) × Reach hills row (column + 1) new
-  reach_next row column height old new stands takes = elim (tested (nat_lt column w)) [
+  reach_next row column height old new stands takes = elim (cases_Bool (nat_lt column w)) [
     | inl less ↦
-        (let inside = lt_is column w less in
+        (let inside = ltb-true column w less in
         let taken = taken_at (record { x = column; y = row }) height old new inside
         (stand_same _ _ old (here inside) stands) takes in
         (taken.0, stand_same _ _ new (next inside) taken.1))
     | inr not ↦
-        (let off = lt_not column w not in
+        (let off = ltb-false column w not in
         let taken = taken_outside _ (record { x = column; y = row }) height old new
         (column_off (record { x = column; y = row }) off) stands takes in
         (taken.0, stand_same _ _ new (stays off) taken.1))
@@ -160,10 +160,10 @@ module _ (hills : Hills) (are : AreHills hills) where
     where
       off : (c : Cell) → h * w ≤ row * w + min 0 w → row * w + min 0 w ≤ cell_number w c
           → lies_inside w h c ≡ false
-      off c more later = elim (tested (lies_inside w h c)) [
+      off c more later = elim (cases_Bool (lies_inside w h c)) [
         | inl inside ↦
             (let column = and_parts (nat_lt c.x w) (nat_lt c.y h) inside in
-            absurd (omega (arith, number_below w h c (lt_is c.x w column.0) (lt_is c.y h column.1))))
+            absurd (omega (arith, number_below w h c (ltb-true c.x w column.0) (ltb-true c.y h column.1))))
         | inr not ↦ not
       ]
 

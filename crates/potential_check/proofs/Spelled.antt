@@ -4,7 +4,7 @@ use Rattle.std.proofs.Common.{◌∷◌, ◌++◌, append_assoc, Option, Some, N
 use Rattle.std.specs.Prelude.{IfOk, codes, nat_le, if◌then◌else◌, map}
 use Rattle.std.specs.List.{AllByRecursion, list_all}
 use Rattle.std.specs.Str.{bytes_eq}
-use Rattle.std.proofs.lemmas.Bool.{and_parts, and_from}
+use Rattle.std.proofs.lemmas.Bool.{and_parts, and_from, cases_Bool}
 use Rattle.std.proofs.lemmas.Slice.Eq.{bytes_eq-Decides}
 use Rattle.std.proofs.lemmas.List.{append-nil}
 use Rattle.root2_cost.specs.declared.Cost.{Cost}
@@ -23,7 +23,6 @@ use Rattle.potential_check.specs.Text.{at_size, at_version, certificate_of, clos
 use Rattle.potential_check.specs.Text.{in_values, is_end, listed, misspelt, next, plain, read_from, spelled}
 use Rattle.potential_check.specs.Text.{unordered}
 use Rattle.potential_check.specs.Spelling.{SpellInOrder, Spells, SpellsClaim}
-use Rattle.potential_check.proofs.Entries.{tested}
 
 -- answers
 abbrev reading : Plain → Result Plain CertFault
@@ -94,7 +93,7 @@ record ListSpelled {E : Type 0} (form : List ℕ → Option E) (cell : E → Cel
 -- a line of a form that a word has not is another one
 differs : {E : Type 0} (form : List ℕ → Option E) (word : List ℕ) → form word ≡ None → (line : List ℕ) (e : E)
     → form line ≡ Some e → bytes_eq line word ≡ false
-differs form word none line e h = elim (tested (bytes_eq line word)) [
+differs form word none line e h = elim (cases_Bool (bytes_eq line word)) [
   | inl same ↦ absurd (let k = ap form (sym ((bytes_eq-Decides line word).0 same)) ∙ h in cc)
   | inr other ↦ other
 ]

@@ -12,18 +12,13 @@ use Rattle.grid_moves.specs.Move.{is_same}
 use Rattle.grid_moves.specs.Points.{are_lined, unfolded_from, unfolding_of}
 use Rattle.grid_moves.specs.Walk.{is_walk, cost_of, last_of}
 use Rattle.grid_moves.proofs.Legal.{is_same-cell, is_same-itself}
+use Rattle.grid_moves.proofs.Walks.{last-joined}
 use Rattle.path_points.specs.declared.checking.BadAt.{BadAt}
 use Rattle.path_points.specs.Checked.{IsFirstBad, IsShortWalk, run}
 use Rattle.path_points.proofs.Joined.{run_ends}
 use Rattle.potential_check.specs.Accepted.{IsBadWalk, IsRightWalk, begins_at, ends_at, is_at, is_cost}
 use Rattle.potential_check.specs.Accepted.{elsewhere, broken, other}
 use Rattle.potential_check.specs.Judged.{JudgesWalk}
-
--- where cells end that follow others
-last_of-append : (u : Cell) (cells later : List Cell) → last_of u (cells ++ later)
-    ≡ last_of (last_of u cells) later
-last_of-append u [] later = refl
-last_of-append u (c ∷ cells) later = last_of-append c cells later
 
 unfolded_some : (b : Bool) (f : List Cell → List Cell) (o : Option (List Cell)) (cells : List Cell)
     → (if b then option_map f o else None) ≡ Some cells → (more : List Cell) × (o ≡ Some more) × (f more
@@ -38,7 +33,7 @@ unfolded_ends : (u : Cell) (points cells : List Cell) → unfolded_from u points
 unfolded_ends u [] cells h = let none : [] ≡ cells = cc in ap (last_of u) (sym none)
 unfolded_ends u (v ∷ points) cells h =
     let parts = unfolded_some (are_lined u v) (λ more. run u v ++ more) (unfolded_from v points) cells h in
-    ap (last_of u) (sym parts.2) ∙ last_of-append u (run u v) parts.0
+    ap (last_of u) (sym parts.2) ∙ last-joined u (run u v) parts.0
     ∙ ap (λ (c : Cell). last_of c parts.0) (run_ends u v) ∙ unfolded_ends v points parts.0 parts.1
 
 last_point : (u : Cell) (points : List Cell)
@@ -93,10 +88,10 @@ begun (p ∷ points) cells s h b = by_option (unfolded_from p points) h
         let same : p ∷ more ≡ s ∷ more = ap (λ (c : Cell). c ∷ more) first in
         (more, ap (λ (l : List Cell). let o : Option (List Cell) = Some l in o) same, sym f ∙ same)
 
-is_cost-same : (p q : Cost) → is_cost p q ≡ true → p ≡ q
+pub is_cost-same : (p q : Cost) → is_cost p q ≡ true → p ≡ q
 is_cost-same p q h = same_cost p q (grind (arith, nat_tests)) (grind (arith, nat_tests))
 
-is_cost-itself : (p : Cost) → is_cost p p ≡ true
+pub is_cost-itself : (p : Cost) → is_cost p p ≡ true
 is_cost-itself p = grind (arith, nat_tests)
 
 module _ (g : GridData) (s t : Cell) (cost : Cost) (points : List Cell) where

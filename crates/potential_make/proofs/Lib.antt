@@ -1,4 +1,3 @@
-pub mod Few
 pub mod Potentials
 pub mod Digits
 pub mod Spelled

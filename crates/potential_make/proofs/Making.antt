@@ -1,14 +1,17 @@
 -- What a search found makes a certificate that is accepted.
-use Rattle.std.proofs.Common.{◌≡◌, ℕ, zero, suc, ◌+◌, ◌*◌, ◌^◌, ◌<◌, ◌≤◌, Bool, true, false, ◌&&◌, ◌||◌, List}
+use Rattle.std.proofs.Common.{◌≡◌, ℕ, suc, ◌+◌, ◌*◌, ◌^◌, ◌<◌, ◌≤◌, Bool, true, false, List}
+use Rattle.std.proofs.Common.{get_or}
 use Rattle.std.proofs.Common.{[], ◌∷◌, ◌++◌, length, map, refl, ap, sym, ◌∙◌, subst, arith}
-use Rattle.std.specs.Prelude.{None, nat_lt, nat_le, pos, ◌-ℤ◌, ℤ, slice_index_or, slice_index}
+use Rattle.std.specs.Prelude.{None, pos, slice_index}
 use Rattle.std.specs.List.{Contains, list_all}
 use Rattle.std.specs.List.Sorted.{IsStrictlyIncreasing}
-use Rattle.std.specs.Ordering.{int_eq}
-use Rattle.std.proofs.lemmas.Bool.{and_parts, and_from}
-use Rattle.std.proofs.lemmas.Bool.Decides.{nat_tests}
-use Rattle.std.proofs.lemmas.Int.{ints}
+use Rattle.std.proofs.lemmas.Bool.{and_parts, cases_Bool, le-leb}
+use Rattle.std.proofs.lemmas.Bool.Decides.{nat_tests, Decides-int_eq}
 use Rattle.std.proofs.lemmas.Simd.{map-map}
+use Rattle.std.proofs.lemmas.List.Sums.{list_all-from_AllPass}
+use Rattle.std.proofs.lemmas.List.Elements.{All-contains_itself}
+use Rattle.std.proofs.lemmas.List.Folds.{list_any_at, list_all-map}
+use Rattle.std.proofs.lemmas.Map.Views.{Contains-from_any}
 use Rattle.root2_cost.specs.declared.Cost.{Cost}
 use Rattle.root2_cost.specs.declared.Signed.{Signed}
 use Rattle.root2_cost.specs.Order.{is_less, IsAtMost}
@@ -17,24 +20,23 @@ use Rattle.root2_cost.specs.Sums.{add_costs, no_cost}
 use Rattle.root2_cost.proofs.AtMost.{IsAtMost-antisymmetric, IsAtMost-refl}
 use Rattle.root2_cost.proofs.Sums.{no_cost_at_most, add_costs-no_cost_right, add_costs-no_cost_left}
 use Rattle.grid_moves.specs.declared.Cell.{Cell}
-use Rattle.grid_moves.specs.Grid.{GridData, IsGrid, is_free, cell_number}
+use Rattle.grid_moves.specs.Grid.{GridData, IsGrid, is_free, cell_number, is_inside}
 use Rattle.grid_moves.specs.Move.{is_legal, is_same}
 use Rattle.grid_moves.specs.Points.{estimate}
 use Rattle.grid_moves.specs.Reply.{StandsForLeast}
-use Rattle.grid_moves.specs.Walk.{NoWalk, is_walk, cost_of, last_of}
-use Rattle.grid_moves.proofs.Legal.{and_both, free_inside, is_same-cell, is_same-itself, legal_is}
-use Rattle.grid_moves.proofs.Short.{least_steps}
-use Rattle.path_points.specs.Corners.{corners, goes_straight, turns_after}
-use Rattle.best_first.specs.State.{start_at}
-use Rattle.search_run.proofs.Leastness.{estimate_along}
+use Rattle.grid_moves.specs.Walk.{NoWalk, is_walk, cost_of}
+use Rattle.grid_moves.proofs.Legal.{free_inside, is_same-cell, is_same-itself, legal_is}
+use Rattle.grid_moves.proofs.Short.{least_steps, few_cells}
+use Rattle.grid_moves.proofs.Walks.{end_free, steps-cost_of, one_more}
+use Rattle.grid_moves.proofs.Consistent.{estimate_nothing, never_exceeds}
+use Rattle.path_points.specs.Corners.{corners, turns_after}
 use Rattle.path_points.specs.Least.{IsLeastOrNone}
 use Rattle.plain_search.specs.Answer.{IsFound, IsPlainRun}
 use Rattle.plain_search.specs.Lists.{AreClosed, AreLists, AreReached, IsLeastCost, plain_of}
 use Rattle.plain_search.specs.Rule.{plain_rule}
 use Rattle.plain_search.specs.declared.lists.Listed.{Listed}
 use Rattle.plain_search.specs.declared.lists.Listed.TheVariants.{Found, None}
-use Rattle.plain_search.proofs.Right.{way_is_least}
-use Rattle.plain_search.proofs.Walks.{one_more, plain_consistent, walk_chain}
+use Rattle.plain_search.proofs.Right.{HasLeast, way_is_least}
 use Rattle.potential_check.specs.Accepted.{AcceptsClaim, AcceptsLeast, AcceptsNone, is_value, leaves}
 use Rattle.potential_check.specs.Certificate.{are_listed, are_sides, ascend_from, cells_of, is_short}
 use Rattle.potential_check.specs.Certificate.{is_small, lies_inside}
@@ -43,48 +45,31 @@ use Rattle.potential_check.specs.Spelling.{Spells}
 use Rattle.potential_check.proofs.Spelled.{certificate_of_spelled}
 use Rattle.potential_make.specs.Certified.{HasItsPotential, IsAcceptedText, stated}
 use Rattle.potential_make.specs.Written.{certificate_text, claim_of}
-use Rattle.potential_make.proofs.Few.{few_cells, few_least}
 use Rattle.potential_make.proofs.Lengths.{HasFewPoints, text_length, turns_few}
-use Rattle.potential_make.proofs.Potentials.{feasible, has_potential}
-use Rattle.potential_make.proofs.Spelled.{Fits, text_spells}
+use Rattle.potential_make.proofs.Potentials.{feasible, has_potential, signed_is, same_nothing}
+use Rattle.potential_make.proofs.Spelled.{Fits, text_spells, fits_line}
 
-lt_true : (m n : ℕ) → m < n → nat_lt m n ≡ true
-lt_true m n h = grind (arith, nat_tests)
-
-le_true : (m n : ℕ) → m ≤ n → nat_le m n ≡ true
-le_true m n h = grind (arith, nat_tests)
+-- a least walk takes fewer moves than there are cells
+few_least : (g : GridData) (s c : Cell) (cost : Cost) → IsLeastCost g s c cost
+    → cost.a + cost.b ≤ g.height * g.width
+few_least g s c cost l =
+    let steps = least_steps g s c l.cells l.least in
+    let counts = rw l.priced at (steps-cost_of s l.cells) in
+    omega arith
 
 -- the cells of a list that satisfy a test
 all_contained : {X : Type 0} (p : X → Bool) (xs : List X) → ((x : X) → Contains xs x → p x ≡ true)
     → list_all p xs ≡ true
-all_contained p [] h = refl
-all_contained p (x ∷ xs) h =
-    and_from (p x) (list_all p xs) (h x (0, omega arith, refl))
-    (all_contained p xs (λ y m. h y (suc m.0, omega (arith, m.1), m.2)))
+all_contained p xs h =
+    list_all-from_AllPass p xs (λ i d inside. h (get_or xs i d) (All-contains_itself xs i d inside))
 
 contained_any : (cells : List Cell) (c : Cell) → Contains cells c → is_listed cells c ≡ true
-contained_any [] c m = absurd (omega (arith, m.1))
-contained_any (d ∷ cells) c m = by_place (contained_any cells c) m.0 m.1 m.2
-  where
-    or_late : (a b : Bool) → b ≡ true → (a || b) ≡ true
-    or_late true b e = refl
-    or_late false b e = e
-
-    by_place : (Contains cells c → is_listed cells c ≡ true) → (k : ℕ) → k < length (d ∷ cells)
-        → slice_index_or (d ∷ cells) k c ≡ c → is_listed (d ∷ cells) c ≡ true
-    by_place again zero h e = let yes : is_same d c ≡ true = ap (λ (x : Cell). is_same x c) e
-        ∙ is_same-itself c in
-        rw yes refl
-    by_place again (suc k) h e = or_late (is_same d c) (is_listed cells c) (again (k, omega arith, e))
+contained_any cells c m = list_any_at (λ d. is_same d c) cells m.0 c m.1
+    (ap (λ (d : Cell). is_same d c) m.2 ∙ is_same-itself c)
 
 any_contained : (cells : List Cell) (c : Cell) → is_listed cells c ≡ true → Contains cells c
-any_contained [] c e = absurd (cc)
-any_contained (d ∷ cells) c e = by_test (any_contained cells c) (is_same d c) refl e
-  where
-    by_test : (is_listed cells c ≡ true → Contains cells c) → (b : Bool) → is_same d c ≡ b
-        → (b || is_listed cells c) ≡ true → Contains (d ∷ cells) c
-    by_test again true f e = (0, omega arith, is_same-cell d c f)
-    by_test again false f e = let m = again e in (suc m.0, omega (arith, m.1), m.2)
+any_contained cells c e =
+    Contains-from_any {eq = λ q d. is_same d q} (λ q d same. sym (is_same-cell d q same)) c cells e
 
 -- numbers that ascend strictly
 tail_up : (n : ℕ) (ns : List ℕ) → IsStrictlyIncreasing (n ∷ ns) → IsStrictlyIncreasing ns
@@ -97,11 +82,11 @@ ascends : (width n : ℕ) (cells : List Cell) → IsStrictlyIncreasing (map (λ 
     → ascend_from width n cells ≡ true
 ascends width n [] up low = refl
 ascends width n (c ∷ cells) up low =
-    and_from (nat_le n (cell_number width c)) (ascend_from width (cell_number width c + 1) cells)
-    (le_true n (cell_number width c) (low (omega arith)))
-    (ascends width (cell_number width c + 1) cells
-    (tail_up (cell_number width c) (map (λ d. cell_number width d) cells) up)
-    (next cells up))
+    rw (
+      le-leb n (cell_number width c) (low (omega arith)),
+      ascends width (cell_number width c + 1) cells
+          (tail_up (cell_number width c) (map (λ d. cell_number width d) cells) up) (next cells up),
+    ) refl
   where
     next : (cells : List Cell) → IsStrictlyIncreasing (map (λ c. cell_number width c) (c ∷ cells))
         → 0 < length cells → cell_number width c + 1 ≤ slice_index (map (λ c. cell_number width c) cells) 0
@@ -113,81 +98,45 @@ module _ (g : GridData) (whole : IsGrid g) where
   free_short : (c : Cell) → is_free g c ≡ true → is_short c ≡ true
   free_short c f =
       let i = free_inside g c f in
-      let n = whole.sides.narrow in
-      let l = whole.sides.low in
-      and_from (nat_lt c.x 10000) (nat_lt c.y 10000) (lt_true c.x 10000 (below c.x g.width i.0 n))
-      (lt_true c.y 10000 (below c.y g.height i.1 l))
-    where
-      below : (m n : ℕ) → m < n → n ≤ 4096 → m < 10000
-      below m n a b = omega arith
+      let x = i.0 in
+      let y = i.1 in
+      let narrow = whole.sides.narrow in
+      let low = whole.sides.low in
+      grind (arith, nat_tests)
 
   free_lies : (c : Cell) → is_free g c ≡ true → lies_inside g.width g.height c ≡ true
-  free_lies c f = let i = free_inside g c f in
-      and_from (nat_lt c.x g.width) (nat_lt c.y g.height) (lt_true c.x g.width i.0) (lt_true c.y g.height i.1)
+  free_lies c f = (and_parts (is_inside g c) _ f).0
 
   few_small : (cost : Cost) → cost.a + cost.b ≤ g.height * g.width → is_small cost ≡ true
-  few_small cost h =
-      let most = few_cells g.height g.width whole.sides.low whole.sides.narrow in
-      and_from (nat_lt cost.a (10 ^ 9)) (nat_lt cost.b (10 ^ 9)) (lt_true cost.a (10 ^ 9) (omega arith))
-      (lt_true cost.b (10 ^ 9) (omega arith))
+  few_small cost h = let most = few_cells g whole in grind (arith, nat_tests)
 
   -- the cells of a walk are free
   walk_short : (cells : List Cell) → is_walk g cells ≡ true → list_all is_short cells ≡ true
   walk_short [] w = refl
-  walk_short (c ∷ []) w = and_from (is_short c) true (free_short c w) refl
+  walk_short (c ∷ []) w = rw (free_short c w) refl
   walk_short (c ∷ d ∷ cells) w =
-      let parts = and_both (is_legal g c d) (is_walk g (d ∷ cells)) w in
-      and_from (is_short c) (list_all is_short (d ∷ cells)) (free_short c (legal_is g c d parts.0).source)
-      (walk_short (d ∷ cells) parts.1)
-
-  end_free : (s : Cell) (cells : List Cell) → is_walk g (s ∷ cells) ≡ true
-      → is_free g (last_of s cells) ≡ true
-  end_free s [] w = w
-  end_free s (d ∷ cells) w = end_free d cells (and_both (is_legal g s d) (is_walk g (d ∷ cells)) w).1
+      let parts = and_parts (is_legal g c d) (is_walk g (d ∷ cells)) w in
+      rw (free_short c (legal_is g c d parts.0).source, walk_short (d ∷ cells) parts.1) refl
 
   sides_are : are_sides g.width g.height ≡ true
-  sides_are =
-      let s = whole.sides in
-      and_from (nat_le 1 g.width && nat_le g.width 4096 && nat_le 1 g.height) (nat_le g.height 4096)
-      (and_from (nat_le 1 g.width && nat_le g.width 4096) (nat_le 1 g.height)
-      (and_from (nat_le 1 g.width) (nat_le g.width 4096) (le_true 1 g.width s.wide)
-      (le_true g.width 4096 s.narrow))
-      (le_true 1 g.height s.high)) (le_true g.height 4096 s.low)
+  sides_are = let s = whole.sides in grind (arith, nat_tests)
 
-  listed_cells : (cells : List Cell) → ((c : Cell) → Contains cells c → is_free g c ≡ true)
+  listed_cells : (cells : List Cell) → list_all (lies_inside g.width g.height) cells ≡ true
       → IsStrictlyIncreasing (map (λ c. cell_number g.width c) cells)
       → are_listed g.width g.height cells ≡ true
-  listed_cells cells free up =
-      and_from (list_all (lies_inside g.width g.height) cells) (ascend_from g.width 0 cells)
-      (all_contained (lies_inside g.width g.height) cells (λ c m. free_lies c (free c m)))
-      (ascends g.width 0 cells up (λ h. omega arith))
+  listed_cells cells inside up = rw (inside, ascends g.width 0 cells up (λ h. omega arith)) refl
 
 turns_short : (u : Cell) (cells : List Cell) → list_all is_short cells ≡ true
     → list_all is_short (turns_after u cells) ≡ true
 turns_short u [] all = refl
 turns_short u (v ∷ []) all = all
-turns_short u (v ∷ w ∷ cells) all =
-    let parts = and_parts (is_short v) (list_all is_short (w ∷ cells)) all in
-    by_test parts.0 (turns_short v (w ∷ cells) parts.1) (goes_straight u v w) refl
-  where
-    by_test : is_short v ≡ true → list_all is_short (turns_after v (w ∷ cells)) ≡ true → (b : Bool)
-        → goes_straight u v w ≡ b → list_all is_short (turns_after u (v ∷ w ∷ cells)) ≡ true
-    by_test first rest true e = rw e rest
-    by_test first rest false e =
-        rw e (and_from (is_short v) (list_all is_short (turns_after v (w ∷ cells))) first rest)
-
-int_same : (n : ℕ) → int_eq (pos n) (pos n) ≡ true
-int_same n = grind (arith, nat_tests)
+turns_short u (v ∷ w ∷ cells) all = grind (arith, cases_Bool, and_parts, turns_short v (w ∷ cells))
 
 value_is : (v : Signed) (c : Cost) → v ≡ signed_of c → is_value v c ≡ true
-value_is v c e = rw e (and_from (int_eq (pos c.a) (pos c.a)) (int_eq (pos c.b) (pos c.b)) (int_same c.a)
-    (int_same c.b))
+value_is v c e = rw (e, (Decides-int_eq (pos c.a) (pos c.a)).1 refl, (Decides-int_eq (pos c.b) (pos c.b)).1 refl) refl
 
 module _ (g : GridData) (s t : Cell) (whole : IsGrid g) (from : is_free g s ≡ true)
     (to : is_free g t ≡ true) where
-  cells_few : g.height * g.width ≤ 16777216
-  cells_few = few_cells g.height g.width whole.sides.low whole.sides.narrow
-
   -- a claim of least cost
   module _ (points : List Cell) (cost : Cost) (taken : List ℕ) (closed : List (Cell × Cost))
       (run : IsFound g s t points cost taken) (least : StandsForLeast g s t points cost)
@@ -199,59 +148,44 @@ module _ (g : GridData) (s t : Cell) (whole : IsGrid g) (from : is_free g s ≡ 
     few = few_least g s t cost least_cost
 
     cell_free : (e : Cell × Cost) → Contains closed e → is_free g e.0 ≡ true
-    cell_free e m =
-        let o = (lists.only e.0 e.1 m).0 in
-        subst (λ (c : Cell). is_free g c ≡ true) o.least.walk.ends
-        (end_free g whole s o.cells o.least.walk.legal)
+    cell_free e m = let o = (lists.only e.0 e.1 m).0 in end_free g s e.0 o.cells o.least.walk
 
-    cost_small : (e : Cell × Cost) → Contains closed e → is_small e.1 ≡ true
-    cost_small e m = few_small g whole e.1 (few_least g s e.0 e.1 (lists.only e.0 e.1 m).0)
+    cell_fits : (e : Cell × Cost) → Contains closed e → fits_line e ≡ true
+    cell_fits e m = rw (
+      free_short g whole e.0 (cell_free e m),
+      few_small g whole e.1 (few_least g s e.0 e.1 (lists.only e.0 e.1 m).0),
+    ) refl
+
+    -- the way of the run
+    way : HasLeast g t (plain_rule g t) s run.last run.earlier
+    way = way_is_least g s t run.last run.earlier from run.run run.at_goal
 
     up : IsStrictlyIncreasing (map (λ c. cell_number g.width c) (cells_of closed))
     up = subst IsStrictlyIncreasing
         (sym (map-map (λ c. cell_number g.width c) (λ (e : Cell × Cost). e.0) closed))
         lists.ascend
 
-    points_are : points ≡ s ∷ turns_after s
-        (way_is_least g s t run.last run.earlier from run.run run.at_goal).cells
-    points_are = run.along ∙ ap corners
-        (way_is_least g s t run.last run.earlier from run.run run.at_goal).is_way
+    points_are : points ≡ s ∷ turns_after s way.cells
+    points_are = run.along ∙ ap corners way.is_way
 
     points_short : list_all is_short points ≡ true
     points_short =
-        let w = way_is_least g s t run.last run.earlier from run.run run.at_goal in
-        let all = walk_short g whole (s ∷ w.cells) w.least.walk.legal in
-        let parts = and_parts (is_short s) (list_all is_short w.cells) all in
-        rw points_are (and_from (is_short s) (list_all is_short (turns_after s w.cells)) parts.0
-        (turns_short s w.cells parts.1))
-
-    in_cells : (c : Cell) → Contains (cells_of closed) c → is_free g c ≡ true
-    in_cells c m = by_list closed cell_free m
-      where
-        by_list : (es : List (Cell × Cost)) → ((e : Cell × Cost) → Contains es e → is_free g e.0 ≡ true)
-            → Contains (cells_of es) c → is_free g c ≡ true
-        by_list [] free m = absurd (omega (arith, m.1))
-        by_list (e ∷ es) free m = by_place
-            (by_list es (λ d n. free d (suc n.0, omega (arith, n.1), n.2))) m.0 m.1 m.2
-          where
-            by_place : (Contains (cells_of es) c → is_free g c ≡ true) → (k : ℕ)
-                → k < length (cells_of (e ∷ es)) → slice_index_or (cells_of (e ∷ es)) k c ≡ c
-                → is_free g c ≡ true
-            by_place again zero h q = subst (λ (d : Cell). is_free g d ≡ true) q
-                (free e (0, omega arith, refl))
-            by_place again (suc k) h q = again (k, omega arith, q)
+        let all = walk_short g whole (s ∷ way.cells) way.least.walk.legal in
+        let parts = and_parts (is_short s) (list_all is_short way.cells) all in
+        rw (points_are, parts.0, turns_short s way.cells parts.1) refl
 
     pub fits_least : Fits g.width g.height (claim_of (Found points cost closed taken))
     fits_least = record {
       cost_small = few_small g whole cost few;
       first = s;
-      more = turns_after s (way_is_least g s t run.last run.earlier from run.run run.at_goal).cells;
+      more = turns_after s way.cells;
       points_are = points_are;
       points_short = points_short;
-      values_short = all_contained (λ (e : Cell × Cost). is_short e.0) closed
-          (λ e m. free_short g whole e.0 (cell_free e m));
-      values_small = all_contained (λ (e : Cell × Cost). is_small e.1) closed cost_small;
-      listed = listed_cells g whole (cells_of closed) in_cells up;
+      values_fit = all_contained fits_line closed cell_fits;
+      listed = listed_cells g whole (cells_of closed)
+          (list_all-map (lies_inside g.width g.height) (λ (e : Cell × Cost). e.0) closed
+          ∙ all_contained (λ e. lies_inside g.width g.height e.0) closed
+          (λ e m. free_lies g whole e.0 (cell_free e m))) up;
     }
 
     -- the start is nothing above itself
@@ -265,29 +199,8 @@ module _ (g : GridData) (s t : Cell) (whole : IsGrid g) (from : is_free g s ≡ 
       priced = refl;
     }
 
-    same_cost_nothing : (p q : Cost) → p ≡ q → cost_difference p q ≡ signed_of no_cost
-    same_cost_nothing p q e = ap (λ (c : Cost). cost_difference c q) e ∙ none q
-      where
-        nothing : (n : ℕ) → pos n -ℤ pos n ≡ pos 0
-        nothing n = omega (arith, ints)
-
-        none : (q : Cost) → cost_difference q q ≡ signed_of no_cost
-        none q = ap (λ (x : ℤ). let v : Signed = record { a = x; b = pos q.b -ℤ pos q.b } in v) (nothing q.a)
-            ∙ ap (λ (x : ℤ). let v : Signed = record { a = pos 0; b = x } in v) (nothing q.b)
-
     estimate_most : IsAtMost (estimate s t) cost
-    estimate_most =
-        let w = least.least.walk in
-        let chain = walk_chain g t s least.cells w.legal in
-        let to_t : start_at (last_of s least.cells) ≡ start_at t = ap (λ (c : Cell). start_at c) w.ends in
-        let along = (estimate_along (plain_rule g t) (plain_consistent g t) (start_at s)
-        (start_at (last_of s least.cells)) (cost_of (s ∷ least.cells)) chain).is in
-        let at_t : (plain_rule g t).is_goal (start_at (last_of s least.cells)) ≡ true =
-        ap (λ (c : Cell). is_same c t) w.ends ∙ is_same-itself t in
-        let none = (plain_consistent g t).nothing (start_at (last_of s least.cells)) at_t in
-        subst (λ (c : Cost). IsAtMost (estimate s t) c) least.priced
-        (subst (λ (c : Cost). IsAtMost (estimate s t) c) (add_costs-no_cost_right (cost_of (s ∷ least.cells)))
-        (subst (λ (e : Cost). IsAtMost (estimate s t) (add_costs (cost_of (s ∷ least.cells)) e)) none along))
+    estimate_most = rw (← least.priced) (never_exceeds g s t least.cells least.least.walk)
 
     start_value : is_value (potential_of cost t closed s) no_cost ≡ true
     start_value = by_sum (is_less (add_costs no_cost (estimate s t)) cost) refl
@@ -301,27 +214,18 @@ module _ (g : GridData) (s t : Cell) (whole : IsGrid g) (from : is_free g s ≡ 
             subst (λ (c : Cost). IsAtMost cost c) (add_costs-no_cost_left (estimate s t)) e in
             value_is (potential_of cost t closed s) no_cost
             ((has_potential g s t cost closed lists).far s no_cost start_least e
-            ∙ same_cost_nothing cost (estimate s t)
-            (IsAtMost-antisymmetric cost (estimate s t) most estimate_most))
+            ∙ same_nothing cost (estimate s t) (IsAtMost-antisymmetric cost (estimate s t) most estimate_most))
 
     goal_value : is_value (potential_of cost t closed t) cost ≡ true
     goal_value =
-        let none : estimate t t ≡ no_cost = (plain_consistent g t).nothing (start_at t) (is_same-itself t) in
+        let none : estimate t t ≡ no_cost = estimate_nothing t in
         let sum : add_costs cost (estimate t t) ≡ cost =
         ap (λ (e : Cost). add_costs cost e) none ∙ add_costs-no_cost_right cost in
         let above : is_less (add_costs cost (estimate t t)) cost ≡ false =
         ap (λ (c : Cost). is_less c cost) sum ∙ IsAtMost-refl cost in
         value_is (potential_of cost t closed t) cost
         ((has_potential g s t cost closed lists).far t cost least_cost above
-        ∙ ap (λ (e : Cost). cost_difference cost e) none ∙ whole_cost cost)
-      where
-        less_nothing : (n : ℕ) → pos n -ℤ pos 0 ≡ pos n
-        less_nothing n = omega (arith, ints)
-
-        whole_cost : (c : Cost) → cost_difference c no_cost ≡ signed_of c
-        whole_cost c = ap (λ (x : ℤ). let v : Signed = record { a = x; b = pos c.b -ℤ pos 0 } in v)
-            (less_nothing c.a)
-            ∙ ap (λ (x : ℤ). let v : Signed = record { a = pos c.a; b = x } in v) (less_nothing c.b)
+        ∙ ap (λ (e : Cost). cost_difference cost e) none ∙ sym (signed_is cost))
 
     pub accepts_least : AcceptsLeast g s t cost points closed
     accepts_least = record {
@@ -330,9 +234,7 @@ module _ (g : GridData) (s t : Cell) (whole : IsGrid g) (from : is_free g s ≡ 
         unfolds = least.unfolds;
         walk = least.least.walk;
         short =
-            let n = least_steps g s t least.cells least.least in
-            let m = cells_few in
-            omega arith;
+            let n = least_steps g s t least.cells least.least in let m = few_cells g whole in omega arith;
         priced = least.priced;
       };
       start = start_value;
@@ -343,14 +245,13 @@ module _ (g : GridData) (s t : Cell) (whole : IsGrid g) (from : is_free g s ≡ 
   -- a claim that no walk exists
   module _ (reached : List Cell) (none : NoWalk g s t) (lists : AreReached g s reached) where
     reached_free : (c : Cell) → Contains reached c → is_free g c ≡ true
-    reached_free c m =
-        let w = lists.only c m in
-        subst (λ (d : Cell). is_free g d ≡ true) w.walk.ends (end_free g whole s w.cells w.walk.legal)
+    reached_free c m = let w = lists.only c m in end_free g s c w.cells w.walk
 
     pub fits_none : Fits g.width g.height (claim_of (None reached []))
     fits_none = record {
       cells_short = all_contained is_short reached (λ c m. free_short g whole c (reached_free c m));
-      listed = listed_cells g whole reached reached_free lists.ascend;
+      listed = listed_cells g whole reached (all_contained (lies_inside g.width g.height) reached
+          (λ c m. free_lies g whole c (reached_free c m))) lists.ascend;
     }
 
     pub accepts_none : AcceptsNone g s t reached
@@ -393,7 +294,7 @@ module _ (g : GridData) (s t : Cell) (whole : IsGrid g) (from : is_free g s ≡ 
       ap length (run.along ∙ ap corners w.is_way) in
       let turns = turns_few s w.cells in
       let few = least_steps g s t w.cells w.least in
-      let most = cells_few in
+      let most = few_cells g whole in
       omega arith
 
   -- the text of what was found

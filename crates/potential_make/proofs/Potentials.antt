@@ -20,11 +20,11 @@ use Rattle.grid_moves.specs.Walk.{NoWalk, cost_of}
 use Rattle.grid_moves.proofs.Legal.{is_same-cell, is_same-itself}
 use Rattle.path_points.specs.declared.points.Walk.{Walk}
 use Rattle.path_points.specs.Least.{IsLeastOrNone}
-use Rattle.best_first.specs.State.{start_at}
 use Rattle.plain_search.specs.Lists.{AreClosed, IsBelow, IsLeastCost}
 use Rattle.plain_search.proofs.Answering.{has_answer}
 use Rattle.plain_search.proofs.Closing.{one_least}
-use Rattle.plain_search.proofs.Walks.{Goes, legal_link, one_more, plain_consistent}
+use Rattle.grid_moves.proofs.Walks.{Goes, one_more}
+use Rattle.grid_moves.proofs.Consistent.{estimate_falls}
 use Rattle.potential_check.specs.Potential.{IsFeasible, potential_of}
 use Rattle.potential_make.specs.Certified.{HasPotential}
 
@@ -51,8 +51,16 @@ less_nothing : (n : ℕ) → pos n ≡ pos n -ℤ pos 0
 less_nothing n = omega (arith, ints)
 
 -- a cost is its difference from nothing
-signed_is : (c : Cost) → signed_of c ≡ cost_difference c no_cost
+pub signed_is : (c : Cost) → signed_of c ≡ cost_difference c no_cost
 signed_is c = same_signed (signed_of c) (cost_difference c no_cost) (less_nothing c.a) (less_nothing c.b)
+
+-- and the difference of equal costs is nothing
+pub same_nothing : (p q : Cost) → p ≡ q → cost_difference p q ≡ signed_of no_cost
+same_nothing p q e = same_signed (cost_difference p q) (signed_of no_cost) (none p.a q.a (ap (λ (c : Cost). c.a) e))
+    (none p.b q.b (ap (λ (c : Cost). c.b) e))
+  where
+    none : (m n : ℕ) → m ≡ n → pos m -ℤ pos n ≡ pos 0
+    none m n same = omega (arith, ints)
 
 -- what a list says of a cell
 pub record Listed (t : Cell) (cost : Cost) (values : List (Cell × Cost)) (c : Cell)
@@ -146,27 +154,24 @@ module _ (g : GridData) (s t : Cell) (cost : Cost) (values : List (Cell × Cost)
               (is_less (add_costs w.cost (estimate c t)) cost) refl
           by_answer None is = beyond is (has_potential.beyond c is)
 
-      -- over a move the estimate falls by at most its cost
-      falls : (u v : Cell) → is_legal g u v ≡ true
-          → IsAtMost (estimate u t) (add_costs (move_cost u v) (estimate v t))
-      falls u v l = (plain_consistent g t).falls (start_at u) (start_at v) (move_cost u v)
-          (legal_link g u v l)
+      -- a walk at the least cost, and a move more
+      move_on : (u v : Cell) → is_legal g u v ≡ true → (p : Cost) (a : IsLeastCost g s u p)
+          → Goes g s v (a.cells ++ (v ∷ [])) (add_costs p (move_cost u v))
+      move_on u v l p a = one_more g s u v a.cells p
+          (record { legal = a.least.walk.legal; ends = a.least.walk.ends; priced = a.priced }) l
 
-      -- and the least cost rises by at most its cost
+      -- over a move the least cost rises by at most its cost
       climbs : (u v : Cell) → is_legal g u v ≡ true → (p q : Cost) → IsLeastCost g s u p → IsLeastCost g s v q
           → IsAtMost q (add_costs p (move_cost u v))
       climbs u v l p q a b =
-          let on : Goes g s v (a.cells ++ (v ∷ [])) (add_costs p (move_cost u v)) =
-          one_more g s u v a.cells p
-          (record { legal = a.least.walk.legal; ends = a.least.walk.ends; priced = a.priced }) l in
+          let on = move_on u v l p a in
           let most = b.least.least (a.cells ++ (v ∷ [])) (record { legal = on.legal; ends = on.ends }) in
           subst (λ (c : Cost). IsAtMost c (add_costs p (move_cost u v))) b.priced
           (subst (λ (c : Cost). IsAtMost (cost_of (s ∷ b.cells)) c) on.priced most)
 
       walk_on : (u v : Cell) → is_legal g u v ≡ true → (p : Cost) → IsLeastCost g s u p → NoWalk g s v → ⊥
       walk_on u v l p a none =
-          let on = one_more g s u v a.cells p
-          (record { legal = a.least.walk.legal; ends = a.least.walk.ends; priced = a.priced }) l in
+          let on = move_on u v l p a in
           none (a.cells ++ (v ∷ [])) (record { legal = on.legal; ends = on.ends })
 
       from_far : (u v : Cell) → is_legal g u v ≡ true → (q : Cost) → IsBelow t cost v q
@@ -175,7 +180,7 @@ module _ (g : GridData) (s t : Cell) (cost : Cost) (values : List (Cell × Cost)
       from_far u v l q under =
           let less = less_at_most (add_costs q (estimate v t)) cost under in
           let step = IsAtMost-add_left q (estimate u t) (add_costs (move_cost u v) (estimate v t))
-          (falls u v l) in
+          (estimate_falls g u v t l) in
           let more = IsAtMost-add_left (move_cost u v) (add_costs q (estimate v t)) cost less in
           let both = IsAtMost-trans (add_costs q (estimate u t))
           (add_costs q (add_costs (move_cost u v) (estimate v t)))
@@ -194,7 +199,7 @@ module _ (g : GridData) (s t : Cell) (cost : Cost) (values : List (Cell × Cost)
           (cost_difference cost (estimate v t)) ≡ false
       from_far_on u v l =
           let step = IsAtMost-add_left cost (estimate u t) (add_costs (move_cost u v) (estimate v t))
-          (falls u v l) in
+          (estimate_falls g u v t l) in
           no_rise cost (estimate u t) cost (estimate v t) (move_cost u v)
           (at_most_moved (add_costs cost (estimate u t))
           (add_costs cost (add_costs (move_cost u v) (estimate v t)))

@@ -1,16 +1,17 @@
 -- The text of a certificate spells it.
-use Rattle.std.proofs.Common.{◌≡◌, ℕ, ◌^◌, ◌<◌, Bool, true, false, ◌&&◌, not, eqb, List, [], ◌∷◌, ◌++◌, map}
+use Rattle.std.proofs.Common.{◌≡◌, ℕ, ◌^◌, ◌<◌, Bool, true, false, ◌&&◌, List, [], ◌∷◌, ◌++◌, map}
 use Rattle.std.proofs.Common.{refl, ap, ◌∙◌, arith, append_assoc}
-use Rattle.std.specs.Prelude.{codes, decimal, Some, nat_lt}
+use Rattle.std.specs.Prelude.{codes, decimal, Some, Option}
 use Rattle.std.specs.Char.{is_ascii_digit}
 use Rattle.std.specs.List.{All, list_all, slice_split}
-use Rattle.std.proofs.lemmas.Bool.{and_parts, and_from}
+use Rattle.std.proofs.lemmas.Bool.{and_parts}
 use Rattle.std.proofs.lemmas.Bool.Decides.{nat_tests}
 use Rattle.std.proofs.lemmas.List.{append-nil}
-use Rattle.std.proofs.lemmas.List.Elements.{All-nil, All-cons}
+use Rattle.std.proofs.lemmas.List.Elements.{All-nil, All-cons, All-append}
 use Rattle.std.proofs.lemmas.List.Folds.{list_all-append}
 use Rattle.std.proofs.lemmas.List.Splits.{slice_split_at, slice_split_none}
-use Rattle.text_line.specs.Lines.{pieces_of, without_cr, lines_of}
+use Rattle.text_line.specs.Lines.{lines_of}
+use Rattle.text_line.proofs.Written.{is_plain, lines_then, plain_both, plain_digits, nine_digits}
 use Rattle.root2_cost.specs.declared.Cost.{Cost}
 use Rattle.grid_moves.specs.declared.Cell.{Cell}
 use Rattle.potential_check.specs.declared.certificate.Claim.{Claim}
@@ -19,84 +20,32 @@ use Rattle.potential_check.specs.Certificate.{are_listed, are_sides, cells_of, i
 use Rattle.potential_check.specs.Forms.{ends_on, is_space, least_on, member_on, points_in, points_on, size_on}
 use Rattle.potential_check.specs.Forms.{value_on}
 use Rattle.potential_check.specs.Spelling.{SpellInOrder, Spells, SpellsClaim}
-use Rattle.potential_check.proofs.Entries.{lt_is}
 use Rattle.potential_make.specs.Written.{certificate_text, claim_text, member_text, pair_text, point_text}
 use Rattle.potential_make.specs.Written.{texts_of, value_text}
-use Rattle.potential_make.proofs.Digits.{are_digits, cell_read, cell_then, pair_read, word_read}
+use Rattle.potential_make.proofs.Digits.{cell_read, cell_then, pair_read, word_read, coordinates, small_is}
 
--- a byte that ends no line
-is_plain : ℕ → Bool
-is_plain byte = not (eqb byte 10) && not (eqb byte 13)
+-- a cell and its value have few enough digits for their line
+abbrev pub fits_line : (Cell × Cost) → Bool
+fits_line e = is_short e.0 && is_small e.1
 
-pieces_then : (line rest : List ℕ) → list_all is_plain line ≡ true
-    → pieces_of (line ++ 10 ∷ rest) ≡ line ∷ pieces_of rest
-unfolding is_plain
-pieces_then [] rest plain = refl
-pieces_then (b ∷ line) rest plain =
-    let parts = and_parts (is_plain b) (list_all is_plain line) plain in
-    let none : eqb b 10 ≡ false = grind (arith, nat_tests) in
-    rw (none, pieces_then line rest parts.1) refl
-
-without_cr_plain : (line : List ℕ) → list_all is_plain line ≡ true → without_cr line ≡ line
-unfolding is_plain
-without_cr_plain [] plain = refl
-without_cr_plain (b ∷ []) plain =
-    let parts = and_parts (is_plain b) true plain in
-    let none : eqb b 13 ≡ false = grind (arith, nat_tests) in
-    rw none refl
-without_cr_plain (b ∷ c ∷ line) plain =
-    let parts = and_parts (is_plain b) (list_all is_plain (c ∷ line)) plain in
-    ap (λ (rest : List ℕ). b ∷ rest) (without_cr_plain (c ∷ line) parts.1)
-
--- a line and what follows it
-lines_then : (line rest : List ℕ) → list_all is_plain line ≡ true → lines_of (line ++ 10 ∷ rest)
-    ≡ line ∷ lines_of rest
-lines_then line rest plain =
-    rw (pieces_then line rest plain) (ap (λ (l : List ℕ). l ∷ lines_of rest) (without_cr_plain line plain))
-
-plain_both : (xs ys : List ℕ) → list_all is_plain xs ≡ true → list_all is_plain ys ≡ true
-    → list_all is_plain (xs ++ ys) ≡ true
-plain_both xs ys p q = list_all-append is_plain xs ys
-    ∙ and_from (list_all is_plain xs) (list_all is_plain ys) p q
-
--- all digits have a property
-each_digit : (p : ℕ → Bool) → ((byte : ℕ) → is_ascii_digit byte ≡ true → p byte ≡ true) → (digits : List ℕ)
-    → list_all is_ascii_digit digits ≡ true → list_all p digits ≡ true
-each_digit p has [] all = refl
-each_digit p has (d ∷ digits) all =
-    let parts = and_parts (is_ascii_digit d) (list_all is_ascii_digit digits) all in
-    rw (has d parts.0, each_digit p has digits parts.1) refl
-
-plain_digits : (digits : List ℕ) → list_all is_ascii_digit digits ≡ true → list_all is_plain digits ≡ true
-unfolding is_plain
-plain_digits = each_digit is_plain plain_digit
-  where
-    plain_digit : (byte : ℕ) → is_ascii_digit byte ≡ true → is_plain byte ≡ true
-    plain_digit byte digit = grind (arith, nat_tests)
-
+-- written numbers end no line
 plain_number : (n : ℕ) → n < 10 ^ 9 → list_all is_plain (decimal n) ≡ true
-plain_number n low = plain_digits (decimal n) (are_digits 9 n (omega arith) (omega arith) low low).all
+plain_number n low = plain_digits (decimal n) (nine_digits n low).all
 
 plain_pair : (m n : ℕ) → m < 10 ^ 9 → n < 10 ^ 9 → list_all is_plain (pair_text m n) ≡ true
-unfolding is_plain
-plain_pair m n small low =
-    plain_both (decimal m ++ codes " ") (decimal n)
-    (plain_both (decimal m) (codes " ") (plain_number m small) refl) (plain_number n low)
-
--- what is short or small
-pub short_is : (c : Cell) → is_short c ≡ true → (c.x < 10000) × (c.y < 10000)
-short_is c e =
-    let parts = and_parts (nat_lt c.x 10000) (nat_lt c.y 10000) e in
-    (lt_is c.x 10000 parts.0, lt_is c.y 10000 parts.1)
-
-pub small_is : (c : Cost) → is_small c ≡ true → (c.a < 10 ^ 9) × (c.b < 10 ^ 9)
-small_is c e =
-    let parts = and_parts (nat_lt c.a (10 ^ 9)) (nat_lt c.b (10 ^ 9)) e in
-    (lt_is c.a (10 ^ 9) parts.0, lt_is c.b (10 ^ 9) parts.1)
+plain_pair m n small low = simp (list_all-append is_plain, plain_number m small, plain_number n low)
 
 plain_cell : (c : Cell) → is_short c ≡ true → list_all is_plain (pair_text c.x c.y) ≡ true
-plain_cell c e = let s = short_is c e in
-    plain_pair c.x c.y (let h = s.0 in omega arith) (let h = s.1 in omega arith)
+plain_cell c e =
+    let digits = coordinates c e in
+    simp (
+      list_all-append is_plain,
+      plain_digits (decimal c.x) digits.0.all,
+      plain_digits (decimal c.y) digits.1.all,
+    )
+
+plain_cost : (cost : Cost) → is_small cost ≡ true → list_all is_plain (pair_text cost.a cost.b) ≡ true
+plain_cost cost e = let s = small_is cost e in plain_pair cost.a cost.b s.0 s.1
 
 -- the lines
 abbrev size_line : ℕ → ℕ → List ℕ
@@ -125,77 +74,51 @@ size_spells width height w h are =
 
 ends_spells : (s t : Cell) → is_short s ≡ true → is_short t ≡ true → ends_on (ends_line s t) ≡ Some (s, t)
 ends_spells s t p q =
-    let a = short_is s p in
-    let b = short_is t q in
     let rest : List ℕ = decimal t.x ++ 32 ∷ decimal t.y in
     let line : List ℕ = decimal s.x ++ 32 ∷ (decimal s.y ++ 32 ∷ rest) in
     let is : ends_line s t ≡ codes "ends " ++ line = simp append_assoc in
-    ap ends_on is ∙ rw (
-      word_read
-          (codes "ends ") line,
-      cell_then s rest a.0 a.1,
-      cell_read 32 t refl b.0 b.1,
-    ) refl
+    ap ends_on is ∙ rw (word_read (codes "ends ") line, cell_then s rest p, cell_read 32 t refl q) refl
 
 least_spells : (cost : Cost) → is_small cost ≡ true → least_on (least_line cost) ≡ Some cost
 least_spells cost e =
     let s = small_is cost e in
     rw (word_read (codes "least ") (pair_text cost.a cost.b), pair_read cost.a cost.b s.0 s.1) refl
 
-value_spells : (c : Cell) (cost : Cost) → is_short c ≡ true → is_small cost ≡ true
-    → value_on (value_line (c, cost)) ≡ Some (c, cost)
-value_spells c cost p q =
-    let a = short_is c p in
-    let b = small_is cost q in
+value_spells : (e : Cell × Cost) → fits_line e ≡ true → value_on (value_line e) ≡ Some e
+value_spells (c, cost) fits =
+    let f = and_parts (is_short c) (is_small cost) fits in
+    let b = small_is cost f.1 in
     let rest : List ℕ = pair_text cost.a cost.b in
     let line : List ℕ = decimal c.x ++ 32 ∷ (decimal c.y ++ 32 ∷ rest) in
     let is : value_line (c, cost) ≡ codes "value " ++ line = simp append_assoc in
     ap value_on is
-    ∙ rw (word_read (codes "value ") line, cell_then c rest a.0 a.1, pair_read cost.a cost.b b.0 b.1) refl
+    ∙ rw (word_read (codes "value ") line, cell_then c rest f.0, pair_read cost.a cost.b b.0 b.1) refl
 
 member_spells : (c : Cell) → is_short c ≡ true → member_on (member_line c) ≡ Some c
 member_spells c p =
-    let a = short_is c p in
     let line : List ℕ = decimal c.x ++ 32 ∷ decimal c.y in
     let is : member_line c ≡ codes "in " ++ line = simp append_assoc in
-    ap member_on is ∙ rw (word_read (codes "in ") line, cell_read 32 c refl a.0 a.1) refl
+    ap member_on is ∙ rw (word_read (codes "in ") line, cell_read 32 c refl p) refl
 
 -- points as words
 abbrev point_word : Cell → List ℕ
 point_word c = decimal c.x ++ 44 ∷ decimal c.y
 
-is_filled : ℕ → Bool
-is_filled byte = not (is_space byte)
-
-filled_digits : (digits : List ℕ) → list_all is_ascii_digit digits ≡ true → list_all is_filled digits ≡ true
-unfolding is_filled
-filled_digits = each_digit is_filled filled_digit
-  where
-    filled_digit : (byte : ℕ) → is_ascii_digit byte ≡ true → is_filled byte ≡ true
-    filled_digit byte digit = grind (arith, nat_tests)
-
-no_spaces : (xs : List ℕ) → list_all is_filled xs ≡ true → All (λ b. is_space b ≡ false) xs
-unfolding is_filled
+no_spaces : (digits : List ℕ) → list_all is_ascii_digit digits ≡ true → All (λ b. is_space b ≡ false) digits
 no_spaces [] all = All-nil (λ b. is_space b ≡ false)
-no_spaces (b ∷ xs) all =
-    let parts = and_parts (is_filled b) (list_all is_filled xs) all in
-    All-cons (λ b. is_space b ≡ false) b xs (filled b parts.0) (no_spaces xs parts.1)
+no_spaces (b ∷ digits) all =
+    let parts = and_parts (is_ascii_digit b) (list_all is_ascii_digit digits) all in
+    All-cons (λ b. is_space b ≡ false) b digits (filled b parts.0) (no_spaces digits parts.1)
   where
-    filled : (byte : ℕ) → is_filled byte ≡ true → is_space byte ≡ false
+    filled : (byte : ℕ) → is_ascii_digit byte ≡ true → is_space byte ≡ false
     filled byte e = grind (arith, nat_tests)
 
 point_filled : (c : Cell) → is_short c ≡ true → All (λ b. is_space b ≡ false) (point_word c)
-unfolding is_filled
 point_filled c e =
-    let s = short_is c e in
-    let x = filled_digits (decimal c.x)
-    (are_digits 4 c.x (omega arith) (omega arith) (let h = s.0 in omega arith)
-    (let h = s.0 in omega arith)).all in
-    let y = filled_digits (decimal c.y)
-    (are_digits 4 c.y (omega arith) (omega arith) (let h = s.1 in omega arith)
-    (let h = s.1 in omega arith)).all in
-    no_spaces (point_word c) (list_all-append is_filled (decimal c.x) (44 ∷ decimal c.y)
-    ∙ and_from (list_all is_filled (decimal c.x)) (list_all is_filled (44 ∷ decimal c.y)) x y)
+    let digits = coordinates c e in
+    All-append (λ b. is_space b ≡ false) (decimal c.x) (44 ∷ decimal c.y)
+    (no_spaces (decimal c.x) digits.0.all)
+    (All-cons (λ b. is_space b ≡ false) 44 (decimal c.y) refl (no_spaces (decimal c.y) digits.1.all))
 
 texts_first : (c : Cell) (points : List Cell)
     → texts_of point_text (c ∷ points) ≡ 32 ∷ (point_word c ++ texts_of point_text points)
@@ -220,8 +143,7 @@ words_spell : (points : List Cell) → list_all is_short points ≡ true → poi
 words_spell [] all = refl
 words_spell (c ∷ points) all =
     let parts = and_parts (is_short c) (list_all is_short points) all in
-    let s = short_is c parts.0 in
-    rw (cell_read 44 c refl s.0 s.1, words_spell points parts.1) refl
+    rw (cell_read 44 c refl parts.0, words_spell points parts.1) refl
 
 points_spell : (c : Cell) (points : List Cell) → list_all is_short (c ∷ points) ≡ true
     → points_on (points_line (c ∷ points)) ≡ Some (c ∷ points)
@@ -234,80 +156,49 @@ points_spell c points all =
 
 -- and they end no line
 plain_ends : (s t : Cell) → is_short s ≡ true → is_short t ≡ true → list_all is_plain (ends_line s t) ≡ true
-unfolding is_plain
 plain_ends s t p q =
     plain_both (codes "ends " ++ pair_text s.x s.y ++ codes " ") (pair_text t.x t.y)
-    (plain_both (codes "ends " ++ pair_text s.x s.y) (codes " ")
-    (plain_both (codes "ends ") (pair_text s.x s.y) refl (plain_cell s p)) refl) (plain_cell t q)
+    (plain_both (codes "ends " ++ pair_text s.x s.y) (codes " ") (plain_cell s p) refl) (plain_cell t q)
 
 plain_points : (points : List Cell) → list_all is_short points ≡ true
     → list_all is_plain (texts_of point_text points) ≡ true
-unfolding is_plain
 plain_points [] all = refl
 plain_points (c ∷ points) all =
     let parts = and_parts (is_short c) (list_all is_short points) all in
-    let s = short_is c parts.0 in
-    plain_both (point_text c) (texts_of point_text points)
-    (plain_both (codes " " ++ decimal c.x ++ codes ",") (decimal c.y)
-    (plain_both (codes " " ++ decimal c.x) (codes ",")
-    (plain_both (codes " ") (decimal c.x) refl (plain_number c.x (let h = s.0 in omega arith))) refl)
-    (plain_number c.y (let h = s.1 in omega arith))) (plain_points points parts.1)
+    let digits = coordinates c parts.0 in
+    simp (
+      list_all-append is_plain,
+      plain_digits (decimal c.x) digits.0.all,
+      plain_digits (decimal c.y) digits.1.all,
+      plain_points points parts.1,
+    )
 
-plain_value : (c : Cell) (cost : Cost) → is_short c ≡ true → is_small cost ≡ true
-    → list_all is_plain (value_line (c, cost)) ≡ true
-unfolding is_plain
-plain_value c cost p q =
-    let b = small_is cost q in
-    plain_both (codes "value " ++ pair_text c.x c.y ++ codes " ") (pair_text cost.a cost.b)
-    (plain_both (codes "value " ++ pair_text c.x c.y) (codes " ")
-    (plain_both (codes "value ") (pair_text c.x c.y) refl (plain_cell c p)) refl)
-    (plain_pair cost.a cost.b b.0 b.1)
+plain_value : (e : Cell × Cost) → fits_line e ≡ true → list_all is_plain (value_line e) ≡ true
+plain_value e fits =
+    let f = and_parts (is_short e.0) (is_small e.1) fits in
+    plain_both (codes "value " ++ pair_text e.0.x e.0.y ++ codes " ") (pair_text e.1.a e.1.b)
+    (plain_both (codes "value " ++ pair_text e.0.x e.0.y) (codes " ") (plain_cell e.0 f.0) refl)
+    (plain_cost e.1 f.1)
 
--- the lines of a list, and the last one
-end_lines : lines_of (codes "end\n") ≡ codes "end" ∷ []
-end_lines = refl
+-- the lines of a list of what passes a test, and the last line
+module _ {X : Type 0} (p : X → Bool) (line text : X → List ℕ) (is : (x : X) → text x ≡ line x ++ 10 ∷ [])
+    (plain : (x : X) → p x ≡ true → list_all is_plain (line x) ≡ true) where
+  list_lines : (xs : List X) → list_all p xs ≡ true
+      → lines_of (texts_of text xs ++ codes "end\n") ≡ map line xs ++ codes "end" ∷ []
+  list_lines [] all = refl
+  list_lines (x ∷ xs) all =
+      let parts = and_parts (p x) (list_all p xs) all in
+      let rest : List ℕ = texts_of text xs ++ codes "end\n" in
+      let first : texts_of text (x ∷ xs) ++ codes "end\n" ≡ line x ++ 10 ∷ rest = rw (is x) (simp append_assoc) in
+      ap lines_of first ∙ lines_then (line x) rest (plain x parts.0)
+      ∙ ap (λ (l : List (List ℕ)). line x ∷ l) (list_lines xs parts.1)
 
-value_lines : (values : List (Cell × Cost)) → list_all (λ e. is_short e.0) values ≡ true
-    → list_all (λ e. is_small e.1) values ≡ true
-    → lines_of (texts_of value_text values ++ codes "end\n") ≡ map value_line values ++ codes "end" ∷ []
-value_lines [] p q = end_lines
-value_lines (e ∷ values) p q =
-    let short = and_parts (is_short e.0) (list_all (λ e. is_short e.0) values) p in
-    let small = and_parts (is_small e.1) (list_all (λ e. is_small e.1) values) q in
-    let is : texts_of value_text (e ∷ values) ++ codes "end\n"
-    ≡ value_line e ++ 10 ∷ (texts_of value_text values ++ codes "end\n") = simp append_assoc in
-    ap lines_of is
-    ∙ lines_then (value_line e) (texts_of value_text values ++ codes "end\n")
-    (plain_value e.0 e.1 short.0 small.0)
-    ∙ ap (λ (l : List (List ℕ)). value_line e ∷ l) (value_lines values short.1 small.1)
-
-values_spell : (values : List (Cell × Cost)) → list_all (λ e. is_short e.0) values ≡ true
-    → list_all (λ e. is_small e.1) values ≡ true → SpellInOrder value_on (map value_line values) values
-values_spell [] p q = tt
-values_spell (e ∷ values) p q =
-    let short = and_parts (is_short e.0) (list_all (λ e. is_short e.0) values) p in
-    let small = and_parts (is_small e.1) (list_all (λ e. is_small e.1) values) q in
-    (value_spells e.0 e.1 short.0 small.0, values_spell values short.1 small.1)
-
-member_lines : (cells : List Cell) → list_all is_short cells ≡ true
-    → lines_of (texts_of member_text cells ++ codes "end\n") ≡ map member_line cells ++ codes "end" ∷ []
-unfolding is_plain
-member_lines [] p = end_lines
-member_lines (c ∷ cells) p =
-    let short = and_parts (is_short c) (list_all is_short cells) p in
-    let is : texts_of member_text (c ∷ cells) ++ codes "end\n"
-    ≡ member_line c ++ 10 ∷ (texts_of member_text cells ++ codes "end\n") = simp append_assoc in
-    ap lines_of is
-    ∙ lines_then (member_line c) (texts_of member_text cells ++ codes "end\n")
-    (plain_both (codes "in ") (pair_text c.x c.y) refl (plain_cell c short.0))
-    ∙ ap (λ (l : List (List ℕ)). member_line c ∷ l) (member_lines cells short.1)
-
-members_spell : (cells : List Cell) → list_all is_short cells ≡ true
-    → SpellInOrder member_on (map member_line cells) cells
-members_spell [] p = tt
-members_spell (c ∷ cells) p =
-    let short = and_parts (is_short c) (list_all is_short cells) p in
-    (member_spells c short.0, members_spell cells short.1)
+module _ {X : Type 0} (p : X → Bool) (line : X → List ℕ) (on : List ℕ → Option X)
+    (spells : (x : X) → p x ≡ true → on (line x) ≡ Some x) where
+  list_spells : (xs : List X) → list_all p xs ≡ true → SpellInOrder on (map line xs) xs
+  list_spells [] all = tt
+  list_spells (x ∷ xs) all =
+      let parts = and_parts (p x) (list_all p xs) all in (spells x parts.0, list_spells xs parts.1)
 
 -- a claim that fits: its numbers are short enough for their lines, and its list ascends
 pub record FitsLeast (width height : ℕ) (cost : Cost) (points : List Cell)
@@ -317,8 +208,7 @@ pub record FitsLeast (width height : ℕ) (cost : Cost) (points : List Cell)
   pub more : List Cell
   pub points_are : points ≡ first ∷ more
   pub points_short : list_all is_short points ≡ true
-  pub values_short : list_all (λ e. is_short e.0) values ≡ true
-  pub values_small : list_all (λ e. is_small e.1) values ≡ true
+  pub values_fit : list_all fits_line values ≡ true
   pub listed : are_listed width height (cells_of values) ≡ true
 
 pub record FitsNone (width height : ℕ) (cells : List Cell) : Type 0 where
@@ -338,7 +228,6 @@ record ClaimLines (width height : ℕ) (s t : Cell) (claim : Claim) : Type 0 whe
 
 claim_lines : (width height : ℕ) (s t : Cell) (claim : Claim) → Fits width height claim
     → ClaimLines width height s t claim
-unfolding is_plain
 claim_lines width height s t (Least cost points values) f = record {
   first = least_line cost;
   body = points_line points ∷ map value_line values;
@@ -346,22 +235,21 @@ claim_lines width height s t (Least cost points values) f = record {
       let rest : List ℕ = texts_of value_text values ++ codes "end\n" in
       let is : claim_text (Least cost points values) ++ codes "end\n"
       ≡ least_line cost ++ 10 ∷ (points_line points ++ 10 ∷ rest) = simp append_assoc in
-      let small = small_is cost f.cost_small in
       ap lines_of is
       ∙ lines_then (least_line cost) (points_line points ++ 10 ∷ rest)
-      (plain_both (codes "least ") (pair_text cost.a cost.b) refl (plain_pair cost.a cost.b small.0 small.1))
+      (plain_cost cost f.cost_small)
       ∙ ap (λ (l : List (List ℕ)). least_line cost ∷ l)
       (lines_then (points_line points) rest
-      (plain_both (codes "points") (texts_of point_text points) refl (plain_points points f.points_short))
+      (plain_points points f.points_short)
       ∙ ap (λ (l : List (List ℕ)). points_line points ∷ l)
-      (value_lines values f.values_short f.values_small));
+      (list_lines fits_line value_line value_text (λ e. simp append_assoc) plain_value values f.values_fit));
   spells = record {
     second = points_line points;
     list = map value_line values;
     body_is = refl;
     cost_is = least_spells cost f.cost_small;
     points_is = spell_points points f.first f.more f.points_are f.points_short;
-    values_are = values_spell values f.values_short f.values_small;
+    values_are = list_spells fits_line value_line value_on value_spells values f.values_fit;
     listed = f.listed;
   };
 }
@@ -375,10 +263,11 @@ claim_lines width height s t (NoWalk cells) f = record {
   lines =
       let rest : List ℕ = texts_of member_text cells ++ codes "end\n" in
       lines_then (codes "none") rest refl
-      ∙ ap (λ (l : List (List ℕ)). codes "none" ∷ l) (member_lines cells f.cells_short);
+      ∙ ap (λ (l : List (List ℕ)). codes "none" ∷ l) (list_lines is_short member_line member_text (λ c. simp append_assoc)
+      plain_cell cells f.cells_short);
   spells = record {
     none_is = refl;
-    cells_are = members_spell cells f.cells_short;
+    cells_are = list_spells is_short member_line member_on member_spells cells f.cells_short;
     listed = f.listed;
   };
 }
@@ -388,7 +277,6 @@ pub text_spells : (width height : ℕ) (s t : Cell) (claim : Claim) → width < 
     → are_sides width height ≡ true → is_short s ≡ true → is_short t ≡ true → Fits width height claim
     → Spells (certificate_text width height s t claim)
     (record { head = record { width = width; height = height; start = s; goal = t }; claim = claim })
-unfolding is_plain
 text_spells width height s t claim w h sides p q f =
     let c = claim_lines width height s t claim f in
     let rest : List ℕ = claim_text claim ++ codes "end\n" in
@@ -406,7 +294,7 @@ text_spells width height s t claim w h sides p q f =
           ∙ lines_then (codes "jps-cert 1") (size_line width height ++ 10 ∷ (ends_line s t ++ 10 ∷ rest)) refl
           ∙ ap (λ (l : List (List ℕ)). codes "jps-cert 1" ∷ l)
           (lines_then (size_line width height) (ends_line s t ++ 10 ∷ rest)
-          (plain_both (codes "size ") (pair_text width height) refl (plain_pair width height w h))
+          (plain_pair width height w h)
           ∙ ap (λ (l : List (List ℕ)). size_line width height ∷ l)
           (lines_then (ends_line s t) rest (plain_ends s t p q)
           ∙ ap (λ (l : List (List ℕ)). ends_line s t ∷ l) c.lines));
