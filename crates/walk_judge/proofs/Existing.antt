@@ -1,5 +1,5 @@
 -- Whatever is told of the walks between two cells has a judgement, where their least cost is known.
-use Rattle.std.proofs.Common.{◌≡◌, ℕ, refl, Bool, true, false, List, length}
+use Rattle.std.proofs.Common.{◌≡◌, refl, Bool, true, false, List, length}
 use Rattle.std.specs.Prelude.{Option, Some, None, Result, Ok, Err}
 use Rattle.root2_cost.specs.declared.Cost.{Cost}
 use Rattle.grid_moves.specs.declared.Cell.{Cell}
@@ -8,14 +8,14 @@ use Rattle.path_points.specs.declared.checking.BadAt.{BadAt}
 use Rattle.path_points.proofs.Checks.{IsVerdict}
 use Rattle.plain_search.specs.Costs.{IsCostTo}
 use Rattle.potential_check.specs.Accepted.{IsRightWalk, begins_at, ends_at, is_cost}
-use Rattle.potential_check.proofs.Walks.{short_right}
+use Rattle.potential_check.proofs.Walks.{short_right, is_cost-itself}
 use Rattle.walk_judge.specs.declared.judging.Judged.{Judged}
 use Rattle.walk_judge.specs.declared.judging.Judged.TheVariants.{Least, NoWalk as Nothing, BadWalk, Longer}
 use Rattle.walk_judge.specs.declared.judging.Judged.TheVariants.{Exists}
 use Rattle.walk_judge.specs.declared.telling.Told.{Told}
 use Rattle.walk_judge.specs.declared.telling.Told.TheVariants as told
 use Rattle.walk_judge.specs.Judgement.{elsewhere, broken, short_of, IsJudgement}
-use Rattle.walk_judge.proofs.Judgements.{has_verdict, is_cost-itself, judged_same, judged_longer}
+use Rattle.walk_judge.proofs.Judgements.{has_verdict, judged_same, judged_longer}
 
 module _ (g : GridData) (s t : Cell) where
   -- a legal walk has one

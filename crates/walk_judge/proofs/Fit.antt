@@ -3,13 +3,13 @@ use Rattle.std.proofs.Common.{◌≡◌, ℕ, zero, suc, ◌+◌, ◌*◌, ◌^�
 use Rattle.std.proofs.Common.{inl, inr}
 use Rattle.std.specs.Prelude.{Some, Result, Ok, Err, IfOk, Vec, slice_get, filter, map}
 use Rattle.std.specs.declared.alloc.Global.{Global}
-use Rattle.std.specs.List.{slice_split, onto_first}
+use Rattle.std.specs.List.{slice_split}
 use Rattle.std.proofs.lemmas.Bool.{cases_Bool}
 use Rattle.text_line.specs.Fields.{fields_of, is_blank_byte, is_something}
 use Rattle.text_line.specs.Lines.{pieces_of, without_cr}
 use Rattle.text_line.specs.Places.{room_of}
 use Rattle.text_line.specs.Reading.{SpellInOrder}
-use Rattle.text_line.proofs.Placing.{length-without_cr, room_of_pieces}
+use Rattle.text_line.proofs.Placing.{length-without_cr, room_of_pieces, room_onto}
 use Rattle.walk_judge.specs.declared.fault.WalkFault.{WalkFault}
 use Rattle.walk_judge.specs.declared.telling.Told.{Told}
 use Rattle.walk_judge.specs.declared.telling.Told.TheVariants as told
@@ -22,11 +22,6 @@ filled_room : (pieces : List (List ℕ)) → 2 * length (filter is_something pie
 filled_room [] = omega arith
 filled_room ([] ∷ pieces) = omega (arith, filled_room pieces)
 filled_room ((b ∷ piece) ∷ pieces) = omega (arith, filled_room pieces)
-
-room_onto : (b n : ℕ) (pieces : List (List ℕ)) → room_of pieces ≤ n + 1
-    → room_of (onto_first b pieces) ≤ suc n + 1
-room_onto b n [] small = omega arith
-room_onto b n (piece ∷ pieces) small = omega arith
 
 split_room : (line : List ℕ) → room_of (slice_split is_blank_byte line) ≤ length line + 1
 split_room [] = omega arith

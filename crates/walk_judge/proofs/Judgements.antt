@@ -1,25 +1,21 @@
 -- Judgements: each told walk has one, and accepted are the legal least walks.
 use Rattle.std.proofs.Common.{◌≡◌, ℕ, arith, refl, ap, sym, ◌∙◌, subst, Bool, true, false, List, [], ◌∷◌}
 use Rattle.std.specs.Prelude.{Option, Some, Result, Ok, Err}
-use Rattle.std.proofs.lemmas.Bool.Decides.{nat_tests}
 use Rattle.root2_cost.specs.declared.Cost.{Cost}
 use Rattle.root2_cost.specs.Order.{IsAtMost}
 use Rattle.root2_cost.specs.Sums.{no_cost}
 use Rattle.root2_cost.proofs.AtMost.{IsAtMost-antisymmetric}
-use Rattle.root2_cost.proofs.Less.{same_cost}
 use Rattle.grid_moves.specs.declared.Cell.{Cell}
 use Rattle.grid_moves.specs.Grid.{GridData, IsGrid, is_free}
-use Rattle.grid_moves.specs.Move.{is_legal}
 use Rattle.grid_moves.specs.Reply.{StandsForLeast}
-use Rattle.grid_moves.specs.Walk.{NoWalk, cost_of, is_walk, last_of}
-use Rattle.grid_moves.proofs.Legal.{and_both}
+use Rattle.grid_moves.specs.Walk.{NoWalk, cost_of}
 use Rattle.path_points.specs.declared.checking.BadAt.{BadAt}
 use Rattle.path_points.specs.Checked.{IsFirstBad, IsShortWalk}
 use Rattle.path_points.proofs.Checks.{IsVerdict, checked_from, verdict_at_start, verdict_from}
 use Rattle.plain_search.specs.Costs.{IsCostTo}
 use Rattle.plain_search.specs.Lists.{IsLeastCost}
 use Rattle.potential_check.specs.Accepted.{IsRightWalk, is_cost}
-use Rattle.potential_check.proofs.Walks.{right_begins, right_ends, right_short}
+use Rattle.potential_check.proofs.Walks.{right_begins, right_ends, right_short, is_cost-itself, is_cost-same}
 use Rattle.walk_judge.specs.declared.judging.Judged.{Judged}
 use Rattle.walk_judge.specs.declared.judging.Judged.TheVariants.{Least, NoWalk as Nothing, BadWalk, Longer}
 use Rattle.walk_judge.specs.declared.judging.Judged.TheVariants.{Exists}
@@ -27,6 +23,7 @@ use Rattle.walk_judge.specs.declared.telling.Told.{Told}
 use Rattle.walk_judge.specs.declared.telling.Told.TheVariants as told
 use Rattle.walk_judge.specs.Judgement.{IsBadPoint, elsewhere, broken, short_of, IsJudgement}
 use Rattle.grid_moves.proofs.Short.{least_is_short}
+use Rattle.grid_moves.proofs.Walks.{end_free}
 
 -- points stand for a walk, or have a first bad one
 pub has_verdict : (g : GridData) (points : List Cell) → (answer : Result Cost BadAt)
@@ -77,25 +74,12 @@ short_one g points p q one other =
     let verdict = (has_verdict g points).1 in
     ok_cost p q (has_verdict g points).0 (verdict.ok p one) (verdict.ok q other)
 
-pub is_cost-same : (p q : Cost) → is_cost p q ≡ true → p ≡ q
-is_cost-same p q h = same_cost p q (grind (arith, nat_tests)) (grind (arith, nat_tests))
-
-pub is_cost-itself : (p : Cost) → is_cost p p ≡ true
-is_cost-itself p = grind (arith, nat_tests)
-
 pub is_cost-other : (p q : Cost) → is_cost q p ≡ false → p ≡ q → ⊥
 is_cost-other p q off e = let same : is_cost q p ≡ true = rw e (is_cost-itself q) in cc
 
 -- to a cell that is not free no walk leads
-pub last_free : (g : GridData) (s : Cell) (cells : List Cell) → is_walk g (s ∷ cells) ≡ true
-    → is_free g (last_of s cells) ≡ true
-last_free g s [] h = h
-last_free g s (v ∷ cells) h = last_free g v cells (and_both (is_legal g s v) (is_walk g (v ∷ cells)) h).1
-
 pub none_to_blocked : (g : GridData) (s t : Cell) → is_free g t ≡ false → NoWalk g s t
-none_to_blocked g s t blocked cells w =
-    let free = ap (λ (c : Cell). is_free g c) (sym w.ends) ∙ last_free g s cells w.legal in
-    cc
+none_to_blocked g s t blocked cells w = let free = end_free g s t cells w in cc
 
 module _ (g : GridData) (s t : Cell) where
   least_one : (p q : Cost) → IsLeastCost g s t p → IsLeastCost g s t q → p ≡ q

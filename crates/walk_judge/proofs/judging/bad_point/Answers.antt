@@ -1,8 +1,7 @@
 use Rattle.std.proofs.Common.{◌∙◌, sym, subst, List, length}
 use Rattle.grid_moves.specs.declared.Cell.{Cell}
-use Rattle.potential_check.proofs.Walks.{short_right}
+use Rattle.potential_check.proofs.Walks.{short_right, is_cost-itself}
 use Rattle.walk_judge.specs.Judgement.{IsBadPoint, elsewhere, broken, short_of}
-use Rattle.walk_judge.proofs.Judgements.{is_cost-itself}
 use Rattle.walk_judge.proofs.judging.bad_point.Goals as goal
 
 pub returns-then-not-begins_at : goal.returns-then-not-begins_at
