@@ -1,118 +1,60 @@
 -- The canonical text of a map spells it.
-use Rattle.std.proofs.Common.{◌≡◌, ℕ, zero, suc, ◌+◌, ◌-◌, ◌*◌, ◌^◌, ◌<◌, ◌≤◌, Bool, true, false, ◌&&◌, not}
-use Rattle.std.proofs.Common.{eqb, List, [], ◌∷◌, ◌++◌, length, get_or, take, drop, Some, refl, ap, sym, ◌∙◌}
+use Rattle.std.proofs.Common.{◌≡◌, ℕ, zero, suc, ◌+◌, ◌-◌, ◌*◌, ◌^◌, ◌≤◌, Bool, true, false}
+use Rattle.std.proofs.Common.{List, [], ◌∷◌, ◌++◌, length, get_or, take, drop, Some, refl, ap, sym, ◌∙◌}
 use Rattle.std.proofs.Common.{arith}
 use Rattle.std.specs.Prelude.{codes, decimal}
-use Rattle.std.specs.Char.{is_ascii_digit, digit_value}
+use Rattle.std.specs.Char.{is_ascii_digit}
 use Rattle.std.specs.List.{list_all, AllByRecursion, concat}
-use Rattle.std.specs.Str.Parse.{AllDigits}
 use Rattle.std.proofs.Math.Nat.{mul-le-mul}
-use Rattle.std.proofs.lemmas.Bool.{and_parts, and_from, le-leb}
+use Rattle.std.proofs.lemmas.Bool.{and_parts, le-leb}
 use Rattle.std.proofs.lemmas.Bool.Decides.{nat_tests}
-use Rattle.std.proofs.lemmas.Fmt.{decimal_is_IsNumeral, length-decimal-le}
 use Rattle.std.proofs.lemmas.List.{append-nil, length-append, length-drop, length-take-le, take-append-drop}
 use Rattle.std.proofs.lemmas.List.Folds.{list_all-append}
 use Rattle.std.proofs.lemmas.List.Sums.{AllPass-from_list_all}
-use Rattle.text_line.specs.Lines.{pieces_of, without_cr, lines_of}
+use Rattle.text_line.specs.Lines.{lines_of}
 use Rattle.text_line.specs.Fields.{is_blank_byte, fields_of}
-use Rattle.text_line.specs.Numbers.{number_of, value_of}
+use Rattle.text_line.specs.Numbers.{number_of}
 use Rattle.text_line.proofs.Parts.{parts_of_one}
+use Rattle.text_line.proofs.Written.{AreDigits, is_plain, lines_then, plain_digits, all_weaker, nine_digits}
 use Rattle.map_text.specs.Map.{Map, IsMap, is_terrain}
 use Rattle.map_text.specs.Spelling.{NamesSide, Spells}
 use Rattle.map_text.specs.Writing.{text_of, rows_of, canonical_text}
-
--- a byte that ends no line
-is_plain : ℕ → Bool
-is_plain byte = not (eqb byte 10) && not (eqb byte 13)
-
-pieces_of_line : (line rest : List ℕ) → list_all is_plain line ≡ true
-    → pieces_of (line ++ 10 ∷ rest) ≡ line ∷ pieces_of rest
-unfolding is_plain
-pieces_of_line [] rest plain = refl
-pieces_of_line (b ∷ line) rest plain =
-    let parts = and_parts (is_plain b) (list_all is_plain line) plain in
-    let none : eqb b 10 ≡ false = grind (arith, nat_tests) in
-    rw (none, pieces_of_line line rest parts.1) refl
-
-without_cr_plain : (line : List ℕ) → list_all is_plain line ≡ true → without_cr line ≡ line
-unfolding is_plain
-without_cr_plain [] plain = refl
-without_cr_plain (b ∷ []) plain = grind (arith, and_parts)
-without_cr_plain (b ∷ c ∷ line) plain =
-    let parts = and_parts (is_plain b) (list_all is_plain (c ∷ line)) plain in
-    ap (λ (rest : List ℕ). b ∷ rest) (without_cr_plain (c ∷ line) parts.1)
 
 -- the lines that a text was made of are its lines
 lines_of_text : (lines : List (List ℕ)) → AllByRecursion (λ line. list_all is_plain line ≡ true) lines
     → lines_of (text_of lines) ≡ lines
 lines_of_text [] plain = refl
 lines_of_text (line ∷ lines) plain =
-    grind (arith, pieces_of_line, without_cr_plain, lines_of_text lines plain.1)
+    grind (arith, lines_then, lines_of_text lines plain.1)
 
 -- terrain and digits end no line
-all_weaker : (p q : ℕ → Bool) → ((byte : ℕ) → p byte ≡ true → q byte ≡ true) → (bytes : List ℕ)
-    → list_all p bytes ≡ true → list_all q bytes ≡ true
-all_weaker p q weaker [] all = refl
-all_weaker p q weaker (b ∷ bytes) all =
-    let parts = and_parts (p b) (list_all p bytes) all in
-    and_from (q b) (list_all q bytes) (weaker b parts.0) (all_weaker p q weaker bytes parts.1)
-
 plain_terrain : (byte : ℕ) → is_terrain byte ≡ true → is_plain byte ≡ true
-unfolding is_plain
 plain_terrain byte terrain = grind (arith, nat_tests)
-
-plain_digit : (byte : ℕ) → is_ascii_digit byte ≡ true → is_plain byte ≡ true
-unfolding is_plain
-plain_digit byte digit = grind (arith, nat_tests)
 
 filled_digit : (byte : ℕ) → is_ascii_digit byte ≡ true → is_blank_byte byte ≡ false
 filled_digit byte digit = grind (arith, nat_tests)
 
--- the digits of a side
-record AreDigits (side : ℕ) (digits : List ℕ) : Type 0 where
-  least : 1 ≤ length digits
-  most : length digits ≤ 9
-  decimal : list_all is_ascii_digit digits ≡ true
-  value : value_of digits ≡ side
+side_digits : (side : ℕ) → side ≤ 4096 → AreDigits 9 side (decimal side)
+side_digits side low = nine_digits side (omega arith)
 
-digit_is : (byte : ℕ) → digit_value byte < 10 → is_ascii_digit byte ≡ true
-digit_is byte small = grind (arith, nat_tests)
-
-all_digits : (digits : List ℕ) → AllDigits 10 digits → list_all is_ascii_digit digits ≡ true
-all_digits [] all = refl
-all_digits (d ∷ digits) all = grind (arith, and_from, digit_is, all_digits digits all.1)
-
-are_digits : (side : ℕ) → side ≤ 4096 → AreDigits side (decimal side)
-are_digits side low =
-    let numeral = decimal_is_IsNumeral side (omega arith) in
-    record {
-      least = numeral.0.0;
-      most = length-decimal-le 9 side (omega arith) (omega arith) (omega arith);
-      decimal = all_digits (decimal side) numeral.0.1;
-      value = numeral.1;
-    }
-
-number_of_digits : (side : ℕ) (digits : List ℕ) → AreDigits side digits → number_of digits ≡ Some side
+number_of_digits : (side : ℕ) (digits : List ℕ) → AreDigits 9 side digits → number_of digits ≡ Some side
 unfolding number_of
 number_of_digits side digits are = grind (arith, le-leb)
 
-fields_of_digits : (side : ℕ) (digits : List ℕ) → AreDigits side digits → fields_of digits ≡ digits ∷ []
-fields_of_digits side [] are = absurd (omega (arith, are.least))
+fields_of_digits : (side : ℕ) (digits : List ℕ) → AreDigits 9 side digits → fields_of digits ≡ digits ∷ []
+fields_of_digits side [] are = absurd (omega (arith, are.some))
 fields_of_digits side (d ∷ digits) are =
     let one = parts_of_one (d ∷ digits) (λ k below. filled_digit (get_or (d ∷ digits) k 0)
-    (AllPass-from_list_all is_ascii_digit (d ∷ digits) are.decimal k 0 below)) in
+    (AllPass-from_list_all is_ascii_digit (d ∷ digits) are.all k 0 below)) in
     rw one refl
 
-height_named : (side : ℕ) (digits : List ℕ) → AreDigits side digits
+height_named : (side : ℕ) (digits : List ℕ) → AreDigits 9 side digits
     → NamesSide (codes "height") side (codes "height " ++ digits)
 height_named side digits are = search (arith, fields_of_digits, number_of_digits)
 
-width_named : (side : ℕ) (digits : List ℕ) → AreDigits side digits
+width_named : (side : ℕ) (digits : List ℕ) → AreDigits 9 side digits
     → NamesSide (codes "width") side (codes "width " ++ digits)
 width_named side digits are = search (arith, fields_of_digits, number_of_digits)
-
-plain_digits : (side : ℕ) (digits : List ℕ) → AreDigits side digits → list_all is_plain digits ≡ true
-plain_digits side digits are = all_weaker is_ascii_digit is_plain plain_digit digits are.decimal
 
 -- the rows are the cells
 length-rows_of : (height width : ℕ) (cells : List ℕ) → length (rows_of height width cells) ≡ height
@@ -159,15 +101,15 @@ plain_rows (suc height) width cells terrain =
     )
 
 pub canonical_spells : (map : Map) → IsMap map.width map.height map.cells → Spells (canonical_text map) map
-unfolding canonical_text is_plain
+unfolding canonical_text
 canonical_spells map is =
-    let high = are_digits map.height is.low in
-    let wide = are_digits map.width is.narrow in
+    let high = side_digits map.height is.low in
+    let wide = side_digits map.width is.narrow in
     let second : List ℕ = codes "height " ++ decimal map.height in
     let third : List ℕ = codes "width " ++ decimal map.width in
     let rows = rows_of map.height map.width map.cells in
-    let plain_height = plain_digits map.height (decimal map.height) high in
-    let plain_width = plain_digits map.width (decimal map.width) wide in
+    let plain_height = plain_digits (decimal map.height) high.all in
+    let plain_width = plain_digits (decimal map.width) wide.all in
     let plain = plain_rows map.height map.width map.cells is.terrain in
     record {
       first = codes "type octile";
@@ -212,4 +154,4 @@ small_product height width low narrow = mul-le-mul low narrow
 pub length-canonical : (map : Map) → IsMap map.width map.height map.cells
     → length (canonical_text map) ≤ 2 ^ 26
 unfolding canonical_text
-length-canonical map is = grind (arith, are_digits, small_product, length-text_of, length-append)
+length-canonical map is = grind (arith, side_digits, small_product, length-text_of, length-append)
