@@ -1,45 +1,20 @@
 -- What numbers and lengths that were written are read as.
-use Rattle.std.proofs.Common.{◌≡◌, ℕ, suc, ◌+◌, ◌-◌, ◌*◌, ◌/◌, ◌^◌, ◌<◌, ◌≤◌, true, false, List, []}
+use Rattle.std.proofs.Common.{◌≡◌, ℕ, suc, ◌+◌, ◌-◌, ◌*◌, ◌/◌, ◌^◌, ◌<◌, true, false, List, []}
 use Rattle.std.proofs.Common.{◌∷◌, ◌++◌, length, drop, map, refl, ap, ◌∙◌, append_assoc, arith}
 use Rattle.std.specs.Prelude.{codes, decimal, Some, position}
 use Rattle.std.specs.Char.{is_ascii_digit, digit_value}
 use Rattle.std.specs.List.{list_all, position_or_len}
-use Rattle.std.specs.Str.Parse.{AllDigits, digits_value_after}
-use Rattle.std.proofs.lemmas.Bool.{and_parts, and_from, le-leb, lt-ltb}
+use Rattle.std.specs.Str.Parse.{digits_value_after}
+use Rattle.std.proofs.lemmas.Bool.{and_parts, le-leb, lt-ltb}
 use Rattle.std.proofs.lemmas.Bool.Decides.{nat_tests}
-use Rattle.std.proofs.lemmas.Fmt.{decimal_is_IsNumeral, length-decimal-le}
 use Rattle.std.proofs.lemmas.List.{length-append}
 use Rattle.std.proofs.Math.Seq.{take-append_seam}
 use Rattle.text_line.specs.Numbers.{is_number, number_of, value_of}
 use Rattle.text_line.proofs.Digits.{after_append, digit_value_is}
+use Rattle.text_line.proofs.Written.{AreDigits, nine_digits, are_digits}
 use Rattle.scen_text.specs.Lengths.{length_of, is_point}
 use Rattle.root2_cost.specs.Length.{eight_places}
 use Rattle.scen_lines.specs.Line.{last_digit, last_eight, length_text}
-
--- the digits of a number
-pub record AreDigits (most n : ℕ) (digits : List ℕ) : Type 0 where
-  pub some : 1 ≤ length digits
-  pub few : length digits ≤ most
-  pub all : list_all is_ascii_digit digits ≡ true
-  pub value : value_of digits ≡ n
-
-digit_is : (byte : ℕ) → digit_value byte < 10 → is_ascii_digit byte ≡ true
-digit_is byte small = grind (arith, nat_tests)
-
-all_digits : (digits : List ℕ) → AllDigits 10 digits → list_all is_ascii_digit digits ≡ true
-all_digits [] all = refl
-all_digits (d ∷ digits) all =
-    and_from (is_ascii_digit d) (list_all is_ascii_digit digits) (digit_is d all.0) (all_digits digits all.1)
-
-pub are_digits : (most n : ℕ) → 0 < most → n < 10 ^ most → n < 10 ^ 9 → AreDigits most n (decimal n)
-are_digits most n some small fits =
-    let numeral = decimal_is_IsNumeral n (omega arith) in
-    record {
-      some = numeral.0.0;
-      few = length-decimal-le most n some small (omega arith);
-      all = all_digits (decimal n) numeral.0.1;
-      value = numeral.1;
-    }
 
 number_digits : (most n : ℕ) (digits : List ℕ) → AreDigits most n digits → is_number most digits ≡ true
 number_digits most n digits are = grind (arith, le-leb)
@@ -47,7 +22,7 @@ number_digits most n digits are = grind (arith, le-leb)
 pub number_read : (n : ℕ) → n < 10 ^ 9 → number_of (decimal n) ≡ Some n
 unfolding number_of
 number_read n low =
-    let are = are_digits 9 n (omega arith) low low in
+    let are = nine_digits n low in
     rw (number_digits 9 n (decimal n) are, are.value) refl
 
 -- the last digits, one after the other

@@ -16,34 +16,20 @@ use Rattle.text_line.specs.Lines.{pieces_of, without_cr}
 use Rattle.text_line.specs.Places.{LineAt, fields_from, lines_from}
 use Rattle.text_line.specs.Reading.{SpellInOrder}
 use Rattle.text_line.proofs.Cut.{without_cr_same}
+use Rattle.text_line.proofs.Written.{all_weaker, are_digits, nine_digits, pieces_then}
 use Rattle.scen_text.specs.Spelling.{IsBlank, IsEntry, Spells}
 use Rattle.scen_lines.specs.declared.line.Listed.{Listed}
 use Rattle.scen_lines.specs.Line.{last_digit, last_eight, length_text}
 use Rattle.scen_lines.specs.Laws.{Named, IsReadable, AreReadable, line_of, lines_of, scenario_of, entry_at}
 use Rattle.scen_lines.specs.Laws.{entries_from, entries_of}
-use Rattle.scen_lines.proofs.Digits.{are_digits, number_read, length_read, eight_digits}
+use Rattle.scen_lines.proofs.Digits.{number_read, length_read, eight_digits}
 use Rattle.scen_lines.proofs.Fields.{IsWord, word_at, name_spans, words_text, entry_fields}
 
 -- a byte that ends no line
 abbrev ends_none : ℕ → Bool
 ends_none byte = not (eqb byte 10)
 
-pieces_then : (line rest : List ℕ) → list_all ends_none line ≡ true
-    → pieces_of (line ++ 10 ∷ rest) ≡ line ∷ pieces_of rest
-pieces_then [] rest plain = refl
-pieces_then (b ∷ line) rest plain =
-    let parts = and_parts (ends_none b) (list_all ends_none line) plain in
-    let none : eqb b 10 ≡ false = grind (arith, nat_tests) in
-    rw (none, pieces_then line rest parts.1) refl
-
 -- digits end no line, and part no fields
-digits_have : (p : ℕ → Bool) → ((byte : ℕ) → is_ascii_digit byte ≡ true → p byte ≡ true) → (digits : List ℕ)
-    → list_all is_ascii_digit digits ≡ true → list_all p digits ≡ true
-digits_have p has [] all = refl
-digits_have p has (d ∷ digits) all =
-    let parts = and_parts (is_ascii_digit d) (list_all is_ascii_digit digits) all in
-    rw (has d parts.0, digits_have p has digits parts.1) refl
-
 digits_filled : (digits : List ℕ) → list_all is_ascii_digit digits ≡ true
     → All (λ byte. is_blank_byte byte ≡ false) digits
 digits_filled [] all = All-nil (λ byte. is_blank_byte byte ≡ false)
@@ -53,6 +39,9 @@ digits_filled (d ∷ digits) all =
   where
     filled : (byte : ℕ) → is_ascii_digit byte ≡ true → is_blank_byte byte ≡ false
     filled byte digit = grind (arith, nat_tests)
+
+no_feed : (byte : ℕ) → ends_none byte ≡ true → eqb byte 10 ≡ false
+no_feed byte none = grind (arith, nat_tests)
 
 plain_digit : (byte : ℕ) → is_ascii_digit byte ≡ true → ends_none byte ≡ true
 plain_digit byte digit = grind (arith, nat_tests)
@@ -64,10 +53,10 @@ record IsPlain (word : List ℕ) : Type 0 where
 
 number_plain : (n : ℕ) → n < 10 ^ 9 → IsPlain (decimal n)
 number_plain n low =
-    let are = are_digits 9 n (omega arith) low low in
+    let are = nine_digits n low in
     record {
       is = record { some = are.some; filled = digits_filled (decimal n) are.all };
-      plain = digits_have ends_none plain_digit (decimal n) are.all;
+      plain = all_weaker is_ascii_digit ends_none plain_digit (decimal n) are.all;
     }
 
 plain_joined : (xs ys : List ℕ) → list_all ends_none xs ≡ true → list_all ends_none ys ≡ true
@@ -84,8 +73,8 @@ parted_plain whole kept some front back =
         filled = All-append (λ byte. is_blank_byte byte ≡ false) whole (46 ∷ kept) (digits_filled whole front)
             (All-cons (λ byte. is_blank_byte byte ≡ false) 46 kept refl (digits_filled kept back));
       };
-      plain = plain_joined whole (46 ∷ kept) (digits_have ends_none plain_digit whole front)
-          (digits_have ends_none plain_digit kept back);
+      plain = plain_joined whole (46 ∷ kept) (all_weaker is_ascii_digit ends_none plain_digit whole front)
+          (all_weaker is_ascii_digit ends_none plain_digit kept back);
     }
 
 length_is : (units : ℕ) → decimal (units / 100000000) ++ 46 ∷ last_eight units ≡ length_text units
@@ -306,7 +295,7 @@ lines_first number place entry rest is =
     let next : place + length body + 1 ≡ place + length (line_of entry) = omega arith in
     ap (λ (t : List ℕ). lines_from number place (pieces_of t)) text
     ∙ ap (λ (pieces : List (List ℕ)). lines_from number place pieces)
-    (pieces_then body rest (body_plain entry is))
+    (pieces_then ends_none no_feed body rest (body_plain entry is))
     ∙ ap (λ (bytes : List ℕ). let line : LineAt = record { number = number; place = place; bytes = bytes } in
     line ∷ lines_from (number + 1) (place + length body + 1) (pieces_of rest)) (kept_body entry)
     ∙ ap (λ n. here ∷ lines_from (number + 1) n (pieces_of rest)) next
