@@ -1,4 +1,6 @@
 -- The check of points as a function on lists: when it finds a walk, and when a bad point.
+use Rattle.std.proofs.lemmas.Bool.{cases_Bool}
+use Rattle.std.proofs.lemmas.Bool.Decides.{nat_tests}
 use Rattle.std.proofs.Common.{◌≡◌, ℕ, zero, suc, ◌+◌, ◌<◌, ◌≤◌, arith, Bool, true, false, ◌⊎◌, inl, inr, refl}
 use Rattle.std.proofs.Common.{ap, sym, ◌∙◌, subst, List, [], ◌∷◌, ◌++◌, length, drop, get_or, length-append}
 use Rattle.std.proofs.Common.{zero-add}
@@ -95,9 +97,7 @@ if_err false r e f h = inr (refl, cc)
 if_some :
     {A B : Type 0} (b : Bool) (f : A → B) (o : Option A) (y : B)
     → (if b then option_map f o else None) ≡ Some y → (x : A) × (b ≡ true) × (o ≡ Some x) × (f x ≡ y)
-if_some false f o y h = absurd (cc)
-if_some true f None y h = absurd (cc)
-if_some true f (Some x) y h = (x, refl, refl, cc)
+if_some b f o y h1 = grind (arith, cases_Bool)
 
 -- the next point is bad, or the check goes on from it; at the end the cost stands
 pub checked_off :
@@ -124,22 +124,12 @@ checked_end g i u points cost h = at_drop_all (λ points. checked_from g i u poi
 
 -- the cost of the run tells whether it is good
 pub good_none : (g : GridData) (s : ℕ) (u v : Cell) → good_cost g s u v ≡ None → is_good_run g s u v ≡ false
-good_none g s u v = by_test (is_good_run g s u v)
-  where
-    by_test : (b : Bool) → (if b then Some (cost_of (u ∷ run u v)) else None) ≡ None → b ≡ false
-    by_test true k = absurd (cc)
-    by_test false k = refl
+good_none g s u v h1 = grind (arith, nat_tests)
 
 pub good_some :
     (g : GridData) (s : ℕ) (u v : Cell) (cost : Cost) → good_cost g s u v ≡ Some cost
     → (is_good_run g s u v ≡ true) × (cost ≡ cost_of (u ∷ run u v))
-good_some g s u v cost = by_test (is_good_run g s u v)
-  where
-    by_test :
-        (b : Bool) → (if b then Some (cost_of (u ∷ run u v)) else None) ≡ Some cost
-        → (b ≡ true) × (cost ≡ cost_of (u ∷ run u v))
-    by_test true k = (refl, cc)
-    by_test false k = absurd (cc)
+good_some g s u v cost h1 = grind (arith, nat_tests)
 
 -- after u the points unfold to these cells, a walk that brings the cost to the total
 record GoesOn (g : GridData) (u : Cell) (points : List Cell) (cost total : Cost) : Type 0 where
@@ -153,9 +143,7 @@ record GoesOn (g : GridData) (u : Cell) (points : List Cell) (cost total : Cost)
 priced_on :
     (cost : Cost) (u v : Cell) (cells : List Cell)
     → add_costs cost (cost_of (u ∷ (run u v ++ cells))) ≡ add_costs (paid cost u v) (cost_of (v ∷ cells))
-priced_on cost u v cells =
-    ap (λ (c : Cost). add_costs cost c) (run_cost_joined u v cells)
-    ∙ sym (add_costs-assoc cost (cost_of (u ∷ run u v)) (cost_of (v ∷ cells)))
+priced_on cost u v cells = grind (arith, cases_Bool, run_cost_joined, add_costs-assoc)
 
 run_and_more : (u v : Cell) (cells : List Cell) → length (run u v ++ cells) ≡ steps_between u v + length cells
 run_and_more u v cells =
@@ -310,10 +298,7 @@ pub record IsVerdict (g : GridData) (points : List Cell) (answer : Result Cost B
 short_free :
     (g : GridData) (points : List Cell) (cost : Cost) → IsShortWalk g points cost
     → starts_free g points ≡ true
-short_free g [] cost w = let e = w.unfolds in absurd (cc)
-short_free g (u ∷ points) cost w =
-    let t = if_some true (λ (cells : List Cell). u ∷ cells) (unfolded_from u points) w.cells w.unfolds in
-    walk_free g u t.0 (ap (λ (l : List Cell). is_walk g l) t.3 ∙ w.walk)
+short_free g points cost h1 = grind (arith, nat_tests, if_some, walk_free)
 
 -- without a free first point, that point is bad
 pub verdict_at_start :

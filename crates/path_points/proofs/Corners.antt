@@ -1,7 +1,8 @@
 -- The points by which the plain engine prints a walk unfold to it.
-use Rattle.std.proofs.Common.{◌≡◌, ℕ, zero, suc, ◌+◌, ◌-◌, ◌*◌, ◌<◌, ◌≤◌, ◌⊎◌, inl, inr, arith, Bool, true}
+use Rattle.std.proofs.lemmas.Bool.{cases_Bool}
+use Rattle.std.proofs.Common.{◌≡◌, ℕ, suc, ◌+◌, ◌*◌, ◌<◌, ◌≤◌, ◌⊎◌, arith, Bool, true}
 use Rattle.std.proofs.Common.{false, refl, ap, sym, ◌∙◌, List, [], ◌∷◌, ◌++◌}
-use Rattle.std.specs.Prelude.{nat_eq, nat_lt, Option, Some, None, option_map, max}
+use Rattle.std.specs.Prelude.{Option, Some, option_map, max}
 use Rattle.std.proofs.lemmas.Bool.Decides.{nat_tests}
 use Rattle.grid_moves.specs.declared.Cell.{Cell}
 use Rattle.grid_moves.specs.Grid.{GridData, is_free}
@@ -20,28 +21,7 @@ toward_back a b c q t e = grind (arith, nat_tests)
 apart_back :
     (a b c q : ℕ) → toward b q ≡ c → a + c ≡ 2 * b
     → ((apart b q ≡ 0) × (apart a q ≡ 0)) ⊎ ((0 < apart b q) × (apart a q ≡ suc (apart b q)))
-apart_back a b c q t e = by_low (nat_lt b q) refl
-  where
-    by_high :
-        nat_lt b q ≡ false → (k : Bool) → nat_lt q b ≡ k
-        → ((apart b q ≡ 0) × (apart a q ≡ 0)) ⊎ ((0 < apart b q) × (apart a q ≡ suc (apart b q)))
-    by_high l true h =
-        let below : q < b = grind (arith, nat_tests) in
-        let is : b - 1 ≡ c = rw (l, h) at t in
-        inr (omega arith, omega arith)
-    by_high l false h =
-        let same : b ≡ q = grind (arith, nat_tests) in
-        let is : b ≡ c = rw (l, h) at t in
-        inl (omega arith, omega arith)
-
-    by_low :
-        (k : Bool) → nat_lt b q ≡ k
-        → ((apart b q ≡ 0) × (apart a q ≡ 0)) ⊎ ((0 < apart b q) × (apart a q ≡ suc (apart b q)))
-    by_low true l =
-        let below : b < q = grind (arith, nat_tests) in
-        let is : b + 1 ≡ c = rw l at t in
-        inr (omega arith, omega arith)
-    by_low false l = by_high l (nat_lt q b) refl
+apart_back a b c q h1 h2 = grind (arith, nat_tests)
 
 -- v lies on one of the eight lines from u, at k + 1 steps, and the first of them leads to w
 record Reaches (u w q : Cell) (k : ℕ) : Type 0 where
@@ -54,26 +34,12 @@ lined_apart :
     (u q : Cell) (k : ℕ) → steps_between u q ≡ suc k
     → (apart u.x q.x ≡ 0) ⊎ ((apart u.y q.y ≡ 0) ⊎ (apart u.x q.x ≡ apart u.y q.y))
     → are_lined u q ≡ true
-lined_apart u q k s (inl e) = let same : u.x ≡ q.x = omega arith in grind (arith, nat_tests)
-lined_apart u q k s (inr (inl e)) = let same : u.y ≡ q.y = omega arith in grind (arith, nat_tests)
-lined_apart u q k s (inr (inr e)) = grind (arith, nat_tests)
+lined_apart u q k h1 h2 = grind (arith, cases_Bool)
 
 apart_lined :
     (u q : Cell) → are_lined u q ≡ true
     → (apart u.x q.x ≡ 0) ⊎ ((apart u.y q.y ≡ 0) ⊎ (apart u.x q.x ≡ apart u.y q.y))
-apart_lined u q h = by_column (nat_eq u.x q.x) refl
-  where
-    by_row :
-        nat_eq u.x q.x ≡ false → (k : Bool) → nat_eq u.y q.y ≡ k
-        → (apart u.x q.x ≡ 0) ⊎ ((apart u.y q.y ≡ 0) ⊎ (apart u.x q.x ≡ apart u.y q.y))
-    by_row e true f = let same : u.y ≡ q.y = grind (arith, nat_tests) in inr (inl (omega arith))
-    by_row e false f = inr (inr (grind (arith, nat_tests)))
-
-    by_column :
-        (k : Bool) → nat_eq u.x q.x ≡ k
-        → (apart u.x q.x ≡ 0) ⊎ ((apart u.y q.y ≡ 0) ⊎ (apart u.x q.x ≡ apart u.y q.y))
-    by_column true e = let same : u.x ≡ q.x = grind (arith, nat_tests) in inl (omega arith)
-    by_column false e = by_row e (nat_eq u.y q.y) refl
+apart_lined u q h1 = grind (arith, nat_tests)
 
 -- neighbours are lined, one step apart
 near_step : (m n : ℕ) → m ≤ n + 1 → n ≤ m + 1 → toward m n ≡ n
@@ -102,20 +68,13 @@ reaches_back u v w q k h r =
     longer :
         {x y z t m : ℕ} → ((x ≡ 0) × (y ≡ 0)) ⊎ ((0 < x) × (y ≡ suc x))
         → ((z ≡ 0) × (t ≡ 0)) ⊎ ((0 < z) × (t ≡ suc z)) → max x z ≡ suc m → max y t ≡ suc (suc m)
-    longer (inl a) (inl b) s = omega arith
-    longer (inl a) (inr b) s = omega arith
-    longer (inr a) (inl b) s = omega arith
-    longer (inr a) (inr b) s = omega arith
+    longer h1 h2 h3 = grind (arith, nat_tests)
 
     lined_on :
         {x y z t m : ℕ} → (x ≡ 0) ⊎ ((z ≡ 0) ⊎ (x ≡ z)) → ((x ≡ 0) × (y ≡ 0)) ⊎ ((0 < x) × (y ≡ suc x))
         → ((z ≡ 0) × (t ≡ 0)) ⊎ ((0 < z) × (t ≡ suc z)) → max x z ≡ suc m
         → (y ≡ 0) ⊎ ((t ≡ 0) ⊎ (y ≡ t))
-    lined_on l (inl a) b s = inl a.1
-    lined_on l (inr a) (inl b) s = inr (inl b.1)
-    lined_on (inl l) (inr a) (inr b) s = absurd (omega arith)
-    lined_on (inr (inl l)) (inr a) (inr b) s = absurd (omega arith)
-    lined_on (inr (inr l)) (inr a) (inr b) s = inr (inr (omega arith))
+    lined_on h1 h2 h3 h4 = grind (arith, nat_tests)
 
 -- a legal move reaches its target in one step
 reaches_next : (g : GridData) (u v : Cell) → is_legal g u v ≡ true → Reaches u v v 0
@@ -138,12 +97,7 @@ reaches_next g u v h =
     lined_near :
         u.x ≤ v.x + 1 → v.x ≤ u.x + 1 → u.y ≤ v.y + 1 → v.y ≤ u.y + 1
         → (apart u.x v.x ≡ 0) ⊎ ((apart u.y v.y ≡ 0) ⊎ (apart u.x v.x ≡ apart u.y v.y))
-    lined_near a b c d = zero_or_one (apart u.x v.x) (apart u.y v.y) (omega arith) (omega arith)
-      where
-        zero_or_one : (m n : ℕ) → m ≤ 1 → n ≤ 1 → (m ≡ 0) ⊎ ((n ≡ 0) ⊎ (m ≡ n))
-        zero_or_one zero n h k = inl refl
-        zero_or_one (suc m) zero h k = inr (inl refl)
-        zero_or_one (suc m) (suc n) h k = inr (inr (omega arith))
+    lined_near h1 h2 h3 h4 = grind (arith, nat_tests)
 
 -- the cells from u through a point that is reached in k + 1 steps
 unfolded_through :
@@ -157,16 +111,12 @@ unfolded_over :
     (u w q : Cell) (k : ℕ) (points : List Cell) → Reaches u w q k
     → unfolded_from u (q ∷ points) ≡ option_map (λ cells. w ∷ (segment k w q ++ cells))
     (unfolded_from q points)
-unfolded_over u w q k points r =
-    unfolded_through u w q k points r
-    ∙ ap (λ (c : Cell). option_map (λ cells. c ∷ (segment k c q ++ cells)) (unfolded_from q points)) r.first
+unfolded_over u w q k points h1 = grind (arith, cases_Bool, unfolded_through)
 
 map_after :
     (w : Cell) (f : List Cell → List Cell) (o : Option (List Cell)) (cells : List Cell)
     → option_map f o ≡ Some cells → option_map (λ later. w ∷ f later) o ≡ Some (w ∷ cells)
-map_after w f None cells e = absurd (cc)
-map_after w f (Some later) cells e =
-    ap (λ (o : Option (List Cell)). option_map (λ (c : List Cell). w ∷ c) o) e
+map_after w f o cells h1 = grind (arith, cases_Bool)
 
 -- after u, the turns of the cells from v on unfold to those cells, and the first point lies behind v
 record Unfolds (u v : Cell) (cells : List Cell) : Type 0 where
@@ -227,9 +177,4 @@ turns_unfold g u v (w ∷ cells) h = by_test (goes_straight u v w) refl (turns_u
 pub corners_unfold :
     (g : GridData) (cells : List Cell) → is_walk g cells ≡ true
     → unfolding_of (corners cells) ≡ Some cells
-corners_unfold g [] h = absurd (cc)
-corners_unfold g (u ∷ []) h = refl
-corners_unfold g (u ∷ v ∷ cells) h =
-    let t = turns_unfold g u v cells h in
-    ap (λ (p : List Cell). option_map (λ cells. u ∷ cells) (unfolded_from u p)) t.is
-    ∙ ap (λ (o : Option (List Cell)). option_map (λ cells. u ∷ cells) o) t.unfolds
+corners_unfold g cells h1 = grind (arith, nat_tests, turns_unfold)

@@ -1,4 +1,5 @@
 -- Segments cell by cell, and unfolding point by point.
+use Rattle.std.proofs.lemmas.Bool.{cases_Bool}
 use Rattle.std.proofs.Common.{◌≡◌, ℕ, zero, suc, ◌+◌, ◌-◌, ◌<◌, arith, true, refl, ap, sym}
 use Rattle.std.proofs.Common.{◌∙◌, List, [], ◌∷◌, ◌++◌, append_assoc, length}
 use Rattle.std.specs.Prelude.{Option, Some, None, option_map}
@@ -14,10 +15,7 @@ toward_nearer m n = grind (arith, nat_tests)
 
 -- each step brings one nearer
 pub step_nearer : (u v : Cell) → steps_between (step_toward u v) v ≡ steps_between u v - 1
-step_nearer u v =
-    let columns = toward_nearer u.x v.x in
-    let rows = toward_nearer u.y v.y in
-    omega arith
+step_nearer u v = grind (arith, nat_tests, toward_nearer)
 
 -- where no step is left one has arrived
 pub arrived : (u v : Cell) → steps_between u v ≡ 0 → u ≡ v
@@ -27,9 +25,7 @@ arrived u v h = same_cell u v (omega arith) (omega arith)
 pub segment_next :
     (n i : ℕ) (u next v : Cell) → i < n → next ≡ step_toward u v
     → segment (n - i) u v ≡ next ∷ segment (n - (i + 1)) next v
-segment_next n i u next v h e =
-    let steps : n - i ≡ suc (n - (i + 1)) = omega arith in
-    rw steps (ap (λ (c : Cell). c ∷ segment (n - (i + 1)) c v) (sym e))
+segment_next n i u next v h1 h2 = grind (arith, cases_Bool)
 
 -- cells with the next one appended
 pub segment_pushed :

@@ -1,4 +1,6 @@
 -- Walks that a run begins.
+use Rattle.std.proofs.Common.{arith}
+use Rattle.std.proofs.lemmas.Bool.{cases_Bool}
 use Rattle.std.proofs.Common.{◌≡◌, ◌+◌, true, refl, ap, sym, ◌∙◌, List, ◌∷◌, ◌++◌}
 use Rattle.root2_cost.specs.Sums.{add_costs}
 use Rattle.grid_moves.specs.declared.Cell.{Cell}
@@ -32,9 +34,7 @@ run_parts g u v later h =
 pub run_cost_joined :
     (u v : Cell) (later : List Cell)
     → cost_of (u ∷ (run u v ++ later)) ≡ add_costs (cost_of (u ∷ run u v)) (cost_of (v ∷ later))
-run_cost_joined u v later =
-    cost-joined u (run u v) later
-    ∙ ap (λ (c : Cell). add_costs (cost_of (u ∷ run u v)) (cost_of (c ∷ later))) (run_ends u v)
+run_cost_joined u v later = grind (arith, cases_Bool, cost-joined, run_ends)
 
 pub run_counts : (u v : Cell) → (cost_of (u ∷ run u v)).a + (cost_of (u ∷ run u v)).b ≡ steps_between u v
 run_counts u v = steps-cost_of u (run u v) ∙ segment-length (steps_between u v) u v

@@ -1,6 +1,6 @@
 -- Runs cell by cell: what is left of a run decides whether it is legal, and what it costs.
-use Rattle.std.proofs.Common.{◌≡◌, ℕ, ◌+◌, ◌-◌, ◌<◌, ◌≤◌, arith, Bool, true, false, ◌&&◌, ◌⊎◌, inl, inr, refl}
-use Rattle.std.proofs.Common.{ap, ◌∙◌, ◌∷◌}
+use Rattle.std.proofs.Common.{◌≡◌, ℕ, ◌+◌, ◌-◌, ◌<◌, ◌≤◌, arith, Bool, true, false, ◌&&◌, ◌⊎◌, refl}
+use Rattle.std.proofs.Common.{◌∷◌}
 use Rattle.std.specs.Prelude.{nat_le, Some, None, if◌then◌else◌}
 use Rattle.std.proofs.lemmas.Bool.Decides.{nat_tests}
 use Rattle.root2_cost.specs.declared.Cost.{Cost}
@@ -31,11 +31,7 @@ run_off g n i u next v h e l = rw (segment_next n i u next v h e, l) refl
 pub run_left :
     (n i : ℕ) (u next v : Cell) → next ≡ step_toward u v → steps_between u v ≡ n - i
     → steps_between next v ≡ n - (i + 1)
-run_left n i u next v e h =
-    let nearer : steps_between next v ≡ steps_between u v - 1 =
-    ap (λ (c : Cell). steps_between c v) e
-    ∙ step_nearer u v in
-    nearer ∙ ap (λ k. k - 1) h ∙ (let fewer : n - i - 1 ≡ n - (i + 1) = omega arith in fewer)
+run_left n i u next v h1 h2 = grind (arith, nat_tests, step_nearer)
 
 -- a move is paid for
 pub run_paid :
@@ -43,19 +39,12 @@ pub run_paid :
     → paid ≡ add_costs cost (move_cost u next)
     → add_costs paid (cost_of (next ∷ segment (n - (i + 1)) next v)) ≡ add_costs cost
     (cost_of (u ∷ segment (n - i) u v))
-run_paid cost paid n i u next v h e p =
-    rw (segment_next n i u next v h e)
-    (ap (λ (c : Cost). add_costs c (cost_of (next ∷ segment (n - (i + 1)) next v))) p
-    ∙ add_costs-assoc cost (move_cost u next) (cost_of (next ∷ segment (n - (i + 1)) next v)))
+run_paid cost paid n i u next v h1 h2 h3 = grind (arith, nat_tests, segment_next, add_costs-assoc)
 
 pub run_counted :
     (cost paid : Cost) (i : ℕ) (u next : Cell) → paid ≡ add_costs cost (move_cost u next)
     → cost.a + cost.b ≡ i → paid.a + paid.b ≡ i + 1
-run_counted cost paid i u next p h =
-    let sum : paid.a + paid.b ≡ (cost.a + (move_cost u next).a) + (cost.b + (move_cost u next).b) =
-    ap (λ (c : Cost). c.a + c.b) p in
-    let one = move_counts u next in
-    omega arith
+run_counted cost paid i u next h1 h2 = grind (arith, nat_tests, move_counts)
 
 -- at the end nothing is left
 pub run_ended :
@@ -73,10 +62,7 @@ less_nothing n = omega arith
 pub none_unless :
     {A : Type 0} (lined walk : Bool) (n most : ℕ) (x : A) → (lined ≡ false) ⊎ (most < n)
     → None ≡ (if (lined && walk) && nat_le n most then Some x else None)
-none_unless lined walk n most x (inl e) = rw e refl
-none_unless false walk n most x (inr l) = refl
-none_unless true false n most x (inr l) = refl
-none_unless true true n most x (inr l) = let e : nat_le n most ≡ false = grind (arith, nat_tests) in rw e refl
+none_unless lined walk n most x h1 = grind (arith, nat_tests)
 
 pub none_where :
     {A : Type 0} (a b c : Bool) (x : A) → b ≡ false → None ≡ (if (a && b) && c then Some x else None)
