@@ -1,7 +1,7 @@
 -- The start of a pass: its own wave.
-use Rattle.std.proofs.Common.{◌≡◌, ◌≢◌, ℕ, zero, suc, ◌+◌, ◌*◌, ◌^◌, ◌<◌, ◌≤◌, inl, inr, arith, refl, ap, sym}
-use Rattle.std.proofs.Common.{◌∙◌, subst, Bool, true, false, List, [], ◌∷◌, length, get_or, set, length-set}
-use Rattle.std.specs.Prelude.{Some, slice_get, nat_eq}
+use Rattle.std.proofs.Common.{◌≡◌, ◌≢◌, ℕ, zero, suc, ◌+◌, ◌*◌, ◌^◌, ◌<◌, ◌≤◌, arith, refl, ap, sym}
+use Rattle.std.proofs.Common.{◌∙◌, subst, true, false, List, [], ◌∷◌, length, get_or, set, length-set}
+use Rattle.std.specs.Prelude.{Some, slice_get}
 use Rattle.std.proofs.lemmas.Bool.Decides.{nat_tests}
 use Rattle.std.proofs.lemmas.List.{get_or-set_same, get_or-set_other}
 use Rattle.std.proofs.lemmas.Nat.Bits.{bit_at-pow_same, bit_at-pow_other, bit_at-zero}
@@ -34,15 +34,7 @@ own_dir : (d : Dir) → has_dir (2 ^ dir_number d) d ≡ true
 own_dir d = let z = bit_at-pow_same (dir_number d) in grind (arith, nat_tests)
 
 only_dir : (d b : Dir) → has_dir (2 ^ dir_number d) b ≡ true → d ≡ b
-only_dir d b e = by_test (nat_eq (dir_number b) (dir_number d)) refl
-  where
-    by_test : (t : Bool) → nat_eq (dir_number b) (dir_number d) ≡ t → d ≡ b
-    by_test true h = one_dir d b (let k : dir_number b ≡ dir_number d = grind (arith, nat_tests) in sym k)
-    by_test false h = absurd (
-        let n : dir_number b ≢ dir_number d = grind (arith, nat_tests) in
-        let z = bit_at-pow_other (dir_number d) (dir_number b) n in
-        let f : has_dir (2 ^ dir_number d) b ≡ false = grind (arith, nat_tests) in
-        cc)
+only_dir d b h1 = grind (arith, nat_tests, one_dir, bit_at-pow_other)
 
 module _ (g : GridData) (s : Cell) (whole : IsGrid g) (free : is_free g s ≡ true) (ranks firsts : List ℕ)
     (ranked : length ranks ≡ g.height * g.width) (begun : length firsts ≡ g.height * g.width)
@@ -74,10 +66,7 @@ module _ (g : GridData) (s : Cell) (whole : IsGrid g) (free : is_free g s ≡ tr
 
   -- a known cell is the start
   is_start : (c : Cell) → is_inside g c ≡ true → rank_at g f0.ranks c < rank_limit → c ≡ s
-  is_start c i h = elim (same_or_apart g c s (is_on g c i) on) [
-    | inl e ↦ e
-    | inr n ↦ absurd (let f = there c n in omega arith)
-  ]
+  is_start c h1 h2 = grind (arith, nat_tests, same_or_apart, is_on, on, there)
 
   at_start : (P : Cell → ℕ → Type 0) → P s 0 → (c : Cell) → is_inside g c ≡ true
       → rank_at g f0.ranks c < rank_limit

@@ -1,4 +1,5 @@
 -- One offer keeps what holds in a wave.
+use Rattle.std.proofs.lemmas.Bool.{cases_Bool}
 use Rattle.std.proofs.Common.{◌≡◌, ◌≢◌, ℕ, ◌+◌, ◌*◌, ◌<◌, ◌≤◌, inl, inr, arith, refl, ap, sym, ◌∙◌, subst}
 use Rattle.std.proofs.Common.{Bool, true, false, List, [], ◌∷◌, ◌++◌, length, get_or, length-set}
 use Rattle.std.specs.Prelude.{nat_lt, nat_le, bit_or, ◌&&◌, if◌then◌else◌}
@@ -84,11 +85,7 @@ module _ (g : GridData) (s : Cell) (whole : IsGrid g) (floor : ℕ) (now : List 
     joined_told : (c : Cell) (d : Dir) → is_inside g c ≡ true → has_dir (dirs_at g with_dirs.firsts c) d
         ≡ true
         → rank_at g f.ranks c < rank_limit
-    joined_told c d i e = elim (same_or_apart g c to (is_on g c i) on) [
-      | inr n ↦ k.told c d i (ap (λ (m : ℕ). has_dir m d) (sym (dirs_there c n)) ∙ e)
-      | inl h ↦ subst (λ (v : Cell). rank_at g f.ranks v < rank_limit) (sym h) (subst (λ
-          (r : ℕ). r < rank_limit) same short)
-    ]
+    joined_told c d h1 h2 = grind (arith, nat_tests, same_or_apart, is_on, on, dirs_there, short)
 
     pub joined_keeps : Keeps g s floor now with_dirs
     joined_keeps = record {
@@ -109,22 +106,12 @@ module _ (g : GridData) (s : Cell) (whole : IsGrid g) (floor : ℕ) (now : List 
 
     joined_grows : (c : Cell) (d : Dir) → IsOn g c → has_dir (dirs_at g f.firsts c) d ≡ true
         → has_dir (dirs_at g with_dirs.firsts c) d ≡ true
-    joined_grows c d i e = elim (same_or_apart g c to i on) [
-      | inr n ↦ ap (λ (m : ℕ). has_dir m d) (dirs_there c n) ∙ e
-      | inl h ↦ subst (λ (v : Cell). has_dir (dirs_at g with_dirs.firsts v) d ≡ true) (sym h)
-          (ap (λ (m : ℕ). has_dir m d) dirs_here
-          ∙ bit_or-dir (dirs_at g f.firsts to) first d
-          ∙ or_left _ _ (ap (λ (v : Cell). has_dir (dirs_at g f.firsts v) d) (sym h) ∙ e))
-    ]
+    joined_grows c d h1 h2 =
+        grind (arith, cases_Bool, same_or_apart, on, dirs_there, dirs_here, bit_or-dir, or_left)
 
     joined_stays : (c : Cell) → IsOn g c → rank_at g f.ranks c < floor + straight_rank
         → dirs_at g with_dirs.firsts c ≡ dirs_at g f.firsts c
-    joined_stays c i h = elim (same_or_apart g c to i on) [
-      | inr n ↦ dirs_there c n
-      | inl e ↦ absurd (
-          let low = o.low in
-          let r : rank_at g f.ranks c ≡ old = ap (λ (v : Cell). rank_at g f.ranks v) e in omega arith)
-    ]
+    joined_stays c h1 h2 = grind (arith, nat_tests, same_or_apart, on, dirs_there)
 
     pub joined_follows : Follows g floor f with_dirs
     joined_follows = record {
@@ -170,11 +157,7 @@ module _ (g : GridData) (s : Cell) (whole : IsGrid g) (floor : ℕ) (now : List 
     ]
 
     lower : (c : Cell) → IsOn g c → rank_at g with_rank.ranks c ≤ rank_at g f.ranks c
-    lower c i = elim (same_or_apart g c to i on) [
-      | inr n ↦ let e = there c n in omega arith
-      | inl e ↦ subst (λ (v : Cell). rank_at g with_rank.ranks v ≤ rank_at g f.ranks v) (sym e)
-          (let h = here in omega arith)
-    ]
+    lower c h1 = grind (arith, nat_tests, same_or_apart, on, there, here)
 
     -- one more cell is known, or as many
     data Counts : Type 0 where
@@ -191,10 +174,7 @@ module _ (g : GridData) (s : Cell) (whole : IsGrid g) (floor : ℕ) (now : List 
     more = elim counts [ new h e ↦ omega arith | as_before h e ↦ omega arith ]
 
     bounded_to : rank + diagonal_rank ≤ diagonal_rank * known_count with_rank.ranks
-    bounded_to = elim counts [
-      | new h e ↦ let b = o.bounded in omega arith
-      | as_before h e ↦ let b = k.bounded to (on_inside g to on) h in omega arith
-    ]
+    bounded_to = grind (arith, nat_tests, counts, on_inside, on)
 
     -- a list to which the cell is added, where a test holds
     abbrev with_to : Bool → List Cell → List Cell

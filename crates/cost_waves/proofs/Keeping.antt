@@ -1,5 +1,5 @@
 -- What one offer keeps.
-use Rattle.std.proofs.Common.{◌≡◌, ◌≢◌, ℕ, ◌+◌, ◌*◌, ◌<◌, ◌≤◌, ◌⊎◌, inl, inr, arith, refl, ap, sym, ◌∙◌, Bool}
+use Rattle.std.proofs.Common.{◌≡◌, ◌≢◌, ℕ, ◌+◌, ◌*◌, ◌<◌, ◌≤◌, ◌⊎◌, arith, refl, Bool}
 use Rattle.std.proofs.Common.{true, false, length, get_or, set}
 use Rattle.std.specs.Prelude.{nat_lt, nat_eq, bit_or, if◌then◌else◌}
 use Rattle.std.proofs.lemmas.Bool.Decides.{nat_tests}
@@ -7,7 +7,6 @@ use Rattle.root2_cost.specs.Rank.{straight_rank, diagonal_rank}
 use Rattle.grid_moves.specs.declared.Cell.{Cell}
 use Rattle.grid_moves.specs.declared.Dir.{Dir}
 use Rattle.grid_moves.specs.Grid.{GridData, IsGrid, cell_number, is_free, is_inside}
-use Rattle.grid_moves.specs.Move.{is_same}
 use Rattle.grid_moves.proofs.Legal.{free_inside, is_same-cell, is_same-itself}
 use Rattle.grid_moves.proofs.Places.{one_cell}
 use Rattle.grid_moves.proofs.Short.{few_cells}
@@ -72,13 +71,7 @@ free_on g c e = let i = free_inside g c e in record { column = i.0; row = i.1 }
 -- a cell is this one, or its number is another
 pub same_or_apart : (g : GridData) (c d : Cell) → IsOn g c → IsOn g d
     → (c ≡ d) ⊎ (cell_number g.width c ≢ cell_number g.width d)
-same_or_apart g c d p q = by_test (is_same c d) refl
-  where
-    by_test : (b : Bool) → is_same c d ≡ b → (c ≡ d) ⊎ (cell_number g.width c ≢ cell_number g.width d)
-    by_test true e = inl (is_same-cell c d e)
-    by_test false e = inr (λ h.
-        let one : c ≡ d = one_cell g.width c d p.column q.column h in
-        let t : is_same c d ≡ true = ap (λ (k : Cell). is_same c k) (sym one) ∙ is_same-itself c in cc)
+same_or_apart g c d h1 h2 = grind (arith, nat_tests, is_same-cell, one_cell, is_same-itself)
 
 -- an offer to a cell that is worth making in the wave whose ranks begin at `floor`
 pub record IsOffer (g : GridData) (s : Cell) (floor : ℕ) (f : Front) (to : Cell)

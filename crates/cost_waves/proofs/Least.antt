@@ -1,4 +1,5 @@
 -- When no cell waits, known ranks are those of least walks, and told directions those of their first moves.
+use Rattle.std.proofs.lemmas.Bool.{cases_Bool}
 use Rattle.std.proofs.Common.{◌≡◌, ℕ, ◌+◌, ◌*◌, ◌^◌, ◌<◌, ◌≤◌, inl, inr, arith, refl, ap, sym, ◌∙◌, subst}
 use Rattle.std.proofs.Common.{Bool, true, false, List, [], ◌∷◌}
 use Rattle.std.specs.Prelude.{Some, None, nat_lt, if◌then◌else◌}
@@ -14,7 +15,7 @@ use Rattle.root2_cost.proofs.Ranking.{less_ranks}
 use Rattle.grid_moves.specs.declared.Cell.{Cell}
 use Rattle.grid_moves.specs.declared.Dir.{Dir}
 use Rattle.grid_moves.specs.Grid.{GridData, IsGrid, is_inside}
-use Rattle.grid_moves.specs.Move.{is_legal, legal_ahead, move_cost}
+use Rattle.grid_moves.specs.Move.{is_legal, legal_ahead}
 use Rattle.grid_moves.specs.Walk.{IsWalk, IsLeastWalk, is_walk, cost_of, last_of}
 use Rattle.grid_moves.proofs.Ahead.{legal_ahead-of, legal_ahead-is}
 use Rattle.grid_moves.proofs.Legal.{and_both, legal_is}
@@ -47,10 +48,7 @@ at_most_by_rank p q h l = elim (IsAtMost-or_more p q) [
 ]
 
 rank_at_most : (p q : Cost) → rank_of q < 2 ^ 58 → IsAtMost p q → rank_of p ≤ rank_of q
-rank_at_most p q h a = elim (IsAtMost-cases p q a) [
-  | inl l ↦ let r = less_ranks p q (short_below p q h l) l in omega arith
-  | inr e ↦ let r : rank_of p ≡ rank_of q = ap rank_of e in omega arith
-]
+rank_at_most p q h1 h2 = grind (arith, nat_tests, IsAtMost-cases, less_ranks, short_below)
 
 module _ (g : GridData) (s : Cell) (whole : IsGrid g) (ranks firsts : List ℕ)
     (w : IsSwept g s ranks firsts) where
@@ -80,9 +78,7 @@ module _ (g : GridData) (s : Cell) (whole : IsGrid g) (ranks firsts : List ℕ)
   -- the rank of a walk that goes on
   rank-on : (u v : Cell) (d : Dir) (cells : List Cell) → legal_ahead g u d ≡ Some v
       → rank_of (cost_of (u ∷ v ∷ cells)) ≡ dir_rank d + rank_of (cost_of (v ∷ cells))
-  rank-on u v d cells e =
-      rank-add_costs (move_cost u v) (cost_of (v ∷ cells))
-      ∙ ap (λ (n : ℕ). n + rank_of (cost_of (v ∷ cells))) (rank-move g u v d e)
+  rank-on u v d cells h1 = grind (arith, cases_Bool, rank-add_costs, rank-move)
 
   inside_ahead : (u v : Cell) → is_legal g u v ≡ true → is_inside g v ≡ true
   inside_ahead u v l = on_inside g v (free_on g v (legal_is g u v l).target)
