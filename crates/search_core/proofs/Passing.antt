@@ -17,6 +17,7 @@ use Rattle.grid_moves.specs.Least.{NoneBelow, IsLeast}
 use Rattle.grid_moves.specs.Move.{legal_ahead, dir_number}
 use Rattle.grid_moves.proofs.Legal.{free_inside, legal_is}
 use Rattle.grid_moves.proofs.Places.{one_cell, number_below}
+use Rattle.grid_moves.proofs.Dirs.{dir_number-few}
 use Rattle.pruning.specs.Chain.{run_cost}
 use Rattle.pruning.specs.Marked.{run_end}
 use Rattle.pruning.specs.Stop.{StopsAfter}
@@ -86,16 +87,6 @@ run_moves SW k = omega arith
 run_moves W k = omega arith
 run_moves NW k = omega arith
 
-dir_small : (d : Dir) → dir_number d < 8
-dir_small N = omega arith
-dir_small NE = omega arith
-dir_small E = omega arith
-dir_small SE = omega arith
-dir_small S = omega arith
-dir_small SW = omega arith
-dir_small W = omega arith
-dir_small NW = omega arith
-
 module _ (g : GridData) (goal : Cell) where
   -- cells and directions are numbered
   number : Dir → Cell → ℕ
@@ -116,7 +107,7 @@ module _ (g : GridData) (goal : Cell) where
   one_stop d f e s q p m n same a b =
       let parts = parted (cell_number g.width a.cell) (cell_number g.width b.cell) (dir_number d)
       (dir_number f)
-      (dir_small d) (dir_small f) (a.number_is ∙ same ∙ sym b.number_is) in
+      (dir_number-few d) (dir_number-few f) (a.number_is ∙ same ∙ sym b.number_is) in
       let dir : d ≡ f = same_dir d f (equal (dir_number d) (dir_number f) parts.1) in
       let cell : a.cell ≡ b.cell = one_cell g.width a.cell b.cell a.on.0 b.on.0 parts.0 in
       by_one dir cell
@@ -308,7 +299,7 @@ module _ (g : GridData) (goal : Cell) where
       let a = all_at (IsPassed run) p.numbers q p.each h in
       subst (λ (n : ℕ). n < g.height * g.width * 8) a.at.number_is
       (below (cell_number g.width a.at.cell) (dir_number a.dir) (g.height * g.width)
-      (number_below g.width g.height a.at.cell a.at.on.0 a.at.on.1) (dir_small a.dir))) in
+      (number_below g.width g.height a.at.cell a.at.on.0 a.at.on.1) (dir_number-few a.dir))) in
       omega arith
     where
       below : (m d n : ℕ) → m < n → d < 8 → m * 8 + d < n * 8
