@@ -6,22 +6,12 @@ use Rattle.std.proofs.lemmas.List.{get_or_read}
 use Rattle.std.proofs.lemmas.Bool.Decides.{nat_tests}
 use Rattle.grid_moves.specs.declared.Cell.{Cell}
 use Rattle.grid_moves.specs.declared.Dir.{Dir}
-use Rattle.grid_moves.specs.declared.Dir.TheVariants.{N, NE, E, SE, S, SW, W, NW}
 use Rattle.grid_moves.specs.Grid.{cell_number}
 use Rattle.grid_moves.specs.Move.{dir_number, is_dir, is_same}
 use Rattle.grid_moves.proofs.Legal.{is_same-itself}
+use Rattle.grid_moves.proofs.Dirs.{dir_number-few}
 use Rattle.grid_moves.proofs.Places.{one_cell, number_below}
 use Rattle.plus_tables.specs.Tables.{TablesData, IsWhole, entry_place, entry_at, is_on, is_place, tables_with}
-
-pub dir_number-few : (d : Dir) → dir_number d < 8
-dir_number-few N = omega arith
-dir_number-few NE = omega arith
-dir_number-few E = omega arith
-dir_number-few SE = omega arith
-dir_number-few S = omega arith
-dir_number-few SW = omega arith
-dir_number-few W = omega arith
-dir_number-few NW = omega arith
 
 -- each entry of a cell on the map has a place
 pub place_below : (t : TablesData) (c : Cell) (d : Dir) → IsWhole t → is_on t c ≡ true
