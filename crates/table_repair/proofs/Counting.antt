@@ -3,14 +3,12 @@ use Rattle.std.proofs.Common.{◌≡◌, ◌≢◌, ℕ, ◌+◌, ◌<◌, zero,
 use Rattle.std.proofs.Common.{length, get_or, set, get_or-set_same, get_or-set_other}
 use Rattle.std.specs.Prelude.{ℤ, pos}
 use Rattle.std.specs.Ordering.{int_eq}
-use Rattle.std.proofs.lemmas.Bool.Decides.{nat_tests, Decides-int_eq}
+use Rattle.std.proofs.lemmas.Bool.Decides.{Decides-int_eq}
 use Rattle.std.proofs.lemmas.List.{set-get_or}
 use Rattle.grid_moves.specs.declared.Cell.{Cell}
 use Rattle.grid_moves.specs.declared.Dir.{Dir}
-use Rattle.grid_moves.specs.declared.Dir.TheVariants.{N, NE, E, SE, S, SW, W, NW}
-use Rattle.grid_moves.specs.Move.{dir_number}
 use Rattle.grid_moves.proofs.Places.{one_place, one_cell, number_below}
-use Rattle.pruning.proofs.Table.{same_dir}
+use Rattle.grid_moves.proofs.Dirs.{dir_number-few, one_dir}
 use Rattle.plus_tables.specs.Tables.{TablesData, IsWhole, entry_place, entry_at, tables_with, is_on}
 use Rattle.table_repair.specs.Counted.{places_differing}
 
@@ -33,22 +31,9 @@ one_less (x ∷ xs) [] i h e n = absurd (omega arith)
 one_less (x ∷ xs) (y ∷ ys) zero h e n = rw (int_eq-apart x y n, int_eq-itself y) (omega arith)
 one_less (x ∷ xs) (y ∷ ys) (suc i) h e n = grind (arith, one_less xs ys i (omega arith) (omega arith) n)
 
-dir_below : (d : Dir) → dir_number d < 8
-dir_below N = omega arith
-dir_below NE = omega arith
-dir_below E = omega arith
-dir_below SE = omega arith
-dir_below S = omega arith
-dir_below SW = omega arith
-dir_below W = omega arith
-dir_below NW = omega arith
-
-one_dir : (d e : Dir) → dir_number d ≡ dir_number e → d ≡ e
-one_dir d e h = same_dir d e (grind (arith, nat_tests))
-
 module _ (t : TablesData) (whole : IsWhole t) (u : Cell) (on : is_on t u ≡ true) where
   place_within : (d : Dir) → entry_place t.width u d < length t.entries
-  place_within d = grind (arith, number_below, dir_below)
+  place_within d = grind (arith, number_below, dir_number-few)
 
   pub entry-with : (d : Dir) (x : ℤ) → entry_at (tables_with t u d x) u d ≡ x
   entry-with d x = get_or-set_same t.entries (entry_place t.width u d) x (pos 0) (place_within d)
@@ -56,7 +41,7 @@ module _ (t : TablesData) (whole : IsWhole t) (u : Cell) (on : is_on t u ≡ tru
   pub entry-with_other : (d e : Dir) (w : Cell) (x : ℤ) → is_on t w ≡ true → (w ≡ u → e ≡ d → ⊥)
       → entry_at (tables_with t u d x) w e ≡ entry_at t w e
   entry-with_other d e w x on_too other =
-      grind (arith, get_or-set_other, one_place, dir_below, one_cell, one_dir)
+      grind (arith, get_or-set_other, one_place, dir_number-few, one_cell, one_dir)
 
   pub count-with : (d : Dir) (x : ℤ) (r : List ℤ) → length t.entries ≡ length r
       → x ≡ get_or r (entry_place t.width u d) (pos 0) → entry_at t u d ≢ x

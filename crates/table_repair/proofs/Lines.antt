@@ -1,23 +1,17 @@
 -- What lies ahead on a line.
 use Rattle.std.proofs.Common.{◌≡◌, ℕ, zero, suc, ◌+◌, ◌-◌, ◌<◌, ◌≤◌, arith, Bool, true, false, refl, sym, ◌∙◌}
 use Rattle.std.specs.Prelude.{Option, Some, None, option_and_then}
-use Rattle.std.proofs.lemmas.Bool.Decides.{nat_tests}
 use Rattle.grid_moves.specs.declared.Cell.{Cell}
 use Rattle.grid_moves.specs.declared.Dir.{Dir}
 use Rattle.grid_moves.specs.declared.Dir.TheVariants.{N, NE, E, SE, S, SW, W, NW}
 use Rattle.grid_moves.specs.Grid.{GridData, is_inside}
 use Rattle.grid_moves.specs.Move.{ahead}
+use Rattle.grid_moves.proofs.Places.{inside_is}
 use Rattle.pruning.proofs.Bridging.{one_of}
 use Rattle.pruning.proofs.Running.{Trend, rising, level, falling, column_trend, row_trend, IsMoved, AreMoved}
 use Rattle.plus_tables.specs.Tables.{TablesData}
 use Rattle.table_repair.specs.Mending.{IsRight, cell_after, behind_on, FollowBut}
 use Rattle.table_repair.proofs.Moving.{ahead_moved, ahead_behind, behind_ahead, moved_further, moved_nowhere}
-
-pub inside_parts : (h : GridData) (u : Cell) → is_inside h u ≡ true → (u.x < h.width) × (u.y < h.height)
-inside_parts h u i = (grind (arith, nat_tests), grind (arith, nat_tests))
-
-pub is_inside-from : (h : GridData) (u : Cell) → u.x < h.width → u.y < h.height → is_inside h u ≡ true
-is_inside-from h u i j = grind (arith, nat_tests)
 
 -- so many moves ahead
 pub after_moved : (d : Dir) (k : ℕ) (u w : Cell) → cell_after d k u ≡ Some w → AreMoved d k u w
@@ -108,7 +102,7 @@ module _ (h : GridData) (t : TablesData) (d : Dir) where
               → ((w : Cell) (k : ℕ) → cell_after d (suc k) v ≡ Some w → waits w ≡ false) → IsRight h t v d)
               → IsRight h t u d
           by_inside v e true j rest =
-              let m = inside_parts h v j in
+              let m = inside_is h v j in
               let less = less_room h d u v (ahead_moved d u v e) m.0 m.1 in
               let ahead_right : IsRight h t v d = rest v j (omega arith)
               (λ w k r. none w (suc k) (after_before d (suc k) u v w e r)) in

@@ -5,8 +5,8 @@ use Rattle.std.proofs.lemmas.Bool.Decides.{nat_tests}
 use Rattle.grid_moves.specs.declared.Cell.{Cell}
 use Rattle.grid_moves.specs.declared.Dir.{Dir}
 use Rattle.grid_moves.specs.declared.Dir.TheVariants.{N, NE, E, SE, S, SW, W, NW}
-use Rattle.grid_moves.specs.Move.{ahead, opposite, before, column_ahead, row_ahead}
-use Rattle.grid_moves.proofs.Legal.{same_cell}
+use Rattle.grid_moves.specs.Move.{ahead, opposite}
+use Rattle.grid_moves.proofs.Ahead.{before-next, there}
 use Rattle.pruning.proofs.Running.{Trend, rising, level, falling, column_trend, row_trend, IsMoved, AreMoved}
 use Rattle.table_repair.specs.Differ.{is_near}
 
@@ -36,14 +36,6 @@ stepped (suc x) (suc y) NW = (omega arith, omega arith)
 
 pub ahead_moved : (d : Dir) (u v : Cell) → ahead d u ≡ Some v → AreMoved d 1 u v
 ahead_moved d u v h = subst (λ (o : Option Cell). IsStepped d u o) h (stepped u.x u.y d)
-
-before-next : (m n : ℕ) → m ≡ n + 1 → before m ≡ Some n
-before-next zero n e = absurd (omega arith)
-before-next (suc m) n e = let s : m ≡ n = omega arith in rw s refl
-
-there : (d : Dir) (u v : Cell) → column_ahead d u.x ≡ Some v.x → row_ahead d u.y ≡ Some v.y
-    → ahead d u ≡ Some v
-there d u v e f = rw (e, f) (ap (λ (c : Cell). Some c) (same_cell (record { x = v.x; y = v.y }) v refl refl))
 
 -- a cell one move away is the one ahead
 pub moved_ahead : (d : Dir) (u v : Cell) → AreMoved d 1 u v → ahead d u ≡ Some v
