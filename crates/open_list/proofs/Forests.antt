@@ -134,8 +134,7 @@ module _ {N : Type 0} (before : N → N → Bool) where
               (omega arith) start.above,
           AreRoots-changed before (with_next done) todo es have.seconds (omega arith) have.second_roots,
         );
-        once = λ i. rw (map-changed (with_next done) is_open todo es (λ e at. refl))
-            (omega (arith, total i));
+        once = λ i. grind (arith, map-changed, total i);
         fits = omega (arith, have.fits, ap node_count start.is, length-changed (with_next done) todo es);
         small = rw (length-changed (with_next done) todo es) have.small;
       } in
@@ -149,8 +148,5 @@ module _ {N : Type 0} (before : N → N → Bool) where
           ap (list_len later) next_is,
         );
         longer = omega (arith, list_len-seconds later _ _ lists, list_len-seconds es _ _ have);
-        kept = record {
-          nodes = map-changed (with_next done) (λ e. e.node) todo es (λ e at. refl);
-          open_at = map-changed (with_next done) is_open todo es (λ e at. refl);
-        };
+        kept = grind (arith, map-changed);
       }

@@ -40,11 +40,7 @@ module _ {N : Type 0} (before : N → N → Bool) where
   -- where no node is open, there is no root
   pub none_open : (es : List (Entry N)) → IsHeap before es NONE → (i : ℕ)
       → open_count (map is_open es) i ≡ 0
-  none_open es all i =
-      let have = all.all_open in
-      let firsts = none_heap es have.firsts have.small have.first_is have.first_roots in
-      let seconds = none_heap es have.seconds have.small have.second_is have.second_roots in
-      omega (arith, have.once i, ap (λ hs. count_at hs i) firsts, ap (λ hs. count_at hs i) seconds)
+  none_open es all i = grind (arith, none_heap)
 
   pub holds_all : (es : List (Entry N)) (root : ℕ) → IsHeap before es root → root ≢ NONE → HoldsAll es root
   holds_all es root all some =
@@ -70,13 +66,7 @@ module _ {N : Type 0} (before : N → N → Bool) where
               prev = start.prev;
             } in e)) last;
         above = start.above;
-        once = λ i. omega (
-          arith,
-          have.once i,
-          ap (λ hs. count_at hs i) firsts,
-          ap (λ hs. count_at hs i) start.is,
-          ap (λ hs. count_at hs i) last,
-        );
+        once = λ i. grind (arith, have.once i);
         fits = omega (arith, have.fits, ap node_count start.is);
         small = have.small;
       }

@@ -1,5 +1,5 @@
 -- The second local fact: each allowed turn is explained, by the arrival, by its components or by a mark.
-use Rattle.std.proofs.Common.{◌≡◌, Bool, true, false, not, sym, ◌∙◌, ap, refl, ◌||◌, arith}
+use Rattle.std.proofs.Common.{◌≡◌, Bool, true, false, not, sym, ◌∙◌, ap, refl, ◌||◌}
 use Rattle.std.proofs.lemmas.Bool.{or_right}
 use Rattle.grid_moves.specs.declared.Cell.{Cell}
 use Rattle.grid_moves.specs.declared.Corner.{Corner}

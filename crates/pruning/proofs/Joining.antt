@@ -1,12 +1,12 @@
 -- Walks one after the other: what is less of the first is less of both.
-use Rattle.std.proofs.Common.{◌≡◌, ◌+◌, ◌*◌, arith, true, refl, ap, sym, ◌∙◌, List, [], ◌∷◌, ◌++◌, length}
+use Rattle.std.proofs.Common.{◌≡◌, ◌+◌, ◌*◌, arith, true, refl, ap, sym, List, [], ◌∷◌, ◌++◌, length}
 use Rattle.std.proofs.Common.{length-append}
 use Rattle.root2_cost.specs.declared.Cost.{Cost}
 use Rattle.root2_cost.specs.Sums.{add_costs}
 use Rattle.root2_cost.proofs.Sums.{add_costs-assoc, add_costs-no_cost_left}
 use Rattle.grid_moves.specs.declared.Cell.{Cell}
 use Rattle.grid_moves.specs.Grid.{GridData}
-use Rattle.grid_moves.specs.Move.{is_legal, move_cost}
+use Rattle.grid_moves.specs.Move.{is_legal}
 use Rattle.grid_moves.specs.Walk.{is_walk, cost_of, last_of}
 use Rattle.pruning.specs.Facts.{diagonal_places, IsSmaller, shorter, straighter, earlier}
 
@@ -26,8 +26,7 @@ walks-joined g x (c ∷ cells) more w v =
 pub cost-joined : (x : Cell) (cells more : List Cell)
     → cost_of (x ∷ (cells ++ more)) ≡ add_costs (cost_of (x ∷ cells)) (cost_of (last_of x cells ∷ more))
 cost-joined x [] more = sym (add_costs-no_cost_left (cost_of (x ∷ more)))
-cost-joined x (c ∷ cells) more = ap (λ (k : Cost). add_costs (move_cost x c) k) (cost-joined c cells more)
-    ∙ sym (add_costs-assoc (move_cost x c) (cost_of (c ∷ cells)) (cost_of (last_of c cells ∷ more)))
+cost-joined x (c ∷ cells) more = grind (arith, add_costs-assoc, cost-joined c cells more)
 
 diagonals-joined : (x : Cell) (cells more : List Cell)
     → (cost_of (x ∷ (cells ++ more))).b ≡ (cost_of (x ∷ cells)).b + (cost_of (last_of x cells ∷ more)).b
@@ -60,6 +59,4 @@ IsSmaller-joined x es ds more e (earlier l b p) = earlier
 -- with the same move before both
 pub IsSmaller-cons : (x c : Cell) (es ds : List Cell) → IsSmaller (c ∷ es) (c ∷ ds)
     → IsSmaller (x ∷ c ∷ es) (x ∷ c ∷ ds)
-IsSmaller-cons x c es ds (shorter l) = shorter (omega arith)
-IsSmaller-cons x c es ds (straighter l b) = straighter (omega arith) (omega arith)
-IsSmaller-cons x c es ds (earlier l b p) = earlier (omega arith) (omega arith) (omega arith)
+IsSmaller-cons x c es ds h1 = grind arith

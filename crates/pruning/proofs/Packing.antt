@@ -1,34 +1,20 @@
 -- Words of directions put together and taken apart.
 use Rattle.std.proofs.Common.{◌≡◌, ℕ, zero, suc, ◌+◌, ◌-◌, ◌*◌, ◌/◌, ◌%◌, ◌^◌, ◌<◌, ◌≤◌, List, [], ◌∷◌, Bool}
-use Rattle.std.proofs.Common.{true, false, nat_eq, length, get_or, arith, refl, sym, ap, ◌∙◌}
+use Rattle.std.proofs.Common.{false, nat_eq, length, get_or, arith, refl, sym, ap, ◌∙◌}
 use Rattle.std.specs.Prelude.{filter}
 use Rattle.std.proofs.lemmas.Bool.Decides.{nat_tests}
 use Rattle.std.proofs.lemmas.List.Sums.{length-filter, count_by-le-length}
 use Rattle.grid_moves.specs.declared.Dir.{Dir}
-use Rattle.grid_moves.specs.declared.Dir.TheVariants.{N, NE, E, SE, S, SW, W, NW}
+use Rattle.grid_moves.specs.declared.Dir.TheVariants.{N}
 use Rattle.grid_moves.specs.Move.{dir_number, all_dirs}
 use Rattle.pruning.specs.Packed.{word_of, dirs_of}
 
 -- a direction is told by its number, which is below eight
 told : (d : Dir) → get_or all_dirs (dir_number d) N ≡ d
-told N = refl
-told NE = refl
-told E = refl
-told SE = refl
-told S = refl
-told SW = refl
-told W = refl
-told NW = refl
+told d = grind (arith, nat_tests)
 
-dir_small : (d : Dir) → dir_number d < 8
-dir_small N = omega arith
-dir_small NE = omega arith
-dir_small E = omega arith
-dir_small SE = omega arith
-dir_small S = omega arith
-dir_small SW = omega arith
-dir_small W = omega arith
-dir_small NW = omega arith
+pub dir_small : (d : Dir) → dir_number d < 8
+dir_small d = grind (arith, nat_tests)
 
 -- a word's lowest digit, and the word of the others
 digit_is : (d : Dir) (w : ℕ) → (dir_number d + 1 + 16 * w) % 16 - 1 ≡ dir_number d
@@ -52,12 +38,7 @@ gives zero [] h = refl
 gives zero (d ∷ ds) h = absurd (omega (arith, h))
 gives (suc n) [] h = refl
 gives (suc n) (d ∷ ds) h =
-    let w : ℕ = dir_number d + 1 + 16 * word_of ds in
-    one_off n w (some_left d (word_of ds))
-    ∙ ap (λ (k : ℕ). get_or all_dirs k N ∷ dirs_of n (w / 16)) (digit_is d (word_of ds))
-    ∙ ap (λ (e : Dir). e ∷ dirs_of n (w / 16)) (told d)
-    ∙ ap (λ (k : ℕ). d ∷ dirs_of n k) (others_are d (word_of ds))
-    ∙ ap (λ (es : List Dir). d ∷ es) (gives n ds (omega (arith, h)))
+    grind (arith, nat_tests, one_off, some_left, digit_is, told, others_are, h, gives n ds (omega (arith, h)))
 
 pub shown : (w : ℕ) (ds : List Dir) → w ≡ word_of ds → length ds ≤ 8 → dirs_of 8 w ≡ ds
 shown w ds h few = ap (λ (k : ℕ). dirs_of 8 k) h ∙ gives 8 ds few
@@ -73,8 +54,7 @@ few_dirs (suc n) w = by_test (nat_eq w 0) refl (few_dirs n (w / 16))
   where
     by_test : (b : Bool) → nat_eq w 0 ≡ b → length (dirs_of n (w / 16)) ≤ n
         → length (dirs_of (suc n) w) ≤ suc n
-    by_test true h k = rw h (omega arith)
-    by_test false h k = rw h (omega (arith, k))
+    by_test b h1 h2 = grind (arith, nat_tests)
 
 module _ (left : ℕ) (some : 0 < left) where
   -- a word that is not 0 has a first direction
@@ -88,11 +68,7 @@ module _ (left : ℕ) (some : 0 < left) where
       → (ds : List Dir) → left ≡ word_of ds
       → (others : List Dir) × (ds ≡ first ∷ others) × (left / 16 ≡ word_of others)
   is_split first is [] h = absurd (omega (arith, h, some))
-  is_split first is (d ∷ ds) h = (
-    ds,
-    ap (λ (e : Dir). e ∷ ds) (sym (is d ds h)),
-    ap (λ (w : ℕ). w / 16) h ∙ others_are d (word_of ds),
-  )
+  is_split first is (d ∷ ds) h = grind (arith, nat_tests, others_are)
 
 -- where the word is 0 there are none
 pub are_none : (ds : List Dir) → 0 ≡ word_of ds → ds ≡ []

@@ -1,13 +1,10 @@
-use Rattle.std.proofs.Common.{◌≤◌, ◌++◌, ◌∷◌, ◌∙◌, List, length, length-append, arith, ap, sym, subst}
+use Rattle.std.proofs.Common.{◌++◌, ◌∷◌, ◌∙◌, List, length, length-append, arith, ap}
 use Rattle.grid_moves.specs.declared.Dir.{Dir}
 use Rattle.pruning.proofs.Packing.{few_dirs}
 use Rattle.pruning.proofs.packed.Packed.to_list.Goals as goal
 
 pub left-init : goal.left-init
-left-init c = record {
-  parts = ap (λ (ds : List Dir). ds ++ c.args.self) (sym c.new-found.ensures);
-  few = subst (λ (ds : List Dir). length ds ≤ 8) c.self.view_is (few_dirs 8 c.self.inside.word);
-}
+left-init c = grind (arith, few_dirs)
 
 pub push-requires : goal.push-requires
 push-requires c =
